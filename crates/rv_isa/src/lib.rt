@@ -1,0 +1,12 @@
+//! RV64IMA: its registers, its instructions with typed operands, their names and ranges.
+//!
+//! Source: RISC-V Unprivileged ISA 20191213, chapters 2, 5, 7, 8 and 24.
+#![tactic(auto)]
+
+mod instruction;
+mod register;
+
+pub use instruction::{
+    Atomic, BType, Fence, IType, Inst, JType, RType, Reserve, SType, Shift, UType,
+};
+pub use register::Reg;
