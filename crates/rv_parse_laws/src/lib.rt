@@ -1,0 +1,4 @@
+//! What a source says: statements, their operands, and the reading of bytes as statements. Nothing here runs.
+//!
+//! Source: RISC-V Assembly Programmer's Manual.
+#![tactic(auto)]
