@@ -1,0 +1,4 @@
+pub mod Memory
+pub mod Hart
+pub mod Effect
+pub mod Meaning
