@@ -28,5 +28,12 @@ global_of g = record { name = g.name.items; address = g.address }
 -- the plain value of the program's map
 abbrev pub map_of : DeclaredMap → Map
 map_of m = record {
-    text = m.text; rodata = m.rodata; «data» = m.data; bss = m.bss; entry = m.entry;
-    gaps = m.gaps.items; globals = map global_of m.globals.items; rows = m.rows.items }
+  text = m.text;
+  rodata = m.rodata;
+  «data» = m.data;
+  bss = m.bss;
+  entry = m.entry;
+  gaps = m.gaps.items;
+  globals = map global_of m.globals.items;
+  rows = m.rows.items;
+}
