@@ -1,0 +1,27 @@
+-- A list cut into pieces: each piece is spelled by its text, and no next element would make it longer. Bytes are cut
+-- into blanks, comments and tokens, the inside of a string into its bytes, and tokens into parts of statements.
+
+use Rattle.std.specs.Prelude.{◌≡◌, List, [], ◌∷◌, ◌++◌}
+
+pub record Piece (K A : Type 0) : Type 0 where
+  pub kind : K
+  pub text : List A
+
+-- the pieces' texts, one after the other
+abbrev pub texts : {K A : Type 0} → List (Piece K A) → List A
+texts [] = []
+texts (p ∷ ps) = p.text ++ texts ps
+
+-- each piece is spelled so, and stops before what follows it
+abbrev pub Each : {K A : Type 0} (Spells Stops : K → List A → Type 0) → List (Piece K A) → List A → Type 0
+Each Spells Stops [] rest = Unit {0}
+Each Spells Stops (p ∷ ps) rest = Spells p.kind p.text × Stops p.kind (texts ps ++ rest) × Each Spells Stops ps rest
+
+-- the list is these pieces, and then the rest
+pub record Cuts (K A : Type 0) (Spells Stops : K → List A → Type 0) (all : List A) (ps : List (Piece K A)) (rest : List A) : Type 0 where
+  pub whole : all ≡ texts ps ++ rest
+  pub each : Each Spells Stops ps rest
+
+-- no piece stands at the front
+abbrev pub NothingReads : {K A : Type 0} (Spells Stops : K → List A → Type 0) → List A → Type 0
+NothingReads {K} {A} Spells Stops all = (k : K) (text after : List A) → all ≡ text ++ after → Spells k text → Stops k after → ⊥
