@@ -1,7 +1,7 @@
 -- A list cut into pieces: each piece is spelled by its text, and no next element would make it longer. Bytes are cut
 -- into blanks, comments and tokens, the inside of a string into its bytes, and tokens into parts of statements.
 
-use Rattle.std.specs.Prelude.{◌≡◌, List, [], ◌∷◌, ◌++◌}
+use Rattle.std.specs.Prelude.{◌≡◌, ℕ, zero, suc, List, [], ◌∷◌, ◌++◌, Option, Some, None, length, take, drop}
 
 pub record Piece (K A : Type 0) : Type 0 where
   pub kind : K
@@ -25,3 +25,14 @@ pub record Cuts (K A : Type 0) (Spells Stops : K → List A → Type 0) (all : L
 -- no piece stands at the front
 abbrev pub NothingReads : {K A : Type 0} (Spells Stops : K → List A → Type 0) → List A → Type 0
 NothingReads {K} {A} Spells Stops all = (k : K) (text after : List A) → all ≡ text ++ after → Spells k text → Stops k after → ⊥
+
+-- what a front finder answers, cut off: at most so many pieces, and the rest
+abbrev pub cut_in : {K A : Type 0} → ℕ → (List A → Option (K × ℕ)) → List A → List (Piece K A) × List A
+cut_in zero at all = ([], all)
+cut_in (suc room) at all = elim (at all) [
+    None ↦ ([], all)
+  | Some f ↦ let after = cut_in room at (drop f.1 all) in (record { kind = f.0; text = take f.1 all } ∷ after.0, after.1) ]
+
+-- the pieces of a list by a finder of the piece at the front (its kind and its length), as far as there are any
+unfoldable pub cut : {K A : Type 0} → (List A → Option (K × ℕ)) → List A → List (Piece K A) × List A
+cut at all = cut_in (length all) at all

@@ -3,3 +3,4 @@ pub mod Bytes
 pub mod Strings
 pub mod Grammar
 pub mod Lexing
+pub mod Front
