@@ -14,9 +14,12 @@ use Rattle.rv_isa_laws.specs.Arithmetic.{wrapped, extended, low, one_if, sum_of,
 use Rattle.rv_isa_laws.specs.Hart.{Hart, Reservation, register, with_register, advanced}
 use Rattle.rv_isa_laws.specs.Effect.{Effect, Goes, Loads, Stores, Reserves, Conditional, Updates, Calls, Breaks}
 
--- rd gets a number, and the next instruction follows
+-- the hart after rd got a number, at the next instruction
+abbrev pub with_result : ℕ → Hart → ℕ → ℕ → Hart
+with_result bytes h rd value = advanced (with_register h rd (value % 2 ^ 64)) bytes
+
 abbrev pub sets : ℕ → Hart → ℕ → ℕ → Effect
-sets bytes h rd value = Goes (advanced (with_register h rd (value % 2 ^ 64)) bytes)
+sets bytes h rd value = Goes (with_result bytes h rd value)
 
 -- rd gets what an operation makes of rs1 and rs2, of rs1 and the immediate, of rs1 and the amount
 abbrev pub by_registers : ℕ → Hart → RType → (ℕ → ℕ → ℕ) → Effect
@@ -36,47 +39,56 @@ jumps bytes h rd target = Goes (record (with_register h rd ((h.pc + bytes) % 2 ^
 abbrev pub branches : ℕ → Hart → BType → Bool → Effect
 branches bytes h x taken = Goes (record h { pc = (h.pc + (if taken then wrapped x.offset else bytes)) % 2 ^ 64 })
 
+-- the address of a load or store, modulo 2 ^ 64 (ISA, 2.6)
+abbrev pub address_of : Hart → ℕ → ℤ → ℕ
+address_of h rs1 immediate = (register h rs1 + wrapped immediate) % 2 ^ 64
+
 -- rd gets what is made of the number that so many bytes at rs1 + immediate are (ISA, 2.6)
 abbrev pub loads : ℕ → Hart → IType → ℕ → (ℕ → ℕ) → Effect
 loads bytes h x width made =
-    Loads ((register h x.rs1 + wrapped x.immediate) % 2 ^ 64) width
-        (λ n. advanced (with_register h x.rd (made n % 2 ^ 64)) bytes)
+    Loads (address_of h x.rs1 x.immediate) width (λ n. with_result bytes h x.rd (made n))
 
 -- the low bytes of rs2 go to rs1 + immediate (ISA, 2.6)
 abbrev pub stores : ℕ → Hart → SType → ℕ → Effect
 stores bytes h x width =
-    Stores ((register h x.rs1 + wrapped x.immediate) % 2 ^ 64) width (register h x.rs2) (advanced h bytes)
+    Stores (address_of h x.rs1 x.immediate) width (register h x.rs2) (advanced h bytes)
+
+-- the hart with an address and a width reserved, or nothing (ISA, 8.2)
+abbrev pub with_reservation : Hart → Option Reservation → Hart
+with_reservation h reservation = record h { reservation = reservation }
+
+abbrev pub reservation_of : ℕ → ℕ → Reservation
+reservation_of address bytes = record { address = address; bytes = bytes }
+
+-- the latest lr or sc was an lr of this address and width
+abbrev pub is_reserved : Option Reservation → ℕ → ℕ → Bool
+is_reserved None address width = false
+is_reserved (Some r) address width = (r.address == address) && (r.bytes == width)
 
 -- rd gets what is made of the number at rs1, which is reserved from here on (ISA, 8.2)
 abbrev pub reserves : ℕ → Hart → Reserve → ℕ → (ℕ → ℕ) → Effect
 reserves bytes h x width made =
-    let a = register h x.rs1 in
-    Reserves a width
-        (λ n. record (advanced (with_register h x.rd (made n % 2 ^ 64)) bytes) { reservation = Some (record { address = a; bytes = width }) })
-
--- the latest lr or sc was an lr of this address and width
-abbrev pub is_reserved : Option Reservation → ℕ → ℕ → Bool
-is_reserved None a width = false
-is_reserved (Some r) a width = (r.address == a) && (r.bytes == width)
+    let reserved = with_reservation h (Some (reservation_of (register h x.rs1) width)) in
+    Reserves (register h x.rs1) width (λ n. with_result bytes reserved x.rd (made n))
 
 -- where it is reserved, rs2 goes to rs1 and rd gets 0, else rd gets 1; nothing is reserved from here on (ISA, 8.2)
 abbrev pub stores_if_reserved : ℕ → Hart → Atomic → ℕ → Effect
 stores_if_reserved bytes h x width =
-    let a = register h x.rs1 in
-    let reserved = is_reserved h.reservation a width in
-    Conditional a width (register h x.rs2) reserved
-        (record (advanced (with_register h x.rd (one_if (not reserved))) bytes) { reservation = None })
+    let reserved = is_reserved h.reservation (register h x.rs1) width in
+    let next = with_result bytes (with_reservation h None) x.rd (one_if (not reserved)) in
+    Conditional (register h x.rs1) width (register h x.rs2) reserved next
 
--- the number at rs1 goes to rd, and what an operation makes of it and rs2 goes to memory (ISA, 8.4)
-abbrev pub updates_word : ℕ → Hart → Atomic → (ℕ → ℕ → ℕ) → Effect
-updates_word bytes h x operation =
-    Updates (register h x.rs1) 4 (λ old. operation (low old) (low (register h x.rs2)))
-        (λ old. advanced (with_register h x.rd (extended 32 (low old))) bytes)
-
+-- rd gets the number at rs1, and memory what an operation makes of it and rs2 (ISA, 8.4)
 abbrev pub updates : ℕ → Hart → Atomic → (ℕ → ℕ → ℕ) → Effect
 updates bytes h x operation =
-    Updates (register h x.rs1) 8 (λ old. operation old (register h x.rs2))
-        (λ old. advanced (with_register h x.rd (old % 2 ^ 64)) bytes)
+    let new : ℕ → ℕ = λ old. operation old (register h x.rs2) in
+    Updates (register h x.rs1) 8 new (λ old. with_result bytes h x.rd old)
+
+-- the same on the low 32 bits; rd gets them sign-extended (ISA, 8.4)
+abbrev pub updates_word : ℕ → Hart → Atomic → (ℕ → ℕ → ℕ) → Effect
+updates_word bytes h x operation =
+    let new : ℕ → ℕ = λ old. operation (low old) (low (register h x.rs2)) in
+    Updates (register h x.rs1) 4 new (λ old. with_result bytes h x.rd (extended 32 (low old)))
 
 -- the upper 20 bits of an address or a number, sign-extended from 32 bits (ISA, 2.4 and 5.2)
 abbrev pub upper : ℕ → ℕ
