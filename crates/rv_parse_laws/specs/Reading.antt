@@ -5,7 +5,7 @@ use Rattle.rv_text_laws.specs.Cut.{Piece, Cuts, NothingReads}
 use Rattle.rv_text_laws.specs.Grammar.{Kind}
 use Rattle.rv_text_laws.specs.Lexing.{Token, Lexes, newlines}
 use Rattle.rv_parse_laws.specs.Statement.{Statement, Label, Spoken}
-use Rattle.rv_parse_laws.specs.Syntax.{longest_name, Part, Ends, Says, IsPart, StopsPart, kinds, is_end, is_comma, is_minus, is_colon, begins, Slot, A_register, A_value, slots}
+use Rattle.rv_parse_laws.specs.Syntax.{longest_name, Part, Ends, Says, IsPart, StopsPart, is_end, is_comma, is_minus, is_colon, begins, Slot, A_register, A_value, slots}
 use Rattle.rv_parse_laws.specs.Words.{Beginning, Begins_instruction, Begins_globl, Begins_option, Begins_nothing}
 use Rattle.rv_parse_laws.specs.Faults.{limit, bad_operands, wrong_first, wrong_literal, wrong_after, wrong_symbol, wrong_option, wrong_start, wrong_label}
 use Rattle.rv_parse_laws.specs.Parsing.{colon_next}
@@ -61,45 +61,45 @@ abbrev pub CanGoOn : List Token → List Token → Type 0
 CanGoOn rest before = (p : Part) × (more : List Token) × (is_label p ≡ begins_label rest) × IsPart p (before ++ more)
 
 -- The code of a token by what stands before it: `next` gives the code behind the operand, where all of it stands before.
-abbrev pub code_after_minus : (List Kind → Kind → ℕ) → List Kind → Kind → ℕ
-code_after_minus next [] at = wrong_literal at
-code_after_minus next (k ∷ ks) at = next ks at
+abbrev pub code_after_minus : (List Token → Token → ℕ) → List Token → Token → ℕ
+code_after_minus next [] at = wrong_literal at.kind
+code_after_minus next (t ∷ ts) at = next ts at
 
-abbrev pub code_in_operand : Slot → (List Kind → Kind → ℕ) → List Kind → Kind → ℕ
-code_in_operand s next [] at = wrong_first s at
-code_in_operand A_register next (k ∷ ks) at = next ks at
-code_in_operand A_value next (k ∷ ks) at = if is_minus k then code_after_minus next ks at else next ks at
+abbrev pub code_in_operand : Slot → (List Token → Token → ℕ) → List Token → Token → ℕ
+code_in_operand s next [] at = wrong_first s at.kind
+code_in_operand A_register next (t ∷ ts) at = next ts at
+code_in_operand A_value next (t ∷ ts) at = if is_minus t.kind then code_after_minus next ts at else next ts at
 
 -- behind an operand of a place, with these places left
-abbrev pub code_after : Slot → List Slot → List Kind → Kind → ℕ
-code_after s ss [] at = wrong_after s at
-code_after s [] (k ∷ ks) at = bad_operands
-code_after s (u ∷ us) (k ∷ ks) at = code_in_operand u (code_after u us) ks at
+abbrev pub code_after : Slot → List Slot → List Token → Token → ℕ
+code_after s ss [] at = wrong_after s at.kind
+code_after s [] (t ∷ ts) at = bad_operands
+code_after s (u ∷ us) (t ∷ ts) at = code_in_operand u (code_after u us) ts at
 
-abbrev pub code_in_operands : List Slot → List Kind → Kind → ℕ
-code_in_operands [] ks at = wrong_after A_register at
-code_in_operands (s ∷ ss) ks at = code_in_operand s (code_after s ss) ks at
+abbrev pub code_in_operands : List Slot → List Token → Token → ℕ
+code_in_operands [] ts at = wrong_after A_register at.kind
+code_in_operands (s ∷ ss) ts at = code_in_operand s (code_after s ss) ts at
 
 -- behind a comma a symbol, behind a symbol a comma or the end
-abbrev pub code_in_names : List Kind → Kind → ℕ
-code_in_names [] at = wrong_symbol at
-code_in_names (k ∷ []) at = wrong_after A_register at
-code_in_names (k ∷ c ∷ ks) at = code_in_names ks at
+abbrev pub code_in_names : List Token → Token → ℕ
+code_in_names [] at = wrong_symbol at.kind
+code_in_names (t ∷ []) at = wrong_after A_register at.kind
+code_in_names (t ∷ c ∷ ts) at = code_in_names ts at
 
-abbrev pub code_in_option : List Kind → Kind → ℕ
-code_in_option [] at = wrong_option at
-code_in_option (k ∷ ks) at = wrong_after A_register at
+abbrev pub code_in_option : List Token → Token → ℕ
+code_in_option [] at = wrong_option at.kind
+code_in_option (t ∷ ts) at = wrong_after A_register at.kind
 
-abbrev pub code_begun : Beginning → List Kind → Kind → ℕ
-code_begun (Begins_instruction m) ks at = code_in_operands (slots m) ks at
-code_begun Begins_globl ks at = code_in_names ks at
-code_begun Begins_option ks at = code_in_option ks at
-code_begun Begins_nothing ks at = bad_operands
+abbrev pub code_begun : Beginning → List Token → Token → ℕ
+code_begun (Begins_instruction m) ts at = code_in_operands (slots m) ts at
+code_begun Begins_globl ts at = code_in_names ts at
+code_begun Begins_option ts at = code_in_option ts at
+code_begun Begins_nothing ts at = bad_operands
 
 -- the code of the token `at`, between the tokens `before` of its part and the tokens `more`
-abbrev pub code_at : List Kind → Kind → List Token → ℕ
-code_at [] at more = if colon_next more then wrong_label at else wrong_start at
-code_at (k ∷ ks) at more = code_begun (begins k) ks at
+abbrev pub code_at : List Token → Token → List Token → ℕ
+code_at [] at more = if colon_next more then wrong_label at.kind else wrong_start at.kind
+code_at (t ∷ ts) at more = code_begun (begins t.kind) ts at
 
 -- where a fault stands: at the token's first byte, but a name's limit at the first byte past it
 abbrev pub place_of : ℕ → ℕ → ℕ
@@ -119,7 +119,7 @@ pub record WrongToken (bytes : List ℕ) (place code : ℕ) : Type 0 where
   pub whole : rest ≡ before ++ at ∷ more
   pub goes : CanGoOn rest before
   pub stops : CanGoOn rest (before ++ at ∷ []) → ⊥
-  pub code_is : code ≡ code_at (kinds before) at.kind more
+  pub code_is : code ≡ code_at before at more
   pub place_is : place ≡ place_of at.start code
 
 -- the first token of a statement past the most

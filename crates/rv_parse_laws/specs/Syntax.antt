@@ -82,62 +82,58 @@ slots Ecall = []
 slots Li = A_register ∷ A_value ∷ []
 
 -- the tokens are an operand for this place: a register; a literal with or without a minus, a symbol, a reference
-abbrev pub IsOperand : Slot → List Kind → Operand → Type 0
-IsOperand A_register ks o = (k : Kind) × (r : ℕ) × (ks ≡ k ∷ []) × (register_of k ≡ Some r) × (o ≡ Register r)
-IsOperand A_value ks o =
-  ((k : Kind) × (e : Expression) × (ks ≡ k ∷ []) × (value_of k ≡ Some e) × (o ≡ Value e))
-  ⊎ ((m k : Kind) × (n : ℕ) × (ks ≡ m ∷ k ∷ []) × (is_minus m ≡ true) × (literal_of k ≡ Some n) × (o ≡ Value (Minus (Literal n))))
+abbrev pub IsOperand : Slot → List Token → Operand → Type 0
+IsOperand A_register ts o = (t : Token) × (r : ℕ) × (ts ≡ t ∷ []) × (register_of t.kind ≡ Some r) × (o ≡ Register r)
+IsOperand A_value ts o =
+  ((t : Token) × (e : Expression) × (ts ≡ t ∷ []) × (value_of t.kind ≡ Some e) × (o ≡ Value e))
+  ⊎ ((m t : Token) × (n : ℕ) × (ts ≡ m ∷ t ∷ []) × (is_minus m.kind ≡ true) × (literal_of t.kind ≡ Some n) × (o ≡ Value (Minus (Literal n))))
 
 -- further operands, one for each place, with a comma before each
-abbrev pub AreFurther : List Slot → List Kind → List Operand → Type 0
-AreFurther [] ks os = (ks ≡ []) × (os ≡ [])
-AreFurther (s ∷ ss) ks os =
-  (c : Kind) × (one rest : List Kind) × (o : Operand) × (more : List Operand) × (ks ≡ c ∷ (one ++ rest)) × (is_comma c ≡ true)
+abbrev pub AreFurther : List Slot → List Token → List Operand → Type 0
+AreFurther [] ts os = (ts ≡ []) × (os ≡ [])
+AreFurther (s ∷ ss) ts os =
+  (c : Token) × (one rest : List Token) × (o : Operand) × (more : List Operand) × (ts ≡ c ∷ (one ++ rest)) × (is_comma c.kind ≡ true)
   × IsOperand s one o × AreFurther ss rest more × (os ≡ o ∷ more)
 
 -- the operands, one for each place, with commas between
-abbrev pub AreOperands : List Slot → List Kind → List Operand → Type 0
-AreOperands [] ks os = (ks ≡ []) × (os ≡ [])
-AreOperands (s ∷ ss) ks os =
-  (one rest : List Kind) × (o : Operand) × (more : List Operand) × (ks ≡ one ++ rest)
+abbrev pub AreOperands : List Slot → List Token → List Operand → Type 0
+AreOperands [] ts os = (ts ≡ []) × (os ≡ [])
+AreOperands (s ∷ ss) ts os =
+  (one rest : List Token) × (o : Operand) × (more : List Operand) × (ts ≡ one ++ rest)
   × IsOperand s one o × AreFurther ss rest more × (os ≡ o ∷ more)
 
 -- further names, with a comma before each
-abbrev pub AreFurtherNames : List Kind → List (List ℕ) → Type 0
-AreFurtherNames ks [] = ks ≡ []
-AreFurtherNames ks (name ∷ names) =
-  (c k : Kind) × (rest : List Kind) × (ks ≡ c ∷ k ∷ rest) × (is_comma c ≡ true) × (symbol_of k ≡ Some name) × AreFurtherNames rest names
+abbrev pub AreFurtherNames : List Token → List (List ℕ) → Type 0
+AreFurtherNames ts [] = ts ≡ []
+AreFurtherNames ts (name ∷ names) =
+  (c t : Token) × (rest : List Token) × (ts ≡ c ∷ t ∷ rest) × (is_comma c.kind ≡ true) × (symbol_of t.kind ≡ Some name) × AreFurtherNames rest names
 
 -- one name or more, with commas between
-abbrev pub AreNames : List Kind → List (List ℕ) → Type 0
-AreNames ks names =
-  (k : Kind) × (rest : List Kind) × (name : List ℕ) × (more : List (List ℕ)) × (ks ≡ k ∷ rest) × (symbol_of k ≡ Some name)
+abbrev pub AreNames : List Token → List (List ℕ) → Type 0
+AreNames ts names =
+  (t : Token) × (rest : List Token) × (name : List ℕ) × (more : List (List ℕ)) × (ts ≡ t ∷ rest) × (symbol_of t.kind ≡ Some name)
   × AreFurtherNames rest more × (names ≡ name ∷ more)
 
 -- the tokens that say a statement, without its end
-abbrev pub IsStatement : List Kind → Statement → Type 0
-IsStatement ks (Label name) =
-  (k c : Kind) × (ks ≡ k ∷ c ∷ []) × (symbol_of k ≡ Some name) × (is_colon c ≡ true)
-IsStatement ks (Instruction mnemonic operands) =
-  (k : Kind) × (rest : List Kind) × (ks ≡ k ∷ rest) × (begins k ≡ Begins_instruction mnemonic) × AreOperands (slots mnemonic) rest operands
-IsStatement ks (Globl names) =
-  (k : Kind) × (rest : List Kind) × (ks ≡ k ∷ rest) × (begins k ≡ Begins_globl) × AreNames rest names
-IsStatement ks Norvc =
-  (k o : Kind) × (ks ≡ k ∷ o ∷ []) × (begins k ≡ Begins_option) × (is_norvc o ≡ true)
+abbrev pub IsStatement : List Token → Statement → Type 0
+IsStatement ts (Label name) =
+  (t c : Token) × (ts ≡ t ∷ c ∷ []) × (symbol_of t.kind ≡ Some name) × (is_colon c.kind ≡ true)
+IsStatement ts (Instruction mnemonic operands) =
+  (t : Token) × (rest : List Token) × (ts ≡ t ∷ rest) × (begins t.kind ≡ Begins_instruction mnemonic) × AreOperands (slots mnemonic) rest operands
+IsStatement ts (Globl names) =
+  (t : Token) × (rest : List Token) × (ts ≡ t ∷ rest) × (begins t.kind ≡ Begins_globl) × AreNames rest names
+IsStatement ts Norvc =
+  (t o : Token) × (ts ≡ t ∷ o ∷ []) × (begins t.kind ≡ Begins_option) × (is_norvc o.kind ≡ true)
 
 -- a part of a source: a statement, or the end of one or of nothing
 pub data Part : Type 0 where
   Ends : Part
   Says : (statement : Statement) → Part
 
--- the kinds of tokens
-abbrev pub kinds : List Token → List Kind
-kinds ts = map (λ t. t.kind) ts
-
 -- the tokens that a part consists of
 abbrev pub IsPart : Part → List Token → Type 0
 IsPart Ends ts = (t : Token) × (ts ≡ t ∷ []) × (is_end t.kind ≡ true)
-IsPart (Says statement) ts = IsStatement (kinds ts) statement
+IsPart (Says statement) ts = IsStatement ts statement
 
 -- the tokens begin with the end of a statement
 abbrev pub EndsHere : List Token → Type 0
