@@ -23,3 +23,8 @@ taken_ok t ts None code x rest e = absurd (cc)
 pub tested_ok : {X : Type 0} (b : Bool) (x y : X) (w : Wrong) → cond b (Ok x) (Err w) ≡ Ok y → (b ≡ true) × (x ≡ y)
 tested_ok true x y w e = (refl, cc)
 tested_ok false x y w e = absurd (cc)
+
+pub pair_parts : {X Y : Type 0} (a x : X) (b y : Y) (r : Result (X × Y) Wrong) → r ≡ Ok (a, b) → r ≡ Ok (x, y) → (a ≡ x) × (b ≡ y)
+pair_parts a x b y r d e =
+    let p : (a, b) ≡ (x, y) = cc in
+    (ap (λ (q : _ × _). q.0) p, ap (λ (q : _ × _). q.1) p)
