@@ -3,24 +3,18 @@
 //! Source: RISC-V Unprivileged ISA 20191213, chapters 2, 5, 7 and 8.
 #![tactic(auto)]
 
-<<<<<<< HEAD
 mod edges;
 
-=======
->>>>>>> 124c3112794dbb68f42828f85195c5d305a69d3c
 ghost use Rattle.std.specs.Prelude.{ℕ};
 ghost use Rattle.rv_isa.specs.declared.instruction.Inst.{Inst};
 ghost use Rattle.rv_isa_laws.specs.Hart.{Hart};
 ghost use Rattle.rv_isa_laws.specs.Kept.{GoesOn, Kept};
 ghost use Rattle.rv_isa_laws.specs.Meaning.{effect};
 
-<<<<<<< HEAD
 pub use edges::{
     division_by_zero, division_out_of_range, worked_products, worked_shifts, worked_words,
 };
 
-=======
->>>>>>> 124c3112794dbb68f42828f85195c5d305a69d3c
 /// Whatever an instruction goes on with has the input and the console of the hart before, registers
 /// in range where those before were, and a pc below 2^64.
 pub fn effect_keeps()
