@@ -1,0 +1,33 @@
+//! What the linker makes.
+
+ghost use Rattle.std.specs.Prelude.{◌≡◌, ◌+◌, ◌-◌, ◌%◌, ◌^◌, ◌≤◌, length};
+
+use rv_map::Map;
+
+/// A program whose addresses are fixed: the bytes of its regions, and its map.
+#[derive(Debug, PartialEq, Eq, Drop)]
+pub struct Linked {
+    /// The instructions.
+    pub text: Vec<u8>,
+    /// The constants.
+    pub rodata: Vec<u8>,
+    /// The variables, but for those that begin as zeros.
+    pub data: Vec<u8>,
+    /// The bounds of the regions, the entry, and where every statement stands.
+    pub map: Map,
+    /// Whether an object had compressed instructions.
+    pub rvc: bool,
+    pub ghost text_fills: { map.text.start + length text.items ≡ map.text.end },
+    pub ghost rodata_fills: { map.rodata.start + length rodata.items ≡ map.rodata.end },
+    pub ghost data_fills: { map.data.start + length data.items ≡ map.data.end },
+    pub ghost rodata_after_text: { map.text.end ≤ map.rodata.start },
+    pub ghost data_after_rodata: { map.rodata.end ≤ map.data.start },
+    pub ghost bss_after_data: { map.data.end ≤ map.bss.start },
+    pub ghost bss_ends: { map.bss.start ≤ map.bss.end },
+    /// The stack lies above.
+    pub ghost below_stack: { map.bss.end ≤ 0x3FF0_0000 },
+    /// The memory has 256 MiB at most.
+    pub ghost limit: { length text.items + length rodata.items + (map.bss.end - map.data.start) ≤ 2 ^ 28 },
+    /// Instructions begin at even addresses.
+    pub ghost even: { map.entry % 2 ≡ 0 },
+}

@@ -1,0 +1,14 @@
+//! A segment of an image.
+
+ghost use Rattle.std.specs.Prelude.{◌+◌, ◌^◌, ◌≤◌, length};
+
+/// Bytes that stand in memory from `address` on.
+#[derive(Debug, PartialEq, Eq, Drop)]
+pub struct Segment {
+    pub address: u64,
+    pub bytes: Vec<u8>,
+    /// Its rights: 1 to execute, 2 to write, 4 to read; other bits have no meaning.
+    pub flags: u32,
+    /// It ends at the end of the addresses or before.
+    pub ghost ends: { address + length bytes.items ≤ 2 ^ 64 },
+}
