@@ -9,3 +9,4 @@ pub mod Machine
 pub mod Realizes
 pub mod Agrees
 pub mod Headline
+pub mod Exit7

@@ -1,7 +1,7 @@
 -- The names of a map: which globals it shows, and where a run begins.
 
-use Rattle.std.specs.Prelude.{◌≡◌, ℕ, ◌+◌, ◌-◌, Bool, not, List, [], ◌∷◌, ◌++◌, map, filter, flat_map, Option, Some, slice_index_or, codes, bytes_eq, if◌then◌else◌}
-use Rattle.std.specs.List.{find, list_any, IsDistinct}
+use Rattle.std.specs.Prelude.{◌≡◌, ℕ, ◌+◌, ◌-◌, Bool, false, not, ⊤, List, [], ◌∷◌, ◌++◌, map, filter, flat_map, Option, Some, slice_index_or, codes, bytes_eq, if◌then◌else◌}
+use Rattle.std.specs.List.{find, list_any}
 use Rattle.rv_parse_laws.specs.Statement.{Statement, Label, Norvc, Globl, Instruction, Spoken}
 use Rattle.rv_map.specs.Map.{Map, Global}
 use Rattle.rv_chain_laws.specs.Sites.{Site, program}
@@ -15,6 +15,11 @@ made_global (Instruction mnemonic operands) = []
 
 abbrev pub is_one_of : List (List ℕ) → List ℕ → Bool
 is_one_of names name = list_any (λ n. bytes_eq n name) names
+
+-- no name stands twice in a list
+abbrev pub AreDistinct : List (List ℕ) → Type 0
+AreDistinct [] = ⊤
+AreDistinct (name ∷ names) = (is_one_of names name ≡ false) × AreDistinct names
 
 -- whether a file, numbered from 1, makes a name global
 abbrev pub is_global_in : List (List Spoken) → ℕ → List ℕ → Bool
@@ -55,6 +60,6 @@ names_of globals = map (λ g. g.name) globals
 pub record Resolves (sources : List (List Spoken)) (m : Map) : Type 0 where
   pub globals : m.globals ≡ definitions sources m ++ filter (λ g. not (is_one_of (names_of (definitions sources m)) g.name)) (linker_symbols m)
   -- no name has two global definitions
-  pub once : IsDistinct bytes_eq (names_of (definitions sources m))
+  pub once : AreDistinct (names_of (definitions sources m))
   -- a run begins at the global _start
   pub entry : find (λ g. bytes_eq g.name (codes "_start")) (definitions sources m) ≡ Some (symbol (codes "_start") m.entry)

@@ -3,3 +3,7 @@
 //!
 //! Source: RISC-V Unprivileged ISA 20191213; RISC-V Assembly Programmer's Manual.
 #![tactic(auto)]
+
+mod worked;
+
+pub use worked::{exit255_runs, exit7_fits, exit7_is_limited, exit7_resolves, exit7_runs};
