@@ -4,9 +4,11 @@
 #![tactic(auto)]
 
 mod instruction;
+mod ranges;
 mod register;
 
 pub use instruction::{
     Atomic, BType, Fence, IType, Inst, JType, RType, Reserve, SType, Shift, UType,
 };
+pub use ranges::{is_branch_offset, is_jump_offset, is_signed_12};
 pub use register::Reg;
