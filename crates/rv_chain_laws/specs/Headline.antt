@@ -6,7 +6,10 @@ use Rattle.std.specs.List.{AllByRecursion}
 use Rattle.rv_parse_laws.specs.Statement.{Spoken}
 use Rattle.rv_map.specs.Map.{Map}
 use Rattle.rv_image.specs.Image.{Image}
-use Rattle.rv_chain_laws.specs.Machine.{Reader, machine_run}
+use Rattle.rv_isa.specs.declared.instruction.Inst.{Inst}
+use Rattle.rv_machine_laws.specs.Reader.{Reader}
+use Rattle.rv_machine_laws.specs.Run.{machine_run}
+use Rattle.rv_chain_laws.specs.ImageMemory.{mem_of}
 use Rattle.rv_chain_laws.specs.SourceRun.{source_run}
 use Rattle.rv_chain_laws.specs.Fits.{Fits}
 use Rattle.rv_chain_laws.specs.Resolves.{Resolves}
@@ -19,7 +22,7 @@ AllRead Reads (bytes ∷ texts) (statements ∷ sources) = Reads bytes statement
 AllRead Reads [] (statements ∷ sources) = ⊥
 AllRead Reads (bytes ∷ texts) [] = ⊥
 
-pub record TheHeadline (map_text : Map → List ℕ) (Reads : List ℕ → List Spoken → Type 0) (ImageOf : List ℕ → Image → Type 0) (texts : List (List ℕ)) (text_start : ℕ) (executable map_bytes : List ℕ) : Type 0 where
+pub record TheHeadline (Spells StandsFor : ℕ → Inst → Type 0) (map_text : Map → List ℕ) (Reads : List ℕ → List Spoken → Type 0) (ImageOf : List ℕ → Image → Type 0) (texts : List (List ℕ)) (text_start : ℕ) (executable map_bytes : List ℕ) : Type 0 where
   pub sources : List (List Spoken)
   pub read : AllRead Reads texts sources
   -- the map that the bytes show
@@ -30,4 +33,4 @@ pub record TheHeadline (map_text : Map → List ℕ) (Reads : List ℕ → List 
   -- the image of the executable
   pub image : Image
   pub image_of : ImageOf executable image
-  pub agrees : (reader : Reader) (input : List ℕ) → AllByRecursion (λ byte. byte < 256) input → (n : ℕ) → Agrees (source_run sources map input n) (machine_run reader image input n)
+  pub agrees : (reader : Reader Spells StandsFor) (input : List ℕ) → AllByRecursion (λ byte. byte < 256) input → (n : ℕ) → Agrees (source_run sources map input n) (machine_run reader (mem_of image) image.entry input n)

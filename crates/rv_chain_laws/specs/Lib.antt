@@ -5,7 +5,7 @@ pub mod Fits
 pub mod Resolves
 pub mod Start
 pub mod SourceRun
-pub mod Machine
+pub mod ImageMemory
 pub mod Realizes
 pub mod Agrees
 pub mod Headline
