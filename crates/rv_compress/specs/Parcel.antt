@@ -264,3 +264,7 @@ IsRead found p = (form : Compressed) → found ≡ Some form ↔ Spells p form
 -- the same where there is one
 abbrev pub IsForm : Compressed → ℕ → Type 0
 IsForm found p = (form : Compressed) → found ≡ form ↔ Spells p form
+
+-- what is found is the form chosen for an instruction: none exactly where there is none
+abbrev pub IsFormOf : Option Compressed → Inst → Type 0
+IsFormOf found i = (form : Compressed) → found ≡ Some form ↔ (IsLine form × IsChosen form × (expansion form ≡ i))

@@ -40,22 +40,22 @@ pub fn stack_step(bits: u32) -> u32
     (bits >> 6 & 1) << 4 | (bits >> 2 & 1) << 5 | (bits >> 5 & 1) << 6 | (bits >> 3 & 3) << 7 | (bits >> 12 & 1) << 9
 }
 
-/// imm[7|3:1|5] of a jump, at 6:2.
-fn low_jump_offset(bits: u32) -> u32
-    ensures { result ≡ bits_at bits 3 3 1 + bits_at bits 2 1 5 + bits_at bits 6 1 7 }
-{
-    (bits >> 3 & 7) << 1 | (bits >> 2 & 1) << 5 | (bits >> 6 & 1) << 7
-}
-
-/// imm[11|4|9:8|10|6|7|3:1|5] at 12:2.
+/// imm[11|4|9:8|10|6|7|3:1|5] of a jump, from the eleven bits that stand at 12:2.
 pub fn jump_offset(bits: u32) -> u32
     ensures {
         result
-            ≡ bits_at bits 3 3 1 + bits_at bits 11 1 4 + bits_at bits 2 1 5 + bits_at bits 7 1 6 + bits_at bits 6 1 7 + bits_at bits 9 2 8 + bits_at bits 8 1 10 + bits_at bits 12 1 11
+            ≡ bits_at bits 1 3 1
+            + bits_at bits 9 1 4
+            + bits_at bits 0 1 5
+            + bits_at bits 5 1 6
+            + bits_at bits 4 1 7
+            + bits_at bits 7 2 8
+            + bits_at bits 6 1 10
+            + bits_at bits 10 1 11
     }
 {
-    let low = (bits >> 3 & 7) << 1 | (bits >> 11 & 1) << 4 | (bits >> 2 & 1) << 5 | (bits >> 7 & 1) << 6;
-    let high = (bits >> 6 & 1) | (bits >> 9 & 3) << 1 | (bits >> 8 & 1) << 3 | (bits >> 12 & 1) << 4;
+    let low = (bits >> 1 & 7) << 1 | (bits >> 9 & 1) << 4 | (bits & 1) << 5 | (bits >> 5 & 1) << 6;
+    let high = bits >> 4 & 1 | (bits >> 7 & 3) << 1 | (bits >> 6 & 1) << 3 | (bits >> 10 & 1) << 4;
     low | high << 7
 }
 

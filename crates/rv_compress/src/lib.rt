@@ -6,6 +6,8 @@
 mod form;
 mod immediate;
 mod reading;
+mod writing;
 
 pub use form::Compressed;
 pub use reading::read;
+pub use writing::write;

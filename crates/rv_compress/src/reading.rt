@@ -1,6 +1,6 @@
 //! From a parcel to the form that it spells, by quadrant and funct3.
 
-ghost use Rattle.std.specs.Prelude.{◌≡◌, ◌≢◌, ◌<◌, ◌/◌, ◌%◌, ◌^◌, ◌+◌};
+ghost use Rattle.std.specs.Prelude.{◌≡◌, ◌≢◌, ◌*◌, ◌<◌, ◌/◌, ◌%◌, ◌^◌, ◌+◌};
 ghost use Rattle.rv_compress.specs.Parcel.{IsForm, IsRead, bits_at};
 
 use crate::form::Compressed;
@@ -252,13 +252,24 @@ fn short_arithmetic(bits: u32) -> Option<Compressed>
     }
 }
 
+/// The eleven bits of a jump's offset, at 12:2.
+fn jump_bits(bits: u32) -> u32
+    requires size { bits < 2 ^ 16 }
+    requires quadrant { bits % 4 ≡ 1 }
+    requires funct3 { bits / 2 ^ 13 ≡ 5 }
+    ensures below { result < 2 ^ 11 }
+    ensures rest { bits ≡ 0xa001 + result * 4 }
+{
+    bits >> 2 & 0x7ff
+}
+
 fn j(bits: u32) -> Compressed
     requires size { bits < 2 ^ 16 }
     requires quadrant { bits % 4 ≡ 1 }
     requires funct3 { bits / 2 ^ 13 ≡ 5 }
     ensures { IsForm result bits }
 {
-    Compressed::J { offset: signed_12(jump_offset(bits)) }
+    Compressed::J { offset: signed_12(jump_offset(jump_bits(bits))) }
 }
 
 fn beqz(bits: u32) -> Compressed
