@@ -3,11 +3,13 @@
 //! Source: RISC-V Unprivileged ISA 20191213, chapter 16.
 #![tactic(auto)]
 
+mod expansion;
 mod form;
 mod immediate;
 mod reading;
 mod writing;
 
+pub use expansion::{expand, expanded};
 pub use form::Compressed;
 pub use reading::read;
 pub use writing::write;
