@@ -3,12 +3,14 @@
 //! Source: RISC-V Unprivileged ISA 20191213, chapter 16.
 #![tactic(auto)]
 
+mod choice;
 mod expansion;
 mod form;
 mod immediate;
 mod reading;
 mod writing;
 
+pub use choice::shrink;
 pub use expansion::{expand, expanded};
 pub use form::Compressed;
 pub use reading::read;
