@@ -6,6 +6,7 @@
 mod choice;
 mod expansion;
 mod form;
+mod front;
 mod immediate;
 mod reading;
 mod writing;
@@ -13,5 +14,6 @@ mod writing;
 pub use choice::shrink;
 pub use expansion::{expand, expanded};
 pub use form::Compressed;
+pub use front::next_inst;
 pub use reading::read;
 pub use writing::write;

@@ -1,9 +1,10 @@
 //! From a form to the parcel that spells it.
 
 ghost use Rattle.std.specs.Prelude.{◌≡◌, ◌<◌, ◌≤◌, ◌/◌, ◌%◌, ◌^◌, ◌*◌, ◌+◌, ◌≤ℤ◌, pos, negsuc};
+ghost use Rattle.rv_encode.specs.Word.{field};
 ghost use Rattle.rv_compress.specs.Parcel.{
     IsBranch, IsJump, IsLine, IsSixBits, IsStackStep, arithmetic, bits_at, branch_offset, double_load, double_offset,
-    double_store, field, jump_offset, opcode, parcel, six, stack_address, stack_step, word_load, word_offset, word_store
+    double_store, jump_offset, opcode, parcel, six, stack_address, stack_step, word_load, word_offset, word_store
 };
 
 use crate::form::Compressed;
