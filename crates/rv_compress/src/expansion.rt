@@ -1,6 +1,7 @@
 //! From a parcel to the instruction that it stands for.
 
-ghost use Rattle.std.specs.Prelude.{◌≡◌, ◌↔◌};
+ghost use Rattle.std.specs.Prelude.{◌≡◌, ◌↔◌, IfSome};
+ghost use Rattle.rv_isa.specs.Ranges.{IsValid};
 ghost use Rattle.rv_compress.specs.Parcel.{IsLine, StandsFor, expansion};
 
 use crate::form::Compressed;
@@ -10,9 +11,11 @@ use rv_isa::{BType, IType, Inst, JType, RType, Reg, SType, Shift, UType};
 /// The instruction that a form stands for.
 ///
 /// Unprivileged ISA 20191213, sections 16.3 to 16.5.
+#[inline(always)]
 pub fn expanded(form: Compressed) -> Inst
     requires { IsLine form }
-    ensures { result ≡ expansion form }
+    ensures same { result ≡ expansion form }
+    ensures valid { IsValid result }
 {
     let zero = Reg::from_low_bits(0);
     let sp = Reg::from_low_bits(2);
@@ -59,7 +62,8 @@ pub fn expanded(form: Compressed) -> Inst
 /// Unprivileged ISA 20191213, chapter 16.
 #[inline(always)]
 pub fn expand(parcel: u16) -> Option<Inst>
-    ensures { (inst : Inst) → result ≡ Some inst ↔ StandsFor parcel inst }
+    ensures exact { (inst : Inst) → result ≡ Some inst ↔ StandsFor parcel inst }
+    ensures valid { IfSome result IsValid }
 {
     match read(parcel) {
         Some(form) => Some(expanded(form)),

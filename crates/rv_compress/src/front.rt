@@ -1,6 +1,7 @@
 //! The instruction at the front of bytes.
 
 ghost use Rattle.std.specs.Prelude.{◌≡◌, ◌↔◌, ◌%◌, ◌≤◌, ◌≢◌, ℕ, IfSome, length, slice_index};
+ghost use Rattle.rv_isa.specs.Ranges.{IsValid};
 ghost use Rattle.rv_compress.specs.Front.{FrontParcel, FrontSpells, FrontWord, front_parcel};
 
 use crate::expansion::expand;
@@ -20,7 +21,8 @@ fn first_parcel(bytes: &[u8]) -> u16
 #[inline(always)]
 fn parcel_inst(bytes: &[u8]) -> Option<Inst>
     requires begins { slice_index bytes.now 0 % 4 ≢ 3 }
-    ensures { (inst : Inst) → result ≡ Some inst ↔ FrontParcel bytes.now inst }
+    ensures exact { (inst : Inst) → result ≡ Some inst ↔ FrontParcel bytes.now inst }
+    ensures valid { IfSome result IsValid }
 {
     if bytes.len() < 2 { None } else { expand(first_parcel(bytes)) }
 }
@@ -29,7 +31,8 @@ fn parcel_inst(bytes: &[u8]) -> Option<Inst>
 #[inline(always)]
 fn word_inst(bytes: &[u8]) -> Option<Inst>
     requires begins { slice_index bytes.now 0 % 4 ≡ 3 }
-    ensures { (inst : Inst) → result ≡ Some inst ↔ FrontWord bytes.now inst }
+    ensures exact { (inst : Inst) → result ≡ Some inst ↔ FrontWord bytes.now inst }
+    ensures valid { IfSome result IsValid }
 {
     if bytes.len() < 4 { None } else { decode(u32::from_le_bytes([bytes[0], bytes[1], bytes[2], bytes[3]])) }
 }
@@ -40,7 +43,8 @@ fn word_inst(bytes: &[u8]) -> Option<Inst>
 /// Unprivileged ISA 20191213, section 1.5.
 #[inline(always)]
 pub fn next_inst(bytes: &[u8]) -> Option<(Inst, usize)>
-    ensures { (inst : Inst) (count : ℕ) → result ≡ Some (inst, count) ↔ FrontSpells bytes.now inst count }
+    ensures exact { (inst : Inst) (count : ℕ) → result ≡ Some (inst, count) ↔ FrontSpells bytes.now inst count }
+    ensures valid { IfSome result (λ found. IsValid found.0) }
 {
     if bytes.is_empty() {
         return None;

@@ -415,6 +415,7 @@ fn quadrant_2(bits: u32) -> Option<Compressed>
 /// The form that a parcel spells, with its operands; HINTs are forms, reserved parcels and 0 none.
 ///
 /// Unprivileged ISA 20191213, section 16.8.
+#[inline(always)]
 pub fn read(parcel: u16) -> Option<Compressed>
     ensures { IsRead result parcel }
 {
