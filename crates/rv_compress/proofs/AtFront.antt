@@ -10,10 +10,12 @@ Finds found i n = found ≡ Some (i, n)
 
 -- a pair is found where its first part is, and its second is the given number
 paired : {A : Type 0} (P : A → Type 0) (a : A) (k : ℕ) → ((i : A) → Some a ≡ Some i ↔ P i) → (i : A) (n : ℕ) → Finds (Some (a, k)) i n ↔ (P i × (n ≡ k))
-paired {A = A} P a k each i n =
-    (λ h. let e : ◌≡◌ {A = A × ℕ} (a, k) (i, n) = same_Some (a, k) (i, n) h in
-        ((each i).0 (ap (λ p. Some p.0) e), sym (ap (λ p. p.1) e)), λ f.
-        subst (λ m. Finds (Some (a, k)) i m) (sym f.1) (ap (λ x. Some (x, k)) (same_Some a i ((each i).1 f.0))))
+paired {A = A} P a k each i n = (
+  λ h. let e : ◌≡◌ {A = A × ℕ} (a, k) (i, n) = same_Some (a, k) (i, n) h in
+      ((each i).0 (ap (λ p. Some p.0) e), sym (ap (λ p. p.1) e)),
+  λ f.
+      subst (λ m. Finds (Some (a, k)) i m) (sym f.1) (ap (λ x. Some (x, k)) (same_Some a i ((each i).1 f.0))),
+)
 
 pub parcel-front : (bytes : List ℕ) (found : Option Inst) (a : Inst) → slice_index bytes 0 % 4 ≢ 3 → found ≡ Some a → ((i : Inst) → found ≡ Some i ↔ FrontParcel bytes i) → (i : Inst) (n : ℕ) → Finds (Some (a, 2)) i n ↔ FrontSpells bytes i n
 parcel-front bytes found a begins is each i n =

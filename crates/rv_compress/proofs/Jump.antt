@@ -70,12 +70,13 @@ jump-line z u low high e = grind arith
 -- the form that a parcel of c.j spells
 jump-spelled : (bits f : ℕ) (z : ℤ) → bits ≡ 0xa001 + f * 4 → f < 2048 → negsuc 2047 ≤ℤ z → z ≤ℤ pos 2047 → field 12 z ≡ gathered f → SpellsForm bits (J z)
 jump-spelled bits f z e below low high g = record {
-    line = jump-line z (gathered f / 2) low high (g ∙ half f);
-    sum = shift (jump_offset (field 12 z)) f bits (ap (λ v. jump_offset v) g ∙ scattered-back f below) e
-  }
+  line = jump-line z (gathered f / 2) low high (g ∙ half f);
+  sum = shift (jump_offset (field 12 z)) f bits (ap (λ v. jump_offset v) g ∙ scattered-back f below) e;
+}
   where
     half : (f : ℕ) → gathered f ≡ gathered f / 2 * 2
     half f = omega arith
+
     shift : (a f bits : ℕ) → a ≡ f * 4 → bits ≡ 0xa001 + f * 4 → 1 + 5 * 2 ^ 13 + a ≡ bits
     shift a f bits h e = omega arith
 

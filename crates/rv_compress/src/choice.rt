@@ -2,7 +2,15 @@
 
 ghost use Rattle.std.specs.Prelude.{◌≡◌, ◌≢◌, ◌↔◌, ◌<◌, ℕ, pos, IsTrue, MatchOption};
 ghost use Rattle.rv_compress.specs.Parcel.{
-    IsBranch, IsFormOf, IsJump, IsMultiple, IsShort, IsShortOf, IsSixBits, IsStackStep, IsUpper
+  IsBranch,
+  IsFormOf,
+  IsJump,
+  IsMultiple,
+  IsShort,
+  IsShortOf,
+  IsSixBits,
+  IsStackStep,
+  IsUpper,
 };
 
 use crate::form::Compressed;
@@ -26,17 +34,19 @@ fn is_six_bits(value: i32) -> bool
 /// An offset that is a multiple of `unit` below `limit`.
 fn scaled(value: i32, unit: u32, limit: u32) -> Option<u32>
     requires { 0 < unit }
-    ensures {
-        MatchOption result
-            ((u : ℕ) → value ≡ pos u → IsMultiple unit limit u → ⊥)
-            (λ u. (value ≡ pos u) × IsMultiple unit limit u)
-    }
+    ensures { MatchOption result
+        ((u : ℕ) → value ≡ pos u → IsMultiple unit limit u → ⊥)
+        (λ u. (value ≡ pos u) × IsMultiple unit limit u) }
 {
     if value < 0 {
         return None;
     }
     let offset = value as u32;
-    if offset < limit && offset % unit == 0 { Some(offset) } else { None }
+    if offset < limit && offset % unit == 0 {
+        Some(offset)
+    } else {
+        None
+    }
 }
 
 /// `addi rd, x0, immediate`: `c.li` or `c.nop`.
@@ -44,7 +54,11 @@ fn constant(rd: Reg, immediate: i32) -> Option<Compressed>
     ensures { IsFormOf result (Inst.Addi record { rd = rd; rs1 = 0; immediate = immediate }) }
 {
     if rd.number() == 0 {
-        if immediate == 0 { Some(Compressed::Nop { immediate }) } else { None }
+        if immediate == 0 {
+            Some(Compressed::Nop { immediate })
+        } else {
+            None
+        }
     } else if is_six_bits(immediate) {
         Some(Compressed::Li { rd, immediate })
     } else {
@@ -57,7 +71,14 @@ fn stack_step(immediate: i32) -> Option<Compressed>
     ensures { IsFormOf result (Inst.Addi record { rd = 2; rs1 = 2; immediate = immediate }) }
 {
     if is_six_bits(immediate) {
-        if immediate == 0 { None } else { Some(Compressed::Addi { rd: Reg::from_low_bits(2), immediate }) }
+        if immediate == 0 {
+            None
+        } else {
+            Some(Compressed::Addi {
+                rd: Reg::from_low_bits(2),
+                immediate,
+            })
+        }
     } else if -512 <= immediate && immediate < 512 && immediate.unsigned_abs() % 16 == 0 {
         Some(Compressed::Addi16sp { immediate })
     } else {
@@ -84,7 +105,11 @@ fn addi(x: IType) -> Option<Compressed>
 {
     match x.rs1.number() {
         0 => constant(x.rd, x.immediate),
-        2 => if x.rd.number() == 2 { stack_step(x.immediate) } else { stack_address(x.rd, x.immediate) },
+        2 => if x.rd.number() == 2 {
+            stack_step(x.immediate)
+        } else {
+            stack_address(x.rd, x.immediate)
+        },
         _ => increment(x),
     }
 }
@@ -96,7 +121,10 @@ fn increment(x: IType) -> Option<Compressed>
     ensures { IsFormOf result (Inst.Addi x) }
 {
     if x.rd == x.rs1 && x.immediate != 0 && is_six_bits(x.immediate) {
-        Some(Compressed::Addi { rd: x.rd, immediate: x.immediate })
+        Some(Compressed::Addi {
+            rd: x.rd,
+            immediate: x.immediate,
+        })
     } else {
         None
     }
@@ -106,7 +134,10 @@ fn addiw(x: IType) -> Option<Compressed>
     ensures { IsFormOf result (Inst.Addiw x) }
 {
     if x.rd == x.rs1 && x.rd.number() != 0 && is_six_bits(x.immediate) {
-        Some(Compressed::Addiw { rd: x.rd, immediate: x.immediate })
+        Some(Compressed::Addiw {
+            rd: x.rd,
+            immediate: x.immediate,
+        })
     } else {
         None
     }
@@ -116,7 +147,10 @@ fn andi(x: IType) -> Option<Compressed>
     ensures { IsFormOf result (Inst.Andi x) }
 {
     if x.rd == x.rs1 && is_short(x.rd) && is_six_bits(x.immediate) {
-        Some(Compressed::Andi { rd: x.rd, immediate: x.immediate })
+        Some(Compressed::Andi {
+            rd: x.rd,
+            immediate: x.immediate,
+        })
     } else {
         None
     }
@@ -128,7 +162,10 @@ fn lui(x: UType) -> Option<Compressed>
     let value = x.immediate;
     let fits = 0 < value && value < 0x20 || 0xfffe0 <= value && value < 0x100000;
     if x.rd.number() != 0 && x.rd.number() != 2 && fits {
-        Some(Compressed::Lui { rd: x.rd, immediate: value })
+        Some(Compressed::Lui {
+            rd: x.rd,
+            immediate: value,
+        })
     } else {
         None
     }
@@ -138,7 +175,10 @@ fn slli(x: Shift) -> Option<Compressed>
     ensures { IsFormOf result (Inst.Slli x) }
 {
     if x.rd == x.rs1 && x.rd.number() != 0 && 0 < x.amount && x.amount < 64 {
-        Some(Compressed::Slli { rd: x.rd, amount: x.amount })
+        Some(Compressed::Slli {
+            rd: x.rd,
+            amount: x.amount,
+        })
     } else {
         None
     }
@@ -148,7 +188,10 @@ fn srli(x: Shift) -> Option<Compressed>
     ensures { IsFormOf result (Inst.Srli x) }
 {
     if x.rd == x.rs1 && is_short(x.rd) && 0 < x.amount && x.amount < 64 {
-        Some(Compressed::Srli { rd: x.rd, amount: x.amount })
+        Some(Compressed::Srli {
+            rd: x.rd,
+            amount: x.amount,
+        })
     } else {
         None
     }
@@ -158,7 +201,10 @@ fn srai(x: Shift) -> Option<Compressed>
     ensures { IsFormOf result (Inst.Srai x) }
 {
     if x.rd == x.rs1 && is_short(x.rd) && 0 < x.amount && x.amount < 64 {
-        Some(Compressed::Srai { rd: x.rd, amount: x.amount })
+        Some(Compressed::Srai {
+            rd: x.rd,
+            amount: x.amount,
+        })
     } else {
         None
     }
@@ -180,7 +226,11 @@ fn lw(x: IType) -> Option<Compressed>
         return None;
     }
     match scaled(x.immediate, 4, 128) {
-        Some(offset) => Some(Compressed::Lw { rd: x.rd, rs1: x.rs1, offset }),
+        Some(offset) => Some(Compressed::Lw {
+            rd: x.rd,
+            rs1: x.rs1,
+            offset,
+        }),
         None => None,
     }
 }
@@ -201,7 +251,11 @@ fn ld(x: IType) -> Option<Compressed>
         return None;
     }
     match scaled(x.immediate, 8, 256) {
-        Some(offset) => Some(Compressed::Ld { rd: x.rd, rs1: x.rs1, offset }),
+        Some(offset) => Some(Compressed::Ld {
+            rd: x.rd,
+            rs1: x.rs1,
+            offset,
+        }),
         None => None,
     }
 }
@@ -219,7 +273,11 @@ fn sw(x: SType) -> Option<Compressed>
         return None;
     }
     match scaled(x.immediate, 4, 128) {
-        Some(offset) => Some(Compressed::Sw { rs1: x.rs1, rs2: x.rs2, offset }),
+        Some(offset) => Some(Compressed::Sw {
+            rs1: x.rs1,
+            rs2: x.rs2,
+            offset,
+        }),
         None => None,
     }
 }
@@ -237,7 +295,11 @@ fn sd(x: SType) -> Option<Compressed>
         return None;
     }
     match scaled(x.immediate, 8, 256) {
-        Some(offset) => Some(Compressed::Sd { rs1: x.rs1, rs2: x.rs2, offset }),
+        Some(offset) => Some(Compressed::Sd {
+            rs1: x.rs1,
+            rs2: x.rs2,
+            offset,
+        }),
         None => None,
     }
 }
@@ -256,9 +318,15 @@ fn add(x: RType) -> Option<Compressed>
     if x.rd.number() == 0 || x.rs2.number() == 0 {
         None
     } else if x.rs1.number() == 0 {
-        Some(Compressed::Mv { rd: x.rd, rs2: x.rs2 })
+        Some(Compressed::Mv {
+            rd: x.rd,
+            rs2: x.rs2,
+        })
     } else if x.rd == x.rs1 {
-        Some(Compressed::Add { rd: x.rd, rs2: x.rs2 })
+        Some(Compressed::Add {
+            rd: x.rd,
+            rs2: x.rs2,
+        })
     } else {
         None
     }
@@ -268,7 +336,11 @@ fn jal(x: JType) -> Option<Compressed>
     ensures { IsFormOf result (Inst.Jal x) }
 {
     let reaches = -2048 <= x.offset && x.offset < 2048 && x.offset.unsigned_abs() % 2 == 0;
-    if x.rd.number() == 0 && reaches { Some(Compressed::J { offset: x.offset }) } else { None }
+    if x.rd.number() == 0 && reaches {
+        Some(Compressed::J { offset: x.offset })
+    } else {
+        None
+    }
 }
 
 fn jalr(x: IType) -> Option<Compressed>
@@ -312,14 +384,46 @@ fn chosen(inst: Inst) -> Option<Compressed>
         Inst::Jal(x) => jal(x),
         Inst::Jalr(x) => jalr(x),
         Inst::Ebreak => Some(Compressed::Ebreak),
-        Inst::Sub(RType { rd, rs1, rs2 }) => if is_short_pair(rd, rs1, rs2) { Some(Compressed::Sub { rd, rs2 }) } else { None },
-        Inst::Xor(RType { rd, rs1, rs2 }) => if is_short_pair(rd, rs1, rs2) { Some(Compressed::Xor { rd, rs2 }) } else { None },
-        Inst::Or(RType { rd, rs1, rs2 }) => if is_short_pair(rd, rs1, rs2) { Some(Compressed::Or { rd, rs2 }) } else { None },
-        Inst::And(RType { rd, rs1, rs2 }) => if is_short_pair(rd, rs1, rs2) { Some(Compressed::And { rd, rs2 }) } else { None },
-        Inst::Subw(RType { rd, rs1, rs2 }) => if is_short_pair(rd, rs1, rs2) { Some(Compressed::Subw { rd, rs2 }) } else { None },
-        Inst::Addw(RType { rd, rs1, rs2 }) => if is_short_pair(rd, rs1, rs2) { Some(Compressed::Addw { rd, rs2 }) } else { None },
-        Inst::Beq(BType { rs1, rs2, offset }) => if is_short_branch(rs1, rs2, offset) { Some(Compressed::Beqz { rs1, offset }) } else { None },
-        Inst::Bne(BType { rs1, rs2, offset }) => if is_short_branch(rs1, rs2, offset) { Some(Compressed::Bnez { rs1, offset }) } else { None },
+        Inst::Sub(RType { rd, rs1, rs2 }) => if is_short_pair(rd, rs1, rs2) {
+            Some(Compressed::Sub { rd, rs2 })
+        } else {
+            None
+        },
+        Inst::Xor(RType { rd, rs1, rs2 }) => if is_short_pair(rd, rs1, rs2) {
+            Some(Compressed::Xor { rd, rs2 })
+        } else {
+            None
+        },
+        Inst::Or(RType { rd, rs1, rs2 }) => if is_short_pair(rd, rs1, rs2) {
+            Some(Compressed::Or { rd, rs2 })
+        } else {
+            None
+        },
+        Inst::And(RType { rd, rs1, rs2 }) => if is_short_pair(rd, rs1, rs2) {
+            Some(Compressed::And { rd, rs2 })
+        } else {
+            None
+        },
+        Inst::Subw(RType { rd, rs1, rs2 }) => if is_short_pair(rd, rs1, rs2) {
+            Some(Compressed::Subw { rd, rs2 })
+        } else {
+            None
+        },
+        Inst::Addw(RType { rd, rs1, rs2 }) => if is_short_pair(rd, rs1, rs2) {
+            Some(Compressed::Addw { rd, rs2 })
+        } else {
+            None
+        },
+        Inst::Beq(BType { rs1, rs2, offset }) => if is_short_branch(rs1, rs2, offset) {
+            Some(Compressed::Beqz { rs1, offset })
+        } else {
+            None
+        },
+        Inst::Bne(BType { rs1, rs2, offset }) => if is_short_branch(rs1, rs2, offset) {
+            Some(Compressed::Bnez { rs1, offset })
+        } else {
+            None
+        },
         _ => None,
     }
 }

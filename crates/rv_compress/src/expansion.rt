@@ -20,20 +20,72 @@ pub fn expanded(form: Compressed) -> Inst
     let zero = Reg::from_low_bits(0);
     let sp = Reg::from_low_bits(2);
     match form {
-        Compressed::Addi4spn { rd, immediate } => Inst::Addi(IType { rd, rs1: sp, immediate: immediate as i32 }),
-        Compressed::Lw { rd, rs1, offset } => Inst::Lw(IType { rd, rs1, immediate: offset as i32 }),
-        Compressed::Ld { rd, rs1, offset } => Inst::Ld(IType { rd, rs1, immediate: offset as i32 }),
-        Compressed::Sw { rs1, rs2, offset } => Inst::Sw(SType { rs1, rs2, immediate: offset as i32 }),
-        Compressed::Sd { rs1, rs2, offset } => Inst::Sd(SType { rs1, rs2, immediate: offset as i32 }),
-        Compressed::Nop { immediate } => Inst::Addi(IType { rd: zero, rs1: zero, immediate }),
-        Compressed::Addi { rd, immediate } => Inst::Addi(IType { rd, rs1: rd, immediate }),
-        Compressed::Addiw { rd, immediate } => Inst::Addiw(IType { rd, rs1: rd, immediate }),
-        Compressed::Li { rd, immediate } => Inst::Addi(IType { rd, rs1: zero, immediate }),
-        Compressed::Addi16sp { immediate } => Inst::Addi(IType { rd: sp, rs1: sp, immediate }),
+        Compressed::Addi4spn { rd, immediate } => Inst::Addi(IType {
+            rd,
+            rs1: sp,
+            immediate: immediate as i32,
+        }),
+        Compressed::Lw { rd, rs1, offset } => Inst::Lw(IType {
+            rd,
+            rs1,
+            immediate: offset as i32,
+        }),
+        Compressed::Ld { rd, rs1, offset } => Inst::Ld(IType {
+            rd,
+            rs1,
+            immediate: offset as i32,
+        }),
+        Compressed::Sw { rs1, rs2, offset } => Inst::Sw(SType {
+            rs1,
+            rs2,
+            immediate: offset as i32,
+        }),
+        Compressed::Sd { rs1, rs2, offset } => Inst::Sd(SType {
+            rs1,
+            rs2,
+            immediate: offset as i32,
+        }),
+        Compressed::Nop { immediate } => Inst::Addi(IType {
+            rd: zero,
+            rs1: zero,
+            immediate,
+        }),
+        Compressed::Addi { rd, immediate } => Inst::Addi(IType {
+            rd,
+            rs1: rd,
+            immediate,
+        }),
+        Compressed::Addiw { rd, immediate } => Inst::Addiw(IType {
+            rd,
+            rs1: rd,
+            immediate,
+        }),
+        Compressed::Li { rd, immediate } => Inst::Addi(IType {
+            rd,
+            rs1: zero,
+            immediate,
+        }),
+        Compressed::Addi16sp { immediate } => Inst::Addi(IType {
+            rd: sp,
+            rs1: sp,
+            immediate,
+        }),
         Compressed::Lui { rd, immediate } => Inst::Lui(UType { rd, immediate }),
-        Compressed::Srli { rd, amount } => Inst::Srli(Shift { rd, rs1: rd, amount }),
-        Compressed::Srai { rd, amount } => Inst::Srai(Shift { rd, rs1: rd, amount }),
-        Compressed::Andi { rd, immediate } => Inst::Andi(IType { rd, rs1: rd, immediate }),
+        Compressed::Srli { rd, amount } => Inst::Srli(Shift {
+            rd,
+            rs1: rd,
+            amount,
+        }),
+        Compressed::Srai { rd, amount } => Inst::Srai(Shift {
+            rd,
+            rs1: rd,
+            amount,
+        }),
+        Compressed::Andi { rd, immediate } => Inst::Andi(IType {
+            rd,
+            rs1: rd,
+            immediate,
+        }),
         Compressed::Sub { rd, rs2 } => Inst::Sub(RType { rd, rs1: rd, rs2 }),
         Compressed::Xor { rd, rs2 } => Inst::Xor(RType { rd, rs1: rd, rs2 }),
         Compressed::Or { rd, rs2 } => Inst::Or(RType { rd, rs1: rd, rs2 }),
@@ -41,18 +93,54 @@ pub fn expanded(form: Compressed) -> Inst
         Compressed::Subw { rd, rs2 } => Inst::Subw(RType { rd, rs1: rd, rs2 }),
         Compressed::Addw { rd, rs2 } => Inst::Addw(RType { rd, rs1: rd, rs2 }),
         Compressed::J { offset } => Inst::Jal(JType { rd: zero, offset }),
-        Compressed::Beqz { rs1, offset } => Inst::Beq(BType { rs1, rs2: zero, offset }),
-        Compressed::Bnez { rs1, offset } => Inst::Bne(BType { rs1, rs2: zero, offset }),
-        Compressed::Slli { rd, amount } => Inst::Slli(Shift { rd, rs1: rd, amount }),
-        Compressed::Lwsp { rd, offset } => Inst::Lw(IType { rd, rs1: sp, immediate: offset as i32 }),
-        Compressed::Ldsp { rd, offset } => Inst::Ld(IType { rd, rs1: sp, immediate: offset as i32 }),
-        Compressed::Jr { rs1 } => Inst::Jalr(IType { rd: zero, rs1, immediate: 0 }),
+        Compressed::Beqz { rs1, offset } => Inst::Beq(BType {
+            rs1,
+            rs2: zero,
+            offset,
+        }),
+        Compressed::Bnez { rs1, offset } => Inst::Bne(BType {
+            rs1,
+            rs2: zero,
+            offset,
+        }),
+        Compressed::Slli { rd, amount } => Inst::Slli(Shift {
+            rd,
+            rs1: rd,
+            amount,
+        }),
+        Compressed::Lwsp { rd, offset } => Inst::Lw(IType {
+            rd,
+            rs1: sp,
+            immediate: offset as i32,
+        }),
+        Compressed::Ldsp { rd, offset } => Inst::Ld(IType {
+            rd,
+            rs1: sp,
+            immediate: offset as i32,
+        }),
+        Compressed::Jr { rs1 } => Inst::Jalr(IType {
+            rd: zero,
+            rs1,
+            immediate: 0,
+        }),
         Compressed::Mv { rd, rs2 } => Inst::Add(RType { rd, rs1: zero, rs2 }),
         Compressed::Ebreak => Inst::Ebreak,
-        Compressed::Jalr { rs1 } => Inst::Jalr(IType { rd: Reg::from_low_bits(1), rs1, immediate: 0 }),
+        Compressed::Jalr { rs1 } => Inst::Jalr(IType {
+            rd: Reg::from_low_bits(1),
+            rs1,
+            immediate: 0,
+        }),
         Compressed::Add { rd, rs2 } => Inst::Add(RType { rd, rs1: rd, rs2 }),
-        Compressed::Swsp { rs2, offset } => Inst::Sw(SType { rs1: sp, rs2, immediate: offset as i32 }),
-        Compressed::Sdsp { rs2, offset } => Inst::Sd(SType { rs1: sp, rs2, immediate: offset as i32 }),
+        Compressed::Swsp { rs2, offset } => Inst::Sw(SType {
+            rs1: sp,
+            rs2,
+            immediate: offset as i32,
+        }),
+        Compressed::Sdsp { rs2, offset } => Inst::Sd(SType {
+            rs1: sp,
+            rs2,
+            immediate: offset as i32,
+        }),
     }
 }
 

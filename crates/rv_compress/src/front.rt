@@ -24,7 +24,11 @@ fn parcel_inst(bytes: &[u8]) -> Option<Inst>
     ensures exact { (inst : Inst) → result ≡ Some inst ↔ FrontParcel bytes.now inst }
     ensures valid { IfSome result IsValid }
 {
-    if bytes.len() < 2 { None } else { expand(first_parcel(bytes)) }
+    if bytes.len() < 2 {
+        None
+    } else {
+        expand(first_parcel(bytes))
+    }
 }
 
 /// The word's instruction at the front of bytes that begin one.
@@ -34,7 +38,11 @@ fn word_inst(bytes: &[u8]) -> Option<Inst>
     ensures exact { (inst : Inst) → result ≡ Some inst ↔ FrontWord bytes.now inst }
     ensures valid { IfSome result IsValid }
 {
-    if bytes.len() < 4 { None } else { decode(u32::from_le_bytes([bytes[0], bytes[1], bytes[2], bytes[3]])) }
+    if bytes.len() < 4 {
+        None
+    } else {
+        decode(u32::from_le_bytes([bytes[0], bytes[1], bytes[2], bytes[3]]))
+    }
 }
 
 /// The instruction at the front of the bytes and its length, 2 or 4; `None` exactly where the front

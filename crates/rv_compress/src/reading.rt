@@ -5,8 +5,8 @@ ghost use Rattle.rv_compress.specs.Parcel.{IsForm, IsRead, bits_at};
 
 use crate::form::Compressed;
 use crate::immediate::{
-    branch_offset, double_load, double_offset, double_store, jump_offset, signed_10, signed_12,
-    signed_6, signed_9, six, stack_address, stack_step, upper_20, word_load, word_offset,
+    branch_offset, double_load, double_offset, double_store, jump_offset, signed_6, signed_9,
+    signed_10, signed_12, six, stack_address, stack_step, upper_20, word_load, word_offset,
     word_store,
 };
 use rv_isa::Reg;
@@ -46,7 +46,14 @@ fn addi4spn(bits: u32) -> Option<Compressed>
     ensures { IsRead result bits }
 {
     let immediate = stack_address(bits);
-    if immediate == 0 { None } else { Some(Compressed::Addi4spn { rd: short_2(bits), immediate }) }
+    if immediate == 0 {
+        None
+    } else {
+        Some(Compressed::Addi4spn {
+            rd: short_2(bits),
+            immediate,
+        })
+    }
 }
 
 fn lw(bits: u32) -> Compressed
@@ -55,7 +62,11 @@ fn lw(bits: u32) -> Compressed
     requires funct3 { bits / 2 ^ 13 ≡ 2 }
     ensures { IsForm result bits }
 {
-    Compressed::Lw { rd: short_2(bits), rs1: short_7(bits), offset: word_offset(bits) }
+    Compressed::Lw {
+        rd: short_2(bits),
+        rs1: short_7(bits),
+        offset: word_offset(bits),
+    }
 }
 
 fn ld(bits: u32) -> Compressed
@@ -64,7 +75,11 @@ fn ld(bits: u32) -> Compressed
     requires funct3 { bits / 2 ^ 13 ≡ 3 }
     ensures { IsForm result bits }
 {
-    Compressed::Ld { rd: short_2(bits), rs1: short_7(bits), offset: double_offset(bits) }
+    Compressed::Ld {
+        rd: short_2(bits),
+        rs1: short_7(bits),
+        offset: double_offset(bits),
+    }
 }
 
 fn sw(bits: u32) -> Compressed
@@ -73,7 +88,11 @@ fn sw(bits: u32) -> Compressed
     requires funct3 { bits / 2 ^ 13 ≡ 6 }
     ensures { IsForm result bits }
 {
-    Compressed::Sw { rs1: short_7(bits), rs2: short_2(bits), offset: word_offset(bits) }
+    Compressed::Sw {
+        rs1: short_7(bits),
+        rs2: short_2(bits),
+        offset: word_offset(bits),
+    }
 }
 
 fn sd(bits: u32) -> Compressed
@@ -82,7 +101,11 @@ fn sd(bits: u32) -> Compressed
     requires funct3 { bits / 2 ^ 13 ≡ 7 }
     ensures { IsForm result bits }
 {
-    Compressed::Sd { rs1: short_7(bits), rs2: short_2(bits), offset: double_offset(bits) }
+    Compressed::Sd {
+        rs1: short_7(bits),
+        rs2: short_2(bits),
+        offset: double_offset(bits),
+    }
 }
 
 fn quadrant_0(bits: u32) -> Option<Compressed>
@@ -107,7 +130,14 @@ fn addi(bits: u32) -> Compressed
     ensures { IsForm result bits }
 {
     let immediate = signed_6(six(bits));
-    if bits >> 7 & 0x1f == 0 { Compressed::Nop { immediate } } else { Compressed::Addi { rd: any_7(bits), immediate } }
+    if bits >> 7 & 0x1f == 0 {
+        Compressed::Nop { immediate }
+    } else {
+        Compressed::Addi {
+            rd: any_7(bits),
+            immediate,
+        }
+    }
 }
 
 fn addiw(bits: u32) -> Option<Compressed>
@@ -116,7 +146,14 @@ fn addiw(bits: u32) -> Option<Compressed>
     requires funct3 { bits / 2 ^ 13 ≡ 1 }
     ensures { IsRead result bits }
 {
-    if bits >> 7 & 0x1f == 0 { None } else { Some(Compressed::Addiw { rd: any_7(bits), immediate: signed_6(six(bits)) }) }
+    if bits >> 7 & 0x1f == 0 {
+        None
+    } else {
+        Some(Compressed::Addiw {
+            rd: any_7(bits),
+            immediate: signed_6(six(bits)),
+        })
+    }
 }
 
 fn li(bits: u32) -> Compressed
@@ -125,7 +162,10 @@ fn li(bits: u32) -> Compressed
     requires funct3 { bits / 2 ^ 13 ≡ 2 }
     ensures { IsForm result bits }
 {
-    Compressed::Li { rd: any_7(bits), immediate: signed_6(six(bits)) }
+    Compressed::Li {
+        rd: any_7(bits),
+        immediate: signed_6(six(bits)),
+    }
 }
 
 fn addi16sp(bits: u32) -> Option<Compressed>
@@ -136,7 +176,11 @@ fn addi16sp(bits: u32) -> Option<Compressed>
     ensures { IsRead result bits }
 {
     let immediate = signed_10(stack_step(bits));
-    if immediate == 0 { None } else { Some(Compressed::Addi16sp { immediate }) }
+    if immediate == 0 {
+        None
+    } else {
+        Some(Compressed::Addi16sp { immediate })
+    }
 }
 
 fn lui(bits: u32) -> Option<Compressed>
@@ -147,7 +191,14 @@ fn lui(bits: u32) -> Option<Compressed>
     ensures { IsRead result bits }
 {
     let value = six(bits);
-    if value == 0 { None } else { Some(Compressed::Lui { rd: any_7(bits), immediate: upper_20(value) }) }
+    if value == 0 {
+        None
+    } else {
+        Some(Compressed::Lui {
+            rd: any_7(bits),
+            immediate: upper_20(value),
+        })
+    }
 }
 
 /// `c.addi16sp` and `c.lui`.
@@ -157,7 +208,11 @@ fn upper(bits: u32) -> Option<Compressed>
     requires funct3 { bits / 2 ^ 13 ≡ 3 }
     ensures { IsRead result bits }
 {
-    if bits >> 7 & 0x1f == 2 { addi16sp(bits) } else { lui(bits) }
+    if bits >> 7 & 0x1f == 2 {
+        addi16sp(bits)
+    } else {
+        lui(bits)
+    }
 }
 
 fn srli(bits: u32) -> Compressed
@@ -167,7 +222,10 @@ fn srli(bits: u32) -> Compressed
     requires funct2 { bits / 2 ^ 10 % 4 ≡ 0 }
     ensures { IsForm result bits }
 {
-    Compressed::Srli { rd: short_7(bits), amount: six(bits) as u8 }
+    Compressed::Srli {
+        rd: short_7(bits),
+        amount: six(bits) as u8,
+    }
 }
 
 fn srai(bits: u32) -> Compressed
@@ -177,7 +235,10 @@ fn srai(bits: u32) -> Compressed
     requires funct2 { bits / 2 ^ 10 % 4 ≡ 1 }
     ensures { IsForm result bits }
 {
-    Compressed::Srai { rd: short_7(bits), amount: six(bits) as u8 }
+    Compressed::Srai {
+        rd: short_7(bits),
+        amount: six(bits) as u8,
+    }
 }
 
 fn andi(bits: u32) -> Compressed
@@ -187,7 +248,10 @@ fn andi(bits: u32) -> Compressed
     requires funct2 { bits / 2 ^ 10 % 4 ≡ 2 }
     ensures { IsForm result bits }
 {
-    Compressed::Andi { rd: short_7(bits), immediate: signed_6(six(bits)) }
+    Compressed::Andi {
+        rd: short_7(bits),
+        immediate: signed_6(six(bits)),
+    }
 }
 
 /// Arithmetic over 64 bits.
@@ -234,7 +298,11 @@ fn arithmetic(bits: u32) -> Option<Compressed>
     requires funct2 { bits / 2 ^ 10 % 4 ≡ 3 }
     ensures { IsRead result bits }
 {
-    if bits >> 12 & 1 == 0 { Some(full_arithmetic(bits)) } else { word_arithmetic(bits) }
+    if bits >> 12 & 1 == 0 {
+        Some(full_arithmetic(bits))
+    } else {
+        word_arithmetic(bits)
+    }
 }
 
 /// Shifts, `c.andi` and arithmetic of x8 to x15.
@@ -269,7 +337,9 @@ fn j(bits: u32) -> Compressed
     requires funct3 { bits / 2 ^ 13 ≡ 5 }
     ensures { IsForm result bits }
 {
-    Compressed::J { offset: signed_12(jump_offset(jump_bits(bits))) }
+    Compressed::J {
+        offset: signed_12(jump_offset(jump_bits(bits))),
+    }
 }
 
 fn beqz(bits: u32) -> Compressed
@@ -278,7 +348,10 @@ fn beqz(bits: u32) -> Compressed
     requires funct3 { bits / 2 ^ 13 ≡ 6 }
     ensures { IsForm result bits }
 {
-    Compressed::Beqz { rs1: short_7(bits), offset: signed_9(branch_offset(bits)) }
+    Compressed::Beqz {
+        rs1: short_7(bits),
+        offset: signed_9(branch_offset(bits)),
+    }
 }
 
 fn bnez(bits: u32) -> Compressed
@@ -287,7 +360,10 @@ fn bnez(bits: u32) -> Compressed
     requires funct3 { bits / 2 ^ 13 ≡ 7 }
     ensures { IsForm result bits }
 {
-    Compressed::Bnez { rs1: short_7(bits), offset: signed_9(branch_offset(bits)) }
+    Compressed::Bnez {
+        rs1: short_7(bits),
+        offset: signed_9(branch_offset(bits)),
+    }
 }
 
 fn quadrant_1(bits: u32) -> Option<Compressed>
@@ -313,7 +389,10 @@ fn slli(bits: u32) -> Compressed
     requires funct3 { bits / 2 ^ 13 ≡ 0 }
     ensures { IsForm result bits }
 {
-    Compressed::Slli { rd: any_7(bits), amount: six(bits) as u8 }
+    Compressed::Slli {
+        rd: any_7(bits),
+        amount: six(bits) as u8,
+    }
 }
 
 fn lwsp(bits: u32) -> Option<Compressed>
@@ -322,7 +401,14 @@ fn lwsp(bits: u32) -> Option<Compressed>
     requires funct3 { bits / 2 ^ 13 ≡ 2 }
     ensures { IsRead result bits }
 {
-    if bits >> 7 & 0x1f == 0 { None } else { Some(Compressed::Lwsp { rd: any_7(bits), offset: word_load(bits) }) }
+    if bits >> 7 & 0x1f == 0 {
+        None
+    } else {
+        Some(Compressed::Lwsp {
+            rd: any_7(bits),
+            offset: word_load(bits),
+        })
+    }
 }
 
 fn ldsp(bits: u32) -> Option<Compressed>
@@ -331,7 +417,14 @@ fn ldsp(bits: u32) -> Option<Compressed>
     requires funct3 { bits / 2 ^ 13 ≡ 3 }
     ensures { IsRead result bits }
 {
-    if bits >> 7 & 0x1f == 0 { None } else { Some(Compressed::Ldsp { rd: any_7(bits), offset: double_load(bits) }) }
+    if bits >> 7 & 0x1f == 0 {
+        None
+    } else {
+        Some(Compressed::Ldsp {
+            rd: any_7(bits),
+            offset: double_load(bits),
+        })
+    }
 }
 
 /// `c.mv` and `c.jr`.
@@ -343,7 +436,10 @@ fn move_or_jump(bits: u32) -> Option<Compressed>
     ensures { IsRead result bits }
 {
     if bits >> 2 & 0x1f != 0 {
-        Some(Compressed::Mv { rd: any_7(bits), rs2: any_2(bits) })
+        Some(Compressed::Mv {
+            rd: any_7(bits),
+            rs2: any_2(bits),
+        })
     } else if bits >> 7 & 0x1f != 0 {
         Some(Compressed::Jr { rs1: any_7(bits) })
     } else {
@@ -360,7 +456,10 @@ fn add_or_call(bits: u32) -> Compressed
     ensures { IsForm result bits }
 {
     if bits >> 2 & 0x1f != 0 {
-        Compressed::Add { rd: any_7(bits), rs2: any_2(bits) }
+        Compressed::Add {
+            rd: any_7(bits),
+            rs2: any_2(bits),
+        }
     } else if bits >> 7 & 0x1f != 0 {
         Compressed::Jalr { rs1: any_7(bits) }
     } else {
@@ -375,7 +474,11 @@ fn registers(bits: u32) -> Option<Compressed>
     requires funct3 { bits / 2 ^ 13 ≡ 4 }
     ensures { IsRead result bits }
 {
-    if bits >> 12 & 1 == 0 { move_or_jump(bits) } else { Some(add_or_call(bits)) }
+    if bits >> 12 & 1 == 0 {
+        move_or_jump(bits)
+    } else {
+        Some(add_or_call(bits))
+    }
 }
 
 fn swsp(bits: u32) -> Compressed
@@ -384,7 +487,10 @@ fn swsp(bits: u32) -> Compressed
     requires funct3 { bits / 2 ^ 13 ≡ 6 }
     ensures { IsForm result bits }
 {
-    Compressed::Swsp { rs2: any_2(bits), offset: word_store(bits) }
+    Compressed::Swsp {
+        rs2: any_2(bits),
+        offset: word_store(bits),
+    }
 }
 
 fn sdsp(bits: u32) -> Compressed
@@ -393,7 +499,10 @@ fn sdsp(bits: u32) -> Compressed
     requires funct3 { bits / 2 ^ 13 ≡ 7 }
     ensures { IsForm result bits }
 {
-    Compressed::Sdsp { rs2: any_2(bits), offset: double_store(bits) }
+    Compressed::Sdsp {
+        rs2: any_2(bits),
+        offset: double_store(bits),
+    }
 }
 
 fn quadrant_2(bits: u32) -> Option<Compressed>

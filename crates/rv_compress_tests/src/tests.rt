@@ -313,18 +313,6 @@ fn every_parcel(rt: HostRuntime) {
     assert_eq!(rt; answered, 46_745 - 4 * 2_048 - 2);
 }
 
-/// What stands for an instruction again stands for the same one.
-#[test]
-fn chosen_parcels_are_read_back(rt: HostRuntime) {
-    for parcel in 0..=u16::MAX {
-        if let Some(inst) = expand(parcel) {
-            if let Some(chosen) = shrink(inst) {
-                assert_eq!(rt; expand(chosen), Some(inst), "{parcel:x}");
-            }
-        }
-    }
-}
-
 #[test]
 fn fronts(rt: HostRuntime) {
     let addi = decode(0x00b5_0513);
