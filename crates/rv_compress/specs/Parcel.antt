@@ -16,6 +16,10 @@ bits_at number low count place = number / 2 ^ low % 2 ^ count * 2 ^ place
 abbrev pub opcode : (quadrant funct3 : ℕ) → ℕ
 opcode quadrant funct3 = quadrant + funct3 * 2 ^ 13
 
+-- a parcel that has them
+abbrev pub HasOpcode : (p quadrant funct3 : ℕ) → Type 0
+HasOpcode p quadrant funct3 = (p < 2 ^ 16) × (p % 4 ≡ quadrant) × (p / 2 ^ 13 ≡ funct3)
+
 -- a register at bits 11:7 or 6:2, and one of x8 to x15 at bits 9:7 or 4:2
 abbrev pub at_7 : ℕ → ℕ
 at_7 register = register * 2 ^ 7

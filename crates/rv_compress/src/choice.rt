@@ -94,10 +94,8 @@ fn stack_address(rd: Reg, immediate: i32) -> Option<Compressed>
     if !is_short(rd) || immediate == 0 {
         return None;
     }
-    match scaled(immediate, 4, 1024) {
-        Some(immediate) => Some(Compressed::Addi4spn { rd, immediate }),
-        None => None,
-    }
+    let immediate = scaled(immediate, 4, 1024)?;
+    Some(Compressed::Addi4spn { rd, immediate })
 }
 
 fn addi(x: IType) -> Option<Compressed>
@@ -120,11 +118,10 @@ fn increment(x: IType) -> Option<Compressed>
     requires stack { x.rs1 ≢ 2 }
     ensures { IsFormOf result (Inst.Addi x) }
 {
-    if x.rd == x.rs1 && x.immediate != 0 && is_six_bits(x.immediate) {
-        Some(Compressed::Addi {
-            rd: x.rd,
-            immediate: x.immediate,
-        })
+    let IType { rd, rs1, immediate } = x;
+    let fits = immediate != 0 && is_six_bits(immediate);
+    if rd == rs1 && fits {
+        Some(Compressed::Addi { rd, immediate })
     } else {
         None
     }
@@ -133,11 +130,10 @@ fn increment(x: IType) -> Option<Compressed>
 fn addiw(x: IType) -> Option<Compressed>
     ensures { IsFormOf result (Inst.Addiw x) }
 {
-    if x.rd == x.rs1 && x.rd.number() != 0 && is_six_bits(x.immediate) {
-        Some(Compressed::Addiw {
-            rd: x.rd,
-            immediate: x.immediate,
-        })
+    let IType { rd, rs1, immediate } = x;
+    let fits = rd.number() != 0 && is_six_bits(immediate);
+    if rd == rs1 && fits {
+        Some(Compressed::Addiw { rd, immediate })
     } else {
         None
     }
@@ -146,11 +142,10 @@ fn addiw(x: IType) -> Option<Compressed>
 fn andi(x: IType) -> Option<Compressed>
     ensures { IsFormOf result (Inst.Andi x) }
 {
-    if x.rd == x.rs1 && is_short(x.rd) && is_six_bits(x.immediate) {
-        Some(Compressed::Andi {
-            rd: x.rd,
-            immediate: x.immediate,
-        })
+    let IType { rd, rs1, immediate } = x;
+    let fits = is_short(rd) && is_six_bits(immediate);
+    if rd == rs1 && fits {
+        Some(Compressed::Andi { rd, immediate })
     } else {
         None
     }
@@ -159,26 +154,21 @@ fn andi(x: IType) -> Option<Compressed>
 fn lui(x: UType) -> Option<Compressed>
     ensures { IsFormOf result (Inst.Lui x) }
 {
-    let value = x.immediate;
-    let fits = 0 < value && value < 0x20 || 0xfffe0 <= value && value < 0x100000;
-    if x.rd.number() != 0 && x.rd.number() != 2 && fits {
-        Some(Compressed::Lui {
-            rd: x.rd,
-            immediate: value,
-        })
-    } else {
-        None
+    let UType { rd, immediate } = x;
+    let fits = 0 < immediate && immediate < 0x20 || 0xfffe0 <= immediate && immediate < 0x100000;
+    if rd.number() == 0 || rd.number() == 2 || !fits {
+        return None;
     }
+    Some(Compressed::Lui { rd, immediate })
 }
 
 fn slli(x: Shift) -> Option<Compressed>
     ensures { IsFormOf result (Inst.Slli x) }
 {
-    if x.rd == x.rs1 && x.rd.number() != 0 && 0 < x.amount && x.amount < 64 {
-        Some(Compressed::Slli {
-            rd: x.rd,
-            amount: x.amount,
-        })
+    let Shift { rd, rs1, amount } = x;
+    let fits = rd.number() != 0 && 0 < amount && amount < 64;
+    if rd == rs1 && fits {
+        Some(Compressed::Slli { rd, amount })
     } else {
         None
     }
@@ -187,11 +177,10 @@ fn slli(x: Shift) -> Option<Compressed>
 fn srli(x: Shift) -> Option<Compressed>
     ensures { IsFormOf result (Inst.Srli x) }
 {
-    if x.rd == x.rs1 && is_short(x.rd) && 0 < x.amount && x.amount < 64 {
-        Some(Compressed::Srli {
-            rd: x.rd,
-            amount: x.amount,
-        })
+    let Shift { rd, rs1, amount } = x;
+    let fits = is_short(rd) && 0 < amount && amount < 64;
+    if rd == rs1 && fits {
+        Some(Compressed::Srli { rd, amount })
     } else {
         None
     }
@@ -200,11 +189,10 @@ fn srli(x: Shift) -> Option<Compressed>
 fn srai(x: Shift) -> Option<Compressed>
     ensures { IsFormOf result (Inst.Srai x) }
 {
-    if x.rd == x.rs1 && is_short(x.rd) && 0 < x.amount && x.amount < 64 {
-        Some(Compressed::Srai {
-            rd: x.rd,
-            amount: x.amount,
-        })
+    let Shift { rd, rs1, amount } = x;
+    let fits = is_short(rd) && 0 < amount && amount < 64;
+    if rd == rs1 && fits {
+        Some(Compressed::Srai { rd, amount })
     } else {
         None
     }
@@ -213,94 +201,68 @@ fn srai(x: Shift) -> Option<Compressed>
 fn lw(x: IType) -> Option<Compressed>
     ensures { IsFormOf result (Inst.Lw x) }
 {
-    if x.rs1.number() == 2 {
-        if x.rd.number() == 0 {
-            return None;
-        }
-        return match scaled(x.immediate, 4, 256) {
-            Some(offset) => Some(Compressed::Lwsp { rd: x.rd, offset }),
-            None => None,
-        };
-    }
-    if !(is_short(x.rd) && is_short(x.rs1)) {
-        return None;
-    }
-    match scaled(x.immediate, 4, 128) {
-        Some(offset) => Some(Compressed::Lw {
-            rd: x.rd,
-            rs1: x.rs1,
-            offset,
-        }),
-        None => None,
+    let IType { rd, rs1, immediate } = x;
+    if rs1.number() == 2 && rd.number() != 0 {
+        let offset = scaled(immediate, 4, 256)?;
+        Some(Compressed::Lwsp { rd, offset })
+    } else if is_short(rs1) && is_short(rd) {
+        let offset = scaled(immediate, 4, 128)?;
+        Some(Compressed::Lw { rd, rs1, offset })
+    } else {
+        None
     }
 }
 
 fn ld(x: IType) -> Option<Compressed>
     ensures { IsFormOf result (Inst.Ld x) }
 {
-    if x.rs1.number() == 2 {
-        if x.rd.number() == 0 {
-            return None;
-        }
-        return match scaled(x.immediate, 8, 512) {
-            Some(offset) => Some(Compressed::Ldsp { rd: x.rd, offset }),
-            None => None,
-        };
-    }
-    if !(is_short(x.rd) && is_short(x.rs1)) {
-        return None;
-    }
-    match scaled(x.immediate, 8, 256) {
-        Some(offset) => Some(Compressed::Ld {
-            rd: x.rd,
-            rs1: x.rs1,
-            offset,
-        }),
-        None => None,
+    let IType { rd, rs1, immediate } = x;
+    if rs1.number() == 2 && rd.number() != 0 {
+        let offset = scaled(immediate, 8, 512)?;
+        Some(Compressed::Ldsp { rd, offset })
+    } else if is_short(rs1) && is_short(rd) {
+        let offset = scaled(immediate, 8, 256)?;
+        Some(Compressed::Ld { rd, rs1, offset })
+    } else {
+        None
     }
 }
 
 fn sw(x: SType) -> Option<Compressed>
     ensures { IsFormOf result (Inst.Sw x) }
 {
-    if x.rs1.number() == 2 {
-        return match scaled(x.immediate, 4, 256) {
-            Some(offset) => Some(Compressed::Swsp { rs2: x.rs2, offset }),
-            None => None,
-        };
-    }
-    if !(is_short(x.rs1) && is_short(x.rs2)) {
-        return None;
-    }
-    match scaled(x.immediate, 4, 128) {
-        Some(offset) => Some(Compressed::Sw {
-            rs1: x.rs1,
-            rs2: x.rs2,
-            offset,
-        }),
-        None => None,
+    let SType {
+        rs1,
+        rs2,
+        immediate,
+    } = x;
+    if rs1.number() == 2 {
+        let offset = scaled(immediate, 4, 256)?;
+        Some(Compressed::Swsp { rs2, offset })
+    } else if is_short(rs1) && is_short(rs2) {
+        let offset = scaled(immediate, 4, 128)?;
+        Some(Compressed::Sw { rs1, rs2, offset })
+    } else {
+        None
     }
 }
 
 fn sd(x: SType) -> Option<Compressed>
     ensures { IsFormOf result (Inst.Sd x) }
 {
-    if x.rs1.number() == 2 {
-        return match scaled(x.immediate, 8, 512) {
-            Some(offset) => Some(Compressed::Sdsp { rs2: x.rs2, offset }),
-            None => None,
-        };
-    }
-    if !(is_short(x.rs1) && is_short(x.rs2)) {
-        return None;
-    }
-    match scaled(x.immediate, 8, 256) {
-        Some(offset) => Some(Compressed::Sd {
-            rs1: x.rs1,
-            rs2: x.rs2,
-            offset,
-        }),
-        None => None,
+    let SType {
+        rs1,
+        rs2,
+        immediate,
+    } = x;
+    if rs1.number() == 2 {
+        let offset = scaled(immediate, 8, 512)?;
+        Some(Compressed::Sdsp { rs2, offset })
+    } else if is_short(rs1) && is_short(rs2) {
+        let offset = scaled(immediate, 8, 256)?;
+        Some(Compressed::Sd { rs1, rs2, offset })
+    } else {
+        None
     }
 }
 
@@ -315,18 +277,13 @@ fn is_short_pair(rd: Reg, rs1: Reg, rs2: Reg) -> bool
 fn add(x: RType) -> Option<Compressed>
     ensures { IsFormOf result (Inst.Add x) }
 {
-    if x.rd.number() == 0 || x.rs2.number() == 0 {
+    let RType { rd, rs1, rs2 } = x;
+    if rd.number() == 0 || rs2.number() == 0 {
         None
-    } else if x.rs1.number() == 0 {
-        Some(Compressed::Mv {
-            rd: x.rd,
-            rs2: x.rs2,
-        })
-    } else if x.rd == x.rs1 {
-        Some(Compressed::Add {
-            rd: x.rd,
-            rs2: x.rs2,
-        })
+    } else if rs1.number() == 0 {
+        Some(Compressed::Mv { rd, rs2 })
+    } else if rd == rs1 {
+        Some(Compressed::Add { rd, rs2 })
     } else {
         None
     }
@@ -335,9 +292,10 @@ fn add(x: RType) -> Option<Compressed>
 fn jal(x: JType) -> Option<Compressed>
     ensures { IsFormOf result (Inst.Jal x) }
 {
-    let reaches = -2048 <= x.offset && x.offset < 2048 && x.offset.unsigned_abs() % 2 == 0;
-    if x.rd.number() == 0 && reaches {
-        Some(Compressed::J { offset: x.offset })
+    let JType { rd, offset } = x;
+    let reaches = -2048 <= offset && offset < 2048 && offset.unsigned_abs() % 2 == 0;
+    if rd.number() == 0 && reaches {
+        Some(Compressed::J { offset })
     } else {
         None
     }
