@@ -70,19 +70,13 @@ fn constant(rd: Reg, immediate: i32) -> Option<Compressed>
 fn stack_step(immediate: i32) -> Option<Compressed>
     ensures { IsFormOf result (Inst.Addi record { rd = 2; rs1 = 2; immediate = immediate }) }
 {
-    if is_six_bits(immediate) {
-        if immediate == 0 {
-            None
-        } else {
-            Some(Compressed::Addi {
-                rd: Reg::from_low_bits(2),
-                immediate,
-            })
-        }
-    } else if -512 <= immediate && immediate < 512 && immediate.unsigned_abs() % 16 == 0 {
-        Some(Compressed::Addi16sp { immediate })
-    } else {
-        None
+    let rd = Reg::from_low_bits(2);
+    let is_step = -512 <= immediate && immediate < 512 && immediate.unsigned_abs() % 16 == 0;
+    match is_six_bits(immediate) {
+        true if immediate == 0 => None,
+        true => Some(Compressed::Addi { rd, immediate }),
+        false if is_step => Some(Compressed::Addi16sp { immediate }),
+        false => None,
     }
 }
 
