@@ -6,14 +6,14 @@ use Rattle.rv_text_laws.specs.declared.sign.Sign.{Sign}
 use Rattle.rv_text_laws.specs.declared.class.Class.{Class}
 use Rattle.rv_text_laws.specs.declared.class.Class.TheVariants.{Letter, Digit, Blank, LineEnd, Single, HashByte, SlashByte, QuoteByte, ApostropheByte, LessByte, GreaterByte, EqualByte, BangByte, Odd, Foreign}
 use Rattle.rv_text_laws.specs.Bytes.{class, spelling, is_letter, is_decimal, between}
-use Rattle.rv_text_laws.specs.Grammar.{Kind}
+use Rattle.rv_text_laws.specs.Grammar.{Mark, goes_on}
 use Rattle.rv_text_laws.specs.Front.{piece_at, piece_by}
 use Rattle.rv_text_laws.proofs.Runs.{pick}
 
 -- the byte of a class of one byte
 abbrev pub ByteOf : ℕ → Class → Type 0
 ByteOf b LineEnd = b ≡ 10
-ByteOf b (Single sign) = b ∷ [] ≡ spelling sign
+ByteOf b (Single sign) = (b ∷ [] ≡ spelling sign) × ((c : ℕ) → goes_on (Mark sign) c ≡ false)
 ByteOf b HashByte = b ≡ 35
 ByteOf b SlashByte = b ≡ 47
 ByteOf b QuoteByte = b ≡ 34
@@ -41,21 +41,21 @@ fact b =
     pick (Fact b) (is_decimal b) _ _ (λ _. record { is = tt }) (λ _.
     pick (Fact b) ((b == 32) || (b == 9) || (b == 13)) _ _ (λ _. record { is = tt }) (λ _.
     pick (Fact b) (b == 10) _ _ (λ t. record { is = eqb-true b 10 t }) (λ _.
-    pick (Fact b) (b == 44) _ _ (λ t. record { is = one b 44 t }) (λ _.
-    pick (Fact b) (b == 40) _ _ (λ t. record { is = one b 40 t }) (λ _.
-    pick (Fact b) (b == 41) _ _ (λ t. record { is = one b 41 t }) (λ _.
-    pick (Fact b) (b == 58) _ _ (λ t. record { is = one b 58 t }) (λ _.
+    pick (Fact b) (b == 44) _ _ (λ t. record { is = (one b 44 t, λ c. refl) }) (λ _.
+    pick (Fact b) (b == 40) _ _ (λ t. record { is = (one b 40 t, λ c. refl) }) (λ _.
+    pick (Fact b) (b == 41) _ _ (λ t. record { is = (one b 41 t, λ c. refl) }) (λ _.
+    pick (Fact b) (b == 58) _ _ (λ t. record { is = (one b 58 t, λ c. refl) }) (λ _.
     pick (Fact b) (b == 35) _ _ (λ t. record { is = eqb-true b 35 t }) (λ _.
-    pick (Fact b) (b == 59) _ _ (λ t. record { is = one b 59 t }) (λ _.
-    pick (Fact b) (b == 43) _ _ (λ t. record { is = one b 43 t }) (λ _.
-    pick (Fact b) (b == 45) _ _ (λ t. record { is = one b 45 t }) (λ _.
-    pick (Fact b) (b == 42) _ _ (λ t. record { is = one b 42 t }) (λ _.
-    pick (Fact b) (b == 37) _ _ (λ t. record { is = one b 37 t }) (λ _.
-    pick (Fact b) (b == 124) _ _ (λ t. record { is = one b 124 t }) (λ _.
-    pick (Fact b) (b == 38) _ _ (λ t. record { is = one b 38 t }) (λ _.
-    pick (Fact b) (b == 94) _ _ (λ t. record { is = one b 94 t }) (λ _.
-    pick (Fact b) (b == 126) _ _ (λ t. record { is = one b 126 t }) (λ _.
-    pick (Fact b) (b == 64) _ _ (λ t. record { is = one b 64 t }) (λ _.
+    pick (Fact b) (b == 59) _ _ (λ t. record { is = (one b 59 t, λ c. refl) }) (λ _.
+    pick (Fact b) (b == 43) _ _ (λ t. record { is = (one b 43 t, λ c. refl) }) (λ _.
+    pick (Fact b) (b == 45) _ _ (λ t. record { is = (one b 45 t, λ c. refl) }) (λ _.
+    pick (Fact b) (b == 42) _ _ (λ t. record { is = (one b 42 t, λ c. refl) }) (λ _.
+    pick (Fact b) (b == 37) _ _ (λ t. record { is = (one b 37 t, λ c. refl) }) (λ _.
+    pick (Fact b) (b == 124) _ _ (λ t. record { is = (one b 124 t, λ c. refl) }) (λ _.
+    pick (Fact b) (b == 38) _ _ (λ t. record { is = (one b 38 t, λ c. refl) }) (λ _.
+    pick (Fact b) (b == 94) _ _ (λ t. record { is = (one b 94 t, λ c. refl) }) (λ _.
+    pick (Fact b) (b == 126) _ _ (λ t. record { is = (one b 126 t, λ c. refl) }) (λ _.
+    pick (Fact b) (b == 64) _ _ (λ t. record { is = (one b 64 t, λ c. refl) }) (λ _.
     pick (Fact b) (b == 47) _ _ (λ t. record { is = eqb-true b 47 t }) (λ _.
     pick (Fact b) (b == 34) _ _ (λ t. record { is = eqb-true b 34 t }) (λ _.
     pick (Fact b) (b == 39) _ _ (λ t. record { is = eqb-true b 39 t }) (λ _.

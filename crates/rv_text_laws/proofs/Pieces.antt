@@ -12,10 +12,10 @@ use Rattle.rv_text_laws.specs.declared.class.Class.{Class}
 use Rattle.rv_text_laws.specs.declared.class.Class.TheVariants.{Letter, Digit, Blank, LineEnd, Single, HashByte, SlashByte, QuoteByte, ApostropheByte, LessByte, GreaterByte, EqualByte, BangByte, Odd, Foreign}
 use Rattle.rv_text_laws.specs.Cut.{Piece, texts, Each, Cuts, Finds, cut}
 use Rattle.rv_text_laws.specs.Bytes.{class, spelling, is_word, in_line, is_digit, digit, between}
-use Rattle.rv_text_laws.specs.Strings.{Atom, Plain, Named, Octal, Hexadecimal, byte_of, SpellsAtom, StopsAtom, is_character, is_escape}
+use Rattle.rv_text_laws.specs.Strings.{Atom, Plain, Named, Octal, Hexadecimal, byte_of, SpellsAtom, StopsAtom, is_plain, is_character, is_escape}
 use Rattle.rv_text_laws.specs.Grammar.{Kind, Space, Line_comment, Block_comment, Newline, Mark, Name, Number, Reference, Bad_word, Text, Character, Bad_byte, Bad_token, End, IsWord, IsNumber, IsReference, NoClose, Spells, Stops, goes_on}
 use Rattle.rv_text_laws.specs.Front.{begins, number_in, reference_in, number_kind, digits_kind, close_at, atom_at, escape_at, closed_string, closed_escape, character_at, after_slash, after_less, after_greater, with_equal, piece_at, piece_by}
-use Rattle.rv_text_laws.proofs.Cut.{Stands, Answers, found_by, cuts, unique}
+use Rattle.rv_text_laws.proofs.Cut.{Stands, Answers, found_by, front, cuts, unique}
 use Rattle.rv_text_laws.proofs.Runs.{pick, Breaks, run_is, run_all, run_breaks, run_within}
 use Rattle.rv_text_laws.proofs.Atoms.{atoms, atom_is}
 use Rattle.rv_text_laws.proofs.Numbers.{number_is, number_found, reference_is, reference_found, number_no_reference, no_number, no_reference_in}
@@ -246,3 +246,231 @@ stands all k n text rest whole len spells stop =
       spelled = subst (Spells k) (sym t) spells;
       stops = subst (Stops k) (sym d) stop;
     }
+
+-- a piece of one byte
+single : (b : ℕ) (bs : List ℕ) (k : Kind) → Spells k (b ∷ []) → ((c : ℕ) → goes_on k c ≡ false) → PieceAnswers (b ∷ bs) (Some (k, 1))
+single b bs k spells none = stands (b ∷ bs) k 1 (b ∷ []) bs refl refl spells (never k none bs)
+
+name_answers : (b : ℕ) (bs : List ℕ) (n : ℕ) → class b ≡ Letter → prefix_len is_word bs ≡ n → PieceAnswers (b ∷ bs) (Some (Name (b ∷ take n bs), suc n))
+name_answers b bs n c is =
+    let all : list_all is_word (take n bs) ≡ true = subst (λ m. list_all is_word (take m bs) ≡ true) is (run_all is_word bs) in
+    let stop : Breaks is_word (drop n bs) = subst (λ m. Breaks is_word (drop m bs)) is (run_breaks is_word bs) in
+    let within : n ≤ length bs = omega (arith, run_within is_word bs) in
+    record {
+      within = omega arith;
+      spelled = (refl, (b, take n bs, refl, c, all));
+      stops = stops (Name (b ∷ take n bs)) is_word (λ x. refl) (drop n bs) stop;
+    }
+
+-- a word that begins with a digit
+number_spells : (word : List ℕ) (o : Option ℕ) → number_in word ≡ o → reference_in word ≡ None → IsWord Digit word → Spells (number_kind word o) word
+number_spells word None e none is =
+    (refl, is, (λ n number. none-some n (sym e ∙ number_is word n number)), (λ digits forward refers. none-some (digits, forward) (sym none ∙ reference_is word digits forward refers)))
+number_spells word (Some n) e none is = (refl, is, number_found word n e)
+
+digits_spells : (word : List ℕ) (o : Option (List ℕ × Bool)) → reference_in word ≡ o → IsWord Digit word → Spells (digits_kind word o) word
+digits_spells word None e is = number_spells word (number_in word) refl e is
+digits_spells word (Some (digits, forward)) e is = (is, reference_found word digits forward e)
+
+number_goes_on : (word : List ℕ) (o : Option ℕ) (x : ℕ) → goes_on (number_kind word o) x ≡ is_word x
+number_goes_on word None x = refl
+number_goes_on word (Some n) x = refl
+
+digits_goes_on : (word : List ℕ) (o : Option (List ℕ × Bool)) (x : ℕ) → goes_on (digits_kind word o) x ≡ is_word x
+digits_goes_on word None x = number_goes_on word (number_in word) x
+digits_goes_on word (Some r) x = refl
+
+digits_answers : (b : ℕ) (bs : List ℕ) (n : ℕ) → class b ≡ Digit → prefix_len is_word bs ≡ n → PieceAnswers (b ∷ bs) (Some (digits_kind (b ∷ take n bs) (reference_in (b ∷ take n bs)), suc n))
+digits_answers b bs n c is =
+    let word : List ℕ = b ∷ take n bs in
+    let all : list_all is_word (take n bs) ≡ true = subst (λ m. list_all is_word (take m bs) ≡ true) is (run_all is_word bs) in
+    let stop : Breaks is_word (drop n bs) = subst (λ m. Breaks is_word (drop m bs)) is (run_breaks is_word bs) in
+    let within : n ≤ length bs = omega (arith, run_within is_word bs) in
+    record {
+      within = omega arith;
+      spelled = digits_spells (b ∷ take n bs) (reference_in (b ∷ take n bs)) refl (b, take n bs, refl, c, all);
+      stops = stops (digits_kind (b ∷ take n bs) (reference_in (b ∷ take n bs))) is_word (digits_goes_on (b ∷ take n bs) (reference_in (b ∷ take n bs))) (drop n bs) stop;
+    }
+
+comment_answers : (bs : List ℕ) (n : ℕ) → prefix_len in_line bs ≡ n → PieceAnswers (35 ∷ bs) (Some (Line_comment, suc n))
+comment_answers bs n is =
+    let all : list_all in_line (take n bs) ≡ true = subst (λ m. list_all in_line (take m bs) ≡ true) is (run_all in_line bs) in
+    let stop : Breaks in_line (drop n bs) = subst (λ m. Breaks in_line (drop m bs)) is (run_breaks in_line bs) in
+    let within : n ≤ length bs = omega (arith, run_within in_line bs) in
+    record { within = omega arith; spelled = (take n bs, refl, all); stops = stops Line_comment in_line (λ x. refl) (drop n bs) stop }
+
+block_answers : (cs : List ℕ) (o : Option ℕ) → CloseAnswers cs o → PieceAnswers (47 ∷ 42 ∷ cs) (option_map (λ n. (Block_comment, suc (suc (suc (suc n))))) o)
+block_answers cs None c = tt
+block_answers cs (Some n) c =
+    let whole : cs ≡ (c.inside ++ 42 ∷ 47 ∷ []) ++ c.rest = c.whole ∙ sym (append_assoc c.inside (42 ∷ 47 ∷ []) c.rest) in
+    stands (47 ∷ 42 ∷ cs) Block_comment (suc (suc (suc (suc n)))) (47 ∷ 42 ∷ (c.inside ++ 42 ∷ 47 ∷ [])) c.rest
+      (ap (λ xs. 47 ∷ 42 ∷ xs) whole) (omega (arith, c.is_length, length-append c.inside (42 ∷ 47 ∷ [])))
+      (c.inside, refl, c.first) (never Block_comment (λ x. refl) c.rest)
+
+-- signs of two bytes
+double : (b c : ℕ) (cs : List ℕ) (n : ℕ) (sign : Sign) → (c == n) ≡ true → b ∷ n ∷ [] ≡ spelling sign → ((x : ℕ) → goes_on (Mark sign) x ≡ false) → PieceAnswers (b ∷ c ∷ cs) (Some (Mark sign, 2))
+double b c cs n sign e spells none = stands (b ∷ c ∷ cs) (Mark sign) 2 (b ∷ c ∷ []) cs refl refl (ap (λ x. b ∷ x ∷ []) (eqb-true c n e) ∙ spells) (never (Mark sign) none cs)
+
+all_false : (x y : Bool) → x ≡ false → y ≡ false → (x || y) ≡ false
+all_false true y h g = cc
+all_false false y h g = g
+
+slash_answers : (bs : List ℕ) → PieceAnswers (47 ∷ bs) (after_slash bs)
+slash_answers [] = stands (47 ∷ []) (Mark Slash) 1 (47 ∷ []) [] refl refl refl tt
+slash_answers (c ∷ cs) =
+    pick (PieceAnswers (47 ∷ c ∷ cs)) (c == 47) _ _ (λ e. double 47 c cs 47 DoubleSlash e refl (λ x. refl)) (λ f.
+    pick (PieceAnswers (47 ∷ c ∷ cs)) (c == 42) _ _ (λ e. subst (λ x. PieceAnswers (47 ∷ x ∷ cs) (option_map (λ n. (Block_comment, suc (suc (suc (suc n))))) (close_at cs))) (sym (eqb-true c 42 e)) (block_answers cs (close_at cs) (close_answers cs))) (λ g.
+    stands (47 ∷ c ∷ cs) (Mark Slash) 1 (47 ∷ []) (c ∷ cs) refl refl refl (all_false (c == 42) (c == 47) g f)))
+
+less_answers : (bs : List ℕ) → PieceAnswers (60 ∷ bs) (after_less bs)
+less_answers [] = stands (60 ∷ []) (Mark Less) 1 (60 ∷ []) [] refl refl refl tt
+less_answers (c ∷ cs) =
+    pick (PieceAnswers (60 ∷ c ∷ cs)) (c == 60) _ _ (λ e. double 60 c cs 60 ShiftLeft e refl (λ x. refl)) (λ f.
+    pick (PieceAnswers (60 ∷ c ∷ cs)) (c == 61) _ _ (λ e. double 60 c cs 61 LessEqual e refl (λ x. refl)) (λ g.
+    pick (PieceAnswers (60 ∷ c ∷ cs)) (c == 62) _ _ (λ e. double 60 c cs 62 LessGreater e refl (λ x. refl)) (λ h.
+    stands (60 ∷ c ∷ cs) (Mark Less) 1 (60 ∷ []) (c ∷ cs) refl refl refl (all_false ((c == 60) || (c == 61)) (c == 62) (all_false (c == 60) (c == 61) f g) h))))
+
+greater_answers : (bs : List ℕ) → PieceAnswers (62 ∷ bs) (after_greater bs)
+greater_answers [] = stands (62 ∷ []) (Mark Greater) 1 (62 ∷ []) [] refl refl refl tt
+greater_answers (c ∷ cs) =
+    pick (PieceAnswers (62 ∷ c ∷ cs)) (c == 62) _ _ (λ e. double 62 c cs 62 ShiftRight e refl (λ x. refl)) (λ f.
+    pick (PieceAnswers (62 ∷ c ∷ cs)) (c == 61) _ _ (λ e. double 62 c cs 61 GreaterEqual e refl (λ x. refl)) (λ g.
+    stands (62 ∷ c ∷ cs) (Mark Greater) 1 (62 ∷ []) (c ∷ cs) refl refl refl (all_false (c == 61) (c == 62) g f)))
+
+equal_answers : (b : ℕ) (sign : Sign) (bs : List ℕ) → b ∷ 61 ∷ [] ≡ spelling sign → ((x : ℕ) → goes_on (Mark sign) x ≡ false) → PieceAnswers (b ∷ bs) (with_equal sign bs)
+equal_answers b sign [] spells none = tt
+equal_answers b sign (c ∷ cs) spells none =
+    pick (PieceAnswers (b ∷ c ∷ cs)) (c == 61) (Some (Mark sign, 2)) None (λ e. double b c cs 61 sign e spells none) (λ _. tt)
+
+-- strings
+string_answers : (bs : List ℕ) → PieceAnswers (34 ∷ bs) (closed_string (cut atom_at bs))
+string_answers bs = go (cut atom_at bs) (cuts atoms bs).0
+  where
+    go : (c : List (Piece Atom ℕ) × List ℕ) → Cuts Atom ℕ SpellsAtom StopsAtom bs c.0 c.1 → PieceAnswers (34 ∷ bs) (closed_string c)
+    go (ps, rest) c =
+        pick (PieceAnswers (34 ∷ bs)) (begins 34 rest) (Some (Text (map (λ a. byte_of a.kind) ps), suc (suc (length (texts ps))))) None
+          (λ t.
+            let r = begins_is 34 rest t in
+            let whole : bs ≡ (texts ps ++ 34 ∷ []) ++ r.0 = c.whole ∙ ap (λ xs. texts ps ++ xs) r.1 ∙ sym (closing (texts ps) r.0 34) in
+            let each : Each SpellsAtom StopsAtom ps (34 ∷ r.0) = subst (Each SpellsAtom StopsAtom ps) r.1 c.each in
+            stands (34 ∷ bs) (Text (map (λ a. byte_of a.kind) ps)) (suc (suc (length (texts ps)))) (34 ∷ (texts ps ++ 34 ∷ [])) r.0
+              (ap (λ xs. 34 ∷ xs) whole) (omega (arith, length-append (texts ps) (34 ∷ [])))
+              (ps, refl, each_head ps r.0 [] 34 each, refl) (never (Text (map (λ a. byte_of a.kind) ps)) (λ x. refl) r.0))
+          (λ _. tt)
+
+-- characters
+escape_found : (bs : List ℕ) (a : Atom) (text rest : List ℕ) → 92 ∷ bs ≡ text ++ rest → SpellsAtom a text → is_escape a ≡ true
+escape_found bs (Plain byte) text rest whole (is, plain) =
+    let all : 92 ∷ bs ≡ byte ∷ rest = whole ∙ ap (λ t. t ++ rest) is in
+    let same : byte ≡ 92 = cc in
+    let none : is_plain byte ≡ is_plain 92 = ap is_plain same in
+    cc
+escape_found bs (Named byte) text rest whole s = refl
+escape_found bs (Octal digits) text rest whole s = refl
+escape_found bs (Hexadecimal digits) text rest whole s = refl
+
+closed_answers : (bs : List ℕ) (o : Option (Atom × ℕ)) → escape_at bs ≡ o → PieceAnswers (39 ∷ 92 ∷ bs) (closed_escape (92 ∷ bs) o)
+closed_answers bs None e = tt
+closed_answers bs (Some (a, n)) e =
+    let f = front atoms (92 ∷ bs) a n (atom_escape bs ∙ e) in
+    pick (PieceAnswers (39 ∷ 92 ∷ bs)) (begins 39 (drop n (92 ∷ bs))) (Some (Character (byte_of a), suc (suc n))) None
+      (λ t.
+        let r = begins_is 39 (drop n (92 ∷ bs)) t in
+        let one : List ℕ = take n (92 ∷ bs) in
+        let whole : 92 ∷ bs ≡ (take n (92 ∷ bs) ++ 39 ∷ []) ++ r.0 = f.whole ∙ ap (λ xs. take n (92 ∷ bs) ++ xs) r.1 ∙ sym (closing (take n (92 ∷ bs)) r.0 39) in
+        stands (39 ∷ 92 ∷ bs) (Character (byte_of a)) (suc (suc n)) (39 ∷ (take n (92 ∷ bs) ++ 39 ∷ [])) r.0
+          (ap (λ xs. 39 ∷ xs) whole) (omega (arith, f.is_length, length-append (take n (92 ∷ bs)) (39 ∷ [])))
+          (inr (a, take n (92 ∷ bs), refl, escape_found bs a (take n (92 ∷ bs)) (drop n (92 ∷ bs)) f.whole f.spelled, f.spelled, refl))
+          (never (Character (byte_of a)) (λ x. refl) r.0))
+      (λ _. tt)
+
+plain_answers : (b : ℕ) (bs : List ℕ) → PieceAnswers (39 ∷ b ∷ bs) (cond {A = Option (Kind × ℕ)} (is_character b && begins 39 bs) (Some (Character b, 3)) None)
+plain_answers b bs = pick (PieceAnswers (39 ∷ b ∷ bs)) (is_character b && begins 39 bs) (Some (Character b, 3)) None
+    (λ t.
+      let h = and_parts (is_character b) (begins 39 bs) t in
+      let r = begins_is 39 bs h.1 in
+      stands (39 ∷ b ∷ bs) (Character b) 3 (39 ∷ b ∷ 39 ∷ []) r.0 (ap (λ xs. 39 ∷ b ∷ xs) r.1) refl (inl (refl, h.0)) (never (Character b) (λ x. refl) r.0))
+    (λ _. tt)
+
+character_answers : (bs : List ℕ) → PieceAnswers (39 ∷ bs) (character_at bs)
+character_answers [] = tt
+character_answers (b ∷ bs) =
+    pick (PieceAnswers (39 ∷ b ∷ bs)) (b == 92) _ _
+      (λ t. subst (λ x. PieceAnswers (39 ∷ x ∷ bs) (closed_escape (x ∷ bs) (escape_at bs))) (sym (eqb-true b 92 t)) (closed_answers bs (escape_at bs) refl))
+      (λ _. plain_answers b bs)
+
+-- by the class of the first byte
+by_class : (b : ℕ) (bs : List ℕ) (c : Class) → class b ≡ c → ByteOf b c → PieceAnswers (b ∷ bs) (piece_by c b bs)
+by_class b bs Letter c is = name_answers b bs _ c refl
+by_class b bs Digit c is = digits_answers b bs _ c refl
+by_class b bs Blank c is = single b bs Space (b, refl, c) (λ x. refl)
+by_class b bs LineEnd c is = single b bs Newline (ap (λ x. x ∷ []) is) (λ x. refl)
+by_class b bs (Single sign) c is = single b bs (Mark sign) is.0 is.1
+by_class b bs HashByte c is = subst (λ x. PieceAnswers (x ∷ bs) (Some (Line_comment, suc (prefix_len in_line bs)))) (sym is) (comment_answers bs _ refl)
+by_class b bs SlashByte c is = subst (λ x. PieceAnswers (x ∷ bs) (after_slash bs)) (sym is) (slash_answers bs)
+by_class b bs QuoteByte c is = subst (λ x. PieceAnswers (x ∷ bs) (closed_string (cut atom_at bs))) (sym is) (string_answers bs)
+by_class b bs ApostropheByte c is = subst (λ x. PieceAnswers (x ∷ bs) (character_at bs)) (sym is) (character_answers bs)
+by_class b bs LessByte c is = subst (λ x. PieceAnswers (x ∷ bs) (after_less bs)) (sym is) (less_answers bs)
+by_class b bs GreaterByte c is = subst (λ x. PieceAnswers (x ∷ bs) (after_greater bs)) (sym is) (greater_answers bs)
+by_class b bs EqualByte c is = equal_answers b Equal bs (ap (λ x. x ∷ 61 ∷ []) is) (λ x. refl)
+by_class b bs BangByte c is = equal_answers b NotEqual bs (ap (λ x. x ∷ 61 ∷ []) is) (λ x. refl)
+by_class b bs Odd c is = tt
+by_class b bs Foreign c is = tt
+
+pub piece_answers : (all : List ℕ) → PieceAnswers all (piece_at all)
+unfolding piece_at
+piece_answers [] = tt
+piece_answers (b ∷ bs) = by_class b bs (class b) refl (byte_of_class b)
+
+-- a piece is not empty
+
+sign_some : (sign : Sign) → 0 < length (spelling sign)
+sign_some Comma = omega arith
+sign_some Colon = omega arith
+sign_some Semicolon = omega arith
+sign_some Open = omega arith
+sign_some Close = omega arith
+sign_some Plus = omega arith
+sign_some Minus = omega arith
+sign_some Star = omega arith
+sign_some Slash = omega arith
+sign_some Percent = omega arith
+sign_some ShiftLeft = omega arith
+sign_some ShiftRight = omega arith
+sign_some Bar = omega arith
+sign_some Ampersand = omega arith
+sign_some Caret = omega arith
+sign_some Tilde = omega arith
+sign_some At = omega arith
+sign_some Equal = omega arith
+sign_some NotEqual = omega arith
+sign_some LessGreater = omega arith
+sign_some Less = omega arith
+sign_some Greater = omega arith
+sign_some LessEqual = omega arith
+sign_some GreaterEqual = omega arith
+sign_some DoubleSlash = omega arith
+
+word_some : (first : Class) (text : List ℕ) → IsWord first text → 0 < length text
+word_some first text (b, bs, whole, c, all) = rw whole (omega arith)
+
+pub piece_some : (k : Kind) (text : List ℕ) → Spells k text → 0 < length text
+piece_some Space text (b, whole, c) = rw whole (omega arith)
+piece_some Line_comment text (inside, whole, all) = rw whole (omega arith)
+piece_some Block_comment text (inside, whole, none) = rw whole (omega arith)
+piece_some Newline text whole = rw whole (omega arith)
+piece_some (Mark sign) text whole = rw whole (sign_some sign)
+piece_some (Name name) text s = word_some Letter text s.1
+piece_some (Number word n) text s = word_some Digit text s.1
+piece_some (Reference digits forward) text s = word_some Digit text s.0
+piece_some (Bad_word word) text s = word_some Digit text s.1
+piece_some (Text bytes) text (ps, whole, each, is) = rw whole (omega arith)
+piece_some (Character byte) text (inl (whole, plain)) = rw whole (omega arith)
+piece_some (Character byte) text (inr (a, one, whole, escape, spells, is)) = rw whole (omega arith)
+piece_some Bad_byte text s = absurd s
+piece_some Bad_token text s = absurd s
+piece_some End text s = absurd s
+
+-- each text is cut into pieces in one way
+pub pieces : Finds Kind ℕ Spells Stops piece_at
+pieces = record { is = piece_is; found = found_by Kind ℕ Spells Stops piece_at piece_answers; some = piece_some }
