@@ -5,3 +5,4 @@ pub mod Numbers
 pub mod Classes
 pub mod Comments
 pub mod Pieces
+pub mod Tokens
