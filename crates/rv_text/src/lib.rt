@@ -3,6 +3,7 @@
 //! Source: RISC-V Assembly Programmer's Manual; GNU as, "Syntax" and "RISC-V Dependent Features".
 #![tactic(auto)]
 
+mod class;
 mod fault;
 mod lexer;
 mod token;
