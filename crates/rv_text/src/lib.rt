@@ -7,6 +7,7 @@ mod class;
 mod fault;
 mod lexer;
 mod token;
+mod word;
 
 pub use fault::{SourceCode, SourceFault};
 pub use lexer::Lexer;
