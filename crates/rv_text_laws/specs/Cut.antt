@@ -1,7 +1,7 @@
 -- A list cut into pieces: each piece is spelled by its text, and no next element would make it longer. Bytes are cut
 -- into blanks, comments and tokens, the inside of a string into its bytes, and tokens into parts of statements.
 
-use Rattle.std.specs.Prelude.{◌≡◌, ℕ, zero, suc, List, [], ◌∷◌, ◌++◌, Option, Some, None, length, take, drop}
+use Rattle.std.specs.Prelude.{◌≡◌, ℕ, zero, suc, List, [], ◌∷◌, ◌++◌, ◌<◌, Option, Some, None, length, take, drop}
 
 pub record Piece (K A : Type 0) : Type 0 where
   pub kind : K
@@ -36,3 +36,9 @@ cut_in (suc room) at all = elim (at all) [
 -- the pieces of a list by a finder of the piece at the front (its kind and its length), as far as there are any
 unfoldable pub cut : {K A : Type 0} → (List A → Option (K × ℕ)) → List A → List (Piece K A) × List A
 cut at all = cut_in (length all) at all
+
+-- the finder answers exactly what stands at the front, and a piece is not empty
+pub record Finds (K A : Type 0) (Spells Stops : K → List A → Type 0) (at : List A → Option (K × ℕ)) : Type 0 where
+  pub is : (k : K) (text rest : List A) → Spells k text → Stops k rest → at (text ++ rest) ≡ Some (k, length text)
+  pub found : (all : List A) (k : K) (n : ℕ) → at all ≡ Some (k, n) → (text : List A) × (rest : List A) × (all ≡ text ++ rest) × (n ≡ length text) × Spells k text × Stops k rest
+  pub some : (k : K) (text : List A) → Spells k text → 0 < length text

@@ -59,9 +59,9 @@ unfoldable pub escape_at : List ℕ → Option (Atom × ℕ)
 escape_at [] = None
 escape_at (e ∷ es) =
     if is_digit 8 e then
-      (let n = prefix_len (is_digit 8) (take 2 es) in Some (Octal (e ∷ take n es), n + 2))
+      (let n = prefix_len (is_digit 8) (take 2 es) in Some (Octal (e ∷ take n es), suc (suc n)))
     else if e == 120 then
-      (let n = prefix_len (is_digit 16) (take 2 es) in if n == 0 then None else Some (Hexadecimal (take n es), n + 2))
+      (let n = prefix_len (is_digit 16) (take 2 es) in if n == 0 then None else Some (Hexadecimal (take n es), suc (suc n)))
     else option_map (λ b. (Named b, 2)) (named e)
 
 -- what stands for one byte of a string
@@ -71,11 +71,11 @@ atom_at (b ∷ bs) = if b == 92 then escape_at bs else if is_plain b then Some (
 
 -- a string, after its `"`
 abbrev pub closed_string : List (Piece Atom ℕ) × List ℕ → Option (Kind × ℕ)
-closed_string c = if begins 34 c.1 then Some (Text (map (λ a. byte_of a.kind) c.0), length (texts c.0) + 2) else None
+closed_string c = if begins 34 c.1 then Some (Text (map (λ a. byte_of a.kind) c.0), suc (suc (length (texts c.0)))) else None
 
 abbrev pub closed_escape : List ℕ → Option (Atom × ℕ) → Option (Kind × ℕ)
 closed_escape bs None = None
-closed_escape bs (Some f) = if begins 39 (drop f.1 bs) then Some (Character (byte_of f.0), f.1 + 2) else None
+closed_escape bs (Some f) = if begins 39 (drop f.1 bs) then Some (Character (byte_of f.0), suc (suc f.1)) else None
 
 -- a character, after its `'`
 abbrev pub character_at : List ℕ → Option (Kind × ℕ)
@@ -88,7 +88,7 @@ abbrev pub after_slash : List ℕ → Option (Kind × ℕ)
 after_slash [] = Some (Mark Slash, 1)
 after_slash (c ∷ cs) =
     if c == 47 then Some (Mark DoubleSlash, 2) else
-    if c == 42 then option_map (λ n. (Block_comment, n + 4)) (close_at cs) else Some (Mark Slash, 1)
+    if c == 42 then option_map (λ n. (Block_comment, suc (suc (suc (suc n))))) (close_at cs) else Some (Mark Slash, 1)
 
 abbrev pub after_less : List ℕ → Option (Kind × ℕ)
 after_less [] = Some (Mark Less, 1)
