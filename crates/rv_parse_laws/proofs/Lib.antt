@@ -1,3 +1,5 @@
 pub mod Steps
 pub mod Parts
 pub mod Found
+pub mod Registers
+pub mod Whole
