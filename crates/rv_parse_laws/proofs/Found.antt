@@ -9,13 +9,13 @@ use Rattle.rv_parse_laws.specs.Faults.{wrong_register, wrong_value, wrong_litera
 use Rattle.rv_parse_laws.specs.Parsing.{Wrong, wrong, Read, nowhere, ◌>>=◌, seen_as, taken, register_at, literal_at, value_at, operand_at, comma_at, end_at, further_at, operands_at, symbol_at, with_first, with_name, further_names_at, no_names_at, names_at, option_at, begun_at, colon_next, after_first, statement_at, part_at}
 use Rattle.rv_parse_laws.proofs.Steps.{bind_ok, seen_ok, taken_ok, tested_ok, pair_parts}
 
-literal_found : (ts : List Token) (n : ℕ) (rest : List Token) → literal_at ts ≡ Ok (n, rest) → (t : Token) × (ts ≡ t ∷ rest) × (literal_of t.kind ≡ Some n)
+pub literal_found : (ts : List Token) (n : ℕ) (rest : List Token) → literal_at ts ≡ Ok (n, rest) → (t : Token) × (ts ≡ t ∷ rest) × (literal_of t.kind ≡ Some n)
 literal_found [] n rest e = absurd (cc)
 literal_found (t ∷ ts) n rest e =
     let k = taken_ok t ts (literal_of t.kind) (wrong_literal t.kind) n rest e in
     (t, ap (λ us. t ∷ us) k.1, k.0)
 
-value_found : (ts : List Token) (x : Expression) (rest : List Token) → value_at ts ≡ Ok (x, rest) → (text : List Token) × (ts ≡ text ++ rest) × IsOperand A_value text (Value x)
+pub value_found : (ts : List Token) (x : Expression) (rest : List Token) → value_at ts ≡ Ok (x, rest) → (text : List Token) × (ts ≡ text ++ rest) × IsOperand A_value text (Value x)
 value_found [] x rest e = absurd (cc)
 value_found (t ∷ ts) x rest e = go (is_minus t.kind) refl e
   where
@@ -41,13 +41,13 @@ operand_found A_value ts o rest e =
     let v = value_found ts s.0 rest s.1 in
     (v.0, v.1, subst (IsOperand A_value v.0) (sym s.2) v.2)
 
-comma_found : (s : Slot) (ts rest : List Token) → comma_at s ts ≡ Ok rest → (c : Token) × (ts ≡ c ∷ rest) × (is_comma c.kind ≡ true)
+pub comma_found : (s : Slot) (ts rest : List Token) → comma_at s ts ≡ Ok rest → (c : Token) × (ts ≡ c ∷ rest) × (is_comma c.kind ≡ true)
 comma_found s [] rest e = absurd (cc)
 comma_found s (t ∷ ts) rest e =
     let k = tested_ok (is_comma t.kind) ts rest (wrong t (wrong_after s t.kind)) e in
     (t, ap (λ us. t ∷ us) k.1, k.0)
 
-end_found : (s : Slot) (ts rest : List Token) → end_at s ts ≡ Ok rest → (ts ≡ rest) × EndsHere rest
+pub end_found : (s : Slot) (ts rest : List Token) → end_at s ts ≡ Ok rest → (ts ≡ rest) × EndsHere rest
 end_found s [] rest e = absurd (cc)
 end_found s (t ∷ ts) rest e =
     let k = tested_ok (is_end t.kind) (t ∷ ts) rest (wrong t (wrong_after s t.kind)) e in

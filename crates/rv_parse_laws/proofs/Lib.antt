@@ -3,3 +3,4 @@ pub mod Parts
 pub mod Found
 pub mod Registers
 pub mod Whole
+pub mod Shown
