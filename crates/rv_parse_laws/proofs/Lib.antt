@@ -4,3 +4,4 @@ pub mod Found
 pub mod Registers
 pub mod Whole
 pub mod Shown
+pub mod FirstWrong

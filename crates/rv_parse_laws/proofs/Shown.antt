@@ -56,59 +56,59 @@ pub ended_more : (t : Token) (ts : List Token) → is_last t.kind ≡ false → 
 ended_more t [] no_last h = absurd (cc)
 ended_more t (u ∷ ts) no_last h = h
 
-register_no_last : (k : Kind) (r : ℕ) → register_of k ≡ Some r → is_last k ≡ false
+pub register_no_last : (k : Kind) (r : ℕ) → register_of k ≡ Some r → is_last k ≡ false
 register_no_last (NameToken name) r h = refl
 register_no_last _ r h = absurd (cc)
 
-literal_no_last : (k : Kind) (n : ℕ) → literal_of k ≡ Some n → is_last k ≡ false
+pub literal_no_last : (k : Kind) (n : ℕ) → literal_of k ≡ Some n → is_last k ≡ false
 literal_no_last Bad_byte n h = absurd (cc)
 literal_no_last Bad_token n h = absurd (cc)
 literal_no_last End n h = absurd (cc)
 literal_no_last _ n h = refl
 
-value_no_last : (k : Kind) (e : Expression) → value_of k ≡ Some e → is_last k ≡ false
+pub value_no_last : (k : Kind) (e : Expression) → value_of k ≡ Some e → is_last k ≡ false
 value_no_last Bad_byte e h = absurd (cc)
 value_no_last Bad_token e h = absurd (cc)
 value_no_last End e h = absurd (cc)
 value_no_last _ e h = refl
 
-symbol_no_last : (k : Kind) (name : List ℕ) → symbol_of k ≡ Some name → is_last k ≡ false
+pub symbol_no_last : (k : Kind) (name : List ℕ) → symbol_of k ≡ Some name → is_last k ≡ false
 symbol_no_last (NameToken word) name h = refl
 symbol_no_last _ name h = absurd (cc)
 
-minus_no_last : (k : Kind) → is_minus k ≡ true → is_last k ≡ false
+pub minus_no_last : (k : Kind) → is_minus k ≡ true → is_last k ≡ false
 minus_no_last (Mark sign) h = refl
 minus_no_last _ h = absurd (cc)
 
-comma_no_last : (k : Kind) → is_comma k ≡ true → is_last k ≡ false
+pub comma_no_last : (k : Kind) → is_comma k ≡ true → is_last k ≡ false
 comma_no_last (Mark sign) h = refl
 comma_no_last _ h = absurd (cc)
 
-norvc_no_last : (k : Kind) → is_norvc k ≡ true → is_last k ≡ false
+pub norvc_no_last : (k : Kind) → is_norvc k ≡ true → is_last k ≡ false
 norvc_no_last (NameToken name) h = refl
 norvc_no_last _ h = absurd (cc)
 
 -- tokens that go on
-abbrev some_token : Kind → Token
+abbrev pub some_token : Kind → Token
 some_token k = record { kind = k; start = 0; stop = 0; line = 0 }
 
-abbrev a_register : Token
+abbrev pub a_register : Token
 a_register = some_token (NameToken (codes "a0"))
 
-a_register_is : register_of a_register.kind ≡ Some 10
+pub a_register_is : register_of a_register.kind ≡ Some 10
 unfolding register names_of abi_names
 a_register_is = refl
 
-abbrev a_literal : Token
+abbrev pub a_literal : Token
 a_literal = some_token (Number [] 0)
 
-abbrev a_comma : Token
+abbrev pub a_comma : Token
 a_comma = some_token (Mark Comma)
 
-abbrev a_symbol : Token
+abbrev pub a_symbol : Token
 a_symbol = some_token (NameToken (codes "f"))
 
-a_symbol_is : symbol_of a_symbol.kind ≡ Some (codes "f")
+pub a_symbol_is : symbol_of a_symbol.kind ≡ Some (codes "f")
 unfolding is_symbol register names_of abi_names
 a_symbol_is = refl
 
@@ -116,23 +116,23 @@ a_symbol_is = refl
 abbrev pub InOperand : Slot → (List Token → Type 0) → List Token → Type 0
 InOperand s N us = (one rest : List Token) × (o : Operand) × (us ≡ one ++ rest) × IsOperand s one o × N rest
 
-in_operand_goes : (s : Slot) (N : List Token → Type 0) → (text : List Token) × N text → (text : List Token) × InOperand s N text
+pub in_operand_goes : (s : Slot) (N : List Token → Type 0) → (text : List Token) × N text → (text : List Token) × InOperand s N text
 in_operand_goes A_register N (text, n) = (a_register ∷ text, (a_register ∷ [], text, Register 10, refl, (a_register, 10, refl, a_register_is, refl), n))
 in_operand_goes A_value N (text, n) = (a_literal ∷ text, (a_literal ∷ [], text, Value (Literal 0), refl, inl (a_literal, Literal 0, refl, refl, refl), n))
 
-heads : {t u : Token} {ts us : List Token} → t ∷ ts ≡ u ∷ us → t ≡ u
+pub heads : {t u : Token} {ts us : List Token} → t ∷ ts ≡ u ∷ us → t ≡ u
 heads e = cc
 
-tails : {t u : Token} {ts us : List Token} → t ∷ ts ≡ u ∷ us → ts ≡ us
+pub tails : {t u : Token} {ts us : List Token} → t ∷ ts ≡ u ∷ us → ts ≡ us
 tails e = cc
 
 -- an operand that begins with a token
-register_front : (N : List Token → Type 0) (t : Token) (us : List Token) → InOperand A_register N (t ∷ us) → (r : ℕ) × (register_of t.kind ≡ Some r) × N us
+pub register_front : (N : List Token → Type 0) (t : Token) (us : List Token) → InOperand A_register N (t ∷ us) → (r : ℕ) × (register_of t.kind ≡ Some r) × N us
 register_front N t us (one, rest, o, w, (u, r, x, is, v), n) =
     let e : t ∷ us ≡ u ∷ rest = w ∙ ap (λ xs. xs ++ rest) x in
     (r, ap (λ (k : Token). register_of k.kind) (heads e) ∙ is, subst N (sym (tails e)) n)
 
-value_front : (N : List Token → Type 0) (t : Token) (us : List Token) → is_minus t.kind ≡ false → InOperand A_value N (t ∷ us) → (e : Expression) × (value_of t.kind ≡ Some e) × N us
+pub value_front : (N : List Token → Type 0) (t : Token) (us : List Token) → is_minus t.kind ≡ false → InOperand A_value N (t ∷ us) → (e : Expression) × (value_of t.kind ≡ Some e) × N us
 value_front N t us no_minus (one, rest, o, w, inl (u, e, x, is, v), n) =
     let q : t ∷ us ≡ u ∷ rest = w ∙ ap (λ xs. xs ++ rest) x in
     (e, ap (λ (k : Token). value_of k.kind) (heads q) ∙ is, subst N (sym (tails q)) n)
@@ -141,7 +141,7 @@ value_front N t us no_minus (one, rest, o, w, inr (m, u, n, x, minus, is, v), ne
     let is_one : is_minus t.kind ≡ true = ap (λ (k : Token). is_minus k.kind) (heads q) ∙ minus in
     absurd (cc)
 
-minus_front : (N : List Token → Type 0) (t u : Token) (us : List Token) → is_minus t.kind ≡ true → InOperand A_value N (t ∷ u ∷ us) → (n : ℕ) × (literal_of u.kind ≡ Some n) × N us
+pub minus_front : (N : List Token → Type 0) (t u : Token) (us : List Token) → is_minus t.kind ≡ true → InOperand A_value N (t ∷ u ∷ us) → (n : ℕ) × (literal_of u.kind ≡ Some n) × N us
 minus_front N t u us minus (one, rest, o, w, inl (v, e, x, is, y), n) =
     let q : t ∷ u ∷ us ≡ v ∷ rest = w ∙ ap (λ xs. xs ++ rest) x in
     let none : is_minus t.kind ≡ false = ap (λ (k : Token). is_minus k.kind) (heads q) ∙ value_no_minus v.kind e is in
