@@ -94,14 +94,14 @@ to_comma s ss c us comma (one, rest, o, w, is, (more, are)) =
     (o ∷ more, (c, one, rest, o, more, ap (λ xs. c ∷ xs) w, comma, is, are, refl))
 
 -- where the statement does not end behind its last operand
-end_shown : (S : List Token → Type 0) (code : List Token → Token → ℕ) (s : Slot) (ts : List Token) (w : Wrong) → S [] → ((t : Token) (us : List Token) → S (t ∷ us) → ⊥)
+pub end_shown : (S : List Token → Type 0) (code : List Token → Token → ℕ) (s : Slot) (ts : List Token) (w : Wrong) → S [] → ((t : Token) (us : List Token) → S (t ∷ us) → ⊥)
   → ((at : Token) → code [] at ≡ wrong_after s at.kind) → ended ts ≡ true → end_at s ts ≡ Err w → Shown S code ts w
 end_shown S code s [] w live none same end e = absurd (cc)
 end_shown S code s (t ∷ ts) w live none same end e =
     let k = tested_err (is_end t.kind) (t ∷ ts) (wrong t (wrong_after s t.kind)) w e in
     at_first S code t ts w ([], live) (λ text h. none t text h) (k.1 ∙ ap (wrong t) (sym (same t)))
 
-never : {X : Type 0} (x : X) (w : Wrong) → Ok x ≡ Err w → ⊥
+pub never : {X : Type 0} (x : X) (w : Wrong) → Ok x ≡ Err w → ⊥
 never x w e = cc
 
 -- an operand, and then further ones
@@ -120,7 +120,7 @@ operands_behind s ss ts w end e ih =
           inl f ↦ p.1 (ih good.0.1 p.0 f)
         | inr fine ↦ absurd (never (good.0.0 ∷ fine.0.0, fine.0.1) w fine.2) ]) ]
 
-no_more : (t : Token) (us : List Token) (os : List Operand) → t ∷ us ≡ [] → os ≡ [] → ⊥
+pub no_more : (t : Token) (us : List Token) (os : List Operand) → t ∷ us ≡ [] → os ≡ [] → ⊥
 no_more t us os w v = cc
 
 further_shown : (s : Slot) (ss : List Slot) (ts : List Token) (w : Wrong) → ended ts ≡ true → further_at s ss ts ≡ Err w → Shown (Further ss) (code_after s ss) ts w
@@ -141,7 +141,7 @@ further_shown s (u ∷ us) (t ∷ ts) w end e =
           (operands_behind u us ts w end' (subst (λ c. operands_then u us c ≡ Err w) (sym k.1) good.2)
             (λ rest f g. further_shown u us rest w f g))) ]
 
-operands_shown : (ss : List Slot) (ts : List Token) (w : Wrong) → ended ts ≡ true → operands_at ss ts ≡ Err w → Shown (Operands ss) (code_in_operands ss) ts w
+pub operands_shown : (ss : List Slot) (ts : List Token) (w : Wrong) → ended ts ≡ true → operands_at ss ts ≡ Err w → Shown (Operands ss) (code_in_operands ss) ts w
 unfolding operands_at
 operands_shown [] ts w end e =
     elim (bind_err (end_at A_register ts) (λ r. Ok ([], r)) w e) [
@@ -229,7 +229,7 @@ further_names_shown (t ∷ u ∷ ts) w end e = go (is_comma t.kind) refl e (λ f
           (named (symbol_of u.kind) refl e ih)
     go false comma e ih = no_names_shown t (u ∷ ts) w comma end e
 
-names_shown : (ts : List Token) (w : Wrong) → ended ts ≡ true → names_at ts ≡ Err w → Shown Names code_in_names ts w
+pub names_shown : (ts : List Token) (w : Wrong) → ended ts ≡ true → names_at ts ≡ Err w → Shown Names code_in_names ts w
 unfolding names_at
 names_shown [] w end e = absurd (cc)
 names_shown (t ∷ ts) w end e =

@@ -5,3 +5,4 @@ pub mod Registers
 pub mod Whole
 pub mod Shown
 pub mod FirstWrong
+pub mod PartWrong
