@@ -65,5 +65,6 @@ exe_of l = with_parts l (header_bytes l ++ flat_map (program_bytes l) (parts l))
 -- the image that the linker meant
 abbrev pub linked_image : Linked → Image
 linked_image l = record {
-    entry = l.map.entry;
-    segments = map (λ part. record { address = part.address; bytes = part.stored ++ replicate part.zeros 0; flags = part.flags }) (parts l) }
+  entry = l.map.entry;
+  segments = map (λ part. record { address = part.address; bytes = part.stored ++ replicate part.zeros 0; flags = part.flags }) (parts l);
+}

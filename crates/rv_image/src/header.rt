@@ -1,11 +1,10 @@
 //! The fields of a file.
 
-ghost use Rattle.std.specs.Prelude.{◌≡◌, ◌+◌, ◌≤◌, length};
+ghost use Rattle.std.specs.Prelude.{◌≡◌, ◌+◌, ◌<◌, ◌≤◌, length};
 ghost use Rattle.rv_image.specs.Header.{field, program_at};
 
-use byteorder::{ByteOrder, LittleEndian};
-
 use crate::program::Program;
+use byteorder::{ByteOrder, LittleEndian};
 
 /// The two bytes at a place, the lowest first.
 pub(crate) fn half(file: &[u8], place: usize) -> u16
@@ -44,4 +43,12 @@ pub(crate) fn program(file: &[u8], place: usize) -> Program
         file_size: double(file, place + 32),
         memory_size: double(file, place + 40),
     }
+}
+
+/// The byte at a place.
+pub(crate) fn byte(file: &[u8], place: usize) -> u8
+    requires { place < length file.now }
+    ensures { result ≡ field 1 place file.now }
+{
+    file[place]
 }

@@ -3,12 +3,14 @@
 //! Source: System V gABI, "ELF Header" and "Program Header"; RISC-V ELF psABI.
 #![tactic(auto)]
 
+mod checks;
 mod fault;
 mod header;
 mod image;
 mod linked;
 mod program;
 mod segment;
+mod segments;
 
 pub use fault::FileFault;
 pub use image::Image;
