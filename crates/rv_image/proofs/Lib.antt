@@ -1,2 +1,5 @@
 pub mod Tests
 pub mod Programs
+pub mod Loaded
+pub mod Apart
+pub mod Whole

@@ -1,14 +1,14 @@
 -- Tables of program headers: one more at the end, and what ends below an address.
 
-use Rattle.std.proofs.Common.{◌≡◌, ℕ, zero, suc, ◌+◌, ◌*◌, ◌-◌, ◌≤◌, ◌<◌, ◌||◌, Option, Some, None, Bool, true, false, List, [], ◌∷◌, ◌++◌, refl, ap, sym, ◌∙◌, arith}
+use Rattle.std.proofs.Common.{◌≡◌, ℕ, zero, suc, ◌+◌, ◌*◌, ◌-◌, ◌≤◌, ◌<◌, ◌||◌, Some, None, Bool, true, false, List, [], ◌∷◌, ◌++◌, refl, ap, sym, ◌∙◌, arith}
 use Rattle.std.proofs.lemmas.Bool.{and_parts, or_from, and_from}
 use Rattle.std.proofs.lemmas.List.Folds.{list_all-append}
 use Rattle.rv_image.specs.declared.fault.FileFault.{FileFault}
-use Rattle.rv_image.proofs.Tests.{first_true-none, first_true-some}
+use Rattle.rv_image.proofs.Tests.{first_true_none, first_true_some}
 use Rattle.std.specs.List.{list_any, list_all}
 use Rattle.std.proofs.lemmas.Bool.Decides.{nat_tests}
 use Rattle.rv_image.specs.declared.program.Program.{Program}
-use Rattle.rv_image.specs.Header.{programs_from, program_at, is_load}
+use Rattle.rv_image.specs.Header.{programs_from, program_at}
 use Rattle.rv_image.specs.FirstFault.{do_overlap, ends_by, first_true, programs_tests, program_tests}
 
 pub programs_from_more : (i place : ℕ) (file : List ℕ) → programs_from (suc i) place file ≡ programs_from i place file ++ program_at (place + 56 * i) file ∷ []
@@ -75,7 +75,7 @@ tests_step count i place file below fine =
     let here = program_at (place + 56 * i) file in
     let next : suc i ≡ i + 1 = omega arith in
     ap (λ ps. first_true (programs_tests file (programs_from i place file) ps)) (programs_from_cut count i place file below)
-    ∙ first_true-none (program_tests file (programs_from i place file) here) (programs_tests file (programs_from i place file ++ here ∷ []) rest) fine
+    ∙ first_true_none (program_tests file (programs_from i place file) here) (programs_tests file (programs_from i place file ++ here ∷ []) rest) fine
     ∙ ap (λ qs. first_true (programs_tests file qs rest)) (sym (programs_from_more i place file) ∙ ap (λ n. programs_from n place file) next)
 
 -- the tests of the table where this header has a fault
@@ -86,4 +86,4 @@ tests_stop count i place file fault below found =
     let rest = programs_from (count - (i + 1)) (place + 56 * (i + 1)) file in
     let here = program_at (place + 56 * i) file in
     ap (λ ps. first_true (programs_tests file (programs_from i place file) ps)) (programs_from_cut count i place file below)
-    ∙ first_true-some (program_tests file (programs_from i place file) here) (programs_tests file (programs_from i place file ++ here ∷ []) rest) fault found
+    ∙ first_true_some (program_tests file (programs_from i place file) here) (programs_tests file (programs_from i place file ++ here ∷ []) rest) fault found

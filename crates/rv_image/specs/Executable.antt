@@ -1,9 +1,7 @@
 -- The executable that a linked program becomes (System V gABI, "ELF Header" and "Program Header").
 
-use Rattle.std.specs.Prelude.{◌≡◌, ℕ, ◌+◌, ◌-◌, ◌*◌, ◌==◌, Bool, not, if◌then◌else◌, List, [], ◌∷◌, ◌++◌, length, replicate, map, filter, flat_map}
+use Rattle.std.specs.Prelude.{ℕ, ◌+◌, ◌-◌, ◌==◌, not, if◌then◌else◌, List, [], ◌∷◌, ◌++◌, length, replicate, map, filter, flat_map}
 use Rattle.byteorder.specs.Endian.{little_bytes}
-use Rattle.rv_map.specs.Map.{Map}
-use Rattle.rv_image.specs.Segment.{Segment}
 use Rattle.rv_image.specs.Image.{Image}
 use Rattle.rv_image.specs.Linked.{Linked}
 

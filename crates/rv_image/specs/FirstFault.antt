@@ -1,6 +1,6 @@
 -- Why a file is no executable: tests in order, the first that is true gives the fault.
 
-use Rattle.std.specs.Prelude.{◌≡◌, ℕ, Result, MatchResult, ◌+◌, ◌-◌, ◌*◌, ◌%◌, ◌/◌, ◌^◌, ◌==◌, nat_lt, nat_le, Bool, not, ◌&&◌, ◌||◌, if◌then◌else◌, List, [], ◌∷◌, ◌++◌, length, take, filter, sum_by, Option, Some, None}
+use Rattle.std.specs.Prelude.{◌≡◌, ℕ, Result, MatchResult, ◌+◌, ◌-◌, ◌*◌, ◌%◌, ◌/◌, ◌^◌, ◌==◌, nat_lt, nat_le, ◌≤◌, false, Bool, not, ◌&&◌, ◌||◌, if◌then◌else◌, List, [], ◌∷◌, ◌++◌, length, filter, sum_by, Option, Some, None}
 use Rattle.std.specs.List.{list_any}
 use Rattle.rv_image.specs.declared.program.Program.{Program}
 use Rattle.rv_image.specs.declared.fault.FileFault.{FileFault}
@@ -90,3 +90,9 @@ Finds tests result = MatchResult result (λ _. first_true tests ≡ None) (λ fa
 -- why the file is refused; none where it is an executable of this machine
 abbrev pub first_fault : List ℕ → Option FileFault
 first_fault file = first_true (load_tests file)
+
+-- what is needed to copy the segment of a program header, if it has one
+pub record IsLoadable (file : List ℕ) (p : Program) : Type 0 where
+  pub within : is_past file p.offset p.file_size ≡ false
+  pub stored : p.kind ≡ 1 → p.file_size ≤ p.memory_size
+  pub ends : p.kind ≡ 1 → p.address + p.memory_size ≤ 2 ^ 64

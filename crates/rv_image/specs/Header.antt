@@ -5,7 +5,7 @@ use Rattle.byteorder.specs.Endian.{little_number}
 use Rattle.rv_image.specs.declared.program.Program.{Program}
 
 -- the number that the width bytes at a place make, the lowest first
-abbrev pub field : ℕ → ℕ → List ℕ → ℕ
+unfoldable pub field : ℕ → ℕ → List ℕ → ℕ
 field width place file = little_number width (drop place file)
 
 -- e_type

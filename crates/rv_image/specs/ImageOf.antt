@@ -1,6 +1,6 @@
 -- The image of a file (System V gABI, "Program Loading"; RISC-V ELF psABI, "File Header").
 
-use Rattle.std.specs.Prelude.{◌≡◌, ℕ, ◌-◌, ◌==◌, Bool, List, [], ◌∷◌, ◌++◌, take, drop, replicate, map, filter}
+use Rattle.std.specs.Prelude.{◌≡◌, ℕ, ◌-◌, List, ◌++◌, take, drop, replicate, map, filter}
 use Rattle.rv_image.specs.declared.program.Program.{Program}
 use Rattle.rv_image.specs.Header.{field, file_type, machine, entry_point, programs, is_load}
 use Rattle.rv_image.specs.Segment.{Segment}

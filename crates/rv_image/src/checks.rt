@@ -14,7 +14,8 @@ const HEADER_SIZE: usize = 64;
 /// Looks at the header: its magic, class and machine, and that the file is an executable.
 #[tactic(auto, unfolding(crate::specs::FirstFault::header_tests))]
 pub(crate) fn check_header(file: &[u8]) -> Result<(), FileFault>
-    ensures { Finds (header_tests file.now) result }
+    ensures faults { Finds (header_tests file.now) result }
+    ensures size { OnOk result (64 ≤ length file.now) }
 {
     if file.len() < HEADER_SIZE {
         return Err(FileFault::Truncated);

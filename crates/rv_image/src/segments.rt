@@ -1,8 +1,8 @@
 //! The program headers of a file, and the segments that they load.
 
-ghost use Rattle.std.specs.Prelude.{◌≡◌, ◌<◌, ◌≤◌, ◌+◌, ◌*◌, ◌^◌, true, length, []};
+ghost use Rattle.std.specs.Prelude.{◌≡◌, ◌<◌, ◌≤◌, ◌+◌, ◌*◌, ◌^◌, true, not, nat_lt, length, [], ◌∷◌};
 ghost use Rattle.std.specs.List.{list_any, list_all};
-ghost use Rattle.rv_image.specs.FirstFault.{Finds, programs_tests, program_tests, segment_tests, do_overlap, ends_by};
+ghost use Rattle.rv_image.specs.FirstFault.{Finds, programs_tests, program_tests, segment_tests, do_overlap, ends_by, whole_tests, loaded_size};
 ghost use Rattle.rv_image.specs.Header.{HasPrograms, programs_from, programs};
 
 use crate::checks::{lies_past, meet};
@@ -11,7 +11,7 @@ use crate::header::{self, double, half};
 use crate::program::Program;
 
 /// The bytes of a program header.
-const PROGRAM_SIZE: usize = 56;
+pub(crate) const PROGRAM_SIZE: usize = 56;
 
 /// The first address of the stack.
 const STACK_START: u64 = 0x3FF0_0000;
@@ -135,4 +135,54 @@ fn overlap(program: Program, other: Program) -> bool
             other.address,
             other.memory_size,
         )
+}
+
+/// The bytes of memory that the segments may have in sum.
+const MEMORY_LIMIT: u64 = 0x1000_0000;
+
+/// Looks at the entry and at the memory of all segments.
+#[tactic(auto, unfolding(crate::specs::FirstFault::whole_tests))]
+pub(crate) fn check_whole(file: &[u8]) -> Result<(), FileFault>
+    requires header { 64 ≤ length file.now }
+    requires within { HasPrograms file.now }
+    ensures { Finds (whole_tests file.now) result }
+{
+    if double(file, 24) % 2 != 0 {
+        return Err(FileFault::BadTable);
+    }
+    if !fit_memory(file) {
+        return Err(FileFault::MemoryLimit);
+    }
+    Ok(())
+}
+
+/// Whether the segments are within the limit.
+fn fit_memory(file: &[u8]) -> bool
+    requires header { 64 ≤ length file.now }
+    requires within { HasPrograms file.now }
+    ensures { result ≡ not (nat_lt (2 ^ 28) (loaded_size (programs file.now))) }
+{
+    let table = double(file, 32) as usize;
+    let count = half(file, 56) as usize;
+    let mut left = MEMORY_LIMIT;
+    for index in 0..count {
+        let program = header::program(file, table + PROGRAM_SIZE * index);
+        let size = memory_of(program);
+        if size > left {
+            return false;
+        }
+        left -= size;
+    }
+    true
+}
+
+/// The bytes that a program header loads.
+fn memory_of(program: Program) -> u64
+    ensures { result ≡ loaded_size (program ∷ []) }
+{
+    if program.kind == 1 {
+        program.memory_size
+    } else {
+        0
+    }
 }

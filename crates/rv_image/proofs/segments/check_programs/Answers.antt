@@ -1,6 +1,6 @@
-use Rattle.std.proofs.Common.{◌≡◌, ◌∙◌, ◌+◌, ◌*◌, sym, subst, true, None, Some}
+use Rattle.std.proofs.Common.{◌≡◌, ◌∙◌, subst, true, None, Some}
 use Rattle.std.proofs.lemmas.Result.{err_from_is_err_and}
-use Rattle.rv_image.specs.Header.{programs_from, program_at}
+use Rattle.rv_image.specs.Header.{programs_from}
 use Rattle.rv_image.specs.FirstFault.{first_true, program_tests, ends_by}
 use Rattle.rv_image.proofs.Programs.{tests_step, tests_stop, all_step, all_end_later}
 use Rattle.rv_image.proofs.segments.check_programs.Goals as goal

@@ -1,6 +1,6 @@
-use Rattle.std.proofs.Common.{◌≡◌, ◌∙◌, sym, subst, false, true}
+use Rattle.std.proofs.Common.{◌≡◌, ◌∙◌, sym, subst, false}
 use Rattle.rv_image.specs.FirstFault.{do_overlap}
-use Rattle.rv_image.proofs.Programs.{any_step, any_here}
+use Rattle.rv_image.proofs.Programs.{any_step}
 use Rattle.rv_image.proofs.segments.meets_earlier.Goals as goal
 
 pub loop-index-preserved : goal.loop-index-preserved
