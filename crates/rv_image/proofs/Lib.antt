@@ -3,3 +3,4 @@ pub mod Programs
 pub mod Loaded
 pub mod Apart
 pub mod Whole
+pub mod ProgramBytes

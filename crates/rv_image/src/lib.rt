@@ -12,6 +12,7 @@ mod loading;
 mod program;
 mod segment;
 mod segments;
+mod writing;
 
 pub use fault::FileFault;
 pub use image::Image;
@@ -19,3 +20,4 @@ pub use linked::Linked;
 pub use loading::load;
 pub use rv_map::{Global, Map, Region, Row};
 pub use segment::Segment;
+pub use writing::write_exec;
