@@ -2,8 +2,9 @@
 //!
 //! Source: RISC-V Unprivileged ISA 20191213, sections 2.4, 5.2, 7.1, 7.2 and 8.4.
 
-ghost use Rattle.std.specs.Prelude.{◌≡◌, ℕ, ◌^◌, ◌%◌, ◌<◌, bit_and};
+ghost use Rattle.std.specs.Prelude.{◌≡◌, ◌*◌, ◌/◌, ◌^◌};
 ghost use Rattle.rv_isa_laws.specs.Arithmetic as is;
+ghost use Rattle.rv_isa_laws.specs.Meaning as meaning;
 
 /// The signed value of 64 bits.
 #[inline]
@@ -327,4 +328,20 @@ pub fn word_greater_signed(a: u32, b: u32) -> u32
     } else {
         a
     }
+}
+
+/// The 20 upper bits of `lui` and `auipc`, in their place.
+#[inline]
+pub fn upper(immediate: u32) -> u64
+    ensures { result ≡ meaning.upper immediate }
+{
+    extended(immediate << 12)
+}
+
+/// The target of `jalr`: bit 0 is cleared.
+#[inline]
+pub fn even(target: u64) -> u64
+    ensures { result ≡ target / 2 * 2 }
+{
+    target - target % 2
 }
