@@ -4,3 +4,4 @@
 #![tactic(auto)]
 
 mod alu;
+mod registers;
