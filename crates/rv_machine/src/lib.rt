@@ -3,4 +3,9 @@
 //! Source: RISC-V Unprivileged ISA 20191213, chapters 2, 5, 7 and 8.
 #![tactic(auto)]
 
+mod action;
 mod alu;
+mod end;
+mod fetch;
+mod hart;
+mod registers;
