@@ -1,0 +1,86 @@
+-- Two memories that differ only where nothing reads: each effect does the same on both.
+
+use Rattle.std.proofs.Common.{◌≡◌, ℕ, zero, suc, ◌+◌, ◌*◌, ◌/◌, ◌%◌, ◌^◌, ◌<◌, ◌≤◌, Bool, true, false, List, [], ◌∷◌, ◌++◌, length, refl, sym, ap, ◌∙◌, subst, arith, take, drop}
+use Rattle.std.specs.Prelude.{◌&&◌, ◌||◌, ◌==◌, if◌then◌else◌, min}
+use Rattle.std.proofs.lemmas.Bool.{eqb-true, and_parts}
+use Rattle.rv_isa_laws.specs.Memory.{Mem, Right, Read, Write, Execute, may, some_has, bytes_at, with_byte, with_bytes, number_at, with_number}
+use Rattle.rv_isa_laws.specs.Hart.{Hart, End, register}
+use Rattle.rv_isa_laws.specs.Effect.{Effect, Goes, Loads, Stores, Reserves, Conditional, Updates, Calls, Breaks, Next, On, Over, apply, calls, reads, writes, load_refusal, store_refusal, answer, bad_address, bad_file}
+
+-- memory m of the machine beside memory s of the source run: both have these rights, they are equal where something can be
+-- read, and what can be executed is as it was at first
+pub record Beside (has : ℕ → Right → Bool) (first m s : Mem) : Type 0 where
+  pub machine : (a : ℕ) → a < 2 ^ 64 → (right : Right) → m.has a right ≡ has a right
+  pub source : (a : ℕ) → a < 2 ^ 64 → (right : Right) → s.has a right ≡ has a right
+  pub read : (a : ℕ) → a < 2 ^ 64 → has a Read ≡ true → m.byte a ≡ s.byte a
+  pub kept : (a : ℕ) → a < 2 ^ 64 → has a Execute ≡ true → m.byte a ≡ first.byte a
+
+wraps : (a : ℕ) → a % 2 ^ 64 < 2 ^ 64
+wraps a = omega arith
+
+if_false : {A : Type 0} (test : Bool) (x y z : A) → (test ≡ true → ⊥) → y ≡ z → (if test then x else y) ≡ z
+if_false true x y z no' e = absurd (no' refl)
+if_false false x y z no' e = e
+
+module _ (has : ℕ → Right → Bool) (fixed : (a : ℕ) → a < 2 ^ 64 → has a Execute ≡ true → has a Write ≡ false) (first : Mem) where
+  -- the rights alone
+  abbrev bare : Mem
+  bare = record { byte = λ a. 0; has = has }
+
+  may_same : (m : Mem) → ((a : ℕ) → a < 2 ^ 64 → (right : Right) → m.has a right ≡ has a right) → (a n : ℕ) (right : Right) → may m a n right ≡ may bare a n right
+  may_same m same a zero right = refl
+  may_same m same a (suc n) right = ap (λ b. b && may m (a + 1) n right) (same (a % 2 ^ 64) (wraps a) right) ∙ ap (λ b. has (a % 2 ^ 64) right && b) (may_same m same (a + 1) n right)
+
+  some_same : (m : Mem) → ((a : ℕ) → a < 2 ^ 64 → (right : Right) → m.has a right ≡ has a right) → (a n : ℕ) (right : Right) → some_has m a n right ≡ some_has bare a n right
+  some_same m same a zero right = refl
+  some_same m same a (suc n) right = ap (λ b. b || some_has m (a + 1) n right) (same (a % 2 ^ 64) (wraps a) right) ∙ ap (λ b. has (a % 2 ^ 64) right || b) (some_same m same (a + 1) n right)
+
+  may_both : (m s : Mem) → Beside has first m s → (a n : ℕ) (right : Right) → may m a n right ≡ may s a n right
+  may_both m s b a n right = may_same m b.machine a n right ∙ sym (may_same s b.source a n right)
+
+  some_both : (m s : Mem) → Beside has first m s → (a n : ℕ) (right : Right) → some_has m a n right ≡ some_has s a n right
+  some_both m s b a n right = some_same m b.machine a n right ∙ sym (some_same s b.source a n right)
+
+  number_same : (m s : Mem) → ((a : ℕ) → a < 2 ^ 64 → has a Read ≡ true → m.byte a ≡ s.byte a) → (a n : ℕ) → may bare a n Read ≡ true → number_at m a n ≡ number_at s a n
+  number_same m s same a zero ok = refl
+  number_same m s same a (suc n) ok =
+      let parts = and_parts (has (a % 2 ^ 64) Read) (may bare (a + 1) n Read) ok in
+      let low : m.byte (a % 2 ^ 64) ≡ s.byte (a % 2 ^ 64) = same (a % 2 ^ 64) (wraps a) parts.0 in
+      let high : number_at m (a + 1) n ≡ number_at s (a + 1) n = number_same m s same (a + 1) n parts.1 in
+      ap (λ b. b + 256 * number_at m (a + 1) n) low ∙ ap (λ k. s.byte (a % 2 ^ 64) + 256 * k) high
+
+  bytes_same : (m s : Mem) → ((a : ℕ) → a < 2 ^ 64 → has a Read ≡ true → m.byte a ≡ s.byte a) → (a n : ℕ) → may bare a n Read ≡ true → bytes_at m a n ≡ bytes_at s a n
+  bytes_same m s same a zero ok = refl
+  bytes_same m s same a (suc n) ok =
+      let parts = and_parts (has (a % 2 ^ 64) Read) (may bare (a + 1) n Read) ok in
+      let low : m.byte (a % 2 ^ 64) ≡ s.byte (a % 2 ^ 64) = same (a % 2 ^ 64) (wraps a) parts.0 in
+      let high : bytes_at m (a + 1) n ≡ bytes_at s (a + 1) n = bytes_same m s same (a + 1) n parts.1 in
+      ap (λ b. b ∷ bytes_at m (a + 1) n) low ∙ ap (λ bs. s.byte (a % 2 ^ 64) ∷ bs) high
+
+  -- no byte that can be executed is one that can be written
+  apart : (x a : ℕ) → x < 2 ^ 64 → has x Execute ≡ true → has a Write ≡ true → (x == a) ≡ true → ⊥
+  apart x a below runs writes same =
+      let e : x ≡ a = eqb-true x a same in
+      let f : has x Write ≡ false = fixed x below runs in
+      let g : has x Write ≡ true = subst (λ k. has k Write ≡ true) (sym e) writes in
+      cc
+
+  byte_put : (m s : Mem) → Beside has first m s → (a b : ℕ) → has a Write ≡ true → Beside has first (with_byte m a b) (with_byte s a b)
+  byte_put m s beside a b ok = record {
+      machine = beside.machine;
+      source = beside.source;
+      read = λ x below r. ap (λ y. if x == a then b else y) (beside.read x below r);
+      kept = λ x below r. if_false (x == a) b (m.byte x) (first.byte x) (apart x a below r ok) (beside.kept x below r) }
+
+  number_put : (n : ℕ) (m s : Mem) → Beside has first m s → (a v : ℕ) → may bare a n Write ≡ true → Beside has first (with_number m a n v) (with_number s a n v)
+  number_put zero m s beside a v ok = beside
+  number_put (suc n) m s beside a v ok =
+      let parts = and_parts (has (a % 2 ^ 64) Write) (may bare (a + 1) n Write) ok in
+      number_put n (with_byte m (a % 2 ^ 64) (v % 256)) (with_byte s (a % 2 ^ 64) (v % 256)) (byte_put m s beside (a % 2 ^ 64) (v % 256) parts.0) (a + 1) (v / 256) parts.1
+
+  bytes_put : (bs : List ℕ) (m s : Mem) → Beside has first m s → (a n : ℕ) → length bs ≤ n → may bare a n Write ≡ true → Beside has first (with_bytes m a bs) (with_bytes s a bs)
+  bytes_put [] m s beside a n le ok = beside
+  bytes_put (b ∷ bs) m s beside a zero le ok = absurd (omega arith)
+  bytes_put (b ∷ bs) m s beside a (suc n) le ok =
+      let parts = and_parts (has (a % 2 ^ 64) Write) (may bare (a + 1) n Write) ok in
+      bytes_put bs (with_byte m (a % 2 ^ 64) b) (with_byte s (a % 2 ^ 64) b) (byte_put m s beside (a % 2 ^ 64) b parts.0) (a + 1) n (omega arith) parts.1

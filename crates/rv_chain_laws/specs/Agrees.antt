@@ -1,0 +1,13 @@
+-- When a source run and a run of the machine agree.
+
+use Rattle.std.specs.Prelude.{◌≡◌, ℕ, ◌++◌, List, ◌⊎◌}
+use Rattle.rv_isa_laws.specs.Hart.{Outcome, Astray}
+
+-- the first bytes of a list
+pub record IsFront (front whole : List ℕ) : Type 0 where
+  pub rest : List ℕ
+  pub joined : front ++ rest ≡ whole
+
+-- they are equal; or the source run went to the inside of a statement, and so far the console is the same
+abbrev pub Agrees : Outcome → Outcome → Type 0
+Agrees source machine = (source ≡ machine) ⊎ ((source.«end» ≡ Astray) × IsFront source.console machine.console)

@@ -1,0 +1,94 @@
+-- A worked program: it exits with 7.
+--
+--     .option norvc
+--     .globl _start
+--     _start: li a0, 7
+--     li a7, 93
+--     ecall
+
+use Rattle.std.specs.Prelude.{ℕ, List, [], ◌∷◌, codes}
+use Rattle.rv_isa_laws.specs.Hart.{Outcome, Exited}
+use Rattle.rv_parse_laws.specs.Statement.{Statement, Label, Norvc, Globl, Instruction, Spoken, Mnemonic, Addi, Ecall, Li, Operand, Register, Value, Literal, Minus}
+use Rattle.rv_map.specs.Map.{Map, Global}
+use Rattle.rv_map.specs.declared.map.Row.{Row}
+use Rattle.rv_map.specs.declared.map.Region.{Region}
+
+abbrev pub said : ℕ → Statement → Spoken
+said line says = record { line = line; says = says }
+
+-- `li rd, k`
+abbrev pub load : ℕ → ℕ → Statement
+load rd k = Instruction Li (Register rd ∷ Value (Literal k) ∷ [])
+
+abbrev pub exit7 : List Spoken
+exit7 =
+    said 1 Norvc
+    ∷ said 2 (Globl (codes "_start" ∷ []))
+    ∷ said 3 (Label (codes "_start"))
+    ∷ said 3 (load 10 7)
+    ∷ said 4 (load 17 93)
+    ∷ said 5 (Instruction Ecall [])
+    ∷ []
+
+abbrev pub row : ℕ → ℕ → ℕ → ℕ → ℕ → ℕ → Row
+row file line ordinal address bytes instructions =
+    record { file = file; line = line; ordinal = ordinal; address = address; bytes = bytes; instructions = instructions }
+
+abbrev pub region : ℕ → ℕ → Region
+region start stop = record { start = start; end = stop }
+
+abbrev pub global : List ℕ → ℕ → Global
+global name address = record { name = name; address = address }
+
+abbrev pub exit7_map : Map
+exit7_map = record {
+    text = region 0x10000 0x1000c;
+    rodata = region 0x11000 0x11000;
+    «data» = region 0x11000 0x11000;
+    bss = region 0x11000 0x11000;
+    entry = 0x10000;
+    gaps = [];
+    globals = global (codes "_start") 0x10000
+        ∷ global (codes "_etext") 0x1000c
+        ∷ global (codes "__bss_start") 0x11000
+        ∷ global (codes "_edata") 0x11000
+        ∷ global (codes "_end") 0x11000
+        ∷ global (codes "__global_pointer$") 0x11800
+        ∷ [];
+    rows = row 1 3 3 0x10000 0 0
+        ∷ row 1 3 4 0x10000 4 1
+        ∷ row 1 4 5 0x10004 4 1
+        ∷ row 1 5 6 0x10008 4 1
+        ∷ [] }
+
+-- the same with `addi a0, a0, -8` before `li a7, 93`
+abbrev pub exit255 : List Spoken
+exit255 =
+    said 1 Norvc
+    ∷ said 2 (Globl (codes "_start" ∷ []))
+    ∷ said 3 (Label (codes "_start"))
+    ∷ said 3 (load 10 7)
+    ∷ said 4 (Instruction Addi (Register 10 ∷ Register 10 ∷ Value (Minus (Literal 8)) ∷ []))
+    ∷ said 5 (load 17 93)
+    ∷ said 6 (Instruction Ecall [])
+    ∷ []
+
+abbrev pub exit255_map : Map
+exit255_map = record exit7_map {
+    text = region 0x10000 0x10010;
+    globals = global (codes "_start") 0x10000
+        ∷ global (codes "_etext") 0x10010
+        ∷ global (codes "__bss_start") 0x11000
+        ∷ global (codes "_edata") 0x11000
+        ∷ global (codes "_end") 0x11000
+        ∷ global (codes "__global_pointer$") 0x11800
+        ∷ [];
+    rows = row 1 3 3 0x10000 0 0
+        ∷ row 1 3 4 0x10000 4 1
+        ∷ row 1 4 5 0x10004 4 1
+        ∷ row 1 5 6 0x10008 4 1
+        ∷ row 1 6 7 0x1000c 4 1
+        ∷ [] }
+
+abbrev pub exits : ℕ → Outcome
+exits code = record { console = []; «end» = Exited code }

@@ -1,0 +1,12 @@
+pub mod Sections
+pub mod Sites
+pub mod Meaning
+pub mod Fits
+pub mod Resolves
+pub mod Start
+pub mod SourceRun
+pub mod ImageMemory
+pub mod Realizes
+pub mod Agrees
+pub mod Headline
+pub mod Exit7

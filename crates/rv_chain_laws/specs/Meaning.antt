@@ -1,0 +1,80 @@
+-- What a statement does in one step, the instructions that stand for it, and how many of them run
+-- (RISC-V Assembly Programmer's Manual, pseudo-instructions).
+
+use Rattle.std.specs.Prelude.{◌≡◌, ℕ, ℤ, pos, ◌+◌, ◌-◌, ◌*◌, ◌%◌, ◌^◌, ◌≤◌, List, [], ◌∷◌, length, Option, Some, None, map, if◌then◌else◌, nat_lt}
+use Rattle.rv_isa.specs.declared.instruction.Inst.{Inst}
+use Rattle.rv_isa.specs.declared.instruction.Inst.TheVariants.{Addi as AddImmediate, Ecall as Call}
+use Rattle.rv_isa_laws.specs.Hart.{Hart}
+use Rattle.rv_isa_laws.specs.Effect.{Effect, Breaks}
+use Rattle.rv_isa_laws.specs.Meaning.{effect, sets}
+use Rattle.rv_parse_laws.specs.Statement.{Statement, Label, Norvc, Globl, Instruction, Mnemonic, Addi, Ecall, Li, Operand, Register, Value, Expression}
+use Rattle.rv_parse_laws.specs.Value.{signed}
+use Rattle.rv_chain_laws.specs.Sites.{Site, Program, value}
+
+-- `addi rd, rs1, k`
+abbrev pub add_immediate : ℕ → ℕ → ℕ → Inst
+add_immediate rd rs1 k = AddImmediate (record { immediate = signed k; rd = rd; rs1 = rs1 })
+
+-- what an instruction or a pseudo-instruction does in so many bytes, where v gives the values of expressions:
+-- a base instruction what its own meaning says, `li` puts its number into rd
+abbrev pub run_spoken : (Expression → ℕ) → Mnemonic → List Operand → ℕ → Hart → Effect
+run_spoken v Addi (Register rd ∷ Register rs1 ∷ Value k ∷ []) bytes h = effect (add_immediate rd rs1 (v k)) bytes h
+run_spoken v Ecall [] bytes h = effect Call bytes h
+run_spoken v Li (Register rd ∷ Value k ∷ []) bytes h = sets bytes h rd (v k)
+run_spoken v mnemonic operands bytes h = Breaks
+
+-- a statement that isn't executed has no bytes in the text, and so is never run
+abbrev pub run_said : (Expression → ℕ) → Statement → ℕ → Hart → Effect
+run_said v (Label name) bytes h = Breaks
+run_said v Norvc bytes h = Breaks
+run_said v (Globl names) bytes h = Breaks
+run_said v (Instruction mnemonic operands) bytes h = run_spoken v mnemonic operands bytes h
+
+-- what the statement at a site does in one step
+abbrev pub meaning : Program → Site → Hart → Effect
+meaning p s h = run_said (value p s) s.stated.says s.row.bytes h
+
+-- whether a number fits 12 signed bits
+abbrev pub fits_12 : ℕ → Option ℕ
+fits_12 k = if nat_lt ((k + 2 ^ 11) % 2 ^ 64) (2 ^ 12) then Some k else None
+
+abbrev pub add_zero : ℕ → Option ℕ → Option (List Inst)
+add_zero rd (Some k) = Some (add_immediate rd 0 k ∷ [])
+add_zero rd None = None
+
+-- the base instructions that stand for an instruction or a pseudo-instruction; none for operands that it can't have
+abbrev pub expanded : (Expression → ℕ) → Mnemonic → List Operand → Option (List Inst)
+expanded v Addi (Register rd ∷ Register rs1 ∷ Value k ∷ []) = Some (add_immediate rd rs1 (v k) ∷ [])
+expanded v Ecall [] = Some (Call ∷ [])
+expanded v Li (Register rd ∷ Value k ∷ []) = add_zero rd (fits_12 (v k))
+expanded v mnemonic operands = None
+
+-- the base instructions that stand for a statement
+abbrev pub expanded_said : (Expression → ℕ) → Statement → Option (List Inst)
+expanded_said v (Label name) = Some []
+expanded_said v Norvc = Some []
+expanded_said v (Globl names) = Some []
+expanded_said v (Instruction mnemonic operands) = expanded v mnemonic operands
+
+abbrev pub expansion : Program → Site → Option (List Inst)
+expansion p s = expanded_said (value p s) s.stated.says
+
+-- a line of a statement: an instruction of 2 or 4 bytes at its address
+pub record Line : Type 0 where
+  pub address : ℕ
+  pub bytes : ℕ
+  pub instruction : Inst
+
+-- lines that follow one another from an address to an end
+abbrev pub Lie : ℕ → List Line → ℕ → Type 0
+Lie address [] stop = address ≡ stop
+Lie address (l ∷ ls) stop = (l.address ≡ address) × Lie (address + l.bytes) ls stop
+
+-- the lines of a statement: its base instructions, one after another over the bytes of its row
+abbrev pub AreLines : Program → Site → List Line → Type 0
+AreLines p s lines =
+    (expansion p s ≡ Some (map (λ l. l.instruction) lines)) × Lie s.row.address lines (s.row.address + s.row.bytes)
+
+-- how many instructions of its row run in one step of this hart
+abbrev pub cost : Program → Site → Hart → ℕ
+cost p s h = s.row.instructions

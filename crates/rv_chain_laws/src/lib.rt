@@ -1,0 +1,9 @@
+//! What a list of sources does, statement by statement, at the addresses of a map; when an
+//! executable does the same; and the law that it does. Nothing here runs.
+//!
+//! Source: RISC-V Unprivileged ISA 20191213; RISC-V Assembly Programmer's Manual.
+#![tactic(auto)]
+
+mod worked;
+
+pub use worked::{exit255_runs, exit7_fits, exit7_is_limited, exit7_resolves, exit7_runs};
