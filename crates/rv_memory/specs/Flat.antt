@@ -1,6 +1,6 @@
 -- The memory that segments make.
 
-use Rattle.std.specs.Prelude.{◌≡◌, ℕ, zero, suc, ◌+◌, ◌-◌, ◌*◌, ◌/◌, ◌%◌, ◌==◌, nat_le, nat_lt, Bool, true, false, ◌&&◌, List, [], ◌∷◌, Option, Some, None, length, slice_index, slice_get}
+use Rattle.std.specs.Prelude.{◌≡◌, ℕ, zero, suc, ◌+◌, ◌-◌, ◌*◌, ◌/◌, ◌%◌, ◌==◌, nat_le, nat_lt, Bool, true, false, ◌&&◌, List, [], ◌∷◌, Option, Some, None, length, take, drop, ◌++◌, slice_index, slice_get}
 use Rattle.std.specs.List.{find}
 use Rattle.rv_isa_laws.specs.Memory.{Mem, Right, Read, Write, Execute}
 use Rattle.rv_image.specs.Segment.{Segment}
@@ -49,3 +49,11 @@ number_of (b ∷ bs) = b + 256 * number_of bs
 abbrev pub bytes_of : ℕ → ℕ → List ℕ
 bytes_of zero v = []
 bytes_of (suc n) v = v % 256 ∷ bytes_of n (v / 256)
+
+-- a segment without bytes
+abbrev pub no_segment : Segment
+no_segment = record { address = 0; bytes = []; flags = 0 }
+
+-- a segment whose bytes are replaced from its kth on
+abbrev pub with_part : Segment → ℕ → List ℕ → Segment
+with_part s k bs = record { address = s.address; bytes = take k s.bytes ++ (bs ++ drop (k + length bs) s.bytes); flags = s.flags }

@@ -1,13 +1,13 @@
 //! A memory that keeps each segment as one piece.
 
 ghost use Rattle.std.specs.Prelude.{
-    ◌≡◌, ℕ, ◌+◌, ◌-◌, ◌^◌, ◌≤◌, ◌<◌, true, false, Some, None, map, length, IfSome, MatchOption, slice_get,
+    ◌≡◌, ℕ, ◌+◌, ◌-◌, ◌%◌, ◌^◌, ◌≤◌, ◌<◌, true, false, [], Some, None, map, length, take, drop, ◌++◌, IfSome, MatchOption, MatchBool, slice_get, slice_index, slice_index_or, set,
 };
-ghost use Rattle.rv_isa_laws.specs.Memory.{may, number_at, with_number};
+ghost use Rattle.rv_isa_laws.specs.Memory.{may, bytes_at, with_bytes, number_at, Write as ToWrite};
 ghost use Rattle.rv_image.specs.Segment.{segment_of};
 ghost use Rattle.rv_memory.specs.Rights.{right_of, IsWidth, MayLoad};
 ghost use Rattle.rv_memory.specs.Flat.{
-    holds, gives, segment_at, memory_of, AreDisjoint, number_of, bytes_of,
+    holds, gives, segment_at, memory_of, AreDisjoint, number_of, no_segment, with_part,
 };
 
 use rv_image::Segment;
@@ -55,18 +55,13 @@ fn number(bytes: &[u8]) -> u64
     }
 }
 
-/// Puts the low 1, 2, 4 or 8 bytes of a number, the lowest first.
+/// Replaces bytes from the one at `at` on.
 #[inline(always)]
-fn put(bytes: &mut [u8], value: u64)
-    requires { IsWidth (length bytes.old) }
-    ensures { bytes.new ≡ bytes_of (length bytes.old) value }
+fn overwrite(bytes: &mut [u8], at: usize, by: &[u8])
+    requires { at + length by.now ≤ length bytes.old }
+    ensures { bytes.new ≡ take at bytes.old ++ (by.now ++ drop (at + length by.now) bytes.old) }
 {
-    match bytes.len() {
-        1 => bytes[0] = (value % 0x100) as u8,
-        2 => bytes.copy_from_slice(&((value % 0x1_0000) as u16).to_le_bytes()),
-        4 => bytes.copy_from_slice(&((value % 0x1_0000_0000) as u32).to_le_bytes()),
-        _ => bytes.copy_from_slice(&value.to_le_bytes()),
-    }
+    bytes[at..at + by.len()].copy_from_slice(by);
 }
 
 impl Flat {
@@ -85,5 +80,162 @@ impl Flat {
             }
         }
         None
+    }
+
+    /// How many bytes from an address on, up to its segment's end, have the right.
+    #[inline(always)]
+    fn run(&self, address: u64, right: Right) -> u64
+        ensures all { may (memory_of (map segment_of self.now.segments.items)) address result (right_of right) ≡ true }
+        ensures none { result ≡ 0 → (memory_of (map segment_of self.now.segments.items)).has address (right_of right) ≡ false }
+    {
+        match self.position(address) {
+            Some(i) => {
+                let segment = &self.segments[i];
+                if is_given(segment, right) {
+                    segment.bytes.len() as u64 - (address - segment.address)
+                } else {
+                    0
+                }
+            }
+            None => 0,
+        }
+    }
+
+    /// The bytes from an address on, up to its segment's end.
+    #[inline(always)]
+    fn rest(&self, address: u64) -> &[u8]
+        ensures bytes {
+            bytes_at (memory_of (map segment_of self.now.segments.items)) address (length result.now) ≡ result.now
+        }
+        ensures small { (k : ℕ) → slice_index result.now k < 256 }
+        ensures none { result.now ≡ [] → segment_at (map segment_of self.now.segments.items) address ≡ None }
+    {
+        match self.position(address) {
+            Some(i) => {
+                let segment = &self.segments[i];
+                let bytes = segment.bytes.as_slice();
+                bytes.split_at((address - segment.address) as usize).1
+            }
+            None => &[],
+        }
+    }
+
+    /// The byte of an address that may be read or executed.
+    fn byte(&self, address: u64) -> u8
+        requires { MayLoad (memory_of (map segment_of self.now.segments.items)) address 1 }
+        ensures { result ≡ (memory_of (map segment_of self.now.segments.items)).byte address }
+    {
+        match self.rest(address) {
+            [byte, ..] => *byte,
+            [] => 0,
+        }
+    }
+
+    /// The number of bytes that do not lie in one segment.
+    #[inline(never)]
+    fn load_across(&self, address: u64, bytes: usize) -> u64
+        requires width { IsWidth bytes }
+        requires may { MayLoad (memory_of (map segment_of self.now.segments.items)) address bytes }
+        ensures number { result ≡ number_at (memory_of (map segment_of self.now.segments.items)) address bytes }
+        ensures bytes { (k : ℕ) → k < bytes → (memory_of (map segment_of self.now.segments.items)).byte ((address + k) % 2 ^ 64) < 256 }
+    {
+        let mut gathered = [0; 8];
+        for k in 0..bytes {
+            gathered[k] = self.byte(address.wrapping_add(k as u64));
+        }
+        number(&gathered[..bytes])
+    }
+
+    /// Puts bytes into a segment, from one of its bytes on.
+    #[inline(always)]
+    fn write(&mut self, i: usize, at: usize, bytes: &[u8])
+        requires index { i < length self.old.segments.items }
+        requires within { at + length bytes.now ≤ length (slice_index_or (map segment_of self.old.segments.items) i no_segment).bytes }
+        ensures {
+            map segment_of self.new.segments.items
+            ≡ set (map segment_of self.old.segments.items) i (with_part (slice_index_or (map segment_of self.old.segments.items) i no_segment) at bytes.now)
+        }
+    {
+        let segment = &mut self.segments[i];
+        overwrite(&mut segment.bytes, at, bytes);
+    }
+
+    /// Puts bytes that lie in one segment; whether they do.
+    #[inline(always)]
+    fn put_within(&mut self, address: u64, bytes: &[u8]) -> bool
+        ensures put {
+            MatchBool result
+            (memory_of (map segment_of self.new.segments.items) ≡ with_bytes (memory_of (map segment_of self.old.segments.items)) address bytes.now)
+            (map segment_of self.new.segments.items ≡ map segment_of self.old.segments.items)
+        }
+        ensures one {
+            length bytes.now ≡ 1 → may (memory_of (map segment_of self.old.segments.items)) address 1 ToWrite ≡ true → result ≡ true
+        }
+    {
+        match self.position(address) {
+            Some(i) => {
+                let segment = &self.segments[i];
+                let at = (address - segment.address) as usize;
+                let room = segment.bytes.len() - at;
+                if bytes.len() <= room {
+                    self.write(i, at, bytes);
+                    return true;
+                }
+                false
+            }
+            None => false,
+        }
+    }
+
+    /// Puts bytes one by one, where they do not lie in one segment.
+    #[inline(never)]
+    fn put_across(&mut self, address: u64, bytes: &[u8])
+        requires { may (memory_of (map segment_of self.old.segments.items)) address (length bytes.now) ToWrite ≡ true }
+        ensures { memory_of (map segment_of self.new.segments.items) ≡ with_bytes (memory_of (map segment_of self.old.segments.items)) address bytes.now }
+    {
+        for k in 0..bytes.len() {
+            self.put_within(address.wrapping_add(k as u64), &bytes[k..k + 1]);
+        }
+    }
+}
+
+impl Memory for Flat {
+    ghost mem = { λ flat. memory_of (map segment_of flat.segments.items) };
+
+    #[inline]
+    fn may(&self, address: u64, bytes: u64, right: Right) -> bool {
+        let mut at = address;
+        let mut left = bytes;
+        while left > 0 {
+            let run = self.run(at, right);
+            if run == 0 {
+                return false;
+            }
+            if left <= run {
+                return true;
+            }
+            left -= run;
+            at = at.wrapping_add(run);
+        }
+        true
+    }
+
+    #[inline]
+    fn load(&self, address: u64, bytes: u64) -> u64 {
+        let rest = self.rest(address);
+        if bytes as usize <= rest.len() {
+            number(&rest[..bytes as usize])
+        } else {
+            self.load_across(address, bytes as usize)
+        }
+    }
+
+    #[inline]
+    fn store(&mut self, address: u64, bytes: u64, value: u64) {
+        let digits = value.to_le_bytes();
+        let low = &digits[..bytes as usize];
+        if !self.put_within(address, low) {
+            self.put_across(address, low);
+        }
     }
 }

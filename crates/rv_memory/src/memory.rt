@@ -1,6 +1,6 @@
 //! What a hart asks of its memory.
 
-ghost use Rattle.std.specs.Prelude.{◌≡◌, true};
+ghost use Rattle.std.specs.Prelude.{◌≡◌, ℕ, ◌+◌, ◌%◌, ◌^◌, ◌<◌, true};
 ghost use Rattle.rv_isa_laws.specs.Memory.{Mem, may, number_at, with_number, Write as ToWrite};
 ghost use Rattle.rv_memory.specs.Rights.{right_of, IsWidth, MayLoad};
 
@@ -26,7 +26,8 @@ pub trait Memory {
     fn load(&self, address: u64, bytes: u64) -> u64
         requires width { IsWidth bytes }
         requires may { MayLoad (mem self.now) address bytes }
-        ensures { result ≡ number_at (mem self.now) address bytes };
+        ensures number { result ≡ number_at (mem self.now) address bytes }
+        ensures bytes { (k : ℕ) → k < bytes → (mem self.now).byte ((address + k) % 2 ^ 64) < 256 };
 
     /// Puts the low 1, 2, 4 or 8 bytes of a number, the lowest first, where all may be written.
     /// Nothing else changes, and no right.

@@ -4,16 +4,8 @@ use Rattle.std.proofs.lemmas.List.{get_or-map, length-map}
 use Rattle.rv_image.specs.Segment.{segment_of}
 use Rattle.rv_image.specs.declared.segment.Segment.{Segment as DeclaredSegment}
 use Rattle.rv_memory.specs.Flat.{segment_at, holds}
+use Rattle.rv_memory.proofs.FlatLemmas.{element}
 use Rattle.rv_memory.proofs.flat.Flat.position.Goals as goal
-
--- the element at i, as the segments' plain values have it
-element : (xs : List DeclaredSegment) (i : ℕ) (s : DeclaredSegment) → i < length xs → s ≡ get_or xs i s →
-    slice_get (map segment_of xs) i ≡ Some (segment_of s)
-element xs i s within is =
-    let far : i < length (map segment_of xs) = simp length-map within in
-    let e : slice_get (map segment_of xs) i ≡ Some (get_or (map segment_of xs) i (segment_of s)) = slice_get-get_or (map segment_of xs) i (segment_of s) far in
-    let f : get_or (map segment_of xs) i (segment_of s) ≡ segment_of (get_or xs i s) = get_or-map segment_of xs i s (segment_of s) within in
-    cc
 
 -- where the segments before i do not hold the address and this one does, it is the one
 here : (xs : List DeclaredSegment) (i a : ℕ) (s : DeclaredSegment) → i < length xs → s ≡ get_or xs i s → holds (segment_of s) a ≡ true →
