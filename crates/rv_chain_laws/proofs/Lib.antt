@@ -1,2 +1,5 @@
 pub mod Even
 pub mod Alike
+pub mod AssembledRows
+pub mod AssembledFits
+pub mod AssembledNames

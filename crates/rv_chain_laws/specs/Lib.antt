@@ -10,3 +10,4 @@ pub mod Realizes
 pub mod Agrees
 pub mod Headline
 pub mod Exit7
+pub mod Assembled
