@@ -4,7 +4,8 @@ use Rattle.std.proofs.Common.{◌≡◌, ℕ, zero, suc, ◌+◌, ◌*◌, ◌/�
 use Rattle.std.specs.Prelude.{◌&&◌, ◌||◌, ◌==◌, if◌then◌else◌, min}
 use Rattle.std.proofs.lemmas.Bool.{eqb-true, and_parts}
 use Rattle.rv_isa_laws.specs.Memory.{Mem, Right, Read, Write, Execute, may, some_has, bytes_at, with_byte, with_bytes, number_at, with_number}
-use Rattle.rv_isa_laws.specs.Hart.{Hart, End, register}
+use Rattle.std.proofs.lemmas.List.{length-take}
+use Rattle.rv_isa_laws.specs.Hart.{Hart, End, LoadText, LoadOutside, StoreText, StoreOutside, register}
 use Rattle.rv_isa_laws.specs.Effect.{Effect, Goes, Loads, Stores, Reserves, Conditional, Updates, Calls, Breaks, Next, On, Over, apply, calls, reads, writes, load_refusal, store_refusal, answer, bad_address, bad_file}
 
 -- memory m of the machine beside memory s of the source run: both have these rights, they are equal where something can be
@@ -14,6 +15,12 @@ pub record Beside (has : ℕ → Right → Bool) (first m s : Mem) : Type 0 wher
   pub source : (a : ℕ) → a < 2 ^ 64 → (right : Right) → s.has a right ≡ has a right
   pub read : (a : ℕ) → a < 2 ^ 64 → has a Read ≡ true → m.byte a ≡ s.byte a
   pub kept : (a : ℕ) → a < 2 ^ 64 → has a Execute ≡ true → m.byte a ≡ first.byte a
+
+abbrev pub Alike : (ℕ → Right → Bool) → Mem → Next → Next → Type 0
+Alike has first (On g m) (On k s) = (g ≡ k) × Beside has first m s
+Alike has first (On g m) (Over f) = ⊥
+Alike has first (Over e) (On k s) = ⊥
+Alike has first (Over e) (Over f) = e ≡ f
 
 wraps : (a : ℕ) → a % 2 ^ 64 < 2 ^ 64
 wraps a = omega arith
@@ -84,3 +91,97 @@ module _ (has : ℕ → Right → Bool) (fixed : (a : ℕ) → a < 2 ^ 64 → ha
   bytes_put (b ∷ bs) m s beside a (suc n) le ok =
       let parts = and_parts (has (a % 2 ^ 64) Write) (may bare (a + 1) n Write) ok in
       bytes_put bs (with_byte m (a % 2 ^ 64) b) (with_byte s (a % 2 ^ 64) b) (byte_put m s beside (a % 2 ^ 64) b parts.0) (a + 1) n (omega arith) parts.1
+
+  -- the same test on both sides, or tests that are equal to a third
+  on_test : (t : Bool) (x y x' y' : Next) → Alike has first x y → Alike has first x' y' → Alike has first (if t then x else x') (if t then y else y')
+  on_test true x y x' y' f g = f
+  on_test false x y x' y' f g = g
+
+  on_tests : (b c d : Bool) (x y x' y' : Next) → b ≡ d → c ≡ d → (d ≡ true → Alike has first x y) → Alike has first x' y' → Alike has first (if b then x else x') (if c then y else y')
+  on_tests true true d x y x' y' e f go no_go = go (sym e)
+  on_tests true false d x y x' y' e f go no_go = absurd (let g : true ≡ false = e ∙ sym f in cc)
+  on_tests false true d x y x' y' e f go no_go = absurd (let g : true ≡ false = f ∙ sym e in cc)
+  on_tests false false d x y x' y' e f go no_go = no_go
+
+  load_same : (m s : Mem) → Beside has first m s → (a n : ℕ) → load_refusal m a n ≡ load_refusal s a n
+  load_same m s beside a n = ap (λ b. if b then LoadText a else LoadOutside a) (some_both m s beside a n Execute)
+
+  store_same : (m s : Mem) → Beside has first m s → (a n : ℕ) → store_refusal m a n ≡ store_refusal s a n
+  store_same m s beside a n = ap (λ b. if b then StoreText a else StoreOutside a) (some_both m s beside a n Execute)
+
+  reads_alike : (h : Hart) (m s : Mem) → Beside has first m s → Alike has first (reads h m) (reads h s)
+  reads_alike h m s beside =
+      let a1 = register h 11 in
+      let a2 = register h 12 in
+      let bs = take (min a2 (length h.input)) h.input in
+      let short : length bs ≤ a2 = omega (arith, length-take {A = ℕ}) in
+      on_test (register h 10 == 0) _ _ _ _
+        (on_tests (may m a1 a2 Write) (may s a1 a2 Write) (may bare a1 a2 Write) _ _ _ _
+          (may_same m beside.machine a1 a2 Write) (may_same s beside.source a1 a2 Write)
+          (λ ok. (refl, bytes_put bs m s beside a1 a2 short ok))
+          (refl, beside))
+        (refl, beside)
+
+  writes_alike : (h : Hart) (m s : Mem) → Beside has first m s → Alike has first (writes h m) (writes h s)
+  writes_alike h m s beside =
+      let a1 = register h 11 in
+      let a2 = register h 12 in
+      on_test ((register h 10 == 1) || (register h 10 == 2)) _ _ _ _
+        (on_tests (may m a1 a2 Read) (may s a1 a2 Read) (may bare a1 a2 Read) _ _ _ _
+          (may_same m beside.machine a1 a2 Read) (may_same s beside.source a1 a2 Read)
+          (λ ok. (ap (λ bs. answer (record h { console = h.console ++ bs }) a2) (bytes_same m s beside.read a1 a2 ok), beside))
+          (refl, beside))
+        (refl, beside)
+
+  calls_alike : (h : Hart) (m s : Mem) → Beside has first m s → Alike has first (calls h m) (calls h s)
+  calls_alike h m s beside =
+      on_test (register h 17 == 63) _ _ _ _ (reads_alike h m s beside)
+        (on_test (register h 17 == 64) _ _ _ _ (writes_alike h m s beside)
+          (on_test (register h 17 == 93) _ _ _ _ refl (refl, beside)))
+
+  put_where : (t : Bool) (m s : Mem) → Beside has first m s → (a n v : ℕ) → may bare a n Write ≡ true → Beside has first (if t then with_number m a n v else m) (if t then with_number s a n v else s)
+  put_where true m s beside a n v ok = number_put n m s beside a v ok
+  put_where false m s beside a n v ok = beside
+
+  -- an effect does the same beside
+  pub apply_alike : (e : Effect) (m s : Mem) → Beside has first m s → Alike has first (apply e m) (apply e s)
+  apply_alike (Goes next) m s beside = (refl, beside)
+  apply_alike (Loads a n next) m s beside =
+      on_tests (may m a n Read) (may s a n Read) (may bare a n Read) _ _ _ _
+        (may_same m beside.machine a n Read) (may_same s beside.source a n Read)
+        (λ ok. (ap next (number_same m s beside.read a n ok), beside))
+        (load_same m s beside a n)
+  apply_alike (Stores a n v next) m s beside =
+      on_tests (may m a n Write) (may s a n Write) (may bare a n Write) _ _ _ _
+        (may_same m beside.machine a n Write) (may_same s beside.source a n Write)
+        (λ ok. (refl, number_put n m s beside a v ok))
+        (store_same m s beside a n)
+  apply_alike (Reserves a n next) m s beside =
+      on_test (a % n == 0) _ _ _ _
+        (on_tests (may m a n Read) (may s a n Read) (may bare a n Read) _ _ _ _
+          (may_same m beside.machine a n Read) (may_same s beside.source a n Read)
+          (λ ok. (ap next (number_same m s beside.read a n ok), beside))
+          (load_same m s beside a n))
+        refl
+  apply_alike (Conditional a n v reserved next) m s beside =
+      on_test (a % n == 0) _ _ _ _
+        (on_tests (may m a n Write) (may s a n Write) (may bare a n Write) _ _ _ _
+          (may_same m beside.machine a n Write) (may_same s beside.source a n Write)
+          (λ ok. (refl, put_where reserved m s beside a n v ok))
+          (store_same m s beside a n))
+        refl
+  apply_alike (Updates a n new next) m s beside =
+      on_test (a % n == 0) _ _ _ _
+        (on_tests (may m a n Read && may m a n Write) (may s a n Read && may s a n Write) (may bare a n Read && may bare a n Write) _ _ _ _
+          (ap (λ b. b && may m a n Write) (may_same m beside.machine a n Read) ∙ ap (λ b. may bare a n Read && b) (may_same m beside.machine a n Write))
+          (ap (λ b. b && may s a n Write) (may_same s beside.source a n Read) ∙ ap (λ b. may bare a n Read && b) (may_same s beside.source a n Write))
+          (λ ok.
+            let parts = and_parts (may bare a n Read) (may bare a n Write) ok in
+            let old = number_same m s beside.read a n parts.0 in
+            (ap next old,
+              subst (λ k. Beside has first (with_number m a n (new (number_at m a n))) (with_number s a n (new k))) old
+                (number_put n m s beside a (new (number_at m a n)) parts.1)))
+          (store_same m s beside a n))
+        refl
+  apply_alike (Calls next) m s beside = calls_alike next m s beside
+  apply_alike Breaks m s beside = refl

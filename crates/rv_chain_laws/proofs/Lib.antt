@@ -1,2 +1,3 @@
 pub mod Even
 pub mod Alike
+pub mod Onward
