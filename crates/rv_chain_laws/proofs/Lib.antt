@@ -1,3 +1,5 @@
 pub mod Even
 pub mod Alike
 pub mod Onward
+pub mod Fetch
+pub mod Walk
