@@ -3,3 +3,6 @@ pub mod Alike
 pub mod AssembledRows
 pub mod AssembledFits
 pub mod AssembledNames
+pub mod Onward
+pub mod Fetch
+pub mod Walk
