@@ -6,3 +6,5 @@ pub mod AssembledNames
 pub mod Onward
 pub mod Fetch
 pub mod Walk
+pub mod AssembledCode
+pub mod AssembledMemory
