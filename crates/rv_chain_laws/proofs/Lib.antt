@@ -3,3 +3,5 @@ pub mod Alike
 pub mod Onward
 pub mod Fetch
 pub mod Walk
+pub mod Obligations
+pub mod Simulation

@@ -12,7 +12,7 @@ use Rattle.rv_isa_laws.specs.Meaning.{effect}
 use Rattle.rv_isa_laws.specs.Kept.{GoesOn, Kept}
 use Rattle.rv_isa_laws.proofs.EffectLaws.{effect_keeps}
 use Rattle.rv_machine_laws.specs.Reader.{Reader}
-use Rattle.rv_machine_laws.specs.Run.{fetch, step, run, done}
+use Rattle.rv_machine_laws.specs.Run.{Got, NoRight, fetch, step, run, done}
 use Rattle.rv_chain_laws.specs.Meaning.{Line}
 use Rattle.rv_chain_laws.specs.Realizes.{StandsIn}
 use Rattle.rv_chain_laws.proofs.Even.{IsEven, effect_even}
@@ -87,7 +87,7 @@ module _ {Spells StandsFor : ℕ → Inst → Type 0} (reader : Reader Spells St
   module _ (m : Mem) (text : Text has first m) where
     line_step : (l : Line) (h : Hart) → StandsIn reader first l → h.pc ≡ l.address → step reader h m ≡ apply (effect l.instruction l.bytes h) m
     line_step l h stands e =
-        ap (λ a. done (fetch reader m a) h m) e ∙ ap (λ f. done f h m) (fetched reader has first rights m text l.address l.instruction l.bytes stands.0)
+        ap (λ a. done (fetch reader m a) h m) e ∙ ap (λ f. done f h m) (fetched reader has first rights m text l.address (Got l.instruction l.bytes) (λ e. cc) stands.0)
 
     -- the machine runs the lines and comes to the effect of the last
     abbrev Runs : Walked → Hart → Type 0
