@@ -2,3 +2,9 @@ pub mod Fault
 pub mod Segment
 pub mod Image
 pub mod Linked
+pub mod Header
+pub mod ImageOf
+pub mod FirstFault
+pub mod Executable
+pub use Rattle.rv_map.specs.Map
+pub use Rattle.rv_map.specs.Text

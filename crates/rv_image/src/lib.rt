@@ -4,8 +4,10 @@
 #![tactic(auto)]
 
 mod fault;
+mod header;
 mod image;
 mod linked;
+mod program;
 mod segment;
 
 pub use fault::FileFault;

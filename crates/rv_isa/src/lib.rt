@@ -4,11 +4,15 @@
 #![tactic(auto)]
 
 mod instruction;
+mod mnemonics;
 mod ranges;
 mod register;
+mod register_names;
 
 pub use instruction::{
     Atomic, BType, Fence, IType, Inst, JType, RType, Reserve, SType, Shift, UType,
 };
+pub use mnemonics::mnemonic;
 pub use ranges::{is_branch_offset, is_jump_offset, is_signed_12};
 pub use register::Reg;
+pub use register_names::reg_named;

@@ -1,6 +1,7 @@
 //! The thirty-two integer registers.
 
-ghost use Rattle.std.specs.Prelude.{◌≡◌, ℕ, ◌<◌, ◌%◌, MatchOption, ◌≤◌};
+ghost use Rattle.std.specs.Prelude.{◌≡◌, ℕ, ◌<◌, ◌%◌, MatchOption, ◌≤◌, slice_get};
+ghost use Rattle.rv_isa.specs.RegisterNames.{abi_names};
 
 use std::marker::Model;
 
@@ -39,5 +40,46 @@ impl Reg {
         ensures below { result < 32 }
     {
         self.0
+    }
+
+    /// The register's ABI name: `s0` for x8.
+    #[tactic(auto, unfolding(crate::specs::RegisterNames::abi_names))]
+    pub fn abi_name(self) -> &'static str
+        ensures { slice_get abi_names self ≡ Some result.now }
+    {
+        match self.0 {
+            0 => "zero",
+            1 => "ra",
+            2 => "sp",
+            3 => "gp",
+            4 => "tp",
+            5 => "t0",
+            6 => "t1",
+            7 => "t2",
+            8 => "s0",
+            9 => "s1",
+            10 => "a0",
+            11 => "a1",
+            12 => "a2",
+            13 => "a3",
+            14 => "a4",
+            15 => "a5",
+            16 => "a6",
+            17 => "a7",
+            18 => "s2",
+            19 => "s3",
+            20 => "s4",
+            21 => "s5",
+            22 => "s6",
+            23 => "s7",
+            24 => "s8",
+            25 => "s9",
+            26 => "s10",
+            27 => "s11",
+            28 => "t3",
+            29 => "t4",
+            30 => "t5",
+            _ => "t6",
+        }
     }
 }

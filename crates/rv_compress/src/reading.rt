@@ -1,0 +1,428 @@
+//! From a parcel to the form that it spells, by quadrant and funct3.
+
+ghost use Rattle.std.specs.Prelude.{◌≡◌, ◌≢◌, ◌*◌, ◌<◌, ◌/◌, ◌%◌, ◌^◌, ◌+◌};
+ghost use Rattle.rv_compress.specs.Parcel.{IsForm, IsRead, bits_at};
+
+use crate::form::Compressed;
+use crate::immediate::{
+    branch_offset, double_load, double_offset, double_store, jump_offset, signed_10, signed_12,
+    signed_6, signed_9, six, stack_address, stack_step, upper_20, word_load, word_offset,
+    word_store,
+};
+use rv_isa::Reg;
+
+/// x8 to x15, by bits 4:2.
+fn short_2(bits: u32) -> Reg
+    ensures { result ≡ 8 + bits_at bits 2 3 0 }
+{
+    Reg::from_low_bits((bits >> 2 & 7) + 8)
+}
+
+/// x8 to x15, by bits 9:7.
+fn short_7(bits: u32) -> Reg
+    ensures { result ≡ 8 + bits_at bits 7 3 0 }
+{
+    Reg::from_low_bits((bits >> 7 & 7) + 8)
+}
+
+/// x0 to x31, by bits 6:2.
+fn any_2(bits: u32) -> Reg
+    ensures { result ≡ bits_at bits 2 5 0 }
+{
+    Reg::from_low_bits(bits >> 2)
+}
+
+/// x0 to x31, by bits 11:7.
+fn any_7(bits: u32) -> Reg
+    ensures { result ≡ bits_at bits 7 5 0 }
+{
+    Reg::from_low_bits(bits >> 7)
+}
+
+fn addi4spn(bits: u32) -> Option<Compressed>
+    requires size { bits < 2 ^ 16 }
+    requires quadrant { bits % 4 ≡ 0 }
+    requires funct3 { bits / 2 ^ 13 ≡ 0 }
+    ensures { IsRead result bits }
+{
+    let immediate = stack_address(bits);
+    if immediate == 0 { None } else { Some(Compressed::Addi4spn { rd: short_2(bits), immediate }) }
+}
+
+fn lw(bits: u32) -> Compressed
+    requires size { bits < 2 ^ 16 }
+    requires quadrant { bits % 4 ≡ 0 }
+    requires funct3 { bits / 2 ^ 13 ≡ 2 }
+    ensures { IsForm result bits }
+{
+    Compressed::Lw { rd: short_2(bits), rs1: short_7(bits), offset: word_offset(bits) }
+}
+
+fn ld(bits: u32) -> Compressed
+    requires size { bits < 2 ^ 16 }
+    requires quadrant { bits % 4 ≡ 0 }
+    requires funct3 { bits / 2 ^ 13 ≡ 3 }
+    ensures { IsForm result bits }
+{
+    Compressed::Ld { rd: short_2(bits), rs1: short_7(bits), offset: double_offset(bits) }
+}
+
+fn sw(bits: u32) -> Compressed
+    requires size { bits < 2 ^ 16 }
+    requires quadrant { bits % 4 ≡ 0 }
+    requires funct3 { bits / 2 ^ 13 ≡ 6 }
+    ensures { IsForm result bits }
+{
+    Compressed::Sw { rs1: short_7(bits), rs2: short_2(bits), offset: word_offset(bits) }
+}
+
+fn sd(bits: u32) -> Compressed
+    requires size { bits < 2 ^ 16 }
+    requires quadrant { bits % 4 ≡ 0 }
+    requires funct3 { bits / 2 ^ 13 ≡ 7 }
+    ensures { IsForm result bits }
+{
+    Compressed::Sd { rs1: short_7(bits), rs2: short_2(bits), offset: double_offset(bits) }
+}
+
+fn quadrant_0(bits: u32) -> Option<Compressed>
+    requires size { bits < 2 ^ 16 }
+    requires quadrant { bits % 4 ≡ 0 }
+    ensures { IsRead result bits }
+{
+    match bits >> 13 {
+        0 => addi4spn(bits),
+        2 => Some(lw(bits)),
+        3 => Some(ld(bits)),
+        6 => Some(sw(bits)),
+        7 => Some(sd(bits)),
+        _ => None,
+    }
+}
+
+fn addi(bits: u32) -> Compressed
+    requires size { bits < 2 ^ 16 }
+    requires quadrant { bits % 4 ≡ 1 }
+    requires funct3 { bits / 2 ^ 13 ≡ 0 }
+    ensures { IsForm result bits }
+{
+    let immediate = signed_6(six(bits));
+    if bits >> 7 & 0x1f == 0 { Compressed::Nop { immediate } } else { Compressed::Addi { rd: any_7(bits), immediate } }
+}
+
+fn addiw(bits: u32) -> Option<Compressed>
+    requires size { bits < 2 ^ 16 }
+    requires quadrant { bits % 4 ≡ 1 }
+    requires funct3 { bits / 2 ^ 13 ≡ 1 }
+    ensures { IsRead result bits }
+{
+    if bits >> 7 & 0x1f == 0 { None } else { Some(Compressed::Addiw { rd: any_7(bits), immediate: signed_6(six(bits)) }) }
+}
+
+fn li(bits: u32) -> Compressed
+    requires size { bits < 2 ^ 16 }
+    requires quadrant { bits % 4 ≡ 1 }
+    requires funct3 { bits / 2 ^ 13 ≡ 2 }
+    ensures { IsForm result bits }
+{
+    Compressed::Li { rd: any_7(bits), immediate: signed_6(six(bits)) }
+}
+
+fn addi16sp(bits: u32) -> Option<Compressed>
+    requires size { bits < 2 ^ 16 }
+    requires quadrant { bits % 4 ≡ 1 }
+    requires funct3 { bits / 2 ^ 13 ≡ 3 }
+    requires rd { bits / 2 ^ 7 % 32 ≡ 2 }
+    ensures { IsRead result bits }
+{
+    let immediate = signed_10(stack_step(bits));
+    if immediate == 0 { None } else { Some(Compressed::Addi16sp { immediate }) }
+}
+
+fn lui(bits: u32) -> Option<Compressed>
+    requires size { bits < 2 ^ 16 }
+    requires quadrant { bits % 4 ≡ 1 }
+    requires funct3 { bits / 2 ^ 13 ≡ 3 }
+    requires rd { bits / 2 ^ 7 % 32 ≢ 2 }
+    ensures { IsRead result bits }
+{
+    let value = six(bits);
+    if value == 0 { None } else { Some(Compressed::Lui { rd: any_7(bits), immediate: upper_20(value) }) }
+}
+
+/// `c.addi16sp` and `c.lui`.
+fn upper(bits: u32) -> Option<Compressed>
+    requires size { bits < 2 ^ 16 }
+    requires quadrant { bits % 4 ≡ 1 }
+    requires funct3 { bits / 2 ^ 13 ≡ 3 }
+    ensures { IsRead result bits }
+{
+    if bits >> 7 & 0x1f == 2 { addi16sp(bits) } else { lui(bits) }
+}
+
+fn srli(bits: u32) -> Compressed
+    requires size { bits < 2 ^ 16 }
+    requires quadrant { bits % 4 ≡ 1 }
+    requires funct3 { bits / 2 ^ 13 ≡ 4 }
+    requires funct2 { bits / 2 ^ 10 % 4 ≡ 0 }
+    ensures { IsForm result bits }
+{
+    Compressed::Srli { rd: short_7(bits), amount: six(bits) as u8 }
+}
+
+fn srai(bits: u32) -> Compressed
+    requires size { bits < 2 ^ 16 }
+    requires quadrant { bits % 4 ≡ 1 }
+    requires funct3 { bits / 2 ^ 13 ≡ 4 }
+    requires funct2 { bits / 2 ^ 10 % 4 ≡ 1 }
+    ensures { IsForm result bits }
+{
+    Compressed::Srai { rd: short_7(bits), amount: six(bits) as u8 }
+}
+
+fn andi(bits: u32) -> Compressed
+    requires size { bits < 2 ^ 16 }
+    requires quadrant { bits % 4 ≡ 1 }
+    requires funct3 { bits / 2 ^ 13 ≡ 4 }
+    requires funct2 { bits / 2 ^ 10 % 4 ≡ 2 }
+    ensures { IsForm result bits }
+{
+    Compressed::Andi { rd: short_7(bits), immediate: signed_6(six(bits)) }
+}
+
+/// Arithmetic over 64 bits.
+fn full_arithmetic(bits: u32) -> Compressed
+    requires size { bits < 2 ^ 16 }
+    requires quadrant { bits % 4 ≡ 1 }
+    requires funct3 { bits / 2 ^ 13 ≡ 4 }
+    requires funct2 { bits / 2 ^ 10 % 4 ≡ 3 }
+    requires bit_12 { bits / 2 ^ 12 % 2 ≡ 0 }
+    ensures { IsForm result bits }
+{
+    let rd = short_7(bits);
+    let rs2 = short_2(bits);
+    match bits >> 5 & 3 {
+        0 => Compressed::Sub { rd, rs2 },
+        1 => Compressed::Xor { rd, rs2 },
+        2 => Compressed::Or { rd, rs2 },
+        _ => Compressed::And { rd, rs2 },
+    }
+}
+
+/// Arithmetic over 32 bits.
+fn word_arithmetic(bits: u32) -> Option<Compressed>
+    requires size { bits < 2 ^ 16 }
+    requires quadrant { bits % 4 ≡ 1 }
+    requires funct3 { bits / 2 ^ 13 ≡ 4 }
+    requires funct2 { bits / 2 ^ 10 % 4 ≡ 3 }
+    requires bit_12 { bits / 2 ^ 12 % 2 ≡ 1 }
+    ensures { IsRead result bits }
+{
+    let rd = short_7(bits);
+    let rs2 = short_2(bits);
+    match bits >> 5 & 3 {
+        0 => Some(Compressed::Subw { rd, rs2 }),
+        1 => Some(Compressed::Addw { rd, rs2 }),
+        _ => None,
+    }
+}
+
+fn arithmetic(bits: u32) -> Option<Compressed>
+    requires size { bits < 2 ^ 16 }
+    requires quadrant { bits % 4 ≡ 1 }
+    requires funct3 { bits / 2 ^ 13 ≡ 4 }
+    requires funct2 { bits / 2 ^ 10 % 4 ≡ 3 }
+    ensures { IsRead result bits }
+{
+    if bits >> 12 & 1 == 0 { Some(full_arithmetic(bits)) } else { word_arithmetic(bits) }
+}
+
+/// Shifts, `c.andi` and arithmetic of x8 to x15.
+fn short_arithmetic(bits: u32) -> Option<Compressed>
+    requires size { bits < 2 ^ 16 }
+    requires quadrant { bits % 4 ≡ 1 }
+    requires funct3 { bits / 2 ^ 13 ≡ 4 }
+    ensures { IsRead result bits }
+{
+    match bits >> 10 & 3 {
+        0 => Some(srli(bits)),
+        1 => Some(srai(bits)),
+        2 => Some(andi(bits)),
+        _ => arithmetic(bits),
+    }
+}
+
+/// The eleven bits of a jump's offset, at 12:2.
+fn jump_bits(bits: u32) -> u32
+    requires size { bits < 2 ^ 16 }
+    requires quadrant { bits % 4 ≡ 1 }
+    requires funct3 { bits / 2 ^ 13 ≡ 5 }
+    ensures below { result < 2 ^ 11 }
+    ensures rest { bits ≡ 0xa001 + result * 4 }
+{
+    bits >> 2 & 0x7ff
+}
+
+fn j(bits: u32) -> Compressed
+    requires size { bits < 2 ^ 16 }
+    requires quadrant { bits % 4 ≡ 1 }
+    requires funct3 { bits / 2 ^ 13 ≡ 5 }
+    ensures { IsForm result bits }
+{
+    Compressed::J { offset: signed_12(jump_offset(jump_bits(bits))) }
+}
+
+fn beqz(bits: u32) -> Compressed
+    requires size { bits < 2 ^ 16 }
+    requires quadrant { bits % 4 ≡ 1 }
+    requires funct3 { bits / 2 ^ 13 ≡ 6 }
+    ensures { IsForm result bits }
+{
+    Compressed::Beqz { rs1: short_7(bits), offset: signed_9(branch_offset(bits)) }
+}
+
+fn bnez(bits: u32) -> Compressed
+    requires size { bits < 2 ^ 16 }
+    requires quadrant { bits % 4 ≡ 1 }
+    requires funct3 { bits / 2 ^ 13 ≡ 7 }
+    ensures { IsForm result bits }
+{
+    Compressed::Bnez { rs1: short_7(bits), offset: signed_9(branch_offset(bits)) }
+}
+
+fn quadrant_1(bits: u32) -> Option<Compressed>
+    requires size { bits < 2 ^ 16 }
+    requires quadrant { bits % 4 ≡ 1 }
+    ensures { IsRead result bits }
+{
+    match bits >> 13 {
+        0 => Some(addi(bits)),
+        1 => addiw(bits),
+        2 => Some(li(bits)),
+        3 => upper(bits),
+        4 => short_arithmetic(bits),
+        5 => Some(j(bits)),
+        6 => Some(beqz(bits)),
+        _ => Some(bnez(bits)),
+    }
+}
+
+fn slli(bits: u32) -> Compressed
+    requires size { bits < 2 ^ 16 }
+    requires quadrant { bits % 4 ≡ 2 }
+    requires funct3 { bits / 2 ^ 13 ≡ 0 }
+    ensures { IsForm result bits }
+{
+    Compressed::Slli { rd: any_7(bits), amount: six(bits) as u8 }
+}
+
+fn lwsp(bits: u32) -> Option<Compressed>
+    requires size { bits < 2 ^ 16 }
+    requires quadrant { bits % 4 ≡ 2 }
+    requires funct3 { bits / 2 ^ 13 ≡ 2 }
+    ensures { IsRead result bits }
+{
+    if bits >> 7 & 0x1f == 0 { None } else { Some(Compressed::Lwsp { rd: any_7(bits), offset: word_load(bits) }) }
+}
+
+fn ldsp(bits: u32) -> Option<Compressed>
+    requires size { bits < 2 ^ 16 }
+    requires quadrant { bits % 4 ≡ 2 }
+    requires funct3 { bits / 2 ^ 13 ≡ 3 }
+    ensures { IsRead result bits }
+{
+    if bits >> 7 & 0x1f == 0 { None } else { Some(Compressed::Ldsp { rd: any_7(bits), offset: double_load(bits) }) }
+}
+
+/// `c.mv` and `c.jr`.
+fn move_or_jump(bits: u32) -> Option<Compressed>
+    requires size { bits < 2 ^ 16 }
+    requires quadrant { bits % 4 ≡ 2 }
+    requires funct3 { bits / 2 ^ 13 ≡ 4 }
+    requires bit_12 { bits / 2 ^ 12 % 2 ≡ 0 }
+    ensures { IsRead result bits }
+{
+    if bits >> 2 & 0x1f != 0 {
+        Some(Compressed::Mv { rd: any_7(bits), rs2: any_2(bits) })
+    } else if bits >> 7 & 0x1f != 0 {
+        Some(Compressed::Jr { rs1: any_7(bits) })
+    } else {
+        None
+    }
+}
+
+/// `c.add`, `c.jalr` and `c.ebreak`.
+fn add_or_call(bits: u32) -> Compressed
+    requires size { bits < 2 ^ 16 }
+    requires quadrant { bits % 4 ≡ 2 }
+    requires funct3 { bits / 2 ^ 13 ≡ 4 }
+    requires bit_12 { bits / 2 ^ 12 % 2 ≡ 1 }
+    ensures { IsForm result bits }
+{
+    if bits >> 2 & 0x1f != 0 {
+        Compressed::Add { rd: any_7(bits), rs2: any_2(bits) }
+    } else if bits >> 7 & 0x1f != 0 {
+        Compressed::Jalr { rs1: any_7(bits) }
+    } else {
+        Compressed::Ebreak
+    }
+}
+
+/// The forms with two registers of five bits.
+fn registers(bits: u32) -> Option<Compressed>
+    requires size { bits < 2 ^ 16 }
+    requires quadrant { bits % 4 ≡ 2 }
+    requires funct3 { bits / 2 ^ 13 ≡ 4 }
+    ensures { IsRead result bits }
+{
+    if bits >> 12 & 1 == 0 { move_or_jump(bits) } else { Some(add_or_call(bits)) }
+}
+
+fn swsp(bits: u32) -> Compressed
+    requires size { bits < 2 ^ 16 }
+    requires quadrant { bits % 4 ≡ 2 }
+    requires funct3 { bits / 2 ^ 13 ≡ 6 }
+    ensures { IsForm result bits }
+{
+    Compressed::Swsp { rs2: any_2(bits), offset: word_store(bits) }
+}
+
+fn sdsp(bits: u32) -> Compressed
+    requires size { bits < 2 ^ 16 }
+    requires quadrant { bits % 4 ≡ 2 }
+    requires funct3 { bits / 2 ^ 13 ≡ 7 }
+    ensures { IsForm result bits }
+{
+    Compressed::Sdsp { rs2: any_2(bits), offset: double_store(bits) }
+}
+
+fn quadrant_2(bits: u32) -> Option<Compressed>
+    requires size { bits < 2 ^ 16 }
+    requires quadrant { bits % 4 ≡ 2 }
+    ensures { IsRead result bits }
+{
+    match bits >> 13 {
+        0 => Some(slli(bits)),
+        2 => lwsp(bits),
+        3 => ldsp(bits),
+        4 => registers(bits),
+        6 => Some(swsp(bits)),
+        7 => Some(sdsp(bits)),
+        _ => None,
+    }
+}
+
+/// The form that a parcel spells, with its operands; HINTs are forms, reserved parcels and 0 none.
+///
+/// Unprivileged ISA 20191213, section 16.8.
+pub fn read(parcel: u16) -> Option<Compressed>
+    ensures { IsRead result parcel }
+{
+    let bits = u32::from(parcel);
+    match bits & 3 {
+        0 => quadrant_0(bits),
+        1 => quadrant_1(bits),
+        2 => quadrant_2(bits),
+        _ => None,
+    }
+}

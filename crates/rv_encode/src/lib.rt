@@ -1,0 +1,9 @@
+//! RV64IMA's instructions as 32-bit words and back.
+//!
+//! Source: RISC-V Unprivileged ISA 20191213, section 2.2 (formats) and chapter 24 (the table).
+#![tactic(auto)]
+
+mod encoding;
+mod signed;
+
+pub use encoding::encode;

@@ -1,0 +1,6 @@
+//! A hart that runs an image.
+//!
+//! Source: RISC-V Unprivileged ISA 20191213, chapters 2, 5, 7 and 8.
+#![tactic(auto)]
+
+mod alu;

@@ -1,0 +1,31 @@
+use Rattle.std.proofs.Common.{◌≡◌, ℕ, suc, ◌<◌, true, List, ◌∷◌, Some, map, length, get_or, drop, drop-cons, slice_get, arith}
+use Rattle.std.proofs.lemmas.Option.{slice_get-get_or}
+use Rattle.std.proofs.lemmas.List.{get_or-map, length-map}
+use Rattle.rv_image.specs.Segment.{segment_of}
+use Rattle.rv_image.specs.declared.segment.Segment.{Segment as DeclaredSegment}
+use Rattle.rv_memory.specs.Flat.{segment_at, holds}
+use Rattle.rv_memory.proofs.flat.Flat.position.Goals as goal
+
+-- the element at i, as the segments' plain values have it
+element : (xs : List DeclaredSegment) (i : ℕ) (s : DeclaredSegment) → i < length xs → s ≡ get_or xs i s →
+    slice_get (map segment_of xs) i ≡ Some (segment_of s)
+element xs i s within is =
+    let far : i < length (map segment_of xs) = simp length-map within in
+    let e : slice_get (map segment_of xs) i ≡ Some (get_or (map segment_of xs) i (segment_of s)) = slice_get-get_or (map segment_of xs) i (segment_of s) far in
+    let f : get_or (map segment_of xs) i (segment_of s) ≡ segment_of (get_or xs i s) = get_or-map segment_of xs i s (segment_of s) within in
+    cc
+
+-- where the segments before i do not hold the address and this one does, it is the one
+here : (xs : List DeclaredSegment) (i a : ℕ) (s : DeclaredSegment) → i < length xs → s ≡ get_or xs i s → holds (segment_of s) a ≡ true →
+    segment_at (map segment_of (drop i xs)) a ≡ segment_at (map segment_of xs) a →
+    segment_at (map segment_of xs) a ≡ slice_get (map segment_of xs) i
+here xs i a s within is held left =
+    let e : drop i xs ≡ get_or xs i s ∷ drop (suc i) xs = drop-cons xs i s within in
+    let d : drop i xs ≡ s ∷ drop (suc i) xs = cc in
+    let f : segment_at (map segment_of (drop i xs)) a ≡ Some (segment_of s) = rw d (rw held) in
+    let g = element xs i s within is in
+    cc
+
+pub returns-then-is_held-clause-found : goal.returns-then-is_held-clause-found
+returns-then-is_held-clause-found c =
+    here c.args.self.now.segments.items c.loop-i.i c.args.address c.segment-item.result (omega arith) (cc) (cc) c.loop-i.invariant

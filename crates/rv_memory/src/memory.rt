@@ -1,0 +1,37 @@
+//! What a hart asks of its memory.
+
+ghost use Rattle.std.specs.Prelude.{◌≡◌, true};
+ghost use Rattle.rv_isa_laws.specs.Memory.{Mem, may, number_at, with_number, Write as ToWrite};
+ghost use Rattle.rv_memory.specs.Rights.{right_of, IsWidth, MayLoad};
+
+/// What may be done with a byte: the segment flags PF_R, PF_W and PF_X (gABI, program header).
+#[derive(Clone, Copy, Debug, PartialEq, Eq, Drop)]
+pub enum Right {
+    Read,
+    Write,
+    Execute,
+}
+
+/// Bytes with rights at the addresses 0 to 2^64 - 1. A range of addresses goes on from the last
+/// address to 0 (ISA, 1.4).
+pub trait Memory {
+    /// The bytes and their rights.
+    ghost mem: { Self → Mem };
+
+    /// Whether all `bytes` bytes from `address` have the right; of no byte, always.
+    fn may(&self, address: u64, bytes: u64, right: Right) -> bool
+        ensures { result ≡ may (mem self.now) address bytes (right_of right) };
+
+    /// The little-endian number of 1, 2, 4 or 8 bytes, all of which may be read or all executed.
+    fn load(&self, address: u64, bytes: u64) -> u64
+        requires width { IsWidth bytes }
+        requires may { MayLoad (mem self.now) address bytes }
+        ensures { result ≡ number_at (mem self.now) address bytes };
+
+    /// Puts the low 1, 2, 4 or 8 bytes of a number, the lowest first, where all may be written.
+    /// Nothing else changes, and no right.
+    fn store(&mut self, address: u64, bytes: u64, value: u64)
+        requires width { IsWidth bytes }
+        requires may { may (mem self.old) address bytes ToWrite ≡ true }
+        ensures { mem self.new ≡ with_number (mem self.old) address bytes value };
+}

@@ -1,0 +1,4 @@
+pub mod Cut
+pub mod Runs
+pub mod Atoms
+pub mod Numbers
