@@ -8,3 +8,4 @@ pub mod FirstFault
 pub mod Executable
 pub use Rattle.rv_map.specs.Map
 pub use Rattle.rv_map.specs.Text
+pub mod Memory
