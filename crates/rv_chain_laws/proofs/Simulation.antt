@@ -27,7 +27,7 @@ use Rattle.rv_chain_laws.proofs.Even.{IsEven}
 use Rattle.rv_chain_laws.proofs.Alike.{Beside, Alike, apply_alike}
 use Rattle.rv_chain_laws.proofs.Onward.{OnNext, IsKept, apply_on, both_goes}
 use Rattle.rv_chain_laws.proofs.Fetch.{Text, no_right, fetched}
-use Rattle.rv_chain_laws.proofs.Walk.{Walked, Steady, walk, walk_steady, walk_runs, walk_limits}
+use Rattle.rv_chain_laws.proofs.Walk.{Walked, Steady, walk, walk_one, walk_steady, walk_runs, walk_limits}
 use Rattle.rv_chain_laws.proofs.Obligations.{Does, does}
 
 front_self : (xs : List ℕ) → IsFront xs xs
@@ -137,8 +137,8 @@ module _ {Spells StandsFor : ℕ → Inst → Type 0} (reader : Reader Spells St
     follow_alike most left le ih h (Over e) (Over f) a good = inl (ap (λ q. stop h q) (sym a))
 
     -- a statement whose lines stand in memory
-    starts_turn : (most left : ℕ) → left ≤ suc most → AgreeWithin most → (h : Hart) (m s : Mem) → Follows m s → IsEven h → (site : Site) → 0 < site.row.bytes → site.row.address ≡ h.pc → (holds : HoldsLines reader first p site) → Does (meaning p site) site.row.instructions site.row.address holds.lines → 1 ≤ site.row.instructions → Agrees (turn most (Starts site) left h s) (run reader left h m)
-    starts_turn most left le ih h m s b even site some at holds d costs = by (cases_Bool (nat_le site.row.instructions left))
+    starts_turn : (most left : ℕ) → left ≤ suc most → AgreeWithin most → (h : Hart) (m s : Mem) → Follows m s → IsEven h → (site : Site) → 0 < site.row.bytes → site.row.address ≡ h.pc → (holds : HoldsLines reader first p site) → Does (meaning p site) (cost p site) site.row.address holds.lines → Agrees (turn most (Starts site) left h s) (run reader left h m)
+    starts_turn most left le ih h m s b even site some at holds d = by (cases_Bool (nat_le (cost p site h) left))
       where
         stand : AllByRecursion (StandsIn reader first) (d.first ∷ d.others)
         stand = subst (λ l. AllByRecursion (StandsIn reader first) l) d.are holds.stand
@@ -153,10 +153,11 @@ module _ {Spells StandsFor : ℕ → Inst → Type 0} (reader : Reader Spells St
                 (subst (λ w. GoesOn (Steady h) w.effect) (d.walks h) (walk_steady reader (right_at p.map) first r.rights d.others d.first h stand even))
                 (subst (λ w. GoesOn (Steady h) w.effect) (d.walks h) (walk_steady reader (right_at p.map) first r.rights d.others d.first h stand even)))
 
-        by : (nat_le site.row.instructions left ≡ true) ⊎ (nat_le site.row.instructions left ≡ false) → Agrees (turn most (Starts site) left h s) (run reader left h m)
+        by : (nat_le (cost p site h) left ≡ true) ⊎ (nat_le (cost p site h) left ≡ false) → Agrees (turn most (Starts site) left h s) (run reader left h m)
         by (inl enough) =
-            let c = site.row.instructions in
+            let c = cost p site h in
             let le' : c ≤ left = leb-true c left enough in
+            let one : 1 ≤ c = subst (λ (w : Walked). 1 ≤ w.count) (d.walks h) (walk_one d.first d.others h) in
             let whole : left ≡ c + (left - c) = omega arith in
             let runs = subst (λ (w : Walked). run reader (w.count + (left - c)) h m ≡ follow (apply w.effect m) h (run reader (left - c))) (d.walks h) (walk_runs reader (right_at p.map) first r.rights m (text_of m s b) d.others d.first h stand pc even (left - c)) in
             let machine : run reader left h m ≡ follow (apply (meaning p site h) m) h (run reader (left - c)) = ap (λ k. run reader k h m) whole ∙ runs in
@@ -165,15 +166,10 @@ module _ {Spells StandsFor : ℕ → Inst → Type 0} (reader : Reader Spells St
                 (follow_alike most (left - c) (omega arith) ih h (apply (meaning p site h) m) (apply (meaning p site h) s)
                   (apply_alike (right_at p.map) r.fixed first (meaning p site h) m s b) good))
         by (inr short) =
-            let c = site.row.instructions in
+            let c = cost p site h in
             let lt : left < c = leb-false c left short in
             let limits = subst (λ (w : Walked). left < w.count → run reader left h m ≡ stop h Limit) (d.walks h) (walk_limits reader (right_at p.map) first r.rights m (text_of m s b) d.others d.first h stand pc even left) in
             inl (ap (λ t. if t then follow (step_at p (Starts site) h s) h (steps most p (left - c)) else stop h Limit) short ∙ sym (limits lt))
-
-    -- one instruction or more runs where there are bytes
-    costs_one : (o : Option (List Inst)) (site : Site) → IsRowOf o site.row → 0 < site.row.bytes → 1 ≤ site.row.instructions
-    costs_one None site fits some = absurd fits
-    costs_one (Some is) site fits some = omega arith
 
     any_turn : (most left : ℕ) → left ≤ suc most → AgreeWithin most → (h : Hart) (m s : Mem) → Follows m s → h.pc < 2 ^ 64 → IsEven h → (here : Place) → place p h.pc ≡ here → Agrees (turn most here left h s) (run reader left h m)
     any_turn most left le ih h m s b pc even Outside e = outside_turn most left h m s b pc e
@@ -186,7 +182,6 @@ module _ {Spells StandsFor : ℕ → Inst → Type 0} (reader : Reader Spells St
         let holds = r.rows h.pc site pc e in
         starts_turn most left le ih h m s b even site some (eqb-true site.row.address h.pc parts.1) holds
           (does p site holds.lines holds.are_lines holds.size some)
-          (costs_one _ site holds.size some)
 
     pub simulates : (most : ℕ) → AgreeWithin most
     simulates zero zero le h m s b pc even = inl refl
@@ -199,3 +194,8 @@ agreement reader m sources map r below even input n =
     simulates reader (program sources map) m r n n (omega arith) (start map.entry input) m (first_memory (program sources map))
       (record { machine = r.rights; source = λ a less right. refl; read = r.bytes; kept = λ a less runs. refl })
       below even
+
+-- an image that holds the program for every reading of it, with the map's entry
+pub agreement_of_image : {Spells StandsFor : ℕ → Inst → Type 0} (sources : List (List Spoken)) (map : Map) (m : Mem) (entry : ℕ) → ((reader : Reader Spells StandsFor) → Realizes reader m (program sources map)) → entry ≡ map.entry → map.entry < 2 ^ 64 → map.entry % 2 ≡ 0 → (reader : Reader Spells StandsFor) (input : List ℕ) (n : ℕ) → Agrees (source_run sources map input n) (machine_run reader m entry input n)
+agreement_of_image sources map m entry realizes same below even reader input n =
+    subst (λ e. Agrees (source_run sources map input n) (machine_run reader m e input n)) (sym same) (agreement reader m sources map (realizes reader) below even input n)

@@ -8,4 +8,6 @@ mod law;
 mod worked;
 
 pub use law::runs_agree;
-pub use worked::{exit255_runs, exit7_fits, exit7_is_limited, exit7_resolves, exit7_runs};
+pub use worked::{
+    exit255_runs, exit7_fits, exit7_is_limited, exit7_resolves, exit7_runs, exit7_shows, two_files_run,
+};
