@@ -65,9 +65,9 @@ module _ {Spells StandsFor : ℕ → Inst → Type 0} (reader : Reader Spells St
     no_right m same a none = no_right_of m a (m.byte (a % 2 ^ 64) % 4 == 3) (same (a % 2 ^ 64) (wraps a) Execute ∙ none)
 
     -- what was fetched at first is fetched at any time
-    pub fetched : (m : Mem) → Text has first m → (a : ℕ) (i : Inst) (b : ℕ) → fetch reader first a ≡ Got i b → fetch reader m a ≡ Got i b
-    fetched m text a i b e = by (cases_Bool (has (a % 2 ^ 64) Execute))
+    pub fetched : (m : Mem) → Text has first m → (a : ℕ) (x : Fetched) → (x ≡ NoRight → ⊥) → fetch reader first a ≡ x → fetch reader m a ≡ x
+    fetched m text a x other e = by (cases_Bool (has (a % 2 ^ 64) Execute))
       where
-        by : (has (a % 2 ^ 64) Execute ≡ true) ⊎ (has (a % 2 ^ 64) Execute ≡ false) → fetch reader m a ≡ Got i b
+        by : (has (a % 2 ^ 64) Execute ≡ true) ⊎ (has (a % 2 ^ 64) Execute ≡ false) → fetch reader m a ≡ x
         by (inl runs) = fetch_kept m text a runs ∙ e
-        by (inr none) = absurd (let f : fetch reader first a ≡ NoRight = no_right first rights a none in cc)
+        by (inr none) = absurd (other (sym e ∙ no_right first rights a none))

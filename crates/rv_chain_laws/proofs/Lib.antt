@@ -8,3 +8,5 @@ pub mod Fetch
 pub mod Walk
 pub mod AssembledCode
 pub mod AssembledMemory
+pub mod Obligations
+pub mod Simulation

@@ -1,6 +1,6 @@
 -- The lines of a statement one after another: what they come to, and that a run of the machine over them comes to the same.
 
-use Rattle.std.proofs.Common.{◌≡◌, ℕ, zero, suc, ◌+◌, ◌%◌, ◌^◌, ◌<◌, Bool, true, false, List, [], ◌∷◌, refl, sym, ap, ◌∙◌, subst, arith}
+use Rattle.std.proofs.Common.{◌≡◌, ℕ, zero, suc, ◌+◌, ◌%◌, ◌^◌, ◌<◌, ◌≤◌, Bool, true, false, List, [], ◌∷◌, refl, sym, ap, ◌∙◌, subst, arith}
 use Rattle.std.specs.Prelude.{◌==◌, if◌then◌else◌}
 use Rattle.std.specs.List.{AllByRecursion}
 use Rattle.std.proofs.lemmas.Bool.{eqb-true}
@@ -12,7 +12,7 @@ use Rattle.rv_isa_laws.specs.Meaning.{effect}
 use Rattle.rv_isa_laws.specs.Kept.{GoesOn, Kept}
 use Rattle.rv_isa_laws.proofs.EffectLaws.{effect_keeps}
 use Rattle.rv_machine_laws.specs.Reader.{Reader}
-use Rattle.rv_machine_laws.specs.Run.{fetch, step, run, done}
+use Rattle.rv_machine_laws.specs.Run.{Got, NoRight, fetch, step, run, done}
 use Rattle.rv_chain_laws.specs.Meaning.{Line}
 use Rattle.rv_chain_laws.specs.Realizes.{StandsIn}
 use Rattle.rv_chain_laws.proofs.Even.{IsEven, effect_even}
@@ -44,6 +44,25 @@ then_walk Breaks _ go = once Breaks
 abbrev pub walk : Line → List Line → Hart → Walked
 walk l [] h = once (effect l.instruction l.bytes h)
 walk l (k ∷ ls) h = then_walk (effect l.instruction l.bytes h) k.address (walk k ls)
+
+one_more : (t : Bool) (w : Walked) (e : Effect) → 1 ≤ (if t then more w else once e).count
+one_more true w e = omega arith
+one_more false w e = omega arith
+
+one_then : (e : Effect) (next : ℕ) (go : Hart → Walked) → 1 ≤ (then_walk e next go).count
+one_then (Goes g) next go = one_more (g.pc == next) (go g) (Goes g)
+one_then (Loads a n k) next go = omega arith
+one_then (Stores a n v k) next go = omega arith
+one_then (Reserves a n k) next go = omega arith
+one_then (Conditional a n v reserved k) next go = omega arith
+one_then (Updates a n new k) next go = omega arith
+one_then (Calls k) next go = omega arith
+one_then Breaks next go = omega arith
+
+-- a walk runs one line or more
+pub walk_one : (l : Line) (ls : List Line) (h : Hart) → 1 ≤ (walk l ls h).count
+walk_one l [] h = omega arith
+walk_one l (k ∷ ls) h = one_then (effect l.instruction l.bytes h) k.address (walk k ls)
 
 -- the hart goes on with the console that it has, to an even address below 2 ^ 64
 pub record Steady (h g : Hart) : Type 0 where
@@ -87,7 +106,7 @@ module _ {Spells StandsFor : ℕ → Inst → Type 0} (reader : Reader Spells St
   module _ (m : Mem) (text : Text has first m) where
     line_step : (l : Line) (h : Hart) → StandsIn reader first l → h.pc ≡ l.address → step reader h m ≡ apply (effect l.instruction l.bytes h) m
     line_step l h stands e =
-        ap (λ a. done (fetch reader m a) h m) e ∙ ap (λ f. done f h m) (fetched reader has first rights m text l.address l.instruction l.bytes stands.0)
+        ap (λ a. done (fetch reader m a) h m) e ∙ ap (λ f. done f h m) (fetched reader has first rights m text l.address (Got l.instruction l.bytes) (λ e. cc) stands.0)
 
     -- the machine runs the lines and comes to the effect of the last
     abbrev Runs : Walked → Hart → Type 0

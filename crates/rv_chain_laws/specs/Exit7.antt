@@ -92,3 +92,31 @@ exit255_map = record exit7_map {
 
 abbrev pub exits : ℕ → Outcome
 exits code = record { console = []; «end» = Exited code }
+
+-- the two lines that end it in a file of their own: the run goes on from the one file to the next
+abbrev pub first_file : List Spoken
+first_file =
+    said 1 Norvc
+    ∷ said 2 (Globl (codes "_start" ∷ []))
+    ∷ said 3 (Label (codes "_start"))
+    ∷ said 3 (load 10 7)
+    ∷ []
+
+abbrev pub second_file : List Spoken
+second_file =
+    said 1 Norvc
+    ∷ said 2 (load 17 93)
+    ∷ said 3 (Instruction Ecall [])
+    ∷ []
+
+abbrev pub two_files_map : Map
+two_files_map = record exit7_map {
+    rows = row 1 3 3 0x10000 0 0
+        ∷ row 1 3 4 0x10000 4 1
+        ∷ row 2 2 2 0x10004 4 1
+        ∷ row 2 3 3 0x10008 4 1
+        ∷ [] }
+
+-- the map's text
+abbrev pub exit7_text : List ℕ
+exit7_text = codes "rvmap 1\ntext 10000 1000c\nrodata 11000 11000\ndata 11000 11000\nbss 11000 11000\nentry 10000\nglobal _start 10000\nglobal _etext 1000c\nglobal __bss_start 11000\nglobal _edata 11000\nglobal _end 11000\nglobal __global_pointer$ 11800\nrow 1 3 3 10000 0 0\nrow 1 3 4 10000 4 1\nrow 1 4 5 10004 4 1\nrow 1 5 6 10008 4 1\n"

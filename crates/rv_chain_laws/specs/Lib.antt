@@ -5,7 +5,6 @@ pub mod Fits
 pub mod Resolves
 pub mod Start
 pub mod SourceRun
-pub mod ImageMemory
 pub mod Realizes
 pub mod Agrees
 pub mod Headline

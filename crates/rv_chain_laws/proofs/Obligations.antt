@@ -1,0 +1,95 @@
+-- Each kind of statement: its lines one after another come to its meaning and its cost.
+
+use Rattle.std.proofs.Common.{◌≡◌, ℕ, zero, suc, ◌+◌, ◌-◌, ◌*◌, ◌%◌, ◌^◌, ◌<◌, ◌≤◌, Bool, true, false, List, [], ◌∷◌, Option, Some, None, length, refl, sym, ap, ◌∙◌, subst, arith, ℤ, pos, negsuc}
+use Rattle.std.specs.Prelude.{map, nat_lt, if◌then◌else◌, ◌-ℤ◌}
+use Rattle.std.proofs.lemmas.Bool.{ltb-true, ltb-false}
+use Rattle.rv_isa.specs.declared.instruction.Inst.{Inst}
+use Rattle.rv_isa.specs.declared.instruction.Inst.TheVariants.{Ecall as Call}
+use Rattle.rv_isa_laws.specs.Arithmetic.{wrapped, sum_of}
+use Rattle.rv_isa_laws.specs.Hart.{Hart, with_register, advanced}
+use Rattle.rv_isa_laws.specs.Effect.{Effect, Goes}
+use Rattle.rv_isa_laws.specs.Meaning.{effect, sets}
+use Rattle.rv_parse_laws.specs.Statement.{Statement, Label, Norvc, Globl, Instruction, Mnemonic, Addi, Ecall, Li, Operand, Register, Value, Expression}
+use Rattle.rv_parse_laws.specs.Value.{signed}
+use Rattle.rv_chain_laws.specs.Sites.{Site, Program, value}
+use Rattle.rv_chain_laws.specs.Meaning.{Line, Lie, AreLines, add_immediate, run_spoken, run_said, meaning, cost, fits_12, add_zero, expanded, expanded_said, expansion}
+use Rattle.rv_chain_laws.specs.Fits.{IsRowOf, SizeFits}
+use Rattle.rv_chain_laws.proofs.Walk.{Walked, walk}
+
+abbrev walked : Effect → ℕ → Walked
+walked e count = record { effect = e; count = count }
+
+-- the lines of a statement in so many bytes at an address: a first one, others, and what a walk over them comes to
+pub record Does (meant : Hart → Effect) (count : Hart → ℕ) (address : ℕ) (lines : List Line) : Type 0 where
+  pub first : Line
+  pub others : List Line
+  pub are : lines ≡ first ∷ others
+  pub starts : first.address ≡ address
+  pub walks : (h : Hart) → walk first others h ≡ record { effect = meant h; count = count h }
+
+-- a statement without instructions has no bytes
+no_lines : (meant : Hart → Effect) (count address bytes : ℕ) (lines : List Line) → Some [] ≡ Some (map (λ (l : Line). l.instruction) lines) → Lie address lines (address + bytes) → 0 < bytes → Does meant (λ h. count) address lines
+no_lines meant count address bytes [] e lie some = absurd (omega arith)
+no_lines meant count address bytes (l ∷ ls) e lie some = absurd (cc)
+
+-- a statement of one instruction does what that does
+one_line : (i : Inst) (meant : Hart → Effect) (count address bytes : ℕ) (lines : List Line) → Some (i ∷ []) ≡ Some (map (λ (l : Line). l.instruction) lines) → Lie address lines (address + bytes) → count ≡ length (map (λ (l : Line). l.instruction) lines) → ((h : Hart) → effect i bytes h ≡ meant h) → Does meant (λ h. count) address lines
+one_line i meant count address bytes [] e lie n same = absurd (cc)
+one_line i meant count address bytes (l ∷ []) e lie n same =
+    let is : l.instruction ≡ i = cc in
+    let all : l.bytes ≡ bytes = omega arith in
+    record {
+      first = l;
+      others = [];
+      are = refl;
+      starts = lie.0;
+      walks = λ h. ap (λ j. walked (effect j l.bytes h) 1) is ∙ ap (λ b. walked (effect i b h) 1) all ∙ ap (λ x. walked x 1) (same h) ∙ ap (walked (meant h)) (sym n) }
+one_line i meant count address bytes (l ∷ k ∷ ls) e lie n same = absurd (cc)
+
+wrapped_if : (t : Bool) (y z : ℤ) (n : ℕ) → (t ≡ true → wrapped y ≡ n) → (t ≡ false → wrapped z ≡ n) → wrapped (if t then y else z) ≡ n
+wrapped_if true y z n f g = f refl
+wrapped_if false y z n f g = g refl
+
+-- a number taken as signed is the same modulo 2 ^ 64
+wrapped_signed : (k : ℕ) → wrapped (signed k) ≡ k % 2 ^ 64
+wrapped_signed k =
+    wrapped_if (nat_lt k (2 ^ 63)) (pos k) (pos k -ℤ pos (2 ^ 64)) (k % 2 ^ 64) (λ t. refl)
+      (λ t. wrapped_if (nat_lt k (2 ^ 64)) (negsuc (2 ^ 64 - suc k)) (pos (k - 2 ^ 64)) (k % 2 ^ 64)
+        (λ u. let below : k < 2 ^ 64 = ltb-true k (2 ^ 64) u in omega arith)
+        (λ u. let above : 2 ^ 64 ≤ k = ltb-false k (2 ^ 64) u in omega arith))
+
+-- `addi rd, x0, k` sets rd to k
+adds_to_zero : (rd k bytes : ℕ) (h : Hart) → effect (add_immediate rd 0 k) bytes h ≡ sets bytes h rd k
+adds_to_zero rd k bytes h =
+    let w = wrapped_signed k in
+    let e : sum_of 0 (wrapped (signed k)) % 2 ^ 64 ≡ k % 2 ^ 64 = omega arith in
+    set_same rd _ _ bytes h e
+  where
+    set_same : (rd a b bytes : ℕ) (h : Hart) → a % 2 ^ 64 ≡ b % 2 ^ 64 → sets bytes h rd a ≡ sets bytes h rd b
+    set_same rd a b bytes h e = ap (λ v. Goes (advanced (with_register h rd v) bytes)) e
+
+does_spoken : (v : Expression → ℕ) (mnemonic : Mnemonic) (operands : List Operand) (count address bytes : ℕ) (lines : List Line) → expanded v mnemonic operands ≡ Some (map (λ (l : Line). l.instruction) lines) → Lie address lines (address + bytes) → count ≡ length (map (λ (l : Line). l.instruction) lines) → Does (run_spoken v mnemonic operands bytes) (λ h. count) address lines
+does_spoken v Addi (Register rd ∷ Register rs1 ∷ Value k ∷ []) count address bytes lines e lie n =
+    one_line (add_immediate rd rs1 (v k)) _ count address bytes lines e lie n (λ h. refl)
+does_spoken v Ecall [] count address bytes lines e lie n =
+    one_line Call _ count address bytes lines e lie n (λ h. refl)
+does_spoken v Li (Register rd ∷ Value k ∷ []) count address bytes lines e lie n =
+    load_immediate (nat_lt ((v k + 2 ^ 11) % 2 ^ 64) (2 ^ 12)) rd (v k) count address bytes lines e lie n
+  where
+    load_immediate : (t : Bool) (rd k count address bytes : ℕ) (lines : List Line) → add_zero rd (if t then Some k else None) ≡ Some (map (λ (l : Line). l.instruction) lines) → Lie address lines (address + bytes) → count ≡ length (map (λ (l : Line). l.instruction) lines) → Does (λ h. sets bytes h rd k) (λ h. count) address lines
+    load_immediate true rd k count address bytes lines e lie n =
+        one_line (add_immediate rd 0 k) (λ h. sets bytes h rd k) count address bytes lines e lie n (λ h. adds_to_zero rd k bytes h)
+    load_immediate false rd k count address bytes lines e lie n = absurd (cc)
+does_spoken v mnemonic operands count address bytes lines e lie n = absurd (cc)
+
+does_said : (v : Expression → ℕ) (says : Statement) (count address bytes : ℕ) (lines : List Line) → expanded_said v says ≡ Some (map (λ (l : Line). l.instruction) lines) → Lie address lines (address + bytes) → count ≡ length (map (λ (l : Line). l.instruction) lines) → 0 < bytes → Does (run_said v says bytes) (λ h. count) address lines
+does_said v (Label name) count address bytes lines e lie n some = no_lines _ count address bytes lines e lie some
+does_said v Norvc count address bytes lines e lie n some = no_lines _ count address bytes lines e lie some
+does_said v (Globl names) count address bytes lines e lie n some = no_lines _ count address bytes lines e lie some
+does_said v (Instruction mnemonic operands) count address bytes lines e lie n some = does_spoken v mnemonic operands count address bytes lines e lie n
+
+-- the lines of each statement come to its meaning and its cost
+pub does : (p : Program) (s : Site) (lines : List Line) → AreLines p s lines → SizeFits p s → 0 < s.row.bytes → Does (meaning p s) (cost p s) s.row.address lines
+does p s lines are fits some =
+    let row = subst (λ o. IsRowOf o s.row) are.0 fits in
+    does_said (value p s) s.stated.says s.row.instructions s.row.address s.row.bytes lines are.0 are.1 row.0 some
