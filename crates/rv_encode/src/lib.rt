@@ -3,7 +3,10 @@
 //! Source: RISC-V Unprivileged ISA 20191213, section 2.2 (formats) and chapter 24 (the table).
 #![tactic(auto)]
 
+mod decoding;
 mod encoding;
+mod operands;
 mod signed;
 
+pub use decoding::decode;
 pub use encoding::encode;

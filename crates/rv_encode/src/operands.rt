@@ -1,0 +1,251 @@
+//! Words into operands: the fields of each format, and what they are in the word.
+
+ghost use Rattle.std.specs.Prelude.{◌≡◌, ◌/◌, ◌%◌, ◌^◌, ◌<◌, ◌+◌, ◌*◌};
+ghost use Rattle.rv_isa.specs.Ranges.{
+  IsRType,
+  IsIType,
+  IsShift,
+  IsWordShift,
+  IsSType,
+  IsBType,
+  IsUType,
+  IsJType,
+  IsAtomic,
+  IsReserve,
+  IsFence,
+};
+ghost use Rattle.rv_encode.specs.Word.{
+  word,
+  Register,
+  Immediate,
+  ShiftBy,
+  WordShift,
+  Store,
+  Branch,
+  Upper,
+  Jump,
+  Memory,
+  LoadReserved,
+  Ordering,
+};
+
+use crate::signed::{signed_12, signed_13, signed_21};
+use rv_isa::{Atomic, BType, Fence, IType, JType, RType, Reg, Reserve, SType, Shift, UType};
+
+#[inline]
+pub(crate) fn opcode(bits: u32) -> u32
+    ensures { result ≡ bits % 128 }
+{
+    bits & 0x7f
+}
+
+#[inline]
+pub(crate) fn funct3(bits: u32) -> u32
+    ensures { result ≡ bits / 2 ^ 12 % 8 }
+{
+    bits >> 12 & 7
+}
+
+#[inline]
+pub(crate) fn funct5(bits: u32) -> u32
+    ensures { result ≡ bits / 2 ^ 27 }
+{
+    bits >> 27
+}
+
+#[inline]
+pub(crate) fn funct6(bits: u32) -> u32
+    ensures { result ≡ bits / 2 ^ 26 }
+{
+    bits >> 26
+}
+
+#[inline]
+pub(crate) fn funct7(bits: u32) -> u32
+    ensures { result ≡ bits / 2 ^ 25 }
+{
+    bits >> 25
+}
+
+#[inline]
+fn rd(bits: u32) -> Reg
+    ensures { result ≡ bits / 2 ^ 7 % 32 }
+{
+    Reg::from_low_bits(bits >> 7)
+}
+
+#[inline]
+fn rs1(bits: u32) -> Reg
+    ensures { result ≡ bits / 2 ^ 15 % 32 }
+{
+    Reg::from_low_bits(bits >> 15)
+}
+
+#[inline]
+pub(crate) fn rs2(bits: u32) -> Reg
+    ensures { result ≡ bits / 2 ^ 20 % 32 }
+{
+    Reg::from_low_bits(bits >> 20)
+}
+
+#[inline]
+pub(crate) fn register(bits: u32) -> RType
+    ensures valid { IsRType result }
+    ensures sum { word (Register (bits % 128) (bits / 2 ^ 12 % 8) (bits / 2 ^ 25) result) ≡ bits }
+{
+    RType {
+        rd: rd(bits),
+        rs1: rs1(bits),
+        rs2: rs2(bits),
+    }
+}
+
+#[inline]
+pub(crate) fn immediate(bits: u32) -> IType
+    ensures valid { IsIType result }
+    ensures sum { word (Immediate (bits % 128) (bits / 2 ^ 12 % 8) result) ≡ bits }
+{
+    IType {
+        immediate: signed_12(bits >> 20),
+        rd: rd(bits),
+        rs1: rs1(bits),
+    }
+}
+
+#[inline]
+pub(crate) fn shift_by(bits: u32) -> Shift
+    ensures valid { IsShift result }
+    ensures sum { word (ShiftBy (bits % 128) (bits / 2 ^ 12 % 8) (bits / 2 ^ 26) result) ≡ bits }
+{
+    Shift {
+        rd: rd(bits),
+        rs1: rs1(bits),
+        amount: (bits >> 20 & 0x3f) as u8,
+    }
+}
+
+#[inline]
+pub(crate) fn word_shift(bits: u32) -> Shift
+    ensures valid { IsWordShift result }
+    ensures sum { word (WordShift (bits % 128) (bits / 2 ^ 12 % 8) (bits / 2 ^ 25) result) ≡ bits }
+{
+    Shift {
+        rd: rd(bits),
+        rs1: rs1(bits),
+        amount: (bits >> 20 & 0x1f) as u8,
+    }
+}
+
+#[inline]
+pub(crate) fn store(bits: u32) -> SType
+    ensures valid { IsSType result }
+    ensures sum { word (Store (bits % 128) (bits / 2 ^ 12 % 8) result) ≡ bits }
+{
+    let immediate = bits >> 7 & 0x1f | bits >> 25 << 5;
+    SType {
+        immediate: signed_12(immediate),
+        rs1: rs1(bits),
+        rs2: rs2(bits),
+    }
+}
+
+/// A branch's offset: bit 11 at 7, bits 4:1 from 8, bits 10:5 from 25 and bit 12 at 31.
+#[inline]
+fn branch_offset(bits: u32) -> u32
+    ensures sum { result ≡ bits / 2 ^ 8 % 2 ^ 4 * 2 + bits / 2 ^ 25 % 2 ^ 6 * 2 ^ 5 + bits / 2 ^ 7 % 2 * 2 ^ 11
+        + bits / 2 ^ 31 * 2 ^ 12 }
+    ensures below { result < 2 ^ 13 }
+    ensures even { result % 2 ≡ 0 }
+{
+    (bits >> 8 & 0xf) << 1 | (bits >> 25 & 0x3f) << 5 | (bits >> 7 & 1) << 11 | bits >> 31 << 12
+}
+
+#[inline]
+pub(crate) fn branch(bits: u32) -> BType
+    ensures valid { IsBType result }
+    ensures sum { word (Branch (bits % 128) (bits / 2 ^ 12 % 8) result) ≡ bits }
+{
+    BType {
+        offset: signed_13(branch_offset(bits)),
+        rs1: rs1(bits),
+        rs2: rs2(bits),
+    }
+}
+
+#[inline]
+pub(crate) fn upper(bits: u32) -> UType
+    ensures valid { IsUType result }
+    ensures sum { word (Upper (bits % 128) result) ≡ bits }
+{
+    UType {
+        immediate: bits >> 12,
+        rd: rd(bits),
+    }
+}
+
+/// A jump's offset: bits 19:12 from 12, bit 11 at 20, bits 10:1 from 21 and bit 20 at 31.
+#[inline]
+fn jump_offset(bits: u32) -> u32
+    ensures sum { result ≡ bits / 2 ^ 21 % 2 ^ 10 * 2 + bits / 2 ^ 20 % 2 * 2 ^ 11 + bits / 2 ^ 12 % 2 ^ 8 * 2 ^ 12
+        + bits / 2 ^ 31 * 2 ^ 20 }
+    ensures below { result < 2 ^ 21 }
+    ensures even { result % 2 ≡ 0 }
+{
+    (bits >> 21 & 0x3ff) << 1
+        | (bits >> 20 & 1) << 11
+        | (bits >> 12 & 0xff) << 12
+        | bits >> 31 << 20
+}
+
+#[inline]
+pub(crate) fn jump(bits: u32) -> JType
+    ensures valid { IsJType result }
+    ensures sum { word (Jump (bits % 128) result) ≡ bits }
+{
+    JType {
+        offset: signed_21(jump_offset(bits)),
+        rd: rd(bits),
+    }
+}
+
+#[inline]
+pub(crate) fn memory(bits: u32) -> Atomic
+    ensures valid { IsAtomic result }
+    ensures sum { word (Memory (bits % 128) (bits / 2 ^ 12 % 8) (bits / 2 ^ 27) result) ≡ bits }
+{
+    Atomic {
+        rd: rd(bits),
+        rs1: rs1(bits),
+        rs2: rs2(bits),
+        acquire: bits >> 26 & 1 == 1,
+        release: bits >> 25 & 1 == 1,
+    }
+}
+
+#[inline]
+pub(crate) fn load_reserved(bits: u32) -> Reserve
+    requires { bits / 2 ^ 20 % 32 ≡ 0 }
+    ensures valid { IsReserve result }
+    ensures sum { word (LoadReserved (bits % 128) (bits / 2 ^ 12 % 8) (bits / 2 ^ 27) result) ≡ bits }
+{
+    Reserve {
+        rd: rd(bits),
+        rs1: rs1(bits),
+        acquire: bits >> 26 & 1 == 1,
+        release: bits >> 25 & 1 == 1,
+    }
+}
+
+#[inline]
+pub(crate) fn ordering(bits: u32) -> Fence
+    ensures valid { IsFence result }
+    ensures sum { word (Ordering (bits % 128) (bits / 2 ^ 12 % 8) result) ≡ bits }
+{
+    Fence {
+        fm: (bits >> 28) as u8,
+        pred: (bits >> 24 & 0xf) as u8,
+        succ: (bits >> 20 & 0xf) as u8,
+        rs1: rs1(bits),
+        rd: rd(bits),
+    }
+}
