@@ -10,3 +10,4 @@ pub mod AssembledCode
 pub mod AssembledMemory
 pub mod Obligations
 pub mod Simulation
+pub mod Assembled

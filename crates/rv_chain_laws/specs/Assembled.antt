@@ -13,6 +13,7 @@ use Rattle.rv_parse_laws.specs.Value.{constant}
 use Rattle.rv_map.specs.Map.{Map, Global}
 use Rattle.rv_map.specs.declared.map.Row.{Row}
 use Rattle.rv_map.specs.declared.map.Region.{Region}
+use Rattle.rv_image.specs.Linked.{Linked}
 use Rattle.rv_chain_laws.specs.Meaning.{add_immediate, fits_12}
 use Rattle.rv_chain_laws.specs.Fits.{aligned}
 use Rattle.rv_chain_laws.specs.Resolves.{made_global, is_one_of, AreDistinct, symbol, names_of, linker_symbols}
@@ -137,3 +138,10 @@ pub record IsAssembled (text_start : ℕ) (ss : List Spoken) (m : Map) : Type 0 
   pub entry : entry_in (globals_from (made_globals ss) text_start ss) ≡ Some m.entry
   pub globals : m.globals ≡ globals_from (made_globals ss) text_start ss ++ filter (λ g. not (is_one_of (names_of (globals_from (made_globals ss) text_start ss)) g.name)) (linker_symbols m)
   pub is_map : m ≡ text_map text_start (size_all ss) m.entry m.globals (rows_from 1 text_start ss)
+
+-- the linked program of the source: its code, and nothing else in memory
+pub record IsProgram (text_start : ℕ) (ss : List Spoken) (l : Linked) : Type 0 where
+  pub assembled : IsAssembled text_start ss l.map
+  pub text : l.text ≡ code ss
+  pub rodata : l.rodata ≡ []
+  pub «data» : l.data ≡ []
