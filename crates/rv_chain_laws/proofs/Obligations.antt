@@ -1,6 +1,6 @@
 -- Each kind of statement: its lines one after another come to its meaning and its cost.
 
-use Rattle.std.proofs.Common.{◌≡◌, ℕ, zero, suc, ◌+◌, ◌-◌, ◌*◌, ◌%◌, ◌^◌, ◌<◌, ◌≤◌, Bool, true, false, List, [], ◌∷◌, Option, Some, None, length, refl, sym, ap, ◌∙◌, subst, arith, ℤ, pos, negsuc}
+use Rattle.std.proofs.Common.{◌≡◌, ℕ, suc, ◌+◌, ◌-◌, ◌%◌, ◌^◌, ◌<◌, ◌≤◌, Bool, true, false, List, [], ◌∷◌, Some, None, length, refl, sym, ap, ◌∙◌, subst, arith, ℤ, pos, negsuc}
 use Rattle.std.specs.Prelude.{map, nat_lt, if◌then◌else◌, ◌-ℤ◌}
 use Rattle.std.proofs.lemmas.Bool.{ltb-true, ltb-false}
 use Rattle.rv_isa.specs.declared.instruction.Inst.{Inst}
@@ -12,7 +12,7 @@ use Rattle.rv_isa_laws.specs.Meaning.{effect, sets}
 use Rattle.rv_parse_laws.specs.Statement.{Statement, Label, Norvc, Globl, Instruction, Mnemonic, Addi, Ecall, Li, Operand, Register, Value, Expression}
 use Rattle.rv_parse_laws.specs.Value.{signed}
 use Rattle.rv_chain_laws.specs.Sites.{Site, Program, value}
-use Rattle.rv_chain_laws.specs.Meaning.{Line, Lie, AreLines, add_immediate, run_spoken, run_said, meaning, cost, fits_12, add_zero, expanded, expanded_said, expansion}
+use Rattle.rv_chain_laws.specs.Meaning.{Line, Lie, AreLines, add_immediate, run_spoken, run_said, meaning, cost, add_zero, expanded, expanded_said}
 use Rattle.rv_chain_laws.specs.Fits.{IsRowOf, SizeFits}
 use Rattle.rv_chain_laws.proofs.Walk.{Walked, walk}
 
@@ -43,7 +43,8 @@ one_line i meant count address bytes (l ∷ []) e lie n same =
       others = [];
       are = refl;
       starts = lie.0;
-      walks = λ h. ap (λ j. walked (effect j l.bytes h) 1) is ∙ ap (λ b. walked (effect i b h) 1) all ∙ ap (λ x. walked x 1) (same h) ∙ ap (walked (meant h)) (sym n) }
+      walks = λ h. ap (λ j. walked (effect j l.bytes h) 1) is ∙ ap (λ b. walked (effect i b h) 1) all ∙ ap (λ x. walked x 1) (same h) ∙ ap (walked (meant h)) (sym n);
+    }
 one_line i meant count address bytes (l ∷ k ∷ ls) e lie n same = absurd (cc)
 
 wrapped_if : (t : Bool) (y z : ℤ) (n : ℕ) → (t ≡ true → wrapped y ≡ n) → (t ≡ false → wrapped z ≡ n) → wrapped (if t then y else z) ≡ n
@@ -54,9 +55,9 @@ wrapped_if false y z n f g = g refl
 wrapped_signed : (k : ℕ) → wrapped (signed k) ≡ k % 2 ^ 64
 wrapped_signed k =
     wrapped_if (nat_lt k (2 ^ 63)) (pos k) (pos k -ℤ pos (2 ^ 64)) (k % 2 ^ 64) (λ t. refl)
-      (λ t. wrapped_if (nat_lt k (2 ^ 64)) (negsuc (2 ^ 64 - suc k)) (pos (k - 2 ^ 64)) (k % 2 ^ 64)
-        (λ u. let below : k < 2 ^ 64 = ltb-true k (2 ^ 64) u in omega arith)
-        (λ u. let above : 2 ^ 64 ≤ k = ltb-false k (2 ^ 64) u in omega arith))
+    (λ t. wrapped_if (nat_lt k (2 ^ 64)) (negsuc (2 ^ 64 - suc k)) (pos (k - 2 ^ 64)) (k % 2 ^ 64)
+    (λ u. let below : k < 2 ^ 64 = ltb-true k (2 ^ 64) u in omega arith)
+    (λ u. let above : 2 ^ 64 ≤ k = ltb-false k (2 ^ 64) u in omega arith))
 
 -- `addi rd, x0, k` sets rd to k
 adds_to_zero : (rd k bytes : ℕ) (h : Hart) → effect (add_immediate rd 0 k) bytes h ≡ sets bytes h rd k
