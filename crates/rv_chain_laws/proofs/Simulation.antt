@@ -149,16 +149,16 @@ module _ {Spells StandsFor : ℕ → Inst → Type 0} (reader : Reader Spells St
         good =
             apply_on IsGood good_kept (meaning p site h) m
             (both_goes (Steady h) (Steady h) IsGood (λ g k l. (k.pc, k.even)) (meaning p site h)
-            (subst (λ w. GoesOn (Steady h) w.effect) (d.walks h) (walk_steady reader (right_at p.map) first r.rights d.others d.first h stand even))
-            (subst (λ w. GoesOn (Steady h) w.effect) (d.walks h) (walk_steady reader (right_at p.map) first r.rights d.others d.first h stand even)))
+            (subst (λ w. GoesOn (Steady h) w.effect) (d.walks h (sym at)) (walk_steady reader (right_at p.map) first r.rights d.others d.first h stand even))
+            (subst (λ w. GoesOn (Steady h) w.effect) (d.walks h (sym at)) (walk_steady reader (right_at p.map) first r.rights d.others d.first h stand even)))
 
         by : (nat_le (cost p site h) left ≡ true) ⊎ (nat_le (cost p site h) left ≡ false) → Agrees (turn most (Starts site) left h s) (run reader left h m)
         by (inl enough) =
             let c = cost p site h in
             let le' : c ≤ left = leb-true c left enough in
-            let one : 1 ≤ c = subst (λ (w : Walked). 1 ≤ w.count) (d.walks h) (walk_one d.first d.others h) in
+            let one : 1 ≤ c = subst (λ (w : Walked). 1 ≤ w.count) (d.walks h (sym at)) (walk_one d.first d.others h) in
             let whole : left ≡ c + (left - c) = omega arith in
-            let runs = subst (λ (w : Walked). run reader (w.count + (left - c)) h m ≡ follow (apply w.effect m) h (run reader (left - c))) (d.walks h) (walk_runs reader (right_at p.map) first r.rights m (text_of m s b) d.others d.first h stand pc even (left - c)) in
+            let runs = subst (λ (w : Walked). run reader (w.count + (left - c)) h m ≡ follow (apply w.effect m) h (run reader (left - c))) (d.walks h (sym at)) (walk_runs reader (right_at p.map) first r.rights m (text_of m s b) d.others d.first h stand pc even (left - c)) in
             let machine : run reader left h m ≡ follow (apply (meaning p site h) m) h (run reader (left - c)) = ap (λ k. run reader k h m) whole ∙ runs in
             agree_if (nat_le c left) _ _ _ enough
             (subst (λ o. Agrees (follow (apply (meaning p site h) s) h (steps most p (left - c))) o) (sym machine)
@@ -167,7 +167,7 @@ module _ {Spells StandsFor : ℕ → Inst → Type 0} (reader : Reader Spells St
         by (inr short) =
             let c = cost p site h in
             let lt : left < c = leb-false c left short in
-            let limits = subst (λ (w : Walked). left < w.count → run reader left h m ≡ stop h Limit) (d.walks h) (walk_limits reader (right_at p.map) first r.rights m (text_of m s b) d.others d.first h stand pc even left) in
+            let limits = subst (λ (w : Walked). left < w.count → run reader left h m ≡ stop h Limit) (d.walks h (sym at)) (walk_limits reader (right_at p.map) first r.rights m (text_of m s b) d.others d.first h stand pc even left) in
             inl (ap (λ t. if t then follow (step_at p (Starts site) h s) h (steps most p (left - c)) else stop h Limit) short ∙ sym (limits lt))
 
     any_turn : (most left : ℕ) → left ≤ suc most → AgreeWithin most → (h : Hart) (m s : Mem) → Follows m s → h.pc < 2 ^ 64 → IsEven h → (here : Place) → place p h.pc ≡ here → Agrees (turn most here left h s) (run reader left h m)
@@ -180,7 +180,7 @@ module _ {Spells StandsFor : ℕ → Inst → Type 0} (reader : Reader Spells St
         let some : 0 < site.row.bytes = ltb-true 0 site.row.bytes parts.0 in
         let holds = r.rows h.pc site pc e in
         starts_turn most left le ih h m s b even site some (eqb-true site.row.address h.pc parts.1) holds
-        (does p site holds.lines holds.are_lines holds.size some)
+        (does p site holds.lines holds.are_lines holds.size some holds.below)
 
     pub simulates : (most : ℕ) → AgreeWithin most
     simulates zero zero le h m s b pc even = inl refl
