@@ -1,12 +1,12 @@
 -- Two memories that differ only where nothing reads: each effect does the same on both.
 
-use Rattle.std.proofs.Common.{◌≡◌, ℕ, zero, suc, ◌+◌, ◌*◌, ◌/◌, ◌%◌, ◌^◌, ◌<◌, ◌≤◌, Bool, true, false, List, [], ◌∷◌, ◌++◌, length, refl, sym, ap, ◌∙◌, subst, arith, take, drop}
+use Rattle.std.proofs.Common.{◌≡◌, ℕ, zero, suc, ◌+◌, ◌*◌, ◌/◌, ◌%◌, ◌^◌, ◌<◌, ◌≤◌, Bool, true, false, List, [], ◌∷◌, ◌++◌, length, refl, sym, ap, ◌∙◌, subst, arith, take}
 use Rattle.std.specs.Prelude.{◌&&◌, ◌||◌, ◌==◌, if◌then◌else◌, min}
 use Rattle.std.proofs.lemmas.Bool.{eqb-true, and_parts}
 use Rattle.rv_isa_laws.specs.Memory.{Mem, Right, Read, Write, Execute, may, some_has, bytes_at, with_byte, with_bytes, number_at, with_number}
 use Rattle.std.proofs.lemmas.List.{length-take}
-use Rattle.rv_isa_laws.specs.Hart.{Hart, End, LoadText, LoadOutside, StoreText, StoreOutside, register}
-use Rattle.rv_isa_laws.specs.Effect.{Effect, Goes, Loads, Stores, Reserves, Conditional, Updates, Calls, Breaks, Next, On, Over, apply, calls, reads, writes, load_refusal, store_refusal, answer, bad_address, bad_file}
+use Rattle.rv_isa_laws.specs.Hart.{Hart, LoadText, LoadOutside, StoreText, StoreOutside, register}
+use Rattle.rv_isa_laws.specs.Effect.{Effect, Goes, Loads, Stores, Reserves, Conditional, Updates, Calls, Breaks, Next, On, Over, apply, calls, reads, writes, load_refusal, store_refusal, answer}
 
 -- memory m of the machine beside memory s of the source run: both have these rights, they are equal where something can be
 -- read, and what can be executed is as it was at first
@@ -75,10 +75,11 @@ module _ (has : ℕ → Right → Bool) (fixed : (a : ℕ) → a < 2 ^ 64 → ha
 
   byte_put : (m s : Mem) → Beside has first m s → (a b : ℕ) → has a Write ≡ true → Beside has first (with_byte m a b) (with_byte s a b)
   byte_put m s beside a b ok = record {
-      machine = beside.machine;
-      source = beside.source;
-      read = λ x below r. ap (λ y. if x == a then b else y) (beside.read x below r);
-      kept = λ x below r. if_false (x == a) b (m.byte x) (first.byte x) (apart x a below r ok) (beside.kept x below r) }
+    machine = beside.machine;
+    source = beside.source;
+    read = λ x below r. ap (λ y. if x == a then b else y) (beside.read x below r);
+    kept = λ x below r. if_false (x == a) b (m.byte x) (first.byte x) (apart x a below r ok) (beside.kept x below r);
+  }
 
   number_put : (n : ℕ) (m s : Mem) → Beside has first m s → (a v : ℕ) → may (bare has) a n Write ≡ true → Beside has first (with_number m a n v) (with_number s a n v)
   number_put zero m s beside a v ok = beside
@@ -117,28 +118,28 @@ module _ (has : ℕ → Right → Bool) (fixed : (a : ℕ) → a < 2 ^ 64 → ha
       let bs = take (min a2 (length h.input)) h.input in
       let short : length bs ≤ a2 = omega (arith, length-take {A = ℕ}) in
       on_test (register h 10 == 0) _ _ _ _
-        (on_tests (may m a1 a2 Write) (may s a1 a2 Write) (may (bare has) a1 a2 Write) _ _ _ _
-          (may_same has m beside.machine a1 a2 Write) (may_same has s beside.source a1 a2 Write)
-          (λ ok. (refl, bytes_put bs m s beside a1 a2 short ok))
-          (refl, beside))
-        (refl, beside)
+      (on_tests (may m a1 a2 Write) (may s a1 a2 Write) (may (bare has) a1 a2 Write) _ _ _ _
+      (may_same has m beside.machine a1 a2 Write) (may_same has s beside.source a1 a2 Write)
+      (λ ok. (refl, bytes_put bs m s beside a1 a2 short ok))
+      (refl, beside))
+      (refl, beside)
 
   writes_alike : (h : Hart) (m s : Mem) → Beside has first m s → Alike has first (writes h m) (writes h s)
   writes_alike h m s beside =
       let a1 = register h 11 in
       let a2 = register h 12 in
       on_test ((register h 10 == 1) || (register h 10 == 2)) _ _ _ _
-        (on_tests (may m a1 a2 Read) (may s a1 a2 Read) (may (bare has) a1 a2 Read) _ _ _ _
-          (may_same has m beside.machine a1 a2 Read) (may_same has s beside.source a1 a2 Read)
-          (λ ok. (ap (λ bs. answer (record h { console = h.console ++ bs }) a2) (bytes_same has m s beside.read a1 a2 ok), beside))
-          (refl, beside))
-        (refl, beside)
+      (on_tests (may m a1 a2 Read) (may s a1 a2 Read) (may (bare has) a1 a2 Read) _ _ _ _
+      (may_same has m beside.machine a1 a2 Read) (may_same has s beside.source a1 a2 Read)
+      (λ ok. (ap (λ bs. answer (record h { console = h.console ++ bs }) a2) (bytes_same has m s beside.read a1 a2 ok), beside))
+      (refl, beside))
+      (refl, beside)
 
   calls_alike : (h : Hart) (m s : Mem) → Beside has first m s → Alike has first (calls h m) (calls h s)
   calls_alike h m s beside =
       on_test (register h 17 == 63) _ _ _ _ (reads_alike h m s beside)
-        (on_test (register h 17 == 64) _ _ _ _ (writes_alike h m s beside)
-          (on_test (register h 17 == 93) _ _ _ _ refl (refl, beside)))
+      (on_test (register h 17 == 64) _ _ _ _ (writes_alike h m s beside)
+      (on_test (register h 17 == 93) _ _ _ _ refl (refl, beside)))
 
   put_where : (t : Bool) (m s : Mem) → Beside has first m s → (a n v : ℕ) → may (bare has) a n Write ≡ true → Beside has first (if t then with_number m a n v else m) (if t then with_number s a n v else s)
   put_where true m s beside a n v ok = number_put n m s beside a v ok
@@ -149,40 +150,41 @@ module _ (has : ℕ → Right → Bool) (fixed : (a : ℕ) → a < 2 ^ 64 → ha
   apply_alike (Goes next) m s beside = (refl, beside)
   apply_alike (Loads a n next) m s beside =
       on_tests (may m a n Read) (may s a n Read) (may (bare has) a n Read) _ _ _ _
-        (may_same has m beside.machine a n Read) (may_same has s beside.source a n Read)
-        (λ ok. (ap next (number_same has Read m s beside.read a n ok), beside))
-        (load_same m s beside a n)
+      (may_same has m beside.machine a n Read) (may_same has s beside.source a n Read)
+      (λ ok. (ap next (number_same has Read m s beside.read a n ok), beside))
+      (load_same m s beside a n)
   apply_alike (Stores a n v next) m s beside =
       on_tests (may m a n Write) (may s a n Write) (may (bare has) a n Write) _ _ _ _
-        (may_same has m beside.machine a n Write) (may_same has s beside.source a n Write)
-        (λ ok. (refl, number_put n m s beside a v ok))
-        (store_same m s beside a n)
+      (may_same has m beside.machine a n Write) (may_same has s beside.source a n Write)
+      (λ ok. (refl, number_put n m s beside a v ok))
+      (store_same m s beside a n)
   apply_alike (Reserves a n next) m s beside =
       on_test (a % n == 0) _ _ _ _
-        (on_tests (may m a n Read) (may s a n Read) (may (bare has) a n Read) _ _ _ _
-          (may_same has m beside.machine a n Read) (may_same has s beside.source a n Read)
-          (λ ok. (ap next (number_same has Read m s beside.read a n ok), beside))
-          (load_same m s beside a n))
-        refl
+      (on_tests (may m a n Read) (may s a n Read) (may (bare has) a n Read) _ _ _ _
+      (may_same has m beside.machine a n Read) (may_same has s beside.source a n Read)
+      (λ ok. (ap next (number_same has Read m s beside.read a n ok), beside))
+      (load_same m s beside a n))
+      refl
   apply_alike (Conditional a n v reserved next) m s beside =
       on_test (a % n == 0) _ _ _ _
-        (on_tests (may m a n Write) (may s a n Write) (may (bare has) a n Write) _ _ _ _
-          (may_same has m beside.machine a n Write) (may_same has s beside.source a n Write)
-          (λ ok. (refl, put_where reserved m s beside a n v ok))
-          (store_same m s beside a n))
-        refl
+      (on_tests (may m a n Write) (may s a n Write) (may (bare has) a n Write) _ _ _ _
+      (may_same has m beside.machine a n Write) (may_same has s beside.source a n Write)
+      (λ ok. (refl, put_where reserved m s beside a n v ok))
+      (store_same m s beside a n))
+      refl
   apply_alike (Updates a n new next) m s beside =
       on_test (a % n == 0) _ _ _ _
-        (on_tests (may m a n Read && may m a n Write) (may s a n Read && may s a n Write) (may (bare has) a n Read && may (bare has) a n Write) _ _ _ _
-          (ap (λ b. b && may m a n Write) (may_same has m beside.machine a n Read) ∙ ap (λ b. may (bare has) a n Read && b) (may_same has m beside.machine a n Write))
-          (ap (λ b. b && may s a n Write) (may_same has s beside.source a n Read) ∙ ap (λ b. may (bare has) a n Read && b) (may_same has s beside.source a n Write))
-          (λ ok.
-            let parts = and_parts (may (bare has) a n Read) (may (bare has) a n Write) ok in
-            let old = number_same has Read m s beside.read a n parts.0 in
-            (ap next old,
-              subst (λ k. Beside has first (with_number m a n (new (number_at m a n))) (with_number s a n (new k))) old
-                (number_put n m s beside a (new (number_at m a n)) parts.1)))
-          (store_same m s beside a n))
-        refl
+      (on_tests (may m a n Read && may m a n Write) (may s a n Read && may s a n Write) (may (bare has) a n Read && may (bare has) a n Write) _ _ _ _
+      (ap (λ b. b && may m a n Write) (may_same has m beside.machine a n Read) ∙ ap (λ b. may (bare has) a n Read && b) (may_same has m beside.machine a n Write))
+      (ap (λ b. b && may s a n Write) (may_same has s beside.source a n Read) ∙ ap (λ b. may (bare has) a n Read && b) (may_same has s beside.source a n Write))
+      (λ ok.
+      let parts = and_parts (may (bare has) a n Read) (may (bare has) a n Write) ok in
+      let old = number_same has Read m s beside.read a n parts.0 in (
+        ap next old,
+        subst (λ k. Beside has first (with_number m a n (new (number_at m a n))) (with_number s a n (new k))) old
+            (number_put n m s beside a (new (number_at m a n)) parts.1),
+      ))
+      (store_same m s beside a n))
+      refl
   apply_alike (Calls next) m s beside = calls_alike next m s beside
   apply_alike Breaks m s beside = refl

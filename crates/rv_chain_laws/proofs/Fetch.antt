@@ -1,12 +1,12 @@
 -- A fetch from the text gives at any time what it gave at first.
 
-use Rattle.std.proofs.Common.{◌≡◌, ◌⊎◌, inl, inr, ℕ, zero, suc, ◌+◌, ◌%◌, ◌^◌, ◌<◌, Bool, true, false, Option, Some, None, refl, sym, ap, ◌∙◌, subst, arith}
+use Rattle.std.proofs.Common.{◌≡◌, ◌⊎◌, inl, inr, ℕ, ◌+◌, ◌%◌, ◌^◌, ◌<◌, Bool, true, false, Option, Some, None, refl, sym, ap, ◌∙◌, arith}
 use Rattle.std.specs.Prelude.{◌&&◌, ◌==◌, if◌then◌else◌}
 use Rattle.std.proofs.lemmas.Bool.{cases_Bool}
 use Rattle.rv_isa.specs.declared.instruction.Inst.{Inst}
-use Rattle.rv_isa_laws.specs.Memory.{Mem, Right, Read, Write, Execute, may, number_at}
+use Rattle.rv_isa_laws.specs.Memory.{Mem, Right, Execute, may, number_at}
 use Rattle.rv_machine_laws.specs.Reader.{Reader}
-use Rattle.rv_machine_laws.specs.Run.{Fetched, NoRight, NoInstruction, Got, spelled, length_at, fetch}
+use Rattle.rv_machine_laws.specs.Run.{Fetched, NoRight, Got, spelled, length_at, fetch}
 use Rattle.rv_chain_laws.proofs.Alike.{wraps, bare, may_same, number_same}
 
 -- a memory with these rights, in which what can be executed is as it was at first
@@ -45,12 +45,12 @@ module _ {Spells StandsFor : ℕ → Inst → Type 0} (reader : Reader Spells St
     by_length : (m : Mem) → Text has first m → (a : ℕ) (t : Bool) → fetch_of (if t then 4 else 2) m a ≡ fetch_of (if t then 4 else 2) first a
     by_length m text a true =
         same_if (may m a 4 Execute) (may first a 4 Execute) (may (bare has) a 4 Execute) _ _ _
-          (may_same has m text.rights a 4 Execute) (may_same has first rights a 4 Execute)
-          (λ ok. ap (λ k. spelled 4 (reader.word k)) (number_same has Execute m first text.kept a 4 ok))
+        (may_same has m text.rights a 4 Execute) (may_same has first rights a 4 Execute)
+        (λ ok. ap (λ k. spelled 4 (reader.word k)) (number_same has Execute m first text.kept a 4 ok))
     by_length m text a false =
         same_if (may m a 2 Execute) (may first a 2 Execute) (may (bare has) a 2 Execute) _ _ _
-          (may_same has m text.rights a 2 Execute) (may_same has first rights a 2 Execute)
-          (λ ok. ap (λ k. spelled 2 (reader.parcel k)) (number_same has Execute m first text.kept a 2 ok))
+        (may_same has m text.rights a 2 Execute) (may_same has first rights a 2 Execute)
+        (λ ok. ap (λ k. spelled 2 (reader.parcel k)) (number_same has Execute m first text.kept a 2 ok))
 
     pub fetch_kept : (m : Mem) → Text has first m → (a : ℕ) → has (a % 2 ^ 64) Execute ≡ true → fetch reader m a ≡ fetch reader first a
     fetch_kept m text a runs =

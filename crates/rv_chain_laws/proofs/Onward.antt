@@ -1,10 +1,10 @@
 -- What an effect keeps of the hart, the step that it comes to keeps as well.
 
-use Rattle.std.proofs.Common.{◌≡◌, ℕ, zero, suc, ◌+◌, ◌%◌, Bool, true, false, List, [], ◌∷◌, ◌++◌, length, refl, sym, ap, ◌∙◌, arith, take, drop, append_assoc}
+use Rattle.std.proofs.Common.{ℕ, ◌%◌, Bool, true, false, List, ◌++◌, length, drop}
 use Rattle.std.specs.Prelude.{◌&&◌, ◌||◌, ◌==◌, if◌then◌else◌, min}
 use Rattle.rv_isa_laws.specs.Memory.{Mem, Read, Write, may}
 use Rattle.rv_isa_laws.specs.Hart.{Hart, register}
-use Rattle.rv_isa_laws.specs.Effect.{Effect, Goes, Loads, Stores, Reserves, Conditional, Updates, Calls, Breaks, Next, On, Over, apply, calls, reads, writes, answer}
+use Rattle.rv_isa_laws.specs.Effect.{Effect, Goes, Loads, Stores, Reserves, Conditional, Updates, Calls, Breaks, Next, On, Over, apply, calls, answer}
 use Rattle.rv_isa_laws.specs.Kept.{GoesOn}
 
 abbrev pub OnNext : (Hart → Type 0) → Next → Type 0
@@ -35,18 +35,18 @@ module _ (P : Hart → Type 0) (kept : IsKept P) where
   calls_on : (h : Hart) (m : Mem) → P h → OnNext P (calls h m)
   calls_on h m ok =
       on_if (register h 17 == 63) _ _
-        (on_if (register h 10 == 0) _ _
-          (on_if (may m (register h 11) (register h 12) Write) _ _
-            (kept.answers (record h { input = drop (min (register h 12) (length h.input)) h.input }) (min (register h 12) (length h.input)) (kept.takes h _ ok))
-            (kept.answers h _ ok))
-          (kept.answers h _ ok))
-        (on_if (register h 17 == 64) _ _
-          (on_if ((register h 10 == 1) || (register h 10 == 2)) _ _
-            (on_if (may m (register h 11) (register h 12) Read) _ _
-              (kept.answers _ (register h 12) (kept.writes h _ ok))
-              (kept.answers h _ ok))
-            (kept.answers h _ ok))
-          (on_if (register h 17 == 93) _ _ tt (kept.answers h _ ok)))
+      (on_if (register h 10 == 0) _ _
+      (on_if (may m (register h 11) (register h 12) Write) _ _
+      (kept.answers (record h { input = drop (min (register h 12) (length h.input)) h.input }) (min (register h 12) (length h.input)) (kept.takes h _ ok))
+      (kept.answers h _ ok))
+      (kept.answers h _ ok))
+      (on_if (register h 17 == 64) _ _
+      (on_if ((register h 10 == 1) || (register h 10 == 2)) _ _
+      (on_if (may m (register h 11) (register h 12) Read) _ _
+      (kept.answers _ (register h 12) (kept.writes h _ ok))
+      (kept.answers h _ ok))
+      (kept.answers h _ ok))
+      (on_if (register h 17 == 93) _ _ tt (kept.answers h _ ok)))
 
   pub apply_on : (e : Effect) (m : Mem) → GoesOn P e → OnNext P (apply e m)
   apply_on (Goes next) m p = p

@@ -1,14 +1,14 @@
 -- Whenever memory holds a program, the run of the machine over it agrees with the run of the sources.
 
-use Rattle.std.proofs.Common.{◌≡◌, ◌⊎◌, inl, inr, ℕ, zero, suc, ◌+◌, ◌-◌, ◌*◌, ◌%◌, ◌^◌, ◌<◌, ◌≤◌, Bool, true, false, List, [], ◌∷◌, ◌++◌, Option, Some, None, refl, sym, ap, ◌∙◌, subst, arith, append_assoc, cond}
+use Rattle.std.proofs.Common.{◌≡◌, ◌⊎◌, inl, inr, ℕ, zero, suc, ◌+◌, ◌-◌, ◌%◌, ◌^◌, ◌<◌, ◌≤◌, Bool, true, false, List, [], ◌∷◌, ◌++◌, Option, Some, None, refl, sym, ap, ◌∙◌, subst, arith, append_assoc, cond}
 use Rattle.std.specs.Prelude.{◌&&◌, ◌==◌, nat_lt, nat_le, if◌then◌else◌}
-use Rattle.std.specs.List.{AllByRecursion, find, list_any}
+use Rattle.std.specs.List.{AllByRecursion, find}
 use Rattle.std.proofs.lemmas.Bool.{cases_Bool, and_parts, ltb-true, eqb-true, leb-true, leb-false, le-leb}
 use Rattle.std.proofs.lemmas.List.{append-nil}
 use Rattle.rv_isa.specs.declared.instruction.Inst.{Inst}
-use Rattle.rv_isa_laws.specs.Memory.{Mem, Right, Read, Write, Execute}
-use Rattle.rv_isa_laws.specs.Hart.{Hart, Outcome, Limit, Illegal, FetchOutside, Astray, stop, start}
-use Rattle.rv_isa_laws.specs.Effect.{Effect, Next, On, Over, apply, follow}
+use Rattle.rv_isa_laws.specs.Memory.{Mem, Execute}
+use Rattle.rv_isa_laws.specs.Hart.{Hart, Outcome, Limit, stop, start}
+use Rattle.rv_isa_laws.specs.Effect.{Next, On, Over, apply, follow}
 use Rattle.rv_isa_laws.specs.Meaning.{effect}
 use Rattle.rv_isa_laws.specs.Kept.{GoesOn, Kept}
 use Rattle.rv_isa_laws.proofs.EffectLaws.{effect_keeps}
@@ -17,8 +17,7 @@ use Rattle.rv_machine_laws.specs.Run.{Fetched, Got, NoRight, NoInstruction, fetc
 use Rattle.rv_parse_laws.specs.Statement.{Spoken}
 use Rattle.rv_map.specs.Map.{Map}
 use Rattle.rv_chain_laws.specs.Sites.{Site, Program, program}
-use Rattle.rv_chain_laws.specs.Meaning.{Line, AreLines, meaning, cost}
-use Rattle.rv_chain_laws.specs.Fits.{SizeFits, IsRowOf}
+use Rattle.rv_chain_laws.specs.Meaning.{meaning, cost}
 use Rattle.rv_chain_laws.specs.Start.{right_at, is_in, first_memory}
 use Rattle.rv_chain_laws.specs.SourceRun.{Place, Starts, Inside, Gap, Outside, starts_or_inside, found, place, step_at, cost_at, steps, source_run}
 use Rattle.rv_chain_laws.specs.Realizes.{Realizes, HoldsLines, StandsIn}
@@ -27,7 +26,7 @@ use Rattle.rv_chain_laws.proofs.Even.{IsEven}
 use Rattle.rv_chain_laws.proofs.Alike.{Beside, Alike, apply_alike}
 use Rattle.rv_chain_laws.proofs.Onward.{OnNext, IsKept, apply_on, both_goes}
 use Rattle.rv_chain_laws.proofs.Fetch.{Text, no_right, fetched}
-use Rattle.rv_chain_laws.proofs.Walk.{Walked, Steady, walk, walk_one, walk_steady, walk_runs, walk_limits}
+use Rattle.rv_chain_laws.proofs.Walk.{Walked, Steady, walk_one, walk_steady, walk_runs, walk_limits}
 use Rattle.rv_chain_laws.proofs.Obligations.{Does, does}
 
 front_self : (xs : List ℕ) → IsFront xs xs
@@ -80,7 +79,7 @@ module _ {Spells StandsFor : ℕ → Inst → Type 0} (reader : Reader Spells St
   adds_step NoInstruction h m = tt
   adds_step (Got i b) h m =
       apply_on (λ g. IsFront h.console g.console) (front_kept h.console) (effect i b h) m
-        (both_goes (Kept h) (Kept h) (λ g. IsFront h.console g.console) (λ g k l. subst (λ c. IsFront h.console c) (sym k.console) (front_self h.console)) (effect i b h) (effect_keeps i b h) (effect_keeps i b h))
+      (both_goes (Kept h) (Kept h) (λ g. IsFront h.console g.console) (λ g k l. subst (λ c. IsFront h.console c) (sym k.console) (front_self h.console)) (effect i b h) (effect_keeps i b h) (effect_keeps i b h))
 
   adds_next : (x : Next) (h : Hart) (go : Hart → Mem → Outcome) → ((g : Hart) (m : Mem) → IsFront g.console (go g m).console) → OnNext (λ g. IsFront h.console g.console) x → IsFront h.console (follow x h go).console
   adds_next (On g m) h go all f = front_of_front h.console g.console (go g m).console f (all g m)
@@ -149,26 +148,26 @@ module _ {Spells StandsFor : ℕ → Inst → Type 0} (reader : Reader Spells St
         good : OnNext IsGood (apply (meaning p site h) m)
         good =
             apply_on IsGood good_kept (meaning p site h) m
-              (both_goes (Steady h) (Steady h) IsGood (λ g k l. (k.pc, k.even)) (meaning p site h)
-                (subst (λ w. GoesOn (Steady h) w.effect) (d.walks h) (walk_steady reader (right_at p.map) first r.rights d.others d.first h stand even))
-                (subst (λ w. GoesOn (Steady h) w.effect) (d.walks h) (walk_steady reader (right_at p.map) first r.rights d.others d.first h stand even)))
+            (both_goes (Steady h) (Steady h) IsGood (λ g k l. (k.pc, k.even)) (meaning p site h)
+            (subst (λ w. GoesOn (Steady h) w.effect) (d.walks h (sym at)) (walk_steady reader (right_at p.map) first r.rights d.others d.first h stand even))
+            (subst (λ w. GoesOn (Steady h) w.effect) (d.walks h (sym at)) (walk_steady reader (right_at p.map) first r.rights d.others d.first h stand even)))
 
         by : (nat_le (cost p site h) left ≡ true) ⊎ (nat_le (cost p site h) left ≡ false) → Agrees (turn most (Starts site) left h s) (run reader left h m)
         by (inl enough) =
             let c = cost p site h in
             let le' : c ≤ left = leb-true c left enough in
-            let one : 1 ≤ c = subst (λ (w : Walked). 1 ≤ w.count) (d.walks h) (walk_one d.first d.others h) in
+            let one : 1 ≤ c = subst (λ (w : Walked). 1 ≤ w.count) (d.walks h (sym at)) (walk_one d.first d.others h) in
             let whole : left ≡ c + (left - c) = omega arith in
-            let runs = subst (λ (w : Walked). run reader (w.count + (left - c)) h m ≡ follow (apply w.effect m) h (run reader (left - c))) (d.walks h) (walk_runs reader (right_at p.map) first r.rights m (text_of m s b) d.others d.first h stand pc even (left - c)) in
+            let runs = subst (λ (w : Walked). run reader (w.count + (left - c)) h m ≡ follow (apply w.effect m) h (run reader (left - c))) (d.walks h (sym at)) (walk_runs reader (right_at p.map) first r.rights m (text_of m s b) d.others d.first h stand pc even (left - c)) in
             let machine : run reader left h m ≡ follow (apply (meaning p site h) m) h (run reader (left - c)) = ap (λ k. run reader k h m) whole ∙ runs in
             agree_if (nat_le c left) _ _ _ enough
-              (subst (λ o. Agrees (follow (apply (meaning p site h) s) h (steps most p (left - c))) o) (sym machine)
-                (follow_alike most (left - c) (omega arith) ih h (apply (meaning p site h) m) (apply (meaning p site h) s)
-                  (apply_alike (right_at p.map) r.fixed first (meaning p site h) m s b) good))
+            (subst (λ o. Agrees (follow (apply (meaning p site h) s) h (steps most p (left - c))) o) (sym machine)
+            (follow_alike most (left - c) (omega arith) ih h (apply (meaning p site h) m) (apply (meaning p site h) s)
+            (apply_alike (right_at p.map) r.fixed first (meaning p site h) m s b) good))
         by (inr short) =
             let c = cost p site h in
             let lt : left < c = leb-false c left short in
-            let limits = subst (λ (w : Walked). left < w.count → run reader left h m ≡ stop h Limit) (d.walks h) (walk_limits reader (right_at p.map) first r.rights m (text_of m s b) d.others d.first h stand pc even left) in
+            let limits = subst (λ (w : Walked). left < w.count → run reader left h m ≡ stop h Limit) (d.walks h (sym at)) (walk_limits reader (right_at p.map) first r.rights m (text_of m s b) d.others d.first h stand pc even left) in
             inl (ap (λ t. if t then follow (step_at p (Starts site) h s) h (steps most p (left - c)) else stop h Limit) short ∙ sym (limits lt))
 
     any_turn : (most left : ℕ) → left ≤ suc most → AgreeWithin most → (h : Hart) (m s : Mem) → Follows m s → h.pc < 2 ^ 64 → IsEven h → (here : Place) → place p h.pc ≡ here → Agrees (turn most here left h s) (run reader left h m)
@@ -181,7 +180,7 @@ module _ {Spells StandsFor : ℕ → Inst → Type 0} (reader : Reader Spells St
         let some : 0 < site.row.bytes = ltb-true 0 site.row.bytes parts.0 in
         let holds = r.rows h.pc site pc e in
         starts_turn most left le ih h m s b even site some (eqb-true site.row.address h.pc parts.1) holds
-          (does p site holds.lines holds.are_lines holds.size some)
+        (does p site holds.lines holds.are_lines holds.size some holds.below)
 
     pub simulates : (most : ℕ) → AgreeWithin most
     simulates zero zero le h m s b pc even = inl refl
@@ -192,8 +191,8 @@ module _ {Spells StandsFor : ℕ → Inst → Type 0} (reader : Reader Spells St
 pub agreement : {Spells StandsFor : ℕ → Inst → Type 0} (reader : Reader Spells StandsFor) (m : Mem) (sources : List (List Spoken)) (map : Map) → Realizes reader m (program sources map) → map.entry < 2 ^ 64 → map.entry % 2 ≡ 0 → (input : List ℕ) (n : ℕ) → Agrees (source_run sources map input n) (machine_run reader m map.entry input n)
 agreement reader m sources map r below even input n =
     simulates reader (program sources map) m r n n (omega arith) (start map.entry input) m (first_memory (program sources map))
-      (record { machine = r.rights; source = λ a less right. refl; read = r.bytes; kept = λ a less runs. refl })
-      below even
+    (record { machine = r.rights; source = λ a less right. refl; read = r.bytes; kept = λ a less runs. refl })
+    below even
 
 -- an image that holds the program for every reading of it, with the map's entry
 pub agreement_of_image : {Spells StandsFor : ℕ → Inst → Type 0} (sources : List (List Spoken)) (map : Map) (m : Mem) (entry : ℕ) → ((reader : Reader Spells StandsFor) → Realizes reader m (program sources map)) → entry ≡ map.entry → map.entry < 2 ^ 64 → map.entry % 2 ≡ 0 → (reader : Reader Spells StandsFor) (input : List ℕ) (n : ℕ) → Agrees (source_run sources map input n) (machine_run reader m entry input n)

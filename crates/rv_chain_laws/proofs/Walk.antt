@@ -1,18 +1,18 @@
 -- The lines of a statement one after another: what they come to, and that a run of the machine over them comes to the same.
 
-use Rattle.std.proofs.Common.{◌≡◌, ℕ, zero, suc, ◌+◌, ◌%◌, ◌^◌, ◌<◌, ◌≤◌, Bool, true, false, List, [], ◌∷◌, refl, sym, ap, ◌∙◌, subst, arith}
+use Rattle.std.proofs.Common.{◌≡◌, ℕ, zero, suc, ◌+◌, ◌^◌, ◌<◌, ◌≤◌, Bool, true, false, List, [], ◌∷◌, refl, ap, ◌∙◌, arith}
 use Rattle.std.specs.Prelude.{◌==◌, if◌then◌else◌}
 use Rattle.std.specs.List.{AllByRecursion}
 use Rattle.std.proofs.lemmas.Bool.{eqb-true}
 use Rattle.rv_isa.specs.declared.instruction.Inst.{Inst}
-use Rattle.rv_isa_laws.specs.Memory.{Mem, Right, Read, Write, Execute}
+use Rattle.rv_isa_laws.specs.Memory.{Mem, Right}
 use Rattle.rv_isa_laws.specs.Hart.{Hart, Outcome, Limit, stop}
 use Rattle.rv_isa_laws.specs.Effect.{Effect, Goes, Loads, Stores, Reserves, Conditional, Updates, Calls, Breaks, Next, On, Over, apply, follow}
 use Rattle.rv_isa_laws.specs.Meaning.{effect}
 use Rattle.rv_isa_laws.specs.Kept.{GoesOn, Kept}
 use Rattle.rv_isa_laws.proofs.EffectLaws.{effect_keeps}
 use Rattle.rv_machine_laws.specs.Reader.{Reader}
-use Rattle.rv_machine_laws.specs.Run.{Got, NoRight, fetch, step, run, done}
+use Rattle.rv_machine_laws.specs.Run.{Got, fetch, step, run, done}
 use Rattle.rv_chain_laws.specs.Meaning.{Line}
 use Rattle.rv_chain_laws.specs.Realizes.{StandsIn}
 use Rattle.rv_chain_laws.proofs.Even.{IsEven, effect_even}
@@ -81,8 +81,8 @@ module _ {Spells StandsFor : ℕ → Inst → Type 0} (reader : Reader Spells St
   line_steady : (l : Line) (h : Hart) → StandsIn reader first l → IsEven h → GoesOn (Steady h) (effect l.instruction l.bytes h)
   line_steady l h stands e =
       both_goes (Kept h) IsEven (Steady h) (λ g k even. record { console = k.console; pc = k.pc; even = even }) (effect l.instruction l.bytes h)
-        (effect_keeps l.instruction l.bytes h)
-        (effect_even l.instruction l.bytes h stands.1 (even_bytes reader first l.address l.instruction l.bytes stands.0) e)
+      (effect_keeps l.instruction l.bytes h)
+      (effect_even l.instruction l.bytes h stands.1 (even_bytes reader first l.address l.instruction l.bytes stands.0) e)
 
   steady_goes : (t : Bool) (g h : Hart) (go : Hart → Walked) → Steady h g → GoesOn (Steady g) (go g).effect → GoesOn (Steady h) (if t then more (go g) else once (Goes g)).effect
   steady_goes true g h go s rest = both_goes (Steady g) (Steady g) (Steady h) (λ k a b. steady_from h g k s.console a) (go g).effect rest rest
@@ -121,9 +121,9 @@ module _ {Spells StandsFor : ℕ → Inst → Type 0} (reader : Reader Spells St
     goes_runs true g h go s e rest n =
         let one : suc (go g).count + n ≡ suc ((go g).count + n) = omega arith in
         ap (λ k. run reader k h m) one
-          ∙ ap (λ x. follow x h (run reader ((go g).count + n))) s
-          ∙ rest refl n
-          ∙ follow_same (apply (go g).effect m) g h (run reader n) e
+        ∙ ap (λ x. follow x h (run reader ((go g).count + n))) s
+        ∙ rest refl n
+        ∙ follow_same (apply (go g).effect m) g h (run reader n) e
     goes_runs false g h go s e rest n = once_runs (Goes g) h s n
 
     then_runs : (e : Effect) (next : ℕ) (go : Hart → Walked) (h : Hart) → step reader h m ≡ apply e m → GoesOn (Steady h) e → ((g : Hart) → g.pc ≡ next → IsEven g → Runs (go g) g) → Runs (then_walk e next go) h
@@ -140,7 +140,7 @@ module _ {Spells StandsFor : ℕ → Inst → Type 0} (reader : Reader Spells St
     walk_runs [] l h stand pc e = once_runs (effect l.instruction l.bytes h) h (line_step l h stand.0 pc)
     walk_runs (k ∷ ls) l h stand pc e =
         then_runs (effect l.instruction l.bytes h) k.address (walk k ls) h (line_step l h stand.0 pc) (line_steady l h stand.0 e)
-          (λ g at even. walk_runs ls k g stand.1 at even)
+        (λ g at even. walk_runs ls k g stand.1 at even)
 
     -- with fewer instructions left than lines to run, the limit is met among them
     abbrev Limits : Walked → Hart → Type 0
@@ -170,4 +170,4 @@ module _ {Spells StandsFor : ℕ → Inst → Type 0} (reader : Reader Spells St
     walk_limits [] l h stand pc e = once_limits (effect l.instruction l.bytes h) h
     walk_limits (k ∷ ls) l h stand pc e =
         then_limits (effect l.instruction l.bytes h) k.address (walk k ls) h (line_step l h stand.0 pc) (line_steady l h stand.0 e)
-          (λ g at even. walk_limits ls k g stand.1 at even)
+        (λ g at even. walk_limits ls k g stand.1 at even)

@@ -8,7 +8,7 @@
 
 use Rattle.std.specs.Prelude.{ℕ, List, [], ◌∷◌, codes}
 use Rattle.rv_isa_laws.specs.Hart.{Outcome, Exited}
-use Rattle.rv_parse_laws.specs.Statement.{Statement, Label, Norvc, Globl, Instruction, Spoken, Mnemonic, Addi, Ecall, Li, Operand, Register, Value, Literal, Minus}
+use Rattle.rv_parse_laws.specs.Statement.{Statement, Label, Norvc, Globl, Instruction, Spoken, Addi, Ecall, Li, Register, Value, Literal, Minus}
 use Rattle.rv_map.specs.Map.{Map, Global}
 use Rattle.rv_map.specs.declared.map.Row.{Row}
 use Rattle.rv_map.specs.declared.map.Region.{Region}
@@ -42,24 +42,25 @@ global name address = record { name = name; address = address }
 
 abbrev pub exit7_map : Map
 exit7_map = record {
-    text = region 0x10000 0x1000c;
-    rodata = region 0x11000 0x11000;
-    «data» = region 0x11000 0x11000;
-    bss = region 0x11000 0x11000;
-    entry = 0x10000;
-    gaps = [];
-    globals = global (codes "_start") 0x10000
-        ∷ global (codes "_etext") 0x1000c
-        ∷ global (codes "__bss_start") 0x11000
-        ∷ global (codes "_edata") 0x11000
-        ∷ global (codes "_end") 0x11000
-        ∷ global (codes "__global_pointer$") 0x11800
-        ∷ [];
-    rows = row 1 3 3 0x10000 0 0
-        ∷ row 1 3 4 0x10000 4 1
-        ∷ row 1 4 5 0x10004 4 1
-        ∷ row 1 5 6 0x10008 4 1
-        ∷ [] }
+  text = region 0x10000 0x1000c;
+  rodata = region 0x11000 0x11000;
+  «data» = region 0x11000 0x11000;
+  bss = region 0x11000 0x11000;
+  entry = 0x10000;
+  gaps = [];
+  globals = global (codes "_start") 0x10000
+      ∷ global (codes "_etext") 0x1000c
+      ∷ global (codes "__bss_start") 0x11000
+      ∷ global (codes "_edata") 0x11000
+      ∷ global (codes "_end") 0x11000
+      ∷ global (codes "__global_pointer$") 0x11800
+      ∷ [];
+  rows = row 1 3 3 0x10000 0 0
+      ∷ row 1 3 4 0x10000 4 1
+      ∷ row 1 4 5 0x10004 4 1
+      ∷ row 1 5 6 0x10008 4 1
+      ∷ [];
+}
 
 -- the same with `addi a0, a0, -8` before `li a7, 93`
 abbrev pub exit255 : List Spoken
@@ -75,20 +76,21 @@ exit255 =
 
 abbrev pub exit255_map : Map
 exit255_map = record exit7_map {
-    text = region 0x10000 0x10010;
-    globals = global (codes "_start") 0x10000
-        ∷ global (codes "_etext") 0x10010
-        ∷ global (codes "__bss_start") 0x11000
-        ∷ global (codes "_edata") 0x11000
-        ∷ global (codes "_end") 0x11000
-        ∷ global (codes "__global_pointer$") 0x11800
-        ∷ [];
-    rows = row 1 3 3 0x10000 0 0
-        ∷ row 1 3 4 0x10000 4 1
-        ∷ row 1 4 5 0x10004 4 1
-        ∷ row 1 5 6 0x10008 4 1
-        ∷ row 1 6 7 0x1000c 4 1
-        ∷ [] }
+  text = region 0x10000 0x10010;
+  globals = global (codes "_start") 0x10000
+      ∷ global (codes "_etext") 0x10010
+      ∷ global (codes "__bss_start") 0x11000
+      ∷ global (codes "_edata") 0x11000
+      ∷ global (codes "_end") 0x11000
+      ∷ global (codes "__global_pointer$") 0x11800
+      ∷ [];
+  rows = row 1 3 3 0x10000 0 0
+      ∷ row 1 3 4 0x10000 4 1
+      ∷ row 1 4 5 0x10004 4 1
+      ∷ row 1 5 6 0x10008 4 1
+      ∷ row 1 6 7 0x1000c 4 1
+      ∷ [];
+}
 
 abbrev pub exits : ℕ → Outcome
 exits code = record { console = []; «end» = Exited code }
@@ -111,11 +113,12 @@ second_file =
 
 abbrev pub two_files_map : Map
 two_files_map = record exit7_map {
-    rows = row 1 3 3 0x10000 0 0
-        ∷ row 1 3 4 0x10000 4 1
-        ∷ row 2 2 2 0x10004 4 1
-        ∷ row 2 3 3 0x10008 4 1
-        ∷ [] }
+  rows = row 1 3 3 0x10000 0 0
+      ∷ row 1 3 4 0x10000 4 1
+      ∷ row 2 2 2 0x10004 4 1
+      ∷ row 2 3 3 0x10008 4 1
+      ∷ [];
+}
 
 -- the map's text
 abbrev pub exit7_text : List ℕ

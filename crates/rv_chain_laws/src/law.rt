@@ -18,5 +18,4 @@ ghost use Rattle.rv_chain_laws.specs.SourceRun.{source_run};
 /// even address, the two runs agree for every input and every limit.
 pub fn runs_agree()
     ensures { (reader : Reader Spells StandsFor) (m : Mem) (sources : List (List Spoken)) (map : Map) → Realizes reader m (program sources map) → map.entry < 2 ^ 64 → map.entry % 2 ≡ 0 → (input : List ℕ) (n : ℕ) → Agrees (source_run sources map input n) (machine_run reader m map.entry input n) }
-{
-}
+{}

@@ -9,5 +9,6 @@ mod worked;
 
 pub use law::runs_agree;
 pub use worked::{
-    exit255_runs, exit7_fits, exit7_is_limited, exit7_resolves, exit7_runs, exit7_shows, two_files_run,
+    exit7_fits, exit7_is_limited, exit7_resolves, exit7_runs, exit7_shows, exit255_runs,
+    two_files_run,
 };
