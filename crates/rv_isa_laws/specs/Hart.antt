@@ -8,7 +8,7 @@ pub record Reservation : Type 0 where
   pub bytes : ℕ
 
 pub record Hart : Type 0 where
-  -- x0 to x31, each below 2 ^ 64; what stands at 0 is never read
+  -- x0 to x31, each below 2 ^ 64; what stands at 0 is never read and never changed
   pub registers : List ℕ
   pub pc : ℕ
   pub reservation : Option Reservation
@@ -39,8 +39,9 @@ pub record Outcome : Type 0 where
 abbrev pub register : Hart → ℕ → ℕ
 register h r = if r == 0 then 0 else slice_index h.registers r
 
+-- register r set; x0 takes no value (ISA, 2.1)
 abbrev pub with_register : Hart → ℕ → ℕ → Hart
-with_register h r value = record h { registers = set h.registers r value }
+with_register h r value = record h { registers = if r == 0 then h.registers else set h.registers r value }
 
 -- the hart where the next instruction stands: this many bytes on
 abbrev pub advanced : Hart → ℕ → Hart

@@ -1,4 +1,5 @@
 pub mod Memory
 pub mod Hart
 pub mod Effect
+pub mod Arithmetic
 pub mod Meaning
