@@ -1,19 +1,13 @@
 //! Why a build or a run is refused.
 
-use std::alloc::{AllocError, AllocFailed};
-use rv_image::FileFault;
-use thiserror::Error;
+ghost use Rattle.std.specs.Prelude.{◌≡◌};
+ghost use Rattle.rv_chain.specs.Fault.{number_of, name_of};
 
-/// stand-in
-#[derive(Debug, Drop)]
-pub enum SourceFault { At { code: SourceCode, line: u32 }, OutOfMemory }
-/// stand-in
-#[derive(Debug, Drop, Clone, Copy)]
-pub enum SourceCode { BadByte }
-impl SourceCode {
-    pub fn number(&self) -> u32 { 1 }
-    pub fn name(&self) -> &'static str { "BadByte" }
-}
+use std::alloc::{AllocError, AllocFailed};
+
+use rv_image::FileFault;
+use rv_text::SourceFault;
+use thiserror::Error;
 
 /// Why objects cannot be linked.
 #[derive(Clone, Copy, Debug, PartialEq, Eq, Drop)]
@@ -31,7 +25,9 @@ pub enum LinkFault {
 
 impl LinkFault {
     /// Its number as messages show it; `None` for want of memory.
-    pub fn number(&self) -> Option<u32> {
+    pub fn number(self) -> Option<u8>
+        ensures { result ≡ number_of self }
+    {
         match self {
             LinkFault::EntryMissing => Some(7),
             LinkFault::ImageTooLarge => Some(8),
@@ -42,7 +38,9 @@ impl LinkFault {
     }
 
     /// Its name as messages show it.
-    pub fn name(&self) -> &'static str {
+    pub fn name(self) -> &'static str
+        ensures { result.now ≡ name_of self }
+    {
         match self {
             LinkFault::EntryMissing => "EntryMissing",
             LinkFault::ImageTooLarge => "ImageTooLarge",
@@ -64,4 +62,24 @@ pub enum Fault {
     Link(LinkFault),
     #[error("out of memory")]
     Memory,
+}
+
+impl From<AllocError> for Fault {
+    ghost use Rattle.rv_chain.specs.declared.fault.Fault.TheVariants.{Memory};
+
+    ghost from_gives = { λ _ fault. fault ≡ Memory };
+
+    fn from(_: AllocError) -> Self {
+        Fault::Memory
+    }
+}
+
+impl<T: Drop> From<AllocFailed<T>> for Fault {
+    ghost use Rattle.rv_chain.specs.declared.fault.Fault.TheVariants.{Memory};
+
+    ghost from_gives = { λ _ fault. fault ≡ Memory };
+
+    fn from(_: AllocFailed<T>) -> Self {
+        Fault::Memory
+    }
 }

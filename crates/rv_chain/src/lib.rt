@@ -4,9 +4,10 @@
 mod fault;
 mod options;
 
-pub use fault::{Fault, LinkFault, SourceFault, SourceCode};
+pub use fault::{Fault, LinkFault};
 pub use options::{Built, LinkOptions};
 pub use rv_image::FileFault;
+pub use rv_text::{SourceCode, SourceFault};
 use std::alloc::Global;
 
 /// stand-in
