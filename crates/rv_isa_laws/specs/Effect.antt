@@ -1,7 +1,7 @@
 -- What an instruction asks of the memory, and what comes of it. Rights are looked at here alone.
 
-use Rattle.std.specs.Prelude.{ℕ, ◌+◌, ◌-◌, ◌%◌, ◌^◌, Bool, ◌&&◌, ◌||◌, ◌==◌, if◌then◌else◌, nat_lt, min, List, ◌++◌, length, take, drop}
-use Rattle.rv_isa_laws.specs.Memory.{Mem, Right, Read, Write, Execute, may, some_has, bytes_at, with_bytes, number_at, with_number}
+use Rattle.std.specs.Prelude.{ℕ, ◌-◌, ◌%◌, ◌^◌, Bool, ◌&&◌, ◌||◌, ◌==◌, if◌then◌else◌, min, ◌++◌, length, take, drop}
+use Rattle.rv_isa_laws.specs.Memory.{Mem, Read, Write, Execute, may, some_has, bytes_at, with_bytes, number_at, with_number}
 use Rattle.rv_isa_laws.specs.Hart.{Hart, End, Exited, Breakpoint, LoadText, LoadOutside, StoreText, StoreOutside, MisalignedAtomic, Outcome, register, with_register, stop}
 
 pub data Effect : Type 0 where

@@ -1,6 +1,6 @@
 -- A hart between two instructions, and how a run ends.
 
-use Rattle.std.specs.Prelude.{ℕ, ◌+◌, ◌%◌, ◌^◌, ◌==◌, if◌then◌else◌, List, [], Option, Some, None, slice_index, set, replicate}
+use Rattle.std.specs.Prelude.{ℕ, ◌+◌, ◌%◌, ◌^◌, ◌==◌, if◌then◌else◌, List, [], Option, None, slice_index, set, replicate}
 
 -- the latest lr or sc, where it was an lr: its address and its width in bytes (ISA, 8.2)
 pub record Reservation : Type 0 where

@@ -3,3 +3,4 @@ pub mod Hart
 pub mod Effect
 pub mod Arithmetic
 pub mod Meaning
+pub mod Kept

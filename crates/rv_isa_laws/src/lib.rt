@@ -2,3 +2,15 @@
 //!
 //! Source: RISC-V Unprivileged ISA 20191213, chapters 2, 5, 7 and 8.
 #![tactic(auto)]
+
+ghost use Rattle.std.specs.Prelude.{ℕ};
+ghost use Rattle.rv_isa.specs.declared.instruction.Inst.{Inst};
+ghost use Rattle.rv_isa_laws.specs.Hart.{Hart};
+ghost use Rattle.rv_isa_laws.specs.Kept.{GoesOn, Kept};
+ghost use Rattle.rv_isa_laws.specs.Meaning.{effect};
+
+/// Whatever an instruction goes on with has the input and the console of the hart before, registers
+/// in range where those before were, and a pc below 2^64.
+pub fn effect_keeps()
+    ensures { (i : Inst) (bytes : ℕ) (h : Hart) → GoesOn (Kept h) (effect i bytes h) }
+{}

@@ -1,0 +1,5 @@
+use Rattle.rv_isa_laws.proofs.EffectLaws as laws
+use Rattle.rv_isa_laws.proofs.effect_keeps.Goals as goal
+
+pub returns : goal.returns
+returns c = laws.effect_keeps
