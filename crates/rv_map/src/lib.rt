@@ -2,5 +2,7 @@
 #![tactic(auto)]
 
 mod map;
+mod writing;
 
 pub use map::{Global, Map, Region, Row};
+pub use writing::write;

@@ -1,0 +1,7 @@
+use Rattle.std.proofs.Common.{append_assoc, refl}
+use Rattle.rv_map.specs.Text.{line_text}
+use Rattle.rv_map.proofs.writing.put_row.Goals as goal
+
+pub returns : goal.returns
+unfolding line_text
+returns c = simp (c.in_ok-put_decimal-2.ensures, c.in_ok-put_decimal.ensures, c.in_ok-put_hexadecimal.ensures, c.in_ok-put_statement.ensures, append_assoc) refl

@@ -1,0 +1,160 @@
+//! The text of a map.
+
+ghost use Rattle.std.specs.Prelude.{◌≡◌, ◌<◌, ◌++◌, ◌∷◌, [], IfOk, OnOk, false, map, flat_map, codes, decimal};
+ghost use Rattle.std.specs.Fmt.{digit_glyph};
+ghost use Rattle.rv_map.specs.Map.{map_of, global_of};
+ghost use Rattle.rv_map.specs.Text.{hexadecimal, line_text, region_line, gap_line, global_line, row_line, region_lines, head_lines, map_text};
+
+use crate::map::{Global, Map, Region, Row};
+use itoa::Buffer;
+use std::alloc::{AllocError, Global as Allocator};
+
+/// The text of a map: a line for each region, gap, global and row.
+pub fn write(alloc: Allocator, map: &Map) -> Result<Vec<u8>, AllocError>
+    ensures { IfOk result (λ text. text.items ≡ map_text (map_of map.now)) }
+{
+    let mut text = Vec::new(alloc);
+    put_head(&mut text, map)?;
+    put_gaps(&mut text, &map.gaps)?;
+    put_globals(&mut text, &map.globals)?;
+    put_rows(&mut text, &map.rows)?;
+    Ok(text)
+}
+
+#[tactic(auto, unfolding(crate::specs::Text::line_text, crate::specs::Text::head_lines))]
+fn put_head(text: &mut Vec<u8>, map: &Map) -> Result<(), AllocError>
+    ensures { OnOk result (text.new.items ≡ text.old.items ++ flat_map line_text (head_lines (map_of map.now))) }
+{
+    text.extend_from_slice(b"rvmap 1\n")?;
+    put_regions(text, map)?;
+    put_entry(text, map.entry)?;
+    Ok(())
+}
+
+fn put_regions(text: &mut Vec<u8>, map: &Map) -> Result<(), AllocError>
+    ensures { OnOk result (text.new.items ≡ text.old.items ++ flat_map line_text (region_lines (map_of map.now))) }
+{
+    put_region(text, b"text", map.text)?;
+    put_region(text, b"rodata", map.rodata)?;
+    put_region(text, b"data", map.data)?;
+    put_region(text, b"bss", map.bss)?;
+    Ok(())
+}
+
+#[tactic(auto, unfolding(crate::specs::Text::line_text))]
+fn put_entry(text: &mut Vec<u8>, entry: u64) -> Result<(), AllocError>
+    ensures { OnOk result (text.new.items ≡ text.old.items ++ line_text (codes "entry" ∷ hexadecimal entry ∷ [])) }
+{
+    text.extend_from_slice(b"entry ")?;
+    put_hexadecimal(text, entry, b'\n')?;
+    Ok(())
+}
+
+fn put_gaps(text: &mut Vec<u8>, gaps: &[Region]) -> Result<(), AllocError>
+    ensures { OnOk result (text.new.items ≡ text.old.items ++ flat_map line_text (map gap_line gaps.now)) }
+{
+    for gap in gaps {
+        put_region(text, b"gap", *gap)?;
+    }
+    Ok(())
+}
+
+fn put_globals(text: &mut Vec<u8>, globals: &[Global]) -> Result<(), AllocError>
+    ensures { OnOk result (text.new.items ≡ text.old.items ++ flat_map line_text (map global_line (map global_of globals.now))) }
+{
+    for global in globals {
+        put_global(text, global)?;
+    }
+    Ok(())
+}
+
+fn put_rows(text: &mut Vec<u8>, rows: &[Row]) -> Result<(), AllocError>
+    ensures { OnOk result (text.new.items ≡ text.old.items ++ flat_map line_text (map row_line rows.now)) }
+{
+    for row in rows {
+        put_row(text, *row)?;
+    }
+    Ok(())
+}
+
+#[tactic(auto, unfolding(crate::specs::Text::line_text))]
+fn put_region(text: &mut Vec<u8>, name: &[u8], region: Region) -> Result<(), AllocError>
+    ensures { OnOk result (text.new.items ≡ text.old.items ++ line_text (region_line name.now region)) }
+{
+    text.extend_from_slice(name)?;
+    text.push(b' ')?;
+    put_hexadecimal(text, region.start, b' ')?;
+    put_hexadecimal(text, region.end, b'\n')?;
+    Ok(())
+}
+
+#[tactic(auto, unfolding(crate::specs::Text::line_text))]
+fn put_global(text: &mut Vec<u8>, global: &Global) -> Result<(), AllocError>
+    ensures { OnOk result (text.new.items ≡ text.old.items ++ line_text (global_line (global_of global.now))) }
+{
+    text.extend_from_slice(b"global ")?;
+    text.extend_from_slice(&global.name)?;
+    text.push(b' ')?;
+    put_hexadecimal(text, global.address, b'\n')?;
+    Ok(())
+}
+
+#[tactic(auto, unfolding(crate::specs::Text::line_text))]
+fn put_row(text: &mut Vec<u8>, row: Row) -> Result<(), AllocError>
+    ensures { OnOk result (text.new.items ≡ text.old.items ++ line_text (row_line row)) }
+{
+    put_statement(text, row)?;
+    put_hexadecimal(text, row.address, b' ')?;
+    put_decimal(text, row.bytes, b' ')?;
+    put_decimal(text, row.instructions, b'\n')?;
+    Ok(())
+}
+
+/// The front of a row's line, which says which statement it is.
+fn put_statement(text: &mut Vec<u8>, row: Row) -> Result<(), AllocError>
+    ensures { OnOk result (text.new.items ≡ text.old.items
+        ++ (codes "row " ++ (decimal row.file ++ 32 ∷ (decimal row.line ++ 32 ∷ (decimal row.ordinal ++ 32 ∷ []))))) }
+{
+    text.extend_from_slice(b"row ")?;
+    put_decimal(text, row.file, b' ')?;
+    put_decimal(text, row.line, b' ')?;
+    put_decimal(text, row.ordinal, b' ')?;
+    Ok(())
+}
+
+fn put_decimal(text: &mut Vec<u8>, number: u64, end: u8) -> Result<(), AllocError>
+    ensures { OnOk result (text.new.items ≡ text.old.items ++ (decimal number ++ end ∷ [])) }
+{
+    text.extend_from_slice(Buffer::new().format(number).as_bytes())?;
+    Ok(text.push(end)?)
+}
+
+fn put_hexadecimal(text: &mut Vec<u8>, number: u64, end: u8) -> Result<(), AllocError>
+    ensures { OnOk result (text.new.items ≡ text.old.items ++ (hexadecimal number ++ end ∷ [])) }
+{
+    put_digits(text, number)?;
+    Ok(text.push(end)?)
+}
+
+#[tactic(auto, using(crate::proofs::Hexadecimal::hexadecimal_step, crate::proofs::Hexadecimal::hexadecimal_digit))]
+fn put_digits(text: &mut Vec<u8>, number: u64) -> Result<(), AllocError>
+    ensures { OnOk result (text.new.items ≡ text.old.items ++ hexadecimal number) }
+{
+    if number < 16 {
+        return Ok(text.push(digit(number))?);
+    }
+    put_digits(text, number / 16)?;
+    Ok(text.push(digit(number % 16))?)
+}
+
+/// The hexadecimal digit of a number below 16.
+fn digit(number: u64) -> u8
+    requires { number < 16 }
+    ensures { result ≡ digit_glyph false number }
+{
+    if number < 10 {
+        b'0' + number as u8
+    } else {
+        b'a' + (number - 10) as u8
+    }
+}
