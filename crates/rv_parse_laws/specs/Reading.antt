@@ -1,0 +1,158 @@
+-- The reading of a source, and its first fault (RISC-V Assembly Programmer's Manual; GNU as, "Syntax").
+
+use Rattle.std.specs.Prelude.{◌≡◌, ℕ, suc, ◌+◌, ◌^◌, ◌<◌, ◌≤◌, Bool, true, false, ◌==◌, List, [], ◌∷◌, ◌++◌, length, take, Option, Some, None, ◌⊎◌, if◌then◌else◌}
+use Rattle.rv_text_laws.specs.Cut.{Piece, Cuts, NothingReads}
+use Rattle.rv_text_laws.specs.Grammar.{Kind}
+use Rattle.rv_text_laws.specs.Lexing.{Token, Lexes, newlines}
+use Rattle.rv_parse_laws.specs.Statement.{Statement, Label, Spoken}
+use Rattle.rv_parse_laws.specs.Syntax.{longest_name, Part, Ends, Says, IsPart, StopsPart, kinds, is_end, is_comma, is_minus, is_colon, begins, Slot, A_register, A_value, slots}
+use Rattle.rv_parse_laws.specs.Words.{Beginning, Begins_instruction, Begins_globl, Begins_option, Begins_nothing}
+use Rattle.rv_parse_laws.specs.Faults.{limit, bad_operands, wrong_first, wrong_literal, wrong_after, wrong_symbol, wrong_option, wrong_start, wrong_label}
+use Rattle.rv_parse_laws.specs.Parsing.{colon_next}
+
+-- the longest source and the longest line without its line feed, in bytes, and the most statements
+abbrev pub longest_source : ℕ
+longest_source = 2 ^ 24
+abbrev pub longest_line : ℕ
+longest_line = 65535
+abbrev pub most_statements : ℕ
+most_statements = 2 ^ 22
+
+-- the place of the first byte past the limit of its line, where the bytes stand at this place, and this many of their
+-- line's bytes before them
+abbrev pub past_line : ℕ → ℕ → List ℕ → Option ℕ
+past_line place before [] = None
+past_line place before (b ∷ bs) =
+    if b == 10 then past_line (place + 1) 0 bs
+    else (if before == longest_line then Some place else past_line (place + 1) (before + 1) bs)
+
+-- the statement that a part is, with the line of its first token
+abbrev pub told : Part → List Token → List Spoken
+told Ends ts = []
+told (Says statement) [] = []
+told (Says statement) (t ∷ ts) = record { line = t.line; says = statement } ∷ []
+
+-- the statements of parts, in order
+abbrev pub said : List (Piece Part Token) → List Spoken
+said [] = []
+said (p ∷ ps) = told p.kind p.text ++ said ps
+
+-- the tokens begin with these parts, and then the rest
+abbrev pub AreParts : List Token → List (Piece Part Token) → List Token → Type 0
+AreParts ts ps rest = Cuts Part Token IsPart StopsPart ts ps rest
+
+-- the bytes read as these statements: they are cut into tokens, the tokens into parts, all within the limits
+abbrev pub Reads : List ℕ → List Spoken → Type 0
+Reads bytes ss =
+  (length bytes ≤ longest_source) × (past_line 0 0 bytes ≡ None) × (length ss ≤ most_statements)
+  × (ts : List Token) × (ps : List (Piece Part Token)) × Lexes bytes ts × AreParts ts ps [] × (ss ≡ said ps)
+
+-- a part with these first tokens can still stand at the front of the rest: a colon after the rest's first token makes it a
+-- label, and without it there is none
+abbrev pub is_label : Part → Bool
+is_label (Says (Label name)) = true
+is_label _ = false
+
+abbrev pub begins_label : List Token → Bool
+begins_label [] = false
+begins_label (t ∷ ts) = colon_next ts
+
+abbrev pub CanGoOn : List Token → List Token → Type 0
+CanGoOn rest before = (p : Part) × (more : List Token) × (is_label p ≡ begins_label rest) × IsPart p (before ++ more)
+
+-- The code of a token by what stands before it: `next` gives the code behind the operand, where all of it stands before.
+abbrev pub code_after_minus : (List Kind → Kind → ℕ) → List Kind → Kind → ℕ
+code_after_minus next [] at = wrong_literal at
+code_after_minus next (k ∷ ks) at = next ks at
+
+abbrev pub code_in_operand : Slot → (List Kind → Kind → ℕ) → List Kind → Kind → ℕ
+code_in_operand s next [] at = wrong_first s at
+code_in_operand A_register next (k ∷ ks) at = next ks at
+code_in_operand A_value next (k ∷ ks) at = if is_minus k then code_after_minus next ks at else next ks at
+
+-- behind an operand of a place, with these places left
+abbrev pub code_after : Slot → List Slot → List Kind → Kind → ℕ
+code_after s ss [] at = wrong_after s at
+code_after s [] (k ∷ ks) at = bad_operands
+code_after s (u ∷ us) (k ∷ ks) at = code_in_operand u (code_after u us) ks at
+
+abbrev pub code_in_operands : List Slot → List Kind → Kind → ℕ
+code_in_operands [] ks at = wrong_after A_register at
+code_in_operands (s ∷ ss) ks at = code_in_operand s (code_after s ss) ks at
+
+-- behind a comma a symbol, behind a symbol a comma or the end
+abbrev pub code_in_names : List Kind → Kind → ℕ
+code_in_names [] at = wrong_symbol at
+code_in_names (k ∷ []) at = wrong_after A_register at
+code_in_names (k ∷ c ∷ ks) at = code_in_names ks at
+
+abbrev pub code_in_option : List Kind → Kind → ℕ
+code_in_option [] at = wrong_option at
+code_in_option (k ∷ ks) at = wrong_after A_register at
+
+abbrev pub code_begun : Beginning → List Kind → Kind → ℕ
+code_begun (Begins_instruction m) ks at = code_in_operands (slots m) ks at
+code_begun Begins_globl ks at = code_in_names ks at
+code_begun Begins_option ks at = code_in_option ks at
+code_begun Begins_nothing ks at = bad_operands
+
+-- the code of the token `at`, between the tokens `before` of its part and the tokens `more`
+abbrev pub code_at : List Kind → Kind → List Token → ℕ
+code_at [] at more = if colon_next more then wrong_label at else wrong_start at
+code_at (k ∷ ks) at more = code_begun (begins k) ks at
+
+-- where a fault stands: at the token's first byte, but a name's limit at the first byte past it
+abbrev pub place_of : ℕ → ℕ → ℕ
+place_of start code = if code == limit then start + longest_name else start
+
+-- a token with which nothing can go on, behind good parts
+pub record WrongToken (bytes : List ℕ) (place code : ℕ) : Type 0 where
+  pub tokens : List Token
+  pub lexes : Lexes bytes tokens
+  pub parts : List (Piece Part Token)
+  pub rest : List Token
+  pub cut : AreParts tokens parts rest
+  pub nothing : NothingReads IsPart StopsPart rest
+  pub before : List Token
+  pub at : Token
+  pub more : List Token
+  pub whole : rest ≡ before ++ at ∷ more
+  pub goes : CanGoOn rest before
+  pub stops : CanGoOn rest (before ++ at ∷ []) → ⊥
+  pub code_is : code ≡ code_at (kinds before) at.kind more
+  pub place_is : place ≡ place_of at.start code
+
+-- the first token of a statement past the most
+pub record PastStatements (bytes : List ℕ) (place : ℕ) : Type 0 where
+  pub tokens : List Token
+  pub lexes : Lexes bytes tokens
+  pub parts : List (Piece Part Token)
+  pub at : Token
+  pub more : List Token
+  pub cut : AreParts tokens parts (at ∷ more)
+  pub most : length (said parts) ≡ most_statements
+  pub begins_one : is_end at.kind ≡ false
+  pub place_is : place ≡ at.start
+
+-- a fault with this code stands at this byte
+abbrev pub Stands : List ℕ → ℕ → ℕ → Type 0
+Stands bytes place code =
+  WrongToken bytes place code ⊎ ((code ≡ limit) × (past_line 0 0 bytes ≡ Some place)) ⊎ ((code ≡ limit) × PastStatements bytes place)
+
+-- a fault's code, by its number, and the line that it names
+pub record Fault : Type 0 where
+  pub code : ℕ
+  pub line : ℕ
+
+-- the first fault in the order of the bytes: at one byte the lowest number; one in a source that is not too long
+pub record IsFirst (bytes : List ℕ) (f : Fault) : Type 0 where
+  pub place : ℕ
+  pub stands : Stands bytes place f.code
+  pub first : (p c : ℕ) → Stands bytes p c → (place < p) ⊎ ((place ≡ p) × (f.code ≤ c))
+  pub line : f.line ≡ 1 + newlines (take place bytes)
+
+-- the first fault of phase one: a source that is too long has it at line 0, before all others
+abbrev pub Refuses : List ℕ → Fault → Type 0
+Refuses bytes f =
+  ((longest_source < length bytes) × (f ≡ record { code = limit; line = 0 }))
+  ⊎ ((length bytes ≤ longest_source) × IsFirst bytes f)

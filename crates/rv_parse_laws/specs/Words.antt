@@ -1,0 +1,119 @@
+-- The words that may begin a statement (RISC-V Unprivileged ISA 20191213, chapters 2, 5, 7 and 8; RISC-V Assembly
+-- Programmer's Manual; GNU as).
+
+use Rattle.std.specs.Prelude.{ℕ, zero, suc, List, [], ◌∷◌, ◌++◌, Bool, true, false, ◌||◌, ◌==◌, take, codes, flat_map, map, Option, Some, None, slice_get, option_to_list, if◌then◌else◌}
+use Rattle.std.specs.Str.{bytes_eq}
+use Rattle.rv_isa.specs.RegisterNames.{abi_names, decimal}
+use Rattle.rv_parse_laws.specs.Statement.{Mnemonic, Addi, Ecall, Li}
+
+-- the word is in the list
+abbrev pub is_among : List (List ℕ) → List ℕ → Bool
+is_among [] word = false
+is_among (w ∷ ws) word = bytes_eq w word || is_among ws word
+
+-- the base instructions but the atomics (chapters 2, 5 and 7)
+unfoldable pub base_words : List (List ℕ)
+base_words =
+    codes "lui" ∷ codes "auipc" ∷ codes "jal" ∷ codes "jalr" ∷
+    codes "beq" ∷ codes "bne" ∷ codes "blt" ∷ codes "bge" ∷ codes "bltu" ∷ codes "bgeu" ∷
+    codes "lb" ∷ codes "lh" ∷ codes "lw" ∷ codes "ld" ∷ codes "lbu" ∷ codes "lhu" ∷ codes "lwu" ∷
+    codes "sb" ∷ codes "sh" ∷ codes "sw" ∷ codes "sd" ∷
+    codes "addi" ∷ codes "slti" ∷ codes "sltiu" ∷ codes "xori" ∷ codes "ori" ∷ codes "andi" ∷
+    codes "slli" ∷ codes "srli" ∷ codes "srai" ∷
+    codes "add" ∷ codes "sub" ∷ codes "sll" ∷ codes "slt" ∷ codes "sltu" ∷ codes "xor" ∷ codes "srl" ∷
+    codes "sra" ∷ codes "or" ∷ codes "and" ∷
+    codes "addiw" ∷ codes "slliw" ∷ codes "srliw" ∷ codes "sraiw" ∷
+    codes "addw" ∷ codes "subw" ∷ codes "sllw" ∷ codes "srlw" ∷ codes "sraw" ∷
+    codes "fence" ∷ codes "fence.tso" ∷ codes "ecall" ∷ codes "ebreak" ∷
+    codes "mul" ∷ codes "mulh" ∷ codes "mulhsu" ∷ codes "mulhu" ∷
+    codes "div" ∷ codes "divu" ∷ codes "rem" ∷ codes "remu" ∷
+    codes "mulw" ∷ codes "divw" ∷ codes "divuw" ∷ codes "remw" ∷ codes "remuw" ∷ []
+
+-- the atomics without width and ordering (chapter 8)
+unfoldable pub atomic_words : List (List ℕ)
+atomic_words =
+    codes "lr" ∷ codes "sc" ∷ codes "amoswap" ∷ codes "amoadd" ∷ codes "amoxor" ∷ codes "amoand" ∷ codes "amoor" ∷
+    codes "amomin" ∷ codes "amomax" ∷ codes "amominu" ∷ codes "amomaxu" ∷ []
+
+-- a width and the ordering bits of an atomic
+unfoldable pub atomic_ends : List (List ℕ)
+atomic_ends =
+    codes ".w" ∷ codes ".d" ∷ codes ".w.aq" ∷ codes ".d.aq" ∷ codes ".w.rl" ∷ codes ".d.rl" ∷ codes ".w.aqrl" ∷
+    codes ".d.aqrl" ∷ []
+
+-- the pseudo-instructions (Assembly Programmer's Manual, 'pseudoinstructions'), and `unimp`
+unfoldable pub pseudo_words : List (List ℕ)
+pseudo_words =
+    codes "nop" ∷ codes "mv" ∷ codes "not" ∷ codes "neg" ∷ codes "negw" ∷ codes "sext.w" ∷ codes "zext.b" ∷
+    codes "sext.b" ∷ codes "sext.h" ∷ codes "zext.h" ∷ codes "zext.w" ∷
+    codes "seqz" ∷ codes "snez" ∷ codes "sltz" ∷ codes "sgtz" ∷ codes "sgt" ∷ codes "sgtu" ∷
+    codes "beqz" ∷ codes "bnez" ∷ codes "bgez" ∷ codes "bltz" ∷ codes "blez" ∷ codes "bgtz" ∷
+    codes "bgt" ∷ codes "ble" ∷ codes "bgtu" ∷ codes "bleu" ∷
+    codes "j" ∷ codes "jr" ∷ codes "ret" ∷ codes "la" ∷ codes "lla" ∷ codes "call" ∷ codes "tail" ∷ codes "jump" ∷
+    codes "li" ∷ codes "unimp" ∷ []
+
+-- the directives of the language and those that it leaves out by name
+unfoldable pub directive_words : List (List ℕ)
+directive_words =
+    codes ".text" ∷ codes ".data" ∷ codes ".rodata" ∷ codes ".bss" ∷ codes ".section" ∷
+    codes ".globl" ∷ codes ".global" ∷ codes ".local" ∷ codes ".weak" ∷ codes ".set" ∷ codes ".equ" ∷
+    codes ".align" ∷ codes ".p2align" ∷ codes ".balign" ∷
+    codes ".byte" ∷ codes ".half" ∷ codes ".2byte" ∷ codes ".word" ∷ codes ".4byte" ∷ codes ".dword" ∷
+    codes ".8byte" ∷ codes ".quad" ∷ codes ".ascii" ∷ codes ".asciz" ∷ codes ".string" ∷
+    codes ".zero" ∷ codes ".space" ∷ codes ".skip" ∷ codes ".option" ∷
+    codes ".file" ∷ codes ".ident" ∷ codes ".type" ∷ codes ".size" ∷ codes ".attribute" ∷
+    codes ".hidden" ∷ codes ".protected" ∷ codes ".internal" ∷
+    codes ".comm" ∷ codes ".macro" ∷ codes ".rept" ∷ codes ".if" ∷ codes ".include" ∷ codes ".pushsection" ∷
+    codes ".popsection" ∷ codes ".previous" ∷ codes ".insn" ∷ codes ".uleb128" ∷ codes ".loc" ∷ []
+
+-- an atomic with its width and ordering
+abbrev pub is_atomic : List ℕ → Bool
+is_atomic word = is_among (flat_map (λ front. map (λ end. front ++ end) atomic_ends) atomic_words) word
+
+-- call frame information, whatever follows the common front
+abbrev pub is_frame_directive : List ℕ → Bool
+is_frame_directive word = bytes_eq (take 5 word) (codes ".cfi_")
+
+-- a mnemonic or directive that the language has, or leaves out by name
+unfoldable pub is_known : List ℕ → Bool
+is_known word =
+    is_among base_words word || is_among pseudo_words word || is_among directive_words word || is_atomic word
+    || is_frame_directive word
+
+-- what a word begins that is built
+pub data Beginning : Type 0 where
+  Begins_instruction : (mnemonic : Mnemonic) → Beginning
+  -- `.globl` and `.global`
+  Begins_globl : Beginning
+  -- `.option`
+  Begins_option : Beginning
+  -- nothing that is built
+  Begins_nothing : Beginning
+
+unfoldable pub beginning : List ℕ → Beginning
+beginning word =
+    if bytes_eq word (codes "li") then Begins_instruction Li
+    else (if bytes_eq word (codes "addi") then Begins_instruction Addi
+    else (if bytes_eq word (codes "ecall") then Begins_instruction Ecall
+    else (if bytes_eq word (codes ".globl") || bytes_eq word (codes ".global") then Begins_globl
+    else (if bytes_eq word (codes ".option") then Begins_option
+    else Begins_nothing))))
+
+-- the options that the language has, `norvc` apart, and those that it leaves out by name
+unfoldable pub option_words : List (List ℕ)
+option_words =
+    codes "rvc" ∷ codes "relax" ∷ codes "norelax" ∷ codes "push" ∷ codes "pop" ∷ codes "nopic" ∷ codes "arch" ∷
+    codes "pic" ∷ []
+
+-- the names of a register: by number, by the ABI, and `fp` for x8
+unfoldable pub names_of : ℕ → List (List ℕ)
+names_of r = (codes "x" ++ decimal r) ∷ (option_to_list (slice_get abi_names r) ++ (if r == 8 then codes "fp" ∷ [] else []))
+
+-- the register below this number that has the name
+abbrev pub register_below : ℕ → List ℕ → Option ℕ
+register_below zero name = None
+register_below (suc n) name = if is_among (names_of n) name then Some n else register_below n name
+
+-- the register of a name
+unfoldable pub register : List ℕ → Option ℕ
+register name = register_below 32 name
