@@ -1,1 +1,4 @@
 pub mod Numbers
+pub mod Escapes
+pub mod Scans
+pub mod Inside

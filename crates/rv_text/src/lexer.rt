@@ -1,6 +1,13 @@
 //! The lexer: the tokens of a source, one after the other.
 
-ghost use Rattle.std.specs.Prelude.{◌≡◌, ◌+◌, ◌<◌, ◌^◌, length};
+ghost use Rattle.std.specs.Prelude.{◌≡◌, ◌+◌, ◌<◌, ◌≤◌, ◌^◌, length, take, drop};
+ghost use Rattle.rv_text_laws.specs.Lexing.{newlines, last_kind};
+ghost use Rattle.rv_text.specs.Token.{kind_of};
+
+use crate::class::class;
+use crate::piece::line_feeds;
+use crate::token::TokenKind;
+use rv_text_laws::Class;
 
 /// The tokens that a source has left. It is copied to look ahead.
 #[derive(Clone, Copy, Debug, Drop)]
@@ -26,5 +33,30 @@ impl<'a> Lexer<'a> {
         ensures { tokens_left result ≡ tokens_from 0 1 source.now }
     {
         Lexer { rest: source, at: 0, line: 1 }
+    }
+
+    /// Passes over bytes.
+    fn skip(&mut self, count: usize)
+        requires { count ≤ length self.old.rest.now }
+        ensures rest { self.new.rest.now ≡ drop count self.old.rest.now }
+        ensures at { self.new.at ≡ self.old.at + count }
+        ensures line { self.new.line ≡ self.old.line + newlines (take count self.old.rest.now) }
+    {
+        let (text, rest) = self.rest.split_at(count);
+        let feeds = line_feeds(text);
+        *self = Lexer { rest, at: self.at + count as u32, line: self.line + feeds as u32 };
+    }
+}
+
+/// The kind of the last token, by what stands where no piece can.
+fn last_kind(rest: &[u8]) -> TokenKind<'_>
+    ensures { kind_of result ≡ last_kind rest.now }
+{
+    if rest.is_empty() {
+        return TokenKind::End;
+    }
+    match class(rest[0]) {
+        Class::Foreign => TokenKind::BadByte,
+        _ => TokenKind::BadToken,
     }
 }
