@@ -2,3 +2,4 @@ pub mod Numbers
 pub mod Escapes
 pub mod Scans
 pub mod Inside
+pub mod Steps

@@ -1,12 +1,12 @@
 //! The lexer: the tokens of a source, one after the other.
 
-ghost use Rattle.std.specs.Prelude.{◌≡◌, ◌+◌, ◌<◌, ◌≤◌, ◌^◌, length, take, drop};
-ghost use Rattle.rv_text_laws.specs.Lexing.{newlines, last_kind};
-ghost use Rattle.rv_text.specs.Token.{kind_of};
+ghost use Rattle.std.specs.Prelude.{◌≡◌, ◌+◌, ◌<◌, ◌≤◌, ◌^◌, ◌∷◌, [], true, length, take, drop, if◌then◌else◌};
+ghost use Rattle.rv_text_laws.specs.Lexing.{newlines, is_last, last_kind};
+ghost use Rattle.rv_text.specs.Token.{kind_of, token_of};
 
 use crate::class::class;
-use crate::piece::line_feeds;
-use crate::token::TokenKind;
+use crate::piece::{line_feeds, piece_at};
+use crate::token::{Token, TokenKind};
 use rv_text_laws::Class;
 
 /// The tokens that a source has left. It is copied to look ahead.
@@ -33,6 +33,22 @@ impl<'a> Lexer<'a> {
         ensures { tokens_left result ≡ tokens_from 0 1 source.now }
     {
         Lexer { rest: source, at: 0, line: 1 }
+    }
+
+    /// The next token. After the last one (the end, a bad byte or a bad token) it comes again.
+    pub fn next(&mut self) -> Token<'a>
+        ensures first { tokens_left self.old ≡ token_of result ∷ (if is_last (token_of result).kind then [] else tokens_left self.new) }
+        ensures stays { is_last (token_of result).kind ≡ true → tokens_left self.new ≡ tokens_left self.old }
+    {
+        while let Some(piece) = piece_at(self.rest) {
+            let start = self.at;
+            let line = self.line;
+            self.skip(piece.length);
+            if let Some(kind) = piece.kind.token() {
+                return Token { kind, start, stop: self.at, line };
+            }
+        }
+        Token { kind: last_kind(self.rest), start: self.at, stop: self.at, line: self.line }
     }
 
     /// Passes over bytes.

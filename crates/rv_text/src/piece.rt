@@ -1,12 +1,12 @@
 //! Pieces of a source: blanks, comments and tokens.
 
-ghost use Rattle.std.specs.Prelude.{◌≡◌, ◌+◌, ◌≤◌, ◌<◌, ◌^◌, ◌∷◌, slice_index, length, option_map};
+ghost use Rattle.std.specs.Prelude.{◌≡◌, ◌+◌, ◌≤◌, ◌<◌, ◌^◌, ◌∷◌, slice_index, true, false, MatchOption, length, option_map};
 ghost use Rattle.std.specs.List.{prefix_len};
 ghost use Rattle.rv_text_laws.specs.Bytes.{in_line};
-ghost use Rattle.rv_text_laws.specs.Lexing.{newlines};
+ghost use Rattle.rv_text_laws.specs.Lexing.{newlines, is_gap};
 ghost use Rattle.rv_text_laws.specs.Front.{close_at, piece_at, piece_by, after_slash, after_less, after_greater, with_equal};
 ghost use Rattle.rv_text.specs.Token.{kind_of};
-ghost use Rattle.rv_text.specs.Piece.{front_of};
+ghost use Rattle.rv_text.specs.Piece.{front_of, piece_kind_of};
 
 use crate::class::class;
 use crate::text::{character_at, string_length};
@@ -25,6 +25,20 @@ pub(crate) enum PieceKind<'a> {
     /// `/*` to the next `*/`.
     BlockComment,
     Token(TokenKind<'a>),
+}
+
+impl<'a> PieceKind<'a> {
+    /// The token that the piece is; `None` for blanks and comments.
+    #[tactic(auto, using(crate::proofs::Steps::no_gap))]
+    pub(crate) fn token(self) -> Option<TokenKind<'a>>
+        ensures { MatchOption result (is_gap (piece_kind_of self.entry) ≡ true)
+            (λ kind. (piece_kind_of self.entry ≡ kind_of kind) × (is_gap (piece_kind_of self.entry) ≡ false)) }
+    {
+        match self {
+            PieceKind::Token(kind) => Some(kind),
+            _ => None,
+        }
+    }
 }
 
 /// The piece at the front of bytes.
