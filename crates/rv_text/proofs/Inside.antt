@@ -52,13 +52,13 @@ inside_bytes ps each = ap (λ c. map (λ a. byte_of a.kind) c.0) (unique atoms (
 
 -- a string that is closed, and one that is not
 pub closed : (bytes rest : List ℕ) (n : ℕ) → (cut atom_at bytes).1 ≡ rest → begins 34 rest ≡ true → n + length rest ≡ length bytes
-  → Some (grammar.Text (string_bytes (take n bytes)), n + 2) ≡ closed_string (cut atom_at bytes)
+    → Some (grammar.Text (string_bytes (take n bytes)), n + 2) ≡ closed_string (cut atom_at bytes)
 closed bytes rest n end quote count =
     let c = (cuts atoms bytes).0 in
     by_cut (cut atom_at bytes).0 (cut atom_at bytes).1 c.whole c.each end
   where
     by_cut : (ps : List (Piece Atom ℕ)) (after : List ℕ) → bytes ≡ texts ps ++ after → Each SpellsAtom StopsAtom ps after → after ≡ rest
-      → Some (grammar.Text (string_bytes (take n bytes)), n + 2) ≡ closed_string (ps, after)
+        → Some (grammar.Text (string_bytes (take n bytes)), n + 2) ≡ closed_string (ps, after)
     by_cut ps after whole each same =
         let len : n ≡ length (texts ps) = omega (arith, ap length whole, length-append (texts ps) after, ap length same) in
         let inside : take n bytes ≡ texts ps = ap (λ m. take m bytes) len ∙ ap (take (length (texts ps))) whole ∙ take-append_seam (texts ps) after in
@@ -66,8 +66,8 @@ closed bytes rest n end quote count =
         let size : n + 2 ≡ suc (suc (length (texts ps))) = omega arith in
         let test : begins 34 after ≡ true = ap (begins 34) same ∙ quote in
         ap (λ b. Some (grammar.Text b, n + 2)) text
-          ∙ ap (λ m. Some (grammar.Text (map (λ a. byte_of a.kind) ps), m)) size
-          ∙ sym (ap (λ t. cond t (Some (grammar.Text (map (λ a. byte_of a.kind) ps), suc (suc (length (texts ps))))) None) test)
+        ∙ ap (λ m. Some (grammar.Text (map (λ a. byte_of a.kind) ps), m)) size
+        ∙ sym (ap (λ t. cond t (Some (grammar.Text (map (λ a. byte_of a.kind) ps), suc (suc (length (texts ps))))) None) test)
 
 pub unclosed : (bytes rest : List ℕ) → (cut atom_at bytes).1 ≡ rest → begins 34 rest ≡ false → None ≡ closed_string (cut atom_at bytes)
 unclosed bytes rest end quote =
@@ -79,7 +79,7 @@ pub string_within : (bs : List ℕ) (k : grammar.Kind) (n : ℕ) → Some (k, n 
 string_within bs k n e = go (cut atom_at bs).0 (cut atom_at bs).1 (cuts atoms bs).0.whole e
   where
     by_test : (t : Bool) (ps : List (Piece Atom ℕ)) (rest : List ℕ) → begins 34 rest ≡ t → bs ≡ texts ps ++ rest
-      → ◌≡◌ {A = Option (grammar.Kind × ℕ)} (Some (k, n + 2)) (cond t (Some (grammar.Text (map (λ a. byte_of a.kind) ps), suc (suc (length (texts ps))))) None) → n + 1 ≤ length bs
+        → ◌≡◌ {A = Option (grammar.Kind × ℕ)} (Some (k, n + 2)) (cond t (Some (grammar.Text (map (λ a. byte_of a.kind) ps), suc (suc (length (texts ps))))) None) → n + 1 ≤ length bs
     by_test false ps rest test whole is = cc
     by_test true ps rest test whole is =
         let size = (some_pair_parts k (grammar.Text (map (λ a. byte_of a.kind) ps)) (n + 2) (suc (suc (length (texts ps)))) is).1 in
@@ -96,21 +96,21 @@ unfolding atom_at
 by_escape x xs t = rw t refl
 
 pub escaped : (bytes : List ℕ) (b n : ℕ) (t : Bool) → begins 92 bytes ≡ true → ◌≡◌ {A = Option (ℕ × ℕ)} (Some (b, n)) (option_map (λ f. (byte_of f.0, f.1)) (atom_at bytes)) → begins 39 (drop n bytes) ≡ t
-  → cond {A = Option (grammar.Kind × ℕ)} t (Some (grammar.Character b, suc (suc n))) None ≡ character_at bytes
+    → cond {A = Option (grammar.Kind × ℕ)} t (Some (grammar.Character b, suc (suc n))) None ≡ character_at bytes
 escaped [] b n t back atom quote = cc
 escaped (x ∷ xs) b n t back atom quote = go (atom_at (x ∷ xs)) (by_escape x xs back) atom
   where
     go : (o : Option (Atom × ℕ)) → character_at (x ∷ xs) ≡ closed_escape (x ∷ xs) o → ◌≡◌ {A = Option (ℕ × ℕ)} (Some (b, n)) (option_map (λ f. (byte_of f.0, f.1)) o)
-      → cond {A = Option (grammar.Kind × ℕ)} t (Some (grammar.Character b, suc (suc n))) None ≡ character_at (x ∷ xs)
+        → cond {A = Option (grammar.Kind × ℕ)} t (Some (grammar.Character b, suc (suc n))) None ≡ character_at (x ∷ xs)
     go None is e = cc
     go (Some (a, m)) is e =
         let same : b ≡ byte_of a = (some_pair_parts b (byte_of a) n m e).0 in
         let len : n ≡ m = (some_pair_parts b (byte_of a) n m e).1 in
         let test : begins 39 (drop m (x ∷ xs)) ≡ t = ap (λ k. begins 39 (drop k (x ∷ xs))) (sym len) ∙ quote in
         ap (λ k. cond {A = Option (grammar.Kind × ℕ)} t (Some (grammar.Character k, suc (suc n))) None) same
-          ∙ ap (λ k. cond {A = Option (grammar.Kind × ℕ)} t (Some (grammar.Character (byte_of a), suc (suc k))) None) len
-          ∙ ap (λ u. cond {A = Option (grammar.Kind × ℕ)} u (Some (grammar.Character (byte_of a), suc (suc m))) None) (sym test)
-          ∙ sym is
+        ∙ ap (λ k. cond {A = Option (grammar.Kind × ℕ)} t (Some (grammar.Character (byte_of a), suc (suc k))) None) len
+        ∙ ap (λ u. cond {A = Option (grammar.Kind × ℕ)} u (Some (grammar.Character (byte_of a), suc (suc m))) None) (sym test)
+        ∙ sym is
 
 pub not_escaped : (bytes : List ℕ) → begins 92 bytes ≡ true → ◌≡◌ {A = Option (ℕ × ℕ)} None (option_map (λ f. (byte_of f.0, f.1)) (atom_at bytes)) → None ≡ character_at bytes
 not_escaped [] back atom = cc

@@ -33,9 +33,9 @@ line_none hay h = sym (prefix_len_is in_line hay (length hay) 0 (omega arith) (�
 -- where a `*/` is
 occurs : (bs inside rest : List ℕ) → bs ≡ inside ++ 42 ∷ 47 ∷ rest → OccursAt bs (42 ∷ 47 ∷ []) (length inside)
 occurs bs inside rest whole = record {
-    fits = omega (arith, ap length whole, length-append inside (42 ∷ 47 ∷ rest));
-    reads = λ j lt. sym (get_or-drop (length inside) bs j 0) ∙ ap (λ xs. get_or xs j 0) here ∙ cell j lt;
-  }
+  fits = omega (arith, ap length whole, length-append inside (42 ∷ 47 ∷ rest));
+  reads = λ j lt. sym (get_or-drop (length inside) bs j 0) ∙ ap (λ xs. get_or xs j 0) here ∙ cell j lt;
+}
   where
     here : drop (length inside) bs ≡ 42 ∷ 47 ∷ rest
     here = ap (drop (length inside)) whole ∙ drop-append_seam inside (42 ∷ 47 ∷ rest)
@@ -69,7 +69,7 @@ found_close bs (Some k) h =
     first : (rest : List ℕ) → bs ≡ take k bs ++ 42 ∷ 47 ∷ rest → length (take k bs) ≡ k → NoClose (take k bs ++ 42 ∷ [])
     first rest whole len front back e =
         let earlier : bs ≡ front ++ 42 ∷ 47 ∷ (back ++ 47 ∷ rest) =
-            whole ∙ sym (append_assoc (take k bs) (42 ∷ []) (47 ∷ rest)) ∙ ap (λ xs. xs ++ 47 ∷ rest) e ∙ append_assoc front (42 ∷ 47 ∷ back) (47 ∷ rest) in
+        whole ∙ sym (append_assoc (take k bs) (42 ∷ []) (47 ∷ rest)) ∙ ap (λ xs. xs ++ 47 ∷ rest) e ∙ append_assoc front (42 ∷ 47 ∷ back) (47 ∷ rest) in
         let lower : length front < k = omega (arith, ap length e, length-append front (42 ∷ 47 ∷ back), length-append (take k bs) (42 ∷ [])) in
         h.0.before (length front) (omega arith) lower (occurs bs front (back ++ 47 ∷ rest) earlier)
 

@@ -78,35 +78,35 @@ last_is_last (b ∷ bs) = bad_is_last (class b)
 
 -- one piece further
 pub step : (old new : Lexer) (k : Kind) (n : ℕ) → Some (k, n) ≡ piece_at old.rest.now
-  → new.rest.now ≡ drop n old.rest.now → new.at ≡ old.at + n → new.line ≡ old.line + newlines (take n old.rest.now)
-  → tokens_left old ≡ cond (is_gap k) (tokens_left new) (record { kind = k; start = old.at; stop = new.at; line = old.line } ∷ tokens_left new)
+    → new.rest.now ≡ drop n old.rest.now → new.at ≡ old.at + n → new.line ≡ old.line + newlines (take n old.rest.now)
+    → tokens_left old ≡ cond (is_gap k) (tokens_left new) (record { kind = k; start = old.at; stop = new.at; line = old.line } ∷ tokens_left new)
 unfolding tokens_left
 step old new k n e rest at line = rw (rest, at, line) (tokens_more old.at old.line old.rest.now k n (sym e))
 
 pub gap_step : (old new : Lexer) (k : Kind) (n : ℕ) → Some (k, n) ≡ piece_at old.rest.now
-  → new.rest.now ≡ drop n old.rest.now → new.at ≡ old.at + n → new.line ≡ old.line + newlines (take n old.rest.now) → is_gap k ≡ true
-  → tokens_left old ≡ tokens_left new
+    → new.rest.now ≡ drop n old.rest.now → new.at ≡ old.at + n → new.line ≡ old.line + newlines (take n old.rest.now) → is_gap k ≡ true
+    → tokens_left old ≡ tokens_left new
 gap_step old new k n e rest at line gap =
     step old new k n e rest at line ∙ ap (λ t. cond t (tokens_left new) (record { kind = k; start = old.at; stop = new.at; line = old.line } ∷ tokens_left new)) gap
 
 pub token_step : (old new : Lexer) (k : Kind) (n : ℕ) (kind : TokenKind) → Some (k, n) ≡ piece_at old.rest.now
-  → new.rest.now ≡ drop n old.rest.now → new.at ≡ old.at + n → new.line ≡ old.line + newlines (take n old.rest.now) → k ≡ kind_of kind → is_gap k ≡ false
-  → tokens_left old ≡ record { kind = kind_of kind; start = old.at; stop = new.at; line = old.line } ∷ cond (is_last (kind_of kind)) [] (tokens_left new)
+    → new.rest.now ≡ drop n old.rest.now → new.at ≡ old.at + n → new.line ≡ old.line + newlines (take n old.rest.now) → k ≡ kind_of kind → is_gap k ≡ false
+    → tokens_left old ≡ record { kind = kind_of kind; start = old.at; stop = new.at; line = old.line } ∷ cond (is_last (kind_of kind)) [] (tokens_left new)
 token_step old new k n kind e rest at line same gap =
     let more : is_last (kind_of kind) ≡ false = ap is_last (sym same) ∙ goes_on_after old.rest.now k n e in
     step old new k n e rest at line
-      ∙ ap (λ t. cond t (tokens_left new) (record { kind = k; start = old.at; stop = new.at; line = old.line } ∷ tokens_left new)) gap
-      ∙ ap (λ q. record { kind = q; start = old.at; stop = new.at; line = old.line } ∷ tokens_left new) same
-      ∙ ap (λ t. record { kind = kind_of kind; start = old.at; stop = new.at; line = old.line } ∷ cond t [] (tokens_left new)) (sym more)
+    ∙ ap (λ t. cond t (tokens_left new) (record { kind = k; start = old.at; stop = new.at; line = old.line } ∷ tokens_left new)) gap
+    ∙ ap (λ q. record { kind = q; start = old.at; stop = new.at; line = old.line } ∷ tokens_left new) same
+    ∙ ap (λ t. record { kind = kind_of kind; start = old.at; stop = new.at; line = old.line } ∷ cond t [] (tokens_left new)) (sym more)
 
 last_one : (lexer : Lexer) → None ≡ piece_at lexer.rest.now → tokens_left lexer ≡ record { kind = last_kind lexer.rest.now; start = lexer.at; stop = lexer.at; line = lexer.line } ∷ []
 unfolding tokens_left
 last_one lexer e = tokens_stop lexer.at lexer.line lexer.rest.now (sym e)
 
 pub stop_step : (lexer : Lexer) (kind : TokenKind) → None ≡ piece_at lexer.rest.now → kind_of kind ≡ last_kind lexer.rest.now
-  → tokens_left lexer ≡ record { kind = kind_of kind; start = lexer.at; stop = lexer.at; line = lexer.line } ∷ cond (is_last (kind_of kind)) [] (tokens_left lexer)
+    → tokens_left lexer ≡ record { kind = kind_of kind; start = lexer.at; stop = lexer.at; line = lexer.line } ∷ cond (is_last (kind_of kind)) [] (tokens_left lexer)
 stop_step lexer kind e same =
     let ends : is_last (kind_of kind) ≡ true = ap is_last same ∙ last_is_last lexer.rest.now in
     last_one lexer e
-      ∙ ap (λ q. record { kind = q; start = lexer.at; stop = lexer.at; line = lexer.line } ∷ []) (sym same)
-      ∙ ap (λ t. record { kind = kind_of kind; start = lexer.at; stop = lexer.at; line = lexer.line } ∷ cond t [] (tokens_left lexer)) (sym ends)
+    ∙ ap (λ q. record { kind = q; start = lexer.at; stop = lexer.at; line = lexer.line } ∷ []) (sym same)
+    ∙ ap (λ t. record { kind = kind_of kind; start = lexer.at; stop = lexer.at; line = lexer.line } ∷ cond t [] (tokens_left lexer)) (sym ends)

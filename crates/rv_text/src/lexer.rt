@@ -32,7 +32,11 @@ impl<'a> Lexer<'a> {
         requires { length source.now + 1 < 2 ^ 32 }
         ensures { tokens_left result ≡ tokens_from 0 1 source.now }
     {
-        Lexer { rest: source, at: 0, line: 1 }
+        Lexer {
+            rest: source,
+            at: 0,
+            line: 1,
+        }
     }
 
     /// The next token. After the last one (the end, a bad byte or a bad token) it comes again.
@@ -45,10 +49,20 @@ impl<'a> Lexer<'a> {
             let line = self.line;
             self.skip(piece.length);
             if let Some(kind) = piece.kind.token() {
-                return Token { kind, start, stop: self.at, line };
+                return Token {
+                    kind,
+                    start,
+                    stop: self.at,
+                    line,
+                };
             }
         }
-        Token { kind: last_kind(self.rest), start: self.at, stop: self.at, line: self.line }
+        Token {
+            kind: last_kind(self.rest),
+            start: self.at,
+            stop: self.at,
+            line: self.line,
+        }
     }
 
     /// Passes over bytes.
@@ -60,7 +74,11 @@ impl<'a> Lexer<'a> {
     {
         let (text, rest) = self.rest.split_at(count);
         let feeds = line_feeds(text);
-        *self = Lexer { rest, at: self.at + count as u32, line: self.line + feeds as u32 };
+        *self = Lexer {
+            rest,
+            at: self.at + count as u32,
+            line: self.line + feeds as u32,
+        };
     }
 }
 

@@ -84,7 +84,10 @@ fn close_at(bytes: &[u8]) -> Option<usize>
 fn token(kind: TokenKind<'_>, length: usize) -> Option<Piece<'_>>
     ensures { option_map front_of result ≡ Some (kind_of kind.entry, length) }
 {
-    Some(Piece { kind: PieceKind::Token(kind), length })
+    Some(Piece {
+        kind: PieceKind::Token(kind),
+        length,
+    })
 }
 
 /// The piece that begins with a `/`, by what follows.
@@ -95,7 +98,10 @@ fn after_slash(rest: &[u8]) -> Option<Piece<'_>>
     match rest {
         [b'/', ..] => token(TokenKind::Mark(Sign::DoubleSlash), 2),
         [b'*', inside @ ..] => match close_at(inside) {
-            Some(length) => Some(Piece { kind: PieceKind::BlockComment, length: length + 4 }),
+            Some(length) => Some(Piece {
+                kind: PieceKind::BlockComment,
+                length: length + 4,
+            }),
             None => None,
         },
         _ => token(TokenKind::Mark(Sign::Slash), 1),
@@ -149,10 +155,16 @@ fn piece_by<'a>(class: Class, bytes: &'a [u8], rest: &'a [u8]) -> Option<Piece<'
             let length = word_length(rest) + 1;
             token(digits_kind(bytes.split_at(length).0), length)
         }
-        Class::Blank => Some(Piece { kind: PieceKind::Space, length: 1 }),
+        Class::Blank => Some(Piece {
+            kind: PieceKind::Space,
+            length: 1,
+        }),
         Class::LineEnd => token(TokenKind::Newline, 1),
         Class::Single(sign) => token(TokenKind::Mark(sign), 1),
-        Class::HashByte => Some(Piece { kind: PieceKind::LineComment, length: line_length(rest) + 1 }),
+        Class::HashByte => Some(Piece {
+            kind: PieceKind::LineComment,
+            length: line_length(rest) + 1,
+        }),
         Class::SlashByte => after_slash(rest),
         Class::QuoteByte => match string_length(rest) {
             Some(length) => token(TokenKind::Text(rest.split_at(length).0), length + 2),

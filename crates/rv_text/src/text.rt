@@ -45,7 +45,11 @@ fn up_to_two(base: u8, bytes: &[u8]) -> usize
     ensures count { result ≡ prefix_len (is_digit base) (take 2 bytes.now) }
     ensures within { result ≤ length bytes.now }
 {
-    bytes.iter().take(2).take_while(|byte| is_digit(base, **byte)).count()
+    bytes
+        .iter()
+        .take(2)
+        .take_while(|byte| is_digit(base, **byte))
+        .count()
 }
 
 /// The byte of an octal escape, and its length with the backslash.
@@ -113,7 +117,11 @@ fn atom_at(bytes: &[u8]) -> Option<(u8, usize)>
     match bytes {
         [] => None,
         [b'\\', rest @ ..] => escape_at(rest),
-        [byte, ..] => if is_plain(*byte) { Some((*byte, 1)) } else { None },
+        [byte, ..] => if is_plain(*byte) {
+            Some((*byte, 1))
+        } else {
+            None
+        },
     }
 }
 
@@ -126,7 +134,11 @@ pub(crate) fn string_length(bytes: &[u8]) -> Option<usize>
         let (_, after) = rest.split_at(length);
         rest = after;
     }
-    if begins(b'"', rest) { Some(bytes.len() - rest.len()) } else { None }
+    if begins(b'"', rest) {
+        Some(bytes.len() - rest.len())
+    } else {
+        None
+    }
 }
 
 /// A character that stands for itself, after its apostrophe: its byte, and its length with both.
@@ -137,7 +149,11 @@ fn plain_character(bytes: &[u8]) -> Option<(u8, usize)>
     match bytes {
         [] => None,
         [byte, rest @ ..] => {
-            if is_character(*byte) && begins(b'\'', rest) { Some((*byte, 3)) } else { None }
+            if is_character(*byte) && begins(b'\'', rest) {
+                Some((*byte, 3))
+            } else {
+                None
+            }
         }
     }
 }
@@ -152,7 +168,11 @@ pub(crate) fn character_at(bytes: &[u8]) -> Option<(u8, usize)>
     match atom_at(bytes) {
         Some((byte, length)) => {
             let (_, after) = bytes.split_at(length);
-            if begins(b'\'', after) { Some((byte, length + 2)) } else { None }
+            if begins(b'\'', after) {
+                Some((byte, length + 2))
+            } else {
+                None
+            }
         }
         None => None,
     }

@@ -21,12 +21,12 @@ loop-length-preserved c =
 pub returns-then-begins : goal.returns-then-begins
 returns-then-begins c =
     closed c.args.bytes.now c.loop-length.rest.now (length c.args.bytes.now - length c.loop-length.rest.now)
-      (c.loop-length.invariant.0 ∙ atoms_end c.loop-length.rest.now c.in_default.ensures)
-      (sym c.begins.ensures ∙ c.if-begins.true)
-      (omega (arith, c.loop-length.invariant.1))
+    (c.loop-length.invariant.0 ∙ atoms_end c.loop-length.rest.now c.in_default.ensures)
+    (sym c.begins.ensures ∙ c.if-begins.true)
+    (omega (arith, c.loop-length.invariant.1))
 
 pub returns-else-begins : goal.returns-else-begins
 returns-else-begins c =
     unclosed c.args.bytes.now c.loop-length.rest.now
-      (c.loop-length.invariant.0 ∙ atoms_end c.loop-length.rest.now c.in_default.ensures)
-      (sym c.begins.ensures ∙ c.if-begins.false)
+    (c.loop-length.invariant.0 ∙ atoms_end c.loop-length.rest.now c.in_default.ensures)
+    (sym c.begins.ensures ∙ c.if-begins.false)

@@ -13,8 +13,8 @@ skip-requires c = (piece_within c.loop-piece.self.rest.now (piece_kind_of c.in-S
 pub returns-in-Some-token-clause-first : goal.returns-in-Some-token-clause-first
 returns-in-Some-token-clause-first c =
     c.loop-piece.invariant
-      ∙ token_step c.loop-piece.self c.skip.new.self (piece_kind_of c.in-Some.piece.kind) c.in-Some.piece.length c.in-Some-token.kind c.in-Some.ensures
-          c.skip.ensures.rest c.skip.ensures.at c.skip.ensures.line c.in-Some-token.ensures.0 c.in-Some-token.ensures.1
+    ∙ token_step c.loop-piece.self c.skip.new.self (piece_kind_of c.in-Some.piece.kind) c.in-Some.piece.length c.in-Some-token.kind c.in-Some.ensures
+    c.skip.ensures.rest c.skip.ensures.at c.skip.ensures.line c.in-Some-token.ensures.0 c.in-Some-token.ensures.1
 
 pub returns-in-Some-token-clause-stays : goal.returns-in-Some-token-clause-stays
 returns-in-Some-token-clause-stays c = λ last.
@@ -30,8 +30,8 @@ loop-piece-smaller c =
 pub loop-piece-preserved : goal.loop-piece-preserved
 loop-piece-preserved c =
     c.loop-piece.invariant
-      ∙ gap_step c.loop-piece.self c.skip.new.self (piece_kind_of c.in-Some.piece.kind) c.in-Some.piece.length c.in-Some.ensures
-          c.skip.ensures.rest c.skip.ensures.at c.skip.ensures.line c.in_default-token.ensures
+    ∙ gap_step c.loop-piece.self c.skip.new.self (piece_kind_of c.in-Some.piece.kind) c.in-Some.piece.length c.in-Some.ensures
+    c.skip.ensures.rest c.skip.ensures.at c.skip.ensures.line c.in_default-token.ensures
 
 pub returns-clause-first : goal.returns-clause-first
 returns-clause-first c = c.loop-piece.invariant ∙ stop_step c.loop-piece.self c.last_kind.result c.in_default.ensures c.last_kind.ensures
