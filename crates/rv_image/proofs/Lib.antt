@@ -4,3 +4,8 @@ pub mod Loaded
 pub mod Apart
 pub mod Whole
 pub mod ProgramBytes
+pub mod Parts
+pub mod Contents
+pub mod HeaderBytes
+pub mod Sound
+pub mod LoadedAgain
