@@ -1,9 +1,9 @@
 -- The contents of the parts stand at their places.
 
-use Rattle.std.proofs.Common.{◌≡◌, ℕ, zero, suc, ◌+◌, ◌*◌, ◌-◌, ◌≤◌, ◌<◌, ◌^◌, Bool, true, false, not, List, [], ◌∷◌, ◌++◌, length, take, drop, replicate, map, filter, refl, ap, sym, ◌∙◌, append_assoc, append-nil, arith, zero-add, inl, inr, ◌⊎◌}
+use Rattle.std.proofs.Common.{◌≡◌, ℕ, ◌+◌, ◌-◌, ◌≤◌, Bool, true, false, List, [], ◌∷◌, ◌++◌, length, take, drop, replicate, filter, refl, ap, sym, ◌∙◌, append_assoc, append-nil, arith}
 use Rattle.std.proofs.Math.Seq.{drop-append_seam, take-append_seam}
-use Rattle.std.proofs.lemmas.List.{length-append, length-replicate, length-take-le, length-drop}
-use Rattle.std.proofs.lemmas.Bool.{cases_Bool, cond-true, cond-false}
+use Rattle.std.proofs.lemmas.List.{length-append, length-replicate}
+use Rattle.std.proofs.lemmas.Bool.{cond-true, cond-false}
 use Rattle.std.proofs.lemmas.Bool.Decides.{nat_tests}
 use Rattle.rv_image.specs.FirstFault.{is_past}
 use Rattle.rv_image.specs.Executable.{Part, memory_size_of, has_memory, offset_of, with_contents, with_parts}
@@ -48,13 +48,14 @@ one_stands file (b ∷ bytes) extra place after =
     let stored : List ℕ = b ∷ bytes in
     let front : length (file ++ zeros) ≡ place = omega (arith, length-append file zeros, length-replicate {A = ℕ} (place - length file) 0) in
     let cut : (file ++ (zeros ++ stored)) ++ extra ≡ (file ++ zeros) ++ (stored ++ extra) =
-        append_assoc file (zeros ++ stored) extra ∙ ap (λ x. file ++ x) (append_assoc zeros stored extra) ∙ sym (append_assoc file zeros (stored ++ extra)) in
+    append_assoc file (zeros ++ stored) extra ∙ ap (λ x. file ++ x) (append_assoc zeros stored extra) ∙ sym (append_assoc file zeros (stored ++ extra)) in
     let dropped : drop place ((file ++ (zeros ++ stored)) ++ extra) ≡ stored ++ extra =
-        ap (drop place) cut ∙ ap (λ n. drop n ((file ++ zeros) ++ (stored ++ extra))) (sym front) ∙ drop-append_seam (file ++ zeros) (stored ++ extra) in
+    ap (drop place) cut ∙ ap (λ n. drop n ((file ++ zeros) ++ (stored ++ extra))) (sym front) ∙ drop-append_seam (file ++ zeros) (stored ++ extra) in
     let total : length ((file ++ (zeros ++ stored)) ++ extra) ≡ place + (length stored + length extra) =
-        ap length cut ∙ omega (arith, length-append (file ++ zeros) (stored ++ extra), length-append stored extra, front) in
-    (within_from ((file ++ (zeros ++ stored)) ++ extra) place (length stored) (omega (arith, total)),
-     ap (take (length stored)) dropped ∙ take-append_seam stored extra)
+    ap length cut ∙ omega (arith, length-append (file ++ zeros) (stored ++ extra), length-append stored extra, front) in (
+      within_from ((file ++ (zeros ++ stored)) ++ extra) place (length stored) (omega (arith, total)),
+      ap (take (length stored)) dropped ∙ take-append_seam stored extra,
+    )
   where
     within_from : (whole : List ℕ) (at size : ℕ) → at + size ≤ length whole → is_past whole at size ≡ false
     within_from whole at size h = grind (arith, nat_tests)

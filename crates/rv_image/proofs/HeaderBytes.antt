@@ -1,7 +1,7 @@
 -- The header that was written is read back.
 
-use Rattle.std.proofs.Common.{◌≡◌, ℕ, ◌+◌, ◌*◌, ◌-◌, ◌≤◌, ◌<◌, ◌^◌, Bool, true, false, List, [], ◌∷◌, ◌++◌, length, drop, refl, arith, if◌then◌else◌}
-use Rattle.byteorder.specs.Endian.{little_bytes, little_number}
+use Rattle.std.proofs.Common.{◌≡◌, ℕ, ◌<◌, ◌^◌, Bool, true, false, List, ◌++◌, length, refl, arith, if◌then◌else◌}
+use Rattle.byteorder.specs.Endian.{little_bytes}
 use Rattle.byteorder.specs.Numbers.{little_number-reads_back}
 use Rattle.rv_image.specs.Linked.{Linked}
 use Rattle.rv_image.specs.Header.{field}
@@ -39,10 +39,19 @@ header_reads l rest small few =
     let behind_flags : List ℕ = little_bytes 2 64 ++ (little_bytes 2 56 ++ (little_bytes 2 (length (parts l)) ++ behind_count)) in
     let behind_entry : List ℕ = little_bytes 8 64 ++ (little_bytes 8 0 ++ (little_bytes 4 (if l.rvc then 1 else 0) ++ behind_flags)) in
     record {
-      magic = refl; class = refl; order = refl; version = refl; executable = refl; riscv = refl;
+      magic = refl;
+      class = refl;
+      order = refl;
+      version = refl;
+      executable = refl;
+      riscv = refl;
       entry = little_number-reads_back 8 l.map.entry behind_entry small;
-      programs = refl; sections = refl;
+      programs = refl;
+      sections = refl;
       flags = little_number-reads_back 4 (if l.rvc then 1 else 0) behind_flags (small_flag l.rvc);
       program_size = refl;
       program_count = little_number-reads_back 2 (length (parts l)) behind_count few;
-      section_size = refl; section_count = refl; names = refl }
+      section_size = refl;
+      section_count = refl;
+      names = refl;
+    }

@@ -1,4 +1,4 @@
-pub mod Tests
+pub mod FirstTrue
 pub mod Programs
 pub mod Loaded
 pub mod Apart

@@ -1,6 +1,6 @@
 -- Program headers that were written are read back.
 
-use Rattle.std.proofs.Common.{◌≡◌, ℕ, zero, suc, ◌+◌, ◌*◌, ◌-◌, ◌≤◌, ◌<◌, ◌^◌, Bool, true, false, List, [], ◌∷◌, ◌++◌, length, take, drop, map, refl, ap, sym, ◌∙◌, append_assoc, arith, zero-add, flat_map}
+use Rattle.std.proofs.Common.{◌≡◌, ℕ, ◌+◌, ◌*◌, ◌<◌, ◌^◌, List, [], ◌∷◌, ◌++◌, length, drop, map, refl, ap, sym, ◌∙◌, append_assoc, arith, flat_map}
 use Rattle.std.proofs.lemmas.List.{drop-drop}
 use Rattle.byteorder.specs.Endian.{little_bytes, little_number}
 use Rattle.byteorder.specs.Numbers.{little_number-reads_back}
@@ -14,8 +14,13 @@ drop_more m n xs = sym (drop-drop n m xs)
 -- the program header that a part gets
 abbrev pub program_of : ℕ → Part → Program
 program_of start part = record {
-    kind = 1; flags = part.flags; offset = offset_of start part; address = part.address;
-    file_size = length part.stored; memory_size = memory_size_of part }
+  kind = 1;
+  flags = part.flags;
+  offset = offset_of start part;
+  address = part.address;
+  file_size = length part.stored;
+  memory_size = memory_size_of part;
+}
 
 -- its numbers fit their fields
 pub record Fits (start : ℕ) (part : Part) : Type 0 where

@@ -1,20 +1,19 @@
 -- No test finds a fault in program headers that ascend below the stack, whose contents stand in the file.
 
-use Rattle.std.proofs.Common.{◌≡◌, ℕ, ◌+◌, ◌*◌, ◌-◌, ◌≤◌, ◌<◌, ◌^◌, Bool, true, false, not, nat_lt, List, [], ◌∷◌, ◌++◌, length, take, drop, replicate, map, filter, Option, Some, None, refl, ap, sym, ◌∙◌, arith, sum_by, zero-add, inl, inr, ◌⊎◌}
-use Rattle.std.specs.List.{list_any, list_all}
+use Rattle.std.proofs.Common.{◌≡◌, ℕ, ◌+◌, ◌-◌, ◌≤◌, ◌^◌, Bool, true, false, List, [], ◌∷◌, ◌++◌, length, take, drop, replicate, map, filter, None, refl, ap, sym, ◌∙◌, arith, sum_by, zero-add}
+use Rattle.std.specs.List.{list_all}
 use Rattle.std.proofs.lemmas.Bool.{and_from, le-ltb, le-leb, cond-true, cond-false}
 use Rattle.std.proofs.lemmas.Bool.Decides.{nat_tests}
 use Rattle.std.proofs.lemmas.List.Folds.{list_all-append}
 use Rattle.std.proofs.lemmas.List.Sums.{sum_by-cons}
 use Rattle.rv_image.specs.declared.program.Program.{Program}
-use Rattle.rv_image.specs.declared.fault.FileFault.TheVariants.{BadTable, Overlap, Truncated, Dynamic}
 use Rattle.rv_image.specs.Header.{is_load}
-use Rattle.rv_image.specs.Segment.{Segment, do_meet, stack_start, stack_end}
+use Rattle.rv_image.specs.Segment.{do_meet, stack_start, stack_end}
 use Rattle.rv_image.specs.ImageOf.{segment_in}
-use Rattle.rv_image.specs.FirstFault.{first_true, do_overlap, ends_by, is_past, program_tests, programs_tests, segment_tests, loaded_size}
+use Rattle.rv_image.specs.FirstFault.{first_true, ends_by, program_tests, programs_tests, segment_tests, loaded_size}
 use Rattle.rv_image.specs.Executable.{Part, memory_size_of, has_memory, offset_of, segment_of_part}
 use Rattle.rv_image.proofs.Programs.{none_meets, all_end_later}
-use Rattle.rv_image.proofs.Tests.{first_true_none}
+use Rattle.rv_image.proofs.FirstTrue.{first_true_none}
 use Rattle.rv_image.proofs.Parts.{program_of}
 use Rattle.rv_image.proofs.Contents.{Ascending, Stands, AllStand}
 
@@ -30,10 +29,12 @@ segment_sound : (start : ℕ) (before : List Program) (part : Part) (low : ℕ) 
     part.address + memory_size_of part ≤ stack_start → first_true (segment_tests before (program_of start part)) ≡ None
 unfolding segment_tests
 segment_sound start before part low ends after below =
-    rw (le-ltb (memory_size_of part) (length part.stored) (omega arith),
-        le-ltb (2 ^ 64) (part.address + memory_size_of part) (omega arith),
-        none_meets (program_of start part) before low ends after,
-        off_stack part.address (memory_size_of part) below) refl
+    rw (
+      le-ltb (memory_size_of part) (length part.stored) (omega arith),
+      le-ltb (2 ^ 64) (part.address + memory_size_of part) (omega arith),
+      none_meets (program_of start part) before low ends after,
+      off_stack part.address (memory_size_of part) below,
+    ) refl
 
 program_sound : (start : ℕ) (file : List ℕ) (before : List Program) (part : Part) (low : ℕ) → Stands start file part → list_all (ends_by low) before ≡ true → low ≤ part.address →
     part.address + memory_size_of part ≤ stack_start → first_true (program_tests file before (program_of start part)) ≡ None
@@ -49,9 +50,9 @@ programs_sound start file before (part ∷ parts) low stand ends up =
     let below = up_to end parts stack_start up.1 in
     let one : ends_by end this ≡ true = le-leb end end (omega arith) in
     let all : list_all (ends_by end) (before ++ (this ∷ [])) ≡ true =
-        list_all-append (ends_by end) before (this ∷ []) ∙ and_from _ _ (all_end_later low end before (omega (arith, up.0)) ends) (and_from _ _ one refl) in
+    list_all-append (ends_by end) before (this ∷ []) ∙ and_from _ _ (all_end_later low end before (omega (arith, up.0)) ends) (and_from _ _ one refl) in
     first_true_none (program_tests file before this) (programs_tests file (before ++ (this ∷ [])) (map (program_of start) parts))
-        (program_sound start file before part low stand.0 ends up.0 below)
+    (program_sound start file before part low stand.0 ends up.0 below)
     ∙ programs_sound start file (before ++ (this ∷ [])) parts end stand.1 all up.1
 
 -- all are loaded
@@ -66,7 +67,7 @@ segments_same start file [] stand = refl
 segments_same start file (part ∷ parts) stand =
     let zeros : memory_size_of part - length part.stored ≡ part.zeros = omega arith in
     let bytes : take (length part.stored) (drop (offset_of start part) file) ++ replicate (memory_size_of part - length part.stored) 0 ≡ part.stored ++ replicate part.zeros 0 =
-        (λ i. stand.0.bytes i ++ replicate (zeros i) 0) in
+    (λ i. stand.0.bytes i ++ replicate (zeros i) 0) in
     (λ i. record { address = part.address; bytes = bytes i; flags = part.flags } ∷ segments_same start file parts stand.1 i)
 
 pub loaded_parts : (start : ℕ) (parts : List Part) → loaded_size (map (program_of start) parts) ≡ sum_by memory_size_of parts

@@ -13,6 +13,8 @@ mod program;
 mod round_trip;
 mod segment;
 mod segments;
+#[cfg(test)]
+mod tests;
 mod writing;
 
 pub use fault::FileFault;

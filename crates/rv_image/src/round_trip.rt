@@ -6,13 +6,12 @@ ghost use Rattle.rv_image.specs.Executable.{linked_image};
 ghost use Rattle.rv_image.specs.Image.{image_of};
 ghost use Rattle.rv_image.specs.Linked.{linked_of};
 
-use std::alloc::Global;
-
 use crate::fault::FileFault;
 use crate::image::Image;
 use crate::linked::Linked;
 use crate::loading::load;
 use crate::writing::write_exec;
+use std::alloc::Global;
 
 /// The image of a linked program: its executable is written, and loaded again. Nothing but want of
 /// memory stands against it.

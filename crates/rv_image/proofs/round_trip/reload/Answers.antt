@@ -1,4 +1,4 @@
-use Rattle.std.proofs.Common.{◌≡◌, ◌∙◌, ◌<◌, ◌^◌, Option, Some, None, ap, sym, subst, inl, inr, List, ℕ, rules}
+use Rattle.std.proofs.Common.{◌≡◌, ◌∙◌, ◌<◌, ◌^◌, Option, Some, None, ap, sym, subst, inl, inr}
 use Rattle.std.proofs.lemmas.Result.{err_from_is_err_and}
 use Rattle.rv_image.specs.declared.fault.FileFault.{FileFault}
 use Rattle.rv_image.specs.ImageOf.{ImageOf}
@@ -6,7 +6,6 @@ use Rattle.rv_image.specs.FirstFault.{first_fault}
 use Rattle.rv_image.specs.Image.{image_of}
 use Rattle.rv_image.specs.Linked.{linked_of}
 use Rattle.rv_image.specs.Executable.{exe_of, linked_image}
-use Rattle.rv_image.specs.declared.fault.FileFault.TheVariants.{OutOfMemory}
 use Rattle.rv_image.proofs.LoadedAgain.{laid_out, reload_fault, reload_image, one_image}
 use Rattle.rv_image.proofs.round_trip.reload.Goals as goal
 
@@ -29,4 +28,4 @@ returns c =
     let small = subst (λ n. n < 2 ^ 64) c.entry-entry.ensures.value c.entry-entry.ensures.fits in
     let file = c.deref.ensures.value ∙ c.in_ok-file.ensures in
     one_image (exe_of l) (image_of c.in_ok-load.field-0) (linked_image l)
-        (subst (λ f. ImageOf f (image_of c.in_ok-load.field-0)) file c.in_ok-load.ensures.1) (reload_image l (laid_out c.args.linked.now small))
+    (subst (λ f. ImageOf f (image_of c.in_ok-load.field-0)) file c.in_ok-load.ensures.1) (reload_image l (laid_out c.args.linked.now small))
