@@ -1,3 +1,5 @@
 pub mod Registers
 pub mod Hart
 pub mod Action
+pub mod End
+pub mod Fetch

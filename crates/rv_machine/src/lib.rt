@@ -5,5 +5,7 @@
 
 mod action;
 mod alu;
+mod end;
+mod fetch;
 mod hart;
 mod registers;

@@ -1,0 +1,56 @@
+-- What a fetch comes to, by what may be executed and the low bits of the first byte.
+
+use Rattle.std.proofs.Common.{◌≡◌, ◌≢◌, ℕ, ◌+◌, ◌%◌, ◌^◌, Bool, true, false, ◌&&◌, refl, sym, ap, ◌∙◌, arith}
+use Rattle.std.specs.Prelude.{◌==◌, if◌then◌else◌}
+use Rattle.std.proofs.lemmas.Bool.{and_parts, false_from_ne_true, false≢true}
+use Rattle.std.proofs.lemmas.Bool.Decides.{nat_tests}
+use Rattle.rv_isa.specs.declared.instruction.Inst.{Inst}
+use Rattle.rv_isa_laws.specs.Memory.{Mem, Execute, may, number_at}
+use Rattle.rv_machine_laws.specs.Reader.{Reader}
+use Rattle.rv_machine_laws.specs.Run.{Fetched, NoRight, spelled, length_at, fetch}
+
+abbrev fetched_at : {S F : ℕ → Inst → Type 0} → Reader S F → Mem → ℕ → ℕ → Bool → Fetched
+fetched_at reader m a n right =
+    if right then spelled n (if n == 4 then reader.word (number_at m a 4) else reader.parcel (number_at m a 2)) else NoRight
+
+unfolded : {S F : ℕ → Inst → Type 0} (reader : Reader S F) (m : Mem) (a n : ℕ) (right : Bool) → length_at m a ≡ n → may m a n Execute ≡ right → fetch reader m a ≡ fetched_at reader m a n right
+unfolded reader m a n right e h =
+    ap (λ n. fetched_at reader m a n (may m a n Execute)) e ∙ ap (fetched_at reader m a n) h
+
+abbrev length_by : Bool → ℕ
+length_by b = if b then 4 else 2
+
+length_4 : (x : ℕ) → x ≡ 3 → length_by (x == 3) ≡ 4
+length_4 x e = ap (λ x. length_by (x == 3)) e
+
+length_2 : (x : ℕ) → x ≢ 3 → length_by (x == 3) ≡ 2
+length_2 x e = grind (arith, nat_tests)
+
+-- what may be executed as 4 bytes may be as 2
+may_shorter : (m : Mem) (a : ℕ) → may m a 4 Execute ≡ true → may m a 2 Execute ≡ true
+may_shorter m a h =
+    let front = and_parts (m.has (a % 2 ^ 64) Execute) (may m (a + 1) 3 Execute) h in
+    let back = and_parts (m.has ((a + 1) % 2 ^ 64) Execute) (may m (a + 1 + 1) 2 Execute) front.1 in
+    ap (λ x. x && (m.has ((a + 1) % 2 ^ 64) Execute && true)) front.0 ∙ ap (λ x. x && true) back.0
+
+may_no_longer : (m : Mem) (a : ℕ) → may m a 2 Execute ≡ false → may m a 4 Execute ≡ false
+may_no_longer m a h = false_from_ne_true _ (λ e. false≢true (sym h ∙ may_shorter m a e))
+
+pub fetch_word : {S F : ℕ → Inst → Type 0} (reader : Reader S F) (m : Mem) (a : ℕ) → m.byte (a % 2 ^ 64) % 4 ≡ 3 → may m a 4 Execute ≡ true → fetch reader m a ≡ spelled 4 (reader.word (number_at m a 4))
+fetch_word reader m a e h = unfolded reader m a 4 true (length_4 _ e) h
+
+pub fetch_parcel : {S F : ℕ → Inst → Type 0} (reader : Reader S F) (m : Mem) (a : ℕ) → m.byte (a % 2 ^ 64) % 4 ≢ 3 → may m a 2 Execute ≡ true → fetch reader m a ≡ spelled 2 (reader.parcel (number_at m a 2))
+fetch_parcel reader m a e h = unfolded reader m a 2 true (length_2 _ e) h
+
+pub fetch_long_parcel : {S F : ℕ → Inst → Type 0} (reader : Reader S F) (m : Mem) (a : ℕ) → m.byte (a % 2 ^ 64) % 4 ≢ 3 → may m a 4 Execute ≡ true → fetch reader m a ≡ spelled 2 (reader.parcel (number_at m a 2))
+fetch_long_parcel reader m a e h = fetch_parcel reader m a e (may_shorter m a h)
+
+pub fetch_torn : {S F : ℕ → Inst → Type 0} (reader : Reader S F) (m : Mem) (a : ℕ) → m.byte (a % 2 ^ 64) % 4 ≡ 3 → may m a 4 Execute ≡ false → fetch reader m a ≡ NoRight
+fetch_torn reader m a e h = unfolded reader m a 4 false (length_4 _ e) h
+
+fetch_none_by : {S F : ℕ → Inst → Type 0} (reader : Reader S F) (m : Mem) (a : ℕ) (b : Bool) → length_by b ≡ length_at m a → may m a 2 Execute ≡ false → fetch reader m a ≡ NoRight
+fetch_none_by reader m a true e h = unfolded reader m a 4 false (sym e) (may_no_longer m a h)
+fetch_none_by reader m a false e h = unfolded reader m a 2 false (sym e) h
+
+pub fetch_none : {S F : ℕ → Inst → Type 0} (reader : Reader S F) (m : Mem) (a : ℕ) → may m a 2 Execute ≡ false → fetch reader m a ≡ NoRight
+fetch_none reader m a h = fetch_none_by reader m a (m.byte (a % 2 ^ 64) % 4 == 3) refl h

@@ -1,0 +1,10 @@
+use Rattle.std.proofs.Common.{Some, None, sym, ap}
+use Rattle.rv_machine_laws.specs.Run as laws
+use Rattle.rv_machine_laws.proofs.Readings.{word_is}
+use Rattle.rv_machine.proofs.fetch.by_word.Goals as goal
+
+pub returns-in-Some : goal.returns-in-Some
+returns-in-Some c reader = ap (laws.spelled 4) (sym (word_is reader c.args.bits (Some c.in-Some.inst) c.in-Some.ensures))
+
+pub returns-in-None : goal.returns-in-None
+returns-in-None c reader = ap (laws.spelled 4) (sym (word_is reader c.args.bits None c.in-None.ensures))

@@ -1,0 +1,16 @@
+use Rattle.std.proofs.Common.{◌≡◌, ◌≢◌, ℕ, ◌%◌, ◌^◌, sym, ap, ◌∙◌, arith}
+use Rattle.rv_isa_laws.specs.Memory.{number_at}
+use Rattle.rv_machine_laws.specs.Run as laws
+use Rattle.rv_machine.proofs.FetchLemmas.{fetch_long_parcel}
+use Rattle.rv_machine.proofs.NumberLemmas.{low_bits_4, low_bytes}
+use Rattle.rv_machine.proofs.fetch.fetch.Goals as goal
+
+pub returns-else-word-eq3 : goal.returns-else-word-eq3
+returns-else-word-eq3 g c reader =
+    let m = g.M.Memory.mem c.args.memory.now in
+    let pc = c.args.pc in
+    let short : c.load-word.result % 4 ≢ 3 = c.if-word-eq3.false in
+    let first : m.byte (pc % 2 ^ 64) % 4 ≢ 3 = λ e. short (ap (λ w. w % 4) c.load-word.ensures.number ∙ low_bits_4 m pc ∙ e) in
+    let bytes : c.load-word.result % 0x1_0000 ≡ number_at m pc 2 = ap (λ w. w % 0x1_0000) c.load-word.ensures.number ∙ low_bytes m pc c.load-word.ensures.bytes in
+    c.by_parcel.ensures reader ∙ ap (λ p. laws.spelled 2 (reader.parcel p)) bytes
+    ∙ sym (fetch_long_parcel reader m pc first (sym c.may.ensures ∙ c.if-may.true))
