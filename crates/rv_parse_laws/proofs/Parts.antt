@@ -5,7 +5,7 @@ use Rattle.std.proofs.lemmas.Bool.{cases_Bool}
 use Rattle.rv_text_laws.specs.declared.sign.Sign.{Sign}
 use Rattle.rv_text_laws.specs.declared.sign.Sign.TheVariants.{Comma, Colon}
 use Rattle.rv_text_laws.specs.Grammar.{Kind, Space, Line_comment, Block_comment, Newline, Mark, Name as NameToken, Number, Reference as ReferenceToken, Bad_word, Text, Character, Bad_byte, Bad_token, End}
-use Rattle.rv_text_laws.specs.Lexing.{Token}
+use Rattle.rv_text_laws.specs.Lexing.{Token, is_last}
 use Rattle.rv_parse_laws.specs.Statement.{Mnemonic, Expression, Literal, Minus, Operand, Register, Value, Statement, Label, Norvc, Globl, Instruction}
 use Rattle.rv_parse_laws.specs.Words.{Beginning, Begins_instruction, Begins_globl, Begins_option, Begins_nothing}
 use Rattle.rv_parse_laws.specs.Syntax.{register_of, symbol_of, literal_of, value_of, begins, is_comma, is_colon, is_minus, is_norvc, is_end, Slot, A_register, A_value, slots, IsOperand, AreFurther, AreOperands, AreFurtherNames, AreNames, IsStatement, Part, Ends, Says, IsPart, EndsHere, StopsPart}
@@ -69,6 +69,10 @@ begins_no_end (Character byte) b h some = absurd (some (sym h))
 begins_no_end Bad_byte b h some = absurd (some (sym h))
 begins_no_end Bad_token b h some = absurd (some (sym h))
 begins_no_end End b h some = absurd (some (sym h))
+
+pub last_begins_nothing : (k : Kind) → is_last k ≡ true → begins k ≡ Begins_nothing
+last_begins_nothing (NameToken word) h = absurd (cc)
+last_begins_nothing _ h = refl
 
 pub operand_is : (s : Slot) (text rest : List Token) (o : Operand) → IsOperand s text o → operand_at s (text ++ rest) ≡ Ok (o, rest)
 operand_is A_register text rest o (t, r, w, e, v) = rw (w, v) (rw e refl)

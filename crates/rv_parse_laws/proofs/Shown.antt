@@ -179,3 +179,7 @@ operand_shown A_value N next (t ∷ ts) w live end e = go (is_minus t.kind) refl
         let k = taken_err t ts (value_of t.kind) (wrong_value t.kind) w e in
         at_first (InOperand A_value N) (code_in_operand A_value next) t ts w (in_operand_goes A_value N live)
           (λ text h. let f = value_front N t text minus h in let is : value_of t.kind ≡ Some f.0 = f.1 in let none : value_of t.kind ≡ None = k.0 in cc) k.1
+
+pub colon_no_last : (k : Kind) → is_colon k ≡ true → is_last k ≡ false
+colon_no_last (Mark sign) h = refl
+colon_no_last _ h = absurd (cc)
