@@ -7,3 +7,4 @@ pub mod Shown
 pub mod FirstWrong
 pub mod PartWrong
 pub mod NameLists
+pub mod Progress

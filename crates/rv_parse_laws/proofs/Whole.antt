@@ -4,10 +4,11 @@ use Rattle.std.proofs.Common.{◌≡◌, ℕ, zero, suc, ◌+◌, ◌-◌, ◌<�
 use Rattle.rv_text_laws.specs.Cut.{Piece, texts, Cuts, NothingReads, cut, Finds}
 use Rattle.rv_text_laws.specs.Lexing.{Token, Lexes}
 use Rattle.rv_text_laws.proofs.Cut.{unique, none_nothing, nothing_none}
-use Rattle.rv_parse_laws.specs.Statement.{Statement, Label, Norvc, Globl, Instruction}
+use Rattle.rv_parse_laws.specs.Statement.{Statement, Label, Norvc, Globl, Instruction, Spoken}
 use Rattle.rv_parse_laws.specs.Syntax.{Slot, Part, Ends, Says, IsPart, StopsPart}
 use Rattle.rv_parse_laws.specs.Parsing.{Wrong, Read, part_at}
-use Rattle.rv_parse_laws.specs.Reading.{AreParts}
+use Rattle.rv_text_laws.proofs.Tokens.{one_list}
+use Rattle.rv_parse_laws.specs.Reading.{AreParts, Reads, said}
 use Rattle.rv_parse_laws.proofs.Parts.{part_is}
 use Rattle.rv_parse_laws.proofs.Found.{part_found}
 
@@ -63,3 +64,9 @@ pub one_cut : (ts : List Token) (ps qs : List (Piece Part Token)) → AreParts t
 one_cut ts ps qs c d =
     let p : (ps, []) ≡ (qs, []) = sym (unique finds_parts ts ps [] c no_tokens) ∙ unique finds_parts ts qs [] d no_tokens in
     ap (λ (x : List (Piece Part Token) × List Token). x.0) p
+
+-- bytes have at most one reading
+pub one_reading : (bytes : List ℕ) (ss others : List Spoken) → Reads bytes ss → Reads bytes others → ss ≡ others
+one_reading bytes ss others (a, b, c, ts, ps, lexes, cuts, says) (d, e, f, us, qs, lexes', cuts', says') =
+    let same : ts ≡ us = one_list bytes ts us lexes lexes' in
+    says ∙ ap said (one_cut us ps qs (subst (λ xs. AreParts xs ps []) same cuts) cuts') ∙ sym says'

@@ -156,3 +156,7 @@ abbrev pub Refuses : List ℕ → Fault → Type 0
 Refuses bytes f =
   ((longest_source < length bytes) × (f ≡ record { code = limit; line = 0 }))
   ⊎ ((length bytes ≤ longest_source) × IsFirst bytes f)
+
+-- the tokens say these statements, up to the rest
+abbrev pub SaysUpTo : List Token → List Token → List Spoken → Type 0
+SaysUpTo ts rest ss = (ps : List (Piece Part Token)) × AreParts ts ps rest × (ss ≡ said ps)
