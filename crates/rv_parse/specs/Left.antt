@@ -1,6 +1,8 @@
 -- The tokens that a cursor has left, and what its readings answer.
 
-use Rattle.std.specs.Prelude.{◌≡◌, List, [], ◌∷◌, Result, Ok, Err, if◌then◌else◌}
+use Rattle.std.specs.Prelude.{◌≡◌, ℕ, List, [], ◌∷◌, length, Result, Ok, Err, ◌⊎◌, if◌then◌else◌}
+use Rattle.rv_parse_laws.specs.Statement.{Spoken}
+use Rattle.rv_parse_laws.specs.Reading.{most_statements, SaysUpTo}
 use Rattle.rv_text_laws.specs.Lexing as lexing
 use Rattle.rv_text.specs.Token.{token_of, kind_of}
 use Rattle.rv_text.specs.Fault.{number_of}
@@ -33,3 +35,13 @@ Fails refusals.OutOfMemory read = Unit {0}
 abbrev pub Answers : {X Y : Type 0} → (X → Y) → Result X Refusal → Result Y parsing.Wrong → Type 0
 Answers view (Ok x) read = read ≡ Ok (view x)
 Answers view (Err e) read = Fails e read
+
+-- no further statement is answered at these tokens, behind so many statements: the part there is wrong, or it is one too many
+abbrev pub StopsAt : Refusal → ℕ → List lexing.Token → Type 0
+StopsAt (refusals.At w) count ts = (parsing.part_at ts ≡ Err (wrong_of w)) ⊎ (count ≡ most_statements)
+StopsAt refusals.OutOfMemory count ts = Unit {0}
+
+-- the tokens say statements up to a place where no further one is answered
+abbrev pub RefusesTokens : List lexing.Token → Refusal → Type 0
+RefusesTokens ts (refusals.At w) = (rest : List lexing.Token) × (ss : List Spoken) × SaysUpTo ts rest ss × StopsAt (refusals.At w) (length ss) rest
+RefusesTokens ts refusals.OutOfMemory = Unit {0}

@@ -6,6 +6,7 @@ ghost use Rattle.rv_text.specs.Token.{token_of, kind_of};
 ghost use Rattle.rv_text_laws.specs.Lexing.{is_last};
 ghost use Rattle.rv_parse_laws.specs.Parsing.{wrong, register_at, literal_at, comma_at, end_at, symbol_at};
 ghost use Rattle.rv_parse.specs.View.{now_of, slot_of};
+ghost use Rattle.rv_parse.specs.StandIn.{tokens_left};
 ghost use Rattle.rv_parse.specs.Left.{left, wrong_of, Gives, Answers};
 
 use rv_isa::Reg;
@@ -71,6 +72,16 @@ pub struct Cursor<'a> {
 }
 
 impl<'a> Cursor<'a> {
+    /// The tokens of a lexer.
+    #[tactic(auto, unfolding(crate::specs::Left::left))]
+    pub fn new(lexer: Lexer<'a>) -> Self
+        ensures { left result ≡ tokens_left lexer.entry }
+    {
+        let mut lexer = lexer;
+        let next = lexer.next();
+        Cursor { next, lexer }
+    }
+
     /// Takes the next token, which is not the last.
     #[tactic(auto, unfolding(crate::specs::Left::left))]
     pub fn advance(&mut self)

@@ -3,7 +3,7 @@
 ghost use Rattle.std.specs.Prelude.{◌≡◌, option_map};
 ghost use Rattle.rv_text.specs.Token.{kind_of};
 ghost use Rattle.rv_text_laws.specs.Lexing.{is_last};
-ghost use Rattle.rv_parse_laws.specs.Syntax.{is_symbol, register_of, symbol_of, literal_of, value_of, begins, is_comma, is_colon, is_minus, is_norvc, is_end};
+ghost use Rattle.rv_parse_laws.specs.Syntax.{is_symbol, register_of, symbol_of, literal_of, value_of, begins, is_comma, is_colon, is_minus, is_norvc, is_end, is_source_end};
 ghost use Rattle.rv_parse.specs.View.{beginning_of, expression_of, now_of};
 
 use rv_isa::Reg;
@@ -121,4 +121,11 @@ pub fn is_last(kind: TokenKind<'_>) -> bool
     ensures { result ≡ is_last (kind_of kind.entry) }
 {
     matches!(kind, TokenKind::BadByte | TokenKind::BadToken | TokenKind::End)
+}
+
+/// The source's end.
+pub fn is_source_end(kind: TokenKind<'_>) -> bool
+    ensures { result ≡ is_source_end (kind_of kind.entry) }
+{
+    matches!(kind, TokenKind::End)
 }

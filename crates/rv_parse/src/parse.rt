@@ -1,7 +1,21 @@
 //! The statements of a source.
 
-ghost use Rattle.std.specs.Prelude.{◌≡◌};
-ghost use Rattle.rv_parse_laws.specs.Reading.{past_line};
+ghost use Rattle.std.specs.Prelude.{◌≡◌, ◌<◌, ◌≤◌, [],  IfOk, IfErr, MatchResult, map, length, false};
+ghost use Rattle.rv_text.specs.Token.{kind_of};
+ghost use Rattle.rv_parse_laws.specs.Syntax.{is_end, Says};
+ghost use Rattle.rv_parse_laws.specs.Parsing.{part_at};
+ghost use Rattle.rv_parse_laws.specs.Reading.{past_line, most_statements, SaysUpTo};
+ghost use Rattle.rv_parse.specs.StandIn.{tokens_left};
+ghost use Rattle.rv_parse.specs.View.{statement_of, said_by};
+ghost use Rattle.rv_parse.specs.Left.{left, StopsAt, RefusesTokens};
+
+use rv_text::SourceCode;
+use std::alloc::Global;
+
+use crate::cursor::{Cursor, Refusal, Wrong};
+use crate::kinds;
+use crate::lexer_stand_in::Lexer;
+use crate::statement::Statement;
 
 /// The longest source, in bytes.
 const LONGEST_SOURCE: usize = 1 << 24;
@@ -27,4 +41,65 @@ fn past_line(source: &[u8]) -> Option<usize>
         }
     }
     None
+}
+
+/// The statement at the front of the tokens, behind so many others; the next token ends none.
+fn next_statement<'a>(
+    alloc: Global,
+    cursor: &mut Cursor<'a>,
+    count: usize,
+) -> Result<Statement<'a>, Refusal>
+    requires { is_end (kind_of cursor.old.next.kind) ≡ false }
+    ensures read { IfOk result (λ s. part_at (left cursor.old) ≡ Ok (Says (statement_of s.kind), left cursor.new)) }
+    ensures line { IfOk result (λ s. s.line ≡ cursor.old.next.line) }
+    ensures room { IfOk result (λ s. count < most_statements) }
+    ensures stops { count ≤ most_statements → IfErr result (λ e. StopsAt e count (left cursor.old)) }
+{
+    let first = cursor.next;
+    let past = Wrong {
+        start: first.start,
+        line: first.line,
+        code: SourceCode::Limit,
+    };
+    match cursor.statement(alloc) {
+        Ok(kind) => {
+            if count < MOST_STATEMENTS {
+                Ok(Statement {
+                    kind,
+                    line: first.line,
+                })
+            } else {
+                Err(Refusal::At(past))
+            }
+        }
+        Err(Refusal::At(wrong)) => {
+            if count < MOST_STATEMENTS || wrong.start == first.start {
+                Err(Refusal::At(wrong))
+            } else {
+                Err(Refusal::At(past))
+            }
+        }
+        Err(Refusal::OutOfMemory) => Err(Refusal::OutOfMemory),
+    }
+}
+
+/// The statements that the tokens say, up to the source's end.
+#[tactic(auto, using(rv_parse_laws::proofs::Progress::end_no_last))]
+fn statements<'a>(alloc: Global, lexer: Lexer<'a>) -> Result<Vec<Statement<'a>>, Refusal>
+    ensures says { IfOk result (λ v. SaysUpTo (tokens_left lexer.entry) [] (map said_by v.items)) }
+    ensures within { IfOk result (λ v. length (map said_by v.items) ≤ most_statements) }
+    ensures refuses { IfErr result (λ e. RefusesTokens (tokens_left lexer.entry) e) }
+{
+    let mut cursor = Cursor::new(lexer);
+    let mut statements = Vec::new(alloc);
+    let mut count = 0;
+    while !kinds::is_source_end(cursor.next.kind) {
+        if kinds::is_end(cursor.next.kind) {
+            cursor.advance();
+        } else {
+            statements.push(next_statement(alloc, &mut cursor, count)?)?;
+            count += 1;
+        }
+    }
+    Ok(statements)
 }

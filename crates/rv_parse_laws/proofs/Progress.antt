@@ -1,10 +1,11 @@
 -- One part more at the end of those that were read.
 
-use Rattle.std.proofs.Common.{◌≡◌, ℕ, Bool, true, false, List, [], ◌∷◌, ◌++◌, append_assoc, Result, Ok, Err, refl, sym, ◌∙◌, ap, subst}
+use Rattle.std.proofs.Common.{◌≡◌, ℕ, Bool, true, false, List, [], ◌∷◌, ◌++◌, append_assoc, Result, Ok, Err, refl, sym, ◌∙◌, ap, subst, length, length-append, ◌<◌, arith}
 use Rattle.rv_text_laws.specs.Cut.{Piece, texts, Each, Cuts}
-use Rattle.rv_text_laws.specs.Lexing.{Token}
+use Rattle.rv_text_laws.specs.Lexing.{Token, is_last}
+use Rattle.rv_text_laws.specs.Grammar.{Kind, Bad_byte, Bad_token, End}
 use Rattle.rv_parse_laws.specs.Statement.{Statement, Label, Norvc, Globl, Instruction, Spoken}
-use Rattle.rv_parse_laws.specs.Syntax.{Part, Ends, Says, IsPart, StopsPart, is_end}
+use Rattle.rv_parse_laws.specs.Syntax.{Part, Ends, Says, IsPart, StopsPart, is_end, is_source_end}
 use Rattle.rv_parse_laws.specs.Parsing.{part_at}
 use Rattle.rv_parse_laws.specs.Reading.{AreParts, said, told, SaysUpTo}
 use Rattle.rv_parse_laws.proofs.Found.{part_found}
@@ -62,3 +63,23 @@ push_statement ts t before us rest s ss so is read =
 
 pub nothing_yet : (ts : List Token) → SaysUpTo ts ts []
 nothing_yet ts = ([], record { whole = refl; each = tt }, refl)
+
+-- a statement takes tokens
+pub statement_shorter : (ts rest : List Token) (s : Statement) → part_at ts ≡ Ok (Says s, rest) → length rest < length ts
+statement_shorter ts rest s read =
+    let f = part_found ts (Says s) rest read in go f.0 f.1 f.2
+  where
+    go : (text : List Token) → ts ≡ text ++ rest → IsPart (Says s) text → length rest < length ts
+    go [] whole spelled = absurd (no_text s spelled)
+    go (v ∷ vs) whole spelled = rw whole (omega (arith, length-append vs rest))
+
+-- a statement's end that is not the source's is not the last token
+pub end_no_last : (k : Kind) → is_source_end k ≡ false → is_end k ≡ true → is_last k ≡ false
+end_no_last Bad_byte no_end ends = absurd (cc)
+end_no_last Bad_token no_end ends = absurd (cc)
+end_no_last End no_end ends = absurd (cc)
+end_no_last _ no_end ends = refl
+
+pub source_end_is_end : (k : Kind) → is_source_end k ≡ true → (is_end k ≡ true) × (is_last k ≡ true)
+source_end_is_end End h = (refl, refl)
+source_end_is_end _ h = absurd (cc)

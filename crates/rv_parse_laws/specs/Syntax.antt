@@ -70,6 +70,11 @@ is_end (Mark Semicolon) = true
 is_end End = true
 is_end _ = false
 
+-- the source's end
+abbrev pub is_source_end : Kind → Bool
+is_source_end End = true
+is_source_end _ = false
+
 -- what may stand in one place of an instruction
 pub data Slot : Type 0 where
   A_register : Slot
