@@ -6,7 +6,7 @@ use Rattle.rv_parse_laws.specs.Reading.{most_statements, SaysUpTo}
 use Rattle.rv_text_laws.specs.Lexing as lexing
 use Rattle.rv_text.specs.Token.{token_of, kind_of}
 use Rattle.rv_text.specs.Fault.{number_of}
-use Rattle.rv_parse.specs.StandIn.{tokens_left}
+use Rattle.rv_text.specs.Left.{tokens_left}
 use Rattle.rv_parse_laws.specs.Parsing as parsing
 use Rattle.rv_parse.specs.declared.cursor.Cursor.{Cursor}
 use Rattle.rv_parse.specs.declared.cursor.Wrong.{Wrong}

@@ -6,16 +6,15 @@ ghost use Rattle.rv_text.specs.Token.{token_of, kind_of};
 ghost use Rattle.rv_text_laws.specs.Lexing.{is_last};
 ghost use Rattle.rv_parse_laws.specs.Parsing.{wrong, register_at, literal_at, comma_at, end_at, symbol_at};
 ghost use Rattle.rv_parse.specs.View.{now_of, slot_of};
-ghost use Rattle.rv_parse.specs.StandIn.{tokens_left};
+ghost use Rattle.rv_text.specs.Left.{tokens_left};
 ghost use Rattle.rv_parse.specs.Left.{left, wrong_of, Gives, Answers};
 
 use rv_isa::Reg;
-use rv_text::{SourceCode, Token};
+use rv_text::{Lexer, SourceCode, Token};
 use std::alloc::{AllocError, AllocFailed};
 
 use crate::fault::{self, Slot};
 use crate::kinds;
-use crate::lexer_stand_in::Lexer;
 
 /// A token that is wrong where it stands.
 #[derive(Clone, Copy, Debug, PartialEq, Eq, Drop)]

@@ -6,10 +6,12 @@
 mod cursor;
 mod fault;
 mod kinds;
-mod lexer_stand_in;
-mod parse;
+
 mod reading;
+mod source;
 mod statement;
 mod words;
 
+pub use source::parse;
+pub use rv_text::{SourceCode, SourceFault};
 pub use statement::{Expression, Numeric, Operation, Referring, Statement, StatementKind, Symbolic};

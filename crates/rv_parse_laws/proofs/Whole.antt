@@ -7,8 +7,9 @@ use Rattle.rv_text_laws.proofs.Cut.{unique, none_nothing, nothing_none}
 use Rattle.rv_parse_laws.specs.Statement.{Statement, Label, Norvc, Globl, Instruction, Spoken}
 use Rattle.rv_parse_laws.specs.Syntax.{Slot, Part, Ends, Says, IsPart, StopsPart}
 use Rattle.rv_parse_laws.specs.Parsing.{Wrong, Read, part_at}
-use Rattle.rv_text_laws.proofs.Tokens.{one_list}
-use Rattle.rv_parse_laws.specs.Reading.{AreParts, Reads, said}
+use Rattle.rv_text_laws.proofs.Tokens.{one_list, given}
+use Rattle.rv_parse_laws.specs.Reading.{AreParts, Reads, said, SaysUpTo, past_line, longest_source, most_statements}
+use Rattle.rv_text_laws.specs.Front.{tokens_from}
 use Rattle.rv_parse_laws.proofs.Parts.{part_is}
 use Rattle.rv_parse_laws.proofs.Found.{part_found}
 
@@ -70,3 +71,8 @@ pub one_reading : (bytes : List ℕ) (ss others : List Spoken) → Reads bytes s
 one_reading bytes ss others (a, b, c, ts, ps, lexes, cuts, says) (d, e, f, us, qs, lexes', cuts', says') =
     let same : ts ≡ us = one_list bytes ts us lexes lexes' in
     says ∙ ap said (one_cut us ps qs (subst (λ xs. AreParts xs ps []) same cuts) cuts') ∙ sym says'
+
+-- what the tokens of bytes say within the limits is their reading
+pub reads_as : (bytes : List ℕ) (ts : List Token) (ss : List Spoken) → length bytes ≤ longest_source → past_line 0 0 bytes ≡ None → length ss ≤ most_statements
+  → ts ≡ tokens_from 0 1 bytes → SaysUpTo ts [] ss → Reads bytes ss
+reads_as bytes ts ss short lines few is (ps, cuts, says) = (short, lines, few, ts, ps, subst (Lexes bytes) (sym is) (given bytes), cuts, says)

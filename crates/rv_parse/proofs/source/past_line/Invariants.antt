@@ -1,6 +1,6 @@
 use Rattle.std.proofs.Common.{◌≡◌, ◌≤◌, drop}
 use Rattle.rv_parse_laws.specs.Reading.{past_line, longest_line}
-use Rattle.rv_parse.proofs.parse.past_line.Given as goal
+use Rattle.rv_parse.proofs.source.past_line.Given as goal
 
 -- what is left has the place, where the source has it
 abbrev pub invariant-loop-place : goal.invariant-loop-place

@@ -1,20 +1,21 @@
 //! The statements of a source.
 
-ghost use Rattle.std.specs.Prelude.{◌≡◌, ◌<◌, ◌≤◌, [],  IfOk, IfErr, MatchResult, map, length, false};
+ghost use Rattle.std.specs.Prelude.{◌≡◌, ◌<◌, ◌≤◌, [],  IfOk, IfErr, IfSome, MatchResult, map, length, false, take, ◌+◌};
 ghost use Rattle.rv_text.specs.Token.{kind_of};
+ghost use Rattle.rv_text_laws.specs.Lexing.{newlines};
 ghost use Rattle.rv_parse_laws.specs.Syntax.{is_end, Says};
 ghost use Rattle.rv_parse_laws.specs.Parsing.{part_at};
-ghost use Rattle.rv_parse_laws.specs.Reading.{past_line, most_statements, SaysUpTo};
-ghost use Rattle.rv_parse.specs.StandIn.{tokens_left};
+ghost use Rattle.rv_parse_laws.specs.Reading.{Reads, past_line, most_statements, SaysUpTo};
+ghost use Rattle.rv_text.specs.Left.{tokens_left};
 ghost use Rattle.rv_parse.specs.View.{statement_of, said_by};
 ghost use Rattle.rv_parse.specs.Left.{left, StopsAt, RefusesTokens};
 
-use rv_text::SourceCode;
+use rv_text::{Lexer, SourceCode, SourceFault};
 use std::alloc::Global;
 
 use crate::cursor::{Cursor, Refusal, Wrong};
+use crate::fault::LONGEST_NAME;
 use crate::kinds;
-use crate::lexer_stand_in::Lexer;
 use crate::statement::Statement;
 
 /// The longest source, in bytes.
@@ -28,7 +29,8 @@ const MOST_STATEMENTS: usize = 1 << 22;
 
 /// The place of the first byte past the limit of its line.
 fn past_line(source: &[u8]) -> Option<usize>
-    ensures { result ≡ past_line 0 0 source.now }
+    ensures place { result ≡ past_line 0 0 source.now }
+    ensures within { IfSome result (λ place. place ≤ length source.now) }
 {
     let mut before = 0;
     for (place, byte) in source.iter().enumerate() {
@@ -102,4 +104,61 @@ fn statements<'a>(alloc: Global, lexer: Lexer<'a>) -> Result<Vec<Statement<'a>>,
         }
     }
     Ok(statements)
+}
+
+/// The line of a place, from 1.
+fn line_of(text: &[u8]) -> u32
+    requires { length text.now ≤ 16777216 }
+    ensures { result ≡ 1 + newlines text.now }
+{
+    let mut line = 1;
+    for byte in text {
+        if *byte == b'\n' {
+            line += 1;
+        }
+    }
+    line
+}
+
+/// Where the fault of a wrong token stands: a name's limit at the first byte past it.
+fn place_of(wrong: Wrong) -> usize {
+    if matches!(wrong.code, SourceCode::Limit) {
+        wrong.start as usize + LONGEST_NAME
+    } else {
+        wrong.start as usize
+    }
+}
+
+/// The statements of a source. A fault names its line, from 1: it is the first of the source, in the order of its bytes;
+/// a source over 16 MiB has it at line 0.
+pub fn parse(alloc: Global, source: &[u8]) -> Result<Vec<Statement<'_>>, SourceFault>
+    ensures { IfOk result (λ v. Reads source.now (map said_by v.items)) }
+{
+    if LONGEST_SOURCE < source.len() {
+        return Err(SourceFault::At {
+            code: SourceCode::Limit,
+            line: 0,
+        });
+    }
+    let past = past_line(source);
+    match statements(alloc, Lexer::new(source)) {
+        Err(Refusal::OutOfMemory) => Err(SourceFault::OutOfMemory),
+        Err(Refusal::At(wrong)) => match past {
+            Some(place) if place < place_of(wrong) => Err(SourceFault::At {
+                code: SourceCode::Limit,
+                line: line_of(&source[..place]),
+            }),
+            _ => Err(SourceFault::At {
+                code: wrong.code,
+                line: wrong.line,
+            }),
+        },
+        Ok(statements) => match past {
+            Some(place) => Err(SourceFault::At {
+                code: SourceCode::Limit,
+                line: line_of(&source[..place]),
+            }),
+            None => Ok(statements),
+        },
+    }
 }

@@ -1,9 +1,9 @@
 use Rattle.std.proofs.Common.{◌≡◌, ◌≤◌, map, length}
 use Rattle.rv_parse_laws.specs.Reading.{SaysUpTo, most_statements}
-use Rattle.rv_parse.specs.StandIn.{tokens_left}
+use Rattle.rv_text.specs.Left.{tokens_left}
 use Rattle.rv_parse.specs.View.{said_by}
 use Rattle.rv_parse.specs.Left.{left}
-use Rattle.rv_parse.proofs.parse.statements.Given as goal
+use Rattle.rv_parse.proofs.source.statements.Given as goal
 
 -- the tokens say the statements so far, up to those that are left
 abbrev pub invariant-loop-cursor : goal.invariant-loop-cursor
