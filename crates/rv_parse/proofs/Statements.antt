@@ -18,17 +18,17 @@ said_push [] s = refl
 said_push (x ∷ xs) s = ap (λ ss. said_by x ∷ ss) (said_push xs s)
 
 pub statements_push : (ts : List lexing.Token) (t : lexing.Token) (before us rest : List lexing.Token) (s : Statement) (items new : List Statement)
-  → SaysUpTo ts before (map said_by items) → before ≡ t ∷ us → part_at before ≡ Ok (Says (statement_of s.kind), rest) → s.line ≡ t.line → new ≡ items ++ s ∷ []
-  → SaysUpTo ts rest (map said_by new)
+    → SaysUpTo ts before (map said_by items) → before ≡ t ∷ us → part_at before ≡ Ok (Says (statement_of s.kind), rest) → s.line ≡ t.line → new ≡ items ++ s ∷ []
+    → SaysUpTo ts rest (map said_by new)
 statements_push ts t before us rest s items new so is read line pushed =
     let lines : said_by s ≡ record { line = t.line; says = statement_of s.kind } = ap (λ (n : ℕ). record { line = n; says = statement_of s.kind }) line in
     subst (SaysUpTo ts rest) (ap (λ (x : Spoken). map said_by items ++ x ∷ []) (sym lines) ∙ sym (said_push items s) ∙ ap (map said_by) (sym pushed))
-      (push_statement ts t before us rest (statement_of s.kind) (map said_by items) so is read)
+    (push_statement ts t before us rest (statement_of s.kind) (map said_by items) so is read)
 
 pub counted_push : (s : Statement) (items new : List Statement) (n : ℕ) → length (map said_by items) ≡ n → new ≡ items ++ s ∷ [] → length (map said_by new) ≡ n + 1
 counted_push s items new n counted pushed =
     ap (λ (ss : List Statement). length (map said_by ss)) pushed ∙ ap (λ (ss : List Spoken). length ss) (said_push items s)
-      ∙ omega (arith, counted, length-append (map said_by items) (said_by s ∷ []))
+    ∙ omega (arith, counted, length-append (map said_by items) (said_by s ∷ []))
 
 -- a cursor has its next token first
 abbrev pub behind : Cursor → List lexing.Token

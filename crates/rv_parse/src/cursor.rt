@@ -9,12 +9,11 @@ ghost use Rattle.rv_parse.specs.View.{now_of, slot_of};
 ghost use Rattle.rv_text.specs.Left.{tokens_left};
 ghost use Rattle.rv_parse.specs.Left.{left, wrong_of, Gives, Answers};
 
+use crate::fault::{self, Slot};
+use crate::kinds;
 use rv_isa::Reg;
 use rv_text::{Lexer, SourceCode, Token};
 use std::alloc::{AllocError, AllocFailed};
-
-use crate::fault::{self, Slot};
-use crate::kinds;
 
 /// A token that is wrong where it stands.
 #[derive(Clone, Copy, Debug, PartialEq, Eq, Drop)]

@@ -8,9 +8,8 @@ ghost use Rattle.rv_text.specs.Token.{kind_of};
 ghost use Rattle.rv_parse_laws.specs.Faults.{wrong_or, wrong_name, wrong_register, wrong_value, wrong_literal, wrong_after, wrong_symbol, wrong_option, wrong_word, wrong_start, wrong_number, wrong_label, is_operator};
 ghost use Rattle.rv_parse.specs.View.{slot_of};
 
-use rv_text::{Sign, SourceCode, TokenKind};
-
 use crate::words::{is_known, is_option, register_named};
+use rv_text::{Sign, SourceCode, TokenKind};
 
 /// The longest name, in bytes.
 pub const LONGEST_NAME: usize = 4095;
@@ -65,7 +64,8 @@ pub fn at_value(kind: TokenKind<'_>) -> SourceCode
 {
     match kind {
         TokenKind::Name(name) => at_name(SourceCode::UnsupportedHere, name),
-        TokenKind::Text(_) | TokenKind::Mark(Sign::Open | Sign::Plus | Sign::Tilde | Sign::Percent) => {
+        TokenKind::Text(_)
+        | TokenKind::Mark(Sign::Open | Sign::Plus | Sign::Tilde | Sign::Percent) => {
             SourceCode::UnsupportedHere
         }
         _ => or_place(kind, SourceCode::BadOperands),

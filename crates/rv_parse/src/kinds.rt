@@ -6,12 +6,11 @@ ghost use Rattle.rv_text_laws.specs.Lexing.{is_last};
 ghost use Rattle.rv_parse_laws.specs.Syntax.{is_symbol, register_of, symbol_of, literal_of, value_of, begins, is_comma, is_colon, is_minus, is_norvc, is_end, is_source_end};
 ghost use Rattle.rv_parse.specs.View.{beginning_of, expression_of, now_of};
 
-use rv_isa::Reg;
-use rv_text::{Sign, TokenKind};
-
 use crate::fault::LONGEST_NAME;
 use crate::statement::Expression;
 use crate::words::{Beginning, beginning_with, register_named};
+use rv_isa::Reg;
+use rv_text::{Sign, TokenKind};
 
 /// A name that a symbol may have.
 #[tactic(auto, unfolding(rv_parse_laws::specs::Syntax::is_symbol))]
@@ -120,7 +119,10 @@ pub fn is_end(kind: TokenKind<'_>) -> bool
 pub fn is_last(kind: TokenKind<'_>) -> bool
     ensures { result ≡ is_last (kind_of kind.entry) }
 {
-    matches!(kind, TokenKind::BadByte | TokenKind::BadToken | TokenKind::End)
+    matches!(
+        kind,
+        TokenKind::BadByte | TokenKind::BadToken | TokenKind::End
+    )
 }
 
 /// The source's end.

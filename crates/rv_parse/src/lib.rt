@@ -6,12 +6,15 @@
 mod cursor;
 mod fault;
 mod kinds;
-
 mod reading;
 mod source;
 mod statement;
+#[cfg(test)]
+mod tests;
 mod words;
 
-pub use source::parse;
 pub use rv_text::{SourceCode, SourceFault};
-pub use statement::{Expression, Numeric, Operation, Referring, Statement, StatementKind, Symbolic};
+pub use source::parse;
+pub use statement::{
+    Expression, Numeric, Operation, Referring, Statement, StatementKind, Symbolic,
+};

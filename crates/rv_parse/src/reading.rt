@@ -9,14 +9,13 @@ ghost use Rattle.rv_parse_laws.specs.Parsing.{value_at, norvc_at, operands_at, n
 ghost use Rattle.rv_parse.specs.View.{now_of, expression_of, statement_of};
 ghost use Rattle.rv_parse.specs.Left.{left, Gives, Answers};
 
-use rv_text::Token;
-use std::alloc::Global;
-
 use crate::cursor::{Cursor, Refusal, Wrong};
 use crate::fault::{self, Slot};
 use crate::kinds;
 use crate::statement::{Expression, Operation, StatementKind};
 use crate::words::{Beginning, Mnemonic};
+use rv_text::Token;
+use std::alloc::Global;
 
 impl<'a> Cursor<'a> {
     /// An expression: a number or a character, with or without a minus, a symbol or a reference.
@@ -112,7 +111,11 @@ impl<'a> Cursor<'a> {
                 self.advance();
                 Ok(StatementKind::Label(name))
             }
-            None => Err(Wrong { start: first.start, line: first.line, code: fault::at_label(first.kind) }),
+            None => Err(Wrong {
+                start: first.start,
+                line: first.line,
+                code: fault::at_label(first.kind),
+            }),
         }
     }
 
@@ -127,7 +130,11 @@ impl<'a> Cursor<'a> {
             Beginning::Instruction(Mnemonic::Li) => Ok(self.li()?),
             Beginning::Globl => Ok(StatementKind::Globl(self.names(alloc)?)),
             Beginning::Option => Ok(self.option()?),
-            Beginning::Nothing => Err(Refusal::At(Wrong { start: first.start, line: first.line, code: fault::at_start(first.kind) })),
+            Beginning::Nothing => Err(Refusal::At(Wrong {
+                start: first.start,
+                line: first.line,
+                code: fault::at_start(first.kind),
+            })),
         }
     }
 

@@ -1,6 +1,6 @@
 //! The statements of a source.
 
-ghost use Rattle.std.specs.Prelude.{◌≡◌, ◌<◌, ◌≤◌, [],  IfOk, IfErr, IfSome, MatchResult, map, length, false, take, ◌+◌};
+ghost use Rattle.std.specs.Prelude.{◌≡◌, ◌<◌, ◌≤◌, [], IfOk, IfErr, IfSome, MatchResult, map, length, false, take, ◌+◌};
 ghost use Rattle.rv_text.specs.Token.{kind_of};
 ghost use Rattle.rv_text_laws.specs.Lexing.{newlines};
 ghost use Rattle.rv_parse_laws.specs.Syntax.{is_end, Says};
@@ -10,13 +10,12 @@ ghost use Rattle.rv_text.specs.Left.{tokens_left};
 ghost use Rattle.rv_parse.specs.View.{statement_of, said_by};
 ghost use Rattle.rv_parse.specs.Left.{left, StopsAt, RefusesTokens};
 
-use rv_text::{Lexer, SourceCode, SourceFault};
-use std::alloc::Global;
-
 use crate::cursor::{Cursor, Refusal, Wrong};
 use crate::fault::LONGEST_NAME;
 use crate::kinds;
 use crate::statement::Statement;
+use rv_text::{Lexer, SourceCode, SourceFault};
+use std::alloc::Global;
 
 /// The longest source, in bytes.
 const LONGEST_SOURCE: usize = 1 << 24;

@@ -24,10 +24,22 @@ impl<'a> Expression<'a> {
         ensures { statement_of result ≡ with_expression operation (expression_of self.entry) }
     {
         match self {
-            Expression::Literal(number) => StatementKind::Numeric(Numeric { number, operation, negated: false }),
-            Expression::Negated(number) => StatementKind::Numeric(Numeric { number, operation, negated: true }),
+            Expression::Literal(number) => StatementKind::Numeric(Numeric {
+                number,
+                operation,
+                negated: false,
+            }),
+            Expression::Negated(number) => StatementKind::Numeric(Numeric {
+                number,
+                operation,
+                negated: true,
+            }),
             Expression::Name(name) => StatementKind::Symbolic(Symbolic { name, operation }),
-            Expression::Reference(digits, forward) => StatementKind::Referring(Referring { digits, operation, forward }),
+            Expression::Reference(digits, forward) => StatementKind::Referring(Referring {
+                digits,
+                operation,
+                forward,
+            }),
         }
     }
 }

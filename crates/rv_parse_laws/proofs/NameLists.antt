@@ -29,19 +29,19 @@ unfolding names_at
 names_first_wrong ts w e = rw e refl
 
 pub names_step : (names : List (List ℕ)) (t : Token) (ts : List Token) (name : List ℕ) (rest : List Token) → is_comma t.kind ≡ true → symbol_at ts ≡ Ok (name, rest)
-  → prepended names (further_names_at (t ∷ ts)) ≡ prepended (names ++ name ∷ []) (further_names_at rest)
+    → prepended names (further_names_at (t ∷ ts)) ≡ prepended (names ++ name ∷ []) (further_names_at rest)
 names_step names t [] name rest comma e = absurd (cc)
 names_step names t (u ∷ ts) name rest comma e = rw comma (go (symbol_of u.kind) e)
   where
     go : (o : Option (List ℕ)) → taken u ts o (wrong_symbol u.kind) ≡ Ok (name, rest)
-      → prepended names (with_name u o (further_names_at ts)) ≡ prepended (names ++ name ∷ []) (further_names_at rest)
+        → prepended names (with_name u o (further_names_at ts)) ≡ prepended (names ++ name ∷ []) (further_names_at rest)
     go (Some x) e =
         let p : (x, ts) ≡ (name, rest) = cc in
         prepended_one names x (further_names_at ts) ∙ ap (λ (q : List ℕ × List Token). prepended (names ++ q.0 ∷ []) (further_names_at q.1)) p
     go None e = absurd (cc)
 
 pub names_step_wrong : (names : List (List ℕ)) (t : Token) (ts : List Token) (w : Wrong) → is_comma t.kind ≡ true → symbol_at ts ≡ Err w
-  → prepended names (further_names_at (t ∷ ts)) ≡ Err w
+    → prepended names (further_names_at (t ∷ ts)) ≡ Err w
 names_step_wrong names t [] w comma e = let same : nowhere ≡ w = cc in rw comma (ap (λ (x : Wrong). Err x) same)
 names_step_wrong names t (u ∷ ts) w comma e = rw comma (go (symbol_of u.kind) e)
   where

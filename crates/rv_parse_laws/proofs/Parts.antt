@@ -113,7 +113,7 @@ names_is text rest names (t, more, name, others, w, is, are, v) ends =
 
 -- a statement behind its first token, no label
 begun_is : (b : Beginning) (t : Token) (us : List Token) (s : Statement) (rest : List Token) → begins t.kind ≡ b → (b ≡ Begins_nothing → ⊥)
-  → colon_next us ≡ false → begun_at b t us ≡ Ok (s, rest) → part_at (t ∷ us) ≡ Ok (Says s, rest)
+    → colon_next us ≡ false → begun_at b t us ≡ Ok (s, rest) → part_at (t ∷ us) ≡ Ok (Says s, rest)
 unfolding part_at statement_at
 begun_is b t us s rest is some no_colon e = rw (begins_no_end t.kind b is some, no_colon, is, e) refl
 
@@ -123,9 +123,9 @@ part_is Ends text rest (t, w, is) stops = rw w (rw is refl)
 part_is (Says (Label name)) text rest (t, c, w, is, colon) stops = rw w (rw (symbol_no_end t.kind name is, colon, is) refl)
 part_is (Says (Instruction m os)) text rest (t, more, w, is, are) ends =
     rw w (begun_is (Begins_instruction m) t (more ++ rest) (Instruction m os) rest is (λ h. cc) (operands_no_colon (slots m) more rest os are ends)
-      (rw (operands_is (slots m) more rest os are ends) refl))
+    (rw (operands_is (slots m) more rest os are ends) refl))
 part_is (Says (Globl names)) text rest (t, more, w, is, (u, others, name, names', x, is', are, v)) ends =
     rw w (begun_is Begins_globl t (more ++ rest) (Globl names) rest is (λ h. cc) (rw x (symbol_no_colon u.kind name is'))
-      (rw (names_is more rest names (u, others, name, names', x, is', are, v) ends) refl))
+    (rw (names_is more rest names (u, others, name, names', x, is', are, v) ends) refl))
 part_is (Says Norvc) text rest (t, o, w, is, norvc) (u, us, e, ends) =
     rw (w, e) (begun_is Begins_option t (o ∷ u ∷ us) Norvc (u ∷ us) is (λ h. cc) (norvc_no_colon o.kind norvc) (rw (norvc, ends) refl))

@@ -16,7 +16,7 @@ texts_push (p ∷ ps) x rest =
     append_assoc p.text (texts (ps ++ x ∷ [])) rest ∙ ap (λ us. p.text ++ us) (texts_push ps x rest) ∙ sym (append_assoc p.text (texts ps) (x.text ++ rest))
 
 each_push : (ps : List (Piece Part Token)) (x : Piece Part Token) (rest : List Token) → Each IsPart StopsPart ps (x.text ++ rest) → IsPart x.kind x.text → StopsPart x.kind rest
-  → Each IsPart StopsPart (ps ++ x ∷ []) rest
+    → Each IsPart StopsPart (ps ++ x ∷ []) rest
 each_push [] x rest each is stops = (is, stops, tt)
 each_push (p ∷ ps) x rest (a, b, each) is stops = (a, subst (StopsPart p.kind) (sym (texts_push ps x rest)) b, each_push ps x rest each is stops)
 
@@ -30,10 +30,11 @@ said_push (p ∷ ps) x = ap (λ us. told p.kind p.text ++ us) (said_push ps x) �
 
 pub push : (ts text rest : List Token) (p : Part) (ss : List Spoken) → SaysUpTo ts (text ++ rest) ss → IsPart p text → StopsPart p rest → SaysUpTo ts rest (ss ++ told p text)
 push ts text rest p ss (ps, cuts, is_said) is stops =
-    let x : Piece Part Token = record { kind = p; text = text } in
-    (ps ++ x ∷ [],
-     record { whole = cuts.whole ∙ sym (texts_push ps x rest); each = each_push ps x rest cuts.each is stops },
-     ap (λ us. us ++ told p text) is_said ∙ sym (said_push ps x))
+    let x : Piece Part Token = record { kind = p; text = text } in (
+      ps ++ x ∷ [],
+      record { whole = cuts.whole ∙ sym (texts_push ps x rest); each = each_push ps x rest cuts.each is stops },
+      ap (λ us. us ++ told p text) is_said ∙ sym (said_push ps x),
+    )
 
 -- an end of a statement
 pub push_end : (ts : List Token) (t : Token) (before rest : List Token) (ss : List Spoken) → SaysUpTo ts before ss → before ≡ t ∷ rest → is_end t.kind ≡ true → SaysUpTo ts rest ss
@@ -49,7 +50,7 @@ no_text Norvc (t, o, w, is, norvc) = cc
 
 -- a statement, with its line
 pub push_statement : (ts : List Token) (t : Token) (before us rest : List Token) (s : Statement) (ss : List Spoken) → SaysUpTo ts before ss → before ≡ t ∷ us
-  → part_at before ≡ Ok (Says s, rest) → SaysUpTo ts rest (ss ++ record { line = t.line; says = s } ∷ [])
+    → part_at before ≡ Ok (Says s, rest) → SaysUpTo ts rest (ss ++ record { line = t.line; says = s } ∷ [])
 push_statement ts t before us rest s ss so is read =
     let f = part_found before (Says s) rest read in go f.0 f.1 f.2 f.3
   where
@@ -59,7 +60,7 @@ push_statement ts t before us rest s ss so is read =
         let same : t ∷ us ≡ v ∷ (vs ++ rest) = sym is ∙ whole in
         let head : t ≡ v = cc in
         subst (λ (u : Token). SaysUpTo ts rest (ss ++ record { line = u.line; says = s } ∷ [])) (sym head)
-          (push ts (v ∷ vs) rest (Says s) ss (subst (λ xs. SaysUpTo ts xs ss) whole so) spelled stops)
+        (push ts (v ∷ vs) rest (Says s) ss (subst (λ xs. SaysUpTo ts xs ss) whole so) spelled stops)
 
 pub nothing_yet : (ts : List Token) → SaysUpTo ts ts []
 nothing_yet ts = ([], record { whole = refl; each = tt }, refl)

@@ -44,13 +44,13 @@ seam text rest = omega (arith, length-append text rest)
 pub finds_parts : Finds Part Token IsPart StopsPart find_part
 unfolding find_part
 finds_parts = record {
-    is = λ p text rest spelled stops. ap (counted (length (text ++ rest))) (part_is p text rest spelled stops) ∙ ap (λ n. Some (p, n)) (seam text rest);
-    found = λ all p n e. found all p n e;
-    some = part_some;
-  }
+  is = λ p text rest spelled stops. ap (counted (length (text ++ rest))) (part_is p text rest spelled stops) ∙ ap (λ n. Some (p, n)) (seam text rest);
+  found = λ all p n e. found all p n e;
+  some = part_some;
+}
   where
     found : (all : List Token) (p : Part) (n : ℕ) → find_part all ≡ Some (p, n)
-      → (text : List Token) × (rest : List Token) × (all ≡ text ++ rest) × (n ≡ length text) × IsPart p text × StopsPart p rest
+        → (text : List Token) × (rest : List Token) × (all ≡ text ++ rest) × (n ≡ length text) × IsPart p text × StopsPart p rest
     found all p n e =
         let c = counted_some (length all) (part_at all) p n e in
         let f = part_found all p c.0 c.1 in
@@ -74,5 +74,5 @@ one_reading bytes ss others (a, b, c, ts, ps, lexes, cuts, says) (d, e, f, us, q
 
 -- what the tokens of bytes say within the limits is their reading
 pub reads_as : (bytes : List ℕ) (ts : List Token) (ss : List Spoken) → length bytes ≤ longest_source → past_line 0 0 bytes ≡ None → length ss ≤ most_statements
-  → ts ≡ tokens_from 0 1 bytes → SaysUpTo ts [] ss → Reads bytes ss
+    → ts ≡ tokens_from 0 1 bytes → SaysUpTo ts [] ss → Reads bytes ss
 reads_as bytes ts ss short lines few is (ps, cuts, says) = (short, lines, few, ts, ps, subst (Lexes bytes) (sym is) (given bytes), cuts, says)

@@ -7,5 +7,4 @@ ghost use Rattle.rv_parse_laws.specs.Reading.{Reads};
 /// Bytes have at most one reading.
 pub fn one_reading()
     ensures { (bytes : List ℕ) (ss others : List Spoken) → Reads bytes ss → Reads bytes others → ss ≡ others }
-{
-}
+{}
