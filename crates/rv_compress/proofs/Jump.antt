@@ -1,6 +1,6 @@
 -- The offset of c.j: what is gathered from its eleven bits scatters back to them, and the other way round.
 -- Each is a table of 2,048 lines that the check computes.
-use Rattle.std.proofs.Common.{◌≡◌, ℕ, zero, suc, Bool, true, ◌&&◌, nat_eq, ◌+◌, ◌*◌, ◌/◌, ◌%◌, ◌^◌, ◌<◌, ◌≤◌, ℤ, pos, negsuc, ◌≤ℤ◌, unsigned_abs, eqb-true, sym, refl, ap, subst, ◌∙◌, arith, inl, inr}
+use Rattle.std.proofs.Common.{◌≡◌, ℕ, zero, suc, Bool, true, ◌&&◌, nat_eq, ◌+◌, ◌*◌, ◌/◌, ◌%◌, ◌^◌, ◌<◌, ◌≤◌, ℤ, pos, negsuc, ◌≤ℤ◌, eqb-true, sym, refl, ap, subst, ◌∙◌, arith, inl, inr}
 use Rattle.std.proofs.lemmas.Bool.{cases_lt}
 use Rattle.std.proofs.Math.Nat.{pow-suc}
 use Rattle.rv_compress.specs.declared.form.Compressed.{Compressed}
@@ -48,7 +48,7 @@ gathered-back : (half : ℕ) → half < 2048 → gathered (jump_offset (half * 2
 gathered-back half below = eqb-true _ _ (within gathers 11 0 half gathers-each (omega arith) (omega arith))
 
 -- an offset whose field is `f` is the one gathered from it
-offset-gathered : (u f : ℕ) → u < 4096 → u % 2 ≡ 0 → jump_offset u ≡ f * 4 → u ≡ gathered f
+pub offset-gathered : (u f : ℕ) → u < 4096 → u % 2 ≡ 0 → jump_offset u ≡ f * 4 → u ≡ gathered f
 offset-gathered u f below even e =
     let h : u ≡ u / 2 * 2 = omega arith in
     let s : f ≡ jump_offset (u / 2 * 2) / 4 = quarter (jump_offset (u / 2 * 2)) f (ap (λ v. jump_offset v) (sym h) ∙ e) in
@@ -58,7 +58,7 @@ offset-gathered u f below even e =
     quarter a f e = omega arith
 
 -- two's complement at twelve bits tells the offsets of jumps apart
-field-below : (z : ℤ) → IsJump z → (field 12 z < 4096) × (field 12 z % 2 ≡ 0)
+pub field-below : (z : ℤ) → IsJump z → (field 12 z < 4096) × (field 12 z % 2 ≡ 0)
 field-below z h = grind arith
 
 field-unique : (y z : ℤ) → IsJump y → IsJump z → field 12 y ≡ field 12 z → y ≡ z

@@ -1,2 +1,3 @@
 pub mod AtFront
 pub mod Jump
+pub mod Reader

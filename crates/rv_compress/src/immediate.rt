@@ -7,6 +7,7 @@ ghost use Rattle.rv_encode.specs.Word.{field};
 ghost use Rattle.rv_compress.specs.Parcel.{bits_at};
 
 /// uimm[5:3] at 12:10, uimm[2|6] at 6:5.
+#[inline]
 pub fn word_offset(bits: u32) -> u32
     ensures { result ≡ bits_at bits 6 1 2 + bits_at bits 10 3 3 + bits_at bits 5 1 6 }
 {
@@ -14,6 +15,7 @@ pub fn word_offset(bits: u32) -> u32
 }
 
 /// uimm[5:3] at 12:10, uimm[7:6] at 6:5.
+#[inline]
 pub fn double_offset(bits: u32) -> u32
     ensures { result ≡ bits_at bits 10 3 3 + bits_at bits 5 2 6 }
 {
@@ -21,6 +23,7 @@ pub fn double_offset(bits: u32) -> u32
 }
 
 /// uimm[5] at 12, uimm[4:0] at 6:2.
+#[inline]
 pub fn six(bits: u32) -> u32
     ensures { result ≡ bits_at bits 2 5 0 + bits_at bits 12 1 5 }
 {
@@ -28,6 +31,7 @@ pub fn six(bits: u32) -> u32
 }
 
 /// nzuimm[5:4|9:6|2|3] at 12:5.
+#[inline]
 pub fn stack_address(bits: u32) -> u32
     ensures { result ≡ bits_at bits 6 1 2 + bits_at bits 5 1 3 + bits_at bits 11 2 4 + bits_at bits 7 4 6 }
 {
@@ -35,6 +39,7 @@ pub fn stack_address(bits: u32) -> u32
 }
 
 /// nzimm[9] at 12, nzimm[4|6|8:7|5] at 6:2.
+#[inline]
 pub fn stack_step(bits: u32) -> u32
     ensures { result ≡ bits_at bits 6 1 4 + bits_at bits 2 1 5 + bits_at bits 5 1 6 + bits_at bits 3 2 7 + bits_at bits 12 1 9 }
 {
@@ -46,6 +51,7 @@ pub fn stack_step(bits: u32) -> u32
 }
 
 /// imm[11|4|9:8|10|6|7|3:1|5] of a jump, from the eleven bits that stand at 12:2.
+#[inline]
 pub fn jump_offset(bits: u32) -> u32
     ensures { result
         ≡ bits_at bits 1 3 1
@@ -63,6 +69,7 @@ pub fn jump_offset(bits: u32) -> u32
 }
 
 /// imm[8|4:3] at 12:10, imm[7:6|2:1|5] at 6:2.
+#[inline]
 pub fn branch_offset(bits: u32) -> u32
     ensures { result ≡ bits_at bits 3 2 1 + bits_at bits 10 2 3 + bits_at bits 2 1 5 + bits_at bits 5 2 6 + bits_at bits 12 1 8 }
 {
@@ -74,6 +81,7 @@ pub fn branch_offset(bits: u32) -> u32
 }
 
 /// uimm[5] at 12, uimm[4:2|7:6] at 6:2.
+#[inline]
 pub fn word_load(bits: u32) -> u32
     ensures { result ≡ bits_at bits 4 3 2 + bits_at bits 12 1 5 + bits_at bits 2 2 6 }
 {
@@ -81,6 +89,7 @@ pub fn word_load(bits: u32) -> u32
 }
 
 /// uimm[5] at 12, uimm[4:3|8:6] at 6:2.
+#[inline]
 pub fn double_load(bits: u32) -> u32
     ensures { result ≡ bits_at bits 5 2 3 + bits_at bits 12 1 5 + bits_at bits 2 3 6 }
 {
@@ -88,6 +97,7 @@ pub fn double_load(bits: u32) -> u32
 }
 
 /// uimm[5:2|7:6] at 12:7.
+#[inline]
 pub fn word_store(bits: u32) -> u32
     ensures { result ≡ bits_at bits 9 4 2 + bits_at bits 7 2 6 }
 {
@@ -95,6 +105,7 @@ pub fn word_store(bits: u32) -> u32
 }
 
 /// uimm[5:3|8:6] at 12:7.
+#[inline]
 pub fn double_store(bits: u32) -> u32
     ensures { result ≡ bits_at bits 10 3 3 + bits_at bits 7 3 6 }
 {
@@ -102,6 +113,7 @@ pub fn double_store(bits: u32) -> u32
 }
 
 /// Six bits as a number with sign.
+#[inline]
 pub fn signed_6(value: u32) -> i32
     requires { value < 2 ^ 6 }
     ensures low { negsuc 31 ≤ℤ result }
@@ -116,6 +128,7 @@ pub fn signed_6(value: u32) -> i32
 }
 
 /// Nine bits as a number with sign.
+#[inline]
 pub fn signed_9(value: u32) -> i32
     requires { value < 2 ^ 9 }
     ensures low { negsuc 255 ≤ℤ result }
@@ -130,6 +143,7 @@ pub fn signed_9(value: u32) -> i32
 }
 
 /// Ten bits as a number with sign.
+#[inline]
 pub fn signed_10(value: u32) -> i32
     requires { value < 2 ^ 10 }
     ensures low { negsuc 511 ≤ℤ result }
@@ -144,6 +158,7 @@ pub fn signed_10(value: u32) -> i32
 }
 
 /// Twelve bits as a number with sign.
+#[inline]
 pub fn signed_12(value: u32) -> i32
     requires { value < 2 ^ 12 }
     ensures low { negsuc 2047 ≤ℤ result }
@@ -158,6 +173,7 @@ pub fn signed_12(value: u32) -> i32
 }
 
 /// The low 20 bits of a number with sign of six bits.
+#[inline]
 pub fn upper_20(value: u32) -> u32
     requires { value < 2 ^ 6 }
     ensures { result ≡ (if nat_lt value 32 then value else value + 0xfffc0) }

@@ -8,6 +8,7 @@ mod expansion;
 mod form;
 mod front;
 mod immediate;
+mod laws;
 mod reading;
 mod writing;
 
@@ -15,5 +16,6 @@ pub use choice::shrink;
 pub use expansion::{expand, expanded};
 pub use form::Compressed;
 pub use front::next_inst;
+pub use laws::{parcels_have_a_reader, parcels_stand_for_valid_instructions};
 pub use reading::read;
 pub use writing::write;

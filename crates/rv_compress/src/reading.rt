@@ -12,6 +12,7 @@ use crate::immediate::{
 use rv_isa::Reg;
 
 /// x8 to x15, by bits 4:2.
+#[inline]
 fn short_2(bits: u32) -> Reg
     ensures { result ≡ 8 + bits_at bits 2 3 0 }
 {
@@ -19,6 +20,7 @@ fn short_2(bits: u32) -> Reg
 }
 
 /// x8 to x15, by bits 9:7.
+#[inline]
 fn short_7(bits: u32) -> Reg
     ensures { result ≡ 8 + bits_at bits 7 3 0 }
 {
@@ -26,6 +28,7 @@ fn short_7(bits: u32) -> Reg
 }
 
 /// x0 to x31, by bits 6:2.
+#[inline]
 fn any_2(bits: u32) -> Reg
     ensures { result ≡ bits_at bits 2 5 0 }
 {
@@ -33,12 +36,14 @@ fn any_2(bits: u32) -> Reg
 }
 
 /// x0 to x31, by bits 11:7.
+#[inline]
 fn any_7(bits: u32) -> Reg
     ensures { result ≡ bits_at bits 7 5 0 }
 {
     Reg::from_low_bits(bits >> 7)
 }
 
+#[inline]
 fn addi4spn(bits: u32) -> Option<Compressed>
     requires { HasOpcode bits 0 0 }
     ensures { IsRead result bits }
@@ -51,6 +56,7 @@ fn addi4spn(bits: u32) -> Option<Compressed>
     }
 }
 
+#[inline]
 fn lw(bits: u32) -> Compressed
     requires { HasOpcode bits 0 2 }
     ensures { IsForm result bits }
@@ -59,6 +65,7 @@ fn lw(bits: u32) -> Compressed
     Compressed::Lw { rd, rs1, offset }
 }
 
+#[inline]
 fn ld(bits: u32) -> Compressed
     requires { HasOpcode bits 0 3 }
     ensures { IsForm result bits }
@@ -67,6 +74,7 @@ fn ld(bits: u32) -> Compressed
     Compressed::Ld { rd, rs1, offset }
 }
 
+#[inline]
 fn sw(bits: u32) -> Compressed
     requires { HasOpcode bits 0 6 }
     ensures { IsForm result bits }
@@ -75,6 +83,7 @@ fn sw(bits: u32) -> Compressed
     Compressed::Sw { rs1, rs2, offset }
 }
 
+#[inline]
 fn sd(bits: u32) -> Compressed
     requires { HasOpcode bits 0 7 }
     ensures { IsForm result bits }
@@ -83,6 +92,7 @@ fn sd(bits: u32) -> Compressed
     Compressed::Sd { rs1, rs2, offset }
 }
 
+#[inline]
 fn quadrant_0(bits: u32) -> Option<Compressed>
     requires size { bits < 2 ^ 16 }
     requires quadrant { bits % 4 ≡ 0 }
@@ -98,6 +108,7 @@ fn quadrant_0(bits: u32) -> Option<Compressed>
     }
 }
 
+#[inline]
 fn addi(bits: u32) -> Compressed
     requires { HasOpcode bits 1 0 }
     ensures { IsForm result bits }
@@ -110,6 +121,7 @@ fn addi(bits: u32) -> Compressed
     }
 }
 
+#[inline]
 fn addiw(bits: u32) -> Option<Compressed>
     requires { HasOpcode bits 1 1 }
     ensures { IsRead result bits }
@@ -122,6 +134,7 @@ fn addiw(bits: u32) -> Option<Compressed>
     }
 }
 
+#[inline]
 fn li(bits: u32) -> Compressed
     requires { HasOpcode bits 1 2 }
     ensures { IsForm result bits }
@@ -130,6 +143,7 @@ fn li(bits: u32) -> Compressed
     Compressed::Li { rd, immediate }
 }
 
+#[inline]
 fn addi16sp(bits: u32) -> Option<Compressed>
     requires opcode { HasOpcode bits 1 3 }
     requires rd { bits / 2 ^ 7 % 32 ≡ 2 }
@@ -143,6 +157,7 @@ fn addi16sp(bits: u32) -> Option<Compressed>
     }
 }
 
+#[inline]
 fn lui(bits: u32) -> Option<Compressed>
     requires opcode { HasOpcode bits 1 3 }
     requires rd { bits / 2 ^ 7 % 32 ≢ 2 }
@@ -157,6 +172,7 @@ fn lui(bits: u32) -> Option<Compressed>
 }
 
 /// `c.addi16sp` and `c.lui`.
+#[inline]
 fn upper(bits: u32) -> Option<Compressed>
     requires { HasOpcode bits 1 3 }
     ensures { IsRead result bits }
@@ -169,6 +185,7 @@ fn upper(bits: u32) -> Option<Compressed>
 }
 
 /// Arithmetic over 64 bits.
+#[inline]
 fn full_arithmetic(bits: u32) -> Compressed
     requires opcode { HasOpcode bits 1 4 }
     requires funct2 { bits / 2 ^ 10 % 4 ≡ 3 }
@@ -185,6 +202,7 @@ fn full_arithmetic(bits: u32) -> Compressed
 }
 
 /// Arithmetic over 32 bits.
+#[inline]
 fn word_arithmetic(bits: u32) -> Option<Compressed>
     requires opcode { HasOpcode bits 1 4 }
     requires funct2 { bits / 2 ^ 10 % 4 ≡ 3 }
@@ -199,6 +217,7 @@ fn word_arithmetic(bits: u32) -> Option<Compressed>
     }
 }
 
+#[inline]
 fn arithmetic(bits: u32) -> Option<Compressed>
     requires opcode { HasOpcode bits 1 4 }
     requires funct2 { bits / 2 ^ 10 % 4 ≡ 3 }
@@ -212,6 +231,7 @@ fn arithmetic(bits: u32) -> Option<Compressed>
 }
 
 /// Shifts, `c.andi` and arithmetic of x8 to x15.
+#[inline]
 fn short_arithmetic(bits: u32) -> Option<Compressed>
     requires { HasOpcode bits 1 4 }
     ensures { IsRead result bits }
@@ -235,6 +255,7 @@ fn short_arithmetic(bits: u32) -> Option<Compressed>
 }
 
 /// The eleven bits of a jump's offset, at 12:2.
+#[inline]
 fn jump_bits(bits: u32) -> u32
     requires { HasOpcode bits 1 5 }
     ensures below { result < 2 ^ 11 }
@@ -243,6 +264,7 @@ fn jump_bits(bits: u32) -> u32
     bits >> 2 & 0x7ff
 }
 
+#[inline]
 fn j(bits: u32) -> Compressed
     requires { HasOpcode bits 1 5 }
     ensures { IsForm result bits }
@@ -252,6 +274,7 @@ fn j(bits: u32) -> Compressed
     }
 }
 
+#[inline]
 fn beqz(bits: u32) -> Compressed
     requires { HasOpcode bits 1 6 }
     ensures { IsForm result bits }
@@ -260,6 +283,7 @@ fn beqz(bits: u32) -> Compressed
     Compressed::Beqz { rs1, offset }
 }
 
+#[inline]
 fn bnez(bits: u32) -> Compressed
     requires { HasOpcode bits 1 7 }
     ensures { IsForm result bits }
@@ -268,6 +292,7 @@ fn bnez(bits: u32) -> Compressed
     Compressed::Bnez { rs1, offset }
 }
 
+#[inline]
 fn quadrant_1(bits: u32) -> Option<Compressed>
     requires size { bits < 2 ^ 16 }
     requires quadrant { bits % 4 ≡ 1 }
@@ -285,6 +310,7 @@ fn quadrant_1(bits: u32) -> Option<Compressed>
     }
 }
 
+#[inline]
 fn slli(bits: u32) -> Compressed
     requires { HasOpcode bits 2 0 }
     ensures { IsForm result bits }
@@ -293,6 +319,7 @@ fn slli(bits: u32) -> Compressed
     Compressed::Slli { rd, amount }
 }
 
+#[inline]
 fn lwsp(bits: u32) -> Option<Compressed>
     requires { HasOpcode bits 2 2 }
     ensures { IsRead result bits }
@@ -305,6 +332,7 @@ fn lwsp(bits: u32) -> Option<Compressed>
     }
 }
 
+#[inline]
 fn ldsp(bits: u32) -> Option<Compressed>
     requires { HasOpcode bits 2 3 }
     ensures { IsRead result bits }
@@ -318,6 +346,7 @@ fn ldsp(bits: u32) -> Option<Compressed>
 }
 
 /// `c.mv` and `c.jr`.
+#[inline]
 fn move_or_jump(bits: u32) -> Option<Compressed>
     requires opcode { HasOpcode bits 2 4 }
     requires bit_12 { bits / 2 ^ 12 % 2 ≡ 0 }
@@ -332,6 +361,7 @@ fn move_or_jump(bits: u32) -> Option<Compressed>
 }
 
 /// `c.add`, `c.jalr` and `c.ebreak`.
+#[inline]
 fn add_or_call(bits: u32) -> Compressed
     requires opcode { HasOpcode bits 2 4 }
     requires bit_12 { bits / 2 ^ 12 % 2 ≡ 1 }
@@ -346,6 +376,7 @@ fn add_or_call(bits: u32) -> Compressed
 }
 
 /// The forms with two registers of five bits.
+#[inline]
 fn registers(bits: u32) -> Option<Compressed>
     requires { HasOpcode bits 2 4 }
     ensures { IsRead result bits }
@@ -357,6 +388,7 @@ fn registers(bits: u32) -> Option<Compressed>
     }
 }
 
+#[inline]
 fn swsp(bits: u32) -> Compressed
     requires { HasOpcode bits 2 6 }
     ensures { IsForm result bits }
@@ -365,6 +397,7 @@ fn swsp(bits: u32) -> Compressed
     Compressed::Swsp { rs2, offset }
 }
 
+#[inline]
 fn sdsp(bits: u32) -> Compressed
     requires { HasOpcode bits 2 7 }
     ensures { IsForm result bits }
@@ -373,6 +406,7 @@ fn sdsp(bits: u32) -> Compressed
     Compressed::Sdsp { rs2, offset }
 }
 
+#[inline]
 fn quadrant_2(bits: u32) -> Option<Compressed>
     requires size { bits < 2 ^ 16 }
     requires quadrant { bits % 4 ≡ 2 }

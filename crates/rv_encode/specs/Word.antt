@@ -261,3 +261,7 @@ pub record Spells (w : ℕ) (i : Inst) : Type 0 where
 -- what a word spells: this instruction and no other, or none
 abbrev pub IsSpelled : Option Inst → ℕ → Type 0
 IsSpelled found w = (i : Inst) → found ≡ Some i ↔ Spells w i
+
+-- answers for every word what it spells
+abbrev pub IsReader : (ℕ → Option Inst) → Type 0
+IsReader read = (w : ℕ) → IsSpelled (read w) w

@@ -5,8 +5,10 @@
 
 mod decoding;
 mod encoding;
+mod laws;
 mod operands;
 mod signed;
 
 pub use decoding::decode;
 pub use encoding::encode;
+pub use laws::reader_exists;

@@ -13,7 +13,7 @@ use Rattle.rv_image.specs.Header.{is_load}
 use Rattle.rv_image.specs.Segment.{do_meet, meets_segment, meets_stack, are_apart, memory_size, stack_start, stack_end}
 use Rattle.rv_image.specs.ImageOf.{segment_in}
 use Rattle.rv_image.specs.FirstFault.{do_overlap, first_true, programs_tests, program_tests, segment_tests, is_past, IsLoadable, loaded_size}
-use Rattle.rv_image.proofs.Tests.{no_fault_parts}
+use Rattle.rv_image.proofs.FirstTrue.{no_fault_parts}
 use Rattle.rv_image.proofs.Loaded.{program_loadable, program_fits}
 
 -- bytes that do not lie past the end of the file are all there

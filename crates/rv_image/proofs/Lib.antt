@@ -1,6 +1,11 @@
-pub mod Tests
+pub mod FirstTrue
 pub mod Programs
 pub mod Loaded
 pub mod Apart
 pub mod Whole
 pub mod ProgramBytes
+pub mod Parts
+pub mod Contents
+pub mod HeaderBytes
+pub mod Sound
+pub mod LoadedAgain

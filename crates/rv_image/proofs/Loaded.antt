@@ -12,7 +12,7 @@ use Rattle.rv_image.specs.Header.{programs_from, program_at, is_load}
 use Rattle.rv_image.specs.ImageOf.{segment_in}
 use Rattle.rv_image.specs.FirstFault.{is_dynamic, first_true, programs_tests, program_tests, segment_tests, is_past, IsLoadable, loaded_size}
 use Rattle.rv_image.proofs.Programs.{programs_from_cut}
-use Rattle.rv_image.proofs.Tests.{no_fault_parts}
+use Rattle.rv_image.proofs.FirstTrue.{no_fault_parts}
 
 -- the tests of what is loaded, all false
 segment_fits : (before : List Program) (p : Program) → first_true (segment_tests before p) ≡ None → (p.file_size ≤ p.memory_size) × (p.address + p.memory_size ≤ 2 ^ 64)

@@ -4,7 +4,7 @@ use Rattle.std.proofs.Common.{◌≡◌, ℕ, zero, suc, ◌+◌, ◌*◌, ◌-�
 use Rattle.std.proofs.lemmas.Bool.{and_parts, or_from, and_from}
 use Rattle.std.proofs.lemmas.List.Folds.{list_all-append}
 use Rattle.rv_image.specs.declared.fault.FileFault.{FileFault}
-use Rattle.rv_image.proofs.Tests.{first_true_none, first_true_some}
+use Rattle.rv_image.proofs.FirstTrue.{first_true_none, first_true_some}
 use Rattle.std.specs.List.{list_any, list_all}
 use Rattle.std.proofs.lemmas.Bool.Decides.{nat_tests}
 use Rattle.rv_image.specs.declared.program.Program.{Program}

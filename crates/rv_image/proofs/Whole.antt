@@ -4,7 +4,7 @@ use Rattle.std.proofs.Common.{◌≡◌, ℕ, ◌%◌, ◌≤◌, ◌^◌, List,
 use Rattle.std.proofs.lemmas.Bool.Decides.{nat_tests}
 use Rattle.rv_image.specs.Header.{field, file_type, machine, entry_point, programs}
 use Rattle.rv_image.specs.FirstFault.{first_true, load_tests, header_tests, table_tests, programs_tests, whole_tests, loaded_size}
-use Rattle.rv_image.proofs.Tests.{no_fault_parts}
+use Rattle.rv_image.proofs.FirstTrue.{no_fault_parts}
 
 pub record HeaderSays (file : List ℕ) : Type 0 where
   pub magic : field 4 0 file ≡ 0x464C457F

@@ -36,5 +36,6 @@ in_stack a Read = nat_le stack_start a && nat_lt a stack_end
 
 abbrev pub mem_of : Image → Mem
 mem_of image = record {
-    byte = λ a. byte_in (segment_at image.segments a) a;
-    has = λ a right. right_in (segment_at image.segments a) right || in_stack a right }
+  byte = λ a. byte_in (segment_at image.segments a) a;
+  has = λ a right. right_in (segment_at image.segments a) right || in_stack a right;
+}

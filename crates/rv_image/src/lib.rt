@@ -10,14 +10,18 @@ mod image;
 mod linked;
 mod loading;
 mod program;
+mod round_trip;
 mod segment;
 mod segments;
+#[cfg(test)]
+mod tests;
 mod writing;
 
 pub use fault::FileFault;
 pub use image::Image;
 pub use linked::Linked;
 pub use loading::load;
+pub use round_trip::reload;
 pub use rv_map::{Global, Map, Region, Row};
 pub use segment::Segment;
 pub use writing::write_exec;

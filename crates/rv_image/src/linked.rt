@@ -1,6 +1,6 @@
 //! What the linker makes.
 
-ghost use Rattle.std.specs.Prelude.{◌≡◌, ◌+◌, ◌-◌, ◌%◌, ◌^◌, ◌≤◌, length};
+ghost use Rattle.std.specs.Prelude.{◌≡◌, ◌+◌, ◌-◌, ◌%◌, ◌^◌, ◌<◌, ◌≤◌, length};
 
 use rv_map::Map;
 
@@ -30,4 +30,14 @@ pub struct Linked {
     pub ghost limit: { length text.items + length rodata.items + (map.bss.end - map.data.start) ≤ 2 ^ 28 },
     /// Instructions begin at even addresses.
     pub ghost even: { map.entry % 2 ≡ 0 },
+}
+
+impl Linked {
+    /// Where a run begins.
+    pub fn entry(&self) -> u64
+        ensures value { result ≡ self.now.map.entry }
+        ensures fits { result < 2 ^ 64 }
+    {
+        self.map.entry
+    }
 }

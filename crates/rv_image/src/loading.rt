@@ -33,7 +33,7 @@ pub fn load(alloc: Global, file: &[u8]) -> Result<Image, FileFault>
 }
 
 /// Looks for the first fault of a file.
-#[tactic(auto, using(crate::proofs::Tests::first_true_some, crate::proofs::Tests::first_true_none), unfolding(crate::specs::FirstFault::load_tests))]
+#[tactic(auto, using(crate::proofs::FirstTrue::first_true_some, crate::proofs::FirstTrue::first_true_none), unfolding(crate::specs::FirstFault::load_tests))]
 fn check(file: &[u8]) -> Result<(), FileFault>
     ensures faults { Finds (load_tests file.now) result }
     ensures header { OnOk result (64 ≤ length file.now) }

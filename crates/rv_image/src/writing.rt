@@ -5,9 +5,8 @@ ghost use Rattle.std.specs.Prelude.{if◌then◌else◌, ◌≡◌, ◌<◌, ◌
 ghost use Rattle.rv_image.specs.Executable.{exe_of, parts, has_memory, header_bytes, program_bytes, with_contents, with_parts, all_parts, offset_of, part_of, memory_size_of};
 ghost use Rattle.rv_image.specs.Linked.{linked_of};
 
-use std::alloc::{AllocError, Global};
-
 use crate::linked::Linked;
+use std::alloc::{AllocError, Global};
 
 /// What the file has of a segment, and how many zeros follow it in memory.
 #[derive(Clone, Copy, Drop)]
@@ -92,20 +91,35 @@ fn put_parts(file: &mut Vec<u8>, linked: &Linked) -> Result<(), AllocError>
 fn text(linked: &Linked) -> Part<'_>
     ensures { part_of result ≡ record { address = linked.now.map.text.start; stored = linked.now.text.items; zeros = 0; flags = 1 } }
 {
-    Part { address: linked.map.text.start, stored: &linked.text, zeros: 0, flags: 1 }
+    Part {
+        address: linked.map.text.start,
+        stored: &linked.text,
+        zeros: 0,
+        flags: 1,
+    }
 }
 
 fn rodata(linked: &Linked) -> Part<'_>
     ensures { part_of result ≡ record { address = linked.now.map.rodata.start; stored = linked.now.rodata.items; zeros = 0; flags = 4 } }
 {
-    Part { address: linked.map.rodata.start, stored: &linked.rodata, zeros: 0, flags: 4 }
+    Part {
+        address: linked.map.rodata.start,
+        stored: &linked.rodata,
+        zeros: 0,
+        flags: 4,
+    }
 }
 
 fn data(linked: &Linked) -> Part<'_>
     ensures { part_of result ≡ record { address = linked.now.map.data.start; stored = linked.now.data.items; zeros = linked.now.map.bss.end - linked.now.map.data.end; flags = 6 } }
 {
     let zeros = linked.map.bss.end - linked.map.data.end;
-    Part { address: linked.map.data.start, stored: &linked.data, zeros, flags: 6 }
+    Part {
+        address: linked.map.data.start,
+        stored: &linked.data,
+        zeros,
+        flags: 6,
+    }
 }
 
 impl Part<'_> {

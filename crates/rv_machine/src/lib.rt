@@ -8,4 +8,7 @@ mod alu;
 mod end;
 mod fetch;
 mod hart;
+mod laws;
 mod registers;
+
+pub use laws::runs_agree;

@@ -13,14 +13,15 @@ use Rattle.rv_image.specs.Segment.{Segment, segment_of}
 use Rattle.rv_image.specs.declared.segment.Segment.{Segment as DeclaredSegment}
 use Rattle.std.proofs.lemmas.Option.{slice_get-get_or}
 use Rattle.std.proofs.lemmas.List.{get_or-map, length-map}
-use Rattle.rv_memory.specs.Flat.{holds, segment_at, gives, byte_of, right_in, memory_of, AreDisjoint, with_part, no_segment}
+use Rattle.rv_memory.specs.Flat.{memory_of, AreDisjoint, with_part, no_segment}
+use Rattle.rv_image.specs.Memory.{lies_in, segment_at, has_flag, byte_in, right_in}
 use Rattle.rv_memory.proofs.MemoryLemmas.{byte-below, byte-above, byte-inside, has-with_bytes}
 
 -- an address that a segment holds lies in its range, and one in its range is held
-pub holds-range : (s : Segment) (x : ℕ) → holds s x ≡ true → (s.address ≤ x) × (x < s.address + length s.bytes)
+pub holds-range : (s : Segment) (x : ℕ) → lies_in s x ≡ true → (s.address ≤ x) × (x < s.address + length s.bytes)
 holds-range s x h = grind (arith, nat_tests)
 
-pub range-holds : (s : Segment) (x : ℕ) → s.address ≤ x → x < s.address + length s.bytes → holds s x ≡ true
+pub range-holds : (s : Segment) (x : ℕ) → s.address ≤ x → x < s.address + length s.bytes → lies_in s x ≡ true
 range-holds s x low high = grind (arith, nat_tests)
 
 -- the rest of segments that lie apart lies apart
@@ -30,31 +31,31 @@ disjoint-rest s ss apart i j x t u at_i at_j t_holds u_holds =
     omega arith
 
 -- the segment of an address is the one that holds it
-first-held : (b : Bool) (t s : Segment) (x : ℕ) (o : Option Segment) → holds t x ≡ b → (o ≡ Some s → holds s x ≡ true) →
-    cond b (Some t) o ≡ Some s → holds s x ≡ true
-first-held true t s x o h rest e = let same : t ≡ s = cc in subst (λ (u : Segment). holds u x ≡ true) same h
+first-held : (b : Bool) (t s : Segment) (x : ℕ) (o : Option Segment) → lies_in t x ≡ b → (o ≡ Some s → lies_in s x ≡ true) →
+    cond b (Some t) o ≡ Some s → lies_in s x ≡ true
+first-held true t s x o h rest e = let same : t ≡ s = cc in subst (λ (u : Segment). lies_in u x ≡ true) same h
 first-held false t s x o h rest e = rest e
 
-pub segment-held : (ss : List Segment) (x : ℕ) (s : Segment) → segment_at ss x ≡ Some s → holds s x ≡ true
+pub segment-held : (ss : List Segment) (x : ℕ) (s : Segment) → segment_at ss x ≡ Some s → lies_in s x ≡ true
 segment-held [] x s e = cc
-segment-held (t ∷ ss) x s e = first-held (holds t x) t s x (segment_at ss x) refl (segment-held ss x s) e
+segment-held (t ∷ ss) x s e = first-held (lies_in t x) t s x (segment_at ss x) refl (segment-held ss x s) e
 
 later : {A : Type 0} (b : Bool) (p o q : A) → (b ≡ true → ⊥) → o ≡ q → cond b p o ≡ q
 later true p o q never e = absurd (never refl)
 later false p o q never e = e
 
-pub held-segment : (ss : List Segment) (i x : ℕ) (s : Segment) → AreDisjoint ss → slice_get ss i ≡ Some s → holds s x ≡ true →
+pub held-segment : (ss : List Segment) (i x : ℕ) (s : Segment) → AreDisjoint ss → slice_get ss i ≡ Some s → lies_in s x ≡ true →
     segment_at ss x ≡ Some s
 held-segment [] i x s apart at held = cc
 held-segment (t ∷ ss) zero x s apart at held =
     let same : s ≡ t = cc in
-    let h : holds t x ≡ true = subst (λ (u : Segment). holds u x ≡ true) same held in
+    let h : lies_in t x ≡ true = subst (λ (u : Segment). lies_in u x ≡ true) same held in
     rw h at
 held-segment (t ∷ ss) (suc i) x s apart at held =
     let rest = held-segment ss i x s (disjoint-rest t ss apart) at held in
-    later (holds t x) (Some t) (segment_at ss x) (Some s) (λ h. let e : 0 ≡ suc i = apart 0 (suc i) x t s refl at h held in omega arith) rest
+    later (lies_in t x) (Some t) (segment_at ss x) (Some s) (λ h. let e : 0 ≡ suc i = apart 0 (suc i) x t s refl at h held in omega arith) rest
 
-holds-same : (s t : Segment) (x : ℕ) → t.address ≡ s.address → length t.bytes ≡ length s.bytes → holds t x ≡ holds s x
+holds-same : (s t : Segment) (x : ℕ) → t.address ≡ s.address → length t.bytes ≡ length s.bytes → lies_in t x ≡ lies_in s x
 holds-same s t x same long = grind (arith, nat_tests)
 
 swapped : {A : Type 0} (a b : Bool) (p q o : A) → (a ≡ true → b ≡ true → ⊥) → cond a p (cond b q o) ≡ cond b q (cond a p o)
@@ -70,17 +71,17 @@ twice false p q o = refl
 -- with a segment replaced by one in its range
 pub segment-set : (ss : List Segment) (i x : ℕ) (s t : Segment) → AreDisjoint ss → slice_get ss i ≡ Some s →
     t.address ≡ s.address → length t.bytes ≡ length s.bytes →
-    segment_at (set ss i t) x ≡ cond (holds s x) (Some t) (segment_at ss x)
+    segment_at (set ss i t) x ≡ cond (lies_in s x) (Some t) (segment_at ss x)
 segment-set [] i x s t apart at same long = cc
 segment-set (u ∷ ss) zero x s t apart at same long =
-    let e : holds t x ≡ holds s x = holds-same s t x same long in
+    let e : lies_in t x ≡ lies_in s x = holds-same s t x same long in
     let is : u ≡ s = cc in
-    let f : holds u x ≡ holds s x = ap (λ (v : Segment). holds v x) is in
-    rw (e, f) (twice (holds s x) (Some t) (Some u) (segment_at ss x))
+    let f : lies_in u x ≡ lies_in s x = ap (λ (v : Segment). lies_in v x) is in
+    rw (e, f) (twice (lies_in s x) (Some t) (Some u) (segment_at ss x))
 segment-set (u ∷ ss) (suc i) x s t apart at same long =
     let rest = segment-set ss i x s t (disjoint-rest u ss apart) at same long in
-    let apart_here : holds u x ≡ true → holds s x ≡ true → ⊥ = λ h k. (let e : 0 ≡ suc i = apart 0 (suc i) x u s refl at h k in omega arith) in
-    ap (cond (holds u x) (Some u)) rest ∙ swapped (holds u x) (holds s x) (Some u) (Some t) (segment_at ss x) apart_here
+    let apart_here : lies_in u x ≡ true → lies_in s x ≡ true → ⊥ = λ h k. (let e : 0 ≡ suc i = apart 0 (suc i) x u s refl at h k in omega arith) in
+    ap (cond (lies_in u x) (Some u)) rest ∙ swapped (lies_in u x) (lies_in s x) (Some u) (Some t) (segment_at ss x) apart_here
 
 -- a part of a list begins with its first element
 take-drop : (bs : List ℕ) (k n : ℕ) → k < length bs → take (suc n) (drop k bs) ≡ get_or bs k 0 ∷ take n (drop (suc k) bs)
@@ -92,7 +93,7 @@ pub bytes-within : (ss : List Segment) (i : ℕ) (s : Segment) (a k n : ℕ) →
     bytes_at (memory_of ss) a n ≡ take n (drop k s.bytes)
 bytes-within ss i s a k zero apart at fits e within = refl
 bytes-within ss i s a k (suc n) apart at fits e within =
-    let held : holds s a ≡ true = range-holds s a (omega arith) (omega arith) in
+    let held : lies_in s a ≡ true = range-holds s a (omega arith) (omega arith) in
     let here : segment_at ss a ≡ Some s = held-segment ss i a s apart at held in
     let wraps : a % 2 ^ 64 ≡ a = omega arith in
     let place : a - s.address ≡ k = omega arith in
@@ -102,11 +103,11 @@ bytes-within ss i s a k (suc n) apart at fits e within =
 
 -- a range in a segment has the rights of its flags
 pub may-within : (ss : List Segment) (i : ℕ) (s : Segment) (a n : ℕ) (r : Right) → AreDisjoint ss → slice_get ss i ≡ Some s →
-    s.address + length s.bytes ≤ 2 ^ 64 → s.address ≤ a → a + n ≤ s.address + length s.bytes → gives s.flags r ≡ true →
+    s.address + length s.bytes ≤ 2 ^ 64 → s.address ≤ a → a + n ≤ s.address + length s.bytes → has_flag s.flags r ≡ true →
     may (memory_of ss) a n r ≡ true
 may-within ss i s a zero r apart at fits low high right = refl
 may-within ss i s a (suc n) r apart at fits low high right =
-    let held : holds s a ≡ true = range-holds s a low (omega arith) in
+    let held : lies_in s a ≡ true = range-holds s a low (omega arith) in
     let here : segment_at ss a ≡ Some s = held-segment ss i a s apart at held in
     let wraps : a % 2 ^ 64 ≡ a = omega arith in
     let first : (memory_of ss).has (a % 2 ^ 64) r ≡ true = rw (wraps, here) right in
@@ -148,7 +149,7 @@ place x a n = grind (arith, cases_order x a, cases_order x (a + n))
 
 -- the byte of an address in the segment, before and after, is that of memory
 inside : (ss : List Segment) (s : Segment) (a k : ℕ) (bs : List ℕ) (x : ℕ) → s.address + length s.bytes ≤ 2 ^ 64 → a ≡ s.address + k →
-    k + length bs ≤ length s.bytes → segment_at ss x ≡ Some s → holds s x ≡ true →
+    k + length bs ≤ length s.bytes → segment_at ss x ≡ Some s → lies_in s x ≡ true →
     (x < a) ⊎ (((a ≤ x) × (x < a + length bs)) ⊎ (a + length bs ≤ x)) →
     get_or (with_part s k bs).bytes (x - s.address) 0 ≡ (with_bytes (memory_of ss) a bs).byte x
 inside ss s a k bs x fits e within at held (inl below) =
@@ -173,32 +174,32 @@ inside ss s a k bs x fits e within at held (inr (inr above)) =
 
 -- the byte of any other address is that of memory
 outside : (ss : List Segment) (s : Segment) (a k : ℕ) (bs : List ℕ) (x : ℕ) → s.address + length s.bytes ≤ 2 ^ 64 → a ≡ s.address + k →
-    k + length bs ≤ length s.bytes → holds s x ≡ false →
+    k + length bs ≤ length s.bytes → lies_in s x ≡ false →
     (x < a) ⊎ (((a ≤ x) × (x < a + length bs)) ⊎ (a + length bs ≤ x)) →
     (memory_of ss).byte x ≡ (with_bytes (memory_of ss) a bs).byte x
 outside ss s a k bs x fits e within away (inl below) = sym (byte-below (memory_of ss) a bs x (omega arith) below)
 outside ss s a k bs x fits e within away (inr (inl here)) =
-    let held : holds s x ≡ true = range-holds s x (omega arith) (omega arith) in
+    let held : lies_in s x ≡ true = range-holds s x (omega arith) (omega arith) in
     cc
 outside ss s a k bs x fits e within away (inr (inr above)) = sym (byte-above (memory_of ss) a bs x (omega arith) above)
 
 at-byte : (b : Bool) (ss : List Segment) (i : ℕ) (s : Segment) (a k : ℕ) (bs : List ℕ) (x : ℕ) → AreDisjoint ss → slice_get ss i ≡ Some s →
-    s.address + length s.bytes ≤ 2 ^ 64 → a ≡ s.address + k → k + length bs ≤ length s.bytes → holds s x ≡ b →
-    byte_of (cond b (Some (with_part s k bs)) (segment_at ss x)) x ≡ (with_bytes (memory_of ss) a bs).byte x
+    s.address + length s.bytes ≤ 2 ^ 64 → a ≡ s.address + k → k + length bs ≤ length s.bytes → lies_in s x ≡ b →
+    byte_in (cond b (Some (with_part s k bs)) (segment_at ss x)) x ≡ (with_bytes (memory_of ss) a bs).byte x
 at-byte true ss i s a k bs x apart at fits e within held =
     inside ss s a k bs x fits e within (held-segment ss i x s apart at held) held (place x a (length bs))
 at-byte false ss i s a k bs x apart at fits e within away =
     outside ss s a k bs x fits e within away (place x a (length bs))
 
 at-right : (b : Bool) (ss : List Segment) (i : ℕ) (s : Segment) (k : ℕ) (bs : List ℕ) (x : ℕ) (r : Right) → AreDisjoint ss → slice_get ss i ≡ Some s →
-    holds s x ≡ b → right_in (cond b (Some (with_part s k bs)) (segment_at ss x)) r ≡ right_in (segment_at ss x) r
+    lies_in s x ≡ b → right_in (cond b (Some (with_part s k bs)) (segment_at ss x)) r ≡ right_in (segment_at ss x) r
 at-right true ss i s k bs x r apart at held = let e = held-segment ss i x s apart at held in rw e
 at-right false ss i s k bs x r apart at held = refl
 
 abbrev made : (ℕ → ℕ) → (ℕ → Right → Bool) → Mem
 made b h = record { byte = b; has = h }
 
-same-memory : (m n : Mem) → m.byte ≡ n.byte → m.has ≡ n.has → m ≡ n
+pub same-memory : (m n : Mem) → m.byte ≡ n.byte → m.has ≡ n.has → m ≡ n
 same-memory m n e f = ap (λ (b : ℕ → ℕ). made b m.has) e ∙ ap (λ (h : ℕ → Right → Bool). made n.byte h) f
 
 -- bytes put into a segment are put into memory
@@ -207,12 +208,12 @@ pub with-part-is : (ss : List Segment) (i : ℕ) (s : Segment) (a k : ℕ) (bs :
     memory_of (set ss i (with_part s k bs)) ≡ with_bytes (memory_of ss) a bs
 with-part-is ss i s a k bs apart at fits e within =
     let t = with_part s k bs in
-    let found : (x : ℕ) → segment_at (set ss i t) x ≡ cond (holds s x) (Some t) (segment_at ss x) =
-        λ x. segment-set ss i x s t apart at refl (length-with_part s k bs within) in
-    let byte : (x : ℕ) → byte_of (segment_at (set ss i t) x) x ≡ (with_bytes (memory_of ss) a bs).byte x =
-        λ x. ap (λ (o : Option Segment). byte_of o x) (found x) ∙ at-byte (holds s x) ss i s a k bs x apart at fits e within refl in
+    let found : (x : ℕ) → segment_at (set ss i t) x ≡ cond (lies_in s x) (Some t) (segment_at ss x) =
+    λ x. segment-set ss i x s t apart at refl (length-with_part s k bs within) in
+    let byte : (x : ℕ) → byte_in (segment_at (set ss i t) x) x ≡ (with_bytes (memory_of ss) a bs).byte x =
+    λ x. ap (λ (o : Option Segment). byte_in o x) (found x) ∙ at-byte (lies_in s x) ss i s a k bs x apart at fits e within refl in
     let right : (x : ℕ) (r : Right) → right_in (segment_at (set ss i t) x) r ≡ right_in (segment_at ss x) r =
-        λ x r. ap (λ (o : Option Segment). right_in o r) (found x) ∙ at-right (holds s x) ss i s k bs x r apart at refl in
+    λ x r. ap (λ (o : Option Segment). right_in o r) (found x) ∙ at-right (lies_in s x) ss i s k bs x r apart at refl in
     let bytes : (memory_of (set ss i t)).byte ≡ (with_bytes (memory_of ss) a bs).byte = fun_ext byte in
     let rights : (memory_of (set ss i t)).has ≡ (memory_of ss).has = fun_ext (λ (x : ℕ). fun_ext (right x)) in
     same-memory (memory_of (set ss i t)) (with_bytes (memory_of ss) a bs) bytes (rights ∙ sym (has-with_bytes (memory_of ss) a bs))
@@ -254,12 +255,12 @@ bytes-rest ss i s x apart p fits =
 
 -- segments of which one is replaced by one in its range lie apart
 set-holder : (ss : List Segment) (i j x : ℕ) (s t u : Segment) → slice_get ss i ≡ Some s → t.address ≡ s.address → length t.bytes ≡ length s.bytes →
-    slice_get (set ss i t) j ≡ Some u → holds u x ≡ true → (v : Segment) × ((slice_get ss j ≡ Some v) × (holds v x ≡ true))
+    slice_get (set ss i t) j ≡ Some u → lies_in u x ≡ true → (v : Segment) × ((slice_get ss j ≡ Some v) × (lies_in v x ≡ true))
 set-holder [] i j x s t u at same long e held = absurd (cc)
 set-holder (w ∷ ss) zero zero x s t u at same long e held =
     let is : u ≡ t = cc in
     let was : w ≡ s = cc in
-    let h : holds t x ≡ true = subst (λ (y : Segment). holds y x ≡ true) is held in
+    let h : lies_in t x ≡ true = subst (λ (y : Segment). lies_in y x ≡ true) is held in
     (s, (at, sym (holds-same s t x same long) ∙ h))
 set-holder (w ∷ ss) zero (suc j) x s t u at same long e held = (u, (e, held))
 set-holder (w ∷ ss) (suc i) zero x s t u at same long e held = (u, (e, held))

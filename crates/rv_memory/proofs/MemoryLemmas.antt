@@ -184,3 +184,25 @@ pub may-kept : (m n : Mem) (a k b : ℕ) (r : Right) (bs : List ℕ) → n ≡ w
 may-kept m n a k b r bs new h =
     let same : n.has ≡ m.has = ap (λ (x : Mem). x.has) new ∙ has-with_bytes m b bs in
     may-same n m a k r same ∙ h
+
+-- the same, for a byte that is put as a number
+pub put-number-more : (m n : Mem) (a k b v : ℕ) (bs : List ℕ) → k < length bs → v ≡ get_or bs k 0 → v < 256 → b ≡ (a + k) % 2 ^ 64 → n ≡ with_number m b 1 v →
+    with_bytes n (a + (k + 1)) (drop (k + 1) bs) ≡ with_bytes m (a + k) (drop k bs)
+put-number-more m n a k b v bs within is small at new =
+    let split : drop k bs ≡ get_or bs k 0 ∷ drop (suc k) bs = drop-cons bs k 0 within in
+    let place : b % 2 ^ 64 ≡ (a + k) % 2 ^ 64 = omega arith in
+    let low : v % 256 ≡ get_or bs k 0 = omega arith in
+    let first : n ≡ with_byte m ((a + k) % 2 ^ 64) (get_or bs k 0) = new ∙ ap (λ (x : ℕ). with_byte m x (v % 256)) place ∙ ap (with_byte m ((a + k) % 2 ^ 64)) low in
+    let next : a + (k + 1) ≡ a + k + 1 = omega arith in
+    let after : k + 1 ≡ suc k = omega arith in
+    rw (next, after, split, first)
+
+pub may-kept-number : (m n : Mem) (a k b j v : ℕ) (r : Right) → n ≡ with_number m b j v → may m a k r ≡ true → may n a k r ≡ true
+may-kept-number m n a k b j v r new h = may-kept m n a k b r (bytes_of j v) (new ∙ with_number-bytes m b j v) h
+
+-- a byte that is loaded
+pub loaded-byte : (m : Mem) (b v : ℕ) → b < 2 ^ 64 → v ≡ number_at m b 1 → v ≡ m.byte b
+loaded-byte m b v fits is =
+    let wraps : b % 2 ^ 64 ≡ b = omega arith in
+    let one : number_at m b 1 ≡ m.byte (b % 2 ^ 64) = omega arith in
+    is ∙ one ∙ ap m.byte wraps

@@ -1,29 +1,68 @@
 //! A memory that keeps each segment as one piece.
 
 ghost use Rattle.std.specs.Prelude.{
-    ◌≡◌, ℕ, ◌+◌, ◌-◌, ◌%◌, ◌^◌, ◌≤◌, ◌<◌, true, false, [], Some, None, map, length, take, drop, ◌++◌, IfSome, MatchOption, MatchBool, slice_get, slice_index, slice_index_or, set,
+  ◌≡◌,
+  ℕ,
+  ◌+◌,
+  ◌-◌,
+  ◌%◌,
+  ◌^◌,
+  ◌≤◌,
+  ◌<◌,
+  true,
+  false,
+  [],
+  Some,
+  None,
+  map,
+  length,
+  take,
+  drop,
+  ◌++◌,
+  IfSome,
+  IfOk,
+  MatchOption,
+  MatchBool,
+  slice_get,
+  slice_index,
+  slice_index_or,
+  set,
 };
 ghost use Rattle.rv_isa_laws.specs.Memory.{may, bytes_at, with_bytes, number_at, Write as ToWrite};
 ghost use Rattle.rv_image.specs.Segment.{segment_of};
 ghost use Rattle.rv_memory.specs.Rights.{right_of, IsWidth, MayLoad};
-ghost use Rattle.rv_memory.specs.Flat.{
-    holds, gives, segment_at, memory_of, AreDisjoint, number_of, no_segment, with_part,
-};
-
-use rv_image::Segment;
+ghost use Rattle.rv_memory.specs.Flat.{memory_of, AreDisjoint, number_of, no_segment, with_part};
+ghost use Rattle.rv_image.specs.Memory.{lies_in, has_flag, segment_at, mem_of};
+ghost use Rattle.rv_image.specs.Image.{image_of};
 
 use crate::memory::{Memory, Right};
+use rv_image::{Image, Segment};
+use std::alloc::{AllocError, Global};
 
-/// Segments that lie apart, each in one piece. An access is found by a scan of the segments.
+/// Where the stack begins, and how many bytes it has.
+const STACK_START: u64 = 0x3FF0_0000;
+
+const STACK_BYTES: usize = 0x10_0000;
+
+/// Segments that lie apart, the stack among them, each in one piece. A scan finds the segment of an access.
+#[derive(Drop)]
 pub struct Flat {
     segments: Vec<Segment>,
     ghost apart: { AreDisjoint (map segment_of segments.items) },
 }
 
+/// So many zeros.
+fn zeros(alloc: Global, count: usize) -> Result<Vec<u8>, AllocError>
+    ensures count { IfOk result (λ v. length v.items ≡ count) }
+    ensures zeros { IfOk result (λ v. (k : ℕ) → slice_index v.items k ≡ 0) }
+{
+    vec![in alloc; 0; count]
+}
+
 /// Whether the address lies in the segment.
 #[inline(always)]
 fn is_held(segment: &Segment, address: u64) -> bool
-    ensures { result ≡ holds (segment_of segment.now) address }
+    ensures { result ≡ lies_in (segment_of segment.now) address }
 {
     address.wrapping_sub(segment.address) < segment.bytes.len() as u64
 }
@@ -31,7 +70,7 @@ fn is_held(segment: &Segment, address: u64) -> bool
 /// Whether the segment's bytes have the right.
 #[inline(always)]
 fn is_given(segment: &Segment, right: Right) -> bool
-    ensures { result ≡ gives segment.now.flags (right_of right) }
+    ensures { result ≡ has_flag segment.now.flags (right_of right) }
 {
     match right {
         Right::Execute => segment.flags % 2 == 1,
@@ -65,14 +104,28 @@ fn overwrite(bytes: &mut [u8], at: usize, by: &[u8])
 }
 
 impl Flat {
+    /// The memory of an image, with the stack.
+    pub fn new(alloc: Global, image: Image) -> Result<Self, AllocError>
+        ensures { IfOk result (λ flat. memory_of (map segment_of flat.segments.items) ≡ mem_of (image_of image)) }
+    {
+        let stack = Segment {
+            address: STACK_START,
+            bytes: zeros(alloc, STACK_BYTES)?,
+            flags: 6,
+        };
+        let mut segments = image.segments;
+        match segments.push(stack) {
+            Ok(()) => Ok(Flat { segments }),
+            Err(_) => Err(AllocError),
+        }
+    }
+
     /// The index of the segment in which an address lies.
     #[inline(always)]
     fn position(&self, address: u64) -> Option<usize>
         ensures within { IfSome result (λ i. i < length self.now.segments.items) }
-        ensures found {
-            MatchOption result (segment_at (map segment_of self.now.segments.items) address ≡ None)
-            (λ i. segment_at (map segment_of self.now.segments.items) address ≡ slice_get (map segment_of self.now.segments.items) i)
-        }
+        ensures found { MatchOption result (segment_at (map segment_of self.now.segments.items) address ≡ None)
+            (λ i. segment_at (map segment_of self.now.segments.items) address ≡ slice_get (map segment_of self.now.segments.items) i) }
     {
         for (i, segment) in self.segments.iter().enumerate() {
             if is_held(segment, address) {
@@ -104,9 +157,7 @@ impl Flat {
     /// The bytes from an address on, up to its segment's end.
     #[inline(always)]
     fn rest(&self, address: u64) -> &[u8]
-        ensures bytes {
-            bytes_at (memory_of (map segment_of self.now.segments.items)) address (length result.now) ≡ result.now
-        }
+        ensures bytes { bytes_at (memory_of (map segment_of self.now.segments.items)) address (length result.now) ≡ result.now }
         ensures small { (k : ℕ) → slice_index result.now k < 256 }
         ensures none { result.now ≡ [] → segment_at (map segment_of self.now.segments.items) address ≡ None }
     {
@@ -151,10 +202,8 @@ impl Flat {
     fn write(&mut self, i: usize, at: usize, bytes: &[u8])
         requires index { i < length self.old.segments.items }
         requires within { at + length bytes.now ≤ length (slice_index_or (map segment_of self.old.segments.items) i no_segment).bytes }
-        ensures {
-            map segment_of self.new.segments.items
-            ≡ set (map segment_of self.old.segments.items) i (with_part (slice_index_or (map segment_of self.old.segments.items) i no_segment) at bytes.now)
-        }
+        ensures { map segment_of self.new.segments.items
+            ≡ set (map segment_of self.old.segments.items) i (with_part (slice_index_or (map segment_of self.old.segments.items) i no_segment) at bytes.now) }
     {
         let segment = &mut self.segments[i];
         overwrite(&mut segment.bytes, at, bytes);
@@ -163,14 +212,10 @@ impl Flat {
     /// Puts bytes that lie in one segment; whether they do.
     #[inline(always)]
     fn put_within(&mut self, address: u64, bytes: &[u8]) -> bool
-        ensures put {
-            MatchBool result
+        ensures put { MatchBool result
             (memory_of (map segment_of self.new.segments.items) ≡ with_bytes (memory_of (map segment_of self.old.segments.items)) address bytes.now)
-            (map segment_of self.new.segments.items ≡ map segment_of self.old.segments.items)
-        }
-        ensures one {
-            length bytes.now ≡ 1 → may (memory_of (map segment_of self.old.segments.items)) address 1 ToWrite ≡ true → result ≡ true
-        }
+            (map segment_of self.new.segments.items ≡ map segment_of self.old.segments.items) }
+        ensures one { length bytes.now ≡ 1 → may (memory_of (map segment_of self.old.segments.items)) address 1 ToWrite ≡ true → result ≡ true }
     {
         match self.position(address) {
             Some(i) => {

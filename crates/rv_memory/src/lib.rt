@@ -5,6 +5,8 @@
 
 mod flat;
 mod memory;
+mod ranges;
 
 pub use flat::Flat;
 pub use memory::{Memory, Right};
+pub use ranges::{append_bytes, put_bytes};

@@ -21,17 +21,18 @@ abbrev pub Passed : Slot → (List Token → Type 0) → (List Token → Token �
 Passed s N next ts rest w = (ended rest ≡ true) × (Shown N next rest w → Shown (InOperand s N) (code_in_operand s next) ts w)
 
 operand_passed : (s : Slot) (N : List Token → Type 0) (next : List Token → Token → ℕ) (ts : List Token) (o : Operand) (rest : List Token) (w : Wrong)
-  → ended ts ≡ true → operand_at s ts ≡ Ok (o, rest) → Passed s N next ts rest w
+    → ended ts ≡ true → operand_at s ts ≡ Ok (o, rest) → Passed s N next ts rest w
 operand_passed A_register N next [] o rest w end e = absurd (cc)
 operand_passed A_register N next (t ∷ ts) o rest w end e =
     let v = seen_ok Register (register_at (t ∷ ts)) o rest e in
     let k = taken_ok t ts (register_of t.kind) (wrong_register t.kind) v.0 rest v.1 in
-    subst (λ us. Passed A_register N next (t ∷ ts) us w) k.1
-      (ended_more t ts (register_no_last t.kind v.0 k.0) end,
-       behind (InOperand A_register N) N (code_in_operand A_register next) next t ts w
-        (λ us n. (t ∷ [], us, Register v.0, refl, (t, v.0, refl, k.0, refl), n))
-        (λ us h. (register_front N t us h).2)
-        (λ us at. refl))
+    subst (λ us. Passed A_register N next (t ∷ ts) us w) k.1 (
+      ended_more t ts (register_no_last t.kind v.0 k.0) end,
+      behind (InOperand A_register N) N (code_in_operand A_register next) next t ts w
+          (λ us n. (t ∷ [], us, Register v.0, refl, (t, v.0, refl, k.0, refl), n))
+          (λ us h. (register_front N t us h).2)
+          (λ us at. refl),
+    )
 operand_passed A_value N next [] o rest w end e = absurd (cc)
 operand_passed A_value N next (t ∷ ts) o rest w end e = let v = seen_ok Value (value_at (t ∷ ts)) o rest e in go (is_minus t.kind) refl v.0 v.1
   where
@@ -39,37 +40,42 @@ operand_passed A_value N next (t ∷ ts) o rest w end e = let v = seen_ok Value 
     after_minus [] n end minus e = absurd (cc)
     after_minus (u ∷ us) n end minus e =
         let k = taken_ok u us (literal_of u.kind) (wrong_literal u.kind) n rest e in
-        subst (λ xs. Passed A_value N next (t ∷ u ∷ us) xs w) k.1
-          (ended_more u us (literal_no_last u.kind n k.0) end,
-           λ s. behind (InOperand A_value N) (λ xs. InOperand A_value N (t ∷ xs)) (code_in_operand A_value next) (λ xs at. code_in_operand A_value next (t ∷ xs) at) t (u ∷ us) w
-            (λ xs h. h) (λ xs h. h) (λ xs at. refl)
-            (behind (λ xs. InOperand A_value N (t ∷ xs)) N (λ xs at. code_in_operand A_value next (t ∷ xs) at) next u us w
+        subst (λ xs. Passed A_value N next (t ∷ u ∷ us) xs w) k.1 (
+          ended_more u us (literal_no_last u.kind n k.0) end,
+          λ s. behind (InOperand A_value N) (λ xs. InOperand A_value N (t ∷ xs)) (code_in_operand A_value next) (λ xs at. code_in_operand A_value next (t ∷ xs) at) t (u ∷ us) w
+              (λ xs h. h) (λ xs h. h) (λ xs at. refl)
+              (behind (λ xs. InOperand A_value N (t ∷ xs)) N (λ xs at. code_in_operand A_value next (t ∷ xs) at) next u us w
               (λ xs m. (t ∷ u ∷ [], xs, Value (Minus (Literal n)), refl, inr (t, u, n, refl, minus, k.0, refl), m))
               (λ xs h. (minus_front N t u xs minus h).2)
               (λ xs at. rw minus refl)
-              s))
+              s),
+        )
 
     go : (b : Bool) → is_minus t.kind ≡ b → (x : Expression) → cond b (seen_as (λ n. Minus (Literal n)) (literal_at ts)) (taken t ts (value_of t.kind) (wrong_value t.kind)) ≡ Ok (x, rest)
-      → Passed A_value N next (t ∷ ts) rest w
+        → Passed A_value N next (t ∷ ts) rest w
     go true minus x e = let v = seen_ok (λ n. Minus (Literal n)) (literal_at ts) x rest e in after_minus ts v.0 end minus v.1
     go false minus x e =
         let k = taken_ok t ts (value_of t.kind) (wrong_value t.kind) x rest e in
-        subst (λ us. Passed A_value N next (t ∷ ts) us w) k.1
-          (ended_more t ts (value_no_last t.kind x k.0) end,
-           behind (InOperand A_value N) N (code_in_operand A_value next) next t ts w
-            (λ us n. (t ∷ [], us, Value x, refl, inl (t, x, refl, k.0, refl), n))
-            (λ us h. (value_front N t us minus h).2)
-            (λ us at. rw minus refl))
+        subst (λ us. Passed A_value N next (t ∷ ts) us w) k.1 (
+          ended_more t ts (value_no_last t.kind x k.0) end,
+          behind (InOperand A_value N) N (code_in_operand A_value next) next t ts w
+              (λ us n. (t ∷ [], us, Value x, refl, inl (t, x, refl, k.0, refl), n))
+              (λ us h. (value_front N t us minus h).2)
+              (λ us at. rw minus refl),
+        )
 
 -- the same, said otherwise
 alike : (R S : List Token → Type 0) (code : List Token → Token → ℕ) (ts : List Token) (w : Wrong)
-  → ((us : List Token) → R us → S us) → ((us : List Token) → S us → R us) → Shown R code ts w → Shown S code ts w
+    → ((us : List Token) → R us → S us) → ((us : List Token) → S us → R us) → Shown R code ts w → Shown S code ts w
 alike R S code ts w to from s = record {
-    before = s.before; at = s.at; more = s.more; whole = s.whole;
-    goes = (s.goes.0, to (s.before ++ s.goes.0) s.goes.1);
-    stops = λ text h. s.stops text (from ((s.before ++ s.at ∷ []) ++ text) h);
-    is_wrong = s.is_wrong;
-  }
+  before = s.before;
+  at = s.at;
+  more = s.more;
+  whole = s.whole;
+  goes = (s.goes.0, to (s.before ++ s.goes.0) s.goes.1);
+  stops = λ text h. s.stops text (from ((s.before ++ s.at ∷ []) ++ text) h);
+  is_wrong = s.is_wrong;
+}
 
 -- operands, whatever their values
 abbrev pub Further : List Slot → List Token → Type 0
@@ -95,7 +101,7 @@ to_comma s ss c us comma (one, rest, o, w, is, (more, are)) =
 
 -- where the statement does not end behind its last operand
 pub end_shown : (S : List Token → Type 0) (code : List Token → Token → ℕ) (s : Slot) (ts : List Token) (w : Wrong) → S [] → ((t : Token) (us : List Token) → S (t ∷ us) → ⊥)
-  → ((at : Token) → code [] at ≡ wrong_after s at.kind) → ended ts ≡ true → end_at s ts ≡ Err w → Shown S code ts w
+    → ((at : Token) → code [] at ≡ wrong_after s at.kind) → ended ts ≡ true → end_at s ts ≡ Err w → Shown S code ts w
 end_shown S code s [] w live none same end e = absurd (cc)
 end_shown S code s (t ∷ ts) w live none same end e =
     let k = tested_err (is_end t.kind) (t ∷ ts) (wrong t (wrong_after s t.kind)) w e in
@@ -109,16 +115,18 @@ abbrev operands_then : Slot → List Slot → List Token → Read (List Operand)
 operands_then s ss ts = operand_at s ts >>= λ o. further_at s ss o.1 >>= λ r. Ok (o.0 ∷ r.0, r.1)
 
 operands_behind : (s : Slot) (ss : List Slot) (ts : List Token) (w : Wrong) → ended ts ≡ true
-  → operands_then s ss ts ≡ Err w
-  → ((rest : List Token) → ended rest ≡ true → further_at s ss rest ≡ Err w → Shown (Further ss) (code_after s ss) rest w)
-  → Shown (InOperand s (Further ss)) (code_in_operand s (code_after s ss)) ts w
+    → operands_then s ss ts ≡ Err w
+    → ((rest : List Token) → ended rest ≡ true → further_at s ss rest ≡ Err w → Shown (Further ss) (code_after s ss) rest w)
+    → Shown (InOperand s (Further ss)) (code_in_operand s (code_after s ss)) ts w
 operands_behind s ss ts w end e ih =
     elim (bind_err (operand_at s ts) (λ o. further_at s ss o.1 >>= λ r. Ok (o.0 ∷ r.0, r.1)) w e) [
-      inl f ↦ operand_shown s (Further ss) (code_after s ss) ts w (further_goes ss) end f
-    | inr good ↦ (let p = operand_passed s (Further ss) (code_after s ss) ts good.0.0 good.0.1 w end good.1 in
-        elim (bind_err (further_at s ss good.0.1) (λ r. Ok (good.0.0 ∷ r.0, r.1)) w good.2) [
-          inl f ↦ p.1 (ih good.0.1 p.0 f)
-        | inr fine ↦ absurd (never (good.0.0 ∷ fine.0.0, fine.0.1) w fine.2) ]) ]
+      | inl f ↦ operand_shown s (Further ss) (code_after s ss) ts w (further_goes ss) end f
+      | inr good ↦ (let p = operand_passed s (Further ss) (code_after s ss) ts good.0.0 good.0.1 w end good.1 in
+          elim (bind_err (further_at s ss good.0.1) (λ r. Ok (good.0.0 ∷ r.0, r.1)) w good.2) [
+            | inl f ↦ p.1 (ih good.0.1 p.0 f)
+            | inr fine ↦ absurd (never (good.0.0 ∷ fine.0.0, fine.0.1) w fine.2)
+          ])
+    ]
 
 pub no_more : (t : Token) (us : List Token) (os : List Operand) → t ∷ us ≡ [] → os ≡ [] → ⊥
 no_more t us os w v = cc
@@ -126,32 +134,35 @@ no_more t us os w v = cc
 further_shown : (s : Slot) (ss : List Slot) (ts : List Token) (w : Wrong) → ended ts ≡ true → further_at s ss ts ≡ Err w → Shown (Further ss) (code_after s ss) ts w
 further_shown s [] ts w end e =
     elim (bind_err (end_at s ts) (λ r. Ok ([], r)) w e) [
-      inl f ↦ end_shown (Further []) (code_after s []) s ts w ([], (refl, refl)) (λ t us h. no_more t us h.0 h.1.0 h.1.1) (λ at. refl) end f
-    | inr good ↦ absurd (never ([], good.0) w good.2) ]
+      | inl f ↦ end_shown (Further []) (code_after s []) s ts w ([], (refl, refl)) (λ t us h. no_more t us h.0 h.1.0 h.1.1) (λ at. refl) end f
+      | inr good ↦ absurd (never ([], good.0) w good.2)
+    ]
 further_shown s (u ∷ us) [] w end e = absurd (cc)
 further_shown s (u ∷ us) (t ∷ ts) w end e =
     elim (bind_err (comma_at s (t ∷ ts)) (λ c. operands_then u us c) w e) [
-      inl f ↦ (let k = tested_err (is_comma t.kind) ts (wrong t (wrong_after s t.kind)) w f in
-        at_first (Further (u ∷ us)) (code_after s (u ∷ us)) t ts w (further_goes (u ∷ us))
+      | inl f ↦ (let k = tested_err (is_comma t.kind) ts (wrong t (wrong_after s t.kind)) w f in
+          at_first (Further (u ∷ us)) (code_after s (u ∷ us)) t ts w (further_goes (u ∷ us))
           (λ text h. let is = (from_comma u us t text h).0 in let none : is_comma t.kind ≡ false = k.0 in cc) k.1)
-    | inr good ↦ (let k = tested_ok (is_comma t.kind) ts good.0 (wrong t (wrong_after s t.kind)) good.1 in
-        let end' : ended ts ≡ true = ended_more t ts (comma_no_last t.kind k.0) end in
-        behind (Further (u ∷ us)) (InOperand u (Further us)) (code_after s (u ∷ us)) (code_in_operand u (code_after u us)) t ts w
+      | inr good ↦ (let k = tested_ok (is_comma t.kind) ts good.0 (wrong t (wrong_after s t.kind)) good.1 in
+          let end' : ended ts ≡ true = ended_more t ts (comma_no_last t.kind k.0) end in
+          behind (Further (u ∷ us)) (InOperand u (Further us)) (code_after s (u ∷ us)) (code_in_operand u (code_after u us)) t ts w
           (λ xs h. to_comma u us t xs k.0 h) (λ xs h. (from_comma u us t xs h).1) (λ xs at. refl)
           (operands_behind u us ts w end' (subst (λ c. operands_then u us c ≡ Err w) (sym k.1) good.2)
-            (λ rest f g. further_shown u us rest w f g))) ]
+          (λ rest f g. further_shown u us rest w f g)))
+    ]
 
 pub operands_shown : (ss : List Slot) (ts : List Token) (w : Wrong) → ended ts ≡ true → operands_at ss ts ≡ Err w → Shown (Operands ss) (code_in_operands ss) ts w
 unfolding operands_at
 operands_shown [] ts w end e =
     elim (bind_err (end_at A_register ts) (λ r. Ok ([], r)) w e) [
-      inl f ↦ end_shown (Operands []) (code_in_operands []) A_register ts w ([], (refl, refl)) (λ t us h. no_more t us h.0 h.1.0 h.1.1) (λ at. refl) end f
-    | inr good ↦ absurd (never ([], good.0) w good.2) ]
+      | inl f ↦ end_shown (Operands []) (code_in_operands []) A_register ts w ([], (refl, refl)) (λ t us h. no_more t us h.0 h.1.0 h.1.1) (λ at. refl) end f
+      | inr good ↦ absurd (never ([], good.0) w good.2)
+    ]
 operands_shown (s ∷ ss) ts w end e =
     alike (InOperand s (Further ss)) (Operands (s ∷ ss)) (code_in_operands (s ∷ ss)) ts w
-      (λ us h. (h.2 ∷ h.5.0, (h.0, h.1, h.2, h.5.0, h.3, h.4, h.5.1, refl)))
-      (λ us h. (h.1.0, h.1.1, h.1.2, h.1.4, h.1.5, (h.1.3, h.1.6)))
-      (operands_behind s ss ts w end e (λ rest f g. further_shown s ss rest w f g))
+    (λ us h. (h.2 ∷ h.5.0, (h.0, h.1, h.2, h.5.0, h.3, h.4, h.5.1, refl)))
+    (λ us h. (h.1.0, h.1.1, h.1.2, h.1.4, h.1.5, (h.1.3, h.1.6)))
+    (operands_behind s ss ts w end e (λ rest f g. further_shown s ss rest w f g))
 
 -- names, whatever they are
 abbrev pub Names : List Token → Type 0
@@ -190,9 +201,10 @@ same t (u ∷ us) at = refl
 no_names_shown : (t : Token) (ts : List Token) (w : Wrong) → is_comma t.kind ≡ false → ended (t ∷ ts) ≡ true → no_names_at (t ∷ ts) ≡ Err w → Shown FurtherNames code_behind (t ∷ ts) w
 no_names_shown t ts w comma end e =
     elim (bind_err (end_at A_register (t ∷ ts)) (λ r. Ok ([], r)) w e) [
-      inl f ↦ (let k = tested_err (is_end t.kind) (t ∷ ts) (wrong t (wrong_after A_register t.kind)) w f in
-        at_first FurtherNames code_behind t ts w further_names_go (λ text h. let is = (names_comma t text h).0 in cc) k.1)
-    | inr good ↦ absurd (never ([], good.0) w good.2) ]
+      | inl f ↦ (let k = tested_err (is_end t.kind) (t ∷ ts) (wrong t (wrong_after A_register t.kind)) w f in
+          at_first FurtherNames code_behind t ts w further_names_go (λ text h. let is = (names_comma t text h).0 in cc) k.1)
+      | inr good ↦ absurd (never ([], good.0) w good.2)
+    ]
 
 first_err : (name : List ℕ) (r : Read (List (List ℕ))) (w : Wrong) → with_first name r ≡ Err w → r ≡ Err w
 first_err name (Ok x) w e = absurd (cc)
@@ -208,25 +220,25 @@ further_names_shown (t ∷ []) w end e = go (is_comma t.kind) refl e
 further_names_shown (t ∷ u ∷ ts) w end e = go (is_comma t.kind) refl e (λ f g. further_names_shown ts w f g)
   where
     named : (o : Option (List ℕ)) → symbol_of u.kind ≡ o → with_name u o (further_names_at ts) ≡ Err w
-      → (ended ts ≡ true → further_names_at ts ≡ Err w → Shown FurtherNames code_behind ts w)
-      → Shown Names code_in_names (u ∷ ts) w
+        → (ended ts ≡ true → further_names_at ts ≡ Err w → Shown FurtherNames code_behind ts w)
+        → Shown Names code_in_names (u ∷ ts) w
     named (Some name) is e ih =
         behind Names FurtherNames code_in_names code_behind u ts w
-          (λ us h. (name ∷ h.0, (u, us, name, h.0, refl, is, h.1, refl)))
-          (λ us h. (names_front u us h).2)
-          (λ us at. same u us at)
-          (ih (ended_more u ts (symbol_no_last u.kind name is) end) (first_err name (further_names_at ts) w e))
+        (λ us h. (name ∷ h.0, (u, us, name, h.0, refl, is, h.1, refl)))
+        (λ us h. (names_front u us h).2)
+        (λ us at. same u us at)
+        (ih (ended_more u ts (symbol_no_last u.kind name is) end) (first_err name (further_names_at ts) w e))
     named None is e ih =
         let v : wrong u (wrong_symbol u.kind) ≡ w = cc in
         at_first Names code_in_names u ts w names_go (λ text h. let f = names_front u text h in let some : symbol_of u.kind ≡ Some f.0 = f.1 in cc) (sym v)
 
     go : (b : Bool) → is_comma t.kind ≡ b → cond b (with_name u (symbol_of u.kind) (further_names_at ts)) (no_names_at (t ∷ u ∷ ts)) ≡ Err w
-      → (ended ts ≡ true → further_names_at ts ≡ Err w → Shown FurtherNames code_behind ts w)
-      → Shown FurtherNames code_behind (t ∷ u ∷ ts) w
+        → (ended ts ≡ true → further_names_at ts ≡ Err w → Shown FurtherNames code_behind ts w)
+        → Shown FurtherNames code_behind (t ∷ u ∷ ts) w
     go true comma e ih =
         behind FurtherNames Names code_behind code_in_names t (u ∷ ts) w
-          (λ us h. to_names_comma t us comma h) (λ us h. (names_comma t us h).1) (λ us at. refl)
-          (named (symbol_of u.kind) refl e ih)
+        (λ us h. to_names_comma t us comma h) (λ us h. (names_comma t us h).1) (λ us at. refl)
+        (named (symbol_of u.kind) refl e ih)
     go false comma e ih = no_names_shown t (u ∷ ts) w comma end e
 
 pub names_shown : (ts : List Token) (w : Wrong) → ended ts ≡ true → names_at ts ≡ Err w → Shown Names code_in_names ts w
@@ -234,13 +246,14 @@ unfolding names_at
 names_shown [] w end e = absurd (cc)
 names_shown (t ∷ ts) w end e =
     elim (bind_err (symbol_at (t ∷ ts)) (λ n. with_first n.0 (further_names_at n.1)) w e) [
-      inl f ↦ (let k = taken_err t ts (symbol_of t.kind) (wrong_symbol t.kind) w f in
-        at_first Names code_in_names t ts w names_go
+      | inl f ↦ (let k = taken_err t ts (symbol_of t.kind) (wrong_symbol t.kind) w f in
+          at_first Names code_in_names t ts w names_go
           (λ text h. let f = names_front t text h in let some : symbol_of t.kind ≡ Some f.0 = f.1 in let none : symbol_of t.kind ≡ None = k.0 in cc) k.1)
-    | inr good ↦ (let k = taken_ok t ts (symbol_of t.kind) (wrong_symbol t.kind) good.0.0 good.0.1 good.1 in
-        let f : further_names_at ts ≡ Err w = ap further_names_at k.1 ∙ first_err good.0.0 (further_names_at good.0.1) w good.2 in
-        behind Names FurtherNames code_in_names code_behind t ts w
+      | inr good ↦ (let k = taken_ok t ts (symbol_of t.kind) (wrong_symbol t.kind) good.0.0 good.0.1 good.1 in
+          let f : further_names_at ts ≡ Err w = ap further_names_at k.1 ∙ first_err good.0.0 (further_names_at good.0.1) w good.2 in
+          behind Names FurtherNames code_in_names code_behind t ts w
           (λ us h. (good.0.0 ∷ h.0, (t, us, good.0.0, h.0, refl, k.0, h.1, refl)))
           (λ us h. (names_front t us h).2)
           (λ us at. same t us at)
-          (further_names_shown ts w (ended_more t ts (symbol_no_last t.kind good.0.0 k.0) end) f)) ]
+          (further_names_shown ts w (ended_more t ts (symbol_no_last t.kind good.0.0 k.0) end) f))
+    ]

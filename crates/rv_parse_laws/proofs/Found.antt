@@ -20,8 +20,8 @@ value_found [] x rest e = absurd (cc)
 value_found (t ∷ ts) x rest e = go (is_minus t.kind) refl e
   where
     go : (b : Bool) → is_minus t.kind ≡ b
-      → cond b (seen_as (λ n. Minus (Literal n)) (literal_at ts)) (taken t ts (value_of t.kind) (wrong_value t.kind)) ≡ Ok (x, rest)
-      → (text : List Token) × (t ∷ ts ≡ text ++ rest) × IsOperand A_value text (Value x)
+        → cond b (seen_as (λ n. Minus (Literal n)) (literal_at ts)) (taken t ts (value_of t.kind) (wrong_value t.kind)) ≡ Ok (x, rest)
+        → (text : List Token) × (t ∷ ts ≡ text ++ rest) × IsOperand A_value text (Value x)
     go true minus e =
         let s = seen_ok (λ n. Minus (Literal n)) (literal_at ts) x rest e in
         let l = literal_found ts s.0 rest s.1 in
@@ -54,7 +54,7 @@ end_found s (t ∷ ts) rest e =
     (k.1, (t, ts, sym k.1, k.0))
 
 pub further_found : (s : Slot) (ss : List Slot) (ts : List Token) (os : List Operand) (rest : List Token) → further_at s ss ts ≡ Ok (os, rest)
-  → (text : List Token) × (ts ≡ text ++ rest) × AreFurther ss text os × EndsHere rest
+    → (text : List Token) × (ts ≡ text ++ rest) × AreFurther ss text os × EndsHere rest
 further_found s [] ts os rest e =
     let b = bind_ok (end_at s ts) (λ r. Ok ([], r)) (os, rest) e in
     let p = pair_parts _ _ _ _ _ refl b.2 in
@@ -67,14 +67,15 @@ further_found s (u ∷ us) ts os rest e =
     let o = operand_found u b.0 d.0.0 d.0.1 d.1 in
     let g = bind_ok (further_at u us d.0.1) (λ r. Ok (d.0.0 ∷ r.0, r.1)) (os, rest) d.2 in
     let p = pair_parts _ _ _ _ _ refl g.2 in
-    let f = further_found u us d.0.1 g.0.0 g.0.1 g.1 in
-    (c.0 ∷ (o.0 ++ f.0),
+    let f = further_found u us d.0.1 g.0.0 g.0.1 g.1 in (
+      c.0 ∷ (o.0 ++ f.0),
       c.1 ∙ ap (λ xs. c.0 ∷ xs) (o.1 ∙ ap (λ xs. o.0 ++ xs) (f.1 ∙ ap (λ xs. f.0 ++ xs) p.1) ∙ sym (append_assoc o.0 f.0 rest)),
       (c.0, o.0, f.0, d.0.0, g.0.0, refl, c.2, o.2, f.2, sym p.0),
-      subst EndsHere p.1 f.3)
+      subst EndsHere p.1 f.3,
+    )
 
 pub operands_found : (ss : List Slot) (ts : List Token) (os : List Operand) (rest : List Token) → operands_at ss ts ≡ Ok (os, rest)
-  → (text : List Token) × (ts ≡ text ++ rest) × AreOperands ss text os × EndsHere rest
+    → (text : List Token) × (ts ≡ text ++ rest) × AreOperands ss text os × EndsHere rest
 unfolding operands_at
 operands_found [] ts os rest e =
     let b = bind_ok (end_at A_register ts) (λ r. Ok ([], r)) (os, rest) e in
@@ -86,11 +87,12 @@ operands_found (s ∷ ss) ts os rest e =
     let o = operand_found s ts d.0.0 d.0.1 d.1 in
     let g = bind_ok (further_at s ss d.0.1) (λ r. Ok (d.0.0 ∷ r.0, r.1)) (os, rest) d.2 in
     let p = pair_parts _ _ _ _ _ refl g.2 in
-    let f = further_found s ss d.0.1 g.0.0 g.0.1 g.1 in
-    (o.0 ++ f.0,
+    let f = further_found s ss d.0.1 g.0.0 g.0.1 g.1 in (
+      o.0 ++ f.0,
       o.1 ∙ ap (λ xs. o.0 ++ xs) (f.1 ∙ ap (λ xs. f.0 ++ xs) p.1) ∙ sym (append_assoc o.0 f.0 rest),
       (o.0, f.0, d.0.0, g.0.0, refl, o.2, f.2, sym p.0),
-      subst EndsHere p.1 f.3)
+      subst EndsHere p.1 f.3,
+    )
 
 -- the tokens are further names up to the rest, which ends the statement
 abbrev pub FoundNames : List Token → List (List ℕ) → List Token → Type 0
@@ -104,14 +106,14 @@ no_names ts names rest e =
     ([], f.0 ∙ p.1, subst (AreFurtherNames []) p.0 refl, subst EndsHere p.1 f.1)
 
 first_found : (name : List ℕ) (r : Read (List (List ℕ))) (names : List (List ℕ)) (rest : List Token) → with_first name r ≡ Ok (names, rest)
-  → (more : List (List ℕ)) × (r ≡ Ok (more, rest)) × (names ≡ name ∷ more)
+    → (more : List (List ℕ)) × (r ≡ Ok (more, rest)) × (names ≡ name ∷ more)
 first_found name (Ok (more, us)) names rest e =
     let p = pair_parts _ _ _ _ _ refl e in
     (more, ap (λ (u : List Token). Ok (more, u)) p.1, sym p.0)
 first_found name (Err w) names rest e = absurd (cc)
 
 name_found : (t : Token) (o : Option (List ℕ)) (r : Read (List (List ℕ))) (names : List (List ℕ)) (rest : List Token) → with_name t o r ≡ Ok (names, rest)
-  → (name : List ℕ) × (more : List (List ℕ)) × (o ≡ Some name) × (r ≡ Ok (more, rest)) × (names ≡ name ∷ more)
+    → (name : List ℕ) × (more : List (List ℕ)) × (o ≡ Some name) × (r ≡ Ok (more, rest)) × (names ≡ name ∷ more)
 name_found t (Some name) r names rest e = let f = first_found name r names rest e in (name, f.0, refl, f.1, f.2)
 name_found t None r names rest e = absurd (cc)
 
@@ -125,9 +127,9 @@ further_names_found (t ∷ []) names rest e = go (is_comma t.kind) e
 further_names_found (t ∷ u ∷ ts) names rest e = go (is_comma t.kind) refl e (further_names_found ts)
   where
     go : (b : Bool) → is_comma t.kind ≡ b
-      → cond b (with_name u (symbol_of u.kind) (further_names_at ts)) (no_names_at (t ∷ u ∷ ts)) ≡ Ok (names, rest)
-      → ((names : List (List ℕ)) (rest : List Token) → further_names_at ts ≡ Ok (names, rest) → FoundNames ts names rest)
-      → FoundNames (t ∷ u ∷ ts) names rest
+        → cond b (with_name u (symbol_of u.kind) (further_names_at ts)) (no_names_at (t ∷ u ∷ ts)) ≡ Ok (names, rest)
+        → ((names : List (List ℕ)) (rest : List Token) → further_names_at ts ≡ Ok (names, rest) → FoundNames ts names rest)
+        → FoundNames (t ∷ u ∷ ts) names rest
     go true comma e ih =
         let n = name_found u (symbol_of u.kind) (further_names_at ts) names rest e in
         let f = ih n.1 rest n.3 in
@@ -135,7 +137,7 @@ further_names_found (t ∷ u ∷ ts) names rest e = go (is_comma t.kind) refl e 
     go false comma e ih = no_names (t ∷ u ∷ ts) names rest e
 
 pub names_found : (ts : List Token) (names : List (List ℕ)) (rest : List Token) → names_at ts ≡ Ok (names, rest)
-  → (text : List Token) × (ts ≡ text ++ rest) × AreNames text names × EndsHere rest
+    → (text : List Token) × (ts ≡ text ++ rest) × AreNames text names × EndsHere rest
 unfolding names_at
 names_found [] names rest e = absurd (cc)
 names_found (t ∷ ts) names rest e =
@@ -150,7 +152,7 @@ option_found [] rest e = absurd (cc)
 option_found (t ∷ ts) rest e = go (is_norvc t.kind) refl e
   where
     go : (b : Bool) → is_norvc t.kind ≡ b → cond b (end_at A_register ts) (Err (wrong t (wrong_option t.kind))) ≡ Ok rest
-      → (o : Token) × (t ∷ ts ≡ o ∷ rest) × (is_norvc o.kind ≡ true) × EndsHere rest
+        → (o : Token) × (t ∷ ts ≡ o ∷ rest) × (is_norvc o.kind ≡ true) × EndsHere rest
     go true is e = let f = end_found A_register ts rest e in (t, ap (λ us. t ∷ us) f.0, is, f.1)
     go false is e = absurd (cc)
 
@@ -159,7 +161,7 @@ abbrev pub FoundPart : List Token → Part → List Token → Type 0
 FoundPart ts p rest = (text : List Token) × (ts ≡ text ++ rest) × IsPart p text × StopsPart p rest
 
 begun_found : (b : Beginning) (t : Token) (ts : List Token) (s : Statement) (rest : List Token) → begins t.kind ≡ b → begun_at b t ts ≡ Ok (s, rest)
-  → FoundPart (t ∷ ts) (Says s) rest
+    → FoundPart (t ∷ ts) (Says s) rest
 unfolding begun_at
 begun_found (Begins_instruction m) t ts s rest is e =
     let v = seen_ok (Instruction m) (operands_at (slots m) ts) s rest e in
@@ -174,7 +176,7 @@ begun_found Begins_option t ts s rest is e =
     let p = pair_parts _ _ _ _ _ refl b.2 in
     let f = option_found ts b.0 b.1 in
     subst (λ s. FoundPart (t ∷ ts) (Says s) rest) p.0
-      (t ∷ f.0 ∷ [], ap (λ us. t ∷ us) (f.1 ∙ ap (λ us. f.0 ∷ us) p.1), (t, f.0, refl, is, f.2), subst EndsHere p.1 f.3)
+    (t ∷ f.0 ∷ [], ap (λ us. t ∷ us) (f.1 ∙ ap (λ us. f.0 ∷ us) p.1), (t, f.0, refl, is, f.2), subst EndsHere p.1 f.3)
 begun_found Begins_nothing t ts s rest is e = absurd (cc)
 
 statement_found : (t : Token) (ts : List Token) (s : Statement) (rest : List Token) → statement_at t ts ≡ Ok (s, rest) → FoundPart (t ∷ ts) (Says s) rest
@@ -183,7 +185,7 @@ statement_found t [] s rest e = begun_found (begins t.kind) t [] s rest refl e
 statement_found t (c ∷ ts) s rest e = go (is_colon c.kind) refl e
   where
     go : (b : Bool) → is_colon c.kind ≡ b → cond b (seen_as Label (taken t ts (symbol_of t.kind) (wrong_label t.kind))) (begun_at (begins t.kind) t (c ∷ ts)) ≡ Ok (s, rest)
-      → FoundPart (t ∷ c ∷ ts) (Says s) rest
+        → FoundPart (t ∷ c ∷ ts) (Says s) rest
     go true colon e =
         let v = seen_ok Label (taken t ts (symbol_of t.kind) (wrong_label t.kind)) s rest e in
         let k = taken_ok t ts (symbol_of t.kind) (wrong_label t.kind) v.0 rest v.1 in

@@ -6,3 +6,5 @@ pub mod Whole
 pub mod Shown
 pub mod FirstWrong
 pub mod PartWrong
+pub mod NameLists
+pub mod Progress

@@ -35,12 +35,12 @@ option_shown (t ∷ ts) w end e = go (is_norvc t.kind) refl e
     go : (b : Bool) → is_norvc t.kind ≡ b → cond b (end_at A_register ts) (Err (wrong t (wrong_option t.kind))) ≡ Err w → Shown Option_word code_in_option (t ∷ ts) w
     go true is e =
         behind Option_word (λ us. us ≡ []) code_in_option (λ us at. wrong_after A_register at.kind) t ts w
-          (λ us h. (t, ap (λ xs. t ∷ xs) h, is)) (λ us h. (option_front t us h).1) (λ us at. refl)
-          (end_shown (λ us. us ≡ []) (λ us at. wrong_after A_register at.kind) A_register ts w refl nothing_more (λ at. refl) (ended_more t ts (norvc_no_last t.kind is) end) e)
+        (λ us h. (t, ap (λ xs. t ∷ xs) h, is)) (λ us h. (option_front t us h).1) (λ us at. refl)
+        (end_shown (λ us. us ≡ []) (λ us at. wrong_after A_register at.kind) A_register ts w refl nothing_more (λ at. refl) (ended_more t ts (norvc_no_last t.kind is) end) e)
     go false is e =
         let v : wrong t (wrong_option t.kind) ≡ w = cc in
         at_first Option_word code_in_option t ts w (a_norvc ∷ [], (a_norvc, refl, refl))
-          (λ text h. let f = (option_front t text h).0 in cc) (sym v)
+        (λ text h. let f = (option_front t text h).0 in cc) (sym v)
 
 -- a part that a colon behind the rest's first token makes a label, and that is none without it
 abbrev pub PartOf : List Token → List Token → Type 0
@@ -60,7 +60,7 @@ same_mnemonic : (m n : Mnemonic) → Begins_instruction m ≡ Begins_instruction
 same_mnemonic m n e = cc
 
 begun_front : (b : Beginning) (rest : List Token) (t : Token) (us : List Token) → begins_label rest ≡ false → begins t.kind ≡ b → is_end t.kind ≡ false
-  → PartOf rest (t ∷ us) → Begun b us
+    → PartOf rest (t ∷ us) → Begun b us
 begun_front b rest t us label is end (Ends, l, (u, w, ends)) = let e : is_end t.kind ≡ true = ap (λ (k : Token). is_end k.kind) (heads w) ∙ ends in absurd (cc)
 begun_front b rest t us label is end (Says (Label name), l, s) = absurd (cc)
 begun_front b rest t us label is end (Says (Instruction m os), l, (u, more, w, begun, are)) =
@@ -86,34 +86,35 @@ name_no_last _ b h some = absurd (some (sym h))
 
 -- a statement that is no label
 begun_shown : (b : Beginning) (t : Token) (ts : List Token) (w : Wrong) → ended (t ∷ ts) ≡ true → begins t.kind ≡ b → is_end t.kind ≡ false → colon_next ts ≡ false
-  → begun_at b t ts ≡ Err w → Shown (PartOf (t ∷ ts)) (code_in_part (t ∷ ts)) (t ∷ ts) w
+    → begun_at b t ts ≡ Err w → Shown (PartOf (t ∷ ts)) (code_in_part (t ∷ ts)) (t ∷ ts) w
 unfolding begun_at
 begun_shown (Begins_instruction m) t ts w end is no_end label e =
     behind (PartOf (t ∷ ts)) (Operands (slots m)) (code_in_part (t ∷ ts)) (code_in_operands (slots m)) t ts w
-      (λ us h. to_begun (Begins_instruction m) (t ∷ ts) t us label is h)
-      (λ us h. begun_front (Begins_instruction m) (t ∷ ts) t us label is no_end h)
-      (λ us at. rw is refl)
-      (operands_shown (slots m) ts w (ended_more t ts (name_no_last t.kind (Begins_instruction m) is (λ h. cc)) end) (seen_err (Instruction m) (operands_at (slots m) ts) w e))
+    (λ us h. to_begun (Begins_instruction m) (t ∷ ts) t us label is h)
+    (λ us h. begun_front (Begins_instruction m) (t ∷ ts) t us label is no_end h)
+    (λ us at. rw is refl)
+    (operands_shown (slots m) ts w (ended_more t ts (name_no_last t.kind (Begins_instruction m) is (λ h. cc)) end) (seen_err (Instruction m) (operands_at (slots m) ts) w e))
 begun_shown Begins_globl t ts w end is no_end label e =
     behind (PartOf (t ∷ ts)) Names (code_in_part (t ∷ ts)) code_in_names t ts w
-      (λ us h. to_begun Begins_globl (t ∷ ts) t us label is h)
-      (λ us h. begun_front Begins_globl (t ∷ ts) t us label is no_end h)
-      (λ us at. rw is refl)
-      (names_shown ts w (ended_more t ts (name_no_last t.kind Begins_globl is (λ h. cc)) end) (seen_err Globl (names_at ts) w e))
+    (λ us h. to_begun Begins_globl (t ∷ ts) t us label is h)
+    (λ us h. begun_front Begins_globl (t ∷ ts) t us label is no_end h)
+    (λ us at. rw is refl)
+    (names_shown ts w (ended_more t ts (name_no_last t.kind Begins_globl is (λ h. cc)) end) (seen_err Globl (names_at ts) w e))
 begun_shown Begins_option t ts w end is no_end label e =
     behind (PartOf (t ∷ ts)) Option_word (code_in_part (t ∷ ts)) code_in_option t ts w
-      (λ us h. to_begun Begins_option (t ∷ ts) t us label is h)
-      (λ us h. begun_front Begins_option (t ∷ ts) t us label is no_end h)
-      (λ us at. rw is refl)
-      (elim (bind_err (option_at ts) (λ r. Ok (Norvc, r)) w e) [
-        inl f ↦ option_shown ts w (ended_more t ts (name_no_last t.kind Begins_option is (λ h. cc)) end) f
-      | inr good ↦ absurd (never (Norvc, good.0) w good.2) ])
+    (λ us h. to_begun Begins_option (t ∷ ts) t us label is h)
+    (λ us h. begun_front Begins_option (t ∷ ts) t us label is no_end h)
+    (λ us at. rw is refl)
+    (elim (bind_err (option_at ts) (λ r. Ok (Norvc, r)) w e) [
+      | inl f ↦ option_shown ts w (ended_more t ts (name_no_last t.kind Begins_option is (λ h. cc)) end) f
+      | inr good ↦ absurd (never (Norvc, good.0) w good.2)
+    ])
 begun_shown Begins_nothing t ts w end is no_end label e =
     let v : wrong t (wrong_start t.kind) ≡ w = cc in
     at_first (PartOf (t ∷ ts)) (code_in_part (t ∷ ts)) t ts w
-      (a_newline ∷ [], (Ends, sym label, (a_newline, refl, refl)))
-      (λ text h. begun_front Begins_nothing (t ∷ ts) t text label is no_end h)
-      (sym v ∙ rw label refl)
+    (a_newline ∷ [], (Ends, sym label, (a_newline, refl, refl)))
+    (λ text h. begun_front Begins_nothing (t ∷ ts) t text label is no_end h)
+    (sym v ∙ rw label refl)
 
 label_front : (rest : List Token) (t : Token) (us : List Token) → begins_label rest ≡ true → PartOf rest (t ∷ us) → (name : List ℕ) × (symbol_of t.kind ≡ Some name)
 label_front rest t us label (Ends, l, s) = absurd (cc)
@@ -131,14 +132,14 @@ part_shown [] w end e = absurd (cc)
 part_shown (t ∷ ts) w end e = go (is_end t.kind) refl e
   where
     labelled : (b : Bool) → colon_next ts ≡ b → is_end t.kind ≡ false
-      → cond b (seen_as Label (taken t (after_first ts) (symbol_of t.kind) (wrong_label t.kind))) (begun_at (begins t.kind) t ts) ≡ Err w
-      → Shown (PartOf (t ∷ ts)) (code_in_part (t ∷ ts)) (t ∷ ts) w
+        → cond b (seen_as Label (taken t (after_first ts) (symbol_of t.kind) (wrong_label t.kind))) (begun_at (begins t.kind) t ts) ≡ Err w
+        → Shown (PartOf (t ∷ ts)) (code_in_part (t ∷ ts)) (t ∷ ts) w
     labelled true label no_end e =
         let k = taken_err t (after_first ts) (symbol_of t.kind) (wrong_label t.kind) w (seen_err Label (taken t (after_first ts) (symbol_of t.kind) (wrong_label t.kind)) w e) in
         at_first (PartOf (t ∷ ts)) (code_in_part (t ∷ ts)) t ts w
-          (a_symbol ∷ a_colon ∷ [], (Says (Label (102 ∷ [])), sym label, (a_symbol, a_colon, refl, a_symbol_is, refl)))
-          (λ text h. let f = label_front (t ∷ ts) t text label h in let some : symbol_of t.kind ≡ Some f.0 = f.1 in let none : symbol_of t.kind ≡ None = k.0 in cc)
-          (k.1 ∙ rw label refl)
+        (a_symbol ∷ a_colon ∷ [], (Says (Label (102 ∷ [])), sym label, (a_symbol, a_colon, refl, a_symbol_is, refl)))
+        (λ text h. let f = label_front (t ∷ ts) t text label h in let some : symbol_of t.kind ≡ Some f.0 = f.1 in let none : symbol_of t.kind ≡ None = k.0 in cc)
+        (k.1 ∙ rw label refl)
     labelled false label no_end e = begun_shown (begins t.kind) t ts w end refl no_end label e
 
     go : (b : Bool) → is_end t.kind ≡ b → cond {A = Read Part} b (Ok (Ends, ts)) (seen_as Says (statement_at t ts)) ≡ Err w → Shown (PartOf (t ∷ ts)) (code_in_part (t ∷ ts)) (t ∷ ts) w

@@ -5,7 +5,7 @@ use Rattle.std.proofs.lemmas.Bool.{cases_Bool}
 use Rattle.rv_text_laws.specs.declared.sign.Sign.{Sign}
 use Rattle.rv_text_laws.specs.declared.sign.Sign.TheVariants.{Comma, Colon}
 use Rattle.rv_text_laws.specs.Grammar.{Kind, Space, Line_comment, Block_comment, Newline, Mark, Name as NameToken, Number, Reference as ReferenceToken, Bad_word, Text, Character, Bad_byte, Bad_token, End}
-use Rattle.rv_text_laws.specs.Lexing.{Token}
+use Rattle.rv_text_laws.specs.Lexing.{Token, is_last}
 use Rattle.rv_parse_laws.specs.Statement.{Mnemonic, Expression, Literal, Minus, Operand, Register, Value, Statement, Label, Norvc, Globl, Instruction}
 use Rattle.rv_parse_laws.specs.Words.{Beginning, Begins_instruction, Begins_globl, Begins_option, Begins_nothing}
 use Rattle.rv_parse_laws.specs.Syntax.{register_of, symbol_of, literal_of, value_of, begins, is_comma, is_colon, is_minus, is_norvc, is_end, Slot, A_register, A_value, slots, IsOperand, AreFurther, AreOperands, AreFurtherNames, AreNames, IsStatement, Part, Ends, Says, IsPart, EndsHere, StopsPart}
@@ -70,6 +70,10 @@ begins_no_end Bad_byte b h some = absurd (some (sym h))
 begins_no_end Bad_token b h some = absurd (some (sym h))
 begins_no_end End b h some = absurd (some (sym h))
 
+pub last_begins_nothing : (k : Kind) → is_last k ≡ true → begins k ≡ Begins_nothing
+last_begins_nothing (NameToken word) h = absurd (cc)
+last_begins_nothing _ h = refl
+
 pub operand_is : (s : Slot) (text rest : List Token) (o : Operand) → IsOperand s text o → operand_at s (text ++ rest) ≡ Ok (o, rest)
 operand_is A_register text rest o (t, r, w, e, v) = rw (w, v) (rw e refl)
 operand_is A_value text rest o (inl (t, e, w, is, v)) = rw (w, v) (rw (value_no_minus t.kind e is, is) refl)
@@ -109,7 +113,7 @@ names_is text rest names (t, more, name, others, w, is, are, v) ends =
 
 -- a statement behind its first token, no label
 begun_is : (b : Beginning) (t : Token) (us : List Token) (s : Statement) (rest : List Token) → begins t.kind ≡ b → (b ≡ Begins_nothing → ⊥)
-  → colon_next us ≡ false → begun_at b t us ≡ Ok (s, rest) → part_at (t ∷ us) ≡ Ok (Says s, rest)
+    → colon_next us ≡ false → begun_at b t us ≡ Ok (s, rest) → part_at (t ∷ us) ≡ Ok (Says s, rest)
 unfolding part_at statement_at
 begun_is b t us s rest is some no_colon e = rw (begins_no_end t.kind b is some, no_colon, is, e) refl
 
@@ -119,9 +123,9 @@ part_is Ends text rest (t, w, is) stops = rw w (rw is refl)
 part_is (Says (Label name)) text rest (t, c, w, is, colon) stops = rw w (rw (symbol_no_end t.kind name is, colon, is) refl)
 part_is (Says (Instruction m os)) text rest (t, more, w, is, are) ends =
     rw w (begun_is (Begins_instruction m) t (more ++ rest) (Instruction m os) rest is (λ h. cc) (operands_no_colon (slots m) more rest os are ends)
-      (rw (operands_is (slots m) more rest os are ends) refl))
+    (rw (operands_is (slots m) more rest os are ends) refl))
 part_is (Says (Globl names)) text rest (t, more, w, is, (u, others, name, names', x, is', are, v)) ends =
     rw w (begun_is Begins_globl t (more ++ rest) (Globl names) rest is (λ h. cc) (rw x (symbol_no_colon u.kind name is'))
-      (rw (names_is more rest names (u, others, name, names', x, is', are, v) ends) refl))
+    (rw (names_is more rest names (u, others, name, names', x, is', are, v) ends) refl))
 part_is (Says Norvc) text rest (t, o, w, is, norvc) (u, us, e, ends) =
     rw (w, e) (begun_is Begins_option t (o ∷ u ∷ us) Norvc (u ∷ us) is (λ h. cc) (norvc_no_colon o.kind norvc) (rw (norvc, ends) refl))

@@ -53,15 +53,16 @@ each_below zero r lt h = absurd (omega (arith, lt))
 each_below (suc n) r lt h =
     let a = and_parts (all_found (names_of n) n) (all_below n) h in
     elim (cases_Bool (r == n)) [
-      inl y ↦ (let e : r ≡ n = eqb-true r n y in rw e a.0)
-    | inr differ ↦ (let le : r < n = grind (arith, lt, differ) in each_below n r le a.1) ]
+      | inl y ↦ (let e : r ≡ n = eqb-true r n y in rw e a.0)
+      | inr differ ↦ (let le : r < n = grind (arith, lt, differ) in each_below n r le a.1)
+    ]
 
 below_has : (n : ℕ) (name : List ℕ) (r : ℕ) → register_below n name ≡ Some r → (r < n) × (is_among (names_of r) name ≡ true)
 below_has zero name r h = absurd (cc)
 below_has (suc n) name r h = go (is_among (names_of n) name) refl h (below_has n name r)
   where
     go : (b : Bool) → is_among (names_of n) name ≡ b → cond b (Some n) (register_below n name) ≡ Some r
-      → (register_below n name ≡ Some r → (r < n) × (is_among (names_of r) name ≡ true)) → (r < suc n) × (is_among (names_of r) name ≡ true)
+        → (register_below n name ≡ Some r → (r < n) × (is_among (names_of r) name ≡ true)) → (r < suc n) × (is_among (names_of r) name ≡ true)
     go true e h ih = let same : n ≡ r = same_Some n r h in (omega (arith, same), subst (λ k. is_among (names_of k) name ≡ true) same e)
     go false e h ih = let b = ih h in let lt : r < n = b.0 in (omega (arith, lt), b.1)
 
@@ -81,16 +82,19 @@ name_among : (r : ℕ) (name : List ℕ) → IsNameOf name r → (r < 32) × (is
 unfolding names_of abi_names
 name_among r name (inl (lt, e)) = (lt, among_first _ _ name (sym e))
 name_among r name (inr (inl s)) =
-    let lt : r < 32 = slice_get_within abi_names r name s in
-    (lt, or_right (bytes_eq (codes "x" ++ decimal r) name) (is_among (option_to_list (slice_get abi_names r) ++ cond (r == 8) (codes "fp" ∷ []) []) name)
-      (rw s (among_first name (cond (r == 8) (codes "fp" ∷ []) []) name refl)))
+    let lt : r < 32 = slice_get_within abi_names r name s in (
+      lt,
+      or_right (bytes_eq (codes "x" ++ decimal r) name) (is_among (option_to_list (slice_get abi_names r) ++ cond (r == 8) (codes "fp" ∷ []) []) name)
+          (rw s (among_first name (cond (r == 8) (codes "fp" ∷ []) []) name refl)),
+    )
 name_among r name (inr (inr (e, is))) = rw (e, is) (omega arith, refl)
 
 pub register_is : (name : List ℕ) (r : ℕ) → register name ≡ Some r ↔ IsNameOf name r
 unfolding register
-register_is name r =
-    ((λ h. let b = below_has 32 name r h in among_is_name r name b.0 b.1),
-     (λ h. let n = name_among r name h in found_among (names_of r) r name (each_below 32 r n.0 every_name) n.1))
+register_is name r = (
+  (λ h. let b = below_has 32 name r h in among_is_name r name b.0 b.1),
+  (λ h. let n = name_among r name h in found_among (names_of r) r name (each_below 32 r n.0 every_name) n.1),
+)
 
 -- what finds the register of a name, and finds nothing without one, gives this function's value
 pub register_found : (name : List ℕ) (o : Option ℕ) → ((r : ℕ) → o ≡ Some r ↔ IsNameOf name r) → o ≡ register name

@@ -28,23 +28,23 @@ pub record Shown (S : List Token → Type 0) (code : List Token → Token → �
 
 -- at the first token
 pub at_first : (S : List Token → Type 0) (code : List Token → Token → ℕ) (t : Token) (ts : List Token) (w : Wrong)
-  → (text : List Token) × S text → ((text : List Token) → S (t ∷ text) → ⊥) → w ≡ wrong t (code [] t) → Shown S code (t ∷ ts) w
+    → (text : List Token) × S text → ((text : List Token) → S (t ∷ text) → ⊥) → w ≡ wrong t (code [] t) → Shown S code (t ∷ ts) w
 at_first S code t ts w live stuck is = record { before = []; at = t; more = ts; whole = refl; goes = live; stops = stuck; is_wrong = is }
 
 -- behind the first token
 pub behind : (S R : List Token → Type 0) (code next : List Token → Token → ℕ) (t : Token) (ts : List Token) (w : Wrong)
-  → ((us : List Token) → R us → S (t ∷ us)) → ((us : List Token) → S (t ∷ us) → R us)
-  → ((us : List Token) (at : Token) → code (t ∷ us) at ≡ next us at)
-  → Shown R next ts w → Shown S code (t ∷ ts) w
+    → ((us : List Token) → R us → S (t ∷ us)) → ((us : List Token) → S (t ∷ us) → R us)
+    → ((us : List Token) (at : Token) → code (t ∷ us) at ≡ next us at)
+    → Shown R next ts w → Shown S code (t ∷ ts) w
 behind S R code next t ts w to from same s = record {
-    before = t ∷ s.before;
-    at = s.at;
-    more = s.more;
-    whole = ap (λ us. t ∷ us) s.whole;
-    goes = (s.goes.0, to (s.before ++ s.goes.0) s.goes.1);
-    stops = λ text h. s.stops text (from ((s.before ++ s.at ∷ []) ++ text) h);
-    is_wrong = s.is_wrong ∙ ap (wrong s.at) (sym (same s.before s.at));
-  }
+  before = t ∷ s.before;
+  at = s.at;
+  more = s.more;
+  whole = ap (λ us. t ∷ us) s.whole;
+  goes = (s.goes.0, to (s.before ++ s.goes.0) s.goes.1);
+  stops = λ text h. s.stops text (from ((s.before ++ s.at ∷ []) ++ text) h);
+  is_wrong = s.is_wrong ∙ ap (wrong s.at) (sym (same s.before s.at));
+}
 
 -- the last token is the last in the list
 abbrev pub ended : List Token → Bool
@@ -152,12 +152,12 @@ minus_front N t u us minus (one, rest, o, w, inr (m, v, n, x, is_one, is, y), ne
 
 -- no operand where none is read
 pub operand_shown : (s : Slot) (N : List Token → Type 0) (next : List Token → Token → ℕ) (ts : List Token) (w : Wrong) → (text : List Token) × N text
-  → ended ts ≡ true → operand_at s ts ≡ Err w → Shown (InOperand s N) (code_in_operand s next) ts w
+    → ended ts ≡ true → operand_at s ts ≡ Err w → Shown (InOperand s N) (code_in_operand s next) ts w
 operand_shown A_register N next [] w live end e = absurd (cc)
 operand_shown A_register N next (t ∷ ts) w live end e =
     let k = taken_err t ts (register_of t.kind) (wrong_register t.kind) w (seen_err Register (register_at (t ∷ ts)) w e) in
     at_first (InOperand A_register N) (code_in_operand A_register next) t ts w (in_operand_goes A_register N live)
-      (λ text h. let f = register_front N t text h in let is : register_of t.kind ≡ Some f.0 = f.1 in let none : register_of t.kind ≡ None = k.0 in cc) k.1
+    (λ text h. let f = register_front N t text h in let is : register_of t.kind ≡ Some f.0 = f.1 in let none : register_of t.kind ≡ None = k.0 in cc) k.1
 operand_shown A_value N next [] w live end e = absurd (cc)
 operand_shown A_value N next (t ∷ ts) w live end e = go (is_minus t.kind) refl (seen_err Value (value_at (t ∷ ts)) w e)
   where
@@ -166,16 +166,23 @@ operand_shown A_value N next (t ∷ ts) w live end e = go (is_minus t.kind) refl
     after_minus (u ∷ us) end minus e =
         let k = taken_err u us (literal_of u.kind) (wrong_literal u.kind) w e in
         record {
-          before = t ∷ []; at = u; more = us; whole = refl;
+          before = t ∷ [];
+          at = u;
+          more = us;
+          whole = refl;
           goes = (a_literal ∷ live.0, (t ∷ a_literal ∷ [], live.0, Value (Minus (Literal 0)), refl, inr (t, a_literal, 0, refl, minus, refl, refl), live.1));
           stops = λ text h. let f = minus_front N t u text minus h in let is : literal_of u.kind ≡ Some f.0 = f.1 in let none : literal_of u.kind ≡ None = k.0 in cc;
           is_wrong = rw minus k.1;
         }
 
     go : (b : Bool) → is_minus t.kind ≡ b → cond b (seen_as (λ n. Minus (Literal n)) (literal_at ts)) (taken t ts (value_of t.kind) (wrong_value t.kind)) ≡ Err w
-      → Shown (InOperand A_value N) (code_in_operand A_value next) (t ∷ ts) w
+        → Shown (InOperand A_value N) (code_in_operand A_value next) (t ∷ ts) w
     go true minus e = after_minus ts end minus (seen_err (λ n. Minus (Literal n)) (literal_at ts) w e)
     go false minus e =
         let k = taken_err t ts (value_of t.kind) (wrong_value t.kind) w e in
         at_first (InOperand A_value N) (code_in_operand A_value next) t ts w (in_operand_goes A_value N live)
-          (λ text h. let f = value_front N t text minus h in let is : value_of t.kind ≡ Some f.0 = f.1 in let none : value_of t.kind ≡ None = k.0 in cc) k.1
+        (λ text h. let f = value_front N t text minus h in let is : value_of t.kind ≡ Some f.0 = f.1 in let none : value_of t.kind ≡ None = k.0 in cc) k.1
+
+pub colon_no_last : (k : Kind) → is_colon k ≡ true → is_last k ≡ false
+colon_no_last (Mark sign) h = refl
+colon_no_last _ h = absurd (cc)

@@ -4,10 +4,12 @@ use Rattle.std.proofs.Common.{◌≡◌, ℕ, zero, suc, ◌+◌, ◌-◌, ◌<�
 use Rattle.rv_text_laws.specs.Cut.{Piece, texts, Cuts, NothingReads, cut, Finds}
 use Rattle.rv_text_laws.specs.Lexing.{Token, Lexes}
 use Rattle.rv_text_laws.proofs.Cut.{unique, none_nothing, nothing_none}
-use Rattle.rv_parse_laws.specs.Statement.{Statement, Label, Norvc, Globl, Instruction}
+use Rattle.rv_parse_laws.specs.Statement.{Statement, Label, Norvc, Globl, Instruction, Spoken}
 use Rattle.rv_parse_laws.specs.Syntax.{Slot, Part, Ends, Says, IsPart, StopsPart}
 use Rattle.rv_parse_laws.specs.Parsing.{Wrong, Read, part_at}
-use Rattle.rv_parse_laws.specs.Reading.{AreParts}
+use Rattle.rv_text_laws.proofs.Tokens.{one_list, given}
+use Rattle.rv_parse_laws.specs.Reading.{AreParts, Reads, said, SaysUpTo, past_line, longest_source, most_statements}
+use Rattle.rv_text_laws.specs.Front.{tokens_from}
 use Rattle.rv_parse_laws.proofs.Parts.{part_is}
 use Rattle.rv_parse_laws.proofs.Found.{part_found}
 
@@ -42,13 +44,13 @@ seam text rest = omega (arith, length-append text rest)
 pub finds_parts : Finds Part Token IsPart StopsPart find_part
 unfolding find_part
 finds_parts = record {
-    is = λ p text rest spelled stops. ap (counted (length (text ++ rest))) (part_is p text rest spelled stops) ∙ ap (λ n. Some (p, n)) (seam text rest);
-    found = λ all p n e. found all p n e;
-    some = part_some;
-  }
+  is = λ p text rest spelled stops. ap (counted (length (text ++ rest))) (part_is p text rest spelled stops) ∙ ap (λ n. Some (p, n)) (seam text rest);
+  found = λ all p n e. found all p n e;
+  some = part_some;
+}
   where
     found : (all : List Token) (p : Part) (n : ℕ) → find_part all ≡ Some (p, n)
-      → (text : List Token) × (rest : List Token) × (all ≡ text ++ rest) × (n ≡ length text) × IsPart p text × StopsPart p rest
+        → (text : List Token) × (rest : List Token) × (all ≡ text ++ rest) × (n ≡ length text) × IsPart p text × StopsPart p rest
     found all p n e =
         let c = counted_some (length all) (part_at all) p n e in
         let f = part_found all p c.0 c.1 in
@@ -63,3 +65,14 @@ pub one_cut : (ts : List Token) (ps qs : List (Piece Part Token)) → AreParts t
 one_cut ts ps qs c d =
     let p : (ps, []) ≡ (qs, []) = sym (unique finds_parts ts ps [] c no_tokens) ∙ unique finds_parts ts qs [] d no_tokens in
     ap (λ (x : List (Piece Part Token) × List Token). x.0) p
+
+-- bytes have at most one reading
+pub one_reading : (bytes : List ℕ) (ss others : List Spoken) → Reads bytes ss → Reads bytes others → ss ≡ others
+one_reading bytes ss others (a, b, c, ts, ps, lexes, cuts, says) (d, e, f, us, qs, lexes', cuts', says') =
+    let same : ts ≡ us = one_list bytes ts us lexes lexes' in
+    says ∙ ap said (one_cut us ps qs (subst (λ xs. AreParts xs ps []) same cuts) cuts') ∙ sym says'
+
+-- what the tokens of bytes say within the limits is their reading
+pub reads_as : (bytes : List ℕ) (ts : List Token) (ss : List Spoken) → length bytes ≤ longest_source → past_line 0 0 bytes ≡ None → length ss ≤ most_statements
+    → ts ≡ tokens_from 0 1 bytes → SaysUpTo ts [] ss → Reads bytes ss
+reads_as bytes ts ss short lines few is (ps, cuts, says) = (short, lines, few, ts, ps, subst (Lexes bytes) (sym is) (given bytes), cuts, says)

@@ -13,16 +13,22 @@ use Rattle.rv_parse_laws.specs.Syntax.{longest_name, Slot, A_register, A_value, 
 -- the codes, by their numbers
 abbrev pub bad_byte : ℕ
 bad_byte = 1
+
 abbrev pub bad_token : ℕ
 bad_token = 2
+
 abbrev pub unknown_mnemonic : ℕ
 unknown_mnemonic = 6
+
 abbrev pub bad_operands : ℕ
 bad_operands = 7
+
 abbrev pub unknown_directive : ℕ
 unknown_directive = 8
+
 abbrev pub unsupported_here : ℕ
 unsupported_here = 9
+
 abbrev pub limit : ℕ
 limit = 17
 

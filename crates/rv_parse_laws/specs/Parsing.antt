@@ -108,11 +108,14 @@ abbrev pub option_at : List Token → Result (List Token) Wrong
 option_at [] = Err nowhere
 option_at (t ∷ ts) = if is_norvc t.kind then end_at A_register ts else Err (wrong t (wrong_option t.kind))
 
+abbrev pub norvc_at : List Token → Read Statement
+norvc_at ts = option_at ts >>= λ r. Ok (Norvc, r)
+
 -- the statement that begins with the token t, before the tokens ts
 unfoldable pub begun_at : Beginning → Token → List Token → Read Statement
 begun_at (Begins_instruction m) t ts = seen_as (Instruction m) (operands_at (slots m) ts)
 begun_at Begins_globl t ts = seen_as Globl (names_at ts)
-begun_at Begins_option t ts = option_at ts >>= λ r. Ok (Norvc, r)
+begun_at Begins_option t ts = norvc_at ts
 begun_at Begins_nothing t ts = Err (wrong t (wrong_start t.kind))
 
 -- a colon comes next

@@ -13,8 +13,10 @@ use Rattle.rv_parse_laws.specs.Parsing.{colon_next}
 -- the longest source and the longest line without its line feed, in bytes, and the most statements
 abbrev pub longest_source : ℕ
 longest_source = 2 ^ 24
+
 abbrev pub longest_line : ℕ
 longest_line = 65535
+
 abbrev pub most_statements : ℕ
 most_statements = 2 ^ 22
 
@@ -44,8 +46,8 @@ AreParts ts ps rest = Cuts Part Token IsPart StopsPart ts ps rest
 -- the bytes read as these statements: they are cut into tokens, the tokens into parts, all within the limits
 abbrev pub Reads : List ℕ → List Spoken → Type 0
 Reads bytes ss =
-  (length bytes ≤ longest_source) × (past_line 0 0 bytes ≡ None) × (length ss ≤ most_statements)
-  × (ts : List Token) × (ps : List (Piece Part Token)) × Lexes bytes ts × AreParts ts ps [] × (ss ≡ said ps)
+    (length bytes ≤ longest_source) × (past_line 0 0 bytes ≡ None) × (length ss ≤ most_statements)
+    × (ts : List Token) × (ps : List (Piece Part Token)) × Lexes bytes ts × AreParts ts ps [] × (ss ≡ said ps)
 
 -- a part with these first tokens can still stand at the front of the rest: a colon after the rest's first token makes it a
 -- label, and without it there is none
@@ -137,7 +139,7 @@ pub record PastStatements (bytes : List ℕ) (place : ℕ) : Type 0 where
 -- a fault with this code stands at this byte
 abbrev pub Stands : List ℕ → ℕ → ℕ → Type 0
 Stands bytes place code =
-  WrongToken bytes place code ⊎ ((code ≡ limit) × (past_line 0 0 bytes ≡ Some place)) ⊎ ((code ≡ limit) × PastStatements bytes place)
+    WrongToken bytes place code ⊎ ((code ≡ limit) × (past_line 0 0 bytes ≡ Some place)) ⊎ ((code ≡ limit) × PastStatements bytes place)
 
 -- a fault's code, by its number, and the line that it names
 pub record Fault : Type 0 where
@@ -154,5 +156,9 @@ pub record IsFirst (bytes : List ℕ) (f : Fault) : Type 0 where
 -- the first fault of phase one: a source that is too long has it at line 0, before all others
 abbrev pub Refuses : List ℕ → Fault → Type 0
 Refuses bytes f =
-  ((longest_source < length bytes) × (f ≡ record { code = limit; line = 0 }))
-  ⊎ ((length bytes ≤ longest_source) × IsFirst bytes f)
+    ((longest_source < length bytes) × (f ≡ record { code = limit; line = 0 }))
+    ⊎ ((length bytes ≤ longest_source) × IsFirst bytes f)
+
+-- the tokens say these statements, up to the rest
+abbrev pub SaysUpTo : List Token → List Token → List Spoken → Type 0
+SaysUpTo ts rest ss = (ps : List (Piece Part Token)) × AreParts ts ps rest × (ss ≡ said ps)

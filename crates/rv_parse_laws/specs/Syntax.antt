@@ -70,6 +70,11 @@ is_end (Mark Semicolon) = true
 is_end End = true
 is_end _ = false
 
+-- the source's end
+abbrev pub is_source_end : Kind → Bool
+is_source_end End = true
+is_source_end _ = false
+
 -- what may stand in one place of an instruction
 pub data Slot : Type 0 where
   A_register : Slot
@@ -85,45 +90,45 @@ slots Li = A_register ∷ A_value ∷ []
 abbrev pub IsOperand : Slot → List Token → Operand → Type 0
 IsOperand A_register ts o = (t : Token) × (r : ℕ) × (ts ≡ t ∷ []) × (register_of t.kind ≡ Some r) × (o ≡ Register r)
 IsOperand A_value ts o =
-  ((t : Token) × (e : Expression) × (ts ≡ t ∷ []) × (value_of t.kind ≡ Some e) × (o ≡ Value e))
-  ⊎ ((m t : Token) × (n : ℕ) × (ts ≡ m ∷ t ∷ []) × (is_minus m.kind ≡ true) × (literal_of t.kind ≡ Some n) × (o ≡ Value (Minus (Literal n))))
+    ((t : Token) × (e : Expression) × (ts ≡ t ∷ []) × (value_of t.kind ≡ Some e) × (o ≡ Value e))
+    ⊎ ((m t : Token) × (n : ℕ) × (ts ≡ m ∷ t ∷ []) × (is_minus m.kind ≡ true) × (literal_of t.kind ≡ Some n) × (o ≡ Value (Minus (Literal n))))
 
 -- further operands, one for each place, with a comma before each
 abbrev pub AreFurther : List Slot → List Token → List Operand → Type 0
 AreFurther [] ts os = (ts ≡ []) × (os ≡ [])
 AreFurther (s ∷ ss) ts os =
-  (c : Token) × (one rest : List Token) × (o : Operand) × (more : List Operand) × (ts ≡ c ∷ (one ++ rest)) × (is_comma c.kind ≡ true)
-  × IsOperand s one o × AreFurther ss rest more × (os ≡ o ∷ more)
+    (c : Token) × (one rest : List Token) × (o : Operand) × (more : List Operand) × (ts ≡ c ∷ (one ++ rest)) × (is_comma c.kind ≡ true)
+    × IsOperand s one o × AreFurther ss rest more × (os ≡ o ∷ more)
 
 -- the operands, one for each place, with commas between
 abbrev pub AreOperands : List Slot → List Token → List Operand → Type 0
 AreOperands [] ts os = (ts ≡ []) × (os ≡ [])
 AreOperands (s ∷ ss) ts os =
-  (one rest : List Token) × (o : Operand) × (more : List Operand) × (ts ≡ one ++ rest)
-  × IsOperand s one o × AreFurther ss rest more × (os ≡ o ∷ more)
+    (one rest : List Token) × (o : Operand) × (more : List Operand) × (ts ≡ one ++ rest)
+    × IsOperand s one o × AreFurther ss rest more × (os ≡ o ∷ more)
 
 -- further names, with a comma before each
 abbrev pub AreFurtherNames : List Token → List (List ℕ) → Type 0
 AreFurtherNames ts [] = ts ≡ []
 AreFurtherNames ts (name ∷ names) =
-  (c t : Token) × (rest : List Token) × (ts ≡ c ∷ t ∷ rest) × (is_comma c.kind ≡ true) × (symbol_of t.kind ≡ Some name) × AreFurtherNames rest names
+    (c t : Token) × (rest : List Token) × (ts ≡ c ∷ t ∷ rest) × (is_comma c.kind ≡ true) × (symbol_of t.kind ≡ Some name) × AreFurtherNames rest names
 
 -- one name or more, with commas between
 abbrev pub AreNames : List Token → List (List ℕ) → Type 0
 AreNames ts names =
-  (t : Token) × (rest : List Token) × (name : List ℕ) × (more : List (List ℕ)) × (ts ≡ t ∷ rest) × (symbol_of t.kind ≡ Some name)
-  × AreFurtherNames rest more × (names ≡ name ∷ more)
+    (t : Token) × (rest : List Token) × (name : List ℕ) × (more : List (List ℕ)) × (ts ≡ t ∷ rest) × (symbol_of t.kind ≡ Some name)
+    × AreFurtherNames rest more × (names ≡ name ∷ more)
 
 -- the tokens that say a statement, without its end
 abbrev pub IsStatement : List Token → Statement → Type 0
 IsStatement ts (Label name) =
-  (t c : Token) × (ts ≡ t ∷ c ∷ []) × (symbol_of t.kind ≡ Some name) × (is_colon c.kind ≡ true)
+    (t c : Token) × (ts ≡ t ∷ c ∷ []) × (symbol_of t.kind ≡ Some name) × (is_colon c.kind ≡ true)
 IsStatement ts (Instruction mnemonic operands) =
-  (t : Token) × (rest : List Token) × (ts ≡ t ∷ rest) × (begins t.kind ≡ Begins_instruction mnemonic) × AreOperands (slots mnemonic) rest operands
+    (t : Token) × (rest : List Token) × (ts ≡ t ∷ rest) × (begins t.kind ≡ Begins_instruction mnemonic) × AreOperands (slots mnemonic) rest operands
 IsStatement ts (Globl names) =
-  (t : Token) × (rest : List Token) × (ts ≡ t ∷ rest) × (begins t.kind ≡ Begins_globl) × AreNames rest names
+    (t : Token) × (rest : List Token) × (ts ≡ t ∷ rest) × (begins t.kind ≡ Begins_globl) × AreNames rest names
 IsStatement ts Norvc =
-  (t o : Token) × (ts ≡ t ∷ o ∷ []) × (begins t.kind ≡ Begins_option) × (is_norvc o.kind ≡ true)
+    (t o : Token) × (ts ≡ t ∷ o ∷ []) × (begins t.kind ≡ Begins_option) × (is_norvc o.kind ≡ true)
 
 -- a part of a source: a statement, or the end of one or of nothing
 pub data Part : Type 0 where

@@ -2,3 +2,7 @@
 //!
 //! Source: RISC-V Assembly Programmer's Manual.
 #![tactic(auto)]
+
+mod laws;
+
+pub use laws::one_reading;

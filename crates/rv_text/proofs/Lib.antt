@@ -1,1 +1,5 @@
 pub mod Numbers
+pub mod Escapes
+pub mod Scans
+pub mod Inside
+pub mod Steps

@@ -26,12 +26,12 @@ regrouped n b x g v = omega arith
 with_digit : (base number d : ℕ) (rest : List ℕ) → number_with base number (d ∷ rest) ≡ number_with base (number * base + digit d) rest
 with_digit base number d rest =
     ap (λ p. number * p + (digit d * base ^ length rest + value base rest)) (pow-suc base (length rest))
-      ∙ regrouped number base (base ^ length rest) (digit d) (value base rest)
+    ∙ regrouped number base (base ^ length rest) (digit d) (value base rest)
 
 pub on_digit : (base number d : ℕ) (rest : List ℕ) → is_digit base d ≡ true → number_on base number (d ∷ rest) ≡ number_on base (number * base + digit d) rest
 on_digit base number d rest good =
     ap (λ t. cond ((t && list_all (is_digit base) rest) && nat_lt (number_with base number (d ∷ rest)) (2 ^ 64)) (Some (number_with base number (d ∷ rest))) None) good
-      ∙ ap (λ n. cond (list_all (is_digit base) rest && nat_lt n (2 ^ 64)) (Some n) None) (with_digit base number d rest)
+    ∙ ap (λ n. cond (list_all (is_digit base) rest && nat_lt n (2 ^ 64)) (Some n) None) (with_digit base number d rest)
 
 pub on_other : (base number d : ℕ) (rest : List ℕ) → is_digit base d ≡ false → number_on base number (d ∷ rest) ≡ None
 on_other base number d rest bad =
@@ -63,7 +63,7 @@ module _ (base number i : ℕ) (ds : List ℕ) (here : i < length ds) where
   front = rw (add-one, drop-cons ds i 0) refl
 
   pub next_digit : number_by base ds ≡ number_on base number (drop i ds) → is_digit base (get_or ds i 0) ≡ true
-    → number_by base ds ≡ number_on base (number * base + digit (get_or ds i 0)) (drop (i + 1) ds)
+      → number_by base ds ≡ number_on base (number * base + digit (get_or ds i 0)) (drop (i + 1) ds)
   next_digit so_far good = so_far ∙ ap (number_on base number) front ∙ on_digit base number (get_or ds i 0) (drop (i + 1) ds) good
 
   pub no_digit : number_by base ds ≡ number_on base number (drop i ds) → is_digit base (get_or ds i 0) ≡ false → number_by base ds ≡ None
@@ -83,7 +83,7 @@ short_zero (c ∷ []) short = refl
 short_zero (c ∷ d ∷ ds) short = absurd (omega arith)
 
 pub long_zero : (rest : List ℕ) → 2 ≤ length rest
-  → after_zero rest ≡ cond (get_or rest 0 0 == 120) (number_by 16 (drop 1 rest)) (cond (get_or rest 0 0 == 98) (number_by 2 (drop 1 rest)) (number_by 8 rest))
+    → after_zero rest ≡ cond (get_or rest 0 0 == 120) (number_by 16 (drop 1 rest)) (cond (get_or rest 0 0 == 98) (number_by 2 (drop 1 rest)) (number_by 8 rest))
 long_zero [] long = absurd (omega arith)
 long_zero (c ∷ []) long = absurd (omega arith)
 long_zero (c ∷ d ∷ ds) long = refl

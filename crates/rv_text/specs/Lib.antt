@@ -1,3 +1,4 @@
 pub mod Fault
 pub mod Token
 pub mod Left
+pub mod Piece

@@ -1,6 +1,13 @@
 //! The lexer: the tokens of a source, one after the other.
 
-ghost use Rattle.std.specs.Prelude.{◌≡◌, ◌+◌, ◌<◌, ◌^◌, length};
+ghost use Rattle.std.specs.Prelude.{◌≡◌, ◌+◌, ◌<◌, ◌≤◌, ◌^◌, ◌∷◌, [], true, length, take, drop, if◌then◌else◌};
+ghost use Rattle.rv_text_laws.specs.Lexing.{newlines, is_last, last_kind};
+ghost use Rattle.rv_text.specs.Token.{kind_of, token_of};
+
+use crate::class::class;
+use crate::piece::{line_feeds, piece_at};
+use crate::token::{Token, TokenKind};
+use rv_text_laws::Class;
 
 /// The tokens that a source has left. It is copied to look ahead.
 #[derive(Clone, Copy, Debug, Drop)]
@@ -25,6 +32,65 @@ impl<'a> Lexer<'a> {
         requires { length source.now + 1 < 2 ^ 32 }
         ensures { tokens_left result ≡ tokens_from 0 1 source.now }
     {
-        Lexer { rest: source, at: 0, line: 1 }
+        Lexer {
+            rest: source,
+            at: 0,
+            line: 1,
+        }
+    }
+
+    /// The next token. After the last one (the end, a bad byte or a bad token) it comes again.
+    pub fn next(&mut self) -> Token<'a>
+        ensures first { tokens_left self.old ≡ token_of result ∷ (if is_last (token_of result).kind then [] else tokens_left self.new) }
+        ensures stays { is_last (token_of result).kind ≡ true → tokens_left self.new ≡ tokens_left self.old }
+    {
+        while let Some(piece) = piece_at(self.rest) {
+            let start = self.at;
+            let line = self.line;
+            self.skip(piece.length);
+            if let Some(kind) = piece.kind.token() {
+                return Token {
+                    kind,
+                    start,
+                    stop: self.at,
+                    line,
+                };
+            }
+        }
+        Token {
+            kind: last_kind(self.rest),
+            start: self.at,
+            stop: self.at,
+            line: self.line,
+        }
+    }
+
+    /// Passes over bytes.
+    fn skip(&mut self, count: usize)
+        requires { count ≤ length self.old.rest.now }
+        ensures rest { self.new.rest.now ≡ drop count self.old.rest.now }
+        ensures at { self.new.at ≡ self.old.at + count }
+        ensures line { self.new.line ≡ self.old.line + newlines (take count self.old.rest.now) }
+    {
+        let (text, rest) = self.rest.split_at(count);
+        let feeds = line_feeds(text);
+        *self = Lexer {
+            rest,
+            at: self.at + count as u32,
+            line: self.line + feeds as u32,
+        };
+    }
+}
+
+/// The kind of the last token, by what stands where no piece can.
+fn last_kind(rest: &[u8]) -> TokenKind<'_>
+    ensures { kind_of result ≡ last_kind rest.now }
+{
+    if rest.is_empty() {
+        return TokenKind::End;
+    }
+    match class(rest[0]) {
+        Class::Foreign => TokenKind::BadByte,
+        _ => TokenKind::BadToken,
     }
 }

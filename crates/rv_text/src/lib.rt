@@ -6,6 +6,8 @@
 mod class;
 mod fault;
 mod lexer;
+mod piece;
+mod text;
 mod token;
 mod word;
 

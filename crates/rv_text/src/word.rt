@@ -34,7 +34,9 @@ pub(crate) fn number_by(base: u8, digits: &[u8]) -> Option<u64>
         if digit >= base {
             return None;
         }
-        number = number.checked_mul(u64::from(base))?.checked_add(u64::from(digit))?;
+        number = number
+            .checked_mul(u64::from(base))?
+            .checked_add(u64::from(digit))?;
     }
     Some(number)
 }

@@ -21,7 +21,6 @@ second_false x false z h = refl
 second_false true true z h = elim z [ true ↦ cc | false ↦ cc ]
 second_false false true z h = elim z [ true ↦ cc | false ↦ cc ]
 
-
 and_false : (x y : Bool) → x ≡ true → (x && y) ≡ false → y ≡ false
 and_false true y h e = e
 and_false false y h e = cc
@@ -49,10 +48,11 @@ named_at e b es =
     pick Good (e == 114) _ _ (λ t h. letter_at e 114 13 b es (eqb-true e 114 t) refl (same_Some 13 b h)) (λ _.
     pick Good (e == 116) _ _ (λ t h. letter_at e 116 9 b es (eqb-true e 116 t) refl (same_Some 9 b h)) (λ _.
     pick Good ((e == 92) || (e == 34) || (e == 39)) _ _
-      (λ t h. elim (one_of_three (e == 92) (e == 34) (e == 39) t) [
-          inl x ↦ itself 92 (eqb-true e 92 x) refl (same_Some e b h)
-        | inr y ↦ elim y [ inl x ↦ itself 34 (eqb-true e 34 x) refl (same_Some e b h) | inr x ↦ itself 39 (eqb-true e 39 x) refl (same_Some e b h) ] ])
-      (λ _ h. absurd (none-some b h)))))))
+    (λ t h. elim (one_of_three (e == 92) (e == 34) (e == 39) t) [
+      | inl x ↦ itself 92 (eqb-true e 92 x) refl (same_Some e b h)
+      | inr y ↦ elim y [ inl x ↦ itself 34 (eqb-true e 34 x) refl (same_Some e b h) | inr x ↦ itself 39 (eqb-true e 39 x) refl (same_Some e b h) ]
+    ])
+    (λ _ h. absurd (none-some b h)))))))
   where
     Good : Option ℕ → Type 0
     Good o = o ≡ Some b → escape_at (e ∷ es) ≡ Some (Named b, 2)
@@ -61,17 +61,17 @@ named_at e b es =
     itself n same at is = letter_at e n n b es same at (sym same ∙ is)
 
 octal_at : (d : ℕ) (ds rest : List ℕ) → is_digit 8 d ≡ true → prefix_len (is_digit 8) (take 2 (ds ++ rest)) ≡ length ds
-  → escape_at (d ∷ (ds ++ rest)) ≡ Some (Octal (d ∷ ds), suc (suc (length ds)))
+    → escape_at (d ∷ (ds ++ rest)) ≡ Some (Octal (d ∷ ds), suc (suc (length ds)))
 unfolding escape_at
 octal_at d ds rest h n = rw (h, n, take-append_seam) refl
 
 hexadecimal_at : (d : ℕ) (ds rest : List ℕ) → prefix_len (is_digit 16) (take 2 (d ∷ (ds ++ rest))) ≡ suc (length ds)
-  → escape_at (120 ∷ d ∷ (ds ++ rest)) ≡ Some (Hexadecimal (d ∷ ds), suc (suc (suc (length ds))))
+    → escape_at (120 ∷ d ∷ (ds ++ rest)) ≡ Some (Hexadecimal (d ∷ ds), suc (suc (suc (length ds))))
 unfolding escape_at digit
 hexadecimal_at d ds rest n = found (prefix_len (is_digit 16) (take 2 (d ∷ (ds ++ rest)))) n
   where
     found : (m : ℕ) → m ≡ suc (length ds)
-      → cond {A = Option (Atom × ℕ)} (m == 0) None (Some (Hexadecimal (take m (d ∷ (ds ++ rest))), suc (suc m))) ≡ Some (Hexadecimal (d ∷ ds), suc (suc (suc (length ds))))
+        → cond {A = Option (Atom × ℕ)} (m == 0) None (Some (Hexadecimal (take m (d ∷ (ds ++ rest))), suc (suc m))) ≡ Some (Hexadecimal (d ∷ ds), suc (suc (suc (length ds))))
     found m e = rw (e, eqb-suc-zero, take-append_seam) refl
 
 octal_breaks : (d : ℕ) (ds rest : List ℕ) → StopsAtom (Octal (d ∷ ds)) rest → BreaksBelow 2 (is_digit 8) (length ds) rest
@@ -86,20 +86,20 @@ pub atom_is : (a : Atom) (text rest : List ℕ) → SpellsAtom a text → StopsA
 unfolding atom_at
 atom_is (Plain byte) text rest (whole, plain) stops =
     ap (λ t. atom_at (t ++ rest)) whole
-      ∙ rw (plain, second_false (byte == 34) (byte == 92) (byte == 10) plain) (ap (λ t. Some (Plain byte, length t)) (sym whole))
+    ∙ rw (plain, second_false (byte == 34) (byte == 92) (byte == 10) plain) (ap (λ t. Some (Plain byte, length t)) (sym whole))
 atom_is (Named byte) text rest (e, whole, is) stops =
     ap (λ t. atom_at (t ++ rest)) whole ∙ named_at e byte rest is ∙ ap (λ t. Some (Named byte, length t)) (sym whole)
 atom_is (Octal []) text rest (whole, all, some, most) stops = absurd (omega arith)
 atom_is (Octal (d ∷ ds)) text rest (whole, all, some, most) stops =
     let h = and_parts (is_digit 8 d) (list_all (is_digit 8) ds) all in
     ap (λ t. atom_at (t ++ rest)) whole
-      ∙ octal_at d ds rest h.0 (short_is (is_digit 8) 2 ds rest h.1 (omega arith) (octal_breaks d ds rest stops))
-      ∙ ap (λ t. Some (Octal (d ∷ ds), length t)) (sym whole)
+    ∙ octal_at d ds rest h.0 (short_is (is_digit 8) 2 ds rest h.1 (omega arith) (octal_breaks d ds rest stops))
+    ∙ ap (λ t. Some (Octal (d ∷ ds), length t)) (sym whole)
 atom_is (Hexadecimal []) text rest (whole, all, some, most) stops = absurd (omega arith)
 atom_is (Hexadecimal (d ∷ ds)) text rest (whole, all, some, most) stops =
     ap (λ t. atom_at (t ++ rest)) whole
-      ∙ hexadecimal_at d ds rest (short_is (is_digit 16) 2 (d ∷ ds) rest all most (hexadecimal_breaks (d ∷ ds) rest stops))
-      ∙ ap (λ t. Some (Hexadecimal (d ∷ ds), length t)) (sym whole)
+    ∙ hexadecimal_at d ds rest (short_is (is_digit 16) 2 (d ∷ ds) rest all most (hexadecimal_breaks (d ∷ ds) rest stops))
+    ∙ ap (λ t. Some (Hexadecimal (d ∷ ds), length t)) (sym whole)
 
 pub atom_some : (a : Atom) (text : List ℕ) → SpellsAtom a text → 0 < length text
 atom_some (Plain byte) text (whole, plain) = rw whole (omega arith)

@@ -47,12 +47,12 @@ nothing_in_one front back e = absurd (omega (arith, length-append front (42 ∷ 
 -- one more byte in front
 one_more : (b : ℕ) (bs : List ℕ) (n : ℕ) → ((b == 42) && begins 47 bs) ≡ false → Closed bs n → Closed (b ∷ bs) (suc n)
 one_more b bs n no_close c = record {
-    inside = b ∷ c.inside;
-    rest = c.rest;
-    whole = ap (λ xs. b ∷ xs) c.whole;
-    is_length = ap suc c.is_length;
-    first = λ front back e. none front back e;
-  }
+  inside = b ∷ c.inside;
+  rest = c.rest;
+  whole = ap (λ xs. b ∷ xs) c.whole;
+  is_length = ap suc c.is_length;
+  first = λ front back e. none front back e;
+}
   where
     opens : (inside back : List ℕ) → bs ≡ inside ++ 42 ∷ 47 ∷ c.rest → inside ++ 42 ∷ [] ≡ 47 ∷ back → begins 47 bs ≡ true
     opens [] back whole e = cc
@@ -72,12 +72,12 @@ pub close_answers : (bs : List ℕ) → CloseAnswers bs (close_at bs)
 close_answers [] = tt
 close_answers (b ∷ bs) =
     pick (CloseAnswers (b ∷ bs)) ((b == 42) && begins 47 bs) (Some 0) _
-      (λ t.
-        let h = and_parts (b == 42) (begins 47 bs) t in
-        let r = begins_is 47 bs h.1 in
-        let is : b ≡ 42 = eqb-true b 42 h.0 in
-        record { inside = []; rest = r.0; whole = ap (λ x. x ∷ bs) is ∙ ap (λ xs. 42 ∷ xs) r.1; is_length = refl; first = nothing_in_one })
-      (λ f. go (close_at bs) (close_answers bs) f)
+    (λ t.
+    let h = and_parts (b == 42) (begins 47 bs) t in
+    let r = begins_is 47 bs h.1 in
+    let is : b ≡ 42 = eqb-true b 42 h.0 in
+    record { inside = []; rest = r.0; whole = ap (λ x. x ∷ bs) is ∙ ap (λ xs. 42 ∷ xs) r.1; is_length = refl; first = nothing_in_one })
+    (λ f. go (close_at bs) (close_answers bs) f)
   where
     go : (o : Option ℕ) → CloseAnswers bs o → ((b == 42) && begins 47 bs) ≡ false → CloseAnswers (b ∷ bs) (option_map (λ n. suc n) o)
     go None c f = tt

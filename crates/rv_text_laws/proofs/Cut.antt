@@ -11,7 +11,7 @@ cut_in-none zero at all e = refl
 cut_in-none (suc room) at all e = rw (e, cut_in) refl
 
 cut_in-some : {K A : Type 0} (room : ℕ) (at : List A → Option (K × ℕ)) (all : List A) (k : K) (n : ℕ) → at all ≡ Some (k, n)
-  → cut_in (suc room) at all ≡ (record { kind = k; text = take n all } ∷ (cut_in room at (drop n all)).0, (cut_in room at (drop n all)).1)
+    → cut_in (suc room) at all ≡ (record { kind = k; text = take n all } ∷ (cut_in room at (drop n all)).0, (cut_in room at (drop n all)).1)
 cut_in-some room at all k n e = rw (e, cut_in) refl
 
 -- an empty text in front of a list is none of its elements
@@ -72,7 +72,7 @@ module _ {K A : Type 0} {Spells Stops : K → List A → Type 0} {at : List A �
 
   -- a cut's pieces and its rest, given room
   cuts_in : (room : ℕ) (all : List A) → length all ≤ room
-    → Cuts K A Spells Stops all (cut_in room at all).0 (cut_in room at all).1 × (at (cut_in room at all).1 ≡ None)
+      → Cuts K A Spells Stops all (cut_in room at all).0 (cut_in room at all).1 × (at (cut_in room at all).1 ≡ None)
   cuts_in zero all le = (record { whole = refl; each = tt }, empty_none all le)
   cuts_in (suc room) all le = go (at all) refl (λ n h. cuts_in room (drop n all) h)
     where
@@ -81,13 +81,13 @@ module _ {K A : Type 0} {Spells Stops : K → List A → Type 0} {at : List A �
 
       more : (k : K) (n : ℕ) → Front K A Spells Stops all k n → (ps : List (Piece K A)) (rest : List A) → Cuts K A Spells Stops (drop n all) ps rest → Cuts K A Spells Stops all (record { kind = k; text = take n all } ∷ ps) rest
       more k n f ps rest c = record {
-          whole = f.whole ∙ ap (λ xs. take n all ++ xs) c.whole ∙ sym (append_assoc (take n all) (texts ps) rest);
-          each = (f.spelled, subst (Stops k) c.whole f.stops, c.each);
-        }
+        whole = f.whole ∙ ap (λ xs. take n all ++ xs) c.whole ∙ sym (append_assoc (take n all) (texts ps) rest);
+        each = (f.spelled, subst (Stops k) c.whole f.stops, c.each);
+      }
 
       go : (o : Option (K × ℕ)) → at all ≡ o
-        → ((n : ℕ) → length (drop n all) ≤ room → Cuts K A Spells Stops (drop n all) (cut_in room at (drop n all)).0 (cut_in room at (drop n all)).1 × (at (cut_in room at (drop n all)).1 ≡ None))
-        → Cuts K A Spells Stops all (cut_in (suc room) at all).0 (cut_in (suc room) at all).1 × (at (cut_in (suc room) at all).1 ≡ None)
+          → ((n : ℕ) → length (drop n all) ≤ room → Cuts K A Spells Stops (drop n all) (cut_in room at (drop n all)).0 (cut_in room at (drop n all)).1 × (at (cut_in room at (drop n all)).1 ≡ None))
+          → Cuts K A Spells Stops all (cut_in (suc room) at all).0 (cut_in (suc room) at all).1 × (at (cut_in (suc room) at all).1 ≡ None)
       go None e ih = subst Cut-ok (sym (cut_in-none (suc room) at all e)) (record { whole = refl; each = tt }, e)
       go (Some (k, n)) e ih =
           let f = front all k n e in
@@ -98,7 +98,7 @@ module _ {K A : Type 0} {Spells Stops : K → List A → Type 0} {at : List A �
 
   -- a cut that goes as far as it can is the finder's
   unique_in : (room : ℕ) (ps : List (Piece K A)) (rest : List A) → length (texts ps ++ rest) ≤ room → Each Spells Stops ps rest → at rest ≡ None
-    → cut_in room at (texts ps ++ rest) ≡ (ps, rest)
+      → cut_in room at (texts ps ++ rest) ≡ (ps, rest)
   unique_in room [] rest le each none = cut_in-none room at rest none
   unique_in zero (p ∷ ps) rest le each none =
       absurd (no_room p.text (texts ps ++ rest) (subst (λ xs. length xs ≤ 0) (append_assoc p.text (texts ps) rest) le) (finds.some p.kind p.text each.0))
@@ -109,8 +109,8 @@ module _ {K A : Type 0} {Spells Stops : K → List A → Type 0} {at : List A �
       let here : at (p.text ++ more) ≡ Some (p.kind, length p.text) = finds.is p.kind p.text more each.0 each.1 in
       let le-more : length more ≤ room = omega (arith, length-append p.text more, subst (λ xs. length xs ≤ suc room) whole le) in
       ap (cut_in (suc room) at) whole
-        ∙ cut_in-some room at (p.text ++ more) p.kind (length p.text) here
-        ∙ rw (take-append_seam p.text more, drop-append_seam p.text more, unique_in room ps rest le-more each.2 none) refl
+      ∙ cut_in-some room at (p.text ++ more) p.kind (length p.text) here
+      ∙ rw (take-append_seam p.text more, drop-append_seam p.text more, unique_in room ps rest le-more each.2 none) refl
 
   -- every list is cut
   pub cuts : (all : List A) → Cuts K A Spells Stops all (cut at all).0 (cut at all).1 × (at (cut at all).1 ≡ None)
@@ -126,16 +126,16 @@ module _ {K A : Type 0} {Spells Stops : K → List A → Type 0} {at : List A �
 
   -- piece by piece
   pub cut-some : (all : List A) (k : K) (n : ℕ) → at all ≡ Some (k, n)
-    → cut at all ≡ (record { kind = k; text = take n all } ∷ (cut at (drop n all)).0, (cut at (drop n all)).1)
+      → cut at all ≡ (record { kind = k; text = take n all } ∷ (cut at (drop n all)).0, (cut at (drop n all)).1)
   cut-some all k n e =
       let f = front all k n e in
       let r = cuts (drop n all) in
       unique all (record { kind = k; text = take n all } ∷ (cut at (drop n all)).0) (cut at (drop n all)).1
-        (record {
-          whole = f.whole ∙ ap (λ xs. take n all ++ xs) r.0.whole ∙ sym (append_assoc (take n all) (texts (cut at (drop n all)).0) (cut at (drop n all)).1);
-          each = (f.spelled, subst (Stops k) r.0.whole f.stops, r.0.each);
-        })
-        r.1
+      (record {
+        whole = f.whole ∙ ap (λ xs. take n all ++ xs) r.0.whole ∙ sym (append_assoc (take n all) (texts (cut at (drop n all)).0) (cut at (drop n all)).1);
+        each = (f.spelled, subst (Stops k) r.0.whole f.stops, r.0.each);
+      })
+      r.1
 
   pub cut-none : (all : List A) → at all ≡ None → cut at all ≡ ([], all)
   cut-none all e = unique all [] all (record { whole = refl; each = tt }) e
@@ -152,8 +152,8 @@ Answers K A Spells Stops all (Some f) = Stands K A Spells Stops all f.0 f.1
 
 -- what is found, from what each answer says
 pub found_by : (K A : Type 0) (Spells Stops : K → List A → Type 0) (at : List A → Option (K × ℕ))
-  → ((all : List A) → Answers K A Spells Stops all (at all))
-  → (all : List A) (k : K) (n : ℕ) → at all ≡ Some (k, n) → (text : List A) × (rest : List A) × (all ≡ text ++ rest) × (n ≡ length text) × Spells k text × Stops k rest
+    → ((all : List A) → Answers K A Spells Stops all (at all))
+    → (all : List A) (k : K) (n : ℕ) → at all ≡ Some (k, n) → (text : List A) × (rest : List A) × (all ≡ text ++ rest) × (n ≡ length text) × Spells k text × Stops k rest
 found_by K A Spells Stops at answers all k n e =
     let s = subst (Answers K A Spells Stops all) e (answers all) in
     let within : n ≤ length all = s.within in

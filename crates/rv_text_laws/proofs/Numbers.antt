@@ -36,9 +36,9 @@ number_is word n is =
     let fits : value is.base is.digits < 2 ^ 64 = rw (sym is.is_value) is.fits in
     let test : nat_lt (value is.base is.digits) (2 ^ 64) ≡ true = grind (arith, nat_tests) in
     shown word is.base is.digits is.shows is.all_digits
-      ∙ subst (λ t. cond t (Some (value is.base is.digits)) None ≡ Some n)
-          (sym (and_from (list_all (is_digit is.base) is.digits) (nat_lt (value is.base is.digits) (2 ^ 64)) is.all_digits test))
-          (ap (λ m. Some m) (sym is.is_value))
+    ∙ subst (λ t. cond t (Some (value is.base is.digits)) None ≡ Some n)
+    (sym (and_from (list_all (is_digit is.base) is.digits) (nat_lt (value is.base is.digits) (2 ^ 64)) is.all_digits test))
+    (ap (λ m. Some m) (sym is.is_value))
 
 -- what an answer says of the word
 abbrev NumberAnswers : List ℕ → Option ℕ → Type 0
@@ -48,28 +48,28 @@ NumberAnswers word (Some n) = IsNumber word n
 by_base : (word : List ℕ) (base : ℕ) (digits : List ℕ) → ShowsBase word base digits → NumberAnswers word (number_by base digits)
 by_base word base digits shows =
     pick (NumberAnswers word) (list_all (is_digit base) digits && nat_lt (value base digits) (2 ^ 64)) (Some (value base digits)) None
-      (λ t.
-        let h = and_parts (list_all (is_digit base) digits) (nat_lt (value base digits) (2 ^ 64)) t in
-        record { base = base; digits = digits; shows = shows; all_digits = h.0; is_value = refl; fits = ltb-true (value base digits) (2 ^ 64) h.1 })
-      (λ _. tt)
+    (λ t.
+    let h = and_parts (list_all (is_digit base) digits) (nat_lt (value base digits) (2 ^ 64)) t in
+    record { base = base; digits = digits; shows = shows; all_digits = h.0; is_value = refl; fits = ltb-true (value base digits) (2 ^ 64) h.1 })
+    (λ _. tt)
 
 number_answers : (word : List ℕ) → NumberAnswers word (number_in word)
 unfolding number_in
 number_answers [] = tt
 number_answers (d ∷ ds) =
     pick (NumberAnswers (d ∷ ds)) (d == 48) _ _
-      (λ t. subst (λ c. NumberAnswers (c ∷ ds) (after_zero ds)) (sym (eqb-true d 48 t)) (zero_answers ds))
-      (λ f. by_base (d ∷ ds) 10 (d ∷ ds) (Decimal d ds f))
+    (λ t. subst (λ c. NumberAnswers (c ∷ ds) (after_zero ds)) (sym (eqb-true d 48 t)) (zero_answers ds))
+    (λ f. by_base (d ∷ ds) 10 (d ∷ ds) (Decimal d ds f))
   where
     zero_answers : (ds : List ℕ) → NumberAnswers (48 ∷ ds) (after_zero ds)
     zero_answers [] = by_base (48 ∷ []) 8 [] (Octal_digits [])
     zero_answers (c ∷ []) = by_base (48 ∷ c ∷ []) 8 (c ∷ []) (Octal_digits (c ∷ []))
     zero_answers (c ∷ d ∷ ds) =
         pick (NumberAnswers (48 ∷ c ∷ d ∷ ds)) (c == 120) _ _
-          (λ t. subst (λ x. NumberAnswers (48 ∷ x ∷ d ∷ ds) (number_by 16 (d ∷ ds))) (sym (eqb-true c 120 t)) (by_base _ _ _ (Hexadecimal_digits d ds)))
-          (λ _. pick (NumberAnswers (48 ∷ c ∷ d ∷ ds)) (c == 98) _ _
-            (λ t. subst (λ x. NumberAnswers (48 ∷ x ∷ d ∷ ds) (number_by 2 (d ∷ ds))) (sym (eqb-true c 98 t)) (by_base _ _ _ (Binary_digits d ds)))
-            (λ _. by_base _ _ _ (Octal_digits (c ∷ d ∷ ds))))
+        (λ t. subst (λ x. NumberAnswers (48 ∷ x ∷ d ∷ ds) (number_by 16 (d ∷ ds))) (sym (eqb-true c 120 t)) (by_base _ _ _ (Hexadecimal_digits d ds)))
+        (λ _. pick (NumberAnswers (48 ∷ c ∷ d ∷ ds)) (c == 98) _ _
+        (λ t. subst (λ x. NumberAnswers (48 ∷ x ∷ d ∷ ds) (number_by 2 (d ∷ ds))) (sym (eqb-true c 98 t)) (by_base _ _ _ (Binary_digits d ds)))
+        (λ _. by_base _ _ _ (Octal_digits (c ∷ d ∷ ds))))
 
 pub number_found : (word : List ℕ) (n : ℕ) → number_in word ≡ Some n → IsNumber word n
 number_found word n e = subst (NumberAnswers word) e (number_answers word)
@@ -89,8 +89,8 @@ pub reference_is : (word digits : List ℕ) (forward : Bool) → IsReference wor
 unfolding reference_in
 reference_is word digits forward (whole, all) =
     ap reference_in whole
-      ∙ rw (run_is (is_digit 10) digits (direction forward ∷ []) all (direction_breaks forward), take-append_seam digits (direction forward ∷ []), drop-append_seam digits (direction forward ∷ []))
-          (directed digits forward)
+    ∙ rw (run_is (is_digit 10) digits (direction forward ∷ []) all (direction_breaks forward), take-append_seam digits (direction forward ∷ []), drop-append_seam digits (direction forward ∷ []))
+    (directed digits forward)
 
 abbrev ReferenceAnswers : List ℕ → Option (List ℕ × Bool) → Type 0
 ReferenceAnswers word None = Unit {0}

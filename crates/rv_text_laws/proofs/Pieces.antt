@@ -92,11 +92,11 @@ sign_is DoubleSlash rest s = refl
 -- words
 
 name_is : (b : ℕ) (bs rest : List ℕ) → class b ≡ Letter → list_all is_word bs ≡ true → Breaks is_word rest
-  → piece_at (b ∷ (bs ++ rest)) ≡ Some (Name (b ∷ bs), suc (length bs))
+    → piece_at (b ∷ (bs ++ rest)) ≡ Some (Name (b ∷ bs), suc (length bs))
 name_is b bs rest c all stop = piece_by_class b (bs ++ rest) Letter c ∙ rw (run_is is_word bs rest all stop, take-append_seam bs rest) refl
 
 digits_is : (b : ℕ) (bs rest : List ℕ) → class b ≡ Digit → list_all is_word bs ≡ true → Breaks is_word rest
-  → piece_at (b ∷ (bs ++ rest)) ≡ Some (digits_kind (b ∷ bs) (reference_in (b ∷ bs)), suc (length bs))
+    → piece_at (b ∷ (bs ++ rest)) ≡ Some (digits_kind (b ∷ bs) (reference_in (b ∷ bs)), suc (length bs))
 digits_is b bs rest c all stop = piece_by_class b (bs ++ rest) Digit c ∙ rw (run_is is_word bs rest all stop, take-append_seam bs rest) refl
 
 -- a word of this kind, from what the finder says of its text
@@ -104,9 +104,9 @@ word_of_digits : (k : Kind) (text rest : List ℕ) → IsWord Digit text → Bre
 word_of_digits k text rest (b, bs, whole, c, all) stop is =
     let here : digits_kind (b ∷ bs) (reference_in (b ∷ bs)) ≡ k = subst (λ t. digits_kind t (reference_in t) ≡ k) whole is in
     ap (λ t. piece_at (t ++ rest)) whole
-      ∙ digits_is b bs rest c all stop
-      ∙ ap (λ q. Some (q, suc (length bs))) here
-      ∙ ap (λ t. Some (k, length t)) (sym whole)
+    ∙ digits_is b bs rest c all stop
+    ∙ ap (λ q. Some (q, suc (length bs))) here
+    ∙ ap (λ t. Some (k, length t)) (sym whole)
 
 -- strings
 
@@ -131,11 +131,11 @@ closing : (xs rest : List ℕ) (c : ℕ) → (xs ++ c ∷ []) ++ rest ≡ xs ++ 
 closing xs rest c = append_assoc xs (c ∷ []) rest
 
 string_is : (ps : List (Piece Atom ℕ)) (rest : List ℕ) → Each SpellsAtom StopsAtom ps (34 ∷ [])
-  → piece_at (34 ∷ ((texts ps ++ 34 ∷ []) ++ rest)) ≡ Some (Text (map (λ a. byte_of a.kind) ps), suc (suc (length (texts ps))))
+    → piece_at (34 ∷ ((texts ps ++ 34 ∷ []) ++ rest)) ≡ Some (Text (map (λ a. byte_of a.kind) ps), suc (suc (length (texts ps))))
 string_is ps rest each =
     piece_by_class 34 ((texts ps ++ 34 ∷ []) ++ rest) QuoteByte class_34
-      ∙ ap (λ xs. closed_string (cut atom_at xs)) (closing (texts ps) rest 34)
-      ∙ ap closed_string (string_cut ps rest each)
+    ∙ ap (λ xs. closed_string (cut atom_at xs)) (closing (texts ps) rest 34)
+    ∙ ap closed_string (string_cut ps rest each)
 
 -- characters
 
@@ -176,7 +176,7 @@ escaped_character : (a : Atom) (more rest : List ℕ) → SpellsAtom a (92 ∷ m
 escaped_character a more rest spells =
     let found : escape_at (more ++ 39 ∷ rest) ≡ Some (a, suc (length more)) = sym (atom_escape (more ++ 39 ∷ rest)) ∙ atom_is a (92 ∷ more) (39 ∷ rest) spells (apostrophe_stops a rest) in
     ap (closed_escape (92 ∷ (more ++ 39 ∷ rest))) found
-      ∙ rw (drop-append_seam more (39 ∷ rest)) refl
+    ∙ rw (drop-append_seam more (39 ∷ rest)) refl
 
 -- every kind, by what it is spelled as
 pub piece_is : (k : Kind) (text rest : List ℕ) → Spells k text → Stops k rest → piece_at (text ++ rest) ≡ Some (k, length text)
@@ -184,50 +184,50 @@ piece_is Space text rest (b, whole, c) stop =
     ap (λ t. piece_at (t ++ rest)) whole ∙ piece_by_class b rest Blank c ∙ ap (λ t. Some (Space, length t)) (sym whole)
 piece_is Line_comment text rest (inside, whole, all) stop =
     ap (λ t. piece_at (t ++ rest)) whole
-      ∙ piece_by_class 35 (inside ++ rest) HashByte class_35
-      ∙ rw (run_is in_line inside rest all (breaks Line_comment in_line (λ b. refl) rest stop)) (ap (λ t. Some (Line_comment, length t)) (sym whole))
+    ∙ piece_by_class 35 (inside ++ rest) HashByte class_35
+    ∙ rw (run_is in_line inside rest all (breaks Line_comment in_line (λ b. refl) rest stop)) (ap (λ t. Some (Line_comment, length t)) (sym whole))
 piece_is Block_comment text rest (inside, whole, none) stop =
     ap (λ t. piece_at (t ++ rest)) whole
-      ∙ piece_by_class 47 (42 ∷ ((inside ++ 42 ∷ 47 ∷ []) ++ rest)) SlashByte class_47
-      ∙ ap (λ xs. after_slash (42 ∷ xs)) (append_assoc inside (42 ∷ 47 ∷ []) rest)
-      ∙ rw (close_is inside rest none) (ap (λ n. Some (Block_comment, n)) (omega (arith, ap length whole, length-append inside (42 ∷ 47 ∷ []))))
+    ∙ piece_by_class 47 (42 ∷ ((inside ++ 42 ∷ 47 ∷ []) ++ rest)) SlashByte class_47
+    ∙ ap (λ xs. after_slash (42 ∷ xs)) (append_assoc inside (42 ∷ 47 ∷ []) rest)
+    ∙ rw (close_is inside rest none) (ap (λ n. Some (Block_comment, n)) (omega (arith, ap length whole, length-append inside (42 ∷ 47 ∷ []))))
 piece_is Newline text rest whole stop =
     ap (λ t. piece_at (t ++ rest)) whole ∙ piece_by_class 10 rest LineEnd class_10 ∙ ap (λ t. Some (Newline, length t)) (sym whole)
 piece_is (Mark sign) text rest whole stop =
     ap (λ t. piece_at (t ++ rest)) whole ∙ sign_is sign rest stop ∙ ap (λ t. Some (Mark sign, length t)) (sym whole)
 piece_is (Name name) text rest (same, (b, bs, whole, c, all)) stop =
     ap (λ t. piece_at (t ++ rest)) whole
-      ∙ name_is b bs rest c all (breaks (Name name) is_word (λ x. refl) rest stop)
-      ∙ ap (λ t. Some (Name t, length t)) (sym whole)
-      ∙ ap (λ t. Some (Name t, length text)) same
+    ∙ name_is b bs rest c all (breaks (Name name) is_word (λ x. refl) rest stop)
+    ∙ ap (λ t. Some (Name t, length t)) (sym whole)
+    ∙ ap (λ t. Some (Name t, length text)) same
 piece_is (Number word n) text rest (same, word_is, number) stop =
     word_of_digits (Number word n) text rest word_is (breaks (Number word n) is_word (λ x. refl) rest stop)
-      (rw (number_no_reference text n number, number_is text n number) (ap (λ t. Number t n) same))
+    (rw (number_no_reference text n number, number_is text n number) (ap (λ t. Number t n) same))
 piece_is (Reference digits forward) text rest (word_is, refers) stop =
     word_of_digits (Reference digits forward) text rest word_is (breaks (Reference digits forward) is_word (λ x. refl) rest stop)
-      (rw (reference_is text digits forward refers) refl)
+    (rw (reference_is text digits forward refers) refl)
 piece_is (Bad_word word) text rest (same, word_is, number, reference) stop =
     word_of_digits (Bad_word word) text rest word_is (breaks (Bad_word word) is_word (λ x. refl) rest stop)
-      (rw (no_reference_in text reference, no_number text number) (ap Bad_word same))
+    (rw (no_reference_in text reference, no_number text number) (ap Bad_word same))
 piece_is (Text bytes) text rest (ps, whole, each, is) stop =
     ap (λ t. piece_at (t ++ rest)) whole
-      ∙ string_is ps rest each
-      ∙ ap (λ n. Some (Text (map (λ a. byte_of a.kind) ps), n)) (omega (arith, ap length whole, length-append (texts ps) (34 ∷ [])))
-      ∙ ap (λ b. Some (Text b, length text)) (sym is)
+    ∙ string_is ps rest each
+    ∙ ap (λ n. Some (Text (map (λ a. byte_of a.kind) ps), n)) (omega (arith, ap length whole, length-append (texts ps) (34 ∷ [])))
+    ∙ ap (λ b. Some (Text b, length text)) (sym is)
 piece_is (Character byte) text rest (inl (whole, plain)) stop =
     ap (λ t. piece_at (t ++ rest)) whole
-      ∙ piece_by_class 39 (byte ∷ 39 ∷ rest) ApostropheByte class_39
-      ∙ plain_character byte rest plain
-      ∙ ap (λ t. Some (Character byte, length t)) (sym whole)
+    ∙ piece_by_class 39 (byte ∷ 39 ∷ rest) ApostropheByte class_39
+    ∙ plain_character byte rest plain
+    ∙ ap (λ t. Some (Character byte, length t)) (sym whole)
 piece_is (Character byte) text rest (inr (a, one, whole, escape, spells, is)) stop =
     let e = escape_begins a one escape spells in
     let all : text ≡ 39 ∷ 92 ∷ (e.0 ++ 39 ∷ []) = whole ∙ ap (λ o. 39 ∷ (o ++ 39 ∷ [])) e.1 in
     ap (λ t. piece_at (t ++ rest)) all
-      ∙ piece_by_class 39 (92 ∷ ((e.0 ++ 39 ∷ []) ++ rest)) ApostropheByte class_39
-      ∙ ap (λ xs. character_at (92 ∷ xs)) (closing e.0 rest 39)
-      ∙ escaped_character a e.0 rest (subst (SpellsAtom a) e.1 spells)
-      ∙ ap (λ n. Some (Character (byte_of a), n)) (omega (arith, ap length all, length-append e.0 (39 ∷ [])))
-      ∙ ap (λ b. Some (Character b, length text)) (sym is)
+    ∙ piece_by_class 39 (92 ∷ ((e.0 ++ 39 ∷ []) ++ rest)) ApostropheByte class_39
+    ∙ ap (λ xs. character_at (92 ∷ xs)) (closing e.0 rest 39)
+    ∙ escaped_character a e.0 rest (subst (SpellsAtom a) e.1 spells)
+    ∙ ap (λ n. Some (Character (byte_of a), n)) (omega (arith, ap length all, length-append e.0 (39 ∷ [])))
+    ∙ ap (λ b. Some (Character b, length text)) (sym is)
 piece_is Bad_byte text rest s stop = absurd s
 piece_is Bad_token text rest s stop = absurd s
 piece_is End text rest s stop = absurd s
@@ -304,8 +304,8 @@ block_answers cs None c = tt
 block_answers cs (Some n) c =
     let whole : cs ≡ (c.inside ++ 42 ∷ 47 ∷ []) ++ c.rest = c.whole ∙ sym (append_assoc c.inside (42 ∷ 47 ∷ []) c.rest) in
     stands (47 ∷ 42 ∷ cs) Block_comment (suc (suc (suc (suc n)))) (47 ∷ 42 ∷ (c.inside ++ 42 ∷ 47 ∷ [])) c.rest
-      (ap (λ xs. 47 ∷ 42 ∷ xs) whole) (omega (arith, c.is_length, length-append c.inside (42 ∷ 47 ∷ [])))
-      (c.inside, refl, c.first) (never Block_comment (λ x. refl) c.rest)
+    (ap (λ xs. 47 ∷ 42 ∷ xs) whole) (omega (arith, c.is_length, length-append c.inside (42 ∷ 47 ∷ [])))
+    (c.inside, refl, c.first) (never Block_comment (λ x. refl) c.rest)
 
 -- signs of two bytes
 double : (b c : ℕ) (cs : List ℕ) (n : ℕ) (sign : Sign) → (c == n) ≡ true → b ∷ n ∷ [] ≡ spelling sign → ((x : ℕ) → goes_on (Mark sign) x ≡ false) → PieceAnswers (b ∷ c ∷ cs) (Some (Mark sign, 2))
@@ -349,14 +349,14 @@ string_answers bs = go (cut atom_at bs) (cuts atoms bs).0
     go : (c : List (Piece Atom ℕ) × List ℕ) → Cuts Atom ℕ SpellsAtom StopsAtom bs c.0 c.1 → PieceAnswers (34 ∷ bs) (closed_string c)
     go (ps, rest) c =
         pick (PieceAnswers (34 ∷ bs)) (begins 34 rest) (Some (Text (map (λ a. byte_of a.kind) ps), suc (suc (length (texts ps))))) None
-          (λ t.
-            let r = begins_is 34 rest t in
-            let whole : bs ≡ (texts ps ++ 34 ∷ []) ++ r.0 = c.whole ∙ ap (λ xs. texts ps ++ xs) r.1 ∙ sym (closing (texts ps) r.0 34) in
-            let each : Each SpellsAtom StopsAtom ps (34 ∷ r.0) = subst (Each SpellsAtom StopsAtom ps) r.1 c.each in
-            stands (34 ∷ bs) (Text (map (λ a. byte_of a.kind) ps)) (suc (suc (length (texts ps)))) (34 ∷ (texts ps ++ 34 ∷ [])) r.0
-              (ap (λ xs. 34 ∷ xs) whole) (omega (arith, length-append (texts ps) (34 ∷ [])))
-              (ps, refl, each_head ps r.0 [] 34 each, refl) (never (Text (map (λ a. byte_of a.kind) ps)) (λ x. refl) r.0))
-          (λ _. tt)
+        (λ t.
+        let r = begins_is 34 rest t in
+        let whole : bs ≡ (texts ps ++ 34 ∷ []) ++ r.0 = c.whole ∙ ap (λ xs. texts ps ++ xs) r.1 ∙ sym (closing (texts ps) r.0 34) in
+        let each : Each SpellsAtom StopsAtom ps (34 ∷ r.0) = subst (Each SpellsAtom StopsAtom ps) r.1 c.each in
+        stands (34 ∷ bs) (Text (map (λ a. byte_of a.kind) ps)) (suc (suc (length (texts ps)))) (34 ∷ (texts ps ++ 34 ∷ [])) r.0
+        (ap (λ xs. 34 ∷ xs) whole) (omega (arith, length-append (texts ps) (34 ∷ [])))
+        (ps, refl, each_head ps r.0 [] 34 each, refl) (never (Text (map (λ a. byte_of a.kind) ps)) (λ x. refl) r.0))
+        (λ _. tt)
 
 -- characters
 escape_found : (bs : List ℕ) (a : Atom) (text rest : List ℕ) → 92 ∷ bs ≡ text ++ rest → SpellsAtom a text → is_escape a ≡ true
@@ -374,30 +374,30 @@ closed_answers bs None e = tt
 closed_answers bs (Some (a, n)) e =
     let f = front atoms (92 ∷ bs) a n (atom_escape bs ∙ e) in
     pick (PieceAnswers (39 ∷ 92 ∷ bs)) (begins 39 (drop n (92 ∷ bs))) (Some (Character (byte_of a), suc (suc n))) None
-      (λ t.
-        let r = begins_is 39 (drop n (92 ∷ bs)) t in
-        let one : List ℕ = take n (92 ∷ bs) in
-        let whole : 92 ∷ bs ≡ (take n (92 ∷ bs) ++ 39 ∷ []) ++ r.0 = f.whole ∙ ap (λ xs. take n (92 ∷ bs) ++ xs) r.1 ∙ sym (closing (take n (92 ∷ bs)) r.0 39) in
-        stands (39 ∷ 92 ∷ bs) (Character (byte_of a)) (suc (suc n)) (39 ∷ (take n (92 ∷ bs) ++ 39 ∷ [])) r.0
-          (ap (λ xs. 39 ∷ xs) whole) (omega (arith, f.is_length, length-append (take n (92 ∷ bs)) (39 ∷ [])))
-          (inr (a, take n (92 ∷ bs), refl, escape_found bs a (take n (92 ∷ bs)) (drop n (92 ∷ bs)) f.whole f.spelled, f.spelled, refl))
-          (never (Character (byte_of a)) (λ x. refl) r.0))
-      (λ _. tt)
+    (λ t.
+    let r = begins_is 39 (drop n (92 ∷ bs)) t in
+    let one : List ℕ = take n (92 ∷ bs) in
+    let whole : 92 ∷ bs ≡ (take n (92 ∷ bs) ++ 39 ∷ []) ++ r.0 = f.whole ∙ ap (λ xs. take n (92 ∷ bs) ++ xs) r.1 ∙ sym (closing (take n (92 ∷ bs)) r.0 39) in
+    stands (39 ∷ 92 ∷ bs) (Character (byte_of a)) (suc (suc n)) (39 ∷ (take n (92 ∷ bs) ++ 39 ∷ [])) r.0
+    (ap (λ xs. 39 ∷ xs) whole) (omega (arith, f.is_length, length-append (take n (92 ∷ bs)) (39 ∷ [])))
+    (inr (a, take n (92 ∷ bs), refl, escape_found bs a (take n (92 ∷ bs)) (drop n (92 ∷ bs)) f.whole f.spelled, f.spelled, refl))
+    (never (Character (byte_of a)) (λ x. refl) r.0))
+    (λ _. tt)
 
 plain_answers : (b : ℕ) (bs : List ℕ) → PieceAnswers (39 ∷ b ∷ bs) (cond {A = Option (Kind × ℕ)} (is_character b && begins 39 bs) (Some (Character b, 3)) None)
 plain_answers b bs = pick (PieceAnswers (39 ∷ b ∷ bs)) (is_character b && begins 39 bs) (Some (Character b, 3)) None
     (λ t.
-      let h = and_parts (is_character b) (begins 39 bs) t in
-      let r = begins_is 39 bs h.1 in
-      stands (39 ∷ b ∷ bs) (Character b) 3 (39 ∷ b ∷ 39 ∷ []) r.0 (ap (λ xs. 39 ∷ b ∷ xs) r.1) refl (inl (refl, h.0)) (never (Character b) (λ x. refl) r.0))
+    let h = and_parts (is_character b) (begins 39 bs) t in
+    let r = begins_is 39 bs h.1 in
+    stands (39 ∷ b ∷ bs) (Character b) 3 (39 ∷ b ∷ 39 ∷ []) r.0 (ap (λ xs. 39 ∷ b ∷ xs) r.1) refl (inl (refl, h.0)) (never (Character b) (λ x. refl) r.0))
     (λ _. tt)
 
 character_answers : (bs : List ℕ) → PieceAnswers (39 ∷ bs) (character_at bs)
 character_answers [] = tt
 character_answers (b ∷ bs) =
     pick (PieceAnswers (39 ∷ b ∷ bs)) (b == 92) _ _
-      (λ t. subst (λ x. PieceAnswers (39 ∷ x ∷ bs) (closed_escape (x ∷ bs) (escape_at bs))) (sym (eqb-true b 92 t)) (closed_answers bs (escape_at bs) refl))
-      (λ _. plain_answers b bs)
+    (λ t. subst (λ x. PieceAnswers (39 ∷ x ∷ bs) (closed_escape (x ∷ bs) (escape_at bs))) (sym (eqb-true b 92 t)) (closed_answers bs (escape_at bs) refl))
+    (λ _. plain_answers b bs)
 
 -- by the class of the first byte
 by_class : (b : ℕ) (bs : List ℕ) (c : Class) → class b ≡ c → ByteOf b c → PieceAnswers (b ∷ bs) (piece_by c b bs)

@@ -52,7 +52,7 @@ BreaksBelow k p n [] = Unit {0}
 BreaksBelow k p n (b ∷ bs) = n < k → p b ≡ false
 
 pub short_is : (p : ℕ → Bool) (k : ℕ) (xs rest : List ℕ) → list_all p xs ≡ true → length xs ≤ k → BreaksBelow k p (length xs) rest
-  → prefix_len p (take k (xs ++ rest)) ≡ length xs
+    → prefix_len p (take k (xs ++ rest)) ≡ length xs
 short_is p zero [] rest all le stops = refl
 short_is p (suc k) [] [] all le stops = refl
 short_is p (suc k) [] (b ∷ bs) all le stops = rw (stops (omega arith)) refl
@@ -71,7 +71,7 @@ short_within p (suc k) [] = (omega arith, omega arith)
 short_within p (suc k) (x ∷ xs) = go (p x) (short_within p k xs)
   where
     go : (t : Bool) → (prefix_len p (take k xs) ≤ length xs) × (prefix_len p (take k xs) ≤ k)
-      → (cond t (1 + prefix_len p (take k xs)) 0 ≤ suc (length xs)) × (cond t (1 + prefix_len p (take k xs)) 0 ≤ suc k)
+        → (cond t (1 + prefix_len p (take k xs)) 0 ≤ suc (length xs)) × (cond t (1 + prefix_len p (take k xs)) 0 ≤ suc k)
     go true ih = (omega (arith, ih.0), omega (arith, ih.1))
     go false ih = (omega arith, omega arith)
 
@@ -95,6 +95,6 @@ short_breaks p (suc k) (x ∷ xs) = go (p x) refl (short_breaks p k xs)
     more n (b ∷ bs) s = λ lt. s (omega arith)
 
     go : (t : Bool) → p x ≡ t → BreaksBelow k p (prefix_len p (take k xs)) (drop (prefix_len p (take k xs)) xs)
-      → BreaksBelow (suc k) p (cond t (1 + prefix_len p (take k xs)) 0) (drop (cond t (1 + prefix_len p (take k xs)) 0) (x ∷ xs))
+        → BreaksBelow (suc k) p (cond t (1 + prefix_len p (take k xs)) 0) (drop (cond t (1 + prefix_len p (take k xs)) 0) (x ∷ xs))
     go true e ih = rw one-add (more (prefix_len p (take k xs)) (drop (prefix_len p (take k xs)) xs) ih)
     go false e ih = λ lt. e

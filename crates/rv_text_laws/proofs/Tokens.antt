@@ -25,7 +25,7 @@ newlines-within (x ∷ xs) = go (x == 10) (newlines-within xs)
 
 -- the tokens of pieces, by places as numbers
 placed_same : (before : List ℕ) (ps : List (Piece Kind ℕ)) (rest : List ℕ) (at line : ℕ) → at ≡ length before → line ≡ 1 + newlines before
-  → tokens_at at line ps rest ≡ tokens_of before ps ++ last (before ++ texts ps) rest ∷ []
+    → tokens_at at line ps rest ≡ tokens_of before ps ++ last (before ++ texts ps) rest ∷ []
 placed_same before [] rest at line e f = rw (append-nil before, add-zero, e, f) refl
 placed_same before (p ∷ ps) rest at line e f =
     let here : at + length p.text ≡ length (before ++ p.text) = omega (arith, length-append before p.text) in
@@ -34,7 +34,7 @@ placed_same before (p ∷ ps) rest at line e f =
     go (is_gap p.kind) (more ∙ ap (λ b. tokens_of (before ++ p.text) ps ++ last b rest ∷ []) (append_assoc before p.text (texts ps)))
   where
     go : (t : Bool) → tokens_at (at + length p.text) (line + newlines p.text) ps rest ≡ tokens_of (before ++ p.text) ps ++ last (before ++ (p.text ++ texts ps)) rest ∷ []
-      → cond t (tokens_at (at + length p.text) (line + newlines p.text) ps rest) (record { kind = p.kind; start = at; stop = at + length p.text; line = line } ∷ tokens_at (at + length p.text) (line + newlines p.text) ps rest)
+        → cond t (tokens_at (at + length p.text) (line + newlines p.text) ps rest) (record { kind = p.kind; start = at; stop = at + length p.text; line = line } ∷ tokens_at (at + length p.text) (line + newlines p.text) ps rest)
         ≡ cond t (tokens_of (before ++ p.text) ps) (placed before p ∷ tokens_of (before ++ p.text) ps) ++ last (before ++ (p.text ++ texts ps)) rest ∷ []
     go true more = more
     go false more = rw (more, e, f) refl
@@ -49,9 +49,12 @@ only bytes ts (ps, rest, (c, nothing), is) =
 pub given : (bytes : List ℕ) → Lexes bytes (tokens_from 0 1 bytes)
 unfolding tokens_from
 given bytes =
-    let c = cuts pieces bytes in
-    ((cut piece_at bytes).0, (cut piece_at bytes).1, (c.0, none_nothing pieces (cut piece_at bytes).1 c.1),
-      placed_same [] (cut piece_at bytes).0 (cut piece_at bytes).1 0 1 refl refl)
+    let c = cuts pieces bytes in (
+      (cut piece_at bytes).0,
+      (cut piece_at bytes).1,
+      (c.0, none_nothing pieces (cut piece_at bytes).1 c.1),
+      placed_same [] (cut piece_at bytes).0 (cut piece_at bytes).1 0 1 refl refl,
+    )
 
 pub one_list : (bytes : List ℕ) (ts us : List Token) → Lexes bytes ts → Lexes bytes us → ts ≡ us
 one_list bytes ts us t u = only bytes ts t ∙ sym (only bytes us u)
@@ -59,15 +62,15 @@ one_list bytes ts us t u = only bytes ts t ∙ sym (only bytes us u)
 -- the steps
 
 pub tokens_more : (at line : ℕ) (bytes : List ℕ) (k : Kind) (n : ℕ) → piece_at bytes ≡ Some (k, n)
-  → tokens_from at line bytes
+    → tokens_from at line bytes
     ≡ cond (is_gap k) (tokens_from (at + n) (line + newlines (take n bytes)) (drop n bytes))
-        (record { kind = k; start = at; stop = at + n; line = line } ∷ tokens_from (at + n) (line + newlines (take n bytes)) (drop n bytes))
+    (record { kind = k; start = at; stop = at + n; line = line } ∷ tokens_from (at + n) (line + newlines (take n bytes)) (drop n bytes))
 unfolding tokens_from
 tokens_more at line bytes k n e =
     let f = front pieces bytes k n e in
     ap (λ c. tokens_at at line c.0 c.1) (cut-some pieces bytes k n e)
-      ∙ ap (λ m. cond (is_gap k) (tokens_at (at + m) (line + newlines (take n bytes)) (cut piece_at (drop n bytes)).0 (cut piece_at (drop n bytes)).1)
-              (record { kind = k; start = at; stop = at + m; line = line } ∷ tokens_at (at + m) (line + newlines (take n bytes)) (cut piece_at (drop n bytes)).0 (cut piece_at (drop n bytes)).1)) f.is_length
+    ∙ ap (λ m. cond (is_gap k) (tokens_at (at + m) (line + newlines (take n bytes)) (cut piece_at (drop n bytes)).0 (cut piece_at (drop n bytes)).1)
+    (record { kind = k; start = at; stop = at + m; line = line } ∷ tokens_at (at + m) (line + newlines (take n bytes)) (cut piece_at (drop n bytes)).0 (cut piece_at (drop n bytes)).1)) f.is_length
 
 pub tokens_stop : (at line : ℕ) (bytes : List ℕ) → piece_at bytes ≡ None → tokens_from at line bytes ≡ record { kind = last_kind bytes; start = at; stop = at; line = line } ∷ []
 unfolding tokens_from

@@ -30,8 +30,9 @@ NothingReads {K} {A} Spells Stops all = (k : K) (text after : List A) → all �
 abbrev pub cut_in : {K A : Type 0} → ℕ → (List A → Option (K × ℕ)) → List A → List (Piece K A) × List A
 cut_in zero at all = ([], all)
 cut_in (suc room) at all = elim (at all) [
-    None ↦ ([], all)
-  | Some f ↦ let after = cut_in room at (drop f.1 all) in (record { kind = f.0; text = take f.1 all } ∷ after.0, after.1) ]
+  | None ↦ ([], all)
+  | Some f ↦ let after = cut_in room at (drop f.1 all) in (record { kind = f.0; text = take f.1 all } ∷ after.0, after.1)
+]
 
 -- the pieces of a list by a finder of the piece at the front (its kind and its length), as far as there are any
 unfoldable pub cut : {K A : Type 0} → (List A → Option (K × ℕ)) → List A → List (Piece K A) × List A

@@ -59,9 +59,9 @@ unfoldable pub escape_at : List ℕ → Option (Atom × ℕ)
 escape_at [] = None
 escape_at (e ∷ es) =
     if is_digit 8 e then
-      (let n = prefix_len (is_digit 8) (take 2 es) in Some (Octal (e ∷ take n es), suc (suc n)))
+    (let n = prefix_len (is_digit 8) (take 2 es) in Some (Octal (e ∷ take n es), suc (suc n)))
     else if e == 120 then
-      (let n = prefix_len (is_digit 16) (take 2 es) in if n == 0 then None else Some (Hexadecimal (take n es), suc (suc n)))
+    (let n = prefix_len (is_digit 16) (take 2 es) in if n == 0 then None else Some (Hexadecimal (take n es), suc (suc n)))
     else option_map (λ b. (Named b, 2)) (named e)
 
 -- what stands for one byte of a string

@@ -1,4 +1,4 @@
-use Rattle.std.proofs.Common.{◌≡◌, ◌%◌, ◌≢◌, slice_index, arith}
+use Rattle.std.proofs.Common.{◌%◌, ◌≢◌, slice_index, arith}
 use Rattle.std.proofs.lemmas.Grind.{common_steps}
 use Rattle.rv_compress.proofs.AtFront.{parcel-front, no_parcel-front}
 use Rattle.rv_compress.proofs.front.next_inst.Goals as goal

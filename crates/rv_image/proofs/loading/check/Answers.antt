@@ -2,7 +2,7 @@ use Rattle.std.proofs.Common.{◌∙◌, [], ◌++◌}
 use Rattle.std.proofs.lemmas.Result.{err_from_is_err_and}
 use Rattle.rv_image.specs.Header.{programs}
 use Rattle.rv_image.specs.FirstFault.{load_tests, header_tests, table_tests, programs_tests, whole_tests}
-use Rattle.rv_image.proofs.Tests.{first_true_none, first_true_some}
+use Rattle.rv_image.proofs.FirstTrue.{first_true_none, first_true_some}
 use Rattle.rv_image.proofs.loading.check.Goals as goal
 
 pub returns-in_err-check_tables-clause-faults : goal.returns-in_err-check_tables-clause-faults

@@ -22,9 +22,9 @@ loop-k-preserved c =
     let last : m.byte ((c.args.address + c.loop-k.k) % 2 ^ 64) ≡ c.byte.result = sym c.byte.ensures in
     record {
       bytes = more ∙ ap (λ (bs : List ℕ). bs ++ (m.byte ((c.args.address + c.loop-k.k) % 2 ^ 64) ∷ [])) c.loop-k.invariant.bytes
-        ∙ ap (λ (b : ℕ). take c.loop-k.k c.loop-k.gathered ++ (b ∷ [])) last ∙ sym put ∙ ap (λ (n : ℕ). take n (set c.loop-k.gathered c.loop-k.k c.byte.result)) (sym next);
+          ∙ ap (λ (b : ℕ). take c.loop-k.k c.loop-k.gathered ++ (b ∷ [])) last ∙ sym put ∙ ap (λ (n : ℕ). take n (set c.loop-k.gathered c.loop-k.k c.byte.result)) (sym next);
       long = length-set {A = ℕ} c.loop-k.gathered c.loop-k.k c.byte.result ∙ long;
-      small = below_more _ _ c.loop-k.invariant.small (omega (arith, c.byte.ensures))
+      small = below_more _ _ c.loop-k.invariant.small (omega (arith, c.byte.ensures));
     }
 
 pub returns-clause-bytes : goal.returns-clause-bytes

@@ -9,5 +9,5 @@ abbrev pub invariant-loop-k : goal.invariant-loop-k
 invariant-loop-k l = record {
   bytes : bytes_at (memory_of (map segment_of l.self.segments.items)) l.address l.k ≡ take l.k l.gathered;
   long : length l.gathered ≡ 8;
-  small : (j : ℕ) → j < l.k → (memory_of (map segment_of l.self.segments.items)).byte ((l.address + j) % 2 ^ 64) < 256
+  small : (j : ℕ) → j < l.k → (memory_of (map segment_of l.self.segments.items)).byte ((l.address + j) % 2 ^ 64) < 256;
 }

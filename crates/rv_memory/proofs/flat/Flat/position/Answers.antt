@@ -3,12 +3,12 @@ use Rattle.std.proofs.lemmas.Option.{slice_get-get_or}
 use Rattle.std.proofs.lemmas.List.{get_or-map, length-map}
 use Rattle.rv_image.specs.Segment.{segment_of}
 use Rattle.rv_image.specs.declared.segment.Segment.{Segment as DeclaredSegment}
-use Rattle.rv_memory.specs.Flat.{segment_at, holds}
+use Rattle.rv_image.specs.Memory.{segment_at, lies_in}
 use Rattle.rv_memory.proofs.FlatLemmas.{element}
 use Rattle.rv_memory.proofs.flat.Flat.position.Goals as goal
 
 -- where the segments before i do not hold the address and this one does, it is the one
-here : (xs : List DeclaredSegment) (i a : ℕ) (s : DeclaredSegment) → i < length xs → s ≡ get_or xs i s → holds (segment_of s) a ≡ true →
+here : (xs : List DeclaredSegment) (i a : ℕ) (s : DeclaredSegment) → i < length xs → s ≡ get_or xs i s → lies_in (segment_of s) a ≡ true →
     segment_at (map segment_of (drop i xs)) a ≡ segment_at (map segment_of xs) a →
     segment_at (map segment_of xs) a ≡ slice_get (map segment_of xs) i
 here xs i a s within is held left =

@@ -23,5 +23,5 @@ loop-k-preserved c =
     let new : n ≡ with_bytes m ((c.args.address + k) % 2 ^ 64) (take (k + 1 - k) (drop k c.args.bytes.now)) = holds-true c.put_within.result _ _ did c.put_within.ensures.put in
     record {
       put = put-more m n c.args.address k ((c.args.address + k) % 2 ^ 64) (k + 1 - k) c.args.bytes.now c.loop-k-test.true one refl new ∙ c.loop-k.invariant.put;
-      may = may-kept m n c.args.address (length c.args.bytes.now) ((c.args.address + k) % 2 ^ 64) Write (take (k + 1 - k) (drop k c.args.bytes.now)) new c.loop-k.invariant.may
+      may = may-kept m n c.args.address (length c.args.bytes.now) ((c.args.address + k) % 2 ^ 64) Write (take (k + 1 - k) (drop k c.args.bytes.now)) new c.loop-k.invariant.may;
     }

@@ -2,7 +2,7 @@ use Rattle.std.proofs.Common.{◌≡◌, true, false, arith}
 use Rattle.rv_isa_laws.specs.Memory.{may}
 use Rattle.rv_image.specs.Segment.{segment_of}
 use Rattle.rv_memory.specs.Rights.{right_of}
-use Rattle.rv_memory.specs.Flat.{gives}
+use Rattle.rv_image.specs.Memory.{has_flag}
 use Rattle.rv_memory.proofs.FlatLemmas.{placed, may-within}
 use Rattle.rv_memory.proofs.flat.Flat.run.Goals as goal
 
@@ -19,7 +19,7 @@ overflow_sub-result-then-is_given c =
 pub returns-then-is_given-clause-all : goal.returns-then-is_given-clause-all
 returns-then-is_given-clause-all c =
     let p = placed c.args.self.now.segments.items c.in-Some.i c.args.address c.index-segment.result.now c.in-Some.ensures.within c.index-segment.ensures c.in-Some.ensures.found in
-    let right : gives c.index-segment.result.now.flags (right_of c.args.right) ≡ true = cc in
+    let right : has_flag c.index-segment.result.now.flags (right_of c.args.right) ≡ true = cc in
     may-within _ c.in-Some.i (segment_of c.index-segment.result.now) c.args.address _ (right_of c.args.right) c.args.self.now.apart p.at c.index-segment.result.now.ends p.low (omega (arith, p.low, p.high, c.len.ensures)) right
 
 pub returns-then-is_given-clause-none : goal.returns-then-is_given-clause-none
@@ -30,5 +30,5 @@ returns-then-is_given-clause-none c = λ e.
 pub returns-else-is_given-clause-none : goal.returns-else-is_given-clause-none
 returns-else-is_given-clause-none c = λ e.
     let p = placed c.args.self.now.segments.items c.in-Some.i c.args.address c.index-segment.result.now c.in-Some.ensures.within c.index-segment.ensures c.in-Some.ensures.found in
-    let right : gives c.index-segment.result.now.flags (right_of c.args.right) ≡ false = cc in
+    let right : has_flag c.index-segment.result.now.flags (right_of c.args.right) ≡ false = cc in
     rw p.here right

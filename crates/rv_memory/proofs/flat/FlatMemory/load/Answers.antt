@@ -9,5 +9,5 @@ pub returns-then-bytes-rest-clause-bytes : goal.returns-then-bytes-rest-clause-b
 returns-then-bytes-rest-clause-bytes c = λ k low.
     let m : Mem = memory_of (map segment_of c.args.self.now.segments.items) in
     let e : m.byte ((c.args.address + k) % 2 ^ 64) ≡ get_or c.rest-rest.result.now k 0 =
-        sym (byte-of-bytes m c.args.address (length c.rest-rest.result.now) k (omega arith)) ∙ ap (λ (bs : List ℕ). get_or bs k 0) c.rest-rest.ensures.bytes in
+    sym (byte-of-bytes m c.args.address (length c.rest-rest.result.now) k (omega arith)) ∙ ap (λ (bs : List ℕ). get_or bs k 0) c.rest-rest.ensures.bytes in
     omega (arith, e, c.rest-rest.ensures.small k)

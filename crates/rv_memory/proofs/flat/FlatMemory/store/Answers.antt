@@ -1,5 +1,4 @@
-use Rattle.std.proofs.Common.{◌≡◌, ◌≤◌, ◌∙◌, sym, ap, refl, true, false, Bool, take, map, List, ℕ, arith}
-use Rattle.std.specs.Bool.{MatchBool}
+use Rattle.std.proofs.Common.{◌≡◌, ◌≤◌, ◌∙◌, sym, ap, take, map, List, ℕ, arith}
 use Rattle.std.specs.Int.{w64, to_le_bytes}
 use Rattle.rv_isa_laws.specs.Memory.{Mem, with_bytes, with_number}
 use Rattle.rv_image.specs.Segment.{segment_of}
@@ -13,15 +12,13 @@ low-put m n a k v digits small is new =
     let low : take k digits ≡ bytes_of k v = ap (take k) is ∙ sym (bytes-to_le_bytes k v small) in
     new ∙ ap (with_bytes m a) low ∙ sym (with_number-bytes m a k v)
 
--- what holds by a test
-by-test : (b : Bool) (P Q R : Type 0) → MatchBool b P Q → (b ≡ true → P → R) → (b ≡ false → Q → R) → R
-by-test true P Q R h f g = f refl h
-by-test false P Q R h f g = g refl h
-
 pub returns-then-not-put_within : goal.returns-then-not-put_within
-returns-then-not-put_within c = low-put _ _ c.args.address c.args.bytes c.args.value c.to_le_bytes-digits.result (omega (arith, c.requires.width)) c.to_le_bytes-digits.ensures
-    ?
+returns-then-not-put_within c =
+    let kept : map segment_of c.put_within.new.self.segments.items ≡ map segment_of c.args.self.now.segments.items = c.if-not-put_within.ensures.put in
+    low-put _ _ c.args.address c.args.bytes c.args.value c.to_le_bytes-digits.result (omega (arith, c.requires.width)) c.to_le_bytes-digits.ensures
+    (rw (← kept) c.put_across.ensures)
 
 pub returns-else-not-put_within : goal.returns-else-not-put_within
-returns-else-not-put_within c = low-put _ _ c.args.address c.args.bytes c.args.value c.to_le_bytes-digits.result (omega (arith, c.requires.width)) c.to_le_bytes-digits.ensures
-    ?
+returns-else-not-put_within c =
+    low-put _ _ c.args.address c.args.bytes c.args.value c.to_le_bytes-digits.result (omega (arith, c.requires.width)) c.to_le_bytes-digits.ensures
+    c.if-not-put_within.ensures.put

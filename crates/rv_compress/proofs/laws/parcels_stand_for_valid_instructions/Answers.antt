@@ -1,0 +1,5 @@
+use Rattle.rv_compress.proofs.Reader.{stands-valid}
+use Rattle.rv_compress.proofs.laws.parcels_stand_for_valid_instructions.Goals as goal
+
+pub returns : goal.returns
+returns c = stands-valid

@@ -1,0 +1,50 @@
+-- Statements read one by one, as the code holds them.
+
+use Rattle.std.proofs.Common.{◌≡◌, ℕ, ◌+◌, Bool, true, false, List, [], ◌∷◌, ◌++◌, length, length-append, Ok, refl, sym, ◌∙◌, ap, subst, map, arith}
+use Rattle.rv_text_laws.specs.Lexing as lexing
+use Rattle.rv_text.specs.Token.{token_of, kind_of}
+use Rattle.rv_parse_laws.specs.Statement.{Spoken}
+use Rattle.rv_parse_laws.specs.Syntax.{Says, is_source_end}
+use Rattle.rv_parse_laws.specs.Parsing.{part_at}
+use Rattle.rv_parse_laws.specs.Reading.{SaysUpTo}
+use Rattle.rv_parse_laws.proofs.Progress.{push_end, push_statement, source_end_is_end}
+use Rattle.rv_parse.specs.declared.statement.Statement.{Statement}
+use Rattle.rv_parse.specs.declared.cursor.Cursor.{Cursor}
+use Rattle.rv_parse.specs.View.{statement_of, said_by}
+use Rattle.rv_parse.specs.Left.{left}
+
+said_push : (items : List Statement) (s : Statement) → map said_by (items ++ s ∷ []) ≡ map said_by items ++ said_by s ∷ []
+said_push [] s = refl
+said_push (x ∷ xs) s = ap (λ ss. said_by x ∷ ss) (said_push xs s)
+
+pub statements_push : (ts : List lexing.Token) (t : lexing.Token) (before us rest : List lexing.Token) (s : Statement) (items new : List Statement)
+    → SaysUpTo ts before (map said_by items) → before ≡ t ∷ us → part_at before ≡ Ok (Says (statement_of s.kind), rest) → s.line ≡ t.line → new ≡ items ++ s ∷ []
+    → SaysUpTo ts rest (map said_by new)
+statements_push ts t before us rest s items new so is read line pushed =
+    let lines : said_by s ≡ record { line = t.line; says = statement_of s.kind } = ap (λ (n : ℕ). record { line = n; says = statement_of s.kind }) line in
+    subst (SaysUpTo ts rest) (ap (λ (x : Spoken). map said_by items ++ x ∷ []) (sym lines) ∙ sym (said_push items s) ∙ ap (map said_by) (sym pushed))
+    (push_statement ts t before us rest (statement_of s.kind) (map said_by items) so is read)
+
+pub counted_push : (s : Statement) (items new : List Statement) (n : ℕ) → length (map said_by items) ≡ n → new ≡ items ++ s ∷ [] → length (map said_by new) ≡ n + 1
+counted_push s items new n counted pushed =
+    ap (λ (ss : List Statement). length (map said_by ss)) pushed ∙ ap (λ (ss : List Spoken). length ss) (said_push items s)
+    ∙ omega (arith, counted, length-append (map said_by items) (said_by s ∷ []))
+
+-- a cursor has its next token first
+abbrev pub behind : Cursor → List lexing.Token
+behind c = tail (left c)
+  where
+    tail : List lexing.Token → List lexing.Token
+    tail [] = []
+    tail (t ∷ ts) = ts
+
+pub left_is : (c : Cursor) → left c ≡ token_of c.next ∷ behind c
+unfolding left
+left_is c = refl
+
+-- the source's end is the last token, and says nothing more
+pub statements_end : (ts : List lexing.Token) (c : Cursor) (ss : List Spoken) → SaysUpTo ts (left c) ss → is_source_end (kind_of c.next.kind) ≡ true → SaysUpTo ts [] ss
+unfolding left
+statements_end ts c ss so end =
+    let e = source_end_is_end (kind_of c.next.kind) end in
+    push_end ts (token_of c.next) (left c) [] ss so (rw (e.1) refl) e.0

@@ -1,0 +1,27 @@
+use Rattle.std.proofs.Common.{◌≡◌, ◌∙◌, sym, arith}
+use Rattle.rv_text.specs.Token.{token_of}
+use Rattle.rv_parse.specs.Left.{left}
+use Rattle.rv_parse_laws.proofs.Progress.{push_end, statement_shorter}
+use Rattle.rv_parse.proofs.Statements.{statements_push, counted_push, behind, left_is, statements_end}
+use Rattle.rv_parse.proofs.source.statements.Goals as goal
+
+pub loop-cursor-preserved-then-is_end : goal.loop-cursor-preserved-then-is_end
+loop-cursor-preserved-then-is_end c = record {
+  says = push_end _ (token_of c.loop-cursor.cursor.next) (left c.loop-cursor.cursor) _ _ c.loop-cursor.invariant.says c.advance.ensures (sym c.is_end.ensures ∙ c.if-is_end.true);
+  counted = c.loop-cursor.invariant.counted;
+  within = c.loop-cursor.invariant.within;
+}
+
+pub loop-cursor-smaller : goal.loop-cursor-smaller
+loop-cursor-smaller c = statement_shorter _ _ _ c.in_ok-next_statement.ensures.read
+
+pub loop-cursor-preserved : goal.loop-cursor-preserved
+loop-cursor-preserved c = record {
+  says = statements_push _ (token_of c.loop-cursor.cursor.next) (left c.loop-cursor.cursor) (behind c.loop-cursor.cursor) _ c.in_ok-next_statement.field-0 c.loop-cursor.statements.items _
+      c.loop-cursor.invariant.says (left_is c.loop-cursor.cursor) c.in_ok-next_statement.ensures.read c.in_ok-next_statement.ensures.line c.in_ok-push.ensures.items;
+  counted = counted_push c.in_ok-next_statement.field-0 c.loop-cursor.statements.items _ _ c.loop-cursor.invariant.counted c.in_ok-push.ensures.items;
+  within = omega (arith, c.in_ok-next_statement.ensures.room);
+}
+
+pub returns-clause-says : goal.returns-clause-says
+returns-clause-says c = statements_end _ c.loop-cursor.cursor _ c.loop-cursor.invariant.says (sym c.is_source_end.ensures ∙ c.loop-cursor-test.false)

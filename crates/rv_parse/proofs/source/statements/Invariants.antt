@@ -1,0 +1,17 @@
+use Rattle.std.proofs.Common.{◌≡◌, ◌≤◌, map, length}
+use Rattle.rv_parse_laws.specs.Reading.{SaysUpTo, most_statements}
+use Rattle.rv_text.specs.Left.{tokens_left}
+use Rattle.rv_parse.specs.View.{said_by}
+use Rattle.rv_parse.specs.Left.{left}
+use Rattle.rv_parse.proofs.source.statements.Given as goal
+
+-- the tokens say the statements so far, up to those that are left
+abbrev pub invariant-loop-cursor : goal.invariant-loop-cursor
+invariant-loop-cursor l = record {
+  says : SaysUpTo (tokens_left l.fn.lexer) (left l.cursor) (map said_by l.statements.items);
+  counted : length (map said_by l.statements.items) ≡ l.count;
+  within : l.count ≤ most_statements;
+}
+
+abbrev pub decreases-loop-cursor : goal.decreases-loop-cursor
+decreases-loop-cursor l = length (left l.cursor)

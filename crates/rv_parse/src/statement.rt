@@ -1,0 +1,102 @@
+//! Statements: what a source says, with its names borrowed from it.
+
+ghost use Rattle.std.specs.Prelude.{◌≡◌};
+ghost use Rattle.rv_parse.specs.View.{expression_of, statement_of, with_expression};
+
+use rv_isa::Reg;
+
+/// An instruction's expression. Its parts are parts of the source.
+#[derive(Clone, Copy, Debug, PartialEq, Eq, Drop)]
+pub enum Expression<'a> {
+    /// A number or a character.
+    Literal(u64),
+    /// A minus before a number or a character.
+    Negated(u64),
+    /// A symbol's name.
+    Name(&'a [u8]),
+    /// The decimal digits of a numeric label, and whether it is the nearest after the statement (`1f`) or before it (`1b`).
+    Reference(&'a [u8], bool),
+}
+
+impl<'a> Expression<'a> {
+    /// The instruction that has this expression behind its registers.
+    pub(crate) fn behind(self, operation: Operation) -> StatementKind<'a>
+        ensures { statement_of result ≡ with_expression operation (expression_of self.entry) }
+    {
+        match self {
+            Expression::Literal(number) => StatementKind::Numeric(Numeric {
+                number,
+                operation,
+                negated: false,
+            }),
+            Expression::Negated(number) => StatementKind::Numeric(Numeric {
+                number,
+                operation,
+                negated: true,
+            }),
+            Expression::Name(name) => StatementKind::Symbolic(Symbolic { name, operation }),
+            Expression::Reference(digits, forward) => StatementKind::Referring(Referring {
+                digits,
+                operation,
+                forward,
+            }),
+        }
+    }
+}
+
+/// A mnemonic with its registers; an expression stands behind them.
+#[derive(Clone, Copy, Debug, PartialEq, Eq, Drop)]
+pub enum Operation {
+    /// `addi rd, rs1, ..`
+    Addi(Reg, Reg),
+    /// `li rd, ..`
+    Li(Reg),
+}
+
+/// An instruction whose last operand is a number, with or without a minus before it.
+#[derive(Clone, Copy, Debug, PartialEq, Eq, Drop)]
+pub struct Numeric {
+    pub number: u64,
+    pub operation: Operation,
+    pub negated: bool,
+}
+
+/// An instruction whose last operand is a symbol.
+#[derive(Clone, Copy, Debug, PartialEq, Eq, Drop)]
+pub struct Symbolic<'a> {
+    pub name: &'a [u8],
+    pub operation: Operation,
+}
+
+/// An instruction whose last operand is a numeric reference.
+#[derive(Clone, Copy, Debug, PartialEq, Eq, Drop)]
+pub struct Referring<'a> {
+    /// The label's decimal digits.
+    pub digits: &'a [u8],
+    pub operation: Operation,
+    /// The nearest label after the statement, not before it.
+    pub forward: bool,
+}
+
+/// What a statement says.
+#[derive(Debug, Drop)]
+pub enum StatementKind<'a> {
+    Label(&'a [u8]),
+    /// `.option norvc`
+    Norvc,
+    /// `.globl` or `.global`, with its names in order.
+    Globl(Vec<&'a [u8]>),
+    Ecall,
+    Numeric(Numeric),
+    Symbolic(Symbolic<'a>),
+    Referring(Referring<'a>),
+}
+
+/// A statement, with the line of its first byte, from 1. Its ordinal is its place in the source's list, from 1.
+#[derive(Debug, Drop)]
+pub struct Statement<'a> {
+    pub kind: StatementKind<'a>,
+    pub line: u32,
+}
+
+const _: () = prove!(size_of::<Statement<'static>>() <= 40);

@@ -1,0 +1,5 @@
+use Rattle.rv_parse_laws.proofs.Whole.{one_reading}
+use Rattle.rv_parse_laws.proofs.laws.one_reading.Goals as goal
+
+pub returns : goal.returns
+returns c = one_reading
