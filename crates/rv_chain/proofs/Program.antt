@@ -27,12 +27,12 @@ undefined defs gs = filter (λ g. not (is_one_of (names_of defs) g.name)) gs
 
 pub program_of : (a : ℕ) (ss : List Spoken) (size entry end variables : ℕ) (defs globals : List Global) (rows : List Row) (l : Linked)
     → l.text ≡ code ss → l.rodata ≡ [] → l.data ≡ [] → l.map ≡ text_map a size entry globals rows
-    → AreCoded ss → AreDistinct (labels ss) → a % 4096 ≡ 0 → size ≡ length (code ss) → a + size_all ss ≤ 0x3ff0_0000
+    → AreCoded ss → AreDistinct (labels ss) → a % 4096 ≡ 0 → a < 0x3ff0_0000 → size ≡ length (code ss) → a + size_all ss ≤ 0x3ff0_0000
     → rows ≡ rows_from 1 a ss → defs ≡ globals_from (made_globals ss) a ss → Some entry ≡ entry_in defs
     → end ≡ a + size → variables ≡ aligned 4096 (aligned 4096 (a + size))
     → globals ≡ defs ++ undefined defs (symbols_at end variables)
     → IsProgram a ss l
-program_of a ss size entry end variables defs globals rows l text rodata «data» is_map coded once page same below rows_are defs_are entry_is end_is variables_is globals_are =
+program_of a ss size entry end variables defs globals rows l text rodata «data» is_map coded once page low same below rows_are defs_are entry_is end_is variables_is globals_are =
     let s : size ≡ size_all ss = same ∙ code_size ss coded in
     let named = globals_from (made_globals ss) a ss in
     let all : globals ≡ named ++ undefined named (symbols_at (a + size_all ss) (aligned 4096 (aligned 4096 (a + size_all ss)))) =
@@ -45,6 +45,7 @@ program_of a ss size entry end variables defs globals rows l text rodata «data�
         coded = coded;
         once = once;
         page = page;
+        low = low;
         below = below;
         entry = ap entry_in (sym defs_are) ∙ sym entry_is;
         globals = all;

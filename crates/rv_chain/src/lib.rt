@@ -1,6 +1,7 @@
 //! Whole runs: from sources to an executable with its map, and from an executable to its end.
 #![tactic(auto)]
 
+mod building;
 mod fault;
 mod instruction;
 mod labels;
@@ -11,6 +12,7 @@ mod rows;
 mod symbols;
 mod text;
 
+pub use building::build;
 pub use fault::{Fault, LinkFault};
 pub use options::{Built, LinkOptions};
 pub use rv_image::FileFault;

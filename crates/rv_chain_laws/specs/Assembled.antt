@@ -134,6 +134,7 @@ pub record IsAssembled (text_start : ℕ) (ss : List Spoken) (m : Map) : Type 0 
   pub coded : AreCoded ss
   pub once : AreDistinct (labels ss)
   pub page : text_start % 4096 ≡ 0
+  pub low : text_start < 0x3ff0_0000
   pub below : text_start + size_all ss ≤ 0x3ff0_0000
   pub entry : entry_in (globals_from (made_globals ss) text_start ss) ≡ Some m.entry
   pub globals : m.globals ≡ globals_from (made_globals ss) text_start ss ++ filter (λ g. not (is_one_of (names_of (globals_from (made_globals ss) text_start ss)) g.name)) (linker_symbols m)

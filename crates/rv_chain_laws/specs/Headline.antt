@@ -1,7 +1,7 @@
 -- The headline: running the bytes of the executable gives exactly the console and the end that the source statements
 -- give, each executed in one step at the addresses of the printed map.
 
-use Rattle.std.specs.Prelude.{◌≡◌, ℕ, ◌<◌, List, [], ◌∷◌, ⊤}
+use Rattle.std.specs.Prelude.{◌≡◌, ℕ, ◌<◌, List, [], ◌∷◌, ⊤, None}
 use Rattle.std.specs.List.{AllByRecursion}
 use Rattle.rv_parse_laws.specs.Statement.{Spoken}
 use Rattle.rv_parse_laws.specs.Reading.{Reads}
@@ -9,6 +9,7 @@ use Rattle.rv_map.specs.Map.{Map}
 use Rattle.rv_map.specs.Text.{map_text}
 use Rattle.rv_image.specs.Image.{Image}
 use Rattle.rv_image.specs.ImageOf.{ImageOf}
+use Rattle.rv_image.specs.FirstFault.{first_fault}
 use Rattle.rv_encode.specs.Word.{Spells}
 use Rattle.rv_compress.specs.Parcel.{StandsFor}
 use Rattle.rv_machine_laws.specs.Reader.{Reader}
@@ -47,4 +48,6 @@ pub record TheHeadline (texts : List (List ℕ)) (text_start : ℕ) (executable 
   -- the image of the executable
   pub image : Image
   pub loads : ImageOf executable image
+  -- which has no fault that a loader would name
+  pub accepted : first_fault executable ≡ None
   pub agree : RunsAgree sources map image

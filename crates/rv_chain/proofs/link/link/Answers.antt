@@ -41,5 +41,5 @@ returns c =
         ap (λ l. map global_of l) c.in_ok-append.ensures.items ∙ map-append global_of c.in_ok-globals.globals.items c.in_ok-more.more.items in
     program_of a ss size c.in-Some.entry (a + size) c.next_page-variables.result defs (map global_of c.append.new.self.items) c.in_ok-rows.rows.items _
       c.in_ok-text.ensures.0 c.new.ensures.items c.new-2.ensures.items c.text_map_of-map.ensures
-      c.in_ok-text.ensures.1 c.in_ok-distinct.ensures c.requires.page same fits
+      c.in_ok-text.ensures.1 c.in_ok-distinct.ensures c.requires.page c.requires.low same fits
       c.in_ok-rows.ensures defs_are entry_is refl variables_is (joined ∙ ap (λ l. defs ++ l) more)
