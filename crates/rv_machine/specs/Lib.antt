@@ -3,3 +3,4 @@ pub mod Hart
 pub mod Action
 pub mod End
 pub mod Fetch
+pub mod Machine

@@ -3,9 +3,16 @@
 //! Source: RISC-V Unprivileged ISA 20191213, chapters 2, 5, 7 and 8.
 #![tactic(auto)]
 
+mod access;
 mod action;
 mod alu;
+mod calls;
 mod end;
 mod fetch;
 mod hart;
+mod machine;
 mod registers;
+mod state;
+
+pub use end::End;
+pub use machine::Machine;

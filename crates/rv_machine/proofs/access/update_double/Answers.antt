@@ -1,0 +1,12 @@
+use Rattle.std.proofs.Common.{◌≡◌, ℕ, ◌%◌, true, Bool, ◌&&◌, sym, ◌∙◌, arith}
+use Rattle.std.specs.Prelude.{◌==◌}
+use Rattle.std.proofs.lemmas.Bool.Decides.{nat_tests}
+use Rattle.rv_isa_laws.specs.Memory.{Mem, may, Read, Write}
+use Rattle.rv_machine.proofs.access.update_double.Goals as goal
+
+pub returns : goal.returns
+returns g c = λ input console.
+    let m : Mem = g.M.Memory.mem c.args.memory.now in
+    let zero : (c.args.x.address % c.args.width == 0) ≡ true = grind (arith, nat_tests, c.if-x-width-ne0.false) in
+    let yes : (may m c.args.x.address c.args.width Read && may m c.args.x.address c.args.width Write) ≡ true = sym c.may_update.ensures ∙ c.if-not-may_update.false in
+    rw (zero, yes, c.set.ensures input console, c.store.ensures, c.of_double-new.ensures, c.load-old.ensures.number)
