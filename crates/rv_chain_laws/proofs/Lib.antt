@@ -1,2 +1,13 @@
 pub mod Even
 pub mod Alike
+pub mod AssembledRows
+pub mod AssembledFits
+pub mod AssembledNames
+pub mod Onward
+pub mod Fetch
+pub mod Walk
+pub mod AssembledCode
+pub mod AssembledMemory
+pub mod Obligations
+pub mod Simulation
+pub mod Assembled

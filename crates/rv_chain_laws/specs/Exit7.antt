@@ -8,7 +8,7 @@
 
 use Rattle.std.specs.Prelude.{ℕ, List, [], ◌∷◌, codes}
 use Rattle.rv_isa_laws.specs.Hart.{Outcome, Exited}
-use Rattle.rv_parse_laws.specs.Statement.{Statement, Label, Norvc, Globl, Instruction, Spoken, Mnemonic, Addi, Ecall, Li, Operand, Register, Value, Literal, Minus}
+use Rattle.rv_parse_laws.specs.Statement.{Statement, Label, Norvc, Globl, Instruction, Spoken, Addi, Ecall, Li, Register, Value, Literal, Minus}
 use Rattle.rv_map.specs.Map.{Map, Global}
 use Rattle.rv_map.specs.declared.map.Row.{Row}
 use Rattle.rv_map.specs.declared.map.Region.{Region}
@@ -42,24 +42,25 @@ global name address = record { name = name; address = address }
 
 abbrev pub exit7_map : Map
 exit7_map = record {
-    text = region 0x10000 0x1000c;
-    rodata = region 0x11000 0x11000;
-    «data» = region 0x11000 0x11000;
-    bss = region 0x11000 0x11000;
-    entry = 0x10000;
-    gaps = [];
-    globals = global (codes "_start") 0x10000
-        ∷ global (codes "_etext") 0x1000c
-        ∷ global (codes "__bss_start") 0x11000
-        ∷ global (codes "_edata") 0x11000
-        ∷ global (codes "_end") 0x11000
-        ∷ global (codes "__global_pointer$") 0x11800
-        ∷ [];
-    rows = row 1 3 3 0x10000 0 0
-        ∷ row 1 3 4 0x10000 4 1
-        ∷ row 1 4 5 0x10004 4 1
-        ∷ row 1 5 6 0x10008 4 1
-        ∷ [] }
+  text = region 0x10000 0x1000c;
+  rodata = region 0x11000 0x11000;
+  «data» = region 0x11000 0x11000;
+  bss = region 0x11000 0x11000;
+  entry = 0x10000;
+  gaps = [];
+  globals = global (codes "_start") 0x10000
+      ∷ global (codes "_etext") 0x1000c
+      ∷ global (codes "__bss_start") 0x11000
+      ∷ global (codes "_edata") 0x11000
+      ∷ global (codes "_end") 0x11000
+      ∷ global (codes "__global_pointer$") 0x11800
+      ∷ [];
+  rows = row 1 3 3 0x10000 0 0
+      ∷ row 1 3 4 0x10000 4 1
+      ∷ row 1 4 5 0x10004 4 1
+      ∷ row 1 5 6 0x10008 4 1
+      ∷ [];
+}
 
 -- the same with `addi a0, a0, -8` before `li a7, 93`
 abbrev pub exit255 : List Spoken
@@ -75,20 +76,50 @@ exit255 =
 
 abbrev pub exit255_map : Map
 exit255_map = record exit7_map {
-    text = region 0x10000 0x10010;
-    globals = global (codes "_start") 0x10000
-        ∷ global (codes "_etext") 0x10010
-        ∷ global (codes "__bss_start") 0x11000
-        ∷ global (codes "_edata") 0x11000
-        ∷ global (codes "_end") 0x11000
-        ∷ global (codes "__global_pointer$") 0x11800
-        ∷ [];
-    rows = row 1 3 3 0x10000 0 0
-        ∷ row 1 3 4 0x10000 4 1
-        ∷ row 1 4 5 0x10004 4 1
-        ∷ row 1 5 6 0x10008 4 1
-        ∷ row 1 6 7 0x1000c 4 1
-        ∷ [] }
+  text = region 0x10000 0x10010;
+  globals = global (codes "_start") 0x10000
+      ∷ global (codes "_etext") 0x10010
+      ∷ global (codes "__bss_start") 0x11000
+      ∷ global (codes "_edata") 0x11000
+      ∷ global (codes "_end") 0x11000
+      ∷ global (codes "__global_pointer$") 0x11800
+      ∷ [];
+  rows = row 1 3 3 0x10000 0 0
+      ∷ row 1 3 4 0x10000 4 1
+      ∷ row 1 4 5 0x10004 4 1
+      ∷ row 1 5 6 0x10008 4 1
+      ∷ row 1 6 7 0x1000c 4 1
+      ∷ [];
+}
 
 abbrev pub exits : ℕ → Outcome
 exits code = record { console = []; «end» = Exited code }
+
+-- the two lines that end it in a file of their own: the run goes on from the one file to the next
+abbrev pub first_file : List Spoken
+first_file =
+    said 1 Norvc
+    ∷ said 2 (Globl (codes "_start" ∷ []))
+    ∷ said 3 (Label (codes "_start"))
+    ∷ said 3 (load 10 7)
+    ∷ []
+
+abbrev pub second_file : List Spoken
+second_file =
+    said 1 Norvc
+    ∷ said 2 (load 17 93)
+    ∷ said 3 (Instruction Ecall [])
+    ∷ []
+
+abbrev pub two_files_map : Map
+two_files_map = record exit7_map {
+  rows = row 1 3 3 0x10000 0 0
+      ∷ row 1 3 4 0x10000 4 1
+      ∷ row 2 2 2 0x10004 4 1
+      ∷ row 2 3 3 0x10008 4 1
+      ∷ [];
+}
+
+-- the map's text
+abbrev pub exit7_text : List ℕ
+exit7_text = codes "rvmap 1\ntext 10000 1000c\nrodata 11000 11000\ndata 11000 11000\nbss 11000 11000\nentry 10000\nglobal _start 10000\nglobal _etext 1000c\nglobal __bss_start 11000\nglobal _edata 11000\nglobal _end 11000\nglobal __global_pointer$ 11800\nrow 1 3 3 10000 0 0\nrow 1 3 4 10000 4 1\nrow 1 4 5 10004 4 1\nrow 1 5 6 10008 4 1\n"

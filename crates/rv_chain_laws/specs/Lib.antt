@@ -5,8 +5,8 @@ pub mod Fits
 pub mod Resolves
 pub mod Start
 pub mod SourceRun
-pub mod ImageMemory
 pub mod Realizes
 pub mod Agrees
 pub mod Headline
 pub mod Exit7
+pub mod Assembled

@@ -1,7 +1,7 @@
 -- What a statement does in one step, the instructions that stand for it, and how many of them run
 -- (RISC-V Assembly Programmer's Manual, pseudo-instructions).
 
-use Rattle.std.specs.Prelude.{◌≡◌, ℕ, ℤ, pos, ◌+◌, ◌-◌, ◌*◌, ◌%◌, ◌^◌, ◌≤◌, List, [], ◌∷◌, length, Option, Some, None, map, if◌then◌else◌, nat_lt}
+use Rattle.std.specs.Prelude.{◌≡◌, ℕ, ◌+◌, ◌%◌, ◌^◌, List, [], ◌∷◌, Option, Some, None, map, if◌then◌else◌, nat_lt}
 use Rattle.rv_isa.specs.declared.instruction.Inst.{Inst}
 use Rattle.rv_isa.specs.declared.instruction.Inst.TheVariants.{Addi as AddImmediate, Ecall as Call}
 use Rattle.rv_isa_laws.specs.Hart.{Hart}

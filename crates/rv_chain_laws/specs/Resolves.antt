@@ -1,10 +1,10 @@
 -- The names of a map: which globals it shows, and where a run begins.
 
-use Rattle.std.specs.Prelude.{◌≡◌, ℕ, ◌+◌, ◌-◌, Bool, false, not, ⊤, List, [], ◌∷◌, ◌++◌, map, filter, flat_map, Option, Some, slice_index_or, codes, bytes_eq, if◌then◌else◌}
+use Rattle.std.specs.Prelude.{◌≡◌, ℕ, ◌+◌, ◌-◌, Bool, false, not, ⊤, List, [], ◌∷◌, ◌++◌, map, filter, flat_map, Some, slice_index_or, codes, bytes_eq, if◌then◌else◌}
 use Rattle.std.specs.List.{find, list_any}
 use Rattle.rv_parse_laws.specs.Statement.{Statement, Label, Norvc, Globl, Instruction, Spoken}
 use Rattle.rv_map.specs.Map.{Map, Global}
-use Rattle.rv_chain_laws.specs.Sites.{Site, program}
+use Rattle.rv_chain_laws.specs.Sites.{program}
 
 -- the names that a statement makes global
 abbrev pub made_global : Statement → List (List ℕ)

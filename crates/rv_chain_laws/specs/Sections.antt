@@ -1,6 +1,6 @@
 -- The sections of a source, and which statements have a place in memory (gABI, section flags; GNU as).
 
-use Rattle.std.specs.Prelude.{ℕ, zero, suc, Bool, true, false, not, ◌&&◌, ◌==◌, if◌then◌else◌, max, List, [], ◌∷◌, ◌++◌, slice_index_or, codes}
+use Rattle.std.specs.Prelude.{ℕ, suc, Bool, true, false, not, ◌&&◌, ◌==◌, if◌then◌else◌, max, List, [], ◌∷◌, ◌++◌, slice_index_or, codes}
 use Rattle.rv_parse_laws.specs.Statement.{Statement, Label, Norvc, Globl, Instruction, Spoken}
 
 -- a section by its flags: ALLOC, EXECINSTR and WRITE, and the type NOBITS

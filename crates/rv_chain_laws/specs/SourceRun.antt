@@ -1,6 +1,6 @@
 -- The source run: each statement is one step, at the addresses of the map.
 
-use Rattle.std.specs.Prelude.{ℕ, zero, suc, ◌+◌, ◌-◌, Bool, ◌&&◌, ◌==◌, nat_le, nat_lt, if◌then◌else◌, List, Option, Some, None}
+use Rattle.std.specs.Prelude.{ℕ, zero, suc, ◌-◌, ◌&&◌, ◌==◌, nat_le, nat_lt, if◌then◌else◌, List, Option, Some, None}
 use Rattle.std.specs.List.{find, list_any}
 use Rattle.rv_isa_laws.specs.Memory.{Mem}
 use Rattle.rv_isa_laws.specs.Hart.{Hart, Outcome, Illegal, FetchOutside, Astray, Limit, start, stop}

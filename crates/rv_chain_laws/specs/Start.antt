@@ -5,7 +5,6 @@ use Rattle.std.specs.List.{find}
 use Rattle.rv_isa_laws.specs.Memory.{Mem, Right, Read, Write, Execute}
 use Rattle.rv_parse_laws.specs.Statement.{Statement, Label, Norvc, Globl, Instruction}
 use Rattle.rv_map.specs.Map.{Map}
-use Rattle.rv_map.specs.declared.map.Row.{Row}
 use Rattle.rv_map.specs.declared.map.Region.{Region}
 use Rattle.rv_image.specs.Segment.{stack_start, stack_end}
 use Rattle.rv_chain_laws.specs.Sites.{Site, Program}

@@ -4,6 +4,11 @@
 //! Source: RISC-V Unprivileged ISA 20191213; RISC-V Assembly Programmer's Manual.
 #![tactic(auto)]
 
+mod law;
 mod worked;
 
-pub use worked::{exit255_runs, exit7_fits, exit7_is_limited, exit7_resolves, exit7_runs};
+pub use law::runs_agree;
+pub use worked::{
+    exit7_fits, exit7_is_limited, exit7_resolves, exit7_runs, exit7_shows, exit255_runs,
+    two_files_run,
+};

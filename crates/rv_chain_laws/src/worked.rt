@@ -2,7 +2,8 @@
 
 ghost use Rattle.std.specs.Prelude.{◌≡◌, [], ◌∷◌};
 ghost use Rattle.rv_isa_laws.specs.Hart.{Limit};
-ghost use Rattle.rv_chain_laws.specs.Exit7.{exit7, exit7_map, exit255, exit255_map, exits};
+ghost use Rattle.rv_chain_laws.specs.Exit7.{exit7, exit7_map, exit7_text, exit255, exit255_map, first_file, second_file, two_files_map, exits};
+ghost use Rattle.rv_map.specs.Text.{map_text};
 ghost use Rattle.rv_chain_laws.specs.Fits.{Fits};
 ghost use Rattle.rv_chain_laws.specs.Resolves.{Resolves};
 ghost use Rattle.rv_chain_laws.specs.SourceRun.{source_run};
@@ -10,30 +11,37 @@ ghost use Rattle.rv_chain_laws.specs.SourceRun.{source_run};
 /// The program that loads 7 into a0 exits with 7 and writes nothing.
 pub fn exit7_runs()
     ensures { source_run (exit7 ∷ []) exit7_map [] 1000000 ≡ exits 7 }
-{
-}
+{}
 
 /// Its exit is its third instruction.
 pub fn exit7_is_limited()
     ensures enough { source_run (exit7 ∷ []) exit7_map [] 3 ≡ exits 7 }
     ensures short { source_run (exit7 ∷ []) exit7_map [] 2 ≡ record { console = []; «end» = Limit } }
-{
-}
+{}
 
 /// With 8 taken off a0 it exits with 255, which is -1 modulo 256.
 pub fn exit255_runs()
     ensures { source_run (exit255 ∷ []) exit255_map [] 1000000 ≡ exits 255 }
-{
-}
+{}
 
 /// The map of the program fits it.
 pub fn exit7_fits()
     ensures { Fits (exit7 ∷ []) exit7_map 0x10000 }
-{
-}
+{}
 
 /// The map of the program resolves its names.
 pub fn exit7_resolves()
     ensures { Resolves (exit7 ∷ []) exit7_map }
-{
-}
+{}
+
+/// The text of the program's map.
+pub fn exit7_shows()
+    ensures { map_text exit7_map ≡ exit7_text }
+{}
+
+/// The same program in two files: its map fits it and resolves its names, and it exits with 7.
+pub fn two_files_run()
+    ensures fits { Fits (first_file ∷ second_file ∷ []) two_files_map 0x10000 }
+    ensures resolves { Resolves (first_file ∷ second_file ∷ []) two_files_map }
+    ensures runs { source_run (first_file ∷ second_file ∷ []) two_files_map [] 1000000 ≡ exits 7 }
+{}

@@ -5,7 +5,8 @@ use Rattle.std.proofs.lemmas.Bool.{cases_lt}
 use Rattle.std.proofs.Math.Nat.{pow-suc}
 use Rattle.rv_compress.specs.declared.form.Compressed.{Compressed}
 use Rattle.rv_compress.specs.declared.form.Compressed.TheVariants.{J}
-use Rattle.rv_compress.specs.Parcel.{bits_at, field, jump_offset, IsJump, Spells, IsForm}
+use Rattle.rv_encode.specs.Word.{field}
+use Rattle.rv_compress.specs.Parcel.{bits_at, jump_offset, IsJump, SpellsForm, IsForm}
 
 -- a test holds of each of the 2 ^ k numbers from `first` on
 unfoldable all_from : (ℕ → Bool) → (k first : ℕ) → Bool
@@ -67,19 +68,20 @@ jump-line : (z : ℤ) (u : ℕ) → negsuc 2047 ≤ℤ z → z ≤ℤ pos 2047 �
 jump-line z u low high e = grind arith
 
 -- the form that a parcel of c.j spells
-jump-spelled : (bits f : ℕ) (z : ℤ) → bits ≡ 0xa001 + f * 4 → f < 2048 → negsuc 2047 ≤ℤ z → z ≤ℤ pos 2047 → field 12 z ≡ gathered f → Spells bits (J z)
+jump-spelled : (bits f : ℕ) (z : ℤ) → bits ≡ 0xa001 + f * 4 → f < 2048 → negsuc 2047 ≤ℤ z → z ≤ℤ pos 2047 → field 12 z ≡ gathered f → SpellsForm bits (J z)
 jump-spelled bits f z e below low high g = record {
-    line = jump-line z (gathered f / 2) low high (g ∙ half f);
-    sum = shift (jump_offset (field 12 z)) f bits (ap (λ v. jump_offset v) g ∙ scattered-back f below) e
-  }
+  line = jump-line z (gathered f / 2) low high (g ∙ half f);
+  sum = shift (jump_offset (field 12 z)) f bits (ap (λ v. jump_offset v) g ∙ scattered-back f below) e;
+}
   where
     half : (f : ℕ) → gathered f ≡ gathered f / 2 * 2
     half f = omega arith
+
     shift : (a f bits : ℕ) → a ≡ f * 4 → bits ≡ 0xa001 + f * 4 → 1 + 5 * 2 ^ 13 + a ≡ bits
     shift a f bits h e = omega arith
 
 -- and the only one
-jump-only : (bits f : ℕ) (z : ℤ) → bits ≡ 0xa001 + f * 4 → f < 2048 → IsJump z → field 12 z ≡ gathered f → (form : Compressed) → Spells bits form → J z ≡ form
+jump-only : (bits f : ℕ) (z : ℤ) → bits ≡ 0xa001 + f * 4 → f < 2048 → IsJump z → field 12 z ≡ gathered f → (form : Compressed) → SpellsForm bits form → J z ≡ form
 jump-only bits f z e below line g (J y) s =
     ap (λ v. J v) (field-unique z y line s.line (g ∙ sym (offset-gathered (field 12 y) f (field-below y s.line).0 (field-below y s.line).1 (shift (jump_offset (field 12 y)) f bits s.sum e))))
   where
@@ -89,5 +91,5 @@ jump-only bits f z e below line g _ s = grind arith
 
 pub jump-form : (bits f : ℕ) (z : ℤ) → bits ≡ 0xa001 + f * 4 → f < 2048 → negsuc 2047 ≤ℤ z → z ≤ℤ pos 2047 → field 12 z ≡ gathered f → IsForm (J z) bits
 jump-form bits f z e below low high g form =
-    let s : Spells bits (J z) = jump-spelled bits f z e below low high g in
-    (λ h. subst (λ v. Spells bits v) h s, jump-only bits f z e below s.line g form)
+    let s : SpellsForm bits (J z) = jump-spelled bits f z e below low high g in
+    (λ h. subst (λ v. SpellsForm bits v) h s, jump-only bits f z e below s.line g form)

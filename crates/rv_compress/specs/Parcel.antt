@@ -1,15 +1,12 @@
 -- The 16-bit parcels of RV64C beside RV64IMA: RISC-V Unprivileged ISA 20191213, chapter 16.
 
-use Rattle.std.specs.Prelude.{◌≡◌, ◌≢◌, ℕ, ◌+◌, ◌-◌, ◌*◌, ◌/◌, ◌%◌, ◌^◌, ◌<◌, ◌≤◌, suc, ℤ, pos, negsuc, ◌≤ℤ◌, unsigned_abs, Option, Some, ◌↔◌, ◌⊎◌}
+use Rattle.std.specs.Prelude.{◌≡◌, ◌≢◌, ℕ, ◌+◌, ◌*◌, ◌/◌, ◌%◌, ◌^◌, ◌<◌, ◌≤◌, ℤ, pos, negsuc, ◌≤ℤ◌, unsigned_abs, Option, Some, ◌↔◌, ◌⊎◌}
 use Rattle.rv_isa.specs.declared.instruction.Inst.{Inst}
 use Rattle.rv_isa.specs.declared.instruction.Inst.TheVariants as isa
+use Rattle.rv_isa.specs.Ranges.{IsReg}
+use Rattle.rv_encode.specs.Word.{field}
 use Rattle.rv_compress.specs.declared.form.Compressed.{Compressed}
 use Rattle.rv_compress.specs.declared.form.Compressed.TheVariants.{Addi4spn, Lw, Ld, Sw, Sd, Nop, Addi, Addiw, Li, Addi16sp, Lui, Srli, Srai, Andi, Sub, Xor, Or, And, Subw, Addw, J, Beqz, Bnez, Slli, Lwsp, Ldsp, Jr, Mv, Ebreak, Jalr, Add, Swsp, Sdsp}
-
--- two's complement at `width` bits
-abbrev pub field : (width : ℕ) → ℤ → ℕ
-field width (pos n) = n
-field width (negsuc n) = 2 ^ width - suc n
 
 -- `count` bits of `number` from bit `low` on, set down at bit `place`
 abbrev pub bits_at : (number low count place : ℕ) → ℕ
@@ -18,6 +15,10 @@ bits_at number low count place = number / 2 ^ low % 2 ^ count * 2 ^ place
 -- the quadrant in bits 1:0 and funct3 in bits 15:13 (table 16.1)
 abbrev pub opcode : (quadrant funct3 : ℕ) → ℕ
 opcode quadrant funct3 = quadrant + funct3 * 2 ^ 13
+
+-- a parcel that has them
+abbrev pub HasOpcode : (p quadrant funct3 : ℕ) → Type 0
+HasOpcode p quadrant funct3 = (p < 2 ^ 16) × (p % 4 ≡ quadrant) × (p / 2 ^ 13 ≡ funct3)
 
 -- a register at bits 11:7 or 6:2, and one of x8 to x15 at bits 9:7 or 4:2
 abbrev pub at_7 : ℕ → ℕ
@@ -122,12 +123,9 @@ parcel (Sdsp rs2 u) = opcode 2 7 + double_store u + at_2 rs2
 abbrev pub IsShort : ℕ → Type 0
 IsShort register = (8 ≤ register) × (register < 16)
 
--- x0 to x31, and x1 to x31
-abbrev pub IsAny : ℕ → Type 0
-IsAny register = register < 32
-
+-- x1 to x31
 abbrev pub IsNonzero : ℕ → Type 0
-IsNonzero register = (0 < register) × (register < 32)
+IsNonzero register = (0 < register) × IsReg register
 
 -- below `limit`, and a multiple of `unit`
 abbrev pub IsMultiple : (unit limit number : ℕ) → Type 0
@@ -163,9 +161,9 @@ IsLine (Sd rs1 rs2 u) = IsShort rs1 × IsShort rs2 × IsMultiple 8 256 u
 IsLine (Nop i) = IsSixBits i
 IsLine (Addi rd i) = IsNonzero rd × IsSixBits i
 IsLine (Addiw rd i) = IsNonzero rd × IsSixBits i
-IsLine (Li rd i) = IsAny rd × IsSixBits i
+IsLine (Li rd i) = IsReg rd × IsSixBits i
 IsLine (Addi16sp i) = IsStackStep i
-IsLine (Lui rd u) = IsAny rd × (rd ≢ 2) × IsUpper u
+IsLine (Lui rd u) = IsReg rd × (rd ≢ 2) × IsUpper u
 IsLine (Srli rd u) = IsShort rd × (u < 64)
 IsLine (Srai rd u) = IsShort rd × (u < 64)
 IsLine (Andi rd i) = IsShort rd × IsSixBits i
@@ -178,16 +176,16 @@ IsLine (Addw rd rs2) = IsShort rd × IsShort rs2
 IsLine (J i) = IsJump i
 IsLine (Beqz rs1 i) = IsShort rs1 × IsBranch i
 IsLine (Bnez rs1 i) = IsShort rs1 × IsBranch i
-IsLine (Slli rd u) = IsAny rd × (u < 64)
+IsLine (Slli rd u) = IsReg rd × (u < 64)
 IsLine (Lwsp rd u) = IsNonzero rd × IsMultiple 4 256 u
 IsLine (Ldsp rd u) = IsNonzero rd × IsMultiple 8 512 u
 IsLine (Jr rs1) = IsNonzero rs1
-IsLine (Mv rd rs2) = IsAny rd × IsNonzero rs2
+IsLine (Mv rd rs2) = IsReg rd × IsNonzero rs2
 IsLine Ebreak = Unit {0}
 IsLine (Jalr rs1) = IsNonzero rs1
-IsLine (Add rd rs2) = IsAny rd × IsNonzero rs2
-IsLine (Swsp rs2 u) = IsAny rs2 × IsMultiple 4 256 u
-IsLine (Sdsp rs2 u) = IsAny rs2 × IsMultiple 8 512 u
+IsLine (Add rd rs2) = IsReg rd × IsNonzero rs2
+IsLine (Swsp rs2 u) = IsReg rs2 × IsMultiple 4 256 u
+IsLine (Sdsp rs2 u) = IsReg rs2 × IsMultiple 8 512 u
 
 -- the instruction that a form stands for (sections 16.3 to 16.5)
 abbrev pub expansion : Compressed → Inst
@@ -240,30 +238,30 @@ IsChosen (Addi16sp i) = IsSixBits i → ⊥
 IsChosen _ = Unit {0}
 
 -- a parcel spells a form with its operands
-pub record Spells (p : ℕ) (form : Compressed) : Type 0 where
+pub record SpellsForm (p : ℕ) (form : Compressed) : Type 0 where
   pub line : IsLine form
   pub sum : parcel form ≡ p
 
 -- a parcel stands for an instruction, by the form that it spells
 pub record StandsFor (p : ℕ) (i : Inst) : Type 0 where
   pub form : Compressed
-  pub spells : Spells p form
+  pub spells : SpellsForm p form
   pub same : expansion form ≡ i
 
 -- the parcel that is chosen to stand for an instruction
 pub record IsShortOf (i : Inst) (p : ℕ) : Type 0 where
   pub form : Compressed
-  pub spells : Spells p form
+  pub spells : SpellsForm p form
   pub chosen : IsChosen form
   pub same : expansion form ≡ i
 
 -- what is found is the form that the parcel spells: none exactly where it spells none
 abbrev pub IsRead : Option Compressed → ℕ → Type 0
-IsRead found p = (form : Compressed) → found ≡ Some form ↔ Spells p form
+IsRead found p = (form : Compressed) → found ≡ Some form ↔ SpellsForm p form
 
 -- the same where there is one
 abbrev pub IsForm : Compressed → ℕ → Type 0
-IsForm found p = (form : Compressed) → found ≡ form ↔ Spells p form
+IsForm found p = (form : Compressed) → found ≡ form ↔ SpellsForm p form
 
 -- what is found is the form chosen for an instruction: none exactly where there is none
 abbrev pub IsFormOf : Option Compressed → Inst → Type 0

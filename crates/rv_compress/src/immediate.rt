@@ -3,7 +3,8 @@
 //! Each function is named by the field of the manual's tables 16.5 to 16.7 that it gathers.
 
 ghost use Rattle.std.specs.Prelude.{◌≡◌, ◌<◌, ◌^◌, ◌+◌, ◌≤ℤ◌, pos, negsuc, nat_lt, if◌then◌else◌};
-ghost use Rattle.rv_compress.specs.Parcel.{bits_at, field};
+ghost use Rattle.rv_encode.specs.Word.{field};
+ghost use Rattle.rv_compress.specs.Parcel.{bits_at};
 
 /// uimm[5:3] at 12:10, uimm[2|6] at 6:5.
 pub fn word_offset(bits: u32) -> u32
@@ -37,22 +38,24 @@ pub fn stack_address(bits: u32) -> u32
 pub fn stack_step(bits: u32) -> u32
     ensures { result ≡ bits_at bits 6 1 4 + bits_at bits 2 1 5 + bits_at bits 5 1 6 + bits_at bits 3 2 7 + bits_at bits 12 1 9 }
 {
-    (bits >> 6 & 1) << 4 | (bits >> 2 & 1) << 5 | (bits >> 5 & 1) << 6 | (bits >> 3 & 3) << 7 | (bits >> 12 & 1) << 9
+    (bits >> 6 & 1) << 4
+        | (bits >> 2 & 1) << 5
+        | (bits >> 5 & 1) << 6
+        | (bits >> 3 & 3) << 7
+        | (bits >> 12 & 1) << 9
 }
 
 /// imm[11|4|9:8|10|6|7|3:1|5] of a jump, from the eleven bits that stand at 12:2.
 pub fn jump_offset(bits: u32) -> u32
-    ensures {
-        result
-            ≡ bits_at bits 1 3 1
-            + bits_at bits 9 1 4
-            + bits_at bits 0 1 5
-            + bits_at bits 5 1 6
-            + bits_at bits 4 1 7
-            + bits_at bits 7 2 8
-            + bits_at bits 6 1 10
-            + bits_at bits 10 1 11
-    }
+    ensures { result
+        ≡ bits_at bits 1 3 1
+        + bits_at bits 9 1 4
+        + bits_at bits 0 1 5
+        + bits_at bits 5 1 6
+        + bits_at bits 4 1 7
+        + bits_at bits 7 2 8
+        + bits_at bits 6 1 10
+        + bits_at bits 10 1 11 }
 {
     let low = (bits >> 1 & 7) << 1 | (bits >> 9 & 1) << 4 | (bits & 1) << 5 | (bits >> 5 & 1) << 6;
     let high = bits >> 4 & 1 | (bits >> 7 & 3) << 1 | (bits >> 6 & 1) << 3 | (bits >> 10 & 1) << 4;
@@ -63,7 +66,11 @@ pub fn jump_offset(bits: u32) -> u32
 pub fn branch_offset(bits: u32) -> u32
     ensures { result ≡ bits_at bits 3 2 1 + bits_at bits 10 2 3 + bits_at bits 2 1 5 + bits_at bits 5 2 6 + bits_at bits 12 1 8 }
 {
-    (bits >> 3 & 3) << 1 | (bits >> 10 & 3) << 3 | (bits >> 2 & 1) << 5 | (bits >> 5 & 3) << 6 | (bits >> 12 & 1) << 8
+    (bits >> 3 & 3) << 1
+        | (bits >> 10 & 3) << 3
+        | (bits >> 2 & 1) << 5
+        | (bits >> 5 & 3) << 6
+        | (bits >> 12 & 1) << 8
 }
 
 /// uimm[5] at 12, uimm[4:2|7:6] at 6:2.
@@ -101,7 +108,11 @@ pub fn signed_6(value: u32) -> i32
     ensures high { result ≤ℤ pos 31 }
     ensures same { field 6 result ≡ value }
 {
-    if value < 0x20 { value as i32 } else { value as i32 - 0x40 }
+    if value < 0x20 {
+        value as i32
+    } else {
+        value as i32 - 0x40
+    }
 }
 
 /// Nine bits as a number with sign.
@@ -111,7 +122,11 @@ pub fn signed_9(value: u32) -> i32
     ensures high { result ≤ℤ pos 255 }
     ensures same { field 9 result ≡ value }
 {
-    if value < 0x100 { value as i32 } else { value as i32 - 0x200 }
+    if value < 0x100 {
+        value as i32
+    } else {
+        value as i32 - 0x200
+    }
 }
 
 /// Ten bits as a number with sign.
@@ -121,7 +136,11 @@ pub fn signed_10(value: u32) -> i32
     ensures high { result ≤ℤ pos 511 }
     ensures same { field 10 result ≡ value }
 {
-    if value < 0x200 { value as i32 } else { value as i32 - 0x400 }
+    if value < 0x200 {
+        value as i32
+    } else {
+        value as i32 - 0x400
+    }
 }
 
 /// Twelve bits as a number with sign.
@@ -131,7 +150,11 @@ pub fn signed_12(value: u32) -> i32
     ensures high { result ≤ℤ pos 2047 }
     ensures same { field 12 result ≡ value }
 {
-    if value < 0x800 { value as i32 } else { value as i32 - 0x1000 }
+    if value < 0x800 {
+        value as i32
+    } else {
+        value as i32 - 0x1000
+    }
 }
 
 /// The low 20 bits of a number with sign of six bits.

@@ -1,12 +1,12 @@
 //! From a parcel to the form that it spells, by quadrant and funct3.
 
 ghost use Rattle.std.specs.Prelude.{◌≡◌, ◌≢◌, ◌*◌, ◌<◌, ◌/◌, ◌%◌, ◌^◌, ◌+◌};
-ghost use Rattle.rv_compress.specs.Parcel.{IsForm, IsRead, bits_at};
+ghost use Rattle.rv_compress.specs.Parcel.{HasOpcode, IsForm, IsRead, bits_at};
 
 use crate::form::Compressed;
 use crate::immediate::{
-    branch_offset, double_load, double_offset, double_store, jump_offset, signed_10, signed_12,
-    signed_6, signed_9, six, stack_address, stack_step, upper_20, word_load, word_offset,
+    branch_offset, double_load, double_offset, double_store, jump_offset, signed_6, signed_9,
+    signed_10, signed_12, six, stack_address, stack_step, upper_20, word_load, word_offset,
     word_store,
 };
 use rv_isa::Reg;
@@ -40,49 +40,47 @@ fn any_7(bits: u32) -> Reg
 }
 
 fn addi4spn(bits: u32) -> Option<Compressed>
-    requires size { bits < 2 ^ 16 }
-    requires quadrant { bits % 4 ≡ 0 }
-    requires funct3 { bits / 2 ^ 13 ≡ 0 }
+    requires { HasOpcode bits 0 0 }
     ensures { IsRead result bits }
 {
-    let immediate = stack_address(bits);
-    if immediate == 0 { None } else { Some(Compressed::Addi4spn { rd: short_2(bits), immediate }) }
+    let (rd, immediate) = (short_2(bits), stack_address(bits));
+    if immediate == 0 {
+        None
+    } else {
+        Some(Compressed::Addi4spn { rd, immediate })
+    }
 }
 
 fn lw(bits: u32) -> Compressed
-    requires size { bits < 2 ^ 16 }
-    requires quadrant { bits % 4 ≡ 0 }
-    requires funct3 { bits / 2 ^ 13 ≡ 2 }
+    requires { HasOpcode bits 0 2 }
     ensures { IsForm result bits }
 {
-    Compressed::Lw { rd: short_2(bits), rs1: short_7(bits), offset: word_offset(bits) }
+    let (rd, rs1, offset) = (short_2(bits), short_7(bits), word_offset(bits));
+    Compressed::Lw { rd, rs1, offset }
 }
 
 fn ld(bits: u32) -> Compressed
-    requires size { bits < 2 ^ 16 }
-    requires quadrant { bits % 4 ≡ 0 }
-    requires funct3 { bits / 2 ^ 13 ≡ 3 }
+    requires { HasOpcode bits 0 3 }
     ensures { IsForm result bits }
 {
-    Compressed::Ld { rd: short_2(bits), rs1: short_7(bits), offset: double_offset(bits) }
+    let (rd, rs1, offset) = (short_2(bits), short_7(bits), double_offset(bits));
+    Compressed::Ld { rd, rs1, offset }
 }
 
 fn sw(bits: u32) -> Compressed
-    requires size { bits < 2 ^ 16 }
-    requires quadrant { bits % 4 ≡ 0 }
-    requires funct3 { bits / 2 ^ 13 ≡ 6 }
+    requires { HasOpcode bits 0 6 }
     ensures { IsForm result bits }
 {
-    Compressed::Sw { rs1: short_7(bits), rs2: short_2(bits), offset: word_offset(bits) }
+    let (rs1, rs2, offset) = (short_7(bits), short_2(bits), word_offset(bits));
+    Compressed::Sw { rs1, rs2, offset }
 }
 
 fn sd(bits: u32) -> Compressed
-    requires size { bits < 2 ^ 16 }
-    requires quadrant { bits % 4 ≡ 0 }
-    requires funct3 { bits / 2 ^ 13 ≡ 7 }
+    requires { HasOpcode bits 0 7 }
     ensures { IsForm result bits }
 {
-    Compressed::Sd { rs1: short_7(bits), rs2: short_2(bits), offset: double_offset(bits) }
+    let (rs1, rs2, offset) = (short_7(bits), short_2(bits), double_offset(bits));
+    Compressed::Sd { rs1, rs2, offset }
 }
 
 fn quadrant_0(bits: u32) -> Option<Compressed>
@@ -101,106 +99,83 @@ fn quadrant_0(bits: u32) -> Option<Compressed>
 }
 
 fn addi(bits: u32) -> Compressed
-    requires size { bits < 2 ^ 16 }
-    requires quadrant { bits % 4 ≡ 1 }
-    requires funct3 { bits / 2 ^ 13 ≡ 0 }
+    requires { HasOpcode bits 1 0 }
     ensures { IsForm result bits }
 {
-    let immediate = signed_6(six(bits));
-    if bits >> 7 & 0x1f == 0 { Compressed::Nop { immediate } } else { Compressed::Addi { rd: any_7(bits), immediate } }
+    let (rd, immediate) = (any_7(bits), signed_6(six(bits)));
+    if rd.number() == 0 {
+        Compressed::Nop { immediate }
+    } else {
+        Compressed::Addi { rd, immediate }
+    }
 }
 
 fn addiw(bits: u32) -> Option<Compressed>
-    requires size { bits < 2 ^ 16 }
-    requires quadrant { bits % 4 ≡ 1 }
-    requires funct3 { bits / 2 ^ 13 ≡ 1 }
+    requires { HasOpcode bits 1 1 }
     ensures { IsRead result bits }
 {
-    if bits >> 7 & 0x1f == 0 { None } else { Some(Compressed::Addiw { rd: any_7(bits), immediate: signed_6(six(bits)) }) }
+    let (rd, immediate) = (any_7(bits), signed_6(six(bits)));
+    if rd.number() == 0 {
+        None
+    } else {
+        Some(Compressed::Addiw { rd, immediate })
+    }
 }
 
 fn li(bits: u32) -> Compressed
-    requires size { bits < 2 ^ 16 }
-    requires quadrant { bits % 4 ≡ 1 }
-    requires funct3 { bits / 2 ^ 13 ≡ 2 }
+    requires { HasOpcode bits 1 2 }
     ensures { IsForm result bits }
 {
-    Compressed::Li { rd: any_7(bits), immediate: signed_6(six(bits)) }
+    let (rd, immediate) = (any_7(bits), signed_6(six(bits)));
+    Compressed::Li { rd, immediate }
 }
 
 fn addi16sp(bits: u32) -> Option<Compressed>
-    requires size { bits < 2 ^ 16 }
-    requires quadrant { bits % 4 ≡ 1 }
-    requires funct3 { bits / 2 ^ 13 ≡ 3 }
+    requires opcode { HasOpcode bits 1 3 }
     requires rd { bits / 2 ^ 7 % 32 ≡ 2 }
     ensures { IsRead result bits }
 {
     let immediate = signed_10(stack_step(bits));
-    if immediate == 0 { None } else { Some(Compressed::Addi16sp { immediate }) }
+    if immediate == 0 {
+        None
+    } else {
+        Some(Compressed::Addi16sp { immediate })
+    }
 }
 
 fn lui(bits: u32) -> Option<Compressed>
-    requires size { bits < 2 ^ 16 }
-    requires quadrant { bits % 4 ≡ 1 }
-    requires funct3 { bits / 2 ^ 13 ≡ 3 }
+    requires opcode { HasOpcode bits 1 3 }
     requires rd { bits / 2 ^ 7 % 32 ≢ 2 }
     ensures { IsRead result bits }
 {
-    let value = six(bits);
-    if value == 0 { None } else { Some(Compressed::Lui { rd: any_7(bits), immediate: upper_20(value) }) }
+    let (rd, value) = (any_7(bits), six(bits));
+    if value == 0 {
+        return None;
+    }
+    let immediate = upper_20(value);
+    Some(Compressed::Lui { rd, immediate })
 }
 
 /// `c.addi16sp` and `c.lui`.
 fn upper(bits: u32) -> Option<Compressed>
-    requires size { bits < 2 ^ 16 }
-    requires quadrant { bits % 4 ≡ 1 }
-    requires funct3 { bits / 2 ^ 13 ≡ 3 }
+    requires { HasOpcode bits 1 3 }
     ensures { IsRead result bits }
 {
-    if bits >> 7 & 0x1f == 2 { addi16sp(bits) } else { lui(bits) }
-}
-
-fn srli(bits: u32) -> Compressed
-    requires size { bits < 2 ^ 16 }
-    requires quadrant { bits % 4 ≡ 1 }
-    requires funct3 { bits / 2 ^ 13 ≡ 4 }
-    requires funct2 { bits / 2 ^ 10 % 4 ≡ 0 }
-    ensures { IsForm result bits }
-{
-    Compressed::Srli { rd: short_7(bits), amount: six(bits) as u8 }
-}
-
-fn srai(bits: u32) -> Compressed
-    requires size { bits < 2 ^ 16 }
-    requires quadrant { bits % 4 ≡ 1 }
-    requires funct3 { bits / 2 ^ 13 ≡ 4 }
-    requires funct2 { bits / 2 ^ 10 % 4 ≡ 1 }
-    ensures { IsForm result bits }
-{
-    Compressed::Srai { rd: short_7(bits), amount: six(bits) as u8 }
-}
-
-fn andi(bits: u32) -> Compressed
-    requires size { bits < 2 ^ 16 }
-    requires quadrant { bits % 4 ≡ 1 }
-    requires funct3 { bits / 2 ^ 13 ≡ 4 }
-    requires funct2 { bits / 2 ^ 10 % 4 ≡ 2 }
-    ensures { IsForm result bits }
-{
-    Compressed::Andi { rd: short_7(bits), immediate: signed_6(six(bits)) }
+    if bits >> 7 & 0x1f == 2 {
+        addi16sp(bits)
+    } else {
+        lui(bits)
+    }
 }
 
 /// Arithmetic over 64 bits.
 fn full_arithmetic(bits: u32) -> Compressed
-    requires size { bits < 2 ^ 16 }
-    requires quadrant { bits % 4 ≡ 1 }
-    requires funct3 { bits / 2 ^ 13 ≡ 4 }
+    requires opcode { HasOpcode bits 1 4 }
     requires funct2 { bits / 2 ^ 10 % 4 ≡ 3 }
     requires bit_12 { bits / 2 ^ 12 % 2 ≡ 0 }
     ensures { IsForm result bits }
 {
-    let rd = short_7(bits);
-    let rs2 = short_2(bits);
+    let (rd, rs2) = (short_7(bits), short_2(bits));
     match bits >> 5 & 3 {
         0 => Compressed::Sub { rd, rs2 },
         1 => Compressed::Xor { rd, rs2 },
@@ -211,15 +186,12 @@ fn full_arithmetic(bits: u32) -> Compressed
 
 /// Arithmetic over 32 bits.
 fn word_arithmetic(bits: u32) -> Option<Compressed>
-    requires size { bits < 2 ^ 16 }
-    requires quadrant { bits % 4 ≡ 1 }
-    requires funct3 { bits / 2 ^ 13 ≡ 4 }
+    requires opcode { HasOpcode bits 1 4 }
     requires funct2 { bits / 2 ^ 10 % 4 ≡ 3 }
     requires bit_12 { bits / 2 ^ 12 % 2 ≡ 1 }
     ensures { IsRead result bits }
 {
-    let rd = short_7(bits);
-    let rs2 = short_2(bits);
+    let (rd, rs2) = (short_7(bits), short_2(bits));
     match bits >> 5 & 3 {
         0 => Some(Compressed::Subw { rd, rs2 }),
         1 => Some(Compressed::Addw { rd, rs2 }),
@@ -228,35 +200,43 @@ fn word_arithmetic(bits: u32) -> Option<Compressed>
 }
 
 fn arithmetic(bits: u32) -> Option<Compressed>
-    requires size { bits < 2 ^ 16 }
-    requires quadrant { bits % 4 ≡ 1 }
-    requires funct3 { bits / 2 ^ 13 ≡ 4 }
+    requires opcode { HasOpcode bits 1 4 }
     requires funct2 { bits / 2 ^ 10 % 4 ≡ 3 }
     ensures { IsRead result bits }
 {
-    if bits >> 12 & 1 == 0 { Some(full_arithmetic(bits)) } else { word_arithmetic(bits) }
+    if bits >> 12 & 1 == 0 {
+        Some(full_arithmetic(bits))
+    } else {
+        word_arithmetic(bits)
+    }
 }
 
 /// Shifts, `c.andi` and arithmetic of x8 to x15.
 fn short_arithmetic(bits: u32) -> Option<Compressed>
-    requires size { bits < 2 ^ 16 }
-    requires quadrant { bits % 4 ≡ 1 }
-    requires funct3 { bits / 2 ^ 13 ≡ 4 }
+    requires { HasOpcode bits 1 4 }
     ensures { IsRead result bits }
 {
+    let (rd, value) = (short_7(bits), six(bits));
     match bits >> 10 & 3 {
-        0 => Some(srli(bits)),
-        1 => Some(srai(bits)),
-        2 => Some(andi(bits)),
+        0 => Some(Compressed::Srli {
+            rd,
+            amount: value as u8,
+        }),
+        1 => Some(Compressed::Srai {
+            rd,
+            amount: value as u8,
+        }),
+        2 => Some(Compressed::Andi {
+            rd,
+            immediate: signed_6(value),
+        }),
         _ => arithmetic(bits),
     }
 }
 
 /// The eleven bits of a jump's offset, at 12:2.
 fn jump_bits(bits: u32) -> u32
-    requires size { bits < 2 ^ 16 }
-    requires quadrant { bits % 4 ≡ 1 }
-    requires funct3 { bits / 2 ^ 13 ≡ 5 }
+    requires { HasOpcode bits 1 5 }
     ensures below { result < 2 ^ 11 }
     ensures rest { bits ≡ 0xa001 + result * 4 }
 {
@@ -264,30 +244,28 @@ fn jump_bits(bits: u32) -> u32
 }
 
 fn j(bits: u32) -> Compressed
-    requires size { bits < 2 ^ 16 }
-    requires quadrant { bits % 4 ≡ 1 }
-    requires funct3 { bits / 2 ^ 13 ≡ 5 }
+    requires { HasOpcode bits 1 5 }
     ensures { IsForm result bits }
 {
-    Compressed::J { offset: signed_12(jump_offset(jump_bits(bits))) }
+    Compressed::J {
+        offset: signed_12(jump_offset(jump_bits(bits))),
+    }
 }
 
 fn beqz(bits: u32) -> Compressed
-    requires size { bits < 2 ^ 16 }
-    requires quadrant { bits % 4 ≡ 1 }
-    requires funct3 { bits / 2 ^ 13 ≡ 6 }
+    requires { HasOpcode bits 1 6 }
     ensures { IsForm result bits }
 {
-    Compressed::Beqz { rs1: short_7(bits), offset: signed_9(branch_offset(bits)) }
+    let (rs1, offset) = (short_7(bits), signed_9(branch_offset(bits)));
+    Compressed::Beqz { rs1, offset }
 }
 
 fn bnez(bits: u32) -> Compressed
-    requires size { bits < 2 ^ 16 }
-    requires quadrant { bits % 4 ≡ 1 }
-    requires funct3 { bits / 2 ^ 13 ≡ 7 }
+    requires { HasOpcode bits 1 7 }
     ensures { IsForm result bits }
 {
-    Compressed::Bnez { rs1: short_7(bits), offset: signed_9(branch_offset(bits)) }
+    let (rs1, offset) = (short_7(bits), signed_9(branch_offset(bits)));
+    Compressed::Bnez { rs1, offset }
 }
 
 fn quadrant_1(bits: u32) -> Option<Compressed>
@@ -308,92 +286,91 @@ fn quadrant_1(bits: u32) -> Option<Compressed>
 }
 
 fn slli(bits: u32) -> Compressed
-    requires size { bits < 2 ^ 16 }
-    requires quadrant { bits % 4 ≡ 2 }
-    requires funct3 { bits / 2 ^ 13 ≡ 0 }
+    requires { HasOpcode bits 2 0 }
     ensures { IsForm result bits }
 {
-    Compressed::Slli { rd: any_7(bits), amount: six(bits) as u8 }
+    let (rd, amount) = (any_7(bits), six(bits) as u8);
+    Compressed::Slli { rd, amount }
 }
 
 fn lwsp(bits: u32) -> Option<Compressed>
-    requires size { bits < 2 ^ 16 }
-    requires quadrant { bits % 4 ≡ 2 }
-    requires funct3 { bits / 2 ^ 13 ≡ 2 }
+    requires { HasOpcode bits 2 2 }
     ensures { IsRead result bits }
 {
-    if bits >> 7 & 0x1f == 0 { None } else { Some(Compressed::Lwsp { rd: any_7(bits), offset: word_load(bits) }) }
+    let (rd, offset) = (any_7(bits), word_load(bits));
+    if rd.number() == 0 {
+        None
+    } else {
+        Some(Compressed::Lwsp { rd, offset })
+    }
 }
 
 fn ldsp(bits: u32) -> Option<Compressed>
-    requires size { bits < 2 ^ 16 }
-    requires quadrant { bits % 4 ≡ 2 }
-    requires funct3 { bits / 2 ^ 13 ≡ 3 }
+    requires { HasOpcode bits 2 3 }
     ensures { IsRead result bits }
 {
-    if bits >> 7 & 0x1f == 0 { None } else { Some(Compressed::Ldsp { rd: any_7(bits), offset: double_load(bits) }) }
+    let (rd, offset) = (any_7(bits), double_load(bits));
+    if rd.number() == 0 {
+        None
+    } else {
+        Some(Compressed::Ldsp { rd, offset })
+    }
 }
 
 /// `c.mv` and `c.jr`.
 fn move_or_jump(bits: u32) -> Option<Compressed>
-    requires size { bits < 2 ^ 16 }
-    requires quadrant { bits % 4 ≡ 2 }
-    requires funct3 { bits / 2 ^ 13 ≡ 4 }
+    requires opcode { HasOpcode bits 2 4 }
     requires bit_12 { bits / 2 ^ 12 % 2 ≡ 0 }
     ensures { IsRead result bits }
 {
-    if bits >> 2 & 0x1f != 0 {
-        Some(Compressed::Mv { rd: any_7(bits), rs2: any_2(bits) })
-    } else if bits >> 7 & 0x1f != 0 {
-        Some(Compressed::Jr { rs1: any_7(bits) })
-    } else {
-        None
+    let (rd, rs2) = (any_7(bits), any_2(bits));
+    match (rd.number(), rs2.number()) {
+        (0, 0) => None,
+        (_, 0) => Some(Compressed::Jr { rs1: rd }),
+        _ => Some(Compressed::Mv { rd, rs2 }),
     }
 }
 
 /// `c.add`, `c.jalr` and `c.ebreak`.
 fn add_or_call(bits: u32) -> Compressed
-    requires size { bits < 2 ^ 16 }
-    requires quadrant { bits % 4 ≡ 2 }
-    requires funct3 { bits / 2 ^ 13 ≡ 4 }
+    requires opcode { HasOpcode bits 2 4 }
     requires bit_12 { bits / 2 ^ 12 % 2 ≡ 1 }
     ensures { IsForm result bits }
 {
-    if bits >> 2 & 0x1f != 0 {
-        Compressed::Add { rd: any_7(bits), rs2: any_2(bits) }
-    } else if bits >> 7 & 0x1f != 0 {
-        Compressed::Jalr { rs1: any_7(bits) }
-    } else {
-        Compressed::Ebreak
+    let (rd, rs2) = (any_7(bits), any_2(bits));
+    match (rd.number(), rs2.number()) {
+        (0, 0) => Compressed::Ebreak,
+        (_, 0) => Compressed::Jalr { rs1: rd },
+        _ => Compressed::Add { rd, rs2 },
     }
 }
 
 /// The forms with two registers of five bits.
 fn registers(bits: u32) -> Option<Compressed>
-    requires size { bits < 2 ^ 16 }
-    requires quadrant { bits % 4 ≡ 2 }
-    requires funct3 { bits / 2 ^ 13 ≡ 4 }
+    requires { HasOpcode bits 2 4 }
     ensures { IsRead result bits }
 {
-    if bits >> 12 & 1 == 0 { move_or_jump(bits) } else { Some(add_or_call(bits)) }
+    if bits >> 12 & 1 == 0 {
+        move_or_jump(bits)
+    } else {
+        Some(add_or_call(bits))
+    }
 }
 
 fn swsp(bits: u32) -> Compressed
-    requires size { bits < 2 ^ 16 }
-    requires quadrant { bits % 4 ≡ 2 }
-    requires funct3 { bits / 2 ^ 13 ≡ 6 }
+    requires { HasOpcode bits 2 6 }
     ensures { IsForm result bits }
 {
-    Compressed::Swsp { rs2: any_2(bits), offset: word_store(bits) }
+    let (rs2, offset) = (any_2(bits), word_store(bits));
+    Compressed::Swsp { rs2, offset }
 }
 
 fn sdsp(bits: u32) -> Compressed
-    requires size { bits < 2 ^ 16 }
-    requires quadrant { bits % 4 ≡ 2 }
-    requires funct3 { bits / 2 ^ 13 ≡ 7 }
+    requires { HasOpcode bits 2 7 }
     ensures { IsForm result bits }
 {
-    Compressed::Sdsp { rs2: any_2(bits), offset: double_store(bits) }
+    let (rs2, offset) = (any_2(bits), double_store(bits));
+    Compressed::Sdsp { rs2, offset }
 }
 
 fn quadrant_2(bits: u32) -> Option<Compressed>
@@ -415,6 +392,7 @@ fn quadrant_2(bits: u32) -> Option<Compressed>
 /// The form that a parcel spells, with its operands; HINTs are forms, reserved parcels and 0 none.
 ///
 /// Unprivileged ISA 20191213, section 16.8.
+#[inline(always)]
 pub fn read(parcel: u16) -> Option<Compressed>
     ensures { IsRead result parcel }
 {

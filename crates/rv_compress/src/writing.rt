@@ -1,9 +1,28 @@
 //! From a form to the parcel that spells it.
 
 ghost use Rattle.std.specs.Prelude.{◌≡◌, ◌<◌, ◌≤◌, ◌/◌, ◌%◌, ◌^◌, ◌*◌, ◌+◌, ◌≤ℤ◌, pos, negsuc};
+ghost use Rattle.rv_encode.specs.Word.{field};
 ghost use Rattle.rv_compress.specs.Parcel.{
-    IsBranch, IsJump, IsLine, IsSixBits, IsStackStep, arithmetic, bits_at, branch_offset, double_load, double_offset,
-    double_store, field, jump_offset, opcode, parcel, six, stack_address, stack_step, word_load, word_offset, word_store
+  IsBranch,
+  IsJump,
+  IsLine,
+  IsSixBits,
+  IsStackStep,
+  arithmetic,
+  bits_at,
+  branch_offset,
+  double_load,
+  double_offset,
+  double_store,
+  jump_offset,
+  opcode,
+  parcel,
+  six,
+  stack_address,
+  stack_step,
+  word_load,
+  word_offset,
+  word_store,
 };
 
 use crate::form::Compressed;
@@ -126,7 +145,14 @@ fn double_format(rs1: Reg, other: Reg, offset: u32, funct3: u32) -> u16
     requires { funct3 < 2 ^ 3 }
     ensures { result ≡ opcode 0 funct3 + double_offset offset + rs1 % 8 * 2 ^ 7 + other % 8 * 2 ^ 2 }
 {
-    short_format(0, three(other), offset >> 6 & 3, three(rs1), offset >> 3 & 7, funct3)
+    short_format(
+        0,
+        three(other),
+        offset >> 6 & 3,
+        three(rs1),
+        offset >> 3 & 7,
+        funct3,
+    )
 }
 
 /// `c.addi16sp`.
@@ -134,7 +160,10 @@ fn stack_step_format(value: u32) -> u16
     requires { value < 2 ^ 10 }
     ensures { result ≡ opcode 1 3 + stack_step value + 2 * 2 ^ 7 }
 {
-    let low = value >> 5 & 1 | (value >> 7 & 3) << 1 | (value >> 6 & 1) << 3 | (value >> 4 & 1) << 4;
+    let low = value >> 5 & 1
+        | (value >> 7 & 3) << 1
+        | (value >> 6 & 1) << 3
+        | (value >> 4 & 1) << 4;
     wide_format(1, low, 2, value >> 9 & 1, 3)
 }
 
@@ -179,14 +208,26 @@ fn short_six_format(funct2: u32, rd: Reg, value: u32) -> u16
 fn word_load_format(rd: Reg, offset: u32) -> u16
     ensures { result ≡ opcode 2 2 + word_load offset + rd * 2 ^ 7 }
 {
-    wide_format(2, offset >> 6 & 3 | (offset >> 2 & 7) << 2, five(rd), offset >> 5 & 1, 2)
+    wide_format(
+        2,
+        offset >> 6 & 3 | (offset >> 2 & 7) << 2,
+        five(rd),
+        offset >> 5 & 1,
+        2,
+    )
 }
 
 /// `c.ldsp`.
 fn double_load_format(rd: Reg, offset: u32) -> u16
     ensures { result ≡ opcode 2 3 + double_load offset + rd * 2 ^ 7 }
 {
-    wide_format(2, offset >> 6 & 7 | (offset >> 3 & 3) << 3, five(rd), offset >> 5 & 1, 3)
+    wide_format(
+        2,
+        offset >> 6 & 7 | (offset >> 3 & 3) << 3,
+        five(rd),
+        offset >> 5 & 1,
+        3,
+    )
 }
 
 /// `c.swsp`.

@@ -1,11 +1,11 @@
 -- The header of a file and its program headers (System V gABI, "ELF Header" and "Program Header").
 
-use Rattle.std.specs.Prelude.{ℕ, zero, suc, ◌+◌, ◌==◌, Bool, List, [], ◌∷◌, drop}
+use Rattle.std.specs.Prelude.{ℕ, zero, suc, ◌+◌, ◌*◌, ◌<◌, ◌≤◌, ◌==◌, Bool, List, [], ◌∷◌, length, drop}
 use Rattle.byteorder.specs.Endian.{little_number}
 use Rattle.rv_image.specs.declared.program.Program.{Program}
 
 -- the number that the width bytes at a place make, the lowest first
-abbrev pub field : ℕ → ℕ → List ℕ → ℕ
+unfoldable pub field : ℕ → ℕ → List ℕ → ℕ
 field width place file = little_number width (drop place file)
 
 -- e_type
@@ -55,8 +55,13 @@ names_section file = field 2 62 file
 -- the program header at a place: p_type, p_flags, p_offset, p_vaddr, p_filesz, p_memsz
 abbrev pub program_at : ℕ → List ℕ → Program
 program_at place file = record {
-    kind = field 4 place file; flags = field 4 (place + 4) file; offset = field 8 (place + 8) file;
-    address = field 8 (place + 16) file; file_size = field 8 (place + 32) file; memory_size = field 8 (place + 40) file }
+  kind = field 4 place file;
+  flags = field 4 (place + 4) file;
+  offset = field 8 (place + 8) file;
+  address = field 8 (place + 16) file;
+  file_size = field 8 (place + 32) file;
+  memory_size = field 8 (place + 40) file;
+}
 
 -- so many program headers from a place on
 abbrev pub programs_from : ℕ → ℕ → List ℕ → List Program
@@ -70,3 +75,7 @@ programs file = programs_from (program_count file) (program_table file) file
 -- PT_LOAD
 abbrev pub is_load : Program → Bool
 is_load p = p.kind == 1
+
+-- the program headers lie in the file
+abbrev pub HasPrograms : List ℕ → Type 0
+HasPrograms file = 0 < program_count file → program_table file + 56 * program_count file ≤ length file

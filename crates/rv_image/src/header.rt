@@ -1,13 +1,13 @@
 //! The fields of a file.
 
-ghost use Rattle.std.specs.Prelude.{◌≡◌, ◌+◌, ◌≤◌, length};
+ghost use Rattle.std.specs.Prelude.{◌≡◌, ◌+◌, ◌<◌, ◌≤◌, length};
 ghost use Rattle.rv_image.specs.Header.{field, program_at};
 
+use crate::program::Program;
 use byteorder::{ByteOrder, LittleEndian};
 
-use crate::program::Program;
-
 /// The two bytes at a place, the lowest first.
+#[tactic(auto, unfolding(crate::specs::Header::field))]
 pub(crate) fn half(file: &[u8], place: usize) -> u16
     requires { place + 2 ≤ length file.now }
     ensures { result ≡ field 2 place file.now }
@@ -16,6 +16,7 @@ pub(crate) fn half(file: &[u8], place: usize) -> u16
 }
 
 /// The four bytes at a place, the lowest first.
+#[tactic(auto, unfolding(crate::specs::Header::field))]
 pub(crate) fn word(file: &[u8], place: usize) -> u32
     requires { place + 4 ≤ length file.now }
     ensures { result ≡ field 4 place file.now }
@@ -24,6 +25,7 @@ pub(crate) fn word(file: &[u8], place: usize) -> u32
 }
 
 /// The eight bytes at a place, the lowest first.
+#[tactic(auto, unfolding(crate::specs::Header::field))]
 pub(crate) fn double(file: &[u8], place: usize) -> u64
     requires { place + 8 ≤ length file.now }
     ensures { result ≡ field 8 place file.now }
@@ -44,4 +46,13 @@ pub(crate) fn program(file: &[u8], place: usize) -> Program
         file_size: double(file, place + 32),
         memory_size: double(file, place + 40),
     }
+}
+
+/// The byte at a place.
+#[tactic(auto, unfolding(crate::specs::Header::field))]
+pub(crate) fn byte(file: &[u8], place: usize) -> u8
+    requires { place < length file.now }
+    ensures { result ≡ field 1 place file.now }
+{
+    file[place]
 }

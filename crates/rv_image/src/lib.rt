@@ -3,15 +3,21 @@
 //! Source: System V gABI, "ELF Header" and "Program Header"; RISC-V ELF psABI.
 #![tactic(auto)]
 
+mod checks;
 mod fault;
 mod header;
 mod image;
 mod linked;
+mod loading;
 mod program;
 mod segment;
+mod segments;
+mod writing;
 
 pub use fault::FileFault;
 pub use image::Image;
 pub use linked::Linked;
+pub use loading::load;
 pub use rv_map::{Global, Map, Region, Row};
 pub use segment::Segment;
+pub use writing::write_exec;

@@ -1,7 +1,5 @@
 //! Program headers.
 
-
-
 /// A program header: what of a file stands where in memory.
 #[derive(Clone, Copy, Drop)]
 pub(crate) struct Program {

@@ -1,3 +1,4 @@
 pub mod Name
 pub mod Map
 pub mod Text
+pub mod Lookup

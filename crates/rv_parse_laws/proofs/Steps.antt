@@ -1,6 +1,6 @@
 -- What an answer of a reading at the front of tokens says of its steps.
 
-use Rattle.std.proofs.Common.{◌≡◌, ℕ, Bool, true, false, cond, List, [], ◌∷◌, ◌++◌, Option, Some, None, Result, Ok, Err, refl, sym, ◌∙◌, ap}
+use Rattle.std.proofs.Common.{◌≡◌, ℕ, Bool, true, false, cond, List, [], ◌∷◌, ◌++◌, Option, Some, None, Result, Ok, Err, refl, sym, ◌∙◌, ap, ◌⊎◌, inl, inr}
 use Rattle.rv_text_laws.specs.Lexing.{Token}
 use Rattle.rv_parse_laws.specs.Parsing.{Wrong, wrong, Read, ◌>>=◌, seen_as, taken}
 
@@ -28,3 +28,19 @@ pub pair_parts : {X Y : Type 0} (a x : X) (b y : Y) (r : Result (X × Y) Wrong) 
 pair_parts a x b y r d e =
     let p : (a, b) ≡ (x, y) = cc in
     (ap (λ (q : _ × _). q.0) p, ap (λ (q : _ × _). q.1) p)
+
+pub bind_err : {A B : Type 0} (r : Result A Wrong) (f : A → Result B Wrong) (w : Wrong) → (r >>= f) ≡ Err w → (r ≡ Err w) ⊎ ((x : A) × (r ≡ Ok x) × (f x ≡ Err w))
+bind_err (Ok x) f w e = inr (x, refl, e)
+bind_err (Err v) f w e = let same : v ≡ w = cc in inl (ap (λ (x : Wrong). Err x) same)
+
+pub seen_err : {X Y : Type 0} (view : X → Y) (r : Read X) (w : Wrong) → seen_as view r ≡ Err w → r ≡ Err w
+seen_err view (Ok x) w e = absurd (cc)
+seen_err view (Err v) w e = let same : v ≡ w = cc in ap (λ (x : Wrong). Err x) same
+
+pub taken_err : {X : Type 0} (t : Token) (ts : List Token) (o : Option X) (code : ℕ) (w : Wrong) → taken t ts o code ≡ Err w → (o ≡ None) × (w ≡ wrong t code)
+taken_err t ts (Some y) code w e = absurd (cc)
+taken_err t ts None code w e = let same : wrong t code ≡ w = cc in (refl, sym same)
+
+pub tested_err : {X : Type 0} (b : Bool) (x : X) (v w : Wrong) → cond b (Ok x) (Err v) ≡ Err w → (b ≡ false) × (w ≡ v)
+tested_err true x v w e = absurd (cc)
+tested_err false x v w e = let same : v ≡ w = cc in (refl, sym same)

@@ -90,11 +90,15 @@ abbrev pub with_name : Token → Option (List ℕ) → Read (List (List ℕ)) �
 with_name t (Some name) r = with_first name r
 with_name t None r = Err (wrong t (wrong_symbol t.kind))
 
+-- no further names, where the statement ends
+abbrev pub no_names_at : List Token → Read (List (List ℕ))
+no_names_at ts = end_at A_register ts >>= λ r. Ok ([], r)
+
 -- the names after commas, up to the statement's end
 abbrev pub further_names_at : List Token → Read (List (List ℕ))
 further_names_at [] = Err nowhere
-further_names_at (t ∷ []) = if is_comma t.kind then Err nowhere else (end_at A_register (t ∷ []) >>= λ r. Ok ([], r))
-further_names_at (t ∷ u ∷ ts) = if is_comma t.kind then with_name u (symbol_of u.kind) (further_names_at ts) else (end_at A_register (t ∷ u ∷ ts) >>= λ r. Ok ([], r))
+further_names_at (t ∷ []) = if is_comma t.kind then Err nowhere else no_names_at (t ∷ [])
+further_names_at (t ∷ u ∷ ts) = if is_comma t.kind then with_name u (symbol_of u.kind) (further_names_at ts) else no_names_at (t ∷ u ∷ ts)
 
 unfoldable pub names_at : List Token → Read (List (List ℕ))
 names_at ts = symbol_at ts >>= λ n. with_first n.0 (further_names_at n.1)

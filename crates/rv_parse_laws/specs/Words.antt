@@ -1,7 +1,7 @@
 -- The words that may begin a statement (RISC-V Unprivileged ISA 20191213, chapters 2, 5, 7 and 8; RISC-V Assembly
 -- Programmer's Manual; GNU as).
 
-use Rattle.std.specs.Prelude.{ℕ, zero, suc, List, [], ◌∷◌, ◌++◌, Bool, true, false, ◌||◌, ◌==◌, take, codes, flat_map, map, Option, Some, None, slice_get, option_to_list, if◌then◌else◌}
+use Rattle.std.specs.Prelude.{ℕ, zero, suc, List, [], ◌∷◌, ◌++◌, Bool, true, false, ◌&&◌, ◌||◌, ◌==◌, length, take, drop, codes, Option, Some, None, slice_get, option_to_list, if◌then◌else◌}
 use Rattle.std.specs.Str.{bytes_eq}
 use Rattle.rv_isa.specs.RegisterNames.{abi_names, decimal}
 use Rattle.rv_parse_laws.specs.Statement.{Mnemonic, Addi, Ecall, Li}
@@ -67,8 +67,10 @@ directive_words =
     codes ".popsection" ∷ codes ".previous" ∷ codes ".insn" ∷ codes ".uleb128" ∷ codes ".loc" ∷ []
 
 -- an atomic with its width and ordering
-abbrev pub is_atomic : List ℕ → Bool
-is_atomic word = is_among (flat_map (λ front. map (λ end. front ++ end) atomic_ends) atomic_words) word
+abbrev pub is_atomic_of : List (List ℕ) → List ℕ → Bool
+is_atomic_of [] word = false
+is_atomic_of (front ∷ fronts) word =
+    (bytes_eq (take (length front) word) front && is_among atomic_ends (drop (length front) word)) || is_atomic_of fronts word
 
 -- call frame information, whatever follows the common front
 abbrev pub is_frame_directive : List ℕ → Bool
@@ -77,7 +79,7 @@ is_frame_directive word = bytes_eq (take 5 word) (codes ".cfi_")
 -- a mnemonic or directive that the language has, or leaves out by name
 unfoldable pub is_known : List ℕ → Bool
 is_known word =
-    is_among base_words word || is_among pseudo_words word || is_among directive_words word || is_atomic word
+    is_among base_words word || is_among pseudo_words word || is_among directive_words word || is_atomic_of atomic_words word
     || is_frame_directive word
 
 -- what a word begins that is built

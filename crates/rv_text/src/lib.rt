@@ -3,9 +3,11 @@
 //! Source: RISC-V Assembly Programmer's Manual; GNU as, "Syntax" and "RISC-V Dependent Features".
 #![tactic(auto)]
 
+mod class;
 mod fault;
 mod lexer;
 mod token;
+mod word;
 
 pub use fault::{SourceCode, SourceFault};
 pub use lexer::Lexer;

@@ -5,7 +5,9 @@
 #![tactic(auto)]
 
 mod class;
+mod laws;
 mod sign;
 
 pub use class::Class;
+pub use laws::{one_list, one_piece, some_list};
 pub use sign::Sign;

@@ -1,0 +1,20 @@
+-- How messages show a fault of the link.
+
+use Rattle.std.specs.Prelude.{ℕ, List, Option, Some, None, codes}
+use Rattle.rv_chain.specs.declared.fault.LinkFault.{LinkFault}
+use Rattle.rv_chain.specs.declared.fault.LinkFault.TheVariants.{EntryMissing, ImageTooLarge, BadTextStart, TooManyFiles, OutOfMemory}
+
+-- L7 to L10; none for want of memory
+abbrev pub number_of : LinkFault → Option ℕ
+number_of EntryMissing = Some 7
+number_of ImageTooLarge = Some 8
+number_of BadTextStart = Some 9
+number_of TooManyFiles = Some 10
+number_of OutOfMemory = None
+
+abbrev pub name_of : LinkFault → List ℕ
+name_of EntryMissing = codes "EntryMissing"
+name_of ImageTooLarge = codes "ImageTooLarge"
+name_of BadTextStart = codes "BadTextStart"
+name_of TooManyFiles = codes "TooManyFiles"
+name_of OutOfMemory = codes "out of memory"

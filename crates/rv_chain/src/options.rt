@@ -1,0 +1,17 @@
+//! What a build takes and gives.
+
+/// How a program is linked.
+#[derive(Clone, Copy, Debug, PartialEq, Eq, Drop)]
+pub struct LinkOptions {
+    /// The address of the text: a multiple of 4096 below 3FF00000h.
+    pub text_start: u64,
+    /// Whether calls may be shortened.
+    pub relax: bool,
+}
+
+/// The bytes of an executable and of its map.
+#[derive(Debug, PartialEq, Eq, Drop)]
+pub struct Built {
+    pub exe: Vec<u8>,
+    pub map: Vec<u8>,
+}

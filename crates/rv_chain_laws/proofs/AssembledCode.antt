@@ -1,0 +1,129 @@
+-- Memory that holds the code of an assembled source realizes the source at its map.
+
+use Rattle.std.proofs.Common.{◌≡◌, ℕ, zero, suc, ◌+◌, ◌-◌, ◌*◌, ◌/◌, ◌%◌, ◌^◌, ◌<◌, ◌≤◌, Bool, true, false, List, [], ◌∷◌, ◌++◌, length, refl, sym, ap, ◌∙◌, subst, arith, map, Option, Some, None, ℤ, pos, negsuc, lit<}
+use Rattle.std.proofs.lemmas.Bool.Decides.{nat_tests}
+use Rattle.std.proofs.lemmas.Bool.{and_parts}
+use Rattle.std.proofs.lemmas.Int.{ints}
+use Rattle.std.specs.Prelude.{◌&&◌, ◌||◌, ◌==◌, if◌then◌else◌, ⊤, nat_lt, nat_le}
+use Rattle.std.specs.List.{AllByRecursion, find}
+use Rattle.std.specs.Int.{w32, to_le_bytes}
+use Rattle.rv_isa.specs.declared.instruction.Inst.{Inst}
+use Rattle.rv_isa.specs.Ranges.{IsValid, IsSigned12}
+use Rattle.rv_isa_laws.specs.Memory.{Mem, Right, Read, Write, Execute, may, number_at}
+use Rattle.rv_encode.specs.Word.{form, word, field, Spells}
+use Rattle.rv_machine_laws.specs.Reader.{Reader}
+use Rattle.rv_machine_laws.specs.Run.{Fetched, NoRight, Got, spelled, length_at, fetch}
+use Rattle.rv_parse_laws.specs.Statement.{Statement, Label, Norvc, Globl, Instruction, Spoken, Mnemonic, Addi, Ecall, Li, Operand, Register, Value}
+use Rattle.rv_map.specs.Map.{Map}
+use Rattle.rv_map.specs.declared.map.Row.{Row}
+use Rattle.rv_chain_laws.specs.Sites.{Site, Program, program}
+use Rattle.rv_chain_laws.specs.Meaning.{Line, expansion, AreLines, add_immediate}
+use Rattle.rv_parse_laws.specs.Value.{constant, signed}
+use Rattle.rv_isa.specs.declared.instruction.Inst.TheVariants.{Ecall as Call}
+use Rattle.rv_chain_laws.specs.Realizes.{StandsIn, HoldsLines}
+use Rattle.rv_chain_laws.specs.Fits.{IsRowOf}
+use Rattle.rv_chain_laws.specs.Assembled.{row_at, rows_from, size_of, size_all, base, word_bytes, code_of, code, AreCoded, IsCoded, fitted}
+use Rattle.rv_chain_laws.proofs.AssembledRows.{spoken, sites_one}
+use Rattle.rv_chain_laws.proofs.AssembledFits.{expanded-is, fitted-parts}
+
+-- these bytes lie in memory from an address on
+abbrev pub HasBytes : Mem → ℕ → List ℕ → Type 0
+HasBytes m a [] = ⊤
+HasBytes m a (b ∷ bs) = (m.byte a ≡ b) × HasBytes m (a + 1) bs
+
+-- the number of four bytes
+four : (n : ℕ) → n < 2 ^ 32 → n % 256 + 256 * (n / 256 % 256 + 256 * (n / 65536 % 256 + 256 * (n / 16777216 % 256 + 256 * 0))) ≡ n
+four n below = omega arith
+
+module _ {StandsFor : ℕ → Inst → Type 0} (reader : Reader Spells StandsFor) (m : Mem) where
+  -- a word that lies in memory is fetched
+  pub fetch-word : (a : ℕ) (i : Inst) (w : ℕ) (bs : List ℕ) → w ≡ word (form i) → w < 2 ^ 32 → w % 4 ≡ 3 → IsValid i → a + 4 < 2 ^ 64 → may m a 4 Execute ≡ true → HasBytes m a (to_le_bytes w32 w ++ bs) → fetch reader m a ≡ Got i 4
+  fetch-word a i w bs same below wide valid fits runs (h0, (h1, (h2, (h3, rest)))) =
+      let low : m.byte (a % 2 ^ 64) ≡ w % 256 = ap (λ x. m.byte x) (let e : a % 2 ^ 64 ≡ a = omega arith in e) ∙ h0 in
+      let b1 : m.byte ((a + 1) % 2 ^ 64) ≡ w / 256 % 256 = ap (λ x. m.byte x) (let e : (a + 1) % 2 ^ 64 ≡ a + 1 = omega arith in e) ∙ h1 in
+      let b2 : m.byte ((a + 1 + 1) % 2 ^ 64) ≡ w / 65536 % 256 = ap (λ x. m.byte x) (let e : (a + 1 + 1) % 2 ^ 64 ≡ a + 1 + 1 = omega arith in e) ∙ h2 in
+      let b3 : m.byte ((a + 1 + 1 + 1) % 2 ^ 64) ≡ w / 16777216 % 256 = ap (λ x. m.byte x) (let e : (a + 1 + 1 + 1) % 2 ^ 64 ≡ a + 1 + 1 + 1 = omega arith in e) ∙ h3 in
+      let number : number_at m a 4 ≡ w =
+          ap (λ x. x + 256 * number_at m (a + 1) 3) low
+          ∙ ap (λ x. w % 256 + 256 * (x + 256 * number_at m (a + 1 + 1) 2)) b1
+          ∙ ap (λ x. w % 256 + 256 * (w / 256 % 256 + 256 * (x + 256 * number_at m (a + 1 + 1 + 1) 1))) b2
+          ∙ ap (λ x. w % 256 + 256 * (w / 256 % 256 + 256 * (w / 65536 % 256 + 256 * (x + 256 * 0)))) b3
+          ∙ four w below in
+      let three : m.byte (a % 2 ^ 64) % 4 ≡ 3 = ap (λ x. x % 4) low ∙ (let e : w % 256 % 4 ≡ 3 = omega arith in e) in
+      let long : length_at m a ≡ 4 = ap (λ x. if x == 3 then 4 else 2) three in
+      let read : reader.word w ≡ Some i = (reader.words w i).1 (record { valid = valid; sum = sym same }) in
+      ap (λ n. if may m a n Execute then spelled n (if n == 4 then reader.word (number_at m a 4) else reader.parcel (number_at m a 2)) else NoRight) long
+      ∙ ap (λ t. if t then spelled 4 (reader.word (number_at m a 4)) else NoRight) runs
+      ∙ ap (λ n. spelled 4 (reader.word n)) number
+      ∙ ap (λ o. spelled 4 o) read
+
+-- the word of an immediate form fits 32 bits and ends in 11
+immediate_word : (rd rs1 k : ℕ) → rd < 32 → rs1 < 32 → k < 4096 → (0x13 + rd * 2 ^ 7 + 0 * 2 ^ 12 + rs1 * 2 ^ 15 + k * 2 ^ 20 < 2 ^ 32) × ((0x13 + rd * 2 ^ 7 + 0 * 2 ^ 12 + rs1 * 2 ^ 15 + k * 2 ^ 20) % 4 ≡ 3)
+immediate_word rd rs1 k r s f = (omega arith, omega arith)
+
+field_below : (z : ℤ) → IsSigned12 z → field 12 z < 4096
+field_below (pos n) (low, high) = omega (arith, ints)
+field_below (negsuc n) (low, high) = omega (arith, ints)
+
+abbrev IsWide : Inst → Type 0
+IsWide i = (word (form i) < 2 ^ 32) × (word (form i) % 4 ≡ 3)
+
+add_wide : (rd rs1 k : ℕ) → IsValid (add_immediate rd rs1 k) → IsWide (add_immediate rd rs1 k)
+add_wide rd rs1 k (r, s, f) = immediate_word rd rs1 (field 12 (signed k)) r s (field_below (signed k) f)
+
+pub base_wide : (mnemonic : Mnemonic) (operands : List Operand) (i : Inst) → base mnemonic operands ≡ Some i → IsValid i → IsWide i
+base_wide Addi (Register rd ∷ Register rs1 ∷ Value e ∷ []) i h v =
+    let (k, c, f, made) = fitted-parts (constant e) (add_immediate rd rs1) i h in
+    subst IsWide made (add_wide rd rs1 k (subst IsValid (sym made) v))
+base_wide Ecall [] i h v =
+    let made : Call ≡ i = cc in
+    subst IsWide made (lit< tt, refl)
+base_wide Li (Register rd ∷ Value e ∷ []) i h v =
+    let (k, c, f, made) = fitted-parts (constant e) (add_immediate rd 0) i h in
+    subst IsWide made (add_wide rd 0 k (subst IsValid (sym made) v))
+base_wide mnemonic operands i h v = absurd (cc)
+
+-- what lies behind the first bytes
+bytes_behind : (m : Mem) (a : ℕ) (bs cs : List ℕ) → HasBytes m a (bs ++ cs) → HasBytes m (a + length bs) cs
+bytes_behind m a [] cs h = subst (λ x. HasBytes m x cs) (let e : a ≡ a + 0 = omega arith in e) h
+bytes_behind m a (b ∷ bs) cs (h, hs) = subst (λ x. HasBytes m x cs) (let e : a + 1 + length bs ≡ a + suc (length bs) = omega arith in e) (bytes_behind m (a + 1) bs cs hs)
+
+may_all : (m : Mem) (n a : ℕ) → ((x : ℕ) → a ≤ x → x < a + n → m.has x Execute ≡ true) → a + n < 2 ^ 64 → may m a n Execute ≡ true
+may_all m zero a h below = refl
+may_all m (suc n) a h below =
+    let e : a % 2 ^ 64 ≡ a = omega arith in
+    let first : m.has (a % 2 ^ 64) Execute ≡ true = ap (λ x. m.has x Execute) e ∙ h a (omega arith) (omega arith) in
+    let rest : may m (a + 1) n Execute ≡ true = may_all m n (a + 1) (λ x l u. h x (omega arith) (omega arith)) (omega arith) in
+    ap (λ t. t && may m (a + 1) n Execute) first ∙ rest
+
+-- the bytes from a on, up to a stop, may be executed
+abbrev pub Runs : Mem → ℕ → ℕ → Type 0
+Runs m a stop = (x : ℕ) → a ≤ x → x < stop → m.has x Execute ≡ true
+
+module _ {StandsFor : ℕ → Inst → Type 0} (reader : Reader Spells StandsFor) (m : Mem) (p : Program) (stop : ℕ) (room : stop < 2 ^ 64) where
+  holds_by : (says : Statement) (line k a : ℕ) (ss : List Spoken) → IsCoded says → HasBytes m a (code (spoken line says ∷ ss)) → a + size_all (spoken line says ∷ ss) ≤ stop → Runs m a stop → ((b : ℕ) → HasBytes m b (code ss) → b + size_all ss ≤ stop → Runs m b stop → AllByRecursion (HoldsLines reader m p) (sites_one (suc k) b ss)) → AllByRecursion (HoldsLines reader m p) (sites_one k a (spoken line says ∷ ss))
+  holds_by (Label name) line k a ss c h fits runs ih =
+      (record {
+        lines = [];
+        are_lines = (refl, omega arith);
+        stand = tt;
+        below = omega arith;
+        size = (refl, omega arith, omega arith, refl) }, ih (a + 0) (subst (λ x. HasBytes m x (code ss)) (let e : a ≡ a + 0 = omega arith in e) h) (omega arith) (λ x l u. runs x (omega arith) u))
+  holds_by Norvc line k a ss c h fits runs ih = ih (a + 0) (subst (λ x. HasBytes m x (code ss)) (let e : a ≡ a + 0 = omega arith in e) h) (omega arith) (λ x l u. runs x (omega arith) u)
+  holds_by (Globl names) line k a ss c h fits runs ih = ih (a + 0) (subst (λ x. HasBytes m x (code ss)) (let e : a ≡ a + 0 = omega arith in e) h) (omega arith) (λ x l u. runs x (omega arith) u)
+  holds_by (Instruction mnemonic operands) line k a ss (i, same, valid) h fits runs ih =
+      let s : Site = record { stated = record { file = 1; ordinal = k; section = 0; line = line; says = Instruction mnemonic operands }; row = row_at k a line 4 1 } in
+      let e : expansion p s ≡ Some (i ∷ []) = expanded-is p s mnemonic operands i same in
+      let wide : IsWide i = base_wide mnemonic operands i same valid in
+      let held : HasBytes m a (to_le_bytes w32 (word (form i)) ++ code ss) = subst (λ o. HasBytes m a (word_bytes o ++ code ss)) same h in
+      let got : fetch reader m a ≡ Got i 4 = fetch-word reader m a i (word (form i)) (code ss) refl wide.0 wide.1 valid (omega arith) (may_all m 4 a (λ x l u. runs x l (omega arith)) (omega arith)) held in
+      (record {
+        lines = record { address = a; bytes = 4; instruction = i } ∷ [];
+        are_lines = (e, (refl, refl));
+        stand = ((got, valid), tt);
+        below = omega arith;
+        size = subst (λ o. IsRowOf o s.row) (sym e) (refl, omega arith, omega arith, refl) }, ih (a + 4) (bytes_behind m a (to_le_bytes w32 (word (form i))) (code ss) held) (omega arith) (λ x l u. runs x (omega arith) u))
+
+  pub holds_all : (k a : ℕ) (ss : List Spoken) → AreCoded ss → HasBytes m a (code ss) → a + size_all ss ≤ stop → Runs m a stop → AllByRecursion (HoldsLines reader m p) (sites_one k a ss)
+  holds_all k a [] c h fits runs = tt
+  holds_all k a (s ∷ ss) (c, cs) h fits runs = holds_by s.says s.line k a ss c h fits runs (λ b g f r. holds_all (suc k) b ss cs g f r)

@@ -1,0 +1,129 @@
+-- Each kind of statement: its lines one after another come to its meaning and its cost.
+
+use Rattle.std.proofs.Common.{◌≡◌, ℕ, suc, ◌+◌, ◌-◌, ◌%◌, ◌^◌, ◌<◌, ◌≤◌, Bool, true, false, List, [], ◌∷◌, Some, None, length, refl, sym, ap, ◌∙◌, subst, arith, ℤ, pos, negsuc}
+use Rattle.std.specs.Prelude.{map, nat_lt, ◌==◌, if◌then◌else◌, ◌-ℤ◌}
+use Rattle.std.specs.List.{AllByRecursion}
+use Rattle.std.proofs.lemmas.Bool.{ltb-true, ltb-false, eq-eqb}
+use Rattle.rv_isa.specs.declared.instruction.Inst.{Inst}
+use Rattle.rv_isa.specs.declared.instruction.Inst.TheVariants.{Ecall as Call}
+use Rattle.rv_isa_laws.specs.Arithmetic.{wrapped, sum_of}
+use Rattle.rv_isa_laws.specs.Hart.{Hart, with_register, advanced}
+use Rattle.rv_isa_laws.specs.Effect.{Effect, Goes}
+use Rattle.rv_isa_laws.specs.Meaning.{effect, sets}
+use Rattle.rv_parse_laws.specs.Statement.{Statement, Label, Norvc, Globl, Instruction, Mnemonic, Addi, Ecall, Li, Operand, Register, Value, Expression}
+use Rattle.rv_parse_laws.specs.Value.{signed}
+use Rattle.rv_chain_laws.specs.Sites.{Site, Program, value}
+use Rattle.rv_chain_laws.specs.Meaning.{Line, Lie, AreLines, add_immediate, run_spoken, run_said, meaning, cost, add_zero, expanded, expanded_said}
+use Rattle.rv_chain_laws.specs.Fits.{IsRowOf, SizeFits}
+use Rattle.rv_chain_laws.proofs.Walk.{Walked, once, more, then_walk, walk}
+
+abbrev walked : Effect → ℕ → Walked
+walked e count = record { effect = e; count = count }
+
+-- the lines of a statement in so many bytes at an address: a first one, others, and what a walk over them comes to
+pub record Does (meant : Hart → Effect) (count : Hart → ℕ) (address : ℕ) (lines : List Line) : Type 0 where
+  pub first : Line
+  pub others : List Line
+  pub are : lines ≡ first ∷ others
+  pub starts : first.address ≡ address
+  pub walks : (h : Hart) → h.pc ≡ address → walk first others h ≡ record { effect = meant h; count = count h }
+
+-- a statement without instructions has no bytes
+no_lines : (meant : Hart → Effect) (count address bytes : ℕ) (lines : List Line) → Some [] ≡ Some (map (λ (l : Line). l.instruction) lines) → Lie address lines (address + bytes) → 0 < bytes → Does meant (λ h. count) address lines
+no_lines meant count address bytes [] e lie some = absurd (omega arith)
+no_lines meant count address bytes (l ∷ ls) e lie some = absurd (cc)
+
+-- a statement of one instruction does what that does
+one_line : (i : Inst) (meant : Hart → Effect) (count address bytes : ℕ) (lines : List Line) → Some (i ∷ []) ≡ Some (map (λ (l : Line). l.instruction) lines) → Lie address lines (address + bytes) → count ≡ length (map (λ (l : Line). l.instruction) lines) → ((h : Hart) → effect i bytes h ≡ meant h) → Does meant (λ h. count) address lines
+one_line i meant count address bytes [] e lie n same = absurd (cc)
+one_line i meant count address bytes (l ∷ []) e lie n same =
+    let is : l.instruction ≡ i = cc in
+    let all : l.bytes ≡ bytes = omega arith in
+    record {
+      first = l;
+      others = [];
+      are = refl;
+      starts = lie.0;
+      walks = λ h at. ap (λ j. walked (effect j l.bytes h) 1) is ∙ ap (λ b. walked (effect i b h) 1) all ∙ ap (λ x. walked x 1) (same h) ∙ ap (walked (meant h)) (sym n);
+    }
+one_line i meant count address bytes (l ∷ k ∷ ls) e lie n same = absurd (cc)
+
+wrapped_if : (t : Bool) (y z : ℤ) (n : ℕ) → (t ≡ true → wrapped y ≡ n) → (t ≡ false → wrapped z ≡ n) → wrapped (if t then y else z) ≡ n
+wrapped_if true y z n f g = f refl
+wrapped_if false y z n f g = g refl
+
+-- a number taken as signed is the same modulo 2 ^ 64
+wrapped_signed : (k : ℕ) → wrapped (signed k) ≡ k % 2 ^ 64
+wrapped_signed k =
+    wrapped_if (nat_lt k (2 ^ 63)) (pos k) (pos k -ℤ pos (2 ^ 64)) (k % 2 ^ 64) (λ t. refl)
+    (λ t. wrapped_if (nat_lt k (2 ^ 64)) (negsuc (2 ^ 64 - suc k)) (pos (k - 2 ^ 64)) (k % 2 ^ 64)
+    (λ u. let below : k < 2 ^ 64 = ltb-true k (2 ^ 64) u in omega arith)
+    (λ u. let above : 2 ^ 64 ≤ k = ltb-false k (2 ^ 64) u in omega arith))
+
+-- `addi rd, x0, k` sets rd to k
+adds_to_zero : (rd k bytes : ℕ) (h : Hart) → effect (add_immediate rd 0 k) bytes h ≡ sets bytes h rd k
+adds_to_zero rd k bytes h =
+    let w = wrapped_signed k in
+    let e : sum_of 0 (wrapped (signed k)) % 2 ^ 64 ≡ k % 2 ^ 64 = omega arith in
+    set_same rd _ _ bytes h e
+  where
+    set_same : (rd a b bytes : ℕ) (h : Hart) → a % 2 ^ 64 ≡ b % 2 ^ 64 → sets bytes h rd a ≡ sets bytes h rd b
+    set_same rd a b bytes h e = ap (λ v. Goes (advanced (with_register h rd v) bytes)) e
+
+does_spoken : (v : Expression → ℕ) (mnemonic : Mnemonic) (operands : List Operand) (count address bytes : ℕ) (lines : List Line) → expanded v mnemonic operands ≡ Some (map (λ (l : Line). l.instruction) lines) → Lie address lines (address + bytes) → count ≡ length (map (λ (l : Line). l.instruction) lines) → Does (run_spoken v mnemonic operands bytes) (λ h. count) address lines
+does_spoken v Addi (Register rd ∷ Register rs1 ∷ Value k ∷ []) count address bytes lines e lie n =
+    one_line (add_immediate rd rs1 (v k)) _ count address bytes lines e lie n (λ h. refl)
+does_spoken v Ecall [] count address bytes lines e lie n =
+    one_line Call _ count address bytes lines e lie n (λ h. refl)
+does_spoken v Li (Register rd ∷ Value k ∷ []) count address bytes lines e lie n =
+    load_immediate (nat_lt ((v k + 2 ^ 11) % 2 ^ 64) (2 ^ 12)) rd (v k) count address bytes lines e lie n
+  where
+    load_immediate : (t : Bool) (rd k count address bytes : ℕ) (lines : List Line) → add_zero rd (if t then Some k else None) ≡ Some (map (λ (l : Line). l.instruction) lines) → Lie address lines (address + bytes) → count ≡ length (map (λ (l : Line). l.instruction) lines) → Does (λ h. sets bytes h rd k) (λ h. count) address lines
+    load_immediate true rd k count address bytes lines e lie n =
+        one_line (add_immediate rd 0 k) (λ h. sets bytes h rd k) count address bytes lines e lie n (λ h. adds_to_zero rd k bytes h)
+    load_immediate false rd k count address bytes lines e lie n = absurd (cc)
+does_spoken v mnemonic operands count address bytes lines e lie n = absurd (cc)
+
+does_said : (v : Expression → ℕ) (says : Statement) (count address bytes : ℕ) (lines : List Line) → expanded_said v says ≡ Some (map (λ (l : Line). l.instruction) lines) → Lie address lines (address + bytes) → count ≡ length (map (λ (l : Line). l.instruction) lines) → 0 < bytes → Does (run_said v says bytes) (λ h. count) address lines
+does_said v (Label name) count address bytes lines e lie n some = no_lines _ count address bytes lines e lie some
+does_said v Norvc count address bytes lines e lie n some = no_lines _ count address bytes lines e lie some
+does_said v (Globl names) count address bytes lines e lie n some = no_lines _ count address bytes lines e lie some
+does_said v (Instruction mnemonic operands) count address bytes lines e lie n some = does_spoken v mnemonic operands count address bytes lines e lie n
+
+-- the lines of each statement come to its meaning and its cost
+pub does : (p : Program) (s : Site) (lines : List Line) → AreLines p s lines → SizeFits p s → 0 < s.row.bytes → s.row.address + s.row.bytes < 2 ^ 64 → Does (meaning p s) (cost p s) s.row.address lines
+does p s lines are fits some below =
+    let row = subst (λ o. IsRowOf o s.row) are.0 fits in
+    does_said (value p s) s.stated.says s.row.instructions s.row.address s.row.bytes lines are.0 are.1 row.0 some
+
+-- ---- an alignment's padding: instructions that only go on, in any number
+
+abbrev pub no_operation : Inst
+no_operation = add_immediate 0 0 0
+
+abbrev AllIdle : List Line → Type 0
+AllIdle lines = AllByRecursion (λ l. l.instruction ≡ no_operation) lines
+
+ends_above : (ls : List Line) (a end : ℕ) → Lie a ls end → a ≤ end
+ends_above [] a end e = omega arith
+ends_above (l ∷ ls) a end lie = let le = ends_above ls (a + l.bytes) end lie.1 in omega arith
+
+go_on : (t : Bool) (w v : Walked) (e : Effect) → t ≡ true → w ≡ v → (if t then more w else once e) ≡ more v
+go_on true w v e is same = ap more same
+go_on false w v e is same = absurd (cc)
+
+-- they come to the hart at their end, and each of them counts
+pub idle_walk : (ls : List Line) (l : Line) (a end : ℕ) → AllIdle (l ∷ ls) → Lie a (l ∷ ls) end → end < 2 ^ 64 → (h : Hart) → h.pc ≡ a → walk l ls h ≡ walked (Goes (advanced h (end - a))) (suc (length ls))
+idle_walk [] l a end idle lie below h pc =
+    let bytes : l.bytes ≡ end - a = omega arith in
+    ap (λ i. walked (effect i l.bytes h) 1) idle.0 ∙ ap (λ b. walked (Goes (advanced h b)) 1) bytes
+idle_walk (k ∷ ls) l a end idle lie below h pc =
+    let high = ends_above ls (a + l.bytes + k.bytes) end lie.1.1 in
+    let there : (h.pc + l.bytes) % 2 ^ 64 ≡ k.address = omega arith in
+    let later : (advanced h l.bytes).pc ≡ a + l.bytes = omega arith in
+    let same : ((h.pc + l.bytes) % 2 ^ 64 + (end - (a + l.bytes))) % 2 ^ 64 ≡ (h.pc + (end - a)) % 2 ^ 64 = omega arith in
+    ap (λ i. then_walk (effect i l.bytes h) k.address (walk k ls)) idle.0
+    ∙ go_on ((h.pc + l.bytes) % 2 ^ 64 == k.address) (walk k ls (advanced h l.bytes)) _ (Goes (advanced h l.bytes))
+    (eq-eqb ((h.pc + l.bytes) % 2 ^ 64) k.address there)
+    (idle_walk ls k (a + l.bytes) end idle.1 lie.1 below (advanced h l.bytes) later)
+    ∙ ap (λ n. walked (Goes (record h { pc = n })) (suc (suc (length ls)))) same

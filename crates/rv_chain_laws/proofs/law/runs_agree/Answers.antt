@@ -1,0 +1,5 @@
+use Rattle.rv_chain_laws.proofs.Simulation.{agreement}
+use Rattle.rv_chain_laws.proofs.law.runs_agree.Goals as goal
+
+pub returns : goal.returns
+returns c = agreement

@@ -1,0 +1,21 @@
+//! The law: whenever memory holds a program, the machine's run over it agrees with the run of its
+//! statements.
+
+ghost use Rattle.std.specs.Prelude.{◌≡◌, ℕ, ◌^◌, ◌%◌, ◌<◌, List};
+ghost use Rattle.rv_isa_laws.specs.Memory.{Mem};
+ghost use Rattle.rv_parse_laws.specs.Statement.{Spoken};
+ghost use Rattle.rv_map.specs.Map.{Map};
+ghost use Rattle.rv_encode.specs.Word.{Spells};
+ghost use Rattle.rv_compress.specs.Parcel.{StandsFor};
+ghost use Rattle.rv_machine_laws.specs.Reader.{Reader};
+ghost use Rattle.rv_machine_laws.specs.Run.{machine_run};
+ghost use Rattle.rv_chain_laws.specs.Agrees.{Agrees};
+ghost use Rattle.rv_chain_laws.specs.Realizes.{Realizes};
+ghost use Rattle.rv_chain_laws.specs.Sites.{program};
+ghost use Rattle.rv_chain_laws.specs.SourceRun.{source_run};
+
+/// Where memory holds the statements of the sources at the rows of a map, and the map's entry is an
+/// even address, the two runs agree for every input and every limit.
+pub fn runs_agree()
+    ensures { (reader : Reader Spells StandsFor) (m : Mem) (sources : List (List Spoken)) (map : Map) → Realizes reader m (program sources map) → map.entry < 2 ^ 64 → map.entry % 2 ≡ 0 → (input : List ℕ) (n : ℕ) → Agrees (source_run sources map input n) (machine_run reader m map.entry input n) }
+{}

@@ -1,0 +1,73 @@
+//! The lines that the program writes to standard error, without `rv: ` before them.
+
+use std::alloc::{AllocError, Global};
+
+use rv_chain::{End, Fault, FileFault, LinkFault, SourceFault};
+
+use crate::jobs::Trouble;
+
+/// The line of a fault of `build` or `run_exec`; `names` are the files in their order.
+pub(crate) fn fault_line(alloc: Global, fault: &Fault, names: &[&str]) -> Result<Trouble, AllocError> {
+    match fault {
+        Fault::Source(file, fault) => source_line(alloc, name_of(names, *file), fault),
+        Fault::File(file, fault) => file_line(alloc, name_of(names, *file), fault),
+        Fault::Link(fault) => link_line(alloc, fault),
+        Fault::Memory => Ok(Trouble::Memory),
+    }
+}
+
+/// The name of a file by its number, from 1.
+fn name_of<'a>(names: &[&'a str], file: u32) -> &'a str {
+    let index = (file as usize).wrapping_sub(1);
+    match names.get(index) {
+        Some(name) => *name,
+        None => "",
+    }
+}
+
+/// As `a.s:5: E7 BadOperands`.
+fn source_line(alloc: Global, name: &str, fault: &SourceFault) -> Result<Trouble, AllocError> {
+    match fault {
+        SourceFault::At { code, line } => {
+            let number = code.number();
+            let what = code.name();
+            Ok(Trouble::Line(format!(in alloc; "{name}:{line}: E{number} {what}")?))
+        }
+        SourceFault::OutOfMemory => Ok(Trouble::Memory),
+    }
+}
+
+/// As `a.o: F9 UnsupportedRelocation 20`.
+fn file_line(alloc: Global, name: &str, fault: &FileFault) -> Result<Trouble, AllocError> {
+    let Some(number) = fault.number() else {
+        return Ok(Trouble::Memory);
+    };
+    let what = fault.name();
+    let line = match fault {
+        FileFault::UnsupportedRelocation(kind) | FileFault::UnsupportedSection(kind) => {
+            format!(in alloc; "{name}: F{number} {what} {kind}")?
+        }
+        _ => format!(in alloc; "{name}: F{number} {what}")?,
+    };
+    Ok(Trouble::Line(line))
+}
+
+/// As `L7 EntryMissing`.
+fn link_line(alloc: Global, fault: &LinkFault) -> Result<Trouble, AllocError> {
+    match fault.number() {
+        Some(number) => {
+            let what = fault.name();
+            Ok(Trouble::Line(format!(in alloc; "L{number} {what}")?))
+        }
+        None => Ok(Trouble::Memory),
+    }
+}
+
+/// As `FetchOutside 8`; an address is hexadecimal, in lower case.
+pub(crate) fn end_line(alloc: Global, end: &End) -> Result<String, AllocError> {
+    let what = end.name();
+    match end.address() {
+        Some(address) => format!(in alloc; "{what} {address:x}"),
+        None => what.to_string(alloc),
+    }
+}

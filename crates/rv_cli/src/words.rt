@@ -1,0 +1,165 @@
+//! The command line: which words mean which job.
+
+use std::alloc::Global;
+
+use clap::error::ErrorKind;
+use clap::{Arg, ArgAction, ArgMatches, Command, Error};
+use rv_chain::LinkOptions;
+
+use crate::jobs::{Job, Trouble};
+
+/// Where the text of a program starts unless the words say otherwise.
+const TEXT_START: u64 = 0x1_0000;
+/// The most instructions that `run` executes unless the words say otherwise.
+const LIMIT: u64 = 1_000_000_000_000;
+
+/// What the words ask for; the first word is the program's own name.
+pub(crate) fn job_of<'a>(alloc: Global, words: &'a [&'a str]) -> Result<Job<'a>, Trouble> {
+    let mut command = command(alloc)?;
+    let matches = command.try_get_matches_from_mut(words)?;
+    match matches.subcommand() {
+        Some(("run", found)) => run_job(&mut command, found),
+        Some(("build", found)) => build_job(alloc, &mut command, found),
+        Some(("map", found)) => map_job(alloc, &mut command, found),
+        _ => Ok(Job::Run { file: "-", limit: LIMIT }),
+    }
+}
+
+fn command<'a>(alloc: Global) -> Result<Command<'a>, Error> {
+    let about = "Assembles, links and runs bare RISC-V programs (RV64IMAC).";
+    let run = Command::new(alloc, "run")
+        .about("Runs an executable, or builds a source and runs it")
+        .arg(limit(alloc))?
+        .arg(Arg::new(alloc, "file").value_name("FILE").required(true).help("An executable or a source; - is standard input"))?;
+    let build = Command::new(alloc, "build")
+        .about("Builds an executable from sources")
+        .arg(Arg::new(alloc, "output").short('o').value_name("EXE").required(true).help("The executable to write"))?
+        .arg(Arg::new(alloc, "map").long("map").value_name("F").help("Writes the map as well"))?
+        .arg(text_start_option(alloc))?
+        .arg(sources(alloc))?;
+    let map = Command::new(alloc, "map")
+        .about("Prints the map of what the sources build")
+        .arg(text_start_option(alloc))?
+        .arg(sources(alloc))?;
+    let all = Command::new(alloc, "rv").version("0.1.0").about(about);
+    Ok(all.subcommand(run)?.subcommand(build)?.subcommand(map)?)
+}
+
+fn limit<'a>(alloc: Global) -> Arg<'a> {
+    Arg::new(alloc, "limit")
+        .long("limit")
+        .value_name("N")
+        .help("The most instructions to execute [default: 1000000000000]")
+}
+
+fn text_start_option<'a>(alloc: Global) -> Arg<'a> {
+    Arg::new(alloc, "text-start")
+        .long("text-start")
+        .value_name("N")
+        .help("The address of the text, decimal or 0x and hexadecimal [default: 0x10000]")
+}
+
+fn sources<'a>(alloc: Global) -> Arg<'a> {
+    Arg::new(alloc, "sources")
+        .value_name("SRC")
+        .required(true)
+        .action(ArgAction::Append)
+        .num_args(1..)
+        .help("The sources, in the order of their sections")
+}
+
+fn run_job<'a>(command: &mut Command<'a>, found: &ArgMatches<'a>) -> Result<Job<'a>, Trouble> {
+    let limit = match found.get_str("limit") {
+        None => LIMIT,
+        Some(text) => number(command, decimal(text), "a limit is a decimal number below 2^64")?,
+    };
+    Ok(Job::Run {
+        file: found.get_str("file").unwrap_or("-"),
+        limit,
+    })
+}
+
+fn build_job<'a>(
+    alloc: Global,
+    command: &mut Command<'a>,
+    found: &ArgMatches<'a>,
+) -> Result<Job<'a>, Trouble> {
+    let options = link_options(command, found)?;
+    Ok(Job::Build {
+        exe: found.get_str("output").unwrap_or(""),
+        map: found.get_str("map"),
+        options,
+        sources: source_names(alloc, found)?,
+    })
+}
+
+fn map_job<'a>(
+    alloc: Global,
+    command: &mut Command<'a>,
+    found: &ArgMatches<'a>,
+) -> Result<Job<'a>, Trouble> {
+    let options = link_options(command, found)?;
+    Ok(Job::Map {
+        options,
+        sources: source_names(alloc, found)?,
+    })
+}
+
+/// The options that `build` and `map` share.
+fn link_options(command: &mut Command<'_>, found: &ArgMatches<'_>) -> Result<LinkOptions, Trouble> {
+    let text_start = match found.get_str("text-start") {
+        None => TEXT_START,
+        Some(text) => {
+            let read = text_start(text);
+            number(command, read, "a text start is decimal, or 0x and hexadecimal, below 2^64")?
+        }
+    };
+    Ok(LinkOptions {
+        text_start,
+        relax: true,
+    })
+}
+
+fn source_names<'a>(alloc: Global, found: &ArgMatches<'a>) -> Result<Vec<&'a str>, Trouble> {
+    let mut names = Vec::new(alloc);
+    if let Some(given) = found.get_strs("sources") {
+        names.extend_from_slice(given)?;
+    }
+    Ok(names)
+}
+
+/// The number, or a usage fault that says what was wanted.
+fn number(command: &mut Command<'_>, read: Option<u64>, wanted: &str) -> Result<u64, Trouble> {
+    match read {
+        Some(number) => Ok(number),
+        None => Err(Trouble::from(command.error(ErrorKind::ValueValidation, wanted)?)),
+    }
+}
+
+/// A decimal number below 2^64: digits alone, one at least.
+pub(crate) fn decimal(text: &str) -> Option<u64> {
+    if text.bytes().all(|byte| byte.is_ascii_digit()) {
+        text.parse().ok()
+    } else {
+        None
+    }
+}
+
+/// A number below 2^64, decimal or `0x` with hexadecimal digits of either case.
+pub(crate) fn text_start(text: &str) -> Option<u64> {
+    match text.strip_prefix("0x") {
+        Some(digits) if digits.bytes().all(|byte| byte.is_ascii_hexdigit()) => {
+            u64::from_str_radix(digits, 16).ok()
+        }
+        Some(_) => None,
+        None => decimal(text),
+    }
+}
+
+/// The options of a build whose words say nothing else.
+pub(crate) fn default_options() -> LinkOptions {
+    LinkOptions {
+        text_start: TEXT_START,
+        relax: true,
+    }
+}

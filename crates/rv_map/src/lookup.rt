@@ -1,0 +1,16 @@
+//! Finds rows.
+
+ghost use Rattle.std.specs.Prelude.{◌≡◌, option_map};
+ghost use Rattle.std.specs.List.{find};
+ghost use Rattle.rv_map.specs.Lookup.{starts_at};
+
+use crate::map::{Map, Row};
+
+/// The first row with more than 0 bytes that starts at the address.
+pub fn row_at(map: &Map, address: u64) -> Option<&Row>
+    ensures { option_map (λ row. row.now) result ≡ find (starts_at address) map.now.rows.items }
+{
+    map.rows
+        .iter()
+        .find(|row| row.address == address && row.bytes > 0)
+}

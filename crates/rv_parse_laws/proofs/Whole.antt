@@ -1,0 +1,65 @@
+-- The tokens of a source have at most one cut into parts, so bytes have at most one reading.
+
+use Rattle.std.proofs.Common.{◌≡◌, ℕ, zero, suc, ◌+◌, ◌-◌, ◌<◌, ◌≤◌, Bool, true, false, cond, List, [], ◌∷◌, ◌++◌, length, length-append, Option, Some, None, Result, Ok, Err, refl, sym, ◌∙◌, ap, subst, arith, ◌⊎◌, inl, inr}
+use Rattle.rv_text_laws.specs.Cut.{Piece, texts, Cuts, NothingReads, cut, Finds}
+use Rattle.rv_text_laws.specs.Lexing.{Token, Lexes}
+use Rattle.rv_text_laws.proofs.Cut.{unique, none_nothing, nothing_none}
+use Rattle.rv_parse_laws.specs.Statement.{Statement, Label, Norvc, Globl, Instruction}
+use Rattle.rv_parse_laws.specs.Syntax.{Slot, Part, Ends, Says, IsPart, StopsPart}
+use Rattle.rv_parse_laws.specs.Parsing.{Wrong, Read, part_at}
+use Rattle.rv_parse_laws.specs.Reading.{AreParts}
+use Rattle.rv_parse_laws.proofs.Parts.{part_is}
+use Rattle.rv_parse_laws.proofs.Found.{part_found}
+
+-- a part and how many tokens it has, of a reading at the front of so many tokens
+abbrev pub counted : ℕ → Read Part → Option (Part × ℕ)
+counted n (Ok (p, rest)) = Some (p, n - length rest)
+counted n (Err w) = None
+
+unfoldable pub find_part : List Token → Option (Part × ℕ)
+find_part ts = counted (length ts) (part_at ts)
+
+counted_some : (n : ℕ) (r : Read Part) (p : Part) (k : ℕ) → counted n r ≡ Some (p, k) → (rest : List Token) × (r ≡ Ok (p, rest)) × (k ≡ n - length rest)
+counted_some n (Ok (q, rest)) p k e =
+    let pair : (q, n - length rest) ≡ (p, k) = cc in
+    (rest, ap (λ (x : Part × ℕ). Ok (x.0, rest)) pair, sym (ap (λ (x : Part × ℕ). x.1) pair))
+counted_some n (Err w) p k e = absurd (cc)
+
+counted_none : (n : ℕ) (r : Read Part) → counted n r ≡ None → (w : Wrong) × (r ≡ Err w)
+counted_none n (Ok (q, rest)) e = absurd (cc)
+counted_none n (Err w) e = (w, refl)
+
+part_some : (p : Part) (text : List Token) → IsPart p text → 0 < length text
+part_some Ends text (t, w, is) = rw w (omega arith)
+part_some (Says (Label name)) text (t, c, w, is, colon) = rw w (omega arith)
+part_some (Says (Instruction m os)) text (t, more, w, is, are) = rw w (omega arith)
+part_some (Says (Globl names)) text (t, more, w, is, are) = rw w (omega arith)
+part_some (Says Norvc) text (t, o, w, is, norvc) = rw w (omega arith)
+
+seam : (text rest : List Token) → length (text ++ rest) - length rest ≡ length text
+seam text rest = omega (arith, length-append text rest)
+
+pub finds_parts : Finds Part Token IsPart StopsPart find_part
+unfolding find_part
+finds_parts = record {
+    is = λ p text rest spelled stops. ap (counted (length (text ++ rest))) (part_is p text rest spelled stops) ∙ ap (λ n. Some (p, n)) (seam text rest);
+    found = λ all p n e. found all p n e;
+    some = part_some;
+  }
+  where
+    found : (all : List Token) (p : Part) (n : ℕ) → find_part all ≡ Some (p, n)
+      → (text : List Token) × (rest : List Token) × (all ≡ text ++ rest) × (n ≡ length text) × IsPart p text × StopsPart p rest
+    found all p n e =
+        let c = counted_some (length all) (part_at all) p n e in
+        let f = part_found all p c.0 c.1 in
+        (f.0, c.0, f.1, c.2 ∙ ap (λ (us : List Token). length us - length c.0) f.1 ∙ seam f.0 c.0, f.2, f.3)
+
+pub no_tokens : find_part [] ≡ None
+unfolding find_part part_at
+no_tokens = refl
+
+-- tokens are cut into parts in one way
+pub one_cut : (ts : List Token) (ps qs : List (Piece Part Token)) → AreParts ts ps [] → AreParts ts qs [] → ps ≡ qs
+one_cut ts ps qs c d =
+    let p : (ps, []) ≡ (qs, []) = sym (unique finds_parts ts ps [] c no_tokens) ∙ unique finds_parts ts qs [] d no_tokens in
+    ap (λ (x : List (Piece Part Token) × List Token). x.0) p
