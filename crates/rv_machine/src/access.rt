@@ -89,11 +89,9 @@ fn read<M: Memory>(memory: &M, address: u64, bytes: u64, signed: bool) -> u64
 #[inline(always)]
 pub fn load<M: Memory>(hart: &mut Hart, memory: &M, x: Load, bytes: u64) -> Option<End>
     requires { IsWidth x.bytes }
-    ensures {
-        (input console : List ℕ) →
+    ensures { (input console : List ℕ) →
         let before = hart_of hart.old input console in
-        Comes result (apply (effect_of (is.Load x) bytes before) (M.mem memory.now)) before (M.mem memory.now) (hart_of hart.new input console) (M.mem memory.now)
-    }
+        Comes result (apply (effect_of (is.Load x) bytes before) (M.mem memory.now)) before (M.mem memory.now) (hart_of hart.new input console) (M.mem memory.now) }
 {
     if !memory.may(x.address, x.bytes, Right::Read) {
         return Some(load_end(memory, x.address, x.bytes));
@@ -107,11 +105,9 @@ pub fn load<M: Memory>(hart: &mut Hart, memory: &M, x: Load, bytes: u64) -> Opti
 #[inline(always)]
 pub fn store<M: Memory>(hart: &mut Hart, memory: &mut M, x: Store, bytes: u64) -> Option<End>
     requires { IsWidth x.bytes }
-    ensures {
-        (input console : List ℕ) →
+    ensures { (input console : List ℕ) →
         let before = hart_of hart.old input console in
-        Comes result (apply (effect_of (is.Store x) bytes before) (M.mem memory.old)) before (M.mem memory.old) (hart_of hart.new input console) (M.mem memory.new)
-    }
+        Comes result (apply (effect_of (is.Store x) bytes before) (M.mem memory.old)) before (M.mem memory.old) (hart_of hart.new input console) (M.mem memory.new) }
 {
     if !memory.may(x.address, x.bytes, Right::Write) {
         return Some(store_end(memory, x.address, x.bytes));
@@ -125,11 +121,9 @@ pub fn store<M: Memory>(hart: &mut Hart, memory: &mut M, x: Store, bytes: u64) -
 #[inline(always)]
 pub fn reserve<M: Memory>(hart: &mut Hart, memory: &M, x: ReservingLoad, bytes: u64) -> Option<End>
     requires { IsWidth x.bytes }
-    ensures {
-        (input console : List ℕ) →
+    ensures { (input console : List ℕ) →
         let before = hart_of hart.old input console in
-        Comes result (apply (effect_of (is.Reserve x) bytes before) (M.mem memory.now)) before (M.mem memory.now) (hart_of hart.new input console) (M.mem memory.now)
-    }
+        Comes result (apply (effect_of (is.Reserve x) bytes before) (M.mem memory.now)) before (M.mem memory.now) (hart_of hart.new input console) (M.mem memory.now) }
 {
     if x.address % x.bytes != 0 {
         return Some(End::MisalignedAtomic(x.address));
@@ -151,9 +145,7 @@ pub fn reserve<M: Memory>(hart: &mut Hart, memory: &M, x: ReservingLoad, bytes: 
 fn store_if<M: Memory>(memory: &mut M, address: u64, bytes: u64, value: u64, reserved: bool)
     requires width { IsWidth bytes }
     requires may { may (M.mem memory.old) address bytes ToWrite ≡ true }
-    ensures {
-        M.mem memory.new ≡ (if reserved then with_number (M.mem memory.old) address bytes value else M.mem memory.old)
-    }
+    ensures { M.mem memory.new ≡ (if reserved then with_number (M.mem memory.old) address bytes value else M.mem memory.old) }
 {
     if reserved {
         memory.store(address, bytes, value);
@@ -162,13 +154,16 @@ fn store_if<M: Memory>(memory: &mut M, address: u64, bytes: u64, value: u64, res
 
 /// Does a store that is done only where its bytes are reserved.
 #[inline(always)]
-pub fn conditional<M: Memory>(hart: &mut Hart, memory: &mut M, x: ConditionalStore, bytes: u64) -> Option<End>
+pub fn conditional<M: Memory>(
+    hart: &mut Hart,
+    memory: &mut M,
+    x: ConditionalStore,
+    bytes: u64,
+) -> Option<End>
     requires { IsWidth x.bytes }
-    ensures {
-        (input console : List ℕ) →
+    ensures { (input console : List ℕ) →
         let before = hart_of hart.old input console in
-        Comes result (apply (effect_of (is.Conditional x) bytes before) (M.mem memory.old)) before (M.mem memory.old) (hart_of hart.new input console) (M.mem memory.new)
-    }
+        Comes result (apply (effect_of (is.Conditional x) bytes before) (M.mem memory.old)) before (M.mem memory.old) (hart_of hart.new input console) (M.mem memory.new) }
 {
     if x.address % x.bytes != 0 {
         return Some(End::MisalignedAtomic(x.address));
@@ -192,14 +187,18 @@ fn may_update<M: Memory>(memory: &M, address: u64, bytes: u64) -> bool
 
 /// Does an atomic operation on a number of 32 bits, which `width` bytes are.
 #[inline(always)]
-pub fn update_word<M: Memory>(hart: &mut Hart, memory: &mut M, x: Update, width: u64, bytes: u64) -> Option<End>
+pub fn update_word<M: Memory>(
+    hart: &mut Hart,
+    memory: &mut M,
+    x: Update,
+    width: u64,
+    bytes: u64,
+) -> Option<End>
     requires { IsWidth width }
-    ensures {
-        (input console : List ℕ) →
+    ensures { (input console : List ℕ) →
         let before = hart_of hart.old input console in
         let new : ℕ → ℕ = λ old. of_word x.operation (low old) (low x.value) in
-        Comes result (apply (Updates x.address width new (λ old. with_result bytes before x.rd (extended 32 (low old)))) (M.mem memory.old)) before (M.mem memory.old) (hart_of hart.new input console) (M.mem memory.new)
-    }
+        Comes result (apply (Updates x.address width new (λ old. with_result bytes before x.rd (extended 32 (low old)))) (M.mem memory.old)) before (M.mem memory.old) (hart_of hart.new input console) (M.mem memory.new) }
 {
     if x.address % width != 0 {
         return Some(End::MisalignedAtomic(x.address));
@@ -217,14 +216,18 @@ pub fn update_word<M: Memory>(hart: &mut Hart, memory: &mut M, x: Update, width:
 
 /// Does an atomic operation on a number of 64 bits, which `width` bytes are.
 #[inline(always)]
-pub fn update_double<M: Memory>(hart: &mut Hart, memory: &mut M, x: Update, width: u64, bytes: u64) -> Option<End>
+pub fn update_double<M: Memory>(
+    hart: &mut Hart,
+    memory: &mut M,
+    x: Update,
+    width: u64,
+    bytes: u64,
+) -> Option<End>
     requires { IsWidth width }
-    ensures {
-        (input console : List ℕ) →
+    ensures { (input console : List ℕ) →
         let before = hart_of hart.old input console in
         let new : ℕ → ℕ = λ old. of_double x.operation old x.value in
-        Comes result (apply (Updates x.address width new (λ old. with_result bytes before x.rd old)) (M.mem memory.old)) before (M.mem memory.old) (hart_of hart.new input console) (M.mem memory.new)
-    }
+        Comes result (apply (Updates x.address width new (λ old. with_result bytes before x.rd old)) (M.mem memory.old)) before (M.mem memory.old) (hart_of hart.new input console) (M.mem memory.new) }
 {
     if x.address % width != 0 {
         return Some(End::MisalignedAtomic(x.address));

@@ -6,13 +6,10 @@
 mod access;
 mod action;
 mod alu;
-mod calls;
 mod end;
 mod fetch;
 mod hart;
-mod machine;
 mod registers;
 mod state;
 
 pub use end::End;
-pub use machine::Machine;
