@@ -23,3 +23,7 @@ abbrev pub Steps : {E : Type 0} → Result (Option End) E → Option End → Opt
 Steps (Ok ended) None after next h m h' m' = (after ≡ ended) × Comes ended next h m h' m'
 Steps (Ok ended) (Some e) after next h m h' m' = (ended ≡ Some e) × ((after ≡ Some e) × ((h' ≡ h) × (m' ≡ m)))
 Steps (Err _) before after next h m h' m' = (after ≡ before) × ((h' ≡ h) × (m' ≡ m))
+
+-- what a run came to, at this state by this end
+abbrev pub outcome_at : State → End → laws.Outcome
+outcome_at s e = record { console = s.console.items; «end» = end_of e }
