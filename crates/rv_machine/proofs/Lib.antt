@@ -1,2 +1,3 @@
 pub mod FetchLemmas
 pub mod NumberLemmas
+pub mod RunLemmas

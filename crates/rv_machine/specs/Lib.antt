@@ -4,3 +4,4 @@ pub mod Action
 pub mod End
 pub mod Fetch
 pub mod Machine
+pub mod Outcome

@@ -1,6 +1,6 @@
 -- What the code's machine is in the definitions, and what it makes of a step.
 
-use Rattle.std.specs.Prelude.{◌≡◌, List, ℕ, drop, Option, Some, None, Result, Ok, Err}
+use Rattle.std.specs.Prelude.{◌≡◌, drop, Option, Some, None, Result, Ok, Err}
 use Rattle.rv_isa_laws.specs.Memory.{Mem}
 use Rattle.rv_isa_laws.specs.Hart as laws
 use Rattle.rv_isa_laws.specs.Effect.{Next, On, Over}

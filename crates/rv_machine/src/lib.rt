@@ -6,10 +6,15 @@
 mod access;
 mod action;
 mod alu;
+mod calls;
 mod end;
 mod fetch;
 mod hart;
+mod machine;
+mod outcome;
 mod registers;
 mod state;
 
 pub use end::End;
+pub use machine::Machine;
+pub use outcome::{Outcome, run};

@@ -1,4 +1,4 @@
-use Rattle.std.proofs.Common.{◌≡◌, ℕ, suc, ◌+◌, ◌-◌, ◌%◌, ◌^◌, ◌<◌, Bool, true, false, ◌&&◌, ◌||◌, refl, sym, ◌∙◌, ap, arith}
+use Rattle.std.proofs.Common.{◌≡◌, ℕ, suc, ◌+◌, ◌-◌, ◌%◌, ◌^◌, ◌<◌, Bool, true, false, ◌&&◌, sym, ◌∙◌, ap, arith}
 use Rattle.rv_isa_laws.specs.Memory.{Mem, Right, Execute, may, some_has}
 use Rattle.rv_machine.proofs.access.is_text.Goals as goal
 

@@ -1,7 +1,7 @@
-use Rattle.std.proofs.Common.{◌≡◌, ℕ, ◌%◌, true, Bool, ◌&&◌, sym, ◌∙◌, arith}
+use Rattle.std.proofs.Common.{◌≡◌, ◌%◌, true, sym, ◌∙◌, arith}
 use Rattle.std.specs.Prelude.{◌==◌}
 use Rattle.std.proofs.lemmas.Bool.Decides.{nat_tests}
-use Rattle.rv_isa_laws.specs.Memory.{Mem, may, Read, Write}
+use Rattle.rv_isa_laws.specs.Memory.{Mem, may, Read}
 use Rattle.rv_machine.proofs.access.reserve.Goals as goal
 
 pub returns : goal.returns

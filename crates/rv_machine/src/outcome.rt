@@ -7,14 +7,13 @@ ghost use Rattle.rv_image.specs.Image.{image_of};
 ghost use Rattle.rv_image.specs.Memory.{mem_of};
 ghost use Rattle.rv_machine_laws.specs.Reader.{Reader};
 ghost use Rattle.rv_machine_laws.specs.Run.{machine_run};
-ghost use Rattle.rv_machine.specs.Run.{outcome_of};
-
-use rv_image::Image;
-use rv_memory::Flat;
-use std::alloc::{AllocError, Global};
+ghost use Rattle.rv_machine.specs.Outcome.{outcome_of};
 
 use crate::end::End;
 use crate::machine::Machine;
+use rv_image::Image;
+use rv_memory::Flat;
+use std::alloc::{AllocError, Global};
 
 /// What a run has written, and how it ended.
 #[derive(Debug, PartialEq, Eq, Drop)]
@@ -25,10 +24,8 @@ pub struct Outcome {
 
 /// Runs an image over a flat memory, with an input, at most so many instructions.
 pub fn run(alloc: Global, image: Image, input: &[u8], limit: u64) -> Result<Outcome, AllocError>
-    ensures {
-        (reader : Reader Spells StandsFor) →
-        IfOk result (λ o. outcome_of o ≡ machine_run reader (mem_of (image_of image)) image.entry input.now limit)
-    }
+    ensures { (reader : Reader Spells StandsFor) →
+        IfOk result (λ o. outcome_of o ≡ machine_run reader (mem_of (image_of image)) image.entry input.now limit) }
 {
     let entry = image.entry;
     let memory = Flat::new(alloc, image)?;

@@ -12,17 +12,16 @@ ghost use Rattle.rv_machine_laws.specs.Run.{step as step_of, run as run_of};
 ghost use Rattle.rv_machine.specs.Action.{effect_of, HasWidth};
 ghost use Rattle.rv_machine.specs.Machine.{state_of, outcome_at, Comes, Steps};
 
-use rv_memory::Memory;
-use std::alloc::{AllocError, Global};
-
 use crate::access;
-use crate::action::{asked, Action};
+use crate::action::{Action, asked};
 use crate::calls::call;
 use crate::end::End;
-use crate::fetch::{fetch, Fetched};
+use crate::fetch::{Fetched, fetch};
 use crate::hart::Hart;
 use crate::registers::Registers;
 use crate::state::State;
+use rv_memory::Memory;
+use std::alloc::{AllocError, Global};
 
 /// A hart over a memory, with its input and its console. Where it ended it stays.
 #[derive(Drop)]
@@ -34,14 +33,17 @@ pub struct Machine<M: Memory + Drop> {
 
 /// Does what an instruction of so many bytes asks.
 #[inline(always)]
-fn act<M: Memory>(action: Action, bytes: u64, state: &mut State, memory: &mut M) -> Result<Option<End>, AllocError>
+fn act<M: Memory>(
+    action: Action,
+    bytes: u64,
+    state: &mut State,
+    memory: &mut M,
+) -> Result<Option<End>, AllocError>
     requires { HasWidth action }
-    ensures {
-        let before = state_of state.old in
+    ensures { let before = state_of state.old in
         MatchResult result
         (λ e. Comes e (apply (effect_of action bytes before) (M.mem memory.old)) before (M.mem memory.old) (state_of state.new) (M.mem memory.new))
-        (λ _. (state_of state.new ≡ before) × (M.mem memory.new ≡ M.mem memory.old))
-    }
+        (λ _. (state_of state.new ≡ before) × (M.mem memory.new ≡ M.mem memory.old)) }
 {
     let hart = &mut state.hart;
     match action {
@@ -71,13 +73,11 @@ fn act<M: Memory>(action: Action, bytes: u64, state: &mut State, memory: &mut M)
 /// Does one step: fetches an instruction, and does what it asks.
 #[inline(always)]
 fn advance<M: Memory>(state: &mut State, memory: &mut M) -> Result<Option<End>, AllocError>
-    ensures {
-        (reader : Reader Spells StandsFor) →
+    ensures { (reader : Reader Spells StandsFor) →
         let before = state_of state.old in
         MatchResult result
         (λ e. Comes e (step_of reader before (M.mem memory.old)) before (M.mem memory.old) (state_of state.new) (M.mem memory.new))
-        (λ _. (state_of state.new ≡ before) × (M.mem memory.new ≡ M.mem memory.old))
-    }
+        (λ _. (state_of state.new ≡ before) × (M.mem memory.new ≡ M.mem memory.old)) }
 {
     let pc = state.hart.pc;
     match fetch(memory, pc) {
@@ -124,11 +124,10 @@ impl<M: Memory + Drop> Machine<M> {
     /// the machine is as it was and can go on.
     #[inline]
     pub fn step(&mut self) -> Result<Option<End>, AllocError>
-        ensures {
-            (reader : Reader Spells StandsFor) →
+        ensures kept { IfOk result (λ ended. self.old.end ≡ None → self.new.end ≡ ended) }
+        ensures reader { (reader : Reader Spells StandsFor) →
             Steps result self.old.end self.new.end (step_of reader (state_of self.old.state) (M.mem self.old.memory))
-            (state_of self.old.state) (M.mem self.old.memory) (state_of self.new.state) (M.mem self.new.memory)
-        }
+            (state_of self.old.state) (M.mem self.old.memory) (state_of self.new.state) (M.mem self.new.memory) }
     {
         if let Some(end) = self.end {
             return Ok(Some(end));
@@ -143,12 +142,10 @@ impl<M: Memory + Drop> Machine<M> {
     }
 
     /// Steps until the end, at most so many.
-    fn run_to(&mut self, limit: u64) -> Result<End, AllocError>
+    pub(crate) fn run_to(&mut self, limit: u64) -> Result<End, AllocError>
         requires { self.old.end ≡ None }
-        ensures {
-            (reader : Reader Spells StandsFor) →
-            IfOk result (λ e. outcome_at self.new.state e ≡ run_of reader limit (state_of self.old.state) (M.mem self.old.memory))
-        }
+        ensures { (reader : Reader Spells StandsFor) →
+            IfOk result (λ e. outcome_at self.new.state e ≡ run_of reader limit (state_of self.old.state) (M.mem self.old.memory)) }
     {
         for done in 0..limit {
             if let Some(end) = self.step()? {
@@ -163,5 +160,12 @@ impl<M: Memory + Drop> Machine<M> {
         ensures { result.now ≡ (state_of self.now.state).console }
     {
         &self.state.console
+    }
+
+    /// What the program has written, out of the machine.
+    pub(crate) fn into_console(self) -> Vec<u8>
+        ensures { result.items ≡ self.state.console.items }
+    {
+        self.state.console
     }
 }

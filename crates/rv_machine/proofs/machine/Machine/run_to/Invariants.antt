@@ -11,6 +11,6 @@ abbrev pub invariant-loop-done : goal.invariant-loop-done
 invariant-loop-done g l = record {
   goes : l.self.end ≡ None;
   rest : (reader : Reader Spells StandsFor) →
-    run reader (l.limit - l.done) (state_of l.self.state) (g.M.Memory.mem l.self.memory)
-    ≡ run reader l.limit (state_of l.fn.self.state) (g.M.Memory.mem l.fn.self.memory)
+      run reader (l.limit - l.done) (state_of l.self.state) (g.M.Memory.mem l.self.memory)
+      ≡ run reader l.limit (state_of l.fn.self.state) (g.M.Memory.mem l.fn.self.memory);
 }
