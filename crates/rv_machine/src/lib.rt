@@ -6,6 +6,7 @@
 mod access;
 mod action;
 mod alu;
+mod calls;
 mod end;
 mod fetch;
 mod hart;
