@@ -1,2 +1,4 @@
+pub mod CallLemmas
 pub mod FetchLemmas
 pub mod NumberLemmas
+pub mod RunLemmas

@@ -3,3 +3,5 @@ pub mod Hart
 pub mod Action
 pub mod End
 pub mod Fetch
+pub mod Machine
+pub mod Outcome

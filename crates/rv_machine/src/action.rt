@@ -5,7 +5,7 @@
 ghost use Rattle.std.specs.Prelude.{◌≡◌, ℕ, List, ◌+◌, ◌%◌, ◌^◌, if◌then◌else◌};
 ghost use Rattle.rv_isa_laws.specs.Arithmetic.{wrapped};
 ghost use Rattle.rv_isa_laws.specs.Meaning.{effect, is_reserved};
-ghost use Rattle.rv_machine.specs.Action.{effect_of, of_word, of_double};
+ghost use Rattle.rv_machine.specs.Action.{effect_of, of_word, of_double, HasWidth};
 ghost use Rattle.rv_machine.specs.Hart.{hart_of, reservation_of};
 ghost use Rattle.rv_machine.specs.Registers.{value_of};
 ghost use Rattle.rv_machine.specs.declared.action.Action.TheVariants as is;
@@ -142,7 +142,8 @@ impl Operation {
 /// What an instruction of so many bytes asks.
 #[inline(always)]
 pub fn asked(inst: Inst, bytes: u64, hart: &Hart) -> Action
-    ensures { (input console : List ℕ) → effect_of result bytes (hart_of hart.now input console) ≡ effect inst bytes (hart_of hart.now input console) }
+    ensures meaning { (input console : List ℕ) → effect_of result bytes (hart_of hart.now input console) ≡ effect inst bytes (hart_of hart.now input console) }
+    ensures width { HasWidth result }
 {
     let r = &hart.registers;
     let pc = hart.pc;

@@ -5,22 +5,22 @@ use Rattle.rv_machine.specs.Hart.{hart_of}
 use Rattle.rv_machine.specs.declared.action.Action.TheVariants as is
 use Rattle.rv_machine.proofs.action.asked.Goals as goal
 
-pub returns-in-AmominuW : goal.returns-in-AmominuW
-returns-in-AmominuW c input console =
+pub returns-in-AmominuW-clause-meaning : goal.returns-in-AmominuW-clause-meaning
+returns-in-AmominuW-clause-meaning c input console =
     let h = hart_of c.args.hart.now input console in
     ap (λ u. effect_of (is.UpdateWord u) c.args.bytes h) c.updating-in-AmominuW.ensures ∙ ap (λ i. effect i c.args.bytes h) (sym c.in-AmominuW.is)
 
-pub returns-in-AmomaxuW : goal.returns-in-AmomaxuW
-returns-in-AmomaxuW c input console =
+pub returns-in-AmomaxuW-clause-meaning : goal.returns-in-AmomaxuW-clause-meaning
+returns-in-AmomaxuW-clause-meaning c input console =
     let h = hart_of c.args.hart.now input console in
     ap (λ u. effect_of (is.UpdateWord u) c.args.bytes h) c.updating-in-AmomaxuW.ensures ∙ ap (λ i. effect i c.args.bytes h) (sym c.in-AmomaxuW.is)
 
-pub returns-in-AmominuD : goal.returns-in-AmominuD
-returns-in-AmominuD c input console =
+pub returns-in-AmominuD-clause-meaning : goal.returns-in-AmominuD-clause-meaning
+returns-in-AmominuD-clause-meaning c input console =
     let h = hart_of c.args.hart.now input console in
     ap (λ u. effect_of (is.UpdateDouble u) c.args.bytes h) c.updating-in-AmominuD.ensures ∙ ap (λ i. effect i c.args.bytes h) (sym c.in-AmominuD.is)
 
-pub returns-in-AmomaxuD : goal.returns-in-AmomaxuD
-returns-in-AmomaxuD c input console =
+pub returns-in-AmomaxuD-clause-meaning : goal.returns-in-AmomaxuD-clause-meaning
+returns-in-AmomaxuD-clause-meaning c input console =
     let h = hart_of c.args.hart.now input console in
     ap (λ u. effect_of (is.UpdateDouble u) c.args.bytes h) c.updating-in-AmomaxuD.ensures ∙ ap (λ i. effect i c.args.bytes h) (sym c.in-AmomaxuD.is)

@@ -1,4 +1,4 @@
-use Rattle.std.proofs.Common.{◌≡◌, ◌≢◌, ℕ, ◌%◌, ◌^◌, sym, ap, ◌∙◌, arith}
+use Rattle.std.proofs.Common.{◌≡◌, ◌≢◌, ◌%◌, ◌^◌, sym, ap, ◌∙◌}
 use Rattle.rv_isa_laws.specs.Memory.{number_at}
 use Rattle.rv_machine_laws.specs.Run as laws
 use Rattle.rv_machine.proofs.FetchLemmas.{fetch_long_parcel}

@@ -1,0 +1,171 @@
+//! A machine: a hart over a memory, with its input and its console.
+//!
+//! Source: RISC-V Unprivileged ISA 20191213, sections 1.5 and 2.8.
+
+ghost use Rattle.std.specs.Prelude.{◌≡◌, ℕ, MatchResult, IfOk, None};
+ghost use Rattle.rv_encode.specs.Word.{Spells};
+ghost use Rattle.rv_compress.specs.Parcel.{StandsFor};
+ghost use Rattle.rv_isa_laws.specs.Effect.{apply};
+ghost use Rattle.rv_isa_laws.specs.Hart.{start};
+ghost use Rattle.rv_machine_laws.specs.Reader.{Reader};
+ghost use Rattle.rv_machine_laws.specs.Run.{step as step_of, run as run_of};
+ghost use Rattle.rv_machine.specs.Action.{effect_of, HasWidth};
+ghost use Rattle.rv_machine.specs.Machine.{state_of, outcome_at, Comes, Steps};
+
+use crate::access;
+use crate::action::{Action, asked};
+use crate::calls::call;
+use crate::end::End;
+use crate::fetch::{Fetched, fetch};
+use crate::hart::Hart;
+use crate::registers::Registers;
+use crate::state::State;
+use rv_memory::Memory;
+use std::alloc::{AllocError, Global};
+
+/// A hart over a memory, with its input and its console. Where it ended it stays.
+#[derive(Drop)]
+pub struct Machine<M: Memory + Drop> {
+    state: State,
+    memory: M,
+    end: Option<End>,
+}
+
+/// Does what an instruction of so many bytes asks.
+#[inline(always)]
+fn act<M: Memory>(
+    action: Action,
+    bytes: u64,
+    state: &mut State,
+    memory: &mut M,
+) -> Result<Option<End>, AllocError>
+    requires { HasWidth action }
+    ensures { let before = state_of state.old in
+        MatchResult result
+        (λ e. Comes e (apply (effect_of action bytes before) (M.mem memory.old)) before (M.mem memory.old) (state_of state.new) (M.mem memory.new))
+        (λ _. (state_of state.new ≡ before) × (M.mem memory.new ≡ M.mem memory.old)) }
+{
+    let hart = &mut state.hart;
+    match action {
+        Action::Set(rd, value) => {
+            access::set(hart, rd, value, bytes);
+            Ok(None)
+        }
+        Action::Jump(rd, target) => {
+            access::jump(hart, rd, target, bytes);
+            Ok(None)
+        }
+        Action::Go(target) => {
+            hart.pc = target;
+            Ok(None)
+        }
+        Action::Load(x) => Ok(access::load(hart, memory, x, bytes)),
+        Action::Store(x) => Ok(access::store(hart, memory, x, bytes)),
+        Action::Reserve(x) => Ok(access::reserve(hart, memory, x, bytes)),
+        Action::Conditional(x) => Ok(access::conditional(hart, memory, x, bytes)),
+        Action::UpdateWord(x) => Ok(access::update_word(hart, memory, x, 4, bytes)),
+        Action::UpdateDouble(x) => Ok(access::update_double(hart, memory, x, 8, bytes)),
+        Action::Break => Ok(Some(End::Breakpoint)),
+        Action::Call => call(state, memory, bytes),
+    }
+}
+
+/// Does one step: fetches an instruction, and does what it asks.
+#[inline(always)]
+fn advance<M: Memory>(state: &mut State, memory: &mut M) -> Result<Option<End>, AllocError>
+    ensures { (reader : Reader Spells StandsFor) →
+        let before = state_of state.old in
+        MatchResult result
+        (λ e. Comes e (step_of reader before (M.mem memory.old)) before (M.mem memory.old) (state_of state.new) (M.mem memory.new))
+        (λ _. (state_of state.new ≡ before) × (M.mem memory.new ≡ M.mem memory.old)) }
+{
+    let pc = state.hart.pc;
+    match fetch(memory, pc) {
+        Fetched::NoRight => Ok(Some(End::FetchOutside(pc))),
+        Fetched::NoInstruction => Ok(Some(End::Illegal(pc))),
+        Fetched::Word(inst) => {
+            let action = asked(inst, 4, &state.hart);
+            act(action, 4, state, memory)
+        }
+        Fetched::Parcel(inst) => {
+            let action = asked(inst, 2, &state.hart);
+            act(action, 2, state, memory)
+        }
+    }
+}
+
+impl<M: Memory + Drop> Machine<M> {
+    /// A machine before its first step: registers 0 but sp, at an entry, with an input.
+    pub fn new(alloc: Global, memory: M, entry: u64, input: &[u8]) -> Result<Self, AllocError>
+        ensures state { IfOk result (λ m. state_of m.state ≡ start entry input.now) }
+        ensures memory { IfOk result (λ m. M.mem m.memory ≡ M.mem memory) }
+        ensures end { IfOk result (λ m. m.end ≡ None) }
+    {
+        let input = Vec::from_slice(alloc, input)?;
+        let hart = Hart {
+            registers: Registers::new(),
+            pc: entry,
+            reservation: None,
+        };
+        let state = State {
+            hart,
+            input,
+            taken: 0,
+            console: Vec::new(alloc),
+        };
+        Ok(Machine {
+            state,
+            memory,
+            end: None,
+        })
+    }
+
+    /// One step, or the end that the machine came to before; then nothing changes. Where memory runs out,
+    /// the machine is as it was and can go on.
+    #[inline]
+    pub fn step(&mut self) -> Result<Option<End>, AllocError>
+        ensures kept { IfOk result (λ ended. self.old.end ≡ None → self.new.end ≡ ended) }
+        ensures reader { (reader : Reader Spells StandsFor) →
+            Steps result self.old.end self.new.end (step_of reader (state_of self.old.state) (M.mem self.old.memory))
+            (state_of self.old.state) (M.mem self.old.memory) (state_of self.new.state) (M.mem self.new.memory) }
+    {
+        if let Some(end) = self.end {
+            return Ok(Some(end));
+        }
+        match advance(&mut self.state, &mut self.memory) {
+            Ok(ended) => {
+                self.end = ended;
+                Ok(ended)
+            }
+            Err(error) => Err(error),
+        }
+    }
+
+    /// Steps until the end, at most so many.
+    pub(crate) fn run_to(&mut self, limit: u64) -> Result<End, AllocError>
+        requires { self.old.end ≡ None }
+        ensures { (reader : Reader Spells StandsFor) →
+            IfOk result (λ e. outcome_at self.new.state e ≡ run_of reader limit (state_of self.old.state) (M.mem self.old.memory)) }
+    {
+        for done in 0..limit {
+            if let Some(end) = self.step()? {
+                return Ok(end);
+            }
+        }
+        Ok(End::Limit)
+    }
+
+    /// What the program has written.
+    pub fn console(&self) -> &[u8]
+        ensures { result.now ≡ (state_of self.now.state).console }
+    {
+        &self.state.console
+    }
+
+    /// What the program has written, out of the machine.
+    pub(crate) fn into_console(self) -> Vec<u8>
+        ensures { result.items ≡ self.state.console.items }
+    {
+        self.state.console
+    }
+}
