@@ -10,18 +10,13 @@ mod calls;
 mod end;
 mod fetch;
 mod hart;
-<<<<<<< HEAD
 mod laws;
-mod registers;
-
-pub use laws::runs_agree;
-=======
 mod machine;
 mod outcome;
 mod registers;
 mod state;
 
 pub use end::End;
+pub use laws::runs_agree;
 pub use machine::Machine;
 pub use outcome::{Outcome, run};
->>>>>>> 1165b68a10736ce5a4a3ab88172dbb4f247a775f
