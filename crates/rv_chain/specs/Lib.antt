@@ -1,3 +1,4 @@
 pub mod Fault
 pub mod Names
 pub mod Statements
+pub mod Running

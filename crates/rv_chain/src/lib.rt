@@ -9,11 +9,14 @@ mod link;
 mod names;
 mod options;
 mod rows;
+mod running;
 mod symbols;
 mod text;
 
 pub use building::build;
 pub use fault::{Fault, LinkFault};
 pub use options::{Built, LinkOptions};
+pub use running::run_exec;
 pub use rv_image::FileFault;
+pub use rv_machine::{End, Outcome};
 pub use rv_text::{SourceCode, SourceFault};

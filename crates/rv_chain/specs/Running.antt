@@ -1,0 +1,27 @@
+-- What running a file's bytes means, and why a file is not run.
+
+use Rattle.std.specs.Prelude.{◌≡◌, ℕ, List, Some}
+use Rattle.rv_encode.specs.Word.{Spells}
+use Rattle.rv_compress.specs.Parcel.{StandsFor}
+use Rattle.rv_isa_laws.specs.Hart.{Outcome}
+use Rattle.rv_image.specs.Image.{Image}
+use Rattle.rv_image.specs.ImageOf.{ImageOf}
+use Rattle.rv_image.specs.FirstFault.{first_fault}
+use Rattle.rv_image.specs.Memory.{mem_of}
+use Rattle.rv_machine_laws.specs.Reader.{Reader}
+use Rattle.rv_machine_laws.specs.Run.{machine_run}
+use Rattle.rv_chain.specs.declared.fault.Fault.{Fault}
+use Rattle.rv_chain.specs.declared.fault.Fault.TheVariants.{Source, File, Link, Memory}
+
+-- the outcome is that of the machine's run over the image of the file
+pub record RunsFile (reader : Reader Spells StandsFor) (file input : List ℕ) (limit : ℕ) (outcome : Outcome) : Type 0 where
+  pub image : Image
+  pub loads : ImageOf file image
+  pub runs : outcome ≡ machine_run reader (mem_of image) image.entry input limit
+
+-- a file is refused by its first fault alone; memory may run out
+abbrev pub RefusesFile : List ℕ → Fault → Type 0
+RefusesFile file (Source number fault) = ⊥
+RefusesFile file (File number fault) = (number ≡ 1) × (first_fault file ≡ Some fault)
+RefusesFile file (Link fault) = ⊥
+RefusesFile file Memory = Unit {0}

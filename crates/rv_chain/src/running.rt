@@ -1,0 +1,29 @@
+//! From an executable to the end of its run.
+
+ghost use Rattle.std.specs.Prelude.{◌≡◌, ◌⊎◌, ℕ, None, Some, IfErr, IfOk, MatchResult, ⊤};
+ghost use Rattle.rv_encode.specs.Word.{Spells};
+ghost use Rattle.rv_compress.specs.Parcel.{StandsFor};
+ghost use Rattle.rv_machine_laws.specs.Reader.{Reader};
+ghost use Rattle.rv_machine.specs.Outcome.{outcome_of};
+ghost use Rattle.rv_chain.specs.Running.{RunsFile, RefusesFile};
+
+use crate::fault::Fault;
+use rv_image::{FileFault, load};
+use rv_machine::{Outcome, run};
+use std::alloc::Global;
+
+/// Loads an executable and runs it with an input, at most so many instructions. A refused file is file 1.
+pub fn run_exec(alloc: Global, file: &[u8], input: &[u8], limit: u64) -> Result<Outcome, Fault>
+    ensures runs { (reader : Reader Spells StandsFor) → IfOk result (λ o. RunsFile reader file.now input.now limit (outcome_of o)) }
+    ensures refuses { IfErr result (RefusesFile file.now) }
+{
+    let image = match load(alloc, file) {
+        Ok(image) => image,
+        Err(FileFault::OutOfMemory) => return Err(Fault::Memory),
+        Err(fault) => return Err(Fault::File(1, fault)),
+    };
+    match run(alloc, image, input, limit) {
+        Ok(outcome) => Ok(outcome),
+        Err(_) => Err(Fault::Memory),
+    }
+}
