@@ -29,20 +29,22 @@ drop_next f d xs i h =
 
 -- one statement's code more
 pub text_more : (all rest next : List Spoken) (s : Spoken) (old new : List ℕ) → rest ≡ s ∷ next → new ≡ old ++ code_of s.says → IsCoded s.says → (old ++ code rest ≡ code all) × (AreCoded rest → AreCoded all) → (new ++ code next ≡ code all) × (AreCoded next → AreCoded all)
-text_more all rest next s old new e n c (h, g) =
-    (ap (λ t. t ++ code next) n ∙ append_assoc old (code_of s.says) (code next) ∙ ap (λ r. old ++ code r) (sym e) ∙ h,
-     λ cs. g (subst AreCoded (sym e) (c, cs)))
+text_more all rest next s old new e n c (h, g) = (
+  ap (λ t. t ++ code next) n ∙ append_assoc old (code_of s.says) (code next) ∙ ap (λ r. old ++ code r) (sym e) ∙ h,
+  λ cs. g (subst AreCoded (sym e) (c, cs)),
+)
 
 -- one statement's row more
 pub rows_more : (all rest next : List Spoken) (s : Spoken) (i start address : ℕ) (old new : List Row) → rest ≡ s ∷ next → new ≡ old ++ rows_of (i + 1) address s.line s.says → (old ++ rows_from (i + 1) address rest ≡ rows_from 1 start all) × (address + size_all rest ≡ start + size_all all) → (new ++ rows_from (i + 1 + 1) (address + size_of s.says) next ≡ rows_from 1 start all) × (address + size_of s.says + size_all next ≡ start + size_all all)
 rows_more all rest next s i start address old new e n (h, g) =
-    let k : i + 1 + 1 ≡ suc (i + 1) = omega arith in
-    (ap (λ t. t ++ rows_from (i + 1 + 1) (address + size_of s.says) next) n
-     ∙ append_assoc old (rows_of (i + 1) address s.line s.says) (rows_from (i + 1 + 1) (address + size_of s.says) next)
-     ∙ ap (λ j. old ++ (rows_of (i + 1) address s.line s.says ++ rows_from j (address + size_of s.says) next)) k
-     ∙ ap (λ r. old ++ rows_from (i + 1) address r) (sym e) ∙ h,
-     (let f : address + size_all (s ∷ next) ≡ start + size_all all = ap (λ r. address + size_all r) (sym e) ∙ g in
-      let m : address + size_of s.says + size_all next ≡ address + (size_of s.says + size_all next) = omega arith in m ∙ f))
+    let k : i + 1 + 1 ≡ suc (i + 1) = omega arith in (
+      ap (λ t. t ++ rows_from (i + 1 + 1) (address + size_of s.says) next) n
+          ∙ append_assoc old (rows_of (i + 1) address s.line s.says) (rows_from (i + 1 + 1) (address + size_of s.says) next)
+          ∙ ap (λ j. old ++ (rows_of (i + 1) address s.line s.says ++ rows_from j (address + size_of s.says) next)) k
+          ∙ ap (λ r. old ++ rows_from (i + 1) address r) (sym e) ∙ h,
+      (let f : address + size_all (s ∷ next) ≡ start + size_all all = ap (λ r. address + size_all r) (sym e) ∙ g in
+          let m : address + size_of s.says + size_all next ≡ address + (size_of s.says + size_all next) = omega arith in m ∙ f),
+    )
 
 -- the bytes of the next statement fit
 pub next_fits : (all rest next : List Spoken) (s : Spoken) (start address : ℕ) → rest ≡ s ∷ next → address + size_all rest ≡ start + size_all all → start + size_all all < 2 ^ 64 → address + size_of s.says < 2 ^ 64

@@ -36,22 +36,24 @@ program_of a ss size entry end variables defs globals rows l text rodata «data�
     let s : size ≡ size_all ss = same ∙ code_size ss coded in
     let named = globals_from (made_globals ss) a ss in
     let all : globals ≡ named ++ undefined named (symbols_at (a + size_all ss) (aligned 4096 (aligned 4096 (a + size_all ss)))) =
-        globals_are ∙ ap (λ e. defs ++ undefined defs (symbols_at e variables)) (end_is ∙ ap (λ n. a + n) s)
-        ∙ ap (λ v. defs ++ undefined defs (symbols_at (a + size_all ss) v)) (variables_is ∙ ap (λ n. aligned 4096 (aligned 4096 (a + n))) s)
-        ∙ ap (λ d. d ++ undefined d (symbols_at (a + size_all ss) (aligned 4096 (aligned 4096 (a + size_all ss))))) defs_are in
+    globals_are ∙ ap (λ e. defs ++ undefined defs (symbols_at e variables)) (end_is ∙ ap (λ n. a + n) s)
+    ∙ ap (λ v. defs ++ undefined defs (symbols_at (a + size_all ss) v)) (variables_is ∙ ap (λ n. aligned 4096 (aligned 4096 (a + n))) s)
+    ∙ ap (λ d. d ++ undefined d (symbols_at (a + size_all ss) (aligned 4096 (aligned 4096 (a + size_all ss))))) defs_are in
     let m : l.map ≡ text_map a (size_all ss) entry globals (rows_from 1 a ss) =
-        is_map ∙ ap (λ n. text_map a n entry globals rows) s ∙ ap (λ r. text_map a (size_all ss) entry globals r) rows_are in
+    is_map ∙ ap (λ n. text_map a n entry globals rows) s ∙ ap (λ r. text_map a (size_all ss) entry globals r) rows_are in
     let whole : IsAssembled a ss (text_map a (size_all ss) entry globals (rows_from 1 a ss)) = record {
-        coded = coded;
-        once = once;
-        page = page;
-        low = low;
-        below = below;
-        entry = ap entry_in (sym defs_are) ∙ sym entry_is;
-        globals = all;
-        is_map = refl } in
+      coded = coded;
+      once = once;
+      page = page;
+      low = low;
+      below = below;
+      entry = ap entry_in (sym defs_are) ∙ sym entry_is;
+      globals = all;
+      is_map = refl;
+    } in
     record {
       assembled = subst (IsAssembled a ss) (sym m) whole;
       text = text;
       rodata = rodata;
-      «data» = «data» }
+      «data» = «data»;
+    }

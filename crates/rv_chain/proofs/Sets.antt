@@ -45,9 +45,10 @@ distinct_snoc : (xs : List (List ℕ)) (n : List ℕ) → AreDistinct xs → is_
 distinct_snoc [] n d f = (refl, tt)
 distinct_snoc (x ∷ xs) n (e, d) f =
     let parts = or_parts (bytes_eq x n) (is_one_of xs n) f in
-    let other : bytes_eq n x ≡ false = bytes_other (bytes_eq n x) x n refl parts.0 in
-    (list_any-append (λ m. bytes_eq m x) xs (n ∷ []) ∙ ap (λ b. b || (bytes_eq n x || false)) e ∙ ap (λ b. b || false) other,
-     distinct_snoc xs n d parts.1)
+    let other : bytes_eq n x ≡ false = bytes_other (bytes_eq n x) x n refl parts.0 in (
+      list_any-append (λ m. bytes_eq m x) xs (n ∷ []) ∙ ap (λ b. b || (bytes_eq n x || false)) e ∙ ap (λ b. b || false) other,
+      distinct_snoc xs n d parts.1,
+    )
 
 -- what the first statements say, with one statement more
 said_more : {X A B : Type 0} (f : A → List B) (g : X → A) (xs : List X) (i : ℕ) (x : X) → i < length xs → x ≡ get_or xs i x → flat_map f (take (i + 1) (map g xs)) ≡ flat_map f (take i (map g xs)) ++ f (g x)
@@ -66,7 +67,7 @@ names_more new before more i d inside h =
     let x = get_or more i d in
     let e : take (i + 1) more ≡ take i more ++ x ∷ [] = take_more more i d inside in
     let moved : (before ++ map now_of (take i more)) ++ x.now ∷ [] ≡ before ++ map now_of (take (i + 1) more) =
-        append_assoc before (map now_of (take i more)) (x.now ∷ []) ∙ ap (λ l. before ++ l) (sym (ap (λ l. map now_of l) e ∙ map-append now_of (take i more) (x ∷ []))) in
+    append_assoc before (map now_of (take i more)) (x.now ∷ []) ∙ ap (λ l. before ++ l) (sym (ap (λ l. map now_of l) e ∙ map-append now_of (take i more) (x ∷ []))) in
     subst (Holds new) moved (holds_snoc new (before ++ map now_of (take i more)) x.now h)
 
 -- one statement's names more

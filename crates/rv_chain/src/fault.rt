@@ -3,10 +3,9 @@
 ghost use Rattle.std.specs.Prelude.{◌≡◌};
 ghost use Rattle.rv_chain.specs.Fault.{number_of, name_of};
 
-use std::alloc::{AllocError, AllocFailed};
-
 use rv_image::FileFault;
 use rv_text::SourceFault;
+use std::alloc::{AllocError, AllocFailed};
 use thiserror::Error;
 
 /// Why objects cannot be linked.

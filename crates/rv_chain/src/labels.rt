@@ -62,7 +62,10 @@ fn add_label<'a>(seen: &mut Names<'a>, statement: &Statement<'a>) -> Result<(), 
 }
 
 /// The names that the source makes global.
-pub(crate) fn declared<'a>(alloc: Allocator, statements: &[Statement<'a>]) -> Result<Names<'a>, AllocError>
+pub(crate) fn declared<'a>(
+    alloc: Allocator,
+    statements: &[Statement<'a>],
+) -> Result<Names<'a>, AllocError>
     ensures { IfOk result (λ names. Holds names.set (made_globals (map said_by statements.now))) }
 {
     let mut names = Names::new(alloc);
@@ -83,7 +86,12 @@ fn add_all<'a>(names: &mut Names<'a>, more: &[&'a [u8]]) -> Result<(), AllocErro
 }
 
 /// The global labels with their addresses, where the first statement stands at `start`.
-pub(crate) fn globals(alloc: Allocator, statements: &[Statement<'_>], names: &Names<'_>, start: u64) -> Result<Vec<Global>, Fault>
+pub(crate) fn globals(
+    alloc: Allocator,
+    statements: &[Statement<'_>],
+    names: &Names<'_>,
+    start: u64,
+) -> Result<Vec<Global>, Fault>
     requires { start + size_all (map said_by statements.now) < 2 ^ 64 }
     ensures { IfOk result (λ globals. (gs : List (List ℕ)) → Holds (names.now).set gs → map shown_global globals.items ≡ globals_from gs start (map said_by statements.now)) }
 {

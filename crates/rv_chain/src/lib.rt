@@ -11,6 +11,8 @@ mod options;
 mod rows;
 mod running;
 mod symbols;
+#[cfg(test)]
+mod tests;
 mod text;
 
 pub use building::build;

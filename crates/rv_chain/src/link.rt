@@ -33,7 +33,14 @@ fn next_page(address: u64) -> u64
 }
 
 /// The map of a text of so many bytes with these globals and rows; the other regions are empty.
-fn text_map_of(alloc: Allocator, start: u64, size: u64, entry: u64, globals: Vec<Global>, rows: Vec<Row>) -> Map
+fn text_map_of(
+    alloc: Allocator,
+    start: u64,
+    size: u64,
+    entry: u64,
+    globals: Vec<Global>,
+    rows: Vec<Row>,
+) -> Map
     requires { start + size ≤ 0x3ff0_0000 }
     ensures { map_of result ≡ text_map start size entry (map shown_global globals.items) rows.items }
 {
@@ -60,7 +67,11 @@ fn text_map_of(alloc: Allocator, start: u64, size: u64, entry: u64, globals: Vec
 }
 
 /// The statements as a linked program whose text starts at an address.
-pub(crate) fn link(alloc: Allocator, statements: &[Statement<'_>], start: u64) -> Result<Linked, Fault>
+pub(crate) fn link(
+    alloc: Allocator,
+    statements: &[Statement<'_>],
+    start: u64,
+) -> Result<Linked, Fault>
     requires page { start % 4096 ≡ 0 }
     requires low { start < 0x3ff0_0000 }
     ensures { IfOk result (λ l. IsProgram start (map said_by statements.now) (linked_of l)) }

@@ -20,7 +20,11 @@ pub(crate) fn size(statement: &Statement<'_>) -> u64
 }
 
 /// The rows of the statements, from the address of the first on.
-pub(crate) fn rows(alloc: Global, statements: &[Statement<'_>], start: u64) -> Result<Vec<Row>, AllocError>
+pub(crate) fn rows(
+    alloc: Global,
+    statements: &[Statement<'_>],
+    start: u64,
+) -> Result<Vec<Row>, AllocError>
     requires { start + size_all (map said_by statements.now) < 2 ^ 64 }
     ensures { IfOk result (λ rows. rows.items ≡ rows_from 1 start (map said_by statements.now)) }
 {
@@ -34,14 +38,21 @@ pub(crate) fn rows(alloc: Global, statements: &[Statement<'_>], start: u64) -> R
 }
 
 /// Adds the row of a statement, if it has one.
-fn put_row(rows: &mut Vec<Row>, statement: &Statement<'_>, ordinal: u64, address: u64) -> Result<(), AllocError>
+fn put_row(
+    rows: &mut Vec<Row>,
+    statement: &Statement<'_>,
+    ordinal: u64,
+    address: u64,
+) -> Result<(), AllocError>
     ensures { OnOk result (rows.new.items ≡ rows.old.items ++ rows_of ordinal address statement.now.line (said_by statement.now).says) }
 {
     let (bytes, instructions) = match &statement.kind {
         StatementKind::Norvc | StatementKind::Globl(_) => return Ok(()),
         StatementKind::Label(_) => (0, 0),
         StatementKind::Ecall => (4, 1),
-        StatementKind::Numeric(_) | StatementKind::Symbolic(_) | StatementKind::Referring(_) => (4, 1),
+        StatementKind::Numeric(_) | StatementKind::Symbolic(_) | StatementKind::Referring(_) => (
+            4, 1,
+        ),
     };
     rows.push(Row {
         file: 1,

@@ -66,7 +66,12 @@ fn put_symbol(
 
 /// The names that the linker defines, but for those that a source does: the text's end, and where the
 /// variables begin and end, of which there are none.
-pub(crate) fn symbols(alloc: Allocator, defined: &[Global], text_end: u64, variables: u64) -> Result<Vec<Global>, Fault>
+pub(crate) fn symbols(
+    alloc: Allocator,
+    defined: &[Global],
+    text_end: u64,
+    variables: u64,
+) -> Result<Vec<Global>, Fault>
     requires { variables + 0x800 < 2 ^ 64 }
     ensures { IfOk result (λ symbols. map shown_global symbols.items ≡ filter (λ g. not (is_one_of (names_of (map shown_global defined.now)) g.name))
         (symbol (codes "_etext") text_end ∷ symbol (codes "__bss_start") variables ∷ symbol (codes "_edata") variables ∷ symbol (codes "_end") variables ∷ symbol (codes "__global_pointer$") (variables + 0x800) ∷ [])) }
@@ -76,6 +81,12 @@ pub(crate) fn symbols(alloc: Allocator, defined: &[Global], text_end: u64, varia
     put_symbol(alloc, &mut symbols, defined, "__bss_start", variables)?;
     put_symbol(alloc, &mut symbols, defined, "_edata", variables)?;
     put_symbol(alloc, &mut symbols, defined, "_end", variables)?;
-    put_symbol(alloc, &mut symbols, defined, "__global_pointer$", variables + 0x800)?;
+    put_symbol(
+        alloc,
+        &mut symbols,
+        defined,
+        "__global_pointer$",
+        variables + 0x800,
+    )?;
     Ok(symbols)
 }

@@ -35,7 +35,7 @@ realizes_linked reader a ss l h =
     let ends : m.bss.end ≡ m.data.end = ap (λ x. x.bss.end) h.assembled.is_map ∙ sym (ap (λ x. x.data.end) h.assembled.is_map) in
     let segments = linked_segments l (code ss) h.text h.rodata h.data ends in
     subst (λ x. Realizes reader (mem_of (linked_image l)) (program (ss ∷ []) x)) (sym h.assembled.is_map)
-      (realizes_segments reader ss a m.entry m.globals (linked_image l) (code ss) h.assembled.coded h.assembled.below refl (segments ∙ ap (λ x. text_segments x (code ss)) start))
+    (realizes_segments reader ss a m.entry m.globals (linked_image l) (code ss) h.assembled.coded h.assembled.below refl (segments ∙ ap (λ x. text_segments x (code ss)) start))
 
 pub assembled_agrees : (a : ℕ) (ss : List Spoken) (l : Linked) → IsProgram a ss l → l.map.entry < 2 ^ 64 → l.map.entry % 2 ≡ 0 → RunsAgree (ss ∷ []) l.map (linked_image l)
 assembled_agrees a ss l h below even reader input bytes n =

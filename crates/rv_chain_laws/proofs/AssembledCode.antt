@@ -44,11 +44,11 @@ module _ {StandsFor : ℕ → Inst → Type 0} (reader : Reader Spells StandsFor
       let b2 : m.byte ((a + 1 + 1) % 2 ^ 64) ≡ w / 65536 % 256 = ap (λ x. m.byte x) (let e : (a + 1 + 1) % 2 ^ 64 ≡ a + 1 + 1 = omega arith in e) ∙ h2 in
       let b3 : m.byte ((a + 1 + 1 + 1) % 2 ^ 64) ≡ w / 16777216 % 256 = ap (λ x. m.byte x) (let e : (a + 1 + 1 + 1) % 2 ^ 64 ≡ a + 1 + 1 + 1 = omega arith in e) ∙ h3 in
       let number : number_at m a 4 ≡ w =
-          ap (λ x. x + 256 * number_at m (a + 1) 3) low
-          ∙ ap (λ x. w % 256 + 256 * (x + 256 * number_at m (a + 1 + 1) 2)) b1
-          ∙ ap (λ x. w % 256 + 256 * (w / 256 % 256 + 256 * (x + 256 * number_at m (a + 1 + 1 + 1) 1))) b2
-          ∙ ap (λ x. w % 256 + 256 * (w / 256 % 256 + 256 * (w / 65536 % 256 + 256 * (x + 256 * 0)))) b3
-          ∙ four w below in
+      ap (λ x. x + 256 * number_at m (a + 1) 3) low
+      ∙ ap (λ x. w % 256 + 256 * (x + 256 * number_at m (a + 1 + 1) 2)) b1
+      ∙ ap (λ x. w % 256 + 256 * (w / 256 % 256 + 256 * (x + 256 * number_at m (a + 1 + 1 + 1) 1))) b2
+      ∙ ap (λ x. w % 256 + 256 * (w / 256 % 256 + 256 * (w / 65536 % 256 + 256 * (x + 256 * 0)))) b3
+      ∙ four w below in
       let three : m.byte (a % 2 ^ 64) % 4 ≡ 3 = ap (λ x. x % 4) low ∙ (let e : w % 256 % 4 ≡ 3 = omega arith in e) in
       let long : length_at m a ≡ 4 = ap (λ x. if x == 3 then 4 else 2) three in
       let read : reader.word w ≡ Some i = (reader.words w i).1 (record { valid = valid; sum = sym same }) in
@@ -102,13 +102,16 @@ Runs m a stop = (x : ℕ) → a ≤ x → x < stop → m.has x Execute ≡ true
 
 module _ {StandsFor : ℕ → Inst → Type 0} (reader : Reader Spells StandsFor) (m : Mem) (p : Program) (stop : ℕ) (room : stop < 2 ^ 64) where
   holds_by : (says : Statement) (line k a : ℕ) (ss : List Spoken) → IsCoded says → HasBytes m a (code (spoken line says ∷ ss)) → a + size_all (spoken line says ∷ ss) ≤ stop → Runs m a stop → ((b : ℕ) → HasBytes m b (code ss) → b + size_all ss ≤ stop → Runs m b stop → AllByRecursion (HoldsLines reader m p) (sites_one (suc k) b ss)) → AllByRecursion (HoldsLines reader m p) (sites_one k a (spoken line says ∷ ss))
-  holds_by (Label name) line k a ss c h fits runs ih =
-      (record {
-        lines = [];
-        are_lines = (refl, omega arith);
-        stand = tt;
-        below = omega arith;
-        size = (refl, omega arith, omega arith, refl) }, ih (a + 0) (subst (λ x. HasBytes m x (code ss)) (let e : a ≡ a + 0 = omega arith in e) h) (omega arith) (λ x l u. runs x (omega arith) u))
+  holds_by (Label name) line k a ss c h fits runs ih = (
+    record {
+      lines = [];
+      are_lines = (refl, omega arith);
+      stand = tt;
+      below = omega arith;
+      size = (refl, omega arith, omega arith, refl);
+    },
+    ih (a + 0) (subst (λ x. HasBytes m x (code ss)) (let e : a ≡ a + 0 = omega arith in e) h) (omega arith) (λ x l u. runs x (omega arith) u),
+  )
   holds_by Norvc line k a ss c h fits runs ih = ih (a + 0) (subst (λ x. HasBytes m x (code ss)) (let e : a ≡ a + 0 = omega arith in e) h) (omega arith) (λ x l u. runs x (omega arith) u)
   holds_by (Globl names) line k a ss c h fits runs ih = ih (a + 0) (subst (λ x. HasBytes m x (code ss)) (let e : a ≡ a + 0 = omega arith in e) h) (omega arith) (λ x l u. runs x (omega arith) u)
   holds_by (Instruction mnemonic operands) line k a ss (i, same, valid) h fits runs ih =
@@ -116,13 +119,16 @@ module _ {StandsFor : ℕ → Inst → Type 0} (reader : Reader Spells StandsFor
       let e : expansion p s ≡ Some (i ∷ []) = expanded-is p s mnemonic operands i same in
       let wide : IsWide i = base_wide mnemonic operands i same valid in
       let held : HasBytes m a (to_le_bytes w32 (word (form i)) ++ code ss) = subst (λ o. HasBytes m a (word_bytes o ++ code ss)) same h in
-      let got : fetch reader m a ≡ Got i 4 = fetch-word reader m a i (word (form i)) (code ss) refl wide.0 wide.1 valid (omega arith) (may_all m 4 a (λ x l u. runs x l (omega arith)) (omega arith)) held in
-      (record {
-        lines = record { address = a; bytes = 4; instruction = i } ∷ [];
-        are_lines = (e, (refl, refl));
-        stand = ((got, valid), tt);
-        below = omega arith;
-        size = subst (λ o. IsRowOf o s.row) (sym e) (refl, omega arith, omega arith, refl) }, ih (a + 4) (bytes_behind m a (to_le_bytes w32 (word (form i))) (code ss) held) (omega arith) (λ x l u. runs x (omega arith) u))
+      let got : fetch reader m a ≡ Got i 4 = fetch-word reader m a i (word (form i)) (code ss) refl wide.0 wide.1 valid (omega arith) (may_all m 4 a (λ x l u. runs x l (omega arith)) (omega arith)) held in (
+        record {
+          lines = record { address = a; bytes = 4; instruction = i } ∷ [];
+          are_lines = (e, (refl, refl));
+          stand = ((got, valid), tt);
+          below = omega arith;
+          size = subst (λ o. IsRowOf o s.row) (sym e) (refl, omega arith, omega arith, refl);
+        },
+        ih (a + 4) (bytes_behind m a (to_le_bytes w32 (word (form i))) (code ss) held) (omega arith) (λ x l u. runs x (omega arith) u),
+      )
 
   pub holds_all : (k a : ℕ) (ss : List Spoken) → AreCoded ss → HasBytes m a (code ss) → a + size_all ss ≤ stop → Runs m a stop → AllByRecursion (HoldsLines reader m p) (sites_one k a ss)
   holds_all k a [] c h fits runs = tt

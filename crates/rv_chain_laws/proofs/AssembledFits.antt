@@ -121,4 +121,5 @@ fits_map ss a entry globals coded page =
       gaps = sym (ap (λ bs. gaps_of a bs) text ∙ no_gap a (aligned 2 a) even []);
       rodata = subst (λ bs. Holds m.rodata (aligned 4096 m.text.end) bs) (sym (no_block goes_to_rodata ss m refl)) (refl, tt, refl);
       «data» = subst (λ bs. Holds m.data (aligned 4096 m.rodata.end) bs) (sym (no_block goes_to_data ss m refl)) (refl, tt, refl);
-      bss = subst (λ bs. Holds m.bss (aligned (greatest_alignment bs) m.data.end) bs) (sym (no_block goes_to_bss ss m refl)) (aligned-one m.bss.start, tt, aligned-one m.bss.end) }
+      bss = subst (λ bs. Holds m.bss (aligned (greatest_alignment bs) m.data.end) bs) (sym (no_block goes_to_bss ss m refl)) (aligned-one m.bss.start, tt, aligned-one m.bss.end);
+    }

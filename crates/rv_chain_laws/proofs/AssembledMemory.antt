@@ -92,7 +92,8 @@ module _ {StandsFor : ℕ → Inst → Type 0} (reader : Reader Spells StandsFor
         gaps = λ pc u even e. absurd (no_gap (is_in the_map.text pc) (found p.sites pc) e);
         rights = rights;
         bytes = λ x u r. zeros x u r ∙ sym (byte_none _ x);
-        fixed = λ x u r. unwritable a (size_all ss) the_map.data.start x below r }
+        fixed = λ x u r. unwritable a (size_all ss) the_map.data.start x below r;
+      }
 
 -- ---- an image with the text alone
 
@@ -170,9 +171,10 @@ has_back a all front (b ∷ back) m same e =
     let at : x - a ≡ length front = omega arith in
     let here : slice_index all (x - a) ≡ b = ap (λ i. slice_index all i) at ∙ ap (λ l. slice_index l (length front)) e ∙ get_or-append_seam front b back 0 in
     let moved : all ≡ (front ++ b ∷ []) ++ back = e ∙ sym (append_assoc front (b ∷ []) back) in
-    let next : a + length (front ++ b ∷ []) ≡ x + 1 = ap (λ n. a + n) (length-append front (b ∷ [])) ∙ omega arith in
-    (same x ∙ byte_inside (lies_in (text_segment a all) x) (text_segment a all) x inside ∙ here,
-     subst (λ y. HasBytes m y back) next (has_back a all (front ++ b ∷ []) back m same moved))
+    let next : a + length (front ++ b ∷ []) ≡ x + 1 = ap (λ n. a + n) (length-append front (b ∷ [])) ∙ omega arith in (
+      same x ∙ byte_inside (lies_in (text_segment a all) x) (text_segment a all) x inside ∙ here,
+      subst (λ y. HasBytes m y back) next (has_back a all (front ++ b ∷ []) back m same moved),
+    )
 
 has_all : (a : ℕ) (all : List ℕ) (m : Mem) → ((x : ℕ) → m.byte x ≡ byte_in (segment_at (text_segment a all ∷ []) x) x) → HasBytes m a all
 has_all a all m same = subst (λ y. HasBytes m y all) (let e : a + 0 ≡ a = omega arith in e) (has_back a all [] all m same refl)
@@ -207,28 +209,28 @@ realizes_segments reader ss a entry globals image [] coded below same e =
     let r = aligned 4096 (a + size_all ss) in
     let d = aligned 4096 r in
     realizes_map reader m ss a entry globals coded below (subst (λ bs. HasBytes m a bs) (sym same) tt)
-      (λ x u right. ap (λ segments. right_in (segment_at segments x) right || in_stack x right) e ∙ subst (λ n. in_stack x right ≡ right_at (bare_map a n r d) x right) (sym size) (no_rights a r d x right) ∙ same_regions a (size_all ss) entry globals (rows_from 1 a ss) x right)
-      (λ x u r. ap (λ segments. byte_in (segment_at segments x) x) e)
+    (λ x u right. ap (λ segments. right_in (segment_at segments x) right || in_stack x right) e ∙ subst (λ n. in_stack x right ≡ right_at (bare_map a n r d) x right) (sym size) (no_rights a r d x right) ∙ same_regions a (size_all ss) entry globals (rows_from 1 a ss) x right)
+    (λ x u r. ap (λ segments. byte_in (segment_at segments x) x) e)
 realizes_segments reader ss a entry globals image (b ∷ bs) coded below same e =
     let size : length (b ∷ bs) ≡ size_all ss = sym (ap (λ l. length l) same) ∙ code_size ss coded in
     let m : Mem = mem_of image in
     let r = aligned 4096 (a + size_all ss) in
     let d = aligned 4096 r in
     realizes_map reader m ss a entry globals coded below
-      (subst (λ l. HasBytes m a l) (sym same) (has_all a (b ∷ bs) m (λ x. ap (λ segments. byte_in (segment_at segments x) x) e)))
-      (λ x u right. ap (λ segments. right_in (segment_at segments x) right || in_stack x right) e ∙ text_rights a (size_all ss) r d x (b ∷ bs) right size ∙ same_regions a (size_all ss) entry globals (rows_from 1 a ss) x right)
-      (λ x u readable. ap (λ segments. byte_in (segment_at segments x) x) e ∙ text_zeros a (size_all ss) r d x (b ∷ bs) size below readable)
+    (subst (λ l. HasBytes m a l) (sym same) (has_all a (b ∷ bs) m (λ x. ap (λ segments. byte_in (segment_at segments x) x) e)))
+    (λ x u right. ap (λ segments. right_in (segment_at segments x) right || in_stack x right) e ∙ text_rights a (size_all ss) r d x (b ∷ bs) right size ∙ same_regions a (size_all ss) entry globals (rows_from 1 a ss) x right)
+    (λ x u readable. ap (λ segments. byte_in (segment_at segments x) x) e ∙ text_zeros a (size_all ss) r d x (b ∷ bs) size below readable)
 
 -- ---- the image of a linked program that has text alone
 
 abbrev segments_from : ℕ → ℕ → ℕ → ℕ → List ℕ → List ℕ → List ℕ → List Segment
 segments_from a r d zeros text rodata «data» =
     map {A = Part} (λ part. record { address = part.address; bytes = part.stored ++ replicate part.zeros 0; flags = part.flags })
-      (filter {X = Part} (λ part. not (memory_size_of part == 0))
-        (record { address = a; stored = text; zeros = 0; flags = 1 }
-        ∷ record { address = r; stored = rodata; zeros = 0; flags = 4 }
-        ∷ record { address = d; stored = «data»; zeros = zeros; flags = 6 }
-        ∷ []))
+    (filter {X = Part} (λ part. not (memory_size_of part == 0))
+    (record { address = a; stored = text; zeros = 0; flags = 1 }
+    ∷ record { address = r; stored = rodata; zeros = 0; flags = 4 }
+    ∷ record { address = d; stored = «data»; zeros = zeros; flags = 6 }
+    ∷ []))
 
 text_alone : (a r d : ℕ) (bytes : List ℕ) → segments_from a r d 0 bytes [] [] ≡ text_segments a bytes
 text_alone a r d [] = refl

@@ -93,4 +93,5 @@ resolves_map ss m a e d entry globals =
     record {
       globals = subst (λ ds. m.globals ≡ ds ++ filter (λ g. not (is_one_of (names_of ds) g.name)) (linker_symbols m)) (sym same) globals;
       once = subst (λ ds. AreDistinct (names_of ds)) (sym same) (once (made_globals ss) a ss d);
-      entry = subst (λ ds. find (λ g. bytes_eq g.name (codes "_start")) ds ≡ Some (symbol (codes "_start") m.entry)) (sym same) (found_shown (codes "_start") m.entry (globals_from (made_globals ss) a ss) entry) }
+      entry = subst (λ ds. find (λ g. bytes_eq g.name (codes "_start")) ds ≡ Some (symbol (codes "_start") m.entry)) (sym same) (found_shown (codes "_start") m.entry (globals_from (made_globals ss) a ss) entry);
+    }

@@ -120,14 +120,15 @@ abbrev pub text_map : ℕ → ℕ → ℕ → List Global → List Row → Map
 text_map text_start size entry globals rows =
     let data_start = aligned 4096 (aligned 4096 (text_start + size)) in
     record {
-        text = record { start = text_start; end = text_start + size };
-        rodata = empty_at (aligned 4096 (text_start + size));
-        «data» = empty_at data_start;
-        bss = empty_at data_start;
-        entry = entry;
-        gaps = [];
-        globals = globals;
-        rows = rows }
+      text = record { start = text_start; end = text_start + size };
+      rodata = empty_at (aligned 4096 (text_start + size));
+      «data» = empty_at data_start;
+      bss = empty_at data_start;
+      entry = entry;
+      gaps = [];
+      globals = globals;
+      rows = rows;
+    }
 
 -- the map that a source has from a text start on
 pub record IsAssembled (text_start : ℕ) (ss : List Spoken) (m : Map) : Type 0 where

@@ -1,12 +1,10 @@
 //! What the program does: runs, builds, prints a map.
 
-use std::alloc::{AllocError, AllocFailed, Global};
-
-use rv_chain::{Built, End, LinkOptions, build, run_exec};
-
 use crate::messages::{end_line, fault_line};
 use crate::streams::{self, INPUT_LIMIT, ReadFault};
 use crate::words::default_options;
+use rv_chain::{Built, End, LinkOptions, build, run_exec};
+use std::alloc::{AllocError, AllocFailed, Global};
 
 /// The exit status of a run that the guest did not end by an exit.
 const NOT_EXITED: u8 = 125;
@@ -15,7 +13,10 @@ const NOT_EXITED: u8 = 125;
 #[derive(Drop)]
 pub(crate) enum Job<'a> {
     /// Runs an executable, or a source; `-` is standard input.
-    Run { file: &'a str, limit: u64 },
+    Run {
+        file: &'a str,
+        limit: u64,
+    },
     /// Writes the executable, and the map where a file is named for it.
     Build {
         exe: &'a str,
@@ -68,7 +69,12 @@ impl<T: Drop> From<AllocFailed<T>> for Trouble {
 pub(crate) fn done(rt: &HostRuntime, job: &Job<'_>) -> Result<u8, Trouble> {
     match job {
         Job::Run { file, limit } => run(rt, file, *limit),
-        Job::Build { exe, map, options, sources } => {
+        Job::Build {
+            exe,
+            map,
+            options,
+            sources,
+        } => {
             let built = built(rt, sources.as_slice(), *options)?;
             write(rt, exe, built.exe.as_slice())?;
             if let Some(map) = map {
@@ -90,14 +96,22 @@ pub(crate) fn done(rt: &HostRuntime, job: &Job<'_>) -> Result<u8, Trouble> {
 fn run(rt: &HostRuntime, name: &str, limit: u64) -> Result<u8, Trouble> {
     let alloc: Global = rt.alloc();
     let from_input = name == "-";
-    let read = if from_input { streams::input_file(rt) } else { streams::file(rt, name) };
+    let read = if from_input {
+        streams::input_file(rt)
+    } else {
+        streams::file(rt, name)
+    };
     let bytes = had(alloc, name, read)?;
     let exe = if bytes.as_slice().starts_with(b"\x7fELF") {
         bytes
     } else {
         executable(alloc, name, bytes.as_slice())?
     };
-    let input = if from_input { Vec::new(alloc) } else { guest_input(rt)? };
+    let input = if from_input {
+        Vec::new(alloc)
+    } else {
+        guest_input(rt)?
+    };
     match run_exec(alloc, exe.as_slice(), input.as_slice(), limit) {
         Ok(outcome) => ended(rt, outcome.console.as_slice(), &outcome.end),
         Err(fault) => Err(fault_line(alloc, &fault, &[name])?),

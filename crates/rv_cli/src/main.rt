@@ -6,11 +6,10 @@ mod messages;
 mod streams;
 mod words;
 
+use jobs::Trouble;
 use std::alloc::Global;
 use std::env;
 use std::process::ExitCode;
-
-use jobs::Trouble;
 
 /// The exit status of a refused job.
 const REFUSED: u8 = 1;
@@ -45,7 +44,11 @@ fn told(rt: &HostRuntime, trouble: Trouble) -> u8 {
     match trouble {
         Trouble::Usage(error) => {
             let shown = error.print(rt);
-            if error.use_stderr() || shown.is_err() { USAGE } else { 0 }
+            if error.use_stderr() || shown.is_err() {
+                USAGE
+            } else {
+                0
+            }
         }
         Trouble::NotText => {
             let _ = eprintln!(rt; "rv: a word of the command line is not text");

@@ -1,13 +1,15 @@
 //! The lines that the program writes to standard error, without `rv: ` before them.
 
+use crate::jobs::Trouble;
+use rv_chain::{End, Fault, FileFault, LinkFault, SourceFault};
 use std::alloc::{AllocError, Global};
 
-use rv_chain::{End, Fault, FileFault, LinkFault, SourceFault};
-
-use crate::jobs::Trouble;
-
 /// The line of a fault of `build` or `run_exec`; `names` are the files in their order.
-pub(crate) fn fault_line(alloc: Global, fault: &Fault, names: &[&str]) -> Result<Trouble, AllocError> {
+pub(crate) fn fault_line(
+    alloc: Global,
+    fault: &Fault,
+    names: &[&str],
+) -> Result<Trouble, AllocError> {
     match fault {
         Fault::Source(file, fault) => source_line(alloc, name_of(names, *file), fault),
         Fault::File(file, fault) => file_line(alloc, name_of(names, *file), fault),

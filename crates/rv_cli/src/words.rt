@@ -1,12 +1,10 @@
 //! The command line: which words mean which job.
 
-use std::alloc::Global;
-
+use crate::jobs::{Job, Trouble};
 use clap::error::ErrorKind;
 use clap::{Arg, ArgAction, ArgMatches, Command, Error};
 use rv_chain::LinkOptions;
-
-use crate::jobs::{Job, Trouble};
+use std::alloc::Global;
 
 /// Where the text of a program starts unless the words say otherwise.
 const TEXT_START: u64 = 0x1_0000;
@@ -21,7 +19,10 @@ pub(crate) fn job_of<'a>(alloc: Global, words: &'a [&'a str]) -> Result<Job<'a>,
         Some(("run", found)) => run_job(&mut command, found),
         Some(("build", found)) => build_job(alloc, &mut command, found),
         Some(("map", found)) => map_job(alloc, &mut command, found),
-        _ => Ok(Job::Run { file: "-", limit: LIMIT }),
+        _ => Ok(Job::Run {
+            file: "-",
+            limit: LIMIT,
+        }),
     }
 }
 
@@ -30,11 +31,27 @@ fn command<'a>(alloc: Global) -> Result<Command<'a>, Error> {
     let run = Command::new(alloc, "run")
         .about("Runs an executable, or builds a source and runs it")
         .arg(limit(alloc))?
-        .arg(Arg::new(alloc, "file").value_name("FILE").required(true).help("An executable or a source; - is standard input"))?;
+        .arg(
+            Arg::new(alloc, "file")
+                .value_name("FILE")
+                .required(true)
+                .help("An executable or a source; - is standard input"),
+        )?;
     let build = Command::new(alloc, "build")
         .about("Builds an executable from sources")
-        .arg(Arg::new(alloc, "output").short('o').value_name("EXE").required(true).help("The executable to write"))?
-        .arg(Arg::new(alloc, "map").long("map").value_name("F").help("Writes the map as well"))?
+        .arg(
+            Arg::new(alloc, "output")
+                .short('o')
+                .value_name("EXE")
+                .required(true)
+                .help("The executable to write"),
+        )?
+        .arg(
+            Arg::new(alloc, "map")
+                .long("map")
+                .value_name("F")
+                .help("Writes the map as well"),
+        )?
         .arg(text_start_option(alloc))?
         .arg(sources(alloc))?;
     let map = Command::new(alloc, "map")
@@ -46,10 +63,9 @@ fn command<'a>(alloc: Global) -> Result<Command<'a>, Error> {
 }
 
 fn limit<'a>(alloc: Global) -> Arg<'a> {
-    Arg::new(alloc, "limit")
-        .long("limit")
-        .value_name("N")
-        .help("The most instructions to execute [default: 1000000000000]")
+    Arg::new(alloc, "limit").long("limit").value_name("N").help(
+        "The most instructions to execute [default: 1000000000000]",
+    )
 }
 
 fn text_start_option<'a>(alloc: Global) -> Arg<'a> {
@@ -71,7 +87,11 @@ fn sources<'a>(alloc: Global) -> Arg<'a> {
 fn run_job<'a>(command: &mut Command<'a>, found: &ArgMatches<'a>) -> Result<Job<'a>, Trouble> {
     let limit = match found.get_str("limit") {
         None => LIMIT,
-        Some(text) => number(command, decimal(text), "a limit is a decimal number below 2^64")?,
+        Some(text) => number(
+            command,
+            decimal(text),
+            "a limit is a decimal number below 2^64",
+        )?,
     };
     Ok(Job::Run {
         file: found.get_str("file").unwrap_or("-"),
@@ -111,7 +131,11 @@ fn link_options(command: &mut Command<'_>, found: &ArgMatches<'_>) -> Result<Lin
         None => TEXT_START,
         Some(text) => {
             let read = text_start(text);
-            number(command, read, "a text start is decimal, or 0x and hexadecimal, below 2^64")?
+            number(
+                command,
+                read,
+                "a text start is decimal, or 0x and hexadecimal, below 2^64",
+            )?
         }
     };
     Ok(LinkOptions {

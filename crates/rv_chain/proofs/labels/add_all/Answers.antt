@@ -6,4 +6,4 @@ pub loop-name-preserved : goal.loop-name-preserved
 loop-name-preserved c = λ before h.
     let inside : c.loop-name.name-index < length c.args.more.now = search rules in
     names_more c.add.new.self.set before c.args.more.now c.loop-name.name-index (record { ref_ptr = (0, 0); now = [] }) inside
-      ((c.in_ok-add.ensures _ (c.loop-name.invariant before h)).0)
+    ((c.in_ok-add.ensures _ (c.loop-name.invariant before h)).0)

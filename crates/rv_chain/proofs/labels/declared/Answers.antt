@@ -13,4 +13,4 @@ loop-statement-preserved c =
     let xs = c.args.statements.now in
     let inside : i < length xs = search rules in
     declared_more (λ s. made_global s.says) said_by c.add_all.new.names.set xs i x inside c.statement-item.is
-      (subst (λ l. Holds c.add_all.new.names.set (flat_map (λ s. made_global s.says) (take i (map said_by xs)) ++ l)) (sym c.made_global.ensures) (c.in_ok-add_all.ensures _ c.loop-statement.invariant))
+    (subst (λ l. Holds c.add_all.new.names.set (flat_map (λ s. made_global s.says) (take i (map said_by xs)) ++ l)) (sym c.made_global.ensures) (c.in_ok-add_all.ensures _ c.loop-statement.invariant))

@@ -9,4 +9,4 @@ loop-statement-preserved c =
     let i = c.loop-statement.statement-index in
     let inside : i < length c.args.statements.now = search rules in
     distinct_more (λ s. labels_of s.says) said_by c.add_label.new.seen.set c.args.statements.now i c.statement-item.result inside c.statement-item.is
-      (c.in_ok-add_label.ensures _ c.loop-statement.invariant.0 c.loop-statement.invariant.1)
+    (c.in_ok-add_label.ensures _ c.loop-statement.invariant.0 c.loop-statement.invariant.1)

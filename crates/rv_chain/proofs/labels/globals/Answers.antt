@@ -14,9 +14,9 @@ overflow_add-address c =
     let x = c.statement-item.result in
     let inside : i < length c.args.statements.now = search rules in
     let next : drop i all ≡ said_by x ∷ drop (i + 1) all =
-        drop_next said_by x c.args.statements.now i inside ∙ ap (λ y. said_by y ∷ drop (i + 1) all) (sym c.statement-item.is) in
+    drop_next said_by x c.args.statements.now i inside ∙ ap (λ y. said_by y ∷ drop (i + 1) all) (sym c.statement-item.is) in
     let fits : c.loop-statement.address + c.size-address.result < 2 ^ 64 = subst (λ n. c.loop-statement.address + n < 2 ^ 64) (sym c.size-address.ensures)
-      (next_fits all (drop i all) (drop (i + 1) all) (said_by x) c.args.start c.loop-statement.address next c.loop-statement.invariant.1 c.requires) in
+    (next_fits all (drop i all) (drop (i + 1) all) (said_by x) c.args.start c.loop-statement.address next c.loop-statement.invariant.1 c.requires) in
     omega arith
 
 pub loop-statement-preserved : goal.loop-statement-preserved
@@ -26,7 +26,8 @@ loop-statement-preserved c =
     let x = c.statement-item.result in
     let inside : i < length c.args.statements.now = search rules in
     let next : drop i all ≡ said_by x ∷ drop (i + 1) all =
-        drop_next said_by x c.args.statements.now i inside ∙ ap (λ y. said_by y ∷ drop (i + 1) all) (sym c.statement-item.is) in
-    subst (λ n. ((gs : List (List ℕ)) → Holds c.args.names.now.set gs → map global_of c.put_global.new.globals.items ++ globals_from gs (c.loop-statement.address + n) (drop (i + 1) all) ≡ globals_from gs c.args.start all) × (c.loop-statement.address + n + size_all (drop (i + 1) all) ≡ c.args.start + size_all all)) (sym c.size-address.ensures)
-      ((λ gs h. globals_more all (drop i all) (drop (i + 1) all) (said_by x) gs c.args.start c.loop-statement.address _ _ next (c.in_ok-put_global.ensures gs h) (c.loop-statement.invariant.0 gs h)),
-       size_more all (drop i all) (drop (i + 1) all) (said_by x) c.args.start c.loop-statement.address next c.loop-statement.invariant.1)
+    drop_next said_by x c.args.statements.now i inside ∙ ap (λ y. said_by y ∷ drop (i + 1) all) (sym c.statement-item.is) in
+    subst (λ n. ((gs : List (List ℕ)) → Holds c.args.names.now.set gs → map global_of c.put_global.new.globals.items ++ globals_from gs (c.loop-statement.address + n) (drop (i + 1) all) ≡ globals_from gs c.args.start all) × (c.loop-statement.address + n + size_all (drop (i + 1) all) ≡ c.args.start + size_all all)) (sym c.size-address.ensures) (
+      (λ gs h. globals_more all (drop i all) (drop (i + 1) all) (said_by x) gs c.args.start c.loop-statement.address _ _ next (c.in_ok-put_global.ensures gs h) (c.loop-statement.invariant.0 gs h)),
+      size_more all (drop i all) (drop (i + 1) all) (said_by x) c.args.start c.loop-statement.address next c.loop-statement.invariant.1,
+    )

@@ -36,10 +36,10 @@ returns c =
     let entry_is : Some c.in-Some.entry ≡ entry_in defs = sym c.in-Some.is ∙ c.entry.ensures ∙ ap (λ l. entry_in (map global_of l)) c.as_slice.ensures.value in
     let variables_is : c.next_page-variables.result ≡ aligned 4096 (aligned 4096 (a + size)) = c.next_page-variables.ensures ∙ ap (λ n. aligned 4096 n) c.next_page.ensures in
     let more : map global_of c.in_ok-more.more.items ≡ filter (λ g. not (is_one_of (names_of defs) g.name)) (symbol (codes "_etext") (a + size) ∷ symbol (codes "__bss_start") c.next_page-variables.result ∷ symbol (codes "_edata") c.next_page-variables.result ∷ symbol (codes "_end") c.next_page-variables.result ∷ symbol (codes "__global_pointer$") (c.next_page-variables.result + 0x800) ∷ []) =
-        c.in_ok-more.ensures ∙ ap (λ l. filter (λ g. not (is_one_of (names_of (map global_of l)) g.name)) (symbol (codes "_etext") (a + size) ∷ symbol (codes "__bss_start") c.next_page-variables.result ∷ symbol (codes "_edata") c.next_page-variables.result ∷ symbol (codes "_end") c.next_page-variables.result ∷ symbol (codes "__global_pointer$") (c.next_page-variables.result + 0x800) ∷ [])) c.as_slice-2.ensures.value in
+    c.in_ok-more.ensures ∙ ap (λ l. filter (λ g. not (is_one_of (names_of (map global_of l)) g.name)) (symbol (codes "_etext") (a + size) ∷ symbol (codes "__bss_start") c.next_page-variables.result ∷ symbol (codes "_edata") c.next_page-variables.result ∷ symbol (codes "_end") c.next_page-variables.result ∷ symbol (codes "__global_pointer$") (c.next_page-variables.result + 0x800) ∷ [])) c.as_slice-2.ensures.value in
     let joined : map global_of c.append.new.self.items ≡ defs ++ map global_of c.in_ok-more.more.items =
-        ap (λ l. map global_of l) c.in_ok-append.ensures.items ∙ map-append global_of c.in_ok-globals.globals.items c.in_ok-more.more.items in
+    ap (λ l. map global_of l) c.in_ok-append.ensures.items ∙ map-append global_of c.in_ok-globals.globals.items c.in_ok-more.more.items in
     program_of a ss size c.in-Some.entry (a + size) c.next_page-variables.result defs (map global_of c.append.new.self.items) c.in_ok-rows.rows.items _
-      c.in_ok-text.ensures.0 c.new.ensures.items c.new-2.ensures.items c.text_map_of-map.ensures
-      c.in_ok-text.ensures.1 c.in_ok-distinct.ensures c.requires.page c.requires.low same fits
-      c.in_ok-rows.ensures defs_are entry_is refl variables_is (joined ∙ ap (λ l. defs ++ l) more)
+    c.in_ok-text.ensures.0 c.new.ensures.items c.new-2.ensures.items c.text_map_of-map.ensures
+    c.in_ok-text.ensures.1 c.in_ok-distinct.ensures c.requires.page c.requires.low same fits
+    c.in_ok-rows.ensures defs_are entry_is refl variables_is (joined ∙ ap (λ l. defs ++ l) more)

@@ -12,7 +12,7 @@ returns-then-bears c =
     let x = c.global-item.result in
     let inside : i < length c.args.globals.now = search rules in
     let next : drop i all ≡ global_of x ∷ drop (i + 1) all =
-        drop_next global_of x c.args.globals.now i inside ∙ ap (λ y. global_of y ∷ drop (i + 1) all) (sym c.global-item.is) in
+    drop_next global_of x c.args.globals.now i inside ∙ ap (λ y. global_of y ∷ drop (i + 1) all) (sym c.global-item.is) in
     let same : bytes_eq x.name.items (codes "_start") ≡ true = ap (λ n. bytes_eq x.name.items n) (sym c.as_bytes.ensures.value) ∙ sym c.bears.ensures ∙ c.if-bears.true in
     sym (sym c.loop-global.invariant ∙ entry_here x.name.items x.address (drop i all) (drop (i + 1) all) (global_of x) next refl refl same)
 
@@ -23,6 +23,6 @@ loop-global-preserved c =
     let x = c.global-item.result in
     let inside : i < length c.args.globals.now = search rules in
     let next : drop i all ≡ global_of x ∷ drop (i + 1) all =
-        drop_next global_of x c.args.globals.now i inside ∙ ap (λ y. global_of y ∷ drop (i + 1) all) (sym c.global-item.is) in
+    drop_next global_of x c.args.globals.now i inside ∙ ap (λ y. global_of y ∷ drop (i + 1) all) (sym c.global-item.is) in
     let other : bytes_eq x.name.items (codes "_start") ≡ false = ap (λ n. bytes_eq x.name.items n) (sym c.as_bytes.ensures.value) ∙ sym c.bears.ensures ∙ c.if-bears.false in
     sym (entry_past x.name.items (drop i all) (drop (i + 1) all) (global_of x) next refl other) ∙ c.loop-global.invariant

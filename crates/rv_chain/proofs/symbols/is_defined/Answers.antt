@@ -11,7 +11,7 @@ returns-then-bears c =
     let x = c.global-item.result in
     let inside : i < length c.args.globals.now = search rules in
     let next : drop i all ≡ global_of x ∷ drop (i + 1) all =
-        drop_next global_of x c.args.globals.now i inside ∙ ap (λ y. global_of y ∷ drop (i + 1) all) (sym c.global-item.is) in
+    drop_next global_of x c.args.globals.now i inside ∙ ap (λ y. global_of y ∷ drop (i + 1) all) (sym c.global-item.is) in
     sym (sym c.loop-global.invariant ∙ found_here c.args.name.now x.name.items (drop i all) (drop (i + 1) all) (global_of x) next refl (sym c.bears.ensures ∙ c.if-bears.true))
 
 pub loop-global-preserved : goal.loop-global-preserved
@@ -21,5 +21,5 @@ loop-global-preserved c =
     let x = c.global-item.result in
     let inside : i < length c.args.globals.now = search rules in
     let next : drop i all ≡ global_of x ∷ drop (i + 1) all =
-        drop_next global_of x c.args.globals.now i inside ∙ ap (λ y. global_of y ∷ drop (i + 1) all) (sym c.global-item.is) in
+    drop_next global_of x c.args.globals.now i inside ∙ ap (λ y. global_of y ∷ drop (i + 1) all) (sym c.global-item.is) in
     sym (not_here c.args.name.now x.name.items (drop i all) (drop (i + 1) all) (global_of x) next refl (sym c.bears.ensures ∙ c.if-bears.false)) ∙ c.loop-global.invariant

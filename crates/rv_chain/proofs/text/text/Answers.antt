@@ -10,5 +10,5 @@ loop-statement-preserved c =
     let x = c.statement-item.result in
     let inside : i < length c.args.statements.now = search rules in
     let next : drop i all ≡ said_by x ∷ drop (i + 1) all =
-        drop_next said_by x c.args.statements.now i inside ∙ ap (λ y. said_by y ∷ drop (i + 1) all) (sym c.statement-item.is) in
+    drop_next said_by x c.args.statements.now i inside ∙ ap (λ y. said_by y ∷ drop (i + 1) all) (sym c.statement-item.is) in
     text_more all (drop i all) (drop (i + 1) all) (said_by x) c.loop-statement.text.items c.put.new.text.items next c.in_ok-put.ensures.0 c.in_ok-put.ensures.1 c.loop-statement.invariant
