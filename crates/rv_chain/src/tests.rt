@@ -124,6 +124,26 @@ fn refused_links(rt: HostRuntime) {
 }
 
 #[test]
+fn image_too_large(rt: HostRuntime) -> Result<(), Fail> {
+    // the last page below the stack holds 1024 instructions
+    let mut source = Vec::from_slice(rt.alloc(), b".option norvc\n.globl _start\n_start:\n")?;
+    for _ in 0..1024 {
+        source.extend_from_slice(b"ecall\n")?;
+    }
+    let last_page = 0x3fef_f000;
+    assert_eq!(rt;
+        link_fault(rt.alloc(), &[source.as_slice()], last_page),
+        None
+    );
+    source.extend_from_slice(b"ecall\n")?;
+    assert_eq!(rt;
+        link_fault(rt.alloc(), &[source.as_slice()], last_page),
+        Some(8)
+    );
+    Ok(())
+}
+
+#[test]
 fn refused_files(rt: HostRuntime) -> Result<(), Fail> {
     let built = built(rt.alloc(), EXIT7)?;
     let mut cut = built.exe;

@@ -4,6 +4,8 @@
 mod jobs;
 mod messages;
 mod streams;
+#[cfg(test)]
+mod tests;
 mod words;
 
 use jobs::Trouble;

@@ -422,9 +422,10 @@ fn words_that_spell_nothing(rt: HostRuntime) {
         // fence.i and MISC-MEM 2
         0x0000_100f,
         0x0000_200f,
-        // csrrw, csrrs, csrrsi, uret, wfi, sfence.vma, mret, ecall with rd and ebreak with rs1
+        // csrrw, csrrs, csrrs of cycleh (in RV32 alone), csrrsi, uret, wfi, sfence.vma, mret, ecall with rd and ebreak with rs1
         0x3000_1073,
         0xc000_2573,
+        0xc800_2573,
         0x3004_6073,
         0x0020_0073,
         0x1050_0073,
