@@ -1,18 +1,17 @@
 # make          builds the program as ./rv and runs an example with it
 # make test     the whole gate: every proof from nothing, the must-fail edits, the tests and the program
 # make install  PREFIX=/usr/local by default
-# make bench    times the program on generated inputs
 
 PREFIX ?= /usr/local
 EXAMPLE := examples/exit7.s
 PROGRAM := crates/rv_cli/out/rv_cli
 SOURCES := $(shell find crates -name out -prune -o -type f -print) crates.txt
 
-.PHONY: all test install bench clean
+.PHONY: all test install clean
 
 all: rv
 	@echo "rv run $(EXAMPLE)"
-	@./rv run $(EXAMPLE); echo "exit status $$?"
+	@./rv run $(EXAMPLE) </dev/null; echo "exit status $$?"
 
 # A program bears its crate's name; it is copied under its own.
 rv: $(SOURCES)
@@ -24,9 +23,6 @@ test:
 
 install: rv
 	install -D -m 755 rv $(DESTDIR)$(PREFIX)/bin/rv
-
-bench: rv
-	bench/run ./rv
 
 clean:
 	rm -rf rv crates/*/out

@@ -125,7 +125,7 @@ pub data Form : Type 0 where
   Ordering : (opcode funct3 : ℕ) (x : FenceOperands) → Form
   Whole : (bits : ℕ) → Form
 
--- the table of chapter 24, in its order
+-- the table of chapter 24
 abbrev pub form : Inst → Form
 form (Lui x) = Upper 0x37 x
 form (Auipc x) = Upper 0x17 x

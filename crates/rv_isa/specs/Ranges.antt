@@ -1,5 +1,5 @@
 -- The operands that each instruction of RV64IMA has, and their ranges
--- (RISC-V Unprivileged ISA 20191213, sections 2.2, 2.3, 5.1, 8.1 and chapter 24).
+-- (RISC-V Unprivileged ISA 20191213, sections 2.2, 2.3, 2.7, 5.2, 8.2 and chapter 24).
 
 use Rattle.std.specs.Prelude.{◌≡◌, ℕ, ◌<◌, ◌%◌, ◌^◌, ℤ, pos, negsuc, ◌≤ℤ◌, unsigned_abs}
 use Rattle.rv_isa.specs.declared.instruction.RType.{RType}

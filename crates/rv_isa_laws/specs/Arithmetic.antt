@@ -8,7 +8,7 @@ abbrev pub wrapped : ℤ → ℕ
 wrapped (pos n) = n % 2 ^ 64
 wrapped (negsuc n) = 2 ^ 64 - 1 - n % 2 ^ 64
 
--- the signed value of a number of so many bits: two's complement (ISA, 1.4 and 2.4)
+-- the signed value of a number of so many bits: two's complement (ISA, 2.1 and 2.4)
 abbrev pub signed : ℕ → ℕ → ℤ
 signed bits n = if nat_lt n (2 ^ (bits - 1)) then pos n else negsuc (2 ^ bits - suc n)
 
