@@ -72,6 +72,19 @@ fn other_ends(rt: HostRuntime) -> Result<(), Fail> {
     assert!(rt; outcome.end == End::Exited(255));
     let limited = run_exec(rt.alloc(), built.exe.as_slice(), b"", 3)?;
     assert!(rt; limited.end == End::Limit);
+    // no exit: the next instruction lies behind the text
+    let endless = self::built(
+        rt.alloc(),
+        b".option norvc\n.globl _start\n_start: li a0, 7",
+    )?;
+    let outcome = run_exec(rt.alloc(), endless.exe.as_slice(), b"", 1_000_000)?;
+    assert!(rt; outcome.end == End::FetchOutside(0x1_0004));
+    // zeros in place of the text
+    let mut zeros = endless.exe;
+    zeros.truncate(4096);
+    zeros.extend_from_slice(&[0; 4])?;
+    let outcome = run_exec(rt.alloc(), zeros.as_slice(), b"", 1_000_000)?;
+    assert!(rt; outcome.end == End::Illegal(0x1_0000));
     Ok(())
 }
 
