@@ -5,16 +5,19 @@ use Rattle.std.proofs.lemmas.Bool.Decides.{nat_tests}
 use Rattle.std.specs.Prelude.{◌&&◌, ◌||◌, ◌==◌, if◌then◌else◌, filter, ⊤, max, option_map, nat_lt}
 use Rattle.std.specs.List.{AllByRecursion}
 use Rattle.rv_isa.specs.declared.instruction.Inst.{Inst}
-use Rattle.rv_parse_laws.specs.Statement.{Statement, Label, Norvc, Globl, Instruction, Spoken, Mnemonic, Addi, Ecall, Li, Operand, Register, Value, Expression, Literal, Name, Reference, Minus}
+use Rattle.rv_parse_laws.specs.declared.mnemonic.Mnemonic.{Mnemonic}
+use Rattle.rv_parse_laws.specs.declared.mnemonic.Mnemonic.TheVariants.{Registers, Immediate, Shift, Upper, Load, Store, Jalr, LoadReserved, Atomic, Fence, FenceTso, Ecall, Ebreak, Li}
+use Rattle.rv_parse_laws.specs.Statement.{Statement, Label, Norvc, Globl, Instruction, Spoken, Operand, Register, Value, Accesses, Expression, Literal, Name, Reference, Minus}
 use Rattle.rv_parse_laws.specs.Value.{constant}
 use Rattle.rv_map.specs.Map.{Map, Global}
 use Rattle.rv_map.specs.declared.map.Region.{Region}
 use Rattle.rv_map.specs.declared.map.Row.{Row}
 use Rattle.rv_chain_laws.specs.Sections.{Section, section_alignment, Stated, stated, at_first, goes_to_text, goes_to_rodata, goes_to_data, goes_to_bss, opened_by, text_section}
 use Rattle.rv_chain_laws.specs.Sites.{Site, Program, program, sites_of, value}
-use Rattle.rv_chain_laws.specs.Meaning.{fits_12, add_zero, add_immediate, expanded, expanded_said, expansion}
+use Rattle.rv_chain_laws.specs.Written.{Argument, Of_register, Of_number, Of_accesses, argument, arguments, written}
+use Rattle.rv_chain_laws.specs.Meaning.{fits_12, add_zero, add_immediate, alone, expanded_with, expanded, expanded_said, expansion}
 use Rattle.rv_chain_laws.specs.Fits.{Fits, IsRowOf, SizeFits, Block, blocks, blocks_of_file, aligned, Holds, Follow, size, rows_in, mark_of_stated, gaps_of, greatest_alignment}
-use Rattle.rv_chain_laws.specs.Assembled.{row_at, rows_from, size_of, size_all, fitted, base, AreCoded, IsCoded, text_map, IsAssembled}
+use Rattle.rv_chain_laws.specs.Assembled.{row_at, rows_from, size_of, size_all, constant_argument, before_others, constant_arguments, base_with, base_of, base, AreCoded, IsCoded, text_map, IsAssembled}
 use Rattle.rv_chain_laws.proofs.AssembledRows.{spoken, stated_one, sites_one, marks, follow, sizes, rows_in_text, opened_one, greatest_one}
 
 -- a constant expression has its number at every site
@@ -34,32 +37,49 @@ value-constant p s (Minus negated) k h = go (constant negated) refl (λ n e. val
         let g : option_map (λ n. (2 ^ 64 - n) % 2 ^ 64) None ≡ Some k = subst (λ o. option_map (λ n. (2 ^ 64 - n) % 2 ^ 64) o ≡ Some k) e h in
         absurd (cc)
 
--- what a fitted number makes, it makes of the number itself
-pub fitted-parts : (o : Option ℕ) (make : ℕ → Inst) (i : Inst) → fitted o make ≡ Some i → (k : ℕ) × (o ≡ Some k) × (fits_12 k ≡ Some k) × (make k ≡ i)
-fitted-parts None make i h = absurd (cc)
-fitted-parts (Some k) make i h = go (nat_lt ((k + 2 ^ 11) % 2 ^ 64) (2 ^ 12)) refl
+-- operands that are constants have their values at every site
+argument-constant : (p : Program) (s : Site) (o : Operand) (a : Argument) → constant_argument o ≡ Some a → argument (value p s) o ≡ a
+argument-constant p s (Register number) a h = cc
+argument-constant p s (Accesses set) a h = cc
+argument-constant p s (Value e) a h = go (constant e) refl h
   where
-    go : (b : Bool) → nat_lt ((k + 2 ^ 11) % 2 ^ 64) (2 ^ 12) ≡ b → (k' : ℕ) × (Some k ≡ Some k') × (fits_12 k' ≡ Some k') × (make k' ≡ i)
-    go true e =
-        let f : fits_12 k ≡ Some k = ap (λ b. if b then Some k else None) e in
-        let g : option_map make (Some k) ≡ Some i = subst (λ o. option_map make o ≡ Some i) f h in
-        let w : make k ≡ i = cc in
-        (k, refl, f, w)
-    go false e =
-        let f : fits_12 k ≡ None = ap (λ b. if b then Some k else None) e in
-        let g : option_map make None ≡ Some i = subst (λ o. option_map make o ≡ Some i) f h in
-        absurd (cc)
+    go : (o : Option ℕ) → constant e ≡ o → option_map Of_number o ≡ Some a → Of_number (value p s e) ≡ a
+    go (Some k) c h =
+        let same : Of_number k ≡ a = cc in
+        ap Of_number (value-constant p s e k c) ∙ same
+    go None c h = absurd (cc)
+
+arguments-constant : (p : Program) (s : Site) (os : List Operand) (args : List Argument) → constant_arguments os ≡ Some args → arguments (value p s) os ≡ args
+arguments-constant p s [] args h = cc
+arguments-constant p s (o ∷ os) args h = go (constant_argument o) (constant_arguments os) refl refl h (λ others e. arguments-constant p s os others e)
+  where
+    go : (x : Option Argument) (xs : Option (List Argument)) → constant_argument o ≡ x → constant_arguments os ≡ xs → before_others x xs ≡ Some args
+        → ((others : List Argument) → constant_arguments os ≡ Some others → arguments (value p s) os ≡ others)
+        → argument (value p s) o ∷ arguments (value p s) os ≡ args
+    go (Some a) (Some others) e f h ih =
+        let same : a ∷ others ≡ args = cc in
+        ap (λ b. b ∷ arguments (value p s) os) (argument-constant p s o a e) ∙ ap (λ bs. a ∷ bs) (ih others f) ∙ same
+    go (Some a) None e f h ih = absurd (cc)
+    go None xs e f h ih = absurd (cc)
+
+-- the one instruction is the expansion
+expanded-with : (mnemonic : Mnemonic) (args : List Argument) (i : Inst) → base_with mnemonic args ≡ Some i → expanded_with mnemonic args ≡ Some (i ∷ [])
+expanded-with Li (Of_register rd ∷ Of_number k ∷ []) i h = go (fits_12 k) h
+  where
+    go : (o : Option ℕ) → option_map (add_immediate rd 0) o ≡ Some i → add_zero rd o ≡ Some (i ∷ [])
+    go (Some n) h = let same : add_immediate rd 0 n ≡ i = cc in ap (λ j. Some (j ∷ [])) same
+    go None h = absurd (cc)
+expanded-with mnemonic args i h = ap alone h
+
+base-parts : (mnemonic : Mnemonic) (o : Option (List Argument)) (i : Inst) → base_of mnemonic o ≡ Some i → (args : List Argument) × (o ≡ Some args) × (base_with mnemonic args ≡ Some i)
+base-parts mnemonic None i h = absurd (cc)
+base-parts mnemonic (Some args) i h = (args, refl, h)
 
 -- the statement stands for its one instruction
 pub expanded-is : (p : Program) (s : Site) (mnemonic : Mnemonic) (operands : List Operand) (i : Inst) → base mnemonic operands ≡ Some i → expanded (value p s) mnemonic operands ≡ Some (i ∷ [])
-expanded-is p s Addi (Register rd ∷ Register rs1 ∷ Value e ∷ []) i h =
-    let (k, c, f, m) = fitted-parts (constant e) (add_immediate rd rs1) i h in
-    ap (λ n. Some (add_immediate rd rs1 n ∷ [])) (value-constant p s e k c) ∙ ap (λ j. Some (j ∷ [])) m
-expanded-is p s Ecall [] i h = ap (λ o. option_map (λ j. j ∷ []) o) h
-expanded-is p s Li (Register rd ∷ Value e ∷ []) i h =
-    let (k, c, f, m) = fitted-parts (constant e) (add_immediate rd 0) i h in
-    ap (λ n. add_zero rd (fits_12 n)) (value-constant p s e k c) ∙ ap (λ o. add_zero rd o) f ∙ ap (λ j. Some (j ∷ [])) m
-expanded-is p s mnemonic operands i h = absurd (cc)
+expanded-is p s mnemonic operands i h =
+    let (args, c, made) = base-parts mnemonic (constant_arguments operands) i h in
+    ap (λ bs. expanded_with mnemonic bs) (arguments-constant p s operands args c) ∙ expanded-with mnemonic args i made
 
 -- each row has the size of its statement
 sizes_fit_by : (p : Program) (says : Statement) (line k a : ℕ) (ss : List Spoken) → IsCoded says → ((b : ℕ) → AllByRecursion (SizeFits p) (sites_one (suc k) b ss)) → AllByRecursion (SizeFits p) (sites_one k a (spoken line says ∷ ss))
