@@ -5,7 +5,7 @@ use Rattle.std.specs.List.{drop-map}
 use Rattle.std.proofs.Math.Seq.{drop-cons}
 use Rattle.rv_isa.specs.declared.instruction.Inst.{Inst}
 use Rattle.rv_isa.specs.Ranges.{IsValid}
-use Rattle.rv_parse_laws.specs.Statement.{Statement, Label, Norvc, Globl, Instruction, Spoken, Expression}
+use Rattle.rv_parse_laws.specs.Statement.{Statement, Label, Norvc, Globl, Instruction, Directs, Spoken, Expression}
 use Rattle.rv_parse_laws.specs.Value.{constant}
 use Rattle.rv_parse.specs.declared.statement.Operation.{Operation}
 use Rattle.rv_parse.specs.declared.statement.Operation.TheVariants as operations
@@ -21,6 +21,7 @@ coded (Label name) i h v = absurd (cc)
 coded Norvc i h v = absurd (cc)
 coded (Globl names) i h v = absurd (cc)
 coded (Instruction mnemonic operands) i h v = (ap word_bytes h, (i, h, v))
+coded (Directs directive) i h v = absurd (cc)
 
 pub coded_from : (s t : Statement) (i : Inst) → s ≡ t → instruction_of t ≡ Some i → IsValid i → (code_of s ≡ word_bytes (Some i)) × IsCoded s × IsValid i
 coded_from s t i e h v =

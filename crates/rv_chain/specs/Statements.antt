@@ -4,7 +4,7 @@ use Rattle.std.specs.Prelude.{◌≡◌, ℕ, ℤ, ◌+◌, ◌*◌, ◌≤◌, 
 use Rattle.rv_isa.specs.declared.instruction.Inst.{Inst}
 use Rattle.rv_isa.specs.declared.instruction.Inst.TheVariants.{Jalr}
 use Rattle.rv_isa.specs.Ranges.{IsValid}
-use Rattle.rv_parse_laws.specs.Statement.{Statement, Label, Norvc, Globl, Instruction, Spoken}
+use Rattle.rv_parse_laws.specs.Statement.{Statement, Label, Norvc, Globl, Instruction, Directs, Spoken}
 use Rattle.rv_parse_laws.specs.Syntax.{with_constant}
 use Rattle.rv_parse.specs.declared.statement.Operation.{Operation}
 use Rattle.rv_parse.specs.declared.statement.Operation.TheVariants as operations
@@ -22,6 +22,7 @@ instruction_of (Label name) = None
 instruction_of Norvc = None
 instruction_of (Globl names) = None
 instruction_of (Instruction mnemonic operands) = base mnemonic operands
+instruction_of (Directs directive) = None
 
 -- the instruction of an operation with a number
 abbrev pub numbered : Operation → ℕ → Option Inst

@@ -1,27 +1,22 @@
 -- Memory that holds the code of an assembled source realizes the source at its map.
 
-use Rattle.std.proofs.Common.{◌≡◌, ℕ, zero, suc, ◌+◌, ◌-◌, ◌*◌, ◌/◌, ◌%◌, ◌^◌, ◌<◌, ◌≤◌, Bool, true, false, List, [], ◌∷◌, ◌++◌, length, refl, sym, ap, ◌∙◌, subst, arith, map, Option, Some, None, ℤ, pos, negsuc, lit<}
-use Rattle.std.proofs.lemmas.Bool.Decides.{nat_tests}
-use Rattle.std.proofs.lemmas.Bool.{and_parts}
-use Rattle.std.proofs.lemmas.Int.{ints}
-use Rattle.std.specs.Prelude.{◌&&◌, ◌||◌, ◌==◌, if◌then◌else◌, ⊤, nat_lt, nat_le}
-use Rattle.std.specs.List.{AllByRecursion, find}
+use Rattle.std.proofs.Common.{◌≡◌, ℕ, zero, suc, ◌+◌, ◌*◌, ◌/◌, ◌%◌, ◌^◌, ◌<◌, ◌≤◌, true, List, [], ◌∷◌, ◌++◌, length, refl, sym, ap, ◌∙◌, subst, arith, Some}
+use Rattle.std.specs.Prelude.{◌&&◌, ◌==◌, if◌then◌else◌, ⊤}
+use Rattle.std.specs.List.{AllByRecursion}
 use Rattle.std.specs.Int.{w32, to_le_bytes}
 use Rattle.rv_isa.specs.declared.instruction.Inst.{Inst}
-use Rattle.rv_isa.specs.Ranges.{IsValid, IsSigned12}
-use Rattle.rv_isa_laws.specs.Memory.{Mem, Right, Read, Write, Execute, may, number_at}
-use Rattle.rv_encode.specs.Word.{form, word, field, Spells}
+use Rattle.rv_isa.specs.Ranges.{IsValid}
+use Rattle.rv_isa_laws.specs.Memory.{Mem, Execute, may, number_at}
+use Rattle.rv_encode.specs.Word.{form, word, Spells}
 use Rattle.rv_machine_laws.specs.Reader.{Reader}
-use Rattle.rv_machine_laws.specs.Run.{Fetched, NoRight, Got, spelled, length_at, fetch}
-use Rattle.rv_parse_laws.specs.Statement.{Statement, Label, Norvc, Globl, Instruction, Spoken}
-use Rattle.rv_map.specs.Map.{Map}
-use Rattle.rv_map.specs.declared.map.Row.{Row}
-use Rattle.rv_chain_laws.specs.Sites.{Site, Program, program}
-use Rattle.rv_chain_laws.specs.Meaning.{Line, expansion, AreLines}
-use Rattle.rv_chain_laws.specs.Realizes.{StandsIn, HoldsLines}
+use Rattle.rv_machine_laws.specs.Run.{NoRight, Got, spelled, length_at, fetch}
+use Rattle.rv_parse_laws.specs.Statement.{Statement, Label, Norvc, Globl, Instruction, Directs, Spoken}
+use Rattle.rv_chain_laws.specs.Sites.{Site, Program}
+use Rattle.rv_chain_laws.specs.Meaning.{expansion}
+use Rattle.rv_chain_laws.specs.Realizes.{HoldsLines}
 use Rattle.rv_chain_laws.specs.Fits.{IsRowOf}
-use Rattle.rv_chain_laws.specs.Assembled.{row_at, rows_from, size_of, size_all, base, word_bytes, code_of, code, AreCoded, IsCoded}
-use Rattle.rv_chain_laws.proofs.AssembledRows.{spoken, sites_one}
+use Rattle.rv_chain_laws.specs.Assembled.{size_all, base, word_bytes, code, AreCoded, IsCoded}
+use Rattle.rv_chain_laws.proofs.AssembledRows.{spoken, sites_one, site_at}
 use Rattle.rv_chain_laws.proofs.AssembledFits.{expanded-is}
 use Rattle.rv_chain_laws.proofs.Wide.{IsWide, valid_wide}
 
@@ -88,7 +83,7 @@ module _ {StandsFor : ℕ → Inst → Type 0} (reader : Reader Spells StandsFor
   holds_by Norvc line k a ss c h fits runs ih = ih (a + 0) (subst (λ x. HasBytes m x (code ss)) (let e : a ≡ a + 0 = omega arith in e) h) (omega arith) (λ x l u. runs x (omega arith) u)
   holds_by (Globl names) line k a ss c h fits runs ih = ih (a + 0) (subst (λ x. HasBytes m x (code ss)) (let e : a ≡ a + 0 = omega arith in e) h) (omega arith) (λ x l u. runs x (omega arith) u)
   holds_by (Instruction mnemonic operands) line k a ss (i, same, valid) h fits runs ih =
-      let s : Site = record { stated = record { file = 1; ordinal = k; section = 0; line = line; says = Instruction mnemonic operands }; row = row_at k a line 4 1 } in
+      let s : Site = site_at k a line 4 1 (Instruction mnemonic operands) in
       let e : expansion p s ≡ Some (i ∷ []) = expanded-is p s mnemonic operands i same in
       let wide : IsWide i = valid_wide i valid in
       let held : HasBytes m a (to_le_bytes w32 (word (form i)) ++ code ss) = subst (λ o. HasBytes m a (word_bytes o ++ code ss)) same h in
@@ -102,6 +97,7 @@ module _ {StandsFor : ℕ → Inst → Type 0} (reader : Reader Spells StandsFor
         },
         ih (a + 4) (bytes_behind m a (to_le_bytes w32 (word (form i))) (code ss) held) (omega arith) (λ x l u. runs x (omega arith) u),
       )
+  holds_by (Directs directive) line k a ss c h fits runs ih = absurd c
 
   pub holds_all : (k a : ℕ) (ss : List Spoken) → AreCoded ss → HasBytes m a (code ss) → a + size_all ss ≤ stop → Runs m a stop → AllByRecursion (HoldsLines reader m p) (sites_one k a ss)
   holds_all k a [] c h fits runs = tt

@@ -14,7 +14,7 @@ use Rattle.rv_parse_laws.specs.declared.mnemonic.RegisterOperation.TheVariants.{
 use Rattle.rv_parse_laws.specs.declared.mnemonic.ImmediateOperation.TheVariants.{Addi, Slti, Sltiu, Xori, Ori, Andi, Addiw}
 use Rattle.rv_parse_laws.specs.declared.mnemonic.ShiftOperation.TheVariants.{Slli, Srli, Srai, Slliw, Srliw, Sraiw}
 use Rattle.rv_parse_laws.specs.declared.mnemonic.AccessSet.{AccessSet}
-use Rattle.rv_parse_laws.specs.Statement.{Expression, Literal, Name, Reference, Minus, Operand, Register, Value, Accesses, Statement, Label, Norvc, Globl, Instruction}
+use Rattle.rv_parse_laws.specs.Statement.{Expression, Literal, Name, Reference, Minus, Operand, Register, Value, Accesses, Statement, Label, Norvc, Globl, Instruction, Directs}
 use Rattle.rv_parse_laws.specs.Words.{register, named_in, Beginning, Begins_instruction, Begins_globl, Begins_option, Begins_nothing, beginning}
 
 -- the longest name, in bytes
@@ -277,6 +277,8 @@ IsStatement ts (Globl names) =
     (t : Token) × (rest : List Token) × (ts ≡ t ∷ rest) × (begins t.kind ≡ Begins_globl) × AreNames rest names
 IsStatement ts Norvc =
     (t o : Token) × (ts ≡ t ∷ o ∷ []) × (begins t.kind ≡ Begins_option) × (is_norvc o.kind ≡ true)
+-- the directives have no spelling yet
+IsStatement ts (Directs directive) = ⊥
 
 -- a part of a source: a statement, or the end of one or of nothing
 pub data Part : Type 0 where

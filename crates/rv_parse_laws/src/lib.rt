@@ -6,7 +6,7 @@
 mod laws;
 mod mnemonic;
 
-pub use laws::one_reading;
+pub use laws::{not_both, one_fault, one_reading};
 pub use mnemonic::{
     AccessSet, AtomicForm, AtomicOperation, ImmediateOperation, LoadOperation, Mnemonic,
     RegisterOperation, ShiftOperation, StoreOperation, UpperOperation,

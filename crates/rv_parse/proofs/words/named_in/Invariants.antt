@@ -5,4 +5,4 @@ use Rattle.rv_parse.proofs.words.named_in.Given as goal
 
 -- what is left has for the word what the table has
 abbrev pub invariant-loop-row : goal.invariant-loop-row
-invariant-loop-row l = named_in (map named_of (drop l.row-index l.table)) l.word ≡ named_in (map named_of l.table) l.word
+invariant-loop-row g l = named_in (map named_of (drop l.row-index l.table)) l.word ≡ named_in (map named_of l.table) l.word
