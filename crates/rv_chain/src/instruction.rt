@@ -61,11 +61,25 @@ pub(crate) fn plain(statement: Plain) -> Inst
     let ra = Reg::from_low_bits(1);
     let immediate = 0;
     match statement {
-        Plain::Registers(operation, rd, rs1, rs2) => of_registers(operation, RType { rd, rs1, rs2 }),
+        Plain::Registers(operation, rd, rs1, rs2) => of_registers(
+            operation,
+            RType { rd, rs1, rs2 },
+        ),
         Plain::Load(operation, rd, rs1) => of_load(operation, IType { immediate, rd, rs1 }),
-        Plain::Store(operation, rs2, rs1) => of_store(operation, SType { immediate, rs1, rs2 }),
+        Plain::Store(operation, rs2, rs1) => of_store(
+            operation,
+            SType {
+                immediate,
+                rs1,
+                rs2,
+            },
+        ),
         Plain::Jalr(rd, rs1) => Inst::Jalr(IType { immediate, rd, rs1 }),
-        Plain::JalrLinked(rs1) => Inst::Jalr(IType { immediate, rd: ra, rs1 }),
+        Plain::JalrLinked(rs1) => Inst::Jalr(IType {
+            immediate,
+            rd: ra,
+            rs1,
+        }),
         Plain::LoadReserved(form, rd, rs1) => load_reserved(form, rd, rs1),
         Plain::Atomic(operation, form, rd, rs2, rs1) => atomic(operation, form, rd, rs2, rs1),
         Plain::Fence => fence(0, 15, 15),
@@ -77,7 +91,12 @@ pub(crate) fn plain(statement: Plain) -> Inst
 }
 
 /// An operation on a register and an immediate that fits.
-fn with_immediate(operation: ImmediateOperation, rd: Reg, rs1: Reg, number: u64) -> Result<Inst, SourceCode>
+fn with_immediate(
+    operation: ImmediateOperation,
+    rd: Reg,
+    rs1: Reg,
+    number: u64,
+) -> Result<Inst, SourceCode>
     ensures { IfOk result (λ i. (i ≡ laws.of_immediate operation (laws.i_type rd rs1 number)) × IsValid i) }
 {
     let immediate = immediate(number)?;
@@ -85,7 +104,12 @@ fn with_immediate(operation: ImmediateOperation, rd: Reg, rs1: Reg, number: u64)
 }
 
 /// The form with a constant of an operation on registers.
-fn with_constant(operation: RegisterOperation, rd: Reg, rs1: Reg, number: u64) -> Result<Inst, SourceCode>
+fn with_constant(
+    operation: RegisterOperation,
+    rd: Reg,
+    rs1: Reg,
+    number: u64,
+) -> Result<Inst, SourceCode>
     ensures { IfOk result (λ i. (laws.by_constant (syntax.with_constant operation) rd rs1 number ≡ Some i) × IsValid i) }
 {
     match operation {
@@ -133,7 +157,14 @@ fn with_number(operation: Operation, number: u64) -> Result<Inst, SourceCode>
         }
         Operation::Store(operation, rs2, rs1) => {
             let immediate = immediate(number)?;
-            Ok(of_store(operation, SType { immediate, rs1, rs2 }))
+            Ok(of_store(
+                operation,
+                SType {
+                    immediate,
+                    rs1,
+                    rs2,
+                },
+            ))
         }
         Operation::Jalr(rd, rs1) | Operation::JalrThen(rd, rs1) => jalr(rd, rs1, number),
         Operation::JalrLinked(rs1) => jalr(Reg::from_low_bits(1), rs1, number),

@@ -244,7 +244,10 @@ fn division_by_words(rt: HostRuntime) -> Result<(), Fail> {
         (b"li a1, 7; rem a0, a1, zero", 7),
         (b"li a1, 7; divuw a0, a1, zero; srl a0, a0, 60", 15),
         // the least number by -1 is itself, with remainder 0
-        (b"li a1, -1; slli a2, a1, 63; div a0, a2, a1; srli a0, a0, 56", 128),
+        (
+            b"li a1, -1; slli a2, a1, 63; div a0, a2, a1; srli a0, a0, 56",
+            128,
+        ),
         (b"lui a1, 0x80000; li a2, -1; remw a0, a1, a2", 0),
     ];
     for (statements, code) in cases {
@@ -256,9 +259,15 @@ fn division_by_words(rt: HostRuntime) -> Result<(), Fail> {
 #[test]
 fn memory_and_reservation(rt: HostRuntime) -> Result<(), Fail> {
     let cases: [(&[u8], End); 4] = [
-        (b"li t1, 5; sd t1, -8(sp); addi t0, sp, -8; amoadd.d a1, t1, (t0); ld a0, (t0)", End::Exited(10)),
+        (
+            b"li t1, 5; sd t1, -8(sp); addi t0, sp, -8; amoadd.d a1, t1, (t0); ld a0, (t0)",
+            End::Exited(10),
+        ),
         // a failed sc gives 1 and ends the reservation
-        (b"addi t0, sp, -8; lr.w t1, (t0); sc.w a0, t1, (t0); sc.w a1, t1, (t0); slli a1, a1, 1; or a0, a0, a1", End::Exited(2)),
+        (
+            b"addi t0, sp, -8; lr.w t1, (t0); sc.w a0, t1, (t0); sc.w a1, t1, (t0); slli a1, a1, 1; or a0, a0, a1",
+            End::Exited(2),
+        ),
         (b"sd zero, -4(sp)", End::StoreOutside(0x3fff_fffc)),
         (b"li t0, 1; lr.w a0, (t0)", End::MisalignedAtomic(1)),
     ];

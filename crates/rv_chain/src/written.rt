@@ -127,11 +127,7 @@ pub(crate) fn of_shift(
 }
 
 /// An upper immediate of 20 bits, 0 to 1048575.
-pub(crate) fn of_upper(
-    operation: UpperOperation,
-    rd: Reg,
-    number: u64,
-) -> Result<Inst, SourceCode>
+pub(crate) fn of_upper(operation: UpperOperation, rd: Reg, number: u64) -> Result<Inst, SourceCode>
     ensures { IfOk result (λ i. (i ≡ laws.of_upper operation (laws.u_type rd number)) × IsValid i) }
 {
     if 1 << 20 <= number {

@@ -104,9 +104,7 @@ impl<'a> Cursor<'a> {
         }
         let rs2 = self.register()?;
         self.end(Slot::Register)?;
-        Ok(StatementKind::Plain(Plain::Registers(
-            operation, rd, rs1, rs2,
-        )))
+        Ok(StatementKind::Plain(Plain::Registers(operation, rd, rs1, rs2)))
     }
 
     /// `rd, rs1, value`
@@ -194,7 +192,11 @@ impl<'a> Cursor<'a> {
 
     /// `rd, rs2, (rs1)`
     #[tactic(auto, unfolding(rv_parse_laws::specs::Parsing::operands_at))]
-    fn atomic(&mut self, operation: AtomicOperation, form: AtomicForm) -> Result<StatementKind<'a>, Wrong>
+    fn atomic(
+        &mut self,
+        operation: AtomicOperation,
+        form: AtomicForm,
+    ) -> Result<StatementKind<'a>, Wrong>
         ensures { Gives (λ k. (statement_of k, left self.new)) result (seen_as (Instruction (Atomic operation form)) (operands_at (slots (Atomic operation form)) (left self.old))) }
     {
         let rd = self.register()?;
@@ -202,9 +204,7 @@ impl<'a> Cursor<'a> {
         let rs2 = self.register()?;
         self.comma(Slot::Register)?;
         let rs1 = self.atomic_address()?;
-        Ok(StatementKind::Plain(Plain::Atomic(
-            operation, form, rd, rs2, rs1,
-        )))
+        Ok(StatementKind::Plain(Plain::Atomic(operation, form, rd, rs2, rs1)))
     }
 
     /// The operands of `li`: `rd, value`.
