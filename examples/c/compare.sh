@@ -1,6 +1,7 @@
 #!/bin/sh
 # Builds each program here with GCC at three levels, and compares what rv and qemu-riscv64 make of it.
 # Run it at the top of the repository, where rv stands.
+[ -x rv ] || { echo "no ./rv here: make builds it"; exit 1; }
 gcc="riscv64-unknown-elf-gcc -march=rv64imac -mabi=lp64 -ffreestanding -nostdlib -static -Wall -Wl,--no-warn-rwx-segments"
 folder=$(mktemp -d)
 trap 'rm -r "$folder"' EXIT

@@ -352,86 +352,102 @@ const UPDATES: [(&str, u32, [[i64; 4]; 8]); 18] = [
 
 /// Three instructions, and a0 and a3 after them, where a2 is 5 and s2 the place, at which 8001FFFE00FF807Fh
 /// stands and then 800000007FFFFFFFh.
-const RESERVED: [(&str, [u32; 3], [i64; 2]); 16] = [
+const RESERVED: [(&str, [u32; 3], i64, i64); 16] = [
     (
         "sc.w stores what lr.w reserved",
         [0x1009_202f, 0x18c9_252f, 0x0009_2683],
-        [0, 5],
+        0,
+        5,
     ),
     (
         "sc.d stores what lr.d reserved",
         [0x1009_302f, 0x18c9_352f, 0x0009_3683],
-        [0, 5],
+        0,
+        5,
     ),
     (
         "sc.w alone stores nothing",
         [0x0010_0513, 0x18c9_252f, 0x0009_2683],
-        [1, 0xff_807f],
+        1,
+        0xff_807f,
     ),
     (
         "sc.d alone stores nothing",
         [0x0010_0513, 0x18c9_352f, 0x0009_3683],
-        [1, -0x7ffe_0001_ff00_7f81],
+        1,
+        -0x7ffe_0001_ff00_7f81,
     ),
     (
         "sc.d after lr.w stores nothing",
         [0x1009_202f, 0x18c9_352f, 0x0009_3683],
-        [1, -0x7ffe_0001_ff00_7f81],
+        1,
+        -0x7ffe_0001_ff00_7f81,
     ),
     (
         "sc.w after lr.d stores nothing",
         [0x1009_302f, 0x18c9_252f, 0x0009_2683],
-        [1, 0xff_807f],
+        1,
+        0xff_807f,
     ),
     (
         "sc.w elsewhere stores nothing",
         [0x1009_26af, 0x0049_0913, 0x18c9_252f],
-        [1, 0xff_807f],
+        1,
+        0xff_807f,
     ),
     (
         "lr.d takes lr.w's place",
         [0x1009_202f, 0x1009_36af, 0x18c9_252f],
-        [1, -0x7ffe_0001_ff00_7f81],
+        1,
+        -0x7ffe_0001_ff00_7f81,
     ),
     (
         "lr.w takes lr.d's place",
         [0x1009_302f, 0x1009_26af, 0x18c9_252f],
-        [0, 0xff_807f],
+        0,
+        0xff_807f,
     ),
     (
         "sc.w succeeds once",
         [0x1009_202f, 0x18c9_26af, 0x18c9_252f],
-        [1, 0],
+        1,
+        0,
     ),
     (
         "sc.d that fails takes the reservation",
         [0x1009_202f, 0x18c9_36af, 0x18c9_252f],
-        [1, 1],
+        1,
+        1,
     ),
     (
         "a store between is no matter",
         [0x1009_26af, 0x0009_2023, 0x18c9_252f],
-        [0, 0xff_807f],
+        0,
+        0xff_807f,
     ),
     (
         "an operation between is no matter",
         [0x1009_26af, 0x00c9_202f, 0x18c9_252f],
-        [0, 0xff_807f],
+        0,
+        0xff_807f,
     ),
     (
         "lr.w extends the sign",
         [0x0049_0913, 0x1009_26af, 0x18c9_252f],
-        [0, -0x7ffe_0002],
+        0,
+        -0x7ffe_0002,
     ),
     (
         "lr.d may name its address's register",
         [0x1009_392f, 0x0009_0693, 0x0000_0513],
-        [0, -0x7ffe_0001_ff00_7f81],
+        0,
+        -0x7ffe_0001_ff00_7f81,
     ),
     (
         "amoadd.d may name its operand's register",
         [0x00c9_362f, 0x0006_0513, 0x0009_3683],
-        [-0x7ffe_0001_ff00_7f81, -0x7ffe_0001_ff00_7f7c],
+        -0x7ffe_0001_ff00_7f81,
+        -0x7ffe_0001_ff00_7f7c,
     ),
 ];
 
@@ -447,7 +463,7 @@ fn updates(rt: HostRuntime) -> Result<(), Fail> {
 
 #[test]
 fn reservations(rt: HostRuntime) -> Result<(), Fail> {
-    for (line, words, [first, second]) in &RESERVED {
+    for (line, words, first, second) in &RESERVED {
         let outcome = compared(rt.alloc(), *words, &[[0, 5, *first, *second]])?;
         assert_eq!(rt; outcome.end, End::Exited(1), "{line}");
     }
