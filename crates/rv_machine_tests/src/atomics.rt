@@ -350,104 +350,117 @@ const UPDATES: [(&str, u32, [[i64; 4]; 8]); 18] = [
     ),
 ];
 
-/// Three instructions, and a0 and a3 after them, where a2 is 5 and s2 the place, at which 8001FFFE00FF807Fh
-/// stands and then 800000007FFFFFFFh.
-const RESERVED: [(&str, [u32; 3], i64, i64); 16] = [
+/// Instructions, filled up by nops, and a0 and a3 after them. a2 is 5 and s2 the place, where
+/// 8001FFFE00FF807Fh stands.
+const RESERVED: [(&str, [u32; 3], i64, i64); 17] = [
+    // sc stores what an lr of its width reserved.
     (
-        "sc.w stores what lr.w reserved",
+        "lr.w zero, (s2); sc.w a0, a2, (s2); lw a3, 0(s2)",
         [0x1009_202f, 0x18c9_252f, 0x0009_2683],
         0,
         5,
     ),
     (
-        "sc.d stores what lr.d reserved",
+        "lr.d zero, (s2); sc.d a0, a2, (s2); ld a3, 0(s2)",
         [0x1009_302f, 0x18c9_352f, 0x0009_3683],
         0,
         5,
     ),
+    // Alone, after an lr of another width or elsewhere it stores nothing.
     (
-        "sc.w alone stores nothing",
-        [0x0010_0513, 0x18c9_252f, 0x0009_2683],
+        "sc.w a0, a2, (s2); lw a3, 0(s2)",
+        [0x18c9_252f, 0x0009_2683, 0x0000_0013],
         1,
         0xff_807f,
     ),
     (
-        "sc.d alone stores nothing",
-        [0x0010_0513, 0x18c9_352f, 0x0009_3683],
+        "sc.d a0, a2, (s2); ld a3, 0(s2)",
+        [0x18c9_352f, 0x0009_3683, 0x0000_0013],
         1,
         -0x7ffe_0001_ff00_7f81,
     ),
     (
-        "sc.d after lr.w stores nothing",
+        "lr.w zero, (s2); sc.d a0, a2, (s2); ld a3, 0(s2)",
         [0x1009_202f, 0x18c9_352f, 0x0009_3683],
         1,
         -0x7ffe_0001_ff00_7f81,
     ),
     (
-        "sc.w after lr.d stores nothing",
+        "lr.d zero, (s2); sc.w a0, a2, (s2); lw a3, 0(s2)",
         [0x1009_302f, 0x18c9_252f, 0x0009_2683],
         1,
         0xff_807f,
     ),
     (
-        "sc.w elsewhere stores nothing",
+        "lr.w a3, (s2); addi s2, s2, 4; sc.w a0, a2, (s2)",
         [0x1009_26af, 0x0049_0913, 0x18c9_252f],
         1,
         0xff_807f,
     ),
+    // The latest lr counts.
     (
-        "lr.d takes lr.w's place",
+        "lr.w zero, (s2); lr.d a3, (s2); sc.w a0, a2, (s2)",
         [0x1009_202f, 0x1009_36af, 0x18c9_252f],
         1,
         -0x7ffe_0001_ff00_7f81,
     ),
     (
-        "lr.w takes lr.d's place",
+        "lr.d zero, (s2); lr.w a3, (s2); sc.w a0, a2, (s2)",
         [0x1009_302f, 0x1009_26af, 0x18c9_252f],
         0,
         0xff_807f,
     ),
+    // An sc takes the reservation, whether it succeeds or not.
     (
-        "sc.w succeeds once",
+        "lr.w zero, (s2); sc.w a3, a2, (s2); sc.w a0, a2, (s2)",
         [0x1009_202f, 0x18c9_26af, 0x18c9_252f],
         1,
         0,
     ),
     (
-        "sc.d that fails takes the reservation",
+        "lr.w zero, (s2); sc.d a3, a2, (s2); sc.w a0, a2, (s2)",
         [0x1009_202f, 0x18c9_36af, 0x18c9_252f],
         1,
         1,
     ),
+    // Stores and operations between do not.
     (
-        "a store between is no matter",
+        "lr.w a3, (s2); sw zero, 0(s2); sc.w a0, a2, (s2)",
         [0x1009_26af, 0x0009_2023, 0x18c9_252f],
         0,
         0xff_807f,
     ),
     (
-        "an operation between is no matter",
+        "lr.w a3, (s2); amoadd.w zero, a2, (s2); sc.w a0, a2, (s2)",
         [0x1009_26af, 0x00c9_202f, 0x18c9_252f],
         0,
         0xff_807f,
     ),
+    // lr.w extends the sign.
     (
-        "lr.w extends the sign",
+        "addi s2, s2, 4; lr.w a3, (s2); sc.w a0, a2, (s2)",
         [0x0049_0913, 0x1009_26af, 0x18c9_252f],
         0,
         -0x7ffe_0002,
     ),
+    // Operands are read before the result is written.
     (
-        "lr.d may name its address's register",
+        "lr.d s2, (s2); mv a3, s2; li a0, 0",
         [0x1009_392f, 0x0009_0693, 0x0000_0513],
         0,
         -0x7ffe_0001_ff00_7f81,
     ),
     (
-        "amoadd.d may name its operand's register",
+        "amoadd.d a2, a2, (s2); mv a0, a2; ld a3, 0(s2)",
         [0x00c9_362f, 0x0006_0513, 0x0009_3683],
         -0x7ffe_0001_ff00_7f81,
         -0x7ffe_0001_ff00_7f7c,
+    ),
+    (
+        "lr.w zero, (s2); sc.w a2, a2, (s2); lw a3, 0(s2)",
+        [0x1009_202f, 0x18c9_262f, 0x0009_2683],
+        0,
+        5,
     ),
 ];
 

@@ -7,170 +7,166 @@ use rv_memory::Flat;
 use std::alloc::Global;
 use std::test::Fail;
 
-/// What ends a run: at most three words, behind which text has zeros up to 10010h, and the end.
+/// At most three instructions, behind which text has zeros up to 10010h, and how their run ends.
 const ENDS: [(&str, [u32; 3], End); 37] = [
+    // A store where one of its bytes is text.
     (
-        "sd over text's front",
+        "lui t0, 0x10; addiw t0, t0, -7; sd zero, 0(t0)",
         [0x0001_02b7, 0xff92_829b, 0x0002_b023],
         End::StoreText(0xfff9),
     ),
     (
-        "sc.w to text, not reserved",
+        "lui t0, 0x10; sc.w t1, t2, (t0)",
         [0x0001_02b7, 0x1872_a32f, 0],
         End::StoreText(0x1_0000),
     ),
     (
-        "amoswap.w on text",
+        "lui t0, 0x10; amoswap.w t1, t2, (t0)",
         [0x0001_02b7, 0x0872_a32f, 0],
         End::StoreText(0x1_0000),
     ),
+    // A load where one of its bytes is text.
     (
-        "lw of text",
+        "auipc t0, 0; lw t1, 0(t0)",
         [0x0000_0297, 0x0002_a303, 0],
         End::LoadText(0x1_0000),
     ),
     (
-        "lw over text's front",
+        "lui t0, 0x10; lw t1, -2(t0)",
         [0x0001_02b7, 0xffe2_a303, 0],
         End::LoadText(0xfffe),
     ),
     (
-        "lr.d of text",
+        "lui t0, 0x10; lr.d t1, (t0)",
         [0x0001_02b7, 0x1002_b32f, 0],
         End::LoadText(0x1_0000),
     ),
+    // A fetch of the stack, of nothing, before text and behind it.
     (
-        "jr to the stack",
+        "addi t0, sp, -16; jr t0",
         [0xff01_0293, 0x0002_8067, 0],
         End::FetchOutside(0x3fff_fff0),
     ),
-    ("jr to 0", [0x0000_0067, 0, 0], End::FetchOutside(0)),
+    ("jr zero", [0x0000_0067, 0, 0], End::FetchOutside(0)),
+    ("j . - 4", [0xffdf_f06f, 0, 0], End::FetchOutside(0xfffc)),
+    ("j . + 16", [0x0100_006f, 0, 0], End::FetchOutside(0x1_0010)),
+    // A store to constants, over the end of the stack and of variables; an sc that would fail; an operation
+    // on bytes that may not be read.
     (
-        "j before text",
-        [0xffdf_f06f, 0, 0],
-        End::FetchOutside(0xfffc),
-    ),
-    (
-        "j past text",
-        [0x0100_006f, 0, 0],
-        End::FetchOutside(0x1_0010),
-    ),
-    (
-        "sd to constants",
+        "lui t0, 0x13; sd zero, 0(t0)",
         [0x0001_32b7, 0x0002_b023, 0],
         End::StoreOutside(0x1_3000),
     ),
     (
-        "amoor.d on constants",
+        "lui t0, 0x13; amoor.d t1, t2, (t0)",
         [0x0001_32b7, 0x4072_b32f, 0],
         End::StoreOutside(0x1_3000),
     ),
     (
-        "sd over the stack's end",
+        "sd zero, -4(sp)",
         [0xfe01_3e23, 0, 0],
         End::StoreOutside(0x3fff_fffc),
     ),
     (
-        "sh over the variables' end",
+        "lui t0, 0x11; sh t1, 15(t0)",
         [0x0001_12b7, 0x0062_97a3, 0],
         End::StoreOutside(0x1_100f),
     ),
     (
-        "sc.w to 0, not reserved",
+        "sc.w t1, t2, (zero)",
         [0x1870_232f, 0, 0],
         End::StoreOutside(0),
     ),
     (
-        "amoadd.w on what may only be written",
+        "lui t0, 0x14; amoadd.w t1, t2, (t0)",
         [0x0001_42b7, 0x0072_a32f, 0],
         End::StoreOutside(0x1_4000),
     ),
+    // A load of bytes that may only be written; loads up to an end, and over it.
     (
-        "lb of what may only be written",
+        "lui t0, 0x14; sd t0, 0(t0); lb t1, 0(t0)",
         [0x0001_42b7, 0x0052_b023, 0x0002_8303],
         End::LoadOutside(0x1_4000),
     ),
     (
-        "ld over the variables' end",
+        "lui t0, 0x11; ld t1, 9(t0)",
         [0x0001_12b7, 0x0092_b303, 0],
         End::LoadOutside(0x1_1009),
     ),
     (
-        "lb past the variables' end",
+        "lui t0, 0x11; lw t1, 12(t0); lb t1, 16(t0)",
         [0x0001_12b7, 0x00c2_a303, 0x0102_8303],
         End::LoadOutside(0x1_1010),
     ),
     (
-        "lw over the stack's front",
+        "lui t0, 0x3ff00; sd t0, 0(t0); lw t0, -1(t0)",
         [0x3ff0_02b7, 0x0052_b023, 0xfff2_a283],
         End::LoadOutside(0x3fef_ffff),
     ),
     (
-        "lbu past the stack's end",
+        "lui t0, 0x40000; lbu t1, -1(t0); lbu t1, 0(t0)",
         [0x4000_02b7, 0xfff2_c303, 0x0002_c303],
         End::LoadOutside(0x4000_0000),
     ),
     (
-        "lr.w past the stack's end",
+        "lr.w t1, (sp)",
         [0x1001_232f, 0, 0],
         End::LoadOutside(0x4000_0000),
     ),
-    ("lr.d of 0", [0x1000_332f, 0, 0], End::LoadOutside(0)),
-    ("lw of 0", [0x0000_2283, 0, 0], End::LoadOutside(0)),
+    ("lr.d t1, (zero)", [0x1000_332f, 0, 0], End::LoadOutside(0)),
+    ("lw t0, 0(zero)", [0x0000_2283, 0, 0], End::LoadOutside(0)),
     (
-        "ld over the last address",
+        "ld t0, -4(zero)",
         [0xffc0_3283, 0, 0],
         End::LoadOutside(0xffff_ffff_ffff_fffc),
     ),
+    // The address's alignment is looked at before its rights.
     (
-        "lr.w of 2",
+        "li t0, 2; lr.w t1, (t0)",
         [0x0020_0293, 0x1002_a32f, 0],
         End::MisalignedAtomic(2),
     ),
     (
-        "sc.d to 4, not reserved",
+        "li t0, 4; sc.d t1, t2, (t0)",
         [0x0040_0293, 0x1872_b32f, 0],
         End::MisalignedAtomic(4),
     ),
     (
-        "amoadd.d on half of it",
+        "lui t0, 0x11; addi t0, t0, 4; amoadd.d t1, t2, (t0)",
         [0x0001_12b7, 0x0042_8293, 0x0072_b32f],
         End::MisalignedAtomic(0x1_1004),
     ),
     (
-        "amomaxu.w off its width",
+        "lui t0, 0x11; addi t0, t0, 1; amomaxu.w t1, t2, (t0)",
         [0x0001_12b7, 0x0012_8293, 0xe072_a32f],
         End::MisalignedAtomic(0x1_1001),
     ),
     ("ebreak", [0x0010_0073, 0, 0], End::Breakpoint),
     ("c.ebreak", [0x0000_9002, 0, 0], End::Breakpoint),
+    // A word and parcels that spell nothing.
     (
-        "a word of ones",
+        "nop; .word -1",
         [0x0000_0013, 0xffff_ffff, 0],
         End::Illegal(0x1_0004),
     ),
+    ("nop; .half 0", [0x0000_0013, 0, 0], End::Illegal(0x1_0004)),
     (
-        "a parcel of zeros",
-        [0x0000_0013, 0, 0],
-        End::Illegal(0x1_0004),
-    ),
-    (
-        "a reserved parcel, c.addiw of x0",
+        ".half 0x2001, 1",
         [0x0001_2001, 0, 0],
         End::Illegal(0x1_0000),
     ),
     (
-        "exit with -1",
+        "li a0, -1; li a7, 93; ecall",
         [0xfff0_0513, 0x05d0_0893, 0x0000_0073],
         End::Exited(255),
     ),
     (
-        "exit with 256",
+        "li a0, 256; li a7, 93; ecall",
         [0x1000_0513, 0x05d0_0893, 0x0000_0073],
         End::Exited(0),
     ),
     (
-        "exit with 7",
+        "li a0, 7; li a7, 93; ecall",
         [0x0070_0513, 0x05d0_0893, 0x0000_0073],
         End::Exited(7),
     ),
