@@ -52,21 +52,17 @@ fn by_parcel(bits: u16) -> Fetched
 pub fn fetch<M: Memory>(memory: &M, pc: u64) -> Fetched
     ensures { (reader : Reader Spells StandsFor) → fetched_of result ≡ laws.fetch reader (M.mem memory.now) pc }
 {
-    if memory.may(pc, 4, Right::Execute) {
-        let word = memory.load(pc, 4);
-        if word % 4 == 3 {
-            by_word(word as u32)
-        } else {
-            by_parcel((word % 0x1_0000) as u16)
+    match memory.try_load(pc, 4, Right::Execute) {
+        Some(word) => {
+            if word % 4 == 3 {
+                by_word(word as u32)
+            } else {
+                by_parcel((word % 0x1_0000) as u16)
+            }
         }
-    } else if memory.may(pc, 2, Right::Execute) {
-        let parcel = memory.load(pc, 2);
-        if parcel % 4 == 3 {
-            Fetched::NoRight
-        } else {
-            by_parcel(parcel as u16)
-        }
-    } else {
-        Fetched::NoRight
+        None => match memory.try_load(pc, 2, Right::Execute) {
+            Some(parcel) if parcel % 4 != 3 => by_parcel(parcel as u16),
+            _ => Fetched::NoRight,
+        },
     }
 }

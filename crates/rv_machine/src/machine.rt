@@ -133,9 +133,10 @@ impl<M: Memory + Drop> Machine<M> {
             return Ok(Some(end));
         }
         match advance(&mut self.state, &mut self.memory) {
-            Ok(ended) => {
-                self.end = ended;
-                Ok(ended)
+            Ok(None) => Ok(None),
+            Ok(Some(end)) => {
+                self.end = Some(end);
+                Ok(Some(end))
             }
             Err(error) => Err(error),
         }
