@@ -11,3 +11,4 @@ pub mod AssembledMemory
 pub mod Obligations
 pub mod Simulation
 pub mod Assembled
+pub mod Exit7Program

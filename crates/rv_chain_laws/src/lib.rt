@@ -9,6 +9,6 @@ mod worked;
 
 pub use law::runs_agree;
 pub use worked::{
-    exit7_fits, exit7_is_limited, exit7_resolves, exit7_runs, exit7_shows, exit255_runs,
-    two_files_run,
+    exit7_executes, exit7_fits, exit7_is_limited, exit7_is_written, exit7_links, exit7_loads,
+    exit7_resolves, exit7_runs, exit7_shows, exit255_runs, two_files_run,
 };
