@@ -11,3 +11,7 @@ pub mod AssembledMemory
 pub mod Obligations
 pub mod Simulation
 pub mod Assembled
+pub mod Regions
+pub mod Homes
+pub mod LaidOut
+pub mod Contents

@@ -10,3 +10,5 @@ pub mod Agrees
 pub mod Headline
 pub mod Exit7
 pub mod Assembled
+pub mod Contents
+pub mod Data
