@@ -11,3 +11,5 @@ pub mod Headline
 pub mod Exit7
 pub mod Exit7Executable
 pub mod Assembled
+pub mod Contents
+pub mod Data

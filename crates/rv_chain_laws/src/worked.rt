@@ -1,4 +1,4 @@
-//! A worked program, as contracts that the check computes.
+//! Worked programs, as contracts that the check computes.
 
 ghost use Rattle.std.specs.Prelude.{◌≡◌, [], ◌∷◌, None, length};
 ghost use Rattle.rv_isa_laws.specs.Hart.{Limit};
@@ -14,7 +14,12 @@ ghost use Rattle.rv_encode.specs.Word.{Spells};
 ghost use Rattle.rv_compress.specs.Parcel.{StandsFor};
 ghost use Rattle.rv_machine_laws.specs.Reader.{Reader};
 ghost use Rattle.rv_machine_laws.specs.Run.{machine_run};
-ghost use Rattle.rv_chain_laws.specs.Fits.{Fits};
+ghost use Rattle.rv_chain_laws.specs.Contents.{contents};
+ghost use Rattle.rv_chain_laws.specs.Data.{hello, hello_map, says_hello, figures, figures_map, figures_data};
+ghost use Rattle.rv_chain_laws.specs.Sections.{goes_to_data};
+ghost use Rattle.rv_chain_laws.specs.Sites.{program};
+ghost use Rattle.rv_chain_laws.specs.Start.{spelled};
+ghost use Rattle.rv_chain_laws.specs.Fits.{Fits, blocks};
 ghost use Rattle.rv_chain_laws.specs.Resolves.{Resolves};
 ghost use Rattle.rv_chain_laws.specs.SourceRun.{source_run};
 
@@ -76,4 +81,34 @@ pub fn two_files_run()
     ensures fits { Fits (first_file ∷ second_file ∷ []) two_files_map 0x10000 }
     ensures resolves { Resolves (first_file ∷ second_file ∷ []) two_files_map }
     ensures runs { source_run (first_file ∷ second_file ∷ []) two_files_map [] 1000000 ≡ exits 7 }
+{}
+
+/// A program that writes five bytes of its constants and exits with 0.
+pub fn hello_runs()
+    ensures { source_run (hello ∷ []) hello_map [] 1000000 ≡ says_hello }
+{}
+
+/// The map of that program fits it.
+pub fn hello_fits()
+    ensures { Fits (hello ∷ []) hello_map 0 }
+{}
+
+/// The map of that program resolves its names.
+pub fn hello_resolves()
+    ensures { Resolves (hello ∷ []) hello_map }
+{}
+
+/// The map of a source with constants, places and data of each kind fits it.
+pub fn figures_fit()
+    ensures { Fits (figures ∷ []) figures_map 0x10000 }
+{}
+
+/// That map resolves its names: a constant has its last value, and the last of `.globl` and `.local` holds.
+pub fn figures_resolve()
+    ensures { Resolves (figures ∷ []) figures_map }
+{}
+
+/// The bytes of its data: a constant has its latest earlier value.
+pub fn figures_spell()
+    ensures { contents (spelled (program (figures ∷ []) figures_map)) 0x11000 (blocks goes_to_data (figures ∷ []) figures_map) ≡ figures_data }
 {}
