@@ -52,11 +52,11 @@ module _ {StandsFor : ℕ → Inst → Type 0} (reader : Reader Spells StandsFor
       ∙ ap (λ o. spelled 4 o) read
 
 -- what lies behind the first bytes
-bytes_behind : (m : Mem) (a : ℕ) (bs cs : List ℕ) → HasBytes m a (bs ++ cs) → HasBytes m (a + length bs) cs
+pub bytes_behind : (m : Mem) (a : ℕ) (bs cs : List ℕ) → HasBytes m a (bs ++ cs) → HasBytes m (a + length bs) cs
 bytes_behind m a [] cs h = subst (λ x. HasBytes m x cs) (let e : a ≡ a + 0 = omega arith in e) h
 bytes_behind m a (b ∷ bs) cs (h, hs) = subst (λ x. HasBytes m x cs) (let e : a + 1 + length bs ≡ a + suc (length bs) = omega arith in e) (bytes_behind m (a + 1) bs cs hs)
 
-may_all : (m : Mem) (n a : ℕ) → ((x : ℕ) → a ≤ x → x < a + n → m.has x Execute ≡ true) → a + n < 2 ^ 64 → may m a n Execute ≡ true
+pub may_all : (m : Mem) (n a : ℕ) → ((x : ℕ) → a ≤ x → x < a + n → m.has x Execute ≡ true) → a + n < 2 ^ 64 → may m a n Execute ≡ true
 may_all m zero a h below = refl
 may_all m (suc n) a h below =
     let e : a % 2 ^ 64 ≡ a = omega arith in
