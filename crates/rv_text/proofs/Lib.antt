@@ -3,3 +3,4 @@ pub mod Escapes
 pub mod Scans
 pub mod Inside
 pub mod Steps
+pub mod Feeds
