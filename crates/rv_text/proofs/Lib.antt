@@ -6,3 +6,4 @@ pub mod Steps
 pub mod Exprs
 pub mod ReadingSteps
 pub mod Evals
+pub mod Feeds
