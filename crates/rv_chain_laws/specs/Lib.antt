@@ -12,3 +12,4 @@ pub mod Exit7
 pub mod Assembled
 pub mod Contents
 pub mod Data
+pub mod Placed
