@@ -61,7 +61,7 @@ field_below : (z : ℤ) → IsSigned12 z → field 12 z < 4096
 field_below (pos n) (low, high) = omega (arith, ints)
 field_below (negsuc n) (low, high) = omega (arith, ints)
 
-abbrev IsWide : Inst → Type 0
+abbrev pub IsWide : Inst → Type 0
 IsWide i = (word (form i) < 2 ^ 32) × (word (form i) % 4 ≡ 3)
 
 add_wide : (rd rs1 k : ℕ) → IsValid (add_immediate rd rs1 k) → IsWide (add_immediate rd rs1 k)

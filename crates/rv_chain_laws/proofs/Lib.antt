@@ -16,3 +16,5 @@ pub mod Regions
 pub mod Homes
 pub mod LaidOut
 pub mod Contents
+pub mod AssembledLinked
+pub mod Placed

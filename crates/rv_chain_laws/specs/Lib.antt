@@ -13,3 +13,4 @@ pub mod Exit7Executable
 pub mod Assembled
 pub mod Contents
 pub mod Data
+pub mod Placed
