@@ -3,6 +3,7 @@
 mod limits;
 
 use crate::{Built, End, Fault, FileFault, LinkFault, LinkOptions, SourceFault, build, run_exec};
+use rv_parse::{StatementKind, parse};
 use std::alloc::Global;
 use std::test::Fail;
 
@@ -33,6 +34,19 @@ const OPTIONS: LinkOptions = LinkOptions {
 
 fn built(alloc: Global, source: &[u8]) -> Result<Built, Fault> {
     build(alloc, &[source], OPTIONS)
+}
+
+#[test]
+fn statements_of_a_source(rt: HostRuntime) -> Result<(), Fail> {
+    let statements = parse(rt.alloc(), EXIT7)?;
+    let lines: Vec<u32> = statements
+        .iter()
+        .map(|statement| statement.line)
+        .collect(rt.alloc())?;
+    assert!(rt; lines.as_slice() == [1, 2, 3, 3, 4, 5].as_slice());
+    let third = statements.get(2).map(|statement| &statement.kind);
+    assert!(rt; matches!(third, Some(StatementKind::Label(name)) if *name == b"_start".as_slice()));
+    Ok(())
 }
 
 #[test]

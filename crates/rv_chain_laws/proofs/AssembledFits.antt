@@ -121,11 +121,11 @@ entries-are ss m a e = ap (λ rows. entries_of (stated_one 1 ss ++ []) rows) e �
 pub sites-are : (ss : List Spoken) (m : Map) (a : ℕ) → m.rows ≡ rows_from 1 a ss → (program (ss ∷ []) m).sites ≡ sites_one 1 a ss
 sites-are ss m a e = ap sites_of (entries-are ss m a e)
 
-abbrev the_block : ℕ → List Spoken → Block
+abbrev pub the_block : ℕ → List Spoken → Block
 the_block a ss = record { alignment = 2; sites = sites_one 1 a ss }
 
 -- its one section goes to the text
-text_block : (ss : List Spoken) (m : Map) (a : ℕ) → AreCoded ss → m.rows ≡ rows_from 1 a ss → blocks goes_to_text (ss ∷ []) m ≡ the_block a ss ∷ []
+pub text_block : (ss : List Spoken) (m : Map) (a : ℕ) → AreCoded ss → m.rows ≡ rows_from 1 a ss → blocks goes_to_text (ss ∷ []) m ≡ the_block a ss ∷ []
 text_block ss m a coded e =
     let p : Program = program (ss ∷ []) m in
     ap (λ sections. blocks_of_file goes_to_text p 1 0 sections ++ []) (ap (λ o. o.sections) (opened_one ss coded))
@@ -134,7 +134,7 @@ text_block ss m a coded e =
     ∙ ap (λ n. record { alignment = max 2 n; sites = sites_one 1 a ss } ∷ []) (greatest_one p 1 a ss coded)
 
 -- no other region has a section
-no_block : (goes : Section → Bool) (ss : List Spoken) (m : Map) → AreCoded ss → goes text_section ≡ false → blocks goes (ss ∷ []) m ≡ []
+pub no_block : (goes : Section → Bool) (ss : List Spoken) (m : Map) → AreCoded ss → goes text_section ≡ false → blocks goes (ss ∷ []) m ≡ []
 no_block goes ss m coded e =
     let p : Program = program (ss ∷ []) m in
     let b : Block = block_of p text_section (sites_in p.sites 1 0) in

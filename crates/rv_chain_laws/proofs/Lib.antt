@@ -17,3 +17,5 @@ pub mod Regions
 pub mod Homes
 pub mod LaidOut
 pub mod Contents
+pub mod AssembledLinked
+pub mod Placed

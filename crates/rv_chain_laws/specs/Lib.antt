@@ -14,3 +14,4 @@ pub mod Exit7Executable
 pub mod Assembled
 pub mod Contents
 pub mod Data
+pub mod Placed

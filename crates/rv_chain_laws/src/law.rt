@@ -15,6 +15,8 @@ ghost use Rattle.rv_chain_laws.specs.Sites.{program};
 ghost use Rattle.rv_chain_laws.specs.SourceRun.{source_run};
 ghost use Rattle.rv_chain_laws.specs.Headline.{RunsAgree};
 ghost use Rattle.rv_chain_laws.specs.Contents.{IsLinked};
+ghost use Rattle.rv_chain_laws.specs.Fits.{Fits};
+ghost use Rattle.rv_chain_laws.specs.Placed.{IsLaidFrom};
 ghost use Rattle.rv_image.specs.Linked.{Linked};
 ghost use Rattle.rv_image.specs.Executable.{linked_image};
 
@@ -28,4 +30,10 @@ pub fn runs_agree()
 /// of the program runs as the statements of the source do, for every input and every limit.
 pub fn linked_runs_agree()
     ensures { (start : ℕ) (ss : List Spoken) (l : Linked) → IsLinked (ss ∷ []) start l → l.map.entry < 2 ^ 64 → l.map.entry % 2 ≡ 0 → RunsAgree (ss ∷ []) l.map (linked_image l) }
+{}
+
+/// A map that is laid out section by section fits its source: each row stands at the next place of its
+/// section, and the sections of a region stand one behind the other.
+pub fn laid_out_fits()
+    ensures { (start : ℕ) (ss : List Spoken) (map : Map) → IsLaidFrom start ss map → Fits (ss ∷ []) map start }
 {}

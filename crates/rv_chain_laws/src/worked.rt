@@ -1,6 +1,6 @@
 //! Worked programs, as contracts that the check computes.
 
-ghost use Rattle.std.specs.Prelude.{◌≡◌, [], ◌∷◌, None, length};
+ghost use Rattle.std.specs.Prelude.{◌≡◌, [], ◌∷◌, None, length, codes};
 ghost use Rattle.rv_isa_laws.specs.Hart.{Limit};
 ghost use Rattle.rv_chain_laws.specs.Exit7.{exit7, exit7_map, exit7_text, exit255, exit255_map, first_file, second_file, two_files_map, exits};
 ghost use Rattle.rv_chain_laws.specs.Exit7Executable.{exit7_file, exit7_image, exit7_linked};
@@ -14,9 +14,9 @@ ghost use Rattle.rv_encode.specs.Word.{Spells};
 ghost use Rattle.rv_compress.specs.Parcel.{StandsFor};
 ghost use Rattle.rv_machine_laws.specs.Reader.{Reader};
 ghost use Rattle.rv_machine_laws.specs.Run.{machine_run};
-ghost use Rattle.rv_chain_laws.specs.Contents.{contents};
-ghost use Rattle.rv_chain_laws.specs.Data.{hello, hello_map, says_hello, figures, figures_map, figures_data};
-ghost use Rattle.rv_chain_laws.specs.Sections.{goes_to_data};
+ghost use Rattle.rv_chain_laws.specs.Contents.{contents, code_bytes};
+ghost use Rattle.rv_chain_laws.specs.Data.{hello, hello_map, says_hello, figures, figures_map, figures_data, hello_text};
+ghost use Rattle.rv_chain_laws.specs.Sections.{goes_to_data, goes_to_text, goes_to_rodata};
 ghost use Rattle.rv_chain_laws.specs.Sites.{program};
 ghost use Rattle.rv_chain_laws.specs.Start.{spelled};
 ghost use Rattle.rv_chain_laws.specs.Fits.{Fits, blocks};
@@ -96,6 +96,12 @@ pub fn hello_fits()
 /// The map of that program resolves its names.
 pub fn hello_resolves()
     ensures { Resolves (hello ∷ []) hello_map }
+{}
+
+/// The bytes of its text and of its constants.
+pub fn hello_holds()
+    ensures text { contents (code_bytes (program (hello ∷ []) hello_map)) 0 (blocks goes_to_text (hello ∷ []) hello_map) ≡ hello_text }
+    ensures constants { contents (spelled (program (hello ∷ []) hello_map)) 0x1000 (blocks goes_to_rodata (hello ∷ []) hello_map) ≡ codes "hello" }
 {}
 
 /// The map of a source with constants, places and data of each kind fits it.

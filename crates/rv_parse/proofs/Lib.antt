@@ -2,3 +2,4 @@ pub mod Names
 pub mod Jumps
 pub mod Statements
 pub mod Refusals
+pub mod Lines

@@ -14,6 +14,7 @@ ghost use Rattle.rv_parse.specs.Left.{left, wrong_of, StopsAt, RefusesTokens, Re
 use crate::cursor::{Cursor, Refusal, Wrong};
 use crate::kinds;
 use crate::statement::Statement;
+use memchr::memrchr;
 use rv_text::{Lexer, SourceCode, SourceFault, Token};
 use std::alloc::Global;
 
@@ -26,19 +27,17 @@ const LONGEST_LINE: usize = 65535;
 /// The most statements of a source.
 const MOST_STATEMENTS: usize = 1 << 22;
 
-/// The place of the first byte past the limit of its line.
+/// The place of the first byte past the limit of its line. Of so many bytes as a line with its line feed may have, the
+/// last line feed alone is looked for: the lines before it are short enough.
 fn past_line(source: &[u8]) -> Option<usize>
     ensures place { result ≡ past_line 0 0 source.now }
     ensures within { IfSome result (λ place. place ≤ length source.now) }
 {
-    let mut before = 0;
-    for (place, byte) in source.iter().enumerate() {
-        if *byte == b'\n' {
-            before = 0;
-        } else if before == LONGEST_LINE {
-            return Some(place);
-        } else {
-            before += 1;
+    let mut start = 0;
+    while LONGEST_LINE < source.len() - start {
+        match memrchr(b'\n', &source[start..start + LONGEST_LINE + 1]) {
+            Some(end) => start += end + 1,
+            None => return Some(start + LONGEST_LINE),
         }
     }
     None
