@@ -1,4 +1,4 @@
--- The memory of a linked program's image realizes its source: any number of sections, code and data.
+-- The memory of a linked program's image realizes its sources: any number of sections, code and data.
 
 use Rattle.std.proofs.Common.{◌≡◌, ℕ, zero, suc, ◌+◌, ◌-◌, ◌*◌, ◌^◌, ◌%◌, ◌<◌, ◌≤◌, Bool, true, false, List, [], ◌∷◌, ◌++◌, length, refl, sym, ap, ◌∙◌, subst, arith, map, Option, Some, None, append-nil, length-append, ◌⊎◌, inl, inr}
 use Rattle.std.proofs.lemmas.Bool.Decides.{nat_tests}
@@ -24,7 +24,7 @@ use Rattle.rv_image.specs.Memory.{mem_of}
 use Rattle.rv_chain_laws.specs.Sections.{Section, goes_to_text, goes_to_rodata, goes_to_data, goes_to_bss, opened_by, at_first, stated_from}
 use Rattle.rv_chain_laws.specs.Sites.{Site, Program, program, entries_of, sites_of, has_values}
 use Rattle.rv_chain_laws.specs.Meaning.{Line, Lie, AreLines, expansion}
-use Rattle.rv_chain_laws.specs.Fits.{Fits, IsRowOf, IsPaddingIn, SizeFits, StatementFits, Block, block_of, sites_in, blocks, blocks_of_file, greatest, greatest_alignment, Holds, Stand, end_of, aligned}
+use Rattle.rv_chain_laws.specs.Fits.{Fits, IsRowOf, IsPaddingIn, SizeFits, StatementFits, Block, block_of, sites_in, blocks, blocks_of_file, blocks_of, greatest, greatest_alignment, Holds, Stand, end_of, aligned}
 use Rattle.rv_chain_laws.specs.Start.{is_within, is_in, right_at, first_byte, byte_of, spelled}
 use Rattle.rv_chain_laws.specs.SourceRun.{Place, Starts, Gap, Outside, starts_or_inside, place, found}
 use Rattle.rv_chain_laws.specs.Realizes.{StandsIn, HoldsLines, Realizes}
@@ -33,7 +33,7 @@ use Rattle.rv_chain_laws.specs.Headline.{RunsAgree}
 use Rattle.rv_chain_laws.proofs.AssembledCode.{HasBytes, bytes_behind, fetch-word, may_all, Runs}
 use Rattle.rv_chain_laws.proofs.Simulation.{find_holds, agreement_of_image}
 use Rattle.rv_chain_laws.proofs.Regions.{Sized, LiesIn, Misses, AllIn, IsAligned, byte_at, byte_zero, above, end_above, lie_blocks, held_blocks, zero_blocks, length_blocks}
-use Rattle.rv_chain_laws.proofs.Homes.{IsAtHome, homes, all_map, all_both, to_blocks, from_blocks}
+use Rattle.rv_chain_laws.proofs.Homes.{sections_of, sections_in, IsAtHome, homes, all_join, all_map, all_both, to_blocks, from_blocks}
 use Rattle.rv_chain_laws.proofs.LaidOut.{AreRegions, apart, rights-are, text_held, rodata_held, data_held, bss_held, stack_zero}
 
 -- ---- the instructions of a statement
@@ -185,14 +185,19 @@ one_or_more : (b : Bool) (g : ℕ) → 1 ≤ max (if b then 2 else 1) g
 one_or_more true g = omega arith
 one_or_more false g = omega arith
 
-aligned_from : (goes : Section → Bool) (p : Program) (index : ℕ) (sections : List Section) → AllByRecursion IsAligned (blocks_of_file goes p 1 index sections)
-aligned_from goes p index [] = tt
-aligned_from goes p index (section ∷ sections) = go (goes section) (aligned_from goes p (suc index) sections)
+aligned_file : (goes : Section → Bool) (p : Program) (file index : ℕ) (sections : List Section) → AllByRecursion IsAligned (blocks_of_file goes p file index sections)
+aligned_file goes p file index [] = tt
+aligned_file goes p file index (section ∷ sections) = go (goes section) (aligned_file goes p file (suc index) sections)
   where
-    go : (b : Bool) → AllByRecursion IsAligned (blocks_of_file goes p 1 (suc index) sections)
-        → AllByRecursion IsAligned (if b then block_of p section (sites_in p.sites 1 index) ∷ blocks_of_file goes p 1 (suc index) sections else blocks_of_file goes p 1 (suc index) sections)
-    go true rest = (one_or_more (goes_to_text section) (greatest p (sites_in p.sites 1 index)), rest)
+    go : (b : Bool) → AllByRecursion IsAligned (blocks_of_file goes p file (suc index) sections)
+        → AllByRecursion IsAligned (if b then block_of p section (sites_in p.sites file index) ∷ blocks_of_file goes p file (suc index) sections else blocks_of_file goes p file (suc index) sections)
+    go true rest = (one_or_more (goes_to_text section) (greatest p (sites_in p.sites file index)), rest)
     go false rest = rest
+
+aligned_files : (goes : Section → Bool) (p : Program) (file : ℕ) (files : List (List Spoken)) → AllByRecursion IsAligned (blocks_of goes p file files)
+aligned_files goes p file [] = tt
+aligned_files goes p file (ss ∷ files) =
+    all_join IsAligned (blocks_of_file goes p file 0 (sections_of ss)) (blocks_of goes p (suc file) files) (aligned_file goes p file 0 (sections_of ss)) (aligned_files goes p (suc file) files)
 
 some_alignment : (bs : List Block) → 1 ≤ greatest_alignment bs
 some_alignment [] = omega arith
@@ -255,11 +260,11 @@ within_parts a b x e =
 past : {A : Type 0} (a b c x : ℕ) → is_within a b x ≡ true → b ≤ c → c ≤ x → A
 past a b c x inside le high = let parts = within_parts a b x inside in absurd (omega arith)
 
--- ---- a linked program of one source
+-- ---- a linked program
 
-module _ {StandsFor : ℕ → Inst → Type 0} (reader : Reader Spells StandsFor) (ss : List Spoken) (a : ℕ) (l : Linked) (h : IsLinked (ss ∷ []) a l) where
+module _ {StandsFor : ℕ → Inst → Type 0} (reader : Reader Spells StandsFor) (sources : List (List Spoken)) (a : ℕ) (l : Linked) (h : IsLinked sources a l) where
   abbrev p : Program
-  p = program (ss ∷ []) l.map
+  p = program sources l.map
 
   abbrev m : Mem
   m = mem_of (linked_image l)
@@ -267,23 +272,20 @@ module _ {StandsFor : ℕ → Inst → Type 0} (reader : Reader Spells StandsFor
   abbrev map_of : Map
   map_of = l.map
 
-  abbrev sections : List Section
-  sections = (opened_by at_first ss).sections
+  abbrev sections : ℕ → List Section
+  sections = sections_in sources
 
   abbrev region : (Section → Bool) → List Block
-  region goes = blocks_of_file goes p 1 0 sections
-
-  region-is : (goes : Section → Bool) → blocks goes (ss ∷ []) map_of ≡ region goes
-  region-is goes = append-nil (region goes)
+  region goes = blocks goes sources map_of
 
   at_home : AllByRecursion (IsAtHome sections) p.sites
-  at_home = subst (λ ts. AllByRecursion (IsAtHome sections) (sites_of (entries_of ts map_of.rows))) (sym (append-nil (stated_from 1 1 at_first ss))) (homes 1 ss map_of.rows)
+  at_home = homes sources map_of.rows
 
   is_aligned : (goes : Section → Bool) → AllByRecursion IsAligned (region goes)
-  is_aligned goes = aligned_from goes p 0 sections
+  is_aligned goes = aligned_files goes p 1 sources
 
   data_sized : (goes : Section → Bool) → ((s : Section) → goes s ≡ true → s.executable ≡ false) → AllIn (Sized (spelled p)) (region goes)
-  data_sized goes none = to_blocks p sections goes (Sized (spelled p)) at_home
+  data_sized goes none = to_blocks p sources goes (Sized (spelled p)) at_home
       (all_map (SizeFits p) (λ s. goes s.stated.home ≡ true → Sized (spelled p) s) p.sites
       (λ s fits good. statement_data p s.stated.file s.stated.ordinal s.stated.section s.stated.line s.stated.home s.row s.stated.says fits (none s.stated.home good)) h.fits.sizes)
 
@@ -297,31 +299,31 @@ module _ {StandsFor : ℕ → Inst → Type 0} (reader : Reader Spells StandsFor
   written_sized s (is, e, ws, size) = ap (λ o. length (words o)) e ∙ words_length is ∙ sym size
 
   code_sized : AllIn (Sized (code_bytes p)) (region goes_to_text)
-  code_sized = to_blocks p sections goes_to_text (Sized (code_bytes p)) at_home
+  code_sized = to_blocks p sources goes_to_text (Sized (code_bytes p)) at_home
       (all_map (λ s. IsTrue s.stated.home.executable → IsWritten p s) (λ s. goes_to_text s.stated.home ≡ true → Sized (code_bytes p) s) p.sites
       (λ s w good. written_sized s (w (and_parts s.stated.home.loaded s.stated.home.executable good).1)) h.written)
 
   -- each region holds its sections from its start on
   text_holds : Holds map_of.text a (region goes_to_text)
-  text_holds = subst (Holds map_of.text a) (region-is goes_to_text) h.fits.text
+  text_holds = h.fits.text
 
   rodata_holds : Holds map_of.rodata (aligned 4096 map_of.text.end) (region goes_to_rodata)
-  rodata_holds = subst (Holds map_of.rodata (aligned 4096 map_of.text.end)) (region-is goes_to_rodata) h.fits.rodata
+  rodata_holds = h.fits.rodata
 
   data_holds : Holds map_of.data (aligned 4096 map_of.rodata.end) (region goes_to_data)
-  data_holds = subst (Holds map_of.data (aligned 4096 map_of.rodata.end)) (region-is goes_to_data) h.fits.data
+  data_holds = h.fits.data
 
   bss_holds : Holds map_of.bss (aligned (greatest_alignment (region goes_to_bss)) map_of.data.end) (region goes_to_bss)
-  bss_holds = subst (λ bs. Holds map_of.bss (aligned (greatest_alignment bs) map_of.data.end) bs) (region-is goes_to_bss) h.fits.bss
+  bss_holds = h.fits.bss
 
   text_is : l.text ≡ contents (code_bytes p) map_of.text.start (region goes_to_text)
-  text_is = h.text ∙ ap (contents (code_bytes p) map_of.text.start) (region-is goes_to_text)
+  text_is = h.text
 
   rodata_is : l.rodata ≡ contents (spelled p) map_of.rodata.start (region goes_to_rodata)
-  rodata_is = h.rodata ∙ ap (contents (spelled p) map_of.rodata.start) (region-is goes_to_rodata)
+  rodata_is = h.rodata
 
   data_is : l.data ≡ contents (spelled p) map_of.data.start (region goes_to_data)
-  data_is = h.data ∙ ap (contents (spelled p) map_of.data.start) (region-is goes_to_data)
+  data_is = h.data
 
   filled : (start place stop : ℕ) (bytes : Site → List ℕ) (bs : List Block) (stored : List ℕ) → start ≡ place → stop ≡ end_of place bs → stored ≡ contents bytes start bs → AllIn (Sized bytes) bs → AllByRecursion IsAligned bs → start + length stored ≡ stop
   filled start place stop bytes bs stored at ends is sized up =
@@ -348,13 +350,13 @@ module _ {StandsFor : ℕ → Inst → Type 0} (reader : Reader Spells StandsFor
 
   lies : (goes : Section → Bool) (start place stop : ℕ) → start ≡ place → Stand place (region goes) → stop ≡ end_of place (region goes) → AllByRecursion (In goes (LiesIn start stop)) p.sites
   lies goes start place stop at stand ends =
-      from_blocks p sections goes (LiesIn start stop) at_home
+      from_blocks p sources goes (LiesIn start stop) at_home
       (lie_blocks (region goes) place start stop (is_aligned goes) stand (same_end place start (sym at)) (same_end stop (end_of place (region goes)) ends))
 
   held : (goes : Section → Bool) (bytes : Site → List ℕ) (start place : ℕ) (stored : List ℕ) → start ≡ place → Stand place (region goes) → stored ≡ contents bytes start (region goes) → AllIn (Sized bytes) (region goes) → HasBytes m start stored
       → AllByRecursion (In goes (λ s. HasBytes m s.row.address (bytes s))) p.sites
   held goes bytes start place stored at stand is sized has =
-      from_blocks p sections goes (λ s. HasBytes m s.row.address (bytes s)) at_home
+      from_blocks p sources goes (λ s. HasBytes m s.row.address (bytes s)) at_home
       (held_blocks bytes m (region goes) start sized (is_aligned goes) (subst (λ x. Stand x (region goes)) (sym at) stand) (subst (HasBytes m start) is has))
 
   abbrev Whole : Site → Type 0
@@ -495,7 +497,7 @@ module _ {StandsFor : ℕ → Inst → Type 0} (reader : Reader Spells StandsFor
       ]
 
   missed : (goes : Section → Bool) (x : ℕ) → AllByRecursion (Misses x) p.sites → AllIn (Misses x) (region goes)
-  missed goes x none = to_blocks p sections goes (Misses x) at_home (all_map (Misses x) (In goes (Misses x)) p.sites (λ s e good. e) none)
+  missed goes x none = to_blocks p sources goes (Misses x) at_home (all_map (Misses x) (In goes (Misses x)) p.sites (λ s e good. e) none)
 
   -- no row lies over a byte that can be read: it is zero
   region_zero : (goes : Section → Bool) (start place stop x : ℕ) (stored : List ℕ) → start ≡ place → Stand place (region goes) → stop ≡ end_of place (region goes) → stored ≡ contents (spelled p) start (region goes) → AllIn (Sized (spelled p)) (region goes) → HasBytes m start stored
@@ -548,7 +550,7 @@ module _ {StandsFor : ℕ → Inst → Type 0} (reader : Reader Spells StandsFor
     fixed = λ x u inside. unwritten x inside;
   }
 
--- a linked program runs as its source does, for every input and every limit
-pub linked_agrees : (a : ℕ) (ss : List Spoken) (l : Linked) → IsLinked (ss ∷ []) a l → l.map.entry < 2 ^ 64 → l.map.entry % 2 ≡ 0 → RunsAgree (ss ∷ []) l.map (linked_image l)
-linked_agrees a ss l h below even reader input bytes n =
-    agreement_of_image (ss ∷ []) l.map (mem_of (linked_image l)) l.map.entry (λ r. realizes_linked r ss a l h) refl below even reader input n
+-- a linked program runs as its sources do, for every input and every limit
+pub linked_agrees : (a : ℕ) (sources : List (List Spoken)) (l : Linked) → IsLinked sources a l → l.map.entry < 2 ^ 64 → l.map.entry % 2 ≡ 0 → RunsAgree sources l.map (linked_image l)
+linked_agrees a sources l h below even reader input bytes n =
+    agreement_of_image sources l.map (mem_of (linked_image l)) l.map.entry (λ r. realizes_linked r sources a l h) refl below even reader input n

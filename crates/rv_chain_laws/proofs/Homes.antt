@@ -8,9 +8,9 @@ use Rattle.std.specs.List.{AllByRecursion, position}
 use Rattle.std.specs.Str.{bytes_eq}
 use Rattle.rv_parse_laws.specs.Statement.{Statement, Label, Norvc, Globl, Instruction, Directs, Spoken, Directive, Enters, Opens}
 use Rattle.rv_map.specs.declared.map.Row.{Row}
-use Rattle.rv_chain_laws.specs.Sections.{Section, Opened, section_of, standard_name, text_section, at_first, entered_at, entered, directed, after, current_section, opened_by, Stated, stated_from, has_row}
+use Rattle.rv_chain_laws.specs.Sections.{Section, Opened, section_of, standard_name, text_section, at_first, entered_at, entered, directed, after, current_section, opened_by, Stated, stated_from, stated_of, stated, has_row}
 use Rattle.rv_chain_laws.specs.Sites.{Entry, Site, Program, first_of, entries_of, seated, sites_of}
-use Rattle.rv_chain_laws.specs.Fits.{Block, block_of, blocks_of_file, sites_in}
+use Rattle.rv_chain_laws.specs.Fits.{Block, block_of, blocks_of_file, blocks_of, sites_in}
 use Rattle.rv_chain_laws.proofs.Regions.{AllIn}
 
 -- ---- lists
@@ -88,23 +88,59 @@ keeps_all o (s ∷ ss) is_open =
 
 -- ---- the sections of statements
 
-abbrev IsHomeIn : List Section → Stated → Type 0
-IsHomeIn sections t = (t.file ≡ 1) × (slice_get sections t.section ≡ Some t.home)
+abbrev pub sections_of : List Spoken → List Section
+sections_of ss = (opened_by at_first ss).sections
+
+-- the sections of the files, which are numbered from 1
+abbrev pub sections_by : List (List Spoken) → ℕ → List Section
+sections_by [] i = []
+sections_by (ss ∷ files) zero = sections_of ss
+sections_by (ss ∷ files) (suc i) = sections_by files i
+
+abbrev pub sections_in : List (List Spoken) → ℕ → List Section
+sections_in sources zero = []
+sections_in sources (suc i) = sections_by sources i
+
+abbrev IsHomeIn : (ℕ → List Section) → Stated → Type 0
+IsHomeIn sections t = slice_get (sections t.file) t.section ≡ Some t.home
 
 home_now : (o : Opened) (ss : List Spoken) → IsOpen o → slice_get (opened_by o ss).sections o.current ≡ Some (current_section o)
 home_now o ss (x, e) = keeps_all o ss (x, e) o.current (current_section o) (e ∙ ap Some (sym (got_of o.sections o.current text_section x e)))
 
-homes_from : (k : ℕ) (o : Opened) (ss : List Spoken) → IsOpen o → AllByRecursion (IsHomeIn (opened_by o ss).sections) (stated_from 1 k o ss)
-homes_from k o [] is_open = tt
-homes_from k o (s ∷ ss) is_open =
-    let now = after_open o s.says is_open in
-    ((refl, home_now (after o s.says) ss now.0), homes_from (suc k) (after o s.says) ss now.0)
+homes_from : (sections : ℕ → List Section) (file k : ℕ) (o : Opened) (ss : List Spoken) → sections file ≡ (opened_by o ss).sections → IsOpen o → AllByRecursion (IsHomeIn sections) (stated_from file k o ss)
+homes_from sections file k o [] same is_open = tt
+homes_from sections file k o (s ∷ ss) same is_open =
+    let now = after_open o s.says is_open in (
+      ap (λ xs. slice_get xs (after o s.says).current) same ∙ home_now (after o s.says) ss now.0,
+      homes_from sections file (suc k) (after o s.says) ss same now.0,
+    )
+
+pub all_join : {X : Type 0} (P : X → Type 0) (xs ys : List X) → AllByRecursion P xs → AllByRecursion P ys → AllByRecursion P (xs ++ ys)
+all_join P [] ys h k = k
+all_join P (x ∷ xs) ys (p, ps) k = (p, all_join P xs ys ps k)
+
+-- these are the sections of files that are numbered from here on
+abbrev AreOf : (ℕ → List Section) → ℕ → List (List Spoken) → Type 0
+AreOf sections file sources = (i : ℕ) → sections (file + i) ≡ sections_by sources i
+
+first_of_these : (sections : ℕ → List Section) (file : ℕ) (ss : List Spoken) (files : List (List Spoken)) → AreOf sections file (ss ∷ files) → sections file ≡ sections_of ss
+first_of_these sections file ss files same = ap sections (let e : file ≡ file + 0 = omega arith in e) ∙ same 0
+
+rest_of_these : (sections : ℕ → List Section) (file : ℕ) (ss : List Spoken) (files : List (List Spoken)) → AreOf sections file (ss ∷ files) → AreOf sections (suc file) files
+rest_of_these sections file ss files same i = ap sections (let e : suc file + i ≡ file + suc i = omega arith in e) ∙ same (suc i)
+
+homes_of : (sections : ℕ → List Section) (file : ℕ) (sources : List (List Spoken)) → AreOf sections file sources → AllByRecursion (IsHomeIn sections) (stated_of file sources)
+homes_of sections file [] same = tt
+homes_of sections file (ss ∷ files) same =
+    all_join (IsHomeIn sections) (stated_from file 1 at_first ss) (stated_of (suc file) files)
+    (homes_from sections file 1 at_first ss (first_of_these sections file ss files same) (text_section, refl))
+    (homes_of sections (suc file) files (rest_of_these sections file ss files same))
 
 -- a statement that has a row stands in a section that is loaded
-abbrev pub IsAtHome : List Section → Site → Type 0
+abbrev pub IsAtHome : (ℕ → List Section) → Site → Type 0
 IsAtHome sections s = IsHomeIn sections s.stated × (s.stated.home.loaded ≡ true)
 
-seats : (sections : List Section) (ts : List Stated) (rows : List Row) → AllByRecursion (IsHomeIn sections) ts → AllByRecursion (IsAtHome sections) (sites_of (entries_of ts rows))
+seats : (sections : ℕ → List Section) (ts : List Stated) (rows : List Row) → AllByRecursion (IsHomeIn sections) ts → AllByRecursion (IsAtHome sections) (sites_of (entries_of ts rows))
 seats sections [] rows h = tt
 seats sections (t ∷ ts) rows (p, ps) = go (has_row t) refl (seats sections ts (drop 1 rows) ps) (seats sections ts rows ps)
   where
@@ -116,80 +152,113 @@ seats sections (t ∷ ts) rows (p, ps) = go (has_row t) refl (seats sections ts 
     go true e taken left = seat (first_of rows) (sites_of (entries_of ts (drop 1 rows))) e taken
     go false e taken left = left
 
-pub homes : (k : ℕ) (ss : List Spoken) (rows : List Row) → AllByRecursion (IsAtHome (opened_by at_first ss).sections) (sites_of (entries_of (stated_from 1 k at_first ss) rows))
-homes k ss rows = seats (opened_by at_first ss).sections (stated_from 1 k at_first ss) rows (homes_from k at_first ss (text_section, refl))
+are_in : (sources : List (List Spoken)) → AreOf (sections_in sources) 1 sources
+are_in sources i = ap (sections_in sources) (let e : 1 + i ≡ suc i = omega arith in e)
+
+pub homes : (sources : List (List Spoken)) (rows : List Row) → AllByRecursion (IsAtHome (sections_in sources)) (sites_of (entries_of (stated sources) rows))
+homes sources rows = seats (sections_in sources) (stated sources) rows (homes_of (sections_in sources) 1 sources (are_in sources))
 
 -- ---- from the statements to the sections, and back
 
-module _ (p : Program) (sections : List Section) (goes : Section → Bool) (P : Site → Type 0) where
+module _ (p : Program) (sources : List (List Spoken)) (goes : Section → Bool) (P : Site → Type 0) where
+  abbrev sections : ℕ → List Section
+  sections = sections_in sources
+
   abbrev Where : Site → Type 0
   Where s = goes s.stated.home ≡ true → P s
 
-  abbrev test : ℕ → Site → Bool
-  test j s = (s.stated.file == 1) && (s.stated.section == j)
+  abbrev test : ℕ → ℕ → Site → Bool
+  test f j s = (s.stated.file == f) && (s.stated.section == j)
 
-  in_section : (j : ℕ) (section : Section) → slice_get sections j ≡ Some section → goes section ≡ true → (xs : List Site) → AllByRecursion (IsAtHome sections) xs → AllByRecursion Where xs → AllByRecursion P (sites_in xs 1 j)
-  in_section j section at good [] hs ws = tt
-  in_section j section at good (x ∷ xs) (h, hs) (w, ws) = go (test j x) refl (in_section j section at good xs hs ws)
+  in_section : (f j : ℕ) (section : Section) → slice_get (sections f) j ≡ Some section → goes section ≡ true → (xs : List Site) → AllByRecursion (IsAtHome sections) xs → AllByRecursion Where xs → AllByRecursion P (sites_in xs f j)
+  in_section f j section at good [] hs ws = tt
+  in_section f j section at good (x ∷ xs) (h, hs) (w, ws) = go (test f j x) refl (in_section f j section at good xs hs ws)
     where
-      go : (b : Bool) → test j x ≡ b → AllByRecursion P (sites_in xs 1 j) → AllByRecursion P (if b then x ∷ sites_in xs 1 j else sites_in xs 1 j)
+      go : (b : Bool) → test f j x ≡ b → AllByRecursion P (sites_in xs f j) → AllByRecursion P (if b then x ∷ sites_in xs f j else sites_in xs f j)
       go true e rest =
-          let same : x.stated.section ≡ j = eqb-true x.stated.section j (and_parts (x.stated.file == 1) (x.stated.section == j) e).1 in
-          let both : Some x.stated.home ≡ Some section = sym h.0.1 ∙ ap (λ i. slice_get sections i) same ∙ at in
+          let parts = and_parts (x.stated.file == f) (x.stated.section == j) e in
+          let file : x.stated.file ≡ f = eqb-true x.stated.file f parts.0 in
+          let same : x.stated.section ≡ j = eqb-true x.stated.section j parts.1 in
+          let both : Some x.stated.home ≡ Some section = sym h.0 ∙ ap (λ i. slice_get (sections i) x.stated.section) file ∙ ap (λ i. slice_get (sections f) i) same ∙ at in
           let home : x.stated.home ≡ section = cc in
           (w (ap goes home ∙ good), rest)
       go false e rest = rest
 
-  to_blocks_from : AllByRecursion (IsAtHome sections) p.sites → AllByRecursion Where p.sites → (place : ℕ) (rest : List Section) → ((j : ℕ) → slice_get sections (place + j) ≡ slice_get rest j) → AllIn P (blocks_of_file goes p 1 place rest)
-  to_blocks_from hs ws place [] same = tt
-  to_blocks_from hs ws place (section ∷ rest) same =
-      go (goes section) refl (to_blocks_from hs ws (suc place) rest (λ j. ap (λ i. slice_get sections i) (let e : suc place + j ≡ place + suc j = omega arith in e) ∙ same (suc j)))
+  to_file : AllByRecursion (IsAtHome sections) p.sites → AllByRecursion Where p.sites → (file index : ℕ) (rest : List Section) → ((j : ℕ) → slice_get (sections file) (index + j) ≡ slice_get rest j) → AllIn P (blocks_of_file goes p file index rest)
+  to_file hs ws file index [] same = tt
+  to_file hs ws file index (section ∷ rest) same =
+      go (goes section) refl (to_file hs ws file (suc index) rest (λ j. ap (λ i. slice_get (sections file) i) (let e : suc index + j ≡ index + suc j = omega arith in e) ∙ same (suc j)))
     where
-      go : (b : Bool) → goes section ≡ b → AllIn P (blocks_of_file goes p 1 (suc place) rest) → AllIn P (if b then block_of p section (sites_in p.sites 1 place) ∷ blocks_of_file goes p 1 (suc place) rest else blocks_of_file goes p 1 (suc place) rest)
+      go : (b : Bool) → goes section ≡ b → AllIn P (blocks_of_file goes p file (suc index) rest) → AllIn P (if b then block_of p section (sites_in p.sites file index) ∷ blocks_of_file goes p file (suc index) rest else blocks_of_file goes p file (suc index) rest)
       go true e next =
-          let here : slice_get sections place ≡ Some section = ap (λ i. slice_get sections i) (let e : place ≡ place + 0 = omega arith in e) ∙ same 0 in
-          (in_section place section here e p.sites hs ws, next)
+          let here : slice_get (sections file) index ≡ Some section = ap (λ i. slice_get (sections file) i) (let e : index ≡ index + 0 = omega arith in e) ∙ same 0 in
+          (in_section file index section here e p.sites hs ws, next)
       go false e next = next
 
-  pub to_blocks : AllByRecursion (IsAtHome sections) p.sites → AllByRecursion Where p.sites → AllIn P (blocks_of_file goes p 1 0 sections)
-  to_blocks hs ws = to_blocks_from hs ws 0 sections (λ j. ap (λ i. slice_get sections i) (let e : 0 + j ≡ j = omega arith in e))
+  to_files : AllByRecursion (IsAtHome sections) p.sites → AllByRecursion Where p.sites → (file : ℕ) (files : List (List Spoken)) → AreOf sections file files → AllIn P (blocks_of goes p file files)
+  to_files hs ws file [] same = tt
+  to_files hs ws file (ss ∷ files) same =
+      let own : sections file ≡ sections_of ss = first_of_these sections file ss files same in
+      all_join (λ b. AllByRecursion P b.sites) (blocks_of_file goes p file 0 (sections_of ss)) (blocks_of goes p (suc file) files)
+      (to_file hs ws file 0 (sections_of ss) (λ j. ap (λ i. slice_get (sections file) i) (let e : 0 + j ≡ j = omega arith in e) ∙ ap (λ xs. slice_get xs j) own))
+      (to_files hs ws (suc file) files (rest_of_these sections file ss files same))
 
-  at_block : (place : ℕ) (rest : List Section) (j : ℕ) (section : Section) → AllIn P (blocks_of_file goes p 1 place rest) → slice_get rest j ≡ Some section → goes section ≡ true → AllByRecursion P (sites_in p.sites 1 (place + j))
-  at_block place [] j section all at good = absurd (cc)
-  at_block place (first ∷ rest) zero section all at good =
+  pub to_blocks : AllByRecursion (IsAtHome sections) p.sites → AllByRecursion Where p.sites → AllIn P (blocks_of goes p 1 sources)
+  to_blocks hs ws = to_files hs ws 1 sources (are_in sources)
+
+  at_file : (file index : ℕ) (rest : List Section) (j : ℕ) (section : Section) → AllIn P (blocks_of_file goes p file index rest) → slice_get rest j ≡ Some section → goes section ≡ true → AllByRecursion P (sites_in p.sites file (index + j))
+  at_file file index [] j section all at good = absurd (cc)
+  at_file file index (first ∷ rest) zero section all at good =
       let same : first ≡ section = cc in
-      let e : place ≡ place + 0 = omega arith in
-      subst (λ i. AllByRecursion P (sites_in p.sites 1 i)) e (here (goes first) (ap goes same ∙ good) all)
+      let e : index ≡ index + 0 = omega arith in
+      subst (λ i. AllByRecursion P (sites_in p.sites file i)) e (here (goes first) (ap goes same ∙ good) all)
     where
-      here : (b : Bool) → b ≡ true → AllIn P (if b then block_of p first (sites_in p.sites 1 place) ∷ blocks_of_file goes p 1 (suc place) rest else blocks_of_file goes p 1 (suc place) rest) → AllByRecursion P (sites_in p.sites 1 place)
+      here : (b : Bool) → b ≡ true → AllIn P (if b then block_of p first (sites_in p.sites file index) ∷ blocks_of_file goes p file (suc index) rest else blocks_of_file goes p file (suc index) rest) → AllByRecursion P (sites_in p.sites file index)
       here true e (h, hs) = h
       here false e hs = absurd (cc)
-  at_block place (first ∷ rest) (suc j) section all at good =
-      let e : suc place + j ≡ place + suc j = omega arith in
-      subst (λ i. AllByRecursion P (sites_in p.sites 1 i)) e (at_block (suc place) rest j section (later (goes first) all) at good)
+  at_file file index (first ∷ rest) (suc j) section all at good =
+      let e : suc index + j ≡ index + suc j = omega arith in
+      subst (λ i. AllByRecursion P (sites_in p.sites file i)) e (at_file file (suc index) rest j section (later (goes first) all) at good)
     where
-      later : (b : Bool) → AllIn P (if b then block_of p first (sites_in p.sites 1 place) ∷ blocks_of_file goes p 1 (suc place) rest else blocks_of_file goes p 1 (suc place) rest) → AllIn P (blocks_of_file goes p 1 (suc place) rest)
+      later : (b : Bool) → AllIn P (if b then block_of p first (sites_in p.sites file index) ∷ blocks_of_file goes p file (suc index) rest else blocks_of_file goes p file (suc index) rest) → AllIn P (blocks_of_file goes p file (suc index) rest)
       later true (h, hs) = hs
       later false hs = hs
 
-  each_where : (xs : List Site) → AllByRecursion (IsAtHome sections) xs → ((j : ℕ) (section : Section) → slice_get sections j ≡ Some section → goes section ≡ true → AllByRecursion P (sites_in xs 1 j)) → AllByRecursion Where xs
+  halves : {X : Type 0} (Q : X → Type 0) (xs ys : List X) → AllByRecursion Q (xs ++ ys) → AllByRecursion Q xs × AllByRecursion Q ys
+  halves Q [] ys h = (tt, h)
+  halves Q (x ∷ xs) ys (q, qs) = let more = halves Q xs ys qs in ((q, more.0), more.1)
+
+  at_files : (file : ℕ) (files : List (List Spoken)) (i j : ℕ) (section : Section) → AllIn P (blocks_of goes p file files) → slice_get (sections_by files i) j ≡ Some section → goes section ≡ true → AllByRecursion P (sites_in p.sites (file + i) j)
+  at_files file [] i j section all at good = absurd (cc)
+  at_files file (ss ∷ files) zero j section all at good =
+      let parts = halves (λ b. AllByRecursion P b.sites) (blocks_of_file goes p file 0 (sections_of ss)) (blocks_of goes p (suc file) files) all in
+      subst (λ f. AllByRecursion P (sites_in p.sites f j)) (let e : file ≡ file + 0 = omega arith in e)
+      (subst (λ i. AllByRecursion P (sites_in p.sites file i)) (let e : 0 + j ≡ j = omega arith in e) (at_file file 0 (sections_of ss) j section parts.0 at good))
+  at_files file (ss ∷ files) (suc i) j section all at good =
+      let parts = halves (λ b. AllByRecursion P b.sites) (blocks_of_file goes p file 0 (sections_of ss)) (blocks_of goes p (suc file) files) all in
+      subst (λ f. AllByRecursion P (sites_in p.sites f j)) (let e : suc file + i ≡ file + suc i = omega arith in e) (at_files (suc file) files i j section parts.1 at good)
+
+  in_any : AllIn P (blocks_of goes p 1 sources) → (f j : ℕ) (section : Section) → slice_get (sections f) j ≡ Some section → goes section ≡ true → AllByRecursion P (sites_in p.sites f j)
+  in_any all zero j section at good = absurd (cc)
+  in_any all (suc i) j section at good = subst (λ f. AllByRecursion P (sites_in p.sites f j)) (let e : 1 + i ≡ suc i = omega arith in e) (at_files 1 sources i j section all at good)
+
+  each_where : (xs : List Site) → AllByRecursion (IsAtHome sections) xs → ((f j : ℕ) (section : Section) → slice_get (sections f) j ≡ Some section → goes section ≡ true → AllByRecursion P (sites_in xs f j)) → AllByRecursion Where xs
   each_where [] hs f = tt
   each_where (x ∷ xs) (h, hs) f = (
-    λ good. first (test x.stated.section x) own (f x.stated.section x.stated.home h.0.1 good),
-    each_where xs hs (λ j section at good. rest (test j x) j (f j section at good)),
+    λ good. first (test x.stated.file x.stated.section x) own (f x.stated.file x.stated.section x.stated.home h.0 good),
+    each_where xs hs (λ i j section at good. rest (test i j x) i j (f i j section at good)),
   )
     where
-      own : test x.stated.section x ≡ true
-      own = ap (λ b. b && (x.stated.section == x.stated.section)) (eq-eqb x.stated.file 1 h.0.0) ∙ eq-eqb x.stated.section x.stated.section refl
+      own : test x.stated.file x.stated.section x ≡ true
+      own = ap (λ b. b && (x.stated.section == x.stated.section)) (eq-eqb x.stated.file x.stated.file refl) ∙ eq-eqb x.stated.section x.stated.section refl
 
-      first : (b : Bool) → b ≡ true → AllByRecursion P (if b then x ∷ sites_in xs 1 x.stated.section else sites_in xs 1 x.stated.section) → P x
+      first : (b : Bool) → b ≡ true → AllByRecursion P (if b then x ∷ sites_in xs x.stated.file x.stated.section else sites_in xs x.stated.file x.stated.section) → P x
       first true e (q, qs) = q
       first false e qs = absurd (cc)
 
-      rest : (b : Bool) (j : ℕ) → AllByRecursion P (if b then x ∷ sites_in xs 1 j else sites_in xs 1 j) → AllByRecursion P (sites_in xs 1 j)
-      rest true j (q, qs) = qs
-      rest false j qs = qs
+      rest : (b : Bool) (i j : ℕ) → AllByRecursion P (if b then x ∷ sites_in xs i j else sites_in xs i j) → AllByRecursion P (sites_in xs i j)
+      rest true i j (q, qs) = qs
+      rest false i j qs = qs
 
-  pub from_blocks : AllByRecursion (IsAtHome sections) p.sites → AllIn P (blocks_of_file goes p 1 0 sections) → AllByRecursion Where p.sites
-  from_blocks hs all =
-      each_where p.sites hs (λ j section at good. subst (λ i. AllByRecursion P (sites_in p.sites 1 i)) (let e : 0 + j ≡ j = omega arith in e) (at_block 0 sections j section all at good))
+  pub from_blocks : AllByRecursion (IsAtHome sections) p.sites → AllIn P (blocks_of goes p 1 sources) → AllByRecursion Where p.sites
+  from_blocks hs all = each_where p.sites hs (in_any all)

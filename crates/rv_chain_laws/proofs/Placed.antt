@@ -1,7 +1,7 @@
--- A map that is laid out section by section fits its source.
+-- A map that is laid out section by section fits its sources.
 
-use Rattle.std.proofs.Common.{◌≡◌, ℕ, zero, suc, ◌+◌, Bool, true, false, List, [], ◌∷◌, ◌++◌, refl, sym, ap, ◌∙◌, subst, arith, map, append-nil, Option, Some, None, drop}
-use Rattle.std.proofs.lemmas.Bool.{eqb-true, eq-eqb}
+use Rattle.std.proofs.Common.{◌≡◌, ℕ, zero, suc, ◌+◌, Bool, true, false, List, [], ◌∷◌, ◌++◌, refl, sym, ap, ◌∙◌, subst, arith, map, Option, Some, None, drop}
+use Rattle.std.proofs.lemmas.Bool.{eqb-true, eq-eqb, and_parts}
 use Rattle.std.proofs.lemmas.List.Sums.{sum_by-cons}
 use Rattle.std.specs.Prelude.{◌&&◌, ◌==◌, if◌then◌else◌, filter}
 use Rattle.std.specs.List.{AllByRecursion}
@@ -9,32 +9,42 @@ use Rattle.rv_parse_laws.specs.Statement.{Spoken}
 use Rattle.rv_map.specs.Map.{Map}
 use Rattle.rv_map.specs.declared.map.Row.{Row}
 use Rattle.rv_map.specs.declared.map.Region.{Region}
-use Rattle.rv_chain_laws.specs.Sections.{Section, Opened, Stated, after, at_first, opened_by, stated_from, has_row, goes_to_text, goes_to_rodata, goes_to_data, goes_to_bss}
+use Rattle.rv_chain_laws.specs.Sections.{Section, Opened, Stated, after, at_first, opened_by, stated_from, stated_of, has_row, goes_to_text, goes_to_rodata, goes_to_data, goes_to_bss}
 use Rattle.rv_chain_laws.specs.Sites.{Entry, Site, Program, program, first_of, entries_of, seated, sites_of}
-use Rattle.rv_chain_laws.specs.Fits.{Fits, Block, rows_of, block_of, blocks, blocks_of_file, sites_in, mark_of_row, mark_of_stated, Follow, size, aligned, Stand, end_of, Holds, greatest_alignment}
-use Rattle.rv_chain_laws.specs.Placed.{moved, TakesRow, stated_now, RowsFrom, Joins, Spread, Fills, IsLaidFrom}
+use Rattle.rv_chain_laws.specs.Fits.{Fits, Block, rows_of, block_of, blocks, blocks_of, blocks_of_file, sites_in, mark_of_row, mark_of_stated, Follow, size, aligned, Stand, end_of, Holds, greatest_alignment}
+use Rattle.rv_chain_laws.specs.Placed.{Places, moved, TakesRow, stated_now, RowsFrom, RowsOf, Joins, Spread, SpreadOf, Fills, IsLaidFrom}
 
 -- ---- one row for each statement that has one
 
-marks_from : (k : ℕ) (o : Opened) (next : ℕ → ℕ) (ss : List Spoken) (rows : List Row) (last : ℕ → ℕ) → RowsFrom k o next ss rows last → map mark_of_row rows ≡ map mark_of_stated (filter has_row (stated_from 1 k o ss))
-marks_from k o next [] rows last (e, l) = ap (λ rs. map mark_of_row rs) e
-marks_from k o next (s ∷ ss) rows last h =
-    go (has_row t) rows (λ rest bytes. RowsFrom (suc k) now (moved next now.current bytes) ss rest last) h (λ rest bytes r. marks_from (suc k) now (moved next now.current bytes) ss rest last r)
+abbrev Marked : List Stated → List Row → Type 0
+Marked ts rows = map mark_of_row rows ≡ map mark_of_stated (filter has_row ts)
+
+marks_from : (file k : ℕ) (o : Opened) (next : Places) (ss : List Spoken) (rows : List Row) (Others : List Row → Places → Type 0) (more : List Stated) → RowsFrom file k o next ss rows Others
+    → ((rest : List Row) (now : Places) → Others rest now → Marked more rest) → Marked (stated_from file k o ss ++ more) rows
+marks_from file k o next [] rows Others more h f = f rows next h
+marks_from file k o next (s ∷ ss) rows Others more h f =
+    go (has_row t) rows (λ rest bytes. RowsFrom file (suc k) now (moved next file now.current bytes) ss rest Others) h
+    (λ rest bytes r. marks_from file (suc k) now (moved next file now.current bytes) ss rest Others more r f)
   where
     now : Opened
     now = after o s.says
 
     t : Stated
-    t = stated_now k o s
+    t = stated_now file k o s
 
     others : List Stated
-    others = stated_from 1 (suc k) now ss
+    others = stated_from file (suc k) now ss ++ more
 
-    go : (b : Bool) (rows : List Row) (Others : List Row → ℕ → Type 0) → TakesRow b t (next now.current) rows Others → ((rest : List Row) (bytes : ℕ) → Others rest bytes → map mark_of_row rest ≡ map mark_of_stated (filter has_row others))
+    go : (b : Bool) (rows : List Row) (Rest : List Row → ℕ → Type 0) → TakesRow b t (next file now.current) rows Rest → ((rest : List Row) (bytes : ℕ) → Rest rest bytes → Marked others rest)
         → map mark_of_row rows ≡ map mark_of_stated (if b then t ∷ filter has_row others else filter has_row others)
-    go true [] Others none ih = absurd none
-    go true (row ∷ rest) Others (mark, at, more) ih = ap (λ x. x ∷ map mark_of_row rest) mark ∙ ap (λ ms. mark_of_stated t ∷ ms) (ih rest row.bytes more)
-    go false rows Others more ih = ih rows 0 more
+    go true [] Rest none ih = absurd none
+    go true (row ∷ rest) Rest (mark, at, r) ih = ap (λ x. x ∷ map mark_of_row rest) mark ∙ ap (λ ms. mark_of_stated t ∷ ms) (ih rest row.bytes r)
+    go false rows Rest r ih = ih rows 0 r
+
+marks_of : (file : ℕ) (next : Places) (files : List (List Spoken)) (rows : List Row) (last : Places) → RowsOf file next files rows last → Marked (stated_of file files) rows
+marks_of file next [] rows last (e, l) = ap (λ rs. map mark_of_row rs) e
+marks_of file next (ss ∷ files) rows last h =
+    marks_from file 1 at_first next ss rows (λ rest now. RowsOf (suc file) now files rest last) (stated_of (suc file) files) h (λ rest now r. marks_of (suc file) now files rest last r)
 
 -- ---- the rows of a section follow one another
 
@@ -44,107 +54,130 @@ row_of s = s.row
 abbrev sites_from : List Stated → List Row → List Site
 sites_from ts rows = sites_of (entries_of ts rows)
 
-abbrev Runs : (ℕ → ℕ) → (ℕ → ℕ) → ℕ → List Site → Type 0
-Runs next last j sites = Follow (next j) (map row_of (sites_in sites 1 j)) × (last j ≡ next j + size (map row_of (sites_in sites 1 j)))
+abbrev Runs : Places → Places → ℕ → ℕ → List Site → Type 0
+Runs next last f j sites = Follow (next f j) (map row_of (sites_in sites f j)) × (last f j ≡ next f j + size (map row_of (sites_in sites f j)))
 
-one_more : (b : Bool) (next last : ℕ → ℕ) (c j : ℕ) (s : Site) (sites : List Site) → (j == c) ≡ b → s.row.address ≡ next c → Runs (moved next c s.row.bytes) last j sites
-    → Follow (next j) (map row_of (if b then s ∷ sites_in sites 1 j else sites_in sites 1 j)) × (last j ≡ next j + size (map row_of (if b then s ∷ sites_in sites 1 j else sites_in sites 1 j)))
-one_more true next last c j s sites e at (f, l) =
-    let same : j ≡ c = eqb-true j c e in
-    let place : moved next c s.row.bytes j ≡ next j + s.row.bytes = ap (λ b. if b then next j + s.row.bytes else next j) e in
-    let rest = map row_of (sites_in sites 1 j) in
-    let t : size (s.row ∷ rest) ≡ s.row.bytes + size rest = sum_by-cons (λ r. r.bytes) s.row rest in
-    let m : next j + s.row.bytes + size rest ≡ next j + (s.row.bytes + size rest) = omega arith in (
-      (at ∙ ap next (sym same), subst (λ x. Follow x rest) place f),
-      l ∙ ap (λ x. x + size rest) place ∙ m ∙ ap (λ n. next j + n) (sym t),
-    )
-one_more false next last c j s sites e at (f, l) =
-    let place : moved next c s.row.bytes j ≡ next j = ap (λ b. if b then next j + s.row.bytes else next j) e in
-    let rest = map row_of (sites_in sites 1 j) in
-    (subst (λ x. Follow x rest) place f, l ∙ ap (λ x. x + size rest) place)
-
-no_more : (next last : ℕ → ℕ) (c j : ℕ) (sites : List Site) → Runs (moved next c 0) last j sites → Runs next last j sites
-no_more next last c j sites (f, l) =
-    let rest = map row_of (sites_in sites 1 j) in
-    (subst (λ x. Follow x rest) (same (j == c)) f, l ∙ ap (λ x. x + size rest) (same (j == c)))
+both_swap : (a b c d : ℕ) (t : Bool) → ((a == b) && (c == d)) ≡ t → ((b == a) && (d == c)) ≡ t
+both_swap a b c d true e =
+    let parts = and_parts (a == b) (c == d) e in
+    ap (λ x. x && (d == c)) (eq-eqb b a (sym (eqb-true a b parts.0))) ∙ eq-eqb d c (sym (eqb-true c d parts.1))
+both_swap a b c d false e = go ((b == a) && (d == c)) refl
   where
-    same : (b : Bool) → (if b then next j + 0 else next j) ≡ next j
+    go : (x : Bool) → ((b == a) && (d == c)) ≡ x → ((b == a) && (d == c)) ≡ false
+    go true f =
+        let parts = and_parts (b == a) (d == c) f in
+        let g : ((a == b) && (c == d)) ≡ true = ap (λ x. x && (c == d)) (eq-eqb a b (sym (eqb-true b a parts.0))) ∙ eq-eqb c d (sym (eqb-true d c parts.1)) in
+        absurd (cc)
+    go false f = f
+
+one_more : (b : Bool) (next last : Places) (file c f j : ℕ) (s : Site) (sites : List Site) → ((f == file) && (j == c)) ≡ b → s.row.address ≡ next file c → Runs (moved next file c s.row.bytes) last f j sites
+    → Follow (next f j) (map row_of (if b then s ∷ sites_in sites f j else sites_in sites f j)) × (last f j ≡ next f j + size (map row_of (if b then s ∷ sites_in sites f j else sites_in sites f j)))
+one_more true next last file c f j s sites e at (follow, l) =
+    let parts = and_parts (f == file) (j == c) e in
+    let same : f ≡ file = eqb-true f file parts.0 in
+    let same' : j ≡ c = eqb-true j c parts.1 in
+    let place : moved next file c s.row.bytes f j ≡ next f j + s.row.bytes = ap (λ b. if b then next f j + s.row.bytes else next f j) e in
+    let rest = map row_of (sites_in sites f j) in
+    let t : size (s.row ∷ rest) ≡ s.row.bytes + size rest = sum_by-cons (λ r. r.bytes) s.row rest in
+    let m : next f j + s.row.bytes + size rest ≡ next f j + (s.row.bytes + size rest) = omega arith in (
+      (at ∙ ap (λ x. next x c) (sym same) ∙ ap (next f) (sym same'), subst (λ x. Follow x rest) place follow),
+      l ∙ ap (λ x. x + size rest) place ∙ m ∙ ap (λ n. next f j + n) (sym t),
+    )
+one_more false next last file c f j s sites e at (follow, l) =
+    let place : moved next file c s.row.bytes f j ≡ next f j = ap (λ b. if b then next f j + s.row.bytes else next f j) e in
+    let rest = map row_of (sites_in sites f j) in
+    (subst (λ x. Follow x rest) place follow, l ∙ ap (λ x. x + size rest) place)
+
+no_more : (next last : Places) (file c f j : ℕ) (sites : List Site) → Runs (moved next file c 0) last f j sites → Runs next last f j sites
+no_more next last file c f j sites (follow, l) =
+    let rest = map row_of (sites_in sites f j) in
+    (subst (λ x. Follow x rest) (same ((f == file) && (j == c))) follow, l ∙ ap (λ x. x + size rest) (same ((f == file) && (j == c))))
+  where
+    same : (b : Bool) → (if b then next f j + 0 else next f j) ≡ next f j
     same true = omega arith
     same false = refl
 
-swap : (a b : ℕ) (t : Bool) → (a == b) ≡ t → (b == a) ≡ t
-swap a b true e = eq-eqb b a (sym (eqb-true a b e))
-swap a b false e = go (b == a) refl
-  where
-    go : (x : Bool) → (b == a) ≡ x → (b == a) ≡ false
-    go true f = let g : (a == b) ≡ true = eq-eqb a b (sym (eqb-true b a f)) in absurd (cc)
-    go false f = f
-
-runs_from : (k : ℕ) (o : Opened) (next : ℕ → ℕ) (ss : List Spoken) (rows : List Row) (last : ℕ → ℕ) → RowsFrom k o next ss rows last → (j : ℕ) → Runs next last j (sites_from (stated_from 1 k o ss) rows)
-runs_from k o next [] rows last (e, l) j = (tt, l j ∙ omega arith)
-runs_from k o next (s ∷ ss) rows last h j =
-    go (has_row t) rows (λ rest bytes. RowsFrom (suc k) now (moved next now.current bytes) ss rest last) h (λ rest bytes r. runs_from (suc k) now (moved next now.current bytes) ss rest last r j)
+runs_from : (file k : ℕ) (o : Opened) (next : Places) (ss : List Spoken) (rows : List Row) (last : Places) (Others : List Row → Places → Type 0) (more : List Stated) (f j : ℕ) → RowsFrom file k o next ss rows Others
+    → ((rest : List Row) (now : Places) → Others rest now → Runs now last f j (sites_from more rest)) → Runs next last f j (sites_from (stated_from file k o ss ++ more) rows)
+runs_from file k o next [] rows last Others more f j h g = g rows next h
+runs_from file k o next (s ∷ ss) rows last Others more f j h g =
+    go (has_row t) rows (λ rest bytes. RowsFrom file (suc k) now (moved next file now.current bytes) ss rest Others) h
+    (λ rest bytes r. runs_from file (suc k) now (moved next file now.current bytes) ss rest last Others more f j r g)
   where
     now : Opened
     now = after o s.says
 
     t : Stated
-    t = stated_now k o s
+    t = stated_now file k o s
 
     others : List Stated
-    others = stated_from 1 (suc k) now ss
+    others = stated_from file (suc k) now ss ++ more
 
-    go : (b : Bool) (rows : List Row) (Others : List Row → ℕ → Type 0) → TakesRow b t (next now.current) rows Others → ((rest : List Row) (bytes : ℕ) → Others rest bytes → Runs (moved next now.current bytes) last j (sites_from others rest))
-        → Runs next last j (sites_of (if b then record { stated = t; row = first_of rows } ∷ entries_of others (drop 1 rows) else record { stated = t; row = None } ∷ entries_of others rows))
-    go true [] Others none ih = absurd none
-    go true (row ∷ rest) Others (mark, at, more) ih =
-        one_more (now.current == j) next last now.current j (record { stated = t; row = row }) (sites_from others rest) (swap now.current j (now.current == j) refl) at (ih rest row.bytes more)
-    go false rows Others more ih = no_more next last now.current j (sites_from others rows) (ih rows 0 more)
+    go : (b : Bool) (rows : List Row) (Rest : List Row → ℕ → Type 0) → TakesRow b t (next file now.current) rows Rest → ((rest : List Row) (bytes : ℕ) → Rest rest bytes → Runs (moved next file now.current bytes) last f j (sites_from others rest))
+        → Runs next last f j (sites_of (if b then record { stated = t; row = first_of rows } ∷ entries_of others (drop 1 rows) else record { stated = t; row = None } ∷ entries_of others rows))
+    go true [] Rest none ih = absurd none
+    go true (row ∷ rest) Rest (mark, at, r) ih =
+        one_more ((file == f) && (now.current == j)) next last file now.current f j (record { stated = t; row = row }) (sites_from others rest)
+        (both_swap file f now.current j ((file == f) && (now.current == j)) refl) at (ih rest row.bytes r)
+    go false rows Rest r ih = no_more next last file now.current f j (sites_from others rows) (ih rows 0 r)
+
+runs_of : (file : ℕ) (next : Places) (files : List (List Spoken)) (rows : List Row) (last : Places) → RowsOf file next files rows last → (f j : ℕ) → Runs next last f j (sites_from (stated_of file files) rows)
+runs_of file next [] rows last (e, l) f j = (tt, l f j ∙ omega arith)
+runs_of file next (ss ∷ files) rows last h f j =
+    runs_from file 1 at_first next ss rows last (λ rest now. RowsOf (suc file) now files rest last) (stated_of (suc file) files) f j h (λ rest now r. runs_of (suc file) now files rest last r f j)
 
 -- ---- the sections of a region stand one behind the other
 
-module _ (goes : Section → Bool) (p : Program) (starts last : ℕ → ℕ) (runs : (j : ℕ) → Runs starts last j p.sites) where
-  stands : (stop index : ℕ) (sections : List Section) (end : ℕ) → Spread goes p starts last stop index sections end → Stand stop (blocks_of_file goes p 1 index sections) × (end ≡ end_of stop (blocks_of_file goes p 1 index sections))
-  stands stop index [] end e = (tt, sym e)
-  stands stop index (section ∷ sections) end h = go (goes section) h (λ n r. stands n (suc index) sections end r)
+module _ (goes : Section → Bool) (p : Program) (starts last : Places) (runs : (f j : ℕ) → Runs starts last f j p.sites) where
+  abbrev Stands : ℕ → ℕ → List Block → Type 0
+  Stands end stop bs = Stand stop bs × (end ≡ end_of stop bs)
+
+  stands_file : (file stop index : ℕ) (sections : List Section) (Others : ℕ → Type 0) (more : List Block) (end : ℕ) → Spread goes p starts last file stop index sections Others
+      → ((n : ℕ) → Others n → Stands end n more) → Stands end stop (blocks_of_file goes p file index sections ++ more)
+  stands_file file stop index [] Others more end h f = f stop h
+  stands_file file stop index (section ∷ sections) Others more end h f =
+      go (goes section) h (λ n r. stands_file file n (suc index) sections Others more end r f)
     where
       b : Block
-      b = block_of p section (sites_in p.sites 1 index)
+      b = block_of p section (sites_in p.sites file index)
 
       later : List Block
-      later = blocks_of_file goes p 1 (suc index) sections
+      later = blocks_of_file goes p file (suc index) sections
 
-      go : (t : Bool) → Joins t (starts index) b.alignment stop (last index) (λ n. Spread goes p starts last n (suc index) sections end)
-          → ((n : ℕ) → Spread goes p starts last n (suc index) sections end → Stand n later × (end ≡ end_of n later))
-          → Stand stop (if t then b ∷ later else later) × (end ≡ end_of stop (if t then b ∷ later else later))
-      go true (at, more) ih =
-          let here = runs index in
-          let rest = ih (last index) more in
-          let there : last index ≡ aligned b.alignment stop + size (rows_of b) = here.1 ∙ ap (λ x. x + size (rows_of b)) at in
-          ((subst (λ x. Follow x (rows_of b)) at here.0, subst (λ x. Stand x later) there rest.0), rest.1 ∙ ap (λ x. end_of x later) there)
-      go false more ih = ih stop more
+      go : (t : Bool) → Joins t (starts file index) b.alignment stop (last file index) (λ n. Spread goes p starts last file n (suc index) sections Others)
+          → ((n : ℕ) → Spread goes p starts last file n (suc index) sections Others → Stands end n (later ++ more))
+          → Stands end stop ((if t then b ∷ later else later) ++ more)
+      go true (at, r) ih =
+          let here = runs file index in
+          let rest = ih (last file index) r in
+          let there : last file index ≡ aligned b.alignment stop + size (rows_of b) = here.1 ∙ ap (λ x. x + size (rows_of b)) at in
+          ((subst (λ x. Follow x (rows_of b)) at here.0, subst (λ x. Stand x (later ++ more)) there rest.0), rest.1 ∙ ap (λ x. end_of x (later ++ more)) there)
+      go false r ih = ih stop r
 
-  holds : (r : Region) (place : ℕ) (sections : List Section) → Fills goes p starts last sections r place → Holds r place (blocks_of_file goes p 1 0 sections ++ [])
-  holds r place sections (at, spread) =
-      let s = stands place 0 sections r.end spread in
-      subst (Holds r place) (sym (append-nil (blocks_of_file goes p 1 0 sections))) (at, s.0, s.1)
+  stands_of : (file stop : ℕ) (files : List (List Spoken)) (end : ℕ) → SpreadOf goes p starts last file stop files end → Stands end stop (blocks_of goes p file files)
+  stands_of file stop [] end e = (tt, sym e)
+  stands_of file stop (ss ∷ files) end h =
+      stands_file file stop 0 (opened_by at_first ss).sections (λ n. SpreadOf goes p starts last (suc file) n files end) (blocks_of goes p (suc file) files) end h
+      (λ n r. stands_of (suc file) n files end r)
 
-pub laid_fits : (a : ℕ) (ss : List Spoken) (m : Map) → IsLaidFrom a ss m → Fits (ss ∷ []) m a
-laid_fits a ss m h = record {
-  rows = marks_from 1 at_first h.starts ss m.rows h.last h.rows ∙ ap (λ ts. map mark_of_stated (filter has_row ts)) (sym (append-nil (stated_from 1 1 at_first ss)));
+  holds : (r : Region) (place : ℕ) (sources : List (List Spoken)) → Fills goes p starts last sources r place → Holds r place (blocks_of goes p 1 sources)
+  holds r place sources (at, spread) =
+      let s = stands_of 1 place sources r.end spread in
+      (at, s.0, s.1)
+
+pub laid_fits : (a : ℕ) (sources : List (List Spoken)) (m : Map) → IsLaidFrom a sources m → Fits sources m a
+laid_fits a sources m h = record {
+  rows = marks_of 1 h.starts sources m.rows h.last h.rows;
   sizes = h.sizes;
-  text = holds goes_to_text p h.starts h.last runs m.text a sections h.text;
+  text = holds goes_to_text p h.starts h.last runs m.text a sources h.text;
   gaps = h.gaps;
-  rodata = holds goes_to_rodata p h.starts h.last runs m.rodata (aligned 4096 m.text.end) sections h.rodata;
-  «data» = holds goes_to_data p h.starts h.last runs m.data (aligned 4096 m.rodata.end) sections h.data;
-  bss = holds goes_to_bss p h.starts h.last runs m.bss (aligned (greatest_alignment (blocks goes_to_bss (ss ∷ []) m)) m.data.end) sections h.bss;
+  rodata = holds goes_to_rodata p h.starts h.last runs m.rodata (aligned 4096 m.text.end) sources h.rodata;
+  «data» = holds goes_to_data p h.starts h.last runs m.data (aligned 4096 m.rodata.end) sources h.data;
+  bss = holds goes_to_bss p h.starts h.last runs m.bss (aligned (greatest_alignment (blocks goes_to_bss sources m)) m.data.end) sources h.bss;
 }
   where
     p : Program
-    p = program (ss ∷ []) m
+    p = program sources m
 
-    sections : List Section
-    sections = (opened_by at_first ss).sections
-
-    runs : (j : ℕ) → Runs h.starts h.last j p.sites
-    runs j = subst (λ ts. Runs h.starts h.last j (sites_from ts m.rows)) (sym (append-nil (stated_from 1 1 at_first ss))) (runs_from 1 at_first h.starts ss m.rows h.last h.rows j)
+    runs : (f j : ℕ) → Runs h.starts h.last f j p.sites
+    runs f j = runs_of 1 h.starts sources m.rows h.last h.rows f j

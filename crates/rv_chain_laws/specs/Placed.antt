@@ -1,6 +1,6 @@
--- One source as a linker lays it out: the rows of each section one behind the other, and the sections of a region likewise.
+-- Sources as a linker lays them out: the rows of each section one behind the other, and the sections of a region likewise.
 
-use Rattle.std.specs.Prelude.{◌≡◌, ℕ, suc, ◌+◌, ◌==◌, Bool, true, false, if◌then◌else◌, List, [], ◌∷◌}
+use Rattle.std.specs.Prelude.{◌≡◌, ℕ, suc, ◌+◌, ◌==◌, Bool, true, false, ◌&&◌, if◌then◌else◌, List, [], ◌∷◌}
 use Rattle.std.specs.List.{AllByRecursion}
 use Rattle.rv_parse_laws.specs.Statement.{Spoken}
 use Rattle.rv_map.specs.Map.{Map}
@@ -10,9 +10,13 @@ use Rattle.rv_chain_laws.specs.Sections.{Section, Opened, Stated, after, at_firs
 use Rattle.rv_chain_laws.specs.Sites.{Program, program}
 use Rattle.rv_chain_laws.specs.Fits.{SizeFits, Block, block_of, sites_in, blocks, mark_of_row, mark_of_stated, aligned, gaps_of, greatest_alignment}
 
--- the next places of the sections, with so many bytes more in one of them
-abbrev pub moved : (ℕ → ℕ) → ℕ → ℕ → ℕ → ℕ
-moved next section bytes j = if j == section then next j + bytes else next j
+-- an address for each section, by its file and its place in the file
+abbrev pub Places : Type 0
+Places = ℕ → ℕ → ℕ
+
+-- the next places, with so many bytes more in one section
+abbrev pub moved : Places → ℕ → ℕ → ℕ → Places
+moved next file section bytes f j = if (f == file) && (j == section) then next f j + bytes else next f j
 
 -- a statement that has a row takes the first one, which stands at a place, and leaves the others
 abbrev pub TakesRow : Bool → Stated → ℕ → List Row → (List Row → ℕ → Type 0) → Type 0
@@ -20,43 +24,55 @@ TakesRow true stated place [] Others = ⊥
 TakesRow true stated place (row ∷ rows) Others = (mark_of_row row ≡ mark_of_stated stated) × (row.address ≡ place) × Others rows row.bytes
 TakesRow false stated place rows Others = Others rows 0
 
-abbrev pub stated_now : ℕ → Opened → Spoken → Stated
-stated_now ordinal opened s =
+abbrev pub stated_now : ℕ → ℕ → Opened → Spoken → Stated
+stated_now file ordinal opened s =
     let now = after opened s.says in
-    record { file = 1; ordinal = ordinal; section = now.current; home = current_section now; line = s.line; says = s.says }
+    record { file = file; ordinal = ordinal; section = now.current; home = current_section now; line = s.line; says = s.says }
 
--- the rows of statements from an ordinal on: each at the next place of its section; and the places behind the last of them
-abbrev pub RowsFrom : ℕ → Opened → (ℕ → ℕ) → List Spoken → List Row → (ℕ → ℕ) → Type 0
-RowsFrom ordinal opened next [] rows last = (rows ≡ []) × ((j : ℕ) → last j ≡ next j)
-RowsFrom ordinal opened next (s ∷ ss) rows last =
+-- the rows of a file's statements from an ordinal on, each at the next place of its section; and what is said of the rest
+abbrev pub RowsFrom : ℕ → ℕ → Opened → Places → List Spoken → List Row → (List Row → Places → Type 0) → Type 0
+RowsFrom file ordinal opened next [] rows Others = Others rows next
+RowsFrom file ordinal opened next (s ∷ ss) rows Others =
     let now = after opened s.says in
-    TakesRow (has_row (stated_now ordinal opened s)) (stated_now ordinal opened s) (next now.current) rows
-    (λ others bytes. RowsFrom (suc ordinal) now (moved next now.current bytes) ss others last)
+    let stated = stated_now file ordinal opened s in
+    TakesRow (has_row stated) stated (next file now.current) rows
+    (λ rest bytes. RowsFrom file (suc ordinal) now (moved next file now.current bytes) ss rest Others)
+
+-- the rows of files, and the places behind the last of them
+abbrev pub RowsOf : ℕ → Places → List (List Spoken) → List Row → Places → Type 0
+RowsOf file next [] rows last = (rows ≡ []) × ((f j : ℕ) → last f j ≡ next f j)
+RowsOf file next (ss ∷ files) rows last = RowsFrom file 1 at_first next ss rows (λ rest now. RowsOf (suc file) now files rest last)
 
 -- a section that goes to a region starts at the least aligned place, and the next ones follow from its last place
 abbrev pub Joins : Bool → ℕ → ℕ → ℕ → ℕ → (ℕ → Type 0) → Type 0
 Joins true start alignment stop last Others = (start ≡ aligned alignment stop) × Others last
 Joins false start alignment stop last Others = Others stop
 
--- the sections from an index on, those that go to a region, from an end on up to the region's end
-abbrev pub Spread : (Section → Bool) → Program → (ℕ → ℕ) → (ℕ → ℕ) → ℕ → ℕ → List Section → ℕ → Type 0
-Spread goes p starts last stop index [] end = stop ≡ end
-Spread goes p starts last stop index (section ∷ sections) end =
-    Joins (goes section) (starts index) (block_of p section (sites_in p.sites 1 index)).alignment stop (last index)
-    (λ stop. Spread goes p starts last stop (suc index) sections end)
+-- the sections of a file from an index on, those that go to a region, from an end on; and what is said of the rest
+abbrev pub Spread : (Section → Bool) → Program → Places → Places → ℕ → ℕ → ℕ → List Section → (ℕ → Type 0) → Type 0
+Spread goes p starts last file stop index [] Others = Others stop
+Spread goes p starts last file stop index (section ∷ sections) Others =
+    Joins (goes section) (starts file index) (block_of p section (sites_in p.sites file index)).alignment stop (last file index)
+    (λ stop. Spread goes p starts last file stop (suc index) sections Others)
+
+-- those of all files, up to the region's end
+abbrev pub SpreadOf : (Section → Bool) → Program → Places → Places → ℕ → ℕ → List (List Spoken) → ℕ → Type 0
+SpreadOf goes p starts last file stop [] end = stop ≡ end
+SpreadOf goes p starts last file stop (ss ∷ files) end =
+    Spread goes p starts last file stop 0 (opened_by at_first ss).sections (λ stop. SpreadOf goes p starts last (suc file) stop files end)
 
 -- a region from a place on
-abbrev pub Fills : (Section → Bool) → Program → (ℕ → ℕ) → (ℕ → ℕ) → List Section → Region → ℕ → Type 0
-Fills goes p starts last sections region place = (region.start ≡ place) × Spread goes p starts last place 0 sections region.end
+abbrev pub Fills : (Section → Bool) → Program → Places → Places → List (List Spoken) → Region → ℕ → Type 0
+Fills goes p starts last sources region place = (region.start ≡ place) × SpreadOf goes p starts last 1 place sources region.end
 
--- the map of one source, laid out by the places where its sections start
-pub record IsLaidFrom (text_start : ℕ) (ss : List Spoken) (m : Map) : Type 0 where
-  pub starts : ℕ → ℕ
-  pub last : ℕ → ℕ
-  pub rows : RowsFrom 1 at_first starts ss m.rows last
-  pub sizes : AllByRecursion (SizeFits (program (ss ∷ []) m)) (program (ss ∷ []) m).sites
-  pub text : Fills goes_to_text (program (ss ∷ []) m) starts last (opened_by at_first ss).sections m.text text_start
-  pub gaps : m.gaps ≡ gaps_of text_start (blocks goes_to_text (ss ∷ []) m)
-  pub rodata : Fills goes_to_rodata (program (ss ∷ []) m) starts last (opened_by at_first ss).sections m.rodata (aligned 4096 m.text.end)
-  pub «data» : Fills goes_to_data (program (ss ∷ []) m) starts last (opened_by at_first ss).sections m.data (aligned 4096 m.rodata.end)
-  pub bss : Fills goes_to_bss (program (ss ∷ []) m) starts last (opened_by at_first ss).sections m.bss (aligned (greatest_alignment (blocks goes_to_bss (ss ∷ []) m)) m.data.end)
+-- the map of sources, laid out by the places where their sections start
+pub record IsLaidFrom (text_start : ℕ) (sources : List (List Spoken)) (m : Map) : Type 0 where
+  pub starts : Places
+  pub last : Places
+  pub rows : RowsOf 1 starts sources m.rows last
+  pub sizes : AllByRecursion (SizeFits (program sources m)) (program sources m).sites
+  pub text : Fills goes_to_text (program sources m) starts last sources m.text text_start
+  pub gaps : m.gaps ≡ gaps_of text_start (blocks goes_to_text sources m)
+  pub rodata : Fills goes_to_rodata (program sources m) starts last sources m.rodata (aligned 4096 m.text.end)
+  pub «data» : Fills goes_to_data (program sources m) starts last sources m.data (aligned 4096 m.rodata.end)
+  pub bss : Fills goes_to_bss (program sources m) starts last sources m.bss (aligned (greatest_alignment (blocks goes_to_bss sources m)) m.data.end)

@@ -27,5 +27,5 @@ returns c =
       image = linked_image l;
       loads = subst (λ file. ImageOf file (linked_image l)) (sym c.in_ok-exe.ensures) (reload_image l laid);
       accepted = ap first_fault c.in_ok-exe.ensures ∙ reload_fault l laid;
-      agree = linked_agrees c.args.start ss l program small linked.even;
+      agree = linked_agrees c.args.start (ss ∷ []) l program small linked.even;
     }
