@@ -5,7 +5,7 @@ use Rattle.std.specs.List.{drop-map}
 use Rattle.std.proofs.Math.Seq.{drop-cons}
 use Rattle.rv_isa.specs.declared.instruction.Inst.{Inst}
 use Rattle.rv_isa.specs.Ranges.{IsValid}
-use Rattle.rv_parse_laws.specs.Statement.{Statement, Label, Norvc, Globl, Instruction, Spoken}
+use Rattle.rv_parse_laws.specs.Statement.{Statement, Label, Norvc, Globl, Instruction, Directs, Spoken}
 use Rattle.rv_map.specs.declared.map.Row.{Row}
 use Rattle.rv_chain_laws.specs.Assembled.{code_of, code, word_bytes, IsCoded, AreCoded, rows_of, rows_from, size_of, size_all}
 use Rattle.rv_chain.specs.Statements.{instruction_of}
@@ -15,6 +15,7 @@ coded (Label name) i h v = absurd (cc)
 coded Norvc i h v = absurd (cc)
 coded (Globl names) i h v = absurd (cc)
 coded (Instruction mnemonic operands) i h v = (ap word_bytes h, (i, h, v))
+coded (Directs directive) i h v = absurd (cc)
 
 pub coded_from : (s t : Statement) (i : Inst) → s ≡ t → instruction_of t ≡ Some i → IsValid i → (code_of s ≡ word_bytes (Some i)) × IsCoded s × IsValid i
 coded_from s t i e h v =

@@ -3,7 +3,7 @@
 use Rattle.std.specs.Prelude.{◌≡◌, ℕ, ℤ, ◌+◌, ◌*◌, ◌≤◌, ◌<◌, ◌^◌, false, ⊤, List, [], ◌∷◌, ◌++◌, map, length, Option, Some, None}
 use Rattle.rv_isa.specs.declared.instruction.Inst.{Inst}
 use Rattle.rv_isa.specs.Ranges.{IsValid}
-use Rattle.rv_parse_laws.specs.Statement.{Statement, Label, Norvc, Globl, Instruction, Spoken}
+use Rattle.rv_parse_laws.specs.Statement.{Statement, Label, Norvc, Globl, Instruction, Directs, Spoken}
 use Rattle.rv_map.specs.Map.{Global, global_of as shown_global}
 use Rattle.rv_map.specs.declared.map.Row.{Row}
 use Rattle.rv_map.specs.declared.map.Global.{Global as DeclaredGlobal}
@@ -16,3 +16,4 @@ instruction_of (Label name) = None
 instruction_of Norvc = None
 instruction_of (Globl names) = None
 instruction_of (Instruction mnemonic operands) = base mnemonic operands
+instruction_of (Directs directive) = None

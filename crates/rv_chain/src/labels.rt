@@ -3,8 +3,8 @@
 ghost use Rattle.std.specs.Prelude.{◌≡◌, ◌+◌, ◌++◌, ◌<◌, ◌^◌, List, [], ℕ, IfOk, OnOk, map, option_to_list};
 ghost use Rattle.rv_map.specs.Name.{is_name};
 ghost use Rattle.rv_map.specs.Map.{global_of as shown_global};
-ghost use Rattle.rv_chain_laws.specs.Resolves.{AreDistinct, made_global};
-ghost use Rattle.rv_chain_laws.specs.Assembled.{labels, labels_of, made_globals, globals_from, global_of, size_all};
+ghost use Rattle.rv_chain_laws.specs.Resolves.{AreDistinct};
+ghost use Rattle.rv_chain_laws.specs.Assembled.{labels, labels_of, made_globals, made_globals_of, globals_from, global_of, size_all};
 ghost use Rattle.rv_parse.specs.View.{said_by, now_of};
 ghost use Rattle.rv_chain.specs.Names.{Holds};
 
@@ -29,7 +29,7 @@ fn label<'a>(statement: &Statement<'a>) -> Option<&'a [u8]>
 
 /// The names that a statement makes global.
 fn made_global<'b, 'a>(statement: &'b Statement<'a>) -> &'b [&'a [u8]]
-    ensures { made_global (said_by statement.now).says ≡ map now_of result.now }
+    ensures { made_globals_of (said_by statement.now).says ≡ map now_of result.now }
 {
     match &statement.kind {
         StatementKind::Globl(names) => names.as_slice(),

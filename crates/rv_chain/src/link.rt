@@ -1,10 +1,11 @@
 //! A source with text alone, placed from an address on.
 
-ghost use Rattle.std.specs.Prelude.{◌≡◌, ◌≤◌, ◌<◌, ◌+◌, ◌%◌, ◌^◌, ◌++◌, [], Some, IfOk, map, filter, not, length};
+ghost use Rattle.std.specs.Prelude.{◌≡◌, ◌≤◌, ◌<◌, ◌+◌, ◌%◌, ◌^◌, ◌++◌, [], ◌∷◌, Some, IfOk, map, filter, not, length};
 ghost use Rattle.rv_image.specs.Linked.{linked_of};
 ghost use Rattle.rv_map.specs.Map.{global_of as shown_global, map_of};
 ghost use Rattle.rv_parse.specs.View.{said_by};
-ghost use Rattle.rv_chain_laws.specs.Assembled.{IsProgram, code, size_all, AreCoded, made_globals, globals_from, rows_from, entry_in, text_map};
+ghost use Rattle.rv_chain_laws.specs.Assembled.{code, size_all, AreCoded, made_globals, globals_from, rows_from, entry_in, text_map};
+ghost use Rattle.rv_chain_laws.specs.Contents.{IsLinked};
 ghost use Rattle.rv_chain_laws.specs.Fits.{aligned};
 ghost use Rattle.rv_chain_laws.specs.Resolves.{AreDistinct, linker_symbols, is_one_of, names_of};
 
@@ -74,7 +75,7 @@ pub(crate) fn link(
 ) -> Result<Linked, Fault>
     requires page { start % 4096 ≡ 0 }
     requires low { start < 0x3ff0_0000 }
-    ensures { IfOk result (λ l. IsProgram start (map said_by statements.now) (linked_of l)) }
+    ensures { IfOk result (λ l. IsLinked (map said_by statements.now ∷ []) start (linked_of l)) }
 {
     distinct(alloc, statements)?;
     let text = text(alloc, statements)?;

@@ -1,22 +1,20 @@
 -- What an assembled source becomes agrees with the source, for every input and every limit.
 
-use Rattle.std.proofs.Common.{◌≡◌, ℕ, ◌+◌, ◌%◌, ◌^◌, ◌<◌, ◌≤◌, List, [], ◌∷◌, ◌++◌, length, refl, sym, ap, ◌∙◌, subst, arith, Option, Some, None}
+use Rattle.std.proofs.Common.{◌≡◌, ℕ, ◌%◌, ◌^◌, ◌<◌, List, [], ◌∷◌, refl, sym, ap, ◌∙◌, subst}
 use Rattle.rv_isa.specs.declared.instruction.Inst.{Inst}
 use Rattle.rv_encode.specs.Word.{Spells}
-use Rattle.rv_compress.specs.Parcel.{StandsFor}
 use Rattle.rv_machine_laws.specs.Reader.{Reader}
 use Rattle.rv_parse_laws.specs.Statement.{Spoken}
-use Rattle.rv_map.specs.Map.{Map, Global}
-use Rattle.rv_map.specs.declared.map.Row.{Row}
+use Rattle.rv_map.specs.Map.{Map}
 use Rattle.rv_image.specs.Linked.{Linked}
 use Rattle.rv_image.specs.Executable.{linked_image}
 use Rattle.rv_image.specs.Memory.{mem_of}
 use Rattle.rv_chain_laws.specs.Sites.{program}
-use Rattle.rv_chain_laws.specs.Fits.{Fits, aligned}
+use Rattle.rv_chain_laws.specs.Fits.{Fits}
 use Rattle.rv_chain_laws.specs.Resolves.{Resolves}
 use Rattle.rv_chain_laws.specs.Realizes.{Realizes}
 use Rattle.rv_chain_laws.specs.Headline.{RunsAgree}
-use Rattle.rv_chain_laws.specs.Assembled.{rows_from, size_all, code, IsAssembled, IsProgram, text_map}
+use Rattle.rv_chain_laws.specs.Assembled.{code, IsAssembled, IsProgram}
 use Rattle.rv_chain_laws.proofs.AssembledFits.{fits_map}
 use Rattle.rv_chain_laws.proofs.AssembledNames.{resolves_map}
 use Rattle.rv_chain_laws.proofs.AssembledMemory.{realizes_segments, linked_segments, text_segments}
@@ -26,7 +24,7 @@ pub assembled_fits : (a : ℕ) (ss : List Spoken) (m : Map) → IsAssembled a ss
 assembled_fits a ss m h = subst (λ x. Fits (ss ∷ []) x a) (sym h.is_map) (fits_map ss a m.entry m.globals h.coded h.page)
 
 pub assembled_resolves : (a : ℕ) (ss : List Spoken) (m : Map) → IsAssembled a ss m → Resolves (ss ∷ []) m
-assembled_resolves a ss m h = resolves_map ss m a (ap (λ x. x.rows) h.is_map) h.once h.entry h.globals
+assembled_resolves a ss m h = resolves_map ss m a h.coded (ap (λ x. x.rows) h.is_map) h.once h.entry h.globals
 
 realizes_linked : {StandsFor : ℕ → Inst → Type 0} (reader : Reader Spells StandsFor) (a : ℕ) (ss : List Spoken) (l : Linked) → IsProgram a ss l → Realizes reader (mem_of (linked_image l)) (program (ss ∷ []) l.map)
 realizes_linked reader a ss l h =

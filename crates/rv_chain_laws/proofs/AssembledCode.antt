@@ -1,29 +1,25 @@
 -- Memory that holds the code of an assembled source realizes the source at its map.
 
-use Rattle.std.proofs.Common.{◌≡◌, ℕ, zero, suc, ◌+◌, ◌-◌, ◌*◌, ◌/◌, ◌%◌, ◌^◌, ◌<◌, ◌≤◌, Bool, true, false, List, [], ◌∷◌, ◌++◌, length, refl, sym, ap, ◌∙◌, subst, arith, map, Option, Some, None, ℤ, pos, negsuc, lit<}
-use Rattle.std.proofs.lemmas.Bool.Decides.{nat_tests}
-use Rattle.std.proofs.lemmas.Bool.{and_parts}
+use Rattle.std.proofs.Common.{◌≡◌, ℕ, zero, suc, ◌+◌, ◌*◌, ◌/◌, ◌%◌, ◌^◌, ◌<◌, ◌≤◌, true, List, [], ◌∷◌, ◌++◌, length, refl, sym, ap, ◌∙◌, subst, arith, Some, ℤ, pos, negsuc, lit<}
 use Rattle.std.proofs.lemmas.Int.{ints}
-use Rattle.std.specs.Prelude.{◌&&◌, ◌||◌, ◌==◌, if◌then◌else◌, ⊤, nat_lt, nat_le}
-use Rattle.std.specs.List.{AllByRecursion, find}
+use Rattle.std.specs.Prelude.{◌&&◌, ◌==◌, if◌then◌else◌, ⊤}
+use Rattle.std.specs.List.{AllByRecursion}
 use Rattle.std.specs.Int.{w32, to_le_bytes}
 use Rattle.rv_isa.specs.declared.instruction.Inst.{Inst}
 use Rattle.rv_isa.specs.Ranges.{IsValid, IsSigned12}
-use Rattle.rv_isa_laws.specs.Memory.{Mem, Right, Read, Write, Execute, may, number_at}
+use Rattle.rv_isa_laws.specs.Memory.{Mem, Execute, may, number_at}
 use Rattle.rv_encode.specs.Word.{form, word, field, Spells}
 use Rattle.rv_machine_laws.specs.Reader.{Reader}
-use Rattle.rv_machine_laws.specs.Run.{Fetched, NoRight, Got, spelled, length_at, fetch}
-use Rattle.rv_parse_laws.specs.Statement.{Statement, Label, Norvc, Globl, Instruction, Spoken, Mnemonic, Addi, Ecall, Li, Operand, Register, Value}
-use Rattle.rv_map.specs.Map.{Map}
-use Rattle.rv_map.specs.declared.map.Row.{Row}
-use Rattle.rv_chain_laws.specs.Sites.{Site, Program, program}
-use Rattle.rv_chain_laws.specs.Meaning.{Line, expansion, AreLines, add_immediate}
+use Rattle.rv_machine_laws.specs.Run.{NoRight, Got, spelled, length_at, fetch}
+use Rattle.rv_parse_laws.specs.Statement.{Statement, Label, Norvc, Globl, Instruction, Directs, Spoken, Mnemonic, Addi, Ecall, Li, Operand, Register, Value}
+use Rattle.rv_chain_laws.specs.Sites.{Site, Program}
+use Rattle.rv_chain_laws.specs.Meaning.{expansion, add_immediate}
 use Rattle.rv_parse_laws.specs.Value.{constant, signed}
 use Rattle.rv_isa.specs.declared.instruction.Inst.TheVariants.{Ecall as Call}
-use Rattle.rv_chain_laws.specs.Realizes.{StandsIn, HoldsLines}
+use Rattle.rv_chain_laws.specs.Realizes.{HoldsLines}
 use Rattle.rv_chain_laws.specs.Fits.{IsRowOf}
-use Rattle.rv_chain_laws.specs.Assembled.{row_at, rows_from, size_of, size_all, base, word_bytes, code_of, code, AreCoded, IsCoded, fitted}
-use Rattle.rv_chain_laws.proofs.AssembledRows.{spoken, sites_one}
+use Rattle.rv_chain_laws.specs.Assembled.{size_all, base, word_bytes, code, AreCoded, IsCoded}
+use Rattle.rv_chain_laws.proofs.AssembledRows.{spoken, sites_one, site_at}
 use Rattle.rv_chain_laws.proofs.AssembledFits.{expanded-is, fitted-parts}
 
 -- these bytes lie in memory from an address on
@@ -65,7 +61,7 @@ field_below : (z : ℤ) → IsSigned12 z → field 12 z < 4096
 field_below (pos n) (low, high) = omega (arith, ints)
 field_below (negsuc n) (low, high) = omega (arith, ints)
 
-abbrev IsWide : Inst → Type 0
+abbrev pub IsWide : Inst → Type 0
 IsWide i = (word (form i) < 2 ^ 32) × (word (form i) % 4 ≡ 3)
 
 add_wide : (rd rs1 k : ℕ) → IsValid (add_immediate rd rs1 k) → IsWide (add_immediate rd rs1 k)
@@ -84,11 +80,11 @@ base_wide Li (Register rd ∷ Value e ∷ []) i h v =
 base_wide mnemonic operands i h v = absurd (cc)
 
 -- what lies behind the first bytes
-bytes_behind : (m : Mem) (a : ℕ) (bs cs : List ℕ) → HasBytes m a (bs ++ cs) → HasBytes m (a + length bs) cs
+pub bytes_behind : (m : Mem) (a : ℕ) (bs cs : List ℕ) → HasBytes m a (bs ++ cs) → HasBytes m (a + length bs) cs
 bytes_behind m a [] cs h = subst (λ x. HasBytes m x cs) (let e : a ≡ a + 0 = omega arith in e) h
 bytes_behind m a (b ∷ bs) cs (h, hs) = subst (λ x. HasBytes m x cs) (let e : a + 1 + length bs ≡ a + suc (length bs) = omega arith in e) (bytes_behind m (a + 1) bs cs hs)
 
-may_all : (m : Mem) (n a : ℕ) → ((x : ℕ) → a ≤ x → x < a + n → m.has x Execute ≡ true) → a + n < 2 ^ 64 → may m a n Execute ≡ true
+pub may_all : (m : Mem) (n a : ℕ) → ((x : ℕ) → a ≤ x → x < a + n → m.has x Execute ≡ true) → a + n < 2 ^ 64 → may m a n Execute ≡ true
 may_all m zero a h below = refl
 may_all m (suc n) a h below =
     let e : a % 2 ^ 64 ≡ a = omega arith in
@@ -115,7 +111,7 @@ module _ {StandsFor : ℕ → Inst → Type 0} (reader : Reader Spells StandsFor
   holds_by Norvc line k a ss c h fits runs ih = ih (a + 0) (subst (λ x. HasBytes m x (code ss)) (let e : a ≡ a + 0 = omega arith in e) h) (omega arith) (λ x l u. runs x (omega arith) u)
   holds_by (Globl names) line k a ss c h fits runs ih = ih (a + 0) (subst (λ x. HasBytes m x (code ss)) (let e : a ≡ a + 0 = omega arith in e) h) (omega arith) (λ x l u. runs x (omega arith) u)
   holds_by (Instruction mnemonic operands) line k a ss (i, same, valid) h fits runs ih =
-      let s : Site = record { stated = record { file = 1; ordinal = k; section = 0; line = line; says = Instruction mnemonic operands }; row = row_at k a line 4 1 } in
+      let s : Site = site_at k a line 4 1 (Instruction mnemonic operands) in
       let e : expansion p s ≡ Some (i ∷ []) = expanded-is p s mnemonic operands i same in
       let wide : IsWide i = base_wide mnemonic operands i same valid in
       let held : HasBytes m a (to_le_bytes w32 (word (form i)) ++ code ss) = subst (λ o. HasBytes m a (word_bytes o ++ code ss)) same h in
@@ -129,6 +125,7 @@ module _ {StandsFor : ℕ → Inst → Type 0} (reader : Reader Spells StandsFor
         },
         ih (a + 4) (bytes_behind m a (to_le_bytes w32 (word (form i))) (code ss) held) (omega arith) (λ x l u. runs x (omega arith) u),
       )
+  holds_by (Directs directive) line k a ss c h fits runs ih = absurd c
 
   pub holds_all : (k a : ℕ) (ss : List Spoken) → AreCoded ss → HasBytes m a (code ss) → a + size_all ss ≤ stop → Runs m a stop → AllByRecursion (HoldsLines reader m p) (sites_one k a ss)
   holds_all k a [] c h fits runs = tt

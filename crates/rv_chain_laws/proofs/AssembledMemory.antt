@@ -1,28 +1,28 @@
 -- The memory of an assembled source's image realizes the source at its map.
 
-use Rattle.std.proofs.Common.{◌≡◌, ℕ, zero, suc, ◌+◌, ◌-◌, ◌*◌, ◌/◌, ◌%◌, ◌^◌, ◌<◌, ◌≤◌, Bool, true, false, List, [], ◌∷◌, ◌++◌, length, refl, sym, ap, ◌∙◌, subst, arith, map, Option, Some, None, append-nil, append_assoc, length-append}
+use Rattle.std.proofs.Common.{◌≡◌, ℕ, suc, ◌+◌, ◌-◌, ◌^◌, ◌<◌, ◌≤◌, Bool, true, false, List, [], ◌∷◌, ◌++◌, length, refl, sym, ap, ◌∙◌, subst, arith, map, Option, Some, None, append-nil, append_assoc, length-append}
 use Rattle.std.proofs.lemmas.Bool.Decides.{nat_tests}
 use Rattle.std.proofs.lemmas.Bool.{and_parts, ltb-true}
-use Rattle.std.specs.Prelude.{◌&&◌, ◌||◌, ◌==◌, if◌then◌else◌, ⊤, nat_lt, nat_le, IsTrue, slice_index, replicate, filter, not}
-use Rattle.std.specs.List.{AllByRecursion, find, list_any}
+use Rattle.std.specs.Prelude.{◌&&◌, ◌||◌, ◌==◌, if◌then◌else◌, nat_lt, nat_le, IsTrue, slice_index, replicate, filter, not}
+use Rattle.std.specs.List.{AllByRecursion, find}
 use Rattle.rv_isa.specs.declared.instruction.Inst.{Inst}
 use Rattle.rv_isa_laws.specs.Memory.{Mem, Right, Read, Write, Execute}
 use Rattle.rv_encode.specs.Word.{Spells}
 use Rattle.rv_machine_laws.specs.Reader.{Reader}
-use Rattle.rv_parse_laws.specs.Statement.{Statement, Label, Norvc, Globl, Instruction, Spoken}
+use Rattle.rv_parse_laws.specs.Statement.{Statement, Label, Norvc, Globl, Instruction, Directs, Spoken}
 use Rattle.rv_map.specs.Map.{Map, Global}
 use Rattle.rv_map.specs.declared.map.Row.{Row}
 use Rattle.rv_image.specs.Image.{Image}
 use Rattle.rv_image.specs.Linked.{Linked}
 use Rattle.rv_image.specs.Executable.{Part, memory_size_of, linked_image}
 use Rattle.rv_image.specs.Segment.{Segment, stack_start, stack_end}
-use Rattle.rv_image.specs.Memory.{mem_of, lies_in, segment_at, byte_in, right_in, has_flag, in_stack}
+use Rattle.rv_image.specs.Memory.{mem_of, lies_in, segment_at, byte_in, right_in, in_stack}
 use Rattle.std.proofs.Math.Seq.{get_or-append_seam}
 use Rattle.rv_chain_laws.specs.Sites.{Site, Program, program}
-use Rattle.rv_chain_laws.specs.Start.{first_byte, right_at, byte_of, is_in, is_within, spelled}
-use Rattle.rv_chain_laws.specs.SourceRun.{Place, Starts, Gap, Outside, Inside, starts_or_inside, place, found}
+use Rattle.rv_chain_laws.specs.Start.{right_at, byte_of, is_in, is_within, spelled}
+use Rattle.rv_chain_laws.specs.SourceRun.{Starts, Gap, Outside, starts_or_inside, found}
 use Rattle.rv_chain_laws.specs.Realizes.{HoldsLines, Realizes}
-use Rattle.rv_chain_laws.specs.Assembled.{rows_from, size_all, size_of, code, code_of, word_bytes, AreCoded, IsCoded, text_map}
+use Rattle.rv_chain_laws.specs.Assembled.{rows_from, size_all, code, word_bytes, AreCoded, IsCoded, text_map}
 use Rattle.rv_chain_laws.specs.Fits.{aligned}
 use Rattle.std.specs.Int.{w32, to_le_bytes}
 use Rattle.rv_encode.specs.Word.{form, word}
@@ -43,15 +43,26 @@ all_find P test (y ∷ ys) x e (p, ps) = go (test y) refl (λ f. all_find P test
     go false t ih = ih (subst (λ b. (if b then Some y else find test ys) ≡ Some x) t e)
 
 -- no statement spells a byte
-byte_said : (says : Statement) (n : ℕ) → slice_index (spelled says) n ≡ 0
-byte_said (Label name) n = refl
-byte_said Norvc n = refl
-byte_said (Globl names) n = refl
-byte_said (Instruction mnemonic operands) n = refl
+abbrev IsBare : Program → Site → Type 0
+IsBare p s = (n : ℕ) → slice_index (spelled p s) n ≡ 0
 
-byte_none : (o : Option Site) (a : ℕ) → byte_of o a ≡ 0
-byte_none None a = refl
-byte_none (Some s) a = byte_said s.stated.says (a - s.row.address)
+bare_by : (p : Program) (says : Statement) (line k a : ℕ) (ss : List Spoken) → IsCoded says → ((b : ℕ) → AllByRecursion (IsBare p) (sites_one (suc k) b ss)) → AllByRecursion (IsBare p) (sites_one k a (spoken line says ∷ ss))
+bare_by p (Label name) line k a ss c ih = (λ n. refl, ih (a + 0))
+bare_by p Norvc line k a ss c ih = ih (a + 0)
+bare_by p (Globl names) line k a ss c ih = ih (a + 0)
+bare_by p (Instruction mnemonic operands) line k a ss c ih = (λ n. refl, ih (a + 4))
+bare_by p (Directs directive) line k a ss c ih = absurd c
+
+all_bare : (p : Program) (k a : ℕ) (ss : List Spoken) → AreCoded ss → AllByRecursion (IsBare p) (sites_one k a ss)
+all_bare p k a [] c = tt
+all_bare p k a (s ∷ ss) (c, cs) = bare_by p s.says s.line k a ss c (λ b. all_bare p (suc k) b ss cs)
+
+byte_none : (p : Program) (test : Site → Bool) (sites : List Site) (a : ℕ) → AllByRecursion (IsBare p) sites → byte_of p (find test sites) a ≡ 0
+byte_none p test sites a bare = go (find test sites) refl
+  where
+    go : (o : Option Site) → find test sites ≡ o → byte_of p o a ≡ 0
+    go None e = refl
+    go (Some s) e = all_find (IsBare p) test sites s e bare (a - s.row.address)
 
 starts_found : (t : Bool) (o : Option Site) (s : Site) → (if t then starts_or_inside o else Outside) ≡ Starts s → o ≡ Some s
 starts_found true (Some r) s e = cc
@@ -86,12 +97,13 @@ module _ {StandsFor : ℕ → Inst → Type 0} (reader : Reader Spells StandsFor
   realizes_map coded below held rights zeros =
       let p : Program = program (ss ∷ []) the_map in
       let runs : Runs m a (a + size_all ss) = λ x l u. rights x (omega arith) Execute ∙ (let e : is_within a (a + size_all ss) x ≡ true = grind (arith, nat_tests) in e) in
+      let bare : AllByRecursion (IsBare p) p.sites = subst (λ all. AllByRecursion (IsBare p) all) (sym (sites-are ss the_map a refl)) (all_bare p 1 a ss coded) in
       let sites : AllByRecursion (HoldsLines reader m p) p.sites = subst (λ all. AllByRecursion (HoldsLines reader m p) all) (sym (sites-are ss the_map a refl)) (holds_all reader m p (a + size_all ss) (omega arith) 1 a ss coded held (omega arith) runs) in
       record {
         rows = λ pc s u e. all_find (HoldsLines reader m p) _ p.sites s (starts_found (is_in the_map.text pc) (found p.sites pc) s e) sites;
         gaps = λ pc u even e. absurd (no_gap (is_in the_map.text pc) (found p.sites pc) e);
         rights = rights;
-        bytes = λ x u r. zeros x u r ∙ sym (byte_none _ x);
+        bytes = λ x u r. zeros x u r ∙ sym (byte_none p _ p.sites x bare);
         fixed = λ x u r. unwritable a (size_all ss) the_map.data.start x below r;
       }
 
@@ -186,6 +198,7 @@ code_size_by Norvc line ss c ih = ih ∙ (let e : size_all ss ≡ 0 + size_all s
 code_size_by (Globl names) line ss c ih = ih ∙ (let e : size_all ss ≡ 0 + size_all ss = omega arith in e)
 code_size_by (Instruction mnemonic operands) line ss (i, same, valid) ih =
     ap (λ o. length (word_bytes o ++ code ss)) same ∙ length-append (to_le_bytes w32 (word (form i))) (code ss) ∙ ap (λ n. 4 + n) ih
+code_size_by (Directs directive) line ss c ih = absurd c
 
 pub code_size : (ss : List Spoken) → AreCoded ss → length (code ss) ≡ size_all ss
 code_size [] c = refl

@@ -1,34 +1,106 @@
 -- The map of an assembled source resolves the names of the source.
 
-use Rattle.std.proofs.Common.{◌≡◌, ℕ, zero, suc, ◌+◌, Bool, true, false, List, [], ◌∷◌, ◌++◌, refl, sym, ap, ◌∙◌, subst, arith, map, Option, Some, None, codes}
+use Rattle.std.proofs.Common.{◌≡◌, ℕ, suc, ◌+◌, Bool, true, false, List, [], ◌∷◌, ◌++◌, refl, sym, ap, ◌∙◌, subst, Some, codes}
 use Rattle.std.proofs.lemmas.Slice.Eq.{bytes_eq-Decides}
-use Rattle.std.specs.Prelude.{◌||◌, if◌then◌else◌, filter, ⊤, flat_map, option_map, not}
+use Rattle.std.proofs.lemmas.List.Folds.{list_any-append}
+use Rattle.std.specs.Prelude.{◌||◌, if◌then◌else◌, filter, flat_map, option_map, not}
 use Rattle.std.specs.Str.{bytes_eq}
 use Rattle.std.specs.List.{find}
-use Rattle.rv_parse_laws.specs.Statement.{Statement, Label, Norvc, Globl, Instruction, Spoken}
+use Rattle.rv_parse_laws.specs.Statement.{Statement, Label, Norvc, Globl, Instruction, Directs, Spoken}
 use Rattle.rv_map.specs.Map.{Map, Global}
-use Rattle.rv_chain_laws.specs.Sites.{Site, program}
-use Rattle.rv_chain_laws.specs.Resolves.{Resolves, defined_by, definitions, is_one_of, AreDistinct, names_of, symbol, linker_symbols}
-use Rattle.rv_chain_laws.specs.Assembled.{rows_from, size_of, made_globals, global_of, globals_from, labels, entry_in}
-use Rattle.rv_chain_laws.proofs.AssembledRows.{spoken, sites_one}
-use Rattle.rv_chain_laws.proofs.AssembledFits.{sites-are}
+use Rattle.rv_chain_laws.specs.Sites.{Entry, Program, program, entries_in}
+use Rattle.rv_chain_laws.specs.Resolves.{Resolves, is_global_after, is_global_in, shown, defined_by, definitions, global_names_of, global_names, is_one_of, AreDistinct, names_of, symbol, linker_symbols}
+use Rattle.rv_chain_laws.specs.Assembled.{rows_from, made_globals, global_of, globals_from, labels, entry_in, IsCoded, AreCoded}
+use Rattle.rv_chain_laws.proofs.AssembledRows.{spoken, entries_one}
+use Rattle.rv_chain_laws.proofs.AssembledFits.{entries-are}
 
--- the global definitions are the global labels
-abbrev defines : List Spoken → Site → List Global
-defines ss s = defined_by (ss ∷ []) s.stated.file s.stated.says s.row.address
+-- a name is global where the source makes it so
+global_by : (says : Statement) (line : ℕ) (ss : List Spoken) (name : List ℕ) (before : Bool) → IsCoded says → ((b : Bool) → is_global_after b ss name ≡ (is_one_of (made_globals ss) name || b)) → is_global_after before (spoken line says ∷ ss) name ≡ (is_one_of (made_globals (spoken line says ∷ ss)) name || before)
+global_by (Label label) line ss name before c ih = ih before
+global_by Norvc line ss name before c ih = ih before
+global_by (Globl names) line ss name before c ih =
+    ih (is_one_of names name || before) ∙ or_move (is_one_of (made_globals ss) name) (is_one_of names name) before
+    ∙ ap (λ b. b || before) (sym (list_any-append (λ n. bytes_eq n name) names (made_globals ss)))
+  where
+    or_move : (a b c : Bool) → (a || (b || c)) ≡ ((b || a) || c)
+    or_move true true c = refl
+    or_move true false c = refl
+    or_move false true c = refl
+    or_move false false c = refl
+global_by (Instruction mnemonic operands) line ss name before c ih = ih before
+global_by (Directs directive) line ss name before c ih = absurd c
 
-defined_as : (ss : List Spoken) (says : Statement) (line k a : ℕ) (ts : List Spoken) → ((b : ℕ) → flat_map (defines ss) (sites_one (suc k) b ts) ≡ globals_from (made_globals ss) b ts) → flat_map (defines ss) (sites_one k a (spoken line says ∷ ts)) ≡ globals_from (made_globals ss) a (spoken line says ∷ ts)
-defined_as ss (Label name) line k a ts ih = ap (λ gs. global_of (made_globals ss) a (Label name) ++ gs) (ih (a + 0))
-defined_as ss Norvc line k a ts ih = ih (a + 0)
-defined_as ss (Globl names) line k a ts ih = ih (a + 0)
-defined_as ss (Instruction mnemonic operands) line k a ts ih = ih (a + 4)
+global_is : (ss : List Spoken) (name : List ℕ) (before : Bool) → AreCoded ss → is_global_after before ss name ≡ (is_one_of (made_globals ss) name || before)
+global_is [] name before c = refl
+global_is (s ∷ ss) name before (c, cs) = global_by s.says s.line ss name before c (λ b. global_is ss name b cs)
 
-defined_from : (ss : List Spoken) (k a : ℕ) (ts : List Spoken) → flat_map (defines ss) (sites_one k a ts) ≡ globals_from (made_globals ss) a ts
-defined_from ss k a [] = refl
-defined_from ss k a (t ∷ ts) = defined_as ss t.says t.line k a ts (λ b. defined_from ss (suc k) b ts)
+or_none : (b : Bool) → (b || false) ≡ b
+or_none true = refl
+or_none false = refl
 
-pub definitions-are : (ss : List Spoken) (m : Map) (a : ℕ) → m.rows ≡ rows_from 1 a ss → definitions (ss ∷ []) m ≡ globals_from (made_globals ss) a ss
-definitions-are ss m a e = ap (λ sites. flat_map (defines ss) sites) (sites-are ss m a e) ∙ defined_from ss 1 a ss
+made-is : (ss : List Spoken) (name : List ℕ) → AreCoded ss → is_global_in (ss ∷ []) 1 name ≡ is_one_of (made_globals ss) name
+made-is ss name coded = global_is ss name false coded ∙ or_none (is_one_of (made_globals ss) name)
+
+module _ (ss : List Spoken) (coded : AreCoded ss) (p : Program) where
+  -- the global definitions are the global labels
+  abbrev defines : Entry → List Global
+  defines e = defined_by (ss ∷ []) p e
+
+  abbrev Defined : ℕ → ℕ → List Spoken → Type 0
+  Defined k a ts = flat_map defines (entries_one k a ts) ≡ globals_from (made_globals ss) a ts
+
+  label_shown : (b : Bool) (name : List ℕ) (a : ℕ) → flat_map (λ n. shown n (Some a)) (if b then name ∷ [] else []) ≡ (if b then symbol name a ∷ [] else [])
+  label_shown true name a = refl
+  label_shown false name a = refl
+
+  defined_as : (says : Statement) (line k a : ℕ) (ts : List Spoken) → IsCoded says → ((b : ℕ) → Defined (suc k) b ts) → Defined k a (spoken line says ∷ ts)
+  defined_as (Label name) line k a ts c ih =
+      ap (λ b. flat_map (λ n. shown n (Some a)) (if b then name ∷ [] else []) ++ flat_map defines (entries_one (suc k) (a + 0) ts)) (made-is ss name coded)
+      ∙ ap (λ gs. gs ++ flat_map defines (entries_one (suc k) (a + 0) ts)) (label_shown (is_one_of (made_globals ss) name) name a)
+      ∙ ap (λ gs. global_of (made_globals ss) a (Label name) ++ gs) (ih (a + 0))
+  defined_as Norvc line k a ts c ih = ih (a + 0)
+  defined_as (Globl names) line k a ts c ih = ih (a + 0)
+  defined_as (Instruction mnemonic operands) line k a ts c ih = ih (a + 4)
+  defined_as (Directs directive) line k a ts c ih = absurd c
+
+  defined_from : (k a : ℕ) (ts : List Spoken) → AreCoded ts → Defined k a ts
+  defined_from k a [] c = refl
+  defined_from k a (t ∷ ts) (c, cs) = defined_as t.says t.line k a ts c (λ b. defined_from (suc k) b ts cs)
+
+  -- and so are the names that are defined
+  abbrev names_by : Entry → List (List ℕ)
+  names_by e = global_names_of (ss ∷ []) (entries_in p.entries e.stated.file) e
+
+  abbrev Named : ℕ → ℕ → List Spoken → Type 0
+  Named k a ts = flat_map names_by (entries_one k a ts) ≡ names_of (globals_from (made_globals ss) a ts)
+
+  label_named : (b : Bool) (name : List ℕ) (a : ℕ) (gs : List Global) → (if b then name ∷ [] else []) ++ names_of gs ≡ names_of ((if b then symbol name a ∷ [] else []) ++ gs)
+  label_named true name a gs = refl
+  label_named false name a gs = refl
+
+  named_as : (says : Statement) (line k a : ℕ) (ts : List Spoken) → IsCoded says → ((b : ℕ) → Named (suc k) b ts) → Named k a (spoken line says ∷ ts)
+  named_as (Label name) line k a ts c ih =
+      ap (λ b. (if b then name ∷ [] else []) ++ flat_map names_by (entries_one (suc k) (a + 0) ts)) (made-is ss name coded)
+      ∙ ap (λ ns. (if is_one_of (made_globals ss) name then name ∷ [] else []) ++ ns) (ih (a + 0))
+      ∙ label_named (is_one_of (made_globals ss) name) name a (globals_from (made_globals ss) (a + 0) ts)
+  named_as Norvc line k a ts c ih = ih (a + 0)
+  named_as (Globl names) line k a ts c ih = ih (a + 0)
+  named_as (Instruction mnemonic operands) line k a ts c ih = ih (a + 4)
+  named_as (Directs directive) line k a ts c ih = absurd c
+
+  named_from : (k a : ℕ) (ts : List Spoken) → AreCoded ts → Named k a ts
+  named_from k a [] c = refl
+  named_from k a (t ∷ ts) (c, cs) = named_as t.says t.line k a ts c (λ b. named_from (suc k) b ts cs)
+
+pub definitions-are : (ss : List Spoken) (m : Map) (a : ℕ) → AreCoded ss → m.rows ≡ rows_from 1 a ss → definitions (ss ∷ []) m ≡ globals_from (made_globals ss) a ss
+definitions-are ss m a coded e =
+    let p : Program = program (ss ∷ []) m in
+    ap (λ entries. flat_map (defined_by (ss ∷ []) p) entries) (entries-are ss m a e) ∙ defined_from ss coded p 1 a ss coded
+
+global_names-are : (ss : List Spoken) (m : Map) (a : ℕ) → AreCoded ss → m.rows ≡ rows_from 1 a ss → global_names (ss ∷ []) m ≡ names_of (globals_from (made_globals ss) a ss)
+global_names-are ss m a coded e =
+    let p : Program = program (ss ∷ []) m in
+    ap (λ entries. flat_map (names_by ss coded p) entries) (entries-are ss m a e) ∙ named_from ss coded p 1 a ss coded
 
 -- no name is twice among the global labels
 or_false : (a b : Bool) → (a || b) ≡ false → (a ≡ false) × (b ≡ false)
@@ -49,6 +121,7 @@ absent_by (Label name) globals line a ts n ih h =
 absent_by Norvc globals line a ts n ih h = ih (a + 0) h
 absent_by (Globl names) globals line a ts n ih h = ih (a + 0) h
 absent_by (Instruction mnemonic operands) globals line a ts n ih h = ih (a + 4) h
+absent_by (Directs directive) globals line a ts n ih h = ih (a + 0) h
 
 absent : (globals : List (List ℕ)) (a : ℕ) (ts : List Spoken) (n : List ℕ) → is_one_of (labels ts) n ≡ false → is_one_of (names_of (globals_from globals a ts)) n ≡ false
 absent globals a [] n h = refl
@@ -63,6 +136,7 @@ once_by (Label name) globals line a ts ih (e, d) = once_shown (is_one_of globals
 once_by Norvc globals line a ts ih d = ih (a + 0) d
 once_by (Globl names) globals line a ts ih d = ih (a + 0) d
 once_by (Instruction mnemonic operands) globals line a ts ih d = ih (a + 4) d
+once_by (Directs directive) globals line a ts ih d = ih (a + 0) d
 
 pub once : (globals : List (List ℕ)) (a : ℕ) (ts : List Spoken) → AreDistinct (labels ts) → AreDistinct (names_of (globals_from globals a ts))
 once globals a [] d = tt
@@ -87,11 +161,13 @@ found_shown name address (g ∷ gs) h = go (bears name g) refl (λ f. found_show
         ap (λ b. if b then Some g else find (bears name) gs) e ∙ ih f
 
 -- the map resolves the names
-pub resolves_map : (ss : List Spoken) (m : Map) (a : ℕ) → m.rows ≡ rows_from 1 a ss → AreDistinct (labels ss) → entry_in (globals_from (made_globals ss) a ss) ≡ Some m.entry → m.globals ≡ globals_from (made_globals ss) a ss ++ filter (λ g. not (is_one_of (names_of (globals_from (made_globals ss) a ss)) g.name)) (linker_symbols m) → Resolves (ss ∷ []) m
-resolves_map ss m a e d entry globals =
-    let same : definitions (ss ∷ []) m ≡ globals_from (made_globals ss) a ss = definitions-are ss m a e in
+pub resolves_map : (ss : List Spoken) (m : Map) (a : ℕ) → AreCoded ss → m.rows ≡ rows_from 1 a ss → AreDistinct (labels ss) → entry_in (globals_from (made_globals ss) a ss) ≡ Some m.entry → m.globals ≡ globals_from (made_globals ss) a ss ++ filter (λ g. not (is_one_of (names_of (globals_from (made_globals ss) a ss)) g.name)) (linker_symbols m) → Resolves (ss ∷ []) m
+resolves_map ss m a coded e d entry globals =
+    let same : definitions (ss ∷ []) m ≡ globals_from (made_globals ss) a ss = definitions-are ss m a coded e in
+    let named : global_names (ss ∷ []) m ≡ names_of (globals_from (made_globals ss) a ss) = global_names-are ss m a coded e in
     record {
-      globals = subst (λ ds. m.globals ≡ ds ++ filter (λ g. not (is_one_of (names_of ds) g.name)) (linker_symbols m)) (sym same) globals;
-      once = subst (λ ds. AreDistinct (names_of ds)) (sym same) (once (made_globals ss) a ss d);
+      globals = globals ∙ ap (λ ds. ds ++ filter (λ g. not (is_one_of (names_of (globals_from (made_globals ss) a ss)) g.name)) (linker_symbols m)) (sym same)
+          ∙ ap (λ ns. definitions (ss ∷ []) m ++ filter (λ g. not (is_one_of ns g.name)) (linker_symbols m)) (sym named);
+      once = subst AreDistinct (sym named) (once (made_globals ss) a ss d);
       entry = subst (λ ds. find (λ g. bytes_eq g.name (codes "_start")) ds ≡ Some (symbol (codes "_start") m.entry)) (sym same) (found_shown (codes "_start") m.entry (globals_from (made_globals ss) a ss) entry);
     }

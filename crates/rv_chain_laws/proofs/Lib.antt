@@ -11,3 +11,10 @@ pub mod AssembledMemory
 pub mod Obligations
 pub mod Simulation
 pub mod Assembled
+pub mod Exit7Program
+pub mod Regions
+pub mod Homes
+pub mod LaidOut
+pub mod Contents
+pub mod AssembledLinked
+pub mod Placed

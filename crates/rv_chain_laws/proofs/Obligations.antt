@@ -1,20 +1,20 @@
 -- Each kind of statement: its lines one after another come to its meaning and its cost.
 
-use Rattle.std.proofs.Common.{◌≡◌, ℕ, suc, ◌+◌, ◌-◌, ◌%◌, ◌^◌, ◌<◌, ◌≤◌, Bool, true, false, List, [], ◌∷◌, Some, None, length, refl, sym, ap, ◌∙◌, subst, arith, ℤ, pos, negsuc}
-use Rattle.std.specs.Prelude.{map, nat_lt, ◌==◌, if◌then◌else◌, ◌-ℤ◌}
+use Rattle.std.proofs.Common.{◌≡◌, ℕ, zero, suc, ◌+◌, ◌-◌, ◌%◌, ◌^◌, ◌<◌, ◌≤◌, Bool, true, false, List, [], ◌∷◌, Some, None, length, refl, sym, ap, ◌∙◌, subst, arith, ℤ, pos, negsuc}
+use Rattle.std.specs.Prelude.{map, replicate, nat_lt, ◌==◌, if◌then◌else◌, ◌-ℤ◌}
 use Rattle.std.specs.List.{AllByRecursion}
 use Rattle.std.proofs.lemmas.Bool.{ltb-true, ltb-false, eq-eqb}
 use Rattle.rv_isa.specs.declared.instruction.Inst.{Inst}
 use Rattle.rv_isa.specs.declared.instruction.Inst.TheVariants.{Ecall as Call}
 use Rattle.rv_isa_laws.specs.Arithmetic.{wrapped, sum_of}
 use Rattle.rv_isa_laws.specs.Hart.{Hart, with_register, advanced}
-use Rattle.rv_isa_laws.specs.Effect.{Effect, Goes}
+use Rattle.rv_isa_laws.specs.Effect.{Effect, Goes, Breaks}
 use Rattle.rv_isa_laws.specs.Meaning.{effect, sets}
-use Rattle.rv_parse_laws.specs.Statement.{Statement, Label, Norvc, Globl, Instruction, Mnemonic, Addi, Ecall, Li, Operand, Register, Value, Expression}
+use Rattle.rv_parse_laws.specs.Statement.{Statement, Label, Norvc, Globl, Instruction, Directs, Directive, Sets, Aligns_to_power, Aligns_to_bytes, Numbered, Mnemonic, Addi, Ecall, Li, Operand, Register, Value, Expression}
 use Rattle.rv_parse_laws.specs.Value.{signed}
-use Rattle.rv_chain_laws.specs.Sites.{Site, Program, value}
-use Rattle.rv_chain_laws.specs.Meaning.{Line, Lie, AreLines, add_immediate, run_spoken, run_said, meaning, cost, add_zero, expanded, expanded_said}
-use Rattle.rv_chain_laws.specs.Fits.{IsRowOf, SizeFits}
+use Rattle.rv_chain_laws.specs.Sites.{Site, Program, number, has_values}
+use Rattle.rv_chain_laws.specs.Meaning.{Line, Lie, AreLines, add_immediate, run_spoken, run_directive, run_said, meaning, cost, add_zero, expanded, no_operation, expanded_directive, expanded_said, expansion}
+use Rattle.rv_chain_laws.specs.Fits.{IsRowOf}
 use Rattle.rv_chain_laws.proofs.Walk.{Walked, once, more, then_walk, walk}
 
 abbrev walked : Effect → ℕ → Walked
@@ -84,22 +84,7 @@ does_spoken v Li (Register rd ∷ Value k ∷ []) count address bytes lines e li
     load_immediate false rd k count address bytes lines e lie n = absurd (cc)
 does_spoken v mnemonic operands count address bytes lines e lie n = absurd (cc)
 
-does_said : (v : Expression → ℕ) (says : Statement) (count address bytes : ℕ) (lines : List Line) → expanded_said v says ≡ Some (map (λ (l : Line). l.instruction) lines) → Lie address lines (address + bytes) → count ≡ length (map (λ (l : Line). l.instruction) lines) → 0 < bytes → Does (run_said v says bytes) (λ h. count) address lines
-does_said v (Label name) count address bytes lines e lie n some = no_lines _ count address bytes lines e lie some
-does_said v Norvc count address bytes lines e lie n some = no_lines _ count address bytes lines e lie some
-does_said v (Globl names) count address bytes lines e lie n some = no_lines _ count address bytes lines e lie some
-does_said v (Instruction mnemonic operands) count address bytes lines e lie n some = does_spoken v mnemonic operands count address bytes lines e lie n
-
--- the lines of each statement come to its meaning and its cost
-pub does : (p : Program) (s : Site) (lines : List Line) → AreLines p s lines → SizeFits p s → 0 < s.row.bytes → s.row.address + s.row.bytes < 2 ^ 64 → Does (meaning p s) (cost p s) s.row.address lines
-does p s lines are fits some below =
-    let row = subst (λ o. IsRowOf o s.row) are.0 fits in
-    does_said (value p s) s.stated.says s.row.instructions s.row.address s.row.bytes lines are.0 are.1 row.0 some
-
 -- ---- an alignment's padding: instructions that only go on, in any number
-
-abbrev pub no_operation : Inst
-no_operation = add_immediate 0 0 0
 
 abbrev AllIdle : List Line → Type 0
 AllIdle lines = AllByRecursion (λ l. l.instruction ≡ no_operation) lines
@@ -127,3 +112,55 @@ idle_walk (k ∷ ls) l a end idle lie below h pc =
     (eq-eqb ((h.pc + l.bytes) % 2 ^ 64) k.address there)
     (idle_walk ls k (a + l.bytes) end idle.1 lie.1 below (advanced h l.bytes) later)
     ∙ ap (λ n. walked (Goes (record h { pc = n })) (suc (suc (length ls)))) same
+
+-- an alignment goes on behind its padding
+idle_lines : (n : ℕ) (lines : List Line) → replicate n no_operation ≡ map (λ (l : Line). l.instruction) lines → AllIdle lines
+idle_lines n [] e = tt
+idle_lines zero (l ∷ ls) e = absurd (cc)
+idle_lines (suc n) (l ∷ ls) e =
+    let here : no_operation ≡ l.instruction = cc in
+    let rest : replicate n no_operation ≡ map (λ (l : Line). l.instruction) ls = cc in
+    (sym here, idle_lines n ls rest)
+
+counted : (l : Line) (ls : List Line) → suc (length ls) ≡ length (map (λ (l : Line). l.instruction) (l ∷ ls))
+counted l [] = refl
+counted l (k ∷ ls) = ap suc (counted k ls)
+
+does_padding : (n count address bytes : ℕ) (lines : List Line) → Some (replicate n no_operation) ≡ Some (map (λ (l : Line). l.instruction) lines) → Lie address lines (address + bytes) → count ≡ length (map (λ (l : Line). l.instruction) lines) → 0 < bytes → address + bytes < 2 ^ 64 → Does (λ h. Goes (advanced h bytes)) (λ h. count) address lines
+does_padding n count address bytes [] e lie long some below = absurd (omega arith)
+does_padding n count address bytes (l ∷ ls) e lie long some below =
+    let same : replicate n no_operation ≡ map (λ (l : Line). l.instruction) (l ∷ ls) = cc in
+    let bytes_are : address + bytes - address ≡ bytes = omega arith in
+    record {
+      first = l;
+      others = ls;
+      are = refl;
+      starts = lie.0;
+      walks = λ h at. idle_walk ls l address (address + bytes) (idle_lines n (l ∷ ls) same) lie below h at
+          ∙ ap (λ b. walked (Goes (advanced h b)) (suc (length ls))) bytes_are ∙ ap (walked (Goes (advanced h bytes))) (counted l ls ∙ sym long);
+    }
+
+does_directive : (directive : Directive) (count address bytes : ℕ) (lines : List Line) → expanded_directive directive bytes ≡ Some (map (λ (l : Line). l.instruction) lines) → Lie address lines (address + bytes) → count ≡ length (map (λ (l : Line). l.instruction) lines) → 0 < bytes → address + bytes < 2 ^ 64 → Does (run_directive directive bytes) (λ h. count) address lines
+does_directive (Aligns_to_power exponent) count address bytes lines e lie n some below = does_padding _ count address bytes lines e lie n some below
+does_directive (Aligns_to_bytes alignment) count address bytes lines e lie n some below = does_padding _ count address bytes lines e lie n some below
+does_directive (Sets name expression) count address bytes lines e lie n some below = no_lines _ count address bytes lines e lie some
+does_directive (Numbered number) count address bytes lines e lie n some below = no_lines _ count address bytes lines e lie some
+does_directive _ count address bytes lines e lie n some below = absurd (cc)
+
+does_said : (v : Expression → ℕ) (says : Statement) (count address bytes : ℕ) (lines : List Line) → expanded_said v says bytes ≡ Some (map (λ (l : Line). l.instruction) lines) → Lie address lines (address + bytes) → count ≡ length (map (λ (l : Line). l.instruction) lines) → 0 < bytes → address + bytes < 2 ^ 64 → Does (run_said v says bytes) (λ h. count) address lines
+does_said v (Label name) count address bytes lines e lie n some below = no_lines _ count address bytes lines e lie some
+does_said v Norvc count address bytes lines e lie n some below = no_lines _ count address bytes lines e lie some
+does_said v (Globl names) count address bytes lines e lie n some below = no_lines _ count address bytes lines e lie some
+does_said v (Instruction mnemonic operands) count address bytes lines e lie n some below = does_spoken v mnemonic operands count address bytes lines e lie n
+does_said v (Directs directive) count address bytes lines e lie n some below = does_directive directive count address bytes lines e lie n some below
+
+-- only where each name has a meaning
+does_where : (b : Bool) (v : Expression → ℕ) (says : Statement) (count address bytes : ℕ) (lines : List Line) → (if b then expanded_said v says bytes else None) ≡ Some (map (λ (l : Line). l.instruction) lines) → Lie address lines (address + bytes) → count ≡ length (map (λ (l : Line). l.instruction) lines) → 0 < bytes → address + bytes < 2 ^ 64 → Does (λ h. if b then run_said v says bytes h else Breaks) (λ h. count) address lines
+does_where true v says count address bytes lines e lie n some below = does_said v says count address bytes lines e lie n some below
+does_where false v says count address bytes lines e lie n some below = absurd (cc)
+
+-- the lines of each statement come to its meaning and its cost
+pub does : (p : Program) (s : Site) (lines : List Line) → AreLines p s lines → IsRowOf (expansion p s) s.row → 0 < s.row.bytes → s.row.address + s.row.bytes < 2 ^ 64 → Does (meaning p s) (cost p s) s.row.address lines
+does p s lines are fits some below =
+    let row = subst (λ o. IsRowOf o s.row) are.0 fits in
+    does_where (has_values p s) (number p s) s.stated.says s.row.instructions s.row.address s.row.bytes lines are.0 are.1 row.0 some below

@@ -52,7 +52,7 @@ find_cons : {A : Type 0} (test : A → Bool) (t : Bool) (y : A) (o : Option A) (
 find_cons test true y o x e rest f = let same : y ≡ x = cc in subst (λ z. test z ≡ true) same e
 find_cons test false y o x e rest f = rest f
 
-find_holds : {A : Type 0} (test : A → Bool) (xs : List A) (x : A) → find test xs ≡ Some x → test x ≡ true
+pub find_holds : {A : Type 0} (test : A → Bool) (xs : List A) (x : A) → find test xs ≡ Some x → test x ≡ true
 find_holds test [] x e = absurd (cc)
 find_holds test (y ∷ ys) x e = find_cons test (test y) y (find test ys) x refl (find_holds test ys x) e
 

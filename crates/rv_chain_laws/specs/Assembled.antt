@@ -1,14 +1,14 @@
 -- What one source becomes whose statements all lie in .text: its instructions, four bytes each, from an address on.
 
-use Rattle.std.specs.Prelude.{◌≡◌, ◌≢◌, ℕ, suc, ◌+◌, ◌%◌, ◌<◌, ◌≤◌, ⊤, Bool, not, List, [], ◌∷◌, ◌++◌, length, filter, flat_map, Option, Some, None, option_map, if◌then◌else◌, codes}
+use Rattle.std.specs.Prelude.{◌≡◌, ℕ, suc, ◌+◌, ◌%◌, ◌<◌, ◌≤◌, ⊤, not, List, [], ◌∷◌, ◌++◌, filter, flat_map, Option, Some, None, option_map, if◌then◌else◌, codes}
 use Rattle.std.specs.Str.{bytes_eq}
 use Rattle.std.specs.Int.{w32, to_le_bytes}
-use Rattle.std.specs.List.{AllByRecursion, find}
+use Rattle.std.specs.List.{find}
 use Rattle.rv_isa.specs.declared.instruction.Inst.{Inst}
 use Rattle.rv_isa.specs.declared.instruction.Inst.TheVariants.{Ecall as Call}
 use Rattle.rv_isa.specs.Ranges.{IsValid}
 use Rattle.rv_encode.specs.Word.{form, word}
-use Rattle.rv_parse_laws.specs.Statement.{Statement, Label, Norvc, Globl, Instruction, Spoken, Mnemonic, Addi, Ecall, Li, Operand, Register, Value, Expression}
+use Rattle.rv_parse_laws.specs.Statement.{Statement, Label, Norvc, Globl, Instruction, Directs, Spoken, Mnemonic, Addi, Ecall, Li, Operand, Register, Value}
 use Rattle.rv_parse_laws.specs.Value.{constant}
 use Rattle.rv_map.specs.Map.{Map, Global}
 use Rattle.rv_map.specs.declared.map.Row.{Row}
@@ -16,7 +16,7 @@ use Rattle.rv_map.specs.declared.map.Region.{Region}
 use Rattle.rv_image.specs.Linked.{Linked}
 use Rattle.rv_chain_laws.specs.Meaning.{add_immediate, fits_12}
 use Rattle.rv_chain_laws.specs.Fits.{aligned}
-use Rattle.rv_chain_laws.specs.Resolves.{made_global, is_one_of, AreDistinct, symbol, names_of, linker_symbols}
+use Rattle.rv_chain_laws.specs.Resolves.{is_one_of, AreDistinct, symbol, names_of, linker_symbols}
 
 -- the instruction that a number makes, where the number is a constant of 12 signed bits
 abbrev pub fitted : Option ℕ → (ℕ → Inst) → Option Inst
@@ -30,12 +30,13 @@ base Ecall [] = Some Call
 base Li (Register rd ∷ Value e ∷ []) = fitted (constant e) (add_immediate rd 0)
 base mnemonic operands = None
 
--- every instruction is one that its word can spell
+-- every instruction is one that its word can spell; no directive is built
 abbrev pub IsCoded : Statement → Type 0
 IsCoded (Label name) = ⊤
 IsCoded Norvc = ⊤
 IsCoded (Globl names) = ⊤
 IsCoded (Instruction mnemonic operands) = (i : Inst) × (base mnemonic operands ≡ Some i) × IsValid i
+IsCoded (Directs directive) = ⊥
 
 abbrev pub AreCoded : List Spoken → Type 0
 AreCoded [] = ⊤
@@ -47,6 +48,7 @@ size_of (Label name) = 0
 size_of Norvc = 0
 size_of (Globl names) = 0
 size_of (Instruction mnemonic operands) = 4
+size_of (Directs directive) = 0
 
 -- a word as it lies in memory
 abbrev pub word_bytes : Option Inst → List ℕ
@@ -58,6 +60,7 @@ code_of (Label name) = []
 code_of Norvc = []
 code_of (Globl names) = []
 code_of (Instruction mnemonic operands) = word_bytes (base mnemonic operands)
+code_of (Directs directive) = []
 
 abbrev pub code : List Spoken → List ℕ
 code [] = []
@@ -73,6 +76,7 @@ rows_of ordinal address line (Label name) = row_at ordinal address line 0 0 ∷ 
 rows_of ordinal address line Norvc = []
 rows_of ordinal address line (Globl names) = []
 rows_of ordinal address line (Instruction mnemonic operands) = row_at ordinal address line 4 1 ∷ []
+rows_of ordinal address line (Directs directive) = []
 
 abbrev pub rows_from : ℕ → ℕ → List Spoken → List Row
 rows_from ordinal address [] = []
@@ -84,8 +88,15 @@ size_all [] = 0
 size_all (s ∷ ss) = size_of s.says + size_all ss
 
 -- the names that a source makes global
+abbrev pub made_globals_of : Statement → List (List ℕ)
+made_globals_of (Label name) = []
+made_globals_of Norvc = []
+made_globals_of (Globl names) = names
+made_globals_of (Instruction mnemonic operands) = []
+made_globals_of (Directs directive) = []
+
 abbrev pub made_globals : List Spoken → List (List ℕ)
-made_globals ss = flat_map (λ s. made_global s.says) ss
+made_globals ss = flat_map (λ s. made_globals_of s.says) ss
 
 -- the global labels, each with its address
 abbrev pub global_of : List (List ℕ) → ℕ → Statement → List Global
@@ -93,6 +104,7 @@ global_of globals address (Label name) = if is_one_of globals name then symbol n
 global_of globals address Norvc = []
 global_of globals address (Globl names) = []
 global_of globals address (Instruction mnemonic operands) = []
+global_of globals address (Directs directive) = []
 
 abbrev pub globals_from : List (List ℕ) → ℕ → List Spoken → List Global
 globals_from globals address [] = []
@@ -104,6 +116,7 @@ labels_of (Label name) = name ∷ []
 labels_of Norvc = []
 labels_of (Globl names) = []
 labels_of (Instruction mnemonic operands) = []
+labels_of (Directs directive) = []
 
 abbrev pub labels : List Spoken → List (List ℕ)
 labels ss = flat_map (λ s. labels_of s.says) ss

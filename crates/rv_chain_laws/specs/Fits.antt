@@ -1,15 +1,16 @@
 -- The map fits the sources: which rows it has, how large each is, and where each stands.
 
-use Rattle.std.specs.Prelude.{◌≡◌, ℕ, suc, ◌+◌, ◌-◌, ◌*◌, ◌/◌, ◌%◌, ◌≤◌, Bool, ◌&&◌, ◌==◌, ⊤, max, sum_by, map, List, [], ◌∷◌, ◌++◌, filter, length, Option, Some, None, nat_lt, if◌then◌else◌}
+use Rattle.std.specs.Prelude.{◌≡◌, ℕ, suc, ◌+◌, ◌-◌, ◌*◌, ◌/◌, ◌%◌, ◌^◌, ◌≤◌, Bool, true, false, ◌&&◌, not, ◌==◌, IsTrue, ⊤, max, sum_by, map, List, [], ◌∷◌, ◌++◌, filter, length, Option, Some, None, nat_le, nat_lt, if◌then◌else◌}
 use Rattle.std.specs.List.{AllByRecursion}
 use Rattle.rv_isa.specs.declared.instruction.Inst.{Inst}
-use Rattle.rv_parse_laws.specs.Statement.{Spoken}
+use Rattle.rv_parse_laws.specs.Statement.{Statement, Label, Norvc, Globl, Instruction, Directs, Spoken, Directive, Sets, Aligns_to_power, Aligns_to_bytes, Values, Strings, Zeros, Numbered}
 use Rattle.rv_map.specs.Map.{Map}
 use Rattle.rv_map.specs.declared.map.Row.{Row}
 use Rattle.rv_map.specs.declared.map.Region.{Region}
-use Rattle.rv_chain_laws.specs.Sections.{Section, Stated, stated, goes_to_text, goes_to_rodata, goes_to_data, goes_to_bss, at_first, opened_by, section_alignment}
-use Rattle.rv_chain_laws.specs.Sites.{Site, Program, program}
+use Rattle.rv_chain_laws.specs.Sections.{Section, Stated, stated, has_row, goes_to_text, goes_to_rodata, goes_to_data, goes_to_bss, at_first, opened_by}
+use Rattle.rv_chain_laws.specs.Sites.{Site, Program, program, number, has_values}
 use Rattle.rv_chain_laws.specs.Meaning.{expansion}
+use Rattle.rv_chain_laws.specs.Start.{spelled}
 
 -- which statement a row is that of
 pub record Mark : Type 0 where
@@ -29,40 +30,100 @@ IsRowOf None r = ⊥
 IsRowOf (Some instructions) r =
     (r.instructions ≡ length instructions) × (2 * r.instructions ≤ r.bytes) × (r.bytes ≤ 4 * r.instructions) × (r.bytes % 2 ≡ 0)
 
--- the size of a statement's row, by its kind
-abbrev pub SizeFits : Program → Site → Type 0
-SizeFits p s = IsRowOf (expansion p s) s.row
-
 -- the least multiple of an alignment that is not below an address
 abbrev pub aligned : ℕ → ℕ → ℕ
 aligned alignment address = (address + (alignment - 1)) / alignment * alignment
 
+-- the alignment that a directive asks for: a power of two, or so many bytes
+abbrev pub asked_by : Program → Site → Directive → ℕ
+asked_by p s (Aligns_to_power exponent) = 2 ^ number p s exponent
+asked_by p s (Aligns_to_bytes bytes) = number p s bytes
+asked_by p s _ = 1
+
+-- the multiple at which a statement asks its section to begin
+abbrev pub asked : Program → Site → Statement → ℕ
+asked p s (Label name) = 1
+asked p s Norvc = 1
+asked p s (Globl names) = 1
+asked p s (Instruction mnemonic operands) = 1
+asked p s (Directs directive) = asked_by p s directive
+
+-- the row of data: the bytes that the statement spells, all zero where its section has none in the file
+abbrev pub IsDataRow : Program → Site → Type 0
+IsDataRow p s = IsTrue (not s.stated.home.executable) × IsTrue (has_values p s) × (s.row.bytes ≡ length (spelled p s)) × (s.row.instructions ≡ 0)
+
+abbrev pub IsStoredRow : Program → Site → Type 0
+IsStoredRow p s = IsTrue (not s.stated.home.nobits) × IsDataRow p s
+
+-- the least padding for which the end is aligned
+abbrev pub padding : ℕ → Row → ℕ
+padding alignment row = aligned alignment row.address - row.address
+
+-- the row of an alignment: in executable sections instructions, and none up to 2; in others zeros
+abbrev pub IsPaddingIn : Bool → Program → Site → ℕ → Type 0
+IsPaddingIn true p s alignment = IsRowOf (expansion p s) s.row × (s.row.bytes ≡ (if nat_le alignment 2 then 0 else padding alignment s.row))
+IsPaddingIn false p s alignment = IsTrue (has_values p s) × (s.row.bytes ≡ padding alignment s.row) × (s.row.instructions ≡ 0)
+
+abbrev pub IsPadding : Program → Site → ℕ → Type 0
+IsPadding p s alignment = IsPaddingIn s.stated.home.executable p s alignment
+
+abbrev pub DirectiveFits : Program → Site → Directive → Type 0
+DirectiveFits p s (Sets name expression) = IsRowOf (expansion p s) s.row
+DirectiveFits p s (Numbered number) = IsRowOf (expansion p s) s.row
+DirectiveFits p s (Values width values) = IsStoredRow p s
+DirectiveFits p s (Strings ended strings) = IsStoredRow p s
+DirectiveFits p s (Zeros count) = IsDataRow p s
+DirectiveFits p s (Aligns_to_power exponent) = IsPadding p s (asked_by p s (Aligns_to_power exponent))
+DirectiveFits p s (Aligns_to_bytes bytes) = IsPadding p s (asked_by p s (Aligns_to_bytes bytes))
+DirectiveFits p s _ = ⊥
+
+-- the size of a statement's row, by its kind; instructions stand in executable sections
+abbrev pub StatementFits : Program → Site → Statement → Type 0
+StatementFits p s (Label name) = IsRowOf (expansion p s) s.row
+StatementFits p s Norvc = ⊥
+StatementFits p s (Globl names) = ⊥
+StatementFits p s (Instruction mnemonic operands) = IsTrue s.stated.home.executable × IsRowOf (expansion p s) s.row
+StatementFits p s (Directs directive) = DirectiveFits p s directive
+
+abbrev pub SizeFits : Program → Site → Type 0
+SizeFits p s = StatementFits p s s.stated.says
+
 -- a section of a file as it stands in the map
 pub record Block : Type 0 where
   pub alignment : ℕ
-  pub rows : List Row
+  pub sites : List Site
 
--- the rows of a section, by its file and its place in the file
-abbrev pub rows_in : List Site → ℕ → ℕ → List Row
-rows_in sites file section = map (λ s. s.row) (filter (λ s. (s.stated.file == file) && (s.stated.section == section)) sites)
+abbrev pub rows_of : Block → List Row
+rows_of b = map (λ s. s.row) b.sites
+
+-- the sites of a section, by its file and its place in the file
+abbrev pub sites_in : List Site → ℕ → ℕ → List Site
+sites_in sites file section = filter (λ s. (s.stated.file == file) && (s.stated.section == section)) sites
+
+-- the greatest alignment that a statement of a section asks for
+abbrev pub greatest : Program → List Site → ℕ
+greatest p [] = 1
+greatest p (s ∷ ss) = max (asked p s s.stated.says) (greatest p ss)
+
+-- code stands at even addresses
+abbrev pub block_of : Program → Section → List Site → Block
+block_of p section sites = record { alignment = max (if goes_to_text section then 2 else 1) (greatest p sites); sites = sites }
 
 -- the sections of a file that go to a region, from a place on in the file's order
-abbrev pub blocks_of_file : (Section → Bool) → List Site → ℕ → List Spoken → ℕ → List Section → List Block
-blocks_of_file goes sites file statements place [] = []
-blocks_of_file goes sites file statements place (section ∷ sections) =
-    let rest = blocks_of_file goes sites file statements (suc place) sections in
-    if goes section
-    then record { alignment = section_alignment place section statements; rows = rows_in sites file place } ∷ rest
-    else rest
+abbrev pub blocks_of_file : (Section → Bool) → Program → ℕ → ℕ → List Section → List Block
+blocks_of_file goes p file place [] = []
+blocks_of_file goes p file place (section ∷ sections) =
+    let rest = blocks_of_file goes p file (suc place) sections in
+    if goes section then block_of p section (sites_in p.sites file place) ∷ rest else rest
 
 -- the sections that go to a region, in file order and then in the order of the file
-abbrev pub blocks_of : (Section → Bool) → List Site → ℕ → List (List Spoken) → List Block
-blocks_of goes sites file [] = []
-blocks_of goes sites file (statements ∷ files) =
-    blocks_of_file goes sites file statements 0 (opened_by at_first statements).sections ++ blocks_of goes sites (suc file) files
+abbrev pub blocks_of : (Section → Bool) → Program → ℕ → List (List Spoken) → List Block
+blocks_of goes p file [] = []
+blocks_of goes p file (statements ∷ files) =
+    blocks_of_file goes p file 0 (opened_by at_first statements).sections ++ blocks_of goes p (suc file) files
 
 abbrev pub blocks : (Section → Bool) → List (List Spoken) → Map → List Block
-blocks goes sources map = blocks_of goes (program sources map).sites 1 sources
+blocks goes sources map = blocks_of goes (program sources map) 1 sources
 
 -- each row starts where the one before ends
 abbrev pub Follow : ℕ → List Row → Type 0
@@ -75,19 +136,19 @@ size rows = sum_by (λ r. r.bytes) rows
 -- sections one after another: each at the least aligned place that is not below the end before
 abbrev pub Stand : ℕ → List Block → Type 0
 Stand stop [] = ⊤
-Stand stop (b ∷ bs) = Follow (aligned b.alignment stop) b.rows × Stand (aligned b.alignment stop + size b.rows) bs
+Stand stop (b ∷ bs) = Follow (aligned b.alignment stop) (rows_of b) × Stand (aligned b.alignment stop + size (rows_of b)) bs
 
 -- the end of the last of them
 abbrev pub end_of : ℕ → List Block → ℕ
 end_of stop [] = stop
-end_of stop (b ∷ bs) = end_of (aligned b.alignment stop + size b.rows) bs
+end_of stop (b ∷ bs) = end_of (aligned b.alignment stop + size (rows_of b)) bs
 
 -- a gap stands before each section that begins past the end before
 abbrev pub gaps_of : ℕ → List Block → List Region
 gaps_of stop [] = []
 gaps_of stop (b ∷ bs) =
     let start = aligned b.alignment stop in
-    let rest = gaps_of (start + size b.rows) bs in
+    let rest = gaps_of (start + size (rows_of b)) bs in
     if nat_lt stop start then record { start = stop; end = start } ∷ rest else rest
 
 -- a region holds its sections from a place on
@@ -100,7 +161,7 @@ greatest_alignment (b ∷ bs) = max b.alignment (greatest_alignment bs)
 
 -- each statement that has a place has one row, by file and ordinal, and there are no others
 abbrev pub HasRows : List (List Spoken) → Map → Type 0
-HasRows sources m = map mark_of_row m.rows ≡ map mark_of_stated (stated sources)
+HasRows sources m = map mark_of_row m.rows ≡ map mark_of_stated (filter has_row (stated sources))
 
 -- the map fits the sources, from a text start on
 pub record Fits (sources : List (List Spoken)) (m : Map) (text_start : ℕ) : Type 0 where

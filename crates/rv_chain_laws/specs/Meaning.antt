@@ -1,15 +1,15 @@
 -- What a statement does in one step, the instructions that stand for it, and how many of them run
 -- (RISC-V Assembly Programmer's Manual, pseudo-instructions).
 
-use Rattle.std.specs.Prelude.{◌≡◌, ℕ, ◌+◌, ◌%◌, ◌^◌, List, [], ◌∷◌, Option, Some, None, map, if◌then◌else◌, nat_lt}
+use Rattle.std.specs.Prelude.{◌≡◌, ℕ, ◌+◌, ◌/◌, ◌%◌, ◌^◌, List, [], ◌∷◌, Option, Some, None, map, replicate, if◌then◌else◌, nat_lt}
 use Rattle.rv_isa.specs.declared.instruction.Inst.{Inst}
 use Rattle.rv_isa.specs.declared.instruction.Inst.TheVariants.{Addi as AddImmediate, Ecall as Call}
-use Rattle.rv_isa_laws.specs.Hart.{Hart}
-use Rattle.rv_isa_laws.specs.Effect.{Effect, Breaks}
+use Rattle.rv_isa_laws.specs.Hart.{Hart, advanced}
+use Rattle.rv_isa_laws.specs.Effect.{Effect, Goes, Breaks}
 use Rattle.rv_isa_laws.specs.Meaning.{effect, sets}
-use Rattle.rv_parse_laws.specs.Statement.{Statement, Label, Norvc, Globl, Instruction, Mnemonic, Addi, Ecall, Li, Operand, Register, Value, Expression}
+use Rattle.rv_parse_laws.specs.Statement.{Statement, Label, Norvc, Globl, Instruction, Directs, Mnemonic, Addi, Ecall, Li, Operand, Register, Value, Expression, Directive, Sets, Aligns_to_power, Aligns_to_bytes, Numbered}
 use Rattle.rv_parse_laws.specs.Value.{signed}
-use Rattle.rv_chain_laws.specs.Sites.{Site, Program, value}
+use Rattle.rv_chain_laws.specs.Sites.{Site, Program, number, has_values}
 
 -- `addi rd, rs1, k`
 abbrev pub add_immediate : ℕ → ℕ → ℕ → Inst
@@ -23,16 +23,23 @@ run_spoken v Ecall [] bytes h = effect Call bytes h
 run_spoken v Li (Register rd ∷ Value k ∷ []) bytes h = sets bytes h rd (v k)
 run_spoken v mnemonic operands bytes h = Breaks
 
+-- an alignment goes on behind its padding
+abbrev pub run_directive : Directive → ℕ → Hart → Effect
+run_directive (Aligns_to_power exponent) bytes h = Goes (advanced h bytes)
+run_directive (Aligns_to_bytes alignment) bytes h = Goes (advanced h bytes)
+run_directive _ bytes h = Breaks
+
 -- a statement that isn't executed has no bytes in the text, and so is never run
 abbrev pub run_said : (Expression → ℕ) → Statement → ℕ → Hart → Effect
 run_said v (Label name) bytes h = Breaks
 run_said v Norvc bytes h = Breaks
 run_said v (Globl names) bytes h = Breaks
 run_said v (Instruction mnemonic operands) bytes h = run_spoken v mnemonic operands bytes h
+run_said v (Directs directive) bytes h = run_directive directive bytes h
 
--- what the statement at a site does in one step
+-- what the statement at a site does in one step; one with a name that has no meaning fits no row
 abbrev pub meaning : Program → Site → Hart → Effect
-meaning p s h = run_said (value p s) s.stated.says s.row.bytes h
+meaning p s h = if has_values p s then run_said (number p s) s.stated.says s.row.bytes h else Breaks
 
 -- whether a number fits 12 signed bits
 abbrev pub fits_12 : ℕ → Option ℕ
@@ -49,15 +56,32 @@ expanded v Ecall [] = Some (Call ∷ [])
 expanded v Li (Register rd ∷ Value k ∷ []) = add_zero rd (fits_12 (v k))
 expanded v mnemonic operands = None
 
--- the base instructions that stand for a statement
-abbrev pub expanded_said : (Expression → ℕ) → Statement → Option (List Inst)
-expanded_said v (Label name) = Some []
-expanded_said v Norvc = Some []
-expanded_said v (Globl names) = Some []
-expanded_said v (Instruction mnemonic operands) = expanded v mnemonic operands
+-- an instruction without effect
+abbrev pub no_operation : Inst
+no_operation = add_immediate 0 0 0
+
+-- a padding in code has one instruction per 4 bytes and one for 2 that remain
+abbrev pub padding_count : ℕ → ℕ
+padding_count bytes = bytes / 4 + bytes % 4 / 2
+
+-- a place has no bytes, an alignment the instructions of its padding; data are no instructions
+abbrev pub expanded_directive : Directive → ℕ → Option (List Inst)
+expanded_directive (Sets name expression) bytes = Some []
+expanded_directive (Numbered number) bytes = Some []
+expanded_directive (Aligns_to_power exponent) bytes = Some (replicate (padding_count bytes) no_operation)
+expanded_directive (Aligns_to_bytes alignment) bytes = Some (replicate (padding_count bytes) no_operation)
+expanded_directive _ bytes = None
+
+-- the base instructions that stand for a statement whose row has so many bytes
+abbrev pub expanded_said : (Expression → ℕ) → Statement → ℕ → Option (List Inst)
+expanded_said v (Label name) bytes = Some []
+expanded_said v Norvc bytes = Some []
+expanded_said v (Globl names) bytes = Some []
+expanded_said v (Instruction mnemonic operands) bytes = expanded v mnemonic operands
+expanded_said v (Directs directive) bytes = expanded_directive directive bytes
 
 abbrev pub expansion : Program → Site → Option (List Inst)
-expansion p s = expanded_said (value p s) s.stated.says
+expansion p s = if has_values p s then expanded_said (number p s) s.stated.says s.row.bytes else None
 
 -- a line of a statement: an instruction of 2 or 4 bytes at its address
 pub record Line : Type 0 where

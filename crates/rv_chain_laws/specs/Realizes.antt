@@ -8,8 +8,8 @@ use Rattle.rv_isa_laws.specs.Memory.{Mem, Right, Read, Write, Execute}
 use Rattle.rv_machine_laws.specs.Reader.{Reader}
 use Rattle.rv_machine_laws.specs.Run.{NoInstruction, Got, fetch}
 use Rattle.rv_chain_laws.specs.Sites.{Site, Program}
-use Rattle.rv_chain_laws.specs.Meaning.{Line, AreLines}
-use Rattle.rv_chain_laws.specs.Fits.{SizeFits}
+use Rattle.rv_chain_laws.specs.Meaning.{Line, AreLines, expansion}
+use Rattle.rv_chain_laws.specs.Fits.{IsRowOf}
 use Rattle.rv_chain_laws.specs.Start.{first_byte, right_at}
 use Rattle.rv_chain_laws.specs.SourceRun.{Starts, Gap, place}
 
@@ -23,7 +23,7 @@ pub record HoldsLines {Spells StandsFor : ℕ → Inst → Type 0} (reader : Rea
   pub are_lines : AreLines p s lines
   pub stand : AllByRecursion (StandsIn reader m) lines
   pub below : s.row.address + s.row.bytes < 2 ^ 64
-  pub size : SizeFits p s
+  pub size : IsRowOf (expansion p s) s.row
 
 -- memory m holds a program: what a run of the machine needs so that it does what the statements do
 pub record Realizes {Spells StandsFor : ℕ → Inst → Type 0} (reader : Reader Spells StandsFor) (m : Mem) (p : Program) : Type 0 where

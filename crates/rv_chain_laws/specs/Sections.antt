@@ -1,7 +1,9 @@
--- The sections of a source, and which statements have a place in memory (gABI, section flags; GNU as).
+-- The sections of a source, and which statements have a place in memory (gABI, "Sections"; GNU as, "Sections" and ".section").
 
-use Rattle.std.specs.Prelude.{ℕ, suc, Bool, true, false, not, ◌&&◌, ◌==◌, if◌then◌else◌, max, List, [], ◌∷◌, ◌++◌, slice_index_or, codes}
-use Rattle.rv_parse_laws.specs.Statement.{Statement, Label, Norvc, Globl, Instruction, Spoken}
+use Rattle.std.specs.Prelude.{ℕ, suc, Bool, true, false, not, ◌&&◌, ◌||◌, ◌==◌, List, [], ◌∷◌, ◌++◌, length, take, Option, Some, None, slice_index_or, codes}
+use Rattle.std.specs.List.{list_any, position}
+use Rattle.std.specs.Str.{bytes_eq}
+use Rattle.rv_parse_laws.specs.Statement.{Statement, Label, Norvc, Globl, Instruction, Directs, Spoken, Expression, Here, Standard, Text, Data, Rodata, Bss, SectionType, Nobits, Directive, Enters, Opens, Sets, Aligns_to_power, Aligns_to_bytes, Values, Strings, Zeros, Numbered}
 
 -- a section by its flags: ALLOC, EXECINSTR and WRITE, and the type NOBITS
 pub record Section : Type 0 where
@@ -24,6 +26,48 @@ goes_to_data s = s.loaded && not s.executable && not s.nobits && s.writable
 abbrev pub goes_to_rodata : Section → Bool
 goes_to_rodata s = s.loaded && not s.executable && not s.nobits && not s.writable
 
+abbrev pub begins_with : List ℕ → List ℕ → Bool
+begins_with front name = bytes_eq (take (length front) name) front
+
+-- the sections that the front of their name says: code, variables, variables that begin as zero, constants
+abbrev pub is_code : List ℕ → Bool
+is_code name = begins_with (codes ".text") name
+
+abbrev pub is_variable : List ℕ → Bool
+is_variable name = begins_with (codes ".data") name || begins_with (codes ".sdata") name
+
+abbrev pub is_zeroed : List ℕ → Bool
+is_zeroed name = begins_with (codes ".bss") name || begins_with (codes ".sbss") name
+
+abbrev pub is_constant : List ℕ → Bool
+is_constant name = begins_with (codes ".rodata") name || begins_with (codes ".srodata") name
+
+-- whether a flag's letter is given; where no flags are given, what the name's front says
+abbrev pub has_flag : ℕ → Option (List ℕ) → Bool → Bool
+has_flag letter None by_name = by_name
+has_flag letter (Some letters) by_name = list_any (λ l. l == letter) letters
+
+abbrev pub is_nobits : Option SectionType → Bool → Bool
+is_nobits None by_name = by_name
+is_nobits (Some Nobits) by_name = true
+is_nobits (Some _) by_name = false
+
+-- a section with the flags a (97), x (120) and w (119) and the type that are given, or that its name's front says
+abbrev pub section_of : List ℕ → Option (List ℕ) → Option SectionType → Section
+section_of name flags kind = record {
+  name = name;
+  loaded = has_flag 97 flags (is_code name || is_variable name || is_zeroed name || is_constant name);
+  executable = has_flag 120 flags (is_code name);
+  writable = has_flag 119 flags (is_variable name || is_zeroed name);
+  nobits = is_nobits kind (is_zeroed name);
+}
+
+abbrev pub standard_name : Standard → List ℕ
+standard_name Text = codes ".text"
+standard_name Data = codes ".data"
+standard_name Rodata = codes ".rodata"
+standard_name Bss = codes ".bss"
+
 abbrev pub text_section : Section
 text_section = record { name = codes ".text"; loaded = true; executable = true; writable = false; nobits = false }
 
@@ -36,49 +80,76 @@ pub record Opened : Type 0 where
 abbrev pub at_first : Opened
 at_first = record { sections = text_section ∷ []; current = 0 }
 
--- the sections after a statement; no statement that is built opens one
+abbrev pub entered_at : Opened → Section → Option ℕ → Opened
+entered_at opened section (Some place) = record { sections = opened.sections; current = place }
+entered_at opened section None = record { sections = opened.sections ++ section ∷ []; current = length opened.sections }
+
+-- a name that was opened before keeps its section; a new one is a section behind the others
+abbrev pub entered : Opened → Section → Opened
+entered opened section = entered_at opened section (position (λ s. bytes_eq s.name section.name) opened.sections)
+
+abbrev pub directed : Opened → Directive → Opened
+directed opened (Enters standard) = entered opened (section_of (standard_name standard) None None)
+directed opened (Opens name flags kind) = entered opened (section_of name flags kind)
+directed opened _ = opened
+
+-- the sections after a statement
 abbrev pub after : Opened → Statement → Opened
 after opened (Label name) = opened
 after opened Norvc = opened
 after opened (Globl names) = opened
 after opened (Instruction mnemonic operands) = opened
+after opened (Directs directive) = directed opened directive
 
 abbrev pub current_section : Opened → Section
 current_section opened = slice_index_or opened.sections opened.current text_section
 
--- whether the map has a row for a statement of this kind
+-- the sections of a file
+abbrev pub opened_by : Opened → List Spoken → Opened
+opened_by opened [] = opened
+opened_by opened (s ∷ ss) = opened_by (after opened s.says) ss
+
+-- whether `.set` with this expression defines a place: its symbol is `.` itself
+abbrev pub is_place : Expression → Bool
+is_place Here = true
+is_place _ = false
+
+abbrev pub is_placed_directive : Directive → Bool
+is_placed_directive (Sets name expression) = is_place expression
+is_placed_directive (Aligns_to_power exponent) = true
+is_placed_directive (Aligns_to_bytes bytes) = true
+is_placed_directive (Values width values) = true
+is_placed_directive (Strings ended strings) = true
+is_placed_directive (Zeros count) = true
+is_placed_directive (Numbered number) = true
+is_placed_directive _ = false
+
+-- whether a statement of this kind has a row where its section is loaded
 abbrev pub is_placed : Statement → Bool
 is_placed (Label name) = true
 is_placed Norvc = false
 is_placed (Globl names) = false
 is_placed (Instruction mnemonic operands) = true
+is_placed (Directs directive) = is_placed_directive directive
 
--- the multiple at which a statement asks its section to begin; no statement that is built asks for more than 1
-abbrev pub alignment : Statement → ℕ
-alignment (Label name) = 1
-alignment Norvc = 1
-alignment (Globl names) = 1
-alignment (Instruction mnemonic operands) = 1
-
--- a statement that has a row: its file and its ordinal, from 1, and its section's place in the file, from 0
+-- a statement: its file and its ordinal, from 1, its section and that section's place in the file, from 0
 pub record Stated : Type 0 where
   pub file : ℕ
   pub ordinal : ℕ
   pub section : ℕ
+  pub home : Section
   pub line : ℕ
   pub says : Statement
 
--- the statements that have a row, of a file from an ordinal on
+-- the statements of a file from an ordinal on
 abbrev pub stated_from : ℕ → ℕ → Opened → List Spoken → List Stated
 stated_from file ordinal opened [] = []
 stated_from file ordinal opened (s ∷ ss) =
     let now = after opened s.says in
-    let rest = stated_from file (suc ordinal) now ss in
-    if is_placed s.says && (current_section now).loaded
-    then record { file = file; ordinal = ordinal; section = now.current; line = s.line; says = s.says } ∷ rest
-    else rest
+    record { file = file; ordinal = ordinal; section = now.current; home = current_section now; line = s.line; says = s.says }
+    ∷ stated_from file (suc ordinal) now ss
 
--- the statements that have a row, by file and ordinal; files are numbered from 1
+-- the statements by file and ordinal; files are numbered from 1
 abbrev pub stated_of : ℕ → List (List Spoken) → List Stated
 stated_of file [] = []
 stated_of file (statements ∷ files) = stated_from file 1 at_first statements ++ stated_of (suc file) files
@@ -86,19 +157,6 @@ stated_of file (statements ∷ files) = stated_from file 1 at_first statements +
 abbrev pub stated : List (List Spoken) → List Stated
 stated sources = stated_of 1 sources
 
--- the sections of a file, and the alignment of each: the greatest that one of its statements asks for
-abbrev pub opened_by : Opened → List Spoken → Opened
-opened_by opened [] = opened
-opened_by opened (s ∷ ss) = opened_by (after opened s.says) ss
-
-abbrev pub greatest : ℕ → Opened → List Spoken → ℕ
-greatest section opened [] = 1
-greatest section opened (s ∷ ss) =
-    let now = after opened s.says in
-    let rest = greatest section now ss in
-    if now.current == section then max (alignment s.says) rest else rest
-
--- code stands at even addresses
-abbrev pub section_alignment : ℕ → Section → List Spoken → ℕ
-section_alignment place section statements =
-    max (if goes_to_text section then 2 else 1) (greatest place at_first statements)
+-- whether the map has a row for the statement
+abbrev pub has_row : Stated → Bool
+has_row s = is_placed s.says && s.home.loaded

@@ -83,13 +83,9 @@ fn advance<M: Memory>(state: &mut State, memory: &mut M) -> Result<Option<End>, 
     match fetch(memory, pc) {
         Fetched::NoRight => Ok(Some(End::FetchOutside(pc))),
         Fetched::NoInstruction => Ok(Some(End::Illegal(pc))),
-        Fetched::Word(inst) => {
-            let action = asked(inst, 4, &state.hart);
-            act(action, 4, state, memory)
-        }
-        Fetched::Parcel(inst) => {
-            let action = asked(inst, 2, &state.hart);
-            act(action, 2, state, memory)
+        Fetched::Got(inst, bytes) => {
+            let action = asked(inst, bytes, &state.hart);
+            act(action, bytes, state, memory)
         }
     }
 }

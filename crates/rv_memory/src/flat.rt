@@ -430,4 +430,14 @@ impl Memory for Flat {
         }
         false
     }
+
+    #[inline]
+    fn piece(&self, address: u64) -> &[u8] {
+        self.rest(address)
+    }
+
+    #[inline]
+    fn put_piece(&mut self, address: u64, bytes: &[u8]) -> bool {
+        self.put_within(address, bytes)
+    }
 }

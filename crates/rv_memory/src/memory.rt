@@ -9,11 +9,20 @@ ghost use Rattle.std.specs.Prelude.{
   ◌<◌,
   true,
   false,
+  length,
   IfSome,
   MatchOption,
   MatchBool,
 };
-ghost use Rattle.rv_isa_laws.specs.Memory.{Mem, may, number_at, with_number, Write as ToWrite};
+ghost use Rattle.rv_isa_laws.specs.Memory.{
+  Mem,
+  may,
+  bytes_at,
+  number_at,
+  with_bytes,
+  with_number,
+  Write as ToWrite,
+};
 ghost use Rattle.rv_memory.specs.Rights.{right_of, IsWidth, IsToLoad, MayLoad};
 
 /// What may be done with a byte: the segment flags PF_R, PF_W and PF_X (gABI, program header).
@@ -79,5 +88,22 @@ pub trait Memory {
             self.store(address, bytes, value);
         }
         may
+    }
+
+    /// Bytes from an address on that the memory has in one piece, for reading many at once; it may
+    /// be none of them.
+    #[inline]
+    fn piece(&self, address: u64) -> &[u8]
+        ensures { bytes_at (mem self.now) address (length result.now) ≡ result.now }
+    {
+        &[]
+    }
+
+    /// Puts bytes that lie in one piece of memory at once; where it does not, nothing changes.
+    #[inline]
+    fn put_piece(&mut self, address: u64, bytes: &[u8]) -> bool
+        ensures { MatchBool result (mem self.new ≡ with_bytes (mem self.old) address bytes.now) (mem self.new ≡ mem self.old) }
+    {
+        false
     }
 }

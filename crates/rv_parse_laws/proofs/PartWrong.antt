@@ -4,7 +4,7 @@ use Rattle.std.proofs.Common.{◌≡◌, ℕ, Bool, true, false, cond, List, [],
 use Rattle.rv_text_laws.specs.declared.sign.Sign.TheVariants.{Comma, Colon}
 use Rattle.rv_text_laws.specs.Grammar.{Kind, Newline, Mark, Name as NameToken}
 use Rattle.rv_text_laws.specs.Lexing.{Token, is_last}
-use Rattle.rv_parse_laws.specs.Statement.{Mnemonic, Statement, Label, Norvc, Globl, Instruction}
+use Rattle.rv_parse_laws.specs.Statement.{Mnemonic, Statement, Label, Norvc, Globl, Instruction, Directs}
 use Rattle.rv_parse_laws.specs.Words.{Beginning, Begins_instruction, Begins_globl, Begins_option, Begins_nothing}
 use Rattle.rv_parse_laws.specs.Syntax.{symbol_of, begins, is_comma, is_colon, is_norvc, is_end, Slot, A_register, slots, IsStatement, AreOperands, AreNames, Part, Ends, Says, IsPart}
 use Rattle.rv_parse_laws.specs.Faults.{wrong_after, wrong_option, wrong_start, wrong_label}
@@ -69,6 +69,7 @@ begun_front b rest t us label is end (Says (Globl names), l, (u, more, w, begun,
     subst (λ c. Begun c us) (sym (ap (λ (k : Token). begins k.kind) (heads w) ∙ begun) ∙ is) (names, subst (λ xs. AreNames xs names) (sym (tails w)) are)
 begun_front b rest t us label is end (Says Norvc, l, (u, o, w, begun, norvc)) =
     subst (λ c. Begun c us) (sym (ap (λ (k : Token). begins k.kind) (heads w) ∙ begun) ∙ is) (o, tails w, norvc)
+begun_front b rest t us label is end (Says (Directs directive), l, none) = absurd none
 
 to_begun : (b : Beginning) (rest : List Token) (t : Token) (us : List Token) → begins_label rest ≡ false → begins t.kind ≡ b → Begun b us → PartOf rest (t ∷ us)
 to_begun (Begins_instruction m) rest t us label is (os, are) = (Says (Instruction m os), sym label, (t, us, refl, is, are))
@@ -122,6 +123,7 @@ label_front rest t us label (Says (Label name), l, (u, c, w, is, colon)) = (name
 label_front rest t us label (Says (Instruction m os), l, s) = absurd (cc)
 label_front rest t us label (Says (Globl names), l, s) = absurd (cc)
 label_front rest t us label (Says Norvc, l, s) = absurd (cc)
+label_front rest t us label (Says (Directs directive), l, none) = absurd none
 
 abbrev a_colon : Token
 a_colon = some_token (Mark Colon)

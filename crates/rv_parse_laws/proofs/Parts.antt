@@ -6,7 +6,7 @@ use Rattle.rv_text_laws.specs.declared.sign.Sign.{Sign}
 use Rattle.rv_text_laws.specs.declared.sign.Sign.TheVariants.{Comma, Colon}
 use Rattle.rv_text_laws.specs.Grammar.{Kind, Space, Line_comment, Block_comment, Newline, Mark, Name as NameToken, Number, Reference as ReferenceToken, Bad_word, Text, Character, Bad_byte, Bad_token, End}
 use Rattle.rv_text_laws.specs.Lexing.{Token, is_last}
-use Rattle.rv_parse_laws.specs.Statement.{Mnemonic, Expression, Literal, Minus, Operand, Register, Value, Statement, Label, Norvc, Globl, Instruction}
+use Rattle.rv_parse_laws.specs.Statement.{Mnemonic, Expression, Literal, Minus, Operand, Register, Value, Statement, Label, Norvc, Globl, Instruction, Directs}
 use Rattle.rv_parse_laws.specs.Words.{Beginning, Begins_instruction, Begins_globl, Begins_option, Begins_nothing}
 use Rattle.rv_parse_laws.specs.Syntax.{register_of, symbol_of, literal_of, value_of, begins, is_comma, is_colon, is_minus, is_norvc, is_end, Slot, A_register, A_value, slots, IsOperand, AreFurther, AreOperands, AreFurtherNames, AreNames, IsStatement, Part, Ends, Says, IsPart, EndsHere, StopsPart}
 use Rattle.rv_parse_laws.specs.Faults.{wrong_register, wrong_value, wrong_literal, wrong_after, wrong_symbol, wrong_option, wrong_start, wrong_label}
@@ -129,3 +129,4 @@ part_is (Says (Globl names)) text rest (t, more, w, is, (u, others, name, names'
     (rw (names_is more rest names (u, others, name, names', x, is', are, v) ends) refl))
 part_is (Says Norvc) text rest (t, o, w, is, norvc) (u, us, e, ends) =
     rw (w, e) (begun_is Begins_option t (o ∷ u ∷ us) Norvc (u ∷ us) is (λ h. cc) (norvc_no_colon o.kind norvc) (rw (norvc, ends) refl))
+part_is (Says (Directs directive)) text rest none stops = absurd none

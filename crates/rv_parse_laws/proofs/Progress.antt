@@ -4,7 +4,7 @@ use Rattle.std.proofs.Common.{◌≡◌, ℕ, Bool, true, false, List, [], ◌�
 use Rattle.rv_text_laws.specs.Cut.{Piece, texts, Each, Cuts}
 use Rattle.rv_text_laws.specs.Lexing.{Token, is_last}
 use Rattle.rv_text_laws.specs.Grammar.{Kind, Bad_byte, Bad_token, End}
-use Rattle.rv_parse_laws.specs.Statement.{Statement, Label, Norvc, Globl, Instruction, Spoken}
+use Rattle.rv_parse_laws.specs.Statement.{Statement, Label, Norvc, Globl, Instruction, Directs, Spoken}
 use Rattle.rv_parse_laws.specs.Syntax.{Part, Ends, Says, IsPart, StopsPart, is_end, is_source_end}
 use Rattle.rv_parse_laws.specs.Parsing.{part_at}
 use Rattle.rv_parse_laws.specs.Reading.{AreParts, said, told, SaysUpTo}
@@ -47,6 +47,7 @@ no_text (Label name) (t, c, w, is, colon) = cc
 no_text (Instruction m os) (t, more, w, is, are) = cc
 no_text (Globl names) (t, more, w, is, are) = cc
 no_text Norvc (t, o, w, is, norvc) = cc
+no_text (Directs directive) none = none
 
 -- a statement, with its line
 pub push_statement : (ts : List Token) (t : Token) (before us rest : List Token) (s : Statement) (ss : List Spoken) → SaysUpTo ts before ss → before ≡ t ∷ us

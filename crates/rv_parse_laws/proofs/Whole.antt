@@ -4,7 +4,7 @@ use Rattle.std.proofs.Common.{◌≡◌, ℕ, zero, suc, ◌+◌, ◌-◌, ◌<�
 use Rattle.rv_text_laws.specs.Cut.{Piece, texts, Cuts, NothingReads, cut, Finds}
 use Rattle.rv_text_laws.specs.Lexing.{Token, Lexes}
 use Rattle.rv_text_laws.proofs.Cut.{unique, none_nothing, nothing_none}
-use Rattle.rv_parse_laws.specs.Statement.{Statement, Label, Norvc, Globl, Instruction, Spoken}
+use Rattle.rv_parse_laws.specs.Statement.{Statement, Label, Norvc, Globl, Instruction, Directs, Spoken}
 use Rattle.rv_parse_laws.specs.Syntax.{Slot, Part, Ends, Says, IsPart, StopsPart}
 use Rattle.rv_parse_laws.specs.Parsing.{Wrong, Read, part_at}
 use Rattle.rv_text_laws.proofs.Tokens.{one_list, given}
@@ -27,7 +27,7 @@ counted_some n (Ok (q, rest)) p k e =
     (rest, ap (λ (x : Part × ℕ). Ok (x.0, rest)) pair, sym (ap (λ (x : Part × ℕ). x.1) pair))
 counted_some n (Err w) p k e = absurd (cc)
 
-counted_none : (n : ℕ) (r : Read Part) → counted n r ≡ None → (w : Wrong) × (r ≡ Err w)
+pub counted_none : (n : ℕ) (r : Read Part) → counted n r ≡ None → (w : Wrong) × (r ≡ Err w)
 counted_none n (Ok (q, rest)) e = absurd (cc)
 counted_none n (Err w) e = (w, refl)
 
@@ -37,6 +37,7 @@ part_some (Says (Label name)) text (t, c, w, is, colon) = rw w (omega arith)
 part_some (Says (Instruction m os)) text (t, more, w, is, are) = rw w (omega arith)
 part_some (Says (Globl names)) text (t, more, w, is, are) = rw w (omega arith)
 part_some (Says Norvc) text (t, o, w, is, norvc) = rw w (omega arith)
+part_some (Says (Directs directive)) text none = absurd none
 
 seam : (text rest : List Token) → length (text ++ rest) - length rest ≡ length text
 seam text rest = omega (arith, length-append text rest)

@@ -7,7 +7,7 @@ use Rattle.rv_text_laws.specs.declared.sign.Sign.TheVariants.{Comma, Colon, Semi
 use Rattle.rv_text_laws.specs.Bytes.{value}
 use Rattle.rv_text_laws.specs.Grammar.{Kind, Newline, Mark, Name as NameToken, Number, Reference as ReferenceToken, Character, End}
 use Rattle.rv_text_laws.specs.Lexing.{Token}
-use Rattle.rv_parse_laws.specs.Statement.{Mnemonic, Addi, Ecall, Li, Expression, Literal, Name, Reference, Minus, Operand, Register, Value, Statement, Label, Norvc, Globl, Instruction}
+use Rattle.rv_parse_laws.specs.Statement.{Mnemonic, Addi, Ecall, Li, Expression, Literal, Name, Reference, Minus, Operand, Register, Value, Statement, Label, Norvc, Globl, Instruction, Directs}
 use Rattle.rv_parse_laws.specs.Words.{register, Beginning, Begins_instruction, Begins_globl, Begins_option, Begins_nothing, beginning}
 
 -- the longest name, in bytes
@@ -129,6 +129,8 @@ IsStatement ts (Globl names) =
     (t : Token) × (rest : List Token) × (ts ≡ t ∷ rest) × (begins t.kind ≡ Begins_globl) × AreNames rest names
 IsStatement ts Norvc =
     (t o : Token) × (ts ≡ t ∷ o ∷ []) × (begins t.kind ≡ Begins_option) × (is_norvc o.kind ≡ true)
+-- the directives have no spelling yet
+IsStatement ts (Directs directive) = ⊥
 
 -- a part of a source: a statement, or the end of one or of nothing
 pub data Part : Type 0 where

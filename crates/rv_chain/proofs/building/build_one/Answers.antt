@@ -6,7 +6,7 @@ use Rattle.rv_image.specs.FirstFault.{first_fault}
 use Rattle.rv_image.proofs.LoadedAgain.{laid_out, reload_image, reload_fault}
 use Rattle.rv_parse_laws.specs.Reading.{Reads}
 use Rattle.rv_parse.specs.View.{said_by}
-use Rattle.rv_chain_laws.proofs.Assembled.{assembled_fits, assembled_resolves, assembled_agrees}
+use Rattle.rv_chain_laws.proofs.Contents.{linked_agrees}
 use Rattle.rv_chain.proofs.building.build_one.Goals as goal
 
 pub returns : goal.returns
@@ -22,10 +22,10 @@ returns c =
       read = (subst (λ items. Reads c.args.source.now (map said_by items)) (sym c.as_slice.ensures.value) c.in_ok-statements.ensures, tt);
       map = l.map;
       shown = c.in_ok-map.ensures;
-      fits = assembled_fits c.args.start ss l.map program.assembled;
-      resolves = assembled_resolves c.args.start ss l.map program.assembled;
+      fits = program.fits;
+      resolves = program.resolves;
       image = linked_image l;
       loads = subst (λ file. ImageOf file (linked_image l)) (sym c.in_ok-exe.ensures) (reload_image l laid);
       accepted = ap first_fault c.in_ok-exe.ensures ∙ reload_fault l laid;
-      agree = assembled_agrees c.args.start ss l program small linked.even;
+      agree = linked_agrees c.args.start ss l program small linked.even;
     }

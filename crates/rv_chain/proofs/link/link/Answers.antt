@@ -6,6 +6,7 @@ use Rattle.rv_parse.specs.View.{said_by}
 use Rattle.rv_chain_laws.specs.Resolves.{is_one_of, names_of, symbol}
 use Rattle.rv_chain_laws.specs.Assembled.{code, size_all, made_globals, entry_in, globals_from}
 use Rattle.rv_chain_laws.specs.Fits.{aligned}
+use Rattle.rv_chain_laws.proofs.AssembledLinked.{assembled_linked}
 use Rattle.rv_chain.proofs.Program.{size_fits, program_of}
 use Rattle.rv_chain.proofs.link.link.Goals as goal
 
@@ -39,7 +40,8 @@ returns c =
     c.in_ok-more.ensures ∙ ap (λ l. filter (λ g. not (is_one_of (names_of (map global_of l)) g.name)) (symbol (codes "_etext") (a + size) ∷ symbol (codes "__bss_start") c.next_page-variables.result ∷ symbol (codes "_edata") c.next_page-variables.result ∷ symbol (codes "_end") c.next_page-variables.result ∷ symbol (codes "__global_pointer$") (c.next_page-variables.result + 0x800) ∷ [])) c.as_slice-2.ensures.value in
     let joined : map global_of c.append.new.self.items ≡ defs ++ map global_of c.in_ok-more.more.items =
     ap (λ l. map global_of l) c.in_ok-append.ensures.items ∙ map-append global_of c.in_ok-globals.globals.items c.in_ok-more.more.items in
-    program_of a ss size c.in-Some.entry (a + size) c.next_page-variables.result defs (map global_of c.append.new.self.items) c.in_ok-rows.rows.items _
+    assembled_linked a ss _
+    (program_of a ss size c.in-Some.entry (a + size) c.next_page-variables.result defs (map global_of c.append.new.self.items) c.in_ok-rows.rows.items _
     c.in_ok-text.ensures.0 c.new.ensures.items c.new-2.ensures.items c.text_map_of-map.ensures
     c.in_ok-text.ensures.1 c.in_ok-distinct.ensures c.requires.page c.requires.low same fits
-    c.in_ok-rows.ensures defs_are entry_is refl variables_is (joined ∙ ap (λ l. defs ++ l) more)
+    c.in_ok-rows.ensures defs_are entry_is refl variables_is (joined ∙ ap (λ l. defs ++ l) more))

@@ -1,0 +1,554 @@
+-- The memory of a linked program's image realizes its source: any number of sections, code and data.
+
+use Rattle.std.proofs.Common.{◌≡◌, ℕ, zero, suc, ◌+◌, ◌-◌, ◌*◌, ◌^◌, ◌%◌, ◌<◌, ◌≤◌, Bool, true, false, List, [], ◌∷◌, ◌++◌, length, refl, sym, ap, ◌∙◌, subst, arith, map, Option, Some, None, append-nil, length-append, ◌⊎◌, inl, inr}
+use Rattle.std.proofs.lemmas.Bool.Decides.{nat_tests}
+use Rattle.std.proofs.lemmas.Bool.{cases_Bool, cases_lt, and_parts, ltb-true, leb-true, eqb-true}
+use Rattle.std.proofs.lemmas.List.{length-replicate, get_or-replicate}
+use Rattle.std.proofs.Math.ListN.{get_or-eq_default}
+use Rattle.std.specs.Prelude.{◌&&◌, ◌||◌, ◌==◌, not, nat_le, nat_lt, if◌then◌else◌, flat_map, replicate, slice_index, IsTrue, max}
+use Rattle.std.specs.List.{AllByRecursion, find, list_any}
+use Rattle.std.specs.Int.{w32, to_le_bytes}
+use Rattle.rv_isa.specs.declared.instruction.Inst.{Inst}
+use Rattle.rv_isa.specs.Ranges.{IsValid}
+use Rattle.rv_isa_laws.specs.Memory.{Mem, Right, Read, Write, Execute}
+use Rattle.rv_encode.specs.Word.{form, word, Spells}
+use Rattle.rv_machine_laws.specs.Reader.{Reader}
+use Rattle.rv_machine_laws.specs.Run.{fetch, Got}
+use Rattle.rv_parse_laws.specs.Statement.{Statement, Label, Norvc, Globl, Instruction, Directs, Spoken, Directive, Enters, Opens, Local, Sets, Aligns_to_power, Aligns_to_bytes, Values, Strings, Zeros, Chooses, Ignored, Numbered}
+use Rattle.rv_map.specs.Map.{Map}
+use Rattle.rv_map.specs.declared.map.Row.{Row}
+use Rattle.rv_image.specs.Linked.{Linked}
+use Rattle.rv_image.specs.Executable.{linked_image}
+use Rattle.rv_image.specs.Segment.{stack_start, stack_end}
+use Rattle.rv_image.specs.Memory.{mem_of}
+use Rattle.rv_chain_laws.specs.Sections.{Section, goes_to_text, goes_to_rodata, goes_to_data, goes_to_bss, opened_by, at_first, stated_from}
+use Rattle.rv_chain_laws.specs.Sites.{Site, Program, program, entries_of, sites_of, has_values}
+use Rattle.rv_chain_laws.specs.Meaning.{Line, Lie, AreLines, expansion}
+use Rattle.rv_chain_laws.specs.Fits.{Fits, IsRowOf, IsPaddingIn, SizeFits, StatementFits, Block, block_of, sites_in, blocks, blocks_of_file, greatest, greatest_alignment, Holds, Stand, end_of, aligned}
+use Rattle.rv_chain_laws.specs.Start.{is_within, is_in, right_at, first_byte, byte_of, spelled}
+use Rattle.rv_chain_laws.specs.SourceRun.{Place, Starts, Gap, Outside, starts_or_inside, place, found}
+use Rattle.rv_chain_laws.specs.Realizes.{StandsIn, HoldsLines, Realizes}
+use Rattle.rv_chain_laws.specs.Contents.{words, code_bytes, contents, zeros, HasWord, IsWritten, IsLinked}
+use Rattle.rv_chain_laws.specs.Headline.{RunsAgree}
+use Rattle.rv_chain_laws.proofs.AssembledCode.{HasBytes, bytes_behind, fetch-word, may_all, Runs}
+use Rattle.rv_chain_laws.proofs.Simulation.{find_holds, agreement_of_image}
+use Rattle.rv_chain_laws.proofs.Regions.{Sized, LiesIn, Misses, AllIn, IsAligned, byte_at, byte_zero, above, end_above, lie_blocks, held_blocks, zero_blocks, length_blocks}
+use Rattle.rv_chain_laws.proofs.Homes.{IsAtHome, homes, all_map, all_both, to_blocks, from_blocks}
+use Rattle.rv_chain_laws.proofs.LaidOut.{AreRegions, apart, rights-are, text_held, rodata_held, data_held, bss_held, stack_zero}
+
+-- ---- the instructions of a statement
+
+lines_from : ℕ → List Inst → List Line
+lines_from a [] = []
+lines_from a (i ∷ is) = record { address = a; bytes = 4; instruction = i } ∷ lines_from (a + 4) is
+
+abbrev instructions_of : List Line → List Inst
+instructions_of ls = map (λ (l : Line). l.instruction) ls
+
+lines_are : (a : ℕ) (is : List Inst) → instructions_of (lines_from a is) ≡ is
+unfolding lines_from
+lines_are a [] = refl
+lines_are a (i ∷ is) = ap (λ js. i ∷ js) (lines_are (a + 4) is)
+
+lines_lie : (a stop : ℕ) (is : List Inst) → a + 4 * length is ≡ stop → Lie a (lines_from a is) stop
+unfolding lines_from
+lines_lie a stop [] e = omega arith
+lines_lie a stop (i ∷ is) e = (refl, lines_lie (a + 4) stop is (omega arith))
+
+words_length : (is : List Inst) → length (words (Some is)) ≡ 4 * length is
+words_length [] = refl
+words_length (i ∷ is) = length-append (to_le_bytes w32 (word (form i))) (words (Some is)) ∙ (let e = words_length is in let g : 4 + length (words (Some is)) ≡ 4 * suc (length is) = omega arith in g)
+
+module _ {StandsFor : ℕ → Inst → Type 0} (reader : Reader Spells StandsFor) (m : Mem) (stop : ℕ) (room : stop < 2 ^ 64) where
+  lines_stand : (a : ℕ) (is : List Inst) → AllByRecursion HasWord is → HasBytes m a (words (Some is)) → Runs m a stop → a + 4 * length is ≤ stop → AllByRecursion (StandsIn reader m) (lines_from a is)
+  unfolding lines_from
+  lines_stand a [] ws h runs fits = tt
+  lines_stand a (i ∷ is) ((valid, below, wide), ws) h runs fits =
+      let got : fetch reader m a ≡ Got i 4 = fetch-word reader m a i (word (form i)) (words (Some is)) refl below wide valid (omega arith) (may_all m 4 a (λ x l u. runs x l (omega arith)) (omega arith)) h in
+      ((got, valid), lines_stand (a + 4) is ws (bytes_behind m a (to_le_bytes w32 (word (form i))) (words (Some is)) h) (λ x l u. runs x (omega arith) u) (omega arith))
+
+  holds_written : (p : Program) (s : Site) → IsWritten p s → HasBytes m s.row.address (code_bytes p s) → Runs m s.row.address stop → s.row.address + s.row.bytes ≤ stop → IsRowOf (expansion p s) s.row → HoldsLines reader m p s
+  holds_written p s (is, e, ws, size) h runs fits row =
+      let a = s.row.address in record {
+        lines = lines_from a is;
+        are_lines = (e ∙ ap Some (sym (lines_are a is)), lines_lie a (a + s.row.bytes) is (ap (λ n. a + n) (sym size)));
+        stand = lines_stand a is ws (subst (λ o. HasBytes m a (words o)) e h) runs (subst (λ n. a + n ≤ stop) size fits);
+        below = omega arith;
+        size = row;
+      }
+
+-- ---- what the sizes of rows say
+
+true_false : {A : Type 0} (b : Bool) → b ≡ true → b ≡ false → A
+true_false true e f = absurd (cc)
+true_false false e f = absurd (cc)
+
+no_bytes : (b : Bool) (r : Row) → IsRowOf (if b then Some [] else None) r → 0 ≡ r.bytes
+no_bytes true r (n, lo, hi, even) = let e : r.instructions ≡ 0 = n in omega arith
+no_bytes false r h = absurd h
+
+not_true : (b : Bool) → IsTrue (not b) → b ≡ false
+not_true true e = absurd (cc)
+not_true false e = refl
+
+zero_index : (k n : ℕ) → slice_index (zeros k) n ≡ 0
+zero_index k n = elim (cases_lt n k) [
+  | inl inside ↦ get_or-replicate {A = ℕ} k n 0 0 inside
+  | inr past ↦ get_or-eq_default (zeros k) 0 {n = n} (subst (λ x. x ≤ n) (sym (length-replicate {A = ℕ} k 0)) past)
+]
+
+padding_code : (b : Bool) (p : Program) (s : Site) (n : ℕ) → b ≡ true → IsPaddingIn b p s n → IsRowOf (expansion p s) s.row
+padding_code true p s n e h = h.0
+padding_code false p s n e h = absurd (cc)
+
+module _ (p : Program) (file ordinal section line : ℕ) (home : Section) (row : Row) where
+  abbrev at : Statement → Site
+  at says = record { stated = record { file = file; ordinal = ordinal; section = section; home = home; line = line; says = says }; row = row }
+
+  -- a row outside of executable sections has the bytes that its statement spells
+  directive_data : (d : Directive) → SizeFits p (at (Directs d)) → home.executable ≡ false → Sized (spelled p) (at (Directs d))
+  directive_data (Sets name expression) fits e = no_bytes (has_values p (at (Directs (Sets name expression)))) row fits
+  directive_data (Numbered number) fits e = no_bytes true row fits
+  directive_data (Values width values) fits e = sym fits.1.2
+  directive_data (Strings ended strings) fits e = sym fits.1.2
+  directive_data (Zeros count) fits e = sym fits.2
+  directive_data (Aligns_to_power exponent) fits e = length-replicate {A = ℕ} row.bytes 0
+  directive_data (Aligns_to_bytes bytes) fits e = length-replicate {A = ℕ} row.bytes 0
+  directive_data _ fits e = absurd fits
+
+  statement_data : (says : Statement) → SizeFits p (at says) → home.executable ≡ false → Sized (spelled p) (at says)
+  statement_data (Label name) fits e = no_bytes true row fits
+  statement_data Norvc fits e = absurd fits
+  statement_data (Globl names) fits e = absurd fits
+  statement_data (Instruction mnemonic operands) fits e = true_false home.executable fits.0 e
+  statement_data (Directs directive) fits e = directive_data directive fits e
+
+  -- a row in an executable section has its statement's instructions
+  directive_code : (d : Directive) → SizeFits p (at (Directs d)) → home.executable ≡ true → IsRowOf (expansion p (at (Directs d))) row
+  directive_code (Sets name expression) fits e = fits
+  directive_code (Numbered number) fits e = fits
+  directive_code (Values width values) fits e = true_false home.executable e (not_true home.executable fits.1.0)
+  directive_code (Strings ended strings) fits e = true_false home.executable e (not_true home.executable fits.1.0)
+  directive_code (Zeros count) fits e = true_false home.executable e (not_true home.executable fits.0)
+  directive_code (Aligns_to_power exponent) fits e = padding_code home.executable p (at (Directs (Aligns_to_power exponent))) _ e fits
+  directive_code (Aligns_to_bytes bytes) fits e = padding_code home.executable p (at (Directs (Aligns_to_bytes bytes))) _ e fits
+  directive_code _ fits e = absurd fits
+
+  statement_code : (says : Statement) → SizeFits p (at says) → home.executable ≡ true → IsRowOf (expansion p (at says)) row
+  statement_code (Label name) fits e = fits
+  statement_code Norvc fits e = absurd fits
+  statement_code (Globl names) fits e = absurd fits
+  statement_code (Instruction mnemonic operands) fits e = fits.1
+  statement_code (Directs directive) fits e = directive_code directive fits e
+
+  -- a row without bytes in the file has zeros
+  directive_zeros : (d : Directive) → SizeFits p (at (Directs d)) → home.nobits ≡ true → (n : ℕ) → slice_index (spelled p (at (Directs d))) n ≡ 0
+  directive_zeros (Values width values) fits e n = true_false home.nobits e (not_true home.nobits fits.0)
+  directive_zeros (Strings ended strings) fits e n = true_false home.nobits e (not_true home.nobits fits.0)
+  directive_zeros (Zeros count) fits e n = zero_index _ n
+  directive_zeros (Aligns_to_power exponent) fits e n = zero_index row.bytes n
+  directive_zeros (Aligns_to_bytes bytes) fits e n = zero_index row.bytes n
+  directive_zeros _ fits e n = refl
+
+  statement_zeros : (says : Statement) → SizeFits p (at says) → home.nobits ≡ true → (n : ℕ) → slice_index (spelled p (at says)) n ≡ 0
+  statement_zeros (Label name) fits e n = refl
+  statement_zeros Norvc fits e n = refl
+  statement_zeros (Globl names) fits e n = refl
+  statement_zeros (Instruction mnemonic operands) fits e n = refl
+  statement_zeros (Directs directive) fits e n = directive_zeros directive fits e n
+
+-- ---- the region of a section
+
+all_goes : (l x n w : Bool) → l ≡ true → ((l && x) ≡ true) ⊎ (((l && not x && not n && not w) ≡ true) ⊎ (((l && not x && not n && w) ≡ true) ⊎ ((l && not x && n) ≡ true)))
+all_goes true true n w e = inl refl
+all_goes true false false false e = inr (inl refl)
+all_goes true false false true e = inr (inr (inl refl))
+all_goes true false true w e = inr (inr (inr refl))
+all_goes false x n w e = absurd (cc)
+
+no_code : (l x b : Bool) → (l && not x && b) ≡ true → x ≡ false
+no_code true false b e = refl
+no_code true true b e = absurd (cc)
+no_code false x b e = absurd (cc)
+
+no_code_more : (l x n b : Bool) → (l && not x && not n && b) ≡ true → x ≡ false
+no_code_more true false n b e = refl
+no_code_more true true n b e = absurd (cc)
+no_code_more false x n b e = absurd (cc)
+
+no_stored : (l x n : Bool) → (l && not x && n) ≡ true → n ≡ true
+no_stored true false n e = e
+no_stored true true n e = absurd (cc)
+no_stored false x n e = absurd (cc)
+
+one_or_more : (b : Bool) (g : ℕ) → 1 ≤ max (if b then 2 else 1) g
+one_or_more true g = omega arith
+one_or_more false g = omega arith
+
+aligned_from : (goes : Section → Bool) (p : Program) (index : ℕ) (sections : List Section) → AllByRecursion IsAligned (blocks_of_file goes p 1 index sections)
+aligned_from goes p index [] = tt
+aligned_from goes p index (section ∷ sections) = go (goes section) (aligned_from goes p (suc index) sections)
+  where
+    go : (b : Bool) → AllByRecursion IsAligned (blocks_of_file goes p 1 (suc index) sections)
+        → AllByRecursion IsAligned (if b then block_of p section (sites_in p.sites 1 index) ∷ blocks_of_file goes p 1 (suc index) sections else blocks_of_file goes p 1 (suc index) sections)
+    go true rest = (one_or_more (goes_to_text section) (greatest p (sites_in p.sites 1 index)), rest)
+    go false rest = rest
+
+some_alignment : (bs : List Block) → 1 ≤ greatest_alignment bs
+some_alignment [] = omega arith
+some_alignment (b ∷ bs) = let e = some_alignment bs in omega arith
+
+-- ---- tests of places
+
+starts_at : (t g : Bool) (o : Option Site) (s : Site) → (if t then (if g then Gap else starts_or_inside o) else Outside) ≡ Starts s → (t ≡ true) × (o ≡ Some s)
+starts_at true true o s e = absurd (cc)
+starts_at true false (Some k) s e = (refl, cc)
+starts_at true false None s e = absurd (cc)
+starts_at false g o s e = absurd (cc)
+
+no_gap : (t : Bool) (o : Option Site) → (if t then starts_or_inside o else Outside) ≡ Gap → ⊥
+no_gap true (Some r) e = cc
+no_gap true None e = cc
+no_gap false o e = cc
+
+all_found : {X : Type 0} (P : X → Type 0) (test : X → Bool) (xs : List X) (x : X) → find test xs ≡ Some x → AllByRecursion P xs → P x
+all_found P test [] x e ps = absurd (cc)
+all_found P test (y ∷ ys) x e (p, ps) = go (test y) refl (λ f. all_found P test ys x f ps)
+  where
+    go : (b : Bool) → test y ≡ b → (find test ys ≡ Some x → P x) → P x
+    go true t ih =
+        let f : Some y ≡ Some x = subst (λ b. (if b then Some y else find test ys) ≡ Some x) t e in
+        let same : y ≡ x = cc in
+        subst P same p
+    go false t ih = ih (subst (λ b. (if b then Some y else find test ys) ≡ Some x) t e)
+
+none_found : {X : Type 0} (test : X → Bool) (xs : List X) → find test xs ≡ None → AllByRecursion (λ x. test x ≡ false) xs
+none_found test [] e = tt
+none_found test (y ∷ ys) e = go (test y) refl (none_found test ys)
+  where
+    go : (b : Bool) → test y ≡ b → (find test ys ≡ None → AllByRecursion (λ x. test x ≡ false) ys) → (test y ≡ false) × AllByRecursion (λ x. test x ≡ false) ys
+    go true t ih =
+        let f : Some y ≡ None = subst (λ b. (if b then Some y else find test ys) ≡ None) t e in
+        absurd (cc)
+    go false t ih = (t, ih (subst (λ b. (if b then Some y else find test ys) ≡ None) t e))
+
+all_pair : {X : Type 0} (P Q : X → Type 0) (xs : List X) → AllByRecursion P xs → AllByRecursion Q xs → AllByRecursion (λ x. P x × Q x) xs
+all_pair P Q [] h k = tt
+all_pair P Q (x ∷ xs) (p, ps) (q, qs) = ((p, q), all_pair P Q xs ps qs)
+
+or_cases : (a b c : Bool) → (a || b || c) ≡ true → (a ≡ true) ⊎ ((b ≡ true) ⊎ (c ≡ true))
+or_cases true b c e = inl refl
+or_cases false true c e = inr (inl refl)
+or_cases false false true e = inr (inr refl)
+or_cases false false false e = absurd (cc)
+
+or_left : (a b c : Bool) → a ≡ true → (a || b || c) ≡ true
+or_left true b c e = refl
+or_left false b c e = absurd (cc)
+
+within_parts : (a b x : ℕ) → is_within a b x ≡ true → (a ≤ x) × (x < b)
+within_parts a b x e =
+    let parts = and_parts (nat_le a x) (nat_lt x b) e in
+    (leb-true a x parts.0, ltb-true x b parts.1)
+
+-- no address lies both before an end and from there on
+past : {A : Type 0} (a b c x : ℕ) → is_within a b x ≡ true → b ≤ c → c ≤ x → A
+past a b c x inside le high = let parts = within_parts a b x inside in absurd (omega arith)
+
+-- ---- a linked program of one source
+
+module _ {StandsFor : ℕ → Inst → Type 0} (reader : Reader Spells StandsFor) (ss : List Spoken) (a : ℕ) (l : Linked) (h : IsLinked (ss ∷ []) a l) where
+  abbrev p : Program
+  p = program (ss ∷ []) l.map
+
+  abbrev m : Mem
+  m = mem_of (linked_image l)
+
+  abbrev map_of : Map
+  map_of = l.map
+
+  abbrev sections : List Section
+  sections = (opened_by at_first ss).sections
+
+  abbrev region : (Section → Bool) → List Block
+  region goes = blocks_of_file goes p 1 0 sections
+
+  region-is : (goes : Section → Bool) → blocks goes (ss ∷ []) map_of ≡ region goes
+  region-is goes = append-nil (region goes)
+
+  at_home : AllByRecursion (IsAtHome sections) p.sites
+  at_home = subst (λ ts. AllByRecursion (IsAtHome sections) (sites_of (entries_of ts map_of.rows))) (sym (append-nil (stated_from 1 1 at_first ss))) (homes 1 ss map_of.rows)
+
+  is_aligned : (goes : Section → Bool) → AllByRecursion IsAligned (region goes)
+  is_aligned goes = aligned_from goes p 0 sections
+
+  data_sized : (goes : Section → Bool) → ((s : Section) → goes s ≡ true → s.executable ≡ false) → AllIn (Sized (spelled p)) (region goes)
+  data_sized goes none = to_blocks p sections goes (Sized (spelled p)) at_home
+      (all_map (SizeFits p) (λ s. goes s.stated.home ≡ true → Sized (spelled p) s) p.sites
+      (λ s fits good. statement_data p s.stated.file s.stated.ordinal s.stated.section s.stated.line s.stated.home s.row s.stated.says fits (none s.stated.home good)) h.fits.sizes)
+
+  not_rodata : (s : Section) → goes_to_rodata s ≡ true → s.executable ≡ false
+  not_rodata s e = no_code_more s.loaded s.executable s.nobits (not s.writable) e
+
+  not_data : (s : Section) → goes_to_data s ≡ true → s.executable ≡ false
+  not_data s e = no_code_more s.loaded s.executable s.nobits s.writable e
+
+  written_sized : (s : Site) → IsWritten p s → Sized (code_bytes p) s
+  written_sized s (is, e, ws, size) = ap (λ o. length (words o)) e ∙ words_length is ∙ sym size
+
+  code_sized : AllIn (Sized (code_bytes p)) (region goes_to_text)
+  code_sized = to_blocks p sections goes_to_text (Sized (code_bytes p)) at_home
+      (all_map (λ s. IsTrue s.stated.home.executable → IsWritten p s) (λ s. goes_to_text s.stated.home ≡ true → Sized (code_bytes p) s) p.sites
+      (λ s w good. written_sized s (w (and_parts s.stated.home.loaded s.stated.home.executable good).1)) h.written)
+
+  -- each region holds its sections from its start on
+  text_holds : Holds map_of.text a (region goes_to_text)
+  text_holds = subst (Holds map_of.text a) (region-is goes_to_text) h.fits.text
+
+  rodata_holds : Holds map_of.rodata (aligned 4096 map_of.text.end) (region goes_to_rodata)
+  rodata_holds = subst (Holds map_of.rodata (aligned 4096 map_of.text.end)) (region-is goes_to_rodata) h.fits.rodata
+
+  data_holds : Holds map_of.data (aligned 4096 map_of.rodata.end) (region goes_to_data)
+  data_holds = subst (Holds map_of.data (aligned 4096 map_of.rodata.end)) (region-is goes_to_data) h.fits.data
+
+  bss_holds : Holds map_of.bss (aligned (greatest_alignment (region goes_to_bss)) map_of.data.end) (region goes_to_bss)
+  bss_holds = subst (λ bs. Holds map_of.bss (aligned (greatest_alignment bs) map_of.data.end) bs) (region-is goes_to_bss) h.fits.bss
+
+  text_is : l.text ≡ contents (code_bytes p) map_of.text.start (region goes_to_text)
+  text_is = h.text ∙ ap (contents (code_bytes p) map_of.text.start) (region-is goes_to_text)
+
+  rodata_is : l.rodata ≡ contents (spelled p) map_of.rodata.start (region goes_to_rodata)
+  rodata_is = h.rodata ∙ ap (contents (spelled p) map_of.rodata.start) (region-is goes_to_rodata)
+
+  data_is : l.data ≡ contents (spelled p) map_of.data.start (region goes_to_data)
+  data_is = h.data ∙ ap (contents (spelled p) map_of.data.start) (region-is goes_to_data)
+
+  filled : (start place stop : ℕ) (bytes : Site → List ℕ) (bs : List Block) (stored : List ℕ) → start ≡ place → stop ≡ end_of place bs → stored ≡ contents bytes start bs → AllIn (Sized bytes) bs → AllByRecursion IsAligned bs → start + length stored ≡ stop
+  filled start place stop bytes bs stored at ends is sized up =
+      ap (λ x. start + length x) is ∙ length_blocks bytes bs start sized up ∙ ap (λ x. end_of x bs) at ∙ sym ends
+
+  pub are_regions : AreRegions l
+  are_regions = record {
+    text = filled map_of.text.start a map_of.text.end (code_bytes p) (region goes_to_text) l.text text_holds.0 text_holds.2 text_is code_sized (is_aligned goes_to_text);
+    rodata = filled map_of.rodata.start (aligned 4096 map_of.text.end) map_of.rodata.end (spelled p) (region goes_to_rodata) l.rodata rodata_holds.0 rodata_holds.2 rodata_is (data_sized goes_to_rodata not_rodata) (is_aligned goes_to_rodata);
+    «data» = filled map_of.data.start (aligned 4096 map_of.rodata.end) map_of.data.end (spelled p) (region goes_to_data) l.data data_holds.0 data_holds.2 data_is (data_sized goes_to_data not_data) (is_aligned goes_to_data);
+    rodata_after = subst (λ x. map_of.text.end ≤ x) (sym rodata_holds.0) (above 4096 map_of.text.end (omega arith));
+    data_after = subst (λ x. map_of.rodata.end ≤ x) (sym data_holds.0) (above 4096 map_of.rodata.end (omega arith));
+    bss_after = subst (λ x. map_of.data.end ≤ x) (sym bss_holds.0) (above (greatest_alignment (region goes_to_bss)) map_of.data.end (some_alignment (region goes_to_bss)));
+    bss_ends = subst (λ x. map_of.bss.start ≤ x) (sym bss_holds.2) (subst (λ x. x ≤ end_of (aligned (greatest_alignment (region goes_to_bss)) map_of.data.end) (region goes_to_bss)) (sym bss_holds.0) (end_above (region goes_to_bss) (aligned (greatest_alignment (region goes_to_bss)) map_of.data.end) (is_aligned goes_to_bss)));
+    below = h.below;
+  }
+
+  -- where the statements of each region stand, and that memory holds their bytes
+  abbrev In : (Section → Bool) → (Site → Type 0) → Site → Type 0
+  In goes P s = goes s.stated.home ≡ true → P s
+
+  same_end : (n k : ℕ) → n ≡ k → k ≤ n
+  same_end n k e = omega arith
+
+  lies : (goes : Section → Bool) (start place stop : ℕ) → start ≡ place → Stand place (region goes) → stop ≡ end_of place (region goes) → AllByRecursion (In goes (LiesIn start stop)) p.sites
+  lies goes start place stop at stand ends =
+      from_blocks p sections goes (LiesIn start stop) at_home
+      (lie_blocks (region goes) place start stop (is_aligned goes) stand (same_end place start (sym at)) (same_end stop (end_of place (region goes)) ends))
+
+  held : (goes : Section → Bool) (bytes : Site → List ℕ) (start place : ℕ) (stored : List ℕ) → start ≡ place → Stand place (region goes) → stored ≡ contents bytes start (region goes) → AllIn (Sized bytes) (region goes) → HasBytes m start stored
+      → AllByRecursion (In goes (λ s. HasBytes m s.row.address (bytes s))) p.sites
+  held goes bytes start place stored at stand is sized has =
+      from_blocks p sections goes (λ s. HasBytes m s.row.address (bytes s)) at_home
+      (held_blocks bytes m (region goes) start sized (is_aligned goes) (subst (λ x. Stand x (region goes)) (sym at) stand) (subst (HasBytes m start) is has))
+
+  abbrev Whole : Site → Type 0
+  Whole s =
+      IsAtHome sections s × (SizeFits p s × ((IsTrue s.stated.home.executable → IsWritten p s)
+      × (In goes_to_text (LiesIn map_of.text.start map_of.text.end) s × (In goes_to_text (λ s. HasBytes m s.row.address (code_bytes p s)) s
+      × (In goes_to_rodata (LiesIn map_of.rodata.start map_of.rodata.end) s × (In goes_to_rodata (λ s. HasBytes m s.row.address (spelled p s)) s
+      × (In goes_to_data (LiesIn map_of.data.start map_of.data.end) s × (In goes_to_data (λ s. HasBytes m s.row.address (spelled p s)) s
+      × In goes_to_bss (LiesIn map_of.bss.start map_of.bss.end) s))))))))
+
+  whole : AllByRecursion Whole p.sites
+  whole =
+      all_pair (IsAtHome sections) _ p.sites at_home
+      (all_pair (SizeFits p) _ p.sites h.fits.sizes
+      (all_pair (λ s. IsTrue s.stated.home.executable → IsWritten p s) _ p.sites h.written
+      (all_pair (In goes_to_text (LiesIn map_of.text.start map_of.text.end)) _ p.sites (lies goes_to_text map_of.text.start a map_of.text.end text_holds.0 text_holds.1 text_holds.2)
+      (all_pair (In goes_to_text (λ s. HasBytes m s.row.address (code_bytes p s))) _ p.sites (held goes_to_text (code_bytes p) map_of.text.start a l.text text_holds.0 text_holds.1 text_is code_sized (text_held l are_regions))
+      (all_pair (In goes_to_rodata (LiesIn map_of.rodata.start map_of.rodata.end)) _ p.sites (lies goes_to_rodata map_of.rodata.start (aligned 4096 map_of.text.end) map_of.rodata.end rodata_holds.0 rodata_holds.1 rodata_holds.2)
+      (all_pair (In goes_to_rodata (λ s. HasBytes m s.row.address (spelled p s))) _ p.sites (held goes_to_rodata (spelled p) map_of.rodata.start (aligned 4096 map_of.text.end) l.rodata rodata_holds.0 rodata_holds.1 rodata_is (data_sized goes_to_rodata not_rodata) (rodata_held l are_regions))
+      (all_pair (In goes_to_data (LiesIn map_of.data.start map_of.data.end)) _ p.sites (lies goes_to_data map_of.data.start (aligned 4096 map_of.rodata.end) map_of.data.end data_holds.0 data_holds.1 data_holds.2)
+      (all_pair (In goes_to_data (λ s. HasBytes m s.row.address (spelled p s))) (In goes_to_bss (LiesIn map_of.bss.start map_of.bss.end)) p.sites (held goes_to_data (spelled p) map_of.data.start (aligned 4096 map_of.rodata.end) l.data data_holds.0 data_holds.1 data_is (data_sized goes_to_data not_data) (data_held l are_regions))
+      (lies goes_to_bss map_of.bss.start (aligned (greatest_alignment (region goes_to_bss)) map_of.data.end) map_of.bss.end bss_holds.0 bss_holds.1 bss_holds.2)))))))))
+
+  -- the ends of the regions in their order
+  text_room : map_of.text.end ≤ 0x3ff0_0000
+  text_room =
+      let r = are_regions in
+      let e1 = r.rodata_after in
+      let e2 = r.rodata in
+      let e3 = r.data_after in
+      let e4 = r.data in
+      let e5 = r.bss_after in
+      let e6 = r.bss_ends in
+      let e7 = r.below in
+      omega arith
+
+  rodata_past : map_of.text.end ≤ map_of.rodata.start
+  rodata_past = are_regions.rodata_after
+
+  data_past : map_of.text.end ≤ map_of.data.start
+  data_past =
+      let r = are_regions in
+      let e1 = r.rodata_after in
+      let e2 = r.rodata in
+      let e3 = r.data_after in
+      omega arith
+
+  bss_past : map_of.text.end ≤ map_of.bss.start
+  bss_past =
+      let r = are_regions in
+      let e1 = data_past in
+      let e2 = r.data in
+      let e3 = r.bss_after in
+      omega arith
+
+  text_runs : (x : ℕ) → map_of.text.start ≤ x → Runs m x map_of.text.end
+  text_runs x low y l' u =
+      let low' : map_of.text.start ≤ y = omega arith in
+      let inside : is_within map_of.text.start map_of.text.end y ≡ true = grind (arith, nat_tests) in
+      rights-are l are_regions y Execute ∙ inside
+
+  -- a row of the text holds its lines
+  row_holds : (s : Site) → Whole s → is_in map_of.text s.row.address ≡ true → HoldsLines reader m p s
+  row_holds s (home, (fits, (written, (tl, (th, (rl, (rh, (dl, (dh, bl))))))))) inside =
+      elim (all_goes s.stated.home.loaded s.stated.home.executable s.stated.home.nobits s.stated.home.writable home.1) [
+        | inl good ↦
+            let x = (and_parts s.stated.home.loaded s.stated.home.executable good).1 in
+            let lie = tl good in
+            holds_written reader m map_of.text.end (let e = text_room in omega arith) p s (written x) (th good) (text_runs s.row.address lie.0) lie.1
+            (statement_code p s.stated.file s.stated.ordinal s.stated.section s.stated.line s.stated.home s.row s.stated.says fits x)
+        | inr other ↦ elim other [
+          | inl good ↦ past map_of.text.start map_of.text.end map_of.rodata.start s.row.address inside rodata_past (rl good).0
+          | inr other ↦ elim other [
+            | inl good ↦ past map_of.text.start map_of.text.end map_of.data.start s.row.address inside data_past (dl good).0
+            | inr good ↦ past map_of.text.start map_of.text.end map_of.bss.start s.row.address inside bss_past (bl good).0
+          ]
+        ]
+      ]
+
+  -- a byte that its row spells
+  spelled_at : (s : Site) (x : ℕ) → Sized (spelled p) s → HasBytes m s.row.address (spelled p s) → is_within s.row.address (s.row.address + s.row.bytes) x ≡ true → m.byte x ≡ slice_index (spelled p s) (x - s.row.address)
+  spelled_at s x sized has inside =
+      let parts = within_parts s.row.address (s.row.address + s.row.bytes) x inside in
+      let at : s.row.address + (x - s.row.address) ≡ x = omega arith in
+      let short : x - s.row.address < s.row.bytes = omega arith in
+      ap (λ y. m.byte y) (sym at) ∙ byte_at m (spelled p s) s.row.address (x - s.row.address) has (subst (λ n. x - s.row.address < n) (sym sized) short)
+
+  -- text cannot be read
+  unreadable : (x : ℕ) → is_in map_of.text x ≡ true → right_at map_of x Read ≡ false
+  unreadable x inside =
+      let parts = within_parts map_of.text.start map_of.text.end x inside in
+      let r = are_regions in
+      let e1 = rodata_past in
+      let e2 = data_past in
+      let e3 = text_room in
+      let f1 : is_within map_of.rodata.start map_of.rodata.end x ≡ false = apart map_of.text.start map_of.text.end map_of.rodata.start map_of.rodata.end x e1 inside in
+      let f2 : is_within map_of.data.start map_of.bss.end x ≡ false = apart map_of.text.start map_of.text.end map_of.data.start map_of.bss.end x e2 inside in
+      let f3 : is_within stack_start stack_end x ≡ false = apart map_of.text.start map_of.text.end stack_start stack_end x e3 inside in
+      ap (λ b. b || is_within map_of.data.start map_of.bss.end x || is_within stack_start stack_end x) f1 ∙ ap (λ b. false || b || is_within stack_start stack_end x) f2 ∙ ap (λ b. false || false || b) f3
+
+  unwritten : (x : ℕ) → is_in map_of.text x ≡ true → right_at map_of x Write ≡ false
+  unwritten x inside =
+      let e2 = data_past in
+      let e3 = text_room in
+      let f2 : is_within map_of.data.start map_of.bss.end x ≡ false = apart map_of.text.start map_of.text.end map_of.data.start map_of.bss.end x e2 inside in
+      let f3 : is_within stack_start stack_end x ≡ false = apart map_of.text.start map_of.text.end stack_start stack_end x e3 inside in
+      ap (λ b. b || is_within stack_start stack_end x) f2 ∙ ap (λ b. false || b) f3
+
+  wider : (low high a' b' x : ℕ) → low ≤ a' → b' ≤ high → is_within a' b' x ≡ true → is_within low high x ≡ true
+  wider low high a' b' x lo hi inside =
+      let parts = within_parts a' b' x inside in
+      grind (arith, nat_tests)
+
+  -- behind the data there are zeros up to the end of bss
+  bss_zero : (x : ℕ) → map_of.data.end ≤ x → x < map_of.bss.end → m.byte x ≡ 0
+  bss_zero x low high =
+      let e1 = are_regions.bss_after in
+      let e2 = are_regions.bss_ends in
+      byte_zero m (map_of.bss.end - map_of.data.end) map_of.data.end x (bss_held l are_regions) low (omega arith)
+
+  -- a row over a byte that can be read spells it
+  row_spells : (s : Site) (x : ℕ) → Whole s → right_at map_of x Read ≡ true → is_within s.row.address (s.row.address + s.row.bytes) x ≡ true → m.byte x ≡ slice_index (spelled p s) (x - s.row.address)
+  row_spells s x (home, (fits, (written, (tl, (th, (rl, (rh, (dl, (dh, bl))))))))) readable inside =
+      let st = s.stated in
+      elim (all_goes s.stated.home.loaded s.stated.home.executable s.stated.home.nobits s.stated.home.writable home.1) [
+        | inl good ↦ true_false (right_at map_of x Read) readable (unreadable x (wider map_of.text.start map_of.text.end s.row.address (s.row.address + s.row.bytes) x (tl good).0 (tl good).1 inside))
+        | inr other ↦ elim other [
+          | inl good ↦ spelled_at s x (statement_data p s.stated.file s.stated.ordinal s.stated.section s.stated.line s.stated.home s.row s.stated.says fits (not_rodata s.stated.home good)) (rh good) inside
+          | inr other ↦ elim other [
+            | inl good ↦ spelled_at s x (statement_data p s.stated.file s.stated.ordinal s.stated.section s.stated.line s.stated.home s.row s.stated.says fits (not_data s.stated.home good)) (dh good) inside
+            | inr good ↦
+                let parts = within_parts map_of.bss.start map_of.bss.end x (wider map_of.bss.start map_of.bss.end s.row.address (s.row.address + s.row.bytes) x (bl good).0 (bl good).1 inside) in
+                let e1 = are_regions.bss_after in
+                bss_zero x (omega arith) parts.1
+                ∙ sym (statement_zeros p s.stated.file s.stated.ordinal s.stated.section s.stated.line s.stated.home s.row s.stated.says fits (no_stored s.stated.home.loaded s.stated.home.executable s.stated.home.nobits good) (x - s.row.address))
+          ]
+        ]
+      ]
+
+  missed : (goes : Section → Bool) (x : ℕ) → AllByRecursion (Misses x) p.sites → AllIn (Misses x) (region goes)
+  missed goes x none = to_blocks p sections goes (Misses x) at_home (all_map (Misses x) (In goes (Misses x)) p.sites (λ s e good. e) none)
+
+  -- no row lies over a byte that can be read: it is zero
+  region_zero : (goes : Section → Bool) (start place stop x : ℕ) (stored : List ℕ) → start ≡ place → Stand place (region goes) → stop ≡ end_of place (region goes) → stored ≡ contents (spelled p) start (region goes) → AllIn (Sized (spelled p)) (region goes) → HasBytes m start stored
+      → AllByRecursion (Misses x) p.sites → start ≤ x → x < stop → m.byte x ≡ 0
+  region_zero goes start place stop x stored at stand ends is sized has none low high =
+      zero_blocks (spelled p) m (region goes) start x sized (is_aligned goes) (subst (λ y. Stand y (region goes)) (sym at) stand) (subst (HasBytes m start) is has) (missed goes x none) low
+      (subst (λ y. x < y) (ends ∙ ap (λ y. end_of y (region goes)) (sym at)) high)
+
+  none_zero : (x : ℕ) → AllByRecursion (Misses x) p.sites → right_at map_of x Read ≡ true → m.byte x ≡ 0
+  none_zero x none readable =
+      elim (or_cases (is_in map_of.rodata x) (is_within map_of.data.start map_of.bss.end x) (is_within stack_start stack_end x) readable) [
+        | inl inside ↦
+            let parts = within_parts map_of.rodata.start map_of.rodata.end x inside in
+            region_zero goes_to_rodata map_of.rodata.start (aligned 4096 map_of.text.end) map_of.rodata.end x l.rodata rodata_holds.0 rodata_holds.1 rodata_holds.2 rodata_is (data_sized goes_to_rodata not_rodata) (rodata_held l are_regions) none parts.0 parts.1
+        | inr other ↦ elim other [
+          | inl inside ↦
+              let parts = within_parts map_of.data.start map_of.bss.end x inside in
+              elim (cases_lt x map_of.data.end) [
+                | inl low ↦ region_zero goes_to_data map_of.data.start (aligned 4096 map_of.rodata.end) map_of.data.end x l.data data_holds.0 data_holds.1 data_holds.2 data_is (data_sized goes_to_data not_data) (data_held l are_regions) none parts.0 low
+                | inr high ↦ bss_zero x high parts.1
+              ]
+          | inr inside ↦ stack_zero l are_regions x (within_parts stack_start stack_end x inside).0
+        ]
+      ]
+
+  -- each byte that can be read is what the data statements spell, and zero everywhere else
+  bytes_are : (x : ℕ) → right_at map_of x Read ≡ true → m.byte x ≡ first_byte p x
+  bytes_are x readable = go (find over p.sites) refl
+    where
+      over : Site → Bool
+      over s = is_within s.row.address (s.row.address + s.row.bytes) x
+
+      go : (o : Option Site) → find over p.sites ≡ o → m.byte x ≡ byte_of p o x
+      go (Some s) e = row_spells s x (all_found Whole over p.sites s e whole) readable (find_holds over p.sites s e)
+      go None e = none_zero x (none_found over p.sites e) readable
+
+  rows_hold : (pc : ℕ) (s : Site) → place p pc ≡ Starts s → HoldsLines reader m p s
+  rows_hold pc s e =
+      let starts = starts_at (is_in map_of.text pc) (list_any (λ gap. is_in gap pc) map_of.gaps) (found p.sites pc) s e in
+      let test = find_holds (λ (k : Site). nat_lt 0 k.row.bytes && (k.row.address == pc)) p.sites s starts.1 in
+      let here : s.row.address ≡ pc = eqb-true s.row.address pc (and_parts (nat_lt 0 s.row.bytes) (s.row.address == pc) test).1 in
+      row_holds s (all_found Whole _ p.sites s starts.1 whole) (subst (λ x. is_in map_of.text x ≡ true) (sym here) starts.0)
+
+  pub realizes_linked : Realizes reader m p
+  realizes_linked = record {
+    rows = λ pc s u e. rows_hold pc s e;
+    gaps = λ pc u even e. absurd (no_gap (is_in map_of.text pc) (found p.sites pc) (subst (λ gaps. (if is_in map_of.text pc then (if list_any (λ gap. is_in gap pc) gaps then Gap else starts_or_inside (found p.sites pc)) else Outside) ≡ Gap) h.gaps e));
+    rights = λ x u right. rights-are l are_regions x right;
+    bytes = λ x u readable. bytes_are x readable;
+    fixed = λ x u inside. unwritten x inside;
+  }
+
+-- a linked program runs as its source does, for every input and every limit
+pub linked_agrees : (a : ℕ) (ss : List Spoken) (l : Linked) → IsLinked (ss ∷ []) a l → l.map.entry < 2 ^ 64 → l.map.entry % 2 ≡ 0 → RunsAgree (ss ∷ []) l.map (linked_image l)
+linked_agrees a ss l h below even reader input bytes n =
+    agreement_of_image (ss ∷ []) l.map (mem_of (linked_image l)) l.map.entry (λ r. realizes_linked r ss a l h) refl below even reader input n

@@ -1,0 +1,5 @@
+use Rattle.rv_chain_laws.proofs.Contents.{linked_agrees}
+use Rattle.rv_chain_laws.proofs.law.linked_runs_agree.Goals as goal
+
+pub returns : goal.returns
+returns c = linked_agrees

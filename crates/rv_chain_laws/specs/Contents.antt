@@ -1,0 +1,55 @@
+-- What a linked program holds: the bytes of its regions are those of the statements that stand there.
+
+use Rattle.std.specs.Prelude.{◌≡◌, ℕ, ◌+◌, ◌-◌, ◌*◌, ◌%◌, ◌^◌, ◌<◌, ◌≤◌, IsTrue, List, [], ◌∷◌, ◌++◌, flat_map, length, replicate, Option, Some, None}
+use Rattle.std.specs.Int.{w32, to_le_bytes}
+use Rattle.std.specs.List.{AllByRecursion}
+use Rattle.rv_isa.specs.declared.instruction.Inst.{Inst}
+use Rattle.rv_isa.specs.Ranges.{IsValid}
+use Rattle.rv_encode.specs.Word.{form, word}
+use Rattle.rv_parse_laws.specs.Statement.{Spoken}
+use Rattle.rv_image.specs.Linked.{Linked}
+use Rattle.rv_chain_laws.specs.Sections.{goes_to_text, goes_to_rodata, goes_to_data}
+use Rattle.rv_chain_laws.specs.Sites.{Site, Program, program}
+use Rattle.rv_chain_laws.specs.Meaning.{expansion}
+use Rattle.rv_chain_laws.specs.Fits.{Fits, Block, rows_of, blocks, aligned, size}
+use Rattle.rv_chain_laws.specs.Resolves.{Resolves}
+use Rattle.rv_chain_laws.specs.Start.{spelled}
+
+-- instructions as they lie in memory, each a word
+abbrev pub words : Option (List Inst) → List ℕ
+words None = []
+words (Some instructions) = flat_map (λ i. to_le_bytes w32 (word (form i))) instructions
+
+-- the bytes of a statement in the text
+abbrev pub code_bytes : Program → Site → List ℕ
+code_bytes p s = words (expansion p s)
+
+abbrev pub zeros : ℕ → List ℕ
+zeros count = replicate count 0
+
+-- the bytes of sections one after another from an end on: zeros up to where each starts, and then those of its statements
+abbrev pub contents : (Site → List ℕ) → ℕ → List Block → List ℕ
+contents bytes stop [] = []
+contents bytes stop (b ∷ bs) =
+    let start = aligned b.alignment stop in
+    zeros (start - stop) ++ (flat_map bytes b.sites ++ contents bytes (start + size (rows_of b)) bs)
+
+-- the instruction has a word, which ends in the bits 11
+abbrev pub HasWord : Inst → Type 0
+HasWord i = IsValid i × (word (form i) < 2 ^ 32) × (word (form i) % 4 ≡ 3)
+
+-- a statement is written by words: its instructions, four bytes each
+abbrev pub IsWritten : Program → Site → Type 0
+IsWritten p s = (instructions : List Inst) × (expansion p s ≡ Some instructions) × AllByRecursion HasWord instructions × (s.row.bytes ≡ 4 * length instructions)
+
+-- the linked program of sources: its map fits them, and each region has the bytes of its sections, bss zeros
+pub record IsLinked (sources : List (List Spoken)) (text_start : ℕ) (l : Linked) : Type 0 where
+  pub fits : Fits sources l.map text_start
+  pub resolves : Resolves sources l.map
+  pub written : AllByRecursion (λ s. IsTrue s.stated.home.executable → IsWritten (program sources l.map) s) (program sources l.map).sites
+  -- code is aligned to 2 at most, so that no gap stands in the text
+  pub gaps : l.map.gaps ≡ []
+  pub below : l.map.bss.end ≤ 0x3ff0_0000
+  pub text : l.text ≡ contents (code_bytes (program sources l.map)) l.map.text.start (blocks goes_to_text sources l.map)
+  pub rodata : l.rodata ≡ contents (spelled (program sources l.map)) l.map.rodata.start (blocks goes_to_rodata sources l.map)
+  pub «data» : l.data ≡ contents (spelled (program sources l.map)) l.map.data.start (blocks goes_to_data sources l.map)
