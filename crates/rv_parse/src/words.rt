@@ -267,69 +267,87 @@ pub fn register_named(name: &[u8]) -> Option<Reg>
     reg_named(name)
 }
 
-/// The mnemonics that are built but the atomics.
-const INSTRUCTIONS: [(&str, Mnemonic); 60] = [
-    ("lui", Mnemonic::Upper(UpperOperation::Lui)),
-    ("auipc", Mnemonic::Upper(UpperOperation::Auipc)),
-    ("jalr", Mnemonic::Jalr),
+/// The mnemonics that are built but the atomics, of 2 letters.
+const OF_TWO: [(&str, Mnemonic); 10] = [
     ("lb", Mnemonic::Load(LoadOperation::Lb)),
     ("lh", Mnemonic::Load(LoadOperation::Lh)),
     ("lw", Mnemonic::Load(LoadOperation::Lw)),
     ("ld", Mnemonic::Load(LoadOperation::Ld)),
-    ("lbu", Mnemonic::Load(LoadOperation::Lbu)),
-    ("lhu", Mnemonic::Load(LoadOperation::Lhu)),
-    ("lwu", Mnemonic::Load(LoadOperation::Lwu)),
     ("sb", Mnemonic::Store(StoreOperation::Sb)),
     ("sh", Mnemonic::Store(StoreOperation::Sh)),
     ("sw", Mnemonic::Store(StoreOperation::Sw)),
     ("sd", Mnemonic::Store(StoreOperation::Sd)),
-    ("addi", Mnemonic::Immediate(ImmediateOperation::Addi)),
-    ("slti", Mnemonic::Immediate(ImmediateOperation::Slti)),
-    ("sltiu", Mnemonic::Immediate(ImmediateOperation::Sltiu)),
-    ("xori", Mnemonic::Immediate(ImmediateOperation::Xori)),
+    ("or", Mnemonic::Registers(RegisterOperation::Or)),
+    ("li", Mnemonic::Li),
+];
+
+/// The mnemonics that are built but the atomics, of 3 letters.
+const OF_THREE: [(&str, Mnemonic); 16] = [
+    ("lui", Mnemonic::Upper(UpperOperation::Lui)),
+    ("lbu", Mnemonic::Load(LoadOperation::Lbu)),
+    ("lhu", Mnemonic::Load(LoadOperation::Lhu)),
+    ("lwu", Mnemonic::Load(LoadOperation::Lwu)),
     ("ori", Mnemonic::Immediate(ImmediateOperation::Ori)),
-    ("andi", Mnemonic::Immediate(ImmediateOperation::Andi)),
-    ("slli", Mnemonic::Shift(ShiftOperation::Slli)),
-    ("srli", Mnemonic::Shift(ShiftOperation::Srli)),
-    ("srai", Mnemonic::Shift(ShiftOperation::Srai)),
     ("add", Mnemonic::Registers(RegisterOperation::Add)),
     ("sub", Mnemonic::Registers(RegisterOperation::Sub)),
     ("sll", Mnemonic::Registers(RegisterOperation::Sll)),
     ("slt", Mnemonic::Registers(RegisterOperation::Slt)),
-    ("sltu", Mnemonic::Registers(RegisterOperation::Sltu)),
     ("xor", Mnemonic::Registers(RegisterOperation::Xor)),
     ("srl", Mnemonic::Registers(RegisterOperation::Srl)),
     ("sra", Mnemonic::Registers(RegisterOperation::Sra)),
-    ("or", Mnemonic::Registers(RegisterOperation::Or)),
     ("and", Mnemonic::Registers(RegisterOperation::And)),
-    ("addiw", Mnemonic::Immediate(ImmediateOperation::Addiw)),
-    ("slliw", Mnemonic::Shift(ShiftOperation::Slliw)),
-    ("srliw", Mnemonic::Shift(ShiftOperation::Srliw)),
-    ("sraiw", Mnemonic::Shift(ShiftOperation::Sraiw)),
+    ("mul", Mnemonic::Registers(RegisterOperation::Mul)),
+    ("div", Mnemonic::Registers(RegisterOperation::Div)),
+    ("rem", Mnemonic::Registers(RegisterOperation::Rem)),
+];
+
+/// The mnemonics that are built but the atomics, of 4 letters.
+const OF_FOUR: [(&str, Mnemonic); 20] = [
+    ("jalr", Mnemonic::Jalr),
+    ("addi", Mnemonic::Immediate(ImmediateOperation::Addi)),
+    ("slti", Mnemonic::Immediate(ImmediateOperation::Slti)),
+    ("xori", Mnemonic::Immediate(ImmediateOperation::Xori)),
+    ("andi", Mnemonic::Immediate(ImmediateOperation::Andi)),
+    ("slli", Mnemonic::Shift(ShiftOperation::Slli)),
+    ("srli", Mnemonic::Shift(ShiftOperation::Srli)),
+    ("srai", Mnemonic::Shift(ShiftOperation::Srai)),
+    ("sltu", Mnemonic::Registers(RegisterOperation::Sltu)),
     ("addw", Mnemonic::Registers(RegisterOperation::Addw)),
     ("subw", Mnemonic::Registers(RegisterOperation::Subw)),
     ("sllw", Mnemonic::Registers(RegisterOperation::Sllw)),
     ("srlw", Mnemonic::Registers(RegisterOperation::Srlw)),
     ("sraw", Mnemonic::Registers(RegisterOperation::Sraw)),
-    ("fence", Mnemonic::Fence),
-    ("fence.tso", Mnemonic::FenceTso),
-    ("ecall", Mnemonic::Ecall),
-    ("ebreak", Mnemonic::Ebreak),
-    ("mul", Mnemonic::Registers(RegisterOperation::Mul)),
     ("mulh", Mnemonic::Registers(RegisterOperation::Mulh)),
-    ("mulhsu", Mnemonic::Registers(RegisterOperation::Mulhsu)),
-    ("mulhu", Mnemonic::Registers(RegisterOperation::Mulhu)),
-    ("div", Mnemonic::Registers(RegisterOperation::Div)),
     ("divu", Mnemonic::Registers(RegisterOperation::Divu)),
-    ("rem", Mnemonic::Registers(RegisterOperation::Rem)),
     ("remu", Mnemonic::Registers(RegisterOperation::Remu)),
     ("mulw", Mnemonic::Registers(RegisterOperation::Mulw)),
     ("divw", Mnemonic::Registers(RegisterOperation::Divw)),
-    ("divuw", Mnemonic::Registers(RegisterOperation::Divuw)),
     ("remw", Mnemonic::Registers(RegisterOperation::Remw)),
-    ("remuw", Mnemonic::Registers(RegisterOperation::Remuw)),
-    ("li", Mnemonic::Li),
 ];
+
+/// The mnemonics that are built but the atomics, of 5 letters.
+const OF_FIVE: [(&str, Mnemonic); 11] = [
+    ("auipc", Mnemonic::Upper(UpperOperation::Auipc)),
+    ("sltiu", Mnemonic::Immediate(ImmediateOperation::Sltiu)),
+    ("addiw", Mnemonic::Immediate(ImmediateOperation::Addiw)),
+    ("slliw", Mnemonic::Shift(ShiftOperation::Slliw)),
+    ("srliw", Mnemonic::Shift(ShiftOperation::Srliw)),
+    ("sraiw", Mnemonic::Shift(ShiftOperation::Sraiw)),
+    ("fence", Mnemonic::Fence),
+    ("ecall", Mnemonic::Ecall),
+    ("mulhu", Mnemonic::Registers(RegisterOperation::Mulhu)),
+    ("divuw", Mnemonic::Registers(RegisterOperation::Divuw)),
+    ("remuw", Mnemonic::Registers(RegisterOperation::Remuw)),
+];
+
+/// The mnemonics that are built but the atomics, of 6 letters.
+const OF_SIX: [(&str, Mnemonic); 2] = [
+    ("ebreak", Mnemonic::Ebreak),
+    ("mulhsu", Mnemonic::Registers(RegisterOperation::Mulhsu)),
+];
+
+/// The mnemonics that are built but the atomics, of 9 letters.
+const OF_NINE: [(&str, Mnemonic); 1] = [("fence.tso", Mnemonic::FenceTso)];
 
 /// The atomics that have a second source.
 const ATOMICS: [(&str, AtomicOperation); 10] = [
@@ -466,12 +484,19 @@ fn atomic_named(word: &[u8]) -> Option<Mnemonic>
     }
 }
 
-/// The base instruction but the atomics, or `li`, that the word is.
-#[tactic(auto, unfolding(rv_parse_laws::specs::Words::instruction_words))]
+/// The base instruction but the atomics, or `li`, that the word is: a look-up among the names of its length.
 fn instruction_named(word: &[u8]) -> Option<Mnemonic>
     ensures { result ≡ named_in instruction_words word.now }
 {
-    named_in(&INSTRUCTIONS, word)
+    match word.len() {
+        2 => named_in(&OF_TWO, word),
+        3 => named_in(&OF_THREE, word),
+        4 => named_in(&OF_FOUR, word),
+        5 => named_in(&OF_FIVE, word),
+        6 => named_in(&OF_SIX, word),
+        9 => named_in(&OF_NINE, word),
+        _ => None,
+    }
 }
 
 /// The mnemonic that the word is.
