@@ -1,5 +1,6 @@
 # make          builds the program as ./rv and runs an example with it
 # make test     the whole gate: every proof from nothing, the must-fail edits, the tests and the program
+# make bench    measures rv beside GNU's tools and qemu-riscv64, where they are installed
 # make install  PREFIX=/usr/local by default
 
 PREFIX ?= /usr/local
@@ -7,7 +8,7 @@ EXAMPLE := examples/exit7.s
 PROGRAM := crates/rv_cli/out/rv_cli
 SOURCES := $(shell find crates -name out -prune -o -type f -print) crates.txt
 
-.PHONY: all test install clean
+.PHONY: all test bench install clean
 
 all: rv
 	@echo "rv run $(EXAMPLE)"
@@ -20,6 +21,9 @@ rv: $(SOURCES)
 
 test:
 	rt ci
+
+bench: rv
+	python3 bench/run.py
 
 install: rv
 	install -D -m 755 rv $(DESTDIR)$(PREFIX)/bin/rv

@@ -1,6 +1,9 @@
 //! A program from its source to its end, and the refusals, with the values that the manual shows.
 
+mod limits;
+
 use crate::{Built, End, Fault, FileFault, LinkFault, LinkOptions, SourceFault, build, run_exec};
+use rv_parse::{StatementKind, parse};
 use std::alloc::Global;
 use std::test::Fail;
 
@@ -34,6 +37,19 @@ fn built(alloc: Global, source: &[u8]) -> Result<Built, Fault> {
 }
 
 #[test]
+fn statements_of_a_source(rt: HostRuntime) -> Result<(), Fail> {
+    let statements = parse(rt.alloc(), EXIT7)?;
+    let lines: Vec<u32> = statements
+        .iter()
+        .map(|statement| statement.line)
+        .collect(rt.alloc())?;
+    assert!(rt; lines.as_slice() == [1, 2, 3, 3, 4, 5].as_slice());
+    let third = statements.get(2).map(|statement| &statement.kind);
+    assert!(rt; matches!(third, Some(StatementKind::Label(name)) if *name == b"_start".as_slice()));
+    Ok(())
+}
+
+#[test]
 fn exit7(rt: HostRuntime) -> Result<(), Fail> {
     let built = built(rt.alloc(), EXIT7)?;
     assert_eq!(rt; built.exe.len(), 4108);
@@ -42,25 +58,6 @@ fn exit7(rt: HostRuntime) -> Result<(), Fail> {
     assert!(rt; built.map.as_slice() == EXIT7_MAP);
     let outcome = run_exec(rt.alloc(), built.exe.as_slice(), b"", 1_000_000)?;
     assert!(rt; outcome.end == End::Exited(7) && outcome.console.is_empty());
-    Ok(())
-}
-
-#[test]
-fn largest_source(rt: HostRuntime) -> Result<(), Fail> {
-    let mut source = Vec::from_slice(rt.alloc(), EXIT7)?;
-    source.resize(1 << 24, b'\n')?;
-    let built = built(rt.alloc(), source.as_slice())?;
-    assert!(rt; built.map.as_slice() == EXIT7_MAP);
-    let outcome = run_exec(rt.alloc(), built.exe.as_slice(), b"", 1_000_000)?;
-    assert!(rt; outcome.end == End::Exited(7));
-    Ok(())
-}
-
-#[test]
-fn source_too_large(rt: HostRuntime) -> Result<(), Fail> {
-    let mut source = Vec::from_slice(rt.alloc(), EXIT7)?;
-    source.resize((1 << 24) + 1, b'\n')?;
-    assert_eq!(rt; source_fault(rt.alloc(), source.as_slice()), Some((17, 0)));
     Ok(())
 }
 

@@ -11,6 +11,7 @@ pub mod AssembledMemory
 pub mod Obligations
 pub mod Simulation
 pub mod Assembled
+pub mod Exit7Program
 pub mod Regions
 pub mod Homes
 pub mod LaidOut

@@ -9,6 +9,7 @@ pub mod Realizes
 pub mod Agrees
 pub mod Headline
 pub mod Exit7
+pub mod Exit7Executable
 pub mod Assembled
 pub mod Contents
 pub mod Data

@@ -9,7 +9,7 @@ mod worked;
 
 pub use law::{laid_out_fits, linked_runs_agree, runs_agree};
 pub use worked::{
-    exit7_fits, exit7_is_limited, exit7_resolves, exit7_runs, exit7_shows, exit255_runs,
-    figures_fit, figures_resolve, figures_spell, hello_fits, hello_holds, hello_resolves,
-    hello_runs, two_files_run,
+    exit7_executes, exit7_fits, exit7_is_limited, exit7_is_written, exit7_links, exit7_loads,
+    exit7_resolves, exit7_runs, exit7_shows, exit255_runs, figures_fit, figures_resolve,
+    figures_spell, hello_fits, hello_holds, hello_resolves, hello_runs, two_files_run,
 };

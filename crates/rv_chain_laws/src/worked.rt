@@ -1,14 +1,24 @@
 //! Worked programs, as contracts that the check computes.
 
-ghost use Rattle.std.specs.Prelude.{◌≡◌, [], ◌∷◌, codes};
+ghost use Rattle.std.specs.Prelude.{◌≡◌, [], ◌∷◌, None, length, codes};
 ghost use Rattle.rv_isa_laws.specs.Hart.{Limit};
 ghost use Rattle.rv_chain_laws.specs.Exit7.{exit7, exit7_map, exit7_text, exit255, exit255_map, first_file, second_file, two_files_map, exits};
-ghost use Rattle.rv_chain_laws.specs.Contents.{code_bytes, contents};
-ghost use Rattle.rv_chain_laws.specs.Data.{hello, hello_map, hello_text, says_hello, figures, figures_map, figures_data};
-ghost use Rattle.rv_chain_laws.specs.Sections.{goes_to_text, goes_to_rodata, goes_to_data};
+ghost use Rattle.rv_chain_laws.specs.Exit7Executable.{exit7_file, exit7_image, exit7_linked};
+ghost use Rattle.rv_chain_laws.specs.Assembled.{IsProgram};
+ghost use Rattle.rv_map.specs.Text.{map_text};
+ghost use Rattle.rv_image.specs.Executable.{exe_of};
+ghost use Rattle.rv_image.specs.ImageOf.{ImageOf};
+ghost use Rattle.rv_image.specs.FirstFault.{first_fault};
+ghost use Rattle.rv_image.specs.Memory.{mem_of};
+ghost use Rattle.rv_encode.specs.Word.{Spells};
+ghost use Rattle.rv_compress.specs.Parcel.{StandsFor};
+ghost use Rattle.rv_machine_laws.specs.Reader.{Reader};
+ghost use Rattle.rv_machine_laws.specs.Run.{machine_run};
+ghost use Rattle.rv_chain_laws.specs.Contents.{contents, code_bytes};
+ghost use Rattle.rv_chain_laws.specs.Data.{hello, hello_map, says_hello, figures, figures_map, figures_data, hello_text};
+ghost use Rattle.rv_chain_laws.specs.Sections.{goes_to_data, goes_to_text, goes_to_rodata};
 ghost use Rattle.rv_chain_laws.specs.Sites.{program};
 ghost use Rattle.rv_chain_laws.specs.Start.{spelled};
-ghost use Rattle.rv_map.specs.Text.{map_text};
 ghost use Rattle.rv_chain_laws.specs.Fits.{Fits, blocks};
 ghost use Rattle.rv_chain_laws.specs.Resolves.{Resolves};
 ghost use Rattle.rv_chain_laws.specs.SourceRun.{source_run};
@@ -42,6 +52,28 @@ pub fn exit7_resolves()
 /// The text of the program's map.
 pub fn exit7_shows()
     ensures { map_text exit7_map ≡ exit7_text }
+{}
+
+/// The program is linked with its 12 bytes of code at 10000h.
+pub fn exit7_links()
+    ensures { IsProgram 0x10000 exit7 exit7_linked }
+{}
+
+/// Its executable: 4108 bytes, the code at their end.
+pub fn exit7_is_written()
+    ensures bytes { exe_of exit7_linked ≡ exit7_file }
+    ensures size { length exit7_file ≡ 4108 }
+{}
+
+/// The executable's image: its code at 10000h, to be executed and nothing else.
+pub fn exit7_loads()
+    ensures image { ImageOf exit7_file exit7_image }
+    ensures accepted { first_fault exit7_file ≡ None }
+{}
+
+/// The machine's run over the image exits with 7 and writes nothing.
+pub fn exit7_executes()
+    ensures { (reader : Reader Spells StandsFor) → machine_run reader (mem_of exit7_image) exit7_image.entry [] 1000000 ≡ exits 7 }
 {}
 
 /// The same program in two files: its map fits it and resolves its names, and it exits with 7.

@@ -1,7 +1,7 @@
 //! What the program does: runs, builds, prints a map.
 
 use crate::messages::{end_line, fault_line};
-use crate::streams::{self, INPUT_LIMIT, ReadFault};
+use crate::system::{FILE_LIMIT, INPUT_LIMIT, Purpose, ReadFault, System};
 use crate::words::default_options;
 use rv_chain::{Built, End, LinkOptions, build, run_exec};
 use std::alloc::{AllocError, AllocFailed, Global};
@@ -66,40 +66,38 @@ impl<T: Drop> From<AllocFailed<T>> for Trouble {
 }
 
 /// Does a job; the exit status.
-pub(crate) fn done(rt: &HostRuntime, job: &Job<'_>) -> Result<u8, Trouble> {
+pub(crate) fn done<S: System>(system: &mut S, job: &Job<'_>) -> Result<u8, Trouble> {
     match job {
-        Job::Run { file, limit } => run(rt, file, *limit),
+        Job::Run { file, limit } => run(system, file, *limit),
         Job::Build {
             exe,
             map,
             options,
             sources,
         } => {
-            let built = built(rt, sources.as_slice(), *options)?;
-            write(rt, exe, built.exe.as_slice())?;
+            let built = built(system, sources.as_slice(), *options)?;
+            write(system, exe, Purpose::ToRun, built.exe.as_slice())?;
             if let Some(map) = map {
-                write(rt, map, built.map.as_slice())?;
+                write(system, map, Purpose::ToRead, built.map.as_slice())?;
             }
             Ok(0)
         }
         Job::Map { options, sources } => {
-            let built = built(rt, sources.as_slice(), *options)?;
-            match streams::print(rt, built.map.as_slice()) {
-                Ok(()) => Ok(0),
-                Err(_) => Err(named(rt.alloc(), "-", "cannot write")?),
-            }
+            let built = built(system, sources.as_slice(), *options)?;
+            print(system, built.map.as_slice())?;
+            Ok(0)
         }
     }
 }
 
 /// Runs an executable, or builds a source and runs it.
-fn run(rt: &HostRuntime, name: &str, limit: u64) -> Result<u8, Trouble> {
-    let alloc: Global = rt.alloc();
+fn run<S: System>(system: &mut S, name: &str, limit: u64) -> Result<u8, Trouble> {
+    let alloc: Global = system.alloc();
     let from_input = name == "-";
     let read = if from_input {
-        streams::input_file(rt)
+        system.input(FILE_LIMIT)
     } else {
-        streams::file(rt, name)
+        system.file(name)
     };
     let bytes = had(alloc, name, read)?;
     let exe = if bytes.as_slice().starts_with(b"\x7fELF") {
@@ -110,10 +108,10 @@ fn run(rt: &HostRuntime, name: &str, limit: u64) -> Result<u8, Trouble> {
     let input = if from_input {
         Vec::new(alloc)
     } else {
-        guest_input(rt)?
+        guest_input(system)?
     };
     match run_exec(alloc, exe.as_slice(), input.as_slice(), limit) {
-        Ok(outcome) => ended(rt, outcome.console.as_slice(), &outcome.end),
+        Ok(outcome) => ended(system, outcome.console.as_slice(), &outcome.end),
         Err(fault) => Err(fault_line(alloc, &fault, &[name])?),
     }
 }
@@ -127,36 +125,39 @@ fn executable(alloc: Global, name: &str, source: &[u8]) -> Result<Vec<u8>, Troub
 }
 
 /// All of standard input, for the guest.
-fn guest_input(rt: &HostRuntime) -> Result<Vec<u8>, Trouble> {
-    match streams::input(rt, INPUT_LIMIT) {
+fn guest_input<S: System>(system: &mut S) -> Result<Vec<u8>, Trouble> {
+    match system.input(INPUT_LIMIT) {
         Ok(input) => Ok(input),
-        Err(ReadFault::Failed) => Err(Trouble::Line("X1 InputFault".to_string(rt.alloc())?)),
+        Err(ReadFault::Failed) => Err(Trouble::Line("X1 InputFault".to_string(system.alloc())?)),
         Err(ReadFault::Memory) => Err(Trouble::Memory),
     }
 }
 
 /// Prints the console and says how the run ended; the exit status.
-fn ended(rt: &HostRuntime, console: &[u8], end: &End) -> Result<u8, Trouble> {
-    let alloc: Global = rt.alloc();
-    if streams::print(rt, console).is_err() {
-        return Err(Trouble::Line("X2 OutputFault".to_string(alloc)?));
+fn ended<S: System>(system: &mut S, console: &[u8], end: &End) -> Result<u8, Trouble> {
+    if system.print(console).is_err() {
+        return Err(Trouble::Line("X2 OutputFault".to_string(system.alloc())?));
     }
     match end {
         End::Exited(code) => Ok(*code),
         _ => {
-            let line = end_line(alloc, end)?;
-            let _ = eprintln!(rt; "rv: {line}");
+            let line = end_line(system.alloc(), end)?;
+            system.tell(line.as_str());
             Ok(NOT_EXITED)
         }
     }
 }
 
 /// Reads the sources in their order and builds them.
-fn built(rt: &HostRuntime, names: &[&str], options: LinkOptions) -> Result<Built, Trouble> {
-    let alloc: Global = rt.alloc();
+fn built<S: System>(
+    system: &mut S,
+    names: &[&str],
+    options: LinkOptions,
+) -> Result<Built, Trouble> {
+    let alloc: Global = system.alloc();
     let mut read: Vec<Vec<u8>> = Vec::new(alloc);
     for name in names {
-        read.push(had(alloc, name, streams::file(rt, name))?)?;
+        read.push(had(alloc, name, system.file(name))?)?;
     }
     let mut sources: Vec<&[u8]> = Vec::new(alloc);
     for bytes in read.iter() {
@@ -177,10 +178,23 @@ fn had(alloc: Global, name: &str, read: Result<Vec<u8>, ReadFault>) -> Result<Ve
     }
 }
 
-fn write(rt: &HostRuntime, name: &str, bytes: &[u8]) -> Result<(), Trouble> {
-    match streams::write_file(rt, name, bytes) {
+fn write<S: System>(
+    system: &mut S,
+    name: &str,
+    purpose: Purpose,
+    bytes: &[u8],
+) -> Result<(), Trouble> {
+    match system.write(name, purpose, bytes) {
         Ok(()) => Ok(()),
-        Err(_) => Err(named(rt.alloc(), name, "cannot write")?),
+        Err(_) => Err(named(system.alloc(), name, "cannot write")?),
+    }
+}
+
+/// Writes to standard output, which messages call `-`.
+fn print<S: System>(system: &mut S, bytes: &[u8]) -> Result<(), Trouble> {
+    match system.print(bytes) {
+        Ok(()) => Ok(()),
+        Err(_) => Err(named(system.alloc(), "-", "cannot write")?),
     }
 }
 

@@ -11,6 +11,29 @@ const TEXT_START: u64 = 0x1_0000;
 /// The most instructions that `run` executes unless the words say otherwise.
 const LIMIT: u64 = 1_000_000_000_000;
 
+/// What stands below the options in the help of the program and of each of its jobs.
+const HELP: &str = "Examples:
+  rv run prog.s                             builds a source and runs it
+  rv build -o prog --map prog.map prog.s    writes the executable and its map
+  rv map prog.s                             shows where each statement stands
+
+Without words rv does the same as 'rv run -'.
+Exit status: 0 done; 1 refused, the fault stands on standard error; 2 wrong words.
+'rv run' exits with the guest's status, or with 125 where the guest did not exit.";
+
+const RUN_HELP: &str = "Examples:
+  rv run prog.s
+  rv run --limit 1000000 prog < input
+  rv run - < prog.s
+
+Standard input is the guest's input, and its console is standard output.";
+
+const BUILD_HELP: &str = "Example:
+  rv build -o prog --map prog.map prog.s";
+
+const MAP_HELP: &str = "Example:
+  rv map --text-start 0x20000 prog.s";
+
 /// What the words ask for; the first word is the program's own name.
 pub(crate) fn job_of<'a>(alloc: Global, words: &'a [&'a str]) -> Result<Job<'a>, Trouble> {
     let mut command = command(alloc)?;
@@ -30,6 +53,7 @@ fn command<'a>(alloc: Global) -> Result<Command<'a>, Error> {
     let about = "Assembles, links and runs bare RISC-V programs (RV64IMAC).";
     let run = Command::new(alloc, "run")
         .about("Runs an executable, or builds a source and runs it")
+        .after_help(RUN_HELP)
         .arg(limit(alloc))?
         .arg(
             Arg::new(alloc, "file")
@@ -39,6 +63,7 @@ fn command<'a>(alloc: Global) -> Result<Command<'a>, Error> {
         )?;
     let build = Command::new(alloc, "build")
         .about("Builds an executable from sources")
+        .after_help(BUILD_HELP)
         .arg(
             Arg::new(alloc, "output")
                 .short('o')
@@ -56,9 +81,13 @@ fn command<'a>(alloc: Global) -> Result<Command<'a>, Error> {
         .arg(sources(alloc))?;
     let map = Command::new(alloc, "map")
         .about("Prints the map of what the sources build")
+        .after_help(MAP_HELP)
         .arg(text_start_option(alloc))?
         .arg(sources(alloc))?;
-    let all = Command::new(alloc, "rv").version("0.1.0").about(about);
+    let all = Command::new(alloc, "rv")
+        .version("0.1.0")
+        .about(about)
+        .after_help(HELP);
     Ok(all.subcommand(run)?.subcommand(build)?.subcommand(map)?)
 }
 

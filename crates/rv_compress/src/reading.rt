@@ -43,7 +43,7 @@ fn any_7(bits: u32) -> Reg
     Reg::from_low_bits(bits >> 7)
 }
 
-#[inline]
+#[inline(always)]
 fn addi4spn(bits: u32) -> Option<Compressed>
     requires { HasOpcode bits 0 0 }
     ensures { IsRead result bits }
@@ -56,7 +56,7 @@ fn addi4spn(bits: u32) -> Option<Compressed>
     }
 }
 
-#[inline]
+#[inline(always)]
 fn lw(bits: u32) -> Compressed
     requires { HasOpcode bits 0 2 }
     ensures { IsForm result bits }
@@ -65,7 +65,7 @@ fn lw(bits: u32) -> Compressed
     Compressed::Lw { rd, rs1, offset }
 }
 
-#[inline]
+#[inline(always)]
 fn ld(bits: u32) -> Compressed
     requires { HasOpcode bits 0 3 }
     ensures { IsForm result bits }
@@ -74,7 +74,7 @@ fn ld(bits: u32) -> Compressed
     Compressed::Ld { rd, rs1, offset }
 }
 
-#[inline]
+#[inline(always)]
 fn sw(bits: u32) -> Compressed
     requires { HasOpcode bits 0 6 }
     ensures { IsForm result bits }
@@ -83,7 +83,7 @@ fn sw(bits: u32) -> Compressed
     Compressed::Sw { rs1, rs2, offset }
 }
 
-#[inline]
+#[inline(always)]
 fn sd(bits: u32) -> Compressed
     requires { HasOpcode bits 0 7 }
     ensures { IsForm result bits }
@@ -92,7 +92,7 @@ fn sd(bits: u32) -> Compressed
     Compressed::Sd { rs1, rs2, offset }
 }
 
-#[inline]
+#[inline(always)]
 fn quadrant_0(bits: u32) -> Option<Compressed>
     requires size { bits < 2 ^ 16 }
     requires quadrant { bits % 4 ≡ 0 }
@@ -108,7 +108,7 @@ fn quadrant_0(bits: u32) -> Option<Compressed>
     }
 }
 
-#[inline]
+#[inline(always)]
 fn addi(bits: u32) -> Compressed
     requires { HasOpcode bits 1 0 }
     ensures { IsForm result bits }
@@ -121,7 +121,7 @@ fn addi(bits: u32) -> Compressed
     }
 }
 
-#[inline]
+#[inline(always)]
 fn addiw(bits: u32) -> Option<Compressed>
     requires { HasOpcode bits 1 1 }
     ensures { IsRead result bits }
@@ -134,7 +134,7 @@ fn addiw(bits: u32) -> Option<Compressed>
     }
 }
 
-#[inline]
+#[inline(always)]
 fn li(bits: u32) -> Compressed
     requires { HasOpcode bits 1 2 }
     ensures { IsForm result bits }
@@ -143,7 +143,7 @@ fn li(bits: u32) -> Compressed
     Compressed::Li { rd, immediate }
 }
 
-#[inline]
+#[inline(always)]
 fn addi16sp(bits: u32) -> Option<Compressed>
     requires opcode { HasOpcode bits 1 3 }
     requires rd { bits / 2 ^ 7 % 32 ≡ 2 }
@@ -157,7 +157,7 @@ fn addi16sp(bits: u32) -> Option<Compressed>
     }
 }
 
-#[inline]
+#[inline(always)]
 fn lui(bits: u32) -> Option<Compressed>
     requires opcode { HasOpcode bits 1 3 }
     requires rd { bits / 2 ^ 7 % 32 ≢ 2 }
@@ -172,7 +172,7 @@ fn lui(bits: u32) -> Option<Compressed>
 }
 
 /// `c.addi16sp` and `c.lui`.
-#[inline]
+#[inline(always)]
 fn upper(bits: u32) -> Option<Compressed>
     requires { HasOpcode bits 1 3 }
     ensures { IsRead result bits }
@@ -185,7 +185,7 @@ fn upper(bits: u32) -> Option<Compressed>
 }
 
 /// Arithmetic over 64 bits.
-#[inline]
+#[inline(always)]
 fn full_arithmetic(bits: u32) -> Compressed
     requires opcode { HasOpcode bits 1 4 }
     requires funct2 { bits / 2 ^ 10 % 4 ≡ 3 }
@@ -202,7 +202,7 @@ fn full_arithmetic(bits: u32) -> Compressed
 }
 
 /// Arithmetic over 32 bits.
-#[inline]
+#[inline(always)]
 fn word_arithmetic(bits: u32) -> Option<Compressed>
     requires opcode { HasOpcode bits 1 4 }
     requires funct2 { bits / 2 ^ 10 % 4 ≡ 3 }
@@ -217,7 +217,7 @@ fn word_arithmetic(bits: u32) -> Option<Compressed>
     }
 }
 
-#[inline]
+#[inline(always)]
 fn arithmetic(bits: u32) -> Option<Compressed>
     requires opcode { HasOpcode bits 1 4 }
     requires funct2 { bits / 2 ^ 10 % 4 ≡ 3 }
@@ -231,7 +231,7 @@ fn arithmetic(bits: u32) -> Option<Compressed>
 }
 
 /// Shifts, `c.andi` and arithmetic of x8 to x15.
-#[inline]
+#[inline(always)]
 fn short_arithmetic(bits: u32) -> Option<Compressed>
     requires { HasOpcode bits 1 4 }
     ensures { IsRead result bits }
@@ -264,7 +264,7 @@ fn jump_bits(bits: u32) -> u32
     bits >> 2 & 0x7ff
 }
 
-#[inline]
+#[inline(always)]
 fn j(bits: u32) -> Compressed
     requires { HasOpcode bits 1 5 }
     ensures { IsForm result bits }
@@ -274,7 +274,7 @@ fn j(bits: u32) -> Compressed
     }
 }
 
-#[inline]
+#[inline(always)]
 fn beqz(bits: u32) -> Compressed
     requires { HasOpcode bits 1 6 }
     ensures { IsForm result bits }
@@ -283,7 +283,7 @@ fn beqz(bits: u32) -> Compressed
     Compressed::Beqz { rs1, offset }
 }
 
-#[inline]
+#[inline(always)]
 fn bnez(bits: u32) -> Compressed
     requires { HasOpcode bits 1 7 }
     ensures { IsForm result bits }
@@ -292,7 +292,7 @@ fn bnez(bits: u32) -> Compressed
     Compressed::Bnez { rs1, offset }
 }
 
-#[inline]
+#[inline(always)]
 fn quadrant_1(bits: u32) -> Option<Compressed>
     requires size { bits < 2 ^ 16 }
     requires quadrant { bits % 4 ≡ 1 }
@@ -310,7 +310,7 @@ fn quadrant_1(bits: u32) -> Option<Compressed>
     }
 }
 
-#[inline]
+#[inline(always)]
 fn slli(bits: u32) -> Compressed
     requires { HasOpcode bits 2 0 }
     ensures { IsForm result bits }
@@ -319,7 +319,7 @@ fn slli(bits: u32) -> Compressed
     Compressed::Slli { rd, amount }
 }
 
-#[inline]
+#[inline(always)]
 fn lwsp(bits: u32) -> Option<Compressed>
     requires { HasOpcode bits 2 2 }
     ensures { IsRead result bits }
@@ -332,7 +332,7 @@ fn lwsp(bits: u32) -> Option<Compressed>
     }
 }
 
-#[inline]
+#[inline(always)]
 fn ldsp(bits: u32) -> Option<Compressed>
     requires { HasOpcode bits 2 3 }
     ensures { IsRead result bits }
@@ -346,7 +346,7 @@ fn ldsp(bits: u32) -> Option<Compressed>
 }
 
 /// `c.mv` and `c.jr`.
-#[inline]
+#[inline(always)]
 fn move_or_jump(bits: u32) -> Option<Compressed>
     requires opcode { HasOpcode bits 2 4 }
     requires bit_12 { bits / 2 ^ 12 % 2 ≡ 0 }
@@ -361,7 +361,7 @@ fn move_or_jump(bits: u32) -> Option<Compressed>
 }
 
 /// `c.add`, `c.jalr` and `c.ebreak`.
-#[inline]
+#[inline(always)]
 fn add_or_call(bits: u32) -> Compressed
     requires opcode { HasOpcode bits 2 4 }
     requires bit_12 { bits / 2 ^ 12 % 2 ≡ 1 }
@@ -376,7 +376,7 @@ fn add_or_call(bits: u32) -> Compressed
 }
 
 /// The forms with two registers of five bits.
-#[inline]
+#[inline(always)]
 fn registers(bits: u32) -> Option<Compressed>
     requires { HasOpcode bits 2 4 }
     ensures { IsRead result bits }
@@ -388,7 +388,7 @@ fn registers(bits: u32) -> Option<Compressed>
     }
 }
 
-#[inline]
+#[inline(always)]
 fn swsp(bits: u32) -> Compressed
     requires { HasOpcode bits 2 6 }
     ensures { IsForm result bits }
@@ -397,7 +397,7 @@ fn swsp(bits: u32) -> Compressed
     Compressed::Swsp { rs2, offset }
 }
 
-#[inline]
+#[inline(always)]
 fn sdsp(bits: u32) -> Compressed
     requires { HasOpcode bits 2 7 }
     ensures { IsForm result bits }
@@ -406,7 +406,7 @@ fn sdsp(bits: u32) -> Compressed
     Compressed::Sdsp { rs2, offset }
 }
 
-#[inline]
+#[inline(always)]
 fn quadrant_2(bits: u32) -> Option<Compressed>
     requires size { bits < 2 ^ 16 }
     requires quadrant { bits % 4 ≡ 2 }

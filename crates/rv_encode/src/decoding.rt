@@ -8,7 +8,7 @@ use crate::operands::{funct3, funct5, funct6, funct7, opcode};
 use rv_isa::Inst;
 
 /// LOAD: I-type by funct3.
-#[inline]
+#[inline(always)]
 fn load(bits: u32) -> Option<Inst>
     requires { bits % 128 ≡ 0x03 }
     ensures { IsSpelled result bits }
@@ -26,7 +26,7 @@ fn load(bits: u32) -> Option<Inst>
 }
 
 /// STORE: S-type by funct3.
-#[inline]
+#[inline(always)]
 fn store(bits: u32) -> Option<Inst>
     requires { bits % 128 ≡ 0x23 }
     ensures { IsSpelled result bits }
@@ -41,7 +41,7 @@ fn store(bits: u32) -> Option<Inst>
 }
 
 /// BRANCH: B-type by funct3.
-#[inline]
+#[inline(always)]
 fn branch(bits: u32) -> Option<Inst>
     requires { bits % 128 ≡ 0x63 }
     ensures { IsSpelled result bits }
@@ -58,7 +58,7 @@ fn branch(bits: u32) -> Option<Inst>
 }
 
 /// OP-IMM: I-type by funct3, and the shifts by the six bits above the amount.
-#[inline]
+#[inline(always)]
 fn op_imm(bits: u32) -> Option<Inst>
     requires { bits % 128 ≡ 0x13 }
     ensures { IsSpelled result bits }
@@ -84,7 +84,7 @@ fn op_imm(bits: u32) -> Option<Inst>
 }
 
 /// OP-IMM-32: `addiw` by funct3, and the shifts by funct7.
-#[inline]
+#[inline(always)]
 fn op_imm_32(bits: u32) -> Option<Inst>
     requires { bits % 128 ≡ 0x1b }
     ensures { IsSpelled result bits }
@@ -105,7 +105,7 @@ fn op_imm_32(bits: u32) -> Option<Inst>
 }
 
 /// OP: R-type by funct7 and funct3.
-#[inline]
+#[inline(always)]
 fn op(bits: u32) -> Option<Inst>
     requires { bits % 128 ≡ 0x33 }
     ensures { IsSpelled result bits }
@@ -143,7 +143,7 @@ fn op(bits: u32) -> Option<Inst>
 }
 
 /// OP-32: R-type by funct7 and funct3.
-#[inline]
+#[inline(always)]
 fn op_32(bits: u32) -> Option<Inst>
     requires { bits % 128 ≡ 0x3b }
     ensures { IsSpelled result bits }
@@ -173,7 +173,7 @@ fn op_32(bits: u32) -> Option<Inst>
 }
 
 /// AMO of 32 bits by funct5; a load-reserved has no rs2.
-#[inline]
+#[inline(always)]
 fn amo_word(bits: u32) -> Option<Inst>
     requires opcode { bits % 128 ≡ 0x2f }
     requires width { bits / 2 ^ 12 % 8 ≡ 2 }
@@ -202,7 +202,7 @@ fn amo_word(bits: u32) -> Option<Inst>
 }
 
 /// AMO of 64 bits by funct5; a load-reserved has no rs2.
-#[inline]
+#[inline(always)]
 fn amo_doubleword(bits: u32) -> Option<Inst>
     requires opcode { bits % 128 ≡ 0x2f }
     requires width { bits / 2 ^ 12 % 8 ≡ 3 }
@@ -231,7 +231,7 @@ fn amo_doubleword(bits: u32) -> Option<Inst>
 }
 
 /// AMO by width.
-#[inline]
+#[inline(always)]
 fn amo(bits: u32) -> Option<Inst>
     requires { bits % 128 ≡ 0x2f }
     ensures { IsSpelled result bits }
@@ -244,7 +244,7 @@ fn amo(bits: u32) -> Option<Inst>
 }
 
 /// MISC-MEM: FENCE.
-#[inline]
+#[inline(always)]
 fn misc_mem(bits: u32) -> Option<Inst>
     requires { bits % 128 ≡ 0x0f }
     ensures { IsSpelled result bits }
@@ -256,7 +256,7 @@ fn misc_mem(bits: u32) -> Option<Inst>
 }
 
 /// JALR: I-type.
-#[inline]
+#[inline(always)]
 fn jalr(bits: u32) -> Option<Inst>
     requires { bits % 128 ≡ 0x67 }
     ensures { IsSpelled result bits }
@@ -268,7 +268,7 @@ fn jalr(bits: u32) -> Option<Inst>
 }
 
 /// SYSTEM: the two words without operands.
-#[inline]
+#[inline(always)]
 fn system(bits: u32) -> Option<Inst>
     requires { bits % 128 ≡ 0x73 }
     ensures { IsSpelled result bits }

@@ -88,7 +88,7 @@ pub(crate) fn rs2(bits: u32) -> Reg
     Reg::from_low_bits(bits >> 20)
 }
 
-#[inline]
+#[inline(always)]
 pub(crate) fn register(bits: u32) -> RType
     ensures valid { IsRType result }
     ensures sum { word (Register (bits % 128) (bits / 2 ^ 12 % 8) (bits / 2 ^ 25) result) ≡ bits }
@@ -100,7 +100,7 @@ pub(crate) fn register(bits: u32) -> RType
     }
 }
 
-#[inline]
+#[inline(always)]
 pub(crate) fn immediate(bits: u32) -> IType
     ensures valid { IsIType result }
     ensures sum { word (Immediate (bits % 128) (bits / 2 ^ 12 % 8) result) ≡ bits }
@@ -112,7 +112,7 @@ pub(crate) fn immediate(bits: u32) -> IType
     }
 }
 
-#[inline]
+#[inline(always)]
 pub(crate) fn shift_by(bits: u32) -> Shift
     ensures valid { IsShift result }
     ensures sum { word (ShiftBy (bits % 128) (bits / 2 ^ 12 % 8) (bits / 2 ^ 26) result) ≡ bits }
@@ -124,7 +124,7 @@ pub(crate) fn shift_by(bits: u32) -> Shift
     }
 }
 
-#[inline]
+#[inline(always)]
 pub(crate) fn word_shift(bits: u32) -> Shift
     ensures valid { IsWordShift result }
     ensures sum { word (WordShift (bits % 128) (bits / 2 ^ 12 % 8) (bits / 2 ^ 25) result) ≡ bits }
@@ -136,7 +136,7 @@ pub(crate) fn word_shift(bits: u32) -> Shift
     }
 }
 
-#[inline]
+#[inline(always)]
 pub(crate) fn store(bits: u32) -> SType
     ensures valid { IsSType result }
     ensures sum { word (Store (bits % 128) (bits / 2 ^ 12 % 8) result) ≡ bits }
@@ -160,7 +160,7 @@ fn branch_offset(bits: u32) -> u32
     (bits >> 8 & 0xf) << 1 | (bits >> 25 & 0x3f) << 5 | (bits >> 7 & 1) << 11 | bits >> 31 << 12
 }
 
-#[inline]
+#[inline(always)]
 pub(crate) fn branch(bits: u32) -> BType
     ensures valid { IsBType result }
     ensures sum { word (Branch (bits % 128) (bits / 2 ^ 12 % 8) result) ≡ bits }
@@ -172,7 +172,7 @@ pub(crate) fn branch(bits: u32) -> BType
     }
 }
 
-#[inline]
+#[inline(always)]
 pub(crate) fn upper(bits: u32) -> UType
     ensures valid { IsUType result }
     ensures sum { word (Upper (bits % 128) result) ≡ bits }
@@ -197,7 +197,7 @@ fn jump_offset(bits: u32) -> u32
         | bits >> 31 << 20
 }
 
-#[inline]
+#[inline(always)]
 pub(crate) fn jump(bits: u32) -> JType
     ensures valid { IsJType result }
     ensures sum { word (Jump (bits % 128) result) ≡ bits }
@@ -208,7 +208,7 @@ pub(crate) fn jump(bits: u32) -> JType
     }
 }
 
-#[inline]
+#[inline(always)]
 pub(crate) fn memory(bits: u32) -> Atomic
     ensures valid { IsAtomic result }
     ensures sum { word (Memory (bits % 128) (bits / 2 ^ 12 % 8) (bits / 2 ^ 27) result) ≡ bits }
@@ -222,7 +222,7 @@ pub(crate) fn memory(bits: u32) -> Atomic
     }
 }
 
-#[inline]
+#[inline(always)]
 pub(crate) fn load_reserved(bits: u32) -> Reserve
     requires { bits / 2 ^ 20 % 32 ≡ 0 }
     ensures valid { IsReserve result }
@@ -236,7 +236,7 @@ pub(crate) fn load_reserved(bits: u32) -> Reserve
     }
 }
 
-#[inline]
+#[inline(always)]
 pub(crate) fn ordering(bits: u32) -> Fence
     ensures valid { IsFence result }
     ensures sum { word (Ordering (bits % 128) (bits / 2 ^ 12 % 8) result) ≡ bits }

@@ -2,7 +2,7 @@
 //!
 //! Source: RISC-V Unprivileged ISA 20191213, sections 2.6, 8.2 and 8.4.
 
-ghost use Rattle.std.specs.Prelude.{◌≡◌, ℕ, List, ◌+◌, ◌%◌, ◌^◌, ◌<◌, ◌&&◌, true, if◌then◌else◌};
+ghost use Rattle.std.specs.Prelude.{◌≡◌, ℕ, List, ◌+◌, ◌%◌, ◌^◌, ◌<◌, ◌&&◌, true, false, MatchOption, MatchBool, if◌then◌else◌};
 ghost use Rattle.rv_isa_laws.specs.Memory.{number_at, with_number, some_has, may, Execute as ToExecute, Read as ToRead, Write as ToWrite};
 ghost use Rattle.rv_isa_laws.specs.Effect.{Goes, Updates, apply, load_refusal, store_refusal};
 ghost use Rattle.rv_isa_laws.specs.Arithmetic.{extended, low};
@@ -66,22 +66,53 @@ fn store_end<M: Memory>(memory: &M, address: u64, bytes: u64) -> End
     }
 }
 
-/// The number of bytes that may be read, or its signed value.
+/// The number of so many bytes, or its signed value; `None` where they may not be read.
 #[inline(always)]
-fn read<M: Memory>(memory: &M, address: u64, bytes: u64, signed: bool) -> u64
-    requires width { IsWidth bytes }
-    requires may { may (M.mem memory.now) address bytes ToRead ≡ true }
-    ensures { result ≡ made signed bytes (number_at (M.mem memory.now) address bytes) }
+fn read_bytes<M: Memory>(memory: &M, address: u64, bytes: u64, signed: bool) -> Option<u64>
+    requires { IsWidth bytes }
+    ensures { MatchOption result (may (M.mem memory.now) address bytes ToRead ≡ false)
+        (λ value. (may (M.mem memory.now) address bytes ToRead ≡ true) × (value ≡ made signed bytes (number_at (M.mem memory.now) address bytes))) }
 {
-    let number = memory.load(address, bytes);
+    let number = memory.try_load(address, bytes, Right::Read)?;
     if !signed {
-        return number;
+        return Some(number);
     }
     match bytes {
-        1 => alu::extended_8(number as u8),
-        2 => alu::extended_16(number as u16),
-        4 => alu::extended(number as u32),
-        _ => number,
+        1 => Some(alu::extended_8(number as u8)),
+        2 => Some(alu::extended_16(number as u16)),
+        4 => Some(alu::extended(number as u32)),
+        _ => Some(number),
+    }
+}
+
+/// The same, with code of its own for each width.
+#[inline(always)]
+fn read<M: Memory>(memory: &M, address: u64, bytes: u64, signed: bool) -> Option<u64>
+    requires { IsWidth bytes }
+    ensures { MatchOption result (may (M.mem memory.now) address bytes ToRead ≡ false)
+        (λ value. (may (M.mem memory.now) address bytes ToRead ≡ true) × (value ≡ made signed bytes (number_at (M.mem memory.now) address bytes))) }
+{
+    match bytes {
+        1 => read_bytes(memory, address, 1, signed),
+        2 => read_bytes(memory, address, 2, signed),
+        4 => read_bytes(memory, address, 4, signed),
+        _ => read_bytes(memory, address, 8, signed),
+    }
+}
+
+/// Puts the low bytes of a number where they may be written, with code of its own for each width;
+/// whether they may.
+#[inline(always)]
+fn write<M: Memory>(memory: &mut M, address: u64, bytes: u64, value: u64) -> bool
+    requires { IsWidth bytes }
+    ensures right { result ≡ may (M.mem memory.old) address bytes ToWrite }
+    ensures put { MatchBool result (M.mem memory.new ≡ with_number (M.mem memory.old) address bytes value) (M.mem memory.new ≡ M.mem memory.old) }
+{
+    match bytes {
+        1 => memory.try_store(address, 1, value),
+        2 => memory.try_store(address, 2, value),
+        4 => memory.try_store(address, 4, value),
+        _ => memory.try_store(address, 8, value),
     }
 }
 
@@ -93,12 +124,13 @@ pub fn load<M: Memory>(hart: &mut Hart, memory: &M, x: Load, bytes: u64) -> Opti
         let before = hart_of hart.old input console in
         Comes result (apply (effect_of (is.Load x) bytes before) (M.mem memory.now)) before (M.mem memory.now) (hart_of hart.new input console) (M.mem memory.now) }
 {
-    if !memory.may(x.address, x.bytes, Right::Read) {
-        return Some(load_end(memory, x.address, x.bytes));
+    match read(memory, x.address, x.bytes, x.signed) {
+        Some(value) => {
+            set(hart, x.rd, value, bytes);
+            None
+        }
+        None => Some(load_end(memory, x.address, x.bytes)),
     }
-    let value = read(memory, x.address, x.bytes, x.signed);
-    set(hart, x.rd, value, bytes);
-    None
 }
 
 /// Does a store.
@@ -109,10 +141,9 @@ pub fn store<M: Memory>(hart: &mut Hart, memory: &mut M, x: Store, bytes: u64) -
         let before = hart_of hart.old input console in
         Comes result (apply (effect_of (is.Store x) bytes before) (M.mem memory.old)) before (M.mem memory.old) (hart_of hart.new input console) (M.mem memory.new) }
 {
-    if !memory.may(x.address, x.bytes, Right::Write) {
+    if !write(memory, x.address, x.bytes, x.value) {
         return Some(store_end(memory, x.address, x.bytes));
     }
-    memory.store(x.address, x.bytes, x.value);
     hart.pc = hart.pc.wrapping_add(bytes);
     None
 }
@@ -128,16 +159,17 @@ pub fn reserve<M: Memory>(hart: &mut Hart, memory: &M, x: ReservingLoad, bytes: 
     if x.address % x.bytes != 0 {
         return Some(End::MisalignedAtomic(x.address));
     }
-    if !memory.may(x.address, x.bytes, Right::Read) {
-        return Some(load_end(memory, x.address, x.bytes));
+    match read(memory, x.address, x.bytes, x.signed) {
+        Some(value) => {
+            hart.reservation = Some(Reservation {
+                address: x.address,
+                bytes: x.bytes,
+            });
+            set(hart, x.rd, value, bytes);
+            None
+        }
+        None => Some(load_end(memory, x.address, x.bytes)),
     }
-    let value = read(memory, x.address, x.bytes, x.signed);
-    hart.reservation = Some(Reservation {
-        address: x.address,
-        bytes: x.bytes,
-    });
-    set(hart, x.rd, value, bytes);
-    None
 }
 
 /// Stores where the bytes are reserved.

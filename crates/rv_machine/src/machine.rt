@@ -83,13 +83,9 @@ fn advance<M: Memory>(state: &mut State, memory: &mut M) -> Result<Option<End>, 
     match fetch(memory, pc) {
         Fetched::NoRight => Ok(Some(End::FetchOutside(pc))),
         Fetched::NoInstruction => Ok(Some(End::Illegal(pc))),
-        Fetched::Word(inst) => {
-            let action = asked(inst, 4, &state.hart);
-            act(action, 4, state, memory)
-        }
-        Fetched::Parcel(inst) => {
-            let action = asked(inst, 2, &state.hart);
-            act(action, 2, state, memory)
+        Fetched::Got(inst, bytes) => {
+            let action = asked(inst, bytes, &state.hart);
+            act(action, bytes, state, memory)
         }
     }
 }
@@ -133,9 +129,10 @@ impl<M: Memory + Drop> Machine<M> {
             return Ok(Some(end));
         }
         match advance(&mut self.state, &mut self.memory) {
-            Ok(ended) => {
-                self.end = ended;
-                Ok(ended)
+            Ok(None) => Ok(None),
+            Ok(Some(end)) => {
+                self.end = Some(end);
+                Ok(Some(end))
             }
             Err(error) => Err(error),
         }

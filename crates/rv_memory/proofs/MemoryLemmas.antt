@@ -206,3 +206,9 @@ loaded-byte m b v fits is =
     let wraps : b % 2 ^ 64 ≡ b = omega arith in
     let one : number_at m b 1 ≡ m.byte (b % 2 ^ 64) = omega arith in
     is ∙ one ∙ ap m.byte wraps
+
+-- a number is put by its low bytes
+pub put-low : (m n : Mem) (a k v : ℕ) (digits : List ℕ) → k ≤ 8 → digits ≡ to_le_bytes w64 v → n ≡ with_bytes m a (take k digits) → n ≡ with_number m a k v
+put-low m n a k v digits small is new =
+    let low : take k digits ≡ bytes_of k v = ap (take k) is ∙ sym (bytes-to_le_bytes k v small) in
+    new ∙ ap (with_bytes m a) low ∙ sym (with_number-bytes m a k v)

@@ -18,3 +18,9 @@ IsWidth n = (n ≡ 1) ⊎ ((n ≡ 2) ⊎ ((n ≡ 4) ⊎ (n ≡ 8)))
 -- all n bytes from a may be read, or all may be executed
 abbrev pub MayLoad : laws.Mem → ℕ → ℕ → Type 0
 MayLoad m a n = (laws.may m a n laws.Read ≡ true) ⊎ (laws.may m a n laws.Execute ≡ true)
+
+-- the rights by which bytes are loaded
+abbrev pub IsToLoad : Right → Type 0
+IsToLoad Read = Unit {0}
+IsToLoad Execute = Unit {0}
+IsToLoad Write = ⊥

@@ -28,7 +28,14 @@ ghost use Rattle.std.specs.Prelude.{
   slice_index_or,
   set,
 };
-ghost use Rattle.rv_isa_laws.specs.Memory.{may, bytes_at, with_bytes, number_at, Write as ToWrite};
+ghost use Rattle.rv_isa_laws.specs.Memory.{
+  may,
+  bytes_at,
+  with_bytes,
+  number_at,
+  with_number,
+  Write as ToWrite,
+};
 ghost use Rattle.rv_image.specs.Segment.{segment_of};
 ghost use Rattle.rv_memory.specs.Rights.{right_of, IsWidth, MayLoad};
 ghost use Rattle.rv_memory.specs.Flat.{memory_of, AreDisjoint, number_of, no_segment, with_part};
@@ -38,16 +45,22 @@ ghost use Rattle.rv_image.specs.Image.{image_of};
 use crate::memory::{Memory, Right};
 use rv_image::{Image, Segment};
 use std::alloc::{AllocError, Global};
+use std::cell::Cell;
 
 /// Where the stack begins, and how many bytes it has.
 const STACK_START: u64 = 0x3FF0_0000;
 
 const STACK_BYTES: usize = 0x10_0000;
 
-/// Segments that lie apart, the stack among them, each in one piece. A scan finds the segment of an access.
+/// Segments that lie apart, the stack last among them, each in one piece. An access looks first where the latest
+/// one was found, and a scan finds its segment where that one does not hold it.
 #[derive(Drop)]
 pub struct Flat {
     segments: Vec<Segment>,
+    /// The index of the segment where the latest search for bytes to execute ended.
+    code: Cell<usize>,
+    /// The index of the segment where the latest search for bytes below or above the stack ended.
+    data: Cell<usize>,
     ghost apart: { AreDisjoint (map segment_of segments.items) },
 }
 
@@ -77,6 +90,17 @@ fn is_given(segment: &Segment, right: Right) -> bool
         Right::Write => segment.flags / 2 % 2 == 1,
         Right::Read => segment.flags / 4 % 2 == 1,
     }
+}
+
+/// The segment's bytes from one on.
+#[inline(always)]
+fn bytes_from(segment: &Segment, at: u64) -> &[u8]
+    requires { at ≤ length segment.now.bytes.items }
+    ensures value { result.now ≡ drop at segment.now.bytes.items }
+    ensures small { (k : ℕ) → slice_index result.now k < 256 }
+{
+    let bytes = segment.bytes.as_slice();
+    bytes.split_at(at as usize).1
 }
 
 /// The little-endian number of 1, 2, 4 or 8 bytes.
@@ -115,7 +139,11 @@ impl Flat {
         };
         let mut segments = image.segments;
         match segments.push(stack) {
-            Ok(()) => Ok(Flat { segments }),
+            Ok(()) => Ok(Flat {
+                segments,
+                code: Cell::new(0),
+                data: Cell::new(0),
+            }),
             Err(_) => Err(AllocError),
         }
     }
@@ -133,6 +161,99 @@ impl Flat {
             }
         }
         None
+    }
+
+    /// The index of the segment that an access looks at first.
+    #[inline(always)]
+    fn first(&self, address: u64, right: Right) -> usize {
+        match right {
+            Right::Execute => self.code.get(),
+            _ if address.wrapping_sub(STACK_START) < STACK_BYTES as u64 => {
+                self.segments.len().wrapping_sub(1)
+            }
+            _ => self.data.get(),
+        }
+    }
+
+    /// Has the next accesses look first at the segment of an address.
+    fn remember(&self, address: u64, right: Right) {
+        if let Some(i) = self.position(address) {
+            match right {
+                Right::Execute => self.code.set(i),
+                Right::Read | Right::Write => self.data.set(i),
+            }
+        }
+    }
+
+    /// The bytes from an address on, where the segment at the index holds them and gives the right.
+    #[inline(always)]
+    fn part(&self, i: usize, address: u64, bytes: u64, right: Right) -> Option<&[u8]>
+        ensures right { IfSome result (λ _. may (memory_of (map segment_of self.now.segments.items)) address bytes (right_of right) ≡ true) }
+        ensures length { IfSome result (λ part. length part.now ≡ bytes) }
+        ensures bytes { IfSome result (λ part. bytes_at (memory_of (map segment_of self.now.segments.items)) address bytes ≡ part.now) }
+        ensures small { IfSome result (λ part. (k : ℕ) → slice_index part.now k < 256) }
+    {
+        if i >= self.segments.len() {
+            return None;
+        }
+        let segment = &self.segments[i];
+        let at = address.wrapping_sub(segment.address);
+        let length = segment.bytes.len() as u64;
+        if !is_given(segment, right) || at >= length || length - at < bytes {
+            return None;
+        }
+        Some(bytes_from(segment, at).split_at(bytes as usize).0)
+    }
+
+    /// Whether bytes have the right, by a search; the next accesses look first where it ended.
+    #[inline(never)]
+    fn search(&self, address: u64, bytes: u64, right: Right) -> bool
+        ensures { result ≡ may (memory_of (map segment_of self.now.segments.items)) address bytes (right_of right) }
+    {
+        self.remember(address, right);
+        self.may(address, bytes, right)
+    }
+
+    /// The number of bytes that were searched for.
+    #[inline(never)]
+    fn load_found(&self, address: u64, bytes: u64) -> u64
+        requires width { IsWidth bytes }
+        requires may { MayLoad (memory_of (map segment_of self.now.segments.items)) address bytes }
+        ensures number { result ≡ number_at (memory_of (map segment_of self.now.segments.items)) address bytes }
+        ensures bytes { (k : ℕ) → k < bytes → (memory_of (map segment_of self.now.segments.items)).byte ((address + k) % 2 ^ 64) < 256 }
+    {
+        self.load(address, bytes)
+    }
+
+    /// Puts bytes where the segment at the index holds them and gives the right to write; whether it does.
+    #[inline(always)]
+    fn put_part(&mut self, i: usize, address: u64, bytes: &[u8]) -> bool
+        ensures { MatchBool result
+            ((may (memory_of (map segment_of self.old.segments.items)) address (length bytes.now) ToWrite ≡ true)
+            × (memory_of (map segment_of self.new.segments.items) ≡ with_bytes (memory_of (map segment_of self.old.segments.items)) address bytes.now))
+            (map segment_of self.new.segments.items ≡ map segment_of self.old.segments.items) }
+    {
+        if i >= self.segments.len() {
+            return false;
+        }
+        let segment = &self.segments[i];
+        let at = address.wrapping_sub(segment.address);
+        let length = segment.bytes.len() as u64;
+        if !is_given(segment, Right::Write) || at >= length || length - at < bytes.len() as u64 {
+            return false;
+        }
+        self.write(i, at as usize, bytes);
+        true
+    }
+
+    /// Puts the low bytes of a number that were searched for.
+    #[inline(never)]
+    fn store_found(&mut self, address: u64, bytes: u64, value: u64)
+        requires width { IsWidth bytes }
+        requires may { may (memory_of (map segment_of self.old.segments.items)) address bytes ToWrite ≡ true }
+        ensures { memory_of (map segment_of self.new.segments.items) ≡ with_number (memory_of (map segment_of self.old.segments.items)) address bytes value }
+    {
+        self.store(address, bytes, value);
     }
 
     /// How many bytes from an address on, up to its segment's end, have the right.
@@ -282,5 +403,41 @@ impl Memory for Flat {
         if !self.put_within(address, low) {
             self.put_across(address, low);
         }
+    }
+
+    #[inline(always)]
+    fn try_load(&self, address: u64, bytes: u64, right: Right) -> Option<u64> {
+        if let Some(part) = self.part(self.first(address, right), address, bytes, right) {
+            return Some(number(part));
+        }
+        if self.search(address, bytes, right) {
+            Some(self.load_found(address, bytes))
+        } else {
+            None
+        }
+    }
+
+    #[inline(always)]
+    fn try_store(&mut self, address: u64, bytes: u64, value: u64) -> bool {
+        let digits = value.to_le_bytes();
+        let first = self.first(address, Right::Write);
+        if self.put_part(first, address, &digits[..bytes as usize]) {
+            return true;
+        }
+        if self.search(address, bytes, Right::Write) {
+            self.store_found(address, bytes, value);
+            return true;
+        }
+        false
+    }
+
+    #[inline]
+    fn piece(&self, address: u64) -> &[u8] {
+        self.rest(address)
+    }
+
+    #[inline]
+    fn put_piece(&mut self, address: u64, bytes: &[u8]) -> bool {
+        self.put_within(address, bytes)
     }
 }

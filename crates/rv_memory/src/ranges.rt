@@ -17,6 +17,9 @@ pub fn put_bytes<M: Memory>(memory: &mut M, address: u64, bytes: &[u8])
     requires { may (M.mem memory.old) address (length bytes.now) ToWrite ≡ true }
     ensures { M.mem memory.new ≡ with_bytes (M.mem memory.old) address bytes.now }
 {
+    if memory.put_piece(address, bytes) {
+        return;
+    }
     for (k, byte) in bytes.iter().enumerate() {
         memory.store(address.wrapping_add(k as u64), 1, u64::from(*byte));
     }
@@ -34,6 +37,13 @@ pub fn append_bytes<M: Memory>(
         (λ _. out.new.items ≡ out.old.items ++ bytes_at (M.mem memory.now) address count)
         (λ _. out.new.items ≡ out.old.items) }
 {
+    let piece = memory.piece(address);
+    if count <= piece.len() as u64 {
+        return match out.extend_from_slice(piece.split_at(count as usize).0) {
+            Ok(()) => Ok(()),
+            Err(_) => Err(AllocError),
+        };
+    }
     let before = out.len();
     for k in 0..count {
         let byte = memory.load(address.wrapping_add(k), 1) as u8;

@@ -1,2 +1,4 @@
 pub mod Names
 pub mod Statements
+pub mod Refusals
+pub mod Lines

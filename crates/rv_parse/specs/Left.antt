@@ -1,8 +1,12 @@
 -- The tokens that a cursor has left, and what its readings answer.
 
-use Rattle.std.specs.Prelude.{◌≡◌, ℕ, List, [], ◌∷◌, length, Result, Ok, Err, ◌⊎◌, if◌then◌else◌}
+use Rattle.std.specs.Prelude.{◌≡◌, ◌<◌, ℕ, false, List, [], ◌∷◌, length, Result, Ok, Err, ◌⊎◌, if◌then◌else◌}
 use Rattle.rv_parse_laws.specs.Statement.{Spoken}
-use Rattle.rv_parse_laws.specs.Reading.{most_statements, SaysUpTo}
+use Rattle.rv_parse_laws.specs.Syntax.{is_end}
+use Rattle.rv_parse_laws.specs.Faults.{limit}
+use Rattle.rv_parse_laws.specs.Reading.{most_statements, SaysUpTo, Refuses}
+use Rattle.rv_text.specs.declared.fault.SourceFault.{SourceFault}
+use Rattle.rv_text.specs.declared.fault.SourceFault.TheVariants as faults
 use Rattle.rv_text_laws.specs.Lexing as lexing
 use Rattle.rv_text.specs.Token.{token_of, kind_of}
 use Rattle.rv_text.specs.Fault.{number_of}
@@ -19,7 +23,7 @@ left c = token_of c.next ∷ (if lexing.is_last (kind_of c.next.kind) then [] el
 
 -- the wrong token that an error names
 abbrev pub wrong_of : Wrong → parsing.Wrong
-wrong_of w = record { start = w.start; line = w.line; code = number_of w.code }
+wrong_of w = record { place = w.place; line = w.line; code = number_of w.code }
 
 -- a call's result, as `view` sees it, is what the reading at the front of the tokens gives
 abbrev pub Gives : {X Y : Type 0} → (X → Y) → Result X Wrong → Result Y parsing.Wrong → Type 0
@@ -36,12 +40,23 @@ abbrev pub Answers : {X Y : Type 0} → (X → Y) → Result X Refusal → Resul
 Answers view (Ok x) read = read ≡ Ok (view x)
 Answers view (Err e) read = Fails e read
 
--- no further statement is answered at these tokens, behind so many statements: the part there is wrong, or it is one too many
-abbrev pub StopsAt : Refusal → ℕ → List lexing.Token → Type 0
-StopsAt (refusals.At w) count ts = (parsing.part_at ts ≡ Err (wrong_of w)) ⊎ (count ≡ most_statements)
-StopsAt refusals.OutOfMemory count ts = Unit {0}
+-- No further statement is answered at the token t, which begins the tokens ts behind so many statements: the part there is
+-- wrong, or it is a statement too many; where it is both, what stands first.
+abbrev pub StopsAt : Refusal → ℕ → lexing.Token → List lexing.Token → Type 0
+StopsAt (refusals.At w) count t ts =
+    ((parsing.part_at ts ≡ Err (wrong_of w)) × ((count < most_statements) ⊎ ((count ≡ most_statements) × (w.place ≡ t.start))))
+    ⊎ ((count ≡ most_statements) × (wrong_of w ≡ record { place = t.start; line = t.line; code = limit })
+    × ((v : parsing.Wrong) → parsing.part_at ts ≡ Err v → v.place ≡ t.start → ⊥))
+StopsAt refusals.OutOfMemory count t ts = Unit {0}
 
--- the tokens say statements up to a place where no further one is answered
+-- the tokens say statements up to a token where no further one is answered
 abbrev pub RefusesTokens : List lexing.Token → Refusal → Type 0
-RefusesTokens ts (refusals.At w) = (rest : List lexing.Token) × (ss : List Spoken) × SaysUpTo ts rest ss × StopsAt (refusals.At w) (length ss) rest
+RefusesTokens ts (refusals.At w) =
+    (t : lexing.Token) × (us : List lexing.Token) × (ss : List Spoken) × SaysUpTo ts (t ∷ us) ss × (is_end t.kind ≡ false)
+    × StopsAt (refusals.At w) (length ss) t (t ∷ us)
 RefusesTokens ts refusals.OutOfMemory = Unit {0}
+
+-- the bytes are refused with the code and the line of the fault, unless memory ran out
+abbrev pub RefusedWith : List ℕ → SourceFault → Type 0
+RefusedWith bytes (faults.At code line) = Refuses bytes (record { code = number_of code; line = line })
+RefusedWith bytes faults.OutOfMemory = Unit {0}

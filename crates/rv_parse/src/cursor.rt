@@ -18,11 +18,24 @@ use std::alloc::{AllocError, AllocFailed};
 /// A token that is wrong where it stands.
 #[derive(Clone, Copy, Debug, PartialEq, Eq, Drop)]
 pub struct Wrong {
-    /// The place of its first byte.
-    pub start: u32,
-    /// The line of its first byte.
+    /// The place of the fault.
+    pub place: usize,
+    /// Its line.
     pub line: u32,
     pub code: SourceCode,
+}
+
+impl Wrong {
+    /// The fault of a token with this code.
+    pub fn at(token: Token<'_>, code: SourceCode) -> Self
+        ensures { wrong_of result ≡ wrong (token_of token.entry) (number_of code) }
+    {
+        Wrong {
+            place: fault::place_of(token, code),
+            line: token.line,
+            code,
+        }
+    }
 }
 
 /// Why no statements are answered.
@@ -93,11 +106,7 @@ impl<'a> Cursor<'a> {
     pub fn wrong(&self, code: SourceCode) -> Wrong
         ensures { wrong_of result ≡ wrong (token_of self.now.next) (number_of code) }
     {
-        Wrong {
-            start: self.next.start,
-            line: self.next.line,
-            code,
-        }
+        Wrong::at(self.next, code)
     }
 
     /// A register.

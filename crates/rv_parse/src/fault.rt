@@ -1,15 +1,16 @@
 //! What is wrong where: the codes of the faults of phase one.
 
-ghost use Rattle.std.specs.Prelude.{◌≡◌};
+ghost use Rattle.std.specs.Prelude.{◌≡◌, ◌==◌};
 ghost use Rattle.std.specs.List.{list_all};
 ghost use Rattle.rv_text_laws.specs.Bytes.{is_decimal};
 ghost use Rattle.rv_text.specs.Fault.{number_of};
-ghost use Rattle.rv_text.specs.Token.{kind_of};
-ghost use Rattle.rv_parse_laws.specs.Faults.{wrong_or, wrong_name, wrong_register, wrong_value, wrong_literal, wrong_after, wrong_symbol, wrong_option, wrong_word, wrong_start, wrong_number, wrong_label, is_operator};
+ghost use Rattle.rv_text.specs.Token.{token_of, kind_of};
+ghost use Rattle.rv_parse_laws.specs.Parsing.{is_long, place_of};
+ghost use Rattle.rv_parse_laws.specs.Faults.{limit, wrong_or, wrong_name, wrong_register, wrong_value, wrong_literal, wrong_after, wrong_symbol, wrong_option, wrong_word, wrong_start, wrong_number, wrong_label, is_operator};
 ghost use Rattle.rv_parse.specs.View.{slot_of};
 
 use crate::words::{is_known, is_option, register_named};
-use rv_text::{Sign, SourceCode, TokenKind};
+use rv_text::{Sign, SourceCode, Token, TokenKind};
 
 /// The longest name, in bytes.
 pub const LONGEST_NAME: usize = 4095;
@@ -19,6 +20,35 @@ pub const LONGEST_NAME: usize = 4095;
 pub enum Slot {
     Register,
     Value,
+}
+
+/// A name that is longer than a symbol's.
+fn is_long(kind: TokenKind<'_>) -> bool
+    ensures { result ≡ is_long (kind_of kind.entry) }
+{
+    match kind {
+        TokenKind::Name(name) => LONGEST_NAME < name.len(),
+        _ => false,
+    }
+}
+
+/// The code of what is too long or too many.
+fn is_limit(code: SourceCode) -> bool
+    ensures { result ≡ (number_of code == limit) }
+{
+    matches!(code, SourceCode::Limit)
+}
+
+/// Where a token's fault stands: at its first byte, but a name's limit at the first byte past it.
+#[tactic(auto, unfolding(rv_parse_laws::specs::Parsing::place_of))]
+pub fn place_of(token: Token<'_>, code: SourceCode) -> usize
+    ensures { result ≡ place_of (token_of token.entry) (number_of code) }
+{
+    if is_limit(code) && is_long(token.kind) {
+        token.start as usize + LONGEST_NAME
+    } else {
+        token.start as usize
+    }
 }
 
 /// The code of a token that is wrong wherever it stands; for every other the code of its place.

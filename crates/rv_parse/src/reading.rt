@@ -111,11 +111,7 @@ impl<'a> Cursor<'a> {
                 self.advance();
                 Ok(StatementKind::Label(name))
             }
-            None => Err(Wrong {
-                start: first.start,
-                line: first.line,
-                code: fault::at_label(first.kind),
-            }),
+            None => Err(Wrong::at(first, fault::at_label(first.kind))),
         }
     }
 
@@ -130,11 +126,7 @@ impl<'a> Cursor<'a> {
             Beginning::Instruction(Mnemonic::Li) => Ok(self.li()?),
             Beginning::Globl => Ok(StatementKind::Globl(self.names(alloc)?)),
             Beginning::Option => Ok(self.option()?),
-            Beginning::Nothing => Err(Refusal::At(Wrong {
-                start: first.start,
-                line: first.line,
-                code: fault::at_start(first.kind),
-            })),
+            Beginning::Nothing => Err(Refusal::At(Wrong::at(first, fault::at_start(first.kind)))),
         }
     }
 

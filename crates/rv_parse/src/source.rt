@@ -1,20 +1,21 @@
 //! The statements of a source.
 
 ghost use Rattle.std.specs.Prelude.{◌≡◌, ◌<◌, ◌≤◌, [], IfOk, IfErr, IfSome, MatchResult, map, length, false, take, ◌+◌};
-ghost use Rattle.rv_text.specs.Token.{kind_of};
+ghost use Rattle.rv_text.specs.Token.{token_of, kind_of};
 ghost use Rattle.rv_text_laws.specs.Lexing.{newlines};
 ghost use Rattle.rv_parse_laws.specs.Syntax.{is_end, Says};
+ghost use Rattle.rv_parse_laws.specs.Faults.{limit};
 ghost use Rattle.rv_parse_laws.specs.Parsing.{part_at};
 ghost use Rattle.rv_parse_laws.specs.Reading.{Reads, past_line, most_statements, SaysUpTo};
 ghost use Rattle.rv_text.specs.Left.{tokens_left};
 ghost use Rattle.rv_parse.specs.View.{statement_of, said_by};
-ghost use Rattle.rv_parse.specs.Left.{left, StopsAt, RefusesTokens};
+ghost use Rattle.rv_parse.specs.Left.{left, wrong_of, StopsAt, RefusesTokens, RefusedWith};
 
 use crate::cursor::{Cursor, Refusal, Wrong};
-use crate::fault::LONGEST_NAME;
 use crate::kinds;
 use crate::statement::Statement;
-use rv_text::{Lexer, SourceCode, SourceFault};
+use memchr::memrchr;
+use rv_text::{Lexer, SourceCode, SourceFault, Token};
 use std::alloc::Global;
 
 /// The longest source, in bytes.
@@ -26,22 +27,31 @@ const LONGEST_LINE: usize = 65535;
 /// The most statements of a source.
 const MOST_STATEMENTS: usize = 1 << 22;
 
-/// The place of the first byte past the limit of its line.
+/// The place of the first byte past the limit of its line. Of so many bytes as a line with its line feed may have, the
+/// last line feed alone is looked for: the lines before it are short enough.
 fn past_line(source: &[u8]) -> Option<usize>
     ensures place { result ≡ past_line 0 0 source.now }
     ensures within { IfSome result (λ place. place ≤ length source.now) }
 {
-    let mut before = 0;
-    for (place, byte) in source.iter().enumerate() {
-        if *byte == b'\n' {
-            before = 0;
-        } else if before == LONGEST_LINE {
-            return Some(place);
-        } else {
-            before += 1;
+    let mut start = 0;
+    while LONGEST_LINE < source.len() - start {
+        match memrchr(b'\n', &source[start..start + LONGEST_LINE + 1]) {
+            Some(end) => start += end + 1,
+            None => return Some(start + LONGEST_LINE),
         }
     }
     None
+}
+
+/// The fault of the first token of a statement past the most.
+fn past_statements(first: Token<'_>) -> Wrong
+    ensures { wrong_of result ≡ record { place = first.entry.start; line = first.entry.line; code = limit } }
+{
+    Wrong {
+        place: first.start as usize,
+        line: first.line,
+        code: SourceCode::Limit,
+    }
 }
 
 /// The statement at the front of the tokens, behind so many others; the next token ends none.
@@ -54,14 +64,10 @@ fn next_statement<'a>(
     ensures read { IfOk result (λ s. part_at (left cursor.old) ≡ Ok (Says (statement_of s.kind), left cursor.new)) }
     ensures line { IfOk result (λ s. s.line ≡ cursor.old.next.line) }
     ensures room { IfOk result (λ s. count < most_statements) }
-    ensures stops { count ≤ most_statements → IfErr result (λ e. StopsAt e count (left cursor.old)) }
+    ensures stops { count ≤ most_statements → IfErr result (λ e. StopsAt e count (token_of cursor.old.next) (left cursor.old)) }
 {
     let first = cursor.next;
-    let past = Wrong {
-        start: first.start,
-        line: first.line,
-        code: SourceCode::Limit,
-    };
+    let past = past_statements(first);
     match cursor.statement(alloc) {
         Ok(kind) => {
             if count < MOST_STATEMENTS {
@@ -74,7 +80,7 @@ fn next_statement<'a>(
             }
         }
         Err(Refusal::At(wrong)) => {
-            if count < MOST_STATEMENTS || wrong.start == first.start {
+            if count < MOST_STATEMENTS || wrong.place == past.place {
                 Err(Refusal::At(wrong))
             } else {
                 Err(Refusal::At(past))
@@ -119,19 +125,11 @@ fn line_of(text: &[u8]) -> u32
     line
 }
 
-/// Where the fault of a wrong token stands: a name's limit at the first byte past it.
-fn place_of(wrong: Wrong) -> usize {
-    if matches!(wrong.code, SourceCode::Limit) {
-        wrong.start as usize + LONGEST_NAME
-    } else {
-        wrong.start as usize
-    }
-}
-
 /// The statements of a source. A fault names its line, from 1: it is the first of the source, in the order of its bytes;
 /// a source over 16 MiB has it at line 0.
 pub fn parse(alloc: Global, source: &[u8]) -> Result<Vec<Statement<'_>>, SourceFault>
-    ensures { IfOk result (λ v. Reads source.now (map said_by v.items)) }
+    ensures reads { IfOk result (λ v. Reads source.now (map said_by v.items)) }
+    ensures refuses { IfErr result (λ e. RefusedWith source.now e) }
 {
     if LONGEST_SOURCE < source.len() {
         return Err(SourceFault::At {
@@ -143,7 +141,7 @@ pub fn parse(alloc: Global, source: &[u8]) -> Result<Vec<Statement<'_>>, SourceF
     match statements(alloc, Lexer::new(source)) {
         Err(Refusal::OutOfMemory) => Err(SourceFault::OutOfMemory),
         Err(Refusal::At(wrong)) => match past {
-            Some(place) if place < place_of(wrong) => Err(SourceFault::At {
+            Some(place) if place < wrong.place => Err(SourceFault::At {
                 code: SourceCode::Limit,
                 line: line_of(&source[..place]),
             }),

@@ -8,3 +8,6 @@ pub mod FirstWrong
 pub mod PartWrong
 pub mod NameLists
 pub mod Progress
+pub mod Cutting
+pub mod Places
+pub mod FirstFault

@@ -27,7 +27,7 @@ counted_some n (Ok (q, rest)) p k e =
     (rest, ap (λ (x : Part × ℕ). Ok (x.0, rest)) pair, sym (ap (λ (x : Part × ℕ). x.1) pair))
 counted_some n (Err w) p k e = absurd (cc)
 
-counted_none : (n : ℕ) (r : Read Part) → counted n r ≡ None → (w : Wrong) × (r ≡ Err w)
+pub counted_none : (n : ℕ) (r : Read Part) → counted n r ≡ None → (w : Wrong) × (r ≡ Err w)
 counted_none n (Ok (q, rest)) e = absurd (cc)
 counted_none n (Err w) e = (w, refl)
 

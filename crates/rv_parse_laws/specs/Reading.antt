@@ -5,10 +5,10 @@ use Rattle.rv_text_laws.specs.Cut.{Piece, Cuts, NothingReads}
 use Rattle.rv_text_laws.specs.Grammar.{Kind}
 use Rattle.rv_text_laws.specs.Lexing.{Token, Lexes, newlines}
 use Rattle.rv_parse_laws.specs.Statement.{Statement, Label, Spoken}
-use Rattle.rv_parse_laws.specs.Syntax.{longest_name, Part, Ends, Says, IsPart, StopsPart, is_end, is_comma, is_minus, is_colon, begins, Slot, A_register, A_value, slots}
+use Rattle.rv_parse_laws.specs.Syntax.{Part, Ends, Says, IsPart, StopsPart, is_end, is_comma, is_minus, is_colon, begins, Slot, A_register, A_value, slots}
 use Rattle.rv_parse_laws.specs.Words.{Beginning, Begins_instruction, Begins_globl, Begins_option, Begins_nothing}
 use Rattle.rv_parse_laws.specs.Faults.{limit, bad_operands, wrong_first, wrong_literal, wrong_after, wrong_symbol, wrong_option, wrong_start, wrong_label}
-use Rattle.rv_parse_laws.specs.Parsing.{colon_next}
+use Rattle.rv_parse_laws.specs.Parsing.{colon_next, place_of}
 
 -- the longest source and the longest line without its line feed, in bytes, and the most statements
 abbrev pub longest_source : ℕ
@@ -103,10 +103,6 @@ abbrev pub code_at : List Token → Token → List Token → ℕ
 code_at [] at more = if colon_next more then wrong_label at.kind else wrong_start at.kind
 code_at (t ∷ ts) at more = code_begun (begins t.kind) ts at
 
--- where a fault stands: at the token's first byte, but a name's limit at the first byte past it
-abbrev pub place_of : ℕ → ℕ → ℕ
-place_of start code = if code == limit then start + longest_name else start
-
 -- a token with which nothing can go on, behind good parts
 pub record WrongToken (bytes : List ℕ) (place code : ℕ) : Type 0 where
   pub tokens : List Token
@@ -122,7 +118,7 @@ pub record WrongToken (bytes : List ℕ) (place code : ℕ) : Type 0 where
   pub goes : CanGoOn rest before
   pub stops : CanGoOn rest (before ++ at ∷ []) → ⊥
   pub code_is : code ≡ code_at before at more
-  pub place_is : place ≡ place_of at.start code
+  pub place_is : place ≡ place_of at code
 
 -- the first token of a statement past the most
 pub record PastStatements (bytes : List ℕ) (place : ℕ) : Type 0 where

@@ -2,9 +2,19 @@
 
 ghost use Rattle.std.specs.Prelude.{◌≡◌, ℕ, List};
 ghost use Rattle.rv_parse_laws.specs.Statement.{Spoken};
-ghost use Rattle.rv_parse_laws.specs.Reading.{Reads};
+ghost use Rattle.rv_parse_laws.specs.Reading.{Reads, Fault, Refuses};
 
 /// Bytes have at most one reading.
 pub fn one_reading()
     ensures { (bytes : List ℕ) (ss others : List Spoken) → Reads bytes ss → Reads bytes others → ss ≡ others }
+{}
+
+/// Bytes have at most one first fault.
+pub fn one_fault()
+    ensures { (bytes : List ℕ) (fault other : Fault) → Refuses bytes fault → Refuses bytes other → fault ≡ other }
+{}
+
+/// No bytes have both a reading and a fault.
+pub fn not_both()
+    ensures { (bytes : List ℕ) (ss : List Spoken) (fault : Fault) → Reads bytes ss → Refuses bytes fault → ⊥ }
 {}

@@ -5,4 +5,4 @@
 
 mod laws;
 
-pub use laws::one_reading;
+pub use laws::{not_both, one_fault, one_reading};

@@ -1,6 +1,6 @@
 -- The inside of a string: what its atoms are, up to the quote.
 
-use Rattle.std.proofs.Common.{◌≡◌, ℕ, zero, suc, ◌+◌, ◌-◌, ◌<◌, ◌≤◌, Bool, true, false, cond, ◌==◌, List, [], ◌∷◌, ◌++◌, length, take, drop, map, refl, sym, ◌∙◌, ap, subst, arith, length-append, Option, Some, None, option_map}
+use Rattle.std.proofs.Common.{◌≡◌, ℕ, zero, suc, ◌+◌, ◌-◌, ◌<◌, ◌≤◌, Bool, true, false, cond, ◌==◌, List, [], ◌∷◌, ◌++◌, length, take, drop, map, refl, sym, ◌∙◌, ap, subst, arith, append_assoc, length-append, Option, Some, None, option_map}
 use Rattle.std.proofs.lemmas.List.{append-nil}
 use Rattle.std.proofs.lemmas.Option.{some_pair_parts}
 use Rattle.std.proofs.Math.Seq.{take-append_seam}
@@ -119,3 +119,30 @@ not_escaped (x ∷ xs) back atom = go (atom_at (x ∷ xs)) (by_escape x xs back)
     go : (o : Option (Atom × ℕ)) → character_at (x ∷ xs) ≡ closed_escape (x ∷ xs) o → ◌≡◌ {A = Option (ℕ × ℕ)} None (option_map (λ f. (byte_of f.0, f.1)) o) → None ≡ character_at (x ∷ xs)
     go None is e = sym is
     go (Some f) is e = cc
+
+-- a string's bytes, one by one
+pub string_more : (bytes : List ℕ) (b n : ℕ) → ◌≡◌ {A = Option (ℕ × ℕ)} (Some (b, n)) (option_map (λ f. (byte_of f.0, f.1)) (atom_at bytes)) → string_bytes bytes ≡ b ∷ string_bytes (drop n bytes)
+unfolding string_bytes
+string_more bytes b n e = go (atom_at bytes) refl e
+  where
+    go : (o : Option (Atom × ℕ)) → atom_at bytes ≡ o → ◌≡◌ {A = Option (ℕ × ℕ)} (Some (b, n)) (option_map (λ f. (byte_of f.0, f.1)) o)
+        → map (λ a. byte_of a.kind) (cut atom_at bytes).0 ≡ b ∷ map (λ a. byte_of a.kind) (cut atom_at (drop n bytes)).0
+    go None at is = cc
+    go (Some (a, m)) at is =
+        let byte : b ≡ byte_of a = (some_pair_parts b (byte_of a) n m is).0 in
+        let size : n ≡ m = (some_pair_parts b (byte_of a) n m is).1 in
+        ap (λ c. map (λ (p : Piece Atom ℕ). byte_of p.kind) c.0) (cut-some atoms bytes a m at)
+        ∙ ap (λ x. x ∷ map (λ (p : Piece Atom ℕ). byte_of p.kind) (cut atom_at (drop m bytes)).0) (sym byte)
+        ∙ ap (λ k. b ∷ map (λ (p : Piece Atom ℕ). byte_of p.kind) (cut atom_at (drop k bytes)).0) (sym size)
+
+pub string_none : (bytes : List ℕ) → ◌≡◌ {A = Option (ℕ × ℕ)} None (option_map (λ f. (byte_of f.0, f.1)) (atom_at bytes)) → string_bytes bytes ≡ []
+unfolding string_bytes
+string_none bytes e = go (atom_at bytes) refl e
+  where
+    go : (o : Option (Atom × ℕ)) → atom_at bytes ≡ o → ◌≡◌ {A = Option (ℕ × ℕ)} None (option_map (λ f. (byte_of f.0, f.1)) o) → map (λ a. byte_of a.kind) (cut atom_at bytes).0 ≡ []
+    go None at is = ap (λ c. map (λ (p : Piece Atom ℕ). byte_of p.kind) c.0) (cut-none atoms bytes at)
+    go (Some f) at is = cc
+
+pub string_on : (out new all rest : List ℕ) (b : ℕ) (after : List ℕ) → out ++ string_bytes rest ≡ all → string_bytes rest ≡ b ∷ string_bytes after → new ≡ out ++ b ∷ [] → new ++ string_bytes after ≡ all
+string_on out new all rest b after so more pushed =
+    ap (λ (l : List ℕ). l ++ string_bytes after) pushed ∙ append_assoc out (b ∷ []) (string_bytes after) ∙ ap (λ (l : List ℕ). out ++ l) (sym more) ∙ so

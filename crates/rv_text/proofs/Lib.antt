@@ -3,3 +3,7 @@ pub mod Escapes
 pub mod Scans
 pub mod Inside
 pub mod Steps
+pub mod Exprs
+pub mod ReadingSteps
+pub mod Evals
+pub mod Feeds

@@ -1,6 +1,6 @@
 -- What the pieces of the code stand for.
 
-use Rattle.std.specs.Prelude.{ℕ}
+use Rattle.std.specs.Prelude.{ℕ, Bool, true, false}
 use Rattle.rv_text_laws.specs.Grammar as grammar
 use Rattle.rv_text.specs.declared.piece.Piece.{Piece}
 use Rattle.rv_text.specs.declared.piece.PieceKind.{PieceKind}
@@ -16,3 +16,9 @@ piece_kind_of (Token kind) = kind_of kind
 -- a piece's kind and its length
 abbrev pub front_of : Piece → grammar.Kind × ℕ
 front_of p = (piece_kind_of p.kind, p.length)
+
+-- the kinds whose pieces have line feeds
+abbrev pub has_feeds : grammar.Kind → Bool
+has_feeds grammar.Block_comment = true
+has_feeds grammar.Newline = true
+has_feeds _ = false

@@ -1,11 +1,13 @@
 //! The lexer: the tokens of a source, one after the other.
 
 ghost use Rattle.std.specs.Prelude.{◌≡◌, ◌+◌, ◌<◌, ◌≤◌, ◌^◌, ◌∷◌, [], true, length, take, drop, if◌then◌else◌};
+ghost use Rattle.rv_text_laws.specs.Grammar.{Spells};
 ghost use Rattle.rv_text_laws.specs.Lexing.{newlines, is_last, last_kind};
+ghost use Rattle.rv_text.specs.Piece.{piece_kind_of};
 ghost use Rattle.rv_text.specs.Token.{kind_of, token_of};
 
 use crate::class::class;
-use crate::piece::{line_feeds, piece_at};
+use crate::piece::{Piece, line_feeds_of, piece_at};
 use crate::token::{Token, TokenKind};
 use rv_text_laws::Class;
 
@@ -47,7 +49,7 @@ impl<'a> Lexer<'a> {
         while let Some(piece) = piece_at(self.rest) {
             let start = self.at;
             let line = self.line;
-            self.skip(piece.length);
+            self.skip(piece);
             if let Some(kind) = piece.kind.token() {
                 return Token {
                     kind,
@@ -65,18 +67,19 @@ impl<'a> Lexer<'a> {
         }
     }
 
-    /// Passes over bytes.
-    fn skip(&mut self, count: usize)
-        requires { count ≤ length self.old.rest.now }
-        ensures rest { self.new.rest.now ≡ drop count self.old.rest.now }
-        ensures at { self.new.at ≡ self.old.at + count }
-        ensures line { self.new.line ≡ self.old.line + newlines (take count self.old.rest.now) }
+    /// Passes over the piece at the front.
+    fn skip(&mut self, piece: Piece<'a>)
+        requires within { piece.length ≤ length self.old.rest.now }
+        requires spelled { Spells (piece_kind_of piece.kind) (take piece.length self.old.rest.now) }
+        ensures rest { self.new.rest.now ≡ drop piece.entry.length self.old.rest.now }
+        ensures at { self.new.at ≡ self.old.at + piece.entry.length }
+        ensures line { self.new.line ≡ self.old.line + newlines (take piece.entry.length self.old.rest.now) }
     {
-        let (text, rest) = self.rest.split_at(count);
-        let feeds = line_feeds(text);
+        let (text, rest) = self.rest.split_at(piece.length);
+        let feeds = line_feeds_of(piece.kind, text);
         *self = Lexer {
             rest,
-            at: self.at + count as u32,
+            at: self.at + piece.length as u32,
             line: self.line + feeds as u32,
         };
     }

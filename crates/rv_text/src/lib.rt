@@ -4,14 +4,25 @@
 #![tactic(auto)]
 
 mod class;
+mod cursor;
+mod evaluation;
+mod expr;
 mod fault;
 mod lexer;
+mod node;
 mod piece;
+mod reading;
 mod text;
 mod token;
 mod word;
 
+pub use cursor::{Cursor, Refusal, Wrong};
+pub use evaluation::{Meaning, Value, eval};
+pub use expr::Expr;
 pub use fault::{SourceCode, SourceFault};
 pub use lexer::Lexer;
-pub use rv_text_laws::Sign;
+pub use node::{Node, Symbol};
+pub use reading::{Registers, expression, parse_expr};
+pub use rv_text_laws::{BinaryOperator, Sign, UnaryOperator};
+pub use text::append_string;
 pub use token::{Token, TokenKind};

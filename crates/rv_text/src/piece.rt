@@ -3,10 +3,11 @@
 ghost use Rattle.std.specs.Prelude.{◌≡◌, ◌+◌, ◌≤◌, ◌<◌, ◌^◌, ◌∷◌, slice_index, true, false, MatchOption, length, option_map};
 ghost use Rattle.std.specs.List.{prefix_len};
 ghost use Rattle.rv_text_laws.specs.Bytes.{in_line};
+ghost use Rattle.rv_text_laws.specs.Grammar.{Spells};
 ghost use Rattle.rv_text_laws.specs.Lexing.{newlines, is_gap};
 ghost use Rattle.rv_text_laws.specs.Front.{close_at, piece_at, piece_by, after_slash, after_less, after_greater, with_equal};
 ghost use Rattle.rv_text.specs.Token.{kind_of};
-ghost use Rattle.rv_text.specs.Piece.{front_of, piece_kind_of};
+ghost use Rattle.rv_text.specs.Piece.{front_of, piece_kind_of, has_feeds};
 
 use crate::class::class;
 use crate::text::{character_at, string_length};
@@ -41,6 +42,18 @@ impl<'a> PieceKind<'a> {
     }
 }
 
+impl PieceKind<'_> {
+    /// Whether such pieces have line feeds.
+    fn has_feeds(self) -> bool
+        ensures { result ≡ has_feeds (piece_kind_of self.entry) }
+    {
+        matches!(
+            self,
+            PieceKind::BlockComment | PieceKind::Token(TokenKind::Newline)
+        )
+    }
+}
+
 /// The piece at the front of bytes.
 #[derive(Clone, Copy, Drop)]
 pub(crate) struct Piece<'a> {
@@ -49,8 +62,22 @@ pub(crate) struct Piece<'a> {
     pub(crate) length: usize,
 }
 
+/// The line feeds of a piece that has this text.
+#[tactic(auto, using(crate::proofs::Feeds::no_feeds))]
+pub(crate) fn line_feeds_of(kind: PieceKind<'_>, text: &[u8]) -> usize
+    requires { Spells (piece_kind_of kind) text.now }
+    ensures count { result ≡ newlines text.now }
+    ensures within { result ≤ length text.now }
+{
+    if kind.has_feeds() {
+        line_feeds(text)
+    } else {
+        0
+    }
+}
+
 /// The line feeds in bytes.
-pub(crate) fn line_feeds(bytes: &[u8]) -> usize
+fn line_feeds(bytes: &[u8]) -> usize
     ensures count { result ≡ newlines bytes.now }
     ensures within { result ≤ length bytes.now }
 {

@@ -1,6 +1,6 @@
 //! Strings and characters.
 
-ghost use Rattle.std.specs.Prelude.{◌≡◌, ◌==◌, ◌+◌, ◌%◌, ◌<◌, ◌≤◌, None, false, length, take, option_map, if◌then◌else◌};
+ghost use Rattle.std.specs.Prelude.{◌≡◌, ◌==◌, ◌+◌, ◌%◌, ◌<◌, ◌≤◌, None, false, length, take, option_map, if◌then◌else◌, IfOk, ◌++◌};
 ghost use Rattle.std.specs.List.{prefix_len};
 ghost use Rattle.rv_text_laws.specs.Cut.{cut};
 ghost use Rattle.rv_text_laws.specs.Bytes.{is_digit};
@@ -10,6 +10,7 @@ ghost use Rattle.rv_text_laws.specs.Front.{begins, number_by, escape_at, atom_at
 ghost use Rattle.rv_text.specs.Token.{string_bytes};
 
 use crate::word::{is_digit, number_by};
+use std::alloc::AllocError;
 
 /// The byte that a letter after a backslash stands for.
 fn named(letter: u8) -> Option<u8>
@@ -139,6 +140,19 @@ pub(crate) fn string_length(bytes: &[u8]) -> Option<usize>
     } else {
         None
     }
+}
+
+/// Appends the bytes that a string has, by what stands between its quotes.
+pub fn append_string(text: &[u8], bytes: &mut Vec<u8>) -> Result<(), AllocError>
+    ensures { IfOk result (λ _. bytes.new.items ≡ bytes.old.items ++ string_bytes text.now) }
+{
+    let mut rest = text;
+    while let Some((byte, length)) = atom_at(rest) {
+        bytes.push(byte)?;
+        let (_, after) = rest.split_at(length);
+        rest = after;
+    }
+    Ok(())
 }
 
 /// A character that stands for itself, after its apostrophe: its byte, and its length with both.

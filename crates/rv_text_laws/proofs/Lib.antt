@@ -6,3 +6,6 @@ pub mod Classes
 pub mod Comments
 pub mod Pieces
 pub mod Tokens
+pub mod Expressions
+pub mod ExpressionFound
+pub mod ExpressionValues

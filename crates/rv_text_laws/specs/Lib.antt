@@ -4,3 +4,6 @@ pub mod Strings
 pub mod Grammar
 pub mod Lexing
 pub mod Front
+pub mod Expression
+pub mod ExpressionAt
+pub mod Values

@@ -1,13 +1,17 @@
-//! The words of a source: its bytes cut into pieces, its pieces read as tokens. Definitions and their laws; nothing
-//! here runs.
+//! The words of a source: its bytes cut into pieces, its pieces read as tokens, its tokens read as expressions, and
+//! their values. Definitions and their laws; nothing here runs.
 //!
 //! Source: RISC-V Assembly Programmer's Manual; GNU as, "Syntax" and "RISC-V Dependent Features".
 #![tactic(auto)]
 
 mod class;
 mod laws;
+mod operator;
 mod sign;
 
 pub use class::Class;
-pub use laws::{one_list, one_piece, some_list};
+pub use laws::{
+    expression_found, expression_is, one_list, one_piece, postfix_fits, postfix_value, some_list,
+};
+pub use operator::{BinaryOperator, Frame, UnaryOperator};
 pub use sign::Sign;

@@ -1,9 +1,19 @@
-use Rattle.std.proofs.Common.{◌≡◌, ◌+◌, ◌*◌, ◌%◌, ◌^◌, ◌<◌, ◌++◌, ◌∙◌, ℕ, true, List, [], ◌∷◌, inl, refl, sym, ap, length, append_assoc, rules, arith}
+use Rattle.std.proofs.Common.{◌≡◌, ◌+◌, ◌*◌, ◌%◌, ◌^◌, ◌<◌, ◌≤◌, ◌++◌, ◌∙◌, ℕ, true, List, [], ◌∷◌, inl, refl, sym, ap, length, take, append_assoc, rules, arith}
 use Rattle.std.specs.Result.{is_ok}
 use Rattle.std.proofs.lemmas.Grind.{common_steps}
 use Rattle.rv_isa_laws.specs.Memory.{Mem, Read, bytes_at, number_at}
-use Rattle.rv_memory.proofs.MemoryLemmas.{may-at, bytes-more, loaded-byte}
+use Rattle.rv_memory.proofs.MemoryLemmas.{may-at, bytes-more, bytes-take, loaded-byte}
 use Rattle.rv_memory.proofs.ranges.append_bytes.Goals as goal
+
+pub returns-in-Ok : goal.returns-in-Ok
+returns-in-Ok g c =
+    let m : Mem = g.M.Memory.mem c.args.memory.now in
+    let within : c.args.count ≤ length c.piece-piece.result.now = omega (arith, c.if-count-piece.true) in
+    let bytes : c.split_at.result.0.now ≡ bytes_at m c.args.address c.args.count =
+    c.split_at.ensures.front ∙ ap (λ (bs : List ℕ). take c.args.count bs) (sym c.piece-piece.ensures)
+    ∙ sym (bytes-take m c.args.address (length c.piece-piece.result.now) c.args.count within) in
+    let items : c.extend_from_slice.new.self.items ≡ c.args.out.now.items ++ c.split_at.result.0.now = grind (arith, common_steps, c.in-Ok.ensures.items) in
+    items ∙ ap (λ (bs : List ℕ). c.args.out.now.items ++ bs) bytes
 
 pub load-byte-requires-clause-may : goal.load-byte-requires-clause-may
 load-byte-requires-clause-may g c =

@@ -1,6 +1,26 @@
-use Rattle.std.proofs.Common.{sym}
+use Rattle.std.proofs.Common.{sym, ◌∙◌}
 use Rattle.rv_parse_laws.proofs.Whole.{reads_as}
+use Rattle.rv_parse.proofs.Refusals.{line_first, line_alone, token_before, token_alone}
+use Rattle.rv_parse.proofs.source.parse.Goals.{in_default-via-in-Some+else-place-wrong, in_default-via-in_default}
 use Rattle.rv_parse.proofs.source.parse.Goals as goal
 
-pub returns : goal.returns
-returns c = reads_as c.args.source.now _ _ c.if-source-gt-LONGEST_SOURCE.false (sym c.in-None.ensures.place) c.in-Ok.ensures.within c.new.ensures c.in-Ok.ensures.says
+pub returns-clause-reads : goal.returns-clause-reads
+returns-clause-reads c = reads_as c.args.source.now _ _ c.if-source-gt-LONGEST_SOURCE.false (sym c.in-None.ensures.place) c.in-Ok.ensures.within c.new.ensures c.in-Ok.ensures.says
+
+pub returns-in-Some-clause-refuses : goal.returns-in-Some-clause-refuses
+returns-in-Some-clause-refuses c =
+    line_first c.args.source.now _ c.in-Err-At.wrong c.in-Some.place c.line_of.result c.if-source-gt-LONGEST_SOURCE.false c.new.ensures (rw c.in-Err-At.field-0-is at c.in-Err-At.ensures.refuses)
+    (sym c.in-Some.ensures.place) c.if-place-wrong.true c.line_of.ensures
+
+pub returns-in-Err-At-clause-refuses : goal.returns-in-Err-At-clause-refuses
+returns-in-Err-At-clause-refuses c = elim c.in_default.branch [
+  | in_default-via-in-Some+else-place-wrong w ↦ token_before c.args.source.now _ c.in-Err-At.wrong w.in-Some.place c.if-source-gt-LONGEST_SOURCE.false c.new.ensures (rw c.in-Err-At.field-0-is at c.in-Err-At.ensures.refuses)
+      (sym w.in-Some.ensures.place) w.if-place-wrong.false
+  | in_default-via-in_default w ↦ token_alone c.args.source.now _ c.in-Err-At.wrong c.if-source-gt-LONGEST_SOURCE.false c.new.ensures (rw c.in-Err-At.field-0-is at c.in-Err-At.ensures.refuses)
+      (sym w.in_default.ensures.place)
+]
+
+pub returns-in-Some-past-clause-refuses : goal.returns-in-Some-past-clause-refuses
+returns-in-Some-past-clause-refuses c =
+    line_alone c.args.source.now _ _ c.in-Some-past.place c.line_of-in-Some-past.result c.if-source-gt-LONGEST_SOURCE.false c.new.ensures c.in-Ok.ensures.says c.in-Ok.ensures.within
+    (sym c.in-Some-past.ensures.place) c.line_of-in-Some-past.ensures

@@ -2,7 +2,8 @@ use Rattle.std.proofs.Common.{◌≡◌, ◌∙◌, sym, arith}
 use Rattle.rv_text.specs.Token.{token_of}
 use Rattle.rv_parse.specs.Left.{left}
 use Rattle.rv_parse_laws.proofs.Progress.{push_end, statement_shorter}
-use Rattle.rv_parse.proofs.Statements.{statements_push, counted_push, behind, left_is, statements_end}
+use Rattle.std.proofs.lemmas.Result.{err_from_is_err_and}
+use Rattle.rv_parse.proofs.Statements.{statements_push, counted_push, behind, left_is, statements_end, refuses_here}
 use Rattle.rv_parse.proofs.source.statements.Goals as goal
 
 pub loop-cursor-preserved-then-is_end : goal.loop-cursor-preserved-then-is_end
@@ -25,3 +26,9 @@ loop-cursor-preserved c = record {
 
 pub returns-clause-says : goal.returns-clause-says
 returns-clause-says c = statements_end _ c.loop-cursor.cursor _ c.loop-cursor.invariant.says (sym c.is_source_end.ensures ∙ c.loop-cursor-test.false)
+
+pub returns-in_err-next_statement-clause-refuses : goal.returns-in_err-next_statement-clause-refuses
+returns-in_err-next_statement-clause-refuses c =
+    let p = err_from_is_err_and c.from_residual.result c.from_residual.ensures.1 in
+    rw (p.1, p.2) (refuses_here _ c.loop-cursor.cursor _ _ _ c.loop-cursor.invariant.says (sym c.is_end.ensures ∙ c.if-is_end.false) c.loop-cursor.invariant.counted
+    (c.in_err-next_statement.ensures.stops c.loop-cursor.invariant.within))

@@ -4,11 +4,15 @@ use Rattle.rv_text_laws.specs.Lexing.{is_last}
 use Rattle.rv_text.specs.Token.{kind_of}
 use Rattle.rv_text.specs.Piece.{piece_kind_of}
 use Rattle.rv_text.specs.Left.{tokens_left}
+use Rattle.rv_text.proofs.Feeds.{found_spelled}
 use Rattle.rv_text.proofs.Steps.{goes_on_after, piece_within, gap_step, token_step, stop_step}
 use Rattle.rv_text.proofs.lexer.Lexer.next.Goals as goal
 
 pub skip-requires : goal.skip-requires
-skip-requires c = (piece_within c.loop-piece.self.rest.now (piece_kind_of c.in-Some.piece.kind) c.in-Some.piece.length c.in-Some.ensures).1
+skip-requires c = record {
+  within = (piece_within c.loop-piece.self.rest.now (piece_kind_of c.in-Some.piece.kind) c.in-Some.piece.length c.in-Some.ensures).1;
+  spelled = found_spelled c.loop-piece.self.rest.now (piece_kind_of c.in-Some.piece.kind) c.in-Some.piece.length c.in-Some.ensures;
+}
 
 pub returns-in-Some-token-clause-first : goal.returns-in-Some-token-clause-first
 returns-in-Some-token-clause-first c =

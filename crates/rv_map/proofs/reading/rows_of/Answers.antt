@@ -1,0 +1,15 @@
+use Rattle.rv_map.specs.Limits.{IsRow}
+use Rattle.rv_map.specs.Text.{row_line}
+use Rattle.rv_map.proofs.Whole.{items_more, all_more, line_shorter}
+use Rattle.rv_map.proofs.reading.rows_of.Goals as goal
+
+pub loop-row-preserved : goal.loop-row-preserved
+loop-row-preserved c =
+    record {
+      text = rw c.in_ok-push.ensures.items
+          (items_more row_line c.args.bytes.now c.loop-row.rows.items c.in-Some.row c.loop-row.rest.now c.in-Some.after.now c.loop-row.invariant.text c.in-Some.ensures.found);
+      fit = rw c.in_ok-push.ensures.items (all_more IsRow c.loop-row.rows.items c.in-Some.row c.loop-row.invariant.fit c.in-Some.ensures.fits);
+    }
+
+pub loop-row-smaller : goal.loop-row-smaller
+loop-row-smaller c = line_shorter (row_line c.in-Some.row) c.loop-row.rest.now c.in-Some.after.now c.in-Some.ensures.found

@@ -1,0 +1,68 @@
+-- What the parser's refusals say of the source.
+
+use Rattle.std.proofs.Common.{◌≡◌, ℕ, ◌+◌, ◌<◌, ◌≤◌, List, [], ◌∷◌, length, take, Option, Some, None, Result, Ok, Err, refl, sym, ◌∙◌, ap, subst, arith, ◌⊎◌, inl, inr}
+use Rattle.std.proofs.lemmas.Option.{same_Some}
+use Rattle.rv_text_laws.specs.Lexing as lexing
+use Rattle.rv_text_laws.specs.Front.{tokens_from}
+use Rattle.rv_text_laws.proofs.Tokens.{given}
+use Rattle.rv_text.specs.declared.fault.SourceCode.{SourceCode}
+use Rattle.rv_text.specs.declared.fault.SourceCode.TheVariants.{Limit}
+use Rattle.rv_text.specs.Fault.{number_of}
+use Rattle.rv_parse_laws.specs.Statement.{Spoken}
+use Rattle.rv_parse_laws.specs.Faults.{limit}
+use Rattle.rv_parse_laws.specs.Parsing as parsing
+use Rattle.rv_parse_laws.specs.Reading.{SaysUpTo, said, past_line, longest_source, most_statements, Refuses}
+use Rattle.rv_parse_laws.proofs.FirstFault.{FirstInTokens, InTokens, wrong_first, past_first, all_good, line_refused, before_tokens, token_refused}
+use Rattle.rv_parse.specs.declared.cursor.Wrong.{Wrong}
+use Rattle.rv_parse.specs.declared.cursor.Refusal.TheVariants as refusals
+use Rattle.rv_parse.specs.Left.{wrong_of, RefusesTokens}
+
+-- no code is above the limit's
+pub code_within : (code : SourceCode) → number_of code ≤ limit
+code_within Limit = omega arith
+code_within _ = omega arith
+
+-- the wrong token with which the statements end is the first fault of the tokens
+pub first_in_tokens : (bytes : List ℕ) (ts : List lexing.Token) (w : Wrong) → ts ≡ tokens_from 0 1 bytes → RefusesTokens ts (refusals.At w) → FirstInTokens bytes (wrong_of w)
+first_in_tokens bytes ts w is (t, us, ss, (ps, cut, said_is), no_end, stops) = go stops
+  where
+    lexes : lexing.Lexes bytes ts
+    lexes = subst (lexing.Lexes bytes) (sym is) (given bytes)
+
+    counts : length ss ≡ length (said ps)
+    counts = ap (λ (xs : List Spoken). length xs) said_is
+
+    few : (length ss < most_statements) ⊎ ((length ss ≡ most_statements) × (w.place ≡ t.start)) → (length (said ps) < most_statements) ⊎ ((length (said ps) ≡ most_statements) × (w.place ≡ t.start))
+    few (inl fewer) = inl (subst (λ n. n < most_statements) counts fewer)
+    few (inr (most, here)) = inr (sym counts ∙ most, here)
+
+    go : ((parsing.part_at (t ∷ us) ≡ Err (wrong_of w)) × ((length ss < most_statements) ⊎ ((length ss ≡ most_statements) × (w.place ≡ t.start))))
+        ⊎ ((length ss ≡ most_statements) × (wrong_of w ≡ record { place = t.start; line = t.line; code = limit })
+        × ((v : parsing.Wrong) → parsing.part_at (t ∷ us) ≡ Err v → v.place ≡ t.start → ⊥)) → FirstInTokens bytes (wrong_of w)
+    go (inl (wrong, fewer)) = wrong_first bytes ts ps t us (wrong_of w) lexes cut wrong (code_within w.code) (few fewer)
+    go (inr (most, same, not)) = subst (FirstInTokens bytes) (sym same) (past_first bytes ts ps t us lexes cut no_end (sym counts ∙ most) not)
+
+-- a line that is too long before the tokens' first fault
+pub line_first : (bytes : List ℕ) (ts : List lexing.Token) (w : Wrong) (place line : ℕ) → length bytes ≤ longest_source → ts ≡ tokens_from 0 1 bytes → RefusesTokens ts (refusals.At w)
+    → past_line 0 0 bytes ≡ Some place → place < w.place → line ≡ 1 + lexing.newlines (take place bytes) → Refuses bytes (record { code = limit; line = line })
+line_first bytes ts w place line short is refuses past before line_is =
+    line_refused bytes place line short past (λ p c fault. before_tokens bytes (wrong_of w) place p c (first_in_tokens bytes ts w is refuses) before fault) line_is
+
+-- a line that is too long behind good statements
+pub line_alone : (bytes : List ℕ) (ts : List lexing.Token) (ss : List Spoken) (place line : ℕ) → length bytes ≤ longest_source → ts ≡ tokens_from 0 1 bytes → SaysUpTo ts [] ss
+    → length ss ≤ most_statements → past_line 0 0 bytes ≡ Some place → line ≡ 1 + lexing.newlines (take place bytes) → Refuses bytes (record { code = limit; line = line })
+line_alone bytes ts ss place line short is (ps, cut, said_is) few past line_is =
+    line_refused bytes place line short past
+    (λ p c fault. absurd (all_good bytes ts ps (subst (lexing.Lexes bytes) (sym is) (given bytes)) cut (subst (λ (xs : List Spoken). length xs ≤ most_statements) said_is few) p c fault)) line_is
+
+-- the tokens' first fault before a line that is too long, or where there is none
+pub token_before : (bytes : List ℕ) (ts : List lexing.Token) (w : Wrong) (place : ℕ) → length bytes ≤ longest_source → ts ≡ tokens_from 0 1 bytes → RefusesTokens ts (refusals.At w)
+    → past_line 0 0 bytes ≡ Some place → w.place ≤ place → Refuses bytes (record { code = number_of w.code; line = w.line })
+token_before bytes ts w place short is refuses past before =
+    token_refused bytes (wrong_of w) short (first_in_tokens bytes ts w is refuses) (code_within w.code)
+    (λ q at. subst (λ n. w.place ≤ n) (same_Some place q (sym past ∙ at)) before)
+
+pub token_alone : (bytes : List ℕ) (ts : List lexing.Token) (w : Wrong) → length bytes ≤ longest_source → ts ≡ tokens_from 0 1 bytes → RefusesTokens ts (refusals.At w)
+    → past_line 0 0 bytes ≡ None → Refuses bytes (record { code = number_of w.code; line = w.line })
+token_alone bytes ts w short is refuses none =
+    token_refused bytes (wrong_of w) short (first_in_tokens bytes ts w is refuses) (code_within w.code) (λ q at. absurd (cc))

@@ -1,0 +1,342 @@
+-- The first fault of a source: there is at most one, and a source that is read has none.
+
+use Rattle.std.proofs.Common.{◌≡◌, ℕ, suc, ◌+◌, ◌<◌, ◌≤◌, Bool, true, false, List, [], ◌∷◌, ◌++◌, append_assoc, length, take, Option, Some, None, Result, Ok, Err, refl, sym, ◌∙◌, ap, subst, arith, ◌⊎◌, inl, inr}
+use Rattle.std.proofs.lemmas.Option.{same_Some}
+use Rattle.rv_text_laws.specs.Cut.{Piece, texts, Cuts, NothingReads, cut}
+use Rattle.rv_text_laws.specs.Lexing.{Token, Lexes, newlines}
+use Rattle.rv_text_laws.proofs.Cut.{unique, nothing_none}
+use Rattle.rv_text_laws.proofs.Tokens.{one_list}
+use Rattle.rv_parse_laws.specs.Statement.{Spoken}
+use Rattle.rv_parse_laws.specs.Syntax.{Part, IsPart, StopsPart, is_end}
+use Rattle.rv_parse_laws.specs.Faults.{limit}
+use Rattle.rv_parse_laws.specs.Parsing.{Wrong, part_at, place_of, after_first}
+use Rattle.rv_parse_laws.specs.Reading.{AreParts, Reads, said, past_line, longest_source, most_statements, CanGoOn, code_at, WrongToken, PastStatements, Stands, Fault, IsFirst, Refuses}
+use Rattle.rv_parse_laws.proofs.Shown.{ended, heads, tails}
+use Rattle.rv_parse_laws.proofs.PartWrong.{code_in_part, part_shown}
+use Rattle.rv_parse_laws.proofs.Whole.{find_part, finds_parts}
+use Rattle.rv_parse_laws.proofs.Cutting.{GoesOn, comparable, no_part, wrong_there, no_further, same_or_more, nothing_more_said, none_at_end}
+use Rattle.rv_parse_laws.proofs.Places.{LineIs, Standing, stand, standing_at, standing_behind, place_at_least, place_of_none, ended_rest}
+
+-- the line of a token's faults, behind parts and further tokens
+token_line : (bytes : List ℕ) (ts before : List Token) (t : Token) (more : List Token) → Lexes bytes ts → ts ≡ before ++ t ∷ more → LineIs bytes t
+token_line bytes ts before t more lexes whole = (standing_at bytes 0 before t more (subst (Standing bytes 0) whole (stand bytes ts lexes))).1
+
+-- the tokens from one on, behind others
+standing_from : (bytes : List ℕ) (ts before : List Token) (t : Token) (us : List Token) → Lexes bytes ts → ts ≡ before ++ t ∷ us → Standing bytes t.start (t ∷ us)
+standing_from bytes ts before t us lexes whole =
+    let h = standing_behind bytes 0 before (t ∷ us) (subst (Standing bytes 0) whole (stand bytes ts lexes)) in
+    (omega arith, h.1, h.2)
+
+same_code : (rest before : List Token) (at : Token) (more : List Token) → rest ≡ before ++ at ∷ more → code_in_part rest before at ≡ code_at before at more
+same_code rest [] at more whole = ap (λ us. code_at [] at (after_first us)) whole
+same_code rest (b ∷ before) at more whole = refl
+
+-- what is known where the part at the front of the rest is wrong
+pub record WrongPart (bytes : List ℕ) (t : Token) (w : Wrong) : Type 0 where
+  pub stands : WrongToken bytes w.place w.code
+  pub line : w.line ≡ 1 + newlines (take w.place bytes)
+  pub behind : t.start ≤ w.place
+
+pub wrong_part : (bytes : List ℕ) (ts : List Token) (parts : List (Piece Part Token)) (t : Token) (us : List Token) (w : Wrong) → Lexes bytes ts → AreParts ts parts (t ∷ us)
+    → part_at (t ∷ us) ≡ Err w → WrongPart bytes t w
+wrong_part bytes ts parts t us w lexes cut e =
+    let s = part_shown (t ∷ us) w (ended_rest bytes ts (texts parts) t us lexes cut.whole) e in
+    let code : w.code ≡ code_in_part (t ∷ us) s.before s.at = ap (λ (x : Wrong). x.code) s.is_wrong in
+    let place : w.place ≡ place_of s.at w.code = ap (λ (x : Wrong). x.place) s.is_wrong ∙ ap (place_of s.at) (sym code) in
+    let whole : ts ≡ (texts parts ++ s.before) ++ s.at ∷ s.more = cut.whole ∙ ap (λ xs. texts parts ++ xs) s.whole ∙ sym (append_assoc (texts parts) s.before (s.at ∷ s.more)) in
+    let line : s.at.line ≡ 1 + newlines (take (place_of s.at w.code) bytes) = token_line bytes ts (texts parts ++ s.before) s.at s.more lexes whole w.code in
+    let from = (standing_at bytes t.start s.before s.at s.more (subst (Standing bytes t.start) s.whole (standing_from bytes ts (texts parts) t us lexes cut.whole))).0 in
+    let least : s.at.start ≤ place_of s.at w.code = place_at_least s.at w.code in
+    record {
+      stands = record {
+        tokens = ts;
+        lexes = lexes;
+        parts = parts;
+        rest = t ∷ us;
+        cut = cut;
+        nothing = no_part (t ∷ us) w e;
+        before = s.before;
+        at = s.at;
+        more = s.more;
+        whole = s.whole;
+        goes = (s.goes.1.0, s.goes.0, s.goes.1.1, s.goes.1.2);
+        stops = λ h. s.stops h.1 (h.0, h.2, h.3);
+        code_is = code ∙ same_code (t ∷ us) s.before s.at s.more s.whole;
+        place_is = place;
+      };
+      line = ap (λ (x : Wrong). x.line) s.is_wrong ∙ line ∙ ap (λ n. 1 + newlines (take n bytes)) (sym place);
+      behind = omega (arith, from, least, place);
+    }
+
+-- of two places in a list the one comes first, or they are the same
+fronts : (xs ys : List Token) (x y : Token) (us vs : List Token) → xs ++ x ∷ us ≡ ys ++ y ∷ vs
+    → ((xs ≡ ys) × (x ≡ y) × (us ≡ vs)) ⊎ (((zs : List Token) × (ys ≡ xs ++ x ∷ zs)) ⊎ ((zs : List Token) × (xs ≡ ys ++ y ∷ zs)))
+fronts [] [] x y us vs e = inl (refl, heads e, tails e)
+fronts [] (b ∷ ys) x y us vs e = inr (inl (ys, ap (λ (t : Token). t ∷ ys) (sym (heads e))))
+fronts (a ∷ xs) [] x y us vs e = inr (inr (xs, ap (λ (t : Token). t ∷ xs) (heads e)))
+fronts (a ∷ xs) (b ∷ ys) x y us vs e =
+    let first : a ≡ b = heads e in
+    elim (fronts xs ys x y us vs (tails e)) [
+      | inl s ↦ inl (ap (λ (t : Token). t ∷ xs) first ∙ ap (λ (zs : List Token). b ∷ zs) s.0, s.1, s.2)
+      | inr (inl z) ↦ inr (inl (z.0, ap (λ (t : Token). t ∷ ys) (sym first) ∙ ap (λ (zs : List Token). a ∷ zs) z.1))
+      | inr (inr z) ↦ inr (inr (z.0, ap (λ (t : Token). t ∷ xs) first ∙ ap (λ (zs : List Token). b ∷ zs) z.1))
+    ]
+
+-- what goes on goes on from its fronts
+goes_on_front : (rest before : List Token) (at : Token) (more all : List Token) → all ≡ before ++ at ∷ more → CanGoOn rest all → CanGoOn rest (before ++ at ∷ [])
+goes_on_front rest before at more all is (p, after, label, spelled) =
+    (p, more ++ after, label, subst (IsPart p) (ap (λ us. us ++ after) is ∙ append_assoc before (at ∷ more) after ∙ sym (append_assoc before (at ∷ []) (more ++ after))) spelled)
+
+-- the fault at a token, by the token and what stands before and behind it
+same_fault : (rest : List Token) (b : List Token) (t : Token) (more : List Token) (d : List Token) (u : Token) (others : List Token) (p c q e : ℕ)
+    → b ++ t ∷ more ≡ d ++ u ∷ others
+    → CanGoOn rest b → (CanGoOn rest (b ++ t ∷ []) → ⊥) → CanGoOn rest d → (CanGoOn rest (d ++ u ∷ []) → ⊥)
+    → c ≡ code_at b t more → e ≡ code_at d u others → p ≡ place_of t c → q ≡ place_of u e → (p ≡ q) × (c ≡ e)
+same_fault rest b t more d u others p c q e whole goes stops goes' stops' code code' place place' =
+    elim (fronts b d t u more others whole) [
+      | inl (fronts, tokens, behind) ↦ (let codes : c ≡ e = cc in (cc, codes))
+      | inr (inl (zs, is)) ↦ absurd (stops (goes_on_front rest b t zs d is goes'))
+      | inr (inr (zs, is)) ↦ absurd (stops' (goes_on_front rest d u zs b is goes))
+    ]
+
+-- at most one token is wrong
+pub one_wrong : (bytes : List ℕ) (p c q d : ℕ) → WrongToken bytes p c → WrongToken bytes q d → (p ≡ q) × (c ≡ d)
+one_wrong bytes p c q d x y =
+    let tokens : x.tokens ≡ y.tokens = one_list bytes x.tokens y.tokens x.lexes y.lexes in
+    let one : cut find_part x.tokens ≡ (x.parts, x.rest) = unique finds_parts x.tokens x.parts x.rest x.cut (nothing_none finds_parts x.rest x.nothing) in
+    let two : cut find_part y.tokens ≡ (y.parts, y.rest) = unique finds_parts y.tokens y.parts y.rest y.cut (nothing_none finds_parts y.rest y.nothing) in
+    let rests : y.rest ≡ x.rest = ap (λ (z : List (Piece Part Token) × List Token). z.1) (sym two ∙ ap (cut find_part) (sym tokens) ∙ one) in
+    same_fault x.rest x.before x.at x.more y.before y.at y.more p c q d (sym x.whole ∙ sym rests ∙ y.whole)
+    x.goes x.stops (subst (λ r. CanGoOn r y.before) rests y.goes) (λ h. y.stops (subst (λ r. CanGoOn r (y.before ++ y.at ∷ [])) (sym rests) h))
+    x.code_is y.code_is x.place_is y.place_is
+
+behind_first : (t : Token) (us text rest : List Token) → t ∷ us ≡ text ++ rest → 0 < length text → (vs : List Token) × (us ≡ vs ++ rest)
+behind_first t us [] rest whole some = absurd (omega (arith, some))
+behind_first t us (v ∷ vs) rest whole some = (vs, tails whole)
+
+-- a wrong token stands behind the first token of good parts
+behind_good : (bytes : List ℕ) (t : Token) (us : List Token) (m : Piece Part Token) (more : List (Piece Part Token)) (rest before : List Token) (at : Token) (others : List Token) (p code : ℕ)
+    → Standing bytes t.start (t ∷ us) → AreParts (t ∷ us) (m ∷ more) rest → rest ≡ before ++ at ∷ others → p ≡ place_of at code → t.start < p
+behind_good bytes t us m more rest before at others p code standing cut whole place =
+    let f = behind_first t us m.text (texts more ++ rest) (cut.whole ∙ append_assoc m.text (texts more) rest) (finds_parts.some m.kind m.text cut.each.0) in
+    let is : us ≡ (f.0 ++ (texts more ++ before)) ++ at ∷ others =
+    f.1 ∙ ap (λ xs. f.0 ++ (texts more ++ xs)) whole ∙ ap (λ xs. f.0 ++ xs) (sym (append_assoc (texts more) before (at ∷ others)))
+    ∙ sym (append_assoc f.0 (texts more ++ before) (at ∷ others)) in
+    let h = (standing_at bytes (suc t.start) (f.0 ++ (texts more ++ before)) at others (subst (Standing bytes (suc t.start)) is standing.2)).0 in
+    let least : at.start ≤ place_of at code = place_at_least at code in
+    omega (arith, h, least, place)
+
+apart : (a b : ℕ) → a ≤ b → (a ≡ b → ⊥) → a < b
+apart a b le other = grind arith
+
+-- behind a cut up to a token, where the part there is good or wrong behind the token, wrong tokens stand behind it
+pub wrong_behind : (bytes : List ℕ) (ts : List Token) (ps : List (Piece Part Token)) (t : Token) (us : List Token) (p c : ℕ) → Lexes bytes ts → AreParts ts ps (t ∷ us)
+    → ((w : Wrong) → part_at (t ∷ us) ≡ Err w → w.place ≡ t.start → ⊥) → WrongToken bytes p c → t.start < p
+wrong_behind bytes ts ps t us p c lexes cut not x =
+    let tokens : x.tokens ≡ ts = one_list bytes x.tokens ts x.lexes lexes in
+    go (comparable ts ps x.parts (t ∷ us) x.rest cut (subst (λ xs. AreParts xs x.parts x.rest) tokens x.cut))
+  where
+    here : x.rest ≡ t ∷ us → t.start < p
+    here same =
+        let e = wrong_there (t ∷ us) (subst (λ xs. NothingReads IsPart StopsPart xs) same x.nothing) in
+        let k = wrong_part bytes ts ps t us e.0 lexes cut e.1 in
+        let place : e.0.place ≡ p = (one_wrong bytes e.0.place e.0.code p c k.stands x).0 in
+        let le : t.start ≤ p = omega (arith, k.behind, place) in
+        apart t.start p le (λ h. not e.0 e.1 (place ∙ sym h))
+
+    go : GoesOn ps (t ∷ us) x.parts x.rest ⊎ GoesOn x.parts x.rest ps (t ∷ us) → t.start < p
+    go (inl ([], is, c)) = here (sym c.whole)
+    go (inl (m ∷ more, is, c)) = behind_good bytes t us m more x.rest x.before x.at x.more p _ (standing_from bytes ts (texts ps) t us lexes cut.whole) c x.whole x.place_is
+    go (inr ([], is, c)) = here c.whole
+    go (inr (m ∷ more, is, c)) = absurd (no_further x.rest m more (t ∷ us) x.nothing c)
+
+-- a statement too many is the rest of a cut that goes as far as it can, or the cut says more
+past_where : (bytes : List ℕ) (ts : List Token) (ps : List (Piece Part Token)) (rest : List Token) (q : ℕ) → Lexes bytes ts → AreParts ts ps rest → NothingReads IsPart StopsPart rest
+    → (x : PastStatements bytes q) → ((rest ≡ x.at ∷ x.more) × (length (said ps) ≡ most_statements)) ⊎ (most_statements < length (said ps))
+past_where bytes ts ps rest q lexes cut nothing x =
+    let tokens : x.tokens ≡ ts = one_list bytes x.tokens ts x.lexes lexes in
+    go (comparable ts x.parts ps (x.at ∷ x.more) rest (subst (λ xs. AreParts xs x.parts (x.at ∷ x.more)) tokens x.cut) cut)
+  where
+    go : GoesOn x.parts (x.at ∷ x.more) ps rest ⊎ GoesOn ps rest x.parts (x.at ∷ x.more) → ((rest ≡ x.at ∷ x.more) × (length (said ps) ≡ most_statements)) ⊎ (most_statements < length (said ps))
+    go (inl on) = elim (same_or_more x.at x.more x.parts ps rest x.begins_one on) [
+      | inl s ↦ inl (sym s.0, sym s.1 ∙ x.most)
+      | inr more ↦ inr (subst (λ n. n < length (said ps)) x.most more)
+    ]
+    go (inr ([], is, c)) = inl (c.whole, nothing_more_said ps x.parts is ∙ x.most)
+    go (inr (m ∷ more, is, c)) = absurd (no_further rest m more (x.at ∷ x.more) nothing c)
+
+-- a fault that stands at a token: a wrong one, or the first of a statement too many
+abbrev pub InTokens : List ℕ → ℕ → ℕ → Type 0
+InTokens bytes place code = WrongToken bytes place code ⊎ ((code ≡ limit) × PastStatements bytes place)
+
+-- the first fault that stands at a token
+pub record FirstInTokens (bytes : List ℕ) (w : Wrong) : Type 0 where
+  pub stands : InTokens bytes w.place w.code
+  pub first : (p c : ℕ) → InTokens bytes p c → (w.place < p) ⊎ ((w.place ≡ p) × (w.code ≤ c))
+  pub line : w.line ≡ 1 + newlines (take w.place bytes)
+
+-- the part at the front of the rest is wrong, and no statement too many begins before that place
+pub wrong_first : (bytes : List ℕ) (ts : List Token) (ps : List (Piece Part Token)) (t : Token) (us : List Token) (w : Wrong) → Lexes bytes ts → AreParts ts ps (t ∷ us)
+    → part_at (t ∷ us) ≡ Err w → w.code ≤ limit → (length (said ps) < most_statements) ⊎ ((length (said ps) ≡ most_statements) × (w.place ≡ t.start)) → FirstInTokens bytes w
+wrong_first bytes ts ps t us w lexes cut e low few = record {
+  stands = inl k.stands;
+  first = first;
+  line = k.line;
+}
+  where
+    k : WrongPart bytes t w
+    k = wrong_part bytes ts ps t us w lexes cut e
+
+    at_past : (x : Token) (p c : ℕ) (xs : List Token) → t ∷ us ≡ x ∷ xs → length (said ps) ≡ most_statements → c ≡ limit → p ≡ x.start
+        → (length (said ps) < most_statements) ⊎ ((length (said ps) ≡ most_statements) × (w.place ≡ t.start)) → (w.place < p) ⊎ ((w.place ≡ p) × (w.code ≤ c))
+    at_past x p c xs same all is place (inl fewer) = absurd (omega (arith, all, fewer))
+    at_past x p c xs same all is place (inr (count, here)) = inr (here ∙ ap (λ (y : Token). y.start) (heads same) ∙ sym place, subst (λ n. w.code ≤ n) (sym is) low)
+
+    too_many : (length (said ps) < most_statements) ⊎ ((length (said ps) ≡ most_statements) × (w.place ≡ t.start)) → most_statements < length (said ps) → ⊥
+    too_many (inl fewer) more = omega (arith, fewer, more)
+    too_many (inr (count, here)) more = omega (arith, count, more)
+
+    first : (p c : ℕ) → InTokens bytes p c → (w.place < p) ⊎ ((w.place ≡ p) × (w.code ≤ c))
+    first p c (inl x) = let same = one_wrong bytes w.place w.code p c k.stands x in inr (same.0, subst (λ n. w.code ≤ n) same.1 (omega arith))
+    first p c (inr (is, x)) = elim (past_where bytes ts ps (t ∷ us) p lexes cut (no_part (t ∷ us) w e) x) [
+      | inl s ↦ at_past x.at p c x.more s.0 s.1 is x.place_is few
+      | inr more ↦ absurd (too_many few more)
+    ]
+
+-- a statement too many begins, and the part there is good or wrong behind its first token
+pub past_first : (bytes : List ℕ) (ts : List Token) (ps : List (Piece Part Token)) (t : Token) (us : List Token) → Lexes bytes ts → AreParts ts ps (t ∷ us)
+    → is_end t.kind ≡ false → length (said ps) ≡ most_statements → ((w : Wrong) → part_at (t ∷ us) ≡ Err w → w.place ≡ t.start → ⊥)
+    → FirstInTokens bytes (record { place = t.start; line = t.line; code = limit })
+past_first bytes ts ps t us lexes cut no_end most not = record {
+  stands = inr (refl, record { tokens = ts; lexes = lexes; parts = ps; at = t; more = us; cut = cut; most = most; begins_one = no_end; place_is = refl });
+  first = first;
+  line = token_line bytes ts (texts ps) t us lexes cut.whole 0 ∙ ap (λ n. 1 + newlines (take n bytes)) (place_of_none t);
+}
+  where
+    same_token : (x : Token) (xs : List Token) (qs : List (Piece Part Token)) → is_end x.kind ≡ false → length (said qs) ≡ most_statements
+        → GoesOn ps (t ∷ us) qs (x ∷ xs) ⊎ GoesOn qs (x ∷ xs) ps (t ∷ us) → t ≡ x
+    same_token x xs qs no_end' most' (inl on) = elim (same_or_more t us ps qs (x ∷ xs) no_end on) [
+      | inl s ↦ heads s.0
+      | inr more ↦ absurd (omega (arith, most, most', more))
+    ]
+    same_token x xs qs no_end' most' (inr on) = elim (same_or_more x xs qs ps (t ∷ us) no_end' on) [
+      | inl s ↦ sym (heads s.0)
+      | inr more ↦ absurd (omega (arith, most, most', more))
+    ]
+
+    first : (p c : ℕ) → InTokens bytes p c → (t.start < p) ⊎ ((t.start ≡ p) × (limit ≤ c))
+    first p c (inl x) = inl (wrong_behind bytes ts ps t us p c lexes cut not x)
+    first p c (inr (is, x)) =
+        let tokens : x.tokens ≡ ts = one_list bytes x.tokens ts x.lexes lexes in
+        let same : t ≡ x.at = same_token x.at x.more x.parts x.begins_one x.most
+        (comparable ts ps x.parts (t ∷ us) (x.at ∷ x.more) cut (subst (λ xs. AreParts xs x.parts (x.at ∷ x.more)) tokens x.cut)) in
+        inr (ap (λ (y : Token). y.start) same ∙ sym x.place_is, subst (λ n. limit ≤ n) (sym is) (omega arith))
+
+-- no fault stands at the tokens of statements that are all read, and not too many
+pub all_good : (bytes : List ℕ) (ts : List Token) (ps : List (Piece Part Token)) → Lexes bytes ts → AreParts ts ps [] → length (said ps) ≤ most_statements
+    → (p c : ℕ) → InTokens bytes p c → ⊥
+all_good bytes ts ps lexes parts few p c fault = go fault
+  where
+    nothing : NothingReads IsPart StopsPart []
+    nothing = none_at_end
+
+    no_rest : (before : List Token) (at : Token) (more : List Token) → [] ≡ before ++ at ∷ more → ⊥
+    no_rest [] at more e = cc
+    no_rest (b ∷ before) at more e = cc
+
+    go : InTokens bytes p c → ⊥
+    go (inl x) =
+        let tokens : ts ≡ x.tokens = one_list bytes ts x.tokens lexes x.lexes in
+        let one : cut find_part ts ≡ (ps, []) = unique finds_parts ts ps [] parts (nothing_none finds_parts [] nothing) in
+        let two : cut find_part x.tokens ≡ (x.parts, x.rest) = unique finds_parts x.tokens x.parts x.rest x.cut (nothing_none finds_parts x.rest x.nothing) in
+        let rests : [] ≡ x.rest = ap (λ (z : List (Piece Part Token) × List Token). z.1) (sym one ∙ ap (cut find_part) tokens ∙ two) in
+        no_rest x.before x.at x.more (rests ∙ x.whole)
+    go (inr (is, x)) = elim (past_where bytes ts ps [] p lexes parts nothing x) [
+      | inl s ↦ no_rest [] x.at x.more s.0
+      | inr more ↦ omega (arith, few, more)
+    ]
+
+-- the place of a line that is too long is one
+one_place : (bytes : List ℕ) (p q : ℕ) → past_line 0 0 bytes ≡ Some p → past_line 0 0 bytes ≡ Some q → p ≡ q
+one_place bytes p q e f = same_Some p q (sym e ∙ f)
+
+-- a line that is too long comes first
+pub line_refused : (bytes : List ℕ) (place line : ℕ) → length bytes ≤ longest_source → past_line 0 0 bytes ≡ Some place
+    → ((p c : ℕ) → InTokens bytes p c → place < p) → line ≡ 1 + newlines (take place bytes) → Refuses bytes (record { code = limit; line = line })
+line_refused bytes place line short past before is = inr (
+  short,
+  record {
+    place = place;
+    stands = inr (inl (refl, past));
+    first = first;
+    line = is;
+  },
+)
+  where
+    first : (p c : ℕ) → Stands bytes p c → (place < p) ⊎ ((place ≡ p) × (limit ≤ c))
+    first p c (inl x) = inl (before p c (inl x))
+    first p c (inr (inl (code, at))) = inr (one_place bytes place p past at, subst (λ n. limit ≤ n) (sym code) (omega arith))
+    first p c (inr (inr x)) = inl (before p c (inr x))
+
+pub before_tokens : (bytes : List ℕ) (w : Wrong) (place p c : ℕ) → FirstInTokens bytes w → place < w.place → InTokens bytes p c → place < p
+before_tokens bytes w place p c first before fault = elim (first.first p c fault) [
+  | inl lt ↦ omega (arith, before, lt)
+  | inr same ↦ omega (arith, before, same.0)
+]
+
+-- a token's fault comes first
+pub token_refused : (bytes : List ℕ) (w : Wrong) → length bytes ≤ longest_source → FirstInTokens bytes w → w.code ≤ limit
+    → ((place : ℕ) → past_line 0 0 bytes ≡ Some place → w.place ≤ place) → Refuses bytes (record { code = w.code; line = w.line })
+token_refused bytes w short tokens low lines = inr (
+  short,
+  record {
+    place = w.place;
+    stands = stands tokens.stands;
+    first = first;
+    line = tokens.line;
+  },
+)
+  where
+    stands : InTokens bytes w.place w.code → Stands bytes w.place w.code
+    stands (inl x) = inl x
+    stands (inr x) = inr (inr x)
+
+    within : (p c : ℕ) → w.place ≤ p → w.code ≤ c → (w.place < p) ⊎ ((w.place ≡ p) × (w.code ≤ c))
+    within p c le code = grind arith
+
+    first : (p c : ℕ) → Stands bytes p c → (w.place < p) ⊎ ((w.place ≡ p) × (w.code ≤ c))
+    first p c (inl x) = tokens.first p c (inl x)
+    first p c (inr (inl (code, at))) = within p c (lines p at) (subst (λ n. w.code ≤ n) (sym code) low)
+    first p c (inr (inr x)) = tokens.first p c (inr x)
+
+-- the first of two faults is one
+same_first : (p q c d : ℕ) → (p < q) ⊎ ((p ≡ q) × (c ≤ d)) → (q < p) ⊎ ((q ≡ p) × (d ≤ c)) → (p ≡ q) × (c ≡ d)
+same_first p q c d (inl lt) (inl gt) = absurd (omega (arith, lt, gt))
+same_first p q c d (inl lt) (inr (e, le)) = absurd (omega (arith, lt, e))
+same_first p q c d (inr (e, le)) (inl gt) = absurd (omega (arith, gt, e))
+same_first p q c d (inr (e, le)) (inr (f, ge)) = (e, omega (arith, le, ge))
+
+same_faults : (f g : Fault) → f.code ≡ g.code → f.line ≡ g.line → f ≡ g
+same_faults f g code line = ap (λ n. record { code = n; line = f.line }) code ∙ ap (λ n. record { code = g.code; line = n }) line
+
+-- at most one fault is refused
+pub one_fault : (bytes : List ℕ) (f g : Fault) → Refuses bytes f → Refuses bytes g → f ≡ g
+one_fault bytes f g (inl (long, is)) (inl (long', is')) = is ∙ sym is'
+one_fault bytes f g (inl (long, is)) (inr (short, x)) = absurd (omega (arith, long, short))
+one_fault bytes f g (inr (short, x)) (inl (long, is)) = absurd (omega (arith, long, short))
+one_fault bytes f g (inr (short, x)) (inr (short', y)) =
+    let s = same_first x.place y.place f.code g.code (x.first y.place g.code y.stands) (y.first x.place f.code x.stands) in
+    same_faults f g s.1 (x.line ∙ ap (λ n. 1 + newlines (take n bytes)) s.0 ∙ sym y.line)
+
+-- no source is both read and refused
+pub not_both : (bytes : List ℕ) (ss : List Spoken) (f : Fault) → Reads bytes ss → Refuses bytes f → ⊥
+not_both bytes ss f (short, lines, few, ts, ps, lexes, cut, is) (inl (long, e)) = omega (arith, long, short)
+not_both bytes ss f (short, lines, few, ts, ps, lexes, cut, is) (inr (short', x)) = go x.stands
+  where
+    good : (p c : ℕ) → InTokens bytes p c → ⊥
+    good = all_good bytes ts ps lexes cut (subst (λ (xs : List Spoken). length xs ≤ most_statements) is few)
+
+    go : Stands bytes x.place f.code → ⊥
+    go (inl y) = good x.place f.code (inl y)
+    go (inr (inl (code, at))) = cc
+    go (inr (inr y)) = good x.place f.code (inr y)

@@ -1,0 +1,5 @@
+use Rattle.rv_parse_laws.proofs.FirstFault.{not_both}
+use Rattle.rv_parse_laws.proofs.laws.not_both.Goals as goal
+
+pub returns : goal.returns
+returns c = not_both

@@ -1,0 +1,57 @@
+-- Reading an expression token by token, as the code holds what is read.
+
+use Rattle.std.proofs.Common.{◌≡◌, ℕ, ◌+◌, ◌<◌, Bool, true, false, cond, List, [], ◌∷◌, length, Ok, Err, refl, sym, ◌∙◌, ap, arith}
+use Rattle.rv_text_laws.specs.declared.operator.Frame.{Frame}
+use Rattle.rv_text_laws.specs.Lexing as lexing
+use Rattle.rv_text_laws.specs.Expression.{Tree, ReadsTree, Node, postfix}
+use Rattle.rv_text_laws.specs.ExpressionAt as reading
+use Rattle.rv_text_laws.specs.ExpressionAt.{Stage, Wants, Goes, Ends, Fails, step, read_from, expression_at, wrong}
+use Rattle.rv_text_laws.specs.Values.{nodes_fit}
+use Rattle.rv_text_laws.proofs.Expressions.{goes, ends, fails, expression_is}
+use Rattle.rv_text_laws.proofs.ExpressionFound.{expression_found}
+use Rattle.rv_text_laws.proofs.ExpressionValues.{postfix_fits}
+use Rattle.rv_text.specs.declared.cursor.Cursor.{Cursor}
+use Rattle.rv_text.specs.Token.{token_of, kind_of}
+use Rattle.rv_text.specs.Left.{tokens_left}
+use Rattle.rv_text.specs.Cursor.{left}
+
+-- the tokens read from the start, and those read from here, make the same
+pub begun : (r : List ℕ → Bool) (ts : List lexing.Token) (none : List Frame) → none ≡ [] → expression_at r ts ≡ read_from r (Wants none []) ts
+unfolding expression_at
+begun r ts none e = ap (λ (fs : List Frame). read_from r (Wants fs []) ts) (sym e)
+
+pub went_on : (r : List ℕ → Bool) (ts : List lexing.Token) (c d : Cursor) (s u : Stage) → expression_at r ts ≡ read_from r s (left c) → left c ≡ token_of c.next ∷ left d
+    → step r s (kind_of c.next.kind) ≡ Goes u → expression_at r ts ≡ read_from r u (left d)
+went_on r ts c d s u so one e = so ∙ ap (read_from r s) one ∙ goes r s u (token_of c.next) (left d) e
+
+pub ended : (r : List ℕ → Bool) (ts : List lexing.Token) (c : Cursor) (s : Stage) (ns : List Node) → expression_at r ts ≡ read_from r s (left c)
+    → step r s (kind_of c.next.kind) ≡ Ends ns → expression_at r ts ≡ Ok (ns, left c)
+unfolding left
+ended r ts c s ns so e = so ∙ ends r s ns (token_of c.next) (cond (lexing.is_last (kind_of c.next.kind)) [] (tokens_left c.lexer)) e
+
+pub failed : (r : List ℕ → Bool) (ts : List lexing.Token) (c : Cursor) (s : Stage) (code : ℕ) → expression_at r ts ≡ read_from r s (left c)
+    → step r s (kind_of c.next.kind) ≡ Fails code → expression_at r ts ≡ Err (wrong (token_of c.next) code)
+unfolding left
+failed r ts c s code so e = so ∙ fails r s code (token_of c.next) (cond (lexing.is_last (kind_of c.next.kind)) [] (tokens_left c.lexer)) e
+
+-- what is read has room for its values
+pub read_fits : (r : List ℕ → Bool) (ts : List lexing.Token) (ns : List Node) (rest : List lexing.Token) → expression_at r ts ≡ Ok (ns, rest) → nodes_fit ns 0 ≡ true
+read_fits r ts ns rest e =
+    let f = expression_found r ts ns rest e in
+    ap (λ (l : List Node). nodes_fit l 0) f.2 ∙ postfix_fits f.0 f.1.ordered f.1.within
+
+pub shorter : (c d : Cursor) → left c ≡ token_of c.next ∷ left d → length (left d) < length (left c)
+shorter c d e = omega (arith, ap length e)
+
+-- the expression that is read, as the grammar has it
+pub parsed : (r : List ℕ → Bool) (ts before after rest : List lexing.Token) (ns : List Node) → expression_at r ts ≡ Ok (ns, rest) → ts ≡ before → after ≡ rest
+    → (tree : Tree) × ReadsTree r before tree after × (ns ≡ postfix tree)
+parsed r ts before after rest ns e same end =
+    expression_found r before ns after (ap (expression_at r) (sym same) ∙ e ∙ ap (λ (l : List lexing.Token). Ok (ns, l)) (sym end))
+
+-- and no other is
+pub only_read : (r : List ℕ → Bool) (ts before after rest : List lexing.Token) (ns : List Node) → expression_at r ts ≡ Ok (ns, rest) → ts ≡ before → after ≡ rest
+    → (tree : Tree) (other : List lexing.Token) → ReadsTree r before tree other → (ns ≡ postfix tree) × (after ≡ other)
+only_read r ts before after rest ns e same end tree other reads =
+    let both : (ns, rest) ≡ (postfix tree, other) = cc (sym e ∙ ap (expression_at r) same ∙ expression_is r before tree other reads) in
+    (ap (λ (q : List Node × List lexing.Token). q.0) both, end ∙ ap (λ (q : List Node × List lexing.Token). q.1) both)

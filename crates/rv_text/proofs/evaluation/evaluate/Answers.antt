@@ -1,0 +1,61 @@
+-- Node by node.
+use Rattle.std.proofs.Common.{◌≡◌, ◌∙◌, ◌+◌, refl, sym, ap, map, drop, length, List}
+use Rattle.rv_text_laws.specs.Values as values
+use Rattle.rv_text_laws.specs.Expression as expression
+use Rattle.rv_text.specs.declared.node.Node.TheVariants as nodes
+use Rattle.rv_text.specs.Nodes.{node_of}
+use Rattle.rv_text.specs.Eval.{tops}
+use Rattle.rv_text.proofs.Evals.{tops_none, rest_fits, last_value, next_node, no_node, next_fits, later_fit, last_fits}
+use Rattle.rv_text.proofs.evaluation.evaluate.Goals as goal
+
+pub loop-node-init : goal.loop-node-init
+loop-node-init g c = record {
+  kept = λ m means.
+      ap (values.after_nodes m (map node_of c.args.nodes.now.rest.items))
+      (sym (c.step.ensures.values m means ∙ ap (values.after_node m (node_of c.args.nodes.now.first)) (ap tops c.new-stack.ensures ∙ tops_none)));
+  fits = rest_fits (node_of c.args.nodes.now.first) (map node_of c.args.nodes.now.rest.items) 0 (length c.step.new.stack.items)
+      (c.step.ensures.count ∙ ap (λ l. values.count_after (node_of c.args.nodes.now.first) (length l)) c.new-stack.ensures) c.requires.fits;
+  room = c.step.ensures.room;
+}
+
+pub step-requires-in-loop-node : goal.step-requires-in-loop-node
+step-requires-in-loop-node g c = λ k. (
+  (refl, tt),
+  (
+    c.requires.callable,
+    (
+      next_fits c.args.nodes.now.rest.items c.deref-node-items.result.now c.loop-node.node-index (nodes.Number 0) (length c.loop-node.stack.items)
+          c.deref-node-items.ensures.value c.loop-node-test.true c.loop-node.invariant.fits,
+      c.loop-node.invariant.room,
+    ),
+  ),
+)
+
+pub loop-node-preserved : goal.loop-node-preserved
+loop-node-preserved g c =
+    let xs = c.args.nodes.now.rest.items in
+    let ys = c.deref-node-items.result.now in
+    let i = c.loop-node.node-index in
+    record {
+      kept = λ m means.
+          c.loop-node.invariant.kept m means
+          ∙ ap (λ (l : List expression.Node). values.after_nodes m l (tops c.loop-node.stack.items)) (next_node xs ys i (nodes.Number 0) c.deref-node-items.ensures.value c.loop-node-test.true)
+          ∙ ap (values.after_nodes m (map node_of (drop (i + 1) xs))) (sym (c.step-in-loop-node.ensures.values m means));
+      fits = later_fit xs ys i (nodes.Number 0) (length c.loop-node.stack.items) (length c.step-in-loop-node.new.stack.items)
+          c.deref-node-items.ensures.value c.loop-node-test.true c.step-in-loop-node.ensures.count c.loop-node.invariant.fits;
+      room = c.step-in-loop-node.ensures.room;
+    }
+
+pub pop-requires : goal.pop-requires
+pop-requires g c =
+    last_fits c.args.nodes.now.rest.items c.deref-node-items.result.now c.loop-node.node-index (length c.loop-node.stack.items)
+    c.deref-node-items.ensures.value c.loop-node-test.false c.loop-node.invariant.fits
+
+pub returns : goal.returns
+returns g c = λ m v means e.
+    last_value c.loop-node.stack.items c.pop.new.stack.items c.pop.result v c.pop.ensures.items
+    (sym
+    (c.loop-node.invariant.kept m means
+    ∙ ap (λ (l : List expression.Node). values.after_nodes m l (tops c.loop-node.stack.items))
+    (no_node c.args.nodes.now.rest.items c.deref-node-items.result.now c.loop-node.node-index c.deref-node-items.ensures.value c.loop-node-test.false))
+    ∙ e)

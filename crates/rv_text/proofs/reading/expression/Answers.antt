@@ -1,0 +1,30 @@
+-- Token by token.
+use Rattle.std.proofs.Common.{◌≡◌, ◌∙◌, sym, ap, Err}
+use Rattle.rv_text_laws.specs.ExpressionAt as grammar
+use Rattle.rv_text.specs.Nodes.{nodes_of}
+use Rattle.rv_text.specs.Fault.{number_of}
+use Rattle.rv_text.specs.Expr.{stack_of, stage_of}
+use Rattle.rv_text.proofs.Exprs.{stack_none}
+use Rattle.rv_text.proofs.ReadingSteps.{begun, ended, failed, read_fits}
+use Rattle.rv_text.proofs.reading.expression.Goals as goal
+
+pub tokens-init : goal.tokens-init
+tokens-init g c = record {
+  reads = begun _ _ (stack_of c.new-frames.result.items) (ap stack_of c.new-frames.ensures.items ∙ stack_none);
+  ahead = λ h. h;
+}
+
+pub invariant_of-result : goal.invariant_of-result
+invariant_of-result g c = record {
+  fits = read_fits _ _ (nodes_of c.in-Ok-Ends.nodes) _
+      (ended _ _ c.tokens.cursor (stage_of c.tokens.frames.items c.tokens.stage) (nodes_of c.in-Ok-Ends.nodes) c.tokens.invariant.reads (rw c.in-Ok-Ends.field-0-is at c.in-Ok-Ends.ensures));
+}
+
+pub returns-in-Ok-Ends-clause-reads : goal.returns-in-Ok-Ends-clause-reads
+returns-in-Ok-Ends-clause-reads g c =
+    ended _ _ c.tokens.cursor (stage_of c.tokens.frames.items c.tokens.stage) (nodes_of c.in-Ok-Ends.nodes) c.tokens.invariant.reads (rw c.in-Ok-Ends.field-0-is at c.in-Ok-Ends.ensures)
+
+pub returns-in-Err-Wrong-clause-reads : goal.returns-in-Err-Wrong-clause-reads
+returns-in-Err-Wrong-clause-reads g c =
+    failed _ _ c.tokens.cursor (stage_of c.tokens.frames.items c.tokens.stage) (number_of c.in-Err-Wrong.code) c.tokens.invariant.reads (rw c.in-Err-Wrong.field-0-is at c.in-Err-Wrong.ensures)
+    ∙ ap (λ (w : grammar.Wrong). Err w) (sym (rw c.in-Err-Wrong.field-0-is at c.wrong.ensures))

@@ -1,0 +1,11 @@
+-- The expression of the cursor is that of the lexer.
+use Rattle.rv_text.proofs.ReadingSteps.{parsed, only_read}
+use Rattle.rv_text.proofs.reading.parse_expr.Goals as goal
+
+pub returns-in-Ok-clause-reads : goal.returns-in-Ok-clause-reads
+returns-in-Ok-clause-reads g c =
+    parsed _ _ _ _ _ _ c.in-Ok.ensures.reads c.new-cursor.ensures.left (c.lexer.ensures (c.in-Ok.ensures.ahead c.new-cursor.ensures.ahead))
+
+pub returns-in-Ok-clause-only : goal.returns-in-Ok-clause-only
+returns-in-Ok-clause-only g c =
+    only_read _ _ _ _ _ _ c.in-Ok.ensures.reads c.new-cursor.ensures.left (c.lexer.ensures (c.in-Ok.ensures.ahead c.new-cursor.ensures.ahead))

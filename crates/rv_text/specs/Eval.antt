@@ -1,0 +1,49 @@
+-- What the values of the code stand for.
+
+use Rattle.std.specs.Prelude.{◌≡◌, ℕ, List, map, reverse, Result, Ok, Err}
+use Rattle.rv_text_laws.specs.Expression as expression
+use Rattle.rv_text_laws.specs.Values as values
+use Rattle.rv_text.specs.declared.fault.SourceFault.{SourceFault}
+use Rattle.rv_text.specs.declared.fault.SourceFault.TheVariants as faults
+use Rattle.rv_text.specs.declared.node.Symbol.{Symbol}
+use Rattle.rv_text.specs.declared.evaluation.Meaning.{Meaning}
+use Rattle.rv_text.specs.declared.evaluation.Meaning.TheVariants as meanings
+use Rattle.rv_text.specs.declared.evaluation.Part.{Part}
+use Rattle.rv_text.specs.declared.evaluation.Part.TheVariants as parts
+use Rattle.rv_text.specs.declared.evaluation.Value.{Value}
+use Rattle.rv_text.specs.declared.evaluation.Value.TheVariants as results
+use Rattle.rv_text.specs.Fault.{number_of}
+use Rattle.rv_text.specs.Nodes.{symbol_of}
+
+abbrev pub meaning_of : Meaning → values.Meaning
+meaning_of (meanings.Constant number) = values.Known number
+meaning_of (meanings.Place section offset) = values.Placed section offset
+meaning_of meanings.Open = values.Open
+meaning_of meanings.NotConstant = values.Refused 13
+meaning_of meanings.UndefinedLocal = values.Refused 12
+
+abbrev pub part_of : Part → values.Value
+part_of (parts.Constant number) = values.Constant number
+part_of (parts.Symbolic symbol at plus) = values.Symbolic (symbol_of symbol) (meaning_of at) plus
+part_of (parts.Difference symbol minus plus) = values.Difference (symbol_of symbol) (symbol_of minus) plus
+part_of (parts.Faulty code) = values.Faulty (number_of code)
+
+-- the values on a stack, the last one first
+unfoldable pub tops : List Part → List values.Value
+tops items = reverse (map part_of items)
+
+-- the function gives these meanings
+abbrev pub Means : (Symbol → Meaning → Type 0) → (expression.Primary → values.Meaning) → Type 0
+Means gives m = (symbol : Symbol) (meaning : Meaning) → gives symbol meaning → meaning_of meaning ≡ m (symbol_of symbol)
+
+-- what a symbol means where it is part of a value is not told
+abbrev pub value_told : Value → values.Value → Type 0
+value_told (results.Constant number) v = v ≡ values.Constant number
+value_told (results.Symbolic symbol plus) v = (at : values.Meaning) × (v ≡ values.Symbolic (symbol_of symbol) at plus)
+value_told (results.Difference symbol minus plus) v = v ≡ values.Difference (symbol_of symbol) (symbol_of minus) plus
+
+-- an expression's value, or the fault at the line
+abbrev pub IsOutcome : Result Value SourceFault → ℕ → values.Value → Type 0
+IsOutcome (Ok value) line v = value_told value v
+IsOutcome (Err (faults.At code at)) line v = (v ≡ values.Faulty (number_of code)) × (at ≡ line)
+IsOutcome (Err faults.OutOfMemory) line v = ⊥

@@ -1,0 +1,59 @@
+-- What the expressions of the code stand for.
+
+use Rattle.std.specs.Prelude.{◌≡◌, List, reverse, Result, Ok, Err}
+use Rattle.rv_text_laws.specs.declared.operator.Frame.{Frame}
+use Rattle.rv_text_laws.specs.Expression as expression
+use Rattle.rv_text_laws.specs.ExpressionAt as reading
+use Rattle.rv_text.specs.declared.expr.Expr.{Expr}
+use Rattle.rv_text.specs.declared.reading.Stage.{Stage}
+use Rattle.rv_text.specs.declared.reading.Stage.TheVariants as stages
+use Rattle.rv_text.specs.declared.reading.Step.{Step}
+use Rattle.rv_text.specs.declared.reading.Step.TheVariants as steps
+use Rattle.rv_text.specs.declared.reading.Stop.{Stop}
+use Rattle.rv_text.specs.declared.reading.Stop.TheVariants as stops
+use Rattle.rv_text.specs.declared.fault.SourceFault.{SourceFault}
+use Rattle.rv_text.specs.declared.fault.SourceFault.TheVariants as faults
+use Rattle.rv_text.specs.declared.reading.Begin.{Begin}
+use Rattle.rv_text.specs.declared.reading.Begin.TheVariants as begins
+use Rattle.rv_text.specs.declared.reading.Follow.{Follow}
+use Rattle.rv_text.specs.declared.reading.Follow.TheVariants as follows
+use Rattle.rv_text.specs.Fault.{number_of}
+use Rattle.rv_text.specs.Nodes.{symbol_of, nodes_of, some_nodes}
+
+abbrev pub begin_of : Begin → expression.Begin
+begin_of (begins.Number number) = expression.A_primary (expression.Literal number)
+begin_of (begins.Symbol symbol) = expression.A_primary (symbol_of symbol)
+begin_of (begins.Sign operator) = expression.A_sign operator
+begin_of begins.Opening = expression.An_opening
+begin_of (begins.Wrong code) = expression.No_operand (number_of code)
+
+abbrev pub follow_of : Follow → expression.Follow
+follow_of (follows.Operator operator) = expression.An_operator operator
+follow_of follows.Closing = expression.A_closing
+follow_of follows.Comparison = expression.A_comparison
+follow_of follows.Nothing = expression.Nothing_more
+
+-- what waits, the last one first
+unfoldable pub stack_of : List Frame → List Frame
+stack_of items = reverse items
+
+-- what is read so far, with what waits
+abbrev pub stage_of : List Frame → Stage → reading.Stage
+stage_of frames (stages.Wants e) = reading.Wants (stack_of frames) (some_nodes e)
+stage_of frames (stages.Has e) = reading.Has (stack_of frames) (nodes_of e)
+
+-- what a token makes of a stage, unless memory ran out
+abbrev pub Steps : List Frame → Result Step Stop → reading.Step → Type 0
+Steps frames (Ok (steps.Goes stage)) step = step ≡ reading.Goes (stage_of frames stage)
+Steps frames (Ok (steps.Ends e)) step = step ≡ reading.Ends (nodes_of e)
+Steps frames (Err (stops.Wrong code)) step = step ≡ reading.Fails (number_of code)
+Steps frames (Err stops.OutOfMemory) step = Unit {0}
+
+-- the nodes of an expression
+abbrev pub expr_of : Expr → List expression.Node
+expr_of e = nodes_of e.nodes
+
+-- the fault of a reading: the code and the line of its wrong token
+abbrev pub NamesFault : {Y : Type 0} → SourceFault → Result Y reading.Wrong → Type 0
+NamesFault (faults.At code line) read = (w : reading.Wrong) × (read ≡ Err w) × (w.code ≡ number_of code) × (w.line ≡ line)
+NamesFault faults.OutOfMemory read = Unit {0}

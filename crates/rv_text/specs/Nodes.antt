@@ -1,0 +1,29 @@
+-- What the nodes of the code stand for.
+
+use Rattle.std.specs.Prelude.{Bool, List, [], ◌∷◌, map, Option, Some, None}
+use Rattle.rv_text_laws.specs.Expression as expression
+use Rattle.rv_text.specs.declared.node.Symbol.{Symbol}
+use Rattle.rv_text.specs.declared.node.Symbol.TheVariants as symbols
+use Rattle.rv_text.specs.declared.node.Node.{Node}
+use Rattle.rv_text.specs.declared.node.Node.TheVariants as nodes
+use Rattle.rv_text.specs.declared.node.Nodes.{Nodes}
+
+abbrev pub symbol_of : Symbol → expression.Primary
+symbol_of (symbols.Name name) = expression.Symbol name.now
+symbol_of symbols.Here = expression.Here
+symbol_of (symbols.Backward digits) = expression.Reference digits.now Bool.false
+symbol_of (symbols.Forward digits) = expression.Reference digits.now Bool.true
+
+abbrev pub node_of : Node → expression.Node
+node_of (nodes.Number number) = expression.Primary_node (expression.Literal number)
+node_of (nodes.Symbol symbol) = expression.Primary_node (symbol_of symbol)
+node_of (nodes.Unary operator) = expression.Unary_node operator
+node_of (nodes.Binary operator) = expression.Binary_node operator
+
+abbrev pub nodes_of : Nodes → List expression.Node
+nodes_of e = node_of e.first ∷ map node_of e.rest.items
+
+-- the nodes so far, if there are any
+abbrev pub some_nodes : Option Nodes → List expression.Node
+some_nodes None = []
+some_nodes (Some e) = nodes_of e

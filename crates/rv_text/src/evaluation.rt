@@ -1,0 +1,334 @@
+//! The value of an expression.
+
+ghost use Rattle.std.specs.Prelude.{◌≡◌, ◌<◌, ◌≤◌, ◌+◌, ◌++◌, [], ◌∷◌, true, length, min};
+ghost use Rattle.rv_text_laws.specs.Expression.{Tree, Primary, postfix};
+ghost use Rattle.rv_text_laws.specs.Values as values;
+ghost use Rattle.rv_text_laws.specs.declared.operator.BinaryOperator.TheVariants.{Divide, Remainder};
+ghost use Rattle.rv_text.specs.Fault.{number_of};
+ghost use Rattle.rv_text.specs.Nodes.{symbol_of, node_of, nodes_of};
+ghost use Rattle.rv_text.specs.Expr.{expr_of};
+ghost use Rattle.rv_text.specs.Eval.{meaning_of, part_of, tops, Means, IsOutcome};
+
+use crate::expr::Expr;
+use crate::fault::{SourceCode, SourceFault};
+use crate::node::{Node, Nodes, Symbol};
+use arrayvec::ArrayVec;
+use rv_text_laws::{BinaryOperator, UnaryOperator};
+
+/// The most values that wait for an operator, in an expression that is read.
+const MOST_VALUES: usize = 200;
+
+/// What a name, `.` or a reference means where it stands.
+#[derive(Clone, Copy, Debug, PartialEq, Eq, Drop)]
+pub enum Meaning {
+    /// A number.
+    Constant(u64),
+    /// A place in a section whose places keep their distances: the section's number, and the offset.
+    Place(u32, u64),
+    /// An address that is not known yet.
+    Open,
+    /// A constant that is used before it is set.
+    NotConstant,
+    /// A numeric label that does not come.
+    UndefinedLocal,
+}
+
+/// The value of an expression.
+#[derive(Clone, Copy, Debug, PartialEq, Eq, Drop)]
+pub enum Value<'a> {
+    /// A number, modulo 2^64.
+    Constant(u64),
+    /// A symbol, and a number to be added.
+    Symbolic(Symbol<'a>, u64),
+    /// The difference of two symbols, and a number to be added.
+    Difference(Symbol<'a>, Symbol<'a>, u64),
+}
+
+/// The value of a part of an expression, or why it has none.
+#[derive(Clone, Copy, Drop)]
+pub(crate) enum Part<'a> {
+    Constant(u64),
+    Symbolic(Symbol<'a>, Meaning, u64),
+    Difference(Symbol<'a>, Symbol<'a>, u64),
+    Faulty(SourceCode),
+}
+
+impl Default for Part<'_> {
+    fn default() -> Self {
+        Part::Constant(0)
+    }
+}
+
+/// The refusal with the lower number.
+fn lower(first: SourceCode, second: SourceCode) -> SourceCode
+    ensures { number_of result ≡ min (number_of first) (number_of second) }
+{
+    if first.number() <= second.number() {
+        first
+    } else {
+        second
+    }
+}
+
+/// The quotient of two signed numbers, truncated.
+fn divide<'a>(a: u64, b: u64) -> Part<'a>
+    ensures { part_of result ≡ values.arithmetic Divide a b }
+{
+    if b == 0 {
+        Part::Faulty(SourceCode::DivisionByZero)
+    } else {
+        Part::Constant(
+            a.cast_signed()
+                .wrapping_div(b.cast_signed())
+                .cast_unsigned(),
+        )
+    }
+}
+
+/// What the quotient leaves.
+fn remainder<'a>(a: u64, b: u64) -> Part<'a>
+    ensures { part_of result ≡ values.arithmetic Remainder a b }
+{
+    if b == 0 {
+        Part::Faulty(SourceCode::DivisionByZero)
+    } else {
+        Part::Constant(
+            a.cast_signed()
+                .wrapping_rem(b.cast_signed())
+                .cast_unsigned(),
+        )
+    }
+}
+
+/// An operator on two constants.
+fn arithmetic<'a>(operator: BinaryOperator, a: u64, b: u64) -> Part<'a>
+    ensures { part_of result ≡ values.arithmetic operator a b }
+{
+    match operator {
+        BinaryOperator::Multiply => Part::Constant(a.wrapping_mul(b)),
+        BinaryOperator::Divide => divide(a, b),
+        BinaryOperator::Remainder => remainder(a, b),
+        BinaryOperator::ShiftLeft if b < 64 => Part::Constant(a << b),
+        BinaryOperator::ShiftRight if b < 64 => Part::Constant(a >> b),
+        BinaryOperator::ShiftLeft | BinaryOperator::ShiftRight => {
+            Part::Faulty(SourceCode::ShiftTooLarge)
+        }
+        BinaryOperator::Or => Part::Constant(a | b),
+        BinaryOperator::And => Part::Constant(a & b),
+        BinaryOperator::ExclusiveOr => Part::Constant(a ^ b),
+        BinaryOperator::Add => Part::Constant(a.wrapping_add(b)),
+        BinaryOperator::Subtract => Part::Constant(a.wrapping_sub(b)),
+    }
+}
+
+/// The refusal of an operator by its right operand, where the left one is no constant.
+fn refusal(operator: BinaryOperator, b: u64) -> SourceCode
+    ensures { number_of result ≡ values.refusal operator b }
+{
+    match operator {
+        BinaryOperator::Divide | BinaryOperator::Remainder if b == 0 => SourceCode::DivisionByZero,
+        BinaryOperator::ShiftLeft | BinaryOperator::ShiftRight if b >= 64 => {
+            SourceCode::ShiftTooLarge
+        }
+        _ => SourceCode::NotConstant,
+    }
+}
+
+/// An operator on operands of which one is no constant; of several refusals the lowest counts.
+fn refused<'a>(operator: BinaryOperator, left: Part<'a>, right: Part<'a>) -> Part<'a>
+    ensures { part_of result ≡ values.refused operator (part_of left.entry) (part_of right.entry) }
+{
+    match (left, right) {
+        (Part::Faulty(code), Part::Faulty(other)) => Part::Faulty(lower(code, other)),
+        (Part::Faulty(code), Part::Constant(b)) => Part::Faulty(lower(code, refusal(operator, b))),
+        (Part::Faulty(code), _) => Part::Faulty(code),
+        (_, Part::Faulty(code)) => Part::Faulty(code),
+        (_, Part::Constant(b)) => Part::Faulty(refusal(operator, b)),
+        _ => Part::Faulty(SourceCode::NotConstant),
+    }
+}
+
+/// The difference of two symbols: of two places in one section a constant.
+fn apart<'a>(left: (Symbol<'a>, Meaning), right: (Symbol<'a>, Meaning), plus: u64) -> Part<'a>
+    ensures { part_of result ≡ values.apart (meaning_of left.entry.1) (meaning_of right.entry.1) (symbol_of left.entry.0) (symbol_of right.entry.0) plus }
+{
+    match (left, right) {
+        ((_, Meaning::Place(section, a)), (_, Meaning::Place(other, b))) if section == other => {
+            Part::Constant(plus.wrapping_add(a.wrapping_sub(b)))
+        }
+        ((symbol, _), (minus, _)) => Part::Difference(symbol, minus, plus),
+    }
+}
+
+/// The sum of two parts.
+fn sum<'a>(left: Part<'a>, right: Part<'a>) -> Part<'a>
+    ensures { part_of result ≡ values.sum (part_of left.entry) (part_of right.entry) }
+{
+    match (left, right) {
+        (Part::Constant(a), Part::Constant(b)) => Part::Constant(a.wrapping_add(b)),
+        (Part::Constant(a), Part::Symbolic(symbol, at, plus))
+        | (Part::Symbolic(symbol, at, plus), Part::Constant(a)) => {
+            Part::Symbolic(symbol, at, plus.wrapping_add(a))
+        }
+        (Part::Constant(a), Part::Difference(symbol, minus, plus))
+        | (Part::Difference(symbol, minus, plus), Part::Constant(a)) => {
+            Part::Difference(symbol, minus, plus.wrapping_add(a))
+        }
+        _ => refused(BinaryOperator::Add, left, right),
+    }
+}
+
+/// The difference of two parts.
+fn difference<'a>(left: Part<'a>, right: Part<'a>) -> Part<'a>
+    ensures { part_of result ≡ values.difference (part_of left.entry) (part_of right.entry) }
+{
+    match (left, right) {
+        (Part::Constant(a), Part::Constant(b)) => Part::Constant(a.wrapping_sub(b)),
+        (Part::Symbolic(symbol, at, plus), Part::Constant(b)) => {
+            Part::Symbolic(symbol, at, plus.wrapping_sub(b))
+        }
+        (Part::Difference(symbol, minus, plus), Part::Constant(b)) => {
+            Part::Difference(symbol, minus, plus.wrapping_sub(b))
+        }
+        (Part::Symbolic(symbol, at, plus), Part::Symbolic(minus, other, less)) => {
+            apart((symbol, at), (minus, other), plus.wrapping_sub(less))
+        }
+        _ => refused(BinaryOperator::Subtract, left, right),
+    }
+}
+
+/// An operator that takes constants alone.
+fn constants<'a>(operator: BinaryOperator, left: Part<'a>, right: Part<'a>) -> Part<'a>
+    ensures { part_of result ≡ values.constants operator (part_of left.entry) (part_of right.entry) }
+{
+    match (left, right) {
+        (Part::Constant(a), Part::Constant(b)) => arithmetic(operator, a, b),
+        _ => refused(operator, left, right),
+    }
+}
+
+/// An operator on two parts.
+fn both<'a>(operator: BinaryOperator, left: Part<'a>, right: Part<'a>) -> Part<'a>
+    ensures { part_of result ≡ values.both operator (part_of left.entry) (part_of right.entry) }
+{
+    match operator {
+        BinaryOperator::Add => sum(left, right),
+        BinaryOperator::Subtract => difference(left, right),
+        _ => constants(operator, left, right),
+    }
+}
+
+/// An operator on one part.
+fn alone<'a>(operator: UnaryOperator, part: Part<'a>) -> Part<'a>
+    ensures { part_of result ≡ values.alone operator (part_of part.entry) }
+{
+    match (operator, part) {
+        (UnaryOperator::Keep, _) => part,
+        (UnaryOperator::Negate, Part::Constant(a)) => Part::Constant(0u64.wrapping_sub(a)),
+        (UnaryOperator::Complement, Part::Constant(a)) => Part::Constant(!a),
+        (_, Part::Faulty(code)) => Part::Faulty(code),
+        _ => Part::Faulty(SourceCode::NotConstant),
+    }
+}
+
+/// A symbol with this meaning.
+fn meant<'a>(symbol: Symbol<'a>, meaning: Meaning) -> Part<'a>
+    ensures { part_of result ≡ values.meant (symbol_of symbol.entry) (meaning_of meaning) }
+{
+    match meaning {
+        Meaning::Constant(number) => Part::Constant(number),
+        Meaning::NotConstant => Part::Faulty(SourceCode::NotConstant),
+        Meaning::UndefinedLocal => Part::Faulty(SourceCode::UndefinedLocal),
+        Meaning::Place(..) | Meaning::Open => Part::Symbolic(symbol, meaning, 0),
+    }
+}
+
+/// The part as a value, or as a fault of this line.
+fn outcome<'a>(part: Part<'a>, line: u32) -> Result<Value<'a>, SourceFault>
+    ensures { IsOutcome result line (part_of part.entry) }
+{
+    match part {
+        Part::Constant(number) => Ok(Value::Constant(number)),
+        Part::Symbolic(symbol, _, plus) => Ok(Value::Symbolic(symbol, plus)),
+        Part::Difference(symbol, minus, plus) => Ok(Value::Difference(symbol, minus, plus)),
+        Part::Faulty(code) => Err(SourceFault::At { code, line }),
+    }
+}
+
+/// The last value of a stack.
+fn pop<'a>(stack: &mut ArrayVec<Part<'a>, MOST_VALUES>) -> Part<'a>
+    requires { 0 < length stack.old.items }
+    ensures items { stack.old.items ≡ stack.new.items ++ result ∷ [] }
+    ensures len { length stack.new.items + 1 ≡ length stack.old.items }
+{
+    stack.pop().unwrap()
+}
+
+/// The values behind a node.
+fn step<'a, F: Fn(Symbol<'a>) -> Meaning>(
+    stack: &mut ArrayVec<Part<'a>, MOST_VALUES>,
+    node: Node<'a>,
+    names: &F,
+)
+    requires callable { F.IsAlwaysCallable names.now }
+    requires fits { values.node_fits (node_of node) (length stack.old.items) ≡ true }
+    requires room { length stack.old.items ≤ values.most_values }
+    ensures values { (m : Primary → values.Meaning) → Means (F.post names.now) m → tops stack.new.items ≡ values.after_node m (node_of node.entry) (tops stack.old.items) }
+    ensures count { length stack.new.items ≡ values.count_after (node_of node.entry) (length stack.old.items) }
+    ensures room { length stack.new.items ≤ values.most_values }
+{
+    match node {
+        Node::Number(number) => stack.push(Part::Constant(number)),
+        Node::Symbol(symbol) => stack.push(meant(symbol, names(symbol))),
+        Node::Unary(operator) => {
+            let operand = pop(stack);
+            stack.push(alone(operator, operand));
+        }
+        Node::Binary(operator) => {
+            let right = pop(stack);
+            let left = pop(stack);
+            stack.push(both(operator, left, right));
+        }
+    }
+}
+
+/// The value of a node that stands alone, which is no operator.
+fn leaf<'a, F: Fn(Symbol<'a>) -> Meaning>(node: Node<'a>, names: &F) -> Part<'a>
+    requires { F.IsAlwaysCallable names.now }
+    ensures { (m : Primary → values.Meaning) (v : values.Value) → Means (F.post names.now) m → values.after_node m (node_of node.entry) [] ≡ v ∷ [] → part_of result ≡ v }
+{
+    match node {
+        Node::Number(number) => Part::Constant(number),
+        Node::Symbol(symbol) => meant(symbol, names(symbol)),
+        Node::Unary(_) | Node::Binary(_) => Part::Faulty(SourceCode::BadOperands),
+    }
+}
+
+/// The value of the nodes.
+fn evaluate<'a, F: Fn(Symbol<'a>) -> Meaning>(nodes: &Nodes<'a>, names: &F) -> Part<'a>
+    requires callable { F.IsAlwaysCallable names.now }
+    requires fits { values.nodes_fit (nodes_of nodes.now) 0 ≡ true }
+    ensures { (m : Primary → values.Meaning) (v : values.Value) → Means (F.post names.now) m → values.after_nodes m (nodes_of nodes.now) [] ≡ v ∷ [] → part_of result ≡ v }
+{
+    let mut stack: ArrayVec<Part<'a>, MOST_VALUES> = ArrayVec::new();
+    step(&mut stack, nodes.first, names);
+    for node in &nodes.rest {
+        step(&mut stack, *node, names);
+    }
+    pop(&mut stack)
+}
+
+/// The value of an expression, by what its names mean; a fault has this line, and of several the lowest number counts.
+pub fn eval<'a, F: Fn(Symbol<'a>) -> Meaning>(
+    expr: &Expr<'a>,
+    line: u32,
+    names: &F,
+) -> Result<Value<'a>, SourceFault>
+    requires { F.IsAlwaysCallable names.now }
+    ensures { (m : Primary → values.Meaning) (tree : Tree) → Means (F.post names.now) m → expr_of expr.now ≡ postfix tree → IsOutcome result line (values.value_of m tree) }
+{
+    if expr.nodes.rest.is_empty() {
+        return outcome(leaf(expr.nodes.first, names), line);
+    }
+    outcome(evaluate(&expr.nodes, names), line)
+}

@@ -1,0 +1,63 @@
+//! Expressions as the code holds them: nodes in postfix form.
+
+ghost use Rattle.std.specs.Prelude.{◌≡◌, [], ◌∷◌, ◌++◌, IfOk};
+ghost use Rattle.rv_text_laws.specs.ExpressionAt as reading;
+ghost use Rattle.rv_text.specs.Nodes.{node_of, nodes_of};
+
+use rv_text_laws::{BinaryOperator, Frame, UnaryOperator};
+use std::alloc::AllocError;
+
+/// What an expression may refer to. Texts are parts of the source.
+#[derive(Clone, Copy, Debug, PartialEq, Eq, Drop)]
+pub enum Symbol<'a> {
+    /// A name.
+    Name(&'a [u8]),
+    /// `.`, the place of the statement.
+    Here,
+    /// `1b`, by its digits.
+    Backward(&'a [u8]),
+    /// `1f`, by its digits.
+    Forward(&'a [u8]),
+}
+
+/// A part of an expression in postfix form.
+#[derive(Clone, Copy, Debug, PartialEq, Eq, Drop)]
+pub enum Node<'a> {
+    /// A number or a character.
+    Number(u64),
+    /// A name, `.` or a reference.
+    Symbol(Symbol<'a>),
+    /// An operator on the operand before it.
+    Unary(UnaryOperator),
+    /// An operator on the two operands before it.
+    Binary(BinaryOperator),
+}
+
+/// The nodes of an expression, or of the front of one; the first is an operand.
+#[derive(Debug, Drop)]
+pub(crate) struct Nodes<'a> {
+    pub(crate) first: Node<'a>,
+    pub(crate) rest: Vec<Node<'a>>,
+}
+
+impl<'a> Nodes<'a> {
+    /// One more node.
+    #[tactic(auto, using(crate::proofs::Exprs::nodes_push))]
+    pub(crate) fn push(&mut self, node: Node<'a>) -> Result<(), AllocError>
+        ensures { IfOk result (λ _. nodes_of self.new ≡ nodes_of self.old ++ node_of node.entry ∷ []) }
+    {
+        self.rest.push(node)?;
+        Ok(())
+    }
+
+    /// The operator that waited for an operand has it.
+    pub(crate) fn settle(&mut self, frame: Frame) -> Result<(), AllocError>
+        ensures { IfOk result (λ _. nodes_of self.new ≡ nodes_of self.old ++ reading.node_of frame) }
+    {
+        match frame {
+            Frame::Parenthesis => Ok(()),
+            Frame::Prefix(operator) => self.push(Node::Unary(operator)),
+            Frame::Infix(operator) => self.push(Node::Binary(operator)),
+        }
+    }
+}

@@ -1,0 +1,428 @@
+//! How expressions are read.
+
+ghost use Rattle.std.specs.Prelude.{◌≡◌, ℕ, Bool, List, [], ◌∷◌, ◌++◌, IfOk, IfErr};
+ghost use Rattle.rv_text_laws.specs.Expression.{Tree, ReadsTree, postfix, begins, follows, level_of, named_operand, sign_begins};
+ghost use Rattle.rv_text_laws.specs.ExpressionAt as reading;
+ghost use Rattle.rv_text_laws.specs.Lexing.{Token};
+ghost use Rattle.rv_text_laws.specs.declared.operator.Frame.TheVariants.{Infix};
+ghost use Rattle.rv_text.specs.Fault.{number_of};
+ghost use Rattle.rv_text.specs.Token.{kind_of};
+ghost use Rattle.rv_text.specs.Left.{tokens_left};
+ghost use Rattle.rv_text.specs.Cursor.{left, Answers, IsAhead};
+ghost use Rattle.rv_text.specs.Nodes.{node_of, nodes_of, some_nodes};
+ghost use Rattle.rv_text.specs.Expr.{begin_of, follow_of, stack_of, stage_of, Steps, expr_of, NamesFault};
+
+use crate::cursor::{Cursor, Refusal};
+use crate::expr::Expr;
+use crate::fault::{SourceCode, SourceFault};
+use crate::lexer::Lexer;
+use crate::node::{Node, Nodes, Symbol};
+use crate::token::TokenKind;
+use rv_text_laws::{BinaryOperator, Frame, Sign, UnaryOperator};
+use std::alloc::{AllocError, AllocFailed, Global};
+
+/// The longest name, in bytes.
+const LONGEST_NAME: usize = 4095;
+
+/// The most parentheses and operators of one operand in one another.
+const DEEPEST: usize = 64;
+
+/// Which names spell registers.
+pub trait Registers {
+    /// The registers' names.
+    ghost registers: { List ℕ → Bool };
+
+    /// Whether the name spells a register.
+    fn is_register(name: &[u8]) -> bool
+        ensures { result ≡ registers name.now };
+}
+
+/// What is read so far, behind what waits for an operand.
+#[derive(Drop)]
+pub(crate) enum Stage<'a> {
+    /// An operand comes next.
+    Wants(Option<Nodes<'a>>),
+    /// An operand came last.
+    Has(Nodes<'a>),
+}
+
+/// What a token makes of a stage.
+#[derive(Drop)]
+pub(crate) enum Step<'a> {
+    /// The token is taken.
+    Goes(Stage<'a>),
+    /// The expression ends before the token.
+    Ends(Nodes<'a>),
+}
+
+/// Why a token is not taken.
+#[derive(Drop)]
+pub(crate) enum Stop {
+    Wrong(SourceCode),
+    OutOfMemory,
+}
+
+impl From<AllocError> for Stop {
+    ghost use Rattle.rv_text.specs.declared.reading.Stop.TheVariants.{OutOfMemory};
+
+    ghost from_gives = { λ _ e. e ≡ OutOfMemory };
+
+    fn from(_error: AllocError) -> Self {
+        Stop::OutOfMemory
+    }
+}
+
+impl<T: Drop> From<AllocFailed<T>> for Stop {
+    ghost use Rattle.rv_text.specs.declared.reading.Stop.TheVariants.{OutOfMemory};
+
+    ghost from_gives = { λ _ e. e ≡ OutOfMemory };
+
+    fn from(_error: AllocFailed<T>) -> Self {
+        Stop::OutOfMemory
+    }
+}
+
+/// What a token is where an operand is wanted.
+#[derive(Clone, Copy, Drop)]
+pub(crate) enum Begin<'a> {
+    Number(u64),
+    Symbol(Symbol<'a>),
+    Sign(UnaryOperator),
+    Opening,
+    Wrong(SourceCode),
+}
+
+/// What a token is after an operand.
+#[derive(Clone, Copy, Drop)]
+pub(crate) enum Follow {
+    Operator(BinaryOperator),
+    Closing,
+    Comparison,
+    Nothing,
+}
+
+/// What a name is where an operand is wanted.
+fn named_operand<R: Registers>(name: &[u8]) -> Begin<'_>
+    ensures { begin_of result ≡ named_operand R.registers name.now }
+{
+    if R::is_register(name) {
+        Begin::Wrong(SourceCode::BadOperands)
+    } else if name == b".".as_slice() {
+        Begin::Symbol(Symbol::Here)
+    } else if name.len() <= LONGEST_NAME {
+        Begin::Symbol(Symbol::Name(name))
+    } else {
+        Begin::Wrong(SourceCode::Limit)
+    }
+}
+
+/// What a sign is where an operand is wanted.
+fn sign_begins<'a>(sign: Sign) -> Begin<'a>
+    ensures { begin_of result ≡ sign_begins sign }
+{
+    match sign {
+        Sign::Minus => Begin::Sign(UnaryOperator::Negate),
+        Sign::Tilde => Begin::Sign(UnaryOperator::Complement),
+        Sign::Plus => Begin::Sign(UnaryOperator::Keep),
+        Sign::Open => Begin::Opening,
+        Sign::DoubleSlash => Begin::Wrong(SourceCode::UnsupportedHere),
+        _ => Begin::Wrong(SourceCode::BadOperands),
+    }
+}
+
+/// What a token is where an operand is wanted.
+fn begins<R: Registers>(kind: TokenKind<'_>) -> Begin<'_>
+    ensures { begin_of result ≡ begins R.registers (kind_of kind.entry) }
+{
+    match kind {
+        TokenKind::Number(_, number) => Begin::Number(number),
+        TokenKind::Character(byte) => Begin::Number(u64::from(byte)),
+        TokenKind::Name(name) => named_operand::<R>(name),
+        TokenKind::Reference(digits, true) => Begin::Symbol(Symbol::Forward(digits)),
+        TokenKind::Reference(digits, false) => Begin::Symbol(Symbol::Backward(digits)),
+        TokenKind::Mark(sign) => sign_begins(sign),
+        TokenKind::Text(_) => Begin::Wrong(SourceCode::UnsupportedHere),
+        TokenKind::BadByte => Begin::Wrong(SourceCode::BadByte),
+        TokenKind::BadToken | TokenKind::BadWord(_) => Begin::Wrong(SourceCode::BadToken),
+        TokenKind::Newline | TokenKind::End => Begin::Wrong(SourceCode::BadOperands),
+    }
+}
+
+/// What a token is after an operand.
+fn follows(kind: TokenKind<'_>) -> Follow
+    ensures { follow_of result ≡ follows (kind_of kind.entry) }
+{
+    let TokenKind::Mark(sign) = kind else {
+        return Follow::Nothing;
+    };
+    match sign {
+        Sign::Star => Follow::Operator(BinaryOperator::Multiply),
+        Sign::Slash => Follow::Operator(BinaryOperator::Divide),
+        Sign::Percent => Follow::Operator(BinaryOperator::Remainder),
+        Sign::ShiftLeft => Follow::Operator(BinaryOperator::ShiftLeft),
+        Sign::ShiftRight => Follow::Operator(BinaryOperator::ShiftRight),
+        Sign::Bar => Follow::Operator(BinaryOperator::Or),
+        Sign::Ampersand => Follow::Operator(BinaryOperator::And),
+        Sign::Caret => Follow::Operator(BinaryOperator::ExclusiveOr),
+        Sign::Plus => Follow::Operator(BinaryOperator::Add),
+        Sign::Minus => Follow::Operator(BinaryOperator::Subtract),
+        Sign::Close => Follow::Closing,
+        Sign::Equal
+        | Sign::NotEqual
+        | Sign::LessGreater
+        | Sign::Less
+        | Sign::Greater
+        | Sign::LessEqual
+        | Sign::GreaterEqual => Follow::Comparison,
+        _ => Follow::Nothing,
+    }
+}
+
+/// The code of a token that stands where an open parenthesis wants its other.
+fn unclosed(kind: TokenKind<'_>) -> SourceCode
+    ensures { number_of result ≡ reading.unclosed (kind_of kind.entry) }
+{
+    match kind {
+        TokenKind::BadByte => SourceCode::BadByte,
+        TokenKind::BadToken | TokenKind::BadWord(_) => SourceCode::BadToken,
+        TokenKind::Mark(Sign::DoubleSlash) => SourceCode::UnsupportedHere,
+        _ => SourceCode::BadOperands,
+    }
+}
+
+/// How tight an operator binds.
+fn level_of(operator: BinaryOperator) -> u8
+    ensures { result ≡ level_of operator }
+{
+    match operator {
+        BinaryOperator::Multiply
+        | BinaryOperator::Divide
+        | BinaryOperator::Remainder
+        | BinaryOperator::ShiftLeft
+        | BinaryOperator::ShiftRight => 2,
+        BinaryOperator::Or | BinaryOperator::And | BinaryOperator::ExclusiveOr => 1,
+        BinaryOperator::Add | BinaryOperator::Subtract => 0,
+    }
+}
+
+/// Whether an operator takes the operand behind it before an operator of this level does.
+fn binds(level: u8, frame: Frame) -> bool
+    ensures { result ≡ reading.binds level frame }
+{
+    match frame {
+        Frame::Parenthesis => false,
+        Frame::Prefix(_) => true,
+        Frame::Infix(operator) => level <= level_of(operator),
+    }
+}
+
+/// A parenthesis, or an operator of one operand.
+fn nests(frame: Frame) -> bool
+    ensures { result ≡ reading.nests frame }
+{
+    !matches!(frame, Frame::Infix(_))
+}
+
+/// How many parentheses and operators of one operand are open.
+#[tactic(auto, using(crate::proofs::Exprs::depth_count))]
+fn depth(frames: &[Frame]) -> usize
+    ensures { result ≡ reading.depth (stack_of frames.now) }
+{
+    frames.iter().filter(|frame| nests(**frame)).count()
+}
+
+/// The operators that take the operand behind them before one of this level does.
+#[tactic(auto, using(crate::proofs::Exprs::stack_push, crate::proofs::Exprs::stack_none))]
+fn settle<'a>(frames: &mut Vec<Frame>, nodes: &mut Nodes<'a>, level: u8) -> Result<(), AllocError>
+    ensures { IfOk result (λ _. reading.settle level (stack_of frames.old.items) (nodes_of nodes.old) ≡ (stack_of frames.new.items, nodes_of nodes.new)) }
+{
+    while let Some(frame) = frames.pop() {
+        if !binds(level, frame) {
+            frames.push(frame)?;
+            return Ok(());
+        }
+        nodes.settle(frame)?;
+    }
+    Ok(())
+}
+
+/// One level deeper, up to the limit.
+#[tactic(auto, using(crate::proofs::Exprs::stack_push))]
+fn deeper<'a>(
+    frames: &mut Vec<Frame>,
+    frame: Frame,
+    nodes: Option<Nodes<'a>>,
+) -> Result<Step<'a>, Stop>
+    ensures { Steps frames.new.items result (reading.deeper frame (stack_of frames.old.items) (some_nodes nodes.entry)) }
+{
+    if depth(frames) < DEEPEST {
+        frames.push(frame)?;
+        Ok(Step::Goes(Stage::Wants(nodes)))
+    } else {
+        Err(Stop::Wrong(SourceCode::NestingTooDeep))
+    }
+}
+
+/// An operand behind the nodes so far.
+fn operand<'a>(
+    alloc: Global,
+    nodes: Option<Nodes<'a>>,
+    node: Node<'a>,
+) -> Result<Nodes<'a>, AllocError>
+    ensures { IfOk result (λ e. nodes_of e ≡ some_nodes nodes.entry ++ node_of node.entry ∷ []) }
+{
+    match nodes {
+        None => Ok(Nodes {
+            first: node,
+            rest: Vec::new(alloc),
+        }),
+        Some(mut nodes) => {
+            nodes.push(node)?;
+            Ok(nodes)
+        }
+    }
+}
+
+/// A token where an operand is wanted.
+fn wants<'a, R: Registers>(
+    alloc: Global,
+    frames: &mut Vec<Frame>,
+    nodes: Option<Nodes<'a>>,
+    kind: TokenKind<'a>,
+) -> Result<Step<'a>, Stop>
+    ensures { Steps frames.new.items result (reading.step_wants (stack_of frames.old.items) (some_nodes nodes.entry) (begins R.registers (kind_of kind.entry))) }
+{
+    match begins::<R>(kind) {
+        Begin::Number(number) => {
+            let nodes = operand(alloc, nodes, Node::Number(number))?;
+            Ok(Step::Goes(Stage::Has(nodes)))
+        }
+        Begin::Symbol(symbol) => {
+            let nodes = operand(alloc, nodes, Node::Symbol(symbol))?;
+            Ok(Step::Goes(Stage::Has(nodes)))
+        }
+        Begin::Sign(operator) => deeper(frames, Frame::Prefix(operator), nodes),
+        Begin::Opening => deeper(frames, Frame::Parenthesis, nodes),
+        Begin::Wrong(code) => Err(Stop::Wrong(code)),
+    }
+}
+
+/// A `)`, where all that binds has its operand.
+#[tactic(auto, using(crate::proofs::Exprs::stack_push, crate::proofs::Exprs::stack_none))]
+fn close<'a>(frames: &mut Vec<Frame>, nodes: Nodes<'a>) -> Result<Step<'a>, Stop>
+    ensures { Steps frames.new.items result (reading.close (stack_of frames.old.items) (nodes_of nodes.entry)) }
+{
+    match frames.pop() {
+        Some(_) => Ok(Step::Goes(Stage::Has(nodes))),
+        None => Ok(Step::Ends(nodes)),
+    }
+}
+
+/// A token that no expression goes on with, where all that binds has its operand; `code` is its fault in a parenthesis.
+#[tactic(auto, using(crate::proofs::Exprs::end_none, crate::proofs::Exprs::end_open))]
+fn end<'a>(frames: &[Frame], nodes: Nodes<'a>, code: SourceCode) -> Result<Step<'a>, Stop>
+    ensures { Steps frames.now result (reading.end (number_of code) (stack_of frames.now) (nodes_of nodes.entry)) }
+{
+    if frames.is_empty() {
+        Ok(Step::Ends(nodes))
+    } else {
+        Err(Stop::Wrong(code))
+    }
+}
+
+/// An operator behind an operand.
+#[tactic(auto, using(crate::proofs::Exprs::stack_push))]
+fn operator<'a>(
+    frames: &mut Vec<Frame>,
+    nodes: Nodes<'a>,
+    operator: BinaryOperator,
+) -> Result<Step<'a>, Stop>
+    ensures { let s = reading.settle (level_of operator) (stack_of frames.old.items) (nodes_of nodes.entry) in Steps frames.new.items result (reading.Goes (reading.Wants (Infix operator ∷ s.0) s.1)) }
+{
+    let mut nodes = nodes;
+    settle(frames, &mut nodes, level_of(operator))?;
+    frames.push(Frame::Infix(operator))?;
+    Ok(Step::Goes(Stage::Wants(Some(nodes))))
+}
+
+/// A token behind an operand.
+fn has<'a>(frames: &mut Vec<Frame>, nodes: Nodes<'a>, kind: TokenKind<'a>) -> Result<Step<'a>, Stop>
+    ensures { Steps frames.new.items result (reading.step_has (kind_of kind.entry) (stack_of frames.old.items) (nodes_of nodes.entry) (follows (kind_of kind.entry))) }
+{
+    let mut nodes = nodes;
+    match follows(kind) {
+        Follow::Operator(sign) => operator(frames, nodes, sign),
+        Follow::Closing => {
+            settle(frames, &mut nodes, 0)?;
+            close(frames, nodes)
+        }
+        Follow::Comparison => Err(Stop::Wrong(SourceCode::UnsupportedHere)),
+        Follow::Nothing => {
+            settle(frames, &mut nodes, 0)?;
+            end(frames, nodes, unclosed(kind))
+        }
+    }
+}
+
+/// What the next token makes of a stage.
+fn taken<'a, R: Registers>(
+    alloc: Global,
+    frames: &mut Vec<Frame>,
+    stage: Stage<'a>,
+    kind: TokenKind<'a>,
+) -> Result<Step<'a>, Stop>
+    ensures { Steps frames.new.items result (reading.step R.registers (stage_of frames.old.items stage.entry) (kind_of kind.entry)) }
+{
+    match stage {
+        Stage::Wants(nodes) => wants::<R>(alloc, frames, nodes, kind),
+        Stage::Has(nodes) => has(frames, nodes, kind),
+    }
+}
+
+/// The expression at the front of a cursor's tokens. A refusal names the first token that is wrong.
+pub fn expression<'a, R: Registers>(
+    alloc: Global,
+    cursor: &mut Cursor<'a>,
+) -> Result<Expr<'a>, Refusal>
+    ensures reads { Answers (λ e. (expr_of e, left cursor.new)) result (reading.expression_at R.registers (left cursor.old)) }
+    ensures ahead { IsAhead cursor.old → IsAhead cursor.new }
+{
+    let mut frames = Vec::new(alloc);
+    let mut stage = Stage::Wants(None);
+    'tokens: loop {
+        match taken::<R>(alloc, &mut frames, stage, cursor.next.kind) {
+            Ok(Step::Goes(next)) => {
+                stage = next;
+                cursor.advance();
+            }
+            Ok(Step::Ends(nodes)) => return Ok(Expr { nodes }),
+            Err(Stop::Wrong(code)) => return Err(Refusal::At(cursor.wrong(code))),
+            Err(Stop::OutOfMemory) => return Err(Refusal::OutOfMemory),
+        }
+    }
+}
+
+/// The expression at the front of a lexer's tokens, which then has the tokens behind it. A fault has the line of the
+/// first token that is wrong, and leaves the lexer as it was.
+pub fn parse_expr<'a, R: Registers>(
+    alloc: Global,
+    lexer: &mut Lexer<'a>,
+) -> Result<Expr<'a>, SourceFault>
+    ensures reads { IfOk result (λ e. (tree : Tree) × ReadsTree R.registers (tokens_left lexer.old) tree (tokens_left lexer.new) × (expr_of e ≡ postfix tree)) }
+    ensures only { IfOk result (λ e. (tree : Tree) (rest : List Token) → ReadsTree R.registers (tokens_left lexer.old) tree rest → (expr_of e ≡ postfix tree) × (tokens_left lexer.new ≡ rest)) }
+    ensures refuses { IfErr result (λ e. NamesFault e (reading.expression_at R.registers (tokens_left lexer.old))) }
+    ensures stays { IfErr result (λ _. tokens_left lexer.new ≡ tokens_left lexer.old) }
+{
+    let mut cursor = Cursor::new(*lexer);
+    match expression::<R>(alloc, &mut cursor) {
+        Ok(expr) => {
+            *lexer = cursor.lexer();
+            Ok(expr)
+        }
+        Err(Refusal::At(wrong)) => Err(SourceFault::At {
+            code: wrong.code,
+            line: wrong.line,
+        }),
+        Err(Refusal::OutOfMemory) => Err(SourceFault::OutOfMemory),
+    }
+}

@@ -1,0 +1,5 @@
+use Rattle.rv_text_laws.proofs.ExpressionFound.{expression_found}
+use Rattle.rv_text_laws.proofs.laws.expression_found.Goals as goal
+
+pub returns : goal.returns
+returns c = expression_found

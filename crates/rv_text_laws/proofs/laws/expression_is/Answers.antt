@@ -1,0 +1,5 @@
+use Rattle.rv_text_laws.proofs.Expressions.{expression_is}
+use Rattle.rv_text_laws.proofs.laws.expression_is.Goals as goal
+
+pub returns : goal.returns
+returns c = expression_is

@@ -1,0 +1,167 @@
+-- Expressions: their trees, how tokens spell them, and their postfix form (GNU as, "Expressions"; Assembly
+-- Programmer's Manual).
+
+use Rattle.std.specs.Prelude.{◌≡◌, ℕ, suc, ◌≤◌, max, Bool, true, nat_le, List, [], ◌∷◌, ◌++◌, length, codes, ◌⊎◌, if◌then◌else◌}
+use Rattle.std.specs.Str.{bytes_eq}
+use Rattle.rv_text_laws.specs.declared.sign.Sign.{Sign}
+use Rattle.rv_text_laws.specs.declared.sign.Sign.TheVariants as signs
+use Rattle.rv_text_laws.specs.declared.operator.UnaryOperator.{UnaryOperator}
+use Rattle.rv_text_laws.specs.declared.operator.UnaryOperator.TheVariants.{Negate, Complement, Keep}
+use Rattle.rv_text_laws.specs.declared.operator.BinaryOperator.{BinaryOperator}
+use Rattle.rv_text_laws.specs.declared.operator.BinaryOperator.TheVariants.{Multiply, Divide, Remainder, ShiftLeft, ShiftRight, Or, And, ExclusiveOr, Add, Subtract}
+use Rattle.rv_text_laws.specs.Grammar.{Kind, Mark, Name, Number, Reference as ReferenceToken, Bad_word, Text, Character, Bad_byte, Bad_token}
+use Rattle.rv_text_laws.specs.Lexing.{Token}
+
+-- what stands in an expression without an operator
+pub data Primary : Type 0 where
+  Literal : (number : ℕ) → Primary
+  Symbol : (name : List ℕ) → Primary
+  -- `.`, the place of the statement
+  Here : Primary
+  -- `1b` or `1f`, by its digits
+  Reference : (digits : List ℕ) (forward : Bool) → Primary
+
+-- an expression with its parentheses
+pub data Tree : Type 0 where
+  Leaf : (primary : Primary) → Tree
+  Unary : (operator : UnaryOperator) (operand : Tree) → Tree
+  Paren : (inside : Tree) → Tree
+  Binary : (operator : BinaryOperator) (left right : Tree) → Tree
+
+-- how tight an operator binds: `* / % << >>`, then `| & ^`, then `+ -`
+abbrev pub level_of : BinaryOperator → ℕ
+level_of Multiply = 2
+level_of Divide = 2
+level_of Remainder = 2
+level_of ShiftLeft = 2
+level_of ShiftRight = 2
+level_of Or = 1
+level_of And = 1
+level_of ExclusiveOr = 1
+level_of Add = 0
+level_of Subtract = 0
+
+-- the longest name, in bytes
+abbrev pub longest_name : ℕ
+longest_name = 4095
+
+-- what a token is where an operand is wanted; a token that is none has the number of its refusal
+pub data Begin : Type 0 where
+  A_primary : (primary : Primary) → Begin
+  A_sign : (operator : UnaryOperator) → Begin
+  An_opening : Begin
+  No_operand : (code : ℕ) → Begin
+
+-- a name: `.`, a symbol, or no operand where it spells a register or is too long
+abbrev pub named_operand : (List ℕ → Bool) → List ℕ → Begin
+named_operand is_register name =
+    if is_register name then No_operand 7 else
+    if bytes_eq name (codes ".") then A_primary Here else
+    if nat_le (length name) longest_name then A_primary (Symbol name) else No_operand 17
+
+abbrev pub sign_begins : Sign → Begin
+sign_begins signs.Minus = A_sign Negate
+sign_begins signs.Tilde = A_sign Complement
+sign_begins signs.Plus = A_sign Keep
+sign_begins signs.Open = An_opening
+sign_begins signs.DoubleSlash = No_operand 9
+sign_begins _ = No_operand 7
+
+abbrev pub begins : (List ℕ → Bool) → Kind → Begin
+begins is_register (Number word number) = A_primary (Literal number)
+begins is_register (Character byte) = A_primary (Literal byte)
+begins is_register (Name name) = named_operand is_register name
+begins is_register (ReferenceToken digits forward) = A_primary (Reference digits forward)
+begins is_register (Mark sign) = sign_begins sign
+begins is_register (Text bytes) = No_operand 9
+begins is_register Bad_byte = No_operand 1
+begins is_register Bad_token = No_operand 2
+begins is_register (Bad_word word) = No_operand 2
+begins is_register _ = No_operand 7
+
+-- what a token is after an operand
+pub data Follow : Type 0 where
+  An_operator : (operator : BinaryOperator) → Follow
+  A_closing : Follow
+  -- a comparison, which the language leaves out
+  A_comparison : Follow
+  Nothing_more : Follow
+
+abbrev pub sign_follows : Sign → Follow
+sign_follows signs.Star = An_operator Multiply
+sign_follows signs.Slash = An_operator Divide
+sign_follows signs.Percent = An_operator Remainder
+sign_follows signs.ShiftLeft = An_operator ShiftLeft
+sign_follows signs.ShiftRight = An_operator ShiftRight
+sign_follows signs.Bar = An_operator Or
+sign_follows signs.Ampersand = An_operator And
+sign_follows signs.Caret = An_operator ExclusiveOr
+sign_follows signs.Plus = An_operator Add
+sign_follows signs.Minus = An_operator Subtract
+sign_follows signs.Close = A_closing
+sign_follows signs.Equal = A_comparison
+sign_follows signs.NotEqual = A_comparison
+sign_follows signs.LessGreater = A_comparison
+sign_follows signs.Less = A_comparison
+sign_follows signs.Greater = A_comparison
+sign_follows signs.LessEqual = A_comparison
+sign_follows signs.GreaterEqual = A_comparison
+sign_follows _ = Nothing_more
+
+abbrev pub follows : Kind → Follow
+follows (Mark sign) = sign_follows sign
+follows _ = Nothing_more
+
+-- the tokens spell the tree
+abbrev pub SpellsTree : (List ℕ → Bool) → Tree → List Token → Type 0
+SpellsTree is_register (Leaf p) ts = (t : Token) × (ts ≡ t ∷ []) × (begins is_register t.kind ≡ A_primary p)
+SpellsTree is_register (Unary o x) ts = (t : Token) × (us : List Token) × (ts ≡ t ∷ us) × (begins is_register t.kind ≡ A_sign o) × SpellsTree is_register x us
+SpellsTree is_register (Paren x) ts =
+    (t u : Token) × (us : List Token) × (ts ≡ t ∷ (us ++ u ∷ [])) × (begins is_register t.kind ≡ An_opening) × (follows u.kind ≡ A_closing) × SpellsTree is_register x us
+SpellsTree is_register (Binary o x y) ts =
+    (us vs : List Token) × (t : Token) × (ts ≡ us ++ t ∷ vs) × (follows t.kind ≡ An_operator o) × SpellsTree is_register x us × SpellsTree is_register y vs
+
+-- where an operand of this level may stand: its operators bind as tight or tighter, the left operand's as tight or
+-- tighter than it, the right operand's tighter; an operator of one operand takes no other
+abbrev pub IsAt : ℕ → Tree → Type 0
+IsAt level (Leaf p) = Unit {0}
+IsAt level (Unary o x) = IsAt 3 x
+IsAt level (Paren x) = IsAt 0 x
+IsAt level (Binary o x y) = (level ≤ level_of o) × IsAt (level_of o) x × IsAt (suc (level_of o)) y
+
+-- how many parentheses and operators of one operand stand in one another
+abbrev pub nesting : Tree → ℕ
+nesting (Leaf p) = 0
+nesting (Unary o x) = suc (nesting x)
+nesting (Paren x) = suc (nesting x)
+nesting (Binary o x y) = max (nesting x) (nesting y)
+
+-- the deepest nesting that is read
+abbrev pub deepest : ℕ
+deepest = 64
+
+-- a part of an expression in postfix form, where parentheses are not needed
+pub data Node : Type 0 where
+  Primary_node : (primary : Primary) → Node
+  Unary_node : (operator : UnaryOperator) → Node
+  Binary_node : (operator : BinaryOperator) → Node
+
+-- the operands before their operator
+abbrev pub postfix : Tree → List Node
+postfix (Leaf p) = Primary_node p ∷ []
+postfix (Unary o x) = postfix x ++ Unary_node o ∷ []
+postfix (Paren x) = postfix x
+postfix (Binary o x y) = postfix x ++ (postfix y ++ Binary_node o ∷ [])
+
+-- tokens that an expression does not go on with
+abbrev pub EndsBefore : List Token → Type 0
+EndsBefore rest = (t : Token) × (us : List Token) × (rest ≡ t ∷ us) × ((follows t.kind ≡ Nothing_more) ⊎ (follows t.kind ≡ A_closing))
+
+-- the tokens are this expression, and then the rest, which does not belong to it
+pub record ReadsTree (is_register : List ℕ → Bool) (ts : List Token) (tree : Tree) (rest : List Token) : Type 0 where
+  pub tokens : List Token
+  pub whole : ts ≡ tokens ++ rest
+  pub spelled : SpellsTree is_register tree tokens
+  pub ordered : IsAt 0 tree
+  pub within : nesting tree ≤ deepest
+  pub ends : EndsBefore rest

@@ -1,0 +1,119 @@
+-- The expression at the front of tokens, token by token: the function that the definitions of Expression leave room for
+-- one of. It names the first token that is wrong, with its code.
+
+use Rattle.std.specs.Prelude.{ℕ, suc, Bool, true, false, nat_le, nat_lt, List, [], ◌∷◌, ◌++◌, Result, Ok, Err, if◌then◌else◌}
+use Rattle.rv_text_laws.specs.declared.sign.Sign.TheVariants.{DoubleSlash}
+use Rattle.rv_text_laws.specs.declared.operator.UnaryOperator.{UnaryOperator}
+use Rattle.rv_text_laws.specs.declared.operator.BinaryOperator.{BinaryOperator}
+use Rattle.rv_text_laws.specs.declared.operator.Frame.{Frame}
+use Rattle.rv_text_laws.specs.declared.operator.Frame.TheVariants.{Parenthesis, Prefix, Infix}
+use Rattle.rv_text_laws.specs.Grammar.{Kind, Mark, Bad_word, Bad_byte, Bad_token}
+use Rattle.rv_text_laws.specs.Lexing.{Token}
+use Rattle.rv_text_laws.specs.Expression.{Begin, A_primary, A_sign, An_opening, No_operand, begins, Follow, An_operator, A_closing, A_comparison, Nothing_more, follows, level_of, deepest, Node, Primary_node, Unary_node, Binary_node}
+
+-- a token that is wrong where it stands: the place and the line of its first byte, and the fault's code
+pub record Wrong : Type 0 where
+  pub start : ℕ
+  pub line : ℕ
+  pub code : ℕ
+
+abbrev pub wrong : Token → ℕ → Wrong
+wrong t code = record { start = t.start; line = t.line; code = code }
+
+-- what is read at the front, and the tokens after it
+abbrev pub Read : Type 0 → Type 0
+Read X = Result (X × List Token) Wrong
+
+-- no tokens are left: each list of tokens has a last one, so this is never read
+abbrev pub nowhere : Wrong
+nowhere = record { start = 0; line = 0; code = 7 }
+
+-- what is read so far: what waits for an operand, the last one first, and the nodes; and whether an operand comes next
+pub data Stage : Type 0 where
+  Wants : (frames : List Frame) (nodes : List Node) → Stage
+  Has : (frames : List Frame) (nodes : List Node) → Stage
+
+-- parentheses and operators of one operand
+abbrev pub nests : Frame → Bool
+nests Parenthesis = true
+nests (Prefix o) = true
+nests (Infix o) = false
+
+-- how many are open
+abbrev pub depth : List Frame → ℕ
+depth [] = 0
+depth (f ∷ fs) = if nests f then suc (depth fs) else depth fs
+
+-- whether an operator takes the operand behind it before an operator of this level does
+abbrev pub binds : ℕ → Frame → Bool
+binds level Parenthesis = false
+binds level (Prefix o) = true
+binds level (Infix o) = nat_le level (level_of o)
+
+-- the node of an operator
+abbrev pub node_of : Frame → List Node
+node_of Parenthesis = []
+node_of (Prefix o) = Unary_node o ∷ []
+node_of (Infix o) = Binary_node o ∷ []
+
+-- the operators that take the operand behind them before one of this level does
+abbrev pub settle : ℕ → List Frame → List Node → List Frame × List Node
+settle level [] ns = ([], ns)
+settle level (f ∷ fs) ns = if binds level f then settle level fs (ns ++ node_of f) else (f ∷ fs, ns)
+
+-- what a token makes of a stage: another stage, the end of the expression before the token, or a fault at it
+pub data Step : Type 0 where
+  Goes : (stage : Stage) → Step
+  Ends : (nodes : List Node) → Step
+  Fails : (code : ℕ) → Step
+
+-- one level deeper, up to the limit
+abbrev pub deeper : Frame → List Frame → List Node → Step
+deeper f fs ns = if nat_lt (depth fs) deepest then Goes (Wants (f ∷ fs) ns) else Fails 3
+
+abbrev pub step_wants : List Frame → List Node → Begin → Step
+step_wants fs ns (A_primary p) = Goes (Has fs (ns ++ Primary_node p ∷ []))
+step_wants fs ns (A_sign o) = deeper (Prefix o) fs ns
+step_wants fs ns An_opening = deeper Parenthesis fs ns
+step_wants fs ns (No_operand code) = Fails code
+
+-- the code of a token that stands where an open parenthesis wants its other
+abbrev pub unclosed : Kind → ℕ
+unclosed Bad_byte = 1
+unclosed Bad_token = 2
+unclosed (Bad_word word) = 2
+unclosed (Mark DoubleSlash) = 9
+unclosed _ = 7
+
+-- after a `)`: it closes the last open parenthesis, or belongs to no expression
+abbrev pub close : List Frame → List Node → Step
+close [] ns = Ends ns
+close (f ∷ fs) ns = Goes (Has fs ns)
+
+-- a token that no expression goes on with, where this is its fault if a parenthesis is open
+abbrev pub end : ℕ → List Frame → List Node → Step
+end code [] ns = Ends ns
+end code (f ∷ fs) ns = Fails code
+
+abbrev pub step_has : Kind → List Frame → List Node → Follow → Step
+step_has k fs ns (An_operator o) = let s = settle (level_of o) fs ns in Goes (Wants (Infix o ∷ s.0) s.1)
+step_has k fs ns A_closing = let s = settle 0 fs ns in close s.0 s.1
+step_has k fs ns A_comparison = Fails 9
+step_has k fs ns Nothing_more = let s = settle 0 fs ns in end (unclosed k) s.0 s.1
+
+abbrev pub step : (List ℕ → Bool) → Stage → Kind → Step
+step is_register (Wants fs ns) k = step_wants fs ns (begins is_register k)
+step is_register (Has fs ns) k = step_has k fs ns (follows k)
+
+-- the nodes of the expression from a stage on
+abbrev pub read_from : (List ℕ → Bool) → Stage → List Token → Read (List Node)
+read_from is_register s [] = Err nowhere
+read_from is_register s (t ∷ ts) = elim (step is_register s t.kind) [
+  | Goes u ↦ read_from is_register u ts
+  | Ends ns ↦ Ok (ns, t ∷ ts)
+  | Fails code ↦ Err (wrong t code)
+]
+
+-- the expression at the front of tokens, in postfix form
+unfoldable pub expression_at : (List ℕ → Bool) → List Token → Read (List Node)
+expression_at is_register ts = read_from is_register (Wants [] []) ts
