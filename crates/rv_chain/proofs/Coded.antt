@@ -5,10 +5,16 @@ use Rattle.std.specs.List.{drop-map}
 use Rattle.std.proofs.Math.Seq.{drop-cons}
 use Rattle.rv_isa.specs.declared.instruction.Inst.{Inst}
 use Rattle.rv_isa.specs.Ranges.{IsValid}
-use Rattle.rv_parse_laws.specs.Statement.{Statement, Label, Norvc, Globl, Instruction, Directs, Spoken}
+use Rattle.rv_parse_laws.specs.Statement.{Statement, Label, Norvc, Globl, Instruction, Directs, Spoken, Expression}
+use Rattle.rv_parse_laws.specs.Value.{constant}
+use Rattle.rv_parse.specs.declared.statement.Operation.{Operation}
+use Rattle.rv_parse.specs.declared.statement.Operation.TheVariants as operations
+use Rattle.rv_parse.specs.declared.statement.Plain.{Plain}
+use Rattle.rv_parse.specs.declared.statement.Plain.TheVariants as plains
+use Rattle.rv_parse.specs.View.{plain_of, with_expression}
 use Rattle.rv_map.specs.declared.map.Row.{Row}
-use Rattle.rv_chain_laws.specs.Assembled.{code_of, code, word_bytes, IsCoded, AreCoded, rows_of, rows_from, size_of, size_all}
-use Rattle.rv_chain.specs.Statements.{instruction_of}
+use Rattle.rv_chain_laws.specs.Assembled.{code_of, code, word_bytes, IsCoded, AreCoded, row_at, rows_of, rows_from, size_of, size_all}
+use Rattle.rv_chain.specs.Statements.{instruction_of, numbered}
 
 coded : (says : Statement) (i : Inst) → instruction_of says ≡ Some i → IsValid i → (code_of says ≡ word_bytes (Some i)) × IsCoded says
 coded (Label name) i h v = absurd (cc)
@@ -21,6 +27,36 @@ pub coded_from : (s t : Statement) (i : Inst) → s ≡ t → instruction_of t �
 coded_from s t i e h v =
     let c = coded s i (ap instruction_of e ∙ h) v in
     (c.0, c.1, v)
+
+-- an operation with a constant has the instruction of its number
+pub numbered_is : (operation : Operation) (e : Expression) (k : ℕ) → constant e ≡ Some k → instruction_of (with_expression operation e) ≡ numbered operation k
+numbered_is (operations.Registers operation rd rs1) e k h = rw h refl
+numbered_is (operations.Immediate operation rd rs1) e k h = rw h refl
+numbered_is (operations.Shift operation rd rs1) e k h = rw h refl
+numbered_is (operations.Upper operation rd) e k h = rw h refl
+numbered_is (operations.Load operation rd rs1) e k h = rw h refl
+numbered_is (operations.Store operation rs2 rs1) e k h = rw h refl
+numbered_is (operations.Jalr rd rs1) e k h = rw h refl
+numbered_is (operations.JalrThen rd rs1) e k h = rw h refl
+numbered_is (operations.JalrLinked rs1) e k h = rw h refl
+numbered_is (operations.Li rd) e k h = rw h refl
+
+-- every instruction has four bytes, and one row of one instruction
+pub plain_size : (p : Plain) → size_of (plain_of p) ≡ 4
+plain_size plains.Ecall = refl
+plain_size _ = refl
+
+pub plain_row : (p : Plain) (ordinal address line : ℕ) → rows_of ordinal address line (plain_of p) ≡ row_at ordinal address line 4 1 ∷ []
+plain_row plains.Ecall ordinal address line = refl
+plain_row _ ordinal address line = refl
+
+pub operation_size : (operation : Operation) (e : Expression) → size_of (with_expression operation e) ≡ 4
+operation_size (operations.Li rd) e = refl
+operation_size _ e = refl
+
+pub operation_row : (operation : Operation) (e : Expression) (ordinal address line : ℕ) → rows_of ordinal address line (with_expression operation e) ≡ row_at ordinal address line 4 1 ∷ []
+operation_row (operations.Li rd) e ordinal address line = refl
+operation_row _ e ordinal address line = refl
 
 -- what is left of a list, from the ith on
 pub drop_next : {A B : Type 0} (f : A → B) (d : A) (xs : List A) (i : ℕ) → i < length xs → drop i (map f xs) ≡ f (get_or xs i d) ∷ drop (i + 1) (map f xs)

@@ -4,6 +4,8 @@
 mod building;
 mod fault;
 mod instruction;
+#[cfg(test)]
+mod instruction_tests;
 mod labels;
 mod link;
 mod names;
@@ -14,6 +16,7 @@ mod symbols;
 #[cfg(test)]
 mod tests;
 mod text;
+mod written;
 
 pub use building::build;
 pub use fault::{Fault, LinkFault};

@@ -9,12 +9,13 @@ use rv_parse::{Statement, StatementKind};
 use std::alloc::{AllocError, Global};
 
 /// The bytes that a statement has in the text.
+#[tactic(auto, using(crate::proofs::Coded::plain_size, crate::proofs::Coded::operation_size))]
 pub(crate) fn size(statement: &Statement<'_>) -> u64
     ensures { result ≡ size_of (said_by statement.now).says }
 {
     match &statement.kind {
         StatementKind::Label(_) | StatementKind::Norvc | StatementKind::Globl(_) => 0,
-        StatementKind::Ecall => 4,
+        StatementKind::Plain(_) => 4,
         StatementKind::Numeric(_) | StatementKind::Symbolic(_) | StatementKind::Referring(_) => 4,
     }
 }
@@ -38,6 +39,7 @@ pub(crate) fn rows(
 }
 
 /// Adds the row of a statement, if it has one.
+#[tactic(auto, using(crate::proofs::Coded::plain_row, crate::proofs::Coded::operation_row))]
 fn put_row(
     rows: &mut Vec<Row>,
     statement: &Statement<'_>,
@@ -49,7 +51,7 @@ fn put_row(
     let (bytes, instructions) = match &statement.kind {
         StatementKind::Norvc | StatementKind::Globl(_) => return Ok(()),
         StatementKind::Label(_) => (0, 0),
-        StatementKind::Ecall => (4, 1),
+        StatementKind::Plain(_) => (4, 1),
         StatementKind::Numeric(_) | StatementKind::Symbolic(_) | StatementKind::Referring(_) => (
             4, 1,
         ),

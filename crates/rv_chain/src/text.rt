@@ -7,7 +7,7 @@ ghost use Rattle.rv_parse.specs.View.{statement_of, said_by};
 ghost use Rattle.rv_chain.specs.Statements.{instruction_of};
 
 use crate::fault::Fault;
-use crate::instruction::numeric;
+use crate::instruction::{numeric, plain};
 use rv_encode::encode;
 use rv_isa::Inst;
 use rv_parse::{Statement, StatementKind};
@@ -40,7 +40,7 @@ fn instruction(statement: &StatementKind<'_>, compressed: bool) -> Result<Option
 {
     match statement {
         StatementKind::Label(_) | StatementKind::Norvc | StatementKind::Globl(_) => Ok(None),
-        StatementKind::Ecall if !compressed => Ok(Some(Inst::Ecall)),
+        StatementKind::Plain(statement) if !compressed => Ok(Some(plain(*statement))),
         StatementKind::Numeric(statement) if !compressed => Ok(Some(numeric(*statement)?)),
         _ => Err(SourceCode::UnsupportedHere),
     }

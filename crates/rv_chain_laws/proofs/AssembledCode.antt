@@ -1,26 +1,24 @@
 -- Memory that holds the code of an assembled source realizes the source at its map.
 
-use Rattle.std.proofs.Common.{◌≡◌, ℕ, zero, suc, ◌+◌, ◌*◌, ◌/◌, ◌%◌, ◌^◌, ◌<◌, ◌≤◌, true, List, [], ◌∷◌, ◌++◌, length, refl, sym, ap, ◌∙◌, subst, arith, Some, ℤ, pos, negsuc, lit<}
-use Rattle.std.proofs.lemmas.Int.{ints}
+use Rattle.std.proofs.Common.{◌≡◌, ℕ, zero, suc, ◌+◌, ◌*◌, ◌/◌, ◌%◌, ◌^◌, ◌<◌, ◌≤◌, true, List, [], ◌∷◌, ◌++◌, length, refl, sym, ap, ◌∙◌, subst, arith, Some}
 use Rattle.std.specs.Prelude.{◌&&◌, ◌==◌, if◌then◌else◌, ⊤}
 use Rattle.std.specs.List.{AllByRecursion}
 use Rattle.std.specs.Int.{w32, to_le_bytes}
 use Rattle.rv_isa.specs.declared.instruction.Inst.{Inst}
-use Rattle.rv_isa.specs.Ranges.{IsValid, IsSigned12}
+use Rattle.rv_isa.specs.Ranges.{IsValid}
 use Rattle.rv_isa_laws.specs.Memory.{Mem, Execute, may, number_at}
-use Rattle.rv_encode.specs.Word.{form, word, field, Spells}
+use Rattle.rv_encode.specs.Word.{form, word, Spells}
 use Rattle.rv_machine_laws.specs.Reader.{Reader}
 use Rattle.rv_machine_laws.specs.Run.{NoRight, Got, spelled, length_at, fetch}
-use Rattle.rv_parse_laws.specs.Statement.{Statement, Label, Norvc, Globl, Instruction, Directs, Spoken, Mnemonic, Addi, Ecall, Li, Operand, Register, Value}
+use Rattle.rv_parse_laws.specs.Statement.{Statement, Label, Norvc, Globl, Instruction, Directs, Spoken}
 use Rattle.rv_chain_laws.specs.Sites.{Site, Program}
-use Rattle.rv_chain_laws.specs.Meaning.{expansion, add_immediate}
-use Rattle.rv_parse_laws.specs.Value.{constant, signed}
-use Rattle.rv_isa.specs.declared.instruction.Inst.TheVariants.{Ecall as Call}
+use Rattle.rv_chain_laws.specs.Meaning.{expansion}
 use Rattle.rv_chain_laws.specs.Realizes.{HoldsLines}
 use Rattle.rv_chain_laws.specs.Fits.{IsRowOf}
 use Rattle.rv_chain_laws.specs.Assembled.{size_all, base, word_bytes, code, AreCoded, IsCoded}
 use Rattle.rv_chain_laws.proofs.AssembledRows.{spoken, sites_one, site_at}
-use Rattle.rv_chain_laws.proofs.AssembledFits.{expanded-is, fitted-parts}
+use Rattle.rv_chain_laws.proofs.AssembledFits.{expanded-is}
+use Rattle.rv_chain_laws.proofs.Wide.{IsWide, valid_wide}
 
 -- these bytes lie in memory from an address on
 abbrev pub HasBytes : Mem → ℕ → List ℕ → Type 0
@@ -52,32 +50,6 @@ module _ {StandsFor : ℕ → Inst → Type 0} (reader : Reader Spells StandsFor
       ∙ ap (λ t. if t then spelled 4 (reader.word (number_at m a 4)) else NoRight) runs
       ∙ ap (λ n. spelled 4 (reader.word n)) number
       ∙ ap (λ o. spelled 4 o) read
-
--- the word of an immediate form fits 32 bits and ends in 11
-immediate_word : (rd rs1 k : ℕ) → rd < 32 → rs1 < 32 → k < 4096 → (0x13 + rd * 2 ^ 7 + 0 * 2 ^ 12 + rs1 * 2 ^ 15 + k * 2 ^ 20 < 2 ^ 32) × ((0x13 + rd * 2 ^ 7 + 0 * 2 ^ 12 + rs1 * 2 ^ 15 + k * 2 ^ 20) % 4 ≡ 3)
-immediate_word rd rs1 k r s f = (omega arith, omega arith)
-
-field_below : (z : ℤ) → IsSigned12 z → field 12 z < 4096
-field_below (pos n) (low, high) = omega (arith, ints)
-field_below (negsuc n) (low, high) = omega (arith, ints)
-
-abbrev pub IsWide : Inst → Type 0
-IsWide i = (word (form i) < 2 ^ 32) × (word (form i) % 4 ≡ 3)
-
-add_wide : (rd rs1 k : ℕ) → IsValid (add_immediate rd rs1 k) → IsWide (add_immediate rd rs1 k)
-add_wide rd rs1 k (r, s, f) = immediate_word rd rs1 (field 12 (signed k)) r s (field_below (signed k) f)
-
-pub base_wide : (mnemonic : Mnemonic) (operands : List Operand) (i : Inst) → base mnemonic operands ≡ Some i → IsValid i → IsWide i
-base_wide Addi (Register rd ∷ Register rs1 ∷ Value e ∷ []) i h v =
-    let (k, c, f, made) = fitted-parts (constant e) (add_immediate rd rs1) i h in
-    subst IsWide made (add_wide rd rs1 k (subst IsValid (sym made) v))
-base_wide Ecall [] i h v =
-    let made : Call ≡ i = cc in
-    subst IsWide made (lit< tt, refl)
-base_wide Li (Register rd ∷ Value e ∷ []) i h v =
-    let (k, c, f, made) = fitted-parts (constant e) (add_immediate rd 0) i h in
-    subst IsWide made (add_wide rd 0 k (subst IsValid (sym made) v))
-base_wide mnemonic operands i h v = absurd (cc)
 
 -- what lies behind the first bytes
 pub bytes_behind : (m : Mem) (a : ℕ) (bs cs : List ℕ) → HasBytes m a (bs ++ cs) → HasBytes m (a + length bs) cs
@@ -113,7 +85,7 @@ module _ {StandsFor : ℕ → Inst → Type 0} (reader : Reader Spells StandsFor
   holds_by (Instruction mnemonic operands) line k a ss (i, same, valid) h fits runs ih =
       let s : Site = site_at k a line 4 1 (Instruction mnemonic operands) in
       let e : expansion p s ≡ Some (i ∷ []) = expanded-is p s mnemonic operands i same in
-      let wide : IsWide i = base_wide mnemonic operands i same valid in
+      let wide : IsWide i = valid_wide i valid in
       let held : HasBytes m a (to_le_bytes w32 (word (form i)) ++ code ss) = subst (λ o. HasBytes m a (word_bytes o ++ code ss)) same h in
       let got : fetch reader m a ≡ Got i 4 = fetch-word reader m a i (word (form i)) (code ss) refl wide.0 wide.1 valid (omega arith) (may_all m 4 a (λ x l u. runs x l (omega arith)) (omega arith)) held in (
         record {

@@ -2,18 +2,21 @@
 
 use Rattle.std.proofs.Common.{◌≡◌, ℕ, suc, ◌+◌, ◌-◌, ◌%◌, ◌^◌, Bool, true, false, List, [], ◌∷◌, ◌++◌, refl, sym, ap, ◌∙◌, subst, arith, map, Option, Some, None, append-nil}
 use Rattle.std.proofs.lemmas.Bool.Decides.{nat_tests}
-use Rattle.std.specs.Prelude.{◌&&◌, if◌then◌else◌, filter, max, option_map, unwrap_or, is_some, nat_lt}
+use Rattle.std.specs.Prelude.{◌&&◌, if◌then◌else◌, filter, flat_map, max, option_map, unwrap_or, is_some, nat_lt}
 use Rattle.std.specs.List.{AllByRecursion, list_all}
 use Rattle.rv_isa.specs.declared.instruction.Inst.{Inst}
-use Rattle.rv_parse_laws.specs.Statement.{Statement, Label, Norvc, Globl, Instruction, Directs, Spoken, Mnemonic, Addi, Ecall, Li, Operand, Register, Value, Expression, Literal, Name, Reference, Here, Minus}
+use Rattle.rv_parse_laws.specs.declared.mnemonic.Mnemonic.{Mnemonic}
+use Rattle.rv_parse_laws.specs.declared.mnemonic.Mnemonic.TheVariants.{Registers, Immediate, Shift, Upper, Load, Store, Jalr, LoadReserved, Atomic, Fence, FenceTso, Ecall, Ebreak, Li}
+use Rattle.rv_parse_laws.specs.Statement.{Statement, Label, Norvc, Globl, Instruction, Directs, Spoken, Operand, Register, Value, Accesses, Expression, Literal, Name, Reference, Here, Minus}
 use Rattle.rv_parse_laws.specs.Value.{constant}
 use Rattle.rv_map.specs.Map.{Map, Global}
 use Rattle.rv_map.specs.declared.map.Region.{Region}
 use Rattle.rv_chain_laws.specs.Sections.{Section, has_row, goes_to_text, goes_to_rodata, goes_to_data, goes_to_bss, text_section}
-use Rattle.rv_chain_laws.specs.Sites.{Site, Program, program, entries_of, sites_of, value, number, expressions}
-use Rattle.rv_chain_laws.specs.Meaning.{fits_12, add_zero, add_immediate, expanded, expansion}
+use Rattle.rv_chain_laws.specs.Sites.{Site, Program, program, entries_of, sites_of, value, number, in_operand, expressions}
+use Rattle.rv_chain_laws.specs.Written.{Argument, Of_register, Of_number, Of_accesses, argument, arguments, written}
+use Rattle.rv_chain_laws.specs.Meaning.{fits_12, add_zero, add_immediate, alone, expanded_with, expanded, expansion}
 use Rattle.rv_chain_laws.specs.Fits.{Fits, IsRowOf, SizeFits, Block, rows_of, block_of, blocks, blocks_of_file, aligned, Holds, Follow, size, sites_in, mark_of_stated, gaps_of, greatest_alignment}
-use Rattle.rv_chain_laws.specs.Assembled.{rows_from, size_all, fitted, base, AreCoded, IsCoded, text_map}
+use Rattle.rv_chain_laws.specs.Assembled.{rows_from, size_all, constant_argument, before_others, constant_arguments, base_with, base_of, base, AreCoded, IsCoded, text_map}
 use Rattle.rv_chain_laws.proofs.AssembledRows.{spoken, stated_one, entries_one, sites_one, marks, follow, sizes, sites_in_text, rows_one, opened_one, greatest_one, site_at}
 
 -- a constant expression has its number at every site
@@ -32,53 +35,69 @@ value-constant p s (Minus negated) k h = go (constant negated) refl (λ n e. val
         let g : option_map (λ n. (2 ^ 64 - n) % 2 ^ 64) None ≡ Some k = subst (λ o. option_map (λ n. (2 ^ 64 - n) % 2 ^ 64) o ≡ Some k) e h in
         absurd (cc)
 
--- what a fitted number makes, it makes of the number itself
-pub fitted-parts : (o : Option ℕ) (make : ℕ → Inst) (i : Inst) → fitted o make ≡ Some i → (k : ℕ) × (o ≡ Some k) × (fits_12 k ≡ Some k) × (make k ≡ i)
-fitted-parts None make i h = absurd (cc)
-fitted-parts (Some k) make i h = go (nat_lt ((k + 2 ^ 11) % 2 ^ 64) (2 ^ 12)) refl
-  where
-    go : (b : Bool) → nat_lt ((k + 2 ^ 11) % 2 ^ 64) (2 ^ 12) ≡ b → (k' : ℕ) × (Some k ≡ Some k') × (fits_12 k' ≡ Some k') × (make k' ≡ i)
-    go true e =
-        let f : fits_12 k ≡ Some k = ap (λ b. if b then Some k else None) e in
-        let g : option_map make (Some k) ≡ Some i = subst (λ o. option_map make o ≡ Some i) f h in
-        let w : make k ≡ i = cc in
-        (k, refl, f, w)
-    go false e =
-        let f : fits_12 k ≡ None = ap (λ b. if b then Some k else None) e in
-        let g : option_map make None ≡ Some i = subst (λ o. option_map make o ≡ Some i) f h in
-        absurd (cc)
-
--- so it has a value, and that number
+-- so it has that number
 number-constant : (p : Program) (s : Site) (e : Expression) (k : ℕ) → constant e ≡ Some k → number p s e ≡ k
 number-constant p s e k h = ap (λ o. unwrap_or o 0) (value-constant p s e k h)
 
-one-valued : (p : Program) (s : Site) (e : Expression) (k : ℕ) → constant e ≡ Some k → list_all (λ x. is_some (value p s x)) (e ∷ []) ≡ true
-one-valued p s e k h = ap (λ o. is_some o && true) (value-constant p s e k h)
+-- a constant operand has its expression's number, which is its value at every site
+argument-constant : (p : Program) (s : Site) (o : Operand) (a : Argument) → constant_argument o ≡ Some a → argument (number p s) o ≡ a
+argument-constant p s (Register number) a h = cc
+argument-constant p s (Accesses set) a h = cc
+argument-constant p s (Value e) a h = go (constant e) refl h
+  where
+    go : (o : Option ℕ) → constant e ≡ o → option_map Of_number o ≡ Some a → Of_number (number p s e) ≡ a
+    go (Some k) c h =
+        let same : Of_number k ≡ a = cc in
+        ap Of_number (number-constant p s e k c) ∙ same
+    go None c h = absurd (cc)
 
-valued : (p : Program) (s : Site) (mnemonic : Mnemonic) (operands : List Operand) (i : Inst) → base mnemonic operands ≡ Some i → list_all (λ e. is_some (value p s e)) (expressions (Instruction mnemonic operands)) ≡ true
-valued p s Addi (Register rd ∷ Register rs1 ∷ Value e ∷ []) i h =
-    let (k, c, f, m) = fitted-parts (constant e) (add_immediate rd rs1) i h in
-    one-valued p s e k c
-valued p s Ecall [] i h = refl
-valued p s Li (Register rd ∷ Value e ∷ []) i h =
-    let (k, c, f, m) = fitted-parts (constant e) (add_immediate rd 0) i h in
-    one-valued p s e k c
-valued p s mnemonic operands i h = absurd (cc)
+before-parts : (x : Option Argument) (xs : Option (List Argument)) (args : List Argument) → before_others x xs ≡ Some args
+    → (a : Argument) × (others : List Argument) × (x ≡ Some a) × (xs ≡ Some others) × (a ∷ others ≡ args)
+before-parts (Some a) (Some others) args h = (a, others, refl, refl, cc)
+before-parts (Some a) None args h = absurd (cc)
+before-parts None xs args h = absurd (cc)
+
+arguments-constant : (p : Program) (s : Site) (os : List Operand) (args : List Argument) → constant_arguments os ≡ Some args → arguments (number p s) os ≡ args
+arguments-constant p s [] args h = cc
+arguments-constant p s (o ∷ os) args h =
+    let (a, others, e, f, same) = before-parts (constant_argument o) (constant_arguments os) args h in
+    ap (λ b. b ∷ arguments (number p s) os) (argument-constant p s o a e) ∙ ap (λ bs. a ∷ bs) (arguments-constant p s os others f) ∙ same
+
+has-constant : (o : Option ℕ) (a : Argument) → option_map Of_number o ≡ Some a → (k : ℕ) × (o ≡ Some k)
+has-constant (Some k) a h = (k, refl)
+has-constant None a h = absurd (cc)
+
+-- constant operands have values
+valued : (p : Program) (s : Site) (os : List Operand) (args : List Argument) → constant_arguments os ≡ Some args → list_all (λ e. is_some (value p s e)) (flat_map in_operand os) ≡ true
+valued p s [] args h = refl
+valued p s (Register number ∷ os) args h =
+    let (a, others, e, f, same) = before-parts (constant_argument (Register number)) (constant_arguments os) args h in valued p s os others f
+valued p s (Accesses set ∷ os) args h =
+    let (a, others, e, f, same) = before-parts (constant_argument (Accesses set)) (constant_arguments os) args h in valued p s os others f
+valued p s (Value x ∷ os) args h =
+    let (a, others, e, f, same) = before-parts (constant_argument (Value x)) (constant_arguments os) args h in
+    let (k, c) = has-constant (constant x) a e in
+    ap (λ o. is_some o && list_all (λ e. is_some (value p s e)) (flat_map in_operand os)) (value-constant p s x k c) ∙ valued p s os others f
+
+-- the one instruction is the expansion
+expanded-with : (mnemonic : Mnemonic) (args : List Argument) (i : Inst) → base_with mnemonic args ≡ Some i → expanded_with mnemonic args ≡ Some (i ∷ [])
+expanded-with Li (Of_register rd ∷ Of_number k ∷ []) i h = go (fits_12 k) h
+  where
+    go : (o : Option ℕ) → option_map (add_immediate rd 0) o ≡ Some i → add_zero rd o ≡ Some (i ∷ [])
+    go (Some n) h = let same : add_immediate rd 0 n ≡ i = cc in ap (λ j. Some (j ∷ [])) same
+    go None h = absurd (cc)
+expanded-with mnemonic args i h = ap alone h
+
+base-parts : (mnemonic : Mnemonic) (o : Option (List Argument)) (i : Inst) → base_of mnemonic o ≡ Some i → (args : List Argument) × (o ≡ Some args) × (base_with mnemonic args ≡ Some i)
+base-parts mnemonic None i h = absurd (cc)
+base-parts mnemonic (Some args) i h = (args, refl, h)
 
 -- the statement stands for its one instruction
-expanded-one : (p : Program) (s : Site) (mnemonic : Mnemonic) (operands : List Operand) (i : Inst) → base mnemonic operands ≡ Some i → expanded (number p s) mnemonic operands ≡ Some (i ∷ [])
-expanded-one p s Addi (Register rd ∷ Register rs1 ∷ Value e ∷ []) i h =
-    let (k, c, f, m) = fitted-parts (constant e) (add_immediate rd rs1) i h in
-    ap (λ n. Some (add_immediate rd rs1 n ∷ [])) (number-constant p s e k c) ∙ ap (λ j. Some (j ∷ [])) m
-expanded-one p s Ecall [] i h = ap (λ o. option_map (λ j. j ∷ []) o) h
-expanded-one p s Li (Register rd ∷ Value e ∷ []) i h =
-    let (k, c, f, m) = fitted-parts (constant e) (add_immediate rd 0) i h in
-    ap (λ n. add_zero rd (fits_12 n)) (number-constant p s e k c) ∙ ap (λ o. add_zero rd o) f ∙ ap (λ j. Some (j ∷ [])) m
-expanded-one p s mnemonic operands i h = absurd (cc)
-
 pub expanded-is : (p : Program) (s : Site) (mnemonic : Mnemonic) (operands : List Operand) (i : Inst) → base mnemonic operands ≡ Some i → (if list_all (λ e. is_some (value p s e)) (expressions (Instruction mnemonic operands)) then expanded (number p s) mnemonic operands else None) ≡ Some (i ∷ [])
 expanded-is p s mnemonic operands i h =
-    ap (λ b. if b then expanded (number p s) mnemonic operands else None) (valued p s mnemonic operands i h) ∙ expanded-one p s mnemonic operands i h
+    let (args, c, made) = base-parts mnemonic (constant_arguments operands) i h in
+    ap (λ b. if b then expanded (number p s) mnemonic operands else None) (valued p s operands args c)
+    ∙ ap (λ bs. expanded_with mnemonic bs) (arguments-constant p s operands args c) ∙ expanded-with mnemonic args i made
 
 -- each row has the size of its statement
 sizes_fit_by : (p : Program) (says : Statement) (line k a : ℕ) (ss : List Spoken) → IsCoded says → ((b : ℕ) → AllByRecursion (SizeFits p) (sites_one (suc k) b ss)) → AllByRecursion (SizeFits p) (sites_one k a (spoken line says ∷ ss))

@@ -6,6 +6,7 @@ pub mod AssembledNames
 pub mod Onward
 pub mod Fetch
 pub mod Walk
+pub mod Wide
 pub mod AssembledCode
 pub mod AssembledMemory
 pub mod Obligations

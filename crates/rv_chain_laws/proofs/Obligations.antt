@@ -1,19 +1,21 @@
 -- Each kind of statement: its lines one after another come to its meaning and its cost.
 
-use Rattle.std.proofs.Common.{◌≡◌, ℕ, zero, suc, ◌+◌, ◌-◌, ◌%◌, ◌^◌, ◌<◌, ◌≤◌, Bool, true, false, List, [], ◌∷◌, Some, None, length, refl, sym, ap, ◌∙◌, subst, arith, ℤ, pos, negsuc}
+use Rattle.std.proofs.Common.{◌≡◌, ℕ, zero, suc, ◌+◌, ◌-◌, ◌%◌, ◌^◌, ◌<◌, ◌≤◌, Bool, true, false, List, [], ◌∷◌, Option, Some, None, length, refl, sym, ap, ◌∙◌, subst, arith, ℤ, pos, negsuc}
 use Rattle.std.specs.Prelude.{map, replicate, nat_lt, ◌==◌, if◌then◌else◌, ◌-ℤ◌}
 use Rattle.std.specs.List.{AllByRecursion}
 use Rattle.std.proofs.lemmas.Bool.{ltb-true, ltb-false, eq-eqb}
 use Rattle.rv_isa.specs.declared.instruction.Inst.{Inst}
-use Rattle.rv_isa.specs.declared.instruction.Inst.TheVariants.{Ecall as Call}
 use Rattle.rv_isa_laws.specs.Arithmetic.{wrapped, sum_of}
 use Rattle.rv_isa_laws.specs.Hart.{Hart, with_register, advanced}
 use Rattle.rv_isa_laws.specs.Effect.{Effect, Goes, Breaks}
 use Rattle.rv_isa_laws.specs.Meaning.{effect, sets}
-use Rattle.rv_parse_laws.specs.Statement.{Statement, Label, Norvc, Globl, Instruction, Directs, Directive, Sets, Aligns_to_power, Aligns_to_bytes, Numbered, Mnemonic, Addi, Ecall, Li, Operand, Register, Value, Expression}
+use Rattle.rv_parse_laws.specs.declared.mnemonic.Mnemonic.{Mnemonic}
+use Rattle.rv_parse_laws.specs.declared.mnemonic.Mnemonic.TheVariants.{Registers, Immediate, Shift, Upper, Load, Store, Jalr, LoadReserved, Atomic, Fence, FenceTso, Ecall, Ebreak, Li}
+use Rattle.rv_parse_laws.specs.Statement.{Statement, Label, Norvc, Globl, Instruction, Directs, Directive, Sets, Aligns_to_power, Aligns_to_bytes, Numbered, Expression}
 use Rattle.rv_parse_laws.specs.Value.{signed}
 use Rattle.rv_chain_laws.specs.Sites.{Site, Program, number, has_values}
-use Rattle.rv_chain_laws.specs.Meaning.{Line, Lie, AreLines, add_immediate, run_spoken, run_directive, run_said, meaning, cost, add_zero, expanded, no_operation, expanded_directive, expanded_said, expansion}
+use Rattle.rv_chain_laws.specs.Written.{Argument, Of_register, Of_number, Of_accesses, arguments, written}
+use Rattle.rv_chain_laws.specs.Meaning.{Line, Lie, AreLines, add_immediate, run_written, run_with, run_spoken, run_directive, run_said, meaning, cost, add_zero, alone, expanded_with, expanded, no_operation, expanded_directive, expanded_said, expansion}
 use Rattle.rv_chain_laws.specs.Fits.{IsRowOf}
 use Rattle.rv_chain_laws.proofs.Walk.{Walked, once, more, then_walk, walk}
 
@@ -70,19 +72,20 @@ adds_to_zero rd k bytes h =
     set_same : (rd a b bytes : ℕ) (h : Hart) → a % 2 ^ 64 ≡ b % 2 ^ 64 → sets bytes h rd a ≡ sets bytes h rd b
     set_same rd a b bytes h e = ap (λ v. Goes (advanced (with_register h rd v) bytes)) e
 
-does_spoken : (v : Expression → ℕ) (mnemonic : Mnemonic) (operands : List Operand) (count address bytes : ℕ) (lines : List Line) → expanded v mnemonic operands ≡ Some (map (λ (l : Line). l.instruction) lines) → Lie address lines (address + bytes) → count ≡ length (map (λ (l : Line). l.instruction) lines) → Does (run_spoken v mnemonic operands bytes) (λ h. count) address lines
-does_spoken v Addi (Register rd ∷ Register rs1 ∷ Value k ∷ []) count address bytes lines e lie n =
-    one_line (add_immediate rd rs1 (v k)) _ count address bytes lines e lie n (λ h. refl)
-does_spoken v Ecall [] count address bytes lines e lie n =
-    one_line Call _ count address bytes lines e lie n (λ h. refl)
-does_spoken v Li (Register rd ∷ Value k ∷ []) count address bytes lines e lie n =
-    load_immediate (nat_lt ((v k + 2 ^ 11) % 2 ^ 64) (2 ^ 12)) rd (v k) count address bytes lines e lie n
+-- a base instruction does what it means
+does_written : (o : Option Inst) (count address bytes : ℕ) (lines : List Line) → alone o ≡ Some (map (λ (l : Line). l.instruction) lines) → Lie address lines (address + bytes) → count ≡ length (map (λ (l : Line). l.instruction) lines) → Does (λ h. run_written o bytes h) (λ h. count) address lines
+does_written (Some i) count address bytes lines e lie n = one_line i _ count address bytes lines e lie n (λ h. refl)
+does_written None count address bytes lines e lie n = absurd (cc)
+
+does_with : (mnemonic : Mnemonic) (args : List Argument) (count address bytes : ℕ) (lines : List Line) → expanded_with mnemonic args ≡ Some (map (λ (l : Line). l.instruction) lines) → Lie address lines (address + bytes) → count ≡ length (map (λ (l : Line). l.instruction) lines) → Does (λ h. run_with mnemonic args bytes h) (λ h. count) address lines
+does_with Li (Of_register rd ∷ Of_number k ∷ []) count address bytes lines e lie n =
+    load_immediate (nat_lt ((k + 2 ^ 11) % 2 ^ 64) (2 ^ 12)) rd k count address bytes lines e lie n
   where
     load_immediate : (t : Bool) (rd k count address bytes : ℕ) (lines : List Line) → add_zero rd (if t then Some k else None) ≡ Some (map (λ (l : Line). l.instruction) lines) → Lie address lines (address + bytes) → count ≡ length (map (λ (l : Line). l.instruction) lines) → Does (λ h. sets bytes h rd k) (λ h. count) address lines
     load_immediate true rd k count address bytes lines e lie n =
         one_line (add_immediate rd 0 k) (λ h. sets bytes h rd k) count address bytes lines e lie n (λ h. adds_to_zero rd k bytes h)
     load_immediate false rd k count address bytes lines e lie n = absurd (cc)
-does_spoken v mnemonic operands count address bytes lines e lie n = absurd (cc)
+does_with mnemonic args count address bytes lines e lie n = does_written (written mnemonic args) count address bytes lines e lie n
 
 -- ---- an alignment's padding: instructions that only go on, in any number
 
@@ -151,7 +154,7 @@ does_said : (v : Expression → ℕ) (says : Statement) (count address bytes : �
 does_said v (Label name) count address bytes lines e lie n some below = no_lines _ count address bytes lines e lie some
 does_said v Norvc count address bytes lines e lie n some below = no_lines _ count address bytes lines e lie some
 does_said v (Globl names) count address bytes lines e lie n some below = no_lines _ count address bytes lines e lie some
-does_said v (Instruction mnemonic operands) count address bytes lines e lie n some below = does_spoken v mnemonic operands count address bytes lines e lie n
+does_said v (Instruction mnemonic operands) count address bytes lines e lie n some below = does_with mnemonic (arguments v operands) count address bytes lines e lie n
 does_said v (Directs directive) count address bytes lines e lie n some below = does_directive directive count address bytes lines e lie n some below
 
 -- only where each name has a meaning

@@ -5,30 +5,47 @@ use Rattle.std.specs.Str.{bytes_eq}
 use Rattle.std.specs.Int.{w32, to_le_bytes}
 use Rattle.std.specs.List.{find}
 use Rattle.rv_isa.specs.declared.instruction.Inst.{Inst}
-use Rattle.rv_isa.specs.declared.instruction.Inst.TheVariants.{Ecall as Call}
 use Rattle.rv_isa.specs.Ranges.{IsValid}
 use Rattle.rv_encode.specs.Word.{form, word}
-use Rattle.rv_parse_laws.specs.Statement.{Statement, Label, Norvc, Globl, Instruction, Directs, Spoken, Mnemonic, Addi, Ecall, Li, Operand, Register, Value}
+use Rattle.rv_parse_laws.specs.declared.mnemonic.Mnemonic.{Mnemonic}
+use Rattle.rv_parse_laws.specs.declared.mnemonic.Mnemonic.TheVariants.{Registers, Immediate, Shift, Upper, Load, Store, Jalr, LoadReserved, Atomic, Fence, FenceTso, Ecall, Ebreak, Li}
+use Rattle.rv_parse_laws.specs.Statement.{Statement, Label, Norvc, Globl, Instruction, Directs, Spoken, Operand, Register, Value, Accesses}
 use Rattle.rv_parse_laws.specs.Value.{constant}
 use Rattle.rv_map.specs.Map.{Map, Global}
 use Rattle.rv_map.specs.declared.map.Row.{Row}
 use Rattle.rv_map.specs.declared.map.Region.{Region}
 use Rattle.rv_image.specs.Linked.{Linked}
+use Rattle.rv_chain_laws.specs.Written.{Argument, Of_register, Of_number, Of_accesses, written}
 use Rattle.rv_chain_laws.specs.Meaning.{add_immediate, fits_12}
 use Rattle.rv_chain_laws.specs.Fits.{aligned}
 use Rattle.rv_chain_laws.specs.Resolves.{is_one_of, AreDistinct, symbol, names_of, linker_symbols}
 
--- the instruction that a number makes, where the number is a constant of 12 signed bits
-abbrev pub fitted : Option ℕ → (ℕ → Inst) → Option Inst
-fitted None make = None
-fitted (Some k) make = option_map make (fits_12 k)
+-- an operand whose expression is a constant
+abbrev pub constant_argument : Operand → Option Argument
+constant_argument (Register number) = Some (Of_register number)
+constant_argument (Value e) = option_map Of_number (constant e)
+constant_argument (Accesses set) = Some (Of_accesses set)
 
--- the base instruction of an instruction or a pseudo-instruction with constant operands in range
+abbrev pub before_others : Option Argument → Option (List Argument) → Option (List Argument)
+before_others (Some first) (Some others) = Some (first ∷ others)
+before_others _ _ = None
+
+abbrev pub constant_arguments : List Operand → Option (List Argument)
+constant_arguments [] = Some []
+constant_arguments (o ∷ os) = before_others (constant_argument o) (constant_arguments os)
+
+-- the one base instruction of an instruction or a pseudo-instruction: `li` has one for a number of 12 signed bits
+abbrev pub base_with : Mnemonic → List Argument → Option Inst
+base_with Li (Of_register rd ∷ Of_number k ∷ []) = option_map (add_immediate rd 0) (fits_12 k)
+base_with mnemonic arguments = written mnemonic arguments
+
+abbrev pub base_of : Mnemonic → Option (List Argument) → Option Inst
+base_of mnemonic None = None
+base_of mnemonic (Some arguments) = base_with mnemonic arguments
+
+-- the same where the operands are constants
 abbrev pub base : Mnemonic → List Operand → Option Inst
-base Addi (Register rd ∷ Register rs1 ∷ Value e ∷ []) = fitted (constant e) (add_immediate rd rs1)
-base Ecall [] = Some Call
-base Li (Register rd ∷ Value e ∷ []) = fitted (constant e) (add_immediate rd 0)
-base mnemonic operands = None
+base mnemonic operands = base_of mnemonic (constant_arguments operands)
 
 -- every instruction is one that its word can spell; no directive is built
 abbrev pub IsCoded : Statement → Type 0

@@ -2,14 +2,16 @@
 
 use Rattle.std.specs.Prelude.{ℕ, List, [], ◌∷◌, Bool, false, true, None, codes}
 use Rattle.rv_isa_laws.specs.Hart.{Outcome, Exited}
-use Rattle.rv_parse_laws.specs.Statement.{Statement, Label, Norvc, Globl, Instruction, Directs, Spoken, Addi, Ecall, Register, Value, Literal, Name, Reference, Here, Minus, Data, Bss, Enters, Opens, Local, Sets, Aligns_to_power, Aligns_to_bytes, Values, Strings, Zeros, Numbered}
+use Rattle.rv_parse_laws.specs.declared.mnemonic.Mnemonic.TheVariants.{Immediate, Ecall}
+use Rattle.rv_parse_laws.specs.declared.mnemonic.ImmediateOperation.TheVariants.{Addi}
+use Rattle.rv_parse_laws.specs.Statement.{Statement, Label, Norvc, Globl, Instruction, Directs, Spoken, Register, Value, Literal, Name, Reference, Here, Minus, Data, Bss, Enters, Opens, Local, Sets, Aligns_to_power, Aligns_to_bytes, Values, Strings, Zeros, Numbered}
 use Rattle.rv_map.specs.Map.{Map}
 use Rattle.rv_map.specs.declared.map.Row.{Row}
 use Rattle.rv_chain_laws.specs.Exit7.{said, load, row, region, global}
 
 -- `addi a1, a1, k`
 abbrev pub forward : ℕ → Statement
-forward k = Instruction Addi (Register 11 ∷ Register 11 ∷ Value (Literal k) ∷ [])
+forward k = Instruction (Immediate Addi) (Register 11 ∷ Register 11 ∷ Value (Literal k) ∷ [])
 
 abbrev pub call : Statement
 call = Instruction Ecall []

@@ -8,7 +8,9 @@
 
 use Rattle.std.specs.Prelude.{ℕ, List, [], ◌∷◌, codes}
 use Rattle.rv_isa_laws.specs.Hart.{Outcome, Exited}
-use Rattle.rv_parse_laws.specs.Statement.{Statement, Label, Norvc, Globl, Instruction, Spoken, Addi, Ecall, Li, Register, Value, Literal, Minus}
+use Rattle.rv_parse_laws.specs.declared.mnemonic.Mnemonic.TheVariants.{Immediate, Ecall, Li}
+use Rattle.rv_parse_laws.specs.declared.mnemonic.ImmediateOperation.TheVariants.{Addi}
+use Rattle.rv_parse_laws.specs.Statement.{Statement, Label, Norvc, Globl, Instruction, Spoken, Register, Value, Literal, Minus}
 use Rattle.rv_map.specs.Map.{Map, Global}
 use Rattle.rv_map.specs.declared.map.Row.{Row}
 use Rattle.rv_map.specs.declared.map.Region.{Region}
@@ -69,7 +71,7 @@ exit255 =
     ∷ said 2 (Globl (codes "_start" ∷ []))
     ∷ said 3 (Label (codes "_start"))
     ∷ said 3 (load 10 7)
-    ∷ said 4 (Instruction Addi (Register 10 ∷ Register 10 ∷ Value (Minus (Literal 8)) ∷ []))
+    ∷ said 4 (Instruction (Immediate Addi) (Register 10 ∷ Register 10 ∷ Value (Minus (Literal 8)) ∷ []))
     ∷ said 5 (load 17 93)
     ∷ said 6 (Instruction Ecall [])
     ∷ []

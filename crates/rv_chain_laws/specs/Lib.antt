@@ -1,5 +1,6 @@
 pub mod Sections
 pub mod Sites
+pub mod Written
 pub mod Meaning
 pub mod Fits
 pub mod Resolves

@@ -3,25 +3,35 @@
 
 use Rattle.std.specs.Prelude.{◌≡◌, ℕ, ◌+◌, ◌/◌, ◌%◌, ◌^◌, List, [], ◌∷◌, Option, Some, None, map, replicate, if◌then◌else◌, nat_lt}
 use Rattle.rv_isa.specs.declared.instruction.Inst.{Inst}
-use Rattle.rv_isa.specs.declared.instruction.Inst.TheVariants.{Addi as AddImmediate, Ecall as Call}
+use Rattle.rv_isa.specs.declared.instruction.Inst.TheVariants.{Addi as AddImmediate}
 use Rattle.rv_isa_laws.specs.Hart.{Hart, advanced}
 use Rattle.rv_isa_laws.specs.Effect.{Effect, Goes, Breaks}
 use Rattle.rv_isa_laws.specs.Meaning.{effect, sets}
-use Rattle.rv_parse_laws.specs.Statement.{Statement, Label, Norvc, Globl, Instruction, Directs, Mnemonic, Addi, Ecall, Li, Operand, Register, Value, Expression, Directive, Sets, Aligns_to_power, Aligns_to_bytes, Numbered}
+use Rattle.rv_parse_laws.specs.declared.mnemonic.Mnemonic.{Mnemonic}
+use Rattle.rv_parse_laws.specs.declared.mnemonic.Mnemonic.TheVariants.{Registers, Immediate, Shift, Upper, Load, Store, Jalr, LoadReserved, Atomic, Fence, FenceTso, Ecall, Ebreak, Li}
+use Rattle.rv_parse_laws.specs.Statement.{Statement, Label, Norvc, Globl, Instruction, Directs, Operand, Expression, Directive, Sets, Aligns_to_power, Aligns_to_bytes, Numbered}
 use Rattle.rv_parse_laws.specs.Value.{signed}
+use Rattle.rv_chain_laws.specs.Written.{Argument, Of_register, Of_number, arguments, written}
 use Rattle.rv_chain_laws.specs.Sites.{Site, Program, number, has_values}
 
 -- `addi rd, rs1, k`
 abbrev pub add_immediate : ℕ → ℕ → ℕ → Inst
 add_immediate rd rs1 k = AddImmediate (record { immediate = signed k; rd = rd; rs1 = rs1 })
 
--- what an instruction or a pseudo-instruction does in so many bytes, where v gives the values of expressions:
--- a base instruction what its own meaning says, `li` puts its number into rd
+-- what the instruction does that a base mnemonic writes
+abbrev pub run_written : Option Inst → ℕ → Hart → Effect
+run_written None bytes h = Breaks
+run_written (Some i) bytes h = effect i bytes h
+
+-- what an instruction or a pseudo-instruction does in so many bytes: a base instruction what its own meaning says, `li`
+-- puts its number into rd
+abbrev pub run_with : Mnemonic → List Argument → ℕ → Hart → Effect
+run_with Li (Of_register rd ∷ Of_number k ∷ []) bytes h = sets bytes h rd k
+run_with mnemonic arguments bytes h = run_written (written mnemonic arguments) bytes h
+
+-- the same where v gives the values of expressions
 abbrev pub run_spoken : (Expression → ℕ) → Mnemonic → List Operand → ℕ → Hart → Effect
-run_spoken v Addi (Register rd ∷ Register rs1 ∷ Value k ∷ []) bytes h = effect (add_immediate rd rs1 (v k)) bytes h
-run_spoken v Ecall [] bytes h = effect Call bytes h
-run_spoken v Li (Register rd ∷ Value k ∷ []) bytes h = sets bytes h rd (v k)
-run_spoken v mnemonic operands bytes h = Breaks
+run_spoken v mnemonic operands bytes h = run_with mnemonic (arguments v operands) bytes h
 
 -- an alignment goes on behind its padding
 abbrev pub run_directive : Directive → ℕ → Hart → Effect
@@ -49,12 +59,17 @@ abbrev pub add_zero : ℕ → Option ℕ → Option (List Inst)
 add_zero rd (Some k) = Some (add_immediate rd 0 k ∷ [])
 add_zero rd None = None
 
+abbrev pub alone : Option Inst → Option (List Inst)
+alone (Some i) = Some (i ∷ [])
+alone None = None
+
 -- the base instructions that stand for an instruction or a pseudo-instruction; none for operands that it can't have
+abbrev pub expanded_with : Mnemonic → List Argument → Option (List Inst)
+expanded_with Li (Of_register rd ∷ Of_number k ∷ []) = add_zero rd (fits_12 k)
+expanded_with mnemonic arguments = alone (written mnemonic arguments)
+
 abbrev pub expanded : (Expression → ℕ) → Mnemonic → List Operand → Option (List Inst)
-expanded v Addi (Register rd ∷ Register rs1 ∷ Value k ∷ []) = Some (add_immediate rd rs1 (v k) ∷ [])
-expanded v Ecall [] = Some (Call ∷ [])
-expanded v Li (Register rd ∷ Value k ∷ []) = add_zero rd (fits_12 (v k))
-expanded v mnemonic operands = None
+expanded v mnemonic operands = expanded_with mnemonic (arguments v operands)
 
 -- an instruction without effect
 abbrev pub no_operation : Inst

@@ -3,7 +3,7 @@
 
 use Rattle.std.specs.Prelude.{ℕ, ◌-◌, ◌%◌, ◌^◌, Bool, true, false, ◌&&◌, ◌==◌, nat_lt, if◌then◌else◌, List, [], ◌∷◌, ◌++◌, drop, filter, flat_map, map, reverse, Option, Some, None, is_some, option_map, unwrap_or, bytes_eq}
 use Rattle.std.specs.List.{find, list_all}
-use Rattle.rv_parse_laws.specs.Statement.{Statement, Label, Norvc, Globl, Instruction, Directs, Spoken, Expression, Literal, Name, Reference, Here, Minus, Operand, Register, Value, Directive, Sets, Aligns_to_power, Aligns_to_bytes, Values, Zeros, Numbered}
+use Rattle.rv_parse_laws.specs.Statement.{Statement, Label, Norvc, Globl, Instruction, Directs, Spoken, Expression, Literal, Name, Reference, Here, Minus, Operand, Register, Value, Accesses, Directive, Sets, Aligns_to_power, Aligns_to_bytes, Values, Zeros, Numbered}
 use Rattle.rv_map.specs.Map.{Map, Global}
 use Rattle.rv_map.specs.declared.map.Row.{Row}
 use Rattle.rv_chain_laws.specs.Sections.{Stated, stated, has_row, is_place}
@@ -145,6 +145,7 @@ number p s e = unwrap_or (value p s e) 0
 abbrev pub in_operand : Operand → List Expression
 in_operand (Register register) = []
 in_operand (Value expression) = expression ∷ []
+in_operand (Accesses set) = []
 
 abbrev pub in_directive : Directive → List Expression
 in_directive (Sets name expression) = expression ∷ []

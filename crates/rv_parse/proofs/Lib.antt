@@ -1,4 +1,5 @@
 pub mod Names
+pub mod Jumps
 pub mod Statements
 pub mod Refusals
 pub mod Lines

@@ -1,10 +1,12 @@
 //! The tokens of a source with the next one in hand, and what can be read at their front.
 
-ghost use Rattle.std.specs.Prelude.{◌≡◌, ◌∷◌, false, true};
+ghost use Rattle.std.specs.Prelude.{◌≡◌, ◌∷◌, [], false, true};
 ghost use Rattle.rv_text.specs.Fault.{number_of};
 ghost use Rattle.rv_text.specs.Token.{token_of, kind_of};
 ghost use Rattle.rv_text_laws.specs.Lexing.{is_last};
-ghost use Rattle.rv_parse_laws.specs.Parsing.{wrong, register_at, literal_at, comma_at, end_at, symbol_at};
+ghost use Rattle.rv_parse_laws.specs.Parsing.{wrong, operand_at, literal_at, end_at, symbol_at};
+ghost use Rattle.rv_parse_laws.specs.Statement.{Register, Accesses};
+ghost use Rattle.rv_parse_laws.specs.Syntax.{A_register, A_value, A_base, A_zero, Some_accesses, A_comma, An_opening, A_closing, front_begins};
 ghost use Rattle.rv_parse.specs.View.{now_of, slot_of};
 ghost use Rattle.rv_text.specs.Left.{tokens_left};
 ghost use Rattle.rv_parse.specs.Left.{left, wrong_of, Gives, Answers};
@@ -12,6 +14,7 @@ ghost use Rattle.rv_parse.specs.Left.{left, wrong_of, Gives, Answers};
 use crate::fault::{self, Slot};
 use crate::kinds;
 use rv_isa::Reg;
+use rv_parse_laws::AccessSet;
 use rv_text::{Lexer, SourceCode, Token};
 use std::alloc::{AllocError, AllocFailed};
 
@@ -112,7 +115,7 @@ impl<'a> Cursor<'a> {
     /// A register.
     #[tactic(auto, using(rv_parse_laws::proofs::Shown::register_no_last), unfolding(crate::specs::Left::left))]
     pub fn register(&mut self) -> Result<Reg, Wrong>
-        ensures { Gives (λ r. (r, left self.new)) result (register_at (left self.old)) }
+        ensures { Gives (λ r. (Register r ∷ [], left self.new)) result (operand_at A_register (left self.old)) }
     {
         match kinds::register_of(self.next.kind) {
             Some(register) => {
@@ -120,6 +123,105 @@ impl<'a> Cursor<'a> {
                 Ok(register)
             }
             None => Err(self.wrong(fault::at_register(self.next.kind))),
+        }
+    }
+
+    /// A register comes next.
+    #[tactic(auto, unfolding(crate::specs::Left::left))]
+    pub fn begins_register(&self) -> bool
+        ensures { result ≡ front_begins A_register (left self.now) }
+    {
+        kinds::register_of(self.next.kind).is_some()
+    }
+
+    /// A comma comes next.
+    #[tactic(auto, unfolding(crate::specs::Left::left))]
+    pub fn begins_comma(&self) -> bool
+        ensures { result ≡ front_begins (A_comma A_register) (left self.now) }
+    {
+        kinds::is_comma(self.next.kind)
+    }
+
+    /// An opening parenthesis comes next.
+    #[tactic(auto, unfolding(crate::specs::Left::left))]
+    pub fn begins_opening(&self) -> bool
+        ensures { result ≡ front_begins (An_opening A_register) (left self.now) }
+    {
+        kinds::is_opening(self.next.kind)
+    }
+
+    /// A set of accesses comes next.
+    #[tactic(auto, unfolding(crate::specs::Left::left))]
+    pub fn begins_accesses(&self) -> bool
+        ensures { result ≡ front_begins Some_accesses (left self.now) }
+    {
+        kinds::accesses_of(self.next.kind).is_some()
+    }
+
+    /// The register of an address.
+    #[tactic(auto, using(rv_parse_laws::proofs::Shown::register_no_last), unfolding(crate::specs::Left::left))]
+    pub fn base(&mut self) -> Result<Reg, Wrong>
+        ensures { Gives (λ r. (Register r ∷ [], left self.new)) result (operand_at A_base (left self.old)) }
+    {
+        match kinds::register_of(self.next.kind) {
+            Some(register) => {
+                self.advance();
+                Ok(register)
+            }
+            None => Err(self.wrong(fault::at_base(self.next.kind))),
+        }
+    }
+
+    /// A set of accesses.
+    #[tactic(auto, using(rv_parse_laws::proofs::Shown::accesses_no_last), unfolding(crate::specs::Left::left))]
+    pub fn accesses(&mut self) -> Result<AccessSet, Wrong>
+        ensures { Gives (λ set. (Accesses set ∷ [], left self.new)) result (operand_at Some_accesses (left self.old)) }
+    {
+        match kinds::accesses_of(self.next.kind) {
+            Some(set) => {
+                self.advance();
+                Ok(set)
+            }
+            None => Err(self.wrong(fault::at_register(self.next.kind))),
+        }
+    }
+
+    /// A literal 0.
+    #[tactic(auto, using(rv_parse_laws::proofs::Shown::zero_no_last), unfolding(crate::specs::Left::left))]
+    pub fn zero(&mut self) -> Result<(), Wrong>
+        ensures { Gives (λ _. ([], left self.new)) result (operand_at A_zero (left self.old)) }
+    {
+        if kinds::is_zero(self.next.kind) {
+            self.advance();
+            Ok(())
+        } else {
+            Err(self.wrong(fault::at_register(self.next.kind)))
+        }
+    }
+
+    /// An opening parenthesis, behind what stands in this place.
+    #[tactic(auto, using(rv_parse_laws::proofs::Shown::opening_no_last), unfolding(crate::specs::Left::left))]
+    pub fn opening(&mut self, behind: Slot) -> Result<(), Wrong>
+        ensures { Gives (λ _. ([], left self.new)) result (operand_at (An_opening (slot_of behind)) (left self.old)) }
+    {
+        if kinds::is_opening(self.next.kind) {
+            self.advance();
+            Ok(())
+        } else {
+            Err(self.wrong(fault::after(behind, self.next.kind)))
+        }
+    }
+
+    /// A closing parenthesis.
+    #[tactic(auto, using(rv_parse_laws::proofs::Shown::closing_no_last), unfolding(crate::specs::Left::left))]
+    pub fn closing(&mut self) -> Result<(), Wrong>
+        ensures { Gives (λ _. ([], left self.new)) result (operand_at A_closing (left self.old)) }
+    {
+        if kinds::is_closing(self.next.kind) {
+            self.advance();
+            Ok(())
+        } else {
+            Err(self.wrong(fault::at_closing(self.next.kind)))
         }
     }
 
@@ -154,7 +256,7 @@ impl<'a> Cursor<'a> {
     /// A comma, behind an operand of this place.
     #[tactic(auto, using(rv_parse_laws::proofs::Shown::comma_no_last), unfolding(crate::specs::Left::left))]
     pub fn comma(&mut self, behind: Slot) -> Result<(), Wrong>
-        ensures { Gives (λ _. left self.new) result (comma_at (slot_of behind) (left self.old)) }
+        ensures { Gives (λ _. ([], left self.new)) result (operand_at (A_comma (slot_of behind)) (left self.old)) }
     {
         if kinds::is_comma(self.next.kind) {
             self.advance();

@@ -6,9 +6,10 @@ ghost use Rattle.rv_text_laws.specs.Bytes.{is_decimal};
 ghost use Rattle.rv_text.specs.Fault.{number_of};
 ghost use Rattle.rv_text.specs.Token.{token_of, kind_of};
 ghost use Rattle.rv_parse_laws.specs.Parsing.{is_long, place_of};
-ghost use Rattle.rv_parse_laws.specs.Faults.{limit, wrong_or, wrong_name, wrong_register, wrong_value, wrong_literal, wrong_after, wrong_symbol, wrong_option, wrong_word, wrong_start, wrong_number, wrong_label, is_operator};
+ghost use Rattle.rv_parse_laws.specs.Faults.{limit, wrong_or, wrong_name, wrong_register, wrong_value, wrong_literal, wrong_after, wrong_symbol, wrong_option, wrong_word, wrong_start, wrong_number, wrong_label, is_operator, wrong_base, bad_operands};
 ghost use Rattle.rv_parse.specs.View.{slot_of};
 
+use crate::kinds;
 use crate::words::{is_known, is_option, register_named};
 use rv_text::{Sign, SourceCode, Token, TokenKind};
 
@@ -20,6 +21,12 @@ pub const LONGEST_NAME: usize = 4095;
 pub enum Slot {
     Register,
     Value,
+    /// A value before an address's register.
+    Offset,
+    /// The 0 before an atomic's address.
+    Zero,
+    /// The accesses that a fence orders.
+    Accesses,
 }
 
 /// A name that is longer than a symbol's.
@@ -155,8 +162,27 @@ pub fn after(slot: Slot, kind: TokenKind<'_>) -> SourceCode
 {
     match (slot, kind) {
         (Slot::Value, TokenKind::Mark(sign)) if is_operator(sign) => SourceCode::UnsupportedHere,
+        (Slot::Offset, _) => or_place(kind, SourceCode::UnsupportedHere),
         _ => or_place(kind, SourceCode::BadOperands),
     }
+}
+
+/// Where an address's register is wanted: an expression in parentheses is not built yet.
+pub fn at_base(kind: TokenKind<'_>) -> SourceCode
+    ensures { number_of result ≡ wrong_base (kind_of kind.entry) }
+{
+    if kinds::value_begins(kind) {
+        SourceCode::UnsupportedHere
+    } else {
+        at_value(kind)
+    }
+}
+
+/// Where a closing parenthesis is wanted.
+pub fn at_closing(kind: TokenKind<'_>) -> SourceCode
+    ensures { number_of result ≡ wrong_or (kind_of kind.entry) bad_operands }
+{
+    or_place(kind, SourceCode::BadOperands)
 }
 
 /// Where a list of symbols wants one.

@@ -3,13 +3,14 @@
 ghost use Rattle.std.specs.Prelude.{◌≡◌, option_map};
 ghost use Rattle.rv_text.specs.Token.{kind_of};
 ghost use Rattle.rv_text_laws.specs.Lexing.{is_last};
-ghost use Rattle.rv_parse_laws.specs.Syntax.{is_symbol, register_of, symbol_of, literal_of, value_of, begins, is_comma, is_colon, is_minus, is_norvc, is_end, is_source_end};
+ghost use Rattle.rv_parse_laws.specs.Syntax.{is_symbol, register_of, symbol_of, literal_of, value_of, begins, is_comma, is_colon, is_minus, is_norvc, is_end, is_source_end, is_opening, is_closing, is_zero, accesses_of, value_begins};
 ghost use Rattle.rv_parse.specs.View.{beginning_of, expression_of, now_of};
 
 use crate::fault::LONGEST_NAME;
 use crate::statement::Expression;
-use crate::words::{Beginning, beginning_with, register_named};
+use crate::words::{Beginning, accesses_named, beginning_with, register_named};
 use rv_isa::Reg;
+use rv_parse_laws::AccessSet;
 use rv_text::{Sign, TokenKind};
 
 /// A name that a symbol may have.
@@ -93,6 +94,47 @@ pub fn is_minus(kind: TokenKind<'_>) -> bool
     ensures { result ≡ is_minus (kind_of kind.entry) }
 {
     matches!(kind, TokenKind::Mark(Sign::Minus))
+}
+
+/// `(`
+pub fn is_opening(kind: TokenKind<'_>) -> bool
+    ensures { result ≡ is_opening (kind_of kind.entry) }
+{
+    matches!(kind, TokenKind::Mark(Sign::Open))
+}
+
+/// `)`
+pub fn is_closing(kind: TokenKind<'_>) -> bool
+    ensures { result ≡ is_closing (kind_of kind.entry) }
+{
+    matches!(kind, TokenKind::Mark(Sign::Close))
+}
+
+/// A number of value 0.
+pub fn is_zero(kind: TokenKind<'_>) -> bool
+    ensures { result ≡ is_zero (kind_of kind.entry) }
+{
+    match kind {
+        TokenKind::Number(_, number) => number == 0,
+        _ => false,
+    }
+}
+
+/// The set of accesses that the token names.
+pub fn accesses_of(kind: TokenKind<'_>) -> Option<AccessSet>
+    ensures { result ≡ accesses_of (kind_of kind.entry) }
+{
+    match kind {
+        TokenKind::Name(name) => accesses_named(name),
+        _ => None,
+    }
+}
+
+/// A value can begin with the token.
+pub fn value_begins(kind: TokenKind<'_>) -> bool
+    ensures { result ≡ value_begins (kind_of kind.entry) }
+{
+    is_minus(kind) || value_of(kind).is_some()
 }
 
 /// The word `norvc`.

@@ -16,5 +16,5 @@ mod words;
 pub use rv_text::{SourceCode, SourceFault};
 pub use source::parse;
 pub use statement::{
-    Expression, Numeric, Operation, Referring, Statement, StatementKind, Symbolic,
+    Expression, Numeric, Operation, Plain, Referring, Statement, StatementKind, Symbolic,
 };

@@ -4,6 +4,10 @@ ghost use Rattle.std.specs.Prelude.{◌≡◌};
 ghost use Rattle.rv_parse.specs.View.{expression_of, statement_of, with_expression};
 
 use rv_isa::Reg;
+use rv_parse_laws::{
+    AccessSet, AtomicForm, AtomicOperation, ImmediateOperation, LoadOperation, RegisterOperation,
+    ShiftOperation, StoreOperation, UpperOperation,
+};
 
 /// An instruction's expression. Its parts are parts of the source.
 #[derive(Clone, Copy, Debug, PartialEq, Eq, Drop)]
@@ -19,8 +23,8 @@ pub enum Expression<'a> {
 }
 
 impl<'a> Expression<'a> {
-    /// The instruction that has this expression behind its registers.
-    pub(crate) fn behind(self, operation: Operation) -> StatementKind<'a>
+    /// The instruction that has this expression.
+    pub(crate) fn of(self, operation: Operation) -> StatementKind<'a>
         ensures { statement_of result ≡ with_expression operation (expression_of self.entry) }
     {
         match self {
@@ -44,16 +48,58 @@ impl<'a> Expression<'a> {
     }
 }
 
-/// A mnemonic with its registers; an expression stands behind them.
+/// An instruction without an expression.
+#[derive(Clone, Copy, Debug, PartialEq, Eq, Drop)]
+pub enum Plain {
+    /// `add rd, rs1, rs2`
+    Registers(RegisterOperation, Reg, Reg, Reg),
+    /// `lw rd, (rs1)`
+    Load(LoadOperation, Reg, Reg),
+    /// `sw rs2, (rs1)`
+    Store(StoreOperation, Reg, Reg),
+    /// `jalr rd, rs1` or `jalr rd, (rs1)`
+    Jalr(Reg, Reg),
+    /// `jalr rs1` or `jalr (rs1)`
+    JalrLinked(Reg),
+    /// `lr.w rd, (rs1)`
+    LoadReserved(AtomicForm, Reg, Reg),
+    /// `amoadd.w rd, rs2, (rs1)`
+    Atomic(AtomicOperation, AtomicForm, Reg, Reg, Reg),
+    /// `fence`
+    Fence,
+    /// `fence before, after`
+    FenceBetween(AccessSet, AccessSet),
+    FenceTso,
+    Ecall,
+    Ebreak,
+}
+
+/// A mnemonic with its registers, and an expression among them.
 #[derive(Clone, Copy, Debug, PartialEq, Eq, Drop)]
 pub enum Operation {
+    /// `add rd, rs1, ..`
+    Registers(RegisterOperation, Reg, Reg),
     /// `addi rd, rs1, ..`
-    Addi(Reg, Reg),
+    Immediate(ImmediateOperation, Reg, Reg),
+    /// `slli rd, rs1, ..`
+    Shift(ShiftOperation, Reg, Reg),
+    /// `lui rd, ..`
+    Upper(UpperOperation, Reg),
+    /// `lw rd, ..(rs1)`
+    Load(LoadOperation, Reg, Reg),
+    /// `sw rs2, ..(rs1)`
+    Store(StoreOperation, Reg, Reg),
+    /// `jalr rd, ..(rs1)`
+    Jalr(Reg, Reg),
+    /// `jalr rd, rs1, ..`
+    JalrThen(Reg, Reg),
+    /// `jalr ..(rs1)`
+    JalrLinked(Reg),
     /// `li rd, ..`
     Li(Reg),
 }
 
-/// An instruction whose last operand is a number, with or without a minus before it.
+/// An instruction whose expression is a number, with or without a minus before it.
 #[derive(Clone, Copy, Debug, PartialEq, Eq, Drop)]
 pub struct Numeric {
     pub number: u64,
@@ -61,14 +107,14 @@ pub struct Numeric {
     pub negated: bool,
 }
 
-/// An instruction whose last operand is a symbol.
+/// An instruction whose expression is a symbol.
 #[derive(Clone, Copy, Debug, PartialEq, Eq, Drop)]
 pub struct Symbolic<'a> {
     pub name: &'a [u8],
     pub operation: Operation,
 }
 
-/// An instruction whose last operand is a numeric reference.
+/// An instruction whose expression is a numeric reference.
 #[derive(Clone, Copy, Debug, PartialEq, Eq, Drop)]
 pub struct Referring<'a> {
     /// The label's decimal digits.
@@ -86,7 +132,7 @@ pub enum StatementKind<'a> {
     Norvc,
     /// `.globl` or `.global`, with its names in order.
     Globl(Vec<&'a [u8]>),
-    Ecall,
+    Plain(Plain),
     Numeric(Numeric),
     Symbolic(Symbolic<'a>),
     Referring(Referring<'a>),

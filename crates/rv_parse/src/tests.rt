@@ -16,7 +16,7 @@ fn refusal(alloc: Global, source: &[u8]) -> (u8, u32) {
 #[test]
 fn operands_that_are_wrong(rt: HostRuntime) {
     let alloc = rt.alloc();
-    let cases: [(&[u8], u8, u32); 24] = [
+    let cases: [(&[u8], u8, u32); 38] = [
         (b"li a0, 1 + 2", 9, 1),
         (b"li a0, -x", 9, 1),
         (b"li a0, 1 2", 7, 1),
@@ -32,8 +32,22 @@ fn operands_that_are_wrong(rt: HostRuntime) {
         (b"foo a0", 6, 1),
         (b"ecall\n.frob", 8, 2),
         (b".comm x, 4", 9, 1),
-        (b"add a0, a1, a2", 9, 1),
-        (b"amoadd.w.aqrl a0, a1, (a2)", 9, 1),
+        (b"add a0, a1, a2; sraw t0, t1, 3", 0, 0),
+        (b"amoadd.w.aqrl a0, a1, (a2); lr.d t0, 0x0(t1)", 0, 0),
+        (b"lw a0, 8(sp); sd a1, (a0); lui a0, 1", 0, 0),
+        (b"jalr ra, 4(a0); jalr a0, a1, 4; jalr a0; jalr (a0)", 0, 0),
+        (b"fence; fence rw, io; fence.tso; ebreak", 0, 0),
+        (b"sub a0, a1, 3", 7, 1),
+        (b"lw a0, a1", 7, 1),
+        (b"lw a0, 8", 9, 1),
+        (b"lw a0, (8)(sp)", 9, 1),
+        (b"amoadd.w a0, a1, 4(a2)", 7, 1),
+        (b"amoadd.w.aq.rl a0, a1, (a2)", 6, 1),
+        (b"amoadd a0, a1, (a2)", 6, 1),
+        (b"fence wr, r", 7, 1),
+        (b"fence.i", 6, 1),
+        (b"jal x", 9, 1),
+        (b"nop", 9, 1),
         (b"ecall // x", 9, 1),
         (b"ecall \x01", 1, 1),
         (b"li a0, 4x", 2, 1),

@@ -1,16 +1,16 @@
 -- Two cuts of the same tokens: one goes on where the other stops.
 
-use Rattle.std.proofs.Common.{◌≡◌, ℕ, suc, ◌+◌, ◌<◌, ◌≤◌, Bool, true, false, List, [], ◌∷◌, ◌++◌, append_assoc, length, length-append, take, drop, Option, Some, None, Result, Ok, Err, refl, sym, ◌∙◌, ap, subst, arith, ◌⊎◌, inl, inr}
+use Rattle.std.proofs.Common.{◌≡◌, ℕ, ◌<◌, true, false, List, [], ◌∷◌, ◌++◌, append_assoc, length, length-append, take, drop, Some, Err, refl, sym, ◌∙◌, ap, subst, arith, ◌⊎◌, inl, inr}
 use Rattle.std.proofs.lemmas.Option.{some_pair_parts}
 use Rattle.std.proofs.Math.Seq.{take-append_seam, drop-append_seam}
-use Rattle.rv_text_laws.specs.Cut.{Piece, texts, Each, Cuts, NothingReads}
+use Rattle.rv_text_laws.specs.Cut.{Piece, texts, NothingReads}
 use Rattle.rv_text_laws.specs.Lexing.{Token}
 use Rattle.rv_text_laws.proofs.Cut.{none_nothing, nothing_none}
-use Rattle.rv_parse_laws.specs.Statement.{Statement, Spoken}
+use Rattle.rv_parse_laws.specs.Statement.{Spoken}
 use Rattle.rv_parse_laws.specs.Syntax.{Part, Ends, Says, IsPart, StopsPart, is_end}
 use Rattle.rv_parse_laws.specs.Parsing.{Wrong, part_at}
 use Rattle.rv_parse_laws.specs.Reading.{AreParts, told, said}
-use Rattle.rv_parse_laws.proofs.Shown.{heads, tails}
+use Rattle.rv_parse_laws.proofs.Shown.{heads}
 use Rattle.rv_parse_laws.proofs.Whole.{counted, counted_none, find_part, finds_parts, no_tokens}
 
 -- the cut up to the rest goes on to the other

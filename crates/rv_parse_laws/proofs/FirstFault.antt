@@ -1,8 +1,8 @@
 -- The first fault of a source: there is at most one, and a source that is read has none.
 
-use Rattle.std.proofs.Common.{◌≡◌, ℕ, suc, ◌+◌, ◌<◌, ◌≤◌, Bool, true, false, List, [], ◌∷◌, ◌++◌, append_assoc, length, take, Option, Some, None, Result, Ok, Err, refl, sym, ◌∙◌, ap, subst, arith, ◌⊎◌, inl, inr}
+use Rattle.std.proofs.Common.{◌≡◌, ℕ, suc, ◌+◌, ◌<◌, ◌≤◌, false, List, [], ◌∷◌, ◌++◌, append_assoc, length, take, Some, Err, refl, sym, ◌∙◌, ap, subst, arith, ◌⊎◌, inl, inr}
 use Rattle.std.proofs.lemmas.Option.{same_Some}
-use Rattle.rv_text_laws.specs.Cut.{Piece, texts, Cuts, NothingReads, cut}
+use Rattle.rv_text_laws.specs.Cut.{Piece, texts, NothingReads, cut}
 use Rattle.rv_text_laws.specs.Lexing.{Token, Lexes, newlines}
 use Rattle.rv_text_laws.proofs.Cut.{unique, nothing_none}
 use Rattle.rv_text_laws.proofs.Tokens.{one_list}
@@ -10,8 +10,8 @@ use Rattle.rv_parse_laws.specs.Statement.{Spoken}
 use Rattle.rv_parse_laws.specs.Syntax.{Part, IsPart, StopsPart, is_end}
 use Rattle.rv_parse_laws.specs.Faults.{limit}
 use Rattle.rv_parse_laws.specs.Parsing.{Wrong, part_at, place_of, after_first}
-use Rattle.rv_parse_laws.specs.Reading.{AreParts, Reads, said, past_line, longest_source, most_statements, CanGoOn, code_at, WrongToken, PastStatements, Stands, Fault, IsFirst, Refuses}
-use Rattle.rv_parse_laws.proofs.Shown.{ended, heads, tails}
+use Rattle.rv_parse_laws.specs.Reading.{AreParts, Reads, said, past_line, longest_source, most_statements, CanGoOn, code_at, WrongToken, PastStatements, Stands, Fault, Refuses}
+use Rattle.rv_parse_laws.proofs.Shown.{heads, tails}
 use Rattle.rv_parse_laws.proofs.PartWrong.{code_in_part, part_shown}
 use Rattle.rv_parse_laws.proofs.Whole.{find_part, finds_parts}
 use Rattle.rv_parse_laws.proofs.Cutting.{GoesOn, comparable, no_part, wrong_there, no_further, same_or_more, nothing_more_said, none_at_end}

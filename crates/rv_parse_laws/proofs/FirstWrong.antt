@@ -5,36 +5,24 @@ use Rattle.rv_text_laws.specs.declared.sign.Sign.{Sign}
 use Rattle.rv_text_laws.specs.declared.sign.Sign.TheVariants.{Comma, Colon}
 use Rattle.rv_text_laws.specs.Grammar.{Kind, Newline, Mark, Name as NameToken}
 use Rattle.rv_text_laws.specs.Lexing.{Token, is_last}
-use Rattle.rv_parse_laws.specs.Statement.{Mnemonic, Expression, Literal, Minus, Operand, Register, Value, Statement, Label, Norvc, Globl, Instruction}
+use Rattle.rv_parse_laws.specs.Statement.{Expression, Literal, Minus, Operand, Register, Value, Statement, Label, Norvc, Globl, Instruction}
 use Rattle.rv_parse_laws.specs.Words.{Beginning, Begins_instruction, Begins_globl, Begins_option, Begins_nothing}
-use Rattle.rv_parse_laws.specs.Syntax.{register_of, symbol_of, literal_of, value_of, begins, is_comma, is_colon, is_minus, is_norvc, is_end, Slot, A_register, A_value, slots, IsOperand, AreFurther, AreOperands, AreFurtherNames, AreNames, IsStatement, Part, Ends, Says, IsPart, EndsHere, StopsPart}
-use Rattle.rv_parse_laws.specs.Faults.{wrong_register, wrong_value, wrong_literal, wrong_after, wrong_symbol, wrong_option, wrong_start, wrong_label, wrong_first}
-use Rattle.rv_parse_laws.specs.Parsing.{Wrong, wrong, Read, nowhere, ◌>>=◌, seen_as, taken, register_at, literal_at, value_at, operand_at, comma_at, end_at, further_at, operands_at, symbol_at, with_first, with_name, further_names_at, no_names_at, names_at, option_at, begun_at, colon_next, after_first, statement_at, part_at}
-use Rattle.rv_parse_laws.specs.Reading.{CanGoOn, begins_label, is_label, code_after_minus, code_in_operand, code_after, code_in_operands, code_in_names, code_in_option, code_begun, code_at}
+use Rattle.rv_parse_laws.specs.Syntax.{register_of, symbol_of, literal_of, value_of, begins, is_comma, is_colon, is_minus, is_norvc, is_end, Slot, A_register, A_value, An_offset, single, front_begins, Slots, Stops, Takes, Chooses, slots, IsValue, IsOperand, IsTaken, AreOperands, AreFurtherNames, AreNames, IsStatement, Part, Ends, Says, IsPart, EndsHere, StopsPart}
+use Rattle.rv_parse_laws.specs.Faults.{wrong_value, wrong_literal, wrong_after, wrong_symbol, wrong_option, wrong_start, wrong_label, wrong_first}
+use Rattle.rv_parse_laws.specs.Parsing.{Wrong, wrong, Read, nowhere, ◌>>=◌, seen_as, taken, literal_at, value_at, single_at, operand_at, end_at, taking, operands_at, symbol_at, with_first, with_name, further_names_at, no_names_at, names_at, option_at, begun_at, colon_next, after_first, statement_at, part_at}
+use Rattle.rv_parse_laws.specs.Reading.{CanGoOn, begins_label, is_label, code_after_minus, code_in_value, code_in_operand, code_in_operands, code_in_names, code_in_option, code_begun, code_at}
 use Rattle.rv_parse_laws.proofs.Steps.{bind_ok, seen_ok, taken_ok, tested_ok, pair_parts, bind_err, seen_err, taken_err, tested_err}
-use Rattle.rv_parse_laws.proofs.Parts.{value_no_minus}
-use Rattle.rv_parse_laws.proofs.Found.{literal_found, comma_found, end_found}
-use Rattle.rv_parse_laws.proofs.Shown.{Shown, at_first, behind, ended, ended_more, register_no_last, literal_no_last, value_no_last, symbol_no_last, minus_no_last, comma_no_last, norvc_no_last, some_token, a_comma, a_symbol, a_symbol_is, InOperand, in_operand_goes, heads, tails, register_front, value_front, minus_front, operand_shown}
+use Rattle.rv_parse_laws.proofs.Parts.{value_no_minus, operand_begins}
+use Rattle.rv_parse_laws.proofs.Found.{literal_found, end_found}
+use Rattle.rv_parse_laws.proofs.Shown.{Shown, at_first, behind, ended, ended_more, single_no_last, literal_no_last, value_no_last, symbol_no_last, minus_no_last, comma_no_last, norvc_no_last, some_token, a_comma, a_symbol, a_symbol_is, InOperand, InValue, InSingle, in_operand_goes, heads, tails, single_front, value_front, minus_front, operand_shown}
 
 -- what is wrong behind an operand
 abbrev pub Passed : Slot → (List Token → Type 0) → (List Token → Token → ℕ) → List Token → List Token → Wrong → Type 0
 Passed s N next ts rest w = (ended rest ≡ true) × (Shown N next rest w → Shown (InOperand s N) (code_in_operand s next) ts w)
 
-operand_passed : (s : Slot) (N : List Token → Type 0) (next : List Token → Token → ℕ) (ts : List Token) (o : Operand) (rest : List Token) (w : Wrong)
-    → ended ts ≡ true → operand_at s ts ≡ Ok (o, rest) → Passed s N next ts rest w
-operand_passed A_register N next [] o rest w end e = absurd (cc)
-operand_passed A_register N next (t ∷ ts) o rest w end e =
-    let v = seen_ok Register (register_at (t ∷ ts)) o rest e in
-    let k = taken_ok t ts (register_of t.kind) (wrong_register t.kind) v.0 rest v.1 in
-    subst (λ us. Passed A_register N next (t ∷ ts) us w) k.1 (
-      ended_more t ts (register_no_last t.kind v.0 k.0) end,
-      behind (InOperand A_register N) N (code_in_operand A_register next) next t ts w
-          (λ us n. (t ∷ [], us, Register v.0, refl, (t, v.0, refl, k.0, refl), n))
-          (λ us h. (register_front N t us h).2)
-          (λ us at. refl),
-    )
-operand_passed A_value N next [] o rest w end e = absurd (cc)
-operand_passed A_value N next (t ∷ ts) o rest w end e = let v = seen_ok Value (value_at (t ∷ ts)) o rest e in go (is_minus t.kind) refl v.0 v.1
+value_passed : (N : List Token → Type 0) (next : List Token → Token → ℕ) (t : Token) (ts : List Token) (x : Expression) (rest : List Token) (w : Wrong)
+    → ended (t ∷ ts) ≡ true → value_at (t ∷ ts) ≡ Ok (x, rest) → Passed A_value N next (t ∷ ts) rest w
+value_passed N next t ts x rest w end e = go (is_minus t.kind) refl x e
   where
     after_minus : (us : List Token) (n : ℕ) → ended (t ∷ us) ≡ true → is_minus t.kind ≡ true → literal_at us ≡ Ok (n, rest) → Passed A_value N next (t ∷ us) rest w
     after_minus [] n end minus e = absurd (cc)
@@ -42,10 +30,10 @@ operand_passed A_value N next (t ∷ ts) o rest w end e = let v = seen_ok Value 
         let k = taken_ok u us (literal_of u.kind) (wrong_literal u.kind) n rest e in
         subst (λ xs. Passed A_value N next (t ∷ u ∷ us) xs w) k.1 (
           ended_more u us (literal_no_last u.kind n k.0) end,
-          λ s. behind (InOperand A_value N) (λ xs. InOperand A_value N (t ∷ xs)) (code_in_operand A_value next) (λ xs at. code_in_operand A_value next (t ∷ xs) at) t (u ∷ us) w
+          λ s. behind (InValue N) (λ xs. InValue N (t ∷ xs)) (code_in_operand A_value next) (λ xs at. code_in_operand A_value next (t ∷ xs) at) t (u ∷ us) w
               (λ xs h. h) (λ xs h. h) (λ xs at. refl)
-              (behind (λ xs. InOperand A_value N (t ∷ xs)) N (λ xs at. code_in_operand A_value next (t ∷ xs) at) next u us w
-              (λ xs m. (t ∷ u ∷ [], xs, Value (Minus (Literal n)), refl, inr (t, u, n, refl, minus, k.0, refl), m))
+              (behind (λ xs. InValue N (t ∷ xs)) N (λ xs at. code_in_operand A_value next (t ∷ xs) at) next u us w
+              (λ xs m. (t ∷ u ∷ [], xs, Value (Minus (Literal n)) ∷ [], refl, (Minus (Literal n), inr (t, u, n, refl, minus, k.0, refl), refl), m))
               (λ xs h. (minus_front N t u xs minus h).2)
               (λ xs at. rw minus refl)
               s),
@@ -58,11 +46,34 @@ operand_passed A_value N next (t ∷ ts) o rest w end e = let v = seen_ok Value 
         let k = taken_ok t ts (value_of t.kind) (wrong_value t.kind) x rest e in
         subst (λ us. Passed A_value N next (t ∷ ts) us w) k.1 (
           ended_more t ts (value_no_last t.kind x k.0) end,
-          behind (InOperand A_value N) N (code_in_operand A_value next) next t ts w
-              (λ us n. (t ∷ [], us, Value x, refl, inl (t, x, refl, k.0, refl), n))
+          behind (InValue N) N (code_in_operand A_value next) next t ts w
+              (λ us n. (t ∷ [], us, Value x ∷ [], refl, (x, inl (t, refl, k.0), refl), n))
               (λ us h. (value_front N t us minus h).2)
               (λ us at. rw minus refl),
         )
+
+single_passed : (s : Slot) (N : List Token → Type 0) (code next : List Token → Token → ℕ) (t : Token) (ts : List Token) (os : List Operand) (rest : List Token) (w : Wrong)
+    → ((us : List Token) (at : Token) → code (t ∷ us) at ≡ next us at)
+    → ended (t ∷ ts) ≡ true → single_at s (t ∷ ts) ≡ Ok (os, rest)
+    → (ended rest ≡ true) × (Shown N next rest w → Shown (InSingle s N) code (t ∷ ts) w)
+single_passed s N code next t ts os rest w same end e =
+    let k = taken_ok t ts (single s t.kind) (wrong_first s t.kind) os rest e in
+    subst (λ us. (ended us ≡ true) × (Shown N next us w → Shown (InSingle s N) code (t ∷ ts) w)) k.1 (
+      ended_more t ts (single_no_last s t.kind os k.0) end,
+      behind (InSingle s N) N code next t ts w
+          (λ us n. (t ∷ [], us, os, refl, (t, refl, k.0), n))
+          (λ us h. (single_front s N t us h).2)
+          same,
+    )
+
+operand_passed : (s : Slot) (N : List Token → Type 0) (next : List Token → Token → ℕ) (ts : List Token) (os : List Operand) (rest : List Token) (w : Wrong)
+    → ended ts ≡ true → operand_at s ts ≡ Ok (os, rest) → Passed s N next ts rest w
+operand_passed s N next [] os rest w end e = absurd (cc)
+operand_passed A_value N next (t ∷ ts) os rest w end e =
+    let v = seen_ok (λ e. Value e ∷ []) (value_at (t ∷ ts)) os rest e in value_passed N next t ts v.0 rest w end v.1
+operand_passed An_offset N next (t ∷ ts) os rest w end e =
+    let v = seen_ok (λ e. Value e ∷ []) (value_at (t ∷ ts)) os rest e in value_passed N next t ts v.0 rest w end v.1
+operand_passed s N next (t ∷ ts) os rest w end e = single_passed s N (code_in_operand s next) next t ts os rest w (λ us at. refl) end e
 
 -- the same, said otherwise
 alike : (R S : List Token → Type 0) (code : List Token → Token → ℕ) (ts : List Token) (w : Wrong)
@@ -77,28 +88,6 @@ alike R S code ts w to from s = record {
   is_wrong = s.is_wrong;
 }
 
--- operands, whatever their values
-abbrev pub Further : List Slot → List Token → Type 0
-Further ss us = (os : List Operand) × AreFurther ss us os
-
-abbrev pub Operands : List Slot → List Token → Type 0
-Operands ss us = (os : List Operand) × AreOperands ss us os
-
-further_goes : (ss : List Slot) → (text : List Token) × Further ss text
-further_goes [] = ([], ([], (refl, refl)))
-further_goes (s ∷ ss) =
-    let g = in_operand_goes s (Further ss) (further_goes ss) in
-    (a_comma ∷ g.0, (g.1.2 ∷ g.1.5.0, (a_comma, g.1.0, g.1.1, g.1.2, g.1.5.0, ap (λ us. a_comma ∷ us) g.1.3, refl, g.1.4, g.1.5.1, refl)))
-
--- further operands behind their first comma
-from_comma : (s : Slot) (ss : List Slot) (c : Token) (us : List Token) → Further (s ∷ ss) (c ∷ us) → (is_comma c.kind ≡ true) × InOperand s (Further ss) us
-from_comma s ss c us (os, (d, one, rest, o, more, w, comma, is, are, v)) =
-    (ap (λ (t : Token). is_comma t.kind) (heads w) ∙ comma, (one, rest, o, tails w, is, (more, are)))
-
-to_comma : (s : Slot) (ss : List Slot) (c : Token) (us : List Token) → is_comma c.kind ≡ true → InOperand s (Further ss) us → Further (s ∷ ss) (c ∷ us)
-to_comma s ss c us comma (one, rest, o, w, is, (more, are)) =
-    (o ∷ more, (c, one, rest, o, more, ap (λ xs. c ∷ xs) w, comma, is, are, refl))
-
 -- where the statement does not end behind its last operand
 pub end_shown : (S : List Token → Type 0) (code : List Token → Token → ℕ) (s : Slot) (ts : List Token) (w : Wrong) → S [] → ((t : Token) (us : List Token) → S (t ∷ us) → ⊥)
     → ((at : Token) → code [] at ≡ wrong_after s at.kind) → ended ts ≡ true → end_at s ts ≡ Err w → Shown S code ts w
@@ -110,59 +99,122 @@ end_shown S code s (t ∷ ts) w live none same end e =
 pub never : {X : Type 0} (x : X) (w : Wrong) → Ok x ≡ Err w → ⊥
 never x w e = cc
 
--- an operand, and then further ones
-abbrev operands_then : Slot → List Slot → List Token → Read (List Operand)
-operands_then s ss ts = operand_at s ts >>= λ o. further_at s ss o.1 >>= λ r. Ok (o.0 ∷ r.0, r.1)
-
-operands_behind : (s : Slot) (ss : List Slot) (ts : List Token) (w : Wrong) → ended ts ≡ true
-    → operands_then s ss ts ≡ Err w
-    → ((rest : List Token) → ended rest ≡ true → further_at s ss rest ≡ Err w → Shown (Further ss) (code_after s ss) rest w)
-    → Shown (InOperand s (Further ss)) (code_in_operand s (code_after s ss)) ts w
-operands_behind s ss ts w end e ih =
-    elim (bind_err (operand_at s ts) (λ o. further_at s ss o.1 >>= λ r. Ok (o.0 ∷ r.0, r.1)) w e) [
-      | inl f ↦ operand_shown s (Further ss) (code_after s ss) ts w (further_goes ss) end f
-      | inr good ↦ (let p = operand_passed s (Further ss) (code_after s ss) ts good.0.0 good.0.1 w end good.1 in
-          elim (bind_err (further_at s ss good.0.1) (λ r. Ok (good.0.0 ∷ r.0, r.1)) w good.2) [
-            | inl f ↦ p.1 (ih good.0.1 p.0 f)
-            | inr fine ↦ absurd (never (good.0.0 ∷ fine.0.0, fine.0.1) w fine.2)
-          ])
+-- what stands in a place, and then what a further reading finds
+taken_shown : (s : Slot) (R : List Token → Read (List Operand)) (N : List Token → Type 0) (next : List Token → Token → ℕ) (ts : List Token) (w : Wrong)
+    → (text : List Token) × N text → ended ts ≡ true → taking s R ts ≡ Err w
+    → ((rest : List Token) → ended rest ≡ true → R rest ≡ Err w → Shown N next rest w)
+    → Shown (InOperand s N) (code_in_operand s next) ts w
+taken_shown s R N next ts w live end e ih =
+    elim (bind_err (operand_at s ts) (λ o. seen_as (λ os. o.0 ++ os) (R o.1)) w e) [
+      | inl f ↦ operand_shown s N next ts w live end f
+      | inr good ↦ (let p = operand_passed s N next ts good.0.0 good.0.1 w end good.1 in
+          p.1 (ih good.0.1 p.0 (seen_err (λ os. good.0.0 ++ os) (R good.0.1) w good.2)))
     ]
+
+-- operands, whatever their values
+abbrev pub Operands : Slots → List Token → Type 0
+Operands ss us = (os : List Operand) × AreOperands ss us os
+
+to_taken : (s : Slot) (more : Slots) (us : List Token) → InOperand s (Operands more) us → (os : List Operand) × IsTaken s (λ us ps. AreOperands more us ps) us os
+to_taken s more us (one, rest, now, w, is, (later, are)) = (now ++ later, (one, rest, now, later, w, is, are, refl))
+
+from_taken : (s : Slot) (more : Slots) (us : List Token) (os : List Operand) → IsTaken s (λ us ps. AreOperands more us ps) us os → InOperand s (Operands more) us
+from_taken s more us os (one, rest, now, later, w, is, are, v) = (one, rest, now, w, is, (later, are))
+
+to_choice : (s : Slot) (more others : Slots) (us : List Token) → InOperand s (Operands more) us → Operands (Chooses s more others) us
+to_choice s more others us h = let t = to_taken s more us h in (t.0, inl t.1)
+
+operands_go : (ss : Slots) → (text : List Token) × Operands ss text
+operands_go (Stops s) = ([], ([], (refl, refl)))
+operands_go (Takes s more) =
+    let g = in_operand_goes s (Operands more) (operands_go more) in
+    (g.0, to_taken s more g.0 g.1)
+operands_go (Chooses s more others) =
+    let g = in_operand_goes s (Operands more) (operands_go more) in
+    (g.0, to_choice s more others g.0 g.1)
+
+-- the front is the same, whatever follows the first token
+same_front : (s : Slot) (before : List Token) (at : Token) (more text : List Token) → front_begins s (before ++ at ∷ more) ≡ front_begins s ((before ++ at ∷ []) ++ text)
+same_front s [] at more text = refl
+same_front s (t ∷ ts) at more text = refl
+
+short_front : (s : Slot) (before : List Token) (at : Token) (more : List Token) → front_begins s (before ++ at ∷ more) ≡ front_begins s (before ++ at ∷ [])
+short_front s [] at more = refl
+short_front s (t ∷ ts) at more = refl
+
+-- what is wrong where a place is chosen, and where it is not
+chosen_shown : (s : Slot) (more others : Slots) (ts : List Token) (w : Wrong) → front_begins s ts ≡ true
+    → Shown (InOperand s (Operands more)) (code_in_operand s (code_in_operands more)) ts w
+    → Shown (Operands (Chooses s more others)) (code_in_operands (Chooses s more others)) ts w
+chosen_shown s more others ts w begins x = record {
+  before = x.before;
+  at = x.at;
+  more = x.more;
+  whole = x.whole;
+  goes = (x.goes.0, to_choice s more others (x.before ++ x.goes.0) x.goes.1);
+  stops = stuck;
+  is_wrong = x.is_wrong ∙ ap (wrong x.at) (sym (rw (sym (short_front s x.before x.at x.more) ∙ ap (front_begins s) (sym x.whole) ∙ begins) refl));
+}
+  where
+    stuck : (text : List Token) → Operands (Chooses s more others) ((x.before ++ x.at ∷ []) ++ text) → ⊥
+    stuck text (os, inl taken) = x.stops text (from_taken s more ((x.before ++ x.at ∷ []) ++ text) os taken)
+    stuck text (os, inr (unbegun, are)) =
+        let yes : front_begins s ((x.before ++ x.at ∷ []) ++ text) ≡ true =
+        sym (same_front s x.before x.at x.more text) ∙ ap (front_begins s) (sym x.whole) ∙ begins in
+        cc
+
+other_goes : (s : Slot) (more others : Slots) (before : List Token) (at : Token) (rest : List Token) → front_begins s (before ++ at ∷ rest) ≡ false
+    → (text : List Token) × Operands others (before ++ text) → (text : List Token) × Operands (Chooses s more others) (before ++ text)
+other_goes s more others [] at rest unbegun live = operands_go (Chooses s more others)
+other_goes s more others (t ∷ ts) at rest unbegun (text, (os, are)) = (text, (os, inr (unbegun, are)))
+
+other_shown : (s : Slot) (more others : Slots) (ts : List Token) (w : Wrong) → front_begins s ts ≡ false
+    → Shown (Operands others) (code_in_operands others) ts w
+    → Shown (Operands (Chooses s more others)) (code_in_operands (Chooses s more others)) ts w
+other_shown s more others ts w unbegun x = record {
+  before = x.before;
+  at = x.at;
+  more = x.more;
+  whole = x.whole;
+  goes = other_goes s more others x.before x.at x.more (ap (front_begins s) (sym x.whole) ∙ unbegun) x.goes;
+  stops = stuck;
+  is_wrong = x.is_wrong ∙ ap (wrong x.at) (sym (rw (sym (short_front s x.before x.at x.more) ∙ ap (front_begins s) (sym x.whole) ∙ unbegun) refl));
+}
+  where
+    stuck : (text : List Token) → Operands (Chooses s more others) ((x.before ++ x.at ∷ []) ++ text) → ⊥
+    stuck text (os, inl (one, rest, now, later, w, is, are, v)) =
+        let yes : front_begins s ((x.before ++ x.at ∷ []) ++ text) ≡ true = ap (front_begins s) w ∙ operand_begins s one rest now is in
+        let none : front_begins s ((x.before ++ x.at ∷ []) ++ text) ≡ false =
+        sym (same_front s x.before x.at x.more text) ∙ ap (front_begins s) (sym x.whole) ∙ unbegun in
+        cc
+    stuck text (os, inr (front, are)) = x.stops text (os, are)
 
 pub no_more : (t : Token) (us : List Token) (os : List Operand) → t ∷ us ≡ [] → os ≡ [] → ⊥
 no_more t us os w v = cc
 
-further_shown : (s : Slot) (ss : List Slot) (ts : List Token) (w : Wrong) → ended ts ≡ true → further_at s ss ts ≡ Err w → Shown (Further ss) (code_after s ss) ts w
-further_shown s [] ts w end e =
-    elim (bind_err (end_at s ts) (λ r. Ok ([], r)) w e) [
-      | inl f ↦ end_shown (Further []) (code_after s []) s ts w ([], (refl, refl)) (λ t us h. no_more t us h.0 h.1.0 h.1.1) (λ at. refl) end f
-      | inr good ↦ absurd (never ([], good.0) w good.2)
-    ]
-further_shown s (u ∷ us) [] w end e = absurd (cc)
-further_shown s (u ∷ us) (t ∷ ts) w end e =
-    elim (bind_err (comma_at s (t ∷ ts)) (λ c. operands_then u us c) w e) [
-      | inl f ↦ (let k = tested_err (is_comma t.kind) ts (wrong t (wrong_after s t.kind)) w f in
-          at_first (Further (u ∷ us)) (code_after s (u ∷ us)) t ts w (further_goes (u ∷ us))
-          (λ text h. let is = (from_comma u us t text h).0 in let none : is_comma t.kind ≡ false = k.0 in cc) k.1)
-      | inr good ↦ (let k = tested_ok (is_comma t.kind) ts good.0 (wrong t (wrong_after s t.kind)) good.1 in
-          let end' : ended ts ≡ true = ended_more t ts (comma_no_last t.kind k.0) end in
-          behind (Further (u ∷ us)) (InOperand u (Further us)) (code_after s (u ∷ us)) (code_in_operand u (code_after u us)) t ts w
-          (λ xs h. to_comma u us t xs k.0 h) (λ xs h. (from_comma u us t xs h).1) (λ xs at. refl)
-          (operands_behind u us ts w end' (subst (λ c. operands_then u us c ≡ Err w) (sym k.1) good.2)
-          (λ rest f g. further_shown u us rest w f g)))
-    ]
-
-pub operands_shown : (ss : List Slot) (ts : List Token) (w : Wrong) → ended ts ≡ true → operands_at ss ts ≡ Err w → Shown (Operands ss) (code_in_operands ss) ts w
+pub operands_shown : (ss : Slots) (ts : List Token) (w : Wrong) → ended ts ≡ true → operands_at ss ts ≡ Err w → Shown (Operands ss) (code_in_operands ss) ts w
 unfolding operands_at
-operands_shown [] ts w end e =
-    elim (bind_err (end_at A_register ts) (λ r. Ok ([], r)) w e) [
-      | inl f ↦ end_shown (Operands []) (code_in_operands []) A_register ts w ([], (refl, refl)) (λ t us h. no_more t us h.0 h.1.0 h.1.1) (λ at. refl) end f
+operands_shown (Stops s) ts w end e =
+    elim (bind_err (end_at s ts) (λ r. Ok ([], r)) w e) [
+      | inl f ↦ end_shown (Operands (Stops s)) (code_in_operands (Stops s)) s ts w ([], (refl, refl)) (λ t us h. no_more t us h.0 h.1.0 h.1.1) (λ at. refl) end f
       | inr good ↦ absurd (never ([], good.0) w good.2)
     ]
-operands_shown (s ∷ ss) ts w end e =
-    alike (InOperand s (Further ss)) (Operands (s ∷ ss)) (code_in_operands (s ∷ ss)) ts w
-    (λ us h. (h.2 ∷ h.5.0, (h.0, h.1, h.2, h.5.0, h.3, h.4, h.5.1, refl)))
-    (λ us h. (h.1.0, h.1.1, h.1.2, h.1.4, h.1.5, (h.1.3, h.1.6)))
-    (operands_behind s ss ts w end e (λ rest f g. further_shown s ss rest w f g))
+operands_shown (Takes s more) ts w end e =
+    alike (InOperand s (Operands more)) (Operands (Takes s more)) (code_in_operands (Takes s more)) ts w
+    (λ us h. to_taken s more us h) (λ us h. from_taken s more us h.0 h.1)
+    (taken_shown s (λ us. operands_at more us) (Operands more) (λ us by. code_in_operands more us by) ts w (operands_go more) end e
+    (λ rest f g. operands_shown more rest w f g))
+operands_shown (Chooses s more others) ts w end e =
+    go (front_begins s ts) refl e (λ rest f g. operands_shown more rest w f g) (λ g. operands_shown others ts w end g)
+  where
+    go : (b : Bool) → front_begins s ts ≡ b → cond b (taking s (λ us. operands_at more us) ts) (operands_at others ts) ≡ Err w
+        → ((rest : List Token) → ended rest ≡ true → operands_at more rest ≡ Err w → Shown (Operands more) (code_in_operands more) rest w)
+        → (operands_at others ts ≡ Err w → Shown (Operands others) (code_in_operands others) ts w)
+        → Shown (Operands (Chooses s more others)) (code_in_operands (Chooses s more others)) ts w
+    go true begins e ih other =
+        chosen_shown s more others ts w begins
+        (taken_shown s (λ us. operands_at more us) (Operands more) (code_in_operands more) ts w (operands_go more) end e ih)
+    go false begins e ih other = other_shown s more others ts w begins (other e)
 
 -- names, whatever they are
 abbrev pub Names : List Token → Type 0

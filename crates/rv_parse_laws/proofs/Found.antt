@@ -2,11 +2,11 @@
 
 use Rattle.std.proofs.Common.{◌≡◌, ℕ, Bool, true, false, cond, List, [], ◌∷◌, ◌++◌, append_assoc, Option, Some, None, Result, Ok, Err, refl, sym, ◌∙◌, ap, subst, ◌⊎◌, inl, inr}
 use Rattle.rv_text_laws.specs.Lexing.{Token}
-use Rattle.rv_parse_laws.specs.Statement.{Mnemonic, Expression, Literal, Minus, Operand, Register, Value, Statement, Label, Norvc, Globl, Instruction}
+use Rattle.rv_parse_laws.specs.Statement.{Expression, Literal, Minus, Operand, Register, Value, Statement, Label, Norvc, Globl, Instruction}
 use Rattle.rv_parse_laws.specs.Words.{Beginning, Begins_instruction, Begins_globl, Begins_option, Begins_nothing}
-use Rattle.rv_parse_laws.specs.Syntax.{register_of, symbol_of, literal_of, value_of, begins, is_comma, is_colon, is_minus, is_norvc, is_end, Slot, A_register, A_value, slots, IsOperand, AreFurther, AreOperands, AreFurtherNames, AreNames, IsStatement, Part, Ends, Says, IsPart, EndsHere, StopsPart}
-use Rattle.rv_parse_laws.specs.Faults.{wrong_register, wrong_value, wrong_literal, wrong_after, wrong_symbol, wrong_option, wrong_start, wrong_label}
-use Rattle.rv_parse_laws.specs.Parsing.{Wrong, wrong, Read, nowhere, ◌>>=◌, seen_as, taken, register_at, literal_at, value_at, operand_at, comma_at, end_at, further_at, operands_at, symbol_at, with_first, with_name, further_names_at, no_names_at, names_at, option_at, begun_at, colon_next, after_first, statement_at, part_at}
+use Rattle.rv_parse_laws.specs.Syntax.{register_of, symbol_of, literal_of, value_of, begins, is_comma, is_colon, is_minus, is_norvc, is_end, Slot, A_register, A_value, An_offset, Slots, Stops, Takes, Chooses, single, front_begins, slots, IsValue, IsOperand, IsTaken, AreOperands, AreFurtherNames, AreNames, IsStatement, Part, Ends, Says, IsPart, EndsHere, StopsPart}
+use Rattle.rv_parse_laws.specs.Faults.{wrong_value, wrong_literal, wrong_first, wrong_after, wrong_symbol, wrong_option, wrong_start, wrong_label}
+use Rattle.rv_parse_laws.specs.Parsing.{Wrong, wrong, Read, nowhere, ◌>>=◌, seen_as, taken, literal_at, value_at, single_at, operand_at, end_at, taking, operands_at, symbol_at, with_first, with_name, further_names_at, no_names_at, names_at, option_at, begun_at, colon_next, after_first, statement_at, part_at}
 use Rattle.rv_parse_laws.proofs.Steps.{bind_ok, seen_ok, taken_ok, tested_ok, pair_parts}
 
 pub literal_found : (ts : List Token) (n : ℕ) (rest : List Token) → literal_at ts ≡ Ok (n, rest) → (t : Token) × (ts ≡ t ∷ rest) × (literal_of t.kind ≡ Some n)
@@ -15,37 +15,44 @@ literal_found (t ∷ ts) n rest e =
     let k = taken_ok t ts (literal_of t.kind) (wrong_literal t.kind) n rest e in
     (t, ap (λ us. t ∷ us) k.1, k.0)
 
-pub value_found : (ts : List Token) (x : Expression) (rest : List Token) → value_at ts ≡ Ok (x, rest) → (text : List Token) × (ts ≡ text ++ rest) × IsOperand A_value text (Value x)
+pub value_found : (ts : List Token) (x : Expression) (rest : List Token) → value_at ts ≡ Ok (x, rest) → (text : List Token) × (ts ≡ text ++ rest) × IsValue text x
 value_found [] x rest e = absurd (cc)
 value_found (t ∷ ts) x rest e = go (is_minus t.kind) refl e
   where
     go : (b : Bool) → is_minus t.kind ≡ b
         → cond b (seen_as (λ n. Minus (Literal n)) (literal_at ts)) (taken t ts (value_of t.kind) (wrong_value t.kind)) ≡ Ok (x, rest)
-        → (text : List Token) × (t ∷ ts ≡ text ++ rest) × IsOperand A_value text (Value x)
+        → (text : List Token) × (t ∷ ts ≡ text ++ rest) × IsValue text x
     go true minus e =
         let s = seen_ok (λ n. Minus (Literal n)) (literal_at ts) x rest e in
         let l = literal_found ts s.0 rest s.1 in
-        (t ∷ l.0 ∷ [], ap (λ us. t ∷ us) l.1, inr (t, l.0, s.0, refl, minus, l.2, ap Value s.2))
+        (t ∷ l.0 ∷ [], ap (λ us. t ∷ us) l.1, inr (t, l.0, s.0, refl, minus, l.2, s.2))
     go false minus e =
         let k = taken_ok t ts (value_of t.kind) (wrong_value t.kind) x rest e in
-        (t ∷ [], ap (λ us. t ∷ us) k.1, inl (t, x, refl, k.0, refl))
+        (t ∷ [], ap (λ us. t ∷ us) k.1, inl (t, refl, k.0))
 
-pub operand_found : (s : Slot) (ts : List Token) (o : Operand) (rest : List Token) → operand_at s ts ≡ Ok (o, rest) → (text : List Token) × (ts ≡ text ++ rest) × IsOperand s text o
-operand_found A_register [] o rest e = absurd (cc)
-operand_found A_register (t ∷ ts) o rest e =
-    let s = seen_ok Register (register_at (t ∷ ts)) o rest e in
-    let k = taken_ok t ts (register_of t.kind) (wrong_register t.kind) s.0 rest s.1 in
-    (t ∷ [], ap (λ us. t ∷ us) k.1, (t, s.0, refl, k.0, s.2))
-operand_found A_value ts o rest e =
-    let s = seen_ok Value (value_at ts) o rest e in
+-- what is read in a place stands there
+abbrev pub FoundIn : Slot → List Token → List Operand → List Token → Type 0
+FoundIn s ts os rest = (text : List Token) × (ts ≡ text ++ rest) × IsOperand s text os
+
+valued_found : (ts : List Token) (os : List Operand) (rest : List Token) → seen_as (λ e. Value e ∷ []) (value_at ts) ≡ Ok (os, rest) → FoundIn A_value ts os rest
+valued_found ts os rest e =
+    let s = seen_ok (λ e. Value e ∷ []) (value_at ts) os rest e in
     let v = value_found ts s.0 rest s.1 in
-    (v.0, v.1, subst (IsOperand A_value v.0) (sym s.2) v.2)
+    (v.0, v.1, (s.0, v.2, s.2))
 
-pub comma_found : (s : Slot) (ts rest : List Token) → comma_at s ts ≡ Ok rest → (c : Token) × (ts ≡ c ∷ rest) × (is_comma c.kind ≡ true)
-comma_found s [] rest e = absurd (cc)
-comma_found s (t ∷ ts) rest e =
-    let k = tested_ok (is_comma t.kind) ts rest (wrong t (wrong_after s t.kind)) e in
+pub single_found : (s : Slot) (ts : List Token) (os : List Operand) (rest : List Token) → single_at s ts ≡ Ok (os, rest)
+    → (t : Token) × (ts ≡ t ∷ rest) × (single s t.kind ≡ Some os)
+single_found s [] os rest e = absurd (cc)
+single_found s (t ∷ ts) os rest e =
+    let k = taken_ok t ts (single s t.kind) (wrong_first s t.kind) os rest e in
     (t, ap (λ us. t ∷ us) k.1, k.0)
+
+pub operand_found : (s : Slot) (ts : List Token) (os : List Operand) (rest : List Token) → operand_at s ts ≡ Ok (os, rest) → FoundIn s ts os rest
+operand_found A_value ts os rest e = valued_found ts os rest e
+operand_found An_offset ts os rest e = valued_found ts os rest e
+operand_found s ts os rest e =
+    let k = single_found s ts os rest e in
+    (k.0 ∷ [], k.1, (k.0, refl, k.2))
 
 pub end_found : (s : Slot) (ts rest : List Token) → end_at s ts ≡ Ok rest → (ts ≡ rest) × EndsHere rest
 end_found s [] rest e = absurd (cc)
@@ -53,46 +60,52 @@ end_found s (t ∷ ts) rest e =
     let k = tested_ok (is_end t.kind) (t ∷ ts) rest (wrong t (wrong_after s t.kind)) e in
     (k.1, (t, ts, sym k.1, k.0))
 
-pub further_found : (s : Slot) (ss : List Slot) (ts : List Token) (os : List Operand) (rest : List Token) → further_at s ss ts ≡ Ok (os, rest)
-    → (text : List Token) × (ts ≡ text ++ rest) × AreFurther ss text os × EndsHere rest
-further_found s [] ts os rest e =
+-- the tokens are what N says, up to the rest, which ends the statement
+abbrev pub FoundTo : (List Token → List Operand → Type 0) → List Token → List Operand → List Token → Type 0
+FoundTo N ts os rest = (text : List Token) × (ts ≡ text ++ rest) × N text os × EndsHere rest
+
+taken_found : (s : Slot) (R : List Token → Read (List Operand)) (N : List Token → List Operand → Type 0) (ts : List Token) (os : List Operand) (rest : List Token)
+    → ((us : List Token) (ps : List Operand) (more : List Token) → R us ≡ Ok (ps, more) → FoundTo N us ps more)
+    → taking s R ts ≡ Ok (os, rest) → FoundTo (IsTaken s N) ts os rest
+taken_found s R N ts os rest ih e =
+    let d = bind_ok (operand_at s ts) (λ o. seen_as (λ os. o.0 ++ os) (R o.1)) (os, rest) e in
+    let o = operand_found s ts d.0.0 d.0.1 d.1 in
+    let g = seen_ok (λ os. d.0.0 ++ os) (R d.0.1) os rest d.2 in
+    let f = ih d.0.1 g.0 rest g.1 in (
+      o.0 ++ f.0,
+      o.1 ∙ ap (λ xs. o.0 ++ xs) f.1 ∙ sym (append_assoc o.0 f.0 rest),
+      (o.0, f.0, d.0.0, g.0, refl, o.2, f.2, g.2),
+      f.3,
+    )
+
+-- where nothing begins at the front of all, nothing begins at the front of a part
+front_of_part : (s : Slot) (text rest : List Token) → front_begins s (text ++ rest) ≡ false → front_begins s text ≡ false
+front_of_part s [] rest h = refl
+front_of_part s (t ∷ ts) rest h = h
+
+pub operands_found : (ss : Slots) (ts : List Token) (os : List Operand) (rest : List Token) → operands_at ss ts ≡ Ok (os, rest)
+    → (text : List Token) × (ts ≡ text ++ rest) × AreOperands ss text os × EndsHere rest
+unfolding operands_at
+operands_found (Stops s) ts os rest e =
     let b = bind_ok (end_at s ts) (λ r. Ok ([], r)) (os, rest) e in
     let p = pair_parts _ _ _ _ _ refl b.2 in
     let f = end_found s ts b.0 b.1 in
     ([], f.0 ∙ p.1, (refl, sym p.0), subst EndsHere p.1 f.1)
-further_found s (u ∷ us) ts os rest e =
-    let b = bind_ok (comma_at s ts) (λ c. operand_at u c >>= λ o. further_at u us o.1 >>= λ r. Ok (o.0 ∷ r.0, r.1)) (os, rest) e in
-    let c = comma_found s ts b.0 b.1 in
-    let d = bind_ok (operand_at u b.0) (λ o. further_at u us o.1 >>= λ r. Ok (o.0 ∷ r.0, r.1)) (os, rest) b.2 in
-    let o = operand_found u b.0 d.0.0 d.0.1 d.1 in
-    let g = bind_ok (further_at u us d.0.1) (λ r. Ok (d.0.0 ∷ r.0, r.1)) (os, rest) d.2 in
-    let p = pair_parts _ _ _ _ _ refl g.2 in
-    let f = further_found u us d.0.1 g.0.0 g.0.1 g.1 in (
-      c.0 ∷ (o.0 ++ f.0),
-      c.1 ∙ ap (λ xs. c.0 ∷ xs) (o.1 ∙ ap (λ xs. o.0 ++ xs) (f.1 ∙ ap (λ xs. f.0 ++ xs) p.1) ∙ sym (append_assoc o.0 f.0 rest)),
-      (c.0, o.0, f.0, d.0.0, g.0.0, refl, c.2, o.2, f.2, sym p.0),
-      subst EndsHere p.1 f.3,
-    )
-
-pub operands_found : (ss : List Slot) (ts : List Token) (os : List Operand) (rest : List Token) → operands_at ss ts ≡ Ok (os, rest)
-    → (text : List Token) × (ts ≡ text ++ rest) × AreOperands ss text os × EndsHere rest
-unfolding operands_at
-operands_found [] ts os rest e =
-    let b = bind_ok (end_at A_register ts) (λ r. Ok ([], r)) (os, rest) e in
-    let p = pair_parts _ _ _ _ _ refl b.2 in
-    let f = end_found A_register ts b.0 b.1 in
-    ([], f.0 ∙ p.1, (refl, sym p.0), subst EndsHere p.1 f.1)
-operands_found (s ∷ ss) ts os rest e =
-    let d = bind_ok (operand_at s ts) (λ o. further_at s ss o.1 >>= λ r. Ok (o.0 ∷ r.0, r.1)) (os, rest) e in
-    let o = operand_found s ts d.0.0 d.0.1 d.1 in
-    let g = bind_ok (further_at s ss d.0.1) (λ r. Ok (d.0.0 ∷ r.0, r.1)) (os, rest) d.2 in
-    let p = pair_parts _ _ _ _ _ refl g.2 in
-    let f = further_found s ss d.0.1 g.0.0 g.0.1 g.1 in (
-      o.0 ++ f.0,
-      o.1 ∙ ap (λ xs. o.0 ++ xs) (f.1 ∙ ap (λ xs. f.0 ++ xs) p.1) ∙ sym (append_assoc o.0 f.0 rest),
-      (o.0, f.0, d.0.0, g.0.0, refl, o.2, f.2, sym p.0),
-      subst EndsHere p.1 f.3,
-    )
+operands_found (Takes s more) ts os rest e =
+    taken_found s (λ us. operands_at more us) (λ us ps. AreOperands more us ps) ts os rest (λ us ps r h. operands_found more us ps r h) e
+operands_found (Chooses s more others) ts os rest e =
+    go (front_begins s ts) refl e (λ us ps r h. operands_found more us ps r h) (λ h. operands_found others ts os rest h)
+  where
+    go : (b : Bool) → front_begins s ts ≡ b → cond b (taking s (λ us. operands_at more us) ts) (operands_at others ts) ≡ Ok (os, rest)
+        → ((us : List Token) (ps : List Operand) (r : List Token) → operands_at more us ≡ Ok (ps, r) → FoundTo (λ us ps. AreOperands more us ps) us ps r)
+        → (operands_at others ts ≡ Ok (os, rest) → FoundTo (λ us ps. AreOperands others us ps) ts os rest)
+        → FoundTo (λ us ps. AreOperands (Chooses s more others) us ps) ts os rest
+    go true begins e ih other =
+        let f = taken_found s (λ us. operands_at more us) (λ us ps. AreOperands more us ps) ts os rest ih e in
+        (f.0, f.1, inl f.2, f.3)
+    go false begins e ih other =
+        let f = other e in
+        (f.0, f.1, inr (front_of_part s f.0 rest (ap (front_begins s) (sym f.1) ∙ begins), f.2), f.3)
 
 -- the tokens are further names up to the rest, which ends the statement
 abbrev pub FoundNames : List Token → List (List ℕ) → List Token → Type 0

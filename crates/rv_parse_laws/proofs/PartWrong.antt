@@ -4,7 +4,8 @@ use Rattle.std.proofs.Common.{◌≡◌, ℕ, Bool, true, false, cond, List, [],
 use Rattle.rv_text_laws.specs.declared.sign.Sign.TheVariants.{Comma, Colon}
 use Rattle.rv_text_laws.specs.Grammar.{Kind, Newline, Mark, Name as NameToken}
 use Rattle.rv_text_laws.specs.Lexing.{Token, is_last}
-use Rattle.rv_parse_laws.specs.Statement.{Mnemonic, Statement, Label, Norvc, Globl, Instruction, Directs}
+use Rattle.rv_parse_laws.specs.Statement.{Statement, Label, Norvc, Globl, Instruction, Directs}
+use Rattle.rv_parse_laws.specs.declared.mnemonic.Mnemonic.{Mnemonic}
 use Rattle.rv_parse_laws.specs.Words.{Beginning, Begins_instruction, Begins_globl, Begins_option, Begins_nothing}
 use Rattle.rv_parse_laws.specs.Syntax.{symbol_of, begins, is_comma, is_colon, is_norvc, is_end, Slot, A_register, slots, IsStatement, AreOperands, AreNames, Part, Ends, Says, IsPart}
 use Rattle.rv_parse_laws.specs.Faults.{wrong_after, wrong_option, wrong_start, wrong_label}

@@ -3,14 +3,14 @@
 use Rattle.std.proofs.Common.{◌≡◌, ℕ, Bool, true, false, cond, List, [], ◌∷◌, ◌++◌, append_assoc, Option, Some, None, Result, Ok, Err, refl, sym, ◌∙◌, ap, ◌⊎◌, inl, inr}
 use Rattle.std.proofs.lemmas.Bool.{cases_Bool}
 use Rattle.rv_text_laws.specs.declared.sign.Sign.{Sign}
-use Rattle.rv_text_laws.specs.declared.sign.Sign.TheVariants.{Comma, Colon}
+use Rattle.rv_text_laws.specs.declared.sign.Sign.TheVariants.{Comma, Colon, Semicolon}
 use Rattle.rv_text_laws.specs.Grammar.{Kind, Space, Line_comment, Block_comment, Newline, Mark, Name as NameToken, Number, Reference as ReferenceToken, Bad_word, Text, Character, Bad_byte, Bad_token, End}
 use Rattle.rv_text_laws.specs.Lexing.{Token, is_last}
-use Rattle.rv_parse_laws.specs.Statement.{Mnemonic, Expression, Literal, Minus, Operand, Register, Value, Statement, Label, Norvc, Globl, Instruction, Directs}
+use Rattle.rv_parse_laws.specs.Statement.{Expression, Literal, Minus, Operand, Register, Value, Statement, Label, Norvc, Globl, Instruction, Directs}
 use Rattle.rv_parse_laws.specs.Words.{Beginning, Begins_instruction, Begins_globl, Begins_option, Begins_nothing}
-use Rattle.rv_parse_laws.specs.Syntax.{register_of, symbol_of, literal_of, value_of, begins, is_comma, is_colon, is_minus, is_norvc, is_end, Slot, A_register, A_value, slots, IsOperand, AreFurther, AreOperands, AreFurtherNames, AreNames, IsStatement, Part, Ends, Says, IsPart, EndsHere, StopsPart}
-use Rattle.rv_parse_laws.specs.Faults.{wrong_register, wrong_value, wrong_literal, wrong_after, wrong_symbol, wrong_option, wrong_start, wrong_label}
-use Rattle.rv_parse_laws.specs.Parsing.{Wrong, wrong, Read, nowhere, ◌>>=◌, seen_as, taken, register_at, literal_at, value_at, operand_at, comma_at, end_at, further_at, operands_at, symbol_at, with_first, with_name, further_names_at, names_at, option_at, begun_at, colon_next, after_first, statement_at, part_at}
+use Rattle.rv_parse_laws.specs.Syntax.{register_of, symbol_of, literal_of, value_of, begins, is_comma, is_colon, is_minus, is_norvc, is_end, is_opening, is_closing, is_zero, accesses_of, Slot, A_register, A_value, An_offset, A_base, A_zero, Some_accesses, A_comma, An_opening, A_closing, Slots, Stops, Takes, Chooses, single, can_begin, value_begins, front_begins, slots, IsValue, IsOperand, IsTaken, AreOperands, AreFurtherNames, AreNames, IsStatement, Part, Ends, Says, IsPart, EndsHere, StopsPart}
+use Rattle.rv_parse_laws.specs.Faults.{wrong_value, wrong_literal, wrong_first, wrong_after, wrong_symbol, wrong_option, wrong_start, wrong_label}
+use Rattle.rv_parse_laws.specs.Parsing.{Wrong, wrong, Read, nowhere, ◌>>=◌, seen_as, taken, literal_at, value_at, single_at, operand_at, end_at, taking, operands_at, symbol_at, with_first, with_name, further_names_at, names_at, option_at, begun_at, colon_next, after_first, statement_at, part_at}
 use Rattle.rv_parse_laws.proofs.Steps.{bind_ok, seen_ok, taken_ok, tested_ok}
 
 -- a token that is one thing is not another
@@ -28,22 +28,9 @@ end_no_colon (Mark Colon) h = absurd (cc)
 end_no_colon (Mark _) h = refl
 end_no_colon _ h = refl
 
-pub register_no_colon : (k : Kind) (r : ℕ) → register_of k ≡ Some r → is_colon k ≡ false
-register_no_colon (Mark sign) r h = absurd (cc)
-register_no_colon _ r h = refl
-
-pub value_no_colon : (k : Kind) (e : Expression) → value_of k ≡ Some e → is_colon k ≡ false
-value_no_colon (Mark sign) e h = absurd (cc)
-value_no_colon _ e h = refl
-
 pub symbol_no_colon : (k : Kind) (name : List ℕ) → symbol_of k ≡ Some name → is_colon k ≡ false
 symbol_no_colon (Mark sign) name h = absurd (cc)
 symbol_no_colon _ name h = refl
-
-pub minus_no_colon : (k : Kind) → is_minus k ≡ true → is_colon k ≡ false
-minus_no_colon (Mark Colon) h = absurd (cc)
-minus_no_colon (Mark _) h = refl
-minus_no_colon _ h = refl
 
 pub norvc_no_colon : (k : Kind) → is_norvc k ≡ true → is_colon k ≡ false
 norvc_no_colon (Mark sign) h = absurd (cc)
@@ -74,31 +61,81 @@ pub last_begins_nothing : (k : Kind) → is_last k ≡ true → begins k ≡ Beg
 last_begins_nothing (NameToken word) h = absurd (cc)
 last_begins_nothing _ h = refl
 
-pub operand_is : (s : Slot) (text rest : List Token) (o : Operand) → IsOperand s text o → operand_at s (text ++ rest) ≡ Ok (o, rest)
-operand_is A_register text rest o (t, r, w, e, v) = rw (w, v) (rw e refl)
-operand_is A_value text rest o (inl (t, e, w, is, v)) = rw (w, v) (rw (value_no_minus t.kind e is, is) refl)
-operand_is A_value text rest o (inr (m, t, n, w, minus, is, v)) = rw (w, v) (rw (minus, is) refl)
+-- the end of a statement, a colon and a last token stand in no place
+newline_in : (s : Slot) → can_begin s Newline ≡ false
+newline_in A_value = refl
+newline_in _ = refl
 
-pub further_is : (s : Slot) (ss : List Slot) (text rest : List Token) (os : List Operand) → AreFurther ss text os → EndsHere rest → further_at s ss (text ++ rest) ≡ Ok (os, rest)
-further_is s [] text rest os (w, v) (t, us, e, is) = rw (w, v, e) (rw is refl)
-further_is s (u ∷ us) text rest os (c, one, more, o, others, w, comma, is, are, v) ends =
-    rw (w, v) (rw (comma, append_assoc one more rest, operand_is u one (more ++ rest) o is, further_is u us more rest others are ends) refl)
+semicolon_in : (s : Slot) → can_begin s (Mark Semicolon) ≡ false
+semicolon_in A_value = refl
+semicolon_in _ = refl
 
-pub operands_is : (ss : List Slot) (text rest : List Token) (os : List Operand) → AreOperands ss text os → EndsHere rest → operands_at ss (text ++ rest) ≡ Ok (os, rest)
+end_in : (s : Slot) → can_begin s End ≡ false
+end_in A_value = refl
+end_in _ = refl
+
+colon_in : (s : Slot) → can_begin s (Mark Colon) ≡ false
+colon_in A_value = refl
+colon_in _ = refl
+
+pub end_begins_none : (s : Slot) (k : Kind) → is_end k ≡ true → can_begin s k ≡ false
+end_begins_none s Newline h = newline_in s
+end_begins_none s (Mark Semicolon) h = semicolon_in s
+end_begins_none s End h = end_in s
+end_begins_none s (Mark _) h = absurd (cc)
+end_begins_none s _ h = absurd (cc)
+
+begins_no_colon : (s : Slot) (k : Kind) → can_begin s k ≡ true → is_colon k ≡ false
+begins_no_colon s (Mark Colon) h = let none = colon_in s in absurd (cc)
+begins_no_colon s (Mark _) h = refl
+begins_no_colon s _ h = refl
+
+front_no_colon : (s : Slot) (ts : List Token) → front_begins s ts ≡ true → colon_next ts ≡ false
+front_no_colon s [] h = absurd (cc)
+front_no_colon s (t ∷ ts) h = begins_no_colon s t.kind h
+
+-- what stands in a place begins with a token that can begin it
+pub operand_begins : (s : Slot) (text more : List Token) (os : List Operand) → IsOperand s text os → front_begins s (text ++ more) ≡ true
+operand_begins A_value text more os (e, inl (t, w, is), v) = rw w (rw (value_no_minus t.kind e is, is) refl)
+operand_begins A_value text more os (e, inr (m, t, n, w, minus, is, x), v) = rw w (rw minus refl)
+operand_begins An_offset text more os (e, inl (t, w, is), v) = rw w (rw (value_no_minus t.kind e is, is) refl)
+operand_begins An_offset text more os (e, inr (m, t, n, w, minus, is, x), v) = rw w (rw minus refl)
+operand_begins _ text more os (t, w, is) = rw w (rw is refl)
+
+-- the end behind some tokens begins nothing more
+pub front_ended : (s : Slot) (text rest : List Token) → front_begins s text ≡ false → EndsHere rest → front_begins s (text ++ rest) ≡ false
+front_ended s [] rest h (t, us, e, is) = rw e (end_begins_none s t.kind is)
+front_ended s (t ∷ ts) rest h ends = h
+
+pub operand_is : (s : Slot) (text rest : List Token) (os : List Operand) → IsOperand s text os → operand_at s (text ++ rest) ≡ Ok (os, rest)
+operand_is A_value text rest os (e, inl (t, w, is), v) = rw (w, v) (rw (value_no_minus t.kind e is, is) refl)
+operand_is A_value text rest os (e, inr (m, t, n, w, minus, is, x), v) = rw (w, v, x) (rw (minus, is) refl)
+operand_is An_offset text rest os (e, inl (t, w, is), v) = rw (w, v) (rw (value_no_minus t.kind e is, is) refl)
+operand_is An_offset text rest os (e, inr (m, t, n, w, minus, is, x), v) = rw (w, v, x) (rw (minus, is) refl)
+operand_is _ text rest os (t, w, is) = rw w (rw is refl)
+
+taken_is : (s : Slot) (R : List Token → Read (List Operand)) (one more rest : List Token) (now later : List Operand) → IsOperand s one now → R (more ++ rest) ≡ Ok (later, rest)
+    → taking s R ((one ++ more) ++ rest) ≡ Ok (now ++ later, rest)
+taken_is s R one more rest now later is next = rw (append_assoc one more rest, operand_is s one (more ++ rest) now is, next) refl
+
+pub operands_is : (ss : Slots) (text rest : List Token) (os : List Operand) → AreOperands ss text os → EndsHere rest → operands_at ss (text ++ rest) ≡ Ok (os, rest)
 unfolding operands_at
-operands_is [] text rest os (w, v) (t, us, e, is) = rw (w, v, e) (rw is refl)
-operands_is (s ∷ ss) text rest os (one, more, o, others, w, is, are, v) ends =
-    rw (w, v) (rw (append_assoc one more rest, operand_is s one (more ++ rest) o is, further_is s ss more rest others are ends) refl)
+operands_is (Stops s) text rest os (w, v) (t, us, e, is) = rw (w, v, e) (rw is refl)
+operands_is (Takes s more) text rest os (one, others, now, later, w, is, are, v) ends =
+    rw (w, v) (taken_is s (λ us. operands_at more us) one others rest now later is (operands_is more others rest later are ends))
+operands_is (Chooses s more other) text rest os (inl (one, others, now, later, w, is, are, v)) ends =
+    rw (w, v) (rw (append_assoc one others rest, operand_begins s one (others ++ rest) now is, operand_is s one (others ++ rest) now is, operands_is more others rest later are ends) refl)
+operands_is (Chooses s more other) text rest os (inr (other_begins, are)) ends =
+    rw (front_ended s text rest other_begins ends) (operands_is other text rest os are ends)
 
 -- no operand begins with a colon
-pub operands_no_colon : (ss : List Slot) (text rest : List Token) (os : List Operand) → AreOperands ss text os → EndsHere rest → colon_next (text ++ rest) ≡ false
-operands_no_colon [] text rest os (w, v) (t, us, e, is) = rw (w, e) (end_no_colon t.kind is)
-operands_no_colon (A_register ∷ ss) text rest os (one, more, o, others, w, (t, r, x, is, v), are, u) ends =
-    rw (w, x) (register_no_colon t.kind r is)
-operands_no_colon (A_value ∷ ss) text rest os (one, more, o, others, w, inl (t, e, x, is, v), are, u) ends =
-    rw (w, x) (value_no_colon t.kind e is)
-operands_no_colon (A_value ∷ ss) text rest os (one, more, o, others, w, inr (m, t, n, x, minus, is, v), are, u) ends =
-    rw (w, x) (minus_no_colon m.kind minus)
+pub operands_no_colon : (ss : Slots) (text rest : List Token) (os : List Operand) → AreOperands ss text os → EndsHere rest → colon_next (text ++ rest) ≡ false
+operands_no_colon (Stops s) text rest os (w, v) (t, us, e, is) = rw (w, e) (end_no_colon t.kind is)
+operands_no_colon (Takes s more) text rest os (one, others, now, later, w, is, are, v) ends =
+    rw (w, append_assoc one others rest) (front_no_colon s (one ++ (others ++ rest)) (operand_begins s one (others ++ rest) now is))
+operands_no_colon (Chooses s more other) text rest os (inl (one, others, now, later, w, is, are, v)) ends =
+    rw (w, append_assoc one others rest) (front_no_colon s (one ++ (others ++ rest)) (operand_begins s one (others ++ rest) now is))
+operands_no_colon (Chooses s more other) text rest os (inr (other_begins, are)) ends = operands_no_colon other text rest os are ends
 
 pub further_names_is : (text rest : List Token) (names : List (List ℕ)) → AreFurtherNames text names → EndsHere rest → further_names_at (text ++ rest) ≡ Ok (names, rest)
 further_names_is text rest [] w (t, [], e, is) = rw (w, e) (rw (end_no_comma t.kind is, is) refl)

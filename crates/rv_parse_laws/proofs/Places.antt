@@ -1,6 +1,6 @@
 -- The tokens of a source stand one behind the other, and each has the line of its faults.
 
-use Rattle.std.proofs.Common.{◌≡◌, ℕ, zero, suc, ◌+◌, ◌<◌, ◌≤◌, Bool, true, false, cond, ◌&&◌, ◌==◌, nat_lt, List, [], ◌∷◌, ◌++◌, append_assoc, length, length-append, take, drop, refl, sym, ◌∙◌, ap, subst, arith, ◌⊎◌, inl, inr}
+use Rattle.std.proofs.Common.{◌≡◌, ℕ, zero, suc, ◌+◌, ◌<◌, ◌≤◌, Bool, true, false, cond, ◌&&◌, ◌==◌, List, [], ◌∷◌, ◌++◌, append_assoc, length, length-append, take, refl, sym, ◌∙◌, ap, subst, arith}
 use Rattle.std.specs.List.{list_all}
 use Rattle.std.proofs.lemmas.Bool.{eqb-true}
 use Rattle.std.proofs.lemmas.Bool.Decides.{nat_tests}
@@ -10,7 +10,7 @@ use Rattle.rv_text_laws.specs.declared.class.Class.{Class}
 use Rattle.rv_text_laws.specs.declared.class.Class.TheVariants.{Letter, Foreign}
 use Rattle.rv_text_laws.specs.Cut.{Piece, texts, Each}
 use Rattle.rv_text_laws.specs.Bytes.{class, is_word}
-use Rattle.rv_text_laws.specs.Grammar.{Kind, Space, Line_comment, Block_comment, Newline, Mark, Name, Number, Reference, Bad_word, Text, Character, Bad_byte, Bad_token, End, Spells, Stops}
+use Rattle.rv_text_laws.specs.Grammar.{Kind, Name, Spells, Stops}
 use Rattle.rv_text_laws.specs.Lexing.{Token, newlines, placed, is_gap, tokens_of, bad, last_kind, is_last, last, Lexes}
 use Rattle.rv_text_laws.proofs.Pieces.{pieces}
 use Rattle.rv_text_laws.proofs.Tokens.{newlines-append}

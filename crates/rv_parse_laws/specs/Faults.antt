@@ -8,7 +8,7 @@ use Rattle.rv_text_laws.specs.declared.sign.Sign.TheVariants.{Open, Plus, Minus 
 use Rattle.rv_text_laws.specs.Bytes.{is_decimal}
 use Rattle.rv_text_laws.specs.Grammar.{Kind, Mark, Name as NameToken, Number, Reference as ReferenceToken, Bad_word, Text, Bad_byte, Bad_token}
 use Rattle.rv_parse_laws.specs.Words.{register, is_known, is_among, option_words, Beginning, Begins_instruction, Begins_globl, Begins_option, Begins_nothing}
-use Rattle.rv_parse_laws.specs.Syntax.{longest_name, Slot, A_register, A_value, slots, begins, is_minus, is_comma}
+use Rattle.rv_parse_laws.specs.Syntax.{longest_name, Slot, A_register, A_value, An_offset, A_base, A_zero, Some_accesses, A_comma, An_opening, A_closing, begins, value_begins}
 
 -- the codes, by their numbers
 abbrev pub bad_byte : ℕ
@@ -99,15 +99,25 @@ abbrev pub wrong_after_value : Kind → ℕ
 wrong_after_value (Mark sign) = if is_operator sign then unsupported_here else wrong_or (Mark sign) bad_operands
 wrong_after_value k = wrong_or k bad_operands
 
--- where a comma or the statement's end is wanted
+-- behind what stands in a place; behind an offset a symbol's place in memory, or a number's, is not built yet
 abbrev pub wrong_after : Slot → Kind → ℕ
-wrong_after A_register k = wrong_or k bad_operands
 wrong_after A_value k = wrong_after_value k
+wrong_after An_offset k = wrong_or k unsupported_here
+wrong_after _ k = wrong_or k bad_operands
 
--- where an operand begins
+-- where an address's register is wanted: an expression in parentheses is not built yet
+abbrev pub wrong_base : Kind → ℕ
+wrong_base k = if value_begins k then unsupported_here else wrong_value k
+
+-- where what stands in a place begins
 abbrev pub wrong_first : Slot → Kind → ℕ
-wrong_first A_register k = wrong_register k
 wrong_first A_value k = wrong_value k
+wrong_first An_offset k = wrong_value k
+wrong_first A_base k = wrong_base k
+wrong_first (A_comma behind) k = wrong_after behind k
+wrong_first (An_opening behind) k = wrong_after behind k
+wrong_first A_closing k = wrong_or k bad_operands
+wrong_first _ k = wrong_register k
 
 -- where a list of symbols wants one
 abbrev pub wrong_symbol : Kind → ℕ

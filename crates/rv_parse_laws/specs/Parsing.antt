@@ -1,13 +1,13 @@
 -- Parts of statements at the front of a list of tokens, as functions: what stands there and the tokens after it, or the
 -- first token that is wrong there, with its code.
 
-use Rattle.std.specs.Prelude.{◌≡◌, ℕ, ◌+◌, Bool, true, false, ◌&&◌, ◌==◌, nat_lt, List, [], ◌∷◌, length, Option, Some, None, Result, Ok, Err, if◌then◌else◌}
+use Rattle.std.specs.Prelude.{◌≡◌, ℕ, ◌+◌, Bool, true, false, ◌&&◌, ◌==◌, nat_lt, List, [], ◌∷◌, ◌++◌, length, Option, Some, None, Result, Ok, Err, if◌then◌else◌}
 use Rattle.rv_text_laws.specs.Grammar.{Kind, Name as NameToken}
 use Rattle.rv_text_laws.specs.Lexing.{Token}
-use Rattle.rv_parse_laws.specs.Statement.{Mnemonic, Expression, Literal, Minus, Operand, Register, Value, Statement, Label, Norvc, Globl, Instruction}
+use Rattle.rv_parse_laws.specs.Statement.{Expression, Literal, Minus, Operand, Value, Statement, Label, Norvc, Globl, Instruction}
 use Rattle.rv_parse_laws.specs.Words.{Beginning, Begins_instruction, Begins_globl, Begins_option, Begins_nothing}
-use Rattle.rv_parse_laws.specs.Syntax.{longest_name, register_of, symbol_of, literal_of, value_of, begins, is_comma, is_colon, is_minus, is_norvc, is_end, Slot, A_register, A_value, slots, Part, Ends, Says}
-use Rattle.rv_parse_laws.specs.Faults.{wrong_register, wrong_value, wrong_literal, wrong_after, wrong_or, wrong_symbol, wrong_option, wrong_start, wrong_label, bad_operands, limit}
+use Rattle.rv_parse_laws.specs.Syntax.{longest_name, register_of, symbol_of, literal_of, value_of, begins, is_comma, is_colon, is_minus, is_norvc, is_end, Slot, A_register, A_value, An_offset, single, front_begins, Slots, Stops, Takes, Chooses, slots, Part, Ends, Says}
+use Rattle.rv_parse_laws.specs.Faults.{wrong_value, wrong_literal, wrong_first, wrong_after, wrong_or, wrong_symbol, wrong_option, wrong_start, wrong_label, bad_operands, limit}
 
 -- a name that is longer than a symbol's
 abbrev pub is_long : Kind → Bool
@@ -50,10 +50,6 @@ abbrev pub taken : {X : Type 0} → Token → List Token → Option X → ℕ �
 taken t ts (Some x) code = Ok (x, ts)
 taken t ts None code = Err (wrong t code)
 
-abbrev pub register_at : List Token → Read ℕ
-register_at [] = Err nowhere
-register_at (t ∷ ts) = taken t ts (register_of t.kind) (wrong_register t.kind)
-
 abbrev pub literal_at : List Token → Read ℕ
 literal_at [] = Err nowhere
 literal_at (t ∷ ts) = taken t ts (literal_of t.kind) (wrong_literal t.kind)
@@ -63,28 +59,30 @@ abbrev pub value_at : List Token → Read Expression
 value_at [] = Err nowhere
 value_at (t ∷ ts) = if is_minus t.kind then seen_as (λ n. Minus (Literal n)) (literal_at ts) else taken t ts (value_of t.kind) (wrong_value t.kind)
 
-abbrev pub operand_at : Slot → List Token → Read Operand
-operand_at A_register ts = seen_as Register (register_at ts)
-operand_at A_value ts = seen_as Value (value_at ts)
+abbrev pub single_at : Slot → List Token → Read (List Operand)
+single_at s [] = Err nowhere
+single_at s (t ∷ ts) = taken t ts (single s t.kind) (wrong_first s t.kind)
 
--- the tokens after a comma, where an operand of this place stands before it
-abbrev pub comma_at : Slot → List Token → Result (List Token) Wrong
-comma_at s [] = Err nowhere
-comma_at s (t ∷ ts) = if is_comma t.kind then Ok ts else Err (wrong t (wrong_after s t.kind))
+-- what stands in a place
+abbrev pub operand_at : Slot → List Token → Read (List Operand)
+operand_at A_value ts = seen_as (λ e. Value e ∷ []) (value_at ts)
+operand_at An_offset ts = seen_as (λ e. Value e ∷ []) (value_at ts)
+operand_at s ts = single_at s ts
 
 -- the tokens, where a statement ends before them
 abbrev pub end_at : Slot → List Token → Result (List Token) Wrong
 end_at s [] = Err nowhere
 end_at s (t ∷ ts) = if is_end t.kind then Ok (t ∷ ts) else Err (wrong t (wrong_after s t.kind))
 
--- the operands of the places left, after one of the first place
-abbrev pub further_at : Slot → List Slot → List Token → Read (List Operand)
-further_at s [] ts = end_at s ts >>= λ r. Ok ([], r)
-further_at s (u ∷ us) ts = comma_at s ts >>= λ c. operand_at u c >>= λ o. further_at u us o.1 >>= λ r. Ok (o.0 ∷ r.0, r.1)
+-- what stands in a place, and then the rest
+abbrev pub taking : Slot → (List Token → Read (List Operand)) → List Token → Read (List Operand)
+taking s rest ts = operand_at s ts >>= λ o. seen_as (λ os. o.0 ++ os) (rest o.1)
 
-unfoldable pub operands_at : List Slot → List Token → Read (List Operand)
-operands_at [] ts = end_at A_register ts >>= λ r. Ok ([], r)
-operands_at (s ∷ ss) ts = operand_at s ts >>= λ o. further_at s ss o.1 >>= λ r. Ok (o.0 ∷ r.0, r.1)
+unfoldable pub operands_at : Slots → List Token → Read (List Operand)
+operands_at (Stops s) ts = end_at s ts >>= λ r. Ok ([], r)
+operands_at (Takes s rest) ts = taking s (λ us. operands_at rest us) ts
+operands_at (Chooses s rest others) ts =
+    if front_begins s ts then taking s (λ us. operands_at rest us) ts else operands_at others ts
 
 abbrev pub symbol_at : List Token → Read (List ℕ)
 symbol_at [] = Err nowhere

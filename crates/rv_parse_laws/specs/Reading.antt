@@ -5,7 +5,7 @@ use Rattle.rv_text_laws.specs.Cut.{Piece, Cuts, NothingReads}
 use Rattle.rv_text_laws.specs.Grammar.{Kind}
 use Rattle.rv_text_laws.specs.Lexing.{Token, Lexes, newlines}
 use Rattle.rv_parse_laws.specs.Statement.{Statement, Label, Spoken}
-use Rattle.rv_parse_laws.specs.Syntax.{Part, Ends, Says, IsPart, StopsPart, is_end, is_comma, is_minus, is_colon, begins, Slot, A_register, A_value, slots}
+use Rattle.rv_parse_laws.specs.Syntax.{Part, Ends, Says, IsPart, StopsPart, is_end, is_comma, is_minus, is_colon, begins, Slot, A_register, A_value, An_offset, front_begins, Slots, Stops, Takes, Chooses, slots}
 use Rattle.rv_parse_laws.specs.Words.{Beginning, Begins_instruction, Begins_globl, Begins_option, Begins_nothing}
 use Rattle.rv_parse_laws.specs.Faults.{limit, bad_operands, wrong_first, wrong_literal, wrong_after, wrong_symbol, wrong_option, wrong_start, wrong_label}
 use Rattle.rv_parse_laws.specs.Parsing.{colon_next, place_of}
@@ -67,20 +67,21 @@ abbrev pub code_after_minus : (List Token → Token → ℕ) → List Token → 
 code_after_minus next [] at = wrong_literal at.kind
 code_after_minus next (t ∷ ts) at = next ts at
 
+abbrev pub code_in_value : (List Token → Token → ℕ) → Token → List Token → Token → ℕ
+code_in_value next t ts at = if is_minus t.kind then code_after_minus next ts at else next ts at
+
 abbrev pub code_in_operand : Slot → (List Token → Token → ℕ) → List Token → Token → ℕ
 code_in_operand s next [] at = wrong_first s at.kind
-code_in_operand A_register next (t ∷ ts) at = next ts at
-code_in_operand A_value next (t ∷ ts) at = if is_minus t.kind then code_after_minus next ts at else next ts at
+code_in_operand A_value next (t ∷ ts) at = code_in_value next t ts at
+code_in_operand An_offset next (t ∷ ts) at = code_in_value next t ts at
+code_in_operand _ next (t ∷ ts) at = next ts at
 
--- behind an operand of a place, with these places left
-abbrev pub code_after : Slot → List Slot → List Token → Token → ℕ
-code_after s ss [] at = wrong_after s at.kind
-code_after s [] (t ∷ ts) at = bad_operands
-code_after s (u ∷ us) (t ∷ ts) at = code_in_operand u (code_after u us) ts at
-
-abbrev pub code_in_operands : List Slot → List Token → Token → ℕ
-code_in_operands [] ts at = wrong_after A_register at.kind
-code_in_operands (s ∷ ss) ts at = code_in_operand s (code_after s ss) ts at
+-- where one of two may stand, the token at its front decides
+abbrev pub code_in_operands : Slots → List Token → Token → ℕ
+code_in_operands (Stops s) ts at = wrong_after s at.kind
+code_in_operands (Takes s rest) ts at = code_in_operand s (λ us by. code_in_operands rest us by) ts at
+code_in_operands (Chooses s rest others) ts at =
+    if front_begins s (ts ++ at ∷ []) then code_in_operand s (λ us by. code_in_operands rest us by) ts at else code_in_operands others ts at
 
 -- behind a comma a symbol, behind a symbol a comma or the end
 abbrev pub code_in_names : List Token → Token → ℕ

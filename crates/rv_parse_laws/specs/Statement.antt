@@ -1,12 +1,8 @@
 -- What a statement says, as plain data (RISC-V Assembly Programmer's Manual). Later kinds are further cases.
 
 use Rattle.std.specs.Prelude.{ℕ, List, Bool, Option}
-
--- the mnemonics that are built
-pub data Mnemonic : Type 0 where
-  Addi : Mnemonic
-  Ecall : Mnemonic
-  Li : Mnemonic
+use Rattle.rv_parse_laws.specs.declared.mnemonic.Mnemonic.{Mnemonic}
+use Rattle.rv_parse_laws.specs.declared.mnemonic.AccessSet.{AccessSet}
 
 -- an expression as it is written
 pub data Expression : Type 0 where
@@ -21,10 +17,13 @@ pub data Expression : Type 0 where
   -- a minus before an expression
   Minus : (negated : Expression) → Expression
 
+-- an operand, or a part of one: `8(sp)` is its offset and then its register
 pub data Operand : Type 0 where
   -- a register, by its number
   Register : (number : ℕ) → Operand
   Value : (expression : Expression) → Operand
+  -- the accesses that a fence orders
+  Accesses : (set : AccessSet) → Operand
 
 -- the sections that have a directive of their own
 pub data Standard : Type 0 where

@@ -1,10 +1,20 @@
 -- The words that may begin a statement (RISC-V Unprivileged ISA 20191213, chapters 2, 5, 7 and 8; RISC-V Assembly
 -- Programmer's Manual; GNU as).
 
-use Rattle.std.specs.Prelude.{ℕ, zero, suc, List, [], ◌∷◌, ◌++◌, Bool, true, false, ◌&&◌, ◌||◌, ◌==◌, length, take, drop, codes, Option, Some, None, slice_get, option_to_list, if◌then◌else◌}
+use Rattle.std.specs.Prelude.{ℕ, zero, suc, List, [], ◌∷◌, ◌++◌, Bool, true, false, ◌&&◌, ◌||◌, ◌==◌, length, take, drop, codes, Option, Some, None, option_map, slice_get, option_to_list, if◌then◌else◌}
 use Rattle.std.specs.Str.{bytes_eq}
 use Rattle.rv_isa.specs.RegisterNames.{abi_names, decimal}
-use Rattle.rv_parse_laws.specs.Statement.{Mnemonic, Addi, Ecall, Li}
+use Rattle.rv_parse_laws.specs.declared.mnemonic.Mnemonic.{Mnemonic}
+use Rattle.rv_parse_laws.specs.declared.mnemonic.Mnemonic.TheVariants.{Registers, Immediate, Shift, Upper, Load, Store, Jalr, LoadReserved, Atomic, Fence, FenceTso, Ecall, Ebreak, Li}
+use Rattle.rv_parse_laws.specs.declared.mnemonic.RegisterOperation.TheVariants.{Add, Sub, Sll, Slt, Sltu, Xor, Srl, Sra, Or, And, Addw, Subw, Sllw, Srlw, Sraw, Mul, Mulh, Mulhsu, Mulhu, Div, Divu, Rem, Remu, Mulw, Divw, Divuw, Remw, Remuw}
+use Rattle.rv_parse_laws.specs.declared.mnemonic.ImmediateOperation.TheVariants.{Addi, Slti, Sltiu, Xori, Ori, Andi, Addiw}
+use Rattle.rv_parse_laws.specs.declared.mnemonic.ShiftOperation.TheVariants.{Slli, Srli, Srai, Slliw, Srliw, Sraiw}
+use Rattle.rv_parse_laws.specs.declared.mnemonic.UpperOperation.TheVariants.{Lui, Auipc}
+use Rattle.rv_parse_laws.specs.declared.mnemonic.LoadOperation.TheVariants.{Lb, Lh, Lw, Ld, Lbu, Lhu, Lwu}
+use Rattle.rv_parse_laws.specs.declared.mnemonic.StoreOperation.TheVariants.{Sb, Sh, Sw, Sd}
+use Rattle.rv_parse_laws.specs.declared.mnemonic.AtomicOperation.{AtomicOperation}
+use Rattle.rv_parse_laws.specs.declared.mnemonic.AtomicOperation.TheVariants.{Sc, Amoswap, Amoadd, Amoxor, Amoand, Amoor, Amomin, Amomax, Amominu, Amomaxu}
+use Rattle.rv_parse_laws.specs.declared.mnemonic.AtomicForm.{AtomicForm}
 
 -- the word is in the list
 abbrev pub is_among : List (List ℕ) → List ℕ → Bool
@@ -82,6 +92,125 @@ is_known word =
     is_among base_words word || is_among pseudo_words word || is_among directive_words word || is_atomic_of atomic_words word
     || is_frame_directive word
 
+-- the mnemonics that are built but the atomics (ISA, chapter 24; Assembly Programmer's Manual for `li`)
+unfoldable pub instruction_words : List (List ℕ × Mnemonic)
+instruction_words =
+    (codes "lui", Upper Lui)
+    ∷ (codes "auipc", Upper Auipc)
+    ∷ (codes "jalr", Jalr)
+    ∷ (codes "lb", Load Lb)
+    ∷ (codes "lh", Load Lh)
+    ∷ (codes "lw", Load Lw)
+    ∷ (codes "ld", Load Ld)
+    ∷ (codes "lbu", Load Lbu)
+    ∷ (codes "lhu", Load Lhu)
+    ∷ (codes "lwu", Load Lwu)
+    ∷ (codes "sb", Store Sb)
+    ∷ (codes "sh", Store Sh)
+    ∷ (codes "sw", Store Sw)
+    ∷ (codes "sd", Store Sd)
+    ∷ (codes "addi", Immediate Addi)
+    ∷ (codes "slti", Immediate Slti)
+    ∷ (codes "sltiu", Immediate Sltiu)
+    ∷ (codes "xori", Immediate Xori)
+    ∷ (codes "ori", Immediate Ori)
+    ∷ (codes "andi", Immediate Andi)
+    ∷ (codes "slli", Shift Slli)
+    ∷ (codes "srli", Shift Srli)
+    ∷ (codes "srai", Shift Srai)
+    ∷ (codes "add", Registers Add)
+    ∷ (codes "sub", Registers Sub)
+    ∷ (codes "sll", Registers Sll)
+    ∷ (codes "slt", Registers Slt)
+    ∷ (codes "sltu", Registers Sltu)
+    ∷ (codes "xor", Registers Xor)
+    ∷ (codes "srl", Registers Srl)
+    ∷ (codes "sra", Registers Sra)
+    ∷ (codes "or", Registers Or)
+    ∷ (codes "and", Registers And)
+    ∷ (codes "addiw", Immediate Addiw)
+    ∷ (codes "slliw", Shift Slliw)
+    ∷ (codes "srliw", Shift Srliw)
+    ∷ (codes "sraiw", Shift Sraiw)
+    ∷ (codes "addw", Registers Addw)
+    ∷ (codes "subw", Registers Subw)
+    ∷ (codes "sllw", Registers Sllw)
+    ∷ (codes "srlw", Registers Srlw)
+    ∷ (codes "sraw", Registers Sraw)
+    ∷ (codes "fence", Fence)
+    ∷ (codes "fence.tso", FenceTso)
+    ∷ (codes "ecall", Ecall)
+    ∷ (codes "ebreak", Ebreak)
+    ∷ (codes "mul", Registers Mul)
+    ∷ (codes "mulh", Registers Mulh)
+    ∷ (codes "mulhsu", Registers Mulhsu)
+    ∷ (codes "mulhu", Registers Mulhu)
+    ∷ (codes "div", Registers Div)
+    ∷ (codes "divu", Registers Divu)
+    ∷ (codes "rem", Registers Rem)
+    ∷ (codes "remu", Registers Remu)
+    ∷ (codes "mulw", Registers Mulw)
+    ∷ (codes "divw", Registers Divw)
+    ∷ (codes "divuw", Registers Divuw)
+    ∷ (codes "remw", Registers Remw)
+    ∷ (codes "remuw", Registers Remuw)
+    ∷ (codes "li", Li)
+    ∷ []
+
+-- the atomics that have a second source (ISA, chapter 8)
+unfoldable pub atomic_operations : List (List ℕ × AtomicOperation)
+atomic_operations =
+    (codes "sc", Sc)
+    ∷ (codes "amoswap", Amoswap)
+    ∷ (codes "amoadd", Amoadd)
+    ∷ (codes "amoxor", Amoxor)
+    ∷ (codes "amoand", Amoand)
+    ∷ (codes "amoor", Amoor)
+    ∷ (codes "amomin", Amomin)
+    ∷ (codes "amomax", Amomax)
+    ∷ (codes "amominu", Amominu)
+    ∷ (codes "amomaxu", Amomaxu)
+    ∷ []
+
+abbrev pub form_with : Bool → Bool → Bool → AtomicForm
+form_with double acquire release = record { double = double; acquire = acquire; release = release }
+
+-- what stands behind an atomic's operation: its width and its ordering (ISA, 8.1)
+unfoldable pub atomic_forms : List (List ℕ × AtomicForm)
+atomic_forms =
+    (codes ".w", form_with false false false)
+    ∷ (codes ".w.aq", form_with false true false)
+    ∷ (codes ".w.rl", form_with false false true)
+    ∷ (codes ".w.aqrl", form_with false true true)
+    ∷ (codes ".d", form_with true false false)
+    ∷ (codes ".d.aq", form_with true true false)
+    ∷ (codes ".d.rl", form_with true false true)
+    ∷ (codes ".d.aqrl", form_with true true true)
+    ∷ []
+
+-- what a table has for a word: the first of its name
+abbrev pub named_in : {X : Type 0} → List (List ℕ × X) → List ℕ → Option X
+named_in [] word = None
+named_in (named ∷ table) word = if bytes_eq named.0 word then Some named.1 else named_in table word
+
+-- the form of an atomic whose operation stands in front
+abbrev pub form_behind : List ℕ → List ℕ → Option AtomicForm
+form_behind front word = if bytes_eq (take (length front) word) front then named_in atomic_forms (drop (length front) word) else None
+
+abbrev pub either : {X : Type 0} → Option X → Option X → Option X
+either (Some x) other = Some x
+either None other = other
+
+abbrev pub atomic_in : List (List ℕ × AtomicOperation) → List ℕ → Option Mnemonic
+atomic_in [] word = None
+atomic_in (named ∷ table) word = either (option_map (Atomic named.1) (form_behind named.0 word)) (atomic_in table word)
+
+-- the mnemonic that a word is
+unfoldable pub mnemonic_named : List ℕ → Option Mnemonic
+mnemonic_named word =
+    either (named_in instruction_words word)
+    (either (option_map LoadReserved (form_behind (codes "lr") word)) (atomic_in atomic_operations word))
+
 -- what a word begins that is built
 pub data Beginning : Type 0 where
   Begins_instruction : (mnemonic : Mnemonic) → Beginning
@@ -92,14 +221,18 @@ pub data Beginning : Type 0 where
   -- nothing that is built
   Begins_nothing : Beginning
 
+-- a word that is no mnemonic
+abbrev pub directive : List ℕ → Beginning
+directive word =
+    if bytes_eq word (codes ".globl") || bytes_eq word (codes ".global") then Begins_globl
+    else (if bytes_eq word (codes ".option") then Begins_option else Begins_nothing)
+
+abbrev pub begun_by : Option Mnemonic → List ℕ → Beginning
+begun_by (Some mnemonic) word = Begins_instruction mnemonic
+begun_by None word = directive word
+
 unfoldable pub beginning : List ℕ → Beginning
-beginning word =
-    if bytes_eq word (codes "li") then Begins_instruction Li
-    else (if bytes_eq word (codes "addi") then Begins_instruction Addi
-    else (if bytes_eq word (codes "ecall") then Begins_instruction Ecall
-    else (if bytes_eq word (codes ".globl") || bytes_eq word (codes ".global") then Begins_globl
-    else (if bytes_eq word (codes ".option") then Begins_option
-    else Begins_nothing))))
+beginning word = begun_by (mnemonic_named word) word
 
 -- the options that the language has, `norvc` apart, and those that it leaves out by name
 unfoldable pub option_words : List (List ℕ)

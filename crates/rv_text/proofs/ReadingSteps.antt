@@ -55,3 +55,12 @@ pub only_read : (r : List ℕ → Bool) (ts before after rest : List lexing.Toke
 only_read r ts before after rest ns e same end tree other reads =
     let both : (ns, rest) ≡ (postfix tree, other) = cc (sym e ∙ ap (expression_at r) same ∙ expression_is r before tree other reads) in
     (ap (λ (q : List Node × List lexing.Token). q.0) both, end ∙ ap (λ (q : List Node × List lexing.Token). q.1) both)
+
+-- where a token is wrong there is no expression
+pub unread : (r : List ℕ → Bool) (ts before : List lexing.Token) (w : reading.Wrong) → expression_at r ts ≡ Err w → ts ≡ before
+    → (tree : Tree) (rest : List lexing.Token) → ReadsTree r before tree rest → ⊥
+unread r ts before w e same tree rest reads =
+    no_both (postfix tree, rest) w (sym (expression_is r before tree rest reads) ∙ ap (expression_at r) (sym same) ∙ e)
+  where
+    no_both : (x : List Node × List lexing.Token) (v : reading.Wrong) → ◌≡◌ {A = reading.Read (List Node)} (Ok x) (Err v) → ⊥
+    no_both x v h = absurd (cc)

@@ -1,9 +1,10 @@
 -- What the expressions of the code stand for.
 
-use Rattle.std.specs.Prelude.{◌≡◌, List, reverse, Result, Ok, Err}
+use Rattle.std.specs.Prelude.{◌≡◌, ℕ, Bool, List, reverse, Result, Ok, Err}
 use Rattle.rv_text_laws.specs.declared.operator.Frame.{Frame}
 use Rattle.rv_text_laws.specs.Expression as expression
 use Rattle.rv_text_laws.specs.ExpressionAt as reading
+use Rattle.rv_text_laws.specs.Lexing.{Token}
 use Rattle.rv_text.specs.declared.expr.Expr.{Expr}
 use Rattle.rv_text.specs.declared.reading.Stage.{Stage}
 use Rattle.rv_text.specs.declared.reading.Stage.TheVariants as stages
@@ -57,3 +58,8 @@ expr_of e = nodes_of e.nodes
 abbrev pub NamesFault : {Y : Type 0} → SourceFault → Result Y reading.Wrong → Type 0
 NamesFault (faults.At code line) read = (w : reading.Wrong) × (read ≡ Err w) × (w.code ≡ number_of code) × (w.line ≡ line)
 NamesFault faults.OutOfMemory read = Unit {0}
+
+-- a fault stands only where the tokens begin with no expression
+abbrev pub NoReading : SourceFault → (List ℕ → Bool) → List Token → Type 0
+NoReading (faults.At code line) is_register ts = (tree : expression.Tree) (rest : List Token) → expression.ReadsTree is_register ts tree rest → ⊥
+NoReading faults.OutOfMemory is_register ts = Unit {0}

@@ -10,7 +10,7 @@ ghost use Rattle.rv_text.specs.Token.{kind_of};
 ghost use Rattle.rv_text.specs.Left.{tokens_left};
 ghost use Rattle.rv_text.specs.Cursor.{left, Answers, IsAhead};
 ghost use Rattle.rv_text.specs.Nodes.{node_of, nodes_of, some_nodes};
-ghost use Rattle.rv_text.specs.Expr.{begin_of, follow_of, stack_of, stage_of, Steps, expr_of, NamesFault};
+ghost use Rattle.rv_text.specs.Expr.{begin_of, follow_of, stack_of, stage_of, Steps, expr_of, NamesFault, NoReading};
 
 use crate::cursor::{Cursor, Refusal};
 use crate::expr::Expr;
@@ -411,6 +411,7 @@ pub fn parse_expr<'a, R: Registers>(
     ensures reads { IfOk result (λ e. (tree : Tree) × ReadsTree R.registers (tokens_left lexer.old) tree (tokens_left lexer.new) × (expr_of e ≡ postfix tree)) }
     ensures only { IfOk result (λ e. (tree : Tree) (rest : List Token) → ReadsTree R.registers (tokens_left lexer.old) tree rest → (expr_of e ≡ postfix tree) × (tokens_left lexer.new ≡ rest)) }
     ensures refuses { IfErr result (λ e. NamesFault e (reading.expression_at R.registers (tokens_left lexer.old))) }
+    ensures unread { IfErr result (λ e. NoReading e R.registers (tokens_left lexer.old)) }
     ensures stays { IfErr result (λ _. tokens_left lexer.new ≡ tokens_left lexer.old) }
 {
     let mut cursor = Cursor::new(*lexer);

@@ -1,0 +1,202 @@
+-- The word of every instruction in range fits 32 bits, and ends in 11 as each four-byte instruction does (ISA, 1.5).
+
+use Rattle.std.proofs.Common.{◌≡◌, ℕ, suc, ◌+◌, ◌-◌, ◌*◌, ◌/◌, ◌%◌, ◌^◌, ◌<◌, ◌≤◌, Bool, true, false, refl, arith, ℤ, pos, negsuc, lit<}
+use Rattle.std.proofs.lemmas.Int.{ints}
+use Rattle.std.specs.Int.{from_bool}
+use Rattle.rv_isa.specs.declared.instruction.RType.{RType}
+use Rattle.rv_isa.specs.declared.instruction.IType.{IType}
+use Rattle.rv_isa.specs.declared.instruction.Shift.{Shift}
+use Rattle.rv_isa.specs.declared.instruction.SType.{SType}
+use Rattle.rv_isa.specs.declared.instruction.BType.{BType}
+use Rattle.rv_isa.specs.declared.instruction.UType.{UType}
+use Rattle.rv_isa.specs.declared.instruction.JType.{JType}
+use Rattle.rv_isa.specs.declared.instruction.Atomic.{Atomic}
+use Rattle.rv_isa.specs.declared.instruction.Reserve.{Reserve}
+use Rattle.rv_isa.specs.declared.instruction.Fence.{Fence as FenceOperands}
+use Rattle.rv_isa.specs.declared.instruction.Inst.{Inst}
+use Rattle.rv_isa.specs.declared.instruction.Inst.TheVariants.{Lui, Auipc, Jal, Jalr, Beq, Bne, Blt, Bge, Bltu, Bgeu, Lb, Lh, Lw, Ld, Lbu, Lhu, Lwu, Sb, Sh, Sw, Sd, Addi, Slti, Sltiu, Xori, Ori, Andi, Slli, Srli, Srai, Add, Sub, Sll, Slt, Sltu, Xor, Srl, Sra, Or, And, Addiw, Slliw, Srliw, Sraiw, Addw, Subw, Sllw, Srlw, Sraw, Fence, Ecall, Ebreak, Mul, Mulh, Mulhsu, Mulhu, Div, Divu, Rem, Remu, Mulw, Divw, Divuw, Remw, Remuw, LrW, ScW, AmoswapW, AmoaddW, AmoxorW, AmoandW, AmoorW, AmominW, AmomaxW, AmominuW, AmomaxuW, LrD, ScD, AmoswapD, AmoaddD, AmoxorD, AmoandD, AmoorD, AmominD, AmomaxD, AmominuD, AmomaxuD}
+use Rattle.rv_isa.specs.Ranges.{IsSigned12, IsBranchOffset, IsJumpOffset, IsRType, IsIType, IsShift, IsWordShift, IsSType, IsBType, IsUType, IsJType, IsAtomic, IsReserve, IsFence, IsValid}
+use Rattle.rv_encode.specs.Word.{Form, Register, Immediate, ShiftBy, WordShift, Store, Branch, Upper, Jump, Memory, LoadReserved, Ordering, Whole, form, word, field}
+
+abbrev pub IsWideForm : Form → Type 0
+IsWideForm f = (word f < 2 ^ 32) × (word f % 4 ≡ 3)
+
+abbrev pub IsWide : Inst → Type 0
+IsWide i = IsWideForm (form i)
+
+field_12 : (z : ℤ) → IsSigned12 z → field 12 z < 4096
+field_12 (pos n) (low, high) = omega (arith, ints)
+field_12 (negsuc n) (low, high) = omega (arith, ints)
+
+field_13 : (z : ℤ) → IsBranchOffset z → field 13 z < 8192
+field_13 (pos n) (low, high, even) = omega (arith, ints)
+field_13 (negsuc n) (low, high, even) = omega (arith, ints)
+
+field_21 : (z : ℤ) → IsJumpOffset z → field 21 z < 2097152
+field_21 (pos n) (low, high, even) = omega (arith, ints)
+field_21 (negsuc n) (low, high, even) = omega (arith, ints)
+
+bit_below : (b : Bool) → from_bool b < 2
+bit_below false = lit< tt
+bit_below true = lit< tt
+
+register_wide : (opcode funct3 funct7 : ℕ) (x : RType) → opcode < 128 → opcode % 4 ≡ 3 → funct3 < 8 → funct7 < 128 → IsRType x → IsWideForm (Register opcode funct3 funct7 x)
+register_wide opcode funct3 funct7 x o l f g (rd, rs1, rs2) = (omega arith, omega arith)
+
+twelve : (opcode rd funct3 rs1 k : ℕ) → opcode < 128 → opcode % 4 ≡ 3 → rd < 32 → funct3 < 8 → rs1 < 32 → k < 4096
+    → (opcode + rd * 2 ^ 7 + funct3 * 2 ^ 12 + rs1 * 2 ^ 15 + k * 2 ^ 20 < 2 ^ 32) × ((opcode + rd * 2 ^ 7 + funct3 * 2 ^ 12 + rs1 * 2 ^ 15 + k * 2 ^ 20) % 4 ≡ 3)
+twelve opcode rd funct3 rs1 k o l r f s below = (omega arith, omega arith)
+
+immediate_wide : (opcode funct3 : ℕ) (x : IType) → opcode < 128 → opcode % 4 ≡ 3 → funct3 < 8 → IsIType x → IsWideForm (Immediate opcode funct3 x)
+immediate_wide opcode funct3 x o l f (rd, rs1, k) = twelve opcode x.rd funct3 x.rs1 (field 12 x.immediate) o l rd f rs1 (field_12 x.immediate k)
+
+shift_wide : (opcode funct3 funct6 : ℕ) (x : Shift) → opcode < 128 → opcode % 4 ≡ 3 → funct3 < 8 → funct6 < 64 → IsShift x → IsWideForm (ShiftBy opcode funct3 funct6 x)
+shift_wide opcode funct3 funct6 x o l f g (rd, rs1, amount) = (omega arith, omega arith)
+
+word_shift_wide : (opcode funct3 funct7 : ℕ) (x : Shift) → opcode < 128 → opcode % 4 ≡ 3 → funct3 < 8 → funct7 < 128 → IsWordShift x → IsWideForm (WordShift opcode funct3 funct7 x)
+word_shift_wide opcode funct3 funct7 x o l f g (rd, rs1, amount) = (omega arith, omega arith)
+
+store_parts : (opcode funct3 rs1 rs2 k : ℕ) → opcode < 128 → opcode % 4 ≡ 3 → funct3 < 8 → rs1 < 32 → rs2 < 32 → k < 4096
+    → (opcode + k % 2 ^ 5 * 2 ^ 7 + funct3 * 2 ^ 12 + rs1 * 2 ^ 15 + rs2 * 2 ^ 20 + k / 2 ^ 5 * 2 ^ 25 < 2 ^ 32)
+    × ((opcode + k % 2 ^ 5 * 2 ^ 7 + funct3 * 2 ^ 12 + rs1 * 2 ^ 15 + rs2 * 2 ^ 20 + k / 2 ^ 5 * 2 ^ 25) % 4 ≡ 3)
+store_parts opcode funct3 rs1 rs2 k o l f r s below = (omega arith, omega arith)
+
+store_wide : (opcode funct3 : ℕ) (x : SType) → opcode < 128 → opcode % 4 ≡ 3 → funct3 < 8 → IsSType x → IsWideForm (Store opcode funct3 x)
+store_wide opcode funct3 x o l f (rs1, rs2, k) = store_parts opcode funct3 x.rs1 x.rs2 (field 12 x.immediate) o l f rs1 rs2 (field_12 x.immediate k)
+
+branch_sum : (opcode funct3 rs1 rs2 a b c d : ℕ) → opcode < 128 → opcode % 4 ≡ 3 → funct3 < 8 → rs1 < 32 → rs2 < 32 → a < 2 → b < 16 → c < 64 → d < 2
+    → (opcode + a * 2 ^ 7 + b * 2 ^ 8 + funct3 * 2 ^ 12 + rs1 * 2 ^ 15 + rs2 * 2 ^ 20 + c * 2 ^ 25 + d * 2 ^ 31 < 2 ^ 32)
+    × ((opcode + a * 2 ^ 7 + b * 2 ^ 8 + funct3 * 2 ^ 12 + rs1 * 2 ^ 15 + rs2 * 2 ^ 20 + c * 2 ^ 25 + d * 2 ^ 31) % 4 ≡ 3)
+branch_sum opcode funct3 rs1 rs2 a b c d o l f r s p q u v = (omega arith, omega arith)
+
+below_mod_2 : (n : ℕ) → n % 2 < 2
+below_mod_2 n = omega arith
+
+branch_wide : (opcode funct3 : ℕ) (x : BType) → opcode < 128 → opcode % 4 ≡ 3 → funct3 < 8 → IsBType x → IsWideForm (Branch opcode funct3 x)
+branch_wide opcode funct3 x o l f (rs1, rs2, k) =
+    let below = field_13 x.offset k in
+    branch_sum opcode funct3 x.rs1 x.rs2 (field 13 x.offset / 2 ^ 11 % 2) (field 13 x.offset / 2 % 2 ^ 4) (field 13 x.offset / 2 ^ 5 % 2 ^ 6) (field 13 x.offset / 2 ^ 12) o l f rs1 rs2
+    (omega arith) (omega arith) (omega arith) (omega arith)
+
+upper_wide : (opcode : ℕ) (x : UType) → opcode < 128 → opcode % 4 ≡ 3 → IsUType x → IsWideForm (Upper opcode x)
+upper_wide opcode x o l (rd, k) = (omega arith, omega arith)
+
+jump_sum : (opcode rd a b c d : ℕ) → opcode < 128 → opcode % 4 ≡ 3 → rd < 32 → a < 256 → b < 2 → c < 1024 → d < 2
+    → (opcode + rd * 2 ^ 7 + a * 2 ^ 12 + b * 2 ^ 20 + c * 2 ^ 21 + d * 2 ^ 31 < 2 ^ 32) × ((opcode + rd * 2 ^ 7 + a * 2 ^ 12 + b * 2 ^ 20 + c * 2 ^ 21 + d * 2 ^ 31) % 4 ≡ 3)
+jump_sum opcode rd a b c d o l r p q u v = (omega arith, omega arith)
+
+jump_wide : (opcode : ℕ) (x : JType) → opcode < 128 → opcode % 4 ≡ 3 → IsJType x → IsWideForm (Jump opcode x)
+jump_wide opcode x o l (rd, k) =
+    let below = field_21 x.offset k in
+    jump_sum opcode x.rd (field 21 x.offset / 2 ^ 12 % 2 ^ 8) (field 21 x.offset / 2 ^ 11 % 2) (field 21 x.offset / 2 % 2 ^ 10) (field 21 x.offset / 2 ^ 20) o l rd
+    (omega arith) (omega arith) (omega arith) (omega arith)
+
+memory_sum : (opcode rd funct3 rs1 rs2 r a funct5 : ℕ) → opcode < 128 → opcode % 4 ≡ 3 → rd < 32 → funct3 < 8 → rs1 < 32 → rs2 < 32 → r < 2 → a < 2 → funct5 < 32
+    → (opcode + rd * 2 ^ 7 + funct3 * 2 ^ 12 + rs1 * 2 ^ 15 + rs2 * 2 ^ 20 + r * 2 ^ 25 + a * 2 ^ 26 + funct5 * 2 ^ 27 < 2 ^ 32)
+    × ((opcode + rd * 2 ^ 7 + funct3 * 2 ^ 12 + rs1 * 2 ^ 15 + rs2 * 2 ^ 20 + r * 2 ^ 25 + a * 2 ^ 26 + funct5 * 2 ^ 27) % 4 ≡ 3)
+memory_sum opcode rd funct3 rs1 rs2 r a funct5 o l d f s t p q g = (omega arith, omega arith)
+
+memory_wide : (opcode funct3 funct5 : ℕ) (x : Atomic) → opcode < 128 → opcode % 4 ≡ 3 → funct3 < 8 → funct5 < 32 → IsAtomic x → IsWideForm (Memory opcode funct3 funct5 x)
+memory_wide opcode funct3 funct5 x o l f g (rd, rs1, rs2) =
+    memory_sum opcode x.rd funct3 x.rs1 x.rs2 (from_bool x.release) (from_bool x.acquire) funct5 o l rd f rs1 rs2 (bit_below x.release) (bit_below x.acquire) g
+
+reserve_sum : (opcode rd funct3 rs1 r a funct5 : ℕ) → opcode < 128 → opcode % 4 ≡ 3 → rd < 32 → funct3 < 8 → rs1 < 32 → r < 2 → a < 2 → funct5 < 32
+    → (opcode + rd * 2 ^ 7 + funct3 * 2 ^ 12 + rs1 * 2 ^ 15 + r * 2 ^ 25 + a * 2 ^ 26 + funct5 * 2 ^ 27 < 2 ^ 32)
+    × ((opcode + rd * 2 ^ 7 + funct3 * 2 ^ 12 + rs1 * 2 ^ 15 + r * 2 ^ 25 + a * 2 ^ 26 + funct5 * 2 ^ 27) % 4 ≡ 3)
+reserve_sum opcode rd funct3 rs1 r a funct5 o l d f s p q g = (omega arith, omega arith)
+
+reserve_wide : (opcode funct3 funct5 : ℕ) (x : Reserve) → opcode < 128 → opcode % 4 ≡ 3 → funct3 < 8 → funct5 < 32 → IsReserve x → IsWideForm (LoadReserved opcode funct3 funct5 x)
+reserve_wide opcode funct3 funct5 x o l f g (rd, rs1) =
+    reserve_sum opcode x.rd funct3 x.rs1 (from_bool x.release) (from_bool x.acquire) funct5 o l rd f rs1 (bit_below x.release) (bit_below x.acquire) g
+
+ordering_wide : (opcode funct3 : ℕ) (x : FenceOperands) → opcode < 128 → opcode % 4 ≡ 3 → funct3 < 8 → IsFence x → IsWideForm (Ordering opcode funct3 x)
+ordering_wide opcode funct3 x o l f (fm, pred, succ, rs1, rd) = (omega arith, omega arith)
+
+pub valid_wide : (i : Inst) → IsValid i → IsWide i
+valid_wide (Lui x) v = upper_wide 0x37 x (lit< tt) refl v
+valid_wide (Auipc x) v = upper_wide 0x17 x (lit< tt) refl v
+valid_wide (Jal x) v = jump_wide 0x6f x (lit< tt) refl v
+valid_wide (Jalr x) v = immediate_wide 0x67 0 x (lit< tt) refl (lit< tt) v
+valid_wide (Beq x) v = branch_wide 0x63 0 x (lit< tt) refl (lit< tt) v
+valid_wide (Bne x) v = branch_wide 0x63 1 x (lit< tt) refl (lit< tt) v
+valid_wide (Blt x) v = branch_wide 0x63 4 x (lit< tt) refl (lit< tt) v
+valid_wide (Bge x) v = branch_wide 0x63 5 x (lit< tt) refl (lit< tt) v
+valid_wide (Bltu x) v = branch_wide 0x63 6 x (lit< tt) refl (lit< tt) v
+valid_wide (Bgeu x) v = branch_wide 0x63 7 x (lit< tt) refl (lit< tt) v
+valid_wide (Lb x) v = immediate_wide 0x03 0 x (lit< tt) refl (lit< tt) v
+valid_wide (Lh x) v = immediate_wide 0x03 1 x (lit< tt) refl (lit< tt) v
+valid_wide (Lw x) v = immediate_wide 0x03 2 x (lit< tt) refl (lit< tt) v
+valid_wide (Ld x) v = immediate_wide 0x03 3 x (lit< tt) refl (lit< tt) v
+valid_wide (Lbu x) v = immediate_wide 0x03 4 x (lit< tt) refl (lit< tt) v
+valid_wide (Lhu x) v = immediate_wide 0x03 5 x (lit< tt) refl (lit< tt) v
+valid_wide (Lwu x) v = immediate_wide 0x03 6 x (lit< tt) refl (lit< tt) v
+valid_wide (Sb x) v = store_wide 0x23 0 x (lit< tt) refl (lit< tt) v
+valid_wide (Sh x) v = store_wide 0x23 1 x (lit< tt) refl (lit< tt) v
+valid_wide (Sw x) v = store_wide 0x23 2 x (lit< tt) refl (lit< tt) v
+valid_wide (Sd x) v = store_wide 0x23 3 x (lit< tt) refl (lit< tt) v
+valid_wide (Addi x) v = immediate_wide 0x13 0 x (lit< tt) refl (lit< tt) v
+valid_wide (Slti x) v = immediate_wide 0x13 2 x (lit< tt) refl (lit< tt) v
+valid_wide (Sltiu x) v = immediate_wide 0x13 3 x (lit< tt) refl (lit< tt) v
+valid_wide (Xori x) v = immediate_wide 0x13 4 x (lit< tt) refl (lit< tt) v
+valid_wide (Ori x) v = immediate_wide 0x13 6 x (lit< tt) refl (lit< tt) v
+valid_wide (Andi x) v = immediate_wide 0x13 7 x (lit< tt) refl (lit< tt) v
+valid_wide (Slli x) v = shift_wide 0x13 1 0x00 x (lit< tt) refl (lit< tt) (lit< tt) v
+valid_wide (Srli x) v = shift_wide 0x13 5 0x00 x (lit< tt) refl (lit< tt) (lit< tt) v
+valid_wide (Srai x) v = shift_wide 0x13 5 0x10 x (lit< tt) refl (lit< tt) (lit< tt) v
+valid_wide (Add x) v = register_wide 0x33 0 0x00 x (lit< tt) refl (lit< tt) (lit< tt) v
+valid_wide (Sub x) v = register_wide 0x33 0 0x20 x (lit< tt) refl (lit< tt) (lit< tt) v
+valid_wide (Sll x) v = register_wide 0x33 1 0x00 x (lit< tt) refl (lit< tt) (lit< tt) v
+valid_wide (Slt x) v = register_wide 0x33 2 0x00 x (lit< tt) refl (lit< tt) (lit< tt) v
+valid_wide (Sltu x) v = register_wide 0x33 3 0x00 x (lit< tt) refl (lit< tt) (lit< tt) v
+valid_wide (Xor x) v = register_wide 0x33 4 0x00 x (lit< tt) refl (lit< tt) (lit< tt) v
+valid_wide (Srl x) v = register_wide 0x33 5 0x00 x (lit< tt) refl (lit< tt) (lit< tt) v
+valid_wide (Sra x) v = register_wide 0x33 5 0x20 x (lit< tt) refl (lit< tt) (lit< tt) v
+valid_wide (Or x) v = register_wide 0x33 6 0x00 x (lit< tt) refl (lit< tt) (lit< tt) v
+valid_wide (And x) v = register_wide 0x33 7 0x00 x (lit< tt) refl (lit< tt) (lit< tt) v
+valid_wide (Addiw x) v = immediate_wide 0x1b 0 x (lit< tt) refl (lit< tt) v
+valid_wide (Slliw x) v = word_shift_wide 0x1b 1 0x00 x (lit< tt) refl (lit< tt) (lit< tt) v
+valid_wide (Srliw x) v = word_shift_wide 0x1b 5 0x00 x (lit< tt) refl (lit< tt) (lit< tt) v
+valid_wide (Sraiw x) v = word_shift_wide 0x1b 5 0x20 x (lit< tt) refl (lit< tt) (lit< tt) v
+valid_wide (Addw x) v = register_wide 0x3b 0 0x00 x (lit< tt) refl (lit< tt) (lit< tt) v
+valid_wide (Subw x) v = register_wide 0x3b 0 0x20 x (lit< tt) refl (lit< tt) (lit< tt) v
+valid_wide (Sllw x) v = register_wide 0x3b 1 0x00 x (lit< tt) refl (lit< tt) (lit< tt) v
+valid_wide (Srlw x) v = register_wide 0x3b 5 0x00 x (lit< tt) refl (lit< tt) (lit< tt) v
+valid_wide (Sraw x) v = register_wide 0x3b 5 0x20 x (lit< tt) refl (lit< tt) (lit< tt) v
+valid_wide (Fence x) v = ordering_wide 0x0f 0 x (lit< tt) refl (lit< tt) v
+valid_wide (Mul x) v = register_wide 0x33 0 0x01 x (lit< tt) refl (lit< tt) (lit< tt) v
+valid_wide (Mulh x) v = register_wide 0x33 1 0x01 x (lit< tt) refl (lit< tt) (lit< tt) v
+valid_wide (Mulhsu x) v = register_wide 0x33 2 0x01 x (lit< tt) refl (lit< tt) (lit< tt) v
+valid_wide (Mulhu x) v = register_wide 0x33 3 0x01 x (lit< tt) refl (lit< tt) (lit< tt) v
+valid_wide (Div x) v = register_wide 0x33 4 0x01 x (lit< tt) refl (lit< tt) (lit< tt) v
+valid_wide (Divu x) v = register_wide 0x33 5 0x01 x (lit< tt) refl (lit< tt) (lit< tt) v
+valid_wide (Rem x) v = register_wide 0x33 6 0x01 x (lit< tt) refl (lit< tt) (lit< tt) v
+valid_wide (Remu x) v = register_wide 0x33 7 0x01 x (lit< tt) refl (lit< tt) (lit< tt) v
+valid_wide (Mulw x) v = register_wide 0x3b 0 0x01 x (lit< tt) refl (lit< tt) (lit< tt) v
+valid_wide (Divw x) v = register_wide 0x3b 4 0x01 x (lit< tt) refl (lit< tt) (lit< tt) v
+valid_wide (Divuw x) v = register_wide 0x3b 5 0x01 x (lit< tt) refl (lit< tt) (lit< tt) v
+valid_wide (Remw x) v = register_wide 0x3b 6 0x01 x (lit< tt) refl (lit< tt) (lit< tt) v
+valid_wide (Remuw x) v = register_wide 0x3b 7 0x01 x (lit< tt) refl (lit< tt) (lit< tt) v
+valid_wide (LrW x) v = reserve_wide 0x2f 2 0x02 x (lit< tt) refl (lit< tt) (lit< tt) v
+valid_wide (ScW x) v = memory_wide 0x2f 2 0x03 x (lit< tt) refl (lit< tt) (lit< tt) v
+valid_wide (AmoswapW x) v = memory_wide 0x2f 2 0x01 x (lit< tt) refl (lit< tt) (lit< tt) v
+valid_wide (AmoaddW x) v = memory_wide 0x2f 2 0x00 x (lit< tt) refl (lit< tt) (lit< tt) v
+valid_wide (AmoxorW x) v = memory_wide 0x2f 2 0x04 x (lit< tt) refl (lit< tt) (lit< tt) v
+valid_wide (AmoandW x) v = memory_wide 0x2f 2 0x0c x (lit< tt) refl (lit< tt) (lit< tt) v
+valid_wide (AmoorW x) v = memory_wide 0x2f 2 0x08 x (lit< tt) refl (lit< tt) (lit< tt) v
+valid_wide (AmominW x) v = memory_wide 0x2f 2 0x10 x (lit< tt) refl (lit< tt) (lit< tt) v
+valid_wide (AmomaxW x) v = memory_wide 0x2f 2 0x14 x (lit< tt) refl (lit< tt) (lit< tt) v
+valid_wide (AmominuW x) v = memory_wide 0x2f 2 0x18 x (lit< tt) refl (lit< tt) (lit< tt) v
+valid_wide (AmomaxuW x) v = memory_wide 0x2f 2 0x1c x (lit< tt) refl (lit< tt) (lit< tt) v
+valid_wide (LrD x) v = reserve_wide 0x2f 3 0x02 x (lit< tt) refl (lit< tt) (lit< tt) v
+valid_wide (ScD x) v = memory_wide 0x2f 3 0x03 x (lit< tt) refl (lit< tt) (lit< tt) v
+valid_wide (AmoswapD x) v = memory_wide 0x2f 3 0x01 x (lit< tt) refl (lit< tt) (lit< tt) v
+valid_wide (AmoaddD x) v = memory_wide 0x2f 3 0x00 x (lit< tt) refl (lit< tt) (lit< tt) v
+valid_wide (AmoxorD x) v = memory_wide 0x2f 3 0x04 x (lit< tt) refl (lit< tt) (lit< tt) v
+valid_wide (AmoandD x) v = memory_wide 0x2f 3 0x0c x (lit< tt) refl (lit< tt) (lit< tt) v
+valid_wide (AmoorD x) v = memory_wide 0x2f 3 0x08 x (lit< tt) refl (lit< tt) (lit< tt) v
+valid_wide (AmominD x) v = memory_wide 0x2f 3 0x10 x (lit< tt) refl (lit< tt) (lit< tt) v
+valid_wide (AmomaxD x) v = memory_wide 0x2f 3 0x14 x (lit< tt) refl (lit< tt) (lit< tt) v
+valid_wide (AmominuD x) v = memory_wide 0x2f 3 0x18 x (lit< tt) refl (lit< tt) (lit< tt) v
+valid_wide (AmomaxuD x) v = memory_wide 0x2f 3 0x1c x (lit< tt) refl (lit< tt) (lit< tt) v
+valid_wide Ecall v = (lit< tt, refl)
+valid_wide Ebreak v = (lit< tt, refl)
