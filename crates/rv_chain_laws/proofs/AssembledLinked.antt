@@ -1,6 +1,6 @@
 -- What an assembled source becomes is a linked program of it.
 
-use Rattle.std.proofs.Common.{◌≡◌, ℕ, suc, ◌+◌, ◌-◌, ◌*◌, ◌%◌, ◌<◌, ◌≤◌, List, [], ◌∷◌, ◌++◌, length, refl, sym, ap, ◌∙◌, subst, arith, Option, Some, None, append-nil}
+use Rattle.std.proofs.Common.{◌≡◌, ℕ, suc, ◌+◌, ◌-◌, ◌*◌, ◌%◌, ◌^◌, ◌<◌, ◌≤◌, List, [], ◌∷◌, ◌++◌, length, refl, sym, ap, ◌∙◌, subst, arith, Option, Some, None, append-nil}
 use Rattle.std.specs.Prelude.{flat_map, IsTrue}
 use Rattle.std.specs.List.{AllByRecursion}
 use Rattle.std.specs.Int.{w32, to_le_bytes}
@@ -8,6 +8,7 @@ use Rattle.rv_encode.specs.Word.{form, word}
 use Rattle.rv_parse_laws.specs.Statement.{Statement, Label, Norvc, Globl, Instruction, Directs, Spoken}
 use Rattle.rv_map.specs.Map.{Map}
 use Rattle.rv_image.specs.Linked.{Linked}
+use Rattle.rv_image.specs.Executable.{linked_image}
 use Rattle.rv_chain_laws.specs.Sections.{goes_to_text, goes_to_rodata, goes_to_data}
 use Rattle.rv_chain_laws.specs.Sites.{Site, Program, program}
 use Rattle.rv_chain_laws.specs.Meaning.{expansion}
@@ -17,8 +18,10 @@ use Rattle.rv_chain_laws.specs.Contents.{words, code_bytes, contents, zeros, Has
 use Rattle.rv_chain_laws.specs.Assembled.{rows_from, size_all, base, word_bytes, code, code_of, IsCoded, AreCoded, IsProgram}
 use Rattle.rv_chain_laws.proofs.AssembledRows.{spoken, sites_one, site_at}
 use Rattle.rv_chain_laws.proofs.AssembledFits.{expanded-is, sites-are, the_block, text_block, no_block}
+use Rattle.rv_chain_laws.specs.Headline.{RunsAgree}
 use Rattle.rv_chain_laws.proofs.Wide.{IsWide, valid_wide}
 use Rattle.rv_chain_laws.proofs.Assembled.{assembled_fits, assembled_resolves}
+use Rattle.rv_chain_laws.proofs.Contents.{linked_agrees}
 
 module _ (p : Program) where
   -- the code is the words of the instructions
@@ -87,3 +90,7 @@ assembled_linked a ss l h =
       rodata = h.rodata ∙ ap (contents (spelled p) m.rodata.start) (sym (no_block goes_to_rodata ss m is.coded refl));
       «data» = h.data ∙ ap (contents (spelled p) m.data.start) (sym (no_block goes_to_data ss m is.coded refl));
     }
+
+-- so it runs as its source does, for every input and every limit
+pub assembled_agrees : (a : ℕ) (ss : List Spoken) (l : Linked) → IsProgram a ss l → l.map.entry < 2 ^ 64 → l.map.entry % 2 ≡ 0 → RunsAgree (ss ∷ []) l.map (linked_image l)
+assembled_agrees a ss l h below even = linked_agrees a (ss ∷ []) l (assembled_linked a ss l h) below even

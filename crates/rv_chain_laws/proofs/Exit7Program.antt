@@ -15,7 +15,7 @@ use Rattle.rv_chain_laws.specs.Exit7Executable.{exit7_image, exit7_linked}
 use Rattle.rv_chain_laws.specs.Assembled.{AreCoded, IsProgram}
 use Rattle.rv_chain_laws.specs.Meaning.{add_immediate}
 use Rattle.rv_chain_laws.specs.SourceRun.{source_run}
-use Rattle.rv_chain_laws.proofs.Assembled.{assembled_agrees}
+use Rattle.rv_chain_laws.proofs.AssembledLinked.{assembled_agrees}
 
 valid7 : IsValid (add_immediate 10 0 7)
 valid7 = (lit< tt, lit< tt, (omega (arith, ints), omega (arith, ints)))
