@@ -1,20 +1,18 @@
 -- A line that was written is read again, whatever follows it.
 
-use Rattle.std.proofs.Common.{◌≡◌, ℕ, ◌+◌, ◌^◌, ◌<◌, ◌≤◌, Bool, true, false, List, [], ◌∷◌, ◌++◌, length, get_or, inl, inr, ltb, leb, Option, Some, None, IsTrue, codes, refl, sym, ap, ◌∙◌, append_assoc, arith}
+use Rattle.std.proofs.Common.{◌≡◌, ℕ, ◌<◌, ◌≤◌, false, List, [], ◌∷◌, ◌++◌, length, get_or, inl, inr, ltb, leb, Some, IsTrue, codes, refl, sym, ap, ◌∙◌, append_assoc, arith}
 use Rattle.std.specs.List.{list_all, flat_map}
-use Rattle.std.specs.Fmt.{digits, digit_glyph}
-use Rattle.std.specs.Char.{digit_value}
+use Rattle.std.specs.Fmt.{digits}
 use Rattle.std.proofs.lemmas.Bool.{and_parts, leb-true}
-use Rattle.std.proofs.lemmas.Bool.Decides.{nat_tests}
 use Rattle.std.proofs.lemmas.List.Sums.{AllPass-from_list_all}
 use Rattle.rv_map.specs.declared.map.Region.{Region}
 use Rattle.rv_map.specs.declared.map.Row.{Row}
 use Rattle.rv_map.specs.Map.{Map, Global}
 use Rattle.rv_map.specs.Name.{is_name, is_name_byte}
 use Rattle.rv_map.specs.Limits.{IsNumber, IsRegion, IsGlobal, IsRow, IsMap}
-use Rattle.rv_map.specs.Text.{hexadecimal, line_text, region_line, gap_line, global_line, row_line, region_lines, head_lines}
-use Rattle.rv_map.specs.Numeral.{IsBase, is_digit, number_of}
-use Rattle.rv_map.specs.Reading.{cut_at, behind, number_at, region_at, global_at, row_at, head_at}
+use Rattle.rv_map.specs.Text.{hexadecimal, line_text, gap_line, global_line, row_line, head_lines}
+use Rattle.rv_map.specs.Numeral.{IsBase, is_digit}
+use Rattle.rv_map.specs.Reading.{number_at, region_at, global_at, row_at, head_at}
 use Rattle.rv_map.proofs.Cutting.{cut_again, behind_again}
 use Rattle.rv_map.proofs.Numbers.{number_again, digits_pass_at, digit_above}
 

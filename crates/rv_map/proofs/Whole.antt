@@ -11,7 +11,7 @@ use Rattle.rv_map.specs.declared.map.Global.{Global as DeclaredGlobal}
 use Rattle.rv_map.specs.Map.{Map, Global, global_of}
 use Rattle.rv_map.specs.Name.{is_name}
 use Rattle.rv_map.specs.Limits.{IsNumber, IsRegion, IsGlobal, IsRow, IsMap}
-use Rattle.rv_map.specs.Text.{line_text, gap_line, global_line, row_line, head_lines, map_lines, map_text}
+use Rattle.rv_map.specs.Text.{line_text, gap_line, global_line, row_line, head_lines, map_text}
 use Rattle.rv_map.specs.Reading.{behind, region_at, global_at, row_at, head_at}
 use Rattle.rv_map.proofs.Lines.{gap_again, global_again, row_again, head_again, only_head}
 

@@ -1,6 +1,6 @@
 -- The row of an address.
 
-use Rattle.std.specs.Prelude.{ℕ, ◌==◌, ◌&&◌, nat_lt, Bool, Option, Some, None}
+use Rattle.std.specs.Prelude.{ℕ, ◌==◌, ◌&&◌, nat_lt, Bool}
 use Rattle.rv_map.specs.declared.map.Row.{Row}
 
 -- a row with bytes that starts there

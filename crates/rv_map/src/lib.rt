@@ -10,7 +10,7 @@ mod reading;
 mod tests;
 mod writing;
 
-pub use law::one_map;
+pub use law::{one_map, reread};
 pub use lookup::row_at;
 pub use map::{Global, Map, Region, Row};
 pub use reading::read;

@@ -1,6 +1,6 @@
 //! A map's text, read and written again, and texts that are no map's.
 
-use crate::{Region, Row, one_map, read, row_at, write};
+use crate::{Region, Row, one_map, read, reread, row_at, write};
 use std::alloc::{AllocError, Global as Allocator};
 use std::test::Fail;
 
@@ -53,6 +53,8 @@ fn reads_exit7(rt: HostRuntime) -> Result<(), Fail> {
     assert!(rt; row_at(&map, 0x10000) == Some(&rows[1]));
     assert!(rt; row_at(&map, 0x10002).is_none());
     assert!(rt; write(rt.alloc(), &map)?.as_slice() == EXIT7);
+    let again = reread(rt.alloc(), &map)?.ok_or("its text is a map's")?;
+    assert!(rt; again == map);
     Ok(())
 }
 

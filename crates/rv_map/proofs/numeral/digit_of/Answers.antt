@@ -1,4 +1,4 @@
-use Rattle.std.proofs.Common.{◌≡◌, ◌+◌, ◌-◌, ◌≤◌, ◌⊎◌, inl, inr, arith, ◌∙◌}
+use Rattle.std.proofs.Common.{inl, inr, arith, ◌∙◌}
 use Rattle.std.proofs.lemmas.Bool.{lt-ltb, le-ltb}
 use Rattle.rv_map.proofs.Digits.{no_digit, digit_test}
 use Rattle.rv_map.proofs.numeral.digit_of.Goals as goal

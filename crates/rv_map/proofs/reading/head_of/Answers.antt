@@ -1,4 +1,3 @@
-use Rattle.rv_map.specs.Map.{map_of}
 use Rattle.rv_map.proofs.Lines.{head_taken}
 use Rattle.rv_map.proofs.reading.head_of.Goals as goal
 

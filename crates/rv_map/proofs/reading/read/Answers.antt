@@ -1,4 +1,4 @@
-use Rattle.std.proofs.Common.{◌≡◌, [], length, map, Some, sym, ap, ◌∙◌}
+use Rattle.std.proofs.Common.{length, map, Some, sym, ap, ◌∙◌}
 use Rattle.std.proofs.lemmas.Bool.{eqb-true, eq-eqb, false≢true}
 use Rattle.rv_map.specs.Map.{map_of, global_of}
 use Rattle.rv_map.proofs.Whole.{Found, found_in, has_head, whole_text}

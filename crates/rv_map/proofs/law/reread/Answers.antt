@@ -1,0 +1,6 @@
+use Rattle.std.proofs.Common.{◌∙◌}
+use Rattle.rv_map.specs.Map.{map_of}
+use Rattle.rv_map.proofs.law.reread.Goals as goal
+
+pub returns : goal.returns
+returns c = c.read.ensures.only (map_of c.args.map.now) c.known.ensures (c.deref.ensures.value ∙ c.in_ok-text.ensures)
