@@ -1,8 +1,7 @@
--- Memory that holds the code of an assembled source realizes the source at its map.
+-- Words that lie in memory are fetched.
 
 use Rattle.std.proofs.Common.{◌≡◌, ℕ, zero, suc, ◌+◌, ◌*◌, ◌/◌, ◌%◌, ◌^◌, ◌<◌, ◌≤◌, true, List, [], ◌∷◌, ◌++◌, length, refl, sym, ap, ◌∙◌, subst, arith, Some}
 use Rattle.std.specs.Prelude.{◌&&◌, ◌==◌, if◌then◌else◌, ⊤}
-use Rattle.std.specs.List.{AllByRecursion}
 use Rattle.std.specs.Int.{w32, to_le_bytes}
 use Rattle.rv_isa.specs.declared.instruction.Inst.{Inst}
 use Rattle.rv_isa.specs.Ranges.{IsValid}
@@ -10,15 +9,6 @@ use Rattle.rv_isa_laws.specs.Memory.{Mem, Execute, may, number_at}
 use Rattle.rv_encode.specs.Word.{form, word, Spells}
 use Rattle.rv_machine_laws.specs.Reader.{Reader}
 use Rattle.rv_machine_laws.specs.Run.{NoRight, Got, spelled, length_at, fetch}
-use Rattle.rv_parse_laws.specs.Statement.{Statement, Label, Norvc, Globl, Instruction, Directs, Spoken}
-use Rattle.rv_chain_laws.specs.Sites.{Site, Program}
-use Rattle.rv_chain_laws.specs.Meaning.{expansion}
-use Rattle.rv_chain_laws.specs.Realizes.{HoldsLines}
-use Rattle.rv_chain_laws.specs.Fits.{IsRowOf}
-use Rattle.rv_chain_laws.specs.Assembled.{size_all, base, word_bytes, code, AreCoded, IsCoded}
-use Rattle.rv_chain_laws.proofs.AssembledRows.{spoken, sites_one, site_at}
-use Rattle.rv_chain_laws.proofs.AssembledFits.{expanded-is}
-use Rattle.rv_chain_laws.proofs.Wide.{IsWide, valid_wide}
 
 -- these bytes lie in memory from an address on
 abbrev pub HasBytes : Mem → ℕ → List ℕ → Type 0
@@ -67,38 +57,3 @@ may_all m (suc n) a h below =
 -- the bytes from a on, up to a stop, may be executed
 abbrev pub Runs : Mem → ℕ → ℕ → Type 0
 Runs m a stop = (x : ℕ) → a ≤ x → x < stop → m.has x Execute ≡ true
-
-module _ {StandsFor : ℕ → Inst → Type 0} (reader : Reader Spells StandsFor) (m : Mem) (p : Program) (stop : ℕ) (room : stop < 2 ^ 64) where
-  holds_by : (says : Statement) (line k a : ℕ) (ss : List Spoken) → IsCoded says → HasBytes m a (code (spoken line says ∷ ss)) → a + size_all (spoken line says ∷ ss) ≤ stop → Runs m a stop → ((b : ℕ) → HasBytes m b (code ss) → b + size_all ss ≤ stop → Runs m b stop → AllByRecursion (HoldsLines reader m p) (sites_one (suc k) b ss)) → AllByRecursion (HoldsLines reader m p) (sites_one k a (spoken line says ∷ ss))
-  holds_by (Label name) line k a ss c h fits runs ih = (
-    record {
-      lines = [];
-      are_lines = (refl, omega arith);
-      stand = tt;
-      below = omega arith;
-      size = (refl, omega arith, omega arith, refl);
-    },
-    ih (a + 0) (subst (λ x. HasBytes m x (code ss)) (let e : a ≡ a + 0 = omega arith in e) h) (omega arith) (λ x l u. runs x (omega arith) u),
-  )
-  holds_by Norvc line k a ss c h fits runs ih = ih (a + 0) (subst (λ x. HasBytes m x (code ss)) (let e : a ≡ a + 0 = omega arith in e) h) (omega arith) (λ x l u. runs x (omega arith) u)
-  holds_by (Globl names) line k a ss c h fits runs ih = ih (a + 0) (subst (λ x. HasBytes m x (code ss)) (let e : a ≡ a + 0 = omega arith in e) h) (omega arith) (λ x l u. runs x (omega arith) u)
-  holds_by (Instruction mnemonic operands) line k a ss (i, same, valid) h fits runs ih =
-      let s : Site = site_at k a line 4 1 (Instruction mnemonic operands) in
-      let e : expansion p s ≡ Some (i ∷ []) = expanded-is p s mnemonic operands i same in
-      let wide : IsWide i = valid_wide i valid in
-      let held : HasBytes m a (to_le_bytes w32 (word (form i)) ++ code ss) = subst (λ o. HasBytes m a (word_bytes o ++ code ss)) same h in
-      let got : fetch reader m a ≡ Got i 4 = fetch-word reader m a i (word (form i)) (code ss) refl wide.0 wide.1 valid (omega arith) (may_all m 4 a (λ x l u. runs x l (omega arith)) (omega arith)) held in (
-        record {
-          lines = record { address = a; bytes = 4; instruction = i } ∷ [];
-          are_lines = (e, (refl, refl));
-          stand = ((got, valid), tt);
-          below = omega arith;
-          size = subst (λ o. IsRowOf o s.row) (sym e) (refl, omega arith, omega arith, refl);
-        },
-        ih (a + 4) (bytes_behind m a (to_le_bytes w32 (word (form i))) (code ss) held) (omega arith) (λ x l u. runs x (omega arith) u),
-      )
-  holds_by (Directs directive) line k a ss c h fits runs ih = absurd c
-
-  pub holds_all : (k a : ℕ) (ss : List Spoken) → AreCoded ss → HasBytes m a (code ss) → a + size_all ss ≤ stop → Runs m a stop → AllByRecursion (HoldsLines reader m p) (sites_one k a ss)
-  holds_all k a [] c h fits runs = tt
-  holds_all k a (s ∷ ss) (c, cs) h fits runs = holds_by s.says s.line k a ss c h fits runs (λ b g f r. holds_all (suc k) b ss cs g f r)

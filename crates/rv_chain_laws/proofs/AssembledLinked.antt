@@ -14,12 +14,11 @@ use Rattle.rv_chain_laws.specs.Sites.{Site, Program, program}
 use Rattle.rv_chain_laws.specs.Meaning.{expansion}
 use Rattle.rv_chain_laws.specs.Fits.{blocks, aligned}
 use Rattle.rv_chain_laws.specs.Start.{spelled}
-use Rattle.rv_chain_laws.specs.Contents.{words, code_bytes, contents, zeros, HasWord, IsWritten, IsLinked}
+use Rattle.rv_chain_laws.specs.Contents.{words, code_bytes, contents, zeros, IsWritten, IsLinked}
 use Rattle.rv_chain_laws.specs.Assembled.{rows_from, size_all, base, word_bytes, code, code_of, IsCoded, AreCoded, IsProgram}
 use Rattle.rv_chain_laws.proofs.AssembledRows.{spoken, sites_one, site_at}
 use Rattle.rv_chain_laws.proofs.AssembledFits.{expanded-is, sites-are, the_block, text_block, no_block}
 use Rattle.rv_chain_laws.specs.Headline.{RunsAgree}
-use Rattle.rv_chain_laws.proofs.Wide.{IsWide, valid_wide}
 use Rattle.rv_chain_laws.proofs.Assembled.{assembled_fits, assembled_resolves}
 use Rattle.rv_chain_laws.proofs.Contents.{linked_agrees}
 
@@ -55,8 +54,7 @@ module _ (p : Program) where
   written_by (Instruction mnemonic operands) line k a ss (i, same, valid) ih =
       let s : Site = site_at k a line 4 1 (Instruction mnemonic operands) in
       let e : expansion p s ≡ Some (i ∷ []) = expanded-is p s mnemonic operands i same in
-      let wide : IsWide i = valid_wide i valid in
-      (λ x. (i ∷ [], e, ((valid, wide.0, wide.1), tt), refl), ih (a + 4))
+      (λ x. (i ∷ [], e, (valid, tt), refl), ih (a + 4))
   written_by (Directs directive) line k a ss c ih = absurd c
 
   written_all : (k a : ℕ) (ss : List Spoken) → AreCoded ss → AreWritten (sites_one k a ss)

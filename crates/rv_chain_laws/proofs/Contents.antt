@@ -28,9 +28,10 @@ use Rattle.rv_chain_laws.specs.Fits.{Fits, IsRowOf, IsPaddingIn, SizeFits, State
 use Rattle.rv_chain_laws.specs.Start.{is_within, is_in, right_at, first_byte, byte_of, spelled}
 use Rattle.rv_chain_laws.specs.SourceRun.{Place, Starts, Gap, Outside, starts_or_inside, place, found}
 use Rattle.rv_chain_laws.specs.Realizes.{StandsIn, HoldsLines, Realizes}
-use Rattle.rv_chain_laws.specs.Contents.{words, code_bytes, contents, zeros, HasWord, IsWritten, IsLinked}
+use Rattle.rv_chain_laws.specs.Contents.{words, code_bytes, contents, zeros, IsWritten, IsLinked}
 use Rattle.rv_chain_laws.specs.Headline.{RunsAgree}
 use Rattle.rv_chain_laws.proofs.AssembledCode.{HasBytes, bytes_behind, fetch-word, may_all, Runs}
+use Rattle.rv_chain_laws.proofs.Wide.{valid_wide}
 use Rattle.rv_chain_laws.proofs.Simulation.{find_holds, agreement_of_image}
 use Rattle.rv_chain_laws.proofs.Regions.{Sized, LiesIn, Misses, AllIn, IsAligned, byte_at, byte_zero, above, end_above, lie_blocks, held_blocks, zero_blocks, length_blocks}
 use Rattle.rv_chain_laws.proofs.Homes.{sections_of, sections_in, IsAtHome, homes, all_join, all_map, all_both, to_blocks, from_blocks}
@@ -60,11 +61,12 @@ words_length [] = refl
 words_length (i ∷ is) = length-append (to_le_bytes w32 (word (form i))) (words (Some is)) ∙ (let e = words_length is in let g : 4 + length (words (Some is)) ≡ 4 * suc (length is) = omega arith in g)
 
 module _ {StandsFor : ℕ → Inst → Type 0} (reader : Reader Spells StandsFor) (m : Mem) (stop : ℕ) (room : stop < 2 ^ 64) where
-  lines_stand : (a : ℕ) (is : List Inst) → AllByRecursion HasWord is → HasBytes m a (words (Some is)) → Runs m a stop → a + 4 * length is ≤ stop → AllByRecursion (StandsIn reader m) (lines_from a is)
+  lines_stand : (a : ℕ) (is : List Inst) → AllByRecursion IsValid is → HasBytes m a (words (Some is)) → Runs m a stop → a + 4 * length is ≤ stop → AllByRecursion (StandsIn reader m) (lines_from a is)
   unfolding lines_from
   lines_stand a [] ws h runs fits = tt
-  lines_stand a (i ∷ is) ((valid, below, wide), ws) h runs fits =
-      let got : fetch reader m a ≡ Got i 4 = fetch-word reader m a i (word (form i)) (words (Some is)) refl below wide valid (omega arith) (may_all m 4 a (λ x l u. runs x l (omega arith)) (omega arith)) h in
+  lines_stand a (i ∷ is) (valid, ws) h runs fits =
+      let wide = valid_wide i valid in
+      let got : fetch reader m a ≡ Got i 4 = fetch-word reader m a i (word (form i)) (words (Some is)) refl wide.0 wide.1 valid (omega arith) (may_all m 4 a (λ x l u. runs x l (omega arith)) (omega arith)) h in
       ((got, valid), lines_stand (a + 4) is ws (bytes_behind m a (to_le_bytes w32 (word (form i))) (words (Some is)) h) (λ x l u. runs x (omega arith) u) (omega arith))
 
   holds_written : (p : Program) (s : Site) → IsWritten p s → HasBytes m s.row.address (code_bytes p s) → Runs m s.row.address stop → s.row.address + s.row.bytes ≤ stop → IsRowOf (expansion p s) s.row → HoldsLines reader m p s

@@ -34,13 +34,9 @@ contents bytes stop (b ∷ bs) =
     let start = aligned b.alignment stop in
     zeros (start - stop) ++ (flat_map bytes b.sites ++ contents bytes (start + size (rows_of b)) bs)
 
--- the instruction has a word, which ends in the bits 11
-abbrev pub HasWord : Inst → Type 0
-HasWord i = IsValid i × (word (form i) < 2 ^ 32) × (word (form i) % 4 ≡ 3)
-
 -- a statement is written by words: its instructions, four bytes each
 abbrev pub IsWritten : Program → Site → Type 0
-IsWritten p s = (instructions : List Inst) × (expansion p s ≡ Some instructions) × AllByRecursion HasWord instructions × (s.row.bytes ≡ 4 * length instructions)
+IsWritten p s = (instructions : List Inst) × (expansion p s ≡ Some instructions) × AllByRecursion IsValid instructions × (s.row.bytes ≡ 4 * length instructions)
 
 -- the linked program of sources: its map fits them, and each region has the bytes of its sections, bss zeros
 pub record IsLinked (sources : List (List Spoken)) (text_start : ℕ) (l : Linked) : Type 0 where
