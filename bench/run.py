@@ -16,6 +16,8 @@ RV = HERE.parent / "rv"
 GCC = "riscv64-unknown-elf-gcc"
 FLAGS = "-march=rv64imac -mabi=lp64 -O2 -ffreestanding -nostdlib -static -Wl,--no-warn-rwx-segments".split()
 ROUNDS = 40
+AS = "riscv64-unknown-elf-as"
+SOURCE_BYTES = 16 * 2**20
 
 
 def missing(tool):
@@ -90,9 +92,58 @@ def kernel(folder):
     print(f"{count} instructions, counted by rv run --limit")
 
 
+def lines():
+    """The lines of a source without an end: instructions of each format, and a label before every eighth."""
+    formats = (
+        "addi a{0}, a{1}, {2}",
+        "add a{0}, a{1}, t0",
+        "lw a{0}, {2}(sp)",
+        "sd a{0}, -{2}(s{1})  # keep",
+        "lui a{0}, 0x{2:x}",
+        "slli t{1}, a{0}, {1}",
+        "amoadd.d.aq a{0}, a{1}, (t0)",
+        "jalr ra, {2}(a{1})",
+    )
+    yield from (".option norvc", ".globl _start", "_start:")
+    number = 0
+    while True:
+        number += 1
+        if number % 8 == 0:
+            yield f"label_{number}:"
+        yield "    " + formats[number % 8].format(number % 8, number % 5, number % 2000)
+
+
+def write_source(path):
+    """Writes a source of the length that is measured; it answers how many lines it has."""
+    count, length = 0, 0
+    with path.open("w") as file:
+        for line in lines():
+            length += len(line) + 1
+            if length > SOURCE_BYTES:
+                return count
+            count += 1
+            file.write(line + "\n")
+
+
+def reading(folder):
+    """Reading a source: bytes a second, of rv, which builds the executable, and of GNU as, which writes an object."""
+    source = folder / "source.s"
+    count = write_source(source)
+    print(f"Building a source of {source.stat().st_size} bytes, {count} lines")
+    commands = [[RV, "build", "-o", folder / "executable", source]]
+    if not missing(AS):
+        commands.append([AS, "-march=rv64ima", "-mabi=lp64", "-o", folder / "object", source])
+    for command in commands:
+        status = subprocess.run(command, capture_output=True).returncode
+        seconds, _ = best(command, b"")
+        rate = source.stat().st_size / seconds / 1e6
+        note = "" if status == 0 else ", BUT REFUSES IT"
+        print(f"{Path(command[0]).name:24} {seconds:6.2f} s {rate:7.0f} million bytes per second{note}")
+
+
 def main():
     with tempfile.TemporaryDirectory() as folder:
-        for benchmark in (kernel,):
+        for benchmark in (kernel, reading):
             benchmark(Path(folder))
 
 
