@@ -2,9 +2,7 @@
    The input is the number of rounds in two digits. Each round executes the same instructions and prints the
    same checksum. */
 
-typedef unsigned long u64;
-typedef unsigned int u32;
-typedef unsigned char u8;
+#include "../examples/c/bare.h"
 
 #define SIEVE 65536
 #define SIDE 48
@@ -13,16 +11,6 @@ typedef unsigned char u8;
 static u8 composite[SIEVE];
 static u32 left[SIDE][SIDE], right[SIDE][SIDE], product[SIDE][SIDE];
 static u64 items[ITEMS];
-
-static u64 call(u64 number, u64 a, u64 b, u64 c)
-{
-    register u64 a7 __asm__("a7") = number;
-    register u64 a0 __asm__("a0") = a;
-    register u64 a1 __asm__("a1") = b;
-    register u64 a2 __asm__("a2") = c;
-    __asm__ volatile("ecall" : "+r"(a0) : "r"(a7), "r"(a1), "r"(a2) : "memory");
-    return a0;
-}
 
 static u64 next(u64 *seed)
 {
@@ -108,20 +96,16 @@ static void print(u64 value)
     for (int i = 15; i >= 0; i--, value >>= 4)
         line[i] = "0123456789abcdef"[value & 15];
     line[16] = '\n';
-    call(64, 1, (u64)line, sizeof line);
+    put(line, sizeof line);
 }
 
-/* The linker may address data from gp, which it wants set (psABI, "Global-pointer Relaxation"). */
-__asm__(".globl _start\n_start:\n.option push\n.option norelax\nla gp, __global_pointer$\n.option pop\ncall begin\n");
-
-__attribute__((used)) static void begin(void)
+static int program(void)
 {
     char digits[2] = "00";
-    call(63, 0, (u64)digits, sizeof digits);
+    get(digits, sizeof digits);
     for (int rounds = (digits[0] - '0') * 10 + digits[1] - '0'; rounds > 0; rounds--) {
         u64 seed = 88172645463325252;
         print(primes() ^ matrices(&seed) ^ sorted(&seed) ^ fibonacci(20));
     }
-    call(93, 0, 0, 0);
-    __builtin_unreachable();
+    return 0;
 }

@@ -39,7 +39,7 @@ pub struct Part<'a> {
 }
 
 /// Text at 10000h.
-pub fn text(bytes: &[u8]) -> Part<'_> {
+pub(super) fn text(bytes: &[u8]) -> Part<'_> {
     Part {
         address: TEXT,
         flags: EXECUTE,
@@ -48,7 +48,7 @@ pub fn text(bytes: &[u8]) -> Part<'_> {
 }
 
 /// Variables at an address.
-pub fn variables(address: u64, bytes: &[u8]) -> Part<'_> {
+pub(super) fn variables(address: u64, bytes: &[u8]) -> Part<'_> {
     Part {
         address,
         flags: READ | WRITE,
@@ -57,7 +57,7 @@ pub fn variables(address: u64, bytes: &[u8]) -> Part<'_> {
 }
 
 /// Words as a program has them.
-pub fn code(alloc: Global, words: &[u32]) -> Result<Vec<u8>, AllocError> {
+pub(super) fn code(alloc: Global, words: &[u32]) -> Result<Vec<u8>, AllocError> {
     let mut bytes = Vec::new(alloc);
     for word in words {
         bytes.extend_from_slice(&word.to_le_bytes())?;
@@ -77,7 +77,7 @@ fn put_header(file: &mut Vec<u8>, part: &Part<'_>, place: usize) -> Result<(), A
 }
 
 /// An executable of some segments, which begins at 10000h.
-pub fn executable(alloc: Global, parts: &[Part<'_>]) -> Result<Vec<u8>, AllocError> {
+pub(super) fn executable(alloc: Global, parts: &[Part<'_>]) -> Result<Vec<u8>, AllocError> {
     let mut file = Vec::from_slice(alloc, &HEADER)?;
     let count = (parts.len() % 0x1_0000) as u16;
     file.extend_from_slice(&count.to_le_bytes())?;
@@ -94,7 +94,12 @@ pub fn executable(alloc: Global, parts: &[Part<'_>]) -> Result<Vec<u8>, AllocErr
 }
 
 /// What a run of some segments comes to.
-pub fn ran(alloc: Global, parts: &[Part<'_>], input: &[u8], limit: u64) -> Result<Outcome, Fail> {
+pub(super) fn ran(
+    alloc: Global,
+    parts: &[Part<'_>],
+    input: &[u8],
+    limit: u64,
+) -> Result<Outcome, Fail> {
     let image = load(alloc, &executable(alloc, parts)?)?;
     Ok(run(alloc, image, input, limit)?)
 }
@@ -102,7 +107,7 @@ pub fn ran(alloc: Global, parts: &[Part<'_>], input: &[u8], limit: u64) -> Resul
 /// What a table's guest comes to. For each row it takes a1 and a2, sets a3 to 0, does three instructions
 /// with s2 at the place, and compares a0 and a3. It exits with 1 where all are as the rows say, and comes
 /// to a breakpoint at the first that is not.
-pub fn compared(alloc: Global, body: [u32; 3], rows: &[[i64; 4]]) -> Result<Outcome, Fail> {
+pub(super) fn compared(alloc: Global, body: [u32; 3], rows: &[[i64; 4]]) -> Result<Outcome, Fail> {
     let [first, second, third] = body;
     let words = [
         0x0001_1437, // lui s0, 0x11
