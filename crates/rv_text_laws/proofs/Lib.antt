@@ -9,3 +9,4 @@ pub mod Tokens
 pub mod Expressions
 pub mod ExpressionFound
 pub mod ExpressionValues
+pub mod Trees

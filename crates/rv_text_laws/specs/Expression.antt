@@ -165,3 +165,32 @@ pub record ReadsTree (is_register : List ℕ → Bool) (ts : List Token) (tree :
   pub ordered : IsAt 0 tree
   pub within : nesting tree ≤ deepest
   pub ends : EndsBefore rest
+
+-- the expressions behind a node, the last one first; nothing changes where an operand is missing
+abbrev pub built_by : Node → List Tree → List Tree
+built_by (Primary_node p) xs = Leaf p ∷ xs
+built_by (Unary_node o) [] = []
+built_by (Unary_node o) (x ∷ xs) = Unary o x ∷ xs
+built_by (Binary_node o) [] = []
+built_by (Binary_node o) (y ∷ []) = y ∷ []
+built_by (Binary_node o) (y ∷ x ∷ xs) = Binary o x y ∷ xs
+
+-- the expressions behind nodes
+abbrev pub built : List Node → List Tree → List Tree
+built [] xs = xs
+built (n ∷ ns) xs = built ns (built_by n xs)
+
+abbrev pub last_built : List Tree → Tree
+last_built [] = Leaf (Literal 0)
+last_built (x ∷ xs) = x
+
+-- the expression that nodes in postfix form stand for; it has no parentheses
+unfoldable pub tree_of : List Node → Tree
+tree_of ns = last_built (built ns [])
+
+-- an expression without its parentheses
+abbrev pub bare : Tree → Tree
+bare (Leaf p) = Leaf p
+bare (Unary o x) = Unary o (bare x)
+bare (Paren x) = bare x
+bare (Binary o x y) = Binary o (bare x) (bare y)

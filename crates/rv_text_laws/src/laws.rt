@@ -4,8 +4,8 @@ ghost use Rattle.std.specs.Prelude.{◌≡◌, ℕ, ◌≤◌, Bool, true, List,
 ghost use Rattle.rv_text_laws.specs.Grammar.{Kind, Spells, Stops};
 ghost use Rattle.rv_text_laws.specs.Lexing.{Token, Lexes};
 ghost use Rattle.rv_text_laws.specs.Front.{tokens_from};
-ghost use Rattle.rv_text_laws.specs.Expression.{Primary, Tree, Node, IsAt, nesting, deepest, postfix, ReadsTree};
-ghost use Rattle.rv_text_laws.specs.Values.{Meaning, value_of, after_nodes, nodes_fit};
+ghost use Rattle.rv_text_laws.specs.Expression.{Primary, Tree, Node, IsAt, nesting, deepest, postfix, ReadsTree, tree_of, bare};
+ghost use Rattle.rv_text_laws.specs.Values.{Meaning, Value, value_of, after_nodes, nodes_fit};
 ghost use Rattle.rv_text_laws.specs.ExpressionAt.{expression_at};
 
 /// At most one piece stands at the front of bytes, and it has one kind.
@@ -44,4 +44,20 @@ pub fn postfix_value()
 /// Few values wait at a time in an expression that is read.
 pub fn postfix_fits()
     ensures { (tree : Tree) → IsAt 0 tree → nesting tree ≤ deepest → nodes_fit (postfix tree) 0 ≡ true }
+{}
+
+/// The nodes of an expression stand for it, without its parentheses.
+pub fn postfix_tree()
+    ensures { (tree : Tree) → tree_of (postfix tree) ≡ bare tree }
+{}
+
+/// Parentheses have no value of their own.
+pub fn bare_value()
+    ensures { (meanings : Primary → Meaning) (tree : Tree) → value_of meanings (bare tree) ≡ value_of meanings tree }
+{}
+
+/// Nodes that fit leave the value of the expression that they stand for.
+pub fn nodes_value()
+    ensures { (meanings : Primary → Meaning) (nodes : List Node) → nodes_fit nodes 0 ≡ true
+        → (others : List Value) × (after_nodes meanings nodes [] ≡ value_of meanings (tree_of nodes) ∷ others) }
 {}

@@ -11,7 +11,8 @@ mod sign;
 
 pub use class::Class;
 pub use laws::{
-    expression_found, expression_is, one_list, one_piece, postfix_fits, postfix_value, some_list,
+    bare_value, expression_found, expression_is, nodes_value, one_list, one_piece, postfix_fits,
+    postfix_tree, postfix_value, some_list,
 };
 pub use operator::{BinaryOperator, Frame, UnaryOperator};
 pub use sign::Sign;

@@ -1,0 +1,5 @@
+use Rattle.rv_text_laws.proofs.Trees.{postfix_tree}
+use Rattle.rv_text_laws.proofs.laws.postfix_tree.Goals as goal
+
+pub returns : goal.returns
+returns c = postfix_tree
