@@ -3,7 +3,8 @@
 use Rattle.std.proofs.Common.{◌≡◌, ℕ, true, false, List, [], ◌∷◌, ◌++◌, Ok, Err, refl, sym, ◌∙◌, ap, map, Bor}
 use Rattle.rv_text_laws.specs.Lexing.{Token}
 use Rattle.rv_parse_laws.specs.Syntax.{is_comma, A_register}
-use Rattle.rv_parse_laws.specs.Parsing.{Wrong, Read, symbol_at, end_at, further_names_at, names_at}
+use Rattle.rv_parse_laws.specs.Parsing.{symbol_at, end_at, further_names_at, names_at}
+use Rattle.rv_text_laws.specs.Wrong.{Wrong, Read}
 use Rattle.rv_parse_laws.proofs.NameLists.{prepended, names_first, names_step, names_step_wrong, names_end}
 use Rattle.rv_parse.specs.View.{now_of}
 

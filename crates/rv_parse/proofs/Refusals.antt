@@ -9,8 +9,9 @@ use Rattle.rv_text.specs.declared.fault.SourceCode.{SourceCode}
 use Rattle.rv_text.specs.declared.fault.SourceCode.TheVariants.{Limit}
 use Rattle.rv_text.specs.Fault.{number_of}
 use Rattle.rv_parse_laws.specs.Statement.{Spoken}
-use Rattle.rv_parse_laws.specs.Faults.{limit}
+use Rattle.rv_text_laws.specs.Wrong.{limit}
 use Rattle.rv_parse_laws.specs.Parsing as parsing
+use Rattle.rv_text_laws.specs.Wrong as wrongs
 use Rattle.rv_parse_laws.specs.Reading.{SaysUpTo, said, past_line, longest_source, most_statements, Refuses}
 use Rattle.rv_parse_laws.proofs.FirstFault.{FirstInTokens, InTokens, wrong_first, past_first, all_good, line_refused, before_tokens, token_refused}
 use Rattle.rv_parse.specs.declared.cursor.Wrong.{Wrong}
@@ -38,7 +39,7 @@ first_in_tokens bytes ts w is (t, us, ss, (ps, cut, said_is), no_end, stops) = g
 
     go : ((parsing.part_at (t ∷ us) ≡ Err (wrong_of w)) × ((length ss < most_statements) ⊎ ((length ss ≡ most_statements) × (w.place ≡ t.start))))
         ⊎ ((length ss ≡ most_statements) × (wrong_of w ≡ record { place = t.start; line = t.line; code = limit })
-        × ((v : parsing.Wrong) → parsing.part_at (t ∷ us) ≡ Err v → v.place ≡ t.start → ⊥)) → FirstInTokens bytes (wrong_of w)
+        × ((v : wrongs.Wrong) → parsing.part_at (t ∷ us) ≡ Err v → v.place ≡ t.start → ⊥)) → FirstInTokens bytes (wrong_of w)
     go (inl (wrong, fewer)) = wrong_first bytes ts ps t us (wrong_of w) lexes cut wrong (code_within w.code) (few fewer)
     go (inr (most, same, not)) = subst (FirstInTokens bytes) (sym same) (past_first bytes ts ps t us lexes cut no_end (sym counts ∙ most) not)
 

@@ -3,7 +3,7 @@
 use Rattle.std.specs.Prelude.{◌≡◌, ◌<◌, ℕ, false, List, [], ◌∷◌, length, Result, Ok, Err, ◌⊎◌, if◌then◌else◌}
 use Rattle.rv_parse_laws.specs.Statement.{Spoken}
 use Rattle.rv_parse_laws.specs.Syntax.{is_end}
-use Rattle.rv_parse_laws.specs.Faults.{limit}
+use Rattle.rv_text_laws.specs.Wrong.{limit}
 use Rattle.rv_parse_laws.specs.Reading.{most_statements, SaysUpTo, Refuses}
 use Rattle.rv_text.specs.declared.fault.SourceFault.{SourceFault}
 use Rattle.rv_text.specs.declared.fault.SourceFault.TheVariants as faults
@@ -12,6 +12,7 @@ use Rattle.rv_text.specs.Token.{token_of, kind_of}
 use Rattle.rv_text.specs.Fault.{number_of}
 use Rattle.rv_text.specs.Left.{tokens_left}
 use Rattle.rv_parse_laws.specs.Parsing as parsing
+use Rattle.rv_text_laws.specs.Wrong as wrongs
 use Rattle.rv_parse.specs.declared.cursor.Cursor.{Cursor}
 use Rattle.rv_parse.specs.declared.cursor.Wrong.{Wrong}
 use Rattle.rv_parse.specs.declared.cursor.Refusal.{Refusal}
@@ -22,21 +23,21 @@ unfoldable pub left : Cursor → List lexing.Token
 left c = token_of c.next ∷ (if lexing.is_last (kind_of c.next.kind) then [] else tokens_left c.lexer)
 
 -- the wrong token that an error names
-abbrev pub wrong_of : Wrong → parsing.Wrong
+abbrev pub wrong_of : Wrong → wrongs.Wrong
 wrong_of w = record { place = w.place; line = w.line; code = number_of w.code }
 
 -- a call's result, as `view` sees it, is what the reading at the front of the tokens gives
-abbrev pub Gives : {X Y : Type 0} → (X → Y) → Result X Wrong → Result Y parsing.Wrong → Type 0
+abbrev pub Gives : {X Y : Type 0} → (X → Y) → Result X Wrong → Result Y wrongs.Wrong → Type 0
 Gives view (Ok x) read = read ≡ Ok (view x)
 Gives view (Err w) read = read ≡ Err (wrong_of w)
 
 -- a call's error is that of the reading, unless memory ran out
-abbrev pub Fails : {Y : Type 0} → Refusal → Result Y parsing.Wrong → Type 0
+abbrev pub Fails : {Y : Type 0} → Refusal → Result Y wrongs.Wrong → Type 0
 Fails (refusals.At w) read = read ≡ Err (wrong_of w)
 Fails refusals.OutOfMemory read = Unit {0}
 
 -- the same where memory may run out
-abbrev pub Answers : {X Y : Type 0} → (X → Y) → Result X Refusal → Result Y parsing.Wrong → Type 0
+abbrev pub Answers : {X Y : Type 0} → (X → Y) → Result X Refusal → Result Y wrongs.Wrong → Type 0
 Answers view (Ok x) read = read ≡ Ok (view x)
 Answers view (Err e) read = Fails e read
 
@@ -46,7 +47,7 @@ abbrev pub StopsAt : Refusal → ℕ → lexing.Token → List lexing.Token → 
 StopsAt (refusals.At w) count t ts =
     ((parsing.part_at ts ≡ Err (wrong_of w)) × ((count < most_statements) ⊎ ((count ≡ most_statements) × (w.place ≡ t.start))))
     ⊎ ((count ≡ most_statements) × (wrong_of w ≡ record { place = t.start; line = t.line; code = limit })
-    × ((v : parsing.Wrong) → parsing.part_at ts ≡ Err v → v.place ≡ t.start → ⊥))
+    × ((v : wrongs.Wrong) → parsing.part_at ts ≡ Err v → v.place ≡ t.start → ⊥))
 StopsAt refusals.OutOfMemory count t ts = Unit {0}
 
 -- the tokens say statements up to a token where no further one is answered

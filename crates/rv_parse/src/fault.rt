@@ -5,8 +5,8 @@ ghost use Rattle.std.specs.List.{list_all};
 ghost use Rattle.rv_text_laws.specs.Bytes.{is_decimal};
 ghost use Rattle.rv_text.specs.Fault.{number_of};
 ghost use Rattle.rv_text.specs.Token.{token_of, kind_of};
-ghost use Rattle.rv_parse_laws.specs.Parsing.{is_long, place_of};
-ghost use Rattle.rv_parse_laws.specs.Faults.{limit, wrong_or, wrong_name, wrong_register, wrong_value, wrong_literal, wrong_after, wrong_symbol, wrong_option, wrong_word, wrong_start, wrong_number, wrong_label, is_operator, wrong_base, bad_operands};
+ghost use Rattle.rv_parse_laws.specs.Faults.{wrong_or, wrong_name, wrong_register, wrong_value, wrong_literal, wrong_after, wrong_symbol, wrong_option, wrong_word, wrong_start, wrong_number, wrong_label, is_operator, wrong_base, bad_operands};
+ghost use Rattle.rv_text_laws.specs.Wrong.{is_long, place_of, limit};
 ghost use Rattle.rv_parse.specs.View.{slot_of};
 
 use crate::kinds;
@@ -47,7 +47,7 @@ fn is_limit(code: SourceCode) -> bool
 }
 
 /// Where a token's fault stands: at its first byte, but a name's limit at the first byte past it.
-#[tactic(auto, unfolding(rv_parse_laws::specs::Parsing::place_of))]
+#[tactic(auto, unfolding(rv_text_laws::specs::Wrong::place_of))]
 pub fn place_of(token: Token<'_>, code: SourceCode) -> usize
     ensures { result ≡ place_of (token_of token.entry) (number_of code) }
 {

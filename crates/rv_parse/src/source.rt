@@ -4,7 +4,7 @@ ghost use Rattle.std.specs.Prelude.{◌≡◌, ◌<◌, ◌≤◌, [], IfOk, IfE
 ghost use Rattle.rv_text.specs.Token.{token_of, kind_of};
 ghost use Rattle.rv_text_laws.specs.Lexing.{newlines};
 ghost use Rattle.rv_parse_laws.specs.Syntax.{is_end, Says};
-ghost use Rattle.rv_parse_laws.specs.Faults.{limit};
+ghost use Rattle.rv_text_laws.specs.Wrong.{limit};
 ghost use Rattle.rv_parse_laws.specs.Parsing.{part_at};
 ghost use Rattle.rv_parse_laws.specs.Reading.{Reads, past_line, most_statements, SaysUpTo};
 ghost use Rattle.rv_text.specs.Left.{tokens_left};

@@ -8,8 +8,8 @@ use Rattle.rv_text_laws.proofs.Cut.{unique, nothing_none}
 use Rattle.rv_text_laws.proofs.Tokens.{one_list}
 use Rattle.rv_parse_laws.specs.Statement.{Spoken}
 use Rattle.rv_parse_laws.specs.Syntax.{Part, IsPart, StopsPart, is_end}
-use Rattle.rv_parse_laws.specs.Faults.{limit}
-use Rattle.rv_parse_laws.specs.Parsing.{Wrong, part_at, place_of, after_first}
+use Rattle.rv_parse_laws.specs.Parsing.{part_at, after_first}
+use Rattle.rv_text_laws.specs.Wrong.{limit, Wrong, place_of}
 use Rattle.rv_parse_laws.specs.Reading.{AreParts, Reads, said, past_line, longest_source, most_statements, CanGoOn, code_at, WrongToken, PastStatements, Stands, Fault, Refuses}
 use Rattle.rv_parse_laws.proofs.Shown.{heads, tails}
 use Rattle.rv_parse_laws.proofs.PartWrong.{code_in_part, part_shown}

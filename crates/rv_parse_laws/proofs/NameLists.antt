@@ -5,7 +5,8 @@ use Rattle.rv_text_laws.specs.Lexing.{Token}
 use Rattle.rv_parse_laws.specs.Syntax.{is_comma, symbol_of}
 use Rattle.rv_parse_laws.specs.Faults.{wrong_symbol}
 use Rattle.rv_parse_laws.proofs.Steps.{taken_ok}
-use Rattle.rv_parse_laws.specs.Parsing.{Wrong, wrong, nowhere, Read, ◌>>=◌, taken, symbol_at, with_first, with_name, further_names_at, no_names_at, names_at}
+use Rattle.rv_parse_laws.specs.Parsing.{◌>>=◌, taken, symbol_at, with_first, with_name, further_names_at, no_names_at, names_at}
+use Rattle.rv_text_laws.specs.Wrong.{Wrong, wrong, nowhere, Read}
 
 -- names before those that follow them
 abbrev pub prepended : List (List ℕ) → Read (List (List ℕ)) → Read (List (List ℕ))

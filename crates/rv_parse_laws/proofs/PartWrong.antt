@@ -9,7 +9,8 @@ use Rattle.rv_parse_laws.specs.declared.mnemonic.Mnemonic.{Mnemonic}
 use Rattle.rv_parse_laws.specs.Words.{Beginning, Begins_instruction, Begins_globl, Begins_option, Begins_nothing}
 use Rattle.rv_parse_laws.specs.Syntax.{symbol_of, begins, is_comma, is_colon, is_norvc, is_end, Slot, A_register, slots, IsStatement, AreOperands, AreNames, Part, Ends, Says, IsPart}
 use Rattle.rv_parse_laws.specs.Faults.{wrong_after, wrong_option, wrong_start, wrong_label}
-use Rattle.rv_parse_laws.specs.Parsing.{Wrong, wrong, Read, ◌>>=◌, seen_as, taken, end_at, operands_at, names_at, option_at, begun_at, colon_next, after_first, statement_at, part_at}
+use Rattle.rv_parse_laws.specs.Parsing.{◌>>=◌, seen_as, taken, end_at, operands_at, names_at, option_at, begun_at, colon_next, after_first, statement_at, part_at}
+use Rattle.rv_text_laws.specs.Wrong.{Wrong, wrong, Read}
 use Rattle.rv_parse_laws.specs.Reading.{CanGoOn, begins_label, is_label, code_in_operands, code_in_names, code_in_option, code_begun, code_at}
 use Rattle.rv_parse_laws.proofs.Steps.{bind_ok, seen_ok, taken_ok, tested_ok, bind_err, seen_err, taken_err, tested_err}
 use Rattle.rv_parse_laws.proofs.Parts.{begins_no_end}

@@ -10,7 +10,8 @@ use Rattle.rv_parse_laws.specs.Statement.{Expression, Literal, Minus, Operand, R
 use Rattle.rv_parse_laws.specs.Words.{Beginning, Begins_instruction, Begins_globl, Begins_option, Begins_nothing}
 use Rattle.rv_parse_laws.specs.Syntax.{register_of, symbol_of, literal_of, value_of, begins, is_comma, is_colon, is_minus, is_norvc, is_end, is_opening, is_closing, is_zero, accesses_of, Slot, A_register, A_value, An_offset, A_base, A_zero, Some_accesses, A_comma, An_opening, A_closing, Slots, Stops, Takes, Chooses, single, can_begin, value_begins, front_begins, slots, IsValue, IsOperand, IsTaken, AreOperands, AreFurtherNames, AreNames, IsStatement, Part, Ends, Says, IsPart, EndsHere, StopsPart}
 use Rattle.rv_parse_laws.specs.Faults.{wrong_value, wrong_literal, wrong_first, wrong_after, wrong_symbol, wrong_option, wrong_start, wrong_label}
-use Rattle.rv_parse_laws.specs.Parsing.{Wrong, wrong, Read, nowhere, ◌>>=◌, seen_as, taken, literal_at, value_at, single_at, operand_at, end_at, taking, operands_at, symbol_at, with_first, with_name, further_names_at, names_at, option_at, begun_at, colon_next, after_first, statement_at, part_at}
+use Rattle.rv_parse_laws.specs.Parsing.{◌>>=◌, seen_as, taken, literal_at, value_at, single_at, operand_at, end_at, taking, operands_at, symbol_at, with_first, with_name, further_names_at, names_at, option_at, begun_at, colon_next, after_first, statement_at, part_at}
+use Rattle.rv_text_laws.specs.Wrong.{Wrong, wrong, Read, nowhere}
 use Rattle.rv_parse_laws.proofs.Steps.{bind_ok, seen_ok, taken_ok, tested_ok}
 
 -- a token that is one thing is not another

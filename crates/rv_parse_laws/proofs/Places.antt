@@ -14,9 +14,7 @@ use Rattle.rv_text_laws.specs.Grammar.{Kind, Name, Spells, Stops}
 use Rattle.rv_text_laws.specs.Lexing.{Token, newlines, placed, is_gap, tokens_of, bad, last_kind, is_last, last, Lexes}
 use Rattle.rv_text_laws.proofs.Pieces.{pieces}
 use Rattle.rv_text_laws.proofs.Tokens.{newlines-append}
-use Rattle.rv_parse_laws.specs.Syntax.{longest_name}
-use Rattle.rv_parse_laws.specs.Faults.{limit}
-use Rattle.rv_parse_laws.specs.Parsing.{is_long, place_of}
+use Rattle.rv_text_laws.specs.Wrong.{longest_name, limit, is_long, place_of}
 use Rattle.rv_parse_laws.proofs.Shown.{ended}
 
 -- the line of a token's faults is the token's

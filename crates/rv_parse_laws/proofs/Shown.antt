@@ -11,7 +11,8 @@ use Rattle.rv_parse_laws.specs.Statement.{Expression, Literal, Minus, Operand, R
 use Rattle.rv_parse_laws.specs.Words.{names_of, register, Beginning, Begins_instruction, Begins_globl, Begins_option, Begins_nothing}
 use Rattle.rv_parse_laws.specs.Syntax.{is_symbol, register_of, symbol_of, literal_of, value_of, begins, is_comma, is_colon, is_minus, is_norvc, is_end, Slot, A_register, A_value, An_offset, A_base, A_zero, Some_accesses, A_comma, An_opening, A_closing, access_sets, is_opening, is_closing, is_zero, accesses_of, accesses, single, value_begins, slots, IsValue, IsOperand, AreOperands, AreFurtherNames, AreNames, IsStatement, Part, Ends, Says, IsPart, EndsHere, StopsPart}
 use Rattle.rv_parse_laws.specs.Faults.{wrong_value, wrong_literal, wrong_after, wrong_symbol, wrong_option, wrong_start, wrong_label, wrong_first}
-use Rattle.rv_parse_laws.specs.Parsing.{Wrong, wrong, Read, nowhere, ◌>>=◌, seen_as, taken, literal_at, value_at, single_at, operand_at, end_at, operands_at, symbol_at, with_first, with_name, further_names_at, no_names_at, names_at, option_at, begun_at, colon_next, after_first, statement_at, part_at}
+use Rattle.rv_parse_laws.specs.Parsing.{◌>>=◌, seen_as, taken, literal_at, value_at, single_at, operand_at, end_at, operands_at, symbol_at, with_first, with_name, further_names_at, no_names_at, names_at, option_at, begun_at, colon_next, after_first, statement_at, part_at}
+use Rattle.rv_text_laws.specs.Wrong.{Wrong, wrong, Read, nowhere}
 use Rattle.rv_parse_laws.specs.Reading.{CanGoOn, begins_label, is_label, code_after_minus, code_in_value, code_in_operand, code_in_operands, code_in_names, code_in_option, code_begun, code_at}
 use Rattle.rv_parse_laws.proofs.Steps.{bind_ok, seen_ok, taken_ok, tested_ok, pair_parts, bind_err, seen_err, taken_err, tested_err}
 use Rattle.rv_parse_laws.proofs.Parts.{value_no_minus}

@@ -2,7 +2,8 @@
 
 use Rattle.std.proofs.Common.{◌≡◌, ℕ, Bool, true, false, cond, List, [], ◌∷◌, ◌++◌, Option, Some, None, Result, Ok, Err, refl, sym, ◌∙◌, ap, ◌⊎◌, inl, inr}
 use Rattle.rv_text_laws.specs.Lexing.{Token}
-use Rattle.rv_parse_laws.specs.Parsing.{Wrong, wrong, Read, ◌>>=◌, seen_as, taken}
+use Rattle.rv_parse_laws.specs.Parsing.{◌>>=◌, seen_as, taken}
+use Rattle.rv_text_laws.specs.Wrong.{Wrong, wrong, Read}
 
 pub bind_ok : {A B : Type 0} (r : Result A Wrong) (f : A → Result B Wrong) (y : B) → (r >>= f) ≡ Ok y → (x : A) × (r ≡ Ok x) × (f x ≡ Ok y)
 bind_ok (Ok x) f y e = (x, refl, e)

@@ -6,7 +6,8 @@ use Rattle.rv_text_laws.specs.Lexing.{Token, Lexes}
 use Rattle.rv_text_laws.proofs.Cut.{unique, none_nothing, nothing_none}
 use Rattle.rv_parse_laws.specs.Statement.{Statement, Label, Norvc, Globl, Instruction, Directs, Spoken}
 use Rattle.rv_parse_laws.specs.Syntax.{Slot, Part, Ends, Says, IsPart, StopsPart}
-use Rattle.rv_parse_laws.specs.Parsing.{Wrong, Read, part_at}
+use Rattle.rv_parse_laws.specs.Parsing.{part_at}
+use Rattle.rv_text_laws.specs.Wrong.{Wrong, Read}
 use Rattle.rv_text_laws.proofs.Tokens.{one_list, given}
 use Rattle.rv_parse_laws.specs.Reading.{AreParts, Reads, said, SaysUpTo, past_line, longest_source, most_statements}
 use Rattle.rv_text_laws.specs.Front.{tokens_from}

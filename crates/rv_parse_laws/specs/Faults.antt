@@ -7,8 +7,9 @@ use Rattle.rv_text_laws.specs.declared.sign.Sign.{Sign}
 use Rattle.rv_text_laws.specs.declared.sign.Sign.TheVariants.{Open, Plus, Minus as MinusSign, Star, Slash, Percent, ShiftLeft, ShiftRight, Bar, Ampersand, Caret, Tilde, Equal, NotEqual, LessGreater, Less, Greater, LessEqual, GreaterEqual, DoubleSlash}
 use Rattle.rv_text_laws.specs.Bytes.{is_decimal}
 use Rattle.rv_text_laws.specs.Grammar.{Kind, Mark, Name as NameToken, Number, Reference as ReferenceToken, Bad_word, Text, Bad_byte, Bad_token}
+use Rattle.rv_text_laws.specs.Wrong.{longest_name, limit}
 use Rattle.rv_parse_laws.specs.Words.{register, is_known, is_among, option_words, Beginning, Begins_instruction, Begins_globl, Begins_option, Begins_nothing}
-use Rattle.rv_parse_laws.specs.Syntax.{longest_name, Slot, A_register, A_value, An_offset, A_base, A_zero, Some_accesses, A_comma, An_opening, A_closing, begins, value_begins}
+use Rattle.rv_parse_laws.specs.Syntax.{Slot, A_register, A_value, An_offset, A_base, A_zero, Some_accesses, A_comma, An_opening, A_closing, begins, value_begins}
 
 -- the codes, by their numbers
 abbrev pub bad_byte : ℕ
@@ -28,9 +29,6 @@ unknown_directive = 8
 
 abbrev pub unsupported_here : ℕ
 unsupported_here = 9
-
-abbrev pub limit : ℕ
-limit = 17
 
 -- a token that is wrong wherever it stands has a code of its own; every other has the code of its place
 abbrev pub wrong_or : Kind → ℕ → ℕ

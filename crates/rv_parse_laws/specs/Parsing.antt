@@ -1,39 +1,13 @@
 -- Parts of statements at the front of a list of tokens, as functions: what stands there and the tokens after it, or the
 -- first token that is wrong there, with its code.
 
-use Rattle.std.specs.Prelude.{◌≡◌, ℕ, ◌+◌, Bool, true, false, ◌&&◌, ◌==◌, nat_lt, List, [], ◌∷◌, ◌++◌, length, Option, Some, None, Result, Ok, Err, if◌then◌else◌}
-use Rattle.rv_text_laws.specs.Grammar.{Kind, Name as NameToken}
+use Rattle.std.specs.Prelude.{ℕ, Bool, true, false, List, [], ◌∷◌, ◌++◌, Option, Some, None, Result, Ok, Err, if◌then◌else◌}
 use Rattle.rv_text_laws.specs.Lexing.{Token}
+use Rattle.rv_text_laws.specs.Wrong.{Wrong, wrong, Read, nowhere}
 use Rattle.rv_parse_laws.specs.Statement.{Expression, Literal, Minus, Operand, Value, Statement, Label, Norvc, Globl, Instruction}
 use Rattle.rv_parse_laws.specs.Words.{Beginning, Begins_instruction, Begins_globl, Begins_option, Begins_nothing}
-use Rattle.rv_parse_laws.specs.Syntax.{longest_name, register_of, symbol_of, literal_of, value_of, begins, is_comma, is_colon, is_minus, is_norvc, is_end, Slot, A_register, A_value, An_offset, single, front_begins, Slots, Stops, Takes, Chooses, slots, Part, Ends, Says}
-use Rattle.rv_parse_laws.specs.Faults.{wrong_value, wrong_literal, wrong_first, wrong_after, wrong_or, wrong_symbol, wrong_option, wrong_start, wrong_label, bad_operands, limit}
-
--- a name that is longer than a symbol's
-abbrev pub is_long : Kind → Bool
-is_long (NameToken name) = nat_lt longest_name (length name)
-is_long _ = false
-
--- where a token's fault stands: at its first byte, but a name's limit at the first byte past it
-unfoldable pub place_of : Token → ℕ → ℕ
-place_of t code = if (code == limit) && is_long t.kind then t.start + longest_name else t.start
-
--- a token that is wrong where it stands: the place of the fault, its line and its code
-pub record Wrong : Type 0 where
-  pub place : ℕ
-  pub line : ℕ
-  pub code : ℕ
-
-abbrev pub wrong : Token → ℕ → Wrong
-wrong t code = record { place = place_of t code; line = t.line; code = code }
-
--- what is read at the front, and the tokens after it
-abbrev pub Read : Type 0 → Type 0
-Read X = Result (X × List Token) Wrong
-
--- no tokens are left: each list of tokens has a last one, so this is never read
-abbrev pub nowhere : Wrong
-nowhere = record { place = 0; line = 0; code = bad_operands }
+use Rattle.rv_parse_laws.specs.Syntax.{register_of, symbol_of, literal_of, value_of, begins, is_comma, is_colon, is_minus, is_norvc, is_end, Slot, A_register, A_value, An_offset, single, front_begins, Slots, Stops, Takes, Chooses, slots, Part, Ends, Says}
+use Rattle.rv_parse_laws.specs.Faults.{wrong_value, wrong_literal, wrong_first, wrong_after, wrong_or, wrong_symbol, wrong_option, wrong_start, wrong_label, bad_operands}
 
 infixl 10 ◌>>=◌
 abbrev pub ◌>>=◌ : {A B : Type 0} → Result A Wrong → (A → Result B Wrong) → Result B Wrong

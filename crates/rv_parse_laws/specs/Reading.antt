@@ -7,8 +7,9 @@ use Rattle.rv_text_laws.specs.Lexing.{Token, Lexes, newlines}
 use Rattle.rv_parse_laws.specs.Statement.{Statement, Label, Spoken}
 use Rattle.rv_parse_laws.specs.Syntax.{Part, Ends, Says, IsPart, StopsPart, is_end, is_comma, is_minus, is_colon, begins, Slot, A_register, A_value, An_offset, front_begins, Slots, Stops, Takes, Chooses, slots}
 use Rattle.rv_parse_laws.specs.Words.{Beginning, Begins_instruction, Begins_globl, Begins_option, Begins_nothing}
-use Rattle.rv_parse_laws.specs.Faults.{limit, bad_operands, wrong_first, wrong_literal, wrong_after, wrong_symbol, wrong_option, wrong_start, wrong_label}
-use Rattle.rv_parse_laws.specs.Parsing.{colon_next, place_of}
+use Rattle.rv_parse_laws.specs.Faults.{bad_operands, wrong_first, wrong_literal, wrong_after, wrong_symbol, wrong_option, wrong_start, wrong_label}
+use Rattle.rv_parse_laws.specs.Parsing.{colon_next}
+use Rattle.rv_text_laws.specs.Wrong.{limit, place_of}
 
 -- the longest source and the longest line without its line feed, in bytes, and the most statements
 abbrev pub longest_source : ℕ

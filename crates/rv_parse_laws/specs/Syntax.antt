@@ -7,6 +7,7 @@ use Rattle.rv_text_laws.specs.declared.sign.Sign.TheVariants.{Comma, Colon, Semi
 use Rattle.rv_text_laws.specs.Bytes.{value}
 use Rattle.rv_text_laws.specs.Grammar.{Kind, Newline, Mark, Name as NameToken, Number, Reference as ReferenceToken, Character, End}
 use Rattle.rv_text_laws.specs.Lexing.{Token}
+use Rattle.rv_text_laws.specs.Wrong.{longest_name}
 use Rattle.rv_parse_laws.specs.declared.mnemonic.Mnemonic.{Mnemonic}
 use Rattle.rv_parse_laws.specs.declared.mnemonic.Mnemonic.TheVariants.{Registers, Immediate, Shift, Upper, Load, Store, Jalr, LoadReserved, Atomic, Fence, FenceTso, Ecall, Ebreak, Li}
 use Rattle.rv_parse_laws.specs.declared.mnemonic.RegisterOperation.{RegisterOperation}
@@ -16,10 +17,6 @@ use Rattle.rv_parse_laws.specs.declared.mnemonic.ShiftOperation.TheVariants.{Sll
 use Rattle.rv_parse_laws.specs.declared.mnemonic.AccessSet.{AccessSet}
 use Rattle.rv_parse_laws.specs.Statement.{Expression, Literal, Name, Reference, Minus, Operand, Register, Value, Accesses, Statement, Label, Norvc, Globl, Instruction, Directs}
 use Rattle.rv_parse_laws.specs.Words.{register, named_in, Beginning, Begins_instruction, Begins_globl, Begins_option, Begins_nothing, beginning}
-
--- the longest name, in bytes
-abbrev pub longest_name : ℕ
-longest_name = 4095
 
 -- a name that a symbol may have: no register's, not `.` alone, and not too long
 unfoldable pub is_symbol : List ℕ → Bool

@@ -2,7 +2,7 @@
 
 use Rattle.std.specs.Prelude.{◌≡◌, ℕ, List, [], ◌∷◌, Result, Ok, Err, if◌then◌else◌}
 use Rattle.rv_text_laws.specs.Lexing as lexing
-use Rattle.rv_text_laws.specs.ExpressionAt as reading
+use Rattle.rv_text_laws.specs.Wrong as wrongs
 use Rattle.rv_text.specs.declared.cursor.Cursor.{Cursor}
 use Rattle.rv_text.specs.declared.cursor.Wrong.{Wrong}
 use Rattle.rv_text.specs.declared.cursor.Refusal.{Refusal}
@@ -20,15 +20,15 @@ abbrev pub IsAhead : Cursor → Type 0
 IsAhead c = tokens_left c.before ≡ left c
 
 -- the wrong token that an error names
-abbrev pub wrong_of : Wrong → reading.Wrong
-wrong_of w = record { start = w.start; line = w.line; code = number_of w.code }
+abbrev pub wrong_of : Wrong → wrongs.Wrong
+wrong_of w = record { place = w.place; line = w.line; code = number_of w.code }
 
 -- a call's error is that of the reading, unless memory ran out
-abbrev pub Fails : {Y : Type 0} → Refusal → Result Y reading.Wrong → Type 0
+abbrev pub Fails : {Y : Type 0} → Refusal → Result Y wrongs.Wrong → Type 0
 Fails (refusals.At w) read = read ≡ Err (wrong_of w)
 Fails refusals.OutOfMemory read = Unit {0}
 
 -- a call's result, as `view` sees it, is what the reading at the front of the tokens gives, unless memory ran out
-abbrev pub Answers : {X Y : Type 0} → (X → Y) → Result X Refusal → Result Y reading.Wrong → Type 0
+abbrev pub Answers : {X Y : Type 0} → (X → Y) → Result X Refusal → Result Y wrongs.Wrong → Type 0
 Answers view (Ok x) read = read ≡ Ok (view x)
 Answers view (Err e) read = Fails e read

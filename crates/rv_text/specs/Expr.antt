@@ -5,6 +5,7 @@ use Rattle.rv_text_laws.specs.declared.operator.Frame.{Frame}
 use Rattle.rv_text_laws.specs.Expression as expression
 use Rattle.rv_text_laws.specs.ExpressionAt as reading
 use Rattle.rv_text_laws.specs.Lexing.{Token}
+use Rattle.rv_text_laws.specs.Wrong as wrongs
 use Rattle.rv_text.specs.declared.expr.Expr.{Expr}
 use Rattle.rv_text.specs.declared.reading.Stage.{Stage}
 use Rattle.rv_text.specs.declared.reading.Stage.TheVariants as stages
@@ -55,8 +56,8 @@ abbrev pub expr_of : Expr → List expression.Node
 expr_of e = nodes_of e.nodes
 
 -- the fault of a reading: the code and the line of its wrong token
-abbrev pub NamesFault : {Y : Type 0} → SourceFault → Result Y reading.Wrong → Type 0
-NamesFault (faults.At code line) read = (w : reading.Wrong) × (read ≡ Err w) × (w.code ≡ number_of code) × (w.line ≡ line)
+abbrev pub NamesFault : {Y : Type 0} → SourceFault → Result Y wrongs.Wrong → Type 0
+NamesFault (faults.At code line) read = (w : wrongs.Wrong) × (read ≡ Err w) × (w.code ≡ number_of code) × (w.line ≡ line)
 NamesFault faults.OutOfMemory read = Unit {0}
 
 -- a fault stands only where the tokens begin with no expression

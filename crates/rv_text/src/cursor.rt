@@ -2,7 +2,7 @@
 
 ghost use Rattle.std.specs.Prelude.{◌≡◌, ◌∷◌, false};
 ghost use Rattle.rv_text_laws.specs.Lexing.{is_last};
-ghost use Rattle.rv_text_laws.specs.ExpressionAt.{wrong};
+ghost use Rattle.rv_text_laws.specs.Wrong.{wrong};
 ghost use Rattle.rv_text.specs.Fault.{number_of};
 ghost use Rattle.rv_text.specs.Token.{token_of, kind_of};
 ghost use Rattle.rv_text.specs.Left.{tokens_left};
@@ -10,18 +10,32 @@ ghost use Rattle.rv_text.specs.Cursor.{left, wrong_of, IsAhead};
 
 use crate::fault::SourceCode;
 use crate::lexer::Lexer;
+use crate::place::place_of;
 use crate::token::Token;
 use std::alloc::{AllocError, AllocFailed};
 
 /// A token that is wrong where it stands.
 #[derive(Clone, Copy, Debug, PartialEq, Eq, Drop)]
 pub struct Wrong {
-    /// The place of its first byte.
-    pub start: u32,
-    /// The line of its first byte.
+    /// The place of the fault: the token's first byte, but of a name that is too long the first byte past the limit.
+    pub place: usize,
+    /// The line of the token's first byte.
     pub line: u32,
     /// What is wrong with it.
     pub code: SourceCode,
+}
+
+impl Wrong {
+    /// The fault of a token with this code.
+    pub fn at(token: Token<'_>, code: SourceCode) -> Self
+        ensures { wrong_of result ≡ wrong (token_of token.entry) (number_of code) }
+    {
+        Wrong {
+            place: place_of(token, code),
+            line: token.line,
+            code,
+        }
+    }
 }
 
 /// Why nothing is read.
@@ -111,10 +125,6 @@ impl<'a> Cursor<'a> {
     pub fn wrong(&self, code: SourceCode) -> Wrong
         ensures { wrong_of result ≡ wrong (token_of self.now.next) (number_of code) }
     {
-        Wrong {
-            start: self.next.start,
-            line: self.next.line,
-            code,
-        }
+        Wrong::at(self.next, code)
     }
 }

@@ -17,12 +17,10 @@ use crate::expr::Expr;
 use crate::fault::{SourceCode, SourceFault};
 use crate::lexer::Lexer;
 use crate::node::{Node, Nodes, Symbol};
+use crate::place::LONGEST_NAME;
 use crate::token::TokenKind;
 use rv_text_laws::{BinaryOperator, Frame, Sign, UnaryOperator};
 use std::alloc::{AllocError, AllocFailed, Global};
-
-/// The longest name, in bytes.
-const LONGEST_NAME: usize = 4095;
 
 /// The most parentheses and operators of one operand in one another.
 const DEEPEST: usize = 64;

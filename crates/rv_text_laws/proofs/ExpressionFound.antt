@@ -9,7 +9,8 @@ use Rattle.rv_text_laws.specs.declared.operator.Frame.TheVariants.{Parenthesis, 
 use Rattle.rv_text_laws.specs.Grammar.{Kind}
 use Rattle.rv_text_laws.specs.Lexing.{Token}
 use Rattle.rv_text_laws.specs.Expression.{Primary, Tree, Leaf, Unary, Paren, Binary, level_of, Begin, Follow, begins, follows, A_primary, A_sign, An_opening, No_operand, An_operator, A_closing, A_comparison, Nothing_more, SpellsTree, IsAt, nesting, deepest, Node, Primary_node, Unary_node, Binary_node, postfix, EndsBefore, ReadsTree}
-use Rattle.rv_text_laws.specs.ExpressionAt.{Read, Stage, Wants, Has, depth, binds, settle, deeper, Step, Goes, Ends, Fails, step, step_wants, step_has, close, end, unclosed, read_from, expression_at}
+use Rattle.rv_text_laws.specs.ExpressionAt.{Stage, Wants, Has, depth, binds, settle, deeper, Step, Goes, Ends, Fails, step, step_wants, step_has, close, end, unclosed, read_from, expression_at}
+use Rattle.rv_text_laws.specs.Wrong.{Read}
 use Rattle.rv_text_laws.proofs.Expressions.{level_small, looser, le_true, goes, ends, fails}
 
 -- the last frame takes no operand before an operator of this level does

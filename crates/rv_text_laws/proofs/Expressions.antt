@@ -9,7 +9,8 @@ use Rattle.rv_text_laws.specs.declared.operator.Frame.TheVariants.{Parenthesis, 
 use Rattle.rv_text_laws.specs.Grammar.{Kind, Bad_byte, Bad_token, End}
 use Rattle.rv_text_laws.specs.Lexing.{Token, is_last}
 use Rattle.rv_text_laws.specs.Expression.{Tree, Leaf, Unary, Paren, Binary, level_of, begins, follows, A_primary, A_sign, An_opening, No_operand, An_operator, A_closing, Nothing_more, SpellsTree, IsAt, nesting, deepest, Node, Primary_node, Unary_node, Binary_node, postfix, EndsBefore, ReadsTree}
-use Rattle.rv_text_laws.specs.ExpressionAt.{wrong, Stage, Wants, Has, depth, binds, settle, Step, Goes, Ends, Fails, step, step_wants, step_has, close, end, unclosed, read_from, expression_at}
+use Rattle.rv_text_laws.specs.ExpressionAt.{Stage, Wants, Has, depth, binds, settle, Step, Goes, Ends, Fails, step, step_wants, step_has, close, end, unclosed, read_from, expression_at}
+use Rattle.rv_text_laws.specs.Wrong.{wrong}
 
 pub level_small : (o : BinaryOperator) → level_of o < 3
 level_small Multiply = omega arith

@@ -11,6 +11,7 @@ use Rattle.rv_text_laws.specs.declared.operator.BinaryOperator.{BinaryOperator}
 use Rattle.rv_text_laws.specs.declared.operator.BinaryOperator.TheVariants.{Multiply, Divide, Remainder, ShiftLeft, ShiftRight, Or, And, ExclusiveOr, Add, Subtract}
 use Rattle.rv_text_laws.specs.Grammar.{Kind, Mark, Name, Number, Reference as ReferenceToken, Bad_word, Text, Character, Bad_byte, Bad_token}
 use Rattle.rv_text_laws.specs.Lexing.{Token}
+use Rattle.rv_text_laws.specs.Wrong.{longest_name, limit}
 
 -- what stands in an expression without an operator
 pub data Primary : Type 0 where
@@ -41,10 +42,6 @@ level_of ExclusiveOr = 1
 level_of Add = 0
 level_of Subtract = 0
 
--- the longest name, in bytes
-abbrev pub longest_name : ℕ
-longest_name = 4095
-
 -- what a token is where an operand is wanted; a token that is none has the number of its refusal
 pub data Begin : Type 0 where
   A_primary : (primary : Primary) → Begin
@@ -57,7 +54,7 @@ abbrev pub named_operand : (List ℕ → Bool) → List ℕ → Begin
 named_operand is_register name =
     if is_register name then No_operand 7 else
     if bytes_eq name (codes ".") then A_primary Here else
-    if nat_le (length name) longest_name then A_primary (Symbol name) else No_operand 17
+    if nat_le (length name) longest_name then A_primary (Symbol name) else No_operand limit
 
 abbrev pub sign_begins : Sign → Begin
 sign_begins signs.Minus = A_sign Negate

@@ -9,24 +9,8 @@ use Rattle.rv_text_laws.specs.declared.operator.Frame.{Frame}
 use Rattle.rv_text_laws.specs.declared.operator.Frame.TheVariants.{Parenthesis, Prefix, Infix}
 use Rattle.rv_text_laws.specs.Grammar.{Kind, Mark, Bad_word, Bad_byte, Bad_token}
 use Rattle.rv_text_laws.specs.Lexing.{Token}
+use Rattle.rv_text_laws.specs.Wrong.{wrong, Read, nowhere}
 use Rattle.rv_text_laws.specs.Expression.{Begin, A_primary, A_sign, An_opening, No_operand, begins, Follow, An_operator, A_closing, A_comparison, Nothing_more, follows, level_of, deepest, Node, Primary_node, Unary_node, Binary_node}
-
--- a token that is wrong where it stands: the place and the line of its first byte, and the fault's code
-pub record Wrong : Type 0 where
-  pub start : ℕ
-  pub line : ℕ
-  pub code : ℕ
-
-abbrev pub wrong : Token → ℕ → Wrong
-wrong t code = record { start = t.start; line = t.line; code = code }
-
--- what is read at the front, and the tokens after it
-abbrev pub Read : Type 0 → Type 0
-Read X = Result (X × List Token) Wrong
-
--- no tokens are left: each list of tokens has a last one, so this is never read
-abbrev pub nowhere : Wrong
-nowhere = record { start = 0; line = 0; code = 7 }
 
 -- what is read so far: what waits for an operand, the last one first, and the nodes; and whether an operand comes next
 pub data Stage : Type 0 where

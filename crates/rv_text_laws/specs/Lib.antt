@@ -3,6 +3,7 @@ pub mod Bytes
 pub mod Strings
 pub mod Grammar
 pub mod Lexing
+pub mod Wrong
 pub mod Front
 pub mod Expression
 pub mod ExpressionAt

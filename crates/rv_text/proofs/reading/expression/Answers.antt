@@ -1,6 +1,6 @@
 -- Token by token.
 use Rattle.std.proofs.Common.{◌≡◌, ◌∙◌, sym, ap, Err}
-use Rattle.rv_text_laws.specs.ExpressionAt as grammar
+use Rattle.rv_text_laws.specs.Wrong.{Wrong}
 use Rattle.rv_text.specs.Nodes.{nodes_of}
 use Rattle.rv_text.specs.Fault.{number_of}
 use Rattle.rv_text.specs.Expr.{stack_of, stage_of}
@@ -27,4 +27,4 @@ returns-in-Ok-Ends-clause-reads g c =
 pub returns-in-Err-Wrong-clause-reads : goal.returns-in-Err-Wrong-clause-reads
 returns-in-Err-Wrong-clause-reads g c =
     failed _ _ c.tokens.cursor (stage_of c.tokens.frames.items c.tokens.stage) (number_of c.in-Err-Wrong.code) c.tokens.invariant.reads (rw c.in-Err-Wrong.field-0-is at c.in-Err-Wrong.ensures)
-    ∙ ap (λ (w : grammar.Wrong). Err w) (sym (rw c.in-Err-Wrong.field-0-is at c.wrong.ensures))
+    ∙ ap (λ (w : Wrong). Err w) (sym (rw c.in-Err-Wrong.field-0-is at c.wrong.ensures))
