@@ -1,19 +1,23 @@
 -- The stack of values as the code holds it.
 
-use Rattle.std.proofs.Common.{◌≡◌, ℕ, ◌+◌, ◌-◌, ◌<◌, ◌≤◌, ◌==◌, Bool, true, false, ◌&&◌, nat_lt, List, [], ◌∷◌, ◌++◌, length, get_or, drop, map, reverse, refl, sym, ◌∙◌, ap, arith, length-append}
+use Rattle.std.proofs.Common.{◌≡◌, ℕ, ◌+◌, ◌<◌, ◌≤◌, true, List, [], ◌∷◌, ◌++◌, length, get_or, drop, map, reverse, refl, sym, ◌∙◌, ap, subst, arith, length-append, Result}
 use Rattle.std.proofs.lemmas.List.{map-append, reverse-append, at_drop_more, at_drop_all}
-use Rattle.std.proofs.lemmas.Bool.{and_parts, ltb-true, eqb-true}
+use Rattle.std.proofs.lemmas.Bool.{and_parts, ltb-true}
 use Rattle.rv_text_laws.specs.declared.operator.UnaryOperator.{UnaryOperator}
 use Rattle.rv_text_laws.specs.declared.operator.BinaryOperator.{BinaryOperator}
-use Rattle.rv_text_laws.specs.Expression.{Primary, Tree, postfix, Node, Primary_node, Unary_node, Binary_node}
-use Rattle.rv_text_laws.specs.Values.{Meaning, Value, alone, both, meant, primary_value, value_of, after_node, after_nodes, node_fits, count_after, nodes_fit}
-use Rattle.rv_text_laws.proofs.ExpressionValues.{values_of_postfix}
+use Rattle.rv_text_laws.specs.Expression.{Primary, tree_of, Node, Primary_node, Unary_node, Binary_node}
+use Rattle.rv_text_laws.specs.Values.{Meaning, Value, alone, both, meant, primary_value, value_of, after_node, node_fits, count_after, nodes_fit}
+use Rattle.rv_text_laws.proofs.Trees.{lone_tree}
 use Rattle.rv_text.specs.declared.evaluation.Part.{Part}
 use Rattle.rv_text.specs.declared.node.Symbol.{Symbol}
 use Rattle.rv_text.specs.declared.node.Symbol.TheVariants as symbols
 use Rattle.rv_text.specs.declared.node.Node as code
 use Rattle.rv_text.specs.Nodes.{symbol_of, node_of}
-use Rattle.rv_text.specs.Eval.{part_of, tops}
+use Rattle.rv_text.specs.declared.evaluation.Value as code_value
+use Rattle.rv_text.specs.declared.expr.Expr.{Expr}
+use Rattle.rv_text.specs.declared.fault.SourceFault.{SourceFault}
+use Rattle.rv_text.specs.Expr.{alone as alone_nodes, expr_of, tree_of_expr}
+use Rattle.rv_text.specs.Eval.{part_of, tops, IsOutcome}
 
 pub tops_push : (items : List Part) (p : Part) → tops (items ++ p ∷ []) ≡ part_of p ∷ tops items
 unfolding tops
@@ -36,10 +40,10 @@ rest_fits n ns count after same e = ap (nodes_fit ns) same ∙ (and_parts (node_
 pub some_left : (count : ℕ) → nodes_fit [] count ≡ true → 0 < count
 some_left count e = ltb-true 0 count e
 
--- the last of a stack of one value
-pub last_value : (items front : List Part) (p : Part) (v : Value) → items ≡ front ++ p ∷ [] → tops items ≡ v ∷ [] → part_of p ≡ v
-last_value items front p v split is =
-    let same : part_of p ∷ tops front ≡ v ∷ [] = sym (tops_push front p) ∙ ap tops (sym split) ∙ is in
+-- the last of a stack
+pub last_value : (items front : List Part) (p : Part) (v : Value) (others : List Value) → items ≡ front ++ p ∷ [] → tops items ≡ v ∷ others → part_of p ≡ v
+last_value items front p v others split is =
+    let same : part_of p ∷ tops front ≡ v ∷ others = sym (tops_push front p) ∙ ap tops (sym split) ∙ is in
     cc
 
 -- what each node does to the stack
@@ -67,20 +71,14 @@ symbol_value m (symbols.Forward digits) = refl
 pub symbol_part : (m : Primary → Meaning) (s : Symbol) (p : Value) (meaning : Meaning) → p ≡ meant (symbol_of s) meaning → meaning ≡ m (symbol_of s) → p ≡ primary_value m (symbol_of s)
 symbol_part m s p meaning e f = e ∙ ap (meant (symbol_of s)) f ∙ sym (symbol_value m s)
 
--- a list of one
-pub one_of : (v w : Value) → v ∷ [] ≡ w ∷ [] → v ≡ w
-one_of v w e = cc
+-- a primary alone
+pub lone_value : (m : Primary → Meaning) (p : Primary) → value_of m (tree_of (alone_nodes p)) ≡ primary_value m p
+lone_value m p = ap (value_of m) (lone_tree p)
 
-pub none_empty : (items : List code.Node) (n : ℕ) → n ≡ length items → (n == 0) ≡ true → items ≡ []
-none_empty [] n same e = refl
-none_empty (x ∷ xs) n same e = absurd (omega (arith, same, eqb-true n 0 e))
-
--- the nodes of an expression have its value
-pub tree_value : (m : Primary → Meaning) (t : Tree) (ns : List Node) → ns ≡ postfix t → after_nodes m ns [] ≡ value_of m t ∷ []
-tree_value m t ns e = ap (λ (l : List Node). after_nodes m l []) e ∙ values_of_postfix m t
-
-pub lone_value : (m : Primary → Meaning) (t : Tree) (n : code.Node) (items : List code.Node) → items ≡ [] → node_of n ∷ map node_of items ≡ postfix t → after_node m (node_of n) [] ≡ value_of m t ∷ []
-lone_value m t n items none e = tree_value m t (node_of n ∷ []) (ap (λ (l : List code.Node). node_of n ∷ map node_of l) (sym none) ∙ e)
+pub lone_outcome : (m : Primary → Meaning) (p : Primary) (e : Expr) (result : Result code_value.Value SourceFault) (line : ℕ) (part : Value) → expr_of e ≡ alone_nodes p
+    → part ≡ primary_value m p → IsOutcome result line part → IsOutcome result line (value_of m (tree_of_expr e))
+lone_outcome m p e result line part is same h =
+    subst (IsOutcome result line) (same ∙ sym (lone_value m p) ∙ ap (λ (ns : List Node). value_of m (tree_of ns)) (sym is)) h
 
 -- the next of the nodes left, where they are lent
 pub next_node : (xs ys : List code.Node) (i : ℕ) (d : code.Node) → ys ≡ xs → i < length ys → map node_of (drop i xs) ≡ node_of (get_or ys i d) ∷ map node_of (drop (i + 1) xs)

@@ -1,11 +1,11 @@
 -- The steps of the lexer: a blank or a comment, a token, and the last token.
 
-use Rattle.std.proofs.Common.{◌≡◌, ℕ, zero, suc, ◌+◌, ◌<◌, ◌≤◌, Bool, true, false, cond, List, [], ◌∷◌, ◌++◌, length, take, drop, refl, sym, ◌∙◌, ap, subst, arith, length-append, Option, Some, None}
+use Rattle.std.proofs.Common.{◌≡◌, ℕ, ◌+◌, ◌<◌, ◌≤◌, true, false, cond, List, [], ◌∷◌, length, take, drop, refl, sym, ◌∙◌, ap, arith, length-append, Some, None}
 use Rattle.rv_text_laws.specs.declared.class.Class.{Class}
 use Rattle.rv_text_laws.specs.declared.class.Class.TheVariants.{Letter, Digit, Blank, LineEnd, Single, HashByte, SlashByte, QuoteByte, ApostropheByte, LessByte, GreaterByte, EqualByte, BangByte, Odd, Foreign}
 use Rattle.rv_text_laws.specs.Bytes.{class}
 use Rattle.rv_text_laws.specs.Grammar.{Kind, Spells, Space, Line_comment, Block_comment, Newline, Mark, Name, Number, Reference, Bad_word, Text, Character, Bad_byte, Bad_token, End}
-use Rattle.rv_text_laws.specs.Lexing.{Token, newlines, is_gap, is_last, bad, last_kind}
+use Rattle.rv_text_laws.specs.Lexing.{newlines, is_gap, is_last, bad, last_kind}
 use Rattle.rv_text_laws.specs.Front.{piece_at}
 use Rattle.rv_text_laws.proofs.Cut.{front}
 use Rattle.rv_text_laws.proofs.Pieces.{pieces}

@@ -1,6 +1,6 @@
 -- The tokens that a cursor has left, and what its readings answer.
 
-use Rattle.std.specs.Prelude.{◌≡◌, ℕ, List, [], ◌∷◌, Result, Ok, Err, if◌then◌else◌}
+use Rattle.std.specs.Prelude.{◌≡◌, List, [], ◌∷◌, Result, Ok, Err, if◌then◌else◌}
 use Rattle.rv_text_laws.specs.Lexing as lexing
 use Rattle.rv_text_laws.specs.Wrong as wrongs
 use Rattle.rv_text.specs.declared.cursor.Cursor.{Cursor}

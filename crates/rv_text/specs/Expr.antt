@@ -1,12 +1,13 @@
 -- What the expressions of the code stand for.
 
-use Rattle.std.specs.Prelude.{◌≡◌, ℕ, Bool, List, reverse, Result, Ok, Err}
+use Rattle.std.specs.Prelude.{◌≡◌, ℕ, Bool, true, false, List, [], ◌∷◌, reverse, Result, Ok, Err}
 use Rattle.rv_text_laws.specs.declared.operator.Frame.{Frame}
 use Rattle.rv_text_laws.specs.Expression as expression
 use Rattle.rv_text_laws.specs.ExpressionAt as reading
 use Rattle.rv_text_laws.specs.Lexing.{Token}
 use Rattle.rv_text_laws.specs.Wrong as wrongs
 use Rattle.rv_text.specs.declared.expr.Expr.{Expr}
+use Rattle.rv_text.specs.declared.expr.Expr.TheVariants as exprs
 use Rattle.rv_text.specs.declared.reading.Stage.{Stage}
 use Rattle.rv_text.specs.declared.reading.Stage.TheVariants as stages
 use Rattle.rv_text.specs.declared.reading.Step.{Step}
@@ -51,9 +52,22 @@ Steps frames (Ok (steps.Ends e)) step = step ≡ reading.Ends (nodes_of e)
 Steps frames (Err (stops.Wrong code)) step = step ≡ reading.Fails (number_of code)
 Steps frames (Err stops.OutOfMemory) step = Unit {0}
 
+-- a primary alone
+abbrev pub alone : expression.Primary → List expression.Node
+alone p = expression.Primary_node p ∷ []
+
 -- the nodes of an expression
 abbrev pub expr_of : Expr → List expression.Node
-expr_of e = nodes_of e.nodes
+expr_of (exprs.Number number) = alone (expression.Literal number)
+expr_of (exprs.Name name) = alone (expression.Symbol name.now)
+expr_of exprs.Here = alone expression.Here
+expr_of (exprs.Backward digits) = alone (expression.Reference digits.now false)
+expr_of (exprs.Forward digits) = alone (expression.Reference digits.now true)
+expr_of (exprs.Compound compound) = nodes_of compound.value.nodes
+
+-- the expression, without parentheses
+abbrev pub tree_of_expr : Expr → expression.Tree
+tree_of_expr e = expression.tree_of (expr_of e)
 
 -- the fault of a reading: the code and the line of its wrong token
 abbrev pub NamesFault : {Y : Type 0} → SourceFault → Result Y wrongs.Wrong → Type 0

@@ -1,12 +1,12 @@
 //! The value of an expression.
 
 ghost use Rattle.std.specs.Prelude.{◌≡◌, ◌<◌, ◌≤◌, ◌+◌, ◌++◌, [], ◌∷◌, true, length, min};
-ghost use Rattle.rv_text_laws.specs.Expression.{Tree, Primary, postfix};
+ghost use Rattle.rv_text_laws.specs.Expression.{Primary, tree_of};
 ghost use Rattle.rv_text_laws.specs.Values as values;
 ghost use Rattle.rv_text_laws.specs.declared.operator.BinaryOperator.TheVariants.{Divide, Remainder};
 ghost use Rattle.rv_text.specs.Fault.{number_of};
 ghost use Rattle.rv_text.specs.Nodes.{symbol_of, node_of, nodes_of};
-ghost use Rattle.rv_text.specs.Expr.{expr_of};
+ghost use Rattle.rv_text.specs.Expr.{tree_of_expr};
 ghost use Rattle.rv_text.specs.Eval.{meaning_of, part_of, tops, Means, IsOutcome};
 
 use crate::expr::Expr;
@@ -292,23 +292,19 @@ fn step<'a, F: Fn(Symbol<'a>) -> Meaning>(
     }
 }
 
-/// The value of a node that stands alone, which is no operator.
-fn leaf<'a, F: Fn(Symbol<'a>) -> Meaning>(node: Node<'a>, names: &F) -> Part<'a>
+/// The value of a symbol that stands alone.
+fn lone<'a, F: Fn(Symbol<'a>) -> Meaning>(symbol: Symbol<'a>, names: &F) -> Part<'a>
     requires { F.IsAlwaysCallable names.now }
-    ensures { (m : Primary → values.Meaning) (v : values.Value) → Means (F.post names.now) m → values.after_node m (node_of node.entry) [] ≡ v ∷ [] → part_of result ≡ v }
+    ensures { (m : Primary → values.Meaning) → Means (F.post names.now) m → part_of result ≡ values.primary_value m (symbol_of symbol.entry) }
 {
-    match node {
-        Node::Number(number) => Part::Constant(number),
-        Node::Symbol(symbol) => meant(symbol, names(symbol)),
-        Node::Unary(_) | Node::Binary(_) => Part::Faulty(SourceCode::BadOperands),
-    }
+    meant(symbol, names(symbol))
 }
 
 /// The value of the nodes.
 fn evaluate<'a, F: Fn(Symbol<'a>) -> Meaning>(nodes: &Nodes<'a>, names: &F) -> Part<'a>
     requires callable { F.IsAlwaysCallable names.now }
     requires fits { values.nodes_fit (nodes_of nodes.now) 0 ≡ true }
-    ensures { (m : Primary → values.Meaning) (v : values.Value) → Means (F.post names.now) m → values.after_nodes m (nodes_of nodes.now) [] ≡ v ∷ [] → part_of result ≡ v }
+    ensures { (m : Primary → values.Meaning) → Means (F.post names.now) m → part_of result ≡ values.value_of m (tree_of (nodes_of nodes.now)) }
 {
     let mut stack: ArrayVec<Part<'a>, MOST_VALUES> = ArrayVec::new();
     step(&mut stack, nodes.first, names);
@@ -325,10 +321,14 @@ pub fn eval<'a, F: Fn(Symbol<'a>) -> Meaning>(
     names: &F,
 ) -> Result<Value<'a>, SourceFault>
     requires { F.IsAlwaysCallable names.now }
-    ensures { (m : Primary → values.Meaning) (tree : Tree) → Means (F.post names.now) m → expr_of expr.now ≡ postfix tree → IsOutcome result line (values.value_of m tree) }
+    ensures { (m : Primary → values.Meaning) → Means (F.post names.now) m → IsOutcome result line (values.value_of m (tree_of_expr expr.now)) }
 {
-    if expr.nodes.rest.is_empty() {
-        return outcome(leaf(expr.nodes.first, names), line);
+    match expr {
+        Expr::Number(number) => Ok(Value::Constant(*number)),
+        Expr::Name(name) => outcome(lone(Symbol::Name(name), names), line),
+        Expr::Here => outcome(lone(Symbol::Here, names), line),
+        Expr::Backward(digits) => outcome(lone(Symbol::Backward(digits), names), line),
+        Expr::Forward(digits) => outcome(lone(Symbol::Forward(digits), names), line),
+        Expr::Compound(compound) => outcome(evaluate(&compound.nodes, names), line),
     }
-    outcome(evaluate(&expr.nodes, names), line)
 }

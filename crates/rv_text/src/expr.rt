@@ -1,14 +1,60 @@
 //! Expressions that were read.
 
-ghost use Rattle.std.specs.Prelude.{◌≡◌, true};
+ghost use Rattle.std.specs.Prelude.{◌≡◌, true, [], ◌∷◌, IfOk};
+ghost use Rattle.rv_text_laws.specs.Expression.{Primary_node};
 ghost use Rattle.rv_text_laws.specs.Values.{nodes_fit};
-ghost use Rattle.rv_text.specs.Nodes.{nodes_of};
+ghost use Rattle.rv_text.specs.Nodes.{symbol_of, nodes_of};
+ghost use Rattle.rv_text.specs.Expr.{expr_of};
 
-use crate::node::Nodes;
+use crate::compound::Compound;
+use crate::node::{Node, Nodes, Symbol};
+use std::alloc::{AllocError, Global};
 
-/// An expression in postfix form.
+/// An expression that was read. Texts are parts of the source; a number or a symbol alone takes no heap.
 #[derive(Debug, Drop)]
-pub struct Expr<'a> {
-    pub(crate) nodes: Nodes<'a>,
-    ghost fits: { nodes_fit (nodes_of nodes) 0 ≡ true },
+pub enum Expr<'a> {
+    /// A number or a character.
+    Number(u64),
+    /// A name.
+    Name(&'a [u8]),
+    /// `.`, the place of the statement.
+    Here,
+    /// `1b`, by its digits.
+    Backward(&'a [u8]),
+    /// `1f`, by its digits.
+    Forward(&'a [u8]),
+    /// An expression with operators.
+    Compound(Box<Compound<'a>>),
+}
+
+const _: () = prove!(size_of::<Expr<'static>>() <= 24);
+
+impl<'a> Expr<'a> {
+    /// A symbol alone.
+    fn of_symbol(symbol: Symbol<'a>) -> Self
+        ensures { expr_of result ≡ Primary_node (symbol_of symbol.entry) ∷ [] }
+    {
+        match symbol {
+            Symbol::Name(name) => Expr::Name(name),
+            Symbol::Here => Expr::Here,
+            Symbol::Backward(digits) => Expr::Backward(digits),
+            Symbol::Forward(digits) => Expr::Forward(digits),
+        }
+    }
+
+    /// The expression of these nodes.
+    pub(crate) fn new(alloc: Global, nodes: Nodes<'a>) -> Result<Self, AllocError>
+        requires { nodes_fit (nodes_of nodes) 0 ≡ true }
+        ensures { IfOk result (λ e. expr_of e ≡ nodes_of nodes.entry) }
+    {
+        if nodes.rest.is_empty() {
+            match nodes.first {
+                Node::Number(number) => return Ok(Expr::Number(number)),
+                Node::Symbol(symbol) => return Ok(Expr::of_symbol(symbol)),
+                Node::Unary(_) | Node::Binary(_) => (),
+            }
+        }
+        let compound = Box::new(alloc, Compound { nodes })?;
+        Ok(Expr::Compound(compound))
+    }
 }

@@ -4,6 +4,7 @@
 #![tactic(auto)]
 
 mod class;
+mod compound;
 mod cursor;
 mod evaluation;
 mod expr;
@@ -17,6 +18,7 @@ mod text;
 mod token;
 mod word;
 
+pub use compound::Compound;
 pub use cursor::{Cursor, Refusal, Wrong};
 pub use evaluation::{Meaning, Value, eval};
 pub use expr::Expr;

@@ -393,7 +393,7 @@ pub fn expression<'a, R: Registers>(
                 stage = next;
                 cursor.advance();
             }
-            Ok(Step::Ends(nodes)) => return Ok(Expr { nodes }),
+            Ok(Step::Ends(nodes)) => return Ok(Expr::new(alloc, nodes)?),
             Err(Stop::Wrong(code)) => return Err(Refusal::At(cursor.wrong(code))),
             Err(Stop::OutOfMemory) => return Err(Refusal::OutOfMemory),
         }

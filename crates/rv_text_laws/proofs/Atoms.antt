@@ -1,6 +1,6 @@
 -- The finder of a string's atoms answers exactly what is spelled.
 
-use Rattle.std.proofs.Common.{◌≡◌, ℕ, zero, suc, ◌+◌, ◌<◌, ◌≤◌, Bool, true, false, ◌&&◌, ◌||◌, not, cond, ◌==◌, nat_lt, List, [], ◌∷◌, ◌++◌, length, take, drop, refl, sym, ◌∙◌, ap, subst, arith, Option, Some, None, option_map, ◌⊎◌, inl, inr}
+use Rattle.std.proofs.Common.{◌≡◌, ℕ, suc, ◌<◌, ◌≤◌, Bool, true, false, ◌&&◌, ◌||◌, not, cond, ◌==◌, nat_lt, List, [], ◌∷◌, ◌++◌, length, take, drop, refl, sym, ◌∙◌, ap, subst, arith, Option, Some, None, option_map, ◌⊎◌, inl, inr}
 use Rattle.std.proofs.lemmas.Bool.{and_parts, and_from, eqb-true, ltb-true}
 use Rattle.std.proofs.lemmas.Bool.Decides.{nat_tests}
 use Rattle.std.proofs.lemmas.Option.{same_Some, none-some}
@@ -12,7 +12,7 @@ use Rattle.rv_text_laws.specs.Cut.{Finds}
 use Rattle.rv_text_laws.specs.Bytes.{is_digit, digit}
 use Rattle.rv_text_laws.specs.Strings.{Atom, Plain, Named, Octal, Hexadecimal, SpellsAtom, StopsAtom, atom_goes_on, named, is_plain}
 use Rattle.rv_text_laws.specs.Front.{atom_at, escape_at}
-use Rattle.rv_text_laws.proofs.Cut.{Stands, Answers, found_by}
+use Rattle.rv_text_laws.proofs.Cut.{Answers, found_by}
 use Rattle.rv_text_laws.proofs.Runs.{pick, BreaksBelow, short_is, short_within, short_all, short_breaks}
 
 -- one of three tests, the second

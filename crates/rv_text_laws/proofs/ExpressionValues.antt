@@ -1,11 +1,9 @@
 -- The nodes of an expression, one after the other, give its value, and few values wait at a time.
 
-use Rattle.std.proofs.Common.{◌≡◌, ℕ, zero, suc, ◌+◌, ◌-◌, ◌*◌, ◌<◌, ◌≤◌, max, Bool, true, false, ◌&&◌, nat_lt, List, [], ◌∷◌, ◌++◌, refl, sym, ◌∙◌, ap, append_assoc, arith}
+use Rattle.std.proofs.Common.{◌≡◌, ℕ, suc, ◌+◌, ◌-◌, ◌*◌, ◌≤◌, true, List, [], ◌∷◌, ◌++◌, refl, sym, ◌∙◌, ap, append_assoc, arith}
 use Rattle.std.proofs.lemmas.List.{append-nil}
-use Rattle.std.proofs.lemmas.Bool.{and_from}
-use Rattle.rv_text_laws.specs.declared.operator.BinaryOperator.{BinaryOperator}
-use Rattle.rv_text_laws.specs.Expression.{Primary, Tree, Leaf, Unary, Paren, Binary, level_of, IsAt, nesting, deepest, Node, Primary_node, Unary_node, Binary_node, postfix}
-use Rattle.rv_text_laws.specs.Values.{Meaning, Value, value_of, after_node, after_nodes, most_values, node_fits, count_after, nodes_fit, primary_value, both, alone}
+use Rattle.rv_text_laws.specs.Expression.{Primary, Tree, Leaf, Unary, Paren, Binary, level_of, IsAt, nesting, deepest, Node, Unary_node, Binary_node, postfix}
+use Rattle.rv_text_laws.specs.Values.{Meaning, Value, value_of, after_nodes, most_values, nodes_fit}
 use Rattle.rv_text_laws.proofs.Expressions.{level_small, lt_true}
 
 -- the nodes of a tree, and further ones behind them

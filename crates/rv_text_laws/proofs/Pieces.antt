@@ -1,9 +1,8 @@
 -- The finder of pieces answers exactly what is spelled.
 
-use Rattle.std.proofs.Common.{◌≡◌, ℕ, zero, suc, ◌+◌, ◌<◌, ◌≤◌, Bool, true, false, ◌&&◌, ◌||◌, not, cond, ◌==◌, nat_lt, List, [], ◌∷◌, ◌++◌, length, take, drop, refl, sym, ◌∙◌, ap, subst, arith, append_assoc, length-append, Option, Some, None, option_map, ◌⊎◌, inl, inr, map}
-use Rattle.std.proofs.lemmas.Bool.{and_parts, and_from, eqb-true}
-use Rattle.std.proofs.lemmas.Option.{same_Some, none-some}
-use Rattle.std.proofs.lemmas.List.{length-take-le, take-append-drop}
+use Rattle.std.proofs.Common.{◌≡◌, ℕ, suc, ◌<◌, ◌≤◌, Bool, true, false, ◌&&◌, ◌||◌, not, cond, ◌==◌, nat_lt, List, [], ◌∷◌, ◌++◌, length, take, drop, refl, sym, ◌∙◌, ap, subst, arith, append_assoc, length-append, Option, Some, None, option_map, inl, inr, map}
+use Rattle.std.proofs.lemmas.Bool.{and_parts, eqb-true}
+use Rattle.std.proofs.lemmas.Option.{none-some}
 use Rattle.std.proofs.Math.Seq.{take-append_seam, drop-append_seam}
 use Rattle.std.specs.List.{list_all, prefix_len}
 use Rattle.rv_text_laws.specs.declared.sign.Sign.{Sign}
@@ -11,16 +10,16 @@ use Rattle.rv_text_laws.specs.declared.sign.Sign.TheVariants.{Comma, Colon, Semi
 use Rattle.rv_text_laws.specs.declared.class.Class.{Class}
 use Rattle.rv_text_laws.specs.declared.class.Class.TheVariants.{Letter, Digit, Blank, LineEnd, Single, HashByte, SlashByte, QuoteByte, ApostropheByte, LessByte, GreaterByte, EqualByte, BangByte, Odd, Foreign}
 use Rattle.rv_text_laws.specs.Cut.{Piece, texts, Each, Cuts, Finds, cut}
-use Rattle.rv_text_laws.specs.Bytes.{class, spelling, is_word, in_line, is_digit, digit, between}
+use Rattle.rv_text_laws.specs.Bytes.{class, spelling, is_word, in_line, digit, between}
 use Rattle.rv_text_laws.specs.Strings.{Atom, Plain, Named, Octal, Hexadecimal, byte_of, SpellsAtom, StopsAtom, is_plain, is_character, is_escape}
-use Rattle.rv_text_laws.specs.Grammar.{Kind, Space, Line_comment, Block_comment, Newline, Mark, Name, Number, Reference, Bad_word, Text, Character, Bad_byte, Bad_token, End, IsWord, IsNumber, IsReference, NoClose, Spells, Stops, goes_on}
+use Rattle.rv_text_laws.specs.Grammar.{Kind, Space, Line_comment, Block_comment, Newline, Mark, Name, Number, Reference, Bad_word, Text, Character, Bad_byte, Bad_token, End, IsWord, Spells, Stops, goes_on}
 use Rattle.rv_text_laws.specs.Front.{begins, number_in, reference_in, number_kind, digits_kind, close_at, atom_at, escape_at, closed_string, closed_escape, character_at, after_slash, after_less, after_greater, with_equal, piece_at, piece_by}
 use Rattle.rv_text_laws.proofs.Cut.{Stands, Answers, found_by, front, cuts, unique}
 use Rattle.rv_text_laws.proofs.Runs.{pick, Breaks, run_is, run_all, run_breaks, run_within}
 use Rattle.rv_text_laws.proofs.Atoms.{atoms, atom_is}
 use Rattle.rv_text_laws.proofs.Numbers.{number_is, number_found, reference_is, reference_found, number_no_reference, no_number, no_reference_in}
-use Rattle.rv_text_laws.proofs.Classes.{ByteOf, byte_of_class, piece_by_class, class_10, class_35, class_47, class_34, class_39, class_60, class_62}
-use Rattle.rv_text_laws.proofs.Comments.{begins_is, close_is, Closed, CloseAnswers, close_answers}
+use Rattle.rv_text_laws.proofs.Classes.{ByteOf, byte_of_class, piece_by_class, class_10, class_35, class_47, class_34, class_39}
+use Rattle.rv_text_laws.proofs.Comments.{begins_is, close_is, CloseAnswers, close_answers}
 
 -- what a piece's rest doesn't go on with
 

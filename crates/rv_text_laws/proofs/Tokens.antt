@@ -1,12 +1,11 @@
 -- The tokens of a source: one list, the function's, and its steps.
 
-use Rattle.std.proofs.Common.{◌≡◌, ℕ, zero, suc, ◌+◌, ◌<◌, ◌≤◌, Bool, true, false, cond, ◌==◌, List, [], ◌∷◌, ◌++◌, length, take, drop, refl, sym, ◌∙◌, ap, subst, arith, append_assoc, length-append, add_assoc, zero-add, Option, Some, None}
+use Rattle.std.proofs.Common.{◌≡◌, ℕ, suc, ◌+◌, ◌≤◌, Bool, true, false, cond, ◌==◌, List, [], ◌∷◌, ◌++◌, length, take, drop, refl, sym, ◌∙◌, ap, arith, append_assoc, length-append, add_assoc, zero-add, Some, None}
 use Rattle.std.proofs.lemmas.List.{append-nil}
 use Rattle.std.proofs.Math.Nat.{add-zero}
-use Rattle.rv_text_laws.specs.Cut.{Piece, texts, cut, NothingReads}
-use Rattle.rv_text_laws.specs.Bytes.{class}
-use Rattle.rv_text_laws.specs.Grammar.{Kind, Spells, Stops}
-use Rattle.rv_text_laws.specs.Lexing.{Token, newlines, placed, is_gap, tokens_of, last_kind, last, CutInto, Lexes}
+use Rattle.rv_text_laws.specs.Cut.{Piece, texts, cut}
+use Rattle.rv_text_laws.specs.Grammar.{Kind}
+use Rattle.rv_text_laws.specs.Lexing.{Token, newlines, placed, is_gap, tokens_of, last_kind, last, Lexes}
 use Rattle.rv_text_laws.specs.Front.{piece_at, tokens_at, tokens_from}
 use Rattle.rv_text_laws.proofs.Cut.{front, nothing_none, none_nothing, cuts, unique, cut-some, cut-none}
 use Rattle.rv_text_laws.proofs.Pieces.{pieces}

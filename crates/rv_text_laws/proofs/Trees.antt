@@ -1,10 +1,8 @@
 -- The expression that nodes stand for.
 
-use Rattle.std.proofs.Common.{◌≡◌, ℕ, zero, suc, ◌+◌, ◌-◌, ◌<◌, ◌≤◌, Bool, true, false, ◌&&◌, nat_lt, List, [], ◌∷◌, ◌++◌, length, map, refl, sym, ◌∙◌, ap, append_assoc, arith}
+use Rattle.std.proofs.Common.{◌≡◌, ◌<◌, true, List, [], ◌∷◌, ◌++◌, length, map, refl, sym, ◌∙◌, ap, append_assoc, arith}
 use Rattle.std.proofs.lemmas.List.{append-nil}
 use Rattle.std.proofs.lemmas.Bool.{and_parts, ltb-true}
-use Rattle.rv_text_laws.specs.declared.operator.UnaryOperator.{UnaryOperator}
-use Rattle.rv_text_laws.specs.declared.operator.BinaryOperator.{BinaryOperator}
 use Rattle.rv_text_laws.specs.Expression.{Primary, Tree, Leaf, Unary, Paren, Binary, Node, Primary_node, Unary_node, Binary_node, postfix, built_by, built, last_built, tree_of, bare}
 use Rattle.rv_text_laws.specs.Values.{Meaning, Value, value_of, alone, both, after_node, after_nodes, node_fits, count_after, nodes_fit}
 
@@ -24,6 +22,11 @@ built_after (Binary o x y) ns xs =
 pub postfix_tree : (t : Tree) → tree_of (postfix t) ≡ bare t
 unfolding tree_of
 postfix_tree t = ap last_built (ap (λ (l : List Node). built l []) (sym (append-nil (postfix t))) ∙ built_after t [] [])
+
+-- a primary alone
+pub lone_tree : (p : Primary) → tree_of (Primary_node p ∷ []) ≡ Leaf p
+unfolding tree_of
+lone_tree p = refl
 
 -- parentheses have no value of their own
 pub bare_value : (m : Primary → Meaning) (t : Tree) → value_of m (bare t) ≡ value_of m t

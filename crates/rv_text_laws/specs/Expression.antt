@@ -1,7 +1,7 @@
 -- Expressions: their trees, how tokens spell them, and their postfix form (GNU as, "Expressions"; Assembly
 -- Programmer's Manual).
 
-use Rattle.std.specs.Prelude.{◌≡◌, ℕ, suc, ◌≤◌, max, Bool, true, nat_le, List, [], ◌∷◌, ◌++◌, length, codes, ◌⊎◌, if◌then◌else◌}
+use Rattle.std.specs.Prelude.{◌≡◌, ℕ, suc, ◌≤◌, max, Bool, nat_le, List, [], ◌∷◌, ◌++◌, length, codes, ◌⊎◌, if◌then◌else◌}
 use Rattle.std.specs.Str.{bytes_eq}
 use Rattle.rv_text_laws.specs.declared.sign.Sign.{Sign}
 use Rattle.rv_text_laws.specs.declared.sign.Sign.TheVariants as signs

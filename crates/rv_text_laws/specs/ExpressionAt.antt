@@ -1,10 +1,8 @@
 -- The expression at the front of tokens, token by token: the function that the definitions of Expression leave room for
 -- one of. It names the first token that is wrong, with its code.
 
-use Rattle.std.specs.Prelude.{ℕ, suc, Bool, true, false, nat_le, nat_lt, List, [], ◌∷◌, ◌++◌, Result, Ok, Err, if◌then◌else◌}
+use Rattle.std.specs.Prelude.{ℕ, suc, Bool, true, false, nat_le, nat_lt, List, [], ◌∷◌, ◌++◌, Ok, Err, if◌then◌else◌}
 use Rattle.rv_text_laws.specs.declared.sign.Sign.TheVariants.{DoubleSlash}
-use Rattle.rv_text_laws.specs.declared.operator.UnaryOperator.{UnaryOperator}
-use Rattle.rv_text_laws.specs.declared.operator.BinaryOperator.{BinaryOperator}
 use Rattle.rv_text_laws.specs.declared.operator.Frame.{Frame}
 use Rattle.rv_text_laws.specs.declared.operator.Frame.TheVariants.{Parenthesis, Prefix, Infix}
 use Rattle.rv_text_laws.specs.Grammar.{Kind, Mark, Bad_word, Bad_byte, Bad_token}

@@ -1,7 +1,7 @@
 -- The piece at the front of bytes, by looking at them in order: the function that the definitions of Grammar leave
 -- room for one of. The laws say that the two agree, so nothing rests on how this one goes.
 
-use Rattle.std.specs.Prelude.{ℕ, zero, suc, ◌+◌, ◌^◌, Bool, true, false, ◌&&◌, ◌==◌, nat_lt, if◌then◌else◌, List, [], ◌∷◌, ◌++◌, Option, Some, None, option_map, option_and_then, length, take, drop, map}
+use Rattle.std.specs.Prelude.{ℕ, suc, ◌+◌, ◌^◌, Bool, true, false, ◌&&◌, ◌==◌, nat_lt, if◌then◌else◌, List, [], ◌∷◌, Option, Some, None, option_map, length, take, drop, map}
 use Rattle.std.specs.List.{list_all, prefix_len}
 use Rattle.rv_text_laws.specs.declared.sign.Sign.{Sign}
 use Rattle.rv_text_laws.specs.declared.sign.Sign.TheVariants.{Slash, ShiftLeft, ShiftRight, Equal, NotEqual, LessGreater, Less, Greater, LessEqual, GreaterEqual, DoubleSlash}

@@ -6,7 +6,7 @@ use Rattle.rv_text_laws.specs.declared.operator.UnaryOperator.{UnaryOperator}
 use Rattle.rv_text_laws.specs.declared.operator.UnaryOperator.TheVariants.{Negate, Complement, Keep}
 use Rattle.rv_text_laws.specs.declared.operator.BinaryOperator.{BinaryOperator}
 use Rattle.rv_text_laws.specs.declared.operator.BinaryOperator.TheVariants.{Multiply, Divide, Remainder, ShiftLeft, ShiftRight, Or, And, ExclusiveOr, Add, Subtract}
-use Rattle.rv_text_laws.specs.Expression.{Primary, Literal, Symbol, Here, Reference, Tree, Leaf, Unary, Paren, Binary, Node, Primary_node, Unary_node, Binary_node}
+use Rattle.rv_text_laws.specs.Expression.{Primary, Literal, Tree, Leaf, Unary, Paren, Binary, Node, Primary_node, Unary_node, Binary_node}
 
 -- what a name, `.` or a reference means where it stands
 pub data Meaning : Type 0 where

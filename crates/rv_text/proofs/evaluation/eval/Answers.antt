@@ -1,22 +1,22 @@
--- A node alone, and several.
-use Rattle.std.proofs.Common.{◌≡◌, ◌∙◌, sym, subst, length, arith}
-use Rattle.std.specs.Prelude.{vec_len}
+-- A number or a symbol alone.
+use Rattle.std.proofs.Common.{◌∙◌, ap}
+use Rattle.rv_text_laws.specs.Expression.{Literal}
 use Rattle.rv_text_laws.specs.Values as values
-use Rattle.rv_text.specs.Nodes.{nodes_of}
-use Rattle.rv_text.specs.Eval.{IsOutcome}
-use Rattle.rv_text.proofs.Evals.{none_empty, lone_value, tree_value}
+use Rattle.rv_text.specs.Expr.{expr_of, tree_of_expr}
+use Rattle.rv_text.proofs.Evals.{lone_value, lone_outcome}
 use Rattle.rv_text.proofs.evaluation.eval.Goals as goal
 
-pub returns-then-is_empty : goal.returns-then-is_empty
-returns-then-is_empty g c = λ m tree means e.
-    let rest = c.args.expr.now.nodes.rest in
-    let none = none_empty rest.items (vec_len rest) (omega (arith, rest.ok.0)) (sym c.is_empty.ensures ∙ c.if-is_empty.true) in
-    subst (IsOutcome c.outcome.result c.args.line)
-    (c.leaf.ensures m (values.value_of m tree) means (lone_value m tree c.args.expr.now.nodes.first rest.items none e))
-    c.outcome.ensures
+pub returns-in-Number : goal.returns-in-Number
+returns-in-Number g c = λ m means. ap (λ e. values.value_of m (tree_of_expr e)) c.in-Number.is ∙ lone_value m (Literal c.in-Number.number)
 
-pub returns : goal.returns
-returns g c = λ m tree means e.
-    subst (IsOutcome c.outcome-2.result c.args.line)
-    (c.evaluate.ensures m (values.value_of m tree) means (tree_value m tree (nodes_of c.args.expr.now.nodes) e))
-    c.outcome-2.ensures
+pub returns-in-Name : goal.returns-in-Name
+returns-in-Name g c = λ m means. lone_outcome m _ c.args.expr.now c.outcome.result c.args.line _ (ap expr_of c.in-Name.is) (c.lone.ensures m means) c.outcome.ensures
+
+pub returns-in-Here : goal.returns-in-Here
+returns-in-Here g c = λ m means. lone_outcome m _ c.args.expr.now c.outcome-in-Here.result c.args.line _ (ap expr_of c.in-Here.is) (c.lone-in-Here.ensures m means) c.outcome-in-Here.ensures
+
+pub returns-in-Backward : goal.returns-in-Backward
+returns-in-Backward g c = λ m means. lone_outcome m _ c.args.expr.now c.outcome-in-Backward.result c.args.line _ (ap expr_of c.in-Backward.is) (c.lone-in-Backward.ensures m means) c.outcome-in-Backward.ensures
+
+pub returns-in-Forward : goal.returns-in-Forward
+returns-in-Forward g c = λ m means. lone_outcome m _ c.args.expr.now c.outcome-in-Forward.result c.args.line _ (ap expr_of c.in-Forward.is) (c.lone-in-Forward.ensures m means) c.outcome-in-Forward.ensures

@@ -1,9 +1,10 @@
 -- Node by node.
-use Rattle.std.proofs.Common.{◌≡◌, ◌∙◌, ◌+◌, refl, sym, ap, map, drop, length, List}
+use Rattle.std.proofs.Common.{◌∙◌, ◌+◌, refl, sym, ap, map, drop, length, List}
 use Rattle.rv_text_laws.specs.Values as values
 use Rattle.rv_text_laws.specs.Expression as expression
 use Rattle.rv_text.specs.declared.node.Node.TheVariants as nodes
-use Rattle.rv_text.specs.Nodes.{node_of}
+use Rattle.rv_text_laws.proofs.Trees.{nodes_value}
+use Rattle.rv_text.specs.Nodes.{node_of, nodes_of}
 use Rattle.rv_text.specs.Eval.{tops}
 use Rattle.rv_text.proofs.Evals.{tops_none, rest_fits, last_value, next_node, no_node, next_fits, later_fit, last_fits}
 use Rattle.rv_text.proofs.evaluation.evaluate.Goals as goal
@@ -52,10 +53,11 @@ pop-requires g c =
     c.deref-node-items.ensures.value c.loop-node-test.false c.loop-node.invariant.fits
 
 pub returns : goal.returns
-returns g c = λ m v means e.
-    last_value c.loop-node.stack.items c.pop.new.stack.items c.pop.result v c.pop.ensures.items
+returns g c = λ m means.
+    let v = nodes_value m (nodes_of c.args.nodes.now) c.requires.fits in
+    last_value c.loop-node.stack.items c.pop.new.stack.items c.pop.result (values.value_of m (expression.tree_of (nodes_of c.args.nodes.now))) v.0 c.pop.ensures.items
     (sym
     (c.loop-node.invariant.kept m means
     ∙ ap (λ (l : List expression.Node). values.after_nodes m l (tops c.loop-node.stack.items))
     (no_node c.args.nodes.now.rest.items c.deref-node-items.result.now c.loop-node.node-index c.deref-node-items.ensures.value c.loop-node-test.false))
-    ∙ e)
+    ∙ v.1)

@@ -1,5 +1,5 @@
 -- What each node does to the stack.
-use Rattle.std.proofs.Common.{◌≡◌, ◌∙◌, sym, ap, refl}
+use Rattle.std.proofs.Common.{◌∙◌, sym, ap, refl}
 use Rattle.rv_text_laws.specs.Expression.{Literal}
 use Rattle.rv_text_laws.specs.Values.{after_node}
 use Rattle.rv_text.specs.declared.node.Node.{Node}

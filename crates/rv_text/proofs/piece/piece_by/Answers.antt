@@ -1,10 +1,8 @@
 -- Each piece lies within the bytes.
-use Rattle.std.proofs.Common.{◌≡◌, ℕ, ◌+◌, ◌≤◌, length, ap, arith}
+use Rattle.std.proofs.Common.{length, ap, arith}
 use Rattle.rv_text_laws.specs.Bytes.{is_word, in_line}
-use Rattle.rv_text_laws.specs.Grammar as grammar
 use Rattle.rv_text_laws.proofs.Runs.{run_within}
 use Rattle.rv_text.proofs.Inside.{string_within}
-use Rattle.rv_text.specs.Token.{string_bytes}
 use Rattle.rv_text.proofs.piece.piece_by.Goals as goal
 
 pub overflow_add-length : goal.overflow_add-length

@@ -1,7 +1,9 @@
 -- Token by token.
-use Rattle.std.proofs.Common.{◌≡◌, ◌∙◌, sym, ap, Err}
+use Rattle.std.proofs.Common.{◌∙◌, sym, ap, List, Ok, Err}
 use Rattle.rv_text_laws.specs.Wrong.{Wrong}
+use Rattle.rv_text_laws.specs.Expression.{Node}
 use Rattle.rv_text.specs.Nodes.{nodes_of}
+use Rattle.rv_text.specs.Cursor.{left}
 use Rattle.rv_text.specs.Fault.{number_of}
 use Rattle.rv_text.specs.Expr.{stack_of, stage_of}
 use Rattle.rv_text.proofs.Exprs.{stack_none}
@@ -14,15 +16,15 @@ tokens-init g c = record {
   ahead = λ h. h;
 }
 
-pub invariant_of-result : goal.invariant_of-result
-invariant_of-result g c = record {
-  fits = read_fits _ _ (nodes_of c.in-Ok-Ends.nodes) _
-      (ended _ _ c.tokens.cursor (stage_of c.tokens.frames.items c.tokens.stage) (nodes_of c.in-Ok-Ends.nodes) c.tokens.invariant.reads (rw c.in-Ok-Ends.field-0-is at c.in-Ok-Ends.ensures));
-}
+pub new-requires : goal.new-requires
+new-requires g c =
+    read_fits _ _ (nodes_of c.in-Ok-Ends.nodes) _
+    (ended _ _ c.tokens.cursor (stage_of c.tokens.frames.items c.tokens.stage) (nodes_of c.in-Ok-Ends.nodes) c.tokens.invariant.reads (rw c.in-Ok-Ends.field-0-is at c.in-Ok-Ends.ensures))
 
 pub returns-in-Ok-Ends-clause-reads : goal.returns-in-Ok-Ends-clause-reads
 returns-in-Ok-Ends-clause-reads g c =
     ended _ _ c.tokens.cursor (stage_of c.tokens.frames.items c.tokens.stage) (nodes_of c.in-Ok-Ends.nodes) c.tokens.invariant.reads (rw c.in-Ok-Ends.field-0-is at c.in-Ok-Ends.ensures)
+    ∙ ap (λ (ns : List Node). Ok (ns, left c.tokens.cursor)) (sym c.in_ok-new-in-Ok-Ends.ensures)
 
 pub returns-in-Err-Wrong-clause-reads : goal.returns-in-Err-Wrong-clause-reads
 returns-in-Err-Wrong-clause-reads g c =

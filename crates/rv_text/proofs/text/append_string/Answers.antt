@@ -1,5 +1,5 @@
 -- Atom by atom.
-use Rattle.std.proofs.Common.{◌≡◌, [], ◌∷◌, ◌++◌, length, sym, ◌∙◌, ap, arith}
+use Rattle.std.proofs.Common.{◌∷◌, ◌++◌, sym, ◌∙◌, ap, arith}
 use Rattle.std.proofs.lemmas.List.{append-nil}
 use Rattle.rv_text.specs.Token.{string_bytes}
 use Rattle.rv_text.proofs.Inside.{atom_within, string_more, string_none, string_on}

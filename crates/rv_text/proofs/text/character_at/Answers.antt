@@ -1,5 +1,5 @@
 -- An escape between apostrophes.
-use Rattle.std.proofs.Common.{◌≡◌, ℕ, ◌+◌, suc, Bool, true, false, drop, sym, ◌∙◌, ap, arith, Option, Some, None}
+use Rattle.std.proofs.Common.{◌≡◌, ◌+◌, suc, true, false, sym, ◌∙◌, ap, arith, Some}
 use Rattle.rv_text_laws.specs.Grammar as grammar
 use Rattle.rv_text_laws.specs.Front.{begins}
 use Rattle.rv_text.proofs.Inside.{atom_within, escaped, not_escaped}

@@ -1,5 +1,5 @@
 -- The digits' number is the escape's byte.
-use Rattle.std.proofs.Common.{◌≡◌, ℕ, ◌+◌, ◌%◌, ◌<◌, ◌==◌, List, [], length, get_or, take, drop, sym, ◌∙◌, ap, arith, Option, Some, None, option_map, cond}
+use Rattle.std.proofs.Common.{ℕ, ◌+◌, ◌%◌, ◌==◌, length, sym, ◌∙◌, ap, arith, Option, None, option_map, cond}
 use Rattle.rv_text_laws.specs.Front.{number_by}
 use Rattle.rv_text.proofs.Escapes.{escape_octal, escape_hexadecimal}
 use Rattle.rv_text.proofs.text.escape_at.Goals as goal

@@ -1,7 +1,7 @@
 -- Atom by atom, up to the quote.
-use Rattle.std.proofs.Common.{◌≡◌, ℕ, ◌+◌, ◌-◌, ◌<◌, ◌≤◌, Bool, length, take, drop, sym, ◌∙◌, ap, arith, Option, Some, None}
+use Rattle.std.proofs.Common.{◌-◌, length, sym, ◌∙◌, ap, arith}
 use Rattle.rv_text_laws.specs.Cut.{cut}
-use Rattle.rv_text_laws.specs.Front.{atom_at, begins}
+use Rattle.rv_text_laws.specs.Front.{atom_at}
 use Rattle.rv_text.proofs.Inside.{atom_within, atoms_end, closed, unclosed}
 use Rattle.rv_text.proofs.text.string_length.Goals as goal
 

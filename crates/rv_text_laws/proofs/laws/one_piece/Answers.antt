@@ -1,8 +1,7 @@
 -- Both pieces are what the finder answers.
-use Rattle.std.proofs.Common.{◌≡◌, ℕ, List, ◌++◌, length, take, sym, ◌∙◌, ap, Some}
-use Rattle.std.proofs.lemmas.Option.{same_Some, some_pair_parts}
+use Rattle.std.proofs.Common.{◌≡◌, ◌++◌, length, take, sym, ◌∙◌, ap, Some}
+use Rattle.std.proofs.lemmas.Option.{some_pair_parts}
 use Rattle.std.proofs.Math.Seq.{take-append_seam}
-use Rattle.rv_text_laws.specs.Grammar.{Kind, Spells, Stops}
 use Rattle.rv_text_laws.specs.Front.{piece_at}
 use Rattle.rv_text_laws.proofs.Pieces.{piece_is}
 use Rattle.rv_text_laws.proofs.laws.one_piece.Goals as goal

@@ -1,9 +1,8 @@
 -- A blank or a comment, a token, and the last token.
-use Rattle.std.proofs.Common.{◌≡◌, ℕ, ◌<◌, ◌≤◌, Bool, true, false, sym, ◌∙◌, ap, arith, length, length-drop}
+use Rattle.std.proofs.Common.{◌≡◌, false, ◌∙◌, ap, arith, length, length-drop}
 use Rattle.rv_text_laws.specs.Lexing.{is_last}
 use Rattle.rv_text.specs.Token.{kind_of}
 use Rattle.rv_text.specs.Piece.{piece_kind_of}
-use Rattle.rv_text.specs.Left.{tokens_left}
 use Rattle.rv_text.proofs.Feeds.{found_spelled}
 use Rattle.rv_text.proofs.Steps.{goes_on_after, piece_within, gap_step, token_step, stop_step}
 use Rattle.rv_text.proofs.lexer.Lexer.next.Goals as goal
