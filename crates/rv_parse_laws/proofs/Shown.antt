@@ -5,6 +5,8 @@ use Rattle.rv_text_laws.specs.declared.sign.Sign.{Sign}
 use Rattle.rv_text_laws.specs.declared.sign.Sign.TheVariants.{Comma, Colon, Open, Close, Minus as MinusSign}
 use Rattle.rv_text_laws.specs.Grammar.{Kind, Newline, Mark, Name as NameToken, Number, Bad_byte, Bad_token, End}
 use Rattle.rv_text_laws.specs.Lexing.{Token, is_last}
+pub use Rattle.rv_text_laws.specs.Lexing.{ended}
+pub use Rattle.rv_text_laws.proofs.ExpressionWrong.{ended_more}
 use Rattle.rv_isa.specs.RegisterNames.{abi_names}
 use Rattle.rv_parse_laws.specs.declared.mnemonic.AccessSet.{AccessSet}
 use Rattle.rv_parse_laws.specs.Statement.{Expression, Literal, Minus, Operand, Register, Value, Accesses, Statement, Label, Norvc, Globl, Instruction}
@@ -46,16 +48,6 @@ behind S R code next t ts w to from same s = record {
   stops = λ text h. s.stops text (from ((s.before ++ s.at ∷ []) ++ text) h);
   is_wrong = s.is_wrong ∙ ap (wrong s.at) (sym (same s.before s.at));
 }
-
--- the last token is the last in the list
-abbrev pub ended : List Token → Bool
-ended [] = false
-ended (t ∷ []) = is_last t.kind
-ended (t ∷ u ∷ ts) = ended (u ∷ ts)
-
-pub ended_more : (t : Token) (ts : List Token) → is_last t.kind ≡ false → ended (t ∷ ts) ≡ true → ended ts ≡ true
-ended_more t [] no_last h = absurd (cc)
-ended_more t (u ∷ ts) no_last h = h
 
 bad_byte_in : (s : Slot) → single s Bad_byte ≡ None
 bad_byte_in A_value = refl

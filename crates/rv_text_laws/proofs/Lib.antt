@@ -10,3 +10,4 @@ pub mod Expressions
 pub mod ExpressionFound
 pub mod ExpressionValues
 pub mod Trees
+pub mod ExpressionWrong

@@ -1,7 +1,8 @@
--- The expression at the front of tokens, token by token: the function that the definitions of Expression leave room for
--- one of. It names the first token that is wrong, with its code.
+-- The expression at the front of tokens, going over them once: where an expression stands there, its nodes and the tokens
+-- behind it (`expression_is`, `expression_found`: the definitions of Expression leave room for one); else the first token
+-- with which no expression goes on, with its code (`taken_goes_on`, `wrong_token`).
 
-use Rattle.std.specs.Prelude.{ℕ, suc, Bool, true, false, nat_le, nat_lt, List, [], ◌∷◌, ◌++◌, Ok, Err, if◌then◌else◌}
+use Rattle.std.specs.Prelude.{◌≡◌, ℕ, suc, Bool, true, false, nat_le, nat_lt, List, [], ◌∷◌, ◌++◌, Option, Some, None, Ok, Err, if◌then◌else◌}
 use Rattle.rv_text_laws.specs.declared.sign.Sign.TheVariants.{DoubleSlash}
 use Rattle.rv_text_laws.specs.declared.operator.Frame.{Frame}
 use Rattle.rv_text_laws.specs.declared.operator.Frame.TheVariants.{Parenthesis, Prefix, Infix}
@@ -99,3 +100,41 @@ read_from is_register s (t ∷ ts) = elim (step is_register s t.kind) [
 -- the expression at the front of tokens, in postfix form
 unfoldable pub expression_at : (List ℕ → Bool) → List Token → Read (List Node)
 expression_at is_register ts = read_from is_register (Wants [] []) ts
+
+-- the stage behind tokens that are taken one after the other
+abbrev pub after_tokens : (List ℕ → Bool) → Stage → List Token → Option Stage
+after_tokens is_register s [] = Some s
+after_tokens is_register s (t ∷ ts) = elim (step is_register s t.kind) [
+  | Goes u ↦ after_tokens is_register u ts
+  | Ends ns ↦ None
+  | Fails code ↦ None
+]
+
+-- the tokens are taken, and the one behind them is wrong with this code
+pub record FailsAt (is_register : List ℕ → Bool) (front : List Token) (at : Token) (code : ℕ) : Type 0 where
+  pub stage : Stage
+  pub taken : after_tokens is_register (Wants [] []) front ≡ Some stage
+  pub fails : step is_register stage at.kind ≡ Fails code
+
+-- the tokens are taken, and the expression of these nodes ends before the one behind them
+pub record EndsAt (is_register : List ℕ → Bool) (front : List Token) (at : Token) (nodes : List Node) : Type 0 where
+  pub stage : Stage
+  pub taken : after_tokens is_register (Wants [] []) front ≡ Some stage
+  pub ends : step is_register stage at.kind ≡ Ends nodes
+
+-- the code of the token `at` behind these tokens: that of the step at which the reading is wrong; behind the end of the
+-- expression the one that `next` gives, by the tokens from there on; none where all are taken
+abbrev pub code_from : (List ℕ → Bool) → (List Token → Token → ℕ) → Stage → List Token → Token → ℕ
+code_from is_register next s [] at = elim (step is_register s at.kind) [
+  | Goes u ↦ 0
+  | Ends ns ↦ next [] at
+  | Fails code ↦ code
+]
+code_from is_register next s (t ∷ ts) at = elim (step is_register s t.kind) [
+  | Goes u ↦ code_from is_register next u ts at
+  | Ends ns ↦ next (t ∷ ts) at
+  | Fails code ↦ code
+]
+
+unfoldable pub code_in_expression : (List ℕ → Bool) → (List Token → Token → ℕ) → List Token → Token → ℕ
+code_in_expression is_register next before at = code_from is_register next (Wants [] []) before at

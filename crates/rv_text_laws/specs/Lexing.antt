@@ -52,6 +52,12 @@ is_last Bad_token = true
 is_last End = true
 is_last _ = false
 
+-- a last token ends the list
+abbrev pub ended : List Token → Bool
+ended [] = false
+ended (t ∷ []) = is_last t.kind
+ended (t ∷ u ∷ ts) = ended (u ∷ ts)
+
 -- the last token, after these bytes and before the rest
 abbrev pub last : List ℕ → List ℕ → Token
 last before rest = placed before (record { kind = last_kind rest; text = [] })

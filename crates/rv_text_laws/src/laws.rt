@@ -1,12 +1,13 @@
 //! Laws of the words of a source, each the contract of a function with nothing to do.
 
-ghost use Rattle.std.specs.Prelude.{◌≡◌, ℕ, ◌≤◌, Bool, true, List, [], ◌∷◌, ◌++◌};
+ghost use Rattle.std.specs.Prelude.{◌≡◌, ℕ, ◌≤◌, Bool, true, List, [], ◌∷◌, ◌++◌, Some};
 ghost use Rattle.rv_text_laws.specs.Grammar.{Kind, Spells, Stops};
-ghost use Rattle.rv_text_laws.specs.Lexing.{Token, Lexes};
+ghost use Rattle.rv_text_laws.specs.Lexing.{Token, Lexes, ended};
+ghost use Rattle.rv_text_laws.specs.Wrong.{Wrong, wrong};
 ghost use Rattle.rv_text_laws.specs.Front.{tokens_from};
-ghost use Rattle.rv_text_laws.specs.Expression.{Primary, Tree, Node, IsAt, nesting, deepest, postfix, ReadsTree, tree_of, bare};
+ghost use Rattle.rv_text_laws.specs.Expression.{Primary, Tree, Node, IsAt, nesting, deepest, postfix, SpellsTree, ReadsTree, tree_of, bare};
 ghost use Rattle.rv_text_laws.specs.Values.{Meaning, Value, value_of, after_nodes, nodes_fit};
-ghost use Rattle.rv_text_laws.specs.ExpressionAt.{expression_at};
+ghost use Rattle.rv_text_laws.specs.ExpressionAt.{Stage, Wants, after_tokens, expression_at, FailsAt, EndsAt};
 
 /// At most one piece stands at the front of bytes, and it has one kind.
 pub fn one_piece()
@@ -60,4 +61,30 @@ pub fn bare_value()
 pub fn nodes_value()
     ensures { (meanings : Primary → Meaning) (nodes : List Node) → nodes_fit nodes 0 ≡ true
         → (others : List Value) × (after_nodes meanings nodes [] ≡ value_of meanings (tree_of nodes) ∷ others) }
+{}
+
+/// Tokens that are taken can go on as an expression.
+pub fn taken_goes_on()
+    ensures { (is_register : List ℕ → Bool) (front : List Token) (stage : Stage) → after_tokens is_register (Wants [] []) front ≡ Some stage
+        → (more : List Token) × (tree : Tree) × SpellsTree is_register tree (front ++ more) × IsAt 0 tree × (nesting tree ≤ deepest) }
+{}
+
+/// A reading names the token at which it is wrong, and with this token no expression goes on.
+pub fn wrong_token()
+    ensures is { (is_register : List ℕ → Bool) (front : List Token) (at : Token) (code : ℕ) (more : List Token) → FailsAt is_register front at code
+        → expression_at is_register (front ++ at ∷ more) ≡ Err (wrong at code) }
+    ensures found { (is_register : List ℕ → Bool) (ts : List Token) (w : Wrong) → ended ts ≡ true → expression_at is_register ts ≡ Err w
+        → (front : List Token) × (at : Token) × (more : List Token) × (code : ℕ) × (ts ≡ front ++ at ∷ more) × FailsAt is_register front at code × (w ≡ wrong at code) }
+    ensures stops { (is_register : List ℕ → Bool) (front : List Token) (at : Token) (code : ℕ) (more : List Token) → FailsAt is_register front at code
+        → (tree : Tree) → SpellsTree is_register tree (front ++ at ∷ more) → IsAt 0 tree → nesting tree ≤ deepest → ⊥ }
+{}
+
+/// A reading ends behind the tokens of an expression, whatever it is that stands behind the token that ends it.
+pub fn expression_end()
+    ensures is { (is_register : List ℕ → Bool) (front : List Token) (at : Token) (nodes : List Node) (more : List Token) → EndsAt is_register front at nodes
+        → expression_at is_register (front ++ at ∷ more) ≡ Ok (nodes, at ∷ more) }
+    ensures found { (is_register : List ℕ → Bool) (ts : List Token) (nodes : List Node) (rest : List Token) → expression_at is_register ts ≡ Ok (nodes, rest)
+        → (front : List Token) × (at : Token) × (more : List Token) × (ts ≡ front ++ at ∷ more) × (rest ≡ at ∷ more) × EndsAt is_register front at nodes }
+    ensures whole { (is_register : List ℕ → Bool) (front : List Token) (at : Token) (nodes : List Node) → EndsAt is_register front at nodes
+        → (tree : Tree) × SpellsTree is_register tree front × IsAt 0 tree × (nesting tree ≤ deepest) × (nodes ≡ postfix tree) }
 {}
