@@ -11,3 +11,5 @@ pub mod ExpressionFound
 pub mod ExpressionValues
 pub mod Trees
 pub mod ExpressionWrong
+pub mod TokenTexts
+pub mod Joins

@@ -8,3 +8,4 @@ pub mod Front
 pub mod Expression
 pub mod ExpressionAt
 pub mod Values
+pub mod Joined

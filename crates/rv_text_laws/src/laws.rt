@@ -7,6 +7,7 @@ ghost use Rattle.rv_text_laws.specs.Wrong.{Wrong, wrong};
 ghost use Rattle.rv_text_laws.specs.Front.{tokens_from};
 ghost use Rattle.rv_text_laws.specs.Expression.{Primary, Tree, Node, IsAt, nesting, deepest, postfix, SpellsTree, ReadsTree, tree_of, bare};
 ghost use Rattle.rv_text_laws.specs.Values.{Meaning, Value, value_of, after_nodes, nodes_fit};
+ghost use Rattle.rv_text_laws.specs.Joined.{ReadsJoined, joined_at};
 ghost use Rattle.rv_text_laws.specs.ExpressionAt.{Stage, Wants, after_tokens, expression_at, FailsAt, EndsAt};
 
 /// At most one piece stands at the front of bytes, and it has one kind.
@@ -87,4 +88,10 @@ pub fn expression_end()
         → (front : List Token) × (at : Token) × (more : List Token) × (ts ≡ front ++ at ∷ more) × (rest ≡ at ∷ more) × EndsAt is_register front at nodes }
     ensures whole { (is_register : List ℕ → Bool) (front : List Token) (at : Token) (nodes : List Node) → EndsAt is_register front at nodes
         → (tree : Tree) × SpellsTree is_register tree front × IsAt 0 tree × (nesting tree ≤ deepest) × (nodes ≡ postfix tree) }
+{}
+
+/// A name with minus signs at the front of tokens, which goes as far as it can, is what the function answers.
+pub fn joined_name()
+    ensures is { (ts : List Token) (name : List ℕ) (rest : List Token) → ReadsJoined ts name rest → joined_at ts ≡ Some (name, rest) }
+    ensures found { (ts : List Token) (name : List ℕ) (rest : List Token) → joined_at ts ≡ Some (name, rest) → ReadsJoined ts name rest }
 {}

@@ -11,8 +11,9 @@ mod sign;
 
 pub use class::Class;
 pub use laws::{
-    bare_value, expression_end, expression_found, expression_is, nodes_value, one_list, one_piece,
-    postfix_fits, postfix_tree, postfix_value, some_list, taken_goes_on, wrong_token,
+    bare_value, expression_end, expression_found, expression_is, joined_name, nodes_value,
+    one_list, one_piece, postfix_fits, postfix_tree, postfix_value, some_list, taken_goes_on,
+    wrong_token,
 };
 pub use operator::{BinaryOperator, Frame, UnaryOperator};
 pub use sign::Sign;
