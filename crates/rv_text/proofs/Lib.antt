@@ -7,3 +7,4 @@ pub mod Exprs
 pub mod ReadingSteps
 pub mod Evals
 pub mod Feeds
+pub mod NamesJoined

@@ -1,15 +1,13 @@
 -- The steps of the lexer: a blank or a comment, a token, and the last token.
 
 use Rattle.std.proofs.Common.{◌≡◌, ℕ, ◌+◌, ◌<◌, ◌≤◌, true, false, cond, List, [], ◌∷◌, length, take, drop, refl, sym, ◌∙◌, ap, arith, length-append, Some, None}
-use Rattle.rv_text_laws.specs.declared.class.Class.{Class}
-use Rattle.rv_text_laws.specs.declared.class.Class.TheVariants.{Letter, Digit, Blank, LineEnd, Single, HashByte, SlashByte, QuoteByte, ApostropheByte, LessByte, GreaterByte, EqualByte, BangByte, Odd, Foreign}
-use Rattle.rv_text_laws.specs.Bytes.{class}
 use Rattle.rv_text_laws.specs.Grammar.{Kind, Spells, Space, Line_comment, Block_comment, Newline, Mark, Name, Number, Reference, Bad_word, Text, Character, Bad_byte, Bad_token, End}
-use Rattle.rv_text_laws.specs.Lexing.{newlines, is_gap, is_last, bad, last_kind}
+use Rattle.rv_text_laws.specs.Lexing.{newlines, is_gap, is_last, last_kind}
 use Rattle.rv_text_laws.specs.Front.{piece_at}
 use Rattle.rv_text_laws.proofs.Cut.{front}
 use Rattle.rv_text_laws.proofs.Pieces.{pieces}
 use Rattle.rv_text_laws.proofs.Tokens.{tokens_more, tokens_stop}
+use Rattle.rv_text_laws.proofs.TokenTexts.{last_is_last}
 use Rattle.rv_text.specs.declared.token.TokenKind.{TokenKind}
 use Rattle.rv_text.specs.declared.token.TokenKind.TheVariants as code
 use Rattle.rv_text.specs.declared.lexer.Lexer.{Lexer}
@@ -54,27 +52,6 @@ pub piece_within : (bytes : List ℕ) (k : Kind) (n : ℕ) → Some (k, n) ≡ p
 piece_within bytes k n e =
     let f = front pieces bytes k n (sym e) in
     (f.some, omega (arith, f.is_length, ap length f.whole, length-append (take n bytes) (drop n bytes)))
-
-bad_is_last : (c : Class) → is_last (bad c) ≡ true
-bad_is_last Letter = refl
-bad_is_last Digit = refl
-bad_is_last Blank = refl
-bad_is_last LineEnd = refl
-bad_is_last (Single sign) = refl
-bad_is_last HashByte = refl
-bad_is_last SlashByte = refl
-bad_is_last QuoteByte = refl
-bad_is_last ApostropheByte = refl
-bad_is_last LessByte = refl
-bad_is_last GreaterByte = refl
-bad_is_last EqualByte = refl
-bad_is_last BangByte = refl
-bad_is_last Odd = refl
-bad_is_last Foreign = refl
-
-pub last_is_last : (rest : List ℕ) → is_last (last_kind rest) ≡ true
-last_is_last [] = refl
-last_is_last (b ∷ bs) = bad_is_last (class b)
 
 -- one piece further
 pub step : (old new : Lexer) (k : Kind) (n : ℕ) → Some (k, n) ≡ piece_at old.rest.now

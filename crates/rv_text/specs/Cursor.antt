@@ -15,10 +15,6 @@ use Rattle.rv_text.specs.Left.{tokens_left}
 unfoldable pub left : Cursor → List lexing.Token
 left c = token_of c.next ∷ (if lexing.is_last (kind_of c.next.kind) then [] else tokens_left c.lexer)
 
--- the lexer before the next token has the same tokens left
-abbrev pub IsAhead : Cursor → Type 0
-IsAhead c = tokens_left c.before ≡ left c
-
 -- the wrong token that an error names
 abbrev pub wrong_of : Wrong → wrongs.Wrong
 wrong_of w = record { place = w.place; line = w.line; code = number_of w.code }

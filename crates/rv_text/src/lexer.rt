@@ -1,6 +1,6 @@
 //! The lexer: the tokens of a source, one after the other.
 
-ghost use Rattle.std.specs.Prelude.{◌≡◌, ◌+◌, ◌<◌, ◌≤◌, ◌^◌, ◌∷◌, [], true, length, take, drop, if◌then◌else◌};
+ghost use Rattle.std.specs.Prelude.{◌≡◌, ◌+◌, ◌-◌, ◌<◌, ◌≤◌, ◌^◌, ◌∷◌, [], true, length, take, drop, if◌then◌else◌};
 ghost use Rattle.rv_text_laws.specs.Grammar.{Spells};
 ghost use Rattle.rv_text_laws.specs.Lexing.{newlines, is_last, last_kind};
 ghost use Rattle.rv_text.specs.Piece.{piece_kind_of};
@@ -65,6 +65,16 @@ impl<'a> Lexer<'a> {
             stop: self.at,
             line: self.line,
         }
+    }
+
+    /// The bytes between two places.
+    pub(crate) fn between(&self, start: u32, stop: u32) -> &'a [u8]
+        requires within { (self.now.at ≤ start) × (start ≤ stop) × (stop ≤ self.now.at + length self.now.rest.now) }
+        ensures { result.now ≡ take (stop - start) (drop (start - self.now.at) self.now.rest.now) }
+    {
+        let from = (start - self.at) as usize;
+        let to = (stop - self.at) as usize;
+        &self.rest[from..to]
     }
 
     /// Passes over the piece at the front.

@@ -8,7 +8,7 @@ ghost use Rattle.rv_text_laws.specs.declared.operator.Frame.TheVariants.{Infix};
 ghost use Rattle.rv_text.specs.Fault.{number_of};
 ghost use Rattle.rv_text.specs.Token.{kind_of};
 ghost use Rattle.rv_text.specs.Left.{tokens_left};
-ghost use Rattle.rv_text.specs.Cursor.{left, Answers, IsAhead};
+ghost use Rattle.rv_text.specs.Cursor.{left, Answers};
 ghost use Rattle.rv_text.specs.Nodes.{node_of, nodes_of, some_nodes};
 ghost use Rattle.rv_text.specs.Expr.{begin_of, follow_of, stack_of, stage_of, Steps, expr_of, NamesFault, NoReading};
 
@@ -382,8 +382,7 @@ pub fn expression<'a, R: Registers>(
     alloc: Global,
     cursor: &mut Cursor<'a>,
 ) -> Result<Expr<'a>, Refusal>
-    ensures reads { Answers (λ e. (expr_of e, left cursor.new)) result (reading.expression_at R.registers (left cursor.old)) }
-    ensures ahead { IsAhead cursor.old → IsAhead cursor.new }
+    ensures { Answers (λ e. (expr_of e, left cursor.new)) result (reading.expression_at R.registers (left cursor.old)) }
 {
     let mut frames = Vec::new(alloc);
     let mut stage = Stage::Wants(None);

@@ -36,14 +36,14 @@ same_place : (a b : ℕ) → a ≡ b → (a == b) ≡ true
 same_place a b e = grind (arith, nat_tests)
 
 -- a token stands at the place and goes on with a name, where it joins
-joined_parts : (place : ℕ) (t : Token) (bytes : List ℕ) → joins place t ≡ Some bytes → (t.start ≡ place) × (bytes_of t.kind ≡ Some bytes)
+pub joined_parts : (place : ℕ) (t : Token) (bytes : List ℕ) → joins place t ≡ Some bytes → (t.start ≡ place) × (bytes_of t.kind ≡ Some bytes)
 joined_parts place t bytes e = go (t.start == place) refl e
   where
     go : (b : Bool) → (t.start == place) ≡ b → cond b (bytes_of t.kind) None ≡ Some bytes → (t.start ≡ place) × (bytes_of t.kind ≡ Some bytes)
     go true is e = (eqb-true t.start place is, e)
     go false is e = absurd (cc)
 
-parts_join : (place : ℕ) (t : Token) (bytes : List ℕ) → t.start ≡ place → bytes_of t.kind ≡ Some bytes → joins place t ≡ Some bytes
+pub parts_join : (place : ℕ) (t : Token) (bytes : List ℕ) → t.start ≡ place → bytes_of t.kind ≡ Some bytes → joins place t ≡ Some bytes
 parts_join place t bytes at e = ap (λ (b : Bool). cond b (bytes_of t.kind) None) (same_place t.start place at) ∙ e
 
 -- one token

@@ -11,22 +11,19 @@ use Rattle.rv_text.proofs.ReadingSteps.{begun, ended, failed, read_fits}
 use Rattle.rv_text.proofs.reading.expression.Goals as goal
 
 pub tokens-init : goal.tokens-init
-tokens-init g c = record {
-  reads = begun _ _ (stack_of c.new-frames.result.items) (ap stack_of c.new-frames.ensures.items ∙ stack_none);
-  ahead = λ h. h;
-}
+tokens-init g c = begun _ _ (stack_of c.new-frames.result.items) (ap stack_of c.new-frames.ensures.items ∙ stack_none)
 
 pub new-requires : goal.new-requires
 new-requires g c =
     read_fits _ _ (nodes_of c.in-Ok-Ends.nodes) _
-    (ended _ _ c.tokens.cursor (stage_of c.tokens.frames.items c.tokens.stage) (nodes_of c.in-Ok-Ends.nodes) c.tokens.invariant.reads (rw c.in-Ok-Ends.field-0-is at c.in-Ok-Ends.ensures))
+    (ended _ _ c.tokens.cursor (stage_of c.tokens.frames.items c.tokens.stage) (nodes_of c.in-Ok-Ends.nodes) c.tokens.invariant (rw c.in-Ok-Ends.field-0-is at c.in-Ok-Ends.ensures))
 
-pub returns-in-Ok-Ends-clause-reads : goal.returns-in-Ok-Ends-clause-reads
-returns-in-Ok-Ends-clause-reads g c =
-    ended _ _ c.tokens.cursor (stage_of c.tokens.frames.items c.tokens.stage) (nodes_of c.in-Ok-Ends.nodes) c.tokens.invariant.reads (rw c.in-Ok-Ends.field-0-is at c.in-Ok-Ends.ensures)
+pub returns-in-Ok-Ends : goal.returns-in-Ok-Ends
+returns-in-Ok-Ends g c =
+    ended _ _ c.tokens.cursor (stage_of c.tokens.frames.items c.tokens.stage) (nodes_of c.in-Ok-Ends.nodes) c.tokens.invariant (rw c.in-Ok-Ends.field-0-is at c.in-Ok-Ends.ensures)
     ∙ ap (λ (ns : List Node). Ok (ns, left c.tokens.cursor)) (sym c.in_ok-new-in-Ok-Ends.ensures)
 
-pub returns-in-Err-Wrong-clause-reads : goal.returns-in-Err-Wrong-clause-reads
-returns-in-Err-Wrong-clause-reads g c =
-    failed _ _ c.tokens.cursor (stage_of c.tokens.frames.items c.tokens.stage) (number_of c.in-Err-Wrong.code) c.tokens.invariant.reads (rw c.in-Err-Wrong.field-0-is at c.in-Err-Wrong.ensures)
+pub returns-in-Err-Wrong : goal.returns-in-Err-Wrong
+returns-in-Err-Wrong g c =
+    failed _ _ c.tokens.cursor (stage_of c.tokens.frames.items c.tokens.stage) (number_of c.in-Err-Wrong.code) c.tokens.invariant (rw c.in-Err-Wrong.field-0-is at c.in-Err-Wrong.ensures)
     ∙ ap (λ (w : Wrong). Err w) (sym (rw c.in-Err-Wrong.field-0-is at c.wrong.ensures))
