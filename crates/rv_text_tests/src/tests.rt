@@ -1,6 +1,6 @@
 use rv_text::{
-    Lexer, Meaning, Registers, Sign, SourceFault, Symbol, TokenKind, Value, append_string, eval,
-    parse_expr,
+    Cursor, Lexer, Meaning, Registers, Sign, SourceFault, Symbol, TokenKind, Value, append_string,
+    eval, parse_expr,
 };
 use std::alloc::Global;
 use std::process::Abort;
@@ -426,4 +426,20 @@ fn strings_with_escapes(rt: HostRuntime) -> Result<(), Fail> {
     append_string(b"", &mut bytes)?;
     assert!(&rt; bytes.as_slice() == b"a\n\0S4Ag\xff\"\\".as_slice());
     Ok(())
+}
+
+/// The name with minus signs at the front of a text.
+fn joined(text: &[u8]) -> Option<&[u8]> {
+    if text.len() > 65536 {
+        return None;
+    }
+    Cursor::new(Lexer::new(text)).joined()
+}
+
+#[test]
+fn names_with_minus_signs(rt: HostRuntime) {
+    assert!(&rt; joined(b" .note.GNU-stack,\"\"") == Some(b".note.GNU-stack".as_slice()));
+    assert!(&rt; joined(b"a--1f-08-0x1g - b") == Some(b"a--1f-08-0x1g".as_slice()));
+    assert!(&rt; joined(b"a/**/-b") == Some(b"a".as_slice()));
+    assert!(&rt; joined(b"-a").is_none());
 }
