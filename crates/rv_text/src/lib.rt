@@ -28,5 +28,5 @@ pub use node::{Node, Symbol};
 pub use place::LONGEST_NAME;
 pub use reading::{Registers, expression, parse_expr};
 pub use rv_text_laws::{BinaryOperator, Sign, UnaryOperator};
-pub use text::append_string;
+pub use text::{append_string, string_contains, string_size};
 pub use token::{Token, TokenKind};

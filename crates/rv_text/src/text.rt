@@ -1,7 +1,7 @@
 //! Strings and characters.
 
 ghost use Rattle.std.specs.Prelude.{◌≡◌, ◌==◌, ◌+◌, ◌%◌, ◌<◌, ◌≤◌, None, false, length, take, option_map, if◌then◌else◌, IfOk, ◌++◌};
-ghost use Rattle.std.specs.List.{prefix_len};
+ghost use Rattle.std.specs.List.{prefix_len, list_any};
 ghost use Rattle.rv_text_laws.specs.Cut.{cut};
 ghost use Rattle.rv_text_laws.specs.Bytes.{is_digit};
 ghost use Rattle.rv_text_laws.specs.Strings.{byte_of, named, is_plain, is_character};
@@ -153,6 +153,35 @@ pub fn append_string(text: &[u8], bytes: &mut Vec<u8>) -> Result<(), AllocError>
         rest = after;
     }
     Ok(())
+}
+
+/// Whether a string has the byte, by what stands between its quotes.
+pub fn string_contains(text: &[u8], wanted: u8) -> bool
+    ensures { result ≡ list_any (λ byte. byte == wanted) (string_bytes text.now) }
+{
+    let mut rest = text;
+    while let Some((byte, length)) = atom_at(rest) {
+        if byte == wanted {
+            return true;
+        }
+        let (_, after) = rest.split_at(length);
+        rest = after;
+    }
+    false
+}
+
+/// How many bytes a string has, by what stands between its quotes.
+pub fn string_size(text: &[u8]) -> usize
+    ensures { result ≡ length (string_bytes text.now) }
+{
+    let mut rest = text;
+    let mut size = 0;
+    while let Some((_, length)) = atom_at(rest) {
+        let (_, after) = rest.split_at(length);
+        rest = after;
+        size += 1;
+    }
+    size
 }
 
 /// A character that stands for itself, after its apostrophe: its byte, and its length with both.

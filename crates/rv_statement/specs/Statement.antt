@@ -1,0 +1,63 @@
+-- What a statement says, as plain data (RISC-V Assembly Programmer's Manual; GNU as, "Pseudo Ops"). Later kinds are
+-- further cases.
+
+use Rattle.std.specs.Prelude.{ℕ, List, Bool, Option}
+use Rattle.rv_text_laws.specs.Expression.{Tree}
+use Rattle.rv_statement.specs.declared.mnemonic.Mnemonic.{Mnemonic}
+use Rattle.rv_statement.specs.declared.mnemonic.AccessSet.{AccessSet}
+use Rattle.rv_statement.specs.declared.directive.Standard.{Standard}
+use Rattle.rv_statement.specs.declared.directive.Choice.{Choice}
+
+-- an expression of a statement: as it is written, without its parentheses
+abbrev pub Expression : Type 0
+Expression = Tree
+
+-- an operand, or a part of one: `8(sp)` is its offset and then its register
+pub data Operand : Type 0 where
+  -- a register, by its number
+  Register : (number : ℕ) → Operand
+  Value : (expression : Expression) → Operand
+  -- the accesses that a fence orders
+  Accesses : (set : AccessSet) → Operand
+  -- a symbol's name, or another word
+  Word : (name : List ℕ) → Operand
+  -- the bytes of a string
+  Quoted : (bytes : List ℕ) → Operand
+
+pub data Directive : Type 0 where
+  -- `.text`, `.data`, `.rodata` and `.bss`
+  Enters : (section : Standard) → Directive
+  -- `.section`, with its flags' letters and its type's name where they are given
+  Opens : (name : List ℕ) (flags kind : Option (List ℕ)) → Directive
+  -- `.globl` and `.global`, with their names in order
+  Globl : (names : List (List ℕ)) → Directive
+  -- `.local`, with its names in order
+  Local : (names : List (List ℕ)) → Directive
+  -- `.set` and `.equ`
+  Sets : (name : List ℕ) (expression : Expression) → Directive
+  -- `.align` and `.p2align`: to this power of two
+  Aligns_to_power : (exponent : Expression) → Directive
+  -- `.balign`: to so many bytes
+  Aligns_to_bytes : (bytes : Expression) → Directive
+  -- `.byte` to `.quad`: values of 1, 2, 4 or 8 bytes each
+  Values : (width : ℕ) (values : List Expression) → Directive
+  -- the bytes of strings: `.ascii`, or `.asciz` and `.string` with a zero byte behind each
+  Strings : (ended : Bool) (strings : List (List ℕ)) → Directive
+  -- `.zero`, `.space` and `.skip`: so many zero bytes
+  Zeros : (count : Expression) → Directive
+  -- `.option`
+  Chooses : (choice : Choice) → Directive
+  -- a directive without effect
+  Ignored : Directive
+
+pub data Statement : Type 0 where
+  Label : (name : List ℕ) → Statement
+  -- a numeric label, by its number
+  Numbered : (number : ℕ) → Statement
+  Instruction : (mnemonic : Mnemonic) (operands : List Operand) → Statement
+  Directs : (directive : Directive) → Statement
+
+-- a statement with the line of its first byte, from 1; its ordinal is its place in the list, from 1
+pub record Spoken : Type 0 where
+  pub line : ℕ
+  pub says : Statement

@@ -1,0 +1,127 @@
+//! Statements as the code holds them: names, digits and strings are parts of the source.
+
+use crate::directive::{Choice, Standard, Width};
+use crate::mnemonic::{
+    AccessSet, AtomicForm, AtomicOperation, ImmediateOperation, LoadOperation, RegisterOperation,
+    ShiftOperation, StoreOperation, UpperOperation,
+};
+use rv_isa::Reg;
+use rv_text::Expr;
+
+/// An instruction without an expression.
+#[derive(Clone, Copy, Debug, PartialEq, Eq, Drop)]
+pub enum Plain {
+    /// `add rd, rs1, rs2`
+    Registers(RegisterOperation, Reg, Reg, Reg),
+    /// `lw rd, (rs1)`
+    Load(LoadOperation, Reg, Reg),
+    /// `sw rs2, (rs1)`
+    Store(StoreOperation, Reg, Reg),
+    /// `jalr rd, rs1` or `jalr rd, (rs1)`
+    Jalr(Reg, Reg),
+    /// `jalr rs1` or `jalr (rs1)`
+    JalrLinked(Reg),
+    /// `lr.w rd, (rs1)`
+    LoadReserved(AtomicForm, Reg, Reg),
+    /// `amoadd.w rd, rs2, (rs1)`
+    Atomic(AtomicOperation, AtomicForm, Reg, Reg, Reg),
+    /// `fence`
+    Fence,
+    /// `fence before, after`
+    FenceBetween(AccessSet, AccessSet),
+    FenceTso,
+    Ecall,
+    Ebreak,
+}
+
+/// A mnemonic with its registers, and an expression among them.
+#[derive(Clone, Copy, Debug, PartialEq, Eq, Drop)]
+pub enum Operation {
+    /// `add rd, rs1, ..`
+    Registers(RegisterOperation, Reg, Reg),
+    /// `addi rd, rs1, ..`
+    Immediate(ImmediateOperation, Reg, Reg),
+    /// `slli rd, rs1, ..`
+    Shift(ShiftOperation, Reg, Reg),
+    /// `lui rd, ..`
+    Upper(UpperOperation, Reg),
+    /// `lw rd, ..(rs1)`
+    Load(LoadOperation, Reg, Reg),
+    /// `sw rs2, ..(rs1)`
+    Store(StoreOperation, Reg, Reg),
+    /// `jalr rd, ..(rs1)`
+    Jalr(Reg, Reg),
+    /// `jalr rd, rs1, ..`
+    JalrThen(Reg, Reg),
+    /// `jalr ..(rs1)`
+    JalrLinked(Reg),
+    /// `li rd, ..`
+    Li(Reg),
+}
+
+/// What `.section` says.
+#[derive(Debug, Drop)]
+pub struct Opening<'a> {
+    pub name: &'a [u8],
+    /// The flags' letters, as they stand between the quotes.
+    pub flags: Option<&'a [u8]>,
+    /// The type's name.
+    pub kind: Option<&'a [u8]>,
+}
+
+/// What `.set` says.
+#[derive(Debug, Drop)]
+pub struct Setting<'a> {
+    pub name: &'a [u8],
+    pub expression: Expr<'a>,
+}
+
+/// What a statement says.
+#[derive(Debug, Drop)]
+pub enum StatementKind<'a> {
+    /// A label.
+    Label(&'a [u8]),
+    /// A numeric label, by its decimal digits.
+    Numbered(&'a [u8]),
+    /// An instruction without an expression.
+    Plain(Plain),
+    /// An instruction with an expression among its operands.
+    With(Operation, Expr<'a>),
+    /// `.text`, `.data`, `.rodata` and `.bss`
+    Enters(Standard),
+    /// `.section`
+    Opens(Box<Opening<'a>>),
+    /// `.globl` or `.global`, with its names in order.
+    Globl(Vec<&'a [u8]>),
+    /// `.local`, with its names in order.
+    Local(Vec<&'a [u8]>),
+    /// `.set` or `.equ`
+    Sets(Box<Setting<'a>>),
+    /// `.align` or `.p2align`: to this power of two.
+    AlignsToPower(Expr<'a>),
+    /// `.balign`: to so many bytes.
+    AlignsToBytes(Expr<'a>),
+    /// `.byte` to `.quad` with one value.
+    Value(Width, Expr<'a>),
+    /// `.byte` to `.quad` with several values.
+    Values(Width, Vec<Expr<'a>>),
+    /// `.ascii`: strings, each as it stands between its quotes.
+    Ascii(Vec<&'a [u8]>),
+    /// `.asciz` or `.string`: strings with a zero byte behind each.
+    Asciz(Vec<&'a [u8]>),
+    /// `.zero`, `.space` or `.skip`: so many zero bytes.
+    Zeros(Expr<'a>),
+    /// `.option`
+    Chooses(Choice),
+    /// A directive without effect.
+    Ignored,
+}
+
+/// A statement, with the line of its first byte, from 1. Its ordinal is its place in the source's list, from 1.
+#[derive(Debug, Drop)]
+pub struct Statement<'a> {
+    pub kind: StatementKind<'a>,
+    pub line: u32,
+}
+
+const _: () = prove!(size_of::<Statement<'static>>() <= 40);

@@ -1,0 +1,6 @@
+mod Lowest
+mod Digits
+mod Filling
+mod Given
+mod Lookups
+mod Scoped

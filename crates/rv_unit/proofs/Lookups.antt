@@ -1,0 +1,244 @@
+-- What look-ups by name and searches of the code find.
+
+use Rattle.std.proofs.Common.{◌≡◌, ℕ, suc, ◌+◌, ◌<◌, ◌≤◌, Bool, true, false, cond, ◌&&◌, ◌||◌, ◌==◌, nat_lt, nat_le, List, [], ◌∷◌, ◌++◌, zero, ◌-◌, ◌^◌, min, max, length, map, take, get_or, refl, sym, ap, ◌∙◌, arith, Option, Some, None, option_map}
+use Rattle.std.specs.Prelude.{reverse, not, is_some, slice_index_or, if◌then◌else◌}
+use Rattle.std.specs.Borrow.{Bor}
+use Rattle.std.specs.List.{find, list_all}
+use Rattle.std.specs.Map.{lookup}
+use Rattle.std.specs.Str.{bytes_eq}
+use Rattle.std.proofs.lemmas.List.{take_more, map-append, reverse-append}
+use Rattle.std.proofs.lemmas.Bool.{ltb-true, ltb-false, leb-true}
+use Rattle.rv_text_laws.specs.Expression.{Primary, Literal, Symbol, Here, Reference}
+use Rattle.rv_text_laws.specs.Values.{Meaning, Known, Placed, Open, Refused, Symbolic}
+use Rattle.rv_text_laws.specs.Bytes.{value}
+use Rattle.std.proofs.lemmas.List.Folds.{list_all-append}
+use Rattle.rv_unit_laws.specs.Sections.{Section, place_of_name, current_section, text_section}
+use Rattle.rv_unit_laws.specs.Tables as laws
+use Rattle.rv_unit_laws.proofs.Found.{bytes_swap, same_bytes, find_all, and_both}
+use Rattle.rv_unit_laws.proofs.Before.{IsBefore, label_before, set_now, none_later, defined_now, has_place_now, placed_latest}
+use Rattle.rv_unit_laws.proofs.Entering.{place_more, or_last}
+use Rattle.std.proofs.Math.ListN.{set}
+use Rattle.rv_unit.specs.declared.section.Extent.{Extent}
+use Rattle.rv_unit.specs.declared.tables.Given.{Given}
+use Rattle.rv_unit.specs.declared.tables.Label.{Label}
+use Rattle.rv_unit.specs.declared.tables.Mark.{Mark}
+use Rattle.rv_unit.specs.Sections.{section_of, extent_section}
+use Rattle.rv_unit.specs.Tables.{labelled_of, label_at, marked_of, setting_of}
+
+-- a label by its name
+pub label_found : (name : List ℕ) (es : List (Bor (List ℕ) × Label)) → option_map (label_at name) (lookup (λ (k : Bor (List ℕ)). bytes_eq name k.now) es) ≡ laws.label_of (map labelled_of es) true 0 name
+label_found name [] = refl
+label_found name (e ∷ es) = by (bytes_eq name e.0.now) (bytes_eq e.0.now name) refl refl (label_found name es)
+  where
+    by : (b c : Bool) → bytes_eq name e.0.now ≡ b → bytes_eq e.0.now name ≡ c → option_map (label_at name) (lookup (λ (k : Bor (List ℕ)). bytes_eq name k.now) es) ≡ laws.label_of (map labelled_of es) true 0 name
+        → option_map (label_at name) (cond b (Some e.1) (lookup (λ (k : Bor (List ℕ)). bytes_eq name k.now) es)) ≡ cond (c && true) (Some (labelled_of e)) (laws.label_of (map labelled_of es) true 0 name)
+    by true true p q rest = ap (λ n. Some (label_at n e.1)) (same_bytes name e.0.now p)
+    by false false p q rest = rest
+    by true false p q rest = absurd (let s = sym p ∙ bytes_swap name e.0.now ∙ q in let t : true ≡ false = s in cc)
+    by false true p q rest = absurd (let s = sym p ∙ bytes_swap name e.0.now ∙ q in let t : false ≡ true = s in cc)
+
+-- a search through numeric labels, latest first, by one more
+pub marks_more : (f : Mark → laws.Marked) (xs : List Mark) (i : ℕ) (d : Mark) → i < length xs → reverse (map f (take (i + 1) xs)) ≡ f (get_or xs i d) ∷ reverse (map f (take i xs))
+marks_more f xs i d inside =
+    ap (λ l. reverse (map f l)) (take_more xs i d inside) ∙ ap reverse (map-append f (take i xs) (get_or xs i d ∷ [])) ∙ reverse-append (map f (take i xs)) (f (get_or xs i d) ∷ [])
+
+-- the names of the first section
+pub indexed_first : (es : List (Bor (List ℕ) × ℕ)) (k : Bor (List ℕ)) (ss : List Section) (s : Section) → es ≡ (k, 0) ∷ [] → ss ≡ s ∷ [] → k.now ≡ s.name → (name : List ℕ)
+    → lookup (λ (k : Bor (List ℕ)). bytes_eq name k.now) es ≡ place_of_name ss name
+indexed_first es k ss s only first same name =
+    ap (lookup (λ (k : Bor (List ℕ)). bytes_eq name k.now)) only
+    ∙ ap (λ b. cond {A = Option ℕ} b (Some 0) None) (bytes_swap name k.now ∙ ap (λ n. bytes_eq n name) same)
+    ∙ by (bytes_eq s.name name) ∙ sym (ap (λ l. place_of_name l name) first)
+  where
+    by : (b : Bool) → cond {A = Option ℕ} b (Some 0) None ≡ (if b then Some 0 else None)
+    by true = refl
+    by false = refl
+
+-- a name that is set, and one that is not
+pub named_set : (t : laws.Tables) (o : ℕ) (name : List ℕ) (s : laws.Setting) → IsBefore t o → laws.set_ever t.settings name ≡ Some s → laws.named t false o name ≡ s.meaning
+named_set t o name s h is =
+    ap (λ f. laws.set_first f (laws.labelled t.opened (laws.label_of t.labels false o name) (laws.set_later false (laws.set_ever t.settings name)))) (set_now t o name h ∙ is)
+
+pub named_other : (t : laws.Tables) (o : ℕ) (name : List ℕ) → IsBefore t o → laws.set_ever t.settings name ≡ None → laws.named t false o name ≡ laws.labelled t.opened (laws.label_of t.labels true 0 name) Open
+named_other t o name h is =
+    ap (λ f. laws.set_first f (laws.labelled t.opened (laws.label_of t.labels false o name) Open)) (set_now t o name h ∙ is)
+    ∙ ap (λ l. laws.labelled t.opened l Open) (label_before t o name h)
+
+-- the nearest numeric label before the next statement
+pub marked_latest : (t : laws.Tables) (o number : ℕ) → IsBefore t o → laws.marked_before t.marks o number ≡ find (λ m. m.number == number) t.marks
+marked_latest t o number h = find_all (λ m. m.number == number) (λ m. nat_lt m.ordinal o) t.marks h.marks
+
+-- nothing comes behind the next statement
+pub marked_none : (t : laws.Tables) (o number : ℕ) → IsBefore t o → laws.marked_after t.marks o number ≡ None
+marked_none t o number h = none_later o number (reverse t.marks) (all_reversed (λ m. nat_lt m.ordinal o) t.marks h.marks)
+  where
+    all_reversed : (p : laws.Marked → Bool) (xs : List laws.Marked) → list_all p xs ≡ true → list_all p (reverse xs) ≡ true
+    all_reversed p [] h = refl
+    all_reversed p (x ∷ xs) h =
+        let both = and_both (p x) (list_all p xs) h in
+        ap (list_all p) (reverse-append (x ∷ []) xs) ∙ list_all-append p (reverse xs) (x ∷ []) ∙ ap (λ b. b && (p x && true)) (all_reversed p xs both.1) ∙ ap (λ b. b && true) both.0
+
+-- the names of one section more
+pub indexed_more : (old new : List (Bor (List ℕ) × ℕ)) (ss more : List Section) (s : Section) (n : ℕ) (key : Bor (List ℕ))
+    → ((name : List ℕ) → lookup (λ (k : Bor (List ℕ)). bytes_eq name k.now) old ≡ place_of_name ss name) → place_of_name ss s.name ≡ None → n ≡ length ss → more ≡ ss ++ s ∷ [] → key.now ≡ s.name
+    → ((q : Bor (List ℕ)) → lookup (λ (k : Bor (List ℕ)). bytes_eq q.now k.now) new ≡ cond (bytes_eq key.now q.now) (Some n) (lookup (λ (k : Bor (List ℕ)). bytes_eq q.now k.now) old))
+    → (name : List ℕ) → lookup (λ (k : Bor (List ℕ)). bytes_eq name k.now) new ≡ place_of_name more name
+indexed_more old new ss more s n key indexed free count is same updates name =
+    updates (record { ref_ptr = (0, 0); now = name })
+    ∙ ap (λ f. cond (bytes_eq key.now name) (Some n) f) (indexed name)
+    ∙ ap (λ b. cond (bytes_eq b name) (Some n) (place_of_name ss name)) same
+    ∙ ap (λ m. cond (bytes_eq s.name name) (Some m) (place_of_name ss name)) count
+    ∙ by (bytes_eq s.name name) (place_of_name ss name) refl refl
+    ∙ sym (place_more ss s name)
+    ∙ sym (ap (λ l. place_of_name l name) is)
+  where
+    by : (b : Bool) (f : Option ℕ) → bytes_eq s.name name ≡ b → place_of_name ss name ≡ f → cond b (Some (length ss)) f ≡ or_last f (length ss) b
+    by true None e p = refl
+    by false None e p = refl
+    by false (Some i) e p = refl
+    by true (Some i) e p = absurd (let q : ◌≡◌ {A = Option ℕ} (Some i) None = sym p ∙ ap (place_of_name ss) (sym (same_bytes s.name name e)) ∙ free in cc)
+
+-- the latest settings with one more
+pub latest_more : (old new : List (Bor (List ℕ) × Given)) (ss more : List laws.Setting) (g : Given)
+    → ((name : List ℕ) → option_map setting_of (lookup (λ (k : Bor (List ℕ)). bytes_eq name k.now) old) ≡ laws.set_ever ss name) → more ≡ setting_of g ∷ ss
+    → ((q : Bor (List ℕ)) → lookup (λ (k : Bor (List ℕ)). bytes_eq q.now k.now) new ≡ cond (bytes_eq g.name.now q.now) (Some g) (lookup (λ (k : Bor (List ℕ)). bytes_eq q.now k.now) old))
+    → (name : List ℕ) → option_map setting_of (lookup (λ (k : Bor (List ℕ)). bytes_eq name k.now) new) ≡ laws.set_ever more name
+latest_more old new ss more g indexed is updates name =
+    ap (option_map setting_of) (updates (record { ref_ptr = (0, 0); now = name }))
+    ∙ by (bytes_eq g.name.now name) ∙ sym (ap (λ l. laws.set_ever l name) is)
+  where
+    by : (b : Bool) → option_map setting_of (cond b (Some g) (lookup (λ (k : Bor (List ℕ)). bytes_eq name k.now) old)) ≡ cond b (Some (setting_of g)) (laws.set_ever ss name)
+    by true = refl
+    by false = indexed name
+
+pub settings_more : (items new : List Given) (g : Given) → new ≡ items ++ g ∷ [] → reverse (map setting_of new) ≡ setting_of g ∷ reverse (map setting_of items)
+settings_more items new g is = ap (λ l. reverse (map setting_of l)) is ∙ ap reverse (map-append setting_of items (g ∷ [])) ∙ reverse-append (map setting_of items) (setting_of g ∷ [])
+
+-- a label that is defined, and one that is not
+pub with_label_old : (t : laws.Tables) (o : ℕ) (name : List ℕ) → IsBefore t o → (is_some (laws.label_of t.labels true 0 name) || is_some (laws.set_ever t.settings name)) ≡ true → t ≡ laws.with_label t o name
+with_label_old t o name h is = sym (ap (λ b. if b then t else record t { labels = t.labels ++ record { name = name; ordinal = o; place = laws.here t } ∷ [] }) (defined_now t o name h ∙ is))
+
+pub with_label_new : (t : laws.Tables) (o : ℕ) (name : List ℕ) (ls : List laws.Labelled) → IsBefore t o → (is_some (laws.label_of t.labels true 0 name) || is_some (laws.set_ever t.settings name)) ≡ false
+    → ls ≡ t.labels ++ record { name = name; ordinal = o; place = laws.here t } ∷ [] → record t { labels = ls } ≡ laws.with_label t o name
+with_label_new t o name ls h is added =
+    ap (λ l. record t { labels = l }) added
+    ∙ sym (ap (λ b. if b then t else record t { labels = t.labels ++ record { name = name; ordinal = o; place = laws.here t } ∷ [] }) (defined_now t o name h ∙ is))
+
+-- a name without a label is in no entry
+pub label_none : (name : List ℕ) (es : List (Bor (List ℕ) × Label)) (other : Bool) → (is_some (laws.label_of (map labelled_of es) true 0 name) || other) ≡ false → lookup (λ (k : Bor (List ℕ)). bytes_eq name k.now) es ≡ None
+label_none name es other h = by (lookup (λ (k : Bor (List ℕ)). bytes_eq name k.now) es) refl
+  where
+    by : (f : Option Label) → lookup (λ (k : Bor (List ℕ)). bytes_eq name k.now) es ≡ f → f ≡ None
+    by None e = refl
+    by (Some l) e = absurd (let some : true ≡ false = sym (ap (λ r. is_some r || other) (sym (label_found name es) ∙ ap (option_map (label_at name)) e)) ∙ h in cc)
+
+-- whether a setting may be made
+pub taken_place : (t : laws.Tables) (s : laws.Setting) (m : Meaning) (b : Bool) → s.meaning ≡ m → IsBefore t s.ordinal → laws.is_placed_setting (record s { meaning = m }) ≡ true
+    → b ≡ (is_some (laws.label_of t.labels true 0 s.name) || is_some (laws.set_ever t.settings s.name)) → not b ≡ laws.may_set t s.ordinal s.name m
+taken_place t s (Placed section offset) b e h is same = ap not (same ∙ sym (defined_now t s.ordinal s.name h))
+taken_place t s (Known n) b e h is same = absurd (cc)
+taken_place t s Open b e h is same = absurd (cc)
+taken_place t s (Refused code) b e h is same = absurd (cc)
+
+pub taken_other : (t : laws.Tables) (s : laws.Setting) (m : Meaning) (b : Bool) → s.meaning ≡ m → IsBefore t s.ordinal → laws.is_placed_setting (record s { meaning = m }) ≡ false
+    → b ≡ (is_some (laws.label_of t.labels true 0 s.name) || placed_latest (laws.set_ever t.settings s.name)) → not b ≡ laws.may_set t s.ordinal s.name m
+taken_other t s (Placed section offset) b e h is same = absurd (cc)
+taken_other t s (Known n) b e h is same = ap not (same ∙ sym (has_place_now t s.ordinal s.name h))
+taken_other t s Open b e h is same = ap not (same ∙ sym (has_place_now t s.ordinal s.name h))
+taken_other t s (Refused code) b e h is same = ap not (same ∙ sym (has_place_now t s.ordinal s.name h))
+
+pub set_not : (t : laws.Tables) (s : laws.Setting) → true ≡ not (laws.may_set t s.ordinal s.name s.meaning) → t ≡ laws.with_setting t (Some s)
+set_not t s is = by (laws.may_set t s.ordinal s.name s.meaning) is
+  where
+    by : (b : Bool) → true ≡ not b → t ≡ (if b then record t { settings = s ∷ t.settings } else t)
+    by true e = absurd (cc)
+    by false e = refl
+
+pub set_one : (t : laws.Tables) (s : laws.Setting) (more : List laws.Setting) → laws.may_set t s.ordinal s.name s.meaning ≡ true → more ≡ s ∷ t.settings → record t { settings = more } ≡ laws.with_setting t (Some s)
+set_one t s more is added = ap (λ l. record t { settings = l }) added ∙ sym (ap (λ b. if b then record t { settings = s ∷ t.settings } else t) is)
+
+-- a numeric label that is found in the back
+pub mark_hit : (number : ℕ) (items : List Mark) (left : ℕ) (m : Mark) (r : Option laws.Marked) → 0 < left → left ≤ length items → m ≡ get_or items (left - 1) m → (value 10 m.digits.now == number) ≡ true
+    → find (λ n. n.number == number) (reverse (map marked_of (take left items))) ≡ r → Some (marked_of m) ≡ r
+mark_hit number items left m r some within is same rest =
+    let inside : left - 1 < length items = omega arith in
+    let next : left ≡ left - 1 + 1 = omega arith in
+    let others : List laws.Marked = reverse (map marked_of (take (left - 1) items)) in
+    sym (ap (λ n. find (λ (k : laws.Marked). k.number == number) (reverse (map marked_of (take n items)))) next
+    ∙ ap (find (λ (k : laws.Marked). k.number == number)) (marks_more marked_of items (left - 1) m inside)
+    ∙ ap (λ (y : Mark). find (λ (k : laws.Marked). k.number == number) (marked_of y ∷ others)) (sym is)
+    ∙ ap (λ b. cond b (Some (marked_of m)) (find (λ (k : laws.Marked). k.number == number) others)) same)
+    ∙ rest
+
+-- one extent of the list changes
+pub changed_map : (f : Extent → ℕ) (change : ℕ → ℕ) (es : List Extent) (n : ℕ) (e w : Extent) → n < length es → e ≡ get_or es n e → f w ≡ change (f e) → map f (set es n w) ≡ laws.changed_at n change (map f es)
+changed_map f change [] n e w inside at is = absurd (omega arith)
+changed_map f change (x ∷ xs) zero e w inside at is = ap (λ r. r ∷ map f xs) (is ∙ ap (λ y. change (f y)) at)
+changed_map f change (x ∷ xs) (suc n) e w inside at is = ap (λ r. f x ∷ r) (changed_map f change xs n e w (omega arith) at is)
+
+pub same_map : {Y : Type 0} (g : Extent → Y) (es : List Extent) (n : ℕ) (e w : Extent) → n < length es → e ≡ get_or es n e → g w ≡ g e → map g (set es n w) ≡ map g es
+same_map g [] n e w inside at is = absurd (omega arith)
+same_map g (x ∷ xs) zero e w inside at is = ap (λ r. r ∷ map g xs) (is ∙ ap g at)
+same_map g (x ∷ xs) (suc n) e w inside at is = ap (λ r. g x ∷ r) (same_map g xs n e w (omega arith) at is)
+
+pub index_map : {Y : Type 0} (g : Extent → Y) (es : List Extent) (n : ℕ) (e : Extent) (d : Y) → n < length es → e ≡ get_or es n e → slice_index_or (map g es) n d ≡ g e
+index_map g [] n e d inside at = absurd (omega arith)
+index_map g (x ∷ xs) zero e d inside at = ap g (sym at)
+index_map g (x ∷ xs) (suc n) e d inside at = index_map g xs n e d (omega arith) at
+
+abbrev pub shown : List Section → List ℕ → List ℕ → ℕ → List laws.Labelled → List laws.Marked → List laws.Setting → ℕ → laws.Tables
+shown sections ends alignments current labels marks settings kept = record {
+  opened = record { sections = sections; current = current };
+  ends = ends;
+  alignments = alignments;
+  labels = labels;
+  marks = marks;
+  settings = settings;
+  kept = kept;
+}
+
+-- data at the end of the current section
+pub extend_is : (es : List Extent) (n : ℕ) (e w : Extent) (bytes : ℕ) (a : Option ℕ) (ls : List laws.Labelled) (ms : List laws.Marked) (ss : List laws.Setting) (kept : ℕ)
+    → n < length es → e ≡ get_or es n e → e.section.executable ≡ false → section_of w.section ≡ section_of e.section → w.bytes ≡ e.bytes + laws.within e.bytes bytes → w.alignment ≡ max e.alignment (max 1 (laws.or_none a))
+    → let t = shown (map extent_section es) (map (λ (x : Extent). x.bytes) es) (map (λ (x : Extent). x.alignment) es) n ls ms ss kept in
+    shown (map extent_section (set es n w)) (map (λ (x : Extent). x.bytes) (set es n w)) (map (λ (x : Extent). x.alignment) (set es n w)) n ls ms ss kept ≡ laws.with_data t (laws.within (laws.here t).offset bytes) a
+extend_is es n e w bytes a ls ms ss kept inside at plain section size alignment =
+    let t = shown (map extent_section es) (map (λ (x : Extent). x.bytes) es) (map (λ (x : Extent). x.alignment) es) n ls ms ss kept in
+    let offset : (laws.here t).offset ≡ e.bytes = index_map (λ (x : Extent). x.bytes) es n e 0 inside at in
+    let executable : (current_section t.opened).executable ≡ false = ap (λ (s : Section). s.executable) (index_map extent_section es n e text_section inside at) ∙ plain in
+    ap (λ x. shown x (map (λ (x : Extent). x.bytes) (set es n w)) (map (λ (x : Extent). x.alignment) (set es n w)) n ls ms ss kept) (same_map extent_section es n e w inside at section)
+    ∙ ap (λ x. shown (map extent_section es) x (map (λ (x : Extent). x.alignment) (set es n w)) n ls ms ss kept) (changed_map (λ (x : Extent). x.bytes) (λ k. k + laws.within (laws.here t).offset bytes) es n e w inside at (size ∙ ap (λ o. e.bytes + laws.within o bytes) (sym offset)))
+    ∙ ap (λ x. shown (map extent_section es) (laws.changed_at n (λ k. k + laws.within (laws.here t).offset bytes) (map (λ (x : Extent). x.bytes) es)) x n ls ms ss kept) (changed_map (λ (x : Extent). x.alignment) (λ k. max k (max 1 (laws.or_none a))) es n e w inside at alignment)
+    ∙ sym (ap (λ b. if b then t else record t {
+      ends = laws.changed_at n (λ k. k + laws.within (laws.here t).offset bytes) t.ends;
+      alignments = laws.changed_at n (λ k. max k (max 1 (laws.or_none a))) t.alignments;
+    }) executable)
+
+-- what is within the longest section is so for a number that was cut at the greatest
+pub within_cut : (offset bytes : ℕ) → laws.within offset (min bytes (2 ^ 64 - 1)) ≡ laws.within offset bytes
+within_cut offset bytes = by (nat_lt bytes (2 ^ 64)) refl
+  where
+    over : (b : Bool) (n : ℕ) → laws.longest_section < n → nat_le (offset + n) laws.longest_section ≡ b → (if b then n else 0) ≡ 0
+    over true n h e = absurd (let l : offset + n ≤ laws.longest_section = leb-true (offset + n) laws.longest_section e in omega arith)
+    over false n h e = refl
+
+    by : (c : Bool) → nat_lt bytes (2 ^ 64) ≡ c → laws.within offset (min bytes (2 ^ 64 - 1)) ≡ laws.within offset bytes
+    by true e =
+        let l : bytes < 2 ^ 64 = ltb-true bytes (2 ^ 64) e in
+        ap (laws.within offset) (let m : min bytes (2 ^ 64 - 1) ≡ bytes = omega arith in m)
+    by false e =
+        let l : 2 ^ 64 ≤ bytes = ltb-false bytes (2 ^ 64) e in
+        over (nat_le (offset + min bytes (2 ^ 64 - 1)) laws.longest_section) (min bytes (2 ^ 64 - 1)) (omega arith) refl
+        ∙ sym (over (nat_le (offset + bytes) laws.longest_section) bytes (omega arith) refl)
+
+-- data of which the number was cut
+pub with_cut : (t : laws.Tables) (offset bytes : ℕ) (a : Option ℕ) → laws.with_data t (laws.within offset (min bytes (2 ^ 64 - 1))) a ≡ laws.with_data t (laws.within offset bytes) a
+with_cut t offset bytes a = ap (λ n. laws.with_data t n a) (within_cut offset bytes)
+
+-- what a `.set` gives where its symbol has the meaning that it has here
+pub given_symbol : (t : laws.Tables) (o : ℕ) (name : List ℕ) (p : Primary) (at : Meaning) (plus : ℕ) → at ≡ laws.meaning t false o (laws.here t) p
+    → laws.given name o (Symbolic p at plus) ≡ laws.given name o (Symbolic p (laws.stands t.opened (laws.here t)) plus)
+given_symbol t o name Here at plus is = ap (λ m. laws.given name o (Symbolic Here m plus)) is
+given_symbol t o name (Literal n) at plus is = refl
+given_symbol t o name (Symbol n) at plus is = refl
+given_symbol t o name (Reference d f) at plus is = refl

@@ -1,0 +1,5 @@
+pub mod Sections
+pub mod Sees
+pub mod Tables
+pub mod Faults
+pub mod Unit

@@ -1,0 +1,35 @@
+-- What a unit and a scope show.
+
+use Rattle.std.specs.Prelude.{◌≡◌, ℕ, ◌+◌, ◌≤◌, List, length, map, take}
+use Rattle.rv_statement.specs.Statement.{Spoken}
+use Rattle.rv_statement.specs.View.{said_by}
+use Rattle.rv_unit_laws.specs.Tables as laws
+use Rattle.rv_unit.specs.declared.place.Home.{Home}
+use Rattle.rv_unit.specs.declared.unit.Unit.{Unit as SourceUnit}
+use Rattle.rv_unit.specs.declared.scope.Scope.{Scope}
+use Rattle.rv_unit.specs.Sections.{place_of}
+use Rattle.rv_unit.specs.Tables.{tables_of, IsIndexed}
+
+abbrev pub home_of : Home → laws.Home
+home_of h = record { ordinal = h.ordinal; plus = h.plus }
+
+-- the statements of a unit
+abbrev pub said : SourceUnit → List Spoken
+said u = map said_by u.statements.items
+
+-- a unit with the places of its statements and their tables
+pub record IsFilled (u : SourceUnit) : Type 0 where
+  pub stand : map place_of u.places.items ≡ laws.places (said u)
+  pub tables : tables_of u.tables ≡ laws.tables (said u)
+  pub indexed : IsIndexed u.tables
+
+-- the tables of the first statements, so many of them
+abbrev pub passed : List Spoken → ℕ → laws.Tables
+passed ss count = laws.after_all laws.at_start 1 (take count ss)
+
+-- the scope stands before the statement at this index from 0
+pub record IsScope (s : Scope) (index : ℕ) : Type 0 where
+  pub within : index ≤ length (said s.unit.now)
+  pub ordinal : s.ordinal ≡ index + 1
+  pub passes : tables_of s.passed ≡ passed (said s.unit.now) index
+  pub indexed : IsIndexed s.passed

@@ -1,0 +1,208 @@
+//! The faults of one statement.
+
+ghost use Rattle.std.specs.Prelude.{◌≡◌, ◌≤◌, ◌<◌, ◌+◌, ◌^◌, ℕ, List, [], ◌∷◌, ◌++◌, Option, Some, None, not, ◌&&◌, ◌||◌, ◌==◌, nat_le, is_some};
+ghost use Rattle.rv_text.specs.Fault.{number_of};
+ghost use Rattle.rv_unit_laws.specs.Faults as laws;
+ghost use Rattle.rv_unit_laws.specs.Tables as tables;
+ghost use Rattle.rv_unit.specs.Faults.{IsLowest, ForValue};
+ghost use Rattle.rv_unit.specs.Sections.{section_of};
+
+use crate::align::{is_power_below, padding};
+use crate::section::Section;
+use rv_text::{SourceCode, SourceFault, Symbol, Value};
+
+/// The longest section, in bytes.
+const LONGEST_SECTION: u64 = 1 << 28;
+/// The greatest alignment.
+const GREATEST_ALIGNMENT: u64 = 4096;
+
+/// What an expression is worth, or its fault.
+pub(crate) type Outcome<'a> = Result<Value<'a>, SourceFault>;
+
+/// The lower of two codes, where there are any.
+#[tactic(auto, using(crate::proofs::Lowest::lowest_append))]
+pub(crate) fn lower(one: Option<SourceCode>, other: Option<SourceCode>) -> Option<SourceCode>
+    ensures { (cs ds : List ℕ) → IsLowest one cs → IsLowest other ds → IsLowest result (cs ++ ds) }
+{
+    match (one, other) {
+        (Some(a), Some(b)) => Some(if a.number() <= b.number() { a } else { b }),
+        (Some(a), None) => Some(a),
+        (None, found) => found,
+    }
+}
+
+/// The code, where it is a fault.
+pub(crate) fn faulty_if(test: bool, code: SourceCode) -> Option<SourceCode>
+    ensures { IsLowest result (laws.faulty_if test (number_of code)) }
+{
+    if test { Some(code) } else { None }
+}
+
+/// The fault of a value where a constant is wanted.
+pub(crate) fn constant_fault(value: &Outcome<'_>) -> Option<SourceCode>
+    ensures { ForValue value.now (λ v. IsLowest result (laws.constant_faults v)) }
+{
+    match value {
+        Ok(Value::Constant(_)) => None,
+        Ok(_) => Some(SourceCode::NotConstant),
+        Err(SourceFault::At { code, .. }) => Some(*code),
+        Err(SourceFault::OutOfMemory) => None,
+    }
+}
+
+/// The fault of a value as a size.
+pub(crate) fn size_fault(value: &Outcome<'_>) -> Option<SourceCode>
+    ensures { ForValue value.now (λ v. IsLowest result (laws.size_faults v)) }
+{
+    match value {
+        Ok(Value::Constant(number)) => faulty_if(*number >= 1 << 63, SourceCode::ImmediateRange),
+        _ => constant_fault(value),
+    }
+}
+
+/// The fault of a value as the power of two of an alignment.
+pub(crate) fn power_fault(value: &Outcome<'_>) -> Option<SourceCode>
+    ensures { ForValue value.now (λ v. IsLowest result (laws.power_faults v)) }
+{
+    match value {
+        Ok(Value::Constant(power)) => {
+            if *power < 1 << 63 {
+                faulty_if(*power >= 13, SourceCode::Limit)
+            } else {
+                Some(SourceCode::ImmediateRange)
+            }
+        }
+        _ => constant_fault(value),
+    }
+}
+
+/// The fault of a value as the bytes of an alignment.
+pub(crate) fn bytes_fault(value: &Outcome<'_>) -> Option<SourceCode>
+    ensures { ForValue value.now (λ v. IsLowest result (laws.bytes_faults v)) }
+{
+    match value {
+        Ok(Value::Constant(number)) => {
+            if is_power_below(63, *number) {
+                faulty_if(*number > GREATEST_ALIGNMENT, SourceCode::Limit)
+            } else {
+                Some(SourceCode::ImmediateRange)
+            }
+        }
+        _ => constant_fault(value),
+    }
+}
+
+/// The fault of a value of data with so many bytes.
+pub(crate) fn value_fault(width: u64, value: &Outcome<'_>) -> Option<SourceCode>
+    ensures { ForValue value.now (λ v. IsLowest result (laws.value_faults width v)) }
+{
+    match value {
+        Ok(Value::Constant(_)) | Ok(Value::Difference(..)) => None,
+        Ok(Value::Symbolic(..)) => faulty_if(width < 4, SourceCode::NotConstant),
+        Err(SourceFault::At { code, .. }) => Some(*code),
+        Err(SourceFault::OutOfMemory) => None,
+    }
+}
+
+/// The fault of so many bytes of data at an offset.
+pub(crate) fn past_section(executable: bool, offset: u64, bytes: u64) -> Option<SourceCode>
+    requires { offset < 2 ^ 63 }
+    ensures { IsLowest result (laws.past_section executable offset bytes) }
+{
+    let past = match offset.checked_add(bytes) {
+        Some(end) => end > LONGEST_SECTION,
+        None => true,
+    };
+    faulty_if(!executable && past, SourceCode::Limit)
+}
+
+/// The fault of data, but for the faults of its values: so many bytes at an offset.
+pub(crate) fn data_fault(home: Section<'_>, offset: u64, bytes: u64) -> Option<SourceCode>
+    requires { offset < 2 ^ 63 }
+    ensures { IsLowest result (laws.faulty_if (home.entry.executable || home.entry.nobits) 15 ++ laws.past_section home.entry.executable offset bytes) }
+{
+    let misplaced = faulty_if(home.executable || home.nobits, SourceCode::WrongSection);
+    lower(misplaced, past_section(home.executable, offset, bytes))
+}
+
+/// The fault of so many zero bytes, by the value of their count.
+pub(crate) fn zero_fault(home: Section<'_>, offset: u64, value: &Outcome<'_>) -> Option<SourceCode>
+    requires { offset < 2 ^ 63 }
+    ensures { ForValue value.now (λ v. IsLowest result (laws.zero_faults (section_of home.entry) offset v)) }
+{
+    let past = match value {
+        Ok(Value::Constant(count)) if *count < 1 << 63 => {
+            past_section(home.executable, offset, *count)
+        }
+        _ => None,
+    };
+    let misplaced = faulty_if(home.executable, SourceCode::WrongSection);
+    lower(size_fault(value), lower(misplaced, past))
+}
+
+/// The fault of an alignment in code.
+fn code_alignment_fault(nobits: bool, alignment: Option<u32>) -> Option<SourceCode>
+    ensures { IsLowest result (laws.code_alignment_faults nobits alignment) }
+{
+    match alignment {
+        None => None,
+        Some(alignment) => {
+            let code = if nobits {
+                SourceCode::WrongSection
+            } else {
+                SourceCode::UnsupportedHere
+            };
+            faulty_if(alignment > 2, code)
+        }
+    }
+}
+
+/// The fault of an alignment at an offset, by the number that it asks for.
+pub(crate) fn alignment_fault(
+    home: Section<'_>,
+    offset: u32,
+    alignment: Option<u32>,
+) -> Option<SourceCode>
+    ensures { IsLowest result (laws.alignment_faults (section_of home.entry) offset alignment) }
+{
+    if home.executable {
+        code_alignment_fault(home.nobits, alignment)
+    } else {
+        past_section(false, u64::from(offset), padding(alignment, offset))
+    }
+}
+
+/// The fault of a `.set` that gives no place, of a name that is one of a label or a place before.
+fn constant_set_fault(placed: bool, value: &Outcome<'_>) -> Option<SourceCode>
+    ensures { ForValue value.now (λ v. IsLowest result (laws.constant_faults v ++ laws.faulty_if placed 11)) }
+{
+    lower(
+        constant_fault(value),
+        faulty_if(placed, SourceCode::DuplicateLabel),
+    )
+}
+
+/// The fault of a `.set` in a section, by the value of its expression, where the name has a definition before, and one as a
+/// label or a place.
+pub(crate) fn set_fault(
+    home: Section<'_>,
+    defined: bool,
+    placed: bool,
+    value: &Outcome<'_>,
+) -> Option<SourceCode>
+    ensures { (t : tables.Tables) (ordinal : ℕ) (name : List ℕ) → defined ≡ tables.is_defined t ordinal name → placed ≡ tables.has_place t ordinal name
+        → ForValue value.now (λ v. IsLowest result (laws.set_faults t ordinal (section_of home.entry) name v)) }
+{
+    match value {
+        Ok(Value::Symbolic(Symbol::Here, _)) => lower(
+            faulty_if(defined, SourceCode::DuplicateLabel),
+            faulty_if(home.executable, SourceCode::WrongSection),
+        ),
+        Ok(Value::Symbolic(Symbol::Name(_), _))
+        | Ok(Value::Symbolic(Symbol::Backward(_), _))
+        | Ok(Value::Symbolic(Symbol::Forward(_), _)) => constant_set_fault(placed, value),
+        Ok(Value::Constant(_)) | Ok(Value::Difference(..)) => constant_set_fault(placed, value),
+        Err(SourceFault::At { .. }) => constant_set_fault(placed, value),
+        Err(SourceFault::OutOfMemory) => constant_set_fault(placed, value),
+    }
+}

@@ -1,0 +1,210 @@
+//! What each statement changes in the tables.
+
+ghost use Rattle.std.specs.Prelude.{◌≡◌, ℕ, false, option_map, map, OnOk, IfOk, IfSome};
+ghost use Rattle.rv_text_laws.specs.Values.{Symbolic};
+ghost use Rattle.rv_text.specs.Nodes.{symbol_of};
+ghost use Rattle.rv_text.specs.Expr.{tree_of_expr};
+ghost use Rattle.rv_statement.specs.Statement.{Aligns_to_power, Aligns_to_bytes, Zeros};
+ghost use Rattle.rv_statement.specs.View.{statement_of, opening_of, said_by};
+ghost use Rattle.rv_unit_laws.specs.Sections.{entered_by};
+ghost use Rattle.rv_unit_laws.specs.Tables as laws;
+ghost use Rattle.rv_unit_laws.proofs.Before.{IsBefore};
+ghost use Rattle.rv_unit.specs.Sections.{place_of};
+ghost use Rattle.rv_unit.specs.Tables.{tables_of, setting_of, IsIndexed};
+
+use crate::align::{asked_bytes, asked_power, counted, padding, strings_size, values_size};
+use crate::place::Place;
+use crate::section::Section;
+use crate::tables::{Given, Tables};
+use rv_statement::{Opening, Setting, Statement, StatementKind};
+use rv_text::{Expr, Meaning, Symbol, Value};
+use std::alloc::{AllocError, Global};
+
+/// Whether a statement enters a section.
+fn enters(kind: &StatementKind<'_>) -> bool
+    ensures { result ≡ laws.enters (statement_of kind.now) }
+{
+    matches!(kind, StatementKind::Enters(_) | StatementKind::Opens(_))
+}
+
+impl<'a> Tables<'a> {
+    /// Enters the section of a `.section`.
+    fn add_section(&mut self, opening: &Opening<'a>) -> Result<(), AllocError>
+        ensures tables { OnOk result (IsIndexed self.old → tables_of self.new ≡ laws.with_section (tables_of self.old) (entered_by (opening_of opening.now))) }
+        ensures indexed { OnOk result (IsIndexed self.old → IsIndexed self.new) }
+    {
+        self.enter(Section::of(opening.name, opening.flags, opening.kind))
+    }
+
+    /// What a `.set` to a symbol and a number gives its name: a place, where the symbol is `.` in data.
+    fn given_symbol(
+        &self,
+        ordinal: usize,
+        name: &'a [u8],
+        symbol: Symbol<'a>,
+        plus: u64,
+    ) -> Option<Given<'a>>
+        ensures ordinal { IfSome result (λ g. g.ordinal ≡ ordinal) }
+        ensures value { option_map setting_of result ≡ laws.given name.now ordinal (Symbolic (symbol_of symbol.entry) (laws.stands (tables_of self.now).opened (laws.here (tables_of self.now))) plus) }
+    {
+        match symbol {
+            Symbol::Here => match self.stands(self.here()) {
+                Meaning::Place(section, offset) => Some(Given {
+                    name,
+                    ordinal,
+                    meaning: Meaning::Place(section, offset.wrapping_add(plus)),
+                    plus,
+                }),
+                Meaning::Constant(_) => None,
+                Meaning::Open => None,
+                Meaning::NotConstant => None,
+                Meaning::UndefinedLocal => None,
+            },
+            Symbol::Name(_) => None,
+            Symbol::Backward(_) => None,
+            Symbol::Forward(_) => None,
+        }
+    }
+
+    /// What a `.set` gives its name.
+    fn given(&self, ordinal: usize, setting: &Setting<'a>) -> Option<Given<'a>>
+        ensures ordinal { IfSome result (λ g. g.ordinal ≡ ordinal) }
+        ensures value { IsIndexed self.now → IsBefore (tables_of self.now) ordinal → option_map setting_of result ≡ laws.given (setting.now).name.now ordinal (laws.value (tables_of self.now) false ordinal (laws.here (tables_of self.now)) (tree_of_expr (setting.now).expression)) }
+    {
+        match self.value(&setting.expression) {
+            Ok(Value::Constant(number)) => Some(Given {
+                name: setting.name,
+                ordinal,
+                meaning: Meaning::Constant(number),
+                plus: 0,
+            }),
+            Ok(Value::Symbolic(symbol, plus)) => {
+                self.given_symbol(ordinal, setting.name, symbol, plus)
+            }
+            Ok(Value::Difference(..)) => None,
+            Err(_) => None,
+        }
+    }
+
+    /// Sets the name of a `.set`.
+    fn add_setting(&mut self, ordinal: usize, setting: &Setting<'a>) -> Result<(), AllocError>
+        ensures tables { OnOk result (IsIndexed self.old → IsBefore (tables_of self.old) ordinal → tables_of self.new ≡ laws.with_setting (tables_of self.old) (laws.given (setting.now).name.now ordinal (laws.value (tables_of self.old) false ordinal (laws.here (tables_of self.old)) (tree_of_expr (setting.now).expression)))) }
+        ensures indexed { OnOk result (IsIndexed self.old → IsIndexed self.new) }
+    {
+        match self.given(ordinal, setting) {
+            Some(given) => self.set(given),
+            None => Ok(()),
+        }
+    }
+
+    /// Adds zero bytes.
+    fn add_zeros(&mut self, count: &Expr<'a>)
+        ensures tables { IsIndexed self.old → (o : ℕ) → IsBefore (tables_of self.old) o → tables_of self.new ≡ laws.after_directive (tables_of self.old) o (Zeros (tree_of_expr count.now)) }
+        ensures indexed { IsIndexed self.old → IsIndexed self.new }
+    {
+        let bytes = counted(self.value(count));
+        self.extend(bytes, None);
+    }
+
+    /// Aligns to a power of two.
+    fn align_to_power(&mut self, exponent: &Expr<'a>)
+        ensures tables { IsIndexed self.old → (o : ℕ) → IsBefore (tables_of self.old) o → tables_of self.new ≡ laws.after_directive (tables_of self.old) o (Aligns_to_power (tree_of_expr exponent.now)) }
+        ensures indexed { IsIndexed self.old → IsIndexed self.new }
+    {
+        let alignment = asked_power(self.value(exponent));
+        let bytes = padding(alignment, self.offset());
+        self.extend(bytes, alignment);
+    }
+
+    /// Aligns to so many bytes.
+    fn align_to_bytes(&mut self, bytes: &Expr<'a>)
+        ensures tables { IsIndexed self.old → (o : ℕ) → IsBefore (tables_of self.old) o → tables_of self.new ≡ laws.after_directive (tables_of self.old) o (Aligns_to_bytes (tree_of_expr bytes.now)) }
+        ensures indexed { IsIndexed self.old → IsIndexed self.new }
+    {
+        let alignment = asked_bytes(self.value(bytes));
+        let bytes = padding(alignment, self.offset());
+        self.extend(bytes, alignment);
+    }
+
+    /// What a statement of this ordinal changes.
+    pub(crate) fn add(&mut self, ordinal: usize, kind: &StatementKind<'a>) -> Result<(), AllocError>
+        ensures tables { OnOk result (IsIndexed self.old → IsBefore (tables_of self.old) ordinal → tables_of self.new ≡ laws.after (tables_of self.old) ordinal (statement_of kind.now)) }
+        ensures indexed { OnOk result (IsIndexed self.old → IsIndexed self.new) }
+    {
+        match kind {
+            StatementKind::Label(name) => self.add_label(ordinal, *name),
+            StatementKind::Numbered(digits) => self.add_mark(ordinal, *digits),
+            StatementKind::Enters(section) => self.enter(Section::standard(*section)),
+            StatementKind::Opens(opening) => self.add_section(opening),
+            StatementKind::Sets(setting) => self.add_setting(ordinal, setting),
+            StatementKind::Chooses(choice) => self.choose(*choice),
+            StatementKind::AlignsToPower(exponent) => {
+                self.align_to_power(exponent);
+                Ok(())
+            }
+            StatementKind::AlignsToBytes(bytes) => {
+                self.align_to_bytes(bytes);
+                Ok(())
+            }
+            StatementKind::Value(width, _) => {
+                self.extend(values_size(*width, 1), None);
+                Ok(())
+            }
+            StatementKind::Values(width, values) => {
+                self.extend(values_size(*width, values.len()), None);
+                Ok(())
+            }
+            StatementKind::Ascii(strings) => {
+                self.extend(strings_size(false, strings), None);
+                Ok(())
+            }
+            StatementKind::Asciz(strings) => {
+                self.extend(strings_size(true, strings), None);
+                Ok(())
+            }
+            StatementKind::Zeros(count) => {
+                self.add_zeros(count);
+                Ok(())
+            }
+            StatementKind::Plain(_) => Ok(()),
+            StatementKind::With(..) => Ok(()),
+            StatementKind::Globl(_) => Ok(()),
+            StatementKind::Local(_) => Ok(()),
+            StatementKind::Ignored => Ok(()),
+        }
+    }
+
+    /// What a statement changes, and where it stands.
+    fn stand(&mut self, ordinal: usize, kind: &StatementKind<'a>) -> Result<Place, AllocError>
+        ensures tables { OnOk result (IsIndexed self.old → IsBefore (tables_of self.old) ordinal → tables_of self.new ≡ laws.after (tables_of self.old) ordinal (statement_of kind.now)) }
+        ensures indexed { OnOk result (IsIndexed self.old → IsIndexed self.new) }
+        ensures place { IfOk result (λ place. IsIndexed self.old → IsBefore (tables_of self.old) ordinal → place_of place ≡ laws.stood (tables_of self.old) ordinal (statement_of kind.now)) }
+    {
+        let before = self.here();
+        self.add(ordinal, kind)?;
+        if enters(kind) {
+            return Ok(self.here());
+        }
+        Ok(before)
+    }
+
+    /// What all statements change from the start on, and where each stands.
+    pub(crate) fn fill(
+        &mut self,
+        alloc: Global,
+        statements: &[Statement<'a>],
+    ) -> Result<Vec<Place>, AllocError>
+        ensures tables { OnOk result (tables_of self.old ≡ laws.at_start → IsIndexed self.old → tables_of self.new ≡ laws.tables (map said_by statements.now)) }
+        ensures indexed { OnOk result (tables_of self.old ≡ laws.at_start → IsIndexed self.old → IsIndexed self.new) }
+        ensures places { IfOk result (λ places. tables_of self.old ≡ laws.at_start → IsIndexed self.old → map place_of places.items ≡ laws.places (map said_by statements.now)) }
+    {
+        let mut places = Vec::new(alloc);
+        let mut ordinal: usize = 0;
+        for statement in statements {
+            ordinal += 1;
+            let place = self.stand(ordinal, &statement.kind)?;
+            places.push(place)?;
+        }
+        Ok(places)
+    }
+}

@@ -1,0 +1,109 @@
+//! What names mean, in a statement with the tables of those before it.
+
+ghost use Rattle.std.specs.Prelude.{◌≡◌, ℕ, ◌==◌, true, List};
+ghost use Rattle.std.specs.List.{find};
+ghost use Rattle.rv_text_laws.specs.Bytes.{value as digits_value};
+ghost use Rattle.rv_text.specs.Nodes.{symbol_of};
+ghost use Rattle.rv_text.specs.Expr.{tree_of_expr};
+ghost use Rattle.rv_text.specs.Eval.{meaning_of, IsOutcome};
+ghost use Rattle.rv_statement.specs.Statement.{Spoken};
+ghost use Rattle.rv_unit_laws.specs.Tables as laws;
+ghost use Rattle.rv_unit.specs.Sections.{place_of};
+ghost use Rattle.rv_unit.specs.Tables.{tables_of, IsIndexed};
+ghost use Rattle.rv_unit.specs.Sees.{Sees};
+
+use crate::place::Place;
+use crate::tables::Tables;
+use crate::unit::Unit;
+use rv_text::{Expr, Meaning, SourceFault, Symbol, Value, eval};
+
+impl<'a> Unit<'a> {
+    /// What a symbol means in the statement of an ordinal, which stands at the place.
+    pub(crate) fn meaning(
+        &self,
+        passed: &Tables<'_>,
+        ordinal: usize,
+        place: Place,
+        symbol: Symbol<'_>,
+    ) -> Meaning
+        ensures { (ss : List Spoken) (o : ℕ) → IsIndexed passed.now → IsIndexed (self.now).tables → Sees (tables_of passed.now) (tables_of (self.now).tables) ss o → ordinal ≡ o → meaning_of result ≡ laws.meaning (laws.tables ss) true o (place_of place) (symbol_of symbol.entry) }
+    {
+        match symbol {
+            Symbol::Name(name) => self.named(passed, name),
+            Symbol::Here => self.tables.stands(place),
+            Symbol::Backward(digits) => self.backward(passed, digits),
+            Symbol::Forward(digits) => self.forward(ordinal, digits),
+        }
+    }
+
+    /// The value of an expression of that statement; a fault has this line.
+    pub(crate) fn value(
+        &self,
+        passed: &Tables<'_>,
+        ordinal: usize,
+        place: Place,
+        expression: &Expr<'a>,
+        line: u32,
+    ) -> Result<Value<'a>, SourceFault>
+        ensures { (ss : List Spoken) (o : ℕ) → IsIndexed passed.now → IsIndexed (self.now).tables → Sees (tables_of passed.now) (tables_of (self.now).tables) ss o → ordinal ≡ o → IsOutcome result line (laws.value (laws.tables ss) true o (place_of place) (tree_of_expr expression.now)) }
+    {
+        eval(
+            expression,
+            line,
+            &|symbol| { self.meaning(passed, ordinal, place, symbol) },
+        )
+    }
+
+    /// What a name means.
+    fn named(&self, passed: &Tables<'_>, name: &[u8]) -> Meaning
+        ensures { IsIndexed passed.now → IsIndexed (self.now).tables → meaning_of result ≡ laws.set_first (laws.set_ever (tables_of passed.now).settings name.now) (laws.labelled (tables_of (self.now).tables).opened (laws.label_of (tables_of (self.now).tables).labels true 0 name.now) (laws.set_later true (laws.set_ever (tables_of (self.now).tables).settings name.now))) }
+    {
+        match passed.setting(name) {
+            Some(setting) => setting.meaning,
+            None => self.labelled(name),
+        }
+    }
+
+    /// What a name means that is not set before.
+    fn labelled(&self, name: &[u8]) -> Meaning
+        ensures { IsIndexed (self.now).tables → meaning_of result ≡ laws.labelled (tables_of (self.now).tables).opened (laws.label_of (tables_of (self.now).tables).labels true 0 name.now) (laws.set_later true (laws.set_ever (tables_of (self.now).tables).settings name.now)) }
+    {
+        match self.tables.label(name) {
+            Some(label) => self.tables.stands(label.place),
+            None => self.set_later(name),
+        }
+    }
+
+    /// What a name means that is only set later: a place that it has then, or another file's.
+    fn set_later(&self, name: &[u8]) -> Meaning
+        ensures { IsIndexed (self.now).tables → meaning_of result ≡ laws.set_later true (laws.set_ever (tables_of (self.now).tables).settings name.now) }
+    {
+        match self.tables.setting(name) {
+            Some(setting) => match setting.meaning {
+                Meaning::Constant(_) => Meaning::NotConstant,
+                meaning => meaning,
+            },
+            None => Meaning::Open,
+        }
+    }
+
+    /// What the nearest numeric label before means.
+    fn backward(&self, passed: &Tables<'_>, digits: &[u8]) -> Meaning
+        ensures { meaning_of result ≡ laws.backward_in (tables_of (self.now).tables).opened (find (λ m. m.number == digits_value 10 digits.now) (tables_of passed.now).marks) }
+    {
+        match passed.latest_mark(digits) {
+            Some(mark) => self.tables.stands(mark.place),
+            None => Meaning::UndefinedLocal,
+        }
+    }
+
+    /// What the nearest numeric label behind means.
+    fn forward(&self, ordinal: usize, digits: &[u8]) -> Meaning
+        ensures { meaning_of result ≡ laws.forward_in (tables_of (self.now).tables).opened true (laws.marked_after (tables_of (self.now).tables).marks ordinal (digits_value 10 digits.now)) }
+    {
+        match self.tables.marked_after(ordinal, digits) {
+            Some(mark) => self.tables.stands(mark.place),
+            None => Meaning::UndefinedLocal,
+        }
+    }
+}

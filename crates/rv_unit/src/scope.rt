@@ -1,0 +1,135 @@
+//! What names mean, statement by statement.
+
+ghost use Rattle.std.specs.Prelude.{◌≡◌, ℕ, ◌+◌, ◌<◌, true, length, option_map, IfOk, OnOk};
+ghost use Rattle.rv_text.specs.Nodes.{symbol_of};
+ghost use Rattle.rv_text.specs.Expr.{tree_of_expr};
+ghost use Rattle.rv_text.specs.Eval.{meaning_of, IsOutcome};
+ghost use Rattle.rv_unit_laws.specs.Tables as laws;
+ghost use Rattle.rv_unit.specs.Sections.{place_of};
+ghost use Rattle.rv_unit.specs.Tables.{tables_of, marked_of, IsIndexed};
+ghost use Rattle.rv_unit.specs.Unit.{said, home_of, IsFilled, IsScope};
+
+use crate::place::{Home, Place};
+use crate::tables::{Mark, Tables};
+use crate::unit::Unit;
+use rv_text::{Expr, Meaning, SourceFault, Symbol, Value};
+use std::alloc::{AllocError, Global};
+
+/// Names as the statements see them, one after the other.
+#[derive(Drop)]
+pub struct Scope<'u, 'a> {
+    pub(crate) unit: &'u Unit<'a>,
+    /// The tables of the statements that were passed, and the ordinal of the next.
+    pub(crate) passed: Tables<'a>,
+    pub(crate) ordinal: usize,
+}
+
+/// Where a numeric label stands.
+fn home_of_mark(mark: Option<Mark<'_>>) -> Option<Home>
+    ensures { option_map home_of result ≡ laws.home_marked (option_map marked_of mark.entry) }
+{
+    match mark {
+        Some(mark) => Some(Home {
+            ordinal: mark.ordinal,
+            plus: 0,
+        }),
+        None => None,
+    }
+}
+
+impl<'u, 'a> Scope<'u, 'a> {
+    /// The names as the first statement sees them.
+    pub fn new(alloc: Global, unit: &'u Unit<'a>) -> Result<Self, AllocError>
+        ensures unit { IfOk result (λ s. s.unit.now ≡ unit.now) }
+        ensures start { IfOk result (λ s. IsScope s 0) }
+    {
+        let passed = Tables::new(alloc)?;
+        Ok(Scope {
+            unit,
+            passed,
+            ordinal: 1,
+        })
+    }
+
+    /// What a symbol means in the statement that is next, which stands at the place.
+    pub fn meaning(&self, place: Place, symbol: Symbol<'a>) -> Meaning
+        ensures { (index : ℕ) → IsFilled (self.now).unit.now → IsScope self.now index → meaning_of result ≡ laws.meaning (laws.tables (said (self.now).unit.now)) true (index + 1) (place_of place) (symbol_of symbol.entry) }
+    {
+        self.unit.meaning(&self.passed, self.ordinal, place, symbol)
+    }
+
+    /// Where a symbol of the statement that is next stands in this source; none where it is another file's.
+    pub fn home(&self, symbol: Symbol<'a>) -> Option<Home>
+        ensures { (index : ℕ) → IsFilled (self.now).unit.now → IsScope self.now index → option_map home_of result ≡ laws.home (laws.tables (said (self.now).unit.now)) (index + 1) (symbol_of symbol.entry) }
+    {
+        match symbol {
+            Symbol::Name(name) => self.home_of_name(name),
+            Symbol::Here => Some(Home {
+                ordinal: self.ordinal,
+                plus: 0,
+            }),
+            Symbol::Backward(digits) => home_of_mark(self.passed.latest_mark(digits)),
+            Symbol::Forward(digits) => {
+                home_of_mark(self.unit.tables.marked_after(self.ordinal, digits))
+            }
+        }
+    }
+
+    /// Where a name stands.
+    fn home_of_name(&self, name: &[u8]) -> Option<Home>
+        ensures { IsIndexed (self.now).passed → IsIndexed (self.now).unit.now.tables → option_map home_of result ≡ laws.home_first (laws.home_set (laws.set_ever (tables_of (self.now).passed).settings name.now)) (laws.home_labelled (laws.label_of (tables_of (self.now).unit.now.tables).labels true 0 name.now) (laws.home_set (laws.set_ever (tables_of (self.now).unit.now.tables).settings name.now))) }
+    {
+        if let Some(setting) = self.passed.setting(name) {
+            return Some(Home {
+                ordinal: setting.ordinal,
+                plus: setting.plus,
+            });
+        }
+        if let Some(label) = self.unit.tables.label(name) {
+            return Some(Home {
+                ordinal: label.ordinal,
+                plus: 0,
+            });
+        }
+        match self.unit.tables.setting(name) {
+            Some(setting) => Some(Home {
+                ordinal: setting.ordinal,
+                plus: setting.plus,
+            }),
+            None => None,
+        }
+    }
+
+    /// The value of an expression of the statement that is next, which stands at the place; a fault has this line.
+    pub fn value(
+        &self,
+        place: Place,
+        expression: &Expr<'a>,
+        line: u32,
+    ) -> Result<Value<'a>, SourceFault>
+        ensures { (index : ℕ) → IsFilled (self.now).unit.now → IsScope self.now index → IsOutcome result line (laws.value (laws.tables (said (self.now).unit.now)) true (index + 1) (place_of place) (tree_of_expr expression.now)) }
+    {
+        self.unit
+            .value(&self.passed, self.ordinal, place, expression, line)
+    }
+
+    /// Goes on behind the next statement, if there is one.
+    pub fn pass(&mut self) -> Result<(), AllocError>
+        ensures unit { OnOk result ((self.new).unit ≡ (self.old).unit) }
+        ensures passes { OnOk result ((index : ℕ) → index < length (said (self.old).unit.now) → IsScope self.old index → IsScope self.new (index + 1)) }
+    {
+        if self.ordinal == 0 {
+            return Ok(());
+        }
+        if self.ordinal > self.unit.statements.len() {
+            return Ok(());
+        }
+        if self.ordinal == usize::MAX {
+            return Err(AllocError);
+        }
+        let statement = &self.unit.statements[self.ordinal - 1];
+        self.passed.add(self.ordinal, &statement.kind)?;
+        self.ordinal += 1;
+        Ok(())
+    }
+}

@@ -1,0 +1,155 @@
+//! Sections and their flags.
+
+ghost use Rattle.std.specs.Prelude.{◌≡◌, ◌+◌, max, None, option_map};
+ghost use Rattle.rv_statement.specs.View.{now_of, quoted};
+ghost use Rattle.rv_unit_laws.specs.Sections as laws;
+ghost use Rattle.rv_unit_laws.specs.Tables as tables;
+ghost use Rattle.rv_unit.specs.Sections.{section_of};
+
+use rv_statement::Standard;
+use rv_text::string_contains;
+
+/// The longest section, in bytes.
+const LONGEST_SECTION: u64 = 1 << 28;
+
+/// A section with its flags.
+#[derive(Clone, Copy, Debug, PartialEq, Eq, Drop)]
+pub struct Section<'a> {
+    pub name: &'a [u8],
+    /// It has memory in the program: the flag `a`.
+    pub loaded: bool,
+    /// The flag `x`.
+    pub executable: bool,
+    /// The flag `w`.
+    pub writable: bool,
+    /// It begins as zero, and has no bytes in files.
+    pub nobits: bool,
+}
+
+/// A section as a source fills it: the bytes of its data, and the multiple at which it asks to begin.
+#[derive(Clone, Copy, Debug, PartialEq, Eq, Drop)]
+pub struct Extent<'a> {
+    pub section: Section<'a>,
+    pub bytes: u32,
+    pub alignment: u32,
+}
+
+impl<'a> Extent<'a> {
+    /// With so many bytes more, where that does not pass the longest section, and an alignment that is asked for.
+    pub(crate) fn longer(self, bytes: u64, alignment: Option<u32>) -> Self
+        ensures section { section_of result.section ≡ section_of (self.entry).section }
+        ensures bytes { result.bytes ≡ (self.entry).bytes + tables.within (self.entry).bytes bytes }
+        ensures alignment { result.alignment ≡ max (self.entry).alignment (max 1 (tables.or_none alignment)) }
+    {
+        let end = u64::from(self.bytes).saturating_add(bytes);
+        Extent {
+            section: self.section,
+            bytes: if end <= LONGEST_SECTION {
+                end as u32
+            } else {
+                self.bytes
+            },
+            alignment: self.alignment.max(alignment.unwrap_or(0).max(1)),
+        }
+    }
+}
+
+/// Whether the name begins so.
+fn begins_with(front: &[u8], name: &[u8]) -> bool
+    ensures { result ≡ laws.begins_with front.now name.now }
+{
+    let (head, _) = name.split_at(front.len().min(name.len()));
+    head == front
+}
+
+/// Code, by the front of its name.
+fn is_code(name: &[u8]) -> bool
+    ensures { result ≡ laws.is_code name.now }
+{
+    begins_with(b".text", name)
+}
+
+/// Variables, by the front of their name.
+fn is_variable(name: &[u8]) -> bool
+    ensures { result ≡ laws.is_variable name.now }
+{
+    begins_with(b".data", name) || begins_with(b".sdata", name)
+}
+
+/// Variables that begin as zero, by the front of their name.
+fn is_zeroed(name: &[u8]) -> bool
+    ensures { result ≡ laws.is_zeroed name.now }
+{
+    begins_with(b".bss", name) || begins_with(b".sbss", name)
+}
+
+/// Constants, by the front of their name.
+fn is_constant(name: &[u8]) -> bool
+    ensures { result ≡ laws.is_constant name.now }
+{
+    begins_with(b".rodata", name) || begins_with(b".srodata", name)
+}
+
+/// Whether a flag's letter is given; where no flags are given, what the name's front says.
+fn has_flag(letter: u8, flags: Option<&[u8]>, by_name: bool) -> bool
+    ensures { result ≡ laws.has_flag letter (option_map quoted flags.entry) by_name }
+{
+    match flags {
+        None => by_name,
+        Some(letters) => string_contains(letters, letter),
+    }
+}
+
+/// Whether the type says that the section has no bytes; where none is given, what the name's front says.
+fn is_nobits(kind: Option<&[u8]>, by_name: bool) -> bool
+    ensures { result ≡ laws.is_nobits (option_map now_of kind.entry) by_name }
+{
+    match kind {
+        None => by_name,
+        Some(kind) => kind == b"nobits".as_slice(),
+    }
+}
+
+impl<'a> Section<'a> {
+    /// The section in which a source begins.
+    pub(crate) fn text() -> Self
+        ensures { section_of result ≡ laws.text_section }
+    {
+        Section {
+            name: b".text",
+            loaded: true,
+            executable: true,
+            writable: false,
+            nobits: false,
+        }
+    }
+
+    /// A section with the flags and the type that are given, or that its name's front says.
+    pub(crate) fn of(name: &'a [u8], flags: Option<&[u8]>, kind: Option<&[u8]>) -> Self
+        ensures { section_of result ≡ laws.section_of name.now (option_map quoted flags.entry) (option_map now_of kind.entry) }
+    {
+        let code = is_code(name);
+        let variable = is_variable(name);
+        let zeroed = is_zeroed(name);
+        let constant = is_constant(name);
+        Section {
+            name,
+            loaded: has_flag(b'a', flags, code || variable || zeroed || constant),
+            executable: has_flag(b'x', flags, code),
+            writable: has_flag(b'w', flags, variable || zeroed),
+            nobits: is_nobits(kind, zeroed),
+        }
+    }
+
+    /// The section of a directive of its own.
+    pub(crate) fn standard(standard: Standard) -> Self
+        ensures { section_of result ≡ laws.section_of (laws.standard_name standard) None None }
+    {
+        match standard {
+            Standard::Text => Section::of(b".text", None, None),
+            Standard::Data => Section::of(b".data", None, None),
+            Standard::Rodata => Section::of(b".rodata", None, None),
+            Standard::Bss => Section::of(b".bss", None, None),
+        }
+    }
+}

@@ -1,0 +1,362 @@
+//! The tables that statements fill, one after the other.
+
+ghost use Rattle.std.specs.Prelude.{◌≡◌, ℕ, ◌<◌, ◌||◌, ◌==◌, List, false, true, not, is_some, Some, None, option_map, map, reverse, IfOk, OnOk};
+ghost use Rattle.std.specs.List.{find};
+ghost use Rattle.rv_text_laws.specs.Bytes.{value as digits_value};
+ghost use Rattle.rv_text_laws.specs.Values.{Open};
+ghost use Rattle.rv_text.specs.Nodes.{symbol_of};
+ghost use Rattle.rv_text.specs.Expr.{tree_of_expr};
+ghost use Rattle.rv_text.specs.Eval.{meaning_of, IsOutcome};
+ghost use Rattle.rv_statement.specs.View.{statement_of};
+ghost use Rattle.rv_unit_laws.specs.Sections as sections;
+ghost use Rattle.rv_unit_laws.specs.Tables as laws;
+ghost use Rattle.rv_unit_laws.proofs.Before.{IsBefore, placed_latest};
+ghost use Rattle.rv_unit.specs.Sections.{section_of, place_of};
+ghost use Rattle.rv_unit.specs.Tables.{tables_of, label_at, marked_of, setting_of, IsIndexed};
+
+use crate::number::same_number;
+use crate::place::Place;
+use crate::section::{Extent, Section};
+use indexmap::IndexMap;
+use rv_statement::Choice;
+use rv_text::{Expr, Meaning, SourceFault, Symbol, Value, eval};
+use std::alloc::{AllocError, Global};
+
+/// The most sections of a source.
+pub(crate) const MOST_SECTIONS: usize = 32_000;
+
+/// A label: the ordinal of its statement, and where it stands.
+#[derive(Clone, Copy, Drop)]
+pub(crate) struct Label {
+    pub(crate) ordinal: usize,
+    pub(crate) place: Place,
+}
+
+/// A numeric label, by its digits.
+#[derive(Clone, Copy, Drop)]
+pub(crate) struct Mark<'a> {
+    pub(crate) digits: &'a [u8],
+    pub(crate) ordinal: usize,
+    pub(crate) place: Place,
+}
+
+/// What a `.set` gives a name: a number, or a place and how far behind the statement that is.
+#[derive(Clone, Copy, Drop)]
+pub(crate) struct Given<'a> {
+    pub(crate) name: &'a [u8],
+    pub(crate) ordinal: usize,
+    pub(crate) meaning: Meaning,
+    pub(crate) plus: u64,
+}
+
+impl Given<'_> {
+    /// Whether the name is a place.
+    pub(crate) fn is_place(&self) -> bool
+        ensures { result ≡ laws.is_placed_setting (setting_of self.now) }
+    {
+        matches!(self.meaning, Meaning::Place(..))
+    }
+}
+
+/// What the statements so far define.
+#[derive(Drop)]
+pub(crate) struct Tables<'a> {
+    /// The sections in their order, with the numbers of their names.
+    pub(crate) extents: Vec<Extent<'a>>,
+    pub(crate) numbers: IndexMap<&'a [u8], u32>,
+    /// The number of the current one.
+    pub(crate) current: u32,
+    pub(crate) labels: IndexMap<&'a [u8], Label>,
+    /// The numeric labels in their order.
+    pub(crate) marks: Vec<Mark<'a>>,
+    /// The settings in their order, and the latest of each name.
+    pub(crate) settings: Vec<Given<'a>>,
+    pub(crate) latest: IndexMap<&'a [u8], Given<'a>>,
+    /// How many times options were kept and not yet taken back.
+    pub(crate) kept: usize,
+}
+
+impl<'a> Tables<'a> {
+    /// The tables before the first statement.
+    pub(crate) fn new(alloc: Global) -> Result<Self, AllocError>
+        ensures tables { IfOk result (λ b. tables_of b ≡ laws.at_start) }
+        ensures indexed { IfOk result (λ b. IsIndexed b) }
+    {
+        let section = Section::text();
+        let mut extents = Vec::new(alloc);
+        extents.push(Extent {
+            section,
+            bytes: 0,
+            alignment: 1,
+        })?;
+        let mut numbers = IndexMap::new(alloc);
+        numbers.insert(section.name, 0)?;
+        Ok(Tables {
+            extents,
+            numbers,
+            current: 0,
+            labels: IndexMap::new(alloc),
+            marks: Vec::new(alloc),
+            settings: Vec::new(alloc),
+            latest: IndexMap::new(alloc),
+            kept: 0,
+        })
+    }
+
+    /// Where the next statement stands.
+    pub(crate) fn here(&self) -> Place
+        ensures { place_of result ≡ laws.here (tables_of self.now) }
+    {
+        Place {
+            section: self.current,
+            offset: self.offset(),
+        }
+    }
+
+    /// The bytes of data so far in the current section.
+    pub(crate) fn offset(&self) -> u32
+        ensures { result ≡ (laws.here (tables_of self.now)).offset }
+    {
+        match self.extents.get(self.current as usize) {
+            Some(extent) => extent.bytes,
+            None => 0,
+        }
+    }
+
+    /// A section by its number.
+    pub(crate) fn section_at(&self, number: u32) -> Section<'a>
+        ensures { section_of result ≡ sections.section_at (tables_of self.now).opened number }
+    {
+        match self.extents.get(number as usize) {
+            Some(extent) => extent.section,
+            None => Section::text(),
+        }
+    }
+
+    /// What a place means: in data it has a known distance from others of its section.
+    pub(crate) fn stands(&self, place: Place) -> Meaning
+        ensures { meaning_of result ≡ laws.stands (tables_of self.now).opened (place_of place) }
+    {
+        if self.section_at(place.section).executable {
+            Meaning::Open
+        } else {
+            Meaning::Place(place.section, u64::from(place.offset))
+        }
+    }
+
+    /// The label of a name.
+    pub(crate) fn label(&self, name: &[u8]) -> Option<Label>
+        ensures { option_map (label_at name.now) result ≡ laws.label_of (tables_of self.now).labels true 0 name.now }
+    {
+        self.labels.get(&name).copied()
+    }
+
+    /// The latest setting of a name.
+    pub(crate) fn setting(&self, name: &[u8]) -> Option<Given<'a>>
+        ensures { IsIndexed self.now → option_map setting_of result ≡ laws.set_ever (tables_of self.now).settings name.now }
+    {
+        self.latest.get(&name).copied()
+    }
+
+    /// The latest numeric label of a number.
+    pub(crate) fn latest_mark(&self, digits: &[u8]) -> Option<Mark<'a>>
+        ensures { option_map marked_of result ≡ find (λ m. m.number == digits_value 10 digits.now) (tables_of self.now).marks }
+    {
+        let mut left = self.marks.len();
+        while left > 0 {
+            left -= 1;
+            let mark = self.marks[left];
+            if same_number(mark.digits, digits) {
+                return Some(mark);
+            }
+        }
+        None
+    }
+
+    /// The nearest numeric label after an ordinal.
+    pub(crate) fn marked_after(&self, ordinal: usize, digits: &[u8]) -> Option<Mark<'a>>
+        ensures { option_map marked_of result ≡ laws.marked_after (tables_of self.now).marks ordinal (digits_value 10 digits.now) }
+    {
+        for mark in &self.marks {
+            if ordinal < mark.ordinal && same_number(mark.digits, digits) {
+                return Some(*mark);
+            }
+        }
+        None
+    }
+
+    /// What a name means so far.
+    fn named(&self, name: &[u8]) -> Meaning
+        ensures { IsIndexed self.now → (o : ℕ) → IsBefore (tables_of self.now) o → meaning_of result ≡ laws.named (tables_of self.now) false o name.now }
+    {
+        match self.setting(name) {
+            Some(setting) => setting.meaning,
+            None => self.labelled(name),
+        }
+    }
+
+    /// What a name that is not set means so far.
+    fn labelled(&self, name: &[u8]) -> Meaning
+        ensures { meaning_of result ≡ laws.labelled (tables_of self.now).opened (laws.label_of (tables_of self.now).labels true 0 name.now) Open }
+    {
+        match self.label(name) {
+            Some(label) => self.stands(label.place),
+            None => Meaning::Open,
+        }
+    }
+
+    /// What a numeric label before means so far.
+    fn backward(&self, digits: &[u8]) -> Meaning
+        ensures { (o : ℕ) → IsBefore (tables_of self.now) o → meaning_of result ≡ laws.referred (tables_of self.now) false o (digits_value 10 digits.now) false }
+    {
+        match self.latest_mark(digits) {
+            Some(mark) => self.stands(mark.place),
+            None => Meaning::UndefinedLocal,
+        }
+    }
+    /// What a symbol means in the next statement, as far as the statements before it say.
+    fn meaning(&self, symbol: Symbol<'a>) -> Meaning
+        ensures { IsIndexed self.now → (o : ℕ) → IsBefore (tables_of self.now) o → meaning_of result ≡ laws.meaning (tables_of self.now) false o (laws.here (tables_of self.now)) (symbol_of symbol.entry) }
+    {
+        match symbol {
+            Symbol::Name(name) => self.named(name),
+            Symbol::Here => self.stands(self.here()),
+            Symbol::Backward(digits) => self.backward(digits),
+            Symbol::Forward(_) => Meaning::UndefinedLocal,
+        }
+    }
+
+    /// The value of an expression of the next statement, as far as the statements before it say.
+    pub(crate) fn value(&self, expression: &Expr<'a>) -> Result<Value<'a>, SourceFault>
+        ensures { IsIndexed self.now → (o : ℕ) → IsBefore (tables_of self.now) o → IsOutcome result 0 (laws.value (tables_of self.now) false o (laws.here (tables_of self.now)) (tree_of_expr expression.now)) }
+    {
+        eval(expression, 0, &|symbol| self.meaning(symbol))
+    }
+
+    /// Whether a label or a setting has the name.
+    pub(crate) fn is_defined(&self, name: &[u8]) -> bool
+        ensures { IsIndexed self.now → result ≡ (is_some (laws.label_of (tables_of self.now).labels true 0 name.now) || is_some (laws.set_ever (tables_of self.now).settings name.now)) }
+    {
+        self.label(name).is_some() || self.setting(name).is_some()
+    }
+
+    /// Whether a label has the name, or a place that is set.
+    pub(crate) fn has_place(&self, name: &[u8]) -> bool
+        ensures { IsIndexed self.now → result ≡ (is_some (laws.label_of (tables_of self.now).labels true 0 name.now) || placed_latest (laws.set_ever (tables_of self.now).settings name.now)) }
+    {
+        if self.label(name).is_some() {
+            return true;
+        }
+        match self.setting(name) {
+            Some(setting) => setting.is_place(),
+            None => false,
+        }
+    }
+
+    /// Enters a section; a new one while there is room.
+    pub(crate) fn enter(&mut self, section: Section<'a>) -> Result<(), AllocError>
+        ensures tables { OnOk result (IsIndexed self.old → tables_of self.new ≡ laws.with_section (tables_of self.old) (Some (section_of section.entry))) }
+        ensures indexed { OnOk result (IsIndexed self.old → IsIndexed self.new) }
+    {
+        if let Some(number) = self.numbers.get(&section.name).copied() {
+            self.current = number;
+            return Ok(());
+        }
+        let count = self.extents.len();
+        if count >= MOST_SECTIONS {
+            return Ok(());
+        }
+        let number = count as u32;
+        self.extents.push(Extent {
+            section,
+            bytes: 0,
+            alignment: 1,
+        })?;
+        self.numbers.insert(section.name, number)?;
+        self.current = number;
+        Ok(())
+    }
+
+    /// Defines a label, unless its name is defined.
+    pub(crate) fn add_label(&mut self, ordinal: usize, name: &'a [u8]) -> Result<(), AllocError>
+        ensures tables { OnOk result (IsIndexed self.old → IsBefore (tables_of self.old) ordinal → tables_of self.new ≡ laws.with_label (tables_of self.old) ordinal name.now) }
+        ensures indexed { OnOk result (IsIndexed self.old → IsIndexed self.new) }
+    {
+        if self.is_defined(name) {
+            return Ok(());
+        }
+        let place = self.here();
+        self.labels.insert(name, Label { ordinal, place })?;
+        Ok(())
+    }
+
+    /// Defines a numeric label.
+    pub(crate) fn add_mark(&mut self, ordinal: usize, digits: &'a [u8]) -> Result<(), AllocError>
+        ensures tables { OnOk result (tables_of self.new ≡ laws.with_mark (tables_of self.old) ordinal (digits_value 10 digits.now)) }
+        ensures indexed { OnOk result (IsIndexed self.old → IsIndexed self.new) }
+    {
+        let place = self.here();
+        self.marks.push(Mark {
+            digits,
+            ordinal,
+            place,
+        })?;
+        Ok(())
+    }
+
+    /// Whether a setting's name is defined, where one of the two is a label or a place.
+    pub(crate) fn is_taken(&self, given: &Given<'a>) -> bool
+        ensures { IsIndexed self.now → IsBefore (tables_of self.now) (given.now).ordinal → not result ≡ laws.may_set (tables_of self.now) (given.now).ordinal (given.now).name.now (meaning_of (given.now).meaning) }
+    {
+        if given.is_place() {
+            self.is_defined(given.name)
+        } else {
+            self.has_place(given.name)
+        }
+    }
+
+    /// Sets a name, unless one of the two is a label or a place.
+    pub(crate) fn set(&mut self, given: Given<'a>) -> Result<(), AllocError>
+        ensures tables { OnOk result (IsIndexed self.old → IsBefore (tables_of self.old) (given.entry).ordinal → tables_of self.new ≡ laws.with_setting (tables_of self.old) (Some (setting_of given.entry))) }
+        ensures indexed { OnOk result (IsIndexed self.old → IsIndexed self.new) }
+    {
+        if self.is_taken(&given) {
+            return Ok(());
+        }
+        self.settings.push(given)?;
+        self.latest.insert(given.name, given)?;
+        Ok(())
+    }
+
+    /// Adds data at the end of the current section, as far as that may be, unless it is one of code.
+    pub(crate) fn extend(&mut self, bytes: u64, alignment: Option<u32>)
+        ensures tables { tables_of self.new ≡ laws.with_data (tables_of self.old) (laws.within (laws.here (tables_of self.old)).offset bytes) alignment }
+        ensures indexed { IsIndexed self.old → IsIndexed self.new }
+    {
+        let number = self.current as usize;
+        if number >= self.extents.len() {
+            return;
+        }
+        let extent = self.extents[number];
+        if extent.section.executable {
+            return;
+        }
+        self.extents[number] = extent.longer(bytes, alignment);
+    }
+
+    /// Keeps options, or takes them back.
+    pub(crate) fn choose(&mut self, choice: Choice) -> Result<(), AllocError>
+        ensures tables { OnOk result (tables_of self.new ≡ laws.with_choice (tables_of self.old) choice) }
+        ensures indexed { OnOk result (IsIndexed self.old → IsIndexed self.new) }
+    {
+        match choice {
+            Choice::Push => match self.kept.checked_add(1) {
+                Some(kept) => self.kept = kept,
+                None => return Err(AllocError),
+            },
+            Choice::Pop => self.kept = self.kept.saturating_sub(1),
+            _ => (),
+        }
+        Ok(())
+    }
+}

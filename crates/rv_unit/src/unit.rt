@@ -1,0 +1,57 @@
+//! A source's statements with what they define.
+
+ghost use Rattle.std.specs.Prelude.{◌≡◌, IfOk};
+ghost use Rattle.rv_unit.specs.Unit.{IsFilled};
+
+use crate::place::Place;
+use crate::section::Extent;
+use crate::tables::Tables;
+use rv_statement::Statement;
+use rv_text::SourceFault;
+use std::alloc::Global;
+
+/// A source's statements, where they stand, its sections and its names.
+#[derive(Drop)]
+pub struct Unit<'a> {
+    pub(crate) statements: Vec<Statement<'a>>,
+    pub(crate) places: Vec<Place>,
+    pub(crate) tables: Tables<'a>,
+}
+
+impl<'a> Unit<'a> {
+    /// The statements with their places, their sections and their names. Faults of labels and directives are not
+    /// looked for yet.
+    pub fn build(alloc: Global, statements: Vec<Statement<'a>>) -> Result<Unit<'a>, SourceFault>
+        ensures filled { IfOk result (λ u. IsFilled u) }
+        ensures same { IfOk result (λ u. u.statements ≡ statements.entry) }
+    {
+        let mut tables = Tables::new(alloc)?;
+        let places = tables.fill(alloc, &statements)?;
+        Ok(Unit {
+            statements,
+            places,
+            tables,
+        })
+    }
+
+    /// The statements.
+    pub fn statements(&self) -> &[Statement<'a>]
+        ensures { result.now ≡ (self.now).statements.items }
+    {
+        self.statements.as_slice()
+    }
+
+    /// The place of each statement.
+    pub fn places(&self) -> &[Place]
+        ensures { result.now ≡ (self.now).places.items }
+    {
+        self.places.as_slice()
+    }
+
+    /// The sections, in the order in which they are opened first.
+    pub fn sections(&self) -> &[Extent<'a>]
+        ensures { result.now ≡ (self.now).tables.extents.items }
+    {
+        self.tables.extents.as_slice()
+    }
+}

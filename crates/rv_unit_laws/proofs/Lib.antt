@@ -1,0 +1,5 @@
+pub mod Found
+pub mod Before
+pub mod Meant
+pub mod Entering
+pub mod Later

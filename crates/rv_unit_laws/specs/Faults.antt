@@ -1,0 +1,137 @@
+-- The faults of labels and directives, and of instructions outside code; the first of them (GNU as, "Pseudo Ops",
+-- for what directives take).
+
+use Rattle.std.specs.Prelude.{ℕ, zero, suc, ◌+◌, ◌*◌, ◌^◌, Bool, true, false, not, ◌&&◌, ◌||◌, ◌==◌, nat_lt, nat_le, min, List, [], ◌∷◌, ◌++◌, length, flat_map, Option, Some, None, is_some, if◌then◌else◌}
+use Rattle.rv_text_laws.specs.Values.{Meaning, Placed, Value, Constant, Symbolic, Difference, Faulty}
+use Rattle.rv_statement.specs.Statement.{Statement, Label, Numbered, Instruction, Directs, Spoken, Expression, Directive, Enters, Opens, Globl, Local, Sets, Aligns_to_power, Aligns_to_bytes, Values, Strings, Zeros, Chooses, Ignored}
+use Rattle.rv_statement.specs.declared.directive.Choice.{Choice}
+use Rattle.rv_statement.specs.declared.directive.Choice.TheVariants.{Pop}
+use Rattle.rv_text_laws.specs.Expression.{Here}
+use Rattle.rv_unit_laws.specs.Sections.{Section, Opened, section_at, current_section, place_of_name, most_sections, entered_by}
+use Rattle.rv_unit_laws.specs.Tables.{Tables, Place, at_start, after, tables, here, stood, value, has_place, is_defined, is_power, greatest_alignment, longest_section, asked, counted, padding, string_bytes}
+
+-- the code of a fault where it is one
+abbrev pub faulty_if : Bool → ℕ → List ℕ
+faulty_if test code = if test then code ∷ [] else []
+
+-- the lowest of codes
+abbrev pub lowest : List ℕ → Option ℕ
+lowest [] = None
+lowest (c ∷ cs) = elim (lowest cs) [
+  | None ↦ Some c
+  | Some d ↦ Some (min c d)
+]
+
+-- a value where a constant is wanted
+abbrev pub constant_faults : Value → List ℕ
+constant_faults (Constant n) = []
+constant_faults (Faulty code) = code ∷ []
+constant_faults _ = 13 ∷ []
+
+-- a size is not negative
+abbrev pub size_faults : Value → List ℕ
+size_faults (Constant n) = faulty_if (not (nat_lt n (2 ^ 63))) 14
+size_faults v = constant_faults v
+
+-- an alignment is a power of two and not too great; as a power of two it is not negative
+abbrev pub power_faults : Value → List ℕ
+power_faults (Constant k) = if nat_lt k (2 ^ 63) then faulty_if (not (nat_lt k 13)) 17 else 14 ∷ []
+power_faults v = constant_faults v
+
+abbrev pub bytes_faults : Value → List ℕ
+bytes_faults (Constant n) = if is_power n then faulty_if (not (nat_le n greatest_alignment)) 17 else 14 ∷ []
+bytes_faults v = constant_faults v
+
+-- a value of data of so many bytes: a place alone takes 4 or 8
+abbrev pub value_faults : ℕ → Value → List ℕ
+value_faults width (Constant n) = []
+value_faults width (Symbolic symbol at plus) = faulty_if (nat_lt width 4) 13
+value_faults width (Difference symbol minus plus) = []
+value_faults width (Faulty code) = code ∷ []
+
+-- an alignment in code beyond 2 has bytes: none can stand in a section without them, and elsewhere they are not built yet
+abbrev pub code_alignment_faults : Bool → Option ℕ → List ℕ
+code_alignment_faults nobits None = []
+code_alignment_faults nobits (Some alignment) = faulty_if (not (nat_le alignment 2)) (if nobits then 15 else 9)
+
+-- so many bytes of data at an offset
+abbrev pub past_section : Bool → ℕ → ℕ → List ℕ
+past_section executable offset bytes = faulty_if (not executable && not (nat_le (offset + bytes) longest_section)) 17
+
+abbrev pub zero_faults : Section → ℕ → Value → List ℕ
+zero_faults home offset v =
+    size_faults v ++ (faulty_if home.executable 15
+    ++ elim (counted v) [
+      | None ↦ []
+      | Some n ↦ past_section home.executable offset n
+    ])
+
+abbrev pub alignment_faults : Section → ℕ → Option ℕ → List ℕ
+alignment_faults home offset alignment =
+    if home.executable then code_alignment_faults home.nobits alignment else past_section false offset (padding alignment offset)
+
+-- a second definition of a name of which either is a label or a place; a place stands in no code
+abbrev pub set_faults : Tables → ℕ → Section → List ℕ → Value → List ℕ
+set_faults t ordinal home name (Symbolic Here at plus) = faulty_if (is_defined t ordinal name) 11 ++ faulty_if home.executable 15
+set_faults t ordinal home name v = constant_faults v ++ faulty_if (has_place t ordinal name) 11
+
+-- one section more than there may be
+abbrev pub section_faults : List Section → Option Section → List ℕ
+section_faults sections None = []
+section_faults sections (Some section) =
+    faulty_if (not (is_some (place_of_name sections section.name)) && not (nat_lt (length sections) most_sections)) 17
+
+abbrev pub choice_faults : ℕ → Choice → List ℕ
+choice_faults kept Pop = faulty_if (kept == 0) 16
+choice_faults kept _ = []
+
+-- the codes of a directive's faults: `t` are the tables before it, `all` those of the whole source
+abbrev pub directive_faults : Tables → Tables → ℕ → Directive → List ℕ
+directive_faults all t ordinal (Enters standard) = section_faults t.opened.sections (entered_by (Enters standard))
+directive_faults all t ordinal (Opens name flags kind) = section_faults t.opened.sections (entered_by (Opens name flags kind))
+directive_faults all t ordinal (Globl names) = []
+directive_faults all t ordinal (Local names) = []
+directive_faults all t ordinal (Sets name e) =
+    set_faults t ordinal (current_section t.opened) name (value all false ordinal (here t) e)
+directive_faults all t ordinal (Aligns_to_power exponent) =
+    power_faults (value all false ordinal (here t) exponent)
+    ++ alignment_faults (current_section t.opened) (here t).offset (asked (value all false ordinal (here t)) (Aligns_to_power exponent))
+directive_faults all t ordinal (Aligns_to_bytes bytes) =
+    bytes_faults (value all false ordinal (here t) bytes)
+    ++ alignment_faults (current_section t.opened) (here t).offset (asked (value all false ordinal (here t)) (Aligns_to_bytes bytes))
+directive_faults all t ordinal (Values width values) =
+    flat_map (λ e. value_faults width (value all true ordinal (here t) e)) values
+    ++ (faulty_if ((current_section t.opened).executable || (current_section t.opened).nobits) 15
+    ++ past_section (current_section t.opened).executable (here t).offset (width * length values))
+directive_faults all t ordinal (Strings ended strings) =
+    faulty_if ((current_section t.opened).executable || (current_section t.opened).nobits) 15
+    ++ past_section (current_section t.opened).executable (here t).offset (length (string_bytes ended strings))
+directive_faults all t ordinal (Zeros count) = zero_faults (current_section t.opened) (here t).offset (value all false ordinal (here t) count)
+directive_faults all t ordinal (Chooses choice) = choice_faults t.kept choice
+directive_faults all t ordinal Ignored = []
+
+-- an instruction stands in a section of code that has its bytes in the file
+abbrev pub faults : Tables → Tables → ℕ → Statement → List ℕ
+faults all t ordinal (Label name) = faulty_if (is_defined t ordinal name) 11
+faults all t ordinal (Numbered number) = []
+faults all t ordinal (Instruction mnemonic operands) = faulty_if (not (current_section t.opened).executable || (current_section t.opened).nobits) 15
+faults all t ordinal (Directs directive) = directive_faults all t ordinal directive
+
+-- a fault: its code and its line
+pub record Fault : Type 0 where
+  pub code : ℕ
+  pub line : ℕ
+
+abbrev pub at_line : ℕ → Option ℕ → Option Fault → Option Fault
+at_line line None others = others
+at_line line (Some code) others = Some (record { code = code; line = line })
+
+-- the first faulty statement, with the lowest code of its faults
+abbrev pub first_fault_from : Tables → Tables → ℕ → List Spoken → Option Fault
+first_fault_from all t ordinal [] = None
+first_fault_from all t ordinal (s ∷ ss) =
+    at_line s.line (lowest (faults all t ordinal s.says)) (first_fault_from all (after t ordinal s.says) (suc ordinal) ss)
+
+-- the first fault of a source's labels and directives
+abbrev pub first_fault : List Spoken → Option Fault
+first_fault ss = first_fault_from (tables ss) at_start 1 ss

@@ -1,0 +1,114 @@
+-- The sections of a source (gABI, "Sections"; GNU as, "Sections" and ".section").
+
+use Rattle.std.specs.Prelude.{ℕ, suc, Bool, true, false, not, ◌&&◌, ◌||◌, ◌==◌, nat_lt, List, [], ◌∷◌, ◌++◌, length, take, Option, Some, None, slice_index_or, codes, option_map, if◌then◌else◌}
+use Rattle.std.specs.List.{list_any}
+use Rattle.std.specs.Str.{bytes_eq}
+use Rattle.rv_statement.specs.Statement.{Directive, Enters, Opens}
+use Rattle.rv_statement.specs.declared.directive.Standard.{Standard}
+use Rattle.rv_statement.specs.declared.directive.Standard.TheVariants.{Text, Data, Rodata, Bss}
+
+-- a section by its flags: ALLOC, EXECINSTR and WRITE, and the type NOBITS
+pub record Section : Type 0 where
+  pub name : List ℕ
+  pub loaded : Bool
+  pub executable : Bool
+  pub writable : Bool
+  pub nobits : Bool
+
+-- the region of memory to which a section goes
+abbrev pub goes_to_text : Section → Bool
+goes_to_text s = s.loaded && s.executable
+
+abbrev pub goes_to_bss : Section → Bool
+goes_to_bss s = s.loaded && not s.executable && s.nobits
+
+abbrev pub goes_to_data : Section → Bool
+goes_to_data s = s.loaded && not s.executable && not s.nobits && s.writable
+
+abbrev pub goes_to_rodata : Section → Bool
+goes_to_rodata s = s.loaded && not s.executable && not s.nobits && not s.writable
+
+abbrev pub begins_with : List ℕ → List ℕ → Bool
+begins_with front name = bytes_eq (take (length front) name) front
+
+-- the sections that the front of their name says: code, variables, variables that begin as zero, constants
+abbrev pub is_code : List ℕ → Bool
+is_code name = begins_with (codes ".text") name
+
+abbrev pub is_variable : List ℕ → Bool
+is_variable name = begins_with (codes ".data") name || begins_with (codes ".sdata") name
+
+abbrev pub is_zeroed : List ℕ → Bool
+is_zeroed name = begins_with (codes ".bss") name || begins_with (codes ".sbss") name
+
+abbrev pub is_constant : List ℕ → Bool
+is_constant name = begins_with (codes ".rodata") name || begins_with (codes ".srodata") name
+
+-- whether a flag's letter is given; where no flags are given, what the name's front says
+abbrev pub has_flag : ℕ → Option (List ℕ) → Bool → Bool
+has_flag letter None by_name = by_name
+has_flag letter (Some letters) by_name = list_any (λ l. l == letter) letters
+
+abbrev pub is_nobits : Option (List ℕ) → Bool → Bool
+is_nobits None by_name = by_name
+is_nobits (Some kind) by_name = bytes_eq kind (codes "nobits")
+
+-- a section with the flags a (97), x (120) and w (119) and the type that are given, or that its name's front says
+abbrev pub section_of : List ℕ → Option (List ℕ) → Option (List ℕ) → Section
+section_of name flags kind = record {
+  name = name;
+  loaded = has_flag 97 flags (is_code name || is_variable name || is_zeroed name || is_constant name);
+  executable = has_flag 120 flags (is_code name);
+  writable = has_flag 119 flags (is_variable name || is_zeroed name);
+  nobits = is_nobits kind (is_zeroed name);
+}
+
+abbrev pub standard_name : Standard → List ℕ
+standard_name Text = codes ".text"
+standard_name Data = codes ".data"
+standard_name Rodata = codes ".rodata"
+standard_name Bss = codes ".bss"
+
+abbrev pub text_section : Section
+text_section = record { name = codes ".text"; loaded = true; executable = true; writable = false; nobits = false }
+
+-- the sections that a source has opened so far, in their order, and the current one's place among them, from 0
+pub record Opened : Type 0 where
+  pub sections : List Section
+  pub current : ℕ
+
+-- a source begins in .text, which is always its first section
+abbrev pub at_first : Opened
+at_first = record { sections = text_section ∷ []; current = 0 }
+
+-- the most sections of a source
+abbrev pub most_sections : ℕ
+most_sections = 32000
+
+-- where a name stands among the sections
+abbrev pub place_of_name : List Section → List ℕ → Option ℕ
+place_of_name [] name = None
+place_of_name (s ∷ ss) name = if bytes_eq s.name name then Some 0 else option_map suc (place_of_name ss name)
+
+abbrev pub entered_at : Opened → Section → Option ℕ → Opened
+entered_at opened section (Some place) = record { sections = opened.sections; current = place }
+entered_at opened section None =
+    if nat_lt (length opened.sections) most_sections
+    then record { sections = opened.sections ++ section ∷ []; current = length opened.sections }
+    else opened
+
+-- a name that was opened before keeps its section; a new one is a section behind the others, while there is room
+abbrev pub entered : Opened → Section → Opened
+entered opened section = entered_at opened section (place_of_name opened.sections section.name)
+
+-- the section that a directive enters
+abbrev pub entered_by : Directive → Option Section
+entered_by (Enters standard) = Some (section_of (standard_name standard) None None)
+entered_by (Opens name flags kind) = Some (section_of name flags kind)
+entered_by _ = None
+
+abbrev pub section_at : Opened → ℕ → Section
+section_at opened place = slice_index_or opened.sections place text_section
+
+abbrev pub current_section : Opened → Section
+current_section opened = section_at opened opened.current
