@@ -1,6 +1,9 @@
 mod Lowest
+mod Checked
 mod Digits
+mod Each
 mod Filling
 mod Given
 mod Lookups
 mod Scoped
+mod Sized

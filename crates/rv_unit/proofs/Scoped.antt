@@ -4,13 +4,13 @@ use Rattle.std.proofs.Common.{◌≡◌, ℕ, ◌+◌, ◌<◌, ◌≤◌, ◌==
 use Rattle.std.specs.List.{find}
 use Rattle.std.specs.Str.{bytes_eq}
 use Rattle.rv_text_laws.specs.Expression.{Symbol, Here}
-use Rattle.rv_text_laws.specs.Values.{Meaning}
+use Rattle.rv_text_laws.specs.Values.{Meaning, Open}
 use Rattle.std.proofs.lemmas.List.{get_or-map, length-map}
 use Rattle.rv_statement.specs.Statement.{Spoken}
 use Rattle.rv_statement.specs.declared.statement.Statement.{Statement}
 use Rattle.rv_statement.specs.View.{said_by}
 use Rattle.rv_unit_laws.specs.Tables as laws
-use Rattle.rv_unit_laws.proofs.Before.{IsBefore, set_now}
+use Rattle.rv_unit_laws.proofs.Before.{IsBefore, set_now, label_before}
 use Rattle.rv_unit_laws.proofs.Later.{Keeps}
 use Rattle.rv_unit.specs.Sees.{Sees}
 use Rattle.rv_unit.proofs.Filling.{passed, passed_before, passed_keeps, passed_more}
@@ -46,6 +46,30 @@ meaning_back t all ss o n m s is =
 pub meaning_forward : (t all : laws.Tables) (ss : List Spoken) (o at n : ℕ) (m : Meaning) → Sees t all ss o → at ≡ o → m ≡ laws.forward_in all.opened true (laws.marked_after all.marks at n) → m ≡ laws.referred (laws.tables ss) true o n true
 meaning_forward t all ss o at n m s same is =
     is ∙ ap (λ a. laws.forward_in all.opened true (laws.marked_after all.marks a n)) same ∙ ap (λ (x : laws.Tables). laws.forward_in x.opened true (laws.marked_after x.marks o n)) s.whole
+
+-- the same where later definitions do not count
+
+label_all : (t all : laws.Tables) (o : ℕ) (name : List ℕ) → IsBefore t o → Keeps t all o → laws.label_of all.labels false o name ≡ laws.label_of t.labels true 0 name
+label_all t all o name h k = k.labels (λ l. bytes_eq l.name name) ∙ label_before t o name h
+
+pub early_name : (t all : laws.Tables) (ss : List Spoken) (o : ℕ) (p : laws.Place) (name : List ℕ) (m : Meaning) → Sees t all ss o
+    → m ≡ laws.set_first (laws.set_ever t.settings name) (laws.labelled all.opened (laws.label_of t.labels true 0 name) Open)
+    → m ≡ laws.meaning (laws.tables ss) false o p (Symbol name)
+early_name t all ss o p name m s is =
+    is ∙ sym (ap (λ f. laws.set_first f (laws.labelled all.opened (laws.label_of t.labels true 0 name) Open)) (set_all t all o name s.before s.keeps))
+    ∙ sym (ap (λ l. laws.set_first (laws.set_before all.settings o name) (laws.labelled all.opened l Open)) (label_all t all o name s.before s.keeps))
+    ∙ ap (λ x. laws.named x false o name) s.whole
+
+pub early_here : (t all : laws.Tables) (ss : List Spoken) (o : ℕ) (p : laws.Place) (m : Meaning) → Sees t all ss o → m ≡ laws.stands all.opened p → m ≡ laws.meaning (laws.tables ss) false o p Here
+early_here t all ss o p m s is = is ∙ ap (λ (x : laws.Tables). laws.stands x.opened p) s.whole
+
+pub early_back : (t all : laws.Tables) (ss : List Spoken) (o n : ℕ) (m : Meaning) → Sees t all ss o → m ≡ laws.backward_in all.opened (find (λ k. k.number == n) t.marks) → m ≡ laws.referred (laws.tables ss) false o n false
+early_back t all ss o n m s is =
+    is ∙ sym (ap (laws.backward_in all.opened) (marked_all t all o n s.before s.keeps)) ∙ ap (λ (x : laws.Tables). laws.backward_in x.opened (laws.marked_before x.marks o n)) s.whole
+
+pub early_ahead : (t all : laws.Tables) (ss : List Spoken) (o at n : ℕ) (m : Meaning) → Sees t all ss o → at ≡ o → m ≡ laws.forward_in all.opened false (laws.marked_after all.marks at n) → m ≡ laws.referred (laws.tables ss) false o n true
+early_ahead t all ss o at n m s same is =
+    is ∙ ap (λ a. laws.forward_in all.opened false (laws.marked_after all.marks a n)) same ∙ ap (λ (x : laws.Tables). laws.forward_in x.opened false (laws.marked_after x.marks o n)) s.whole
 
 pub home_name : (t all : laws.Tables) (ss : List Spoken) (o : ℕ) (name : List ℕ) (h : Option laws.Home) → Sees t all ss o
     → h ≡ laws.home_first (laws.home_set (laws.set_ever t.settings name)) (laws.home_labelled (laws.label_of all.labels true 0 name) (laws.home_set (laws.set_ever all.settings name)))

@@ -1,6 +1,11 @@
 -- What a unit and a scope show.
 
-use Rattle.std.specs.Prelude.{◌≡◌, ℕ, ◌+◌, ◌≤◌, List, length, map, take}
+use Rattle.std.specs.Prelude.{◌≡◌, ℕ, ◌+◌, ◌≤◌, List, Some, length, map, take}
+use Rattle.rv_text.specs.declared.fault.SourceFault.{SourceFault}
+use Rattle.rv_text.specs.declared.fault.SourceFault.TheVariants as refusals
+use Rattle.rv_text.specs.declared.fault.SourceCode.{SourceCode}
+use Rattle.rv_text.specs.Fault.{number_of}
+use Rattle.rv_unit_laws.specs.Faults.{Fault, first_fault}
 use Rattle.rv_statement.specs.Statement.{Spoken}
 use Rattle.rv_statement.specs.View.{said_by}
 use Rattle.rv_unit_laws.specs.Tables as laws
@@ -33,3 +38,12 @@ pub record IsScope (s : Scope) (index : ℕ) : Type 0 where
   pub ordinal : s.ordinal ≡ index + 1
   pub passes : tables_of s.passed ≡ passed (said s.unit.now) index
   pub indexed : IsIndexed s.passed
+
+-- a fault by its code and its line
+abbrev pub fault_of : SourceCode × ℕ → Fault
+fault_of f = record { code = number_of f.0; line = f.1 }
+
+-- the first fault that a refusal names, unless memory ran out
+abbrev pub NamesFirst : SourceFault → List Spoken → Type 0
+NamesFirst (refusals.At code line) ss = first_fault ss ≡ Some (record { code = number_of code; line = line })
+NamesFirst refusals.OutOfMemory ss = Unit {0}

@@ -82,17 +82,23 @@ pub(crate) fn padding(alignment: Option<u32>, offset: u32) -> u64
     }
 }
 
-/// The bytes of values of data, or as many as a number shows.
-pub(crate) fn values_size(width: Width, count: usize) -> u64
-    ensures { result ≡ min (bytes_of width * count) (2 ^ 64 - 1) }
+/// The bytes of a value of data.
+pub(crate) fn width_in_bytes(width: Width) -> u64
+    ensures { result ≡ bytes_of width }
 {
-    let bytes: u64 = match width {
+    match width {
         Width::Byte => 1,
         Width::Half => 2,
         Width::Word => 4,
         Width::Double => 8,
-    };
-    bytes.saturating_mul(count as u64)
+    }
+}
+
+/// The bytes of values of data, or as many as a number shows.
+pub(crate) fn values_size(width: Width, count: usize) -> u64
+    ensures { result ≡ min (bytes_of width * count) (2 ^ 64 - 1) }
+{
+    width_in_bytes(width).saturating_mul(count as u64)
 }
 
 /// The bytes of strings, where asked with a zero byte behind each, or as many as a number shows.

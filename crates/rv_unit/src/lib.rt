@@ -4,6 +4,7 @@
 #![tactic(auto)]
 
 mod align;
+mod check;
 mod faults;
 mod fill;
 mod names;

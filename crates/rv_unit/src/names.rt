@@ -1,8 +1,9 @@
 //! What names mean, in a statement with the tables of those before it.
 
-ghost use Rattle.std.specs.Prelude.{◌≡◌, ℕ, ◌==◌, true, List};
+ghost use Rattle.std.specs.Prelude.{◌≡◌, ℕ, ◌==◌, true, false, List};
 ghost use Rattle.std.specs.List.{find};
 ghost use Rattle.rv_text_laws.specs.Bytes.{value as digits_value};
+ghost use Rattle.rv_text_laws.specs.Values.{Open};
 ghost use Rattle.rv_text.specs.Nodes.{symbol_of};
 ghost use Rattle.rv_text.specs.Expr.{tree_of_expr};
 ghost use Rattle.rv_text.specs.Eval.{meaning_of, IsOutcome};
@@ -103,6 +104,71 @@ impl<'a> Unit<'a> {
     {
         match self.tables.marked_after(ordinal, digits) {
             Some(mark) => self.tables.stands(mark.place),
+            None => Meaning::UndefinedLocal,
+        }
+    }
+
+    /// What a symbol means in the statement of an ordinal, which stands at the place, where later definitions do not count.
+    pub(crate) fn early_meaning(
+        &self,
+        passed: &Tables<'_>,
+        ordinal: usize,
+        place: Place,
+        symbol: Symbol<'_>,
+    ) -> Meaning
+        ensures { (ss : List Spoken) (o : ℕ) → IsIndexed passed.now → IsIndexed (self.now).tables → Sees (tables_of passed.now) (tables_of (self.now).tables) ss o → ordinal ≡ o → meaning_of result ≡ laws.meaning (laws.tables ss) false o (place_of place) (symbol_of symbol.entry) }
+    {
+        match symbol {
+            Symbol::Name(name) => self.early_named(passed, name),
+            Symbol::Here => self.tables.stands(place),
+            Symbol::Backward(digits) => self.backward(passed, digits),
+            Symbol::Forward(digits) => self.early_forward(ordinal, digits),
+        }
+    }
+
+    /// The value of an expression of that statement, where later definitions do not count.
+    pub(crate) fn early_value(
+        &self,
+        passed: &Tables<'_>,
+        ordinal: usize,
+        place: Place,
+        expression: &Expr<'a>,
+    ) -> Result<Value<'a>, SourceFault>
+        ensures { (ss : List Spoken) (o : ℕ) → IsIndexed passed.now → IsIndexed (self.now).tables → Sees (tables_of passed.now) (tables_of (self.now).tables) ss o → ordinal ≡ o → IsOutcome result 0 (laws.value (laws.tables ss) false o (place_of place) (tree_of_expr expression.now)) }
+    {
+        eval(
+            expression,
+            0,
+            &|symbol| { self.early_meaning(passed, ordinal, place, symbol) },
+        )
+    }
+
+    /// What a name means by what is defined before.
+    fn early_named(&self, passed: &Tables<'_>, name: &[u8]) -> Meaning
+        ensures { IsIndexed passed.now → meaning_of result ≡ laws.set_first (laws.set_ever (tables_of passed.now).settings name.now) (laws.labelled (tables_of (self.now).tables).opened (laws.label_of (tables_of passed.now).labels true 0 name.now) Open) }
+    {
+        match passed.setting(name) {
+            Some(setting) => setting.meaning,
+            None => self.early_labelled(passed, name),
+        }
+    }
+
+    /// What a name means that is not set before.
+    fn early_labelled(&self, passed: &Tables<'_>, name: &[u8]) -> Meaning
+        ensures { meaning_of result ≡ laws.labelled (tables_of (self.now).tables).opened (laws.label_of (tables_of passed.now).labels true 0 name.now) Open }
+    {
+        match passed.label(name) {
+            Some(label) => self.tables.stands(label.place),
+            None => Meaning::Open,
+        }
+    }
+
+    /// What a numeric label behind means: no constant, if there is one.
+    fn early_forward(&self, ordinal: usize, digits: &[u8]) -> Meaning
+        ensures { meaning_of result ≡ laws.forward_in (tables_of (self.now).tables).opened false (laws.marked_after (tables_of (self.now).tables).marks ordinal (digits_value 10 digits.now)) }
+    {
+        match self.tables.marked_after(ordinal, digits) {
+            Some(_) => Meaning::NotConstant,
             None => Meaning::UndefinedLocal,
         }
     }

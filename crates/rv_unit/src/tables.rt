@@ -1,6 +1,6 @@
 //! The tables that statements fill, one after the other.
 
-ghost use Rattle.std.specs.Prelude.{◌≡◌, ℕ, ◌<◌, ◌||◌, ◌==◌, List, false, true, not, is_some, Some, None, option_map, map, reverse, IfOk, OnOk};
+ghost use Rattle.std.specs.Prelude.{◌≡◌, ℕ, ◌<◌, ◌||◌, ◌==◌, List, false, true, not, is_some, nat_lt, length, Some, None, option_map, map, reverse, IfOk, OnOk};
 ghost use Rattle.std.specs.List.{find};
 ghost use Rattle.rv_text_laws.specs.Bytes.{value as digits_value};
 ghost use Rattle.rv_text_laws.specs.Values.{Open};
@@ -231,6 +231,27 @@ impl<'a> Tables<'a> {
         ensures { IsIndexed self.now → (o : ℕ) → IsBefore (tables_of self.now) o → IsOutcome result 0 (laws.value (tables_of self.now) false o (laws.here (tables_of self.now)) (tree_of_expr expression.now)) }
     {
         eval(expression, 0, &|symbol| self.meaning(symbol))
+    }
+
+    /// The current section.
+    pub(crate) fn home(&self) -> Section<'a>
+        ensures { section_of result ≡ sections.current_section (tables_of self.now).opened }
+    {
+        self.section_at(self.current)
+    }
+
+    /// Whether there are as many sections as there may be.
+    pub(crate) fn is_full(&self) -> bool
+        ensures { result ≡ not (nat_lt (length (tables_of self.now).opened.sections) sections.most_sections) }
+    {
+        self.extents.len() >= MOST_SECTIONS
+    }
+
+    /// Whether a section of the name is open.
+    pub(crate) fn knows(&self, name: &[u8]) -> bool
+        ensures { IsIndexed self.now → result ≡ is_some (sections.place_of_name (tables_of self.now).opened.sections name.now) }
+    {
+        self.numbers.get(&name).is_some()
     }
 
     /// Whether a label or a setting has the name.

@@ -1,14 +1,16 @@
 //! A source's statements with what they define.
 
-ghost use Rattle.std.specs.Prelude.{◌≡◌, IfOk};
-ghost use Rattle.rv_unit.specs.Unit.{IsFilled};
+ghost use Rattle.std.specs.Prelude.{◌≡◌, None, map, IfOk, IfErr};
+ghost use Rattle.rv_statement.specs.View.{said_by};
+ghost use Rattle.rv_unit_laws.specs.Faults.{first_fault};
+ghost use Rattle.rv_unit.specs.Unit.{said, IsFilled, NamesFirst};
 
 use crate::place::Place;
 use crate::section::Extent;
 use crate::tables::Tables;
 use rv_statement::Statement;
 use rv_text::SourceFault;
-use std::alloc::Global;
+use std::alloc::{AllocError, Global};
 
 /// A source's statements, where they stand, its sections and its names.
 #[derive(Drop)]
@@ -19,9 +21,24 @@ pub struct Unit<'a> {
 }
 
 impl<'a> Unit<'a> {
-    /// The statements with their places, their sections and their names. Faults of labels and directives are not
-    /// looked for yet.
+    /// The statements with their places, their sections and their names; or the first faulty label or directive, or
+    /// instruction outside code, at the line of its statement.
     pub fn build(alloc: Global, statements: Vec<Statement<'a>>) -> Result<Unit<'a>, SourceFault>
+        ensures filled { IfOk result (λ u. IsFilled u) }
+        ensures same { IfOk result (λ u. u.statements ≡ statements.entry) }
+        ensures good { IfOk result (λ u. first_fault (said u) ≡ None) }
+        ensures refuses { IfErr result (λ e. NamesFirst e (map said_by (statements.entry).items)) }
+    {
+        let unit = Unit::fill(alloc, statements)?;
+        match unit.first_fault(alloc) {
+            Ok(None) => Ok(unit),
+            Ok(Some((code, line))) => Err(SourceFault::At { code, line }),
+            Err(_) => Err(SourceFault::OutOfMemory),
+        }
+    }
+
+    /// The statements with their places, their sections and their names.
+    fn fill(alloc: Global, statements: Vec<Statement<'a>>) -> Result<Unit<'a>, AllocError>
         ensures filled { IfOk result (λ u. IsFilled u) }
         ensures same { IfOk result (λ u. u.statements ≡ statements.entry) }
     {

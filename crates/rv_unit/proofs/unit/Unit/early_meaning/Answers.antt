@@ -1,0 +1,36 @@
+use Rattle.std.proofs.Common.{◌∙◌, ap, sym, false}
+use Rattle.rv_text_laws.specs.Bytes.{value}
+use Rattle.rv_text.specs.Nodes.{symbol_of}
+use Rattle.rv_unit_laws.specs.Tables.{meaning, tables}
+use Rattle.rv_unit.specs.Sections.{place_of}
+use Rattle.rv_unit.specs.Tables.{tables_of}
+use Rattle.rv_unit.proofs.Scoped.{early_name, early_here, early_back, early_ahead}
+use Rattle.rv_unit.proofs.unit.Unit.early_meaning.Goals as goal
+
+pub returns-in-Name : goal.returns-in-Name
+returns-in-Name c = λ ss o i f s at.
+    let t = tables_of c.args.passed.now in
+    let all = tables_of c.args.self.now.tables in
+    early_name t all ss o (place_of c.args.place) c.in-Name.name.now _ s (c.early_named.ensures i)
+    ∙ sym (ap (λ x. meaning (tables ss) false o (place_of c.args.place) (symbol_of x)) c.in-Name.is)
+
+pub returns-in-Here : goal.returns-in-Here
+returns-in-Here c = λ ss o i f s at.
+    let t = tables_of c.args.passed.now in
+    let all = tables_of c.args.self.now.tables in
+    early_here t all ss o (place_of c.args.place) _ s c.stands.ensures
+    ∙ sym (ap (λ x. meaning (tables ss) false o (place_of c.args.place) (symbol_of x)) c.in-Here.is)
+
+pub returns-in-Backward : goal.returns-in-Backward
+returns-in-Backward c = λ ss o i f s at.
+    let t = tables_of c.args.passed.now in
+    let all = tables_of c.args.self.now.tables in
+    early_back t all ss o (value 10 c.in-Backward.digits.now) _ s c.backward.ensures
+    ∙ sym (ap (λ x. meaning (tables ss) false o (place_of c.args.place) (symbol_of x)) c.in-Backward.is)
+
+pub returns-in-Forward : goal.returns-in-Forward
+returns-in-Forward c = λ ss o i f s at.
+    let t = tables_of c.args.passed.now in
+    let all = tables_of c.args.self.now.tables in
+    early_ahead t all ss o c.args.ordinal (value 10 c.in-Forward.digits.now) _ s at c.early_forward.ensures
+    ∙ sym (ap (λ x. meaning (tables ss) false o (place_of c.args.place) (symbol_of x)) c.in-Forward.is)

@@ -1,0 +1,29 @@
+use Rattle.std.proofs.Common.{◌≡◌, ℕ, List, ◌<◌, ◌≤◌, ap, sym, subst, length, map, take, take_all, true, rules, arith}
+use Rattle.std.specs.Prelude.{flat_map}
+use Rattle.rv_text_laws.specs.Expression.{Tree}
+use Rattle.rv_text.specs.Expr.{tree_of_expr}
+use Rattle.rv_statement.specs.View.{bytes_of}
+use Rattle.rv_unit_laws.specs.Faults as faults
+use Rattle.rv_unit_laws.specs.Tables as laws
+use Rattle.rv_unit.specs.Faults.{IsLowest}
+use Rattle.rv_unit.specs.Tables.{tables_of}
+use Rattle.rv_unit.proofs.Each.{each_more}
+use Rattle.rv_unit.proofs.unit.Unit.fault_of_each.Goals as goal
+
+pub loop-value-preserved : goal.loop-value-preserved
+loop-value-preserved c = λ ss o i f s at.
+    let n = c.loop-value.value-index in
+    let xs = c.args.values.now in
+    let x = c.value-item.result in
+    let inside : n < length xs = search rules in
+    let each : Tree → List ℕ = (λ e. faults.value_faults (bytes_of c.args.width) (laws.value (laws.tables ss) true o (laws.here (tables_of c.args.passed.now)) e)) in
+    let value = c.value-value.ensures ss o i f s at in
+    subst (IsLowest c.lower-found.result) (sym (each_more each xs n x inside c.value-item.is))
+    (c.lower-found.ensures (flat_map each (map tree_of_expr (take n xs))) (each (tree_of_expr x)) (c.loop-value.invariant ss o i f s at)
+    (subst (λ w. IsLowest c.value_fault.result (faults.value_faults w (laws.value (laws.tables ss) true o (laws.here (tables_of c.args.passed.now)) (tree_of_expr x)))) c.width_in_bytes.ensures
+    (subst (λ p. IsLowest c.value_fault.result (faults.value_faults c.width_in_bytes.result (laws.value (laws.tables ss) true o p (tree_of_expr x)))) c.here.ensures (c.value_fault.ensures 0 _ value))))
+
+pub returns : goal.returns
+returns c = λ ss o i f s at.
+    let each : Tree → List ℕ = (λ e. faults.value_faults (bytes_of c.args.width) (laws.value (laws.tables ss) true o (laws.here (tables_of c.args.passed.now)) e)) in
+    subst (λ l. IsLowest c.loop-value.found (flat_map each (map tree_of_expr l))) (take_all c.loop-value.value-index c.args.values.now c.loop-value-test.false) (c.loop-value.invariant ss o i f s at)

@@ -1,0 +1,18 @@
+use Rattle.std.proofs.Common.{◌≡◌, ◌∙◌, ap, sym, subst, false}
+use Rattle.rv_text.specs.Expr.{tree_of_expr}
+use Rattle.rv_unit_laws.specs.Faults as faults
+use Rattle.rv_unit_laws.specs.Tables as laws
+use Rattle.rv_unit_laws.proofs.Before.{defined_now, has_place_now}
+use Rattle.rv_unit.specs.Faults.{IsLowest}
+use Rattle.rv_unit.specs.Sections.{section_of}
+use Rattle.rv_unit.specs.Tables.{tables_of}
+use Rattle.rv_unit.proofs.unit.Unit.fault_of_setting.Goals as goal
+
+pub returns : goal.returns
+returns c = λ ss o i f s at.
+    let t = tables_of c.args.passed.now in
+    let name = c.args.setting.now.name.now in
+    let e = tree_of_expr c.args.setting.now.expression in
+    let found = c.set_fault.ensures t o name (c.is_defined.ensures i ∙ sym (defined_now t o name s.before)) (c.has_place.ensures i ∙ sym (has_place_now t o name s.before)) 0 _ (c.early_value-value.ensures ss o i f s at) in
+    subst (λ h. IsLowest c.set_fault.result (faults.set_faults t o h name (laws.value (laws.tables ss) false o (laws.here t) e))) c.home.ensures
+    (subst (λ p. IsLowest c.set_fault.result (faults.set_faults t o (section_of c.home.result) name (laws.value (laws.tables ss) false o p e))) c.here.ensures found)
