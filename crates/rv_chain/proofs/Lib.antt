@@ -1,3 +1,7 @@
-pub mod Coded
-pub mod Sets
-pub mod Program
+pub mod Adding
+pub mod SoFar
+pub mod StatementKinds
+pub mod SoFarPieces
+pub mod Standing
+pub mod Whole
+pub mod SoFarItems

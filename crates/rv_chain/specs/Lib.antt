@@ -1,4 +1,6 @@
+pub mod Added
+pub mod Choices
+pub mod Code
 pub mod Fault
-pub mod Names
-pub mod Statements
+pub mod Pieces
 pub mod Running

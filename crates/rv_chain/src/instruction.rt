@@ -1,25 +1,33 @@
 //! The base instruction of a statement.
 
-ghost use Rattle.std.specs.Prelude.{◌≡◌, Some, None, option_map, IfOk, MatchOption, if◌then◌else◌};
-ghost use Rattle.rv_isa.specs.Ranges.{IsValid, IsSigned12};
-ghost use Rattle.rv_parse_laws.specs.Value.{signed, constant};
-ghost use Rattle.rv_parse_laws.specs.Statement.{Literal, Minus};
-ghost use Rattle.rv_parse_laws.specs.Syntax as syntax;
-ghost use Rattle.rv_chain_laws.specs.Meaning.{fits_12, add_immediate};
-ghost use Rattle.rv_chain_laws.specs.Written as laws;
+ghost use Rattle.std.specs.Prelude.{◌≡◌, ℕ, ◌<◌, true, false, nat_lt, List, [], ◌∷◌, ◌++◌, Option, Some, None, is_some, IfOk, IfSome, MatchOption, MatchResult};
+ghost use Rattle.rv_isa.specs.declared.instruction.Inst.{Inst as Instruction};
 ghost use Rattle.rv_isa.specs.declared.instruction.Inst.TheVariants.{Jalr};
-ghost use Rattle.rv_parse.specs.View.{statement_of, plain_of};
-ghost use Rattle.rv_parse.specs.declared.statement.StatementKind.TheVariants as kinds;
-ghost use Rattle.rv_chain.specs.Statements.{instruction_of, numbered};
+ghost use Rattle.rv_isa.specs.Ranges.{IsValid, IsSigned12};
+ghost use Rattle.rv_text_laws.specs.Values as values;
+ghost use Rattle.rv_text.specs.declared.fault.SourceCode.TheVariants.{ImmediateRange};
+ghost use Rattle.rv_text.specs.Eval.{IsOutcome};
+ghost use Rattle.rv_statement.specs.Statement.{Expression, Spoken};
+ghost use Rattle.rv_statement.specs.declared.statement.Operation.TheVariants.{Li};
+ghost use Rattle.rv_statement.specs.View.{plain_of, said_by};
+ghost use Rattle.rv_parse_laws.specs.Syntax as syntax;
+ghost use Rattle.rv_parse_laws.specs.Value.{signed};
+ghost use Rattle.rv_unit_laws.specs.Faults.{faulty_if};
+ghost use Rattle.rv_chain_laws.specs.Written as laws;
+ghost use Rattle.rv_chain_laws.specs.Meaning.{fits_12};
+ghost use Rattle.rv_chain_laws.specs.Refusals.{Options, form_takes, operand_faults, instruction_faults, code_size};
+ghost use Rattle.rv_chain.specs.Code.{instruction_by, mnemonic_of, numbered, constant_of, InRange, OfNumber, IsNumber, IsBuilt, Evaluates, Codes};
 
 use crate::written::{
     access_bits, atomic, fence, load_reserved, of_immediate, of_load, of_registers, of_shift,
     of_store, of_upper,
 };
 use rv_isa::{IType, Inst, RType, Reg, SType};
-use rv_parse::{Numeric, Operation, Plain};
-use rv_parse_laws::{ImmediateOperation, RegisterOperation, ShiftOperation};
-use rv_text::SourceCode;
+use rv_statement::{
+    ImmediateOperation, LoadOperation, Operation, Plain, RegisterOperation, ShiftOperation,
+    Statement, StatementKind, StoreOperation,
+};
+use rv_text::{Expr, SourceCode, SourceFault, Value};
 
 /// The immediate of 12 bits that a number is, taken as signed.
 fn immediate_of(number: u64) -> Option<i32>
@@ -35,7 +43,7 @@ fn immediate_of(number: u64) -> Option<i32>
 
 /// The immediate of 12 bits that a number is, or why it is none.
 fn immediate(number: u64) -> Result<i32, SourceCode>
-    ensures { IfOk result (λ i. (i ≡ signed number) × IsSigned12 i) }
+    ensures { MatchResult result (λ i. (is_some (fits_12 number) ≡ true) × (i ≡ signed number) × IsSigned12 i) (λ code. (is_some (fits_12 number) ≡ false) × (code ≡ ImmediateRange)) }
 {
     match immediate_of(number) {
         Some(immediate) => Ok(immediate),
@@ -43,20 +51,9 @@ fn immediate(number: u64) -> Result<i32, SourceCode>
     }
 }
 
-/// The number that a statement writes, modulo 2^64.
-fn number_of(number: u64, negated: bool) -> u64
-    ensures { constant (if negated then Minus (Literal number) else Literal number) ≡ Some result }
-{
-    if negated {
-        0u64.wrapping_sub(number)
-    } else {
-        number
-    }
-}
-
 /// The instruction of a statement without an expression.
 pub(crate) fn plain(statement: Plain) -> Inst
-    ensures { (instruction_of (plain_of statement) ≡ Some result) × IsValid result }
+    ensures { (v : Expression → ℕ) → (instruction_by v (plain_of statement) ≡ Some (result ∷ [])) × IsValid result }
 {
     let ra = Reg::from_low_bits(1);
     let immediate = 0;
@@ -97,7 +94,7 @@ fn with_immediate(
     rs1: Reg,
     number: u64,
 ) -> Result<Inst, SourceCode>
-    ensures { IfOk result (λ i. (i ≡ laws.of_immediate operation (laws.i_type rd rs1 number)) × IsValid i) }
+    ensures { InRange (is_some (fits_12 number)) (Some (laws.of_immediate operation (laws.i_type rd rs1 number))) result }
 {
     let immediate = immediate(number)?;
     Ok(of_immediate(operation, IType { immediate, rd, rs1 }))
@@ -110,7 +107,7 @@ fn with_constant(
     rs1: Reg,
     number: u64,
 ) -> Result<Inst, SourceCode>
-    ensures { IfOk result (λ i. (laws.by_constant (syntax.with_constant operation) rd rs1 number ≡ Some i) × IsValid i) }
+    ensures { InRange (form_takes (syntax.with_constant operation) number) (laws.by_constant (syntax.with_constant operation) rd rs1 number) result }
 {
     match operation {
         RegisterOperation::Add => with_immediate(ImmediateOperation::Addi, rd, rs1, number),
@@ -127,13 +124,44 @@ fn with_constant(
         RegisterOperation::Srlw => of_shift(ShiftOperation::Srliw, rd, rs1, number),
         RegisterOperation::Sraw => of_shift(ShiftOperation::Sraiw, rd, rs1, number),
         // the parser reads no constant behind the others
-        _ => Err(SourceCode::BadOperands),
+        _ => Err(SourceCode::ImmediateRange),
     }
+}
+
+/// A load at a number from a register.
+fn load(operation: LoadOperation, rd: Reg, rs1: Reg, number: u64) -> Result<Inst, SourceCode>
+    ensures { InRange (is_some (fits_12 number)) (Some (laws.of_load operation (laws.i_type rd rs1 number))) result }
+{
+    let immediate = immediate(number)?;
+    Ok(of_load(operation, IType { immediate, rd, rs1 }))
+}
+
+/// A store at a number from a register.
+fn store(operation: StoreOperation, rs2: Reg, rs1: Reg, number: u64) -> Result<Inst, SourceCode>
+    ensures { InRange (is_some (fits_12 number)) (Some (laws.of_store operation (laws.s_type rs2 rs1 number))) result }
+{
+    let immediate = immediate(number)?;
+    Ok(of_store(
+        operation,
+        SType {
+            immediate,
+            rs1,
+            rs2,
+        },
+    ))
+}
+
+/// A jump to a number from a register.
+fn jalr(rd: Reg, rs1: Reg, number: u64) -> Result<Inst, SourceCode>
+    ensures { InRange (is_some (fits_12 number)) (Some (Jalr (laws.i_type rd rs1 number))) result }
+{
+    let immediate = immediate(number)?;
+    Ok(Inst::Jalr(IType { immediate, rd, rs1 }))
 }
 
 /// `li` of a number of 12 bits; of a larger one it is not built yet.
 fn li(rd: Reg, number: u64) -> Result<Inst, SourceCode>
-    ensures { IfOk result (λ i. (option_map (add_immediate rd 0) (fits_12 number) ≡ Some i) × IsValid i) }
+    ensures { OfNumber (Li rd) number result }
 {
     let Some(immediate) = immediate_of(number) else {
         return Err(SourceCode::UnsupportedHere);
@@ -144,51 +172,100 @@ fn li(rd: Reg, number: u64) -> Result<Inst, SourceCode>
 
 /// The instruction of an operation with a number, or why there is none.
 fn with_number(operation: Operation, number: u64) -> Result<Inst, SourceCode>
-    ensures { IfOk result (λ i. (numbered operation number ≡ Some i) × IsValid i) }
+    ensures { OfNumber operation number result }
 {
     match operation {
         Operation::Registers(operation, rd, rs1) => with_constant(operation, rd, rs1, number),
         Operation::Immediate(operation, rd, rs1) => with_immediate(operation, rd, rs1, number),
         Operation::Shift(operation, rd, rs1) => of_shift(operation, rd, rs1, number),
         Operation::Upper(operation, rd) => of_upper(operation, rd, number),
-        Operation::Load(operation, rd, rs1) => {
-            let immediate = immediate(number)?;
-            Ok(of_load(operation, IType { immediate, rd, rs1 }))
-        }
-        Operation::Store(operation, rs2, rs1) => {
-            let immediate = immediate(number)?;
-            Ok(of_store(
-                operation,
-                SType {
-                    immediate,
-                    rs1,
-                    rs2,
-                },
-            ))
-        }
+        Operation::Load(operation, rd, rs1) => load(operation, rd, rs1, number),
+        Operation::Store(operation, rs2, rs1) => store(operation, rs2, rs1, number),
         Operation::Jalr(rd, rs1) | Operation::JalrThen(rd, rs1) => jalr(rd, rs1, number),
         Operation::JalrLinked(rs1) => jalr(Reg::from_low_bits(1), rs1, number),
         Operation::Li(rd) => li(rd, number),
     }
 }
 
-/// A jump to 12 signed bits from a register.
-fn jalr(rd: Reg, rs1: Reg, number: u64) -> Result<Inst, SourceCode>
-    ensures { IfOk result (λ i. (i ≡ Jalr (laws.i_type rd rs1 number)) × IsValid i) }
+/// The number of an expression that has to be a constant, by its value.
+fn constant(value: Result<Value<'_>, SourceFault>, line: u32) -> Result<u64, SourceFault>
+    ensures { (v : values.Value) → IsOutcome value.entry line v → IsNumber v line result }
 {
-    let immediate = immediate(number)?;
-    Ok(Inst::Jalr(IType { immediate, rd, rs1 }))
+    match value? {
+        Value::Constant(number) => Ok(number),
+        Value::Symbolic(..) | Value::Difference(..) => Err(SourceFault::At {
+            code: SourceCode::NotConstant,
+            line,
+        }),
+    }
 }
 
-/// The instruction of a statement with a number, or why there is none.
-#[tactic(auto, using(crate::proofs::Coded::numbered_is))]
-pub(crate) fn numeric(statement: Numeric) -> Result<Inst, SourceCode>
-    ensures { IfOk result (λ i. (instruction_of (statement_of (kinds.Numeric statement)) ≡ Some i) × IsValid i) }
+/// The instruction of an operation at a line, by the value of its expression.
+pub(crate) fn with_value(
+    operation: Operation,
+    value: Result<Value<'_>, SourceFault>,
+    line: u32,
+) -> Result<Inst, SourceFault>
+    ensures valid { IfOk result IsValid }
+    ensures built { (v : values.Value) → IsOutcome value.entry line v → IsBuilt (operand_faults (mnemonic_of operation) v) (numbered operation (constant_of v)) line result }
 {
-    let Numeric {
-        number,
-        operation,
-        negated,
-    } = statement;
-    with_number(operation, number_of(number, negated))
+    let number = constant(value, line)?;
+    match with_number(operation, number) {
+        Ok(inst) => Ok(inst),
+        Err(code) => Err(SourceFault::At { code, line }),
+    }
+}
+
+/// An instruction at a line where compressed code is on or off; compressed instructions are not built yet.
+pub(crate) fn as_word(
+    compressed: bool,
+    built: Result<Inst, SourceFault>,
+    line: u32,
+) -> Result<Inst, SourceFault>
+    ensures valid { IfOk built IsValid → IfOk result IsValid }
+    ensures built { (faults : List ℕ) (wanted : Option (List Instruction)) → IsBuilt faults wanted line built → IsBuilt (faulty_if compressed 9 ++ faults) wanted line result }
+{
+    if !compressed {
+        return built;
+    }
+    match built {
+        Err(SourceFault::OutOfMemory) => Err(SourceFault::OutOfMemory),
+        Err(SourceFault::At { code, line }) if code.number() < 9 => {
+            Err(SourceFault::At { code, line })
+        }
+        _ => Err(SourceFault::At {
+            code: SourceCode::UnsupportedHere,
+            line,
+        }),
+    }
+}
+
+/// What was built, as what a statement has.
+fn found(built: Result<Inst, SourceFault>) -> Result<Option<Inst>, SourceFault>
+    ensures valid { IfOk built IsValid → IfOk result (λ f. IfSome f IsValid) }
+    ensures codes { (o : Options) (v : Expression → values.Value) (s : Spoken) → IsBuilt (instruction_faults o v s.says) (instruction_by (λ e. constant_of (v e)) s.says) s.line built → code_size s.says ≡ 4 → Codes o v s result }
+{
+    let inst = built?;
+    Ok(Some(inst))
+}
+
+/// The instruction of a statement that is one, by the values of expressions, or the lowest code of its faults.
+pub(crate) fn instruction<'a, F: Fn(&Expr<'a>) -> Result<Value<'a>, SourceFault>>(
+    statement: &Statement<'a>,
+    compressed: bool,
+    value: &F,
+) -> Result<Option<Inst>, SourceFault>
+    requires { F.IsAlwaysCallable value.now }
+    ensures valid { IfOk result (λ f. IfSome f IsValid) }
+    ensures codes { (o : Options) (v : Expression → values.Value) → o.rvc ≡ compressed → Evaluates (F.post value.now) statement.now.line v → Codes o v (said_by statement.now) result }
+{
+    let line = statement.line;
+    match &statement.kind {
+        StatementKind::Plain(statement) => found(as_word(compressed, Ok(plain(*statement)), line)),
+        StatementKind::With(operation, expression) => {
+            let built = with_value(*operation, value(expression), line);
+            found(as_word(compressed, built, line))
+        }
+        _ => Ok(None),
+    }
 }

@@ -1,24 +1,17 @@
 //! Whole runs: from sources to an executable with its map, and from an executable to its end.
 #![tactic(auto)]
 
-mod building;
+mod choices;
+mod code;
 mod fault;
 mod instruction;
 #[cfg(test)]
 mod instruction_tests;
-mod labels;
-mod link;
-mod names;
 mod options;
-mod rows;
+mod pieces;
 mod running;
-mod symbols;
-#[cfg(test)]
-mod tests;
-mod text;
 mod written;
 
-pub use building::build;
 pub use fault::{Fault, LinkFault};
 pub use options::{Built, LinkOptions};
 pub use running::run_exec;

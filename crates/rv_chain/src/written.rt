@@ -1,11 +1,14 @@
 //! The base instruction of a mnemonic with its operands.
 
-ghost use Rattle.std.specs.Prelude.{◌≡◌, ◌<◌, true, false, IfOk};
+ghost use Rattle.std.specs.Prelude.{◌≡◌, ◌<◌, ◌^◌, Some, true, false, nat_lt, MatchResult};
 ghost use Rattle.rv_isa.specs.Ranges.{IsValid, IsSigned12};
+ghost use Rattle.rv_text.specs.declared.fault.SourceCode.TheVariants.{ImmediateRange};
 ghost use Rattle.rv_chain_laws.specs.Written as laws;
+ghost use Rattle.rv_chain_laws.specs.Refusals.{shift_limit};
+ghost use Rattle.rv_chain.specs.Code.{InRange};
 
 use rv_isa::{Atomic, Fence, IType, Inst, RType, Reg, Reserve, SType, Shift, UType};
-use rv_parse_laws::{
+use rv_statement::{
     AccessSet, AtomicForm, AtomicOperation, ImmediateOperation, LoadOperation, RegisterOperation,
     ShiftOperation, StoreOperation, UpperOperation,
 };
@@ -94,7 +97,7 @@ pub(crate) fn of_store(operation: StoreOperation, x: SType) -> Inst
 
 /// The registers and the amount of a shift, where the amount is below the limit.
 fn shift_below(limit: u8, rd: Reg, rs1: Reg, number: u64) -> Result<Shift, SourceCode>
-    ensures { IfOk result (λ x. (x ≡ laws.shift_by rd rs1 number) × (x.amount < limit)) }
+    ensures { MatchResult result (λ x. (nat_lt number limit ≡ true) × (x ≡ laws.shift_by rd rs1 number) × (x.amount < limit)) (λ code. (nat_lt number limit ≡ false) × (code ≡ ImmediateRange)) }
 {
     if number < u64::from(limit) {
         Ok(Shift {
@@ -114,7 +117,7 @@ pub(crate) fn of_shift(
     rs1: Reg,
     number: u64,
 ) -> Result<Inst, SourceCode>
-    ensures { IfOk result (λ i. (i ≡ laws.of_shift operation (laws.shift_by rd rs1 number)) × IsValid i) }
+    ensures { InRange (nat_lt number (shift_limit operation)) (Some (laws.of_shift operation (laws.shift_by rd rs1 number))) result }
 {
     match operation {
         ShiftOperation::Slli => Ok(Inst::Slli(shift_below(64, rd, rs1, number)?)),
@@ -128,7 +131,7 @@ pub(crate) fn of_shift(
 
 /// An upper immediate of 20 bits, 0 to 1048575.
 pub(crate) fn of_upper(operation: UpperOperation, rd: Reg, number: u64) -> Result<Inst, SourceCode>
-    ensures { IfOk result (λ i. (i ≡ laws.of_upper operation (laws.u_type rd number)) × IsValid i) }
+    ensures { InRange (nat_lt number (2 ^ 20)) (Some (laws.of_upper operation (laws.u_type rd number))) result }
 {
     if 1 << 20 <= number {
         return Err(SourceCode::ImmediateRange);

@@ -1,40 +1,44 @@
 -- The memory of a linked program's image realizes its sources: any number of sections, code and data.
 
-use Rattle.std.proofs.Common.{◌≡◌, ℕ, zero, suc, ◌+◌, ◌-◌, ◌*◌, ◌^◌, ◌%◌, ◌<◌, ◌≤◌, Bool, true, false, List, [], ◌∷◌, ◌++◌, length, refl, sym, ap, ◌∙◌, subst, arith, map, Option, Some, None, append-nil, length-append, ◌⊎◌, inl, inr}
+use Rattle.std.proofs.Common.{◌≡◌, ℕ, suc, ◌+◌, ◌-◌, ◌*◌, ◌^◌, ◌<◌, ◌≤◌, Bool, true, false, List, [], ◌∷◌, ◌++◌, length, refl, sym, ap, ◌∙◌, subst, arith, map, Option, Some, None, length-append, ◌⊎◌, inl, inr}
 use Rattle.std.proofs.lemmas.Bool.Decides.{nat_tests}
-use Rattle.std.proofs.lemmas.Bool.{cases_Bool, cases_lt, and_parts, ltb-true, leb-true, eqb-true}
+use Rattle.std.proofs.lemmas.Bool.{cases_lt, and_parts, ltb-true, leb-true, eqb-true}
 use Rattle.std.proofs.lemmas.List.{length-replicate, get_or-replicate}
 use Rattle.std.proofs.Math.ListN.{get_or-eq_default}
-use Rattle.std.specs.Prelude.{◌&&◌, ◌||◌, ◌==◌, not, nat_le, nat_lt, if◌then◌else◌, flat_map, replicate, slice_index, IsTrue, max}
+use Rattle.std.specs.Prelude.{◌&&◌, ◌||◌, ◌==◌, not, nat_le, nat_lt, if◌then◌else◌, slice_index, slice_index_or, option_map, codes, IsTrue, max}
 use Rattle.std.specs.List.{AllByRecursion, find, list_any}
 use Rattle.std.specs.Int.{w32, to_le_bytes}
 use Rattle.rv_isa.specs.declared.instruction.Inst.{Inst}
 use Rattle.rv_isa.specs.Ranges.{IsValid}
-use Rattle.rv_isa_laws.specs.Memory.{Mem, Right, Read, Write, Execute}
+use Rattle.rv_isa_laws.specs.Memory.{Mem, Read, Write, Execute}
 use Rattle.rv_encode.specs.Word.{form, word, Spells}
 use Rattle.rv_machine_laws.specs.Reader.{Reader}
 use Rattle.rv_machine_laws.specs.Run.{fetch, Got}
-use Rattle.rv_parse_laws.specs.Statement.{Statement, Label, Norvc, Globl, Instruction, Directs, Spoken, Directive, Enters, Opens, Local, Sets, Aligns_to_power, Aligns_to_bytes, Values, Strings, Zeros, Chooses, Ignored, Numbered}
+use Rattle.rv_statement.specs.Statement.{Statement, Label, Numbered, Instruction, Directs, Spoken, Directive, Sets, Aligns_to_power, Aligns_to_bytes, Values, Strings, Zeros}
+use Rattle.rv_unit_laws.specs.Sections.{Section, goes_to_text, goes_to_rodata, goes_to_data, goes_to_bss}
+use Rattle.rv_unit_laws.specs.Tables.{Tables, tables, aligned}
 use Rattle.rv_map.specs.Map.{Map}
 use Rattle.rv_map.specs.declared.map.Row.{Row}
 use Rattle.rv_image.specs.Linked.{Linked}
 use Rattle.rv_image.specs.Executable.{linked_image}
 use Rattle.rv_image.specs.Segment.{stack_start, stack_end}
 use Rattle.rv_image.specs.Memory.{mem_of}
-use Rattle.rv_chain_laws.specs.Sections.{Section, goes_to_text, goes_to_rodata, goes_to_data, goes_to_bss, opened_by, at_first, stated_from}
-use Rattle.rv_chain_laws.specs.Sites.{Site, Program, program, entries_of, sites_of, has_values}
-use Rattle.rv_chain_laws.specs.Meaning.{Line, Lie, AreLines, expansion}
-use Rattle.rv_chain_laws.specs.Fits.{Fits, IsRowOf, IsPaddingIn, SizeFits, StatementFits, Block, block_of, sites_in, blocks, blocks_of_file, blocks_of, greatest, greatest_alignment, Holds, Stand, end_of, aligned}
+use Rattle.rv_chain_laws.specs.Stated.{stated}
+use Rattle.rv_chain_laws.specs.Sites.{Entry, Site, Program, program, seated, sites_of}
+use Rattle.rv_chain_laws.specs.Resolves.{is_global_in, is_start, begins_run, starts_at}
+use Rattle.rv_chain_laws.specs.Meaning.{Line, Lie, expansion}
+use Rattle.rv_chain_laws.specs.Fits.{IsRowOf, IsPaddingIn, SizeFits, Block, block_of, blocks, blocks_of_file, blocks_of, greatest, Holds, Stand, end_of}
 use Rattle.rv_chain_laws.specs.Start.{is_within, is_in, right_at, first_byte, byte_of, spelled}
-use Rattle.rv_chain_laws.specs.SourceRun.{Place, Starts, Gap, Outside, starts_or_inside, place, found}
+use Rattle.rv_chain_laws.specs.SourceRun.{Starts, Gap, Outside, starts_or_inside, place, found}
 use Rattle.rv_chain_laws.specs.Realizes.{StandsIn, HoldsLines, Realizes}
 use Rattle.rv_chain_laws.specs.Contents.{words, code_bytes, contents, zeros, IsWritten, IsLinked}
 use Rattle.rv_chain_laws.specs.Headline.{RunsAgree}
-use Rattle.rv_chain_laws.proofs.AssembledCode.{HasBytes, bytes_behind, fetch-word, may_all, Runs}
+use Rattle.rv_chain_laws.proofs.Words.{HasBytes, bytes_behind, fetch-word, may_all, Runs}
 use Rattle.rv_chain_laws.proofs.Wide.{valid_wide}
 use Rattle.rv_chain_laws.proofs.Simulation.{find_holds, agreement_of_image}
 use Rattle.rv_chain_laws.proofs.Regions.{Sized, LiesIn, Misses, AllIn, IsAligned, byte_at, byte_zero, above, end_above, lie_blocks, held_blocks, zero_blocks, length_blocks}
-use Rattle.rv_chain_laws.proofs.Homes.{sections_of, sections_in, IsAtHome, homes, all_join, all_map, all_both, to_blocks, from_blocks}
+use Rattle.rv_chain_laws.proofs.Held.{DirectiveHeld, IsHeld, Held, held_of}
+use Rattle.rv_chain_laws.proofs.Homes.{sections_of, sections_in, IsSeated, IsAtHome, seats, homes, all_join, all_map, to_blocks, from_blocks}
 use Rattle.rv_chain_laws.proofs.LaidOut.{AreRegions, apart, rights-are, text_held, rodata_held, data_held, bss_held, stack_zero}
 
 -- ---- the instructions of a statement
@@ -70,11 +74,13 @@ module _ {StandsFor : ℕ → Inst → Type 0} (reader : Reader Spells StandsFor
       ((got, valid), lines_stand (a + 4) is ws (bytes_behind m a (to_le_bytes w32 (word (form i))) (words (Some is)) h) (λ x l u. runs x (omega arith) u) (omega arith))
 
   holds_written : (p : Program) (s : Site) → IsWritten p s → HasBytes m s.row.address (code_bytes p s) → Runs m s.row.address stop → s.row.address + s.row.bytes ≤ stop → IsRowOf (expansion p s) s.row → HoldsLines reader m p s
-  holds_written p s (is, e, ws, size) h runs fits row =
-      let a = s.row.address in record {
+  holds_written p s (is, e, size) h runs fits row =
+      let a = s.row.address in
+      let valid : AllByRecursion IsValid is = (subst (λ o. IsRowOf o s.row) e row).0 in
+      record {
         lines = lines_from a is;
         are_lines = (e ∙ ap Some (sym (lines_are a is)), lines_lie a (a + s.row.bytes) is (ap (λ n. a + n) (sym size)));
-        stand = lines_stand a is ws (subst (λ o. HasBytes m a (words o)) e h) runs (subst (λ n. a + n ≤ stop) size fits);
+        stand = lines_stand a is valid (subst (λ o. HasBytes m a (words o)) e h) runs (subst (λ n. a + n ≤ stop) size fits);
         below = omega arith;
         size = row;
       }
@@ -86,12 +92,8 @@ true_false true e f = absurd (cc)
 true_false false e f = absurd (cc)
 
 no_bytes : (b : Bool) (r : Row) → IsRowOf (if b then Some [] else None) r → 0 ≡ r.bytes
-no_bytes true r (n, lo, hi, even) = let e : r.instructions ≡ 0 = n in omega arith
+no_bytes true r (valid, n, lo, hi, even) = let e : r.instructions ≡ 0 = n in omega arith
 no_bytes false r h = absurd h
-
-not_true : (b : Bool) → IsTrue (not b) → b ≡ false
-not_true true e = absurd (cc)
-not_true false e = refl
 
 zero_index : (k n : ℕ) → slice_index (zeros k) n ≡ 0
 zero_index k n = elim (cases_lt n k) [
@@ -99,65 +101,60 @@ zero_index k n = elim (cases_lt n k) [
   | inr past ↦ get_or-eq_default (zeros k) 0 {n = n} (subst (λ x. x ≤ n) (sym (length-replicate {A = ℕ} k 0)) past)
 ]
 
-padding_code : (b : Bool) (p : Program) (s : Site) (n : ℕ) → b ≡ true → IsPaddingIn b p s n → IsRowOf (expansion p s) s.row
-padding_code true p s n e h = h.0
-padding_code false p s n e h = absurd (cc)
+padding_code : (b : Bool) (p : Program) (s : Site) (d : Directive) → b ≡ true → IsPaddingIn b p s d → IsRowOf (expansion p s) s.row
+padding_code true p s d e h = h.0
+padding_code false p s d e h = absurd (cc)
 
-module _ (p : Program) (file ordinal section line : ℕ) (home : Section) (row : Row) where
+module _ (p : Program) (file ordinal section offset line : ℕ) (home : Section) (placed : Bool) (row : Row) where
   abbrev at : Statement → Site
-  at says = record { stated = record { file = file; ordinal = ordinal; section = section; home = home; line = line; says = says }; row = row }
+  at says = record { stated = record { file = file; ordinal = ordinal; section = section; offset = offset; home = home; line = line; says = says; placed = placed }; row = row }
 
   -- a row outside of executable sections has the bytes that its statement spells
-  directive_data : (d : Directive) → SizeFits p (at (Directs d)) → home.executable ≡ false → Sized (spelled p) (at (Directs d))
-  directive_data (Sets name expression) fits e = no_bytes (has_values p (at (Directs (Sets name expression)))) row fits
-  directive_data (Numbered number) fits e = no_bytes true row fits
-  directive_data (Values width values) fits e = sym fits.1.2
-  directive_data (Strings ended strings) fits e = sym fits.1.2
-  directive_data (Zeros count) fits e = sym fits.2
-  directive_data (Aligns_to_power exponent) fits e = length-replicate {A = ℕ} row.bytes 0
-  directive_data (Aligns_to_bytes bytes) fits e = length-replicate {A = ℕ} row.bytes 0
-  directive_data _ fits e = absurd fits
+  directive_data : (d : Directive) → SizeFits p (at (Directs d)) → Sized (spelled p) (at (Directs d))
+  directive_data (Sets name expression) fits = no_bytes true row fits
+  directive_data (Values width values) fits = sym fits.1
+  directive_data (Strings ended strings) fits = sym fits.1
+  directive_data (Zeros count) fits = sym fits.1
+  directive_data (Aligns_to_power exponent) fits = length-replicate {A = ℕ} row.bytes 0
+  directive_data (Aligns_to_bytes bytes) fits = length-replicate {A = ℕ} row.bytes 0
+  directive_data _ fits = absurd fits
 
-  statement_data : (says : Statement) → SizeFits p (at says) → home.executable ≡ false → Sized (spelled p) (at says)
-  statement_data (Label name) fits e = no_bytes true row fits
-  statement_data Norvc fits e = absurd fits
-  statement_data (Globl names) fits e = absurd fits
-  statement_data (Instruction mnemonic operands) fits e = true_false home.executable fits.0 e
-  statement_data (Directs directive) fits e = directive_data directive fits e
+  statement_data : (says : Statement) → SizeFits p (at says) → IsHeld home says → home.executable ≡ false → Sized (spelled p) (at says)
+  statement_data (Label name) fits held e = no_bytes true row fits
+  statement_data (Numbered number) fits held e = no_bytes true row fits
+  statement_data (Instruction mnemonic operands) fits held e = true_false home.executable held e
+  statement_data (Directs directive) fits held e = directive_data directive fits
 
   -- a row in an executable section has its statement's instructions
-  directive_code : (d : Directive) → SizeFits p (at (Directs d)) → home.executable ≡ true → IsRowOf (expansion p (at (Directs d))) row
-  directive_code (Sets name expression) fits e = fits
-  directive_code (Numbered number) fits e = fits
-  directive_code (Values width values) fits e = true_false home.executable e (not_true home.executable fits.1.0)
-  directive_code (Strings ended strings) fits e = true_false home.executable e (not_true home.executable fits.1.0)
-  directive_code (Zeros count) fits e = true_false home.executable e (not_true home.executable fits.0)
-  directive_code (Aligns_to_power exponent) fits e = padding_code home.executable p (at (Directs (Aligns_to_power exponent))) _ e fits
-  directive_code (Aligns_to_bytes bytes) fits e = padding_code home.executable p (at (Directs (Aligns_to_bytes bytes))) _ e fits
-  directive_code _ fits e = absurd fits
+  directive_code : (d : Directive) → SizeFits p (at (Directs d)) → DirectiveHeld home d → home.executable ≡ true → IsRowOf (expansion p (at (Directs d))) row
+  directive_code (Sets name expression) fits held e = fits
+  directive_code (Values width values) fits held e = true_false home.executable e held.0
+  directive_code (Strings ended strings) fits held e = true_false home.executable e held.0
+  directive_code (Zeros count) fits held e = true_false home.executable e held
+  directive_code (Aligns_to_power exponent) fits held e = padding_code home.executable p (at (Directs (Aligns_to_power exponent))) _ e fits
+  directive_code (Aligns_to_bytes bytes) fits held e = padding_code home.executable p (at (Directs (Aligns_to_bytes bytes))) _ e fits
+  directive_code _ fits held e = absurd fits
 
-  statement_code : (says : Statement) → SizeFits p (at says) → home.executable ≡ true → IsRowOf (expansion p (at says)) row
-  statement_code (Label name) fits e = fits
-  statement_code Norvc fits e = absurd fits
-  statement_code (Globl names) fits e = absurd fits
-  statement_code (Instruction mnemonic operands) fits e = fits.1
-  statement_code (Directs directive) fits e = directive_code directive fits e
+  statement_code : (says : Statement) → SizeFits p (at says) → IsHeld home says → home.executable ≡ true → IsRowOf (expansion p (at says)) row
+  statement_code (Label name) fits held e = fits
+  statement_code (Numbered number) fits held e = fits
+  statement_code (Instruction mnemonic operands) fits held e = fits.1
+  statement_code (Directs directive) fits held e = directive_code directive fits held e
 
   -- a row without bytes in the file has zeros
-  directive_zeros : (d : Directive) → SizeFits p (at (Directs d)) → home.nobits ≡ true → (n : ℕ) → slice_index (spelled p (at (Directs d))) n ≡ 0
-  directive_zeros (Values width values) fits e n = true_false home.nobits e (not_true home.nobits fits.0)
-  directive_zeros (Strings ended strings) fits e n = true_false home.nobits e (not_true home.nobits fits.0)
-  directive_zeros (Zeros count) fits e n = zero_index _ n
-  directive_zeros (Aligns_to_power exponent) fits e n = zero_index row.bytes n
-  directive_zeros (Aligns_to_bytes bytes) fits e n = zero_index row.bytes n
-  directive_zeros _ fits e n = refl
+  directive_zeros : (d : Directive) → DirectiveHeld home d → home.nobits ≡ true → (n : ℕ) → slice_index (spelled p (at (Directs d))) n ≡ 0
+  directive_zeros (Values width values) held e n = true_false home.nobits e held.1
+  directive_zeros (Strings ended strings) held e n = true_false home.nobits e held.1
+  directive_zeros (Zeros count) held e n = zero_index _ n
+  directive_zeros (Aligns_to_power exponent) held e n = zero_index row.bytes n
+  directive_zeros (Aligns_to_bytes bytes) held e n = zero_index row.bytes n
+  directive_zeros _ held e n = refl
 
-  statement_zeros : (says : Statement) → SizeFits p (at says) → home.nobits ≡ true → (n : ℕ) → slice_index (spelled p (at says)) n ≡ 0
-  statement_zeros (Label name) fits e n = refl
-  statement_zeros Norvc fits e n = refl
-  statement_zeros (Globl names) fits e n = refl
-  statement_zeros (Instruction mnemonic operands) fits e n = refl
-  statement_zeros (Directs directive) fits e n = directive_zeros directive fits e n
+  statement_zeros : (says : Statement) → IsHeld home says → home.nobits ≡ true → (n : ℕ) → slice_index (spelled p (at says)) n ≡ 0
+  statement_zeros (Label name) held e n = refl
+  statement_zeros (Numbered number) held e n = refl
+  statement_zeros (Instruction mnemonic operands) held e n = refl
+  statement_zeros (Directs directive) held e n = directive_zeros directive held e n
 
 -- ---- the region of a section
 
@@ -187,31 +184,32 @@ one_or_more : (b : Bool) (g : ℕ) → 1 ≤ max (if b then 2 else 1) g
 one_or_more true g = omega arith
 one_or_more false g = omega arith
 
-aligned_file : (goes : Section → Bool) (p : Program) (file index : ℕ) (sections : List Section) → AllByRecursion IsAligned (blocks_of_file goes p file index sections)
-aligned_file goes p file index [] = tt
-aligned_file goes p file index (section ∷ sections) = go (goes section) (aligned_file goes p file (suc index) sections)
+aligned_file : (goes : Section → Bool) (t : Tables) (sites : List Site) (file index : ℕ) (sections : List Section) → AllByRecursion IsAligned (blocks_of_file goes t sites file index sections)
+aligned_file goes t sites file index [] = tt
+aligned_file goes t sites file index (section ∷ sections) = go (goes section) (aligned_file goes t sites file (suc index) sections)
   where
-    go : (b : Bool) → AllByRecursion IsAligned (blocks_of_file goes p file (suc index) sections)
-        → AllByRecursion IsAligned (if b then block_of p section (sites_in p.sites file index) ∷ blocks_of_file goes p file (suc index) sections else blocks_of_file goes p file (suc index) sections)
-    go true rest = (one_or_more (goes_to_text section) (greatest p (sites_in p.sites file index)), rest)
+    go : (b : Bool) → AllByRecursion IsAligned (blocks_of_file goes t sites file (suc index) sections)
+        → AllByRecursion IsAligned (if b then block_of t section sites file index ∷ blocks_of_file goes t sites file (suc index) sections else blocks_of_file goes t sites file (suc index) sections)
+    go true rest = (one_or_more (goes_to_text section) (slice_index_or t.alignments index 1), rest)
     go false rest = rest
 
-aligned_files : (goes : Section → Bool) (p : Program) (file : ℕ) (files : List (List Spoken)) → AllByRecursion IsAligned (blocks_of goes p file files)
-aligned_files goes p file [] = tt
-aligned_files goes p file (ss ∷ files) =
-    all_join IsAligned (blocks_of_file goes p file 0 (sections_of ss)) (blocks_of goes p (suc file) files) (aligned_file goes p file 0 (sections_of ss)) (aligned_files goes p (suc file) files)
+aligned_files : (goes : Section → Bool) (sites : List Site) (file : ℕ) (files : List (List Spoken)) → AllByRecursion IsAligned (blocks_of goes sites file files)
+aligned_files goes sites file [] = tt
+aligned_files goes sites file (ss ∷ files) =
+    all_join IsAligned (blocks_of_file goes (tables ss) sites file 0 (sections_of ss)) (blocks_of goes sites (suc file) files)
+    (aligned_file goes (tables ss) sites file 0 (sections_of ss)) (aligned_files goes sites (suc file) files)
 
-some_alignment : (bs : List Block) → 1 ≤ greatest_alignment bs
+some_alignment : (bs : List Block) → 1 ≤ greatest bs
 some_alignment [] = omega arith
 some_alignment (b ∷ bs) = let e = some_alignment bs in omega arith
 
 -- ---- tests of places
 
-starts_at : (t g : Bool) (o : Option Site) (s : Site) → (if t then (if g then Gap else starts_or_inside o) else Outside) ≡ Starts s → (t ≡ true) × (o ≡ Some s)
-starts_at true true o s e = absurd (cc)
-starts_at true false (Some k) s e = (refl, cc)
-starts_at true false None s e = absurd (cc)
-starts_at false g o s e = absurd (cc)
+starts_when : (t g : Bool) (o : Option Site) (s : Site) → (if t then (if g then Gap else starts_or_inside o) else Outside) ≡ Starts s → (t ≡ true) × (o ≡ Some s)
+starts_when true true o s e = absurd (cc)
+starts_when true false (Some k) s e = (refl, cc)
+starts_when true false None s e = absurd (cc)
+starts_when false g o s e = absurd (cc)
 
 no_gap : (t : Bool) (o : Option Site) → (if t then starts_or_inside o else Outside) ≡ Gap → ⊥
 no_gap true (Some r) e = cc
@@ -262,6 +260,18 @@ within_parts a b x e =
 past : {A : Type 0} (a b c x : ℕ) → is_within a b x ≡ true → b ≤ c → c ≤ x → A
 past a b c x inside le high = let parts = within_parts a b x inside in absurd (omega arith)
 
+-- what holds of the statements that have a row
+abbrev Seated : (Site → Type 0) → Entry → Type 0
+Seated P e = (r : Row) → e.row ≡ Some r → P (record { stated = e.stated; row = r })
+
+seated_all : (P : Site → Type 0) (entries : List Entry) → AllByRecursion P (sites_of entries) → AllByRecursion (Seated P) entries
+seated_all P [] h = tt
+seated_all P (e ∷ es) h = go e.row refl h (λ hs. seated_all P es hs)
+  where
+    go : (o : Option Row) → e.row ≡ o → AllByRecursion P (seated e.stated o ++ sites_of es) → (AllByRecursion P (sites_of es) → AllByRecursion (Seated P) es) → Seated P e × AllByRecursion (Seated P) es
+    go None none hs more = (λ r some. absurd (cc), more hs)
+    go (Some row) is (q, qs) more = (λ r some. (let same : row ≡ r = cc in subst (λ x. P (record { stated = e.stated; row = x })) same q), more qs)
+
 -- ---- a linked program
 
 module _ {StandsFor : ℕ → Inst → Type 0} (reader : Reader Spells StandsFor) (sources : List (List Spoken)) (a : ℕ) (l : Linked) (h : IsLinked sources a l) where
@@ -283,13 +293,22 @@ module _ {StandsFor : ℕ → Inst → Type 0} (reader : Reader Spells StandsFor
   at_home : AllByRecursion (IsAtHome sections) p.sites
   at_home = homes sources map_of.rows
 
+  -- each statement fits its row, and stands in a section that can hold it
+  abbrev Fitting : Site → Type 0
+  Fitting s = SizeFits p s × Held s.stated
+
+  fitting : AllByRecursion Fitting p.sites
+  fitting =
+      all_pair (SizeFits p) (λ s. Held s.stated) p.sites h.fits.sizes
+      (all_map (IsSeated Held) (λ s. Held s.stated) p.sites (λ s seat. seat.0) (seats Held (stated sources) map_of.rows (held_of 1 sources h.fits.good)))
+
   is_aligned : (goes : Section → Bool) → AllByRecursion IsAligned (region goes)
-  is_aligned goes = aligned_files goes p 1 sources
+  is_aligned goes = aligned_files goes p.sites 1 sources
 
   data_sized : (goes : Section → Bool) → ((s : Section) → goes s ≡ true → s.executable ≡ false) → AllIn (Sized (spelled p)) (region goes)
-  data_sized goes none = to_blocks p sources goes (Sized (spelled p)) at_home
-      (all_map (SizeFits p) (λ s. goes s.stated.home ≡ true → Sized (spelled p) s) p.sites
-      (λ s fits good. statement_data p s.stated.file s.stated.ordinal s.stated.section s.stated.line s.stated.home s.row s.stated.says fits (none s.stated.home good)) h.fits.sizes)
+  data_sized goes none = to_blocks p.sites sources goes (Sized (spelled p)) at_home
+      (all_map Fitting (λ s. goes s.stated.home ≡ true → Sized (spelled p) s) p.sites
+      (λ s fits good. statement_data p s.stated.file s.stated.ordinal s.stated.section s.stated.offset s.stated.line s.stated.home s.stated.placed s.row s.stated.says fits.0 fits.1 (none s.stated.home good)) fitting)
 
   not_rodata : (s : Section) → goes_to_rodata s ≡ true → s.executable ≡ false
   not_rodata s e = no_code_more s.loaded s.executable s.nobits (not s.writable) e
@@ -298,10 +317,10 @@ module _ {StandsFor : ℕ → Inst → Type 0} (reader : Reader Spells StandsFor
   not_data s e = no_code_more s.loaded s.executable s.nobits s.writable e
 
   written_sized : (s : Site) → IsWritten p s → Sized (code_bytes p) s
-  written_sized s (is, e, ws, size) = ap (λ o. length (words o)) e ∙ words_length is ∙ sym size
+  written_sized s (is, e, size) = ap (λ o. length (words o)) e ∙ words_length is ∙ sym size
 
   code_sized : AllIn (Sized (code_bytes p)) (region goes_to_text)
-  code_sized = to_blocks p sources goes_to_text (Sized (code_bytes p)) at_home
+  code_sized = to_blocks p.sites sources goes_to_text (Sized (code_bytes p)) at_home
       (all_map (λ s. IsTrue s.stated.home.executable → IsWritten p s) (λ s. goes_to_text s.stated.home ≡ true → Sized (code_bytes p) s) p.sites
       (λ s w good. written_sized s (w (and_parts s.stated.home.loaded s.stated.home.executable good).1)) h.written)
 
@@ -315,7 +334,7 @@ module _ {StandsFor : ℕ → Inst → Type 0} (reader : Reader Spells StandsFor
   data_holds : Holds map_of.data (aligned 4096 map_of.rodata.end) (region goes_to_data)
   data_holds = h.fits.data
 
-  bss_holds : Holds map_of.bss (aligned (greatest_alignment (region goes_to_bss)) map_of.data.end) (region goes_to_bss)
+  bss_holds : Holds map_of.bss (aligned (greatest (region goes_to_bss)) map_of.data.end) (region goes_to_bss)
   bss_holds = h.fits.bss
 
   text_is : l.text ≡ contents (code_bytes p) map_of.text.start (region goes_to_text)
@@ -338,8 +357,8 @@ module _ {StandsFor : ℕ → Inst → Type 0} (reader : Reader Spells StandsFor
     «data» = filled map_of.data.start (aligned 4096 map_of.rodata.end) map_of.data.end (spelled p) (region goes_to_data) l.data data_holds.0 data_holds.2 data_is (data_sized goes_to_data not_data) (is_aligned goes_to_data);
     rodata_after = subst (λ x. map_of.text.end ≤ x) (sym rodata_holds.0) (above 4096 map_of.text.end (omega arith));
     data_after = subst (λ x. map_of.rodata.end ≤ x) (sym data_holds.0) (above 4096 map_of.rodata.end (omega arith));
-    bss_after = subst (λ x. map_of.data.end ≤ x) (sym bss_holds.0) (above (greatest_alignment (region goes_to_bss)) map_of.data.end (some_alignment (region goes_to_bss)));
-    bss_ends = subst (λ x. map_of.bss.start ≤ x) (sym bss_holds.2) (subst (λ x. x ≤ end_of (aligned (greatest_alignment (region goes_to_bss)) map_of.data.end) (region goes_to_bss)) (sym bss_holds.0) (end_above (region goes_to_bss) (aligned (greatest_alignment (region goes_to_bss)) map_of.data.end) (is_aligned goes_to_bss)));
+    bss_after = subst (λ x. map_of.data.end ≤ x) (sym bss_holds.0) (above (greatest (region goes_to_bss)) map_of.data.end (some_alignment (region goes_to_bss)));
+    bss_ends = subst (λ x. map_of.bss.start ≤ x) (sym bss_holds.2) (subst (λ x. x ≤ end_of (aligned (greatest (region goes_to_bss)) map_of.data.end) (region goes_to_bss)) (sym bss_holds.0) (end_above (region goes_to_bss) (aligned (greatest (region goes_to_bss)) map_of.data.end) (is_aligned goes_to_bss)));
     below = h.below;
   }
 
@@ -352,18 +371,18 @@ module _ {StandsFor : ℕ → Inst → Type 0} (reader : Reader Spells StandsFor
 
   lies : (goes : Section → Bool) (start place stop : ℕ) → start ≡ place → Stand place (region goes) → stop ≡ end_of place (region goes) → AllByRecursion (In goes (LiesIn start stop)) p.sites
   lies goes start place stop at stand ends =
-      from_blocks p sources goes (LiesIn start stop) at_home
+      from_blocks p.sites sources goes (LiesIn start stop) at_home
       (lie_blocks (region goes) place start stop (is_aligned goes) stand (same_end place start (sym at)) (same_end stop (end_of place (region goes)) ends))
 
   held : (goes : Section → Bool) (bytes : Site → List ℕ) (start place : ℕ) (stored : List ℕ) → start ≡ place → Stand place (region goes) → stored ≡ contents bytes start (region goes) → AllIn (Sized bytes) (region goes) → HasBytes m start stored
       → AllByRecursion (In goes (λ s. HasBytes m s.row.address (bytes s))) p.sites
   held goes bytes start place stored at stand is sized has =
-      from_blocks p sources goes (λ s. HasBytes m s.row.address (bytes s)) at_home
+      from_blocks p.sites sources goes (λ s. HasBytes m s.row.address (bytes s)) at_home
       (held_blocks bytes m (region goes) start sized (is_aligned goes) (subst (λ x. Stand x (region goes)) (sym at) stand) (subst (HasBytes m start) is has))
 
   abbrev Whole : Site → Type 0
   Whole s =
-      IsAtHome sections s × (SizeFits p s × ((IsTrue s.stated.home.executable → IsWritten p s)
+      IsAtHome sections s × (Fitting s × ((IsTrue s.stated.home.executable → IsWritten p s)
       × (In goes_to_text (LiesIn map_of.text.start map_of.text.end) s × (In goes_to_text (λ s. HasBytes m s.row.address (code_bytes p s)) s
       × (In goes_to_rodata (LiesIn map_of.rodata.start map_of.rodata.end) s × (In goes_to_rodata (λ s. HasBytes m s.row.address (spelled p s)) s
       × (In goes_to_data (LiesIn map_of.data.start map_of.data.end) s × (In goes_to_data (λ s. HasBytes m s.row.address (spelled p s)) s
@@ -372,7 +391,7 @@ module _ {StandsFor : ℕ → Inst → Type 0} (reader : Reader Spells StandsFor
   whole : AllByRecursion Whole p.sites
   whole =
       all_pair (IsAtHome sections) _ p.sites at_home
-      (all_pair (SizeFits p) _ p.sites h.fits.sizes
+      (all_pair Fitting _ p.sites fitting
       (all_pair (λ s. IsTrue s.stated.home.executable → IsWritten p s) _ p.sites h.written
       (all_pair (In goes_to_text (LiesIn map_of.text.start map_of.text.end)) _ p.sites (lies goes_to_text map_of.text.start a map_of.text.end text_holds.0 text_holds.1 text_holds.2)
       (all_pair (In goes_to_text (λ s. HasBytes m s.row.address (code_bytes p s))) _ p.sites (held goes_to_text (code_bytes p) map_of.text.start a l.text text_holds.0 text_holds.1 text_is code_sized (text_held l are_regions))
@@ -380,7 +399,7 @@ module _ {StandsFor : ℕ → Inst → Type 0} (reader : Reader Spells StandsFor
       (all_pair (In goes_to_rodata (λ s. HasBytes m s.row.address (spelled p s))) _ p.sites (held goes_to_rodata (spelled p) map_of.rodata.start (aligned 4096 map_of.text.end) l.rodata rodata_holds.0 rodata_holds.1 rodata_is (data_sized goes_to_rodata not_rodata) (rodata_held l are_regions))
       (all_pair (In goes_to_data (LiesIn map_of.data.start map_of.data.end)) _ p.sites (lies goes_to_data map_of.data.start (aligned 4096 map_of.rodata.end) map_of.data.end data_holds.0 data_holds.1 data_holds.2)
       (all_pair (In goes_to_data (λ s. HasBytes m s.row.address (spelled p s))) (In goes_to_bss (LiesIn map_of.bss.start map_of.bss.end)) p.sites (held goes_to_data (spelled p) map_of.data.start (aligned 4096 map_of.rodata.end) l.data data_holds.0 data_holds.1 data_is (data_sized goes_to_data not_data) (data_held l are_regions))
-      (lies goes_to_bss map_of.bss.start (aligned (greatest_alignment (region goes_to_bss)) map_of.data.end) map_of.bss.end bss_holds.0 bss_holds.1 bss_holds.2)))))))))
+      (lies goes_to_bss map_of.bss.start (aligned (greatest (region goes_to_bss)) map_of.data.end) map_of.bss.end bss_holds.0 bss_holds.1 bss_holds.2)))))))))
 
   -- the ends of the regions in their order
   text_room : map_of.text.end ≤ 0x3ff0_0000
@@ -428,7 +447,7 @@ module _ {StandsFor : ℕ → Inst → Type 0} (reader : Reader Spells StandsFor
             let x = (and_parts s.stated.home.loaded s.stated.home.executable good).1 in
             let lie = tl good in
             holds_written reader m map_of.text.end (let e = text_room in omega arith) p s (written x) (th good) (text_runs s.row.address lie.0) lie.1
-            (statement_code p s.stated.file s.stated.ordinal s.stated.section s.stated.line s.stated.home s.row s.stated.says fits x)
+            (statement_code p s.stated.file s.stated.ordinal s.stated.section s.stated.offset s.stated.line s.stated.home s.stated.placed s.row s.stated.says fits.0 fits.1 x)
         | inr other ↦ elim other [
           | inl good ↦ past map_of.text.start map_of.text.end map_of.rodata.start s.row.address inside rodata_past (rl good).0
           | inr other ↦ elim other [
@@ -486,20 +505,20 @@ module _ {StandsFor : ℕ → Inst → Type 0} (reader : Reader Spells StandsFor
       elim (all_goes s.stated.home.loaded s.stated.home.executable s.stated.home.nobits s.stated.home.writable home.1) [
         | inl good ↦ true_false (right_at map_of x Read) readable (unreadable x (wider map_of.text.start map_of.text.end s.row.address (s.row.address + s.row.bytes) x (tl good).0 (tl good).1 inside))
         | inr other ↦ elim other [
-          | inl good ↦ spelled_at s x (statement_data p s.stated.file s.stated.ordinal s.stated.section s.stated.line s.stated.home s.row s.stated.says fits (not_rodata s.stated.home good)) (rh good) inside
+          | inl good ↦ spelled_at s x (statement_data p s.stated.file s.stated.ordinal s.stated.section s.stated.offset s.stated.line s.stated.home s.stated.placed s.row s.stated.says fits.0 fits.1 (not_rodata s.stated.home good)) (rh good) inside
           | inr other ↦ elim other [
-            | inl good ↦ spelled_at s x (statement_data p s.stated.file s.stated.ordinal s.stated.section s.stated.line s.stated.home s.row s.stated.says fits (not_data s.stated.home good)) (dh good) inside
+            | inl good ↦ spelled_at s x (statement_data p s.stated.file s.stated.ordinal s.stated.section s.stated.offset s.stated.line s.stated.home s.stated.placed s.row s.stated.says fits.0 fits.1 (not_data s.stated.home good)) (dh good) inside
             | inr good ↦
                 let parts = within_parts map_of.bss.start map_of.bss.end x (wider map_of.bss.start map_of.bss.end s.row.address (s.row.address + s.row.bytes) x (bl good).0 (bl good).1 inside) in
                 let e1 = are_regions.bss_after in
                 bss_zero x (omega arith) parts.1
-                ∙ sym (statement_zeros p s.stated.file s.stated.ordinal s.stated.section s.stated.line s.stated.home s.row s.stated.says fits (no_stored s.stated.home.loaded s.stated.home.executable s.stated.home.nobits good) (x - s.row.address))
+                ∙ sym (statement_zeros p s.stated.file s.stated.ordinal s.stated.section s.stated.offset s.stated.line s.stated.home s.stated.placed s.row s.stated.says fits.1 (no_stored s.stated.home.loaded s.stated.home.executable s.stated.home.nobits good) (x - s.row.address))
           ]
         ]
       ]
 
   missed : (goes : Section → Bool) (x : ℕ) → AllByRecursion (Misses x) p.sites → AllIn (Misses x) (region goes)
-  missed goes x none = to_blocks p sources goes (Misses x) at_home (all_map (Misses x) (In goes (Misses x)) p.sites (λ s e good. e) none)
+  missed goes x none = to_blocks p.sites sources goes (Misses x) at_home (all_map (Misses x) (In goes (Misses x)) p.sites (λ s e good. e) none)
 
   -- no row lies over a byte that can be read: it is zero
   region_zero : (goes : Section → Bool) (start place stop x : ℕ) (stored : List ℕ) → start ≡ place → Stand place (region goes) → stop ≡ end_of place (region goes) → stored ≡ contents (spelled p) start (region goes) → AllIn (Sized (spelled p)) (region goes) → HasBytes m start stored
@@ -538,7 +557,7 @@ module _ {StandsFor : ℕ → Inst → Type 0} (reader : Reader Spells StandsFor
 
   rows_hold : (pc : ℕ) (s : Site) → place p pc ≡ Starts s → HoldsLines reader m p s
   rows_hold pc s e =
-      let starts = starts_at (is_in map_of.text pc) (list_any (λ gap. is_in gap pc) map_of.gaps) (found p.sites pc) s e in
+      let starts = starts_when (is_in map_of.text pc) (list_any (λ gap. is_in gap pc) map_of.gaps) (found p.sites pc) s e in
       let test = find_holds (λ (k : Site). nat_lt 0 k.row.bytes && (k.row.address == pc)) p.sites s starts.1 in
       let here : s.row.address ≡ pc = eqb-true s.row.address pc (and_parts (nat_lt 0 s.row.bytes) (s.row.address == pc) test).1 in
       row_holds s (all_found Whole _ p.sites s starts.1 whole) (subst (λ x. is_in map_of.text x ≡ true) (sym here) starts.0)
@@ -552,7 +571,37 @@ module _ {StandsFor : ℕ → Inst → Type 0} (reader : Reader Spells StandsFor
     fixed = λ x u inside. unwritten x inside;
   }
 
+  -- the entry is the place of a label in the text
+  lies_in_text : AllByRecursion (In goes_to_text (LiesIn map_of.text.start map_of.text.end)) p.sites
+  lies_in_text = lies goes_to_text map_of.text.start a map_of.text.end text_holds.0 text_holds.1 text_holds.2
+
+  entry_of : (o : Option Entry) → find (λ e. begins_run sources e.stated) p.entries ≡ o → starts_at o ≡ Some map_of.entry → map_of.entry ≤ map_of.text.end
+  entry_of None e there = absurd (cc)
+  entry_of (Some entry) e there = at_row entry.row refl there
+    where
+      found_entry : (r : Row) → entry.row ≡ Some r → In goes_to_text (LiesIn map_of.text.start map_of.text.end) (record { stated = entry.stated; row = r })
+      found_entry = all_found (Seated (In goes_to_text (LiesIn map_of.text.start map_of.text.end))) (λ e. begins_run sources e.stated) p.entries entry e (seated_all _ p.entries lies_in_text)
+
+      begins : begins_run sources entry.stated ≡ true
+      begins = find_holds (λ (e : Entry). begins_run sources e.stated) p.entries entry e
+
+      goes : goes_to_text entry.stated.home ≡ true
+      goes = (and_parts (is_start entry.stated.says) (goes_to_text entry.stated.home) (and_parts (is_start entry.stated.says && goes_to_text entry.stated.home) (is_global_in sources entry.stated.file (codes "_start")) begins).0).1
+
+      at_row : (o : Option Row) → entry.row ≡ o → option_map (λ (r : Row). r.address) o ≡ Some map_of.entry → map_of.entry ≤ map_of.text.end
+      at_row None none same = absurd (cc)
+      at_row (Some r) some same =
+          let lie = found_entry r some goes in
+          let here : r.address ≡ map_of.entry = cc in
+          omega arith
+
+  pub entry_low : map_of.entry < 2 ^ 64
+  entry_low =
+      let low = entry_of (find (λ e. begins_run sources e.stated) p.entries) refl h.resolves.entry in
+      let room = text_room in
+      omega arith
+
 -- a linked program runs as its sources do, for every input and every limit
-pub linked_agrees : (a : ℕ) (sources : List (List Spoken)) (l : Linked) → IsLinked sources a l → l.map.entry < 2 ^ 64 → l.map.entry % 2 ≡ 0 → RunsAgree sources l.map (linked_image l)
-linked_agrees a sources l h below even reader input bytes n =
-    agreement_of_image sources l.map (mem_of (linked_image l)) l.map.entry (λ r. realizes_linked r sources a l h) refl below even reader input n
+pub linked_agrees : (a : ℕ) (sources : List (List Spoken)) (l : Linked) → IsLinked sources a l → RunsAgree sources l.map (linked_image l)
+linked_agrees a sources l h reader input bytes n =
+    agreement_of_image sources l.map (mem_of (linked_image l)) l.map.entry (λ r. realizes_linked r sources a l h) refl (entry_low reader sources a l h) h.resolves.even reader input n

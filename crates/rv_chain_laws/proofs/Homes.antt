@@ -2,15 +2,19 @@
 
 use Rattle.std.proofs.Common.{◌≡◌, ℕ, zero, suc, ◌+◌, ◌<◌, Bool, true, false, List, [], ◌∷◌, ◌++◌, length, refl, sym, ap, ◌∙◌, subst, arith, Option, Some, None, get_or, drop}
 use Rattle.std.proofs.lemmas.Bool.{and_parts, eqb-true, eq-eqb}
-use Rattle.std.proofs.lemmas.List.Quantifiers.{position-Some}
-use Rattle.std.specs.Prelude.{◌&&◌, ◌==◌, if◌then◌else◌, filter, flat_map, slice_get, slice_index_or, ⊤}
-use Rattle.std.specs.List.{AllByRecursion, position}
+use Rattle.std.specs.Prelude.{◌&&◌, ◌==◌, if◌then◌else◌, filter, slice_get, option_map, nat_lt}
+use Rattle.std.specs.List.{AllByRecursion}
 use Rattle.std.specs.Str.{bytes_eq}
-use Rattle.rv_parse_laws.specs.Statement.{Statement, Label, Norvc, Globl, Instruction, Directs, Spoken, Directive, Enters, Opens}
+use Rattle.rv_statement.specs.declared.directive.Choice.{Choice}
+use Rattle.rv_statement.specs.declared.directive.Choice.TheVariants.{Push, Pop}
+use Rattle.rv_text_laws.specs.Values.{Value}
+use Rattle.rv_statement.specs.Statement.{Statement, Expression, Label, Numbered, Instruction, Directs, Spoken, Directive, Enters, Opens, Globl, Local, Sets, Aligns_to_power, Aligns_to_bytes, Values, Strings, Zeros, Chooses, Ignored}
+use Rattle.rv_unit_laws.specs.Sections.{Section, Opened, place_of_name, most_sections, text_section, entered_at, entered, entered_by, section_at, current_section}
+use Rattle.rv_unit_laws.specs.Tables.{Tables, Setting, at_start, here, value, asked, data_bytes, is_defined, may_set, with_setting, with_section, with_data, with_choice, after_directive, after, after_all, tables, stood}
 use Rattle.rv_map.specs.declared.map.Row.{Row}
-use Rattle.rv_chain_laws.specs.Sections.{Section, Opened, section_of, standard_name, text_section, at_first, entered_at, entered, directed, after, current_section, opened_by, Stated, stated_from, stated_of, stated, has_row}
-use Rattle.rv_chain_laws.specs.Sites.{Entry, Site, Program, first_of, entries_of, seated, sites_of}
-use Rattle.rv_chain_laws.specs.Fits.{Block, block_of, blocks_of_file, blocks_of, sites_in}
+use Rattle.rv_chain_laws.specs.Stated.{Stated, stated_from, stated_of, stated, has_row}
+use Rattle.rv_chain_laws.specs.Sites.{Site, first_of, entries_of, seated, sites_of}
+use Rattle.rv_chain_laws.specs.Fits.{block_of, blocks_of_file, blocks_of, sites_in}
 use Rattle.rv_chain_laws.proofs.Regions.{AllIn}
 
 -- ---- lists
@@ -53,43 +57,132 @@ all_both P Q R (x ∷ xs) f (p, ps) (q, qs) = (f x p q, all_both P Q R xs f ps q
 -- ---- the sections that are open
 
 -- the current section is one of those that are open
-abbrev IsOpen : Opened → Type 0
+abbrev pub IsOpen : Opened → Type 0
 IsOpen o = (x : Section) × (slice_get o.sections o.current ≡ Some x)
 
-abbrev Keeps : Opened → Opened → Type 0
+abbrev pub Keeps : Opened → Opened → Type 0
 Keeps o now = (j : ℕ) (x : Section) → slice_get o.sections j ≡ Some x → slice_get now.sections j ≡ Some x
 
-entered_open : (o : Opened) (section : Section) → IsOpen (entered o section) × Keeps o (entered o section)
-entered_open o section = go (position (λ s. bytes_eq s.name section.name) o.sections) refl
+-- a section that is found stands in the list
+place_inside : (xs : List Section) (name : List ℕ) (i : ℕ) → place_of_name xs name ≡ Some i → i < length xs
+place_inside [] name i e = absurd (cc)
+place_inside (x ∷ xs) name i e = go (bytes_eq x.name name) (place_of_name xs name) (λ j f. place_inside xs name j f) e
   where
-    go : (found : Option ℕ) → position (λ s. bytes_eq s.name section.name) o.sections ≡ found → IsOpen (entered_at o section found) × Keeps o (entered_at o section found)
+    go : (b : Bool) (found : Option ℕ) → ((j : ℕ) → found ≡ Some j → j < length xs) → (if b then Some 0 else option_map suc found) ≡ Some i → i < suc (length xs)
+    go true found f e = let first : 0 ≡ i = cc in omega arith
+    go false None f e = absurd (cc)
+    go false (Some j) f e =
+        let next : suc j ≡ i = cc in
+        let below : j < length xs = f j refl in
+        omega arith
+
+entered_open : (o : Opened) (section : Section) → IsOpen o → IsOpen (entered o section) × Keeps o (entered o section)
+entered_open o section is_open = go (place_of_name o.sections section.name) refl
+  where
+    more : Opened
+    more = record { sections = o.sections ++ section ∷ []; current = length o.sections }
+
+    new : (b : Bool) → IsOpen (if b then more else o) × Keeps o (if b then more else o)
+    new true = ((section, got_last o.sections section), λ j x h. got_front o.sections (section ∷ []) j x h)
+    new false = (is_open, λ j x h. h)
+
+    go : (found : Option ℕ) → place_of_name o.sections section.name ≡ found → IsOpen (entered_at o section found) × Keeps o (entered_at o section found)
     go (Some i) e =
-        let inside = (position-Some (λ s. bytes_eq s.name section.name) o.sections i section e).0 in
+        let inside = place_inside o.sections section.name i e in
         ((get_or o.sections i section, got o.sections i section inside), λ j x h. h)
-    go None e = ((section, got_last o.sections section), λ j x h. got_front o.sections (section ∷ []) j x h)
+    go None e = new (nat_lt (length o.sections) most_sections)
 
-directed_open : (o : Opened) (d : Directive) → IsOpen o → IsOpen (directed o d) × Keeps o (directed o d)
-directed_open o (Enters standard) is_open = entered_open o (section_of (standard_name standard) None None)
-directed_open o (Opens name flags kind) is_open = entered_open o (section_of name flags kind)
-directed_open o _ is_open = (is_open, λ j x h. h)
+-- the section that a statement enters
+abbrev entered_in : Statement → Option Section
+entered_in (Label name) = None
+entered_in (Numbered number) = None
+entered_in (Instruction mnemonic operands) = None
+entered_in (Directs directive) = entered_by directive
 
-after_open : (o : Opened) (s : Statement) → IsOpen o → IsOpen (after o s) × Keeps o (after o s)
-after_open o (Label name) is_open = (is_open, λ j x h. h)
-after_open o Norvc is_open = (is_open, λ j x h. h)
-after_open o (Globl names) is_open = (is_open, λ j x h. h)
-after_open o (Instruction mnemonic operands) is_open = (is_open, λ j x h. h)
-after_open o (Directs directive) is_open = directed_open o directive is_open
+abbrev next_opened : Opened → Option Section → Opened
+next_opened o None = o
+next_opened o (Some section) = entered o section
 
-keeps_all : (o : Opened) (ss : List Spoken) → IsOpen o → Keeps o (opened_by o ss)
-keeps_all o [] is_open = λ j x h. h
-keeps_all o (s ∷ ss) is_open =
-    let now = after_open o s.says is_open in
-    λ j x h. keeps_all (after o s.says) ss now.0 j x (now.1 j x h)
+if_opened : (b : Bool) (t u : Tables) (o : Opened) → t.opened ≡ o → u.opened ≡ o → (if b then t else u).opened ≡ o
+if_opened true t u o e f = e
+if_opened false t u o e f = f
+
+set_opened : (t : Tables) (found : Option Setting) → (with_setting t found).opened ≡ t.opened
+set_opened t None = refl
+set_opened t (Some s) = if_opened (may_set t s.ordinal s.name s.meaning) _ t t.opened refl refl
+
+data_opened : (t : Tables) (bytes : ℕ) (alignment : Option ℕ) → (with_data t bytes alignment).opened ≡ t.opened
+data_opened t bytes alignment = if_opened (current_section t.opened).executable t _ t.opened refl refl
+
+-- data leave the sections as they are
+put_opened : (t : Tables) (k : ℕ) (d : Directive) → (let v = value t false k (here t) in with_data t (data_bytes v (here t).offset d) (asked v d)).opened ≡ t.opened
+put_opened t k d = let v : Expression → Value = value t false k (here t) in data_opened t (data_bytes v (here t).offset d) (asked v d)
+
+choice_opened : (t : Tables) (choice : Choice) → (with_choice t choice).opened ≡ t.opened
+choice_opened t Push = refl
+choice_opened t Pop = refl
+choice_opened t _ = refl
+
+section_opened : (t : Tables) (section : Section) → (with_section t (Some section)).opened ≡ entered t.opened section
+section_opened t section = if_opened (length (entered t.opened section).sections == length t.opened.sections) _ _ (entered t.opened section) refl refl
+
+directive_opened : (t : Tables) (k : ℕ) (d : Directive) → (after_directive t k d).opened ≡ next_opened t.opened (entered_by d)
+directive_opened t k (Enters standard) = section_opened t _
+directive_opened t k (Opens name flags kind) = section_opened t _
+directive_opened t k (Globl names) = refl
+directive_opened t k (Local names) = refl
+directive_opened t k (Sets name e) = set_opened t _
+directive_opened t k (Aligns_to_power exponent) = put_opened t k (Aligns_to_power exponent)
+directive_opened t k (Aligns_to_bytes bytes) = put_opened t k (Aligns_to_bytes bytes)
+directive_opened t k (Values width values) = put_opened t k (Values width values)
+directive_opened t k (Strings ended strings) = put_opened t k (Strings ended strings)
+directive_opened t k (Zeros count) = put_opened t k (Zeros count)
+directive_opened t k (Chooses choice) = choice_opened t choice
+directive_opened t k Ignored = refl
+
+-- the open sections after a statement
+pub after_opened : (t : Tables) (k : ℕ) (says : Statement) → (after t k says).opened ≡ next_opened t.opened (entered_in says)
+after_opened t k (Label name) = if_opened (is_defined t k name) t _ t.opened refl refl
+after_opened t k (Numbered number) = refl
+after_opened t k (Instruction mnemonic operands) = refl
+after_opened t k (Directs directive) = directive_opened t k directive
+
+next_open : (o : Opened) (found : Option Section) → IsOpen o → IsOpen (next_opened o found) × Keeps o (next_opened o found)
+next_open o None is_open = (is_open, λ j x h. h)
+next_open o (Some section) is_open = entered_open o section is_open
+
+pub after_open : (t : Tables) (k : ℕ) (says : Statement) → IsOpen t.opened → IsOpen (after t k says).opened × Keeps t.opened (after t k says).opened
+after_open t k says is_open =
+    subst (λ o. IsOpen o × Keeps t.opened o) (sym (after_opened t k says)) (next_open t.opened (entered_in says) is_open)
+
+pub keeps_all : (t : Tables) (k : ℕ) (ss : List Spoken) → IsOpen t.opened → Keeps t.opened (after_all t k ss).opened
+keeps_all t k [] is_open = λ j x h. h
+keeps_all t k (s ∷ ss) is_open =
+    let now = after_open t k s.says is_open in
+    λ j x h. keeps_all (after t k s.says) (suc k) ss now.0 j x (now.1 j x h)
+
+-- a statement stands in the section that is current behind it
+pub stood_in : (t : Tables) (k : ℕ) (says : Statement) → (stood t k says).section ≡ (after t k says).opened.current
+stood_in t k (Label name) = ap (λ o. o.current) (sym (after_opened t k (Label name)))
+stood_in t k (Numbered number) = refl
+stood_in t k (Instruction mnemonic operands) = refl
+stood_in t k (Directs (Enters standard)) = refl
+stood_in t k (Directs (Opens name flags kind)) = refl
+stood_in t k (Directs (Globl names)) = refl
+stood_in t k (Directs (Local names)) = refl
+stood_in t k (Directs (Sets name e)) = ap (λ o. o.current) (sym (after_opened t k (Directs (Sets name e))))
+stood_in t k (Directs (Aligns_to_power exponent)) = ap (λ o. o.current) (sym (after_opened t k (Directs (Aligns_to_power exponent))))
+stood_in t k (Directs (Aligns_to_bytes bytes)) = ap (λ o. o.current) (sym (after_opened t k (Directs (Aligns_to_bytes bytes))))
+stood_in t k (Directs (Values width values)) = ap (λ o. o.current) (sym (after_opened t k (Directs (Values width values))))
+stood_in t k (Directs (Strings ended strings)) = ap (λ o. o.current) (sym (after_opened t k (Directs (Strings ended strings))))
+stood_in t k (Directs (Zeros count)) = ap (λ o. o.current) (sym (after_opened t k (Directs (Zeros count))))
+stood_in t k (Directs (Chooses choice)) = ap (λ o. o.current) (sym (after_opened t k (Directs (Chooses choice))))
+stood_in t k (Directs Ignored) = refl
 
 -- ---- the sections of statements
 
 abbrev pub sections_of : List Spoken → List Section
-sections_of ss = (opened_by at_first ss).sections
+sections_of ss = (tables ss).opened.sections
 
 -- the sections of the files, which are numbered from 1
 abbrev pub sections_by : List (List Spoken) → ℕ → List Section
@@ -101,18 +194,21 @@ abbrev pub sections_in : List (List Spoken) → ℕ → List Section
 sections_in sources zero = []
 sections_in sources (suc i) = sections_by sources i
 
-abbrev IsHomeIn : (ℕ → List Section) → Stated → Type 0
+abbrev pub IsHomeIn : (ℕ → List Section) → Stated → Type 0
 IsHomeIn sections t = slice_get (sections t.file) t.section ≡ Some t.home
 
-home_now : (o : Opened) (ss : List Spoken) → IsOpen o → slice_get (opened_by o ss).sections o.current ≡ Some (current_section o)
-home_now o ss (x, e) = keeps_all o ss (x, e) o.current (current_section o) (e ∙ ap Some (sym (got_of o.sections o.current text_section x e)))
+pub home_now : (t : Tables) (k : ℕ) (ss : List Spoken) (i : ℕ) → IsOpen t.opened → i ≡ t.opened.current → slice_get (after_all t k ss).opened.sections i ≡ Some (section_at t.opened i)
+home_now t k ss i (x, e) same =
+    let at : slice_get t.opened.sections i ≡ Some x = ap (λ n. slice_get t.opened.sections n) same ∙ e in
+    keeps_all t k ss (x, e) i (section_at t.opened i) (at ∙ ap Some (sym (got_of t.opened.sections i text_section x at)))
 
-homes_from : (sections : ℕ → List Section) (file k : ℕ) (o : Opened) (ss : List Spoken) → sections file ≡ (opened_by o ss).sections → IsOpen o → AllByRecursion (IsHomeIn sections) (stated_from file k o ss)
-homes_from sections file k o [] same is_open = tt
-homes_from sections file k o (s ∷ ss) same is_open =
-    let now = after_open o s.says is_open in (
-      ap (λ xs. slice_get xs (after o s.says).current) same ∙ home_now (after o s.says) ss now.0,
-      homes_from sections file (suc k) (after o s.says) ss same now.0,
+pub homes_from : (sections : ℕ → List Section) (file k : ℕ) (t : Tables) (ss : List Spoken) → sections file ≡ (after_all t k ss).opened.sections → IsOpen t.opened → AllByRecursion (IsHomeIn sections) (stated_from file k t ss)
+homes_from sections file k t [] same is_open = tt
+homes_from sections file k t (s ∷ ss) same is_open =
+    let now = after_open t k s.says is_open in
+    let i = (stood t k s.says).section in (
+      ap (λ xs. slice_get xs i) same ∙ home_now (after t k s.says) (suc k) ss i now.0 (stood_in t k s.says),
+      homes_from sections file (suc k) (after t k s.says) ss same now.0,
     )
 
 pub all_join : {X : Type 0} (P : X → Type 0) (xs ys : List X) → AllByRecursion P xs → AllByRecursion P ys → AllByRecursion P (xs ++ ys)
@@ -132,23 +228,26 @@ rest_of_these sections file ss files same i = ap sections (let e : suc file + i 
 homes_of : (sections : ℕ → List Section) (file : ℕ) (sources : List (List Spoken)) → AreOf sections file sources → AllByRecursion (IsHomeIn sections) (stated_of file sources)
 homes_of sections file [] same = tt
 homes_of sections file (ss ∷ files) same =
-    all_join (IsHomeIn sections) (stated_from file 1 at_first ss) (stated_of (suc file) files)
-    (homes_from sections file 1 at_first ss (first_of_these sections file ss files same) (text_section, refl))
+    all_join (IsHomeIn sections) (stated_from file 1 at_start ss) (stated_of (suc file) files)
+    (homes_from sections file 1 at_start ss (first_of_these sections file ss files same) (text_section, refl))
     (homes_of sections (suc file) files (rest_of_these sections file ss files same))
 
--- a statement that has a row stands in a section that is loaded
+-- a statement that has a row stands in a section that is loaded; P is what holds of all statements
+abbrev pub IsSeated : (Stated → Type 0) → Site → Type 0
+IsSeated P s = P s.stated × (s.stated.home.loaded ≡ true)
+
 abbrev pub IsAtHome : (ℕ → List Section) → Site → Type 0
-IsAtHome sections s = IsHomeIn sections s.stated × (s.stated.home.loaded ≡ true)
+IsAtHome sections s = IsSeated (IsHomeIn sections) s
 
-seats : (sections : ℕ → List Section) (ts : List Stated) (rows : List Row) → AllByRecursion (IsHomeIn sections) ts → AllByRecursion (IsAtHome sections) (sites_of (entries_of ts rows))
-seats sections [] rows h = tt
-seats sections (t ∷ ts) rows (p, ps) = go (has_row t) refl (seats sections ts (drop 1 rows) ps) (seats sections ts rows ps)
+pub seats : (P : Stated → Type 0) (ts : List Stated) (rows : List Row) → AllByRecursion P ts → AllByRecursion (IsSeated P) (sites_of (entries_of ts rows))
+seats P [] rows h = tt
+seats P (t ∷ ts) rows (q, qs) = go (has_row t) refl (seats P ts (drop 1 rows) qs) (seats P ts rows qs)
   where
-    seat : (o : Option Row) (rest : List Site) → has_row t ≡ true → AllByRecursion (IsAtHome sections) rest → AllByRecursion (IsAtHome sections) (seated t o ++ rest)
+    seat : (o : Option Row) (rest : List Site) → has_row t ≡ true → AllByRecursion (IsSeated P) rest → AllByRecursion (IsSeated P) (seated t o ++ rest)
     seat None rest e h = h
-    seat (Some row) rest e h = ((p, (and_parts _ t.home.loaded e).1), h)
+    seat (Some row) rest e h = ((q, (and_parts _ t.home.loaded e).1), h)
 
-    go : (b : Bool) → has_row t ≡ b → AllByRecursion (IsAtHome sections) (sites_of (entries_of ts (drop 1 rows))) → AllByRecursion (IsAtHome sections) (sites_of (entries_of ts rows)) → AllByRecursion (IsAtHome sections) (sites_of (if b then record { stated = t; row = first_of rows } ∷ entries_of ts (drop 1 rows) else record { stated = t; row = None } ∷ entries_of ts rows))
+    go : (b : Bool) → has_row t ≡ b → AllByRecursion (IsSeated P) (sites_of (entries_of ts (drop 1 rows))) → AllByRecursion (IsSeated P) (sites_of (entries_of ts rows)) → AllByRecursion (IsSeated P) (sites_of (if b then record { stated = t; row = first_of rows } ∷ entries_of ts (drop 1 rows) else record { stated = t; row = None } ∷ entries_of ts rows))
     go true e taken left = seat (first_of rows) (sites_of (entries_of ts (drop 1 rows))) e taken
     go false e taken left = left
 
@@ -156,11 +255,11 @@ are_in : (sources : List (List Spoken)) → AreOf (sections_in sources) 1 source
 are_in sources i = ap (sections_in sources) (let e : 1 + i ≡ suc i = omega arith in e)
 
 pub homes : (sources : List (List Spoken)) (rows : List Row) → AllByRecursion (IsAtHome (sections_in sources)) (sites_of (entries_of (stated sources) rows))
-homes sources rows = seats (sections_in sources) (stated sources) rows (homes_of (sections_in sources) 1 sources (are_in sources))
+homes sources rows = seats (IsHomeIn (sections_in sources)) (stated sources) rows (homes_of (sections_in sources) 1 sources (are_in sources))
 
 -- ---- from the statements to the sections, and back
 
-module _ (p : Program) (sources : List (List Spoken)) (goes : Section → Bool) (P : Site → Type 0) where
+module _ (all : List Site) (sources : List (List Spoken)) (goes : Section → Bool) (P : Site → Type 0) where
   abbrev sections : ℕ → List Section
   sections = sections_in sources
 
@@ -184,43 +283,43 @@ module _ (p : Program) (sources : List (List Spoken)) (goes : Section → Bool) 
           (w (ap goes home ∙ good), rest)
       go false e rest = rest
 
-  to_file : AllByRecursion (IsAtHome sections) p.sites → AllByRecursion Where p.sites → (file index : ℕ) (rest : List Section) → ((j : ℕ) → slice_get (sections file) (index + j) ≡ slice_get rest j) → AllIn P (blocks_of_file goes p file index rest)
-  to_file hs ws file index [] same = tt
-  to_file hs ws file index (section ∷ rest) same =
-      go (goes section) refl (to_file hs ws file (suc index) rest (λ j. ap (λ i. slice_get (sections file) i) (let e : suc index + j ≡ index + suc j = omega arith in e) ∙ same (suc j)))
+  to_file : AllByRecursion (IsAtHome sections) all → AllByRecursion Where all → (t : Tables) (file index : ℕ) (rest : List Section) → ((j : ℕ) → slice_get (sections file) (index + j) ≡ slice_get rest j) → AllIn P (blocks_of_file goes t all file index rest)
+  to_file hs ws t file index [] same = tt
+  to_file hs ws t file index (section ∷ rest) same =
+      go (goes section) refl (to_file hs ws t file (suc index) rest (λ j. ap (λ i. slice_get (sections file) i) (let e : suc index + j ≡ index + suc j = omega arith in e) ∙ same (suc j)))
     where
-      go : (b : Bool) → goes section ≡ b → AllIn P (blocks_of_file goes p file (suc index) rest) → AllIn P (if b then block_of p section (sites_in p.sites file index) ∷ blocks_of_file goes p file (suc index) rest else blocks_of_file goes p file (suc index) rest)
+      go : (b : Bool) → goes section ≡ b → AllIn P (blocks_of_file goes t all file (suc index) rest) → AllIn P (if b then block_of t section all file index ∷ blocks_of_file goes t all file (suc index) rest else blocks_of_file goes t all file (suc index) rest)
       go true e next =
           let here : slice_get (sections file) index ≡ Some section = ap (λ i. slice_get (sections file) i) (let e : index ≡ index + 0 = omega arith in e) ∙ same 0 in
-          (in_section file index section here e p.sites hs ws, next)
+          (in_section file index section here e all hs ws, next)
       go false e next = next
 
-  to_files : AllByRecursion (IsAtHome sections) p.sites → AllByRecursion Where p.sites → (file : ℕ) (files : List (List Spoken)) → AreOf sections file files → AllIn P (blocks_of goes p file files)
+  to_files : AllByRecursion (IsAtHome sections) all → AllByRecursion Where all → (file : ℕ) (files : List (List Spoken)) → AreOf sections file files → AllIn P (blocks_of goes all file files)
   to_files hs ws file [] same = tt
   to_files hs ws file (ss ∷ files) same =
       let own : sections file ≡ sections_of ss = first_of_these sections file ss files same in
-      all_join (λ b. AllByRecursion P b.sites) (blocks_of_file goes p file 0 (sections_of ss)) (blocks_of goes p (suc file) files)
-      (to_file hs ws file 0 (sections_of ss) (λ j. ap (λ i. slice_get (sections file) i) (let e : 0 + j ≡ j = omega arith in e) ∙ ap (λ xs. slice_get xs j) own))
+      all_join (λ b. AllByRecursion P b.sites) (blocks_of_file goes (tables ss) all file 0 (sections_of ss)) (blocks_of goes all (suc file) files)
+      (to_file hs ws (tables ss) file 0 (sections_of ss) (λ j. ap (λ i. slice_get (sections file) i) (let e : 0 + j ≡ j = omega arith in e) ∙ ap (λ xs. slice_get xs j) own))
       (to_files hs ws (suc file) files (rest_of_these sections file ss files same))
 
-  pub to_blocks : AllByRecursion (IsAtHome sections) p.sites → AllByRecursion Where p.sites → AllIn P (blocks_of goes p 1 sources)
+  pub to_blocks : AllByRecursion (IsAtHome sections) all → AllByRecursion Where all → AllIn P (blocks_of goes all 1 sources)
   to_blocks hs ws = to_files hs ws 1 sources (are_in sources)
 
-  at_file : (file index : ℕ) (rest : List Section) (j : ℕ) (section : Section) → AllIn P (blocks_of_file goes p file index rest) → slice_get rest j ≡ Some section → goes section ≡ true → AllByRecursion P (sites_in p.sites file (index + j))
-  at_file file index [] j section all at good = absurd (cc)
-  at_file file index (first ∷ rest) zero section all at good =
+  at_file : (t : Tables) (file index : ℕ) (rest : List Section) (j : ℕ) (section : Section) → AllIn P (blocks_of_file goes t all file index rest) → slice_get rest j ≡ Some section → goes section ≡ true → AllByRecursion P (sites_in all file (index + j))
+  at_file t file index [] j section held at good = absurd (cc)
+  at_file t file index (first ∷ rest) zero section held at good =
       let same : first ≡ section = cc in
       let e : index ≡ index + 0 = omega arith in
-      subst (λ i. AllByRecursion P (sites_in p.sites file i)) e (here (goes first) (ap goes same ∙ good) all)
+      subst (λ i. AllByRecursion P (sites_in all file i)) e (here (goes first) (ap goes same ∙ good) held)
     where
-      here : (b : Bool) → b ≡ true → AllIn P (if b then block_of p first (sites_in p.sites file index) ∷ blocks_of_file goes p file (suc index) rest else blocks_of_file goes p file (suc index) rest) → AllByRecursion P (sites_in p.sites file index)
+      here : (b : Bool) → b ≡ true → AllIn P (if b then block_of t first all file index ∷ blocks_of_file goes t all file (suc index) rest else blocks_of_file goes t all file (suc index) rest) → AllByRecursion P (sites_in all file index)
       here true e (h, hs) = h
       here false e hs = absurd (cc)
-  at_file file index (first ∷ rest) (suc j) section all at good =
+  at_file t file index (first ∷ rest) (suc j) section held at good =
       let e : suc index + j ≡ index + suc j = omega arith in
-      subst (λ i. AllByRecursion P (sites_in p.sites file i)) e (at_file file (suc index) rest j section (later (goes first) all) at good)
+      subst (λ i. AllByRecursion P (sites_in all file i)) e (at_file t file (suc index) rest j section (later (goes first) held) at good)
     where
-      later : (b : Bool) → AllIn P (if b then block_of p first (sites_in p.sites file index) ∷ blocks_of_file goes p file (suc index) rest else blocks_of_file goes p file (suc index) rest) → AllIn P (blocks_of_file goes p file (suc index) rest)
+      later : (b : Bool) → AllIn P (if b then block_of t first all file index ∷ blocks_of_file goes t all file (suc index) rest else blocks_of_file goes t all file (suc index) rest) → AllIn P (blocks_of_file goes t all file (suc index) rest)
       later true (h, hs) = hs
       later false hs = hs
 
@@ -228,19 +327,19 @@ module _ (p : Program) (sources : List (List Spoken)) (goes : Section → Bool) 
   halves Q [] ys h = (tt, h)
   halves Q (x ∷ xs) ys (q, qs) = let more = halves Q xs ys qs in ((q, more.0), more.1)
 
-  at_files : (file : ℕ) (files : List (List Spoken)) (i j : ℕ) (section : Section) → AllIn P (blocks_of goes p file files) → slice_get (sections_by files i) j ≡ Some section → goes section ≡ true → AllByRecursion P (sites_in p.sites (file + i) j)
-  at_files file [] i j section all at good = absurd (cc)
-  at_files file (ss ∷ files) zero j section all at good =
-      let parts = halves (λ b. AllByRecursion P b.sites) (blocks_of_file goes p file 0 (sections_of ss)) (blocks_of goes p (suc file) files) all in
-      subst (λ f. AllByRecursion P (sites_in p.sites f j)) (let e : file ≡ file + 0 = omega arith in e)
-      (subst (λ i. AllByRecursion P (sites_in p.sites file i)) (let e : 0 + j ≡ j = omega arith in e) (at_file file 0 (sections_of ss) j section parts.0 at good))
-  at_files file (ss ∷ files) (suc i) j section all at good =
-      let parts = halves (λ b. AllByRecursion P b.sites) (blocks_of_file goes p file 0 (sections_of ss)) (blocks_of goes p (suc file) files) all in
-      subst (λ f. AllByRecursion P (sites_in p.sites f j)) (let e : suc file + i ≡ file + suc i = omega arith in e) (at_files (suc file) files i j section parts.1 at good)
+  at_files : (file : ℕ) (files : List (List Spoken)) (i j : ℕ) (section : Section) → AllIn P (blocks_of goes all file files) → slice_get (sections_by files i) j ≡ Some section → goes section ≡ true → AllByRecursion P (sites_in all (file + i) j)
+  at_files file [] i j section held at good = absurd (cc)
+  at_files file (ss ∷ files) zero j section held at good =
+      let parts = halves (λ b. AllByRecursion P b.sites) (blocks_of_file goes (tables ss) all file 0 (sections_of ss)) (blocks_of goes all (suc file) files) held in
+      subst (λ f. AllByRecursion P (sites_in all f j)) (let e : file ≡ file + 0 = omega arith in e)
+      (subst (λ i. AllByRecursion P (sites_in all file i)) (let e : 0 + j ≡ j = omega arith in e) (at_file (tables ss) file 0 (sections_of ss) j section parts.0 at good))
+  at_files file (ss ∷ files) (suc i) j section held at good =
+      let parts = halves (λ b. AllByRecursion P b.sites) (blocks_of_file goes (tables ss) all file 0 (sections_of ss)) (blocks_of goes all (suc file) files) held in
+      subst (λ f. AllByRecursion P (sites_in all f j)) (let e : suc file + i ≡ file + suc i = omega arith in e) (at_files (suc file) files i j section parts.1 at good)
 
-  in_any : AllIn P (blocks_of goes p 1 sources) → (f j : ℕ) (section : Section) → slice_get (sections f) j ≡ Some section → goes section ≡ true → AllByRecursion P (sites_in p.sites f j)
-  in_any all zero j section at good = absurd (cc)
-  in_any all (suc i) j section at good = subst (λ f. AllByRecursion P (sites_in p.sites f j)) (let e : 1 + i ≡ suc i = omega arith in e) (at_files 1 sources i j section all at good)
+  in_any : AllIn P (blocks_of goes all 1 sources) → (f j : ℕ) (section : Section) → slice_get (sections f) j ≡ Some section → goes section ≡ true → AllByRecursion P (sites_in all f j)
+  in_any held zero j section at good = absurd (cc)
+  in_any held (suc i) j section at good = subst (λ f. AllByRecursion P (sites_in all f j)) (let e : 1 + i ≡ suc i = omega arith in e) (at_files 1 sources i j section held at good)
 
   each_where : (xs : List Site) → AllByRecursion (IsAtHome sections) xs → ((f j : ℕ) (section : Section) → slice_get (sections f) j ≡ Some section → goes section ≡ true → AllByRecursion P (sites_in xs f j)) → AllByRecursion Where xs
   each_where [] hs f = tt
@@ -260,5 +359,5 @@ module _ (p : Program) (sources : List (List Spoken)) (goes : Section → Bool) 
       rest true i j (q, qs) = qs
       rest false i j qs = qs
 
-  pub from_blocks : AllByRecursion (IsAtHome sections) p.sites → AllIn P (blocks_of goes p 1 sources) → AllByRecursion Where p.sites
-  from_blocks hs all = each_where p.sites hs (in_any all)
+  pub from_blocks : AllByRecursion (IsAtHome sections) all → AllIn P (blocks_of goes all 1 sources) → AllByRecursion Where all
+  from_blocks hs held = each_where all hs (in_any held)

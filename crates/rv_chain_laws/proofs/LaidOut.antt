@@ -1,20 +1,19 @@
 -- The memory of a linked program's image: its rights are those of the map's regions, and its bytes are theirs.
 
-use Rattle.std.proofs.Common.{◌≡◌, ℕ, suc, ◌+◌, ◌-◌, ◌^◌, ◌<◌, ◌≤◌, Bool, true, false, List, [], ◌∷◌, ◌++◌, length, refl, sym, ap, ◌∙◌, subst, arith, map, append_assoc, length-append, Option, Some, None}
+use Rattle.std.proofs.Common.{◌≡◌, ℕ, suc, ◌+◌, ◌-◌, ◌<◌, ◌≤◌, Bool, true, false, List, [], ◌∷◌, ◌++◌, length, refl, sym, ap, ◌∙◌, subst, arith, map, append_assoc, length-append, Option, Some, None}
 use Rattle.std.proofs.lemmas.Bool.Decides.{nat_tests}
 use Rattle.std.proofs.lemmas.Bool.{eqb-true}
 use Rattle.std.proofs.lemmas.List.{length-replicate}
 use Rattle.std.proofs.Math.Seq.{get_or-append_seam}
 use Rattle.std.specs.Prelude.{◌&&◌, ◌||◌, ◌==◌, not, nat_le, nat_lt, if◌then◌else◌, filter, slice_index}
 use Rattle.rv_isa_laws.specs.Memory.{Mem, Right, Read, Write, Execute}
-use Rattle.rv_map.specs.Map.{Map}
 use Rattle.rv_image.specs.Linked.{Linked}
-use Rattle.rv_image.specs.Executable.{Part, memory_size_of, all_parts, has_memory, parts, segment_of_part, linked_image}
+use Rattle.rv_image.specs.Executable.{Part, memory_size_of, all_parts, has_memory, segment_of_part, linked_image}
 use Rattle.rv_image.specs.Segment.{Segment, stack_start, stack_end}
-use Rattle.rv_image.specs.Memory.{mem_of, lies_in, segment_at, byte_in, right_in, in_stack}
+use Rattle.rv_image.specs.Memory.{mem_of, lies_in, segment_at, byte_in, right_in}
 use Rattle.rv_chain_laws.specs.Start.{is_within, is_in, right_at}
 use Rattle.rv_chain_laws.specs.Contents.{zeros}
-use Rattle.rv_chain_laws.proofs.AssembledCode.{HasBytes, bytes_behind}
+use Rattle.rv_chain_laws.proofs.Words.{HasBytes, bytes_behind}
 use Rattle.rv_chain_laws.proofs.Regions.{bytes_front}
 
 -- the regions hold their bytes, one behind the other, bss behind the data, all below the stack

@@ -9,13 +9,13 @@ use Rattle.rv_isa_laws.specs.Arithmetic.{wrapped, sum_of}
 use Rattle.rv_isa_laws.specs.Hart.{Hart, with_register, advanced}
 use Rattle.rv_isa_laws.specs.Effect.{Effect, Goes, Breaks}
 use Rattle.rv_isa_laws.specs.Meaning.{effect, sets}
-use Rattle.rv_parse_laws.specs.declared.mnemonic.Mnemonic.{Mnemonic}
-use Rattle.rv_parse_laws.specs.declared.mnemonic.Mnemonic.TheVariants.{Registers, Immediate, Shift, Upper, Load, Store, Jalr, LoadReserved, Atomic, Fence, FenceTso, Ecall, Ebreak, Li}
-use Rattle.rv_parse_laws.specs.Statement.{Statement, Label, Norvc, Globl, Instruction, Directs, Directive, Sets, Aligns_to_power, Aligns_to_bytes, Numbered, Expression}
+use Rattle.rv_statement.specs.declared.mnemonic.Mnemonic.{Mnemonic}
+use Rattle.rv_statement.specs.declared.mnemonic.Mnemonic.TheVariants.{Li}
+use Rattle.rv_statement.specs.Statement.{Statement, Label, Numbered, Instruction, Directs, Directive, Sets, Aligns_to_power, Aligns_to_bytes, Expression}
 use Rattle.rv_parse_laws.specs.Value.{signed}
 use Rattle.rv_chain_laws.specs.Sites.{Site, Program, number, has_values}
-use Rattle.rv_chain_laws.specs.Written.{Argument, Of_register, Of_number, Of_accesses, arguments, written}
-use Rattle.rv_chain_laws.specs.Meaning.{Line, Lie, AreLines, add_immediate, run_written, run_with, run_spoken, run_directive, run_said, meaning, cost, add_zero, alone, expanded_with, expanded, no_operation, expanded_directive, expanded_said, expansion}
+use Rattle.rv_chain_laws.specs.Written.{Argument, Of_register, Of_number, arguments, written}
+use Rattle.rv_chain_laws.specs.Meaning.{Line, Lie, AreLines, add_immediate, run_written, run_with, run_directive, run_said, meaning, cost, add_zero, alone, expanded_with, no_operation, expanded_directive, expanded_said, expansion}
 use Rattle.rv_chain_laws.specs.Fits.{IsRowOf}
 use Rattle.rv_chain_laws.proofs.Walk.{Walked, once, more, then_walk, walk}
 
@@ -147,13 +147,11 @@ does_directive : (directive : Directive) (count address bytes : ℕ) (lines : Li
 does_directive (Aligns_to_power exponent) count address bytes lines e lie n some below = does_padding _ count address bytes lines e lie n some below
 does_directive (Aligns_to_bytes alignment) count address bytes lines e lie n some below = does_padding _ count address bytes lines e lie n some below
 does_directive (Sets name expression) count address bytes lines e lie n some below = no_lines _ count address bytes lines e lie some
-does_directive (Numbered number) count address bytes lines e lie n some below = no_lines _ count address bytes lines e lie some
 does_directive _ count address bytes lines e lie n some below = absurd (cc)
 
 does_said : (v : Expression → ℕ) (says : Statement) (count address bytes : ℕ) (lines : List Line) → expanded_said v says bytes ≡ Some (map (λ (l : Line). l.instruction) lines) → Lie address lines (address + bytes) → count ≡ length (map (λ (l : Line). l.instruction) lines) → 0 < bytes → address + bytes < 2 ^ 64 → Does (run_said v says bytes) (λ h. count) address lines
 does_said v (Label name) count address bytes lines e lie n some below = no_lines _ count address bytes lines e lie some
-does_said v Norvc count address bytes lines e lie n some below = no_lines _ count address bytes lines e lie some
-does_said v (Globl names) count address bytes lines e lie n some below = no_lines _ count address bytes lines e lie some
+does_said v (Numbered number) count address bytes lines e lie n some below = no_lines _ count address bytes lines e lie some
 does_said v (Instruction mnemonic operands) count address bytes lines e lie n some below = does_with mnemonic (arguments v operands) count address bytes lines e lie n
 does_said v (Directs directive) count address bytes lines e lie n some below = does_directive directive count address bytes lines e lie n some below
 
@@ -166,4 +164,4 @@ does_where false v says count address bytes lines e lie n some below = absurd (c
 pub does : (p : Program) (s : Site) (lines : List Line) → AreLines p s lines → IsRowOf (expansion p s) s.row → 0 < s.row.bytes → s.row.address + s.row.bytes < 2 ^ 64 → Does (meaning p s) (cost p s) s.row.address lines
 does p s lines are fits some below =
     let row = subst (λ o. IsRowOf o s.row) are.0 fits in
-    does_where (has_values p s) (number p s) s.stated.says s.row.instructions s.row.address s.row.bytes lines are.0 are.1 row.0 some below
+    does_where (has_values p s) (number p s) s.stated.says s.row.instructions s.row.address s.row.bytes lines are.0 are.1 row.1 some below

@@ -1,41 +1,42 @@
 -- A map that is laid out section by section fits its sources.
 
-use Rattle.std.proofs.Common.{◌≡◌, ℕ, zero, suc, ◌+◌, Bool, true, false, List, [], ◌∷◌, ◌++◌, refl, sym, ap, ◌∙◌, subst, arith, map, Option, Some, None, drop}
+use Rattle.std.proofs.Common.{◌≡◌, ℕ, suc, ◌+◌, Bool, true, false, List, [], ◌∷◌, ◌++◌, refl, sym, ap, ◌∙◌, subst, arith, map, None, drop}
 use Rattle.std.proofs.lemmas.Bool.{eqb-true, eq-eqb, and_parts}
 use Rattle.std.proofs.lemmas.List.Sums.{sum_by-cons}
 use Rattle.std.specs.Prelude.{◌&&◌, ◌==◌, if◌then◌else◌, filter}
-use Rattle.std.specs.List.{AllByRecursion}
-use Rattle.rv_parse_laws.specs.Statement.{Spoken}
+use Rattle.rv_statement.specs.Statement.{Spoken}
 use Rattle.rv_map.specs.Map.{Map}
 use Rattle.rv_map.specs.declared.map.Row.{Row}
 use Rattle.rv_map.specs.declared.map.Region.{Region}
-use Rattle.rv_chain_laws.specs.Sections.{Section, Opened, Stated, after, at_first, opened_by, stated_from, stated_of, has_row, goes_to_text, goes_to_rodata, goes_to_data, goes_to_bss}
-use Rattle.rv_chain_laws.specs.Sites.{Entry, Site, Program, program, first_of, entries_of, seated, sites_of}
-use Rattle.rv_chain_laws.specs.Fits.{Fits, Block, rows_of, block_of, blocks, blocks_of, blocks_of_file, sites_in, mark_of_row, mark_of_stated, Follow, size, aligned, Stand, end_of, Holds, greatest_alignment}
-use Rattle.rv_chain_laws.specs.Placed.{Places, moved, TakesRow, stated_now, RowsFrom, RowsOf, Joins, Spread, SpreadOf, Fills, IsLaidFrom}
+use Rattle.rv_unit_laws.specs.Sections.{Section, goes_to_text, goes_to_rodata, goes_to_data, goes_to_bss}
+use Rattle.rv_unit_laws.specs.Tables.{Tables, after, at_start, tables, aligned}
+use Rattle.rv_chain_laws.specs.Stated.{Stated, stated_now, stated_from, stated_of, has_row}
+use Rattle.rv_chain_laws.specs.Sites.{Site, Program, program, first_of, entries_of, sites_of}
+use Rattle.rv_chain_laws.specs.Fits.{Fits, Block, rows_of, block_of, blocks, blocks_of, blocks_of_file, sites_in, mark_of_row, mark_of_stated, Follow, size, Stand, end_of, Holds, greatest}
+use Rattle.rv_chain_laws.specs.Placed.{Places, moved, TakesRow, RowsFrom, RowsOf, Joins, Spread, SpreadOf, Fills, IsLaidFrom}
 
 -- ---- one row for each statement that has one
 
 abbrev Marked : List Stated → List Row → Type 0
 Marked ts rows = map mark_of_row rows ≡ map mark_of_stated (filter has_row ts)
 
-marks_from : (file k : ℕ) (o : Opened) (next : Places) (ss : List Spoken) (rows : List Row) (Others : List Row → Places → Type 0) (more : List Stated) → RowsFrom file k o next ss rows Others
-    → ((rest : List Row) (now : Places) → Others rest now → Marked more rest) → Marked (stated_from file k o ss ++ more) rows
-marks_from file k o next [] rows Others more h f = f rows next h
-marks_from file k o next (s ∷ ss) rows Others more h f =
-    go (has_row t) rows (λ rest bytes. RowsFrom file (suc k) now (moved next file now.current bytes) ss rest Others) h
-    (λ rest bytes r. marks_from file (suc k) now (moved next file now.current bytes) ss rest Others more r f)
+marks_from : (file k : ℕ) (u : Tables) (next : Places) (ss : List Spoken) (rows : List Row) (Others : List Row → Places → Type 0) (more : List Stated) → RowsFrom file k u next ss rows Others
+    → ((rest : List Row) (now : Places) → Others rest now → Marked more rest) → Marked (stated_from file k u ss ++ more) rows
+marks_from file k u next [] rows Others more h f = f rows next h
+marks_from file k u next (s ∷ ss) rows Others more h f =
+    go (has_row t) rows (λ rest bytes. RowsFrom file (suc k) now (moved next file t.section bytes) ss rest Others) h
+    (λ rest bytes r. marks_from file (suc k) now (moved next file t.section bytes) ss rest Others more r f)
   where
-    now : Opened
-    now = after o s.says
+    now : Tables
+    now = after u k s.says
 
     t : Stated
-    t = stated_now file k o s
+    t = stated_now file k u s
 
     others : List Stated
     others = stated_from file (suc k) now ss ++ more
 
-    go : (b : Bool) (rows : List Row) (Rest : List Row → ℕ → Type 0) → TakesRow b t (next file now.current) rows Rest → ((rest : List Row) (bytes : ℕ) → Rest rest bytes → Marked others rest)
+    go : (b : Bool) (rows : List Row) (Rest : List Row → ℕ → Type 0) → TakesRow b t (next file t.section) rows Rest → ((rest : List Row) (bytes : ℕ) → Rest rest bytes → Marked others rest)
         → map mark_of_row rows ≡ map mark_of_stated (if b then t ∷ filter has_row others else filter has_row others)
     go true [] Rest none ih = absurd none
     go true (row ∷ rest) Rest (mark, at, r) ih = ap (λ x. x ∷ map mark_of_row rest) mark ∙ ap (λ ms. mark_of_stated t ∷ ms) (ih rest row.bytes r)
@@ -44,7 +45,7 @@ marks_from file k o next (s ∷ ss) rows Others more h f =
 marks_of : (file : ℕ) (next : Places) (files : List (List Spoken)) (rows : List Row) (last : Places) → RowsOf file next files rows last → Marked (stated_of file files) rows
 marks_of file next [] rows last (e, l) = ap (λ rs. map mark_of_row rs) e
 marks_of file next (ss ∷ files) rows last h =
-    marks_from file 1 at_first next ss rows (λ rest now. RowsOf (suc file) now files rest last) (stated_of (suc file) files) h (λ rest now r. marks_of (suc file) now files rest last r)
+    marks_from file 1 at_start next ss rows (λ rest now. RowsOf (suc file) now files rest last) (stated_of (suc file) files) h (λ rest now r. marks_of (suc file) now files rest last r)
 
 -- ---- the rows of a section follow one another
 
@@ -97,56 +98,56 @@ no_more next last file c f j sites (follow, l) =
     same true = omega arith
     same false = refl
 
-runs_from : (file k : ℕ) (o : Opened) (next : Places) (ss : List Spoken) (rows : List Row) (last : Places) (Others : List Row → Places → Type 0) (more : List Stated) (f j : ℕ) → RowsFrom file k o next ss rows Others
-    → ((rest : List Row) (now : Places) → Others rest now → Runs now last f j (sites_from more rest)) → Runs next last f j (sites_from (stated_from file k o ss ++ more) rows)
-runs_from file k o next [] rows last Others more f j h g = g rows next h
-runs_from file k o next (s ∷ ss) rows last Others more f j h g =
-    go (has_row t) rows (λ rest bytes. RowsFrom file (suc k) now (moved next file now.current bytes) ss rest Others) h
-    (λ rest bytes r. runs_from file (suc k) now (moved next file now.current bytes) ss rest last Others more f j r g)
+runs_from : (file k : ℕ) (u : Tables) (next : Places) (ss : List Spoken) (rows : List Row) (last : Places) (Others : List Row → Places → Type 0) (more : List Stated) (f j : ℕ) → RowsFrom file k u next ss rows Others
+    → ((rest : List Row) (now : Places) → Others rest now → Runs now last f j (sites_from more rest)) → Runs next last f j (sites_from (stated_from file k u ss ++ more) rows)
+runs_from file k u next [] rows last Others more f j h g = g rows next h
+runs_from file k u next (s ∷ ss) rows last Others more f j h g =
+    go (has_row t) rows (λ rest bytes. RowsFrom file (suc k) now (moved next file t.section bytes) ss rest Others) h
+    (λ rest bytes r. runs_from file (suc k) now (moved next file t.section bytes) ss rest last Others more f j r g)
   where
-    now : Opened
-    now = after o s.says
+    now : Tables
+    now = after u k s.says
 
     t : Stated
-    t = stated_now file k o s
+    t = stated_now file k u s
 
     others : List Stated
     others = stated_from file (suc k) now ss ++ more
 
-    go : (b : Bool) (rows : List Row) (Rest : List Row → ℕ → Type 0) → TakesRow b t (next file now.current) rows Rest → ((rest : List Row) (bytes : ℕ) → Rest rest bytes → Runs (moved next file now.current bytes) last f j (sites_from others rest))
+    go : (b : Bool) (rows : List Row) (Rest : List Row → ℕ → Type 0) → TakesRow b t (next file t.section) rows Rest → ((rest : List Row) (bytes : ℕ) → Rest rest bytes → Runs (moved next file t.section bytes) last f j (sites_from others rest))
         → Runs next last f j (sites_of (if b then record { stated = t; row = first_of rows } ∷ entries_of others (drop 1 rows) else record { stated = t; row = None } ∷ entries_of others rows))
     go true [] Rest none ih = absurd none
     go true (row ∷ rest) Rest (mark, at, r) ih =
-        one_more ((file == f) && (now.current == j)) next last file now.current f j (record { stated = t; row = row }) (sites_from others rest)
-        (both_swap file f now.current j ((file == f) && (now.current == j)) refl) at (ih rest row.bytes r)
-    go false rows Rest r ih = no_more next last file now.current f j (sites_from others rows) (ih rows 0 r)
+        one_more ((file == f) && (t.section == j)) next last file t.section f j (record { stated = t; row = row }) (sites_from others rest)
+        (both_swap file f t.section j ((file == f) && (t.section == j)) refl) at (ih rest row.bytes r)
+    go false rows Rest r ih = no_more next last file t.section f j (sites_from others rows) (ih rows 0 r)
 
 runs_of : (file : ℕ) (next : Places) (files : List (List Spoken)) (rows : List Row) (last : Places) → RowsOf file next files rows last → (f j : ℕ) → Runs next last f j (sites_from (stated_of file files) rows)
 runs_of file next [] rows last (e, l) f j = (tt, l f j ∙ omega arith)
 runs_of file next (ss ∷ files) rows last h f j =
-    runs_from file 1 at_first next ss rows last (λ rest now. RowsOf (suc file) now files rest last) (stated_of (suc file) files) f j h (λ rest now r. runs_of (suc file) now files rest last r f j)
+    runs_from file 1 at_start next ss rows last (λ rest now. RowsOf (suc file) now files rest last) (stated_of (suc file) files) f j h (λ rest now r. runs_of (suc file) now files rest last r f j)
 
 -- ---- the sections of a region stand one behind the other
 
-module _ (goes : Section → Bool) (p : Program) (starts last : Places) (runs : (f j : ℕ) → Runs starts last f j p.sites) where
+module _ (goes : Section → Bool) (sites : List Site) (starts last : Places) (runs : (f j : ℕ) → Runs starts last f j sites) where
   abbrev Stands : ℕ → ℕ → List Block → Type 0
   Stands end stop bs = Stand stop bs × (end ≡ end_of stop bs)
 
-  stands_file : (file stop index : ℕ) (sections : List Section) (Others : ℕ → Type 0) (more : List Block) (end : ℕ) → Spread goes p starts last file stop index sections Others
-      → ((n : ℕ) → Others n → Stands end n more) → Stands end stop (blocks_of_file goes p file index sections ++ more)
-  stands_file file stop index [] Others more end h f = f stop h
-  stands_file file stop index (section ∷ sections) Others more end h f =
-      go (goes section) h (λ n r. stands_file file n (suc index) sections Others more end r f)
+  stands_file : (t : Tables) (file stop index : ℕ) (sections : List Section) (Others : ℕ → Type 0) (more : List Block) (end : ℕ) → Spread goes t starts last file stop index sections Others
+      → ((n : ℕ) → Others n → Stands end n more) → Stands end stop (blocks_of_file goes t sites file index sections ++ more)
+  stands_file t file stop index [] Others more end h f = f stop h
+  stands_file t file stop index (section ∷ sections) Others more end h f =
+      go (goes section) h (λ n r. stands_file t file n (suc index) sections Others more end r f)
     where
       b : Block
-      b = block_of p section (sites_in p.sites file index)
+      b = block_of t section sites file index
 
       later : List Block
-      later = blocks_of_file goes p file (suc index) sections
+      later = blocks_of_file goes t sites file (suc index) sections
 
-      go : (t : Bool) → Joins t (starts file index) b.alignment stop (last file index) (λ n. Spread goes p starts last file n (suc index) sections Others)
-          → ((n : ℕ) → Spread goes p starts last file n (suc index) sections Others → Stands end n (later ++ more))
-          → Stands end stop ((if t then b ∷ later else later) ++ more)
+      go : (g : Bool) → Joins g (starts file index) b.alignment stop (last file index) (λ n. Spread goes t starts last file n (suc index) sections Others)
+          → ((n : ℕ) → Spread goes t starts last file n (suc index) sections Others → Stands end n (later ++ more))
+          → Stands end stop ((if g then b ∷ later else later) ++ more)
       go true (at, r) ih =
           let here = runs file index in
           let rest = ih (last file index) r in
@@ -154,26 +155,27 @@ module _ (goes : Section → Bool) (p : Program) (starts last : Places) (runs : 
           ((subst (λ x. Follow x (rows_of b)) at here.0, subst (λ x. Stand x (later ++ more)) there rest.0), rest.1 ∙ ap (λ x. end_of x (later ++ more)) there)
       go false r ih = ih stop r
 
-  stands_of : (file stop : ℕ) (files : List (List Spoken)) (end : ℕ) → SpreadOf goes p starts last file stop files end → Stands end stop (blocks_of goes p file files)
+  stands_of : (file stop : ℕ) (files : List (List Spoken)) (end : ℕ) → SpreadOf goes starts last file stop files end → Stands end stop (blocks_of goes sites file files)
   stands_of file stop [] end e = (tt, sym e)
   stands_of file stop (ss ∷ files) end h =
-      stands_file file stop 0 (opened_by at_first ss).sections (λ n. SpreadOf goes p starts last (suc file) n files end) (blocks_of goes p (suc file) files) end h
+      stands_file (tables ss) file stop 0 (tables ss).opened.sections (λ n. SpreadOf goes starts last (suc file) n files end) (blocks_of goes sites (suc file) files) end h
       (λ n r. stands_of (suc file) n files end r)
 
-  holds : (r : Region) (place : ℕ) (sources : List (List Spoken)) → Fills goes p starts last sources r place → Holds r place (blocks_of goes p 1 sources)
+  holds : (r : Region) (place : ℕ) (sources : List (List Spoken)) → Fills goes starts last sources r place → Holds r place (blocks_of goes sites 1 sources)
   holds r place sources (at, spread) =
       let s = stands_of 1 place sources r.end spread in
       (at, s.0, s.1)
 
 pub laid_fits : (a : ℕ) (sources : List (List Spoken)) (m : Map) → IsLaidFrom a sources m → Fits sources m a
 laid_fits a sources m h = record {
+  good = h.good;
   rows = marks_of 1 h.starts sources m.rows h.last h.rows;
   sizes = h.sizes;
-  text = holds goes_to_text p h.starts h.last runs m.text a sources h.text;
+  text = holds goes_to_text p.sites h.starts h.last runs m.text a sources h.text;
   gaps = h.gaps;
-  rodata = holds goes_to_rodata p h.starts h.last runs m.rodata (aligned 4096 m.text.end) sources h.rodata;
-  «data» = holds goes_to_data p h.starts h.last runs m.data (aligned 4096 m.rodata.end) sources h.data;
-  bss = holds goes_to_bss p h.starts h.last runs m.bss (aligned (greatest_alignment (blocks goes_to_bss sources m)) m.data.end) sources h.bss;
+  rodata = holds goes_to_rodata p.sites h.starts h.last runs m.rodata (aligned 4096 m.text.end) sources h.rodata;
+  «data» = holds goes_to_data p.sites h.starts h.last runs m.data (aligned 4096 m.rodata.end) sources h.data;
+  bss = holds goes_to_bss p.sites h.starts h.last runs m.bss (aligned (greatest (blocks goes_to_bss sources m)) m.data.end) sources h.bss;
 }
   where
     p : Program

@@ -1,6 +1,6 @@
 -- Sections one after another in a region: where their statements stand, and which bytes lie there.
 
-use Rattle.std.proofs.Common.{◌≡◌, ℕ, zero, suc, ◌+◌, ◌-◌, ◌*◌, ◌/◌, ◌%◌, ◌<◌, ◌≤◌, Bool, true, false, List, [], ◌∷◌, ◌++◌, length, refl, sym, ap, ◌∙◌, subst, arith, map, append_assoc, length-append, ◌⊎◌, inl, inr, get_or}
+use Rattle.std.proofs.Common.{◌≡◌, ℕ, zero, suc, ◌+◌, ◌-◌, ◌*◌, ◌/◌, ◌%◌, ◌<◌, ◌≤◌, true, false, List, [], ◌∷◌, ◌++◌, length, refl, sym, ap, ◌∙◌, subst, arith, map, append_assoc, length-append, inl, inr}
 use Rattle.std.proofs.lemmas.Bool.Decides.{nat_tests}
 use Rattle.std.proofs.lemmas.Bool.{cases_lt}
 use Rattle.std.proofs.lemmas.List.{length-replicate, get_or-replicate}
@@ -11,10 +11,11 @@ use Rattle.std.specs.List.{AllByRecursion}
 use Rattle.rv_isa_laws.specs.Memory.{Mem}
 use Rattle.rv_map.specs.declared.map.Row.{Row}
 use Rattle.rv_chain_laws.specs.Sites.{Site}
-use Rattle.rv_chain_laws.specs.Fits.{Block, rows_of, Follow, size, aligned, Stand, end_of}
+use Rattle.rv_unit_laws.specs.Tables.{aligned}
+use Rattle.rv_chain_laws.specs.Fits.{Block, rows_of, Follow, size, Stand, end_of}
 use Rattle.rv_chain_laws.specs.Start.{is_within}
 use Rattle.rv_chain_laws.specs.Contents.{contents, zeros}
-use Rattle.rv_chain_laws.proofs.AssembledCode.{HasBytes, bytes_behind}
+use Rattle.rv_chain_laws.proofs.Words.{HasBytes, bytes_behind}
 
 abbrev row_of : Site → Row
 row_of s = s.row

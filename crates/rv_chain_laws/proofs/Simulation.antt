@@ -14,7 +14,7 @@ use Rattle.rv_isa_laws.specs.Kept.{GoesOn, Kept}
 use Rattle.rv_isa_laws.proofs.EffectLaws.{effect_keeps}
 use Rattle.rv_machine_laws.specs.Reader.{Reader}
 use Rattle.rv_machine_laws.specs.Run.{Fetched, Got, NoRight, NoInstruction, fetch, step, run, done, machine_run}
-use Rattle.rv_parse_laws.specs.Statement.{Spoken}
+use Rattle.rv_statement.specs.Statement.{Spoken}
 use Rattle.rv_map.specs.Map.{Map}
 use Rattle.rv_chain_laws.specs.Sites.{Site, Program, program}
 use Rattle.rv_chain_laws.specs.Meaning.{meaning, cost}

@@ -1,17 +1,17 @@
 -- What a linked program holds: the bytes of its regions are those of the statements that stand there.
 
-use Rattle.std.specs.Prelude.{◌≡◌, ℕ, ◌+◌, ◌-◌, ◌*◌, ◌%◌, ◌^◌, ◌<◌, ◌≤◌, IsTrue, List, [], ◌∷◌, ◌++◌, flat_map, length, replicate, Option, Some, None}
+use Rattle.std.specs.Prelude.{◌≡◌, ℕ, ◌+◌, ◌-◌, ◌*◌, ◌≤◌, IsTrue, List, [], ◌∷◌, ◌++◌, flat_map, length, replicate, Option, Some, None}
 use Rattle.std.specs.Int.{w32, to_le_bytes}
 use Rattle.std.specs.List.{AllByRecursion}
 use Rattle.rv_isa.specs.declared.instruction.Inst.{Inst}
-use Rattle.rv_isa.specs.Ranges.{IsValid}
 use Rattle.rv_encode.specs.Word.{form, word}
-use Rattle.rv_parse_laws.specs.Statement.{Spoken}
+use Rattle.rv_statement.specs.Statement.{Spoken}
 use Rattle.rv_image.specs.Linked.{Linked}
-use Rattle.rv_chain_laws.specs.Sections.{goes_to_text, goes_to_rodata, goes_to_data}
+use Rattle.rv_unit_laws.specs.Sections.{goes_to_text, goes_to_rodata, goes_to_data}
 use Rattle.rv_chain_laws.specs.Sites.{Site, Program, program}
 use Rattle.rv_chain_laws.specs.Meaning.{expansion}
-use Rattle.rv_chain_laws.specs.Fits.{Fits, Block, rows_of, blocks, aligned, size}
+use Rattle.rv_unit_laws.specs.Tables.{aligned}
+use Rattle.rv_chain_laws.specs.Fits.{Fits, Block, rows_of, blocks, size}
 use Rattle.rv_chain_laws.specs.Resolves.{Resolves}
 use Rattle.rv_chain_laws.specs.Start.{spelled}
 
@@ -36,7 +36,7 @@ contents bytes stop (b ∷ bs) =
 
 -- a statement is written by words: its instructions, four bytes each
 abbrev pub IsWritten : Program → Site → Type 0
-IsWritten p s = (instructions : List Inst) × (expansion p s ≡ Some instructions) × AllByRecursion IsValid instructions × (s.row.bytes ≡ 4 * length instructions)
+IsWritten p s = (instructions : List Inst) × (expansion p s ≡ Some instructions) × (s.row.bytes ≡ 4 * length instructions)
 
 -- the linked program of sources: its map fits them, and each region has the bytes of its sections, bss zeros
 pub record IsLinked (sources : List (List Spoken)) (text_start : ℕ) (l : Linked) : Type 0 where

@@ -1,30 +1,30 @@
 -- Worked programs with data.
 
-use Rattle.std.specs.Prelude.{ℕ, List, [], ◌∷◌, Bool, false, true, None, codes}
+use Rattle.std.specs.Prelude.{ℕ, List, [], ◌∷◌, false, None, codes}
 use Rattle.rv_isa_laws.specs.Hart.{Outcome, Exited}
-use Rattle.rv_parse_laws.specs.declared.mnemonic.Mnemonic.TheVariants.{Immediate, Ecall}
-use Rattle.rv_parse_laws.specs.declared.mnemonic.ImmediateOperation.TheVariants.{Addi}
-use Rattle.rv_parse_laws.specs.Statement.{Statement, Label, Norvc, Globl, Instruction, Directs, Spoken, Register, Value, Literal, Name, Reference, Here, Minus, Data, Bss, Enters, Opens, Local, Sets, Aligns_to_power, Aligns_to_bytes, Values, Strings, Zeros, Numbered}
+use Rattle.rv_text_laws.specs.declared.operator.UnaryOperator.TheVariants.{Negate}
+use Rattle.rv_text_laws.specs.declared.operator.BinaryOperator.TheVariants.{Add, Subtract, Or, Remainder, ShiftLeft}
+use Rattle.rv_text_laws.specs.Expression.{Symbol, Here, Reference, Leaf, Unary, Binary}
+use Rattle.rv_statement.specs.declared.directive.Standard.TheVariants.{Data, Bss}
+use Rattle.rv_statement.specs.declared.mnemonic.Mnemonic.TheVariants.{Upper, Ecall}
+use Rattle.rv_statement.specs.declared.mnemonic.UpperOperation.TheVariants.{Lui}
+use Rattle.rv_statement.specs.Statement.{Statement, Label, Numbered, Instruction, Directs, Spoken, Expression, Register, Value, Enters, Opens, Globl, Local, Sets, Aligns_to_power, Aligns_to_bytes, Values, Strings, Zeros}
 use Rattle.rv_map.specs.Map.{Map}
-use Rattle.rv_map.specs.declared.map.Row.{Row}
-use Rattle.rv_chain_laws.specs.Exit7.{said, load, row, region, global}
-
--- `addi a1, a1, k`
-abbrev pub forward : ℕ → Statement
-forward k = Instruction (Immediate Addi) (Register 11 ∷ Register 11 ∷ Value (Literal k) ∷ [])
+use Rattle.rv_chain_laws.specs.Exit7.{said, constant, norvc, globl, load, row, region, global}
 
 abbrev pub call : Statement
 call = Instruction Ecall []
 
--- It writes five bytes of constants, with its text at 0:
+abbrev pub symbol : List ℕ → Expression
+symbol name = Leaf (Symbol name)
+
+-- It writes five bytes of constants:
 --
 --     .option norvc
 --     .globl _start
 --     _start:
 --     li a0, 1
---     li a1, 2047
---     addi a1, a1, 2047
---     addi a1, a1, 2
+--     lui a1, 17
 --     li a2, 5
 --     li a7, 64
 --     ecall
@@ -36,52 +36,48 @@ call = Instruction Ecall []
 --     .ascii "hello"
 abbrev pub hello : List Spoken
 hello =
-    said 1 Norvc
-    ∷ said 2 (Globl (codes "_start" ∷ []))
+    said 1 norvc
+    ∷ said 2 (globl (codes "_start"))
     ∷ said 3 (Label (codes "_start"))
     ∷ said 4 (load 10 1)
-    ∷ said 5 (load 11 2047)
-    ∷ said 6 (forward 2047)
-    ∷ said 7 (forward 2)
-    ∷ said 8 (load 12 5)
-    ∷ said 9 (load 17 64)
-    ∷ said 10 call
-    ∷ said 11 (load 10 0)
-    ∷ said 12 (load 17 93)
-    ∷ said 13 call
-    ∷ said 14 (Directs (Opens (codes ".rodata") None None))
-    ∷ said 15 (Label (codes "msg"))
-    ∷ said 16 (Directs (Strings false (codes "hello" ∷ [])))
+    ∷ said 5 (Instruction (Upper Lui) (Register 11 ∷ Value (constant 17) ∷ []))
+    ∷ said 6 (load 12 5)
+    ∷ said 7 (load 17 64)
+    ∷ said 8 call
+    ∷ said 9 (load 10 0)
+    ∷ said 10 (load 17 93)
+    ∷ said 11 call
+    ∷ said 12 (Directs (Opens (codes ".rodata") None None))
+    ∷ said 13 (Label (codes "msg"))
+    ∷ said 14 (Directs (Strings false (codes "hello" ∷ [])))
     ∷ []
 
 abbrev pub hello_map : Map
 hello_map = record {
-  text = region 0 0x28;
-  rodata = region 0x1000 0x1005;
-  «data» = region 0x2000 0x2000;
-  bss = region 0x2000 0x2000;
-  entry = 0;
+  text = region 0x10000 0x10020;
+  rodata = region 0x11000 0x11005;
+  «data» = region 0x12000 0x12000;
+  bss = region 0x12000 0x12000;
+  entry = 0x10000;
   gaps = [];
-  globals = global (codes "_start") 0
-      ∷ global (codes "_etext") 0x28
-      ∷ global (codes "__bss_start") 0x2000
-      ∷ global (codes "_edata") 0x2000
-      ∷ global (codes "_end") 0x2000
-      ∷ global (codes "__global_pointer$") 0x2800
+  globals = global (codes "_start") 0x10000
+      ∷ global (codes "_etext") 0x10020
+      ∷ global (codes "__bss_start") 0x12000
+      ∷ global (codes "_edata") 0x12000
+      ∷ global (codes "_end") 0x12000
+      ∷ global (codes "__global_pointer$") 0x12800
       ∷ [];
-  rows = row 1 3 3 0 0 0
-      ∷ row 1 4 4 0 4 1
-      ∷ row 1 5 5 4 4 1
-      ∷ row 1 6 6 8 4 1
-      ∷ row 1 7 7 12 4 1
-      ∷ row 1 8 8 16 4 1
-      ∷ row 1 9 9 20 4 1
-      ∷ row 1 10 10 24 4 1
-      ∷ row 1 11 11 28 4 1
-      ∷ row 1 12 12 32 4 1
-      ∷ row 1 13 13 36 4 1
-      ∷ row 1 15 15 0x1000 0 0
-      ∷ row 1 16 16 0x1000 5 0
+  rows = row 1 3 3 0x10000 0 0
+      ∷ row 1 4 4 0x10000 4 1
+      ∷ row 1 5 5 0x10004 4 1
+      ∷ row 1 6 6 0x10008 4 1
+      ∷ row 1 7 7 0x1000c 4 1
+      ∷ row 1 8 8 0x10010 4 1
+      ∷ row 1 9 9 0x10014 4 1
+      ∷ row 1 10 10 0x10018 4 1
+      ∷ row 1 11 11 0x1001c 4 1
+      ∷ row 1 13 13 0x11000 0 0
+      ∷ row 1 14 14 0x11000 5 0
       ∷ [];
 }
 
@@ -89,9 +85,7 @@ hello_map = record {
 abbrev pub hello_text : List ℕ
 hello_text =
     0x13 ∷ 0x05 ∷ 0x10 ∷ 0x00
-    ∷ 0x93 ∷ 0x05 ∷ 0xf0 ∷ 0x7f
-    ∷ 0x93 ∷ 0x85 ∷ 0xf5 ∷ 0x7f
-    ∷ 0x93 ∷ 0x85 ∷ 0x25 ∷ 0x00
+    ∷ 0xb7 ∷ 0x15 ∷ 0x01 ∷ 0x00
     ∷ 0x13 ∷ 0x06 ∷ 0x50 ∷ 0x00
     ∷ 0x93 ∷ 0x08 ∷ 0x00 ∷ 0x04
     ∷ 0x73 ∷ 0x00 ∷ 0x00 ∷ 0x00
@@ -116,7 +110,7 @@ says_hello = record { console = codes "hello"; «end» = Exited 0 }
 --     1:
 --     .word -1, 1b, _end
 --     .set limit, 9
---     .set here, .
+--     .set here, . + 2
 --     .half limit
 --     .dword here
 --     .bss
@@ -126,24 +120,24 @@ says_hello = record { console = codes "hello"; «end» = Exited 0 }
 --     .local table
 abbrev pub figures : List Spoken
 figures =
-    said 1 (Globl (codes "_start" ∷ codes "limit" ∷ codes "table" ∷ []))
+    said 1 (Directs (Globl (codes "_start" ∷ codes "limit" ∷ codes "table" ∷ [])))
     ∷ said 2 (Label (codes "_start"))
     ∷ said 3 call
     ∷ said 4 (Directs (Enters Data))
-    ∷ said 5 (Directs (Sets (codes "limit") (Literal 7)))
+    ∷ said 5 (Directs (Sets (codes "limit") (constant 7)))
     ∷ said 6 (Label (codes "table"))
-    ∷ said 7 (Directs (Values 1 (Literal 1 ∷ Name (codes "limit") ∷ [])))
-    ∷ said 8 (Directs (Aligns_to_power (Literal 2)))
-    ∷ said 9 (Directs (Numbered 1))
-    ∷ said 10 (Directs (Values 4 (Minus (Literal 1) ∷ Reference 1 false ∷ Name (codes "_end") ∷ [])))
-    ∷ said 11 (Directs (Sets (codes "limit") (Literal 9)))
-    ∷ said 12 (Directs (Sets (codes "here") Here))
-    ∷ said 13 (Directs (Values 2 (Name (codes "limit") ∷ [])))
-    ∷ said 14 (Directs (Values 8 (Name (codes "here") ∷ [])))
+    ∷ said 7 (Directs (Values 1 (constant 1 ∷ symbol (codes "limit") ∷ [])))
+    ∷ said 8 (Directs (Aligns_to_power (constant 2)))
+    ∷ said 9 (Numbered 1)
+    ∷ said 10 (Directs (Values 4 (Unary Negate (constant 1) ∷ Leaf (Reference (codes "1") false) ∷ symbol (codes "_end") ∷ [])))
+    ∷ said 11 (Directs (Sets (codes "limit") (constant 9)))
+    ∷ said 12 (Directs (Sets (codes "here") (Binary Add (Leaf Here) (constant 2))))
+    ∷ said 13 (Directs (Values 2 (symbol (codes "limit") ∷ [])))
+    ∷ said 14 (Directs (Values 8 (symbol (codes "here") ∷ [])))
     ∷ said 15 (Directs (Enters Bss))
-    ∷ said 16 (Directs (Aligns_to_bytes (Literal 8)))
+    ∷ said 16 (Directs (Aligns_to_bytes (constant 8)))
     ∷ said 17 (Label (codes "room"))
-    ∷ said 18 (Directs (Zeros (Name (codes "limit"))))
+    ∷ said 18 (Directs (Zeros (symbol (codes "limit"))))
     ∷ said 19 (Directs (Local (codes "table" ∷ [])))
     ∷ []
 
@@ -185,5 +179,59 @@ figures_data =
     1 ∷ 7 ∷ 0 ∷ 0
     ∷ 0xff ∷ 0xff ∷ 0xff ∷ 0xff ∷ 0x04 ∷ 0x10 ∷ 0x01 ∷ 0 ∷ 0x29 ∷ 0x10 ∷ 0x01 ∷ 0
     ∷ 9 ∷ 0
-    ∷ 0x10 ∷ 0x10 ∷ 0x01 ∷ 0 ∷ 0 ∷ 0 ∷ 0 ∷ 0
+    ∷ 0x12 ∷ 0x10 ∷ 0x01 ∷ 0 ∷ 0 ∷ 0 ∷ 0 ∷ 0
     ∷ []
+
+-- Differences of places, and operators:
+--
+--     .option norvc
+--     .globl _start
+--     _start:
+--     ecall
+--     .data
+--     a:
+--     .byte 2 + 3 | 4
+--     .align 2
+--     b:
+--     .word b - a, 5 % 3 << 2
+abbrev pub differences : List Spoken
+differences =
+    said 1 norvc
+    ∷ said 2 (globl (codes "_start"))
+    ∷ said 3 (Label (codes "_start"))
+    ∷ said 4 call
+    ∷ said 5 (Directs (Enters Data))
+    ∷ said 6 (Label (codes "a"))
+    ∷ said 7 (Directs (Values 1 (Binary Add (constant 2) (Binary Or (constant 3) (constant 4)) ∷ [])))
+    ∷ said 8 (Directs (Aligns_to_power (constant 2)))
+    ∷ said 9 (Label (codes "b"))
+    ∷ said 10 (Directs (Values 4 (Binary Subtract (symbol (codes "b")) (symbol (codes "a")) ∷ Binary ShiftLeft (Binary Remainder (constant 5) (constant 3)) (constant 2) ∷ [])))
+    ∷ []
+
+abbrev pub differences_map : Map
+differences_map = record {
+  text = region 0x10000 0x10004;
+  rodata = region 0x11000 0x11000;
+  «data» = region 0x11000 0x1100c;
+  bss = region 0x1100c 0x1100c;
+  entry = 0x10000;
+  gaps = [];
+  globals = global (codes "_start") 0x10000
+      ∷ global (codes "_etext") 0x10004
+      ∷ global (codes "__bss_start") 0x1100c
+      ∷ global (codes "_edata") 0x1100c
+      ∷ global (codes "_end") 0x1100c
+      ∷ global (codes "__global_pointer$") 0x11800
+      ∷ [];
+  rows = row 1 3 3 0x10000 0 0
+      ∷ row 1 4 4 0x10000 4 1
+      ∷ row 1 6 6 0x11000 0 0
+      ∷ row 1 7 7 0x11000 1 0
+      ∷ row 1 8 8 0x11001 3 0
+      ∷ row 1 9 9 0x11004 0 0
+      ∷ row 1 10 10 0x11004 8 0
+      ∷ [];
+}
+
+abbrev pub differences_data : List ℕ
+differences_data = 9 ∷ 0 ∷ 0 ∷ 0 ∷ 4 ∷ 0 ∷ 0 ∷ 0 ∷ 8 ∷ 0 ∷ 0 ∷ 0 ∷ []

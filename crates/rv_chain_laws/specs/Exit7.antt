@@ -8,9 +8,12 @@
 
 use Rattle.std.specs.Prelude.{ℕ, List, [], ◌∷◌, codes}
 use Rattle.rv_isa_laws.specs.Hart.{Outcome, Exited}
-use Rattle.rv_parse_laws.specs.declared.mnemonic.Mnemonic.TheVariants.{Immediate, Ecall, Li}
-use Rattle.rv_parse_laws.specs.declared.mnemonic.ImmediateOperation.TheVariants.{Addi}
-use Rattle.rv_parse_laws.specs.Statement.{Statement, Label, Norvc, Globl, Instruction, Spoken, Register, Value, Literal, Minus}
+use Rattle.rv_text_laws.specs.declared.operator.UnaryOperator.TheVariants.{Negate}
+use Rattle.rv_text_laws.specs.Expression.{Literal, Leaf, Unary}
+use Rattle.rv_statement.specs.declared.directive.Choice.TheVariants.{Norvc}
+use Rattle.rv_statement.specs.declared.mnemonic.Mnemonic.TheVariants.{Immediate, Ecall, Li}
+use Rattle.rv_statement.specs.declared.mnemonic.ImmediateOperation.TheVariants.{Addi}
+use Rattle.rv_statement.specs.Statement.{Statement, Label, Instruction, Directs, Spoken, Expression, Register, Value, Globl, Chooses}
 use Rattle.rv_map.specs.Map.{Map, Global}
 use Rattle.rv_map.specs.declared.map.Row.{Row}
 use Rattle.rv_map.specs.declared.map.Region.{Region}
@@ -18,14 +21,25 @@ use Rattle.rv_map.specs.declared.map.Region.{Region}
 abbrev pub said : ℕ → Statement → Spoken
 said line says = record { line = line; says = says }
 
+abbrev pub constant : ℕ → Expression
+constant k = Leaf (Literal k)
+
+-- `.option norvc`
+abbrev pub norvc : Statement
+norvc = Directs (Chooses Norvc)
+
+-- `.globl name`
+abbrev pub globl : List ℕ → Statement
+globl name = Directs (Globl (name ∷ []))
+
 -- `li rd, k`
 abbrev pub load : ℕ → ℕ → Statement
-load rd k = Instruction Li (Register rd ∷ Value (Literal k) ∷ [])
+load rd k = Instruction Li (Register rd ∷ Value (constant k) ∷ [])
 
 abbrev pub exit7 : List Spoken
 exit7 =
-    said 1 Norvc
-    ∷ said 2 (Globl (codes "_start" ∷ []))
+    said 1 norvc
+    ∷ said 2 (globl (codes "_start"))
     ∷ said 3 (Label (codes "_start"))
     ∷ said 3 (load 10 7)
     ∷ said 4 (load 17 93)
@@ -67,11 +81,11 @@ exit7_map = record {
 -- the same with `addi a0, a0, -8` before `li a7, 93`
 abbrev pub exit255 : List Spoken
 exit255 =
-    said 1 Norvc
-    ∷ said 2 (Globl (codes "_start" ∷ []))
+    said 1 norvc
+    ∷ said 2 (globl (codes "_start"))
     ∷ said 3 (Label (codes "_start"))
     ∷ said 3 (load 10 7)
-    ∷ said 4 (Instruction (Immediate Addi) (Register 10 ∷ Register 10 ∷ Value (Minus (Literal 8)) ∷ []))
+    ∷ said 4 (Instruction (Immediate Addi) (Register 10 ∷ Register 10 ∷ Value (Unary Negate (constant 8)) ∷ []))
     ∷ said 5 (load 17 93)
     ∷ said 6 (Instruction Ecall [])
     ∷ []
@@ -100,15 +114,15 @@ exits code = record { console = []; «end» = Exited code }
 -- the two lines that end it in a file of their own: the run goes on from the one file to the next
 abbrev pub first_file : List Spoken
 first_file =
-    said 1 Norvc
-    ∷ said 2 (Globl (codes "_start" ∷ []))
+    said 1 norvc
+    ∷ said 2 (globl (codes "_start"))
     ∷ said 3 (Label (codes "_start"))
     ∷ said 3 (load 10 7)
     ∷ []
 
 abbrev pub second_file : List Spoken
 second_file =
-    said 1 Norvc
+    said 1 norvc
     ∷ said 2 (load 17 93)
     ∷ said 3 (Instruction Ecall [])
     ∷ []

@@ -1,14 +1,19 @@
 -- The map fits the sources: which rows it has, how large each is, and where each stands.
 
-use Rattle.std.specs.Prelude.{◌≡◌, ℕ, suc, ◌+◌, ◌-◌, ◌*◌, ◌/◌, ◌%◌, ◌^◌, ◌≤◌, Bool, true, false, ◌&&◌, not, ◌==◌, IsTrue, ⊤, max, sum_by, map, List, [], ◌∷◌, ◌++◌, filter, length, Option, Some, None, nat_le, nat_lt, if◌then◌else◌}
-use Rattle.std.specs.List.{AllByRecursion}
+use Rattle.std.specs.Prelude.{◌≡◌, ℕ, suc, ◌+◌, ◌*◌, ◌%◌, ◌≤◌, Bool, true, false, ◌&&◌, ◌==◌, IsTrue, ⊤, max, sum_by, map, List, [], ◌∷◌, ◌++◌, filter, length, Option, Some, None, nat_le, nat_lt, slice_index_or, if◌then◌else◌}
+use Rattle.std.specs.List.{AllByRecursion, list_all}
 use Rattle.rv_isa.specs.declared.instruction.Inst.{Inst}
-use Rattle.rv_parse_laws.specs.Statement.{Statement, Label, Norvc, Globl, Instruction, Directs, Spoken, Directive, Sets, Aligns_to_power, Aligns_to_bytes, Values, Strings, Zeros, Numbered}
+use Rattle.rv_isa.specs.Ranges.{IsValid}
+use Rattle.rv_text_laws.specs.Values.{Value, Constant}
+use Rattle.rv_statement.specs.Statement.{Statement, Label, Numbered, Instruction, Directs, Spoken, Directive, Sets, Aligns_to_power, Aligns_to_bytes, Values, Strings, Zeros}
+use Rattle.rv_unit_laws.specs.Sections.{Section, goes_to_text, goes_to_rodata, goes_to_data, goes_to_bss}
+use Rattle.rv_unit_laws.specs.Tables.{Tables, tables, aligned, asked, padding}
+use Rattle.rv_unit_laws.specs.Faults.{first_fault}
 use Rattle.rv_map.specs.Map.{Map}
 use Rattle.rv_map.specs.declared.map.Row.{Row}
 use Rattle.rv_map.specs.declared.map.Region.{Region}
-use Rattle.rv_chain_laws.specs.Sections.{Section, Stated, stated, has_row, goes_to_text, goes_to_rodata, goes_to_data, goes_to_bss, at_first, opened_by}
-use Rattle.rv_chain_laws.specs.Sites.{Site, Program, program, number, has_values}
+use Rattle.rv_chain_laws.specs.Stated.{Stated, stated, has_row}
+use Rattle.rv_chain_laws.specs.Sites.{Site, Program, program, form, has_values, expressions}
 use Rattle.rv_chain_laws.specs.Meaning.{expansion}
 use Rattle.rv_chain_laws.specs.Start.{spelled}
 
@@ -24,65 +29,57 @@ mark_of_row r = record { file = r.file; line = r.line; ordinal = r.ordinal }
 abbrev pub mark_of_stated : Stated → Mark
 mark_of_stated s = record { file = s.file; line = s.line; ordinal = s.ordinal }
 
--- the row of instructions, each of 2 or 4 bytes; no row fits a statement without instructions to stand for it
+-- the row of instructions that are valid, each of 2 or 4 bytes; no row fits a statement without instructions to stand for it
 abbrev pub IsRowOf : Option (List Inst) → Row → Type 0
 IsRowOf None r = ⊥
 IsRowOf (Some instructions) r =
-    (r.instructions ≡ length instructions) × (2 * r.instructions ≤ r.bytes) × (r.bytes ≤ 4 * r.instructions) × (r.bytes % 2 ≡ 0)
+    AllByRecursion IsValid instructions
+    × (r.instructions ≡ length instructions) × (2 * r.instructions ≤ r.bytes) × (r.bytes ≤ 4 * r.instructions) × (r.bytes % 2 ≡ 0)
 
--- the least multiple of an alignment that is not below an address
-abbrev pub aligned : ℕ → ℕ → ℕ
-aligned alignment address = (address + (alignment - 1)) / alignment * alignment
+-- open operands are not built: an instruction's expressions are constants
+abbrev pub is_constant : Value → Bool
+is_constant (Constant n) = true
+is_constant _ = false
 
--- the alignment that a directive asks for: a power of two, or so many bytes
-abbrev pub asked_by : Program → Site → Directive → ℕ
-asked_by p s (Aligns_to_power exponent) = 2 ^ number p s exponent
-asked_by p s (Aligns_to_bytes bytes) = number p s bytes
-asked_by p s _ = 1
-
--- the multiple at which a statement asks its section to begin
-abbrev pub asked : Program → Site → Statement → ℕ
-asked p s (Label name) = 1
-asked p s Norvc = 1
-asked p s (Globl names) = 1
-asked p s (Instruction mnemonic operands) = 1
-asked p s (Directs directive) = asked_by p s directive
+abbrev pub has_constants : Program → Site → Bool
+has_constants p s = list_all (λ e. is_constant (form p s.stated e)) (expressions s.stated.says)
 
 -- the row of data: the bytes that the statement spells, all zero where its section has none in the file
 abbrev pub IsDataRow : Program → Site → Type 0
-IsDataRow p s = IsTrue (not s.stated.home.executable) × IsTrue (has_values p s) × (s.row.bytes ≡ length (spelled p s)) × (s.row.instructions ≡ 0)
+IsDataRow p s = IsTrue (has_values p s) × (s.row.bytes ≡ length (spelled p s)) × (s.row.instructions ≡ 0)
 
-abbrev pub IsStoredRow : Program → Site → Type 0
-IsStoredRow p s = IsTrue (not s.stated.home.nobits) × IsDataRow p s
+-- the least padding for which a row of an alignment ends at a multiple of it
+abbrev pub least_padding : Program → Site → Directive → ℕ
+least_padding p s d = padding (asked (λ e. form p s.stated e) d) s.row.address
 
--- the least padding for which the end is aligned
-abbrev pub padding : ℕ → Row → ℕ
-padding alignment row = aligned alignment row.address - row.address
+-- up to 2
+abbrev pub is_low : Option ℕ → Bool
+is_low None = true
+is_low (Some alignment) = nat_le alignment 2
 
 -- the row of an alignment: in executable sections instructions, and none up to 2; in others zeros
-abbrev pub IsPaddingIn : Bool → Program → Site → ℕ → Type 0
-IsPaddingIn true p s alignment = IsRowOf (expansion p s) s.row × (s.row.bytes ≡ (if nat_le alignment 2 then 0 else padding alignment s.row))
-IsPaddingIn false p s alignment = IsTrue (has_values p s) × (s.row.bytes ≡ padding alignment s.row) × (s.row.instructions ≡ 0)
+abbrev pub IsPaddingIn : Bool → Program → Site → Directive → Type 0
+IsPaddingIn true p s d =
+    IsRowOf (expansion p s) s.row × (s.row.bytes ≡ (if is_low (asked (λ e. form p s.stated e) d) then 0 else least_padding p s d))
+IsPaddingIn false p s d = IsTrue (has_values p s) × (s.row.bytes ≡ least_padding p s d) × (s.row.instructions ≡ 0)
 
-abbrev pub IsPadding : Program → Site → ℕ → Type 0
-IsPadding p s alignment = IsPaddingIn s.stated.home.executable p s alignment
+abbrev pub IsPadding : Program → Site → Directive → Type 0
+IsPadding p s d = IsPaddingIn s.stated.home.executable p s d
 
 abbrev pub DirectiveFits : Program → Site → Directive → Type 0
-DirectiveFits p s (Sets name expression) = IsRowOf (expansion p s) s.row
-DirectiveFits p s (Numbered number) = IsRowOf (expansion p s) s.row
-DirectiveFits p s (Values width values) = IsStoredRow p s
-DirectiveFits p s (Strings ended strings) = IsStoredRow p s
+DirectiveFits p s (Sets name e) = IsRowOf (expansion p s) s.row
+DirectiveFits p s (Values width values) = IsDataRow p s
+DirectiveFits p s (Strings ended strings) = IsDataRow p s
 DirectiveFits p s (Zeros count) = IsDataRow p s
-DirectiveFits p s (Aligns_to_power exponent) = IsPadding p s (asked_by p s (Aligns_to_power exponent))
-DirectiveFits p s (Aligns_to_bytes bytes) = IsPadding p s (asked_by p s (Aligns_to_bytes bytes))
+DirectiveFits p s (Aligns_to_power exponent) = IsPadding p s (Aligns_to_power exponent)
+DirectiveFits p s (Aligns_to_bytes bytes) = IsPadding p s (Aligns_to_bytes bytes)
 DirectiveFits p s _ = ⊥
 
--- the size of a statement's row, by its kind; instructions stand in executable sections
+-- the size of a statement's row, by its kind
 abbrev pub StatementFits : Program → Site → Statement → Type 0
 StatementFits p s (Label name) = IsRowOf (expansion p s) s.row
-StatementFits p s Norvc = ⊥
-StatementFits p s (Globl names) = ⊥
-StatementFits p s (Instruction mnemonic operands) = IsTrue s.stated.home.executable × IsRowOf (expansion p s) s.row
+StatementFits p s (Numbered number) = IsRowOf (expansion p s) s.row
+StatementFits p s (Instruction mnemonic operands) = IsTrue (has_constants p s) × IsRowOf (expansion p s) s.row
 StatementFits p s (Directs directive) = DirectiveFits p s directive
 
 abbrev pub SizeFits : Program → Site → Type 0
@@ -100,30 +97,28 @@ rows_of b = map (λ s. s.row) b.sites
 abbrev pub sites_in : List Site → ℕ → ℕ → List Site
 sites_in sites file section = filter (λ s. (s.stated.file == file) && (s.stated.section == section)) sites
 
--- the greatest alignment that a statement of a section asks for
-abbrev pub greatest : Program → List Site → ℕ
-greatest p [] = 1
-greatest p (s ∷ ss) = max (asked p s s.stated.says) (greatest p ss)
+-- the multiple at which a section begins, by its place in its file: code stands at even addresses
+abbrev pub begins_at : Tables → ℕ → Section → ℕ
+begins_at t place section = max (if goes_to_text section then 2 else 1) (slice_index_or t.alignments place 1)
 
--- code stands at even addresses
-abbrev pub block_of : Program → Section → List Site → Block
-block_of p section sites = record { alignment = max (if goes_to_text section then 2 else 1) (greatest p sites); sites = sites }
+abbrev pub block_of : Tables → Section → List Site → ℕ → ℕ → Block
+block_of t section sites file place = record { alignment = begins_at t place section; sites = sites_in sites file place }
 
 -- the sections of a file that go to a region, from a place on in the file's order
-abbrev pub blocks_of_file : (Section → Bool) → Program → ℕ → ℕ → List Section → List Block
-blocks_of_file goes p file place [] = []
-blocks_of_file goes p file place (section ∷ sections) =
-    let rest = blocks_of_file goes p file (suc place) sections in
-    if goes section then block_of p section (sites_in p.sites file place) ∷ rest else rest
+abbrev pub blocks_of_file : (Section → Bool) → Tables → List Site → ℕ → ℕ → List Section → List Block
+blocks_of_file goes t sites file place [] = []
+blocks_of_file goes t sites file place (section ∷ sections) =
+    let rest = blocks_of_file goes t sites file (suc place) sections in
+    if goes section then block_of t section sites file place ∷ rest else rest
 
 -- the sections that go to a region, in file order and then in the order of the file
-abbrev pub blocks_of : (Section → Bool) → Program → ℕ → List (List Spoken) → List Block
-blocks_of goes p file [] = []
-blocks_of goes p file (statements ∷ files) =
-    blocks_of_file goes p file 0 (opened_by at_first statements).sections ++ blocks_of goes p (suc file) files
+abbrev pub blocks_of : (Section → Bool) → List Site → ℕ → List (List Spoken) → List Block
+blocks_of goes sites file [] = []
+blocks_of goes sites file (ss ∷ files) =
+    blocks_of_file goes (tables ss) sites file 0 (tables ss).opened.sections ++ blocks_of goes sites (suc file) files
 
 abbrev pub blocks : (Section → Bool) → List (List Spoken) → Map → List Block
-blocks goes sources map = blocks_of goes (program sources map) 1 sources
+blocks goes sources m = blocks_of goes (program sources m).sites 1 sources
 
 -- each row starts where the one before ends
 abbrev pub Follow : ℕ → List Row → Type 0
@@ -155,9 +150,9 @@ gaps_of stop (b ∷ bs) =
 abbrev pub Holds : Region → ℕ → List Block → Type 0
 Holds region place bs = (region.start ≡ place) × Stand place bs × (region.end ≡ end_of place bs)
 
-abbrev pub greatest_alignment : List Block → ℕ
-greatest_alignment [] = 1
-greatest_alignment (b ∷ bs) = max b.alignment (greatest_alignment bs)
+abbrev pub greatest : List Block → ℕ
+greatest [] = 1
+greatest (b ∷ bs) = max b.alignment (greatest bs)
 
 -- each statement that has a place has one row, by file and ordinal, and there are no others
 abbrev pub HasRows : List (List Spoken) → Map → Type 0
@@ -165,6 +160,8 @@ HasRows sources m = map mark_of_row m.rows ≡ map mark_of_stated (filter has_ro
 
 -- the map fits the sources, from a text start on
 pub record Fits (sources : List (List Spoken)) (m : Map) (text_start : ℕ) : Type 0 where
+  -- no label and no directive is faulty, and each statement stands in a section that can hold it
+  pub good : AllByRecursion (λ ss. first_fault ss ≡ None) sources
   pub rows : HasRows sources m
   pub sizes : AllByRecursion (SizeFits (program sources m)) (program sources m).sites
   pub text : Holds m.text text_start (blocks goes_to_text sources m)
@@ -172,4 +169,4 @@ pub record Fits (sources : List (List Spoken)) (m : Map) (text_start : ℕ) : Ty
   -- rodata and data begin at pages of 4096 bytes, bss behind data at its greatest alignment
   pub rodata : Holds m.rodata (aligned 4096 m.text.end) (blocks goes_to_rodata sources m)
   pub «data» : Holds m.data (aligned 4096 m.rodata.end) (blocks goes_to_data sources m)
-  pub bss : Holds m.bss (aligned (greatest_alignment (blocks goes_to_bss sources m)) m.data.end) (blocks goes_to_bss sources m)
+  pub bss : Holds m.bss (aligned (greatest (blocks goes_to_bss sources m)) m.data.end) (blocks goes_to_bss sources m)

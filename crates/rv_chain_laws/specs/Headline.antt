@@ -3,7 +3,7 @@
 
 use Rattle.std.specs.Prelude.{◌≡◌, ℕ, ◌<◌, List, [], ◌∷◌, ⊤, None}
 use Rattle.std.specs.List.{AllByRecursion}
-use Rattle.rv_parse_laws.specs.Statement.{Spoken}
+use Rattle.rv_statement.specs.Statement.{Spoken}
 use Rattle.rv_parse_laws.specs.Reading.{Reads}
 use Rattle.rv_map.specs.Map.{Map}
 use Rattle.rv_map.specs.Text.{map_text}

@@ -1,4 +1,4 @@
-pub mod Sections
+pub mod Stated
 pub mod Sites
 pub mod Written
 pub mod Meaning
@@ -11,7 +11,8 @@ pub mod Agrees
 pub mod Headline
 pub mod Exit7
 pub mod Exit7Executable
-pub mod Assembled
 pub mod Contents
 pub mod Data
 pub mod Placed
+pub mod Refusals
+pub mod Refused

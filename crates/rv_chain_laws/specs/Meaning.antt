@@ -7,9 +7,9 @@ use Rattle.rv_isa.specs.declared.instruction.Inst.TheVariants.{Addi as AddImmedi
 use Rattle.rv_isa_laws.specs.Hart.{Hart, advanced}
 use Rattle.rv_isa_laws.specs.Effect.{Effect, Goes, Breaks}
 use Rattle.rv_isa_laws.specs.Meaning.{effect, sets}
-use Rattle.rv_parse_laws.specs.declared.mnemonic.Mnemonic.{Mnemonic}
-use Rattle.rv_parse_laws.specs.declared.mnemonic.Mnemonic.TheVariants.{Registers, Immediate, Shift, Upper, Load, Store, Jalr, LoadReserved, Atomic, Fence, FenceTso, Ecall, Ebreak, Li}
-use Rattle.rv_parse_laws.specs.Statement.{Statement, Label, Norvc, Globl, Instruction, Directs, Operand, Expression, Directive, Sets, Aligns_to_power, Aligns_to_bytes, Numbered}
+use Rattle.rv_statement.specs.declared.mnemonic.Mnemonic.{Mnemonic}
+use Rattle.rv_statement.specs.declared.mnemonic.Mnemonic.TheVariants.{Li}
+use Rattle.rv_statement.specs.Statement.{Statement, Label, Numbered, Instruction, Directs, Operand, Expression, Directive, Sets, Aligns_to_power, Aligns_to_bytes}
 use Rattle.rv_parse_laws.specs.Value.{signed}
 use Rattle.rv_chain_laws.specs.Written.{Argument, Of_register, Of_number, arguments, written}
 use Rattle.rv_chain_laws.specs.Sites.{Site, Program, number, has_values}
@@ -42,8 +42,7 @@ run_directive _ bytes h = Breaks
 -- a statement that isn't executed has no bytes in the text, and so is never run
 abbrev pub run_said : (Expression → ℕ) → Statement → ℕ → Hart → Effect
 run_said v (Label name) bytes h = Breaks
-run_said v Norvc bytes h = Breaks
-run_said v (Globl names) bytes h = Breaks
+run_said v (Numbered number) bytes h = Breaks
 run_said v (Instruction mnemonic operands) bytes h = run_spoken v mnemonic operands bytes h
 run_said v (Directs directive) bytes h = run_directive directive bytes h
 
@@ -81,8 +80,7 @@ padding_count bytes = bytes / 4 + bytes % 4 / 2
 
 -- a place has no bytes, an alignment the instructions of its padding; data are no instructions
 abbrev pub expanded_directive : Directive → ℕ → Option (List Inst)
-expanded_directive (Sets name expression) bytes = Some []
-expanded_directive (Numbered number) bytes = Some []
+expanded_directive (Sets name e) bytes = Some []
 expanded_directive (Aligns_to_power exponent) bytes = Some (replicate (padding_count bytes) no_operation)
 expanded_directive (Aligns_to_bytes alignment) bytes = Some (replicate (padding_count bytes) no_operation)
 expanded_directive _ bytes = None
@@ -90,8 +88,7 @@ expanded_directive _ bytes = None
 -- the base instructions that stand for a statement whose row has so many bytes
 abbrev pub expanded_said : (Expression → ℕ) → Statement → ℕ → Option (List Inst)
 expanded_said v (Label name) bytes = Some []
-expanded_said v Norvc bytes = Some []
-expanded_said v (Globl names) bytes = Some []
+expanded_said v (Numbered number) bytes = Some []
 expanded_said v (Instruction mnemonic operands) bytes = expanded v mnemonic operands
 expanded_said v (Directs directive) bytes = expanded_directive directive bytes
 

@@ -1,10 +1,14 @@
 -- The names of a map: which globals it shows, and where a run begins (gABI, "Symbol Table"; GNU as, ".global").
 
-use Rattle.std.specs.Prelude.{◌≡◌, ℕ, ◌+◌, ◌-◌, Bool, false, not, ◌&&◌, ◌||◌, nat_lt, ⊤, List, [], ◌∷◌, ◌++◌, map, filter, flat_map, Option, Some, None, slice_index_or, codes, bytes_eq, if◌then◌else◌}
+use Rattle.std.specs.Prelude.{◌≡◌, ℕ, ◌+◌, ◌-◌, ◌%◌, Bool, false, not, ◌&&◌, ◌||◌, ◌==◌, ⊤, List, [], ◌∷◌, ◌++◌, filter, flat_map, Option, Some, None, is_some, option_and_then, slice_index_or, codes, bytes_eq, if◌then◌else◌}
 use Rattle.std.specs.List.{find, list_any}
-use Rattle.rv_parse_laws.specs.Statement.{Statement, Label, Globl, Directs, Spoken, Local, Sets}
+use Rattle.rv_text_laws.specs.Values.{Known, Placed, Open, Refused}
+use Rattle.rv_statement.specs.Statement.{Statement, Label, Directs, Spoken, Globl, Local, Sets}
+use Rattle.rv_unit_laws.specs.Sections.{goes_to_text}
+use Rattle.rv_unit_laws.specs.Tables.{Tables, Setting, set_before, set_ever}
 use Rattle.rv_map.specs.Map.{Map, Global}
-use Rattle.rv_chain_laws.specs.Sites.{Entry, Program, program, address_of, entries_in, flatten, setting, settings_from}
+use Rattle.rv_chain_laws.specs.Stated.{Stated}
+use Rattle.rv_chain_laws.specs.Sites.{Entry, Program, program, tables_in, address_of, home_address}
 
 abbrev pub is_one_of : List (List ℕ) → List ℕ → Bool
 is_one_of names name = list_any (λ n. bytes_eq n name) names
@@ -16,7 +20,7 @@ AreDistinct (name ∷ names) = (is_one_of names name ≡ false) × AreDistinct n
 
 -- whether a name is global after a statement, where it was or wasn't before
 abbrev pub made_global : Statement → List ℕ → Bool → Bool
-made_global (Globl names) name before = is_one_of names name || before
+made_global (Directs (Globl names)) name before = is_one_of names name || before
 made_global (Directs (Local names)) name before = not (is_one_of names name) && before
 made_global _ name before = before
 
@@ -37,38 +41,49 @@ abbrev pub shown : List ℕ → Option ℕ → List Global
 shown name None = []
 shown name (Some address) = symbol name address ∷ []
 
-abbrev pub sets_name : List ℕ → Statement → Bool
-sets_name name (Directs (Sets own expression)) = bytes_eq own name
-sets_name name _ = false
+-- ---- definitions
+
+-- a `.set` at an ordinal gives a name for the first time
+abbrev pub sets_first : List Setting → ℕ → List ℕ → Bool
+sets_first settings ordinal name =
+    list_any (λ s. (s.ordinal == ordinal) && bytes_eq s.name name) settings && not (is_some (set_before settings ordinal name))
 
 -- the name that a statement defines: a label's, or one that `.set` gives for the first time
-abbrev pub defined_name : List Entry → ℕ → Statement → List (List ℕ)
-defined_name own ordinal (Label name) = name ∷ []
-defined_name own ordinal (Directs (Sets name expression)) =
-    if list_any (λ e. nat_lt e.stated.ordinal ordinal && sets_name name e.stated.says) own then [] else name ∷ []
-defined_name own ordinal _ = []
+abbrev pub defined_name : Tables → ℕ → Statement → List (List ℕ)
+defined_name t ordinal (Label name) = name ∷ []
+defined_name t ordinal (Directs (Sets name e)) = if sets_first t.settings ordinal name then name ∷ [] else []
+defined_name t ordinal _ = []
 
--- the address or the number of what a statement defines: a label's row's address, the last number that `.set` gives
-abbrev pub defined_address : List Entry → List Global → Entry → Statement → Option ℕ
-defined_address own globals e (Directs (Sets name expression)) = flatten (setting (settings_from own globals [] own) name)
-defined_address own globals e _ = address_of e
+-- the number that `.set` gives, or the address of the place
+abbrev pub set_address : List Entry → ℕ → Option Setting → Option ℕ
+set_address entries file None = None
+set_address entries file (Some s) = elim s.meaning [
+  | Known n ↦ Some n
+  | Placed section offset ↦ home_address entries file (record { ordinal = s.ordinal; plus = s.plus })
+  | Open ↦ None
+  | Refused code ↦ None
+]
 
--- the names that a statement of a file defines for all files
-abbrev pub global_names_of : List (List Spoken) → List Entry → Entry → List (List ℕ)
-global_names_of sources own e =
-    filter (λ name. is_global_in sources e.stated.file name) (defined_name own e.stated.ordinal e.stated.says)
+-- the address or the number of what a statement defines: a label's row's address, or what `.set` gives the name last
+abbrev pub defined_address : Tables → List Entry → Entry → Statement → Option ℕ
+defined_address t entries e (Directs (Sets name expression)) = set_address entries e.stated.file (set_ever t.settings name)
+defined_address t entries e _ = address_of e
 
--- those names with their addresses; one in a section that isn't loaded has none
+-- the name that a statement of a file defines for all files
+abbrev pub global_names_of : List (List Spoken) → Tables → Stated → List (List ℕ)
+global_names_of sources t s = filter (λ name. is_global_in sources s.file name) (defined_name t s.ordinal s.says)
+
+-- that name with its address; one in a section that isn't loaded has none
 abbrev pub defined_by : List (List Spoken) → Program → Entry → List Global
 defined_by sources p e =
-    let own = entries_in p.entries e.stated.file in
-    flat_map (λ name. shown name (defined_address own p.map.globals e e.stated.says)) (global_names_of sources own e)
+    let t = tables_in p e.stated.file in
+    flat_map (λ name. shown name (defined_address t p.entries e e.stated.says)) (global_names_of sources t e.stated)
 
 -- the names that are defined for all files, by file and then in the order of definition
 abbrev pub global_names : List (List Spoken) → Map → List (List ℕ)
 global_names sources m =
     let p = program sources m in
-    flat_map (λ e. global_names_of sources (entries_in p.entries e.stated.file) e) p.entries
+    flat_map (λ e. global_names_of sources (tables_in p e.stated.file) e.stated) p.entries
 
 -- the global definitions of a list of sources, by file and then in the order of definition
 abbrev pub definitions : List (List Spoken) → Map → List Global
@@ -86,8 +101,18 @@ linker_symbols m =
     ∷ symbol (codes "__global_pointer$") (m.data.start + 0x800)
     ∷ []
 
-abbrev pub names_of : List Global → List (List ℕ)
-names_of globals = map (λ g. g.name) globals
+-- ---- the entry
+
+-- a label `_start` of a section of text that its file makes global
+abbrev pub is_start : Statement → Bool
+is_start (Label name) = bytes_eq name (codes "_start")
+is_start _ = false
+
+abbrev pub begins_run : List (List Spoken) → Stated → Bool
+begins_run sources s = is_start s.says && goes_to_text s.home && is_global_in sources s.file (codes "_start")
+
+abbrev pub starts_at : Option Entry → Option ℕ
+starts_at found = option_and_then address_of found
 
 -- the map resolves the names of the sources
 pub record Resolves (sources : List (List Spoken)) (m : Map) : Type 0 where
@@ -95,5 +120,6 @@ pub record Resolves (sources : List (List Spoken)) (m : Map) : Type 0 where
   pub globals : m.globals ≡ definitions sources m ++ filter (λ g. not (is_one_of (global_names sources m) g.name)) (linker_symbols m)
   -- no name has two global definitions
   pub once : AreDistinct (global_names sources m)
-  -- a run begins at the global _start
-  pub entry : find (λ g. bytes_eq g.name (codes "_start")) (definitions sources m) ≡ Some (symbol (codes "_start") m.entry)
+  -- a run begins at the global label _start, an even place of a section of text
+  pub entry : starts_at (find (λ e. begins_run sources e.stated) (program sources m).entries) ≡ Some m.entry
+  pub even : m.entry % 2 ≡ 0

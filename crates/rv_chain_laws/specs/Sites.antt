@@ -1,12 +1,15 @@
 -- The statements of the sources where they stand in the map, and the values of their expressions there
 -- (Assembly Programmer's Manual; GNU as, "Symbols" and "Expressions").
 
-use Rattle.std.specs.Prelude.{ℕ, ◌-◌, ◌%◌, ◌^◌, Bool, true, false, ◌&&◌, ◌==◌, nat_lt, if◌then◌else◌, List, [], ◌∷◌, ◌++◌, drop, filter, flat_map, map, reverse, Option, Some, None, is_some, option_map, unwrap_or, bytes_eq}
+use Rattle.std.specs.Prelude.{ℕ, ◌-◌, Bool, true, ◌&&◌, ◌==◌, if◌then◌else◌, List, [], ◌∷◌, drop, flat_map, map, Option, Some, None, is_some, option_map, option_and_then, unwrap_or, bytes_eq, slice_index_or}
 use Rattle.std.specs.List.{find, list_all}
-use Rattle.rv_parse_laws.specs.Statement.{Statement, Label, Norvc, Globl, Instruction, Directs, Spoken, Expression, Literal, Name, Reference, Here, Minus, Operand, Register, Value, Accesses, Directive, Sets, Aligns_to_power, Aligns_to_bytes, Values, Zeros, Numbered}
+use Rattle.rv_text_laws.specs.Expression.{Primary, Symbol}
+use Rattle.rv_text_laws.specs.Values.{Value, Constant, Symbolic, Difference, Faulty, add, subtract}
+use Rattle.rv_statement.specs.Statement.{Statement, Label, Numbered, Instruction, Directs, Spoken, Expression, Operand, Value as Of_value, Directive, Aligns_to_power, Aligns_to_bytes, Values, Zeros}
+use Rattle.rv_unit_laws.specs.Tables.{Tables, Place, Home, tables, at_start, home, value as value_in_file}
 use Rattle.rv_map.specs.Map.{Map, Global}
 use Rattle.rv_map.specs.declared.map.Row.{Row}
-use Rattle.rv_chain_laws.specs.Sections.{Stated, stated, has_row, is_place}
+use Rattle.rv_chain_laws.specs.Stated.{Stated, stated, has_row}
 
 -- a statement with its row, if it has one
 pub record Entry : Type 0 where
@@ -37,118 +40,83 @@ seated stated (Some row) = record { stated = stated; row = row } ∷ []
 abbrev pub sites_of : List Entry → List Site
 sites_of entries = flat_map (λ e. seated e.stated e.row) entries
 
--- what is executed in source steps: the statements, those that have rows, and the map
+-- what is executed in source steps: what the names of each file mean, the statements, those that have rows, and the map
 pub record Program : Type 0 where
+  pub tables : List Tables
   pub entries : List Entry
   pub sites : List Site
   pub map : Map
 
-abbrev pub program_at : List Entry → Map → Program
-program_at entries map = record { entries = entries; sites = sites_of entries; map = map }
+abbrev pub program_at : List Tables → List Entry → Map → Program
+program_at ts entries m = record { tables = ts; entries = entries; sites = sites_of entries; map = m }
 
 abbrev pub program : List (List Spoken) → Map → Program
-program sources map = program_at (entries_of (stated sources) map.rows) map
+program sources m = program_at (map tables sources) (entries_of (stated sources) m.rows) m
 
--- ---- values
-
--- the value of an expression, by those of names, of numeric references and of `.`: 64-bit two's complement that wraps
-abbrev pub value_by : (List ℕ → Option ℕ) → (ℕ → Bool → Option ℕ) → Option ℕ → Expression → Option ℕ
-value_by names references here (Literal number) = Some number
-value_by names references here (Name name) = names name
-value_by names references here (Reference number forward) = references number forward
-value_by names references here Here = here
-value_by names references here (Minus negated) = option_map (λ n. (2 ^ 64 - n) % 2 ^ 64) (value_by names references here negated)
-
--- what the first of two knows of a name; `Some None` is a name that is known to have no address
-abbrev pub or_else : Option (Option ℕ) → Option ℕ → Option ℕ
-or_else (Some known) other = known
-or_else None other = other
+-- ---- addresses
 
 abbrev pub address_of : Entry → Option ℕ
 address_of e = option_map (λ r. r.address) e.row
 
-abbrev pub is_label : List ℕ → Statement → Bool
-is_label name (Label own) = bytes_eq own name
-is_label name _ = false
+-- the address of a file's statement of this ordinal; none where it has no row
+abbrev pub address_at : List Entry → ℕ → ℕ → Option ℕ
+address_at entries file ordinal =
+    option_and_then address_of (find (λ e. (e.stated.file == file) && (e.stated.ordinal == ordinal)) entries)
 
-abbrev pub is_numbered : ℕ → Statement → Bool
-is_numbered number (Directs (Numbered own)) = own == number
-is_numbered number _ = false
-
--- the entries of a file, and its own label; one in a section that isn't loaded has no address
-abbrev pub entries_in : List Entry → ℕ → List Entry
-entries_in entries file = filter (λ e. e.stated.file == file) entries
-
-abbrev pub own_label : List Entry → List ℕ → Option (Option ℕ)
-own_label own name = option_map address_of (find (λ e. is_label name e.stated.says) own)
-
-abbrev pub flatten : Option (Option ℕ) → Option ℕ
-flatten found = or_else found None
-
--- the nearest numeric label of a file after a statement, or before it
-abbrev pub numbered : List Entry → ℕ → ℕ → Bool → Option ℕ
-numbered own ordinal number true =
-    flatten (option_map address_of (find (λ e. nat_lt ordinal e.stated.ordinal && is_numbered number e.stated.says) own))
-numbered own ordinal number false =
-    flatten (option_map address_of (find (λ e. nat_lt e.stated.ordinal ordinal && is_numbered number e.stated.says) (reverse own)))
+-- the address of a place of a file
+abbrev pub home_address : List Entry → ℕ → Home → Option ℕ
+home_address entries file h = option_map (λ a. add a h.plus) (address_at entries file h.ordinal)
 
 -- the address of a name that every file can mean
 abbrev pub global_address : List Global → List ℕ → Option ℕ
 global_address globals name = option_map (λ g. g.address) (find (λ g. bytes_eq g.name name) globals)
 
--- what a `.set` gives a name: a constant, or a place
-pub record Setting : Type 0 where
-  pub name : List ℕ
-  pub place : Bool
-  pub number : Option ℕ
+-- the address of what is no place of its own file
+abbrev pub outer_address : List Global → Primary → Option ℕ
+outer_address globals (Symbol name) = global_address globals name
+outer_address globals _ = None
 
-abbrev pub setting : List Setting → List ℕ → Option (Option ℕ)
-setting settings name = option_map (λ s. s.number) (find (λ s. bytes_eq s.name name) settings)
+abbrev pub address_by : List Entry → List Global → ℕ → Primary → Option Home → Option ℕ
+address_by entries globals file q None = outer_address globals q
+address_by entries globals file q (Some h) = home_address entries file h
 
--- what a name means in a file: its latest earlier setting, its own label, a later setting, else the global of that name
-abbrev pub named : List Setting → List Setting → List Entry → List Global → List ℕ → Option ℕ
-named earlier later own globals name =
-    or_else (setting earlier name) (or_else (own_label own name) (or_else (setting later name) (global_address globals name)))
+-- the tables of a file, which are numbered from 1
+abbrev pub tables_in : Program → ℕ → Tables
+tables_in p file = slice_index_or p.tables (file - 1) at_start
 
-abbrev pub settings_by : Statement → (Expression → Option ℕ) → List Setting
-settings_by (Directs (Sets name expression)) v = record { name = name; place = is_place expression; number = v expression } ∷ []
-settings_by _ v = []
+-- the address of a name, a reference or `.` in a statement
+abbrev pub address : Program → Stated → Primary → Option ℕ
+address p s q = address_by p.entries p.map.globals s.file q (home (tables_in p s.file) s.ordinal q)
 
--- the settings of statements of a file, the latest first, behind the earlier ones
-abbrev pub settings_from : List Entry → List Global → List Setting → List Entry → List Setting
-settings_from own globals earlier [] = earlier
-settings_from own globals earlier (e ∷ es) =
-    settings_from own globals (settings_by e.stated.says (value_by (named earlier [] own globals) (numbered own e.stated.ordinal) (address_of e)) ++ earlier) es
+-- ---- values
 
--- the settings of a file before an ordinal
-abbrev pub settings_before : List Entry → List Global → ℕ → List Setting
-settings_before own globals ordinal = settings_from own globals [] (filter (λ e. nat_lt e.stated.ordinal ordinal) own)
+-- the number of a value, by the addresses of its symbols
+abbrev pub resolved : (Primary → Option ℕ) → Value → Option ℕ
+resolved a (Constant n) = Some n
+resolved a (Symbolic q at k) = option_map (λ x. add x k) (a q)
+resolved a (Difference q r k) = option_and_then (λ x. option_map (λ y. add (subtract x y) k) (a r)) (a q)
+resolved a (Faulty code) = None
 
--- a place may be named before its `.set`, a constant may not
-abbrev pub as_later : Setting → Setting
-as_later s = record s { number = if s.place then s.number else None }
+abbrev pub place_of : Stated → Place
+place_of s = record { section = s.section; offset = s.offset }
 
-abbrev pub settings_later : List Entry → List Global → List Setting
-settings_later own globals = map as_later (settings_from own globals [] own)
+-- what an expression of a statement is in its file: a constant, or one with a symbol or with a difference of two
+abbrev pub form : Program → Stated → Expression → Value
+form p s e = value_in_file (tables_in p s.file) true s.ordinal (place_of s) e
 
 -- the value of an expression at a site; none where a name in it has no meaning
 abbrev pub value : Program → Site → Expression → Option ℕ
-value p s e =
-    let own = entries_in p.entries s.stated.file in
-    value_by (named (settings_before own p.map.globals s.stated.ordinal) (settings_later own p.map.globals) own p.map.globals)
-    (numbered own s.stated.ordinal) (Some s.row.address) e
+value p s e = resolved (λ q. address p s.stated q) (form p s.stated e)
 
 abbrev pub number : Program → Site → Expression → ℕ
 number p s e = unwrap_or (value p s e) 0
 
--- the expressions that a statement evaluates
+-- the expressions that a statement evaluates where it stands; what `.set` gives stands in the tables
 abbrev pub in_operand : Operand → List Expression
-in_operand (Register register) = []
-in_operand (Value expression) = expression ∷ []
-in_operand (Accesses set) = []
+in_operand (Of_value e) = e ∷ []
+in_operand _ = []
 
 abbrev pub in_directive : Directive → List Expression
-in_directive (Sets name expression) = expression ∷ []
 in_directive (Aligns_to_power exponent) = exponent ∷ []
 in_directive (Aligns_to_bytes bytes) = bytes ∷ []
 in_directive (Values width values) = values
@@ -157,8 +125,7 @@ in_directive _ = []
 
 abbrev pub expressions : Statement → List Expression
 expressions (Label name) = []
-expressions Norvc = []
-expressions (Globl names) = []
+expressions (Numbered number) = []
 expressions (Instruction mnemonic operands) = flat_map in_operand operands
 expressions (Directs directive) = in_directive directive
 

@@ -5,7 +5,7 @@ use Rattle.std.specs.List.{find, list_any}
 use Rattle.rv_isa_laws.specs.Memory.{Mem}
 use Rattle.rv_isa_laws.specs.Hart.{Hart, Outcome, Illegal, FetchOutside, Astray, Limit, start, stop}
 use Rattle.rv_isa_laws.specs.Effect.{Next, Over, apply, follow}
-use Rattle.rv_parse_laws.specs.Statement.{Spoken}
+use Rattle.rv_statement.specs.Statement.{Spoken}
 use Rattle.rv_map.specs.Map.{Map}
 use Rattle.rv_chain_laws.specs.Sites.{Site, Program, program}
 use Rattle.rv_chain_laws.specs.Meaning.{meaning, cost}

@@ -1,10 +1,11 @@
 -- Memory at the start of a source run: what the data statements spell at their rows, and the rights of the regions
 -- (GNU as, "Pseudo Ops", for the data directives).
 
-use Rattle.std.specs.Prelude.{ℕ, zero, suc, ◌+◌, ◌-◌, ◌/◌, ◌%◌, Bool, ◌&&◌, ◌||◌, nat_le, nat_lt, List, [], ◌∷◌, ◌++◌, flat_map, replicate, Option, Some, None, slice_index, if◌then◌else◌}
+use Rattle.std.specs.Prelude.{ℕ, zero, suc, ◌+◌, ◌-◌, ◌/◌, ◌%◌, Bool, ◌&&◌, ◌||◌, nat_le, nat_lt, List, [], ◌∷◌, flat_map, replicate, Option, Some, None, slice_index}
 use Rattle.std.specs.List.{find}
 use Rattle.rv_isa_laws.specs.Memory.{Mem, Right, Read, Write, Execute}
-use Rattle.rv_parse_laws.specs.Statement.{Statement, Label, Norvc, Globl, Instruction, Directs, Expression, Directive, Aligns_to_power, Aligns_to_bytes, Values, Strings, Zeros}
+use Rattle.rv_statement.specs.Statement.{Statement, Label, Numbered, Instruction, Directs, Expression, Directive, Aligns_to_power, Aligns_to_bytes, Values, Strings, Zeros}
+use Rattle.rv_unit_laws.specs.Tables.{string_bytes}
 use Rattle.rv_map.specs.Map.{Map}
 use Rattle.rv_map.specs.declared.map.Region.{Region}
 use Rattle.rv_image.specs.Segment.{stack_start, stack_end}
@@ -22,10 +23,6 @@ abbrev pub little_endian : ℕ → ℕ → List ℕ
 little_endian zero n = []
 little_endian (suc width) n = n % 256 ∷ little_endian width (n / 256)
 
--- the bytes of strings, where asked with a zero byte behind each
-abbrev pub string_bytes : Bool → List (List ℕ) → List ℕ
-string_bytes ended strings = flat_map (λ s. s ++ (if ended then 0 ∷ [] else [])) strings
-
 -- the bytes that a directive spells in so many bytes, by the values of expressions; an alignment's padding is zeros
 abbrev pub spelled_directive : (Expression → ℕ) → Directive → ℕ → List ℕ
 spelled_directive v (Values width values) bytes = flat_map (λ e. little_endian width (v e)) values
@@ -38,8 +35,7 @@ spelled_directive v _ bytes = []
 -- the bytes that a statement spells in data; the text holds none
 abbrev pub spelled_said : (Expression → ℕ) → Statement → ℕ → List ℕ
 spelled_said v (Label name) bytes = []
-spelled_said v Norvc bytes = []
-spelled_said v (Globl names) bytes = []
+spelled_said v (Numbered number) bytes = []
 spelled_said v (Instruction mnemonic operands) bytes = []
 spelled_said v (Directs directive) bytes = spelled_directive v directive bytes
 

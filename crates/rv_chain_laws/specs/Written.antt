@@ -1,7 +1,7 @@
 -- The base instruction that a mnemonic writes with its operands (RISC-V Unprivileged ISA 20191213, chapter 24; GNU as,
 -- "RISC-V-Instructions", for operands that may be left out and for a constant as second source).
 
-use Rattle.std.specs.Prelude.{ℕ, Bool, true, false, List, [], ◌∷◌, map, Option, Some, None}
+use Rattle.std.specs.Prelude.{ℕ, Bool, true, false, List, [], ◌∷◌, Option, Some, None}
 use Rattle.std.specs.Int.{from_bool}
 use Rattle.std.specs.Prelude.{◌+◌, ◌*◌}
 use Rattle.rv_isa.specs.declared.instruction.RType.{RType}
@@ -13,25 +13,25 @@ use Rattle.rv_isa.specs.declared.instruction.Atomic.{Atomic as AtomicOperands}
 use Rattle.rv_isa.specs.declared.instruction.Reserve.{Reserve}
 use Rattle.rv_isa.specs.declared.instruction.Inst.{Inst}
 use Rattle.rv_isa.specs.declared.instruction.Inst.TheVariants as inst
-use Rattle.rv_parse_laws.specs.declared.mnemonic.RegisterOperation.{RegisterOperation}
-use Rattle.rv_parse_laws.specs.declared.mnemonic.RegisterOperation.TheVariants.{Add, Sub, Sll, Slt, Sltu, Xor, Srl, Sra, Or, And, Addw, Subw, Sllw, Srlw, Sraw, Mul, Mulh, Mulhsu, Mulhu, Div, Divu, Rem, Remu, Mulw, Divw, Divuw, Remw, Remuw}
-use Rattle.rv_parse_laws.specs.declared.mnemonic.ImmediateOperation.{ImmediateOperation}
-use Rattle.rv_parse_laws.specs.declared.mnemonic.ImmediateOperation.TheVariants.{Addi, Slti, Sltiu, Xori, Ori, Andi, Addiw}
-use Rattle.rv_parse_laws.specs.declared.mnemonic.ShiftOperation.{ShiftOperation}
-use Rattle.rv_parse_laws.specs.declared.mnemonic.ShiftOperation.TheVariants.{Slli, Srli, Srai, Slliw, Srliw, Sraiw}
-use Rattle.rv_parse_laws.specs.declared.mnemonic.UpperOperation.{UpperOperation}
-use Rattle.rv_parse_laws.specs.declared.mnemonic.UpperOperation.TheVariants.{Lui, Auipc}
-use Rattle.rv_parse_laws.specs.declared.mnemonic.LoadOperation.{LoadOperation}
-use Rattle.rv_parse_laws.specs.declared.mnemonic.LoadOperation.TheVariants.{Lb, Lh, Lw, Ld, Lbu, Lhu, Lwu}
-use Rattle.rv_parse_laws.specs.declared.mnemonic.StoreOperation.{StoreOperation}
-use Rattle.rv_parse_laws.specs.declared.mnemonic.StoreOperation.TheVariants.{Sb, Sh, Sw, Sd}
-use Rattle.rv_parse_laws.specs.declared.mnemonic.AtomicOperation.{AtomicOperation}
-use Rattle.rv_parse_laws.specs.declared.mnemonic.AtomicOperation.TheVariants.{Sc, Amoswap, Amoadd, Amoxor, Amoand, Amoor, Amomin, Amomax, Amominu, Amomaxu}
-use Rattle.rv_parse_laws.specs.declared.mnemonic.AccessSet.{AccessSet}
-use Rattle.rv_parse_laws.specs.declared.mnemonic.AtomicForm.{AtomicForm}
-use Rattle.rv_parse_laws.specs.declared.mnemonic.Mnemonic.{Mnemonic}
-use Rattle.rv_parse_laws.specs.declared.mnemonic.Mnemonic.TheVariants.{Registers, Immediate, Shift, Upper, Load, Store, Jalr, LoadReserved, Atomic, Fence, FenceTso, Ecall, Ebreak, Li}
-use Rattle.rv_parse_laws.specs.Statement.{Operand, Register, Value, Accesses, Expression}
+use Rattle.rv_statement.specs.declared.mnemonic.RegisterOperation.{RegisterOperation}
+use Rattle.rv_statement.specs.declared.mnemonic.RegisterOperation.TheVariants.{Add, Sub, Sll, Slt, Sltu, Xor, Srl, Sra, Or, And, Addw, Subw, Sllw, Srlw, Sraw, Mul, Mulh, Mulhsu, Mulhu, Div, Divu, Rem, Remu, Mulw, Divw, Divuw, Remw, Remuw}
+use Rattle.rv_statement.specs.declared.mnemonic.ImmediateOperation.{ImmediateOperation}
+use Rattle.rv_statement.specs.declared.mnemonic.ImmediateOperation.TheVariants.{Addi, Slti, Sltiu, Xori, Ori, Andi, Addiw}
+use Rattle.rv_statement.specs.declared.mnemonic.ShiftOperation.{ShiftOperation}
+use Rattle.rv_statement.specs.declared.mnemonic.ShiftOperation.TheVariants.{Slli, Srli, Srai, Slliw, Srliw, Sraiw}
+use Rattle.rv_statement.specs.declared.mnemonic.UpperOperation.{UpperOperation}
+use Rattle.rv_statement.specs.declared.mnemonic.UpperOperation.TheVariants.{Lui, Auipc}
+use Rattle.rv_statement.specs.declared.mnemonic.LoadOperation.{LoadOperation}
+use Rattle.rv_statement.specs.declared.mnemonic.LoadOperation.TheVariants.{Lb, Lh, Lw, Ld, Lbu, Lhu, Lwu}
+use Rattle.rv_statement.specs.declared.mnemonic.StoreOperation.{StoreOperation}
+use Rattle.rv_statement.specs.declared.mnemonic.StoreOperation.TheVariants.{Sb, Sh, Sw, Sd}
+use Rattle.rv_statement.specs.declared.mnemonic.AtomicOperation.{AtomicOperation}
+use Rattle.rv_statement.specs.declared.mnemonic.AtomicOperation.TheVariants.{Sc, Amoswap, Amoadd, Amoxor, Amoand, Amoor, Amomin, Amomax, Amominu, Amomaxu}
+use Rattle.rv_statement.specs.declared.mnemonic.AccessSet.{AccessSet}
+use Rattle.rv_statement.specs.declared.mnemonic.AtomicForm.{AtomicForm}
+use Rattle.rv_statement.specs.declared.mnemonic.Mnemonic.{Mnemonic}
+use Rattle.rv_statement.specs.declared.mnemonic.Mnemonic.TheVariants.{Registers, Immediate, Shift, Upper, Load, Store, Jalr, LoadReserved, Atomic, Fence, FenceTso, Ecall, Ebreak}
+use Rattle.rv_statement.specs.Statement.{Operand, Register, Value, Accesses, Word, Quoted, Expression}
 use Rattle.rv_parse_laws.specs.Syntax.{with_constant}
 use Rattle.rv_parse_laws.specs.Value.{signed}
 
@@ -163,11 +163,15 @@ pub data Argument : Type 0 where
   Of_register : (number : ℕ) → Argument
   Of_number : (number : ℕ) → Argument
   Of_accesses : (set : AccessSet) → Argument
+  -- a word or a string, which no instruction has
+  Of_text : (bytes : List ℕ) → Argument
 
 abbrev pub argument : (Expression → ℕ) → Operand → Argument
 argument v (Register number) = Of_register number
 argument v (Value e) = Of_number (v e)
 argument v (Accesses set) = Of_accesses set
+argument v (Word name) = Of_text name
+argument v (Quoted bytes) = Of_text bytes
 
 abbrev pub arguments : (Expression → ℕ) → List Operand → List Argument
 arguments v [] = []

@@ -1,9 +1,10 @@
 //! The law: whenever memory holds a program, the machine's run over it agrees with the run of its
 //! statements.
 
-ghost use Rattle.std.specs.Prelude.{◌≡◌, ℕ, ◌^◌, ◌%◌, ◌<◌, List};
+ghost use Rattle.std.specs.Prelude.{◌≡◌, ℕ, ◌^◌, ◌%◌, ◌<◌, List, [], ◌∷◌, None, true};
+ghost use Rattle.rv_unit_laws.specs.Faults.{first_fault};
 ghost use Rattle.rv_isa_laws.specs.Memory.{Mem};
-ghost use Rattle.rv_parse_laws.specs.Statement.{Spoken};
+ghost use Rattle.rv_statement.specs.Statement.{Spoken};
 ghost use Rattle.rv_map.specs.Map.{Map};
 ghost use Rattle.rv_encode.specs.Word.{Spells};
 ghost use Rattle.rv_compress.specs.Parcel.{StandsFor};
@@ -16,7 +17,9 @@ ghost use Rattle.rv_chain_laws.specs.SourceRun.{source_run};
 ghost use Rattle.rv_chain_laws.specs.Headline.{RunsAgree};
 ghost use Rattle.rv_chain_laws.specs.Contents.{IsLinked};
 ghost use Rattle.rv_chain_laws.specs.Fits.{Fits};
+ghost use Rattle.rv_chain_laws.specs.Resolves.{AreDistinct, global_names};
 ghost use Rattle.rv_chain_laws.specs.Placed.{IsLaidFrom};
+ghost use Rattle.rv_chain_laws.specs.Refusals.{IsMapOf, has_entry};
 ghost use Rattle.rv_image.specs.Linked.{Linked};
 ghost use Rattle.rv_image.specs.Executable.{linked_image};
 
@@ -29,11 +32,21 @@ pub fn runs_agree()
 /// Where the regions of a linked program hold the sections of its sources, code and data, the image
 /// of the program runs as their statements do, for every input and every limit.
 pub fn linked_runs_agree()
-    ensures { (start : ℕ) (sources : List (List Spoken)) (l : Linked) → IsLinked sources start l → l.map.entry < 2 ^ 64 → l.map.entry % 2 ≡ 0 → RunsAgree sources l.map (linked_image l) }
+    ensures { (start : ℕ) (sources : List (List Spoken)) (l : Linked) → IsLinked sources start l → RunsAgree sources l.map (linked_image l) }
 {}
 
 /// A map that is laid out section by section fits its sources: each row stands at the next place of its
 /// section, and the sections of a region stand one behind the other.
 pub fn laid_out_fits()
     ensures { (start : ℕ) (sources : List (List Spoken)) (map : Map) → IsLaidFrom start sources map → Fits sources map start }
+{}
+
+/// In one source without a faulty label or directive no name has two global definitions.
+pub fn names_are_distinct()
+    ensures { (ss : List Spoken) (map : Map) → first_fault ss ≡ None → AreDistinct (global_names (ss ∷ []) map) }
+{}
+
+/// A source that has a map has an entry: no source is refused both for want of one and for its size.
+pub fn a_map_has_an_entry()
+    ensures { (start : ℕ) (ss : List Spoken) (map : Map) → IsMapOf start ss map → has_entry ss ≡ true }
 {}

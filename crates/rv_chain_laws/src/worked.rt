@@ -4,7 +4,6 @@ ghost use Rattle.std.specs.Prelude.{◌≡◌, [], ◌∷◌, None, length, code
 ghost use Rattle.rv_isa_laws.specs.Hart.{Limit};
 ghost use Rattle.rv_chain_laws.specs.Exit7.{exit7, exit7_map, exit7_text, exit255, exit255_map, first_file, second_file, two_files_map, exits};
 ghost use Rattle.rv_chain_laws.specs.Exit7Executable.{exit7_file, exit7_image, exit7_linked};
-ghost use Rattle.rv_chain_laws.specs.Assembled.{IsProgram};
 ghost use Rattle.rv_map.specs.Text.{map_text};
 ghost use Rattle.rv_image.specs.Executable.{exe_of};
 ghost use Rattle.rv_image.specs.ImageOf.{ImageOf};
@@ -14,9 +13,9 @@ ghost use Rattle.rv_encode.specs.Word.{Spells};
 ghost use Rattle.rv_compress.specs.Parcel.{StandsFor};
 ghost use Rattle.rv_machine_laws.specs.Reader.{Reader};
 ghost use Rattle.rv_machine_laws.specs.Run.{machine_run};
-ghost use Rattle.rv_chain_laws.specs.Contents.{contents, code_bytes};
-ghost use Rattle.rv_chain_laws.specs.Data.{hello, hello_map, says_hello, figures, figures_map, figures_data, hello_text};
-ghost use Rattle.rv_chain_laws.specs.Sections.{goes_to_data, goes_to_text, goes_to_rodata};
+ghost use Rattle.rv_chain_laws.specs.Contents.{IsLinked, contents, code_bytes};
+ghost use Rattle.rv_chain_laws.specs.Data.{hello, hello_map, says_hello, hello_text, figures, figures_map, figures_data, differences, differences_map, differences_data};
+ghost use Rattle.rv_unit_laws.specs.Sections.{goes_to_data, goes_to_text, goes_to_rodata};
 ghost use Rattle.rv_chain_laws.specs.Sites.{program};
 ghost use Rattle.rv_chain_laws.specs.Start.{spelled};
 ghost use Rattle.rv_chain_laws.specs.Fits.{Fits, blocks};
@@ -56,7 +55,7 @@ pub fn exit7_shows()
 
 /// The program is linked with its 12 bytes of code at 10000h.
 pub fn exit7_links()
-    ensures { IsProgram 0x10000 exit7 exit7_linked }
+    ensures { IsLinked (exit7 ∷ []) 0x10000 exit7_linked }
 {}
 
 /// Its executable: 4108 bytes, the code at their end.
@@ -90,7 +89,7 @@ pub fn hello_runs()
 
 /// The map of that program fits it.
 pub fn hello_fits()
-    ensures { Fits (hello ∷ []) hello_map 0 }
+    ensures { Fits (hello ∷ []) hello_map 0x10000 }
 {}
 
 /// The map of that program resolves its names.
@@ -100,8 +99,8 @@ pub fn hello_resolves()
 
 /// The bytes of its text and of its constants.
 pub fn hello_holds()
-    ensures text { contents (code_bytes (program (hello ∷ []) hello_map)) 0 (blocks goes_to_text (hello ∷ []) hello_map) ≡ hello_text }
-    ensures constants { contents (spelled (program (hello ∷ []) hello_map)) 0x1000 (blocks goes_to_rodata (hello ∷ []) hello_map) ≡ codes "hello" }
+    ensures text { contents (code_bytes (program (hello ∷ []) hello_map)) 0x10000 (blocks goes_to_text (hello ∷ []) hello_map) ≡ hello_text }
+    ensures constants { contents (spelled (program (hello ∷ []) hello_map)) 0x11000 (blocks goes_to_rodata (hello ∷ []) hello_map) ≡ codes "hello" }
 {}
 
 /// The map of a source with constants, places and data of each kind fits it.
@@ -117,4 +116,14 @@ pub fn figures_resolve()
 /// The bytes of its data: a constant has its latest earlier value.
 pub fn figures_spell()
     ensures { contents (spelled (program (figures ∷ []) figures_map)) 0x11000 (blocks goes_to_data (figures ∷ []) figures_map) ≡ figures_data }
+{}
+
+/// The map of a source with differences of places fits it.
+pub fn differences_fit()
+    ensures { Fits (differences ∷ []) differences_map 0x10000 }
+{}
+
+/// The bytes of its data: a difference of two places is a number, and `|` and `%` bind as GNU as has it.
+pub fn differences_spell()
+    ensures { contents (spelled (program (differences ∷ []) differences_map)) 0x11000 (blocks goes_to_data (differences ∷ []) differences_map) ≡ differences_data }
 {}

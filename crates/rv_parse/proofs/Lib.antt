@@ -1,5 +1,8 @@
-pub mod Names
+pub mod Tokens
+pub mod Items
+pub mod Lists
 pub mod Jumps
+pub mod Openings
 pub mod Tables
 pub mod Statements
 pub mod Refusals

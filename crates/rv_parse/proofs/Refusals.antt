@@ -1,6 +1,6 @@
 -- What the parser's refusals say of the source.
 
-use Rattle.std.proofs.Common.{◌≡◌, ℕ, ◌+◌, ◌<◌, ◌≤◌, List, [], ◌∷◌, length, take, Option, Some, None, Result, Ok, Err, refl, sym, ◌∙◌, ap, subst, arith, ◌⊎◌, inl, inr}
+use Rattle.std.proofs.Common.{◌≡◌, ℕ, ◌+◌, ◌<◌, ◌≤◌, List, [], ◌∷◌, length, take, Some, None, Err, sym, ◌∙◌, ap, subst, arith, ◌⊎◌, inl, inr}
 use Rattle.std.proofs.lemmas.Option.{same_Some}
 use Rattle.rv_text_laws.specs.Lexing as lexing
 use Rattle.rv_text_laws.specs.Front.{tokens_from}
@@ -8,15 +8,16 @@ use Rattle.rv_text_laws.proofs.Tokens.{given}
 use Rattle.rv_text.specs.declared.fault.SourceCode.{SourceCode}
 use Rattle.rv_text.specs.declared.fault.SourceCode.TheVariants.{Limit}
 use Rattle.rv_text.specs.Fault.{number_of}
-use Rattle.rv_parse_laws.specs.Statement.{Spoken}
+use Rattle.rv_statement.specs.Statement.{Spoken}
 use Rattle.rv_text_laws.specs.Wrong.{limit}
 use Rattle.rv_parse_laws.specs.Parsing as parsing
 use Rattle.rv_text_laws.specs.Wrong as wrongs
 use Rattle.rv_parse_laws.specs.Reading.{SaysUpTo, said, past_line, longest_source, most_statements, Refuses}
-use Rattle.rv_parse_laws.proofs.FirstFault.{FirstInTokens, InTokens, wrong_first, past_first, all_good, line_refused, before_tokens, token_refused}
-use Rattle.rv_parse.specs.declared.cursor.Wrong.{Wrong}
-use Rattle.rv_parse.specs.declared.cursor.Refusal.TheVariants as refusals
-use Rattle.rv_parse.specs.Left.{wrong_of, RefusesTokens}
+use Rattle.rv_parse_laws.proofs.FirstFault.{FirstInTokens, wrong_first, past_first, all_good, line_refused, before_tokens, token_refused}
+use Rattle.rv_text.specs.declared.cursor.Wrong.{Wrong}
+use Rattle.rv_text.specs.declared.cursor.Refusal.TheVariants as refusals
+use Rattle.rv_text.specs.Cursor.{wrong_of}
+use Rattle.rv_parse.specs.Left.{RefusesTokens}
 
 -- no code is above the limit's
 pub code_within : (code : SourceCode) → number_of code ≤ limit

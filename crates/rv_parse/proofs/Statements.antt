@@ -1,19 +1,20 @@
 -- Statements read one by one, as the code holds them.
 
-use Rattle.std.proofs.Common.{◌≡◌, ℕ, ◌+◌, Bool, true, false, List, [], ◌∷◌, ◌++◌, length, length-append, Ok, refl, sym, ◌∙◌, ap, subst, map, arith}
+use Rattle.std.proofs.Common.{◌≡◌, ℕ, ◌+◌, true, false, List, [], ◌∷◌, ◌++◌, length, length-append, Ok, refl, sym, ◌∙◌, ap, subst, map, arith}
 use Rattle.rv_text_laws.specs.Lexing as lexing
 use Rattle.rv_text.specs.Token.{token_of, kind_of}
-use Rattle.rv_parse_laws.specs.Statement.{Spoken}
+use Rattle.rv_statement.specs.Statement.{Spoken}
 use Rattle.rv_parse_laws.specs.Syntax.{Says, is_end, is_source_end}
 use Rattle.rv_parse_laws.specs.Parsing.{part_at}
 use Rattle.rv_parse_laws.specs.Reading.{SaysUpTo}
 use Rattle.rv_parse_laws.proofs.Progress.{push_end, push_statement, source_end_is_end}
-use Rattle.rv_parse.specs.declared.statement.Statement.{Statement}
-use Rattle.rv_parse.specs.declared.cursor.Cursor.{Cursor}
-use Rattle.rv_parse.specs.View.{statement_of, said_by}
-use Rattle.rv_parse.specs.declared.cursor.Refusal.{Refusal}
-use Rattle.rv_parse.specs.declared.cursor.Refusal.TheVariants as refusals
-use Rattle.rv_parse.specs.Left.{left, StopsAt, RefusesTokens}
+use Rattle.rv_statement.specs.declared.statement.Statement.{Statement}
+use Rattle.rv_text.specs.declared.cursor.Cursor.{Cursor}
+use Rattle.rv_statement.specs.View.{statement_of, said_by}
+use Rattle.rv_text.specs.declared.cursor.Refusal.{Refusal}
+use Rattle.rv_text.specs.declared.cursor.Refusal.TheVariants as refusals
+use Rattle.rv_text.specs.Cursor.{left}
+use Rattle.rv_parse.specs.Left.{StopsAt, RefusesTokens}
 
 said_push : (items : List Statement) (s : Statement) → map said_by (items ++ s ∷ []) ≡ map said_by items ++ said_by s ∷ []
 said_push [] s = refl

@@ -1,45 +1,25 @@
--- The tokens that a cursor has left, and what its readings answer.
+-- What the readings of a cursor answer.
 
-use Rattle.std.specs.Prelude.{◌≡◌, ◌<◌, ℕ, false, List, [], ◌∷◌, length, Result, Ok, Err, ◌⊎◌, if◌then◌else◌}
-use Rattle.rv_parse_laws.specs.Statement.{Spoken}
+use Rattle.std.specs.Prelude.{◌≡◌, ◌<◌, ℕ, false, List, ◌∷◌, length, Result, Ok, Err, ◌⊎◌}
+use Rattle.rv_statement.specs.Statement.{Spoken}
 use Rattle.rv_parse_laws.specs.Syntax.{is_end}
 use Rattle.rv_text_laws.specs.Wrong.{limit}
 use Rattle.rv_parse_laws.specs.Reading.{most_statements, SaysUpTo, Refuses}
 use Rattle.rv_text.specs.declared.fault.SourceFault.{SourceFault}
 use Rattle.rv_text.specs.declared.fault.SourceFault.TheVariants as faults
 use Rattle.rv_text_laws.specs.Lexing as lexing
-use Rattle.rv_text.specs.Token.{token_of, kind_of}
 use Rattle.rv_text.specs.Fault.{number_of}
-use Rattle.rv_text.specs.Left.{tokens_left}
 use Rattle.rv_parse_laws.specs.Parsing as parsing
 use Rattle.rv_text_laws.specs.Wrong as wrongs
-use Rattle.rv_parse.specs.declared.cursor.Cursor.{Cursor}
-use Rattle.rv_parse.specs.declared.cursor.Wrong.{Wrong}
-use Rattle.rv_parse.specs.declared.cursor.Refusal.{Refusal}
-use Rattle.rv_parse.specs.declared.cursor.Refusal.TheVariants as refusals
-
--- the next token, and unless it is the last those of the lexer
-unfoldable pub left : Cursor → List lexing.Token
-left c = token_of c.next ∷ (if lexing.is_last (kind_of c.next.kind) then [] else tokens_left c.lexer)
-
--- the wrong token that an error names
-abbrev pub wrong_of : Wrong → wrongs.Wrong
-wrong_of w = record { place = w.place; line = w.line; code = number_of w.code }
+use Rattle.rv_text.specs.declared.cursor.Wrong.{Wrong}
+use Rattle.rv_text.specs.declared.cursor.Refusal.{Refusal}
+use Rattle.rv_text.specs.declared.cursor.Refusal.TheVariants as refusals
+use Rattle.rv_text.specs.Cursor.{wrong_of}
 
 -- a call's result, as `view` sees it, is what the reading at the front of the tokens gives
 abbrev pub Gives : {X Y : Type 0} → (X → Y) → Result X Wrong → Result Y wrongs.Wrong → Type 0
 Gives view (Ok x) read = read ≡ Ok (view x)
 Gives view (Err w) read = read ≡ Err (wrong_of w)
-
--- a call's error is that of the reading, unless memory ran out
-abbrev pub Fails : {Y : Type 0} → Refusal → Result Y wrongs.Wrong → Type 0
-Fails (refusals.At w) read = read ≡ Err (wrong_of w)
-Fails refusals.OutOfMemory read = Unit {0}
-
--- the same where memory may run out
-abbrev pub Answers : {X Y : Type 0} → (X → Y) → Result X Refusal → Result Y wrongs.Wrong → Type 0
-Answers view (Ok x) read = read ≡ Ok (view x)
-Answers view (Err e) read = Fails e read
 
 -- No further statement is answered at the token t, which begins the tokens ts behind so many statements: the part there is
 -- wrong, or it is a statement too many; where it is both, what stands first.

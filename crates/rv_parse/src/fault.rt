@@ -1,61 +1,54 @@
 //! What is wrong where: the codes of the faults of phase one.
 
-ghost use Rattle.std.specs.Prelude.{◌≡◌, ◌==◌};
-ghost use Rattle.std.specs.List.{list_all};
-ghost use Rattle.rv_text_laws.specs.Bytes.{is_decimal};
+ghost use Rattle.std.specs.Prelude.{◌≡◌};
 ghost use Rattle.rv_text.specs.Fault.{number_of};
-ghost use Rattle.rv_text.specs.Token.{token_of, kind_of};
-ghost use Rattle.rv_parse_laws.specs.Faults.{wrong_or, wrong_name, wrong_register, wrong_value, wrong_literal, wrong_after, wrong_symbol, wrong_option, wrong_word, wrong_start, wrong_number, wrong_label, is_operator, wrong_base, bad_operands};
-ghost use Rattle.rv_text_laws.specs.Wrong.{is_long, place_of, limit};
-ghost use Rattle.rv_parse.specs.View.{slot_of};
+ghost use Rattle.rv_text.specs.Token.{kind_of};
+ghost use Rattle.rv_text_laws.specs.Grammar.{Text};
+ghost use Rattle.rv_parse_laws.specs.Faults.{may_call, wrong_or, wrong_name, wrong_register, wrong_after_value, wrong_after, wrong_symbol, wrong_flags, wrong_type, wrong_option, wrong_any, wrong_word, wrong_start, wrong_label, bad_operands};
+ghost use Rattle.rv_parse.specs.View.{role_of, slot_of};
 
-use crate::kinds;
-use crate::words::{is_known, is_option, register_named};
-use rv_text::{Sign, SourceCode, Token, TokenKind};
+use crate::kinds::{is_comma, is_end};
+use crate::words::{are_known_flags, is_known, is_left_out_option};
+use rv_text::{LONGEST_NAME, Sign, SourceCode, TokenKind};
 
-/// The longest name, in bytes.
-pub const LONGEST_NAME: usize = 4095;
+/// Where an expression stands, which decides what is wrong around it.
+#[derive(Clone, Copy, Debug, PartialEq, Eq, Drop)]
+pub enum Role {
+    /// As an operand of an instruction.
+    Operand,
+    /// Before the register of a load's address.
+    Load,
+    /// Before the register of a store's address.
+    Store,
+    /// In a directive.
+    Directive,
+    /// As an alignment.
+    Alignment,
+}
 
-/// What stands in one place of an instruction.
+/// What stands in one place of a statement.
 #[derive(Clone, Copy, Debug, PartialEq, Eq, Drop)]
 pub enum Slot {
     Register,
-    Value,
-    /// A value before an address's register.
-    Offset,
+    /// An expression.
+    Value(Role),
+    /// A register in parentheses, with or without an expression before it.
+    Address(Role),
     /// The 0 before an atomic's address.
     Zero,
     /// The accesses that a fence orders.
     Accesses,
-}
-
-/// A name that is longer than a symbol's.
-fn is_long(kind: TokenKind<'_>) -> bool
-    ensures { result ≡ is_long (kind_of kind.entry) }
-{
-    match kind {
-        TokenKind::Name(name) => LONGEST_NAME < name.len(),
-        _ => false,
-    }
-}
-
-/// The code of what is too long or too many.
-fn is_limit(code: SourceCode) -> bool
-    ensures { result ≡ (number_of code == limit) }
-{
-    matches!(code, SourceCode::Limit)
-}
-
-/// Where a token's fault stands: at its first byte, but a name's limit at the first byte past it.
-#[tactic(auto, unfolding(rv_text_laws::specs::Wrong::place_of))]
-pub fn place_of(token: Token<'_>, code: SourceCode) -> usize
-    ensures { result ≡ place_of (token_of token.entry) (number_of code) }
-{
-    if is_limit(code) && is_long(token.kind) {
-        token.start as usize + LONGEST_NAME
-    } else {
-        token.start as usize
-    }
+    Symbol,
+    /// A string.
+    Text,
+    /// A section's name.
+    Section,
+    /// A section's flags.
+    Flags,
+    /// A section's type.
+    Type,
+    /// What `.option` takes.
+    Choice,
 }
 
 /// The code of a token that is wrong wherever it stands; for every other the code of its place.
@@ -70,15 +63,11 @@ fn or_place(kind: TokenKind<'_>, code: SourceCode) -> SourceCode
     }
 }
 
-/// A name that is no symbol's, where a symbol may stand; `dot` is the code of `.`.
-fn at_name(dot: SourceCode, name: &[u8]) -> SourceCode
-    ensures { number_of result ≡ wrong_name (number_of dot) name.now }
+/// A name that is no symbol's, where a symbol may stand.
+fn at_name(name: &[u8]) -> SourceCode
+    ensures { number_of result ≡ wrong_name name.now }
 {
-    if register_named(name).is_some() {
-        SourceCode::BadOperands
-    } else if name == b".".as_slice() {
-        dot
-    } else if LONGEST_NAME < name.len() {
+    if LONGEST_NAME < name.len() {
         SourceCode::Limit
     } else {
         SourceCode::BadOperands
@@ -95,103 +84,73 @@ pub fn at_register(kind: TokenKind<'_>) -> SourceCode
     }
 }
 
-/// Where an expression may begin: other expressions of the full language are not built yet.
-pub fn at_value(kind: TokenKind<'_>) -> SourceCode
-    ensures { number_of result ≡ wrong_value (kind_of kind.entry) }
+/// Where an expression may stand, a function call may too.
+pub fn may_call(role: Role) -> bool
+    ensures { result ≡ may_call (role_of role) }
 {
-    match kind {
-        TokenKind::Name(name) => at_name(SourceCode::UnsupportedHere, name),
-        TokenKind::Text(_)
-        | TokenKind::Mark(Sign::Open | Sign::Plus | Sign::Tilde | Sign::Percent) => {
-            SourceCode::UnsupportedHere
-        }
+    match role {
+        Role::Operand | Role::Load | Role::Store => true,
+        Role::Directive | Role::Alignment => false,
+    }
+}
+
+/// Behind a whole expression: a symbol load or store is not built yet; an alignment has one operand alone.
+fn after_value(role: Role, kind: TokenKind<'_>) -> SourceCode
+    ensures { number_of result ≡ wrong_after_value (role_of role) (kind_of kind.entry) }
+{
+    match role {
+        Role::Load if is_end(kind) => SourceCode::UnsupportedHere,
+        Role::Store if is_end(kind) || is_comma(kind) => SourceCode::UnsupportedHere,
+        Role::Alignment if is_comma(kind) => SourceCode::UnsupportedHere,
         _ => or_place(kind, SourceCode::BadOperands),
     }
 }
 
-/// After a minus: a literal is built.
-pub fn at_literal(kind: TokenKind<'_>) -> SourceCode
-    ensures { number_of result ≡ wrong_literal (kind_of kind.entry) }
-{
-    match kind {
-        TokenKind::Name(name) => {
-            if register_named(name).is_some() {
-                SourceCode::BadOperands
-            } else {
-                SourceCode::UnsupportedHere
-            }
-        }
-        TokenKind::Reference(..)
-        | TokenKind::Text(_)
-        | TokenKind::Mark(Sign::Open | Sign::Plus | Sign::Minus | Sign::Tilde) => {
-            SourceCode::UnsupportedHere
-        }
-        _ => or_place(kind, SourceCode::BadOperands),
-    }
-}
-
-/// An operator between two parts of an expression, or a comparison.
-fn is_operator(sign: Sign) -> bool
-    ensures { result ≡ is_operator sign }
-{
-    match sign {
-        Sign::Plus
-        | Sign::Minus
-        | Sign::Star
-        | Sign::Slash
-        | Sign::Percent
-        | Sign::ShiftLeft
-        | Sign::ShiftRight
-        | Sign::Bar
-        | Sign::Ampersand
-        | Sign::Caret
-        | Sign::Equal
-        | Sign::NotEqual
-        | Sign::LessGreater
-        | Sign::Less
-        | Sign::Greater
-        | Sign::LessEqual
-        | Sign::GreaterEqual => true,
-        _ => false,
-    }
-}
-
-/// Where a comma or the statement's end is wanted: a longer expression is not built yet.
+/// Behind what stands in a place.
 pub fn after(slot: Slot, kind: TokenKind<'_>) -> SourceCode
     ensures { number_of result ≡ wrong_after (slot_of slot) (kind_of kind.entry) }
 {
-    match (slot, kind) {
-        (Slot::Value, TokenKind::Mark(sign)) if is_operator(sign) => SourceCode::UnsupportedHere,
-        (Slot::Offset, _) => or_place(kind, SourceCode::UnsupportedHere),
+    match slot {
+        Slot::Value(role) => after_value(role, kind),
         _ => or_place(kind, SourceCode::BadOperands),
     }
 }
 
-/// Where an address's register is wanted: an expression in parentheses is not built yet.
-pub fn at_base(kind: TokenKind<'_>) -> SourceCode
-    ensures { number_of result ≡ wrong_base (kind_of kind.entry) }
-{
-    if kinds::value_begins(kind) {
-        SourceCode::UnsupportedHere
-    } else {
-        at_value(kind)
-    }
-}
-
-/// Where a closing parenthesis is wanted.
-pub fn at_closing(kind: TokenKind<'_>) -> SourceCode
+/// Where one token alone is good: a string, or a sign.
+pub fn at_other(kind: TokenKind<'_>) -> SourceCode
     ensures { number_of result ≡ wrong_or (kind_of kind.entry) bad_operands }
 {
     or_place(kind, SourceCode::BadOperands)
 }
 
-/// Where a list of symbols wants one.
+/// Where a directive wants a symbol.
 pub fn at_symbol(kind: TokenKind<'_>) -> SourceCode
     ensures { number_of result ≡ wrong_symbol (kind_of kind.entry) }
 {
     match kind {
-        TokenKind::Name(name) => at_name(SourceCode::BadOperands, name),
+        TokenKind::Name(name) => at_name(name),
         TokenKind::Text(_) => SourceCode::UnsupportedHere,
+        _ => or_place(kind, SourceCode::BadOperands),
+    }
+}
+
+/// Letters that are no flags of a section; an unknown one counts before those that are left out.
+pub fn at_flags(letters: &[u8]) -> SourceCode
+    ensures { number_of result ≡ wrong_flags (Text letters.now) }
+{
+    if are_known_flags(letters) {
+        SourceCode::UnsupportedHere
+    } else {
+        SourceCode::BadOperands
+    }
+}
+
+/// Where a section's type is wanted.
+pub fn at_type(kind: TokenKind<'_>) -> SourceCode
+    ensures { number_of result ≡ wrong_type (kind_of kind.entry) }
+{
+    match kind {
+        TokenKind::Name(_) => SourceCode::UnsupportedHere,
         _ => or_place(kind, SourceCode::BadOperands),
     }
 }
@@ -201,7 +160,17 @@ pub fn at_option(kind: TokenKind<'_>) -> SourceCode
     ensures { number_of result ≡ wrong_option (kind_of kind.entry) }
 {
     match kind {
-        TokenKind::Name(name) if is_option(name) => SourceCode::UnsupportedHere,
+        TokenKind::Name(name) if is_left_out_option(name) => SourceCode::UnsupportedHere,
+        _ => or_place(kind, SourceCode::BadOperands),
+    }
+}
+
+/// Where operands are not looked at.
+pub fn at_any(kind: TokenKind<'_>) -> SourceCode
+    ensures { number_of result ≡ wrong_any (kind_of kind.entry) }
+{
+    match kind {
+        TokenKind::Name(name) => at_name(name),
         _ => or_place(kind, SourceCode::BadOperands),
     }
 }
@@ -230,37 +199,12 @@ pub fn at_start(kind: TokenKind<'_>) -> SourceCode
     }
 }
 
-/// Decimal digits alone.
-fn is_decimal(word: &[u8]) -> bool
-    ensures { result ≡ list_all is_decimal word.now }
-{
-    for digit in word {
-        if !digit.is_ascii_digit() {
-            return false;
-        }
-    }
-    true
-}
-
-/// A numeric label is not built yet; `code` is that of a word with other bytes than digits.
-fn at_number(word: &[u8], code: SourceCode) -> SourceCode
-    ensures { number_of result ≡ wrong_number word.now (number_of code) }
-{
-    if is_decimal(word) {
-        SourceCode::UnsupportedHere
-    } else {
-        code
-    }
-}
-
 /// A token before a colon, at a statement's start.
 pub fn at_label(kind: TokenKind<'_>) -> SourceCode
     ensures { number_of result ≡ wrong_label (kind_of kind.entry) }
 {
     match kind {
-        TokenKind::Name(name) => at_name(SourceCode::BadOperands, name),
-        TokenKind::Number(word, _) => at_number(word, SourceCode::UnknownMnemonic),
-        TokenKind::BadWord(word) => at_number(word, SourceCode::BadToken),
+        TokenKind::Name(name) => at_name(name),
         _ => at_start(kind),
     }
 }

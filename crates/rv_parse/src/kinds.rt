@@ -1,17 +1,21 @@
 //! What a token is, in each place of a statement.
 
-ghost use Rattle.std.specs.Prelude.{◌≡◌, option_map};
-ghost use Rattle.rv_text.specs.Token.{kind_of};
+ghost use Rattle.std.specs.Prelude.{◌≡◌, ◌≤◌, ◌^◌, ◌∷◌, [], option_map};
+ghost use Rattle.std.specs.List.{list_all};
+ghost use Rattle.rv_text_laws.specs.Bytes.{is_decimal};
 ghost use Rattle.rv_text_laws.specs.Lexing.{is_last};
-ghost use Rattle.rv_parse_laws.specs.Syntax.{is_symbol, register_of, symbol_of, literal_of, value_of, begins, is_comma, is_colon, is_minus, is_norvc, is_end, is_source_end, is_opening, is_closing, is_zero, accesses_of, value_begins};
-ghost use Rattle.rv_parse.specs.View.{beginning_of, expression_of, now_of};
+ghost use Rattle.rv_text.specs.Token.{kind_of};
+ghost use Rattle.rv_statement.specs.View.{now_of, statement_of};
+ghost use Rattle.rv_parse_laws.specs.Syntax.{is_symbol, is_section_name, register_of, symbol_of, label_of, begins, is_comma, is_colon, is_percent, is_at, is_end, is_source_end, is_opening, is_closing, is_zero, is_any, is_wrong, accesses_of, single, A_string, A_type};
+ghost use Rattle.rv_parse_laws.specs.Parsing.{width};
+ghost use Rattle.rv_parse.specs.View.{beginning_of, choice_of, word_of, string_of};
 
-use crate::fault::LONGEST_NAME;
-use crate::statement::Expression;
-use crate::words::{Beginning, accesses_named, beginning_with, register_named};
+use crate::words::{
+    Beginning, accesses_named, beginning_with, choice_named, is_section_type, register_named,
+};
 use rv_isa::Reg;
-use rv_parse_laws::AccessSet;
-use rv_text::{Sign, TokenKind};
+use rv_statement::{AccessSet, Choice, StatementKind};
+use rv_text::{LONGEST_NAME, Sign, TokenKind};
 
 /// A name that a symbol may have.
 #[tactic(auto, unfolding(rv_parse_laws::specs::Syntax::is_symbol))]
@@ -19,6 +23,14 @@ fn is_symbol(name: &[u8]) -> bool
     ensures { result ≡ is_symbol name.now }
 {
     register_named(name).is_none() && name != b".".as_slice() && name.len() <= LONGEST_NAME
+}
+
+/// A name that a section of a source may have: not that of the rows.
+#[tactic(auto, unfolding(rv_parse_laws::specs::Syntax::is_section_name))]
+pub fn is_section_name(name: &[u8]) -> bool
+    ensures { result ≡ is_section_name name.now }
+{
+    name.len() <= LONGEST_NAME && name != b".rv.rows".as_slice()
 }
 
 /// The register that the token names.
@@ -41,28 +53,113 @@ pub fn symbol_of(kind: TokenKind<'_>) -> Option<&[u8]>
     }
 }
 
-/// The literal that the token is.
-pub fn literal_of(kind: TokenKind<'_>) -> Option<u64>
-    ensures { result ≡ literal_of (kind_of kind.entry) }
+/// A literal of value 0.
+pub fn is_zero(kind: TokenKind<'_>) -> bool
+    ensures { result ≡ is_zero (kind_of kind.entry) }
 {
     match kind {
-        TokenKind::Number(_, number) => Some(number),
-        TokenKind::Character(byte) => Some(u64::from(byte)),
+        TokenKind::Number(_, number) => number == 0,
+        TokenKind::Character(byte) => byte == 0,
+        _ => false,
+    }
+}
+
+/// The string that the token is, as it stands between its quotes.
+pub fn string_of(kind: TokenKind<'_>) -> Option<&[u8]>
+    ensures { option_map (λ text. string_of text ∷ []) result ≡ single A_string (kind_of kind.entry) }
+{
+    match kind {
+        TokenKind::Text(text) => Some(text),
         _ => None,
     }
 }
 
-/// The expression that the token is alone.
-pub fn value_of(kind: TokenKind<'_>) -> Option<Expression<'_>>
-    ensures { option_map expression_of result ≡ value_of (kind_of kind.entry) }
+/// The choice of `.option` that the token names.
+pub fn choice_of(kind: TokenKind<'_>) -> Option<Choice>
+    ensures { result ≡ choice_of (kind_of kind.entry) }
 {
     match kind {
-        TokenKind::Number(_, number) => Some(Expression::Literal(number)),
-        TokenKind::Character(byte) => Some(Expression::Literal(u64::from(byte))),
-        TokenKind::Reference(digits, forward) => Some(Expression::Reference(digits, forward)),
-        TokenKind::Name(name) if is_symbol(name) => Some(Expression::Name(name)),
+        TokenKind::Name(name) => choice_named(name),
         _ => None,
     }
+}
+
+/// The type of a section that the token names.
+pub fn type_of(kind: TokenKind<'_>) -> Option<&[u8]>
+    ensures { option_map (λ name. word_of name ∷ []) result ≡ single A_type (kind_of kind.entry) }
+{
+    match kind {
+        TokenKind::Name(name) if is_section_type(name) => Some(name),
+        _ => None,
+    }
+}
+
+/// Decimal digits alone.
+fn is_decimal(word: &[u8]) -> bool
+    ensures { result ≡ list_all is_decimal word.now }
+{
+    for digit in word {
+        if !digit.is_ascii_digit() {
+            return false;
+        }
+    }
+    true
+}
+
+/// The label that the token is before a colon.
+pub fn label_of(kind: TokenKind<'_>) -> Option<StatementKind<'_>>
+    ensures { option_map statement_of result ≡ label_of (kind_of kind.entry) }
+{
+    match kind {
+        TokenKind::Name(name) if is_symbol(name) => Some(StatementKind::Label(name)),
+        TokenKind::Number(word, _) | TokenKind::BadWord(word) if is_decimal(word) => {
+            Some(StatementKind::Numbered(word))
+        }
+        _ => None,
+    }
+}
+
+/// A token that may stand where operands are not looked at.
+pub fn is_any(kind: TokenKind<'_>) -> bool
+    ensures { result ≡ is_any (kind_of kind.entry) }
+{
+    match kind {
+        TokenKind::Name(name) => name.len() <= LONGEST_NAME,
+        TokenKind::Newline
+        | TokenKind::End
+        | TokenKind::BadByte
+        | TokenKind::BadToken
+        | TokenKind::BadWord(_)
+        | TokenKind::Mark(Sign::Semicolon | Sign::DoubleSlash) => false,
+        _ => true,
+    }
+}
+
+/// How many bytes of a name of several tokens the token is.
+pub fn width(kind: TokenKind<'_>) -> usize
+    ensures width { result ≡ width (kind_of kind.entry) }
+    ensures within { result ≤ 2 ^ 63 }
+{
+    match kind {
+        TokenKind::Name(word) | TokenKind::Number(word, _) | TokenKind::BadWord(word) => word.len(),
+        TokenKind::Reference(digits, _) => digits.len() + 1,
+        TokenKind::Mark(Sign::Minus) => 1,
+        _ => 0,
+    }
+}
+
+/// `@`
+pub fn is_at(kind: TokenKind<'_>) -> bool
+    ensures { result ≡ is_at (kind_of kind.entry) }
+{
+    matches!(kind, TokenKind::Mark(Sign::At))
+}
+
+/// `%`
+pub fn is_percent(kind: TokenKind<'_>) -> bool
+    ensures { result ≡ is_percent (kind_of kind.entry) }
+{
+    matches!(kind, TokenKind::Mark(Sign::Percent))
 }
 
 /// What a statement that begins with the token says.
@@ -89,13 +186,6 @@ pub fn is_colon(kind: TokenKind<'_>) -> bool
     matches!(kind, TokenKind::Mark(Sign::Colon))
 }
 
-/// A minus.
-pub fn is_minus(kind: TokenKind<'_>) -> bool
-    ensures { result ≡ is_minus (kind_of kind.entry) }
-{
-    matches!(kind, TokenKind::Mark(Sign::Minus))
-}
-
 /// `(`
 pub fn is_opening(kind: TokenKind<'_>) -> bool
     ensures { result ≡ is_opening (kind_of kind.entry) }
@@ -110,16 +200,6 @@ pub fn is_closing(kind: TokenKind<'_>) -> bool
     matches!(kind, TokenKind::Mark(Sign::Close))
 }
 
-/// A number of value 0.
-pub fn is_zero(kind: TokenKind<'_>) -> bool
-    ensures { result ≡ is_zero (kind_of kind.entry) }
-{
-    match kind {
-        TokenKind::Number(_, number) => number == 0,
-        _ => false,
-    }
-}
-
 /// The set of accesses that the token names.
 pub fn accesses_of(kind: TokenKind<'_>) -> Option<AccessSet>
     ensures { result ≡ accesses_of (kind_of kind.entry) }
@@ -127,23 +207,6 @@ pub fn accesses_of(kind: TokenKind<'_>) -> Option<AccessSet>
     match kind {
         TokenKind::Name(name) => accesses_named(name),
         _ => None,
-    }
-}
-
-/// A value can begin with the token.
-pub fn value_begins(kind: TokenKind<'_>) -> bool
-    ensures { result ≡ value_begins (kind_of kind.entry) }
-{
-    is_minus(kind) || value_of(kind).is_some()
-}
-
-/// The word `norvc`.
-pub fn is_norvc(kind: TokenKind<'_>) -> bool
-    ensures { result ≡ is_norvc (kind_of kind.entry) }
-{
-    match kind {
-        TokenKind::Name(name) => name == b"norvc".as_slice(),
-        _ => false,
     }
 }
 

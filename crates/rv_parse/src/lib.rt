@@ -1,12 +1,13 @@
 //! Statements of a source: its tokens read as labels, instructions and directives.
 //!
-//! Source: RISC-V Assembly Programmer's Manual; GNU as, "Statements" and "RISC-V Dependent Features".
+//! Source: RISC-V Assembly Programmer's Manual; GNU as, "Statements", "Pseudo Ops" and "RISC-V Dependent Features".
 #![tactic(auto)]
 
-mod cursor;
+mod directive;
 mod fault;
+mod instruction;
 mod kinds;
-mod reading;
+mod place;
 mod source;
 mod statement;
 #[cfg(test)]
@@ -15,6 +16,3 @@ mod words;
 
 pub use rv_text::{SourceCode, SourceFault};
 pub use source::parse;
-pub use statement::{
-    Expression, Numeric, Operation, Plain, Referring, Statement, StatementKind, Symbolic,
-};

@@ -8,14 +8,15 @@ ghost use Rattle.rv_text_laws.specs.Wrong.{limit};
 ghost use Rattle.rv_parse_laws.specs.Parsing.{part_at};
 ghost use Rattle.rv_parse_laws.specs.Reading.{Reads, past_line, most_statements, SaysUpTo};
 ghost use Rattle.rv_text.specs.Left.{tokens_left};
-ghost use Rattle.rv_parse.specs.View.{statement_of, said_by};
-ghost use Rattle.rv_parse.specs.Left.{left, wrong_of, StopsAt, RefusesTokens, RefusedWith};
+ghost use Rattle.rv_statement.specs.View.{statement_of, said_by};
+ghost use Rattle.rv_text.specs.Cursor.{left, wrong_of};
+ghost use Rattle.rv_parse.specs.Left.{StopsAt, RefusesTokens, RefusedWith};
 
-use crate::cursor::{Cursor, Refusal, Wrong};
 use crate::kinds;
-use crate::statement::Statement;
+use crate::statement::statement;
 use memchr::memrchr;
-use rv_text::{Lexer, SourceCode, SourceFault, Token};
+use rv_statement::Statement;
+use rv_text::{Cursor, Lexer, Refusal, SourceCode, SourceFault, Token, Wrong};
 use std::alloc::Global;
 
 /// The longest source, in bytes.
@@ -68,7 +69,7 @@ fn next_statement<'a>(
 {
     let first = cursor.next;
     let past = past_statements(first);
-    match cursor.statement(alloc) {
+    match statement(alloc, cursor) {
         Ok(kind) => {
             if count < MOST_STATEMENTS {
                 Ok(Statement {

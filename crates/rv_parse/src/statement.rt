@@ -1,148 +1,67 @@
-//! Statements: what a source says, with its names borrowed from it.
+//! Statements at the front of a cursor's tokens.
 
-ghost use Rattle.std.specs.Prelude.{◌≡◌};
-ghost use Rattle.rv_parse.specs.View.{expression_of, statement_of, with_expression};
+ghost use Rattle.std.specs.Prelude.{◌≡◌, false, true};
+ghost use Rattle.rv_text.specs.Token.{token_of, kind_of};
+ghost use Rattle.rv_text.specs.Cursor.{left, Answers};
+ghost use Rattle.rv_statement.specs.View.{statement_of};
+ghost use Rattle.rv_parse_laws.specs.Syntax.{begins, label_of, is_colon, is_end, Says};
+ghost use Rattle.rv_parse_laws.specs.Faults.{wrong_label};
+ghost use Rattle.rv_parse_laws.specs.Parsing.{begun_at, part_at, taken, after_first};
+ghost use Rattle.rv_parse.specs.Left.{Gives};
 
-use rv_isa::Reg;
-use rv_parse_laws::{
-    AccessSet, AtomicForm, AtomicOperation, ImmediateOperation, LoadOperation, RegisterOperation,
-    ShiftOperation, StoreOperation, UpperOperation,
-};
+use crate::directive::directive;
+use crate::instruction::instruction;
+use crate::words::Beginning;
+use crate::{fault, kinds};
+use rv_statement::StatementKind;
+use rv_text::{Cursor, Refusal, Token, Wrong};
+use std::alloc::Global;
 
-/// An instruction's expression. Its parts are parts of the source.
-#[derive(Clone, Copy, Debug, PartialEq, Eq, Drop)]
-pub enum Expression<'a> {
-    /// A number or a character.
-    Literal(u64),
-    /// A minus before a number or a character.
-    Negated(u64),
-    /// A symbol's name.
-    Name(&'a [u8]),
-    /// The decimal digits of a numeric label, and whether it is the nearest after the statement (`1f`) or before it (`1b`).
-    Reference(&'a [u8], bool),
-}
-
-impl<'a> Expression<'a> {
-    /// The instruction that has this expression.
-    pub(crate) fn of(self, operation: Operation) -> StatementKind<'a>
-        ensures { statement_of result ≡ with_expression operation (expression_of self.entry) }
-    {
-        match self {
-            Expression::Literal(number) => StatementKind::Numeric(Numeric {
-                number,
-                operation,
-                negated: false,
-            }),
-            Expression::Negated(number) => StatementKind::Numeric(Numeric {
-                number,
-                operation,
-                negated: true,
-            }),
-            Expression::Name(name) => StatementKind::Symbolic(Symbolic { name, operation }),
-            Expression::Reference(digits, forward) => StatementKind::Referring(Referring {
-                digits,
-                operation,
-                forward,
-            }),
+/// A label, behind its name or its digits: the colon comes next.
+#[tactic(auto, using(crate::proofs::Tokens::colon_no_last), unfolding(rv_text::specs::Cursor::left))]
+fn label<'a>(cursor: &mut Cursor<'a>, first: Token<'a>) -> Result<StatementKind<'a>, Wrong>
+    requires { is_colon (kind_of cursor.old.next.kind) ≡ true }
+    ensures { Gives (λ k. (statement_of k, left cursor.new)) result (taken (token_of first.entry) (after_first (left cursor.old)) (label_of (kind_of first.entry.kind)) (wrong_label (kind_of first.entry.kind))) }
+{
+    match kinds::label_of(first.kind) {
+        Some(label) => {
+            cursor.advance();
+            Ok(label)
         }
+        None => Err(Wrong::at(first, fault::at_label(first.kind))),
     }
 }
 
-/// An instruction without an expression.
-#[derive(Clone, Copy, Debug, PartialEq, Eq, Drop)]
-pub enum Plain {
-    /// `add rd, rs1, rs2`
-    Registers(RegisterOperation, Reg, Reg, Reg),
-    /// `lw rd, (rs1)`
-    Load(LoadOperation, Reg, Reg),
-    /// `sw rs2, (rs1)`
-    Store(StoreOperation, Reg, Reg),
-    /// `jalr rd, rs1` or `jalr rd, (rs1)`
-    Jalr(Reg, Reg),
-    /// `jalr rs1` or `jalr (rs1)`
-    JalrLinked(Reg),
-    /// `lr.w rd, (rs1)`
-    LoadReserved(AtomicForm, Reg, Reg),
-    /// `amoadd.w rd, rs2, (rs1)`
-    Atomic(AtomicOperation, AtomicForm, Reg, Reg, Reg),
-    /// `fence`
-    Fence,
-    /// `fence before, after`
-    FenceBetween(AccessSet, AccessSet),
-    FenceTso,
-    Ecall,
-    Ebreak,
+/// What the first token begins, that is no label.
+#[tactic(auto, unfolding(rv_parse_laws::specs::Parsing::begun_at))]
+fn begun<'a>(
+    alloc: Global,
+    cursor: &mut Cursor<'a>,
+    first: Token<'a>,
+) -> Result<StatementKind<'a>, Refusal>
+    ensures { Answers (λ k. (statement_of k, left cursor.new)) result (begun_at (begins (kind_of first.entry.kind)) (token_of first.entry) (left cursor.old)) }
+{
+    match kinds::begins(first.kind) {
+        Beginning::Instruction(mnemonic) => instruction(alloc, cursor, mnemonic),
+        Beginning::Directive(word) => directive(alloc, cursor, word),
+        Beginning::Nothing => Err(Refusal::At(Wrong::at(first, fault::at_start(first.kind)))),
+    }
 }
 
-/// A mnemonic with its registers, and an expression among them.
-#[derive(Clone, Copy, Debug, PartialEq, Eq, Drop)]
-pub enum Operation {
-    /// `add rd, rs1, ..`
-    Registers(RegisterOperation, Reg, Reg),
-    /// `addi rd, rs1, ..`
-    Immediate(ImmediateOperation, Reg, Reg),
-    /// `slli rd, rs1, ..`
-    Shift(ShiftOperation, Reg, Reg),
-    /// `lui rd, ..`
-    Upper(UpperOperation, Reg),
-    /// `lw rd, ..(rs1)`
-    Load(LoadOperation, Reg, Reg),
-    /// `sw rs2, ..(rs1)`
-    Store(StoreOperation, Reg, Reg),
-    /// `jalr rd, ..(rs1)`
-    Jalr(Reg, Reg),
-    /// `jalr rd, rs1, ..`
-    JalrThen(Reg, Reg),
-    /// `jalr ..(rs1)`
-    JalrLinked(Reg),
-    /// `li rd, ..`
-    Li(Reg),
+/// A label, or another statement up to its end; the next token ends none.
+#[tactic(auto, using(rv_parse_laws::proofs::Parts::last_begins_nothing), unfolding(rv_text::specs::Cursor::left, rv_parse_laws::specs::Parsing::part_at, rv_parse_laws::specs::Parsing::statement_at, rv_parse_laws::specs::Parsing::begun_at))]
+pub fn statement<'a>(alloc: Global, cursor: &mut Cursor<'a>) -> Result<StatementKind<'a>, Refusal>
+    requires { is_end (kind_of cursor.old.next.kind) ≡ false }
+    ensures { Answers (λ k. (Says (statement_of k), left cursor.new)) result (part_at (left cursor.old)) }
+{
+    let first = cursor.next;
+    if kinds::is_last(first.kind) {
+        return Err(Refusal::At(cursor.wrong(fault::at_start(first.kind))));
+    }
+    cursor.advance();
+    if kinds::is_colon(cursor.next.kind) {
+        Ok(label(cursor, first)?)
+    } else {
+        begun(alloc, cursor, first)
+    }
 }
-
-/// An instruction whose expression is a number, with or without a minus before it.
-#[derive(Clone, Copy, Debug, PartialEq, Eq, Drop)]
-pub struct Numeric {
-    pub number: u64,
-    pub operation: Operation,
-    pub negated: bool,
-}
-
-/// An instruction whose expression is a symbol.
-#[derive(Clone, Copy, Debug, PartialEq, Eq, Drop)]
-pub struct Symbolic<'a> {
-    pub name: &'a [u8],
-    pub operation: Operation,
-}
-
-/// An instruction whose expression is a numeric reference.
-#[derive(Clone, Copy, Debug, PartialEq, Eq, Drop)]
-pub struct Referring<'a> {
-    /// The label's decimal digits.
-    pub digits: &'a [u8],
-    pub operation: Operation,
-    /// The nearest label after the statement, not before it.
-    pub forward: bool,
-}
-
-/// What a statement says.
-#[derive(Debug, Drop)]
-pub enum StatementKind<'a> {
-    Label(&'a [u8]),
-    /// `.option norvc`
-    Norvc,
-    /// `.globl` or `.global`, with its names in order.
-    Globl(Vec<&'a [u8]>),
-    Plain(Plain),
-    Numeric(Numeric),
-    Symbolic(Symbolic<'a>),
-    Referring(Referring<'a>),
-}
-
-/// A statement, with the line of its first byte, from 1. Its ordinal is its place in the source's list, from 1.
-#[derive(Debug, Drop)]
-pub struct Statement<'a> {
-    pub kind: StatementKind<'a>,
-    pub line: u32,
-}
-
-const _: () = prove!(size_of::<Statement<'static>>() <= 40);

@@ -14,36 +14,60 @@ fn refusal(alloc: Global, source: &[u8]) -> (u8, u32) {
 }
 
 #[test]
+fn each_form(rt: HostRuntime) {
+    let alloc = rt.alloc();
+    let sources: [&[u8]; 20] = [
+        b"add a0, a1, a2; sraw t0, t1, 3; add a0, a1, -(x - 4)",
+        b"amoadd.w.aqrl a0, a1, (a2); lr.d t0, 0x0(t1); sc.w a0, a1, '\\0'(a2)",
+        b"lw a0, 8(sp); sd a1, (a0); lui a0, 1; lw a0, (8)(sp); sw a0, x + 4 * 2(sp)",
+        b"jalr ra, 4(a0); jalr a0, a1, 4; jalr a0; jalr (a0); jalr (4)(a0)",
+        b"fence; fence rw, io; fence.tso; ebreak",
+        b"li a0, 1 + 2; li a0, -x; li a0, ~(1 << 3) | 0x1f; li a0, . - 1b; addi a0, fp, 'a'",
+        b"name : li a0, 'a'; ecall; 1: ecall; 08 : ecall",
+        b".text; .data; .rodata; .bss",
+        b".section .note.GNU-stack; .section a0; .section .a-1b-08,\"\"",
+        b".section .x,\"awx\"; .section .x, \"MS\\141\", @nobits; .section .x,\"a\",@note, 4 * 2",
+        b"_start: .globl _start, b; .global c; .local d, e",
+        b".set x, 1 + 2; .equ y, .",
+        b".align 4; .p2align 1 + 1; .balign 8",
+        b".byte 1, 'a', -3; .half 3; .2byte 4; .word x; .4byte 5; .dword a - b, c; .8byte 6; .quad 7",
+        b".ascii \"a\", \"b\"; .asciz \"c\"; .string \"\\n\", \"\"",
+        b".zero 4; .space x; .skip 2 * 2",
+        b".option rvc; .option norvc; .option relax; .option norelax",
+        b".option push; .option pop; .option nopic",
+        b".file \"a.c\"; .type f, @function; .size f, . - f; .attribute 4, 16; .hidden a0, (",
+        b".ident \"x\"; .cfi_startproc; .cfi_frob 1 2 3; .protected a; .internal",
+    ];
+    for source in sources {
+        assert!(&rt; refusal(alloc, source) == (0, 0));
+    }
+}
+
+#[test]
 fn operands_that_are_wrong(rt: HostRuntime) {
     let alloc = rt.alloc();
-    let cases: [(&[u8], u8, u32); 38] = [
-        (b"li a0, 1 + 2", 9, 1),
-        (b"li a0, -x", 9, 1),
+    let cases: [(&[u8], u8, u32); 30] = [
         (b"li a0, 1 2", 7, 1),
+        (b"li a0, 1 + (2", 7, 1),
+        (b"li a0, 1 == 2", 9, 1),
+        (b"li a0, %lo(x)", 9, 1),
+        (b"lw a0, %lo(x)(a1)", 9, 1),
         (b"\naddi a0\n", 7, 2),
         (b"addi a0, /*\n\n*/\n", 7, 3),
-        (b".globl a0", 7, 1),
-        (b".globl", 7, 1),
-        (b".option rvc", 9, 1),
-        (b".option frob", 7, 1),
         (b"a0:", 7, 1),
-        (b"1: ecall", 9, 1),
-        (b"08 : ecall", 9, 1),
+        (b"1b: ecall", 6, 1),
         (b"foo a0", 6, 1),
         (b"ecall\n.frob", 8, 2),
         (b".comm x, 4", 9, 1),
-        (b"add a0, a1, a2; sraw t0, t1, 3", 0, 0),
-        (b"amoadd.w.aqrl a0, a1, (a2); lr.d t0, 0x0(t1)", 0, 0),
-        (b"lw a0, 8(sp); sd a1, (a0); lui a0, 1", 0, 0),
-        (b"jalr ra, 4(a0); jalr a0, a1, 4; jalr a0; jalr (a0)", 0, 0),
-        (b"fence; fence rw, io; fence.tso; ebreak", 0, 0),
         (b"sub a0, a1, 3", 7, 1),
         (b"lw a0, a1", 7, 1),
         (b"lw a0, 8", 9, 1),
-        (b"lw a0, (8)(sp)", 9, 1),
+        (b"lw a0, (x)", 9, 1),
+        (b"lw a0, x, t0", 7, 1),
+        (b"sw a0, x, t0", 9, 1),
+        (b"lw a0, 8(foo)", 7, 1),
         (b"amoadd.w a0, a1, 4(a2)", 7, 1),
         (b"amoadd.w.aq.rl a0, a1, (a2)", 6, 1),
-        (b"amoadd a0, a1, (a2)", 6, 1),
         (b"fence wr, r", 7, 1),
         (b"fence.i", 6, 1),
         (b"jal x", 9, 1),
@@ -53,15 +77,54 @@ fn operands_that_are_wrong(rt: HostRuntime) {
         (b"li a0, 4x", 2, 1),
         (b"c.nop", 6, 1),
         (b"5", 6, 1),
-        (b"name : li a0, 'a'; ecall", 0, 0),
-        (
-            b"_start: .globl _start, b\n.option norvc\nli a7, -93\nli a0, 1f\naddi a0, fp, y",
-            0,
-            0,
-        ),
     ];
     for (source, code, line) in cases {
         assert!(&rt; refusal(alloc, source) == (code, line));
+    }
+}
+
+#[test]
+fn directives_that_are_wrong(rt: HostRuntime) {
+    let alloc = rt.alloc();
+    let cases: [(&[u8], u8); 35] = [
+        (b".text 1", 7),
+        (b".section", 7),
+        (b".section \"x\"", 9),
+        (b".section .x -y", 7),
+        (b".section .rv.rows", 9),
+        (b".section .x,\"aG\"", 9),
+        (b".section .x,\"aq\"", 7),
+        (b".section .x,\"aGq\"", 7),
+        (b".section .x,\"a\",@frob", 9),
+        (b".section .x,\"a\",%progbits", 7),
+        (b".section .x,\"a\",@note 4", 7),
+        (b".globl a0", 7),
+        (b".globl", 7),
+        (b".globl a,", 7),
+        (b".globl \"a\"", 9),
+        (b".local .", 7),
+        (b".set x", 7),
+        (b".set a0, 1", 7),
+        (b".set x, y z", 7),
+        (b".align 2, 0", 9),
+        (b".balign 8 8", 7),
+        (b".byte", 7),
+        (b".byte 1,", 7),
+        (b".word %lo(x)", 7),
+        (b".half 1 < 2", 9),
+        (b".ascii", 7),
+        (b".ascii x", 7),
+        (b".zero 4, 1", 7),
+        (b".option arch, +c", 9),
+        (b".option frob", 7),
+        (b".option rvc x", 7),
+        (b".weak x", 9),
+        (b".ident \x01", 1),
+        (b".type 4x", 2),
+        (b".size f // x", 9),
+    ];
+    for (source, code) in cases {
+        assert!(&rt; refusal(alloc, source) == (code, 1));
     }
 }
 
@@ -71,8 +134,8 @@ fn the_first_of_two(rt: HostRuntime) {
     let cases: [(&[u8], u8, u32); 16] = [
         (b"foo a0\n.frob", 6, 1),
         (b".frob\nfoo a0", 8, 1),
-        (b"li a0, 1 + 2; foo", 9, 1),
-        (b"foo; li a0, 1 + 2", 6, 1),
+        (b"li a0, 1 == 2; foo", 9, 1),
+        (b"foo; li a0, 1 == 2", 6, 1),
         (b"ecall a0, \x01", 7, 1),
         (b"ecall\n\x01\nfoo", 1, 2),
         (b"ecall\nfoo \x01", 6, 2),
@@ -84,7 +147,7 @@ fn the_first_of_two(rt: HostRuntime) {
         (b"ecall /*\n*/ a0", 7, 2),
         (b"li /*\n*/ 5, 5", 7, 2),
         (b"/*\n*/ .frob", 8, 2),
-        (b"li a0, /*\n*/ (1)", 9, 2),
+        (b"li a0, /*\n*/ (1,", 7, 2),
     ];
     for (source, code, line) in cases {
         assert!(&rt; refusal(alloc, source) == (code, line));
@@ -107,7 +170,7 @@ fn filled(
 
 #[test]
 fn lines_and_names(rt: HostRuntime) -> Result<(), Fail> {
-    let cases: [(&[u8], u8, usize, &[u8], u8, u32); 15] = [
+    let cases: [(&[u8], u8, usize, &[u8], u8, u32); 18] = [
         (b"", b' ', 65_535, b"\nfoo", 6, 2),
         (b"", b' ', 65_536, b"\nfoo", 17, 1),
         (b"foo", b' ', 65_540, b"", 6, 1),
@@ -123,6 +186,9 @@ fn lines_and_names(rt: HostRuntime) -> Result<(), Fail> {
         (b"", b'a', 4_096, b":", 17, 1),
         (b"", b'a', 4_096, b" x", 6, 1),
         (b"li ", b'a', 4_096, b", 5", 7, 1),
+        (b".section -", b'a', 1, b"", 7, 1),
+        (b".section .a-", b'a', 4_093, b"", 17, 1),
+        (b".ident ", b'a', 4_096, b"", 17, 1),
     ];
     for (front, byte, count, back, code, line) in cases {
         let source = filled(rt.alloc(), front, byte, count, back)?;
@@ -131,23 +197,40 @@ fn lines_and_names(rt: HostRuntime) -> Result<(), Fail> {
     Ok(())
 }
 
-#[test]
-fn statements_past_the_most(rt: HostRuntime) -> Result<(), Fail> {
-    let mut source = Vec::new(rt.alloc());
+/// The most statements, and then this text.
+fn most_and(alloc: Global, behind: &[u8]) -> Result<Vec<u8>, Fail> {
+    let mut source = Vec::new(alloc);
     for _ in 0..4_194_304 {
         source.extend_from_slice(b"a:\n")?;
     }
-    let most = source.len();
-    let cases: [(&[u8], u8, u32); 4] = [
-        (b"\n; # c", 0, 0),
-        (b"\necall", 17, 4_194_306),
-        (b"foo", 6, 4_194_305),
-        (b"li a0, 1 + 2", 17, 4_194_305),
-    ];
-    for (behind, code, line) in cases {
-        source.truncate(most);
-        source.extend_from_slice(behind)?;
-        assert!(&rt; refusal(rt.alloc(), source.as_slice()) == (code, line));
-    }
+    source.extend_from_slice(behind)?;
+    Ok(source)
+}
+
+#[test]
+fn the_most_statements(rt: HostRuntime) -> Result<(), Fail> {
+    let source = most_and(rt.alloc(), b"\n; # c")?;
+    assert!(&rt; refusal(rt.alloc(), source.as_slice()) == (0, 0));
+    Ok(())
+}
+
+#[test]
+fn a_statement_past_the_most(rt: HostRuntime) -> Result<(), Fail> {
+    let source = most_and(rt.alloc(), b"\necall")?;
+    assert!(&rt; refusal(rt.alloc(), source.as_slice()) == (17, 4_194_306));
+    Ok(())
+}
+
+#[test]
+fn an_unknown_one_past_the_most(rt: HostRuntime) -> Result<(), Fail> {
+    let source = most_and(rt.alloc(), b"foo")?;
+    assert!(&rt; refusal(rt.alloc(), source.as_slice()) == (6, 4_194_305));
+    Ok(())
+}
+
+#[test]
+fn a_wrong_one_past_the_most(rt: HostRuntime) -> Result<(), Fail> {
+    let source = most_and(rt.alloc(), b"li a0, 1 == 2")?;
+    assert!(&rt; refusal(rt.alloc(), source.as_slice()) == (17, 4_194_305));
     Ok(())
 }

@@ -2,15 +2,18 @@
 
 ghost use Rattle.std.specs.Prelude.{◌≡◌, map, ◌||◌, ◌&&◌, take, drop, length, option_map, is_some, codes};
 ghost use Rattle.std.specs.Str.{bytes_eq};
-ghost use Rattle.rv_parse_laws.specs.Words.{base_words, pseudo_words, directive_words, atomic_words, atomic_ends, option_words, is_among, is_atomic_of, is_known, is_frame_directive, beginning, register, named_in, atomic_forms, form_behind, either, atomic_in, atomic_operations, instruction_words, mnemonic_named};
-ghost use Rattle.rv_parse_laws.specs.declared.mnemonic.Mnemonic.TheVariants.{LoadReserved};
-ghost use Rattle.rv_parse_laws.specs.Syntax.{access_sets, with_constant};
+ghost use Rattle.rv_parse_laws.specs.Words.{base_words, pseudo_words, left_out_directives, atomic_words, atomic_ends, left_out_options, section_types, choices, is_among, is_atomic_of, is_known, frame_directive, directive_words, directive_named, beginning, register, named_in, atomic_forms, form_behind, either, atomic_in, atomic_operations, instruction_words, mnemonic_named};
+ghost use Rattle.rv_statement.specs.declared.mnemonic.Mnemonic.TheVariants.{LoadReserved};
+ghost use Rattle.std.specs.List.{list_all};
+ghost use Rattle.rv_parse_laws.specs.Syntax.{access_sets, with_constant, is_flag};
+ghost use Rattle.rv_parse_laws.specs.Faults.{is_known_flag};
 ghost use Rattle.rv_parse.specs.View.{beginning_of, named_of};
 
 use rv_isa::{Reg, reg_named};
-use rv_parse_laws::{
-    AccessSet, AtomicForm, AtomicOperation, ImmediateOperation, LoadOperation, Mnemonic,
-    RegisterOperation, ShiftOperation, StoreOperation, UpperOperation,
+use rv_statement::{
+    AccessSet, AtomicForm, AtomicOperation, Choice, DirectiveWord, ImmediateOperation,
+    LoadOperation, Mnemonic, RegisterOperation, ShiftOperation, Standard, StoreOperation,
+    UpperOperation, Width,
 };
 
 /// The base instructions but the atomics.
@@ -102,45 +105,9 @@ const PSEUDO_WORDS: [&str; 37] = [
     "unimp",
 ];
 
-/// The directives of the language and those that it leaves out by name.
-const DIRECTIVE_WORDS: [&str; 48] = [
-    ".text",
-    ".data",
-    ".rodata",
-    ".bss",
-    ".section",
-    ".globl",
-    ".global",
-    ".local",
+/// The directives that the language leaves out by name.
+const LEFT_OUT_DIRECTIVES: [&str; 12] = [
     ".weak",
-    ".set",
-    ".equ",
-    ".align",
-    ".p2align",
-    ".balign",
-    ".byte",
-    ".half",
-    ".2byte",
-    ".word",
-    ".4byte",
-    ".dword",
-    ".8byte",
-    ".quad",
-    ".ascii",
-    ".asciz",
-    ".string",
-    ".zero",
-    ".space",
-    ".skip",
-    ".option",
-    ".file",
-    ".ident",
-    ".type",
-    ".size",
-    ".attribute",
-    ".hidden",
-    ".protected",
-    ".internal",
     ".comm",
     ".macro",
     ".rept",
@@ -154,10 +121,8 @@ const DIRECTIVE_WORDS: [&str; 48] = [
     ".loc",
 ];
 
-/// The options, `norvc` apart, and those that the language leaves out by name.
-const OPTION_WORDS: [&str; 8] = [
-    "rvc", "relax", "norelax", "push", "pop", "nopic", "arch", "pic",
-];
+/// The options that the language leaves out by name.
+const LEFT_OUT_OPTIONS: [&str; 2] = ["arch", "pic"];
 
 /// The word is in the list.
 fn is_among(words: &[&str], word: &[u8]) -> bool
@@ -187,12 +152,12 @@ fn is_pseudo(word: &[u8]) -> bool
     is_among(&PSEUDO_WORDS, word)
 }
 
-/// A directive of the language, or one that it leaves out by name.
-#[tactic(auto, unfolding(rv_parse_laws::specs::Words::directive_words))]
-fn is_directive(word: &[u8]) -> bool
-    ensures { result ≡ is_among directive_words word.now }
+/// A directive that the language leaves out by name.
+#[tactic(auto, unfolding(rv_parse_laws::specs::Words::left_out_directives))]
+fn is_left_out_directive(word: &[u8]) -> bool
+    ensures { result ≡ is_among left_out_directives word.now }
 {
-    is_among(&DIRECTIVE_WORDS, word)
+    is_among(&LEFT_OUT_DIRECTIVES, word)
 }
 
 /// A width and the ordering bits of an atomic.
@@ -233,31 +198,69 @@ fn is_atomic(word: &[u8]) -> bool
     is_atomic_of(&ATOMIC_WORDS, word)
 }
 
-/// Call frame information, whatever follows the common front.
-fn is_frame_directive(word: &[u8]) -> bool
-    ensures { result ≡ is_frame_directive word.now }
-{
-    word.starts_with(b".cfi_")
-}
-
-/// A mnemonic or directive that the language has, or leaves out by name.
+/// A mnemonic that the language has, or a mnemonic or directive that it leaves out by name.
 #[tactic(auto, unfolding(rv_parse_laws::specs::Words::is_known))]
 pub fn is_known(word: &[u8]) -> bool
     ensures { result ≡ is_known word.now }
 {
-    is_base(word)
-        || is_pseudo(word)
-        || is_directive(word)
-        || is_atomic(word)
-        || is_frame_directive(word)
+    is_base(word) || is_pseudo(word) || is_left_out_directive(word) || is_atomic(word)
 }
 
-/// An option that is not built.
-#[tactic(auto, unfolding(rv_parse_laws::specs::Words::option_words))]
-pub fn is_option(word: &[u8]) -> bool
-    ensures { result ≡ is_among option_words word.now }
+/// An option that the language leaves out by name.
+#[tactic(auto, unfolding(rv_parse_laws::specs::Words::left_out_options))]
+pub fn is_left_out_option(word: &[u8]) -> bool
+    ensures { result ≡ is_among left_out_options word.now }
 {
-    is_among(&OPTION_WORDS, word)
+    is_among(&LEFT_OUT_OPTIONS, word)
+}
+
+/// The types that sections may have.
+const SECTION_TYPES: [&str; 3] = ["progbits", "nobits", "note"];
+
+/// A type that a section may have.
+#[tactic(auto, unfolding(rv_parse_laws::specs::Words::section_types))]
+pub fn is_section_type(word: &[u8]) -> bool
+    ensures { result ≡ is_among section_types word.now }
+{
+    is_among(&SECTION_TYPES, word)
+}
+
+/// A letter of a section's flags: a w x, and M and S, which are dropped.
+fn is_flag(letter: u8) -> bool
+    ensures { result ≡ is_flag letter }
+{
+    matches!(letter, b'a' | b'w' | b'x' | b'M' | b'S')
+}
+
+/// A letter of flags that the language has, or leaves out by name.
+fn is_known_flag(letter: u8) -> bool
+    ensures { result ≡ is_known_flag letter }
+{
+    is_flag(letter) || matches!(letter, b'G' | b'T')
+}
+
+/// The flags of a section.
+pub fn are_flags(letters: &[u8]) -> bool
+    ensures { result ≡ list_all is_flag letters.now }
+{
+    for letter in letters {
+        if !is_flag(*letter) {
+            return false;
+        }
+    }
+    true
+}
+
+/// Flags that the language has, or leaves out by name.
+pub fn are_known_flags(letters: &[u8]) -> bool
+    ensures { result ≡ list_all is_known_flag letters.now }
+{
+    for letter in letters {
+        if !is_known_flag(*letter) {
+            return false;
+        }
+    }
+    true
 }
 
 /// The register of this name.
@@ -510,14 +513,81 @@ fn mnemonic_named(word: &[u8]) -> Option<Mnemonic>
     }
 }
 
+/// The directives that are built, but those of call frames.
+const DIRECTIVES: [(&str, DirectiveWord); 36] = [
+    (".text", DirectiveWord::Enters(Standard::Text)),
+    (".data", DirectiveWord::Enters(Standard::Data)),
+    (".rodata", DirectiveWord::Enters(Standard::Rodata)),
+    (".bss", DirectiveWord::Enters(Standard::Bss)),
+    (".section", DirectiveWord::Section),
+    (".globl", DirectiveWord::Globl),
+    (".global", DirectiveWord::Globl),
+    (".local", DirectiveWord::Local),
+    (".set", DirectiveWord::Set),
+    (".equ", DirectiveWord::Set),
+    (".align", DirectiveWord::AlignToPower),
+    (".p2align", DirectiveWord::AlignToPower),
+    (".balign", DirectiveWord::AlignToBytes),
+    (".byte", DirectiveWord::Value(Width::Byte)),
+    (".half", DirectiveWord::Value(Width::Half)),
+    (".2byte", DirectiveWord::Value(Width::Half)),
+    (".word", DirectiveWord::Value(Width::Word)),
+    (".4byte", DirectiveWord::Value(Width::Word)),
+    (".dword", DirectiveWord::Value(Width::Double)),
+    (".8byte", DirectiveWord::Value(Width::Double)),
+    (".quad", DirectiveWord::Value(Width::Double)),
+    (".ascii", DirectiveWord::Ascii),
+    (".asciz", DirectiveWord::Asciz),
+    (".string", DirectiveWord::Asciz),
+    (".zero", DirectiveWord::Zero),
+    (".space", DirectiveWord::Zero),
+    (".skip", DirectiveWord::Zero),
+    (".option", DirectiveWord::Option),
+    (".file", DirectiveWord::Ignored),
+    (".ident", DirectiveWord::Ignored),
+    (".type", DirectiveWord::Ignored),
+    (".size", DirectiveWord::Ignored),
+    (".attribute", DirectiveWord::Ignored),
+    (".hidden", DirectiveWord::Ignored),
+    (".protected", DirectiveWord::Ignored),
+    (".internal", DirectiveWord::Ignored),
+];
+
+/// Call frame information, whatever follows the common front.
+fn frame_directive(word: &[u8]) -> Option<DirectiveWord>
+    ensures { result ≡ frame_directive word.now }
+{
+    if word.starts_with(b".cfi_") {
+        Some(DirectiveWord::Ignored)
+    } else {
+        None
+    }
+}
+
+/// The directive of the table that the word is.
+#[tactic(auto, unfolding(rv_parse_laws::specs::Words::directive_words))]
+fn listed_directive(word: &[u8]) -> Option<DirectiveWord>
+    ensures { result ≡ named_in directive_words word.now }
+{
+    named_in(&DIRECTIVES, word)
+}
+
+/// The directive that the word is.
+#[tactic(auto, unfolding(rv_parse_laws::specs::Words::directive_named))]
+fn directive_named(word: &[u8]) -> Option<DirectiveWord>
+    ensures { result ≡ directive_named word.now }
+{
+    match listed_directive(word) {
+        Some(directive) => Some(directive),
+        None => frame_directive(word),
+    }
+}
+
 /// What a word begins that is built.
 #[derive(Clone, Copy, Debug, PartialEq, Eq, Drop)]
 pub enum Beginning {
     Instruction(Mnemonic),
-    /// `.globl` and `.global`
-    Globl,
-    /// `.option`
-    Option,
+    Directive(DirectiveWord),
     Nothing,
 }
 
@@ -528,13 +598,30 @@ pub fn beginning_with(word: &[u8]) -> Beginning
 {
     if let Some(mnemonic) = mnemonic_named(word) {
         Beginning::Instruction(mnemonic)
-    } else if word == b".globl".as_slice() || word == b".global".as_slice() {
-        Beginning::Globl
-    } else if word == b".option".as_slice() {
-        Beginning::Option
+    } else if let Some(directive) = directive_named(word) {
+        Beginning::Directive(directive)
     } else {
         Beginning::Nothing
     }
+}
+
+/// What `.option` may say.
+const OPTIONS: [(&str, Choice); 7] = [
+    ("rvc", Choice::Rvc),
+    ("norvc", Choice::Norvc),
+    ("relax", Choice::Relax),
+    ("norelax", Choice::Norelax),
+    ("push", Choice::Push),
+    ("pop", Choice::Pop),
+    ("nopic", Choice::Nopic),
+];
+
+/// The choice of this name.
+#[tactic(auto, unfolding(rv_parse_laws::specs::Words::choices))]
+pub fn choice_named(word: &[u8]) -> Option<Choice>
+    ensures { result ≡ named_in choices word.now }
+{
+    named_in(&OPTIONS, word)
 }
 
 /// The sets of accesses by their letters.

@@ -6,12 +6,12 @@ use Rattle.std.proofs.Math.Seq.{take-append_seam, drop-append_seam}
 use Rattle.rv_text_laws.specs.Cut.{Piece, texts, NothingReads}
 use Rattle.rv_text_laws.specs.Lexing.{Token}
 use Rattle.rv_text_laws.proofs.Cut.{none_nothing, nothing_none}
-use Rattle.rv_parse_laws.specs.Statement.{Spoken}
+use Rattle.rv_statement.specs.Statement.{Spoken}
 use Rattle.rv_parse_laws.specs.Syntax.{Part, Ends, Says, IsPart, StopsPart, is_end}
 use Rattle.rv_parse_laws.specs.Parsing.{part_at}
 use Rattle.rv_text_laws.specs.Wrong.{Wrong}
 use Rattle.rv_parse_laws.specs.Reading.{AreParts, told, said}
-use Rattle.rv_parse_laws.proofs.Shown.{heads}
+use Rattle.rv_parse_laws.proofs.Failing.{heads}
 use Rattle.rv_parse_laws.proofs.Whole.{counted, counted_none, find_part, finds_parts, no_tokens}
 
 -- the cut up to the rest goes on to the other

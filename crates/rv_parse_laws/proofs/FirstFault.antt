@@ -6,13 +6,13 @@ use Rattle.rv_text_laws.specs.Cut.{Piece, texts, NothingReads, cut}
 use Rattle.rv_text_laws.specs.Lexing.{Token, Lexes, newlines}
 use Rattle.rv_text_laws.proofs.Cut.{unique, nothing_none}
 use Rattle.rv_text_laws.proofs.Tokens.{one_list}
-use Rattle.rv_parse_laws.specs.Statement.{Spoken}
+use Rattle.rv_statement.specs.Statement.{Spoken}
 use Rattle.rv_parse_laws.specs.Syntax.{Part, IsPart, StopsPart, is_end}
-use Rattle.rv_parse_laws.specs.Parsing.{part_at, after_first}
+use Rattle.rv_parse_laws.specs.Parsing.{part_at}
 use Rattle.rv_text_laws.specs.Wrong.{limit, Wrong, place_of}
-use Rattle.rv_parse_laws.specs.Reading.{AreParts, Reads, said, past_line, longest_source, most_statements, CanGoOn, code_at, WrongToken, PastStatements, Stands, Fault, Refuses}
-use Rattle.rv_parse_laws.proofs.Shown.{heads, tails}
-use Rattle.rv_parse_laws.proofs.PartWrong.{code_in_part, part_shown}
+use Rattle.rv_parse_laws.specs.Reading.{AreParts, Reads, said, past_line, longest_source, most_statements, CanGoOn, code_of, code_at, WrongToken, PastStatements, Stands, Fault, Refuses}
+use Rattle.rv_parse_laws.proofs.Failing.{heads, tails}
+use Rattle.rv_parse_laws.proofs.Parts.{part_wrong, stops_there}
 use Rattle.rv_parse_laws.proofs.Whole.{find_part, finds_parts}
 use Rattle.rv_parse_laws.proofs.Cutting.{GoesOn, comparable, no_part, wrong_there, no_further, same_or_more, nothing_more_said, none_at_end}
 use Rattle.rv_parse_laws.proofs.Places.{LineIs, Standing, stand, standing_at, standing_behind, place_at_least, place_of_none, ended_rest}
@@ -27,10 +27,6 @@ standing_from bytes ts before t us lexes whole =
     let h = standing_behind bytes 0 before (t ∷ us) (subst (Standing bytes 0) whole (stand bytes ts lexes)) in
     (omega arith, h.1, h.2)
 
-same_code : (rest before : List Token) (at : Token) (more : List Token) → rest ≡ before ++ at ∷ more → code_in_part rest before at ≡ code_at before at more
-same_code rest [] at more whole = ap (λ us. code_at [] at (after_first us)) whole
-same_code rest (b ∷ before) at more whole = refl
-
 -- what is known where the part at the front of the rest is wrong
 pub record WrongPart (bytes : List ℕ) (t : Token) (w : Wrong) : Type 0 where
   pub stands : WrongToken bytes w.place w.code
@@ -40,9 +36,9 @@ pub record WrongPart (bytes : List ℕ) (t : Token) (w : Wrong) : Type 0 where
 pub wrong_part : (bytes : List ℕ) (ts : List Token) (parts : List (Piece Part Token)) (t : Token) (us : List Token) (w : Wrong) → Lexes bytes ts → AreParts ts parts (t ∷ us)
     → part_at (t ∷ us) ≡ Err w → WrongPart bytes t w
 wrong_part bytes ts parts t us w lexes cut e =
-    let s = part_shown (t ∷ us) w (ended_rest bytes ts (texts parts) t us lexes cut.whole) e in
-    let code : w.code ≡ code_in_part (t ∷ us) s.before s.at = ap (λ (x : Wrong). x.code) s.is_wrong in
-    let place : w.place ≡ place_of s.at w.code = ap (λ (x : Wrong). x.place) s.is_wrong ∙ ap (place_of s.at) (sym code) in
+    let s = part_wrong (t ∷ us) w (ended_rest bytes ts (texts parts) t us lexes cut.whole) e in
+    let code : w.code ≡ code_at s.before s.at s.more = sym (ap code_of (ap part_at (sym s.whole) ∙ e)) in
+    let place : w.place ≡ place_of s.at w.code = ap (λ (x : Wrong). x.place) s.is_wrong ∙ ap (place_of s.at) (sym (ap (λ (x : Wrong). x.code) s.is_wrong)) in
     let whole : ts ≡ (texts parts ++ s.before) ++ s.at ∷ s.more = cut.whole ∙ ap (λ xs. texts parts ++ xs) s.whole ∙ sym (append_assoc (texts parts) s.before (s.at ∷ s.more)) in
     let line : s.at.line ≡ 1 + newlines (take (place_of s.at w.code) bytes) = token_line bytes ts (texts parts ++ s.before) s.at s.more lexes whole w.code in
     let from = (standing_at bytes t.start s.before s.at s.more (subst (Standing bytes t.start) s.whole (standing_from bytes ts (texts parts) t us lexes cut.whole))).0 in
@@ -59,9 +55,9 @@ wrong_part bytes ts parts t us w lexes cut e =
         at = s.at;
         more = s.more;
         whole = s.whole;
-        goes = (s.goes.1.0, s.goes.0, s.goes.1.1, s.goes.1.2);
-        stops = λ h. s.stops h.1 (h.0, h.2, h.3);
-        code_is = code ∙ same_code (t ∷ us) s.before s.at s.more s.whole;
+        goes = (s.goes.1, s.goes.0, s.goes.2.0, s.goes.2.1);
+        stops = λ h. stops_there (t ∷ us) w s h.0 h.1 (h.2, subst (IsPart h.0) (append_assoc s.before (s.at ∷ []) h.1) h.3);
+        code_is = code;
         place_is = place;
       };
       line = ap (λ (x : Wrong). x.line) s.is_wrong ∙ line ∙ ap (λ n. 1 + newlines (take n bytes)) (sym place);

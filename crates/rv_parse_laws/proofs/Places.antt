@@ -11,11 +11,10 @@ use Rattle.rv_text_laws.specs.declared.class.Class.TheVariants.{Letter, Foreign}
 use Rattle.rv_text_laws.specs.Cut.{Piece, texts, Each}
 use Rattle.rv_text_laws.specs.Bytes.{class, is_word}
 use Rattle.rv_text_laws.specs.Grammar.{Kind, Name, Spells, Stops}
-use Rattle.rv_text_laws.specs.Lexing.{Token, newlines, placed, is_gap, tokens_of, bad, last_kind, is_last, last, Lexes}
+use Rattle.rv_text_laws.specs.Lexing.{Token, newlines, placed, is_gap, tokens_of, bad, last_kind, is_last, ended, last, Lexes}
 use Rattle.rv_text_laws.proofs.Pieces.{pieces}
 use Rattle.rv_text_laws.proofs.Tokens.{newlines-append}
 use Rattle.rv_text_laws.specs.Wrong.{longest_name, limit, is_long, place_of}
-use Rattle.rv_parse_laws.proofs.Shown.{ended}
 
 -- the line of a token's faults is the token's
 abbrev pub LineIs : List ℕ → Token → Type 0

@@ -1,14 +1,14 @@
 -- One part more at the end of those that were read.
 
-use Rattle.std.proofs.Common.{◌≡◌, ℕ, Bool, true, false, List, [], ◌∷◌, ◌++◌, append_assoc, Result, Ok, Err, refl, sym, ◌∙◌, ap, subst, length, length-append, ◌<◌, arith}
-use Rattle.rv_text_laws.specs.Cut.{Piece, texts, Each, Cuts}
+use Rattle.std.proofs.Common.{◌≡◌, true, false, List, [], ◌∷◌, ◌++◌, append_assoc, Ok, refl, sym, ◌∙◌, ap, subst, length, length-append, ◌<◌, arith}
+use Rattle.rv_text_laws.specs.Cut.{Piece, texts, Each}
 use Rattle.rv_text_laws.specs.Lexing.{Token, is_last}
 use Rattle.rv_text_laws.specs.Grammar.{Kind, Bad_byte, Bad_token, End}
-use Rattle.rv_parse_laws.specs.Statement.{Statement, Label, Norvc, Globl, Instruction, Directs, Spoken}
+use Rattle.rv_statement.specs.Statement.{Statement, Spoken}
 use Rattle.rv_parse_laws.specs.Syntax.{Part, Ends, Says, IsPart, StopsPart, is_end, is_source_end}
 use Rattle.rv_parse_laws.specs.Parsing.{part_at}
-use Rattle.rv_parse_laws.specs.Reading.{AreParts, said, told, SaysUpTo}
-use Rattle.rv_parse_laws.proofs.Found.{part_found}
+use Rattle.rv_parse_laws.specs.Reading.{said, told, SaysUpTo}
+use Rattle.rv_parse_laws.proofs.Parts.{part_found, part_nonempty}
 
 texts_push : (ps : List (Piece Part Token)) (x : Piece Part Token) (rest : List Token) → texts (ps ++ x ∷ []) ++ rest ≡ texts ps ++ (x.text ++ rest)
 texts_push [] x rest = append_assoc x.text [] rest
@@ -43,11 +43,7 @@ push_end ts t before rest ss so is ends =
 
 -- no statement is said by no tokens
 no_text : (s : Statement) → IsPart (Says s) [] → ⊥
-no_text (Label name) (t, c, w, is, colon) = cc
-no_text (Instruction m os) (t, more, w, is, are) = cc
-no_text (Globl names) (t, more, w, is, are) = cc
-no_text Norvc (t, o, w, is, norvc) = cc
-no_text (Directs directive) none = none
+no_text s is = let n = part_nonempty (Says s) [] is in let w : [] ≡ n.0 ∷ n.1 = n.2 in cc
 
 -- a statement, with its line
 pub push_statement : (ts : List Token) (t : Token) (before us rest : List Token) (s : Statement) (ss : List Spoken) → SaysUpTo ts before ss → before ≡ t ∷ us

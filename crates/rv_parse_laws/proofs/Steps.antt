@@ -1,6 +1,6 @@
 -- What an answer of a reading at the front of tokens says of its steps.
 
-use Rattle.std.proofs.Common.{◌≡◌, ℕ, Bool, true, false, cond, List, [], ◌∷◌, ◌++◌, Option, Some, None, Result, Ok, Err, refl, sym, ◌∙◌, ap, ◌⊎◌, inl, inr}
+use Rattle.std.proofs.Common.{◌≡◌, ℕ, Bool, true, false, cond, List, Option, Some, None, Result, Ok, Err, refl, sym, ap, ◌⊎◌, inl, inr}
 use Rattle.rv_text_laws.specs.Lexing.{Token}
 use Rattle.rv_parse_laws.specs.Parsing.{◌>>=◌, seen_as, taken}
 use Rattle.rv_text_laws.specs.Wrong.{Wrong, wrong, Read}

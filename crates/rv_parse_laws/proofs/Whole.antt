@@ -1,18 +1,17 @@
 -- The tokens of a source have at most one cut into parts, so bytes have at most one reading.
 
-use Rattle.std.proofs.Common.{◌≡◌, ℕ, zero, suc, ◌+◌, ◌-◌, ◌<◌, ◌≤◌, Bool, true, false, cond, List, [], ◌∷◌, ◌++◌, length, length-append, Option, Some, None, Result, Ok, Err, refl, sym, ◌∙◌, ap, subst, arith, ◌⊎◌, inl, inr}
-use Rattle.rv_text_laws.specs.Cut.{Piece, texts, Cuts, NothingReads, cut, Finds}
+use Rattle.std.proofs.Common.{◌≡◌, ℕ, ◌-◌, ◌<◌, ◌≤◌, List, [], ◌++◌, length, length-append, Option, Some, None, Ok, Err, refl, sym, ◌∙◌, ap, subst, arith}
+use Rattle.rv_text_laws.specs.Cut.{Piece, Finds}
 use Rattle.rv_text_laws.specs.Lexing.{Token, Lexes}
-use Rattle.rv_text_laws.proofs.Cut.{unique, none_nothing, nothing_none}
-use Rattle.rv_parse_laws.specs.Statement.{Statement, Label, Norvc, Globl, Instruction, Directs, Spoken}
-use Rattle.rv_parse_laws.specs.Syntax.{Slot, Part, Ends, Says, IsPart, StopsPart}
+use Rattle.rv_text_laws.proofs.Cut.{unique}
+use Rattle.rv_statement.specs.Statement.{Spoken}
+use Rattle.rv_parse_laws.specs.Syntax.{Part, IsPart, StopsPart}
 use Rattle.rv_parse_laws.specs.Parsing.{part_at}
 use Rattle.rv_text_laws.specs.Wrong.{Wrong, Read}
 use Rattle.rv_text_laws.proofs.Tokens.{one_list, given}
 use Rattle.rv_parse_laws.specs.Reading.{AreParts, Reads, said, SaysUpTo, past_line, longest_source, most_statements}
 use Rattle.rv_text_laws.specs.Front.{tokens_from}
-use Rattle.rv_parse_laws.proofs.Parts.{part_is}
-use Rattle.rv_parse_laws.proofs.Found.{part_found}
+use Rattle.rv_parse_laws.proofs.Parts.{part_is, part_found, part_nonempty}
 
 -- a part and how many tokens it has, of a reading at the front of so many tokens
 abbrev pub counted : ℕ → Read Part → Option (Part × ℕ)
@@ -33,12 +32,7 @@ counted_none n (Ok (q, rest)) e = absurd (cc)
 counted_none n (Err w) e = (w, refl)
 
 part_some : (p : Part) (text : List Token) → IsPart p text → 0 < length text
-part_some Ends text (t, w, is) = rw w (omega arith)
-part_some (Says (Label name)) text (t, c, w, is, colon) = rw w (omega arith)
-part_some (Says (Instruction m os)) text (t, more, w, is, are) = rw w (omega arith)
-part_some (Says (Globl names)) text (t, more, w, is, are) = rw w (omega arith)
-part_some (Says Norvc) text (t, o, w, is, norvc) = rw w (omega arith)
-part_some (Says (Directs directive)) text none = absurd none
+part_some p text is = let n = part_nonempty p text is in rw n.2 (omega arith)
 
 seam : (text rest : List Token) → length (text ++ rest) - length rest ≡ length text
 seam text rest = omega (arith, length-append text rest)

@@ -1,15 +1,14 @@
 -- The codes of the faults of phase one, by what stands before a token and at it (GNU as, "Statements", for the syntax).
+-- What is wrong inside an expression is said with the expressions.
 
-use Rattle.std.specs.Prelude.{◌≡◌, ℕ, Bool, true, false, ◌&&◌, ◌||◌, not, nat_lt, List, [], ◌∷◌, length, is_some, slice_get, Option, Some, codes, take, if◌then◌else◌}
+use Rattle.std.specs.Prelude.{ℕ, Bool, true, false, ◌||◌, ◌==◌, nat_lt, List, length, codes, take, if◌then◌else◌}
 use Rattle.std.specs.List.{list_all}
 use Rattle.std.specs.Str.{bytes_eq}
-use Rattle.rv_text_laws.specs.declared.sign.Sign.{Sign}
-use Rattle.rv_text_laws.specs.declared.sign.Sign.TheVariants.{Open, Plus, Minus as MinusSign, Star, Slash, Percent, ShiftLeft, ShiftRight, Bar, Ampersand, Caret, Tilde, Equal, NotEqual, LessGreater, Less, Greater, LessEqual, GreaterEqual, DoubleSlash}
-use Rattle.rv_text_laws.specs.Bytes.{is_decimal}
-use Rattle.rv_text_laws.specs.Grammar.{Kind, Mark, Name as NameToken, Number, Reference as ReferenceToken, Bad_word, Text, Bad_byte, Bad_token}
-use Rattle.rv_text_laws.specs.Wrong.{longest_name, limit}
-use Rattle.rv_parse_laws.specs.Words.{register, is_known, is_among, option_words, Beginning, Begins_instruction, Begins_globl, Begins_option, Begins_nothing}
-use Rattle.rv_parse_laws.specs.Syntax.{Slot, A_register, A_value, An_offset, A_base, A_zero, Some_accesses, A_comma, An_opening, A_closing, begins, value_begins}
+use Rattle.rv_text_laws.specs.declared.sign.Sign.TheVariants.{DoubleSlash}
+use Rattle.rv_text_laws.specs.Grammar.{Kind, Mark, Name as NameToken, Bad_word, Text, Bad_byte, Bad_token}
+use Rattle.rv_text_laws.specs.Wrong.{longest_name, limit, is_long}
+use Rattle.rv_parse_laws.specs.Words.{is_known, is_among, left_out_options}
+use Rattle.rv_parse_laws.specs.Syntax.{Role, In_operand, In_load, In_store, In_alignment, Slot, A_value, A_symbol, A_string, Some_flags, At_sign, A_type, An_option, A_comma, An_opening, A_closing, is_comma, is_end, is_flag}
 
 -- the codes, by their numbers
 abbrev pub bad_byte : ℕ
@@ -38,95 +37,75 @@ wrong_or (Bad_word word) code = bad_token
 wrong_or (Mark DoubleSlash) code = unsupported_here
 wrong_or _ code = code
 
--- a name that is no symbol's, where a symbol may stand: `dot` is the code of `.`
-abbrev pub wrong_name : ℕ → List ℕ → ℕ
-wrong_name dot name =
-    if is_some (register name) then bad_operands
-    else (if bytes_eq name (codes ".") then dot
-    else (if nat_lt longest_name (length name) then limit else bad_operands))
+-- a name that is no symbol's, where a symbol may stand
+abbrev pub wrong_name : List ℕ → ℕ
+wrong_name name = if nat_lt longest_name (length name) then limit else bad_operands
 
--- where a register is wanted
+-- where a register is wanted, a literal 0, or what a fence orders; a string would be a quoted name
 abbrev pub wrong_register : Kind → ℕ
 wrong_register (Text bytes) = unsupported_here
 wrong_register k = wrong_or k bad_operands
 
--- where an expression may begin: other expressions of the full language are not built yet
-abbrev pub wrong_value : Kind → ℕ
-wrong_value (NameToken name) = wrong_name unsupported_here name
-wrong_value (Text bytes) = unsupported_here
-wrong_value (Mark Open) = unsupported_here
-wrong_value (Mark Plus) = unsupported_here
-wrong_value (Mark Tilde) = unsupported_here
-wrong_value (Mark Percent) = unsupported_here
-wrong_value k = wrong_or k bad_operands
+-- a function call with `%`, which instructions may have for a value, is not built yet
+abbrev pub may_call : Role → Bool
+may_call In_operand = true
+may_call In_load = true
+may_call In_store = true
+may_call _ = false
 
--- after a minus: a literal is built
-abbrev pub wrong_literal : Kind → ℕ
-wrong_literal (NameToken name) = if is_some (register name) then bad_operands else unsupported_here
-wrong_literal (ReferenceToken digits forward) = unsupported_here
-wrong_literal (Text bytes) = unsupported_here
-wrong_literal (Mark Open) = unsupported_here
-wrong_literal (Mark Plus) = unsupported_here
-wrong_literal (Mark MinusSign) = unsupported_here
-wrong_literal (Mark Tilde) = unsupported_here
-wrong_literal k = wrong_or k bad_operands
+-- behind a whole expression: a symbol load or store is not built yet; a fill or a limit of an alignment is left out
+abbrev pub wrong_after_value : Role → Kind → ℕ
+wrong_after_value In_load k = if is_end k then unsupported_here else wrong_or k bad_operands
+wrong_after_value In_store k = if is_end k || is_comma k then unsupported_here else wrong_or k bad_operands
+wrong_after_value In_alignment k = if is_comma k then unsupported_here else wrong_or k bad_operands
+wrong_after_value _ k = wrong_or k bad_operands
 
--- the operators between two parts of an expression, and the comparisons that the language leaves out
-abbrev pub is_operator : Sign → Bool
-is_operator Plus = true
-is_operator MinusSign = true
-is_operator Star = true
-is_operator Slash = true
-is_operator Percent = true
-is_operator ShiftLeft = true
-is_operator ShiftRight = true
-is_operator Bar = true
-is_operator Ampersand = true
-is_operator Caret = true
-is_operator Equal = true
-is_operator NotEqual = true
-is_operator LessGreater = true
-is_operator Less = true
-is_operator Greater = true
-is_operator LessEqual = true
-is_operator GreaterEqual = true
-is_operator _ = false
-
--- after an expression: a longer one is not built yet
-abbrev pub wrong_after_value : Kind → ℕ
-wrong_after_value (Mark sign) = if is_operator sign then unsupported_here else wrong_or (Mark sign) bad_operands
-wrong_after_value k = wrong_or k bad_operands
-
--- behind what stands in a place; behind an offset a symbol's place in memory, or a number's, is not built yet
+-- behind what stands in a place
 abbrev pub wrong_after : Slot → Kind → ℕ
-wrong_after A_value k = wrong_after_value k
-wrong_after An_offset k = wrong_or k unsupported_here
+wrong_after (A_value role) k = wrong_after_value role k
 wrong_after _ k = wrong_or k bad_operands
 
--- where an address's register is wanted: an expression in parentheses is not built yet
-abbrev pub wrong_base : Kind → ℕ
-wrong_base k = if value_begins k then unsupported_here else wrong_value k
-
--- where what stands in a place begins
-abbrev pub wrong_first : Slot → Kind → ℕ
-wrong_first A_value k = wrong_value k
-wrong_first An_offset k = wrong_value k
-wrong_first A_base k = wrong_base k
-wrong_first (A_comma behind) k = wrong_after behind k
-wrong_first (An_opening behind) k = wrong_after behind k
-wrong_first A_closing k = wrong_or k bad_operands
-wrong_first _ k = wrong_register k
-
--- where a list of symbols wants one
+-- where a symbol is wanted in a directive
 abbrev pub wrong_symbol : Kind → ℕ
-wrong_symbol (NameToken name) = wrong_name bad_operands name
+wrong_symbol (NameToken name) = wrong_name name
 wrong_symbol (Text bytes) = unsupported_here
 wrong_symbol k = wrong_or k bad_operands
 
+-- a letter of flags that the language leaves out: G and T
+abbrev pub is_known_flag : ℕ → Bool
+is_known_flag letter = is_flag letter || (letter == 71) || (letter == 84)
+
+-- a section's flags; an unknown letter counts before those that are left out
+abbrev pub wrong_flags : Kind → ℕ
+wrong_flags (Text letters) = if list_all is_known_flag letters then unsupported_here else bad_operands
+wrong_flags k = wrong_or k bad_operands
+
+-- a section's type
+abbrev pub wrong_type : Kind → ℕ
+wrong_type (NameToken name) = unsupported_here
+wrong_type k = wrong_or k bad_operands
+
 -- the word after `.option`
 abbrev pub wrong_option : Kind → ℕ
-wrong_option (NameToken name) = if is_among option_words name then unsupported_here else bad_operands
+wrong_option (NameToken name) = if is_among left_out_options name then unsupported_here else bad_operands
 wrong_option k = wrong_or k bad_operands
+
+-- where what stands in a place begins
+abbrev pub wrong_first : Slot → Kind → ℕ
+wrong_first A_symbol k = wrong_symbol k
+wrong_first Some_flags k = wrong_flags k
+wrong_first A_type k = wrong_type k
+wrong_first An_option k = wrong_option k
+wrong_first (A_comma behind) k = wrong_after behind k
+wrong_first (An_opening behind) k = wrong_after behind k
+wrong_first A_string k = wrong_or k bad_operands
+wrong_first At_sign k = wrong_or k bad_operands
+wrong_first A_closing k = wrong_or k bad_operands
+wrong_first _ k = wrong_register k
+
+-- where operands are not looked at
+abbrev pub wrong_any : Kind → ℕ
+wrong_any k = if is_long k then limit else wrong_or k bad_operands
 
 -- a word that begins a statement, and nothing that is built
 abbrev pub wrong_word : List ℕ → ℕ
@@ -140,13 +119,7 @@ wrong_start (NameToken name) = wrong_word name
 wrong_start (Text bytes) = unsupported_here
 wrong_start k = wrong_or k unknown_mnemonic
 
--- a numeric label is not built yet
-abbrev pub wrong_number : List ℕ → ℕ → ℕ
-wrong_number word code = if list_all is_decimal word then unsupported_here else code
-
 -- a token before a colon, at a statement's start
 abbrev pub wrong_label : Kind → ℕ
-wrong_label (NameToken name) = wrong_name bad_operands name
-wrong_label (Number word number) = wrong_number word unknown_mnemonic
-wrong_label (Bad_word word) = wrong_number word bad_token
+wrong_label (NameToken name) = wrong_name name
 wrong_label k = wrong_start k

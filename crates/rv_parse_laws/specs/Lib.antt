@@ -1,4 +1,3 @@
-pub mod Statement
 pub mod Value
 pub mod Words
 pub mod Syntax

@@ -1,13 +1,17 @@
 -- Parts of statements at the front of a list of tokens, as functions: what stands there and the tokens after it, or the
 -- first token that is wrong there, with its code.
 
-use Rattle.std.specs.Prelude.{ℕ, Bool, true, false, List, [], ◌∷◌, ◌++◌, Option, Some, None, Result, Ok, Err, if◌then◌else◌}
+use Rattle.std.specs.Prelude.{ℕ, zero, suc, ◌+◌, Bool, false, ◌&&◌, nat_lt, List, [], ◌∷◌, ◌++◌, length, Option, Some, None, unwrap_or, Result, Ok, Err, if◌then◌else◌}
+use Rattle.rv_text_laws.specs.Grammar.{Kind}
 use Rattle.rv_text_laws.specs.Lexing.{Token}
-use Rattle.rv_text_laws.specs.Wrong.{Wrong, wrong, Read, nowhere}
-use Rattle.rv_parse_laws.specs.Statement.{Expression, Literal, Minus, Operand, Value, Statement, Label, Norvc, Globl, Instruction}
-use Rattle.rv_parse_laws.specs.Words.{Beginning, Begins_instruction, Begins_globl, Begins_option, Begins_nothing}
-use Rattle.rv_parse_laws.specs.Syntax.{register_of, symbol_of, literal_of, value_of, begins, is_comma, is_colon, is_minus, is_norvc, is_end, Slot, A_register, A_value, An_offset, single, front_begins, Slots, Stops, Takes, Chooses, slots, Part, Ends, Says}
-use Rattle.rv_parse_laws.specs.Faults.{wrong_value, wrong_literal, wrong_first, wrong_after, wrong_or, wrong_symbol, wrong_option, wrong_start, wrong_label, bad_operands}
+use Rattle.rv_text_laws.specs.Wrong.{Wrong, wrong, Read, nowhere, longest_name, limit}
+use Rattle.rv_text_laws.specs.Joined.{bytes_of, joined_at}
+use Rattle.rv_text_laws.specs.Expression.{tree_of}
+use Rattle.rv_text_laws.specs.ExpressionAt.{expression_at}
+use Rattle.rv_statement.specs.Statement.{Expression, Operand, Value, Word, Statement, Instruction, Directs}
+use Rattle.rv_parse_laws.specs.Words.{Beginning, Begins_instruction, Begins_directive, Begins_nothing}
+use Rattle.rv_parse_laws.specs.Syntax.{is_register, label_of, begins, is_comma, is_percent, is_end, is_opening, is_any, is_section_name, Role, Slot, A_register, A_value, An_address, A_section, A_closing, An_opening, single, front_begins, Slots, Stops, Takes, Chooses, Lists, Anything, slots, places, directed, colon_next, Part, Ends, Says}
+use Rattle.rv_parse_laws.specs.Faults.{may_call, wrong_first, wrong_after, wrong_any, wrong_start, wrong_label, unsupported_here}
 
 infixl 10 ◌>>=◌
 abbrev pub ◌>>=◌ : {A B : Type 0} → Result A Wrong → (A → Result B Wrong) → Result B Wrong
@@ -24,23 +28,64 @@ abbrev pub taken : {X : Type 0} → Token → List Token → Option X → ℕ �
 taken t ts (Some x) code = Ok (x, ts)
 taken t ts None code = Err (wrong t code)
 
-abbrev pub literal_at : List Token → Read ℕ
-literal_at [] = Err nowhere
-literal_at (t ∷ ts) = taken t ts (literal_of t.kind) (wrong_literal t.kind)
-
--- a literal with or without a minus, a symbol or a reference
+-- an expression
 abbrev pub value_at : List Token → Read Expression
-value_at [] = Err nowhere
-value_at (t ∷ ts) = if is_minus t.kind then seen_as (λ n. Minus (Literal n)) (literal_at ts) else taken t ts (value_of t.kind) (wrong_value t.kind)
+value_at ts = seen_as tree_of (expression_at is_register ts)
+
+-- an expression where it stands so: no function call
+abbrev pub value_in : Role → List Token → Read Expression
+value_in role [] = Err nowhere
+value_in role (t ∷ ts) = if may_call role && is_percent t.kind then Err (wrong t unsupported_here) else value_at (t ∷ ts)
 
 abbrev pub single_at : Slot → List Token → Read (List Operand)
 single_at s [] = Err nowhere
 single_at s (t ∷ ts) = taken t ts (single s t.kind) (wrong_first s t.kind)
 
+-- a register in parentheses, behind what stands in a place
+abbrev pub base_at : Slot → List Token → Read (List Operand)
+base_at behind ts =
+    single_at (An_opening behind) ts >>= λ o. single_at A_register o.1 >>= λ r. seen_as (λ none. r.0) (single_at A_closing r.1)
+
+-- a register in parentheses comes next: a register's name stands behind the first
+abbrev pub base_next : List Token → Bool
+base_next [] = false
+base_next (t ∷ ts) = is_opening t.kind && front_begins A_register ts
+
+-- an expression, and then a register in parentheses
+abbrev pub offset_at : Role → List Token → Read (List Operand)
+offset_at role ts = value_in role ts >>= λ v. seen_as (λ os. Value v.0 ∷ os) (base_at (A_value role) v.1)
+
+-- how many bytes a token gives to a section's name
+abbrev pub width : Kind → ℕ
+width k = length (unwrap_or (bytes_of k) [])
+
+-- the first token with which such a name is too long, where so many bytes of it stand before
+abbrev pub too_long : ℕ → List Token → Wrong
+too_long before [] = nowhere
+too_long before (t ∷ ts) = let bytes = before + width t.kind in if nat_lt longest_name bytes then wrong t limit else too_long bytes ts
+
+-- the token behind, where what stands before it is wrong there
+abbrev pub wrong_next : List Token → ℕ → Wrong
+wrong_next [] code = nowhere
+wrong_next (t ∷ ts) code = wrong t code
+
+-- the name that is joined at the front of tokens, where a section may have it
+abbrev pub named_or : List Token → Option (List ℕ × List Token) → Read (List ℕ)
+named_or [] None = Err nowhere
+named_or (t ∷ ts) None = Err (wrong t (wrong_first A_section t.kind))
+named_or ts (Some read) =
+    if is_section_name read.0 then Ok read
+    else (if nat_lt longest_name (length read.0) then Err (too_long 0 ts) else Err (wrong_next read.1 unsupported_here))
+
+-- the name of a section
+abbrev pub section_at : List Token → Read (List ℕ)
+section_at ts = named_or ts (joined_at ts)
+
 -- what stands in a place
 abbrev pub operand_at : Slot → List Token → Read (List Operand)
-operand_at A_value ts = seen_as (λ e. Value e ∷ []) (value_at ts)
-operand_at An_offset ts = seen_as (λ e. Value e ∷ []) (value_at ts)
+operand_at (A_value role) ts = seen_as (λ e. Value e ∷ []) (value_in role ts)
+operand_at (An_address role) ts = if base_next ts then base_at A_register ts else offset_at role ts
+operand_at A_section ts = seen_as (λ name. Word name ∷ []) (section_at ts)
 operand_at s ts = single_at s ts
 
 -- the tokens, where a statement ends before them
@@ -48,61 +93,46 @@ abbrev pub end_at : Slot → List Token → Result (List Token) Wrong
 end_at s [] = Err nowhere
 end_at s (t ∷ ts) = if is_end t.kind then Ok (t ∷ ts) else Err (wrong t (wrong_after s t.kind))
 
+-- no further operands
+abbrev pub ended_at : Slot → List Token → Read (List Operand)
+ended_at s ts = end_at s ts >>= λ r. Ok ([], r)
+
 -- what stands in a place, and then the rest
 abbrev pub taking : Slot → (List Token → Read (List Operand)) → List Token → Read (List Operand)
 taking s rest ts = operand_at s ts >>= λ o. seen_as (λ os. o.0 ++ os) (rest o.1)
 
+-- a comma and then the rest, or the end
+abbrev pub further : Slot → (List Token → Read (List Operand)) → List Token → Read (List Operand)
+further s rest [] = Err nowhere
+further s rest (t ∷ ts) = if is_comma t.kind then rest ts else ended_at s (t ∷ ts)
+
+-- items, at most so many
+abbrev pub items_in : ℕ → Slot → List Token → Read (List Operand)
+items_in zero s ts = Err nowhere
+items_in (suc room) s ts = taking s (further s (λ us. items_in room s us)) ts
+
+-- one item or more with commas between, up to the end: each item takes a token at least
+unfoldable pub items_at : Slot → List Token → Read (List Operand)
+items_at s ts = items_in (length ts) s ts
+
+-- any tokens up to the end
+abbrev pub any_at : List Token → Read (List Operand)
+any_at [] = Err nowhere
+any_at (t ∷ ts) = if is_end t.kind then Ok ([], t ∷ ts) else (if is_any t.kind then any_at ts else Err (wrong t (wrong_any t.kind)))
+
 unfoldable pub operands_at : Slots → List Token → Read (List Operand)
-operands_at (Stops s) ts = end_at s ts >>= λ r. Ok ([], r)
+operands_at (Stops s) ts = ended_at s ts
 operands_at (Takes s rest) ts = taking s (λ us. operands_at rest us) ts
 operands_at (Chooses s rest others) ts =
     if front_begins s ts then taking s (λ us. operands_at rest us) ts else operands_at others ts
-
-abbrev pub symbol_at : List Token → Read (List ℕ)
-symbol_at [] = Err nowhere
-symbol_at (t ∷ ts) = taken t ts (symbol_of t.kind) (wrong_symbol t.kind)
-
--- a name before the names that follow it
-abbrev pub with_first : List ℕ → Read (List (List ℕ)) → Read (List (List ℕ))
-with_first name (Ok r) = Ok (name ∷ r.0, r.1)
-with_first name (Err e) = Err e
-
-abbrev pub with_name : Token → Option (List ℕ) → Read (List (List ℕ)) → Read (List (List ℕ))
-with_name t (Some name) r = with_first name r
-with_name t None r = Err (wrong t (wrong_symbol t.kind))
-
--- no further names, where the statement ends
-abbrev pub no_names_at : List Token → Read (List (List ℕ))
-no_names_at ts = end_at A_register ts >>= λ r. Ok ([], r)
-
--- the names after commas, up to the statement's end
-abbrev pub further_names_at : List Token → Read (List (List ℕ))
-further_names_at [] = Err nowhere
-further_names_at (t ∷ []) = if is_comma t.kind then Err nowhere else no_names_at (t ∷ [])
-further_names_at (t ∷ u ∷ ts) = if is_comma t.kind then with_name u (symbol_of u.kind) (further_names_at ts) else no_names_at (t ∷ u ∷ ts)
-
-unfoldable pub names_at : List Token → Read (List (List ℕ))
-names_at ts = symbol_at ts >>= λ n. with_first n.0 (further_names_at n.1)
-
--- the option `norvc`
-abbrev pub option_at : List Token → Result (List Token) Wrong
-option_at [] = Err nowhere
-option_at (t ∷ ts) = if is_norvc t.kind then end_at A_register ts else Err (wrong t (wrong_option t.kind))
-
-abbrev pub norvc_at : List Token → Read Statement
-norvc_at ts = option_at ts >>= λ r. Ok (Norvc, r)
+operands_at (Lists s) ts = items_at s ts
+operands_at Anything ts = any_at ts
 
 -- the statement that begins with the token t, before the tokens ts
 unfoldable pub begun_at : Beginning → Token → List Token → Read Statement
 begun_at (Begins_instruction m) t ts = seen_as (Instruction m) (operands_at (slots m) ts)
-begun_at Begins_globl t ts = seen_as Globl (names_at ts)
-begun_at Begins_option t ts = norvc_at ts
+begun_at (Begins_directive word) t ts = seen_as (λ os. Directs (directed word os)) (operands_at (places word) ts)
 begun_at Begins_nothing t ts = Err (wrong t (wrong_start t.kind))
-
--- a colon comes next
-abbrev pub colon_next : List Token → Bool
-colon_next [] = false
-colon_next (t ∷ ts) = is_colon t.kind
 
 abbrev pub after_first : List Token → List Token
 after_first [] = []
@@ -111,7 +141,7 @@ after_first (t ∷ ts) = ts
 -- a label or another statement, at a token that ends none
 unfoldable pub statement_at : Token → List Token → Read Statement
 statement_at t ts =
-    if colon_next ts then seen_as Label (taken t (after_first ts) (symbol_of t.kind) (wrong_label t.kind))
+    if colon_next ts then taken t (after_first ts) (label_of t.kind) (wrong_label t.kind)
     else begun_at (begins t.kind) t ts
 
 unfoldable pub part_at : List Token → Read Part

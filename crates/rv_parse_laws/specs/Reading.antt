@@ -1,15 +1,12 @@
 -- The reading of a source, and its first fault (RISC-V Assembly Programmer's Manual; GNU as, "Syntax").
 
-use Rattle.std.specs.Prelude.{◌≡◌, ℕ, suc, ◌+◌, ◌^◌, ◌<◌, ◌≤◌, Bool, true, false, ◌==◌, List, [], ◌∷◌, ◌++◌, length, take, Option, Some, None, ◌⊎◌, if◌then◌else◌}
+use Rattle.std.specs.Prelude.{◌≡◌, ℕ, ◌+◌, ◌^◌, ◌<◌, ◌≤◌, Bool, true, false, ◌==◌, List, [], ◌∷◌, ◌++◌, length, take, Option, Some, None, Ok, Err, ◌⊎◌, if◌then◌else◌}
 use Rattle.rv_text_laws.specs.Cut.{Piece, Cuts, NothingReads}
-use Rattle.rv_text_laws.specs.Grammar.{Kind}
 use Rattle.rv_text_laws.specs.Lexing.{Token, Lexes, newlines}
-use Rattle.rv_parse_laws.specs.Statement.{Statement, Label, Spoken}
-use Rattle.rv_parse_laws.specs.Syntax.{Part, Ends, Says, IsPart, StopsPart, is_end, is_comma, is_minus, is_colon, begins, Slot, A_register, A_value, An_offset, front_begins, Slots, Stops, Takes, Chooses, slots}
-use Rattle.rv_parse_laws.specs.Words.{Beginning, Begins_instruction, Begins_globl, Begins_option, Begins_nothing}
-use Rattle.rv_parse_laws.specs.Faults.{bad_operands, wrong_first, wrong_literal, wrong_after, wrong_symbol, wrong_option, wrong_start, wrong_label}
-use Rattle.rv_parse_laws.specs.Parsing.{colon_next}
-use Rattle.rv_text_laws.specs.Wrong.{limit, place_of}
+use Rattle.rv_text_laws.specs.Wrong.{limit, place_of, Read}
+use Rattle.rv_statement.specs.Statement.{Label, Numbered, Spoken}
+use Rattle.rv_parse_laws.specs.Syntax.{Part, Ends, Says, IsPart, StopsPart, is_end, colon_next}
+use Rattle.rv_parse_laws.specs.Parsing.{part_at}
 
 -- the longest source and the longest line without its line feed, in bytes, and the most statements
 abbrev pub longest_source : ℕ
@@ -54,6 +51,7 @@ Reads bytes ss =
 -- label, and without it there is none
 abbrev pub is_label : Part → Bool
 is_label (Says (Label name)) = true
+is_label (Says (Numbered number)) = true
 is_label _ = false
 
 abbrev pub begins_label : List Token → Bool
@@ -63,47 +61,14 @@ begins_label (t ∷ ts) = colon_next ts
 abbrev pub CanGoOn : List Token → List Token → Type 0
 CanGoOn rest before = (p : Part) × (more : List Token) × (is_label p ≡ begins_label rest) × IsPart p (before ++ more)
 
--- The code of a token by what stands before it: `next` gives the code behind the operand, where all of it stands before.
-abbrev pub code_after_minus : (List Token → Token → ℕ) → List Token → Token → ℕ
-code_after_minus next [] at = wrong_literal at.kind
-code_after_minus next (t ∷ ts) at = next ts at
+-- the code of a wrong reading
+abbrev pub code_of : {X : Type 0} → Read X → ℕ
+code_of (Ok x) = 0
+code_of (Err w) = w.code
 
-abbrev pub code_in_value : (List Token → Token → ℕ) → Token → List Token → Token → ℕ
-code_in_value next t ts at = if is_minus t.kind then code_after_minus next ts at else next ts at
-
-abbrev pub code_in_operand : Slot → (List Token → Token → ℕ) → List Token → Token → ℕ
-code_in_operand s next [] at = wrong_first s at.kind
-code_in_operand A_value next (t ∷ ts) at = code_in_value next t ts at
-code_in_operand An_offset next (t ∷ ts) at = code_in_value next t ts at
-code_in_operand _ next (t ∷ ts) at = next ts at
-
--- where one of two may stand, the token at its front decides
-abbrev pub code_in_operands : Slots → List Token → Token → ℕ
-code_in_operands (Stops s) ts at = wrong_after s at.kind
-code_in_operands (Takes s rest) ts at = code_in_operand s (λ us by. code_in_operands rest us by) ts at
-code_in_operands (Chooses s rest others) ts at =
-    if front_begins s (ts ++ at ∷ []) then code_in_operand s (λ us by. code_in_operands rest us by) ts at else code_in_operands others ts at
-
--- behind a comma a symbol, behind a symbol a comma or the end
-abbrev pub code_in_names : List Token → Token → ℕ
-code_in_names [] at = wrong_symbol at.kind
-code_in_names (t ∷ []) at = wrong_after A_register at.kind
-code_in_names (t ∷ c ∷ ts) at = code_in_names ts at
-
-abbrev pub code_in_option : List Token → Token → ℕ
-code_in_option [] at = wrong_option at.kind
-code_in_option (t ∷ ts) at = wrong_after A_register at.kind
-
-abbrev pub code_begun : Beginning → List Token → Token → ℕ
-code_begun (Begins_instruction m) ts at = code_in_operands (slots m) ts at
-code_begun Begins_globl ts at = code_in_names ts at
-code_begun Begins_option ts at = code_in_option ts at
-code_begun Begins_nothing ts at = bad_operands
-
--- the code of the token `at`, between the tokens `before` of its part and the tokens `more`
+-- the code of the token `at`, between the tokens `before` of its part and the tokens `more`, as their reading says
 abbrev pub code_at : List Token → Token → List Token → ℕ
-code_at [] at more = if colon_next more then wrong_label at.kind else wrong_start at.kind
-code_at (t ∷ ts) at more = code_begun (begins t.kind) ts at
+code_at before at more = code_of (part_at (before ++ at ∷ more))
 
 -- a token with which nothing can go on, behind good parts
 pub record WrongToken (bytes : List ℕ) (place code : ℕ) : Type 0 where

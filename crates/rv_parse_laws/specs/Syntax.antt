@@ -1,26 +1,37 @@
--- The syntax of statements, over the kinds of tokens (RISC-V Assembly Programmer's Manual; GNU as, "Statements").
+-- The syntax of statements, over the kinds of tokens (RISC-V Assembly Programmer's Manual; GNU as, "Statements" and
+-- "Pseudo Ops").
 
-use Rattle.std.specs.Prelude.{◌≡◌, ℕ, Bool, true, false, ◌&&◌, ◌||◌, ◌==◌, not, nat_le, List, [], ◌∷◌, ◌++◌, length, map, Option, Some, None, option_map, is_some, codes, ◌⊎◌, if◌then◌else◌}
+use Rattle.std.specs.Prelude.{◌≡◌, ℕ, zero, suc, Bool, true, false, ◌&&◌, ◌||◌, ◌==◌, not, nat_le, ◌≤◌, List, [], ◌∷◌, ◌++◌, length, Option, Some, None, option_map, is_some, codes, ◌⊎◌, if◌then◌else◌}
+use Rattle.std.specs.List.{list_all}
 use Rattle.std.specs.Str.{bytes_eq}
-use Rattle.rv_text_laws.specs.declared.sign.Sign.{Sign}
-use Rattle.rv_text_laws.specs.declared.sign.Sign.TheVariants.{Comma, Colon, Semicolon, Open, Close, Minus as MinusSign}
-use Rattle.rv_text_laws.specs.Bytes.{value}
-use Rattle.rv_text_laws.specs.Grammar.{Kind, Newline, Mark, Name as NameToken, Number, Reference as ReferenceToken, Character, End}
+use Rattle.rv_text_laws.specs.declared.sign.Sign.TheVariants.{Comma, Colon, Semicolon, Open, Close, Percent, At, DoubleSlash}
+use Rattle.rv_text_laws.specs.Bytes.{value, is_decimal}
+use Rattle.rv_text_laws.specs.Grammar.{Kind, Newline, Mark, Name as NameToken, Number, Bad_word, Text, Character, Bad_byte, Bad_token, End}
 use Rattle.rv_text_laws.specs.Lexing.{Token}
-use Rattle.rv_text_laws.specs.Wrong.{longest_name}
-use Rattle.rv_parse_laws.specs.declared.mnemonic.Mnemonic.{Mnemonic}
-use Rattle.rv_parse_laws.specs.declared.mnemonic.Mnemonic.TheVariants.{Registers, Immediate, Shift, Upper, Load, Store, Jalr, LoadReserved, Atomic, Fence, FenceTso, Ecall, Ebreak, Li}
-use Rattle.rv_parse_laws.specs.declared.mnemonic.RegisterOperation.{RegisterOperation}
-use Rattle.rv_parse_laws.specs.declared.mnemonic.RegisterOperation.TheVariants.{Add, Sub, Sll, Slt, Sltu, Xor, Srl, Sra, Or, And, Addw, Subw, Sllw, Srlw, Sraw, Mul, Mulh, Mulhsu, Mulhu, Div, Divu, Rem, Remu, Mulw, Divw, Divuw, Remw, Remuw}
-use Rattle.rv_parse_laws.specs.declared.mnemonic.ImmediateOperation.TheVariants.{Addi, Slti, Sltiu, Xori, Ori, Andi, Addiw}
-use Rattle.rv_parse_laws.specs.declared.mnemonic.ShiftOperation.TheVariants.{Slli, Srli, Srai, Slliw, Srliw, Sraiw}
-use Rattle.rv_parse_laws.specs.declared.mnemonic.AccessSet.{AccessSet}
-use Rattle.rv_parse_laws.specs.Statement.{Expression, Literal, Name, Reference, Minus, Operand, Register, Value, Accesses, Statement, Label, Norvc, Globl, Instruction, Directs}
-use Rattle.rv_parse_laws.specs.Words.{register, named_in, Beginning, Begins_instruction, Begins_globl, Begins_option, Begins_nothing, beginning}
+use Rattle.rv_text_laws.specs.Wrong.{longest_name, is_long}
+use Rattle.rv_text_laws.specs.Joined.{IsJoined}
+use Rattle.rv_text_laws.specs.Expression.{Tree, SpellsTree, IsAt, nesting, deepest, bare}
+use Rattle.rv_statement.specs.declared.mnemonic.Mnemonic.{Mnemonic}
+use Rattle.rv_statement.specs.declared.mnemonic.Mnemonic.TheVariants.{Registers, Immediate, Shift, Upper, Load, Store, Jalr, LoadReserved, Atomic, Fence, FenceTso, Ecall, Ebreak, Li}
+use Rattle.rv_statement.specs.declared.mnemonic.RegisterOperation.{RegisterOperation}
+use Rattle.rv_statement.specs.declared.mnemonic.RegisterOperation.TheVariants.{Add, Sll, Slt, Sltu, Xor, Srl, Sra, Or, And, Addw, Sllw, Srlw, Sraw}
+use Rattle.rv_statement.specs.declared.mnemonic.ImmediateOperation.TheVariants.{Addi, Slti, Sltiu, Xori, Ori, Andi, Addiw}
+use Rattle.rv_statement.specs.declared.mnemonic.ShiftOperation.TheVariants.{Slli, Srli, Srai, Slliw, Srliw, Sraiw}
+use Rattle.rv_statement.specs.declared.mnemonic.AccessSet.{AccessSet}
+use Rattle.rv_statement.specs.declared.directive.DirectiveWord.{DirectiveWord}
+use Rattle.rv_statement.specs.declared.directive.DirectiveWord.TheVariants as words
+use Rattle.rv_statement.specs.declared.directive.Choice.{Choice}
+use Rattle.rv_statement.specs.Statement.{Expression, Operand, Register, Value, Accesses, Word, Quoted, Directive, Enters, Opens, Globl, Local, Sets, Aligns_to_power, Aligns_to_bytes, Values, Strings, Zeros, Chooses as Choosing, Ignored, Statement, Label, Numbered, Instruction, Directs}
+use Rattle.rv_statement.specs.View.{bytes_of}
+use Rattle.rv_parse_laws.specs.Words.{register, named_in, is_among, choices, section_types, Beginning, Begins_instruction, Begins_directive, Begins_nothing, beginning}
 
 -- a name that a symbol may have: no register's, not `.` alone, and not too long
 unfoldable pub is_symbol : List ℕ → Bool
 is_symbol name = not (is_some (register name)) && not (bytes_eq name (codes ".")) && nat_le (length name) longest_name
+
+-- the name spells a register
+abbrev pub is_register : List ℕ → Bool
+is_register name = is_some (register name)
 
 -- the register that a token names
 abbrev pub register_of : Kind → Option ℕ
@@ -32,19 +43,16 @@ abbrev pub symbol_of : Kind → Option (List ℕ)
 symbol_of (NameToken name) = if is_symbol name then Some name else None
 symbol_of _ = None
 
--- the literal that a token is
-abbrev pub literal_of : Kind → Option ℕ
-literal_of (Number word number) = Some number
-literal_of (Character byte) = Some byte
-literal_of _ = None
+-- a numeric label, by its decimal digits
+abbrev pub numbered : List ℕ → Option Statement
+numbered word = if list_all is_decimal word then Some (Numbered (value 10 word)) else None
 
--- the expression that a token is alone: a literal, a symbol or a numeric reference
-abbrev pub value_of : Kind → Option Expression
-value_of (Number word number) = Some (Literal number)
-value_of (Character byte) = Some (Literal byte)
-value_of (ReferenceToken digits forward) = Some (Reference (value 10 digits) forward)
-value_of (NameToken name) = if is_symbol name then Some (Name name) else None
-value_of _ = None
+-- the label that a token is before a colon
+abbrev pub label_of : Kind → Option Statement
+label_of (NameToken name) = if is_symbol name then Some (Label name) else None
+label_of (Number word number) = numbered word
+label_of (Bad_word word) = numbered word
+label_of _ = None
 
 -- what a statement that begins with this token says
 abbrev pub begins : Kind → Beginning
@@ -59,13 +67,13 @@ abbrev pub is_colon : Kind → Bool
 is_colon (Mark Colon) = true
 is_colon _ = false
 
-abbrev pub is_minus : Kind → Bool
-is_minus (Mark MinusSign) = true
-is_minus _ = false
+abbrev pub is_percent : Kind → Bool
+is_percent (Mark Percent) = true
+is_percent _ = false
 
-abbrev pub is_norvc : Kind → Bool
-is_norvc (NameToken name) = bytes_eq name (codes "norvc")
-is_norvc _ = false
+abbrev pub is_at : Kind → Bool
+is_at (Mark At) = true
+is_at _ = false
 
 -- a statement ends at its line's end, at `;` and at the source's end
 abbrev pub is_end : Kind → Bool
@@ -88,10 +96,23 @@ abbrev pub is_closing : Kind → Bool
 is_closing (Mark Close) = true
 is_closing _ = false
 
--- a number of value 0
+-- a literal of value 0
 abbrev pub is_zero : Kind → Bool
 is_zero (Number word number) = number == 0
+is_zero (Character byte) = byte == 0
 is_zero _ = false
+
+-- a token that is wrong wherever it stands
+abbrev pub is_wrong : Kind → Bool
+is_wrong Bad_byte = true
+is_wrong Bad_token = true
+is_wrong (Bad_word word) = true
+is_wrong (Mark DoubleSlash) = true
+is_wrong _ = false
+
+-- a token that may stand where operands are not looked at
+abbrev pub is_any : Kind → Bool
+is_any k = not (is_end k || is_wrong k || is_long k)
 
 abbrev pub accesses : Bool → Bool → Bool → Bool → AccessSet
 accesses input output reads writes = record { input = input; output = output; reads = reads; writes = writes }
@@ -121,24 +142,48 @@ abbrev pub accesses_of : Kind → Option AccessSet
 accesses_of (NameToken name) = named_in access_sets name
 accesses_of _ = None
 
--- what may stand in one place of an instruction
+-- the letters of a section's flags: a w x, and M and S, which are dropped
+abbrev pub is_flag : ℕ → Bool
+is_flag letter = (letter == 97) || (letter == 119) || (letter == 120) || (letter == 77) || (letter == 83)
+
+-- where an expression stands, which decides what is wrong around it
+pub data Role : Type 0 where
+  -- as an operand of an instruction
+  In_operand : Role
+  -- before the register of a load's address, or a store's
+  In_load : Role
+  In_store : Role
+  -- in a directive
+  In_directive : Role
+  -- as an alignment
+  In_alignment : Role
+
+-- what may stand in one place of a statement
 pub data Slot : Type 0 where
   A_register : Slot
-  A_value : Slot
-  -- a value before an address's register
-  An_offset : Slot
-  -- an address's register, in parentheses
-  A_base : Slot
+  -- an expression
+  A_value : (role : Role) → Slot
+  -- `(rs)`, or an expression and then `(rs)`
+  An_address : (role : Role) → Slot
   -- the 0 before an atomic's address
   A_zero : Slot
   -- the accesses that a fence orders
   Some_accesses : Slot
+  A_symbol : Slot
+  A_string : Slot
+  -- what `.section` takes: a name, a string of letters, and a type behind `@`
+  A_section : Slot
+  Some_flags : Slot
+  At_sign : Slot
+  A_type : Slot
+  -- what `.option` takes
+  An_option : Slot
   -- signs, behind what stands in another place
   A_comma : (behind : Slot) → Slot
   An_opening : (behind : Slot) → Slot
   A_closing : Slot
 
--- the places of an instruction, one after another
+-- the places of a statement behind its word, one after another
 pub data Slots : Type 0 where
   -- the statement's end
   Stops : (behind : Slot) → Slots
@@ -146,20 +191,27 @@ pub data Slots : Type 0 where
   Takes : (slot : Slot) (rest : Slots) → Slots
   -- where what stands in a place can begin, that and then the rest; else the others
   Chooses : (slot : Slot) (rest others : Slots) → Slots
+  -- one or more of a kind, with commas between, and then the statement's end
+  Lists : (item : Slot) → Slots
+  -- any tokens, up to the statement's end
+  Anything : Slots
 
--- an operand and a comma; the last operand
+-- an operand and a comma; the last operand; a comma and more, or the end
 abbrev pub and_then : Slot → Slots → Slots
 and_then slot rest = Takes slot (Takes (A_comma slot) rest)
 
 abbrev pub last : Slot → Slots
 last slot = Takes slot (Stops slot)
 
--- `rs)`, and `(rs)` with or without an offset of its kind before it
-abbrev pub closed : Slot → Slots
-closed base = Takes base (Takes A_closing (Stops A_register))
+abbrev pub and_maybe : Slot → Slots → Slots
+and_maybe slot rest = Takes slot (Chooses (A_comma slot) rest (Stops slot))
 
-abbrev pub address : Slot → Slot → Slots
-address offset base = Chooses (An_opening A_register) (closed base) (Takes offset (Takes (An_opening offset) (closed base)))
+-- `rs)`, and an atomic's address: `(rs)` with or without a 0 before it
+abbrev pub closed : Slots
+closed = Takes A_register (Takes A_closing (Stops A_register))
+
+abbrev pub atomic_address : Slots
+atomic_address = Chooses (An_opening A_register) closed (Takes A_zero (Takes (An_opening A_zero) closed))
 
 -- the form with a constant of an operation that has one (GNU as, "RISC-V-Instructions")
 abbrev pub with_constant : RegisterOperation → Option Mnemonic
@@ -180,70 +232,111 @@ with_constant _ = None
 
 -- the second source of an operation: a register, or a constant where it has that form
 abbrev pub source : Bool → Slots
-source true = Chooses A_register (Stops A_register) (last A_value)
+source true = Chooses A_register (Stops A_register) (last (A_value In_operand))
 source false = last A_register
 
 -- the target of `jalr` behind its link register: `rs`, `rs, k`, `k(rs)`, `(rs)`
 abbrev pub jump_target : Slots
-jump_target = Chooses A_register (Chooses (A_comma A_register) (last A_value) (Stops A_register)) (address A_value A_base)
+jump_target = Chooses A_register (Chooses (A_comma A_register) (last (A_value In_operand)) (Stops A_register)) (last (An_address In_operand))
 
 -- the places of each instruction's operands (ISA, chapter 24; Assembly Programmer's Manual)
 abbrev pub slots : Mnemonic → Slots
 slots (Registers operation) = and_then A_register (and_then A_register (source (is_some (with_constant operation))))
-slots (Immediate operation) = and_then A_register (and_then A_register (last A_value))
-slots (Shift operation) = and_then A_register (and_then A_register (last A_value))
-slots (Upper operation) = and_then A_register (last A_value)
-slots (Load operation) = and_then A_register (address An_offset A_base)
-slots (Store operation) = and_then A_register (address An_offset A_base)
-slots Jalr = Chooses A_register (Chooses (A_comma A_register) jump_target (Stops A_register)) (address A_value A_base)
-slots (LoadReserved form) = and_then A_register (address A_zero A_register)
-slots (Atomic operation form) = and_then A_register (and_then A_register (address A_zero A_register))
+slots (Immediate operation) = and_then A_register (and_then A_register (last (A_value In_operand)))
+slots (Shift operation) = and_then A_register (and_then A_register (last (A_value In_operand)))
+slots (Upper operation) = and_then A_register (last (A_value In_operand))
+slots (Load operation) = and_then A_register (last (An_address In_load))
+slots (Store operation) = and_then A_register (last (An_address In_store))
+slots Jalr = Chooses A_register (Chooses (A_comma A_register) jump_target (Stops A_register)) (last (An_address In_operand))
+slots (LoadReserved form) = and_then A_register atomic_address
+slots (Atomic operation form) = and_then A_register (and_then A_register atomic_address)
 slots Fence = Chooses Some_accesses (Takes (A_comma Some_accesses) (last Some_accesses)) (Stops A_register)
 slots FenceTso = Stops A_register
 slots Ecall = Stops A_register
 slots Ebreak = Stops A_register
-slots Li = and_then A_register (last A_value)
+slots Li = and_then A_register (last (A_value In_operand))
+
+-- `.section name[,"flags"[,@type[,n]]]`
+abbrev pub section_slots : Slots
+section_slots = and_maybe A_section (and_maybe Some_flags (Takes At_sign (and_maybe A_type (last (A_value In_directive)))))
+
+-- the places of each directive's operands (GNU as, "Pseudo Ops")
+abbrev pub places : DirectiveWord → Slots
+places (words.Enters section) = Stops A_register
+places words.Section = section_slots
+places words.Globl = Lists A_symbol
+places words.Local = Lists A_symbol
+places words.Set = and_then A_symbol (last (A_value In_directive))
+places words.AlignToPower = last (A_value In_alignment)
+places words.AlignToBytes = last (A_value In_alignment)
+places (words.Value width) = Lists (A_value In_directive)
+places words.Ascii = Lists A_string
+places words.Asciz = Lists A_string
+places words.Zero = last (A_value In_directive)
+places words.Option = last An_option
+places words.Ignored = Anything
 
 -- the operands that one token is, in a place for it
 abbrev pub single : Slot → Kind → Option (List Operand)
 single A_register k = option_map (λ r. Register r ∷ []) (register_of k)
-single A_base k = option_map (λ r. Register r ∷ []) (register_of k)
 single A_zero k = if is_zero k then Some [] else None
 single Some_accesses k = option_map (λ set. Accesses set ∷ []) (accesses_of k)
+single A_symbol k = option_map (λ name. Word name ∷ []) (symbol_of k)
+single A_string (Text bytes) = Some (Quoted bytes ∷ [])
+-- later: a name that was opened before has its flags and its type, whatever stands here
+single Some_flags (Text letters) = if list_all is_flag letters then Some (Quoted letters ∷ []) else None
+single At_sign k = if is_at k then Some [] else None
+single A_type (NameToken name) = if is_among section_types name then Some (Word name ∷ []) else None
+single An_option (NameToken name) = if is_some (named_in choices name) then Some (Word name ∷ []) else None
 single (A_comma behind) k = if is_comma k then Some [] else None
 single (An_opening behind) k = if is_opening k then Some [] else None
 single A_closing k = if is_closing k then Some [] else None
 single _ k = None
 
--- the tokens are a value: a literal with or without a minus, a symbol, a reference
+-- a name that a section of a source may have: not too long, and not that of the rows
+unfoldable pub is_section_name : List ℕ → Bool
+is_section_name name = nat_le (length name) longest_name && not (bytes_eq name (codes ".rv.rows"))
+
+-- the tokens are an expression
 abbrev pub IsValue : List Token → Expression → Type 0
-IsValue ts e =
-    ((t : Token) × (ts ≡ t ∷ []) × (value_of t.kind ≡ Some e))
-    ⊎ ((m t : Token) × (n : ℕ) × (ts ≡ m ∷ t ∷ []) × (is_minus m.kind ≡ true) × (literal_of t.kind ≡ Some n) × (e ≡ Minus (Literal n)))
+IsValue ts e = (tree : Tree) × SpellsTree is_register tree ts × IsAt 0 tree × (nesting tree ≤ deepest) × (e ≡ bare tree)
+
+-- the tokens are a register in parentheses
+abbrev pub IsBase : List Token → List Operand → Type 0
+IsBase ts os =
+    (o r c : Token) × (number : ℕ) × (ts ≡ o ∷ r ∷ c ∷ []) × (is_opening o.kind ≡ true) × (register_of r.kind ≡ Some number) × (is_closing c.kind ≡ true)
+    × (os ≡ Register number ∷ [])
+
+-- the tokens are an expression and then a register in parentheses
+abbrev pub IsOffset : List Token → List Operand → Type 0
+IsOffset ts os = (one rest : List Token) × (e : Expression) × (base : List Operand) × (ts ≡ one ++ rest) × IsValue one e × IsBase rest base × (os ≡ Value e ∷ base)
 
 -- the tokens stand in this place, with these operands
 abbrev pub IsOperand : Slot → List Token → List Operand → Type 0
-IsOperand A_value ts os = (e : Expression) × IsValue ts e × (os ≡ Value e ∷ [])
-IsOperand An_offset ts os = (e : Expression) × IsValue ts e × (os ≡ Value e ∷ [])
+IsOperand (A_value role) ts os = (e : Expression) × IsValue ts e × (os ≡ Value e ∷ [])
+IsOperand (An_address role) ts os = IsBase ts os ⊎ IsOffset ts os
+IsOperand A_section ts os = (name : List ℕ) × IsJoined ts name × (is_section_name name ≡ true) × (os ≡ Word name ∷ [])
 IsOperand s ts os = (t : Token) × (ts ≡ t ∷ []) × (single s t.kind ≡ Some os)
 
--- a token with which what stands in a place can begin
-abbrev pub value_begins : Kind → Bool
-value_begins k = is_minus k || is_some (value_of k)
-
-abbrev pub can_begin : Slot → Kind → Bool
-can_begin A_value k = value_begins k
-can_begin An_offset k = value_begins k
-can_begin s k = is_some (single s k)
-
+-- the token at the front can stand in this place
 abbrev pub front_begins : Slot → List Token → Bool
 front_begins s [] = false
-front_begins s (t ∷ ts) = can_begin s t.kind
+front_begins s (t ∷ ts) = is_some (single s t.kind)
 
 -- what stands in a place, and then what N says
 abbrev pub IsTaken : Slot → (List Token → List Operand → Type 0) → List Token → List Operand → Type 0
 IsTaken s N ts os =
     (one rest : List Token) × (now later : List Operand) × (ts ≡ one ++ rest) × IsOperand s one now × N rest later × (os ≡ now ++ later)
+
+-- a comma, and then what N says
+abbrev pub IsFurther : (List Token → List Operand → Type 0) → List Token → List Operand → Type 0
+IsFurther N ts os = (c : Token) × (rest : List Token) × (ts ≡ c ∷ rest) × (is_comma c.kind ≡ true) × N rest os
+
+-- so many items, with commas between
+abbrev pub AreItems : ℕ → Slot → List Token → List Operand → Type 0
+AreItems zero s ts os = ⊥
+AreItems (suc zero) s ts os = IsOperand s ts os
+AreItems (suc (suc n)) s ts os = IsTaken s (IsFurther (λ us ps. AreItems (suc n) s us ps)) ts os
 
 -- the tokens stand in these places, with these operands
 abbrev pub AreOperands : Slots → List Token → List Operand → Type 0
@@ -251,31 +344,67 @@ AreOperands (Stops behind) ts os = (ts ≡ []) × (os ≡ [])
 AreOperands (Takes s rest) ts os = IsTaken s (λ us ps. AreOperands rest us ps) ts os
 AreOperands (Chooses s rest others) ts os =
     IsTaken s (λ us ps. AreOperands rest us ps) ts os ⊎ ((front_begins s ts ≡ false) × AreOperands others ts os)
+AreOperands (Lists s) ts os = (n : ℕ) × AreItems n s ts os
+AreOperands Anything ts os = (list_all (λ (t : Token). is_any t.kind) ts ≡ true) × (os ≡ [])
 
--- further names, with a comma before each
-abbrev pub AreFurtherNames : List Token → List (List ℕ) → Type 0
-AreFurtherNames ts [] = ts ≡ []
-AreFurtherNames ts (name ∷ names) =
-    (c t : Token) × (rest : List Token) × (ts ≡ c ∷ t ∷ rest) × (is_comma c.kind ≡ true) × (symbol_of t.kind ≡ Some name) × AreFurtherNames rest names
+-- the names, strings and expressions among operands
+abbrev pub names_in : List Operand → List (List ℕ)
+names_in [] = []
+names_in (Word name ∷ os) = name ∷ names_in os
+names_in (_ ∷ os) = names_in os
 
--- one name or more, with commas between
-abbrev pub AreNames : List Token → List (List ℕ) → Type 0
-AreNames ts names =
-    (t : Token) × (rest : List Token) × (name : List ℕ) × (more : List (List ℕ)) × (ts ≡ t ∷ rest) × (symbol_of t.kind ≡ Some name)
-    × AreFurtherNames rest more × (names ≡ name ∷ more)
+abbrev pub strings_in : List Operand → List (List ℕ)
+strings_in [] = []
+strings_in (Quoted bytes ∷ os) = bytes ∷ strings_in os
+strings_in (_ ∷ os) = strings_in os
 
--- the tokens that say a statement, without its end
+abbrev pub values_in : List Operand → List Expression
+values_in [] = []
+values_in (Value e ∷ os) = e ∷ values_in os
+values_in (_ ∷ os) = values_in os
+
+-- what `.option` says with a word
+abbrev pub chosen : Option Choice → Directive
+chosen (Some choice) = Choosing choice
+chosen None = Ignored
+
+-- what a directive's word says with its operands; other operands than these it never has
+abbrev pub directed : DirectiveWord → List Operand → Directive
+directed (words.Enters section) os = Enters section
+directed words.Section (Word name ∷ []) = Opens name None None
+directed words.Section (Word name ∷ Quoted flags ∷ []) = Opens name (Some flags) None
+-- the size of an entry is not used
+directed words.Section (Word name ∷ Quoted flags ∷ Word kind ∷ size) = Opens name (Some flags) (Some kind)
+directed words.Globl os = Globl (names_in os)
+directed words.Local os = Local (names_in os)
+directed words.Set (Word name ∷ Value e ∷ []) = Sets name e
+directed words.AlignToPower (Value e ∷ []) = Aligns_to_power e
+directed words.AlignToBytes (Value e ∷ []) = Aligns_to_bytes e
+directed (words.Value width) os = Values (bytes_of width) (values_in os)
+directed words.Ascii os = Strings false (strings_in os)
+directed words.Asciz os = Strings true (strings_in os)
+directed words.Zero (Value e ∷ []) = Zeros e
+directed words.Option (Word name ∷ []) = chosen (named_in choices name)
+directed _ os = Ignored
+
+-- a colon comes next
+abbrev pub colon_next : List Token → Bool
+colon_next [] = false
+colon_next (t ∷ ts) = is_colon t.kind
+
+-- the tokens are a label and its colon
+abbrev pub IsLabel : List Token → Statement → Type 0
+IsLabel ts s = (t c : Token) × (ts ≡ t ∷ c ∷ []) × (label_of t.kind ≡ Some s) × (is_colon c.kind ≡ true)
+
+-- the tokens that say a statement, without its end; a word before a colon is a label
 abbrev pub IsStatement : List Token → Statement → Type 0
-IsStatement ts (Label name) =
-    (t c : Token) × (ts ≡ t ∷ c ∷ []) × (symbol_of t.kind ≡ Some name) × (is_colon c.kind ≡ true)
+IsStatement ts (Label name) = IsLabel ts (Label name)
+IsStatement ts (Numbered number) = IsLabel ts (Numbered number)
 IsStatement ts (Instruction mnemonic operands) =
-    (t : Token) × (rest : List Token) × (ts ≡ t ∷ rest) × (begins t.kind ≡ Begins_instruction mnemonic) × AreOperands (slots mnemonic) rest operands
-IsStatement ts (Globl names) =
-    (t : Token) × (rest : List Token) × (ts ≡ t ∷ rest) × (begins t.kind ≡ Begins_globl) × AreNames rest names
-IsStatement ts Norvc =
-    (t o : Token) × (ts ≡ t ∷ o ∷ []) × (begins t.kind ≡ Begins_option) × (is_norvc o.kind ≡ true)
--- the directives have no spelling yet
-IsStatement ts (Directs directive) = ⊥
+    (t : Token) × (rest : List Token) × (ts ≡ t ∷ rest) × (colon_next rest ≡ false) × (begins t.kind ≡ Begins_instruction mnemonic) × AreOperands (slots mnemonic) rest operands
+IsStatement ts (Directs directive) =
+    (t : Token) × (rest : List Token) × (word : DirectiveWord) × (operands : List Operand) × (ts ≡ t ∷ rest) × (colon_next rest ≡ false)
+    × (begins t.kind ≡ Begins_directive word) × AreOperands (places word) rest operands × (directive ≡ directed word operands)
 
 -- a part of a source: a statement, or the end of one or of nothing
 pub data Part : Type 0 where
@@ -294,6 +423,5 @@ EndsHere ts = (t : Token) × (rest : List Token) × (ts ≡ t ∷ rest) × (is_e
 -- a statement goes on up to its end; a label may be followed by anything
 abbrev pub StopsPart : Part → List Token → Type 0
 StopsPart (Says (Instruction mnemonic operands)) rest = EndsHere rest
-StopsPart (Says (Globl names)) rest = EndsHere rest
-StopsPart (Says Norvc) rest = EndsHere rest
+StopsPart (Says (Directs directive)) rest = EndsHere rest
 StopsPart _ rest = Unit {0}

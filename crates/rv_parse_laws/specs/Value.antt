@@ -1,15 +1,6 @@
--- The value of an expression: 64-bit two's complement that wraps (RISC-V Assembly Programmer's Manual; GNU as).
+-- Values as signed numbers: 64-bit two's complement (RISC-V Assembly Programmer's Manual; GNU as).
 
-use Rattle.std.specs.Prelude.{ℕ, ℤ, pos, ◌-ℤ◌, ◌-◌, ◌%◌, ◌^◌, Option, Some, None, option_map, nat_lt, if◌then◌else◌}
-use Rattle.rv_parse_laws.specs.Statement.{Expression, Literal, Name, Reference, Here, Minus}
-
--- the number of a constant expression; none where a symbol stands in it
-abbrev pub constant : Expression → Option ℕ
-constant (Literal number) = Some number
-constant (Name name) = None
-constant (Reference number forward) = None
-constant Here = None
-constant (Minus negated) = option_map (λ n. (2 ^ 64 - n) % 2 ^ 64) (constant negated)
+use Rattle.std.specs.Prelude.{ℕ, ℤ, pos, ◌-ℤ◌, ◌^◌, nat_lt, if◌then◌else◌}
 
 -- a number below 2 ^ 64 taken as signed
 abbrev pub signed : ℕ → ℤ

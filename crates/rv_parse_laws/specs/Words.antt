@@ -4,17 +4,23 @@
 use Rattle.std.specs.Prelude.{ℕ, zero, suc, List, [], ◌∷◌, ◌++◌, Bool, true, false, ◌&&◌, ◌||◌, ◌==◌, length, take, drop, codes, Option, Some, None, option_map, slice_get, option_to_list, if◌then◌else◌}
 use Rattle.std.specs.Str.{bytes_eq}
 use Rattle.rv_isa.specs.RegisterNames.{abi_names, decimal}
-use Rattle.rv_parse_laws.specs.declared.mnemonic.Mnemonic.{Mnemonic}
-use Rattle.rv_parse_laws.specs.declared.mnemonic.Mnemonic.TheVariants.{Registers, Immediate, Shift, Upper, Load, Store, Jalr, LoadReserved, Atomic, Fence, FenceTso, Ecall, Ebreak, Li}
-use Rattle.rv_parse_laws.specs.declared.mnemonic.RegisterOperation.TheVariants.{Add, Sub, Sll, Slt, Sltu, Xor, Srl, Sra, Or, And, Addw, Subw, Sllw, Srlw, Sraw, Mul, Mulh, Mulhsu, Mulhu, Div, Divu, Rem, Remu, Mulw, Divw, Divuw, Remw, Remuw}
-use Rattle.rv_parse_laws.specs.declared.mnemonic.ImmediateOperation.TheVariants.{Addi, Slti, Sltiu, Xori, Ori, Andi, Addiw}
-use Rattle.rv_parse_laws.specs.declared.mnemonic.ShiftOperation.TheVariants.{Slli, Srli, Srai, Slliw, Srliw, Sraiw}
-use Rattle.rv_parse_laws.specs.declared.mnemonic.UpperOperation.TheVariants.{Lui, Auipc}
-use Rattle.rv_parse_laws.specs.declared.mnemonic.LoadOperation.TheVariants.{Lb, Lh, Lw, Ld, Lbu, Lhu, Lwu}
-use Rattle.rv_parse_laws.specs.declared.mnemonic.StoreOperation.TheVariants.{Sb, Sh, Sw, Sd}
-use Rattle.rv_parse_laws.specs.declared.mnemonic.AtomicOperation.{AtomicOperation}
-use Rattle.rv_parse_laws.specs.declared.mnemonic.AtomicOperation.TheVariants.{Sc, Amoswap, Amoadd, Amoxor, Amoand, Amoor, Amomin, Amomax, Amominu, Amomaxu}
-use Rattle.rv_parse_laws.specs.declared.mnemonic.AtomicForm.{AtomicForm}
+use Rattle.rv_statement.specs.declared.mnemonic.Mnemonic.{Mnemonic}
+use Rattle.rv_statement.specs.declared.mnemonic.Mnemonic.TheVariants.{Registers, Immediate, Shift, Upper, Load, Store, Jalr, LoadReserved, Atomic, Fence, FenceTso, Ecall, Ebreak, Li}
+use Rattle.rv_statement.specs.declared.mnemonic.RegisterOperation.TheVariants.{Add, Sub, Sll, Slt, Sltu, Xor, Srl, Sra, Or, And, Addw, Subw, Sllw, Srlw, Sraw, Mul, Mulh, Mulhsu, Mulhu, Div, Divu, Rem, Remu, Mulw, Divw, Divuw, Remw, Remuw}
+use Rattle.rv_statement.specs.declared.mnemonic.ImmediateOperation.TheVariants.{Addi, Slti, Sltiu, Xori, Ori, Andi, Addiw}
+use Rattle.rv_statement.specs.declared.mnemonic.ShiftOperation.TheVariants.{Slli, Srli, Srai, Slliw, Srliw, Sraiw}
+use Rattle.rv_statement.specs.declared.mnemonic.UpperOperation.TheVariants.{Lui, Auipc}
+use Rattle.rv_statement.specs.declared.mnemonic.LoadOperation.TheVariants.{Lb, Lh, Lw, Ld, Lbu, Lhu, Lwu}
+use Rattle.rv_statement.specs.declared.mnemonic.StoreOperation.TheVariants.{Sb, Sh, Sw, Sd}
+use Rattle.rv_statement.specs.declared.mnemonic.AtomicOperation.{AtomicOperation}
+use Rattle.rv_statement.specs.declared.mnemonic.AtomicOperation.TheVariants.{Sc, Amoswap, Amoadd, Amoxor, Amoand, Amoor, Amomin, Amomax, Amominu, Amomaxu}
+use Rattle.rv_statement.specs.declared.mnemonic.AtomicForm.{AtomicForm}
+use Rattle.rv_statement.specs.declared.directive.Standard.TheVariants.{Text, Data, Rodata, Bss}
+use Rattle.rv_statement.specs.declared.directive.Width.TheVariants.{Byte, Half, Word, Double}
+use Rattle.rv_statement.specs.declared.directive.Choice.{Choice}
+use Rattle.rv_statement.specs.declared.directive.Choice.TheVariants.{Rvc, Norvc, Relax, Norelax, Push, Pop, Nopic}
+use Rattle.rv_statement.specs.declared.directive.DirectiveWord.{DirectiveWord}
+use Rattle.rv_statement.specs.declared.directive.DirectiveWord.TheVariants as words
 
 -- the word is in the list
 abbrev pub is_among : List (List ℕ) → List ℕ → Bool
@@ -62,19 +68,11 @@ pseudo_words =
     codes "j" ∷ codes "jr" ∷ codes "ret" ∷ codes "la" ∷ codes "lla" ∷ codes "call" ∷ codes "tail" ∷ codes "jump" ∷
     codes "li" ∷ codes "unimp" ∷ []
 
--- the directives of the language and those that it leaves out by name
-unfoldable pub directive_words : List (List ℕ)
-directive_words =
-    codes ".text" ∷ codes ".data" ∷ codes ".rodata" ∷ codes ".bss" ∷ codes ".section" ∷
-    codes ".globl" ∷ codes ".global" ∷ codes ".local" ∷ codes ".weak" ∷ codes ".set" ∷ codes ".equ" ∷
-    codes ".align" ∷ codes ".p2align" ∷ codes ".balign" ∷
-    codes ".byte" ∷ codes ".half" ∷ codes ".2byte" ∷ codes ".word" ∷ codes ".4byte" ∷ codes ".dword" ∷
-    codes ".8byte" ∷ codes ".quad" ∷ codes ".ascii" ∷ codes ".asciz" ∷ codes ".string" ∷
-    codes ".zero" ∷ codes ".space" ∷ codes ".skip" ∷ codes ".option" ∷
-    codes ".file" ∷ codes ".ident" ∷ codes ".type" ∷ codes ".size" ∷ codes ".attribute" ∷
-    codes ".hidden" ∷ codes ".protected" ∷ codes ".internal" ∷
-    codes ".comm" ∷ codes ".macro" ∷ codes ".rept" ∷ codes ".if" ∷ codes ".include" ∷ codes ".pushsection" ∷
-    codes ".popsection" ∷ codes ".previous" ∷ codes ".insn" ∷ codes ".uleb128" ∷ codes ".loc" ∷ []
+-- the directives that the language leaves out by name
+unfoldable pub left_out_directives : List (List ℕ)
+left_out_directives =
+    codes ".weak" ∷ codes ".comm" ∷ codes ".macro" ∷ codes ".rept" ∷ codes ".if" ∷ codes ".include" ∷
+    codes ".pushsection" ∷ codes ".popsection" ∷ codes ".previous" ∷ codes ".insn" ∷ codes ".uleb128" ∷ codes ".loc" ∷ []
 
 -- an atomic with its width and ordering
 abbrev pub is_atomic_of : List (List ℕ) → List ℕ → Bool
@@ -82,15 +80,9 @@ is_atomic_of [] word = false
 is_atomic_of (front ∷ fronts) word =
     (bytes_eq (take (length front) word) front && is_among atomic_ends (drop (length front) word)) || is_atomic_of fronts word
 
--- call frame information, whatever follows the common front
-abbrev pub is_frame_directive : List ℕ → Bool
-is_frame_directive word = bytes_eq (take 5 word) (codes ".cfi_")
-
--- a mnemonic or directive that the language has, or leaves out by name
+-- a mnemonic that the language has, or a mnemonic or directive that it leaves out by name
 unfoldable pub is_known : List ℕ → Bool
-is_known word =
-    is_among base_words word || is_among pseudo_words word || is_among directive_words word || is_atomic_of atomic_words word
-    || is_frame_directive word
+is_known word = is_among base_words word || is_among pseudo_words word || is_among left_out_directives word || is_atomic_of atomic_words word
 
 -- the mnemonics that are built but the atomics (ISA, chapter 24; Assembly Programmer's Manual for `li`)
 unfoldable pub instruction_words : List (List ℕ × Mnemonic)
@@ -211,34 +203,89 @@ mnemonic_named word =
     either (named_in instruction_words word)
     (either (option_map LoadReserved (form_behind (codes "lr") word)) (atomic_in atomic_operations word))
 
+-- the directives by their words (GNU as, "Pseudo Ops" and "RISC-V-Directives")
+unfoldable pub directive_words : List (List ℕ × DirectiveWord)
+directive_words =
+    (codes ".text", words.Enters Text)
+    ∷ (codes ".data", words.Enters Data)
+    ∷ (codes ".rodata", words.Enters Rodata)
+    ∷ (codes ".bss", words.Enters Bss)
+    ∷ (codes ".section", words.Section)
+    ∷ (codes ".globl", words.Globl)
+    ∷ (codes ".global", words.Globl)
+    ∷ (codes ".local", words.Local)
+    ∷ (codes ".set", words.Set)
+    ∷ (codes ".equ", words.Set)
+    ∷ (codes ".align", words.AlignToPower)
+    ∷ (codes ".p2align", words.AlignToPower)
+    ∷ (codes ".balign", words.AlignToBytes)
+    ∷ (codes ".byte", words.Value Byte)
+    ∷ (codes ".half", words.Value Half)
+    ∷ (codes ".2byte", words.Value Half)
+    ∷ (codes ".word", words.Value Word)
+    ∷ (codes ".4byte", words.Value Word)
+    ∷ (codes ".dword", words.Value Double)
+    ∷ (codes ".8byte", words.Value Double)
+    ∷ (codes ".quad", words.Value Double)
+    ∷ (codes ".ascii", words.Ascii)
+    ∷ (codes ".asciz", words.Asciz)
+    ∷ (codes ".string", words.Asciz)
+    ∷ (codes ".zero", words.Zero)
+    ∷ (codes ".space", words.Zero)
+    ∷ (codes ".skip", words.Zero)
+    ∷ (codes ".option", words.Option)
+    ∷ (codes ".file", words.Ignored)
+    ∷ (codes ".ident", words.Ignored)
+    ∷ (codes ".type", words.Ignored)
+    ∷ (codes ".size", words.Ignored)
+    ∷ (codes ".attribute", words.Ignored)
+    ∷ (codes ".hidden", words.Ignored)
+    ∷ (codes ".protected", words.Ignored)
+    ∷ (codes ".internal", words.Ignored)
+    ∷ []
+
+-- call frame information, whatever follows the common front
+abbrev pub frame_directive : List ℕ → Option DirectiveWord
+frame_directive word = if bytes_eq (take 5 word) (codes ".cfi_") then Some words.Ignored else None
+
+-- the directive that a word is
+unfoldable pub directive_named : List ℕ → Option DirectiveWord
+directive_named word = either (named_in directive_words word) (frame_directive word)
+
 -- what a word begins that is built
 pub data Beginning : Type 0 where
   Begins_instruction : (mnemonic : Mnemonic) → Beginning
-  -- `.globl` and `.global`
-  Begins_globl : Beginning
-  -- `.option`
-  Begins_option : Beginning
+  Begins_directive : (word : DirectiveWord) → Beginning
   -- nothing that is built
   Begins_nothing : Beginning
 
--- a word that is no mnemonic
-abbrev pub directive : List ℕ → Beginning
-directive word =
-    if bytes_eq word (codes ".globl") || bytes_eq word (codes ".global") then Begins_globl
-    else (if bytes_eq word (codes ".option") then Begins_option else Begins_nothing)
-
-abbrev pub begun_by : Option Mnemonic → List ℕ → Beginning
-begun_by (Some mnemonic) word = Begins_instruction mnemonic
-begun_by None word = directive word
+abbrev pub begun_by : Option Mnemonic → Option DirectiveWord → Beginning
+begun_by (Some mnemonic) directive = Begins_instruction mnemonic
+begun_by None (Some directive) = Begins_directive directive
+begun_by None None = Begins_nothing
 
 unfoldable pub beginning : List ℕ → Beginning
-beginning word = begun_by (mnemonic_named word) word
+beginning word = begun_by (mnemonic_named word) (directive_named word)
 
--- the options that the language has, `norvc` apart, and those that it leaves out by name
-unfoldable pub option_words : List (List ℕ)
-option_words =
-    codes "rvc" ∷ codes "relax" ∷ codes "norelax" ∷ codes "push" ∷ codes "pop" ∷ codes "nopic" ∷ codes "arch" ∷
-    codes "pic" ∷ []
+-- what `.option` chooses from (GNU as, "RISC-V-Directives")
+unfoldable pub choices : List (List ℕ × Choice)
+choices =
+    (codes "rvc", Rvc)
+    ∷ (codes "norvc", Norvc)
+    ∷ (codes "relax", Relax)
+    ∷ (codes "norelax", Norelax)
+    ∷ (codes "push", Push)
+    ∷ (codes "pop", Pop)
+    ∷ (codes "nopic", Nopic)
+    ∷ []
+
+-- the options that the language leaves out by name
+unfoldable pub left_out_options : List (List ℕ)
+left_out_options = codes "arch" ∷ codes "pic" ∷ []
+
+-- the types of a section
+unfoldable pub section_types : List (List ℕ)
+section_types = codes "progbits" ∷ codes "nobits" ∷ codes "note" ∷ []
 
 -- the names of a register: by number, by the ABI, and `fp` for x8
 unfoldable pub names_of : ℕ → List (List ℕ)

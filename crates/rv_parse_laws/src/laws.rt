@@ -1,7 +1,7 @@
 //! Laws of the reading of a source, each the contract of a function with nothing to do.
 
 ghost use Rattle.std.specs.Prelude.{◌≡◌, ℕ, List};
-ghost use Rattle.rv_parse_laws.specs.Statement.{Spoken};
+ghost use Rattle.rv_statement.specs.Statement.{Spoken};
 ghost use Rattle.rv_parse_laws.specs.Reading.{Reads, Fault, Refuses};
 
 /// Bytes have at most one reading.

@@ -4,10 +4,5 @@
 #![tactic(auto)]
 
 mod laws;
-mod mnemonic;
 
 pub use laws::{not_both, one_fault, one_reading};
-pub use mnemonic::{
-    AccessSet, AtomicForm, AtomicOperation, ImmediateOperation, LoadOperation, Mnemonic,
-    RegisterOperation, ShiftOperation, StoreOperation, UpperOperation,
-};

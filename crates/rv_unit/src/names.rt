@@ -38,14 +38,14 @@ impl<'a> Unit<'a> {
     }
 
     /// The value of an expression of that statement; a fault has this line.
-    pub(crate) fn value(
+    pub(crate) fn value<'e>(
         &self,
         passed: &Tables<'_>,
         ordinal: usize,
         place: Place,
-        expression: &Expr<'a>,
+        expression: &Expr<'e>,
         line: u32,
-    ) -> Result<Value<'a>, SourceFault>
+    ) -> Result<Value<'e>, SourceFault>
         ensures { (ss : List Spoken) (o : ℕ) → IsIndexed passed.now → IsIndexed (self.now).tables → Sees (tables_of passed.now) (tables_of (self.now).tables) ss o → ordinal ≡ o → IsOutcome result line (laws.value (laws.tables ss) true o (place_of place) (tree_of_expr expression.now)) }
     {
         eval(

@@ -101,12 +101,12 @@ impl<'u, 'a> Scope<'u, 'a> {
     }
 
     /// The value of an expression of the statement that is next, which stands at the place; a fault has this line.
-    pub fn value(
+    pub fn value<'e>(
         &self,
         place: Place,
-        expression: &Expr<'a>,
+        expression: &Expr<'e>,
         line: u32,
-    ) -> Result<Value<'a>, SourceFault>
+    ) -> Result<Value<'e>, SourceFault>
         ensures { (index : ℕ) → IsFilled (self.now).unit.now → IsScope self.now index → IsOutcome result line (laws.value (laws.tables (said (self.now).unit.now)) true (index + 1) (place_of place) (tree_of_expr expression.now)) }
     {
         self.unit

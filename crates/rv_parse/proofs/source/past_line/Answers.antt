@@ -1,4 +1,4 @@
-use Rattle.std.proofs.Common.{◌≡◌, ◌∙◌, sym, arith, rules}
+use Rattle.std.proofs.Common.{◌∙◌, sym, arith, rules}
 use Rattle.rv_parse.proofs.Lines.{line_ends, line_goes_on, line_within}
 use Rattle.rv_parse.proofs.source.past_line.Goals as goal
 

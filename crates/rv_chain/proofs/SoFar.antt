@@ -1,0 +1,99 @@
+-- One statement more of the code so far.
+
+use Rattle.std.proofs.Common.{◌≡◌, ℕ, ◌+◌, ◌==◌, nat_lt, Bool, true, false, cond, List, [], ◌∷◌, ◌++◌, length, flat_map, filter, Option, Some, None, if◌then◌else◌, refl, sym, ap, ◌∙◌, append-nil, zero, suc, append_assoc, length-append, rules}
+use Rattle.std.specs.Global.{Vec}
+use Rattle.rv_unit_laws.specs.Faults.{Fault, lowest, at_line}
+use Rattle.rv_unit_laws.specs.Tables.{Tables, longest_section}
+use Rattle.rv_chain_laws.specs.Stated.{Stated}
+use Rattle.rv_chain_laws.specs.Refusals.{instruction_fault_from, size_fault_from, else_fault, grown, code_size, first_options, options_after, instruction_faults}
+use Rattle.rv_chain.specs.Choices.{options_of}
+use Rattle.rv_chain.specs.Code.{bytes_in, code_of, value_at, section_code, full_fault, full_at}
+use Rattle.rv_chain.specs.Added.{IsAdded, IsCodeSoFar}
+use Rattle.rv_chain.specs.declared.code.Coder.{Coder}
+
+else_assoc : (a b c : Option Fault) → else_fault (else_fault a b) c ≡ else_fault a (else_fault b c)
+else_assoc (Some f) b c = refl
+else_assoc None b c = refl
+
+at_else : (line : ℕ) (code : Option ℕ) (other : Option Fault) → else_fault (at_line line code None) other ≡ at_line line code other
+at_else line None other = refl
+at_else line (Some code) other = refl
+
+-- sizes that are the same have the same fault
+sizes_alike : (f g : ℕ → ℕ) (ss : List Stated) → ((j : ℕ) → f j ≡ g j) → size_fault_from f ss ≡ size_fault_from g ss
+sizes_alike f g [] e = refl
+sizes_alike f g (s ∷ ss) e =
+    ap (λ n. at_line s.line (if nat_lt longest_section (n + code_size s.says) then Some 17 else None) (size_fault_from (grown f s.section (code_size s.says)) ss)) (e s.section)
+    ∙ ap (λ r. at_line s.line (if nat_lt longest_section (g s.section + code_size s.says) then Some 17 else None) r)
+    (sizes_alike (grown f s.section (code_size s.says)) (grown g s.section (code_size s.says)) ss
+    (λ j. ap (λ n. if j == s.section then n + code_size s.says else n) (e j)))
+
+grown_length : (b : Bool) (old more : List ℕ) (size : ℕ) → length more ≡ size → length (if b then old ++ more else old) ≡ (if b then length old + size else length old)
+grown_length true old more size e = length-append old more ∙ ap (λ n. length old + n) e
+grown_length false old more size e = refl
+
+same : (n : ℕ) → (n == n) ≡ true
+same n = search rules
+
+joined : (b : Bool) (old : List ℕ) (code : Stated → List ℕ) (s : Stated) (rest : List Stated) → (if b then old ++ code s else old) ++ flat_map code rest ≡ old ++ flat_map code (cond b (s ∷ rest) rest)
+joined true old code s rest = append_assoc old (code s) (flat_map code rest)
+joined false old code s rest = refl
+
+pub next_code : (t : Tables) (all : List Stated) (s : Stated) (next : List Stated) (old new : Coder) → IsCodeSoFar t all (s ∷ next) old → IsAdded old new s.section (value_at t s) (record { line = s.line; says = s.says }) → IsCodeSoFar t all next new
+next_code t all s next old new h a =
+    let f = λ (j : ℕ). length (bytes_in old.sections.items j) in
+    let g = λ (j : ℕ). length (bytes_in new.sections.items j) in
+    let size = code_size s.says in
+    let alike = λ (j : ℕ). ap length (a.grows.1 j) ∙ grown_length (j == s.section) (bytes_in old.sections.items j) (code_of (value_at t s) s.says) size a.size in
+    let here : g s.section ≡ f s.section + size = alike s.section ∙ ap (λ b. if b then f s.section + size else f s.section) (same s.section) in
+    record {
+      instructions =
+          ap (λ o. instruction_fault_from t o next) a.options
+          ∙ sym (ap (λ fs. at_line s.line (lowest fs) (instruction_fault_from t (options_after (options_of old.choices) s.says) next)) a.sound)
+          ∙ h.instructions;
+      sizes =
+          ap (λ x. else_fault x (size_fault_from g next)) a.full
+          ∙ else_assoc (full_fault old.full) (full_at s.line (g s.section)) (size_fault_from g next)
+          ∙ ap (λ x. else_fault (full_fault old.full) x)
+          (at_else s.line (if nat_lt longest_section (g s.section) then Some 17 else None) (size_fault_from g next)
+          ∙ ap (λ n. at_line s.line (if nat_lt longest_section n then Some 17 else None) (size_fault_from g next)) here
+          ∙ ap (λ r. at_line s.line (if nat_lt longest_section (f s.section + size) then Some 17 else None) r) (sizes_alike g (grown f s.section size) next alike))
+          ∙ h.sizes;
+      bytes = λ j.
+          ap (λ x. x ++ section_code t j next) (a.grows.1 j)
+          ∙ joined (j == s.section) (bytes_in old.sections.items j) (λ u. code_of (value_at t u) u.says) s (filter (λ u. j == u.section) next)
+          ∙ h.bytes j;
+    }
+
+-- the first faulty instruction is the next one
+pub wrong_code : (t : Tables) (all : List Stated) (s : Stated) (next : List Stated) (old : Coder) (code : ℕ) → IsCodeSoFar t all (s ∷ next) old → lowest (instruction_faults (options_of old.choices) (value_at t s) s.says) ≡ Some code → instruction_fault_from t first_options all ≡ Some (record { code = code; line = s.line })
+wrong_code t all s next old code h e =
+    sym h.instructions ∙ ap (λ c. at_line s.line c (instruction_fault_from t (options_after (options_of old.choices) s.says) next)) e
+
+-- behind the last statement the code is whole
+pub whole_code : (t : Tables) (all : List Stated) (c : Coder) → IsCodeSoFar t all [] c → (j : ℕ) → bytes_in c.sections.items j ≡ section_code t j all
+whole_code t all c h j = sym (append-nil (bytes_in c.sections.items j)) ∙ h.bytes j
+
+else_none : (a : Option Fault) → else_fault a None ≡ a
+else_none None = refl
+else_none (Some f) = refl
+
+pub whole_sizes : (t : Tables) (all : List Stated) (c : Coder) → IsCodeSoFar t all [] c → size_fault_from (λ j. 0) all ≡ full_fault c.full
+whole_sizes t all c h = sym h.sizes ∙ else_none (full_fault c.full)
+
+-- before the first statement there is none
+pub begun : (t : Tables) (all : List Stated) (c : Coder) → options_of c.choices ≡ first_options → full_fault c.full ≡ None → ((j : ℕ) → bytes_in c.sections.items j ≡ []) → IsCodeSoFar t all all c
+begun t all c o f e = record {
+  instructions = ap (λ x. instruction_fault_from t x all) o;
+  sizes =
+      ap (λ x. else_fault x (size_fault_from (λ j. length (bytes_in c.sections.items j)) all)) f
+      ∙ sizes_alike (λ j. length (bytes_in c.sections.items j)) (λ j. 0) all (λ j. ap length (e j));
+  bytes = λ j. ap (λ x. x ++ section_code t j all) (e j);
+}
+
+-- an empty section behind others
+pub empty_behind : (xs : List (Vec ℕ)) (x : Vec ℕ) (j : ℕ) → x.items ≡ [] → ((i : ℕ) → bytes_in xs i ≡ []) → bytes_in (xs ++ x ∷ []) j ≡ []
+empty_behind [] x zero e h = e
+empty_behind [] x (suc j) e h = refl
+empty_behind (y ∷ ys) x zero e h = h 0
+empty_behind (y ∷ ys) x (suc j) e h = empty_behind ys x j e (λ i. h (suc i))

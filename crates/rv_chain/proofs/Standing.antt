@@ -1,0 +1,124 @@
+-- Where the statements of a unit stand.
+
+use Rattle.std.proofs.Common.{◌≡◌, ℕ, zero, suc, ◌+◌, ◌<◌, ◌≤◌, List, [], ◌∷◌, length, map, take, drop, get_or, Some, refl, sym, ap, ◌∙◌, subst, arith}
+use Rattle.std.specs.Prelude.{slice_get}
+use Rattle.std.specs.List.{drop-map, AllByRecursion}
+use Rattle.std.proofs.Math.Seq.{drop-cons}
+use Rattle.std.proofs.lemmas.List.{length-map, at_drop_all}
+use Rattle.rv_statement.specs.Statement.{Spoken}
+use Rattle.rv_statement.specs.View.{said_by}
+use Rattle.rv_statement.specs.declared.statement.Statement.{Statement}
+use Rattle.rv_unit_laws.specs.Sections.{text_section}
+use Rattle.rv_unit_laws.specs.Tables.{Tables, Place as Standing, at_start, after, after_all, tables, stood, places, places_from}
+use Rattle.rv_unit.specs.declared.place.Place.{Place}
+use Rattle.rv_unit.specs.declared.unit.Unit.{Unit as SourceUnit}
+use Rattle.rv_unit.specs.Sections.{place_of, extent_section}
+use Rattle.rv_unit.specs.Unit.{said, passed, IsFilled}
+use Rattle.rv_chain_laws.specs.Stated.{Stated, stated_now, stated_from}
+use Rattle.rv_chain_laws.proofs.Homes.{IsHomeIn, homes_from}
+
+-- what is left of the statements of a source, and of their places
+pub stated_left : (file k : ℕ) (t : Tables) (ss : List Spoken) (i : ℕ) → drop i (stated_from file k t ss) ≡ stated_from file (i + k) (after_all t k (take i ss)) (drop i ss)
+stated_left file k t [] zero = refl
+stated_left file k t [] (suc i) = refl
+stated_left file k t (s ∷ ss) zero = ap (λ n. stated_from file n t (s ∷ ss)) (let e : k ≡ 0 + k = omega arith in e)
+stated_left file k t (s ∷ ss) (suc i) =
+    stated_left file (suc k) (after t k s.says) ss i
+    ∙ ap (λ n. stated_from file n (after_all (after t k s.says) (suc k) (take i ss)) (drop i ss)) (let e : i + suc k ≡ suc i + k = omega arith in e)
+
+pub places_left : (k : ℕ) (t : Tables) (ss : List Spoken) (i : ℕ) → drop i (places_from t k ss) ≡ places_from (after_all t k (take i ss)) (i + k) (drop i ss)
+places_left k t [] zero = refl
+places_left k t [] (suc i) = refl
+places_left k t (s ∷ ss) zero = ap (λ n. places_from t n (s ∷ ss)) (let e : k ≡ 0 + k = omega arith in e)
+places_left k t (s ∷ ss) (suc i) =
+    places_left (suc k) (after t k s.says) ss i
+    ∙ ap (λ n. places_from (after_all (after t k s.says) (suc k) (take i ss)) n (drop i ss)) (let e : i + suc k ≡ suc i + k = omega arith in e)
+
+drop_next : {A B : Type 0} (f : A → B) (d x : A) (xs : List A) (i : ℕ) → i < length xs → x ≡ get_or xs i d → drop i (map f xs) ≡ f x ∷ drop (i + 1) (map f xs)
+drop_next f d x xs i h is =
+    drop-map f i xs ∙ ap (λ r. map f r) (drop-cons xs i d h) ∙ ap (λ r. f (get_or xs i d) ∷ r) (sym (drop-map f (suc i) xs))
+    ∙ ap (λ n. f (get_or xs i d) ∷ drop n (map f xs)) (let e : suc i ≡ i + 1 = omega arith in e)
+    ∙ ap (λ y. f y ∷ drop (i + 1) (map f xs)) (sym is)
+
+drop_tail : {A : Type 0} (xs : List A) (i : ℕ) (y : A) (ys : List A) → drop i xs ≡ y ∷ ys → drop (suc i) xs ≡ ys
+drop_tail [] zero y ys e = absurd (cc)
+drop_tail [] (suc i) y ys e = absurd (cc)
+drop_tail (x ∷ xs) zero y ys e = cc
+drop_tail (x ∷ xs) (suc i) y ys e = drop_tail xs i y ys e
+
+left_of : {A : Type 0} (xs : List A) (i : ℕ) (y : A) (ys : List A) → drop i xs ≡ y ∷ ys → drop i xs ≡ y ∷ drop (i + 1) xs
+left_of xs i y ys e = e ∙ ap (λ r. y ∷ r) (sym (drop_tail xs i y ys e)) ∙ ap (λ n. y ∷ drop n xs) (let e : suc i ≡ i + 1 = omega arith in e)
+
+first_same : {A : Type 0} (x y : A) (xs ys : List A) → x ∷ xs ≡ y ∷ ys → x ≡ y
+first_same x y xs ys e = cc
+
+all_at : {A : Type 0} (P : A → Type 0) (xs : List A) (i : ℕ) (y : A) (ys : List A) → drop i xs ≡ y ∷ ys → AllByRecursion P xs → P y
+all_at P [] zero y ys e h = absurd (cc)
+all_at P [] (suc i) y ys e h = absurd (cc)
+all_at P (x ∷ xs) zero y ys e h = subst P (first_same x y xs ys e) h.0
+all_at P (x ∷ xs) (suc i) y ys e h = all_at P xs i y ys e h.1
+
+-- a section that is found stands in the list
+pub got_inside : {A : Type 0} (xs : List A) (i : ℕ) (y : A) → slice_get xs i ≡ Some y → i < length xs
+got_inside [] zero y e = absurd (cc)
+got_inside [] (suc i) y e = absurd (cc)
+got_inside (x ∷ xs) zero y e = omega arith
+got_inside (x ∷ xs) (suc i) y e = let below : i < length xs = got_inside xs i y e in omega arith
+
+-- the statement at an index of a source, where it stands
+abbrev pub stated_at : List Spoken → ℕ → Spoken → Stated
+stated_at ss i s = stated_now 1 (i + 1) (passed ss i) s
+
+pub stated_next : (ss : List Spoken) (i : ℕ) (s : Spoken) (rest : List Spoken) → drop i ss ≡ s ∷ rest → drop i (stated_from 1 1 at_start ss) ≡ stated_at ss i s ∷ drop (i + 1) (stated_from 1 1 at_start ss)
+stated_next ss i s rest e =
+    left_of (stated_from 1 1 at_start ss) i (stated_at ss i s) (stated_from 1 (suc (i + 1)) (after (passed ss i) (i + 1) s.says) rest)
+    (stated_left 1 1 at_start ss i ∙ ap (stated_from 1 (i + 1) (passed ss i)) e)
+
+pub places_next : (ss : List Spoken) (i : ℕ) (s : Spoken) (rest : List Spoken) → drop i ss ≡ s ∷ rest → drop i (places ss) ≡ stood (passed ss i) (i + 1) s.says ∷ drop (i + 1) (places ss)
+places_next ss i s rest e =
+    left_of (places ss) i (stood (passed ss i) (i + 1) s.says) (places_from (after (passed ss i) (i + 1) s.says) (suc (i + 1)) rest)
+    (places_left 1 at_start ss i ∙ ap (places_from (passed ss i) (i + 1)) e)
+
+-- a unit's statement and place at an index
+pub record StandsAt (u : SourceUnit) (i : ℕ) (x : Statement) (p : Place) : Type 0 where
+  pub here : drop i (said u) ≡ said_by x ∷ drop (i + 1) (said u)
+  pub next : drop i (stated_from 1 1 at_start (said u)) ≡ stated_at (said u) i (said_by x) ∷ drop (i + 1) (stated_from 1 1 at_start (said u))
+  pub place : place_of p ≡ stood (passed (said u) i) (i + 1) (said_by x).says
+  pub home : slice_get (map extent_section u.tables.extents.items) p.section ≡ Some (stated_at (said u) i (said_by x)).home
+
+places_length : (k : ℕ) (t : Tables) (ss : List Spoken) → length (places_from t k ss) ≡ length ss
+places_length k t [] = refl
+places_length k t (s ∷ ss) = ap suc (places_length (suc k) (after t k s.says) ss)
+
+-- each statement has a place
+pub places_count : (u : SourceUnit) → IsFilled u → length u.places.items ≡ length u.statements.items
+places_count u f = sym (length-map u.places.items place_of) ∙ ap length f.stand ∙ places_length 1 at_start (said u) ∙ length-map u.statements.items said_by
+
+pub stands_at : (u : SourceUnit) (i : ℕ) (dx x : Statement) (dp p : Place) → IsFilled u → i < length u.statements.items → x ≡ get_or u.statements.items i dx → p ≡ get_or u.places.items i dp → StandsAt u i x p
+stands_at u i dx x dp p f inside is at =
+    let ss = said u in
+    let here : drop i ss ≡ said_by x ∷ drop (i + 1) ss = drop_next said_by dx x u.statements.items i inside is in
+    let next = stated_next ss i (said_by x) (drop (i + 1) ss) here in
+    let inside' : i < length u.places.items = subst (λ n. i < n) (sym (places_count u f)) inside in
+    let seat = drop_next place_of dp p u.places.items i inside' at in
+    let place : place_of p ≡ stood (passed ss i) (i + 1) (said_by x).says =
+    first_same (place_of p) (stood (passed ss i) (i + 1) (said_by x).says) (drop (i + 1) (map place_of u.places.items)) (drop (i + 1) (places ss))
+    (sym seat ∙ ap (drop i) f.stand ∙ places_next ss i (said_by x) (drop (i + 1) ss) here) in
+    let homes = homes_from (λ file. (tables ss).opened.sections) 1 1 at_start ss refl (text_section, refl) in
+    let home = all_at (IsHomeIn (λ file. (tables ss).opened.sections)) (stated_from 1 1 at_start ss) i (stated_at ss i (said_by x)) (drop (i + 1) (stated_from 1 1 at_start ss)) next homes in
+    record {
+      here = here;
+      next = next;
+      place = place;
+      home =
+          ap (λ l. slice_get l p.section) (ap (λ t. t.opened.sections) f.tables)
+          ∙ ap (λ (q : Standing). slice_get (tables ss).opened.sections q.section) place ∙ home;
+    }
+
+stated_length : (file k : ℕ) (t : Tables) (ss : List Spoken) → length (stated_from file k t ss) ≡ length ss
+stated_length file k t [] = refl
+stated_length file k t (s ∷ ss) = ap suc (stated_length file (suc k) (after t k s.says) ss)
+
+-- none is left behind the last
+pub stated_none : (ss : List Spoken) (i : ℕ) → length ss ≤ i → drop i (stated_from 1 1 at_start ss) ≡ []
+stated_none ss i past = at_drop_all (λ l. l) (stated_from 1 1 at_start ss) i (subst (λ n. n ≤ i) (sym (stated_length 1 1 at_start ss)) past)

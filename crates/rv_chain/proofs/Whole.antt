@@ -1,0 +1,74 @@
+-- The code of a whole source.
+
+use Rattle.std.proofs.Common.{◌≡◌, ℕ, ◌+◌, true, List, [], ◌∷◌, drop, Option, Some, Result, Ok, Err, sym, ap, ◌∙◌, subst, append-nil}
+use Rattle.std.specs.Global.{Vec}
+use Rattle.rv_text.specs.declared.fault.SourceFault.{SourceFault}
+use Rattle.rv_text.specs.declared.fault.SourceFault.TheVariants.{At, OutOfMemory}
+use Rattle.rv_text.specs.Fault.{number_of}
+use Rattle.rv_statement.specs.Statement.{Spoken}
+use Rattle.rv_statement.specs.View.{said_by}
+use Rattle.rv_statement.specs.declared.statement.Statement.{Statement}
+use Rattle.rv_unit_laws.specs.Faults.{Fault, lowest}
+use Rattle.rv_unit_laws.specs.Tables.{Tables, Place as Standing, at_start, tables, value, stood}
+use Rattle.rv_unit.specs.declared.place.Place.{Place}
+use Rattle.rv_unit.specs.declared.unit.Unit.{Unit as SourceUnit}
+use Rattle.rv_unit.specs.Sections.{place_of}
+use Rattle.rv_unit.specs.Unit.{said, passed}
+use Rattle.rv_chain_laws.specs.Stated.{Stated, stated, stated_from}
+use Rattle.rv_chain_laws.specs.Refusals.{else_fault, instruction_fault, instruction_faults, instruction_fault_from, first_options, size_fault}
+use Rattle.rv_chain.specs.Choices.{options_of}
+use Rattle.rv_chain.specs.Added.{IsAdded, IsCode, IsCodeSoFar, IsSourceCode, Adds}
+use Rattle.rv_chain.specs.declared.code.Coder.{Coder}
+use Rattle.rv_chain.proofs.SoFar.{next_code, wrong_code}
+use Rattle.rv_chain.proofs.Standing.{StandsAt, stated_at}
+
+-- the code of the first statements of a source, so many of them
+abbrev pub CodeTo : List Spoken → ℕ → Coder → Type 0
+CodeTo ss i c = IsCodeSoFar (tables ss) (stated_from 1 1 at_start ss) (drop i (stated_from 1 1 at_start ss)) c
+
+-- what is added where the statement stands
+added_there : (t : Tables) (o i : ℕ) (c d : Coder) (s : Spoken) (p q : Standing) → p ≡ q → IsAdded c d p.section (λ e. value t true o p e) s → IsAdded c d q.section (λ e. value t true o q e) s
+added_there t o i c d s p q e h = subst (λ (r : Standing). IsAdded c d r.section (λ e. value t true o r e) s) e h
+
+pub code_more : (u : SourceUnit) (i : ℕ) (x : Statement) (p : Place) (c d : Coder) → StandsAt u i x p → CodeTo (said u) i c
+    → IsAdded c d p.section (λ e. value (tables (said u)) true (i + 1) (place_of p) e) (said_by x) → CodeTo (said u) (i + 1) d
+code_more u i x p c d at h added =
+    let ss = said u in
+    let all = stated_from 1 1 at_start ss in
+    next_code (tables ss) all (stated_at ss i (said_by x)) (drop (i + 1) all) c d
+    (subst (λ rest. IsCodeSoFar (tables ss) all rest c) at.next h)
+    (added_there (tables ss) (i + 1) i c d (said_by x) (place_of p) (stood (passed ss i) (i + 1) (said_by x).says) at.place added)
+
+abbrev fault_at : ℕ → ℕ → Option Fault
+fault_at code line = Some (record { code = code; line = line })
+
+code_fault : (ss : List Spoken) (code line at : ℕ) → instruction_fault ss ≡ Some (record { code = code; line = line }) → at ≡ line → else_fault (instruction_fault ss) (size_fault ss) ≡ Some (record { code = code; line = at })
+code_fault ss code line at e f = ap (λ a. else_fault a (size_fault ss)) e ∙ ap (fault_at code) (sym f)
+
+one_file : (ss : List Spoken) → stated (ss ∷ []) ≡ stated_from 1 1 at_start ss
+one_file ss = append-nil (stated_from 1 1 at_start ss)
+
+-- a statement with a fault is the first
+pub code_wrong : (u : SourceUnit) (i : ℕ) (x : Statement) (p : Place) (c d : Coder) (fault : SourceFault) → StandsAt u i x p → CodeTo (said u) i c
+    → Adds c d p.section (λ e. value (tables (said u)) true (i + 1) (place_of p) e) (said_by x) (Err fault) → IsSourceCode (said u) (Err fault)
+code_wrong u i x p c d OutOfMemory at h wrong = tt
+code_wrong u i x p c d (At code line) at h wrong =
+    let ss = said u in
+    let all = stated_from 1 1 at_start ss in
+    let q = stood (passed ss i) (i + 1) (said_by x).says in
+    code_fault ss (number_of code) x.line line
+    (ap (λ l. instruction_fault_from (tables ss) first_options l) (one_file ss)
+    ∙ wrong_code (tables ss) all (stated_at ss i (said_by x)) (drop (i + 1) all) c (number_of code)
+    (subst (λ rest. IsCodeSoFar (tables ss) all rest c) at.next h)
+    (subst (λ r. lowest (instruction_faults (options_of c.choices) (λ e. value (tables ss) true (i + 1) r e) (said_by x).says) ≡ Some (number_of code)) at.place wrong.0))
+    wrong.1
+
+pub code_whole : (ss : List Spoken) (i : ℕ) (c : Coder) (r : Result (Vec (Vec ℕ)) SourceFault) → drop i (stated_from 1 1 at_start ss) ≡ [] → CodeTo ss i c
+    → ((t : Tables) (all : List Stated) → IsCodeSoFar t all [] c → IsCode t all r) → IsSourceCode ss r
+code_whole ss i c r none h finish =
+    go r (subst (λ l. IsCode (tables ss) l r) (sym (one_file ss)) (finish (tables ss) (stated_from 1 1 at_start ss) (subst (λ l. IsCodeSoFar (tables ss) (stated_from 1 1 at_start ss) l c) none h)))
+  where
+    go : (r : Result (Vec (Vec ℕ)) SourceFault) → IsCode (tables ss) (stated (ss ∷ [])) r → IsSourceCode ss r
+    go (Ok sections) h = h
+    go (Err (At code line)) h = ap (λ a. else_fault a (size_fault ss)) h.0 ∙ h.1
+    go (Err OutOfMemory) h = tt

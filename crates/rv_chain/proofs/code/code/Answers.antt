@@ -1,0 +1,81 @@
+use Rattle.std.proofs.Common.{◌≡◌, ◌+◌, ◌<◌, ◌≤◌, length, map, get_or, sym, ap, subst, ◌∙◌, true, Err}
+use Rattle.std.specs.Prelude.{slice_index_or}
+use Rattle.std.proofs.lemmas.Result.{err_from_is_err_and}
+use Rattle.std.proofs.lemmas.List.{length-map}
+use Rattle.rv_statement.specs.View.{said_by}
+use Rattle.rv_unit.specs.declared.place.Place.{Place}
+use Rattle.rv_unit.specs.Unit.{said, IsFilled}
+use Rattle.rv_unit.specs.Sections.{extent_section, place_of}
+use Rattle.rv_unit_laws.specs.Tables.{tables, value as value_of}
+use Rattle.rv_chain.specs.Added.{IsAdded, Adds}
+use Rattle.rv_chain.proofs.Standing.{StandsAt, stands_at, places_count, got_inside, stated_at, stated_none}
+use Rattle.rv_chain.proofs.Whole.{code_more, code_wrong, code_whole}
+use Rattle.rv_chain.proofs.code.code.Goals as goal
+
+pub loop-index-init : goal.loop-index-init
+loop-index-init c = (c.in_ok-scope.ensures.unit, c.in_ok-scope.ensures.start, c.in_ok-coder.ensures.begun _ _, c.in_ok-coder.ensures.count ∙ ap length c.sections.ensures)
+
+pub bounds-places-index : goal.bounds-places-index
+bounds-places-index c =
+    let i = c.loop-index.index in
+    let inside = subst (λ l. i < length l) c.statements-statements.ensures c.loop-index-test.true in
+    let inside' = subst (λ n. i < n) (sym (places_count c.args.unit.now c.requires)) inside in
+    subst (λ l. i < length l) (sym c.places-places.ensures) inside'
+
+pub put_code-requires : goal.put_code-requires
+put_code-requires c =
+    let u = c.args.unit.now in
+    let i = c.loop-index.index in
+    let x = c.index-statements-index.result in
+    let p : Place = slice_index_or c.places-places.result.now i (record { section = 0; offset = 0 }) in
+    let inside = subst (λ l. i < length l) c.statements-statements.ensures c.loop-index-test.true in
+    let is : x ≡ get_or u.statements.items i x = c.index-statements-index.is ∙ ap (λ l. get_or l i x) c.statements-statements.ensures in
+    let at : StandsAt u i x p = stands_at u i x x (record { section = 0; offset = 0 }) p c.requires inside is (ap (λ l. get_or l i (record { section = 0; offset = 0 })) c.places-places.ensures) in
+    let stands = got_inside (map extent_section u.tables.extents.items) p.section (stated_at (said u) i (said_by x)).home at.home in
+    subst (λ n. p.section < n) (length-map u.tables.extents.items extent_section ∙ sym c.loop-index.invariant.3) stands
+
+pub loop-index-preserved : goal.loop-index-preserved
+loop-index-preserved c =
+    let u = c.args.unit.now in
+    let i = c.loop-index.index in
+    let x = c.index-statements-index.result in
+    let p : Place = slice_index_or c.places-places.result.now i (record { section = 0; offset = 0 }) in
+    let inside = subst (λ l. i < length l) c.statements-statements.ensures c.loop-index-test.true in
+    let is : x ≡ get_or u.statements.items i x = c.index-statements-index.is ∙ ap (λ l. get_or l i x) c.statements-statements.ensures in
+    let at : StandsAt u i x p = stands_at u i x x (record { section = 0; offset = 0 }) p c.requires inside is (ap (λ l. get_or l i (record { section = 0; offset = 0 })) c.places-places.ensures) in
+    let same = c.loop-index.invariant.0 in
+    let filled = subst IsFilled (sym same) c.requires in
+    let added : IsAdded c.loop-index.coder c.put_code.new.coder p.section (λ e. value_of (tables (said u)) true (i + 1) (place_of p) e) (said_by x) =
+    subst (λ w. IsAdded c.loop-index.coder c.put_code.new.coder p.section (λ e. value_of (tables (said w)) true (i + 1) (place_of p) e) (said_by x)) same
+    (c.in_ok-put_code.ensures i filled c.loop-index.invariant.1) in
+    let within = subst (λ n. i < n) (sym (length-map u.statements.items said_by)) inside in
+    let within' = subst (λ w. i < length (said w)) (sym same) within in (
+      ap (λ b. b.now) c.in_ok-pass.ensures.unit ∙ same,
+      c.in_ok-pass.ensures.passes i within' c.loop-index.invariant.1,
+      code_more u i x p c.loop-index.coder c.put_code.new.coder at c.loop-index.invariant.2 added,
+      added.grows.0 ∙ c.loop-index.invariant.3,
+    )
+
+pub returns-in_err-put_code-clause-code : goal.returns-in_err-put_code-clause-code
+returns-in_err-put_code-clause-code c =
+    let u = c.args.unit.now in
+    let i = c.loop-index.index in
+    let x = c.index-statements-index.result in
+    let p : Place = slice_index_or c.places-places.result.now i (record { section = 0; offset = 0 }) in
+    let inside = subst (λ l. i < length l) c.statements-statements.ensures c.loop-index-test.true in
+    let is : x ≡ get_or u.statements.items i x = c.index-statements-index.is ∙ ap (λ l. get_or l i x) c.statements-statements.ensures in
+    let at : StandsAt u i x p = stands_at u i x x (record { section = 0; offset = 0 }) p c.requires inside is (ap (λ l. get_or l i (record { section = 0; offset = 0 })) c.places-places.ensures) in
+    let same = c.loop-index.invariant.0 in
+    let filled = subst IsFilled (sym same) c.requires in
+    let wrong = subst (λ w. Adds c.loop-index.coder c.put_code.new.coder p.section (λ e. value_of (tables (said w)) true (i + 1) (place_of p) e) (said_by x) (Err c.in_err-put_code.field-0.0)) same
+    (c.in_err-put_code.ensures i filled c.loop-index.invariant.1) in
+    let found = err_from_is_err_and c.from_residual-in_err-put_code.result c.from_residual-in_err-put_code.ensures.1 in
+    rw (found.1, found.2)
+    (code_wrong u i x p c.loop-index.coder c.put_code.new.coder c.in_err-put_code.field-0.0 at c.loop-index.invariant.2 wrong)
+
+pub returns-clause-code : goal.returns-clause-code
+returns-clause-code c =
+    let u = c.args.unit.now in
+    let i = c.loop-index.index in
+    let past = subst (λ l. length l ≤ i) c.statements-statements.ensures c.loop-index-test.false in
+    code_whole (said u) i c.loop-index.coder c.finish.result (stated_none (said u) i (subst (λ n. n ≤ i) (sym (length-map u.statements.items said_by)) past)) c.loop-index.invariant.2 c.finish.ensures.code

@@ -1,0 +1,190 @@
+//! The code of a source's sections: the words of its instructions, one after another.
+
+ghost use Rattle.std.specs.Prelude.{◌≡◌, ◌<◌, ℕ, ◌+◌, true, List, Some, Ok, [], ◌∷◌, length, IfOk, IfSome};
+ghost use Rattle.rv_isa.specs.Ranges.{IsValid};
+ghost use Rattle.rv_text_laws.specs.Values as values;
+ghost use Rattle.rv_statement.specs.Statement.{Expression};
+ghost use Rattle.rv_statement.specs.View.{said_by};
+ghost use Rattle.rv_unit_laws.specs.Tables.{Tables, tables, value as value_of};
+ghost use Rattle.rv_unit.specs.Sections.{place_of};
+ghost use Rattle.rv_unit.specs.Unit.{said, IsFilled, IsScope};
+ghost use Rattle.rv_chain_laws.specs.Contents.{words};
+ghost use Rattle.rv_chain_laws.specs.Stated.{Stated};
+ghost use Rattle.rv_chain_laws.specs.Refusals.{else_fault};
+ghost use Rattle.rv_chain.specs.Added.{Adds, IsCode, IsCodeSoFar, IsSourceCode};
+ghost use Rattle.rv_chain.specs.Choices.{options_of};
+ghost use Rattle.rv_chain.specs.Code as laws;
+ghost use Rattle.rv_chain.specs.Code.{GrowsBy, Codes, Evaluates, word_of, full_fault, full_at};
+
+use crate::choices::Choices;
+use crate::instruction::instruction;
+use rv_encode::encode;
+use rv_isa::Inst;
+use rv_statement::Statement;
+use rv_text::{Expr, SourceCode, SourceFault, Value};
+use rv_unit::{Place, Scope, Unit};
+use std::alloc::{AllocError, Global};
+
+/// The longest section, in bytes.
+const LONGEST_SECTION: usize = 1 << 28;
+
+/// Adds the word of an instruction to the code of a section.
+fn put(sections: &mut [Vec<u8>], section: u32, inst: Inst) -> Result<(), AllocError>
+    requires valid { IsValid inst }
+    requires section { section < length sections.old }
+    ensures { IfOk result (λ _. GrowsBy sections.old sections.new section (words (Some (inst ∷ [])))) }
+{
+    let word = encode(inst).to_le_bytes();
+    sections[section as usize].extend_from_slice(word.as_slice())
+}
+
+/// Adds the word of an instruction, if there is one.
+fn put_found(sections: &mut [Vec<u8>], section: u32, found: Option<Inst>) -> Result<(), AllocError>
+    requires valid { IfSome found IsValid }
+    requires section { section < length sections.old }
+    ensures { IfOk result (λ _. GrowsBy sections.old sections.new section (word_of found)) }
+{
+    match found {
+        Some(inst) => put(sections, section, inst),
+        None => Ok(()),
+    }
+}
+
+/// So many sections without code.
+#[tactic(auto, using(crate::proofs::SoFar::empty_behind))]
+fn empty_sections(alloc: Global, count: usize) -> Result<Vec<Vec<u8>>, AllocError>
+    ensures count { IfOk result (λ sections. length sections.items ≡ count) }
+    ensures empty { IfOk result (λ sections. (j : ℕ) → laws.bytes_in sections.items j ≡ []) }
+{
+    let mut sections = Vec::new(alloc);
+    for _ in 0..count {
+        sections.push(Vec::new(alloc))?;
+    }
+    Ok(sections)
+}
+
+/// How many bytes a section has.
+fn bytes_in(sections: &[Vec<u8>], section: u32) -> usize
+    requires { section < length sections.now }
+    ensures { result ≡ length (laws.bytes_in sections.now section) }
+{
+    sections[section as usize].len()
+}
+
+/// The line of the first statement behind which a section is too long; this one's has so many bytes.
+fn full_behind(full: Option<u32>, bytes: usize, line: u32) -> Option<u32>
+    ensures { full_fault result ≡ else_fault (full_fault full) (full_at line bytes) }
+{
+    match full {
+        Some(first) => Some(first),
+        None if bytes > LONGEST_SECTION => Some(line),
+        None => None,
+    }
+}
+
+/// The code so far of a source's statements.
+#[derive(Debug, Drop)]
+pub(crate) struct Coder {
+    choices: Choices,
+    /// The bytes of each section.
+    pub(crate) sections: Vec<Vec<u8>>,
+    /// The line of the first statement behind which its section is too long.
+    pub(crate) full: Option<u32>,
+}
+
+impl Coder {
+    /// The code of so many sections before the first statement.
+    #[tactic(auto, using(crate::proofs::SoFar::begun))]
+    pub(crate) fn new(alloc: Global, sections: usize) -> Result<Self, AllocError>
+        ensures count { IfOk result (λ c. length c.sections.items ≡ sections) }
+        ensures begun { IfOk result (λ c. (t : Tables) (all : List Stated) → IsCodeSoFar t all all c) }
+    {
+        Ok(Coder {
+            choices: Choices::new(alloc),
+            sections: empty_sections(alloc, sections)?,
+            full: None,
+        })
+    }
+
+    /// The bytes of each section behind the last statement, where none is too long.
+    #[tactic(auto, using(crate::proofs::SoFar::whole_code, crate::proofs::SoFar::whole_sizes))]
+    pub(crate) fn finish(self) -> Result<Vec<Vec<u8>>, SourceFault>
+        ensures count { IfOk result (λ sections. length sections.items ≡ length self.sections.items) }
+        ensures code { (t : Tables) (all : List Stated) → IsCodeSoFar t all [] self → IsCode t all result }
+    {
+        match self.full {
+            Some(line) => Err(SourceFault::At {
+                code: SourceCode::Limit,
+                line,
+            }),
+            None => Ok(self.sections),
+        }
+    }
+
+    /// Adds a statement in a section, by the values of expressions, or gives the lowest code of its faults.
+    pub(crate) fn add<'a, F: Fn(&Expr<'a>) -> Result<Value<'a>, SourceFault>>(
+        &mut self,
+        statement: &Statement<'a>,
+        section: u32,
+        value: &F,
+    ) -> Result<(), SourceFault>
+        requires callable { F.IsAlwaysCallable value.now }
+        requires section { section < length self.old.sections.items }
+        ensures { (v : Expression → values.Value) → Evaluates (F.post value.now) statement.now.line v → Adds self.old self.new section v (said_by statement.now) result }
+    {
+        match instruction(statement, self.choices.rvc, value) {
+            Ok(found) => self.add_found(statement, section, found),
+            Err(fault) => Err(fault),
+        }
+    }
+
+    /// Adds a statement that has this instruction, or none.
+    fn add_found(
+        &mut self,
+        statement: &Statement<'_>,
+        section: u32,
+        found: Option<Inst>,
+    ) -> Result<(), SourceFault>
+        requires valid { IfSome found IsValid }
+        requires section { section < length self.old.sections.items }
+        ensures { (v : Expression → values.Value) → Codes (options_of self.old.choices) v (said_by statement.now) (Ok found) → Adds self.old self.new section v (said_by statement.now) result }
+    {
+        put_found(self.sections.as_mut_slice(), section, found)?;
+        let bytes = bytes_in(self.sections.as_slice(), section);
+        self.full = full_behind(self.full, bytes, statement.line);
+        self.choices.follow(&statement.kind)?;
+        Ok(())
+    }
+}
+
+/// Adds the code of a unit's next statement.
+fn put_code(
+    coder: &mut Coder,
+    scope: &Scope<'_, '_>,
+    statement: &Statement<'_>,
+    place: Place,
+) -> Result<(), SourceFault>
+    requires { place.section < length coder.old.sections.items }
+    ensures { (index : ℕ) → IsFilled (scope.now).unit.now → IsScope scope.now index → Adds coder.old coder.new place.section (λ e. value_of (tables (said (scope.now).unit.now)) true (index + 1) (place_of place) e) (said_by statement.now) result }
+{
+    let line = statement.line;
+    coder.add(statement, place.section, &|e| scope.value(place, e, line))
+}
+
+/// The code of each section of a unit.
+pub(crate) fn code(alloc: Global, unit: &Unit<'_>) -> Result<Vec<Vec<u8>>, SourceFault>
+    requires { IsFilled unit.now }
+    ensures count { IfOk result (λ sections. length sections.items ≡ length (unit.now).tables.extents.items) }
+    ensures code { IsSourceCode (said unit.now) result }
+{
+    let mut coder = Coder::new(alloc, unit.sections().len())?;
+    let mut scope = Scope::new(alloc, unit)?;
+    let statements = unit.statements();
+    let places = unit.places();
+    for index in 0..statements.len() {
+        let place = places[index];
+        put_code(&mut coder, &scope, &statements[index], place)?;
+        scope.pass()?;
+    }
+    coder.finish()
+}

@@ -1,0 +1,72 @@
+-- The statements of the sources where they stand, and which of them have a row in the map (gABI, "Sections"; GNU as,
+-- "Pseudo Ops").
+
+use Rattle.std.specs.Prelude.{ℕ, suc, Bool, true, false, ◌&&◌, List, [], ◌∷◌, ◌++◌, Option, Some, None}
+use Rattle.rv_statement.specs.Statement.{Statement, Label, Numbered, Instruction, Directs, Spoken, Directive, Sets, Aligns_to_power, Aligns_to_bytes, Values, Strings, Zeros}
+use Rattle.rv_unit_laws.specs.Sections.{Section, section_at}
+use Rattle.rv_unit_laws.specs.Tables.{Tables, Setting, at_start, after, here, stood, value, given, is_placed_setting}
+
+abbrev pub gives_place : Option Setting → Bool
+gives_place None = false
+gives_place (Some s) = is_placed_setting s
+
+-- `.set` has a row where it gives a place
+abbrev pub is_placed_directive : Tables → ℕ → Directive → Bool
+is_placed_directive t ordinal (Sets name e) = gives_place (given name ordinal (value t false ordinal (here t) e))
+is_placed_directive t ordinal (Aligns_to_power exponent) = true
+is_placed_directive t ordinal (Aligns_to_bytes bytes) = true
+is_placed_directive t ordinal (Values width values) = true
+is_placed_directive t ordinal (Strings ended strings) = true
+is_placed_directive t ordinal (Zeros count) = true
+is_placed_directive t ordinal _ = false
+
+-- whether a statement has a row where its section is loaded: `t` are the tables before it
+abbrev pub is_placed : Tables → ℕ → Statement → Bool
+is_placed t ordinal (Label name) = true
+is_placed t ordinal (Numbered number) = true
+is_placed t ordinal (Instruction mnemonic operands) = true
+is_placed t ordinal (Directs directive) = is_placed_directive t ordinal directive
+
+-- a statement: its file and its ordinal, from 1; its section, by that one's place in the file from 0, and the bytes of data
+-- before it there
+pub record Stated : Type 0 where
+  pub file : ℕ
+  pub ordinal : ℕ
+  pub section : ℕ
+  pub offset : ℕ
+  pub home : Section
+  pub line : ℕ
+  pub says : Statement
+  pub placed : Bool
+
+-- the next statement of a file
+abbrev pub stated_now : ℕ → ℕ → Tables → Spoken → Stated
+stated_now file ordinal t s =
+    let place = stood t ordinal s.says in
+    record {
+      file = file;
+      ordinal = ordinal;
+      section = place.section;
+      offset = place.offset;
+      home = section_at (after t ordinal s.says).opened place.section;
+      line = s.line;
+      says = s.says;
+      placed = is_placed t ordinal s.says;
+    }
+
+-- the statements of a file from an ordinal on
+abbrev pub stated_from : ℕ → ℕ → Tables → List Spoken → List Stated
+stated_from file ordinal t [] = []
+stated_from file ordinal t (s ∷ ss) = stated_now file ordinal t s ∷ stated_from file (suc ordinal) (after t ordinal s.says) ss
+
+-- the statements by file and ordinal; files are numbered from a first one on
+abbrev pub stated_of : ℕ → List (List Spoken) → List Stated
+stated_of file [] = []
+stated_of file (ss ∷ files) = stated_from file 1 at_start ss ++ stated_of (suc file) files
+
+abbrev pub stated : List (List Spoken) → List Stated
+stated sources = stated_of 1 sources
+
+-- whether the map has a row for the statement
+abbrev pub has_row : Stated → Bool
+has_row s = s.placed && s.home.loaded

@@ -1,0 +1,21 @@
+//! Builds of whole sources: worked programs, each refusal with its line and their order, the limits, and
+//! programs that GNU's tools build too.
+//!
+//! The bytes and addresses of the table in `gnu` were made by `riscv64-unknown-elf-as -march=rv64ima -mno-relax` and
+//! `riscv64-unknown-elf-ld` (GNU Binutils 2.40), with a script that lays the sections out in the order of regions.
+#![tactic(auto)]
+
+#[cfg(test)]
+mod faults;
+#[cfg(test)]
+mod gnu;
+#[cfg(test)]
+mod later;
+#[cfg(test)]
+mod limits;
+#[cfg(test)]
+mod order;
+#[cfg(test)]
+mod programs;
+#[cfg(test)]
+mod sources;

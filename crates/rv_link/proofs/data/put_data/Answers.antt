@@ -1,0 +1,19 @@
+use Rattle.std.proofs.Common.{rules, ◌≡◌, ◌++◌, ◌∙◌, ℕ, List, map, sym, ap}
+use Rattle.std.specs.Prelude.{flat_map}
+use Rattle.rv_text_laws.specs.Expression.{Tree}
+use Rattle.rv_text.specs.Expr.{tree_of_expr}
+use Rattle.rv_statement.specs.View.{bytes_of, statement_of}
+use Rattle.rv_statement.specs.declared.statement.StatementKind.TheVariants as kinds
+use Rattle.rv_chain_laws.specs.Start.{little_endian, spelled_said}
+use Rattle.rv_link.proofs.data.put_data.Goals as goal
+
+pub returns-in_ok-put_values-in-Values : goal.returns-in_ok-put_values-in-Values
+returns-in_ok-put_values-in-Values c = λ v h counts.
+    let old = c.args.bytes.now.items in
+    let width = c.in-Values.width in
+    let spells : Tree → List ℕ = λ e. little_endian (bytes_of width) (v e) in
+    let same : c.as_slice.result.now ≡ c.in-Values.values.items = search rules in
+    let kind : c.args.kind.now ≡ kinds.Values width c.in-Values.values = search rules in
+    c.in_ok-put_values-in-Values.ensures v h
+    ∙ ap (λ xs. old ++ flat_map spells (map tree_of_expr xs)) same
+    ∙ ap (λ k. old ++ spelled_said (λ e. v e) (statement_of k) c.args.count) (sym kind)

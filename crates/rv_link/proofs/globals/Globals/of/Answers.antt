@@ -1,0 +1,13 @@
+use Rattle.std.proofs.Common.{◌<◌, ◌∙◌, length, map, take, rules, false}
+use Rattle.rv_statement.specs.View.{said_by}
+use Rattle.rv_chain_laws.specs.Resolves.{is_global_after}
+use Rattle.rv_link.proofs.Named.{global_more}
+use Rattle.rv_link.proofs.globals.Globals.of.Goals as goal
+
+pub loop-statement-preserved : goal.loop-statement-preserved
+loop-statement-preserved c = λ q.
+    let i = c.loop-statement.statement-index in
+    let xs = c.args.statements.now in
+    let inside : i < length xs = search rules in
+    c.in_ok-choose.ensures (λ n. is_global_after false (take i (map said_by xs)) n) c.loop-statement.invariant q
+    ∙ global_more said_by xs i c.statement-item.result q.now inside c.statement-item.is

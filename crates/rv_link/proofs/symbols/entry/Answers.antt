@@ -1,0 +1,62 @@
+use Rattle.std.proofs.Common.{rules, ◌≡◌, ◌<◌, ◌+◌, ◌∷◌, ◌∙◌, Bool, true, false, length, map, drop, get_or, sym, ap, refl}
+use Rattle.std.specs.Prelude.{◌&&◌, Some}
+use Rattle.std.proofs.lemmas.List.{drop_more}
+use Rattle.rv_statement.specs.View.{said_by}
+use Rattle.rv_chain_laws.specs.Resolves.{is_start}
+use Rattle.rv_link.specs.declared.rows.Item.{Item}
+use Rattle.rv_link.specs.Definitions.{entry_from}
+use Rattle.rv_link.proofs.Placed.{left_map}
+use Rattle.rv_link.proofs.Named.{entry_here}
+use Rattle.rv_link.proofs.symbols.entry.Goals as goal
+use Rattle.rv_link.proofs.symbols.entry.Goals.{then-not-is_entry-via-then-not-is_entry, then-not-is_entry-via-else-not-is_entry+then-not-items-i, then-address-eq0, else-address-eq0}
+
+abbrev no_item : Item
+no_item = record { section = 0; offset = 0; bytes = 0; line = 0; shown = false; executed = false; text = false }
+
+and_no : (a b : Bool) → a ≡ false → (a && b) ≡ false
+and_no true b e = absurd (cc)
+and_no false b e = refl
+
+and_other : (a b : Bool) → b ≡ false → (a && b) ≡ false
+and_other true b e = e
+and_other false b e = refl
+
+and_all : (a b : Bool) → a ≡ true → b ≡ true → (a && b) ≡ true
+and_all a b e f = ap (λ x. x && b) e ∙ f
+
+pub loop-i-preserved : goal.loop-i-preserved
+loop-i-preserved c =
+    let i = c.loop-i.i in
+    let statements = c.args.statements.now in
+    let items = c.args.items.now in
+    let x = c.index-statements-i.result in
+    let item = get_or items i no_item in
+    let inside : i < length statements = search rules in
+    let inside' : i < length items = search rules in
+    let all = map said_by statements in
+    let here : drop i all ≡ said_by x ∷ drop (i + 1) all = left_map said_by statements i x inside c.index-statements-i.is in
+    let test : (is_start (said_by x).says && item.text) ≡ false = elim c.then-not-is_entry.branch [
+      | then-not-is_entry-via-then-not-is_entry w ↦ and_no (is_start (said_by x).says) item.text (sym c.is_entry.ensures ∙ w.if-not-is_entry.true)
+      | then-not-is_entry-via-else-not-is_entry+then-not-items-i w ↦ and_other (is_start (said_by x).says) item.text w.if-not-items-i.true
+    ] in
+    sym (entry_here c.args.starts.now (drop i all) (drop (i + 1) all) (drop i items) (drop (i + 1) items) (said_by x) item false here (drop_more items i no_item inside') test) ∙ c.loop-i.invariant
+
+pub returns-in-loop-i-clause-start : goal.returns-in-loop-i-clause-start
+returns-in-loop-i-clause-start c =
+    let i = c.loop-i.i in
+    let statements = c.args.statements.now in
+    let items = c.args.items.now in
+    let x = c.index-statements-i.result in
+    let item = get_or items i no_item in
+    let inside : i < length statements = search rules in
+    let inside' : i < length items = search rules in
+    let all = map said_by statements in
+    let here : drop i all ≡ said_by x ∷ drop (i + 1) all = left_map said_by statements i x inside c.index-statements-i.is in
+    let test : (is_start (said_by x).says && item.text) ≡ true = and_all (is_start (said_by x).says) item.text (sym c.is_entry.ensures ∙ c.if-not-is_entry.false) c.if-not-items-i.false in
+    let found : entry_from c.args.starts.now all items ≡ Some c.address-address.result =
+    sym c.loop-i.invariant ∙ entry_here c.args.starts.now (drop i all) (drop (i + 1) all) (drop i items) (drop (i + 1) items) (said_by x) item true here (drop_more items i no_item inside') test
+    ∙ ap (λ a. Some a) (sym c.address-address.ensures.value) in
+    elim c.if-address-eq0.branch [
+      | then-address-eq0 w ↦ (rw w.result-is found)
+      | else-address-eq0 w ↦ (rw w.result-is tt)
+    ]

@@ -1,0 +1,24 @@
+use Rattle.std.proofs.Common.{◌∷◌, [], Bool, map, ◌+◌}
+use Rattle.std.specs.Prelude.{not, codes}
+use Rattle.rv_statement.specs.View.{said_by}
+use Rattle.rv_map.specs.Map.{Global, global_of as shown_global}
+use Rattle.rv_chain_laws.specs.Resolves.{is_one_of, symbol}
+use Rattle.rv_link.specs.Definitions.{names_from}
+use Rattle.rv_link.proofs.Named.{filtered_more}
+use Rattle.rv_link.proofs.symbols.put_symbols.Goals as goal
+
+pub returns : goal.returns
+returns c = λ test h.
+    let p : Global → Bool = λ g. not (is_one_of (names_from test (map said_by c.args.statements.now)) g.name) in
+    let l = c.args.layout.now in
+    let old = map shown_global c.args.symbols.now.items in
+    let a = symbol (codes "_etext") l.text.end in
+    let b = symbol (codes "__bss_start") l.bss.start in
+    let d = symbol (codes "_edata") l.data.end in
+    let e = symbol (codes "_end") l.bss.end in
+    let f = symbol (codes "__global_pointer$") (l.data.start + 0x800) in
+    let first = c.in_ok-put_symbol.ensures test h in
+    let second = filtered_more p old _ (map shown_global c.put_symbol-2.new.symbols.items) (a ∷ []) b first (c.in_ok-put_symbol-2.ensures test h) in
+    let third = filtered_more p old _ (map shown_global c.put_symbol-3.new.symbols.items) (a ∷ b ∷ []) d second (c.in_ok-put_symbol-3.ensures test h) in
+    let fourth = filtered_more p old _ (map shown_global c.put_symbol-4.new.symbols.items) (a ∷ b ∷ d ∷ []) e third (c.in_ok-put_symbol-4.ensures test h) in
+    filtered_more p old _ (map shown_global c.put_symbol-5.new.symbols.items) (a ∷ b ∷ d ∷ e ∷ []) f fourth (c.in_ok-put_symbol-5.ensures test h)

@@ -1,0 +1,7 @@
+pub mod Destination
+pub mod Layout
+pub mod Rows
+pub mod Contents
+pub mod Globals
+pub mod Definitions
+pub mod Numbers

@@ -1,0 +1,73 @@
+-- What the numbers of expressions are, where statements stand so and names have these addresses.
+
+use Rattle.std.specs.Prelude.{◌≡◌, ℕ, ◌+◌, ◌-◌, ◌^◌, Bool, true, not, ◌||◌, nat_lt, nat_le, ⊤, List, Some}
+use Rattle.std.specs.List.{slice_get}
+use Rattle.std.specs.Str.{bytes_eq}
+use Rattle.std.specs.Borrow.{Bor}
+use Rattle.std.specs.HashMap.{HashMap, get_by}
+use Rattle.std.specs.declared.hash.FoldHasher.{FoldHasher}
+use Rattle.std.specs.declared.hash.BuildHasherDefault.{BuildHasherDefault}
+use Rattle.rv_text_laws.specs.Expression.{Primary, Tree}
+use Rattle.rv_text_laws.specs.Values.{Value}
+use Rattle.rv_statement.specs.Statement.{Statement, Directs, Zeros}
+use Rattle.rv_unit_laws.specs.Tables.{tables, home, value as value_in_file}
+use Rattle.rv_unit.specs.Sections.{place_of}
+use Rattle.rv_unit.specs.Unit.{said, IsFilled, IsScope}
+use Rattle.rv_map.specs.Map.{Global}
+use Rattle.rv_chain_laws.specs.Sites.{Entry, address_at, address_by, global_address, resolved}
+use Rattle.rv_link.specs.Rows.{address_of}
+use Rattle.rv_link.specs.declared.rows.Item.{Item}
+use Rattle.rv_link.specs.declared.numbers.DataFault.{DataFault}
+use Rattle.rv_link.specs.declared.numbers.DataFault.TheVariants as faults
+use Rattle.rv_link.specs.declared.numbers.Numbers.{Numbers}
+
+abbrev pub NameMap : Type 0
+NameMap = HashMap (Bor (List ℕ)) ℕ (BuildHasherDefault FoldHasher)
+
+-- the names have these addresses
+abbrev pub AreAddresses : NameMap → List Global → Type 0
+AreAddresses names globals = (q : Bor (List ℕ)) → get_by (λ k. bytes_eq q.now k.now) names ≡ global_address globals q.now
+
+-- the file's statements stand where their items do, in sections that start here
+abbrev pub StandAt : List ℕ → List Item → List Entry → ℕ → Type 0
+StandAt starts items entries file = (index : ℕ) (i : Item) → slice_get items index ≡ Some i → i.shown ≡ true → address_at entries file (index + 1) ≡ Some (address_of starts i)
+
+-- the numbers are those of the statement at an index from 0 of a file whose statements, and names, stand so
+pub record AreOf (n : Numbers) (index : ℕ) (entries : List Entry) (globals : List Global) (file : ℕ) : Type 0 where
+  pub filled : IsFilled n.scope.now.unit.now
+  pub scope : IsScope n.scope.now index
+  pub own : StandAt n.starts.now n.items.now entries file
+  pub others : AreAddresses n.addresses.now.names globals
+
+-- the address of a name, a reference or `.`
+abbrev pub IsAddress : Numbers → Primary → ℕ → Type 0
+IsAddress n q a =
+    (index : ℕ) (entries : List Entry) (globals : List Global) (file : ℕ) → AreOf n index entries globals file
+    → address_by entries globals file q (home (tables (said n.scope.now.unit.now)) (index + 1) q) ≡ Some a
+
+-- the value of an expression in its file
+abbrev pub value_at : Numbers → ℕ → Tree → Value
+value_at n index e = value_in_file (tables (said n.scope.now.unit.now)) true (index + 1) (place_of n.place) e
+
+-- the number of an expression
+abbrev pub IsNumber : Numbers → Tree → ℕ → Type 0
+IsNumber n e k =
+    (index : ℕ) (entries : List Entry) (globals : List Global) (file : ℕ) → AreOf n index entries globals file
+    → resolved (λ q. address_by entries globals file q (home (tables (said n.scope.now.unit.now)) (index + 1) q)) (value_at n index e) ≡ Some k
+
+-- the function gives the numbers of expressions
+abbrev pub Gives : Numbers → (Tree → ℕ) → Type 0
+Gives n v = (e : Tree) (k : ℕ) → IsNumber n e k → v e ≡ k
+
+-- a statement that spells zeros has so many bytes
+abbrev pub Counts : (Tree → ℕ) → Statement → ℕ → Type 0
+Counts v says bytes = (e : Tree) → says ≡ Directs (Zeros e) → v e ≡ bytes
+
+-- an address that 4 bytes cannot hold, neither as a number nor as a negative one
+abbrev pub is_far : ℕ → Bool
+is_far k = not (nat_lt k (2 ^ 32) || nat_le (2 ^ 64 - 2 ^ 31) k)
+
+-- a refusal at the statement's line: the number is too far for the place of 4 bytes
+abbrev pub IsRefused : Numbers → ℕ → Tree → DataFault → Type 0
+IsRefused n width e (faults.Overflow line) = (line ≡ n.line) × (width ≡ 4) × ((k : ℕ) × IsNumber n e k × (is_far k ≡ true))
+IsRefused n width e _ = ⊤

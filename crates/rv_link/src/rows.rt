@@ -1,0 +1,72 @@
+//! Where statements stand.
+
+ghost use Rattle.std.specs.Prelude.{◌≡◌, ◌++◌, ◌+◌, ◌^◌, ◌<◌, IfOk, OnOk};
+ghost use Rattle.rv_link.specs.Rows.{address_of, rows_of, rows_from};
+
+use rv_map::Row;
+use std::alloc::{AllocError, Global};
+
+/// A statement in its section: the section's place in the source, the bytes before the statement there, its own bytes,
+/// and its line.
+#[derive(Clone, Copy, Debug, PartialEq, Eq, Drop)]
+pub struct Item {
+    pub section: u32,
+    pub offset: u32,
+    pub bytes: u32,
+    pub line: u32,
+    /// It has a row in the map.
+    pub shown: bool,
+    /// It is one instruction; else it is none.
+    pub executed: bool,
+    /// Its section goes to the text.
+    pub text: bool,
+}
+
+/// The address of a statement, in sections that start here.
+pub fn address(starts: &[u32], item: Item) -> u64
+    ensures value { result ≡ address_of starts.now item }
+    ensures low { result < 2 ^ 33 }
+{
+    let start = starts.get(item.section as usize).copied().unwrap_or(0);
+    u64::from(start) + u64::from(item.offset)
+}
+
+/// The rows of a file's statements, in sections that start here.
+pub fn statement_rows(
+    alloc: Global,
+    file: u64,
+    starts: &[u32],
+    items: &[Item],
+) -> Result<Vec<Row>, AllocError>
+    ensures { IfOk result (λ rows. rows.items ≡ rows_from file starts.now 1 items.now) }
+{
+    let mut rows = Vec::new(alloc);
+    for (index, item) in items.iter().enumerate() {
+        put_row(&mut rows, file, starts, index as u64 + 1, *item)?;
+    }
+    Ok(rows)
+}
+
+/// Adds the row of a statement, if it has one.
+fn put_row(
+    rows: &mut Vec<Row>,
+    file: u64,
+    starts: &[u32],
+    ordinal: u64,
+    item: Item,
+) -> Result<(), AllocError>
+    ensures { OnOk result (rows.new.items ≡ rows.old.items ++ rows_of file starts.now ordinal item) }
+{
+    if !item.shown {
+        return Ok(());
+    }
+    rows.push(Row {
+        file,
+        line: u64::from(item.line),
+        ordinal,
+        address: address(starts, item),
+        bytes: u64::from(item.bytes),
+        instructions: u64::from(item.executed),
+    })?;
+    Ok(())
+}

@@ -1,0 +1,150 @@
+//! The names that the linker gives, and where a run begins.
+
+ghost use Rattle.std.specs.Prelude.{◌≡◌, ◌+◌, ◌++◌, ◌%◌, ◌<◌, ◌≤◌, ◌^◌, ℕ, List, [], ◌∷◌, Bool, not, true, length, map, filter, codes, Some, None, IfOk, OnOk, IfSome};
+ghost use Rattle.rv_statement.specs.View.{said_by};
+ghost use Rattle.rv_map.specs.Map.{global_of as shown_global};
+ghost use Rattle.rv_chain_laws.specs.Resolves.{is_one_of, is_start, symbol};
+ghost use Rattle.rv_link.specs.Globals.{Has};
+ghost use Rattle.rv_link.specs.Definitions.{names_from, entry_from};
+
+use crate::definitions::{NameFault, named};
+use crate::globals::Globals;
+use crate::layout::Layout;
+use crate::rows::{Item, address};
+use rv_map::Global;
+use rv_statement::{Statement, StatementKind};
+use std::alloc::Global as Allocator;
+
+/// Whether a statement is the label of this name.
+fn is_label(statement: &Statement<'_>, name: &[u8]) -> bool
+    ensures { (test : List ℕ → Bool) → test name.now ≡ true → result ≡ is_one_of (names_from test (said_by statement.now ∷ [])) name.now }
+{
+    match &statement.kind {
+        StatementKind::Label(own) => *own == name,
+        _ => false,
+    }
+}
+
+/// Whether a statement is the label where a run begins.
+fn is_entry(statement: &Statement<'_>) -> bool
+    ensures { result ≡ is_start (said_by statement.now).says }
+{
+    match &statement.kind {
+        StatementKind::Label(name) => *name == b"_start".as_slice(),
+        _ => false,
+    }
+}
+
+/// Whether one of the statements is a global label of this name.
+fn defines(globals: &Globals<'_>, statements: &[Statement<'_>], name: &[u8]) -> bool
+    ensures { (test : List ℕ → Bool) → Has (globals.now).set test → result ≡ is_one_of (names_from test (map said_by statements.now)) name.now }
+{
+    if !globals.has(name) {
+        return false;
+    }
+    for statement in statements {
+        if is_label(statement, name) {
+            return true;
+        }
+    }
+    false
+}
+
+/// Where a run begins: at the global label `_start` of a section of text, which is an even place.
+pub fn entry(
+    globals: &Globals<'_>,
+    starts: &[u32],
+    statements: &[Statement<'_>],
+    items: &[Item],
+) -> Option<u64>
+    requires { length items.now ≡ length statements.now }
+    ensures start { IfSome result (λ a. entry_from starts.now (map said_by statements.now) items.now ≡ Some a) }
+    ensures even { IfSome result (λ a. a % 2 ≡ 0) }
+    ensures global { IfSome result (λ a. (test : List ℕ → Bool) → Has (globals.now).set test → test (codes "_start") ≡ true) }
+{
+    if !globals.has(b"_start") {
+        return None;
+    }
+    for i in 0..statements.len() {
+        if !is_entry(&statements[i]) || !items[i].text {
+            continue;
+        }
+        let address = address(starts, items[i]);
+        return if address % 2 == 0 {
+            Some(address)
+        } else {
+            None
+        };
+    }
+    None
+}
+
+/// Adds a name of the linker's, unless the source defines it.
+fn put_symbol(
+    alloc: Allocator,
+    symbols: &mut Vec<Global>,
+    globals: &Globals<'_>,
+    statements: &[Statement<'_>],
+    name: &str,
+    address: u64,
+) -> Result<(), NameFault>
+    ensures { OnOk result ((test : List ℕ → Bool) → Has (globals.now).set test → map shown_global symbols.new.items ≡ map shown_global symbols.old.items
+        ++ filter (λ g. not (is_one_of (names_from test (map said_by statements.now)) g.name)) (symbol name.now address ∷ [])) }
+{
+    if defines(globals, statements, name.as_bytes()) {
+        return Ok(());
+    }
+    let global = named(alloc, name.as_bytes(), address, 0)?;
+    symbols.push(global)?;
+    Ok(())
+}
+
+/// Adds the names that the linker gives, but for those that the source defines.
+pub fn put_symbols(
+    alloc: Allocator,
+    symbols: &mut Vec<Global>,
+    globals: &Globals<'_>,
+    statements: &[Statement<'_>],
+    layout: &Layout,
+) -> Result<(), NameFault>
+    requires { (layout.now).data.start ≤ 0x3ff0_0000 }
+    ensures { OnOk result ((test : List ℕ → Bool) → Has (globals.now).set test → map shown_global symbols.new.items ≡ map shown_global symbols.old.items
+        ++ filter (λ g. not (is_one_of (names_from test (map said_by statements.now)) g.name))
+        (symbol (codes "_etext") (layout.now).text.end ∷ symbol (codes "__bss_start") (layout.now).bss.start ∷ symbol (codes "_edata") (layout.now).data.end
+        ∷ symbol (codes "_end") (layout.now).bss.end ∷ symbol (codes "__global_pointer$") ((layout.now).data.start + 0x800) ∷ [])) }
+{
+    put_symbol(
+        alloc,
+        symbols,
+        globals,
+        statements,
+        "_etext",
+        layout.text.end,
+    )?;
+    put_symbol(
+        alloc,
+        symbols,
+        globals,
+        statements,
+        "__bss_start",
+        layout.bss.start,
+    )?;
+    put_symbol(
+        alloc,
+        symbols,
+        globals,
+        statements,
+        "_edata",
+        layout.data.end,
+    )?;
+    put_symbol(alloc, symbols, globals, statements, "_end", layout.bss.end)?;
+    put_symbol(
+        alloc,
+        symbols,
+        globals,
+        statements,
+        "__global_pointer$",
+        layout.data.start + 0x800,
+    )?;
+    Ok(())
+}

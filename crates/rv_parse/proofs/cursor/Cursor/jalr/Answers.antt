@@ -1,8 +1,0 @@
-use Rattle.std.proofs.Common.{◌∙◌, sym}
-use Rattle.rv_parse.proofs.Jumps.{jalr_linked}
-use Rattle.rv_parse.proofs.cursor.Cursor.jalr.Goals as goal
-
-pub returns-then-begins_comma : goal.returns-then-begins_comma
-returns-then-begins_comma c =
-    rw (jalr_linked _ _ _ _ (sym c.begins_register.ensures ∙ c.if-not-begins_register.false) c.in_ok-first.ensures
-    (sym c.begins_comma.ensures ∙ c.if-begins_comma.true) c.in_ok-comma.ensures) c.jump_target.ensures

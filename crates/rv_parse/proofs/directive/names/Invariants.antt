@@ -1,0 +1,15 @@
+use Rattle.std.proofs.Common.{◌≡◌, map, length}
+use Rattle.rv_text.specs.Cursor.{left}
+use Rattle.rv_parse_laws.specs.Syntax.{A_symbol}
+use Rattle.rv_parse_laws.specs.Parsing.{items_at}
+use Rattle.rv_parse.specs.View.{word_of}
+use Rattle.rv_parse.specs.Places.{further_items, prepended}
+use Rattle.rv_parse.proofs.directive.names.Given as goal
+
+-- the names so far, and then those that are left, are all
+abbrev pub invariant-loop-cursor : goal.invariant-loop-cursor
+invariant-loop-cursor l = items_at A_symbol (left l.fn.cursor) ≡ prepended (map word_of l.names.items) (further_items A_symbol (left l.cursor))
+
+-- each turn takes a comma and one more
+abbrev pub decreases-loop-cursor : goal.decreases-loop-cursor
+decreases-loop-cursor l = length (left l.cursor)

@@ -1,0 +1,18 @@
+use Rattle.std.proofs.Common.{◌∙◌, sym}
+use Rattle.std.proofs.lemmas.Result.{err_from_is_err_and}
+use Rattle.rv_text.specs.Token.{token_of}
+use Rattle.rv_text.specs.Cursor.{left}
+use Rattle.rv_parse.proofs.Lists.{strings_go_on, strings_undone}
+use Rattle.rv_parse.proofs.directive.strings.Goals as goal
+
+pub loop-cursor-preserved : goal.loop-cursor-preserved
+loop-cursor-preserved c =
+    strings_go_on _ c.loop-cursor.strings.items _ _ (token_of c.loop-cursor.cursor.next) _ _ _ c.loop-cursor.invariant c.advance.ensures
+    (sym c.is_comma.ensures ∙ c.loop-cursor-test.true) c.in_ok-string-2.ensures c.in_ok-push-2.ensures.items
+
+pub returns-in_err-end : goal.returns-in_err-end
+unfolding left
+returns-in_err-end c =
+    let p = err_from_is_err_and c.from_residual-in_err-end.result c.from_residual-in_err-end.ensures.1 in
+    rw (p.1, p.2) (strings_undone _ c.loop-cursor.strings.items (token_of c.loop-cursor.cursor.next) _ _ c.loop-cursor.invariant
+    (sym c.is_comma.ensures ∙ c.loop-cursor-test.false) c.in_err-end.ensures)

@@ -1,0 +1,15 @@
+use Rattle.std.proofs.Common.{◌≡◌, map, length}
+use Rattle.rv_text.specs.Cursor.{left}
+use Rattle.rv_parse_laws.specs.Syntax.{A_string}
+use Rattle.rv_parse_laws.specs.Parsing.{items_at}
+use Rattle.rv_parse.specs.View.{string_of}
+use Rattle.rv_parse.specs.Places.{further_items, prepended}
+use Rattle.rv_parse.proofs.directive.strings.Given as goal
+
+-- the strings so far, and then those that are left, are all
+abbrev pub invariant-loop-cursor : goal.invariant-loop-cursor
+invariant-loop-cursor l = items_at A_string (left l.fn.cursor) ≡ prepended (map string_of l.strings.items) (further_items A_string (left l.cursor))
+
+-- each turn takes a comma and one more
+abbrev pub decreases-loop-cursor : goal.decreases-loop-cursor
+decreases-loop-cursor l = length (left l.cursor)

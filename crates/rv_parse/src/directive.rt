@@ -1,0 +1,300 @@
+//! The operands of directives, up to the statement's end.
+
+ghost use Rattle.std.specs.Prelude.{◌≡◌, ◌∷◌, [], map, Some};
+ghost use Rattle.rv_text.specs.Cursor.{left, Answers};
+ghost use Rattle.rv_text.specs.Expr.{tree_of_expr};
+ghost use Rattle.rv_statement.specs.declared.directive.DirectiveWord.TheVariants.{Enters, Section, Globl, Local, Set, AlignToPower, AlignToBytes, Value, Ascii, Asciz, Zero, Option, Ignored};
+ghost use Rattle.rv_statement.specs.Statement.{Directs};
+ghost use Rattle.rv_statement.specs.View.{statement_of};
+ghost use Rattle.rv_parse_laws.specs.Syntax.{A_symbol, A_string, A_value, In_directive, In_alignment, places, directed};
+ghost use Rattle.rv_parse_laws.specs.Parsing.{operands_at, items_at, any_at, seen_as};
+ghost use Rattle.rv_parse.specs.View.{word_of, string_of, value_of};
+ghost use Rattle.rv_parse.specs.Places.{flags_slots, type_slots, further_items, prepended};
+ghost use Rattle.rv_parse.specs.Left.{Gives};
+
+use crate::fault::{self, Role, Slot};
+use crate::{kinds, place};
+use rv_statement::{DirectiveWord, Opening, Setting, Standard, StatementKind, Width};
+use rv_text::{Cursor, Expr, Refusal, Wrong};
+use std::alloc::Global;
+
+/// One symbol or more, with commas between.
+#[tactic(auto, using(crate::proofs::Lists::names_first_wrong, crate::proofs::Lists::names_begin, crate::proofs::Lists::names_wrong, crate::proofs::Lists::names_done))]
+fn names<'a>(alloc: Global, cursor: &mut Cursor<'a>) -> Result<Vec<&'a [u8]>, Refusal>
+    ensures { Answers (λ names. (map word_of names.items, left cursor.new)) result (items_at A_symbol (left cursor.old)) }
+{
+    let mut names = Vec::new(alloc);
+    names.push(place::symbol(cursor)?)?;
+    while kinds::is_comma(cursor.next.kind) {
+        cursor.advance();
+        names.push(place::symbol(cursor)?)?;
+    }
+    place::end(cursor, Slot::Symbol)?;
+    Ok(names)
+}
+
+/// One string or more, with commas between.
+#[tactic(auto, using(crate::proofs::Lists::strings_first_wrong, crate::proofs::Lists::strings_begin, crate::proofs::Lists::strings_wrong, crate::proofs::Lists::strings_done))]
+fn strings<'a>(alloc: Global, cursor: &mut Cursor<'a>) -> Result<Vec<&'a [u8]>, Refusal>
+    ensures { Answers (λ strings. (map string_of strings.items, left cursor.new)) result (items_at A_string (left cursor.old)) }
+{
+    let mut strings = Vec::new(alloc);
+    strings.push(place::string(cursor)?)?;
+    while kinds::is_comma(cursor.next.kind) {
+        cursor.advance();
+        strings.push(place::string(cursor)?)?;
+    }
+    place::end(cursor, Slot::Text)?;
+    Ok(strings)
+}
+
+/// The first of several values, and the others behind it, with a comma before each.
+#[tactic(auto, using(crate::proofs::Lists::values_start, crate::proofs::Lists::value_shorter, crate::proofs::Lists::values_wrong, crate::proofs::Lists::values_done))]
+fn several<'a>(
+    alloc: Global,
+    cursor: &mut Cursor<'a>,
+    first: Expr<'a>,
+) -> Result<Vec<Expr<'a>>, Refusal>
+    ensures { Answers (λ values. (map value_of values.items, left cursor.new)) result (prepended (value_of first.entry ∷ []) (further_items (A_value In_directive) (left cursor.old))) }
+{
+    let mut values = Vec::new(alloc);
+    values.push(first)?;
+    while kinds::is_comma(cursor.next.kind) {
+        cursor.advance();
+        values.push(place::value(alloc, cursor, Role::Directive)?)?;
+    }
+    place::end(cursor, Slot::Value(Role::Directive))?;
+    Ok(values)
+}
+
+/// The values of `.byte` to `.quad`.
+fn values<'a>(
+    alloc: Global,
+    cursor: &mut Cursor<'a>,
+    width: Width,
+) -> Result<StatementKind<'a>, Refusal>
+    ensures { Answers (λ k. (statement_of k, left cursor.new)) result (seen_as (λ os. Directs (directed (Value width) os)) (operands_at (places (Value width)) (left cursor.old))) }
+{
+    let first = place::value(alloc, cursor, Role::Directive)?;
+    if place::begins_comma(cursor) {
+        return Ok(StatementKind::Values(width, several(alloc, cursor, first)?));
+    }
+    place::end(cursor, Slot::Value(Role::Directive))?;
+    Ok(StatementKind::Value(width, first))
+}
+
+/// The names of `.globl`.
+#[tactic(auto, using(crate::proofs::Lists::all_names), unfolding(rv_parse_laws::specs::Parsing::operands_at))]
+fn globl<'a>(alloc: Global, cursor: &mut Cursor<'a>) -> Result<StatementKind<'a>, Refusal>
+    ensures { Answers (λ k. (statement_of k, left cursor.new)) result (seen_as (λ os. Directs (directed Globl os)) (operands_at (places Globl) (left cursor.old))) }
+{
+    Ok(StatementKind::Globl(names(alloc, cursor)?))
+}
+
+/// The names of `.local`.
+#[tactic(auto, using(crate::proofs::Lists::all_names), unfolding(rv_parse_laws::specs::Parsing::operands_at))]
+fn local<'a>(alloc: Global, cursor: &mut Cursor<'a>) -> Result<StatementKind<'a>, Refusal>
+    ensures { Answers (λ k. (statement_of k, left cursor.new)) result (seen_as (λ os. Directs (directed Local os)) (operands_at (places Local) (left cursor.old))) }
+{
+    Ok(StatementKind::Local(names(alloc, cursor)?))
+}
+
+/// The strings of `.ascii`.
+#[tactic(auto, using(crate::proofs::Lists::all_strings), unfolding(rv_parse_laws::specs::Parsing::operands_at))]
+fn ascii<'a>(alloc: Global, cursor: &mut Cursor<'a>) -> Result<StatementKind<'a>, Refusal>
+    ensures { Answers (λ k. (statement_of k, left cursor.new)) result (seen_as (λ os. Directs (directed Ascii os)) (operands_at (places Ascii) (left cursor.old))) }
+{
+    Ok(StatementKind::Ascii(strings(alloc, cursor)?))
+}
+
+/// The strings of `.asciz`.
+#[tactic(auto, using(crate::proofs::Lists::all_strings), unfolding(rv_parse_laws::specs::Parsing::operands_at))]
+fn asciz<'a>(alloc: Global, cursor: &mut Cursor<'a>) -> Result<StatementKind<'a>, Refusal>
+    ensures { Answers (λ k. (statement_of k, left cursor.new)) result (seen_as (λ os. Directs (directed Asciz os)) (operands_at (places Asciz) (left cursor.old))) }
+{
+    Ok(StatementKind::Asciz(strings(alloc, cursor)?))
+}
+
+/// The size of `.zero`.
+#[tactic(auto, unfolding(rv_parse_laws::specs::Parsing::operands_at))]
+fn zero<'a>(alloc: Global, cursor: &mut Cursor<'a>) -> Result<StatementKind<'a>, Refusal>
+    ensures { Answers (λ k. (statement_of k, left cursor.new)) result (seen_as (λ os. Directs (directed Zero os)) (operands_at (places Zero) (left cursor.old))) }
+{
+    let count = place::value(alloc, cursor, Role::Directive)?;
+    place::end(cursor, Slot::Value(Role::Directive))?;
+    Ok(StatementKind::Zeros(count))
+}
+
+/// The operand of `.align`.
+#[tactic(auto, unfolding(rv_parse_laws::specs::Parsing::operands_at))]
+fn align_to_power<'a>(alloc: Global, cursor: &mut Cursor<'a>) -> Result<StatementKind<'a>, Refusal>
+    ensures { Answers (λ k. (statement_of k, left cursor.new)) result (seen_as (λ os. Directs (directed AlignToPower os)) (operands_at (places AlignToPower) (left cursor.old))) }
+{
+    let exponent = place::value(alloc, cursor, Role::Alignment)?;
+    place::end(cursor, Slot::Value(Role::Alignment))?;
+    Ok(StatementKind::AlignsToPower(exponent))
+}
+
+/// The operand of `.balign`.
+#[tactic(auto, unfolding(rv_parse_laws::specs::Parsing::operands_at))]
+fn align_to_bytes<'a>(alloc: Global, cursor: &mut Cursor<'a>) -> Result<StatementKind<'a>, Refusal>
+    ensures { Answers (λ k. (statement_of k, left cursor.new)) result (seen_as (λ os. Directs (directed AlignToBytes os)) (operands_at (places AlignToBytes) (left cursor.old))) }
+{
+    let bytes = place::value(alloc, cursor, Role::Alignment)?;
+    place::end(cursor, Slot::Value(Role::Alignment))?;
+    Ok(StatementKind::AlignsToBytes(bytes))
+}
+
+/// The operands of `.set`: `name, e`.
+#[tactic(auto, unfolding(rv_parse_laws::specs::Parsing::operands_at))]
+fn set<'a>(alloc: Global, cursor: &mut Cursor<'a>) -> Result<StatementKind<'a>, Refusal>
+    ensures { Answers (λ k. (statement_of k, left cursor.new)) result (seen_as (λ os. Directs (directed Set os)) (operands_at (places Set) (left cursor.old))) }
+{
+    let name = place::symbol(cursor)?;
+    place::comma(cursor, Slot::Symbol)?;
+    let expression = place::value(alloc, cursor, Role::Directive)?;
+    place::end(cursor, Slot::Value(Role::Directive))?;
+    let setting = Box::new(alloc, Setting { name, expression })?;
+    Ok(StatementKind::Sets(setting))
+}
+
+/// The word of `.option`.
+#[tactic(auto, using(crate::proofs::Tokens::choice_no_last), unfolding(rv_text::specs::Cursor::left, rv_parse_laws::specs::Parsing::operands_at))]
+fn option<'a>(cursor: &mut Cursor<'a>) -> Result<StatementKind<'a>, Wrong>
+    ensures { Gives (λ k. (statement_of k, left cursor.new)) result (seen_as (λ os. Directs (directed Option os)) (operands_at (places Option) (left cursor.old))) }
+{
+    match kinds::choice_of(cursor.next.kind) {
+        Some(choice) => {
+            cursor.advance();
+            place::end(cursor, Slot::Choice)?;
+            Ok(StatementKind::Chooses(choice))
+        }
+        None => Err(cursor.wrong(fault::at_option(cursor.next.kind))),
+    }
+}
+
+/// The type of a section, behind its name and flags; the size of an entry behind it is read and dropped.
+#[tactic(auto, unfolding(rv_parse_laws::specs::Parsing::operands_at))]
+fn section_type<'a>(
+    alloc: Global,
+    cursor: &mut Cursor<'a>,
+    name: &'a [u8],
+    flags: &'a [u8],
+) -> Result<StatementKind<'a>, Refusal>
+    ensures { Answers (λ k. (statement_of k, left cursor.new)) result (seen_as (λ os. Directs (directed Section (word_of name.entry ∷ string_of flags.entry ∷ os))) (operands_at type_slots (left cursor.old))) }
+{
+    let kind = place::section_type(cursor)?;
+    if place::begins_comma(cursor) {
+        place::comma(cursor, Slot::Type)?;
+        let _size = place::value(alloc, cursor, Role::Directive)?;
+        place::end(cursor, Slot::Value(Role::Directive))?;
+    } else {
+        place::end(cursor, Slot::Type)?;
+    }
+    let opening = Opening {
+        name,
+        flags: Some(flags),
+        kind: Some(kind),
+    };
+    Ok(StatementKind::Opens(Box::new(alloc, opening)?))
+}
+
+/// The flags of a section, behind its name, and its type.
+#[tactic(auto, unfolding(rv_parse_laws::specs::Parsing::operands_at))]
+fn section_flags<'a>(
+    alloc: Global,
+    cursor: &mut Cursor<'a>,
+    name: &'a [u8],
+) -> Result<StatementKind<'a>, Refusal>
+    ensures { Answers (λ k. (statement_of k, left cursor.new)) result (seen_as (λ os. Directs (directed Section (word_of name.entry ∷ os))) (operands_at flags_slots (left cursor.old))) }
+{
+    let flags = place::flags(alloc, cursor)?;
+    if place::begins_comma(cursor) {
+        place::comma(cursor, Slot::Flags)?;
+        place::at_sign(cursor)?;
+        return section_type(alloc, cursor, name, flags);
+    }
+    place::end(cursor, Slot::Flags)?;
+    let opening = Opening {
+        name,
+        flags: Some(flags),
+        kind: None,
+    };
+    Ok(StatementKind::Opens(Box::new(alloc, opening)?))
+}
+
+/// The operands of `.section`.
+#[tactic(auto, unfolding(rv_parse_laws::specs::Parsing::operands_at))]
+fn section<'a>(alloc: Global, cursor: &mut Cursor<'a>) -> Result<StatementKind<'a>, Refusal>
+    ensures { Answers (λ k. (statement_of k, left cursor.new)) result (seen_as (λ os. Directs (directed Section os)) (operands_at (places Section) (left cursor.old))) }
+{
+    let name = place::section_name(cursor)?;
+    if place::begins_comma(cursor) {
+        place::comma(cursor, Slot::Section)?;
+        return section_flags(alloc, cursor, name);
+    }
+    place::end(cursor, Slot::Section)?;
+    let opening = Opening {
+        name,
+        flags: None,
+        kind: None,
+    };
+    Ok(StatementKind::Opens(Box::new(alloc, opening)?))
+}
+
+/// No operands: the statement's end.
+#[tactic(auto, unfolding(rv_parse_laws::specs::Parsing::operands_at))]
+fn enters<'a>(cursor: &mut Cursor<'a>, section: Standard) -> Result<StatementKind<'a>, Wrong>
+    ensures { Gives (λ k. (statement_of k, left cursor.new)) result (seen_as (λ os. Directs (directed (Enters section) os)) (operands_at (places (Enters section)) (left cursor.old))) }
+{
+    place::end(cursor, Slot::Register)?;
+    Ok(StatementKind::Enters(section))
+}
+
+/// Operands that are not looked at.
+#[tactic(auto, using(crate::proofs::Tokens::any_no_last), unfolding(rv_text::specs::Cursor::left))]
+fn anything(cursor: &mut Cursor<'_>) -> Result<(), Wrong>
+    ensures { Gives (λ _. ([], left cursor.new)) result (any_at (left cursor.old)) }
+{
+    while !kinds::is_end(cursor.next.kind) {
+        if !kinds::is_any(cursor.next.kind) {
+            return Err(cursor.wrong(fault::at_any(cursor.next.kind)));
+        }
+        cursor.advance();
+    }
+    Ok(())
+}
+
+/// The operands of a directive without effect.
+#[tactic(auto, unfolding(rv_parse_laws::specs::Parsing::operands_at))]
+fn ignored<'a>(cursor: &mut Cursor<'a>) -> Result<StatementKind<'a>, Wrong>
+    ensures { Gives (λ k. (statement_of k, left cursor.new)) result (seen_as (λ os. Directs (directed Ignored os)) (operands_at (places Ignored) (left cursor.old))) }
+{
+    anything(cursor)?;
+    Ok(StatementKind::Ignored)
+}
+
+/// The operands of a directive, up to the statement's end.
+pub fn directive<'a>(
+    alloc: Global,
+    cursor: &mut Cursor<'a>,
+    word: DirectiveWord,
+) -> Result<StatementKind<'a>, Refusal>
+    ensures { Answers (λ k. (statement_of k, left cursor.new)) result (seen_as (λ os. Directs (directed word os)) (operands_at (places word) (left cursor.old))) }
+{
+    match word {
+        DirectiveWord::Enters(section) => Ok(enters(cursor, section)?),
+        DirectiveWord::Section => section(alloc, cursor),
+        DirectiveWord::Globl => globl(alloc, cursor),
+        DirectiveWord::Local => local(alloc, cursor),
+        DirectiveWord::Set => set(alloc, cursor),
+        DirectiveWord::AlignToPower => align_to_power(alloc, cursor),
+        DirectiveWord::AlignToBytes => align_to_bytes(alloc, cursor),
+        DirectiveWord::Value(width) => values(alloc, cursor, width),
+        DirectiveWord::Ascii => ascii(alloc, cursor),
+        DirectiveWord::Asciz => asciz(alloc, cursor),
+        DirectiveWord::Zero => zero(alloc, cursor),
+        DirectiveWord::Option => Ok(option(cursor)?),
+        DirectiveWord::Ignored => Ok(ignored(cursor)?),
+    }
+}

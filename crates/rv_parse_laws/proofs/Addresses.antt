@@ -1,0 +1,334 @@
+-- Addresses: a register in parentheses, with or without an expression before it.
+
+use Rattle.std.proofs.Common.{◌≡◌, ℕ, ◌<◌, Bool, true, false, cond, ◌&&◌, List, [], ◌∷◌, ◌++◌, append_assoc, length, length-append, Option, Some, None, option_map, is_some, Ok, Err, refl, sym, ◌∙◌, ap, subst, arith, inl, inr}
+use Rattle.rv_text_laws.specs.declared.sign.Sign.TheVariants.{Open, Close}
+use Rattle.rv_text_laws.specs.Grammar.{Kind, Mark, Name as NameToken}
+use Rattle.rv_text_laws.specs.Lexing.{Token, ended}
+use Rattle.rv_text_laws.specs.Wrong.{Wrong, wrong}
+use Rattle.rv_text_laws.specs.Expression.{begins, An_opening as Opens, No_operand, tree_of}
+use Rattle.rv_text_laws.specs.ExpressionAt.{Wants, read_from, expression_at}
+use Rattle.rv_text_laws.specs.declared.operator.Frame.TheVariants.{Parenthesis}
+use Rattle.rv_text_laws.proofs.Expressions.{fails, goes}
+use Rattle.rv_text_laws.proofs.ExpressionWrong.{ended_more, ended_behind}
+use Rattle.rv_statement.specs.Statement.{Expression, Operand, Register, Value}
+use Rattle.rv_parse_laws.specs.Syntax.{is_register, register_of, is_opening, is_closing, is_colon, Role, Slot, A_register, A_value, An_address, A_closing, An_opening, single, front_begins, IsValue, IsBase, IsOperand}
+use Rattle.rv_parse_laws.specs.Faults.{wrong_first}
+use Rattle.rv_parse_laws.specs.Parsing.{◌>>=◌, seen_as, value_at, value_in, single_at, base_at, base_next, offset_at, operand_at}
+use Rattle.rv_parse_laws.proofs.Steps.{bind_ok, seen_ok, bind_err, seen_err}
+use Rattle.rv_parse_laws.proofs.Failing.{Failing, behind, first_of, first_same, never}
+use Rattle.rv_parse_laws.proofs.Singles.{single_found, single_fault, single_passed, register_no_last, opening_no_last, closing_no_last, some_token, a_register, a_register_is}
+use Rattle.rv_parse_laws.proofs.Values.{Closes, closes, value_is, value_in_is, value_some, ValueFound, value_found, ValueWrong, value_wrong}
+
+opening_is : (s : Slot) (k : Kind) (os : List Operand) → single (An_opening s) k ≡ Some os → (is_opening k ≡ true) × (os ≡ [])
+opening_is s (Mark Open) os h = (refl, cc)
+opening_is s (Mark _) os h = absurd (cc)
+opening_is s _ os h = absurd (cc)
+
+closing_is : (k : Kind) (os : List Operand) → single A_closing k ≡ Some os → (is_closing k ≡ true) × (os ≡ [])
+closing_is (Mark Close) os h = (refl, cc)
+closing_is (Mark _) os h = absurd (cc)
+closing_is _ os h = absurd (cc)
+
+register_is : (k : Kind) (os : List Operand) → single A_register k ≡ Some os → (number : ℕ) × (register_of k ≡ Some number) × (os ≡ Register number ∷ [])
+register_is k os h = go (register_of k) refl h
+  where
+    go : (o : Option ℕ) → register_of k ≡ o → option_map (λ r. Register r ∷ []) o ≡ Some os → (number : ℕ) × (register_of k ≡ Some number) × (os ≡ Register number ∷ [])
+    go None e h = absurd (cc)
+    go (Some n) e h = (n, e, cc)
+
+is_open_single : (s : Slot) (k : Kind) → is_opening k ≡ true → single (An_opening s) k ≡ Some []
+is_open_single s k h = rw h refl
+
+-- a base, whatever follows it
+pub base_is : (slot : Slot) (text : List Token) (os : List Operand) → IsBase text os → (rest : List Token) → base_at slot (text ++ rest) ≡ Ok (os, rest)
+base_is slot text os (o, r, c, number, w, opens, named, closed, is) rest = rw (w, is) (rw (opens, named, closed) refl)
+
+pub base_found : (slot : Slot) (ts : List Token) (os : List Operand) (rest : List Token) → base_at slot ts ≡ Ok (os, rest) → (text : List Token) × (ts ≡ text ++ rest) × IsBase text os
+base_found slot ts os rest e =
+    let a = bind_ok (single_at (An_opening slot) ts) (λ o. single_at A_register o.1 >>= λ r. seen_as (λ none. r.0) (single_at A_closing r.1)) (os, rest) e in
+    let b = bind_ok (single_at A_register a.0.1) (λ r. seen_as (λ none. r.0) (single_at A_closing r.1)) (os, rest) a.2 in
+    let c = seen_ok (λ none. b.0.0) (single_at A_closing b.0.1) os rest b.2 in
+    let o = single_found (An_opening slot) ts a.0.0 a.0.1 a.1 in
+    let r = single_found A_register a.0.1 b.0.0 b.0.1 b.1 in
+    let d = single_found A_closing b.0.1 c.0 rest c.1 in
+    let named = register_is r.0.kind b.0.0 r.2 in (
+      o.0 ∷ r.0 ∷ d.0 ∷ [],
+      o.1 ∙ ap (λ us. o.0 ∷ us) r.1 ∙ ap (λ us. o.0 ∷ r.0 ∷ us) d.1,
+      (o.0, r.0, d.0, named.0, refl, (opening_is slot o.0.kind a.0.0 o.2).0, named.1, (closing_is d.0.kind c.0 d.2).0, c.2 ∙ named.2),
+    )
+
+abbrev a_closing : Token
+a_closing = some_token (Mark Close)
+
+abbrev an_opening : Token
+an_opening = some_token (Mark Open)
+
+abbrev pub base_goes : (text : List Token) × (os : List Operand) × IsBase text os
+base_goes = (an_opening ∷ a_register ∷ a_closing ∷ [], Register 10 ∷ [], (an_opening, a_register, a_closing, 10, refl, refl, a_register_is, refl, refl))
+
+-- what goes on behind an opening parenthesis, and behind a register
+register_goes : (o : Token) → is_opening o.kind ≡ true → (text : List Token) × (os : List Operand) × IsBase ((o ∷ []) ++ text) os
+register_goes o opens = (a_register ∷ a_closing ∷ [], Register 10 ∷ [], (o, a_register, a_closing, 10, refl, opens, a_register_is, refl, refl))
+
+closing_goes : (o r : Token) (number : ℕ) → is_opening o.kind ≡ true → register_of r.kind ≡ Some number → (text : List Token) × (os : List Operand) × IsBase ((o ∷ r ∷ []) ++ text) os
+closing_goes o r number opens named = (a_closing ∷ [], Register number ∷ [], (o, r, a_closing, number, refl, opens, named, refl, refl))
+
+closing_err : (slot : Slot) (o r c : Token) (number : ℕ) (text : List Token) (w : Wrong) → is_opening o.kind ≡ true → register_of r.kind ≡ Some number → single A_closing c.kind ≡ None
+    → w ≡ wrong c (wrong_first A_closing c.kind) → base_at slot (o ∷ r ∷ c ∷ text) ≡ Err w
+closing_err slot o r c number text w opens named none is = rw (opens, named) (rw (none, is) refl)
+
+register_err : (slot : Slot) (o r : Token) (text : List Token) (w : Wrong) → is_opening o.kind ≡ true → single A_register r.kind ≡ None
+    → w ≡ wrong r (wrong_first A_register r.kind) → base_at slot (o ∷ r ∷ text) ≡ Err w
+register_err slot o r text w opens none is = rw opens (rw (none, is) refl)
+
+opening_err : (slot : Slot) (o : Token) (text : List Token) (w : Wrong) → single (An_opening slot) o.kind ≡ None → w ≡ wrong o (wrong_first (An_opening slot) o.kind) → base_at slot (o ∷ text) ≡ Err w
+opening_err slot o text w none is = rw (none, is) refl
+
+-- where a base is wrong
+pub base_wrong : (slot : Slot) (ts : List Token) (w : Wrong) → ended ts ≡ true → base_at slot ts ≡ Err w → Failing (List Operand) IsBase (base_at slot) ts w
+base_wrong slot ts w end e = elim (bind_err (single_at (An_opening slot) ts) (λ o. single_at A_register o.1 >>= λ r. seen_as (λ none. r.0) (single_at A_closing r.1)) w e) [
+  | inl f ↦ (let k = single_fault (An_opening slot) ts w end f in record {
+    before = [];
+    at = k.0;
+    more = k.1;
+    code = wrong_first (An_opening slot) k.0.kind;
+    whole = k.2;
+    is_wrong = k.4;
+    fails = λ text. opening_err slot k.0 text w k.3 k.4;
+    goes = base_goes;
+  })
+  | inr a ↦ (let o = single_passed (An_opening slot) ts a.0.0 a.0.1 end a.1 in
+      second o.0 a.0.1 o.1 (opening_is slot o.0.kind a.0.0 o.2).0 o.3 a.2)
+]
+  where
+    second : (o : Token) (us : List Token) → ts ≡ o ∷ us → is_opening o.kind ≡ true → ended us ≡ true → (single_at A_register us >>= λ r. seen_as (λ none. r.0) (single_at A_closing r.1)) ≡ Err w
+        → Failing (List Operand) IsBase (base_at slot) ts w
+    second o us whole opens end e = elim (bind_err (single_at A_register us) (λ r. seen_as (λ none. r.0) (single_at A_closing r.1)) w e) [
+      | inl f ↦ (let k = single_fault A_register us w end f in record {
+        before = o ∷ [];
+        at = k.0;
+        more = k.1;
+        code = wrong_first A_register k.0.kind;
+        whole = whole ∙ ap (λ xs. o ∷ xs) k.2;
+        is_wrong = k.4;
+        fails = λ text. register_err slot o k.0 text w opens k.3 k.4;
+        goes = register_goes o opens;
+      })
+      | inr b ↦ (let r = single_passed A_register us b.0.0 b.0.1 end b.1 in
+          let number = register_is r.0.kind b.0.0 r.2 in
+          let k = single_fault A_closing b.0.1 w r.3 (seen_err (λ none. b.0.0) (single_at A_closing b.0.1) w b.2) in record {
+            before = o ∷ r.0 ∷ [];
+            at = k.0;
+            more = k.1;
+            code = wrong_first A_closing k.0.kind;
+            whole = whole ∙ ap (λ xs. o ∷ xs) (r.1 ∙ ap (λ xs. r.0 ∷ xs) k.2);
+            is_wrong = k.4;
+            fails = λ text. closing_err slot o r.0 k.0 number.0 text w opens number.1 k.3 k.4;
+            goes = closing_goes o r.0 number.0 opens number.1;
+          })
+    ]
+
+-- a register behind a parenthesis begins no expression
+name_is : (k : Kind) (n : ℕ) → register_of k ≡ Some n → begins is_register k ≡ No_operand 7
+name_is (NameToken name) n h = rw h refl
+name_is _ n h = absurd (cc)
+
+open_is : (k : Kind) → is_opening k ≡ true → begins is_register k ≡ Opens
+open_is (Mark Open) h = refl
+open_is (Mark _) h = absurd (cc)
+open_is _ h = absurd (cc)
+
+and_parts : (a b : Bool) → (a && b) ≡ true → (a ≡ true) × (b ≡ true)
+and_parts true b h = (refl, h)
+and_parts false b h = absurd (cc)
+
+named_by : (o : Option ℕ) → is_some (option_map (λ r. Register r ∷ []) o) ≡ true → (n : ℕ) × (o ≡ Some n)
+named_by None h = absurd (cc)
+named_by (Some n) h = (n, refl)
+
+-- a register in parentheses comes next
+pub base_parts : (ts : List Token) → base_next ts ≡ true → (o r : Token) × (us : List Token) × (n : ℕ) × (ts ≡ o ∷ r ∷ us) × (is_opening o.kind ≡ true) × (register_of r.kind ≡ Some n)
+base_parts [] h = absurd (cc)
+base_parts (o ∷ []) h = let p = and_parts (is_opening o.kind) (front_begins A_register []) h in absurd (cc p.1)
+base_parts (o ∷ r ∷ us) h =
+    let p = and_parts (is_opening o.kind) (front_begins A_register (r ∷ us)) h in
+    let n = named_by (register_of r.kind) p.1 in
+    (o, r, us, n.0, refl, p.0, n.1)
+
+base_no_value : (ts : List Token) (e : Expression) (rest : List Token) → base_next ts ≡ true → value_at ts ≡ Ok (e, rest) → ⊥
+unfolding expression_at
+base_no_value ts e rest next read =
+    let p = base_parts ts next in
+    let o = p.0 in
+    let r = p.1 in
+    let one : read_from is_register (Wants [] []) (o ∷ r ∷ p.2) ≡ read_from is_register (Wants (Parenthesis ∷ []) []) (r ∷ p.2) =
+    goes is_register (Wants [] []) (Wants (Parenthesis ∷ []) []) o (r ∷ p.2) (rw (open_is o.kind p.5) refl) in
+    let two : read_from is_register (Wants (Parenthesis ∷ []) []) (r ∷ p.2) ≡ Err (wrong r 7) =
+    fails is_register (Wants (Parenthesis ∷ []) []) 7 r p.2 (rw (name_is r.kind p.3 p.6) refl) in
+    never (e, rest) (wrong r 7) (sym read ∙ ap value_at p.4 ∙ ap (seen_as tree_of) (one ∙ two))
+
+-- so no base comes next where an expression does
+no_base : (ts : List Token) (e : Expression) (rest : List Token) → value_at ts ≡ Ok (e, rest) → base_next ts ≡ false
+no_base ts e rest read = go (base_next ts) refl
+  where
+    go : (b : Bool) → base_next ts ≡ b → b ≡ false
+    go false h = refl
+    go true h = absurd (base_no_value ts e rest h read)
+
+base_closes : (rest : List Token) (os : List Operand) (more : List Token) → IsBase rest os → Closes (rest ++ more)
+base_closes rest os more (o, r, c, number, w, opens, named, closed, is) = (o, r ∷ c ∷ more, ap (λ xs. xs ++ more) w, closes_open o.kind opens)
+  where
+    closes_open : (k : Kind) → is_opening k ≡ true → closes k ≡ true
+    closes_open (Mark Open) h = refl
+    closes_open (Mark _) h = absurd (cc)
+    closes_open _ h = absurd (cc)
+
+base_begins : (rest : List Token) (os : List Operand) (more : List Token) → IsBase rest os → base_next (rest ++ more) ≡ true
+base_begins rest os more (o, r, c, number, w, opens, named, closed, is) = rw w (rw (opens, named) refl)
+
+pub address_is : (role : Role) (text : List Token) (os : List Operand) → IsOperand (An_address role) text os → (rest : List Token) → operand_at (An_address role) (text ++ rest) ≡ Ok (os, rest)
+address_is role text os (inl base) rest = rw (base_begins text os rest base) (base_is A_register text os base rest)
+address_is role text os (inr (one, more, e, base, w, v, b, is)) rest =
+    let closed = base_closes more base rest b in
+    let value : value_in role (one ++ (more ++ rest)) ≡ Ok (e, more ++ rest) = value_in_is role one (more ++ rest) e v closed in
+    let none : base_next (one ++ (more ++ rest)) ≡ false = no_base (one ++ (more ++ rest)) e (more ++ rest) (value_is one (more ++ rest) e v closed) in
+    rw (w, is) (rw (append_assoc one more rest, none, value, base_is (A_value role) more base b rest) refl)
+
+-- the front decides by two tokens
+next_alike : (t : Token) (us vs : List Token) → first_of us ≡ first_of vs → base_next (t ∷ us) ≡ base_next (t ∷ vs)
+next_alike t [] [] e = refl
+next_alike t [] (v ∷ vs) e = absurd (cc)
+next_alike t (u ∷ us) [] e = absurd (cc)
+next_alike t (u ∷ us) (v ∷ vs) e = let same : u ≡ v = cc in ap (λ (x : Token). is_opening t.kind && is_some (single A_register x.kind)) same
+
+next_behind : (text us vs : List Token) → 0 < length text → first_of us ≡ first_of vs → base_next (text ++ us) ≡ base_next (text ++ vs)
+next_behind [] us vs some e = absurd (omega (arith, some))
+next_behind (t ∷ text) us vs some e = next_alike t (text ++ us) (text ++ vs) (first_same text us vs e)
+
+pub address_found : (role : Role) (ts : List Token) (os : List Operand) (rest : List Token) → operand_at (An_address role) ts ≡ Ok (os, rest)
+    → (text : List Token) × (ts ≡ text ++ rest) × IsOperand (An_address role) text os
+address_found role ts os rest e = go (base_next ts) e
+  where
+    go : (b : Bool) → cond b (base_at A_register ts) (offset_at role ts) ≡ Ok (os, rest) → (text : List Token) × (ts ≡ text ++ rest) × IsOperand (An_address role) text os
+    go true e = let f = base_found A_register ts os rest e in (f.0, f.1, inl f.2)
+    go false e =
+        let a = bind_ok (value_in role ts) (λ v. seen_as (λ os. Value v.0 ∷ os) (base_at (A_value role) v.1)) (os, rest) e in
+        let b = seen_ok (λ os. Value a.0.0 ∷ os) (base_at (A_value role) a.0.1) os rest a.2 in
+        let v = value_found role ts a.0.0 a.0.1 a.1 in
+        let f = base_found (A_value role) a.0.1 b.0 rest b.1 in
+        (v.text ++ f.0, v.whole ∙ ap (λ us. v.text ++ us) f.1 ∙ sym (append_assoc v.text f.0 rest), inr (v.text, f.0, a.0.0, b.0, refl, v.is, f.2, b.2))
+
+next_at : (before : List Token) (at : Token) (more text : List Token) → base_next (before ++ at ∷ more) ≡ false → (before ≡ [] → is_opening at.kind ≡ false) → base_next (before ++ at ∷ text) ≡ false
+next_at [] at more text h closed = rw (closed refl) refl
+next_at (t ∷ before) at more text h closed = next_behind (t ∷ before) (at ∷ text) (at ∷ more) (omega arith) refl ∙ h
+
+-- where a register in parentheses is not closed
+based_wrong : (role : Role) (ts : List Token) (w : Wrong) → ended ts ≡ true → base_next ts ≡ true → base_at A_register ts ≡ Err w
+    → Failing (List Operand) (IsOperand (An_address role)) (operand_at (An_address role)) ts w
+based_wrong role ts w end next e =
+    let p = base_parts ts next in
+    let o = p.0 in
+    let r = p.1 in
+    let behind : ended p.2 ≡ true = ended_more r p.2 (register_no_last r.kind p.3 p.6) (ended_more o (r ∷ p.2) (opening_no_last o.kind p.5) (ap ended (sym p.4) ∙ end)) in
+    let k = single_fault A_closing p.2 w behind
+    (seen_err (λ none. Register p.3 ∷ []) (single_at A_closing p.2) w (sym (closing o r p.2 p.3 p.5 p.6) ∙ ap (base_at A_register) (sym p.4) ∙ e)) in
+    record {
+      before = o ∷ r ∷ [];
+      at = k.0;
+      more = k.1;
+      code = wrong_first A_closing k.0.kind;
+      whole = p.4 ∙ ap (λ xs. o ∷ r ∷ xs) k.2;
+      is_wrong = k.4;
+      fails = λ text. rw (begins o r (k.0 ∷ text) p.3 p.5 p.6) (closing_err A_register o r k.0 p.3 text w p.5 p.6 k.3 k.4);
+      goes = goes (o ∷ r ∷ []) (closing_goes o r p.3 p.5 p.6);
+    }
+  where
+    closing : (o r : Token) (us : List Token) (number : ℕ) → is_opening o.kind ≡ true → register_of r.kind ≡ Some number
+        → base_at A_register (o ∷ r ∷ us) ≡ seen_as (λ none. Register number ∷ []) (single_at A_closing us)
+    closing o r us number opens named = rw (opens, named) refl
+
+    begins : (o r : Token) (us : List Token) (number : ℕ) → is_opening o.kind ≡ true → register_of r.kind ≡ Some number → base_next (o ∷ r ∷ us) ≡ true
+    begins o r us number opens named = rw (opens, named) refl
+
+    goes : (before : List Token) → (text : List Token) × (os : List Operand) × IsBase (before ++ text) os → (text : List Token) × (os : List Operand) × IsOperand (An_address role) (before ++ text) os
+    goes before (text, os, base) = (text, os, inl base)
+
+-- a value and a base, whatever they are
+abbrev to_offset : (role : Role) (one : List Token) (e : Expression) → IsValue one e → (us : List Token) (os : List Operand) → IsBase us os → (all : List Operand) × IsOperand (An_address role) (one ++ us) all
+to_offset role one e v us os base = (Value e ∷ os, inr (one, us, e, os, refl, v, base, refl))
+
+offset_wrong : (role : Role) (ts : List Token) (w : Wrong) → ended ts ≡ true → base_next ts ≡ false → offset_at role ts ≡ Err w
+    → Failing (List Operand) (IsOperand (An_address role)) (operand_at (An_address role)) ts w
+offset_wrong role ts w end next e = elim (bind_err (value_in role ts) (λ v. seen_as (λ os. Value v.0 ∷ os) (base_at (A_value role) v.1)) w e) [
+  | inl f ↦ valued (value_wrong role ts w end f)
+  | inr good ↦ based good.0.0 good.0.1 (value_found role ts good.0.0 good.0.1 good.1) (seen_err (λ os. Value good.0.0 ∷ os) (base_at (A_value role) good.0.1) w good.2)
+]
+  where
+    value_err : (us : List Token) → base_next us ≡ false → value_in role us ≡ Err w → operand_at (An_address role) us ≡ Err w
+    value_err us none fails = rw (none, fails) refl
+
+    valued : ValueWrong role ts w → Failing (List Operand) (IsOperand (An_address role)) (operand_at (An_address role)) ts w
+    valued (x, closed) = record {
+      before = x.before;
+      at = x.at;
+      more = x.more;
+      code = x.code;
+      whole = x.whole;
+      is_wrong = x.is_wrong;
+      fails = λ text. value_err (x.before ++ x.at ∷ text) (next_at x.before x.at x.more text (ap base_next (sym x.whole) ∙ next) closed) (x.fails text);
+      goes = goes base_goes;
+    }
+      where
+        goes : (text : List Token) × (os : List Operand) × IsBase text os → (text : List Token) × (os : List Operand) × IsOperand (An_address role) (x.before ++ text) os
+        goes (text, os, base) =
+            let all = to_offset role (x.before ++ x.goes.0) x.goes.1 x.goes.2 text os base in
+            (x.goes.0 ++ text, all.0, subst (λ us. IsOperand (An_address role) us all.0) (append_assoc x.before x.goes.0 text) all.1)
+
+    base_err : (us : List Token) (e : Expression) (rest : List Token) → base_next us ≡ false → value_in role us ≡ Ok (e, rest) → base_at (A_value role) rest ≡ Err w
+        → operand_at (An_address role) us ≡ Err w
+    base_err us e rest none read fails = rw (none, read, fails) refl
+
+    based : (e : Expression) (rest : List Token) → ValueFound role ts e rest → base_at (A_value role) rest ≡ Err w
+        → Failing (List Operand) (IsOperand (An_address role)) (operand_at (An_address role)) ts w
+    based e rest v fails =
+        let last : ended rest ≡ true = ap ended v.rest_is ∙ sym (ended_behind v.text v.at v.more) ∙ ap (λ us. ended (v.text ++ us)) (sym v.rest_is) ∙ ap ended (sym v.whole) ∙ end in
+        subst (λ us. Failing (List Operand) (IsOperand (An_address role)) (operand_at (An_address role)) us w) (sym v.whole)
+        (behind (List Operand) (List Operand) (IsOperand (An_address role)) IsBase (operand_at (An_address role)) (base_at (A_value role)) v.text rest w
+        (λ us os base. to_offset role v.text e v.is us os base)
+        (λ us first fails. base_err (v.text ++ us) e us (next_behind v.text us rest (value_some v.text e v.is) first ∙ ap base_next (sym v.whole) ∙ next) (v.steady us first) fails)
+        (base_wrong (A_value role) rest w last fails))
+
+pub address_wrong : (role : Role) (ts : List Token) (w : Wrong) → ended ts ≡ true → operand_at (An_address role) ts ≡ Err w
+    → Failing (List Operand) (IsOperand (An_address role)) (operand_at (An_address role)) ts w
+address_wrong role ts w end e = go (base_next ts) refl e
+  where
+    go : (b : Bool) → base_next ts ≡ b → cond b (base_at A_register ts) (offset_at role ts) ≡ Err w
+        → Failing (List Operand) (IsOperand (An_address role)) (operand_at (An_address role)) ts w
+    go true next e = based_wrong role ts w end next e
+    go false next e = offset_wrong role ts w end next e
+
+pub address_some : (role : Role) (text : List Token) (os : List Operand) → IsOperand (An_address role) text os → 0 < length text
+address_some role text os (inl (o, r, c, number, w, opens, named, closed, is)) = rw w (omega arith)
+address_some role text os (inr (one, rest, e, base, w, v, b, is)) = rw w (omega (arith, value_some one e v, length-append one rest))
+
+base_ended : (text : List Token) (os : List Operand) (rest : List Token) → IsBase text os → ended (text ++ rest) ≡ true → ended rest ≡ true
+base_ended text os rest (o, r, c, number, w, opens, named, closed, is) end =
+    ended_more c rest (closing_no_last c.kind closed) (ended_more r (c ∷ rest) (register_no_last r.kind number named) (ended_more o (r ∷ c ∷ rest) (opening_no_last o.kind opens) (ap (λ us. ended (us ++ rest)) (sym w) ∙ end)))
+
+pub address_ended : (role : Role) (ts : List Token) (os : List Operand) (rest : List Token) → ended ts ≡ true → operand_at (An_address role) ts ≡ Ok (os, rest) → ended rest ≡ true
+address_ended role ts os rest end e = go (base_next ts) e
+  where
+    go : (b : Bool) → cond b (base_at A_register ts) (offset_at role ts) ≡ Ok (os, rest) → ended rest ≡ true
+    go true e = let f = base_found A_register ts os rest e in base_ended f.0 os rest f.2 (ap ended (sym f.1) ∙ end)
+    go false e =
+        let a = bind_ok (value_in role ts) (λ v. seen_as (λ os. Value v.0 ∷ os) (base_at (A_value role) v.1)) (os, rest) e in
+        let b = seen_ok (λ os. Value a.0.0 ∷ os) (base_at (A_value role) a.0.1) os rest a.2 in
+        let v = value_found role ts a.0.0 a.0.1 a.1 in
+        let f = base_found (A_value role) a.0.1 b.0 rest b.1 in
+        base_ended f.0 b.0 rest f.2 (ap ended (sym f.1) ∙ behind_value v.text v.at v.more a.0.1 v.whole v.rest_is)
+      where
+        behind_value : (text : List Token) (at : Token) (more next : List Token) → ts ≡ text ++ next → next ≡ at ∷ more → ended next ≡ true
+        behind_value text at more next whole is = ap ended is ∙ sym (ended_behind text at more) ∙ ap (λ us. ended (text ++ us)) (sym is) ∙ ap ended (sym whole) ∙ end
+
+pub address_live : (role : Role) → (t : Token) × (us : List Token) × (os : List Operand) × IsOperand (An_address role) (t ∷ us) os × (is_colon t.kind ≡ false)
+address_live role = (an_opening, a_register ∷ a_closing ∷ [], base_goes.1, inl base_goes.2, refl)

@@ -1,0 +1,117 @@
+-- Lines of sources, as they are read, and with the fault that they have: each by computing.
+
+use Rattle.std.proofs.Common.{◌≡◌, ℕ, true, false, List, [], ◌∷◌, map, Option, Some, None, Ok, Err, refl, codes}
+use Rattle.rv_isa.specs.RegisterNames.{abi_names}
+use Rattle.rv_text_laws.specs.Bytes.{class, digit}
+use Rattle.rv_text_laws.specs.Cut.{cut}
+use Rattle.rv_text_laws.specs.Front.{tokens_from, piece_at, reference_in, number_in, escape_at, atom_at}
+use Rattle.rv_text_laws.specs.Wrong.{Read, place_of}
+use Rattle.rv_text_laws.specs.Joined.{joined_at}
+use Rattle.rv_text_laws.specs.Expression.{Leaf, Literal, Symbol, Here, Reference, Unary, Binary, tree_of}
+use Rattle.rv_text_laws.specs.ExpressionAt.{expression_at}
+use Rattle.rv_text_laws.specs.declared.operator.UnaryOperator.TheVariants.{Negate}
+use Rattle.rv_text_laws.specs.declared.operator.BinaryOperator.TheVariants.{Add, Multiply}
+use Rattle.rv_statement.specs.declared.directive.Choice.TheVariants.{Norvc}
+use Rattle.rv_statement.specs.declared.directive.Standard.TheVariants.{Bss}
+use Rattle.rv_statement.specs.declared.mnemonic.Mnemonic.TheVariants.{Registers, Load, Jalr, LoadReserved}
+use Rattle.rv_statement.specs.declared.mnemonic.RegisterOperation.TheVariants.{And}
+use Rattle.rv_statement.specs.declared.mnemonic.LoadOperation.TheVariants.{Lw}
+use Rattle.rv_statement.specs.Statement.{Register, Value, Enters, Opens, Globl, Local, Sets, Aligns_to_power, Aligns_to_bytes, Values, Strings, Zeros, Chooses as Choosing, Ignored, Statement, Label, Numbered, Instruction, Directs}
+use Rattle.rv_parse_laws.specs.Words.{base_words, atomic_words, atomic_ends, pseudo_words, left_out_directives, is_known, instruction_words, atomic_operations, atomic_forms, form_with, mnemonic_named, directive_words, directive_named, beginning, choices, left_out_options, section_types, names_of, register}
+use Rattle.rv_parse_laws.specs.Syntax.{is_symbol, access_sets, is_section_name, Part, Says}
+use Rattle.rv_parse_laws.specs.Parsing.{items_at, operands_at, begun_at, statement_at, part_at}
+
+what : Read Part → Option Part
+what (Ok read) = Some read.0
+what (Err wrong) = None
+
+-- the fault's code and place
+code : Read Part → ℕ × ℕ
+code (Ok read) = (0, 0)
+code (Err wrong) = (wrong.code, wrong.place)
+
+abbrev good_lines : List (List ℕ × Statement)
+good_lines =
+    (codes "lw a0, (4)(sp)", Instruction (Load Lw) (Register 10 ∷ Value (Leaf (Literal 4)) ∷ Register 2 ∷ [])) ∷
+    (codes "lw a0, (sp)", Instruction (Load Lw) (Register 10 ∷ Register 2 ∷ [])) ∷
+    (codes "lw a0, (1+2)*3(sp)", Instruction (Load Lw) (Register 10 ∷ Value (Binary Multiply (Binary Add (Leaf (Literal 1)) (Leaf (Literal 2))) (Leaf (Literal 3))) ∷ Register 2 ∷ [])) ∷
+    (codes "jalr x+4(a1)", Instruction Jalr (Value (Binary Add (Leaf (Symbol (codes "x"))) (Leaf (Literal 4))) ∷ Register 11 ∷ [])) ∷
+    (codes "and a0, a1, -1", Instruction (Registers And) (Register 10 ∷ Register 11 ∷ Value (Unary Negate (Leaf (Literal 1))) ∷ [])) ∷
+    (codes "lr.w a0, '\\0'(a1)", Instruction (LoadReserved (form_with false false false)) (Register 10 ∷ Register 11 ∷ [])) ∷
+    (codes ".section .note.GNU-stack,\"awxMS\",@note, 4", Directs (Opens (codes ".note.GNU-stack") (Some (codes "awxMS")) (Some (codes "note")))) ∷
+    (codes ".section x,\"\"", Directs (Opens (codes "x") (Some []) None)) ∷
+    (codes ".section a0", Directs (Opens (codes "a0") None None)) ∷
+    (codes ".section .rv.rows-x", Directs (Opens (codes ".rv.rows-x") None None)) ∷
+    (codes ".globl a, b", Directs (Globl (codes "a" ∷ codes "b" ∷ []))) ∷
+    (codes ".local a", Directs (Local (codes "a" ∷ []))) ∷
+    (codes ".byte 1, x+2", Directs (Values 1 (Leaf (Literal 1) ∷ Binary Add (Leaf (Symbol (codes "x"))) (Leaf (Literal 2)) ∷ []))) ∷
+    (codes ".half 1f", Directs (Values 2 (Leaf (Reference (codes "1") true) ∷ []))) ∷
+    (codes ".4byte 1", Directs (Values 4 (Leaf (Literal 1) ∷ []))) ∷
+    (codes ".quad 1", Directs (Values 8 (Leaf (Literal 1) ∷ []))) ∷
+    (codes ".ascii \"a\"", Directs (Strings false (codes "a" ∷ []))) ∷
+    (codes ".asciz \"a\", \"b\\n\"", Directs (Strings true (codes "a" ∷ (98 ∷ 10 ∷ []) ∷ []))) ∷
+    (codes ".option norvc", Directs (Choosing Norvc)) ∷
+    (codes ".type a0, @x (", Directs Ignored) ∷
+    (codes ".cfi_def_cfa 1", Directs Ignored) ∷
+    (codes ".equ x, .", Directs (Sets (codes "x") (Leaf Here))) ∷
+    (codes ".align 3", Directs (Aligns_to_power (Leaf (Literal 3)))) ∷
+    (codes ".balign 8", Directs (Aligns_to_bytes (Leaf (Literal 8)))) ∷
+    (codes ".space 3", Directs (Zeros (Leaf (Literal 3)))) ∷
+    (codes ".bss", Directs (Enters Bss)) ∷
+    (codes "08:", Numbered 8) ∷
+    (codes "010 : x", Numbered 10) ∷
+    (codes ".type:", Label (codes ".type")) ∷
+    []
+
+abbrev bad_lines : List (List ℕ × ℕ × ℕ)
+bad_lines =
+    (codes "lw a0, 8", 9, 8) ∷
+    (codes "sw a0, 8, t0", 9, 8) ∷
+    (codes "lw a0, 8, t0", 7, 8) ∷
+    (codes "lw a0, 8(foo)", 7, 9) ∷
+    (codes "lw a0, (foo)", 9, 12) ∷
+    (codes "lw a0, (a0+1)", 7, 10) ∷
+    (codes "lw a0, ((((1)", 7, 13) ∷
+    (codes "jalr 8", 7, 6) ∷
+    (codes "li a0, %lo(x)", 9, 7) ∷
+    (codes "li a0, x == 1", 9, 9) ∷
+    (codes "lr.w a0, 1(a0)", 7, 9) ∷
+    (codes "amoadd.w a0, a1, (4)", 7, 18) ∷
+    (codes ".byte %lo(x)", 7, 6) ∷
+    (codes ".byte", 7, 5) ∷
+    (codes ".byte 1,", 7, 8) ∷
+    (codes ".align 2, 0", 9, 8) ∷
+    (codes ".zero 2, 0", 7, 7) ∷
+    (codes ".option pic", 9, 8) ∷
+    (codes ".option foo", 7, 8) ∷
+    (codes ".globl a0", 7, 7) ∷
+    (codes ".globl a b", 7, 9) ∷
+    (codes ".globl \"a\"", 9, 7) ∷
+    (codes ".set a0, 1", 7, 5) ∷
+    (codes ".set x 1", 7, 7) ∷
+    (codes ".text 1", 7, 6) ∷
+    (codes ".section", 7, 8) ∷
+    (codes ".section \"x\"", 9, 9) ∷
+    (codes ".section .rv.rows", 9, 17) ∷
+    (codes ".section x,\"aG\"", 9, 11) ∷
+    (codes ".section x,\"aGq\"", 7, 11) ∷
+    (codes ".section x,\"a\",%progbits", 7, 15) ∷
+    (codes ".section x,\"a\",@foo", 9, 16) ∷
+    (codes ".section x, @note", 7, 12) ∷
+    (codes ".type a, 1x", 2, 9) ∷
+    (codes ".type a // b", 9, 8) ∷
+    (codes ".weak x", 9, 0) ∷
+    (codes ".foo x", 8, 0) ∷
+    (codes "foo x", 6, 0) ∷
+    (codes "1b:", 6, 0) ∷
+    (codes "4x:", 2, 0) ∷
+    (codes "a0:", 7, 0) ∷
+    []
+
+each_reads : map (λ line. what (part_at (tokens_from 0 1 line.0))) good_lines ≡ map (λ line. Some (Says line.1)) good_lines
+unfolding what code part_at statement_at begun_at operands_at items_at tokens_from piece_at reference_in number_in escape_at atom_at cut class digit expression_at tree_of joined_at place_of is_symbol access_sets is_section_name base_words atomic_words atomic_ends pseudo_words left_out_directives is_known instruction_words atomic_operations atomic_forms mnemonic_named directive_words directive_named beginning choices left_out_options section_types names_of register abi_names
+each_reads = refl
+
+each_fails : map (λ line. code (part_at (tokens_from 0 1 line.0))) bad_lines ≡ map (λ line. (line.1, line.2)) bad_lines
+unfolding what code part_at statement_at begun_at operands_at items_at tokens_from piece_at reference_in number_in escape_at atom_at cut class digit expression_at tree_of joined_at place_of is_symbol access_sets is_section_name base_words atomic_words atomic_ends pseudo_words left_out_directives is_known instruction_words atomic_operations atomic_forms mnemonic_named directive_words directive_named beginning choices left_out_options section_types names_of register abi_names
+each_fails = refl
