@@ -1,6 +1,9 @@
 pub mod Added
 pub mod Choices
 pub mod Code
+pub mod Coded
 pub mod Fault
 pub mod Pieces
 pub mod Running
+pub mod Sized
+pub mod Valued

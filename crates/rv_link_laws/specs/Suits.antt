@@ -5,7 +5,7 @@ use Rattle.std.specs.List.{list_all}
 use Rattle.rv_isa.specs.declared.instruction.Inst.{Inst}
 use Rattle.rv_isa.specs.Ranges.{IsValid}
 use Rattle.rv_text_laws.specs.Values.{Value, Constant}
-use Rattle.rv_statement.specs.Statement.{Statement, Label, Numbered, Instruction, Directs, Expression, Directive, Aligns_to_power, Aligns_to_bytes, Values, Strings, Zeros}
+use Rattle.rv_statement.specs.Statement.{Statement, Label, Numbered, Instruction, Directs, Expression, Directive, Sets, Aligns_to_power, Aligns_to_bytes, Values, Strings, Zeros}
 use Rattle.rv_unit_laws.specs.Sections.{Section}
 use Rattle.rv_unit_laws.specs.Tables.{asked, padding, string_bytes}
 use Rattle.rv_map.specs.declared.map.Row.{Row}
@@ -45,6 +45,7 @@ SuitsDirective f valued home row offset start (Strings ended strings) =
 SuitsDirective f valued home row offset start (Zeros count) = (row.instructions ≡ 0) × (f count ≡ Constant row.bytes)
 SuitsDirective f valued home row offset start (Aligns_to_power e) = SuitsAlignment (f e) home row offset start (asked f (Aligns_to_power e))
 SuitsDirective f valued home row offset start (Aligns_to_bytes e) = SuitsAlignment (f e) home row offset start (asked f (Aligns_to_bytes e))
+SuitsDirective f valued home row offset start (Sets name e) = (row.bytes ≡ 0) × (row.instructions ≡ 0)
 SuitsDirective f valued home row offset start _ = ⊥
 
 abbrev pub Suits : (Expression → Value) → Bool → Section → Row → ℕ → ℕ → Statement → Type 0

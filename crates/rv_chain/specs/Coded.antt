@@ -1,0 +1,19 @@
+-- The instructions of a source as its code has them.
+
+use Rattle.std.specs.Prelude.{◌≡◌, ⊤, List, [], ◌∷◌}
+use Rattle.std.specs.List.{AllByRecursion}
+use Rattle.rv_isa.specs.declared.instruction.Inst.{Inst}
+use Rattle.rv_text_laws.specs.Values.{Value}
+use Rattle.rv_statement.specs.Statement.{Statement, Instruction, Spoken, Expression}
+use Rattle.rv_unit_laws.specs.Tables.{tables}
+use Rattle.rv_chain_laws.specs.Stated.{stated}
+use Rattle.rv_link_laws.specs.Suits.{IsInstruction}
+use Rattle.rv_chain.specs.Code.{value_at}
+
+-- an instruction of a statement is one that is valid, by constants
+abbrev pub IsCoded : (Expression → Value) → Statement → Type 0
+IsCoded v (Instruction mnemonic operands) = (i : Inst) × IsInstruction v (Instruction mnemonic operands) i
+IsCoded v _ = ⊤
+
+abbrev pub AreCoded : List Spoken → Type 0
+AreCoded ss = AllByRecursion (λ s. IsCoded (λ e. value_at (tables ss) s e) s.says) (stated (ss ∷ []))
