@@ -72,7 +72,7 @@ map_of l entry globals rows =
     record { text = l.text; rodata = l.rodata; «data» = l.data; bss = l.bss; entry = entry; gaps = []; globals = globals; rows = rows }
 
 -- the parts of a source that is placed: of each section its bytes as code, and its bytes as data
-pub record IsPlaced (text_start : ℕ) (ss : List Spoken) (is : List Item) (last : ℕ → ℕ) (pieces : List Piece) (l : Layout) (m : Map) (codes figures : List (List ℕ)) : Type 0 where
+pub record IsPlaced (text_start : ℕ) (ss : List Spoken) (is : List Item) (last : ℕ → ℕ) (pieces : List Piece) (l : Layout) (m : Map) (texts figures : List (List ℕ)) : Type 0 where
   pub good : first_fault ss ≡ None
   pub page : text_start % 2 ≡ 0
   pub items : AreItems 1 at_start (λ j. 0) ss is last
@@ -81,20 +81,20 @@ pub record IsPlaced (text_start : ℕ) (ss : List Spoken) (is : List Item) (last
   pub lies : IsLayout text_start pieces l
   pub suits : AllSuit (program (ss ∷ []) m) l.starts.items 1 at_start ss is
   pub resolves : Resolves (ss ∷ []) m
-  pub each_code : AreEach (tables ss).opened.sections codes
+  pub each_code : AreEach (tables ss).opened.sections texts
   pub each_data : AreEach (tables ss).opened.sections figures
-  pub code : HoldBytes (program (ss ∷ []) m).sites goes_to_text (code_bytes (program (ss ∷ []) m)) 0 (tables ss).opened.sections codes
+  pub code : HoldBytes (program (ss ∷ []) m).sites goes_to_text (code_bytes (program (ss ∷ []) m)) 0 (tables ss).opened.sections texts
   pub constants : HoldBytes (program (ss ∷ []) m).sites goes_to_rodata (spelled (program (ss ∷ []) m)) 0 (tables ss).opened.sections figures
   pub variables : HoldBytes (program (ss ∷ []) m).sites goes_to_data (spelled (program (ss ∷ []) m)) 0 (tables ss).opened.sections figures
 
 -- they make the linked program of the source
 abbrev pub PlacedLinks : Type 0
 PlacedLinks =
-    (text_start : ℕ) (ss : List Spoken) (is : List Item) (last : ℕ → ℕ) (pieces : List Piece) (l : Layout) (entry : ℕ) (globals : List Global) (codes figures : List (List ℕ)) (rvc : Bool)
+    (text_start : ℕ) (ss : List Spoken) (is : List Item) (last : ℕ → ℕ) (pieces : List Piece) (l : Layout) (entry : ℕ) (globals : List Global) (texts figures : List (List ℕ)) (rvc : Bool)
     → let m = map_of l entry globals (rows_from 1 l.starts.items 1 is) in
-    IsPlaced text_start ss is last pieces l m codes figures
+    IsPlaced text_start ss is last pieces l m texts figures
     → IsLinked (ss ∷ []) text_start (record {
-      text = contents_of Text l.text.start pieces l.starts.items codes;
+      text = contents_of Text l.text.start pieces l.starts.items texts;
       rodata = contents_of Rodata l.rodata.start pieces l.starts.items figures;
       «data» = contents_of Data l.data.start pieces l.starts.items figures;
       map = m;
