@@ -28,7 +28,7 @@ pub(crate) fn is_power_below(power: u32, number: u64) -> bool
 }
 
 /// The alignment that a value asks for, as a power of two; none where it can't be had.
-pub(crate) fn asked_power(value: Result<Value<'_>, SourceFault>) -> Option<u32>
+pub fn asked_power(value: Result<Value<'_>, SourceFault>) -> Option<u32>
     ensures { (v : values.Value) → IsOutcome value.entry 0 v → result ≡ laws.asked_power v }
 {
     match value {
@@ -40,7 +40,7 @@ pub(crate) fn asked_power(value: Result<Value<'_>, SourceFault>) -> Option<u32>
 }
 
 /// The alignment that a value asks for, in bytes; none where it can't be had.
-pub(crate) fn asked_bytes(value: Result<Value<'_>, SourceFault>) -> Option<u32>
+pub fn asked_bytes(value: Result<Value<'_>, SourceFault>) -> Option<u32>
     ensures { (v : values.Value) → IsOutcome value.entry 0 v → result ≡ laws.asked_bytes v }
 {
     match value {
