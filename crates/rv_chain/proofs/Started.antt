@@ -5,12 +5,12 @@ use Rattle.std.proofs.Math.Nat.{mul-mod_left, mul_assoc}
 use Rattle.std.proofs.lemmas.Nat.{div-add-mod'}
 use Rattle.std.specs.Prelude.{◌&&◌, if◌then◌else◌, slice_index, slice_index_or, slice_get}
 use Rattle.rv_statement.specs.Statement.{Spoken}
-use Rattle.rv_unit_laws.specs.Sections.{Section, goes_to_text}
+use Rattle.rv_unit_laws.specs.Sections.{Section}
 use Rattle.rv_unit_laws.specs.Tables.{Tables, tables, aligned}
 use Rattle.rv_chain_laws.specs.Fits.{begins_at}
 use Rattle.rv_link.specs.declared.layout.Layout.{Layout}
 use Rattle.rv_link.specs.declared.piece.Destination.{Destination}
-use Rattle.rv_link.specs.declared.piece.Destination.TheVariants.{Text, Rodata, Data, Bss, Nowhere}
+use Rattle.rv_link.specs.declared.piece.Destination.TheVariants.{Rodata, Data, Bss, Nowhere}
 use Rattle.rv_link.specs.declared.piece.Piece.{Piece}
 use Rattle.rv_link.specs.Destination.{is_bound_for}
 use Rattle.rv_link.specs.Layout.{IsLayout, starts_of, goes, end_behind}

@@ -1,8 +1,8 @@
 -- Each statement that has a row has one that suits it.
 
-use Rattle.std.proofs.Common.{◌≡◌, ℕ, suc, Bool, true, false, List, [], ◌∷◌, ◌++◌, Option, Some, None, refl, sym, ap, ◌∙◌, subst}
+use Rattle.std.proofs.Common.{◌≡◌, ℕ, suc, Bool, true, false, List, [], ◌∷◌, ◌++◌, Option, Some, None, refl, sym, ap, ◌∙◌}
 use Rattle.std.proofs.lemmas.Bool.{and_parts}
-use Rattle.std.specs.Prelude.{◌&&◌, if◌then◌else◌, slice_index, slice_index_or, slice_get}
+use Rattle.std.specs.Prelude.{if◌then◌else◌, slice_index, slice_index_or, slice_get}
 use Rattle.std.specs.List.{AllByRecursion}
 use Rattle.rv_text_laws.specs.Values.{Value}
 use Rattle.rv_statement.specs.Statement.{Statement, Label, Numbered, Instruction, Directs, Spoken, Expression, Directive, Sets, Aligns_to_power, Aligns_to_bytes, Values, Strings, Zeros}
@@ -10,7 +10,7 @@ use Rattle.rv_unit_laws.specs.Sections.{Section, text_section}
 use Rattle.rv_unit_laws.specs.Tables.{Tables, at_start, after, tables, asked}
 use Rattle.rv_unit_laws.specs.Faults.{first_fault}
 use Rattle.rv_map.specs.Map.{Map}
-use Rattle.rv_chain_laws.specs.Stated.{Stated, stated_now, stated_from, is_placed, has_row}
+use Rattle.rv_chain_laws.specs.Stated.{Stated, stated_now, stated_from, is_placed}
 use Rattle.rv_chain_laws.specs.Sites.{Program, program, form, has_values}
 use Rattle.rv_chain_laws.proofs.Held.{DirectiveHeld, IsHeld, Held, held_of}
 use Rattle.rv_chain_laws.proofs.Homes.{IsHomeIn, homes_from}
@@ -30,11 +30,15 @@ use Rattle.rv_chain.proofs.Started.{started_multiple}
 
 -- ---- one statement
 
-executed_none : (b : Bool) → b ≡ false → (if b then 1 else 0) ≡ 0
-executed_none b e = ap (λ b. if b then 1 else 0) e
+-- a statement that is executed is one instruction, another is none
+abbrev counted : Bool → ℕ
+counted b = if b then 1 else 0
 
-executed_one : (b : Bool) → b ≡ true → (if b then 1 else 0) ≡ 1
-executed_one b e = ap (λ b. if b then 1 else 0) e
+executed_none : (b : Bool) → b ≡ false → counted b ≡ 0
+executed_none b e = ap counted e
+
+executed_one : (b : Bool) → b ≡ true → counted b ≡ 1
+executed_one b e = ap counted e
 
 module _ (k : ℕ) (t : Tables) (starts : List ℕ) (i : Item) (v : Expression → Value) (valued : Bool) (home : Section) (asks : ℕ)
     (is_valued : home.executable ≡ false → valued ≡ true)
