@@ -8,3 +8,7 @@ pub mod SoFarItems
 pub mod Measuring
 pub mod SoFarSized
 pub mod Itemized
+pub mod Sound
+pub mod Begins
+pub mod Started
+pub mod SuitsAll

@@ -19,4 +19,5 @@ pub use align::{asked_bytes, asked_power, padding, strings_size, values_size};
 pub use place::{Home, Place};
 pub use scope::Scope;
 pub use section::{Extent, Section};
+pub use tables::Given;
 pub use unit::Unit;
