@@ -1,7 +1,7 @@
 //! The statements of a source as items: their bytes, one behind the other in each section, and which have a row in the
 //! map.
 
-ghost use Rattle.std.specs.Prelude.{◌≡◌, ◌&&◌, ◌+◌, ◌*◌, ◌<◌, ◌≤◌, ◌^◌, ℕ, true, false, length, map, slice_index, IfOk};
+ghost use Rattle.std.specs.Prelude.{◌≡◌, ◌&&◌, ◌+◌, ◌*◌, ◌<◌, ◌≤◌, ◌^◌, ℕ, true, false, length, map, slice_index, slice_set, IfOk};
 ghost use Rattle.rv_text_laws.specs.Values as values;
 ghost use Rattle.rv_text.specs.Eval.{IsOutcome};
 ghost use Rattle.rv_statement.specs.View.{bytes_of, quoted, statement_of};
@@ -14,7 +14,7 @@ ghost use Rattle.rv_chain_laws.specs.Fits.{is_low};
 ghost use Rattle.rv_link_laws.specs.Items.{AreItems};
 ghost use Rattle.rv_link_laws.specs.Suits.{IsMultiple};
 ghost use Rattle.rv_chain.specs.Sized.{AreSized, IsAligned, IsPadded, IsSized};
-ghost use Rattle.rv_chain.specs.Measured.{stretch, is_executed, IsSize};
+ghost use Rattle.rv_chain.specs.Measured.{stretch, is_executed, IsSize, IsExtentAt};
 
 use crate::instruction::constant;
 use rv_link::Item;
@@ -24,7 +24,7 @@ use rv_unit::{
     Extent, Place, Scope, Section, Unit, asked_bytes, asked_power, padding, strings_size,
     values_size,
 };
-use std::alloc::Global;
+use std::alloc::{AllocError, Global};
 
 /// The longest section, in bytes.
 const LONGEST_SECTION: u64 = 1 << 28;
@@ -247,28 +247,58 @@ fn in_text(section: Section<'_>) -> bool
     section.loaded && section.executable
 }
 
+/// The bytes that a section has so far.
+fn end(ends: &[u32], section: u32) -> u32
+    requires { section < length ends.now }
+    ensures { result ≡ slice_index ends.now section }
+{
+    ends[section as usize]
+}
+
+/// So many sections without a byte.
+#[tactic(auto, using(crate::proofs::Itemized::none_behind))]
+fn no_bytes(alloc: Global, count: usize) -> Result<Vec<u32>, AllocError>
+    ensures count { IfOk result (λ ends. length ends.items ≡ count) }
+    ensures none { IfOk result (λ ends. (j : ℕ) → slice_index ends.items j ≡ 0) }
+{
+    let mut ends = Vec::new(alloc);
+    for _ in 0..count {
+        ends.push(0)?;
+    }
+    Ok(ends)
+}
+
+/// The section at a place.
+#[tactic(auto, using(crate::proofs::Itemized::got_map, crate::proofs::Itemized::read_map))]
+fn extent_at<'a>(extents: &[Extent<'a>], section: u32) -> Extent<'a>
+    requires { section < length extents.now }
+    ensures { IsExtentAt extents.now section result }
+{
+    extents[section as usize]
+}
+
 /// The item of the statement that is next, in a section that has so many bytes before it.
 fn next_item<'a>(
     scope: &Scope<'_, 'a>,
     statement: &Statement<'a>,
     place: Place,
-    extent: Extent<'_>,
+    extent: &Extent<'_>,
     offset: u32,
 ) -> Result<Item, SourceFault>
     requires { offset ≤ 2 ^ 28 }
     ensures section { IfOk result (λ x. x.section ≡ place.section) }
     ensures offset { IfOk result (λ x. x.offset ≡ offset) }
     ensures line { IfOk result (λ x. x.line ≡ (statement.now).line) }
-    ensures text { IfOk result (λ x. x.text ≡ goes_to_text (section_of (extent.entry).section)) }
-    ensures shown { IfOk result (λ x. (index : ℕ) → IsFilled (scope.now).unit.now → IsScope scope.now index → x.shown ≡ (is_placed (passed (said (scope.now).unit.now) index) (index + 1) (statement_of (statement.now).kind) && (extent.entry).section.loaded)) }
+    ensures text { IfOk result (λ x. x.text ≡ goes_to_text (section_of (extent.now).section)) }
+    ensures shown { IfOk result (λ x. (index : ℕ) → IsFilled (scope.now).unit.now → IsScope scope.now index → x.shown ≡ (is_placed (passed (said (scope.now).unit.now) index) (index + 1) (statement_of (statement.now).kind) && (extent.now).section.loaded)) }
     ensures absent { IfOk result (λ x. x.shown ≡ false → x.bytes ≡ 0) }
     ensures sized { IfOk result (λ x. (index : ℕ) → IsFilled (scope.now).unit.now → IsScope scope.now index → x.shown ≡ true
-        → IsSized (λ e. laws.value (laws.tables (said (scope.now).unit.now)) true (index + 1) (place_of place) e) (extent.entry).section.executable x (extent.entry).alignment (statement_of (statement.now).kind)) }
+        → IsSized (λ e. laws.value (laws.tables (said (scope.now).unit.now)) true (index + 1) (place_of place) e) (extent.now).section.executable x (extent.now).alignment (statement_of (statement.now).kind)) }
     ensures fits { IfOk result (λ x. x.offset + x.bytes ≤ 2 ^ 28) }
 {
     let line = statement.line;
     let shown = placed(scope, &statement.kind) && extent.section.loaded;
-    let bytes = shown_size(shown, scope, statement, place, extent, offset)?;
+    let bytes = shown_size(shown, scope, statement, place, *extent, offset)?;
     fitting(u64::from(offset) + u64::from(bytes), line)?;
     Ok(Item {
         section: place.section,
@@ -279,6 +309,15 @@ fn next_item<'a>(
         executed: executed(&statement.kind),
         text: in_text(extent.section),
     })
+}
+
+/// Adds the bytes of an item to its section, which has those before it.
+fn grow(ends: &mut Vec<u32>, item: Item)
+    requires section { item.section < length ends.old.items }
+    requires fits { item.offset + item.bytes ≤ 2 ^ 28 }
+    ensures { ends.new.items ≡ slice_set ends.old.items item.section (item.offset + item.bytes) }
+{
+    ends[item.section as usize] = item.offset + item.bytes;
 }
 
 /// The items of a source's statements, and the bytes of each section behind the last of them.
@@ -296,13 +335,14 @@ pub(crate) fn items(
     let statements = unit.statements();
     let places = unit.places();
     let extents = unit.sections();
-    let mut ends = vec![in alloc; 0u32; extents.len()]?;
+    let mut ends = no_bytes(alloc, extents.len())?;
     let mut items = Vec::new(alloc);
     for index in 0..statements.len() {
         let place = places[index];
-        let section = place.section as usize;
-        let item = next_item(&scope, &statements[index], place, extents[section], ends[section])?;
-        ends[section] = item.offset + item.bytes;
+        let extent = extent_at(extents, place.section);
+        let offset = end(ends.as_slice(), place.section);
+        let item = next_item(&scope, &statements[index], place, &extent, offset)?;
+        grow(&mut ends, item);
         items.push(item)?;
         scope.pass()?;
     }
