@@ -5,7 +5,6 @@ pub mod SoFarPieces
 pub mod Standing
 pub mod Whole
 pub mod SoFarItems
-pub mod Measuring
 pub mod SoFarSized
 pub mod Itemized
 pub mod Sound
