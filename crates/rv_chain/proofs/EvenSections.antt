@@ -1,9 +1,9 @@
 -- Sections of code begin and end at even places.
 
-use Rattle.std.proofs.Common.{◌≡◌, ℕ, zero, suc, ◌+◌, ◌%◌, Bool, true, false, List, [], ◌∷◌, ◌++◌, refl, sym, ap, ◌∙◌, subst, arith, Option, Some, None}
+use Rattle.std.proofs.Common.{◌≡◌, ℕ, zero, suc, ◌+◌, ◌%◌, Bool, true, false, List, [], ◌∷◌, ◌++◌, refl, sym, ap, ◌∙◌, arith, Option, Some, None}
 use Rattle.std.proofs.lemmas.Bool.{and_parts, eqb-true, eq-eqb}
 use Rattle.std.specs.List.{AllByRecursion}
-use Rattle.std.specs.Prelude.{◌==◌, ◌&&◌, nat_lt, max, length, slice_index_or, if◌then◌else◌}
+use Rattle.std.specs.Prelude.{◌==◌, nat_lt, max, length, slice_index_or, if◌then◌else◌}
 use Rattle.rv_text_laws.specs.Values.{Value}
 use Rattle.rv_statement.specs.declared.directive.Choice.{Choice}
 use Rattle.rv_statement.specs.declared.directive.Choice.TheVariants.{Push, Pop}
@@ -16,7 +16,7 @@ use Rattle.rv_chain_laws.specs.Stated.{Stated, stated_now, stated_from, is_place
 use Rattle.rv_chain_laws.proofs.Held.{Held, IsHeld, DirectiveHeld, held_of}
 use Rattle.rv_link.specs.declared.rows.Item.{Item}
 use Rattle.rv_link_laws.specs.Bytes.{AreEven}
-use Rattle.rv_link_laws.specs.Items.{AreItems, IsItem, grown}
+use Rattle.rv_link_laws.specs.Items.{AreItems, grown}
 use Rattle.rv_chain.specs.Code.{value_at}
 use Rattle.rv_chain.specs.Sized.{AreSized, IsSized, IsSizedDirective, IsPadded}
 use Rattle.rv_chain.proofs.HeldCode.{all_in_text}
@@ -30,7 +30,7 @@ AnyPlace o alignments = (j : ℕ) → (section_at o j).executable ≡ true → s
 abbrev IsFree : Tables → Type 0
 IsFree t = AnyPlace t.opened t.alignments
 
-at_first_place : (j : ℕ) → slice_index_or (1 ∷ []) j 1 ≡ 1
+at_first_place : (j : ℕ) → slice_index_or at_start.alignments j 1 ≡ 1
 at_first_place zero = refl
 at_first_place (suc zero) = refl
 at_first_place (suc (suc j)) = refl
@@ -222,8 +222,7 @@ even_sections ss is last sound items sized j good =
     let section = slice_index_or (tables ss).opened.sections j text_section in
     let code = (and_parts section.loaded section.executable good).1 in
     let free = free_all at_start 1 ss (λ j code. at_first_place j) j code in
-    let place : j ≡ 0 + j = omega arith in
-    (
+    let place : j ≡ 0 + j = omega arith in (
       ap (λ n. begins_at (tables ss) n section) (sym place) ∙ begins_even (tables ss) j section good free,
       ap (λ n. last n % 2) (sym place) ∙ ends_even (tables ss) j 1 at_start (λ j. 0) last ss is items sized (held_of 1 (ss ∷ []) (sound, tt)) (all_in_text ss j good) refl,
     )

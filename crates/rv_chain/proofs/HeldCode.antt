@@ -1,6 +1,6 @@
 -- The sections of code hold the bytes of their statements.
 
-use Rattle.std.proofs.Common.{◌≡◌, ℕ, zero, suc, ◌+◌, Bool, true, false, List, [], ◌∷◌, ◌++◌, length, map, refl, sym, ap, ◌∙◌, subst, arith, Some, None}
+use Rattle.std.proofs.Common.{◌≡◌, ℕ, zero, suc, ◌+◌, Bool, true, false, List, [], ◌∷◌, ◌++◌, length, map, refl, sym, ap, ◌∙◌, arith, None}
 use Rattle.std.proofs.lemmas.Bool.{eqb-true}
 use Rattle.std.proofs.lemmas.List.{length-map}
 use Rattle.std.specs.Global.{Vec}
@@ -13,7 +13,7 @@ use Rattle.rv_unit_laws.specs.Sections.{Section, text_section, goes_to_text}
 use Rattle.rv_unit_laws.specs.Tables.{Tables, at_start, after, tables}
 use Rattle.rv_chain_laws.specs.Contents.{code_bytes}
 use Rattle.rv_chain_laws.specs.Fits.{sites_in}
-use Rattle.rv_chain_laws.specs.Sites.{Program, Site, program, form, tables_in, place_of, entries_of, sites_of}
+use Rattle.rv_chain_laws.specs.Sites.{Program, Site, program, form, tables_in, entries_of, sites_of}
 use Rattle.rv_chain_laws.specs.Stated.{Stated, stated, stated_now, stated_from}
 use Rattle.rv_chain_laws.proofs.Held.{held_of}
 use Rattle.rv_chain_laws.proofs.Homes.{IsHomeIn, all_join, all_map, homes_from}
@@ -34,7 +34,7 @@ all_in_text ss j good =
     let sections = (tables ss).opened.sections in
     all_map (IsHomeIn (λ file. sections)) (λ s. (s.section == j) ≡ true → goes_to_text s.home ≡ true) (stated (ss ∷ []))
     (λ s at same.
-      ap goes_to_text (sym (got_or sections s.section text_section s.home at) ∙ ap (λ n. slice_index_or sections n text_section) (eqb-true s.section j same)) ∙ good)
+    ap goes_to_text (sym (got_or sections s.section text_section s.home at) ∙ ap (λ n. slice_index_or sections n text_section) (eqb-true s.section j same)) ∙ good)
     (all_join (IsHomeIn (λ file. sections)) (stated_from 1 1 at_start ss) [] (homes_from (λ file. sections) 1 1 at_start ss refl (text_section, refl)) tt)
 
 -- the code of a section is the same by the values of the program of its one source
