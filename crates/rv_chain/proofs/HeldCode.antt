@@ -11,6 +11,9 @@ use Rattle.rv_statement.specs.Statement.{Spoken}
 use Rattle.rv_unit_laws.specs.Faults.{first_fault}
 use Rattle.rv_unit_laws.specs.Sections.{Section, text_section, goes_to_text}
 use Rattle.rv_unit_laws.specs.Tables.{Tables, at_start, after, tables}
+use Rattle.rv_unit.specs.Sections.{extent_section}
+use Rattle.rv_unit.specs.Unit.{said, IsFilled}
+use Rattle.rv_unit.specs.declared.unit.Unit.{Unit as SourceUnit}
 use Rattle.rv_chain_laws.specs.Contents.{code_bytes}
 use Rattle.rv_chain_laws.specs.Fits.{sites_in}
 use Rattle.rv_chain_laws.specs.Sites.{Program, Site, program, form, tables_in, entries_of, sites_of}
@@ -91,3 +94,14 @@ listed (v ∷ vectors) (suc j) = listed vectors j
 
 pub lists_count : (vectors : List (Vec ℕ)) → length (lists_of vectors) ≡ length vectors
 lists_count vectors = length-map vectors (λ (v : Vec ℕ). v.items)
+
+-- what `code` says of its vectors, of their lists
+pub listed_code : (ss : List Spoken) (vectors : List (Vec ℕ)) → ((j : ℕ) → bytes_in vectors j ≡ section_code (tables ss) j (stated (ss ∷ [])))
+    → (j : ℕ) → slice_index_or (lists_of vectors) j [] ≡ section_code (tables ss) j (stated (ss ∷ []))
+listed_code ss vectors code j = listed vectors j ∙ code j
+
+-- as many vectors as a unit has sections
+pub each_vector : (u : SourceUnit) (vectors : List (Vec ℕ)) → IsFilled u → length vectors ≡ length u.tables.extents.items → AreEach (tables (said u)).opened.sections (lists_of vectors)
+each_vector u vectors filled count =
+    each_one (tables (said u)).opened.sections (lists_of vectors)
+    (lists_count vectors ∙ count ∙ sym (length-map u.tables.extents.items extent_section) ∙ ap (λ t. length t.opened.sections) filled.tables)
