@@ -7,3 +7,7 @@ pub mod Whole
 pub mod SoFarItems
 pub mod HeldCode
 pub mod EvenSections
+pub mod Sound
+pub mod Begins
+pub mod Started
+pub mod SuitsAll
