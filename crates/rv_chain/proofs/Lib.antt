@@ -7,6 +7,9 @@ pub mod Whole
 pub mod SoFarItems
 pub mod HeldCode
 pub mod EvenSections
+pub mod Measuring
+pub mod SoFarSized
+pub mod Itemized
 pub mod Sound
 pub mod Begins
 pub mod Started

@@ -7,6 +7,7 @@ mod fault;
 mod instruction;
 #[cfg(test)]
 mod instruction_tests;
+mod items;
 mod options;
 mod pieces;
 mod running;
