@@ -1,6 +1,8 @@
 pub mod Adding
+pub mod Figures
 pub mod SoFar
 pub mod StatementKinds
+pub mod SoFarData
 pub mod SoFarPieces
 pub mod Standing
 pub mod Whole
