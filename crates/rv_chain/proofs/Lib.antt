@@ -1,5 +1,6 @@
 pub mod Adding
 pub mod Figures
+pub mod Growing
 pub mod SoFar
 pub mod StatementKinds
 pub mod SoFarData

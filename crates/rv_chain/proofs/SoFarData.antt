@@ -23,7 +23,7 @@ use Rattle.rv_link.specs.declared.rows.Item.{Item}
 use Rattle.rv_link.specs.declared.numbers.Numbers.{Numbers}
 use Rattle.rv_link.specs.Numbers.{AreAddresses, AreOf, StandAt, IsNumber, Gives, Counts}
 use Rattle.rv_link.specs.Rows.{address_of, row_of, rows_from}
-use Rattle.rv_link_laws.specs.Items.{IsItem, AreItems, grown, entries_by, site_of, sites_by, nth_address}
+use Rattle.rv_link_laws.specs.Items.{AreItems, entries_by, site_of, sites_by, nth_address}
 use Rattle.rv_link_laws.specs.Bytes.{HoldBytes, AreEach}
 use Rattle.rv_link_laws.proofs.Addresses.{addresses_are}
 use Rattle.rv_link_laws.proofs.Sited.{entries_are, sites_are}
@@ -77,21 +77,6 @@ data_begin ss starts is globals sections empty last m laid =
     }
 
 -- ---- what is known of the statement at an index
-
-item_left : (k i : ℕ) (t : Tables) (before last : ℕ → ℕ) (ss : List Spoken) (is : List Item) (s : Spoken) (rest : List Spoken) (x : Item) (more : List Item)
-    → AreItems k t before ss is last → drop i ss ≡ s ∷ rest → drop i is ≡ x ∷ more → (f : ℕ → ℕ) × IsItem (stated_now 1 (i + k) (after_all t k (take i ss)) s) f x
-item_left k zero t before last [] is s rest x more h e g = absurd (cc)
-item_left k (suc i) t before last [] is s rest x more h e g = absurd (cc)
-item_left k i t before last (y ∷ ys) [] s rest x more h e g = absurd h
-item_left k zero t before last (y ∷ ys) (z ∷ zs) s rest x more h e g =
-    let same : y ≡ s = cc in
-    let alike : z ≡ x = cc in
-    let n : k ≡ 0 + k = omega arith in
-    (before, subst (λ n. IsItem (stated_now 1 n t s) before x) n (subst (λ s. IsItem (stated_now 1 k t s) before x) same (subst (λ x. IsItem (stated_now 1 k t y) before x) alike h.0)))
-item_left k (suc i) t before last (y ∷ ys) (z ∷ zs) s rest x more h e g =
-    let n : i + suc k ≡ suc i + k = omega arith in
-    let found = item_left (suc k) i (after t k y.says) (grown before z) last ys zs s rest x more h.1 e g in
-    (found.0, subst (λ n. IsItem (stated_now 1 n (after_all (after t k y.says) (suc k) (take i ys)) s) found.0 x) n found.1)
 
 abbrev SizedAt : Tables → ℕ → Tables → Spoken → Item → Type 0
 SizedAt all k t s x =
