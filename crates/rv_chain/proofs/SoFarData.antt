@@ -29,31 +29,11 @@ use Rattle.rv_link_laws.proofs.Addresses.{addresses_are}
 use Rattle.rv_link_laws.proofs.Sited.{entries_are, sites_are}
 use Rattle.rv_chain.specs.Code.{GrowsBy, bytes_in, value_at}
 use Rattle.rv_chain.specs.Sized.{IsSized, AreSized}
+use Rattle.rv_chain.specs.DataSoFar.{IsLaid, IsDataTo, DataTo, sites_left}
 use Rattle.rv_chain.specs.Valued.{AreValued, IsData, GivesData, Spells, is_figure, is_filled}
 use Rattle.rv_chain.proofs.Figures.{all_told, valued_says}
 use Rattle.rv_chain.proofs.SoFarItems.{passed_next}
 use Rattle.rv_chain.proofs.Standing.{stated_at, stated_next, all_at}
-
--- where the statements stand, and what names have which addresses
-pub record IsLaid (ss : List Spoken) (starts : List ℕ) (is : List Item) (globals : List Global) (last : ℕ → ℕ) (m : Map) : Type 0 where
-  pub items : AreItems 1 at_start (λ j. 0) ss is last
-  pub sized : AreSized (tables ss) 1 at_start ss is
-  pub rows : m.rows ≡ rows_from 1 starts 1 is
-  pub names : m.globals ≡ globals
-
--- the statements that are left, those that have a row
-abbrev pub sites_left : List ℕ → List Spoken → List Item → ℕ → List Site
-sites_left starts ss is i = sites_by starts (i + 1) (passed ss i) (drop i ss) (drop i is)
-
--- what is there so far and what the rest spells make up the whole
-pub record IsDataTo (p : Program) (starts : List ℕ) (ss : List Spoken) (is : List Item) (i : ℕ) (sections : List (Vec ℕ)) : Type 0 where
-  pub bytes : (j : ℕ) → is_filled (section_at (tables ss).opened j) ≡ true
-      → bytes_in sections j ++ flat_map (spelled p) (sites_in (sites_left starts ss is i) 1 j) ≡ flat_map (spelled p) (sites_in (sites_by starts 1 at_start ss is) 1 j)
-  pub valued : AreValued p starts (i + 1) (passed ss i) (drop i ss) (drop i is) → AreValued p starts 1 at_start ss is
-
-abbrev pub DataTo : List Spoken → List ℕ → List Item → List Global → ℕ → List (Vec ℕ) → Type 0
-DataTo ss starts is globals i sections =
-    (last : ℕ → ℕ) (m : Map) → IsLaid ss starts is globals last m → IsDataTo (program (ss ∷ []) m) starts ss is i sections
 
 -- ---- before the first statement
 

@@ -1,18 +1,20 @@
 //! The bytes of a source's data.
 
-ghost use Rattle.std.specs.Prelude.{◌≡◌, ◌<◌, true, false, None, length, map, IfOk, OnOk};
+ghost use Rattle.std.specs.Prelude.{◌≡◌, ◌<◌, ◌+◌, true, false, List, None, length, map, IfOk, OnOk};
 ghost use Rattle.rv_statement.specs.View.{statement_of};
 ghost use Rattle.rv_unit_laws.specs.Faults.{first_fault};
 ghost use Rattle.rv_unit.specs.Sections.{section_of};
-ghost use Rattle.rv_unit.specs.Unit.{said, IsFilled};
-ghost use Rattle.rv_map.specs.Map.{global_of};
+ghost use Rattle.rv_unit.specs.Unit.{said, IsFilled, IsScope};
+ghost use Rattle.rv_map.specs.Map.{Global, global_of};
+ghost use Rattle.rv_link.specs.Numbers.{AreAddresses};
+ghost use Rattle.rv_chain.specs.DataSoFar.{DataTo};
 ghost use Rattle.rv_chain.specs.Valued.{GivesData, Spells, is_figure};
 
 use crate::code::empty_sections;
 use rv_link::{Addresses, DataFault, Item, Numbers, put_data};
 use rv_statement::StatementKind;
 use rv_unit::{Scope, Section, Unit};
-use std::alloc::Global;
+use std::alloc::Global as Allocator;
 
 /// Adds the bytes that a statement spells to the data of a section; a count of zeros, or an alignment, has so many.
 fn put_bytes<'a>(
@@ -53,9 +55,47 @@ fn put_figure<'a>(
     put_bytes(sections, numbers.place.section, kind, item.bytes, numbers)
 }
 
+/// Adds the bytes of a unit's next statement, which stands at an index, to the data of its section.
+fn put_next<'s, 'u, 'a>(
+    sections: &mut [Vec<u8>],
+    unit: &Unit<'a>,
+    index: usize,
+    scope: &'s Scope<'u, 'a>,
+    starts: &'s [u32],
+    items: &'s [Item],
+    addresses: &'s Addresses<'s>,
+) -> Result<(), DataFault<'a>>
+    requires filled { IsFilled unit.now }
+    requires within { index < length (unit.now).statements.items }
+    requires item { index < length items.now }
+    requires each { length sections.old ≡ length (unit.now).tables.extents.items }
+    ensures data { OnOk result ((globals : List Global) → (scope.now).unit.now ≡ unit.now → IsScope scope.now index → first_fault (said unit.now) ≡ None → AreAddresses addresses.now.names globals
+        → DataTo (said unit.now) starts.now items.now globals index sections.old → DataTo (said unit.now) starts.now items.now globals (index + 1) sections.new) }
+    ensures count { length sections.new ≡ length sections.old }
+{
+    let statement = &unit.statements()[index];
+    let place = unit.places()[index];
+    let extent = unit.sections()[place.section as usize];
+    let numbers = Numbers {
+        scope,
+        starts,
+        items,
+        addresses,
+        place,
+        line: statement.line,
+    };
+    put_figure(
+        sections,
+        extent.section,
+        &statement.kind,
+        items[index],
+        &numbers,
+    )
+}
+
 /// The bytes of each section of data: what its statements spell where the sections start here.
 pub(crate) fn data<'a>(
-    alloc: Global,
+    alloc: Allocator,
     unit: &Unit<'a>,
     items: &[Item],
     starts: &[u32],
@@ -69,26 +109,15 @@ pub(crate) fn data<'a>(
     let addresses = Addresses::of(alloc, globals)?;
     let mut sections = empty_sections(alloc, unit.sections().len())?;
     let mut scope = Scope::new(alloc, unit)?;
-    let statements = unit.statements();
-    let places = unit.places();
-    for index in 0..statements.len() {
-        let statement = &statements[index];
-        let place = places[index];
-        let extent = unit.sections()[place.section as usize];
-        let numbers = Numbers {
-            scope: &scope,
+    for index in 0..unit.statements().len() {
+        put_next(
+            sections.as_mut_slice(),
+            unit,
+            index,
+            &scope,
             starts,
             items,
-            addresses: &addresses,
-            place,
-            line: statement.line,
-        };
-        put_figure(
-            sections.as_mut_slice(),
-            extent.section,
-            &statement.kind,
-            items[index],
-            &numbers,
+            &addresses,
         )?;
         scope.pass()?;
     }

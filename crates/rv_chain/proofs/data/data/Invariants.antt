@@ -1,7 +1,7 @@
 use Rattle.std.proofs.Common.{◌≡◌, length, map}
 use Rattle.rv_map.specs.Map.{global_of}
 use Rattle.rv_unit.specs.Unit.{said, IsScope}
-use Rattle.rv_chain.proofs.SoFarData.{DataTo}
+use Rattle.rv_chain.specs.DataSoFar.{DataTo}
 use Rattle.rv_chain.proofs.data.data.Given as goal
 
 -- the data of the first statements, and the scope of the next
