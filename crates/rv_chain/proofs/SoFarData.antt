@@ -1,6 +1,6 @@
 -- One statement more of the data so far.
 
-use Rattle.std.proofs.Common.{◌≡◌, ℕ, zero, suc, ◌+◌, ◌<◌, ◌≤◌, Bool, true, false, List, [], ◌∷◌, ◌++◌, length, map, take, drop, Option, Some, None, refl, sym, ap, ◌∙◌, subst, append-nil, append_assoc, arith}
+use Rattle.std.proofs.Common.{◌≡◌, ℕ, zero, suc, ◌+◌, ◌<◌, ◌≤◌, Bool, true, false, List, [], ◌∷◌, ◌++◌, length, map, take, drop, get_or, Option, Some, None, refl, sym, ap, ◌∙◌, subst, append-nil, append_assoc, arith}
 use Rattle.std.specs.Global.{Vec}
 use Rattle.std.specs.Prelude.{◌==◌, ◌&&◌, not, flat_map, unwrap_or, slice_get, slice_index_or, if◌then◌else◌}
 use Rattle.std.specs.List.{AllByRecursion}
@@ -125,6 +125,12 @@ section_is [] zero d home e = absurd (cc)
 section_is [] (suc j) d home e = absurd (cc)
 section_is (x ∷ xs) zero d home e = cc
 section_is (x ∷ xs) (suc j) d home e = section_is xs j d home e
+
+pub got_map : {A B : Type 0} (f : A → B) (xs : List A) (k : ℕ) (d : A) (y : B) → slice_get (map f xs) k ≡ Some y → f (get_or xs k d) ≡ y
+got_map f [] zero d y e = absurd (cc)
+got_map f [] (suc k) d y e = absurd (cc)
+got_map f (x ∷ xs) zero d y e = cc
+got_map f (x ∷ xs) (suc k) d y e = got_map f xs k d y e
 
 -- what gives the numbers of the statement at an index
 pub record IsNumbering (ss : List Spoken) (starts : List ℕ) (is : List Item) (globals : List Global) (i : ℕ) (s : Spoken) (n : Numbers) : Type 0 where

@@ -56,14 +56,14 @@ fn put_figure<'a>(
 }
 
 /// Adds the bytes of a unit's next statement, which stands at an index, to the data of its section.
-fn put_next<'s, 'u, 'a>(
+fn put_next<'a>(
     sections: &mut [Vec<u8>],
     unit: &Unit<'a>,
     index: usize,
-    scope: &'s Scope<'u, 'a>,
-    starts: &'s [u32],
-    items: &'s [Item],
-    addresses: &'s Addresses<'s>,
+    scope: &Scope<'_, 'a>,
+    starts: &[u32],
+    items: &[Item],
+    addresses: &Addresses<'_>,
 ) -> Result<(), DataFault<'a>>
     requires filled { IsFilled unit.now }
     requires within { index < length (unit.now).statements.items }
@@ -77,10 +77,10 @@ fn put_next<'s, 'u, 'a>(
     let place = unit.places()[index];
     let extent = unit.sections()[place.section as usize];
     let numbers = Numbers {
-        scope,
-        starts,
-        items,
-        addresses,
+        scope: &*scope,
+        starts: &*starts,
+        items: &*items,
+        addresses: &*addresses,
         place,
         line: statement.line,
     };
@@ -91,6 +91,36 @@ fn put_next<'s, 'u, 'a>(
         items[index],
         &numbers,
     )
+}
+
+/// The bytes of each section of data, where names have these addresses.
+fn all_data<'a>(
+    alloc: Allocator,
+    unit: &Unit<'a>,
+    starts: &[u32],
+    items: &[Item],
+    addresses: &Addresses<'_>,
+) -> Result<Vec<Vec<u8>>, DataFault<'a>>
+    requires filled { IsFilled unit.now }
+    requires good { first_fault (said unit.now) ≡ None }
+    requires each { length items.now ≡ length (unit.now).statements.items }
+    ensures { IfOk result (λ sections. (globals : List Global) → AreAddresses addresses.now.names globals → GivesData (said unit.now) starts.now items.now globals (map (λ b. b.items) sections.items)) }
+{
+    let mut sections = empty_sections(alloc, unit.sections().len())?;
+    let mut scope = Scope::new(alloc, unit)?;
+    for index in 0..unit.statements().len() {
+        put_next(
+            sections.as_mut_slice(),
+            unit,
+            index,
+            &scope,
+            starts,
+            items,
+            addresses,
+        )?;
+        scope.pass()?;
+    }
+    Ok(sections)
 }
 
 /// The bytes of each section of data: what its statements spell where the sections start here.
@@ -107,19 +137,5 @@ pub(crate) fn data<'a>(
     ensures { IfOk result (λ sections. GivesData (said unit.now) starts.now items.now (map global_of globals.now) (map (λ b. b.items) sections.items)) }
 {
     let addresses = Addresses::of(alloc, globals)?;
-    let mut sections = empty_sections(alloc, unit.sections().len())?;
-    let mut scope = Scope::new(alloc, unit)?;
-    for index in 0..unit.statements().len() {
-        put_next(
-            sections.as_mut_slice(),
-            unit,
-            index,
-            &scope,
-            starts,
-            items,
-            &addresses,
-        )?;
-        scope.pass()?;
-    }
-    Ok(sections)
+    all_data(alloc, unit, starts, items, &addresses)
 }
