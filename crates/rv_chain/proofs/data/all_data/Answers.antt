@@ -15,7 +15,7 @@ pub put_next-requires : goal.put_next-requires
 put_next-requires c =
     let u = c.args.unit.now in
     let i = c.loop-index.index in
-    let within : i < length u.statements.items = subst (λ l. i < length l) c.statements.ensures c.loop-index-test.true in
+    let within : i < length u.statements.items = subst (λ l. i < length l) c.statements-index-end.ensures c.loop-index-test.true in
     record { filled = c.requires.filled; within = within; item = subst (λ n. i < n) (sym c.requires.each) within; each = c.loop-index.invariant.3 }
 
 pub loop-index-preserved : goal.loop-index-preserved
@@ -23,7 +23,7 @@ loop-index-preserved c =
     let u = c.args.unit.now in
     let i = c.loop-index.index in
     let same = c.loop-index.invariant.0 in
-    let inside : i < length u.statements.items = subst (λ l. i < length l) c.statements.ensures c.loop-index-test.true in
+    let inside : i < length u.statements.items = subst (λ l. i < length l) c.statements-index-end.ensures c.loop-index-test.true in
     let within = subst (λ n. i < n) (sym (length-map u.statements.items said_by)) inside in
     let within' = subst (λ w. i < length (said w)) (sym same) within in (
       ap (λ b. b.now) c.in_ok-pass.ensures.unit ∙ same,
@@ -36,7 +36,7 @@ pub returns : goal.returns
 returns c = λ globals names.
     let u = c.args.unit.now in
     let i = c.loop-index.index in
-    let past = subst (λ l. length l ≤ i) c.statements.ensures c.loop-index-test.false in
+    let past = subst (λ l. length l ≤ i) c.statements-index-end.ensures c.loop-index-test.false in
     let past' = subst (λ n. n ≤ i) (sym (length-map u.statements.items said_by)) past in
     let count = c.loop-index.invariant.3 ∙ sym (length-map u.tables.extents.items extent_section) ∙ ap (λ (t : Tables). length t.opened.sections) c.requires.filled.tables in
     data_all (said u) c.args.starts.now c.args.items.now globals i c.loop-index.sections.items (at_drop_all (λ l. l) (said u) i past') count (c.loop-index.invariant.2 globals names)

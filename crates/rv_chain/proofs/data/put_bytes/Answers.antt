@@ -18,6 +18,6 @@ returns-clause-spells c =
       let counts' : Counts v says c.from.result = subst (λ n. Counts v says n) (sym c.from.ensures) counts in
       grows_set old k c.put_data.new.bytes (spelled_said v says c.args.count) c.requires.section
       (told v gives counts'
-      ∙ ap (λ l. l ++ spelled_said v says c.from.result) (read_at old k x c.requires.section c.index-sections-section.is)
+      ∙ ap (λ l. l ++ spelled_said v says c.from.result) (read_at old k x c.requires.section)
       ∙ ap (λ n. bytes_in old k ++ spelled_said v says n) c.from.ensures))
     c.put_data.ensures

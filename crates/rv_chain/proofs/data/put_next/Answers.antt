@@ -81,4 +81,4 @@ returns-clause-data c =
         left = λ f. told.1 (ap (λ h. is_figure item h) (got_map extent_section c.sections.result.now p.section _ st.home here) ∙ f);
       })
       so_far)
-    (on_ok_both c.put_figure.result c.put_figure.ensures.put c.put_figure.ensures.left)
+    (on_ok_both _ _ c.put_figure.result c.put_figure.ensures.put c.put_figure.ensures.left)
