@@ -4,6 +4,7 @@ use Rattle.rv_statement.specs.View.{said_by}
 use Rattle.rv_unit_laws.specs.Tables.{Tables}
 use Rattle.rv_unit.specs.Unit.{said}
 use Rattle.rv_unit.specs.Sections.{extent_section}
+use Rattle.rv_chain.specs.DataSoFar.{DataTo}
 use Rattle.rv_chain.proofs.SoFarData.{data_begin, data_all}
 use Rattle.rv_chain.proofs.data.all_data.Goals as goal
 
@@ -16,7 +17,7 @@ put_next-requires c =
     let u = c.args.unit.now in
     let i = c.loop-index.index in
     let within : i < length u.statements.items = subst (λ l. i < length l) c.statements-index-end.ensures c.loop-index-test.true in
-    record { filled = c.requires.filled; within = within; item = subst (λ n. i < n) (sym c.requires.each) within; each = c.loop-index.invariant.3 }
+    record { filled = c.requires.filled; within = within; item = subst (λ n. i < n) (sym c.requires.each) within; each = ap length c.as_mut_slice.ensures.value ∙ c.loop-index.invariant.3 }
 
 pub loop-index-preserved : goal.loop-index-preserved
 loop-index-preserved c =
@@ -28,8 +29,9 @@ loop-index-preserved c =
     let within' = subst (λ w. i < length (said w)) (sym same) within in (
       ap (λ b. b.now) c.in_ok-pass.ensures.unit ∙ same,
       c.in_ok-pass.ensures.passes i within' c.loop-index.invariant.1,
-      λ globals names. c.in_ok-put_next.ensures.data globals same c.loop-index.invariant.1 c.requires.good names (c.loop-index.invariant.2 globals names),
-      c.in_ok-put_next.ensures.count ∙ c.loop-index.invariant.3,
+      λ globals names. c.in_ok-put_next.ensures.data globals same c.loop-index.invariant.1 c.requires.good names
+      (subst (λ l. DataTo (said u) c.args.starts.now c.args.items.now globals i l) (sym c.as_mut_slice.ensures.value) (c.loop-index.invariant.2 globals names)),
+      c.in_ok-put_next.ensures.count ∙ ap length c.as_mut_slice.ensures.value ∙ c.loop-index.invariant.3,
     )
 
 pub returns : goal.returns
