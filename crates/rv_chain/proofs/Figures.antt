@@ -1,12 +1,12 @@
 -- The numbers in data: each value has one.
 
-use Rattle.std.proofs.Common.{◌≡◌, ℕ, zero, suc, ◌+◌, ◌*◌, ◌<◌, Bool, true, false, List, [], ◌∷◌, ◌++◌, length, Option, Some, None, refl, sym, ap, ◌∙◌, subst, arith}
+use Rattle.std.proofs.Common.{◌≡◌, ℕ, zero, suc, ◌<◌, Bool, true, false, List, [], ◌∷◌, ◌++◌, Option, Some, None, refl, ap, ◌∙◌, subst, arith}
 use Rattle.std.proofs.lemmas.List.{append_cancel_left}
 use Rattle.std.specs.Prelude.{◌&&◌, flat_map, is_some, unwrap_or}
 use Rattle.std.specs.List.{list_all}
 use Rattle.rv_text_laws.specs.Expression.{Primary}
 use Rattle.rv_text_laws.specs.Values.{Value, Constant, Symbolic, Difference, Faulty}
-use Rattle.rv_statement.specs.Statement.{Statement, Label, Numbered, Instruction, Directs, Expression, Directive, Sets, Aligns_to_power, Aligns_to_bytes, Values, Strings, Zeros}
+use Rattle.rv_statement.specs.Statement.{Statement, Label, Numbered, Instruction, Directs, Expression, Directive, Aligns_to_power, Aligns_to_bytes, Values, Zeros}
 use Rattle.rv_statement.specs.View.{statement_of, plain_of, with_expression, bytes_of}
 use Rattle.rv_statement.specs.declared.directive.Width.{Width}
 use Rattle.rv_statement.specs.declared.directive.Width.TheVariants as widths
@@ -17,13 +17,12 @@ use Rattle.rv_statement.specs.declared.statement.Plain.TheVariants as plains
 use Rattle.rv_statement.specs.declared.statement.StatementKind.{StatementKind}
 use Rattle.rv_statement.specs.declared.statement.StatementKind.TheVariants as kinds
 use Rattle.rv_unit_laws.specs.Sections.{Section}
-use Rattle.rv_unit_laws.specs.Tables.{asked}
 use Rattle.rv_chain_laws.specs.Sites.{resolved, expressions}
 use Rattle.rv_chain_laws.specs.Fits.{is_constant}
 use Rattle.rv_chain_laws.specs.Start.{little_endian}
 use Rattle.rv_chain_laws.proofs.Held.{IsHeld, DirectiveHeld}
 use Rattle.rv_link.specs.declared.rows.Item.{Item}
-use Rattle.rv_chain.specs.Sized.{IsSized, IsSizedDirective, IsAligned}
+use Rattle.rv_chain.specs.Sized.{IsSized, IsSizedDirective}
 
 -- ---- bytes that are the same whatever number stands in for one that is missing: none is missing
 

@@ -1,36 +1,36 @@
 -- One statement more of the data so far.
 
-use Rattle.std.proofs.Common.{◌≡◌, ℕ, zero, suc, ◌+◌, ◌<◌, ◌≤◌, Bool, true, false, List, [], ◌∷◌, ◌++◌, length, map, take, drop, get_or, Option, Some, None, refl, sym, ap, ◌∙◌, subst, append-nil, append_assoc, arith}
+use Rattle.std.proofs.Common.{◌≡◌, ℕ, zero, suc, ◌+◌, ◌<◌, Bool, true, false, List, [], ◌∷◌, ◌++◌, length, map, take, drop, get_or, Some, None, refl, sym, ap, ◌∙◌, subst, append-nil, append_assoc, arith}
 use Rattle.std.specs.Global.{Vec}
 use Rattle.std.specs.Prelude.{◌==◌, ◌&&◌, not, flat_map, unwrap_or, slice_get, slice_index_or, if◌then◌else◌}
 use Rattle.std.specs.List.{AllByRecursion}
 use Rattle.std.proofs.lemmas.Bool.{eqb-true, eq-eqb, and_parts}
 use Rattle.std.proofs.lemmas.List.{append_cancel_left}
 use Rattle.rv_map.specs.Map.{Map, Global}
-use Rattle.rv_text_laws.specs.Values.{Value, Constant}
-use Rattle.rv_statement.specs.Statement.{Statement, Directs, Zeros, Values, Spoken, Expression}
+use Rattle.rv_text_laws.specs.Values.{Value}
+use Rattle.rv_statement.specs.Statement.{Directs, Zeros, Values, Spoken, Expression}
 use Rattle.rv_unit_laws.specs.Sections.{Section, text_section, section_at, goes_to_rodata, goes_to_data}
 use Rattle.rv_unit_laws.specs.Tables.{Tables, Place as Standing, at_start, after, after_all, tables, stood, home as home_in, value as value_in_file}
 use Rattle.rv_unit_laws.specs.Faults.{first_fault}
 use Rattle.rv_unit.specs.Sections.{place_of}
 use Rattle.rv_unit.specs.Unit.{said, passed, IsFilled, IsScope}
 use Rattle.rv_chain_laws.specs.Stated.{Stated, stated_now, stated_from}
-use Rattle.rv_chain_laws.specs.Sites.{Program, Site, program, entries_of, sites_of, address_at, address_by, resolved, value, number, address, form, has_values}
+use Rattle.rv_chain_laws.specs.Sites.{Program, Site, program, entries_of, sites_of, address_at, address_by, resolved, value, address, has_values}
 use Rattle.rv_chain_laws.specs.Fits.{sites_in}
-use Rattle.rv_chain_laws.specs.Start.{spelled, spelled_said, little_endian}
+use Rattle.rv_chain_laws.specs.Start.{spelled, spelled_said}
 use Rattle.rv_chain_laws.proofs.Held.{Held, held_of}
 use Rattle.rv_link.specs.declared.rows.Item.{Item}
 use Rattle.rv_link.specs.declared.numbers.Numbers.{Numbers}
 use Rattle.rv_link.specs.Numbers.{AreAddresses, AreOf, StandAt, IsNumber, Gives, Counts}
-use Rattle.rv_link.specs.Rows.{address_of, row_of, rows_from}
-use Rattle.rv_link_laws.specs.Items.{AreItems, entries_by, site_of, sites_by, nth_address}
+use Rattle.rv_link.specs.Rows.{address_of}
+use Rattle.rv_link_laws.specs.Items.{entries_by, site_of, sites_by, nth_address}
 use Rattle.rv_link_laws.specs.Bytes.{HoldBytes, AreEach}
 use Rattle.rv_link_laws.proofs.Addresses.{addresses_are}
 use Rattle.rv_link_laws.proofs.Sited.{entries_are, sites_are}
 use Rattle.rv_chain.specs.Code.{GrowsBy, bytes_in, value_at}
 use Rattle.rv_chain.specs.Sized.{IsSized, AreSized}
 use Rattle.rv_chain.specs.DataSoFar.{IsLaid, IsDataTo, DataTo, sites_left}
-use Rattle.rv_chain.specs.Valued.{AreValued, IsData, GivesData, Spells, is_figure, is_filled}
+use Rattle.rv_chain.specs.Valued.{AreValued, GivesData, Spells, is_figure, is_filled}
 use Rattle.rv_chain.proofs.Figures.{all_told, valued_says}
 use Rattle.rv_chain.proofs.SoFarItems.{passed_next}
 use Rattle.rv_chain.proofs.Standing.{stated_at, stated_next, all_at}
@@ -152,7 +152,7 @@ pub record IsPut (ss : List Spoken) (is : List Item) (i : ℕ) (s : Spoken) (x :
   pub left : is_figure x (stated_at ss i s).home ≡ false → new ≡ old
 
 module _ (ss : List Spoken) (starts : List ℕ) (is : List Item) (globals : List Global) (last : ℕ → ℕ) (m : Map) (laid : IsLaid ss starts is globals last m)
-  (i : ℕ) (s : Spoken) (x : Item) (n : Numbers) (old new : List (Vec ℕ)) (numbering : IsNumbering ss starts is globals i s n) (h : IsPut ss is i s x n old new) where
+    (i : ℕ) (s : Spoken) (x : Item) (n : Numbers) (old new : List (Vec ℕ)) (numbering : IsNumbering ss starts is globals i s n) (h : IsPut ss is i s x n old new) where
   abbrev q : Program
   q = program (ss ∷ []) m
 
@@ -255,10 +255,10 @@ module _ (ss : List Spoken) (starts : List ℕ) (is : List Item) (globals : List
       valued_says (λ a. address q st a) form_of st.home x (slice_index_or (tables ss).alignments x.section 1) s.says e (held_left ss i s good h.here)
       (subst (λ b. IsSized form_of b x (slice_index_or (tables ss).alignments x.section 1) s.says) e (sized_here shown))
       (λ nobits w vs same.
-        let filled : is_filled st.home ≡ true = ap (λ b. not b && not st.home.nobits) e ∙ ap not nobits in
-        let figure : is_figure x st.home ≡ true = ap (λ b. b && is_filled st.home) shown ∙ filled in
-        all_told w (λ a. value q site a) vs (h.wide w vs same)
-        (subst (λ t. spelled_said (or_else 0) t x.bytes ≡ spelled_said (or_else 1) t x.bytes) same (spelled_same figure)))
+      let filled : is_filled st.home ≡ true = ap (λ b. not b && not st.home.nobits) e ∙ ap not nobits in
+      let figure : is_figure x st.home ≡ true = ap (λ b. b && is_filled st.home) shown ∙ filled in
+      all_told w (λ a. value q site a) vs (h.wide w vs same)
+      (subst (λ t. spelled_said (or_else 0) t x.bytes ≡ spelled_said (or_else 1) t x.bytes) same (spelled_same figure)))
 
   valued_more : first_fault ss ≡ None → AreValued q starts (i + 1 + 1) (passed ss (i + 1)) (drop (i + 1) ss) (drop (i + 1) is) → AreValued q starts (i + 1) (passed ss i) (drop i ss) (drop i is)
   valued_more good rest =
@@ -310,7 +310,7 @@ filled_variable home e = go home.loaded home.executable home.nobits home.writabl
     go true false true w e = absurd (cc)
 
 module _ (ss : List Spoken) (starts : List ℕ) (is : List Item) (globals : List Global) (last : ℕ → ℕ) (m : Map) (laid : IsLaid ss starts is globals last m)
-  (i : ℕ) (sections : List (Vec ℕ)) (none : drop i ss ≡ []) (whole : IsDataTo (program (ss ∷ []) m) starts ss is i sections) where
+    (i : ℕ) (sections : List (Vec ℕ)) (none : drop i ss ≡ []) (whole : IsDataTo (program (ss ∷ []) m) starts ss is i sections) where
   held_by : (goes : Section → Bool) → ((home : Section) → goes home ≡ true → is_filled home ≡ true)
       → HoldBytes (program (ss ∷ []) m).sites goes (spelled (program (ss ∷ []) m)) 0 (tables ss).opened.sections (map (λ b. b.items) sections)
   held_by goes filled j e =

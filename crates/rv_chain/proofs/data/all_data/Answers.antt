@@ -36,8 +36,8 @@ loop-index-preserved c =
       ap (λ b. b.now) c.in_ok-pass.ensures.unit ∙ same,
       c.in_ok-pass.ensures.passes i within' c.loop-index.invariant.1,
       λ globals names. subst (λ l. DataTo (said u) c.args.starts.now c.args.items.now globals (i + 1) l) (sym back)
-      (c.in_ok-put_next.ensures.data globals same c.loop-index.invariant.1 c.requires.good names
-      (subst (λ l. DataTo (said u) c.args.starts.now c.args.items.now globals i l) (sym value) (c.loop-index.invariant.2 globals names))),
+          (c.in_ok-put_next.ensures.data globals same c.loop-index.invariant.1 c.requires.good names
+          (subst (λ l. DataTo (said u) c.args.starts.now c.args.items.now globals i l) (sym value) (c.loop-index.invariant.2 globals names))),
       ap length back ∙ count ∙ ap length value ∙ c.loop-index.invariant.3,
     )
 

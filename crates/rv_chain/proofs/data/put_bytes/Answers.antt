@@ -15,9 +15,9 @@ returns-clause-spells c =
     let says = statement_of c.args.kind.now in
     on_ok_weaker c.put_data.result
     (λ told v gives counts.
-      let counts' : Counts v says c.from.result = subst (λ n. Counts v says n) (sym c.from.ensures) counts in
-      grows_set old k c.put_data.new.bytes (spelled_said v says c.args.count) c.requires.section
-      (told v gives counts'
-      ∙ ap (λ l. l ++ spelled_said v says c.from.result) (read_at old k x c.requires.section)
-      ∙ ap (λ n. bytes_in old k ++ spelled_said v says n) c.from.ensures))
+    let counts' : Counts v says c.from.result = subst (λ n. Counts v says n) (sym c.from.ensures) counts in
+    grows_set old k c.put_data.new.bytes (spelled_said v says c.args.count) c.requires.section
+    (told v gives counts'
+    ∙ ap (λ l. l ++ spelled_said v says c.from.result) (read_at old k x c.requires.section)
+    ∙ ap (λ n. bytes_in old k ++ spelled_said v says n) c.from.ensures))
     c.put_data.ensures

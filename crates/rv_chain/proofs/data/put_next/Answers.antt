@@ -1,4 +1,4 @@
-use Rattle.std.proofs.Common.{◌≡◌, ◌+◌, ◌<◌, length, map, get_or, sym, ap, subst, ◌∙◌, refl, false, Some}
+use Rattle.std.proofs.Common.{◌≡◌, ◌<◌, length, map, get_or, sym, ap, subst, ◌∙◌, refl, false, Some}
 use Rattle.std.specs.Prelude.{slice_index_or, slice_get}
 use Rattle.std.proofs.lemmas.List.{drop_more, length-map}
 use Rattle.std.proofs.lemmas.Result.{on_ok_weaker}
@@ -62,23 +62,23 @@ returns-clause-data c =
     let here : slice_get (map extent_section c.sections.result.now) p.section ≡ Some st.home = ap (λ l. slice_get (map extent_section l) p.section) c.sections.ensures ∙ at.home in
     on_ok_weaker c.put_figure.result
     (λ told globals same scope good names so_far.
-      data_more ss c.args.starts.now c.args.items.now globals i (said_by x) item _ c.args.sections.now c.put_figure.new.sections good
-      (record {
-        filled = subst IsFilled (sym same) c.requires.filled;
-        scope = scope;
-        source = ap said same;
-        begins = refl;
-        parts = refl;
-        names = names;
-        stands = at.place;
-      })
-      (record {
-        here = at.here;
-        item = drop_more c.args.items.now i none c.requires.item;
-        home = home;
-        wide = λ w vs e. width_some x.kind w vs e;
-        put = λ f. told.0 (ap (λ h. is_figure item h) (got_map extent_section c.sections.result.now p.section _ st.home here) ∙ f);
-        left = λ f. told.1 (ap (λ h. is_figure item h) (got_map extent_section c.sections.result.now p.section _ st.home here) ∙ f);
-      })
-      so_far)
+    data_more ss c.args.starts.now c.args.items.now globals i (said_by x) item _ c.args.sections.now c.put_figure.new.sections good
+    (record {
+      filled = subst IsFilled (sym same) c.requires.filled;
+      scope = scope;
+      source = ap said same;
+      begins = refl;
+      parts = refl;
+      names = names;
+      stands = at.place;
+    })
+    (record {
+      here = at.here;
+      item = drop_more c.args.items.now i none c.requires.item;
+      home = home;
+      wide = λ w vs e. width_some x.kind w vs e;
+      put = λ f. told.0 (ap (λ h. is_figure item h) (got_map extent_section c.sections.result.now p.section _ st.home here) ∙ f);
+      left = λ f. told.1 (ap (λ h. is_figure item h) (got_map extent_section c.sections.result.now p.section _ st.home here) ∙ f);
+    })
+    so_far)
     (on_ok_both _ _ c.put_figure.result c.put_figure.ensures.put c.put_figure.ensures.left)
