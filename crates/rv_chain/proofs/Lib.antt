@@ -8,6 +8,8 @@ pub mod SoFarPieces
 pub mod Standing
 pub mod Whole
 pub mod SoFarItems
+pub mod HeldCode
+pub mod EvenSections
 pub mod Sound
 pub mod Begins
 pub mod Started
