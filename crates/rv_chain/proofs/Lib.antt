@@ -1,6 +1,9 @@
 pub mod Adding
+pub mod Figures
+pub mod Growing
 pub mod SoFar
 pub mod StatementKinds
+pub mod SoFarData
 pub mod SoFarPieces
 pub mod Standing
 pub mod Whole

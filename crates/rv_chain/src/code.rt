@@ -53,7 +53,7 @@ fn put_found(sections: &mut [Vec<u8>], section: u32, found: Option<Inst>) -> Res
 
 /// So many sections without code.
 #[tactic(auto, using(crate::proofs::SoFar::empty_behind))]
-fn empty_sections(alloc: Global, count: usize) -> Result<Vec<Vec<u8>>, AllocError>
+pub(crate) fn empty_sections(alloc: Global, count: usize) -> Result<Vec<Vec<u8>>, AllocError>
     ensures count { IfOk result (λ sections. length sections.items ≡ count) }
     ensures empty { IfOk result (λ sections. (j : ℕ) → laws.bytes_in sections.items j ≡ []) }
 {
