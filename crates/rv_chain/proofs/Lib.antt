@@ -1,10 +1,15 @@
 pub mod Adding
+pub mod Figures
+pub mod Growing
 pub mod SoFar
 pub mod StatementKinds
+pub mod SoFarData
 pub mod SoFarPieces
 pub mod Standing
 pub mod Whole
 pub mod SoFarItems
+pub mod HeldCode
+pub mod EvenSections
 pub mod SoFarSized
 pub mod Itemized
 pub mod Sound

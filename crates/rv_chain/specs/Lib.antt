@@ -2,6 +2,7 @@ pub mod Added
 pub mod Choices
 pub mod Code
 pub mod Coded
+pub mod DataSoFar
 pub mod Fault
 pub mod Measured
 pub mod Pieces

@@ -3,6 +3,7 @@
 
 mod choices;
 mod code;
+mod data;
 mod fault;
 mod instruction;
 #[cfg(test)]
