@@ -5,3 +5,5 @@ pub mod SoFarPieces
 pub mod Standing
 pub mod Whole
 pub mod SoFarItems
+pub mod Awaited
+pub mod Linking

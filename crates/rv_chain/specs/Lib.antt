@@ -3,6 +3,7 @@ pub mod Choices
 pub mod Code
 pub mod Coded
 pub mod Fault
+pub mod Linking
 pub mod Pieces
 pub mod Running
 pub mod Sized
