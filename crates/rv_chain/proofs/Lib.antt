@@ -7,3 +7,4 @@ pub mod Whole
 pub mod SoFarItems
 pub mod Awaited
 pub mod Linking
+pub mod FirstNames

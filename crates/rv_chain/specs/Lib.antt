@@ -7,4 +7,5 @@ pub mod Linking
 pub mod Pieces
 pub mod Running
 pub mod Sized
+pub mod Undefined
 pub mod Valued
