@@ -13,7 +13,7 @@ use Rattle.rv_isa.specs.Ranges.{IsValid}
 use Rattle.rv_text_laws.specs.Expression.{Primary}
 use Rattle.rv_text_laws.specs.Values.{Value, Constant, Symbolic, Difference, Faulty}
 use Rattle.rv_statement.specs.declared.mnemonic.Mnemonic.{Mnemonic}
-use Rattle.rv_statement.specs.Statement.{Statement, Label, Numbered, Instruction, Directs, Expression, Operand, Register, Value as Of_value, Accesses, Word, Quoted, Directive, Aligns_to_power, Aligns_to_bytes, Values, Strings, Zeros}
+use Rattle.rv_statement.specs.Statement.{Statement, Label, Numbered, Instruction, Directs, Expression, Operand, Register, Value as Of_value, Accesses, Word, Quoted, Directive, Sets, Aligns_to_power, Aligns_to_bytes, Values, Strings, Zeros}
 use Rattle.rv_unit_laws.specs.Sections.{Section}
 use Rattle.rv_unit_laws.specs.Tables.{asked, padding, aligned}
 use Rattle.rv_map.specs.declared.map.Row.{Row}
@@ -153,6 +153,7 @@ module _ (p : Program) (ordinal section offset line : ℕ) (home : Section) (pla
       alignment_fits e (Aligns_to_power e) constant (valued_alone e (Directs (Aligns_to_power e)) refl constant) none refl home.executable h
   directive_fits (Aligns_to_bytes e) (constant, none, h) =
       alignment_fits e (Aligns_to_bytes e) constant (valued_alone e (Directs (Aligns_to_bytes e)) refl constant) none refl home.executable h
+  directive_fits (Sets name e) (bytes, none) = no_row row bytes none
   directive_fits _ h = absurd h
 
   pub fits : (says : Statement) → Suits f (has_values p (at says)) home row before start says → SizeFits p (at says)
@@ -179,6 +180,7 @@ module _ (p : Program) (ordinal section offset line : ℕ) (home : Section) (pla
       alignment_written e (Aligns_to_power e) constant (valued_alone e (Directs (Aligns_to_power e)) refl constant) refl home.executable yes' h
   directive_written (Aligns_to_bytes e) (constant, none, h) held yes' =
       alignment_written e (Aligns_to_bytes e) constant (valued_alone e (Directs (Aligns_to_bytes e)) refl constant) refl home.executable yes' h
+  directive_written (Sets name e) (bytes, none) held yes' = ([], refl, bytes)
   directive_written _ h held yes' = absurd h
 
   pub is_written : (says : Statement) → Suits f (has_values p (at says)) home row before start says → IsHeld home says → home.executable ≡ true → IsWritten p (at says)
@@ -204,6 +206,7 @@ module _ (p : Program) (ordinal section offset line : ℕ) (home : Section) (pla
       alignment_coded (Aligns_to_power e) (valued_alone e (Directs (Aligns_to_power e)) refl constant) refl home.executable yes' h
   directive_coded (Aligns_to_bytes e) (constant, none, h) held yes' =
       alignment_coded (Aligns_to_bytes e) (valued_alone e (Directs (Aligns_to_bytes e)) refl constant) refl home.executable yes' h
+  directive_coded (Sets name e) h held yes' = refl
   directive_coded _ h held yes' = absurd h
 
   -- in code a statement has the words of its instruction, by the constants of its expressions

@@ -7,7 +7,7 @@ use Rattle.std.specs.List.{find}
 use Rattle.rv_map.specs.Map.{Map}
 use Rattle.rv_statement.specs.Statement.{Statement, Label, Numbered, Instruction, Directs, Spoken, Directive, Sets}
 use Rattle.rv_unit_laws.specs.Sections.{goes_to_text}
-use Rattle.rv_unit_laws.specs.Tables.{Tables, after, tables, set_before}
+use Rattle.rv_unit_laws.specs.Tables.{Tables, after, tables}
 use Rattle.rv_chain_laws.specs.Stated.{Stated, stated_now, has_row}
 use Rattle.rv_chain_laws.specs.Sites.{Entry, Program, program, tables_in}
 use Rattle.rv_chain_laws.specs.Resolves as laws

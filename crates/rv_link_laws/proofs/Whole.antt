@@ -150,18 +150,21 @@ module _ (text_start : ℕ) (ss : List Spoken) (is : List Item) (last : ℕ → 
             ap (λ s. contents_of to (place to) pieces s cs) lies.starts
             ∙ holds_contents t last p.sites counts to bytes (place to) 0 t.opened.sections pieces all cs sections (all_stand pieces text_start l.rodata.start l.data.start l.bss.start to e) each h
 
-        pub linked : (rvc : Bool) → Resolves (ss ∷ []) m → HoldBytes p.sites goes_to_text (code_bytes p) 0 t.opened.sections cs
-            → HoldBytes p.sites goes_to_rodata (spelled p) 0 t.opened.sections cs → HoldBytes p.sites goes_to_data (spelled p) 0 t.opened.sections cs
-            → (text rodata variables : List ℕ) → text ≡ contents_of Text l.text.start pieces l.starts.items cs → rodata ≡ contents_of Rodata l.rodata.start pieces l.starts.items cs
-            → variables ≡ contents_of Data l.data.start pieces l.starts.items cs
-            → IsLinked (ss ∷ []) text_start (record { text = text; rodata = rodata; «data» = variables; map = m; rvc = rvc })
-        linked rvc resolves code constants vars text rodata variables text_is rodata_is variables_is = record {
-          fits = laid_fits text_start (ss ∷ []) m laid;
-          resolves = resolves;
-          written = subst (λ s. AllByRecursion (Writes p l.starts.items) s) (sym sites_is) (written_all p l.starts.items 1 at_start ss is suits (held_of 1 (ss ∷ []) (good, tt)));
-          gaps = refl;
-          below = lies.below;
-          text = text_is ∙ ap (λ n. contents_of Text n pieces l.starts.items cs) lies.text ∙ held_by Text refl (code_bytes p) code ∙ ap (λ n. contents (code_bytes p) n (blocks goes_to_text (ss ∷ []) m)) (sym lies.text);
-          rodata = rodata_is ∙ held_by Rodata refl (spelled p) constants;
-          «data» = variables_is ∙ held_by Data refl (spelled p) vars;
-        }
+      -- the bytes of code, and of data
+      pub linked : (texts figures : List (List ℕ)) → AreEach t.opened.sections texts → AreEach t.opened.sections figures → (rvc : Bool) → Resolves (ss ∷ []) m
+          → HoldBytes p.sites goes_to_text (code_bytes p) 0 t.opened.sections texts → HoldBytes p.sites goes_to_rodata (spelled p) 0 t.opened.sections figures
+          → HoldBytes p.sites goes_to_data (spelled p) 0 t.opened.sections figures → (text rodata variables : List ℕ)
+          → text ≡ contents_of Text l.text.start pieces l.starts.items texts → rodata ≡ contents_of Rodata l.rodata.start pieces l.starts.items figures
+          → variables ≡ contents_of Data l.data.start pieces l.starts.items figures
+          → IsLinked (ss ∷ []) text_start (record { text = text; rodata = rodata; «data» = variables; map = m; rvc = rvc })
+      linked texts figures each_code each_data rvc resolves code constants vars text rodata variables text_is rodata_is variables_is = record {
+        fits = laid_fits text_start (ss ∷ []) m laid;
+        resolves = resolves;
+        written = subst (λ s. AllByRecursion (Writes p l.starts.items) s) (sym sites_is) (written_all p l.starts.items 1 at_start ss is suits (held_of 1 (ss ∷ []) (good, tt)));
+        gaps = refl;
+        below = lies.below;
+        text = text_is ∙ ap (λ n. contents_of Text n pieces l.starts.items texts) lies.text ∙ held_by texts each_code Text refl (code_bytes p) code
+            ∙ ap (λ n. contents (code_bytes p) n (blocks goes_to_text (ss ∷ []) m)) (sym lies.text);
+        rodata = rodata_is ∙ held_by figures each_data Rodata refl (spelled p) constants;
+        «data» = variables_is ∙ held_by figures each_data Data refl (spelled p) vars;
+      }
