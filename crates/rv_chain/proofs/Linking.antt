@@ -16,6 +16,7 @@ use Rattle.rv_chain_laws.specs.Contents.{IsLinked, code_bytes}
 use Rattle.rv_chain_laws.specs.Sites.{program}
 use Rattle.rv_chain_laws.specs.Stated.{stated}
 use Rattle.rv_chain_laws.proofs.LaidOut.{AreRegions}
+use Rattle.rv_chain_laws.proofs.Regions.{above}
 use Rattle.rv_chain_laws.proofs.Contents.{are_regions}
 use Rattle.rv_link.specs.declared.piece.Destination.{Destination}
 use Rattle.rv_link.specs.declared.piece.Destination.TheVariants.{Data, Bss, Text, Rodata}
@@ -32,7 +33,7 @@ use Rattle.rv_chain.specs.Coded.{AreCoded}
 use Rattle.rv_chain.specs.Valued.{IsData}
 use Rattle.rv_chain.specs.Pieces.{AreAllPieces}
 use Rattle.rv_chain.specs.Linking.{StandsFrom, AreNamed, Begins, map_from, program_from}
-use Rattle.rv_chain.specs.declared.link.Placed.{Placed}
+use Rattle.rv_chain.specs.declared.placed.Placed.{Placed}
 use Rattle.rv_chain.proofs.Awaited.{suits_all, held_code, each_one, listed, lists_count, even_sections}
 
 -- ---- how many
@@ -72,9 +73,6 @@ sections_count u filled = sym (ap (λ t. length t.opened.sections) filled.tables
 
 -- ---- the data begin below the stack
 
-not_below : (n a : ℕ) → 0 < n → a ≤ aligned n a
-not_below n a some = ?
-
 begins_some : (b : Bool) (g : ℕ) → 0 < max (if b then 2 else 1) g
 begins_some true g = omega arith
 begins_some false g = omega arith
@@ -90,13 +88,13 @@ ends_behind to t last index stop (section ∷ sections) (x ∷ xs) (piece, piece
     some = subst (λ n. 0 < n) (sym piece.alignment) (begins_some (goes_to_text section) (slice_index_or t.alignments index 1))
 
     go : (b : Bool) → end_behind x stop ≤ end_of to (end_behind x stop) xs → stop ≤ end_of to stop xs → stop ≤ (if b then end_of to (end_behind x stop) xs else end_of to stop xs)
-    go true e f = let a = not_below x.alignment stop some in omega arith
+    go true e f = let a = above x.alignment stop some in omega arith
     go false e f = f
 
 pub data_low : (t : Tables) (last : ℕ → ℕ) (sections : List Section) (start : ℕ) (xs : List Piece) (l : Layout) → ArePieces t last 0 sections xs → IsLayout start xs l → l.data.start ≤ 0x3ff0_0000
 data_low t last sections start xs l are lies =
     let a : l.data.start ≤ l.data.end = subst (λ n. l.data.start ≤ n) (sym lies.data_end) (ends_behind Data t last 0 l.data.start sections xs are) in
-    let b : l.data.end ≤ l.bss.start = subst (λ n. l.data.end ≤ n) (sym lies.bss) (not_below (greatest Bss xs) l.data.end (one_or_more Bss xs)) in
+    let b : l.data.end ≤ l.bss.start = subst (λ n. l.data.end ≤ n) (sym lies.bss) (above (greatest Bss xs) l.data.end (one_or_more Bss xs)) in
     let c : l.bss.start ≤ l.bss.end = subst (λ n. l.bss.start ≤ n) (sym lies.bss_end) (ends_behind Bss t last 0 l.bss.start sections xs are) in
     let d = lies.below in
     omega arith

@@ -16,7 +16,7 @@ use Rattle.rv_link_laws.specs.Items.{AreItems}
 use Rattle.rv_link_laws.specs.Laws.{map_of}
 use Rattle.rv_link_laws.specs.Pieces.{ArePieces}
 use Rattle.rv_chain.specs.Sized.{AreSized}
-use Rattle.rv_chain.specs.declared.link.Placed.{Placed}
+use Rattle.rv_chain.specs.declared.placed.Placed.{Placed}
 
 -- the statements and the sections have their places, from a text start on
 pub record StandsFrom (ss : List Spoken) (start : ℕ) (x : Placed) : Type 0 where

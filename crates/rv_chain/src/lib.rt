@@ -13,6 +13,7 @@ mod items;
 mod link;
 mod options;
 mod pieces;
+mod placed;
 mod running;
 mod undefined;
 mod written;

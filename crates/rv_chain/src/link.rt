@@ -1,22 +1,16 @@
 //! One source as a program: its statements and sections in their places, its names with their addresses, and its
 //! regions with their bytes.
 
-ghost use Rattle.std.specs.Prelude.{◌≡◌, ◌≤◌, ◌<◌, ◌%◌, ℕ, [], ◌∷◌, None, IfOk, map, length};
-ghost use Rattle.rv_unit_laws.specs.Tables.{tables, at_start};
+ghost use Rattle.std.specs.Prelude.{◌≡◌, ◌<◌, ◌%◌, [], ◌∷◌, None, IfOk, map, length};
 ghost use Rattle.rv_unit_laws.specs.Faults.{first_fault};
 ghost use Rattle.rv_unit.specs.Unit.{said, IsFilled};
-ghost use Rattle.rv_map.specs.Map.{Map as ShownMap, global_of, map_of as shown_map};
+ghost use Rattle.rv_map.specs.Map.{global_of, map_of as shown_map};
 ghost use Rattle.rv_image.specs.Linked.{linked_of};
 ghost use Rattle.rv_chain_laws.specs.Contents.{IsLinked};
-ghost use Rattle.rv_chain_laws.specs.Sites.{program};
 ghost use Rattle.rv_link.specs.Contents.{contents_of};
 ghost use Rattle.rv_link.specs.Globals.{AreGlobals};
-ghost use Rattle.rv_link.specs.Layout.{IsLayout};
-ghost use Rattle.rv_link.specs.Rows.{rows_from};
-ghost use Rattle.rv_link_laws.specs.Items.{AreItems};
 ghost use Rattle.rv_link_laws.specs.Laws.{map_of};
-ghost use Rattle.rv_chain.specs.Sized.{AreSized};
-ghost use Rattle.rv_chain.specs.Valued.{IsData};
+ghost use Rattle.rv_chain.specs.Valued.{GivesData};
 ghost use Rattle.rv_chain.specs.Linking.{StandsFrom, AreNamed};
 
 use crate::code::code;
@@ -24,27 +18,18 @@ use crate::data::data;
 use crate::fault::{Fault, LinkFault};
 use crate::items::items;
 use crate::pieces::pieces;
+use crate::placed::Placed;
 use crate::undefined::undefined;
 use rv_image::Linked;
 use rv_link::{
-    DataFault, Destination, Globals, Item, Layout, LayoutFault, Piece, entry, global_definitions,
-    lay_out, put_symbols, region_bytes, statement_rows,
+    DataFault, Destination, Globals, Item, Layout, LayoutFault, entry, global_definitions, lay_out,
+    put_symbols, region_bytes, statement_rows,
 };
 use rv_link_laws::{placed_links, placed_names};
 use rv_map::{Global as Defined, Map, Row};
 use rv_text::Symbol;
 use rv_unit::Unit;
 use std::alloc::{AllocError, Global};
-
-/// A source's statements and sections with their places in a program.
-#[derive(Debug, Drop)]
-struct Placed {
-    items: Vec<Item>,
-    pieces: Vec<Piece>,
-    layout: Layout,
-    ghost each: { length layout.starts.items ≡ length pieces.items },
-    ghost low: { layout.data.start ≤ 0x3ff0_0000 },
-}
 
 /// Places and links the one source, whose text starts at an address.
 pub(crate) fn link(alloc: Global, unit: &Unit<'_>, start: u64) -> Result<Linked, Fault>
@@ -69,26 +54,33 @@ pub(crate) fn link(alloc: Global, unit: &Unit<'_>, start: u64) -> Result<Linked,
     // what stands so is a linked program
     placed_links();
     placed_names();
-    let (code, data) = (texts.as_slice(), figures.as_slice());
-    let text = region(alloc, &placed, code, Destination::Text, layout.text.start)?;
-    let rodata = region(alloc, &placed, data, Destination::Rodata, layout.rodata.start)?;
-    let data = region(alloc, &placed, data, Destination::Data, layout.data.start)?;
+    let (texts, figures) = (texts.as_slice(), figures.as_slice());
+    let text = region(alloc, &placed, texts, Destination::Text, layout.text.start)?;
+    let rodata = region(
+        alloc,
+        &placed,
+        figures,
+        Destination::Rodata,
+        layout.rodata.start,
+    )?;
+    let variables = region(
+        alloc,
+        &placed,
+        figures,
+        Destination::Data,
+        layout.data.start,
+    )?;
     Ok(Linked {
         text,
         rodata,
-        data,
+        data: variables,
         map: map_with(alloc, layout, entry, names, rows),
         rvc: false,
     })
 }
 
 /// Places a source's statements, and the sections that they fill, from an address on.
-fn place(
-    alloc: Global,
-    unit: &Unit<'_>,
-    globals: &Globals<'_>,
-    start: u64,
-) -> Result<Placed, Fault>
+fn place(alloc: Global, unit: &Unit<'_>, globals: &Globals<'_>, start: u64) -> Result<Placed, Fault>
     requires { IsFilled unit.now }
     ensures stands { IfOk result (StandsFrom (said unit.now) start) }
     ensures items { IfOk result (λ x. length x.items.items ≡ length (unit.now).statements.items) }
@@ -153,10 +145,7 @@ fn figures(
     requires filled { IsFilled unit.now }
     requires good { first_fault (said unit.now) ≡ None }
     requires items { length (placed.now).items.items ≡ length (unit.now).statements.items }
-    ensures { IfOk result (λ r. (last : ℕ → ℕ) (m : ShownMap) → AreItems 1 at_start (λ j. 0) (said unit.now) (placed.now).items.items last
-        → AreSized (tables (said unit.now)) 1 at_start (said unit.now) (placed.now).items.items
-        → m.rows ≡ rows_from 1 (placed.now).layout.starts.items 1 (placed.now).items.items → m.globals ≡ map global_of names.now
-        → IsData (program (said unit.now ∷ []) m) (placed.now).layout.starts.items (said unit.now) (placed.now).items.items (map (λ b. b.items) r.items)) }
+    ensures { IfOk result (λ r. GivesData (said unit.now) (placed.now).layout.starts.items (placed.now).items.items (map global_of names.now) (map (λ b. b.items) r.items)) }
 {
     let starts = placed.layout.starts.as_slice();
     match data(alloc, unit, placed.items.as_slice(), starts, names) {
@@ -196,8 +185,14 @@ fn region(
 }
 
 /// The map of a layout, whose text has no gaps.
-fn map_with(alloc: Global, layout: &Layout, entry: u64, globals: Vec<Defined>, rows: Vec<Row>) -> Map
-    ensures { shown_map result ≡ map_of layout.now entry (map global_of (globals.entry).items) rows.items }
+fn map_with(
+    alloc: Global,
+    layout: &Layout,
+    entry: u64,
+    globals: Vec<Defined>,
+    rows: Vec<Row>,
+) -> Map
+    ensures { shown_map result ≡ map_of layout.now entry (map global_of globals.items) rows.items }
 {
     Map {
         text: layout.text,

@@ -24,23 +24,32 @@ use std::alloc::Global;
 fn is_linkers(symbol: Symbol<'_>) -> bool
     ensures { result ≡ laws.is_linkers (symbol_of symbol.entry) }
 {
-    match symbol {
-        Symbol::Name(name) => {
-            name == b"_etext".as_slice()
-                || name == b"__bss_start".as_slice()
-                || name == b"_edata".as_slice()
-                || name == b"_end".as_slice()
-                || name == b"__global_pointer$".as_slice()
-        }
-        _ => false,
+    let Symbol::Name(name) = symbol else {
+        return false;
+    };
+    if name == b"_etext".as_slice() {
+        return true;
     }
+    if name == b"__bss_start".as_slice() {
+        return true;
+    }
+    if name == b"_edata".as_slice() {
+        return true;
+    }
+    if name == b"_end".as_slice() {
+        return true;
+    }
+    name == b"__global_pointer$".as_slice()
 }
 
 /// Whether the statement of this ordinal, from 1, has a row.
 fn is_shown(items: &[Item], ordinal: usize) -> bool
     ensures { result ≡ shown_by 1 items.now ordinal }
 {
-    if ordinal == 0 || ordinal > items.len() {
+    if ordinal == 0 {
+        return false;
+    }
+    if ordinal > items.len() {
         return false;
     }
     items[ordinal - 1].shown
