@@ -3,7 +3,8 @@ mod Checked
 mod Digits
 mod Each
 mod Filling
-mod Given
+mod Gives
 mod Lookups
+mod Numbered
 mod Scoped
 mod Sized

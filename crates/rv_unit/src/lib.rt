@@ -7,6 +7,7 @@ mod align;
 mod check;
 mod faults;
 mod fill;
+mod marks;
 mod names;
 mod number;
 mod place;
@@ -15,7 +16,9 @@ mod section;
 mod tables;
 mod unit;
 
+pub use align::{asked_bytes, asked_power, padding, strings_size, values_size};
 pub use place::{Home, Place};
 pub use scope::Scope;
 pub use section::{Extent, Section};
+pub use tables::Given;
 pub use unit::Unit;
