@@ -1,16 +1,16 @@
 -- Openings of sections whose flags or type are wrong: where they stand, what stands before them, and parts without them.
 
-use Rattle.std.proofs.Common.{◌≡◌, ℕ, ◌+◌, ◌<◌, Bool, true, false, cond, List, [], ◌∷◌, ◌++◌, append_assoc, length, length-append, Option, Some, None, Ok, Err, refl, sym, ◌∙◌, ap, subst, codes, arith, ◌⊎◌, inl, inr}
+use Rattle.std.proofs.Common.{◌≡◌, ℕ, ◌<◌, Bool, true, false, cond, List, [], ◌∷◌, ◌++◌, append_assoc, length, Option, Some, None, Ok, Err, refl, sym, ◌∙◌, ap, subst, codes, arith, ◌⊎◌, inl, inr}
 use Rattle.std.proofs.lemmas.List.{append-nil}
 use Rattle.rv_text_laws.specs.Cut.{Piece, texts}
-use Rattle.rv_text_laws.specs.Grammar.{Kind, Newline, Mark, Name as NameToken, Text, End}
+use Rattle.rv_text_laws.specs.Grammar.{Kind, Name as NameToken, Text}
 use Rattle.rv_text_laws.specs.Lexing.{Token}
 use Rattle.rv_text_laws.specs.Joined.{IsJoined}
 use Rattle.rv_text_laws.specs.Wrong.{Wrong, wrong, Read}
 use Rattle.rv_statement.specs.declared.directive.DirectiveWord.TheVariants as words
 use Rattle.rv_statement.specs.Statement.{Operand, Word, Quoted, Directs, Spoken}
 use Rattle.rv_parse_laws.specs.Words.{Beginning, Begins_directive}
-use Rattle.rv_parse_laws.specs.Syntax.{begins, is_comma, is_at, is_end, is_section_name, A_section, Some_flags, At_sign, A_type, A_comma, single, places, directed, colon_next, AreOperands, Part, Says, IsPart}
+use Rattle.rv_parse_laws.specs.Syntax.{begins, is_comma, is_at, is_end, is_section_name, A_section, Some_flags, At_sign, A_comma, single, places, directed, colon_next, AreOperands, Part, Says, IsPart}
 use Rattle.rv_parse_laws.specs.Opening.{flags_fault, type_fault, is_text, is_section, is_opened, IsNamed, WrongFlags, WrongType, IsWrongOpening}
 use Rattle.rv_parse_laws.specs.Parsing.{part_at, section_at, single_at, front_fault, behind_read, or_else, type_wrong, flags_wrong, named_wrong, opening_at, unless, checked_at}
 use Rattle.rv_parse_laws.specs.Reading.{AreParts, told, said, OpensWell, AllOpenWell, CanGoOn}
@@ -124,22 +124,20 @@ type_there known front name ts w named none e =
       more = t.1;
       code = t.2;
       whole = ap (λ us. front ++ us) whole ∙ sym (append_assoc front (flags.0 ∷ comma.0 ∷ sign.0 ∷ []) (t.0 ∷ t.1));
-      is = inr (
-        record {
-          name = name;
-          front = front;
-          flags = flags.0;
-          comma = comma.0;
-          sign = sign.0;
-          whole = refl;
-          named = named;
-          text = text_there flags.0.kind f.0 flags.2;
-          good = good flags.0 f.1 flags.1;
-          comma_is = comma_there comma.0 c.0 comma.2;
-          sign_is = sign_there sign.0 s.0 sign.2;
-          wrong = t.4;
-        },
-      );
+      is = inr (record {
+        name = name;
+        front = front;
+        flags = flags.0;
+        comma = comma.0;
+        sign = sign.0;
+        whole = refl;
+        named = named;
+        text = text_there flags.0.kind f.0 flags.2;
+        good = good flags.0 f.1 flags.1;
+        comma_is = comma_there comma.0 c.0 comma.2;
+        sign_is = sign_there sign.0 s.0 sign.2;
+        wrong = t.4;
+      });
       is_wrong = t.5;
     }
   where
@@ -260,31 +258,73 @@ flags_operand t bytes h = rw h refl
 flags_operands : (name : List ℕ) (text : List Token) (comma : Token) → IsJoined text name → is_section_name name ≡ true → is_comma comma.kind ≡ true
     → AreOperands (places words.Section) (text ++ comma ∷ a_string ∷ []) (Word name ∷ Quoted [] ∷ [])
 flags_operands name text comma joined good is = (
-  text, comma ∷ a_string ∷ [], Word name ∷ [], Quoted [] ∷ [], refl, (name, joined, good, refl),
+  text,
+  comma ∷ a_string ∷ [],
+  Word name ∷ [],
+  Quoted [] ∷ [],
+  refl,
+  (name, joined, good, refl),
   inl (
-    comma ∷ [], a_string ∷ [], [], Quoted [] ∷ [], refl, (comma, refl, comma_operand comma is),
-    (a_string ∷ [], [], Quoted [] ∷ [], [], refl, (a_string, refl, refl), inr (refl, refl, refl), refl), refl,
-  ), refl,
+    comma ∷ [],
+    a_string ∷ [],
+    [],
+    Quoted [] ∷ [],
+    refl,
+    (comma, refl, comma_operand comma is),
+    (a_string ∷ [], [], Quoted [] ∷ [], [], refl, (a_string, refl, refl), inr (refl, (refl, refl)), refl),
+    refl,
+  ),
+  refl,
 )
 
 type_operands : (name bytes : List ℕ) (text : List Token) (comma flags next sign : Token) → IsJoined text name → is_section_name name ≡ true → is_comma comma.kind ≡ true
     → flags.kind ≡ Text bytes → is_comma next.kind ≡ true → is_at sign.kind ≡ true
     → AreOperands (places words.Section) (text ++ comma ∷ flags ∷ next ∷ sign ∷ a_type ∷ []) (Word name ∷ Quoted bytes ∷ Word (codes "note") ∷ [])
 type_operands name bytes text comma flags next sign joined good is quoted then at = (
-  text, comma ∷ flags ∷ next ∷ sign ∷ a_type ∷ [], Word name ∷ [], Quoted bytes ∷ Word (codes "note") ∷ [], refl, (name, joined, good, refl),
+  text,
+  comma ∷ flags ∷ next ∷ sign ∷ a_type ∷ [],
+  Word name ∷ [],
+  Quoted bytes ∷ Word (codes "note") ∷ [],
+  refl,
+  (name, joined, good, refl),
   inl (
-    comma ∷ [], flags ∷ next ∷ sign ∷ a_type ∷ [], [], Quoted bytes ∷ Word (codes "note") ∷ [], refl, (comma, refl, comma_operand comma is),
+    comma ∷ [],
+    flags ∷ next ∷ sign ∷ a_type ∷ [],
+    [],
+    Quoted bytes ∷ Word (codes "note") ∷ [],
+    refl,
+    (comma, refl, comma_operand comma is),
     (
-      flags ∷ [], next ∷ sign ∷ a_type ∷ [], Quoted bytes ∷ [], Word (codes "note") ∷ [], refl, (flags, refl, flags_operand flags bytes quoted),
+      flags ∷ [],
+      next ∷ sign ∷ a_type ∷ [],
+      Quoted bytes ∷ [],
+      Word (codes "note") ∷ [],
+      refl,
+      (flags, refl, flags_operand flags bytes quoted),
       inl (
-        next ∷ [], sign ∷ a_type ∷ [], [], Word (codes "note") ∷ [], refl, (next, refl, comma_operand next then),
+        next ∷ [],
+        sign ∷ a_type ∷ [],
+        [],
+        Word (codes "note") ∷ [],
+        refl,
+        (next, refl, comma_operand next then),
         (
-          sign ∷ [], a_type ∷ [], [], Word (codes "note") ∷ [], refl, (sign, refl, sign_operand sign at),
-          (a_type ∷ [], [], Word (codes "note") ∷ [], [], refl, (a_type, refl, refl), inr (refl, refl, refl), refl), refl,
-        ), refl,
-      ), refl,
-    ), refl,
-  ), refl,
+          sign ∷ [],
+          a_type ∷ [],
+          [],
+          Word (codes "note") ∷ [],
+          refl,
+          (sign, refl, sign_operand sign at),
+          (a_type ∷ [], [], Word (codes "note") ∷ [], [], refl, (a_type, refl, refl), inr (refl, (refl, refl)), refl),
+          refl,
+        ),
+        refl,
+      ),
+      refl,
+    ),
+    refl,
+  ),
+  refl,
 )
 
 -- a `.section` with these operands
@@ -301,7 +341,7 @@ opening_goes ss before at code more (inl x) = go x.name x.named
       a_string ∷ [],
       sym (ap colon_next (append_assoc text (comma ∷ []) (at ∷ more)) ∙ joined_no_colon text (comma ∷ at ∷ more) name joined),
       subst (IsPart (Says (Directs (directed words.Section (Word name ∷ Quoted [] ∷ []))))) (ap (λ us. word ∷ us) (sym (append_assoc text (comma ∷ []) (a_string ∷ []))))
-      (section_part word text (comma ∷ a_string ∷ []) (Word name ∷ Quoted [] ∷ []) name is joined (flags_operands name text comma joined good comma_is)),
+          (section_part word text (comma ∷ a_string ∷ []) (Word name ∷ Quoted [] ∷ []) name is joined (flags_operands name text comma joined good comma_is)),
     )
 opening_goes ss before at code more (inr x) = go x.name x.named
   where
@@ -322,8 +362,8 @@ opening_goes ss before at code more (inr x) = go x.name x.named
           a_type ∷ [],
           label bytes.0 name ∙ sym (joined_no_colon text (comma ∷ x.flags ∷ x.comma ∷ x.sign ∷ at ∷ more) name joined),
           subst (IsPart (Says (Directs (directed words.Section os)))) (sym all)
-          (section_part word text (comma ∷ x.flags ∷ x.comma ∷ x.sign ∷ a_type ∷ []) os name is joined
-          (type_operands name bytes.0 text comma x.flags x.comma x.sign joined good comma_is bytes.1 x.comma_is x.sign_is)),
+              (section_part word text (comma ∷ x.flags ∷ x.comma ∷ x.sign ∷ a_type ∷ []) os name is joined
+              (type_operands name bytes.0 text comma x.flags x.comma x.sign joined good comma_is bytes.1 x.comma_is x.sign_is)),
         )
       where
         label : (bytes name : List ℕ) → false ≡ false

@@ -1,13 +1,13 @@
 -- One part more at the end of those that were read.
 
 use Rattle.std.proofs.Common.{◌≡◌, true, false, List, [], ◌∷◌, ◌++◌, append_assoc, Ok, refl, sym, ◌∙◌, ap, subst, length, length-append, ◌<◌, arith}
-use Rattle.rv_text_laws.specs.Cut.{Piece, texts, Each}
+use Rattle.rv_text_laws.specs.Cut.{Piece, Each}
 use Rattle.rv_text_laws.specs.Lexing.{Token, is_last}
 use Rattle.rv_text_laws.specs.Grammar.{Kind, Bad_byte, Bad_token, End}
 use Rattle.rv_statement.specs.Statement.{Statement, Spoken}
 use Rattle.rv_parse_laws.specs.Syntax.{Part, Ends, Says, IsPart, StopsPart, is_end, is_source_end}
 use Rattle.rv_parse_laws.specs.Opening.{is_opened}
-use Rattle.rv_parse_laws.specs.Parsing.{part_at, checked_at}
+use Rattle.rv_parse_laws.specs.Parsing.{checked_at}
 use Rattle.rv_parse_laws.specs.Reading.{said, told, SaysUpTo, OpensWell}
 use Rattle.rv_parse_laws.proofs.Parts.{part_found, part_nonempty}
 use Rattle.rv_parse_laws.proofs.Openings.{texts_push, open_push, end_opens, checked_ok}

@@ -25,8 +25,8 @@ standard_name standards.Bss = codes ".bss"
 
 -- a statement opens, or enters, the section of this name
 abbrev pub opens : List ℕ → Statement → Bool
-opens name (Directs (Enters standard)) = bytes_eq name (standard_name standard)
-opens name (Directs (Opens other flags kind)) = bytes_eq name other
+opens name (Directs (Enters standard)) = bytes_eq (standard_name standard) name
+opens name (Directs (Opens other flags kind)) = bytes_eq other name
 opens name _ = false
 
 -- a statement had this name; a source begins in `.text`

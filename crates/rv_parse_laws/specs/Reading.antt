@@ -6,7 +6,7 @@ use Rattle.rv_text_laws.specs.Lexing.{Token, Lexes, newlines}
 use Rattle.rv_text_laws.specs.Wrong.{limit, place_of, Read}
 use Rattle.rv_statement.specs.Statement.{Label, Numbered, Spoken}
 use Rattle.rv_parse_laws.specs.Syntax.{Part, Ends, Says, IsPart, StopsPart, is_end, colon_next}
-use Rattle.rv_parse_laws.specs.Opening.{is_opened, IsWrongOpening}
+use Rattle.rv_parse_laws.specs.Opening.{IsWrongOpening}
 use Rattle.rv_parse_laws.specs.Parsing.{part_at}
 
 -- the longest source and the longest line without its line feed, in bytes, and the most statements
