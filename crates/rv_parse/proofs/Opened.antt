@@ -1,7 +1,6 @@
 -- The names that a source has opened, and an opening at the front.
 
-use Rattle.std.proofs.Common.{◌≡◌, ℕ, Bool, true, false, ◌||◌, List, [], ◌∷◌, ◌++◌, map, Option, Some, None, Ok, Err, refl, sym, ◌∙◌, ap}
-use Rattle.std.specs.List.{list_any}
+use Rattle.std.proofs.Common.{◌≡◌, ℕ, Bool, true, false, ◌||◌, List, [], ◌∷◌, ◌++◌, map, None, Ok, Err, refl, sym, ◌∙◌, ap}
 use Rattle.rv_text_laws.specs.Grammar.{Kind, Name as NameToken}
 use Rattle.rv_text_laws.specs.Lexing.{Token, is_last}
 use Rattle.rv_text_laws.specs.Wrong.{Wrong, Read}
@@ -10,7 +9,7 @@ use Rattle.rv_statement.specs.View.{statement_of, said_by}
 use Rattle.rv_statement.specs.declared.statement.Statement.{Statement}
 use Rattle.rv_parse_laws.specs.Syntax.{begins, A_section, A_comma}
 use Rattle.rv_parse_laws.specs.Opening.{is_section, opens}
-use Rattle.rv_parse_laws.specs.Parsing.{operand_at, seen_as, section_at, single_at, flags_wrong, named_wrong}
+use Rattle.rv_parse_laws.specs.Parsing.{operand_at, seen_as, section_at, flags_wrong, named_wrong}
 use Rattle.rv_parse.specs.Opened.{NameSet, Has, is_had, Knows}
 
 pub section_no_last : (k : Kind) → is_section (begins k) ≡ true → is_last k ≡ false
@@ -20,8 +19,8 @@ section_no_last _ h = absurd (cc)
 -- the name behind `.section`
 name_read : (r : Read (List ℕ)) (name : List ℕ) (rest : List Token) → seen_as (λ n. Word n ∷ []) r ≡ Ok (Word name ∷ [], rest) → r ≡ Ok (name, rest)
 name_read (Ok (n, us)) name rest e =
-    let pair : (Word n ∷ [], us) ≡ (Word name ∷ [], rest) = cc in
-    let words : Word n ∷ [] ≡ Word name ∷ [] = ap (λ (x : List Operand × List Token). x.0) pair in
+    let pair : ◌≡◌ {A = List Operand × List Token} (Word n ∷ [], us) (Word name ∷ [], rest) = cc in
+    let words : ◌≡◌ {A = List Operand} (Word n ∷ []) (Word name ∷ []) = ap (λ (x : List Operand × List Token). x.0) pair in
     let same : n ≡ name = cc in
     ap (λ (m : List ℕ). Ok (m, us)) same ∙ ap (λ (x : List Operand × List Token). Ok (name, x.1)) pair
 name_read (Err w) name rest e = absurd (cc)

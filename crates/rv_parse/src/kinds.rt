@@ -11,9 +11,7 @@ ghost use Rattle.rv_parse_laws.specs.Opening.{is_section};
 ghost use Rattle.rv_parse_laws.specs.Parsing.{width};
 ghost use Rattle.rv_parse.specs.View.{beginning_of, choice_of, word_of, string_of};
 
-use crate::words::{
-    Beginning, accesses_named, beginning_with, choice_named, register_named,
-};
+use crate::words::{Beginning, accesses_named, beginning_with, choice_named, register_named};
 use rv_isa::Reg;
 use rv_statement::{AccessSet, Choice, DirectiveWord, StatementKind};
 use rv_text::{LONGEST_NAME, Sign, TokenKind};

@@ -94,11 +94,7 @@ fn type_fault(cursor: &Cursor<'_>, known: bool) -> Option<Wrong>
 
 /// What is wrong with the next token as the flags of a name that is known, or new.
 #[tactic(auto, unfolding(rv_text::specs::Cursor::left))]
-fn flags_fault(
-    alloc: Global,
-    cursor: &Cursor<'_>,
-    known: bool,
-) -> Result<Option<Wrong>, AllocError>
+fn flags_fault(alloc: Global, cursor: &Cursor<'_>, known: bool) -> Result<Option<Wrong>, AllocError>
     ensures { IfOk result (λ found. option_map wrong_of found ≡ front_fault (flags_fault known) (left cursor.now)) }
 {
     if known {
@@ -134,11 +130,7 @@ fn type_wrong(cursor: Cursor<'_>, known: bool) -> Option<Wrong>
 }
 
 /// What is wrong with flags and the type behind them.
-fn flags_wrong(
-    alloc: Global,
-    cursor: Cursor<'_>,
-    known: bool,
-) -> Result<Option<Wrong>, AllocError>
+fn flags_wrong(alloc: Global, cursor: Cursor<'_>, known: bool) -> Result<Option<Wrong>, AllocError>
     ensures { IfOk result (λ found. option_map wrong_of found ≡ flags_wrong known (left cursor.entry)) }
 {
     match flags_fault(alloc, &cursor, known)? {

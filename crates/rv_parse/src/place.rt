@@ -14,9 +14,7 @@ use crate::kinds;
 use crate::words::register_named;
 use rv_isa::Reg;
 use rv_statement::AccessSet;
-use rv_text::{
-    Cursor, Expr, LONGEST_NAME, Refusal, Registers, SourceCode, Wrong,
-};
+use rv_text::{Cursor, Expr, LONGEST_NAME, Refusal, Registers, SourceCode, Wrong};
 use std::alloc::Global;
 
 /// A register.
