@@ -18,4 +18,5 @@ mod unit;
 pub use place::{Home, Place};
 pub use scope::Scope;
 pub use section::{Extent, Section};
+pub use tables::Given as GivenName;
 pub use unit::Unit;

@@ -42,11 +42,11 @@ pub(crate) struct Mark<'a> {
 
 /// What a `.set` gives a name: a number, or a place and how far behind the statement that is.
 #[derive(Clone, Copy, Drop)]
-pub(crate) struct Given<'a> {
-    pub(crate) name: &'a [u8],
-    pub(crate) ordinal: usize,
-    pub(crate) meaning: Meaning,
-    pub(crate) plus: u64,
+pub struct Given<'a> {
+    pub name: &'a [u8],
+    pub ordinal: usize,
+    pub meaning: Meaning,
+    pub plus: u64,
 }
 
 impl Given<'_> {

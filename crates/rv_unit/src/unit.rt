@@ -1,13 +1,15 @@
 //! A source's statements with what they define.
 
-ghost use Rattle.std.specs.Prelude.{◌≡◌, None, map, IfOk, IfErr};
+ghost use Rattle.std.specs.Prelude.{◌≡◌, None, map, option_map, IfOk, IfErr};
 ghost use Rattle.rv_statement.specs.View.{said_by};
 ghost use Rattle.rv_unit_laws.specs.Faults.{first_fault};
+ghost use Rattle.rv_unit_laws.specs.Tables.{set_ever};
+ghost use Rattle.rv_unit.specs.Tables.{tables_of, setting_of};
 ghost use Rattle.rv_unit.specs.Unit.{said, IsFilled, NamesFirst};
 
 use crate::place::Place;
 use crate::section::Extent;
-use crate::tables::Tables;
+use crate::tables::{Given, Tables};
 use rv_statement::Statement;
 use rv_text::SourceFault;
 use std::alloc::{AllocError, Global};
@@ -70,5 +72,19 @@ impl<'a> Unit<'a> {
         ensures { result.now ≡ (self.now).tables.extents.items }
     {
         self.tables.extents.as_slice()
+    }
+
+    /// What the `.set`s give, in their order.
+    pub fn settings(&self) -> &[Given<'a>]
+        ensures { result.now ≡ (self.now).tables.settings.items }
+    {
+        self.tables.settings.as_slice()
+    }
+
+    /// What `.set` gives a name last.
+    pub fn setting(&self, name: &[u8]) -> Option<Given<'a>>
+        ensures { IsFilled self.now → option_map setting_of result ≡ set_ever (tables_of (self.now).tables).settings name.now }
+    {
+        self.tables.setting(name)
     }
 }
