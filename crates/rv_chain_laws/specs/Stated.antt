@@ -4,11 +4,7 @@
 use Rattle.std.specs.Prelude.{ℕ, suc, Bool, true, false, ◌&&◌, List, [], ◌∷◌, ◌++◌, Option, Some, None}
 use Rattle.rv_statement.specs.Statement.{Statement, Label, Numbered, Instruction, Directs, Spoken, Directive, Sets, Aligns_to_power, Aligns_to_bytes, Values, Strings, Zeros}
 use Rattle.rv_unit_laws.specs.Sections.{Section, section_at}
-use Rattle.rv_unit_laws.specs.Tables.{Tables, Setting, at_start, after, here, stood, value, given, is_placed_setting}
-
-abbrev pub gives_place : Option Setting → Bool
-gives_place None = false
-gives_place (Some s) = is_placed_setting s
+use Rattle.rv_unit_laws.specs.Tables.{Tables, at_start, after, here, stood, value, given, gives_place}
 
 -- `.set` has a row where it gives a place
 abbrev pub is_placed_directive : Tables → ℕ → Directive → Bool

@@ -3,7 +3,7 @@ mod Checked
 mod Digits
 mod Each
 mod Filling
-mod Given
+mod Gives
 mod Lookups
 mod Scoped
 mod Sized

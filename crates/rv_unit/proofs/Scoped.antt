@@ -3,7 +3,7 @@
 use Rattle.std.proofs.Common.{◌≡◌, ℕ, ◌+◌, ◌<◌, ◌≤◌, ◌==◌, true, false, List, length, map, get_or, sym, ap, ◌∙◌, subst, Option}
 use Rattle.std.specs.List.{find}
 use Rattle.std.specs.Str.{bytes_eq}
-use Rattle.rv_text_laws.specs.Expression.{Symbol, Here}
+use Rattle.rv_text_laws.specs.Expression.{Symbol, Here, Tree}
 use Rattle.rv_text_laws.specs.Values.{Meaning, Open}
 use Rattle.std.proofs.lemmas.List.{get_or-map, length-map}
 use Rattle.rv_statement.specs.Statement.{Spoken}
@@ -83,6 +83,12 @@ home_back t all ss o n h s is = is ∙ sym (ap laws.home_marked (marked_all t al
 
 pub home_forward : (t all : laws.Tables) (ss : List Spoken) (o at n : ℕ) (h : Option laws.Home) → Sees t all ss o → at ≡ o → h ≡ laws.home_marked (laws.marked_after all.marks at n) → h ≡ laws.home_marked (laws.marked_after (laws.tables ss).marks o n)
 home_forward t all ss o at n h s same is = is ∙ ap (λ a. laws.home_marked (laws.marked_after all.marks a n)) same ∙ ap (λ (x : laws.Tables). laws.home_marked (laws.marked_after x.marks o n)) s.whole
+
+-- what a `.set` gives, by the tables before it
+pub gives_passed : (t : laws.Tables) (ss : List Spoken) (i o : ℕ) (name : List ℕ) (e : Tree) (g : Option laws.Setting) → t ≡ passed ss i → o ≡ i + 1 → g ≡ laws.given name o (laws.value t false o (laws.here t) e)
+    → laws.gives_place g ≡ laws.gives_place (laws.given name (i + 1) (laws.value (passed ss i) false (i + 1) (laws.here (passed ss i)) e))
+gives_passed t ss i o name e g is at gives =
+    ap laws.gives_place (gives ∙ ap (λ x. laws.given name o (laws.value x false o (laws.here x) e)) is ∙ ap (λ n. laws.given name n (laws.value (passed ss i) false n (laws.here (passed ss i)) e)) at)
 
 -- the tables of one statement more
 pub pass_more : (t u : laws.Tables) (ss : List Spoken) (i o : ℕ) (x : Spoken) → i < length ss → t ≡ passed ss i → o ≡ i + 1 → get_or ss i x ≡ x → u ≡ laws.after t o x.says → u ≡ passed ss (i + 1)

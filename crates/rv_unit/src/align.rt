@@ -28,7 +28,7 @@ pub(crate) fn is_power_below(power: u32, number: u64) -> bool
 }
 
 /// The alignment that a value asks for, as a power of two; none where it can't be had.
-pub(crate) fn asked_power(value: Result<Value<'_>, SourceFault>) -> Option<u32>
+pub fn asked_power(value: Result<Value<'_>, SourceFault>) -> Option<u32>
     ensures { (v : values.Value) → IsOutcome value.entry 0 v → result ≡ laws.asked_power v }
 {
     match value {
@@ -40,7 +40,7 @@ pub(crate) fn asked_power(value: Result<Value<'_>, SourceFault>) -> Option<u32>
 }
 
 /// The alignment that a value asks for, in bytes; none where it can't be had.
-pub(crate) fn asked_bytes(value: Result<Value<'_>, SourceFault>) -> Option<u32>
+pub fn asked_bytes(value: Result<Value<'_>, SourceFault>) -> Option<u32>
     ensures { (v : values.Value) → IsOutcome value.entry 0 v → result ≡ laws.asked_bytes v }
 {
     match value {
@@ -68,7 +68,7 @@ pub(crate) fn counted(value: Result<Value<'_>, SourceFault>) -> u64
 }
 
 /// The bytes from an offset to the next multiple of an alignment.
-pub(crate) fn padding(alignment: Option<u32>, offset: u32) -> u64
+pub fn padding(alignment: Option<u32>, offset: u32) -> u64
     ensures { result ≡ laws.padding alignment offset }
 {
     match alignment {
@@ -95,14 +95,14 @@ pub(crate) fn width_in_bytes(width: Width) -> u64
 }
 
 /// The bytes of values of data, or as many as a number shows.
-pub(crate) fn values_size(width: Width, count: usize) -> u64
+pub fn values_size(width: Width, count: usize) -> u64
     ensures { result ≡ min (bytes_of width * count) (2 ^ 64 - 1) }
 {
     width_in_bytes(width).saturating_mul(count as u64)
 }
 
 /// The bytes of strings, where asked with a zero byte behind each, or as many as a number shows.
-pub(crate) fn strings_size(ended: bool, strings: &[&[u8]]) -> u64
+pub fn strings_size(ended: bool, strings: &[&[u8]]) -> u64
     ensures { result ≡ min (length (laws.string_bytes ended (map quoted strings.now))) (2 ^ 64 - 1) }
 {
     let mut size: u64 = 0;

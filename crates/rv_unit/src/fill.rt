@@ -67,7 +67,7 @@ impl<'a> Tables<'a> {
     }
 
     /// What a `.set` gives its name.
-    fn given(&self, ordinal: usize, setting: &Setting<'a>) -> Option<Given<'a>>
+    pub(crate) fn given(&self, ordinal: usize, setting: &Setting<'a>) -> Option<Given<'a>>
         ensures ordinal { IfSome result (λ g. g.ordinal ≡ ordinal) }
         ensures value { IsIndexed self.now → IsBefore (tables_of self.now) ordinal → option_map setting_of result ≡ laws.given (setting.now).name.now ordinal (laws.value (tables_of self.now) false ordinal (laws.here (tables_of self.now)) (tree_of_expr (setting.now).expression)) }
     {

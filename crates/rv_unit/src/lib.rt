@@ -15,8 +15,9 @@ mod section;
 mod tables;
 mod unit;
 
+pub use align::{asked_bytes, asked_power, padding, strings_size, values_size};
 pub use place::{Home, Place};
 pub use scope::Scope;
 pub use section::{Extent, Section};
-pub use tables::Given as GivenName;
+pub use tables::Given;
 pub use unit::Unit;

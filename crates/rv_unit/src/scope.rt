@@ -1,17 +1,18 @@
 //! What names mean, statement by statement.
 
-ghost use Rattle.std.specs.Prelude.{◌≡◌, ℕ, ◌+◌, ◌<◌, true, length, option_map, IfOk, OnOk};
+ghost use Rattle.std.specs.Prelude.{◌≡◌, ℕ, ◌+◌, ◌<◌, true, false, length, option_map, IfOk, OnOk};
 ghost use Rattle.rv_text.specs.Nodes.{symbol_of};
 ghost use Rattle.rv_text.specs.Expr.{tree_of_expr};
 ghost use Rattle.rv_text.specs.Eval.{meaning_of, IsOutcome};
 ghost use Rattle.rv_unit_laws.specs.Tables as laws;
 ghost use Rattle.rv_unit.specs.Sections.{place_of};
 ghost use Rattle.rv_unit.specs.Tables.{tables_of, marked_of, IsIndexed};
-ghost use Rattle.rv_unit.specs.Unit.{said, home_of, IsFilled, IsScope};
+ghost use Rattle.rv_unit.specs.Unit.{said, passed, home_of, IsFilled, IsScope};
 
 use crate::place::{Home, Place};
 use crate::tables::{Mark, Tables};
 use crate::unit::Unit;
+use rv_statement::Setting;
 use rv_text::{Expr, Meaning, SourceFault, Symbol, Value};
 use std::alloc::{AllocError, Global};
 
@@ -111,6 +112,16 @@ impl<'u, 'a> Scope<'u, 'a> {
     {
         self.unit
             .value(&self.passed, self.ordinal, place, expression, line)
+    }
+
+    /// Whether the `.set` that is the next statement gives a place.
+    pub fn gives_place(&self, setting: &Setting<'a>) -> bool
+        ensures { (index : ℕ) → IsFilled (self.now).unit.now → IsScope self.now index → result ≡ laws.gives_place (laws.given (setting.now).name.now (index + 1) (laws.value (passed (said (self.now).unit.now) index) false (index + 1) (laws.here (passed (said (self.now).unit.now) index)) (tree_of_expr (setting.now).expression))) }
+    {
+        match self.passed.given(self.ordinal, setting) {
+            Some(given) => given.is_place(),
+            None => false,
+        }
     }
 
     /// Goes on behind the next statement, if there is one.

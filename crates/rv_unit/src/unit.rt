@@ -73,7 +73,6 @@ impl<'a> Unit<'a> {
     {
         self.tables.extents.as_slice()
     }
-
     /// What the `.set`s give, in their order.
     pub fn settings(&self) -> &[Given<'a>]
         ensures { result.now ≡ (self.now).tables.settings.items }

@@ -264,6 +264,11 @@ given name ordinal (Symbolic Here (Placed section offset) plus) =
     Some (record { name = name; ordinal = ordinal; meaning = Placed section (add offset plus); plus = plus })
 given name ordinal _ = None
 
+-- whether a `.set` gives a place
+abbrev pub gives_place : Option Setting → Bool
+gives_place None = false
+gives_place (Some s) = is_placed_setting s
+
 -- no second definition of a name of which either is a label or a place
 abbrev pub may_set : Tables → ℕ → List ℕ → Meaning → Bool
 may_set t ordinal name (Placed section offset) = not (is_defined t ordinal name)

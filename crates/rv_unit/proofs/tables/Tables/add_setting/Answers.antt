@@ -3,7 +3,7 @@ use Rattle.rv_text.specs.Expr.{tree_of_expr}
 use Rattle.rv_unit_laws.specs.Tables.{with_setting, given, value, here}
 use Rattle.rv_unit_laws.proofs.Before.{IsBefore}
 use Rattle.rv_unit.specs.Tables.{tables_of, setting_of, IsIndexed}
-use Rattle.rv_unit.proofs.Given.{on_ok}
+use Rattle.rv_unit.proofs.Gives.{on_ok}
 use Rattle.rv_unit.proofs.tables.Tables.add_setting.Goals as goal
 
 pub returns-in-Some-clause-tables : goal.returns-in-Some-clause-tables

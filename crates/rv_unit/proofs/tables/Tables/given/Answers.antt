@@ -1,7 +1,7 @@
 use Rattle.std.proofs.Common.{◌∙◌, ap, Ok}
 use Rattle.rv_text.specs.Expr.{tree_of_expr}
 use Rattle.rv_unit.specs.Tables.{tables_of}
-use Rattle.rv_unit.proofs.Given.{given_told}
+use Rattle.rv_unit.proofs.Gives.{given_told}
 use Rattle.rv_unit.proofs.tables.Tables.given.Goals as goal
 
 pub returns-in-Ok-Symbolic-clause-value : goal.returns-in-Ok-Symbolic-clause-value
