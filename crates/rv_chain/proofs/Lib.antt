@@ -5,3 +5,7 @@ pub mod SoFarPieces
 pub mod Standing
 pub mod Whole
 pub mod SoFarItems
+pub mod Sound
+pub mod Begins
+pub mod Started
+pub mod SuitsAll
