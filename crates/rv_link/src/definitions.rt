@@ -16,7 +16,7 @@ use crate::rows::{Item, address_of_ordinal, row_address};
 use rv_map::Global;
 use rv_statement::{Statement, StatementKind};
 use rv_text::Meaning;
-use rv_unit::{GivenName as Given, Unit};
+use rv_unit::{Given, Unit};
 use std::alloc::{AllocError, AllocFailed, Global as Allocator};
 
 /// Why a source's names cannot be defined.
@@ -50,13 +50,13 @@ struct Placed<'p, 'a> {
 /// The names that a source defines for all files, with their addresses, in sections that start here.
 pub fn global_definitions(
     alloc: Allocator,
-    names: &Names<'_>,
+    names: &Names<'_, '_>,
     starts: &[u32],
     unit: &Unit<'_>,
     items: &[Item],
 ) -> Result<Vec<Global>, NameFault>
     requires { length items.now ≡ length (unit.now).statements.items }
-    ensures { IfOk result (λ defined. (test : List ℕ → Bool) → IsFilled unit.now → Has (names.now).globals.set test → AreFirsts (names.now).firsts.ordinals (tables (said unit.now)).settings →
+    ensures { IfOk result (λ defined. (test : List ℕ → Bool) → IsFilled unit.now → Has (names.now).globals.now.set test → AreFirsts (names.now).firsts.ordinals (tables (said unit.now)).settings →
         map global_of defined.items ≡ definitions_from test (tables (said unit.now)) starts.now items.now 1 (said unit.now) items.now) }
 {
     let placed = Placed {
@@ -84,13 +84,13 @@ pub fn global_definitions(
 fn put_definition(
     alloc: Allocator,
     defined: &mut Vec<Global>,
-    names: &Names<'_>,
+    names: &Names<'_, '_>,
     placed: &Placed<'_, '_>,
     ordinal: usize,
     statement: &Statement<'_>,
     item: Item,
 ) -> Result<(), NameFault>
-    ensures { OnOk result ((test : List ℕ → Bool) → IsFilled (placed.now).unit.now → Has (names.now).globals.set test → AreFirsts (names.now).firsts.ordinals (tables (said (placed.now).unit.now)).settings →
+    ensures { OnOk result ((test : List ℕ → Bool) → IsFilled (placed.now).unit.now → Has (names.now).globals.now.set test → AreFirsts (names.now).firsts.ordinals (tables (said (placed.now).unit.now)).settings →
         map global_of defined.new.items ≡ map global_of defined.old.items ++ defined_by test (tables (said (placed.now).unit.now)) (placed.now).starts.now (placed.now).items.now ordinal (said_by statement.now).says item) }
 {
     let Some(name) = names.defined(ordinal, statement) else {

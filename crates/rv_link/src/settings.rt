@@ -6,7 +6,7 @@ ghost use Rattle.rv_unit.specs.Tables.{setting_of};
 ghost use Rattle.rv_chain_laws.specs.Resolves.{sets_first};
 ghost use Rattle.rv_link.specs.Settings as laws;
 
-use rv_unit::GivenName as Given;
+use rv_unit::Given;
 use std::alloc::{AllocError, Global};
 use std::collections::HashMap;
 

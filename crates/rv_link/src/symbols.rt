@@ -19,8 +19,8 @@ use rv_statement::{Statement, StatementKind};
 use std::alloc::Global as Allocator;
 
 /// Whether the statement of this ordinal defines the name for all files.
-fn is_named(names: &Names<'_>, ordinal: usize, statement: &Statement<'_>, name: &[u8]) -> bool
-    ensures { (test : List ℕ → Bool) (t : Tables) → Has (names.now).globals.set test → AreFirsts (names.now).firsts.ordinals t.settings → result ≡ is_one_of (named_by test t ordinal (said_by statement.now).says) name.now }
+fn is_named(names: &Names<'_, '_>, ordinal: usize, statement: &Statement<'_>, name: &[u8]) -> bool
+    ensures { (test : List ℕ → Bool) (t : Tables) → Has (names.now).globals.now.set test → AreFirsts (names.now).firsts.ordinals t.settings → result ≡ is_one_of (named_by test t ordinal (said_by statement.now).says) name.now }
 {
     match names.defined(ordinal, statement) {
         Some(own) => own == name,
@@ -39,8 +39,8 @@ fn is_entry(statement: &Statement<'_>) -> bool
 }
 
 /// Whether one of the statements defines the name for all files.
-fn defines(names: &Names<'_>, statements: &[Statement<'_>], name: &[u8]) -> bool
-    ensures { (test : List ℕ → Bool) (t : Tables) → Has (names.now).globals.set test → AreFirsts (names.now).firsts.ordinals t.settings → result ≡ is_one_of (names_from test t 1 (map said_by statements.now)) name.now }
+fn defines(names: &Names<'_, '_>, statements: &[Statement<'_>], name: &[u8]) -> bool
+    ensures { (test : List ℕ → Bool) (t : Tables) → Has (names.now).globals.now.set test → AreFirsts (names.now).firsts.ordinals t.settings → result ≡ is_one_of (names_from test t 1 (map said_by statements.now)) name.now }
 {
     if !names.globals.has(name) {
         return false;
@@ -86,12 +86,12 @@ pub fn entry(
 fn put_symbol(
     alloc: Allocator,
     symbols: &mut Vec<Global>,
-    names: &Names<'_>,
+    names: &Names<'_, '_>,
     statements: &[Statement<'_>],
     name: &str,
     address: u64,
 ) -> Result<(), NameFault>
-    ensures { OnOk result ((test : List ℕ → Bool) (t : Tables) → Has (names.now).globals.set test → AreFirsts (names.now).firsts.ordinals t.settings → map shown_global symbols.new.items ≡ map shown_global symbols.old.items
+    ensures { OnOk result ((test : List ℕ → Bool) (t : Tables) → Has (names.now).globals.now.set test → AreFirsts (names.now).firsts.ordinals t.settings → map shown_global symbols.new.items ≡ map shown_global symbols.old.items
         ++ filter (λ g. not (is_one_of (names_from test t 1 (map said_by statements.now)) g.name)) (symbol name.now address ∷ [])) }
 {
     if defines(names, statements, name.as_bytes()) {
@@ -106,12 +106,12 @@ fn put_symbol(
 pub fn put_symbols(
     alloc: Allocator,
     symbols: &mut Vec<Global>,
-    names: &Names<'_>,
+    names: &Names<'_, '_>,
     statements: &[Statement<'_>],
     layout: &Layout,
 ) -> Result<(), NameFault>
     requires { (layout.now).data.start ≤ 0x3ff0_0000 }
-    ensures { OnOk result ((test : List ℕ → Bool) (t : Tables) → Has (names.now).globals.set test → AreFirsts (names.now).firsts.ordinals t.settings → map shown_global symbols.new.items ≡ map shown_global symbols.old.items
+    ensures { OnOk result ((test : List ℕ → Bool) (t : Tables) → Has (names.now).globals.now.set test → AreFirsts (names.now).firsts.ordinals t.settings → map shown_global symbols.new.items ≡ map shown_global symbols.old.items
         ++ filter (λ g. not (is_one_of (names_from test t 1 (map said_by statements.now)) g.name))
         (symbol (codes "_etext") (layout.now).text.end ∷ symbol (codes "__bss_start") (layout.now).bss.start ∷ symbol (codes "_edata") (layout.now).data.end
         ∷ symbol (codes "_end") (layout.now).bss.end ∷ symbol (codes "__global_pointer$") ((layout.now).data.start + 0x800) ∷ [])) }

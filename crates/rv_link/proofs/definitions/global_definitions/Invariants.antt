@@ -10,6 +10,6 @@ use Rattle.rv_link.proofs.definitions.global_definitions.Given as goal
 -- the definitions so far, and those of what is left, are all of them
 abbrev pub invariant-loop-i : goal.invariant-loop-i
 invariant-loop-i l =
-    (test : List ℕ → Bool) → IsFilled l.unit → Has l.names.globals.set test → AreFirsts l.names.firsts.ordinals (tables (said l.unit)).settings
+    (test : List ℕ → Bool) → IsFilled l.unit → Has l.names.globals.now.set test → AreFirsts l.names.firsts.ordinals (tables (said l.unit)).settings
     → map global_of l.defined.items ++ definitions_from test (tables (said l.unit)) l.starts l.items (l.i + 1) (drop l.i (said l.unit)) (drop l.i l.items)
     ≡ definitions_from test (tables (said l.unit)) l.starts l.items 1 (said l.unit) l.items

@@ -9,5 +9,5 @@ use Rattle.rv_link.proofs.symbols.defines.Given as goal
 
 abbrev pub invariant-loop-i : goal.invariant-loop-i
 invariant-loop-i l =
-    (test : List ℕ → Bool) (t : Tables) → Has l.names.globals.set test → AreFirsts l.names.firsts.ordinals t.settings
+    (test : List ℕ → Bool) (t : Tables) → Has l.names.globals.now.set test → AreFirsts l.names.firsts.ordinals t.settings
     → is_one_of (names_from test t (l.i + 1) (drop l.i (map said_by l.statements))) l.name ≡ is_one_of (names_from test t 1 (map said_by l.statements)) l.name
