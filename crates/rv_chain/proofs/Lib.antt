@@ -9,3 +9,6 @@ pub mod Sound
 pub mod Begins
 pub mod Started
 pub mod SuitsAll
+pub mod Awaited
+pub mod Linking
+pub mod FirstNames

@@ -3,7 +3,9 @@ pub mod Choices
 pub mod Code
 pub mod Coded
 pub mod Fault
+pub mod Linking
 pub mod Pieces
 pub mod Running
 pub mod Sized
+pub mod Undefined
 pub mod Valued

@@ -14,6 +14,7 @@ ghost use Rattle.rv_chain_laws.specs.Refusals.{else_fault};
 ghost use Rattle.rv_chain.specs.Added.{Adds, IsCode, IsCodeSoFar, IsSourceCode};
 ghost use Rattle.rv_chain.specs.Choices.{options_of};
 ghost use Rattle.rv_chain.specs.Code as laws;
+ghost use Rattle.rv_chain.specs.Coded.{AreCoded};
 ghost use Rattle.rv_chain.specs.Code.{GrowsBy, Codes, Evaluates, word_of, full_fault, full_at};
 
 use crate::choices::Choices;
@@ -176,6 +177,7 @@ pub(crate) fn code(alloc: Global, unit: &Unit<'_>) -> Result<Vec<Vec<u8>>, Sourc
     requires { IsFilled unit.now }
     ensures count { IfOk result (λ sections. length sections.items ≡ length (unit.now).tables.extents.items) }
     ensures code { IsSourceCode (said unit.now) result }
+    ensures coded { IfOk result (λ _. AreCoded (said unit.now)) }
 {
     let mut coder = Coder::new(alloc, unit.sections().len())?;
     let mut scope = Scope::new(alloc, unit)?;

@@ -1,0 +1,165 @@
+-- The first names without an address, section by section.
+
+use Rattle.std.proofs.Common.{◌≡◌, ℕ, suc, zero, ◌+◌, ◌<◌, ◌==◌, Bool, true, false, cond, List, [], ◌∷◌, ◌++◌, length, drop, Option, Some, None, refl, sym, ap, ◌∙◌, subst, arith, append-nil, append_assoc}
+use Rattle.std.proofs.lemmas.Bool.Decides.{nat_tests}
+use Rattle.std.specs.Prelude.{◌&&◌, ◌||◌, filter, flat_map, replicate, option_map, slice_index_or, if◌then◌else◌}
+use Rattle.std.specs.List.{list_any}
+use Rattle.std.specs.Borrow.{Bor}
+use Rattle.rv_statement.specs.Statement.{Spoken}
+use Rattle.rv_statement.specs.View.{now_of}
+use Rattle.rv_unit_laws.specs.Sections.{Section}
+use Rattle.rv_unit_laws.specs.Tables.{Tables, tables, at_start, after}
+use Rattle.rv_chain_laws.specs.Stated.{Stated, stated, stated_from, has_row}
+use Rattle.rv_chain_laws.specs.Refusals.{first_name, missing_by, in_sections, undefined}
+use Rattle.rv_link.specs.declared.rows.Item.{Item}
+use Rattle.rv_link_laws.specs.Items.{AreItems, grown}
+use Rattle.rv_chain.specs.Undefined.{shown_by, found_in, else_name, first_in}
+
+-- ---- statements with rows
+
+rows_shown : (k : ℕ) (t : Tables) (before last : ℕ → ℕ) (ss : List Spoken) (is : List Item) (ordinal : ℕ) → AreItems k t before ss is last
+    → list_any (λ (s : Stated). (s.ordinal == ordinal) && has_row s) (stated_from 1 k t ss) ≡ shown_by k is ordinal
+rows_shown k t before last [] [] ordinal h = refl
+rows_shown k t before last [] (i ∷ is) ordinal h = absurd h
+rows_shown k t before last (s ∷ ss) [] ordinal h = absurd h
+rows_shown k t before last (s ∷ ss) (i ∷ is) ordinal (item, items) =
+    ap (λ b. ((k == ordinal) && b) || list_any (λ (s : Stated). (s.ordinal == ordinal) && has_row s) (stated_from 1 (suc k) (after t k s.says) ss)) (sym item.shown)
+    ∙ ap (λ r. ((k == ordinal) && i.shown) || r) (rows_shown (suc k) (after t k s.says) (grown before i) last ss is ordinal items)
+
+one_file : (ss : List Spoken) → stated (ss ∷ []) ≡ stated_from 1 1 at_start ss
+one_file ss = append-nil (stated_from 1 1 at_start ss)
+
+-- a statement of a source has a row where its item is shown
+pub row_shown : (ss : List Spoken) (is : List Item) (last : ℕ → ℕ) (ordinal : ℕ) → AreItems 1 at_start (λ j. 0) ss is last
+    → list_any (λ (s : Stated). (s.ordinal == ordinal) && has_row s) (stated (ss ∷ [])) ≡ shown_by 1 is ordinal
+row_shown ss is last ordinal items =
+    ap (λ l. list_any (λ (s : Stated). (s.ordinal == ordinal) && has_row s) l) (one_file ss) ∙ rows_shown 1 at_start (λ j. 0) last ss is ordinal items
+
+apart : (k n : ℕ) → n < k → (k == n) ≡ false
+apart k n below = grind (arith, nat_tests)
+
+apart_above : (k n : ℕ) → k < n → (k == n) ≡ false
+apart_above k n below = grind (arith, nat_tests)
+
+same : (k n : ℕ) → n ≡ k → (k == n) ≡ true
+same k n e = grind (arith, nat_tests)
+
+-- none of the statements before the first is shown
+shown_low : (k ordinal : ℕ) (is : List Item) → ordinal < k → shown_by k is ordinal ≡ false
+shown_low k ordinal [] low = refl
+shown_low k ordinal (i ∷ is) low = ap (λ b. (b && i.shown) || shown_by (suc k) is ordinal) (apart k ordinal low) ∙ shown_low (suc k) ordinal is (omega arith)
+
+or_false : (b : Bool) → (b || false) ≡ b
+or_false true = refl
+or_false false = refl
+
+-- the item of a statement by its ordinal
+pub shown_nth : (k n ordinal : ℕ) (is : List Item) (d : Item) → d.shown ≡ false → ordinal ≡ k + n → shown_by k is ordinal ≡ (slice_index_or is n d).shown
+shown_nth k n ordinal [] d hidden e = sym hidden
+shown_nth k zero ordinal (i ∷ is) d hidden e =
+    ap (λ b. (b && i.shown) || shown_by (suc k) is ordinal) (same k ordinal (omega arith))
+    ∙ ap (λ b. i.shown || b) (shown_low (suc k) ordinal is (omega arith)) ∙ or_false i.shown
+shown_nth k (suc n) ordinal (i ∷ is) d hidden e =
+    ap (λ b. (b && i.shown) || shown_by (suc k) is ordinal) (apart_above k ordinal (omega arith)) ∙ shown_nth (suc k) n ordinal is d hidden (omega arith)
+
+-- an ordinal is none of a statement's
+pub shown_none : (ordinal : ℕ) (is : List Item) → ordinal ≡ 0 → shown_by 1 is ordinal ≡ false
+shown_none ordinal is e = shown_low 1 ordinal is (omega arith)
+
+shown_high : (k ordinal : ℕ) (is : List Item) → k + length is < ordinal + 1 → shown_by k is ordinal ≡ false
+shown_high k ordinal [] high = refl
+shown_high k ordinal (i ∷ is) high = ap (λ b. (b && i.shown) || shown_by (suc k) is ordinal) (apart_above k ordinal (omega arith)) ∙ shown_high (suc k) ordinal is (omega arith)
+
+pub shown_past : (ordinal : ℕ) (is : List Item) → length is < ordinal → shown_by 1 is ordinal ≡ false
+shown_past ordinal is past = shown_high 1 ordinal is (omega arith)
+
+-- ---- the first of names
+
+pub first_joined : (xs ys : List (List ℕ)) → first_name (xs ++ ys) ≡ else_name (first_name xs) (first_name ys)
+first_joined [] ys = refl
+first_joined (x ∷ xs) ys = refl
+
+else_assoc : (a b c : Option (List ℕ)) → else_name (else_name a b) c ≡ else_name a (else_name b c)
+else_assoc None b c = refl
+else_assoc (Some name) b c = refl
+
+pub else_none : (a : Option (List ℕ)) → else_name a None ≡ a
+else_none None = refl
+else_none (Some name) = refl
+
+pub first_loaded : (loaded : Bool) (names : List (List ℕ)) → first_name (if loaded then names else []) ≡ (if loaded then first_name names else None)
+first_loaded true names = refl
+first_loaded false names = refl
+
+abbrev firsts : List Spoken → ℕ → List Stated → Option (List ℕ)
+firsts ss j sts = first_name (flat_map (missing_by ss) (filter (λ (s : Stated). s.section == j) sts))
+
+first_next : (ss : List Spoken) (j : ℕ) (s : Stated) (rest : List Stated) → firsts ss j (s ∷ rest) ≡ (if s.section == j then else_name (first_name (missing_by ss s)) (firsts ss j rest) else firsts ss j rest)
+first_next ss j s rest = go (s.section == j)
+  where
+    go : (b : Bool) → first_name (flat_map (missing_by ss) (cond b (s ∷ filter (λ (s : Stated). s.section == j) rest) (filter (λ (s : Stated). s.section == j) rest)))
+        ≡ (if b then else_name (first_name (missing_by ss s)) (firsts ss j rest) else firsts ss j rest)
+    go true = first_joined (missing_by ss s) (flat_map (missing_by ss) (filter (λ (s : Stated). s.section == j) rest))
+    go false = refl
+
+-- what was found, and else the first of what is left, is the first of all
+abbrev pub FirstSoFar : List Spoken → ℕ → List (Option (Bor (List ℕ))) → Type 0
+FirstSoFar ss i found = (j : ℕ) → else_name (found_in found j) (firsts ss j (drop i (stated_from 1 1 at_start ss))) ≡ first_in ss j
+
+nothing_found : (n j : ℕ) → found_in (replicate n None) j ≡ None
+nothing_found zero j = refl
+nothing_found (suc n) zero = refl
+nothing_found (suc n) (suc j) = nothing_found n j
+
+pub first_begins : (ss : List Spoken) (n : ℕ) (found : List (Option (Bor (List ℕ)))) → found ≡ replicate n None → FirstSoFar ss 0 found
+first_begins ss n found e j =
+    ap (λ f. else_name (found_in f j) (firsts ss j (stated_from 1 1 at_start ss))) e
+    ∙ ap (λ o. else_name o (firsts ss j (stated_from 1 1 at_start ss))) (nothing_found n j)
+    ∙ ap (λ l. firsts ss j l) (sym (one_file ss))
+
+pub first_more : (ss : List Spoken) (i : ℕ) (s : Stated) (old new : List (Option (Bor (List ℕ)))) → drop i (stated_from 1 1 at_start ss) ≡ s ∷ drop (i + 1) (stated_from 1 1 at_start ss)
+    → ((j : ℕ) → found_in new j ≡ (if s.section == j then else_name (found_in old j) (first_name (missing_by ss s)) else found_in old j))
+    → FirstSoFar ss i old → FirstSoFar ss (i + 1) new
+first_more ss i s old new next kept h j =
+    ap (λ o. else_name o (firsts ss j rest)) (kept j) ∙ go (s.section == j) ∙ ap (λ o. else_name (found_in old j) o) (sym (first_next ss j s rest))
+    ∙ ap (λ l. else_name (found_in old j) (firsts ss j l)) (sym next) ∙ h j
+  where
+    rest : List Stated
+    rest = drop (i + 1) (stated_from 1 1 at_start ss)
+
+    go : (b : Bool) → else_name (if b then else_name (found_in old j) (first_name (missing_by ss s)) else found_in old j) (firsts ss j rest)
+        ≡ else_name (found_in old j) (if b then else_name (first_name (missing_by ss s)) (firsts ss j rest) else firsts ss j rest)
+    go true = else_assoc (found_in old j) (first_name (missing_by ss s)) (firsts ss j rest)
+    go false = refl
+
+pub first_all : (ss : List Spoken) (i : ℕ) (found : List (Option (Bor (List ℕ)))) → drop i (stated_from 1 1 at_start ss) ≡ [] → FirstSoFar ss i found → (j : ℕ) → found_in found j ≡ first_in ss j
+first_all ss i found none h j = sym (else_none (found_in found j)) ∙ ap (λ l. else_name (found_in found j) (firsts ss j l)) (sym none) ∙ h j
+
+-- ---- the first of all sections
+
+-- the first that was found
+abbrev pub first_some : List (Option (Bor (List ℕ))) → Option (List ℕ)
+first_some [] = None
+first_some (o ∷ os) = else_name (option_map now_of o) (first_some os)
+
+map_joined : (f : Stated → List (List ℕ)) (xs ys : List Stated) → flat_map f (xs ++ ys) ≡ flat_map f xs ++ flat_map f ys
+map_joined f [] ys = refl
+map_joined f (x ∷ xs) ys = ap (λ l. f x ++ l) (map_joined f xs ys) ∙ sym (append_assoc (f x) (flat_map f xs) (flat_map f ys))
+
+sections_firsts : (ss : List Spoken) (k : ℕ) (sections : List Section) (found : List (Option (Bor (List ℕ)))) → length found ≡ length sections
+    → ((j : ℕ) → found_in found j ≡ first_in ss (k + j)) → first_some found ≡ first_name (flat_map (missing_by ss) (in_sections (stated (ss ∷ [])) k sections))
+sections_firsts ss k [] [] e h = refl
+sections_firsts ss k [] (o ∷ os) e h = absurd (cc)
+sections_firsts ss k (section ∷ sections) [] e h = absurd (cc)
+sections_firsts ss k (section ∷ sections) (o ∷ os) e h =
+    let own = filter (λ (s : Stated). s.section == k) (stated (ss ∷ [])) in
+    let others = in_sections (stated (ss ∷ [])) (suc k) sections in
+    let here : k + 0 ≡ k = omega arith in
+    ap (λ a. else_name a (first_some os)) (h 0 ∙ ap (first_in ss) here)
+    ∙ ap (λ a. else_name (first_in ss k) a) (sections_firsts ss (suc k) sections os (omega arith) (λ j. h (suc j) ∙ (let n : k + suc j ≡ suc k + j = omega arith in ap (first_in ss) n)))
+    ∙ sym (first_joined (flat_map (missing_by ss) own) (flat_map (missing_by ss) others))
+    ∙ ap first_name (sym (map_joined (missing_by ss) own others))
+
+pub first_undefined : (ss : List Spoken) (found : List (Option (Bor (List ℕ)))) → length found ≡ length (tables ss).opened.sections
+    → ((j : ℕ) → found_in found j ≡ first_in ss j) → first_some found ≡ undefined ss
+first_undefined ss found e h = sections_firsts ss 0 (tables ss).opened.sections found e (λ j. h j ∙ (let n : j ≡ 0 + j = omega arith in ap (first_in ss) n))

@@ -1,0 +1,213 @@
+//! The names that data refer to and nobody defines.
+
+ghost use Rattle.std.specs.Prelude.{◌≡◌, ◌<◌, ◌==◌, ◌∷◌, [], ℕ, None, map, length, option_map, IfOk, OnOk, if◌then◌else◌};
+ghost use Rattle.rv_text_laws.specs.Values as values;
+ghost use Rattle.rv_text.specs.Nodes.{symbol_of};
+ghost use Rattle.rv_text.specs.Eval.{value_told};
+ghost use Rattle.rv_text.specs.Expr.{tree_of_expr};
+ghost use Rattle.rv_statement.specs.View.{said_by};
+ghost use Rattle.rv_unit_laws.specs.Tables.{at_start};
+ghost use Rattle.rv_unit.specs.Sections.{place_of};
+ghost use Rattle.rv_unit.specs.Unit.{said, IsFilled};
+ghost use Rattle.rv_chain_laws.specs.Refusals as laws;
+ghost use Rattle.rv_chain_laws.specs.Refusals.{data_values, first_name};
+ghost use Rattle.rv_link_laws.specs.Items.{AreItems};
+ghost use Rattle.rv_chain.specs.Undefined.{shown_by, addressed, missing_at, Sees, IsFirst, found_in, else_name, first_in};
+
+use rv_link::Item;
+use rv_statement::{Statement, StatementKind};
+use rv_text::{Expr, SourceFault, Symbol, Value};
+use rv_unit::{Place, Scope, Unit};
+use std::alloc::Global;
+
+/// Whether a name that is no place of the source is one that the linker gives.
+fn is_linkers(symbol: Symbol<'_>) -> bool
+    ensures { result ≡ laws.is_linkers (symbol_of symbol.entry) }
+{
+    let Symbol::Name(name) = symbol else {
+        return false;
+    };
+    if name == b"_etext".as_slice() {
+        return true;
+    }
+    if name == b"__bss_start".as_slice() {
+        return true;
+    }
+    if name == b"_edata".as_slice() {
+        return true;
+    }
+    if name == b"_end".as_slice() {
+        return true;
+    }
+    name == b"__global_pointer$".as_slice()
+}
+
+/// Whether the statement of this ordinal, from 1, has a row.
+fn is_shown(items: &[Item], ordinal: usize) -> bool
+    ensures { result ≡ shown_by 1 items.now ordinal }
+{
+    if ordinal == 0 {
+        return false;
+    }
+    if ordinal > items.len() {
+        return false;
+    }
+    items[ordinal - 1].shown
+}
+
+/// Whether what the next statement names has an address.
+fn has_address<'a>(scope: &Scope<'_, 'a>, items: &[Item], symbol: Symbol<'a>) -> bool
+    ensures { (index : ℕ) → Sees scope.now items.now index → result ≡ addressed (said (scope.now).unit.now) index (symbol_of symbol.entry) }
+{
+    match scope.home(symbol) {
+        Some(home) => is_shown(items, home.ordinal),
+        None => is_linkers(symbol),
+    }
+}
+
+/// The name of what has no address; only names have one that is not empty.
+fn missing<'a>(scope: &Scope<'_, 'a>, items: &[Item], symbol: Symbol<'a>) -> Option<&'a [u8]>
+    ensures { (index : ℕ) → Sees scope.now items.now index → IsFirst result (laws.missing (addressed (said (scope.now).unit.now) index) (symbol_of symbol.entry)) }
+{
+    if has_address(scope, items, symbol) {
+        return None;
+    }
+    match symbol {
+        Symbol::Name(name) => Some(name),
+        _ => Some(b""),
+    }
+}
+
+/// The first name without an address that a value refers to: of a difference first what is added.
+fn missing_in<'a>(scope: &Scope<'_, 'a>, items: &[Item], value: Value<'a>) -> Option<&'a [u8]>
+    ensures { (index : ℕ) (v : values.Value) → Sees scope.now items.now index → value_told value.entry v → IsFirst result (laws.missing_in (addressed (said (scope.now).unit.now) index) v) }
+{
+    match value {
+        Value::Constant(_) => None,
+        Value::Symbolic(symbol, _) => missing(scope, items, symbol),
+        Value::Difference(symbol, minus, _) => match missing(scope, items, symbol) {
+            Some(name) => Some(name),
+            None => missing(scope, items, minus),
+        },
+    }
+}
+
+/// The first name without an address that a value of the next statement refers to.
+fn missing_of<'a>(
+    scope: &Scope<'_, 'a>,
+    items: &[Item],
+    value: &Expr<'a>,
+    place: Place,
+    line: u32,
+) -> Result<Option<&'a [u8]>, SourceFault>
+    ensures { IfOk result (λ found. (index : ℕ) → Sees scope.now items.now index → IsFirst found (missing_at (said (scope.now).unit.now) index (place_of place) (tree_of_expr value.now ∷ []))) }
+{
+    let value = scope.value(place, value, line)?;
+    Ok(missing_in(scope, items, value))
+}
+
+/// The first name without an address that values of the next statement refer to.
+fn missing_among<'a>(
+    scope: &Scope<'_, 'a>,
+    items: &[Item],
+    values: &[Expr<'a>],
+    place: Place,
+    line: u32,
+) -> Result<Option<&'a [u8]>, SourceFault>
+    ensures { IfOk result (λ found. (index : ℕ) → Sees scope.now items.now index → IsFirst found (missing_at (said (scope.now).unit.now) index (place_of place) (map tree_of_expr values.now))) }
+{
+    for value in values {
+        match missing_of(scope, items, value, place, line)? {
+            Some(name) => return Ok(Some(name)),
+            None => {}
+        }
+    }
+    Ok(None)
+}
+
+/// The first name without an address that the data of the next statement refer to.
+fn missing_by<'a>(
+    scope: &Scope<'_, 'a>,
+    items: &[Item],
+    statement: &Statement<'a>,
+    place: Place,
+) -> Result<Option<&'a [u8]>, SourceFault>
+    ensures { IfOk result (λ found. (index : ℕ) → Sees scope.now items.now index → IsFirst found (missing_at (said (scope.now).unit.now) index (place_of place) (data_values (said_by statement.now).says))) }
+{
+    let line = statement.line;
+    match &statement.kind {
+        StatementKind::Value(_, value) => missing_of(scope, items, value, place, line),
+        StatementKind::Values(_, values) => {
+            missing_among(scope, items, values.as_slice(), place, line)
+        }
+        _ => Ok(None),
+    }
+}
+
+/// Keeps the first name without an address that the data of the next statement refer to, where its section is loaded
+/// and has none yet.
+fn keep<'a>(
+    found: &mut [Option<&'a [u8]>],
+    scope: &Scope<'_, 'a>,
+    items: &[Item],
+    statement: &Statement<'a>,
+    place: Place,
+    loaded: bool,
+) -> Result<(), SourceFault>
+    requires { place.section < length found.old }
+    ensures { OnOk result ((index j : ℕ) → Sees scope.now items.now index → found_in found.new j ≡ (if place.section == j
+        then else_name (found_in found.old j) (if loaded then first_name (missing_at (said (scope.now).unit.now) index (place_of place) (data_values (said_by statement.now).says)) else None)
+        else found_in found.old j)) }
+{
+    let section = place.section as usize;
+    if !loaded || found[section].is_some() {
+        return Ok(());
+    }
+    let name = missing_by(scope, items, statement, place)?;
+    found[section] = name;
+    Ok(())
+}
+
+/// Of each section that is loaded, the first name without an address to which its data refer.
+fn missing_names<'a>(
+    alloc: Global,
+    unit: &Unit<'a>,
+    items: &[Item],
+) -> Result<Vec<Option<&'a [u8]>>, SourceFault>
+    requires { IsFilled unit.now }
+    ensures count { IfOk result (λ found. length found.items ≡ length (unit.now).tables.extents.items) }
+    ensures first { IfOk result (λ found. (last : ℕ → ℕ) (j : ℕ) → AreItems 1 at_start (λ j. 0) (said unit.now) items.now last → found_in found.items j ≡ first_in (said unit.now) j) }
+{
+    let sections = unit.sections();
+    let mut found = vec![in alloc; None; sections.len()]?;
+    let mut scope = Scope::new(alloc, unit)?;
+    let statements = unit.statements();
+    let places = unit.places();
+    for index in 0..statements.len() {
+        let place = places[index];
+        let loaded = sections[place.section as usize].section.loaded;
+        let names = found.as_mut_slice();
+        keep(names, &scope, items, &statements[index], place, loaded)?;
+        scope.pass()?;
+    }
+    Ok(found)
+}
+
+/// The first name that data refer to and that has no address, by section and then by statement.
+pub(crate) fn undefined(
+    alloc: Global,
+    unit: &Unit<'_>,
+    items: &[Item],
+) -> Result<Option<Vec<u8>>, SourceFault>
+    requires { IsFilled unit.now }
+    ensures { IfOk result (λ found. (last : ℕ → ℕ) → AreItems 1 at_start (λ j. 0) (said unit.now) items.now last → option_map (λ name. name.items) found ≡ laws.undefined (said unit.now)) }
+{
+    let names = missing_names(alloc, unit, items)?;
+    for name in names.as_slice() {
+        match name {
+            Some(name) => return Ok(Some(Vec::from_slice(alloc, *name)?)),
+            None => {}
+        }
+    }
+    Ok(None)
+}
