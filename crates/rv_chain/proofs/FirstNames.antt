@@ -1,11 +1,12 @@
 -- The first names without an address, section by section.
 
-use Rattle.std.proofs.Common.{◌≡◌, ℕ, suc, zero, ◌+◌, ◌<◌, ◌==◌, Bool, true, false, cond, List, [], ◌∷◌, ◌++◌, length, drop, Option, Some, None, refl, sym, ap, ◌∙◌, subst, arith, append-nil, append_assoc}
+use Rattle.std.proofs.Common.{◌≡◌, ◌≢◌, set, get_or-set_same, get_or-set_other, ℕ, suc, zero, ◌+◌, ◌<◌, ◌==◌, Bool, true, false, cond, List, [], ◌∷◌, ◌++◌, length, drop, Option, Some, None, refl, sym, ap, ◌∙◌, subst, arith, append-nil, append_assoc}
 use Rattle.std.proofs.lemmas.Bool.Decides.{nat_tests}
-use Rattle.std.specs.Prelude.{◌&&◌, ◌||◌, filter, flat_map, replicate, option_map, slice_index_or, if◌then◌else◌}
+use Rattle.std.proofs.lemmas.Bool.{eqb-true}
+use Rattle.std.specs.Prelude.{◌&&◌, ◌||◌, filter, flat_map, replicate, option_map, is_some, slice_index_or, if◌then◌else◌}
 use Rattle.std.specs.List.{list_any}
 use Rattle.std.specs.Borrow.{Bor}
-use Rattle.rv_statement.specs.Statement.{Spoken}
+use Rattle.rv_statement.specs.Statement.{Spoken, Expression}
 use Rattle.rv_statement.specs.View.{now_of}
 use Rattle.rv_unit_laws.specs.Sections.{Section}
 use Rattle.rv_unit_laws.specs.Tables.{Tables, tables, at_start, after}
@@ -163,3 +164,58 @@ sections_firsts ss k (section ∷ sections) (o ∷ os) e h =
 pub first_undefined : (ss : List Spoken) (found : List (Option (Bor (List ℕ)))) → length found ≡ length (tables ss).opened.sections
     → ((j : ℕ) → found_in found j ≡ first_in ss j) → first_some found ≡ undefined ss
 first_undefined ss found e h = sections_firsts ss 0 (tables ss).opened.sections found e (λ j. h j ∙ (let n : j ≡ 0 + j = omega arith in ap (first_in ss) n))
+
+-- ---- one value, and one statement
+
+one_none : (xs ys : List (List ℕ)) → None ≡ first_name (xs ++ []) → first_name ys ≡ first_name (xs ++ ys)
+one_none [] ys e = refl
+one_none (x ∷ xs) ys e = absurd (cc)
+
+one_some : (xs ys : List (List ℕ)) (name : List ℕ) → Some name ≡ first_name (xs ++ []) → Some name ≡ first_name (xs ++ ys)
+one_some [] ys name e = absurd (cc)
+one_some (x ∷ xs) ys name e = e
+
+-- a value that misses nothing, and one that misses a name
+pub none_here : (f : Expression → List (List ℕ)) (e : Expression) (es : List Expression) → None ≡ first_name (flat_map f (e ∷ [])) → first_name (flat_map f es) ≡ first_name (flat_map f (e ∷ es))
+none_here f e es h = one_none (f e) (flat_map f es) h
+
+pub some_here : (f : Expression → List (List ℕ)) (e : Expression) (es : List Expression) (name : List ℕ) → Some name ≡ first_name (flat_map f (e ∷ [])) → Some name ≡ first_name (flat_map f (e ∷ es))
+some_here f e es name h = one_some (f e) (flat_map f es) name h
+
+pub kept_none : (b loaded : Bool) (o m : Option (List ℕ)) → loaded ≡ false → o ≡ (if b then else_name o (if loaded then m else None) else o)
+kept_none true false o m e = sym (else_none o)
+kept_none true true o m e = absurd (cc)
+kept_none false loaded o m e = refl
+
+else_some : (o : Option (Bor (List ℕ))) (m : Option (List ℕ)) → is_some o ≡ true → option_map now_of o ≡ else_name (option_map now_of o) m
+else_some None m e = absurd (cc)
+else_some (Some name) m e = refl
+
+else_first : (o : Option (Bor (List ℕ))) (m : Option (List ℕ)) → is_some o ≡ false → m ≡ else_name (option_map now_of o) m
+else_first None m e = refl
+else_first (Some name) m e = absurd (cc)
+
+pub kept_some : (found : List (Option (Bor (List ℕ)))) (section j : ℕ) (m : Option (List ℕ)) → is_some (slice_index_or found section None) ≡ true
+    → found_in found j ≡ (if section == j then else_name (found_in found j) m else found_in found j)
+kept_some found section j m some = go (section == j) refl
+  where
+    go : (b : Bool) → (section == j) ≡ b → found_in found j ≡ (if b then else_name (found_in found j) m else found_in found j)
+    go true e = else_some (slice_index_or found j None) m (subst (λ k. is_some (slice_index_or found k None) ≡ true) (eqb-true section j e) some)
+    go false e = refl
+
+same_number : (a b : ℕ) → b ≡ a → (a == b) ≡ true
+same_number a b e = grind (arith, nat_tests)
+
+pub kept_set : (found : List (Option (Bor (List ℕ)))) (section j : ℕ) (o : Option (Bor (List ℕ))) → section < length found → is_some (slice_index_or found section None) ≡ false
+    → found_in (set found section o) j ≡ (if section == j then else_name (found_in found j) (option_map now_of o) else found_in found j)
+kept_set found section j o inside none = go (section == j) refl
+  where
+    go : (b : Bool) → (section == j) ≡ b → found_in (set found section o) j ≡ (if b then else_name (found_in found j) (option_map now_of o) else found_in found j)
+    go true e =
+        let same : section ≡ j = eqb-true section j e in
+        ap (λ k. found_in (set found section o) k) (sym same)
+        ∙ ap (option_map now_of) (get_or-set_same found section o None inside)
+        ∙ else_first (slice_index_or found j None) (option_map now_of o) (subst (λ k. is_some (slice_index_or found k None) ≡ false) same none)
+    go false e =
+        let other : j ≢ section = λ same. (let e' : (section == j) ≡ true = same_number section j same in absurd (cc)) in
+        ap (option_map now_of) (get_or-set_other found section j o None other)

@@ -1,10 +1,12 @@
 -- The parts of a source that is placed make the linked program of the source.
 
-use Rattle.std.proofs.Common.{◌≡◌, ℕ, suc, ◌+◌, ◌*◌, ◌/◌, ◌-◌, ◌%◌, ◌<◌, ◌≤◌, Bool, true, false, List, [], ◌∷◌, ◌++◌, length, map, max, refl, sym, ap, ◌∙◌, subst, arith, None, Some}
-use Rattle.std.specs.Prelude.{if◌then◌else◌, slice_index_or, slice_index}
+use Rattle.std.proofs.Common.{◌≡◌, ℕ, suc, ◌+◌, ◌*◌, ◌/◌, ◌-◌, ◌%◌, ◌^◌, ◌<◌, ◌≤◌, Bool, true, false, List, [], ◌∷◌, ◌++◌, length, map, max, refl, sym, ap, ◌∙◌, subst, arith, None, Some}
+use Rattle.std.specs.Prelude.{codes, if◌then◌else◌, slice_index_or, slice_index}
 use Rattle.std.specs.Global.{Vec}
 use Rattle.std.proofs.lemmas.List.{length-map, length-replicate}
+use Rattle.rv_statement.specs.declared.statement.Statement.{Statement}
 use Rattle.rv_statement.specs.Statement.{Spoken}
+use Rattle.rv_statement.specs.View.{said_by}
 use Rattle.rv_unit_laws.specs.Sections.{Section, goes_to_text}
 use Rattle.rv_unit_laws.specs.Tables.{Tables, tables, at_start}
 use Rattle.rv_unit_laws.specs.Faults.{first_fault}
@@ -12,7 +14,10 @@ use Rattle.rv_unit.specs.declared.unit.Unit.{Unit as SourceUnit}
 use Rattle.rv_unit.specs.Sections.{extent_section}
 use Rattle.rv_unit.specs.Unit.{said, IsFilled}
 use Rattle.rv_map.specs.Map.{Map, Global}
-use Rattle.rv_chain_laws.specs.Contents.{IsLinked, code_bytes}
+use Rattle.rv_map.specs.declared.map.Row.{Row}
+use Rattle.rv_image.specs.Linked.{Linked}
+use Rattle.rv_chain_laws.specs.Contents.{IsLinked}
+use Rattle.rv_chain_laws.specs.Resolves.{is_global_after}
 use Rattle.rv_chain_laws.specs.Sites.{program}
 use Rattle.rv_chain_laws.specs.Stated.{stated}
 use Rattle.rv_chain_laws.proofs.LaidOut.{AreRegions}
@@ -23,14 +28,18 @@ use Rattle.rv_link.specs.declared.piece.Destination.TheVariants.{Data, Bss, Text
 use Rattle.rv_link.specs.declared.piece.Piece.{Piece}
 use Rattle.rv_link.specs.declared.layout.Layout.{Layout}
 use Rattle.rv_link.specs.Layout.{IsLayout, aligned, goes, end_behind, end_of, started, greatest}
+use Rattle.rv_link.specs.declared.rows.Item.{Item}
+use Rattle.rv_link.specs.Contents.{contents_of}
+use Rattle.rv_link.specs.Definitions.{entry_from}
+use Rattle.rv_link.specs.Globals.{NameSet, Has, AreGlobals}
 use Rattle.rv_link.specs.Rows.{rows_from}
 use Rattle.rv_link.proofs.Placed.{one_or_more}
 use Rattle.rv_link_laws.specs.Bytes.{AreEach}
-use Rattle.rv_link_laws.specs.Laws.{PlacedLinks, PlacedNames}
+use Rattle.rv_link_laws.specs.Laws.{PlacedLinks, PlacedNames, map_of}
 use Rattle.rv_link_laws.specs.Pieces.{ArePieces}
 use Rattle.rv_chain.specs.Code.{bytes_in, section_code}
 use Rattle.rv_chain.specs.Coded.{AreCoded}
-use Rattle.rv_chain.specs.Valued.{IsData}
+use Rattle.rv_chain.specs.Valued.{IsData, GivesData}
 use Rattle.rv_chain.specs.Pieces.{AreAllPieces}
 use Rattle.rv_chain.specs.Linking.{StandsFrom, AreNamed, Begins, map_from, program_from}
 use Rattle.rv_chain.specs.declared.placed.Placed.{Placed}
@@ -106,6 +115,14 @@ pieces_of u ends xs filled all =
     subst (λ s. ArePieces (tables (said u)) (λ j. slice_index ends j) 0 s xs) (ap (λ t. t.opened.sections) filled.tables)
     (all (tables (said u)) (sym (ap (λ t. t.alignments) filled.tables)))
 
+-- each section has bytes of data
+pub figures_count : (u : SourceUnit) (start entry : ℕ) (x : Placed) (globals : List Global) (figures figures_now : List (Vec ℕ)) → IsFilled u → StandsFrom (said u) start x
+    → length x.pieces.items ≡ length u.tables.extents.items → figures_now ≡ figures
+    → GivesData (said u) x.layout.starts.items x.items.items globals (map (λ b. b.items) figures) → length figures_now ≡ length x.pieces.items
+figures_count u start entry x globals figures figures_now filled stands count same gives =
+    let held = gives stands.last (map_from x entry globals) stands.items stands.sized refl refl in
+    ap (λ l. length l) same ∙ sym (lists_count figures) ∙ each_count (tables (said u)).opened.sections (map (λ b. b.items) figures) held.each ∙ sections_count u filled ∙ sym count
+
 -- ---- the program
 
 pub linked_from : PlacedLinks → PlacedNames → (ss : List Spoken) (start entry : ℕ) (x : Placed) (globals : List Global) (texts figures : List (Vec ℕ))
@@ -135,3 +152,74 @@ linked_from links names ss start entry x globals texts figures good page stands 
       constants = are.constants;
       variables = are.variables;
     })
+
+-- a program has its regions, and fits memory
+pub record IsWhole (ss : List Spoken) (start : ℕ) (l : Linked) : Type 0 where
+  pub linked : IsLinked (ss ∷ []) start l
+  pub regions : AreRegions l
+  pub even : l.map.entry % 2 ≡ 0
+  pub limit : length l.text + length l.rodata + (l.map.bss.end - l.map.data.start) ≤ 2 ^ 28
+
+fits_memory : (l : Linked) → AreRegions l → (l.map.text.end - l.map.text.start) + (l.map.rodata.end - l.map.rodata.start) + (l.map.bss.end - l.map.data.start) ≤ 2 ^ 28
+    → length l.text + length l.rodata + (l.map.bss.end - l.map.data.start) ≤ 2 ^ 28
+fits_memory l are low =
+    let t = are.text in
+    let r = are.rodata in
+    omega arith
+
+-- the parts as they were made
+pub whole : (ss : List Spoken) (start entry : ℕ) (x : Placed) (globals : List Global) (texts figures : List (Vec ℕ)) (text rodata variables : List ℕ) (m : Map)
+    → text ≡ (program_from x entry globals texts figures).text → rodata ≡ (program_from x entry globals texts figures).rodata
+    → variables ≡ (program_from x entry globals texts figures).data → m ≡ map_from x entry globals → IsLayout start x.pieces.items x.layout
+    → IsLinked (ss ∷ []) start (program_from x entry globals texts figures)
+    → IsWhole ss start (record { text = text; rodata = rodata; «data» = variables; map = m; rvc = false })
+whole ss start entry x globals texts figures text rodata variables m text_is rodata_is variables_is map_is lies h =
+    let p = program_from x entry globals texts figures in
+    let linked : IsLinked (ss ∷ []) start (record { text = text; rodata = rodata; «data» = variables; map = m; rvc = false }) =
+    subst (λ t. IsLinked (ss ∷ []) start (record { text = t; rodata = rodata; «data» = variables; map = m; rvc = false })) (sym text_is)
+    (subst (λ t. IsLinked (ss ∷ []) start (record { text = p.text; rodata = t; «data» = variables; map = m; rvc = false })) (sym rodata_is)
+    (subst (λ t. IsLinked (ss ∷ []) start (record { text = p.text; rodata = p.rodata; «data» = t; map = m; rvc = false })) (sym variables_is)
+    (subst (λ n. IsLinked (ss ∷ []) start (record { text = p.text; rodata = p.rodata; «data» = p.data; map = n; rvc = false })) (sym map_is) h))) in
+    let regions = are_regions (ss ∷ []) start (record { text = text; rodata = rodata; «data» = variables; map = m; rvc = false }) linked in
+    record {
+      linked = linked;
+      regions = regions;
+      even = linked.resolves.even;
+      limit = fits_memory (record { text = text; rodata = rodata; «data» = variables; map = m; rvc = false }) regions
+          (subst (λ n. (n.text.end - n.text.start) + (n.rodata.end - n.rodata.start) + (n.bss.end - n.data.start) ≤ 2 ^ 28) (sym map_is) lies.memory);
+    }
+
+pub made : PlacedLinks → PlacedNames → (u : SourceUnit) (start entry : ℕ) (x : Placed) (globals globals_now : List Global) (set : NameSet) (texts texts_now figures figures_now : List (Vec ℕ))
+    (statements : List Statement) (starts : List ℕ) (items : List Item) (rows : List Row) (text rodata variables : List ℕ) (m : Map)
+    → IsFilled u → first_fault (said u) ≡ None → start % 4096 ≡ 0 → StandsFrom (said u) start x → AreCoded (said u)
+    → ((j : ℕ) → bytes_in texts j ≡ section_code (tables (said u)) j (stated (said u ∷ []))) → length texts ≡ length u.tables.extents.items
+    → statements ≡ u.statements.items → starts ≡ x.layout.starts.items → items ≡ x.items.items → texts_now ≡ texts → figures_now ≡ figures → globals_now ≡ globals
+    → AreGlobals set (map said_by statements) → AreNamed (said u) x globals
+    → ((test : List ℕ → Bool) → Has set test → test (codes "_start") ≡ true) → entry_from starts (map said_by statements) items ≡ Some entry → entry % 2 ≡ 0
+    → GivesData (said u) x.layout.starts.items x.items.items globals_now (map (λ b. b.items) figures)
+    → rows ≡ rows_from 1 starts 1 items
+    → text ≡ contents_of Text x.layout.text.start x.pieces.items x.layout.starts.items (map (λ b. b.items) texts_now)
+    → rodata ≡ contents_of Rodata x.layout.rodata.start x.pieces.items x.layout.starts.items (map (λ b. b.items) figures_now)
+    → variables ≡ contents_of Data x.layout.data.start x.pieces.items x.layout.starts.items (map (λ b. b.items) figures_now)
+    → m ≡ map_of x.layout entry globals rows
+    → IsWhole (said u) start (record { text = text; rodata = rodata; «data» = variables; map = m; rvc = false })
+made links resolves u start entry x globals globals_now set texts texts_now figures figures_now statements starts items rows text rodata variables m
+    filled good page stands coded code count statements_are starts_are items_are texts_are figures_are globals_are
+    has named global begins even gives rows_are text_is rodata_is variables_is map_is =
+    let ss = said u in
+    let said_are : map said_by statements ≡ ss = ap (λ l. map said_by l) statements_are in
+    let test : List ℕ → Bool = λ name. is_global_after false ss name in
+    let starts_global : test (codes "_start") ≡ true = global test (subst (λ l. AreGlobals set l) said_are has) in
+    let entered : entry_from x.layout.starts.items ss x.items.items ≡ Some entry =
+    sym (ap (λ s. entry_from s (map said_by statements) items) starts_are ∙ ap (λ l. entry_from x.layout.starts.items l items) said_are ∙ ap (λ i. entry_from x.layout.starts.items ss i) items_are) ∙ begins in
+    let rows_from_items : rows ≡ rows_from 1 x.layout.starts.items 1 x.items.items =
+    rows_are ∙ ap (λ s. rows_from 1 s 1 items) starts_are ∙ ap (λ i. rows_from 1 x.layout.starts.items 1 i) items_are in
+    let figures_hold : GivesData ss x.layout.starts.items x.items.items globals (map (λ b. b.items) figures) =
+    subst (λ g. GivesData ss x.layout.starts.items x.items.items g (map (λ b. b.items) figures)) globals_are gives in
+    whole ss start entry x globals texts figures text rodata variables m
+    (text_is ∙ ap (λ (l : List (Vec ℕ)). contents_of Text x.layout.text.start x.pieces.items x.layout.starts.items (map (λ b. b.items) l)) texts_are)
+    (rodata_is ∙ ap (λ (l : List (Vec ℕ)). contents_of Rodata x.layout.rodata.start x.pieces.items x.layout.starts.items (map (λ b. b.items) l)) figures_are)
+    (variables_is ∙ ap (λ (l : List (Vec ℕ)). contents_of Data x.layout.data.start x.pieces.items x.layout.starts.items (map (λ b. b.items) l)) figures_are)
+    (map_is ∙ ap (λ r. map_of x.layout entry globals r) rows_from_items) stands.lies
+    (linked_from links resolves ss start entry x globals texts figures good page stands coded code (count ∙ sym (sections_count u filled)) named (starts_global, entered, even)
+    (figures_hold stands.last (map_from x entry globals) stands.items stands.sized refl refl))

@@ -40,12 +40,13 @@ pub(crate) fn link(alloc: Global, unit: &Unit<'_>, start: u64) -> Result<Linked,
     ensures { IfOk result (λ l. IsLinked (said unit.now ∷ []) start (linked_of l)) }
 {
     let texts = code(alloc, unit)?;
-    let globals = Globals::of(alloc, unit.statements())?;
+    let statements = unit.statements();
+    let globals = Globals::of(alloc, statements)?;
     let placed = place(alloc, unit, &globals, start)?;
     let layout = &placed.layout;
     let starts = layout.starts.as_slice();
     let items = placed.items.as_slice();
-    let Some(entry) = entry(&globals, starts, unit.statements(), items) else {
+    let Some(entry) = entry(&globals, starts, statements, items) else {
         return Err(Fault::Link(LinkFault::EntryMissing));
     };
     let names = names(alloc, unit, &globals, &placed)?;

@@ -27,19 +27,22 @@ fn is_linkers(symbol: Symbol<'_>) -> bool
     let Symbol::Name(name) = symbol else {
         return false;
     };
-    if name == b"_etext".as_slice() {
+    if b"_etext".as_slice() == name {
         return true;
     }
-    if name == b"__bss_start".as_slice() {
+    if b"__bss_start".as_slice() == name {
         return true;
     }
-    if name == b"_edata".as_slice() {
+    if b"_edata".as_slice() == name {
         return true;
     }
-    if name == b"_end".as_slice() {
+    if b"_end".as_slice() == name {
         return true;
     }
-    name == b"__global_pointer$".as_slice()
+    if b"__global_pointer$".as_slice() == name {
+        return true;
+    }
+    false
 }
 
 /// Whether the statement of this ordinal, from 1, has a row.
@@ -160,7 +163,10 @@ fn keep<'a>(
         else found_in found.old j)) }
 {
     let section = place.section as usize;
-    if !loaded || found[section].is_some() {
+    if !loaded {
+        return Ok(());
+    }
+    if found[section].is_some() {
         return Ok(());
     }
     let name = missing_by(scope, items, statement, place)?;
