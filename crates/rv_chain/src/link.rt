@@ -118,10 +118,10 @@ fn too_large(unit: &Unit<'_>, globals: &Globals<'_>, items: &[Item]) -> LinkFaul
 }
 
 /// The names of the program: those that the source makes global, and the linker's.
-fn names(
+fn names<'a>(
     alloc: Global,
-    unit: &Unit<'_>,
-    globals: &Globals<'_>,
+    unit: &Unit<'a>,
+    globals: &Globals<'a>,
     placed: &Placed,
 ) -> Result<Vec<Defined>, Fault>
     requires filled { IsFilled unit.now }
