@@ -1,20 +1,29 @@
 -- The first names without an address, section by section.
 
-use Rattle.std.proofs.Common.{◌≡◌, ◌≢◌, set, get_or-set_same, get_or-set_other, ℕ, suc, zero, ◌+◌, ◌<◌, ◌==◌, Bool, true, false, cond, List, [], ◌∷◌, ◌++◌, length, drop, Option, Some, None, refl, sym, ap, ◌∙◌, subst, arith, append-nil, append_assoc}
+use Rattle.std.proofs.Common.{◌≡◌, ◌≢◌, set, get_or, get_or-set_same, get_or-set_other, ℕ, suc, zero, ◌+◌, ◌<◌, ◌==◌, Bool, true, false, cond, List, [], ◌∷◌, ◌++◌, length, take, drop, map, Option, Some, None, refl, sym, ap, ◌∙◌, subst, arith, append-nil, append_assoc}
 use Rattle.std.proofs.lemmas.Bool.Decides.{nat_tests}
 use Rattle.std.proofs.lemmas.Bool.{eqb-true}
-use Rattle.std.specs.Prelude.{◌&&◌, ◌||◌, filter, flat_map, replicate, option_map, is_some, slice_index_or, if◌then◌else◌}
-use Rattle.std.specs.List.{list_any}
+use Rattle.std.proofs.lemmas.List.{length-map}
+use Rattle.std.specs.Prelude.{◌&&◌, ◌||◌, filter, flat_map, option_map, is_some, slice_index_or, if◌then◌else◌}
+use Rattle.std.specs.List.{list_any, slice_get}
 use Rattle.std.specs.Borrow.{Bor}
+use Rattle.rv_statement.specs.declared.statement.Statement.{Statement}
+use Rattle.rv_statement.specs.declared.statement.StatementKind.TheVariants.{Ignored}
 use Rattle.rv_statement.specs.Statement.{Spoken, Expression}
-use Rattle.rv_statement.specs.View.{now_of}
+use Rattle.rv_statement.specs.View.{now_of, said_by}
 use Rattle.rv_unit_laws.specs.Sections.{Section}
-use Rattle.rv_unit_laws.specs.Tables.{Tables, tables, at_start, after}
+use Rattle.rv_unit_laws.specs.Tables.{Tables, Place, tables, at_start, after, stood}
+use Rattle.rv_unit.specs.declared.section.Extent.{Extent}
+use Rattle.rv_unit.specs.Sections.{extent_section}
+use Rattle.rv_unit.specs.declared.place.Place.{Place as Standing}
+use Rattle.rv_unit.specs.declared.unit.Unit.{Unit as SourceUnit}
+use Rattle.rv_unit.specs.Unit.{said, passed, IsFilled}
 use Rattle.rv_chain_laws.specs.Stated.{Stated, stated, stated_from, has_row}
-use Rattle.rv_chain_laws.specs.Refusals.{first_name, missing_by, in_sections, undefined}
+use Rattle.rv_chain_laws.specs.Refusals.{first_name, missing_by, data_values, in_sections, undefined}
 use Rattle.rv_link.specs.declared.rows.Item.{Item}
 use Rattle.rv_link_laws.specs.Items.{AreItems, grown}
-use Rattle.rv_chain.specs.Undefined.{shown_by, found_in, else_name, first_in}
+use Rattle.rv_chain.proofs.Standing.{stated_at, stands_at, got_inside}
+use Rattle.rv_chain.specs.Undefined.{shown_by, missing_at, found_in, else_name, first_in, first_some}
 
 -- ---- statements with rows
 
@@ -107,15 +116,15 @@ first_next ss j s rest = go (s.section == j)
 abbrev pub FirstSoFar : List Spoken → ℕ → List (Option (Bor (List ℕ))) → Type 0
 FirstSoFar ss i found = (j : ℕ) → else_name (found_in found j) (firsts ss j (drop i (stated_from 1 1 at_start ss))) ≡ first_in ss j
 
-nothing_found : (n j : ℕ) → found_in (replicate n None) j ≡ None
-nothing_found zero j = refl
-nothing_found (suc n) zero = refl
-nothing_found (suc n) (suc j) = nothing_found n j
+pub none_behind : (xs : List (Option (Bor (List ℕ)))) (j : ℕ) → ((i : ℕ) → found_in xs i ≡ None) → found_in (xs ++ None ∷ []) j ≡ None
+none_behind [] zero h = refl
+none_behind [] (suc j) h = refl
+none_behind (x ∷ xs) zero h = h 0
+none_behind (x ∷ xs) (suc j) h = none_behind xs j (λ i. h (suc i))
 
-pub first_begins : (ss : List Spoken) (n : ℕ) (found : List (Option (Bor (List ℕ)))) → found ≡ replicate n None → FirstSoFar ss 0 found
-first_begins ss n found e j =
-    ap (λ f. else_name (found_in f j) (firsts ss j (stated_from 1 1 at_start ss))) e
-    ∙ ap (λ o. else_name o (firsts ss j (stated_from 1 1 at_start ss))) (nothing_found n j)
+pub first_begins : (ss : List Spoken) (found : List (Option (Bor (List ℕ)))) → ((j : ℕ) → found_in found j ≡ None) → FirstSoFar ss 0 found
+first_begins ss found none j =
+    ap (λ o. else_name o (firsts ss j (stated_from 1 1 at_start ss))) (none j)
     ∙ ap (λ l. firsts ss j l) (sym (one_file ss))
 
 pub first_more : (ss : List Spoken) (i : ℕ) (s : Stated) (old new : List (Option (Bor (List ℕ)))) → drop i (stated_from 1 1 at_start ss) ≡ s ∷ drop (i + 1) (stated_from 1 1 at_start ss)
@@ -137,11 +146,6 @@ pub first_all : (ss : List Spoken) (i : ℕ) (found : List (Option (Bor (List �
 first_all ss i found none h j = sym (else_none (found_in found j)) ∙ ap (λ l. else_name (found_in found j) (firsts ss j l)) (sym none) ∙ h j
 
 -- ---- the first of all sections
-
--- the first that was found
-abbrev pub first_some : List (Option (Bor (List ℕ))) → Option (List ℕ)
-first_some [] = None
-first_some (o ∷ os) = else_name (option_map now_of o) (first_some os)
 
 map_joined : (f : Stated → List (List ℕ)) (xs ys : List Stated) → flat_map f (xs ++ ys) ≡ flat_map f xs ++ flat_map f ys
 map_joined f [] ys = refl
@@ -219,3 +223,44 @@ kept_set found section j o inside none = go (section == j) refl
     go false e =
         let other : j ≢ section = λ same. (let e' : (section == j) ≡ true = same_number section j same in absurd (cc)) in
         ap (option_map now_of) (get_or-set_other found section j o None other)
+
+pub loaded_at : (es : List Extent) (k : ℕ) (d : Extent) (home : Section) → slice_get (map extent_section es) k ≡ Some home → (slice_index_or es k d).section.loaded ≡ home.loaded
+loaded_at [] zero d home e = absurd (cc)
+loaded_at [] (suc k) d home e = absurd (cc)
+loaded_at (x ∷ es) zero d home e = let same : extent_section x ≡ home = cc in ap (λ (s : Section). s.loaded) same
+loaded_at (x ∷ es) (suc k) d home e = loaded_at es k d home e
+
+-- what a statement's section keeps
+pub kept_there : (ss : List Spoken) (i : ℕ) (x : Spoken) (p : Place) (old new : List (Option (Bor (List ℕ)))) (loaded : Bool) → p ≡ stood (passed ss i) (i + 1) x.says
+    → loaded ≡ (stated_at ss i x).home.loaded
+    → ((j : ℕ) → found_in new j ≡ (if p.section == j then else_name (found_in old j) (if loaded then first_name (missing_at ss i p (data_values x.says)) else None) else found_in old j))
+    → (j : ℕ) → found_in new j ≡ (if (stated_at ss i x).section == j then else_name (found_in old j) (first_name (missing_by ss (stated_at ss i x))) else found_in old j)
+kept_there ss i x p old new loaded place same h j =
+    let q = stood (passed ss i) (i + 1) x.says in
+    h j
+    ∙ ap (λ (r : Place). if r.section == j then else_name (found_in old j) (if loaded then first_name (missing_at ss i r (data_values x.says)) else None) else found_in old j) place
+    ∙ ap (λ b. if q.section == j then else_name (found_in old j) (if b then first_name (missing_at ss i q (data_values x.says)) else None) else found_in old j) same
+    ∙ ap (λ o. if q.section == j then else_name (found_in old j) o else found_in old j) (sym (first_loaded (stated_at ss i x).home.loaded (missing_at ss i q (data_values x.says))))
+
+pub taken_back : {A : Type 0} (ys zs : List A) (n : ℕ) → n ≡ length ys → take n (ys ++ zs) ≡ ys
+taken_back ys zs n e = ap (λ k. take k (ys ++ zs)) e ∙ front ys zs
+  where
+    front : {A : Type 0} (ys zs : List A) → take (length ys) (ys ++ zs) ≡ ys
+    front [] zs = refl
+    front (y ∷ ys) zs = ap (λ l. y ∷ l) (front ys zs)
+
+pub some_next : (o : Option (Bor (List ℕ))) (os : List (Option (Bor (List ℕ)))) (name : Bor (List ℕ)) → o ≡ Some name → Some name.now ≡ first_some (o ∷ os)
+some_next o os name e = ap (λ (a : Option (Bor (List ℕ))). else_name (option_map now_of a) (first_some os)) (sym e)
+
+pub none_next : (o : Option (Bor (List ℕ))) (os : List (Option (Bor (List ℕ)))) → o ≡ None → first_some os ≡ first_some (o ∷ os)
+none_next o os e = ap (λ (a : Option (Bor (List ℕ))). else_name (option_map now_of a) (first_some os)) (sym e)
+
+-- a unit's statement stands in one of its sections
+pub section_inside : (u : SourceUnit) (i : ℕ) (statements : List Statement) (places : List Standing) (p : Standing) → IsFilled u → i < length statements → statements ≡ u.statements.items → places ≡ u.places.items
+    → p ≡ get_or places i (record { section = 0; offset = 0 }) → p.section < length u.tables.extents.items
+section_inside u i statements places p filled inside statements_are places_are is =
+    let within : i < length u.statements.items = subst (λ l. i < length l) statements_are inside in
+    let x = get_or u.statements.items i (record { kind = Ignored; line = 0 }) in
+    let at = stands_at u i (record { kind = Ignored; line = 0 }) x (record { section = 0; offset = 0 }) p filled within refl (is ∙ ap (λ l. get_or l i (record { section = 0; offset = 0 })) places_are) in
+    let stands = got_inside (map extent_section u.tables.extents.items) p.section (stated_at (said u) i (said_by x)).home at.home in
+    subst (λ n. p.section < n) (length-map u.tables.extents.items extent_section) stands

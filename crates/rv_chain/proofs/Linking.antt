@@ -43,7 +43,9 @@ use Rattle.rv_chain.specs.Valued.{IsData, GivesData}
 use Rattle.rv_chain.specs.Pieces.{AreAllPieces}
 use Rattle.rv_chain.specs.Linking.{StandsFrom, AreNamed, Begins, map_from, program_from}
 use Rattle.rv_chain.specs.declared.placed.Placed.{Placed}
-use Rattle.rv_chain.proofs.Awaited.{suits_all, held_code, each_one, listed, lists_count, even_sections}
+use Rattle.rv_chain.proofs.EvenSections.{even_sections}
+use Rattle.rv_chain.proofs.HeldCode.{held_code, each_one, listed, lists_count}
+use Rattle.rv_chain.proofs.SuitsAll.{suits_all}
 
 -- ---- how many
 

@@ -48,3 +48,8 @@ else_name (Some name) other = Some name
 -- the first name of the statements of a section
 abbrev pub first_in : List Spoken → ℕ → Option (List ℕ)
 first_in ss j = first_name (flat_map (missing_by ss) (filter (λ s. s.section == j) (stated (ss ∷ []))))
+
+-- the first that was found
+abbrev pub first_some : List (Option (Bor (List ℕ))) → Option (List ℕ)
+first_some [] = None
+first_some (o ∷ os) = else_name (option_map now_of o) (first_some os)

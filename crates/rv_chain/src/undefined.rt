@@ -1,24 +1,25 @@
 //! The names that data refer to and nobody defines.
 
-ghost use Rattle.std.specs.Prelude.{◌≡◌, ◌<◌, ◌==◌, ◌∷◌, [], ℕ, None, map, length, option_map, IfOk, OnOk, if◌then◌else◌};
+ghost use Rattle.std.specs.Prelude.{◌≡◌, ◌<◌, ◌==◌, ◌∷◌, [], ℕ, None, Some, map, slice_get, length, option_map, IfOk, OnOk, if◌then◌else◌};
 ghost use Rattle.rv_text_laws.specs.Values as values;
 ghost use Rattle.rv_text.specs.Nodes.{symbol_of};
 ghost use Rattle.rv_text.specs.Eval.{value_told};
 ghost use Rattle.rv_text.specs.Expr.{tree_of_expr};
-ghost use Rattle.rv_statement.specs.View.{said_by};
+ghost use Rattle.rv_statement.specs.View.{said_by, now_of};
+ghost use Rattle.rv_unit_laws.specs.Sections.{Section as Home};
 ghost use Rattle.rv_unit_laws.specs.Tables.{at_start};
-ghost use Rattle.rv_unit.specs.Sections.{place_of};
+ghost use Rattle.rv_unit.specs.Sections.{place_of, extent_section};
 ghost use Rattle.rv_unit.specs.Unit.{said, IsFilled};
 ghost use Rattle.rv_chain_laws.specs.Refusals as laws;
 ghost use Rattle.rv_chain_laws.specs.Refusals.{data_values, first_name};
 ghost use Rattle.rv_link_laws.specs.Items.{AreItems};
-ghost use Rattle.rv_chain.specs.Undefined.{shown_by, addressed, missing_at, Sees, IsFirst, found_in, else_name, first_in};
+ghost use Rattle.rv_chain.specs.Undefined.{shown_by, addressed, missing_at, Sees, IsFirst, found_in, else_name, first_in, first_some};
 
 use rv_link::Item;
 use rv_statement::{Statement, StatementKind};
 use rv_text::{Expr, SourceFault, Symbol, Value};
-use rv_unit::{Place, Scope, Unit};
-use std::alloc::Global;
+use rv_unit::{Extent, Place, Scope, Unit};
+use std::alloc::{AllocError, Global};
 
 /// Whether a name that is no place of the source is one that the linker gives.
 fn is_linkers(symbol: Symbol<'_>) -> bool
@@ -174,6 +175,27 @@ fn keep<'a>(
     Ok(())
 }
 
+/// So many sections of which nothing was found.
+#[tactic(auto, using(crate::proofs::FirstNames::none_behind))]
+fn no_names<'a>(alloc: Global, count: usize) -> Result<Vec<Option<&'a [u8]>>, AllocError>
+    ensures count { IfOk result (λ found. length found.items ≡ count) }
+    ensures none { IfOk result (λ found. (j : ℕ) → found_in found.items j ≡ None) }
+{
+    let mut found = Vec::new(alloc);
+    for _ in 0..count {
+        found.push(None)?;
+    }
+    Ok(found)
+}
+
+/// Whether a section is loaded.
+fn is_loaded(extents: &[Extent<'_>], section: u32) -> bool
+    requires { section < length extents.now }
+    ensures { (home : Home) → slice_get (map extent_section extents.now) section ≡ Some home → result ≡ home.loaded }
+{
+    extents[section as usize].section.loaded
+}
+
 /// Of each section that is loaded, the first name without an address to which its data refer.
 fn missing_names<'a>(
     alloc: Global,
@@ -185,18 +207,31 @@ fn missing_names<'a>(
     ensures first { IfOk result (λ found. (last : ℕ → ℕ) (j : ℕ) → AreItems 1 at_start (λ j. 0) (said unit.now) items.now last → found_in found.items j ≡ first_in (said unit.now) j) }
 {
     let sections = unit.sections();
-    let mut found = vec![in alloc; None; sections.len()]?;
+    let mut found = no_names(alloc, sections.len())?;
     let mut scope = Scope::new(alloc, unit)?;
     let statements = unit.statements();
     let places = unit.places();
     for index in 0..statements.len() {
         let place = places[index];
-        let loaded = sections[place.section as usize].section.loaded;
+        let loaded = is_loaded(sections, place.section);
         let names = found.as_mut_slice();
         keep(names, &scope, items, &statements[index], place, loaded)?;
         scope.pass()?;
     }
     Ok(found)
+}
+
+/// The first of the names that were found.
+fn first_found<'a>(names: &[Option<&'a [u8]>]) -> Option<&'a [u8]>
+    ensures { option_map now_of result ≡ first_some names.now }
+{
+    for name in names {
+        match name {
+            Some(name) => return Some(*name),
+            None => {}
+        }
+    }
+    None
 }
 
 /// The first name that data refer to and that has no address, by section and then by statement.
@@ -209,11 +244,8 @@ pub(crate) fn undefined(
     ensures { IfOk result (λ found. (last : ℕ → ℕ) → AreItems 1 at_start (λ j. 0) (said unit.now) items.now last → option_map (λ name. name.items) found ≡ laws.undefined (said unit.now)) }
 {
     let names = missing_names(alloc, unit, items)?;
-    for name in names.as_slice() {
-        match name {
-            Some(name) => return Ok(Some(Vec::from_slice(alloc, *name)?)),
-            None => {}
-        }
+    match first_found(names.as_slice()) {
+        Some(name) => Ok(Some(Vec::from_slice(alloc, name)?)),
+        None => Ok(None),
     }
-    Ok(None)
 }
