@@ -6,8 +6,9 @@ use Rattle.rv_unit_laws.specs.Faults.{Fault, lowest, at_line}
 use Rattle.rv_unit_laws.specs.Tables.{Tables, longest_section}
 use Rattle.rv_chain_laws.specs.Stated.{Stated}
 use Rattle.rv_chain_laws.specs.Refusals.{instruction_fault_from, size_fault_from, else_fault, grown, code_size, first_options, options_after, instruction_faults}
+use Rattle.rv_link_laws.specs.Suits.{code_said}
 use Rattle.rv_chain.specs.Choices.{options_of}
-use Rattle.rv_chain.specs.Code.{bytes_in, code_of, value_at, section_code, full_fault, full_at}
+use Rattle.rv_chain.specs.Code.{bytes_in, value_at, section_code, full_fault, full_at}
 use Rattle.rv_chain.specs.Added.{IsAdded, IsCodeSoFar}
 use Rattle.rv_chain.specs.declared.code.Coder.{Coder}
 
@@ -44,7 +45,7 @@ next_code t all s next old new h a =
     let f = λ (j : ℕ). length (bytes_in old.sections.items j) in
     let g = λ (j : ℕ). length (bytes_in new.sections.items j) in
     let size = code_size s.says in
-    let alike = λ (j : ℕ). ap length (a.grows.1 j) ∙ grown_length (j == s.section) (bytes_in old.sections.items j) (code_of (value_at t s) s.says) size a.size in
+    let alike = λ (j : ℕ). ap length (a.grows.1 j) ∙ grown_length (j == s.section) (bytes_in old.sections.items j) (code_said (value_at t s) s.says) size a.size in
     let here : g s.section ≡ f s.section + size = alike s.section ∙ ap (λ b. if b then f s.section + size else f s.section) (same s.section) in
     record {
       instructions =
@@ -61,7 +62,7 @@ next_code t all s next old new h a =
           ∙ h.sizes;
       bytes = λ j.
           ap (λ x. x ++ section_code t j next) (a.grows.1 j)
-          ∙ joined (j == s.section) (bytes_in old.sections.items j) (λ u. code_of (value_at t u) u.says) s (filter (λ u. j == u.section) next)
+          ∙ joined (j == s.section) (bytes_in old.sections.items j) (λ u. code_said (value_at t u) u.says) s (filter (λ u. j == u.section) next)
           ∙ h.bytes j;
     }
 

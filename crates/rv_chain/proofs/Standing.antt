@@ -1,7 +1,7 @@
 -- Where the statements of a unit stand.
 
 use Rattle.std.proofs.Common.{◌≡◌, ℕ, zero, suc, ◌+◌, ◌<◌, ◌≤◌, List, [], ◌∷◌, length, map, take, drop, get_or, Some, refl, sym, ap, ◌∙◌, subst, arith}
-use Rattle.std.specs.Prelude.{slice_get}
+use Rattle.std.specs.Prelude.{slice_get, slice_index_or}
 use Rattle.std.specs.List.{drop-map, AllByRecursion}
 use Rattle.std.proofs.Math.Seq.{drop-cons}
 use Rattle.std.proofs.lemmas.List.{length-map, at_drop_all}
@@ -49,10 +49,10 @@ drop_tail (x ∷ xs) (suc i) y ys e = drop_tail xs i y ys e
 left_of : {A : Type 0} (xs : List A) (i : ℕ) (y : A) (ys : List A) → drop i xs ≡ y ∷ ys → drop i xs ≡ y ∷ drop (i + 1) xs
 left_of xs i y ys e = e ∙ ap (λ r. y ∷ r) (sym (drop_tail xs i y ys e)) ∙ ap (λ n. y ∷ drop n xs) (let e : suc i ≡ i + 1 = omega arith in e)
 
-first_same : {A : Type 0} (x y : A) (xs ys : List A) → x ∷ xs ≡ y ∷ ys → x ≡ y
+pub first_same : {A : Type 0} (x y : A) (xs ys : List A) → x ∷ xs ≡ y ∷ ys → x ≡ y
 first_same x y xs ys e = cc
 
-all_at : {A : Type 0} (P : A → Type 0) (xs : List A) (i : ℕ) (y : A) (ys : List A) → drop i xs ≡ y ∷ ys → AllByRecursion P xs → P y
+pub all_at : {A : Type 0} (P : A → Type 0) (xs : List A) (i : ℕ) (y : A) (ys : List A) → drop i xs ≡ y ∷ ys → AllByRecursion P xs → P y
 all_at P [] zero y ys e h = absurd (cc)
 all_at P [] (suc i) y ys e h = absurd (cc)
 all_at P (x ∷ xs) zero y ys e h = subst P (first_same x y xs ys e) h.0
@@ -64,6 +64,13 @@ got_inside [] zero y e = absurd (cc)
 got_inside [] (suc i) y e = absurd (cc)
 got_inside (x ∷ xs) zero y e = omega arith
 got_inside (x ∷ xs) (suc i) y e = let below : i < length xs = got_inside xs i y e in omega arith
+
+-- an element that is found is the one at its place
+pub got_or : {A : Type 0} (xs : List A) (i : ℕ) (d x : A) → slice_get xs i ≡ Some x → slice_index_or xs i d ≡ x
+got_or [] zero d x e = absurd (cc)
+got_or [] (suc i) d x e = absurd (cc)
+got_or (y ∷ ys) zero d x e = cc
+got_or (y ∷ ys) (suc i) d x e = got_or ys i d x e
 
 -- the statement at an index of a source, where it stands
 abbrev pub stated_at : List Spoken → ℕ → Spoken → Stated

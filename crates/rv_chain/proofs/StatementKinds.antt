@@ -11,7 +11,8 @@ use Rattle.rv_statement.specs.declared.statement.Plain.{Plain}
 use Rattle.rv_statement.specs.declared.statement.Plain.TheVariants as plains
 use Rattle.rv_unit_laws.specs.Faults.{faulty_if}
 use Rattle.rv_chain_laws.specs.Refusals.{Options, instruction_faults, operand_faults, code_size}
-use Rattle.rv_chain.specs.Code.{instruction_by, mnemonic_of, numbered, constant_of, IsBuilt}
+use Rattle.rv_link_laws.specs.Suits.{constant_in}
+use Rattle.rv_chain.specs.Code.{instruction_by, mnemonic_of, numbered, IsBuilt}
 use Rattle.rv_text.specs.declared.fault.SourceFault.{SourceFault}
 
 pub plain_faults : (p : Plain) (o : Options) (v : Expression → values.Value) → instruction_faults o v (plain_of p) ≡ faulty_if o.rvc 9 ++ []
@@ -49,14 +50,14 @@ built_as : (faults others : List ℕ) (wanted meant : Option (List Inst)) (line 
 built_as faults others wanted meant line r e d h = subst (λ t. IsBuilt t meant line r) e (subst (λ t. IsBuilt faults t line r) d h)
 
 -- what is built of a statement by its kind
-pub plain_built : (p : Plain) (s : Spoken) (o : Options) (v : Expression → values.Value) (compressed : Bool) (r : Result Inst SourceFault) → s.says ≡ plain_of p → o.rvc ≡ compressed → IsBuilt (faulty_if compressed 9 ++ []) (instruction_by (λ e. constant_of (v e)) (plain_of p)) s.line r → IsBuilt (instruction_faults o v s.says) (instruction_by (λ e. constant_of (v e)) s.says) s.line r
+pub plain_built : (p : Plain) (s : Spoken) (o : Options) (v : Expression → values.Value) (compressed : Bool) (r : Result Inst SourceFault) → s.says ≡ plain_of p → o.rvc ≡ compressed → IsBuilt (faulty_if compressed 9 ++ []) (instruction_by (λ e. constant_in (v e)) (plain_of p)) s.line r → IsBuilt (instruction_faults o v s.says) (instruction_by (λ e. constant_in (v e)) s.says) s.line r
 plain_built p s o v compressed r e c h =
     built_as _ _ _ _ s.line r
     (ap (λ b. faulty_if b 9 ++ []) (sym c) ∙ sym (plain_faults p o v) ∙ ap (λ t. instruction_faults o v t) (sym e))
-    (ap (λ t. instruction_by (λ e. constant_of (v e)) t) (sym e)) h
+    (ap (λ t. instruction_by (λ e. constant_in (v e)) t) (sym e)) h
 
-pub with_built : (operation : Operation) (x : Expression) (s : Spoken) (o : Options) (v : Expression → values.Value) (compressed : Bool) (r : Result Inst SourceFault) → s.says ≡ with_expression operation x → o.rvc ≡ compressed → IsBuilt (faulty_if compressed 9 ++ operand_faults (mnemonic_of operation) (v x)) (numbered operation (constant_of (v x))) s.line r → IsBuilt (instruction_faults o v s.says) (instruction_by (λ e. constant_of (v e)) s.says) s.line r
+pub with_built : (operation : Operation) (x : Expression) (s : Spoken) (o : Options) (v : Expression → values.Value) (compressed : Bool) (r : Result Inst SourceFault) → s.says ≡ with_expression operation x → o.rvc ≡ compressed → IsBuilt (faulty_if compressed 9 ++ operand_faults (mnemonic_of operation) (v x)) (numbered operation (constant_in (v x))) s.line r → IsBuilt (instruction_faults o v s.says) (instruction_by (λ e. constant_in (v e)) s.says) s.line r
 with_built operation x s o v compressed r e c h =
     built_as _ _ _ _ s.line r
     (ap (λ b. faulty_if b 9 ++ operand_faults (mnemonic_of operation) (v x)) (sym c) ∙ sym (with_faults operation x o v) ∙ ap (λ t. instruction_faults o v t) (sym e))
-    (sym (with_by operation x (λ e. constant_of (v e))) ∙ ap (λ t. instruction_by (λ e. constant_of (v e)) t) (sym e)) h
+    (sym (with_by operation x (λ e. constant_in (v e))) ∙ ap (λ t. instruction_by (λ e. constant_in (v e)) t) (sym e)) h

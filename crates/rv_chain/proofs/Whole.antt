@@ -2,6 +2,8 @@
 
 use Rattle.std.proofs.Common.{◌≡◌, ℕ, ◌+◌, true, List, [], ◌∷◌, drop, Option, Some, Result, Ok, Err, sym, ap, ◌∙◌, subst, append-nil}
 use Rattle.std.specs.Global.{Vec}
+use Rattle.std.specs.List.{AllByRecursion}
+use Rattle.std.specs.Prelude.{IfOk}
 use Rattle.rv_text.specs.declared.fault.SourceFault.{SourceFault}
 use Rattle.rv_text.specs.declared.fault.SourceFault.TheVariants.{At, OutOfMemory}
 use Rattle.rv_text.specs.Fault.{number_of}
@@ -17,6 +19,8 @@ use Rattle.rv_unit.specs.Unit.{said, passed}
 use Rattle.rv_chain_laws.specs.Stated.{Stated, stated, stated_from}
 use Rattle.rv_chain_laws.specs.Refusals.{else_fault, instruction_fault, instruction_faults, instruction_fault_from, first_options, size_fault}
 use Rattle.rv_chain.specs.Choices.{options_of}
+use Rattle.rv_chain.specs.Code.{value_at}
+use Rattle.rv_chain.specs.Coded.{IsCoded, AreCoded}
 use Rattle.rv_chain.specs.Added.{IsAdded, IsCode, IsCodeSoFar, IsSourceCode, Adds}
 use Rattle.rv_chain.specs.declared.code.Coder.{Coder}
 use Rattle.rv_chain.proofs.SoFar.{next_code, wrong_code}
@@ -25,6 +29,9 @@ use Rattle.rv_chain.proofs.Standing.{StandsAt, stated_at}
 -- the code of the first statements of a source, so many of them
 abbrev pub CodeTo : List Spoken → ℕ → Coder → Type 0
 CodeTo ss i c = IsCodeSoFar (tables ss) (stated_from 1 1 at_start ss) (drop i (stated_from 1 1 at_start ss)) c
+
+abbrev pub IsCodedBy : Tables → Stated → Type 0
+IsCodedBy t s = IsCoded (λ e. value_at t s e) s.says
 
 -- what is added where the statement stands
 added_there : (t : Tables) (o i : ℕ) (c d : Coder) (s : Spoken) (p q : Standing) → p ≡ q → IsAdded c d p.section (λ e. value t true o p e) s → IsAdded c d q.section (λ e. value t true o q e) s
@@ -38,6 +45,18 @@ code_more u i x p c d at h added =
     next_code (tables ss) all (stated_at ss i (said_by x)) (drop (i + 1) all) c d
     (subst (λ rest. IsCodeSoFar (tables ss) all rest c) at.next h)
     (added_there (tables ss) (i + 1) i c d (said_by x) (place_of p) (stood (passed ss i) (i + 1) (said_by x).says) at.place added)
+
+-- all statements of a source are coded where those from an index on are
+abbrev pub CodedTo : List Spoken → ℕ → Type 0
+CodedTo ss i =
+    AllByRecursion (IsCodedBy (tables ss)) (drop i (stated_from 1 1 at_start ss)) → AllByRecursion (IsCodedBy (tables ss)) (stated_from 1 1 at_start ss)
+
+pub coded_more : (u : SourceUnit) (i : ℕ) (x : Statement) (p : Place) (c d : Coder) → StandsAt u i x p → CodedTo (said u) i
+    → IsAdded c d p.section (λ e. value (tables (said u)) true (i + 1) (place_of p) e) (said_by x) → CodedTo (said u) (i + 1)
+coded_more u i x p c d at h added rest =
+    let ss = said u in
+    let there = added_there (tables ss) (i + 1) i c d (said_by x) (place_of p) (stood (passed ss i) (i + 1) (said_by x).says) at.place added in
+    h (subst (λ l. AllByRecursion (IsCodedBy (tables ss)) l) (sym at.next) (there.coded, rest))
 
 abbrev fault_at : ℕ → ℕ → Option Fault
 fault_at code line = Some (record { code = code; line = line })
@@ -72,3 +91,9 @@ code_whole ss i c r none h finish =
     go (Ok sections) h = h
     go (Err (At code line)) h = ap (λ a. else_fault a (size_fault ss)) h.0 ∙ h.1
     go (Err OutOfMemory) h = tt
+
+-- behind the last statement all are coded
+pub coded_whole : (ss : List Spoken) (i : ℕ) (r : Result (Vec (Vec ℕ)) SourceFault) → drop i (stated_from 1 1 at_start ss) ≡ [] → CodedTo ss i → IfOk r (λ sections. AreCoded ss)
+coded_whole ss i (Ok sections) none h =
+    subst (λ l. AllByRecursion (IsCodedBy (tables ss)) l) (sym (one_file ss)) (h (subst (λ l. AllByRecursion (IsCodedBy (tables ss)) l) (sym none) tt))
+coded_whole ss i (Err fault) none h = tt

@@ -11,16 +11,19 @@ use Rattle.rv_unit_laws.specs.Faults.{lowest}
 use Rattle.rv_unit_laws.specs.Tables.{Tables, tables}
 use Rattle.rv_chain_laws.specs.Stated.{Stated, stated}
 use Rattle.rv_chain_laws.specs.Refusals.{instruction_faults, options_after, first_options, instruction_fault_from, size_fault_from, instruction_fault, size_fault, else_fault, code_size}
+use Rattle.rv_link_laws.specs.Suits.{code_said}
 use Rattle.rv_chain.specs.Choices.{options_of}
-use Rattle.rv_chain.specs.Code.{GrowsBy, code_of, bytes_in, section_code, full_fault, full_at}
+use Rattle.rv_chain.specs.Code.{GrowsBy, bytes_in, section_code, full_fault, full_at}
+use Rattle.rv_chain.specs.Coded.{IsCoded}
 use Rattle.rv_chain.specs.declared.code.Coder.{Coder}
 
 -- a statement without faults, in a section, by the values of its expressions
 pub record IsAdded (old new : Coder) (section : ℕ) (v : Expression → values.Value) (s : Spoken) : Type 0 where
+  pub coded : IsCoded v s.says
   pub sound : instruction_faults (options_of old.choices) v s.says ≡ []
-  pub size : length (code_of v s.says) ≡ code_size s.says
+  pub size : length (code_said v s.says) ≡ code_size s.says
   pub options : options_of new.choices ≡ options_after (options_of old.choices) s.says
-  pub grows : GrowsBy old.sections.items new.sections.items section (code_of v s.says)
+  pub grows : GrowsBy old.sections.items new.sections.items section (code_said v s.says)
   pub full : full_fault new.full ≡ else_fault (full_fault old.full) (full_at s.line (length (bytes_in new.sections.items section)))
 
 -- a statement is added, or has a fault

@@ -30,6 +30,7 @@ use Rattle.rv_chain_laws.specs.Stated.{Stated}
 use Rattle.rv_chain_laws.specs.Sites.{place_of}
 use Rattle.rv_chain_laws.specs.Contents.{words}
 use Rattle.rv_chain_laws.specs.Refusals.{Options, range_faults, instruction_faults, code_size}
+use Rattle.rv_link_laws.specs.Suits.{constant_in, code_said}
 
 -- ---- one instruction
 
@@ -73,10 +74,6 @@ abbrev pub OfNumber : Operation → ℕ → Result Inst SourceCode → Type 0
 OfNumber operation k (Ok i) = (range_faults (mnemonic_of operation) k ≡ []) × (numbered operation k ≡ Some (i ∷ [])) × IsValid i
 OfNumber operation k (Err code) = range_faults (mnemonic_of operation) k ≡ number_of code ∷ []
 
-abbrev pub constant_of : values.Value → ℕ
-constant_of (values.Constant n) = n
-constant_of _ = 0
-
 -- the constant that a value is, or its fault at a line
 abbrev pub IsNumber : values.Value → ℕ → Result ℕ SourceFault → Type 0
 IsNumber v line (Ok n) = v ≡ values.Constant n
@@ -91,19 +88,15 @@ IsBuilt faults wanted line (Err OutOfMemory) = ⊥
 
 -- ---- one statement
 
--- the bytes of a statement in code, by the values of its expressions
-abbrev pub code_of : (Expression → values.Value) → Statement → List ℕ
-code_of v says = words (instruction_by (λ e. constant_of (v e)) says)
-
 -- the function gives the values of expressions, or their faults at a line
 abbrev pub Evaluates : (Bor Expr → Result Value SourceFault → Type 0) → ℕ → (Expression → values.Value) → Type 0
 Evaluates gives line v = (e : Bor Expr) (outcome : Result Value SourceFault) → gives e outcome → IsOutcome outcome line (v (tree_of_expr e.now))
 
 -- the instruction of a statement that is one, or the lowest code of its faults, at its line
 abbrev pub Codes : Options → (Expression → values.Value) → Spoken → Result (Option Inst) SourceFault → Type 0
-Codes o v s (Ok None) = (instruction_faults o v s.says ≡ []) × (code_of v s.says ≡ []) × (code_size s.says ≡ 0)
+Codes o v s (Ok None) = (instruction_faults o v s.says ≡ []) × (code_said v s.says ≡ []) × (code_size s.says ≡ 0)
 Codes o v s (Ok (Some i)) =
-    (instruction_faults o v s.says ≡ []) × (instruction_by (λ e. constant_of (v e)) s.says ≡ Some (i ∷ [])) × IsValid i × (code_size s.says ≡ 4)
+    (instruction_faults o v s.says ≡ []) × (instruction_by (λ e. constant_in (v e)) s.says ≡ Some (i ∷ [])) × IsValid i × (code_size s.says ≡ 4)
 Codes o v s (Err (At code at)) = (lowest (instruction_faults o v s.says) ≡ Some (number_of code)) × (at ≡ s.line)
 Codes o v s (Err OutOfMemory) = ⊥
 
@@ -132,7 +125,7 @@ abbrev pub value_at : Tables → Stated → Expression → values.Value
 value_at t s e = value t true s.ordinal (place_of s) e
 
 abbrev pub section_code : Tables → ℕ → List Stated → List ℕ
-section_code t section ss = flat_map (λ s. code_of (value_at t s) s.says) (filter (λ s. section == s.section) ss)
+section_code t section ss = flat_map (λ s. code_said (value_at t s) s.says) (filter (λ s. section == s.section) ss)
 
 -- a section of code that is too long, at a line
 abbrev pub full_fault : Option ℕ → Option Fault

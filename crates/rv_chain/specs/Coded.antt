@@ -1,6 +1,6 @@
 -- The instructions of a source as its code has them.
 
-use Rattle.std.specs.Prelude.{◌≡◌, ⊤, List, [], ◌∷◌}
+use Rattle.std.specs.Prelude.{⊤, List, [], ◌∷◌}
 use Rattle.std.specs.List.{AllByRecursion}
 use Rattle.rv_isa.specs.declared.instruction.Inst.{Inst}
 use Rattle.rv_text_laws.specs.Values.{Value}

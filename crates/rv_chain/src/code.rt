@@ -13,7 +13,9 @@ ghost use Rattle.rv_chain_laws.specs.Stated.{Stated};
 ghost use Rattle.rv_chain_laws.specs.Refusals.{else_fault};
 ghost use Rattle.rv_chain.specs.Added.{Adds, IsCode, IsCodeSoFar, IsSourceCode};
 ghost use Rattle.rv_chain.specs.Choices.{options_of};
+ghost use Rattle.rv_chain.specs.Coded.{AreCoded};
 ghost use Rattle.rv_chain.specs.Code as laws;
+ghost use Rattle.rv_chain.specs.Coded.{AreCoded};
 ghost use Rattle.rv_chain.specs.Code.{GrowsBy, Codes, Evaluates, word_of, full_fault, full_at};
 
 use crate::choices::Choices;
@@ -52,7 +54,7 @@ fn put_found(sections: &mut [Vec<u8>], section: u32, found: Option<Inst>) -> Res
 
 /// So many sections without code.
 #[tactic(auto, using(crate::proofs::SoFar::empty_behind))]
-fn empty_sections(alloc: Global, count: usize) -> Result<Vec<Vec<u8>>, AllocError>
+pub(crate) fn empty_sections(alloc: Global, count: usize) -> Result<Vec<Vec<u8>>, AllocError>
     ensures count { IfOk result (λ sections. length sections.items ≡ count) }
     ensures empty { IfOk result (λ sections. (j : ℕ) → laws.bytes_in sections.items j ≡ []) }
 {
@@ -176,6 +178,7 @@ pub(crate) fn code(alloc: Global, unit: &Unit<'_>) -> Result<Vec<Vec<u8>>, Sourc
     requires { IsFilled unit.now }
     ensures count { IfOk result (λ sections. length sections.items ≡ length (unit.now).tables.extents.items) }
     ensures code { IsSourceCode (said unit.now) result }
+    ensures coded { IfOk result (λ _. AreCoded (said unit.now)) }
 {
     let mut coder = Coder::new(alloc, unit.sections().len())?;
     let mut scope = Scope::new(alloc, unit)?;

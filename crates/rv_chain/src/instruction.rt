@@ -16,7 +16,8 @@ ghost use Rattle.rv_unit_laws.specs.Faults.{faulty_if};
 ghost use Rattle.rv_chain_laws.specs.Written as laws;
 ghost use Rattle.rv_chain_laws.specs.Meaning.{fits_12};
 ghost use Rattle.rv_chain_laws.specs.Refusals.{Options, form_takes, operand_faults, instruction_faults, code_size};
-ghost use Rattle.rv_chain.specs.Code.{instruction_by, mnemonic_of, numbered, constant_of, InRange, OfNumber, IsNumber, IsBuilt, Evaluates, Codes};
+ghost use Rattle.rv_link_laws.specs.Suits.{constant_in};
+ghost use Rattle.rv_chain.specs.Code.{instruction_by, mnemonic_of, numbered, InRange, OfNumber, IsNumber, IsBuilt, Evaluates, Codes};
 
 use crate::written::{
     access_bits, atomic, fence, load_reserved, of_immediate, of_load, of_registers, of_shift,
@@ -188,7 +189,7 @@ fn with_number(operation: Operation, number: u64) -> Result<Inst, SourceCode>
 }
 
 /// The number of an expression that has to be a constant, by its value.
-fn constant(value: Result<Value<'_>, SourceFault>, line: u32) -> Result<u64, SourceFault>
+pub(crate) fn constant(value: Result<Value<'_>, SourceFault>, line: u32) -> Result<u64, SourceFault>
     ensures { (v : values.Value) → IsOutcome value.entry line v → IsNumber v line result }
 {
     match value? {
@@ -207,7 +208,7 @@ pub(crate) fn with_value(
     line: u32,
 ) -> Result<Inst, SourceFault>
     ensures valid { IfOk result IsValid }
-    ensures built { (v : values.Value) → IsOutcome value.entry line v → IsBuilt (operand_faults (mnemonic_of operation) v) (numbered operation (constant_of v)) line result }
+    ensures built { (v : values.Value) → IsOutcome value.entry line v → IsBuilt (operand_faults (mnemonic_of operation) v) (numbered operation (constant_in v)) line result }
 {
     let number = constant(value, line)?;
     match with_number(operation, number) {
@@ -243,7 +244,7 @@ pub(crate) fn as_word(
 /// What was built, as what a statement has.
 fn found(built: Result<Inst, SourceFault>) -> Result<Option<Inst>, SourceFault>
     ensures valid { IfOk built IsValid → IfOk result (λ f. IfSome f IsValid) }
-    ensures codes { (o : Options) (v : Expression → values.Value) (s : Spoken) → IsBuilt (instruction_faults o v s.says) (instruction_by (λ e. constant_of (v e)) s.says) s.line built → code_size s.says ≡ 4 → Codes o v s result }
+    ensures codes { (o : Options) (v : Expression → values.Value) (s : Spoken) → IsBuilt (instruction_faults o v s.says) (instruction_by (λ e. constant_in (v e)) s.says) s.line built → code_size s.says ≡ 4 → Codes o v s result }
 {
     let inst = built?;
     Ok(Some(inst))

@@ -1,6 +1,6 @@
 -- The first fault, statement by statement.
 
-use Rattle.std.proofs.Common.{◌≡◌, ℕ, suc, ◌+◌, ◌<◌, ◌≤◌, List, [], ◌∷◌, length, map, drop, get_or, refl, sym, ap, ◌∙◌, arith, Option, Some, None, option_map}
+use Rattle.std.proofs.Common.{◌≡◌, ℕ, suc, ◌+◌, ◌<◌, List, ◌∷◌, length, map, drop, get_or, sym, ap, ◌∙◌, arith, Option, Some, None, option_map}
 use Rattle.rv_text.specs.declared.fault.SourceCode.{SourceCode}
 use Rattle.rv_text.specs.Fault.{number_of}
 use Rattle.rv_statement.specs.declared.statement.Statement.{Statement}
@@ -8,7 +8,7 @@ use Rattle.rv_statement.specs.View.{said_by}
 use Rattle.rv_unit.specs.Faults.{IsLowest}
 use Rattle.rv_statement.specs.Statement.{Spoken}
 use Rattle.rv_unit_laws.specs.Tables.{Tables, after, tables}
-use Rattle.rv_unit_laws.specs.Faults.{Fault, faults, lowest, at_line, first_fault_from, first_fault}
+use Rattle.rv_unit_laws.specs.Faults.{faults, lowest, at_line, first_fault_from}
 use Rattle.rv_unit.proofs.Filling.{passed, drop_next}
 
 -- a statement without a fault is passed over

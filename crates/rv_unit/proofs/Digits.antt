@@ -56,3 +56,13 @@ pub step_differs : (a b la lb x y da db : ℕ) → a ≡ 10 * la + da → b ≡ 
 step_differs a b la lb x y da db ea eb apart =
     ap (λ n. n == b + y) (let e : a + x ≡ 10 * la + (x + da) = omega arith in e) ∙ ap (λ n. 10 * la + (x + da) == n) (let e : b + y ≡ 10 * lb + (y + db) = omega arith in e)
     ∙ last_differs la lb (x + da) (y + db) apart
+
+-- a digit more, of which the remainder is left
+pub remainder_more : (ds : List ℕ) (i d n : ℕ) → i < length ds → d ≡ digit (get_or ds i 0) → n ≡ value 10 (take i ds) % 1000000007 → (n * 10 + d) % 1000000007 ≡ value 10 (take (i + 1) ds) % 1000000007
+remainder_more ds i d n inside is so_far =
+    by (value 10 (take i ds))
+    so_far
+    ∙ sym (ap (λ v. v % 1000000007) (ap (value 10) (take_more ds i 0 inside) ∙ value-last (take i ds) (get_or ds i 0) ∙ ap (λ x. 10 * value 10 (take i ds) + x) (sym is)))
+  where
+    by : (v : ℕ) → n ≡ v % 1000000007 → (n * 10 + d) % 1000000007 ≡ (10 * v + d) % 1000000007
+    by v left = omega arith

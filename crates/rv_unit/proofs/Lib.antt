@@ -5,5 +5,6 @@ mod Each
 mod Filling
 mod Gives
 mod Lookups
+mod Numbered
 mod Scoped
 mod Sized

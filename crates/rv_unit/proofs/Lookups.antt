@@ -1,16 +1,15 @@
 -- What look-ups by name and searches of the code find.
 
-use Rattle.std.proofs.Common.{◌≡◌, ℕ, suc, ◌+◌, ◌<◌, ◌≤◌, Bool, true, false, cond, ◌&&◌, ◌||◌, ◌==◌, nat_lt, nat_le, List, [], ◌∷◌, ◌++◌, zero, ◌-◌, ◌^◌, min, max, length, map, take, get_or, refl, sym, ap, ◌∙◌, arith, Option, Some, None, option_map}
+use Rattle.std.proofs.Common.{◌≡◌, ℕ, suc, ◌+◌, ◌<◌, ◌≤◌, Bool, true, false, cond, ◌&&◌, ◌||◌, ◌==◌, nat_lt, nat_le, List, [], ◌∷◌, ◌++◌, zero, ◌-◌, ◌^◌, min, max, length, map, get_or, refl, sym, ap, ◌∙◌, arith, Option, Some, None, option_map}
 use Rattle.std.specs.Prelude.{reverse, not, is_some, slice_index_or, if◌then◌else◌}
 use Rattle.std.specs.Borrow.{Bor}
 use Rattle.std.specs.List.{find, list_all}
 use Rattle.std.specs.Map.{lookup}
 use Rattle.std.specs.Str.{bytes_eq}
-use Rattle.std.proofs.lemmas.List.{take_more, map-append, reverse-append}
+use Rattle.std.proofs.lemmas.List.{map-append, reverse-append}
 use Rattle.std.proofs.lemmas.Bool.{ltb-true, ltb-false, leb-true}
 use Rattle.rv_text_laws.specs.Expression.{Primary, Literal, Symbol, Here, Reference}
 use Rattle.rv_text_laws.specs.Values.{Meaning, Known, Placed, Open, Refused, Symbolic}
-use Rattle.rv_text_laws.specs.Bytes.{value}
 use Rattle.std.proofs.lemmas.List.Folds.{list_all-append}
 use Rattle.rv_unit_laws.specs.Sections.{Section, place_of_name, current_section, text_section}
 use Rattle.rv_unit_laws.specs.Tables as laws
@@ -21,9 +20,8 @@ use Rattle.std.proofs.Math.ListN.{set}
 use Rattle.rv_unit.specs.declared.section.Extent.{Extent}
 use Rattle.rv_unit.specs.declared.tables.Given.{Given}
 use Rattle.rv_unit.specs.declared.tables.Label.{Label}
-use Rattle.rv_unit.specs.declared.tables.Mark.{Mark}
 use Rattle.rv_unit.specs.Sections.{section_of, extent_section}
-use Rattle.rv_unit.specs.Tables.{labelled_of, label_at, marked_of, setting_of}
+use Rattle.rv_unit.specs.Tables.{labelled_of, label_at, setting_of}
 
 -- a label by its name
 pub label_found : (name : List ℕ) (es : List (Bor (List ℕ) × Label)) → option_map (label_at name) (lookup (λ (k : Bor (List ℕ)). bytes_eq name k.now) es) ≡ laws.label_of (map labelled_of es) true 0 name
@@ -36,11 +34,6 @@ label_found name (e ∷ es) = by (bytes_eq name e.0.now) (bytes_eq e.0.now name)
     by false false p q rest = rest
     by true false p q rest = absurd (let s = sym p ∙ bytes_swap name e.0.now ∙ q in let t : true ≡ false = s in cc)
     by false true p q rest = absurd (let s = sym p ∙ bytes_swap name e.0.now ∙ q in let t : false ≡ true = s in cc)
-
--- a search through numeric labels, latest first, by one more
-pub marks_more : (f : Mark → laws.Marked) (xs : List Mark) (i : ℕ) (d : Mark) → i < length xs → reverse (map f (take (i + 1) xs)) ≡ f (get_or xs i d) ∷ reverse (map f (take i xs))
-marks_more f xs i d inside =
-    ap (λ l. reverse (map f l)) (take_more xs i d inside) ∙ ap reverse (map-append f (take i xs) (get_or xs i d ∷ [])) ∙ reverse-append (map f (take i xs)) (f (get_or xs i d) ∷ [])
 
 -- the names of the first section
 pub indexed_first : (es : List (Bor (List ℕ) × ℕ)) (k : Bor (List ℕ)) (ss : List Section) (s : Section) → es ≡ (k, 0) ∷ [] → ss ≡ s ∷ [] → k.now ≡ s.name → (name : List ℕ)
@@ -156,19 +149,6 @@ set_not t s is = by (laws.may_set t s.ordinal s.name s.meaning) is
 
 pub set_one : (t : laws.Tables) (s : laws.Setting) (more : List laws.Setting) → laws.may_set t s.ordinal s.name s.meaning ≡ true → more ≡ s ∷ t.settings → record t { settings = more } ≡ laws.with_setting t (Some s)
 set_one t s more is added = ap (λ l. record t { settings = l }) added ∙ sym (ap (λ b. if b then record t { settings = s ∷ t.settings } else t) is)
-
--- a numeric label that is found in the back
-pub mark_hit : (number : ℕ) (items : List Mark) (left : ℕ) (m : Mark) (r : Option laws.Marked) → 0 < left → left ≤ length items → m ≡ get_or items (left - 1) m → (value 10 m.digits.now == number) ≡ true
-    → find (λ n. n.number == number) (reverse (map marked_of (take left items))) ≡ r → Some (marked_of m) ≡ r
-mark_hit number items left m r some within is same rest =
-    let inside : left - 1 < length items = omega arith in
-    let next : left ≡ left - 1 + 1 = omega arith in
-    let others : List laws.Marked = reverse (map marked_of (take (left - 1) items)) in
-    sym (ap (λ n. find (λ (k : laws.Marked). k.number == number) (reverse (map marked_of (take n items)))) next
-    ∙ ap (find (λ (k : laws.Marked). k.number == number)) (marks_more marked_of items (left - 1) m inside)
-    ∙ ap (λ (y : Mark). find (λ (k : laws.Marked). k.number == number) (marked_of y ∷ others)) (sym is)
-    ∙ ap (λ b. cond b (Some (marked_of m)) (find (λ (k : laws.Marked). k.number == number) others)) same)
-    ∙ rest
 
 -- one extent of the list changes
 pub changed_map : (f : Extent → ℕ) (change : ℕ → ℕ) (es : List Extent) (n : ℕ) (e w : Extent) → n < length es → e ≡ get_or es n e → f w ≡ change (f e) → map f (set es n w) ≡ laws.changed_at n change (map f es)

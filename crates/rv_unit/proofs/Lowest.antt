@@ -1,11 +1,8 @@
 -- The lowest of codes in two lists.
 
-use Rattle.std.proofs.Common.{◌≡◌, refl, ℕ, List, [], ◌∷◌, ◌++◌, ap, sym, ◌∙◌, arith}
-use Rattle.std.specs.Prelude.{Option, Some, None, min, option_map, ◌≤◌, ◌<◌}
-use Rattle.rv_text.specs.declared.fault.SourceCode.{SourceCode}
-use Rattle.rv_text.specs.Fault.{number_of}
+use Rattle.std.proofs.Common.{◌≡◌, refl, ℕ, List, [], ◌∷◌, ◌++◌, ap, ◌∙◌, arith}
+use Rattle.std.specs.Prelude.{Option, Some, None, min}
 use Rattle.rv_unit_laws.specs.Faults.{lowest}
-use Rattle.rv_unit.specs.Faults.{IsLowest}
 
 -- the lower of what two lists have
 abbrev pub lower_of : Option ℕ → Option ℕ → Option ℕ

@@ -10,7 +10,7 @@ use Rattle.rv_statement.specs.Statement.{Spoken}
 use Rattle.rv_statement.specs.declared.statement.Statement.{Statement}
 use Rattle.rv_statement.specs.View.{said_by}
 use Rattle.rv_unit_laws.specs.Tables as laws
-use Rattle.rv_unit_laws.proofs.Before.{IsBefore, set_now, label_before}
+use Rattle.rv_unit_laws.proofs.Before.{IsBefore, before_all, before_start, set_now, label_before}
 use Rattle.rv_unit_laws.proofs.Later.{Keeps}
 use Rattle.rv_unit.specs.Sees.{Sees}
 use Rattle.rv_unit.proofs.Filling.{passed, passed_before, passed_keeps, passed_more}
@@ -22,6 +22,10 @@ sees t all ss i within is whole = record {
   keeps = subst (λ x. Keeps x all (i + 1)) (sym is) (subst (λ x. Keeps (passed ss i) x (i + 1)) (sym whole) (passed_keeps ss i within));
   whole = whole;
 }
+
+-- the tables of the whole source stand before the ordinal behind its last statement
+pub whole_before : (all : laws.Tables) (ss : List Spoken) → all ≡ laws.tables ss → IsBefore all (1 + length ss)
+whole_before all ss whole = subst (λ t. IsBefore t (1 + length ss)) (sym whole) (before_all laws.at_start 1 ss (before_start 1))
 
 set_all : (t all : laws.Tables) (o : ℕ) (name : List ℕ) → IsBefore t o → Keeps t all o → laws.set_before all.settings o name ≡ laws.set_ever t.settings name
 set_all t all o name h k = k.settings (λ s. bytes_eq s.name name) ∙ set_now t o name h

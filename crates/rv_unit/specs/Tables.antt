@@ -1,15 +1,18 @@
 -- What the tables of the code stand for.
 
-use Rattle.std.specs.Prelude.{◌≡◌, ℕ, List, map, reverse, option_map}
+use Rattle.std.specs.Prelude.{◌≡◌, ◌==◌, ℕ, List, [], map, filter, reverse, option_map}
+use Rattle.std.specs.Option.{option_map_or}
+use Rattle.std.specs.declared.vec.Vec.{Vec}
 use Rattle.std.specs.Borrow.{Bor}
 use Rattle.std.specs.Str.{bytes_eq}
-use Rattle.indexmap.specs.IndexMap.{get_by}
+use Rattle.indexmap.specs.IndexMap.{IndexMap, get_by}
 use Rattle.rv_text_laws.specs.Bytes.{value}
 use Rattle.rv_text.specs.Eval.{meaning_of}
 use Rattle.rv_unit_laws.specs.Sections as sections
 use Rattle.rv_unit_laws.specs.Tables as laws
 use Rattle.rv_unit.specs.declared.tables.Given.{Given}
 use Rattle.rv_unit.specs.declared.tables.Label.{Label}
+use Rattle.rv_unit.specs.declared.number.Number.{Number}
 use Rattle.rv_unit.specs.declared.tables.Mark.{Mark}
 use Rattle.rv_unit.specs.declared.tables.Tables.{Tables}
 use Rattle.rv_unit.specs.declared.section.Extent.{Extent}
@@ -42,7 +45,12 @@ tables_of b = record {
   kept = b.kept;
 }
 
--- what is looked up by name is what a search would find
+-- the numeric labels of a number
+abbrev pub marks_at : {Z S : Type 0} → IndexMap Number (Vec Mark Z) S → ℕ → List Mark
+marks_at numbered number = option_map_or (λ marks. marks.items) (get_by (λ (k : Number). number == value 10 k.digits.now) numbered) []
+
+-- what is looked up by name or number is what a search would find
 pub record IsIndexed (b : Tables) : Type 0 where
   pub numbers : (name : List ℕ) → get_by (λ (k : Bor (List ℕ)). bytes_eq name k.now) b.numbers ≡ sections.place_of_name (map extent_section b.extents.items) name
   pub latest : (name : List ℕ) → option_map setting_of (get_by (λ (k : Bor (List ℕ)). bytes_eq name k.now) b.latest) ≡ laws.set_ever (reverse (map setting_of b.settings.items)) name
+  pub numbered : (digits : List ℕ) → marks_at b.numbered (value 10 digits) ≡ filter (λ (m : Mark). value 10 m.digits.now == value 10 digits) b.marks.items

@@ -7,6 +7,7 @@ mod align;
 mod check;
 mod faults;
 mod fill;
+mod marks;
 mod names;
 mod number;
 mod place;

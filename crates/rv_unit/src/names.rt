@@ -9,6 +9,7 @@ ghost use Rattle.rv_text.specs.Expr.{tree_of_expr};
 ghost use Rattle.rv_text.specs.Eval.{meaning_of, IsOutcome};
 ghost use Rattle.rv_statement.specs.Statement.{Spoken};
 ghost use Rattle.rv_unit_laws.specs.Tables as laws;
+ghost use Rattle.rv_unit_laws.proofs.Before.{IsBefore};
 ghost use Rattle.rv_unit.specs.Sections.{place_of};
 ghost use Rattle.rv_unit.specs.Tables.{tables_of, IsIndexed};
 ghost use Rattle.rv_unit.specs.Sees.{Sees};
@@ -90,7 +91,7 @@ impl<'a> Unit<'a> {
 
     /// What the nearest numeric label before means.
     fn backward(&self, passed: &Tables<'_>, digits: &[u8]) -> Meaning
-        ensures { meaning_of result ≡ laws.backward_in (tables_of (self.now).tables).opened (find (λ m. m.number == digits_value 10 digits.now) (tables_of passed.now).marks) }
+        ensures { IsIndexed passed.now → meaning_of result ≡ laws.backward_in (tables_of (self.now).tables).opened (find (λ m. m.number == digits_value 10 digits.now) (tables_of passed.now).marks) }
     {
         match passed.latest_mark(digits) {
             Some(mark) => self.tables.stands(mark.place),
@@ -100,7 +101,7 @@ impl<'a> Unit<'a> {
 
     /// What the nearest numeric label behind means.
     fn forward(&self, ordinal: usize, digits: &[u8]) -> Meaning
-        ensures { meaning_of result ≡ laws.forward_in (tables_of (self.now).tables).opened true (laws.marked_after (tables_of (self.now).tables).marks ordinal (digits_value 10 digits.now)) }
+        ensures { IsIndexed (self.now).tables → (o : ℕ) → IsBefore (tables_of (self.now).tables) o → meaning_of result ≡ laws.forward_in (tables_of (self.now).tables).opened true (laws.marked_after (tables_of (self.now).tables).marks ordinal (digits_value 10 digits.now)) }
     {
         match self.tables.marked_after(ordinal, digits) {
             Some(mark) => self.tables.stands(mark.place),
@@ -165,7 +166,7 @@ impl<'a> Unit<'a> {
 
     /// What a numeric label behind means: no constant, if there is one.
     fn early_forward(&self, ordinal: usize, digits: &[u8]) -> Meaning
-        ensures { meaning_of result ≡ laws.forward_in (tables_of (self.now).tables).opened false (laws.marked_after (tables_of (self.now).tables).marks ordinal (digits_value 10 digits.now)) }
+        ensures { IsIndexed (self.now).tables → (o : ℕ) → IsBefore (tables_of (self.now).tables) o → meaning_of result ≡ laws.forward_in (tables_of (self.now).tables).opened false (laws.marked_after (tables_of (self.now).tables).marks ordinal (digits_value 10 digits.now)) }
     {
         match self.tables.marked_after(ordinal, digits) {
             Some(_) => Meaning::NotConstant,

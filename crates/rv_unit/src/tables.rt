@@ -14,7 +14,8 @@ ghost use Rattle.rv_unit_laws.proofs.Before.{IsBefore, placed_latest};
 ghost use Rattle.rv_unit.specs.Sections.{section_of, place_of};
 ghost use Rattle.rv_unit.specs.Tables.{tables_of, label_at, marked_of, setting_of, IsIndexed};
 
-use crate::number::same_number;
+use crate::marks::{add_numbered, first_after};
+use crate::number::Number;
 use crate::place::Place;
 use crate::section::{Extent, Section};
 use indexmap::IndexMap;
@@ -67,8 +68,9 @@ pub(crate) struct Tables<'a> {
     /// The number of the current one.
     pub(crate) current: u32,
     pub(crate) labels: IndexMap<&'a [u8], Label>,
-    /// The numeric labels in their order.
+    /// The numeric labels in their order, and those of each number.
     pub(crate) marks: Vec<Mark<'a>>,
+    pub(crate) numbered: IndexMap<Number<'a>, Vec<Mark<'a>>>,
     /// The settings in their order, and the latest of each name.
     pub(crate) settings: Vec<Given<'a>>,
     pub(crate) latest: IndexMap<&'a [u8], Given<'a>>,
@@ -97,6 +99,7 @@ impl<'a> Tables<'a> {
             current: 0,
             labels: IndexMap::new(alloc),
             marks: Vec::new(alloc),
+            numbered: IndexMap::new(alloc),
             settings: Vec::new(alloc),
             latest: IndexMap::new(alloc),
             kept: 0,
@@ -160,29 +163,22 @@ impl<'a> Tables<'a> {
 
     /// The latest numeric label of a number.
     pub(crate) fn latest_mark(&self, digits: &[u8]) -> Option<Mark<'a>>
-        ensures { option_map marked_of result ≡ find (λ m. m.number == digits_value 10 digits.now) (tables_of self.now).marks }
+        ensures { IsIndexed self.now → option_map marked_of result ≡ find (λ m. m.number == digits_value 10 digits.now) (tables_of self.now).marks }
     {
-        let mut left = self.marks.len();
-        while left > 0 {
-            left -= 1;
-            let mark = self.marks[left];
-            if same_number(mark.digits, digits) {
-                return Some(mark);
-            }
+        match self.numbered.get(Number { digits }) {
+            Some(marks) => marks.as_slice().last().copied(),
+            None => None,
         }
-        None
     }
 
     /// The nearest numeric label after an ordinal.
     pub(crate) fn marked_after(&self, ordinal: usize, digits: &[u8]) -> Option<Mark<'a>>
-        ensures { option_map marked_of result ≡ laws.marked_after (tables_of self.now).marks ordinal (digits_value 10 digits.now) }
+        ensures { IsIndexed self.now → (o : ℕ) → IsBefore (tables_of self.now) o → option_map marked_of result ≡ laws.marked_after (tables_of self.now).marks ordinal (digits_value 10 digits.now) }
     {
-        for mark in &self.marks {
-            if ordinal < mark.ordinal && same_number(mark.digits, digits) {
-                return Some(*mark);
-            }
+        match self.numbered.get(Number { digits }) {
+            Some(marks) => first_after(marks.as_slice(), ordinal),
+            None => None,
         }
-        None
     }
 
     /// What a name means so far.
@@ -207,7 +203,7 @@ impl<'a> Tables<'a> {
 
     /// What a numeric label before means so far.
     fn backward(&self, digits: &[u8]) -> Meaning
-        ensures { (o : ℕ) → IsBefore (tables_of self.now) o → meaning_of result ≡ laws.referred (tables_of self.now) false o (digits_value 10 digits.now) false }
+        ensures { IsIndexed self.now → (o : ℕ) → IsBefore (tables_of self.now) o → meaning_of result ≡ laws.referred (tables_of self.now) false o (digits_value 10 digits.now) false }
     {
         match self.latest_mark(digits) {
             Some(mark) => self.stands(mark.place),
@@ -317,12 +313,13 @@ impl<'a> Tables<'a> {
         ensures indexed { OnOk result (IsIndexed self.old → IsIndexed self.new) }
     {
         let place = self.here();
-        self.marks.push(Mark {
+        let mark = Mark {
             digits,
             ordinal,
             place,
-        })?;
-        Ok(())
+        };
+        self.marks.push(mark)?;
+        add_numbered(*self.marks.allocator(), &mut self.numbered, mark)
     }
 
     /// Whether a setting's name is defined, where one of the two is a label or a place.

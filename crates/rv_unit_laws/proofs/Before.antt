@@ -32,10 +32,17 @@ placed_latest (Some s) = is_placed_setting s
 abbrev pub placed_ever : List Setting → List ℕ → Bool
 placed_ever settings name = list_any (λ s. bytes_eq s.name name && is_placed_setting s) settings
 
--- names, numeric labels and settings stand before the ordinal; a name that was ever a place still is
+-- each numeric label stands behind those after it in the list
+abbrev pub falling : List Marked → Bool
+falling [] = true
+falling (m ∷ ms) = all_marks m.ordinal ms && falling ms
+
+-- names, numeric labels and settings stand before the ordinal, numeric labels with the latest first; a name that was ever
+-- a place still is
 pub record IsBefore (t : Tables) (o : ℕ) : Type 0 where
   pub labels : all_labels o t.labels ≡ true
   pub marks : all_marks o t.marks ≡ true
+  pub ordered : falling t.marks ≡ true
   pub settings : all_settings o t.settings ≡ true
   pub placed : (name : List ℕ) → placed_ever t.settings name ≡ placed_latest (set_ever t.settings name)
 
@@ -50,6 +57,7 @@ pub before_next : (t : Tables) (o : ℕ) → IsBefore t o → IsBefore t (suc o)
 before_next t o h = record {
   labels = all_weaker (λ l. nat_lt l.ordinal o) (λ l. nat_lt l.ordinal (suc o)) t.labels (λ l. next l.ordinal o) h.labels;
   marks = all_weaker (λ m. nat_lt m.ordinal o) (λ m. nat_lt m.ordinal (suc o)) t.marks (λ m. next m.ordinal o) h.marks;
+  ordered = h.ordered;
   settings = all_weaker (λ s. nat_lt s.ordinal o) (λ s. nat_lt s.ordinal (suc o)) t.settings (λ s. next s.ordinal o) h.settings;
   placed = h.placed;
 }
@@ -105,6 +113,7 @@ pub before_sections : (t u : Tables) (o : ℕ) → u.labels ≡ t.labels → u.m
 before_sections t u o l m s h = record {
   labels = ap (all_labels o) l ∙ h.labels;
   marks = ap (all_marks o) m ∙ h.marks;
+  ordered = ap falling m ∙ h.ordered;
   settings = ap (all_settings o) s ∙ h.settings;
   placed = λ name. ap (λ ss. placed_ever ss name) s ∙ h.placed name ∙ ap (λ ss. placed_latest (set_ever ss name)) (sym s);
 }
@@ -120,6 +129,7 @@ before_label t o name h = by (is_defined t o name) refl
           labels = list_all-append (λ (l : Labelled). nat_lt l.ordinal (suc o)) t.labels (record { name = name; ordinal = o; place = here t } ∷ [])
               ∙ ap (λ b. b && (nat_lt o (suc o) && true)) f.labels ∙ ap (λ b. b && true) (now o);
           marks = f.marks;
+          ordered = f.ordered;
           settings = f.settings;
           placed = f.placed;
         }
@@ -127,7 +137,7 @@ before_label t o name h = by (is_defined t o name) refl
 before_mark : (t : Tables) (o number : ℕ) → IsBefore t o → IsBefore (with_mark t o number) (suc o)
 before_mark t o number h =
     let f = before_next t o h in
-    record { labels = f.labels; marks = ap (λ b. b && all_marks (suc o) t.marks) (now o) ∙ f.marks; settings = f.settings; placed = f.placed }
+    record { labels = f.labels; marks = ap (λ b. b && all_marks (suc o) t.marks) (now o) ∙ f.marks; ordered = ap (λ b. b && falling t.marks) h.marks ∙ h.ordered; settings = f.settings; placed = f.placed }
 
 -- one setting more that may be made
 placed_more : (t : Tables) (o : ℕ) (s : Setting) → IsBefore t o → not (has_place t o s.name) ≡ true → is_placed_setting s ≡ false → (name : List ℕ)
@@ -171,6 +181,7 @@ before_set t o s at h = by (may_set t s.ordinal s.name s.meaning) refl
         record {
           labels = f.labels;
           marks = f.marks;
+          ordered = f.ordered;
           settings = ap (λ a. nat_lt a (suc o) && all_settings (suc o) t.settings) at ∙ ap (λ b. b && all_settings (suc o) t.settings) (now o) ∙ f.settings;
           placed = may_be t o s s.meaning refl h (ap (λ a. may_set t a s.name s.meaning) (sym at) ∙ e);
         }
@@ -192,8 +203,8 @@ before_opened : (t : Tables) (opened : Opened) (o : ℕ) → IsBefore t o → Is
 before_opened t opened o h = by (length opened.sections == length t.opened.sections)
   where
     by : (b : Bool) → IsBefore (if b then record t { opened = opened } else record t { opened = opened; ends = t.ends ++ 0 ∷ []; alignments = t.alignments ++ 1 ∷ [] }) o
-    by true = record { labels = h.labels; marks = h.marks; settings = h.settings; placed = h.placed }
-    by false = record { labels = h.labels; marks = h.marks; settings = h.settings; placed = h.placed }
+    by true = record { labels = h.labels; marks = h.marks; ordered = h.ordered; settings = h.settings; placed = h.placed }
+    by false = record { labels = h.labels; marks = h.marks; ordered = h.ordered; settings = h.settings; placed = h.placed }
 
 before_section : (t : Tables) (section : Option Section) (o : ℕ) → IsBefore t o → IsBefore (with_section t section) (suc o)
 before_section t None o h = before_next t o h
@@ -207,8 +218,8 @@ before_data t bytes alignment o h = before_next (with_data t bytes alignment) o 
     by false e = before_sections t (with_data t bytes alignment) o (rw e refl) (rw e refl) (rw e refl) h
 
 before_choice : (t : Tables) (choice : Choice) (o : ℕ) → IsBefore t o → IsBefore (with_choice t choice) (suc o)
-before_choice t Push o h = let f = before_next t o h in record { labels = f.labels; marks = f.marks; settings = f.settings; placed = f.placed }
-before_choice t Pop o h = let f = before_next t o h in record { labels = f.labels; marks = f.marks; settings = f.settings; placed = f.placed }
+before_choice t Push o h = let f = before_next t o h in record { labels = f.labels; marks = f.marks; ordered = f.ordered; settings = f.settings; placed = f.placed }
+before_choice t Pop o h = let f = before_next t o h in record { labels = f.labels; marks = f.marks; ordered = f.ordered; settings = f.settings; placed = f.placed }
 before_choice t Rvc o h = before_next t o h
 before_choice t Norvc o h = before_next t o h
 before_choice t Relax o h = before_next t o h
@@ -246,4 +257,4 @@ before_all t o (s ∷ ss) h =
     subst (IsBefore (after_all (after t o s.says) (suc o) ss)) n (before_all (after t o s.says) (suc o) ss (before_after t o s.says h))
 
 pub before_start : (o : ℕ) → IsBefore at_start o
-before_start o = record { labels = refl; marks = refl; settings = refl; placed = λ name. refl }
+before_start o = record { labels = refl; marks = refl; ordered = refl; settings = refl; placed = λ name. refl }

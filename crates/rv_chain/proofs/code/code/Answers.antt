@@ -9,11 +9,11 @@ use Rattle.rv_unit.specs.Sections.{extent_section, place_of}
 use Rattle.rv_unit_laws.specs.Tables.{tables, value as value_of}
 use Rattle.rv_chain.specs.Added.{IsAdded, Adds}
 use Rattle.rv_chain.proofs.Standing.{StandsAt, stands_at, places_count, got_inside, stated_at, stated_none}
-use Rattle.rv_chain.proofs.Whole.{code_more, code_wrong, code_whole}
+use Rattle.rv_chain.proofs.Whole.{code_more, coded_more, code_wrong, code_whole, coded_whole}
 use Rattle.rv_chain.proofs.code.code.Goals as goal
 
 pub loop-index-init : goal.loop-index-init
-loop-index-init c = (c.in_ok-scope.ensures.unit, c.in_ok-scope.ensures.start, c.in_ok-coder.ensures.begun _ _, c.in_ok-coder.ensures.count ∙ ap length c.sections.ensures)
+loop-index-init c = (c.in_ok-scope.ensures.unit, c.in_ok-scope.ensures.start, c.in_ok-coder.ensures.begun _ _, c.in_ok-coder.ensures.count ∙ ap length c.sections.ensures, λ rest. rest)
 
 pub bounds-places-index : goal.bounds-places-index
 bounds-places-index c =
@@ -54,6 +54,7 @@ loop-index-preserved c =
       c.in_ok-pass.ensures.passes i within' c.loop-index.invariant.1,
       code_more u i x p c.loop-index.coder c.put_code.new.coder at c.loop-index.invariant.2 added,
       added.grows.0 ∙ c.loop-index.invariant.3,
+      coded_more u i x p c.loop-index.coder c.put_code.new.coder at c.loop-index.invariant.4 added,
     )
 
 pub returns-in_err-put_code-clause-code : goal.returns-in_err-put_code-clause-code
@@ -79,3 +80,10 @@ returns-clause-code c =
     let i = c.loop-index.index in
     let past = subst (λ l. length l ≤ i) c.statements-statements.ensures c.loop-index-test.false in
     code_whole (said u) i c.loop-index.coder c.finish.result (stated_none (said u) i (subst (λ n. n ≤ i) (sym (length-map u.statements.items said_by)) past)) c.loop-index.invariant.2 c.finish.ensures.code
+
+pub returns-clause-coded : goal.returns-clause-coded
+returns-clause-coded c =
+    let u = c.args.unit.now in
+    let i = c.loop-index.index in
+    let past = subst (λ l. length l ≤ i) c.statements-statements.ensures c.loop-index-test.false in
+    coded_whole (said u) i c.finish.result (stated_none (said u) i (subst (λ n. n ≤ i) (sym (length-map u.statements.items said_by)) past)) c.loop-index.invariant.4

@@ -2,7 +2,7 @@ use Rattle.std.proofs.Common.{refl, ap, ◌∙◌}
 use Rattle.rv_text.specs.Expr.{tree_of_expr}
 use Rattle.rv_statement.specs.View.{said_by, statement_of}
 use Rattle.rv_chain_laws.specs.Refusals.{code_size}
-use Rattle.rv_chain.specs.Code.{constant_of}
+use Rattle.rv_link_laws.specs.Suits.{constant_in}
 use Rattle.rv_chain.proofs.StatementKinds.{plain_built, plain_size, with_built, with_size}
 use Rattle.rv_chain.proofs.instruction.instruction.Goals as goal
 
@@ -11,7 +11,7 @@ returns-in-Plain-clause-codes g c = λ o v e means.
     let says = ap statement_of c.in-Plain.is in
     c.found.ensures.codes o v (said_by c.args.statement.now)
     (plain_built c.in-Plain.statement (said_by c.args.statement.now) o v c.args.compressed c.as_word.result says e
-    (c.as_word.ensures.built _ _ (refl, (c.plain.ensures (λ x. constant_of (v x))).0, (c.plain.ensures (λ x. constant_of (v x))).1)))
+    (c.as_word.ensures.built _ _ (refl, (c.plain.ensures (λ x. constant_in (v x))).0, (c.plain.ensures (λ x. constant_in (v x))).1)))
     (ap code_size says ∙ plain_size c.in-Plain.statement)
 
 pub returns-in-With-clause-codes : goal.returns-in-With-clause-codes

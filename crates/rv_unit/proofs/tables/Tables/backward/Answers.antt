@@ -6,11 +6,11 @@ use Rattle.rv_unit.proofs.Lookups.{marked_latest}
 use Rattle.rv_unit.proofs.tables.Tables.backward.Goals as goal
 
 pub returns-in-Some : goal.returns-in-Some
-returns-in-Some c = λ o h.
+returns-in-Some c = λ i o h.
     let t = tables_of c.args.self.now in
-    c.stands.ensures ∙ sym (ap (backward_in t.opened) (marked_latest t o (value 10 c.args.digits.now) h ∙ sym c.latest_mark.ensures ∙ ap (option_map marked_of) c.in-Some.is))
+    c.stands.ensures ∙ sym (ap (backward_in t.opened) (marked_latest t o (value 10 c.args.digits.now) h ∙ sym (c.latest_mark.ensures i) ∙ ap (option_map marked_of) c.in-Some.is))
 
 pub returns-in-None : goal.returns-in-None
-returns-in-None c = λ o h.
+returns-in-None c = λ i o h.
     let t = tables_of c.args.self.now in
-    sym (ap (backward_in t.opened) (marked_latest t o (value 10 c.args.digits.now) h ∙ sym c.latest_mark.ensures ∙ ap (option_map marked_of) c.in-None.is))
+    sym (ap (backward_in t.opened) (marked_latest t o (value 10 c.args.digits.now) h ∙ sym (c.latest_mark.ensures i) ∙ ap (option_map marked_of) c.in-None.is))

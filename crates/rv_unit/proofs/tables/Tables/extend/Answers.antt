@@ -20,4 +20,5 @@ returns-clause-indexed c = λ i.
     record {
       numbers = λ name. i.numbers name ∙ ap (λ l. place_of_name l name) (sym (same_map extent_section b.extents.items b.current c.index-extent.result.now c.longer.result inside c.index-extent.ensures c.longer.ensures.section));
       latest = i.latest;
+      numbered = i.numbered;
     }

@@ -1,9 +1,24 @@
-use Rattle.std.proofs.Common.{◌∙◌, sym}
+use Rattle.std.proofs.Common.{◌∙◌, ◌-◌, ◌==◌, ap, sym, [], length, filter, option_map}
+use Rattle.std.specs.Prelude.{slice_get}
+use Rattle.std.specs.Option.{option_map_or, option_copied}
 use Rattle.rv_text_laws.specs.Bytes.{value}
-use Rattle.rv_unit.proofs.Lookups.{mark_hit}
+use Rattle.rv_unit.specs.declared.tables.Mark.{Mark}
+use Rattle.rv_unit.specs.Tables.{marked_of}
+use Rattle.rv_unit.proofs.Numbered.{last_found, given_at}
 use Rattle.rv_unit.proofs.tables.Tables.latest_mark.Goals as goal
 
-pub returns-then-same_number : goal.returns-then-same_number
-returns-then-same_number c =
-    mark_hit (value 10 c.args.digits.now) c.args.self.now.marks.items c.loop-left.left c.index-mark.result.now _ c.loop-left-test.true c.loop-left.invariant.0 c.index-mark.ensures
-    (sym c.same_number.ensures ∙ c.if-same_number.true) c.loop-left.invariant.1
+pub returns-in-Some : goal.returns-in-Some
+returns-in-Some c = λ i.
+    let n = value 10 c.args.digits.now in
+    let xs = c.args.self.now.marks.items in
+    let kept = given_at c.get.result _ (filter (λ (m : Mark). value 10 m.digits.now == n) xs) c.as_slice.result.now c.get.ensures.value (i.numbered c.args.digits.now) (ap (λ o. option_map_or (λ v. v.items) (option_copied o) []) c.in-Some.is ∙ sym c.as_slice.ensures.value) in
+    ap (option_map marked_of) (c.copied.ensures ∙ c.last.ensures.value ∙ ap (λ l. slice_get l (length l - 1)) kept)
+    ∙ last_found marked_of (λ m. m.number == n) xs
+
+pub returns-in-None : goal.returns-in-None
+returns-in-None c = λ i.
+    let n = value 10 c.args.digits.now in
+    let xs = c.args.self.now.marks.items in
+    let kept = given_at c.get.result _ (filter (λ (m : Mark). value 10 m.digits.now == n) xs) [] c.get.ensures.value (i.numbered c.args.digits.now) (ap (λ o. option_map_or (λ v. v.items) (option_copied o) []) c.in-None.is) in
+    ap (λ l. option_map marked_of (slice_get l (length l - 1))) kept
+    ∙ last_found marked_of (λ m. m.number == n) xs

@@ -9,4 +9,5 @@ returns-clause-indexed c = λ i. record {
   numbers = i.numbers;
   latest = latest_more c.args.self.now.latest.entries c.insert.new.self.entries (reverse (map setting_of c.args.self.now.settings.items)) (reverse (map setting_of c.push.new.self.items)) c.args.given
       i.latest (settings_more c.args.self.now.settings.items c.push.new.self.items c.args.given c.in_ok-push.ensures.items) c.in_ok-insert.ensures.updates.0;
+  numbered = i.numbered;
 }

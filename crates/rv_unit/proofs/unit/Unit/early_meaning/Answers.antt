@@ -1,10 +1,10 @@
-use Rattle.std.proofs.Common.{◌∙◌, ap, sym, false}
+use Rattle.std.proofs.Common.{◌∙◌, ◌+◌, ap, sym, length, false}
 use Rattle.rv_text_laws.specs.Bytes.{value}
 use Rattle.rv_text.specs.Nodes.{symbol_of}
 use Rattle.rv_unit_laws.specs.Tables.{meaning, tables}
 use Rattle.rv_unit.specs.Sections.{place_of}
 use Rattle.rv_unit.specs.Tables.{tables_of}
-use Rattle.rv_unit.proofs.Scoped.{early_name, early_here, early_back, early_ahead}
+use Rattle.rv_unit.proofs.Scoped.{early_name, early_here, early_back, early_ahead, whole_before}
 use Rattle.rv_unit.proofs.unit.Unit.early_meaning.Goals as goal
 
 pub returns-in-Name : goal.returns-in-Name
@@ -25,12 +25,12 @@ pub returns-in-Backward : goal.returns-in-Backward
 returns-in-Backward c = λ ss o i f s at.
     let t = tables_of c.args.passed.now in
     let all = tables_of c.args.self.now.tables in
-    early_back t all ss o (value 10 c.in-Backward.digits.now) _ s c.backward.ensures
+    early_back t all ss o (value 10 c.in-Backward.digits.now) _ s (c.backward.ensures i)
     ∙ sym (ap (λ x. meaning (tables ss) false o (place_of c.args.place) (symbol_of x)) c.in-Backward.is)
 
 pub returns-in-Forward : goal.returns-in-Forward
 returns-in-Forward c = λ ss o i f s at.
     let t = tables_of c.args.passed.now in
     let all = tables_of c.args.self.now.tables in
-    early_ahead t all ss o c.args.ordinal (value 10 c.in-Forward.digits.now) _ s at c.early_forward.ensures
+    early_ahead t all ss o c.args.ordinal (value 10 c.in-Forward.digits.now) _ s at (c.early_forward.ensures f (1 + length ss) (whole_before all ss s.whole))
     ∙ sym (ap (λ x. meaning (tables ss) false o (place_of c.args.place) (symbol_of x)) c.in-Forward.is)

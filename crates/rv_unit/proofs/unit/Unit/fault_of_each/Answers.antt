@@ -1,4 +1,4 @@
-use Rattle.std.proofs.Common.{◌≡◌, ℕ, List, ◌<◌, ◌≤◌, ap, sym, subst, length, map, take, take_all, true, rules, arith}
+use Rattle.std.proofs.Common.{ℕ, List, ◌<◌, sym, subst, length, map, take, take_all, true, rules}
 use Rattle.std.specs.Prelude.{flat_map}
 use Rattle.rv_text_laws.specs.Expression.{Tree}
 use Rattle.rv_text.specs.Expr.{tree_of_expr}

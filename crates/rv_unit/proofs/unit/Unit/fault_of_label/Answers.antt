@@ -1,4 +1,4 @@
-use Rattle.std.proofs.Common.{ap, sym, ◌∙◌, subst}
+use Rattle.std.proofs.Common.{sym, ◌∙◌, subst}
 use Rattle.rv_unit_laws.specs.Faults as faults
 use Rattle.rv_unit_laws.proofs.Before.{defined_now}
 use Rattle.rv_unit.specs.Faults.{IsLowest}

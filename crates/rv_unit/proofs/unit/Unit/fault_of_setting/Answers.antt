@@ -1,4 +1,4 @@
-use Rattle.std.proofs.Common.{◌≡◌, ◌∙◌, ap, sym, subst, false}
+use Rattle.std.proofs.Common.{◌∙◌, sym, subst, false}
 use Rattle.rv_text.specs.Expr.{tree_of_expr}
 use Rattle.rv_unit_laws.specs.Faults as faults
 use Rattle.rv_unit_laws.specs.Tables as laws

@@ -1,4 +1,4 @@
-use Rattle.std.proofs.Common.{◌≡◌, ◌*◌, ◌∙◌, ap, sym, subst, length, map, true}
+use Rattle.std.proofs.Common.{◌*◌, ◌∙◌, sym, subst, length, map, true}
 use Rattle.std.proofs.lemmas.List.{length-map}
 use Rattle.std.specs.Prelude.{flat_map}
 use Rattle.rv_text.specs.Expr.{tree_of_expr}
@@ -7,7 +7,6 @@ use Rattle.rv_unit_laws.specs.Sections.{current_section}
 use Rattle.rv_unit_laws.specs.Faults as faults
 use Rattle.rv_unit_laws.specs.Tables as laws
 use Rattle.rv_unit.specs.Faults.{IsLowest}
-use Rattle.rv_unit.specs.Sections.{section_of}
 use Rattle.rv_unit.specs.Tables.{tables_of}
 use Rattle.rv_unit.proofs.Sized.{data_faults, data_shown}
 use Rattle.rv_unit.proofs.unit.Unit.fault_of_values.Goals as goal

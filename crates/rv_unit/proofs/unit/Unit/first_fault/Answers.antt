@@ -1,4 +1,4 @@
-use Rattle.std.proofs.Common.{◌≡◌, ℕ, ◌+◌, ◌<◌, ◌≤◌, ◌∷◌, List, ap, sym, subst, ◌∙◌, rules, length, map, drop, get_or, arith, Option, Some, None, option_map}
+use Rattle.std.proofs.Common.{◌≡◌, ◌+◌, ◌<◌, ◌≤◌, ap, sym, ◌∙◌, rules, length, get_or, arith, Some, None}
 use Rattle.std.proofs.lemmas.List.{length-map, drop_all}
 use Rattle.rv_text.specs.Fault.{number_of}
 use Rattle.rv_statement.specs.Statement.{Spoken}
