@@ -321,10 +321,7 @@ fn grow(ends: &mut Vec<u32>, item: Item)
 }
 
 /// The items of a source's statements, and the bytes of each section behind the last of them.
-pub(crate) fn items(
-    alloc: Global,
-    unit: &Unit<'_>,
-) -> Result<(Vec<Item>, Vec<u32>), SourceFault>
+pub(crate) fn items(alloc: Global, unit: &Unit<'_>) -> Result<(Vec<Item>, Vec<u32>), SourceFault>
     requires { IsFilled unit.now }
     ensures count { IfOk result (λ r. length r.0.items ≡ length (unit.now).statements.items) }
     ensures sections { IfOk result (λ r. length r.1.items ≡ length (unit.now).tables.extents.items) }
