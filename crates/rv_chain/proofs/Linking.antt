@@ -147,7 +147,7 @@ linked_from links names ss start entry x globals texts figures good page stands 
       even = even_sections ss is stands.last good stands.items stands.sized;
       lies = stands.lies;
       suits = suits;
-      resolves = names ss is stands.last x.layout entry globals good stands.items named.1 named.0 begins.0 begins.1 begins.2;
+      resolves = names ss is stands.last x.layout entry globals good stands.items named begins.0 begins.1 begins.2;
       each_code = each_one (tables ss).opened.sections (map (λ b. b.items) texts) (lists_count texts ∙ count);
       each_data = are.each;
       code = held_code ss is stands.last starts m (map (λ b. b.items) texts) good stands.items suits refl (λ j. listed texts j ∙ code j);

@@ -9,7 +9,7 @@ use Rattle.rv_image.specs.Linked.{Linked}
 use Rattle.rv_chain_laws.specs.Resolves.{is_one_of, is_global_after, linker_symbols}
 use Rattle.rv_link.specs.declared.piece.Destination.TheVariants.{Text, Rodata, Data}
 use Rattle.rv_link.specs.Contents.{contents_of}
-use Rattle.rv_link.specs.Definitions.{names_from, definitions_from, entry_from, AreOwn}
+use Rattle.rv_link.specs.Definitions.{names_from, definitions_from, entry_from}
 use Rattle.rv_link.specs.Layout.{IsLayout}
 use Rattle.rv_link.specs.Rows.{rows_from}
 use Rattle.rv_link_laws.specs.Items.{AreItems}
@@ -34,11 +34,11 @@ map_from x entry globals = map_of x.layout entry globals (rows_from 1 x.layout.s
 abbrev pub shown_names : List Spoken → Placed → List Global
 shown_names ss x =
     let is_global = λ (name : List ℕ). is_global_after false ss name in
-    definitions_from is_global x.layout.starts.items ss x.items.items
-    ++ filter (λ g. not (is_one_of (names_from is_global ss) g.name)) (linker_symbols (map_from x 0 []))
+    definitions_from is_global (tables ss) x.layout.starts.items x.items.items 1 ss x.items.items
+    ++ filter (λ g. not (is_one_of (names_from is_global (tables ss) 1 ss) g.name)) (linker_symbols (map_from x 0 []))
 
 abbrev pub AreNamed : List Spoken → Placed → List Global → Type 0
-AreNamed ss x globals = (globals ≡ shown_names ss x) × AreOwn (λ name. is_global_after false ss name) ss
+AreNamed ss x globals = globals ≡ shown_names ss x
 
 -- a run begins at the global label `_start`, at an even place
 abbrev pub Begins : List Spoken → Placed → ℕ → Type 0

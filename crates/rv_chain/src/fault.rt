@@ -100,7 +100,7 @@ impl From<NameFault> for Fault {
     /// A name that the map cannot show is none of this linker's.
     fn from(fault: NameFault) -> Self {
         match fault {
-            NameFault::Setting(line) | NameFault::Name(line) => {
+            NameFault::Name(line) => {
                 let code = SourceCode::UnsupportedHere;
                 Fault::Source(1, SourceFault::At { code, line })
             }

@@ -22,7 +22,7 @@ use crate::placed::Placed;
 use crate::undefined::undefined;
 use rv_image::Linked;
 use rv_link::{
-    DataFault, Destination, Globals, Item, Layout, LayoutFault, entry, global_definitions, lay_out,
+    DataFault, Destination, Globals, Item, Layout, LayoutFault, Names, entry, global_definitions, lay_out,
     put_symbols, region_bytes, statement_rows,
 };
 use rv_link_laws::{placed_links, placed_names};
@@ -118,21 +118,28 @@ fn too_large(unit: &Unit<'_>, globals: &Globals<'_>, items: &[Item]) -> LinkFaul
 }
 
 /// The names of the program: those that the source makes global, and the linker's.
-fn names(
+fn names<'a>(
     alloc: Global,
-    unit: &Unit<'_>,
-    globals: &Globals<'_>,
+    unit: &Unit<'a>,
+    globals: &Globals<'a>,
     placed: &Placed,
 ) -> Result<Vec<Defined>, Fault>
+    requires filled { IsFilled unit.now }
     requires globals { AreGlobals (globals.now).set (said unit.now) }
     requires items { length (placed.now).items.items ≡ length (unit.now).statements.items }
     ensures { IfOk result (λ names. AreNamed (said unit.now) placed.now (map global_of names.items)) }
 {
-    let statements = unit.statements();
+    let defined = Names::of(alloc, globals, unit)?;
     let starts = placed.layout.starts.as_slice();
     let items = placed.items.as_slice();
-    let mut names = global_definitions(alloc, globals, starts, statements, items)?;
-    put_symbols(alloc, &mut names, globals, statements, &placed.layout)?;
+    let mut names = global_definitions(alloc, &defined, starts, unit, items)?;
+    put_symbols(
+        alloc,
+        &mut names,
+        &defined,
+        unit.statements(),
+        &placed.layout,
+    )?;
     Ok(names)
 }
 
