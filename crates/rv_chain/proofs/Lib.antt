@@ -10,6 +10,8 @@ pub mod Whole
 pub mod SoFarItems
 pub mod HeldCode
 pub mod EvenSections
+pub mod Linking
+pub mod FirstNames
 pub mod SoFarSized
 pub mod Itemized
 pub mod Sound

@@ -15,6 +15,7 @@ ghost use Rattle.rv_chain.specs.Added.{Adds, IsCode, IsCodeSoFar, IsSourceCode};
 ghost use Rattle.rv_chain.specs.Choices.{options_of};
 ghost use Rattle.rv_chain.specs.Coded.{AreCoded};
 ghost use Rattle.rv_chain.specs.Code as laws;
+ghost use Rattle.rv_chain.specs.Coded.{AreCoded};
 ghost use Rattle.rv_chain.specs.Code.{GrowsBy, Codes, Evaluates, word_of, full_fault, full_at};
 
 use crate::choices::Choices;
