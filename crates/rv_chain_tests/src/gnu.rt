@@ -404,7 +404,6 @@ data 12000 1200e
 bss 1200e 1200e
 entry 10004
 global _start 10004
-global l4 d
 ===
 .option norvc
 .globl _start
@@ -935,7 +934,6 @@ bss 11024 11024
 entry 10000
 global _start 10000
 global l.1 10004
-global l3 8
 ===
 .option norvc
 .globl _start
@@ -1014,7 +1012,6 @@ entry 10000
 global _start 10000
 global f_1$x 1000c
 global c.4 32
-global l.7 29
 ===
 .option norvc
 .globl _start
@@ -1106,7 +1103,6 @@ global l3 11000
 global l.4 11000
 global f1 11000
 global l_7$x 10004
-global l.8 0
 ===
 .option norvc
 .section .sdata
