@@ -5,6 +5,7 @@ A benchmark is a function below. What it needs and can't find it names, and goes
 time, the least of three runs, with the start of the program.
 """
 
+import os
 import resource
 import shutil
 import subprocess
@@ -18,6 +19,7 @@ FLAGS = "-march=rv64imac -mabi=lp64 -O2 -ffreestanding -nostdlib -static -Wl,--n
 ROUNDS = 40
 AS = "riscv64-unknown-elf-as"
 SOURCE_BYTES = 16 * 2**20
+STATEMENTS = 2**22
 
 
 def missing(tool):
@@ -92,25 +94,41 @@ def kernel(folder):
     print(f"{count} instructions, counted by rv run --limit")
 
 
+INSTRUCTIONS = (
+    "addi a{0}, a{1}, {2}",
+    "add a{0}, a{1}, t0",
+    "lw a{0}, size + {2}(sp)",
+    "sd a{0}, -{2}(s{1})  # keep",
+    "lui a{0}, 0x{2:x}",
+    "slli t{1}, a{0}, size - {1}",
+    "amoadd.d.aq a{0}, a{1}, (t0)",
+    "jalr ra, {2}(a{1})",
+)
+DATA = (
+    ".data",
+    "value_{0}: .word label_{0}, {0} * 4 | 1, . - value_{0}",
+    ".byte 'x', {1}, -1; .half 0x{0:x} & 0xfff",
+    '.ascii "the value {0}\\n"',
+    ".align 3",
+    "1: .dword value_{0} + 8, 1b - value_{0}",
+    ".set count, {1} + 5",
+    ".zero count",
+    ".text",
+)
+
+
 def lines():
-    """The lines of a source without an end: instructions of each format, and a label before every eighth."""
-    formats = (
-        "addi a{0}, a{1}, {2}",
-        "add a{0}, a{1}, t0",
-        "lw a{0}, {2}(sp)",
-        "sd a{0}, -{2}(s{1})  # keep",
-        "lui a{0}, 0x{2:x}",
-        "slli t{1}, a{0}, {1}",
-        "amoadd.d.aq a{0}, a{1}, (t0)",
-        "jalr ra, {2}(a{1})",
-    )
-    yield from (".option norvc", ".globl _start", "_start:")
+    """The lines of a source without an end: instructions of each format, a label before every eighth of them, and
+    some data behind every eighth label, each with a label of its own."""
+    yield from (".option norvc", ".globl _start", ".set size, 16", "_start:")
     number = 0
     while True:
         number += 1
         if number % 8 == 0:
             yield f"label_{number}:"
-        yield "    " + formats[number % 8].format(number % 8, number % 5, number % 2000)
+        yield "    " + INSTRUCTIONS[number % 8].format(number % 8, number % 5, number % 2000)
+        if number % 64 == 0:
+            yield from ("    " + line.format(number, number % 8) for line in DATA)
 
 
 def write_source(path):
@@ -125,25 +143,52 @@ def write_source(path):
             file.write(line + "\n")
 
 
-def reading(folder):
-    """Reading a source: bytes a second, of rv, which builds the executable, and of GNU as, which writes an object."""
-    source = folder / "source.s"
-    count = write_source(source)
-    print(f"Building a source of {source.stat().st_size} bytes, {count} lines")
+def peak(command):
+    """The most memory that a program has, in bytes, and whether it ends well."""
+    process = subprocess.Popen(command, stdout=subprocess.DEVNULL, stderr=subprocess.DEVNULL)
+    _, status, used = os.wait4(process.pid, 0)
+    process.returncode = os.waitstatus_to_exitcode(status)
+    return used.ru_maxrss * 1024, process.returncode == 0
+
+
+def readers(folder, source):
+    """The commands that read a source: rv, which builds the executable, and GNU as, which writes an object."""
     commands = [[RV, "build", "-o", folder / "executable", source]]
     if not missing(AS):
         commands.append([AS, "-march=rv64ima", "-mabi=lp64", "-o", folder / "object", source])
-    for command in commands:
-        status = subprocess.run(command, capture_output=True).returncode
+    return commands
+
+
+def reading(folder):
+    """Reading a source of instructions, data and labels: bytes a second, and the memory that it takes."""
+    source = folder / "source.s"
+    count = write_source(source)
+    length = source.stat().st_size
+    print(f"Building a source of {length} bytes, {count} lines")
+    for command in readers(folder, source):
+        memory, good = peak(command)
         seconds, _ = best(command, b"")
-        rate = source.stat().st_size / seconds / 1e6
-        note = "" if status == 0 else ", BUT REFUSES IT"
-        print(f"{Path(command[0]).name:24} {seconds:6.2f} s {rate:7.0f} million bytes per second{note}")
+        rate = length / seconds / 1e6
+        note = "" if good else ", BUT REFUSES IT"
+        name = Path(command[0]).name
+        print(f"{name:24} {seconds:6.2f} s {rate:7.1f} million bytes per second, {memory / 2**20:5.0f} MiB{note}")
+
+
+def statements(folder):
+    """Building the most statements that a source may have: the memory that each takes, with the source's own."""
+    source = folder / "statements.s"
+    source.write_text(".globl _start\n_start:\n" + "1:\n" * (STATEMENTS - 2))
+    print(f"Building a source of {STATEMENTS} statements, {source.stat().st_size} bytes")
+    for command in readers(folder, source):
+        memory, good = peak(command)
+        note = "" if good else ", BUT REFUSES IT"
+        name = Path(command[0]).name
+        print(f"{name:24} {memory / STATEMENTS:6.0f} bytes a statement{note}")
 
 
 def main():
     with tempfile.TemporaryDirectory() as folder:
-        for benchmark in (kernel, reading):
+        for benchmark in (kernel, reading, statements):
             benchmark(Path(folder))
 
 

@@ -8,6 +8,8 @@
 #[cfg(test)]
 mod faults;
 #[cfg(test)]
+mod files;
+#[cfg(test)]
 mod gnu;
 #[cfg(test)]
 mod later;

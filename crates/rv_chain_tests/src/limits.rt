@@ -1,6 +1,6 @@
 //! Each limit of a source at its edge.
 
-use crate::sources::{Answer, EXIT, answered, answers, with_lines};
+use crate::sources::{Answer, EXIT, answered, answers, exits, with_lines};
 use std::alloc::{AllocError, Global};
 use std::test::Fail;
 
@@ -177,4 +177,42 @@ const EDGES: [(&[u8], Answer); 20] = [
 #[test]
 fn edges(rt: HostRuntime) -> Result<(), Fail> {
     Ok(answers(&rt, rt.alloc(), EXIT, &EDGES)?)
+}
+
+/// The most statements of a source.
+const STATEMENTS: usize = 1 << 22;
+
+/// So many label statements, 16384 a line: two bytes each, the shortest statements that there are.
+fn labels(alloc: Global, count: usize) -> Result<Vec<u8>, AllocError> {
+    let mut source = Vec::new(alloc);
+    for number in 0..count {
+        if number % 16384 == 0 {
+            source.push(b'\n')?;
+        }
+        source.extend_from_slice(b"a:")?;
+    }
+    Ok(source)
+}
+
+#[test]
+fn the_most_statements(rt: HostRuntime) -> Result<(), Fail> {
+    let alloc = rt.alloc();
+    // the label is looked at once the source is read
+    let source = labels(alloc, STATEMENTS)?;
+    assert_eq!(rt; answered(alloc, source.as_slice()), Answer::Source(11, 2));
+    // the statement past them stands alone on the 258th line
+    let source = labels(alloc, STATEMENTS + 1)?;
+    assert_eq!(rt; answered(alloc, source.as_slice()), Answer::Source(17, 258));
+    Ok(())
+}
+
+#[test]
+fn the_largest_source(rt: HostRuntime) -> Result<(), Fail> {
+    let alloc = rt.alloc();
+    let mut source = Vec::from_slice(alloc, EXIT)?;
+    source.resize(1 << 24, b'\n')?;
+    exits(&rt, alloc, source.as_slice(), b"", b"", 0)?;
+    source.push(b'\n')?;
+    assert_eq!(rt; answered(alloc, source.as_slice()), Answer::Source(17, 0));
+    Ok(())
 }

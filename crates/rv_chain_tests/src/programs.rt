@@ -1,7 +1,64 @@
 //! Worked programs: their bytes, maps and runs.
 
 use crate::sources::{Answer, answers, built, exits};
+use rv_chain::{End, run_exec};
 use std::test::Fail;
+
+/// A guest that exits, and nothing else.
+const EXIT7: &[u8] = b".option norvc
+.globl _start
+_start: li a0, 7
+li a7, 93
+ecall
+";
+
+const EXIT7_MAP: &[u8] = b"rvmap 1
+text 10000 1000c
+rodata 11000 11000
+data 11000 11000
+bss 11000 11000
+entry 10000
+global _start 10000
+global _etext 1000c
+global __bss_start 11000
+global _edata 11000
+global _end 11000
+global __global_pointer$ 11800
+row 1 3 3 10000 0 0
+row 1 3 4 10000 4 1
+row 1 4 5 10004 4 1
+row 1 5 6 10008 4 1
+";
+
+#[test]
+fn exit7(rt: HostRuntime) -> Result<(), Fail> {
+    let alloc = rt.alloc();
+    let built = built(alloc, EXIT7)?;
+    assert_eq!(rt; built.exe.len(), 4108);
+    let text = b"\x13\x05\x70\0\x93\x08\xd0\x05\x73\0\0\0";
+    assert!(rt; built.exe.as_slice().ends_with(text));
+    assert!(rt; built.map.as_slice() == EXIT7_MAP);
+    Ok(exits(&rt, alloc, EXIT7, b"", b"", 7)?)
+}
+
+/// A guest that exits with a number below 0, modulo 256.
+const EXIT255: &[u8] = b".option norvc
+.globl _start
+_start: li a0, 7
+addi a0, a0, -8
+li a7, 93
+ecall
+";
+
+#[test]
+fn exit255(rt: HostRuntime) -> Result<(), Fail> {
+    let alloc = rt.alloc();
+    exits(&rt, alloc, EXIT255, b"", b"", 255)?;
+    let built = built(alloc, EXIT255)?;
+    let limited = run_exec(alloc, built.exe.as_slice(), b"", 3)?;
+    assert_eq!(rt; limited.end, End::Limit);
+    Ok(())
+}
 
 /// A guest that writes constants.
 const HELLO: &[u8] = b".option norvc

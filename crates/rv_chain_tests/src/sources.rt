@@ -38,7 +38,16 @@ pub(super) fn built(alloc: Global, source: &[u8]) -> Result<Built, Fault> {
 
 /// What the build of one source comes to.
 pub(super) fn answered(alloc: Global, source: &[u8]) -> Answer {
-    match built(alloc, source) {
+    answered_at(alloc, &[source], OPTIONS.text_start)
+}
+
+/// What the build of sources with this text start comes to.
+pub(super) fn answered_at(alloc: Global, sources: &[&[u8]], text_start: u64) -> Answer {
+    let options = LinkOptions {
+        text_start,
+        relax: true,
+    };
+    match build(alloc, sources, options) {
         Ok(_) => Answer::Built,
         Err(Fault::Source(1, SourceFault::At { code, line })) => {
             Answer::Source(code.number(), line)

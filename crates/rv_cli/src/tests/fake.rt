@@ -4,6 +4,7 @@ use crate::status::status;
 use crate::system::{Purpose, ReadFault, System};
 use std::alloc::{AllocError, Global};
 use std::io::{self, ErrorKind};
+use std::process::Abort;
 
 /// A file that is there to be read.
 #[derive(Clone, Copy)]
@@ -35,7 +36,7 @@ pub(super) struct Fake<'a> {
 }
 
 /// A file of this name asks for more memory than there is.
-pub(super) const TOO_LARGE: &str = "too_large";
+const TOO_LARGE: &str = "too_large";
 
 impl<'a> Fake<'a> {
     /// A system with these files and an empty input, where all can be written.
@@ -134,4 +135,24 @@ pub(super) fn split(alloc: Global, words: &str) -> Result<Vec<String>, AllocErro
         .split(' ')
         .map(|word| word.to_string(alloc))
         .try_collect(alloc)
+}
+
+/// Over these files and this input the words of each row end with its status, its text on standard output and its
+/// text on standard error, and write no file. A file that is closed cannot be written.
+pub(super) fn does_each(
+    rt: &impl Abort,
+    alloc: Global,
+    files: &[Given<'_>],
+    input: Option<&[u8]>,
+    closed: &'static str,
+    rows: &[(&str, u8, &str, &str)],
+) -> Result<(), AllocError> {
+    for (index, (words, status, output, errors)) in rows.iter().enumerate() {
+        let mut fake = Fake::with_input(alloc, files, input);
+        fake.closed = closed;
+        assert_eq!(rt; fake.does(*words)?, *status, "row {index}");
+        assert!(rt; fake.said(*output, *errors), "row {index}");
+        assert!(rt; fake.written.is_empty(), "row {index}");
+    }
+    Ok(())
 }

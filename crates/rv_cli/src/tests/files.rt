@@ -1,12 +1,13 @@
 //! What `rv build` and `rv map` write, and what they do where it cannot be written.
 
-use super::fake::{Fake, Given, split};
+use super::fake::{Fake, Given, does_each, split};
 use super::runs::EXIT7;
 use crate::status::status;
 use crate::system::{Host, Purpose, ReadFault, whole};
-use std::alloc::AllocError;
+use std::alloc::{AllocError, Global};
 use std::io::{self, ErrorKind, Read};
 use std::os::unix::fs::PermissionsExt;
+use std::process::Abort;
 use std::test::Fail;
 use std::{env, fs, process};
 
@@ -58,30 +59,37 @@ fn builds_without_a_map(rt: HostRuntime) -> Result<(), Fail> {
     Ok(())
 }
 
+const PRINTS: [(&str, u8, &str, &str); 1] = [("rv map a.s", 0, EXIT7_MAP, "")];
+
+const PRINTS_NOT: [(&str, u8, &str, &str); 1] = [("rv map a.s", 1, "", "rv: -: cannot write\n")];
+
 #[test]
 fn prints_a_map(rt: HostRuntime) -> Result<(), Fail> {
-    let mut fake = Fake::new(rt.alloc(), &FILES);
-    assert_eq!(rt; fake.does("rv map a.s")?, 0);
-    assert!(rt; fake.said(EXIT7_MAP, "") && fake.written.is_empty());
-    let mut fake = Fake::new(rt.alloc(), &FILES);
-    fake.closed = "-";
-    assert_eq!(rt; fake.does("rv map a.s")?, 1);
-    assert!(rt; fake.said("", "rv: -: cannot write\n"));
+    does_each(&rt, rt.alloc(), &FILES, Some(b""), "", &PRINTS)?;
+    does_each(&rt, rt.alloc(), &FILES, Some(b""), "-", &PRINTS_NOT)?;
+    Ok(())
+}
+
+/// A build that cannot write a file ends with this line, and has written so many.
+fn cannot_write(
+    rt: &impl Abort,
+    alloc: Global,
+    closed: &'static str,
+    written: usize,
+    line: &str,
+) -> Result<(), AllocError> {
+    let mut fake = Fake::new(alloc, &FILES);
+    fake.closed = closed;
+    assert_eq!(rt; fake.does("rv build --map a.map -o a a.s")?, 1);
+    assert!(rt; fake.said("", line), "{line}");
+    assert_eq!(rt; fake.written.len(), written, "{line}");
     Ok(())
 }
 
 #[test]
 fn the_executable_is_written_before_the_map(rt: HostRuntime) -> Result<(), Fail> {
-    for (closed, written, line) in [
-        ("a", 0, "rv: a: cannot write\n"),
-        ("a.map", 1, "rv: a.map: cannot write\n"),
-    ] {
-        let mut fake = Fake::new(rt.alloc(), &FILES);
-        fake.closed = closed;
-        assert_eq!(rt; fake.does("rv build --map a.map -o a a.s")?, 1);
-        assert!(rt; fake.said("", line), "{line}");
-        assert_eq!(rt; fake.written.len(), written, "{line}");
-    }
+    cannot_write(&rt, rt.alloc(), "a", 0, "rv: a: cannot write\n")?;
+    cannot_write(&rt, rt.alloc(), "a.map", 1, "rv: a.map: cannot write\n")?;
     Ok(())
 }
 
@@ -131,15 +139,19 @@ impl Read for Failing<'_> {
     }
 }
 
+/// Whether five bytes are read, with a limit.
+fn fits(alloc: Global, limit: usize) -> bool {
+    match whole(alloc, &mut b"bytes".as_slice(), limit) {
+        Ok(bytes) => bytes.as_slice() == b"bytes".as_slice(),
+        Err(_) => false,
+    }
+}
+
 #[test]
 fn reads_to_the_limit(rt: HostRuntime) -> Result<(), Fail> {
     let alloc = rt.alloc();
-    for (limit, fits) in [(5, true), (6, true), (4, false), (0, false)] {
-        match whole(alloc, &mut b"bytes".as_slice(), limit) {
-            Ok(bytes) => assert!(rt; fits && bytes.as_slice() == b"bytes".as_slice(), "{limit}"),
-            Err(_) => assert!(rt; !fits, "{limit}"),
-        }
-    }
+    assert!(rt; fits(alloc, 5) && fits(alloc, 6));
+    assert!(rt; !fits(alloc, 4) && !fits(alloc, 0));
     let failed = whole(alloc, &mut Failing(b"bytes"), 9);
     assert!(rt; matches!(failed, Err(ReadFault::Failed)));
     Ok(())

@@ -6,6 +6,12 @@ use crate::words::{decimal, text_start};
 use rv_chain::{End, Fault, FileFault, LinkFault, SourceCode, SourceFault};
 use std::alloc::{AllocError, Global};
 
+/// No decimal numbers below 2^64.
+const NOT_DECIMAL: [&str; 6] = ["", "+5", "-1", "5 ", "0x10", "18446744073709551616"];
+
+/// No starts of a text.
+const NOT_STARTS: [&str; 6] = ["0x", "0X10", "0x+1", "x10", "10h", "0x10000000000000000"];
+
 #[test]
 fn numbers(rt: HostRuntime) {
     let largest = "18446744073709551615";
@@ -13,11 +19,11 @@ fn numbers(rt: HostRuntime) {
     assert_eq!(rt; decimal(largest), Some(u64::MAX));
     assert_eq!(rt; text_start("65536"), Some(0x1_0000));
     assert_eq!(rt; text_start("0x1aF000"), Some(0x1a_f000));
-    for text in ["", "+5", "-1", "5 ", "0x10", "18446744073709551616"] {
-        assert_eq!(rt; decimal(text), None, "{text}");
+    for text in NOT_DECIMAL.iter() {
+        assert_eq!(rt; decimal(*text), None, "{text}");
     }
-    for text in ["0x", "0X10", "0x+1", "x10", "10h", "0x10000000000000000"] {
-        assert_eq!(rt; text_start(text), None, "{text}");
+    for text in NOT_STARTS.iter() {
+        assert_eq!(rt; text_start(*text), None, "{text}");
     }
 }
 
@@ -55,25 +61,26 @@ fn fault_lines(rt: HostRuntime) -> Result<(), AllocError> {
     Ok(())
 }
 
+const ENDS: [(End, &str); 9] = [
+    (End::Limit, "Limit"),
+    (End::Breakpoint, "Breakpoint"),
+    (End::Illegal(0x1_0002), "Illegal 10002"),
+    (End::FetchOutside(8), "FetchOutside 8"),
+    (End::LoadText(0x1_0000), "LoadText 10000"),
+    (
+        End::LoadOutside(0xffff_ffff_ffff_fffc),
+        "LoadOutside fffffffffffffffc",
+    ),
+    (End::StoreText(0xfff9), "StoreText fff9"),
+    (End::StoreOutside(0x3fff_fffc), "StoreOutside 3ffffffc"),
+    (End::MisalignedAtomic(0x1_1004), "MisalignedAtomic 11004"),
+];
+
 #[test]
 fn end_lines(rt: HostRuntime) -> Result<(), AllocError> {
-    let ends = [
-        (End::Limit, "Limit"),
-        (End::Breakpoint, "Breakpoint"),
-        (End::Illegal(0x1_0002), "Illegal 10002"),
-        (End::FetchOutside(8), "FetchOutside 8"),
-        (End::LoadText(0x1_0000), "LoadText 10000"),
-        (
-            End::LoadOutside(0xffff_ffff_ffff_fffc),
-            "LoadOutside fffffffffffffffc",
-        ),
-        (End::StoreText(0xfff9), "StoreText fff9"),
-        (End::StoreOutside(0x3fff_fffc), "StoreOutside 3ffffffc"),
-        (End::MisalignedAtomic(0x1_1004), "MisalignedAtomic 11004"),
-    ];
-    for (end, wanted) in ends {
-        let line = end_line(rt.alloc(), &end)?;
-        assert!(rt; line.as_str() == wanted, "{wanted}");
+    for (end, wanted) in ENDS.iter() {
+        let line = end_line(rt.alloc(), end)?;
+        assert!(rt; line.as_str() == *wanted, "{wanted}");
     }
     Ok(())
 }
