@@ -1,4 +1,5 @@
-use Rattle.std.proofs.Common.{◌≡◌, ℕ, List, Option, length, map, Some, sym, ap, subst, ◌∙◌}
+use Rattle.std.proofs.Common.{◌≡◌, ℕ, List, Option, length, Some, None, Bor, sym, ap, ◌∙◌}
+use Rattle.std.specs.Prelude.{option_map}
 use Rattle.rv_statement.specs.View.{now_of}
 use Rattle.rv_unit.specs.Unit.{said}
 use Rattle.rv_chain.specs.Undefined.{first_some}
@@ -15,4 +16,9 @@ returns-in-Some c = λ last items.
     ∙ first_undefined (said u) found (c.in_ok-names.ensures.count ∙ sym (sections_count u c.requires)) (λ j. c.in_ok-names.ensures.first last j items)
 
 pub returns : goal.returns
-returns c = ?
+returns c = λ last items.
+    let u = c.args.unit.now in
+    let found = c.in_ok-names.names.items in
+    let nothing : None ≡ first_some c.as_slice.result.now = ap (λ (o : Option (Bor (List ℕ))). option_map now_of o) (sym c.in-None.is) ∙ c.first_found.ensures in
+    nothing ∙ ap first_some c.as_slice.ensures.value
+    ∙ first_undefined (said u) found (c.in_ok-names.ensures.count ∙ sym (sections_count u c.requires)) (λ j. c.in_ok-names.ensures.first last j items)
