@@ -7,7 +7,7 @@ use Rattle.std.specs.List.{find, list_all}
 use Rattle.std.specs.Map.{lookup}
 use Rattle.std.specs.Str.{bytes_eq}
 use Rattle.std.proofs.lemmas.List.{map-append, reverse-append}
-use Rattle.std.proofs.lemmas.Bool.{ltb-true, ltb-false, leb-true}
+use Rattle.std.proofs.lemmas.Bool.{leb-true}
 use Rattle.rv_text_laws.specs.Expression.{Primary, Literal, Symbol, Here, Reference}
 use Rattle.rv_text_laws.specs.Values.{Meaning, Known, Placed, Open, Refused, Symbolic}
 use Rattle.std.proofs.lemmas.List.Folds.{list_all-append}

@@ -122,10 +122,7 @@ impl<'a> Unit<'a> {
     {
         let each = self.fault_of_each(passed, ordinal, width, values);
         let bytes = values_size(width, values.len());
-        lower(
-            each,
-            data_fault(passed.home(), passed.offset(), bytes),
-        )
+        lower(each, data_fault(passed.home(), passed.offset(), bytes))
     }
 
     /// The fault of strings.
