@@ -49,10 +49,10 @@ drop_tail (x ∷ xs) (suc i) y ys e = drop_tail xs i y ys e
 left_of : {A : Type 0} (xs : List A) (i : ℕ) (y : A) (ys : List A) → drop i xs ≡ y ∷ ys → drop i xs ≡ y ∷ drop (i + 1) xs
 left_of xs i y ys e = e ∙ ap (λ r. y ∷ r) (sym (drop_tail xs i y ys e)) ∙ ap (λ n. y ∷ drop n xs) (let e : suc i ≡ i + 1 = omega arith in e)
 
-first_same : {A : Type 0} (x y : A) (xs ys : List A) → x ∷ xs ≡ y ∷ ys → x ≡ y
+pub first_same : {A : Type 0} (x y : A) (xs ys : List A) → x ∷ xs ≡ y ∷ ys → x ≡ y
 first_same x y xs ys e = cc
 
-all_at : {A : Type 0} (P : A → Type 0) (xs : List A) (i : ℕ) (y : A) (ys : List A) → drop i xs ≡ y ∷ ys → AllByRecursion P xs → P y
+pub all_at : {A : Type 0} (P : A → Type 0) (xs : List A) (i : ℕ) (y : A) (ys : List A) → drop i xs ≡ y ∷ ys → AllByRecursion P xs → P y
 all_at P [] zero y ys e h = absurd (cc)
 all_at P [] (suc i) y ys e h = absurd (cc)
 all_at P (x ∷ xs) zero y ys e h = subst P (first_same x y xs ys e) h.0

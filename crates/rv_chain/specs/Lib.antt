@@ -2,8 +2,12 @@ pub mod Added
 pub mod Choices
 pub mod Code
 pub mod Coded
+pub mod DataSoFar
 pub mod Fault
+pub mod Linking
+pub mod Measured
 pub mod Pieces
 pub mod Running
 pub mod Sized
+pub mod Undefined
 pub mod Valued

@@ -1,10 +1,10 @@
 -- The sizes of statements as their items have them, by the values of their expressions.
 
-use Rattle.std.specs.Prelude.{◌≡◌, ℕ, suc, ◌*◌, ◌%◌, ◌<◌, Bool, true, false, ⊤, List, [], ◌∷◌, length, Option, Some, None, slice_index_or}
+use Rattle.std.specs.Prelude.{◌≡◌, ℕ, suc, ◌*◌, Bool, true, false, ⊤, List, ◌∷◌, length, Option, slice_index_or}
 use Rattle.rv_text_laws.specs.Values.{Value, Constant}
 use Rattle.rv_statement.specs.Statement.{Statement, Label, Numbered, Instruction, Directs, Spoken, Expression, Directive, Sets, Aligns_to_power, Aligns_to_bytes, Values, Strings, Zeros}
 use Rattle.rv_unit_laws.specs.Tables.{Tables, after, asked, padding, string_bytes}
-use Rattle.rv_chain_laws.specs.Stated.{Stated, stated_now}
+use Rattle.rv_chain_laws.specs.Stated.{stated_now}
 use Rattle.rv_chain_laws.specs.Fits.{is_constant, is_low}
 use Rattle.rv_link.specs.declared.rows.Item.{Item}
 use Rattle.rv_link_laws.specs.Suits.{IsMultiple}

@@ -1,15 +1,22 @@
 -- The bytes of data as sections have them, and the values that data spell.
 
-use Rattle.std.specs.Prelude.{◌≡◌, ℕ, suc, true, false, ⊤, List, [], ◌∷◌}
-use Rattle.rv_statement.specs.Statement.{Spoken}
+use Rattle.std.specs.Prelude.{◌≡◌, ℕ, suc, Bool, true, false, not, ◌&&◌, ⊤, List, [], ◌∷◌}
+use Rattle.std.specs.Global.{Vec}
+use Rattle.rv_map.specs.Map.{Map, Global}
+use Rattle.rv_statement.specs.Statement.{Statement, Expression, Spoken}
 use Rattle.rv_unit_laws.specs.Sections.{Section, goes_to_rodata, goes_to_data}
 use Rattle.rv_unit_laws.specs.Tables.{Tables, at_start, after, tables}
 use Rattle.rv_chain_laws.specs.Stated.{stated_now}
-use Rattle.rv_chain_laws.specs.Sites.{Program, has_values}
-use Rattle.rv_chain_laws.specs.Start.{spelled}
+use Rattle.rv_chain_laws.specs.Sites.{Program, program, has_values}
+use Rattle.rv_chain_laws.specs.Start.{spelled, spelled_said}
 use Rattle.rv_link.specs.declared.rows.Item.{Item}
-use Rattle.rv_link_laws.specs.Items.{site_of}
+use Rattle.rv_link.specs.declared.numbers.Numbers.{Numbers}
+use Rattle.rv_link.specs.Numbers.{Gives, Counts}
+use Rattle.rv_link.specs.Rows.{rows_from}
+use Rattle.rv_link_laws.specs.Items.{AreItems, site_of}
 use Rattle.rv_link_laws.specs.Bytes.{HoldBytes, AreEach}
+use Rattle.rv_chain.specs.Code.{GrowsBy}
+use Rattle.rv_chain.specs.Sized.{AreSized}
 
 -- each statement of data that has a row has values
 abbrev pub AreValued : Program → List ℕ → ℕ → Tables → List Spoken → List Item → Type 0
@@ -24,3 +31,25 @@ pub record IsData (p : Program) (starts : List ℕ) (ss : List Spoken) (is : Lis
   pub constants : HoldBytes p.sites goes_to_rodata (spelled p) 0 (tables ss).opened.sections figures
   pub variables : HoldBytes p.sites goes_to_data (spelled p) 0 (tables ss).opened.sections figures
   pub valued : AreValued p starts 1 at_start ss is
+
+-- the bytes of each section of data, wherever the statements are these items in sections that start here, and names have
+-- these addresses
+abbrev pub GivesData : List Spoken → List ℕ → List Item → List Global → List (List ℕ) → Type 0
+GivesData ss starts is globals figures =
+    (last : ℕ → ℕ) (m : Map) → AreItems 1 at_start (λ j. 0) ss is last → AreSized (tables ss) 1 at_start ss is
+    → m.rows ≡ rows_from 1 starts 1 is → m.globals ≡ globals → IsData (program (ss ∷ []) m) starts ss is figures
+
+-- ---- one statement
+
+-- a section of data has its bytes in the file, or begins as zero
+abbrev pub is_filled : Section → Bool
+is_filled home = not home.executable && not home.nobits
+
+-- a statement has a row in a section of data that has its bytes in the file
+abbrev pub is_figure : Item → Section → Bool
+is_figure i home = i.shown && is_filled home
+
+-- a section has the bytes more that a statement spells there, by any function that gives the numbers of its expressions
+abbrev pub Spells : Numbers → Statement → ℕ → List (Vec ℕ) → List (Vec ℕ) → ℕ → Type 0
+Spells n says bytes old new section =
+    (v : Expression → ℕ) → Gives n v → Counts v says bytes → GrowsBy old new section (spelled_said v says bytes)

@@ -15,6 +15,7 @@ ghost use Rattle.rv_chain.specs.Added.{Adds, IsCode, IsCodeSoFar, IsSourceCode};
 ghost use Rattle.rv_chain.specs.Choices.{options_of};
 ghost use Rattle.rv_chain.specs.Coded.{AreCoded};
 ghost use Rattle.rv_chain.specs.Code as laws;
+ghost use Rattle.rv_chain.specs.Coded.{AreCoded};
 ghost use Rattle.rv_chain.specs.Code.{GrowsBy, Codes, Evaluates, word_of, full_fault, full_at};
 
 use crate::choices::Choices;
@@ -53,7 +54,7 @@ fn put_found(sections: &mut [Vec<u8>], section: u32, found: Option<Inst>) -> Res
 
 /// So many sections without code.
 #[tactic(auto, using(crate::proofs::SoFar::empty_behind))]
-fn empty_sections(alloc: Global, count: usize) -> Result<Vec<Vec<u8>>, AllocError>
+pub(crate) fn empty_sections(alloc: Global, count: usize) -> Result<Vec<Vec<u8>>, AllocError>
     ensures count { IfOk result (λ sections. length sections.items ≡ count) }
     ensures empty { IfOk result (λ sections. (j : ℕ) → laws.bytes_in sections.items j ≡ []) }
 {

@@ -189,7 +189,7 @@ fn with_number(operation: Operation, number: u64) -> Result<Inst, SourceCode>
 }
 
 /// The number of an expression that has to be a constant, by its value.
-fn constant(value: Result<Value<'_>, SourceFault>, line: u32) -> Result<u64, SourceFault>
+pub(crate) fn constant(value: Result<Value<'_>, SourceFault>, line: u32) -> Result<u64, SourceFault>
     ensures { (v : values.Value) → IsOutcome value.entry line v → IsNumber v line result }
 {
     match value? {

@@ -274,7 +274,7 @@ seated_all P (e ∷ es) h = go e.row refl h (λ hs. seated_all P es hs)
 
 -- ---- a linked program
 
-module _ {StandsFor : ℕ → Inst → Type 0} (reader : Reader Spells StandsFor) (sources : List (List Spoken)) (a : ℕ) (l : Linked) (h : IsLinked sources a l) where
+module _ (sources : List (List Spoken)) (a : ℕ) (l : Linked) (h : IsLinked sources a l) where
   abbrev p : Program
   p = program sources l.map
 
@@ -362,246 +362,247 @@ module _ {StandsFor : ℕ → Inst → Type 0} (reader : Reader Spells StandsFor
     below = h.below;
   }
 
-  -- where the statements of each region stand, and that memory holds their bytes
-  abbrev In : (Section → Bool) → (Site → Type 0) → Site → Type 0
-  In goes P s = goes s.stated.home ≡ true → P s
+  module _ {StandsFor : ℕ → Inst → Type 0} (reader : Reader Spells StandsFor) where
+    -- where the statements of each region stand, and that memory holds their bytes
+    abbrev In : (Section → Bool) → (Site → Type 0) → Site → Type 0
+    In goes P s = goes s.stated.home ≡ true → P s
 
-  same_end : (n k : ℕ) → n ≡ k → k ≤ n
-  same_end n k e = omega arith
+    same_end : (n k : ℕ) → n ≡ k → k ≤ n
+    same_end n k e = omega arith
 
-  lies : (goes : Section → Bool) (start place stop : ℕ) → start ≡ place → Stand place (region goes) → stop ≡ end_of place (region goes) → AllByRecursion (In goes (LiesIn start stop)) p.sites
-  lies goes start place stop at stand ends =
-      from_blocks p.sites sources goes (LiesIn start stop) at_home
-      (lie_blocks (region goes) place start stop (is_aligned goes) stand (same_end place start (sym at)) (same_end stop (end_of place (region goes)) ends))
+    lies : (goes : Section → Bool) (start place stop : ℕ) → start ≡ place → Stand place (region goes) → stop ≡ end_of place (region goes) → AllByRecursion (In goes (LiesIn start stop)) p.sites
+    lies goes start place stop at stand ends =
+        from_blocks p.sites sources goes (LiesIn start stop) at_home
+        (lie_blocks (region goes) place start stop (is_aligned goes) stand (same_end place start (sym at)) (same_end stop (end_of place (region goes)) ends))
 
-  held : (goes : Section → Bool) (bytes : Site → List ℕ) (start place : ℕ) (stored : List ℕ) → start ≡ place → Stand place (region goes) → stored ≡ contents bytes start (region goes) → AllIn (Sized bytes) (region goes) → HasBytes m start stored
-      → AllByRecursion (In goes (λ s. HasBytes m s.row.address (bytes s))) p.sites
-  held goes bytes start place stored at stand is sized has =
-      from_blocks p.sites sources goes (λ s. HasBytes m s.row.address (bytes s)) at_home
-      (held_blocks bytes m (region goes) start sized (is_aligned goes) (subst (λ x. Stand x (region goes)) (sym at) stand) (subst (HasBytes m start) is has))
+    held : (goes : Section → Bool) (bytes : Site → List ℕ) (start place : ℕ) (stored : List ℕ) → start ≡ place → Stand place (region goes) → stored ≡ contents bytes start (region goes) → AllIn (Sized bytes) (region goes) → HasBytes m start stored
+        → AllByRecursion (In goes (λ s. HasBytes m s.row.address (bytes s))) p.sites
+    held goes bytes start place stored at stand is sized has =
+        from_blocks p.sites sources goes (λ s. HasBytes m s.row.address (bytes s)) at_home
+        (held_blocks bytes m (region goes) start sized (is_aligned goes) (subst (λ x. Stand x (region goes)) (sym at) stand) (subst (HasBytes m start) is has))
 
-  abbrev Whole : Site → Type 0
-  Whole s =
-      IsAtHome sections s × (Fitting s × ((IsTrue s.stated.home.executable → IsWritten p s)
-      × (In goes_to_text (LiesIn map_of.text.start map_of.text.end) s × (In goes_to_text (λ s. HasBytes m s.row.address (code_bytes p s)) s
-      × (In goes_to_rodata (LiesIn map_of.rodata.start map_of.rodata.end) s × (In goes_to_rodata (λ s. HasBytes m s.row.address (spelled p s)) s
-      × (In goes_to_data (LiesIn map_of.data.start map_of.data.end) s × (In goes_to_data (λ s. HasBytes m s.row.address (spelled p s)) s
-      × In goes_to_bss (LiesIn map_of.bss.start map_of.bss.end) s))))))))
+    abbrev Whole : Site → Type 0
+    Whole s =
+        IsAtHome sections s × (Fitting s × ((IsTrue s.stated.home.executable → IsWritten p s)
+        × (In goes_to_text (LiesIn map_of.text.start map_of.text.end) s × (In goes_to_text (λ s. HasBytes m s.row.address (code_bytes p s)) s
+        × (In goes_to_rodata (LiesIn map_of.rodata.start map_of.rodata.end) s × (In goes_to_rodata (λ s. HasBytes m s.row.address (spelled p s)) s
+        × (In goes_to_data (LiesIn map_of.data.start map_of.data.end) s × (In goes_to_data (λ s. HasBytes m s.row.address (spelled p s)) s
+        × In goes_to_bss (LiesIn map_of.bss.start map_of.bss.end) s))))))))
 
-  whole : AllByRecursion Whole p.sites
-  whole =
-      all_pair (IsAtHome sections) _ p.sites at_home
-      (all_pair Fitting _ p.sites fitting
-      (all_pair (λ s. IsTrue s.stated.home.executable → IsWritten p s) _ p.sites h.written
-      (all_pair (In goes_to_text (LiesIn map_of.text.start map_of.text.end)) _ p.sites (lies goes_to_text map_of.text.start a map_of.text.end text_holds.0 text_holds.1 text_holds.2)
-      (all_pair (In goes_to_text (λ s. HasBytes m s.row.address (code_bytes p s))) _ p.sites (held goes_to_text (code_bytes p) map_of.text.start a l.text text_holds.0 text_holds.1 text_is code_sized (text_held l are_regions))
-      (all_pair (In goes_to_rodata (LiesIn map_of.rodata.start map_of.rodata.end)) _ p.sites (lies goes_to_rodata map_of.rodata.start (aligned 4096 map_of.text.end) map_of.rodata.end rodata_holds.0 rodata_holds.1 rodata_holds.2)
-      (all_pair (In goes_to_rodata (λ s. HasBytes m s.row.address (spelled p s))) _ p.sites (held goes_to_rodata (spelled p) map_of.rodata.start (aligned 4096 map_of.text.end) l.rodata rodata_holds.0 rodata_holds.1 rodata_is (data_sized goes_to_rodata not_rodata) (rodata_held l are_regions))
-      (all_pair (In goes_to_data (LiesIn map_of.data.start map_of.data.end)) _ p.sites (lies goes_to_data map_of.data.start (aligned 4096 map_of.rodata.end) map_of.data.end data_holds.0 data_holds.1 data_holds.2)
-      (all_pair (In goes_to_data (λ s. HasBytes m s.row.address (spelled p s))) (In goes_to_bss (LiesIn map_of.bss.start map_of.bss.end)) p.sites (held goes_to_data (spelled p) map_of.data.start (aligned 4096 map_of.rodata.end) l.data data_holds.0 data_holds.1 data_is (data_sized goes_to_data not_data) (data_held l are_regions))
-      (lies goes_to_bss map_of.bss.start (aligned (greatest (region goes_to_bss)) map_of.data.end) map_of.bss.end bss_holds.0 bss_holds.1 bss_holds.2)))))))))
+    whole : AllByRecursion Whole p.sites
+    whole =
+        all_pair (IsAtHome sections) _ p.sites at_home
+        (all_pair Fitting _ p.sites fitting
+        (all_pair (λ s. IsTrue s.stated.home.executable → IsWritten p s) _ p.sites h.written
+        (all_pair (In goes_to_text (LiesIn map_of.text.start map_of.text.end)) _ p.sites (lies goes_to_text map_of.text.start a map_of.text.end text_holds.0 text_holds.1 text_holds.2)
+        (all_pair (In goes_to_text (λ s. HasBytes m s.row.address (code_bytes p s))) _ p.sites (held goes_to_text (code_bytes p) map_of.text.start a l.text text_holds.0 text_holds.1 text_is code_sized (text_held l are_regions))
+        (all_pair (In goes_to_rodata (LiesIn map_of.rodata.start map_of.rodata.end)) _ p.sites (lies goes_to_rodata map_of.rodata.start (aligned 4096 map_of.text.end) map_of.rodata.end rodata_holds.0 rodata_holds.1 rodata_holds.2)
+        (all_pair (In goes_to_rodata (λ s. HasBytes m s.row.address (spelled p s))) _ p.sites (held goes_to_rodata (spelled p) map_of.rodata.start (aligned 4096 map_of.text.end) l.rodata rodata_holds.0 rodata_holds.1 rodata_is (data_sized goes_to_rodata not_rodata) (rodata_held l are_regions))
+        (all_pair (In goes_to_data (LiesIn map_of.data.start map_of.data.end)) _ p.sites (lies goes_to_data map_of.data.start (aligned 4096 map_of.rodata.end) map_of.data.end data_holds.0 data_holds.1 data_holds.2)
+        (all_pair (In goes_to_data (λ s. HasBytes m s.row.address (spelled p s))) (In goes_to_bss (LiesIn map_of.bss.start map_of.bss.end)) p.sites (held goes_to_data (spelled p) map_of.data.start (aligned 4096 map_of.rodata.end) l.data data_holds.0 data_holds.1 data_is (data_sized goes_to_data not_data) (data_held l are_regions))
+        (lies goes_to_bss map_of.bss.start (aligned (greatest (region goes_to_bss)) map_of.data.end) map_of.bss.end bss_holds.0 bss_holds.1 bss_holds.2)))))))))
 
-  -- the ends of the regions in their order
-  text_room : map_of.text.end ≤ 0x3ff0_0000
-  text_room =
-      let r = are_regions in
-      let e1 = r.rodata_after in
-      let e2 = r.rodata in
-      let e3 = r.data_after in
-      let e4 = r.data in
-      let e5 = r.bss_after in
-      let e6 = r.bss_ends in
-      let e7 = r.below in
-      omega arith
+    -- the ends of the regions in their order
+    text_room : map_of.text.end ≤ 0x3ff0_0000
+    text_room =
+        let r = are_regions in
+        let e1 = r.rodata_after in
+        let e2 = r.rodata in
+        let e3 = r.data_after in
+        let e4 = r.data in
+        let e5 = r.bss_after in
+        let e6 = r.bss_ends in
+        let e7 = r.below in
+        omega arith
 
-  rodata_past : map_of.text.end ≤ map_of.rodata.start
-  rodata_past = are_regions.rodata_after
+    rodata_past : map_of.text.end ≤ map_of.rodata.start
+    rodata_past = are_regions.rodata_after
 
-  data_past : map_of.text.end ≤ map_of.data.start
-  data_past =
-      let r = are_regions in
-      let e1 = r.rodata_after in
-      let e2 = r.rodata in
-      let e3 = r.data_after in
-      omega arith
+    data_past : map_of.text.end ≤ map_of.data.start
+    data_past =
+        let r = are_regions in
+        let e1 = r.rodata_after in
+        let e2 = r.rodata in
+        let e3 = r.data_after in
+        omega arith
 
-  bss_past : map_of.text.end ≤ map_of.bss.start
-  bss_past =
-      let r = are_regions in
-      let e1 = data_past in
-      let e2 = r.data in
-      let e3 = r.bss_after in
-      omega arith
+    bss_past : map_of.text.end ≤ map_of.bss.start
+    bss_past =
+        let r = are_regions in
+        let e1 = data_past in
+        let e2 = r.data in
+        let e3 = r.bss_after in
+        omega arith
 
-  text_runs : (x : ℕ) → map_of.text.start ≤ x → Runs m x map_of.text.end
-  text_runs x low y l' u =
-      let low' : map_of.text.start ≤ y = omega arith in
-      let inside : is_within map_of.text.start map_of.text.end y ≡ true = grind (arith, nat_tests) in
-      rights-are l are_regions y Execute ∙ inside
+    text_runs : (x : ℕ) → map_of.text.start ≤ x → Runs m x map_of.text.end
+    text_runs x low y l' u =
+        let low' : map_of.text.start ≤ y = omega arith in
+        let inside : is_within map_of.text.start map_of.text.end y ≡ true = grind (arith, nat_tests) in
+        rights-are l are_regions y Execute ∙ inside
 
-  -- a row of the text holds its lines
-  row_holds : (s : Site) → Whole s → is_in map_of.text s.row.address ≡ true → HoldsLines reader m p s
-  row_holds s (home, (fits, (written, (tl, (th, (rl, (rh, (dl, (dh, bl))))))))) inside =
-      elim (all_goes s.stated.home.loaded s.stated.home.executable s.stated.home.nobits s.stated.home.writable home.1) [
-        | inl good ↦
-            let x = (and_parts s.stated.home.loaded s.stated.home.executable good).1 in
-            let lie = tl good in
-            holds_written reader m map_of.text.end (let e = text_room in omega arith) p s (written x) (th good) (text_runs s.row.address lie.0) lie.1
-            (statement_code p s.stated.file s.stated.ordinal s.stated.section s.stated.offset s.stated.line s.stated.home s.stated.placed s.row s.stated.says fits.0 fits.1 x)
-        | inr other ↦ elim other [
-          | inl good ↦ past map_of.text.start map_of.text.end map_of.rodata.start s.row.address inside rodata_past (rl good).0
+    -- a row of the text holds its lines
+    row_holds : (s : Site) → Whole s → is_in map_of.text s.row.address ≡ true → HoldsLines reader m p s
+    row_holds s (home, (fits, (written, (tl, (th, (rl, (rh, (dl, (dh, bl))))))))) inside =
+        elim (all_goes s.stated.home.loaded s.stated.home.executable s.stated.home.nobits s.stated.home.writable home.1) [
+          | inl good ↦
+              let x = (and_parts s.stated.home.loaded s.stated.home.executable good).1 in
+              let lie = tl good in
+              holds_written reader m map_of.text.end (let e = text_room in omega arith) p s (written x) (th good) (text_runs s.row.address lie.0) lie.1
+              (statement_code p s.stated.file s.stated.ordinal s.stated.section s.stated.offset s.stated.line s.stated.home s.stated.placed s.row s.stated.says fits.0 fits.1 x)
           | inr other ↦ elim other [
-            | inl good ↦ past map_of.text.start map_of.text.end map_of.data.start s.row.address inside data_past (dl good).0
-            | inr good ↦ past map_of.text.start map_of.text.end map_of.bss.start s.row.address inside bss_past (bl good).0
+            | inl good ↦ past map_of.text.start map_of.text.end map_of.rodata.start s.row.address inside rodata_past (rl good).0
+            | inr other ↦ elim other [
+              | inl good ↦ past map_of.text.start map_of.text.end map_of.data.start s.row.address inside data_past (dl good).0
+              | inr good ↦ past map_of.text.start map_of.text.end map_of.bss.start s.row.address inside bss_past (bl good).0
+            ]
           ]
         ]
-      ]
 
-  -- a byte that its row spells
-  spelled_at : (s : Site) (x : ℕ) → Sized (spelled p) s → HasBytes m s.row.address (spelled p s) → is_within s.row.address (s.row.address + s.row.bytes) x ≡ true → m.byte x ≡ slice_index (spelled p s) (x - s.row.address)
-  spelled_at s x sized has inside =
-      let parts = within_parts s.row.address (s.row.address + s.row.bytes) x inside in
-      let at : s.row.address + (x - s.row.address) ≡ x = omega arith in
-      let short : x - s.row.address < s.row.bytes = omega arith in
-      ap (λ y. m.byte y) (sym at) ∙ byte_at m (spelled p s) s.row.address (x - s.row.address) has (subst (λ n. x - s.row.address < n) (sym sized) short)
+    -- a byte that its row spells
+    spelled_at : (s : Site) (x : ℕ) → Sized (spelled p) s → HasBytes m s.row.address (spelled p s) → is_within s.row.address (s.row.address + s.row.bytes) x ≡ true → m.byte x ≡ slice_index (spelled p s) (x - s.row.address)
+    spelled_at s x sized has inside =
+        let parts = within_parts s.row.address (s.row.address + s.row.bytes) x inside in
+        let at : s.row.address + (x - s.row.address) ≡ x = omega arith in
+        let short : x - s.row.address < s.row.bytes = omega arith in
+        ap (λ y. m.byte y) (sym at) ∙ byte_at m (spelled p s) s.row.address (x - s.row.address) has (subst (λ n. x - s.row.address < n) (sym sized) short)
 
-  -- text cannot be read
-  unreadable : (x : ℕ) → is_in map_of.text x ≡ true → right_at map_of x Read ≡ false
-  unreadable x inside =
-      let parts = within_parts map_of.text.start map_of.text.end x inside in
-      let r = are_regions in
-      let e1 = rodata_past in
-      let e2 = data_past in
-      let e3 = text_room in
-      let f1 : is_within map_of.rodata.start map_of.rodata.end x ≡ false = apart map_of.text.start map_of.text.end map_of.rodata.start map_of.rodata.end x e1 inside in
-      let f2 : is_within map_of.data.start map_of.bss.end x ≡ false = apart map_of.text.start map_of.text.end map_of.data.start map_of.bss.end x e2 inside in
-      let f3 : is_within stack_start stack_end x ≡ false = apart map_of.text.start map_of.text.end stack_start stack_end x e3 inside in
-      ap (λ b. b || is_within map_of.data.start map_of.bss.end x || is_within stack_start stack_end x) f1 ∙ ap (λ b. false || b || is_within stack_start stack_end x) f2 ∙ ap (λ b. false || false || b) f3
+    -- text cannot be read
+    unreadable : (x : ℕ) → is_in map_of.text x ≡ true → right_at map_of x Read ≡ false
+    unreadable x inside =
+        let parts = within_parts map_of.text.start map_of.text.end x inside in
+        let r = are_regions in
+        let e1 = rodata_past in
+        let e2 = data_past in
+        let e3 = text_room in
+        let f1 : is_within map_of.rodata.start map_of.rodata.end x ≡ false = apart map_of.text.start map_of.text.end map_of.rodata.start map_of.rodata.end x e1 inside in
+        let f2 : is_within map_of.data.start map_of.bss.end x ≡ false = apart map_of.text.start map_of.text.end map_of.data.start map_of.bss.end x e2 inside in
+        let f3 : is_within stack_start stack_end x ≡ false = apart map_of.text.start map_of.text.end stack_start stack_end x e3 inside in
+        ap (λ b. b || is_within map_of.data.start map_of.bss.end x || is_within stack_start stack_end x) f1 ∙ ap (λ b. false || b || is_within stack_start stack_end x) f2 ∙ ap (λ b. false || false || b) f3
 
-  unwritten : (x : ℕ) → is_in map_of.text x ≡ true → right_at map_of x Write ≡ false
-  unwritten x inside =
-      let e2 = data_past in
-      let e3 = text_room in
-      let f2 : is_within map_of.data.start map_of.bss.end x ≡ false = apart map_of.text.start map_of.text.end map_of.data.start map_of.bss.end x e2 inside in
-      let f3 : is_within stack_start stack_end x ≡ false = apart map_of.text.start map_of.text.end stack_start stack_end x e3 inside in
-      ap (λ b. b || is_within stack_start stack_end x) f2 ∙ ap (λ b. false || b) f3
+    unwritten : (x : ℕ) → is_in map_of.text x ≡ true → right_at map_of x Write ≡ false
+    unwritten x inside =
+        let e2 = data_past in
+        let e3 = text_room in
+        let f2 : is_within map_of.data.start map_of.bss.end x ≡ false = apart map_of.text.start map_of.text.end map_of.data.start map_of.bss.end x e2 inside in
+        let f3 : is_within stack_start stack_end x ≡ false = apart map_of.text.start map_of.text.end stack_start stack_end x e3 inside in
+        ap (λ b. b || is_within stack_start stack_end x) f2 ∙ ap (λ b. false || b) f3
 
-  wider : (low high a' b' x : ℕ) → low ≤ a' → b' ≤ high → is_within a' b' x ≡ true → is_within low high x ≡ true
-  wider low high a' b' x lo hi inside =
-      let parts = within_parts a' b' x inside in
-      grind (arith, nat_tests)
+    wider : (low high a' b' x : ℕ) → low ≤ a' → b' ≤ high → is_within a' b' x ≡ true → is_within low high x ≡ true
+    wider low high a' b' x lo hi inside =
+        let parts = within_parts a' b' x inside in
+        grind (arith, nat_tests)
 
-  -- behind the data there are zeros up to the end of bss
-  bss_zero : (x : ℕ) → map_of.data.end ≤ x → x < map_of.bss.end → m.byte x ≡ 0
-  bss_zero x low high =
-      let e1 = are_regions.bss_after in
-      let e2 = are_regions.bss_ends in
-      byte_zero m (map_of.bss.end - map_of.data.end) map_of.data.end x (bss_held l are_regions) low (omega arith)
+    -- behind the data there are zeros up to the end of bss
+    bss_zero : (x : ℕ) → map_of.data.end ≤ x → x < map_of.bss.end → m.byte x ≡ 0
+    bss_zero x low high =
+        let e1 = are_regions.bss_after in
+        let e2 = are_regions.bss_ends in
+        byte_zero m (map_of.bss.end - map_of.data.end) map_of.data.end x (bss_held l are_regions) low (omega arith)
 
-  -- a row over a byte that can be read spells it
-  row_spells : (s : Site) (x : ℕ) → Whole s → right_at map_of x Read ≡ true → is_within s.row.address (s.row.address + s.row.bytes) x ≡ true → m.byte x ≡ slice_index (spelled p s) (x - s.row.address)
-  row_spells s x (home, (fits, (written, (tl, (th, (rl, (rh, (dl, (dh, bl))))))))) readable inside =
-      let st = s.stated in
-      elim (all_goes s.stated.home.loaded s.stated.home.executable s.stated.home.nobits s.stated.home.writable home.1) [
-        | inl good ↦ true_false (right_at map_of x Read) readable (unreadable x (wider map_of.text.start map_of.text.end s.row.address (s.row.address + s.row.bytes) x (tl good).0 (tl good).1 inside))
-        | inr other ↦ elim other [
-          | inl good ↦ spelled_at s x (statement_data p s.stated.file s.stated.ordinal s.stated.section s.stated.offset s.stated.line s.stated.home s.stated.placed s.row s.stated.says fits.0 fits.1 (not_rodata s.stated.home good)) (rh good) inside
+    -- a row over a byte that can be read spells it
+    row_spells : (s : Site) (x : ℕ) → Whole s → right_at map_of x Read ≡ true → is_within s.row.address (s.row.address + s.row.bytes) x ≡ true → m.byte x ≡ slice_index (spelled p s) (x - s.row.address)
+    row_spells s x (home, (fits, (written, (tl, (th, (rl, (rh, (dl, (dh, bl))))))))) readable inside =
+        let st = s.stated in
+        elim (all_goes s.stated.home.loaded s.stated.home.executable s.stated.home.nobits s.stated.home.writable home.1) [
+          | inl good ↦ true_false (right_at map_of x Read) readable (unreadable x (wider map_of.text.start map_of.text.end s.row.address (s.row.address + s.row.bytes) x (tl good).0 (tl good).1 inside))
           | inr other ↦ elim other [
-            | inl good ↦ spelled_at s x (statement_data p s.stated.file s.stated.ordinal s.stated.section s.stated.offset s.stated.line s.stated.home s.stated.placed s.row s.stated.says fits.0 fits.1 (not_data s.stated.home good)) (dh good) inside
-            | inr good ↦
-                let parts = within_parts map_of.bss.start map_of.bss.end x (wider map_of.bss.start map_of.bss.end s.row.address (s.row.address + s.row.bytes) x (bl good).0 (bl good).1 inside) in
-                let e1 = are_regions.bss_after in
-                bss_zero x (omega arith) parts.1
-                ∙ sym (statement_zeros p s.stated.file s.stated.ordinal s.stated.section s.stated.offset s.stated.line s.stated.home s.stated.placed s.row s.stated.says fits.1 (no_stored s.stated.home.loaded s.stated.home.executable s.stated.home.nobits good) (x - s.row.address))
+            | inl good ↦ spelled_at s x (statement_data p s.stated.file s.stated.ordinal s.stated.section s.stated.offset s.stated.line s.stated.home s.stated.placed s.row s.stated.says fits.0 fits.1 (not_rodata s.stated.home good)) (rh good) inside
+            | inr other ↦ elim other [
+              | inl good ↦ spelled_at s x (statement_data p s.stated.file s.stated.ordinal s.stated.section s.stated.offset s.stated.line s.stated.home s.stated.placed s.row s.stated.says fits.0 fits.1 (not_data s.stated.home good)) (dh good) inside
+              | inr good ↦
+                  let parts = within_parts map_of.bss.start map_of.bss.end x (wider map_of.bss.start map_of.bss.end s.row.address (s.row.address + s.row.bytes) x (bl good).0 (bl good).1 inside) in
+                  let e1 = are_regions.bss_after in
+                  bss_zero x (omega arith) parts.1
+                  ∙ sym (statement_zeros p s.stated.file s.stated.ordinal s.stated.section s.stated.offset s.stated.line s.stated.home s.stated.placed s.row s.stated.says fits.1 (no_stored s.stated.home.loaded s.stated.home.executable s.stated.home.nobits good) (x - s.row.address))
+            ]
           ]
         ]
-      ]
 
-  missed : (goes : Section → Bool) (x : ℕ) → AllByRecursion (Misses x) p.sites → AllIn (Misses x) (region goes)
-  missed goes x none = to_blocks p.sites sources goes (Misses x) at_home (all_map (Misses x) (In goes (Misses x)) p.sites (λ s e good. e) none)
+    missed : (goes : Section → Bool) (x : ℕ) → AllByRecursion (Misses x) p.sites → AllIn (Misses x) (region goes)
+    missed goes x none = to_blocks p.sites sources goes (Misses x) at_home (all_map (Misses x) (In goes (Misses x)) p.sites (λ s e good. e) none)
 
-  -- no row lies over a byte that can be read: it is zero
-  region_zero : (goes : Section → Bool) (start place stop x : ℕ) (stored : List ℕ) → start ≡ place → Stand place (region goes) → stop ≡ end_of place (region goes) → stored ≡ contents (spelled p) start (region goes) → AllIn (Sized (spelled p)) (region goes) → HasBytes m start stored
-      → AllByRecursion (Misses x) p.sites → start ≤ x → x < stop → m.byte x ≡ 0
-  region_zero goes start place stop x stored at stand ends is sized has none low high =
-      zero_blocks (spelled p) m (region goes) start x sized (is_aligned goes) (subst (λ y. Stand y (region goes)) (sym at) stand) (subst (HasBytes m start) is has) (missed goes x none) low
-      (subst (λ y. x < y) (ends ∙ ap (λ y. end_of y (region goes)) (sym at)) high)
+    -- no row lies over a byte that can be read: it is zero
+    region_zero : (goes : Section → Bool) (start place stop x : ℕ) (stored : List ℕ) → start ≡ place → Stand place (region goes) → stop ≡ end_of place (region goes) → stored ≡ contents (spelled p) start (region goes) → AllIn (Sized (spelled p)) (region goes) → HasBytes m start stored
+        → AllByRecursion (Misses x) p.sites → start ≤ x → x < stop → m.byte x ≡ 0
+    region_zero goes start place stop x stored at stand ends is sized has none low high =
+        zero_blocks (spelled p) m (region goes) start x sized (is_aligned goes) (subst (λ y. Stand y (region goes)) (sym at) stand) (subst (HasBytes m start) is has) (missed goes x none) low
+        (subst (λ y. x < y) (ends ∙ ap (λ y. end_of y (region goes)) (sym at)) high)
 
-  none_zero : (x : ℕ) → AllByRecursion (Misses x) p.sites → right_at map_of x Read ≡ true → m.byte x ≡ 0
-  none_zero x none readable =
-      elim (or_cases (is_in map_of.rodata x) (is_within map_of.data.start map_of.bss.end x) (is_within stack_start stack_end x) readable) [
-        | inl inside ↦
-            let parts = within_parts map_of.rodata.start map_of.rodata.end x inside in
-            region_zero goes_to_rodata map_of.rodata.start (aligned 4096 map_of.text.end) map_of.rodata.end x l.rodata rodata_holds.0 rodata_holds.1 rodata_holds.2 rodata_is (data_sized goes_to_rodata not_rodata) (rodata_held l are_regions) none parts.0 parts.1
-        | inr other ↦ elim other [
+    none_zero : (x : ℕ) → AllByRecursion (Misses x) p.sites → right_at map_of x Read ≡ true → m.byte x ≡ 0
+    none_zero x none readable =
+        elim (or_cases (is_in map_of.rodata x) (is_within map_of.data.start map_of.bss.end x) (is_within stack_start stack_end x) readable) [
           | inl inside ↦
-              let parts = within_parts map_of.data.start map_of.bss.end x inside in
-              elim (cases_lt x map_of.data.end) [
-                | inl low ↦ region_zero goes_to_data map_of.data.start (aligned 4096 map_of.rodata.end) map_of.data.end x l.data data_holds.0 data_holds.1 data_holds.2 data_is (data_sized goes_to_data not_data) (data_held l are_regions) none parts.0 low
-                | inr high ↦ bss_zero x high parts.1
-              ]
-          | inr inside ↦ stack_zero l are_regions x (within_parts stack_start stack_end x inside).0
+              let parts = within_parts map_of.rodata.start map_of.rodata.end x inside in
+              region_zero goes_to_rodata map_of.rodata.start (aligned 4096 map_of.text.end) map_of.rodata.end x l.rodata rodata_holds.0 rodata_holds.1 rodata_holds.2 rodata_is (data_sized goes_to_rodata not_rodata) (rodata_held l are_regions) none parts.0 parts.1
+          | inr other ↦ elim other [
+            | inl inside ↦
+                let parts = within_parts map_of.data.start map_of.bss.end x inside in
+                elim (cases_lt x map_of.data.end) [
+                  | inl low ↦ region_zero goes_to_data map_of.data.start (aligned 4096 map_of.rodata.end) map_of.data.end x l.data data_holds.0 data_holds.1 data_holds.2 data_is (data_sized goes_to_data not_data) (data_held l are_regions) none parts.0 low
+                  | inr high ↦ bss_zero x high parts.1
+                ]
+            | inr inside ↦ stack_zero l are_regions x (within_parts stack_start stack_end x inside).0
+          ]
         ]
-      ]
 
-  -- each byte that can be read is what the data statements spell, and zero everywhere else
-  bytes_are : (x : ℕ) → right_at map_of x Read ≡ true → m.byte x ≡ first_byte p x
-  bytes_are x readable = go (find over p.sites) refl
-    where
-      over : Site → Bool
-      over s = is_within s.row.address (s.row.address + s.row.bytes) x
+    -- each byte that can be read is what the data statements spell, and zero everywhere else
+    bytes_are : (x : ℕ) → right_at map_of x Read ≡ true → m.byte x ≡ first_byte p x
+    bytes_are x readable = go (find over p.sites) refl
+      where
+        over : Site → Bool
+        over s = is_within s.row.address (s.row.address + s.row.bytes) x
 
-      go : (o : Option Site) → find over p.sites ≡ o → m.byte x ≡ byte_of p o x
-      go (Some s) e = row_spells s x (all_found Whole over p.sites s e whole) readable (find_holds over p.sites s e)
-      go None e = none_zero x (none_found over p.sites e) readable
+        go : (o : Option Site) → find over p.sites ≡ o → m.byte x ≡ byte_of p o x
+        go (Some s) e = row_spells s x (all_found Whole over p.sites s e whole) readable (find_holds over p.sites s e)
+        go None e = none_zero x (none_found over p.sites e) readable
 
-  rows_hold : (pc : ℕ) (s : Site) → place p pc ≡ Starts s → HoldsLines reader m p s
-  rows_hold pc s e =
-      let starts = starts_when (is_in map_of.text pc) (list_any (λ gap. is_in gap pc) map_of.gaps) (found p.sites pc) s e in
-      let test = find_holds (λ (k : Site). nat_lt 0 k.row.bytes && (k.row.address == pc)) p.sites s starts.1 in
-      let here : s.row.address ≡ pc = eqb-true s.row.address pc (and_parts (nat_lt 0 s.row.bytes) (s.row.address == pc) test).1 in
-      row_holds s (all_found Whole _ p.sites s starts.1 whole) (subst (λ x. is_in map_of.text x ≡ true) (sym here) starts.0)
+    rows_hold : (pc : ℕ) (s : Site) → place p pc ≡ Starts s → HoldsLines reader m p s
+    rows_hold pc s e =
+        let starts = starts_when (is_in map_of.text pc) (list_any (λ gap. is_in gap pc) map_of.gaps) (found p.sites pc) s e in
+        let test = find_holds (λ (k : Site). nat_lt 0 k.row.bytes && (k.row.address == pc)) p.sites s starts.1 in
+        let here : s.row.address ≡ pc = eqb-true s.row.address pc (and_parts (nat_lt 0 s.row.bytes) (s.row.address == pc) test).1 in
+        row_holds s (all_found Whole _ p.sites s starts.1 whole) (subst (λ x. is_in map_of.text x ≡ true) (sym here) starts.0)
 
-  pub realizes_linked : Realizes reader m p
-  realizes_linked = record {
-    rows = λ pc s u e. rows_hold pc s e;
-    gaps = λ pc u even e. absurd (no_gap (is_in map_of.text pc) (found p.sites pc) (subst (λ gaps. (if is_in map_of.text pc then (if list_any (λ gap. is_in gap pc) gaps then Gap else starts_or_inside (found p.sites pc)) else Outside) ≡ Gap) h.gaps e));
-    rights = λ x u right. rights-are l are_regions x right;
-    bytes = λ x u readable. bytes_are x readable;
-    fixed = λ x u inside. unwritten x inside;
-  }
+    pub realizes_linked : Realizes reader m p
+    realizes_linked = record {
+      rows = λ pc s u e. rows_hold pc s e;
+      gaps = λ pc u even e. absurd (no_gap (is_in map_of.text pc) (found p.sites pc) (subst (λ gaps. (if is_in map_of.text pc then (if list_any (λ gap. is_in gap pc) gaps then Gap else starts_or_inside (found p.sites pc)) else Outside) ≡ Gap) h.gaps e));
+      rights = λ x u right. rights-are l are_regions x right;
+      bytes = λ x u readable. bytes_are x readable;
+      fixed = λ x u inside. unwritten x inside;
+    }
 
-  -- the entry is the place of a label in the text
-  lies_in_text : AllByRecursion (In goes_to_text (LiesIn map_of.text.start map_of.text.end)) p.sites
-  lies_in_text = lies goes_to_text map_of.text.start a map_of.text.end text_holds.0 text_holds.1 text_holds.2
+    -- the entry is the place of a label in the text
+    lies_in_text : AllByRecursion (In goes_to_text (LiesIn map_of.text.start map_of.text.end)) p.sites
+    lies_in_text = lies goes_to_text map_of.text.start a map_of.text.end text_holds.0 text_holds.1 text_holds.2
 
-  entry_of : (o : Option Entry) → find (λ e. begins_run sources e.stated) p.entries ≡ o → starts_at o ≡ Some map_of.entry → map_of.entry ≤ map_of.text.end
-  entry_of None e there = absurd (cc)
-  entry_of (Some entry) e there = at_row entry.row refl there
-    where
-      found_entry : (r : Row) → entry.row ≡ Some r → In goes_to_text (LiesIn map_of.text.start map_of.text.end) (record { stated = entry.stated; row = r })
-      found_entry = all_found (Seated (In goes_to_text (LiesIn map_of.text.start map_of.text.end))) (λ e. begins_run sources e.stated) p.entries entry e (seated_all _ p.entries lies_in_text)
+    entry_of : (o : Option Entry) → find (λ e. begins_run sources e.stated) p.entries ≡ o → starts_at o ≡ Some map_of.entry → map_of.entry ≤ map_of.text.end
+    entry_of None e there = absurd (cc)
+    entry_of (Some entry) e there = at_row entry.row refl there
+      where
+        found_entry : (r : Row) → entry.row ≡ Some r → In goes_to_text (LiesIn map_of.text.start map_of.text.end) (record { stated = entry.stated; row = r })
+        found_entry = all_found (Seated (In goes_to_text (LiesIn map_of.text.start map_of.text.end))) (λ e. begins_run sources e.stated) p.entries entry e (seated_all _ p.entries lies_in_text)
 
-      begins : begins_run sources entry.stated ≡ true
-      begins = find_holds (λ (e : Entry). begins_run sources e.stated) p.entries entry e
+        begins : begins_run sources entry.stated ≡ true
+        begins = find_holds (λ (e : Entry). begins_run sources e.stated) p.entries entry e
 
-      goes : goes_to_text entry.stated.home ≡ true
-      goes = (and_parts (is_start entry.stated.says) (goes_to_text entry.stated.home) (and_parts (is_start entry.stated.says && goes_to_text entry.stated.home) (is_global_in sources entry.stated.file (codes "_start")) begins).0).1
+        goes : goes_to_text entry.stated.home ≡ true
+        goes = (and_parts (is_start entry.stated.says) (goes_to_text entry.stated.home) (and_parts (is_start entry.stated.says && goes_to_text entry.stated.home) (is_global_in sources entry.stated.file (codes "_start")) begins).0).1
 
-      at_row : (o : Option Row) → entry.row ≡ o → option_map (λ (r : Row). r.address) o ≡ Some map_of.entry → map_of.entry ≤ map_of.text.end
-      at_row None none same = absurd (cc)
-      at_row (Some r) some same =
-          let lie = found_entry r some goes in
-          let here : r.address ≡ map_of.entry = cc in
-          omega arith
+        at_row : (o : Option Row) → entry.row ≡ o → option_map (λ (r : Row). r.address) o ≡ Some map_of.entry → map_of.entry ≤ map_of.text.end
+        at_row None none same = absurd (cc)
+        at_row (Some r) some same =
+            let lie = found_entry r some goes in
+            let here : r.address ≡ map_of.entry = cc in
+            omega arith
 
-  pub entry_low : map_of.entry < 2 ^ 64
-  entry_low =
-      let low = entry_of (find (λ e. begins_run sources e.stated) p.entries) refl h.resolves.entry in
-      let room = text_room in
-      omega arith
+    pub entry_low : map_of.entry < 2 ^ 64
+    entry_low =
+        let low = entry_of (find (λ e. begins_run sources e.stated) p.entries) refl h.resolves.entry in
+        let room = text_room in
+        omega arith
 
 -- a linked program runs as its sources do, for every input and every limit
 pub linked_agrees : (a : ℕ) (sources : List (List Spoken)) (l : Linked) → IsLinked sources a l → RunsAgree sources l.map (linked_image l)
 linked_agrees a sources l h reader input bytes n =
-    agreement_of_image sources l.map (mem_of (linked_image l)) l.map.entry (λ r. realizes_linked r sources a l h) refl (entry_low reader sources a l h) h.resolves.even reader input n
+    agreement_of_image sources l.map (mem_of (linked_image l)) l.map.entry (λ r. realizes_linked sources a l h r) refl (entry_low sources a l h reader) h.resolves.even reader input n

@@ -3,6 +3,7 @@
 use crate::jobs::Trouble;
 use rv_chain::{End, Fault, FileFault, LinkFault, SourceFault};
 use std::alloc::{AllocError, Global};
+use std::str::from_utf8;
 
 /// The line of a fault of `build` or `run_exec`; `names` are the files in their order.
 pub(crate) fn fault_line(
@@ -54,15 +55,20 @@ fn file_line(alloc: Global, name: &str, fault: &FileFault) -> Result<Trouble, Al
     Ok(Trouble::Line(line))
 }
 
-/// As `L7 EntryMissing`.
+/// As `L7 EntryMissing`, or `L5 Undefined f`.
 fn link_line(alloc: Global, fault: &LinkFault) -> Result<Trouble, AllocError> {
-    match fault.number() {
-        Some(number) => {
-            let what = fault.name();
-            Ok(Trouble::Line(format!(in alloc; "L{number} {what}")?))
+    let Some(number) = fault.number() else {
+        return Ok(Trouble::Memory);
+    };
+    let what = fault.name();
+    let line = match fault {
+        LinkFault::Undefined(name) => {
+            let name = from_utf8(name.as_slice()).unwrap_or("");
+            format!(in alloc; "L{number} {what} {name}")?
         }
-        None => Ok(Trouble::Memory),
-    }
+        _ => format!(in alloc; "L{number} {what}")?,
+    };
+    Ok(Trouble::Line(line))
 }
 
 /// As `FetchOutside 8`; an address is hexadecimal, in lower case.

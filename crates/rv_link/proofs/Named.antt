@@ -1,6 +1,6 @@
 -- One name, or one statement, more.
 
-use Rattle.std.proofs.Common.{append_assoc, ◌≡◌, ℕ, ◌+◌, ◌<◌, Bool, true, false, List, [], ◌∷◌, ◌++◌, length, map, take, get_or, refl, sym, ap, ◌∙◌, subst}
+use Rattle.std.proofs.Common.{append_assoc, ◌≡◌, ℕ, suc, ◌+◌, ◌<◌, Bool, true, false, List, [], ◌∷◌, ◌++◌, length, map, take, get_or, refl, sym, ap, ◌∙◌, subst}
 use Rattle.std.specs.Prelude.{◌||◌, ◌&&◌, not}
 use Rattle.std.specs.Str.{bytes_eq}
 use Rattle.std.specs.Borrow.{Bor}
@@ -14,10 +14,10 @@ use Rattle.rv_link.specs.declared.rows.Item.{Item}
 use Rattle.std.specs.Prelude.{if◌then◌else◌, Some, filter}
 use Rattle.std.proofs.lemmas.List.Elements.{filter-append}
 use Rattle.std.proofs.lemmas.Slice.Eq.{bytes_eq-Decides}
-use Rattle.rv_statement.specs.Statement.{Statement, Label, Numbered, Instruction, Directs}
-use Rattle.rv_chain_laws.specs.Resolves.{is_start}
+use Rattle.rv_unit_laws.specs.Tables.{Tables}
+use Rattle.rv_chain_laws.specs.Resolves.{is_start, defined_name}
 use Rattle.rv_link.specs.Rows.{address_of}
-use Rattle.rv_link.specs.Definitions.{named_by, names_from, entry_from, defined_by, definitions_from, IsOwn, AreOwn}
+use Rattle.rv_link.specs.Definitions.{named_by, names_from, entry_from, defined_by, definitions_from}
 
 or_moves : (a b c : Bool) → (a || (b || c)) ≡ ((b || (a || false)) || c)
 or_moves true true c = refl
@@ -62,54 +62,44 @@ global_more f xs i x name inside same =
 -- ---- definitions
 
 -- one statement's definition more
-pub defined_more : (test : List ℕ → Bool) (starts : List ℕ) (rest next : List Spoken) (items behind : List Item) (s : Spoken) (i : Item) (old new all : List Global) → rest ≡ s ∷ next → items ≡ i ∷ behind
-    → new ≡ old ++ defined_by test starts s.says i → old ++ definitions_from test starts rest items ≡ all → new ++ definitions_from test starts next behind ≡ all
-defined_more test starts rest next items behind s i old new all here at more h =
-    ap (λ l. l ++ definitions_from test starts next behind) more ∙ append_assoc old (defined_by test starts s.says i) (definitions_from test starts next behind)
-    ∙ ap (λ l. old ++ definitions_from test starts (s ∷ next) l) (sym at) ∙ ap (λ l. old ++ definitions_from test starts l items) (sym here) ∙ h
+pub defined_more : (test : List ℕ → Bool) (t : Tables) (starts : List ℕ) (all_items : List Item) (k m : ℕ) (rest next : List Spoken) (items behind : List Item) (s : Spoken) (i : Item) (old new all : List Global)
+    → m ≡ suc k → rest ≡ s ∷ next → items ≡ i ∷ behind → new ≡ old ++ defined_by test t starts all_items k s.says i
+    → old ++ definitions_from test t starts all_items k rest items ≡ all → new ++ definitions_from test t starts all_items m next behind ≡ all
+defined_more test t starts all_items k m rest next items behind s i old new all after here at more h =
+    let later = definitions_from test t starts all_items (suc k) next behind in
+    ap (λ n. new ++ definitions_from test t starts all_items n next behind) after ∙ ap (λ l. l ++ later) more ∙ append_assoc old (defined_by test t starts all_items k s.says i) later
+    ∙ ap (λ l. old ++ definitions_from test t starts all_items k (s ∷ next) l) (sym at) ∙ ap (λ l. old ++ definitions_from test t starts all_items k l items) (sym here) ∙ h
 
-pub own_more : (test : List ℕ → Bool) (rest next all : List Spoken) (s : Spoken) → rest ≡ s ∷ next → IsOwn test s.says → (AreOwn test rest → AreOwn test all) → AreOwn test next → AreOwn test all
-own_more test rest next all s here own h behind = h (subst (AreOwn test) (sym here) (own, behind))
+-- ---- names that are defined
 
-pub none_defined : (test : List ℕ → Bool) (starts : List ℕ) (items : List Item) → definitions_from test starts [] items ≡ []
-none_defined test starts items = refl
-
--- ---- labels by name
-
-bytes_same : (x y : List ℕ) → bytes_eq x y ≡ true → x ≡ y
+pub bytes_same : (x y : List ℕ) → bytes_eq x y ≡ true → x ≡ y
 bytes_same x y e = (bytes_eq-Decides x y).0 e
 
 is_no : (b : Bool) → (b ≡ true → ⊥) → b ≡ false
 is_no true f = absurd (f refl)
 is_no false f = refl
 
--- a name that is not global is none of the global labels
-no_label : (test : List ℕ → Bool) (name : List ℕ) (says : Statement) → test name ≡ false → is_one_of (named_by test says) name ≡ false
-no_label test name (Label own) e = go (test own) refl
+-- a name that does not pass the test is none of those that do
+none_passes : (test : List ℕ → Bool) (name : List ℕ) (names : List (List ℕ)) → test name ≡ false → is_one_of (filter test names) name ≡ false
+none_passes test name [] e = refl
+none_passes test name (own ∷ names) e = go (test own) refl (none_passes test name names e)
   where
-    go : (b : Bool) → test own ≡ b → is_one_of (if b then own ∷ [] else []) name ≡ false
-    go true f = ap (λ b. b || false) (is_no (bytes_eq own name) (λ g. let h : test name ≡ true = ap test (sym (bytes_same own name g)) ∙ f in cc))
-    go false f = refl
-no_label test name (Numbered number) e = refl
-no_label test name (Instruction mnemonic operands) e = refl
-no_label test name (Directs directive) e = refl
+    go : (b : Bool) → test own ≡ b → is_one_of (filter test names) name ≡ false → is_one_of (if b then own ∷ filter test names else filter test names) name ≡ false
+    go true f ih = ap (λ b. b || is_one_of (filter test names) name) (is_no (bytes_eq own name) (λ g. let h : test name ≡ true = ap test (sym (bytes_same own name g)) ∙ f in cc)) ∙ ih
+    go false f ih = ih
 
-pub no_name : (test : List ℕ → Bool) (name : List ℕ) (ss : List Spoken) → test name ≡ false → is_one_of (names_from test ss) name ≡ false
-no_name test name [] e = refl
-no_name test name (s ∷ ss) e =
-    list_any-append (λ n. bytes_eq n name) (named_by test s.says) (names_from test ss) ∙ ap (λ b. b || is_one_of (names_from test ss) name) (no_label test name s.says e) ∙ no_name test name ss e
+pub no_name : (test : List ℕ → Bool) (t : Tables) (name : List ℕ) (k : ℕ) (ss : List Spoken) → test name ≡ false → is_one_of (names_from test t k ss) name ≡ false
+no_name test t name k [] e = refl
+no_name test t name k (s ∷ ss) e =
+    list_any-append (λ n. bytes_eq n name) (named_by test t k s.says) (names_from test t (suc k) ss)
+    ∙ ap (λ b. b || is_one_of (names_from test t (suc k) ss) name) (none_passes test name (defined_name t k s.says) e) ∙ no_name test t name (suc k) ss e
 
-or_none : (b : Bool) → (b || false) ≡ b
-or_none true = refl
-or_none false = refl
-
--- whether the first statement, or one of the others, is a global label of this name
-pub first_or : (test : List ℕ → Bool) (name : List ℕ) (rest next : List Spoken) (s : Spoken) (b : Bool) → rest ≡ s ∷ next → b ≡ is_one_of (names_from test (s ∷ [])) name
-    → is_one_of (names_from test rest) name ≡ (b || is_one_of (names_from test next) name)
-first_or test name rest next s b here e =
-    let own = is_one_of (named_by test s.says) name in
-    let alone : b ≡ own = e ∙ list_any-append (λ n. bytes_eq n name) (named_by test s.says) [] ∙ or_none own in
-    ap (λ l. is_one_of (names_from test l) name) here ∙ list_any-append (λ n. bytes_eq n name) (named_by test s.says) (names_from test next) ∙ ap (λ c. c || is_one_of (names_from test next) name) (sym alone)
+-- whether the first statement, or one of the others, defines this name
+pub first_or : (test : List ℕ → Bool) (t : Tables) (name : List ℕ) (k m : ℕ) (rest next : List Spoken) (s : Spoken) (b : Bool) → m ≡ suc k → rest ≡ s ∷ next → b ≡ is_one_of (named_by test t k s.says) name
+    → is_one_of (names_from test t k rest) name ≡ (b || is_one_of (names_from test t m next) name)
+first_or test t name k m rest next s b after here e =
+    ap (λ l. is_one_of (names_from test t k l) name) here ∙ list_any-append (λ n. bytes_eq n name) (named_by test t k s.says) (names_from test t (suc k) next)
+    ∙ ap (λ c. c || is_one_of (names_from test t (suc k) next) name) (sym e) ∙ ap (λ n. b || is_one_of (names_from test t n next) name) (sym after)
 
 -- ---- the entry
 

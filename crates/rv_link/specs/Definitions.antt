@@ -1,38 +1,53 @@
 -- The names that a source defines for all files.
 
-use Rattle.std.specs.Prelude.{◌&&◌, Option, Some, None, ◌≡◌, ℕ, Bool, false, ⊤, List, [], ◌∷◌, ◌++◌, if◌then◌else◌}
-use Rattle.rv_statement.specs.Statement.{Statement, Label, Directs, Spoken, Sets}
+use Rattle.std.specs.Borrow.{Bor}
+use Rattle.std.specs.Prelude.{ℕ, suc, Bool, ◌&&◌, Option, Some, None, option_map, List, [], ◌∷◌, ◌++◌, filter, flat_map, if◌then◌else◌}
+use Rattle.rv_text_laws.specs.Values.{Known, Placed, Open, Refused, add}
+use Rattle.rv_statement.specs.Statement.{Statement, Directs, Spoken, Sets}
+use Rattle.rv_unit_laws.specs.Tables.{Tables, Setting, set_ever}
 use Rattle.rv_map.specs.Map.{Global}
-use Rattle.rv_chain_laws.specs.Resolves.{symbol, is_start}
+use Rattle.rv_chain_laws.specs.Resolves.{shown, is_start, defined_name}
 use Rattle.rv_link.specs.declared.rows.Item.{Item}
-use Rattle.rv_link.specs.Rows.{address_of}
+use Rattle.rv_link.specs.Rows.{address_of, shown_address, address_at}
 
--- the global label of a statement
-abbrev pub named_by : (List ℕ → Bool) → Statement → List (List ℕ)
-named_by is_global (Label name) = if is_global name then name ∷ [] else []
-named_by is_global _ = []
+-- a name, or none
+abbrev pub name_in : Option (Bor (List ℕ)) → List (List ℕ)
+name_in None = []
+name_in (Some name) = name.now ∷ []
 
--- and its address, where its section is loaded
-abbrev pub defined_by : (List ℕ → Bool) → List ℕ → Statement → Item → List Global
-defined_by is_global starts (Label name) i = if is_global name then (if i.shown then symbol name (address_of starts i) ∷ [] else []) else []
-defined_by is_global starts _ i = []
+-- the name that a statement of this ordinal defines for all files, by the tables of its source
+abbrev pub named_by : (List ℕ → Bool) → Tables → ℕ → Statement → List (List ℕ)
+named_by is_global t ordinal says = filter is_global (defined_name t ordinal says)
 
--- no `.set` gives a global name: it is not built yet
-abbrev pub IsOwn : (List ℕ → Bool) → Statement → Type 0
-IsOwn is_global (Directs (Sets name e)) = is_global name ≡ false
-IsOwn is_global _ = ⊤
+-- the number that `.set` gives, or the address of the place
+abbrev pub set_address : List ℕ → List Item → Option Setting → Option ℕ
+set_address starts items None = None
+set_address starts items (Some s) = elim s.meaning [
+  | Known n ↦ Some n
+  | Placed section offset ↦ option_map (λ a. add a s.plus) (address_at starts items s.ordinal)
+  | Open ↦ None
+  | Refused code ↦ None
+]
 
-abbrev pub names_from : (List ℕ → Bool) → List Spoken → List (List ℕ)
-names_from is_global [] = []
-names_from is_global (s ∷ ss) = named_by is_global s.says ++ names_from is_global ss
+-- the address or the number of what a statement defines: a label's, or what `.set` gives the name last
+abbrev pub defined_address : Tables → List ℕ → List Item → Item → Statement → Option ℕ
+defined_address t starts items i (Directs (Sets name e)) = set_address starts items (set_ever t.settings name)
+defined_address t starts items i _ = shown_address starts i
 
-abbrev pub definitions_from : (List ℕ → Bool) → List ℕ → List Spoken → List Item → List Global
-definitions_from is_global starts (s ∷ ss) (i ∷ is) = defined_by is_global starts s.says i ++ definitions_from is_global starts ss is
-definitions_from is_global starts ss is = []
+-- the name with its address, if it has one
+abbrev pub defined_by : (List ℕ → Bool) → Tables → List ℕ → List Item → ℕ → Statement → Item → List Global
+defined_by is_global t starts items ordinal says i =
+    flat_map (λ name. shown name (defined_address t starts items i says)) (named_by is_global t ordinal says)
 
-abbrev pub AreOwn : (List ℕ → Bool) → List Spoken → Type 0
-AreOwn is_global [] = ⊤
-AreOwn is_global (s ∷ ss) = IsOwn is_global s.says × AreOwn is_global ss
+-- those of the statements from an ordinal on
+abbrev pub names_from : (List ℕ → Bool) → Tables → ℕ → List Spoken → List (List ℕ)
+names_from is_global t ordinal [] = []
+names_from is_global t ordinal (s ∷ ss) = named_by is_global t ordinal s.says ++ names_from is_global t (suc ordinal) ss
+
+abbrev pub definitions_from : (List ℕ → Bool) → Tables → List ℕ → List Item → ℕ → List Spoken → List Item → List Global
+definitions_from is_global t starts items ordinal (s ∷ ss) (i ∷ is) =
+    defined_by is_global t starts items ordinal s.says i ++ definitions_from is_global t starts items (suc ordinal) ss is
+definitions_from is_global t starts items ordinal ss is = []
 
 -- the address of the first label where a run may begin
 abbrev pub entry_from : List ℕ → List Spoken → List Item → Option ℕ

@@ -1,23 +1,27 @@
 //! The names that a source defines for all files, with their addresses.
 
-ghost use Rattle.std.specs.Prelude.{◌≡◌, ◌++◌, ℕ, List, [], map, Bool, length, IfOk, OnOk};
+ghost use Rattle.std.specs.Prelude.{◌≡◌, ◌++◌, ℕ, List, Bool, Some, map, length, IfOk, OnOk};
 ghost use Rattle.rv_statement.specs.View.{said_by};
+ghost use Rattle.rv_unit_laws.specs.Tables.{tables};
+ghost use Rattle.rv_unit.specs.Tables.{setting_of};
+ghost use Rattle.rv_unit.specs.Unit.{said, IsFilled};
 ghost use Rattle.rv_map.specs.Map.{global_of};
 ghost use Rattle.rv_map.specs.Name.{is_name};
 ghost use Rattle.rv_link.specs.Globals.{Has};
-ghost use Rattle.rv_link.specs.Definitions.{defined_by, definitions_from, IsOwn, AreOwn};
+ghost use Rattle.rv_link.specs.Settings.{AreFirsts};
+ghost use Rattle.rv_link.specs.Definitions.{set_address, defined_address, defined_by, definitions_from};
 
-use crate::globals::Globals;
-use crate::rows::{Item, address};
+use crate::names::Names;
+use crate::rows::{Item, address_of_ordinal, row_address};
 use rv_map::Global;
 use rv_statement::{Statement, StatementKind};
+use rv_text::Meaning;
+use rv_unit::{Given, Unit};
 use std::alloc::{AllocError, AllocFailed, Global as Allocator};
 
 /// Why a source's names cannot be defined.
 #[derive(Clone, Copy, Debug, PartialEq, Eq, Drop)]
 pub enum NameFault {
-    /// A global name that `.set` gives, at a line: it is not built yet.
-    Setting(u32),
     /// A name that maps cannot show, at a line.
     Name(u32),
     OutOfMemory,
@@ -35,25 +39,40 @@ impl<T: Drop> From<AllocFailed<T>> for NameFault {
     }
 }
 
-/// The global labels of statements that stand so, in sections that start here.
+/// Where the statements of a source stand: where its sections start, and its items.
+#[derive(Clone, Copy, Drop)]
+struct Placed<'p, 'a> {
+    unit: &'p Unit<'a>,
+    starts: &'p [u32],
+    items: &'p [Item],
+}
+
+/// The names that a source defines for all files, with their addresses, in sections that start here.
 pub fn global_definitions(
     alloc: Allocator,
-    globals: &Globals<'_>,
+    names: &Names<'_, '_>,
     starts: &[u32],
-    statements: &[Statement<'_>],
+    unit: &Unit<'_>,
     items: &[Item],
 ) -> Result<Vec<Global>, NameFault>
-    requires { length items.now ≡ length statements.now }
-    ensures { IfOk result (λ defined. (test : List ℕ → Bool) → Has (globals.now).set test →
-        (map global_of defined.items ≡ definitions_from test starts.now (map said_by statements.now) items.now) × AreOwn test (map said_by statements.now)) }
+    requires { length items.now ≡ length (unit.now).statements.items }
+    ensures { IfOk result (λ defined. (test : List ℕ → Bool) → IsFilled unit.now → Has (names.now).globals.now.set test → AreFirsts (names.now).firsts.ordinals (tables (said unit.now)).settings →
+        map global_of defined.items ≡ definitions_from test (tables (said unit.now)) starts.now items.now 1 (said unit.now) items.now) }
 {
+    let placed = Placed {
+        unit,
+        starts,
+        items,
+    };
+    let statements = unit.statements();
     let mut defined = Vec::new(alloc);
     for i in 0..statements.len() {
         put_definition(
             alloc,
             &mut defined,
-            globals,
-            starts,
+            names,
+            &placed,
+            i + 1,
             &statements[i],
             items[i],
         )?;
@@ -61,34 +80,56 @@ pub fn global_definitions(
     Ok(defined)
 }
 
-/// Adds the global label of a statement, if it is one and its section is loaded.
+/// Adds the name that the statement of this ordinal defines for all files, if it has an address.
 fn put_definition(
     alloc: Allocator,
     defined: &mut Vec<Global>,
-    globals: &Globals<'_>,
-    starts: &[u32],
+    names: &Names<'_, '_>,
+    placed: &Placed<'_, '_>,
+    ordinal: usize,
     statement: &Statement<'_>,
     item: Item,
 ) -> Result<(), NameFault>
-    ensures { OnOk result ((test : List ℕ → Bool) → Has (globals.now).set test →
-        (map global_of defined.new.items ≡ map global_of defined.old.items ++ defined_by test starts.now (said_by statement.now).says item) × IsOwn test (said_by statement.now).says) }
+    ensures { OnOk result ((test : List ℕ → Bool) → IsFilled (placed.now).unit.now → Has (names.now).globals.now.set test → AreFirsts (names.now).firsts.ordinals (tables (said (placed.now).unit.now)).settings →
+        map global_of defined.new.items ≡ map global_of defined.old.items ++ defined_by test (tables (said (placed.now).unit.now)) (placed.now).starts.now (placed.now).items.now ordinal (said_by statement.now).says item) }
 {
-    match &statement.kind {
-        StatementKind::Label(name) => {
-            if !globals.has(*name) || !item.shown {
-                return Ok(());
-            }
-            let global = named(alloc, *name, address(starts, item), statement.line)?;
-            defined.push(global)?;
-            Ok(())
+    let Some(name) = names.defined(ordinal, statement) else {
+        return Ok(());
+    };
+    let Some(address) = placed.defined_address(statement, item) else {
+        return Ok(());
+    };
+    let global = named(alloc, name, address, statement.line)?;
+    defined.push(global)?;
+    Ok(())
+}
+
+impl Placed<'_, '_> {
+    /// The address or the number of what a statement defines.
+    fn defined_address(&self, statement: &Statement<'_>, item: Item) -> Option<u64>
+        ensures { IsFilled (self.now).unit.now → result ≡ defined_address (tables (said (self.now).unit.now)) (self.now).starts.now (self.now).items.now item (said_by statement.now).says }
+    {
+        match &statement.kind {
+            StatementKind::Sets(setting) => match self.unit.setting(setting.name) {
+                Some(given) => self.set_address(given),
+                None => None,
+            },
+            _ => row_address(self.starts, item),
         }
-        StatementKind::Sets(setting) => {
-            if globals.has(setting.name) {
-                return Err(NameFault::Setting(statement.line));
+    }
+
+    /// The number that `.set` gives, or the address of the place.
+    fn set_address(&self, given: Given<'_>) -> Option<u64>
+        ensures { result ≡ set_address (self.now).starts.now (self.now).items.now (Some (setting_of given.entry)) }
+    {
+        match given.meaning {
+            Meaning::Constant(number) => Some(number),
+            Meaning::Place(_, _) => {
+                let address = address_of_ordinal(self.starts, self.items, given.ordinal)?;
+                Some(address.wrapping_add(given.plus))
             }
-            Ok(())
+            _ => None,
         }
-        _ => Ok(()),
     }
 }
 

@@ -1,7 +1,7 @@
 //! Where statements stand.
 
 ghost use Rattle.std.specs.Prelude.{◌≡◌, ◌++◌, ◌+◌, ◌^◌, ◌<◌, IfOk, OnOk};
-ghost use Rattle.rv_link.specs.Rows.{address_of, rows_of, rows_from};
+ghost use Rattle.rv_link.specs.Rows.{address_of, shown_address, address_at, rows_of, rows_from};
 
 use rv_map::Row;
 use std::alloc::{AllocError, Global};
@@ -29,6 +29,26 @@ pub fn address(starts: &[u32], item: Item) -> u64
 {
     let start = starts.get(item.section as usize).copied().unwrap_or(0);
     u64::from(start) + u64::from(item.offset)
+}
+
+/// The same where it has a row.
+pub(crate) fn row_address(starts: &[u32], item: Item) -> Option<u64>
+    ensures { result ≡ shown_address starts.now item }
+{
+    if item.shown {
+        Some(address(starts, item))
+    } else {
+        None
+    }
+}
+
+/// The address of the statement of an ordinal, from 1, where it has a row.
+pub(crate) fn address_of_ordinal(starts: &[u32], items: &[Item], ordinal: usize) -> Option<u64>
+    ensures { result ≡ address_at starts.now items.now ordinal }
+{
+    let index = ordinal.checked_sub(1)?;
+    let item = items.get(index).copied()?;
+    row_address(starts, item)
 }
 
 /// The rows of a file's statements, in sections that start here.

@@ -2,26 +2,29 @@
 
 ghost use Rattle.std.specs.Prelude.{◌≡◌, ◌+◌, ◌++◌, ◌%◌, ◌<◌, ◌≤◌, ◌^◌, ℕ, List, [], ◌∷◌, Bool, not, true, length, map, filter, codes, Some, None, IfOk, OnOk, IfSome};
 ghost use Rattle.rv_statement.specs.View.{said_by};
+ghost use Rattle.rv_unit_laws.specs.Tables.{Tables};
 ghost use Rattle.rv_map.specs.Map.{global_of as shown_global};
 ghost use Rattle.rv_chain_laws.specs.Resolves.{is_one_of, is_start, symbol};
 ghost use Rattle.rv_link.specs.Globals.{Has};
-ghost use Rattle.rv_link.specs.Definitions.{names_from, entry_from};
+ghost use Rattle.rv_link.specs.Settings.{AreFirsts};
+ghost use Rattle.rv_link.specs.Definitions.{named_by, names_from, entry_from};
 
 use crate::definitions::{NameFault, named};
 use crate::globals::Globals;
 use crate::layout::Layout;
+use crate::names::Names;
 use crate::rows::{Item, address};
 use rv_map::Global;
 use rv_statement::{Statement, StatementKind};
 use std::alloc::Global as Allocator;
 
-/// Whether a statement is the label of this name.
-fn is_label(statement: &Statement<'_>, name: &[u8]) -> bool
-    ensures { (test : List ℕ → Bool) → test name.now ≡ true → result ≡ is_one_of (names_from test (said_by statement.now ∷ [])) name.now }
+/// Whether the statement of this ordinal defines the name for all files.
+fn is_named(names: &Names<'_, '_>, ordinal: usize, statement: &Statement<'_>, name: &[u8]) -> bool
+    ensures { (test : List ℕ → Bool) (t : Tables) → Has (names.now).globals.now.set test → AreFirsts (names.now).firsts.ordinals t.settings → result ≡ is_one_of (named_by test t ordinal (said_by statement.now).says) name.now }
 {
-    match &statement.kind {
-        StatementKind::Label(own) => *own == name,
-        _ => false,
+    match names.defined(ordinal, statement) {
+        Some(own) => own == name,
+        None => false,
     }
 }
 
@@ -35,15 +38,15 @@ fn is_entry(statement: &Statement<'_>) -> bool
     }
 }
 
-/// Whether one of the statements is a global label of this name.
-fn defines(globals: &Globals<'_>, statements: &[Statement<'_>], name: &[u8]) -> bool
-    ensures { (test : List ℕ → Bool) → Has (globals.now).set test → result ≡ is_one_of (names_from test (map said_by statements.now)) name.now }
+/// Whether one of the statements defines the name for all files.
+fn defines(names: &Names<'_, '_>, statements: &[Statement<'_>], name: &[u8]) -> bool
+    ensures { (test : List ℕ → Bool) (t : Tables) → Has (names.now).globals.now.set test → AreFirsts (names.now).firsts.ordinals t.settings → result ≡ is_one_of (names_from test t 1 (map said_by statements.now)) name.now }
 {
-    if !globals.has(name) {
+    if !names.globals.has(name) {
         return false;
     }
-    for statement in statements {
-        if is_label(statement, name) {
+    for i in 0..statements.len() {
+        if is_named(names, i + 1, &statements[i], name) {
             return true;
         }
     }
@@ -83,15 +86,15 @@ pub fn entry(
 fn put_symbol(
     alloc: Allocator,
     symbols: &mut Vec<Global>,
-    globals: &Globals<'_>,
+    names: &Names<'_, '_>,
     statements: &[Statement<'_>],
     name: &str,
     address: u64,
 ) -> Result<(), NameFault>
-    ensures { OnOk result ((test : List ℕ → Bool) → Has (globals.now).set test → map shown_global symbols.new.items ≡ map shown_global symbols.old.items
-        ++ filter (λ g. not (is_one_of (names_from test (map said_by statements.now)) g.name)) (symbol name.now address ∷ [])) }
+    ensures { OnOk result ((test : List ℕ → Bool) (t : Tables) → Has (names.now).globals.now.set test → AreFirsts (names.now).firsts.ordinals t.settings → map shown_global symbols.new.items ≡ map shown_global symbols.old.items
+        ++ filter (λ g. not (is_one_of (names_from test t 1 (map said_by statements.now)) g.name)) (symbol name.now address ∷ [])) }
 {
-    if defines(globals, statements, name.as_bytes()) {
+    if defines(names, statements, name.as_bytes()) {
         return Ok(());
     }
     let global = named(alloc, name.as_bytes(), address, 0)?;
@@ -103,45 +106,31 @@ fn put_symbol(
 pub fn put_symbols(
     alloc: Allocator,
     symbols: &mut Vec<Global>,
-    globals: &Globals<'_>,
+    names: &Names<'_, '_>,
     statements: &[Statement<'_>],
     layout: &Layout,
 ) -> Result<(), NameFault>
     requires { (layout.now).data.start ≤ 0x3ff0_0000 }
-    ensures { OnOk result ((test : List ℕ → Bool) → Has (globals.now).set test → map shown_global symbols.new.items ≡ map shown_global symbols.old.items
-        ++ filter (λ g. not (is_one_of (names_from test (map said_by statements.now)) g.name))
+    ensures { OnOk result ((test : List ℕ → Bool) (t : Tables) → Has (names.now).globals.now.set test → AreFirsts (names.now).firsts.ordinals t.settings → map shown_global symbols.new.items ≡ map shown_global symbols.old.items
+        ++ filter (λ g. not (is_one_of (names_from test t 1 (map said_by statements.now)) g.name))
         (symbol (codes "_etext") (layout.now).text.end ∷ symbol (codes "__bss_start") (layout.now).bss.start ∷ symbol (codes "_edata") (layout.now).data.end
         ∷ symbol (codes "_end") (layout.now).bss.end ∷ symbol (codes "__global_pointer$") ((layout.now).data.start + 0x800) ∷ [])) }
 {
+    put_symbol(alloc, symbols, names, statements, "_etext", layout.text.end)?;
     put_symbol(
         alloc,
         symbols,
-        globals,
-        statements,
-        "_etext",
-        layout.text.end,
-    )?;
-    put_symbol(
-        alloc,
-        symbols,
-        globals,
+        names,
         statements,
         "__bss_start",
         layout.bss.start,
     )?;
+    put_symbol(alloc, symbols, names, statements, "_edata", layout.data.end)?;
+    put_symbol(alloc, symbols, names, statements, "_end", layout.bss.end)?;
     put_symbol(
         alloc,
         symbols,
-        globals,
-        statements,
-        "_edata",
-        layout.data.end,
-    )?;
-    put_symbol(alloc, symbols, globals, statements, "_end", layout.bss.end)?;
-    put_symbol(
-        alloc,
-        symbols,
-        globals,
+        names,
         statements,
         "__global_pointer$",
         layout.data.start + 0x800,

@@ -1,20 +1,41 @@
 -- The names of what is placed.
 
-use Rattle.std.proofs.Common.{◌≡◌, ℕ, suc, Bool, true, false, List, [], ◌∷◌, ◌++◌, refl, sym, ap, ◌∙◌, Some, None}
-use Rattle.std.proofs.lemmas.Bool.{and_parts}
-use Rattle.std.specs.Prelude.{◌&&◌, filter, flat_map, option_map, if◌then◌else◌, codes}
-use Rattle.std.specs.List.{find}
+use Rattle.std.proofs.Common.{◌≡◌, ℕ, zero, suc, ◌+◌, Bool, true, false, List, [], ◌∷◌, ◌++◌, refl, sym, ap, ◌∙◌, arith, Option, Some, None}
+use Rattle.std.proofs.lemmas.Bool.{and_parts, ne_eqb}
+use Rattle.std.specs.Prelude.{◌&&◌, ◌==◌, flat_map, option_map, option_and_then, if◌then◌else◌, codes}
+use Rattle.std.specs.List.{find, slice_get}
 use Rattle.rv_map.specs.Map.{Map}
-use Rattle.rv_statement.specs.Statement.{Statement, Label, Numbered, Instruction, Directs, Spoken, Directive, Sets}
+use Rattle.rv_text_laws.specs.Values.{Meaning, Known, Placed, Open, Refused, add}
+use Rattle.rv_statement.specs.Statement.{Statement, Label, Numbered, Instruction, Directs, Spoken, Sets}
 use Rattle.rv_unit_laws.specs.Sections.{goes_to_text}
-use Rattle.rv_unit_laws.specs.Tables.{Tables, after, tables}
+use Rattle.rv_unit_laws.specs.Tables.{Tables, Setting, at_start, after, tables, set_ever}
 use Rattle.rv_chain_laws.specs.Stated.{Stated, stated_now, has_row}
-use Rattle.rv_chain_laws.specs.Sites.{Entry, Program, program, tables_in}
+use Rattle.rv_chain_laws.specs.Sites.{Entry, Program, program, tables_in, address_at, address_of}
 use Rattle.rv_chain_laws.specs.Resolves as laws
 use Rattle.rv_link.specs.declared.rows.Item.{Item}
-use Rattle.rv_link.specs.Rows.{row_of, address_of as item_address}
-use Rattle.rv_link.specs.Definitions.{named_by, defined_by, names_from, definitions_from, entry_from, IsOwn, AreOwn}
-use Rattle.rv_link_laws.specs.Items.{AreItems, grown, entry_of, entries_by}
+use Rattle.rv_link.specs.Rows.{row_of, shown_address, address_of as item_address, address_at as place_address}
+use Rattle.rv_link.specs.Definitions.{named_by, set_address, defined_address, defined_by, names_from, definitions_from, entry_from}
+use Rattle.rv_link_laws.specs.Items.{AreItems, grown, entry_of, entries_by, nth_address}
+use Rattle.rv_link_laws.proofs.Addresses.{addresses_are}
+
+-- no statement has the ordinal 0
+none_at_zero : (starts : List ℕ) (k : ℕ) (u : Tables) (ss : List Spoken) (is : List Item) → address_at (entries_by starts (suc k) u ss is) 1 0 ≡ None
+none_at_zero starts k u [] is = refl
+none_at_zero starts k u (s ∷ ss) [] = refl
+none_at_zero starts k u (s ∷ ss) (i ∷ is) =
+    let other : (suc k == 0) ≡ false = ne_eqb (suc k) 0 (λ e. omega (arith, e)) in
+    let rest = entries_by starts (suc (suc k)) (after u (suc k) s.says) ss is in
+    ap (λ b. option_and_then address_of (if b then Some (entry_of starts (suc k) u s i) else find (λ x. (x.stated.file == 1) && (x.stated.ordinal == 0)) rest)) other
+    ∙ none_at_zero starts (suc k) (after u (suc k) s.says) ss is
+
+nth_is : (starts : List ℕ) (is : List Item) (n : ℕ) → nth_address starts is n ≡ option_and_then (shown_address starts) (slice_get is n)
+nth_is starts [] n = refl
+nth_is starts (i ∷ is) zero = refl
+nth_is starts (i ∷ is) (suc n) = nth_is starts is n
+
+row_shown : (starts : List ℕ) (k : ℕ) (i : Item) (b : Bool) → option_map (λ r. r.address) (if b then Some (row_of 1 starts k i) else None) ≡ (if b then Some (item_address starts i) else None)
+row_shown starts k i true = refl
+row_shown starts k i false = refl
 
 module _ (all : List Spoken) (m : Map) (starts : List ℕ) where
   abbrev p : Program
@@ -25,53 +46,46 @@ module _ (all : List Spoken) (m : Map) (starts : List ℕ) where
 
   -- ---- names and their addresses
 
-  set_none : (name : List ℕ) (b : Bool) → test name ≡ false → filter test (if b then name ∷ [] else []) ≡ []
-  set_none name true e = ap (λ b. if b then name ∷ [] else []) e
-  set_none name false e = refl
+  pub names_are : (k : ℕ) (u : Tables) (ss : List Spoken) (is : List Item) (before last : ℕ → ℕ) → AreItems k u before ss is last
+      → flat_map (λ e. laws.global_names_of (all ∷ []) (tables_in p e.stated.file) e.stated) (entries_by starts k u ss is) ≡ names_from test (tables all) k ss
+  names_are k u [] [] before last h = refl
+  names_are k u [] (i ∷ is) before last h = absurd h
+  names_are k u (s ∷ ss) [] before last h = absurd h
+  names_are k u (s ∷ ss) (i ∷ is) before last (item, items) =
+      ap (λ l. named_by test (tables all) k s.says ++ l) (names_are (suc k) (after u k s.says) ss is (grown before i) last items)
 
-  name_of_directive : (t : Tables) (k : ℕ) (d : Directive) → IsOwn test (Directs d) → filter test (laws.defined_name t k (Directs d)) ≡ []
-  name_of_directive t k (Sets name e) own = set_none name (laws.sets_first t.settings k name) own
-  name_of_directive t k _ own = refl
+  module _ (items : List Item) (last : ℕ → ℕ) (are : AreItems 1 at_start (λ j. 0) all items last) (entries : p.entries ≡ entries_by starts 1 at_start all items) where
+    place_is : (n : ℕ) → address_at p.entries 1 n ≡ place_address starts items n
+    place_is zero = ap (λ e. address_at e 1 0) entries ∙ none_at_zero starts 0 at_start all items
+    place_is (suc n) =
+        let next : suc n ≡ 1 + n = omega arith in
+        ap (λ e. address_at e 1 (suc n)) entries ∙ ap (λ k. address_at (entries_by starts 1 at_start all items) 1 k) next
+        ∙ addresses_are starts n 1 at_start (λ j. 0) last all items are ∙ nth_is starts items n
 
-  name_one : (t : Tables) (k : ℕ) (says : Statement) → IsOwn test says → filter test (laws.defined_name t k says) ≡ named_by test says
-  name_one t k (Label name) own = refl
-  name_one t k (Numbered number) own = refl
-  name_one t k (Instruction mnemonic operands) own = refl
-  name_one t k (Directs d) own = name_of_directive t k d own
+    set_is : (o : Option Setting) → laws.set_address p.entries 1 o ≡ set_address starts items o
+    set_is None = refl
+    set_is (Some s) = go s.meaning
+      where
+        go : (v : Meaning) → laws.set_address p.entries 1 (Some (record s { meaning = v })) ≡ set_address starts items (Some (record s { meaning = v }))
+        go (Known n) = refl
+        go (Placed section offset) = ap (λ o. option_map (λ a. add a s.plus) o) (place_is s.ordinal)
+        go Open = refl
+        go (Refused code) = refl
 
-  pub names_are : (k : ℕ) (t : Tables) (ss : List Spoken) (is : List Item) (before last : ℕ → ℕ) → AreItems k t before ss is last → AreOwn test ss
-      → flat_map (λ e. laws.global_names_of (all ∷ []) (tables_in p e.stated.file) e.stated) (entries_by starts k t ss is) ≡ names_from test ss
-  names_are k t [] [] before last h own = refl
-  names_are k t [] (i ∷ is) before last h own = absurd h
-  names_are k t (s ∷ ss) [] before last h own = absurd h
-  names_are k t (s ∷ ss) (i ∷ is) before last (item, items) (own, owns) =
-      ap (λ l. l ++ flat_map (λ e. laws.global_names_of (all ∷ []) (tables_in p e.stated.file) e.stated) (entries_by starts (suc k) (after t k s.says) ss is)) (name_one (tables all) k s.says own)
-      ∙ ap (λ l. named_by test s.says ++ l) (names_are (suc k) (after t k s.says) ss is (grown before i) last items owns)
+    address_is : (k : ℕ) (u : Tables) (line : ℕ) (says : Statement) (i : Item)
+        → laws.defined_address (tables all) p.entries (entry_of starts k u (record { line = line; says = says }) i) says ≡ defined_address (tables all) starts items i says
+    address_is k u line (Directs (Sets name e)) i = set_is (set_ever (tables all).settings name)
+    address_is k u line _ i = row_shown starts k i i.shown
 
-  -- one definition
-  label_one : (k : ℕ) (i : Item) (name : List ℕ) (stated : Stated) (g b : Bool)
-      → flat_map (λ n. laws.shown n (option_map (λ r. r.address) (if b then Some (row_of 1 starts k i) else None))) (if g then name ∷ [] else [])
-      ≡ (if g then (if b then laws.symbol name (item_address starts i) ∷ [] else []) else [])
-  label_one k i name stated true true = refl
-  label_one k i name stated true false = refl
-  label_one k i name stated false b = refl
-
-  pub defined_one : (k : ℕ) (t : Tables) (line : ℕ) (says : Statement) (i : Item) → IsOwn test says
-      → laws.defined_by (all ∷ []) p (entry_of starts k t (record { line = line; says = says }) i) ≡ defined_by test starts says i
-  defined_one k t line (Label name) i own = label_one k i name (stated_now 1 k t (record { line = line; says = Label name })) (test name) i.shown
-  defined_one k t line (Numbered number) i own = refl
-  defined_one k t line (Instruction mnemonic operands) i own = refl
-  defined_one k t line (Directs d) i own =
-      ap (λ l. flat_map (λ name. laws.shown name (laws.defined_address (tables all) p.entries (entry_of starts k t (record { line = line; says = Directs d }) i) (Directs d))) l) (name_of_directive (tables all) k d own)
-
-  pub definitions_are : (k : ℕ) (t : Tables) (ss : List Spoken) (is : List Item) (before last : ℕ → ℕ) → AreItems k t before ss is last → AreOwn test ss
-      → flat_map (laws.defined_by (all ∷ []) p) (entries_by starts k t ss is) ≡ definitions_from test starts ss is
-  definitions_are k t [] [] before last h own = refl
-  definitions_are k t [] (i ∷ is) before last h own = absurd h
-  definitions_are k t (s ∷ ss) [] before last h own = absurd h
-  definitions_are k t (s ∷ ss) (i ∷ is) before last (item, items) (own, owns) =
-      ap (λ l. l ++ flat_map (laws.defined_by (all ∷ []) p) (entries_by starts (suc k) (after t k s.says) ss is)) (defined_one k t s.line s.says i own)
-      ∙ ap (λ l. defined_by test starts s.says i ++ l) (definitions_are (suc k) (after t k s.says) ss is (grown before i) last items owns)
+    pub definitions_are : (k : ℕ) (u : Tables) (ss : List Spoken) (is : List Item) (before last : ℕ → ℕ) → AreItems k u before ss is last
+        → flat_map (laws.defined_by (all ∷ []) p) (entries_by starts k u ss is) ≡ definitions_from test (tables all) starts items k ss is
+    definitions_are k u [] [] before last h = refl
+    definitions_are k u [] (i ∷ is) before last h = absurd h
+    definitions_are k u (s ∷ ss) [] before last h = absurd h
+    definitions_are k u (s ∷ ss) (i ∷ is) before last (one, others) =
+        ap (λ a. flat_map (λ name. laws.shown name a) (named_by test (tables all) k s.says) ++ flat_map (laws.defined_by (all ∷ []) p) (entries_by starts (suc k) (after u k s.says) ss is))
+        (address_is k u s.line s.says i)
+        ∙ ap (λ l. defined_by test (tables all) starts items k s.says i ++ l) (definitions_are (suc k) (after u k s.says) ss is (grown before i) last others)
 
   -- ---- the entry
 

@@ -15,7 +15,7 @@ use Rattle.rv_link.specs.Layout.{IsLayout}
 use Rattle.rv_link.specs.Contents.{contents_of}
 use Rattle.std.specs.Prelude.{◌++◌, true, Some, not, filter, codes}
 use Rattle.rv_chain_laws.specs.Resolves.{is_one_of, is_global_after, linker_symbols}
-use Rattle.rv_link.specs.Definitions.{names_from, definitions_from, entry_from, AreOwn}
+use Rattle.rv_link.specs.Definitions.{names_from, definitions_from, entry_from}
 use Rattle.std.specs.Prelude.{flat_map, ◌==◌, ◌+◌}
 use Rattle.std.specs.List.{AllByRecursion}
 use Rattle.rv_chain_laws.specs.Stated.{stated}
@@ -101,14 +101,15 @@ PlacedLinks =
       rvc = rvc;
     })
 
--- the global labels and the linker's names, with the entry, are what the names of the source resolve to
+-- the global names and the linker's, with the entry, are what the names of the source resolve to
 abbrev pub PlacedNames : Type 0
 PlacedNames =
     (ss : List Spoken) (is : List Item) (last : ℕ → ℕ) (l : Layout) (entry : ℕ) (globals : List Global)
     → let m = map_of l entry globals (rows_from 1 l.starts.items 1 is) in
     let is_global = λ (name : List ℕ). is_global_after false ss name in
-    first_fault ss ≡ None → AreItems 1 at_start (λ j. 0) ss is last → AreOwn is_global ss
-    → globals ≡ definitions_from is_global l.starts.items ss is ++ filter (λ g. not (is_one_of (names_from is_global ss) g.name)) (linker_symbols m)
+    first_fault ss ≡ None → AreItems 1 at_start (λ j. 0) ss is last
+    → globals ≡ definitions_from is_global (tables ss) l.starts.items is 1 ss is
+    ++ filter (λ g. not (is_one_of (names_from is_global (tables ss) 1 ss) g.name)) (linker_symbols m)
     → is_global (codes "_start") ≡ true → entry_from l.starts.items ss is ≡ Some entry → entry % 2 ≡ 0
     → Resolves (ss ∷ []) m
 

@@ -23,7 +23,7 @@ pub fn placed_links()
     ensures { PlacedLinks }
 {}
 
-/// The global labels, the linker's names and the entry resolve the names of the source.
+/// The global names, the linker's names and the entry resolve the names of the source.
 pub fn placed_names()
     ensures { PlacedNames }
 {}

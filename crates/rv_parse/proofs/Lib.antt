@@ -3,6 +3,7 @@ pub mod Items
 pub mod Lists
 pub mod Jumps
 pub mod Openings
+pub mod Opened
 pub mod Tables
 pub mod Statements
 pub mod Refusals

@@ -10,6 +10,7 @@ use Rattle.rv_text.specs.declared.fault.SourceCode.TheVariants.{Limit}
 use Rattle.rv_text.specs.Fault.{number_of}
 use Rattle.rv_statement.specs.Statement.{Spoken}
 use Rattle.rv_text_laws.specs.Wrong.{limit}
+use Rattle.rv_parse_laws.specs.Opening.{is_opened}
 use Rattle.rv_parse_laws.specs.Parsing as parsing
 use Rattle.rv_text_laws.specs.Wrong as wrongs
 use Rattle.rv_parse_laws.specs.Reading.{SaysUpTo, said, past_line, longest_source, most_statements, Refuses}
@@ -26,7 +27,7 @@ code_within _ = omega arith
 
 -- the wrong token with which the statements end is the first fault of the tokens
 pub first_in_tokens : (bytes : List ℕ) (ts : List lexing.Token) (w : Wrong) → ts ≡ tokens_from 0 1 bytes → RefusesTokens ts (refusals.At w) → FirstInTokens bytes (wrong_of w)
-first_in_tokens bytes ts w is (t, us, ss, (ps, cut, said_is), no_end, stops) = go stops
+first_in_tokens bytes ts w is (t, us, ss, (ps, cut, opens, said_is), no_end, stops) = go stops
   where
     lexes : lexing.Lexes bytes ts
     lexes = subst (lexing.Lexes bytes) (sym is) (given bytes)
@@ -38,11 +39,12 @@ first_in_tokens bytes ts w is (t, us, ss, (ps, cut, said_is), no_end, stops) = g
     few (inl fewer) = inl (subst (λ n. n < most_statements) counts fewer)
     few (inr (most, here)) = inr (sym counts ∙ most, here)
 
-    go : ((parsing.part_at (t ∷ us) ≡ Err (wrong_of w)) × ((length ss < most_statements) ⊎ ((length ss ≡ most_statements) × (w.place ≡ t.start))))
+    go : ((parsing.checked_at (is_opened ss) (t ∷ us) ≡ Err (wrong_of w)) × ((length ss < most_statements) ⊎ ((length ss ≡ most_statements) × (w.place ≡ t.start))))
         ⊎ ((length ss ≡ most_statements) × (wrong_of w ≡ record { place = t.start; line = t.line; code = limit })
-        × ((v : wrongs.Wrong) → parsing.part_at (t ∷ us) ≡ Err v → v.place ≡ t.start → ⊥)) → FirstInTokens bytes (wrong_of w)
-    go (inl (wrong, fewer)) = wrong_first bytes ts ps t us (wrong_of w) lexes cut wrong (code_within w.code) (few fewer)
-    go (inr (most, same, not)) = subst (FirstInTokens bytes) (sym same) (past_first bytes ts ps t us lexes cut no_end (sym counts ∙ most) not)
+        × ((v : wrongs.Wrong) → parsing.checked_at (is_opened ss) (t ∷ us) ≡ Err v → v.place ≡ t.start → ⊥)) → FirstInTokens bytes (wrong_of w)
+    go (inl (wrong, fewer)) = wrong_first bytes ts ps t us (wrong_of w) lexes cut opens (ap (λ xs. parsing.checked_at (is_opened xs) (t ∷ us)) (sym said_is) ∙ wrong) (code_within w.code) (few fewer)
+    go (inr (most, same, not)) = subst (FirstInTokens bytes) (sym same) (past_first bytes ts ps t us lexes cut opens no_end (sym counts ∙ most)
+        (λ v e. not v (ap (λ xs. parsing.checked_at (is_opened xs) (t ∷ us)) said_is ∙ e)))
 
 -- a line that is too long before the tokens' first fault
 pub line_first : (bytes : List ℕ) (ts : List lexing.Token) (w : Wrong) (place line : ℕ) → length bytes ≤ longest_source → ts ≡ tokens_from 0 1 bytes → RefusesTokens ts (refusals.At w)
@@ -53,9 +55,9 @@ line_first bytes ts w place line short is refuses past before line_is =
 -- a line that is too long behind good statements
 pub line_alone : (bytes : List ℕ) (ts : List lexing.Token) (ss : List Spoken) (place line : ℕ) → length bytes ≤ longest_source → ts ≡ tokens_from 0 1 bytes → SaysUpTo ts [] ss
     → length ss ≤ most_statements → past_line 0 0 bytes ≡ Some place → line ≡ 1 + lexing.newlines (take place bytes) → Refuses bytes (record { code = limit; line = line })
-line_alone bytes ts ss place line short is (ps, cut, said_is) few past line_is =
+line_alone bytes ts ss place line short is (ps, cut, opens, said_is) few past line_is =
     line_refused bytes place line short past
-    (λ p c fault. absurd (all_good bytes ts ps (subst (lexing.Lexes bytes) (sym is) (given bytes)) cut (subst (λ (xs : List Spoken). length xs ≤ most_statements) said_is few) p c fault)) line_is
+    (λ p c fault. absurd (all_good bytes ts ps (subst (lexing.Lexes bytes) (sym is) (given bytes)) cut opens (subst (λ (xs : List Spoken). length xs ≤ most_statements) said_is few) p c fault)) line_is
 
 -- the tokens' first fault before a line that is too long, or where there is none
 pub token_before : (bytes : List ℕ) (ts : List lexing.Token) (w : Wrong) (place : ℕ) → length bytes ≤ longest_source → ts ≡ tokens_from 0 1 bytes → RefusesTokens ts (refusals.At w)

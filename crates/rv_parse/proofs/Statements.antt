@@ -5,7 +5,8 @@ use Rattle.rv_text_laws.specs.Lexing as lexing
 use Rattle.rv_text.specs.Token.{token_of, kind_of}
 use Rattle.rv_statement.specs.Statement.{Spoken}
 use Rattle.rv_parse_laws.specs.Syntax.{Says, is_end, is_source_end}
-use Rattle.rv_parse_laws.specs.Parsing.{part_at}
+use Rattle.rv_parse_laws.specs.Opening.{is_opened}
+use Rattle.rv_parse_laws.specs.Parsing.{checked_at}
 use Rattle.rv_parse_laws.specs.Reading.{SaysUpTo}
 use Rattle.rv_parse_laws.proofs.Progress.{push_end, push_statement, source_end_is_end}
 use Rattle.rv_statement.specs.declared.statement.Statement.{Statement}
@@ -21,7 +22,7 @@ said_push [] s = refl
 said_push (x ∷ xs) s = ap (λ ss. said_by x ∷ ss) (said_push xs s)
 
 pub statements_push : (ts : List lexing.Token) (t : lexing.Token) (before us rest : List lexing.Token) (s : Statement) (items new : List Statement)
-    → SaysUpTo ts before (map said_by items) → before ≡ t ∷ us → part_at before ≡ Ok (Says (statement_of s.kind), rest) → s.line ≡ t.line → new ≡ items ++ s ∷ []
+    → SaysUpTo ts before (map said_by items) → before ≡ t ∷ us → checked_at (is_opened (map said_by items)) before ≡ Ok (Says (statement_of s.kind), rest) → s.line ≡ t.line → new ≡ items ++ s ∷ []
     → SaysUpTo ts rest (map said_by new)
 statements_push ts t before us rest s items new so is read line pushed =
     let lines : said_by s ≡ record { line = t.line; says = statement_of s.kind } = ap (λ (n : ℕ). record { line = n; says = statement_of s.kind }) line in
@@ -54,7 +55,7 @@ statements_end ts c ss so end =
 
 -- no further statement is answered at the cursor's next token
 pub refuses_here : (ts : List lexing.Token) (c : Cursor) (ss : List Spoken) (n : ℕ) (e : Refusal) → SaysUpTo ts (left c) ss → is_end (kind_of c.next.kind) ≡ false → length ss ≡ n
-    → StopsAt e n (token_of c.next) (left c) → RefusesTokens ts e
+    → StopsAt e (is_opened ss) n (token_of c.next) (left c) → RefusesTokens ts e
 unfolding left
-refuses_here ts c ss n (refusals.At w) so no_end count stops = (token_of c.next, behind c, ss, so, no_end, subst (λ m. StopsAt (refusals.At w) m (token_of c.next) (left c)) (sym count) stops)
+refuses_here ts c ss n (refusals.At w) so no_end count stops = (token_of c.next, behind c, ss, so, no_end, subst (λ m. StopsAt (refusals.At w) (is_opened ss) m (token_of c.next) (left c)) (sym count) stops)
 refuses_here ts c ss n refusals.OutOfMemory so no_end count stops = tt

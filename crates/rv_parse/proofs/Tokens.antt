@@ -6,7 +6,7 @@ use Rattle.rv_text_laws.specs.Lexing.{is_last}
 use Rattle.rv_statement.specs.declared.mnemonic.AccessSet.{AccessSet}
 use Rattle.rv_statement.specs.declared.directive.Choice.{Choice}
 use Rattle.rv_statement.specs.Statement.{Operand}
-use Rattle.rv_parse_laws.specs.Syntax.{register_of, symbol_of, accesses_of, is_comma, is_colon, is_opening, is_closing, is_at, is_zero, is_any, A_string, Some_flags, A_type, single}
+use Rattle.rv_parse_laws.specs.Syntax.{register_of, symbol_of, accesses_of, is_comma, is_colon, is_opening, is_closing, is_at, is_zero, is_any, A_string, A_type, single}
 use Rattle.rv_parse_laws.specs.Parsing.{width}
 use Rattle.rv_parse.specs.View.{choice_of}
 
@@ -54,10 +54,6 @@ choice_no_last _ choice h = absurd (cc)
 pub string_no_last : (k : Kind) (os : List Operand) → single A_string k ≡ Some os → is_last k ≡ false
 string_no_last (Text bytes) os h = refl
 string_no_last _ os h = absurd (cc)
-
-pub flags_no_last : (k : Kind) (os : List Operand) → single Some_flags k ≡ Some os → is_last k ≡ false
-flags_no_last (Text bytes) os h = refl
-flags_no_last _ os h = absurd (cc)
 
 pub type_no_last : (k : Kind) (os : List Operand) → single A_type k ≡ Some os → is_last k ≡ false
 type_no_last (NameToken name) os h = refl

@@ -208,7 +208,7 @@ fn section_flags<'a>(
 ) -> Result<StatementKind<'a>, Refusal>
     ensures { Answers (λ k. (statement_of k, left cursor.new)) result (seen_as (λ os. Directs (directed Section (word_of name.entry ∷ os))) (operands_at flags_slots (left cursor.old))) }
 {
-    let flags = place::flags(alloc, cursor)?;
+    let flags = place::flags(cursor)?;
     if place::begins_comma(cursor) {
         place::comma(cursor, Slot::Flags)?;
         place::at_sign(cursor)?;

@@ -3,8 +3,7 @@
 ghost use Rattle.std.specs.Prelude.{◌≡◌};
 ghost use Rattle.rv_text.specs.Fault.{number_of};
 ghost use Rattle.rv_text.specs.Token.{kind_of};
-ghost use Rattle.rv_text_laws.specs.Grammar.{Text};
-ghost use Rattle.rv_parse_laws.specs.Faults.{may_call, wrong_or, wrong_name, wrong_register, wrong_after_value, wrong_after, wrong_symbol, wrong_flags, wrong_type, wrong_option, wrong_any, wrong_word, wrong_start, wrong_label, bad_operands};
+ghost use Rattle.rv_parse_laws.specs.Faults.{may_call, wrong_or, wrong_name, wrong_register, wrong_after_value, wrong_after, wrong_symbol, wrong_letters, wrong_option, wrong_any, wrong_word, wrong_start, wrong_label, bad_operands};
 ghost use Rattle.rv_parse.specs.View.{role_of, slot_of};
 
 use crate::kinds::{is_comma, is_end};
@@ -136,22 +135,12 @@ pub fn at_symbol(kind: TokenKind<'_>) -> SourceCode
 
 /// Letters that are no flags of a section; an unknown one counts before those that are left out.
 pub fn at_flags(letters: &[u8]) -> SourceCode
-    ensures { number_of result ≡ wrong_flags (Text letters.now) }
+    ensures { number_of result ≡ wrong_letters letters.now }
 {
     if are_known_flags(letters) {
         SourceCode::UnsupportedHere
     } else {
         SourceCode::BadOperands
-    }
-}
-
-/// Where a section's type is wanted.
-pub fn at_type(kind: TokenKind<'_>) -> SourceCode
-    ensures { number_of result ≡ wrong_type (kind_of kind.entry) }
-{
-    match kind {
-        TokenKind::Name(_) => SourceCode::UnsupportedHere,
-        _ => or_place(kind, SourceCode::BadOperands),
     }
 }
 

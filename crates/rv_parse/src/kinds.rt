@@ -7,14 +7,13 @@ ghost use Rattle.rv_text_laws.specs.Lexing.{is_last};
 ghost use Rattle.rv_text.specs.Token.{kind_of};
 ghost use Rattle.rv_statement.specs.View.{now_of, statement_of};
 ghost use Rattle.rv_parse_laws.specs.Syntax.{is_symbol, is_section_name, register_of, symbol_of, label_of, begins, is_comma, is_colon, is_percent, is_at, is_end, is_source_end, is_opening, is_closing, is_zero, is_any, is_wrong, accesses_of, single, A_string, A_type};
+ghost use Rattle.rv_parse_laws.specs.Opening.{is_section};
 ghost use Rattle.rv_parse_laws.specs.Parsing.{width};
 ghost use Rattle.rv_parse.specs.View.{beginning_of, choice_of, word_of, string_of};
 
-use crate::words::{
-    Beginning, accesses_named, beginning_with, choice_named, is_section_type, register_named,
-};
+use crate::words::{Beginning, accesses_named, beginning_with, choice_named, register_named};
 use rv_isa::Reg;
-use rv_statement::{AccessSet, Choice, StatementKind};
+use rv_statement::{AccessSet, Choice, DirectiveWord, StatementKind};
 use rv_text::{LONGEST_NAME, Sign, TokenKind};
 
 /// A name that a symbol may have.
@@ -84,12 +83,12 @@ pub fn choice_of(kind: TokenKind<'_>) -> Option<Choice>
     }
 }
 
-/// The type of a section that the token names.
+/// The word that the token is, as the type of a section.
 pub fn type_of(kind: TokenKind<'_>) -> Option<&[u8]>
     ensures { option_map (λ name. word_of name ∷ []) result ≡ single A_type (kind_of kind.entry) }
 {
     match kind {
-        TokenKind::Name(name) if is_section_type(name) => Some(name),
+        TokenKind::Name(name) => Some(name),
         _ => None,
     }
 }
@@ -170,6 +169,13 @@ pub fn begins(kind: TokenKind<'_>) -> Beginning
         TokenKind::Name(name) => beginning_with(name),
         _ => Beginning::Nothing,
     }
+}
+
+/// A statement that begins with the token opens a section.
+pub fn opens_section(kind: TokenKind<'_>) -> bool
+    ensures { result ≡ is_section (begins (kind_of kind.entry)) }
+{
+    matches!(begins(kind), Beginning::Directive(DirectiveWord::Section))
 }
 
 /// A comma.

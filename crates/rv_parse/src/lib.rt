@@ -7,6 +7,7 @@ mod directive;
 mod fault;
 mod instruction;
 mod kinds;
+mod opening;
 mod place;
 mod source;
 mod statement;

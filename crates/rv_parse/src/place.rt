@@ -11,12 +11,10 @@ ghost use Rattle.rv_parse.specs.Left.{Gives};
 
 use crate::fault::{self, Role, Slot};
 use crate::kinds;
-use crate::words::{self, register_named};
+use crate::words::register_named;
 use rv_isa::Reg;
 use rv_statement::AccessSet;
-use rv_text::{
-    Cursor, Expr, LONGEST_NAME, Refusal, Registers, SourceCode, TokenKind, Wrong, append_string,
-};
+use rv_text::{Cursor, Expr, LONGEST_NAME, Refusal, Registers, SourceCode, Wrong};
 use std::alloc::Global;
 
 /// A register.
@@ -192,7 +190,7 @@ pub fn section_type<'a>(cursor: &mut Cursor<'a>) -> Result<&'a [u8], Wrong>
             cursor.advance();
             Ok(name)
         }
-        None => Err(cursor.wrong(fault::at_type(cursor.next.kind))),
+        None => Err(cursor.wrong(fault::at_other(cursor.next.kind))),
     }
 }
 
@@ -294,19 +292,15 @@ pub fn section_name<'a>(cursor: &mut Cursor<'a>) -> Result<&'a [u8], Wrong>
 }
 
 /// The flags of a section.
-#[tactic(auto, using(crate::proofs::Tokens::flags_no_last), unfolding(rv_text::specs::Cursor::left))]
-pub fn flags<'a>(alloc: Global, cursor: &mut Cursor<'a>) -> Result<&'a [u8], Refusal>
-    ensures { Answers (λ text. (string_of text ∷ [], left cursor.new)) result (operand_at Some_flags (left cursor.old)) }
+#[tactic(auto, using(crate::proofs::Tokens::string_no_last), unfolding(rv_text::specs::Cursor::left))]
+pub fn flags<'a>(cursor: &mut Cursor<'a>) -> Result<&'a [u8], Wrong>
+    ensures { Gives (λ text. (string_of text ∷ [], left cursor.new)) result (operand_at Some_flags (left cursor.old)) }
 {
-    let TokenKind::Text(text) = cursor.next.kind else {
-        return Err(Refusal::At(cursor.wrong(fault::at_other(cursor.next.kind))));
-    };
-    let mut letters = Vec::new(alloc);
-    append_string(text, &mut letters)?;
-    if words::are_flags(letters.as_slice()) {
-        cursor.advance();
-        Ok(text)
-    } else {
-        Err(Refusal::At(cursor.wrong(fault::at_flags(letters.as_slice()))))
+    match kinds::string_of(cursor.next.kind) {
+        Some(text) => {
+            cursor.advance();
+            Ok(text)
+        }
+        None => Err(cursor.wrong(fault::at_other(cursor.next.kind))),
     }
 }

@@ -1,21 +1,25 @@
 //! The statements of a source.
 
-ghost use Rattle.std.specs.Prelude.{◌≡◌, ◌<◌, ◌≤◌, [], IfOk, IfErr, IfSome, MatchResult, map, length, false, take, ◌+◌};
+ghost use Rattle.std.specs.Prelude.{◌≡◌, ◌<◌, ◌≤◌, List, [], IfOk, IfErr, IfSome, MatchResult, map, length, false, take, ◌+◌};
 ghost use Rattle.rv_text.specs.Token.{token_of, kind_of};
 ghost use Rattle.rv_text_laws.specs.Lexing.{newlines};
 ghost use Rattle.rv_parse_laws.specs.Syntax.{is_end, Says};
 ghost use Rattle.rv_text_laws.specs.Wrong.{limit};
-ghost use Rattle.rv_parse_laws.specs.Parsing.{part_at};
+ghost use Rattle.rv_statement.specs.Statement.{Spoken};
+ghost use Rattle.rv_parse_laws.specs.Opening.{is_opened};
+ghost use Rattle.rv_parse_laws.specs.Parsing.{checked_at};
+ghost use Rattle.rv_parse.specs.Opened.{Knows};
 ghost use Rattle.rv_parse_laws.specs.Reading.{Reads, past_line, most_statements, SaysUpTo};
 ghost use Rattle.rv_text.specs.Left.{tokens_left};
 ghost use Rattle.rv_statement.specs.View.{statement_of, said_by};
-ghost use Rattle.rv_text.specs.Cursor.{left, wrong_of};
+ghost use Rattle.rv_text.specs.Cursor.{left, wrong_of, Answers};
 ghost use Rattle.rv_parse.specs.Left.{StopsAt, RefusesTokens, RefusedWith};
 
 use crate::kinds;
+use crate::opening::{Opened, wrong_opening};
 use crate::statement::statement;
 use memchr::memrchr;
-use rv_statement::Statement;
+use rv_statement::{Statement, StatementKind};
 use rv_text::{Cursor, Lexer, Refusal, SourceCode, SourceFault, Token, Wrong};
 use std::alloc::Global;
 
@@ -55,21 +59,37 @@ fn past_statements(first: Token<'_>) -> Wrong
     }
 }
 
+/// The statement at the front of the tokens, where these names are opened; the next token ends none.
+fn checked<'a>(
+    alloc: Global,
+    cursor: &mut Cursor<'a>,
+    opened: &Opened<'a>,
+) -> Result<StatementKind<'a>, Refusal>
+    requires { is_end (kind_of cursor.old.next.kind) ≡ false }
+    ensures { (ss : List Spoken) → Knows (opened.now).set ss → Answers (λ k. (Says (statement_of k), left cursor.new)) result (checked_at (is_opened ss) (left cursor.old)) }
+{
+    if let Some(wrong) = wrong_opening(alloc, *cursor, opened)? {
+        return Err(Refusal::At(wrong));
+    }
+    statement(alloc, cursor)
+}
+
 /// The statement at the front of the tokens, behind so many others; the next token ends none.
 fn next_statement<'a>(
     alloc: Global,
     cursor: &mut Cursor<'a>,
     count: usize,
+    opened: &Opened<'a>,
 ) -> Result<Statement<'a>, Refusal>
     requires { is_end (kind_of cursor.old.next.kind) ≡ false }
-    ensures read { IfOk result (λ s. part_at (left cursor.old) ≡ Ok (Says (statement_of s.kind), left cursor.new)) }
+    ensures read { (ss : List Spoken) → Knows (opened.now).set ss → IfOk result (λ s. checked_at (is_opened ss) (left cursor.old) ≡ Ok (Says (statement_of s.kind), left cursor.new)) }
     ensures line { IfOk result (λ s. s.line ≡ cursor.old.next.line) }
     ensures room { IfOk result (λ s. count < most_statements) }
-    ensures stops { count ≤ most_statements → IfErr result (λ e. StopsAt e count (token_of cursor.old.next) (left cursor.old)) }
+    ensures stops { (ss : List Spoken) → Knows (opened.now).set ss → count ≤ most_statements → IfErr result (λ e. StopsAt e (is_opened ss) count (token_of cursor.old.next) (left cursor.old)) }
 {
     let first = cursor.next;
     let past = past_statements(first);
-    match statement(alloc, cursor) {
+    match checked(alloc, cursor, opened) {
         Ok(kind) => {
             if count < MOST_STATEMENTS {
                 Ok(Statement {
@@ -100,12 +120,15 @@ fn statements<'a>(alloc: Global, lexer: Lexer<'a>) -> Result<Vec<Statement<'a>>,
 {
     let mut cursor = Cursor::new(lexer);
     let mut statements = Vec::new(alloc);
+    let mut opened = Opened::new(alloc);
     let mut count = 0;
     while !kinds::is_source_end(cursor.next.kind) {
         if kinds::is_end(cursor.next.kind) {
             cursor.advance();
         } else {
-            statements.push(next_statement(alloc, &mut cursor, count)?)?;
+            let statement = next_statement(alloc, &mut cursor, count, &opened)?;
+            opened.add(&statement.kind)?;
+            statements.push(statement)?;
             count += 1;
         }
     }

@@ -16,7 +16,7 @@ fn refusal(alloc: Global, source: &[u8]) -> (u8, u32) {
 #[test]
 fn each_form(rt: HostRuntime) {
     let alloc = rt.alloc();
-    let sources: [&[u8]; 20] = [
+    let sources: [&[u8]; 21] = [
         b"add a0, a1, a2; sraw t0, t1, 3; add a0, a1, -(x - 4)",
         b"amoadd.w.aqrl a0, a1, (a2); lr.d t0, 0x0(t1); sc.w a0, a1, '\\0'(a2)",
         b"lw a0, 8(sp); sd a1, (a0); lui a0, 1; lw a0, (8)(sp); sw a0, x + 4 * 2(sp)",
@@ -27,6 +27,7 @@ fn each_form(rt: HostRuntime) {
         b".text; .data; .rodata; .bss",
         b".section .note.GNU-stack; .section a0; .section .a-1b-08,\"\"",
         b".section .x,\"awx\"; .section .x, \"MS\\141\", @nobits; .section .x,\"a\",@note, 4 * 2",
+        b".section .text,\"G\"; .data; .section .data,\"q\",@x; .section x; .section x,\"\",@y",
         b"_start: .globl _start, b; .global c; .local d, e",
         b".set x, 1 + 2; .equ y, .",
         b".align 4; .p2align 1 + 1; .balign 8",
@@ -86,7 +87,7 @@ fn operands_that_are_wrong(rt: HostRuntime) {
 #[test]
 fn directives_that_are_wrong(rt: HostRuntime) {
     let alloc = rt.alloc();
-    let cases: [(&[u8], u8); 35] = [
+    let cases: [(&[u8], u8); 39] = [
         (b".text 1", 7),
         (b".section", 7),
         (b".section \"x\"", 9),
@@ -96,6 +97,10 @@ fn directives_that_are_wrong(rt: HostRuntime) {
         (b".section .x,\"aq\"", 7),
         (b".section .x,\"aGq\"", 7),
         (b".section .x,\"a\",@frob", 9),
+        (b".section .x,\"aG\" 4x", 9),
+        (b".section .data,\"q\"; .data", 7),
+        (b".data; .section .data,q", 7),
+        (b".section .text,\"q\",%progbits", 7),
         (b".section .x,\"a\",%progbits", 7),
         (b".section .x,\"a\",@note 4", 7),
         (b".globl a0", 7),
@@ -170,7 +175,7 @@ fn filled(
 
 #[test]
 fn lines_and_names(rt: HostRuntime) -> Result<(), Fail> {
-    let cases: [(&[u8], u8, usize, &[u8], u8, u32); 18] = [
+    let cases: [(&[u8], u8, usize, &[u8], u8, u32); 21] = [
         (b"", b' ', 65_535, b"\nfoo", 6, 2),
         (b"", b' ', 65_536, b"\nfoo", 17, 1),
         (b"foo", b' ', 65_540, b"", 6, 1),
@@ -188,6 +193,9 @@ fn lines_and_names(rt: HostRuntime) -> Result<(), Fail> {
         (b"li ", b'a', 4_096, b", 5", 7, 1),
         (b".section -", b'a', 1, b"", 7, 1),
         (b".section .a-", b'a', 4_093, b"", 17, 1),
+        (b".section .text,\"\",@", b'a', 4_095, b"", 0, 0),
+        (b".section .text,\"\",@", b'a', 4_096, b" 1x", 17, 1),
+        (b".section x,\"\",@", b'a', 4_096, b"", 9, 1),
         (b".ident ", b'a', 4_096, b"", 17, 1),
     ];
     for (front, byte, count, back, code, line) in cases {

@@ -8,11 +8,13 @@ use Rattle.rv_text_laws.proofs.Cut.{unique, nothing_none}
 use Rattle.rv_text_laws.proofs.Tokens.{one_list}
 use Rattle.rv_statement.specs.Statement.{Spoken}
 use Rattle.rv_parse_laws.specs.Syntax.{Part, IsPart, StopsPart, is_end}
-use Rattle.rv_parse_laws.specs.Parsing.{part_at}
-use Rattle.rv_text_laws.specs.Wrong.{limit, Wrong, place_of}
-use Rattle.rv_parse_laws.specs.Reading.{AreParts, Reads, said, past_line, longest_source, most_statements, CanGoOn, code_of, code_at, WrongToken, PastStatements, Stands, Fault, Refuses}
+use Rattle.rv_parse_laws.specs.Opening.{is_opened, IsWrongOpening}
+use Rattle.rv_parse_laws.specs.Parsing.{part_at, opening_at, checked_at}
+use Rattle.rv_text_laws.specs.Wrong.{limit, Wrong, wrong, place_of}
+use Rattle.rv_parse_laws.specs.Reading.{AreParts, Reads, said, past_line, longest_source, most_statements, CanGoOn, code_of, code_at, OpensWell, AllOpenWell, WrongToken, WrongOpening, PastStatements, Stands, Fault, Refuses}
 use Rattle.rv_parse_laws.proofs.Failing.{heads, tails}
 use Rattle.rv_parse_laws.proofs.Parts.{part_wrong, stops_there}
+use Rattle.rv_parse_laws.proofs.Openings.{OpeningThere, opening_found, front_opens, checked_err, checked_wrong, opening_goes, opening_behind, said_none, opens_on}
 use Rattle.rv_parse_laws.proofs.Whole.{find_part, finds_parts}
 use Rattle.rv_parse_laws.proofs.Cutting.{GoesOn, comparable, no_part, wrong_there, no_further, same_or_more, nothing_more_said, none_at_end}
 use Rattle.rv_parse_laws.proofs.Places.{LineIs, Standing, stand, standing_at, standing_behind, place_at_least, place_of_none, ended_rest}
@@ -27,15 +29,20 @@ standing_from bytes ts before t us lexes whole =
     let h = standing_behind bytes 0 before (t ∷ us) (subst (Standing bytes 0) whole (stand bytes ts lexes)) in
     (omega arith, h.1, h.2)
 
+-- a token is wrong there, or an opening
+abbrev pub IsFaulty : List ℕ → ℕ → ℕ → Type 0
+IsFaulty bytes place code = WrongToken bytes place code ⊎ WrongOpening bytes place code
+
 -- what is known where the part at the front of the rest is wrong
 pub record WrongPart (bytes : List ℕ) (t : Token) (w : Wrong) : Type 0 where
-  pub stands : WrongToken bytes w.place w.code
+  pub stands : IsFaulty bytes w.place w.code
   pub line : w.line ≡ 1 + newlines (take w.place bytes)
   pub behind : t.start ≤ w.place
 
-pub wrong_part : (bytes : List ℕ) (ts : List Token) (parts : List (Piece Part Token)) (t : Token) (us : List Token) (w : Wrong) → Lexes bytes ts → AreParts ts parts (t ∷ us)
-    → part_at (t ∷ us) ≡ Err w → WrongPart bytes t w
-wrong_part bytes ts parts t us w lexes cut e =
+-- a token with which nothing goes on
+wrong_read : (bytes : List ℕ) (ts : List Token) (parts : List (Piece Part Token)) (t : Token) (us : List Token) (w : Wrong) → Lexes bytes ts → AreParts ts parts (t ∷ us)
+    → AllOpenWell [] parts (t ∷ us) → part_at (t ∷ us) ≡ Err w → OpensWell (said parts) (t ∷ us) → WrongPart bytes t w
+wrong_read bytes ts parts t us w lexes cut opens e well =
     let s = part_wrong (t ∷ us) w (ended_rest bytes ts (texts parts) t us lexes cut.whole) e in
     let code : w.code ≡ code_at s.before s.at s.more = sym (ap code_of (ap part_at (sym s.whole) ∙ e)) in
     let place : w.place ≡ place_of s.at w.code = ap (λ (x : Wrong). x.place) s.is_wrong ∙ ap (place_of s.at) (sym (ap (λ (x : Wrong). x.code) s.is_wrong)) in
@@ -44,12 +51,13 @@ wrong_part bytes ts parts t us w lexes cut e =
     let from = (standing_at bytes t.start s.before s.at s.more (subst (Standing bytes t.start) s.whole (standing_from bytes ts (texts parts) t us lexes cut.whole))).0 in
     let least : s.at.start ≤ place_of s.at w.code = place_at_least s.at w.code in
     record {
-      stands = record {
+      stands = inl (record {
         tokens = ts;
         lexes = lexes;
         parts = parts;
         rest = t ∷ us;
         cut = cut;
+        opens = opens;
         nothing = no_part (t ∷ us) w e;
         before = s.before;
         at = s.at;
@@ -57,12 +65,47 @@ wrong_part bytes ts parts t us w lexes cut e =
         whole = s.whole;
         goes = (s.goes.1, s.goes.0, s.goes.2.0, s.goes.2.1);
         stops = λ h. stops_there (t ∷ us) w s h.0 h.1 (h.2, subst (IsPart h.0) (append_assoc s.before (s.at ∷ []) h.1) h.3);
+        opens_well = front_opens (said parts) (s.before ++ s.at ∷ []) (t ∷ us) s.more (s.whole ∙ sym (append_assoc s.before (s.at ∷ []) s.more)) well;
         code_is = code;
         place_is = place;
-      };
+      });
       line = ap (λ (x : Wrong). x.line) s.is_wrong ∙ line ∙ ap (λ n. 1 + newlines (take n bytes)) (sym place);
       behind = omega (arith, from, least, place);
     }
+
+-- an opening that is wrong
+wrong_opened : (bytes : List ℕ) (ts : List Token) (parts : List (Piece Part Token)) (t : Token) (us : List Token) (w : Wrong) → Lexes bytes ts → AreParts ts parts (t ∷ us)
+    → AllOpenWell [] parts (t ∷ us) → OpeningThere (is_opened (said parts)) (t ∷ us) w → WrongPart bytes t w
+wrong_opened bytes ts parts t us w lexes cut opens x =
+    let whole : ts ≡ (texts parts ++ x.before) ++ x.at ∷ x.more = cut.whole ∙ ap (λ xs. texts parts ++ xs) x.whole ∙ sym (append_assoc (texts parts) x.before (x.at ∷ x.more)) in
+    let line : x.at.line ≡ 1 + newlines (take (place_of x.at x.code) bytes) = token_line bytes ts (texts parts ++ x.before) x.at x.more lexes whole x.code in
+    let from = (standing_at bytes t.start x.before x.at x.more (subst (Standing bytes t.start) x.whole (standing_from bytes ts (texts parts) t us lexes cut.whole))).0 in
+    let least : x.at.start ≤ place_of x.at x.code = place_at_least x.at x.code in
+    let place : w.place ≡ place_of x.at x.code = ap (λ (v : Wrong). v.place) x.is_wrong in
+    let code : w.code ≡ x.code = ap (λ (v : Wrong). v.code) x.is_wrong in
+    record {
+      stands = inr (record {
+        tokens = ts;
+        lexes = lexes;
+        parts = parts;
+        before = x.before;
+        at = x.at;
+        more = x.more;
+        cut = subst (AreParts ts parts) x.whole cut;
+        opens = subst (AllOpenWell [] parts) x.whole opens;
+        wrong = subst (IsWrongOpening (said parts) x.before x.at) (sym code) x.is;
+        place_is = place ∙ ap (place_of x.at) (sym code);
+      });
+      line = ap (λ (v : Wrong). v.line) x.is_wrong ∙ line ∙ ap (λ n. 1 + newlines (take n bytes)) (sym place);
+      behind = omega (arith, from, least, place);
+    }
+
+pub wrong_part : (bytes : List ℕ) (ts : List Token) (parts : List (Piece Part Token)) (t : Token) (us : List Token) (w : Wrong) → Lexes bytes ts → AreParts ts parts (t ∷ us)
+    → AllOpenWell [] parts (t ∷ us) → checked_at (is_opened (said parts)) (t ∷ us) ≡ Err w → WrongPart bytes t w
+wrong_part bytes ts parts t us w lexes cut opens e = elim (checked_err (said parts) (t ∷ us) w e) [
+  | inl x ↦ wrong_opened bytes ts parts t us w lexes cut opens x
+  | inr x ↦ wrong_read bytes ts parts t us w lexes cut opens x.0 x.1
+]
 
 -- of two places in a list the one comes first, or they are the same
 fronts : (xs ys : List Token) (x y : Token) (us vs : List Token) → xs ++ x ∷ us ≡ ys ++ y ∷ vs
@@ -106,6 +149,60 @@ one_wrong bytes p c q d x y =
     x.goes x.stops (subst (λ r. CanGoOn r y.before) rests y.goes) (λ h. y.stops (subst (λ r. CanGoOn r (y.before ++ y.at ∷ [])) (sym rests) h))
     x.code_is y.code_is x.place_is y.place_is
 
+same_wrongs : (t u : Token) (c d : ℕ) → Some (wrong t c) ≡ Some (wrong u d) → (place_of t c ≡ place_of u d) × (c ≡ d)
+same_wrongs t u c d e =
+    let same : wrong t c ≡ wrong u d = cc in
+    (ap (λ (x : Wrong). x.place) same, ap (λ (x : Wrong). x.code) same)
+
+-- at most one opening is wrong
+one_opening : (bytes : List ℕ) (p c q d : ℕ) → WrongOpening bytes p c → WrongOpening bytes q d → (p ≡ q) × (c ≡ d)
+one_opening bytes p c q d x y =
+    let tokens : y.tokens ≡ x.tokens = one_list bytes y.tokens x.tokens y.lexes x.lexes in
+    go (comparable x.tokens x.parts y.parts (x.before ++ x.at ∷ x.more) (y.before ++ y.at ∷ y.more) x.cut (subst (λ xs. AreParts xs y.parts (y.before ++ y.at ∷ y.more)) tokens y.cut))
+  where
+    here : x.before ++ x.at ∷ x.more ≡ y.before ++ y.at ∷ y.more → said y.parts ≡ said x.parts → (p ≡ q) × (c ≡ d)
+    here rests says =
+        let one = opening_found (said x.parts) x.before x.at c x.more x.wrong in
+        let two = opening_found (said x.parts) y.before y.at d y.more (subst (λ ss. IsWrongOpening ss y.before y.at d) says y.wrong) in
+        let k = same_wrongs x.at y.at c d (sym one ∙ ap (opening_at (is_opened (said x.parts))) rests ∙ two) in
+        (x.place_is ∙ k.0 ∙ sym y.place_is, k.1)
+
+    go : GoesOn x.parts (x.before ++ x.at ∷ x.more) y.parts (y.before ++ y.at ∷ y.more) ⊎ GoesOn y.parts (y.before ++ y.at ∷ y.more) x.parts (x.before ++ x.at ∷ x.more)
+        → (p ≡ q) × (c ≡ d)
+    go (inl ([], is, cut)) = here cut.whole (said_none x.parts y.parts is)
+    go (inl (m ∷ more, is, cut)) = absurd (opens_on x.parts y.parts m more _ _ is cut y.opens x.before x.at x.more c refl x.wrong)
+    go (inr ([], is, cut)) = here (sym cut.whole) (sym (said_none y.parts x.parts is))
+    go (inr (m ∷ more, is, cut)) = absurd (opens_on y.parts x.parts m more _ _ is cut x.opens y.before y.at y.more d refl y.wrong)
+
+-- not both a token and an opening are wrong
+not_token_and_opening : (bytes : List ℕ) (p c q d : ℕ) → WrongToken bytes p c → WrongOpening bytes q d → ⊥
+not_token_and_opening bytes p c q d x y =
+    let tokens : y.tokens ≡ x.tokens = one_list bytes y.tokens x.tokens y.lexes x.lexes in
+    go (comparable x.tokens x.parts y.parts x.rest (y.before ++ y.at ∷ y.more) x.cut (subst (λ xs. AreParts xs y.parts (y.before ++ y.at ∷ y.more)) tokens y.cut))
+  where
+    here : x.rest ≡ y.before ++ y.at ∷ y.more → said y.parts ≡ said x.parts → ⊥
+    here rests says =
+        let wrong : IsWrongOpening (said x.parts) y.before y.at d = subst (λ ss. IsWrongOpening ss y.before y.at d) says y.wrong in
+        elim (fronts x.before y.before x.at y.at x.more y.more (sym x.whole ∙ rests)) [
+          | inl s ↦ x.opens_well y.before y.at [] d (ap (λ us. us ++ x.at ∷ []) s.0 ∙ ap (λ (t : Token). y.before ++ t ∷ []) s.1) wrong
+          | inr (inl z) ↦ x.stops (goes_on_front x.rest x.before x.at z.0 y.before z.1
+              (subst (λ us. CanGoOn us y.before) (sym rests) (opening_goes (said x.parts) y.before y.at d y.more wrong)))
+          | inr (inr z) ↦ x.opens_well y.before y.at (z.0 ++ x.at ∷ []) d (ap (λ us. us ++ x.at ∷ []) z.1 ∙ append_assoc y.before (y.at ∷ z.0) (x.at ∷ [])) wrong
+        ]
+
+    go : GoesOn x.parts x.rest y.parts (y.before ++ y.at ∷ y.more) ⊎ GoesOn y.parts (y.before ++ y.at ∷ y.more) x.parts x.rest → ⊥
+    go (inl ([], is, cut)) = here cut.whole (said_none x.parts y.parts is)
+    go (inl (m ∷ more, is, cut)) = no_further x.rest m more _ x.nothing cut
+    go (inr ([], is, cut)) = here (sym cut.whole) (sym (said_none y.parts x.parts is))
+    go (inr (m ∷ more, is, cut)) = opens_on y.parts x.parts m more _ _ is cut x.opens y.before y.at y.more d refl y.wrong
+
+-- at most one of both
+pub one_faulty : (bytes : List ℕ) (p c q d : ℕ) → IsFaulty bytes p c → IsFaulty bytes q d → (p ≡ q) × (c ≡ d)
+one_faulty bytes p c q d (inl x) (inl y) = one_wrong bytes p c q d x y
+one_faulty bytes p c q d (inl x) (inr y) = absurd (not_token_and_opening bytes p c q d x y)
+one_faulty bytes p c q d (inr x) (inl y) = absurd (not_token_and_opening bytes q d p c y x)
+one_faulty bytes p c q d (inr x) (inr y) = one_opening bytes p c q d x y
+
 behind_first : (t : Token) (us text rest : List Token) → t ∷ us ≡ text ++ rest → 0 < length text → (vs : List Token) × (us ≡ vs ++ rest)
 behind_first t us [] rest whole some = absurd (omega (arith, some))
 behind_first t us (v ∷ vs) rest whole some = (vs, tails whole)
@@ -125,31 +222,62 @@ behind_good bytes t us m more rest before at others p code standing cut whole pl
 apart : (a b : ℕ) → a ≤ b → (a ≡ b → ⊥) → a < b
 apart a b le other = grind arith
 
--- behind a cut up to a token, where the part there is good or wrong behind the token, wrong tokens stand behind it
+-- behind a cut up to a token, where the part there is good or wrong behind the token, what is wrong stands behind it
 pub wrong_behind : (bytes : List ℕ) (ts : List Token) (ps : List (Piece Part Token)) (t : Token) (us : List Token) (p c : ℕ) → Lexes bytes ts → AreParts ts ps (t ∷ us)
-    → ((w : Wrong) → part_at (t ∷ us) ≡ Err w → w.place ≡ t.start → ⊥) → WrongToken bytes p c → t.start < p
-wrong_behind bytes ts ps t us p c lexes cut not x =
+    → AllOpenWell [] ps (t ∷ us) → ((w : Wrong) → checked_at (is_opened (said ps)) (t ∷ us) ≡ Err w → w.place ≡ t.start → ⊥) → IsFaulty bytes p c → t.start < p
+wrong_behind bytes ts ps t us p c lexes cut opens not (inl x) =
     let tokens : x.tokens ≡ ts = one_list bytes x.tokens ts x.lexes lexes in
     go (comparable ts ps x.parts (t ∷ us) x.rest cut (subst (λ xs. AreParts xs x.parts x.rest) tokens x.cut))
   where
     here : x.rest ≡ t ∷ us → t.start < p
     here same =
         let e = wrong_there (t ∷ us) (subst (λ xs. NothingReads IsPart StopsPart xs) same x.nothing) in
-        let k = wrong_part bytes ts ps t us e.0 lexes cut e.1 in
-        let place : e.0.place ≡ p = (one_wrong bytes e.0.place e.0.code p c k.stands x).0 in
+        let v = checked_wrong (said ps) (t ∷ us) e.0 e.1 in
+        let k = wrong_part bytes ts ps t us v.0 lexes cut opens v.1 in
+        let place : v.0.place ≡ p = (one_faulty bytes v.0.place v.0.code p c k.stands (inl x)).0 in
         let le : t.start ≤ p = omega (arith, k.behind, place) in
-        apart t.start p le (λ h. not e.0 e.1 (place ∙ sym h))
+        apart t.start p le (λ h. not v.0 v.1 (place ∙ sym h))
 
     go : GoesOn ps (t ∷ us) x.parts x.rest ⊎ GoesOn x.parts x.rest ps (t ∷ us) → t.start < p
     go (inl ([], is, c)) = here (sym c.whole)
     go (inl (m ∷ more, is, c)) = behind_good bytes t us m more x.rest x.before x.at x.more p _ (standing_from bytes ts (texts ps) t us lexes cut.whole) c x.whole x.place_is
     go (inr ([], is, c)) = here c.whole
     go (inr (m ∷ more, is, c)) = absurd (no_further x.rest m more (t ∷ us) x.nothing c)
+wrong_behind bytes ts ps t us p c lexes cut opens not (inr x) =
+    let tokens : x.tokens ≡ ts = one_list bytes x.tokens ts x.lexes lexes in
+    go (comparable ts ps x.parts (t ∷ us) (x.before ++ x.at ∷ x.more) cut (subst (λ xs. AreParts xs x.parts (x.before ++ x.at ∷ x.more)) tokens x.cut))
+  where
+    standing : Standing bytes t.start (t ∷ us)
+    standing = standing_from bytes ts (texts ps) t us lexes cut.whole
+
+    here : t ∷ us ≡ x.before ++ x.at ∷ x.more → t.start < p
+    here same =
+        let from = (standing_at bytes t.start x.before x.at x.more (subst (Standing bytes t.start) same standing)).0 in
+        let some = opening_behind (said x.parts) x.before x.at c x.wrong in
+        let least : x.at.start ≤ place_of x.at c = place_at_least x.at c in
+        let place = x.place_is in
+        omega (arith, from, some, least, place)
+
+    go : GoesOn ps (t ∷ us) x.parts (x.before ++ x.at ∷ x.more) ⊎ GoesOn x.parts (x.before ++ x.at ∷ x.more) ps (t ∷ us) → t.start < p
+    go (inl ([], is, d)) = here d.whole
+    go (inl (m ∷ more, is, d)) = behind_good bytes t us m more (x.before ++ x.at ∷ x.more) x.before x.at x.more p c standing d refl x.place_is
+    go (inr ([], is, d)) = here (sym d.whole)
+    go (inr (m ∷ more, is, d)) = absurd (opens_on x.parts ps m more _ _ is d opens x.before x.at x.more c refl x.wrong)
+
+-- what a cut does not go on with
+abbrev pub StopsHere : List (Piece Part Token) → List Token → Type 0
+StopsHere ps rest = (m : Piece Part Token) (more : List (Piece Part Token)) (other : List Token) → AreParts rest (m ∷ more) other → OpensWell (said ps) rest → ⊥
+
+stops_here : (ps : List (Piece Part Token)) (rest : List Token) (w : Wrong) → checked_at (is_opened (said ps)) rest ≡ Err w → StopsHere ps rest
+stops_here ps rest w e m more other cut well = elim (checked_err (said ps) rest w e) [
+  | inl x ↦ well x.before x.at x.more x.code x.whole x.is
+  | inr x ↦ no_further rest m more other (no_part rest w x.0) cut
+]
 
 -- a statement too many is the rest of a cut that goes as far as it can, or the cut says more
-past_where : (bytes : List ℕ) (ts : List Token) (ps : List (Piece Part Token)) (rest : List Token) (q : ℕ) → Lexes bytes ts → AreParts ts ps rest → NothingReads IsPart StopsPart rest
+past_where : (bytes : List ℕ) (ts : List Token) (ps : List (Piece Part Token)) (rest : List Token) (q : ℕ) → Lexes bytes ts → AreParts ts ps rest → StopsHere ps rest
     → (x : PastStatements bytes q) → ((rest ≡ x.at ∷ x.more) × (length (said ps) ≡ most_statements)) ⊎ (most_statements < length (said ps))
-past_where bytes ts ps rest q lexes cut nothing x =
+past_where bytes ts ps rest q lexes cut ends x =
     let tokens : x.tokens ≡ ts = one_list bytes x.tokens ts x.lexes lexes in
     go (comparable ts x.parts ps (x.at ∷ x.more) rest (subst (λ xs. AreParts xs x.parts (x.at ∷ x.more)) tokens x.cut) cut)
   where
@@ -159,11 +287,11 @@ past_where bytes ts ps rest q lexes cut nothing x =
       | inr more ↦ inr (subst (λ n. n < length (said ps)) x.most more)
     ]
     go (inr ([], is, c)) = inl (c.whole, nothing_more_said ps x.parts is ∙ x.most)
-    go (inr (m ∷ more, is, c)) = absurd (no_further rest m more (x.at ∷ x.more) nothing c)
+    go (inr (m ∷ more, is, c)) = absurd (ends m more (x.at ∷ x.more) c (opens_on ps x.parts m more rest (x.at ∷ x.more) is c x.opens))
 
--- a fault that stands at a token: a wrong one, or the first of a statement too many
+-- a fault that stands at a token: a wrong one, also in an opening, or the first of a statement too many
 abbrev pub InTokens : List ℕ → ℕ → ℕ → Type 0
-InTokens bytes place code = WrongToken bytes place code ⊎ ((code ≡ limit) × PastStatements bytes place)
+InTokens bytes place code = IsFaulty bytes place code ⊎ ((code ≡ limit) × PastStatements bytes place)
 
 -- the first fault that stands at a token
 pub record FirstInTokens (bytes : List ℕ) (w : Wrong) : Type 0 where
@@ -173,15 +301,15 @@ pub record FirstInTokens (bytes : List ℕ) (w : Wrong) : Type 0 where
 
 -- the part at the front of the rest is wrong, and no statement too many begins before that place
 pub wrong_first : (bytes : List ℕ) (ts : List Token) (ps : List (Piece Part Token)) (t : Token) (us : List Token) (w : Wrong) → Lexes bytes ts → AreParts ts ps (t ∷ us)
-    → part_at (t ∷ us) ≡ Err w → w.code ≤ limit → (length (said ps) < most_statements) ⊎ ((length (said ps) ≡ most_statements) × (w.place ≡ t.start)) → FirstInTokens bytes w
-wrong_first bytes ts ps t us w lexes cut e low few = record {
+    → AllOpenWell [] ps (t ∷ us) → checked_at (is_opened (said ps)) (t ∷ us) ≡ Err w → w.code ≤ limit → (length (said ps) < most_statements) ⊎ ((length (said ps) ≡ most_statements) × (w.place ≡ t.start)) → FirstInTokens bytes w
+wrong_first bytes ts ps t us w lexes cut opens e low few = record {
   stands = inl k.stands;
   first = first;
   line = k.line;
 }
   where
     k : WrongPart bytes t w
-    k = wrong_part bytes ts ps t us w lexes cut e
+    k = wrong_part bytes ts ps t us w lexes cut opens e
 
     at_past : (x : Token) (p c : ℕ) (xs : List Token) → t ∷ us ≡ x ∷ xs → length (said ps) ≡ most_statements → c ≡ limit → p ≡ x.start
         → (length (said ps) < most_statements) ⊎ ((length (said ps) ≡ most_statements) × (w.place ≡ t.start)) → (w.place < p) ⊎ ((w.place ≡ p) × (w.code ≤ c))
@@ -193,18 +321,18 @@ wrong_first bytes ts ps t us w lexes cut e low few = record {
     too_many (inr (count, here)) more = omega (arith, count, more)
 
     first : (p c : ℕ) → InTokens bytes p c → (w.place < p) ⊎ ((w.place ≡ p) × (w.code ≤ c))
-    first p c (inl x) = let same = one_wrong bytes w.place w.code p c k.stands x in inr (same.0, subst (λ n. w.code ≤ n) same.1 (omega arith))
-    first p c (inr (is, x)) = elim (past_where bytes ts ps (t ∷ us) p lexes cut (no_part (t ∷ us) w e) x) [
+    first p c (inl x) = let same = one_faulty bytes w.place w.code p c k.stands x in inr (same.0, subst (λ n. w.code ≤ n) same.1 (omega arith))
+    first p c (inr (is, x)) = elim (past_where bytes ts ps (t ∷ us) p lexes cut (stops_here ps (t ∷ us) w e) x) [
       | inl s ↦ at_past x.at p c x.more s.0 s.1 is x.place_is few
       | inr more ↦ absurd (too_many few more)
     ]
 
 -- a statement too many begins, and the part there is good or wrong behind its first token
 pub past_first : (bytes : List ℕ) (ts : List Token) (ps : List (Piece Part Token)) (t : Token) (us : List Token) → Lexes bytes ts → AreParts ts ps (t ∷ us)
-    → is_end t.kind ≡ false → length (said ps) ≡ most_statements → ((w : Wrong) → part_at (t ∷ us) ≡ Err w → w.place ≡ t.start → ⊥)
+    → AllOpenWell [] ps (t ∷ us) → is_end t.kind ≡ false → length (said ps) ≡ most_statements → ((w : Wrong) → checked_at (is_opened (said ps)) (t ∷ us) ≡ Err w → w.place ≡ t.start → ⊥)
     → FirstInTokens bytes (record { place = t.start; line = t.line; code = limit })
-past_first bytes ts ps t us lexes cut no_end most not = record {
-  stands = inr (refl, record { tokens = ts; lexes = lexes; parts = ps; at = t; more = us; cut = cut; most = most; begins_one = no_end; place_is = refl });
+past_first bytes ts ps t us lexes cut opens no_end most not = record {
+  stands = inr (refl, record { tokens = ts; lexes = lexes; parts = ps; at = t; more = us; cut = cut; opens = opens; most = most; begins_one = no_end; place_is = refl });
   first = first;
   line = token_line bytes ts (texts ps) t us lexes cut.whole 0 ∙ ap (λ n. 1 + newlines (take n bytes)) (place_of_none t);
 }
@@ -221,7 +349,7 @@ past_first bytes ts ps t us lexes cut no_end most not = record {
     ]
 
     first : (p c : ℕ) → InTokens bytes p c → (t.start < p) ⊎ ((t.start ≡ p) × (limit ≤ c))
-    first p c (inl x) = inl (wrong_behind bytes ts ps t us p c lexes cut not x)
+    first p c (inl x) = inl (wrong_behind bytes ts ps t us p c lexes cut opens not x)
     first p c (inr (is, x)) =
         let tokens : x.tokens ≡ ts = one_list bytes x.tokens ts x.lexes lexes in
         let same : t ≡ x.at = same_token x.at x.more x.parts x.begins_one x.most
@@ -229,9 +357,9 @@ past_first bytes ts ps t us lexes cut no_end most not = record {
         inr (ap (λ (y : Token). y.start) same ∙ sym x.place_is, subst (λ n. limit ≤ n) (sym is) (omega arith))
 
 -- no fault stands at the tokens of statements that are all read, and not too many
-pub all_good : (bytes : List ℕ) (ts : List Token) (ps : List (Piece Part Token)) → Lexes bytes ts → AreParts ts ps [] → length (said ps) ≤ most_statements
+pub all_good : (bytes : List ℕ) (ts : List Token) (ps : List (Piece Part Token)) → Lexes bytes ts → AreParts ts ps [] → AllOpenWell [] ps [] → length (said ps) ≤ most_statements
     → (p c : ℕ) → InTokens bytes p c → ⊥
-all_good bytes ts ps lexes parts few p c fault = go fault
+all_good bytes ts ps lexes parts opens few p c fault = go fault
   where
     nothing : NothingReads IsPart StopsPart []
     nothing = none_at_end
@@ -240,14 +368,23 @@ all_good bytes ts ps lexes parts few p c fault = go fault
     no_rest [] at more e = cc
     no_rest (b ∷ before) at more e = cc
 
+    opened : (x : WrongOpening bytes p c) → GoesOn ps [] x.parts (x.before ++ x.at ∷ x.more) ⊎ GoesOn x.parts (x.before ++ x.at ∷ x.more) ps [] → ⊥
+    opened x (inl ([], is, d)) = no_rest x.before x.at x.more d.whole
+    opened x (inl (m ∷ more, is, d)) = no_further [] m more _ nothing d
+    opened x (inr ([], is, d)) = no_rest x.before x.at x.more (sym d.whole)
+    opened x (inr (m ∷ more, is, d)) = opens_on x.parts ps m more _ _ is d opens x.before x.at x.more c refl x.wrong
+
     go : InTokens bytes p c → ⊥
-    go (inl x) =
+    go (inl (inr x)) =
+        let tokens : x.tokens ≡ ts = one_list bytes x.tokens ts x.lexes lexes in
+        opened x (comparable ts ps x.parts [] (x.before ++ x.at ∷ x.more) parts (subst (λ xs. AreParts xs x.parts (x.before ++ x.at ∷ x.more)) tokens x.cut))
+    go (inl (inl x)) =
         let tokens : ts ≡ x.tokens = one_list bytes ts x.tokens lexes x.lexes in
         let one : cut find_part ts ≡ (ps, []) = unique finds_parts ts ps [] parts (nothing_none finds_parts [] nothing) in
         let two : cut find_part x.tokens ≡ (x.parts, x.rest) = unique finds_parts x.tokens x.parts x.rest x.cut (nothing_none finds_parts x.rest x.nothing) in
         let rests : [] ≡ x.rest = ap (λ (z : List (Piece Part Token) × List Token). z.1) (sym one ∙ ap (cut find_part) tokens ∙ two) in
         no_rest x.before x.at x.more (rests ∙ x.whole)
-    go (inr (is, x)) = elim (past_where bytes ts ps [] p lexes parts nothing x) [
+    go (inr (is, x)) = elim (past_where bytes ts ps [] p lexes parts (λ m more other d well. no_further [] m more other nothing d) x) [
       | inl s ↦ no_rest [] x.at x.more s.0
       | inr more ↦ omega (arith, few, more)
     ]
@@ -263,16 +400,17 @@ line_refused bytes place line short past before is = inr (
   short,
   record {
     place = place;
-    stands = inr (inl (refl, past));
+    stands = inr (inr (inl (refl, past)));
     first = first;
     line = is;
   },
 )
   where
     first : (p c : ℕ) → Stands bytes p c → (place < p) ⊎ ((place ≡ p) × (limit ≤ c))
-    first p c (inl x) = inl (before p c (inl x))
-    first p c (inr (inl (code, at))) = inr (one_place bytes place p past at, subst (λ n. limit ≤ n) (sym code) (omega arith))
-    first p c (inr (inr x)) = inl (before p c (inr x))
+    first p c (inl x) = inl (before p c (inl (inl x)))
+    first p c (inr (inl x)) = inl (before p c (inl (inr x)))
+    first p c (inr (inr (inl (code, at)))) = inr (one_place bytes place p past at, subst (λ n. limit ≤ n) (sym code) (omega arith))
+    first p c (inr (inr (inr x))) = inl (before p c (inr x))
 
 pub before_tokens : (bytes : List ℕ) (w : Wrong) (place p c : ℕ) → FirstInTokens bytes w → place < w.place → InTokens bytes p c → place < p
 before_tokens bytes w place p c first before fault = elim (first.first p c fault) [
@@ -294,16 +432,18 @@ token_refused bytes w short tokens low lines = inr (
 )
   where
     stands : InTokens bytes w.place w.code → Stands bytes w.place w.code
-    stands (inl x) = inl x
-    stands (inr x) = inr (inr x)
+    stands (inl (inl x)) = inl x
+    stands (inl (inr x)) = inr (inl x)
+    stands (inr x) = inr (inr (inr x))
 
     within : (p c : ℕ) → w.place ≤ p → w.code ≤ c → (w.place < p) ⊎ ((w.place ≡ p) × (w.code ≤ c))
     within p c le code = grind arith
 
     first : (p c : ℕ) → Stands bytes p c → (w.place < p) ⊎ ((w.place ≡ p) × (w.code ≤ c))
-    first p c (inl x) = tokens.first p c (inl x)
-    first p c (inr (inl (code, at))) = within p c (lines p at) (subst (λ n. w.code ≤ n) (sym code) low)
-    first p c (inr (inr x)) = tokens.first p c (inr x)
+    first p c (inl x) = tokens.first p c (inl (inl x))
+    first p c (inr (inl x)) = tokens.first p c (inl (inr x))
+    first p c (inr (inr (inl (code, at)))) = within p c (lines p at) (subst (λ n. w.code ≤ n) (sym code) low)
+    first p c (inr (inr (inr x))) = tokens.first p c (inr x)
 
 -- the first of two faults is one
 same_first : (p q c d : ℕ) → (p < q) ⊎ ((p ≡ q) × (c ≤ d)) → (q < p) ⊎ ((q ≡ p) × (d ≤ c)) → (p ≡ q) × (c ≡ d)
@@ -326,13 +466,14 @@ one_fault bytes f g (inr (short, x)) (inr (short', y)) =
 
 -- no source is both read and refused
 pub not_both : (bytes : List ℕ) (ss : List Spoken) (f : Fault) → Reads bytes ss → Refuses bytes f → ⊥
-not_both bytes ss f (short, lines, few, ts, ps, lexes, cut, is) (inl (long, e)) = omega (arith, long, short)
-not_both bytes ss f (short, lines, few, ts, ps, lexes, cut, is) (inr (short', x)) = go x.stands
+not_both bytes ss f (short, lines, few, ts, ps, lexes, cut, opens, is) (inl (long, e)) = omega (arith, long, short)
+not_both bytes ss f (short, lines, few, ts, ps, lexes, cut, opens, is) (inr (short', x)) = go x.stands
   where
     good : (p c : ℕ) → InTokens bytes p c → ⊥
-    good = all_good bytes ts ps lexes cut (subst (λ (xs : List Spoken). length xs ≤ most_statements) is few)
+    good = all_good bytes ts ps lexes cut opens (subst (λ (xs : List Spoken). length xs ≤ most_statements) is few)
 
     go : Stands bytes x.place f.code → ⊥
-    go (inl y) = good x.place f.code (inl y)
-    go (inr (inl (code, at))) = cc
-    go (inr (inr y)) = good x.place f.code (inr y)
+    go (inl y) = good x.place f.code (inl (inl y))
+    go (inr (inl y)) = good x.place f.code (inl (inr y))
+    go (inr (inr (inl (code, at)))) = cc
+    go (inr (inr (inr y))) = good x.place f.code (inr y)

@@ -9,6 +9,7 @@ pub mod Items
 pub mod InPlaces
 pub mod Parts
 pub mod Registers
+pub mod Openings
 pub mod Whole
 pub mod Progress
 pub mod Cutting

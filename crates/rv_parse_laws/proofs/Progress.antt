@@ -1,19 +1,16 @@
 -- One part more at the end of those that were read.
 
 use Rattle.std.proofs.Common.{◌≡◌, true, false, List, [], ◌∷◌, ◌++◌, append_assoc, Ok, refl, sym, ◌∙◌, ap, subst, length, length-append, ◌<◌, arith}
-use Rattle.rv_text_laws.specs.Cut.{Piece, texts, Each}
+use Rattle.rv_text_laws.specs.Cut.{Piece, Each}
 use Rattle.rv_text_laws.specs.Lexing.{Token, is_last}
 use Rattle.rv_text_laws.specs.Grammar.{Kind, Bad_byte, Bad_token, End}
 use Rattle.rv_statement.specs.Statement.{Statement, Spoken}
 use Rattle.rv_parse_laws.specs.Syntax.{Part, Ends, Says, IsPart, StopsPart, is_end, is_source_end}
-use Rattle.rv_parse_laws.specs.Parsing.{part_at}
-use Rattle.rv_parse_laws.specs.Reading.{said, told, SaysUpTo}
+use Rattle.rv_parse_laws.specs.Opening.{is_opened}
+use Rattle.rv_parse_laws.specs.Parsing.{checked_at}
+use Rattle.rv_parse_laws.specs.Reading.{said, told, SaysUpTo, OpensWell}
 use Rattle.rv_parse_laws.proofs.Parts.{part_found, part_nonempty}
-
-texts_push : (ps : List (Piece Part Token)) (x : Piece Part Token) (rest : List Token) → texts (ps ++ x ∷ []) ++ rest ≡ texts ps ++ (x.text ++ rest)
-texts_push [] x rest = append_assoc x.text [] rest
-texts_push (p ∷ ps) x rest =
-    append_assoc p.text (texts (ps ++ x ∷ [])) rest ∙ ap (λ us. p.text ++ us) (texts_push ps x rest) ∙ sym (append_assoc p.text (texts ps) (x.text ++ rest))
+use Rattle.rv_parse_laws.proofs.Openings.{texts_push, open_push, end_opens, checked_ok}
 
 each_push : (ps : List (Piece Part Token)) (x : Piece Part Token) (rest : List Token) → Each IsPart StopsPart ps (x.text ++ rest) → IsPart x.kind x.text → StopsPart x.kind rest
     → Each IsPart StopsPart (ps ++ x ∷ []) rest
@@ -28,18 +25,20 @@ said_push : (ps : List (Piece Part Token)) (x : Piece Part Token) → said (ps +
 said_push [] x = no_more_said (told x.kind x.text)
 said_push (p ∷ ps) x = ap (λ us. told p.kind p.text ++ us) (said_push ps x) ∙ sym (append_assoc (told p.kind p.text) (said ps) (told x.kind x.text))
 
-pub push : (ts text rest : List Token) (p : Part) (ss : List Spoken) → SaysUpTo ts (text ++ rest) ss → IsPart p text → StopsPart p rest → SaysUpTo ts rest (ss ++ told p text)
-push ts text rest p ss (ps, cuts, is_said) is stops =
+pub push : (ts text rest : List Token) (p : Part) (ss : List Spoken) → SaysUpTo ts (text ++ rest) ss → OpensWell ss (text ++ rest) → IsPart p text → StopsPart p rest
+    → SaysUpTo ts rest (ss ++ told p text)
+push ts text rest p ss (ps, cuts, opens, is_said) well is stops =
     let x : Piece Part Token = record { kind = p; text = text } in (
       ps ++ x ∷ [],
       record { whole = cuts.whole ∙ sym (texts_push ps x rest); each = each_push ps x rest cuts.each is stops },
+      open_push [] ps x rest opens (subst (λ xs. OpensWell xs (text ++ rest)) is_said well),
       ap (λ us. us ++ told p text) is_said ∙ sym (said_push ps x),
     )
 
 -- an end of a statement
 pub push_end : (ts : List Token) (t : Token) (before rest : List Token) (ss : List Spoken) → SaysUpTo ts before ss → before ≡ t ∷ rest → is_end t.kind ≡ true → SaysUpTo ts rest ss
 push_end ts t before rest ss so is ends =
-    subst (SaysUpTo ts rest) (no_more_said ss) (push ts (t ∷ []) rest Ends ss (subst (λ us. SaysUpTo ts us ss) is so) (t, refl, ends) tt)
+    subst (SaysUpTo ts rest) (no_more_said ss) (push ts (t ∷ []) rest Ends ss (subst (λ us. SaysUpTo ts us ss) is so) (end_opens ss t rest ends) (t, refl, ends) tt)
 
 -- no statement is said by no tokens
 no_text : (s : Statement) → IsPart (Says s) [] → ⊥
@@ -47,25 +46,27 @@ no_text s is = let n = part_nonempty (Says s) [] is in let w : [] ≡ n.0 ∷ n.
 
 -- a statement, with its line
 pub push_statement : (ts : List Token) (t : Token) (before us rest : List Token) (s : Statement) (ss : List Spoken) → SaysUpTo ts before ss → before ≡ t ∷ us
-    → part_at before ≡ Ok (Says s, rest) → SaysUpTo ts rest (ss ++ record { line = t.line; says = s } ∷ [])
-push_statement ts t before us rest s ss so is read =
-    let f = part_found before (Says s) rest read in go f.0 f.1 f.2 f.3
+    → checked_at (is_opened ss) before ≡ Ok (Says s, rest) → SaysUpTo ts rest (ss ++ record { line = t.line; says = s } ∷ [])
+push_statement ts t before us rest s ss so is checked =
+    let c = checked_ok ss before (Says s, rest) checked in
+    let f = part_found before (Says s) rest c.0 in
+    go f.0 f.1 f.2 f.3 c.1
   where
-    go : (text : List Token) → before ≡ text ++ rest → IsPart (Says s) text → StopsPart (Says s) rest → SaysUpTo ts rest (ss ++ record { line = t.line; says = s } ∷ [])
-    go [] whole spelled stops = absurd (no_text s spelled)
-    go (v ∷ vs) whole spelled stops =
+    go : (text : List Token) → before ≡ text ++ rest → IsPart (Says s) text → StopsPart (Says s) rest → OpensWell ss before → SaysUpTo ts rest (ss ++ record { line = t.line; says = s } ∷ [])
+    go [] whole spelled stops well = absurd (no_text s spelled)
+    go (v ∷ vs) whole spelled stops well =
         let same : t ∷ us ≡ v ∷ (vs ++ rest) = sym is ∙ whole in
         let head : t ≡ v = cc in
         subst (λ (u : Token). SaysUpTo ts rest (ss ++ record { line = u.line; says = s } ∷ [])) (sym head)
-        (push ts (v ∷ vs) rest (Says s) ss (subst (λ xs. SaysUpTo ts xs ss) whole so) spelled stops)
+        (push ts (v ∷ vs) rest (Says s) ss (subst (λ xs. SaysUpTo ts xs ss) whole so) (subst (OpensWell ss) whole well) spelled stops)
 
 pub nothing_yet : (ts : List Token) → SaysUpTo ts ts []
-nothing_yet ts = ([], record { whole = refl; each = tt }, refl)
+nothing_yet ts = ([], record { whole = refl; each = tt }, tt, refl)
 
 -- a statement takes tokens
-pub statement_shorter : (ts rest : List Token) (s : Statement) → part_at ts ≡ Ok (Says s, rest) → length rest < length ts
-statement_shorter ts rest s read =
-    let f = part_found ts (Says s) rest read in go f.0 f.1 f.2
+pub statement_shorter : (ss : List Spoken) (ts rest : List Token) (s : Statement) → checked_at (is_opened ss) ts ≡ Ok (Says s, rest) → length rest < length ts
+statement_shorter ss ts rest s checked =
+    let f = part_found ts (Says s) rest (checked_ok ss ts (Says s, rest) checked).0 in go f.0 f.1 f.2
   where
     go : (text : List Token) → ts ≡ text ++ rest → IsPart (Says s) text → length rest < length ts
     go [] whole spelled = absurd (no_text s spelled)

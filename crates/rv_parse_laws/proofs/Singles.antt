@@ -9,7 +9,7 @@ use Rattle.rv_text_laws.proofs.ExpressionWrong.{ended_more}
 use Rattle.rv_isa.specs.RegisterNames.{abi_names}
 use Rattle.rv_statement.specs.declared.mnemonic.AccessSet.{AccessSet}
 use Rattle.rv_statement.specs.Statement.{Operand, Register, Accesses, Word, Quoted}
-use Rattle.rv_parse_laws.specs.Words.{names_of, register, choices, section_types}
+use Rattle.rv_parse_laws.specs.Words.{names_of, register, choices}
 use Rattle.rv_parse_laws.specs.Syntax.{is_symbol, register_of, symbol_of, is_comma, is_colon, is_opening, is_closing, is_end, is_zero, is_at, accesses_of, access_sets, accesses, Slot, A_register, A_value, An_address, A_zero, Some_accesses, A_symbol, A_string, A_section, Some_flags, At_sign, A_type, An_option, A_comma, An_opening, A_closing, single}
 use Rattle.rv_parse_laws.specs.Faults.{wrong_first}
 use Rattle.rv_parse_laws.specs.Parsing.{single_at}
@@ -123,7 +123,6 @@ symbol_goes : Goes A_symbol
 symbol_goes = (a_symbol, Word (codes "f") ∷ [], rw a_symbol_is refl)
 
 type_goes : Goes A_type
-unfolding section_types
 type_goes = (some_token (NameToken (codes "note")), Word (codes "note") ∷ [], refl)
 
 option_goes : Goes An_option

@@ -64,11 +64,11 @@ one_cut ts ps qs c d =
 
 -- bytes have at most one reading
 pub one_reading : (bytes : List ℕ) (ss others : List Spoken) → Reads bytes ss → Reads bytes others → ss ≡ others
-one_reading bytes ss others (a, b, c, ts, ps, lexes, cuts, says) (d, e, f, us, qs, lexes', cuts', says') =
+one_reading bytes ss others (a, b, c, ts, ps, lexes, cuts, opens, says) (d, e, f, us, qs, lexes', cuts', opens', says') =
     let same : ts ≡ us = one_list bytes ts us lexes lexes' in
     says ∙ ap said (one_cut us ps qs (subst (λ xs. AreParts xs ps []) same cuts) cuts') ∙ sym says'
 
 -- what the tokens of bytes say within the limits is their reading
 pub reads_as : (bytes : List ℕ) (ts : List Token) (ss : List Spoken) → length bytes ≤ longest_source → past_line 0 0 bytes ≡ None → length ss ≤ most_statements
     → ts ≡ tokens_from 0 1 bytes → SaysUpTo ts [] ss → Reads bytes ss
-reads_as bytes ts ss short lines few is (ps, cuts, says) = (short, lines, few, ts, ps, subst (Lexes bytes) (sym is) (given bytes), cuts, says)
+reads_as bytes ts ss short lines few is (ps, cuts, opens, says) = (short, lines, few, ts, ps, subst (Lexes bytes) (sym is) (given bytes), cuts, opens, says)

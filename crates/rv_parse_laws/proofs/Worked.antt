@@ -16,10 +16,11 @@ use Rattle.rv_statement.specs.declared.directive.Standard.TheVariants.{Bss}
 use Rattle.rv_statement.specs.declared.mnemonic.Mnemonic.TheVariants.{Registers, Load, Jalr, LoadReserved}
 use Rattle.rv_statement.specs.declared.mnemonic.RegisterOperation.TheVariants.{And}
 use Rattle.rv_statement.specs.declared.mnemonic.LoadOperation.TheVariants.{Lw}
-use Rattle.rv_statement.specs.Statement.{Register, Value, Enters, Opens, Globl, Local, Sets, Aligns_to_power, Aligns_to_bytes, Values, Strings, Zeros, Chooses as Choosing, Ignored, Statement, Label, Numbered, Instruction, Directs}
+use Rattle.rv_statement.specs.Statement.{Register, Value, Enters, Opens, Globl, Local, Sets, Aligns_to_power, Aligns_to_bytes, Values, Strings, Zeros, Chooses as Choosing, Ignored, Statement, Label, Numbered, Instruction, Directs, Spoken}
 use Rattle.rv_parse_laws.specs.Words.{base_words, atomic_words, atomic_ends, pseudo_words, left_out_directives, is_known, instruction_words, atomic_operations, atomic_forms, form_with, mnemonic_named, directive_words, directive_named, beginning, choices, left_out_options, section_types, names_of, register}
 use Rattle.rv_parse_laws.specs.Syntax.{is_symbol, access_sets, is_section_name, Part, Says}
-use Rattle.rv_parse_laws.specs.Parsing.{items_at, operands_at, begun_at, statement_at, part_at}
+use Rattle.rv_parse_laws.specs.Opening.{is_opened}
+use Rattle.rv_parse_laws.specs.Parsing.{items_at, operands_at, begun_at, statement_at, part_at, opening_at, checked_at}
 
 what : Read Part → Option Part
 what (Ok read) = Some read.0
@@ -40,6 +41,8 @@ good_lines =
     (codes "lr.w a0, '\\0'(a1)", Instruction (LoadReserved (form_with false false false)) (Register 10 ∷ Register 11 ∷ [])) ∷
     (codes ".section .note.GNU-stack,\"awxMS\",@note, 4", Directs (Opens (codes ".note.GNU-stack") (Some (codes "awxMS")) (Some (codes "note")))) ∷
     (codes ".section x,\"\"", Directs (Opens (codes "x") (Some []) None)) ∷
+    (codes ".section x,\"zz\",@foo", Directs (Opens (codes "x") (Some (codes "zz")) (Some (codes "foo")))) ∷
+    (codes ".section .text,\"G\"", Directs (Opens (codes ".text") (Some (codes "G")) None)) ∷
     (codes ".section a0", Directs (Opens (codes "a0") None None)) ∷
     (codes ".section .rv.rows-x", Directs (Opens (codes ".rv.rows-x") None None)) ∷
     (codes ".globl a, b", Directs (Globl (codes "a" ∷ codes "b" ∷ []))) ∷
@@ -93,10 +96,14 @@ bad_lines =
     (codes ".section", 7, 8) ∷
     (codes ".section \"x\"", 9, 9) ∷
     (codes ".section .rv.rows", 9, 17) ∷
-    (codes ".section x,\"aG\"", 9, 11) ∷
-    (codes ".section x,\"aGq\"", 7, 11) ∷
+    (codes ".section y,\"aG\"", 9, 11) ∷
+    (codes ".section y,\"aGq\" 5", 7, 11) ∷
+    (codes ".section y,\"a\",%progbits", 7, 15) ∷
+    (codes ".section y,\"a\",@foo", 9, 16) ∷
+    (codes ".section .data-x,\"zz\",@foo", 7, 17) ∷
+    (codes ".section x,\"zz\" 5", 7, 16) ∷
     (codes ".section x,\"a\",%progbits", 7, 15) ∷
-    (codes ".section x,\"a\",@foo", 9, 16) ∷
+    (codes ".section x,5", 7, 11) ∷
     (codes ".section x, @note", 7, 12) ∷
     (codes ".type a, 1x", 2, 9) ∷
     (codes ".type a // b", 9, 8) ∷
@@ -108,10 +115,17 @@ bad_lines =
     (codes "a0:", 7, 0) ∷
     []
 
-each_reads : map (λ line. what (part_at (tokens_from 0 1 line.0))) good_lines ≡ map (λ line. Some (Says line.1)) good_lines
-unfolding what code part_at statement_at begun_at operands_at items_at tokens_from piece_at reference_in number_in escape_at atom_at cut class digit expression_at tree_of joined_at place_of is_symbol access_sets is_section_name base_words atomic_words atomic_ends pseudo_words left_out_directives is_known instruction_words atomic_operations atomic_forms mnemonic_named directive_words directive_named beginning choices left_out_options section_types names_of register abi_names
+-- as they are read behind `.text` and `.section x`
+behind_x : List Spoken
+behind_x = record { line = 1; says = Directs (Opens (codes "x") None None) } ∷ []
+
+read_line : List ℕ → Read Part
+read_line line = checked_at (is_opened behind_x) (tokens_from 0 1 line)
+
+each_reads : map (λ line. what (read_line line.0)) good_lines ≡ map (λ line. Some (Says line.1)) good_lines
+unfolding what code behind_x read_line opening_at part_at statement_at begun_at operands_at items_at tokens_from piece_at reference_in number_in escape_at atom_at cut class digit expression_at tree_of joined_at place_of is_symbol access_sets is_section_name base_words atomic_words atomic_ends pseudo_words left_out_directives is_known instruction_words atomic_operations atomic_forms mnemonic_named directive_words directive_named beginning choices left_out_options section_types names_of register abi_names
 each_reads = refl
 
-each_fails : map (λ line. code (part_at (tokens_from 0 1 line.0))) bad_lines ≡ map (λ line. (line.1, line.2)) bad_lines
-unfolding what code part_at statement_at begun_at operands_at items_at tokens_from piece_at reference_in number_in escape_at atom_at cut class digit expression_at tree_of joined_at place_of is_symbol access_sets is_section_name base_words atomic_words atomic_ends pseudo_words left_out_directives is_known instruction_words atomic_operations atomic_forms mnemonic_named directive_words directive_named beginning choices left_out_options section_types names_of register abi_names
+each_fails : map (λ line. code (read_line line.0)) bad_lines ≡ map (λ line. (line.1, line.2)) bad_lines
+unfolding what code behind_x read_line opening_at part_at statement_at begun_at operands_at items_at tokens_from piece_at reference_in number_in escape_at atom_at cut class digit expression_at tree_of joined_at place_of is_symbol access_sets is_section_name base_words atomic_words atomic_ends pseudo_words left_out_directives is_known instruction_words atomic_operations atomic_forms mnemonic_named directive_words directive_named beginning choices left_out_options section_types names_of register abi_names
 each_fails = refl

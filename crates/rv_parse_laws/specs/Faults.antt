@@ -75,15 +75,9 @@ wrong_symbol k = wrong_or k bad_operands
 abbrev pub is_known_flag : ℕ → Bool
 is_known_flag letter = is_flag letter || (letter == 71) || (letter == 84)
 
--- a section's flags; an unknown letter counts before those that are left out
-abbrev pub wrong_flags : Kind → ℕ
-wrong_flags (Text letters) = if list_all is_known_flag letters then unsupported_here else bad_operands
-wrong_flags k = wrong_or k bad_operands
-
--- a section's type
-abbrev pub wrong_type : Kind → ℕ
-wrong_type (NameToken name) = unsupported_here
-wrong_type k = wrong_or k bad_operands
+-- letters that are no flags of a section; an unknown one counts before those that are left out
+abbrev pub wrong_letters : List ℕ → ℕ
+wrong_letters letters = if list_all is_known_flag letters then unsupported_here else bad_operands
 
 -- the word after `.option`
 abbrev pub wrong_option : Kind → ℕ
@@ -93,8 +87,8 @@ wrong_option k = wrong_or k bad_operands
 -- where what stands in a place begins
 abbrev pub wrong_first : Slot → Kind → ℕ
 wrong_first A_symbol k = wrong_symbol k
-wrong_first Some_flags k = wrong_flags k
-wrong_first A_type k = wrong_type k
+wrong_first Some_flags k = wrong_or k bad_operands
+wrong_first A_type k = wrong_or k bad_operands
 wrong_first An_option k = wrong_option k
 wrong_first (A_comma behind) k = wrong_after behind k
 wrong_first (An_opening behind) k = wrong_after behind k

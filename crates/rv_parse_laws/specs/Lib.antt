@@ -2,5 +2,6 @@ pub mod Value
 pub mod Words
 pub mod Syntax
 pub mod Faults
+pub mod Opening
 pub mod Parsing
 pub mod Reading

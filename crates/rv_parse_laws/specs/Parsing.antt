@@ -1,7 +1,7 @@
 -- Parts of statements at the front of a list of tokens, as functions: what stands there and the tokens after it, or the
 -- first token that is wrong there, with its code.
 
-use Rattle.std.specs.Prelude.{ℕ, zero, suc, ◌+◌, Bool, false, ◌&&◌, nat_lt, List, [], ◌∷◌, ◌++◌, length, Option, Some, None, unwrap_or, Result, Ok, Err, if◌then◌else◌}
+use Rattle.std.specs.Prelude.{ℕ, zero, suc, ◌+◌, Bool, false, ◌&&◌, nat_lt, List, [], ◌∷◌, ◌++◌, length, Option, Some, None, option_map, unwrap_or, Result, Ok, Err, if◌then◌else◌}
 use Rattle.rv_text_laws.specs.Grammar.{Kind}
 use Rattle.rv_text_laws.specs.Lexing.{Token}
 use Rattle.rv_text_laws.specs.Wrong.{Wrong, wrong, Read, nowhere, longest_name, limit}
@@ -10,8 +10,9 @@ use Rattle.rv_text_laws.specs.Expression.{tree_of}
 use Rattle.rv_text_laws.specs.ExpressionAt.{expression_at}
 use Rattle.rv_statement.specs.Statement.{Expression, Operand, Value, Word, Statement, Instruction, Directs}
 use Rattle.rv_parse_laws.specs.Words.{Beginning, Begins_instruction, Begins_directive, Begins_nothing}
-use Rattle.rv_parse_laws.specs.Syntax.{is_register, label_of, begins, is_comma, is_percent, is_end, is_opening, is_any, is_section_name, Role, Slot, A_register, A_value, An_address, A_section, A_closing, An_opening, single, front_begins, Slots, Stops, Takes, Chooses, Lists, Anything, slots, places, directed, colon_next, Part, Ends, Says}
+use Rattle.rv_parse_laws.specs.Syntax.{is_register, label_of, begins, is_comma, is_percent, is_end, is_opening, is_any, is_section_name, Role, Slot, A_register, A_value, An_address, A_section, Some_flags, At_sign, A_comma, A_closing, An_opening, single, front_begins, Slots, Stops, Takes, Chooses, Lists, Anything, slots, places, directed, colon_next, Part, Ends, Says}
 use Rattle.rv_parse_laws.specs.Faults.{may_call, wrong_first, wrong_after, wrong_any, wrong_start, wrong_label, unsupported_here}
+use Rattle.rv_parse_laws.specs.Opening.{flags_fault, type_fault, is_section}
 
 infixl 10 ◌>>=◌
 abbrev pub ◌>>=◌ : {A B : Type 0} → Result A Wrong → (A → Result B Wrong) → Result B Wrong
@@ -147,3 +148,45 @@ statement_at t ts =
 unfoldable pub part_at : List Token → Read Part
 part_at [] = Err nowhere
 part_at (t ∷ ts) = if is_end t.kind then Ok (Ends, ts) else seen_as Says (statement_at t ts)
+
+-- the fault of the token at the front
+abbrev pub front_fault : (Kind → Option ℕ) → List Token → Option Wrong
+front_fault fault [] = None
+front_fault fault (t ∷ ts) = option_map (λ code. wrong t code) (fault t.kind)
+
+-- what is wrong behind what is read, if anything
+abbrev pub behind_read : {X : Type 0} → (List Token → Option Wrong) → Read X → Option Wrong
+behind_read f (Ok x) = f x.1
+behind_read f (Err w) = None
+
+abbrev pub or_else : {X : Type 0} → Option X → Option X → Option X
+or_else (Some x) other = Some x
+or_else None other = other
+
+-- what is wrong with a type behind flags, a comma and `@`, where the name is known, or new
+abbrev pub type_wrong : Bool → List Token → Option Wrong
+type_wrong known ts =
+    behind_read (λ us. behind_read (λ vs. behind_read (front_fault (type_fault known)) (single_at At_sign vs)) (single_at (A_comma Some_flags) us))
+    (single_at Some_flags ts)
+
+-- what is wrong with flags, and a type behind them
+abbrev pub flags_wrong : Bool → List Token → Option Wrong
+flags_wrong known ts = or_else (front_fault (flags_fault known) ts) (type_wrong known ts)
+
+-- what is wrong behind a section's name
+abbrev pub named_wrong : (List ℕ → Bool) → Read (List ℕ) → Option Wrong
+named_wrong known (Ok read) = behind_read (λ us. flags_wrong (known read.0) us) (single_at (A_comma A_section) read.1)
+named_wrong known (Err w) = None
+
+-- what is wrong with an opening of a section at the front, where these names are known
+unfoldable pub opening_at : (List ℕ → Bool) → List Token → Option Wrong
+opening_at known [] = None
+opening_at known (t ∷ ts) = if is_section (begins t.kind) then named_wrong known (section_at ts) else None
+
+-- a part at the front, or what is wrong with it: an opening's flags or type, or the first token with which nothing goes on
+abbrev pub unless : {X : Type 0} → Option Wrong → Read X → Read X
+unless (Some w) r = Err w
+unless None r = r
+
+abbrev pub checked_at : (List ℕ → Bool) → List Token → Read Part
+checked_at known ts = unless (opening_at known ts) (part_at ts)

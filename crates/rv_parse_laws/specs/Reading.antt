@@ -1,11 +1,12 @@
 -- The reading of a source, and its first fault (RISC-V Assembly Programmer's Manual; GNU as, "Syntax").
 
 use Rattle.std.specs.Prelude.{◌≡◌, ℕ, ◌+◌, ◌^◌, ◌<◌, ◌≤◌, Bool, true, false, ◌==◌, List, [], ◌∷◌, ◌++◌, length, take, Option, Some, None, Ok, Err, ◌⊎◌, if◌then◌else◌}
-use Rattle.rv_text_laws.specs.Cut.{Piece, Cuts, NothingReads}
+use Rattle.rv_text_laws.specs.Cut.{Piece, texts, Cuts, NothingReads}
 use Rattle.rv_text_laws.specs.Lexing.{Token, Lexes, newlines}
 use Rattle.rv_text_laws.specs.Wrong.{limit, place_of, Read}
 use Rattle.rv_statement.specs.Statement.{Label, Numbered, Spoken}
 use Rattle.rv_parse_laws.specs.Syntax.{Part, Ends, Says, IsPart, StopsPart, is_end, colon_next}
+use Rattle.rv_parse_laws.specs.Opening.{IsWrongOpening}
 use Rattle.rv_parse_laws.specs.Parsing.{part_at}
 
 -- the longest source and the longest line without its line feed, in bytes, and the most statements
@@ -41,11 +42,21 @@ said (p ∷ ps) = told p.kind p.text ++ said ps
 abbrev pub AreParts : List Token → List (Piece Part Token) → List Token → Type 0
 AreParts ts ps rest = Cuts Part Token IsPart StopsPart ts ps rest
 
--- the bytes read as these statements: they are cut into tokens, the tokens into parts, all within the limits
+-- at the front of the tokens, behind these statements, no opening of a section is wrong
+abbrev pub OpensWell : List Spoken → List Token → Type 0
+OpensWell ss ts = (before : List Token) (at : Token) (more : List Token) (code : ℕ) → ts ≡ before ++ at ∷ more → IsWrongOpening ss before at code → ⊥
+
+-- nor is one at the front of any of these parts, behind these statements and before the rest
+abbrev pub AllOpenWell : List Spoken → List (Piece Part Token) → List Token → Type 0
+AllOpenWell ss [] rest = Unit {0}
+AllOpenWell ss (p ∷ ps) rest = OpensWell ss (texts (p ∷ ps) ++ rest) × AllOpenWell (ss ++ told p.kind p.text) ps rest
+
+-- the bytes read as these statements: they are cut into tokens, the tokens into parts whose openings are good, all within
+-- the limits
 abbrev pub Reads : List ℕ → List Spoken → Type 0
 Reads bytes ss =
     (length bytes ≤ longest_source) × (past_line 0 0 bytes ≡ None) × (length ss ≤ most_statements)
-    × (ts : List Token) × (ps : List (Piece Part Token)) × Lexes bytes ts × AreParts ts ps [] × (ss ≡ said ps)
+    × (ts : List Token) × (ps : List (Piece Part Token)) × Lexes bytes ts × AreParts ts ps [] × AllOpenWell [] ps [] × (ss ≡ said ps)
 
 -- a part with these first tokens can still stand at the front of the rest: a colon after the rest's first token makes it a
 -- label, and without it there is none
@@ -70,13 +81,14 @@ code_of (Err w) = w.code
 abbrev pub code_at : List Token → Token → List Token → ℕ
 code_at before at more = code_of (part_at (before ++ at ∷ more))
 
--- a token with which nothing can go on, behind good parts
+-- a token with which nothing can go on, behind good parts and no wrong opening
 pub record WrongToken (bytes : List ℕ) (place code : ℕ) : Type 0 where
   pub tokens : List Token
   pub lexes : Lexes bytes tokens
   pub parts : List (Piece Part Token)
   pub rest : List Token
   pub cut : AreParts tokens parts rest
+  pub opens : AllOpenWell [] parts rest
   pub nothing : NothingReads IsPart StopsPart rest
   pub before : List Token
   pub at : Token
@@ -84,7 +96,21 @@ pub record WrongToken (bytes : List ℕ) (place code : ℕ) : Type 0 where
   pub whole : rest ≡ before ++ at ∷ more
   pub goes : CanGoOn rest before
   pub stops : CanGoOn rest (before ++ at ∷ []) → ⊥
+  pub opens_well : OpensWell (said parts) (before ++ at ∷ [])
   pub code_is : code ≡ code_at before at more
+  pub place_is : place ≡ place_of at code
+
+-- a token with which the opening of a section is wrong, behind good parts
+pub record WrongOpening (bytes : List ℕ) (place code : ℕ) : Type 0 where
+  pub tokens : List Token
+  pub lexes : Lexes bytes tokens
+  pub parts : List (Piece Part Token)
+  pub before : List Token
+  pub at : Token
+  pub more : List Token
+  pub cut : AreParts tokens parts (before ++ at ∷ more)
+  pub opens : AllOpenWell [] parts (before ++ at ∷ more)
+  pub wrong : IsWrongOpening (said parts) before at code
   pub place_is : place ≡ place_of at code
 
 -- the first token of a statement past the most
@@ -95,6 +121,7 @@ pub record PastStatements (bytes : List ℕ) (place : ℕ) : Type 0 where
   pub at : Token
   pub more : List Token
   pub cut : AreParts tokens parts (at ∷ more)
+  pub opens : AllOpenWell [] parts (at ∷ more)
   pub most : length (said parts) ≡ most_statements
   pub begins_one : is_end at.kind ≡ false
   pub place_is : place ≡ at.start
@@ -102,7 +129,7 @@ pub record PastStatements (bytes : List ℕ) (place : ℕ) : Type 0 where
 -- a fault with this code stands at this byte
 abbrev pub Stands : List ℕ → ℕ → ℕ → Type 0
 Stands bytes place code =
-    WrongToken bytes place code ⊎ ((code ≡ limit) × (past_line 0 0 bytes ≡ Some place)) ⊎ ((code ≡ limit) × PastStatements bytes place)
+    WrongToken bytes place code ⊎ WrongOpening bytes place code ⊎ ((code ≡ limit) × (past_line 0 0 bytes ≡ Some place)) ⊎ ((code ≡ limit) × PastStatements bytes place)
 
 -- a fault's code, by its number, and the line that it names
 pub record Fault : Type 0 where
@@ -122,6 +149,6 @@ Refuses bytes f =
     ((longest_source < length bytes) × (f ≡ record { code = limit; line = 0 }))
     ⊎ ((length bytes ≤ longest_source) × IsFirst bytes f)
 
--- the tokens say these statements, up to the rest
+-- the tokens say these statements, with good openings, up to the rest
 abbrev pub SaysUpTo : List Token → List Token → List Spoken → Type 0
-SaysUpTo ts rest ss = (ps : List (Piece Part Token)) × AreParts ts ps rest × (ss ≡ said ps)
+SaysUpTo ts rest ss = (ps : List (Piece Part Token)) × AreParts ts ps rest × AllOpenWell [] ps rest × (ss ≡ said ps)

@@ -23,7 +23,7 @@ use Rattle.rv_statement.specs.declared.directive.DirectiveWord.TheVariants as wo
 use Rattle.rv_statement.specs.declared.directive.Choice.{Choice}
 use Rattle.rv_statement.specs.Statement.{Expression, Operand, Register, Value, Accesses, Word, Quoted, Directive, Enters, Opens, Globl, Local, Sets, Aligns_to_power, Aligns_to_bytes, Values, Strings, Zeros, Chooses as Choosing, Ignored, Statement, Label, Numbered, Instruction, Directs}
 use Rattle.rv_statement.specs.View.{bytes_of}
-use Rattle.rv_parse_laws.specs.Words.{register, named_in, is_among, choices, section_types, Beginning, Begins_instruction, Begins_directive, Begins_nothing, beginning}
+use Rattle.rv_parse_laws.specs.Words.{register, named_in, choices, Beginning, Begins_instruction, Begins_directive, Begins_nothing, beginning}
 
 -- a name that a symbol may have: no register's, not `.` alone, and not too long
 unfoldable pub is_symbol : List ℕ → Bool
@@ -171,7 +171,8 @@ pub data Slot : Type 0 where
   Some_accesses : Slot
   A_symbol : Slot
   A_string : Slot
-  -- what `.section` takes: a name, a string of letters, and a type behind `@`
+  -- what `.section` takes: a name, a string of letters, and a type behind `@`; which letters and types are good is said
+  -- with the openings of sections
   A_section : Slot
   Some_flags : Slot
   At_sign : Slot
@@ -283,10 +284,9 @@ single A_zero k = if is_zero k then Some [] else None
 single Some_accesses k = option_map (λ set. Accesses set ∷ []) (accesses_of k)
 single A_symbol k = option_map (λ name. Word name ∷ []) (symbol_of k)
 single A_string (Text bytes) = Some (Quoted bytes ∷ [])
--- later: a name that was opened before has its flags and its type, whatever stands here
-single Some_flags (Text letters) = if list_all is_flag letters then Some (Quoted letters ∷ []) else None
+single Some_flags (Text letters) = Some (Quoted letters ∷ [])
 single At_sign k = if is_at k then Some [] else None
-single A_type (NameToken name) = if is_among section_types name then Some (Word name ∷ []) else None
+single A_type (NameToken name) = Some (Word name ∷ [])
 single An_option (NameToken name) = if is_some (named_in choices name) then Some (Word name ∷ []) else None
 single (A_comma behind) k = if is_comma k then Some [] else None
 single (An_opening behind) k = if is_opening k then Some [] else None

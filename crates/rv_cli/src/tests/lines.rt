@@ -47,6 +47,9 @@ fn fault_lines(rt: HostRuntime) -> Result<(), AllocError> {
     assert!(rt; line.as_str() == "a.s: F9 UnsupportedRelocation 20");
     let line = shown(alloc, Fault::Link(LinkFault::TooManyFiles))?;
     assert!(rt; line.as_str() == "L10 TooManyFiles");
+    let name = Vec::from_slice(alloc, b"f")?;
+    let line = shown(alloc, Fault::Link(LinkFault::Undefined(name)))?;
+    assert!(rt; line.as_str() == "L5 Undefined f");
     let line = shown(alloc, Fault::Memory)?;
     assert!(rt; line.as_str() == "out of memory");
     Ok(())

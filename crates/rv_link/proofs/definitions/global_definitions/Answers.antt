@@ -1,12 +1,13 @@
-use Rattle.std.proofs.Common.{rules, ◌≡◌, ◌<◌, ◌+◌, ◌∷◌, ◌++◌, ◌∙◌, [], length, map, drop, sym, ap, subst, append-nil}
-use Rattle.std.proofs.Common.{◌≤◌, false}
+use Rattle.std.proofs.Common.{rules, ◌≡◌, ◌<◌, ◌≤◌, ◌+◌, ◌∷◌, ◌++◌, ◌∙◌, [], suc, false, length, map, drop, get_or, sym, ap, subst, append-nil, arith}
 use Rattle.std.proofs.lemmas.List.{at_drop_all, drop_more, length-map}
 use Rattle.rv_link.specs.declared.rows.Item.{Item}
 use Rattle.rv_statement.specs.View.{said_by}
+use Rattle.rv_unit_laws.specs.Tables.{tables}
+use Rattle.rv_unit.specs.Unit.{said}
 use Rattle.rv_map.specs.Map.{global_of}
-use Rattle.rv_link.specs.Definitions.{definitions_from, AreOwn}
+use Rattle.rv_link.specs.Definitions.{definitions_from}
 use Rattle.rv_link.proofs.Placed.{left_map}
-use Rattle.rv_link.proofs.Named.{defined_more, own_more}
+use Rattle.rv_link.proofs.Named.{defined_more}
 use Rattle.rv_link.proofs.definitions.global_definitions.Goals as goal
 
 no_item : Item
@@ -14,30 +15,29 @@ no_item = record { section = 0; offset = 0; bytes = 0; line = 0; shown = false; 
 
 pub loop-i-preserved : goal.loop-i-preserved
 unfolding no_item
-loop-i-preserved c = λ test h.
+loop-i-preserved c = λ test filled set firsts.
     let i = c.loop-i.i in
-    let statements = c.args.statements.now in
+    let u = c.args.unit.now in
     let items = c.args.items.now in
+    let starts = c.args.starts.now in
     let x = c.index-statements-i.result in
-    let inside : i < length statements = search rules in
+    let same = c.statements-statements.ensures in
+    let inside : i < length u.statements.items = search rules in
     let inside' : i < length items = search rules in
-    let all = map said_by statements in
-    let here : drop i all ≡ said_by x ∷ drop (i + 1) all = left_map said_by statements i x inside c.index-statements-i.is in
+    let all = said u in
+    let here : drop i all ≡ said_by x ∷ drop (i + 1) all = left_map said_by u.statements.items i x inside (c.index-statements-i.is ∙ ap (λ l. get_or l i x) same) in
     let at = drop_more items i no_item inside' in
-    let own = c.in_ok-put_definition.ensures test h in
-    let so_far = c.loop-i.invariant test h in (
-      defined_more test c.args.starts.now (drop i all) (drop (i + 1) all) (drop i items) (drop (i + 1) items) (said_by x) _ (map global_of c.loop-i.defined.items) (map global_of c.put_definition.new.defined.items) _ here at own.0 so_far.0,
-      own_more test (drop i all) (drop (i + 1) all) all (said_by x) here own.1 so_far.1,
-    )
+    let next : i + 1 + 1 ≡ suc (i + 1) = omega arith in
+    defined_more test (tables all) starts items (i + 1) (i + 1 + 1) (drop i all) (drop (i + 1) all) (drop i items) (drop (i + 1) items) (said_by x) _
+    (map global_of c.loop-i.defined.items) (map global_of c.put_definition.new.defined.items) _ next here at (c.in_ok-put_definition.ensures test filled set firsts) (c.loop-i.invariant test filled set firsts)
 
 pub returns : goal.returns
-returns c = λ test h.
+returns c = λ test filled set firsts.
     let n = c.loop-i.i in
-    let statements = c.args.statements.now in
-    let all = map said_by statements in
-    let past : length all ≤ n = subst (λ k. k ≤ n) (sym (length-map statements said_by)) c.loop-i-test.false in
+    let u = c.args.unit.now in
+    let all = said u in
+    let past : length all ≤ n = subst (λ k. k ≤ n) (ap length c.statements-statements.ensures ∙ sym (length-map u.statements.items said_by)) c.loop-i-test.false in
     let none : drop n all ≡ [] = at_drop_all (λ l. l) all n past in
-    let so_far = c.loop-i.invariant test h in (
-      sym (append-nil (map global_of c.loop-i.defined.items)) ∙ ap (λ l. map global_of c.loop-i.defined.items ++ definitions_from test c.args.starts.now l (drop n c.args.items.now)) (sym none) ∙ so_far.0,
-      so_far.1 (subst (AreOwn test) (sym none) tt),
-    )
+    sym (append-nil (map global_of c.loop-i.defined.items))
+    ∙ ap (λ l. map global_of c.loop-i.defined.items ++ definitions_from test (tables all) c.args.starts.now c.args.items.now (n + 1) l (drop n c.args.items.now)) (sym none)
+    ∙ c.loop-i.invariant test filled set firsts

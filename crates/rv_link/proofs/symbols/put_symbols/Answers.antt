@@ -8,8 +8,8 @@ use Rattle.rv_link.proofs.Named.{filtered_more}
 use Rattle.rv_link.proofs.symbols.put_symbols.Goals as goal
 
 pub returns : goal.returns
-returns c = λ test h.
-    let p : Global → Bool = λ g. not (is_one_of (names_from test (map said_by c.args.statements.now)) g.name) in
+returns c = λ test t set firsts.
+    let p : Global → Bool = λ g. not (is_one_of (names_from test t 1 (map said_by c.args.statements.now)) g.name) in
     let l = c.args.layout.now in
     let old = map shown_global c.args.symbols.now.items in
     let a = symbol (codes "_etext") l.text.end in
@@ -17,8 +17,8 @@ returns c = λ test h.
     let d = symbol (codes "_edata") l.data.end in
     let e = symbol (codes "_end") l.bss.end in
     let f = symbol (codes "__global_pointer$") (l.data.start + 0x800) in
-    let first = c.in_ok-put_symbol.ensures test h in
-    let second = filtered_more p old _ (map shown_global c.put_symbol-2.new.symbols.items) (a ∷ []) b first (c.in_ok-put_symbol-2.ensures test h) in
-    let third = filtered_more p old _ (map shown_global c.put_symbol-3.new.symbols.items) (a ∷ b ∷ []) d second (c.in_ok-put_symbol-3.ensures test h) in
-    let fourth = filtered_more p old _ (map shown_global c.put_symbol-4.new.symbols.items) (a ∷ b ∷ d ∷ []) e third (c.in_ok-put_symbol-4.ensures test h) in
-    filtered_more p old _ (map shown_global c.put_symbol-5.new.symbols.items) (a ∷ b ∷ d ∷ e ∷ []) f fourth (c.in_ok-put_symbol-5.ensures test h)
+    let first = c.in_ok-put_symbol.ensures test t set firsts in
+    let second = filtered_more p old _ (map shown_global c.put_symbol-2.new.symbols.items) (a ∷ []) b first (c.in_ok-put_symbol-2.ensures test t set firsts) in
+    let third = filtered_more p old _ (map shown_global c.put_symbol-3.new.symbols.items) (a ∷ b ∷ []) d second (c.in_ok-put_symbol-3.ensures test t set firsts) in
+    let fourth = filtered_more p old _ (map shown_global c.put_symbol-4.new.symbols.items) (a ∷ b ∷ d ∷ []) e third (c.in_ok-put_symbol-4.ensures test t set firsts) in
+    filtered_more p old _ (map shown_global c.put_symbol-5.new.symbols.items) (a ∷ b ∷ d ∷ e ∷ []) f fourth (c.in_ok-put_symbol-5.ensures test t set firsts)

@@ -1,9 +1,12 @@
-use Rattle.std.proofs.Common.{◌∙◌, sym, arith}
+use Rattle.std.proofs.Common.{◌∙◌, sym, arith, map}
 use Rattle.rv_text.specs.Token.{token_of}
 use Rattle.rv_text.specs.Cursor.{left}
 use Rattle.rv_parse_laws.proofs.Progress.{push_end, statement_shorter}
 use Rattle.std.proofs.lemmas.Result.{err_from_is_err_and}
 use Rattle.rv_parse.proofs.Statements.{statements_push, counted_push, behind, left_is, statements_end, refuses_here}
+use Rattle.rv_statement.specs.View.{said_by}
+use Rattle.rv_parse.specs.Opened.{is_had}
+use Rattle.rv_parse.proofs.Opened.{knows_push}
 use Rattle.rv_parse.proofs.source.statements.Goals as goal
 
 pub loop-cursor-preserved-then-is_end : goal.loop-cursor-preserved-then-is_end
@@ -11,24 +14,27 @@ loop-cursor-preserved-then-is_end c = record {
   says = push_end _ (token_of c.loop-cursor.cursor.next) (left c.loop-cursor.cursor) _ _ c.loop-cursor.invariant.says c.advance.ensures (sym c.is_end.ensures ∙ c.if-is_end.true);
   counted = c.loop-cursor.invariant.counted;
   within = c.loop-cursor.invariant.within;
+  knows = c.loop-cursor.invariant.knows;
 }
 
 pub loop-cursor-smaller : goal.loop-cursor-smaller
-loop-cursor-smaller c = statement_shorter _ _ _ c.in_ok-next_statement.ensures.read
+loop-cursor-smaller c = statement_shorter (map said_by c.loop-cursor.statements.items) _ _ _ (c.in_ok-statement.ensures.read (map said_by c.loop-cursor.statements.items) c.loop-cursor.invariant.knows)
 
 pub loop-cursor-preserved : goal.loop-cursor-preserved
 loop-cursor-preserved c = record {
-  says = statements_push _ (token_of c.loop-cursor.cursor.next) (left c.loop-cursor.cursor) (behind c.loop-cursor.cursor) _ c.in_ok-next_statement.field-0 c.loop-cursor.statements.items _
-      c.loop-cursor.invariant.says (left_is c.loop-cursor.cursor) c.in_ok-next_statement.ensures.read c.in_ok-next_statement.ensures.line c.in_ok-push.ensures.items;
-  counted = counted_push c.in_ok-next_statement.field-0 c.loop-cursor.statements.items _ _ c.loop-cursor.invariant.counted c.in_ok-push.ensures.items;
-  within = omega (arith, c.in_ok-next_statement.ensures.room);
+  says = statements_push _ (token_of c.loop-cursor.cursor.next) (left c.loop-cursor.cursor) (behind c.loop-cursor.cursor) _ c.in_ok-statement.statement c.loop-cursor.statements.items _
+      c.loop-cursor.invariant.says (left_is c.loop-cursor.cursor) (c.in_ok-statement.ensures.read (map said_by c.loop-cursor.statements.items) c.loop-cursor.invariant.knows) c.in_ok-statement.ensures.line c.in_ok-push.ensures.items;
+  counted = counted_push c.in_ok-statement.statement c.loop-cursor.statements.items _ _ c.loop-cursor.invariant.counted c.in_ok-push.ensures.items;
+  within = omega (arith, c.in_ok-statement.ensures.room);
+  knows = knows_push c.add.new.self.set c.loop-cursor.statements.items _ c.in_ok-statement.statement
+      (c.in_ok-add.ensures (λ n. is_had (map said_by c.loop-cursor.statements.items) n) c.loop-cursor.invariant.knows) c.in_ok-push.ensures.items;
 }
 
 pub returns-clause-says : goal.returns-clause-says
 returns-clause-says c = statements_end _ c.loop-cursor.cursor _ c.loop-cursor.invariant.says (sym c.is_source_end.ensures ∙ c.loop-cursor-test.false)
 
-pub returns-in_err-next_statement-clause-refuses : goal.returns-in_err-next_statement-clause-refuses
-returns-in_err-next_statement-clause-refuses c =
+pub returns-in_err-statement-clause-refuses : goal.returns-in_err-statement-clause-refuses
+returns-in_err-statement-clause-refuses c =
     let p = err_from_is_err_and c.from_residual.result c.from_residual.ensures.1 in
     rw (p.1, p.2) (refuses_here _ c.loop-cursor.cursor _ _ _ c.loop-cursor.invariant.says (sym c.is_end.ensures ∙ c.if-is_end.false) c.loop-cursor.invariant.counted
-    (c.in_err-next_statement.ensures.stops c.loop-cursor.invariant.within))
+    (c.in_err-statement.ensures.stops (map said_by c.loop-cursor.statements.items) c.loop-cursor.invariant.knows c.loop-cursor.invariant.within))

@@ -3,6 +3,7 @@ use Rattle.rv_parse_laws.specs.Reading.{SaysUpTo, most_statements}
 use Rattle.rv_text.specs.Left.{tokens_left}
 use Rattle.rv_statement.specs.View.{said_by}
 use Rattle.rv_text.specs.Cursor.{left}
+use Rattle.rv_parse.specs.Opened.{Knows}
 use Rattle.rv_parse.proofs.source.statements.Given as goal
 
 -- the tokens say the statements so far, up to those that are left
@@ -11,6 +12,7 @@ invariant-loop-cursor l = record {
   says : SaysUpTo (tokens_left l.fn.lexer) (left l.cursor) (map said_by l.statements.items);
   counted : length (map said_by l.statements.items) ≡ l.count;
   within : l.count ≤ most_statements;
+  knows : Knows l.opened.set (map said_by l.statements.items);
 }
 
 abbrev pub decreases-loop-cursor : goal.decreases-loop-cursor

@@ -1,0 +1,55 @@
+-- The names without an address, as the code finds them.
+
+use Rattle.std.specs.Prelude.{◌≡◌, ℕ, suc, ◌+◌, ◌==◌, ◌&&◌, ◌||◌, Bool, true, false, List, [], ◌∷◌, flat_map, filter, Option, Some, None, option_map, slice_index_or, if◌then◌else◌}
+use Rattle.std.specs.Borrow.{Bor}
+use Rattle.rv_text_laws.specs.Expression.{Primary}
+use Rattle.rv_statement.specs.Statement.{Spoken, Expression}
+use Rattle.rv_statement.specs.View.{now_of}
+use Rattle.rv_unit_laws.specs.Tables.{Place, tables, at_start, home, value}
+use Rattle.rv_unit.specs.Unit.{said, IsFilled, IsScope}
+use Rattle.rv_unit.specs.declared.scope.Scope.{Scope}
+use Rattle.rv_chain_laws.specs.Stated.{stated}
+use Rattle.rv_chain_laws.specs.Refusals.{has_address_by, missing_in, missing_by, first_name}
+use Rattle.rv_link.specs.declared.rows.Item.{Item}
+use Rattle.rv_link_laws.specs.Items.{AreItems}
+
+-- whether the statement of an ordinal has a row; those of the items count on from another
+abbrev pub shown_by : ℕ → List Item → ℕ → Bool
+shown_by k [] ordinal = false
+shown_by k (i ∷ is) ordinal = ((k == ordinal) && i.shown) || shown_by (suc k) is ordinal
+
+-- whether what the statement at an index names has an address
+abbrev pub addressed : List Spoken → ℕ → Primary → Bool
+addressed ss index q = has_address_by (stated (ss ∷ [])) q (home (tables ss) (index + 1) q)
+
+-- what expressions of the statement at an index refer to without an address
+abbrev pub missing_at : List Spoken → ℕ → Place → List Expression → List (List ℕ)
+missing_at ss index place es = flat_map (λ e. missing_in (addressed ss index) (value (tables ss) true (index + 1) place e)) es
+
+-- the statement at an index is next, and the statements have these items
+pub record Sees (s : Scope) (is : List Item) (index : ℕ) : Type 0 where
+  pub filled : IsFilled s.unit.now
+  pub stands : IsScope s index
+  pub last : ℕ → ℕ
+  pub items : AreItems 1 at_start (λ j. 0) (said s.unit.now) is last
+
+-- what is found is the first of the names
+abbrev pub IsFirst : Option (Bor (List ℕ)) → List (List ℕ) → Type 0
+IsFirst found names = option_map now_of found ≡ first_name names
+
+-- what was found of a section
+abbrev pub found_in : List (Option (Bor (List ℕ))) → ℕ → Option (List ℕ)
+found_in found j = option_map now_of (slice_index_or found j None)
+
+abbrev pub else_name : Option (List ℕ) → Option (List ℕ) → Option (List ℕ)
+else_name None other = other
+else_name (Some name) other = Some name
+
+-- the first name of the statements of a section
+abbrev pub first_in : List Spoken → ℕ → Option (List ℕ)
+first_in ss j = first_name (flat_map (missing_by ss) (filter (λ s. s.section == j) (stated (ss ∷ []))))
+
+-- the first that was found
+abbrev pub first_some : List (Option (Bor (List ℕ))) → Option (List ℕ)
+first_some [] = None
+first_some (o ∷ os) = else_name (option_map now_of o) (first_some os)

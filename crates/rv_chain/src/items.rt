@@ -1,0 +1,347 @@
+//! The statements of a source as items: their bytes, one behind the other in each section, and which have a row in the
+//! map.
+
+ghost use Rattle.std.specs.Prelude.{◌≡◌, ◌&&◌, ◌+◌, ◌*◌, ◌<◌, ◌≤◌, ◌^◌, ℕ, true, false, length, map, slice_index, slice_set, IfOk};
+ghost use Rattle.rv_text_laws.specs.Values as values;
+ghost use Rattle.rv_text.specs.Eval.{IsOutcome};
+ghost use Rattle.rv_statement.specs.View.{bytes_of, quoted, statement_of};
+ghost use Rattle.rv_unit_laws.specs.Sections.{goes_to_text};
+ghost use Rattle.rv_unit_laws.specs.Tables as laws;
+ghost use Rattle.rv_unit.specs.Sections.{place_of, section_of};
+ghost use Rattle.rv_unit.specs.Unit.{said, passed, IsFilled, IsScope};
+ghost use Rattle.rv_chain_laws.specs.Stated.{is_placed};
+ghost use Rattle.rv_chain_laws.specs.Fits.{is_low};
+ghost use Rattle.rv_link_laws.specs.Items.{AreItems};
+ghost use Rattle.rv_link_laws.specs.Suits.{IsMultiple};
+ghost use Rattle.rv_chain.specs.Sized.{AreSized, IsAligned, IsPadded, IsSized};
+ghost use Rattle.rv_chain.specs.Measured.{stretch, is_executed, IsSize, IsExtentAt};
+
+use crate::instruction::constant;
+use rv_link::Item;
+use rv_statement::{Statement, StatementKind, Width};
+use rv_text::{SourceCode, SourceFault, Value};
+use rv_unit::{
+    Extent, Place, Scope, Section, Unit, asked_bytes, asked_power, padding, strings_size,
+    values_size,
+};
+use std::alloc::{AllocError, Global};
+
+/// The longest section, in bytes.
+const LONGEST_SECTION: u64 = 1 << 28;
+
+/// So many bytes, where a section can have them.
+fn fitting(bytes: u64, line: u32) -> Result<u32, SourceFault>
+    ensures same { IfOk result (λ n. n ≡ bytes) }
+    ensures fits { IfOk result (λ n. n ≤ 2 ^ 28) }
+{
+    if bytes > LONGEST_SECTION {
+        return Err(SourceFault::At {
+            code: SourceCode::Limit,
+            line,
+        });
+    }
+    Ok(bytes as u32)
+}
+
+/// The bytes of values of data.
+fn bytes_of_values(width: Width, count: usize, line: u32) -> Result<u32, SourceFault>
+    ensures { IfOk result (λ n. n ≡ bytes_of width * count) }
+{
+    fitting(values_size(width, count), line)
+}
+
+/// The bytes of strings, where asked with a zero byte behind each.
+fn bytes_of_strings(ended: bool, strings: &[&[u8]], line: u32) -> Result<u32, SourceFault>
+    ensures { IfOk result (λ n. n ≡ length (laws.string_bytes ended (map quoted strings.now))) }
+{
+    fitting(strings_size(ended, strings), line)
+}
+
+/// As many bytes as a value says.
+fn bytes_of_zeros(value: Result<Value<'_>, SourceFault>, line: u32) -> Result<u32, SourceFault>
+    ensures { IfOk result (λ n. (v : values.Value) → IsOutcome value.entry line v → v ≡ values.Constant n) }
+{
+    let count = constant(value, line)?;
+    fitting(count, line)
+}
+
+/// Whether a section that asks to begin at a multiple of one number begins at one of an alignment.
+fn is_multiple(begins: u32, alignment: Option<u32>) -> bool
+    ensures { result ≡ true → IsMultiple alignment begins }
+{
+    match alignment {
+        None => true,
+        Some(0) => false,
+        Some(alignment) => begins % alignment == 0,
+    }
+}
+
+/// The padding of an alignment in code: none; a greater one than 2 is not built yet.
+fn padding_in_code(alignment: Option<u32>, line: u32) -> Result<u32, SourceFault>
+    ensures { IfOk result (λ n. (n ≡ 0) × (is_low alignment ≡ true)) }
+{
+    match alignment {
+        Some(alignment) if alignment > 2 => Err(SourceFault::At {
+            code: SourceCode::UnsupportedHere,
+            line,
+        }),
+        _ => Ok(0),
+    }
+}
+
+/// The padding of an alignment in data, in a section that asks to begin at a multiple of this number.
+fn padding_in_data(
+    begins: u32,
+    alignment: Option<u32>,
+    offset: u32,
+    line: u32,
+) -> Result<u32, SourceFault>
+    ensures { IfOk result (λ n. (n ≡ laws.padding alignment offset) × IsMultiple alignment begins) }
+{
+    if !is_multiple(begins, alignment) {
+        return Err(SourceFault::At {
+            code: SourceCode::ImmediateRange,
+            line,
+        });
+    }
+    fitting(padding(alignment, offset), line)
+}
+
+/// The padding of an alignment behind so many bytes of a section.
+fn bytes_of_padding(
+    extent: Extent<'_>,
+    alignment: Option<u32>,
+    offset: u32,
+    line: u32,
+) -> Result<u32, SourceFault>
+    ensures { IfOk result (λ n. IsPadded (extent.entry).section.executable (stretch offset n) (extent.entry).alignment alignment) }
+{
+    if extent.section.executable {
+        return padding_in_code(alignment, line);
+    }
+    padding_in_data(extent.alignment, alignment, offset, line)
+}
+
+/// The padding to the power of two that a value says.
+fn padding_to_power(
+    value: Result<Value<'_>, SourceFault>,
+    extent: Extent<'_>,
+    offset: u32,
+    line: u32,
+) -> Result<u32, SourceFault>
+    ensures { IfOk result (λ n. (v : values.Value) → IsOutcome value.entry line v → IsAligned v (extent.entry).section.executable (stretch offset n) (extent.entry).alignment (laws.asked_power v)) }
+{
+    let power = constant(value, line)?;
+    let alignment = asked_power(Ok(Value::Constant(power)));
+    bytes_of_padding(extent, alignment, offset, line)
+}
+
+/// The padding to a multiple of as many bytes as a value says.
+fn padding_to_bytes(
+    value: Result<Value<'_>, SourceFault>,
+    extent: Extent<'_>,
+    offset: u32,
+    line: u32,
+) -> Result<u32, SourceFault>
+    ensures { IfOk result (λ n. (v : values.Value) → IsOutcome value.entry line v → IsAligned v (extent.entry).section.executable (stretch offset n) (extent.entry).alignment (laws.asked_bytes v)) }
+{
+    let bytes = constant(value, line)?;
+    let alignment = asked_bytes(Ok(Value::Constant(bytes)));
+    bytes_of_padding(extent, alignment, offset, line)
+}
+
+/// The bytes of the statement that is next, in a section that has so many before it.
+fn size(
+    scope: &Scope<'_, '_>,
+    statement: &Statement<'_>,
+    place: Place,
+    extent: Extent<'_>,
+    offset: u32,
+) -> Result<u32, SourceFault>
+    ensures { IfOk result (λ n. (index : ℕ) → IsFilled (scope.now).unit.now → IsScope scope.now index
+        → IsSize (λ e. laws.value (laws.tables (said (scope.now).unit.now)) true (index + 1) (place_of place) e) (extent.entry).section.executable (extent.entry).alignment offset (statement_of (statement.now).kind) n) }
+{
+    let line = statement.line;
+    match &statement.kind {
+        StatementKind::Plain(_) => Ok(4),
+        StatementKind::With(..) => Ok(4),
+        StatementKind::Value(width, _) => bytes_of_values(*width, 1, line),
+        StatementKind::Values(width, values) => bytes_of_values(*width, values.len(), line),
+        StatementKind::Ascii(strings) => bytes_of_strings(false, strings, line),
+        StatementKind::Asciz(strings) => bytes_of_strings(true, strings, line),
+        StatementKind::Zeros(count) => bytes_of_zeros(scope.value(place, count, line), line),
+        StatementKind::AlignsToPower(power) => {
+            padding_to_power(scope.value(place, power, line), extent, offset, line)
+        }
+        StatementKind::AlignsToBytes(bytes) => {
+            padding_to_bytes(scope.value(place, bytes, line), extent, offset, line)
+        }
+        StatementKind::Label(_) => Ok(0),
+        StatementKind::Numbered(_) => Ok(0),
+        StatementKind::Sets(_) => Ok(0),
+        StatementKind::Enters(_) => Ok(0),
+        StatementKind::Opens(_) => Ok(0),
+        StatementKind::Globl(_) => Ok(0),
+        StatementKind::Local(_) => Ok(0),
+        StatementKind::Chooses(_) => Ok(0),
+        StatementKind::Ignored => Ok(0),
+    }
+}
+
+/// The bytes of the statement that is next, where it has a row; else none.
+fn shown_size(
+    shown: bool,
+    scope: &Scope<'_, '_>,
+    statement: &Statement<'_>,
+    place: Place,
+    extent: Extent<'_>,
+    offset: u32,
+) -> Result<u32, SourceFault>
+    ensures absent { IfOk result (λ n. shown ≡ false → n ≡ 0) }
+    ensures size { IfOk result (λ n. (index : ℕ) → IsFilled (scope.now).unit.now → IsScope scope.now index → shown ≡ true
+        → IsSize (λ e. laws.value (laws.tables (said (scope.now).unit.now)) true (index + 1) (place_of place) e) (extent.entry).section.executable (extent.entry).alignment offset (statement_of (statement.now).kind) n) }
+{
+    if !shown {
+        return Ok(0);
+    }
+    size(scope, statement, place, extent, offset)
+}
+
+/// Whether a statement is executed.
+fn executed(kind: &StatementKind<'_>) -> bool
+    ensures { result ≡ is_executed (statement_of kind.now) }
+{
+    matches!(kind, StatementKind::Plain(_) | StatementKind::With(..))
+}
+
+/// Whether the statement that is next has a row where its section is loaded.
+fn placed<'a>(scope: &Scope<'_, 'a>, kind: &StatementKind<'a>) -> bool
+    ensures { (index : ℕ) → IsFilled (scope.now).unit.now → IsScope scope.now index → result ≡ is_placed (passed (said (scope.now).unit.now) index) (index + 1) (statement_of kind.now) }
+{
+    match kind {
+        StatementKind::Sets(setting) => scope.gives_place(setting),
+        StatementKind::Label(_) => true,
+        StatementKind::Numbered(_) => true,
+        StatementKind::Plain(_) => true,
+        StatementKind::With(..) => true,
+        StatementKind::Value(..) => true,
+        StatementKind::Values(..) => true,
+        StatementKind::Ascii(_) => true,
+        StatementKind::Asciz(_) => true,
+        StatementKind::Zeros(_) => true,
+        StatementKind::AlignsToPower(_) => true,
+        StatementKind::AlignsToBytes(_) => true,
+        StatementKind::Enters(_) => false,
+        StatementKind::Opens(_) => false,
+        StatementKind::Globl(_) => false,
+        StatementKind::Local(_) => false,
+        StatementKind::Chooses(_) => false,
+        StatementKind::Ignored => false,
+    }
+}
+
+/// Whether a section goes to the text.
+fn in_text(section: Section<'_>) -> bool
+    ensures { result ≡ goes_to_text (section_of section.entry) }
+{
+    section.loaded && section.executable
+}
+
+/// The bytes that a section has so far.
+fn end(ends: &[u32], section: u32) -> u32
+    requires { section < length ends.now }
+    ensures { result ≡ slice_index ends.now section }
+{
+    ends[section as usize]
+}
+
+/// So many sections without a byte.
+#[tactic(auto, using(crate::proofs::Itemized::none_behind))]
+fn no_bytes(alloc: Global, count: usize) -> Result<Vec<u32>, AllocError>
+    ensures count { IfOk result (λ ends. length ends.items ≡ count) }
+    ensures none { IfOk result (λ ends. (j : ℕ) → slice_index ends.items j ≡ 0) }
+{
+    let mut ends = Vec::new(alloc);
+    for _ in 0..count {
+        ends.push(0)?;
+    }
+    Ok(ends)
+}
+
+/// The section at a place.
+#[tactic(auto, using(crate::proofs::Itemized::got_map, crate::proofs::Itemized::read_map))]
+fn extent_at<'a>(extents: &[Extent<'a>], section: u32) -> Extent<'a>
+    requires { section < length extents.now }
+    ensures { IsExtentAt extents.now section result }
+{
+    extents[section as usize]
+}
+
+/// The item of the statement that is next, in a section that has so many bytes before it.
+fn next_item<'a>(
+    scope: &Scope<'_, 'a>,
+    statement: &Statement<'a>,
+    place: Place,
+    extent: &Extent<'_>,
+    offset: u32,
+) -> Result<Item, SourceFault>
+    requires { offset ≤ 2 ^ 28 }
+    ensures section { IfOk result (λ x. x.section ≡ place.section) }
+    ensures offset { IfOk result (λ x. x.offset ≡ offset) }
+    ensures line { IfOk result (λ x. x.line ≡ (statement.now).line) }
+    ensures text { IfOk result (λ x. x.text ≡ goes_to_text (section_of (extent.now).section)) }
+    ensures shown { IfOk result (λ x. (index : ℕ) → IsFilled (scope.now).unit.now → IsScope scope.now index → x.shown ≡ (is_placed (passed (said (scope.now).unit.now) index) (index + 1) (statement_of (statement.now).kind) && (extent.now).section.loaded)) }
+    ensures absent { IfOk result (λ x. x.shown ≡ false → x.bytes ≡ 0) }
+    ensures sized { IfOk result (λ x. (index : ℕ) → IsFilled (scope.now).unit.now → IsScope scope.now index → x.shown ≡ true
+        → IsSized (λ e. laws.value (laws.tables (said (scope.now).unit.now)) true (index + 1) (place_of place) e) (extent.now).section.executable x (extent.now).alignment (statement_of (statement.now).kind)) }
+    ensures fits { IfOk result (λ x. x.offset + x.bytes ≤ 2 ^ 28) }
+{
+    let line = statement.line;
+    let shown = placed(scope, &statement.kind) && extent.section.loaded;
+    let bytes = shown_size(shown, scope, statement, place, *extent, offset)?;
+    fitting(u64::from(offset) + u64::from(bytes), line)?;
+    Ok(Item {
+        section: place.section,
+        offset,
+        bytes,
+        line,
+        shown,
+        executed: executed(&statement.kind),
+        text: in_text(extent.section),
+    })
+}
+
+/// Adds the bytes of an item to its section, which has those before it.
+fn grow(ends: &mut Vec<u32>, item: Item)
+    requires section { item.section < length ends.old.items }
+    requires fits { item.offset + item.bytes ≤ 2 ^ 28 }
+    ensures { ends.new.items ≡ slice_set ends.old.items item.section (item.offset + item.bytes) }
+{
+    ends[item.section as usize] = item.offset + item.bytes;
+}
+
+/// The items of a source's statements, and the bytes of each section behind the last of them.
+pub(crate) fn items(alloc: Global, unit: &Unit<'_>) -> Result<(Vec<Item>, Vec<u32>), SourceFault>
+    requires { IsFilled unit.now }
+    ensures count { IfOk result (λ r. length r.0.items ≡ length (unit.now).statements.items) }
+    ensures sections { IfOk result (λ r. length r.1.items ≡ length (unit.now).tables.extents.items) }
+    ensures items { IfOk result (λ r. AreItems 1 laws.at_start (λ j. 0) (said unit.now) r.0.items (λ j. slice_index r.1.items j)) }
+    ensures sized { IfOk result (λ r. AreSized (laws.tables (said unit.now)) 1 laws.at_start (said unit.now) r.0.items) }
+{
+    let mut scope = Scope::new(alloc, unit)?;
+    let statements = unit.statements();
+    let places = unit.places();
+    let extents = unit.sections();
+    let mut ends = no_bytes(alloc, extents.len())?;
+    let mut items = Vec::new(alloc);
+    for index in 0..statements.len() {
+        let place = places[index];
+        let extent = extent_at(extents, place.section);
+        let offset = end(ends.as_slice(), place.section);
+        let item = next_item(&scope, &statements[index], place, &extent, offset)?;
+        grow(&mut ends, item);
+        items.push(item)?;
+        scope.pass()?;
+    }
+    Ok((items, ends))
+}

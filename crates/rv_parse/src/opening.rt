@@ -1,0 +1,165 @@
+//! The openings of sections: the names that a source has had, and what is wrong with the flags or the type of a name.
+
+ghost use Rattle.std.specs.Str.{bytes_eq};
+ghost use Rattle.std.specs.Prelude.{◌≡◌, ℕ, List, [], Bool, ◌||◌, option_map, IfOk, OnOk};
+ghost use Rattle.rv_text.specs.Cursor.{left, wrong_of};
+ghost use Rattle.rv_statement.specs.Statement.{Spoken};
+ghost use Rattle.rv_statement.specs.View.{statement_of};
+ghost use Rattle.rv_parse_laws.specs.Opening.{standard_name, opens, is_opened, flags_fault, type_fault};
+ghost use Rattle.rv_parse_laws.specs.Parsing.{front_fault, type_wrong, flags_wrong, opening_at};
+ghost use Rattle.rv_parse.specs.Opened.{Has, Knows};
+
+use crate::fault::{self, Slot};
+use crate::{kinds, place, words};
+use rv_statement::{Standard, StatementKind};
+use rv_text::{Cursor, LONGEST_NAME, SourceCode, TokenKind, Wrong, append_string};
+use std::alloc::{AllocError, Global};
+use std::collections::HashSet;
+
+/// The name of a section that has a directive of its own.
+fn standard_name(standard: Standard) -> &'static [u8]
+    ensures { result.now ≡ standard_name standard }
+{
+    match standard {
+        Standard::Text => b".text",
+        Standard::Data => b".data",
+        Standard::Rodata => b".rodata",
+        Standard::Bss => b".bss",
+    }
+}
+
+/// The names of the sections that statements opened or entered so far.
+#[derive(Drop)]
+pub struct Opened<'a> {
+    pub set: HashSet<&'a [u8]>,
+}
+
+impl<'a> Opened<'a> {
+    /// None yet.
+    pub fn new(alloc: Global) -> Self
+        ensures { Knows result.set [] }
+    {
+        Opened {
+            set: HashSet::new(alloc),
+        }
+    }
+
+    /// Whether a statement had this name; a source begins in `.text`.
+    pub fn has(&self, name: &[u8]) -> bool
+        ensures { (ss : List Spoken) → Knows (self.now).set ss → result ≡ is_opened ss name.now }
+    {
+        name == b".text".as_slice() || self.set.contains(&name)
+    }
+
+    /// Adds a name.
+    fn insert(&mut self, name: &'a [u8]) -> Result<(), AllocError>
+        ensures { OnOk result ((test : List ℕ → Bool) → Has (self.old).set test → Has (self.new).set (λ n. bytes_eq name.now n || test n)) }
+    {
+        self.set.insert(name)?;
+        Ok(())
+    }
+
+    /// Adds what a statement opens or enters.
+    pub fn add(&mut self, kind: &StatementKind<'a>) -> Result<(), AllocError>
+        ensures { OnOk result ((test : List ℕ → Bool) → Has (self.old).set test → Has (self.new).set (λ n. opens n (statement_of kind.now) || test n)) }
+    {
+        match kind {
+            StatementKind::Enters(standard) => self.insert(standard_name(*standard)),
+            StatementKind::Opens(opening) => self.insert(opening.name),
+            _ => Ok(()),
+        }
+    }
+}
+
+/// What is wrong with the next token as the type of a name that is known, or new.
+#[tactic(auto, unfolding(rv_text::specs::Cursor::left))]
+fn type_fault(cursor: &Cursor<'_>, known: bool) -> Option<Wrong>
+    ensures { option_map wrong_of result ≡ front_fault (type_fault known) (left cursor.now) }
+{
+    let TokenKind::Name(word) = cursor.next.kind else {
+        return None;
+    };
+    if known {
+        if LONGEST_NAME < word.len() {
+            return Some(cursor.wrong(SourceCode::Limit));
+        }
+        return None;
+    }
+    if words::is_section_type(word) {
+        None
+    } else {
+        Some(cursor.wrong(SourceCode::UnsupportedHere))
+    }
+}
+
+/// What is wrong with the next token as the flags of a name that is known, or new.
+#[tactic(auto, unfolding(rv_text::specs::Cursor::left))]
+fn flags_fault(alloc: Global, cursor: &Cursor<'_>, known: bool) -> Result<Option<Wrong>, AllocError>
+    ensures { IfOk result (λ found. option_map wrong_of found ≡ front_fault (flags_fault known) (left cursor.now)) }
+{
+    if known {
+        return Ok(None);
+    }
+    let TokenKind::Text(text) = cursor.next.kind else {
+        return Ok(None);
+    };
+    let mut letters = Vec::new(alloc);
+    append_string(text, &mut letters)?;
+    if words::are_flags(letters.as_slice()) {
+        Ok(None)
+    } else {
+        Ok(Some(cursor.wrong(fault::at_flags(letters.as_slice()))))
+    }
+}
+
+/// What is wrong with the type behind flags, a comma and `@`.
+fn type_wrong(cursor: Cursor<'_>, known: bool) -> Option<Wrong>
+    ensures { option_map wrong_of result ≡ type_wrong known (left cursor.entry) }
+{
+    let mut ahead = cursor;
+    if place::flags(&mut ahead).is_err() {
+        return None;
+    }
+    if place::comma(&mut ahead, Slot::Flags).is_err() {
+        return None;
+    }
+    if place::at_sign(&mut ahead).is_err() {
+        return None;
+    }
+    type_fault(&ahead, known)
+}
+
+/// What is wrong with flags and the type behind them.
+fn flags_wrong(alloc: Global, cursor: Cursor<'_>, known: bool) -> Result<Option<Wrong>, AllocError>
+    ensures { IfOk result (λ found. option_map wrong_of found ≡ flags_wrong known (left cursor.entry)) }
+{
+    match flags_fault(alloc, &cursor, known)? {
+        Some(wrong) => Ok(Some(wrong)),
+        None => Ok(type_wrong(cursor, known)),
+    }
+}
+
+/// What is wrong with the flags or the type of an opening that begins here: they count where the name is new.
+#[tactic(auto, using(crate::proofs::Opened::section_no_last, crate::proofs::Opened::named_left, crate::proofs::Opened::name_wrong, crate::proofs::Opened::comma_wrong), unfolding(rv_text::specs::Cursor::left, rv_parse_laws::specs::Parsing::opening_at))]
+pub fn wrong_opening(
+    alloc: Global,
+    cursor: Cursor<'_>,
+    opened: &Opened<'_>,
+) -> Result<Option<Wrong>, AllocError>
+    ensures { IfOk result (λ found. (ss : List Spoken) → Knows (opened.now).set ss → option_map wrong_of found ≡ opening_at (is_opened ss) (left cursor.entry)) }
+{
+    if !kinds::opens_section(cursor.next.kind) {
+        return Ok(None);
+    }
+    let mut ahead = cursor;
+    ahead.advance();
+    match place::section_name(&mut ahead) {
+        Ok(name) => {
+            if place::comma(&mut ahead, Slot::Section).is_err() {
+                return Ok(None);
+            }
+            flags_wrong(alloc, ahead, opened.has(name))
+        }
+        Err(_) => Ok(None),
+    }
+}

@@ -1,0 +1,85 @@
+-- The openings of sections: the flags and the type that `.section` gives a name count where the name is new; later ones
+-- are not looked at (GNU as, ".section").
+
+use Rattle.std.specs.Prelude.{◌≡◌, ℕ, Bool, true, false, ◌||◌, nat_lt, List, [], ◌∷◌, ◌++◌, length, Option, Some, None, codes, ◌⊎◌, if◌then◌else◌}
+use Rattle.std.specs.List.{list_all, list_any}
+use Rattle.std.specs.Str.{bytes_eq}
+use Rattle.rv_text_laws.specs.Grammar.{Kind, Name as NameToken, Text}
+use Rattle.rv_text_laws.specs.Lexing.{Token}
+use Rattle.rv_text_laws.specs.Wrong.{longest_name, limit}
+use Rattle.rv_text_laws.specs.Joined.{IsJoined}
+use Rattle.rv_statement.specs.declared.directive.DirectiveWord.TheVariants as words
+use Rattle.rv_statement.specs.declared.directive.Standard.{Standard}
+use Rattle.rv_statement.specs.declared.directive.Standard.TheVariants as standards
+use Rattle.rv_statement.specs.Statement.{Enters, Opens, Statement, Directs, Spoken}
+use Rattle.rv_parse_laws.specs.Words.{is_among, section_types, Beginning, Begins_directive}
+use Rattle.rv_parse_laws.specs.Syntax.{begins, is_comma, is_at, is_flag, is_section_name}
+use Rattle.rv_parse_laws.specs.Faults.{unsupported_here, wrong_letters}
+
+-- the sections that have a directive of their own
+abbrev pub standard_name : Standard → List ℕ
+standard_name standards.Text = codes ".text"
+standard_name standards.Data = codes ".data"
+standard_name standards.Rodata = codes ".rodata"
+standard_name standards.Bss = codes ".bss"
+
+-- a statement opens, or enters, the section of this name
+abbrev pub opens : List ℕ → Statement → Bool
+opens name (Directs (Enters standard)) = bytes_eq (standard_name standard) name
+opens name (Directs (Opens other flags kind)) = bytes_eq other name
+opens name _ = false
+
+-- a statement had this name; a source begins in `.text`
+abbrev pub is_opened : List Spoken → List ℕ → Bool
+is_opened ss name = bytes_eq name (codes ".text") || list_any (λ (s : Spoken). opens name s.says) ss
+
+-- the code of a string as the flags of a name that is known, or new
+abbrev pub flags_fault : Bool → Kind → Option ℕ
+flags_fault false (Text letters) = if list_all is_flag letters then None else Some (wrong_letters letters)
+flags_fault _ k = None
+
+-- the code of a word as the type of a name that is known, or new
+abbrev pub type_fault : Bool → Kind → Option ℕ
+type_fault true (NameToken word) = if nat_lt longest_name (length word) then Some limit else None
+type_fault false (NameToken word) = if is_among section_types word then None else Some unsupported_here
+type_fault _ k = None
+
+abbrev pub is_text : Kind → Bool
+is_text (Text bytes) = true
+is_text _ = false
+
+-- a statement that begins so opens a section
+abbrev pub is_section : Beginning → Bool
+is_section (Begins_directive words.Section) = true
+is_section _ = false
+
+-- the tokens are `.section`, this name and a comma
+abbrev pub IsNamed : List Token → List ℕ → Type 0
+IsNamed ts name =
+    (word : Token) × (text : List Token) × (comma : Token) × (ts ≡ word ∷ (text ++ comma ∷ [])) × (is_section (begins word.kind) ≡ true)
+    × IsJoined text name × (is_section_name name ≡ true) × (is_comma comma.kind ≡ true)
+
+-- behind such tokens a string is wrong as flags
+pub record WrongFlags (known : List ℕ → Bool) (before : List Token) (at : Token) (code : ℕ) : Type 0 where
+  pub name : List ℕ
+  pub named : IsNamed before name
+  pub wrong : flags_fault (known name) at.kind ≡ Some code
+
+-- behind such tokens, flags that are not wrong, a comma and `@`, a word is wrong as a type
+pub record WrongType (known : List ℕ → Bool) (before : List Token) (at : Token) (code : ℕ) : Type 0 where
+  pub name : List ℕ
+  pub front : List Token
+  pub flags : Token
+  pub comma : Token
+  pub sign : Token
+  pub whole : before ≡ front ++ flags ∷ comma ∷ sign ∷ []
+  pub named : IsNamed front name
+  pub text : is_text flags.kind ≡ true
+  pub good : flags_fault (known name) flags.kind ≡ None
+  pub comma_is : is_comma comma.kind ≡ true
+  pub sign_is : is_at sign.kind ≡ true
+  pub wrong : type_fault (known name) at.kind ≡ Some code
+
+-- behind the statements ss the tokens `before` begin an opening with whose name the token `at` is wrong
+abbrev pub IsWrongOpening : List Spoken → List Token → Token → ℕ → Type 0
+IsWrongOpening ss before at code = WrongFlags (is_opened ss) before at code ⊎ WrongType (is_opened ss) before at code
