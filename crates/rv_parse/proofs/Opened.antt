@@ -7,12 +7,12 @@ use Rattle.rv_text_laws.specs.Wrong.{Wrong, Read}
 use Rattle.rv_statement.specs.Statement.{Operand, Word, Spoken}
 use Rattle.rv_statement.specs.View.{statement_of, said_by}
 use Rattle.rv_statement.specs.declared.statement.Statement.{Statement}
-use Rattle.rv_parse_laws.specs.Syntax.{begins, A_section, A_comma}
+use Rattle.rv_parse_laws.specs.Syntax.{A_section, A_comma}
 use Rattle.rv_parse_laws.specs.Opening.{is_section, opens}
 use Rattle.rv_parse_laws.specs.Parsing.{operand_at, seen_as, section_at, flags_wrong, named_wrong}
 use Rattle.rv_parse.specs.Opened.{NameSet, Has, is_had, Knows}
 
-pub section_no_last : (k : Kind) → is_section (begins k) ≡ true → is_last k ≡ false
+pub section_no_last : (k : Kind) → is_section k ≡ true → is_last k ≡ false
 section_no_last (NameToken name) h = refl
 section_no_last _ h = absurd (cc)
 

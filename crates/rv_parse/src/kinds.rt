@@ -13,7 +13,7 @@ ghost use Rattle.rv_parse.specs.View.{beginning_of, choice_of, word_of, string_o
 
 use crate::words::{Beginning, accesses_named, beginning_with, choice_named, register_named};
 use rv_isa::Reg;
-use rv_statement::{AccessSet, Choice, DirectiveWord, StatementKind};
+use rv_statement::{AccessSet, Choice, StatementKind};
 use rv_text::{LONGEST_NAME, Sign, TokenKind};
 
 /// A name that a symbol may have.
@@ -171,11 +171,14 @@ pub fn begins(kind: TokenKind<'_>) -> Beginning
     }
 }
 
-/// A statement that begins with the token opens a section.
-pub fn opens_section(kind: TokenKind<'_>) -> bool
-    ensures { result ≡ is_section (begins (kind_of kind.entry)) }
+/// The word `.section`.
+pub fn is_section(kind: TokenKind<'_>) -> bool
+    ensures { result ≡ is_section (kind_of kind.entry) }
 {
-    matches!(begins(kind), Beginning::Directive(DirectiveWord::Section))
+    match kind {
+        TokenKind::Name(word) => word == b".section".as_slice(),
+        _ => false,
+    }
 }
 
 /// A comma.

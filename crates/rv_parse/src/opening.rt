@@ -143,15 +143,15 @@ fn flags_wrong(alloc: Global, cursor: Cursor<'_>, known: bool) -> Result<Option<
 #[tactic(auto, using(crate::proofs::Opened::section_no_last, crate::proofs::Opened::named_left, crate::proofs::Opened::name_wrong, crate::proofs::Opened::comma_wrong), unfolding(rv_text::specs::Cursor::left, rv_parse_laws::specs::Parsing::opening_at))]
 pub fn wrong_opening(
     alloc: Global,
-    cursor: Cursor<'_>,
+    cursor: &Cursor<'_>,
     opened: &Opened<'_>,
 ) -> Result<Option<Wrong>, AllocError>
-    ensures { IfOk result (λ found. (ss : List Spoken) → Knows (opened.now).set ss → option_map wrong_of found ≡ opening_at (is_opened ss) (left cursor.entry)) }
+    ensures { IfOk result (λ found. (ss : List Spoken) → Knows (opened.now).set ss → option_map wrong_of found ≡ opening_at (is_opened ss) (left cursor.now)) }
 {
-    if !kinds::opens_section(cursor.next.kind) {
+    if !kinds::is_section(cursor.next.kind) {
         return Ok(None);
     }
-    let mut ahead = cursor;
+    let mut ahead = *cursor;
     ahead.advance();
     match place::section_name(&mut ahead) {
         Ok(name) => {

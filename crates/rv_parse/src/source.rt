@@ -68,7 +68,7 @@ fn checked<'a>(
     requires { is_end (kind_of cursor.old.next.kind) ≡ false }
     ensures { (ss : List Spoken) → Knows (opened.now).set ss → Answers (λ k. (Says (statement_of k), left cursor.new)) result (checked_at (is_opened ss) (left cursor.old)) }
 {
-    if let Some(wrong) = wrong_opening(alloc, *cursor, opened)? {
+    if let Some(wrong) = wrong_opening(alloc, cursor, opened)? {
         return Err(Refusal::At(wrong));
     }
     statement(alloc, cursor)

@@ -2,6 +2,7 @@
 
 use Rattle.std.proofs.Common.{◌≡◌, ℕ, ◌<◌, Bool, true, false, cond, List, [], ◌∷◌, ◌++◌, append_assoc, length, Option, Some, None, Ok, Err, refl, sym, ◌∙◌, ap, subst, codes, arith, ◌⊎◌, inl, inr}
 use Rattle.std.proofs.lemmas.List.{append-nil}
+use Rattle.std.proofs.lemmas.Slice.Eq.{bytes_eq-Decides}
 use Rattle.rv_text_laws.specs.Cut.{Piece, texts}
 use Rattle.rv_text_laws.specs.Grammar.{Kind, Name as NameToken, Text}
 use Rattle.rv_text_laws.specs.Lexing.{Token}
@@ -9,7 +10,7 @@ use Rattle.rv_text_laws.specs.Joined.{IsJoined}
 use Rattle.rv_text_laws.specs.Wrong.{Wrong, wrong, Read}
 use Rattle.rv_statement.specs.declared.directive.DirectiveWord.TheVariants as words
 use Rattle.rv_statement.specs.Statement.{Operand, Word, Quoted, Directs, Spoken}
-use Rattle.rv_parse_laws.specs.Words.{Beginning, Begins_directive}
+use Rattle.rv_parse_laws.specs.Words.{Begins_directive, beginning, mnemonic_named, directive_named, instruction_words, atomic_operations, atomic_forms, directive_words}
 use Rattle.rv_parse_laws.specs.Syntax.{begins, is_comma, is_at, is_end, is_section_name, A_section, Some_flags, At_sign, A_comma, single, places, directed, colon_next, AreOperands, Part, Says, IsPart}
 use Rattle.rv_parse_laws.specs.Opening.{flags_fault, type_fault, is_text, is_section, is_opened, IsNamed, WrongFlags, WrongType, IsWrongOpening}
 use Rattle.rv_parse_laws.specs.Parsing.{part_at, section_at, single_at, front_fault, behind_read, or_else, type_wrong, flags_wrong, named_wrong, opening_at, unless, checked_at}
@@ -17,9 +18,12 @@ use Rattle.rv_parse_laws.specs.Reading.{AreParts, told, said, OpensWell, AllOpen
 use Rattle.rv_parse_laws.proofs.Singles.{some_token, single_found}
 use Rattle.rv_parse_laws.proofs.Sections.{section_is, section_found}
 
-section_word : (b : Beginning) → is_section b ≡ true → b ≡ Begins_directive words.Section
-section_word (Begins_directive words.Section) h = refl
-section_word (Begins_directive _) h = absurd (cc)
+section_begins : beginning (codes ".section") ≡ Begins_directive words.Section
+unfolding beginning mnemonic_named directive_named instruction_words atomic_operations atomic_forms directive_words
+section_begins = refl
+
+section_word : (k : Kind) → is_section k ≡ true → begins k ≡ Begins_directive words.Section
+section_word (NameToken word) h = let same : word ≡ codes ".section" = (bytes_eq-Decides word (codes ".section")).0 h in rw same section_begins
 section_word _ h = absurd (cc)
 
 text_some : (k : Kind) → is_text k ≡ true → (bytes : List ℕ) × (k ≡ Text bytes)
@@ -174,9 +178,9 @@ flags_there known front name ts w named e = go (front_fault (flags_fault (known 
 pub opening_there : (known : List ℕ → Bool) (ts : List Token) (w : Wrong) → opening_at known ts ≡ Some w → OpeningThere known ts w
 unfolding opening_at
 opening_there known [] w e = absurd (cc)
-opening_there known (t ∷ ts) w e = go (is_section (begins t.kind)) refl e
+opening_there known (t ∷ ts) w e = go (is_section t.kind) refl e
   where
-    behind : (r : Read (List ℕ)) → section_at ts ≡ r → is_section (begins t.kind) ≡ true → named_wrong known r ≡ Some w → OpeningThere known (t ∷ ts) w
+    behind : (r : Read (List ℕ)) → section_at ts ≡ r → is_section t.kind ≡ true → named_wrong known r ≡ Some w → OpeningThere known (t ∷ ts) w
     behind (Err v) read is e = absurd (cc)
     behind (Ok (name, rest)) read is e =
         let f = section_found ts name rest read in
@@ -188,7 +192,7 @@ opening_there known (t ∷ ts) w e = go (is_section (begins t.kind)) refl e
         subst (λ us. OpeningThere known us w) (sym whole)
         (flags_there known front name c.1 w (t, f.text, comma.0, refl, is, f.is.0, f.is.1, comma_there comma.0 c.0 comma.2) c.3)
 
-    go : (b : Bool) → is_section (begins t.kind) ≡ b → cond b (named_wrong known (section_at ts)) None ≡ Some w → OpeningThere known (t ∷ ts) w
+    go : (b : Bool) → is_section t.kind ≡ b → cond b (named_wrong known (section_at ts)) None ≡ Some w → OpeningThere known (t ∷ ts) w
     go true is e = behind (section_at ts) refl is e
     go false is e = absurd (cc)
 
@@ -198,7 +202,7 @@ none_opens ss ts none before at more code whole is =
     let some : opening_at (is_opened ss) ts ≡ Some (wrong at code) = ap (opening_at (is_opened ss)) whole ∙ opening_found ss before at code more is in
     cc
 
-end_no_section : (k : Kind) → is_end k ≡ true → is_section (begins k) ≡ false
+end_no_section : (k : Kind) → is_end k ≡ true → is_section k ≡ false
 end_no_section (NameToken name) h = absurd (cc)
 end_no_section _ h = refl
 
@@ -328,9 +332,9 @@ type_operands name bytes text comma flags next sign joined good is quoted then a
 )
 
 -- a `.section` with these operands
-section_part : (word : Token) (text us : List Token) (os : List Operand) (name : List ℕ) → is_section (begins word.kind) ≡ true → IsJoined text name → AreOperands (places words.Section) (text ++ us) os
+section_part : (word : Token) (text us : List Token) (os : List Operand) (name : List ℕ) → is_section word.kind ≡ true → IsJoined text name → AreOperands (places words.Section) (text ++ us) os
     → IsPart (Says (Directs (directed words.Section os))) (word ∷ (text ++ us))
-section_part word text us os name is joined are = (word, text ++ us, words.Section, os, refl, joined_no_colon text us name joined, section_word (begins word.kind) is, are, refl)
+section_part word text us os name is joined are = (word, text ++ us, words.Section, os, refl, joined_no_colon text us name joined, section_word word.kind is, are, refl)
 
 pub opening_goes : (ss : List Spoken) (before : List Token) (at : Token) (code : ℕ) (more : List Token) → IsWrongOpening ss before at code → CanGoOn (before ++ at ∷ more) before
 opening_goes ss before at code more (inl x) = go x.name x.named

@@ -8,12 +8,11 @@ use Rattle.rv_text_laws.specs.Grammar.{Kind, Name as NameToken, Text}
 use Rattle.rv_text_laws.specs.Lexing.{Token}
 use Rattle.rv_text_laws.specs.Wrong.{longest_name, limit}
 use Rattle.rv_text_laws.specs.Joined.{IsJoined}
-use Rattle.rv_statement.specs.declared.directive.DirectiveWord.TheVariants as words
 use Rattle.rv_statement.specs.declared.directive.Standard.{Standard}
 use Rattle.rv_statement.specs.declared.directive.Standard.TheVariants as standards
 use Rattle.rv_statement.specs.Statement.{Enters, Opens, Statement, Directs, Spoken}
-use Rattle.rv_parse_laws.specs.Words.{is_among, section_types, Beginning, Begins_directive}
-use Rattle.rv_parse_laws.specs.Syntax.{begins, is_comma, is_at, is_flag, is_section_name}
+use Rattle.rv_parse_laws.specs.Words.{is_among, section_types}
+use Rattle.rv_parse_laws.specs.Syntax.{is_comma, is_at, is_flag, is_section_name}
 use Rattle.rv_parse_laws.specs.Faults.{unsupported_here, wrong_letters}
 
 -- the sections that have a directive of their own
@@ -48,15 +47,15 @@ abbrev pub is_text : Kind → Bool
 is_text (Text bytes) = true
 is_text _ = false
 
--- a statement that begins so opens a section
-abbrev pub is_section : Beginning → Bool
-is_section (Begins_directive words.Section) = true
+-- the word `.section`
+abbrev pub is_section : Kind → Bool
+is_section (NameToken word) = bytes_eq word (codes ".section")
 is_section _ = false
 
 -- the tokens are `.section`, this name and a comma
 abbrev pub IsNamed : List Token → List ℕ → Type 0
 IsNamed ts name =
-    (word : Token) × (text : List Token) × (comma : Token) × (ts ≡ word ∷ (text ++ comma ∷ [])) × (is_section (begins word.kind) ≡ true)
+    (word : Token) × (text : List Token) × (comma : Token) × (ts ≡ word ∷ (text ++ comma ∷ [])) × (is_section word.kind ≡ true)
     × IsJoined text name × (is_section_name name ≡ true) × (is_comma comma.kind ≡ true)
 
 -- behind such tokens a string is wrong as flags

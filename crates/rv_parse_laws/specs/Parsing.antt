@@ -181,7 +181,7 @@ named_wrong known (Err w) = None
 -- what is wrong with an opening of a section at the front, where these names are known
 unfoldable pub opening_at : (List ℕ → Bool) → List Token → Option Wrong
 opening_at known [] = None
-opening_at known (t ∷ ts) = if is_section (begins t.kind) then named_wrong known (section_at ts) else None
+opening_at known (t ∷ ts) = if is_section t.kind then named_wrong known (section_at ts) else None
 
 -- a part at the front, or what is wrong with it: an opening's flags or type, or the first token with which nothing goes on
 abbrev pub unless : {X : Type 0} → Option Wrong → Read X → Read X

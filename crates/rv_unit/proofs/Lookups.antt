@@ -7,7 +7,7 @@ use Rattle.std.specs.List.{find, list_all}
 use Rattle.std.specs.Map.{lookup}
 use Rattle.std.specs.Str.{bytes_eq}
 use Rattle.std.proofs.lemmas.List.{map-append, reverse-append}
-use Rattle.std.proofs.lemmas.Bool.{ltb-true, ltb-false, leb-true}
+use Rattle.std.proofs.lemmas.Bool.{leb-true}
 use Rattle.rv_text_laws.specs.Expression.{Primary, Literal, Symbol, Here, Reference}
 use Rattle.rv_text_laws.specs.Values.{Meaning, Known, Placed, Open, Refused, Symbolic}
 use Rattle.std.proofs.lemmas.List.Folds.{list_all-append}
@@ -179,41 +179,31 @@ shown sections ends alignments current labels marks settings kept = record {
 
 -- data at the end of the current section
 pub extend_is : (es : List Extent) (n : ℕ) (e w : Extent) (bytes : ℕ) (a : Option ℕ) (ls : List laws.Labelled) (ms : List laws.Marked) (ss : List laws.Setting) (kept : ℕ)
-    → n < length es → e ≡ get_or es n e → e.section.executable ≡ false → section_of w.section ≡ section_of e.section → w.bytes ≡ e.bytes + laws.within e.bytes bytes → w.alignment ≡ max e.alignment (max 1 (laws.or_none a))
+    → n < length es → e ≡ get_or es n e → e.section.executable ≡ false → section_of w.section ≡ section_of e.section → w.bytes ≡ e.bytes + bytes → w.alignment ≡ max e.alignment (max 1 (laws.or_none a))
     → let t = shown (map extent_section es) (map (λ (x : Extent). x.bytes) es) (map (λ (x : Extent). x.alignment) es) n ls ms ss kept in
-    shown (map extent_section (set es n w)) (map (λ (x : Extent). x.bytes) (set es n w)) (map (λ (x : Extent). x.alignment) (set es n w)) n ls ms ss kept ≡ laws.with_data t (laws.within (laws.here t).offset bytes) a
+    shown (map extent_section (set es n w)) (map (λ (x : Extent). x.bytes) (set es n w)) (map (λ (x : Extent). x.alignment) (set es n w)) n ls ms ss kept ≡ laws.with_data t bytes a
 extend_is es n e w bytes a ls ms ss kept inside at plain section size alignment =
     let t = shown (map extent_section es) (map (λ (x : Extent). x.bytes) es) (map (λ (x : Extent). x.alignment) es) n ls ms ss kept in
-    let offset : (laws.here t).offset ≡ e.bytes = index_map (λ (x : Extent). x.bytes) es n e 0 inside at in
     let executable : (current_section t.opened).executable ≡ false = ap (λ (s : Section). s.executable) (index_map extent_section es n e text_section inside at) ∙ plain in
     ap (λ x. shown x (map (λ (x : Extent). x.bytes) (set es n w)) (map (λ (x : Extent). x.alignment) (set es n w)) n ls ms ss kept) (same_map extent_section es n e w inside at section)
-    ∙ ap (λ x. shown (map extent_section es) x (map (λ (x : Extent). x.alignment) (set es n w)) n ls ms ss kept) (changed_map (λ (x : Extent). x.bytes) (λ k. k + laws.within (laws.here t).offset bytes) es n e w inside at (size ∙ ap (λ o. e.bytes + laws.within o bytes) (sym offset)))
-    ∙ ap (λ x. shown (map extent_section es) (laws.changed_at n (λ k. k + laws.within (laws.here t).offset bytes) (map (λ (x : Extent). x.bytes) es)) x n ls ms ss kept) (changed_map (λ (x : Extent). x.alignment) (λ k. max k (max 1 (laws.or_none a))) es n e w inside at alignment)
+    ∙ ap (λ x. shown (map extent_section es) x (map (λ (x : Extent). x.alignment) (set es n w)) n ls ms ss kept) (changed_map (λ (x : Extent). x.bytes) (λ k. k + bytes) es n e w inside at size)
+    ∙ ap (λ x. shown (map extent_section es) (laws.changed_at n (λ k. k + bytes) (map (λ (x : Extent). x.bytes) es)) x n ls ms ss kept) (changed_map (λ (x : Extent). x.alignment) (λ k. max k (max 1 (laws.or_none a))) es n e w inside at alignment)
     ∙ sym (ap (λ b. if b then t else record t {
-      ends = laws.changed_at n (λ k. k + laws.within (laws.here t).offset bytes) t.ends;
+      ends = laws.changed_at n (λ k. k + bytes) t.ends;
       alignments = laws.changed_at n (λ k. max k (max 1 (laws.or_none a))) t.alignments;
     }) executable)
 
--- what is within the longest section is so for a number that was cut at the greatest
-pub within_cut : (offset bytes : ℕ) → laws.within offset (min bytes (2 ^ 64 - 1)) ≡ laws.within offset bytes
-within_cut offset bytes = by (nat_lt bytes (2 ^ 64)) refl
+-- past the longest section nothing fits
+pub past_all : (offset bytes : ℕ) → laws.longest_section < offset → 0 ≡ laws.within offset bytes
+past_all offset bytes past = by (nat_le (offset + bytes) laws.longest_section) refl
   where
-    over : (b : Bool) (n : ℕ) → laws.longest_section < n → nat_le (offset + n) laws.longest_section ≡ b → (if b then n else 0) ≡ 0
-    over true n h e = absurd (let l : offset + n ≤ laws.longest_section = leb-true (offset + n) laws.longest_section e in omega arith)
-    over false n h e = refl
+    by : (b : Bool) → nat_le (offset + bytes) laws.longest_section ≡ b → 0 ≡ (if b then bytes else 0)
+    by true e = absurd (let l : offset + bytes ≤ laws.longest_section = leb-true (offset + bytes) laws.longest_section e in omega arith)
+    by false e = refl
 
-    by : (c : Bool) → nat_lt bytes (2 ^ 64) ≡ c → laws.within offset (min bytes (2 ^ 64 - 1)) ≡ laws.within offset bytes
-    by true e =
-        let l : bytes < 2 ^ 64 = ltb-true bytes (2 ^ 64) e in
-        ap (laws.within offset) (let m : min bytes (2 ^ 64 - 1) ≡ bytes = omega arith in m)
-    by false e =
-        let l : 2 ^ 64 ≤ bytes = ltb-false bytes (2 ^ 64) e in
-        over (nat_le (offset + min bytes (2 ^ 64 - 1)) laws.longest_section) (min bytes (2 ^ 64 - 1)) (omega arith) refl
-        ∙ sym (over (nat_le (offset + bytes) laws.longest_section) bytes (omega arith) refl)
-
--- data of which the number was cut
-pub with_cut : (t : laws.Tables) (offset bytes : ℕ) (a : Option ℕ) → laws.with_data t (laws.within offset (min bytes (2 ^ 64 - 1))) a ≡ laws.with_data t (laws.within offset bytes) a
-with_cut t offset bytes a = ap (λ n. laws.with_data t n a) (within_cut offset bytes)
+-- a size that is not the greatest number was not cut
+pub not_cut : (size bytes : ℕ) → size ≡ min bytes (2 ^ 64 - 1) → (size ≡ 2 ^ 64 - 1 → ⊥) → size ≡ bytes
+not_cut size bytes is less = omega (arith, less)
 
 -- what a `.set` gives where its symbol has the meaning that it has here
 pub given_symbol : (t : laws.Tables) (o : ℕ) (name : List ℕ) (p : Primary) (at : Meaning) (plus : ℕ) → at ≡ laws.meaning t false o (laws.here t) p

@@ -9,6 +9,9 @@ ghost use Rattle.rv_unit_laws.specs.Tables as laws;
 use rv_statement::Width;
 use rv_text::{SourceFault, Value, string_size};
 
+/// The longest section, in bytes.
+pub(crate) const LONGEST_SECTION: u64 = 1 << 28;
+
 /// The greatest alignment.
 const GREATEST_ALIGNMENT: u64 = 4096;
 
@@ -80,6 +83,26 @@ pub fn padding(alignment: Option<u32>, offset: u32) -> u64
             (offset + (alignment - 1)) / alignment * alignment - offset
         }
     }
+}
+
+/// So many bytes at an offset, where they do not pass the longest section.
+pub(crate) fn fitting(offset: u64, bytes: u64) -> u64
+    ensures { result ≡ laws.within offset bytes }
+{
+    match offset.checked_add(bytes) {
+        Some(end) => if end <= LONGEST_SECTION { bytes } else { 0 },
+        None => 0,
+    }
+}
+
+/// The bytes from an offset to the next multiple of an alignment, where they do not pass the longest section.
+pub(crate) fn fitting_padding(alignment: Option<u32>, offset: u64) -> u64
+    ensures { result ≡ laws.within offset (laws.padding alignment offset) }
+{
+    if offset > LONGEST_SECTION {
+        return 0;
+    }
+    fitting(offset, padding(alignment, offset as u32))
 }
 
 /// The bytes of a value of data.

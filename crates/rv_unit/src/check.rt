@@ -55,7 +55,7 @@ impl<'a> Unit<'a> {
         ensures { (ss : List Spoken) (o : ℕ) → IsIndexed passed.now → IsIndexed (self.now).tables → Sees (tables_of passed.now) (tables_of (self.now).tables) ss o → ordinal ≡ o → IsLowest result (faults.directive_faults (laws.tables ss) (tables_of passed.now) o (Zeros (tree_of_expr count.now))) }
     {
         let value = self.early_value(passed, ordinal, passed.here(), count);
-        zero_fault(passed.home(), u64::from(passed.offset()), &value)
+        zero_fault(passed.home(), passed.offset(), &value)
     }
 
     /// The fault of an alignment to a power of two.
@@ -122,10 +122,7 @@ impl<'a> Unit<'a> {
     {
         let each = self.fault_of_each(passed, ordinal, width, values);
         let bytes = values_size(width, values.len());
-        lower(
-            each,
-            data_fault(passed.home(), u64::from(passed.offset()), bytes),
-        )
+        lower(each, data_fault(passed.home(), passed.offset(), bytes))
     }
 
     /// The fault of strings.
@@ -138,7 +135,7 @@ impl<'a> Unit<'a> {
         ensures { (all : laws.Tables) (o : ℕ) → IsLowest result (faults.directive_faults all (tables_of passed.now) o (Strings ended (map quoted strings.now))) }
     {
         let bytes = strings_size(ended, strings);
-        data_fault(passed.home(), u64::from(passed.offset()), bytes)
+        data_fault(passed.home(), passed.offset(), bytes)
     }
 
     /// The fault of a label: its name is defined before.

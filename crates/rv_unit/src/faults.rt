@@ -7,12 +7,10 @@ ghost use Rattle.rv_unit_laws.specs.Tables as tables;
 ghost use Rattle.rv_unit.specs.Faults.{IsLowest, ForValue};
 ghost use Rattle.rv_unit.specs.Sections.{section_of};
 
-use crate::align::{is_power_below, padding};
+use crate::align::{LONGEST_SECTION, is_power_below, padding};
 use crate::section::Section;
 use rv_text::{SourceCode, SourceFault, Symbol, Value};
 
-/// The longest section, in bytes.
-const LONGEST_SECTION: u64 = 1 << 28;
 /// The greatest alignment.
 const GREATEST_ALIGNMENT: u64 = 4096;
 
@@ -106,7 +104,6 @@ pub(crate) fn value_fault(width: u64, value: &Outcome<'_>) -> Option<SourceCode>
 
 /// The fault of so many bytes of data at an offset.
 pub(crate) fn past_section(executable: bool, offset: u64, bytes: u64) -> Option<SourceCode>
-    requires { offset < 2 ^ 63 }
     ensures { IsLowest result (laws.past_section executable offset bytes) }
 {
     let past = match offset.checked_add(bytes) {
@@ -118,7 +115,6 @@ pub(crate) fn past_section(executable: bool, offset: u64, bytes: u64) -> Option<
 
 /// The fault of data, but for the faults of its values: so many bytes at an offset.
 pub(crate) fn data_fault(home: Section<'_>, offset: u64, bytes: u64) -> Option<SourceCode>
-    requires { offset < 2 ^ 63 }
     ensures { IsLowest result (laws.faulty_if (home.entry.executable || home.entry.nobits) 15 ++ laws.past_section home.entry.executable offset bytes) }
 {
     let misplaced = faulty_if(home.executable || home.nobits, SourceCode::WrongSection);
@@ -127,7 +123,6 @@ pub(crate) fn data_fault(home: Section<'_>, offset: u64, bytes: u64) -> Option<S
 
 /// The fault of so many zero bytes, by the value of their count.
 pub(crate) fn zero_fault(home: Section<'_>, offset: u64, value: &Outcome<'_>) -> Option<SourceCode>
-    requires { offset < 2 ^ 63 }
     ensures { ForValue value.now (λ v. IsLowest result (laws.zero_faults (section_of home.entry) offset v)) }
 {
     let past = match value {
@@ -160,16 +155,18 @@ fn code_alignment_fault(nobits: bool, alignment: Option<u32>) -> Option<SourceCo
 /// The fault of an alignment at an offset, by the number that it asks for.
 pub(crate) fn alignment_fault(
     home: Section<'_>,
-    offset: u32,
+    offset: u64,
     alignment: Option<u32>,
 ) -> Option<SourceCode>
     ensures { IsLowest result (laws.alignment_faults (section_of home.entry) offset alignment) }
 {
     if home.executable {
-        code_alignment_fault(home.nobits, alignment)
-    } else {
-        past_section(false, u64::from(offset), padding(alignment, offset))
+        return code_alignment_fault(home.nobits, alignment);
     }
+    if offset > LONGEST_SECTION {
+        return Some(SourceCode::Limit);
+    }
+    past_section(false, offset, padding(alignment, offset as u32))
 }
 
 /// The fault of a `.set` that gives no place, of a name that is one of a label or a place before.

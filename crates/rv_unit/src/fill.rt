@@ -12,7 +12,9 @@ ghost use Rattle.rv_unit_laws.proofs.Before.{IsBefore};
 ghost use Rattle.rv_unit.specs.Sections.{place_of};
 ghost use Rattle.rv_unit.specs.Tables.{tables_of, setting_of, IsIndexed};
 
-use crate::align::{asked_bytes, asked_power, counted, padding, strings_size, values_size};
+use crate::align::{
+    asked_bytes, asked_power, counted, fitting, fitting_padding, strings_size, values_size,
+};
 use crate::place::Place;
 use crate::section::Section;
 use crate::tables::{Given, Tables};
@@ -98,32 +100,30 @@ impl<'a> Tables<'a> {
     }
 
     /// Adds zero bytes.
-    fn add_zeros(&mut self, count: &Expr<'a>)
-        ensures tables { IsIndexed self.old → (o : ℕ) → IsBefore (tables_of self.old) o → tables_of self.new ≡ laws.after_directive (tables_of self.old) o (Zeros (tree_of_expr count.now)) }
-        ensures indexed { IsIndexed self.old → IsIndexed self.new }
+    fn add_zeros(&mut self, count: &Expr<'a>) -> Result<(), AllocError>
+        ensures tables { OnOk result (IsIndexed self.old → (o : ℕ) → IsBefore (tables_of self.old) o → tables_of self.new ≡ laws.after_directive (tables_of self.old) o (Zeros (tree_of_expr count.now))) }
+        ensures indexed { OnOk result (IsIndexed self.old → IsIndexed self.new) }
     {
         let bytes = counted(self.value(count));
-        self.extend(bytes, None);
+        self.extend(fitting(self.offset(), bytes), None)
     }
 
     /// Aligns to a power of two.
-    fn align_to_power(&mut self, exponent: &Expr<'a>)
-        ensures tables { IsIndexed self.old → (o : ℕ) → IsBefore (tables_of self.old) o → tables_of self.new ≡ laws.after_directive (tables_of self.old) o (Aligns_to_power (tree_of_expr exponent.now)) }
-        ensures indexed { IsIndexed self.old → IsIndexed self.new }
+    fn align_to_power(&mut self, exponent: &Expr<'a>) -> Result<(), AllocError>
+        ensures tables { OnOk result (IsIndexed self.old → (o : ℕ) → IsBefore (tables_of self.old) o → tables_of self.new ≡ laws.after_directive (tables_of self.old) o (Aligns_to_power (tree_of_expr exponent.now))) }
+        ensures indexed { OnOk result (IsIndexed self.old → IsIndexed self.new) }
     {
         let alignment = asked_power(self.value(exponent));
-        let bytes = padding(alignment, self.offset());
-        self.extend(bytes, alignment);
+        self.extend(fitting_padding(alignment, self.offset()), alignment)
     }
 
     /// Aligns to so many bytes.
-    fn align_to_bytes(&mut self, bytes: &Expr<'a>)
-        ensures tables { IsIndexed self.old → (o : ℕ) → IsBefore (tables_of self.old) o → tables_of self.new ≡ laws.after_directive (tables_of self.old) o (Aligns_to_bytes (tree_of_expr bytes.now)) }
-        ensures indexed { IsIndexed self.old → IsIndexed self.new }
+    fn align_to_bytes(&mut self, bytes: &Expr<'a>) -> Result<(), AllocError>
+        ensures tables { OnOk result (IsIndexed self.old → (o : ℕ) → IsBefore (tables_of self.old) o → tables_of self.new ≡ laws.after_directive (tables_of self.old) o (Aligns_to_bytes (tree_of_expr bytes.now))) }
+        ensures indexed { OnOk result (IsIndexed self.old → IsIndexed self.new) }
     {
         let alignment = asked_bytes(self.value(bytes));
-        let bytes = padding(alignment, self.offset());
-        self.extend(bytes, alignment);
+        self.extend(fitting_padding(alignment, self.offset()), alignment)
     }
 
     /// What a statement of this ordinal changes.
@@ -138,34 +138,15 @@ impl<'a> Tables<'a> {
             StatementKind::Opens(opening) => self.add_section(opening),
             StatementKind::Sets(setting) => self.add_setting(ordinal, setting),
             StatementKind::Chooses(choice) => self.choose(*choice),
-            StatementKind::AlignsToPower(exponent) => {
-                self.align_to_power(exponent);
-                Ok(())
-            }
-            StatementKind::AlignsToBytes(bytes) => {
-                self.align_to_bytes(bytes);
-                Ok(())
-            }
-            StatementKind::Value(width, _) => {
-                self.extend(values_size(*width, 1), None);
-                Ok(())
-            }
+            StatementKind::AlignsToPower(exponent) => self.align_to_power(exponent),
+            StatementKind::AlignsToBytes(bytes) => self.align_to_bytes(bytes),
+            StatementKind::Value(width, _) => self.extend_by(values_size(*width, 1)),
             StatementKind::Values(width, values) => {
-                self.extend(values_size(*width, values.len()), None);
-                Ok(())
+                self.extend_by(values_size(*width, values.len()))
             }
-            StatementKind::Ascii(strings) => {
-                self.extend(strings_size(false, strings), None);
-                Ok(())
-            }
-            StatementKind::Asciz(strings) => {
-                self.extend(strings_size(true, strings), None);
-                Ok(())
-            }
-            StatementKind::Zeros(count) => {
-                self.add_zeros(count);
-                Ok(())
-            }
+            StatementKind::Ascii(strings) => self.extend_by(strings_size(false, strings)),
+            StatementKind::Asciz(strings) => self.extend_by(strings_size(true, strings)),
+            StatementKind::Zeros(count) => self.add_zeros(count),
             StatementKind::Plain(_) => Ok(()),
             StatementKind::With(..) => Ok(()),
             StatementKind::Globl(_) => Ok(()),

@@ -4,7 +4,7 @@
 #[derive(Clone, Copy, Debug, PartialEq, Eq, Drop)]
 pub struct Place {
     pub section: u32,
-    pub offset: u32,
+    pub offset: u64,
 }
 
 /// A place of this source: at the statement of an ordinal, from 1, and so many bytes behind it.

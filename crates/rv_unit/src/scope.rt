@@ -6,11 +6,11 @@ ghost use Rattle.rv_text.specs.Expr.{tree_of_expr};
 ghost use Rattle.rv_text.specs.Eval.{meaning_of, IsOutcome};
 ghost use Rattle.rv_unit_laws.specs.Tables as laws;
 ghost use Rattle.rv_unit.specs.Sections.{place_of};
-ghost use Rattle.rv_unit.specs.Tables.{tables_of, marked_of, IsIndexed};
+ghost use Rattle.rv_unit.specs.Tables.{tables_of, marked_of, setting_of, IsIndexed};
 ghost use Rattle.rv_unit.specs.Unit.{said, passed, home_of, IsFilled, IsScope};
 
 use crate::place::{Home, Place};
-use crate::tables::{Mark, Tables};
+use crate::tables::{Given, Mark, Tables};
 use crate::unit::Unit;
 use rv_statement::Setting;
 use rv_text::{Expr, Meaning, SourceFault, Symbol, Value};
@@ -34,6 +34,25 @@ fn home_of_mark(mark: Option<Mark<'_>>) -> Option<Home>
             ordinal: mark.ordinal,
             plus: 0,
         }),
+        None => None,
+    }
+}
+
+/// Where a name stands that is set, if it is a place.
+fn home_of_setting(setting: Option<Given<'_>>) -> Option<Home>
+    ensures { option_map home_of result ≡ laws.home_set (option_map setting_of setting.entry) }
+{
+    match setting {
+        Some(setting) => {
+            if setting.is_place() {
+                Some(Home {
+                    ordinal: setting.ordinal,
+                    plus: setting.plus,
+                })
+            } else {
+                None
+            }
+        }
         None => None,
     }
 }
@@ -80,24 +99,15 @@ impl<'u, 'a> Scope<'u, 'a> {
     fn home_of_name(&self, name: &[u8]) -> Option<Home>
         ensures { IsIndexed (self.now).passed → IsIndexed (self.now).unit.now.tables → option_map home_of result ≡ laws.home_first (laws.home_set (laws.set_ever (tables_of (self.now).passed).settings name.now)) (laws.home_labelled (laws.label_of (tables_of (self.now).unit.now.tables).labels true 0 name.now) (laws.home_set (laws.set_ever (tables_of (self.now).unit.now.tables).settings name.now))) }
     {
-        if let Some(setting) = self.passed.setting(name) {
-            return Some(Home {
-                ordinal: setting.ordinal,
-                plus: setting.plus,
-            });
+        if let Some(home) = home_of_setting(self.passed.setting(name)) {
+            return Some(home);
         }
-        if let Some(label) = self.unit.tables.label(name) {
-            return Some(Home {
+        match self.unit.tables.label(name) {
+            Some(label) => Some(Home {
                 ordinal: label.ordinal,
                 plus: 0,
-            });
-        }
-        match self.unit.tables.setting(name) {
-            Some(setting) => Some(Home {
-                ordinal: setting.ordinal,
-                plus: setting.plus,
             }),
-            None => None,
+            None => home_of_setting(self.unit.tables.setting(name)),
         }
     }
 

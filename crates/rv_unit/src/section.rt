@@ -9,9 +9,6 @@ ghost use Rattle.rv_unit.specs.Sections.{section_of};
 use rv_statement::Standard;
 use rv_text::string_contains;
 
-/// The longest section, in bytes.
-const LONGEST_SECTION: u64 = 1 << 28;
-
 /// A section with its flags.
 #[derive(Clone, Copy, Debug, PartialEq, Eq, Drop)]
 pub struct Section<'a> {
@@ -30,25 +27,20 @@ pub struct Section<'a> {
 #[derive(Clone, Copy, Debug, PartialEq, Eq, Drop)]
 pub struct Extent<'a> {
     pub section: Section<'a>,
-    pub bytes: u32,
+    pub bytes: u64,
     pub alignment: u32,
 }
 
 impl<'a> Extent<'a> {
-    /// With so many bytes more, where that does not pass the longest section, and an alignment that is asked for.
-    pub(crate) fn longer(self, bytes: u64, alignment: Option<u32>) -> Self
+    /// With an end further on, and an alignment that is asked for.
+    pub(crate) fn longer(self, end: u64, alignment: Option<u32>) -> Self
         ensures section { section_of result.section ≡ section_of (self.entry).section }
-        ensures bytes { result.bytes ≡ (self.entry).bytes + tables.within (self.entry).bytes bytes }
+        ensures bytes { result.bytes ≡ end }
         ensures alignment { result.alignment ≡ max (self.entry).alignment (max 1 (tables.or_none alignment)) }
     {
-        let end = u64::from(self.bytes).saturating_add(bytes);
         Extent {
             section: self.section,
-            bytes: if end <= LONGEST_SECTION {
-                end as u32
-            } else {
-                self.bytes
-            },
+            bytes: end,
             alignment: self.alignment.max(alignment.unwrap_or(0).max(1)),
         }
     }

@@ -1,6 +1,6 @@
 //! The tables that statements fill, one after the other.
 
-ghost use Rattle.std.specs.Prelude.{◌≡◌, ℕ, ◌<◌, ◌||◌, ◌==◌, List, false, true, not, is_some, nat_lt, length, Some, None, option_map, map, reverse, IfOk, OnOk};
+ghost use Rattle.std.specs.Prelude.{◌≡◌, ℕ, ◌-◌, ◌^◌, min, ◌<◌, ◌||◌, ◌==◌, List, false, true, not, is_some, nat_lt, length, Some, None, option_map, map, reverse, IfOk, OnOk};
 ghost use Rattle.std.specs.List.{find};
 ghost use Rattle.rv_text_laws.specs.Bytes.{value as digits_value};
 ghost use Rattle.rv_text_laws.specs.Values.{Open};
@@ -117,7 +117,7 @@ impl<'a> Tables<'a> {
     }
 
     /// The bytes of data so far in the current section.
-    pub(crate) fn offset(&self) -> u32
+    pub(crate) fn offset(&self) -> u64
         ensures { result ≡ (laws.here (tables_of self.now)).offset }
     {
         match self.extents.get(self.current as usize) {
@@ -143,7 +143,7 @@ impl<'a> Tables<'a> {
         if self.section_at(place.section).executable {
             Meaning::Open
         } else {
-            Meaning::Place(place.section, u64::from(place.offset))
+            Meaning::Place(place.section, place.offset)
         }
     }
 
@@ -346,20 +346,37 @@ impl<'a> Tables<'a> {
         Ok(())
     }
 
-    /// Adds data at the end of the current section, as far as that may be, unless it is one of code.
-    pub(crate) fn extend(&mut self, bytes: u64, alignment: Option<u32>)
-        ensures tables { tables_of self.new ≡ laws.with_data (tables_of self.old) (laws.within (laws.here (tables_of self.old)).offset bytes) alignment }
-        ensures indexed { IsIndexed self.old → IsIndexed self.new }
+    /// Adds data at the end of the current section, unless it is one of code.
+    pub(crate) fn extend(&mut self, bytes: u64, alignment: Option<u32>) -> Result<(), AllocError>
+        ensures tables { OnOk result (tables_of self.new ≡ laws.with_data (tables_of self.old) bytes alignment) }
+        ensures indexed { OnOk result (IsIndexed self.old → IsIndexed self.new) }
     {
         let number = self.current as usize;
         if number >= self.extents.len() {
-            return;
+            return Ok(());
         }
         let extent = self.extents[number];
         if extent.section.executable {
-            return;
+            return Ok(());
         }
-        self.extents[number] = extent.longer(bytes, alignment);
+        match extent.bytes.checked_add(bytes) {
+            Some(end) => {
+                self.extents[number] = extent.longer(end, alignment);
+                Ok(())
+            }
+            None => Err(AllocError),
+        }
+    }
+
+    /// Adds data of a size that shows all its bytes, or as many as a number can.
+    pub(crate) fn extend_by(&mut self, size: u64) -> Result<(), AllocError>
+        ensures tables { OnOk result ((bytes : ℕ) → size ≡ min bytes (2 ^ 64 - 1) → tables_of self.new ≡ laws.with_data (tables_of self.old) bytes None) }
+        ensures indexed { OnOk result (IsIndexed self.old → IsIndexed self.new) }
+    {
+        if size == u64::MAX {
+            return Err(AllocError);
+        }
+        self.extend(size, None)
     }
 
     /// Keeps options, or takes them back.

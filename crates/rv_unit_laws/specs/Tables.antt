@@ -140,9 +140,19 @@ pub record Home : Type 0 where
 abbrev pub home_at : ℕ → Home
 home_at ordinal = record { ordinal = ordinal; plus = 0 }
 
+-- whether a setting is a place
+abbrev pub is_placed_setting : Setting → Bool
+is_placed_setting s = elim s.meaning [
+  | Known n ↦ false
+  | Placed section offset ↦ true
+  | Open ↦ false
+  | Refused code ↦ false
+]
+
+-- a place that is set has a home, a number has none
 abbrev pub home_set : Option Setting → Option Home
 home_set None = None
-home_set (Some s) = Some (record { ordinal = s.ordinal; plus = s.plus })
+home_set (Some s) = if is_placed_setting s then Some (record { ordinal = s.ordinal; plus = s.plus }) else None
 
 abbrev pub home_labelled : Option Labelled → Option Home → Option Home
 home_labelled (Some l) other = Some (home_at l.ordinal)
@@ -224,10 +234,11 @@ abbrev pub padding : Option ℕ → ℕ → ℕ
 padding None offset = 0
 padding (Some alignment) offset = aligned alignment offset - offset
 
--- the bytes of data of a directive at an offset, where they fit; what has no size has none
+-- the bytes of data of a directive at an offset: values and strings always count theirs; a count or an alignment that is
+-- faulty, or does not fit, counts none
 abbrev pub data_bytes : (Expression → Value) → ℕ → Directive → ℕ
-data_bytes v offset (Values width values) = within offset (width * length values)
-data_bytes v offset (Strings ended strings) = within offset (length (string_bytes ended strings))
+data_bytes v offset (Values width values) = width * length values
+data_bytes v offset (Strings ended strings) = length (string_bytes ended strings)
 data_bytes v offset (Zeros count) = within offset (or_none (counted (v count)))
 data_bytes v offset (Aligns_to_power exponent) = within offset (padding (asked v (Aligns_to_power exponent)) offset)
 data_bytes v offset (Aligns_to_bytes bytes) = within offset (padding (asked v (Aligns_to_bytes bytes)) offset)
@@ -241,14 +252,6 @@ changed_at zero change (n ∷ ns) = change n ∷ ns
 changed_at (suc i) change (n ∷ ns) = n ∷ changed_at i change ns
 
 -- a label, or a place that is set, has the name; a label or any setting has it
-abbrev pub is_placed_setting : Setting → Bool
-is_placed_setting s = elim s.meaning [
-  | Known n ↦ false
-  | Placed section offset ↦ true
-  | Open ↦ false
-  | Refused code ↦ false
-]
-
 abbrev pub has_place : Tables → ℕ → List ℕ → Bool
 has_place t ordinal name =
     is_some (label_of t.labels false ordinal name)

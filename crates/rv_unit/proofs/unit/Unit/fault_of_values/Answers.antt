@@ -1,4 +1,4 @@
-use Rattle.std.proofs.Common.{◌*◌, ◌∙◌, sym, subst, length, map, true}
+use Rattle.std.proofs.Common.{◌*◌, sym, subst, length, map, true}
 use Rattle.std.proofs.lemmas.List.{length-map}
 use Rattle.std.specs.Prelude.{flat_map}
 use Rattle.rv_text.specs.Expr.{tree_of_expr}
@@ -26,5 +26,5 @@ returns c = λ ss o i f s at.
     (subst (λ n. IsLowest r (data_faults home offset (w * n))) (sym (length-map xs tree_of_expr))
     (subst (IsLowest r) (data_shown home offset (w * length xs))
     (subst (λ b. IsLowest r (data_faults home offset b)) c.values_size-bytes.ensures
-    (subst (λ p. IsLowest r (data_faults home p c.values_size-bytes.result)) (c.from.ensures ∙ c.offset.ensures)
-    (subst (λ h. IsLowest r (data_faults h c.from.result c.values_size-bytes.result)) c.home.ensures c.data_fault.ensures)))))
+    (subst (λ p. IsLowest r (data_faults home p c.values_size-bytes.result)) c.offset.ensures
+    (subst (λ h. IsLowest r (data_faults h c.offset.result c.values_size-bytes.result)) c.home.ensures c.data_fault.ensures)))))
