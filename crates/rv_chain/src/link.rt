@@ -22,8 +22,8 @@ use crate::placed::Placed;
 use crate::undefined::undefined;
 use rv_image::Linked;
 use rv_link::{
-    DataFault, Destination, Globals, Item, Layout, LayoutFault, Names, entry, global_definitions, lay_out,
-    put_symbols, region_bytes, statement_rows,
+    DataFault, Destination, Globals, Item, Layout, LayoutFault, Names, entry, global_definitions,
+    lay_out, put_symbols, region_bytes, statement_rows,
 };
 use rv_link_laws::{placed_links, placed_names};
 use rv_map::{Global as Defined, Map, Row};
@@ -89,6 +89,7 @@ fn place(alloc: Global, unit: &Unit<'_>, globals: &Globals<'_>, start: u64) -> R
 {
     let (items, ends) = items(alloc, unit)?;
     if let Some(name) = undefined(alloc, unit, items.as_slice())? {
+        let name = Vec::from_slice(alloc, name)?;
         return Err(Fault::Link(LinkFault::Undefined(name)));
     }
     let pieces = pieces(alloc, unit.sections(), ends.as_slice())?;

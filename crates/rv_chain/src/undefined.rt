@@ -235,17 +235,14 @@ fn first_found<'a>(names: &[Option<&'a [u8]>]) -> Option<&'a [u8]>
 }
 
 /// The first name that data refer to and that has no address, by section and then by statement.
-pub(crate) fn undefined(
+pub(crate) fn undefined<'a>(
     alloc: Global,
-    unit: &Unit<'_>,
+    unit: &Unit<'a>,
     items: &[Item],
-) -> Result<Option<Vec<u8>>, SourceFault>
+) -> Result<Option<&'a [u8]>, SourceFault>
     requires { IsFilled unit.now }
-    ensures { IfOk result (λ found. (last : ℕ → ℕ) → AreItems 1 at_start (λ j. 0) (said unit.now) items.now last → option_map (λ name. name.items) found ≡ laws.undefined (said unit.now)) }
+    ensures { IfOk result (λ found. (last : ℕ → ℕ) → AreItems 1 at_start (λ j. 0) (said unit.now) items.now last → option_map now_of found ≡ laws.undefined (said unit.now)) }
 {
     let names = missing_names(alloc, unit, items)?;
-    match first_found(names.as_slice()) {
-        Some(name) => Ok(Some(Vec::from_slice(alloc, name)?)),
-        None => Ok(None),
-    }
+    Ok(first_found(names.as_slice()))
 }
