@@ -1,5 +1,6 @@
 use Rattle.std.proofs.Common.{◌≡◌, ◌+◌, ◌<◌, ◌≤◌, length, map, get_or, sym, ap, subst, ◌∙◌, true, Err}
-use Rattle.std.specs.Prelude.{slice_index_or}
+use Rattle.std.specs.Prelude.{slice_index_or, ℕ, IfOk}
+use Rattle.std.specs.Global.{Vec}
 use Rattle.std.proofs.lemmas.Result.{err_from_is_err_and}
 use Rattle.std.proofs.lemmas.List.{length-map}
 use Rattle.rv_statement.specs.View.{said_by}
@@ -87,3 +88,11 @@ returns-clause-coded c =
     let i = c.loop-index.index in
     let past = subst (λ l. length l ≤ i) c.statements-statements.ensures c.loop-index-test.false in
     coded_whole (said u) i c.finish.result (stated_none (said u) i (subst (λ n. n ≤ i) (sym (length-map u.statements.items said_by)) past)) c.loop-index.invariant.4
+
+pub returns-in_err-pass-clause-code : goal.returns-in_err-pass-clause-code
+returns-in_err-pass-clause-code c =
+    let found = err_from_is_err_and c.from_residual-in_err-pass.result c.from_residual-in_err-pass.ensures.1 in
+    rw (found.1, found.2) (search)
+
+pub returns-clause-count : goal.returns-clause-count
+returns-clause-count c = subst (λ n. IfOk c.finish.result (λ (sections : Vec (Vec ℕ)). length sections.items ≡ n)) c.loop-index.invariant.3 c.finish.ensures.count
