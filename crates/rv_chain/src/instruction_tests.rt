@@ -208,7 +208,7 @@ fn refused_instructions(rt: HostRuntime) -> Result<(), Fail> {
         (b"sub a0, a1, 5", 7),
         (b"addi a0, a1, a2", 7),
         (b"lw a0, a1", 7),
-        (b"sw a0, 4(5", 9),
+        (b"sw a0, 4(5", 7),
         (b"amoadd.w a0, a1, 4(a2)", 7),
         (b"amoadd.w a0, a1, a2", 7),
         (b"fence wr, r", 7),
