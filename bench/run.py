@@ -18,8 +18,11 @@ GCC = "riscv64-unknown-elf-gcc"
 FLAGS = "-march=rv64imac -mabi=lp64 -O2 -ffreestanding -nostdlib -static -Wl,--no-warn-rwx-segments".split()
 ROUNDS = 40
 AS = "riscv64-unknown-elf-as"
+LD = "riscv64-unknown-elf-ld"
 SOURCE_BYTES = 16 * 2**20
 STATEMENTS = 2**22
+# No token: the last line of a source that is read whole and refused.
+FAULT = "!\n"
 
 
 def missing(tool):
@@ -143,47 +146,64 @@ def write_source(path):
             file.write(line + "\n")
 
 
-def peak(command):
-    """The most memory that a program has, in bytes, and whether it ends well."""
+def peak(command, status=0):
+    """The most memory that a program has, in bytes, and whether it ends with this status."""
     process = subprocess.Popen(command, stdout=subprocess.DEVNULL, stderr=subprocess.DEVNULL)
-    _, status, used = os.wait4(process.pid, 0)
-    process.returncode = os.waitstatus_to_exitcode(status)
-    return used.ru_maxrss * 1024, process.returncode == 0
+    _, ended, used = os.wait4(process.pid, 0)
+    process.returncode = os.waitstatus_to_exitcode(ended)
+    return used.ru_maxrss * 1024, process.returncode == status
 
 
-def readers(folder, source):
-    """The commands that read a source: rv, which builds the executable, and GNU as, which writes an object."""
-    commands = [[RV, "build", "-o", folder / "executable", source]]
+def builders(folder, source):
+    """The commands that build a source, by what they do: rv makes the executable and its map; GNU as an object, of
+    which GNU ld makes the executable."""
+    executable, linked = folder / "executable", folder / "object"
+    commands = {"rv build": [RV, "build", "-o", executable, "--map", folder / "map", source]}
     if not missing(AS):
-        commands.append([AS, "-march=rv64ima", "-mabi=lp64", "-o", folder / "object", source])
+        commands["as"] = [AS, "-march=rv64ima", "-mabi=lp64", "-o", linked, source]
+    if "as" in commands and not missing(LD):
+        commands["ld"] = [LD, "-Map", folder / "map", "-o", executable, linked]
     return commands
+
+
+def row(name, seconds, length, memory, note):
+    """A line of the table for a source of a length."""
+    print(f"{name:24} {seconds:6.2f} s {length / seconds / 1e6:7.1f} million bytes per second, {memory / 2**20:5.0f} MiB{note}")
 
 
 def reading(folder):
     """Reading a source of instructions, data and labels: bytes a second, and the memory that it takes."""
-    source = folder / "source.s"
+    source, faulty = folder / "source.s", folder / "faulty.s"
     count = write_source(source)
     length = source.stat().st_size
     print(f"Building a source of {length} bytes, {count} lines")
-    for command in readers(folder, source):
+    for name, command in builders(folder, source).items():
         memory, good = peak(command)
         seconds, _ = best(command, b"")
-        rate = length / seconds / 1e6
-        note = "" if good else ", BUT REFUSES IT"
-        name = Path(command[0]).name
-        print(f"{name:24} {seconds:6.2f} s {rate:7.1f} million bytes per second, {memory / 2**20:5.0f} MiB{note}")
+        row(name, seconds, length, memory, "" if good else ", BUT REFUSES IT")
+    # a fault in the last line is found when all is read, and before anything is built
+    shutil.copy(source, faulty)
+    with faulty.open("a") as file:
+        file.write(FAULT)
+    command = [RV, "build", "-o", folder / "executable", faulty]
+    memory, good = peak(command, status=1)
+    seconds, _ = best(command, b"")
+    row("rv, reading alone", seconds, length, memory, "" if good else ", BUT TAKES ITS FAULT")
 
 
 def statements(folder):
-    """Building the most statements that a source may have: the memory that each takes, with the source's own."""
-    source = folder / "statements.s"
-    source.write_text(".globl _start\n_start:\n" + "1:\n" * (STATEMENTS - 2))
-    print(f"Building a source of {STATEMENTS} statements, {source.stat().st_size} bytes")
-    for command in readers(folder, source):
+    """The most statements that a source may have: the memory that each takes, with the source's own."""
+    source, faulty = folder / "statements.s", folder / "too_many.s"
+    lines = ".globl _start\n_start:\n" + "1:\n" * (STATEMENTS - 2)
+    source.write_text(lines)
+    faulty.write_text(lines + FAULT)
+    length = source.stat().st_size
+    print(f"Building a source of {STATEMENTS} statements, {length} bytes")
+    for name, command in builders(folder, source).items():
         memory, good = peak(command)
-        note = "" if good else ", BUT REFUSES IT"
-        name = Path(command[0]).name
-        print(f"{name:24} {memory / STATEMENTS:6.0f} bytes a statement{note}")
+        print(f"{name:24} {memory / STATEMENTS:6.0f} bytes a statement{'' if good else ', BUT REFUSES IT'}")
+    memory, good = peak([RV, "build", "-o", folder / "executable", faulty], status=1)
+    print(f"{'rv, reading alone':24} {(memory - length) / STATEMENTS:6.0f} bytes a statement beside the source{'' if good else ', BUT TAKES ITS FAULT'}")
 
 
 def main():

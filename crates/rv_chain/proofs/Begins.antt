@@ -7,7 +7,8 @@ use Rattle.rv_statement.specs.declared.directive.Choice.{Choice}
 use Rattle.rv_statement.specs.declared.directive.Choice.TheVariants.{Push, Pop}
 use Rattle.rv_text_laws.specs.Values.{Value}
 use Rattle.rv_statement.specs.Statement.{Statement, Expression, Label, Numbered, Instruction, Directs, Spoken, Directive, Enters, Opens, Globl, Local, Sets, Aligns_to_power, Aligns_to_bytes, Values, Strings, Zeros, Chooses, Ignored}
-use Rattle.rv_unit_laws.specs.Sections.{Section, section_of, standard_name, entered, current_section}
+use Rattle.rv_statement.specs.Sections.{standard_name}
+use Rattle.rv_unit_laws.specs.Sections.{Section, section_of, entered, current_section}
 use Rattle.rv_unit_laws.specs.Tables.{Tables, Setting, at_start, here, value, given, asked, or_none, data_bytes, changed_at, is_defined, may_set, with_setting, with_section, with_data, with_choice, after_directive, after, after_all, tables}
 use Rattle.rv_chain_laws.proofs.Homes.{all_join}
 

@@ -27,7 +27,7 @@ use Rattle.rv_link.specs.declared.piece.Destination.{Destination}
 use Rattle.rv_link.specs.declared.piece.Destination.TheVariants.{Data, Bss, Text, Rodata}
 use Rattle.rv_link.specs.declared.piece.Piece.{Piece}
 use Rattle.rv_link.specs.declared.layout.Layout.{Layout}
-use Rattle.rv_link.specs.Layout.{IsLayout, aligned, goes, end_behind, end_of, started, greatest}
+use Rattle.rv_link.specs.Layout.{IsLayout, goes, end_behind, end_of, started, greatest}
 use Rattle.rv_link.specs.declared.rows.Item.{Item}
 use Rattle.rv_link.specs.Contents.{contents_of}
 use Rattle.rv_link.specs.Definitions.{entry_from}

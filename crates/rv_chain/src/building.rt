@@ -7,13 +7,10 @@ ghost use Rattle.rv_chain_laws.specs.Headline.{TheHeadline};
 use crate::fault::{Fault, LinkFault};
 use crate::link::link;
 use crate::options::{Built, LinkOptions};
-use rv_image::write_exec;
+use rv_image::{STACK_START, write_exec};
 use rv_parse::parse;
 use rv_unit::Unit;
 use std::alloc::Global;
-
-/// Where the stack begins; a text starts below.
-const STACK_START: u64 = 0x3ff0_0000;
 
 /// Assembles and links a list of sources: the executable and its map.
 ///

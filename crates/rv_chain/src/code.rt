@@ -15,7 +15,6 @@ ghost use Rattle.rv_chain.specs.Added.{Adds, IsCode, IsCodeSoFar, IsSourceCode};
 ghost use Rattle.rv_chain.specs.Choices.{options_of};
 ghost use Rattle.rv_chain.specs.Coded.{AreCoded};
 ghost use Rattle.rv_chain.specs.Code as laws;
-ghost use Rattle.rv_chain.specs.Coded.{AreCoded};
 ghost use Rattle.rv_chain.specs.Code.{GrowsBy, Codes, Evaluates, word_of, full_fault, full_at};
 
 use crate::choices::Choices;
@@ -24,11 +23,8 @@ use rv_encode::encode;
 use rv_isa::Inst;
 use rv_statement::Statement;
 use rv_text::{Expr, SourceCode, SourceFault, Value};
-use rv_unit::{Place, Scope, Unit};
+use rv_unit::{LONGEST_SECTION, Place, Scope, Unit};
 use std::alloc::{AllocError, Global};
-
-/// The longest section, in bytes.
-const LONGEST_SECTION: usize = 1 << 28;
 
 /// Adds the word of an instruction to the code of a section.
 fn put(sections: &mut [Vec<u8>], section: u32, inst: Inst) -> Result<(), AllocError>
@@ -79,7 +75,7 @@ fn full_behind(full: Option<u32>, bytes: usize, line: u32) -> Option<u32>
 {
     match full {
         Some(first) => Some(first),
-        None if bytes > LONGEST_SECTION => Some(line),
+        None if bytes as u64 > LONGEST_SECTION => Some(line),
         None => None,
     }
 }

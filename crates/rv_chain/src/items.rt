@@ -21,13 +21,10 @@ use rv_link::Item;
 use rv_statement::{Statement, StatementKind, Width};
 use rv_text::{SourceCode, SourceFault, Value};
 use rv_unit::{
-    Extent, Place, Scope, Section, Unit, asked_bytes, asked_power, padding, strings_size,
-    values_size,
+    Extent, LONGEST_SECTION, Place, Scope, Section, Unit, asked_bytes, asked_power, padding,
+    strings_size, values_size,
 };
 use std::alloc::{AllocError, Global};
-
-/// The longest section, in bytes.
-const LONGEST_SECTION: u64 = 1 << 28;
 
 /// So many bytes, where a section can have them.
 fn fitting(bytes: u64, line: u32) -> Result<u32, SourceFault>
@@ -256,16 +253,11 @@ fn end(ends: &[u32], section: u32) -> u32
 }
 
 /// So many sections without a byte.
-#[tactic(auto, using(crate::proofs::Itemized::none_behind))]
 fn no_bytes(alloc: Global, count: usize) -> Result<Vec<u32>, AllocError>
     ensures count { IfOk result (λ ends. length ends.items ≡ count) }
     ensures none { IfOk result (λ ends. (j : ℕ) → slice_index ends.items j ≡ 0) }
 {
-    let mut ends = Vec::new(alloc);
-    for _ in 0..count {
-        ends.push(0)?;
-    }
-    Ok(ends)
+    vec![in alloc; 0; count]
 }
 
 /// The section at a place.

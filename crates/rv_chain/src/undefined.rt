@@ -176,16 +176,11 @@ fn keep<'a>(
 }
 
 /// So many sections of which nothing was found.
-#[tactic(auto, using(crate::proofs::FirstNames::none_behind))]
 fn no_names<'a>(alloc: Global, count: usize) -> Result<Vec<Option<&'a [u8]>>, AllocError>
     ensures count { IfOk result (λ found. length found.items ≡ count) }
     ensures none { IfOk result (λ found. (j : ℕ) → found_in found.items j ≡ None) }
 {
-    let mut found = Vec::new(alloc);
-    for _ in 0..count {
-        found.push(None)?;
-    }
-    Ok(found)
+    vec![in alloc; None; count]
 }
 
 /// Whether a section is loaded.

@@ -23,5 +23,5 @@ pub use linked::Linked;
 pub use loading::load;
 pub use round_trip::reload;
 pub use rv_map::{Global, Map, Region, Row};
-pub use segment::Segment;
+pub use segment::{STACK_BYTES, STACK_START, Segment};
 pub use writing::write_exec;

@@ -2,6 +2,11 @@
 
 ghost use Rattle.std.specs.Prelude.{◌+◌, ◌^◌, ◌≤◌, length};
 
+/// The first address of the stack.
+pub const STACK_START: u64 = 0x3ff0_0000;
+/// The bytes of the stack.
+pub const STACK_BYTES: usize = 0x10_0000;
+
 /// Bytes that stand in memory from `address` on.
 #[derive(Debug, PartialEq, Eq, Drop)]
 pub struct Segment {

@@ -9,15 +9,10 @@ use crate::checks::{lies_past, meet};
 use crate::fault::FileFault;
 use crate::header::{self, double, half};
 use crate::program::Program;
+use crate::segment::{STACK_BYTES, STACK_START};
 
 /// The bytes of a program header.
 pub(crate) const PROGRAM_SIZE: usize = 56;
-
-/// The first address of the stack.
-const STACK_START: u64 = 0x3FF0_0000;
-
-/// The bytes of the stack.
-const STACK_SIZE: u64 = 0x10_0000;
 
 /// Looks at the program headers, one after the other.
 pub(crate) fn check_programs(file: &[u8]) -> Result<(), FileFault>
@@ -103,7 +98,7 @@ fn check_segment(
         program.address,
         program.memory_size,
         STACK_START,
-        STACK_SIZE,
+        STACK_BYTES as u64,
     ) {
         return Err(FileFault::Overlap);
     }

@@ -8,8 +8,10 @@ use Rattle.std.specs.List.{drop-map}
 use Rattle.std.proofs.Math.Seq.{drop-cons}
 use Rattle.rv_link.specs.declared.piece.Destination.{Destination}
 use Rattle.rv_link.specs.declared.piece.Piece.{Piece}
-use Rattle.rv_link.specs.Layout.{aligned, goes, end_behind, end_of, started, greatest}
-use Rattle.rv_link.specs.Contents.{zeros, contents_of}
+use Rattle.rv_unit_laws.specs.Tables.{aligned}
+use Rattle.rv_link.specs.Layout.{goes, end_behind, end_of, started, greatest}
+use Rattle.rv_chain_laws.specs.Contents.{zeros}
+use Rattle.rv_link.specs.Contents.{contents_of}
 
 -- what is left of a list, from an element on
 pub left : {X : Type 0} (xs : List X) (i : ℕ) (x : X) → i < length xs → x ≡ get_or xs i x → drop i xs ≡ x ∷ drop (i + 1) xs

@@ -1,12 +1,10 @@
 -- What regions hold.
 
 use Rattle.std.specs.Prelude.{ℕ, ◌+◌, ◌-◌, List, [], ◌∷◌, ◌++◌, replicate, if◌then◌else◌}
+use Rattle.rv_chain_laws.specs.Contents.{zeros}
 use Rattle.rv_link.specs.declared.piece.Destination.{Destination}
 use Rattle.rv_link.specs.declared.piece.Piece.{Piece}
 use Rattle.rv_link.specs.Layout.{goes}
-
-abbrev pub zeros : ℕ → List ℕ
-zeros count = replicate count 0
 
 -- the bytes of the sections that go to a region, each from its start on, behind an end, with zeros between them
 abbrev pub contents_of : Destination → ℕ → List Piece → List ℕ → List (List ℕ) → List ℕ

@@ -1,15 +1,12 @@
 -- Sections one behind the other: each at the least aligned place that is not below the end before.
 
 use Rattle.std.specs.Prelude.{◌≡◌, ℕ, ◌+◌, ◌-◌, ◌*◌, ◌/◌, ◌≤◌, ◌^◌, Bool, max, List, [], ◌∷◌, length, replicate, if◌then◌else◌}
+use Rattle.rv_unit_laws.specs.Tables.{aligned}
 use Rattle.rv_link.specs.declared.piece.Destination.{Destination}
 use Rattle.rv_link.specs.declared.piece.Destination.TheVariants.{Text, Rodata, Data, Bss}
 use Rattle.rv_link.specs.declared.piece.Piece.{Piece}
 use Rattle.rv_link.specs.declared.layout.Layout.{Layout}
 use Rattle.rv_link.specs.Destination.{is_bound_for}
-
--- the least multiple of an alignment that is not below an address
-abbrev pub aligned : ℕ → ℕ → ℕ
-aligned alignment address = (address + (alignment - 1)) / alignment * alignment
 
 abbrev pub goes : Destination → Piece → Bool
 goes to x = is_bound_for to x.destination

@@ -1,7 +1,8 @@
 //! What the regions of a program hold.
 
 ghost use Rattle.std.specs.Prelude.{◌≡◌, ◌+◌, ◌-◌, ◌++◌, ◌<◌, ◌^◌, length, map, IfOk, OnOk};
-ghost use Rattle.rv_link.specs.Contents.{zeros, contents_of};
+ghost use Rattle.rv_chain_laws.specs.Contents.{zeros};
+ghost use Rattle.rv_link.specs.Contents.{contents_of};
 
 use crate::piece::{Destination, Piece};
 use std::alloc::{AllocError, Global};

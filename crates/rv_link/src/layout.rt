@@ -1,14 +1,14 @@
 //! Where the sections of a program start.
 
 ghost use Rattle.std.specs.Prelude.{◌≡◌, ◌+◌, ◌-◌, ◌^◌, ◌<◌, ◌≤◌, length, IfOk, IfSome};
-ghost use Rattle.rv_link.specs.Layout.{aligned, started, end_of, greatest, IsLayout};
+ghost use Rattle.rv_unit_laws.specs.Tables.{aligned};
+ghost use Rattle.rv_link.specs.Layout.{started, end_of, greatest, IsLayout};
 
 use crate::piece::{Destination, Piece};
+use rv_image::STACK_START;
 use rv_map::Region;
 use std::alloc::{AllocError, Global};
 
-/// Where the stack begins; a program ends below.
-const STACK_START: u64 = 0x3ff0_0000;
 /// The most bytes of memory that a program has.
 const MEMORY_LIMIT: u64 = 1 << 28;
 /// Regions with different rights begin at multiples of this.

@@ -7,6 +7,7 @@ use Rattle.rv_unit_laws.specs.Tables.{Tables, after}
 use Rattle.rv_chain_laws.specs.Stated.{Stated, stated_now, has_row}
 use Rattle.rv_chain_laws.specs.Sites.{Entry, Site}
 use Rattle.rv_chain_laws.specs.Placed.{Places}
+use Rattle.rv_chain_laws.specs.Refusals.{grown as grown_by}
 use Rattle.rv_link.specs.Rows.{row_of, address_of as item_address}
 use Rattle.rv_chain_laws.specs.Sites.{Program, form, has_values}
 use Rattle.rv_link.specs.declared.rows.Item.{Item}
@@ -23,7 +24,7 @@ pub record IsItem (s : Stated) (before : ℕ → ℕ) (i : Item) : Type 0 where
 
 -- the bytes of each section behind an item
 abbrev pub grown : (ℕ → ℕ) → Item → ℕ → ℕ
-grown before i j = if j == i.section then before j + i.bytes else before j
+grown before i = grown_by before i.section i.bytes
 
 -- the items of statements from an ordinal on, and the bytes of each section behind the last of them
 abbrev pub AreItems : ℕ → Tables → (ℕ → ℕ) → List Spoken → List Item → (ℕ → ℕ) → Type 0

@@ -43,14 +43,9 @@ ghost use Rattle.rv_image.specs.Memory.{lies_in, has_flag, segment_at, mem_of};
 ghost use Rattle.rv_image.specs.Image.{image_of};
 
 use crate::memory::{Memory, Right};
-use rv_image::{Image, Segment};
+use rv_image::{Image, STACK_BYTES, STACK_START, Segment};
 use std::alloc::{AllocError, Global};
 use std::cell::Cell;
-
-/// Where the stack begins, and how many bytes it has.
-const STACK_START: u64 = 0x3FF0_0000;
-
-const STACK_BYTES: usize = 0x10_0000;
 
 /// Segments that lie apart, the stack last among them, each in one piece. An access looks first where the latest
 /// one was found, and a scan finds its segment where that one does not hold it.

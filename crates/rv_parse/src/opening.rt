@@ -5,28 +5,16 @@ ghost use Rattle.std.specs.Prelude.{◌≡◌, ℕ, List, [], Bool, ◌||◌, op
 ghost use Rattle.rv_text.specs.Cursor.{left, wrong_of};
 ghost use Rattle.rv_statement.specs.Statement.{Spoken};
 ghost use Rattle.rv_statement.specs.View.{statement_of};
-ghost use Rattle.rv_parse_laws.specs.Opening.{standard_name, opens, is_opened, flags_fault, type_fault};
+ghost use Rattle.rv_parse_laws.specs.Opening.{opens, is_opened, flags_fault, type_fault};
 ghost use Rattle.rv_parse_laws.specs.Parsing.{front_fault, type_wrong, flags_wrong, opening_at};
 ghost use Rattle.rv_parse.specs.Opened.{Has, Knows};
 
 use crate::fault::{self, Slot};
 use crate::{kinds, place, words};
-use rv_statement::{Standard, StatementKind};
+use rv_statement::StatementKind;
 use rv_text::{Cursor, LONGEST_NAME, SourceCode, TokenKind, Wrong, append_string};
 use std::alloc::{AllocError, Global};
 use std::collections::HashSet;
-
-/// The name of a section that has a directive of its own.
-fn standard_name(standard: Standard) -> &'static [u8]
-    ensures { result.now ≡ standard_name standard }
-{
-    match standard {
-        Standard::Text => b".text",
-        Standard::Data => b".data",
-        Standard::Rodata => b".rodata",
-        Standard::Bss => b".bss",
-    }
-}
 
 /// The names of the sections that statements opened or entered so far.
 #[derive(Drop)]
@@ -64,7 +52,7 @@ impl<'a> Opened<'a> {
         ensures { OnOk result ((test : List ℕ → Bool) → Has (self.old).set test → Has (self.new).set (λ n. opens n (statement_of kind.now) || test n)) }
     {
         match kind {
-            StatementKind::Enters(standard) => self.insert(standard_name(*standard)),
+            StatementKind::Enters(standard) => self.insert(standard.name()),
             StatementKind::Opens(opening) => self.insert(opening.name),
             _ => Ok(()),
         }

@@ -8,19 +8,11 @@ use Rattle.rv_text_laws.specs.Grammar.{Kind, Name as NameToken, Text}
 use Rattle.rv_text_laws.specs.Lexing.{Token}
 use Rattle.rv_text_laws.specs.Wrong.{longest_name, limit}
 use Rattle.rv_text_laws.specs.Joined.{IsJoined}
-use Rattle.rv_statement.specs.declared.directive.Standard.{Standard}
-use Rattle.rv_statement.specs.declared.directive.Standard.TheVariants as standards
+use Rattle.rv_statement.specs.Sections.{standard_name}
 use Rattle.rv_statement.specs.Statement.{Enters, Opens, Statement, Directs, Spoken}
 use Rattle.rv_parse_laws.specs.Words.{is_among, section_types}
 use Rattle.rv_parse_laws.specs.Syntax.{is_comma, is_at, is_flag, is_section_name}
 use Rattle.rv_parse_laws.specs.Faults.{unsupported_here, wrong_letters}
-
--- the sections that have a directive of their own
-abbrev pub standard_name : Standard → List ℕ
-standard_name standards.Text = codes ".text"
-standard_name standards.Data = codes ".data"
-standard_name standards.Rodata = codes ".rodata"
-standard_name standards.Bss = codes ".bss"
 
 -- a statement opens, or enters, the section of this name
 abbrev pub opens : List ℕ → Statement → Bool

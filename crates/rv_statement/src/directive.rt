@@ -2,6 +2,9 @@
 //!
 //! Source: GNU as, "Pseudo Ops" and "RISC-V-Directives".
 
+ghost use Rattle.std.specs.Prelude.{◌≡◌};
+ghost use Rattle.rv_statement.specs.Sections.{standard_name};
+
 /// The sections that have a directive of their own.
 #[derive(Clone, Copy, Debug, PartialEq, Eq, Drop)]
 pub enum Standard {
@@ -13,6 +16,20 @@ pub enum Standard {
     Rodata,
     /// `.bss`
     Bss,
+}
+
+impl Standard {
+    /// The name of the section.
+    pub fn name(self) -> &'static [u8]
+        ensures { result.now ≡ standard_name self }
+    {
+        match self {
+            Standard::Text => b".text",
+            Standard::Data => b".data",
+            Standard::Rodata => b".rodata",
+            Standard::Bss => b".bss",
+        }
+    }
 }
 
 /// What `.option` says.

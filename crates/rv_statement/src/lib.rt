@@ -1,4 +1,4 @@
-//! Statements: what a source says, as plain data and as the code holds it. Nothing here runs.
+//! Statements: what a source says, as plain data and as the code holds it.
 //!
 //! Source: RISC-V Assembly Programmer's Manual; GNU as, "Pseudo Ops" and "RISC-V Dependent Features".
 #![tactic(auto)]

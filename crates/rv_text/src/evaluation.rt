@@ -1,6 +1,6 @@
 //! The value of an expression.
 
-ghost use Rattle.std.specs.Prelude.{◌≡◌, ◌<◌, ◌≤◌, ◌+◌, ◌++◌, [], ◌∷◌, true, length, min};
+ghost use Rattle.std.specs.Prelude.{◌≡◌, ◌<◌, ◌≤◌, ◌+◌, ◌++◌, List, [], ◌∷◌, true, length, min, IfSome};
 ghost use Rattle.rv_text_laws.specs.Expression.{Primary, tree_of};
 ghost use Rattle.rv_text_laws.specs.Values as values;
 ghost use Rattle.rv_text_laws.specs.declared.operator.BinaryOperator.TheVariants.{Divide, Remainder};
@@ -314,6 +314,78 @@ fn evaluate<'a, F: Fn(Symbol<'a>) -> Meaning>(nodes: &Nodes<'a>, names: &F) -> P
     pop(&mut stack)
 }
 
+/// The value of a node that stands for a number or a symbol.
+fn operand<'a, F: Fn(Symbol<'a>) -> Meaning>(node: Node<'a>, names: &F) -> Option<Part<'a>>
+    requires { F.IsAlwaysCallable names.now }
+    ensures { IfSome result (λ part. (m : Primary → values.Meaning) (vs : List values.Value) → Means (F.post names.now) m → values.after_node m (node_of node.entry) vs ≡ part_of part ∷ vs) }
+{
+    match node {
+        Node::Number(number) => Some(Part::Constant(number)),
+        Node::Symbol(symbol) => Some(lone(symbol, names)),
+        Node::Unary(_) => None,
+        Node::Binary(_) => None,
+    }
+}
+
+/// The value of an operator behind its one operand.
+fn of_one<'a, F: Fn(Symbol<'a>) -> Meaning>(
+    first: Node<'a>,
+    last: Node<'a>,
+    names: &F,
+) -> Option<Part<'a>>
+    requires { F.IsAlwaysCallable names.now }
+    ensures { IfSome result (λ part. (m : Primary → values.Meaning) (vs : List values.Value) → Means (F.post names.now) m → values.after_nodes m (node_of first.entry ∷ node_of last.entry ∷ []) vs ≡ part_of part ∷ vs) }
+{
+    let Node::Unary(operator) = last else {
+        return None;
+    };
+    let part = operand(first, names)?;
+    Some(alone(operator, part))
+}
+
+/// The value of an operator behind its two operands.
+fn of_two<'a, F: Fn(Symbol<'a>) -> Meaning>(
+    first: Node<'a>,
+    second: Node<'a>,
+    last: Node<'a>,
+    names: &F,
+) -> Option<Part<'a>>
+    requires { F.IsAlwaysCallable names.now }
+    ensures { IfSome result (λ part. (m : Primary → values.Meaning) (vs : List values.Value) → Means (F.post names.now) m → values.after_nodes m (node_of first.entry ∷ node_of second.entry ∷ node_of last.entry ∷ []) vs ≡ part_of part ∷ vs) }
+{
+    let Node::Binary(operator) = last else {
+        return None;
+    };
+    let left = operand(first, names)?;
+    let right = operand(second, names)?;
+    Some(both(operator, left, right))
+}
+
+/// The value of one operator with its operands, as most expressions are; no stack is made for them.
+fn short_value<'a, F: Fn(Symbol<'a>) -> Meaning>(nodes: &Nodes<'a>, names: &F) -> Option<Part<'a>>
+    requires callable { F.IsAlwaysCallable names.now }
+    requires fits { values.nodes_fit (nodes_of nodes.now) 0 ≡ true }
+    ensures { IfSome result (λ part. (m : Primary → values.Meaning) → Means (F.post names.now) m → part_of part ≡ values.value_of m (tree_of (nodes_of nodes.now))) }
+{
+    match nodes.rest.as_slice() {
+        [last] => of_one(nodes.first, *last, names),
+        [second, last] => of_two(nodes.first, *second, *last, names),
+        _ => None,
+    }
+}
+
+/// The value of the nodes of an expression with operators.
+fn compound_value<'a, F: Fn(Symbol<'a>) -> Meaning>(nodes: &Nodes<'a>, names: &F) -> Part<'a>
+    requires callable { F.IsAlwaysCallable names.now }
+    requires fits { values.nodes_fit (nodes_of nodes.now) 0 ≡ true }
+    ensures { (m : Primary → values.Meaning) → Means (F.post names.now) m → part_of result ≡ values.value_of m (tree_of (nodes_of nodes.now)) }
+{
+    match short_value(nodes, names) {
+        Some(part) => part,
+        None => evaluate(nodes, names),
+    }
+}
+
 /// The value of an expression, by what its names mean; a fault has this line, and of several the lowest number counts.
 pub fn eval<'a, F: Fn(Symbol<'a>) -> Meaning>(
     expr: &Expr<'a>,
@@ -329,6 +401,6 @@ pub fn eval<'a, F: Fn(Symbol<'a>) -> Meaning>(
         Expr::Here => outcome(lone(Symbol::Here, names), line),
         Expr::Backward(digits) => outcome(lone(Symbol::Backward(digits), names), line),
         Expr::Forward(digits) => outcome(lone(Symbol::Forward(digits), names), line),
-        Expr::Compound(compound) => outcome(evaluate(&compound.nodes, names), line),
+        Expr::Compound(compound) => outcome(compound_value(&compound.nodes, names), line),
     }
 }

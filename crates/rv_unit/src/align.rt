@@ -10,7 +10,7 @@ use rv_statement::Width;
 use rv_text::{SourceFault, Value, string_size};
 
 /// The longest section, in bytes.
-pub(crate) const LONGEST_SECTION: u64 = 1 << 28;
+pub const LONGEST_SECTION: u64 = 1 << 28;
 
 /// The greatest alignment.
 const GREATEST_ALIGNMENT: u64 = 4096;

@@ -16,7 +16,7 @@ mod section;
 mod tables;
 mod unit;
 
-pub use align::{asked_bytes, asked_power, padding, strings_size, values_size};
+pub use align::{LONGEST_SECTION, asked_bytes, asked_power, padding, strings_size, values_size};
 pub use place::{Home, Place};
 pub use scope::Scope;
 pub use section::{Extent, Section};

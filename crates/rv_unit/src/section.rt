@@ -1,6 +1,7 @@
 //! Sections and their flags.
 
 ghost use Rattle.std.specs.Prelude.{◌≡◌, ◌+◌, max, None, option_map};
+ghost use Rattle.rv_statement.specs.Sections.{standard_name};
 ghost use Rattle.rv_statement.specs.View.{now_of, quoted};
 ghost use Rattle.rv_unit_laws.specs.Sections as laws;
 ghost use Rattle.rv_unit_laws.specs.Tables as tables;
@@ -135,13 +136,8 @@ impl<'a> Section<'a> {
 
     /// The section of a directive of its own.
     pub(crate) fn standard(standard: Standard) -> Self
-        ensures { section_of result ≡ laws.section_of (laws.standard_name standard) None None }
+        ensures { section_of result ≡ laws.section_of (standard_name standard) None None }
     {
-        match standard {
-            Standard::Text => Section::of(b".text", None, None),
-            Standard::Data => Section::of(b".data", None, None),
-            Standard::Rodata => Section::of(b".rodata", None, None),
-            Standard::Bss => Section::of(b".bss", None, None),
-        }
+        Section::of(standard.name(), None, None)
     }
 }

@@ -4,8 +4,7 @@ use Rattle.std.specs.Prelude.{ℕ, suc, Bool, true, false, not, ◌&&◌, ◌||�
 use Rattle.std.specs.List.{list_any}
 use Rattle.std.specs.Str.{bytes_eq}
 use Rattle.rv_statement.specs.Statement.{Directive, Enters, Opens}
-use Rattle.rv_statement.specs.declared.directive.Standard.{Standard}
-use Rattle.rv_statement.specs.declared.directive.Standard.TheVariants.{Text, Data, Rodata, Bss}
+use Rattle.rv_statement.specs.Sections.{standard_name}
 
 -- a section by its flags: ALLOC, EXECINSTR and WRITE, and the type NOBITS
 pub record Section : Type 0 where
@@ -62,12 +61,6 @@ section_of name flags kind = record {
   writable = has_flag 119 flags (is_variable name || is_zeroed name);
   nobits = is_nobits kind (is_zeroed name);
 }
-
-abbrev pub standard_name : Standard → List ℕ
-standard_name Text = codes ".text"
-standard_name Data = codes ".data"
-standard_name Rodata = codes ".rodata"
-standard_name Bss = codes ".bss"
 
 abbrev pub text_section : Section
 text_section = record { name = codes ".text"; loaded = true; executable = true; writable = false; nobits = false }

@@ -1,5 +1,5 @@
 use Rattle.std.proofs.Common.{◌≡◌, ◌++◌}
-use Rattle.rv_link.specs.Contents.{zeros}
+use Rattle.rv_chain_laws.specs.Contents.{zeros}
 use Rattle.rv_link.proofs.contents.join.Given as goal
 
 abbrev pub invariant-loop : goal.invariant-loop

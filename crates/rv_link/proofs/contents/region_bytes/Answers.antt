@@ -2,7 +2,8 @@ use Rattle.std.proofs.Common.{rules, ◌≡◌, ◌+◌, ◌-◌, ◌<◌, ◌++
 use Rattle.std.proofs.Common.{[], subst}
 use Rattle.std.proofs.lemmas.List.{drop_more, length-map}
 use Rattle.rv_link.specs.Layout.{goes}
-use Rattle.rv_link.specs.Contents.{zeros, contents_of}
+use Rattle.rv_chain_laws.specs.Contents.{zeros}
+use Rattle.rv_link.specs.Contents.{contents_of}
 use Rattle.rv_link.proofs.Placed.{left, left_map, passed, joined}
 use Rattle.rv_link.proofs.contents.region_bytes.Goals as goal
 

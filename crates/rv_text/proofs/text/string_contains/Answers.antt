@@ -1,5 +1,5 @@
 -- Atom by atom.
-use Rattle.std.proofs.Common.{◌≡◌, ◌==◌, ◌||◌, ◌∷◌, drop, false, sym, eq-eqb, ne_eqb, ◌∙◌, ap, arith}
+use Rattle.std.proofs.Common.{◌==◌, ◌||◌, drop, sym, eq-eqb, ne_eqb, ◌∙◌, ap, arith}
 use Rattle.std.specs.List.{list_any}
 use Rattle.rv_text.specs.Token.{string_bytes}
 use Rattle.rv_text.proofs.Inside.{atom_within, string_more, string_none}

@@ -1,5 +1,5 @@
 -- Atom by atom.
-use Rattle.std.proofs.Common.{◌≡◌, ℕ, ◌+◌, ◌≤◌, length, suc, ◌∷◌, List, drop, sym, ◌∙◌, ap, arith}
+use Rattle.std.proofs.Common.{◌≡◌, length, suc, sym, ◌∙◌, ap, arith}
 use Rattle.rv_text.specs.Token.{string_bytes}
 use Rattle.rv_text.proofs.Inside.{atom_within, string_more, string_none}
 use Rattle.rv_text.proofs.text.string_size.Goals as goal
