@@ -8,7 +8,7 @@ use Rattle.rv_statement.specs.declared.statement.Statement.{Statement}
 use Rattle.rv_statement.specs.Statement.{Spoken}
 use Rattle.rv_statement.specs.View.{said_by}
 use Rattle.rv_unit_laws.specs.Sections.{Section, goes_to_text}
-use Rattle.rv_unit_laws.specs.Tables.{Tables, tables, at_start}
+use Rattle.rv_unit_laws.specs.Tables.{Tables, tables, aligned, at_start}
 use Rattle.rv_unit_laws.specs.Faults.{first_fault}
 use Rattle.rv_unit.specs.declared.unit.Unit.{Unit as SourceUnit}
 use Rattle.rv_unit.specs.Sections.{extent_section}
