@@ -2,4 +2,5 @@ pub mod Sections
 pub mod Sees
 pub mod Tables
 pub mod Faults
+pub mod Mixed
 pub mod Unit

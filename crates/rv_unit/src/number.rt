@@ -1,14 +1,20 @@
 //! Numbers by their digits, of any length.
 
-ghost use Rattle.std.specs.Prelude.{◌≡◌, ◌==◌, ◌+◌, ◌-◌, ◌*◌, ◌%◌, ◌≤◌, length};
+ghost use Rattle.std.specs.Prelude.{◌≡◌, ◌==◌, ◌+◌, ◌-◌, ◌*◌, ◌≤◌, ◌<◌, None, length, IfSome};
 ghost use Rattle.std.specs.Cmp.Rules.{comparing};
 ghost use Rattle.std.specs.Hash as fed;
 ghost use Rattle.std.proofs.Common.{ap, rules};
 ghost use Rattle.std.proofs.lemmas.Bool.{eqb-true};
 ghost use Rattle.rv_text_laws.specs.Bytes.{value, digit};
+ghost use Rattle.rv_unit.specs.Mixed.{IsSome, basis, mix, mix_digit};
 
 use indexmap::Equivalent;
 use std::hash::{Hash, Hasher};
+
+/// Where the mixing of digits begins, and what each step multiplies by: those of the hash FNV-1a.
+const BASIS: u64 = 0xcbf2_9ce4_8422_2325;
+
+const PRIME: u64 = 0x100_0000_01b3;
 
 /// A number by its digits; two are equal that spell the same number.
 #[derive(Clone, Copy, Drop)]
@@ -30,8 +36,32 @@ fn digit(byte: u8) -> u8
     }
 }
 
+/// The digits behind a zero in front.
+fn behind_zero(digits: &[u8]) -> Option<&[u8]>
+    ensures found { IfSome result (λ rest. (value 10 rest.now ≡ value 10 digits.now) × (length rest.now < length digits.now)) }
+    ensures missing { result ≡ None → IsSome digits.now }
+{
+    match digits {
+        [] => None,
+        [first, rest @ ..] => { if digit(*first) == 0 { Some(rest) } else { None } }
+    }
+}
+
+/// The digits without the zeros in front.
+fn trimmed(digits: &[u8]) -> &[u8]
+    ensures value { value 10 result.now ≡ value 10 digits.now }
+    ensures some { IsSome result.now }
+{
+    let mut left = digits;
+    while let Some(rest) = behind_zero(left) {
+        left = rest;
+    }
+    left
+}
+
 /// The digits without the last, and its value; without any 0.
 fn cut_last(digits: &[u8]) -> (&[u8], u8)
+    ensures some { IsSome digits.now → IsSome result.0.now }
     ensures value { value 10 digits.now ≡ 10 * value 10 result.0.now + result.1 }
     ensures below { result.1 ≤ 16 }
     ensures shorter { length result.0.now ≡ length digits.now - 1 }
@@ -66,15 +96,32 @@ pub(crate) fn same_number(first: &[u8], second: &[u8]) -> bool
     left_carry == right_carry
 }
 
-/// What is left of the number that digits spell, divided by a great prime.
-fn remainder(digits: &[u8]) -> u64
-    ensures { result ≡ value 10 digits.now % 1000000007 }
+/// A digit more, mixed in.
+fn with_digit(number: u64, digit: u8) -> u64
+    ensures { result ≡ mix_digit number digit }
 {
-    let mut number: u64 = 0;
-    for byte in digits {
-        number = (number * 10 + u64::from(digit(*byte))) % 1_000_000_007;
+    (number ^ u64::from(digit)).wrapping_mul(PRIME)
+}
+
+/// The decimal digits of the number that digits spell, from the last on, mixed into one number.
+fn mixed(digits: &[u8]) -> u64
+    ensures { result ≡ mix (value 10 digits.now) basis }
+{
+    let mut rest = trimmed(digits);
+    let mut carry = 0;
+    let mut number = BASIS;
+    while !rest.is_empty() {
+        let (front, last) = cut_last(rest);
+        carry += last;
+        number = with_digit(number, carry % 10);
+        carry /= 10;
+        rest = front;
     }
-    number
+    if carry == 0 {
+        number
+    } else {
+        with_digit(number, carry)
+    }
 }
 
 impl PartialEq for Number<'_> {
@@ -92,19 +139,19 @@ impl Eq for Number<'_> {
 }
 
 impl Hash for Number<'_> {
-    ghost hash_input = { λ n. fed.u64 (value 10 n.digits.now % 1000000007) };
+    ghost hash_input = { λ n. fed.u64 (mix (value 10 n.digits.now) basis) };
 
-    ghost respects_eq = { λ a b same. ap (λ n. fed.u64 (n % 1000000007)) (eqb-true (value 10 a.digits.now) (value 10 b.digits.now) same) };
+    ghost respects_eq = { λ a b same. ap (λ n. fed.u64 (mix n basis)) (eqb-true (value 10 a.digits.now) (value 10 b.digits.now) same) };
 
     fn hash<H: Hasher>(&self, state: &mut H) {
-        state.write_u64(remainder(self.digits));
+        state.write_u64(mixed(self.digits));
     }
 }
 
 impl<'k> Equivalent<Number<'k>> for Number<'_> {
     ghost equivalent = { λ q k. value 10 q.digits.now == value 10 k.digits.now };
 
-    ghost respects_hash = { λ q k same. ap (λ n. fed.u64 (n % 1000000007)) (eqb-true (value 10 q.digits.now) (value 10 k.digits.now) same) };
+    ghost respects_hash = { λ q k same. ap (λ n. fed.u64 (mix n basis)) (eqb-true (value 10 q.digits.now) (value 10 k.digits.now) same) };
 
     ghost respects_eq = { λ q x y same. ap (λ n. n == value 10 y.digits.now) (eqb-true (value 10 q.digits.now) (value 10 x.digits.now) same) };
 
