@@ -5,6 +5,7 @@ pub mod SoFar
 pub mod StatementKinds
 pub mod SoFarData
 pub mod SoFarPieces
+mod Stretched
 pub mod Standing
 pub mod Whole
 pub mod SoFarItems

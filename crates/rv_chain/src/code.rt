@@ -177,13 +177,13 @@ pub(crate) fn code(alloc: Global, unit: &Unit<'_>) -> Result<Vec<Vec<u8>>, Sourc
     ensures coded { IfOk result (λ _. AreCoded (said unit.now)) }
 {
     let mut coder = Coder::new(alloc, unit.sections().len())?;
-    let mut scope = Scope::new(alloc, unit)?;
+    let mut scope = Scope::new(unit);
     let statements = unit.statements();
     let places = unit.places();
     for index in 0..statements.len() {
         let place = places[index];
         put_code(&mut coder, &scope, &statements[index], place)?;
-        scope.pass()?;
+        scope.pass();
     }
     coder.finish()
 }

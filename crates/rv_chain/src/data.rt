@@ -107,7 +107,7 @@ fn all_data<'a>(
     ensures { IfOk result (λ sections. (globals : List Global) → AreAddresses addresses.now.names globals → GivesData (said unit.now) starts.now items.now globals (map (λ b. b.items) sections.items)) }
 {
     let mut sections = empty_sections(alloc, unit.sections().len())?;
-    let mut scope = Scope::new(alloc, unit)?;
+    let mut scope = Scope::new(unit);
     for index in 0..unit.statements().len() {
         put_next(
             sections.as_mut_slice(),
@@ -118,7 +118,7 @@ fn all_data<'a>(
             items,
             addresses,
         )?;
-        scope.pass()?;
+        scope.pass();
     }
     Ok(sections)
 }

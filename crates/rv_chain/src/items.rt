@@ -211,12 +211,13 @@ fn executed(kind: &StatementKind<'_>) -> bool
     matches!(kind, StatementKind::Plain(_) | StatementKind::With(..))
 }
 
-/// Whether the statement that is next has a row where its section is loaded.
-fn placed<'a>(scope: &Scope<'_, 'a>, kind: &StatementKind<'a>) -> bool
-    ensures { (index : ℕ) → IsFilled (scope.now).unit.now → IsScope scope.now index → result ≡ is_placed (passed (said (scope.now).unit.now) index) (index + 1) (statement_of kind.now) }
+/// Whether the statement that is next, which stands at the place, has a row where its section is loaded.
+fn placed<'a>(scope: &Scope<'_, 'a>, place: Place, kind: &StatementKind<'a>) -> bool
+    ensures { (index : ℕ) → IsFilled (scope.now).unit.now → IsScope scope.now index → place_of place ≡ laws.stood (passed (said (scope.now).unit.now) index) (index + 1) (statement_of kind.now)
+        → result ≡ is_placed (passed (said (scope.now).unit.now) index) (index + 1) (statement_of kind.now) }
 {
     match kind {
-        StatementKind::Sets(setting) => scope.gives_place(setting),
+        StatementKind::Sets(setting) => scope.gives_place(place, setting),
         StatementKind::Label(_) => true,
         StatementKind::Numbered(_) => true,
         StatementKind::Plain(_) => true,
@@ -282,14 +283,15 @@ fn next_item<'a>(
     ensures offset { IfOk result (λ x. x.offset ≡ offset) }
     ensures line { IfOk result (λ x. x.line ≡ (statement.now).line) }
     ensures text { IfOk result (λ x. x.text ≡ goes_to_text (section_of (extent.now).section)) }
-    ensures shown { IfOk result (λ x. (index : ℕ) → IsFilled (scope.now).unit.now → IsScope scope.now index → x.shown ≡ (is_placed (passed (said (scope.now).unit.now) index) (index + 1) (statement_of (statement.now).kind) && (extent.now).section.loaded)) }
+    ensures shown { IfOk result (λ x. (index : ℕ) → IsFilled (scope.now).unit.now → IsScope scope.now index → place_of place ≡ laws.stood (passed (said (scope.now).unit.now) index) (index + 1) (statement_of (statement.now).kind)
+        → x.shown ≡ (is_placed (passed (said (scope.now).unit.now) index) (index + 1) (statement_of (statement.now).kind) && (extent.now).section.loaded)) }
     ensures absent { IfOk result (λ x. x.shown ≡ false → x.bytes ≡ 0) }
     ensures sized { IfOk result (λ x. (index : ℕ) → IsFilled (scope.now).unit.now → IsScope scope.now index → x.shown ≡ true
         → IsSized (λ e. laws.value (laws.tables (said (scope.now).unit.now)) true (index + 1) (place_of place) e) (extent.now).section.executable x (extent.now).alignment (statement_of (statement.now).kind)) }
     ensures fits { IfOk result (λ x. x.offset + x.bytes ≤ 2 ^ 28) }
 {
     let line = statement.line;
-    let shown = placed(scope, &statement.kind) && extent.section.loaded;
+    let shown = placed(scope, place, &statement.kind) && extent.section.loaded;
     let bytes = shown_size(shown, scope, statement, place, *extent, offset)?;
     fitting(u64::from(offset) + u64::from(bytes), line)?;
     Ok(Item {
@@ -320,7 +322,7 @@ pub(crate) fn items(alloc: Global, unit: &Unit<'_>) -> Result<(Vec<Item>, Vec<u3
     ensures items { IfOk result (λ r. AreItems 1 laws.at_start (λ j. 0) (said unit.now) r.0.items (λ j. slice_index r.1.items j)) }
     ensures sized { IfOk result (λ r. AreSized (laws.tables (said unit.now)) 1 laws.at_start (said unit.now) r.0.items) }
 {
-    let mut scope = Scope::new(alloc, unit)?;
+    let mut scope = Scope::new(unit);
     let statements = unit.statements();
     let places = unit.places();
     let extents = unit.sections();
@@ -333,7 +335,7 @@ pub(crate) fn items(alloc: Global, unit: &Unit<'_>) -> Result<(Vec<Item>, Vec<u3
         let item = next_item(&scope, &statements[index], place, &extent, offset)?;
         grow(&mut ends, item);
         items.push(item)?;
-        scope.pass()?;
+        scope.pass();
     }
     Ok((items, ends))
 }

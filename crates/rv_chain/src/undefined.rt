@@ -203,7 +203,7 @@ fn missing_names<'a>(
 {
     let sections = unit.sections();
     let mut found = no_names(alloc, sections.len())?;
-    let mut scope = Scope::new(alloc, unit)?;
+    let mut scope = Scope::new(unit);
     let statements = unit.statements();
     let places = unit.places();
     for index in 0..statements.len() {
@@ -211,7 +211,7 @@ fn missing_names<'a>(
         let loaded = is_loaded(sections, place.section);
         let names = found.as_mut_slice();
         keep(names, &scope, items, &statements[index], place, loaded)?;
-        scope.pass()?;
+        scope.pass();
     }
     Ok(found)
 }

@@ -11,6 +11,7 @@ use Rattle.rv_text_laws.specs.Values.{Value}
 use Rattle.rv_statement.specs.Statement.{Statement, Expression, Label, Numbered, Instruction, Directs, Spoken, Directive, Enters, Opens, Globl, Local, Sets, Aligns_to_power, Aligns_to_bytes, Values, Strings, Zeros, Chooses, Ignored}
 use Rattle.rv_unit_laws.specs.Sections.{Section, Opened, place_of_name, most_sections, text_section, entered_at, entered, entered_by, section_at, current_section}
 use Rattle.rv_unit_laws.specs.Tables.{Tables, Setting, at_start, here, value, asked, data_bytes, is_defined, may_set, with_setting, with_section, with_data, with_choice, after_directive, after, after_all, tables, stood}
+use Rattle.rv_unit_laws.proofs.Opened.{got_of, IsOpen, after_opened, after_open, stays_all}
 use Rattle.rv_map.specs.declared.map.Row.{Row}
 use Rattle.rv_chain_laws.specs.Stated.{Stated, stated_from, stated_of, stated, has_row}
 use Rattle.rv_chain_laws.specs.Sites.{Site, first_of, entries_of, seated, sites_of}
@@ -18,25 +19,6 @@ use Rattle.rv_chain_laws.specs.Fits.{block_of, blocks_of_file, blocks_of, sites_
 use Rattle.rv_chain_laws.proofs.Regions.{AllIn}
 
 -- ---- lists
-
-got : {X : Type 0} (xs : List X) (i : ℕ) (d : X) → i < length xs → slice_get xs i ≡ Some (get_or xs i d)
-got [] i d h = absurd (omega arith)
-got (x ∷ xs) zero d h = refl
-got (x ∷ xs) (suc i) d h = got xs i d (omega arith)
-
-got_of : {X : Type 0} (xs : List X) (i : ℕ) (d x : X) → slice_get xs i ≡ Some x → get_or xs i d ≡ x
-got_of [] i d x e = absurd (cc)
-got_of (y ∷ ys) zero d x e = cc
-got_of (y ∷ ys) (suc i) d x e = got_of ys i d x e
-
-got_front : {X : Type 0} (xs ys : List X) (i : ℕ) (x : X) → slice_get xs i ≡ Some x → slice_get (xs ++ ys) i ≡ Some x
-got_front [] ys i x e = absurd (cc)
-got_front (y ∷ xs) ys zero x e = e
-got_front (y ∷ xs) ys (suc i) x e = got_front xs ys i x e
-
-got_last : {X : Type 0} (xs : List X) (y : X) → slice_get (xs ++ y ∷ []) (length xs) ≡ Some y
-got_last [] y = refl
-got_last (x ∷ xs) y = got_last xs y
 
 pub all_filter : {X : Type 0} (P : X → Type 0) (test : X → Bool) (xs : List X) → AllByRecursion P xs → AllByRecursion P (filter test xs)
 all_filter P test [] h = tt
@@ -54,112 +36,7 @@ pub all_both : {X : Type 0} (P Q R : X → Type 0) (xs : List X) → ((x : X) �
 all_both P Q R [] f h k = tt
 all_both P Q R (x ∷ xs) f (p, ps) (q, qs) = (f x p q, all_both P Q R xs f ps qs)
 
--- ---- the sections that are open
-
--- the current section is one of those that are open
-abbrev pub IsOpen : Opened → Type 0
-IsOpen o = (x : Section) × (slice_get o.sections o.current ≡ Some x)
-
-abbrev pub Keeps : Opened → Opened → Type 0
-Keeps o now = (j : ℕ) (x : Section) → slice_get o.sections j ≡ Some x → slice_get now.sections j ≡ Some x
-
--- a section that is found stands in the list
-place_inside : (xs : List Section) (name : List ℕ) (i : ℕ) → place_of_name xs name ≡ Some i → i < length xs
-place_inside [] name i e = absurd (cc)
-place_inside (x ∷ xs) name i e = go (bytes_eq x.name name) (place_of_name xs name) (λ j f. place_inside xs name j f) e
-  where
-    go : (b : Bool) (found : Option ℕ) → ((j : ℕ) → found ≡ Some j → j < length xs) → (if b then Some 0 else option_map suc found) ≡ Some i → i < suc (length xs)
-    go true found f e = let first : 0 ≡ i = cc in omega arith
-    go false None f e = absurd (cc)
-    go false (Some j) f e =
-        let next : suc j ≡ i = cc in
-        let below : j < length xs = f j refl in
-        omega arith
-
-entered_open : (o : Opened) (section : Section) → IsOpen o → IsOpen (entered o section) × Keeps o (entered o section)
-entered_open o section is_open = go (place_of_name o.sections section.name) refl
-  where
-    more : Opened
-    more = record { sections = o.sections ++ section ∷ []; current = length o.sections }
-
-    new : (b : Bool) → IsOpen (if b then more else o) × Keeps o (if b then more else o)
-    new true = ((section, got_last o.sections section), λ j x h. got_front o.sections (section ∷ []) j x h)
-    new false = (is_open, λ j x h. h)
-
-    go : (found : Option ℕ) → place_of_name o.sections section.name ≡ found → IsOpen (entered_at o section found) × Keeps o (entered_at o section found)
-    go (Some i) e =
-        let inside = place_inside o.sections section.name i e in
-        ((get_or o.sections i section, got o.sections i section inside), λ j x h. h)
-    go None e = new (nat_lt (length o.sections) most_sections)
-
--- the section that a statement enters
-abbrev entered_in : Statement → Option Section
-entered_in (Label name) = None
-entered_in (Numbered number) = None
-entered_in (Instruction mnemonic operands) = None
-entered_in (Directs directive) = entered_by directive
-
-abbrev next_opened : Opened → Option Section → Opened
-next_opened o None = o
-next_opened o (Some section) = entered o section
-
-if_opened : (b : Bool) (t u : Tables) (o : Opened) → t.opened ≡ o → u.opened ≡ o → (if b then t else u).opened ≡ o
-if_opened true t u o e f = e
-if_opened false t u o e f = f
-
-set_opened : (t : Tables) (found : Option Setting) → (with_setting t found).opened ≡ t.opened
-set_opened t None = refl
-set_opened t (Some s) = if_opened (may_set t s.ordinal s.name s.meaning) _ t t.opened refl refl
-
-data_opened : (t : Tables) (bytes : ℕ) (alignment : Option ℕ) → (with_data t bytes alignment).opened ≡ t.opened
-data_opened t bytes alignment = if_opened (current_section t.opened).executable t _ t.opened refl refl
-
--- data leave the sections as they are
-put_opened : (t : Tables) (k : ℕ) (d : Directive) → (let v = value t false k (here t) in with_data t (data_bytes v (here t).offset d) (asked v d)).opened ≡ t.opened
-put_opened t k d = let v : Expression → Value = value t false k (here t) in data_opened t (data_bytes v (here t).offset d) (asked v d)
-
-choice_opened : (t : Tables) (choice : Choice) → (with_choice t choice).opened ≡ t.opened
-choice_opened t Push = refl
-choice_opened t Pop = refl
-choice_opened t _ = refl
-
-section_opened : (t : Tables) (section : Section) → (with_section t (Some section)).opened ≡ entered t.opened section
-section_opened t section = if_opened (length (entered t.opened section).sections == length t.opened.sections) _ _ (entered t.opened section) refl refl
-
-directive_opened : (t : Tables) (k : ℕ) (d : Directive) → (after_directive t k d).opened ≡ next_opened t.opened (entered_by d)
-directive_opened t k (Enters standard) = section_opened t _
-directive_opened t k (Opens name flags kind) = section_opened t _
-directive_opened t k (Globl names) = refl
-directive_opened t k (Local names) = refl
-directive_opened t k (Sets name e) = set_opened t _
-directive_opened t k (Aligns_to_power exponent) = put_opened t k (Aligns_to_power exponent)
-directive_opened t k (Aligns_to_bytes bytes) = put_opened t k (Aligns_to_bytes bytes)
-directive_opened t k (Values width values) = put_opened t k (Values width values)
-directive_opened t k (Strings ended strings) = put_opened t k (Strings ended strings)
-directive_opened t k (Zeros count) = put_opened t k (Zeros count)
-directive_opened t k (Chooses choice) = choice_opened t choice
-directive_opened t k Ignored = refl
-
--- the open sections after a statement
-pub after_opened : (t : Tables) (k : ℕ) (says : Statement) → (after t k says).opened ≡ next_opened t.opened (entered_in says)
-after_opened t k (Label name) = if_opened (is_defined t k name) t _ t.opened refl refl
-after_opened t k (Numbered number) = refl
-after_opened t k (Instruction mnemonic operands) = refl
-after_opened t k (Directs directive) = directive_opened t k directive
-
-next_open : (o : Opened) (found : Option Section) → IsOpen o → IsOpen (next_opened o found) × Keeps o (next_opened o found)
-next_open o None is_open = (is_open, λ j x h. h)
-next_open o (Some section) is_open = entered_open o section is_open
-
-pub after_open : (t : Tables) (k : ℕ) (says : Statement) → IsOpen t.opened → IsOpen (after t k says).opened × Keeps t.opened (after t k says).opened
-after_open t k says is_open =
-    subst (λ o. IsOpen o × Keeps t.opened o) (sym (after_opened t k says)) (next_open t.opened (entered_in says) is_open)
-
-pub keeps_all : (t : Tables) (k : ℕ) (ss : List Spoken) → IsOpen t.opened → Keeps t.opened (after_all t k ss).opened
-keeps_all t k [] is_open = λ j x h. h
-keeps_all t k (s ∷ ss) is_open =
-    let now = after_open t k s.says is_open in
-    λ j x h. keeps_all (after t k s.says) (suc k) ss now.0 j x (now.1 j x h)
+-- ---- where a statement stands
 
 -- a statement stands in the section that is current behind it
 pub stood_in : (t : Tables) (k : ℕ) (says : Statement) → (stood t k says).section ≡ (after t k says).opened.current
@@ -200,7 +77,7 @@ IsHomeIn sections t = slice_get (sections t.file) t.section ≡ Some t.home
 pub home_now : (t : Tables) (k : ℕ) (ss : List Spoken) (i : ℕ) → IsOpen t.opened → i ≡ t.opened.current → slice_get (after_all t k ss).opened.sections i ≡ Some (section_at t.opened i)
 home_now t k ss i (x, e) same =
     let at : slice_get t.opened.sections i ≡ Some x = ap (λ n. slice_get t.opened.sections n) same ∙ e in
-    keeps_all t k ss (x, e) i (section_at t.opened i) (at ∙ ap Some (sym (got_of t.opened.sections i text_section x at)))
+    stays_all t k ss (x, e) i (section_at t.opened i) (at ∙ ap Some (sym (got_of t.opened.sections i text_section x at)))
 
 pub homes_from : (sections : ℕ → List Section) (file k : ℕ) (t : Tables) (ss : List Spoken) → sections file ≡ (after_all t k ss).opened.sections → IsOpen t.opened → AllByRecursion (IsHomeIn sections) (stated_from file k t ss)
 homes_from sections file k t [] same is_open = tt

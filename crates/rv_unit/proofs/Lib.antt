@@ -5,6 +5,6 @@ mod Each
 mod Filling
 mod Gives
 mod Lookups
-mod Numbered
+mod Ordered
 mod Scoped
 mod Sized

@@ -6,10 +6,9 @@ use Rattle.std.specs.Borrow.{Bor}
 use Rattle.std.specs.List.{find, list_all}
 use Rattle.std.specs.Map.{lookup}
 use Rattle.std.specs.Str.{bytes_eq}
-use Rattle.std.proofs.lemmas.List.{map-append, reverse-append}
+use Rattle.std.proofs.lemmas.List.{reverse-append}
 use Rattle.std.proofs.lemmas.Bool.{leb-true}
-use Rattle.rv_text_laws.specs.Expression.{Primary, Literal, Symbol, Here, Reference}
-use Rattle.rv_text_laws.specs.Values.{Meaning, Known, Placed, Open, Refused, Symbolic}
+use Rattle.rv_text_laws.specs.Values.{Meaning, Known, Placed, Open, Refused}
 use Rattle.std.proofs.lemmas.List.Folds.{list_all-append}
 use Rattle.rv_unit_laws.specs.Sections.{Section, place_of_name, current_section, text_section}
 use Rattle.rv_unit_laws.specs.Tables as laws
@@ -18,10 +17,9 @@ use Rattle.rv_unit_laws.proofs.Before.{IsBefore, label_before, set_now, none_lat
 use Rattle.rv_unit_laws.proofs.Entering.{place_more, or_last}
 use Rattle.std.proofs.Math.ListN.{set}
 use Rattle.rv_unit.specs.declared.section.Extent.{Extent}
-use Rattle.rv_unit.specs.declared.tables.Given.{Given}
 use Rattle.rv_unit.specs.declared.tables.Label.{Label}
 use Rattle.rv_unit.specs.Sections.{section_of, extent_section}
-use Rattle.rv_unit.specs.Tables.{labelled_of, label_at, setting_of}
+use Rattle.rv_unit.specs.Tables.{labelled_of, label_at}
 
 -- a label by its name
 pub label_found : (name : List ℕ) (es : List (Bor (List ℕ) × Label)) → option_map (label_at name) (lookup (λ (k : Bor (List ℕ)). bytes_eq name k.now) es) ≡ laws.label_of (map labelled_of es) true 0 name
@@ -90,22 +88,6 @@ indexed_more old new ss more s n key indexed free count is same updates name =
     by false None e p = refl
     by false (Some i) e p = refl
     by true (Some i) e p = absurd (let q : ◌≡◌ {A = Option ℕ} (Some i) None = sym p ∙ ap (place_of_name ss) (sym (same_bytes s.name name e)) ∙ free in cc)
-
--- the latest settings with one more
-pub latest_more : (old new : List (Bor (List ℕ) × Given)) (ss more : List laws.Setting) (g : Given)
-    → ((name : List ℕ) → option_map setting_of (lookup (λ (k : Bor (List ℕ)). bytes_eq name k.now) old) ≡ laws.set_ever ss name) → more ≡ setting_of g ∷ ss
-    → ((q : Bor (List ℕ)) → lookup (λ (k : Bor (List ℕ)). bytes_eq q.now k.now) new ≡ cond (bytes_eq g.name.now q.now) (Some g) (lookup (λ (k : Bor (List ℕ)). bytes_eq q.now k.now) old))
-    → (name : List ℕ) → option_map setting_of (lookup (λ (k : Bor (List ℕ)). bytes_eq name k.now) new) ≡ laws.set_ever more name
-latest_more old new ss more g indexed is updates name =
-    ap (option_map setting_of) (updates (record { ref_ptr = (0, 0); now = name }))
-    ∙ by (bytes_eq g.name.now name) ∙ sym (ap (λ l. laws.set_ever l name) is)
-  where
-    by : (b : Bool) → option_map setting_of (cond b (Some g) (lookup (λ (k : Bor (List ℕ)). bytes_eq name k.now) old)) ≡ cond b (Some (setting_of g)) (laws.set_ever ss name)
-    by true = refl
-    by false = indexed name
-
-pub settings_more : (items new : List Given) (g : Given) → new ≡ items ++ g ∷ [] → reverse (map setting_of new) ≡ setting_of g ∷ reverse (map setting_of items)
-settings_more items new g is = ap (λ l. reverse (map setting_of l)) is ∙ ap reverse (map-append setting_of items (g ∷ [])) ∙ reverse-append (map setting_of items) (setting_of g ∷ [])
 
 -- a label that is defined, and one that is not
 pub with_label_old : (t : laws.Tables) (o : ℕ) (name : List ℕ) → IsBefore t o → (is_some (laws.label_of t.labels true 0 name) || is_some (laws.set_ever t.settings name)) ≡ true → t ≡ laws.with_label t o name
@@ -204,11 +186,3 @@ past_all offset bytes past = by (nat_le (offset + bytes) laws.longest_section) r
 -- a size that is not the greatest number was not cut
 pub not_cut : (size bytes : ℕ) → size ≡ min bytes (2 ^ 64 - 1) → (size ≡ 2 ^ 64 - 1 → ⊥) → size ≡ bytes
 not_cut size bytes is less = omega (arith, less)
-
--- what a `.set` gives where its symbol has the meaning that it has here
-pub given_symbol : (t : laws.Tables) (o : ℕ) (name : List ℕ) (p : Primary) (at : Meaning) (plus : ℕ) → at ≡ laws.meaning t false o (laws.here t) p
-    → laws.given name o (Symbolic p at plus) ≡ laws.given name o (Symbolic p (laws.stands t.opened (laws.here t)) plus)
-given_symbol t o name Here at plus is = ap (λ m. laws.given name o (Symbolic Here m plus)) is
-given_symbol t o name (Literal n) at plus is = refl
-given_symbol t o name (Symbol n) at plus is = refl
-given_symbol t o name (Reference d f) at plus is = refl

@@ -1,98 +1,93 @@
--- What names mean and where they stand, in a statement with tables before it and those of the whole source.
+-- What names mean and where they stand, in a statement of a unit.
 
-use Rattle.std.proofs.Common.{◌≡◌, ℕ, ◌+◌, ◌<◌, ◌≤◌, ◌==◌, true, false, List, length, map, get_or, sym, ap, ◌∙◌, subst, Option}
-use Rattle.std.specs.List.{find}
+use Rattle.std.proofs.Common.{◌≡◌, ℕ, ◌+◌, ◌<◌, ◌≤◌, ◌==◌, ◌&&◌, false, true, List, length, map, take, drop, get_or, nat_lt, refl, sym, ap, ◌∙◌, subst, Option, Some, None}
+use Rattle.std.specs.Borrow.{Bor}
 use Rattle.std.specs.Str.{bytes_eq}
-use Rattle.rv_text_laws.specs.Expression.{Symbol, Here, Tree}
-use Rattle.rv_text_laws.specs.Values.{Meaning, Open}
+use Rattle.std.proofs.lemmas.Bool.{ltb-true}
 use Rattle.std.proofs.lemmas.List.{get_or-map, length-map}
+use Rattle.rv_text_laws.specs.Bytes.{value as digits_value}
+use Rattle.rv_text_laws.specs.Expression.{Symbol, Here, Reference}
+use Rattle.rv_text_laws.specs.Values.{Open, Refused}
 use Rattle.rv_statement.specs.Statement.{Spoken}
 use Rattle.rv_statement.specs.declared.statement.Statement.{Statement}
 use Rattle.rv_statement.specs.View.{said_by}
+use Rattle.rv_text.specs.declared.node.Symbol.{Symbol as Written}
+use Rattle.rv_text.specs.declared.node.Symbol.TheVariants as symbols
+use Rattle.rv_text.specs.Nodes.{symbol_of}
 use Rattle.rv_unit_laws.specs.Tables as laws
-use Rattle.rv_unit_laws.proofs.Before.{IsBefore, before_all, before_start, set_now, label_before}
-use Rattle.rv_unit_laws.proofs.Later.{Keeps}
-use Rattle.rv_unit.specs.Sees.{Sees}
-use Rattle.rv_unit.proofs.Filling.{passed, passed_before, passed_keeps, passed_more}
-use Rattle.rv_unit.proofs.Lookups.{marked_latest}
+use Rattle.rv_unit_laws.proofs.Before.{IsBefore, before_all, before_start}
+use Rattle.rv_unit_laws.proofs.Opened.{IsStood, stood_all, stood_start, stands_same, open_inside, find_passes}
+use Rattle.rv_unit.specs.declared.unit.Unit.{Unit as SourceUnit}
+use Rattle.rv_unit.specs.Tables.{tables_of}
+use Rattle.rv_unit.specs.Unit.{said, IsFilled}
+use Rattle.rv_unit.proofs.Filling.{passed, passed_before, passed_keeps, passed_rest, passed_more}
+use Rattle.rv_unit.proofs.Lookups.{marked_none}
 
-pub sees : (t all : laws.Tables) (ss : List Spoken) (i : ℕ) → i ≤ length ss → t ≡ passed ss i → all ≡ laws.tables ss → Sees t all ss (i + 1)
-sees t all ss i within is whole = record {
-  before = subst (λ x. IsBefore x (i + 1)) (sym is) (passed_before ss i within);
-  keeps = subst (λ x. Keeps x all (i + 1)) (sym is) (subst (λ x. Keeps (passed ss i) x (i + 1)) (sym whole) (passed_keeps ss i within));
-  whole = whole;
-}
+-- the tables of a unit stand before the ordinal behind its last statement
+pub whole_before : (u : SourceUnit) → IsFilled u → IsBefore (tables_of u.tables) (1 + length (said u))
+whole_before u f = subst (λ t. IsBefore t (1 + length (said u))) (sym f.tables) (before_all laws.at_start 1 (said u) (before_start 1))
 
--- the tables of the whole source stand before the ordinal behind its last statement
-pub whole_before : (all : laws.Tables) (ss : List Spoken) → all ≡ laws.tables ss → IsBefore all (1 + length ss)
-whole_before all ss whole = subst (λ t. IsBefore t (1 + length ss)) (sym whole) (before_all laws.at_start 1 ss (before_start 1))
+-- ---- what the statements before an ordinal say alone
 
-set_all : (t all : laws.Tables) (o : ℕ) (name : List ℕ) → IsBefore t o → Keeps t all o → laws.set_before all.settings o name ≡ laws.set_ever t.settings name
-set_all t all o name h k = k.settings (λ s. bytes_eq s.name name) ∙ set_now t o name h
+passed_stood : (ss : List Spoken) (i : ℕ) → IsStood (passed ss i)
+passed_stood ss i = stood_all laws.at_start 1 (take i ss) stood_start
 
-marked_all : (t all : laws.Tables) (o n : ℕ) → IsBefore t o → Keeps t all o → laws.marked_before all.marks o n ≡ find (λ m. m.number == n) t.marks
-marked_all t all o n h k = k.marks (λ m. m.number == n) ∙ marked_latest t o n h
+stands_passed : (ss : List Spoken) (i : ℕ) (p : laws.Place) → i ≤ length ss → p.section < length (passed ss i).opened.sections → laws.stands (laws.tables ss).opened p ≡ laws.stands (passed ss i).opened p
+stands_passed ss i p within inside =
+    ap (λ (t : laws.Tables). laws.stands t.opened p) (passed_rest ss i within) ∙ stands_same (passed ss i) (i + 1) (drop i ss) p (passed_stood ss i).opened inside
 
-pub meaning_name : (t all : laws.Tables) (ss : List Spoken) (o : ℕ) (p : laws.Place) (name : List ℕ) (m : Meaning) → Sees t all ss o
-    → m ≡ laws.set_first (laws.set_ever t.settings name) (laws.labelled all.opened (laws.label_of all.labels true 0 name) (laws.set_later true (laws.set_ever all.settings name)))
-    → m ≡ laws.meaning (laws.tables ss) true o p (Symbol name)
-meaning_name t all ss o p name m s is =
-    is ∙ sym (ap (λ f. laws.set_first f (laws.labelled all.opened (laws.label_of all.labels true 0 name) (laws.set_later true (laws.set_ever all.settings name)))) (set_all t all o name s.before s.keeps))
-    ∙ ap (λ x. laws.named x true o name) s.whole
+labelled_passed : (ss : List Spoken) (i : ℕ) (name : List ℕ) → i ≤ length ss → (found : Option laws.Labelled) → laws.label_of (passed ss i).labels false (i + 1) name ≡ found
+    → laws.labelled (laws.tables ss).opened found Open ≡ laws.labelled (passed ss i).opened found Open
+labelled_passed ss i name within None e = refl
+labelled_passed ss i name within (Some l) e =
+    let n = length (passed ss i).opened.sections in
+    stands_passed ss i l.place within
+    (ltb-true l.place.section n (find_passes (λ k. bytes_eq k.name name && nat_lt k.ordinal (i + 1)) (λ k. nat_lt k.place.section n) (passed ss i).labels l (passed_stood ss i).inside.labels e))
 
-pub meaning_here : (t all : laws.Tables) (ss : List Spoken) (o : ℕ) (p : laws.Place) (m : Meaning) → Sees t all ss o → m ≡ laws.stands all.opened p → m ≡ laws.meaning (laws.tables ss) true o p Here
-meaning_here t all ss o p m s is = is ∙ ap (λ (x : laws.Tables). laws.stands x.opened p) s.whole
+marked_passed : (ss : List Spoken) (i n : ℕ) → i ≤ length ss → (found : Option laws.Marked) → laws.marked_before (passed ss i).marks (i + 1) n ≡ found
+    → laws.backward_in (laws.tables ss).opened found ≡ laws.backward_in (passed ss i).opened found
+marked_passed ss i n within None e = refl
+marked_passed ss i n within (Some m) e =
+    let count = length (passed ss i).opened.sections in
+    stands_passed ss i m.place within
+    (ltb-true m.place.section count (find_passes (λ k. nat_lt k.ordinal (i + 1) && (k.number == n)) (λ k. nat_lt k.place.section count) (passed ss i).marks m (passed_stood ss i).inside.marks e))
 
-pub meaning_back : (t all : laws.Tables) (ss : List Spoken) (o n : ℕ) (m : Meaning) → Sees t all ss o → m ≡ laws.backward_in all.opened (find (λ k. k.number == n) t.marks) → m ≡ laws.referred (laws.tables ss) true o n false
-meaning_back t all ss o n m s is =
-    is ∙ sym (ap (laws.backward_in all.opened) (marked_all t all o n s.before s.keeps)) ∙ ap (λ (x : laws.Tables). laws.backward_in x.opened (laws.marked_before x.marks o n)) s.whole
+past_name : (ss : List Spoken) (i : ℕ) (p : laws.Place) (name : List ℕ) → i ≤ length ss → laws.meaning (laws.tables ss) false (i + 1) p (Symbol name) ≡ laws.meaning (passed ss i) false (i + 1) p (Symbol name)
+past_name ss i p name within =
+    let all = laws.tables ss in
+    let t = passed ss i in
+    let o = i + 1 in
+    let keeps = passed_keeps ss i within in
+    ap (λ f. laws.set_first f (laws.labelled all.opened (laws.label_of all.labels false o name) Open)) (keeps.settings (λ s. bytes_eq s.name name))
+    ∙ ap (λ l. laws.set_first (laws.set_before t.settings o name) (laws.labelled all.opened l Open)) (keeps.labels (λ l. bytes_eq l.name name))
+    ∙ ap (laws.set_first (laws.set_before t.settings o name)) (labelled_passed ss i name within (laws.label_of t.labels false o name) refl)
 
-pub meaning_forward : (t all : laws.Tables) (ss : List Spoken) (o at n : ℕ) (m : Meaning) → Sees t all ss o → at ≡ o → m ≡ laws.forward_in all.opened true (laws.marked_after all.marks at n) → m ≡ laws.referred (laws.tables ss) true o n true
-meaning_forward t all ss o at n m s same is =
-    is ∙ ap (λ a. laws.forward_in all.opened true (laws.marked_after all.marks a n)) same ∙ ap (λ (x : laws.Tables). laws.forward_in x.opened true (laws.marked_after x.marks o n)) s.whole
+pub past_here : (ss : List Spoken) (i : ℕ) (p : laws.Place) → i ≤ length ss → p.section < length (passed ss i).opened.sections → laws.meaning (laws.tables ss) false (i + 1) p Here ≡ laws.meaning (passed ss i) false (i + 1) p Here
+past_here ss i p within inside = stands_passed ss i p within inside
 
--- the same where later definitions do not count
+past_back : (ss : List Spoken) (i : ℕ) (p : laws.Place) (digits : List ℕ) → i ≤ length ss → laws.meaning (laws.tables ss) false (i + 1) p (Reference digits false) ≡ laws.meaning (passed ss i) false (i + 1) p (Reference digits false)
+past_back ss i p digits within =
+    let n = digits_value 10 digits in
+    ap (laws.backward_in (laws.tables ss).opened) ((passed_keeps ss i within).marks (λ m. m.number == n))
+    ∙ marked_passed ss i n within (laws.marked_before (passed ss i).marks (i + 1) n) refl
 
-label_all : (t all : laws.Tables) (o : ℕ) (name : List ℕ) → IsBefore t o → Keeps t all o → laws.label_of all.labels false o name ≡ laws.label_of t.labels true 0 name
-label_all t all o name h k = k.labels (λ l. bytes_eq l.name name) ∙ label_before t o name h
+-- nothing comes behind the last
+pub past_ahead : (ss : List Spoken) (i : ℕ) (p : laws.Place) (digits : List ℕ) → i ≤ length ss → Refused 12 ≡ laws.meaning (passed ss i) false (i + 1) p (Reference digits true)
+past_ahead ss i p digits within = sym (ap (laws.forward_in (passed ss i).opened false) (marked_none (passed ss i) (i + 1) (digits_value 10 digits) (passed_before ss i within)))
 
-pub early_name : (t all : laws.Tables) (ss : List Spoken) (o : ℕ) (p : laws.Place) (name : List ℕ) (m : Meaning) → Sees t all ss o
-    → m ≡ laws.set_first (laws.set_ever t.settings name) (laws.labelled all.opened (laws.label_of t.labels true 0 name) Open)
-    → m ≡ laws.meaning (laws.tables ss) false o p (Symbol name)
-early_name t all ss o p name m s is =
-    is ∙ sym (ap (λ f. laws.set_first f (laws.labelled all.opened (laws.label_of t.labels true 0 name) Open)) (set_all t all o name s.before s.keeps))
-    ∙ sym (ap (λ l. laws.set_first (laws.set_before all.settings o name) (laws.labelled all.opened l Open)) (label_all t all o name s.before s.keeps))
-    ∙ ap (λ x. laws.named x false o name) s.whole
+-- all but what comes behind
+pub past_symbol : (ss : List Spoken) (i : ℕ) (p : laws.Place) (x : Written) → i ≤ length ss → p.section < length (passed ss i).opened.sections → ((digits : Bor (List ℕ)) → x ≡ symbols.Forward digits → ⊥)
+    → laws.meaning (laws.tables ss) false (i + 1) p (symbol_of x) ≡ laws.meaning (passed ss i) false (i + 1) p (symbol_of x)
+past_symbol ss i p (symbols.Name name) within inside apart = past_name ss i p name.now within
+past_symbol ss i p symbols.Here within inside apart = past_here ss i p within inside
+past_symbol ss i p (symbols.Backward digits) within inside apart = past_back ss i p digits.now within
+past_symbol ss i p (symbols.Forward digits) within inside apart = absurd (apart digits refl)
 
-pub early_here : (t all : laws.Tables) (ss : List Spoken) (o : ℕ) (p : laws.Place) (m : Meaning) → Sees t all ss o → m ≡ laws.stands all.opened p → m ≡ laws.meaning (laws.tables ss) false o p Here
-early_here t all ss o p m s is = is ∙ ap (λ (x : laws.Tables). laws.stands x.opened p) s.whole
+-- where the next statement stands is in a section that is open
+pub here_inside : (ss : List Spoken) (i : ℕ) (p : laws.Place) → p ≡ laws.here (passed ss i) → p.section < length (passed ss i).opened.sections
+here_inside ss i p is = subst (λ (q : laws.Place). q.section < length (passed ss i).opened.sections) (sym is) (open_inside (passed ss i).opened (passed_stood ss i).opened)
 
-pub early_back : (t all : laws.Tables) (ss : List Spoken) (o n : ℕ) (m : Meaning) → Sees t all ss o → m ≡ laws.backward_in all.opened (find (λ k. k.number == n) t.marks) → m ≡ laws.referred (laws.tables ss) false o n false
-early_back t all ss o n m s is =
-    is ∙ sym (ap (laws.backward_in all.opened) (marked_all t all o n s.before s.keeps)) ∙ ap (λ (x : laws.Tables). laws.backward_in x.opened (laws.marked_before x.marks o n)) s.whole
-
-pub early_ahead : (t all : laws.Tables) (ss : List Spoken) (o at n : ℕ) (m : Meaning) → Sees t all ss o → at ≡ o → m ≡ laws.forward_in all.opened false (laws.marked_after all.marks at n) → m ≡ laws.referred (laws.tables ss) false o n true
-early_ahead t all ss o at n m s same is =
-    is ∙ ap (λ a. laws.forward_in all.opened false (laws.marked_after all.marks a n)) same ∙ ap (λ (x : laws.Tables). laws.forward_in x.opened false (laws.marked_after x.marks o n)) s.whole
-
-pub home_name : (t all : laws.Tables) (ss : List Spoken) (o : ℕ) (name : List ℕ) (h : Option laws.Home) → Sees t all ss o
-    → h ≡ laws.home_first (laws.home_set (laws.set_ever t.settings name)) (laws.home_labelled (laws.label_of all.labels true 0 name) (laws.home_set (laws.set_ever all.settings name)))
-    → h ≡ laws.home (laws.tables ss) o (Symbol name)
-home_name t all ss o name h s is =
-    is ∙ sym (ap (λ f. laws.home_first (laws.home_set f) (laws.home_labelled (laws.label_of all.labels true 0 name) (laws.home_set (laws.set_ever all.settings name)))) (set_all t all o name s.before s.keeps))
-    ∙ ap (λ x. laws.home x o (Symbol name)) s.whole
-
-pub home_back : (t all : laws.Tables) (ss : List Spoken) (o n : ℕ) (h : Option laws.Home) → Sees t all ss o → h ≡ laws.home_marked (find (λ k. k.number == n) t.marks) → h ≡ laws.home_marked (laws.marked_before (laws.tables ss).marks o n)
-home_back t all ss o n h s is = is ∙ sym (ap laws.home_marked (marked_all t all o n s.before s.keeps)) ∙ ap (λ (x : laws.Tables). laws.home_marked (laws.marked_before x.marks o n)) s.whole
-
-pub home_forward : (t all : laws.Tables) (ss : List Spoken) (o at n : ℕ) (h : Option laws.Home) → Sees t all ss o → at ≡ o → h ≡ laws.home_marked (laws.marked_after all.marks at n) → h ≡ laws.home_marked (laws.marked_after (laws.tables ss).marks o n)
-home_forward t all ss o at n h s same is = is ∙ ap (λ a. laws.home_marked (laws.marked_after all.marks a n)) same ∙ ap (λ (x : laws.Tables). laws.home_marked (laws.marked_after x.marks o n)) s.whole
-
--- what a `.set` gives, by the tables before it
-pub gives_passed : (t : laws.Tables) (ss : List Spoken) (i o : ℕ) (name : List ℕ) (e : Tree) (g : Option laws.Setting) → t ≡ passed ss i → o ≡ i + 1 → g ≡ laws.given name o (laws.value t false o (laws.here t) e)
-    → laws.gives_place g ≡ laws.gives_place (laws.given name (i + 1) (laws.value (passed ss i) false (i + 1) (laws.here (passed ss i)) e))
-gives_passed t ss i o name e g is at gives =
-    ap laws.gives_place (gives ∙ ap (λ x. laws.given name o (laws.value x false o (laws.here x) e)) is ∙ ap (λ n. laws.given name n (laws.value (passed ss i) false n (laws.here (passed ss i)) e)) at)
+-- ---- the statements so far
 
 -- the tables of one statement more
 pub pass_more : (t u : laws.Tables) (ss : List Spoken) (i o : ℕ) (x : Spoken) → i < length ss → t ≡ passed ss i → o ≡ i + 1 → get_or ss i x ≡ x → u ≡ laws.after t o x.says → u ≡ passed ss (i + 1)

@@ -1,5 +1,4 @@
 pub mod Sections
-pub mod Sees
 pub mod Tables
 pub mod Faults
 pub mod Mixed

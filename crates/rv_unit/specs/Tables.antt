@@ -1,6 +1,6 @@
 -- What the tables of the code stand for.
 
-use Rattle.std.specs.Prelude.{◌≡◌, ◌==◌, ℕ, List, [], map, filter, reverse, option_map}
+use Rattle.std.specs.Prelude.{◌≡◌, ◌==◌, ℕ, List, [], map, filter, reverse}
 use Rattle.std.specs.Option.{option_map_or}
 use Rattle.std.specs.declared.vec.Vec.{Vec}
 use Rattle.std.specs.Borrow.{Bor}
@@ -49,8 +49,12 @@ tables_of b = record {
 abbrev pub marks_at : {Z S : Type 0} → IndexMap Number (Vec Mark Z) S → ℕ → List Mark
 marks_at numbered number = option_map_or (λ marks. marks.items) (get_by (λ (k : Number). number == value 10 k.digits.now) numbered) []
 
+-- the settings of a name
+abbrev pub settings_at : {Z S : Type 0} → IndexMap (Bor (List ℕ)) (Vec Given Z) S → List ℕ → List Given
+settings_at by_name name = option_map_or (λ settings. settings.items) (get_by (λ (k : Bor (List ℕ)). bytes_eq name k.now) by_name) []
+
 -- what is looked up by name or number is what a search would find
 pub record IsIndexed (b : Tables) : Type 0 where
   pub numbers : (name : List ℕ) → get_by (λ (k : Bor (List ℕ)). bytes_eq name k.now) b.numbers ≡ sections.place_of_name (map extent_section b.extents.items) name
-  pub latest : (name : List ℕ) → option_map setting_of (get_by (λ (k : Bor (List ℕ)). bytes_eq name k.now) b.latest) ≡ laws.set_ever (reverse (map setting_of b.settings.items)) name
+  pub settings : (name : List ℕ) → settings_at b.by_name name ≡ filter (λ (g : Given). bytes_eq g.name.now name) b.settings.items
   pub numbered : (digits : List ℕ) → marks_at b.numbered (value 10 digits) ≡ filter (λ (m : Mark). value 10 m.digits.now == value 10 digits) b.marks.items

@@ -36,8 +36,6 @@ passed ss count = laws.after_all laws.at_start 1 (take count ss)
 pub record IsScope (s : Scope) (index : ℕ) : Type 0 where
   pub within : index ≤ length (said s.unit.now)
   pub ordinal : s.ordinal ≡ index + 1
-  pub passes : tables_of s.passed ≡ passed (said s.unit.now) index
-  pub indexed : IsIndexed s.passed
 
 -- a fault by its code and its line
 abbrev pub fault_of : SourceCode × ℕ → Fault

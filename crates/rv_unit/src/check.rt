@@ -1,8 +1,8 @@
 //! The first fault of the labels and the directives of a source.
 
-ghost use Rattle.std.specs.Prelude.{◌≡◌, ℕ, ◌++◌, ◌*◌, List, Some, None, flat_map, map, not, ◌||◌, true, false, length, option_map, IfOk};
+ghost use Rattle.std.specs.Prelude.{◌≡◌, ℕ, ◌++◌, ◌*◌, Some, None, flat_map, map, not, ◌||◌, true, false, length, option_map, IfOk};
 ghost use Rattle.rv_text.specs.Expr.{tree_of_expr};
-ghost use Rattle.rv_statement.specs.Statement.{Spoken, Sets, Zeros, Aligns_to_power, Aligns_to_bytes, Values, Strings};
+ghost use Rattle.rv_statement.specs.Statement.{Sets, Zeros, Aligns_to_power, Aligns_to_bytes, Values, Strings};
 ghost use Rattle.rv_statement.specs.View.{bytes_of, quoted, statement_of};
 ghost use Rattle.rv_unit_laws.specs.Faults as faults;
 ghost use Rattle.rv_unit_laws.specs.Sections as sections;
@@ -11,7 +11,6 @@ ghost use Rattle.rv_unit_laws.specs.Tables as laws;
 ghost use Rattle.rv_unit.specs.Faults.{IsLowest};
 ghost use Rattle.rv_unit.specs.Sections.{section_of};
 ghost use Rattle.rv_unit.specs.Tables.{tables_of, IsIndexed};
-ghost use Rattle.rv_unit.specs.Sees.{Sees};
 ghost use Rattle.rv_unit.specs.Unit.{said, fault_of, IsFilled};
 
 use crate::align::{asked_bytes, asked_power, strings_size, values_size, width_in_bytes};
@@ -34,9 +33,9 @@ impl<'a> Unit<'a> {
         ordinal: usize,
         setting: &Setting<'a>,
     ) -> Option<SourceCode>
-        ensures { (ss : List Spoken) (o : ℕ) → IsIndexed passed.now → IsIndexed (self.now).tables → Sees (tables_of passed.now) (tables_of (self.now).tables) ss o → ordinal ≡ o → IsLowest result (faults.directive_faults (laws.tables ss) (tables_of passed.now) o (Sets (setting.now).name.now (tree_of_expr (setting.now).expression))) }
+        ensures { (o : ℕ) → IsIndexed passed.now → IsBefore (tables_of passed.now) o → IsFilled self.now → ordinal ≡ o → IsLowest result (faults.directive_faults (laws.tables (said self.now)) (tables_of passed.now) o (Sets (setting.now).name.now (tree_of_expr (setting.now).expression))) }
     {
-        let value = self.early_value(passed, ordinal, passed.here(), &setting.expression);
+        let value = self.early_value(ordinal, passed.here(), &setting.expression);
         set_fault(
             passed.home(),
             passed.is_defined(setting.name),
@@ -52,9 +51,9 @@ impl<'a> Unit<'a> {
         ordinal: usize,
         count: &Expr<'a>,
     ) -> Option<SourceCode>
-        ensures { (ss : List Spoken) (o : ℕ) → IsIndexed passed.now → IsIndexed (self.now).tables → Sees (tables_of passed.now) (tables_of (self.now).tables) ss o → ordinal ≡ o → IsLowest result (faults.directive_faults (laws.tables ss) (tables_of passed.now) o (Zeros (tree_of_expr count.now))) }
+        ensures { (o : ℕ) → IsIndexed passed.now → IsBefore (tables_of passed.now) o → IsFilled self.now → ordinal ≡ o → IsLowest result (faults.directive_faults (laws.tables (said self.now)) (tables_of passed.now) o (Zeros (tree_of_expr count.now))) }
     {
-        let value = self.early_value(passed, ordinal, passed.here(), count);
+        let value = self.early_value(ordinal, passed.here(), count);
         zero_fault(passed.home(), passed.offset(), &value)
     }
 
@@ -65,9 +64,9 @@ impl<'a> Unit<'a> {
         ordinal: usize,
         exponent: &Expr<'a>,
     ) -> Option<SourceCode>
-        ensures { (ss : List Spoken) (o : ℕ) → IsIndexed passed.now → IsIndexed (self.now).tables → Sees (tables_of passed.now) (tables_of (self.now).tables) ss o → ordinal ≡ o → IsLowest result (faults.directive_faults (laws.tables ss) (tables_of passed.now) o (Aligns_to_power (tree_of_expr exponent.now))) }
+        ensures { (o : ℕ) → IsIndexed passed.now → IsBefore (tables_of passed.now) o → IsFilled self.now → ordinal ≡ o → IsLowest result (faults.directive_faults (laws.tables (said self.now)) (tables_of passed.now) o (Aligns_to_power (tree_of_expr exponent.now))) }
     {
-        let value = self.early_value(passed, ordinal, passed.here(), exponent);
+        let value = self.early_value(ordinal, passed.here(), exponent);
         let found = power_fault(&value);
         lower(
             found,
@@ -82,9 +81,9 @@ impl<'a> Unit<'a> {
         ordinal: usize,
         bytes: &Expr<'a>,
     ) -> Option<SourceCode>
-        ensures { (ss : List Spoken) (o : ℕ) → IsIndexed passed.now → IsIndexed (self.now).tables → Sees (tables_of passed.now) (tables_of (self.now).tables) ss o → ordinal ≡ o → IsLowest result (faults.directive_faults (laws.tables ss) (tables_of passed.now) o (Aligns_to_bytes (tree_of_expr bytes.now))) }
+        ensures { (o : ℕ) → IsIndexed passed.now → IsBefore (tables_of passed.now) o → IsFilled self.now → ordinal ≡ o → IsLowest result (faults.directive_faults (laws.tables (said self.now)) (tables_of passed.now) o (Aligns_to_bytes (tree_of_expr bytes.now))) }
     {
-        let value = self.early_value(passed, ordinal, passed.here(), bytes);
+        let value = self.early_value(ordinal, passed.here(), bytes);
         let found = bytes_fault(&value);
         lower(
             found,
@@ -100,11 +99,11 @@ impl<'a> Unit<'a> {
         width: Width,
         values: &[Expr<'a>],
     ) -> Option<SourceCode>
-        ensures { (ss : List Spoken) (o : ℕ) → IsIndexed passed.now → IsIndexed (self.now).tables → Sees (tables_of passed.now) (tables_of (self.now).tables) ss o → ordinal ≡ o → IsLowest result (flat_map (λ e. faults.value_faults (bytes_of width) (laws.value (laws.tables ss) true o (laws.here (tables_of passed.now)) e)) (map tree_of_expr values.now)) }
+        ensures { (o : ℕ) → IsIndexed passed.now → IsBefore (tables_of passed.now) o → IsFilled self.now → ordinal ≡ o → IsLowest result (flat_map (λ e. faults.value_faults (bytes_of width) (laws.value (laws.tables (said self.now)) true o (laws.here (tables_of passed.now)) e)) (map tree_of_expr values.now)) }
     {
         let mut found = None;
         for value in values {
-            let value = self.value(passed, ordinal, passed.here(), value, 0);
+            let value = self.value(ordinal, passed.here(), value, 0);
             found = lower(found, value_fault(width_in_bytes(width), &value));
         }
         found
@@ -118,7 +117,7 @@ impl<'a> Unit<'a> {
         width: Width,
         values: &[Expr<'a>],
     ) -> Option<SourceCode>
-        ensures { (ss : List Spoken) (o : ℕ) → IsIndexed passed.now → IsIndexed (self.now).tables → Sees (tables_of passed.now) (tables_of (self.now).tables) ss o → ordinal ≡ o → IsLowest result (faults.directive_faults (laws.tables ss) (tables_of passed.now) o (Values (bytes_of width) (map tree_of_expr values.now))) }
+        ensures { (o : ℕ) → IsIndexed passed.now → IsBefore (tables_of passed.now) o → IsFilled self.now → ordinal ≡ o → IsLowest result (faults.directive_faults (laws.tables (said self.now)) (tables_of passed.now) o (Values (bytes_of width) (map tree_of_expr values.now))) }
     {
         let each = self.fault_of_each(passed, ordinal, width, values);
         let bytes = values_size(width, values.len());
@@ -185,7 +184,7 @@ impl<'a> Unit<'a> {
         ordinal: usize,
         kind: &StatementKind<'a>,
     ) -> Option<SourceCode>
-        ensures { (ss : List Spoken) (o : ℕ) → IsIndexed passed.now → IsIndexed (self.now).tables → Sees (tables_of passed.now) (tables_of (self.now).tables) ss o → ordinal ≡ o → IsLowest result (faults.faults (laws.tables ss) (tables_of passed.now) o (statement_of kind.now)) }
+        ensures { (o : ℕ) → IsIndexed passed.now → IsBefore (tables_of passed.now) o → IsFilled self.now → ordinal ≡ o → IsLowest result (faults.faults (laws.tables (said self.now)) (tables_of passed.now) o (statement_of kind.now)) }
     {
         match kind {
             StatementKind::Label(name) => self.fault_of_label(passed, *name),

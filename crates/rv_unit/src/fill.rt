@@ -1,9 +1,12 @@
 //! What each statement changes in the tables.
 
 ghost use Rattle.std.specs.Prelude.{◌≡◌, ℕ, false, option_map, map, OnOk, IfOk, IfSome};
-ghost use Rattle.rv_text_laws.specs.Values.{Symbolic};
+ghost use Rattle.rv_text_laws.specs.Expression.{Primary, Here, Tree as Expression};
+ghost use Rattle.rv_text_laws.specs.Values as values;
+ghost use Rattle.rv_text_laws.specs.Values.{Symbolic, value_of};
 ghost use Rattle.rv_text.specs.Nodes.{symbol_of};
 ghost use Rattle.rv_text.specs.Expr.{tree_of_expr};
+ghost use Rattle.rv_text.specs.Eval.{meaning_of, value_told, IsOutcome};
 ghost use Rattle.rv_statement.specs.Statement.{Aligns_to_power, Aligns_to_bytes, Zeros};
 ghost use Rattle.rv_statement.specs.View.{statement_of, opening_of, said_by};
 ghost use Rattle.rv_unit_laws.specs.Sections.{entered_by};
@@ -19,7 +22,7 @@ use crate::place::Place;
 use crate::section::Section;
 use crate::tables::{Given, Tables};
 use rv_statement::{Opening, Setting, Statement, StatementKind};
-use rv_text::{Expr, Meaning, Symbol, Value};
+use rv_text::{Expr, Meaning, SourceFault, Symbol, Value};
 use std::alloc::{AllocError, Global};
 
 /// Whether a statement enters a section.
@@ -27,6 +30,74 @@ fn enters(kind: &StatementKind<'_>) -> bool
     ensures { result ≡ laws.enters (statement_of kind.now) }
 {
     matches!(kind, StatementKind::Enters(_) | StatementKind::Opens(_))
+}
+
+/// What a symbol and a number give the name of a `.set`, where `.` means this: a place, if the symbol is `.` in data.
+fn given_symbol<'a>(
+    here: Meaning,
+    ordinal: usize,
+    name: &'a [u8],
+    symbol: Symbol<'_>,
+    plus: u64,
+) -> Option<Given<'a>>
+    ensures ordinal { IfSome result (λ g. g.ordinal ≡ ordinal) }
+    ensures value { option_map setting_of result ≡ laws.given name.now ordinal (Symbolic (symbol_of symbol.entry) (meaning_of here) plus) }
+{
+    match symbol {
+        Symbol::Here => match here {
+            Meaning::Place(section, offset) => Some(Given {
+                name,
+                ordinal,
+                meaning: Meaning::Place(section, offset.wrapping_add(plus)),
+                plus,
+            }),
+            Meaning::Constant(_) => None,
+            Meaning::Open => None,
+            Meaning::NotConstant => None,
+            Meaning::UndefinedLocal => None,
+        },
+        Symbol::Name(_) => None,
+        Symbol::Backward(_) => None,
+        Symbol::Forward(_) => None,
+    }
+}
+
+/// What a value gives the name of a `.set`, where `.` means this.
+fn given_value<'a>(
+    here: Meaning,
+    ordinal: usize,
+    name: &'a [u8],
+    value: Value<'_>,
+) -> Option<Given<'a>>
+    ensures ordinal { IfSome result (λ g. g.ordinal ≡ ordinal) }
+    ensures value { (means : Primary → values.Meaning) (e : Expression) → meaning_of here ≡ means Here → value_told value.entry (value_of means e) → option_map setting_of result ≡ laws.given name.now ordinal (value_of means e) }
+{
+    match value {
+        Value::Constant(number) => Some(Given {
+            name,
+            ordinal,
+            meaning: Meaning::Constant(number),
+            plus: 0,
+        }),
+        Value::Symbolic(symbol, plus) => given_symbol(here, ordinal, name, symbol, plus),
+        Value::Difference(..) => None,
+    }
+}
+
+/// What the value of its expression gives the name of a `.set`, where `.` means this.
+pub(crate) fn given<'a>(
+    here: Meaning,
+    ordinal: usize,
+    name: &'a [u8],
+    value: Result<Value<'_>, SourceFault>,
+) -> Option<Given<'a>>
+    ensures ordinal { IfSome result (λ g. g.ordinal ≡ ordinal) }
+    ensures value { (means : Primary → values.Meaning) (e : Expression) → meaning_of here ≡ means Here → IsOutcome value.entry 0 (value_of means e) → option_map setting_of result ≡ laws.given name.now ordinal (value_of means e) }
+{
+    match value {
+        Ok(value) => given_value(here, ordinal, name, value),
+        Err(_) => None,
+    }
 }
 
 impl<'a> Tables<'a> {
@@ -38,62 +109,13 @@ impl<'a> Tables<'a> {
         self.enter(Section::of(opening.name, opening.flags, opening.kind))
     }
 
-    /// What a `.set` to a symbol and a number gives its name: a place, where the symbol is `.` in data.
-    fn given_symbol(
-        &self,
-        ordinal: usize,
-        name: &'a [u8],
-        symbol: Symbol<'a>,
-        plus: u64,
-    ) -> Option<Given<'a>>
-        ensures ordinal { IfSome result (λ g. g.ordinal ≡ ordinal) }
-        ensures value { option_map setting_of result ≡ laws.given name.now ordinal (Symbolic (symbol_of symbol.entry) (laws.stands (tables_of self.now).opened (laws.here (tables_of self.now))) plus) }
-    {
-        match symbol {
-            Symbol::Here => match self.stands(self.here()) {
-                Meaning::Place(section, offset) => Some(Given {
-                    name,
-                    ordinal,
-                    meaning: Meaning::Place(section, offset.wrapping_add(plus)),
-                    plus,
-                }),
-                Meaning::Constant(_) => None,
-                Meaning::Open => None,
-                Meaning::NotConstant => None,
-                Meaning::UndefinedLocal => None,
-            },
-            Symbol::Name(_) => None,
-            Symbol::Backward(_) => None,
-            Symbol::Forward(_) => None,
-        }
-    }
-
-    /// What a `.set` gives its name.
-    pub(crate) fn given(&self, ordinal: usize, setting: &Setting<'a>) -> Option<Given<'a>>
-        ensures ordinal { IfSome result (λ g. g.ordinal ≡ ordinal) }
-        ensures value { IsIndexed self.now → IsBefore (tables_of self.now) ordinal → option_map setting_of result ≡ laws.given (setting.now).name.now ordinal (laws.value (tables_of self.now) false ordinal (laws.here (tables_of self.now)) (tree_of_expr (setting.now).expression)) }
-    {
-        match self.value(&setting.expression) {
-            Ok(Value::Constant(number)) => Some(Given {
-                name: setting.name,
-                ordinal,
-                meaning: Meaning::Constant(number),
-                plus: 0,
-            }),
-            Ok(Value::Symbolic(symbol, plus)) => {
-                self.given_symbol(ordinal, setting.name, symbol, plus)
-            }
-            Ok(Value::Difference(..)) => None,
-            Err(_) => None,
-        }
-    }
-
     /// Sets the name of a `.set`.
     fn add_setting(&mut self, ordinal: usize, setting: &Setting<'a>) -> Result<(), AllocError>
         ensures tables { OnOk result (IsIndexed self.old → IsBefore (tables_of self.old) ordinal → tables_of self.new ≡ laws.with_setting (tables_of self.old) (laws.given (setting.now).name.now ordinal (laws.value (tables_of self.old) false ordinal (laws.here (tables_of self.old)) (tree_of_expr (setting.now).expression)))) }
         ensures indexed { OnOk result (IsIndexed self.old → IsIndexed self.new) }
     {
-        match self.given(ordinal, setting) {
+        let value = self.value(&setting.expression);
+        match given(self.stands(self.here()), ordinal, setting.name, value) {
             Some(given) => self.set(given),
             None => Ok(()),
         }

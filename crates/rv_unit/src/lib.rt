@@ -13,6 +13,7 @@ mod number;
 mod place;
 mod scope;
 mod section;
+mod settings;
 mod tables;
 mod unit;
 

@@ -1,6 +1,6 @@
 //! Numeric labels by their numbers.
 
-ghost use Rattle.std.specs.Prelude.{◌≡◌, ◌==◌, ◌++◌, ◌≤◌, ◌<◌, ℕ, false, List, [], ◌∷◌, nat_lt, nat_le, if◌then◌else◌, OnOk};
+ghost use Rattle.std.specs.Prelude.{◌≡◌, ◌==◌, ◌++◌, ◌≤◌, ◌<◌, ℕ, false, List, [], ◌∷◌, nat_lt, nat_le, length, reverse, if◌then◌else◌, OnOk};
 ghost use Rattle.std.specs.List.{find};
 ghost use Rattle.std.specs.List.Sorted.{IsNonDecreasingBy, IsPartitionPoint};
 ghost use Rattle.rv_text_laws.specs.Bytes.{value};
@@ -60,4 +60,26 @@ pub(crate) fn first_after<'a>(marks: &[Mark<'a>], ordinal: usize) -> Option<Mark
     ensures { IsNonDecreasingBy (λ (m : MarkOf). m.ordinal) marks.now → result ≡ find (λ (m : MarkOf). nat_lt ordinal m.ordinal) marks.now }
 {
     marks.get(count_until(marks, ordinal)).copied()
+}
+
+/// How many of numeric labels in their order stand before an ordinal.
+fn count_before(marks: &[Mark<'_>], ordinal: usize) -> usize
+    ensures bound { result ≤ length marks.now }
+    ensures point { IsNonDecreasingBy (λ (m : MarkOf). m.ordinal) marks.now → IsPartitionPoint (λ (m : MarkOf). m.ordinal < ordinal) (λ (m : MarkOf). ordinal ≤ m.ordinal) marks.now result }
+{
+    marks.partition_point(
+        |mark: &Mark<'_>| -> bool
+            ensures { result ≡ nat_lt (mark.now).ordinal ordinal }
+        { mark.ordinal < ordinal },
+    )
+}
+
+/// The last of numeric labels in their order that stands before an ordinal.
+pub(crate) fn last_before<'a>(marks: &[Mark<'a>], ordinal: usize) -> Option<Mark<'a>>
+    ensures { IsNonDecreasingBy (λ (m : MarkOf). m.ordinal) marks.now → result ≡ find (λ (m : MarkOf). nat_lt m.ordinal ordinal) (reverse marks.now) }
+{
+    match count_before(marks, ordinal).checked_sub(1) {
+        Some(last) => marks.get(last).copied(),
+        None => None,
+    }
 }

@@ -1,39 +1,30 @@
-//! What names mean, in a statement with the tables of those before it.
+//! What names mean in a statement, by its ordinal.
 
-ghost use Rattle.std.specs.Prelude.{◌≡◌, ℕ, ◌==◌, true, false, List};
-ghost use Rattle.std.specs.List.{find};
+ghost use Rattle.std.specs.Prelude.{◌≡◌, ℕ, ◌+◌, ◌≤◌, ◌<◌, true, false, length};
 ghost use Rattle.rv_text_laws.specs.Bytes.{value as digits_value};
 ghost use Rattle.rv_text_laws.specs.Values.{Open};
 ghost use Rattle.rv_text.specs.Nodes.{symbol_of};
 ghost use Rattle.rv_text.specs.Expr.{tree_of_expr};
 ghost use Rattle.rv_text.specs.Eval.{meaning_of, IsOutcome};
-ghost use Rattle.rv_statement.specs.Statement.{Spoken};
 ghost use Rattle.rv_unit_laws.specs.Tables as laws;
 ghost use Rattle.rv_unit_laws.proofs.Before.{IsBefore};
 ghost use Rattle.rv_unit.specs.Sections.{place_of};
 ghost use Rattle.rv_unit.specs.Tables.{tables_of, IsIndexed};
-ghost use Rattle.rv_unit.specs.Sees.{Sees};
+ghost use Rattle.rv_unit.specs.Unit.{said, passed, IsFilled};
 
 use crate::place::Place;
-use crate::tables::Tables;
 use crate::unit::Unit;
 use rv_text::{Expr, Meaning, SourceFault, Symbol, Value, eval};
 
 impl<'a> Unit<'a> {
     /// What a symbol means in the statement of an ordinal, which stands at the place.
-    pub(crate) fn meaning(
-        &self,
-        passed: &Tables<'_>,
-        ordinal: usize,
-        place: Place,
-        symbol: Symbol<'_>,
-    ) -> Meaning
-        ensures { (ss : List Spoken) (o : ℕ) → IsIndexed passed.now → IsIndexed (self.now).tables → Sees (tables_of passed.now) (tables_of (self.now).tables) ss o → ordinal ≡ o → meaning_of result ≡ laws.meaning (laws.tables ss) true o (place_of place) (symbol_of symbol.entry) }
+    pub(crate) fn meaning(&self, ordinal: usize, place: Place, symbol: Symbol<'_>) -> Meaning
+        ensures { (o : ℕ) → IsFilled self.now → ordinal ≡ o → meaning_of result ≡ laws.meaning (laws.tables (said self.now)) true o (place_of place) (symbol_of symbol.entry) }
     {
         match symbol {
-            Symbol::Name(name) => self.named(passed, name),
+            Symbol::Name(name) => self.named(ordinal, name),
             Symbol::Here => self.tables.stands(place),
-            Symbol::Backward(digits) => self.backward(passed, digits),
+            Symbol::Backward(digits) => self.backward(ordinal, digits),
             Symbol::Forward(digits) => self.forward(ordinal, digits),
         }
     }
@@ -41,26 +32,25 @@ impl<'a> Unit<'a> {
     /// The value of an expression of that statement; a fault has this line.
     pub(crate) fn value<'e>(
         &self,
-        passed: &Tables<'_>,
         ordinal: usize,
         place: Place,
         expression: &Expr<'e>,
         line: u32,
     ) -> Result<Value<'e>, SourceFault>
-        ensures { (ss : List Spoken) (o : ℕ) → IsIndexed passed.now → IsIndexed (self.now).tables → Sees (tables_of passed.now) (tables_of (self.now).tables) ss o → ordinal ≡ o → IsOutcome result line (laws.value (laws.tables ss) true o (place_of place) (tree_of_expr expression.now)) }
+        ensures { (o : ℕ) → IsFilled self.now → ordinal ≡ o → IsOutcome result line (laws.value (laws.tables (said self.now)) true o (place_of place) (tree_of_expr expression.now)) }
     {
         eval(
             expression,
             line,
-            &|symbol| { self.meaning(passed, ordinal, place, symbol) },
+            &|symbol| { self.meaning(ordinal, place, symbol) },
         )
     }
 
     /// What a name means.
-    fn named(&self, passed: &Tables<'_>, name: &[u8]) -> Meaning
-        ensures { IsIndexed passed.now → IsIndexed (self.now).tables → meaning_of result ≡ laws.set_first (laws.set_ever (tables_of passed.now).settings name.now) (laws.labelled (tables_of (self.now).tables).opened (laws.label_of (tables_of (self.now).tables).labels true 0 name.now) (laws.set_later true (laws.set_ever (tables_of (self.now).tables).settings name.now))) }
+    fn named(&self, ordinal: usize, name: &[u8]) -> Meaning
+        ensures { IsIndexed (self.now).tables → (o : ℕ) → IsBefore (tables_of (self.now).tables) o → meaning_of result ≡ laws.named (tables_of (self.now).tables) true ordinal name.now }
     {
-        match passed.setting(name) {
+        match self.tables.setting_before(ordinal, name) {
             Some(setting) => setting.meaning,
             None => self.labelled(name),
         }
@@ -90,10 +80,10 @@ impl<'a> Unit<'a> {
     }
 
     /// What the nearest numeric label before means.
-    fn backward(&self, passed: &Tables<'_>, digits: &[u8]) -> Meaning
-        ensures { IsIndexed passed.now → meaning_of result ≡ laws.backward_in (tables_of (self.now).tables).opened (find (λ m. m.number == digits_value 10 digits.now) (tables_of passed.now).marks) }
+    fn backward(&self, ordinal: usize, digits: &[u8]) -> Meaning
+        ensures { IsIndexed (self.now).tables → (o : ℕ) → IsBefore (tables_of (self.now).tables) o → meaning_of result ≡ laws.backward_in (tables_of (self.now).tables).opened (laws.marked_before (tables_of (self.now).tables).marks ordinal (digits_value 10 digits.now)) }
     {
-        match passed.latest_mark(digits) {
+        match self.tables.marked_before(ordinal, digits) {
             Some(mark) => self.tables.stands(mark.place),
             None => Meaning::UndefinedLocal,
         }
@@ -110,19 +100,13 @@ impl<'a> Unit<'a> {
     }
 
     /// What a symbol means in the statement of an ordinal, which stands at the place, where later definitions do not count.
-    pub(crate) fn early_meaning(
-        &self,
-        passed: &Tables<'_>,
-        ordinal: usize,
-        place: Place,
-        symbol: Symbol<'_>,
-    ) -> Meaning
-        ensures { (ss : List Spoken) (o : ℕ) → IsIndexed passed.now → IsIndexed (self.now).tables → Sees (tables_of passed.now) (tables_of (self.now).tables) ss o → ordinal ≡ o → meaning_of result ≡ laws.meaning (laws.tables ss) false o (place_of place) (symbol_of symbol.entry) }
+    pub(crate) fn early_meaning(&self, ordinal: usize, place: Place, symbol: Symbol<'_>) -> Meaning
+        ensures { (o : ℕ) → IsFilled self.now → ordinal ≡ o → meaning_of result ≡ laws.meaning (laws.tables (said self.now)) false o (place_of place) (symbol_of symbol.entry) }
     {
         match symbol {
-            Symbol::Name(name) => self.early_named(passed, name),
+            Symbol::Name(name) => self.early_named(ordinal, name),
             Symbol::Here => self.tables.stands(place),
-            Symbol::Backward(digits) => self.backward(passed, digits),
+            Symbol::Backward(digits) => self.backward(ordinal, digits),
             Symbol::Forward(digits) => self.early_forward(ordinal, digits),
         }
     }
@@ -130,35 +114,34 @@ impl<'a> Unit<'a> {
     /// The value of an expression of that statement, where later definitions do not count.
     pub(crate) fn early_value(
         &self,
-        passed: &Tables<'_>,
         ordinal: usize,
         place: Place,
         expression: &Expr<'a>,
     ) -> Result<Value<'a>, SourceFault>
-        ensures { (ss : List Spoken) (o : ℕ) → IsIndexed passed.now → IsIndexed (self.now).tables → Sees (tables_of passed.now) (tables_of (self.now).tables) ss o → ordinal ≡ o → IsOutcome result 0 (laws.value (laws.tables ss) false o (place_of place) (tree_of_expr expression.now)) }
+        ensures { (o : ℕ) → IsFilled self.now → ordinal ≡ o → IsOutcome result 0 (laws.value (laws.tables (said self.now)) false o (place_of place) (tree_of_expr expression.now)) }
     {
         eval(
             expression,
             0,
-            &|symbol| { self.early_meaning(passed, ordinal, place, symbol) },
+            &|symbol| { self.early_meaning(ordinal, place, symbol) },
         )
     }
 
     /// What a name means by what is defined before.
-    fn early_named(&self, passed: &Tables<'_>, name: &[u8]) -> Meaning
-        ensures { IsIndexed passed.now → meaning_of result ≡ laws.set_first (laws.set_ever (tables_of passed.now).settings name.now) (laws.labelled (tables_of (self.now).tables).opened (laws.label_of (tables_of passed.now).labels true 0 name.now) Open) }
+    fn early_named(&self, ordinal: usize, name: &[u8]) -> Meaning
+        ensures { IsIndexed (self.now).tables → (o : ℕ) → IsBefore (tables_of (self.now).tables) o → meaning_of result ≡ laws.named (tables_of (self.now).tables) false ordinal name.now }
     {
-        match passed.setting(name) {
+        match self.tables.setting_before(ordinal, name) {
             Some(setting) => setting.meaning,
-            None => self.early_labelled(passed, name),
+            None => self.early_labelled(ordinal, name),
         }
     }
 
     /// What a name means that is not set before.
-    fn early_labelled(&self, passed: &Tables<'_>, name: &[u8]) -> Meaning
-        ensures { meaning_of result ≡ laws.labelled (tables_of (self.now).tables).opened (laws.label_of (tables_of passed.now).labels true 0 name.now) Open }
+    fn early_labelled(&self, ordinal: usize, name: &[u8]) -> Meaning
+        ensures { IsIndexed (self.now).tables → (o : ℕ) → IsBefore (tables_of (self.now).tables) o → meaning_of result ≡ laws.labelled (tables_of (self.now).tables).opened (laws.label_of (tables_of (self.now).tables).labels false ordinal name.now) Open }
     {
-        match passed.label(name) {
+        match self.tables.label_before(ordinal, name) {
             Some(label) => self.tables.stands(label.place),
             None => Meaning::Open,
         }
@@ -172,5 +155,33 @@ impl<'a> Unit<'a> {
             Some(_) => Meaning::NotConstant,
             None => Meaning::UndefinedLocal,
         }
+    }
+
+    /// What a symbol means in the statement of an ordinal by the statements before it alone, where nothing comes behind it.
+    fn past_meaning(&self, ordinal: usize, place: Place, symbol: Symbol<'_>) -> Meaning
+        ensures { (index : ℕ) → IsFilled self.now → index ≤ length (said self.now) → ordinal ≡ index + 1 → place.section < length (passed (said self.now) index).opened.sections
+            → meaning_of result ≡ laws.meaning (passed (said self.now) index) false (index + 1) (place_of place) (symbol_of symbol.entry) }
+    {
+        match symbol {
+            Symbol::Forward(_) => Meaning::UndefinedLocal,
+            symbol => self.early_meaning(ordinal, place, symbol),
+        }
+    }
+
+    /// The value of an expression of that statement by the statements before it alone.
+    pub(crate) fn past_value(
+        &self,
+        ordinal: usize,
+        place: Place,
+        expression: &Expr<'a>,
+    ) -> Result<Value<'a>, SourceFault>
+        ensures { (index : ℕ) → IsFilled self.now → index ≤ length (said self.now) → ordinal ≡ index + 1 → place.section < length (passed (said self.now) index).opened.sections
+            → IsOutcome result 0 (laws.value (passed (said self.now) index) false (index + 1) (place_of place) (tree_of_expr expression.now)) }
+    {
+        eval(
+            expression,
+            0,
+            &|symbol| { self.past_meaning(ordinal, place, symbol) },
+        )
     }
 }

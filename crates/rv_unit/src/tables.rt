@@ -14,10 +14,11 @@ ghost use Rattle.rv_unit_laws.proofs.Before.{IsBefore, placed_latest};
 ghost use Rattle.rv_unit.specs.Sections.{section_of, place_of};
 ghost use Rattle.rv_unit.specs.Tables.{tables_of, label_at, marked_of, setting_of, IsIndexed};
 
-use crate::marks::{add_numbered, first_after};
+use crate::marks::{add_numbered, first_after, last_before};
 use crate::number::Number;
 use crate::place::Place;
 use crate::section::{Extent, Section};
+use crate::settings::{add_given, last_set_before};
 use indexmap::IndexMap;
 use rv_statement::Choice;
 use rv_text::{Expr, Meaning, SourceFault, Symbol, Value, eval};
@@ -71,9 +72,9 @@ pub(crate) struct Tables<'a> {
     /// The numeric labels in their order, and those of each number.
     pub(crate) marks: Vec<Mark<'a>>,
     pub(crate) numbered: IndexMap<Number<'a>, Vec<Mark<'a>>>,
-    /// The settings in their order, and the latest of each name.
+    /// The settings in their order, and those of each name.
     pub(crate) settings: Vec<Given<'a>>,
-    pub(crate) latest: IndexMap<&'a [u8], Given<'a>>,
+    pub(crate) by_name: IndexMap<&'a [u8], Vec<Given<'a>>>,
     /// How many times options were kept and not yet taken back.
     pub(crate) kept: usize,
 }
@@ -101,7 +102,7 @@ impl<'a> Tables<'a> {
             marks: Vec::new(alloc),
             numbered: IndexMap::new(alloc),
             settings: Vec::new(alloc),
-            latest: IndexMap::new(alloc),
+            by_name: IndexMap::new(alloc),
             kept: 0,
         })
     }
@@ -154,11 +155,40 @@ impl<'a> Tables<'a> {
         self.labels.get(&name).copied()
     }
 
+    /// The label of a name, if it stands before an ordinal.
+    pub(crate) fn label_before(&self, ordinal: usize, name: &[u8]) -> Option<Label>
+        ensures { (o : ℕ) → IsBefore (tables_of self.now) o → option_map (label_at name.now) result ≡ laws.label_of (tables_of self.now).labels false ordinal name.now }
+    {
+        match self.label(name) {
+            Some(label) => {
+                if label.ordinal < ordinal {
+                    Some(label)
+                } else {
+                    None
+                }
+            }
+            None => None,
+        }
+    }
+
     /// The latest setting of a name.
     pub(crate) fn setting(&self, name: &[u8]) -> Option<Given<'a>>
         ensures { IsIndexed self.now → option_map setting_of result ≡ laws.set_ever (tables_of self.now).settings name.now }
     {
-        self.latest.get(&name).copied()
+        match self.by_name.get(&name) {
+            Some(settings) => settings.as_slice().last().copied(),
+            None => None,
+        }
+    }
+
+    /// The latest setting of a name before an ordinal.
+    pub(crate) fn setting_before(&self, ordinal: usize, name: &[u8]) -> Option<Given<'a>>
+        ensures { IsIndexed self.now → (o : ℕ) → IsBefore (tables_of self.now) o → option_map setting_of result ≡ laws.set_before (tables_of self.now).settings ordinal name.now }
+    {
+        match self.by_name.get(&name) {
+            Some(settings) => last_set_before(settings.as_slice(), ordinal),
+            None => None,
+        }
     }
 
     /// The latest numeric label of a number.
@@ -167,6 +197,16 @@ impl<'a> Tables<'a> {
     {
         match self.numbered.get(Number { digits }) {
             Some(marks) => marks.as_slice().last().copied(),
+            None => None,
+        }
+    }
+
+    /// The nearest numeric label before an ordinal.
+    pub(crate) fn marked_before(&self, ordinal: usize, digits: &[u8]) -> Option<Mark<'a>>
+        ensures { IsIndexed self.now → (o : ℕ) → IsBefore (tables_of self.now) o → option_map marked_of result ≡ laws.marked_before (tables_of self.now).marks ordinal (digits_value 10 digits.now) }
+    {
+        match self.numbered.get(Number { digits }) {
+            Some(marks) => last_before(marks.as_slice(), ordinal),
             None => None,
         }
     }
@@ -210,6 +250,7 @@ impl<'a> Tables<'a> {
             None => Meaning::UndefinedLocal,
         }
     }
+
     /// What a symbol means in the next statement, as far as the statements before it say.
     fn meaning(&self, symbol: Symbol<'a>) -> Meaning
         ensures { IsIndexed self.now → (o : ℕ) → IsBefore (tables_of self.now) o → meaning_of result ≡ laws.meaning (tables_of self.now) false o (laws.here (tables_of self.now)) (symbol_of symbol.entry) }
@@ -342,8 +383,7 @@ impl<'a> Tables<'a> {
             return Ok(());
         }
         self.settings.push(given)?;
-        self.latest.insert(given.name, given)?;
-        Ok(())
+        add_given(*self.settings.allocator(), &mut self.by_name, given)
     }
 
     /// Adds data at the end of the current section, unless it is one of code.

@@ -1,19 +1,19 @@
 -- What tables have so far was defined before the next statement.
 
-use Rattle.std.proofs.Common.{◌≡◌, ℕ, suc, ◌+◌, ◌<◌, Bool, true, false, cond, ◌&&◌, ◌||◌, ◌==◌, nat_lt, List, [], ◌∷◌, ◌++◌, length, add-zero, refl, sym, ap, ◌∙◌, subst, arith, Option, Some, None}
+use Rattle.std.proofs.Common.{◌≡◌, ℕ, suc, ◌+◌, ◌<◌, ◌≤◌, Bool, true, false, cond, ◌&&◌, ◌||◌, ◌==◌, nat_lt, List, [], ◌∷◌, ◌++◌, length, add-zero, refl, sym, ap, ◌∙◌, subst, arith, Option, Some, None}
 use Rattle.std.specs.Prelude.{not, is_some, if◌then◌else◌}
 use Rattle.std.specs.List.{find, list_all, list_any}
 use Rattle.std.specs.Str.{bytes_eq}
-use Rattle.std.proofs.lemmas.Bool.{ltb-true, lt-ltb}
+use Rattle.std.proofs.lemmas.Bool.{ltb-true, ltb-false, lt-ltb}
 use Rattle.std.proofs.lemmas.List.Folds.{list_all-append}
 use Rattle.rv_text_laws.specs.Values.{Meaning, Known, Placed, Open, Refused, Value, Constant, Symbolic, Difference, Faulty, add}
-use Rattle.rv_text_laws.specs.Expression.{Primary, Literal, Symbol, Here, Reference}
+use Rattle.rv_text_laws.specs.Expression.{Literal, Symbol, Here, Reference}
 use Rattle.rv_statement.specs.Statement.{Statement, Label, Numbered, Instruction, Directs, Spoken, Directive, Enters, Opens, Globl, Local, Sets, Aligns_to_power, Aligns_to_bytes, Values, Strings, Zeros, Chooses, Ignored}
 use Rattle.rv_statement.specs.declared.directive.Choice.{Choice}
 use Rattle.rv_statement.specs.declared.directive.Choice.TheVariants.{Rvc, Norvc, Relax, Norelax, Push, Pop, Nopic}
 use Rattle.rv_unit_laws.specs.Sections.{Section, Opened, current_section, entered, entered_by}
-use Rattle.rv_unit_laws.specs.Tables.{Tables, Labelled, Marked, Setting, Place, at_start, here, after, after_directive, after_all, value, given, with_label, with_mark, with_setting, with_section, with_data, with_choice, opened_more, label_of, set_before, set_ever, has_place, is_defined, may_set, is_placed_setting, marked_before, marked_after, data_bytes, asked}
-use Rattle.rv_unit_laws.proofs.Found.{find_all, find_all_swapped, any_all, find_none, all_weaker, bytes_swap, same_bytes}
+use Rattle.rv_unit_laws.specs.Tables.{Tables, Labelled, Marked, Setting, at_start, here, after, after_directive, after_all, value, given, with_label, with_mark, with_setting, with_section, with_data, with_choice, opened_more, label_of, set_before, set_ever, has_place, is_defined, may_set, is_placed_setting, data_bytes, asked}
+use Rattle.rv_unit_laws.proofs.Found.{and_both, find_all, find_all_swapped, any_all, find_none, all_weaker, same_bytes}
 
 abbrev pub all_labels : ℕ → List Labelled → Bool
 all_labels o labels = list_all (λ l. nat_lt l.ordinal o) labels
@@ -32,18 +32,24 @@ placed_latest (Some s) = is_placed_setting s
 abbrev pub placed_ever : List Setting → List ℕ → Bool
 placed_ever settings name = list_any (λ s. bytes_eq s.name name && is_placed_setting s) settings
 
--- each numeric label stands behind those after it in the list
-abbrev pub falling : List Marked → Bool
-falling [] = true
-falling (m ∷ ms) = all_marks m.ordinal ms && falling ms
+-- each has a lower number than those after it in the list, and each a higher one
+abbrev pub rises : {X : Type 0} → (X → ℕ) → List X → Bool
+rises at [] = true
+rises at (x ∷ xs) = list_all (λ y. nat_lt (at x) (at y)) xs && rises at xs
 
--- names, numeric labels and settings stand before the ordinal, numeric labels with the latest first; a name that was ever
--- a place still is
+abbrev pub falls : {X : Type 0} → (X → ℕ) → List X → Bool
+falls at [] = true
+falls at (x ∷ xs) = list_all (λ y. nat_lt (at y) (at x)) xs && falls at xs
+
+-- names, numeric labels and settings stand before the ordinal, labels with the latest last, numeric labels and settings
+-- with the latest first; a name that was ever a place still is
 pub record IsBefore (t : Tables) (o : ℕ) : Type 0 where
   pub labels : all_labels o t.labels ≡ true
+  pub labels_rise : rises (λ (l : Labelled). l.ordinal) t.labels ≡ true
   pub marks : all_marks o t.marks ≡ true
-  pub ordered : falling t.marks ≡ true
+  pub marks_fall : falls (λ (m : Marked). m.ordinal) t.marks ≡ true
   pub settings : all_settings o t.settings ≡ true
+  pub settings_fall : falls (λ (s : Setting). s.ordinal) t.settings ≡ true
   pub placed : (name : List ℕ) → placed_ever t.settings name ≡ placed_latest (set_ever t.settings name)
 
 next : (a o : ℕ) → nat_lt a o ≡ true → nat_lt a (suc o) ≡ true
@@ -56,9 +62,11 @@ now o = lt-ltb o (suc o) (omega arith)
 pub before_next : (t : Tables) (o : ℕ) → IsBefore t o → IsBefore t (suc o)
 before_next t o h = record {
   labels = all_weaker (λ l. nat_lt l.ordinal o) (λ l. nat_lt l.ordinal (suc o)) t.labels (λ l. next l.ordinal o) h.labels;
+  labels_rise = h.labels_rise;
   marks = all_weaker (λ m. nat_lt m.ordinal o) (λ m. nat_lt m.ordinal (suc o)) t.marks (λ m. next m.ordinal o) h.marks;
-  ordered = h.ordered;
+  marks_fall = h.marks_fall;
   settings = all_weaker (λ s. nat_lt s.ordinal o) (λ s. nat_lt s.ordinal (suc o)) t.settings (λ s. next s.ordinal o) h.settings;
+  settings_fall = h.settings_fall;
   placed = h.placed;
 }
 
@@ -70,6 +78,41 @@ label_before t o name h =
 
 pub set_now : (t : Tables) (o : ℕ) (name : List ℕ) → IsBefore t o → set_before t.settings o name ≡ set_ever t.settings name
 set_now t o name h = find_all (λ s. bytes_eq s.name name) (λ s. nat_lt s.ordinal o) t.settings h.settings
+
+-- what was found, if it stands before the ordinal
+abbrev pub below : {X : Type 0} → (X → ℕ) → ℕ → Option X → Option X
+below at o None = None
+below at o (Some x) = if nat_lt (at x) o then Some x else None
+
+-- of what rises, a search below an ordinal finds what a search finds, or nothing
+find_below : {X : Type 0} (at : X → ℕ) (o : ℕ) (p : X → Bool) (xs : List X) → rises at xs ≡ true → find (λ x. p x && nat_lt (at x) o) xs ≡ below at o (find p xs)
+find_below at o p [] h = refl
+find_below at o p (x ∷ xs) h =
+    let both = and_both (list_all (λ y. nat_lt (at x) (at y)) xs) (rises at xs) h in
+    by (p x) (nat_lt (at x) o) refl both.0 (find_below at o p xs both.1)
+  where
+    passed : (y : ℕ) (b : Bool) → nat_lt (at x) o ≡ false → nat_lt (at x) y ≡ true → (b && nat_lt y o) ≡ false
+    passed y b e l = by_test b (nat_lt y o) refl
+      where
+        by_test : (b c : Bool) → nat_lt y o ≡ c → (b && c) ≡ false
+        by_test true true f = absurd (let m : at x < y = ltb-true (at x) y l in let n : y < o = ltb-true y o f in let k : o ≤ at x = ltb-false (at x) o e in omega arith)
+        by_test true false f = refl
+        by_test false c f = refl
+
+    by : (b c : Bool) → nat_lt (at x) o ≡ c → list_all (λ y. nat_lt (at x) (at y)) xs ≡ true → find (λ y. p y && nat_lt (at y) o) xs ≡ below at o (find p xs)
+        → cond (b && c) (Some x) (find (λ y. p y && nat_lt (at y) o) xs) ≡ below at o (cond b (Some x) (find p xs))
+    by false c e later rest = rest
+    by true true e later rest = sym (ap (λ d. if d then Some x else None) e)
+    by true false e later rest =
+        find_none (λ y. p y && nat_lt (at y) o) (λ y. nat_lt (at x) (at y)) xs later (λ y l. passed (at y) (p y) e l)
+        ∙ sym (ap (λ d. if d then Some x else None) e)
+
+-- the label of a name, if it stands before an ordinal
+pub label_below : (t : Tables) (o at : ℕ) (name : List ℕ) → IsBefore t o → label_of t.labels false at name ≡ below (λ (l : Labelled). l.ordinal) at (label_of t.labels true 0 name)
+label_below t o at name h =
+    find_below (λ (l : Labelled). l.ordinal) at (λ l. bytes_eq l.name name) t.labels h.labels_rise
+    ∙ ap (below (λ (l : Labelled). l.ordinal) at)
+    (sym (find_all_swapped (λ l. bytes_eq l.name name) (λ l. true) t.labels (all_weaker (λ l. nat_lt l.ordinal o) (λ l. true) t.labels (λ l _. refl) h.labels)))
 
 and_assoc : (a b c : Bool) → ((a && b) && c) ≡ (a && (b && c))
 and_assoc true b c = refl
@@ -112,11 +155,23 @@ none_later o number marks h = find_none (λ m. nat_lt o m.ordinal && (m.number =
 pub before_sections : (t u : Tables) (o : ℕ) → u.labels ≡ t.labels → u.marks ≡ t.marks → u.settings ≡ t.settings → IsBefore t o → IsBefore u o
 before_sections t u o l m s h = record {
   labels = ap (all_labels o) l ∙ h.labels;
+  labels_rise = ap (rises (λ (l : Labelled). l.ordinal)) l ∙ h.labels_rise;
   marks = ap (all_marks o) m ∙ h.marks;
-  ordered = ap falling m ∙ h.ordered;
+  marks_fall = ap (falls (λ (m : Marked). m.ordinal)) m ∙ h.marks_fall;
   settings = ap (all_settings o) s ∙ h.settings;
+  settings_fall = ap (falls (λ (s : Setting). s.ordinal)) s ∙ h.settings_fall;
   placed = λ name. ap (λ ss. placed_ever ss name) s ∙ h.placed name ∙ ap (λ ss. placed_latest (set_ever ss name)) (sym s);
 }
+
+-- one more behind lower ones
+rises_more : {X : Type 0} (at : X → ℕ) (xs : List X) (x : X) → list_all (λ y. nat_lt (at y) (at x)) xs ≡ true → rises at xs ≡ true → rises at (xs ++ x ∷ []) ≡ true
+rises_more at [] x low h = refl
+rises_more at (y ∷ ys) x low h =
+    let now = and_both (nat_lt (at y) (at x)) (list_all (λ z. nat_lt (at z) (at x)) ys) low in
+    let both = and_both (list_all (λ z. nat_lt (at y) (at z)) ys) (rises at ys) h in
+    ap (λ b. b && rises at (ys ++ x ∷ []))
+    (list_all-append (λ z. nat_lt (at y) (at z)) ys (x ∷ []) ∙ ap (λ b. b && (nat_lt (at y) (at x) && true)) both.0 ∙ ap (λ b. b && true) now.0)
+    ∙ rises_more at ys x now.1 both.1
 
 before_label : (t : Tables) (o : ℕ) (name : List ℕ) → IsBefore t o → IsBefore (with_label t o name) (suc o)
 before_label t o name h = by (is_defined t o name) refl
@@ -128,16 +183,26 @@ before_label t o name h = by (is_defined t o name) refl
         record {
           labels = list_all-append (λ (l : Labelled). nat_lt l.ordinal (suc o)) t.labels (record { name = name; ordinal = o; place = here t } ∷ [])
               ∙ ap (λ b. b && (nat_lt o (suc o) && true)) f.labels ∙ ap (λ b. b && true) (now o);
+          labels_rise = rises_more (λ (l : Labelled). l.ordinal) t.labels (record { name = name; ordinal = o; place = here t }) h.labels h.labels_rise;
           marks = f.marks;
-          ordered = f.ordered;
+          marks_fall = f.marks_fall;
           settings = f.settings;
+          settings_fall = f.settings_fall;
           placed = f.placed;
         }
 
 before_mark : (t : Tables) (o number : ℕ) → IsBefore t o → IsBefore (with_mark t o number) (suc o)
 before_mark t o number h =
     let f = before_next t o h in
-    record { labels = f.labels; marks = ap (λ b. b && all_marks (suc o) t.marks) (now o) ∙ f.marks; ordered = ap (λ b. b && falling t.marks) h.marks ∙ h.ordered; settings = f.settings; placed = f.placed }
+    record {
+      labels = f.labels;
+      labels_rise = f.labels_rise;
+      marks = ap (λ b. b && all_marks (suc o) t.marks) (now o) ∙ f.marks;
+      marks_fall = ap (λ b. b && falls (λ (m : Marked). m.ordinal) t.marks) h.marks ∙ h.marks_fall;
+      settings = f.settings;
+      settings_fall = f.settings_fall;
+      placed = f.placed;
+    }
 
 -- one setting more that may be made
 placed_more : (t : Tables) (o : ℕ) (s : Setting) → IsBefore t o → not (has_place t o s.name) ≡ true → is_placed_setting s ≡ false → (name : List ℕ)
@@ -180,9 +245,11 @@ before_set t o s at h = by (may_set t s.ordinal s.name s.meaning) refl
         let f = before_next t o h in
         record {
           labels = f.labels;
+          labels_rise = f.labels_rise;
           marks = f.marks;
-          ordered = f.ordered;
+          marks_fall = f.marks_fall;
           settings = ap (λ a. nat_lt a (suc o) && all_settings (suc o) t.settings) at ∙ ap (λ b. b && all_settings (suc o) t.settings) (now o) ∙ f.settings;
+          settings_fall = ap (λ b. b && falls (λ (x : Setting). x.ordinal) t.settings) (ap (λ a. all_settings a t.settings) at ∙ h.settings) ∙ h.settings_fall;
           placed = may_be t o s s.meaning refl h (ap (λ a. may_set t a s.name s.meaning) (sym at) ∙ e);
         }
 
@@ -203,8 +270,8 @@ before_opened : (t : Tables) (opened : Opened) (o : ℕ) → IsBefore t o → Is
 before_opened t opened o h = by (length opened.sections == length t.opened.sections)
   where
     by : (b : Bool) → IsBefore (if b then record t { opened = opened } else record t { opened = opened; ends = t.ends ++ 0 ∷ []; alignments = t.alignments ++ 1 ∷ [] }) o
-    by true = record { labels = h.labels; marks = h.marks; ordered = h.ordered; settings = h.settings; placed = h.placed }
-    by false = record { labels = h.labels; marks = h.marks; ordered = h.ordered; settings = h.settings; placed = h.placed }
+    by true = before_sections t (record t { opened = opened }) o refl refl refl h
+    by false = before_sections t (record t { opened = opened; ends = t.ends ++ 0 ∷ []; alignments = t.alignments ++ 1 ∷ [] }) o refl refl refl h
 
 before_section : (t : Tables) (section : Option Section) (o : ℕ) → IsBefore t o → IsBefore (with_section t section) (suc o)
 before_section t None o h = before_next t o h
@@ -218,8 +285,8 @@ before_data t bytes alignment o h = before_next (with_data t bytes alignment) o 
     by false e = before_sections t (with_data t bytes alignment) o (rw e refl) (rw e refl) (rw e refl) h
 
 before_choice : (t : Tables) (choice : Choice) (o : ℕ) → IsBefore t o → IsBefore (with_choice t choice) (suc o)
-before_choice t Push o h = let f = before_next t o h in record { labels = f.labels; marks = f.marks; ordered = f.ordered; settings = f.settings; placed = f.placed }
-before_choice t Pop o h = let f = before_next t o h in record { labels = f.labels; marks = f.marks; ordered = f.ordered; settings = f.settings; placed = f.placed }
+before_choice t Push o h = before_sections t (with_choice t Push) (suc o) refl refl refl (before_next t o h)
+before_choice t Pop o h = before_sections t (with_choice t Pop) (suc o) refl refl refl (before_next t o h)
 before_choice t Rvc o h = before_next t o h
 before_choice t Norvc o h = before_next t o h
 before_choice t Relax o h = before_next t o h
@@ -257,4 +324,4 @@ before_all t o (s ∷ ss) h =
     subst (IsBefore (after_all (after t o s.says) (suc o) ss)) n (before_all (after t o s.says) (suc o) ss (before_after t o s.says h))
 
 pub before_start : (o : ℕ) → IsBefore at_start o
-before_start o = record { labels = refl; marks = refl; ordered = refl; settings = refl; placed = λ name. refl }
+before_start o = record { labels = refl; labels_rise = refl; marks = refl; marks_fall = refl; settings = refl; settings_fall = refl; placed = λ name. refl }

@@ -3,3 +3,4 @@ pub mod Before
 pub mod Meant
 pub mod Entering
 pub mod Later
+pub mod Opened

@@ -14,7 +14,7 @@ use Rattle.rv_chain.proofs.Whole.{code_more, coded_more, code_wrong, code_whole,
 use Rattle.rv_chain.proofs.code.code.Goals as goal
 
 pub loop-index-init : goal.loop-index-init
-loop-index-init c = (c.in_ok-scope.ensures.unit, c.in_ok-scope.ensures.start, c.in_ok-coder.ensures.begun _ _, c.in_ok-coder.ensures.count ∙ ap length c.sections.ensures, λ rest. rest)
+loop-index-init c = (c.new-scope.ensures.unit, c.new-scope.ensures.start, c.in_ok-coder.ensures.begun _ _, c.in_ok-coder.ensures.count ∙ ap length c.sections.ensures, λ rest. rest)
 
 pub bounds-places-index : goal.bounds-places-index
 bounds-places-index c =
@@ -51,8 +51,8 @@ loop-index-preserved c =
     (c.in_ok-put_code.ensures i filled c.loop-index.invariant.1) in
     let within = subst (λ n. i < n) (sym (length-map u.statements.items said_by)) inside in
     let within' = subst (λ w. i < length (said w)) (sym same) within in (
-      ap (λ b. b.now) c.in_ok-pass.ensures.unit ∙ same,
-      c.in_ok-pass.ensures.passes i within' c.loop-index.invariant.1,
+      ap (λ b. b.now) c.pass.ensures.unit ∙ same,
+      c.pass.ensures.passes i within' c.loop-index.invariant.1,
       code_more u i x p c.loop-index.coder c.put_code.new.coder at c.loop-index.invariant.2 added,
       added.grows.0 ∙ c.loop-index.invariant.3,
       coded_more u i x p c.loop-index.coder c.put_code.new.coder at c.loop-index.invariant.4 added,
@@ -88,11 +88,6 @@ returns-clause-coded c =
     let i = c.loop-index.index in
     let past = subst (λ l. length l ≤ i) c.statements-statements.ensures c.loop-index-test.false in
     coded_whole (said u) i c.finish.result (stated_none (said u) i (subst (λ n. n ≤ i) (sym (length-map u.statements.items said_by)) past)) c.loop-index.invariant.4
-
-pub returns-in_err-pass-clause-code : goal.returns-in_err-pass-clause-code
-returns-in_err-pass-clause-code c =
-    let found = err_from_is_err_and c.from_residual-in_err-pass.result c.from_residual-in_err-pass.ensures.1 in
-    rw (found.1, found.2) (search)
 
 pub returns-clause-count : goal.returns-clause-count
 returns-clause-count c = subst (λ n. IfOk c.finish.result (λ (sections : Vec (Vec ℕ)). length sections.items ≡ n)) c.loop-index.invariant.3 c.finish.ensures.count

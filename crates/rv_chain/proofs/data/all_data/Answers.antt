@@ -11,7 +11,7 @@ use Rattle.rv_chain.proofs.data.all_data.Goals as goal
 
 pub loop-index-init : goal.loop-index-init
 loop-index-init c =
-    (c.in_ok-scope.ensures.unit, c.in_ok-scope.ensures.start, λ globals names. data_begin _ _ _ _ _ c.in_ok-sections.ensures.empty, c.in_ok-sections.ensures.count ∙ ap length c.sections.ensures)
+    (c.new-scope.ensures.unit, c.new-scope.ensures.start, λ globals names. data_begin _ _ _ _ _ c.in_ok-sections.ensures.empty, c.in_ok-sections.ensures.count ∙ ap length c.sections.ensures)
 
 pub put_next-requires : goal.put_next-requires
 put_next-requires c =
@@ -33,8 +33,8 @@ loop-index-preserved c =
     let value : c.as_mut_slice.result.now ≡ old = c.as_mut_slice.ensures.value in
     let count : length new ≡ length c.as_mut_slice.result.now = c.in_ok-put_next.ensures.count in
     let back : take c.loop-index.sections.len (new ++ drop (length new) old) ≡ new = written_back new old c.loop-index.sections.len (count ∙ ap length value) (count ∙ c.as_mut_slice.ensures.len) in (
-      ap (λ b. b.now) c.in_ok-pass.ensures.unit ∙ same,
-      c.in_ok-pass.ensures.passes i within' c.loop-index.invariant.1,
+      ap (λ b. b.now) c.pass.ensures.unit ∙ same,
+      c.pass.ensures.passes i within' c.loop-index.invariant.1,
       λ globals names. subst (λ l. DataTo (said u) c.args.starts.now c.args.items.now globals (i + 1) l) (sym back)
           (c.in_ok-put_next.ensures.data globals same c.loop-index.invariant.1 c.requires.good names
           (subst (λ l. DataTo (said u) c.args.starts.now c.args.items.now globals i l) (sym value) (c.loop-index.invariant.2 globals names))),

@@ -5,7 +5,7 @@ use Rattle.rv_statement.specs.View.{said_by, statement_of}
 use Rattle.rv_unit.specs.declared.place.Place.{Place}
 use Rattle.rv_unit.specs.Unit.{said, passed, IsFilled}
 use Rattle.rv_unit.specs.Sections.{place_of}
-use Rattle.rv_unit_laws.specs.Tables.{tables, value as value_of}
+use Rattle.rv_unit_laws.specs.Tables.{stood, tables, value as value_of}
 use Rattle.rv_chain_laws.specs.Stated.{is_placed}
 use Rattle.rv_link_laws.specs.Items.{IsItem, grown}
 use Rattle.rv_chain.specs.Sized.{IsSized}
@@ -21,8 +21,8 @@ loop-index-init c =
     let ss = said c.args.unit.now in
     let none = c.in_ok-ends.ensures.none in
     record {
-      unit = c.in_ok-scope.ensures.unit;
-      scope = c.in_ok-scope.ensures.start;
+      unit = c.new-scope.ensures.unit;
+      scope = c.new-scope.ensures.start;
       items =
           subst (λ l. AreItemsSoFar ss 0 (λ j. slice_index c.in_ok-ends.ends.items j) l) (sym c.new-items.ensures.items)
           (items_begin ss (λ j. slice_index c.in_ok-ends.ends.items j) none);
@@ -103,7 +103,7 @@ loop-index-preserved c =
     let offset : y.offset ≡ slice_index ends p.section = told.offset ∙ c.end-offset.ensures ∙ ap (λ l. slice_index l p.section) c.as_slice.ensures.value in
     let room : y.section < length ends = subst (λ n. n < length ends) (sym section) (subst (λ n. p.section < n) (sym inv.sections) (stands_inside u i x p at)) in
     let shown : y.shown ≡ (is_placed (passed ss i) (i + 1) (statement_of x.kind) && e.section.loaded) =
-    subst (λ w. y.shown ≡ (is_placed (passed (said w) i) (i + 1) (statement_of x.kind) && e.section.loaded)) same (told.shown i filled inv.scope) in
+    subst (λ w. y.shown ≡ (is_placed (passed (said w) i) (i + 1) (statement_of x.kind) && e.section.loaded)) same (told.shown i filled inv.scope (subst (λ w. place_of p ≡ stood (passed (said w) i) (i + 1) (statement_of x.kind)) (sym same) at.place)) in
     let one : IsItem (stated_at ss i (said_by x)) before y = item_at u i x p e before y at there section offset told.line told.text shown told.absent in
     let sized : IsSizedAt (tables ss) ss i (said_by x) y =
     sized_at u i x p e y c.requires at there section
@@ -111,8 +111,8 @@ loop-index-preserved c =
     let at_end : y.offset ≡ slice_index ends y.section = offset ∙ ap (λ n. slice_index ends n) (sym section) in
     let grows : (j : ℕ) → behind j ≡ grown before y j = λ j. ap (λ l. slice_index l j) c.grow.ensures ∙ grown_by ends y j room at_end in
     record {
-      unit = ap (λ b. b.now) c.in_ok-pass.ensures.unit ∙ same;
-      scope = c.in_ok-pass.ensures.passes i within inv.scope;
+      unit = ap (λ b. b.now) c.pass.ensures.unit ∙ same;
+      scope = c.pass.ensures.passes i within inv.scope;
       items =
           subst (λ l. AreItemsSoFar ss (i + 1) behind l) (sym c.in_ok-push.ensures.items)
           (items_more ss i (said_by x) before behind c.loop-index.items.items y at.here one grows inv.items);

@@ -16,8 +16,8 @@ use Rattle.rv_chain.proofs.undefined.missing_names.Goals as goal
 
 pub loop-index-init : goal.loop-index-init
 loop-index-init c = (
-  c.in_ok-scope.ensures.unit,
-  c.in_ok-scope.ensures.start,
+  c.new-scope.ensures.unit,
+  c.new-scope.ensures.start,
   c.in_ok-found.ensures.count ∙ ap length c.sections-sections.ensures,
   λ last items. first_begins (said c.args.unit.now) c.in_ok-found.found.items c.in_ok-found.ensures.none,
 )
@@ -65,8 +65,8 @@ loop-index-preserved c =
     let kept = λ (last : ℕ → ℕ) (items : AreItems 1 at_start (λ j. 0) (said u) c.args.items.now last) (j : ℕ).
     subst (λ w. found_in new j ≡ (if p.section == j then else_name (found_in c.as_mut_slice-names.result.now j) (if c.is_loaded-loaded.result then first_name (missing_at (said w) i (place_of p) (data_values (said_by x).says)) else None) else found_in c.as_mut_slice-names.result.now j)) same
     (c.in_ok-keep.ensures i j (record { filled = filled; stands = c.loop-index.invariant.1; last = last; items = subst (λ w. AreItems 1 at_start (λ j. 0) (said w) c.args.items.now last) (sym same) items })) in (
-      ap (λ b. b.now) c.in_ok-pass.ensures.unit ∙ same,
-      c.in_ok-pass.ensures.passes i within' c.loop-index.invariant.1,
+      ap (λ b. b.now) c.pass.ensures.unit ∙ same,
+      c.pass.ensures.passes i within' c.loop-index.invariant.1,
       ap (λ l. length l) back ∙ c.keep.auto.found ∙ ap length c.as_mut_slice-names.ensures.value ∙ c.loop-index.invariant.2,
       λ last items. subst (λ f. FirstSoFar (said u) (i + 1) f) (sym back)
           (first_more (said u) i (stated_at (said u) i (said_by x)) c.as_mut_slice-names.result.now new at.next

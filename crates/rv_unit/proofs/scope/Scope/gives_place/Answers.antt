@@ -1,25 +1,39 @@
-use Rattle.std.proofs.Common.{◌∙◌, ap, sym, option_map}
+use Rattle.std.proofs.Common.{◌∙◌, ◌+◌, ap, sym, false, option_map}
+use Rattle.rv_text_laws.specs.Expression.{Primary}
+use Rattle.rv_text_laws.specs.Values.{Meaning}
 use Rattle.rv_text.specs.Expr.{tree_of_expr}
-use Rattle.rv_unit_laws.specs.Tables.{gives_place}
-use Rattle.rv_unit.specs.Tables.{tables_of, setting_of}
-use Rattle.rv_unit.specs.Unit.{said}
-use Rattle.rv_unit.proofs.Scoped.{gives_passed, pass_before}
+use Rattle.rv_unit_laws.specs.Tables as laws
+use Rattle.rv_unit.specs.Sections.{place_of}
+use Rattle.rv_unit.specs.Tables.{setting_of}
+use Rattle.rv_unit.specs.Unit.{said, passed}
+use Rattle.rv_unit.proofs.Scoped.{here_inside, past_here}
 use Rattle.rv_unit.proofs.scope.Scope.gives_place.Goals as goal
 
 pub returns-in-Some : goal.returns-in-Some
-returns-in-Some c = λ i f s.
-    let t = tables_of c.args.self.now.passed in
-    let ss = said c.args.self.now.unit.now in
+returns-in-Some c = λ i f s at.
+    let u = c.args.self.now.unit.now in
+    let ss = said u in
+    let t = passed ss i in
+    let p = place_of c.args.place in
+    let e = tree_of_expr c.args.setting.now.expression in
     let o = c.args.self.now.ordinal in
-    c.is_place.ensures ∙ ap (λ g. gives_place (option_map setting_of g)) (sym c.in-Some.is)
-    ∙ gives_passed t ss i o c.args.setting.now.name.now (tree_of_expr c.args.setting.now.expression) (option_map setting_of c.given.result) s.passes s.ordinal
-    (c.given.ensures.value s.indexed (pass_before t ss i o s.within s.passes s.ordinal))
+    let inside = here_inside ss i p at in
+    let means : Primary → Meaning = λ q. laws.meaning t false (i + 1) p q in
+    let here = c.stands-here.ensures ∙ ap (λ (x : laws.Tables). laws.stands x.opened p) f.tables ∙ past_here ss i p s.within inside in
+    let gives = c.given.ensures.value means e here (c.past_value-value.ensures i f s.within s.ordinal inside) in
+    c.is_place.ensures ∙ ap (λ g. laws.gives_place (option_map setting_of g)) (sym c.in-Some.is)
+    ∙ ap laws.gives_place (gives ∙ ap (λ n. laws.given c.args.setting.now.name.now n (laws.value t false (i + 1) p e)) s.ordinal ∙ ap (λ q. laws.given c.args.setting.now.name.now (i + 1) (laws.value t false (i + 1) q e)) at)
 
 pub returns-in-None : goal.returns-in-None
-returns-in-None c = λ i f s.
-    let t = tables_of c.args.self.now.passed in
-    let ss = said c.args.self.now.unit.now in
-    let o = c.args.self.now.ordinal in
-    ap (λ g. gives_place (option_map setting_of g)) (sym c.in-None.is)
-    ∙ gives_passed t ss i o c.args.setting.now.name.now (tree_of_expr c.args.setting.now.expression) (option_map setting_of c.given.result) s.passes s.ordinal
-    (c.given.ensures.value s.indexed (pass_before t ss i o s.within s.passes s.ordinal))
+returns-in-None c = λ i f s at.
+    let u = c.args.self.now.unit.now in
+    let ss = said u in
+    let t = passed ss i in
+    let p = place_of c.args.place in
+    let e = tree_of_expr c.args.setting.now.expression in
+    let inside = here_inside ss i p at in
+    let means : Primary → Meaning = λ q. laws.meaning t false (i + 1) p q in
+    let here = c.stands-here.ensures ∙ ap (λ (x : laws.Tables). laws.stands x.opened p) f.tables ∙ past_here ss i p s.within inside in
+    let gives = c.given.ensures.value means e here (c.past_value-value.ensures i f s.within s.ordinal inside) in
+    ap (λ g. laws.gives_place (option_map setting_of g)) (sym c.in-None.is)
+    ∙ ap laws.gives_place (gives ∙ ap (λ n. laws.given c.args.setting.now.name.now n (laws.value t false (i + 1) p e)) s.ordinal ∙ ap (λ q. laws.given c.args.setting.now.name.now (i + 1) (laws.value t false (i + 1) q e)) at)

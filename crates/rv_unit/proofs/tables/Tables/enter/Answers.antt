@@ -14,6 +14,6 @@ returns-clause-indexed c = λ i.
           (count ∙ sym (length-map es extent_section))
           (ap (map extent_section) c.in_ok-push.ensures.items ∙ map-append extent_section es (record { section = c.args.section; bytes = 0; alignment = 1 } ∷ []))
           refl c.in_ok-insert.ensures.updates.0;
-      latest = i.latest;
+      settings = i.settings;
       numbered = i.numbered;
     }

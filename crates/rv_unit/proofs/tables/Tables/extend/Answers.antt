@@ -20,6 +20,6 @@ returns-in-Some-clause-indexed c = λ i.
     let inside : b.current < length b.extents.items = search rules in
     record {
       numbers = λ name. i.numbers name ∙ ap (λ l. place_of_name l name) (sym (same_map extent_section b.extents.items b.current c.index-extent.result.now c.longer.result inside c.index-extent.ensures c.longer.ensures.section));
-      latest = i.latest;
+      settings = i.settings;
       numbered = i.numbered;
     }

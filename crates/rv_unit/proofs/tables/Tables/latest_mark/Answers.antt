@@ -4,7 +4,7 @@ use Rattle.std.specs.Option.{option_map_or, option_copied}
 use Rattle.rv_text_laws.specs.Bytes.{value}
 use Rattle.rv_unit.specs.declared.tables.Mark.{Mark}
 use Rattle.rv_unit.specs.Tables.{marked_of}
-use Rattle.rv_unit.proofs.Numbered.{last_found, given_at}
+use Rattle.rv_unit.proofs.Ordered.{last_found, given_at}
 use Rattle.rv_unit.proofs.tables.Tables.latest_mark.Goals as goal
 
 pub returns-in-Some : goal.returns-in-Some

@@ -1,10 +1,10 @@
-use Rattle.std.proofs.Common.{◌∙◌, ◌==◌, ap, sym, refl, [], nat_lt, filter, option_map}
+use Rattle.std.proofs.Common.{◌∙◌, ◌==◌, ap, sym, [], nat_lt, filter, option_map}
 use Rattle.std.specs.List.{find}
 use Rattle.std.specs.Option.{option_map_or, option_copied}
 use Rattle.rv_text_laws.specs.Bytes.{value}
 use Rattle.rv_unit.specs.declared.tables.Mark.{Mark}
-use Rattle.rv_unit.specs.Tables.{tables_of, marked_of}
-use Rattle.rv_unit.proofs.Numbered.{in_order, after_found, given_at}
+use Rattle.rv_unit.specs.Tables.{marked_of}
+use Rattle.rv_unit.proofs.Ordered.{in_order, after_found, given_at}
 use Rattle.rv_unit.proofs.tables.Tables.marked_after.Goals as goal
 
 pub returns-in-Some : goal.returns-in-Some
@@ -13,9 +13,9 @@ returns-in-Some c = λ i o h.
     let xs = c.args.self.now.marks.items in
     let kept = given_at c.get.result _ (filter (λ (m : Mark). value 10 m.digits.now == n) xs) c.as_slice.result.now c.get.ensures.value (i.numbered c.args.digits.now) (ap (λ o. option_map_or (λ v. v.items) (option_copied o) []) c.in-Some.is ∙ sym c.as_slice.ensures.value) in
     ap (option_map marked_of)
-    (c.first_after.ensures (in_order (tables_of c.args.self.now) o (λ (m : Mark). value 10 m.digits.now == n) xs c.as_slice.result.now h refl kept)
+    (c.first_after.ensures (in_order marked_of (λ m. m.ordinal) (λ (m : Mark). value 10 m.digits.now == n) xs c.as_slice.result.now h.marks_fall kept)
     ∙ ap (find (λ (m : Mark). nat_lt c.args.ordinal m.ordinal)) kept)
-    ∙ after_found c.args.ordinal n xs
+    ∙ after_found marked_of (λ m. nat_lt c.args.ordinal m.ordinal) (λ m. m.number == n) xs
 
 pub returns-in-None : goal.returns-in-None
 returns-in-None c = λ i o h.
@@ -23,4 +23,4 @@ returns-in-None c = λ i o h.
     let xs = c.args.self.now.marks.items in
     let kept = given_at c.get.result _ (filter (λ (m : Mark). value 10 m.digits.now == n) xs) [] c.get.ensures.value (i.numbered c.args.digits.now) (ap (λ o. option_map_or (λ v. v.items) (option_copied o) []) c.in-None.is) in
     ap (λ l. option_map marked_of (find (λ (m : Mark). nat_lt c.args.ordinal m.ordinal) l)) kept
-    ∙ after_found c.args.ordinal n xs
+    ∙ after_found marked_of (λ m. nat_lt c.args.ordinal m.ordinal) (λ m. m.number == n) xs

@@ -6,13 +6,14 @@ use Rattle.rv_unit_laws.proofs.Before.{defined_now, has_place_now}
 use Rattle.rv_unit.specs.Faults.{IsLowest}
 use Rattle.rv_unit.specs.Sections.{section_of}
 use Rattle.rv_unit.specs.Tables.{tables_of}
+use Rattle.rv_unit.specs.Unit.{said}
 use Rattle.rv_unit.proofs.unit.Unit.fault_of_setting.Goals as goal
 
 pub returns : goal.returns
-returns c = λ ss o i f s at.
+returns c = λ o i h f at.
     let t = tables_of c.args.passed.now in
     let name = c.args.setting.now.name.now in
     let e = tree_of_expr c.args.setting.now.expression in
-    let found = c.set_fault.ensures t o name (c.is_defined.ensures i ∙ sym (defined_now t o name s.before)) (c.has_place.ensures i ∙ sym (has_place_now t o name s.before)) 0 _ (c.early_value-value.ensures ss o i f s at) in
-    subst (λ h. IsLowest c.set_fault.result (faults.set_faults t o h name (laws.value (laws.tables ss) false o (laws.here t) e))) c.home.ensures
-    (subst (λ p. IsLowest c.set_fault.result (faults.set_faults t o (section_of c.home.result) name (laws.value (laws.tables ss) false o p e))) c.here.ensures found)
+    let found = c.set_fault.ensures t o name (c.is_defined.ensures i ∙ sym (defined_now t o name h)) (c.has_place.ensures i ∙ sym (has_place_now t o name h)) 0 _ (c.early_value-value.ensures o f at) in
+    subst (λ k. IsLowest c.set_fault.result (faults.set_faults t o k name (laws.value (laws.tables (said c.args.self.now)) false o (laws.here t) e))) c.home.ensures
+    (subst (λ p. IsLowest c.set_fault.result (faults.set_faults t o (section_of c.home.result) name (laws.value (laws.tables (said c.args.self.now)) false o p e))) c.here.ensures found)

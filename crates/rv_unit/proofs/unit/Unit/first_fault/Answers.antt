@@ -1,4 +1,4 @@
-use Rattle.std.proofs.Common.{◌≡◌, ◌+◌, ◌<◌, ◌≤◌, ap, sym, ◌∙◌, rules, length, get_or, arith, Some, None}
+use Rattle.std.proofs.Common.{◌≡◌, ◌+◌, ◌<◌, ◌≤◌, refl, ap, sym, ◌∙◌, rules, length, get_or, arith, Some, None}
 use Rattle.std.proofs.lemmas.List.{length-map, drop_all}
 use Rattle.rv_text.specs.Fault.{number_of}
 use Rattle.rv_statement.specs.Statement.{Spoken}
@@ -8,7 +8,7 @@ use Rattle.rv_unit_laws.specs.Tables as laws
 use Rattle.rv_unit.specs.Tables.{tables_of}
 use Rattle.rv_unit.specs.Unit.{said}
 use Rattle.rv_unit.proofs.Filling.{passed, passed_more}
-use Rattle.rv_unit.proofs.Scoped.{sees, pass_more, pass_before, said_at}
+use Rattle.rv_unit.proofs.Scoped.{pass_more, pass_before, said_at}
 use Rattle.rv_unit.proofs.Checked.{check_more, check_found, check_lowest, next_said}
 use Rattle.rv_unit.proofs.unit.Unit.first_fault.Goals as goal
 
@@ -24,7 +24,7 @@ returns-in-Some c = λ filled.
     let within : i ≤ length ss = omega (arith, length-map xs said_by) in
     let t = tables_of c.loop-statement.passed in
     let is : t ≡ passed ss i = c.loop-statement.invariant.2 in
-    let found = c.fault.ensures ss (i + 1) c.loop-statement.invariant.1 filled.indexed (sees t (tables_of unit.tables) ss i within is filled.tables) (ap (λ n. n + 1) c.loop-statement.invariant.0) in
+    let found = c.fault.ensures (i + 1) c.loop-statement.invariant.1 (pass_before t ss i (i + 1) within is refl) filled (ap (λ n. n + 1) c.loop-statement.invariant.0) in
     sym (check_found ss i (number_of c.in-Some.code) (said_by x) (next_said xs i x inside item)
     (check_lowest ss t i (said_by x) is c.fault.result (Some c.in-Some.code) found c.in-Some.is))
     ∙ c.loop-statement.invariant.3 filled
@@ -51,7 +51,7 @@ loop-statement-preserved c =
       c.in_ok-add-in-None.ensures.indexed c.loop-statement.invariant.1,
       more,
       (λ filled.
-          let found = c.fault.ensures ss (i + 1) c.loop-statement.invariant.1 filled.indexed (sees t (tables_of unit.tables) ss i within is filled.tables) o in
+          let found = c.fault.ensures (i + 1) c.loop-statement.invariant.1 (pass_before t ss i (i + 1) within is refl) filled o in
           sym (check_more ss i (said_by x) next (check_lowest ss t i (said_by x) is c.fault.result None found c.in-None.is) (passed_more ss i (said_by x) below ∙ ap (λ (y : Spoken). laws.after (passed ss i) (i + 1) y.says) at))
           ∙ c.loop-statement.invariant.3 filled),
     )

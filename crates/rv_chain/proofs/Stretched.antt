@@ -1,0 +1,33 @@
+-- The size of an item is that of its stretch of the section.
+
+use Rattle.std.proofs.Common.{◌≡◌, ℕ, Bool, true, false, Option}
+use Rattle.rv_text_laws.specs.Values.{Value}
+use Rattle.rv_statement.specs.Statement.{Statement, Label, Numbered, Instruction, Directs, Expression, Directive, Enters, Opens, Globl, Local, Sets, Aligns_to_power, Aligns_to_bytes, Values, Strings, Zeros, Chooses, Ignored}
+use Rattle.rv_unit_laws.specs.Tables.{asked}
+use Rattle.rv_link.specs.declared.rows.Item.{Item}
+use Rattle.rv_chain.specs.Measured.{IsSize, is_executed, stretch}
+use Rattle.rv_chain.specs.Sized.{IsPadded, IsSizedDirective, IsSized}
+
+padded : (b : Bool) (x : Item) (begins : ℕ) (a : Option ℕ) → IsPadded b (stretch x.offset x.bytes) begins a → IsPadded b x begins a
+padded true x begins a h = h
+padded false x begins a h = h
+
+sized_directive : (v : Expression → Value) (b : Bool) (x : Item) (begins : ℕ) (d : Directive) → IsSizedDirective v b (stretch x.offset x.bytes) begins d → IsSizedDirective v b x begins d
+sized_directive v b x begins (Sets name e) h = h
+sized_directive v b x begins (Values width values) h = h
+sized_directive v b x begins (Strings ended strings) h = h
+sized_directive v b x begins (Zeros count) h = h
+sized_directive v b x begins (Aligns_to_power e) h = (h.0, padded b x begins (asked v (Aligns_to_power e)) h.1)
+sized_directive v b x begins (Aligns_to_bytes e) h = (h.0, padded b x begins (asked v (Aligns_to_bytes e)) h.1)
+sized_directive v b x begins (Enters standard) h = h
+sized_directive v b x begins (Opens name flags kind) h = h
+sized_directive v b x begins (Globl names) h = h
+sized_directive v b x begins (Local names) h = h
+sized_directive v b x begins (Chooses choice) h = h
+sized_directive v b x begins Ignored h = h
+
+pub sized_as : (v : Expression → Value) (b : Bool) (x : Item) (begins : ℕ) (says : Statement) → x.executed ≡ is_executed says → IsSize v b begins x.offset says x.bytes → IsSized v b x begins says
+sized_as v b x begins (Label name) executed h = (h, executed)
+sized_as v b x begins (Numbered number) executed h = (h, executed)
+sized_as v b x begins (Instruction mnemonic operands) executed h = (h, executed)
+sized_as v b x begins (Directs d) executed h = (executed, sized_directive v b x begins d h)

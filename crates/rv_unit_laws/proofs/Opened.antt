@@ -1,0 +1,260 @@
+-- Sections that are open stay open, each at its place.
+
+use Rattle.std.proofs.Common.{◌≡◌, ℕ, zero, suc, ◌<◌, ◌≤◌, Bool, true, false, ◌&&◌, ◌==◌, nat_lt, List, [], ◌∷◌, ◌++◌, length, refl, sym, ap, ◌∙◌, subst, arith, Option, Some, None, get_or}
+use Rattle.std.specs.Prelude.{if◌then◌else◌, slice_get}
+use Rattle.std.specs.List.{find, list_all}
+use Rattle.std.proofs.lemmas.Bool.{ltb-true, lt-ltb}
+use Rattle.std.proofs.lemmas.List.Folds.{list_all-append}
+use Rattle.rv_statement.specs.Statement.{Statement, Expression, Label, Numbered, Instruction, Directs, Spoken, Directive, Enters, Opens, Globl, Local, Sets, Aligns_to_power, Aligns_to_bytes, Values, Strings, Zeros, Chooses, Ignored}
+use Rattle.rv_statement.specs.declared.directive.Choice.{Choice}
+use Rattle.rv_statement.specs.declared.directive.Choice.TheVariants.{Push, Pop}
+use Rattle.rv_text_laws.specs.Values.{Open, Placed, Value}
+use Rattle.rv_unit_laws.specs.Sections.{Section, Opened, place_of_name, most_sections, text_section, entered_at, entered, entered_by, section_at, current_section}
+use Rattle.rv_unit_laws.specs.Tables.{Tables, Place, Labelled, Marked, Setting, at_start, here, stands, value, asked, data_bytes, is_defined, may_set, with_label, with_setting, with_section, with_data, with_choice, after_directive, after, after_all}
+use Rattle.rv_unit_laws.proofs.Entering.{place_inside}
+use Rattle.rv_unit_laws.proofs.Found.{and_both, all_weaker}
+
+-- ---- lists
+
+pub got : {X : Type 0} (xs : List X) (i : ℕ) (d : X) → i < length xs → slice_get xs i ≡ Some (get_or xs i d)
+got [] i d h = absurd (omega arith)
+got (x ∷ xs) zero d h = refl
+got (x ∷ xs) (suc i) d h = got xs i d (omega arith)
+
+pub got_of : {X : Type 0} (xs : List X) (i : ℕ) (d x : X) → slice_get xs i ≡ Some x → get_or xs i d ≡ x
+got_of [] i d x e = absurd (cc)
+got_of (y ∷ ys) zero d x e = cc
+got_of (y ∷ ys) (suc i) d x e = got_of ys i d x e
+
+got_front : {X : Type 0} (xs ys : List X) (i : ℕ) (x : X) → slice_get xs i ≡ Some x → slice_get (xs ++ ys) i ≡ Some x
+got_front [] ys i x e = absurd (cc)
+got_front (y ∷ xs) ys zero x e = e
+got_front (y ∷ xs) ys (suc i) x e = got_front xs ys i x e
+
+got_last : {X : Type 0} (xs : List X) (y : X) → slice_get (xs ++ y ∷ []) (length xs) ≡ Some y
+got_last [] y = refl
+got_last (x ∷ xs) y = got_last xs y
+
+-- ---- the sections that are open
+
+-- the current section is one of those that are open
+abbrev pub IsOpen : Opened → Type 0
+IsOpen o = (x : Section) × (slice_get o.sections o.current ≡ Some x)
+
+-- those that are open stay, each at its place
+abbrev pub Stays : Opened → Opened → Type 0
+Stays o now = (j : ℕ) (x : Section) → slice_get o.sections j ≡ Some x → slice_get now.sections j ≡ Some x
+
+entered_open : (o : Opened) (section : Section) → IsOpen o → IsOpen (entered o section) × Stays o (entered o section)
+entered_open o section is_open = go (place_of_name o.sections section.name) refl
+  where
+    more : Opened
+    more = record { sections = o.sections ++ section ∷ []; current = length o.sections }
+
+    new : (b : Bool) → IsOpen (if b then more else o) × Stays o (if b then more else o)
+    new true = ((section, got_last o.sections section), λ j x h. got_front o.sections (section ∷ []) j x h)
+    new false = (is_open, λ j x h. h)
+
+    go : (found : Option ℕ) → place_of_name o.sections section.name ≡ found → IsOpen (entered_at o section found) × Stays o (entered_at o section found)
+    go (Some i) e =
+        let inside = place_inside o.sections section.name i e in
+        ((get_or o.sections i section, got o.sections i section inside), λ j x h. h)
+    go None e = new (nat_lt (length o.sections) most_sections)
+
+-- the section that a statement enters
+abbrev entered_in : Statement → Option Section
+entered_in (Label name) = None
+entered_in (Numbered number) = None
+entered_in (Instruction mnemonic operands) = None
+entered_in (Directs directive) = entered_by directive
+
+abbrev next_opened : Opened → Option Section → Opened
+next_opened o None = o
+next_opened o (Some section) = entered o section
+
+if_opened : (b : Bool) (t u : Tables) (o : Opened) → t.opened ≡ o → u.opened ≡ o → (if b then t else u).opened ≡ o
+if_opened true t u o e f = e
+if_opened false t u o e f = f
+
+set_opened : (t : Tables) (found : Option Setting) → (with_setting t found).opened ≡ t.opened
+set_opened t None = refl
+set_opened t (Some s) = if_opened (may_set t s.ordinal s.name s.meaning) _ t t.opened refl refl
+
+data_opened : (t : Tables) (bytes : ℕ) (alignment : Option ℕ) → (with_data t bytes alignment).opened ≡ t.opened
+data_opened t bytes alignment = if_opened (current_section t.opened).executable t _ t.opened refl refl
+
+-- data leave the sections as they are
+put_opened : (t : Tables) (k : ℕ) (d : Directive) → (let v = value t false k (here t) in with_data t (data_bytes v (here t).offset d) (asked v d)).opened ≡ t.opened
+put_opened t k d = let v : Expression → Value = value t false k (here t) in data_opened t (data_bytes v (here t).offset d) (asked v d)
+
+choice_opened : (t : Tables) (choice : Choice) → (with_choice t choice).opened ≡ t.opened
+choice_opened t Push = refl
+choice_opened t Pop = refl
+choice_opened t _ = refl
+
+section_opened : (t : Tables) (section : Section) → (with_section t (Some section)).opened ≡ entered t.opened section
+section_opened t section = if_opened (length (entered t.opened section).sections == length t.opened.sections) _ _ (entered t.opened section) refl refl
+
+directive_opened : (t : Tables) (k : ℕ) (d : Directive) → (after_directive t k d).opened ≡ next_opened t.opened (entered_by d)
+directive_opened t k (Enters standard) = section_opened t _
+directive_opened t k (Opens name flags kind) = section_opened t _
+directive_opened t k (Globl names) = refl
+directive_opened t k (Local names) = refl
+directive_opened t k (Sets name e) = set_opened t _
+directive_opened t k (Aligns_to_power exponent) = put_opened t k (Aligns_to_power exponent)
+directive_opened t k (Aligns_to_bytes bytes) = put_opened t k (Aligns_to_bytes bytes)
+directive_opened t k (Values width values) = put_opened t k (Values width values)
+directive_opened t k (Strings ended strings) = put_opened t k (Strings ended strings)
+directive_opened t k (Zeros count) = put_opened t k (Zeros count)
+directive_opened t k (Chooses choice) = choice_opened t choice
+directive_opened t k Ignored = refl
+
+-- the open sections after a statement
+pub after_opened : (t : Tables) (k : ℕ) (says : Statement) → (after t k says).opened ≡ next_opened t.opened (entered_in says)
+after_opened t k (Label name) = if_opened (is_defined t k name) t _ t.opened refl refl
+after_opened t k (Numbered number) = refl
+after_opened t k (Instruction mnemonic operands) = refl
+after_opened t k (Directs directive) = directive_opened t k directive
+
+next_open : (o : Opened) (found : Option Section) → IsOpen o → IsOpen (next_opened o found) × Stays o (next_opened o found)
+next_open o None is_open = (is_open, λ j x h. h)
+next_open o (Some section) is_open = entered_open o section is_open
+
+pub after_open : (t : Tables) (k : ℕ) (says : Statement) → IsOpen t.opened → IsOpen (after t k says).opened × Stays t.opened (after t k says).opened
+after_open t k says is_open =
+    subst (λ o. IsOpen o × Stays t.opened o) (sym (after_opened t k says)) (next_open t.opened (entered_in says) is_open)
+
+pub stays_all : (t : Tables) (k : ℕ) (ss : List Spoken) → IsOpen t.opened → Stays t.opened (after_all t k ss).opened
+stays_all t k [] is_open = λ j x h. h
+stays_all t k (s ∷ ss) is_open =
+    let now = after_open t k s.says is_open in
+    λ j x h. stays_all (after t k s.says) (suc k) ss now.0 j x (now.1 j x h)
+
+-- what stands in a section that is open means the same with the sections that are opened later
+pub stands_same : (t : Tables) (k : ℕ) (ss : List Spoken) (p : Place) → IsOpen t.opened → p.section < length t.opened.sections → stands (after_all t k ss).opened p ≡ stands t.opened p
+stands_same t k ss p is_open inside =
+    let at = got t.opened.sections p.section text_section inside in
+    let later = stays_all t k ss is_open p.section (section_at t.opened p.section) at in
+    ap (λ (s : Section). if s.executable then Open else Placed p.section p.offset) (got_of (after_all t k ss).opened.sections p.section text_section (section_at t.opened p.section) later)
+
+-- the current section is inside
+pub open_inside : (o : Opened) → IsOpen o → o.current < length o.sections
+open_inside o (x, e) = inside o.sections o.current e
+  where
+    inside : (xs : List Section) (i : ℕ) → slice_get xs i ≡ Some x → i < length xs
+    inside [] i e = absurd (cc)
+    inside (y ∷ ys) zero e = omega arith
+    inside (y ∷ ys) (suc i) e = let l : i < length ys = inside ys i e in omega arith
+
+-- ---- labels and numeric labels stand in sections that are open
+
+abbrev pub labels_in : ℕ → List Labelled → Bool
+labels_in n labels = list_all (λ l. nat_lt l.place.section n) labels
+
+abbrev pub marks_in : ℕ → List Marked → Bool
+marks_in n marks = list_all (λ m. nat_lt m.place.section n) marks
+
+pub record AreIn (t : Tables) (n : ℕ) : Type 0 where
+  pub labels : labels_in n t.labels ≡ true
+  pub marks : marks_in n t.marks ≡ true
+
+in_more : (t : Tables) (n k : ℕ) → n ≤ k → AreIn t n → AreIn t k
+in_more t n k more h = record {
+  labels = all_weaker (λ l. nat_lt l.place.section n) (λ l. nat_lt l.place.section k) t.labels (λ l. wider l.place.section) h.labels;
+  marks = all_weaker (λ m. nat_lt m.place.section n) (λ m. nat_lt m.place.section k) t.marks (λ m. wider m.place.section) h.marks;
+}
+  where
+    wider : (a : ℕ) → nat_lt a n ≡ true → nat_lt a k ≡ true
+    wider a e = let l : a < n = ltb-true a n e in lt-ltb a k (omega (arith, more))
+
+in_if : (b : Bool) (t u : Tables) (n : ℕ) → AreIn t n → AreIn u n → AreIn (if b then t else u) n
+in_if true t u n h k = h
+in_if false t u n h k = k
+
+in_label : (t : Tables) (o : ℕ) (name : List ℕ) (n : ℕ) → t.opened.current < n → AreIn t n → AreIn (with_label t o name) n
+in_label t o name n inside h =
+    in_if (is_defined t o name) t (record t { labels = t.labels ++ record { name = name; ordinal = o; place = here t } ∷ [] }) n h (record {
+      labels = list_all-append (λ (l : Labelled). nat_lt l.place.section n) t.labels (record { name = name; ordinal = o; place = here t } ∷ [])
+          ∙ ap (λ b. b && (nat_lt t.opened.current n && true)) h.labels ∙ ap (λ b. b && true) (lt-ltb t.opened.current n inside);
+      marks = h.marks;
+    })
+
+in_set : (t : Tables) (s : Option Setting) (n : ℕ) → AreIn t n → AreIn (with_setting t s) n
+in_set t None n h = h
+in_set t (Some s) n h = in_if (may_set t s.ordinal s.name s.meaning) (record t { settings = s ∷ t.settings }) t n (record { labels = h.labels; marks = h.marks }) h
+
+in_data : (t : Tables) (bytes : ℕ) (alignment : Option ℕ) (n : ℕ) → AreIn t n → AreIn (with_data t bytes alignment) n
+in_data t bytes alignment n h = in_if (current_section t.opened).executable t _ n h (record { labels = h.labels; marks = h.marks })
+
+in_some : (t : Tables) (o : ℕ) (d : Directive) (n : ℕ) → AreIn t n → AreIn (let v = value t false o (here t) in with_data t (data_bytes v (here t).offset d) (asked v d)) n
+in_some t o d n h = let v : Expression → Value = value t false o (here t) in in_data t (data_bytes v (here t).offset d) (asked v d) n h
+
+in_section : (t : Tables) (section : Option Section) (n : ℕ) → AreIn t n → AreIn (with_section t section) n
+in_section t None n h = h
+in_section t (Some section) n h = in_if (length (entered t.opened section).sections == length t.opened.sections) _ _ n (record { labels = h.labels; marks = h.marks }) (record { labels = h.labels; marks = h.marks })
+
+in_choice : (t : Tables) (choice : Choice) (n : ℕ) → AreIn t n → AreIn (with_choice t choice) n
+in_choice t Push n h = record { labels = h.labels; marks = h.marks }
+in_choice t Pop n h = record { labels = h.labels; marks = h.marks }
+in_choice t _ n h = h
+
+in_directive : (t : Tables) (o : ℕ) (d : Directive) (n : ℕ) → AreIn t n → AreIn (after_directive t o d) n
+in_directive t o (Enters standard) n h = in_section t (entered_by (Enters standard)) n h
+in_directive t o (Opens name flags kind) n h = in_section t (entered_by (Opens name flags kind)) n h
+in_directive t o (Globl names) n h = h
+in_directive t o (Local names) n h = h
+in_directive t o (Sets name e) n h = in_set t _ n h
+in_directive t o (Aligns_to_power e) n h = in_some t o (Aligns_to_power e) n h
+in_directive t o (Aligns_to_bytes e) n h = in_some t o (Aligns_to_bytes e) n h
+in_directive t o (Values width values) n h = in_some t o (Values width values) n h
+in_directive t o (Strings ended strings) n h = in_some t o (Strings ended strings) n h
+in_directive t o (Zeros count) n h = in_some t o (Zeros count) n h
+in_directive t o (Chooses choice) n h = in_choice t choice n h
+in_directive t o Ignored n h = h
+
+in_after : (t : Tables) (o : ℕ) (says : Statement) (n : ℕ) → t.opened.current < n → AreIn t n → AreIn (after t o says) n
+in_after t o (Label name) n inside h = in_label t o name n inside h
+in_after t o (Numbered number) n inside h = record { labels = h.labels; marks = ap (λ b. b && marks_in n t.marks) (lt-ltb t.opened.current n inside) ∙ h.marks }
+in_after t o (Instruction mnemonic operands) n inside h = h
+in_after t o (Directs d) n inside h = in_directive t o d n h
+
+-- the sections get no fewer
+no_fewer : (o now : Opened) → Stays o now → length o.sections ≤ length now.sections
+no_fewer o now stays = by o.sections now.sections stays
+  where
+    by : (xs ys : List Section) → ((j : ℕ) (x : Section) → slice_get xs j ≡ Some x → slice_get ys j ≡ Some x) → length xs ≤ length ys
+    by [] ys h = omega arith
+    by (x ∷ xs) [] h = absurd (let e : ◌≡◌ {A = Option Section} None (Some x) = h 0 x refl in cc)
+    by (x ∷ xs) (y ∷ ys) h = let l : length xs ≤ length ys = by xs ys (λ j z e. h (suc j) z e) in omega (arith, l)
+
+-- a source's sections, with what stands in them
+pub record IsStood (t : Tables) : Type 0 where
+  pub opened : IsOpen t.opened
+  pub inside : AreIn t (length t.opened.sections)
+
+stood_after : (t : Tables) (o : ℕ) (says : Statement) → IsStood t → IsStood (after t o says)
+stood_after t o says h =
+    let now = after_open t o says h.opened in
+    record {
+      opened = now.0;
+      inside = in_more (after t o says) (length t.opened.sections) (length (after t o says).opened.sections) (no_fewer t.opened (after t o says).opened now.1)
+          (in_after t o says (length t.opened.sections) (open_inside t.opened h.opened) h.inside);
+    }
+
+pub stood_all : (t : Tables) (o : ℕ) (ss : List Spoken) → IsStood t → IsStood (after_all t o ss)
+stood_all t o [] h = h
+stood_all t o (s ∷ ss) h = stood_all (after t o s.says) (suc o) ss (stood_after t o s.says h)
+
+pub stood_start : IsStood at_start
+stood_start = record { opened = (text_section, refl); inside = record { labels = refl; marks = refl } }
+
+-- what is found stands inside
+pub find_passes : {X : Type 0} (p q : X → Bool) (xs : List X) (x : X) → list_all q xs ≡ true → find p xs ≡ Some x → q x ≡ true
+find_passes p q [] x h e = absurd (cc)
+find_passes p q (y ∷ ys) x h e =
+    let both = and_both (q y) (list_all q ys) h in
+    by (p y) both.0 (λ f. find_passes p q ys x both.1 f) e
+  where
+    by : (b : Bool) → q y ≡ true → (find p ys ≡ Some x → q x ≡ true) → (if b then Some y else find p ys) ≡ Some x → q x ≡ true
+    by true now later e = let same : y ≡ x = cc in ap q (sym same) ∙ now
+    by false now later e = later e
