@@ -1,6 +1,6 @@
 -- The parts of a source that is placed make the linked program of the source.
 
-use Rattle.std.proofs.Common.{◌≡◌, ℕ, suc, ◌+◌, ◌*◌, ◌/◌, ◌-◌, ◌%◌, ◌^◌, ◌<◌, ◌≤◌, Bool, true, false, List, [], ◌∷◌, ◌++◌, length, map, max, refl, sym, ap, ◌∙◌, subst, arith, None, Some}
+use Rattle.std.proofs.Common.{◌≡◌, ℕ, suc, ◌+◌, ◌-◌, ◌%◌, ◌^◌, ◌<◌, ◌≤◌, Bool, true, false, List, [], ◌∷◌, length, map, max, refl, sym, ap, ◌∙◌, subst, arith, None, Some}
 use Rattle.std.specs.Prelude.{codes, if◌then◌else◌, slice_index_or, slice_index}
 use Rattle.std.specs.Global.{Vec}
 use Rattle.std.proofs.lemmas.List.{length-map, length-replicate}
@@ -8,7 +8,7 @@ use Rattle.rv_statement.specs.declared.statement.Statement.{Statement}
 use Rattle.rv_statement.specs.Statement.{Spoken}
 use Rattle.rv_statement.specs.View.{said_by}
 use Rattle.rv_unit_laws.specs.Sections.{Section, goes_to_text}
-use Rattle.rv_unit_laws.specs.Tables.{Tables, tables, aligned, at_start}
+use Rattle.rv_unit_laws.specs.Tables.{Tables, tables, aligned}
 use Rattle.rv_unit_laws.specs.Faults.{first_fault}
 use Rattle.rv_unit.specs.declared.unit.Unit.{Unit as SourceUnit}
 use Rattle.rv_unit.specs.Sections.{extent_section}

@@ -1,6 +1,6 @@
 -- One source as a program.
 
-use Rattle.std.specs.Prelude.{◌≡◌, ℕ, ◌%◌, Bool, true, false, List, [], ◌∷◌, ◌++◌, filter, map, not, Some, codes}
+use Rattle.std.specs.Prelude.{◌≡◌, ℕ, ◌%◌, true, false, List, [], ◌++◌, filter, map, not, Some, codes}
 use Rattle.std.specs.Global.{Vec}
 use Rattle.rv_statement.specs.Statement.{Spoken}
 use Rattle.rv_unit_laws.specs.Tables.{tables, at_start}

@@ -1,6 +1,6 @@
 -- The names without an address, as the code finds them.
 
-use Rattle.std.specs.Prelude.{◌≡◌, ℕ, suc, ◌+◌, ◌==◌, ◌&&◌, ◌||◌, Bool, true, false, List, [], ◌∷◌, flat_map, filter, Option, Some, None, option_map, slice_index_or, if◌then◌else◌}
+use Rattle.std.specs.Prelude.{◌≡◌, ℕ, suc, ◌+◌, ◌==◌, ◌&&◌, ◌||◌, Bool, true, false, List, [], ◌∷◌, flat_map, filter, Option, Some, None, option_map, slice_index_or}
 use Rattle.std.specs.Borrow.{Bor}
 use Rattle.rv_text_laws.specs.Expression.{Primary}
 use Rattle.rv_statement.specs.Statement.{Spoken, Expression}

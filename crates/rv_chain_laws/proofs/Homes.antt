@@ -1,16 +1,12 @@
 -- Each statement that has a row stands in one of its file's sections, so what holds in every section holds of all.
 
-use Rattle.std.proofs.Common.{◌≡◌, ℕ, zero, suc, ◌+◌, ◌<◌, Bool, true, false, List, [], ◌∷◌, ◌++◌, length, refl, sym, ap, ◌∙◌, subst, arith, Option, Some, None, get_or, drop}
+use Rattle.std.proofs.Common.{◌≡◌, ℕ, zero, suc, ◌+◌, Bool, true, false, List, [], ◌∷◌, ◌++◌, refl, sym, ap, ◌∙◌, subst, arith, Option, Some, None, drop}
 use Rattle.std.proofs.lemmas.Bool.{and_parts, eqb-true, eq-eqb}
-use Rattle.std.specs.Prelude.{◌&&◌, ◌==◌, if◌then◌else◌, filter, slice_get, option_map, nat_lt}
+use Rattle.std.specs.Prelude.{◌&&◌, ◌==◌, if◌then◌else◌, filter, slice_get}
 use Rattle.std.specs.List.{AllByRecursion}
-use Rattle.std.specs.Str.{bytes_eq}
-use Rattle.rv_statement.specs.declared.directive.Choice.{Choice}
-use Rattle.rv_statement.specs.declared.directive.Choice.TheVariants.{Push, Pop}
-use Rattle.rv_text_laws.specs.Values.{Value}
-use Rattle.rv_statement.specs.Statement.{Statement, Expression, Label, Numbered, Instruction, Directs, Spoken, Directive, Enters, Opens, Globl, Local, Sets, Aligns_to_power, Aligns_to_bytes, Values, Strings, Zeros, Chooses, Ignored}
-use Rattle.rv_unit_laws.specs.Sections.{Section, Opened, place_of_name, most_sections, text_section, entered_at, entered, entered_by, section_at, current_section}
-use Rattle.rv_unit_laws.specs.Tables.{Tables, Setting, at_start, here, value, asked, data_bytes, is_defined, may_set, with_setting, with_section, with_data, with_choice, after_directive, after, after_all, tables, stood}
+use Rattle.rv_statement.specs.Statement.{Statement, Label, Numbered, Instruction, Directs, Spoken, Enters, Opens, Globl, Local, Sets, Aligns_to_power, Aligns_to_bytes, Values, Strings, Zeros, Chooses, Ignored}
+use Rattle.rv_unit_laws.specs.Sections.{Section, text_section, section_at}
+use Rattle.rv_unit_laws.specs.Tables.{Tables, at_start, after, after_all, tables, stood}
 use Rattle.rv_unit_laws.proofs.Opened.{got_of, IsOpen, after_opened, after_open, stays_all}
 use Rattle.rv_map.specs.declared.map.Row.{Row}
 use Rattle.rv_chain_laws.specs.Stated.{Stated, stated_from, stated_of, stated, has_row}

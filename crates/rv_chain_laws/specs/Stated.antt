@@ -1,7 +1,7 @@
 -- The statements of the sources where they stand, and which of them have a row in the map (gABI, "Sections"; GNU as,
 -- "Pseudo Ops").
 
-use Rattle.std.specs.Prelude.{ℕ, suc, Bool, true, false, ◌&&◌, List, [], ◌∷◌, ◌++◌, Option, Some, None}
+use Rattle.std.specs.Prelude.{ℕ, suc, Bool, true, false, ◌&&◌, List, [], ◌∷◌, ◌++◌}
 use Rattle.rv_statement.specs.Statement.{Statement, Label, Numbered, Instruction, Directs, Spoken, Directive, Sets, Aligns_to_power, Aligns_to_bytes, Values, Strings, Zeros}
 use Rattle.rv_unit_laws.specs.Sections.{Section, section_at}
 use Rattle.rv_unit_laws.specs.Tables.{Tables, at_start, after, here, stood, value, given, gives_place}

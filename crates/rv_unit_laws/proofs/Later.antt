@@ -1,16 +1,16 @@
 -- What comes later changes nothing of what was set or marked before.
 
-use Rattle.std.proofs.Common.{◌≡◌, ℕ, suc, ◌+◌, ◌<◌, Bool, true, false, cond, ◌&&◌, ◌==◌, nat_lt, List, [], ◌∷◌, ◌++◌, length, refl, sym, ap, ◌∙◌, arith, Option, Some, None}
+use Rattle.std.proofs.Common.{◌≡◌, ℕ, suc, ◌<◌, Bool, true, false, cond, ◌&&◌, ◌==◌, nat_lt, List, [], ◌∷◌, ◌++◌, length, refl, sym, ap, ◌∙◌, arith, Option, Some, None}
 use Rattle.std.specs.Prelude.{if◌then◌else◌}
 use Rattle.std.specs.List.{find}
 use Rattle.std.proofs.lemmas.Bool.{ltb-true, lt-ltb}
-use Rattle.rv_text_laws.specs.Values.{Meaning, Known, Placed, Open, Refused, Value, Constant, Symbolic, Difference, Faulty, add}
-use Rattle.rv_text_laws.specs.Expression.{Primary, Literal, Symbol, Here, Reference}
+use Rattle.rv_text_laws.specs.Values.{Known, Placed, Open, Refused, Value, Constant, Symbolic, Difference, Faulty, add}
+use Rattle.rv_text_laws.specs.Expression.{Literal, Symbol, Here, Reference}
 use Rattle.rv_statement.specs.Statement.{Statement, Label, Numbered, Instruction, Directs, Spoken, Directive, Enters, Opens, Globl, Local, Sets, Aligns_to_power, Aligns_to_bytes, Values, Strings, Zeros, Chooses, Ignored}
 use Rattle.rv_statement.specs.declared.directive.Choice.{Choice}
 use Rattle.rv_statement.specs.declared.directive.Choice.TheVariants.{Rvc, Norvc, Relax, Norelax, Push, Pop, Nopic}
-use Rattle.rv_unit_laws.specs.Sections.{Section, Opened, current_section, entered, entered_by}
-use Rattle.rv_unit_laws.specs.Tables.{Tables, Labelled, Marked, Setting, here, after, after_directive, after_all, value, given, with_label, with_mark, with_setting, with_section, with_data, with_choice, opened_more, is_defined, may_set, data_bytes, asked}
+use Rattle.rv_unit_laws.specs.Sections.{Section, current_section, entered, entered_by}
+use Rattle.rv_unit_laws.specs.Tables.{Tables, Labelled, Marked, Setting, here, after, after_directive, after_all, value, given, with_label, with_mark, with_setting, with_section, with_data, with_choice, is_defined, may_set, data_bytes, asked}
 use Rattle.rv_unit_laws.proofs.Found.{find_same}
 
 -- of what stands before the ordinal, a search finds the same in both

@@ -1,14 +1,14 @@
 -- The faults of labels and directives, and of instructions outside code; the first of them (GNU as, "Pseudo Ops",
 -- for what directives take).
 
-use Rattle.std.specs.Prelude.{ℕ, zero, suc, ◌+◌, ◌*◌, ◌^◌, Bool, true, false, not, ◌&&◌, ◌||◌, ◌==◌, nat_lt, nat_le, min, List, [], ◌∷◌, ◌++◌, length, flat_map, Option, Some, None, is_some, if◌then◌else◌}
-use Rattle.rv_text_laws.specs.Values.{Meaning, Placed, Value, Constant, Symbolic, Difference, Faulty}
-use Rattle.rv_statement.specs.Statement.{Statement, Label, Numbered, Instruction, Directs, Spoken, Expression, Directive, Enters, Opens, Globl, Local, Sets, Aligns_to_power, Aligns_to_bytes, Values, Strings, Zeros, Chooses, Ignored}
+use Rattle.std.specs.Prelude.{ℕ, suc, ◌+◌, ◌*◌, ◌^◌, Bool, true, false, not, ◌&&◌, ◌||◌, ◌==◌, nat_lt, nat_le, min, List, [], ◌∷◌, ◌++◌, length, flat_map, Option, Some, None, is_some, if◌then◌else◌}
+use Rattle.rv_text_laws.specs.Values.{Value, Constant, Symbolic, Difference, Faulty}
+use Rattle.rv_statement.specs.Statement.{Statement, Label, Numbered, Instruction, Directs, Spoken, Directive, Enters, Opens, Globl, Local, Sets, Aligns_to_power, Aligns_to_bytes, Values, Strings, Zeros, Chooses, Ignored}
 use Rattle.rv_statement.specs.declared.directive.Choice.{Choice}
 use Rattle.rv_statement.specs.declared.directive.Choice.TheVariants.{Pop}
 use Rattle.rv_text_laws.specs.Expression.{Here}
-use Rattle.rv_unit_laws.specs.Sections.{Section, Opened, section_at, current_section, place_of_name, most_sections, entered_by}
-use Rattle.rv_unit_laws.specs.Tables.{Tables, Place, at_start, after, tables, here, stood, value, has_place, is_defined, is_power, greatest_alignment, longest_section, asked, counted, padding, string_bytes}
+use Rattle.rv_unit_laws.specs.Sections.{Section, current_section, place_of_name, most_sections, entered_by}
+use Rattle.rv_unit_laws.specs.Tables.{Tables, at_start, after, tables, here, value, has_place, is_defined, is_power, greatest_alignment, longest_section, asked, counted, padding, string_bytes}
 
 -- the code of a fault where it is one
 abbrev pub faulty_if : Bool → ℕ → List ℕ

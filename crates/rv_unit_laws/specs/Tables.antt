@@ -5,12 +5,12 @@ use Rattle.std.specs.Prelude.{ℕ, zero, suc, ◌+◌, ◌-◌, ◌*◌, ◌/◌
 use Rattle.std.specs.List.{find, list_any}
 use Rattle.std.specs.Str.{bytes_eq}
 use Rattle.rv_text_laws.specs.Bytes.{value as digits_value}
-use Rattle.rv_text_laws.specs.Expression.{Primary, Literal, Symbol, Here, Reference, Tree}
-use Rattle.rv_text_laws.specs.Values.{Meaning, Known, Placed, Open, Refused, Value, Constant, Symbolic, Difference, Faulty, add, value_of}
+use Rattle.rv_text_laws.specs.Expression.{Primary, Literal, Symbol, Here, Reference}
+use Rattle.rv_text_laws.specs.Values.{Meaning, Known, Placed, Open, Refused, Value, Constant, Symbolic, add, value_of}
 use Rattle.rv_statement.specs.Statement.{Statement, Label, Numbered, Instruction, Directs, Spoken, Expression, Directive, Enters, Opens, Globl, Local, Sets, Aligns_to_power, Aligns_to_bytes, Values, Strings, Zeros, Chooses, Ignored}
 use Rattle.rv_statement.specs.declared.directive.Choice.{Choice}
 use Rattle.rv_statement.specs.declared.directive.Choice.TheVariants.{Push, Pop}
-use Rattle.rv_unit_laws.specs.Sections.{Section, Opened, at_first, entered, entered_by, place_of_name, most_sections, section_at, current_section}
+use Rattle.rv_unit_laws.specs.Sections.{Section, Opened, at_first, entered, entered_by, section_at, current_section}
 
 -- where something stands: its section, by its place in the source, and the bytes of data before it there
 pub record Place : Type 0 where

@@ -1,4 +1,4 @@
-use Rattle.std.proofs.Common.{◌≡◌, ℕ, ◌<◌, ◌^◌, rules, [], ◌∷◌, map, sym, ap, subst, ◌∙◌}
+use Rattle.std.proofs.Common.{◌<◌, ◌^◌, rules, [], ◌∷◌, map, sym, ap, subst, ◌∙◌}
 use Rattle.rv_image.specs.Linked.{linked_of}
 use Rattle.rv_image.specs.Executable.{linked_image}
 use Rattle.rv_image.specs.ImageOf.{ImageOf}

@@ -1,12 +1,6 @@
-use Rattle.std.proofs.Common.{◌≡◌, ℕ, List, length, map, ap, sym, ◌∙◌}
-use Rattle.std.specs.Global.{Vec}
-use Rattle.std.proofs.lemmas.List.{length-map}
-use Rattle.rv_unit_laws.specs.Tables.{tables}
-use Rattle.rv_unit.specs.Unit.{said}
+use Rattle.std.proofs.Common.{map, ap}
 use Rattle.rv_map.specs.Map.{global_of, map_of as shown_map}
-use Rattle.rv_link.specs.Rows.{rows_from}
-use Rattle.rv_chain.specs.Linking.{map_from}
-use Rattle.rv_chain.proofs.Linking.{IsWhole, made, figures_count}
+use Rattle.rv_chain.proofs.Linking.{made, figures_count}
 use Rattle.rv_chain.proofs.link.link.Goals as goal
 
 pub region-requires-2 : goal.region-requires-2

@@ -1,4 +1,4 @@
-use Rattle.std.proofs.Common.{◌≡◌, ℕ, ◌+◌, Some, None, [], ◌∷◌, sym, ap, ◌∙◌}
+use Rattle.std.proofs.Common.{◌≡◌, ◌+◌, Some, [], ◌∷◌, sym, ap, ◌∙◌}
 use Rattle.rv_text.specs.Nodes.{symbol_of}
 use Rattle.rv_unit_laws.specs.Tables.{tables, home}
 use Rattle.rv_unit.specs.Unit.{said, home_of}

@@ -1,4 +1,4 @@
-use Rattle.std.proofs.Common.{◌≡◌, ℕ, ◌+◌, ◌-◌, ◌<◌, length, false, refl, sym, arith}
+use Rattle.std.proofs.Common.{◌≡◌, ◌+◌, ◌-◌, false, refl, sym, arith}
 use Rattle.rv_chain.proofs.FirstNames.{shown_none, shown_past, shown_nth}
 use Rattle.rv_chain.proofs.undefined.is_shown.Goals as goal
 

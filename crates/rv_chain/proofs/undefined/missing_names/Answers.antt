@@ -1,4 +1,4 @@
-use Rattle.std.proofs.Common.{◌≡◌, ℕ, ◌+◌, ◌<◌, ◌≤◌, ◌==◌, List, length, drop, map, get_or, refl, sym, ap, subst, ◌∙◌, Some, None}
+use Rattle.std.proofs.Common.{◌≡◌, ℕ, ◌+◌, ◌<◌, ◌≤◌, ◌==◌, length, drop, map, get_or, refl, sym, ap, subst, ◌∙◌, Some, None}
 use Rattle.std.specs.Prelude.{slice_index_or, if◌then◌else◌}
 use Rattle.std.specs.List.{slice_get}
 use Rattle.std.proofs.lemmas.List.{length-map}
@@ -9,9 +9,9 @@ use Rattle.rv_link_laws.specs.Items.{AreItems}
 use Rattle.rv_unit.specs.declared.place.Place.{Place}
 use Rattle.rv_unit.specs.Unit.{said, IsFilled}
 use Rattle.rv_unit.specs.Sections.{extent_section, place_of}
-use Rattle.rv_chain.specs.Undefined.{Sees, missing_at, else_name, found_in}
+use Rattle.rv_chain.specs.Undefined.{missing_at, else_name, found_in}
 use Rattle.rv_chain.proofs.FirstNames.{FirstSoFar, first_begins, first_more, first_all, kept_there, taken_back, section_inside}
-use Rattle.rv_chain.proofs.Standing.{StandsAt, stands_at, places_count, got_inside, stated_at, stated_none}
+use Rattle.rv_chain.proofs.Standing.{StandsAt, stands_at, places_count, stated_at, stated_none}
 use Rattle.rv_chain.proofs.undefined.missing_names.Goals as goal
 
 pub loop-index-init : goal.loop-index-init

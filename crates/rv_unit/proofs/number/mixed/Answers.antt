@@ -1,5 +1,5 @@
 -- Digit by digit, the last one first.
-use Rattle.std.proofs.Common.{◌≡◌, ◌+◌, ◌/◌, ◌%◌, ◌<◌, length, rules, arith, sym, ap, ◌∙◌}
+use Rattle.std.proofs.Common.{◌≡◌, ◌+◌, ◌/◌, ◌<◌, length, rules, arith, sym, ap, ◌∙◌}
 use Rattle.rv_text_laws.specs.Bytes.{value}
 use Rattle.rv_unit.specs.Mixed.{basis, mix}
 use Rattle.rv_unit.proofs.Digits.{mix_more, mix_first, mix_last, some_value, empty_value}
