@@ -1,8 +1,8 @@
 //! Where the sections of a program start.
 
-ghost use Rattle.std.specs.Prelude.{◌≡◌, ◌+◌, ◌-◌, ◌^◌, ◌<◌, ◌≤◌, length, IfOk, IfSome};
+ghost use Rattle.std.specs.Prelude.{◌≡◌, ◌+◌, ◌-◌, ◌^◌, ◌<◌, ◌≤◌, length, IfOk, IfErr, IfSome, IfNone};
 ghost use Rattle.rv_unit_laws.specs.Tables.{aligned};
-ghost use Rattle.rv_link.specs.Layout.{started, end_of, greatest, IsLayout};
+ghost use Rattle.rv_link.specs.Layout.{started, end_of, end_behind, greatest, IsLayout, IsRefused};
 
 use crate::piece::{Destination, Piece};
 use rv_image::STACK_START;
@@ -33,6 +33,10 @@ pub enum LayoutFault {
 }
 
 impl From<AllocError> for LayoutFault {
+    ghost use Rattle.rv_link.specs.declared.layout.LayoutFault.TheVariants.{OutOfMemory};
+
+    ghost from_gives = { λ _ e. e ≡ OutOfMemory };
+
     fn from(_: AllocError) -> Self {
         LayoutFault::OutOfMemory
     }
@@ -51,7 +55,8 @@ pub(crate) fn next_multiple(alignment: u32, address: u64) -> u64
 /// Where a section begins and ends that comes behind an end; `None` where it passes the end of memory.
 fn behind(piece: Piece, stop: u64) -> Option<(u32, u64)>
     requires { stop ≤ 0x3ff0_0000 }
-    ensures { IfSome result (λ found. (found.0 ≡ aligned piece.alignment stop) × (found.1 ≡ aligned piece.alignment stop + piece.bytes) × (found.1 ≤ 0x3ff0_0000)) }
+    ensures found { IfSome result (λ found. (found.0 ≡ aligned piece.alignment stop) × (found.1 ≡ aligned piece.alignment stop + piece.bytes) × (found.1 ≤ 0x3ff0_0000)) }
+    ensures far { IfNone result (0x3ff0_0000 < end_behind piece stop) }
 {
     let start = next_multiple(piece.alignment, stop);
     if start > STACK_START {
@@ -69,7 +74,8 @@ fn behind(piece: Piece, stop: u64) -> Option<(u32, u64)>
 fn spread(starts: &mut [u32], pieces: &[Piece], destination: Destination, place: u64) -> Option<u64>
     requires each { length starts.old ≡ length pieces.now }
     requires low { place ≤ 0x3ff0_0000 }
-    ensures { IfSome result (λ end. (starts.new ≡ started destination place starts.old pieces.now) × (end ≡ end_of destination place pieces.now) × (end ≤ 0x3ff0_0000)) }
+    ensures placed { IfSome result (λ end. (starts.new ≡ started destination place starts.old pieces.now) × (end ≡ end_of destination place pieces.now) × (end ≤ 0x3ff0_0000)) }
+    ensures far { IfNone result (0x3ff0_0000 < end_of destination place pieces.now) }
 {
     let mut stop = place;
     for i in 0..pieces.len() {
@@ -106,7 +112,8 @@ fn region(
     start: u64,
 ) -> Result<Region, LayoutFault>
     requires { length starts.old ≡ length pieces.now }
-    ensures { IfOk result (λ r. (r.start ≡ start) × (starts.new ≡ started destination start starts.old pieces.now) × (r.end ≡ end_of destination start pieces.now) × (r.end ≤ 0x3ff0_0000)) }
+    ensures placed { IfOk result (λ r. (r.start ≡ start) × (starts.new ≡ started destination start starts.old pieces.now) × (r.end ≡ end_of destination start pieces.now) × (r.end ≤ 0x3ff0_0000)) }
+    ensures far { IfErr result (λ _. 0x3ff0_0000 < end_of destination start pieces.now) }
 {
     if start > STACK_START {
         return Err(LayoutFault::TooLarge);
@@ -119,7 +126,8 @@ fn region(
 
 /// Places the sections of a program whose text starts at an address.
 pub fn lay_out(alloc: Global, pieces: &[Piece], text_start: u64) -> Result<Layout, LayoutFault>
-    ensures { IfOk result (IsLayout text_start pieces.now) }
+    ensures layout { IfOk result (IsLayout text_start pieces.now) }
+    ensures refuses { IfErr result (IsRefused text_start pieces.now) }
 {
     let mut starts = vec![in alloc; 0; pieces.len()]?;
     let places = starts.as_mut_slice();

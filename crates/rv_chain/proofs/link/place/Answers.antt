@@ -18,7 +18,7 @@ invariant_of-result c =
     subst (λ e. AreAllPieces e c.in_ok-items.ends.items pieces) c.sections.ensures
     (subst (λ e. AreAllPieces c.sections.result.now e pieces) c.as_slice-2.ensures.value c.in_ok-pieces.ensures) in
     let are : ArePieces (tables (said u)) last 0 sections pieces = pieces_of u c.in_ok-items.ends.items pieces c.requires all in
-    let lies : IsLayout c.args.start pieces c.in-Ok.layout = subst (λ x. IsLayout c.args.start x c.in-Ok.layout) c.as_slice-3.ensures.value c.in-Ok.ensures in
+    let lies : IsLayout c.args.start pieces c.in-Ok.layout = subst (λ x. IsLayout c.args.start x c.in-Ok.layout) c.as_slice-3.ensures.value c.in-Ok.ensures.layout in
     record {
       each = starts_count c.args.start pieces c.in-Ok.layout lies;
       low = data_low (tables (said u)) last sections c.args.start pieces c.in-Ok.layout are lies;
@@ -36,7 +36,7 @@ returns-clause-stands c =
       items = c.in_ok-items.ensures.items;
       sized = c.in_ok-items.ensures.sized;
       sections = pieces_of u c.in_ok-items.ends.items pieces c.requires all;
-      lies = subst (λ x. IsLayout c.args.start x c.in-Ok.layout) c.as_slice-3.ensures.value c.in-Ok.ensures;
+      lies = subst (λ x. IsLayout c.args.start x c.in-Ok.layout) c.as_slice-3.ensures.value c.in-Ok.ensures.layout;
     }
 
 pub returns-clause-pieces : goal.returns-clause-pieces
