@@ -1,6 +1,6 @@
 //! The names that the linker gives, and where a run begins.
 
-ghost use Rattle.std.specs.Prelude.{◌≡◌, ◌+◌, ◌++◌, ◌%◌, ◌<◌, ◌≤◌, ◌^◌, ℕ, List, [], ◌∷◌, Bool, not, true, length, map, filter, codes, Some, None, IfOk, OnOk, IfSome};
+ghost use Rattle.std.specs.Prelude.{◌≡◌, ◌+◌, ◌++◌, ◌%◌, ◌<◌, ◌≤◌, ◌^◌, ℕ, List, [], ◌∷◌, Bool, not, true, length, map, filter, codes, Some, None, IfOk, OnOk, IfSome, IfNone};
 ghost use Rattle.rv_statement.specs.View.{said_by};
 ghost use Rattle.rv_unit_laws.specs.Tables.{Tables};
 ghost use Rattle.rv_map.specs.Map.{global_of as shown_global};
@@ -64,6 +64,7 @@ pub fn entry(
     ensures start { IfSome result (λ a. entry_from starts.now (map said_by statements.now) items.now ≡ Some a) }
     ensures even { IfSome result (λ a. a % 2 ≡ 0) }
     ensures global { IfSome result (λ a. (test : List ℕ → Bool) → Has (globals.now).set test → test (codes "_start") ≡ true) }
+    ensures none { IfNone result ((test : List ℕ → Bool) → Has (globals.now).set test → test (codes "_start") ≡ true → IfSome (entry_from starts.now (map said_by statements.now) items.now) (λ a. a % 2 ≡ 1)) }
 {
     if !globals.has(b"_start") {
         return None;

@@ -1,9 +1,11 @@
-use Rattle.std.proofs.Common.{rules, ◌≡◌, ◌<◌, ◌+◌, ◌∷◌, ◌∙◌, Bool, true, false, length, map, drop, get_or, sym, ap, refl}
-use Rattle.std.specs.Prelude.{◌&&◌, Some}
+use Rattle.std.proofs.Common.{rules, arith, ℕ, List, ◌%◌, ◌≡◌, ◌<◌, ◌+◌, ◌∷◌, ◌∙◌, Bool, true, false, length, map, drop, get_or, sym, ap, refl}
+use Rattle.std.specs.Prelude.{◌&&◌, Option, Some, IfSome}
 use Rattle.std.proofs.lemmas.List.{drop_more}
 use Rattle.rv_statement.specs.View.{said_by}
+use Rattle.rv_statement.specs.declared.statement.Statement.{Statement}
 use Rattle.rv_chain_laws.specs.Resolves.{is_start}
 use Rattle.rv_link.specs.declared.rows.Item.{Item}
+use Rattle.rv_link.specs.Rows.{address_of}
 use Rattle.rv_link.specs.Definitions.{entry_from}
 use Rattle.rv_link.proofs.Placed.{left_map}
 use Rattle.rv_link.proofs.Named.{entry_here}
@@ -41,22 +43,40 @@ loop-i-preserved c =
     ] in
     sym (entry_here c.args.starts.now (drop i all) (drop (i + 1) all) (drop i items) (drop (i + 1) items) (said_by x) item false here (drop_more items i no_item inside') test) ∙ c.loop-i.invariant
 
+-- the address that is found at a statement where a run may begin
+found_at : (starts : List ℕ) (statements : List Statement) (items : List Item) (i : ℕ) (x : Statement) (address : ℕ) (found : Option ℕ)
+    → i < length statements → i < length items → x ≡ get_or statements i x → is_start (said_by x).says ≡ true → (get_or items i no_item).text ≡ true
+    → address ≡ address_of starts (get_or items i no_item) → entry_from starts (drop i (map said_by statements)) (drop i items) ≡ found → found ≡ Some address
+found_at starts statements items i x address found inside inside' same start text is whole =
+    let item = get_or items i no_item in
+    let all = map said_by statements in
+    let here : drop i all ≡ said_by x ∷ drop (i + 1) all = left_map said_by statements i x inside same in
+    sym whole ∙ entry_here starts (drop i all) (drop (i + 1) all) (drop i items) (drop (i + 1) items) (said_by x) item true here (drop_more items i no_item inside') (and_all (is_start (said_by x).says) item.text start text)
+    ∙ ap (λ a. Some a) (sym is)
+
+odd : (found : Option ℕ) (a : ℕ) → found ≡ Some a → (a % 2 ≡ 0 → ⊥) → IfSome found (λ a. a % 2 ≡ 1)
+odd found a is even = rw is (let low : a % 2 < 2 = omega arith in omega (even, low, arith))
+
 pub returns-in-loop-i-clause-start : goal.returns-in-loop-i-clause-start
 returns-in-loop-i-clause-start c =
     let i = c.loop-i.i in
-    let statements = c.args.statements.now in
-    let items = c.args.items.now in
-    let x = c.index-statements-i.result in
-    let item = get_or items i no_item in
-    let inside : i < length statements = search rules in
-    let inside' : i < length items = search rules in
-    let all = map said_by statements in
-    let here : drop i all ≡ said_by x ∷ drop (i + 1) all = left_map said_by statements i x inside c.index-statements-i.is in
-    let test : (is_start (said_by x).says && item.text) ≡ true = and_all (is_start (said_by x).says) item.text (sym c.is_entry.ensures ∙ c.if-not-is_entry.false) c.if-not-items-i.false in
-    let found : entry_from c.args.starts.now all items ≡ Some c.address-address.result =
-    sym c.loop-i.invariant ∙ entry_here c.args.starts.now (drop i all) (drop (i + 1) all) (drop i items) (drop (i + 1) items) (said_by x) item true here (drop_more items i no_item inside') test
-    ∙ ap (λ a. Some a) (sym c.address-address.ensures.value) in
+    let inside : i < length c.args.statements.now = search rules in
+    let inside' : i < length c.args.items.now = search rules in
+    let found = found_at c.args.starts.now c.args.statements.now c.args.items.now i c.index-statements-i.result c.address-address.result _ inside inside' c.index-statements-i.is
+    (sym c.is_entry.ensures ∙ c.if-not-is_entry.false) c.if-not-items-i.false c.address-address.ensures.value c.loop-i.invariant in
     elim c.if-address-eq0.branch [
       | then-address-eq0 w ↦ (rw w.result-is found)
       | else-address-eq0 w ↦ (rw w.result-is tt)
+    ]
+
+pub returns-in-loop-i-clause-none : goal.returns-in-loop-i-clause-none
+returns-in-loop-i-clause-none c =
+    let i = c.loop-i.i in
+    let inside : i < length c.args.statements.now = search rules in
+    let inside' : i < length c.args.items.now = search rules in
+    let found = found_at c.args.starts.now c.args.statements.now c.args.items.now i c.index-statements-i.result c.address-address.result _ inside inside' c.index-statements-i.is
+    (sym c.is_entry.ensures ∙ c.if-not-is_entry.false) c.if-not-items-i.false c.address-address.ensures.value c.loop-i.invariant in
+    elim c.if-address-eq0.branch [
+      | then-address-eq0 w ↦ (rw w.result-is tt)
+      | else-address-eq0 w ↦ (rw w.result-is (λ test has global. odd _ _ found w.if-address-eq0.false))
     ]
