@@ -1,21 +1,24 @@
 -- What the numbers of expressions are, where statements stand so and names have these addresses.
 
-use Rattle.std.specs.Prelude.{◌≡◌, ℕ, ◌+◌, ◌-◌, ◌^◌, Bool, true, not, ◌||◌, nat_lt, nat_le, ⊤, List, Some}
+use Rattle.std.specs.Prelude.{◌≡◌, ℕ, ◌+◌, ◌-◌, ◌^◌, Bool, true, false, not, ◌||◌, nat_lt, nat_le, List, Option, None, Some, is_some, option_map, Err, if◌then◌else◌}
 use Rattle.std.specs.List.{slice_get}
 use Rattle.std.specs.Str.{bytes_eq}
 use Rattle.std.specs.Borrow.{Bor}
 use Rattle.std.specs.HashMap.{HashMap, get_by}
 use Rattle.std.specs.declared.hash.FoldHasher.{FoldHasher}
 use Rattle.std.specs.declared.hash.BuildHasherDefault.{BuildHasherDefault}
-use Rattle.rv_text_laws.specs.Expression.{Primary, Tree}
-use Rattle.rv_text_laws.specs.Values.{Value}
+use Rattle.rv_text_laws.specs.Expression.{Primary, Symbol, Tree}
+use Rattle.rv_text.specs.Nodes.{symbol_of}
+use Rattle.rv_text.specs.Eval.{IsOutcome}
+use Rattle.rv_text_laws.specs.Values.{Value, Symbolic, Difference, add}
 use Rattle.rv_statement.specs.Statement.{Statement, Directs, Zeros}
-use Rattle.rv_unit_laws.specs.Tables.{tables, home, value as value_in_file}
+use Rattle.rv_unit_laws.specs.Tables.{Home, tables, home, value as value_in_file}
 use Rattle.rv_unit.specs.Sections.{place_of}
 use Rattle.rv_unit.specs.Unit.{said, IsFilled, IsScope}
 use Rattle.rv_map.specs.Map.{Global}
 use Rattle.rv_chain_laws.specs.Sites.{Entry, address_at, address_by, global_address, resolved}
-use Rattle.rv_link.specs.Rows.{address_of}
+use Rattle.rv_chain_laws.specs.Refusals.{is_symbolic}
+use Rattle.rv_link.specs.Rows.{address_of, address_at as row_address_at}
 use Rattle.rv_link.specs.declared.rows.Item.{Item}
 use Rattle.rv_link.specs.declared.numbers.DataFault.{DataFault}
 use Rattle.rv_link.specs.declared.numbers.DataFault.TheVariants as faults
@@ -67,7 +70,49 @@ Counts v says bytes = (e : Tree) → says ≡ Directs (Zeros e) → v e ≡ byte
 abbrev pub is_far : ℕ → Bool
 is_far k = not (nat_lt k (2 ^ 32) || nat_le (2 ^ 64 - 2 ^ 31) k)
 
--- a refusal at the statement's line: the number is too far for the place of 4 bytes
+-- ---- what has a number, by the items and the addresses of names
+
+-- the numbers are for the statement at an index from 0
+pub record AreAt (n : Numbers) (index : ℕ) : Type 0 where
+  pub filled : IsFilled n.scope.now.unit.now
+  pub scope : IsScope n.scope.now index
+
+-- the address of what is no place of this file
+abbrev pub outer_by : NameMap → Primary → Option ℕ
+outer_by names (Symbol name) = get_by (λ k. bytes_eq name k.now) names
+outer_by names _ = None
+
+-- the address of a place of this file; none where its statement has no row
+abbrev pub own_by : List ℕ → List Item → Home → Option ℕ
+own_by starts items h = option_map (λ a. add a h.plus) (row_address_at starts items h.ordinal)
+
+abbrev pub found_by : Numbers → Primary → Option Home → Option ℕ
+found_by n q None = outer_by n.addresses.now.names q
+found_by n q (Some h) = own_by n.starts.now n.items.now h
+
+-- the address of a name, a reference or `.` in the statement at an index
+abbrev pub address_in : Numbers → ℕ → Primary → Option ℕ
+address_in n index q = found_by n q (home (tables (said n.scope.now.unit.now)) (index + 1) q)
+
+-- what a value refers to and has no address; of a difference first what is added
+abbrev pub missing : (Primary → Option ℕ) → Value → Option Primary
+missing a (Symbolic q at k) = if is_some (a q) then None else Some q
+missing a (Difference q r k) = if is_some (a q) then (if is_some (a r) then None else Some r) else Some q
+missing a _ = None
+
+-- the expression has this number, and if that is an address, a place of so many bytes can hold it
+abbrev pub IsKept : Numbers → ℕ → Tree → ℕ → Type 0
+IsKept n width e k =
+    (index : ℕ) → AreAt n index
+    → (resolved (address_in n index) (value_at n index e) ≡ Some k) × (width ≡ 4 → is_symbolic (value_at n index e) ≡ true → is_far k ≡ false)
+
+-- an expression has no number for a place of so many bytes: what it refers to has no address, its address is too far for
+-- 4 bytes, or it has no value; the last two at the statement's line. It takes no memory
 abbrev pub IsRefused : Numbers → ℕ → Tree → DataFault → Type 0
-IsRefused n width e (faults.Overflow line) = (line ≡ n.line) × (width ≡ 4) × ((k : ℕ) × IsNumber n e k × (is_far k ≡ true))
-IsRefused n width e _ = ⊤
+IsRefused n width e (faults.Undefined symbol) = (index : ℕ) → AreAt n index → missing (address_in n index) (value_at n index e) ≡ Some (symbol_of symbol)
+IsRefused n width e (faults.Overflow line) =
+    (line ≡ n.line) × (width ≡ 4)
+    × ((k : ℕ) × IsNumber n e k × (is_far k ≡ true)
+    × ((index : ℕ) → AreAt n index → (is_symbolic (value_at n index e) ≡ true) × (resolved (address_in n index) (value_at n index e) ≡ Some k)))
+IsRefused n width e (faults.Source fault) = (index : ℕ) → AreAt n index → IsOutcome (Err fault) n.line (value_at n index e)
+IsRefused n width e faults.OutOfMemory = ⊥

@@ -31,6 +31,10 @@ pub enum DataFault<'a> {
 }
 
 impl From<AllocError> for DataFault<'_> {
+    ghost use Rattle.rv_link.specs.declared.numbers.DataFault.TheVariants.{OutOfMemory};
+
+    ghost from_gives = { λ _ e. e ≡ OutOfMemory };
+
     fn from(_: AllocError) -> Self {
         DataFault::OutOfMemory
     }
@@ -117,11 +121,12 @@ fn fits_word(number: u64) -> bool
 }
 
 impl<'s, 'u, 'a> Numbers<'s, 'u, 'a> {
-    ghost use Rattle.rv_link.specs.Numbers.{AreAddresses, StandAt, IsAddress, IsNumber, IsRefused};
+    ghost use Rattle.rv_link.specs.Numbers.{AreAddresses, StandAt, AreAt, IsAddress, IsNumber, IsKept, IsRefused, own_by, outer_by, address_in};
 
     /// The address of a place of this file; none where its statement has no row.
     fn own_address(&self, home: Home) -> Option<u64>
-        ensures { IfSome result (λ a. (entries : List Entry) (file : ℕ) → StandAt (self.now).starts.now (self.now).items.now entries file → home_address entries file (home_of home) ≡ Some a) }
+        ensures value { result ≡ own_by (self.now).starts.now (self.now).items.now (home_of home) }
+        ensures stands { IfSome result (λ a. (entries : List Entry) (file : ℕ) → StandAt (self.now).starts.now (self.now).items.now entries file → home_address entries file (home_of home) ≡ Some a) }
     {
         let index = home.ordinal.checked_sub(1)?;
         let item = *self.items.get(index)?;
@@ -133,7 +138,8 @@ impl<'s, 'u, 'a> Numbers<'s, 'u, 'a> {
 
     /// The address of what is no place of this file.
     fn other_address(&self, symbol: Symbol<'a>) -> Option<u64>
-        ensures { IfSome result (λ a. (globals : List Global) → AreAddresses (self.now).addresses.now.names globals → outer_address globals (symbol_of symbol.entry) ≡ Some a) }
+        ensures value { result ≡ outer_by (self.now).addresses.now.names (symbol_of symbol.entry) }
+        ensures known { IfSome result (λ a. (globals : List Global) → AreAddresses (self.now).addresses.now.names globals → outer_address globals (symbol_of symbol.entry) ≡ Some a) }
     {
         match symbol {
             Symbol::Name(name) => self.addresses.names.get(&name).copied(),
@@ -143,7 +149,8 @@ impl<'s, 'u, 'a> Numbers<'s, 'u, 'a> {
 
     /// The address of a name, a reference or `.` in the statement.
     fn address(&self, symbol: Symbol<'a>) -> Option<u64>
-        ensures { IfSome result (IsAddress self.now (symbol_of symbol.entry)) }
+        ensures value { (index : ℕ) → AreAt self.now index → result ≡ address_in self.now index (symbol_of symbol.entry) }
+        ensures stands { IfSome result (IsAddress self.now (symbol_of symbol.entry)) }
     {
         match self.scope.home(symbol) {
             Some(home) => self.own_address(home),
@@ -154,6 +161,7 @@ impl<'s, 'u, 'a> Numbers<'s, 'u, 'a> {
     /// The number of an expression of the statement, for a place of this width.
     pub fn number(&self, width: Width, expression: &Expr<'a>) -> Result<u64, DataFault<'a>>
         ensures number { IfOk result (IsNumber self.now (tree_of_expr expression.now)) }
+        ensures kept { IfOk result (IsKept self.now (bytes_of width) (tree_of_expr expression.now)) }
         ensures refused { IfErr result (IsRefused self.now (bytes_of width) (tree_of_expr expression.now)) }
     {
         match self.scope.value(self.place, expression, self.line)? {
