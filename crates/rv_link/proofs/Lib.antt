@@ -1,3 +1,4 @@
+pub mod RefusedData
 pub mod TooLarge
 pub mod Placed
 pub mod Named

@@ -1,6 +1,6 @@
 -- What the numbers of expressions are, where statements stand so and names have these addresses.
 
-use Rattle.std.specs.Prelude.{◌≡◌, ℕ, ◌+◌, ◌-◌, ◌^◌, Bool, true, false, not, ◌||◌, nat_lt, nat_le, List, Option, None, Some, is_some, option_map, Err, if◌then◌else◌}
+use Rattle.std.specs.Prelude.{◌≡◌, ℕ, ◌+◌, ◌-◌, ◌^◌, Bool, true, false, not, ◌||◌, nat_lt, nat_le, ⊤, ◌⊎◌, List, [], ◌∷◌, Option, None, Some, is_some, option_map, Err, if◌then◌else◌}
 use Rattle.std.specs.List.{slice_get}
 use Rattle.std.specs.Str.{bytes_eq}
 use Rattle.std.specs.Borrow.{Bor}
@@ -11,7 +11,7 @@ use Rattle.rv_text_laws.specs.Expression.{Primary, Symbol, Tree}
 use Rattle.rv_text.specs.Nodes.{symbol_of}
 use Rattle.rv_text.specs.Eval.{IsOutcome}
 use Rattle.rv_text_laws.specs.Values.{Value, Symbolic, Difference, add}
-use Rattle.rv_statement.specs.Statement.{Statement, Directs, Zeros}
+use Rattle.rv_statement.specs.Statement.{Statement, Directs, Values, Zeros}
 use Rattle.rv_unit_laws.specs.Tables.{Home, tables, home, value as value_in_file}
 use Rattle.rv_unit.specs.Sections.{place_of}
 use Rattle.rv_unit.specs.Unit.{said, IsFilled, IsScope}
@@ -116,3 +116,14 @@ IsRefused n width e (faults.Overflow line) =
     × ((index : ℕ) → AreAt n index → (is_symbolic (value_at n index e) ≡ true) × (resolved (address_in n index) (value_at n index e) ≡ Some k)))
 IsRefused n width e (faults.Source fault) = (index : ℕ) → AreAt n index → IsOutcome (Err fault) n.line (value_at n index e)
 IsRefused n width e faults.OutOfMemory = ⊥
+
+-- the first of the expressions that has no number is refused so
+abbrev pub RefusesFirst : Numbers → ℕ → List Tree → DataFault → Type 0
+RefusesFirst n width [] f = ⊥
+RefusesFirst n width (e ∷ es) f = IsRefused n width e f ⊎ (((k : ℕ) × IsKept n width e k) × RefusesFirst n width es f)
+
+-- a statement of data has no bytes: memory has run out, or one of its values has no number
+abbrev pub RefusesData : Numbers → Statement → DataFault → Type 0
+RefusesData n says faults.OutOfMemory = ⊤
+RefusesData n (Directs (Values width es)) f = RefusesFirst n width es f
+RefusesData n says f = ⊥

@@ -1,12 +1,13 @@
 //! The bytes of data.
 
-ghost use Rattle.std.specs.Prelude.{◌≡◌, ◌+◌, ◌++◌, ℕ, List, [], ◌∷◌, flat_map, map, replicate, IfOk, OnOk};
+ghost use Rattle.std.specs.Prelude.{◌≡◌, ◌+◌, ◌++◌, ℕ, List, [], ◌∷◌, flat_map, map, replicate, IfOk, IfErr, OnOk};
 ghost use Rattle.rv_text_laws.specs.Expression.{Tree};
 ghost use Rattle.rv_text.specs.Expr.{tree_of_expr};
 ghost use Rattle.rv_statement.specs.View.{bytes_of, quoted, statement_of};
+ghost use Rattle.rv_statement.specs.Statement.{Directs, Values};
 ghost use Rattle.rv_unit_laws.specs.Tables.{string_bytes};
 ghost use Rattle.rv_chain_laws.specs.Start.{little_endian, spelled_said};
-ghost use Rattle.rv_link.specs.Numbers.{Gives, Counts};
+ghost use Rattle.rv_link.specs.Numbers.{Gives, Counts, IsKept, RefusesData};
 
 use crate::numbers::{DataFault, Numbers};
 use rv_statement::{StatementKind, Width};
@@ -65,7 +66,9 @@ fn put_value<'a>(
     value: &Expr<'a>,
     numbers: &Numbers<'_, '_, 'a>,
 ) -> Result<(), DataFault<'a>>
-    ensures { OnOk result ((v : Tree → ℕ) → Gives numbers.now v → bytes.new.items ≡ bytes.old.items ++ flat_map (λ e. little_endian (bytes_of width) (v e)) (tree_of_expr value.now ∷ [])) }
+    ensures spells { OnOk result ((v : Tree → ℕ) → Gives numbers.now v → bytes.new.items ≡ bytes.old.items ++ flat_map (λ e. little_endian (bytes_of width) (v e)) (tree_of_expr value.now ∷ [])) }
+    ensures kept { OnOk result ((k : ℕ) × IsKept numbers.now (bytes_of width) (tree_of_expr value.now) k) }
+    ensures refused { IfErr result (RefusesData numbers.now (Directs (Values (bytes_of width) (tree_of_expr value.now ∷ [])))) }
 {
     let number = numbers.number(width, value)?;
     put_number(bytes, width, number)?;
@@ -79,7 +82,8 @@ fn put_values<'a>(
     values: &[Expr<'a>],
     numbers: &Numbers<'_, '_, 'a>,
 ) -> Result<(), DataFault<'a>>
-    ensures { OnOk result ((v : Tree → ℕ) → Gives numbers.now v → bytes.new.items ≡ bytes.old.items ++ flat_map (λ e. little_endian (bytes_of width) (v e)) (map tree_of_expr values.now)) }
+    ensures spells { OnOk result ((v : Tree → ℕ) → Gives numbers.now v → bytes.new.items ≡ bytes.old.items ++ flat_map (λ e. little_endian (bytes_of width) (v e)) (map tree_of_expr values.now)) }
+    ensures refused { IfErr result (RefusesData numbers.now (Directs (Values (bytes_of width) (map tree_of_expr values.now)))) }
 {
     for value in values {
         put_value(bytes, width, value, numbers)?;
@@ -94,8 +98,9 @@ pub fn put_data<'a>(
     count: u64,
     numbers: &Numbers<'_, '_, 'a>,
 ) -> Result<(), DataFault<'a>>
-    ensures { OnOk result ((v : Tree → ℕ) → Gives numbers.now v → Counts v (statement_of kind.now) count
+    ensures spells { OnOk result ((v : Tree → ℕ) → Gives numbers.now v → Counts v (statement_of kind.now) count
         → bytes.new.items ≡ bytes.old.items ++ spelled_said (λ e. v e) (statement_of kind.now) count) }
+    ensures refused { IfErr result (RefusesData numbers.now (statement_of kind.now)) }
 {
     match kind {
         StatementKind::Value(width, value) => put_value(bytes, *width, value, numbers),

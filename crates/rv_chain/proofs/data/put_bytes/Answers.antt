@@ -20,4 +20,4 @@ returns-clause-spells c =
     (told v gives counts'
     ∙ ap (λ l. l ++ spelled_said v says c.from.result) (read_at old k x c.requires.section)
     ∙ ap (λ n. bytes_in old k ++ spelled_said v says n) c.from.ensures))
-    c.put_data.ensures
+    c.put_data.ensures.spells

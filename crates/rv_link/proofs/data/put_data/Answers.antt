@@ -7,13 +7,13 @@ use Rattle.rv_statement.specs.declared.statement.StatementKind.TheVariants as ki
 use Rattle.rv_chain_laws.specs.Start.{little_endian, spelled_said}
 use Rattle.rv_link.proofs.data.put_data.Goals as goal
 
-pub returns-in_ok-put_values-in-Values : goal.returns-in_ok-put_values-in-Values
-returns-in_ok-put_values-in-Values c = λ v h counts.
+pub returns-in_ok-put_values-in-Values-clause-spells : goal.returns-in_ok-put_values-in-Values-clause-spells
+returns-in_ok-put_values-in-Values-clause-spells c = λ v h counts.
     let old = c.args.bytes.now.items in
     let width = c.in-Values.width in
     let spells : Tree → List ℕ = λ e. little_endian (bytes_of width) (v e) in
     let same : c.as_slice.result.now ≡ c.in-Values.values.items = search rules in
     let kind : c.args.kind.now ≡ kinds.Values width c.in-Values.values = search rules in
-    c.in_ok-put_values-in-Values.ensures v h
+    c.in_ok-put_values-in-Values.ensures.spells v h
     ∙ ap (λ xs. old ++ flat_map spells (map tree_of_expr xs)) same
     ∙ ap (λ k. old ++ spelled_said (λ e. v e) (statement_of k) c.args.count) (sym kind)

@@ -4,8 +4,8 @@ use Rattle.rv_statement.specs.View.{bytes_of}
 use Rattle.rv_chain_laws.specs.Start.{little_endian}
 use Rattle.rv_link.proofs.data.put_value.Goals as goal
 
-pub returns : goal.returns
-returns c = λ v h.
+pub returns-clause-spells : goal.returns-clause-spells
+returns-clause-spells c = λ v h.
     let e = tree_of_expr c.args.value.now in
     let spells : ℕ → List ℕ = λ n. little_endian (bytes_of c.args.width) n in
     c.in_ok-put_number.ensures
