@@ -1,3 +1,4 @@
+pub mod Unshown
 pub mod RefusedData
 pub mod TooLarge
 pub mod Placed

@@ -1,13 +1,17 @@
 -- The names that a source defines for all files.
 
 use Rattle.std.specs.Borrow.{Bor}
-use Rattle.std.specs.Prelude.{ℕ, suc, Bool, ◌&&◌, Option, Some, None, option_map, List, [], ◌∷◌, ◌++◌, filter, flat_map, if◌then◌else◌}
+use Rattle.std.specs.List.{list_all}
+use Rattle.std.specs.Prelude.{◌≡◌, ℕ, suc, ⊤, Bool, ◌&&◌, Option, Some, None, option_map, List, [], ◌∷◌, ◌++◌, filter, flat_map, if◌then◌else◌}
 use Rattle.rv_text_laws.specs.Values.{Known, Placed, Open, Refused, add}
 use Rattle.rv_statement.specs.Statement.{Statement, Directs, Spoken, Sets}
 use Rattle.rv_unit_laws.specs.Tables.{Tables, Setting, set_ever}
 use Rattle.rv_map.specs.Map.{Global}
+use Rattle.rv_map.specs.Name.{is_name}
 use Rattle.rv_chain_laws.specs.Resolves.{shown, is_start, defined_name}
 use Rattle.rv_link.specs.declared.rows.Item.{Item}
+use Rattle.rv_link.specs.declared.definitions.NameFault.{NameFault}
+use Rattle.rv_link.specs.declared.definitions.NameFault.TheVariants.{Name, OutOfMemory}
 use Rattle.rv_link.specs.Rows.{address_of, shown_address, address_at}
 
 -- a name, or none
@@ -53,3 +57,20 @@ definitions_from is_global t starts items ordinal ss is = []
 abbrev pub entry_from : List ℕ → List Spoken → List Item → Option ℕ
 entry_from starts (s ∷ ss) (i ∷ is) = if is_start s.says && i.text then Some (address_of starts i) else entry_from starts ss is
 entry_from starts ss is = None
+
+-- ---- names that a map cannot show
+
+-- the line of a statement that defines such a name
+abbrev pub unshown : List Global → ℕ → Option ℕ
+unshown globals line = if list_all (λ g. is_name g.name) globals then None else Some line
+
+-- that of the first statement from an ordinal on which defines one
+abbrev pub first_unshown : (List ℕ → Bool) → Tables → List ℕ → List Item → ℕ → List Spoken → List Item → Option ℕ
+first_unshown is_global t starts items ordinal (s ∷ ss) (i ∷ is) =
+    if list_all (λ g. is_name g.name) (defined_by is_global t starts items ordinal s.says i) then first_unshown is_global t starts items (suc ordinal) ss is else Some s.line
+first_unshown is_global t starts items ordinal ss is = None
+
+-- a refusal is at this line; memory may run out whatever the names are
+abbrev pub NamesLine : NameFault → Option ℕ → Type 0
+NamesLine (Name line) found = found ≡ Some line
+NamesLine OutOfMemory found = ⊤

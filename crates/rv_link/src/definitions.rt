@@ -1,15 +1,16 @@
 //! The names that a source defines for all files, with their addresses.
 
-ghost use Rattle.std.specs.Prelude.{◌≡◌, ◌++◌, ℕ, List, Bool, Some, map, length, IfOk, OnOk};
+ghost use Rattle.std.specs.Prelude.{◌≡◌, ◌++◌, ℕ, List, [], ◌∷◌, Bool, None, Some, true, map, length, IfOk, IfErr, OnOk};
 ghost use Rattle.rv_statement.specs.View.{said_by};
 ghost use Rattle.rv_unit_laws.specs.Tables.{tables};
 ghost use Rattle.rv_unit.specs.Tables.{setting_of};
 ghost use Rattle.rv_unit.specs.Unit.{said, IsFilled};
 ghost use Rattle.rv_map.specs.Map.{global_of};
 ghost use Rattle.rv_map.specs.Name.{is_name};
+ghost use Rattle.rv_chain_laws.specs.Resolves.{symbol};
 ghost use Rattle.rv_link.specs.Globals.{Has};
 ghost use Rattle.rv_link.specs.Settings.{AreFirsts};
-ghost use Rattle.rv_link.specs.Definitions.{set_address, defined_address, defined_by, definitions_from};
+ghost use Rattle.rv_link.specs.Definitions.{set_address, defined_address, defined_by, definitions_from, unshown, first_unshown, NamesLine};
 
 use crate::names::Names;
 use crate::rows::{Item, address_of_ordinal, row_address};
@@ -28,12 +29,20 @@ pub enum NameFault {
 }
 
 impl From<AllocError> for NameFault {
+    ghost use Rattle.rv_link.specs.declared.definitions.NameFault.TheVariants.{OutOfMemory};
+
+    ghost from_gives = { λ _ e. e ≡ OutOfMemory };
+
     fn from(_: AllocError) -> Self {
         NameFault::OutOfMemory
     }
 }
 
 impl<T: Drop> From<AllocFailed<T>> for NameFault {
+    ghost use Rattle.rv_link.specs.declared.definitions.NameFault.TheVariants.{OutOfMemory};
+
+    ghost from_gives = { λ _ e. e ≡ OutOfMemory };
+
     fn from(_: AllocFailed<T>) -> Self {
         NameFault::OutOfMemory
     }
@@ -56,8 +65,10 @@ pub fn global_definitions(
     items: &[Item],
 ) -> Result<Vec<Global>, NameFault>
     requires { length items.now ≡ length (unit.now).statements.items }
-    ensures { IfOk result (λ defined. (test : List ℕ → Bool) → IsFilled unit.now → Has (names.now).globals.now.set test → AreFirsts (names.now).firsts.ordinals (tables (said unit.now)).settings →
+    ensures defines { IfOk result (λ defined. (test : List ℕ → Bool) → IsFilled unit.now → Has (names.now).globals.now.set test → AreFirsts (names.now).firsts.ordinals (tables (said unit.now)).settings →
         map global_of defined.items ≡ definitions_from test (tables (said unit.now)) starts.now items.now 1 (said unit.now) items.now) }
+    ensures shown { IfOk result (λ _. (test : List ℕ → Bool) → IsFilled unit.now → Has (names.now).globals.now.set test → AreFirsts (names.now).firsts.ordinals (tables (said unit.now)).settings → first_unshown test (tables (said unit.now)) starts.now items.now 1 (said unit.now) items.now ≡ None) }
+    ensures refused { IfErr result (λ e. (test : List ℕ → Bool) → IsFilled unit.now → Has (names.now).globals.now.set test → AreFirsts (names.now).firsts.ordinals (tables (said unit.now)).settings → NamesLine e (first_unshown test (tables (said unit.now)) starts.now items.now 1 (said unit.now) items.now)) }
 {
     let placed = Placed {
         unit,
@@ -90,8 +101,10 @@ fn put_definition(
     statement: &Statement<'_>,
     item: Item,
 ) -> Result<(), NameFault>
-    ensures { OnOk result ((test : List ℕ → Bool) → IsFilled (placed.now).unit.now → Has (names.now).globals.now.set test → AreFirsts (names.now).firsts.ordinals (tables (said (placed.now).unit.now)).settings →
+    ensures defines { OnOk result ((test : List ℕ → Bool) → IsFilled (placed.now).unit.now → Has (names.now).globals.now.set test → AreFirsts (names.now).firsts.ordinals (tables (said (placed.now).unit.now)).settings →
         map global_of defined.new.items ≡ map global_of defined.old.items ++ defined_by test (tables (said (placed.now).unit.now)) (placed.now).starts.now (placed.now).items.now ordinal (said_by statement.now).says item) }
+    ensures shown { OnOk result ((test : List ℕ → Bool) → IsFilled (placed.now).unit.now → Has (names.now).globals.now.set test → AreFirsts (names.now).firsts.ordinals (tables (said (placed.now).unit.now)).settings → unshown (defined_by test (tables (said (placed.now).unit.now)) (placed.now).starts.now (placed.now).items.now ordinal (said_by statement.now).says item) (statement.now).line ≡ None) }
+    ensures refused { IfErr result (λ e. (test : List ℕ → Bool) → IsFilled (placed.now).unit.now → Has (names.now).globals.now.set test → AreFirsts (names.now).firsts.ordinals (tables (said (placed.now).unit.now)).settings → NamesLine e (unshown (defined_by test (tables (said (placed.now).unit.now)) (placed.now).starts.now (placed.now).items.now ordinal (said_by statement.now).says item) (statement.now).line)) }
 {
     let Some(name) = names.defined(ordinal, statement) else {
         return Ok(());
@@ -140,7 +153,9 @@ pub(crate) fn named(
     address: u64,
     line: u32,
 ) -> Result<Global, NameFault>
-    ensures { IfOk result (λ g. (g.name.items ≡ name.now) × (g.address ≡ address)) }
+    ensures names { IfOk result (λ g. (g.name.items ≡ name.now) × (g.address ≡ address)) }
+    ensures shown { IfOk result (λ _. is_name name.now ≡ true) }
+    ensures refused { IfErr result (λ e. NamesLine e (unshown (symbol name.now address ∷ []) line)) }
 {
     if !is_shown(name) {
         return Err(NameFault::Name(line));

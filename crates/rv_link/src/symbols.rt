@@ -1,13 +1,14 @@
 //! The names that the linker gives, and where a run begins.
 
-ghost use Rattle.std.specs.Prelude.{◌≡◌, ◌+◌, ◌++◌, ◌%◌, ◌<◌, ◌≤◌, ◌^◌, ℕ, List, [], ◌∷◌, Bool, not, true, length, map, filter, codes, Some, None, IfOk, OnOk, IfSome, IfNone};
+ghost use Rattle.std.specs.Prelude.{◌≡◌, ◌+◌, ◌++◌, ◌%◌, ◌<◌, ◌≤◌, ◌^◌, ℕ, List, [], ◌∷◌, Bool, not, true, length, map, filter, codes, Some, None, IfOk, IfErr, OnOk, IfSome, IfNone};
 ghost use Rattle.rv_statement.specs.View.{said_by};
 ghost use Rattle.rv_unit_laws.specs.Tables.{Tables};
 ghost use Rattle.rv_map.specs.Map.{global_of as shown_global};
 ghost use Rattle.rv_chain_laws.specs.Resolves.{is_one_of, is_start, symbol};
 ghost use Rattle.rv_link.specs.Globals.{Has};
 ghost use Rattle.rv_link.specs.Settings.{AreFirsts};
-ghost use Rattle.rv_link.specs.Definitions.{named_by, names_from, entry_from};
+ghost use Rattle.rv_link.specs.Definitions.{named_by, names_from, entry_from, unshown, NamesLine};
+ghost use Rattle.rv_link.specs.declared.definitions.NameFault.TheVariants.{OutOfMemory};
 
 use crate::definitions::{NameFault, named};
 use crate::globals::Globals;
@@ -92,8 +93,9 @@ fn put_symbol(
     name: &str,
     address: u64,
 ) -> Result<(), NameFault>
-    ensures { OnOk result ((test : List ℕ → Bool) (t : Tables) → Has (names.now).globals.now.set test → AreFirsts (names.now).firsts.ordinals t.settings → map shown_global symbols.new.items ≡ map shown_global symbols.old.items
+    ensures names { OnOk result ((test : List ℕ → Bool) (t : Tables) → Has (names.now).globals.now.set test → AreFirsts (names.now).firsts.ordinals t.settings → map shown_global symbols.new.items ≡ map shown_global symbols.old.items
         ++ filter (λ g. not (is_one_of (names_from test t 1 (map said_by statements.now)) g.name)) (symbol name.now address ∷ [])) }
+    ensures refused { IfErr result (λ e. NamesLine e (unshown (symbol name.now address ∷ []) 0)) }
 {
     if defines(names, statements, name.as_bytes()) {
         return Ok(());
@@ -112,10 +114,11 @@ pub fn put_symbols(
     layout: &Layout,
 ) -> Result<(), NameFault>
     requires { (layout.now).data.start ≤ 0x3ff0_0000 }
-    ensures { OnOk result ((test : List ℕ → Bool) (t : Tables) → Has (names.now).globals.now.set test → AreFirsts (names.now).firsts.ordinals t.settings → map shown_global symbols.new.items ≡ map shown_global symbols.old.items
+    ensures names { OnOk result ((test : List ℕ → Bool) (t : Tables) → Has (names.now).globals.now.set test → AreFirsts (names.now).firsts.ordinals t.settings → map shown_global symbols.new.items ≡ map shown_global symbols.old.items
         ++ filter (λ g. not (is_one_of (names_from test t 1 (map said_by statements.now)) g.name))
         (symbol (codes "_etext") (layout.now).text.end ∷ symbol (codes "__bss_start") (layout.now).bss.start ∷ symbol (codes "_edata") (layout.now).data.end
         ∷ symbol (codes "_end") (layout.now).bss.end ∷ symbol (codes "__global_pointer$") ((layout.now).data.start + 0x800) ∷ [])) }
+    ensures refused { IfErr result (λ e. e ≡ OutOfMemory) }
 {
     put_symbol(alloc, symbols, names, statements, "_etext", layout.text.end)?;
     put_symbol(

@@ -21,8 +21,8 @@ returns c =
     let firsts : AreFirsts c.in_ok-defined.defined.firsts.ordinals t.settings =
     subst (λ u. AreFirsts c.in_ok-defined.defined.firsts.ordinals u.settings) c.requires.filled.tables c.in_ok-defined.ensures.firsts in
     let said_are = ap (λ l. map said_by l) c.statements.ensures in
-    let found = c.in_ok-names.ensures test c.requires.filled set firsts in
-    let names = c.in_ok-put_symbols.ensures test t set firsts in
+    let found = c.in_ok-names.ensures.defines test c.requires.filled set firsts in
+    let names = c.in_ok-put_symbols.ensures.names test t set firsts in
     let starts = c.as_slice-starts.ensures.value in
     let items = c.as_slice-items.ensures.value in
     let definitions : map global_of c.in_ok-names.names.items ≡ definitions_from test t x.layout.starts.items x.items.items 1 ss x.items.items =

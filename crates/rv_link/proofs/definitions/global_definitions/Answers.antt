@@ -5,9 +5,11 @@ use Rattle.rv_statement.specs.View.{said_by}
 use Rattle.rv_unit_laws.specs.Tables.{tables}
 use Rattle.rv_unit.specs.Unit.{said}
 use Rattle.rv_map.specs.Map.{global_of}
-use Rattle.rv_link.specs.Definitions.{definitions_from}
+use Rattle.rv_link.specs.Definitions.{definitions_from, first_unshown, NamesLine}
 use Rattle.rv_link.proofs.Placed.{left_map}
 use Rattle.rv_link.proofs.Named.{defined_more}
+use Rattle.rv_link.proofs.Unshown.{shown_more, unshown_here}
+use Rattle.std.proofs.lemmas.Result.{err_from_is_err_and}
 use Rattle.rv_link.proofs.definitions.global_definitions.Goals as goal
 
 no_item : Item
@@ -15,7 +17,7 @@ no_item = record { section = 0; offset = 0; bytes = 0; line = 0; shown = false; 
 
 pub loop-i-preserved : goal.loop-i-preserved
 unfolding no_item
-loop-i-preserved c = λ test filled set firsts.
+loop-i-preserved c =
     let i = c.loop-i.i in
     let u = c.args.unit.now in
     let items = c.args.items.now in
@@ -28,11 +30,38 @@ loop-i-preserved c = λ test filled set firsts.
     let here : drop i all ≡ said_by x ∷ drop (i + 1) all = left_map said_by u.statements.items i x inside (c.index-statements-i.is ∙ ap (λ l. get_or l i x) same) in
     let at = drop_more items i no_item inside' in
     let next : i + 1 + 1 ≡ suc (i + 1) = omega arith in
-    defined_more test (tables all) starts items (i + 1) (i + 1 + 1) (drop i all) (drop (i + 1) all) (drop i items) (drop (i + 1) items) (said_by x) _
-    (map global_of c.loop-i.defined.items) (map global_of c.put_definition.new.defined.items) _ next here at (c.in_ok-put_definition.ensures test filled set firsts) (c.loop-i.invariant test filled set firsts)
+    record {
+      defines = λ test filled set firsts.
+          defined_more test (tables all) starts items (i + 1) (i + 1 + 1) (drop i all) (drop (i + 1) all) (drop i items) (drop (i + 1) items) (said_by x) _
+          (map global_of c.loop-i.defined.items) (map global_of c.put_definition.new.defined.items) _ next here at (c.in_ok-put_definition.ensures.defines test filled set firsts) (c.loop-i.invariant.defines test filled set firsts);
+      shown = λ test filled set firsts.
+          shown_more test (tables all) starts items (i + 1) (i + 1 + 1) (drop i all) (drop (i + 1) all) (drop i items) (drop (i + 1) items) (said_by x) _ next here at (c.in_ok-put_definition.ensures.shown test filled set firsts)
+          ∙ c.loop-i.invariant.shown test filled set firsts;
+    }
 
-pub returns : goal.returns
-returns c = λ test filled set firsts.
+pub returns-in_err-put_definition-clause-refused : goal.returns-in_err-put_definition-clause-refused
+unfolding no_item
+returns-in_err-put_definition-clause-refused c =
+    let i = c.loop-i.i in
+    let u = c.args.unit.now in
+    let items = c.args.items.now in
+    let starts = c.args.starts.now in
+    let x = c.index-statements-i.result in
+    let same = c.statements-statements.ensures in
+    let inside : i < length u.statements.items = search rules in
+    let inside' : i < length items = search rules in
+    let all = said u in
+    let here : drop i all ≡ said_by x ∷ drop (i + 1) all = left_map said_by u.statements.items i x inside (c.index-statements-i.is ∙ ap (λ l. get_or l i x) same) in
+    let at = drop_more items i no_item inside' in
+    let next : i + 1 + 1 ≡ suc (i + 1) = omega arith in
+    let found = err_from_is_err_and c.from_residual.result c.from_residual.ensures.1 in
+    let e = c.in_err-put_definition.field-0.0 in
+    rw (found.1, found.2) (λ test filled set firsts.
+    subst (λ line. NamesLine e line) (c.loop-i.invariant.shown test filled set firsts)
+    (unshown_here test (tables all) starts items (i + 1) (i + 1 + 1) (drop i all) (drop (i + 1) all) (drop i items) (drop (i + 1) items) (said_by x) _ next here at e (c.in_err-put_definition.ensures.refused test filled set firsts)))
+
+pub returns-clause-defines : goal.returns-clause-defines
+returns-clause-defines c = λ test filled set firsts.
     let n = c.loop-i.i in
     let u = c.args.unit.now in
     let all = said u in
@@ -40,4 +69,13 @@ returns c = λ test filled set firsts.
     let none : drop n all ≡ [] = at_drop_all (λ l. l) all n past in
     sym (append-nil (map global_of c.loop-i.defined.items))
     ∙ ap (λ l. map global_of c.loop-i.defined.items ++ definitions_from test (tables all) c.args.starts.now c.args.items.now (n + 1) l (drop n c.args.items.now)) (sym none)
-    ∙ c.loop-i.invariant test filled set firsts
+    ∙ c.loop-i.invariant.defines test filled set firsts
+
+pub returns-clause-shown : goal.returns-clause-shown
+returns-clause-shown c = λ test filled set firsts.
+    let n = c.loop-i.i in
+    let u = c.args.unit.now in
+    let all = said u in
+    let past : length all ≤ n = subst (λ k. k ≤ n) (ap length c.statements-statements.ensures ∙ sym (length-map u.statements.items said_by)) c.loop-i-test.false in
+    let none : drop n all ≡ [] = at_drop_all (λ l. l) all n past in
+    sym (c.loop-i.invariant.shown test filled set firsts) ∙ ap (λ l. first_unshown test (tables all) c.args.starts.now c.args.items.now (n + 1) l (drop n c.args.items.now)) none
