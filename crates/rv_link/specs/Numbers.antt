@@ -1,7 +1,7 @@
 -- What the numbers of expressions are, where statements stand so and names have these addresses.
 
 use Rattle.std.specs.Prelude.{◌≡◌, ℕ, ◌+◌, ◌-◌, ◌^◌, Bool, true, false, not, ◌||◌, nat_lt, nat_le, ⊤, ◌⊎◌, List, [], ◌∷◌, Option, None, Some, is_some, option_map, Err, if◌then◌else◌}
-use Rattle.std.specs.List.{slice_get}
+use Rattle.std.specs.List.{slice_get, AllByRecursion}
 use Rattle.std.specs.Str.{bytes_eq}
 use Rattle.std.specs.Borrow.{Bor}
 use Rattle.std.specs.HashMap.{HashMap, get_by}
@@ -116,6 +116,15 @@ IsRefused n width e (faults.Overflow line) =
     × ((index : ℕ) → AreAt n index → (is_symbolic (value_at n index e) ≡ true) × (resolved (address_in n index) (value_at n index e) ≡ Some k)))
 IsRefused n width e (faults.Source fault) = (index : ℕ) → AreAt n index → IsOutcome (Err fault) n.line (value_at n index e)
 IsRefused n width e faults.OutOfMemory = ⊥
+
+-- each of the expressions has a number that its place holds
+abbrev pub AreKept : Numbers → ℕ → List Tree → Type 0
+AreKept n width es = AllByRecursion (λ e. (k : ℕ) × IsKept n width e k) es
+
+-- so has each value of a statement
+abbrev pub KeepsData : Numbers → Statement → Type 0
+KeepsData n (Directs (Values width es)) = AreKept n width es
+KeepsData n says = ⊤
 
 -- the first of the expressions that has no number is refused so
 abbrev pub RefusesFirst : Numbers → ℕ → List Tree → DataFault → Type 0

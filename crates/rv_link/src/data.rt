@@ -7,7 +7,7 @@ ghost use Rattle.rv_statement.specs.View.{bytes_of, quoted, statement_of};
 ghost use Rattle.rv_statement.specs.Statement.{Directs, Values};
 ghost use Rattle.rv_unit_laws.specs.Tables.{string_bytes};
 ghost use Rattle.rv_chain_laws.specs.Start.{little_endian, spelled_said};
-ghost use Rattle.rv_link.specs.Numbers.{Gives, Counts, IsKept, RefusesData};
+ghost use Rattle.rv_link.specs.Numbers.{Gives, Counts, AreKept, KeepsData, RefusesData};
 
 use crate::numbers::{DataFault, Numbers};
 use rv_statement::{StatementKind, Width};
@@ -67,7 +67,7 @@ fn put_value<'a>(
     numbers: &Numbers<'_, '_, 'a>,
 ) -> Result<(), DataFault<'a>>
     ensures spells { OnOk result ((v : Tree → ℕ) → Gives numbers.now v → bytes.new.items ≡ bytes.old.items ++ flat_map (λ e. little_endian (bytes_of width) (v e)) (tree_of_expr value.now ∷ [])) }
-    ensures kept { OnOk result ((k : ℕ) × IsKept numbers.now (bytes_of width) (tree_of_expr value.now) k) }
+    ensures kept { OnOk result (AreKept numbers.now (bytes_of width) (tree_of_expr value.now ∷ [])) }
     ensures refused { IfErr result (RefusesData numbers.now (Directs (Values (bytes_of width) (tree_of_expr value.now ∷ [])))) }
 {
     let number = numbers.number(width, value)?;
@@ -83,6 +83,7 @@ fn put_values<'a>(
     numbers: &Numbers<'_, '_, 'a>,
 ) -> Result<(), DataFault<'a>>
     ensures spells { OnOk result ((v : Tree → ℕ) → Gives numbers.now v → bytes.new.items ≡ bytes.old.items ++ flat_map (λ e. little_endian (bytes_of width) (v e)) (map tree_of_expr values.now)) }
+    ensures kept { OnOk result (AreKept numbers.now (bytes_of width) (map tree_of_expr values.now)) }
     ensures refused { IfErr result (RefusesData numbers.now (Directs (Values (bytes_of width) (map tree_of_expr values.now)))) }
 {
     for value in values {
@@ -100,6 +101,7 @@ pub fn put_data<'a>(
 ) -> Result<(), DataFault<'a>>
     ensures spells { OnOk result ((v : Tree → ℕ) → Gives numbers.now v → Counts v (statement_of kind.now) count
         → bytes.new.items ≡ bytes.old.items ++ spelled_said (λ e. v e) (statement_of kind.now) count) }
+    ensures kept { OnOk result (KeepsData numbers.now (statement_of kind.now)) }
     ensures refused { IfErr result (RefusesData numbers.now (statement_of kind.now)) }
 {
     match kind {

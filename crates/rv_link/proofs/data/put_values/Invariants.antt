@@ -6,10 +6,11 @@ use Rattle.rv_statement.specs.View.{bytes_of}
 use Rattle.rv_chain_laws.specs.Start.{little_endian}
 use Rattle.rv_statement.specs.Statement.{Directs, Values}
 use Rattle.rv_link.specs.declared.numbers.DataFault.{DataFault}
-use Rattle.rv_link.specs.Numbers.{Gives, RefusesData}
+use Rattle.rv_link.specs.Numbers.{Gives, AreKept, RefusesData}
 use Rattle.rv_link.proofs.data.put_values.Given as goal
 
--- what is there so far, and what is left, are all values; a refusal of what is left is one of all
+-- what is there so far, and what is left, are all values; where what is left has numbers, all have, and a refusal of what is left
+-- is one of all
 abbrev pub invariant-loop-value : goal.invariant-loop-value
 invariant-loop-value l = record {
   spells : (v : Tree → ℕ) → Gives l.numbers v
@@ -17,4 +18,5 @@ invariant-loop-value l = record {
       ≡ l.fn.bytes.items ++ flat_map (λ e. little_endian (bytes_of l.width) (v e)) (map tree_of_expr l.values);
   refuses : (f : DataFault) → RefusesData l.numbers (Directs (Values (bytes_of l.width) (drop l.value-index (map tree_of_expr l.values)))) f
       → RefusesData l.numbers (Directs (Values (bytes_of l.width) (map tree_of_expr l.values))) f;
+  kept : AreKept l.numbers (bytes_of l.width) (drop l.value-index (map tree_of_expr l.values)) → AreKept l.numbers (bytes_of l.width) (map tree_of_expr l.values);
 }
