@@ -4,3 +4,4 @@ pub mod Meant
 pub mod Entering
 pub mod Later
 pub mod Opened
+pub mod Settled
