@@ -5,3 +5,4 @@ pub mod Entering
 pub mod Later
 pub mod Opened
 pub mod Settled
+pub mod Grown
