@@ -1,14 +1,14 @@
 -- An expression whose constant is wanted has it by the statements before it alone, and by all of the source.
 
-use Rattle.std.proofs.Common.{◌≡◌, ℕ, ◌+◌, ◌<◌, ◌≤◌, true, false, List, length, refl, sym, Option, Some, None}
+use Rattle.std.proofs.Common.{◌≡◌, ℕ, ◌+◌, ◌<◌, ◌≤◌, true, false, List, length, drop, refl, sym, Option, Some, None}
 use Rattle.rv_text_laws.specs.Bytes.{value as digits_value}
 use Rattle.rv_text_laws.specs.Expression.{Literal, Symbol, Here, Reference}
 use Rattle.rv_text_laws.specs.Values.{Constant}
 use Rattle.rv_statement.specs.Statement.{Spoken, Expression}
-use Rattle.rv_unit_laws.specs.Tables.{Tables, Place, Marked, at_start, tables, marked_after, forward_in, meaning, value}
+use Rattle.rv_unit_laws.specs.Tables.{Tables, Place, Marked, at_start, tables, after_all, marked_after, forward_in, meaning, value}
 use Rattle.rv_unit_laws.proofs.Before.{before_all, before_start}
 use Rattle.rv_unit_laws.proofs.Settled.{Agree, is_settled, constant_same, constant_later}
-use Rattle.rv_unit.proofs.Filling.{passed}
+use Rattle.rv_unit.proofs.Filling.{passed, passed_rest}
 use Rattle.rv_unit.proofs.Scoped.{past_name, past_here, past_back}
 
 module _ (ss : List Spoken) (i : ℕ) (p : Place) (within : i ≤ length ss) (inside : p.section < length (passed ss i).opened.sections) where
@@ -31,3 +31,7 @@ module _ (ss : List Spoken) (i : ℕ) (p : Place) (within : i ≤ length ss) (in
 -- by all of the source
 pub constant_whole : (ss : List Spoken) (at : ℕ) (p : Place) (e : Expression) (n : ℕ) → value (tables ss) false at p e ≡ Constant n → value (tables ss) true at p e ≡ Constant n
 constant_whole ss at p e n is = constant_later (tables ss) (1 + length ss) at (before_all at_start 1 ss (before_start 1)) p e n is
+
+-- the tables of a source by those of its first statements
+pub whole_rest : (ss : List Spoken) (i : ℕ) → i ≤ length ss → tables ss ≡ after_all (passed ss i) (i + 1) (drop i ss)
+whole_rest ss i within = passed_rest ss i within
