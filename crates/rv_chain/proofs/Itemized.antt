@@ -18,7 +18,9 @@ use Rattle.rv_chain_laws.specs.Stated.{is_placed}
 use Rattle.rv_link.specs.declared.rows.Item.{Item}
 use Rattle.rv_link_laws.specs.Items.{IsItem, grown}
 use Rattle.rv_chain.specs.Sized.{IsSized}
-use Rattle.rv_chain.specs.Measured.{IsExtentAt}
+use Rattle.rv_chain.specs.Code.{value_at}
+use Rattle.rv_chain.specs.Measured.{IsExtentAt, HasRoom}
+use Rattle.rv_chain.proofs.Roomy.{IsRoomy}
 use Rattle.rv_chain.proofs.Standing.{StandsAt, stands_at, stated_at, got_inside}
 use Rattle.rv_chain.proofs.SoFarSized.{IsSizedAt}
 
@@ -97,6 +99,21 @@ sized_at u i s p e x filled at there section h shown =
     subst (λ (h : Section). IsSized (λ t. value all true (i + 1) (stood (passed (said u) i) (i + 1) (said_by s).says) t) h.executable x (slice_index_or all.alignments x.section 1) (statement_of s.kind)) home
     (subst (λ n. IsSized (λ t. value all true (i + 1) (stood (passed (said u) i) (i + 1) (said_by s).says) t) e.section.executable x n (statement_of s.kind)) begins
     (subst (λ (q : Standing). IsSized (λ t. value all true (i + 1) q t) e.section.executable x e.alignment (statement_of s.kind)) at.place (h shown)))
+
+-- a statement that has a size, and for which its section has room
+pub room_at : (u : SourceUnit) (i : ℕ) (s : Statement) (p : Place) (e : Extent) (ends : ℕ → ℕ) (stop : ℕ) → IsFilled u → StandsAt u i s p → IsExtentAt u.tables.extents.items p.section e
+    → (let st = stated_at (said u) i (said_by s) in
+    IsRoomy (λ t. value_at (tables (said u)) st t) st.home.executable (slice_index_or (tables (said u)).alignments st.section 1) (ends st.section) stop (said_by s).says)
+    → HasRoom (λ t. value (tables (said u)) true (i + 1) (place_of p) t) e.section.executable e.alignment (ends p.section) (statement_of s.kind)
+room_at u i s p e ends stop filled at there roomy =
+    let all = tables (said u) in
+    let st = stated_at (said u) i (said_by s) in
+    let RoomAt : Standing → Section → ℕ → Type 0 = λ q home begins. HasRoom (λ t. value all true (i + 1) q t) home.executable begins (ends q.section) (statement_of s.kind) in
+    let begins : slice_index_or all.alignments p.section 1 ≡ e.alignment = ap (λ (t : Tables). slice_index_or t.alignments p.section 1) (sym filled.tables) ∙ there.alignment in
+    let room : RoomAt (stood (passed (said u) i) (i + 1) (said_by s).says) st.home (slice_index_or all.alignments st.section 1) = record { size = roomy.size; room = roomy.room } in
+    subst (RoomAt (place_of p) (extent_section e)) begins
+    (subst (λ h. RoomAt (place_of p) h (slice_index_or all.alignments p.section 1)) (sym (home_at u i s p e at there))
+    (subst (λ q. RoomAt q st.home (slice_index_or all.alignments q.section 1)) (sym at.place) room))
 
 -- the section of a statement is one of the unit's
 pub stands_inside : (u : SourceUnit) (i : ℕ) (s : Statement) (p : Place) → StandsAt u i s p → p.section < length u.tables.extents.items

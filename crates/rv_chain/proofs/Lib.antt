@@ -19,3 +19,5 @@ pub mod Sound
 pub mod Begins
 pub mod Started
 pub mod SuitsAll
+pub mod Roomy
+pub mod Rooms

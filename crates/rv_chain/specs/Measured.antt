@@ -1,11 +1,14 @@
 -- How many bytes one statement has, behind others of its section.
 
-use Rattle.std.specs.Prelude.{◌≡◌, ℕ, Bool, true, false, List, map, Some, slice_get, slice_index_or}
-use Rattle.rv_text_laws.specs.Values.{Value}
-use Rattle.rv_statement.specs.Statement.{Statement, Label, Numbered, Instruction, Directs, Expression}
+use Rattle.std.specs.Prelude.{◌≡◌, ℕ, ◌+◌, ◌*◌, ◌≤◌, Bool, true, false, ⊤, List, length, map, Option, Some, slice_get, slice_index_or}
+use Rattle.rv_text_laws.specs.Values.{Value, Constant}
+use Rattle.rv_statement.specs.Statement.{Statement, Label, Numbered, Instruction, Directs, Expression, Directive, Aligns_to_power, Aligns_to_bytes, Values, Strings, Zeros}
+use Rattle.rv_unit_laws.specs.Tables.{asked, padding, string_bytes, longest_section}
 use Rattle.rv_unit.specs.declared.section.Extent.{Extent}
 use Rattle.rv_unit.specs.Sections.{extent_section}
+use Rattle.rv_chain_laws.specs.Fits.{is_constant, is_low}
 use Rattle.rv_link.specs.declared.rows.Item.{Item}
+use Rattle.rv_link_laws.specs.Suits.{IsMultiple}
 use Rattle.rv_chain.specs.Sized.{IsSizedDirective}
 
 -- so many bytes of data behind so many others
@@ -29,3 +32,36 @@ is_executed _ = false
 pub record IsExtentAt (extents : List Extent) (place : ℕ) (e : Extent) : Type 0 where
   pub section : slice_get (map extent_section extents) place ≡ Some (extent_section e)
   pub alignment : slice_index_or (map (λ (x : Extent). x.alignment) extents) place 1 ≡ e.alignment
+
+-- an alignment can be had: one of code needs no padding; a section of data begins at a multiple of its own, and has the
+-- padding
+abbrev pub CanPad : Bool → ℕ → ℕ → Option ℕ → Type 0
+CanPad true begins offset alignment = is_low alignment ≡ true
+CanPad false begins offset alignment = IsMultiple alignment begins × (padding alignment offset ≤ longest_section)
+
+-- a value is a constant, and its alignment can be had
+abbrev pub CanAlign : Value → Bool → ℕ → ℕ → Option ℕ → Type 0
+CanAlign v executable begins offset alignment = (is_constant v ≡ true) × CanPad executable begins offset alignment
+
+-- a count of bytes that a section can have
+abbrev pub CanCount : Value → Type 0
+CanCount v = (n : ℕ) × (v ≡ Constant n) × (n ≤ longest_section)
+
+-- a statement has a size, by the values of its expressions: in a section of code or not, that asks to begin at this
+-- multiple, behind so many others
+abbrev pub HasSizeDirective : (Expression → Value) → Bool → ℕ → ℕ → Directive → Type 0
+HasSizeDirective v executable begins offset (Values width values) = width * length values ≤ longest_section
+HasSizeDirective v executable begins offset (Strings ended strings) = length (string_bytes ended strings) ≤ longest_section
+HasSizeDirective v executable begins offset (Zeros count) = CanCount (v count)
+HasSizeDirective v executable begins offset (Aligns_to_power e) = CanAlign (v e) executable begins offset (asked v (Aligns_to_power e))
+HasSizeDirective v executable begins offset (Aligns_to_bytes e) = CanAlign (v e) executable begins offset (asked v (Aligns_to_bytes e))
+HasSizeDirective v executable begins offset _ = ⊤
+
+abbrev pub HasSize : (Expression → Value) → Bool → ℕ → ℕ → Statement → Type 0
+HasSize v executable begins offset (Directs directive) = HasSizeDirective v executable begins offset directive
+HasSize v executable begins offset _ = ⊤
+
+-- and its section has room for it
+pub record HasRoom (v : Expression → Value) (executable : Bool) (begins offset : ℕ) (says : Statement) : Type 0 where
+  pub size : HasSize v executable begins offset says
+  pub room : (n : ℕ) → IsSize v executable begins offset says n → offset + n ≤ longest_section

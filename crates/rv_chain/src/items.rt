@@ -1,20 +1,23 @@
 //! The statements of a source as items: their bytes, one behind the other in each section, and which have a row in the
 //! map.
 
-ghost use Rattle.std.specs.Prelude.{◌≡◌, ◌&&◌, ◌+◌, ◌*◌, ◌<◌, ◌≤◌, ◌^◌, ℕ, true, false, length, map, slice_index, slice_set, IfOk};
+ghost use Rattle.std.specs.Prelude.{◌≡◌, ◌&&◌, ◌+◌, ◌*◌, ◌<◌, ◌≤◌, ◌^◌, ℕ, true, false, length, map, slice_index, slice_set, None, IfOk, IfErr};
 ghost use Rattle.rv_text_laws.specs.Values as values;
 ghost use Rattle.rv_text.specs.Eval.{IsOutcome};
+ghost use Rattle.rv_text.specs.declared.fault.SourceFault.TheVariants.{OutOfMemory};
 ghost use Rattle.rv_statement.specs.View.{bytes_of, quoted, statement_of};
+ghost use Rattle.rv_unit_laws.specs.Faults.{first_fault};
 ghost use Rattle.rv_unit_laws.specs.Sections.{goes_to_text};
 ghost use Rattle.rv_unit_laws.specs.Tables as laws;
 ghost use Rattle.rv_unit.specs.Sections.{place_of, section_of};
 ghost use Rattle.rv_unit.specs.Unit.{said, passed, IsFilled, IsScope};
 ghost use Rattle.rv_chain_laws.specs.Stated.{is_placed};
 ghost use Rattle.rv_chain_laws.specs.Fits.{is_low};
+ghost use Rattle.rv_chain_laws.specs.Refusals.{size_fault};
 ghost use Rattle.rv_link_laws.specs.Items.{AreItems};
 ghost use Rattle.rv_link_laws.specs.Suits.{IsMultiple};
 ghost use Rattle.rv_chain.specs.Sized.{AreSized, IsAligned, IsPadded, IsSized};
-ghost use Rattle.rv_chain.specs.Measured.{stretch, is_executed, IsSize, IsExtentAt};
+ghost use Rattle.rv_chain.specs.Measured.{stretch, is_executed, IsSize, IsExtentAt, CanAlign, CanCount, CanPad, HasSize, HasRoom};
 
 use crate::instruction::constant;
 use rv_link::Item;
@@ -30,6 +33,7 @@ use std::alloc::{AllocError, Global};
 fn fitting(bytes: u64, line: u32) -> Result<u32, SourceFault>
     ensures same { IfOk result (λ n. n ≡ bytes) }
     ensures fits { IfOk result (λ n. n ≤ 2 ^ 28) }
+    ensures refuses { IfErr result (λ _. 2 ^ 28 < bytes) }
 {
     if bytes > LONGEST_SECTION {
         return Err(SourceFault::At {
@@ -42,21 +46,24 @@ fn fitting(bytes: u64, line: u32) -> Result<u32, SourceFault>
 
 /// The bytes of values of data.
 fn bytes_of_values(width: Width, count: usize, line: u32) -> Result<u32, SourceFault>
-    ensures { IfOk result (λ n. n ≡ bytes_of width * count) }
+    ensures size { IfOk result (λ n. n ≡ bytes_of width * count) }
+    ensures refuses { IfErr result (λ _. bytes_of width * count ≤ 2 ^ 28 → ⊥) }
 {
     fitting(values_size(width, count), line)
 }
 
 /// The bytes of strings, where asked with a zero byte behind each.
 fn bytes_of_strings(ended: bool, strings: &[&[u8]], line: u32) -> Result<u32, SourceFault>
-    ensures { IfOk result (λ n. n ≡ length (laws.string_bytes ended (map quoted strings.now))) }
+    ensures size { IfOk result (λ n. n ≡ length (laws.string_bytes ended (map quoted strings.now))) }
+    ensures refuses { IfErr result (λ _. length (laws.string_bytes ended (map quoted strings.now)) ≤ 2 ^ 28 → ⊥) }
 {
     fitting(strings_size(ended, strings), line)
 }
 
 /// As many bytes as a value says.
 fn bytes_of_zeros(value: Result<Value<'_>, SourceFault>, line: u32) -> Result<u32, SourceFault>
-    ensures { IfOk result (λ n. (v : values.Value) → IsOutcome value.entry line v → v ≡ values.Constant n) }
+    ensures size { IfOk result (λ n. (v : values.Value) → IsOutcome value.entry line v → v ≡ values.Constant n) }
+    ensures refuses { IfErr result (λ _. (v : values.Value) → IsOutcome value.entry line v → CanCount v → ⊥) }
 {
     let count = constant(value, line)?;
     fitting(count, line)
@@ -64,7 +71,8 @@ fn bytes_of_zeros(value: Result<Value<'_>, SourceFault>, line: u32) -> Result<u3
 
 /// Whether a section that asks to begin at a multiple of one number begins at one of an alignment.
 fn is_multiple(begins: u32, alignment: Option<u32>) -> bool
-    ensures { result ≡ true → IsMultiple alignment begins }
+    ensures multiple { result ≡ true → IsMultiple alignment begins }
+    ensures other { result ≡ false → IsMultiple alignment begins → ⊥ }
 {
     match alignment {
         None => true,
@@ -75,7 +83,8 @@ fn is_multiple(begins: u32, alignment: Option<u32>) -> bool
 
 /// The padding of an alignment in code: none; a greater one than 2 is not built yet.
 fn padding_in_code(alignment: Option<u32>, line: u32) -> Result<u32, SourceFault>
-    ensures { IfOk result (λ n. (n ≡ 0) × (is_low alignment ≡ true)) }
+    ensures size { IfOk result (λ n. (n ≡ 0) × (is_low alignment ≡ true)) }
+    ensures refuses { IfErr result (λ _. is_low alignment ≡ false) }
 {
     match alignment {
         Some(alignment) if alignment > 2 => Err(SourceFault::At {
@@ -93,7 +102,8 @@ fn padding_in_data(
     offset: u32,
     line: u32,
 ) -> Result<u32, SourceFault>
-    ensures { IfOk result (λ n. (n ≡ laws.padding alignment offset) × IsMultiple alignment begins) }
+    ensures size { IfOk result (λ n. (n ≡ laws.padding alignment offset) × IsMultiple alignment begins) }
+    ensures refuses { IfErr result (λ _. IsMultiple alignment begins → laws.padding alignment offset ≤ 2 ^ 28 → ⊥) }
 {
     if !is_multiple(begins, alignment) {
         return Err(SourceFault::At {
@@ -111,7 +121,8 @@ fn bytes_of_padding(
     offset: u32,
     line: u32,
 ) -> Result<u32, SourceFault>
-    ensures { IfOk result (λ n. IsPadded (extent.entry).section.executable (stretch offset n) (extent.entry).alignment alignment) }
+    ensures size { IfOk result (λ n. IsPadded (extent.entry).section.executable (stretch offset n) (extent.entry).alignment alignment) }
+    ensures refuses { IfErr result (λ _. CanPad (extent.entry).section.executable (extent.entry).alignment offset alignment → ⊥) }
 {
     if extent.section.executable {
         return padding_in_code(alignment, line);
@@ -126,7 +137,8 @@ fn padding_to_power(
     offset: u32,
     line: u32,
 ) -> Result<u32, SourceFault>
-    ensures { IfOk result (λ n. (v : values.Value) → IsOutcome value.entry line v → IsAligned v (extent.entry).section.executable (stretch offset n) (extent.entry).alignment (laws.asked_power v)) }
+    ensures size { IfOk result (λ n. (v : values.Value) → IsOutcome value.entry line v → IsAligned v (extent.entry).section.executable (stretch offset n) (extent.entry).alignment (laws.asked_power v)) }
+    ensures refuses { IfErr result (λ _. (v : values.Value) → IsOutcome value.entry line v → CanAlign v (extent.entry).section.executable (extent.entry).alignment offset (laws.asked_power v) → ⊥) }
 {
     let power = constant(value, line)?;
     let alignment = asked_power(Ok(Value::Constant(power)));
@@ -140,7 +152,8 @@ fn padding_to_bytes(
     offset: u32,
     line: u32,
 ) -> Result<u32, SourceFault>
-    ensures { IfOk result (λ n. (v : values.Value) → IsOutcome value.entry line v → IsAligned v (extent.entry).section.executable (stretch offset n) (extent.entry).alignment (laws.asked_bytes v)) }
+    ensures size { IfOk result (λ n. (v : values.Value) → IsOutcome value.entry line v → IsAligned v (extent.entry).section.executable (stretch offset n) (extent.entry).alignment (laws.asked_bytes v)) }
+    ensures refuses { IfErr result (λ _. (v : values.Value) → IsOutcome value.entry line v → CanAlign v (extent.entry).section.executable (extent.entry).alignment offset (laws.asked_bytes v) → ⊥) }
 {
     let bytes = constant(value, line)?;
     let alignment = asked_bytes(Ok(Value::Constant(bytes)));
@@ -155,8 +168,10 @@ fn size(
     extent: Extent<'_>,
     offset: u32,
 ) -> Result<u32, SourceFault>
-    ensures { IfOk result (λ n. (index : ℕ) → IsFilled (scope.now).unit.now → IsScope scope.now index
+    ensures size { IfOk result (λ n. (index : ℕ) → IsFilled (scope.now).unit.now → IsScope scope.now index
         → IsSize (λ e. laws.value (laws.tables (said (scope.now).unit.now)) true (index + 1) (place_of place) e) (extent.entry).section.executable (extent.entry).alignment offset (statement_of (statement.now).kind) n) }
+    ensures refuses { IfErr result (λ _. (index : ℕ) → IsFilled (scope.now).unit.now → IsScope scope.now index
+        → HasSize (λ e. laws.value (laws.tables (said (scope.now).unit.now)) true (index + 1) (place_of place) e) (extent.entry).section.executable (extent.entry).alignment offset (statement_of (statement.now).kind) → ⊥) }
 {
     let line = statement.line;
     match &statement.kind {
@@ -197,6 +212,8 @@ fn shown_size(
     ensures absent { IfOk result (λ n. shown ≡ false → n ≡ 0) }
     ensures size { IfOk result (λ n. (index : ℕ) → IsFilled (scope.now).unit.now → IsScope scope.now index → shown ≡ true
         → IsSize (λ e. laws.value (laws.tables (said (scope.now).unit.now)) true (index + 1) (place_of place) e) (extent.entry).section.executable (extent.entry).alignment offset (statement_of (statement.now).kind) n) }
+    ensures refuses { IfErr result (λ _. (index : ℕ) → IsFilled (scope.now).unit.now → IsScope scope.now index
+        → (shown ≡ true → HasSize (λ e. laws.value (laws.tables (said (scope.now).unit.now)) true (index + 1) (place_of place) e) (extent.entry).section.executable (extent.entry).alignment offset (statement_of (statement.now).kind)) → ⊥) }
 {
     if !shown {
         return Ok(0);
@@ -289,6 +306,10 @@ fn next_item<'a>(
     ensures sized { IfOk result (λ x. (index : ℕ) → IsFilled (scope.now).unit.now → IsScope scope.now index → x.shown ≡ true
         → IsSized (λ e. laws.value (laws.tables (said (scope.now).unit.now)) true (index + 1) (place_of place) e) (extent.now).section.executable x (extent.now).alignment (statement_of (statement.now).kind)) }
     ensures fits { IfOk result (λ x. x.offset + x.bytes ≤ 2 ^ 28) }
+    ensures refuses { IfErr result (λ _. (index : ℕ) → IsFilled (scope.now).unit.now → IsScope scope.now index
+        → place_of place ≡ laws.stood (passed (said (scope.now).unit.now) index) (index + 1) (statement_of (statement.now).kind)
+        → (is_placed (passed (said (scope.now).unit.now) index) (index + 1) (statement_of (statement.now).kind) ≡ true → (extent.now).section.loaded ≡ true
+        → HasRoom (λ e. laws.value (laws.tables (said (scope.now).unit.now)) true (index + 1) (place_of place) e) (extent.now).section.executable (extent.now).alignment offset (statement_of (statement.now).kind)) → ⊥) }
 {
     let line = statement.line;
     let shown = placed(scope, place, &statement.kind) && extent.section.loaded;
@@ -321,6 +342,7 @@ pub(crate) fn items(alloc: Global, unit: &Unit<'_>) -> Result<(Vec<Item>, Vec<u3
     ensures sections { IfOk result (λ r. length r.1.items ≡ length (unit.now).tables.extents.items) }
     ensures items { IfOk result (λ r. AreItems 1 laws.at_start (λ j. 0) (said unit.now) r.0.items (λ j. slice_index r.1.items j)) }
     ensures sized { IfOk result (λ r. AreSized (laws.tables (said unit.now)) 1 laws.at_start (said unit.now) r.0.items) }
+    ensures refuses { IfErr result (λ e. first_fault (said unit.now) ≡ None → size_fault (said unit.now) ≡ None → e ≡ OutOfMemory) }
 {
     let mut scope = Scope::new(unit);
     let statements = unit.statements();

@@ -8,3 +8,4 @@ mod Lookups
 mod Ordered
 mod Scoped
 mod Sized
+pub mod Constants

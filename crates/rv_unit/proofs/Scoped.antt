@@ -52,7 +52,7 @@ marked_passed ss i n within (Some m) e =
     stands_passed ss i m.place within
     (ltb-true m.place.section count (find_passes (λ k. nat_lt k.ordinal (i + 1) && (k.number == n)) (λ k. nat_lt k.place.section count) (passed ss i).marks m (passed_stood ss i).inside.marks e))
 
-past_name : (ss : List Spoken) (i : ℕ) (p : laws.Place) (name : List ℕ) → i ≤ length ss → laws.meaning (laws.tables ss) false (i + 1) p (Symbol name) ≡ laws.meaning (passed ss i) false (i + 1) p (Symbol name)
+pub past_name : (ss : List Spoken) (i : ℕ) (p : laws.Place) (name : List ℕ) → i ≤ length ss → laws.meaning (laws.tables ss) false (i + 1) p (Symbol name) ≡ laws.meaning (passed ss i) false (i + 1) p (Symbol name)
 past_name ss i p name within =
     let all = laws.tables ss in
     let t = passed ss i in
@@ -65,7 +65,7 @@ past_name ss i p name within =
 pub past_here : (ss : List Spoken) (i : ℕ) (p : laws.Place) → i ≤ length ss → p.section < length (passed ss i).opened.sections → laws.meaning (laws.tables ss) false (i + 1) p Here ≡ laws.meaning (passed ss i) false (i + 1) p Here
 past_here ss i p within inside = stands_passed ss i p within inside
 
-past_back : (ss : List Spoken) (i : ℕ) (p : laws.Place) (digits : List ℕ) → i ≤ length ss → laws.meaning (laws.tables ss) false (i + 1) p (Reference digits false) ≡ laws.meaning (passed ss i) false (i + 1) p (Reference digits false)
+pub past_back : (ss : List Spoken) (i : ℕ) (p : laws.Place) (digits : List ℕ) → i ≤ length ss → laws.meaning (laws.tables ss) false (i + 1) p (Reference digits false) ≡ laws.meaning (passed ss i) false (i + 1) p (Reference digits false)
 past_back ss i p digits within =
     let n = digits_value 10 digits in
     ap (laws.backward_in (laws.tables ss).opened) ((passed_keeps ss i within).marks (λ m. m.number == n))

@@ -4,3 +4,5 @@ pub mod Meant
 pub mod Entering
 pub mod Later
 pub mod Opened
+pub mod Settled
+pub mod Grown

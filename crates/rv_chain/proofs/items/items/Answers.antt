@@ -9,9 +9,11 @@ use Rattle.rv_unit_laws.specs.Tables.{stood, tables, value as value_of}
 use Rattle.rv_chain_laws.specs.Stated.{is_placed}
 use Rattle.rv_link_laws.specs.Items.{IsItem, grown}
 use Rattle.rv_chain.specs.Sized.{IsSized}
-use Rattle.rv_chain.specs.Measured.{IsExtentAt}
+use Rattle.rv_chain.specs.Measured.{IsExtentAt, HasRoom}
 use Rattle.rv_chain.proofs.Standing.{StandsAt, stands_at, places_count, stated_at}
-use Rattle.rv_chain.proofs.Itemized.{item_at, sized_at, grown_by, low_by, stands_inside, place_inside}
+use Rattle.rv_chain.proofs.Itemized.{item_at, room_at, sized_at, grown_by, low_by, stands_inside, place_inside}
+use Rattle.rv_chain.proofs.Roomy.{err_always}
+use Rattle.rv_chain.proofs.Rooms.{rooms_begin, rooms_more, roomy_now}
 use Rattle.rv_chain.proofs.SoFarItems.{AreItemsSoFar, items_begin, items_more, items_all}
 use Rattle.rv_chain.proofs.SoFarSized.{AreSizedSoFar, IsSizedAt, sized_begin, sized_more, sized_all}
 use Rattle.rv_chain.proofs.items.items.Goals as goal
@@ -29,6 +31,7 @@ loop-index-init c =
       sized = subst (λ l. AreSizedSoFar (tables ss) ss 0 l) (sym c.new-items.ensures.items) (sized_begin (tables ss) ss);
       sections = c.in_ok-ends.ensures.count ∙ ap length c.sections-extents.ensures;
       count = ap length c.new-items.ensures.items;
+      room = λ good sizes. rooms_begin ss (λ j. slice_index c.in_ok-ends.ends.items j) sizes none;
       low = λ j. subst (λ n. n ≤ 2 ^ 28) (sym (none j)) (omega arith);
     }
 
@@ -78,6 +81,33 @@ grow-requires-clause-section c =
 pub grow-requires-clause-fits : goal.grow-requires-clause-fits
 grow-requires-clause-fits c = c.in_ok-item.ensures.fits
 
+pub returns-in_err-item-clause-refuses : goal.returns-in_err-item-clause-refuses
+returns-in_err-item-clause-refuses c =
+    let u = c.args.unit.now in
+    let ss = said u in
+    let i = c.loop-index.index in
+    let inv = c.loop-index.invariant in
+    let ends = c.loop-index.ends.items in
+    let before = λ (j : ℕ). slice_index ends j in
+    let x = c.index-statements-index.result in
+    let p : Place = slice_index_or c.places-places.result.now i (record { section = 0; offset = 0 }) in
+    let inside = subst (λ l. i < length l) c.statements-statements.ensures c.loop-index-test.true in
+    let is : x ≡ get_or u.statements.items i x = c.index-statements-index.is ∙ ap (λ l. get_or l i x) c.statements-statements.ensures in
+    let at : StandsAt u i x p = stands_at u i x x (record { section = 0; offset = 0 }) p c.requires inside is (ap (λ l. get_or l i (record { section = 0; offset = 0 })) c.places-places.ensures) in
+    let same = inv.unit in
+    let filled = subst IsFilled (sym same) c.requires in
+    let e = c.extent_at-extent.result in
+    let there : IsExtentAt u.tables.extents.items p.section e = subst (λ l. IsExtentAt l p.section e) c.sections-extents.ensures c.extent_at-extent.ensures in
+    let offset : slice_index ends p.section ≡ c.end-offset.result = sym (c.end-offset.ensures ∙ ap (λ l. slice_index l p.section) c.as_slice.ensures.value) in
+    err_always c.from_residual-in_err-item.result (λ y good sizes.
+    absurd (c.in_err-item.ensures.refuses i filled inv.scope (subst (λ w. place_of p ≡ stood (passed (said w) i) (i + 1) (statement_of x.kind)) (sym same) at.place)
+    (subst
+    (λ w. is_placed (passed (said w) i) (i + 1) (statement_of x.kind) ≡ true → e.section.loaded ≡ true → HasRoom (λ t. value_of (tables (said w)) true (i + 1) (place_of p) t) e.section.executable e.alignment c.end-offset.result (statement_of x.kind))
+    (sym same)
+    (λ placed loaded.
+    subst (λ n. HasRoom (λ t. value_of (tables ss) true (i + 1) (place_of p) t) e.section.executable e.alignment n (statement_of x.kind)) offset
+    (room_at u i x p e before _ c.requires at there (roomy_now ss i (said_by x) at.here good before inv.low (inv.room good sizes) placed))))))
+
 pub loop-index-preserved : goal.loop-index-preserved
 loop-index-preserved c =
     let u = c.args.unit.now in
@@ -121,6 +151,7 @@ loop-index-preserved c =
           (sized_more (tables ss) ss i (said_by x) c.loop-index.items.items y at.here sized inv.sized);
       sections = ap length c.grow.ensures ∙ length-set ends y.section (y.offset + y.bytes) ∙ inv.sections;
       count = ap length c.in_ok-push.ensures.items ∙ length-append c.loop-index.items.items (y ∷ []) ∙ ap (λ n. n + 1) inv.count;
+      room = λ good sizes. rooms_more ss i (said_by x) at.here good before inv.low (inv.room good sizes) y one sized behind grows;
       low = λ j. subst (λ l. slice_index l j ≤ 2 ^ 28) (sym c.grow.ensures) (low_by ends y.section (y.offset + y.bytes) j room told.fits inv.low);
     }
 

@@ -1,10 +1,10 @@
-use Rattle.std.proofs.Common.{◌≡◌, ℕ, ◌+◌, true}
-use Rattle.std.proofs.lemmas.Result.{IfOk-weaker}
+use Rattle.std.proofs.Common.{◌≡◌, ℕ, ◌+◌, true, rules}
+use Rattle.std.proofs.lemmas.Result.{IfErr-weaker, IfOk-weaker}
 use Rattle.rv_statement.specs.View.{statement_of}
 use Rattle.rv_unit_laws.specs.Tables as laws
 use Rattle.rv_unit.specs.Sections.{place_of}
 use Rattle.rv_unit.specs.Unit.{said, IsFilled, IsScope}
-use Rattle.rv_chain.specs.Measured.{IsSize}
+use Rattle.rv_chain.specs.Measured.{HasSize, IsSize}
 use Rattle.rv_chain.proofs.items.shown_size.Goals as goal
 
 pub returns-clause-size : goal.returns-clause-size
@@ -16,4 +16,16 @@ returns-clause-size c =
     (λ n. (index : ℕ) → IsFilled u → IsScope c.args.scope.now index → IsSize (λ e. laws.value (laws.tables (said u)) true (index + 1) p e) extent.section.executable extent.alignment c.args.offset (statement_of c.args.statement.now.kind) n)
     (λ n. (index : ℕ) → IsFilled u → IsScope c.args.scope.now index → c.args.shown ≡ true → IsSize (λ e. laws.value (laws.tables (said u)) true (index + 1) p e) extent.section.executable extent.alignment c.args.offset (statement_of c.args.statement.now.kind) n)
     (λ n h index f s shown. h index f s)
-    c.size.ensures
+    c.size.ensures.size
+
+pub returns-clause-refuses : goal.returns-clause-refuses
+returns-clause-refuses c =
+    let u = c.args.scope.now.unit.now in
+    let p = place_of c.args.place in
+    let extent = c.args.extent in
+    let shown : c.args.shown ≡ true = search rules in
+    IfErr-weaker c.size.result
+    (λ y. (index : ℕ) → IsFilled u → IsScope c.args.scope.now index → HasSize (λ e. laws.value (laws.tables (said u)) true (index + 1) p e) extent.section.executable extent.alignment c.args.offset (statement_of c.args.statement.now.kind) → ⊥)
+    (λ y. (index : ℕ) → IsFilled u → IsScope c.args.scope.now index → (c.args.shown ≡ true → HasSize (λ e. laws.value (laws.tables (said u)) true (index + 1) p e) extent.section.executable extent.alignment c.args.offset (statement_of c.args.statement.now.kind)) → ⊥)
+    (λ y h index f s has. h index f s (has shown))
+    c.size.ensures.refuses
