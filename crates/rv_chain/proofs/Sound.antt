@@ -1,12 +1,17 @@
 -- In a source without faults no statement has one.
 
-use Rattle.std.proofs.Common.{◌≡◌, ℕ, zero, suc, ◌+◌, List, [], ◌∷◌, take, drop, None, subst, arith}
-use Rattle.std.specs.Prelude.{⊤}
-use Rattle.rv_statement.specs.Statement.{Spoken}
-use Rattle.rv_unit_laws.specs.Tables.{Tables, at_start, after, after_all, tables}
-use Rattle.rv_unit_laws.specs.Faults.{faults, lowest, first_fault_from, first_fault}
+use Rattle.std.proofs.Common.{◌≡◌, ℕ, zero, suc, ◌+◌, ◌*◌, true, ◌||◌, List, [], ◌∷◌, ◌++◌, length, take, drop, None, subst, arith}
+use Rattle.std.specs.Prelude.{⊤, flat_map}
+use Rattle.std.specs.List.{AllByRecursion}
+use Rattle.rv_text_laws.specs.Values.{Value, Constant, Symbolic, Difference, Faulty}
+use Rattle.rv_statement.specs.Statement.{Statement, Label, Numbered, Instruction, Directs, Spoken, Expression, Directive, Values}
+use Rattle.rv_unit_laws.specs.Sections.{current_section}
+use Rattle.rv_unit_laws.specs.Tables.{Tables, at_start, here, value, after, after_all, tables, stood}
+use Rattle.rv_unit_laws.specs.Faults.{faulty_if, value_faults, past_section, directive_faults, faults, lowest, first_fault_from, first_fault}
 use Rattle.rv_unit.specs.Unit.{passed}
-use Rattle.rv_chain_laws.proofs.Held.{no_lowest, no_fault}
+use Rattle.rv_chain_laws.specs.Refusals.{data_values}
+use Rattle.rv_chain_laws.proofs.Held.{none_left, no_lowest, no_fault}
+use Rattle.rv_chain.specs.Undefined.{HasValue, HaveValues}
 
 -- no statement from an ordinal on has a fault
 abbrev pub AreSound : Tables → ℕ → Tables → List Spoken → Type 0
@@ -36,3 +41,34 @@ sound_left all k t (x ∷ xs) (suc i) s rest e h =
 -- of the statement at an index of a source
 pub sound_at : (ss : List Spoken) (i : ℕ) (s : Spoken) (rest : List Spoken) → drop i ss ≡ s ∷ rest → first_fault ss ≡ None → faults (tables ss) (passed ss i) (i + 1) s.says ≡ []
 sound_at ss i s rest e good = sound_left (tables ss) 1 at_start ss i s rest e (sound ss good)
+
+-- ---- the values of data
+
+no_value_fault : (width : ℕ) (v : Value) → value_faults width v ≡ [] → HasValue v
+no_value_fault width (Constant n) e = tt
+no_value_fault width (Symbolic p at k) e = tt
+no_value_fault width (Difference p q k) e = tt
+no_value_fault width (Faulty c) e = absurd (cc)
+
+all_values : (width : ℕ) (v : Expression → Value) (es : List Expression) → flat_map (λ e. value_faults width (v e)) es ≡ [] → AllByRecursion (λ e. HasValue (v e)) es
+all_values width v [] e = tt
+all_values width v (x ∷ xs) e =
+    let parts = none_left (value_faults width (v x)) (flat_map (λ e. value_faults width (v e)) xs) e in
+    (no_value_fault width (v x) parts.0, all_values width v xs parts.1)
+
+directive_values : (all t : Tables) (k : ℕ) (d : Directive) → directive_faults all t k d ≡ [] → AllByRecursion (λ e. HasValue (value all true k (stood t k (Directs d)) e)) (data_values (Directs d))
+directive_values all t k (Values width values) e =
+    all_values width (λ x. value all true k (here t) x) values
+    (none_left (flat_map (λ x. value_faults width (value all true k (here t) x)) values)
+    (faulty_if ((current_section t.opened).executable || (current_section t.opened).nobits) 15 ++ past_section (current_section t.opened).executable (here t).offset (width * length values)) e).0
+directive_values all t k _ e = tt
+
+statement_values : (all t : Tables) (k : ℕ) (says : Statement) → faults all t k says ≡ [] → AllByRecursion (λ e. HasValue (value all true k (stood t k says) e)) (data_values says)
+statement_values all t k (Label name) e = tt
+statement_values all t k (Numbered number) e = tt
+statement_values all t k (Instruction mnemonic operands) e = tt
+statement_values all t k (Directs d) e = directive_values all t k d e
+
+-- those of the statement at an index are no faults
+pub values_at : (ss : List Spoken) (i : ℕ) (s : Spoken) (rest : List Spoken) → drop i ss ≡ s ∷ rest → first_fault ss ≡ None → HaveValues ss i (stood (passed ss i) (i + 1) s.says) (data_values s.says)
+values_at ss i s rest e good = statement_values (tables ss) (passed ss i) (i + 1) s.says (sound_at ss i s rest e good)

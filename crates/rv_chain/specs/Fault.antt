@@ -1,10 +1,10 @@
 -- How messages show a fault of the link.
 
-use Rattle.std.specs.Prelude.{ℕ, List, Option, Some, None, codes}
+use Rattle.std.specs.Prelude.{ℕ, ⊤, List, Option, Some, None, codes}
 use Rattle.rv_text.specs.declared.fault.SourceFault.{SourceFault}
 use Rattle.rv_text.specs.declared.fault.SourceFault.TheVariants as refusals
 use Rattle.rv_chain.specs.declared.fault.Fault.{Fault}
-use Rattle.rv_chain.specs.declared.fault.Fault.TheVariants.{Source, Memory}
+use Rattle.rv_chain.specs.declared.fault.Fault.TheVariants.{Source, File, Link, Memory}
 use Rattle.rv_chain.specs.declared.fault.LinkFault.{LinkFault}
 use Rattle.rv_chain.specs.declared.fault.LinkFault.TheVariants.{Overflow, Undefined, EntryMissing, ImageTooLarge, BadTextStart, TooManyFiles, OutOfMemory}
 
@@ -31,3 +31,10 @@ name_of OutOfMemory = codes "out of memory"
 abbrev pub of_source : SourceFault → Fault
 of_source (refusals.At code line) = Source 1 (refusals.At code line)
 of_source refusals.OutOfMemory = Memory
+
+-- a fault that no source or file has: one of the link, or want of memory
+abbrev pub IsOfLink : Fault → Type 0
+IsOfLink (Link fault) = ⊤
+IsOfLink Memory = ⊤
+IsOfLink (Source index fault) = ⊥
+IsOfLink (File index fault) = ⊥

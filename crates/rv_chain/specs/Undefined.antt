@@ -1,7 +1,9 @@
 -- The names without an address, as the code finds them.
 
-use Rattle.std.specs.Prelude.{◌≡◌, ℕ, suc, ◌+◌, ◌==◌, ◌&&◌, ◌||◌, Bool, true, false, List, [], ◌∷◌, flat_map, filter, Option, Some, None, option_map, slice_index_or}
+use Rattle.std.specs.Prelude.{◌≡◌, ℕ, suc, ◌+◌, ◌==◌, ◌&&◌, ◌||◌, Bool, true, false, ⊤, List, [], ◌∷◌, flat_map, filter, Option, Some, None, option_map, slice_index_or}
 use Rattle.std.specs.Borrow.{Bor}
+use Rattle.std.specs.List.{AllByRecursion}
+use Rattle.rv_text_laws.specs.Values.{Value, Faulty}
 use Rattle.rv_text_laws.specs.Expression.{Primary}
 use Rattle.rv_statement.specs.Statement.{Spoken, Expression}
 use Rattle.rv_statement.specs.View.{now_of}
@@ -32,6 +34,15 @@ pub record Sees (s : Scope) (is : List Item) (index : ℕ) : Type 0 where
   pub stands : IsScope s index
   pub last : ℕ → ℕ
   pub items : AreItems 1 at_start (λ j. 0) (said s.unit.now) is last
+
+-- an expression has a value that is no fault
+abbrev pub HasValue : Value → Type 0
+HasValue (Faulty code) = ⊥
+HasValue _ = ⊤
+
+-- expressions of the statement at an index
+abbrev pub HaveValues : List Spoken → ℕ → Place → List Expression → Type 0
+HaveValues ss index place es = AllByRecursion (λ e. HasValue (value (tables ss) true (index + 1) place e)) es
 
 -- what is found is the first of the names
 abbrev pub IsFirst : Option (Bor (List ℕ)) → List (List ℕ) → Type 0

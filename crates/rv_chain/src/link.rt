@@ -1,15 +1,17 @@
 //! One source as a program: its statements and sections in their places, its names with their addresses, and its
 //! regions with their bytes.
 
-ghost use Rattle.std.specs.Prelude.{◌≡◌, ◌<◌, ◌%◌, [], ◌∷◌, None, IfOk, map, length};
+ghost use Rattle.std.specs.Prelude.{◌≡◌, ◌<◌, ◌%◌, [], ◌∷◌, None, IfErr, IfOk, map, length};
 ghost use Rattle.rv_unit_laws.specs.Faults.{first_fault};
 ghost use Rattle.rv_unit.specs.Unit.{said, IsFilled};
 ghost use Rattle.rv_map.specs.Map.{global_of, map_of as shown_map};
 ghost use Rattle.rv_image.specs.Linked.{linked_of};
 ghost use Rattle.rv_chain_laws.specs.Contents.{IsLinked};
+ghost use Rattle.rv_chain_laws.specs.Refusals.{size_fault};
 ghost use Rattle.rv_link.specs.Contents.{contents_of};
 ghost use Rattle.rv_link.specs.Globals.{AreGlobals};
 ghost use Rattle.rv_link_laws.specs.Laws.{map_of};
+ghost use Rattle.rv_chain.specs.Fault.{IsOfLink};
 ghost use Rattle.rv_chain.specs.Valued.{GivesData};
 ghost use Rattle.rv_chain.specs.Linking.{StandsFrom, AreNamed};
 
@@ -86,6 +88,7 @@ fn place(alloc: Global, unit: &Unit<'_>, globals: &Globals<'_>, start: u64) -> R
     ensures stands { IfOk result (StandsFrom (said unit.now) start) }
     ensures items { IfOk result (λ x. length x.items.items ≡ length (unit.now).statements.items) }
     ensures pieces { IfOk result (λ x. length x.pieces.items ≡ length (unit.now).tables.extents.items) }
+    ensures refuses { IfErr result (λ fault. first_fault (said unit.now) ≡ None → size_fault (said unit.now) ≡ None → IsOfLink fault) }
 {
     let (items, ends) = items(alloc, unit)?;
     if let Some(name) = undefined(alloc, unit, items.as_slice())? {

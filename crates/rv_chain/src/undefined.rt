@@ -1,19 +1,21 @@
 //! The names that data refer to and nobody defines.
 
-ghost use Rattle.std.specs.Prelude.{◌≡◌, ◌<◌, ◌==◌, ◌∷◌, [], ℕ, None, Some, map, slice_get, length, option_map, IfOk, OnOk, if◌then◌else◌};
+ghost use Rattle.std.specs.Prelude.{◌≡◌, ◌<◌, ◌==◌, ◌∷◌, [], ℕ, None, Some, map, slice_get, length, option_map, IfErr, IfOk, OnOk, if◌then◌else◌};
 ghost use Rattle.rv_text_laws.specs.Values as values;
 ghost use Rattle.rv_text.specs.Nodes.{symbol_of};
 ghost use Rattle.rv_text.specs.Eval.{value_told};
+ghost use Rattle.rv_text.specs.declared.fault.SourceFault.TheVariants.{OutOfMemory};
 ghost use Rattle.rv_text.specs.Expr.{tree_of_expr};
 ghost use Rattle.rv_statement.specs.View.{said_by, now_of};
+ghost use Rattle.rv_unit_laws.specs.Faults.{first_fault};
 ghost use Rattle.rv_unit_laws.specs.Sections.{Section as Home};
 ghost use Rattle.rv_unit_laws.specs.Tables.{at_start};
 ghost use Rattle.rv_unit.specs.Sections.{place_of, extent_section};
-ghost use Rattle.rv_unit.specs.Unit.{said, IsFilled};
+ghost use Rattle.rv_unit.specs.Unit.{said, IsFilled, IsScope};
 ghost use Rattle.rv_chain_laws.specs.Refusals as laws;
 ghost use Rattle.rv_chain_laws.specs.Refusals.{data_values, first_name};
 ghost use Rattle.rv_link_laws.specs.Items.{AreItems};
-ghost use Rattle.rv_chain.specs.Undefined.{shown_by, addressed, missing_at, Sees, IsFirst, found_in, else_name, first_in, first_some};
+ghost use Rattle.rv_chain.specs.Undefined.{shown_by, addressed, missing_at, HaveValues, Sees, IsFirst, found_in, else_name, first_in, first_some};
 
 use rv_link::Item;
 use rv_statement::{Statement, StatementKind};
@@ -104,7 +106,8 @@ fn missing_of<'a>(
     place: Place,
     line: u32,
 ) -> Result<Option<&'a [u8]>, SourceFault>
-    ensures { IfOk result (λ found. (index : ℕ) → Sees scope.now items.now index → IsFirst found (missing_at (said (scope.now).unit.now) index (place_of place) (tree_of_expr value.now ∷ []))) }
+    ensures first { IfOk result (λ found. (index : ℕ) → Sees scope.now items.now index → IsFirst found (missing_at (said (scope.now).unit.now) index (place_of place) (tree_of_expr value.now ∷ []))) }
+    ensures refuses { IfErr result (λ _. (index : ℕ) → IsFilled (scope.now).unit.now → IsScope scope.now index → HaveValues (said (scope.now).unit.now) index (place_of place) (tree_of_expr value.now ∷ []) → ⊥) }
 {
     let value = scope.value(place, value, line)?;
     Ok(missing_in(scope, items, value))
@@ -118,7 +121,8 @@ fn missing_among<'a>(
     place: Place,
     line: u32,
 ) -> Result<Option<&'a [u8]>, SourceFault>
-    ensures { IfOk result (λ found. (index : ℕ) → Sees scope.now items.now index → IsFirst found (missing_at (said (scope.now).unit.now) index (place_of place) (map tree_of_expr values.now))) }
+    ensures first { IfOk result (λ found. (index : ℕ) → Sees scope.now items.now index → IsFirst found (missing_at (said (scope.now).unit.now) index (place_of place) (map tree_of_expr values.now))) }
+    ensures refuses { IfErr result (λ _. (index : ℕ) → IsFilled (scope.now).unit.now → IsScope scope.now index → HaveValues (said (scope.now).unit.now) index (place_of place) (map tree_of_expr values.now) → ⊥) }
 {
     for value in values {
         match missing_of(scope, items, value, place, line)? {
@@ -136,7 +140,8 @@ fn missing_by<'a>(
     statement: &Statement<'a>,
     place: Place,
 ) -> Result<Option<&'a [u8]>, SourceFault>
-    ensures { IfOk result (λ found. (index : ℕ) → Sees scope.now items.now index → IsFirst found (missing_at (said (scope.now).unit.now) index (place_of place) (data_values (said_by statement.now).says))) }
+    ensures first { IfOk result (λ found. (index : ℕ) → Sees scope.now items.now index → IsFirst found (missing_at (said (scope.now).unit.now) index (place_of place) (data_values (said_by statement.now).says))) }
+    ensures refuses { IfErr result (λ _. (index : ℕ) → IsFilled (scope.now).unit.now → IsScope scope.now index → HaveValues (said (scope.now).unit.now) index (place_of place) (data_values (said_by statement.now).says) → ⊥) }
 {
     let line = statement.line;
     match &statement.kind {
@@ -159,9 +164,10 @@ fn keep<'a>(
     loaded: bool,
 ) -> Result<(), SourceFault>
     requires { place.section < length found.old }
-    ensures { OnOk result ((index j : ℕ) → Sees scope.now items.now index → found_in found.new j ≡ (if place.section == j
+    ensures first { OnOk result ((index j : ℕ) → Sees scope.now items.now index → found_in found.new j ≡ (if place.section == j
         then else_name (found_in found.old j) (if loaded then first_name (missing_at (said (scope.now).unit.now) index (place_of place) (data_values (said_by statement.now).says)) else None)
         else found_in found.old j)) }
+    ensures refuses { IfErr result (λ _. (index : ℕ) → IsFilled (scope.now).unit.now → IsScope scope.now index → HaveValues (said (scope.now).unit.now) index (place_of place) (data_values (said_by statement.now).says) → ⊥) }
 {
     let section = place.section as usize;
     if !loaded {
@@ -200,6 +206,7 @@ fn missing_names<'a>(
     requires { IsFilled unit.now }
     ensures count { IfOk result (λ found. length found.items ≡ length (unit.now).tables.extents.items) }
     ensures first { IfOk result (λ found. (last : ℕ → ℕ) (j : ℕ) → AreItems 1 at_start (λ j. 0) (said unit.now) items.now last → found_in found.items j ≡ first_in (said unit.now) j) }
+    ensures refuses { IfErr result (λ e. first_fault (said unit.now) ≡ None → e ≡ OutOfMemory) }
 {
     let sections = unit.sections();
     let mut found = no_names(alloc, sections.len())?;
@@ -236,7 +243,8 @@ pub(crate) fn undefined<'a>(
     items: &[Item],
 ) -> Result<Option<&'a [u8]>, SourceFault>
     requires { IsFilled unit.now }
-    ensures { IfOk result (λ found. (last : ℕ → ℕ) → AreItems 1 at_start (λ j. 0) (said unit.now) items.now last → option_map now_of found ≡ laws.undefined (said unit.now)) }
+    ensures first { IfOk result (λ found. (last : ℕ → ℕ) → AreItems 1 at_start (λ j. 0) (said unit.now) items.now last → option_map now_of found ≡ laws.undefined (said unit.now)) }
+    ensures refuses { IfErr result (λ e. first_fault (said unit.now) ≡ None → e ≡ OutOfMemory) }
 {
     let names = missing_names(alloc, unit, items)?;
     Ok(first_found(names.as_slice()))

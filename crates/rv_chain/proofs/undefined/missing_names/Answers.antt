@@ -3,13 +3,15 @@ use Rattle.std.specs.Prelude.{slice_index_or, if◌then◌else◌}
 use Rattle.std.specs.List.{slice_get}
 use Rattle.std.proofs.lemmas.List.{length-map}
 use Rattle.rv_statement.specs.View.{said_by}
-use Rattle.rv_unit_laws.specs.Tables.{at_start}
+use Rattle.rv_unit_laws.specs.Tables.{at_start, Place as Standing}
 use Rattle.rv_chain_laws.specs.Refusals.{first_name, data_values}
 use Rattle.rv_link_laws.specs.Items.{AreItems}
 use Rattle.rv_unit.specs.declared.place.Place.{Place}
 use Rattle.rv_unit.specs.Unit.{said, IsFilled}
 use Rattle.rv_unit.specs.Sections.{extent_section, place_of}
-use Rattle.rv_chain.specs.Undefined.{missing_at, else_name, found_in}
+use Rattle.rv_chain.specs.Undefined.{missing_at, else_name, found_in, HaveValues}
+use Rattle.rv_chain.proofs.Roomy.{err_always}
+use Rattle.rv_chain.proofs.Sound.{values_at}
 use Rattle.rv_chain.proofs.FirstNames.{FirstSoFar, first_begins, first_more, first_all, kept_there, taken_back, section_inside}
 use Rattle.rv_chain.proofs.Standing.{StandsAt, stands_at, places_count, stated_at, stated_none}
 use Rattle.rv_chain.proofs.undefined.missing_names.Goals as goal
@@ -64,7 +66,7 @@ loop-index-preserved c =
     let loaded : c.is_loaded-loaded.result ≡ home.loaded = c.is_loaded-loaded.ensures home (subst (λ l. slice_get (map extent_section l) p.section ≡ Some home) (sym c.sections-sections.ensures) at.home) in
     let kept = λ (last : ℕ → ℕ) (items : AreItems 1 at_start (λ j. 0) (said u) c.args.items.now last) (j : ℕ).
     subst (λ w. found_in new j ≡ (if p.section == j then else_name (found_in c.as_mut_slice-names.result.now j) (if c.is_loaded-loaded.result then first_name (missing_at (said w) i (place_of p) (data_values (said_by x).says)) else None) else found_in c.as_mut_slice-names.result.now j)) same
-    (c.in_ok-keep.ensures i j (record { filled = filled; stands = c.loop-index.invariant.1; last = last; items = subst (λ w. AreItems 1 at_start (λ j. 0) (said w) c.args.items.now last) (sym same) items })) in (
+    (c.in_ok-keep.ensures.first i j (record { filled = filled; stands = c.loop-index.invariant.1; last = last; items = subst (λ w. AreItems 1 at_start (λ j. 0) (said w) c.args.items.now last) (sym same) items })) in (
       ap (λ b. b.now) c.pass.ensures.unit ∙ same,
       c.pass.ensures.passes i within' c.loop-index.invariant.1,
       ap (λ l. length l) back ∙ c.keep.auto.found ∙ ap length c.as_mut_slice-names.ensures.value ∙ c.loop-index.invariant.2,
@@ -80,3 +82,20 @@ returns-clause-first c = λ last j items.
     let i = c.loop-index.index in
     let past = subst (λ l. length l ≤ i) c.statements-statements.ensures c.loop-index-test.false in
     first_all (said u) i c.loop-index.found.items (stated_none (said u) i (subst (λ n. n ≤ i) (sym (length-map u.statements.items said_by)) past)) (c.loop-index.invariant.3 last items) j
+
+pub returns-in_err-keep-clause-refuses : goal.returns-in_err-keep-clause-refuses
+returns-in_err-keep-clause-refuses c =
+    let u = c.args.unit.now in
+    let i = c.loop-index.index in
+    let x = c.index-statements-index.result in
+    let p : Place = slice_index_or c.places-places.result.now i (record { section = 0; offset = 0 }) in
+    let inside = subst (λ l. i < length l) c.statements-statements.ensures c.loop-index-test.true in
+    let is : x ≡ get_or u.statements.items i x = c.index-statements-index.is ∙ ap (λ l. get_or l i x) c.statements-statements.ensures in
+    let at : StandsAt u i x p = stands_at u i x x (record { section = 0; offset = 0 }) p c.requires inside is (ap (λ l. get_or l i (record { section = 0; offset = 0 })) c.places-places.ensures) in
+    let same = c.loop-index.invariant.0 in
+    let filled = subst IsFilled (sym same) c.requires in
+    err_always c.from_residual-in_err-keep.result (λ y good.
+    absurd (c.in_err-keep.ensures.refuses i filled c.loop-index.invariant.1
+    (subst (λ w. HaveValues (said w) i (place_of p) (data_values (said_by x).says)) (sym same)
+    (subst (λ (q : Standing). HaveValues (said u) i q (data_values (said_by x).says)) (sym at.place)
+    (values_at (said u) i (said_by x) (drop (i + 1) (said u)) at.here good)))))
