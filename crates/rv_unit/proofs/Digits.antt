@@ -6,7 +6,7 @@ use Rattle.std.proofs.lemmas.Bool.{eqb-true, eqb-false}
 use Rattle.std.proofs.lemmas.List.{length-append, take_more}
 use Rattle.std.proofs.Math.Nat.{pow-succ'}
 use Rattle.rv_text_laws.specs.Bytes.{value, digit}
-use Rattle.rv_unit.specs.Mixed.{IsSome, mix, mix_digit, mix_within}
+use Rattle.rv_unit.specs.Mixed.{HasNoZeroInFront, mix, mix_digit, mix_within}
 
 pub value-last : (ds : List ℕ) (d : ℕ) → value 10 (ds ++ d ∷ []) ≡ 10 * value 10 ds + digit d
 value-last [] d = omega arith
@@ -115,7 +115,7 @@ mix_more v front last carry h n is some so_far =
     ∙ ap (λ k. mix (front + (carry + last) / 10) (mix_digit h k)) (let e : (v + carry) % 10 ≡ (carry + last) % 10 = omega (arith, is) in e)
 
 -- a number whose first digit is no zero is none
-pub some_value : (ds : List ℕ) → IsSome ds → 0 < length ds → 0 < value 10 ds
+pub some_value : (ds : List ℕ) → HasNoZeroInFront ds → 0 < length ds → 0 < value 10 ds
 some_value [] some long = absurd (omega arith)
 some_value (d ∷ ds) some long =
     let p : 0 < 10 ^ length ds = power (length ds) in
@@ -141,7 +141,7 @@ behind_zero (x ∷ ds) d long at is =
     let none : 0 * 10 ^ length ds + value 10 ds ≡ value 10 ds = grind arith in
     (ap (value 10) rest ∙ sym (zero_digit ∙ none), subst (λ n. n < length (x ∷ ds)) (sym (ap length rest)) (omega arith))
 
-pub first_some : (ds : List ℕ) (d : ℕ) → d ≡ digit (get_or ds 0 0) → 0 < d → IsSome ds
+pub first_some : (ds : List ℕ) (d : ℕ) → d ≡ digit (get_or ds 0 0) → 0 < d → HasNoZeroInFront ds
 first_some [] d at some = tt
 first_some (x ∷ ds) d at some = subst (λ n. 0 < n) at some
 

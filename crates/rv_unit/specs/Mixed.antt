@@ -23,6 +23,6 @@ unfoldable pub mix : ℕ → ℕ → ℕ
 mix n number = mix_within n n number
 
 -- the first digit, if there is one, is no zero
-abbrev pub IsSome : List ℕ → Type 0
-IsSome [] = Unit {0}
-IsSome (d ∷ ds) = 0 < digit d
+abbrev pub HasNoZeroInFront : List ℕ → Type 0
+HasNoZeroInFront [] = Unit {0}
+HasNoZeroInFront (d ∷ ds) = 0 < digit d

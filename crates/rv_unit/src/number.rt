@@ -6,7 +6,7 @@ ghost use Rattle.std.specs.Hash as fed;
 ghost use Rattle.std.proofs.Common.{ap, rules};
 ghost use Rattle.std.proofs.lemmas.Bool.{eqb-true};
 ghost use Rattle.rv_text_laws.specs.Bytes.{value, digit};
-ghost use Rattle.rv_unit.specs.Mixed.{IsSome, basis, mix, mix_digit};
+ghost use Rattle.rv_unit.specs.Mixed.{HasNoZeroInFront, basis, mix, mix_digit};
 
 use indexmap::Equivalent;
 use std::hash::{Hash, Hasher};
@@ -39,7 +39,7 @@ fn digit(byte: u8) -> u8
 /// The digits behind a zero in front.
 fn behind_zero(digits: &[u8]) -> Option<&[u8]>
     ensures found { IfSome result (λ rest. (value 10 rest.now ≡ value 10 digits.now) × (length rest.now < length digits.now)) }
-    ensures missing { result ≡ None → IsSome digits.now }
+    ensures missing { result ≡ None → HasNoZeroInFront digits.now }
 {
     match digits {
         [] => None,
@@ -50,7 +50,7 @@ fn behind_zero(digits: &[u8]) -> Option<&[u8]>
 /// The digits without the zeros in front.
 fn trimmed(digits: &[u8]) -> &[u8]
     ensures value { value 10 result.now ≡ value 10 digits.now }
-    ensures some { IsSome result.now }
+    ensures some { HasNoZeroInFront result.now }
 {
     let mut left = digits;
     while let Some(rest) = behind_zero(left) {
@@ -61,7 +61,7 @@ fn trimmed(digits: &[u8]) -> &[u8]
 
 /// The digits without the last, and its value; without any 0.
 fn cut_last(digits: &[u8]) -> (&[u8], u8)
-    ensures some { IsSome digits.now → IsSome result.0.now }
+    ensures some { HasNoZeroInFront digits.now → HasNoZeroInFront result.0.now }
     ensures value { value 10 digits.now ≡ 10 * value 10 result.0.now + result.1 }
     ensures below { result.1 ≤ 16 }
     ensures shorter { length result.0.now ≡ length digits.now - 1 }
