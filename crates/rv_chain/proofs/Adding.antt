@@ -12,9 +12,9 @@ use Rattle.rv_statement.specs.declared.mnemonic.Mnemonic.{Mnemonic}
 use Rattle.rv_statement.specs.Statement.{Statement, Label, Numbered, Instruction, Directs, Expression, Spoken}
 use Rattle.rv_unit_laws.specs.Faults.{faulty_if}
 use Rattle.rv_chain_laws.specs.Contents.{words}
-use Rattle.rv_chain_laws.specs.Fits.{is_constant}
+use Rattle.rv_source_laws.specs.Fits.{is_constant}
 use Rattle.rv_chain_laws.specs.Refusals.{Options, instruction_faults, operand_faults, code_size}
-use Rattle.rv_chain_laws.specs.Sites.{expressions}
+use Rattle.rv_source_laws.specs.Sites.{expressions}
 use Rattle.rv_chain_laws.proofs.Held.{none_left}
 use Rattle.rv_link_laws.specs.Suits.{constant_in, code_said}
 use Rattle.rv_chain.specs.Choices.{options_of}

@@ -11,8 +11,8 @@ use Rattle.rv_statement.specs.Statement.{Statement, Label, Numbered, Instruction
 use Rattle.rv_unit_laws.specs.Faults.{first_fault}
 use Rattle.rv_unit_laws.specs.Sections.{Section, Opened, text_section, section_at, current_section, entered, entered_at, entered_by, place_of_name, most_sections, goes_to_text}
 use Rattle.rv_unit_laws.specs.Tables.{Tables, Setting, at_start, here, value, given, asked, data_bytes, changed_at, is_defined, may_set, or_none, with_label, with_setting, with_section, with_data, with_choice, opened_more, after, after_directive, after_all, tables}
-use Rattle.rv_chain_laws.specs.Fits.{begins_at}
-use Rattle.rv_chain_laws.specs.Stated.{Stated, stated_now, stated_from, is_placed, is_placed_directive}
+use Rattle.rv_source_laws.specs.Fits.{begins_at}
+use Rattle.rv_source_laws.specs.Stated.{Stated, stated_now, stated_from, is_placed, is_placed_directive}
 use Rattle.rv_chain_laws.proofs.Held.{Held, IsHeld, DirectiveHeld, held_of}
 use Rattle.rv_link.specs.declared.rows.Item.{Item}
 use Rattle.rv_link_laws.specs.Bytes.{AreEven}

@@ -18,7 +18,7 @@ use Rattle.rv_unit.specs.Sections.{extent_section}
 use Rattle.rv_unit.specs.declared.place.Place.{Place as Standing}
 use Rattle.rv_unit.specs.declared.unit.Unit.{Unit as SourceUnit}
 use Rattle.rv_unit.specs.Unit.{said, passed, IsFilled}
-use Rattle.rv_chain_laws.specs.Stated.{Stated, stated, stated_from, has_row}
+use Rattle.rv_source_laws.specs.Stated.{Stated, stated, stated_from, has_row}
 use Rattle.rv_chain_laws.specs.Refusals.{first_name, missing_by, data_values, in_sections, undefined}
 use Rattle.rv_link.specs.declared.rows.Item.{Item}
 use Rattle.rv_link_laws.specs.Items.{AreItems, grown}

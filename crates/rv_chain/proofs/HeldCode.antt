@@ -15,9 +15,9 @@ use Rattle.rv_unit.specs.Sections.{extent_section}
 use Rattle.rv_unit.specs.Unit.{said, IsFilled}
 use Rattle.rv_unit.specs.declared.unit.Unit.{Unit as SourceUnit}
 use Rattle.rv_chain_laws.specs.Contents.{code_bytes}
-use Rattle.rv_chain_laws.specs.Fits.{sites_in}
-use Rattle.rv_chain_laws.specs.Sites.{Program, Site, program, form, tables_in, entries_of, sites_of}
-use Rattle.rv_chain_laws.specs.Stated.{Stated, stated, stated_now, stated_from}
+use Rattle.rv_source_laws.specs.Fits.{sites_in}
+use Rattle.rv_source_laws.specs.Sites.{Program, Site, program, form, tables_in, entries_of, sites_of}
+use Rattle.rv_source_laws.specs.Stated.{Stated, stated, stated_now, stated_from}
 use Rattle.rv_chain_laws.proofs.Held.{held_of}
 use Rattle.rv_chain_laws.proofs.Homes.{IsHomeIn, all_join, all_map, homes_from}
 use Rattle.rv_link.specs.declared.rows.Item.{Item}

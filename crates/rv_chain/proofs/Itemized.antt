@@ -14,7 +14,7 @@ use Rattle.rv_unit.specs.declared.section.Extent.{Extent}
 use Rattle.rv_unit.specs.declared.unit.Unit.{Unit as SourceUnit}
 use Rattle.rv_unit.specs.Sections.{place_of, extent_section}
 use Rattle.rv_unit.specs.Unit.{said, passed, IsFilled}
-use Rattle.rv_chain_laws.specs.Stated.{is_placed}
+use Rattle.rv_source_laws.specs.Stated.{is_placed}
 use Rattle.rv_link.specs.declared.rows.Item.{Item}
 use Rattle.rv_link_laws.specs.Items.{IsItem, grown}
 use Rattle.rv_chain.specs.Sized.{IsSized}

@@ -17,9 +17,9 @@ use Rattle.rv_map.specs.Map.{Map, Global}
 use Rattle.rv_map.specs.declared.map.Row.{Row}
 use Rattle.rv_image.specs.Linked.{Linked}
 use Rattle.rv_chain_laws.specs.Contents.{IsLinked}
-use Rattle.rv_chain_laws.specs.Resolves.{is_global_after}
-use Rattle.rv_chain_laws.specs.Sites.{program}
-use Rattle.rv_chain_laws.specs.Stated.{stated}
+use Rattle.rv_source_laws.specs.Resolves.{is_global_after}
+use Rattle.rv_source_laws.specs.Sites.{program}
+use Rattle.rv_source_laws.specs.Stated.{stated}
 use Rattle.rv_chain_laws.proofs.LaidOut.{AreRegions}
 use Rattle.rv_chain_laws.proofs.Regions.{above}
 use Rattle.rv_chain_laws.proofs.Contents.{are_regions}

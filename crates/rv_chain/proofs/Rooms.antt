@@ -12,7 +12,7 @@ use Rattle.rv_unit_laws.proofs.Grown.{BeginsAt, puts, grows_after, grown_all, be
 use Rattle.rv_unit_laws.proofs.Opened.{after_opened, open_inside, stood_all, stood_start}
 use Rattle.rv_unit.specs.Unit.{passed}
 use Rattle.rv_unit.proofs.Constants.{constant_past, constant_whole, whole_rest}
-use Rattle.rv_chain_laws.specs.Stated.{Stated, stated_from, is_placed, is_placed_directive}
+use Rattle.rv_source_laws.specs.Stated.{Stated, stated_from, is_placed, is_placed_directive}
 use Rattle.rv_chain_laws.specs.Refusals.{code_size, grown as grown_by, size_fault_from, size_fault}
 use Rattle.rv_chain_laws.proofs.Held.{no_fault}
 use Rattle.rv_chain_laws.proofs.Homes.{IsHomeIn, homes_from}

@@ -11,9 +11,9 @@ use Rattle.rv_unit_laws.specs.Sections.{Section, current_section}
 use Rattle.rv_unit_laws.specs.Tables.{Tables, here, value, aligned, asked, asked_power, asked_bytes, counted, or_none, within, padding, data_bytes, string_bytes, longest_section, after}
 use Rattle.rv_unit_laws.specs.Faults.{faulty_if, size_faults, power_faults, bytes_faults, value_faults, code_alignment_faults, past_section, alignment_faults, directive_faults, faults}
 use Rattle.rv_unit_laws.proofs.Grown.{BeginsAt, IsGrown, puts, end_behind}
-use Rattle.rv_chain_laws.specs.Fits.{is_constant, is_low}
+use Rattle.rv_source_laws.specs.Fits.{is_constant, is_low}
 use Rattle.rv_chain_laws.specs.Refusals.{code_size}
-use Rattle.rv_chain_laws.specs.Stated.{is_placed, is_placed_directive}
+use Rattle.rv_source_laws.specs.Stated.{is_placed, is_placed_directive}
 use Rattle.rv_chain_laws.proofs.Held.{none_left, no_test}
 use Rattle.rv_link_laws.specs.Suits.{IsMultiple}
 use Rattle.rv_chain.specs.Sized.{IsPadded, IsSizedDirective}

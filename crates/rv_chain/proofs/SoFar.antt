@@ -4,7 +4,7 @@ use Rattle.std.proofs.Common.{◌≡◌, ℕ, ◌+◌, ◌==◌, nat_lt, Bool, t
 use Rattle.std.specs.Global.{Vec}
 use Rattle.rv_unit_laws.specs.Faults.{Fault, lowest, at_line}
 use Rattle.rv_unit_laws.specs.Tables.{Tables, longest_section}
-use Rattle.rv_chain_laws.specs.Stated.{Stated}
+use Rattle.rv_source_laws.specs.Stated.{Stated}
 use Rattle.rv_chain_laws.specs.Refusals.{instruction_fault_from, size_fault_from, else_fault, grown, code_size, first_options, options_after, instruction_faults}
 use Rattle.rv_link_laws.specs.Suits.{code_said}
 use Rattle.rv_chain.specs.Choices.{options_of}

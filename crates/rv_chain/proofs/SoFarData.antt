@@ -14,10 +14,10 @@ use Rattle.rv_unit_laws.specs.Tables.{Tables, Place as Standing, at_start, after
 use Rattle.rv_unit_laws.specs.Faults.{first_fault}
 use Rattle.rv_unit.specs.Sections.{place_of}
 use Rattle.rv_unit.specs.Unit.{said, passed, IsFilled, IsScope}
-use Rattle.rv_chain_laws.specs.Stated.{Stated, stated_now, stated_from}
-use Rattle.rv_chain_laws.specs.Sites.{Program, Site, program, entries_of, sites_of, address_at, address_by, resolved, value, address, has_values}
-use Rattle.rv_chain_laws.specs.Fits.{sites_in}
-use Rattle.rv_chain_laws.specs.Start.{spelled, spelled_said}
+use Rattle.rv_source_laws.specs.Stated.{Stated, stated_now, stated_from}
+use Rattle.rv_source_laws.specs.Sites.{Program, Site, program, entries_of, sites_of, address_at, address_by, resolved, value, address, has_values}
+use Rattle.rv_source_laws.specs.Fits.{sites_in}
+use Rattle.rv_source_laws.specs.Start.{spelled, spelled_said}
 use Rattle.rv_chain_laws.proofs.Held.{Held, held_of}
 use Rattle.rv_link.specs.declared.rows.Item.{Item}
 use Rattle.rv_link.specs.declared.numbers.Numbers.{Numbers}

@@ -5,7 +5,7 @@ use Rattle.std.specs.Prelude.{if◌then◌else◌, ◌==◌}
 use Rattle.rv_statement.specs.Statement.{Spoken}
 use Rattle.rv_unit_laws.specs.Tables.{Tables, at_start, after, after_all}
 use Rattle.rv_unit.specs.Unit.{passed}
-use Rattle.rv_chain_laws.specs.Stated.{Stated, stated_now}
+use Rattle.rv_source_laws.specs.Stated.{Stated, stated_now}
 use Rattle.rv_link.specs.declared.rows.Item.{Item}
 use Rattle.rv_link_laws.specs.Items.{IsItem, AreItems, grown}
 use Rattle.rv_chain.proofs.Standing.{stated_at}

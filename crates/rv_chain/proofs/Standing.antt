@@ -14,7 +14,7 @@ use Rattle.rv_unit.specs.declared.place.Place.{Place}
 use Rattle.rv_unit.specs.declared.unit.Unit.{Unit as SourceUnit}
 use Rattle.rv_unit.specs.Sections.{place_of, extent_section}
 use Rattle.rv_unit.specs.Unit.{said, passed, IsFilled}
-use Rattle.rv_chain_laws.specs.Stated.{Stated, stated_now, stated_from}
+use Rattle.rv_source_laws.specs.Stated.{Stated, stated_now, stated_from}
 use Rattle.rv_chain_laws.proofs.Homes.{IsHomeIn, homes_from}
 
 -- what is left of the statements of a source, and of their places

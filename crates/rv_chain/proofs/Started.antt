@@ -7,7 +7,7 @@ use Rattle.std.specs.Prelude.{◌&&◌, if◌then◌else◌, slice_index, slice_
 use Rattle.rv_statement.specs.Statement.{Spoken}
 use Rattle.rv_unit_laws.specs.Sections.{Section}
 use Rattle.rv_unit_laws.specs.Tables.{Tables, tables, aligned}
-use Rattle.rv_chain_laws.specs.Fits.{begins_at}
+use Rattle.rv_source_laws.specs.Fits.{begins_at}
 use Rattle.rv_link.specs.declared.layout.Layout.{Layout}
 use Rattle.rv_link.specs.declared.piece.Destination.{Destination}
 use Rattle.rv_link.specs.declared.piece.Destination.TheVariants.{Rodata, Data, Bss, Nowhere}

@@ -10,8 +10,8 @@ use Rattle.rv_unit_laws.specs.Sections.{Section, text_section}
 use Rattle.rv_unit_laws.specs.Tables.{Tables, at_start, after, tables, asked}
 use Rattle.rv_unit_laws.specs.Faults.{first_fault}
 use Rattle.rv_map.specs.Map.{Map}
-use Rattle.rv_chain_laws.specs.Stated.{Stated, stated_now, stated_from, is_placed}
-use Rattle.rv_chain_laws.specs.Sites.{Program, program, form, has_values}
+use Rattle.rv_source_laws.specs.Stated.{Stated, stated_now, stated_from, is_placed}
+use Rattle.rv_source_laws.specs.Sites.{Program, program, form, has_values}
 use Rattle.rv_chain_laws.proofs.Held.{DirectiveHeld, IsHeld, Held, held_of}
 use Rattle.rv_chain_laws.proofs.Homes.{IsHomeIn, homes_from}
 use Rattle.rv_link.specs.declared.rows.Item.{Item}

@@ -16,7 +16,7 @@ use Rattle.rv_unit.specs.declared.place.Place.{Place}
 use Rattle.rv_unit.specs.declared.unit.Unit.{Unit as SourceUnit}
 use Rattle.rv_unit.specs.Sections.{place_of}
 use Rattle.rv_unit.specs.Unit.{said, passed}
-use Rattle.rv_chain_laws.specs.Stated.{Stated, stated, stated_from}
+use Rattle.rv_source_laws.specs.Stated.{Stated, stated, stated_from}
 use Rattle.rv_chain_laws.specs.Refusals.{else_fault, instruction_fault, instruction_faults, instruction_fault_from, first_options, size_fault}
 use Rattle.rv_chain.specs.Choices.{options_of}
 use Rattle.rv_chain.specs.Code.{value_at}

@@ -9,7 +9,7 @@ use Rattle.rv_text.specs.Fault.{number_of}
 use Rattle.rv_statement.specs.Statement.{Expression, Spoken}
 use Rattle.rv_unit_laws.specs.Faults.{lowest}
 use Rattle.rv_unit_laws.specs.Tables.{Tables, tables}
-use Rattle.rv_chain_laws.specs.Stated.{Stated, stated}
+use Rattle.rv_source_laws.specs.Stated.{Stated, stated}
 use Rattle.rv_chain_laws.specs.Refusals.{instruction_faults, options_after, first_options, instruction_fault_from, size_fault_from, instruction_fault, size_fault, else_fault, code_size}
 use Rattle.rv_link_laws.specs.Suits.{code_said}
 use Rattle.rv_chain.specs.Choices.{options_of}

@@ -24,10 +24,10 @@ use Rattle.rv_statement.specs.Statement.{Statement, Instruction, Expression, Spo
 use Rattle.rv_parse_laws.specs.Syntax.{with_constant}
 use Rattle.rv_unit_laws.specs.Faults.{Fault, lowest, at_line, constant_faults}
 use Rattle.rv_unit_laws.specs.Tables.{Tables, value, longest_section}
-use Rattle.rv_chain_laws.specs.Written.{of_immediate, of_shift, of_upper, of_load, of_store, i_type, s_type, u_type, shift_by, by_constant}
-use Rattle.rv_chain_laws.specs.Meaning.{add_zero, alone, fits_12, expanded}
-use Rattle.rv_chain_laws.specs.Stated.{Stated}
-use Rattle.rv_chain_laws.specs.Sites.{place_of}
+use Rattle.rv_source_laws.specs.Written.{of_immediate, of_shift, of_upper, of_load, of_store, i_type, s_type, u_type, shift_by, by_constant}
+use Rattle.rv_source_laws.specs.Meaning.{add_zero, alone, fits_12, expanded}
+use Rattle.rv_source_laws.specs.Stated.{Stated}
+use Rattle.rv_source_laws.specs.Sites.{place_of}
 use Rattle.rv_chain_laws.specs.Contents.{words}
 use Rattle.rv_chain_laws.specs.Refusals.{Options, range_faults, instruction_faults, code_size}
 use Rattle.rv_link_laws.specs.Suits.{constant_in, code_said}

@@ -7,9 +7,9 @@ use Rattle.rv_statement.specs.Statement.{Spoken}
 use Rattle.rv_unit_laws.specs.Sections.{section_at}
 use Rattle.rv_unit_laws.specs.Tables.{at_start, tables}
 use Rattle.rv_unit.specs.Unit.{passed}
-use Rattle.rv_chain_laws.specs.Sites.{Program, Site, program}
-use Rattle.rv_chain_laws.specs.Fits.{sites_in}
-use Rattle.rv_chain_laws.specs.Start.{spelled}
+use Rattle.rv_source_laws.specs.Sites.{Program, Site, program}
+use Rattle.rv_source_laws.specs.Fits.{sites_in}
+use Rattle.rv_source_laws.specs.Start.{spelled}
 use Rattle.rv_link.specs.declared.rows.Item.{Item}
 use Rattle.rv_link.specs.Rows.{rows_from}
 use Rattle.rv_link_laws.specs.Items.{AreItems, sites_by}

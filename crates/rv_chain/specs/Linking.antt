@@ -6,7 +6,7 @@ use Rattle.rv_statement.specs.Statement.{Spoken}
 use Rattle.rv_unit_laws.specs.Tables.{tables, at_start}
 use Rattle.rv_map.specs.Map.{Map, Global}
 use Rattle.rv_image.specs.Linked.{Linked}
-use Rattle.rv_chain_laws.specs.Resolves.{is_one_of, is_global_after, linker_symbols}
+use Rattle.rv_source_laws.specs.Resolves.{is_one_of, is_global_after, linker_symbols}
 use Rattle.rv_link.specs.declared.piece.Destination.TheVariants.{Text, Rodata, Data}
 use Rattle.rv_link.specs.Contents.{contents_of}
 use Rattle.rv_link.specs.Definitions.{names_from, definitions_from, entry_from}

@@ -6,7 +6,7 @@ use Rattle.rv_statement.specs.Statement.{Statement, Label, Numbered, Instruction
 use Rattle.rv_unit_laws.specs.Tables.{asked, padding, string_bytes, longest_section}
 use Rattle.rv_unit.specs.declared.section.Extent.{Extent}
 use Rattle.rv_unit.specs.Sections.{extent_section}
-use Rattle.rv_chain_laws.specs.Fits.{is_constant, is_low}
+use Rattle.rv_source_laws.specs.Fits.{is_constant, is_low}
 use Rattle.rv_link.specs.declared.rows.Item.{Item}
 use Rattle.rv_link_laws.specs.Suits.{IsMultiple}
 use Rattle.rv_chain.specs.Sized.{IsSizedDirective}

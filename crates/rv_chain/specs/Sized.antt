@@ -4,8 +4,8 @@ use Rattle.std.specs.Prelude.{◌≡◌, ℕ, suc, ◌*◌, Bool, true, false, �
 use Rattle.rv_text_laws.specs.Values.{Value, Constant}
 use Rattle.rv_statement.specs.Statement.{Statement, Label, Numbered, Instruction, Directs, Spoken, Expression, Directive, Sets, Aligns_to_power, Aligns_to_bytes, Values, Strings, Zeros}
 use Rattle.rv_unit_laws.specs.Tables.{Tables, after, asked, padding, string_bytes}
-use Rattle.rv_chain_laws.specs.Stated.{stated_now}
-use Rattle.rv_chain_laws.specs.Fits.{is_constant, is_low}
+use Rattle.rv_source_laws.specs.Stated.{stated_now}
+use Rattle.rv_source_laws.specs.Fits.{is_constant, is_low}
 use Rattle.rv_link.specs.declared.rows.Item.{Item}
 use Rattle.rv_link_laws.specs.Suits.{IsMultiple}
 use Rattle.rv_chain.specs.Code.{value_at}

@@ -10,7 +10,7 @@ use Rattle.rv_statement.specs.View.{now_of}
 use Rattle.rv_unit_laws.specs.Tables.{Place, tables, at_start, home, value}
 use Rattle.rv_unit.specs.Unit.{said, IsFilled, IsScope}
 use Rattle.rv_unit.specs.declared.scope.Scope.{Scope}
-use Rattle.rv_chain_laws.specs.Stated.{stated}
+use Rattle.rv_source_laws.specs.Stated.{stated}
 use Rattle.rv_chain_laws.specs.Refusals.{has_address_by, missing_in, missing_by, first_name}
 use Rattle.rv_link.specs.declared.rows.Item.{Item}
 use Rattle.rv_link_laws.specs.Items.{AreItems}

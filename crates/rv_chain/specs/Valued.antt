@@ -6,9 +6,9 @@ use Rattle.rv_map.specs.Map.{Map, Global}
 use Rattle.rv_statement.specs.Statement.{Statement, Expression, Spoken}
 use Rattle.rv_unit_laws.specs.Sections.{Section, goes_to_rodata, goes_to_data}
 use Rattle.rv_unit_laws.specs.Tables.{Tables, at_start, after, tables}
-use Rattle.rv_chain_laws.specs.Stated.{stated_now}
-use Rattle.rv_chain_laws.specs.Sites.{Program, program, has_values}
-use Rattle.rv_chain_laws.specs.Start.{spelled, spelled_said}
+use Rattle.rv_source_laws.specs.Stated.{stated_now}
+use Rattle.rv_source_laws.specs.Sites.{Program, program, has_values}
+use Rattle.rv_source_laws.specs.Start.{spelled, spelled_said}
 use Rattle.rv_link.specs.declared.rows.Item.{Item}
 use Rattle.rv_link.specs.declared.numbers.Numbers.{Numbers}
 use Rattle.rv_link.specs.Numbers.{Gives, Counts}

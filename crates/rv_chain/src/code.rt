@@ -9,7 +9,7 @@ ghost use Rattle.rv_unit_laws.specs.Tables.{Tables, tables, value as value_of};
 ghost use Rattle.rv_unit.specs.Sections.{place_of};
 ghost use Rattle.rv_unit.specs.Unit.{said, IsFilled, IsScope};
 ghost use Rattle.rv_chain_laws.specs.Contents.{words};
-ghost use Rattle.rv_chain_laws.specs.Stated.{Stated};
+ghost use Rattle.rv_source_laws.specs.Stated.{Stated};
 ghost use Rattle.rv_chain_laws.specs.Refusals.{else_fault};
 ghost use Rattle.rv_chain.specs.Added.{Adds, IsCode, IsCodeSoFar, IsSourceCode};
 ghost use Rattle.rv_chain.specs.Choices.{options_of};

@@ -3,7 +3,7 @@
 ghost use Rattle.std.specs.Prelude.{◌≡◌, ◌⊎◌, ℕ, None, Some, IfErr, IfOk, MatchResult, ⊤};
 ghost use Rattle.rv_encode.specs.Word.{Spells};
 ghost use Rattle.rv_compress.specs.Parcel.{StandsFor};
-ghost use Rattle.rv_machine_laws.specs.Reader.{Reader};
+ghost use Rattle.rv_isa_laws.specs.Reader.{Reader};
 ghost use Rattle.rv_machine.specs.Outcome.{outcome_of};
 ghost use Rattle.rv_chain.specs.Running.{RunsFile, RefusesFile};
 

@@ -3,7 +3,7 @@
 ghost use Rattle.std.specs.Prelude.{◌≡◌, ◌<◌, ◌^◌, Some, true, false, nat_lt, MatchResult};
 ghost use Rattle.rv_isa.specs.Ranges.{IsValid, IsSigned12};
 ghost use Rattle.rv_text.specs.declared.fault.SourceCode.TheVariants.{ImmediateRange};
-ghost use Rattle.rv_chain_laws.specs.Written as laws;
+ghost use Rattle.rv_source_laws.specs.Written as laws;
 ghost use Rattle.rv_chain_laws.specs.Refusals.{shift_limit};
 ghost use Rattle.rv_chain.specs.Code.{InRange};
 

@@ -12,8 +12,8 @@ use Rattle.rv_isa.specs.declared.instruction.Inst.{Inst}
 use Rattle.rv_isa.specs.Ranges.{IsValid}
 use Rattle.rv_isa_laws.specs.Memory.{Mem, Read, Write, Execute}
 use Rattle.rv_encode.specs.Word.{form, word, Spells}
-use Rattle.rv_machine_laws.specs.Reader.{Reader}
-use Rattle.rv_machine_laws.specs.Run.{fetch, Got}
+use Rattle.rv_isa_laws.specs.Reader.{Reader}
+use Rattle.rv_isa_laws.specs.Run.{fetch, Got}
 use Rattle.rv_statement.specs.Statement.{Statement, Label, Numbered, Instruction, Directs, Spoken, Directive, Sets, Aligns_to_power, Aligns_to_bytes, Values, Strings, Zeros}
 use Rattle.rv_unit_laws.specs.Sections.{Section, goes_to_text, goes_to_rodata, goes_to_data, goes_to_bss}
 use Rattle.rv_unit_laws.specs.Tables.{Tables, tables, aligned}
@@ -21,15 +21,15 @@ use Rattle.rv_map.specs.Map.{Map}
 use Rattle.rv_map.specs.declared.map.Row.{Row}
 use Rattle.rv_image.specs.Linked.{Linked}
 use Rattle.rv_image.specs.Executable.{linked_image}
-use Rattle.rv_image.specs.Segment.{stack_start, stack_end}
+use Rattle.rv_isa_laws.specs.Platform.{stack_start, stack_end}
 use Rattle.rv_image.specs.Memory.{mem_of}
-use Rattle.rv_chain_laws.specs.Stated.{stated}
-use Rattle.rv_chain_laws.specs.Sites.{Entry, Site, Program, program, seated, sites_of}
-use Rattle.rv_chain_laws.specs.Resolves.{is_global_in, is_start, begins_run, starts_at}
-use Rattle.rv_chain_laws.specs.Meaning.{Line, Lie, expansion}
-use Rattle.rv_chain_laws.specs.Fits.{IsRowOf, IsPaddingIn, SizeFits, Block, block_of, blocks, blocks_of_file, blocks_of, greatest, Holds, Stand, end_of}
-use Rattle.rv_chain_laws.specs.Start.{is_within, is_in, right_at, first_byte, byte_of, spelled}
-use Rattle.rv_chain_laws.specs.SourceRun.{Starts, Gap, Outside, starts_or_inside, place, found}
+use Rattle.rv_source_laws.specs.Stated.{stated}
+use Rattle.rv_source_laws.specs.Sites.{Entry, Site, Program, program, seated, sites_of}
+use Rattle.rv_source_laws.specs.Resolves.{is_global_in, is_start, begins_run, starts_at}
+use Rattle.rv_source_laws.specs.Meaning.{Line, Lie, expansion}
+use Rattle.rv_source_laws.specs.Fits.{IsRowOf, IsPaddingIn, SizeFits, Block, block_of, blocks, blocks_of_file, blocks_of, greatest, Holds, Stand, end_of}
+use Rattle.rv_source_laws.specs.Start.{is_within, is_in, right_at, first_byte, byte_of, spelled}
+use Rattle.rv_source_laws.specs.SourceRun.{Starts, Gap, Outside, starts_or_inside, place, found}
 use Rattle.rv_chain_laws.specs.Realizes.{StandsIn, HoldsLines, Realizes}
 use Rattle.rv_chain_laws.specs.Contents.{words, code_bytes, contents, zeros, IsWritten, IsLinked}
 use Rattle.rv_chain_laws.specs.Headline.{RunsAgree}

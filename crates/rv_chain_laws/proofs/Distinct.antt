@@ -17,9 +17,9 @@ use Rattle.rv_unit_laws.specs.Tables.{Tables, Labelled, Setting, at_start, here,
 use Rattle.rv_unit_laws.specs.Faults.{faulty_if, lowest, constant_faults, set_faults, faults, first_fault_from, first_fault}
 use Rattle.rv_map.specs.Map.{Map}
 use Rattle.rv_map.specs.declared.map.Row.{Row}
-use Rattle.rv_chain_laws.specs.Stated.{Stated, stated_now, stated_from, has_row}
-use Rattle.rv_chain_laws.specs.Sites.{Entry, Program, program, tables_in, first_of, entries_of}
-use Rattle.rv_chain_laws.specs.Resolves.{is_one_of, AreDistinct, is_global_in, sets_first, defined_name, global_names_of, global_names}
+use Rattle.rv_source_laws.specs.Stated.{Stated, stated_now, stated_from, has_row}
+use Rattle.rv_source_laws.specs.Sites.{Entry, Program, program, tables_in, first_of, entries_of}
+use Rattle.rv_source_laws.specs.Resolves.{is_one_of, AreDistinct, is_global_in, sets_first, defined_name, global_names_of, global_names}
 use Rattle.rv_chain_laws.proofs.Homes.{all_filter, all_map, all_join}
 use Rattle.rv_chain_laws.proofs.Held.{none_left, no_test, no_lowest, no_fault}
 

@@ -6,9 +6,9 @@ use Rattle.std.specs.List.{find, list_any}
 use Rattle.rv_statement.specs.Statement.{Spoken}
 use Rattle.rv_map.specs.Map.{Map}
 use Rattle.rv_map.specs.declared.map.Row.{Row}
-use Rattle.rv_chain_laws.specs.Stated.{Stated, stated, has_row}
-use Rattle.rv_chain_laws.specs.Sites.{Entry, program, first_of, entries_of}
-use Rattle.rv_chain_laws.specs.Resolves.{begins_run, starts_at}
+use Rattle.rv_source_laws.specs.Stated.{Stated, stated, has_row}
+use Rattle.rv_source_laws.specs.Sites.{Entry, program, first_of, entries_of}
+use Rattle.rv_source_laws.specs.Resolves.{begins_run, starts_at}
 use Rattle.rv_chain_laws.specs.Refusals.{has_entry, IsMapOf}
 use Rattle.rv_chain_laws.proofs.Distinct.{found_any}
 

@@ -5,8 +5,8 @@ use Rattle.std.specs.Prelude.{◌&&◌, ◌==◌, if◌then◌else◌}
 use Rattle.std.proofs.lemmas.Bool.{cases_Bool}
 use Rattle.rv_isa.specs.declared.instruction.Inst.{Inst}
 use Rattle.rv_isa_laws.specs.Memory.{Mem, Right, Execute, may, number_at}
-use Rattle.rv_machine_laws.specs.Reader.{Reader}
-use Rattle.rv_machine_laws.specs.Run.{Fetched, NoRight, Got, spelled, length_at, fetch}
+use Rattle.rv_isa_laws.specs.Reader.{Reader}
+use Rattle.rv_isa_laws.specs.Run.{Fetched, NoRight, Got, spelled, length_at, fetch}
 use Rattle.rv_chain_laws.proofs.Alike.{wraps, bare, may_same, number_same}
 
 -- a memory with these rights, in which what can be executed is as it was at first

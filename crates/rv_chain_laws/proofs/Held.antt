@@ -7,7 +7,7 @@ use Rattle.rv_statement.specs.Statement.{Statement, Label, Numbered, Instruction
 use Rattle.rv_unit_laws.specs.Sections.{Section, section_at, current_section}
 use Rattle.rv_unit_laws.specs.Tables.{Tables, at_start, here, value, counted, string_bytes, after, tables, stood}
 use Rattle.rv_unit_laws.specs.Faults.{Fault, faulty_if, lowest, at_line, size_faults, value_faults, past_section, directive_faults, faults, first_fault_from, first_fault}
-use Rattle.rv_chain_laws.specs.Stated.{Stated, stated_from, stated_of}
+use Rattle.rv_source_laws.specs.Stated.{Stated, stated_from, stated_of}
 use Rattle.rv_chain_laws.proofs.Homes.{all_join}
 use Rattle.rv_unit_laws.proofs.Opened.{after_opened}
 

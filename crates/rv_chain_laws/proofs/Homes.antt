@@ -9,9 +9,9 @@ use Rattle.rv_unit_laws.specs.Sections.{Section, text_section, section_at}
 use Rattle.rv_unit_laws.specs.Tables.{Tables, at_start, after, after_all, tables, stood}
 use Rattle.rv_unit_laws.proofs.Opened.{got_of, IsOpen, after_opened, after_open, stays_all}
 use Rattle.rv_map.specs.declared.map.Row.{Row}
-use Rattle.rv_chain_laws.specs.Stated.{Stated, stated_from, stated_of, stated, has_row}
-use Rattle.rv_chain_laws.specs.Sites.{Site, first_of, entries_of, seated, sites_of}
-use Rattle.rv_chain_laws.specs.Fits.{block_of, blocks_of_file, blocks_of, sites_in}
+use Rattle.rv_source_laws.specs.Stated.{Stated, stated_from, stated_of, stated, has_row}
+use Rattle.rv_source_laws.specs.Sites.{Site, first_of, entries_of, seated, sites_of}
+use Rattle.rv_source_laws.specs.Fits.{block_of, blocks_of_file, blocks_of, sites_in}
 use Rattle.rv_chain_laws.proofs.Regions.{AllIn}
 
 -- ---- lists

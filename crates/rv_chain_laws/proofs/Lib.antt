@@ -7,14 +7,10 @@ pub mod Wide
 pub mod Words
 pub mod Obligations
 pub mod Simulation
-pub mod Exit7Program
 pub mod Regions
 pub mod Homes
 pub mod Held
 pub mod LaidOut
 pub mod Contents
-pub mod Placed
-pub mod FiguresProgram
-pub mod WideProgram
 pub mod Distinct
 pub mod Entered

@@ -13,10 +13,10 @@ use Rattle.rv_statement.specs.declared.mnemonic.Mnemonic.{Mnemonic}
 use Rattle.rv_statement.specs.declared.mnemonic.Mnemonic.TheVariants.{Li}
 use Rattle.rv_statement.specs.Statement.{Statement, Label, Numbered, Instruction, Directs, Directive, Sets, Aligns_to_power, Aligns_to_bytes, Expression}
 use Rattle.rv_parse_laws.specs.Value.{signed}
-use Rattle.rv_chain_laws.specs.Sites.{Site, Program, number, has_values}
-use Rattle.rv_chain_laws.specs.Written.{Argument, Of_register, Of_number, arguments, written}
-use Rattle.rv_chain_laws.specs.Meaning.{Line, Lie, AreLines, add_immediate, run_written, run_with, run_directive, run_said, meaning, cost, add_zero, alone, expanded_with, no_operation, expanded_directive, expanded_said, expansion}
-use Rattle.rv_chain_laws.specs.Fits.{IsRowOf}
+use Rattle.rv_source_laws.specs.Sites.{Site, Program, number, has_values}
+use Rattle.rv_source_laws.specs.Written.{Argument, Of_register, Of_number, arguments, written}
+use Rattle.rv_source_laws.specs.Meaning.{Line, Lie, AreLines, add_immediate, run_written, run_with, run_directive, run_said, meaning, cost, add_zero, alone, expanded_with, no_operation, expanded_directive, expanded_said, expansion}
+use Rattle.rv_source_laws.specs.Fits.{IsRowOf}
 use Rattle.rv_chain_laws.proofs.Walk.{Walked, once, more, then_walk, walk}
 
 abbrev walked : Effect → ℕ → Walked

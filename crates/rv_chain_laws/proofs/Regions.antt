@@ -10,10 +10,10 @@ use Rattle.std.specs.Prelude.{flat_map, slice_index}
 use Rattle.std.specs.List.{AllByRecursion}
 use Rattle.rv_isa_laws.specs.Memory.{Mem}
 use Rattle.rv_map.specs.declared.map.Row.{Row}
-use Rattle.rv_chain_laws.specs.Sites.{Site}
+use Rattle.rv_source_laws.specs.Sites.{Site}
 use Rattle.rv_unit_laws.specs.Tables.{aligned}
-use Rattle.rv_chain_laws.specs.Fits.{Block, rows_of, Follow, size, Stand, end_of}
-use Rattle.rv_chain_laws.specs.Start.{is_within}
+use Rattle.rv_source_laws.specs.Fits.{Block, rows_of, Follow, size, Stand, end_of}
+use Rattle.rv_source_laws.specs.Start.{is_within}
 use Rattle.rv_chain_laws.specs.Contents.{contents, zeros}
 use Rattle.rv_chain_laws.proofs.Words.{HasBytes, bytes_behind}
 

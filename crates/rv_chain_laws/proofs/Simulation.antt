@@ -12,14 +12,14 @@ use Rattle.rv_isa_laws.specs.Effect.{Next, On, Over, apply, follow}
 use Rattle.rv_isa_laws.specs.Meaning.{effect}
 use Rattle.rv_isa_laws.specs.Kept.{GoesOn, Kept}
 use Rattle.rv_isa_laws.proofs.EffectLaws.{effect_keeps}
-use Rattle.rv_machine_laws.specs.Reader.{Reader}
-use Rattle.rv_machine_laws.specs.Run.{Fetched, Got, NoRight, NoInstruction, fetch, step, run, done, machine_run}
+use Rattle.rv_isa_laws.specs.Reader.{Reader}
+use Rattle.rv_isa_laws.specs.Run.{Fetched, Got, NoRight, NoInstruction, fetch, step, run, done, machine_run}
 use Rattle.rv_statement.specs.Statement.{Spoken}
 use Rattle.rv_map.specs.Map.{Map}
-use Rattle.rv_chain_laws.specs.Sites.{Site, Program, program}
-use Rattle.rv_chain_laws.specs.Meaning.{meaning, cost}
-use Rattle.rv_chain_laws.specs.Start.{right_at, is_in, first_memory}
-use Rattle.rv_chain_laws.specs.SourceRun.{Place, Starts, Inside, Gap, Outside, starts_or_inside, found, place, step_at, cost_at, steps, source_run}
+use Rattle.rv_source_laws.specs.Sites.{Site, Program, program}
+use Rattle.rv_source_laws.specs.Meaning.{meaning, cost}
+use Rattle.rv_source_laws.specs.Start.{right_at, is_in, first_memory}
+use Rattle.rv_source_laws.specs.SourceRun.{Place, Starts, Inside, Gap, Outside, starts_or_inside, found, place, step_at, cost_at, steps, source_run}
 use Rattle.rv_chain_laws.specs.Realizes.{Realizes, HoldsLines, StandsIn}
 use Rattle.rv_chain_laws.specs.Agrees.{IsFront, Agrees}
 use Rattle.rv_chain_laws.proofs.Even.{IsEven}

@@ -7,8 +7,8 @@ use Rattle.rv_isa.specs.declared.instruction.Inst.{Inst}
 use Rattle.rv_isa.specs.Ranges.{IsValid}
 use Rattle.rv_isa_laws.specs.Memory.{Mem, Execute, may, number_at}
 use Rattle.rv_encode.specs.Word.{form, word, Spells}
-use Rattle.rv_machine_laws.specs.Reader.{Reader}
-use Rattle.rv_machine_laws.specs.Run.{NoRight, Got, spelled, length_at, fetch}
+use Rattle.rv_isa_laws.specs.Reader.{Reader}
+use Rattle.rv_isa_laws.specs.Run.{NoRight, Got, spelled, length_at, fetch}
 
 -- these bytes lie in memory from an address on
 abbrev pub HasBytes : Mem → ℕ → List ℕ → Type 0

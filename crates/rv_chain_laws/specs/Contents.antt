@@ -8,12 +8,12 @@ use Rattle.rv_encode.specs.Word.{form, word}
 use Rattle.rv_statement.specs.Statement.{Spoken}
 use Rattle.rv_image.specs.Linked.{Linked}
 use Rattle.rv_unit_laws.specs.Sections.{goes_to_text, goes_to_rodata, goes_to_data}
-use Rattle.rv_chain_laws.specs.Sites.{Site, Program, program}
-use Rattle.rv_chain_laws.specs.Meaning.{expansion}
+use Rattle.rv_source_laws.specs.Sites.{Site, Program, program}
+use Rattle.rv_source_laws.specs.Meaning.{expansion}
 use Rattle.rv_unit_laws.specs.Tables.{aligned}
-use Rattle.rv_chain_laws.specs.Fits.{Fits, Block, rows_of, blocks, size}
-use Rattle.rv_chain_laws.specs.Resolves.{Resolves}
-use Rattle.rv_chain_laws.specs.Start.{spelled}
+use Rattle.rv_source_laws.specs.Fits.{Fits, Block, rows_of, blocks, size}
+use Rattle.rv_source_laws.specs.Resolves.{Resolves}
+use Rattle.rv_source_laws.specs.Start.{spelled}
 
 -- instructions as they lie in memory, each a word
 abbrev pub words : Option (List Inst) → List ℕ

@@ -12,12 +12,12 @@ use Rattle.rv_image.specs.ImageOf.{ImageOf}
 use Rattle.rv_image.specs.FirstFault.{first_fault}
 use Rattle.rv_encode.specs.Word.{Spells}
 use Rattle.rv_compress.specs.Parcel.{StandsFor}
-use Rattle.rv_machine_laws.specs.Reader.{Reader}
-use Rattle.rv_machine_laws.specs.Run.{machine_run}
+use Rattle.rv_isa_laws.specs.Reader.{Reader}
+use Rattle.rv_isa_laws.specs.Run.{machine_run}
 use Rattle.rv_image.specs.Memory.{mem_of}
-use Rattle.rv_chain_laws.specs.SourceRun.{source_run}
-use Rattle.rv_chain_laws.specs.Fits.{Fits}
-use Rattle.rv_chain_laws.specs.Resolves.{Resolves}
+use Rattle.rv_source_laws.specs.SourceRun.{source_run}
+use Rattle.rv_source_laws.specs.Fits.{Fits}
+use Rattle.rv_source_laws.specs.Resolves.{Resolves}
 use Rattle.rv_chain_laws.specs.Agrees.{Agrees}
 
 -- each text reads as its list of statements

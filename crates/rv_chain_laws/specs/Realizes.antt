@@ -5,13 +5,13 @@ use Rattle.std.specs.List.{AllByRecursion}
 use Rattle.rv_isa.specs.declared.instruction.Inst.{Inst}
 use Rattle.rv_isa.specs.Ranges.{IsValid}
 use Rattle.rv_isa_laws.specs.Memory.{Mem, Right, Read, Write, Execute}
-use Rattle.rv_machine_laws.specs.Reader.{Reader}
-use Rattle.rv_machine_laws.specs.Run.{NoInstruction, Got, fetch}
-use Rattle.rv_chain_laws.specs.Sites.{Site, Program}
-use Rattle.rv_chain_laws.specs.Meaning.{Line, AreLines, expansion}
-use Rattle.rv_chain_laws.specs.Fits.{IsRowOf}
-use Rattle.rv_chain_laws.specs.Start.{first_byte, right_at}
-use Rattle.rv_chain_laws.specs.SourceRun.{Starts, Gap, place}
+use Rattle.rv_isa_laws.specs.Reader.{Reader}
+use Rattle.rv_isa_laws.specs.Run.{NoInstruction, Got, fetch}
+use Rattle.rv_source_laws.specs.Sites.{Site, Program}
+use Rattle.rv_source_laws.specs.Meaning.{Line, AreLines, expansion}
+use Rattle.rv_source_laws.specs.Fits.{IsRowOf}
+use Rattle.rv_source_laws.specs.Start.{first_byte, right_at}
+use Rattle.rv_source_laws.specs.SourceRun.{Starts, Gap, place}
 
 -- a line stands in memory: it is what a fetch at its address gives
 abbrev pub StandsIn : {Spells StandsFor : ℕ → Inst → Type 0} → Reader Spells StandsFor → Mem → Line → Type 0

@@ -19,11 +19,11 @@ use Rattle.rv_unit_laws.specs.Sections.{Section}
 use Rattle.rv_unit_laws.specs.Tables.{Tables, Home, tables, home, value, longest_section}
 use Rattle.rv_unit_laws.specs.Faults.{Fault, faulty_if, lowest, at_line, first_fault}
 use Rattle.rv_map.specs.Map.{Map}
-use Rattle.rv_chain_laws.specs.Stated.{Stated, stated, has_row}
-use Rattle.rv_chain_laws.specs.Sites.{Site, Program, program, form, place_of, number, expressions}
-use Rattle.rv_chain_laws.specs.Meaning.{fits_12}
-use Rattle.rv_chain_laws.specs.Fits.{Fits}
-use Rattle.rv_chain_laws.specs.Resolves.{Resolves, is_one_of, begins_run}
+use Rattle.rv_source_laws.specs.Stated.{Stated, stated, has_row}
+use Rattle.rv_source_laws.specs.Sites.{Site, Program, program, form, place_of, number, expressions}
+use Rattle.rv_source_laws.specs.Meaning.{fits_12}
+use Rattle.rv_source_laws.specs.Fits.{Fits}
+use Rattle.rv_source_laws.specs.Resolves.{Resolves, is_one_of, begins_run}
 use Rattle.rv_chain_laws.specs.Contents.{IsWritten}
 
 -- ---- instructions

@@ -8,17 +8,16 @@ ghost use Rattle.rv_statement.specs.Statement.{Spoken};
 ghost use Rattle.rv_map.specs.Map.{Map};
 ghost use Rattle.rv_encode.specs.Word.{Spells};
 ghost use Rattle.rv_compress.specs.Parcel.{StandsFor};
-ghost use Rattle.rv_machine_laws.specs.Reader.{Reader};
-ghost use Rattle.rv_machine_laws.specs.Run.{machine_run};
+ghost use Rattle.rv_isa_laws.specs.Reader.{Reader};
+ghost use Rattle.rv_isa_laws.specs.Run.{machine_run};
 ghost use Rattle.rv_chain_laws.specs.Agrees.{Agrees};
 ghost use Rattle.rv_chain_laws.specs.Realizes.{Realizes};
-ghost use Rattle.rv_chain_laws.specs.Sites.{program};
-ghost use Rattle.rv_chain_laws.specs.SourceRun.{source_run};
+ghost use Rattle.rv_source_laws.specs.Sites.{program};
+ghost use Rattle.rv_source_laws.specs.SourceRun.{source_run};
 ghost use Rattle.rv_chain_laws.specs.Headline.{RunsAgree};
 ghost use Rattle.rv_chain_laws.specs.Contents.{IsLinked};
-ghost use Rattle.rv_chain_laws.specs.Fits.{Fits};
-ghost use Rattle.rv_chain_laws.specs.Resolves.{AreDistinct, global_names};
-ghost use Rattle.rv_chain_laws.specs.Placed.{IsLaidFrom};
+ghost use Rattle.rv_source_laws.specs.Fits.{Fits};
+ghost use Rattle.rv_source_laws.specs.Resolves.{AreDistinct, global_names};
 ghost use Rattle.rv_chain_laws.specs.Refusals.{IsMapOf, has_entry};
 ghost use Rattle.rv_image.specs.Linked.{Linked};
 ghost use Rattle.rv_image.specs.Executable.{linked_image};
@@ -33,12 +32,6 @@ pub fn runs_agree()
 /// of the program runs as their statements do, for every input and every limit.
 pub fn linked_runs_agree()
     ensures { (start : ℕ) (sources : List (List Spoken)) (l : Linked) → IsLinked sources start l → RunsAgree sources l.map (linked_image l) }
-{}
-
-/// A map that is laid out section by section fits its sources: each row stands at the next place of its
-/// section, and the sections of a region stand one behind the other.
-pub fn laid_out_fits()
-    ensures { (start : ℕ) (sources : List (List Spoken)) (map : Map) → IsLaidFrom start sources map → Fits sources map start }
 {}
 
 /// In one source without a faulty label or directive no name has two global definitions.

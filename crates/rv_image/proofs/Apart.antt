@@ -10,7 +10,8 @@ use Rattle.std.proofs.lemmas.List.Folds.{list_any-append}
 use Rattle.std.proofs.lemmas.List.Sums.{sum_by-cons}
 use Rattle.rv_image.specs.declared.program.Program.{Program}
 use Rattle.rv_image.specs.Header.{is_load}
-use Rattle.rv_image.specs.Segment.{do_meet, meets_segment, meets_stack, are_apart, memory_size, stack_start, stack_end}
+use Rattle.rv_image.specs.Segment.{do_meet, meets_segment, meets_stack, are_apart, memory_size}
+use Rattle.rv_isa_laws.specs.Platform.{stack_start, stack_end}
 use Rattle.rv_image.specs.ImageOf.{segment_in}
 use Rattle.rv_image.specs.FirstFault.{do_overlap, first_true, programs_tests, program_tests, segment_tests, is_past, IsLoadable, loaded_size}
 use Rattle.rv_image.proofs.FirstTrue.{no_fault_parts}

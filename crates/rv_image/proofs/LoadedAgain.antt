@@ -8,7 +8,7 @@ use Rattle.rv_image.specs.declared.fault.FileFault.TheVariants.{Truncated, BadMa
 use Rattle.rv_image.specs.declared.linked.Linked.{Linked as DeclaredLinked}
 use Rattle.rv_image.specs.Linked.{Linked, IsLaidOut, linked_of}
 use Rattle.rv_image.specs.Header.{field, file_type, machine, machine_flags, entry_point, program_table, program_count, program_header_size, section_table, section_count, section_header_size, names_section, programs, programs_from, is_load}
-use Rattle.rv_image.specs.Segment.{stack_start}
+use Rattle.rv_isa_laws.specs.Platform.{stack_start}
 use Rattle.rv_image.specs.Image.{Image}
 use Rattle.rv_image.specs.ImageOf.{ImageOf, segment_in}
 use Rattle.rv_image.specs.FirstFault.{first_true, first_fault, load_tests, header_tests, table_tests, programs_tests, whole_tests, is_past, loaded_size}

@@ -8,7 +8,8 @@ use Rattle.std.proofs.lemmas.List.Folds.{list_all-append}
 use Rattle.std.proofs.lemmas.List.Sums.{sum_by-cons}
 use Rattle.rv_image.specs.declared.program.Program.{Program}
 use Rattle.rv_image.specs.Header.{is_load}
-use Rattle.rv_image.specs.Segment.{do_meet, stack_start, stack_end}
+use Rattle.rv_image.specs.Segment.{do_meet}
+use Rattle.rv_isa_laws.specs.Platform.{stack_start, stack_end}
 use Rattle.rv_image.specs.ImageOf.{segment_in}
 use Rattle.rv_image.specs.FirstFault.{first_true, ends_by, program_tests, programs_tests, segment_tests, loaded_size}
 use Rattle.rv_image.specs.Executable.{Part, memory_size_of, has_memory, offset_of, segment_of_part}

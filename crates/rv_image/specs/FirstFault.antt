@@ -6,7 +6,8 @@ use Rattle.rv_image.specs.declared.program.Program.{Program}
 use Rattle.rv_image.specs.declared.fault.FileFault.{FileFault}
 use Rattle.rv_image.specs.declared.fault.FileFault.TheVariants.{Truncated, BadMagic, WrongClass, WrongMachine, BadTable, NotExecutable, Dynamic, Overlap, MemoryLimit}
 use Rattle.rv_image.specs.Header.{field, file_type, machine, entry_point, program_table, section_table, machine_flags, program_header_size, program_count, section_header_size, section_count, names_section, programs, is_load}
-use Rattle.rv_image.specs.Segment.{do_meet, stack_start, stack_end}
+use Rattle.rv_image.specs.Segment.{do_meet}
+use Rattle.rv_isa_laws.specs.Platform.{stack_start, stack_end}
 
 abbrev pub first_true : List (Bool × FileFault) → Option FileFault
 first_true [] = None

@@ -4,7 +4,8 @@ use Rattle.std.specs.Prelude.{ℕ, ◌+◌, ◌-◌, ◌%◌, ◌/◌, Bool, fal
 use Rattle.std.specs.List.{find}
 use Rattle.rv_isa_laws.specs.Memory.{Mem, Right, Read, Write, Execute}
 use Rattle.rv_image.specs.Image.{Image}
-use Rattle.rv_image.specs.Segment.{Segment, stack_start, stack_end}
+use Rattle.rv_image.specs.Segment.{Segment}
+use Rattle.rv_isa_laws.specs.Platform.{stack_start, stack_end}
 
 -- the segment of an address
 abbrev pub lies_in : Segment → ℕ → Bool

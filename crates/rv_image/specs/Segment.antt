@@ -1,5 +1,6 @@
 -- Segments as plain values, and how they lie in memory (System V gABI, "Program Header").
 
+use Rattle.rv_isa_laws.specs.Platform.{stack_start, stack_end}
 use Rattle.std.specs.Prelude.{ℕ, ◌+◌, ◌-◌, min, max, nat_lt, Bool, true, not, ◌&&◌, List, [], ◌∷◌, length, sum_by}
 use Rattle.std.specs.List.{list_all}
 use Rattle.rv_image.specs.declared.segment.Segment.{Segment as DeclaredSegment}
@@ -12,13 +13,6 @@ pub record Segment : Type 0 where
 
 abbrev pub segment_of : DeclaredSegment → Segment
 segment_of s = record { address = s.address; bytes = s.bytes.items; flags = s.flags }
-
--- the stack has the addresses from here on and below its end
-abbrev pub stack_start : ℕ
-stack_start = 0x3FF0_0000
-
-abbrev pub stack_end : ℕ
-stack_end = 0x4000_0000
 
 -- whether an address is both among the size from start on and among those from start' on
 abbrev pub do_meet : ℕ → ℕ → ℕ → ℕ → Bool

@@ -1,1 +1,2 @@
 pub mod EffectLaws
+pub mod Readings

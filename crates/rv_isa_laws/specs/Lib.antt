@@ -4,3 +4,6 @@ pub mod Effect
 pub mod Arithmetic
 pub mod Meaning
 pub mod Kept
+pub mod Reader
+pub mod Run
+pub mod Platform

@@ -1,6 +1,7 @@
-//! The meaning of an instruction: hart, memory with rights, environment calls. Nothing here runs.
+//! The meaning of an instruction: hart, memory with rights, environment calls; and the run of a machine over its memory:
+//! fetch, step and run. Nothing here runs.
 //!
-//! Source: RISC-V Unprivileged ISA 20191213, chapters 2, 5, 7 and 8.
+//! Source: RISC-V Unprivileged ISA 20191213, sections 1.5, 2.2 and 16.1, chapters 2, 5, 7 and 8.
 #![tactic(auto)]
 
 mod edges;

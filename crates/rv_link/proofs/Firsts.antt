@@ -9,7 +9,7 @@ use Rattle.std.proofs.lemmas.List.{take_more, map-append, reverse-append}
 use Rattle.rv_unit_laws.specs.Tables.{Setting}
 use Rattle.rv_unit.specs.declared.tables.Given.{Given}
 use Rattle.rv_unit.specs.Tables.{setting_of}
-use Rattle.rv_chain_laws.specs.Resolves.{sets_first}
+use Rattle.rv_source_laws.specs.Resolves.{sets_first}
 use Rattle.rv_link.specs.Settings.{least, first_ordinal}
 use Rattle.rv_link.proofs.Named.{bytes_same}
 

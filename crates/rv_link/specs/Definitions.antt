@@ -8,7 +8,7 @@ use Rattle.rv_statement.specs.Statement.{Statement, Directs, Spoken, Sets}
 use Rattle.rv_unit_laws.specs.Tables.{Tables, Setting, set_ever}
 use Rattle.rv_map.specs.Map.{Global}
 use Rattle.rv_map.specs.Name.{is_name}
-use Rattle.rv_chain_laws.specs.Resolves.{shown, is_start, defined_name}
+use Rattle.rv_source_laws.specs.Resolves.{shown, is_start, defined_name}
 use Rattle.rv_link.specs.declared.rows.Item.{Item}
 use Rattle.rv_link.specs.declared.definitions.NameFault.{NameFault}
 use Rattle.rv_link.specs.declared.definitions.NameFault.TheVariants.{Name, OutOfMemory}

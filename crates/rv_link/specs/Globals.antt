@@ -8,7 +8,7 @@ use Rattle.std.specs.HashSet.{HashSet}
 use Rattle.std.specs.declared.hash.FoldHasher.{FoldHasher}
 use Rattle.std.specs.declared.hash.BuildHasherDefault.{BuildHasherDefault}
 use Rattle.rv_statement.specs.Statement.{Spoken}
-use Rattle.rv_chain_laws.specs.Resolves.{is_global_after}
+use Rattle.rv_source_laws.specs.Resolves.{is_global_after}
 
 abbrev pub NameSet : Type 0
 NameSet = HashSet (Bor (List ℕ)) (BuildHasherDefault FoldHasher)

@@ -16,7 +16,7 @@ use Rattle.rv_unit_laws.specs.Tables.{Home, tables, home, value as value_in_file
 use Rattle.rv_unit.specs.Sections.{place_of}
 use Rattle.rv_unit.specs.Unit.{said, IsFilled, IsScope}
 use Rattle.rv_map.specs.Map.{Global}
-use Rattle.rv_chain_laws.specs.Sites.{Entry, address_at, address_by, global_address, resolved}
+use Rattle.rv_source_laws.specs.Sites.{Entry, address_at, address_by, global_address, resolved}
 use Rattle.rv_chain_laws.specs.Refusals.{is_symbolic}
 use Rattle.rv_link.specs.Rows.{address_of, address_at as row_address_at}
 use Rattle.rv_link.specs.declared.rows.Item.{Item}

@@ -6,7 +6,7 @@ ghost use Rattle.rv_text.specs.Expr.{tree_of_expr};
 ghost use Rattle.rv_statement.specs.View.{bytes_of, quoted, statement_of};
 ghost use Rattle.rv_statement.specs.Statement.{Directs, Values};
 ghost use Rattle.rv_unit_laws.specs.Tables.{string_bytes};
-ghost use Rattle.rv_chain_laws.specs.Start.{little_endian, spelled_said};
+ghost use Rattle.rv_source_laws.specs.Start.{little_endian, spelled_said};
 ghost use Rattle.rv_link.specs.Numbers.{Gives, Counts, AreKept, KeepsData, RefusesData};
 
 use crate::numbers::{DataFault, Numbers};

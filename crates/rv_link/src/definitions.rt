@@ -7,7 +7,7 @@ ghost use Rattle.rv_unit.specs.Tables.{setting_of};
 ghost use Rattle.rv_unit.specs.Unit.{said, IsFilled};
 ghost use Rattle.rv_map.specs.Map.{global_of};
 ghost use Rattle.rv_map.specs.Name.{is_name};
-ghost use Rattle.rv_chain_laws.specs.Resolves.{symbol};
+ghost use Rattle.rv_source_laws.specs.Resolves.{symbol};
 ghost use Rattle.rv_link.specs.Globals.{Has};
 ghost use Rattle.rv_link.specs.Settings.{AreFirsts};
 ghost use Rattle.rv_link.specs.Definitions.{set_address, defined_address, defined_by, definitions_from, unshown, first_unshown, NamesLine};

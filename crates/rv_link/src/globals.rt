@@ -4,7 +4,7 @@ ghost use Rattle.std.specs.Prelude.{◌≡◌, ℕ, List, [], map, Bool, ◌||�
 ghost use Rattle.std.specs.Str.{bytes_eq};
 ghost use Rattle.rv_statement.specs.Statement.{Spoken};
 ghost use Rattle.rv_statement.specs.View.{said_by, now_of};
-ghost use Rattle.rv_chain_laws.specs.Resolves.{is_one_of, made_global, is_global_after};
+ghost use Rattle.rv_source_laws.specs.Resolves.{is_one_of, made_global, is_global_after};
 ghost use Rattle.rv_link.specs.Globals.{Has, AreGlobals};
 
 use rv_statement::{Statement, StatementKind};

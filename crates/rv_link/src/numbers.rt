@@ -7,8 +7,8 @@ ghost use Rattle.rv_unit.specs.Unit.{home_of};
 ghost use Rattle.rv_text_laws.specs.Values.{add, subtract};
 ghost use Rattle.rv_statement.specs.View.{bytes_of};
 ghost use Rattle.rv_map.specs.Map.{Global, global_of};
-ghost use Rattle.rv_chain_laws.specs.Sites.{Entry, home_address, outer_address};
-ghost use Rattle.rv_chain_laws.specs.Resolves.{symbol};
+ghost use Rattle.rv_source_laws.specs.Sites.{Entry, home_address, outer_address};
+ghost use Rattle.rv_source_laws.specs.Resolves.{symbol};
 
 use crate::rows::{Item, address};
 use rv_map::Global as Defined;

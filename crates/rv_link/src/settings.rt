@@ -3,7 +3,7 @@
 ghost use Rattle.std.specs.Prelude.{◌≡◌, ℕ, List, ◌∷◌, Option, map, reverse, IfOk, OnOk};
 ghost use Rattle.rv_unit_laws.specs.Tables.{Setting};
 ghost use Rattle.rv_unit.specs.Tables.{setting_of};
-ghost use Rattle.rv_chain_laws.specs.Resolves.{sets_first};
+ghost use Rattle.rv_source_laws.specs.Resolves.{sets_first};
 ghost use Rattle.rv_link.specs.Settings as laws;
 
 use rv_unit::Given;

@@ -4,7 +4,7 @@ ghost use Rattle.std.specs.Prelude.{◌≡◌, ◌+◌, ◌++◌, ◌%◌, ◌<�
 ghost use Rattle.rv_statement.specs.View.{said_by};
 ghost use Rattle.rv_unit_laws.specs.Tables.{Tables};
 ghost use Rattle.rv_map.specs.Map.{global_of as shown_global};
-ghost use Rattle.rv_chain_laws.specs.Resolves.{is_one_of, is_start, symbol};
+ghost use Rattle.rv_source_laws.specs.Resolves.{is_one_of, is_start, symbol};
 ghost use Rattle.rv_link.specs.Globals.{Has};
 ghost use Rattle.rv_link.specs.Settings.{AreFirsts};
 ghost use Rattle.rv_link.specs.Definitions.{named_by, names_from, entry_from, unshown, NamesLine};

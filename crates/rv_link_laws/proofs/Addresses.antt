@@ -6,7 +6,7 @@ use Rattle.std.specs.Prelude.{◌&&◌, ◌==◌, option_map, option_and_then, i
 use Rattle.std.specs.List.{find}
 use Rattle.rv_statement.specs.Statement.{Spoken}
 use Rattle.rv_unit_laws.specs.Tables.{Tables, after}
-use Rattle.rv_chain_laws.specs.Sites.{Entry, address_at, address_of}
+use Rattle.rv_source_laws.specs.Sites.{Entry, address_at, address_of}
 use Rattle.rv_link.specs.declared.rows.Item.{Item}
 use Rattle.rv_link.specs.Rows.{row_of, address_of as item_address}
 use Rattle.rv_link_laws.specs.Items.{AreItems, grown, entry_of, entries_by, nth_address}

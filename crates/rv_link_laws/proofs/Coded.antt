@@ -8,9 +8,9 @@ use Rattle.rv_text_laws.specs.Values.{Value}
 use Rattle.rv_statement.specs.Statement.{Statement, Label, Numbered, Instruction, Directs, Spoken, Expression}
 use Rattle.rv_unit_laws.specs.Sections.{goes_to_text}
 use Rattle.rv_unit_laws.specs.Tables.{Tables, after}
-use Rattle.rv_chain_laws.specs.Stated.{Stated, stated_now, stated_from, has_row}
-use Rattle.rv_chain_laws.specs.Sites.{Site, Program, form}
-use Rattle.rv_chain_laws.specs.Fits.{sites_in}
+use Rattle.rv_source_laws.specs.Stated.{Stated, stated_now, stated_from, has_row}
+use Rattle.rv_source_laws.specs.Sites.{Site, Program, form}
+use Rattle.rv_source_laws.specs.Fits.{sites_in}
 use Rattle.rv_chain_laws.specs.Contents.{code_bytes}
 use Rattle.rv_chain_laws.proofs.Held.{Held}
 use Rattle.rv_link.specs.declared.rows.Item.{Item}

@@ -17,12 +17,12 @@ use Rattle.rv_statement.specs.Statement.{Statement, Label, Numbered, Instruction
 use Rattle.rv_unit_laws.specs.Sections.{Section}
 use Rattle.rv_unit_laws.specs.Tables.{asked, padding, aligned}
 use Rattle.rv_map.specs.declared.map.Row.{Row}
-use Rattle.rv_chain_laws.specs.Sites.{Site, Program, form, address, resolved, number, has_values, expressions, in_operand}
-use Rattle.rv_chain_laws.specs.Meaning.{expansion, expanded, expanded_with, padding_count, no_operation}
-use Rattle.rv_chain_laws.specs.Written.{arguments, argument}
-use Rattle.rv_chain_laws.specs.Fits.{SizeFits, IsRowOf, IsPaddingIn, is_constant}
+use Rattle.rv_source_laws.specs.Sites.{Site, Program, form, address, resolved, number, has_values, expressions, in_operand}
+use Rattle.rv_source_laws.specs.Meaning.{expansion, expanded, expanded_with, padding_count, no_operation}
+use Rattle.rv_source_laws.specs.Written.{arguments, argument}
+use Rattle.rv_source_laws.specs.Fits.{SizeFits, IsRowOf, IsPaddingIn, is_constant}
 use Rattle.rv_chain_laws.specs.Contents.{IsWritten, words, code_bytes}
-use Rattle.rv_chain_laws.specs.Start.{little_endian}
+use Rattle.rv_source_laws.specs.Start.{little_endian}
 use Rattle.rv_chain_laws.proofs.Held.{IsHeld, DirectiveHeld}
 use Rattle.rv_link_laws.specs.Suits.{constant_in, IsInstruction, IsMultiple, SuitsPadding, SuitsDirective, Suits, code_said}
 

@@ -5,8 +5,8 @@ use Rattle.std.proofs.lemmas.Bool.Decides.{nat_tests}
 use Rattle.std.specs.Prelude.{slice_index_or, if◌then◌else◌, flat_map, nat_lt}
 use Rattle.rv_unit_laws.specs.Sections.{Section, text_section, goes_to_text}
 use Rattle.rv_unit_laws.specs.Tables.{Tables, aligned}
-use Rattle.rv_chain_laws.specs.Sites.{Site}
-use Rattle.rv_chain_laws.specs.Fits.{Block, begins_at, block_of, blocks_of_file, rows_of, sites_in, size, gaps_of}
+use Rattle.rv_source_laws.specs.Sites.{Site}
+use Rattle.rv_source_laws.specs.Fits.{Block, begins_at, block_of, blocks_of_file, rows_of, sites_in, size, gaps_of}
 use Rattle.rv_chain_laws.specs.Contents.{zeros, contents}
 use Rattle.rv_link.specs.declared.piece.Destination.{Destination}
 use Rattle.rv_link.specs.declared.piece.Piece.{Piece}

@@ -9,9 +9,9 @@ use Rattle.rv_text_laws.specs.Values.{Meaning, Known, Placed, Open, Refused, add
 use Rattle.rv_statement.specs.Statement.{Statement, Label, Numbered, Instruction, Directs, Spoken, Sets}
 use Rattle.rv_unit_laws.specs.Sections.{goes_to_text}
 use Rattle.rv_unit_laws.specs.Tables.{Tables, Setting, at_start, after, tables, set_ever}
-use Rattle.rv_chain_laws.specs.Stated.{Stated, stated_now, has_row}
-use Rattle.rv_chain_laws.specs.Sites.{Entry, Program, program, tables_in, address_at, address_of}
-use Rattle.rv_chain_laws.specs.Resolves as laws
+use Rattle.rv_source_laws.specs.Stated.{Stated, stated_now, has_row}
+use Rattle.rv_source_laws.specs.Sites.{Entry, Program, program, tables_in, address_at, address_of}
+use Rattle.rv_source_laws.specs.Resolves as laws
 use Rattle.rv_link.specs.declared.rows.Item.{Item}
 use Rattle.rv_link.specs.Rows.{row_of, shown_address, address_of as item_address, address_at as place_address}
 use Rattle.rv_link.specs.Definitions.{named_by, set_address, defined_address, defined_by, names_from, definitions_from, entry_from}

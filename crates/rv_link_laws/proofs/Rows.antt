@@ -6,9 +6,9 @@ use Rattle.std.specs.Prelude.{◌&&◌, ◌==◌, slice_index, if◌then◌else�
 use Rattle.rv_map.specs.declared.map.Row.{Row}
 use Rattle.rv_statement.specs.Statement.{Spoken}
 use Rattle.rv_unit_laws.specs.Tables.{Tables, after, at_start}
-use Rattle.rv_chain_laws.specs.Stated.{Stated, stated_now, has_row}
-use Rattle.rv_chain_laws.specs.Fits.{Mark, mark_of_row}
-use Rattle.rv_chain_laws.specs.Placed.{Places, moved, TakesRow, RowsFrom, RowsOf}
+use Rattle.rv_source_laws.specs.Stated.{Stated, stated_now, has_row}
+use Rattle.rv_source_laws.specs.Fits.{Mark, mark_of_row}
+use Rattle.rv_source_laws.specs.Placed.{Places, moved, TakesRow, RowsFrom, RowsOf}
 use Rattle.rv_link.specs.declared.rows.Item.{Item}
 use Rattle.rv_link.specs.Rows.{row_of, rows_from}
 use Rattle.rv_link_laws.specs.Items.{AreItems, grown, starts_at, ends_at}

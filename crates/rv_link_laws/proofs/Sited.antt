@@ -7,9 +7,9 @@ use Rattle.std.specs.Prelude.{◌==◌, if◌then◌else◌}
 use Rattle.rv_map.specs.declared.map.Row.{Row}
 use Rattle.rv_statement.specs.Statement.{Spoken}
 use Rattle.rv_unit_laws.specs.Tables.{Tables, after}
-use Rattle.rv_chain_laws.specs.Stated.{Stated, stated_now, stated_from, has_row}
-use Rattle.rv_chain_laws.specs.Sites.{Entry, Site, entries_of, sites_of, first_of}
-use Rattle.rv_chain_laws.specs.Fits.{sites_in, size}
+use Rattle.rv_source_laws.specs.Stated.{Stated, stated_now, stated_from, has_row}
+use Rattle.rv_source_laws.specs.Sites.{Entry, Site, entries_of, sites_of, first_of}
+use Rattle.rv_source_laws.specs.Fits.{sites_in, size}
 use Rattle.rv_link.specs.declared.rows.Item.{Item}
 use Rattle.rv_link.specs.Rows.{row_of, rows_from}
 use Rattle.rv_link_laws.specs.Items.{AreItems, grown, entries_by, site_of, sites_by}

@@ -4,8 +4,8 @@ use Rattle.std.proofs.Common.{◌≡◌, ℕ, suc, ◌+◌, Bool, true, false, L
 use Rattle.std.specs.Prelude.{slice_index, if◌then◌else◌, replicate, ⊤}
 use Rattle.rv_unit_laws.specs.Sections.{Section}
 use Rattle.rv_unit_laws.specs.Tables.{Tables, aligned}
-use Rattle.rv_chain_laws.specs.Fits.{begins_at}
-use Rattle.rv_chain_laws.specs.Placed.{Joins, Spread}
+use Rattle.rv_source_laws.specs.Fits.{begins_at}
+use Rattle.rv_source_laws.specs.Placed.{Joins, Spread}
 use Rattle.rv_link.specs.declared.piece.Destination.{Destination}
 use Rattle.rv_link.specs.declared.piece.Destination.TheVariants.{Text, Rodata, Data, Bss, Nowhere}
 use Rattle.rv_link.specs.declared.piece.Piece.{Piece}

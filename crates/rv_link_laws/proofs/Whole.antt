@@ -8,15 +8,15 @@ use Rattle.rv_statement.specs.Statement.{Spoken}
 use Rattle.rv_unit_laws.specs.Sections.{Section, goes_to_text, goes_to_rodata, goes_to_data, goes_to_bss}
 use Rattle.rv_unit_laws.specs.Tables.{Tables, tables, after, at_start, aligned}
 use Rattle.rv_unit_laws.specs.Faults.{first_fault}
-use Rattle.rv_chain_laws.specs.Stated.{Stated, stated_now, stated_from}
-use Rattle.rv_chain_laws.specs.Sites.{Site, Program, program, sites_of}
-use Rattle.rv_chain_laws.specs.Fits.{SizeFits, Block, block_of, blocks, blocks_of_file, sites_in, size, gaps_of, greatest as greatest_of_blocks}
-use Rattle.rv_chain_laws.specs.Placed.{SpreadOf, IsLaidFrom}
+use Rattle.rv_source_laws.specs.Stated.{Stated, stated_now, stated_from}
+use Rattle.rv_source_laws.specs.Sites.{Site, Program, program, sites_of}
+use Rattle.rv_source_laws.specs.Fits.{SizeFits, Block, block_of, blocks, blocks_of_file, sites_in, size, gaps_of, greatest as greatest_of_blocks}
+use Rattle.rv_source_laws.specs.Placed.{SpreadOf, IsLaidFrom}
 use Rattle.rv_chain_laws.specs.Contents.{IsWritten, IsLinked, code_bytes, contents}
-use Rattle.rv_chain_laws.specs.Resolves.{Resolves}
-use Rattle.rv_chain_laws.specs.Start.{spelled}
+use Rattle.rv_source_laws.specs.Resolves.{Resolves}
+use Rattle.rv_source_laws.specs.Start.{spelled}
 use Rattle.rv_chain_laws.proofs.Held.{Held, held_of}
-use Rattle.rv_chain_laws.proofs.Placed.{laid_fits}
+use Rattle.rv_source_laws.proofs.Placed.{laid_fits}
 use Rattle.rv_link.specs.declared.rows.Item.{Item}
 use Rattle.rv_link.specs.declared.layout.Layout.{Layout}
 use Rattle.rv_link.specs.declared.piece.Destination.{Destination}

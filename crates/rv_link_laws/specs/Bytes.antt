@@ -3,8 +3,8 @@
 use Rattle.std.specs.Prelude.{◌≡◌, ℕ, ◌+◌, ◌%◌, Bool, true, ⊤, List, [], ◌∷◌, flat_map, slice_index_or}
 use Rattle.rv_unit_laws.specs.Sections.{Section, text_section, goes_to_text}
 use Rattle.rv_unit_laws.specs.Tables.{Tables}
-use Rattle.rv_chain_laws.specs.Sites.{Site}
-use Rattle.rv_chain_laws.specs.Fits.{begins_at, sites_in}
+use Rattle.rv_source_laws.specs.Sites.{Site}
+use Rattle.rv_source_laws.specs.Fits.{begins_at, sites_in}
 
 -- each section that goes to a region has the bytes of its statements, by its place from an index on
 abbrev pub HoldBytes : List Site → (Section → Bool) → (Site → List ℕ) → ℕ → List Section → List (List ℕ) → Type 0

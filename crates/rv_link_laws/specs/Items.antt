@@ -4,12 +4,12 @@ use Rattle.std.specs.Prelude.{zero, Option, ◌≡◌, ℕ, suc, ◌+◌, ◌==�
 use Rattle.rv_statement.specs.Statement.{Spoken}
 use Rattle.rv_unit_laws.specs.Sections.{goes_to_text}
 use Rattle.rv_unit_laws.specs.Tables.{Tables, after}
-use Rattle.rv_chain_laws.specs.Stated.{Stated, stated_now, has_row}
-use Rattle.rv_chain_laws.specs.Sites.{Entry, Site}
-use Rattle.rv_chain_laws.specs.Placed.{Places}
+use Rattle.rv_source_laws.specs.Stated.{Stated, stated_now, has_row}
+use Rattle.rv_source_laws.specs.Sites.{Entry, Site}
+use Rattle.rv_source_laws.specs.Placed.{Places}
 use Rattle.rv_chain_laws.specs.Refusals.{grown as grown_by}
 use Rattle.rv_link.specs.Rows.{row_of, address_of as item_address}
-use Rattle.rv_chain_laws.specs.Sites.{Program, form, has_values}
+use Rattle.rv_source_laws.specs.Sites.{Program, form, has_values}
 use Rattle.rv_link.specs.declared.rows.Item.{Item}
 use Rattle.rv_link_laws.specs.Suits.{Suits}
 

@@ -8,24 +8,24 @@ use Rattle.rv_map.specs.declared.map.Row.{Row}
 use Rattle.rv_unit_laws.specs.Sections.{goes_to_text, goes_to_rodata, goes_to_data}
 use Rattle.rv_unit_laws.specs.Faults.{first_fault}
 use Rattle.rv_chain_laws.specs.Contents.{IsLinked, code_bytes}
-use Rattle.rv_chain_laws.specs.Resolves.{Resolves}
-use Rattle.rv_chain_laws.specs.Start.{spelled}
+use Rattle.rv_source_laws.specs.Resolves.{Resolves}
+use Rattle.rv_source_laws.specs.Start.{spelled}
 use Rattle.rv_link.specs.declared.layout.Layout.{Layout}
 use Rattle.rv_link.specs.Layout.{IsLayout}
 use Rattle.rv_link.specs.Contents.{contents_of}
 use Rattle.std.specs.Prelude.{◌++◌, true, Some, not, filter, codes}
-use Rattle.rv_chain_laws.specs.Resolves.{is_one_of, is_global_after, linker_symbols}
+use Rattle.rv_source_laws.specs.Resolves.{is_one_of, is_global_after, linker_symbols}
 use Rattle.rv_link.specs.Definitions.{names_from, definitions_from, entry_from}
 use Rattle.std.specs.Prelude.{flat_map, ◌==◌, ◌+◌}
 use Rattle.std.specs.List.{AllByRecursion}
-use Rattle.rv_chain_laws.specs.Stated.{stated}
-use Rattle.rv_chain_laws.specs.Sites.{Program, form, address_at}
+use Rattle.rv_source_laws.specs.Stated.{stated}
+use Rattle.rv_source_laws.specs.Sites.{Program, form, address_at}
 use Rattle.rv_link_laws.specs.Suits.{code_said}
 use Rattle.rv_link_laws.specs.Items.{AllSuit}
 use Rattle.rv_link_laws.specs.Bytes.{HoldBytes, AreEach, AreEven}
 use Rattle.rv_statement.specs.Statement.{Spoken}
 use Rattle.rv_unit_laws.specs.Tables.{at_start, tables}
-use Rattle.rv_chain_laws.specs.Placed.{RowsOf, SpreadOf}
+use Rattle.rv_source_laws.specs.Placed.{RowsOf, SpreadOf}
 use Rattle.rv_link.specs.declared.rows.Item.{Item}
 use Rattle.rv_link.specs.declared.piece.Destination.{Destination}
 use Rattle.rv_link.specs.declared.piece.Destination.TheVariants.{Text, Rodata, Data, Bss, Nowhere}
@@ -34,8 +34,8 @@ use Rattle.rv_link.specs.declared.piece.Piece.{Piece}
 use Rattle.rv_link.specs.Rows.{rows_from}
 use Rattle.rv_link.specs.Layout.{starts_of, end_of}
 use Rattle.rv_map.specs.Map.{Map}
-use Rattle.rv_chain_laws.specs.Sites.{program}
-use Rattle.rv_chain_laws.specs.Fits.{sites_in, size}
+use Rattle.rv_source_laws.specs.Sites.{program}
+use Rattle.rv_source_laws.specs.Fits.{sites_in, size}
 use Rattle.rv_link_laws.specs.Items.{AreItems, starts_at, ends_at, entries_by, sites_by, nth_address}
 use Rattle.rv_link_laws.specs.Pieces.{ArePieces, goes_to}
 

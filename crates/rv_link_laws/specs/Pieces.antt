@@ -3,7 +3,7 @@
 use Rattle.std.specs.Prelude.{◌≡◌, ℕ, suc, Bool, not, ⊤, List, [], ◌∷◌, if◌then◌else◌}
 use Rattle.rv_unit_laws.specs.Sections.{Section, goes_to_text, goes_to_rodata, goes_to_data, goes_to_bss}
 use Rattle.rv_unit_laws.specs.Tables.{Tables}
-use Rattle.rv_chain_laws.specs.Fits.{begins_at}
+use Rattle.rv_source_laws.specs.Fits.{begins_at}
 use Rattle.rv_link.specs.declared.piece.Destination.{Destination}
 use Rattle.rv_link.specs.declared.piece.Destination.TheVariants.{Text, Rodata, Data, Bss, Nowhere}
 use Rattle.rv_link.specs.declared.piece.Piece.{Piece}

@@ -9,9 +9,9 @@ use Rattle.rv_statement.specs.Statement.{Statement, Label, Numbered, Instruction
 use Rattle.rv_unit_laws.specs.Sections.{Section}
 use Rattle.rv_unit_laws.specs.Tables.{asked, padding, string_bytes}
 use Rattle.rv_map.specs.declared.map.Row.{Row}
-use Rattle.rv_chain_laws.specs.Sites.{expressions}
-use Rattle.rv_chain_laws.specs.Fits.{is_constant, is_low}
-use Rattle.rv_chain_laws.specs.Meaning.{expanded, expanded_said}
+use Rattle.rv_source_laws.specs.Sites.{expressions}
+use Rattle.rv_source_laws.specs.Fits.{is_constant, is_low}
+use Rattle.rv_source_laws.specs.Meaning.{expanded, expanded_said}
 use Rattle.rv_chain_laws.specs.Contents.{words}
 
 -- the number of a constant

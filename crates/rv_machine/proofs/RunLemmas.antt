@@ -7,8 +7,8 @@ use Rattle.rv_isa_laws.specs.Hart as laws
 use Rattle.rv_isa_laws.specs.Effect.{Next, On, Over}
 use Rattle.rv_machine.specs.declared.end.End.{End}
 use Rattle.rv_machine.specs.Machine.{Comes, Steps}
-use Rattle.rv_machine_laws.specs.Reader.{Reader}
-use Rattle.rv_machine_laws.specs.Run.{step, run}
+use Rattle.rv_isa_laws.specs.Reader.{Reader}
+use Rattle.rv_isa_laws.specs.Run.{step, run}
 
 -- where a step goes on, so does the run
 pub run-on : {Spells StandsFor : ℕ → Inst → Type 0} (reader : Reader Spells StandsFor) (n k : ℕ) (h h' : laws.Hart) (m m' : Mem) →

@@ -4,8 +4,8 @@ use Rattle.std.specs.Prelude.{ℕ, ◌%◌, ◌==◌, if◌then◌else◌}
 use Rattle.rv_isa.specs.declared.instruction.Inst.{Inst}
 use Rattle.rv_machine.specs.declared.fetch.Fetched.{Fetched}
 use Rattle.rv_machine.specs.declared.fetch.Fetched.TheVariants.{NoRight, NoInstruction, Got}
-use Rattle.rv_machine_laws.specs.Reader.{Reader}
-use Rattle.rv_machine_laws.specs.Run as laws
+use Rattle.rv_isa_laws.specs.Reader.{Reader}
+use Rattle.rv_isa_laws.specs.Run as laws
 
 abbrev pub fetched_of : Fetched → laws.Fetched
 fetched_of NoRight = laws.NoRight

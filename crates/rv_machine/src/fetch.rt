@@ -6,8 +6,8 @@ ghost use Rattle.std.specs.Prelude.{◌≡◌, false, MatchOption};
 ghost use Rattle.rv_encode.specs.Word.{Spells};
 ghost use Rattle.rv_compress.specs.Parcel.{StandsFor};
 ghost use Rattle.rv_isa_laws.specs.Memory.{may, Execute};
-ghost use Rattle.rv_machine_laws.specs.Reader.{Reader};
-ghost use Rattle.rv_machine_laws.specs.Run as laws;
+ghost use Rattle.rv_isa_laws.specs.Reader.{Reader};
+ghost use Rattle.rv_isa_laws.specs.Run as laws;
 ghost use Rattle.rv_machine.specs.Fetch.{fetched_of, spelled_by};
 
 use rv_compress::expand;

@@ -5,8 +5,8 @@ ghost use Rattle.rv_compress.specs.Parcel.{StandsFor};
 ghost use Rattle.rv_encode.specs.Word.{Spells};
 ghost use Rattle.rv_isa_laws.specs.Hart.{Hart};
 ghost use Rattle.rv_isa_laws.specs.Memory.{Mem};
-ghost use Rattle.rv_machine_laws.specs.Reader.{Reader};
-ghost use Rattle.rv_machine_laws.specs.Run.{run};
+ghost use Rattle.rv_isa_laws.specs.Reader.{Reader};
+ghost use Rattle.rv_isa_laws.specs.Run.{run};
 
 /// A run is the same by whatever reading, so long as it answers exactly what is spelled.
 pub fn runs_agree()

@@ -7,8 +7,8 @@ ghost use Rattle.rv_encode.specs.Word.{Spells};
 ghost use Rattle.rv_compress.specs.Parcel.{StandsFor};
 ghost use Rattle.rv_isa_laws.specs.Effect.{apply};
 ghost use Rattle.rv_isa_laws.specs.Hart.{start};
-ghost use Rattle.rv_machine_laws.specs.Reader.{Reader};
-ghost use Rattle.rv_machine_laws.specs.Run.{step as step_of, run as run_of};
+ghost use Rattle.rv_isa_laws.specs.Reader.{Reader};
+ghost use Rattle.rv_isa_laws.specs.Run.{step as step_of, run as run_of};
 ghost use Rattle.rv_machine.specs.Action.{effect_of, HasWidth};
 ghost use Rattle.rv_machine.specs.Machine.{state_of, outcome_at, Comes, Steps};
 

@@ -5,8 +5,8 @@ ghost use Rattle.rv_encode.specs.Word.{Spells};
 ghost use Rattle.rv_compress.specs.Parcel.{StandsFor};
 ghost use Rattle.rv_image.specs.Image.{image_of};
 ghost use Rattle.rv_image.specs.Memory.{mem_of};
-ghost use Rattle.rv_machine_laws.specs.Reader.{Reader};
-ghost use Rattle.rv_machine_laws.specs.Run.{machine_run};
+ghost use Rattle.rv_isa_laws.specs.Reader.{Reader};
+ghost use Rattle.rv_isa_laws.specs.Run.{machine_run};
 ghost use Rattle.rv_machine.specs.Outcome.{outcome_of};
 
 use crate::end::End;

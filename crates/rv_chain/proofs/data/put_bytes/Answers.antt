@@ -1,7 +1,7 @@
 use Rattle.std.proofs.Common.{◌++◌, ◌∙◌, sym, ap, subst}
 use Rattle.std.proofs.lemmas.Result.{on_ok_weaker}
 use Rattle.rv_statement.specs.View.{statement_of}
-use Rattle.rv_chain_laws.specs.Start.{spelled_said}
+use Rattle.rv_source_laws.specs.Start.{spelled_said}
 use Rattle.rv_link.specs.Numbers.{Counts}
 use Rattle.rv_chain.specs.Code.{bytes_in}
 use Rattle.rv_chain.proofs.Growing.{read_at, grows_set}

@@ -6,7 +6,7 @@ use Rattle.rv_unit.specs.declared.place.Place.{Place}
 use Rattle.rv_unit.specs.Unit.{said, passed, IsFilled}
 use Rattle.rv_unit.specs.Sections.{place_of}
 use Rattle.rv_unit_laws.specs.Tables.{stood, tables, value as value_of}
-use Rattle.rv_chain_laws.specs.Stated.{is_placed}
+use Rattle.rv_source_laws.specs.Stated.{is_placed}
 use Rattle.rv_link_laws.specs.Items.{IsItem, grown}
 use Rattle.rv_chain.specs.Sized.{IsSized}
 use Rattle.rv_chain.specs.Measured.{IsExtentAt, HasRoom}

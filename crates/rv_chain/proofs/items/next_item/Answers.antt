@@ -5,7 +5,7 @@ use Rattle.rv_statement.specs.View.{statement_of}
 use Rattle.rv_unit_laws.specs.Tables as laws
 use Rattle.rv_unit.specs.Sections.{place_of}
 use Rattle.rv_unit.specs.Unit.{said, passed}
-use Rattle.rv_chain_laws.specs.Stated.{is_placed}
+use Rattle.rv_source_laws.specs.Stated.{is_placed}
 use Rattle.rv_chain.proofs.Roomy.{err_always, room_by}
 use Rattle.rv_chain.proofs.Stretched.{sized_as}
 use Rattle.rv_chain.proofs.items.next_item.Goals as goal

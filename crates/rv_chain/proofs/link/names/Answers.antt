@@ -4,7 +4,7 @@ use Rattle.rv_statement.specs.View.{said_by}
 use Rattle.rv_unit_laws.specs.Tables.{tables}
 use Rattle.rv_unit.specs.Unit.{said}
 use Rattle.rv_map.specs.Map.{global_of}
-use Rattle.rv_chain_laws.specs.Resolves.{is_one_of, is_global_after, linker_symbols}
+use Rattle.rv_source_laws.specs.Resolves.{is_one_of, is_global_after, linker_symbols}
 use Rattle.rv_link.specs.Globals.{Has}
 use Rattle.rv_link.specs.Settings.{AreFirsts}
 use Rattle.rv_link.specs.Definitions.{names_from, definitions_from}

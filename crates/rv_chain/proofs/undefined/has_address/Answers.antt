@@ -2,7 +2,7 @@ use Rattle.std.proofs.Common.{◌≡◌, ◌+◌, Some, [], ◌∷◌, sym, ap, 
 use Rattle.rv_text.specs.Nodes.{symbol_of}
 use Rattle.rv_unit_laws.specs.Tables.{tables, home}
 use Rattle.rv_unit.specs.Unit.{said, home_of}
-use Rattle.rv_chain_laws.specs.Stated.{stated}
+use Rattle.rv_source_laws.specs.Stated.{stated}
 use Rattle.rv_chain_laws.specs.Refusals.{has_address_by}
 use Rattle.rv_chain.proofs.FirstNames.{row_shown}
 use Rattle.rv_chain.proofs.undefined.has_address.Goals as goal

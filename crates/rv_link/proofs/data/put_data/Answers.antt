@@ -4,7 +4,7 @@ use Rattle.rv_text_laws.specs.Expression.{Tree}
 use Rattle.rv_text.specs.Expr.{tree_of_expr}
 use Rattle.rv_statement.specs.View.{bytes_of, statement_of}
 use Rattle.rv_statement.specs.declared.statement.StatementKind.TheVariants as kinds
-use Rattle.rv_chain_laws.specs.Start.{little_endian, spelled_said}
+use Rattle.rv_source_laws.specs.Start.{little_endian, spelled_said}
 use Rattle.rv_link.specs.Numbers.{KeepsData}
 use Rattle.rv_link.proofs.data.put_data.Goals as goal
 

@@ -1,7 +1,7 @@
 use Rattle.std.proofs.Common.{append-nil, ℕ, List, ◌++◌, ◌∙◌, sym, ap}
 use Rattle.rv_text.specs.Expr.{tree_of_expr}
 use Rattle.rv_statement.specs.View.{bytes_of}
-use Rattle.rv_chain_laws.specs.Start.{little_endian}
+use Rattle.rv_source_laws.specs.Start.{little_endian}
 use Rattle.rv_link.proofs.data.put_value.Goals as goal
 
 pub returns-clause-spells : goal.returns-clause-spells

@@ -3,7 +3,7 @@ use Rattle.std.proofs.lemmas.List.{at_drop_all, length-map}
 use Rattle.std.proofs.lemmas.Result.{err_from_is_err_and}
 use Rattle.rv_text.specs.Expr.{tree_of_expr}
 use Rattle.rv_statement.specs.View.{bytes_of}
-use Rattle.rv_chain_laws.specs.Start.{little_endian}
+use Rattle.rv_source_laws.specs.Start.{little_endian}
 use Rattle.rv_link.proofs.Placed.{left_map}
 use Rattle.rv_link.proofs.Joined.{flat_more, flat_done}
 use Rattle.rv_link.specs.Numbers.{AreKept}

@@ -3,7 +3,7 @@ use Rattle.std.specs.Prelude.{flat_map}
 use Rattle.rv_text_laws.specs.Expression.{Tree}
 use Rattle.rv_text.specs.Expr.{tree_of_expr}
 use Rattle.rv_statement.specs.View.{bytes_of}
-use Rattle.rv_chain_laws.specs.Start.{little_endian}
+use Rattle.rv_source_laws.specs.Start.{little_endian}
 use Rattle.rv_statement.specs.Statement.{Directs, Values}
 use Rattle.rv_link.specs.declared.numbers.DataFault.{DataFault}
 use Rattle.rv_link.specs.Numbers.{Gives, AreKept, RefusesData}

@@ -1,7 +1,7 @@
 use Rattle.std.proofs.Common.{rules, ◌≡◌, ◌<◌, ◌≤◌, ◌+◌, ◌∷◌, ◌∙◌, [], suc, true, false, length, map, drop, sym, ap, subst, arith}
 use Rattle.std.proofs.lemmas.List.{at_drop_all, length-map}
 use Rattle.rv_statement.specs.View.{said_by}
-use Rattle.rv_chain_laws.specs.Resolves.{is_one_of}
+use Rattle.rv_source_laws.specs.Resolves.{is_one_of}
 use Rattle.rv_link.specs.Definitions.{named_by, names_from}
 use Rattle.rv_link.proofs.Placed.{left_map}
 use Rattle.rv_link.proofs.Named.{no_name, first_or}

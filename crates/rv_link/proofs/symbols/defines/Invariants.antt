@@ -1,7 +1,7 @@
 use Rattle.std.proofs.Common.{◌≡◌, ℕ, ◌+◌, Bool, List, map, drop}
 use Rattle.rv_statement.specs.View.{said_by}
 use Rattle.rv_unit_laws.specs.Tables.{Tables}
-use Rattle.rv_chain_laws.specs.Resolves.{is_one_of}
+use Rattle.rv_source_laws.specs.Resolves.{is_one_of}
 use Rattle.rv_link.specs.Globals.{Has}
 use Rattle.rv_link.specs.Settings.{AreFirsts}
 use Rattle.rv_link.specs.Definitions.{names_from}

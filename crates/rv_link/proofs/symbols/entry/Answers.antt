@@ -3,7 +3,7 @@ use Rattle.std.specs.Prelude.{◌&&◌, Option, Some, IfSome}
 use Rattle.std.proofs.lemmas.List.{drop_more}
 use Rattle.rv_statement.specs.View.{said_by}
 use Rattle.rv_statement.specs.declared.statement.Statement.{Statement}
-use Rattle.rv_chain_laws.specs.Resolves.{is_start}
+use Rattle.rv_source_laws.specs.Resolves.{is_start}
 use Rattle.rv_link.specs.declared.rows.Item.{Item}
 use Rattle.rv_link.specs.Rows.{address_of}
 use Rattle.rv_link.specs.Definitions.{entry_from}

@@ -2,8 +2,8 @@ use Rattle.std.proofs.Common.{[], ◌∷◌, ◌++◌, ap, ◌∙◌, sym}
 use Rattle.std.specs.Prelude.{filter, not, flat_map}
 use Rattle.std.specs.List.{find}
 use Rattle.rv_unit_laws.specs.Tables.{at_start, tables}
-use Rattle.rv_chain_laws.specs.Sites.{program, tables_in}
-use Rattle.rv_chain_laws.specs.Resolves as laws
+use Rattle.rv_source_laws.specs.Sites.{program, tables_in}
+use Rattle.rv_source_laws.specs.Resolves as laws
 use Rattle.rv_chain_laws.proofs.Distinct.{once}
 use Rattle.rv_link_laws.specs.Laws.{map_of}
 use Rattle.std.proofs.Common.{false}

@@ -1,8 +1,8 @@
 use Rattle.std.proofs.Common.{◌≡◌, ◌+◌, [], ◌++◌, ap, ◌∙◌, arith, map}
 use Rattle.rv_unit_laws.specs.Tables.{at_start}
-use Rattle.rv_chain_laws.specs.Stated.{stated_from}
-use Rattle.rv_chain_laws.specs.Sites.{entries_of, sites_of}
-use Rattle.rv_chain_laws.specs.Fits.{sites_in, size}
+use Rattle.rv_source_laws.specs.Stated.{stated_from}
+use Rattle.rv_source_laws.specs.Sites.{entries_of, sites_of}
+use Rattle.rv_source_laws.specs.Fits.{sites_in, size}
 use Rattle.rv_link_laws.specs.Items.{sites_by}
 use Rattle.rv_link_laws.proofs.Sited.{entries_are, sites_are, sized}
 use Rattle.rv_link_laws.proofs.laws.placed_sites.Goals as goal

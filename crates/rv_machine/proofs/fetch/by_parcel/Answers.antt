@@ -1,6 +1,6 @@
 use Rattle.std.proofs.Common.{Some, None, sym, ap}
-use Rattle.rv_machine_laws.specs.Run as laws
-use Rattle.rv_machine_laws.proofs.Readings.{parcel_is}
+use Rattle.rv_isa_laws.specs.Run as laws
+use Rattle.rv_isa_laws.proofs.Readings.{parcel_is}
 use Rattle.rv_machine.proofs.fetch.by_parcel.Goals as goal
 
 pub returns-in-Some : goal.returns-in-Some

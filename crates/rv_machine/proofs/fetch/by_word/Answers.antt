@@ -1,6 +1,6 @@
 use Rattle.std.proofs.Common.{Some, None, sym, ap}
-use Rattle.rv_machine_laws.specs.Run as laws
-use Rattle.rv_machine_laws.proofs.Readings.{word_is}
+use Rattle.rv_isa_laws.specs.Run as laws
+use Rattle.rv_isa_laws.proofs.Readings.{word_is}
 use Rattle.rv_machine.proofs.fetch.by_word.Goals as goal
 
 pub returns-in-Some : goal.returns-in-Some

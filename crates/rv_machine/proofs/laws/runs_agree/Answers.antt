@@ -1,4 +1,4 @@
-use Rattle.rv_machine_laws.proofs.Readings.{same_run}
+use Rattle.rv_isa_laws.proofs.Readings.{same_run}
 use Rattle.rv_machine.proofs.laws.runs_agree.Goals as goal
 
 pub returns : goal.returns

@@ -1,7 +1,7 @@
 use Rattle.std.proofs.Common.{◌<◌, ◌∙◌, length, map, take, rules, []}
 use Rattle.std.specs.Prelude.{◌||◌}
 use Rattle.rv_statement.specs.View.{now_of}
-use Rattle.rv_chain_laws.specs.Resolves.{is_one_of}
+use Rattle.rv_source_laws.specs.Resolves.{is_one_of}
 use Rattle.rv_link.proofs.Named.{added}
 use Rattle.rv_link.proofs.globals.Globals.add_all.Goals as goal
 

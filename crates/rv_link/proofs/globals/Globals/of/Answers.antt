@@ -1,6 +1,6 @@
 use Rattle.std.proofs.Common.{◌<◌, ◌∙◌, length, map, take, rules, false}
 use Rattle.rv_statement.specs.View.{said_by}
-use Rattle.rv_chain_laws.specs.Resolves.{is_global_after}
+use Rattle.rv_source_laws.specs.Resolves.{is_global_after}
 use Rattle.rv_link.proofs.Named.{global_more}
 use Rattle.rv_link.proofs.globals.Globals.of.Goals as goal
 

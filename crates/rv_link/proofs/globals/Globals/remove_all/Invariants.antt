@@ -1,7 +1,7 @@
 use Rattle.std.proofs.Common.{ℕ, Bool, List, map, take}
 use Rattle.std.specs.Prelude.{◌&&◌, not}
 use Rattle.rv_statement.specs.View.{now_of}
-use Rattle.rv_chain_laws.specs.Resolves.{is_one_of}
+use Rattle.rv_source_laws.specs.Resolves.{is_one_of}
 use Rattle.rv_link.specs.Globals.{Has}
 use Rattle.rv_link.proofs.globals.Globals.remove_all.Given as goal
 

@@ -1,6 +1,6 @@
 use Rattle.std.specs.Str.{bytes_eq}
 use Rattle.std.specs.List.{find}
-use Rattle.rv_chain_laws.specs.Resolves.{symbol}
+use Rattle.rv_source_laws.specs.Resolves.{symbol}
 use Rattle.rv_link.proofs.Joined.{name_more}
 use Rattle.rv_link.proofs.numbers.Addresses.put.Goals as goal
 

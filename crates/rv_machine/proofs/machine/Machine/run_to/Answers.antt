@@ -4,8 +4,8 @@ use Rattle.rv_compress.specs.Parcel.{StandsFor}
 use Rattle.rv_isa_laws.specs.Memory.{Mem}
 use Rattle.rv_isa_laws.specs.Hart.{Hart, stop}
 use Rattle.rv_isa_laws.specs.Effect.{On}
-use Rattle.rv_machine_laws.specs.Reader.{Reader}
-use Rattle.rv_machine_laws.specs.Run.{step}
+use Rattle.rv_isa_laws.specs.Reader.{Reader}
+use Rattle.rv_isa_laws.specs.Run.{step}
 use Rattle.rv_machine.specs.End.{end_of}
 use Rattle.rv_machine.specs.Machine.{state_of}
 use Rattle.rv_machine.proofs.RunLemmas.{run-on, run-over, came}

@@ -1,0 +1,172 @@
+-- The map fits the sources: which rows it has, how large each is, and where each stands.
+
+use Rattle.std.specs.Prelude.{◌≡◌, ℕ, suc, ◌+◌, ◌*◌, ◌%◌, ◌≤◌, Bool, true, false, ◌&&◌, ◌==◌, IsTrue, ⊤, max, sum_by, map, List, [], ◌∷◌, ◌++◌, filter, length, Option, Some, None, nat_le, nat_lt, slice_index_or, if◌then◌else◌}
+use Rattle.std.specs.List.{AllByRecursion, list_all}
+use Rattle.rv_isa.specs.declared.instruction.Inst.{Inst}
+use Rattle.rv_isa.specs.Ranges.{IsValid}
+use Rattle.rv_text_laws.specs.Values.{Value, Constant}
+use Rattle.rv_statement.specs.Statement.{Statement, Label, Numbered, Instruction, Directs, Spoken, Directive, Sets, Aligns_to_power, Aligns_to_bytes, Values, Strings, Zeros}
+use Rattle.rv_unit_laws.specs.Sections.{Section, goes_to_text, goes_to_rodata, goes_to_data, goes_to_bss}
+use Rattle.rv_unit_laws.specs.Tables.{Tables, tables, aligned, asked, padding}
+use Rattle.rv_unit_laws.specs.Faults.{first_fault}
+use Rattle.rv_map.specs.Map.{Map}
+use Rattle.rv_map.specs.declared.map.Row.{Row}
+use Rattle.rv_map.specs.declared.map.Region.{Region}
+use Rattle.rv_source_laws.specs.Stated.{Stated, stated, has_row}
+use Rattle.rv_source_laws.specs.Sites.{Site, Program, program, form, has_values, expressions}
+use Rattle.rv_source_laws.specs.Meaning.{expansion}
+use Rattle.rv_source_laws.specs.Start.{spelled}
+
+-- which statement a row is that of
+pub record Mark : Type 0 where
+  pub file : ℕ
+  pub line : ℕ
+  pub ordinal : ℕ
+
+abbrev pub mark_of_row : Row → Mark
+mark_of_row r = record { file = r.file; line = r.line; ordinal = r.ordinal }
+
+abbrev pub mark_of_stated : Stated → Mark
+mark_of_stated s = record { file = s.file; line = s.line; ordinal = s.ordinal }
+
+-- the row of instructions that are valid, each of 2 or 4 bytes; no row fits a statement without instructions to stand for it
+abbrev pub IsRowOf : Option (List Inst) → Row → Type 0
+IsRowOf None r = ⊥
+IsRowOf (Some instructions) r =
+    AllByRecursion IsValid instructions
+    × (r.instructions ≡ length instructions) × (2 * r.instructions ≤ r.bytes) × (r.bytes ≤ 4 * r.instructions) × (r.bytes % 2 ≡ 0)
+
+-- open operands are not built: an instruction's expressions are constants
+abbrev pub is_constant : Value → Bool
+is_constant (Constant n) = true
+is_constant _ = false
+
+abbrev pub has_constants : Program → Site → Bool
+has_constants p s = list_all (λ e. is_constant (form p s.stated e)) (expressions s.stated.says)
+
+-- the row of data: the bytes that the statement spells, all zero where its section has none in the file
+abbrev pub IsDataRow : Program → Site → Type 0
+IsDataRow p s = IsTrue (has_values p s) × (s.row.bytes ≡ length (spelled p s)) × (s.row.instructions ≡ 0)
+
+-- the least padding for which a row of an alignment ends at a multiple of it
+abbrev pub least_padding : Program → Site → Directive → ℕ
+least_padding p s d = padding (asked (λ e. form p s.stated e) d) s.row.address
+
+-- up to 2
+abbrev pub is_low : Option ℕ → Bool
+is_low None = true
+is_low (Some alignment) = nat_le alignment 2
+
+-- the row of an alignment: in executable sections instructions, and none up to 2; in others zeros
+abbrev pub IsPaddingIn : Bool → Program → Site → Directive → Type 0
+IsPaddingIn true p s d =
+    IsRowOf (expansion p s) s.row × (s.row.bytes ≡ (if is_low (asked (λ e. form p s.stated e) d) then 0 else least_padding p s d))
+IsPaddingIn false p s d = IsTrue (has_values p s) × (s.row.bytes ≡ least_padding p s d) × (s.row.instructions ≡ 0)
+
+abbrev pub IsPadding : Program → Site → Directive → Type 0
+IsPadding p s d = IsPaddingIn s.stated.home.executable p s d
+
+abbrev pub DirectiveFits : Program → Site → Directive → Type 0
+DirectiveFits p s (Sets name e) = IsRowOf (expansion p s) s.row
+DirectiveFits p s (Values width values) = IsDataRow p s
+DirectiveFits p s (Strings ended strings) = IsDataRow p s
+DirectiveFits p s (Zeros count) = IsDataRow p s
+DirectiveFits p s (Aligns_to_power exponent) = IsPadding p s (Aligns_to_power exponent)
+DirectiveFits p s (Aligns_to_bytes bytes) = IsPadding p s (Aligns_to_bytes bytes)
+DirectiveFits p s _ = ⊥
+
+-- the size of a statement's row, by its kind
+abbrev pub StatementFits : Program → Site → Statement → Type 0
+StatementFits p s (Label name) = IsRowOf (expansion p s) s.row
+StatementFits p s (Numbered number) = IsRowOf (expansion p s) s.row
+StatementFits p s (Instruction mnemonic operands) = IsTrue (has_constants p s) × IsRowOf (expansion p s) s.row
+StatementFits p s (Directs directive) = DirectiveFits p s directive
+
+abbrev pub SizeFits : Program → Site → Type 0
+SizeFits p s = StatementFits p s s.stated.says
+
+-- a section of a file as it stands in the map
+pub record Block : Type 0 where
+  pub alignment : ℕ
+  pub sites : List Site
+
+abbrev pub rows_of : Block → List Row
+rows_of b = map (λ s. s.row) b.sites
+
+-- the sites of a section, by its file and its place in the file
+abbrev pub sites_in : List Site → ℕ → ℕ → List Site
+sites_in sites file section = filter (λ s. (s.stated.file == file) && (s.stated.section == section)) sites
+
+-- the multiple at which a section begins, by its place in its file: code stands at even addresses
+abbrev pub begins_at : Tables → ℕ → Section → ℕ
+begins_at t place section = max (if goes_to_text section then 2 else 1) (slice_index_or t.alignments place 1)
+
+abbrev pub block_of : Tables → Section → List Site → ℕ → ℕ → Block
+block_of t section sites file place = record { alignment = begins_at t place section; sites = sites_in sites file place }
+
+-- the sections of a file that go to a region, from a place on in the file's order
+abbrev pub blocks_of_file : (Section → Bool) → Tables → List Site → ℕ → ℕ → List Section → List Block
+blocks_of_file goes t sites file place [] = []
+blocks_of_file goes t sites file place (section ∷ sections) =
+    let rest = blocks_of_file goes t sites file (suc place) sections in
+    if goes section then block_of t section sites file place ∷ rest else rest
+
+-- the sections that go to a region, in file order and then in the order of the file
+abbrev pub blocks_of : (Section → Bool) → List Site → ℕ → List (List Spoken) → List Block
+blocks_of goes sites file [] = []
+blocks_of goes sites file (ss ∷ files) =
+    blocks_of_file goes (tables ss) sites file 0 (tables ss).opened.sections ++ blocks_of goes sites (suc file) files
+
+abbrev pub blocks : (Section → Bool) → List (List Spoken) → Map → List Block
+blocks goes sources m = blocks_of goes (program sources m).sites 1 sources
+
+-- each row starts where the one before ends
+abbrev pub Follow : ℕ → List Row → Type 0
+Follow address [] = ⊤
+Follow address (row ∷ rows) = (row.address ≡ address) × Follow (address + row.bytes) rows
+
+abbrev pub size : List Row → ℕ
+size rows = sum_by (λ r. r.bytes) rows
+
+-- sections one after another: each at the least aligned place that is not below the end before
+abbrev pub Stand : ℕ → List Block → Type 0
+Stand stop [] = ⊤
+Stand stop (b ∷ bs) = Follow (aligned b.alignment stop) (rows_of b) × Stand (aligned b.alignment stop + size (rows_of b)) bs
+
+-- the end of the last of them
+abbrev pub end_of : ℕ → List Block → ℕ
+end_of stop [] = stop
+end_of stop (b ∷ bs) = end_of (aligned b.alignment stop + size (rows_of b)) bs
+
+-- a gap stands before each section that begins past the end before
+abbrev pub gaps_of : ℕ → List Block → List Region
+gaps_of stop [] = []
+gaps_of stop (b ∷ bs) =
+    let start = aligned b.alignment stop in
+    let rest = gaps_of (start + size (rows_of b)) bs in
+    if nat_lt stop start then record { start = stop; end = start } ∷ rest else rest
+
+-- a region holds its sections from a place on
+abbrev pub Holds : Region → ℕ → List Block → Type 0
+Holds region place bs = (region.start ≡ place) × Stand place bs × (region.end ≡ end_of place bs)
+
+abbrev pub greatest : List Block → ℕ
+greatest [] = 1
+greatest (b ∷ bs) = max b.alignment (greatest bs)
+
+-- each statement that has a place has one row, by file and ordinal, and there are no others
+abbrev pub HasRows : List (List Spoken) → Map → Type 0
+HasRows sources m = map mark_of_row m.rows ≡ map mark_of_stated (filter has_row (stated sources))
+
+-- the map fits the sources, from a text start on
+pub record Fits (sources : List (List Spoken)) (m : Map) (text_start : ℕ) : Type 0 where
+  -- no label and no directive is faulty, and each statement stands in a section that can hold it
+  pub good : AllByRecursion (λ ss. first_fault ss ≡ None) sources
+  pub rows : HasRows sources m
+  pub sizes : AllByRecursion (SizeFits (program sources m)) (program sources m).sites
+  pub text : Holds m.text text_start (blocks goes_to_text sources m)
+  pub gaps : m.gaps ≡ gaps_of text_start (blocks goes_to_text sources m)
+  -- rodata and data begin at pages of 4096 bytes, bss behind data at its greatest alignment
+  pub rodata : Holds m.rodata (aligned 4096 m.text.end) (blocks goes_to_rodata sources m)
+  pub «data» : Holds m.data (aligned 4096 m.rodata.end) (blocks goes_to_data sources m)
+  pub bss : Holds m.bss (aligned (greatest (blocks goes_to_bss sources m)) m.data.end) (blocks goes_to_bss sources m)

@@ -1,0 +1,9 @@
+pub mod Stated
+pub mod Sites
+pub mod Written
+pub mod Meaning
+pub mod Fits
+pub mod Resolves
+pub mod Start
+pub mod SourceRun
+pub mod Placed

@@ -1,0 +1,125 @@
+-- The names of a map: which globals it shows, and where a run begins (gABI, "Symbol Table"; GNU as, ".global").
+
+use Rattle.std.specs.Prelude.{◌≡◌, ℕ, ◌+◌, ◌-◌, ◌%◌, Bool, false, not, ◌&&◌, ◌||◌, ◌==◌, ⊤, List, [], ◌∷◌, ◌++◌, filter, flat_map, Option, Some, None, is_some, option_and_then, slice_index_or, codes, bytes_eq, if◌then◌else◌}
+use Rattle.std.specs.List.{find, list_any}
+use Rattle.rv_text_laws.specs.Values.{Known, Placed, Open, Refused}
+use Rattle.rv_statement.specs.Statement.{Statement, Label, Directs, Spoken, Globl, Local, Sets}
+use Rattle.rv_unit_laws.specs.Sections.{goes_to_text}
+use Rattle.rv_unit_laws.specs.Tables.{Tables, Setting, set_before, set_ever}
+use Rattle.rv_map.specs.Map.{Map, Global}
+use Rattle.rv_source_laws.specs.Stated.{Stated}
+use Rattle.rv_source_laws.specs.Sites.{Entry, Program, program, tables_in, address_of, home_address}
+
+abbrev pub is_one_of : List (List ℕ) → List ℕ → Bool
+is_one_of names name = list_any (λ n. bytes_eq n name) names
+
+-- no name stands twice in a list
+abbrev pub AreDistinct : List (List ℕ) → Type 0
+AreDistinct [] = ⊤
+AreDistinct (name ∷ names) = (is_one_of names name ≡ false) × AreDistinct names
+
+-- whether a name is global after a statement, where it was or wasn't before
+abbrev pub made_global : Statement → List ℕ → Bool → Bool
+made_global (Directs (Globl names)) name before = is_one_of names name || before
+made_global (Directs (Local names)) name before = not (is_one_of names name) && before
+made_global _ name before = before
+
+-- the last of a file's statements that make a name global or local holds
+abbrev pub is_global_after : Bool → List Spoken → List ℕ → Bool
+is_global_after before [] name = before
+is_global_after before (s ∷ ss) name = is_global_after (made_global s.says name before) ss name
+
+-- whether a file, numbered from 1, makes a name global
+abbrev pub is_global_in : List (List Spoken) → ℕ → List ℕ → Bool
+is_global_in sources file name = is_global_after false (slice_index_or sources (file - 1) []) name
+
+abbrev pub symbol : List ℕ → ℕ → Global
+symbol name address = record { name = name; address = address }
+
+-- a global of this address; one without an address isn't shown
+abbrev pub shown : List ℕ → Option ℕ → List Global
+shown name None = []
+shown name (Some address) = symbol name address ∷ []
+
+-- ---- definitions
+
+-- a `.set` at an ordinal gives a name for the first time
+abbrev pub sets_first : List Setting → ℕ → List ℕ → Bool
+sets_first settings ordinal name =
+    list_any (λ s. (s.ordinal == ordinal) && bytes_eq s.name name) settings && not (is_some (set_before settings ordinal name))
+
+-- the name that a statement defines: a label's, or one that `.set` gives for the first time
+abbrev pub defined_name : Tables → ℕ → Statement → List (List ℕ)
+defined_name t ordinal (Label name) = name ∷ []
+defined_name t ordinal (Directs (Sets name e)) = if sets_first t.settings ordinal name then name ∷ [] else []
+defined_name t ordinal _ = []
+
+-- the number that `.set` gives, or the address of the place
+abbrev pub set_address : List Entry → ℕ → Option Setting → Option ℕ
+set_address entries file None = None
+set_address entries file (Some s) = elim s.meaning [
+  | Known n ↦ Some n
+  | Placed section offset ↦ home_address entries file (record { ordinal = s.ordinal; plus = s.plus })
+  | Open ↦ None
+  | Refused code ↦ None
+]
+
+-- the address or the number of what a statement defines: a label's row's address, or what `.set` gives the name last
+abbrev pub defined_address : Tables → List Entry → Entry → Statement → Option ℕ
+defined_address t entries e (Directs (Sets name expression)) = set_address entries e.stated.file (set_ever t.settings name)
+defined_address t entries e _ = address_of e
+
+-- the name that a statement of a file defines for all files
+abbrev pub global_names_of : List (List Spoken) → Tables → Stated → List (List ℕ)
+global_names_of sources t s = filter (λ name. is_global_in sources s.file name) (defined_name t s.ordinal s.says)
+
+-- that name with its address; one in a section that isn't loaded has none
+abbrev pub defined_by : List (List Spoken) → Program → Entry → List Global
+defined_by sources p e =
+    let t = tables_in p e.stated.file in
+    flat_map (λ name. shown name (defined_address t p.entries e e.stated.says)) (global_names_of sources t e.stated)
+
+-- the names that are defined for all files, by file and then in the order of definition
+abbrev pub global_names : List (List Spoken) → Map → List (List ℕ)
+global_names sources m =
+    let p = program sources m in
+    flat_map (λ e. global_names_of sources (tables_in p e.stated.file) e.stated) p.entries
+
+-- the global definitions of a list of sources, by file and then in the order of definition
+abbrev pub definitions : List (List Spoken) → Map → List Global
+definitions sources m =
+    let p = program sources m in
+    flat_map (defined_by sources p) p.entries
+
+-- the names that the linker gives
+abbrev pub linker_symbols : Map → List Global
+linker_symbols m =
+    symbol (codes "_etext") m.text.end
+    ∷ symbol (codes "__bss_start") m.bss.start
+    ∷ symbol (codes "_edata") m.data.end
+    ∷ symbol (codes "_end") m.bss.end
+    ∷ symbol (codes "__global_pointer$") (m.data.start + 0x800)
+    ∷ []
+
+-- ---- the entry
+
+-- a label `_start` of a section of text that its file makes global
+abbrev pub is_start : Statement → Bool
+is_start (Label name) = bytes_eq name (codes "_start")
+is_start _ = false
+
+abbrev pub begins_run : List (List Spoken) → Stated → Bool
+begins_run sources s = is_start s.says && goes_to_text s.home && is_global_in sources s.file (codes "_start")
+
+abbrev pub starts_at : Option Entry → Option ℕ
+starts_at found = option_and_then address_of found
+
+-- the map resolves the names of the sources
+pub record Resolves (sources : List (List Spoken)) (m : Map) : Type 0 where
+  -- a linker symbol is shown where no global definition has its name
+  pub globals : m.globals ≡ definitions sources m ++ filter (λ g. not (is_one_of (global_names sources m) g.name)) (linker_symbols m)
+  -- no name has two global definitions
+  pub once : AreDistinct (global_names sources m)
+  -- a run begins at the global label _start, an even place of a section of text
+  pub entry : starts_at (find (λ e. begins_run sources e.stated) (program sources m).entries) ≡ Some m.entry
+  pub even : m.entry % 2 ≡ 0

@@ -1,0 +1,3 @@
+pub mod Exit7Program
+pub mod FiguresProgram
+pub mod WideProgram

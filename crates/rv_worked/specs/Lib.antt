@@ -1,0 +1,4 @@
+pub mod Exit7
+pub mod Exit7Executable
+pub mod Data
+pub mod Refused

@@ -1,0 +1,142 @@
+-- Worked sources that are refused.
+
+use Rattle.std.specs.Prelude.{ℕ, List, [], ◌∷◌, Option, Some, None, codes}
+use Rattle.rv_text_laws.specs.declared.operator.UnaryOperator.TheVariants.{Negate}
+use Rattle.rv_text_laws.specs.declared.operator.BinaryOperator.TheVariants.{Add, Subtract, Divide}
+use Rattle.rv_text_laws.specs.Expression.{Leaf, Here, Unary, Binary}
+use Rattle.rv_statement.specs.declared.directive.Choice.TheVariants.{Norvc, Push, Pop}
+use Rattle.rv_statement.specs.declared.directive.Standard.TheVariants.{Data, Rodata}
+use Rattle.rv_statement.specs.declared.mnemonic.Mnemonic.TheVariants.{Registers, Immediate, Shift, Upper, Load}
+use Rattle.rv_statement.specs.declared.mnemonic.RegisterOperation.TheVariants.{And, Sllw}
+use Rattle.rv_statement.specs.declared.mnemonic.ImmediateOperation.TheVariants.{Addi}
+use Rattle.rv_statement.specs.declared.mnemonic.ShiftOperation.TheVariants.{Slli}
+use Rattle.rv_statement.specs.declared.mnemonic.UpperOperation.TheVariants.{Lui}
+use Rattle.rv_statement.specs.declared.mnemonic.LoadOperation.TheVariants.{Ld}
+use Rattle.rv_statement.specs.Statement.{Statement, Label, Instruction, Directs, Spoken, Expression, Register, Value, Enters, Opens, Values, Chooses}
+use Rattle.rv_unit_laws.specs.Faults.{Fault}
+use Rattle.rv_map.specs.Map.{Map}
+use Rattle.rv_worked.specs.Exit7.{said, constant, norvc, globl, row, region, global}
+use Rattle.rv_worked.specs.Data.{call, symbol}
+
+-- a fault by its code and its line
+abbrev pub fault : ℕ → ℕ → Option Fault
+fault code line = Some (record { code = code; line = line })
+
+-- one instruction at line 2, where compressed code is off
+abbrev pub alone : Statement → List Spoken
+alone s = said 1 norvc ∷ said 2 s ∷ []
+
+-- `addi a0, a0, e`
+abbrev pub adds : Expression → Statement
+adds e = Instruction (Immediate Addi) (Register 10 ∷ Register 10 ∷ Value e ∷ [])
+
+abbrev pub minus : ℕ → Expression
+minus k = Unary Negate (constant k)
+
+-- `slli a0, a0, k` and `sllw a0, a0, k`
+abbrev pub shifts : ℕ → Statement
+shifts k = Instruction (Shift Slli) (Register 10 ∷ Register 10 ∷ Value (constant k) ∷ [])
+
+abbrev pub shifts_word : ℕ → Statement
+shifts_word k = Instruction (Registers Sllw) (Register 10 ∷ Register 10 ∷ Value (constant k) ∷ [])
+
+-- `and a0, a0, e`, `lui a0, e` and `ld a0, e(a1)`
+abbrev pub ands : Expression → Statement
+ands e = Instruction (Registers And) (Register 10 ∷ Register 10 ∷ Value e ∷ [])
+
+abbrev pub uppers : Expression → Statement
+uppers e = Instruction (Upper Lui) (Register 10 ∷ Value e ∷ [])
+
+abbrev pub loads : Expression → Statement
+loads e = Instruction (Load Ld) (Register 10 ∷ Value e ∷ Register 11 ∷ [])
+
+-- compressed code is off at line 3, and on again at line 5
+abbrev pub options : List Spoken
+options =
+    said 1 (Directs (Chooses Push))
+    ∷ said 2 (Directs (Chooses Norvc))
+    ∷ said 3 call
+    ∷ said 4 (Directs (Chooses Pop))
+    ∷ said 5 call
+    ∷ []
+
+-- a division by zero stands before a number out of range
+abbrev pub two_faults : List Spoken
+two_faults =
+    said 1 norvc
+    ∷ said 2 (adds (Binary Divide (constant 1) (constant 0)))
+    ∷ said 3 (adds (constant 2048))
+    ∷ []
+
+-- the faults of labels and directives come before those of instructions
+abbrev pub directive_later : List Spoken
+directive_later =
+    said 1 norvc
+    ∷ said 2 (adds (constant 2048))
+    ∷ said 3 (Label (codes "x"))
+    ∷ said 4 (Label (codes "x"))
+    ∷ []
+
+-- the data name `late` in the first section of data, and before it in the source `early` in the second one
+abbrev pub unknown_names : List Spoken
+unknown_names =
+    said 1 norvc
+    ∷ said 2 (Directs (Enters Data))
+    ∷ said 3 (Directs (Values 8 (symbol (codes "_end") ∷ [])))
+    ∷ said 4 (Directs (Enters Rodata))
+    ∷ said 5 (Directs (Values 8 (symbol (codes "early") ∷ [])))
+    ∷ said 6 (Directs (Enters Data))
+    ∷ said 7 (Directs (Values 8 (Binary Subtract (symbol (codes "late")) (symbol (codes "early")) ∷ [])))
+    ∷ []
+
+-- a place in a section that is not loaded has no address, but its distance to another one there is known
+abbrev pub unloaded_place : List Spoken
+unloaded_place =
+    said 1 (Directs (Opens (codes "notes") None None))
+    ∷ said 2 (Label (codes "n"))
+    ∷ said 3 (Directs (Values 4 (symbol (codes "elsewhere") ∷ [])))
+    ∷ said 4 (Label (codes "m"))
+    ∷ said 5 (Directs (Enters Data))
+    ∷ said 6 (Directs (Values 4 (Binary Subtract (symbol (codes "m")) (symbol (codes "n")) ∷ [])))
+    ∷ said 7 (Directs (Values 4 (symbol (codes "n") ∷ [])))
+    ∷ []
+
+-- a global constant, and a label of data, are no entry
+abbrev pub no_entry : List Spoken
+no_entry =
+    said 1 (globl (codes "_start"))
+    ∷ said 2 (Directs (Enters Data))
+    ∷ said 3 (Label (codes "_start"))
+    ∷ []
+
+-- a place plus a number, in four bytes
+abbrev pub wide : ℕ → List Spoken
+wide k =
+    said 1 norvc
+    ∷ said 2 (globl (codes "_start"))
+    ∷ said 3 (Label (codes "_start"))
+    ∷ said 4 call
+    ∷ said 5 (Directs (Enters Data))
+    ∷ said 6 (Directs (Values 4 (Binary Add (Leaf Here) (constant k) ∷ [])))
+    ∷ []
+
+abbrev pub wide_map : Map
+wide_map = record {
+  text = region 0x10000 0x10004;
+  rodata = region 0x11000 0x11000;
+  «data» = region 0x11000 0x11004;
+  bss = region 0x11004 0x11004;
+  entry = 0x10000;
+  gaps = [];
+  globals = global (codes "_start") 0x10000
+      ∷ global (codes "_etext") 0x10004
+      ∷ global (codes "__bss_start") 0x11004
+      ∷ global (codes "_edata") 0x11004
+      ∷ global (codes "_end") 0x11004
+      ∷ global (codes "__global_pointer$") 0x11800
+      ∷ [];
+  rows = row 1 3 3 0x10000 0 0
+      ∷ row 1 4 4 0x10000 4 1
+      ∷ row 1 6 6 0x11000 4 0
+      ∷ [];
+}
