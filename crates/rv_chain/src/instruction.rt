@@ -23,11 +23,11 @@ use crate::written::{
     access_bits, atomic, fence, load_reserved, of_immediate, of_load, of_registers, of_shift,
     of_store, of_upper,
 };
-use rv_isa::{IType, Inst, RType, Reg, SType};
-use rv_statement::{
-    ImmediateOperation, LoadOperation, Operation, Plain, RegisterOperation, ShiftOperation,
-    Statement, StatementKind, StoreOperation,
+use rv_isa::{
+    IType, ImmediateOperation, Inst, LoadOperation, RType, Reg, RegisterOperation, SType,
+    ShiftOperation, StoreOperation,
 };
+use rv_statement::{Operation, Plain, Statement, StatementKind};
 use rv_text::{Expr, SourceCode, SourceFault, Value};
 
 /// The immediate of 12 bits that a number is, taken as signed.

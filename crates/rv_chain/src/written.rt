@@ -7,10 +7,10 @@ ghost use Rattle.rv_source_laws.specs.Written as laws;
 ghost use Rattle.rv_chain_laws.specs.Refusals.{shift_limit};
 ghost use Rattle.rv_chain.specs.Code.{InRange};
 
-use rv_isa::{Atomic, Fence, IType, Inst, RType, Reg, Reserve, SType, Shift, UType};
-use rv_statement::{
-    AccessSet, AtomicForm, AtomicOperation, ImmediateOperation, LoadOperation, RegisterOperation,
-    ShiftOperation, StoreOperation, UpperOperation,
+use rv_isa::{
+    AccessSet, Atomic, AtomicForm, AtomicOperation, Fence, IType, ImmediateOperation, Inst,
+    LoadOperation, RType, Reg, RegisterOperation, Reserve, SType, Shift, ShiftOperation,
+    StoreOperation, UType, UpperOperation,
 };
 use rv_text::SourceCode;
 

@@ -8,8 +8,8 @@ use Rattle.rv_text_laws.specs.Expression.{Primary, Symbol}
 use Rattle.rv_text_laws.specs.Values.{Value, Constant, Symbolic, Difference, Faulty}
 use Rattle.rv_statement.specs.declared.directive.Choice.{Choice}
 use Rattle.rv_statement.specs.declared.directive.Choice.TheVariants.{Rvc, Norvc, Push, Pop}
-use Rattle.rv_statement.specs.declared.mnemonic.ShiftOperation.{ShiftOperation}
-use Rattle.rv_statement.specs.declared.mnemonic.ShiftOperation.TheVariants.{Slliw, Srliw, Sraiw}
+use Rattle.rv_isa.specs.declared.operation.ShiftOperation.{ShiftOperation}
+use Rattle.rv_isa.specs.declared.operation.ShiftOperation.TheVariants.{Slliw, Srliw, Sraiw}
 use Rattle.rv_statement.specs.declared.mnemonic.Mnemonic.{Mnemonic}
 use Rattle.rv_statement.specs.declared.mnemonic.Mnemonic.TheVariants.{Registers, Shift, Upper, Li}
 use Rattle.rv_statement.specs.Statement.{Statement, Instruction, Directs, Spoken, Expression, Directive, Values, Chooses}

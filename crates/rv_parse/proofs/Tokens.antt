@@ -3,7 +3,7 @@
 use Rattle.std.proofs.Common.{◌≡◌, ℕ, true, false, List, Some, refl}
 use Rattle.rv_text_laws.specs.Grammar.{Kind, Mark, Name as NameToken, Number, Character, Text, Bad_byte, Bad_token, End}
 use Rattle.rv_text_laws.specs.Lexing.{is_last}
-use Rattle.rv_statement.specs.declared.mnemonic.AccessSet.{AccessSet}
+use Rattle.rv_isa.specs.declared.operation.AccessSet.{AccessSet}
 use Rattle.rv_statement.specs.declared.directive.Choice.{Choice}
 use Rattle.rv_statement.specs.Statement.{Operand}
 use Rattle.rv_parse_laws.specs.Syntax.{register_of, symbol_of, accesses_of, is_comma, is_colon, is_opening, is_closing, is_at, is_zero, is_any, A_string, A_type, single}

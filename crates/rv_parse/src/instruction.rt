@@ -13,11 +13,11 @@ ghost use Rattle.rv_parse.specs.Left.{Gives};
 use crate::fault::{Role, Slot};
 use crate::place;
 use crate::words::has_constant;
-use rv_isa::Reg;
-use rv_statement::{
-    AtomicForm, AtomicOperation, ImmediateOperation, LoadOperation, Mnemonic, Operation, Plain,
-    RegisterOperation, ShiftOperation, StatementKind, StoreOperation, UpperOperation,
+use rv_isa::{
+    AtomicForm, AtomicOperation, ImmediateOperation, LoadOperation, Reg, RegisterOperation,
+    ShiftOperation, StoreOperation, UpperOperation,
 };
+use rv_statement::{Mnemonic, Operation, Plain, StatementKind};
 use rv_text::{Cursor, Expr, Refusal, Wrong};
 use std::alloc::Global;
 

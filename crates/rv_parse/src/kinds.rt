@@ -12,8 +12,8 @@ ghost use Rattle.rv_parse_laws.specs.Parsing.{width};
 ghost use Rattle.rv_parse.specs.View.{beginning_of, choice_of, word_of, string_of};
 
 use crate::words::{Beginning, accesses_named, beginning_with, choice_named, register_named};
-use rv_isa::Reg;
-use rv_statement::{AccessSet, Choice, StatementKind};
+use rv_isa::{AccessSet, Reg};
+use rv_statement::{Choice, StatementKind};
 use rv_text::{LONGEST_NAME, Sign, TokenKind};
 
 /// A name that a symbol may have.

@@ -12,8 +12,7 @@ ghost use Rattle.rv_parse.specs.Left.{Gives};
 use crate::fault::{self, Role, Slot};
 use crate::kinds;
 use crate::words::register_named;
-use rv_isa::Reg;
-use rv_statement::AccessSet;
+use rv_isa::{AccessSet, Reg};
 use rv_text::{Cursor, Expr, LONGEST_NAME, Refusal, Registers, SourceCode, Wrong};
 use std::alloc::Global;
 

@@ -9,12 +9,11 @@ ghost use Rattle.rv_parse_laws.specs.Syntax.{access_sets, with_constant, is_flag
 ghost use Rattle.rv_parse_laws.specs.Faults.{is_known_flag};
 ghost use Rattle.rv_parse.specs.View.{beginning_of, named_of};
 
-use rv_isa::{Reg, reg_named};
-use rv_statement::{
-    AccessSet, AtomicForm, AtomicOperation, Choice, DirectiveWord, ImmediateOperation,
-    LoadOperation, Mnemonic, RegisterOperation, ShiftOperation, Standard, StoreOperation,
-    UpperOperation, Width,
+use rv_isa::{
+    AccessSet, AtomicForm, AtomicOperation, ImmediateOperation, LoadOperation, Reg,
+    RegisterOperation, ShiftOperation, StoreOperation, UpperOperation, reg_named,
 };
+use rv_statement::{Choice, DirectiveWord, Mnemonic, Standard, Width};
 
 /// The base instructions but the atomics.
 const BASE_WORDS: [&str; 66] = [

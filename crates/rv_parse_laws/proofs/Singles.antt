@@ -7,7 +7,7 @@ use Rattle.rv_text_laws.specs.Lexing.{Token, is_last, ended}
 use Rattle.rv_text_laws.specs.Wrong.{Wrong, wrong}
 use Rattle.rv_text_laws.proofs.ExpressionWrong.{ended_more}
 use Rattle.rv_isa.specs.RegisterNames.{abi_names}
-use Rattle.rv_statement.specs.declared.mnemonic.AccessSet.{AccessSet}
+use Rattle.rv_isa.specs.declared.operation.AccessSet.{AccessSet}
 use Rattle.rv_statement.specs.Statement.{Operand, Register, Accesses, Word, Quoted}
 use Rattle.rv_parse_laws.specs.Words.{names_of, register, choices}
 use Rattle.rv_parse_laws.specs.Syntax.{is_symbol, register_of, symbol_of, is_comma, is_colon, is_opening, is_closing, is_end, is_zero, is_at, accesses_of, access_sets, accesses, Slot, A_register, A_value, An_address, A_zero, Some_accesses, A_symbol, A_string, A_section, Some_flags, At_sign, A_type, An_option, A_comma, An_opening, A_closing, single}

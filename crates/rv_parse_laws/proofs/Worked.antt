@@ -14,8 +14,8 @@ use Rattle.rv_text_laws.specs.declared.operator.BinaryOperator.TheVariants.{Add,
 use Rattle.rv_statement.specs.declared.directive.Choice.TheVariants.{Norvc}
 use Rattle.rv_statement.specs.declared.directive.Standard.TheVariants.{Bss}
 use Rattle.rv_statement.specs.declared.mnemonic.Mnemonic.TheVariants.{Registers, Load, Jalr, LoadReserved}
-use Rattle.rv_statement.specs.declared.mnemonic.RegisterOperation.TheVariants.{And}
-use Rattle.rv_statement.specs.declared.mnemonic.LoadOperation.TheVariants.{Lw}
+use Rattle.rv_isa.specs.declared.operation.RegisterOperation.TheVariants.{And}
+use Rattle.rv_isa.specs.declared.operation.LoadOperation.TheVariants.{Lw}
 use Rattle.rv_statement.specs.Statement.{Register, Value, Enters, Opens, Globl, Local, Sets, Aligns_to_power, Aligns_to_bytes, Values, Strings, Zeros, Chooses as Choosing, Ignored, Statement, Label, Numbered, Instruction, Directs, Spoken}
 use Rattle.rv_parse_laws.specs.Words.{base_words, atomic_words, atomic_ends, pseudo_words, left_out_directives, is_known, instruction_words, atomic_operations, atomic_forms, form_with, mnemonic_named, directive_words, directive_named, beginning, choices, left_out_options, section_types, names_of, register}
 use Rattle.rv_parse_laws.specs.Syntax.{is_symbol, access_sets, is_section_name, Part, Says}

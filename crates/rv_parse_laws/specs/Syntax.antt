@@ -13,11 +13,11 @@ use Rattle.rv_text_laws.specs.Joined.{IsJoined}
 use Rattle.rv_text_laws.specs.Expression.{Tree, SpellsTree, IsAt, nesting, deepest, bare}
 use Rattle.rv_statement.specs.declared.mnemonic.Mnemonic.{Mnemonic}
 use Rattle.rv_statement.specs.declared.mnemonic.Mnemonic.TheVariants.{Registers, Immediate, Shift, Upper, Load, Store, Jalr, LoadReserved, Atomic, Fence, FenceTso, Ecall, Ebreak, Li}
-use Rattle.rv_statement.specs.declared.mnemonic.RegisterOperation.{RegisterOperation}
-use Rattle.rv_statement.specs.declared.mnemonic.RegisterOperation.TheVariants.{Add, Sll, Slt, Sltu, Xor, Srl, Sra, Or, And, Addw, Sllw, Srlw, Sraw}
-use Rattle.rv_statement.specs.declared.mnemonic.ImmediateOperation.TheVariants.{Addi, Slti, Sltiu, Xori, Ori, Andi, Addiw}
-use Rattle.rv_statement.specs.declared.mnemonic.ShiftOperation.TheVariants.{Slli, Srli, Srai, Slliw, Srliw, Sraiw}
-use Rattle.rv_statement.specs.declared.mnemonic.AccessSet.{AccessSet}
+use Rattle.rv_isa.specs.declared.operation.RegisterOperation.{RegisterOperation}
+use Rattle.rv_isa.specs.declared.operation.RegisterOperation.TheVariants.{Add, Sll, Slt, Sltu, Xor, Srl, Sra, Or, And, Addw, Sllw, Srlw, Sraw}
+use Rattle.rv_isa.specs.declared.operation.ImmediateOperation.TheVariants.{Addi, Slti, Sltiu, Xori, Ori, Andi, Addiw}
+use Rattle.rv_isa.specs.declared.operation.ShiftOperation.TheVariants.{Slli, Srli, Srai, Slliw, Srliw, Sraiw}
+use Rattle.rv_isa.specs.declared.operation.AccessSet.{AccessSet}
 use Rattle.rv_statement.specs.declared.directive.DirectiveWord.{DirectiveWord}
 use Rattle.rv_statement.specs.declared.directive.DirectiveWord.TheVariants as words
 use Rattle.rv_statement.specs.declared.directive.Choice.{Choice}

@@ -13,22 +13,22 @@ use Rattle.rv_isa.specs.declared.instruction.Atomic.{Atomic as AtomicOperands}
 use Rattle.rv_isa.specs.declared.instruction.Reserve.{Reserve}
 use Rattle.rv_isa.specs.declared.instruction.Inst.{Inst}
 use Rattle.rv_isa.specs.declared.instruction.Inst.TheVariants as inst
-use Rattle.rv_statement.specs.declared.mnemonic.RegisterOperation.{RegisterOperation}
-use Rattle.rv_statement.specs.declared.mnemonic.RegisterOperation.TheVariants.{Add, Sub, Sll, Slt, Sltu, Xor, Srl, Sra, Or, And, Addw, Subw, Sllw, Srlw, Sraw, Mul, Mulh, Mulhsu, Mulhu, Div, Divu, Rem, Remu, Mulw, Divw, Divuw, Remw, Remuw}
-use Rattle.rv_statement.specs.declared.mnemonic.ImmediateOperation.{ImmediateOperation}
-use Rattle.rv_statement.specs.declared.mnemonic.ImmediateOperation.TheVariants.{Addi, Slti, Sltiu, Xori, Ori, Andi, Addiw}
-use Rattle.rv_statement.specs.declared.mnemonic.ShiftOperation.{ShiftOperation}
-use Rattle.rv_statement.specs.declared.mnemonic.ShiftOperation.TheVariants.{Slli, Srli, Srai, Slliw, Srliw, Sraiw}
-use Rattle.rv_statement.specs.declared.mnemonic.UpperOperation.{UpperOperation}
-use Rattle.rv_statement.specs.declared.mnemonic.UpperOperation.TheVariants.{Lui, Auipc}
-use Rattle.rv_statement.specs.declared.mnemonic.LoadOperation.{LoadOperation}
-use Rattle.rv_statement.specs.declared.mnemonic.LoadOperation.TheVariants.{Lb, Lh, Lw, Ld, Lbu, Lhu, Lwu}
-use Rattle.rv_statement.specs.declared.mnemonic.StoreOperation.{StoreOperation}
-use Rattle.rv_statement.specs.declared.mnemonic.StoreOperation.TheVariants.{Sb, Sh, Sw, Sd}
-use Rattle.rv_statement.specs.declared.mnemonic.AtomicOperation.{AtomicOperation}
-use Rattle.rv_statement.specs.declared.mnemonic.AtomicOperation.TheVariants.{Sc, Amoswap, Amoadd, Amoxor, Amoand, Amoor, Amomin, Amomax, Amominu, Amomaxu}
-use Rattle.rv_statement.specs.declared.mnemonic.AccessSet.{AccessSet}
-use Rattle.rv_statement.specs.declared.mnemonic.AtomicForm.{AtomicForm}
+use Rattle.rv_isa.specs.declared.operation.RegisterOperation.{RegisterOperation}
+use Rattle.rv_isa.specs.declared.operation.RegisterOperation.TheVariants.{Add, Sub, Sll, Slt, Sltu, Xor, Srl, Sra, Or, And, Addw, Subw, Sllw, Srlw, Sraw, Mul, Mulh, Mulhsu, Mulhu, Div, Divu, Rem, Remu, Mulw, Divw, Divuw, Remw, Remuw}
+use Rattle.rv_isa.specs.declared.operation.ImmediateOperation.{ImmediateOperation}
+use Rattle.rv_isa.specs.declared.operation.ImmediateOperation.TheVariants.{Addi, Slti, Sltiu, Xori, Ori, Andi, Addiw}
+use Rattle.rv_isa.specs.declared.operation.ShiftOperation.{ShiftOperation}
+use Rattle.rv_isa.specs.declared.operation.ShiftOperation.TheVariants.{Slli, Srli, Srai, Slliw, Srliw, Sraiw}
+use Rattle.rv_isa.specs.declared.operation.UpperOperation.{UpperOperation}
+use Rattle.rv_isa.specs.declared.operation.UpperOperation.TheVariants.{Lui, Auipc}
+use Rattle.rv_isa.specs.declared.operation.LoadOperation.{LoadOperation}
+use Rattle.rv_isa.specs.declared.operation.LoadOperation.TheVariants.{Lb, Lh, Lw, Ld, Lbu, Lhu, Lwu}
+use Rattle.rv_isa.specs.declared.operation.StoreOperation.{StoreOperation}
+use Rattle.rv_isa.specs.declared.operation.StoreOperation.TheVariants.{Sb, Sh, Sw, Sd}
+use Rattle.rv_isa.specs.declared.operation.AtomicOperation.{AtomicOperation}
+use Rattle.rv_isa.specs.declared.operation.AtomicOperation.TheVariants.{Sc, Amoswap, Amoadd, Amoxor, Amoand, Amoor, Amomin, Amomax, Amominu, Amomaxu}
+use Rattle.rv_isa.specs.declared.operation.AccessSet.{AccessSet}
+use Rattle.rv_isa.specs.declared.operation.AtomicForm.{AtomicForm}
 use Rattle.rv_statement.specs.declared.mnemonic.Mnemonic.{Mnemonic}
 use Rattle.rv_statement.specs.declared.mnemonic.Mnemonic.TheVariants.{Registers, Immediate, Shift, Upper, Load, Store, Jalr, LoadReserved, Atomic, Fence, FenceTso, Ecall, Ebreak}
 use Rattle.rv_statement.specs.Statement.{Operand, Register, Value, Accesses, Word, Quoted, Expression}

@@ -4,7 +4,7 @@
 use Rattle.std.specs.Prelude.{ℕ, List, Bool, Option}
 use Rattle.rv_text_laws.specs.Expression.{Tree}
 use Rattle.rv_statement.specs.declared.mnemonic.Mnemonic.{Mnemonic}
-use Rattle.rv_statement.specs.declared.mnemonic.AccessSet.{AccessSet}
+use Rattle.rv_isa.specs.declared.operation.AccessSet.{AccessSet}
 use Rattle.rv_statement.specs.declared.directive.Standard.{Standard}
 use Rattle.rv_statement.specs.declared.directive.Choice.{Choice}
 

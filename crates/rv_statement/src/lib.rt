@@ -8,8 +8,5 @@ mod mnemonic;
 mod statement;
 
 pub use directive::{Choice, DirectiveWord, Standard, Width};
-pub use mnemonic::{
-    AccessSet, AtomicForm, AtomicOperation, ImmediateOperation, LoadOperation, Mnemonic,
-    RegisterOperation, ShiftOperation, StoreOperation, UpperOperation,
-};
+pub use mnemonic::Mnemonic;
 pub use statement::{Opening, Operation, Plain, Setting, Statement, StatementKind};

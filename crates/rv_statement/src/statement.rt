@@ -1,11 +1,10 @@
 //! Statements as the code holds them: names, digits and strings are parts of the source.
 
 use crate::directive::{Choice, Standard, Width};
-use crate::mnemonic::{
-    AccessSet, AtomicForm, AtomicOperation, ImmediateOperation, LoadOperation, RegisterOperation,
-    ShiftOperation, StoreOperation, UpperOperation,
+use rv_isa::{
+    AccessSet, AtomicForm, AtomicOperation, ImmediateOperation, LoadOperation, Reg,
+    RegisterOperation, ShiftOperation, StoreOperation, UpperOperation,
 };
-use rv_isa::Reg;
 use rv_text::Expr;
 
 /// An instruction without an expression.

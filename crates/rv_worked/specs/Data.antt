@@ -7,7 +7,7 @@ use Rattle.rv_text_laws.specs.declared.operator.BinaryOperator.TheVariants.{Add,
 use Rattle.rv_text_laws.specs.Expression.{Symbol, Here, Reference, Leaf, Unary, Binary}
 use Rattle.rv_statement.specs.declared.directive.Standard.TheVariants.{Data, Bss}
 use Rattle.rv_statement.specs.declared.mnemonic.Mnemonic.TheVariants.{Upper, Ecall}
-use Rattle.rv_statement.specs.declared.mnemonic.UpperOperation.TheVariants.{Lui}
+use Rattle.rv_isa.specs.declared.operation.UpperOperation.TheVariants.{Lui}
 use Rattle.rv_statement.specs.Statement.{Statement, Label, Numbered, Instruction, Directs, Spoken, Expression, Register, Value, Enters, Opens, Globl, Local, Sets, Aligns_to_power, Aligns_to_bytes, Values, Strings, Zeros}
 use Rattle.rv_map.specs.Map.{Map}
 use Rattle.rv_worked.specs.Exit7.{said, constant, norvc, globl, load, row, region, global}

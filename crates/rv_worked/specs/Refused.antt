@@ -7,11 +7,11 @@ use Rattle.rv_text_laws.specs.Expression.{Leaf, Here, Unary, Binary}
 use Rattle.rv_statement.specs.declared.directive.Choice.TheVariants.{Norvc, Push, Pop}
 use Rattle.rv_statement.specs.declared.directive.Standard.TheVariants.{Data, Rodata}
 use Rattle.rv_statement.specs.declared.mnemonic.Mnemonic.TheVariants.{Registers, Immediate, Shift, Upper, Load}
-use Rattle.rv_statement.specs.declared.mnemonic.RegisterOperation.TheVariants.{And, Sllw}
-use Rattle.rv_statement.specs.declared.mnemonic.ImmediateOperation.TheVariants.{Addi}
-use Rattle.rv_statement.specs.declared.mnemonic.ShiftOperation.TheVariants.{Slli}
-use Rattle.rv_statement.specs.declared.mnemonic.UpperOperation.TheVariants.{Lui}
-use Rattle.rv_statement.specs.declared.mnemonic.LoadOperation.TheVariants.{Ld}
+use Rattle.rv_isa.specs.declared.operation.RegisterOperation.TheVariants.{And, Sllw}
+use Rattle.rv_isa.specs.declared.operation.ImmediateOperation.TheVariants.{Addi}
+use Rattle.rv_isa.specs.declared.operation.ShiftOperation.TheVariants.{Slli}
+use Rattle.rv_isa.specs.declared.operation.UpperOperation.TheVariants.{Lui}
+use Rattle.rv_isa.specs.declared.operation.LoadOperation.TheVariants.{Ld}
 use Rattle.rv_statement.specs.Statement.{Statement, Label, Instruction, Directs, Spoken, Expression, Register, Value, Enters, Opens, Values, Chooses}
 use Rattle.rv_unit_laws.specs.Faults.{Fault}
 use Rattle.rv_map.specs.Map.{Map}
