@@ -24,6 +24,6 @@ pub record FrontParcel (bytes : List ℕ) (i : Inst) : Type 0 where
   pub room : 2 ≤ length bytes
   pub stands : StandsFor (front_parcel bytes) i
 
--- this instruction stands at the front of the bytes, and takes so many of them
+-- this instruction stands at the front of the bytes, and takes `count` of them
 abbrev pub FrontSpells : List ℕ → Inst → ℕ → Type 0
 FrontSpells bytes i count = (FrontWord bytes i × (count ≡ 4)) ⊎ (FrontParcel bytes i × (count ≡ 2))

@@ -1,3 +1,5 @@
+//! Tests alone: it takes `rv_compress` and gives nothing.
+//!
 //! Parcels of GNU as against `expand` and `shrink`: every 16-bit form of RV64C beside RV64IMA with
 //! operands at the edges of their ranges, HINTs, reserved parcels, and instructions one short of a form.
 //!

@@ -215,7 +215,7 @@ form (AmomaxD x) = Memory 0x2f 3 0x14 x
 form (AmominuD x) = Memory 0x2f 3 0x18 x
 form (AmomaxuD x) = Memory 0x2f 3 0x1c x
 
--- a number in two's complement at so many bits
+-- a number in two's complement of `bits` bits
 abbrev pub field : ℕ → ℤ → ℕ
 field bits (pos n) = n
 field bits (negsuc n) = 2 ^ bits - suc n

@@ -1,3 +1,5 @@
+//! Tests alone: it takes `rv_encode` and gives nothing.
+//!
 //! Words of GNU as against `encode` and `decode`: every mnemonic of RV64IMA, with operands at the edges
 //! of their ranges, and words that spell none of its instructions.
 //!

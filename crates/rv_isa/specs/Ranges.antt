@@ -13,95 +13,11 @@ use Rattle.rv_isa.specs.declared.instruction.Atomic.{Atomic}
 use Rattle.rv_isa.specs.declared.instruction.Reserve.{Reserve}
 use Rattle.rv_isa.specs.declared.instruction.Fence.{Fence as FenceOperands}
 use Rattle.rv_isa.specs.declared.instruction.Inst.{Inst}
-use Rattle.rv_isa.specs.declared.instruction.Inst.TheVariants.{
-  Lui,
-  Auipc,
-  Jal,
-  Jalr,
-  Beq,
-  Bne,
-  Blt,
-  Bge,
-  Bltu,
-  Bgeu,
-  Lb,
-  Lh,
-  Lw,
-  Ld,
-  Lbu,
-  Lhu,
-  Lwu,
-  Sb,
-  Sh,
-  Sw,
-  Sd,
-  Addi,
-  Slti,
-  Sltiu,
-  Xori,
-  Ori,
-  Andi,
-  Slli,
-  Srli,
-  Srai,
-  Add,
-  Sub,
-  Sll,
-  Slt,
-  Sltu,
-  Xor,
-  Srl,
-  Sra,
-  Or,
-  And,
-  Addiw,
-  Slliw,
-  Srliw,
-  Sraiw,
-  Addw,
-  Subw,
-  Sllw,
-  Srlw,
-  Sraw,
-  Fence,
-  Ecall,
-  Ebreak,
-  Mul,
-  Mulh,
-  Mulhsu,
-  Mulhu,
-  Div,
-  Divu,
-  Rem,
-  Remu,
-  Mulw,
-  Divw,
-  Divuw,
-  Remw,
-  Remuw,
-  LrW,
-  ScW,
-  AmoswapW,
-  AmoaddW,
-  AmoxorW,
-  AmoandW,
-  AmoorW,
-  AmominW,
-  AmomaxW,
-  AmominuW,
-  AmomaxuW,
-  LrD,
-  ScD,
-  AmoswapD,
-  AmoaddD,
-  AmoxorD,
-  AmoandD,
-  AmoorD,
-  AmominD,
-  AmomaxD,
-  AmominuD,
-  AmomaxuD,
-}
+use Rattle.rv_isa.specs.declared.instruction.Format.{Format}
+use Rattle.rv_isa.specs.declared.instruction.Format.TheVariants as format
+use Rattle.rv_isa.specs.declared.operation.ShiftOperation.{ShiftOperation}
+use Rattle.rv_isa.specs.declared.operation.ShiftOperation.TheVariants.{Slli, Srli, Srai, Slliw, Srliw, Sraiw}
+use Rattle.rv_isa.specs.Operations.{format_of}
 
 -- one of x0 to x31
 abbrev pub IsReg : ℕ → Type 0
@@ -154,92 +70,35 @@ IsReserve x = IsReg x.rd × IsReg x.rs1
 abbrev pub IsFence : FenceOperands → Type 0
 IsFence x = (x.fm < 16) × (x.pred < 16) × (x.succ < 16) × IsReg x.rs1 × IsReg x.rd
 
+-- the amounts of a shift are below the number of the bits that it shifts
+abbrev pub shift_limit : ShiftOperation → ℕ
+shift_limit Slli = 64
+shift_limit Srli = 64
+shift_limit Srai = 64
+shift_limit Slliw = 32
+shift_limit Srliw = 32
+shift_limit Sraiw = 32
+
+abbrev pub IsShiftOf : ShiftOperation → Shift → Type 0
+IsShiftOf operation x = IsReg x.rd × IsReg x.rs1 × (x.amount < shift_limit operation)
+
+-- the ranges of each format
+abbrev pub IsValidFormat : Format → Type 0
+IsValidFormat (format.Registers operation x) = IsRType x
+IsValidFormat (format.Immediate operation x) = IsIType x
+IsValidFormat (format.Shift operation x) = IsShiftOf operation x
+IsValidFormat (format.Upper operation x) = IsUType x
+IsValidFormat (format.Load operation x) = IsIType x
+IsValidFormat (format.Store operation x) = IsSType x
+IsValidFormat (format.Branch operation x) = IsBType x
+IsValidFormat (format.Jal x) = IsJType x
+IsValidFormat (format.Jalr x) = IsIType x
+IsValidFormat (format.LoadReserved double x) = IsReserve x
+IsValidFormat (format.Atomic operation double x) = IsAtomic x
+IsValidFormat (format.Fence x) = IsFence x
+IsValidFormat format.Ecall = Unit {0}
+IsValidFormat format.Ebreak = Unit {0}
+
 -- every operand is in its range
 abbrev pub IsValid : Inst → Type 0
-IsValid (Lui x) = IsUType x
-IsValid (Auipc x) = IsUType x
-IsValid (Jal x) = IsJType x
-IsValid (Jalr x) = IsIType x
-IsValid (Beq x) = IsBType x
-IsValid (Bne x) = IsBType x
-IsValid (Blt x) = IsBType x
-IsValid (Bge x) = IsBType x
-IsValid (Bltu x) = IsBType x
-IsValid (Bgeu x) = IsBType x
-IsValid (Lb x) = IsIType x
-IsValid (Lh x) = IsIType x
-IsValid (Lw x) = IsIType x
-IsValid (Ld x) = IsIType x
-IsValid (Lbu x) = IsIType x
-IsValid (Lhu x) = IsIType x
-IsValid (Lwu x) = IsIType x
-IsValid (Sb x) = IsSType x
-IsValid (Sh x) = IsSType x
-IsValid (Sw x) = IsSType x
-IsValid (Sd x) = IsSType x
-IsValid (Addi x) = IsIType x
-IsValid (Slti x) = IsIType x
-IsValid (Sltiu x) = IsIType x
-IsValid (Xori x) = IsIType x
-IsValid (Ori x) = IsIType x
-IsValid (Andi x) = IsIType x
-IsValid (Slli x) = IsShift x
-IsValid (Srli x) = IsShift x
-IsValid (Srai x) = IsShift x
-IsValid (Add x) = IsRType x
-IsValid (Sub x) = IsRType x
-IsValid (Sll x) = IsRType x
-IsValid (Slt x) = IsRType x
-IsValid (Sltu x) = IsRType x
-IsValid (Xor x) = IsRType x
-IsValid (Srl x) = IsRType x
-IsValid (Sra x) = IsRType x
-IsValid (Or x) = IsRType x
-IsValid (And x) = IsRType x
-IsValid (Addiw x) = IsIType x
-IsValid (Slliw x) = IsWordShift x
-IsValid (Srliw x) = IsWordShift x
-IsValid (Sraiw x) = IsWordShift x
-IsValid (Addw x) = IsRType x
-IsValid (Subw x) = IsRType x
-IsValid (Sllw x) = IsRType x
-IsValid (Srlw x) = IsRType x
-IsValid (Sraw x) = IsRType x
-IsValid (Fence x) = IsFence x
-IsValid Ecall = Unit {0}
-IsValid Ebreak = Unit {0}
-IsValid (Mul x) = IsRType x
-IsValid (Mulh x) = IsRType x
-IsValid (Mulhsu x) = IsRType x
-IsValid (Mulhu x) = IsRType x
-IsValid (Div x) = IsRType x
-IsValid (Divu x) = IsRType x
-IsValid (Rem x) = IsRType x
-IsValid (Remu x) = IsRType x
-IsValid (Mulw x) = IsRType x
-IsValid (Divw x) = IsRType x
-IsValid (Divuw x) = IsRType x
-IsValid (Remw x) = IsRType x
-IsValid (Remuw x) = IsRType x
-IsValid (LrW x) = IsReserve x
-IsValid (ScW x) = IsAtomic x
-IsValid (AmoswapW x) = IsAtomic x
-IsValid (AmoaddW x) = IsAtomic x
-IsValid (AmoxorW x) = IsAtomic x
-IsValid (AmoandW x) = IsAtomic x
-IsValid (AmoorW x) = IsAtomic x
-IsValid (AmominW x) = IsAtomic x
-IsValid (AmomaxW x) = IsAtomic x
-IsValid (AmominuW x) = IsAtomic x
-IsValid (AmomaxuW x) = IsAtomic x
-IsValid (LrD x) = IsReserve x
-IsValid (ScD x) = IsAtomic x
-IsValid (AmoswapD x) = IsAtomic x
-IsValid (AmoaddD x) = IsAtomic x
-IsValid (AmoxorD x) = IsAtomic x
-IsValid (AmoandD x) = IsAtomic x
-IsValid (AmoorD x) = IsAtomic x
-IsValid (AmominD x) = IsAtomic x
-IsValid (AmomaxD x) = IsAtomic x
-IsValid (AmominuD x) = IsAtomic x
-IsValid (AmomaxuD x) = IsAtomic x
+IsValid i = IsValidFormat (format_of i)

@@ -1,9 +1,10 @@
 //! Which operands an instruction's word can hold.
 
-ghost use Rattle.std.specs.Prelude.{IsTrue, ◌↔◌, ◌<◌, ◌^◌};
-ghost use Rattle.rv_isa.specs.Ranges.{IsSigned12, IsBranchOffset, IsJumpOffset, IsValid};
+ghost use Rattle.std.specs.Prelude.{◌≡◌, IsTrue, ◌↔◌, ◌<◌, ◌^◌};
+ghost use Rattle.rv_isa.specs.Ranges.{IsSigned12, IsBranchOffset, IsJumpOffset, IsFence, IsValid, IsValidFormat, shift_limit};
 
-use crate::instruction::{Fence, Inst};
+use crate::instruction::{Fence, Format, Inst};
+use crate::operation::ShiftOperation;
 
 /// Whether a load, a store or an operation can hold this immediate: -2048 to 2047.
 #[inline]
@@ -31,9 +32,22 @@ pub fn is_jump_offset(offset: i32) -> bool
 
 /// Whether a fence's word can hold these fields of four bits each.
 fn is_fence(x: Fence) -> bool
-    ensures { IsTrue result ↔ IsValid (Inst.Fence x) }
+    ensures { IsTrue result ↔ IsFence x }
 {
     x.fm < 16 && x.pred < 16 && x.succ < 16
+}
+
+impl ShiftOperation {
+    /// The number of the bits that it shifts: amounts are below it.
+    #[inline]
+    pub fn limit(self) -> u8
+        ensures { result ≡ shift_limit self }
+    {
+        match self {
+            ShiftOperation::Slli | ShiftOperation::Srli | ShiftOperation::Srai => 64,
+            ShiftOperation::Slliw | ShiftOperation::Srliw | ShiftOperation::Sraiw => 32,
+        }
+    }
 }
 
 impl Inst {
@@ -41,87 +55,22 @@ impl Inst {
     pub fn is_valid(&self) -> bool
         ensures { IsTrue result ↔ IsValid self.now }
     {
-        is_in_range(*self)
+        is_in_range(self.format())
     }
 }
 
-fn is_in_range(inst: Inst) -> bool
-    ensures { IsTrue result ↔ IsValid inst }
+fn is_in_range(format: Format) -> bool
+    ensures { IsTrue result ↔ IsValidFormat format }
 {
-    match inst {
-        Inst::Lui(x) | Inst::Auipc(x) => x.immediate < 1 << 20,
-        Inst::Jal(x) => is_jump_offset(x.offset),
-        Inst::Beq(x) | Inst::Bne(x) | Inst::Blt(x) | Inst::Bge(x) | Inst::Bltu(x) | Inst::Bgeu(x) =>
-            is_branch_offset(x.offset),
-        Inst::Sb(x) | Inst::Sh(x) | Inst::Sw(x) | Inst::Sd(x) => is_signed_12(x.immediate),
-        Inst::Jalr(x)
-        | Inst::Lb(x)
-        | Inst::Lh(x)
-        | Inst::Lw(x)
-        | Inst::Ld(x)
-        | Inst::Lbu(x)
-        | Inst::Lhu(x)
-        | Inst::Lwu(x)
-        | Inst::Addi(x)
-        | Inst::Slti(x)
-        | Inst::Sltiu(x)
-        | Inst::Xori(x)
-        | Inst::Ori(x)
-        | Inst::Andi(x)
-        | Inst::Addiw(x) => is_signed_12(x.immediate),
-        Inst::Slli(x) | Inst::Srli(x) | Inst::Srai(x) => x.amount < 64,
-        Inst::Slliw(x) | Inst::Srliw(x) | Inst::Sraiw(x) => x.amount < 32,
-        Inst::Fence(x) => is_fence(x),
-        Inst::Add(_)
-        | Inst::Sub(_)
-        | Inst::Sll(_)
-        | Inst::Slt(_)
-        | Inst::Sltu(_)
-        | Inst::Xor(_)
-        | Inst::Srl(_)
-        | Inst::Sra(_)
-        | Inst::Or(_)
-        | Inst::And(_)
-        | Inst::Addw(_)
-        | Inst::Subw(_)
-        | Inst::Sllw(_)
-        | Inst::Srlw(_)
-        | Inst::Sraw(_) => true,
-        Inst::Mul(_)
-        | Inst::Mulh(_)
-        | Inst::Mulhsu(_)
-        | Inst::Mulhu(_)
-        | Inst::Div(_)
-        | Inst::Divu(_)
-        | Inst::Rem(_)
-        | Inst::Remu(_)
-        | Inst::Mulw(_)
-        | Inst::Divw(_)
-        | Inst::Divuw(_)
-        | Inst::Remw(_)
-        | Inst::Remuw(_) => true,
-        Inst::LrW(_)
-        | Inst::ScW(_)
-        | Inst::AmoswapW(_)
-        | Inst::AmoaddW(_)
-        | Inst::AmoxorW(_)
-        | Inst::AmoandW(_)
-        | Inst::AmoorW(_)
-        | Inst::AmominW(_)
-        | Inst::AmomaxW(_)
-        | Inst::AmominuW(_)
-        | Inst::AmomaxuW(_) => true,
-        Inst::LrD(_)
-        | Inst::ScD(_)
-        | Inst::AmoswapD(_)
-        | Inst::AmoaddD(_)
-        | Inst::AmoxorD(_)
-        | Inst::AmoandD(_)
-        | Inst::AmoorD(_)
-        | Inst::AmominD(_)
-        | Inst::AmomaxD(_)
-        | Inst::AmominuD(_)
-        | Inst::AmomaxuD(_) => true,
-        Inst::Ecall | Inst::Ebreak => true,
+    match format {
+        Format::Registers(_, _) | Format::LoadReserved(_, _) | Format::Atomic(_, _, _) => true,
+        Format::Immediate(_, x) | Format::Load(_, x) | Format::Jalr(x) => is_signed_12(x.immediate),
+        Format::Shift(operation, x) => x.amount < operation.limit(),
+        Format::Upper(_, x) => x.immediate < 1 << 20,
+        Format::Store(_, x) => is_signed_12(x.immediate),
+        Format::Branch(_, x) => is_branch_offset(x.offset),
+        Format::Jal(x) => is_jump_offset(x.offset),
+        Format::Fence(x) => is_fence(x),
+        Format::Ecall | Format::Ebreak => true,
     }
 }

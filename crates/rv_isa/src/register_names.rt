@@ -18,7 +18,7 @@ fn reg_numbered(name: &[u8]) -> Option<Reg>
     }
 }
 
-/// The register that stands as far behind `first` as the digit says.
+/// The register that stands as far after `first` as the digit says.
 fn nth(first: u32, digit: u8) -> Reg
     requires { first < 32 }
     ensures { result ≡ (first + (digit - 48)) % 32 }

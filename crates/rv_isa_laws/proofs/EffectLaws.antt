@@ -5,10 +5,15 @@ use Rattle.std.proofs.Common.{◌≡◌, ℕ, ◌+◌, ◌%◌, ◌^◌, ◌<◌
 use Rattle.std.specs.Prelude.{slice_index, if◌then◌else◌, ◌==◌}
 use Rattle.std.proofs.lemmas.List.{length-set, get_or-set_same, get_or-set_other, set_past}
 use Rattle.rv_isa.specs.declared.instruction.Inst.{Inst}
-use Rattle.rv_isa.specs.declared.instruction.Inst.TheVariants.{Lui, Auipc, Jal, Jalr, Beq, Bne, Blt, Bge, Bltu, Bgeu, Lb, Lh, Lw, Ld, Lbu, Lhu, Lwu, Sb, Sh, Sw, Sd, Addi, Slti, Sltiu, Xori, Ori, Andi, Slli, Srli, Srai, Add, Sub, Sll, Slt, Sltu, Xor, Srl, Sra, Or, And, Addiw, Slliw, Srliw, Sraiw, Addw, Subw, Sllw, Srlw, Sraw, Fence, Ecall, Ebreak, Mul, Mulh, Mulhsu, Mulhu, Div, Divu, Rem, Remu, Mulw, Divw, Divuw, Remw, Remuw, LrW, ScW, AmoswapW, AmoaddW, AmoxorW, AmoandW, AmoorW, AmominW, AmomaxW, AmominuW, AmomaxuW, LrD, ScD, AmoswapD, AmoaddD, AmoxorD, AmoandD, AmoorD, AmominD, AmomaxD, AmominuD, AmomaxuD}
+use Rattle.rv_isa.specs.declared.instruction.Atomic.{Atomic as AtomicOperands}
+use Rattle.rv_isa.specs.declared.instruction.Format.{Format}
+use Rattle.rv_isa.specs.declared.instruction.Format.TheVariants.{Registers, Immediate, Shift, Upper, Load, Store, Branch, Jal, Jalr, LoadReserved, Atomic, Fence, Ecall, Ebreak}
+use Rattle.rv_isa.specs.declared.operation.AtomicOperation.{AtomicOperation}
+use Rattle.rv_isa.specs.declared.operation.AtomicOperation.TheVariants.{Sc}
+use Rattle.rv_isa.specs.Operations.{format_of}
 use Rattle.rv_isa_laws.specs.Hart.{Hart, Reservation, with_register}
 use Rattle.rv_isa_laws.specs.Kept.{GoesOn, Kept}
-use Rattle.rv_isa_laws.specs.Meaning.{effect, with_result, with_reservation}
+use Rattle.rv_isa_laws.specs.Meaning.{atomic_effect, format_effect, effect, with_result, with_reservation}
 
 wraps : (n : ℕ) → n % 2 ^ 64 < 2 ^ 64
 wraps n = omega arith
@@ -49,92 +54,27 @@ kept_reserved bytes h r rd v = record {
 kept_pc : (h : Hart) (pc : ℕ) → Kept h (record h { pc = pc % 2 ^ 64 })
 kept_pc h pc = record { input = refl; console = refl; pc = wraps pc; count = refl; below = λ all. all }
 
+atomic_keeps : (operation : AtomicOperation) (double : Bool) (x : AtomicOperands) (bytes : ℕ) (h : Hart) → GoesOn (Kept h) (atomic_effect operation double x bytes h)
+atomic_keeps Sc double x bytes h = kept_reserved bytes h _ x.rd _
+atomic_keeps _ false x bytes h = λ v. kept_result bytes h x.rd _
+atomic_keeps _ true x bytes h = λ v. kept_result bytes h x.rd _
+
+format_keeps : (f : Format) (bytes : ℕ) (h : Hart) → GoesOn (Kept h) (format_effect f bytes h)
+format_keeps (Registers operation x) bytes h = kept_result bytes h x.rd _
+format_keeps (Immediate operation x) bytes h = kept_result bytes h x.rd _
+format_keeps (Shift operation x) bytes h = kept_result bytes h x.rd _
+format_keeps (Upper operation x) bytes h = kept_result bytes h x.rd _
+format_keeps (Load operation x) bytes h = λ v. kept_result bytes h x.rd _
+format_keeps (Store operation x) bytes h = kept_pc h _
+format_keeps (Branch operation x) bytes h = kept_pc h _
+format_keeps (Jal x) bytes h = kept_at h x.rd _ _
+format_keeps (Jalr x) bytes h = kept_at h x.rd _ _
+format_keeps (LoadReserved double x) bytes h = λ v. kept_reserved bytes h _ x.rd _
+format_keeps (Atomic operation double x) bytes h = atomic_keeps operation double x bytes h
+format_keeps (Fence x) bytes h = kept_pc h _
+format_keeps Ecall bytes h = kept_pc h _
+format_keeps Ebreak bytes h = tt
+
 -- every instruction keeps them
 pub effect_keeps : (i : Inst) (bytes : ℕ) (h : Hart) → GoesOn (Kept h) (effect i bytes h)
-effect_keeps (Lui x) bytes h = kept_result bytes h x.rd _
-effect_keeps (Auipc x) bytes h = kept_result bytes h x.rd _
-effect_keeps (Jal x) bytes h = kept_at h x.rd _ _
-effect_keeps (Jalr x) bytes h = kept_at h x.rd _ _
-effect_keeps (Beq x) bytes h = kept_pc h _
-effect_keeps (Bne x) bytes h = kept_pc h _
-effect_keeps (Blt x) bytes h = kept_pc h _
-effect_keeps (Bge x) bytes h = kept_pc h _
-effect_keeps (Bltu x) bytes h = kept_pc h _
-effect_keeps (Bgeu x) bytes h = kept_pc h _
-effect_keeps (Lb x) bytes h = λ v. kept_result bytes h x.rd _
-effect_keeps (Lh x) bytes h = λ v. kept_result bytes h x.rd _
-effect_keeps (Lw x) bytes h = λ v. kept_result bytes h x.rd _
-effect_keeps (Ld x) bytes h = λ v. kept_result bytes h x.rd _
-effect_keeps (Lbu x) bytes h = λ v. kept_result bytes h x.rd _
-effect_keeps (Lhu x) bytes h = λ v. kept_result bytes h x.rd _
-effect_keeps (Lwu x) bytes h = λ v. kept_result bytes h x.rd _
-effect_keeps (Sb x) bytes h = kept_pc h _
-effect_keeps (Sh x) bytes h = kept_pc h _
-effect_keeps (Sw x) bytes h = kept_pc h _
-effect_keeps (Sd x) bytes h = kept_pc h _
-effect_keeps (Addi x) bytes h = kept_result bytes h x.rd _
-effect_keeps (Slti x) bytes h = kept_result bytes h x.rd _
-effect_keeps (Sltiu x) bytes h = kept_result bytes h x.rd _
-effect_keeps (Xori x) bytes h = kept_result bytes h x.rd _
-effect_keeps (Ori x) bytes h = kept_result bytes h x.rd _
-effect_keeps (Andi x) bytes h = kept_result bytes h x.rd _
-effect_keeps (Slli x) bytes h = kept_result bytes h x.rd _
-effect_keeps (Srli x) bytes h = kept_result bytes h x.rd _
-effect_keeps (Srai x) bytes h = kept_result bytes h x.rd _
-effect_keeps (Add x) bytes h = kept_result bytes h x.rd _
-effect_keeps (Sub x) bytes h = kept_result bytes h x.rd _
-effect_keeps (Sll x) bytes h = kept_result bytes h x.rd _
-effect_keeps (Slt x) bytes h = kept_result bytes h x.rd _
-effect_keeps (Sltu x) bytes h = kept_result bytes h x.rd _
-effect_keeps (Xor x) bytes h = kept_result bytes h x.rd _
-effect_keeps (Srl x) bytes h = kept_result bytes h x.rd _
-effect_keeps (Sra x) bytes h = kept_result bytes h x.rd _
-effect_keeps (Or x) bytes h = kept_result bytes h x.rd _
-effect_keeps (And x) bytes h = kept_result bytes h x.rd _
-effect_keeps (Addiw x) bytes h = kept_result bytes h x.rd _
-effect_keeps (Slliw x) bytes h = kept_result bytes h x.rd _
-effect_keeps (Srliw x) bytes h = kept_result bytes h x.rd _
-effect_keeps (Sraiw x) bytes h = kept_result bytes h x.rd _
-effect_keeps (Addw x) bytes h = kept_result bytes h x.rd _
-effect_keeps (Subw x) bytes h = kept_result bytes h x.rd _
-effect_keeps (Sllw x) bytes h = kept_result bytes h x.rd _
-effect_keeps (Srlw x) bytes h = kept_result bytes h x.rd _
-effect_keeps (Sraw x) bytes h = kept_result bytes h x.rd _
-effect_keeps (Fence x) bytes h = kept_pc h _
-effect_keeps Ecall bytes h = kept_pc h _
-effect_keeps Ebreak bytes h = tt
-effect_keeps (Mul x) bytes h = kept_result bytes h x.rd _
-effect_keeps (Mulh x) bytes h = kept_result bytes h x.rd _
-effect_keeps (Mulhsu x) bytes h = kept_result bytes h x.rd _
-effect_keeps (Mulhu x) bytes h = kept_result bytes h x.rd _
-effect_keeps (Div x) bytes h = kept_result bytes h x.rd _
-effect_keeps (Divu x) bytes h = kept_result bytes h x.rd _
-effect_keeps (Rem x) bytes h = kept_result bytes h x.rd _
-effect_keeps (Remu x) bytes h = kept_result bytes h x.rd _
-effect_keeps (Mulw x) bytes h = kept_result bytes h x.rd _
-effect_keeps (Divw x) bytes h = kept_result bytes h x.rd _
-effect_keeps (Divuw x) bytes h = kept_result bytes h x.rd _
-effect_keeps (Remw x) bytes h = kept_result bytes h x.rd _
-effect_keeps (Remuw x) bytes h = kept_result bytes h x.rd _
-effect_keeps (LrW x) bytes h = λ v. kept_reserved bytes h _ x.rd _
-effect_keeps (ScW x) bytes h = kept_reserved bytes h _ x.rd _
-effect_keeps (AmoswapW x) bytes h = λ v. kept_result bytes h x.rd _
-effect_keeps (AmoaddW x) bytes h = λ v. kept_result bytes h x.rd _
-effect_keeps (AmoxorW x) bytes h = λ v. kept_result bytes h x.rd _
-effect_keeps (AmoandW x) bytes h = λ v. kept_result bytes h x.rd _
-effect_keeps (AmoorW x) bytes h = λ v. kept_result bytes h x.rd _
-effect_keeps (AmominW x) bytes h = λ v. kept_result bytes h x.rd _
-effect_keeps (AmomaxW x) bytes h = λ v. kept_result bytes h x.rd _
-effect_keeps (AmominuW x) bytes h = λ v. kept_result bytes h x.rd _
-effect_keeps (AmomaxuW x) bytes h = λ v. kept_result bytes h x.rd _
-effect_keeps (LrD x) bytes h = λ v. kept_reserved bytes h _ x.rd _
-effect_keeps (ScD x) bytes h = kept_reserved bytes h _ x.rd _
-effect_keeps (AmoswapD x) bytes h = λ v. kept_result bytes h x.rd _
-effect_keeps (AmoaddD x) bytes h = λ v. kept_result bytes h x.rd _
-effect_keeps (AmoxorD x) bytes h = λ v. kept_result bytes h x.rd _
-effect_keeps (AmoandD x) bytes h = λ v. kept_result bytes h x.rd _
-effect_keeps (AmoorD x) bytes h = λ v. kept_result bytes h x.rd _
-effect_keeps (AmominD x) bytes h = λ v. kept_result bytes h x.rd _
-effect_keeps (AmomaxD x) bytes h = λ v. kept_result bytes h x.rd _
-effect_keeps (AmominuD x) bytes h = λ v. kept_result bytes h x.rd _
-effect_keeps (AmomaxuD x) bytes h = λ v. kept_result bytes h x.rd _
+effect_keeps i = format_keeps (format_of i)

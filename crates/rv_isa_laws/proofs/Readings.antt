@@ -1,13 +1,13 @@
 -- Two readings that answer exactly what is spelled are one, and so are their runs.
 
-use Rattle.std.proofs.Common.{◌≡◌, ℕ, zero, suc, ◌%◌, Bool, true, false, List, Option, Some, None, refl, sym, ap, ◌∙◌}
+use Rattle.std.proofs.Common.{◌≡◌, ℕ, zero, suc, Bool, true, false, Option, Some, None, refl, sym, ap, ◌∙◌}
 use Rattle.std.specs.Prelude.{◌↔◌, if◌then◌else◌, ◌==◌}
 use Rattle.rv_isa.specs.declared.instruction.Inst.{Inst}
 use Rattle.rv_isa_laws.specs.Memory.{Mem, Execute, may, number_at}
-use Rattle.rv_isa_laws.specs.Hart.{Hart, Outcome, Limit, stop}
+use Rattle.rv_isa_laws.specs.Hart.{Hart, Outcome}
 use Rattle.rv_isa_laws.specs.Effect.{Next, On, Over, follow}
 use Rattle.rv_isa_laws.specs.Reader.{Reader}
-use Rattle.rv_isa_laws.specs.Run.{Fetched, NoRight, spelled, length_at, fetch, done, step, run}
+use Rattle.rv_isa_laws.specs.Run.{NoRight, spelled, length_at, fetch, done, step, run}
 
 -- two answers that name exactly what holds are one
 pub same_answer : (P : Inst → Type 0) (f g : Option Inst) → ((i : Inst) → f ≡ Some i ↔ P i) → ((i : Inst) → g ≡ Some i ↔ P i) → f ≡ g

@@ -8,11 +8,11 @@ abbrev pub wrapped : ℤ → ℕ
 wrapped (pos n) = n % 2 ^ 64
 wrapped (negsuc n) = 2 ^ 64 - 1 - n % 2 ^ 64
 
--- the signed value of a number of so many bits: two's complement (ISA, 2.1 and 2.4)
+-- the signed value of a number of `bits` bits: two's complement (ISA, 2.1 and 2.4)
 abbrev pub signed : ℕ → ℕ → ℤ
 signed bits n = if nat_lt n (2 ^ (bits - 1)) then pos n else negsuc (2 ^ bits - suc n)
 
--- a number of so many bits sign-extended to 64 (ISA, 2.3)
+-- a number of `bits` bits sign-extended to 64 (ISA, 2.3)
 abbrev pub extended : ℕ → ℕ → ℕ
 extended bits n = wrapped (signed bits n)
 
@@ -113,7 +113,7 @@ word_remainder a b =
 abbrev pub word_remainder_unsigned : ℕ → ℕ → ℕ
 word_remainder_unsigned a b = if low b == 0 then extended 32 (low a) else extended 32 (low a % low b)
 
--- ---- the lesser and the greater of two signed numbers of so many bits (ISA, 8.4)
+-- ---- the lesser and the greater of two signed numbers of `bits` bits (ISA, 8.4)
 
 abbrev pub lesser_signed : ℕ → ℕ → ℕ → ℕ
 lesser_signed bits a b = if int_lt (signed bits b) (signed bits a) then b else a

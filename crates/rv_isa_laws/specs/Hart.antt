@@ -1,6 +1,7 @@
 -- A hart between two instructions, and how a run ends.
 
 use Rattle.std.specs.Prelude.{ℕ, ◌+◌, ◌%◌, ◌^◌, ◌==◌, if◌then◌else◌, List, [], Option, None, slice_index, set, replicate}
+use Rattle.rv_isa_laws.specs.Platform.{stack_end}
 
 -- the latest lr or sc, where it was an lr: its address and its width in bytes (ISA, 8.2)
 pub record Reservation : Type 0 where
@@ -50,7 +51,7 @@ advanced h bytes = record h { pc = (h.pc + bytes) % 2 ^ 64 }
 -- the hart at the start: registers 0 but sp, which is the stack's end
 abbrev pub start : ℕ → List ℕ → Hart
 start entry input =
-    record { registers = set (replicate 32 0) 2 0x4000_0000; pc = entry; reservation = None; input = input; console = [] }
+    record { registers = set (replicate 32 0) 2 stack_end; pc = entry; reservation = None; input = input; console = [] }
 
 abbrev pub stop : Hart → End → Outcome
 stop h e = record { console = h.console; «end» = e }

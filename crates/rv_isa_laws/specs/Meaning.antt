@@ -1,15 +1,33 @@
 -- The meaning of each instruction, on whole numbers modulo 2 ^ 64 (ISA, chapters 2, 5, 7 and 8).
 
-use Rattle.std.specs.Prelude.{ℕ, ℤ, ◌+◌, ◌*◌, ◌/◌, ◌%◌, ◌^◌, min, max, Bool, false, not, ◌&&◌, Option, Some, None, if◌then◌else◌, nat_lt, ◌==◌, bit_and, bit_or, bit_xor}
+use Rattle.std.specs.Prelude.{ℕ, ℤ, ◌+◌, ◌*◌, ◌/◌, ◌%◌, ◌^◌, min, max, Bool, true, false, not, ◌&&◌, Option, Some, None, if◌then◌else◌, nat_lt, ◌==◌, bit_and, bit_or, bit_xor}
 use Rattle.rv_isa.specs.declared.instruction.Inst.{Inst}
-use Rattle.rv_isa.specs.declared.instruction.Inst.TheVariants.{Lui, Auipc, Jal, Jalr, Beq, Bne, Blt, Bge, Bltu, Bgeu, Lb, Lh, Lw, Ld, Lbu, Lhu, Lwu, Sb, Sh, Sw, Sd, Addi, Slti, Sltiu, Xori, Ori, Andi, Slli, Srli, Srai, Add, Sub, Sll, Slt, Sltu, Xor, Srl, Sra, Or, And, Addiw, Slliw, Srliw, Sraiw, Addw, Subw, Sllw, Srlw, Sraw, Fence, Ecall, Ebreak, Mul, Mulh, Mulhsu, Mulhu, Div, Divu, Rem, Remu, Mulw, Divw, Divuw, Remw, Remuw, LrW, ScW, AmoswapW, AmoaddW, AmoxorW, AmoandW, AmoorW, AmominW, AmomaxW, AmominuW, AmomaxuW, LrD, ScD, AmoswapD, AmoaddD, AmoxorD, AmoandD, AmoorD, AmominD, AmomaxD, AmominuD, AmomaxuD}
 use Rattle.rv_isa.specs.declared.instruction.RType.{RType}
 use Rattle.rv_isa.specs.declared.instruction.IType.{IType}
 use Rattle.rv_isa.specs.declared.instruction.SType.{SType}
 use Rattle.rv_isa.specs.declared.instruction.BType.{BType}
-use Rattle.rv_isa.specs.declared.instruction.Shift.{Shift}
+use Rattle.rv_isa.specs.declared.instruction.Shift.{Shift as ShiftOperands}
 use Rattle.rv_isa.specs.declared.instruction.Reserve.{Reserve}
-use Rattle.rv_isa.specs.declared.instruction.Atomic.{Atomic}
+use Rattle.rv_isa.specs.declared.instruction.Atomic.{Atomic as AtomicOperands}
+use Rattle.rv_isa.specs.declared.instruction.Format.{Format}
+use Rattle.rv_isa.specs.declared.instruction.Format.TheVariants.{Registers, Immediate, Shift, Upper, Load, Store, Branch, Jal, Jalr, LoadReserved, Atomic, Fence, Ecall, Ebreak}
+use Rattle.rv_isa.specs.declared.operation.RegisterOperation.{RegisterOperation}
+use Rattle.rv_isa.specs.declared.operation.RegisterOperation.TheVariants.{Add, Sub, Sll, Slt, Sltu, Xor, Srl, Sra, Or, And, Addw, Subw, Sllw, Srlw, Sraw, Mul, Mulh, Mulhsu, Mulhu, Div, Divu, Rem, Remu, Mulw, Divw, Divuw, Remw, Remuw}
+use Rattle.rv_isa.specs.declared.operation.ImmediateOperation.{ImmediateOperation}
+use Rattle.rv_isa.specs.declared.operation.ImmediateOperation.TheVariants.{Addi, Slti, Sltiu, Xori, Ori, Andi, Addiw}
+use Rattle.rv_isa.specs.declared.operation.ShiftOperation.{ShiftOperation}
+use Rattle.rv_isa.specs.declared.operation.ShiftOperation.TheVariants.{Slli, Srli, Srai, Slliw, Srliw, Sraiw}
+use Rattle.rv_isa.specs.declared.operation.UpperOperation.{UpperOperation}
+use Rattle.rv_isa.specs.declared.operation.UpperOperation.TheVariants.{Lui, Auipc}
+use Rattle.rv_isa.specs.declared.operation.LoadOperation.{LoadOperation}
+use Rattle.rv_isa.specs.declared.operation.LoadOperation.TheVariants.{Lb, Lh, Lw, Ld, Lbu, Lhu, Lwu}
+use Rattle.rv_isa.specs.declared.operation.StoreOperation.{StoreOperation}
+use Rattle.rv_isa.specs.declared.operation.StoreOperation.TheVariants.{Sb, Sh, Sw, Sd}
+use Rattle.rv_isa.specs.declared.operation.BranchOperation.{BranchOperation}
+use Rattle.rv_isa.specs.declared.operation.BranchOperation.TheVariants.{Beq, Bne, Blt, Bge, Bltu, Bgeu}
+use Rattle.rv_isa.specs.declared.operation.AtomicOperation.{AtomicOperation}
+use Rattle.rv_isa.specs.declared.operation.AtomicOperation.TheVariants.{Sc, Amoswap, Amoadd, Amoxor, Amoand, Amoor, Amomin, Amomax, Amominu, Amomaxu}
+use Rattle.rv_isa.specs.Operations.{format_of}
 use Rattle.rv_isa_laws.specs.Arithmetic.{wrapped, extended, low, one_if, sum_of, difference_of, less_signed, shifted_left, shifted_right, shifted_right_signed, word_sum, word_difference, word_shifted_left, word_shifted_right, word_shifted_right_signed, product_of, high_signed, high_unsigned, high_mixed, word_product, quotient, quotient_unsigned, remainder, remainder_unsigned, word_quotient, word_quotient_unsigned, word_remainder, word_remainder_unsigned, lesser_signed, greater_signed}
 use Rattle.rv_isa_laws.specs.Hart.{Hart, Reservation, register, with_register, advanced}
 use Rattle.rv_isa_laws.specs.Effect.{Effect, Goes, Loads, Stores, Reserves, Conditional, Updates, Calls, Breaks}
@@ -28,7 +46,7 @@ by_registers bytes h x operation = sets bytes h x.rd (operation (register h x.rs
 abbrev pub by_immediate : ℕ → Hart → IType → (ℕ → ℕ → ℕ) → Effect
 by_immediate bytes h x operation = sets bytes h x.rd (operation (register h x.rs1) (wrapped x.immediate))
 
-abbrev pub by_amount : ℕ → Hart → Shift → (ℕ → ℕ → ℕ) → Effect
+abbrev pub by_amount : ℕ → Hart → ShiftOperands → (ℕ → ℕ → ℕ) → Effect
 by_amount bytes h x operation = sets bytes h x.rd (operation (register h x.rs1) x.amount)
 
 -- rd gets the address where the jump ends, and the hart goes to the target (ISA, 2.5)
@@ -43,7 +61,7 @@ branches bytes h x taken = Goes (record h { pc = (h.pc + (if taken then wrapped 
 abbrev pub address_of : Hart → ℕ → ℤ → ℕ
 address_of h rs1 immediate = (register h rs1 + wrapped immediate) % 2 ^ 64
 
--- rd gets what is made of the number that so many bytes at rs1 + immediate are (ISA, 2.6)
+-- rd gets what is made of the number that `width` bytes at rs1 + immediate are (ISA, 2.6)
 abbrev pub loads : ℕ → Hart → IType → ℕ → (ℕ → ℕ) → Effect
 loads bytes h x width made =
     Loads (address_of h x.rs1 x.immediate) width (λ n. with_result bytes h x.rd (made n))
@@ -72,20 +90,20 @@ reserves bytes h x width made =
     Reserves (register h x.rs1) width (λ n. with_result bytes reserved x.rd (made n))
 
 -- where it is reserved, rs2 goes to rs1 and rd gets 0, else rd gets 1; nothing is reserved from here on (ISA, 8.2)
-abbrev pub stores_if_reserved : ℕ → Hart → Atomic → ℕ → Effect
+abbrev pub stores_if_reserved : ℕ → Hart → AtomicOperands → ℕ → Effect
 stores_if_reserved bytes h x width =
     let reserved = is_reserved h.reservation (register h x.rs1) width in
     let next = with_result bytes (with_reservation h None) x.rd (one_if (not reserved)) in
     Conditional (register h x.rs1) width (register h x.rs2) reserved next
 
 -- rd gets the number at rs1, and memory what an operation makes of it and rs2 (ISA, 8.4)
-abbrev pub updates : ℕ → Hart → Atomic → (ℕ → ℕ → ℕ) → Effect
+abbrev pub updates : ℕ → Hart → AtomicOperands → (ℕ → ℕ → ℕ) → Effect
 updates bytes h x operation =
     let new : ℕ → ℕ = λ old. operation old (register h x.rs2) in
     Updates (register h x.rs1) 8 new (λ old. with_result bytes h x.rd old)
 
 -- the same on the low 32 bits; rd gets them sign-extended (ISA, 8.4)
-abbrev pub updates_word : ℕ → Hart → Atomic → (ℕ → ℕ → ℕ) → Effect
+abbrev pub updates_word : ℕ → Hart → AtomicOperands → (ℕ → ℕ → ℕ) → Effect
 updates_word bytes h x operation =
     let new : ℕ → ℕ = λ old. operation (low old) (low (register h x.rs2)) in
     Updates (register h x.rs1) 4 new (λ old. with_result bytes h x.rd (extended 32 (low old)))
@@ -94,100 +112,147 @@ updates_word bytes h x operation =
 abbrev pub upper : ℕ → ℕ
 upper immediate = extended 32 (low (immediate * 2 ^ 12))
 
+-- ---- integer computation (ISA, 2.4), the W forms (ISA, 5.2), multiplication and division (ISA, 7.1 and 7.2)
+
+-- what is made of rs1 and rs2
+abbrev pub register_result : RegisterOperation → ℕ → ℕ → ℕ
+register_result Add = sum_of
+register_result Sub = difference_of
+register_result Sll = shifted_left
+register_result Slt = λ a b. one_if (less_signed a b)
+register_result Sltu = λ a b. one_if (nat_lt a b)
+register_result Xor = bit_xor
+register_result Srl = shifted_right
+register_result Sra = shifted_right_signed
+register_result Or = bit_or
+register_result And = bit_and
+register_result Addw = word_sum
+register_result Subw = word_difference
+register_result Sllw = word_shifted_left
+register_result Srlw = word_shifted_right
+register_result Sraw = word_shifted_right_signed
+register_result Mul = product_of
+register_result Mulh = high_signed
+register_result Mulhsu = high_mixed
+register_result Mulhu = high_unsigned
+register_result Div = quotient
+register_result Divu = quotient_unsigned
+register_result Rem = remainder
+register_result Remu = remainder_unsigned
+register_result Mulw = word_product
+register_result Divw = word_quotient
+register_result Divuw = word_quotient_unsigned
+register_result Remw = word_remainder
+register_result Remuw = word_remainder_unsigned
+
+-- what is made of rs1 and the immediate
+abbrev pub immediate_result : ImmediateOperation → ℕ → ℕ → ℕ
+immediate_result Addi = sum_of
+immediate_result Slti = λ a b. one_if (less_signed a b)
+immediate_result Sltiu = λ a b. one_if (nat_lt a b)
+immediate_result Xori = bit_xor
+immediate_result Ori = bit_or
+immediate_result Andi = bit_and
+immediate_result Addiw = word_sum
+
+-- what is made of rs1 and the amount
+abbrev pub shift_result : ShiftOperation → ℕ → ℕ → ℕ
+shift_result Slli = shifted_left
+shift_result Srli = shifted_right
+shift_result Srai = shifted_right_signed
+shift_result Slliw = word_shifted_left
+shift_result Srliw = word_shifted_right
+shift_result Sraiw = word_shifted_right_signed
+
+-- what is made of the pc and the upper 20 bits
+abbrev pub upper_result : UpperOperation → ℕ → ℕ → ℕ
+upper_result Lui = λ pc number. number
+upper_result Auipc = sum_of
+
+-- ---- branches (ISA, 2.5), loads and stores (ISA, 2.6 and 5.3)
+
+-- the test of rs1 and rs2
+abbrev pub is_taken : BranchOperation → ℕ → ℕ → Bool
+is_taken Beq a b = a == b
+is_taken Bne a b = not (a == b)
+is_taken Blt a b = less_signed a b
+is_taken Bge a b = not (less_signed a b)
+is_taken Bltu a b = nat_lt a b
+is_taken Bgeu a b = not (nat_lt a b)
+
+-- the bytes that are loaded, and what is made of their number
+abbrev pub load_width : LoadOperation → ℕ
+load_width Lb = 1
+load_width Lh = 2
+load_width Lw = 4
+load_width Ld = 8
+load_width Lbu = 1
+load_width Lhu = 2
+load_width Lwu = 4
+
+abbrev pub load_result : LoadOperation → ℕ → ℕ
+load_result Lb = extended 8
+load_result Lh = extended 16
+load_result Lw = extended 32
+load_result Ld = λ n. n
+load_result Lbu = λ n. n
+load_result Lhu = λ n. n
+load_result Lwu = λ n. n
+
+abbrev pub store_width : StoreOperation → ℕ
+store_width Sb = 1
+store_width Sh = 2
+store_width Sw = 4
+store_width Sd = 8
+
+-- ---- atomics, on four bytes or on eight (ISA, chapter 8)
+
+abbrev pub atomic_width : Bool → ℕ
+atomic_width false = 4
+atomic_width true = 8
+
+-- what rd gets of the number that is reserved (ISA, 8.2)
+abbrev pub reserve_result : Bool → ℕ → ℕ
+reserve_result false = extended 32
+reserve_result true = λ n. n
+
+-- what memory gets of the old number and rs2, both of `bits` bits (ISA, 8.4); a store-conditional stores rs2 (ISA, 8.2)
+abbrev pub atomic_result : AtomicOperation → ℕ → ℕ → ℕ → ℕ
+atomic_result Sc bits = λ old b. b
+atomic_result Amoswap bits = λ old b. b
+atomic_result Amoadd bits = λ old b. (old + b) % 2 ^ bits
+atomic_result Amoxor bits = bit_xor
+atomic_result Amoand bits = bit_and
+atomic_result Amoor bits = bit_or
+atomic_result Amomin bits = lesser_signed bits
+atomic_result Amomax bits = greater_signed bits
+atomic_result Amominu bits = min
+atomic_result Amomaxu bits = max
+
+abbrev pub atomic_effect : AtomicOperation → Bool → AtomicOperands → ℕ → Hart → Effect
+atomic_effect Sc double x bytes h = stores_if_reserved bytes h x (atomic_width double)
+atomic_effect operation false x bytes h = updates_word bytes h x (atomic_result operation 32)
+atomic_effect operation true x bytes h = updates bytes h x (atomic_result operation 64)
+
+-- what an instruction of a format does, in `bytes` bytes
+abbrev pub format_effect : Format → ℕ → Hart → Effect
+format_effect (Registers operation x) bytes h = by_registers bytes h x (register_result operation)
+format_effect (Immediate operation x) bytes h = by_immediate bytes h x (immediate_result operation)
+format_effect (Shift operation x) bytes h = by_amount bytes h x (shift_result operation)
+format_effect (Upper operation x) bytes h = sets bytes h x.rd (upper_result operation h.pc (upper x.immediate))
+format_effect (Load operation x) bytes h = loads bytes h x (load_width operation) (load_result operation)
+format_effect (Store operation x) bytes h = stores bytes h x (store_width operation)
+format_effect (Branch operation x) bytes h = branches bytes h x (is_taken operation (register h x.rs1) (register h x.rs2))
+-- jumps (ISA, 2.5)
+format_effect (Jal x) bytes h = jumps bytes h x.rd (h.pc + wrapped x.offset)
+format_effect (Jalr x) bytes h = jumps bytes h x.rd (sum_of (register h x.rs1) (wrapped x.immediate) / 2 * 2)
+format_effect (LoadReserved double x) bytes h = reserves bytes h x (atomic_width double) (reserve_result double)
+format_effect (Atomic operation double x) bytes h = atomic_effect operation double x bytes h
+-- memory ordering, environment call and breakpoint (ISA, 2.7 and 2.8); one hart needs no order
+format_effect (Fence x) bytes h = Goes (advanced h bytes)
+format_effect Ecall bytes h = Calls (advanced h bytes)
+format_effect Ebreak bytes h = Breaks
+
 -- what an instruction of this many bytes does
 abbrev pub effect : Inst → ℕ → Hart → Effect
--- integer computation (ISA, 2.4)
-effect (Lui x) bytes h = sets bytes h x.rd (upper x.immediate)
-effect (Auipc x) bytes h = sets bytes h x.rd (sum_of h.pc (upper x.immediate))
-effect (Addi x) bytes h = by_immediate bytes h x sum_of
-effect (Slti x) bytes h = by_immediate bytes h x (λ a b. one_if (less_signed a b))
-effect (Sltiu x) bytes h = by_immediate bytes h x (λ a b. one_if (nat_lt a b))
-effect (Xori x) bytes h = by_immediate bytes h x bit_xor
-effect (Ori x) bytes h = by_immediate bytes h x bit_or
-effect (Andi x) bytes h = by_immediate bytes h x bit_and
-effect (Slli x) bytes h = by_amount bytes h x shifted_left
-effect (Srli x) bytes h = by_amount bytes h x shifted_right
-effect (Srai x) bytes h = by_amount bytes h x shifted_right_signed
-effect (Add x) bytes h = by_registers bytes h x sum_of
-effect (Sub x) bytes h = by_registers bytes h x difference_of
-effect (Sll x) bytes h = by_registers bytes h x shifted_left
-effect (Slt x) bytes h = by_registers bytes h x (λ a b. one_if (less_signed a b))
-effect (Sltu x) bytes h = by_registers bytes h x (λ a b. one_if (nat_lt a b))
-effect (Xor x) bytes h = by_registers bytes h x bit_xor
-effect (Srl x) bytes h = by_registers bytes h x shifted_right
-effect (Sra x) bytes h = by_registers bytes h x shifted_right_signed
-effect (Or x) bytes h = by_registers bytes h x bit_or
-effect (And x) bytes h = by_registers bytes h x bit_and
--- jumps and branches (ISA, 2.5)
-effect (Jal x) bytes h = jumps bytes h x.rd (h.pc + wrapped x.offset)
-effect (Jalr x) bytes h = jumps bytes h x.rd (sum_of (register h x.rs1) (wrapped x.immediate) / 2 * 2)
-effect (Beq x) bytes h = branches bytes h x (register h x.rs1 == register h x.rs2)
-effect (Bne x) bytes h = branches bytes h x (not (register h x.rs1 == register h x.rs2))
-effect (Blt x) bytes h = branches bytes h x (less_signed (register h x.rs1) (register h x.rs2))
-effect (Bge x) bytes h = branches bytes h x (not (less_signed (register h x.rs1) (register h x.rs2)))
-effect (Bltu x) bytes h = branches bytes h x (nat_lt (register h x.rs1) (register h x.rs2))
-effect (Bgeu x) bytes h = branches bytes h x (not (nat_lt (register h x.rs1) (register h x.rs2)))
--- loads and stores (ISA, 2.6 and 5.3)
-effect (Lb x) bytes h = loads bytes h x 1 (extended 8)
-effect (Lh x) bytes h = loads bytes h x 2 (extended 16)
-effect (Lw x) bytes h = loads bytes h x 4 (extended 32)
-effect (Ld x) bytes h = loads bytes h x 8 (λ n. n)
-effect (Lbu x) bytes h = loads bytes h x 1 (λ n. n)
-effect (Lhu x) bytes h = loads bytes h x 2 (λ n. n)
-effect (Lwu x) bytes h = loads bytes h x 4 (λ n. n)
-effect (Sb x) bytes h = stores bytes h x 1
-effect (Sh x) bytes h = stores bytes h x 2
-effect (Sw x) bytes h = stores bytes h x 4
-effect (Sd x) bytes h = stores bytes h x 8
--- memory ordering, environment call and breakpoint (ISA, 2.7 and 2.8); one hart needs no order
-effect (Fence x) bytes h = Goes (advanced h bytes)
-effect Ecall bytes h = Calls (advanced h bytes)
-effect Ebreak bytes h = Breaks
--- the W forms (ISA, 5.2)
-effect (Addiw x) bytes h = by_immediate bytes h x word_sum
-effect (Slliw x) bytes h = by_amount bytes h x word_shifted_left
-effect (Srliw x) bytes h = by_amount bytes h x word_shifted_right
-effect (Sraiw x) bytes h = by_amount bytes h x word_shifted_right_signed
-effect (Addw x) bytes h = by_registers bytes h x word_sum
-effect (Subw x) bytes h = by_registers bytes h x word_difference
-effect (Sllw x) bytes h = by_registers bytes h x word_shifted_left
-effect (Srlw x) bytes h = by_registers bytes h x word_shifted_right
-effect (Sraw x) bytes h = by_registers bytes h x word_shifted_right_signed
--- multiplication and division (ISA, 7.1 and 7.2)
-effect (Mul x) bytes h = by_registers bytes h x product_of
-effect (Mulh x) bytes h = by_registers bytes h x high_signed
-effect (Mulhsu x) bytes h = by_registers bytes h x high_mixed
-effect (Mulhu x) bytes h = by_registers bytes h x high_unsigned
-effect (Div x) bytes h = by_registers bytes h x quotient
-effect (Divu x) bytes h = by_registers bytes h x quotient_unsigned
-effect (Rem x) bytes h = by_registers bytes h x remainder
-effect (Remu x) bytes h = by_registers bytes h x remainder_unsigned
-effect (Mulw x) bytes h = by_registers bytes h x word_product
-effect (Divw x) bytes h = by_registers bytes h x word_quotient
-effect (Divuw x) bytes h = by_registers bytes h x word_quotient_unsigned
-effect (Remw x) bytes h = by_registers bytes h x word_remainder
-effect (Remuw x) bytes h = by_registers bytes h x word_remainder_unsigned
--- load-reserved and store-conditional (ISA, 8.2)
-effect (LrW x) bytes h = reserves bytes h x 4 (extended 32)
-effect (LrD x) bytes h = reserves bytes h x 8 (λ n. n)
-effect (ScW x) bytes h = stores_if_reserved bytes h x 4
-effect (ScD x) bytes h = stores_if_reserved bytes h x 8
--- atomic memory operations (ISA, 8.4)
-effect (AmoswapW x) bytes h = updates_word bytes h x (λ old b. b)
-effect (AmoaddW x) bytes h = updates_word bytes h x (λ old b. low (old + b))
-effect (AmoxorW x) bytes h = updates_word bytes h x bit_xor
-effect (AmoandW x) bytes h = updates_word bytes h x bit_and
-effect (AmoorW x) bytes h = updates_word bytes h x bit_or
-effect (AmominW x) bytes h = updates_word bytes h x (lesser_signed 32)
-effect (AmomaxW x) bytes h = updates_word bytes h x (greater_signed 32)
-effect (AmominuW x) bytes h = updates_word bytes h x min
-effect (AmomaxuW x) bytes h = updates_word bytes h x max
-effect (AmoswapD x) bytes h = updates bytes h x (λ old b. b)
-effect (AmoaddD x) bytes h = updates bytes h x sum_of
-effect (AmoxorD x) bytes h = updates bytes h x bit_xor
-effect (AmoandD x) bytes h = updates bytes h x bit_and
-effect (AmoorD x) bytes h = updates bytes h x bit_or
-effect (AmominD x) bytes h = updates bytes h x (lesser_signed 64)
-effect (AmomaxD x) bytes h = updates bytes h x (greater_signed 64)
-effect (AmominuD x) bytes h = updates bytes h x min
-effect (AmomaxuD x) bytes h = updates bytes h x max
+effect i = format_effect (format_of i)

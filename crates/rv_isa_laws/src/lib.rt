@@ -1,5 +1,19 @@
-//! The meaning of an instruction: hart, memory with rights, environment calls; and the run of a machine over its memory:
-//! fetch, step and run. Nothing here runs.
+//! What instructions mean: hart, memory with rights, environment calls, and the run of a machine over its memory.
+//!
+//! It takes the instructions of `rv_isa` and gives definitions: `effect`, what an instruction asks of hart and memory;
+//! `apply`, what comes of it; and `fetch`, `step` and `run`. Nothing here runs.
+//!
+//! Main contract: `effect_keeps`, the law that whatever an instruction goes on with has input and console as before,
+//! registers in range, and a pc below 2^64. It must not know how words and parcels spell instructions (a `Reader` is
+//! its parameter), nor sources and files.
+//!
+//! ```text
+//! effect i bytes h                -- what instruction i of that many bytes asks at hart h
+//! apply (effect i bytes h) m      -- On the hart and the memory after it, or Over with how the run ended
+//! step reader h m                 -- fetch at the pc, then the same
+//! run reader n h m                -- at most n steps
+//! machine_run reader m entry input n
+//! ```
 //!
 //! Source: RISC-V Unprivileged ISA 20191213, sections 1.5, 2.2 and 16.1, chapters 2, 5, 7 and 8.
 #![tactic(auto)]

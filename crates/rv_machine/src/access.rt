@@ -66,7 +66,7 @@ fn store_end<M: Memory>(memory: &M, address: u64, bytes: u64) -> End
     }
 }
 
-/// The number of so many bytes, or its signed value; `None` where they may not be read.
+/// The number of `bytes` bytes, or its signed value; `None` where they may not be read.
 #[inline(always)]
 fn read_bytes<M: Memory>(memory: &M, address: u64, bytes: u64, signed: bool) -> Option<u64>
     requires { IsWidth bytes }
@@ -274,7 +274,7 @@ pub fn update_double<M: Memory>(
     None
 }
 
-/// The address behind the instruction set in a register, and the hart at a target.
+/// The address after the instruction set in a register, and the hart at a target.
 #[inline(always)]
 pub fn jump(hart: &mut Hart, rd: Reg, target: u64, bytes: u64)
     ensures { (input console : List ℕ) → jumps bytes (hart_of hart.old input console) rd target ≡ Goes (hart_of hart.new input console) }

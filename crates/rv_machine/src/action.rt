@@ -84,7 +84,7 @@ pub struct Update {
 pub enum Action {
     /// The register gets the number.
     Set(Reg, u64),
-    /// The register gets the address behind the instruction, and the hart goes to the target.
+    /// The register gets the address after the instruction, and the hart goes to the target.
     Jump(Reg, u64),
     /// The hart goes to the target.
     Go(u64),
@@ -139,7 +139,7 @@ impl Operation {
     }
 }
 
-/// What an instruction of so many bytes asks.
+/// What an instruction of this length in bytes asks.
 #[inline(always)]
 pub fn asked(inst: Inst, bytes: u64, hart: &Hart) -> Action
     ensures meaning { (input console : List ℕ) → effect_of result bytes (hart_of hart.now input console) ≡ effect inst bytes (hart_of hart.now input console) }

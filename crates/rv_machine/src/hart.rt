@@ -11,7 +11,9 @@ use crate::registers::Registers;
 /// What an lr reserves: the bytes from an address on.
 #[derive(Clone, Copy, Debug, PartialEq, Eq, Drop)]
 pub struct Reservation {
+    /// The first reserved address.
     pub address: u64,
+    /// 4 or 8.
     pub bytes: u64,
 }
 
@@ -19,6 +21,7 @@ pub struct Reservation {
 #[derive(Drop)]
 pub struct Hart {
     pub registers: Registers,
+    /// The address of the next instruction.
     pub pc: u64,
     pub reservation: Option<Reservation>,
 }

@@ -31,7 +31,7 @@ pub struct Machine<M: Memory + Drop> {
     end: Option<End>,
 }
 
-/// Does what an instruction of so many bytes asks.
+/// Does what an instruction of this length in bytes asks.
 #[inline(always)]
 fn act<M: Memory>(
     action: Action,
@@ -138,7 +138,7 @@ impl<M: Memory + Drop> Machine<M> {
         }
     }
 
-    /// Steps until the end, at most so many.
+    /// Steps until the end, at most `limit` times.
     pub(crate) fn run_to(&mut self, limit: u64) -> Result<End, AllocError>
         requires { self.old.end ≡ None }
         ensures { (reader : Reader Spells StandsFor) →

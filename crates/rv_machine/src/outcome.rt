@@ -18,11 +18,12 @@ use std::alloc::{AllocError, Global};
 /// What a run has written, and how it ended.
 #[derive(Debug, PartialEq, Eq, Drop)]
 pub struct Outcome {
+    /// The bytes that it has written, in their order.
     pub console: Vec<u8>,
     pub end: End,
 }
 
-/// Runs an image over a flat memory, with an input, at most so many instructions.
+/// Runs an image over a flat memory, with an input, at most `limit` instructions.
 pub fn run(alloc: Global, image: Image, input: &[u8], limit: u64) -> Result<Outcome, AllocError>
     ensures { (reader : Reader Spells StandsFor) →
         IfOk result (λ o. outcome_of o ≡ machine_run reader (mem_of (image_of image)) image.entry input.now limit) }

@@ -3,6 +3,7 @@
 //! Source: RISC-V Unprivileged ISA 20191213, section 2.1.
 
 ghost use Rattle.std.specs.Prelude.{◌≡◌, ℕ, List, slice_index, replicate, set};
+ghost use Rattle.rv_isa_laws.specs.Platform.{stack_end};
 ghost use Rattle.rv_machine.specs.Registers.{value_of, with_value};
 
 use rv_isa::Reg;
@@ -25,7 +26,7 @@ impl Model for Registers {
 impl Registers {
     /// All 0 but sp, which is the stack's end.
     pub fn new() -> Self
-        ensures { result ≡ set (replicate 32 0) 2 0x4000_0000 }
+        ensures { result ≡ set (replicate 32 0) 2 stack_end }
     {
         let mut values = [0; 32];
         values[2] = 0x4000_0000;

@@ -7,7 +7,7 @@ use rv_memory::Flat;
 use std::alloc::Global;
 use std::test::Fail;
 
-/// At most three instructions, behind which text has zeros up to 10010h, and how their run ends.
+/// At most three instructions, after which text has zeros up to 10010h, and how their run ends.
 const ENDS: [(&str, [u32; 3], End); 37] = [
     // A store where one of its bytes is text.
     (
@@ -41,7 +41,7 @@ const ENDS: [(&str, [u32; 3], End); 37] = [
         [0x0001_02b7, 0x1002_b32f, 0],
         End::LoadText(0x1_0000),
     ),
-    // A fetch of the stack, of nothing, before text and behind it.
+    // A fetch of the stack, of nothing, before text and after it.
     (
         "addi t0, sp, -16; jr t0",
         [0xff01_0293, 0x0002_8067, 0],
@@ -250,7 +250,7 @@ fn counts_to_the_limit(rt: HostRuntime) -> Result<(), Fail> {
     Ok(())
 }
 
-/// A word of which text has only the first half, behind a parcel: `c.nop`, `addi ..`.
+/// A word of which text has only the first half, after a parcel: `c.nop`, `addi ..`.
 #[test]
 fn ends_within_a_word(rt: HostRuntime) -> Result<(), Fail> {
     let outcome = ran(rt.alloc(), &[text(b"\x01\x00\x13\x05")], &[], 10)?;

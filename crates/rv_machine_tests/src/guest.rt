@@ -65,12 +65,12 @@ pub(super) fn code(alloc: Global, words: &[u32]) -> Result<Vec<u8>, AllocError> 
     Ok(bytes)
 }
 
-/// Appends the program header of a part whose bytes stand in the file at a place.
-fn put_header(file: &mut Vec<u8>, part: &Part<'_>, place: usize) -> Result<(), AllocError> {
+/// Appends the program header of a part whose bytes stand in the file at an offset.
+fn put_header(file: &mut Vec<u8>, part: &Part<'_>, offset: usize) -> Result<(), AllocError> {
     let size = part.bytes.len() as u64;
     file.extend_from_slice(&1_u32.to_le_bytes())?;
     file.extend_from_slice(&part.flags.to_le_bytes())?;
-    for field in [place as u64, part.address, part.address, size, size, 1] {
+    for field in [offset as u64, part.address, part.address, size, size, 1] {
         file.extend_from_slice(&field.to_le_bytes())?;
     }
     Ok(())
@@ -82,10 +82,10 @@ pub(super) fn executable(alloc: Global, parts: &[Part<'_>]) -> Result<Vec<u8>, A
     let count = (parts.len() % 0x1_0000) as u16;
     file.extend_from_slice(&count.to_le_bytes())?;
     file.extend_from_slice(&[64, 0, 0, 0, 0, 0])?;
-    let mut place = usize::from(count) * 56 + 64;
+    let mut offset = usize::from(count) * 56 + 64;
     for part in parts {
-        put_header(&mut file, part, place)?;
-        place = place.wrapping_add(part.bytes.len());
+        put_header(&mut file, part, offset)?;
+        offset = offset.wrapping_add(part.bytes.len());
     }
     for part in parts {
         file.extend_from_slice(part.bytes)?;

@@ -1,3 +1,5 @@
+//! Tests alone: it takes `rv_machine` with its memory and images, and gives nothing.
+//!
 //! Runs of small guests against what the platform says and what qemu-riscv64 makes of the same
 //! instructions: every instruction of RV64IMA at the edges of its operands, every end of a run, the
 //! calls of the environment, rights at the ends of segments.

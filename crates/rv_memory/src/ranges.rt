@@ -25,7 +25,7 @@ pub fn put_bytes<M: Memory>(memory: &mut M, address: u64, bytes: &[u8])
     }
 }
 
-/// Appends so many bytes from an address on. Where memory runs out, `out` is as before.
+/// Appends `count` bytes from an address on. Where memory runs out, `out` is as before.
 pub fn append_bytes<M: Memory>(
     memory: &M,
     address: u64,

@@ -1,0 +1,13 @@
+//! What holds of the tables of formats. Nothing here runs.
+
+ghost use Rattle.std.specs.Prelude.{◌≡◌};
+ghost use Rattle.rv_isa.specs.declared.instruction.Format.{Format};
+ghost use Rattle.rv_isa.specs.declared.instruction.Inst.{Inst};
+ghost use Rattle.rv_isa.specs.Operations.{format_of, instruction_of};
+
+/// The two tables agree: each instruction is the one that its format writes, and each format is that of the
+/// instruction that it writes.
+pub fn formats_agree()
+    ensures written { (i : Inst) → instruction_of (format_of i) ≡ i }
+    ensures read { (f : Format) → format_of (instruction_of f) ≡ f }
+{}
