@@ -1,10 +1,3 @@
-pub mod Numbers
-pub mod Escapes
-pub mod Scans
-pub mod Inside
-pub mod Steps
 pub mod Exprs
 pub mod ReadingSteps
 pub mod Evals
-pub mod Feeds
-pub mod NamesJoined

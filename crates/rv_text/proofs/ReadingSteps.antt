@@ -4,17 +4,17 @@ use Rattle.std.proofs.Common.{◌≡◌, ℕ, ◌<◌, Bool, true, cond, List, [
 use Rattle.rv_text_laws.specs.declared.operator.Frame.{Frame}
 use Rattle.rv_text_laws.specs.Lexing as lexing
 use Rattle.rv_text_laws.specs.Expression.{Tree, ReadsTree, Node, postfix}
-use Rattle.rv_text_laws.specs.Wrong as wrongs
+use Rattle.rv_text_laws.specs.SyntaxError as syntax
 use Rattle.rv_text_laws.specs.ExpressionAt.{Stage, Wants, Goes, Ends, Fails, step, read_from, expression_at}
-use Rattle.rv_text_laws.specs.Wrong.{wrong}
+use Rattle.rv_text_laws.specs.SyntaxError.{wrong}
 use Rattle.rv_text_laws.specs.Values.{nodes_fit}
 use Rattle.rv_text_laws.proofs.Expressions.{goes, ends, fails, expression_is}
 use Rattle.rv_text_laws.proofs.ExpressionFound.{expression_found}
 use Rattle.rv_text_laws.proofs.ExpressionValues.{postfix_fits}
-use Rattle.rv_text.specs.declared.cursor.Cursor.{Cursor}
-use Rattle.rv_text.specs.Token.{token_of, kind_of}
-use Rattle.rv_text.specs.Left.{tokens_left}
-use Rattle.rv_text.specs.Cursor.{left}
+use Rattle.rv_lexer.specs.declared.cursor.Cursor.{Cursor}
+use Rattle.rv_lexer.specs.Token.{token_of, kind_of}
+use Rattle.rv_lexer.specs.Left.{tokens_left}
+use Rattle.rv_lexer.specs.Cursor.{left}
 
 -- the tokens read from the start, and those read from here, make the same
 pub begun : (r : List ℕ → Bool) (ts : List lexing.Token) (none : List Frame) → none ≡ [] → expression_at r ts ≡ read_from r (Wants none []) ts
@@ -58,10 +58,10 @@ only_read r ts before after rest ns e same end tree other reads =
     (ap (λ (q : List Node × List lexing.Token). q.0) both, end ∙ ap (λ (q : List Node × List lexing.Token). q.1) both)
 
 -- where a token is wrong there is no expression
-pub unread : (r : List ℕ → Bool) (ts before : List lexing.Token) (w : wrongs.Wrong) → expression_at r ts ≡ Err w → ts ≡ before
+pub unread : (r : List ℕ → Bool) (ts before : List lexing.Token) (w : syntax.SyntaxError) → expression_at r ts ≡ Err w → ts ≡ before
     → (tree : Tree) (rest : List lexing.Token) → ReadsTree r before tree rest → ⊥
 unread r ts before w e same tree rest reads =
     no_both (postfix tree, rest) w (sym (expression_is r before tree rest reads) ∙ ap (expression_at r) (sym same) ∙ e)
   where
-    no_both : (x : List Node × List lexing.Token) (v : wrongs.Wrong) → ◌≡◌ {A = wrongs.Read (List Node)} (Ok x) (Err v) → ⊥
+    no_both : (x : List Node × List lexing.Token) (v : syntax.SyntaxError) → ◌≡◌ {A = syntax.Read (List Node)} (Ok x) (Err v) → ⊥
     no_both x v h = absurd (cc)

@@ -1,10 +1,11 @@
 -- What the values of the code stand for.
 
 use Rattle.std.specs.Prelude.{◌≡◌, ℕ, List, map, reverse, Result, Ok, Err}
+use Rattle.rv_text_laws.specs.Codes.{not_constant, undefined_local}
 use Rattle.rv_text_laws.specs.Expression as expression
 use Rattle.rv_text_laws.specs.Values as values
-use Rattle.rv_text.specs.declared.fault.SourceFault.{SourceFault}
-use Rattle.rv_text.specs.declared.fault.SourceFault.TheVariants as faults
+use Rattle.rv_lexer.specs.declared.fault.SourceFault.{SourceFault}
+use Rattle.rv_lexer.specs.declared.fault.SourceFault.TheVariants as faults
 use Rattle.rv_text.specs.declared.node.Symbol.{Symbol}
 use Rattle.rv_text.specs.declared.evaluation.Meaning.{Meaning}
 use Rattle.rv_text.specs.declared.evaluation.Meaning.TheVariants as meanings
@@ -12,15 +13,15 @@ use Rattle.rv_text.specs.declared.evaluation.Part.{Part}
 use Rattle.rv_text.specs.declared.evaluation.Part.TheVariants as parts
 use Rattle.rv_text.specs.declared.evaluation.Value.{Value}
 use Rattle.rv_text.specs.declared.evaluation.Value.TheVariants as results
-use Rattle.rv_text.specs.Fault.{number_of}
+use Rattle.rv_lexer.specs.Fault.{number_of}
 use Rattle.rv_text.specs.Nodes.{symbol_of}
 
 abbrev pub meaning_of : Meaning → values.Meaning
 meaning_of (meanings.Constant number) = values.Known number
-meaning_of (meanings.Place section offset) = values.Placed section offset
+meaning_of (meanings.InSection section offset) = values.InSection section offset
 meaning_of meanings.Open = values.Open
-meaning_of meanings.NotConstant = values.Refused 13
-meaning_of meanings.UndefinedLocal = values.Refused 12
+meaning_of meanings.NotConstant = values.Refused not_constant
+meaning_of meanings.UndefinedLocal = values.Refused undefined_local
 
 abbrev pub part_of : Part → values.Value
 part_of (parts.Constant number) = values.Constant number

@@ -5,7 +5,7 @@ use Rattle.rv_text_laws.specs.declared.operator.Frame.{Frame}
 use Rattle.rv_text_laws.specs.Expression as expression
 use Rattle.rv_text_laws.specs.ExpressionAt as reading
 use Rattle.rv_text_laws.specs.Lexing.{Token}
-use Rattle.rv_text_laws.specs.Wrong as wrongs
+use Rattle.rv_text_laws.specs.SyntaxError as syntax
 use Rattle.rv_text.specs.declared.expr.Expr.{Expr}
 use Rattle.rv_text.specs.declared.expr.Expr.TheVariants as exprs
 use Rattle.rv_text.specs.declared.reading.Stage.{Stage}
@@ -14,21 +14,21 @@ use Rattle.rv_text.specs.declared.reading.Step.{Step}
 use Rattle.rv_text.specs.declared.reading.Step.TheVariants as steps
 use Rattle.rv_text.specs.declared.reading.Stop.{Stop}
 use Rattle.rv_text.specs.declared.reading.Stop.TheVariants as stops
-use Rattle.rv_text.specs.declared.fault.SourceFault.{SourceFault}
-use Rattle.rv_text.specs.declared.fault.SourceFault.TheVariants as faults
+use Rattle.rv_lexer.specs.declared.fault.SourceFault.{SourceFault}
+use Rattle.rv_lexer.specs.declared.fault.SourceFault.TheVariants as faults
 use Rattle.rv_text.specs.declared.reading.Begin.{Begin}
 use Rattle.rv_text.specs.declared.reading.Begin.TheVariants as begins
 use Rattle.rv_text.specs.declared.reading.Follow.{Follow}
 use Rattle.rv_text.specs.declared.reading.Follow.TheVariants as follows
-use Rattle.rv_text.specs.Fault.{number_of}
+use Rattle.rv_lexer.specs.Fault.{number_of}
 use Rattle.rv_text.specs.Nodes.{symbol_of, nodes_of, some_nodes}
 
 abbrev pub begin_of : Begin → expression.Begin
 begin_of (begins.Number number) = expression.A_primary (expression.Literal number)
 begin_of (begins.Symbol symbol) = expression.A_primary (symbol_of symbol)
-begin_of (begins.Sign operator) = expression.A_sign operator
+begin_of (begins.Prefix operator) = expression.A_prefix operator
 begin_of begins.Opening = expression.An_opening
-begin_of (begins.Wrong code) = expression.No_operand (number_of code)
+begin_of (begins.NoOperand code) = expression.No_operand (number_of code)
 
 abbrev pub follow_of : Follow → expression.Follow
 follow_of (follows.Operator operator) = expression.An_operator operator
@@ -49,7 +49,7 @@ stage_of frames (stages.Has e) = reading.Has (stack_of frames) (nodes_of e)
 abbrev pub Steps : List Frame → Result Step Stop → reading.Step → Type 0
 Steps frames (Ok (steps.Goes stage)) step = step ≡ reading.Goes (stage_of frames stage)
 Steps frames (Ok (steps.Ends e)) step = step ≡ reading.Ends (nodes_of e)
-Steps frames (Err (stops.Wrong code)) step = step ≡ reading.Fails (number_of code)
+Steps frames (Err (stops.Fault code)) step = step ≡ reading.Fails (number_of code)
 Steps frames (Err stops.OutOfMemory) step = Unit {0}
 
 -- a primary alone
@@ -70,8 +70,8 @@ abbrev pub tree_of_expr : Expr → expression.Tree
 tree_of_expr e = expression.tree_of (expr_of e)
 
 -- the fault of a reading: the code and the line of its wrong token
-abbrev pub NamesFault : {Y : Type 0} → SourceFault → Result Y wrongs.Wrong → Type 0
-NamesFault (faults.At code line) read = (w : wrongs.Wrong) × (read ≡ Err w) × (w.code ≡ number_of code) × (w.line ≡ line)
+abbrev pub NamesFault : {Y : Type 0} → SourceFault → Result Y syntax.SyntaxError → Type 0
+NamesFault (faults.At code line) read = (w : syntax.SyntaxError) × (read ≡ Err w) × (w.code ≡ number_of code) × (w.line ≡ line)
 NamesFault faults.OutOfMemory read = Unit {0}
 
 -- a fault stands only where the tokens begin with no expression

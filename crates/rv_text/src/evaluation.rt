@@ -4,15 +4,15 @@ ghost use Rattle.std.specs.Prelude.{◌≡◌, ◌<◌, ◌≤◌, ◌+◌, ◌+
 ghost use Rattle.rv_text_laws.specs.Expression.{Primary, tree_of};
 ghost use Rattle.rv_text_laws.specs.Values as values;
 ghost use Rattle.rv_text_laws.specs.declared.operator.BinaryOperator.TheVariants.{Divide, Remainder};
-ghost use Rattle.rv_text.specs.Fault.{number_of};
+ghost use Rattle.rv_lexer.specs.Fault.{number_of};
 ghost use Rattle.rv_text.specs.Nodes.{symbol_of, node_of, nodes_of};
 ghost use Rattle.rv_text.specs.Expr.{tree_of_expr};
 ghost use Rattle.rv_text.specs.Eval.{meaning_of, part_of, tops, Means, IsOutcome};
 
 use crate::expr::Expr;
-use crate::fault::{SourceCode, SourceFault};
 use crate::node::{Node, Nodes, Symbol};
 use arrayvec::ArrayVec;
+use rv_lexer::{SourceCode, SourceFault};
 use rv_text_laws::{BinaryOperator, UnaryOperator};
 
 /// The most values that wait for an operator, in an expression that is read.
@@ -23,8 +23,8 @@ const MOST_VALUES: usize = 200;
 pub enum Meaning {
     /// A number.
     Constant(u64),
-    /// A place in a section whose places keep their distances: the section's number, and the offset.
-    Place(u32, u64),
+    /// In a section whose statements keep their distances: the section's index, and the offset in bytes.
+    InSection(u32, u64),
     /// An address that is not known yet.
     Open,
     /// A constant that is used before it is set.
@@ -59,7 +59,7 @@ impl Default for Part<'_> {
     }
 }
 
-/// The refusal with the lower number.
+/// The fault with the lower number.
 fn lower(first: SourceCode, second: SourceCode) -> SourceCode
     ensures { number_of result ≡ min (number_of first) (number_of second) }
 {
@@ -121,9 +121,9 @@ fn arithmetic<'a>(operator: BinaryOperator, a: u64, b: u64) -> Part<'a>
     }
 }
 
-/// The refusal of an operator by its right operand, where the left one is no constant.
-fn refusal(operator: BinaryOperator, b: u64) -> SourceCode
-    ensures { number_of result ≡ values.refusal operator b }
+/// The fault of an operator by its right operand, where the left one is no constant.
+fn operand_fault(operator: BinaryOperator, b: u64) -> SourceCode
+    ensures { number_of result ≡ values.operand_fault operator b }
 {
     match operator {
         BinaryOperator::Divide | BinaryOperator::Remainder if b == 0 => SourceCode::DivisionByZero,
@@ -134,28 +134,30 @@ fn refusal(operator: BinaryOperator, b: u64) -> SourceCode
     }
 }
 
-/// An operator on operands of which one is no constant; of several refusals the lowest counts.
+/// An operator on operands of which one is no constant; of several faults the lowest counts.
 fn refused<'a>(operator: BinaryOperator, left: Part<'a>, right: Part<'a>) -> Part<'a>
     ensures { part_of result ≡ values.refused operator (part_of left.entry) (part_of right.entry) }
 {
     match (left, right) {
         (Part::Faulty(code), Part::Faulty(other)) => Part::Faulty(lower(code, other)),
-        (Part::Faulty(code), Part::Constant(b)) => Part::Faulty(lower(code, refusal(operator, b))),
+        (Part::Faulty(code), Part::Constant(b)) => Part::Faulty(lower(
+            code,
+            operand_fault(operator, b),
+        )),
         (Part::Faulty(code), _) => Part::Faulty(code),
         (_, Part::Faulty(code)) => Part::Faulty(code),
-        (_, Part::Constant(b)) => Part::Faulty(refusal(operator, b)),
+        (_, Part::Constant(b)) => Part::Faulty(operand_fault(operator, b)),
         _ => Part::Faulty(SourceCode::NotConstant),
     }
 }
 
-/// The difference of two symbols: of two places in one section a constant.
+/// The difference of two symbols: in one section a constant.
 fn apart<'a>(left: (Symbol<'a>, Meaning), right: (Symbol<'a>, Meaning), plus: u64) -> Part<'a>
     ensures { part_of result ≡ values.apart (meaning_of left.entry.1) (meaning_of right.entry.1) (symbol_of left.entry.0) (symbol_of right.entry.0) plus }
 {
     match (left, right) {
-        ((_, Meaning::Place(section, a)), (_, Meaning::Place(other, b))) if section == other => {
-            Part::Constant(plus.wrapping_add(a.wrapping_sub(b)))
-        }
+        ((_, Meaning::InSection(section, a)), (_, Meaning::InSection(other, b)))
+            if section == other => { Part::Constant(plus.wrapping_add(a.wrapping_sub(b))) }
         ((symbol, _), (minus, _)) => Part::Difference(symbol, minus, plus),
     }
 }
@@ -239,7 +241,7 @@ fn meant<'a>(symbol: Symbol<'a>, meaning: Meaning) -> Part<'a>
         Meaning::Constant(number) => Part::Constant(number),
         Meaning::NotConstant => Part::Faulty(SourceCode::NotConstant),
         Meaning::UndefinedLocal => Part::Faulty(SourceCode::UndefinedLocal),
-        Meaning::Place(..) | Meaning::Open => Part::Symbolic(symbol, meaning, 0),
+        Meaning::InSection(..) | Meaning::Open => Part::Symbolic(symbol, meaning, 0),
     }
 }
 
@@ -264,7 +266,7 @@ fn pop<'a>(stack: &mut ArrayVec<Part<'a>, MOST_VALUES>) -> Part<'a>
     stack.pop().unwrap()
 }
 
-/// The values behind a node.
+/// The values after a node.
 fn step<'a, F: Fn(Symbol<'a>) -> Meaning>(
     stack: &mut ArrayVec<Part<'a>, MOST_VALUES>,
     node: Node<'a>,
@@ -327,7 +329,7 @@ fn operand<'a, F: Fn(Symbol<'a>) -> Meaning>(node: Node<'a>, names: &F) -> Optio
     }
 }
 
-/// The value of an operator behind its one operand.
+/// The value of an operator after its one operand.
 fn of_one<'a, F: Fn(Symbol<'a>) -> Meaning>(
     first: Node<'a>,
     last: Node<'a>,
@@ -343,7 +345,7 @@ fn of_one<'a, F: Fn(Symbol<'a>) -> Meaning>(
     Some(alone(operator, part))
 }
 
-/// The value of an operator behind its two operands.
+/// The value of an operator after its two operands.
 fn of_two<'a, F: Fn(Symbol<'a>) -> Meaning>(
     first: Node<'a>,
     second: Node<'a>,

@@ -17,7 +17,7 @@ pub enum Expr<'a> {
     Number(u64),
     /// A name.
     Name(&'a [u8]),
-    /// `.`, the place of the statement.
+    /// `.`, the address of the statement.
     Here,
     /// `1b`, by its digits.
     Backward(&'a [u8]),

@@ -1,32 +1,36 @@
-//! Tokens of a source, one after the other, borrowed from it; and the faults of sources.
+//! Expressions: read from tokens, and evaluated.
 //!
-//! Source: RISC-V Assembly Programmer's Manual; GNU as, "Syntax" and "RISC-V Dependent Features".
+//! Takes the tokens of `rv_lexer` and which names spell registers. Gives an `Expr`, whose names are parts of the source,
+//! and its `Value`: a number, or symbols that stay open. What reads expressions reads tokens too, so the lexer's items
+//! stand here as well.
+//!
+//! Its main contracts are `parse_expr`, clauses `reads` and `only` (what it reads is the one expression at the front of
+//! the tokens) and `refuses` (a fault is that of the first token with which no expression goes on), and `eval`: the
+//! outcome is the value that the definitions give the expression's tree. It knows nothing of statements or sections.
+//!
+//! ```text
+//! let mut lexer = Lexer::new(b"4 * (end - start)");
+//! let expr = parse_expr::<NoRegisters>(alloc, &mut lexer)?;
+//! let names = |symbol| match symbol { Symbol::Name(b"end") => Meaning::InSection(0, 9), _ => Meaning::InSection(0, 4) };
+//! let value = eval(&expr, 1, &names)?;    // Value::Constant(20)
+//! ```
+//!
+//! Source: RISC-V Assembly Programmer's Manual; GNU as, "Expressions".
 #![tactic(auto)]
 
-mod class;
 mod compound;
-mod cursor;
 mod evaluation;
 mod expr;
-mod fault;
-mod lexer;
 mod node;
-mod piece;
-mod place;
 mod reading;
-mod text;
-mod token;
-mod word;
 
 pub use compound::Compound;
-pub use cursor::{Cursor, Refusal, Wrong};
 pub use evaluation::{Meaning, Value, eval};
 pub use expr::Expr;
-pub use fault::{SourceCode, SourceFault};
-pub use lexer::Lexer;
 pub use node::{Node, Symbol};
-pub use place::LONGEST_NAME;
 pub use reading::{Registers, expression, parse_expr};
-pub use rv_text_laws::{BinaryOperator, Sign, UnaryOperator};
-pub use text::{append_string, string_contains, string_size};
-pub use token::{Token, TokenKind};
+pub use rv_lexer::{
+    Cursor, LONGEST_NAME, Lexer, Punct, ReadError, SourceCode, SourceFault, SyntaxError, Token,
+    TokenKind, append_string, string_contains, string_size,
+};
+pub use rv_text_laws::{BinaryOperator, UnaryOperator};

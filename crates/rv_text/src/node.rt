@@ -12,7 +12,7 @@ use std::alloc::AllocError;
 pub enum Symbol<'a> {
     /// A name.
     Name(&'a [u8]),
-    /// `.`, the place of the statement.
+    /// `.`, the address of the statement.
     Here,
     /// `1b`, by its digits.
     Backward(&'a [u8]),

@@ -1,25 +1,21 @@
 //! How expressions are read.
 
 ghost use Rattle.std.specs.Prelude.{◌≡◌, ℕ, Bool, List, [], ◌∷◌, ◌++◌, IfOk, IfErr};
-ghost use Rattle.rv_text_laws.specs.Expression.{Tree, ReadsTree, postfix, begins, follows, level_of, named_operand, sign_begins};
+ghost use Rattle.rv_text_laws.specs.Expression.{Tree, ReadsTree, postfix, begins, follows, level_of, named_operand, punct_begins};
 ghost use Rattle.rv_text_laws.specs.ExpressionAt as reading;
 ghost use Rattle.rv_text_laws.specs.Lexing.{Token};
 ghost use Rattle.rv_text_laws.specs.declared.operator.Frame.TheVariants.{Infix};
-ghost use Rattle.rv_text.specs.Fault.{number_of};
-ghost use Rattle.rv_text.specs.Token.{kind_of};
-ghost use Rattle.rv_text.specs.Left.{tokens_left};
-ghost use Rattle.rv_text.specs.Cursor.{left, Answers};
+ghost use Rattle.rv_lexer.specs.Fault.{number_of};
+ghost use Rattle.rv_lexer.specs.Token.{kind_of};
+ghost use Rattle.rv_lexer.specs.Left.{tokens_left};
+ghost use Rattle.rv_lexer.specs.Cursor.{left, Answers};
 ghost use Rattle.rv_text.specs.Nodes.{node_of, nodes_of, some_nodes};
 ghost use Rattle.rv_text.specs.Expr.{begin_of, follow_of, stack_of, stage_of, Steps, expr_of, NamesFault, NoReading};
 
-use crate::cursor::{Cursor, Refusal};
 use crate::expr::Expr;
-use crate::fault::{SourceCode, SourceFault};
-use crate::lexer::Lexer;
 use crate::node::{Node, Nodes, Symbol};
-use crate::place::LONGEST_NAME;
-use crate::token::TokenKind;
-use rv_text_laws::{BinaryOperator, Frame, Sign, UnaryOperator};
+use rv_lexer::{Cursor, LONGEST_NAME, Lexer, ReadError, SourceCode, SourceFault, TokenKind};
+use rv_text_laws::{BinaryOperator, Frame, Punct, UnaryOperator};
 use std::alloc::{AllocError, AllocFailed, Global};
 
 /// The most parentheses and operators of one operand in one another.
@@ -35,7 +31,7 @@ pub trait Registers {
         ensures { result ≡ registers name.now };
 }
 
-/// What is read so far, behind what waits for an operand.
+/// What is read so far, after what waits for an operand.
 #[derive(Drop)]
 pub(crate) enum Stage<'a> {
     /// An operand comes next.
@@ -56,7 +52,7 @@ pub(crate) enum Step<'a> {
 /// Why a token is not taken.
 #[derive(Drop)]
 pub(crate) enum Stop {
-    Wrong(SourceCode),
+    Fault(SourceCode),
     OutOfMemory,
 }
 
@@ -85,9 +81,9 @@ impl<T: Drop> From<AllocFailed<T>> for Stop {
 pub(crate) enum Begin<'a> {
     Number(u64),
     Symbol(Symbol<'a>),
-    Sign(UnaryOperator),
+    Prefix(UnaryOperator),
     Opening,
-    Wrong(SourceCode),
+    NoOperand(SourceCode),
 }
 
 /// What a token is after an operand.
@@ -104,27 +100,27 @@ fn named_operand<R: Registers>(name: &[u8]) -> Begin<'_>
     ensures { begin_of result ≡ named_operand R.registers name.now }
 {
     if R::is_register(name) {
-        Begin::Wrong(SourceCode::BadOperands)
+        Begin::NoOperand(SourceCode::BadOperands)
     } else if name == b".".as_slice() {
         Begin::Symbol(Symbol::Here)
     } else if name.len() <= LONGEST_NAME {
         Begin::Symbol(Symbol::Name(name))
     } else {
-        Begin::Wrong(SourceCode::Limit)
+        Begin::NoOperand(SourceCode::Limit)
     }
 }
 
-/// What a sign is where an operand is wanted.
-fn sign_begins<'a>(sign: Sign) -> Begin<'a>
-    ensures { begin_of result ≡ sign_begins sign }
+/// What punctuation is where an operand is wanted.
+fn punct_begins<'a>(punct: Punct) -> Begin<'a>
+    ensures { begin_of result ≡ punct_begins punct }
 {
-    match sign {
-        Sign::Minus => Begin::Sign(UnaryOperator::Negate),
-        Sign::Tilde => Begin::Sign(UnaryOperator::Complement),
-        Sign::Plus => Begin::Sign(UnaryOperator::Keep),
-        Sign::Open => Begin::Opening,
-        Sign::DoubleSlash => Begin::Wrong(SourceCode::UnsupportedHere),
-        _ => Begin::Wrong(SourceCode::BadOperands),
+    match punct {
+        Punct::Minus => Begin::Prefix(UnaryOperator::Negate),
+        Punct::Tilde => Begin::Prefix(UnaryOperator::Complement),
+        Punct::Plus => Begin::Prefix(UnaryOperator::Keep),
+        Punct::Open => Begin::Opening,
+        Punct::DoubleSlash => Begin::NoOperand(SourceCode::UnsupportedHere),
+        _ => Begin::NoOperand(SourceCode::BadOperands),
     }
 }
 
@@ -138,11 +134,11 @@ fn begins<R: Registers>(kind: TokenKind<'_>) -> Begin<'_>
         TokenKind::Name(name) => named_operand::<R>(name),
         TokenKind::Reference(digits, true) => Begin::Symbol(Symbol::Forward(digits)),
         TokenKind::Reference(digits, false) => Begin::Symbol(Symbol::Backward(digits)),
-        TokenKind::Mark(sign) => sign_begins(sign),
-        TokenKind::Text(_) => Begin::Wrong(SourceCode::UnsupportedHere),
-        TokenKind::BadByte => Begin::Wrong(SourceCode::BadByte),
-        TokenKind::BadToken | TokenKind::BadWord(_) => Begin::Wrong(SourceCode::BadToken),
-        TokenKind::Newline | TokenKind::End => Begin::Wrong(SourceCode::BadOperands),
+        TokenKind::Punct(punct) => punct_begins(punct),
+        TokenKind::Text(_) => Begin::NoOperand(SourceCode::UnsupportedHere),
+        TokenKind::BadByte => Begin::NoOperand(SourceCode::BadByte),
+        TokenKind::BadToken | TokenKind::BadWord(_) => Begin::NoOperand(SourceCode::BadToken),
+        TokenKind::Newline | TokenKind::End => Begin::NoOperand(SourceCode::BadOperands),
     }
 }
 
@@ -150,28 +146,28 @@ fn begins<R: Registers>(kind: TokenKind<'_>) -> Begin<'_>
 fn follows(kind: TokenKind<'_>) -> Follow
     ensures { follow_of result ≡ follows (kind_of kind.entry) }
 {
-    let TokenKind::Mark(sign) = kind else {
+    let TokenKind::Punct(punct) = kind else {
         return Follow::Nothing;
     };
-    match sign {
-        Sign::Star => Follow::Operator(BinaryOperator::Multiply),
-        Sign::Slash => Follow::Operator(BinaryOperator::Divide),
-        Sign::Percent => Follow::Operator(BinaryOperator::Remainder),
-        Sign::ShiftLeft => Follow::Operator(BinaryOperator::ShiftLeft),
-        Sign::ShiftRight => Follow::Operator(BinaryOperator::ShiftRight),
-        Sign::Bar => Follow::Operator(BinaryOperator::Or),
-        Sign::Ampersand => Follow::Operator(BinaryOperator::And),
-        Sign::Caret => Follow::Operator(BinaryOperator::ExclusiveOr),
-        Sign::Plus => Follow::Operator(BinaryOperator::Add),
-        Sign::Minus => Follow::Operator(BinaryOperator::Subtract),
-        Sign::Close => Follow::Closing,
-        Sign::Equal
-        | Sign::NotEqual
-        | Sign::LessGreater
-        | Sign::Less
-        | Sign::Greater
-        | Sign::LessEqual
-        | Sign::GreaterEqual => Follow::Comparison,
+    match punct {
+        Punct::Star => Follow::Operator(BinaryOperator::Multiply),
+        Punct::Slash => Follow::Operator(BinaryOperator::Divide),
+        Punct::Percent => Follow::Operator(BinaryOperator::Remainder),
+        Punct::ShiftLeft => Follow::Operator(BinaryOperator::ShiftLeft),
+        Punct::ShiftRight => Follow::Operator(BinaryOperator::ShiftRight),
+        Punct::Bar => Follow::Operator(BinaryOperator::Or),
+        Punct::Ampersand => Follow::Operator(BinaryOperator::And),
+        Punct::Caret => Follow::Operator(BinaryOperator::ExclusiveOr),
+        Punct::Plus => Follow::Operator(BinaryOperator::Add),
+        Punct::Minus => Follow::Operator(BinaryOperator::Subtract),
+        Punct::Close => Follow::Closing,
+        Punct::Equal
+        | Punct::NotEqual
+        | Punct::LessGreater
+        | Punct::Less
+        | Punct::Greater
+        | Punct::LessEqual
+        | Punct::GreaterEqual => Follow::Comparison,
         _ => Follow::Nothing,
     }
 }
@@ -183,7 +179,7 @@ fn unclosed(kind: TokenKind<'_>) -> SourceCode
     match kind {
         TokenKind::BadByte => SourceCode::BadByte,
         TokenKind::BadToken | TokenKind::BadWord(_) => SourceCode::BadToken,
-        TokenKind::Mark(Sign::DoubleSlash) => SourceCode::UnsupportedHere,
+        TokenKind::Punct(Punct::DoubleSlash) => SourceCode::UnsupportedHere,
         _ => SourceCode::BadOperands,
     }
 }
@@ -203,7 +199,7 @@ fn level_of(operator: BinaryOperator) -> u8
     }
 }
 
-/// Whether an operator takes the operand behind it before an operator of this level does.
+/// Whether an operator takes the operand after it before an operator of this level does.
 fn binds(level: u8, frame: Frame) -> bool
     ensures { result ≡ reading.binds level frame }
 {
@@ -229,7 +225,7 @@ fn depth(frames: &[Frame]) -> usize
     frames.iter().filter(|frame| nests(**frame)).count()
 }
 
-/// The operators that take the operand behind them before one of this level does.
+/// The operators that take the operand after them before one of this level does.
 #[tactic(auto, using(crate::proofs::Exprs::stack_push, crate::proofs::Exprs::stack_none))]
 fn settle<'a>(frames: &mut Vec<Frame>, nodes: &mut Nodes<'a>, level: u8) -> Result<(), AllocError>
     ensures { IfOk result (λ _. reading.settle level (stack_of frames.old.items) (nodes_of nodes.old) ≡ (stack_of frames.new.items, nodes_of nodes.new)) }
@@ -257,11 +253,11 @@ fn deeper<'a>(
         frames.push(frame)?;
         Ok(Step::Goes(Stage::Wants(nodes)))
     } else {
-        Err(Stop::Wrong(SourceCode::NestingTooDeep))
+        Err(Stop::Fault(SourceCode::NestingTooDeep))
     }
 }
 
-/// An operand behind the nodes so far.
+/// An operand after the nodes so far.
 fn operand<'a>(
     alloc: Global,
     nodes: Option<Nodes<'a>>,
@@ -299,9 +295,9 @@ fn wants<'a, R: Registers>(
             let nodes = operand(alloc, nodes, Node::Symbol(symbol))?;
             Ok(Step::Goes(Stage::Has(nodes)))
         }
-        Begin::Sign(operator) => deeper(frames, Frame::Prefix(operator), nodes),
+        Begin::Prefix(operator) => deeper(frames, Frame::Prefix(operator), nodes),
         Begin::Opening => deeper(frames, Frame::Parenthesis, nodes),
-        Begin::Wrong(code) => Err(Stop::Wrong(code)),
+        Begin::NoOperand(code) => Err(Stop::Fault(code)),
     }
 }
 
@@ -324,11 +320,11 @@ fn end<'a>(frames: &[Frame], nodes: Nodes<'a>, code: SourceCode) -> Result<Step<
     if frames.is_empty() {
         Ok(Step::Ends(nodes))
     } else {
-        Err(Stop::Wrong(code))
+        Err(Stop::Fault(code))
     }
 }
 
-/// An operator behind an operand.
+/// An operator after an operand.
 #[tactic(auto, using(crate::proofs::Exprs::stack_push))]
 fn operator<'a>(
     frames: &mut Vec<Frame>,
@@ -343,18 +339,18 @@ fn operator<'a>(
     Ok(Step::Goes(Stage::Wants(Some(nodes))))
 }
 
-/// A token behind an operand.
+/// A token after an operand.
 fn has<'a>(frames: &mut Vec<Frame>, nodes: Nodes<'a>, kind: TokenKind<'a>) -> Result<Step<'a>, Stop>
     ensures { Steps frames.new.items result (reading.step_has (kind_of kind.entry) (stack_of frames.old.items) (nodes_of nodes.entry) (follows (kind_of kind.entry))) }
 {
     let mut nodes = nodes;
     match follows(kind) {
-        Follow::Operator(sign) => operator(frames, nodes, sign),
+        Follow::Operator(infix) => operator(frames, nodes, infix),
         Follow::Closing => {
             settle(frames, &mut nodes, 0)?;
             close(frames, nodes)
         }
-        Follow::Comparison => Err(Stop::Wrong(SourceCode::UnsupportedHere)),
+        Follow::Comparison => Err(Stop::Fault(SourceCode::UnsupportedHere)),
         Follow::Nothing => {
             settle(frames, &mut nodes, 0)?;
             end(frames, nodes, unclosed(kind))
@@ -377,11 +373,11 @@ fn taken<'a, R: Registers>(
     }
 }
 
-/// The expression at the front of a cursor's tokens. A refusal names the first token that is wrong.
+/// The expression at the front of a cursor's tokens. An error names the first token that is wrong.
 pub fn expression<'a, R: Registers>(
     alloc: Global,
     cursor: &mut Cursor<'a>,
-) -> Result<Expr<'a>, Refusal>
+) -> Result<Expr<'a>, ReadError>
     ensures { Answers (λ e. (expr_of e, left cursor.new)) result (reading.expression_at R.registers (left cursor.old)) }
 {
     let mut frames = Vec::new(alloc);
@@ -393,13 +389,13 @@ pub fn expression<'a, R: Registers>(
                 cursor.advance();
             }
             Ok(Step::Ends(nodes)) => return Ok(Expr::new(alloc, nodes)?),
-            Err(Stop::Wrong(code)) => return Err(Refusal::At(cursor.wrong(code))),
-            Err(Stop::OutOfMemory) => return Err(Refusal::OutOfMemory),
+            Err(Stop::Fault(code)) => return Err(ReadError::At(cursor.wrong(code))),
+            Err(Stop::OutOfMemory) => return Err(ReadError::OutOfMemory),
         }
     }
 }
 
-/// The expression at the front of a lexer's tokens, which then has the tokens behind it. A fault has the line of the
+/// The expression at the front of a lexer's tokens, which then has the tokens after it. A fault has the line of the
 /// first token that is wrong, and leaves the lexer as it was.
 pub fn parse_expr<'a, R: Registers>(
     alloc: Global,
@@ -417,10 +413,10 @@ pub fn parse_expr<'a, R: Registers>(
             *lexer = cursor.lexer();
             Ok(expr)
         }
-        Err(Refusal::At(wrong)) => Err(SourceFault::At {
+        Err(ReadError::At(wrong)) => Err(SourceFault::At {
             code: wrong.code,
             line: wrong.line,
         }),
-        Err(Refusal::OutOfMemory) => Err(SourceFault::OutOfMemory),
+        Err(ReadError::OutOfMemory) => Err(SourceFault::OutOfMemory),
     }
 }

@@ -5,14 +5,14 @@ use Rattle.std.proofs.lemmas.Bool.{eqb-true}
 use Rattle.rv_text_laws.specs.declared.class.Class.{Class}
 use Rattle.rv_text_laws.specs.declared.class.Class.TheVariants.{Letter, Digit, Blank, LineEnd, Single, HashByte, SlashByte, QuoteByte, ApostropheByte, LessByte, GreaterByte, EqualByte, BangByte, Odd, Foreign}
 use Rattle.rv_text_laws.specs.Bytes.{class, spelling, is_letter, is_decimal, between}
-use Rattle.rv_text_laws.specs.Grammar.{Mark, goes_on}
-use Rattle.rv_text_laws.specs.Front.{piece_at, piece_by}
+use Rattle.rv_text_laws.specs.Grammar.{Punctuation, goes_on}
+use Rattle.rv_text_laws.specs.Front.{lexeme_at, lexeme_by}
 use Rattle.rv_text_laws.proofs.Runs.{pick}
 
 -- the byte of a class of one byte
 abbrev pub ByteOf : ℕ → Class → Type 0
 ByteOf b LineEnd = b ≡ 10
-ByteOf b (Single sign) = (b ∷ [] ≡ spelling sign) × ((c : ℕ) → goes_on (Mark sign) c ≡ false)
+ByteOf b (Single punct) = (b ∷ [] ≡ spelling punct) × ((c : ℕ) → goes_on (Punctuation punct) c ≡ false)
 ByteOf b HashByte = b ≡ 35
 ByteOf b SlashByte = b ≡ 47
 ByteOf b QuoteByte = b ≡ 34
@@ -67,10 +67,10 @@ fact b =
 pub byte_of_class : (b : ℕ) → ByteOf b (class b)
 byte_of_class b = (fact b).is
 
--- a piece by the class of its first byte
-pub piece_by_class : (b : ℕ) (bs : List ℕ) (c : Class) → class b ≡ c → piece_at (b ∷ bs) ≡ piece_by c b bs
-unfolding piece_at
-piece_by_class b bs c e = ap (λ k. piece_by k b bs) e
+-- a lexeme by the class of its first byte
+pub lexeme_by_class : (b : ℕ) (bs : List ℕ) (c : Class) → class b ≡ c → lexeme_at (b ∷ bs) ≡ lexeme_by c b bs
+unfolding lexeme_at
+lexeme_by_class b bs c e = ap (λ k. lexeme_by k b bs) e
 
 pub class_10 : class 10 ≡ LineEnd
 unfolding class

@@ -6,7 +6,7 @@ use Rattle.rv_text_laws.specs.declared.operator.BinaryOperator.{BinaryOperator}
 use Rattle.rv_text_laws.specs.declared.operator.Frame.{Frame}
 use Rattle.rv_text_laws.specs.declared.operator.Frame.TheVariants.{Parenthesis, Prefix, Infix}
 use Rattle.rv_text_laws.specs.Lexing.{Token}
-use Rattle.rv_text_laws.specs.Expression.{Tree, Leaf, Unary, Paren, Binary, level_of, Begin, Follow, begins, follows, A_primary, A_sign, An_opening, No_operand, An_operator, A_closing, A_comparison, Nothing_more, SpellsTree, IsAt, nesting, deepest, Node, Primary_node, Unary_node, Binary_node, postfix, ReadsTree}
+use Rattle.rv_text_laws.specs.Expression.{Tree, Leaf, Unary, Paren, Binary, level_of, Begin, Follow, begins, follows, A_primary, A_prefix, An_opening, No_operand, An_operator, A_closing, A_comparison, Nothing_more, SpellsTree, IsAt, nesting, deepest, Node, Primary_node, Unary_node, Binary_node, postfix, ReadsTree}
 use Rattle.rv_text_laws.specs.ExpressionAt.{Stage, Wants, Has, depth, binds, settle, deeper, Step, Goes, Ends, Fails, step, step_wants, step_has, close, end, unclosed, read_from, expression_at}
 use Rattle.rv_text_laws.proofs.Expressions.{level_small, looser, le_true, goes, ends, fails}
 
@@ -48,12 +48,12 @@ module _ (r : List ℕ → Bool) where
   abbrev Stacked : List Frame → List Token → List Node → Type 0
   Stacked [] used ns = (used ≡ []) × (ns ≡ [])
   Stacked (Parenthesis ∷ fs) used ns = (us : List Token) × (t : Token) × (used ≡ us ++ t ∷ []) × (begins r t.kind ≡ An_opening) × Stacked fs us ns
-  Stacked (Prefix o ∷ fs) used ns = (us : List Token) × (t : Token) × (used ≡ us ++ t ∷ []) × (begins r t.kind ≡ A_sign o) × Stacked fs us ns
+  Stacked (Prefix o ∷ fs) used ns = (us : List Token) × (t : Token) × (used ≡ us ++ t ∷ []) × (begins r t.kind ≡ A_prefix o) × Stacked fs us ns
   Stacked (Infix o ∷ fs) used ns =
       (x : Tree) × (us vs : List Token) × (t : Token) × (ms : List Node) × (used ≡ us ++ (vs ++ t ∷ [])) × (ns ≡ ms ++ postfix x) × (follows t.kind ≡ An_operator o)
       × SpellsTree r x vs × IsAt (level_of o) x × (depth fs + nesting x ≤ deepest) × Under (level_of o) fs × Stacked fs us ms
 
-  -- a tree behind what waits
+  -- a tree after what waits
   record Current (fs : List Frame) (used : List Token) (ns : List Node) : Type 0 where
     pub tree : Tree
     pub before : List Token
@@ -148,7 +148,7 @@ module _ (r : List ℕ → Bool) where
         },
         tt,
       )
-  wants_goes fs ns used t u (A_sign o) e g (s, deep) = deeper_goes (Prefix o) fs ns (used ++ t ∷ []) u g refl (used, t, refl, e, s)
+  wants_goes fs ns used t u (A_prefix o) e g (s, deep) = deeper_goes (Prefix o) fs ns (used ++ t ∷ []) u g refl (used, t, refl, e, s)
   wants_goes fs ns used t u An_opening e g (s, deep) = deeper_goes Parenthesis fs ns (used ++ t ∷ []) u g refl (used, t, refl, e, s)
   wants_goes fs ns used t u (No_operand code) e g m = absurd (cc)
 
@@ -244,7 +244,7 @@ module _ (r : List ℕ → Bool) where
 
   wants_ends : (fs : List Frame) (ns ms : List Node) (b : Begin) → step_wants fs ns b ≡ Ends ms → ⊥
   wants_ends fs ns ms (A_primary p) e = cc
-  wants_ends fs ns ms (A_sign o) e = go (nat_lt (depth fs) 64) e
+  wants_ends fs ns ms (A_prefix o) e = go (nat_lt (depth fs) 64) e
     where
       go : (b : Bool) → cond b (Goes (Wants (Prefix o ∷ fs) ns)) (Fails 3) ≡ Ends ms → ⊥
       go true h = cc

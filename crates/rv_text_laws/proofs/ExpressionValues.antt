@@ -6,7 +6,7 @@ use Rattle.rv_text_laws.specs.Expression.{Primary, Tree, Leaf, Unary, Paren, Bin
 use Rattle.rv_text_laws.specs.Values.{Meaning, Value, value_of, after_nodes, most_values, nodes_fit}
 use Rattle.rv_text_laws.proofs.Expressions.{level_small, lt_true}
 
--- the nodes of a tree, and further ones behind them
+-- the nodes of a tree, and further ones after them
 pub values_after : (m : Primary → Meaning) (t : Tree) (ns : List Node) (vs : List Value) → after_nodes m (postfix t ++ ns) vs ≡ after_nodes m ns (value_of m t ∷ vs)
 values_after m (Leaf p) ns vs = refl
 values_after m (Unary o x) ns vs =

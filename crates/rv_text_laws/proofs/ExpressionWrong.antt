@@ -2,12 +2,12 @@
 
 use Rattle.std.proofs.Common.{◌≡◌, ℕ, ◌≤◌, Bool, true, false, List, [], ◌∷◌, ◌++◌, append_assoc, Some, None, Ok, Err, refl, sym, ◌∙◌, ap, subst, arith, ◌⊎◌, inl, inr}
 use Rattle.std.proofs.lemmas.List.{append-nil, append_cancel_right}
-use Rattle.rv_text_laws.specs.declared.sign.Sign.TheVariants.{Close}
+use Rattle.rv_text_laws.specs.declared.punct.Punct.TheVariants.{Close}
 use Rattle.rv_text_laws.specs.declared.operator.Frame.{Frame}
 use Rattle.rv_text_laws.specs.declared.operator.Frame.TheVariants.{Parenthesis, Prefix, Infix}
-use Rattle.rv_text_laws.specs.Grammar.{Kind, Mark, Number, End}
+use Rattle.rv_text_laws.specs.Grammar.{Kind, Punctuation, Number, End}
 use Rattle.rv_text_laws.specs.Lexing.{Token, is_last, ended}
-use Rattle.rv_text_laws.specs.Wrong.{Wrong, wrong, Read}
+use Rattle.rv_text_laws.specs.SyntaxError.{SyntaxError, wrong, Read}
 use Rattle.rv_text_laws.specs.Expression.{Literal, Tree, level_of, follows, A_closing, Nothing_more, SpellsTree, IsAt, nesting, deepest, Node, Primary_node, Unary_node, Binary_node, postfix, EndsBefore, ReadsTree}
 use Rattle.rv_text_laws.specs.ExpressionAt.{Stage, Wants, Has, settle, Step, Goes, Ends, Fails, step, step_has, close, end, unclosed, read_from, expression_at, after_tokens, FailsAt, EndsAt, code_from, code_in_expression}
 use Rattle.rv_text_laws.proofs.Expressions.{le_true, goes, ends, fails, expression_is, taken_no_last}
@@ -23,10 +23,10 @@ ended_behind [] t more = refl
 ended_behind (x ∷ []) t more = refl
 ended_behind (x ∷ y ∷ ys) t more = ended_behind (y ∷ ys) t more
 
-no_both : (x : List Node × List Token) (w : Wrong) → ◌≡◌ {A = Read (List Node)} (Ok x) (Err w) → ⊥
+no_both : (x : List Node × List Token) (w : SyntaxError) → ◌≡◌ {A = Read (List Node)} (Ok x) (Err w) → ⊥
 no_both x w e = cc
 
-same_wrong : (v w : Wrong) → ◌≡◌ {A = Read (List Node)} (Err v) (Err w) → v ≡ w
+same_wrong : (v w : SyntaxError) → ◌≡◌ {A = Read (List Node)} (Err v) (Err w) → v ≡ w
 same_wrong v w e = cc
 
 -- a literal, a closing parenthesis and the end, wherever they stand
@@ -36,7 +36,7 @@ placed k = record { kind = k; start = 0; stop = 0; line = 0 }
 -- what makes what is read so far an expression: a closing parenthesis for each open one
 closings : List Frame → List Token
 closings [] = []
-closings (Parenthesis ∷ fs) = placed (Mark Close) ∷ closings fs
+closings (Parenthesis ∷ fs) = placed (Punctuation Close) ∷ closings fs
 closings (Prefix o ∷ fs) = closings fs
 closings (Infix o ∷ fs) = closings fs
 
@@ -51,7 +51,7 @@ Settles t = (follows t.kind ≡ A_closing) ⊎ (follows t.kind ≡ Nothing_more)
 some_close : (fs : List Frame) → (t : Token) × (ts : List Token) × (closings fs ++ placed End ∷ [] ≡ t ∷ ts) × Settles t
 unfolding closings placed Settles
 some_close [] = (placed End, [], refl, inr refl)
-some_close (Parenthesis ∷ fs) = (placed (Mark Close), closings fs ++ placed End ∷ [], refl, inl refl)
+some_close (Parenthesis ∷ fs) = (placed (Punctuation Close), closings fs ++ placed End ∷ [], refl, inl refl)
 some_close (Prefix o ∷ fs) = some_close fs
 some_close (Infix o ∷ fs) = some_close fs
 
@@ -112,7 +112,7 @@ module _ (r : List ℕ → Bool) where
       let same : front ++ finish s ≡ reads.tokens = append_cancel_right (front ++ finish s) reads.tokens (placed End ∷ []) (append_assoc front (finish s) (placed End ∷ []) ∙ reads.whole) in
       (finish s, found.0, subst (SpellsTree r found.0) (sym same) reads.spelled, reads.ordered, reads.within)
 
-  -- the reading is wrong at that token, whatever stands behind it
+  -- the reading is wrong at that token, whatever stands after it
   pub fails_there : (front : List Token) (at : Token) (code : ℕ) (more : List Token) → FailsAt r front at code → expression_at r (front ++ at ∷ more) ≡ Err (wrong at code)
   unfolding expression_at
   fails_there front at code more f = onward front (at ∷ more) (Wants [] []) f.stage f.taken ∙ fails r f.stage code at more f.fails
@@ -162,7 +162,7 @@ module _ (r : List ℕ → Bool) where
       → code_from r next s (t ∷ front) at ≡ code_from r next u front at
   code_first next s u t front at e = rw (e, code_from) refl
 
-  -- the code behind tokens that are taken is that of the stage which they lead to
+  -- the code after tokens that are taken is that of the stage which they lead to
   code_onward : (next : List Token → Token → ℕ) (front us : List Token) (at : Token) (s u : Stage) → after_tokens r s front ≡ Some u
       → code_from r next s (front ++ us) at ≡ code_from r next u us at
   code_onward next [] us at s u e = let same : s ≡ u = cc in ap (λ (v : Stage). code_from r next v us at) same
@@ -185,7 +185,7 @@ module _ (r : List ℕ → Bool) where
       → code_from r next s (t ∷ ts) at ≡ next (t ∷ ts) at
   code_ended_before next s t ts at ns e = rw (e, code_from) refl
 
-  -- the code of the token at which the reading is wrong, of the one behind the expression, and of a later one
+  -- the code of the token at which the reading is wrong, of the one after the expression, and of a later one
   pub code_there : (next : List Token → Token → ℕ) (front : List Token) (at : Token) (code : ℕ) → FailsAt r front at code → code_in_expression r next front at ≡ code
   unfolding code_in_expression
   code_there next front at code f =
@@ -204,7 +204,7 @@ module _ (r : List ℕ → Bool) where
   code_later next front t nodes ts at f = code_onward next front (t ∷ ts) at (Wants [] []) f.stage f.taken ∙ code_ended_before next f.stage t ts at nodes f.ends
 
   -- where a reading from a stage on is wrong
-  record WrongFrom (s : Stage) (ts : List Token) (w : Wrong) : Type 0 where
+  record WrongFrom (s : Stage) (ts : List Token) (w : SyntaxError) : Type 0 where
     pub front : List Token
     pub at : Token
     pub more : List Token
@@ -215,7 +215,7 @@ module _ (r : List ℕ → Bool) where
     pub fails : step r stage at.kind ≡ Fails code
     pub is : w ≡ wrong at code
 
-  wrong_from : (ts : List Token) (s : Stage) (w : Wrong) → ended ts ≡ true → read_from r s ts ≡ Err w → WrongFrom s ts w
+  wrong_from : (ts : List Token) (s : Stage) (w : SyntaxError) → ended ts ≡ true → read_from r s ts ≡ Err w → WrongFrom s ts w
   wrong_from [] s w end e = absurd (cc)
   wrong_from (t ∷ ts) s w end e = go (step r s t.kind) refl (λ (u : Stage). wrong_from ts u w)
     where
@@ -248,7 +248,7 @@ module _ (r : List ℕ → Bool) where
           }
 
   -- a reading is wrong at a token
-  pub wrong_at : (ts : List Token) (w : Wrong) → ended ts ≡ true → expression_at r ts ≡ Err w
+  pub wrong_at : (ts : List Token) (w : SyntaxError) → ended ts ≡ true → expression_at r ts ≡ Err w
       → (front : List Token) × (at : Token) × (more : List Token) × (code : ℕ) × (ts ≡ front ++ at ∷ more) × FailsAt r front at code × (w ≡ wrong at code)
   unfolding expression_at
   wrong_at ts w end e =

@@ -10,7 +10,7 @@ use Rattle.rv_text_laws.specs.Grammar.{Kind, Bad_byte, Bad_token, End}
 use Rattle.rv_text_laws.specs.Lexing.{Token, is_last}
 use Rattle.rv_text_laws.specs.Expression.{Tree, Leaf, Unary, Paren, Binary, level_of, begins, follows, No_operand, Nothing_more, SpellsTree, IsAt, nesting, deepest, Node, Primary_node, Unary_node, Binary_node, postfix, EndsBefore, ReadsTree}
 use Rattle.rv_text_laws.specs.ExpressionAt.{Stage, Wants, Has, depth, settle, Goes, Ends, Fails, step, step_wants, step_has, end, unclosed, read_from, expression_at}
-use Rattle.rv_text_laws.specs.Wrong.{wrong}
+use Rattle.rv_text_laws.specs.SyntaxError.{wrong}
 
 pub level_small : (o : BinaryOperator) → level_of o < 3
 level_small Multiply = omega arith

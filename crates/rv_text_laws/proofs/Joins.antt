@@ -7,11 +7,11 @@ use Rattle.std.proofs.lemmas.List.{append-nil}
 use Rattle.std.proofs.lemmas.Option.{some_pair_parts}
 use Rattle.std.proofs.lemmas.Bool.Decides.{nat_tests}
 use Rattle.std.proofs.Math.Seq.{take-append_seam, drop-append_seam}
-use Rattle.rv_text_laws.specs.declared.sign.Sign.TheVariants.{Minus}
-use Rattle.rv_text_laws.specs.Grammar.{Kind, Spells, Name, Number, Reference, Bad_word, Mark, Bad_byte, Bad_token, End}
+use Rattle.rv_text_laws.specs.declared.punct.Punct.TheVariants.{Minus}
+use Rattle.rv_text_laws.specs.Grammar.{Kind, Spells, Name, Number, Reference, Bad_word, Punctuation, Bad_byte, Bad_token, End}
 use Rattle.rv_text_laws.specs.Lexing.{Token, is_last}
 use Rattle.rv_text_laws.specs.Front.{tokens_from}
-use Rattle.rv_text_laws.specs.Joined.{bytes_of, AreBehind, IsJoined, ReadsJoined, joins, joined_behind, first_name, joined_at}
+use Rattle.rv_text_laws.specs.Joined.{bytes_of, AreAfter, IsJoined, ReadsJoined, joins, joined_after, first_name, joined_at}
 use Rattle.rv_text_laws.proofs.TokenTexts.{first_stands}
 
 -- a token that goes on with a name is not the last, and its bytes are its text
@@ -29,84 +29,84 @@ text_is (Name name) bytes text e s = s.0 ∙ same_some name bytes e
 text_is (Number word number) bytes text e s = s.0 ∙ same_some word bytes e
 text_is (Reference digits forward) bytes text e s = s.1.0 ∙ same_some _ bytes e
 text_is (Bad_word word) bytes text e s = s.0 ∙ same_some word bytes e
-text_is (Mark Minus) bytes text e s = s ∙ same_some _ bytes e
+text_is (Punctuation Minus) bytes text e s = s ∙ same_some _ bytes e
 text_is _ bytes text e s = absurd (cc)
 
 same_place : (a b : ℕ) → a ≡ b → (a == b) ≡ true
 same_place a b e = grind (arith, nat_tests)
 
--- a token stands at the place and goes on with a name, where it joins
-pub joined_parts : (place : ℕ) (t : Token) (bytes : List ℕ) → joins place t ≡ Some bytes → (t.start ≡ place) × (bytes_of t.kind ≡ Some bytes)
-joined_parts place t bytes e = go (t.start == place) refl e
+-- a token stands at the offset and goes on with a name, where it joins
+pub joined_parts : (offset : ℕ) (t : Token) (bytes : List ℕ) → joins offset t ≡ Some bytes → (t.start ≡ offset) × (bytes_of t.kind ≡ Some bytes)
+joined_parts offset t bytes e = go (t.start == offset) refl e
   where
-    go : (b : Bool) → (t.start == place) ≡ b → cond b (bytes_of t.kind) None ≡ Some bytes → (t.start ≡ place) × (bytes_of t.kind ≡ Some bytes)
-    go true is e = (eqb-true t.start place is, e)
+    go : (b : Bool) → (t.start == offset) ≡ b → cond b (bytes_of t.kind) None ≡ Some bytes → (t.start ≡ offset) × (bytes_of t.kind ≡ Some bytes)
+    go true is e = (eqb-true t.start offset is, e)
     go false is e = absurd (cc)
 
-pub parts_join : (place : ℕ) (t : Token) (bytes : List ℕ) → t.start ≡ place → bytes_of t.kind ≡ Some bytes → joins place t ≡ Some bytes
-parts_join place t bytes at e = ap (λ (b : Bool). cond b (bytes_of t.kind) None) (same_place t.start place at) ∙ e
+pub parts_join : (offset : ℕ) (t : Token) (bytes : List ℕ) → t.start ≡ offset → bytes_of t.kind ≡ Some bytes → joins offset t ≡ Some bytes
+parts_join offset t bytes at e = ap (λ (b : Bool). cond b (bytes_of t.kind) None) (same_place t.start offset at) ∙ e
 
 -- one token
-behind_more : (place : ℕ) (t : Token) (ts : List Token) (bytes : List ℕ) → joins place t ≡ Some bytes
-    → joined_behind place (t ∷ ts) ≡ (bytes ++ (joined_behind t.stop ts).0, (joined_behind t.stop ts).1)
-behind_more place t ts bytes e = rw (e, joined_behind) refl
+behind_more : (offset : ℕ) (t : Token) (ts : List Token) (bytes : List ℕ) → joins offset t ≡ Some bytes
+    → joined_after offset (t ∷ ts) ≡ (bytes ++ (joined_after t.stop ts).0, (joined_after t.stop ts).1)
+behind_more offset t ts bytes e = rw (e, joined_after) refl
 
-behind_none : (place : ℕ) (t : Token) (ts : List Token) → joins place t ≡ None → joined_behind place (t ∷ ts) ≡ ([], t ∷ ts)
-behind_none place t ts e = rw (e, joined_behind) refl
+behind_none : (offset : ℕ) (t : Token) (ts : List Token) → joins offset t ≡ None → joined_after offset (t ∷ ts) ≡ ([], t ∷ ts)
+behind_none offset t ts e = rw (e, joined_after) refl
 
 -- what is spelled is answered
-behind_is : (place : ℕ) (ts rest : List Token) (bytes : List ℕ) → AreBehind place ts bytes
-    → ((t : Token) (us : List Token) (longer : List ℕ) → rest ≡ t ∷ us → AreBehind place (ts ++ t ∷ []) longer → ⊥)
-    → joined_behind place (ts ++ rest) ≡ (bytes, rest)
-behind_is place [] [] bytes none longest = ap (λ (l : List ℕ). (l, [])) (sym none)
-behind_is place [] (t ∷ us) bytes none longest = go (joins place t) refl
+behind_is : (offset : ℕ) (ts rest : List Token) (bytes : List ℕ) → AreAfter offset ts bytes
+    → ((t : Token) (us : List Token) (longer : List ℕ) → rest ≡ t ∷ us → AreAfter offset (ts ++ t ∷ []) longer → ⊥)
+    → joined_after offset (ts ++ rest) ≡ (bytes, rest)
+behind_is offset [] [] bytes none longest = ap (λ (l : List ℕ). (l, [])) (sym none)
+behind_is offset [] (t ∷ us) bytes none longest = go (joins offset t) refl
   where
-    go : (o : Option (List ℕ)) → joins place t ≡ o → joined_behind place (t ∷ us) ≡ (bytes, t ∷ us)
-    go None e = behind_none place t us e ∙ ap (λ (l : List ℕ). (l, t ∷ us)) (sym none)
-    go (Some b) e = let j = joined_parts place t b e in absurd (longest t us b refl (j.0, b, [], j.1, sym (append-nil b), refl))
-behind_is place (t ∷ ts) rest bytes (at, first, more, is, whole, behind) longest =
-    behind_more place t (ts ++ rest) first (parts_join place t first at is)
+    go : (o : Option (List ℕ)) → joins offset t ≡ o → joined_after offset (t ∷ us) ≡ (bytes, t ∷ us)
+    go None e = behind_none offset t us e ∙ ap (λ (l : List ℕ). (l, t ∷ us)) (sym none)
+    go (Some b) e = let j = joined_parts offset t b e in absurd (longest t us b refl (j.0, b, [], j.1, sym (append-nil b), refl))
+behind_is offset (t ∷ ts) rest bytes (at, first, more, is, whole, behind) longest =
+    behind_more offset t (ts ++ rest) first (parts_join offset t first at is)
     ∙ ap (λ (r : List ℕ × List Token). (first ++ r.0, r.1))
     (behind_is t.stop ts rest more behind (λ u us longer e h. longest u us (first ++ longer) e (at, first, longer, is, refl, h)))
     ∙ ap (λ (l : List ℕ). (l, rest)) (sym whole)
 
 -- what is answered is spelled
-record Behind (place : ℕ) (ts : List Token) (bytes : List ℕ) (rest : List Token) : Type 0 where
+record Behind (offset : ℕ) (ts : List Token) (bytes : List ℕ) (rest : List Token) : Type 0 where
   pub tokens : List Token
   pub whole : ts ≡ tokens ++ rest
-  pub behind : AreBehind place tokens bytes
-  pub longest : (t : Token) (us : List Token) (longer : List ℕ) → rest ≡ t ∷ us → AreBehind place (tokens ++ t ∷ []) longer → ⊥
+  pub behind : AreAfter offset tokens bytes
+  pub longest : (t : Token) (us : List Token) (longer : List ℕ) → rest ≡ t ∷ us → AreAfter offset (tokens ++ t ∷ []) longer → ⊥
 
-behind_found : (place : ℕ) (ts : List Token) → Behind place ts (joined_behind place ts).0 (joined_behind place ts).1
-behind_found place [] = record { tokens = []; whole = refl; behind = refl; longest = λ t us longer e h. no_token t us e }
+behind_found : (offset : ℕ) (ts : List Token) → Behind offset ts (joined_after offset ts).0 (joined_after offset ts).1
+behind_found offset [] = record { tokens = []; whole = refl; behind = refl; longest = λ t us longer e h. no_token t us e }
   where
     no_token : (t : Token) (us : List Token) → ◌≡◌ {A = List Token} [] (t ∷ us) → ⊥
     no_token t us e = cc
-behind_found place (t ∷ ts) = go (joins place t) refl (behind_found t.stop ts)
+behind_found offset (t ∷ ts) = go (joins offset t) refl (behind_found t.stop ts)
   where
     Found : List ℕ × List Token → Type 0
-    Found r = Behind place (t ∷ ts) r.0 r.1
+    Found r = Behind offset (t ∷ ts) r.0 r.1
 
-    go : (o : Option (List ℕ)) → joins place t ≡ o → Behind t.stop ts (joined_behind t.stop ts).0 (joined_behind t.stop ts).1 → Found (joined_behind place (t ∷ ts))
-    go None e f = subst Found (sym (behind_none place t ts e)) (record { tokens = []; whole = refl; behind = refl; longest = no_more })
+    go : (o : Option (List ℕ)) → joins offset t ≡ o → Behind t.stop ts (joined_after t.stop ts).0 (joined_after t.stop ts).1 → Found (joined_after offset (t ∷ ts))
+    go None e f = subst Found (sym (behind_none offset t ts e)) (record { tokens = []; whole = refl; behind = refl; longest = no_more })
       where
-        no_more : (u : Token) (us : List Token) (longer : List ℕ) → t ∷ ts ≡ u ∷ us → AreBehind place (u ∷ []) longer → ⊥
+        no_more : (u : Token) (us : List Token) (longer : List ℕ) → t ∷ ts ≡ u ∷ us → AreAfter offset (u ∷ []) longer → ⊥
         no_more u us longer w (at, first, rest, is, whole, behind) =
             let same : t ≡ u = cc in
-            let some : joins place t ≡ Some first = ap (joins place) same ∙ parts_join place u first at is in
+            let some : joins offset t ≡ Some first = ap (joins offset) same ∙ parts_join offset u first at is in
             absurd (cc)
     go (Some b) e f =
-        let j = joined_parts place t b e in
-        subst Found (sym (behind_more place t ts b e)) (record {
+        let j = joined_parts offset t b e in
+        subst Found (sym (behind_more offset t ts b e)) (record {
           tokens = t ∷ f.tokens;
           whole = ap (λ (l : List Token). t ∷ l) f.whole;
-          behind = (j.0, b, (joined_behind t.stop ts).0, j.1, refl, f.behind);
+          behind = (j.0, b, (joined_after t.stop ts).0, j.1, refl, f.behind);
           longest = λ u us longer w h. f.longest u us h.2 w h.5;
         })
 
 -- a name and what goes on with it
 after_first : Token → List Token → List ℕ → List ℕ × List Token
-after_first t ts name = let after = joined_behind t.stop ts in (name ++ after.0, after.1)
+after_first t ts name = let after = joined_after t.stop ts in (name ++ after.0, after.1)
 
 first_is : (k : Kind) (name : List ℕ) → first_name k ≡ Some name → k ≡ Name name
 first_is (Name n) name e = ap Name (same_some n name e)
@@ -114,11 +114,11 @@ first_is _ name e = absurd (cc)
 
 joined_first : (t : Token) (ts : List Token) (name : List ℕ) → t.kind ≡ Name name → joined_at (t ∷ ts) ≡ Some (after_first t ts name)
 unfolding joined_at after_first
-joined_first t ts name e = ap (λ (k : Kind). option_map (λ n. let after = joined_behind t.stop ts in (n ++ after.0, after.1)) (first_name k)) e
+joined_first t ts name e = ap (λ (k : Kind). option_map (λ n. let after = joined_after t.stop ts in (n ++ after.0, after.1)) (first_name k)) e
 
 joined_none : (t : Token) (ts : List Token) → first_name t.kind ≡ None → joined_at (t ∷ ts) ≡ None
 unfolding joined_at
-joined_none t ts e = ap (λ (o : Option (List ℕ)). option_map (λ n. let after = joined_behind t.stop ts in (n ++ after.0, after.1)) o) e
+joined_none t ts e = ap (λ (o : Option (List ℕ)). option_map (λ n. let after = joined_after t.stop ts in (n ++ after.0, after.1)) o) e
 
 pub no_name : (t : Token) (ts : List Token) → ((name : List ℕ) → t.kind ≡ Name name → ⊥) → joined_at (t ∷ ts) ≡ None
 no_name t ts other = go (first_name t.kind) refl
@@ -142,13 +142,13 @@ named (t ∷ ts) rest name (first, more, is, whole, behind) longest =
 pub joined_is : (ts : List Token) (name : List ℕ) (rest : List Token) → ReadsJoined ts name rest → joined_at ts ≡ Some (name, rest)
 joined_is ts name rest reads = ap joined_at reads.whole ∙ named reads.tokens rest name reads.joined reads.longest
 
-reads_named : (t : Token) (ts : List Token) (first : List ℕ) → t.kind ≡ Name first → ReadsJoined (t ∷ ts) (first ++ (joined_behind t.stop ts).0) (joined_behind t.stop ts).1
+reads_named : (t : Token) (ts : List Token) (first : List ℕ) → t.kind ≡ Name first → ReadsJoined (t ∷ ts) (first ++ (joined_after t.stop ts).0) (joined_after t.stop ts).1
 reads_named t ts first is =
     let f = behind_found t.stop ts in
     record {
       tokens = t ∷ f.tokens;
       whole = ap (λ (l : List Token). t ∷ l) f.whole;
-      joined = (first, (joined_behind t.stop ts).0, is, refl, f.behind);
+      joined = (first, (joined_after t.stop ts).0, is, refl, f.behind);
       longest = λ u us longer e h. f.longest u us h.1 e h.4;
     }
 
@@ -167,11 +167,11 @@ joined_found (t ∷ ts) name rest e = go (first_name t.kind) refl
     go : (o : Option (List ℕ)) → first_name t.kind ≡ o → ReadsJoined (t ∷ ts) name rest
     go None none = absurd (none_there name rest (sym (joined_none t ts none) ∙ e))
     go (Some first) is =
-        let p = some_pair_parts (first ++ (joined_behind t.stop ts).0) name (joined_behind t.stop ts).1 rest (sym (joined_first t ts first (first_is t.kind first is)) ∙ e) in
+        let p = some_pair_parts (first ++ (joined_after t.stop ts).0) name (joined_after t.stop ts).1 rest (sym (joined_first t ts first (first_is t.kind first is)) ∙ e) in
         subst (λ (n : List ℕ). ReadsJoined (t ∷ ts) n rest) p.0
-        (subst (λ (us : List Token). ReadsJoined (t ∷ ts) (first ++ (joined_behind t.stop ts).0) us) p.1 (reads_named t ts first (first_is t.kind first is)))
+        (subst (λ (us : List Token). ReadsJoined (t ∷ ts) (first ++ (joined_after t.stop ts).0) us) p.1 (reads_named t ts first (first_is t.kind first is)))
 
--- a name so far: from `start` to `stop` in the bytes from this place on, before the tokens `ts`
+-- a name so far: from `start` to `stop` in the bytes from this offset on, before the tokens `ts`
 pub record Joining (at : ℕ) (bytes : List ℕ) (all : List Token) (start stop : ℕ) (ts : List Token) : Type 0 where
   pub name : List ℕ
   pub gap : List ℕ
@@ -181,7 +181,7 @@ pub record Joining (at : ℕ) (bytes : List ℕ) (all : List Token) (start stop 
   pub from : start ≡ at + length gap
   pub to : stop ≡ start + length name
   pub behind : ts ≡ tokens_from stop line after
-  pub so_far : joined_at all ≡ Some (name ++ (joined_behind stop ts).0, (joined_behind stop ts).1)
+  pub so_far : joined_at all ≡ Some (name ++ (joined_after stop ts).0, (joined_after stop ts).1)
 
 -- its first token
 pub joining_first : (at line : ℕ) (bytes : List ℕ) (t : Token) (ts : List Token) (first : List ℕ) → tokens_from at line bytes ≡ t ∷ ts → t.kind ≡ Name first
@@ -226,7 +226,7 @@ joining_more at bytes all start stop t ts more j e =
       behind = s.behind;
       so_far =
           j.so_far ∙ ap (λ (r : List ℕ × List Token). Some (j.name ++ r.0, r.1)) (behind_more stop t ts more e)
-          ∙ ap (λ (l : List ℕ). Some (l, (joined_behind t.stop ts).1)) (sym (append_assoc j.name more (joined_behind t.stop ts).0));
+          ∙ ap (λ (l : List ℕ). Some (l, (joined_after t.stop ts).1)) (sym (append_assoc j.name more (joined_after t.stop ts).0));
     }
 
 -- the name is a part of the bytes

@@ -4,7 +4,7 @@ pub mod Atoms
 pub mod Numbers
 pub mod Classes
 pub mod Comments
-pub mod Pieces
+pub mod Lexemes
 pub mod Tokens
 pub mod Expressions
 pub mod ExpressionFound

@@ -6,12 +6,12 @@ use Rattle.rv_text_laws.specs.declared.class.Class.TheVariants.{Letter, Digit, B
 use Rattle.rv_text_laws.specs.Bytes.{class}
 use Rattle.rv_text_laws.specs.Grammar.{Kind, Spells, Stops}
 use Rattle.rv_text_laws.specs.Lexing.{Token, newlines, is_gap, is_last, bad, last_kind}
-use Rattle.rv_text_laws.specs.Front.{piece_at, tokens_from}
+use Rattle.rv_text_laws.specs.Front.{lexeme_at, tokens_from}
 use Rattle.rv_text_laws.proofs.Cut.{Front, front}
-use Rattle.rv_text_laws.proofs.Pieces.{pieces}
+use Rattle.rv_text_laws.proofs.Lexemes.{lexemes}
 use Rattle.rv_text_laws.proofs.Tokens.{tokens_more, tokens_stop}
 
--- the token stands in the bytes from this place on, behind a gap, and these are the tokens behind it
+-- the token stands in the bytes from this place on, after a gap, and these are the tokens after it
 pub record StandsIn (at : ℕ) (bytes : List ℕ) (t : Token) (ts : List Token) : Type 0 where
   pub gap : List ℕ
   pub text : List ℕ
@@ -28,7 +28,7 @@ bad_is_last Letter = refl
 bad_is_last Digit = refl
 bad_is_last Blank = refl
 bad_is_last LineEnd = refl
-bad_is_last (Single sign) = refl
+bad_is_last (Single punct) = refl
 bad_is_last HashByte = refl
 bad_is_last SlashByte = refl
 bad_is_last QuoteByte = refl
@@ -60,17 +60,17 @@ behind_gap at bytes text rest t ts whole s = record {
   behind = s.behind;
 }
 
--- where no piece stands, the token is the last
-no_piece : (at line : ℕ) (bytes : List ℕ) (t : Token) (ts : List Token) → piece_at bytes ≡ None → tokens_from at line bytes ≡ t ∷ ts → is_last t.kind ≡ false → ⊥
-no_piece at line bytes t ts none e on =
+-- where no lexeme stands, the token is the last
+no_lexeme : (at line : ℕ) (bytes : List ℕ) (t : Token) (ts : List Token) → lexeme_at bytes ≡ None → tokens_from at line bytes ≡ t ∷ ts → is_last t.kind ≡ false → ⊥
+no_lexeme at line bytes t ts none e on =
     let last : Token = record { kind = last_kind bytes; start = at; stop = at; line = line } in
     let same : last ≡ t = (heads last t [] ts (sym (tokens_stop at line bytes none) ∙ e)).0 in
     let ends : is_last t.kind ≡ true = ap (λ (u : Token). is_last u.kind) (sym same) ∙ last_is_last bytes in
     absurd (cc)
 
-a_piece : (at line : ℕ) (bytes : List ℕ) (k : Kind) (n : ℕ) (t : Token) (ts : List Token) → Front Kind ℕ Spells Stops bytes k n
+a_lexeme : (at line : ℕ) (bytes : List ℕ) (k : Kind) (n : ℕ) (t : Token) (ts : List Token) → Front Kind ℕ Spells Stops bytes k n
     → record { kind = k; start = at; stop = at + n; line = line } ∷ tokens_from (at + n) (line + newlines (take n bytes)) (drop n bytes) ≡ t ∷ ts → StandsIn at bytes t ts
-a_piece at line bytes k n t ts f e =
+a_lexeme at line bytes k n t ts f e =
     let p : Token = record { kind = k; start = at; stop = at + n; line = line } in
     let more = tokens_from (at + n) (line + newlines (take n bytes)) (drop n bytes) in
     let same = heads p t more ts e in
@@ -91,29 +91,29 @@ a_piece at line bytes k n t ts f e =
 stands_in : (room at line : ℕ) (bytes : List ℕ) (t : Token) (ts : List Token) → length bytes < room → tokens_from at line bytes ≡ t ∷ ts → is_last t.kind ≡ false
     → StandsIn at bytes t ts
 stands_in zero at line bytes t ts lt e on = absurd (omega (arith, lt))
-stands_in (suc room) at line bytes t ts lt e on = go (piece_at bytes) refl (λ n l. stands_in room (at + n) l (drop n bytes) t ts)
+stands_in (suc room) at line bytes t ts lt e on = go (lexeme_at bytes) refl (λ n l. stands_in room (at + n) l (drop n bytes) t ts)
   where
-    piece : (k : Kind) (n : ℕ) → piece_at bytes ≡ Some (k, n)
+    lexeme : (k : Kind) (n : ℕ) → lexeme_at bytes ≡ Some (k, n)
         → ((n l : ℕ) → length (drop n bytes) < room → tokens_from (at + n) l (drop n bytes) ≡ t ∷ ts → is_last t.kind ≡ false → StandsIn (at + n) (drop n bytes) t ts)
         → (b : Bool) → is_gap k ≡ b → StandsIn at bytes t ts
-    piece k n is further true gap =
-        let f = front pieces bytes k n is in
+    lexeme k n is further true gap =
+        let f = front lexemes bytes k n is in
         let fits : length (drop n bytes) < room = omega (arith, lt, f.some, f.is_length, ap length f.whole, length-append (take n bytes) (drop n bytes)) in
         let more = tokens_from (at + n) (line + newlines (take n bytes)) (drop n bytes) in
         let same : more ≡ t ∷ ts =
         ap (λ g. cond g more (record { kind = k; start = at; stop = at + n; line = line } ∷ more)) (sym gap) ∙ sym (tokens_more at line bytes k n is) ∙ e in
         behind_gap at bytes (take n bytes) (drop n bytes) t ts f.whole
         (subst (λ m. StandsIn (at + m) (drop n bytes) t ts) (sym f.is_length) (further n (line + newlines (take n bytes)) fits same on))
-    piece k n is further false gap =
+    lexeme k n is further false gap =
         let more = tokens_from (at + n) (line + newlines (take n bytes)) (drop n bytes) in
-        a_piece at line bytes k n t ts (front pieces bytes k n is)
+        a_lexeme at line bytes k n t ts (front lexemes bytes k n is)
         (ap (λ g. cond g more (record { kind = k; start = at; stop = at + n; line = line } ∷ more)) (sym gap) ∙ sym (tokens_more at line bytes k n is) ∙ e)
 
-    go : (o : Option (Kind × ℕ)) → piece_at bytes ≡ o
+    go : (o : Option (Kind × ℕ)) → lexeme_at bytes ≡ o
         → ((n l : ℕ) → length (drop n bytes) < room → tokens_from (at + n) l (drop n bytes) ≡ t ∷ ts → is_last t.kind ≡ false → StandsIn (at + n) (drop n bytes) t ts)
         → StandsIn at bytes t ts
-    go None none further = absurd (no_piece at line bytes t ts none e on)
-    go (Some (k, n)) is further = piece k n is further (is_gap k) refl
+    go None none further = absurd (no_lexeme at line bytes t ts none e on)
+    go (Some (k, n)) is further = lexeme k n is further (is_gap k) refl
 
 -- the first of the tokens of bytes stands in them
 pub first_stands : (at line : ℕ) (bytes : List ℕ) (t : Token) (ts : List Token) → tokens_from at line bytes ≡ t ∷ ts → is_last t.kind ≡ false → StandsIn at bytes t ts

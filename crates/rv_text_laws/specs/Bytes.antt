@@ -2,8 +2,8 @@
 -- "Constants").
 
 use Rattle.std.specs.Prelude.{ℕ, ◌+◌, ◌-◌, ◌*◌, ◌^◌, Bool, ◌&&◌, ◌||◌, nat_le, nat_lt, ◌==◌, if◌then◌else◌, List, [], ◌∷◌, length, codes}
-use Rattle.rv_text_laws.specs.declared.sign.Sign.{Sign}
-use Rattle.rv_text_laws.specs.declared.sign.Sign.TheVariants.{Comma, Colon, Semicolon, Open, Close, Plus, Minus, Star, Slash, Percent, ShiftLeft, ShiftRight, Bar, Ampersand, Caret, Tilde, At, Equal, NotEqual, LessGreater, Less, Greater, LessEqual, GreaterEqual, DoubleSlash}
+use Rattle.rv_text_laws.specs.declared.punct.Punct.{Punct}
+use Rattle.rv_text_laws.specs.declared.punct.Punct.TheVariants.{Comma, Colon, Semicolon, Open, Close, Plus, Minus, Star, Slash, Percent, ShiftLeft, ShiftRight, Bar, Ampersand, Caret, Tilde, At, Equal, NotEqual, LessGreater, Less, Greater, LessEqual, GreaterEqual, DoubleSlash}
 use Rattle.rv_text_laws.specs.declared.class.Class.{Class}
 use Rattle.rv_text_laws.specs.declared.class.Class.TheVariants.{Letter, Digit, Blank, LineEnd, Single, HashByte, SlashByte, QuoteByte, ApostropheByte, LessByte, GreaterByte, EqualByte, BangByte, Odd, Foreign}
 
@@ -27,7 +27,7 @@ is_word b = is_letter b || is_decimal b
 abbrev pub in_line : ℕ → Bool
 in_line b = if b == 10 then Bool.false else Bool.true
 
--- the sign that a byte alone is, where no other begins with it; else what the byte begins
+-- the punctuation that a byte alone is, where no other begins with it; else what the byte begins
 unfoldable pub class : ℕ → Class
 class b =
     if is_letter b then Letter else
@@ -58,8 +58,8 @@ class b =
     if b == 33 then BangByte else
     if between 32 126 b then Odd else Foreign
 
--- how each sign is spelled
-abbrev pub spelling : Sign → List ℕ
+-- how punctuation is spelled
+abbrev pub spelling : Punct → List ℕ
 spelling Comma = codes ","
 spelling Colon = codes ":"
 spelling Semicolon = codes ";"

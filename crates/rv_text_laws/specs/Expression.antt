@@ -3,21 +3,22 @@
 
 use Rattle.std.specs.Prelude.{◌≡◌, ℕ, suc, ◌≤◌, max, Bool, nat_le, List, [], ◌∷◌, ◌++◌, length, codes, ◌⊎◌, if◌then◌else◌}
 use Rattle.std.specs.Str.{bytes_eq}
-use Rattle.rv_text_laws.specs.declared.sign.Sign.{Sign}
-use Rattle.rv_text_laws.specs.declared.sign.Sign.TheVariants as signs
+use Rattle.rv_text_laws.specs.declared.punct.Punct.{Punct}
+use Rattle.rv_text_laws.specs.declared.punct.Punct.TheVariants as puncts
 use Rattle.rv_text_laws.specs.declared.operator.UnaryOperator.{UnaryOperator}
 use Rattle.rv_text_laws.specs.declared.operator.UnaryOperator.TheVariants.{Negate, Complement, Keep}
 use Rattle.rv_text_laws.specs.declared.operator.BinaryOperator.{BinaryOperator}
 use Rattle.rv_text_laws.specs.declared.operator.BinaryOperator.TheVariants.{Multiply, Divide, Remainder, ShiftLeft, ShiftRight, Or, And, ExclusiveOr, Add, Subtract}
-use Rattle.rv_text_laws.specs.Grammar.{Kind, Mark, Name, Number, Reference as ReferenceToken, Bad_word, Text, Character, Bad_byte, Bad_token}
+use Rattle.rv_text_laws.specs.Grammar.{Kind, Punctuation, Name, Number, Reference as ReferenceToken, Bad_word, Text, Character, Bad_byte, Bad_token}
 use Rattle.rv_text_laws.specs.Lexing.{Token}
-use Rattle.rv_text_laws.specs.Wrong.{longest_name, limit}
+use Rattle.rv_text_laws.specs.Codes.{bad_byte, bad_token, bad_operands, unsupported_here, limit}
+use Rattle.rv_text_laws.specs.SyntaxError.{longest_name}
 
 -- what stands in an expression without an operator
 pub data Primary : Type 0 where
   Literal : (number : ℕ) → Primary
   Symbol : (name : List ℕ) → Primary
-  -- `.`, the place of the statement
+  -- `.`, the address of the statement
   Here : Primary
   -- `1b` or `1f`, by its digits
   Reference : (digits : List ℕ) (forward : Bool) → Primary
@@ -42,39 +43,39 @@ level_of ExclusiveOr = 1
 level_of Add = 0
 level_of Subtract = 0
 
--- what a token is where an operand is wanted; a token that is none has the number of its refusal
+-- what a token is where an operand is wanted; a token that is none has the code of its fault
 pub data Begin : Type 0 where
   A_primary : (primary : Primary) → Begin
-  A_sign : (operator : UnaryOperator) → Begin
+  A_prefix : (operator : UnaryOperator) → Begin
   An_opening : Begin
   No_operand : (code : ℕ) → Begin
 
 -- a name: `.`, a symbol, or no operand where it spells a register or is too long
 abbrev pub named_operand : (List ℕ → Bool) → List ℕ → Begin
 named_operand is_register name =
-    if is_register name then No_operand 7 else
+    if is_register name then No_operand bad_operands else
     if bytes_eq name (codes ".") then A_primary Here else
     if nat_le (length name) longest_name then A_primary (Symbol name) else No_operand limit
 
-abbrev pub sign_begins : Sign → Begin
-sign_begins signs.Minus = A_sign Negate
-sign_begins signs.Tilde = A_sign Complement
-sign_begins signs.Plus = A_sign Keep
-sign_begins signs.Open = An_opening
-sign_begins signs.DoubleSlash = No_operand 9
-sign_begins _ = No_operand 7
+abbrev pub punct_begins : Punct → Begin
+punct_begins puncts.Minus = A_prefix Negate
+punct_begins puncts.Tilde = A_prefix Complement
+punct_begins puncts.Plus = A_prefix Keep
+punct_begins puncts.Open = An_opening
+punct_begins puncts.DoubleSlash = No_operand unsupported_here
+punct_begins _ = No_operand bad_operands
 
 abbrev pub begins : (List ℕ → Bool) → Kind → Begin
 begins is_register (Number word number) = A_primary (Literal number)
 begins is_register (Character byte) = A_primary (Literal byte)
 begins is_register (Name name) = named_operand is_register name
 begins is_register (ReferenceToken digits forward) = A_primary (Reference digits forward)
-begins is_register (Mark sign) = sign_begins sign
-begins is_register (Text bytes) = No_operand 9
-begins is_register Bad_byte = No_operand 1
-begins is_register Bad_token = No_operand 2
-begins is_register (Bad_word word) = No_operand 2
-begins is_register _ = No_operand 7
+begins is_register (Punctuation punct) = punct_begins punct
+begins is_register (Text bytes) = No_operand unsupported_here
+begins is_register Bad_byte = No_operand bad_byte
+begins is_register Bad_token = No_operand bad_token
+begins is_register (Bad_word word) = No_operand bad_token
+begins is_register _ = No_operand bad_operands
 
 -- what a token is after an operand
 pub data Follow : Type 0 where
@@ -84,35 +85,35 @@ pub data Follow : Type 0 where
   A_comparison : Follow
   Nothing_more : Follow
 
-abbrev pub sign_follows : Sign → Follow
-sign_follows signs.Star = An_operator Multiply
-sign_follows signs.Slash = An_operator Divide
-sign_follows signs.Percent = An_operator Remainder
-sign_follows signs.ShiftLeft = An_operator ShiftLeft
-sign_follows signs.ShiftRight = An_operator ShiftRight
-sign_follows signs.Bar = An_operator Or
-sign_follows signs.Ampersand = An_operator And
-sign_follows signs.Caret = An_operator ExclusiveOr
-sign_follows signs.Plus = An_operator Add
-sign_follows signs.Minus = An_operator Subtract
-sign_follows signs.Close = A_closing
-sign_follows signs.Equal = A_comparison
-sign_follows signs.NotEqual = A_comparison
-sign_follows signs.LessGreater = A_comparison
-sign_follows signs.Less = A_comparison
-sign_follows signs.Greater = A_comparison
-sign_follows signs.LessEqual = A_comparison
-sign_follows signs.GreaterEqual = A_comparison
-sign_follows _ = Nothing_more
+abbrev pub punct_follows : Punct → Follow
+punct_follows puncts.Star = An_operator Multiply
+punct_follows puncts.Slash = An_operator Divide
+punct_follows puncts.Percent = An_operator Remainder
+punct_follows puncts.ShiftLeft = An_operator ShiftLeft
+punct_follows puncts.ShiftRight = An_operator ShiftRight
+punct_follows puncts.Bar = An_operator Or
+punct_follows puncts.Ampersand = An_operator And
+punct_follows puncts.Caret = An_operator ExclusiveOr
+punct_follows puncts.Plus = An_operator Add
+punct_follows puncts.Minus = An_operator Subtract
+punct_follows puncts.Close = A_closing
+punct_follows puncts.Equal = A_comparison
+punct_follows puncts.NotEqual = A_comparison
+punct_follows puncts.LessGreater = A_comparison
+punct_follows puncts.Less = A_comparison
+punct_follows puncts.Greater = A_comparison
+punct_follows puncts.LessEqual = A_comparison
+punct_follows puncts.GreaterEqual = A_comparison
+punct_follows _ = Nothing_more
 
 abbrev pub follows : Kind → Follow
-follows (Mark sign) = sign_follows sign
+follows (Punctuation punct) = punct_follows punct
 follows _ = Nothing_more
 
 -- the tokens spell the tree
 abbrev pub SpellsTree : (List ℕ → Bool) → Tree → List Token → Type 0
 SpellsTree is_register (Leaf p) ts = (t : Token) × (ts ≡ t ∷ []) × (begins is_register t.kind ≡ A_primary p)
-SpellsTree is_register (Unary o x) ts = (t : Token) × (us : List Token) × (ts ≡ t ∷ us) × (begins is_register t.kind ≡ A_sign o) × SpellsTree is_register x us
+SpellsTree is_register (Unary o x) ts = (t : Token) × (us : List Token) × (ts ≡ t ∷ us) × (begins is_register t.kind ≡ A_prefix o) × SpellsTree is_register x us
 SpellsTree is_register (Paren x) ts =
     (t u : Token) × (us : List Token) × (ts ≡ t ∷ (us ++ u ∷ [])) × (begins is_register t.kind ≡ An_opening) × (follows u.kind ≡ A_closing) × SpellsTree is_register x us
 SpellsTree is_register (Binary o x y) ts =
@@ -163,7 +164,7 @@ pub record ReadsTree (is_register : List ℕ → Bool) (ts : List Token) (tree :
   pub within : nesting tree ≤ deepest
   pub ends : EndsBefore rest
 
--- the expressions behind a node, the last one first; nothing changes where an operand is missing
+-- the expressions after a node, the last one first; nothing changes where an operand is missing
 abbrev pub built_by : Node → List Tree → List Tree
 built_by (Primary_node p) xs = Leaf p ∷ xs
 built_by (Unary_node o) [] = []
@@ -172,7 +173,7 @@ built_by (Binary_node o) [] = []
 built_by (Binary_node o) (y ∷ []) = y ∷ []
 built_by (Binary_node o) (y ∷ x ∷ xs) = Binary o x y ∷ xs
 
--- the expressions behind nodes
+-- the expressions after nodes
 abbrev pub built : List Node → List Tree → List Tree
 built [] xs = xs
 built (n ∷ ns) xs = built ns (built_by n xs)

@@ -1,15 +1,16 @@
 -- The expression at the front of tokens, going over them once: where an expression stands there, its nodes and the tokens
--- behind it (`expression_is`, `expression_found`: the definitions of Expression leave room for one); else the first token
+-- after it (`expression_is`, `expression_found`: the definitions of Expression leave room for one); else the first token
 -- with which no expression goes on, with its code (`taken_goes_on`, `wrong_token`).
 
 use Rattle.std.specs.Prelude.{◌≡◌, ℕ, suc, Bool, true, false, nat_le, nat_lt, List, [], ◌∷◌, ◌++◌, Option, Some, None, Ok, Err, if◌then◌else◌}
-use Rattle.rv_text_laws.specs.declared.sign.Sign.TheVariants.{DoubleSlash}
+use Rattle.rv_text_laws.specs.declared.punct.Punct.TheVariants.{DoubleSlash}
 use Rattle.rv_text_laws.specs.declared.operator.Frame.{Frame}
 use Rattle.rv_text_laws.specs.declared.operator.Frame.TheVariants.{Parenthesis, Prefix, Infix}
-use Rattle.rv_text_laws.specs.Grammar.{Kind, Mark, Bad_word, Bad_byte, Bad_token}
+use Rattle.rv_text_laws.specs.Grammar.{Kind, Punctuation, Bad_word, Bad_byte, Bad_token}
 use Rattle.rv_text_laws.specs.Lexing.{Token}
-use Rattle.rv_text_laws.specs.Wrong.{wrong, Read, nowhere}
-use Rattle.rv_text_laws.specs.Expression.{Begin, A_primary, A_sign, An_opening, No_operand, begins, Follow, An_operator, A_closing, A_comparison, Nothing_more, follows, level_of, deepest, Node, Primary_node, Unary_node, Binary_node}
+use Rattle.rv_text_laws.specs.Codes.{bad_byte, bad_token, nesting_too_deep, bad_operands, unsupported_here}
+use Rattle.rv_text_laws.specs.SyntaxError.{wrong, Read, nowhere}
+use Rattle.rv_text_laws.specs.Expression.{Begin, A_primary, A_prefix, An_opening, No_operand, begins, Follow, An_operator, A_closing, A_comparison, Nothing_more, follows, level_of, deepest, Node, Primary_node, Unary_node, Binary_node}
 
 -- what is read so far: what waits for an operand, the last one first, and the nodes; and whether an operand comes next
 pub data Stage : Type 0 where
@@ -27,7 +28,7 @@ abbrev pub depth : List Frame → ℕ
 depth [] = 0
 depth (f ∷ fs) = if nests f then suc (depth fs) else depth fs
 
--- whether an operator takes the operand behind it before an operator of this level does
+-- whether an operator takes the operand after it before an operator of this level does
 abbrev pub binds : ℕ → Frame → Bool
 binds level Parenthesis = false
 binds level (Prefix o) = true
@@ -39,7 +40,7 @@ node_of Parenthesis = []
 node_of (Prefix o) = Unary_node o ∷ []
 node_of (Infix o) = Binary_node o ∷ []
 
--- the operators that take the operand behind them before one of this level does
+-- the operators that take the operand after them before one of this level does
 abbrev pub settle : ℕ → List Frame → List Node → List Frame × List Node
 settle level [] ns = ([], ns)
 settle level (f ∷ fs) ns = if binds level f then settle level fs (ns ++ node_of f) else (f ∷ fs, ns)
@@ -52,21 +53,21 @@ pub data Step : Type 0 where
 
 -- one level deeper, up to the limit
 abbrev pub deeper : Frame → List Frame → List Node → Step
-deeper f fs ns = if nat_lt (depth fs) deepest then Goes (Wants (f ∷ fs) ns) else Fails 3
+deeper f fs ns = if nat_lt (depth fs) deepest then Goes (Wants (f ∷ fs) ns) else Fails nesting_too_deep
 
 abbrev pub step_wants : List Frame → List Node → Begin → Step
 step_wants fs ns (A_primary p) = Goes (Has fs (ns ++ Primary_node p ∷ []))
-step_wants fs ns (A_sign o) = deeper (Prefix o) fs ns
+step_wants fs ns (A_prefix o) = deeper (Prefix o) fs ns
 step_wants fs ns An_opening = deeper Parenthesis fs ns
 step_wants fs ns (No_operand code) = Fails code
 
 -- the code of a token that stands where an open parenthesis wants its other
 abbrev pub unclosed : Kind → ℕ
-unclosed Bad_byte = 1
-unclosed Bad_token = 2
-unclosed (Bad_word word) = 2
-unclosed (Mark DoubleSlash) = 9
-unclosed _ = 7
+unclosed Bad_byte = bad_byte
+unclosed Bad_token = bad_token
+unclosed (Bad_word word) = bad_token
+unclosed (Punctuation DoubleSlash) = unsupported_here
+unclosed _ = bad_operands
 
 -- after a `)`: it closes the last open parenthesis, or belongs to no expression
 abbrev pub close : List Frame → List Node → Step
@@ -81,7 +82,7 @@ end code (f ∷ fs) ns = Fails code
 abbrev pub step_has : Kind → List Frame → List Node → Follow → Step
 step_has k fs ns (An_operator o) = let s = settle (level_of o) fs ns in Goes (Wants (Infix o ∷ s.0) s.1)
 step_has k fs ns A_closing = let s = settle 0 fs ns in close s.0 s.1
-step_has k fs ns A_comparison = Fails 9
+step_has k fs ns A_comparison = Fails unsupported_here
 step_has k fs ns Nothing_more = let s = settle 0 fs ns in end (unclosed k) s.0 s.1
 
 abbrev pub step : (List ℕ → Bool) → Stage → Kind → Step
@@ -101,7 +102,7 @@ read_from is_register s (t ∷ ts) = elim (step is_register s t.kind) [
 unfoldable pub expression_at : (List ℕ → Bool) → List Token → Read (List Node)
 expression_at is_register ts = read_from is_register (Wants [] []) ts
 
--- the stage behind tokens that are taken one after the other
+-- the stage after tokens that are taken one after the other
 abbrev pub after_tokens : (List ℕ → Bool) → Stage → List Token → Option Stage
 after_tokens is_register s [] = Some s
 after_tokens is_register s (t ∷ ts) = elim (step is_register s t.kind) [
@@ -110,19 +111,19 @@ after_tokens is_register s (t ∷ ts) = elim (step is_register s t.kind) [
   | Fails code ↦ None
 ]
 
--- the tokens are taken, and the one behind them is wrong with this code
+-- the tokens are taken, and the one after them is wrong with this code
 pub record FailsAt (is_register : List ℕ → Bool) (front : List Token) (at : Token) (code : ℕ) : Type 0 where
   pub stage : Stage
   pub taken : after_tokens is_register (Wants [] []) front ≡ Some stage
   pub fails : step is_register stage at.kind ≡ Fails code
 
--- the tokens are taken, and the expression of these nodes ends before the one behind them
+-- the tokens are taken, and the expression of these nodes ends before the one after them
 pub record EndsAt (is_register : List ℕ → Bool) (front : List Token) (at : Token) (nodes : List Node) : Type 0 where
   pub stage : Stage
   pub taken : after_tokens is_register (Wants [] []) front ≡ Some stage
   pub ends : step is_register stage at.kind ≡ Ends nodes
 
--- the code of the token `at` behind these tokens: that of the step at which the reading is wrong; behind the end of the
+-- the code of the token `at` after these tokens: that of the step at which the reading is wrong; after the end of the
 -- expression the one that `next` gives, by the tokens from there on; none where all are taken
 abbrev pub code_from : (List ℕ → Bool) → (List Token → Token → ℕ) → Stage → List Token → Token → ℕ
 code_from is_register next s [] at = elim (step is_register s at.kind) [

@@ -1,16 +1,16 @@
--- The piece at the front of bytes, by looking at them in order: the function that the definitions of Grammar leave
+-- The lexeme at the front of bytes, by looking at them in order: the function that the definitions of Grammar leave
 -- room for one of. The laws say that the two agree, so nothing rests on how this one goes.
 
 use Rattle.std.specs.Prelude.{ℕ, suc, ◌+◌, ◌^◌, Bool, true, false, ◌&&◌, ◌==◌, nat_lt, if◌then◌else◌, List, [], ◌∷◌, Option, Some, None, option_map, length, take, drop, map}
 use Rattle.std.specs.List.{list_all, prefix_len}
-use Rattle.rv_text_laws.specs.declared.sign.Sign.{Sign}
-use Rattle.rv_text_laws.specs.declared.sign.Sign.TheVariants.{Slash, ShiftLeft, ShiftRight, Equal, NotEqual, LessGreater, Less, Greater, LessEqual, GreaterEqual, DoubleSlash}
+use Rattle.rv_text_laws.specs.declared.punct.Punct.{Punct}
+use Rattle.rv_text_laws.specs.declared.punct.Punct.TheVariants.{Slash, ShiftLeft, ShiftRight, Equal, NotEqual, LessGreater, Less, Greater, LessEqual, GreaterEqual, DoubleSlash}
 use Rattle.rv_text_laws.specs.declared.class.Class.{Class}
 use Rattle.rv_text_laws.specs.declared.class.Class.TheVariants.{Letter, Digit, Blank, LineEnd, Single, HashByte, SlashByte, QuoteByte, ApostropheByte, LessByte, GreaterByte, EqualByte, BangByte, Odd, Foreign}
 use Rattle.rv_text_laws.specs.Cut.{Piece, texts, cut}
 use Rattle.rv_text_laws.specs.Bytes.{class, is_word, in_line, is_digit, value}
 use Rattle.rv_text_laws.specs.Strings.{Atom, Plain, Named, Octal, Hexadecimal, byte_of, named, is_plain, is_character}
-use Rattle.rv_text_laws.specs.Grammar.{Kind, Space, Line_comment, Block_comment, Newline, Mark, Name, Number, Reference, Bad_word, Text, Character}
+use Rattle.rv_text_laws.specs.Grammar.{Kind, Space, Line_comment, Block_comment, Newline, Punctuation, Name, Number, Reference, Bad_word, Text, Character}
 use Rattle.rv_text_laws.specs.Lexing.{Token, last_kind, is_gap, newlines}
 
 -- whether the list begins with this number
@@ -85,27 +85,27 @@ character_at (b ∷ bs) =
     if is_character b && begins 39 bs then Some (Character b, 3) else None
 
 abbrev pub after_slash : List ℕ → Option (Kind × ℕ)
-after_slash [] = Some (Mark Slash, 1)
+after_slash [] = Some (Punctuation Slash, 1)
 after_slash (c ∷ cs) =
-    if c == 47 then Some (Mark DoubleSlash, 2) else
-    if c == 42 then option_map (λ n. (Block_comment, suc (suc (suc (suc n))))) (close_at cs) else Some (Mark Slash, 1)
+    if c == 47 then Some (Punctuation DoubleSlash, 2) else
+    if c == 42 then option_map (λ n. (Block_comment, suc (suc (suc (suc n))))) (close_at cs) else Some (Punctuation Slash, 1)
 
 abbrev pub after_less : List ℕ → Option (Kind × ℕ)
-after_less [] = Some (Mark Less, 1)
+after_less [] = Some (Punctuation Less, 1)
 after_less (c ∷ cs) =
-    if c == 60 then Some (Mark ShiftLeft, 2) else
-    if c == 61 then Some (Mark LessEqual, 2) else
-    if c == 62 then Some (Mark LessGreater, 2) else Some (Mark Less, 1)
+    if c == 60 then Some (Punctuation ShiftLeft, 2) else
+    if c == 61 then Some (Punctuation LessEqual, 2) else
+    if c == 62 then Some (Punctuation LessGreater, 2) else Some (Punctuation Less, 1)
 
 abbrev pub after_greater : List ℕ → Option (Kind × ℕ)
-after_greater [] = Some (Mark Greater, 1)
+after_greater [] = Some (Punctuation Greater, 1)
 after_greater (c ∷ cs) =
-    if c == 62 then Some (Mark ShiftRight, 2) else
-    if c == 61 then Some (Mark GreaterEqual, 2) else Some (Mark Greater, 1)
+    if c == 62 then Some (Punctuation ShiftRight, 2) else
+    if c == 61 then Some (Punctuation GreaterEqual, 2) else Some (Punctuation Greater, 1)
 
--- the sign, where a `=` follows
-abbrev pub with_equal : Sign → List ℕ → Option (Kind × ℕ)
-with_equal sign bs = if begins 61 bs then Some (Mark sign, 2) else None
+-- this punctuation, where a `=` follows
+abbrev pub with_equal : Punct → List ℕ → Option (Kind × ℕ)
+with_equal punct bs = if begins 61 bs then Some (Punctuation punct, 2) else None
 
 abbrev pub name_at : ℕ → List ℕ → ℕ → Option (Kind × ℕ)
 name_at b bs n = Some (Name (b ∷ take n bs), suc n)
@@ -113,35 +113,35 @@ name_at b bs n = Some (Name (b ∷ take n bs), suc n)
 abbrev pub digits_at : List ℕ → ℕ → Option (Kind × ℕ)
 digits_at word n = Some (digits_kind word (reference_in word), suc n)
 
-abbrev pub piece_by : Class → ℕ → List ℕ → Option (Kind × ℕ)
-piece_by Letter b bs = name_at b bs (prefix_len is_word bs)
-piece_by Digit b bs = digits_at (b ∷ take (prefix_len is_word bs) bs) (prefix_len is_word bs)
-piece_by Blank b bs = Some (Space, 1)
-piece_by LineEnd b bs = Some (Newline, 1)
-piece_by (Single sign) b bs = Some (Mark sign, 1)
-piece_by HashByte b bs = Some (Line_comment, suc (prefix_len in_line bs))
-piece_by SlashByte b bs = after_slash bs
-piece_by QuoteByte b bs = closed_string (cut atom_at bs)
-piece_by ApostropheByte b bs = character_at bs
-piece_by LessByte b bs = after_less bs
-piece_by GreaterByte b bs = after_greater bs
-piece_by EqualByte b bs = with_equal Equal bs
-piece_by BangByte b bs = with_equal NotEqual bs
-piece_by Odd b bs = None
-piece_by Foreign b bs = None
+abbrev pub lexeme_by : Class → ℕ → List ℕ → Option (Kind × ℕ)
+lexeme_by Letter b bs = name_at b bs (prefix_len is_word bs)
+lexeme_by Digit b bs = digits_at (b ∷ take (prefix_len is_word bs) bs) (prefix_len is_word bs)
+lexeme_by Blank b bs = Some (Space, 1)
+lexeme_by LineEnd b bs = Some (Newline, 1)
+lexeme_by (Single punct) b bs = Some (Punctuation punct, 1)
+lexeme_by HashByte b bs = Some (Line_comment, suc (prefix_len in_line bs))
+lexeme_by SlashByte b bs = after_slash bs
+lexeme_by QuoteByte b bs = closed_string (cut atom_at bs)
+lexeme_by ApostropheByte b bs = character_at bs
+lexeme_by LessByte b bs = after_less bs
+lexeme_by GreaterByte b bs = after_greater bs
+lexeme_by EqualByte b bs = with_equal Equal bs
+lexeme_by BangByte b bs = with_equal NotEqual bs
+lexeme_by Odd b bs = None
+lexeme_by Foreign b bs = None
 
--- the piece at the front: its kind and its length
-unfoldable pub piece_at : List ℕ → Option (Kind × ℕ)
-piece_at [] = None
-piece_at (b ∷ bs) = piece_by (class b) b bs
+-- the lexeme at the front: its kind and its length
+unfoldable pub lexeme_at : List ℕ → Option (Kind × ℕ)
+lexeme_at [] = None
+lexeme_at (b ∷ bs) = lexeme_by (class b) b bs
 
--- the tokens of pieces and of the rest, from a place and a line on
+-- the tokens of lexemes and of the rest, from an offset and a line on
 abbrev pub tokens_at : ℕ → ℕ → List (Piece Kind ℕ) → List ℕ → List Token
 tokens_at at line [] rest = record { kind = last_kind rest; start = at; stop = at; line = line } ∷ []
 tokens_at at line (p ∷ ps) rest =
     let after = tokens_at (at + length p.text) (line + newlines p.text) ps rest in
     if is_gap p.kind then after else record { kind = p.kind; start = at; stop = at + length p.text; line = line } ∷ after
 
--- the tokens of bytes that stand at a place, on a line
+-- the tokens of bytes that stand at an offset, on a line
 unfoldable pub tokens_from : ℕ → ℕ → List ℕ → List Token
-tokens_from at line bytes = let pieces = cut piece_at bytes in tokens_at at line pieces.0 pieces.1
+tokens_from at line bytes = let lexemes = cut lexeme_at bytes in tokens_at at line lexemes.0 lexemes.1

@@ -1,9 +1,9 @@
--- The pieces of a source: blanks and comments, and the tokens (Assembly Programmer's Manual; GNU as, "Syntax").
+-- The lexemes of a source: blanks and comments, and the tokens (Assembly Programmer's Manual; GNU as, "Syntax").
 
 use Rattle.std.specs.Prelude.{◌≡◌, ℕ, ◌^◌, ◌<◌, Bool, true, false, ◌||◌, ◌==◌, List, [], ◌∷◌, ◌++◌, map, ◌⊎◌, if◌then◌else◌}
 use Rattle.std.specs.List.{list_all}
-use Rattle.rv_text_laws.specs.declared.sign.Sign.{Sign}
-use Rattle.rv_text_laws.specs.declared.sign.Sign.TheVariants.{Slash, Less, Greater}
+use Rattle.rv_text_laws.specs.declared.punct.Punct.{Punct}
+use Rattle.rv_text_laws.specs.declared.punct.Punct.TheVariants.{Slash, Less, Greater}
 use Rattle.rv_text_laws.specs.declared.class.Class.{Class}
 use Rattle.rv_text_laws.specs.declared.class.Class.TheVariants.{Letter, Digit, Blank}
 use Rattle.rv_text_laws.specs.Cut.{Piece, texts, Each}
@@ -19,7 +19,7 @@ pub data Kind : Type 0 where
   Block_comment : Kind
   -- a line feed, which ends its line
   Newline : Kind
-  Mark : (sign : Sign) → Kind
+  Punctuation : (punct : Punct) → Kind
   -- a mnemonic, a register, a directive, a symbol; `.` alone too
   Name : (name : List ℕ) → Kind
   -- a number as it is written, and its value
@@ -75,7 +75,7 @@ Spells Space text = (b : ℕ) × (text ≡ b ∷ []) × (class b ≡ Blank)
 Spells Line_comment text = (inside : List ℕ) × (text ≡ 35 ∷ inside) × (list_all in_line inside ≡ true)
 Spells Block_comment text = (inside : List ℕ) × (text ≡ 47 ∷ 42 ∷ (inside ++ 42 ∷ 47 ∷ [])) × NoClose (inside ++ 42 ∷ [])
 Spells Newline text = text ≡ 10 ∷ []
-Spells (Mark sign) text = text ≡ spelling sign
+Spells (Punctuation punct) text = text ≡ spelling punct
 Spells (Name name) text = (text ≡ name) × IsWord Letter text
 Spells (Number word number) text = (text ≡ word) × IsWord Digit text × IsNumber text number
 Spells (Reference digits forward) text = IsWord Digit text × IsReference text digits forward
@@ -87,19 +87,19 @@ Spells Bad_byte text = ⊥
 Spells Bad_token text = ⊥
 Spells End text = ⊥
 
--- which next byte would make a piece longer
+-- which next byte would make a lexeme longer
 abbrev pub goes_on : Kind → ℕ → Bool
 goes_on Line_comment b = in_line b
-goes_on (Mark Slash) b = (b == 42) || (b == 47)
-goes_on (Mark Less) b = (b == 60) || (b == 61) || (b == 62)
-goes_on (Mark Greater) b = (b == 61) || (b == 62)
+goes_on (Punctuation Slash) b = (b == 42) || (b == 47)
+goes_on (Punctuation Less) b = (b == 60) || (b == 61) || (b == 62)
+goes_on (Punctuation Greater) b = (b == 61) || (b == 62)
 goes_on (Name name) b = is_word b
 goes_on (Number word number) b = is_word b
 goes_on (Reference digits forward) b = is_word b
 goes_on (Bad_word word) b = is_word b
 goes_on _ b = false
 
--- a piece is as long as it can be
+-- a lexeme is as long as it can be
 abbrev pub Stops : Kind → List ℕ → Type 0
 Stops k [] = Unit {0}
 Stops k (b ∷ bs) = goes_on k b ≡ false

@@ -1,4 +1,4 @@
--- The tokens of a source, with their places: its pieces but for blanks and comments.
+-- The tokens of a source, with their offsets: its lexemes but for blanks and comments.
 
 use Rattle.std.specs.Prelude.{◌≡◌, ℕ, ◌+◌, Bool, true, false, ◌==◌, if◌then◌else◌, List, [], ◌∷◌, ◌++◌, length}
 use Rattle.rv_text_laws.specs.declared.class.Class.{Class}
@@ -7,7 +7,7 @@ use Rattle.rv_text_laws.specs.Cut.{Piece, texts, Cuts, NothingReads}
 use Rattle.rv_text_laws.specs.Bytes.{class}
 use Rattle.rv_text_laws.specs.Grammar.{Kind, Space, Line_comment, Block_comment, Bad_byte, Bad_token, End, Spells, Stops}
 
--- a token: what it is, the places of its first byte and of the byte after it (from 0), its first byte's line (from 1)
+-- a token: what it is, the offsets of its first byte and of the byte after it (from 0), its first byte's line (from 1)
 pub record Token : Type 0 where
   pub kind : Kind
   pub start : ℕ
@@ -19,7 +19,7 @@ abbrev pub newlines : List ℕ → ℕ
 newlines [] = 0
 newlines (b ∷ bs) = (if b == 10 then 1 else 0) + newlines bs
 
--- a piece's token, after these bytes
+-- a lexeme's token, after these bytes
 abbrev pub placed : List ℕ → Piece Kind ℕ → Token
 placed before p = record { kind = p.kind; start = length before; stop = length before + length p.text; line = 1 + newlines before }
 
@@ -30,17 +30,17 @@ is_gap Line_comment = true
 is_gap Block_comment = true
 is_gap _ = false
 
--- the tokens of pieces that stand after these bytes
+-- the tokens of lexemes that stand after these bytes
 abbrev pub tokens_of : List ℕ → List (Piece Kind ℕ) → List Token
 tokens_of before [] = []
 tokens_of before (p ∷ ps) = if is_gap p.kind then tokens_of (before ++ p.text) ps else placed before p ∷ tokens_of (before ++ p.text) ps
 
--- a byte of this class where no piece can stand: bytes that are never good apart from the others
+-- a byte of this class where no lexeme can stand: bytes that are never good apart from the others
 abbrev pub bad : Class → Kind
 bad Foreign = Bad_byte
 bad _ = Bad_token
 
--- the kind of the last token: what stands where no piece can
+-- the kind of the last token: what stands where no lexeme can
 abbrev pub last_kind : List ℕ → Kind
 last_kind [] = End
 last_kind (b ∷ bs) = bad (class b)
@@ -62,7 +62,7 @@ ended (t ∷ u ∷ ts) = ended (u ∷ ts)
 abbrev pub last : List ℕ → List ℕ → Token
 last before rest = placed before (record { kind = last_kind rest; text = [] })
 
--- the bytes are cut as far as pieces go
+-- the bytes are cut as far as lexemes go
 abbrev pub CutInto : List ℕ → List (Piece Kind ℕ) → List ℕ → Type 0
 CutInto bytes ps rest = Cuts Kind ℕ Spells Stops bytes ps rest × NothingReads Spells Stops rest
 

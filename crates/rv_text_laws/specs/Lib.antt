@@ -1,9 +1,10 @@
+pub mod Codes
 pub mod Cut
 pub mod Bytes
 pub mod Strings
 pub mod Grammar
 pub mod Lexing
-pub mod Wrong
+pub mod SyntaxError
 pub mod Front
 pub mod Expression
 pub mod ExpressionAt

@@ -6,21 +6,22 @@ use Rattle.rv_text_laws.specs.declared.operator.UnaryOperator.{UnaryOperator}
 use Rattle.rv_text_laws.specs.declared.operator.UnaryOperator.TheVariants.{Negate, Complement, Keep}
 use Rattle.rv_text_laws.specs.declared.operator.BinaryOperator.{BinaryOperator}
 use Rattle.rv_text_laws.specs.declared.operator.BinaryOperator.TheVariants.{Multiply, Divide, Remainder, ShiftLeft, ShiftRight, Or, And, ExclusiveOr, Add, Subtract}
+use Rattle.rv_text_laws.specs.Codes.{division_by_zero, shift_too_large, not_constant}
 use Rattle.rv_text_laws.specs.Expression.{Primary, Literal, Tree, Leaf, Unary, Paren, Binary, Node, Primary_node, Unary_node, Binary_node}
 
 -- what a name, `.` or a reference means where it stands
 pub data Meaning : Type 0 where
   -- a number below 2 ^ 64
   Known : (number : ℕ) → Meaning
-  -- a place in a section whose places keep their distances
-  Placed : (section offset : ℕ) → Meaning
+  -- an offset in a section whose statements keep their distances
+  InSection : (section offset : ℕ) → Meaning
   -- an address that is not known yet
   Open : Meaning
-  -- no meaning, with the number of its refusal: 12 or 13
+  -- no meaning, with its fault's code: `undefined_local` or `not_constant`
   Refused : (code : ℕ) → Meaning
 
 -- a value: a constant below 2 ^ 64, alone, with a symbol (and what that means), or with a difference of two; or the
--- number of a refusal
+-- code of a fault
 pub data Value : Type 0 where
   Constant : (number : ℕ) → Value
   Symbolic : (symbol : Primary) (at : Meaning) (plus : ℕ) → Value
@@ -33,43 +34,39 @@ add a b = (a + b) % 2 ^ 64
 abbrev pub subtract : ℕ → ℕ → ℕ
 subtract a b = (a + (2 ^ 64 - b)) % 2 ^ 64
 
--- not a constant where one is wanted
-abbrev pub not_constant : ℕ
-not_constant = 13
-
 -- an operator on two constants: `/` and `%` truncate and take signed numbers, `>>` is logical
 abbrev pub arithmetic : BinaryOperator → ℕ → ℕ → Value
 arithmetic Multiply a b = Constant ((a * b) % 2 ^ 64)
-arithmetic Divide a b = if b == 0 then Faulty 4 else Constant (cast_unsigned w64 (int_wrapping_div w64 (cast_signed w64 a) (cast_signed w64 b)))
-arithmetic Remainder a b = if b == 0 then Faulty 4 else Constant (cast_unsigned w64 (int_rem (cast_signed w64 a) (cast_signed w64 b)))
-arithmetic ShiftLeft a b = if nat_lt b 64 then Constant ((a * 2 ^ b) % 2 ^ 64) else Faulty 5
-arithmetic ShiftRight a b = if nat_lt b 64 then Constant (a / 2 ^ b) else Faulty 5
+arithmetic Divide a b = if b == 0 then Faulty division_by_zero else Constant (cast_unsigned w64 (int_wrapping_div w64 (cast_signed w64 a) (cast_signed w64 b)))
+arithmetic Remainder a b = if b == 0 then Faulty division_by_zero else Constant (cast_unsigned w64 (int_rem (cast_signed w64 a) (cast_signed w64 b)))
+arithmetic ShiftLeft a b = if nat_lt b 64 then Constant ((a * 2 ^ b) % 2 ^ 64) else Faulty shift_too_large
+arithmetic ShiftRight a b = if nat_lt b 64 then Constant (a / 2 ^ b) else Faulty shift_too_large
 arithmetic Or a b = Constant (bit_or a b)
 arithmetic And a b = Constant (bit_and a b)
 arithmetic ExclusiveOr a b = Constant (bit_xor a b)
 arithmetic Add a b = Constant (add a b)
 arithmetic Subtract a b = Constant (subtract a b)
 
--- the refusal of an operator by its right operand, where the left one is no constant
-abbrev pub refusal : BinaryOperator → ℕ → ℕ
-refusal Divide b = if b == 0 then 4 else not_constant
-refusal Remainder b = if b == 0 then 4 else not_constant
-refusal ShiftLeft b = if nat_lt b 64 then not_constant else 5
-refusal ShiftRight b = if nat_lt b 64 then not_constant else 5
-refusal _ b = not_constant
+-- the fault of an operator by its right operand, where the left one is no constant
+abbrev pub operand_fault : BinaryOperator → ℕ → ℕ
+operand_fault Divide b = if b == 0 then division_by_zero else not_constant
+operand_fault Remainder b = if b == 0 then division_by_zero else not_constant
+operand_fault ShiftLeft b = if nat_lt b 64 then not_constant else shift_too_large
+operand_fault ShiftRight b = if nat_lt b 64 then not_constant else shift_too_large
+operand_fault _ b = not_constant
 
--- an operator on values of which one is no constant; of several refusals the lowest counts
+-- an operator on values of which one is no constant; of several faults the lowest counts
 abbrev pub refused : BinaryOperator → Value → Value → Value
 refused o (Faulty c) (Faulty d) = Faulty (min c d)
-refused o (Faulty c) (Constant b) = Faulty (min c (refusal o b))
+refused o (Faulty c) (Constant b) = Faulty (min c (operand_fault o b))
 refused o (Faulty c) _ = Faulty c
 refused o _ (Faulty d) = Faulty d
-refused o _ (Constant b) = Faulty (refusal o b)
+refused o _ (Constant b) = Faulty (operand_fault o b)
 refused o _ _ = Faulty not_constant
 
--- the difference of two places in one section is a constant
+-- the difference of two symbols in one section is a constant
 abbrev pub apart : Meaning → Meaning → Primary → Primary → ℕ → Value
-apart (Placed s a) (Placed t b) p q plus = if s == t then Constant (add plus (subtract a b)) else Difference p q plus
+apart (InSection s a) (InSection t b) p q plus = if s == t then Constant (add plus (subtract a b)) else Difference p q plus
 apart _ _ p q plus = Difference p q plus
 
 abbrev pub sum : Value → Value → Value
@@ -120,7 +117,7 @@ value_of m (Unary o x) = alone o (value_of m x)
 value_of m (Paren x) = value_of m x
 value_of m (Binary o x y) = both o (value_of m x) (value_of m y)
 
--- the values behind a node, the last one first
+-- the values after a node, the last one first
 abbrev pub after_node : (Primary → Meaning) → Node → List Value → List Value
 after_node m (Primary_node p) vs = primary_value m p ∷ vs
 after_node m (Unary_node o) [] = []
@@ -143,7 +140,7 @@ node_fits (Primary_node p) count = nat_lt count most_values
 node_fits (Unary_node o) count = nat_lt 0 count
 node_fits (Binary_node o) count = nat_lt 1 count
 
--- how many values there are behind a node
+-- how many values there are after a node
 abbrev pub count_after : Node → ℕ → ℕ
 count_after (Primary_node p) count = count + 1
 count_after (Unary_node o) count = count

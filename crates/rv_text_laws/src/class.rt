@@ -1,8 +1,8 @@
 //! The classes of bytes.
 
-use crate::sign::Sign;
+use crate::punct::Punct;
 
-/// What a byte begins, where a piece of a source may begin.
+/// What a byte begins, where a lexeme of a source may begin.
 #[derive(Clone, Copy, Debug, PartialEq, Eq, Drop)]
 pub enum Class {
     /// A letter, `_`, `.` or `$`: begins a name.
@@ -13,8 +13,8 @@ pub enum Class {
     Blank,
     /// A line feed.
     LineEnd,
-    /// A sign of one byte that begins no other.
-    Single(Sign),
+    /// Punctuation of one byte that begins no other.
+    Single(Punct),
     /// `#`
     HashByte,
     /// `/`

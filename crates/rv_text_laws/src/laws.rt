@@ -3,15 +3,15 @@
 ghost use Rattle.std.specs.Prelude.{◌≡◌, ℕ, ◌≤◌, Bool, true, List, [], ◌∷◌, ◌++◌, Some};
 ghost use Rattle.rv_text_laws.specs.Grammar.{Kind, Spells, Stops};
 ghost use Rattle.rv_text_laws.specs.Lexing.{Token, Lexes, ended};
-ghost use Rattle.rv_text_laws.specs.Wrong.{Wrong, wrong};
+ghost use Rattle.rv_text_laws.specs.SyntaxError.{SyntaxError, wrong};
 ghost use Rattle.rv_text_laws.specs.Front.{tokens_from};
 ghost use Rattle.rv_text_laws.specs.Expression.{Primary, Tree, Node, IsAt, nesting, deepest, postfix, SpellsTree, ReadsTree, tree_of, bare};
 ghost use Rattle.rv_text_laws.specs.Values.{Meaning, Value, value_of, after_nodes, nodes_fit};
 ghost use Rattle.rv_text_laws.specs.Joined.{ReadsJoined, joined_at};
 ghost use Rattle.rv_text_laws.specs.ExpressionAt.{Stage, Wants, after_tokens, expression_at, FailsAt, EndsAt};
 
-/// At most one piece stands at the front of bytes, and it has one kind.
-pub fn one_piece()
+/// At most one lexeme stands at the front of bytes, and it has one kind.
+pub fn one_lexeme()
     ensures { (j k : Kind) (text other rest after : List ℕ) → Spells j text → Stops j rest → Spells k other → Stops k after
         → text ++ rest ≡ other ++ after → (j ≡ k) × (text ≡ other) }
 {}
@@ -74,13 +74,13 @@ pub fn taken_goes_on()
 pub fn wrong_token()
     ensures is { (is_register : List ℕ → Bool) (front : List Token) (at : Token) (code : ℕ) (more : List Token) → FailsAt is_register front at code
         → expression_at is_register (front ++ at ∷ more) ≡ Err (wrong at code) }
-    ensures found { (is_register : List ℕ → Bool) (ts : List Token) (w : Wrong) → ended ts ≡ true → expression_at is_register ts ≡ Err w
+    ensures found { (is_register : List ℕ → Bool) (ts : List Token) (w : SyntaxError) → ended ts ≡ true → expression_at is_register ts ≡ Err w
         → (front : List Token) × (at : Token) × (more : List Token) × (code : ℕ) × (ts ≡ front ++ at ∷ more) × FailsAt is_register front at code × (w ≡ wrong at code) }
     ensures stops { (is_register : List ℕ → Bool) (front : List Token) (at : Token) (code : ℕ) (more : List Token) → FailsAt is_register front at code
         → (tree : Tree) → SpellsTree is_register tree (front ++ at ∷ more) → IsAt 0 tree → nesting tree ≤ deepest → ⊥ }
 {}
 
-/// A reading ends behind the tokens of an expression, whatever it is that stands behind the token that ends it.
+/// A reading ends after the tokens of an expression, whatever it is that stands after the token that ends it.
 pub fn expression_end()
     ensures is { (is_register : List ℕ → Bool) (front : List Token) (at : Token) (nodes : List Node) (more : List Token) → EndsAt is_register front at nodes
         → expression_at is_register (front ++ at ∷ more) ≡ Ok (nodes, at ∷ more) }

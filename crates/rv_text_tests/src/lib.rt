@@ -1,5 +1,5 @@
 //! Expressions of GNU as against `parse_expr` and `eval`: each operator beside each other, wrap-around, literals; and
-//! the refusals, each at its line.
+//! the faults, each at its line.
 //!
 //! The values were made by `riscv64-unknown-elf-as` (GNU Binutils 2.40): a `.dword` for each expression.
 #![tactic(auto)]

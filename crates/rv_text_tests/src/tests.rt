@@ -1,5 +1,5 @@
 use rv_text::{
-    Cursor, Lexer, Meaning, Registers, Sign, SourceFault, Symbol, TokenKind, Value, append_string,
+    Cursor, Lexer, Meaning, Punct, Registers, SourceFault, Symbol, TokenKind, Value, append_string,
     eval, parse_expr,
 };
 use std::alloc::Global;
@@ -226,13 +226,13 @@ impl Registers for OneRegister {
     }
 }
 
-/// What the names of the tests mean: `p` and `q` are places in one section, `r` is one in another.
+/// What the names of the tests mean: `p` and `q` stand in one section, `r` in another.
 fn meaning(symbol: Symbol<'_>) -> Meaning {
     match symbol {
         Symbol::Name(b"four") => Meaning::Constant(4),
-        Symbol::Name(b"p") => Meaning::Place(1, 16),
-        Symbol::Name(b"q") => Meaning::Place(1, 4),
-        Symbol::Name(b"r") => Meaning::Place(2, 8),
+        Symbol::Name(b"p") => Meaning::InSection(1, 16),
+        Symbol::Name(b"q") => Meaning::InSection(1, 4),
+        Symbol::Name(b"r") => Meaning::InSection(2, 8),
         Symbol::Name(b"late") => Meaning::NotConstant,
         Symbol::Backward(b"9") => Meaning::UndefinedLocal,
         _ => Meaning::Open,
@@ -261,7 +261,7 @@ fn compare(rt: &impl Abort, alloc: Global, table: &[u8]) {
             return;
         }
         let found = constant(alloc, &mut lexer);
-        assert!(rt; lexer.next().kind == TokenKind::Mark(Sign::Comma));
+        assert!(rt; lexer.next().kind == TokenKind::Punct(Punct::Comma));
         let wanted = constant(alloc, &mut lexer);
         assert!(rt; found.is_some() && found == wanted);
     }
@@ -275,8 +275,8 @@ fn values_of_gnu_as(rt: HostRuntime) {
     compare(&rt, rt.alloc(), CHAINS.as_bytes());
 }
 
-/// The code and the line of the text's refusal; 0 and 0 where it has a value or memory ran out.
-fn refusal(alloc: Global, text: &[u8]) -> (u8, u32) {
+/// The code and the line of the text's fault; 0 and 0 where it has a value or memory ran out.
+fn fault_of(alloc: Global, text: &[u8]) -> (u8, u32) {
     if text.len() > 65536 {
         return (0, 0);
     }
@@ -323,7 +323,7 @@ fn texts_that_are_no_expressions(rt: HostRuntime) {
         (b"18446744073709551616", 2, 1),
     ];
     for (text, code, line) in cases {
-        assert!(&rt; refusal(rt.alloc(), text) == (code, line));
+        assert!(&rt; fault_of(rt.alloc(), text) == (code, line));
     }
 }
 
@@ -342,11 +342,11 @@ fn the_limits_of_nesting_and_names(rt: HostRuntime) -> Result<(), Fail> {
     let mut lexer = Lexer::new(text.as_slice());
     assert!(&rt; constant(alloc, &mut lexer) == Some(1));
     text.insert(0, b'~')?;
-    assert!(&rt; refusal(alloc, text.as_slice()) == (3, 1));
+    assert!(&rt; fault_of(alloc, text.as_slice()) == (3, 1));
     let mut name = vec![in alloc; b'n'; 4095]?;
-    assert!(&rt; refusal(alloc, name.as_slice()) == (0, 0));
+    assert!(&rt; fault_of(alloc, name.as_slice()) == (0, 0));
     name.push(b'n')?;
-    assert!(&rt; refusal(alloc, name.as_slice()) == (17, 1));
+    assert!(&rt; fault_of(alloc, name.as_slice()) == (17, 1));
     Ok(())
 }
 
@@ -377,7 +377,7 @@ fn expressions_without_a_value(rt: HostRuntime) {
         (b"+(x | 1)", 13, 5),
     ];
     for (text, code, line) in cases {
-        assert!(&rt; refusal(rt.alloc(), text) == (code, line));
+        assert!(&rt; fault_of(rt.alloc(), text) == (code, line));
     }
 }
 

@@ -1,4 +1,4 @@
--- One operator behind its operands.
+-- One operator after its operands.
 use Rattle.std.proofs.Common.{[], ◌∷◌, ap}
 use Rattle.rv_text.specs.declared.node.Node.TheVariants as nodes
 use Rattle.rv_text.specs.Nodes.{node_of, nodes_of}

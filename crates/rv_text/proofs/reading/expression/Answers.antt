@@ -1,10 +1,10 @@
 -- Token by token.
 use Rattle.std.proofs.Common.{◌∙◌, sym, ap, List, Ok, Err}
-use Rattle.rv_text_laws.specs.Wrong.{Wrong}
+use Rattle.rv_text_laws.specs.SyntaxError.{SyntaxError}
 use Rattle.rv_text_laws.specs.Expression.{Node}
 use Rattle.rv_text.specs.Nodes.{nodes_of}
-use Rattle.rv_text.specs.Cursor.{left}
-use Rattle.rv_text.specs.Fault.{number_of}
+use Rattle.rv_lexer.specs.Cursor.{left}
+use Rattle.rv_lexer.specs.Fault.{number_of}
 use Rattle.rv_text.specs.Expr.{stack_of, stage_of}
 use Rattle.rv_text.proofs.Exprs.{stack_none}
 use Rattle.rv_text.proofs.ReadingSteps.{begun, ended, failed, read_fits}
@@ -23,7 +23,7 @@ returns-in-Ok-Ends g c =
     ended _ _ c.tokens.cursor (stage_of c.tokens.frames.items c.tokens.stage) (nodes_of c.in-Ok-Ends.nodes) c.tokens.invariant (rw c.in-Ok-Ends.field-0-is at c.in-Ok-Ends.ensures)
     ∙ ap (λ (ns : List Node). Ok (ns, left c.tokens.cursor)) (sym c.in_ok-new-in-Ok-Ends.ensures)
 
-pub returns-in-Err-Wrong : goal.returns-in-Err-Wrong
-returns-in-Err-Wrong g c =
-    failed _ _ c.tokens.cursor (stage_of c.tokens.frames.items c.tokens.stage) (number_of c.in-Err-Wrong.code) c.tokens.invariant (rw c.in-Err-Wrong.field-0-is at c.in-Err-Wrong.ensures)
-    ∙ ap (λ (w : Wrong). Err w) (sym (rw c.in-Err-Wrong.field-0-is at c.wrong.ensures))
+pub returns-in-Err-Fault : goal.returns-in-Err-Fault
+returns-in-Err-Fault g c =
+    failed _ _ c.tokens.cursor (stage_of c.tokens.frames.items c.tokens.stage) (number_of c.in-Err-Fault.code) c.tokens.invariant (rw c.in-Err-Fault.field-0-is at c.in-Err-Fault.ensures)
+    ∙ ap (λ (w : SyntaxError). Err w) (sym (rw c.in-Err-Fault.field-0-is at c.wrong.ensures))

@@ -1,6 +1,6 @@
 use Rattle.std.proofs.Common.{◌≡◌, length}
 use Rattle.rv_text_laws.specs.ExpressionAt.{read_from, expression_at}
-use Rattle.rv_text.specs.Cursor.{left}
+use Rattle.rv_lexer.specs.Cursor.{left}
 use Rattle.rv_text.specs.Expr.{stage_of}
 use Rattle.rv_text.proofs.reading.expression.Given as goal
 

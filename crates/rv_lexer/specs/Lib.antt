@@ -1,0 +1,5 @@
+pub mod Fault
+pub mod Token
+pub mod Left
+pub mod Lexeme
+pub mod Cursor

@@ -1,0 +1,63 @@
+//! The classes of bytes.
+
+ghost use Rattle.std.specs.Prelude.{◌≡◌};
+ghost use Rattle.rv_text_laws.specs.Bytes.{class, is_word, digit};
+
+use rv_text_laws::{Class, Punct};
+
+/// What a byte begins.
+#[tactic(auto, unfolding(rv_text_laws::specs::Bytes::class))]
+pub(crate) fn class(byte: u8) -> Class
+    ensures { result ≡ class byte }
+{
+    match byte {
+        b'a'..=b'z' | b'A'..=b'Z' | b'_' | b'.' | b'$' => Class::Letter,
+        b'0'..=b'9' => Class::Digit,
+        b' ' | b'\t' | b'\r' => Class::Blank,
+        b'\n' => Class::LineEnd,
+        b',' => Class::Single(Punct::Comma),
+        b'(' => Class::Single(Punct::Open),
+        b')' => Class::Single(Punct::Close),
+        b':' => Class::Single(Punct::Colon),
+        b'#' => Class::HashByte,
+        b';' => Class::Single(Punct::Semicolon),
+        b'+' => Class::Single(Punct::Plus),
+        b'-' => Class::Single(Punct::Minus),
+        b'*' => Class::Single(Punct::Star),
+        b'%' => Class::Single(Punct::Percent),
+        b'|' => Class::Single(Punct::Bar),
+        b'&' => Class::Single(Punct::Ampersand),
+        b'^' => Class::Single(Punct::Caret),
+        b'~' => Class::Single(Punct::Tilde),
+        b'@' => Class::Single(Punct::At),
+        b'/' => Class::SlashByte,
+        b'"' => Class::QuoteByte,
+        b'\'' => Class::ApostropheByte,
+        b'<' => Class::LessByte,
+        b'>' => Class::GreaterByte,
+        b'=' => Class::EqualByte,
+        b'!' => Class::BangByte,
+        b' '..=b'~' => Class::Odd,
+        _ => Class::Foreign,
+    }
+}
+
+/// Whether names and numbers go on with the byte.
+pub(crate) fn is_word(byte: u8) -> bool
+    ensures { result ≡ is_word byte }
+{
+    matches!(byte, b'a'..=b'z' | b'A'..=b'Z' | b'_' | b'.' | b'$' | b'0'..=b'9')
+}
+
+/// The value of a digit in the bases up to 16, and 16 for every other byte.
+#[tactic(auto, unfolding(rv_text_laws::specs::Bytes::digit))]
+pub(crate) fn digit(byte: u8) -> u8
+    ensures { result ≡ digit byte }
+{
+    match byte {
+        b'0'..=b'9' => byte - b'0',
+        b'a'..=b'f' => byte - b'a' + 10,
+        b'A'..=b'F' => byte - b'A' + 10,
+        _ => 16,
+    }
+}

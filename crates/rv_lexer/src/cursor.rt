@@ -1,0 +1,102 @@
+//! The tokens of a source with the next one in hand.
+
+ghost use Rattle.std.specs.Prelude.{◌≡◌, ◌∷◌, false, option_map, is_some};
+ghost use Rattle.rv_text_laws.specs.Lexing.{is_last};
+ghost use Rattle.rv_text_laws.specs.SyntaxError.{wrong};
+ghost use Rattle.rv_text_laws.specs.Joined.{bytes_of, joined_at};
+ghost use Rattle.rv_lexer.specs.Fault.{number_of};
+ghost use Rattle.rv_lexer.specs.Token.{token_of, kind_of};
+ghost use Rattle.rv_lexer.specs.Left.{Gives};
+
+use crate::fault::SourceCode;
+use crate::lexer::Lexer;
+use crate::syntax_error::SyntaxError;
+use crate::token::{Token, TokenKind};
+use rv_text_laws::Punct;
+
+/// A token that goes on with a name, where no gap is between.
+fn joins(kind: TokenKind<'_>) -> bool
+    ensures { result ≡ is_some (bytes_of (kind_of kind.entry)) }
+{
+    matches!(
+        kind,
+        TokenKind::Name(_)
+            | TokenKind::Number(..)
+            | TokenKind::Reference(..)
+            | TokenKind::BadWord(_)
+            | TokenKind::Punct(Punct::Minus)
+    )
+}
+
+/// The tokens that a source has left: the next one, and the lexers before and after it.
+#[derive(Clone, Copy, Debug, Drop)]
+pub struct Cursor<'a> {
+    /// The next token.
+    pub next: Token<'a>,
+    /// The lexer that gave it, before it did.
+    before: Lexer<'a>,
+    lexer: Lexer<'a>,
+    ghost gives: { Gives before next lexer },
+}
+
+impl<'a> Cursor<'a> {
+    ghost use Rattle.rv_lexer.specs.Left.{tokens_left};
+    ghost use Rattle.rv_lexer.specs.Cursor.{left, syntax_error_of};
+
+    /// The tokens of a lexer.
+    #[tactic(auto, unfolding(crate::specs::Cursor::left))]
+    pub fn new(lexer: Lexer<'a>) -> Self
+        ensures { left result ≡ tokens_left lexer.entry }
+    {
+        let before = lexer;
+        let mut lexer = lexer;
+        let next = lexer.next();
+        Cursor {
+            next,
+            before,
+            lexer,
+        }
+    }
+
+    /// Takes the next token, which is not the last.
+    #[tactic(auto, unfolding(crate::specs::Cursor::left))]
+    pub fn advance(&mut self)
+        requires { is_last (kind_of self.old.next.kind) ≡ false }
+        ensures { left self.old ≡ token_of self.old.next ∷ left self.new }
+    {
+        *self = Cursor::new(self.lexer);
+    }
+
+    /// The lexer whose next token is the cursor's.
+    #[tactic(auto, unfolding(crate::specs::Cursor::left))]
+    pub fn lexer(&self) -> Lexer<'a>
+        ensures { tokens_left result ≡ left self.now }
+    {
+        self.before
+    }
+
+    /// The name at the front, in which minus signs may stand after the first byte; the cursor stays where none is.
+    pub fn joined(&mut self) -> Option<&'a [u8]>
+        ensures { option_map (λ name. (name.now, left self.new)) result ≡ joined_at (left self.old) }
+    {
+        let TokenKind::Name(_) = self.next.kind else {
+            return None;
+        };
+        let before = self.before;
+        let start = self.next.start;
+        let mut stop = self.next.stop;
+        self.advance();
+        while self.next.start == stop && joins(self.next.kind) {
+            stop = self.next.stop;
+            self.advance();
+        }
+        Some(before.between(start, stop))
+    }
+
+    /// The next token is wrong.
+    pub fn wrong(&self, code: SourceCode) -> SyntaxError
+        ensures { syntax_error_of result ≡ wrong (token_of self.now.next) (number_of code) }
+    {
+        SyntaxError::at(self.next, code)
+    }
+}

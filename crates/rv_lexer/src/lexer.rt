@@ -1,0 +1,109 @@
+//! The lexer: the tokens of a source, one after the other.
+
+ghost use Rattle.std.specs.Prelude.{◌≡◌, ◌+◌, ◌-◌, ◌<◌, ◌≤◌, ◌^◌, ◌∷◌, [], true, length, take, drop, if◌then◌else◌};
+ghost use Rattle.rv_text_laws.specs.Grammar.{Spells};
+ghost use Rattle.rv_text_laws.specs.Lexing.{newlines, is_last, last_kind};
+ghost use Rattle.rv_lexer.specs.Lexeme.{lexeme_kind_of};
+ghost use Rattle.rv_lexer.specs.Token.{kind_of, token_of};
+
+use crate::class::class;
+use crate::lexeme::{Lexeme, lexeme_at, line_feeds_of};
+use crate::token::{Token, TokenKind};
+use rv_text_laws::Class;
+
+/// The tokens that a source has left. It is copied to look ahead.
+#[derive(Clone, Copy, Debug, Drop)]
+pub struct Lexer<'a> {
+    /// The bytes that are left.
+    rest: &'a [u8],
+    /// The offset of the first of them in the source.
+    at: u32,
+    /// Its line, from 1.
+    line: u32,
+    ghost offset_fits: { at + length rest.now < 2 ^ 32 },
+    ghost line_fits: { line + length rest.now < 2 ^ 32 },
+}
+
+impl<'a> Lexer<'a> {
+    ghost use Rattle.rv_lexer.specs.Left.{tokens_left};
+    ghost use Rattle.rv_text_laws.specs.Front.{tokens_from};
+
+    /// The lexer of a source of less than 4 GiB.
+    #[tactic(auto, unfolding(crate::specs::Left::tokens_left))]
+    pub fn new(source: &'a [u8]) -> Self
+        requires { length source.now + 1 < 2 ^ 32 }
+        ensures { tokens_left result ≡ tokens_from 0 1 source.now }
+    {
+        Lexer {
+            rest: source,
+            at: 0,
+            line: 1,
+        }
+    }
+
+    /// The next token. After the last one (the end, a bad byte or a bad token) it comes again.
+    pub fn next(&mut self) -> Token<'a>
+        ensures first { tokens_left self.old ≡ token_of result ∷ (if is_last (token_of result).kind then [] else tokens_left self.new) }
+        ensures stays { is_last (token_of result).kind ≡ true → tokens_left self.new ≡ tokens_left self.old }
+    {
+        while let Some(lexeme) = lexeme_at(self.rest) {
+            let start = self.at;
+            let line = self.line;
+            self.skip(lexeme);
+            if let Some(kind) = lexeme.kind.token() {
+                return Token {
+                    kind,
+                    start,
+                    stop: self.at,
+                    line,
+                };
+            }
+        }
+        Token {
+            kind: last_kind(self.rest),
+            start: self.at,
+            stop: self.at,
+            line: self.line,
+        }
+    }
+
+    /// The bytes between two offsets in the source.
+    pub(crate) fn between(&self, start: u32, stop: u32) -> &'a [u8]
+        requires within { (self.now.at ≤ start) × (start ≤ stop) × (stop ≤ self.now.at + length self.now.rest.now) }
+        ensures { result.now ≡ take (stop - start) (drop (start - self.now.at) self.now.rest.now) }
+    {
+        let from = (start - self.at) as usize;
+        let to = (stop - self.at) as usize;
+        &self.rest[from..to]
+    }
+
+    /// Passes over the lexeme at the front.
+    fn skip(&mut self, lexeme: Lexeme<'a>)
+        requires within { lexeme.length ≤ length self.old.rest.now }
+        requires spelled { Spells (lexeme_kind_of lexeme.kind) (take lexeme.length self.old.rest.now) }
+        ensures rest { self.new.rest.now ≡ drop lexeme.entry.length self.old.rest.now }
+        ensures at { self.new.at ≡ self.old.at + lexeme.entry.length }
+        ensures line { self.new.line ≡ self.old.line + newlines (take lexeme.entry.length self.old.rest.now) }
+    {
+        let (text, rest) = self.rest.split_at(lexeme.length);
+        let feeds = line_feeds_of(lexeme.kind, text);
+        *self = Lexer {
+            rest,
+            at: self.at + lexeme.length as u32,
+            line: self.line + feeds as u32,
+        };
+    }
+}
+
+/// The kind of the last token, by what stands where no lexeme can.
+fn last_kind(rest: &[u8]) -> TokenKind<'_>
+    ensures { kind_of result ≡ last_kind rest.now }
+{
+    if rest.is_empty() {
+        return TokenKind::End;
+    }
+    match class(rest[0]) {
+        Class::Foreign => TokenKind::BadByte,
+        _ => TokenKind::BadToken,
+    }
+}

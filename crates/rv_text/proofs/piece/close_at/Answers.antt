@@ -1,6 +1,0 @@
--- What `memmem` finds is the first `*/`.
-use Rattle.rv_text.proofs.Scans.{found_close}
-use Rattle.rv_text.proofs.piece.close_at.Goals as goal
-
-pub returns : goal.returns
-returns c = found_close c.args.bytes.now c.find.result c.find.ensures
