@@ -2,12 +2,12 @@
 
 use Rattle.std.proofs.Common.{◌≡◌, true, false, List, [], ◌∷◌, ◌++◌, append_assoc, Ok, Err, refl, sym, ◌∙◌, ap, map}
 use Rattle.rv_text_laws.specs.Lexing.{Token}
-use Rattle.rv_text_laws.specs.Wrong.{Wrong, Read}
+use Rattle.rv_text_laws.specs.SyntaxError.{SyntaxError, Read}
 use Rattle.rv_statement.specs.Statement.{Operand}
 use Rattle.rv_parse_laws.specs.Syntax.{is_comma, Slot}
 use Rattle.rv_parse_laws.specs.Parsing.{operand_at, end_at, items_at}
 use Rattle.rv_parse_laws.proofs.Items.{items_step}
-use Rattle.rv_parse.specs.Places.{further_items, prepended}
+use Rattle.rv_parse.specs.Slots.{further_items, prepended}
 
 prepended_twice : (os : List Operand) (o : Operand) (r : Read (List Operand)) → prepended os (prepended (o ∷ []) r) ≡ prepended (os ++ o ∷ []) r
 prepended_twice os o (Ok (ps, ts)) = ap (λ (qs : List Operand). Ok (qs, ts)) (sym (append_assoc os (o ∷ []) ps))
@@ -26,7 +26,7 @@ pub items_begin : {X : Type 0} (view : X → Operand) (s : Slot) → (ts : List 
 items_begin {X} view s ts x rest new e is =
     items_step s ts ∙ rw e refl ∙ ap (λ (xs : List X). prepended (map view xs) (further_items s rest)) (sym is)
 
-pub items_first_wrong : (s : Slot) → (ts : List Token) (w : Wrong) → operand_at s ts ≡ Err w → items_at s ts ≡ Err w
+pub items_first_wrong : (s : Slot) → (ts : List Token) (w : SyntaxError) → operand_at s ts ≡ Err w → items_at s ts ≡ Err w
 items_first_wrong s ts w e = items_step s ts ∙ rw e refl
 
 -- a comma and an item
@@ -41,7 +41,7 @@ items_go_on {X} view s all items new x t before ts rest so is comma e pushed =
     so ∙ ap (λ us. prepended (map view items) (further_items s us)) is ∙ comma_step s (map view items) t ts (view x) rest comma e
     ∙ ap (λ os. prepended os (further_items s rest)) (sym (map_push view items x) ∙ ap (map view) (sym pushed))
 
-pub items_wrong : {X : Type 0} (view : X → Operand) (s : Slot) → (all : Read (List Operand)) (items : List X) (t : Token) (before ts : List Token) (w : Wrong)
+pub items_wrong : {X : Type 0} (view : X → Operand) (s : Slot) → (all : Read (List Operand)) (items : List X) (t : Token) (before ts : List Token) (w : SyntaxError)
     → all ≡ prepended (map view items) (further_items s before) → before ≡ t ∷ ts → is_comma t.kind ≡ true → operand_at s ts ≡ Err w → all ≡ Err w
 items_wrong view s all items t before ts w so is comma e =
     so ∙ ap (λ us. prepended (map view items) (further_items s us)) is ∙ rw comma (ap (prepended (map view items)) (items_first_wrong s ts w e))
@@ -50,6 +50,6 @@ pub items_done : {X : Type 0} (view : X → Operand) (s : Slot) (all : Read (Lis
     → all ≡ prepended (map view items) (further_items s (t ∷ ts)) → is_comma t.kind ≡ false → end_at s (t ∷ ts) ≡ Ok rest → all ≡ Ok (map view items, rest)
 items_done view s all items t ts rest so comma e = so ∙ rw comma (rw e (ap (λ (os : List Operand). Ok (os, rest)) (append_nil (map view items))))
 
-pub items_undone : {X : Type 0} (view : X → Operand) (s : Slot) (all : Read (List Operand)) (items : List X) (t : Token) (ts : List Token) (w : Wrong)
+pub items_undone : {X : Type 0} (view : X → Operand) (s : Slot) (all : Read (List Operand)) (items : List X) (t : Token) (ts : List Token) (w : SyntaxError)
     → all ≡ prepended (map view items) (further_items s (t ∷ ts)) → is_comma t.kind ≡ false → end_at s (t ∷ ts) ≡ Err w → all ≡ Err w
 items_undone view s all items t ts w so comma e = so ∙ rw comma (rw e refl)

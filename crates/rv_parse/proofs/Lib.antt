@@ -4,7 +4,6 @@ pub mod Lists
 pub mod Jumps
 pub mod Openings
 pub mod Opened
-pub mod Tables
 pub mod Statements
 pub mod Refusals
 pub mod Lines

@@ -3,7 +3,7 @@
 use Rattle.std.proofs.Common.{◌≡◌, ℕ, Bool, true, false, ◌||◌, List, [], ◌∷◌, ◌++◌, map, None, Ok, Err, refl, sym, ◌∙◌, ap}
 use Rattle.rv_text_laws.specs.Grammar.{Kind, Name as NameToken}
 use Rattle.rv_text_laws.specs.Lexing.{Token, is_last}
-use Rattle.rv_text_laws.specs.Wrong.{Wrong, Read}
+use Rattle.rv_text_laws.specs.SyntaxError.{SyntaxError, Read}
 use Rattle.rv_statement.specs.Statement.{Operand, Word, Spoken}
 use Rattle.rv_statement.specs.View.{statement_of, said_by}
 use Rattle.rv_statement.specs.declared.statement.Statement.{Statement}
@@ -25,7 +25,7 @@ name_read (Ok (n, us)) name rest e =
     ap (λ (m : List ℕ). Ok (m, us)) same ∙ ap (λ (x : List Operand × List Token). Ok (name, x.1)) pair
 name_read (Err w) name rest e = absurd (cc)
 
-name_not : (r : Read (List ℕ)) (w : Wrong) → seen_as (λ n. Word n ∷ []) r ≡ Err w → r ≡ Err w
+name_not : (r : Read (List ℕ)) (w : SyntaxError) → seen_as (λ n. Word n ∷ []) r ≡ Err w → r ≡ Err w
 name_not (Ok x) w e = absurd (cc)
 name_not (Err v) w e = cc
 
@@ -33,11 +33,11 @@ pub named_left : (known : List ℕ → Bool) (ts us vs : List Token) (name : Lis
     → named_wrong known (section_at ts) ≡ flags_wrong (known name) vs
 named_left known ts us vs name e comma = rw (name_read (section_at ts) name us e) (rw comma refl)
 
-pub comma_wrong : (known : List ℕ → Bool) (ts us : List Token) (name : List ℕ) (w : Wrong) → operand_at A_section ts ≡ Ok (Word name ∷ [], us) → operand_at (A_comma A_section) us ≡ Err w
+pub comma_wrong : (known : List ℕ → Bool) (ts us : List Token) (name : List ℕ) (w : SyntaxError) → operand_at A_section ts ≡ Ok (Word name ∷ [], us) → operand_at (A_comma A_section) us ≡ Err w
     → named_wrong known (section_at ts) ≡ None
 comma_wrong known ts us name w e comma = rw (name_read (section_at ts) name us e) (rw comma refl)
 
-pub name_wrong : (known : List ℕ → Bool) (ts : List Token) (w : Wrong) → operand_at A_section ts ≡ Err w → named_wrong known (section_at ts) ≡ None
+pub name_wrong : (known : List ℕ → Bool) (ts : List Token) (w : SyntaxError) → operand_at A_section ts ≡ Err w → named_wrong known (section_at ts) ≡ None
 name_wrong known ts w e = rw (name_not (section_at ts) w e) refl
 
 -- a statement more

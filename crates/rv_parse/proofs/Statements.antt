@@ -2,7 +2,7 @@
 
 use Rattle.std.proofs.Common.{◌≡◌, ℕ, ◌+◌, true, false, List, [], ◌∷◌, ◌++◌, length, length-append, Ok, refl, sym, ◌∙◌, ap, subst, map, arith}
 use Rattle.rv_text_laws.specs.Lexing as lexing
-use Rattle.rv_text.specs.Token.{token_of, kind_of}
+use Rattle.rv_lexer.specs.Token.{token_of, kind_of}
 use Rattle.rv_statement.specs.Statement.{Spoken}
 use Rattle.rv_parse_laws.specs.Syntax.{Says, is_end, is_source_end}
 use Rattle.rv_parse_laws.specs.Opening.{is_opened}
@@ -10,11 +10,11 @@ use Rattle.rv_parse_laws.specs.Parsing.{checked_at}
 use Rattle.rv_parse_laws.specs.Reading.{SaysUpTo}
 use Rattle.rv_parse_laws.proofs.Progress.{push_end, push_statement, source_end_is_end}
 use Rattle.rv_statement.specs.declared.statement.Statement.{Statement}
-use Rattle.rv_text.specs.declared.cursor.Cursor.{Cursor}
+use Rattle.rv_lexer.specs.declared.cursor.Cursor.{Cursor}
 use Rattle.rv_statement.specs.View.{statement_of, said_by}
-use Rattle.rv_text.specs.declared.cursor.Refusal.{Refusal}
-use Rattle.rv_text.specs.declared.cursor.Refusal.TheVariants as refusals
-use Rattle.rv_text.specs.Cursor.{left}
+use Rattle.rv_lexer.specs.declared.syntax_error.ReadError.{ReadError}
+use Rattle.rv_lexer.specs.declared.syntax_error.ReadError.TheVariants as refusals
+use Rattle.rv_lexer.specs.Cursor.{left}
 use Rattle.rv_parse.specs.Left.{StopsAt, RefusesTokens}
 
 said_push : (items : List Statement) (s : Statement) → map said_by (items ++ s ∷ []) ≡ map said_by items ++ said_by s ∷ []
@@ -54,7 +54,7 @@ statements_end ts c ss so end =
     push_end ts (token_of c.next) (left c) [] ss so (rw (e.1) refl) e.0
 
 -- no further statement is answered at the cursor's next token
-pub refuses_here : (ts : List lexing.Token) (c : Cursor) (ss : List Spoken) (n : ℕ) (e : Refusal) → SaysUpTo ts (left c) ss → is_end (kind_of c.next.kind) ≡ false → length ss ≡ n
+pub refuses_here : (ts : List lexing.Token) (c : Cursor) (ss : List Spoken) (n : ℕ) (e : ReadError) → SaysUpTo ts (left c) ss → is_end (kind_of c.next.kind) ≡ false → length ss ≡ n
     → StopsAt e (is_opened ss) n (token_of c.next) (left c) → RefusesTokens ts e
 unfolding left
 refuses_here ts c ss n (refusals.At w) so no_end count stops = (token_of c.next, behind c, ss, so, no_end, subst (λ m. StopsAt (refusals.At w) (is_opened ss) m (token_of c.next) (left c)) (sym count) stops)

@@ -1,14 +1,14 @@
 -- A token that is taken somewhere is not the last of its source.
 
 use Rattle.std.proofs.Common.{◌≡◌, ℕ, true, false, List, Some, refl}
-use Rattle.rv_text_laws.specs.Grammar.{Kind, Mark, Name as NameToken, Number, Character, Text, Bad_byte, Bad_token, End}
+use Rattle.rv_text_laws.specs.Grammar.{Kind, Punctuation, Name as NameToken, Number, Character, Text, Bad_byte, Bad_token, End}
 use Rattle.rv_text_laws.specs.Lexing.{is_last}
 use Rattle.rv_isa.specs.declared.operation.AccessSet.{AccessSet}
 use Rattle.rv_statement.specs.declared.directive.Choice.{Choice}
 use Rattle.rv_statement.specs.Statement.{Operand}
 use Rattle.rv_parse_laws.specs.Syntax.{register_of, symbol_of, accesses_of, is_comma, is_colon, is_opening, is_closing, is_at, is_zero, is_any, A_string, A_type, single}
 use Rattle.rv_parse_laws.specs.Parsing.{width}
-use Rattle.rv_parse.specs.View.{choice_of}
+use Rattle.rv_words.specs.View.{choice_of}
 
 pub register_no_last : (k : Kind) (r : ℕ) → register_of k ≡ Some r → is_last k ≡ false
 register_no_last (NameToken name) r h = refl
@@ -24,23 +24,23 @@ zero_no_last (Character byte) h = refl
 zero_no_last _ h = absurd (cc)
 
 pub opening_no_last : (k : Kind) → is_opening k ≡ true → is_last k ≡ false
-opening_no_last (Mark sign) h = refl
+opening_no_last (Punctuation sign) h = refl
 opening_no_last _ h = absurd (cc)
 
 pub closing_no_last : (k : Kind) → is_closing k ≡ true → is_last k ≡ false
-closing_no_last (Mark sign) h = refl
+closing_no_last (Punctuation sign) h = refl
 closing_no_last _ h = absurd (cc)
 
 pub comma_no_last : (k : Kind) → is_comma k ≡ true → is_last k ≡ false
-comma_no_last (Mark sign) h = refl
+comma_no_last (Punctuation sign) h = refl
 comma_no_last _ h = absurd (cc)
 
 pub colon_no_last : (k : Kind) → is_colon k ≡ true → is_last k ≡ false
-colon_no_last (Mark sign) h = refl
+colon_no_last (Punctuation sign) h = refl
 colon_no_last _ h = absurd (cc)
 
 pub at_no_last : (k : Kind) → is_at k ≡ true → is_last k ≡ false
-at_no_last (Mark sign) h = refl
+at_no_last (Punctuation sign) h = refl
 at_no_last _ h = absurd (cc)
 
 pub symbol_no_last : (k : Kind) (name : List ℕ) → symbol_of k ≡ Some name → is_last k ≡ false

@@ -3,36 +3,36 @@
 use Rattle.std.specs.Prelude.{◌≡◌, ◌<◌, ℕ, Bool, false, List, ◌∷◌, length, Result, Ok, Err, ◌⊎◌}
 use Rattle.rv_statement.specs.Statement.{Spoken}
 use Rattle.rv_parse_laws.specs.Syntax.{is_end}
-use Rattle.rv_text_laws.specs.Wrong.{limit}
+use Rattle.rv_text_laws.specs.Codes.{limit}
 use Rattle.rv_parse_laws.specs.Reading.{most_statements, SaysUpTo, Refuses}
-use Rattle.rv_text.specs.declared.fault.SourceFault.{SourceFault}
-use Rattle.rv_text.specs.declared.fault.SourceFault.TheVariants as faults
+use Rattle.rv_lexer.specs.declared.fault.SourceFault.{SourceFault}
+use Rattle.rv_lexer.specs.declared.fault.SourceFault.TheVariants as faults
 use Rattle.rv_text_laws.specs.Lexing as lexing
-use Rattle.rv_text.specs.Fault.{number_of}
+use Rattle.rv_lexer.specs.Fault.{number_of}
 use Rattle.rv_parse_laws.specs.Opening.{is_opened}
 use Rattle.rv_parse_laws.specs.Parsing as parsing
-use Rattle.rv_text_laws.specs.Wrong as wrongs
-use Rattle.rv_text.specs.declared.cursor.Wrong.{Wrong}
-use Rattle.rv_text.specs.declared.cursor.Refusal.{Refusal}
-use Rattle.rv_text.specs.declared.cursor.Refusal.TheVariants as refusals
-use Rattle.rv_text.specs.Cursor.{wrong_of}
+use Rattle.rv_text_laws.specs.SyntaxError as wrongs
+use Rattle.rv_lexer.specs.declared.syntax_error.SyntaxError.{SyntaxError}
+use Rattle.rv_lexer.specs.declared.syntax_error.ReadError.{ReadError}
+use Rattle.rv_lexer.specs.declared.syntax_error.ReadError.TheVariants as refusals
+use Rattle.rv_lexer.specs.Cursor.{syntax_error_of}
 
 -- a call's result, as `view` sees it, is what the reading at the front of the tokens gives
-abbrev pub Gives : {X Y : Type 0} → (X → Y) → Result X Wrong → Result Y wrongs.Wrong → Type 0
+abbrev pub Gives : {X Y : Type 0} → (X → Y) → Result X SyntaxError → Result Y wrongs.SyntaxError → Type 0
 Gives view (Ok x) read = read ≡ Ok (view x)
-Gives view (Err w) read = read ≡ Err (wrong_of w)
+Gives view (Err w) read = read ≡ Err (syntax_error_of w)
 
 -- No further statement is answered at the token t, which begins the tokens ts behind so many statements, where these names
 -- are known: the part there is wrong, or it is a statement too many; where it is both, what stands first.
-abbrev pub StopsAt : Refusal → (List ℕ → Bool) → ℕ → lexing.Token → List lexing.Token → Type 0
+abbrev pub StopsAt : ReadError → (List ℕ → Bool) → ℕ → lexing.Token → List lexing.Token → Type 0
 StopsAt (refusals.At w) known count t ts =
-    ((parsing.checked_at known ts ≡ Err (wrong_of w)) × ((count < most_statements) ⊎ ((count ≡ most_statements) × (w.place ≡ t.start))))
-    ⊎ ((count ≡ most_statements) × (wrong_of w ≡ record { place = t.start; line = t.line; code = limit })
-    × ((v : wrongs.Wrong) → parsing.checked_at known ts ≡ Err v → v.place ≡ t.start → ⊥))
+    ((parsing.checked_at known ts ≡ Err (syntax_error_of w)) × ((count < most_statements) ⊎ ((count ≡ most_statements) × (w.offset ≡ t.start))))
+    ⊎ ((count ≡ most_statements) × (syntax_error_of w ≡ record { offset = t.start; line = t.line; code = limit })
+    × ((v : wrongs.SyntaxError) → parsing.checked_at known ts ≡ Err v → v.offset ≡ t.start → ⊥))
 StopsAt refusals.OutOfMemory known count t ts = Unit {0}
 
 -- the tokens say statements up to a token where no further one is answered
-abbrev pub RefusesTokens : List lexing.Token → Refusal → Type 0
+abbrev pub RefusesTokens : List lexing.Token → ReadError → Type 0
 RefusesTokens ts (refusals.At w) =
     (t : lexing.Token) × (us : List lexing.Token) × (ss : List Spoken) × SaysUpTo ts (t ∷ us) ss × (is_end t.kind ≡ false)
     × StopsAt (refusals.At w) (is_opened ss) (length ss) t (t ∷ us)

@@ -1,4 +1,4 @@
 pub mod View
 pub mod Left
-pub mod Places
+pub mod Slots
 pub mod Opened

@@ -1,69 +1,72 @@
 //! The operands of directives, up to the statement's end.
 
 ghost use Rattle.std.specs.Prelude.{◌≡◌, ◌∷◌, [], map, Some};
-ghost use Rattle.rv_text.specs.Cursor.{left, Answers};
+ghost use Rattle.rv_lexer.specs.Cursor.{left, Answers};
 ghost use Rattle.rv_text.specs.Expr.{tree_of_expr};
 ghost use Rattle.rv_statement.specs.declared.directive.DirectiveWord.TheVariants.{Enters, Section, Globl, Local, Set, AlignToPower, AlignToBytes, Value, Ascii, Asciz, Zero, Option, Ignored};
 ghost use Rattle.rv_statement.specs.Statement.{Directs};
 ghost use Rattle.rv_statement.specs.View.{statement_of};
-ghost use Rattle.rv_parse_laws.specs.Syntax.{A_symbol, A_string, A_value, In_directive, In_alignment, places, directed};
+ghost use Rattle.rv_parse_laws.specs.Syntax.{A_symbol, A_string, A_value, places, directed};
+ghost use Rattle.rv_parse_laws.specs.declared.role.Role.TheVariants as roles;
 ghost use Rattle.rv_parse_laws.specs.Parsing.{operands_at, items_at, any_at, seen_as};
-ghost use Rattle.rv_parse.specs.View.{word_of, string_of, value_of};
-ghost use Rattle.rv_parse.specs.Places.{flags_slots, type_slots, further_items, prepended};
+ghost use Rattle.rv_parse.specs.View.{value_of};
+ghost use Rattle.rv_words.specs.View.{word_of, string_of};
+ghost use Rattle.rv_parse.specs.Slots.{flags_slots, type_slots, further_items, prepended};
 ghost use Rattle.rv_parse.specs.Left.{Gives};
 
-use crate::fault::{self, Role, Slot};
-use crate::{kinds, place};
+use crate::slot;
 use rv_statement::{DirectiveWord, Opening, Setting, Standard, StatementKind, Width};
-use rv_text::{Cursor, Expr, Refusal, Wrong};
+use rv_text::{Cursor, Expr, ReadError, SyntaxError};
+use rv_words::fault::{self, Slot};
+use rv_words::{Role, kinds};
 use std::alloc::Global;
 
 /// One symbol or more, with commas between.
 #[tactic(auto, using(crate::proofs::Lists::names_first_wrong, crate::proofs::Lists::names_begin, crate::proofs::Lists::names_wrong, crate::proofs::Lists::names_done))]
-fn names<'a>(alloc: Global, cursor: &mut Cursor<'a>) -> Result<Vec<&'a [u8]>, Refusal>
+fn names<'a>(alloc: Global, cursor: &mut Cursor<'a>) -> Result<Vec<&'a [u8]>, ReadError>
     ensures { Answers (λ names. (map word_of names.items, left cursor.new)) result (items_at A_symbol (left cursor.old)) }
 {
     let mut names = Vec::new(alloc);
-    names.push(place::symbol(cursor)?)?;
+    names.push(slot::symbol(cursor)?)?;
     while kinds::is_comma(cursor.next.kind) {
         cursor.advance();
-        names.push(place::symbol(cursor)?)?;
+        names.push(slot::symbol(cursor)?)?;
     }
-    place::end(cursor, Slot::Symbol)?;
+    slot::end(cursor, Slot::Symbol)?;
     Ok(names)
 }
 
 /// One string or more, with commas between.
 #[tactic(auto, using(crate::proofs::Lists::strings_first_wrong, crate::proofs::Lists::strings_begin, crate::proofs::Lists::strings_wrong, crate::proofs::Lists::strings_done))]
-fn strings<'a>(alloc: Global, cursor: &mut Cursor<'a>) -> Result<Vec<&'a [u8]>, Refusal>
+fn strings<'a>(alloc: Global, cursor: &mut Cursor<'a>) -> Result<Vec<&'a [u8]>, ReadError>
     ensures { Answers (λ strings. (map string_of strings.items, left cursor.new)) result (items_at A_string (left cursor.old)) }
 {
     let mut strings = Vec::new(alloc);
-    strings.push(place::string(cursor)?)?;
+    strings.push(slot::string(cursor)?)?;
     while kinds::is_comma(cursor.next.kind) {
         cursor.advance();
-        strings.push(place::string(cursor)?)?;
+        strings.push(slot::string(cursor)?)?;
     }
-    place::end(cursor, Slot::Text)?;
+    slot::end(cursor, Slot::Text)?;
     Ok(strings)
 }
 
-/// The first of several values, and the others behind it, with a comma before each.
+/// The first of several values, and the others after it, with a comma before each.
 #[tactic(auto, using(crate::proofs::Lists::values_start, crate::proofs::Lists::value_shorter, crate::proofs::Lists::values_wrong, crate::proofs::Lists::values_done))]
 fn several<'a>(
     alloc: Global,
     cursor: &mut Cursor<'a>,
     first: Expr<'a>,
-) -> Result<Vec<Expr<'a>>, Refusal>
-    ensures { Answers (λ values. (map value_of values.items, left cursor.new)) result (prepended (value_of first.entry ∷ []) (further_items (A_value In_directive) (left cursor.old))) }
+) -> Result<Vec<Expr<'a>>, ReadError>
+    ensures { Answers (λ values. (map value_of values.items, left cursor.new)) result (prepended (value_of first.entry ∷ []) (further_items (A_value roles.Directive) (left cursor.old))) }
 {
     let mut values = Vec::new(alloc);
     values.push(first)?;
     while kinds::is_comma(cursor.next.kind) {
         cursor.advance();
-        values.push(place::value(alloc, cursor, Role::Directive)?)?;
+        values.push(slot::value(alloc, cursor, Role::Directive)?)?;
     }
-    place::end(cursor, Slot::Value(Role::Directive))?;
+    slot::end(cursor, Slot::Value(Role::Directive))?;
     Ok(values)
 }
 
@@ -72,20 +75,20 @@ fn values<'a>(
     alloc: Global,
     cursor: &mut Cursor<'a>,
     width: Width,
-) -> Result<StatementKind<'a>, Refusal>
+) -> Result<StatementKind<'a>, ReadError>
     ensures { Answers (λ k. (statement_of k, left cursor.new)) result (seen_as (λ os. Directs (directed (Value width) os)) (operands_at (places (Value width)) (left cursor.old))) }
 {
-    let first = place::value(alloc, cursor, Role::Directive)?;
-    if place::begins_comma(cursor) {
+    let first = slot::value(alloc, cursor, Role::Directive)?;
+    if slot::begins_comma(cursor) {
         return Ok(StatementKind::Values(width, several(alloc, cursor, first)?));
     }
-    place::end(cursor, Slot::Value(Role::Directive))?;
+    slot::end(cursor, Slot::Value(Role::Directive))?;
     Ok(StatementKind::Value(width, first))
 }
 
 /// The names of `.globl`.
 #[tactic(auto, using(crate::proofs::Lists::all_names), unfolding(rv_parse_laws::specs::Parsing::operands_at))]
-fn globl<'a>(alloc: Global, cursor: &mut Cursor<'a>) -> Result<StatementKind<'a>, Refusal>
+fn globl<'a>(alloc: Global, cursor: &mut Cursor<'a>) -> Result<StatementKind<'a>, ReadError>
     ensures { Answers (λ k. (statement_of k, left cursor.new)) result (seen_as (λ os. Directs (directed Globl os)) (operands_at (places Globl) (left cursor.old))) }
 {
     Ok(StatementKind::Globl(names(alloc, cursor)?))
@@ -93,7 +96,7 @@ fn globl<'a>(alloc: Global, cursor: &mut Cursor<'a>) -> Result<StatementKind<'a>
 
 /// The names of `.local`.
 #[tactic(auto, using(crate::proofs::Lists::all_names), unfolding(rv_parse_laws::specs::Parsing::operands_at))]
-fn local<'a>(alloc: Global, cursor: &mut Cursor<'a>) -> Result<StatementKind<'a>, Refusal>
+fn local<'a>(alloc: Global, cursor: &mut Cursor<'a>) -> Result<StatementKind<'a>, ReadError>
     ensures { Answers (λ k. (statement_of k, left cursor.new)) result (seen_as (λ os. Directs (directed Local os)) (operands_at (places Local) (left cursor.old))) }
 {
     Ok(StatementKind::Local(names(alloc, cursor)?))
@@ -101,7 +104,7 @@ fn local<'a>(alloc: Global, cursor: &mut Cursor<'a>) -> Result<StatementKind<'a>
 
 /// The strings of `.ascii`.
 #[tactic(auto, using(crate::proofs::Lists::all_strings), unfolding(rv_parse_laws::specs::Parsing::operands_at))]
-fn ascii<'a>(alloc: Global, cursor: &mut Cursor<'a>) -> Result<StatementKind<'a>, Refusal>
+fn ascii<'a>(alloc: Global, cursor: &mut Cursor<'a>) -> Result<StatementKind<'a>, ReadError>
     ensures { Answers (λ k. (statement_of k, left cursor.new)) result (seen_as (λ os. Directs (directed Ascii os)) (operands_at (places Ascii) (left cursor.old))) }
 {
     Ok(StatementKind::Ascii(strings(alloc, cursor)?))
@@ -109,7 +112,7 @@ fn ascii<'a>(alloc: Global, cursor: &mut Cursor<'a>) -> Result<StatementKind<'a>
 
 /// The strings of `.asciz`.
 #[tactic(auto, using(crate::proofs::Lists::all_strings), unfolding(rv_parse_laws::specs::Parsing::operands_at))]
-fn asciz<'a>(alloc: Global, cursor: &mut Cursor<'a>) -> Result<StatementKind<'a>, Refusal>
+fn asciz<'a>(alloc: Global, cursor: &mut Cursor<'a>) -> Result<StatementKind<'a>, ReadError>
     ensures { Answers (λ k. (statement_of k, left cursor.new)) result (seen_as (λ os. Directs (directed Asciz os)) (operands_at (places Asciz) (left cursor.old))) }
 {
     Ok(StatementKind::Asciz(strings(alloc, cursor)?))
@@ -117,79 +120,85 @@ fn asciz<'a>(alloc: Global, cursor: &mut Cursor<'a>) -> Result<StatementKind<'a>
 
 /// The size of `.zero`.
 #[tactic(auto, unfolding(rv_parse_laws::specs::Parsing::operands_at))]
-fn zero<'a>(alloc: Global, cursor: &mut Cursor<'a>) -> Result<StatementKind<'a>, Refusal>
+fn zero<'a>(alloc: Global, cursor: &mut Cursor<'a>) -> Result<StatementKind<'a>, ReadError>
     ensures { Answers (λ k. (statement_of k, left cursor.new)) result (seen_as (λ os. Directs (directed Zero os)) (operands_at (places Zero) (left cursor.old))) }
 {
-    let count = place::value(alloc, cursor, Role::Directive)?;
-    place::end(cursor, Slot::Value(Role::Directive))?;
+    let count = slot::value(alloc, cursor, Role::Directive)?;
+    slot::end(cursor, Slot::Value(Role::Directive))?;
     Ok(StatementKind::Zeros(count))
 }
 
 /// The operand of `.align`.
 #[tactic(auto, unfolding(rv_parse_laws::specs::Parsing::operands_at))]
-fn align_to_power<'a>(alloc: Global, cursor: &mut Cursor<'a>) -> Result<StatementKind<'a>, Refusal>
+fn align_to_power<'a>(
+    alloc: Global,
+    cursor: &mut Cursor<'a>,
+) -> Result<StatementKind<'a>, ReadError>
     ensures { Answers (λ k. (statement_of k, left cursor.new)) result (seen_as (λ os. Directs (directed AlignToPower os)) (operands_at (places AlignToPower) (left cursor.old))) }
 {
-    let exponent = place::value(alloc, cursor, Role::Alignment)?;
-    place::end(cursor, Slot::Value(Role::Alignment))?;
+    let exponent = slot::value(alloc, cursor, Role::Alignment)?;
+    slot::end(cursor, Slot::Value(Role::Alignment))?;
     Ok(StatementKind::AlignsToPower(exponent))
 }
 
 /// The operand of `.balign`.
 #[tactic(auto, unfolding(rv_parse_laws::specs::Parsing::operands_at))]
-fn align_to_bytes<'a>(alloc: Global, cursor: &mut Cursor<'a>) -> Result<StatementKind<'a>, Refusal>
+fn align_to_bytes<'a>(
+    alloc: Global,
+    cursor: &mut Cursor<'a>,
+) -> Result<StatementKind<'a>, ReadError>
     ensures { Answers (λ k. (statement_of k, left cursor.new)) result (seen_as (λ os. Directs (directed AlignToBytes os)) (operands_at (places AlignToBytes) (left cursor.old))) }
 {
-    let bytes = place::value(alloc, cursor, Role::Alignment)?;
-    place::end(cursor, Slot::Value(Role::Alignment))?;
+    let bytes = slot::value(alloc, cursor, Role::Alignment)?;
+    slot::end(cursor, Slot::Value(Role::Alignment))?;
     Ok(StatementKind::AlignsToBytes(bytes))
 }
 
 /// The operands of `.set`: `name, e`.
 #[tactic(auto, unfolding(rv_parse_laws::specs::Parsing::operands_at))]
-fn set<'a>(alloc: Global, cursor: &mut Cursor<'a>) -> Result<StatementKind<'a>, Refusal>
+fn set<'a>(alloc: Global, cursor: &mut Cursor<'a>) -> Result<StatementKind<'a>, ReadError>
     ensures { Answers (λ k. (statement_of k, left cursor.new)) result (seen_as (λ os. Directs (directed Set os)) (operands_at (places Set) (left cursor.old))) }
 {
-    let name = place::symbol(cursor)?;
-    place::comma(cursor, Slot::Symbol)?;
-    let expression = place::value(alloc, cursor, Role::Directive)?;
-    place::end(cursor, Slot::Value(Role::Directive))?;
+    let name = slot::symbol(cursor)?;
+    slot::comma(cursor, Slot::Symbol)?;
+    let expression = slot::value(alloc, cursor, Role::Directive)?;
+    slot::end(cursor, Slot::Value(Role::Directive))?;
     let setting = Box::new(alloc, Setting { name, expression })?;
     Ok(StatementKind::Sets(setting))
 }
 
 /// The word of `.option`.
-#[tactic(auto, using(crate::proofs::Tokens::choice_no_last), unfolding(rv_text::specs::Cursor::left, rv_parse_laws::specs::Parsing::operands_at))]
-fn option<'a>(cursor: &mut Cursor<'a>) -> Result<StatementKind<'a>, Wrong>
+#[tactic(auto, using(crate::proofs::Tokens::choice_no_last), unfolding(rv_lexer::specs::Cursor::left, rv_parse_laws::specs::Parsing::operands_at))]
+fn option<'a>(cursor: &mut Cursor<'a>) -> Result<StatementKind<'a>, SyntaxError>
     ensures { Gives (λ k. (statement_of k, left cursor.new)) result (seen_as (λ os. Directs (directed Option os)) (operands_at (places Option) (left cursor.old))) }
 {
     match kinds::choice_of(cursor.next.kind) {
         Some(choice) => {
             cursor.advance();
-            place::end(cursor, Slot::Choice)?;
+            slot::end(cursor, Slot::Choice)?;
             Ok(StatementKind::Chooses(choice))
         }
         None => Err(cursor.wrong(fault::at_option(cursor.next.kind))),
     }
 }
 
-/// The type of a section, behind its name and flags; the size of an entry behind it is read and dropped.
+/// The type of a section, after its name and flags; the size of an entry after it is read and dropped.
 #[tactic(auto, unfolding(rv_parse_laws::specs::Parsing::operands_at))]
 fn section_type<'a>(
     alloc: Global,
     cursor: &mut Cursor<'a>,
     name: &'a [u8],
     flags: &'a [u8],
-) -> Result<StatementKind<'a>, Refusal>
+) -> Result<StatementKind<'a>, ReadError>
     ensures { Answers (λ k. (statement_of k, left cursor.new)) result (seen_as (λ os. Directs (directed Section (word_of name.entry ∷ string_of flags.entry ∷ os))) (operands_at type_slots (left cursor.old))) }
 {
-    let kind = place::section_type(cursor)?;
-    if place::begins_comma(cursor) {
-        place::comma(cursor, Slot::Type)?;
-        let _size = place::value(alloc, cursor, Role::Directive)?;
-        place::end(cursor, Slot::Value(Role::Directive))?;
+    let kind = slot::section_type(cursor)?;
+    if slot::begins_comma(cursor) {
+        slot::comma(cursor, Slot::Type)?;
+        let _size = slot::value(alloc, cursor, Role::Directive)?;
+        slot::end(cursor, Slot::Value(Role::Directive))?;
     } else {
-        place::end(cursor, Slot::Type)?;
+        slot::end(cursor, Slot::Type)?;
     }
     let opening = Opening {
         name,
@@ -199,22 +208,22 @@ fn section_type<'a>(
     Ok(StatementKind::Opens(Box::new(alloc, opening)?))
 }
 
-/// The flags of a section, behind its name, and its type.
+/// The flags of a section, after its name, and its type.
 #[tactic(auto, unfolding(rv_parse_laws::specs::Parsing::operands_at))]
 fn section_flags<'a>(
     alloc: Global,
     cursor: &mut Cursor<'a>,
     name: &'a [u8],
-) -> Result<StatementKind<'a>, Refusal>
+) -> Result<StatementKind<'a>, ReadError>
     ensures { Answers (λ k. (statement_of k, left cursor.new)) result (seen_as (λ os. Directs (directed Section (word_of name.entry ∷ os))) (operands_at flags_slots (left cursor.old))) }
 {
-    let flags = place::flags(cursor)?;
-    if place::begins_comma(cursor) {
-        place::comma(cursor, Slot::Flags)?;
-        place::at_sign(cursor)?;
+    let flags = slot::flags(cursor)?;
+    if slot::begins_comma(cursor) {
+        slot::comma(cursor, Slot::Flags)?;
+        slot::at_sign(cursor)?;
         return section_type(alloc, cursor, name, flags);
     }
-    place::end(cursor, Slot::Flags)?;
+    slot::end(cursor, Slot::Flags)?;
     let opening = Opening {
         name,
         flags: Some(flags),
@@ -225,15 +234,15 @@ fn section_flags<'a>(
 
 /// The operands of `.section`.
 #[tactic(auto, unfolding(rv_parse_laws::specs::Parsing::operands_at))]
-fn section<'a>(alloc: Global, cursor: &mut Cursor<'a>) -> Result<StatementKind<'a>, Refusal>
+fn section<'a>(alloc: Global, cursor: &mut Cursor<'a>) -> Result<StatementKind<'a>, ReadError>
     ensures { Answers (λ k. (statement_of k, left cursor.new)) result (seen_as (λ os. Directs (directed Section os)) (operands_at (places Section) (left cursor.old))) }
 {
-    let name = place::section_name(cursor)?;
-    if place::begins_comma(cursor) {
-        place::comma(cursor, Slot::Section)?;
+    let name = slot::section_name(cursor)?;
+    if slot::begins_comma(cursor) {
+        slot::comma(cursor, Slot::Section)?;
         return section_flags(alloc, cursor, name);
     }
-    place::end(cursor, Slot::Section)?;
+    slot::end(cursor, Slot::Section)?;
     let opening = Opening {
         name,
         flags: None,
@@ -244,16 +253,16 @@ fn section<'a>(alloc: Global, cursor: &mut Cursor<'a>) -> Result<StatementKind<'
 
 /// No operands: the statement's end.
 #[tactic(auto, unfolding(rv_parse_laws::specs::Parsing::operands_at))]
-fn enters<'a>(cursor: &mut Cursor<'a>, section: Standard) -> Result<StatementKind<'a>, Wrong>
+fn enters<'a>(cursor: &mut Cursor<'a>, section: Standard) -> Result<StatementKind<'a>, SyntaxError>
     ensures { Gives (λ k. (statement_of k, left cursor.new)) result (seen_as (λ os. Directs (directed (Enters section) os)) (operands_at (places (Enters section)) (left cursor.old))) }
 {
-    place::end(cursor, Slot::Register)?;
+    slot::end(cursor, Slot::Register)?;
     Ok(StatementKind::Enters(section))
 }
 
 /// Operands that are not looked at.
-#[tactic(auto, using(crate::proofs::Tokens::any_no_last), unfolding(rv_text::specs::Cursor::left))]
-fn anything(cursor: &mut Cursor<'_>) -> Result<(), Wrong>
+#[tactic(auto, using(crate::proofs::Tokens::any_no_last), unfolding(rv_lexer::specs::Cursor::left))]
+fn anything(cursor: &mut Cursor<'_>) -> Result<(), SyntaxError>
     ensures { Gives (λ _. ([], left cursor.new)) result (any_at (left cursor.old)) }
 {
     while !kinds::is_end(cursor.next.kind) {
@@ -267,7 +276,7 @@ fn anything(cursor: &mut Cursor<'_>) -> Result<(), Wrong>
 
 /// The operands of a directive without effect.
 #[tactic(auto, unfolding(rv_parse_laws::specs::Parsing::operands_at))]
-fn ignored<'a>(cursor: &mut Cursor<'a>) -> Result<StatementKind<'a>, Wrong>
+fn ignored<'a>(cursor: &mut Cursor<'a>) -> Result<StatementKind<'a>, SyntaxError>
     ensures { Gives (λ k. (statement_of k, left cursor.new)) result (seen_as (λ os. Directs (directed Ignored os)) (operands_at (places Ignored) (left cursor.old))) }
 {
     anything(cursor)?;
@@ -279,7 +288,7 @@ pub fn directive<'a>(
     alloc: Global,
     cursor: &mut Cursor<'a>,
     word: DirectiveWord,
-) -> Result<StatementKind<'a>, Refusal>
+) -> Result<StatementKind<'a>, ReadError>
     ensures { Answers (λ k. (statement_of k, left cursor.new)) result (seen_as (λ os. Directs (directed word os)) (operands_at (places word) (left cursor.old))) }
 {
     match word {

@@ -7,18 +7,19 @@ ghost use Rattle.rv_text.specs.Expr.{tree_of_expr};
 ghost use Rattle.rv_statement.specs.View.{statement_of, with_expression};
 ghost use Rattle.rv_parse_laws.specs.Syntax.{slots, closed, atomic_address, jump_target, Stops, A_register};
 ghost use Rattle.rv_parse_laws.specs.Parsing.{operands_at, seen_as};
-ghost use Rattle.rv_text.specs.Cursor.{left, Answers};
+ghost use Rattle.rv_lexer.specs.Cursor.{left, Answers};
 ghost use Rattle.rv_parse.specs.Left.{Gives};
 
-use crate::fault::{Role, Slot};
-use crate::place;
-use crate::words::has_constant;
+use crate::slot;
 use rv_isa::{
     AtomicForm, AtomicOperation, ImmediateOperation, LoadOperation, Reg, RegisterOperation,
     ShiftOperation, StoreOperation, UpperOperation,
 };
 use rv_statement::{Mnemonic, Operation, Plain, StatementKind};
-use rv_text::{Cursor, Expr, Refusal, Wrong};
+use rv_text::{Cursor, Expr, ReadError, SyntaxError};
+use rv_words::Role;
+use rv_words::fault::Slot;
+use rv_words::words::has_constant;
 use std::alloc::Global;
 
 /// An instruction with its expression.
@@ -28,28 +29,28 @@ fn with<'a>(operation: Operation, expression: Expr<'a>) -> StatementKind<'a>
     StatementKind::With(operation, expression)
 }
 
-/// A register in parentheses, behind the opening one.
+/// A register in parentheses, after the opening one.
 #[tactic(auto, unfolding(rv_parse_laws::specs::Parsing::operands_at))]
-fn closed(cursor: &mut Cursor<'_>) -> Result<Reg, Wrong>
+fn closed(cursor: &mut Cursor<'_>) -> Result<Reg, SyntaxError>
     ensures { Gives (λ r. (Register r ∷ [], left cursor.new)) result (operands_at closed (left cursor.old)) }
 {
-    let base = place::register(cursor)?;
-    place::closing(cursor)?;
-    place::end(cursor, Slot::Register)?;
+    let base = slot::register(cursor)?;
+    slot::closing(cursor)?;
+    slot::end(cursor, Slot::Register)?;
     Ok(base)
 }
 
 /// The address of an atomic.
 #[tactic(auto, unfolding(rv_parse_laws::specs::Parsing::operands_at))]
-fn atomic_address(cursor: &mut Cursor<'_>) -> Result<Reg, Wrong>
+fn atomic_address(cursor: &mut Cursor<'_>) -> Result<Reg, SyntaxError>
     ensures { Gives (λ r. (Register r ∷ [], left cursor.new)) result (operands_at atomic_address (left cursor.old)) }
 {
-    if place::begins_opening(cursor) {
-        place::opening(cursor, Slot::Register)?;
+    if slot::begins_opening(cursor) {
+        slot::opening(cursor, Slot::Register)?;
         return closed(cursor);
     }
-    place::zero(cursor)?;
-    place::opening(cursor, Slot::Zero)?;
+    slot::zero(cursor)?;
+    slot::opening(cursor, Slot::Zero)?;
     closed(cursor)
 }
 
@@ -59,20 +60,20 @@ fn registers<'a>(
     alloc: Global,
     cursor: &mut Cursor<'a>,
     operation: RegisterOperation,
-) -> Result<StatementKind<'a>, Refusal>
+) -> Result<StatementKind<'a>, ReadError>
     ensures { Answers (λ k. (statement_of k, left cursor.new)) result (seen_as (Instruction (Registers operation)) (operands_at (slots (Registers operation)) (left cursor.old))) }
 {
-    let rd = place::register(cursor)?;
-    place::comma(cursor, Slot::Register)?;
-    let rs1 = place::register(cursor)?;
-    place::comma(cursor, Slot::Register)?;
-    if has_constant(operation) && !place::begins_register(cursor) {
-        let value = place::value(alloc, cursor, Role::Operand)?;
-        place::end(cursor, Slot::Value(Role::Operand))?;
+    let rd = slot::register(cursor)?;
+    slot::comma(cursor, Slot::Register)?;
+    let rs1 = slot::register(cursor)?;
+    slot::comma(cursor, Slot::Register)?;
+    if has_constant(operation) && !slot::begins_register(cursor) {
+        let value = slot::value(alloc, cursor, Role::Operand)?;
+        slot::end(cursor, Slot::Value(Role::Operand))?;
         return Ok(with(Operation::Registers(operation, rd, rs1), value));
     }
-    let rs2 = place::register(cursor)?;
-    place::end(cursor, Slot::Register)?;
+    let rs2 = slot::register(cursor)?;
+    slot::end(cursor, Slot::Register)?;
     Ok(StatementKind::Plain(Plain::Registers(operation, rd, rs1, rs2)))
 }
 
@@ -82,15 +83,15 @@ fn immediate<'a>(
     alloc: Global,
     cursor: &mut Cursor<'a>,
     operation: ImmediateOperation,
-) -> Result<StatementKind<'a>, Refusal>
+) -> Result<StatementKind<'a>, ReadError>
     ensures { Answers (λ k. (statement_of k, left cursor.new)) result (seen_as (Instruction (Immediate operation)) (operands_at (slots (Immediate operation)) (left cursor.old))) }
 {
-    let rd = place::register(cursor)?;
-    place::comma(cursor, Slot::Register)?;
-    let rs1 = place::register(cursor)?;
-    place::comma(cursor, Slot::Register)?;
-    let value = place::value(alloc, cursor, Role::Operand)?;
-    place::end(cursor, Slot::Value(Role::Operand))?;
+    let rd = slot::register(cursor)?;
+    slot::comma(cursor, Slot::Register)?;
+    let rs1 = slot::register(cursor)?;
+    slot::comma(cursor, Slot::Register)?;
+    let value = slot::value(alloc, cursor, Role::Operand)?;
+    slot::end(cursor, Slot::Value(Role::Operand))?;
     Ok(with(Operation::Immediate(operation, rd, rs1), value))
 }
 
@@ -100,15 +101,15 @@ fn shift<'a>(
     alloc: Global,
     cursor: &mut Cursor<'a>,
     operation: ShiftOperation,
-) -> Result<StatementKind<'a>, Refusal>
+) -> Result<StatementKind<'a>, ReadError>
     ensures { Answers (λ k. (statement_of k, left cursor.new)) result (seen_as (Instruction (Shift operation)) (operands_at (slots (Shift operation)) (left cursor.old))) }
 {
-    let rd = place::register(cursor)?;
-    place::comma(cursor, Slot::Register)?;
-    let rs1 = place::register(cursor)?;
-    place::comma(cursor, Slot::Register)?;
-    let amount = place::value(alloc, cursor, Role::Operand)?;
-    place::end(cursor, Slot::Value(Role::Operand))?;
+    let rd = slot::register(cursor)?;
+    slot::comma(cursor, Slot::Register)?;
+    let rs1 = slot::register(cursor)?;
+    slot::comma(cursor, Slot::Register)?;
+    let amount = slot::value(alloc, cursor, Role::Operand)?;
+    slot::end(cursor, Slot::Value(Role::Operand))?;
     Ok(with(Operation::Shift(operation, rd, rs1), amount))
 }
 
@@ -118,13 +119,13 @@ fn upper<'a>(
     alloc: Global,
     cursor: &mut Cursor<'a>,
     operation: UpperOperation,
-) -> Result<StatementKind<'a>, Refusal>
+) -> Result<StatementKind<'a>, ReadError>
     ensures { Answers (λ k. (statement_of k, left cursor.new)) result (seen_as (Instruction (Upper operation)) (operands_at (slots (Upper operation)) (left cursor.old))) }
 {
-    let rd = place::register(cursor)?;
-    place::comma(cursor, Slot::Register)?;
-    let value = place::value(alloc, cursor, Role::Operand)?;
-    place::end(cursor, Slot::Value(Role::Operand))?;
+    let rd = slot::register(cursor)?;
+    slot::comma(cursor, Slot::Register)?;
+    let value = slot::value(alloc, cursor, Role::Operand)?;
+    slot::end(cursor, Slot::Value(Role::Operand))?;
     Ok(with(Operation::Upper(operation, rd), value))
 }
 
@@ -134,19 +135,19 @@ fn load<'a>(
     alloc: Global,
     cursor: &mut Cursor<'a>,
     operation: LoadOperation,
-) -> Result<StatementKind<'a>, Refusal>
+) -> Result<StatementKind<'a>, ReadError>
     ensures { Answers (λ k. (statement_of k, left cursor.new)) result (seen_as (Instruction (Load operation)) (operands_at (slots (Load operation)) (left cursor.old))) }
 {
-    let rd = place::register(cursor)?;
-    place::comma(cursor, Slot::Register)?;
-    if place::begins_base(cursor) {
-        let rs1 = place::base(cursor, Slot::Register)?;
-        place::end(cursor, Slot::Address(Role::Load))?;
+    let rd = slot::register(cursor)?;
+    slot::comma(cursor, Slot::Register)?;
+    if slot::begins_base(cursor) {
+        let rs1 = slot::base(cursor, Slot::Register)?;
+        slot::end(cursor, Slot::Address(Role::Load))?;
         return Ok(StatementKind::Plain(Plain::Load(operation, rd, rs1)));
     }
-    let offset = place::value(alloc, cursor, Role::Load)?;
-    let rs1 = place::base(cursor, Slot::Value(Role::Load))?;
-    place::end(cursor, Slot::Address(Role::Load))?;
+    let offset = slot::value(alloc, cursor, Role::Load)?;
+    let rs1 = slot::base(cursor, Slot::Value(Role::Load))?;
+    slot::end(cursor, Slot::Address(Role::Load))?;
     Ok(with(Operation::Load(operation, rd, rs1), offset))
 }
 
@@ -156,29 +157,32 @@ fn store<'a>(
     alloc: Global,
     cursor: &mut Cursor<'a>,
     operation: StoreOperation,
-) -> Result<StatementKind<'a>, Refusal>
+) -> Result<StatementKind<'a>, ReadError>
     ensures { Answers (λ k. (statement_of k, left cursor.new)) result (seen_as (Instruction (Store operation)) (operands_at (slots (Store operation)) (left cursor.old))) }
 {
-    let rs2 = place::register(cursor)?;
-    place::comma(cursor, Slot::Register)?;
-    if place::begins_base(cursor) {
-        let rs1 = place::base(cursor, Slot::Register)?;
-        place::end(cursor, Slot::Address(Role::Store))?;
+    let rs2 = slot::register(cursor)?;
+    slot::comma(cursor, Slot::Register)?;
+    if slot::begins_base(cursor) {
+        let rs1 = slot::base(cursor, Slot::Register)?;
+        slot::end(cursor, Slot::Address(Role::Store))?;
         return Ok(StatementKind::Plain(Plain::Store(operation, rs2, rs1)));
     }
-    let offset = place::value(alloc, cursor, Role::Store)?;
-    let rs1 = place::base(cursor, Slot::Value(Role::Store))?;
-    place::end(cursor, Slot::Address(Role::Store))?;
+    let offset = slot::value(alloc, cursor, Role::Store)?;
+    let rs1 = slot::base(cursor, Slot::Value(Role::Store))?;
+    slot::end(cursor, Slot::Address(Role::Store))?;
     Ok(with(Operation::Store(operation, rs2, rs1), offset))
 }
 
 /// `rd, (rs1)`
 #[tactic(auto, unfolding(rv_parse_laws::specs::Parsing::operands_at))]
-fn load_reserved<'a>(cursor: &mut Cursor<'a>, form: AtomicForm) -> Result<StatementKind<'a>, Wrong>
+fn load_reserved<'a>(
+    cursor: &mut Cursor<'a>,
+    form: AtomicForm,
+) -> Result<StatementKind<'a>, SyntaxError>
     ensures { Gives (λ k. (statement_of k, left cursor.new)) result (seen_as (Instruction (LoadReserved form)) (operands_at (slots (LoadReserved form)) (left cursor.old))) }
 {
-    let rd = place::register(cursor)?;
-    place::comma(cursor, Slot::Register)?;
+    let rd = slot::register(cursor)?;
+    slot::comma(cursor, Slot::Register)?;
     let rs1 = atomic_address(cursor)?;
     Ok(StatementKind::Plain(Plain::LoadReserved(form, rd, rs1)))
 }
@@ -189,107 +193,107 @@ fn atomic<'a>(
     cursor: &mut Cursor<'a>,
     operation: AtomicOperation,
     form: AtomicForm,
-) -> Result<StatementKind<'a>, Wrong>
+) -> Result<StatementKind<'a>, SyntaxError>
     ensures { Gives (λ k. (statement_of k, left cursor.new)) result (seen_as (Instruction (Atomic operation form)) (operands_at (slots (Atomic operation form)) (left cursor.old))) }
 {
-    let rd = place::register(cursor)?;
-    place::comma(cursor, Slot::Register)?;
-    let rs2 = place::register(cursor)?;
-    place::comma(cursor, Slot::Register)?;
+    let rd = slot::register(cursor)?;
+    slot::comma(cursor, Slot::Register)?;
+    let rs2 = slot::register(cursor)?;
+    slot::comma(cursor, Slot::Register)?;
     let rs1 = atomic_address(cursor)?;
     Ok(StatementKind::Plain(Plain::Atomic(operation, form, rd, rs2, rs1)))
 }
 
 /// The operands of `li`: `rd, value`.
 #[tactic(auto, unfolding(rv_parse_laws::specs::Parsing::operands_at))]
-fn li<'a>(alloc: Global, cursor: &mut Cursor<'a>) -> Result<StatementKind<'a>, Refusal>
+fn li<'a>(alloc: Global, cursor: &mut Cursor<'a>) -> Result<StatementKind<'a>, ReadError>
     ensures { Answers (λ k. (statement_of k, left cursor.new)) result (seen_as (Instruction (Li)) (operands_at (slots (Li)) (left cursor.old))) }
 {
-    let rd = place::register(cursor)?;
-    place::comma(cursor, Slot::Register)?;
-    let value = place::value(alloc, cursor, Role::Operand)?;
-    place::end(cursor, Slot::Value(Role::Operand))?;
+    let rd = slot::register(cursor)?;
+    slot::comma(cursor, Slot::Register)?;
+    let value = slot::value(alloc, cursor, Role::Operand)?;
+    slot::end(cursor, Slot::Value(Role::Operand))?;
     Ok(with(Operation::Li(rd), value))
 }
 
 /// The operands of `jalr`: an address, or the link register and its target.
 #[tactic(auto, unfolding(rv_parse_laws::specs::Parsing::operands_at))]
-fn jalr<'a>(alloc: Global, cursor: &mut Cursor<'a>) -> Result<StatementKind<'a>, Refusal>
+fn jalr<'a>(alloc: Global, cursor: &mut Cursor<'a>) -> Result<StatementKind<'a>, ReadError>
     ensures { Answers (λ k. (statement_of k, left cursor.new)) result (seen_as (Instruction Jalr) (operands_at (slots Jalr) (left cursor.old))) }
 {
-    if !place::begins_register(cursor) {
-        if place::begins_base(cursor) {
-            let rs1 = place::base(cursor, Slot::Register)?;
-            place::end(cursor, Slot::Address(Role::Operand))?;
+    if !slot::begins_register(cursor) {
+        if slot::begins_base(cursor) {
+            let rs1 = slot::base(cursor, Slot::Register)?;
+            slot::end(cursor, Slot::Address(Role::Operand))?;
             return Ok(StatementKind::Plain(Plain::JalrLinked(rs1)));
         }
-        let offset = place::value(alloc, cursor, Role::Operand)?;
-        let rs1 = place::base(cursor, Slot::Value(Role::Operand))?;
-        place::end(cursor, Slot::Address(Role::Operand))?;
+        let offset = slot::value(alloc, cursor, Role::Operand)?;
+        let rs1 = slot::base(cursor, Slot::Value(Role::Operand))?;
+        slot::end(cursor, Slot::Address(Role::Operand))?;
         return Ok(with(Operation::JalrLinked(rs1), offset));
     }
-    let first = place::register(cursor)?;
-    if place::begins_comma(cursor) {
-        place::comma(cursor, Slot::Register)?;
+    let first = slot::register(cursor)?;
+    if slot::begins_comma(cursor) {
+        slot::comma(cursor, Slot::Register)?;
         return jump_target(alloc, cursor, first);
     }
-    place::end(cursor, Slot::Register)?;
+    slot::end(cursor, Slot::Register)?;
     Ok(StatementKind::Plain(Plain::JalrLinked(first)))
 }
 
-/// The target of a `jalr` behind its link register and the comma.
+/// The target of a `jalr` after its link register and the comma.
 #[tactic(auto, unfolding(rv_parse_laws::specs::Parsing::operands_at))]
 fn jump_target<'a>(
     alloc: Global,
     cursor: &mut Cursor<'a>,
     rd: Reg,
-) -> Result<StatementKind<'a>, Refusal>
+) -> Result<StatementKind<'a>, ReadError>
     ensures { Answers (λ k. (statement_of k, left cursor.new)) result (seen_as (Instruction Jalr) (seen_as (λ os. Register rd ∷ os) (seen_as (λ os. os) (operands_at jump_target (left cursor.old))))) }
 {
-    if !place::begins_register(cursor) {
-        if place::begins_base(cursor) {
-            let rs1 = place::base(cursor, Slot::Register)?;
-            place::end(cursor, Slot::Address(Role::Operand))?;
+    if !slot::begins_register(cursor) {
+        if slot::begins_base(cursor) {
+            let rs1 = slot::base(cursor, Slot::Register)?;
+            slot::end(cursor, Slot::Address(Role::Operand))?;
             return Ok(StatementKind::Plain(Plain::Jalr(rd, rs1)));
         }
-        let offset = place::value(alloc, cursor, Role::Operand)?;
-        let rs1 = place::base(cursor, Slot::Value(Role::Operand))?;
-        place::end(cursor, Slot::Address(Role::Operand))?;
+        let offset = slot::value(alloc, cursor, Role::Operand)?;
+        let rs1 = slot::base(cursor, Slot::Value(Role::Operand))?;
+        slot::end(cursor, Slot::Address(Role::Operand))?;
         return Ok(with(Operation::Jalr(rd, rs1), offset));
     }
-    let rs1 = place::register(cursor)?;
-    if place::begins_comma(cursor) {
-        place::comma(cursor, Slot::Register)?;
-        let value = place::value(alloc, cursor, Role::Operand)?;
-        place::end(cursor, Slot::Value(Role::Operand))?;
+    let rs1 = slot::register(cursor)?;
+    if slot::begins_comma(cursor) {
+        slot::comma(cursor, Slot::Register)?;
+        let value = slot::value(alloc, cursor, Role::Operand)?;
+        slot::end(cursor, Slot::Value(Role::Operand))?;
         return Ok(with(Operation::JalrThen(rd, rs1), value));
     }
-    place::end(cursor, Slot::Register)?;
+    slot::end(cursor, Slot::Register)?;
     Ok(StatementKind::Plain(Plain::Jalr(rd, rs1)))
 }
 
 /// The operands of `fence`: none, or two sets of accesses.
 #[tactic(auto, unfolding(rv_parse_laws::specs::Parsing::operands_at))]
-fn fence<'a>(cursor: &mut Cursor<'a>) -> Result<StatementKind<'a>, Wrong>
+fn fence<'a>(cursor: &mut Cursor<'a>) -> Result<StatementKind<'a>, SyntaxError>
     ensures { Gives (λ k. (statement_of k, left cursor.new)) result (seen_as (Instruction (Fence)) (operands_at (slots (Fence)) (left cursor.old))) }
 {
-    if place::begins_accesses(cursor) {
-        let before = place::accesses(cursor)?;
-        place::comma(cursor, Slot::Accesses)?;
-        let after = place::accesses(cursor)?;
-        place::end(cursor, Slot::Accesses)?;
+    if slot::begins_accesses(cursor) {
+        let before = slot::accesses(cursor)?;
+        slot::comma(cursor, Slot::Accesses)?;
+        let after = slot::accesses(cursor)?;
+        slot::end(cursor, Slot::Accesses)?;
         return Ok(StatementKind::Plain(Plain::FenceBetween(before, after)));
     }
-    place::end(cursor, Slot::Register)?;
+    slot::end(cursor, Slot::Register)?;
     Ok(StatementKind::Plain(Plain::Fence))
 }
 
 /// No operands: the statement's end.
 #[tactic(auto, unfolding(rv_parse_laws::specs::Parsing::operands_at))]
-fn no_operands(cursor: &Cursor<'_>) -> Result<(), Wrong>
+fn no_operands(cursor: &Cursor<'_>) -> Result<(), SyntaxError>
     ensures { Gives (λ _. ([], left cursor.now)) result (operands_at (Stops A_register) (left cursor.now)) }
 {
-    place::end(cursor, Slot::Register)
+    slot::end(cursor, Slot::Register)
 }
 
 /// The operands of a mnemonic, up to the statement's end.
@@ -297,7 +301,7 @@ pub fn instruction<'a>(
     alloc: Global,
     cursor: &mut Cursor<'a>,
     mnemonic: Mnemonic,
-) -> Result<StatementKind<'a>, Refusal>
+) -> Result<StatementKind<'a>, ReadError>
     ensures { Answers (λ k. (statement_of k, left cursor.new)) result (seen_as (Instruction mnemonic) (operands_at (slots mnemonic) (left cursor.old))) }
 {
     match mnemonic {

@@ -1,19 +1,26 @@
 //! Statements of a source: its tokens read as labels, instructions and directives.
 //!
+//! Takes the bytes of one source. Gives its statements in order, each with its line, or the first fault.
+//! Main contract: `parse`: in `reads` the bytes are read as these statements (`Reads`), in `refuses` the fault is the first
+//! one of the bytes, with its line (`Refuses`), unless memory ran out.
+//! Must not know what a statement means, what a symbol's value is, or where a section lies.
+//!
+//! ```text
+//! match parse(alloc, source) {
+//!     Ok(statements) => statements.len(),
+//!     Err(SourceFault::At { code, line }) => code.number() and line name the first fault
+//!     Err(SourceFault::OutOfMemory) => ..
+//! ```
+//!
 //! Source: RISC-V Assembly Programmer's Manual; GNU as, "Statements", "Pseudo Ops" and "RISC-V Dependent Features".
 #![tactic(auto)]
 
 mod directive;
-mod fault;
 mod instruction;
-mod kinds;
 mod opening;
-mod place;
+mod slot;
 mod source;
 mod statement;
-#[cfg(test)]
-mod tests;
-mod words;
 
 pub use rv_text::{SourceCode, SourceFault};
 pub use source::parse;

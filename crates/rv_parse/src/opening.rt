@@ -2,17 +2,18 @@
 
 ghost use Rattle.std.specs.Str.{bytes_eq};
 ghost use Rattle.std.specs.Prelude.{◌≡◌, ℕ, List, [], Bool, ◌||◌, option_map, IfOk, OnOk};
-ghost use Rattle.rv_text.specs.Cursor.{left, wrong_of};
+ghost use Rattle.rv_lexer.specs.Cursor.{left, syntax_error_of};
 ghost use Rattle.rv_statement.specs.Statement.{Spoken};
 ghost use Rattle.rv_statement.specs.View.{statement_of};
 ghost use Rattle.rv_parse_laws.specs.Opening.{opens, is_opened, flags_fault, type_fault};
 ghost use Rattle.rv_parse_laws.specs.Parsing.{front_fault, type_wrong, flags_wrong, opening_at};
 ghost use Rattle.rv_parse.specs.Opened.{Has, Knows};
 
-use crate::fault::{self, Slot};
-use crate::{kinds, place, words};
+use crate::slot;
 use rv_statement::StatementKind;
-use rv_text::{Cursor, LONGEST_NAME, SourceCode, TokenKind, Wrong, append_string};
+use rv_text::{Cursor, LONGEST_NAME, SourceCode, SyntaxError, TokenKind, append_string};
+use rv_words::fault::{self, Slot};
+use rv_words::{kinds, words};
 use std::alloc::{AllocError, Global};
 use std::collections::HashSet;
 
@@ -60,9 +61,9 @@ impl<'a> Opened<'a> {
 }
 
 /// What is wrong with the next token as the type of a name that is known, or new.
-#[tactic(auto, unfolding(rv_text::specs::Cursor::left))]
-fn type_fault(cursor: &Cursor<'_>, known: bool) -> Option<Wrong>
-    ensures { option_map wrong_of result ≡ front_fault (type_fault known) (left cursor.now) }
+#[tactic(auto, unfolding(rv_lexer::specs::Cursor::left))]
+fn type_fault(cursor: &Cursor<'_>, known: bool) -> Option<SyntaxError>
+    ensures { option_map syntax_error_of result ≡ front_fault (type_fault known) (left cursor.now) }
 {
     let TokenKind::Name(word) = cursor.next.kind else {
         return None;
@@ -81,9 +82,13 @@ fn type_fault(cursor: &Cursor<'_>, known: bool) -> Option<Wrong>
 }
 
 /// What is wrong with the next token as the flags of a name that is known, or new.
-#[tactic(auto, unfolding(rv_text::specs::Cursor::left))]
-fn flags_fault(alloc: Global, cursor: &Cursor<'_>, known: bool) -> Result<Option<Wrong>, AllocError>
-    ensures { IfOk result (λ found. option_map wrong_of found ≡ front_fault (flags_fault known) (left cursor.now)) }
+#[tactic(auto, unfolding(rv_lexer::specs::Cursor::left))]
+fn flags_fault(
+    alloc: Global,
+    cursor: &Cursor<'_>,
+    known: bool,
+) -> Result<Option<SyntaxError>, AllocError>
+    ensures { IfOk result (λ found. option_map syntax_error_of found ≡ front_fault (flags_fault known) (left cursor.now)) }
 {
     if known {
         return Ok(None);
@@ -100,26 +105,30 @@ fn flags_fault(alloc: Global, cursor: &Cursor<'_>, known: bool) -> Result<Option
     }
 }
 
-/// What is wrong with the type behind flags, a comma and `@`.
-fn type_wrong(cursor: Cursor<'_>, known: bool) -> Option<Wrong>
-    ensures { option_map wrong_of result ≡ type_wrong known (left cursor.entry) }
+/// What is wrong with the type after flags, a comma and `@`.
+fn type_wrong(cursor: Cursor<'_>, known: bool) -> Option<SyntaxError>
+    ensures { option_map syntax_error_of result ≡ type_wrong known (left cursor.entry) }
 {
     let mut ahead = cursor;
-    if place::flags(&mut ahead).is_err() {
+    if slot::flags(&mut ahead).is_err() {
         return None;
     }
-    if place::comma(&mut ahead, Slot::Flags).is_err() {
+    if slot::comma(&mut ahead, Slot::Flags).is_err() {
         return None;
     }
-    if place::at_sign(&mut ahead).is_err() {
+    if slot::at_sign(&mut ahead).is_err() {
         return None;
     }
     type_fault(&ahead, known)
 }
 
-/// What is wrong with flags and the type behind them.
-fn flags_wrong(alloc: Global, cursor: Cursor<'_>, known: bool) -> Result<Option<Wrong>, AllocError>
-    ensures { IfOk result (λ found. option_map wrong_of found ≡ flags_wrong known (left cursor.entry)) }
+/// What is wrong with flags and the type after them.
+fn flags_wrong(
+    alloc: Global,
+    cursor: Cursor<'_>,
+    known: bool,
+) -> Result<Option<SyntaxError>, AllocError>
+    ensures { IfOk result (λ found. option_map syntax_error_of found ≡ flags_wrong known (left cursor.entry)) }
 {
     match flags_fault(alloc, &cursor, known)? {
         Some(wrong) => Ok(Some(wrong)),
@@ -128,22 +137,22 @@ fn flags_wrong(alloc: Global, cursor: Cursor<'_>, known: bool) -> Result<Option<
 }
 
 /// What is wrong with the flags or the type of an opening that begins here: they count where the name is new.
-#[tactic(auto, using(crate::proofs::Opened::section_no_last, crate::proofs::Opened::named_left, crate::proofs::Opened::name_wrong, crate::proofs::Opened::comma_wrong), unfolding(rv_text::specs::Cursor::left, rv_parse_laws::specs::Parsing::opening_at))]
+#[tactic(auto, using(crate::proofs::Opened::section_no_last, crate::proofs::Opened::named_left, crate::proofs::Opened::name_wrong, crate::proofs::Opened::comma_wrong), unfolding(rv_lexer::specs::Cursor::left, rv_parse_laws::specs::Parsing::opening_at))]
 pub fn wrong_opening(
     alloc: Global,
     cursor: &Cursor<'_>,
     opened: &Opened<'_>,
-) -> Result<Option<Wrong>, AllocError>
-    ensures { IfOk result (λ found. (ss : List Spoken) → Knows (opened.now).set ss → option_map wrong_of found ≡ opening_at (is_opened ss) (left cursor.now)) }
+) -> Result<Option<SyntaxError>, AllocError>
+    ensures { IfOk result (λ found. (ss : List Spoken) → Knows (opened.now).set ss → option_map syntax_error_of found ≡ opening_at (is_opened ss) (left cursor.now)) }
 {
     if !kinds::is_section(cursor.next.kind) {
         return Ok(None);
     }
     let mut ahead = *cursor;
     ahead.advance();
-    match place::section_name(&mut ahead) {
+    match slot::section_name(&mut ahead) {
         Ok(name) => {
-            if place::comma(&mut ahead, Slot::Section).is_err() {
+            if slot::comma(&mut ahead, Slot::Section).is_err() {
                 return Ok(None);
             }
             flags_wrong(alloc, ahead, opened.has(name))

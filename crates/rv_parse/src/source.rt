@@ -1,26 +1,26 @@
 //! The statements of a source.
 
 ghost use Rattle.std.specs.Prelude.{◌≡◌, ◌<◌, ◌≤◌, List, [], IfOk, IfErr, IfSome, MatchResult, map, length, false, take, ◌+◌};
-ghost use Rattle.rv_text.specs.Token.{token_of, kind_of};
+ghost use Rattle.rv_lexer.specs.Token.{token_of, kind_of};
 ghost use Rattle.rv_text_laws.specs.Lexing.{newlines};
 ghost use Rattle.rv_parse_laws.specs.Syntax.{is_end, Says};
-ghost use Rattle.rv_text_laws.specs.Wrong.{limit};
+ghost use Rattle.rv_text_laws.specs.Codes.{limit};
 ghost use Rattle.rv_statement.specs.Statement.{Spoken};
 ghost use Rattle.rv_parse_laws.specs.Opening.{is_opened};
 ghost use Rattle.rv_parse_laws.specs.Parsing.{checked_at};
 ghost use Rattle.rv_parse.specs.Opened.{Knows};
 ghost use Rattle.rv_parse_laws.specs.Reading.{Reads, past_line, most_statements, SaysUpTo};
-ghost use Rattle.rv_text.specs.Left.{tokens_left};
+ghost use Rattle.rv_lexer.specs.Left.{tokens_left};
 ghost use Rattle.rv_statement.specs.View.{statement_of, said_by};
-ghost use Rattle.rv_text.specs.Cursor.{left, wrong_of, Answers};
+ghost use Rattle.rv_lexer.specs.Cursor.{left, syntax_error_of, Answers};
 ghost use Rattle.rv_parse.specs.Left.{StopsAt, RefusesTokens, RefusedWith};
 
-use crate::kinds;
 use crate::opening::{Opened, wrong_opening};
 use crate::statement::statement;
 use memchr::memrchr;
 use rv_statement::{Statement, StatementKind};
-use rv_text::{Cursor, Lexer, Refusal, SourceCode, SourceFault, Token, Wrong};
+use rv_text::{Cursor, Lexer, ReadError, SourceCode, SourceFault, SyntaxError, Token};
+use rv_words::kinds;
 use std::alloc::Global;
 
 /// The longest source, in bytes.
@@ -32,7 +32,7 @@ const LONGEST_LINE: usize = 65535;
 /// The most statements of a source.
 const MOST_STATEMENTS: usize = 1 << 22;
 
-/// The place of the first byte past the limit of its line. Of so many bytes as a line with its line feed may have, the
+/// The offset of the first byte past the limit of its line. Of the bytes that a line with its line feed may have, the
 /// last line feed alone is looked for: the lines before it are short enough.
 fn past_line(source: &[u8]) -> Option<usize>
     ensures place { result ≡ past_line 0 0 source.now }
@@ -49,11 +49,11 @@ fn past_line(source: &[u8]) -> Option<usize>
 }
 
 /// The fault of the first token of a statement past the most.
-fn past_statements(first: Token<'_>) -> Wrong
-    ensures { wrong_of result ≡ record { place = first.entry.start; line = first.entry.line; code = limit } }
+fn past_statements(first: Token<'_>) -> SyntaxError
+    ensures { syntax_error_of result ≡ record { offset = first.entry.start; line = first.entry.line; code = limit } }
 {
-    Wrong {
-        place: first.start as usize,
+    SyntaxError {
+        offset: first.start as usize,
         line: first.line,
         code: SourceCode::Limit,
     }
@@ -64,23 +64,23 @@ fn checked<'a>(
     alloc: Global,
     cursor: &mut Cursor<'a>,
     opened: &Opened<'a>,
-) -> Result<StatementKind<'a>, Refusal>
+) -> Result<StatementKind<'a>, ReadError>
     requires { is_end (kind_of cursor.old.next.kind) ≡ false }
     ensures { (ss : List Spoken) → Knows (opened.now).set ss → Answers (λ k. (Says (statement_of k), left cursor.new)) result (checked_at (is_opened ss) (left cursor.old)) }
 {
     if let Some(wrong) = wrong_opening(alloc, cursor, opened)? {
-        return Err(Refusal::At(wrong));
+        return Err(ReadError::At(wrong));
     }
     statement(alloc, cursor)
 }
 
-/// The statement at the front of the tokens, behind so many others; the next token ends none.
+/// The statement at the front of the tokens, after `count` others; the next token ends none.
 fn next_statement<'a>(
     alloc: Global,
     cursor: &mut Cursor<'a>,
     count: usize,
     opened: &Opened<'a>,
-) -> Result<Statement<'a>, Refusal>
+) -> Result<Statement<'a>, ReadError>
     requires { is_end (kind_of cursor.old.next.kind) ≡ false }
     ensures read { (ss : List Spoken) → Knows (opened.now).set ss → IfOk result (λ s. checked_at (is_opened ss) (left cursor.old) ≡ Ok (Says (statement_of s.kind), left cursor.new)) }
     ensures line { IfOk result (λ s. s.line ≡ cursor.old.next.line) }
@@ -97,23 +97,23 @@ fn next_statement<'a>(
                     line: first.line,
                 })
             } else {
-                Err(Refusal::At(past))
+                Err(ReadError::At(past))
             }
         }
-        Err(Refusal::At(wrong)) => {
-            if count < MOST_STATEMENTS || wrong.place == past.place {
-                Err(Refusal::At(wrong))
+        Err(ReadError::At(wrong)) => {
+            if count < MOST_STATEMENTS || wrong.offset == past.offset {
+                Err(ReadError::At(wrong))
             } else {
-                Err(Refusal::At(past))
+                Err(ReadError::At(past))
             }
         }
-        Err(Refusal::OutOfMemory) => Err(Refusal::OutOfMemory),
+        Err(ReadError::OutOfMemory) => Err(ReadError::OutOfMemory),
     }
 }
 
 /// The statements that the tokens say, up to the source's end.
 #[tactic(auto, using(rv_parse_laws::proofs::Progress::end_no_last))]
-fn statements<'a>(alloc: Global, lexer: Lexer<'a>) -> Result<Vec<Statement<'a>>, Refusal>
+fn statements<'a>(alloc: Global, lexer: Lexer<'a>) -> Result<Vec<Statement<'a>>, ReadError>
     ensures says { IfOk result (λ v. SaysUpTo (tokens_left lexer.entry) [] (map said_by v.items)) }
     ensures within { IfOk result (λ v. length (map said_by v.items) ≤ most_statements) }
     ensures refuses { IfErr result (λ e. RefusesTokens (tokens_left lexer.entry) e) }
@@ -135,7 +135,7 @@ fn statements<'a>(alloc: Global, lexer: Lexer<'a>) -> Result<Vec<Statement<'a>>,
     Ok(statements)
 }
 
-/// The line of a place, from 1.
+/// The line of the byte after a text, from 1.
 fn line_of(text: &[u8]) -> u32
     requires { length text.now ≤ 16777216 }
     ensures { result ≡ 1 + newlines text.now }
@@ -163,9 +163,9 @@ pub fn parse(alloc: Global, source: &[u8]) -> Result<Vec<Statement<'_>>, SourceF
     }
     let past = past_line(source);
     match statements(alloc, Lexer::new(source)) {
-        Err(Refusal::OutOfMemory) => Err(SourceFault::OutOfMemory),
-        Err(Refusal::At(wrong)) => match past {
-            Some(place) if place < wrong.place => Err(SourceFault::At {
+        Err(ReadError::OutOfMemory) => Err(SourceFault::OutOfMemory),
+        Err(ReadError::At(wrong)) => match past {
+            Some(place) if place < wrong.offset => Err(SourceFault::At {
                 code: SourceCode::Limit,
                 line: line_of(&source[..place]),
             }),

@@ -1,8 +1,8 @@
 //! Statements at the front of a cursor's tokens.
 
 ghost use Rattle.std.specs.Prelude.{◌≡◌, false, true};
-ghost use Rattle.rv_text.specs.Token.{token_of, kind_of};
-ghost use Rattle.rv_text.specs.Cursor.{left, Answers};
+ghost use Rattle.rv_lexer.specs.Token.{token_of, kind_of};
+ghost use Rattle.rv_lexer.specs.Cursor.{left, Answers};
 ghost use Rattle.rv_statement.specs.View.{statement_of};
 ghost use Rattle.rv_parse_laws.specs.Syntax.{begins, label_of, is_colon, is_end, Says};
 ghost use Rattle.rv_parse_laws.specs.Faults.{wrong_label};
@@ -11,15 +11,14 @@ ghost use Rattle.rv_parse.specs.Left.{Gives};
 
 use crate::directive::directive;
 use crate::instruction::instruction;
-use crate::words::Beginning;
-use crate::{fault, kinds};
 use rv_statement::StatementKind;
-use rv_text::{Cursor, Refusal, Token, Wrong};
+use rv_text::{Cursor, ReadError, SyntaxError, Token};
+use rv_words::{Beginning, fault, kinds};
 use std::alloc::Global;
 
-/// A label, behind its name or its digits: the colon comes next.
-#[tactic(auto, using(crate::proofs::Tokens::colon_no_last), unfolding(rv_text::specs::Cursor::left))]
-fn label<'a>(cursor: &mut Cursor<'a>, first: Token<'a>) -> Result<StatementKind<'a>, Wrong>
+/// A label, after its name or its digits: the colon comes next.
+#[tactic(auto, using(crate::proofs::Tokens::colon_no_last), unfolding(rv_lexer::specs::Cursor::left))]
+fn label<'a>(cursor: &mut Cursor<'a>, first: Token<'a>) -> Result<StatementKind<'a>, SyntaxError>
     requires { is_colon (kind_of cursor.old.next.kind) ≡ true }
     ensures { Gives (λ k. (statement_of k, left cursor.new)) result (taken (token_of first.entry) (after_first (left cursor.old)) (label_of (kind_of first.entry.kind)) (wrong_label (kind_of first.entry.kind))) }
 {
@@ -28,7 +27,7 @@ fn label<'a>(cursor: &mut Cursor<'a>, first: Token<'a>) -> Result<StatementKind<
             cursor.advance();
             Ok(label)
         }
-        None => Err(Wrong::at(first, fault::at_label(first.kind))),
+        None => Err(SyntaxError::at(first, fault::at_label(first.kind))),
     }
 }
 
@@ -38,25 +37,28 @@ fn begun<'a>(
     alloc: Global,
     cursor: &mut Cursor<'a>,
     first: Token<'a>,
-) -> Result<StatementKind<'a>, Refusal>
+) -> Result<StatementKind<'a>, ReadError>
     ensures { Answers (λ k. (statement_of k, left cursor.new)) result (begun_at (begins (kind_of first.entry.kind)) (token_of first.entry) (left cursor.old)) }
 {
     match kinds::begins(first.kind) {
         Beginning::Instruction(mnemonic) => instruction(alloc, cursor, mnemonic),
         Beginning::Directive(word) => directive(alloc, cursor, word),
-        Beginning::Nothing => Err(Refusal::At(Wrong::at(first, fault::at_start(first.kind)))),
+        Beginning::Nothing => Err(ReadError::At(SyntaxError::at(
+            first,
+            fault::at_start(first.kind),
+        ))),
     }
 }
 
 /// A label, or another statement up to its end; the next token ends none.
-#[tactic(auto, using(rv_parse_laws::proofs::Parts::last_begins_nothing), unfolding(rv_text::specs::Cursor::left, rv_parse_laws::specs::Parsing::part_at, rv_parse_laws::specs::Parsing::statement_at, rv_parse_laws::specs::Parsing::begun_at))]
-pub fn statement<'a>(alloc: Global, cursor: &mut Cursor<'a>) -> Result<StatementKind<'a>, Refusal>
+#[tactic(auto, using(rv_parse_laws::proofs::Parts::last_begins_nothing), unfolding(rv_lexer::specs::Cursor::left, rv_parse_laws::specs::Parsing::part_at, rv_parse_laws::specs::Parsing::statement_at, rv_parse_laws::specs::Parsing::begun_at))]
+pub fn statement<'a>(alloc: Global, cursor: &mut Cursor<'a>) -> Result<StatementKind<'a>, ReadError>
     requires { is_end (kind_of cursor.old.next.kind) ≡ false }
     ensures { Answers (λ k. (Says (statement_of k), left cursor.new)) result (part_at (left cursor.old)) }
 {
     let first = cursor.next;
     if kinds::is_last(first.kind) {
-        return Err(Refusal::At(cursor.wrong(fault::at_start(first.kind))));
+        return Err(ReadError::At(cursor.wrong(fault::at_start(first.kind))));
     }
     cursor.advance();
     if kinds::is_colon(cursor.next.kind) {

@@ -1,32 +1,33 @@
 -- Addresses: a register in parentheses, with or without an expression before it.
 
 use Rattle.std.proofs.Common.{◌≡◌, ℕ, ◌<◌, Bool, true, false, cond, ◌&&◌, List, [], ◌∷◌, ◌++◌, append_assoc, length, length-append, Option, Some, None, option_map, is_some, Ok, Err, refl, sym, ◌∙◌, ap, subst, arith, inl, inr}
-use Rattle.rv_text_laws.specs.declared.sign.Sign.TheVariants.{Open, Close}
-use Rattle.rv_text_laws.specs.Grammar.{Kind, Mark, Name as NameToken}
+use Rattle.rv_text_laws.specs.declared.punct.Punct.TheVariants.{Open, Close}
+use Rattle.rv_text_laws.specs.Grammar.{Kind, Punctuation, Name as NameToken}
 use Rattle.rv_text_laws.specs.Lexing.{Token, ended}
-use Rattle.rv_text_laws.specs.Wrong.{Wrong, wrong}
+use Rattle.rv_text_laws.specs.SyntaxError.{SyntaxError, wrong}
 use Rattle.rv_text_laws.specs.Expression.{begins, An_opening as Opens, No_operand, tree_of}
 use Rattle.rv_text_laws.specs.ExpressionAt.{Wants, read_from, expression_at}
 use Rattle.rv_text_laws.specs.declared.operator.Frame.TheVariants.{Parenthesis}
 use Rattle.rv_text_laws.proofs.Expressions.{fails, goes}
 use Rattle.rv_text_laws.proofs.ExpressionWrong.{ended_more, ended_behind}
 use Rattle.rv_statement.specs.Statement.{Expression, Operand, Register, Value}
-use Rattle.rv_parse_laws.specs.Syntax.{is_register, register_of, is_opening, is_closing, is_colon, Role, Slot, A_register, A_value, An_address, A_closing, An_opening, single, front_begins, IsValue, IsBase, IsOperand}
+use Rattle.rv_parse_laws.specs.Syntax.{is_register, register_of, is_opening, is_closing, is_colon, Slot, A_register, A_value, An_address, A_closing, An_opening, single, front_begins, IsValue, IsBase, IsOperand}
 use Rattle.rv_parse_laws.specs.Faults.{wrong_first}
 use Rattle.rv_parse_laws.specs.Parsing.{◌>>=◌, seen_as, value_at, value_in, single_at, base_at, base_next, offset_at, operand_at}
 use Rattle.rv_parse_laws.proofs.Steps.{bind_ok, seen_ok, bind_err, seen_err}
 use Rattle.rv_parse_laws.proofs.Failing.{Failing, behind, first_of, first_same, never}
 use Rattle.rv_parse_laws.proofs.Singles.{single_found, single_fault, single_passed, register_no_last, opening_no_last, closing_no_last, some_token, a_register, a_register_is}
 use Rattle.rv_parse_laws.proofs.Values.{Closes, closes, value_is, value_in_is, value_some, ValueFound, value_found, ValueWrong, value_wrong}
+use Rattle.rv_parse_laws.specs.declared.role.Role.{Role}
 
 opening_is : (s : Slot) (k : Kind) (os : List Operand) → single (An_opening s) k ≡ Some os → (is_opening k ≡ true) × (os ≡ [])
-opening_is s (Mark Open) os h = (refl, cc)
-opening_is s (Mark _) os h = absurd (cc)
+opening_is s (Punctuation Open) os h = (refl, cc)
+opening_is s (Punctuation _) os h = absurd (cc)
 opening_is s _ os h = absurd (cc)
 
 closing_is : (k : Kind) (os : List Operand) → single A_closing k ≡ Some os → (is_closing k ≡ true) × (os ≡ [])
-closing_is (Mark Close) os h = (refl, cc)
-closing_is (Mark _) os h = absurd (cc)
+closing_is (Punctuation Close) os h = (refl, cc)
+closing_is (Punctuation _) os h = absurd (cc)
 closing_is _ os h = absurd (cc)
 
 register_is : (k : Kind) (os : List Operand) → single A_register k ≡ Some os → (number : ℕ) × (register_of k ≡ Some number) × (os ≡ Register number ∷ [])
@@ -58,10 +59,10 @@ base_found slot ts os rest e =
     )
 
 abbrev a_closing : Token
-a_closing = some_token (Mark Close)
+a_closing = some_token (Punctuation Close)
 
 abbrev an_opening : Token
-an_opening = some_token (Mark Open)
+an_opening = some_token (Punctuation Open)
 
 abbrev pub base_goes : (text : List Token) × (os : List Operand) × IsBase text os
 base_goes = (an_opening ∷ a_register ∷ a_closing ∷ [], Register 10 ∷ [], (an_opening, a_register, a_closing, 10, refl, refl, a_register_is, refl, refl))
@@ -73,19 +74,19 @@ register_goes o opens = (a_register ∷ a_closing ∷ [], Register 10 ∷ [], (o
 closing_goes : (o r : Token) (number : ℕ) → is_opening o.kind ≡ true → register_of r.kind ≡ Some number → (text : List Token) × (os : List Operand) × IsBase ((o ∷ r ∷ []) ++ text) os
 closing_goes o r number opens named = (a_closing ∷ [], Register number ∷ [], (o, r, a_closing, number, refl, opens, named, refl, refl))
 
-closing_err : (slot : Slot) (o r c : Token) (number : ℕ) (text : List Token) (w : Wrong) → is_opening o.kind ≡ true → register_of r.kind ≡ Some number → single A_closing c.kind ≡ None
+closing_err : (slot : Slot) (o r c : Token) (number : ℕ) (text : List Token) (w : SyntaxError) → is_opening o.kind ≡ true → register_of r.kind ≡ Some number → single A_closing c.kind ≡ None
     → w ≡ wrong c (wrong_first A_closing c.kind) → base_at slot (o ∷ r ∷ c ∷ text) ≡ Err w
 closing_err slot o r c number text w opens named none is = rw (opens, named) (rw (none, is) refl)
 
-register_err : (slot : Slot) (o r : Token) (text : List Token) (w : Wrong) → is_opening o.kind ≡ true → single A_register r.kind ≡ None
+register_err : (slot : Slot) (o r : Token) (text : List Token) (w : SyntaxError) → is_opening o.kind ≡ true → single A_register r.kind ≡ None
     → w ≡ wrong r (wrong_first A_register r.kind) → base_at slot (o ∷ r ∷ text) ≡ Err w
 register_err slot o r text w opens none is = rw opens (rw (none, is) refl)
 
-opening_err : (slot : Slot) (o : Token) (text : List Token) (w : Wrong) → single (An_opening slot) o.kind ≡ None → w ≡ wrong o (wrong_first (An_opening slot) o.kind) → base_at slot (o ∷ text) ≡ Err w
+opening_err : (slot : Slot) (o : Token) (text : List Token) (w : SyntaxError) → single (An_opening slot) o.kind ≡ None → w ≡ wrong o (wrong_first (An_opening slot) o.kind) → base_at slot (o ∷ text) ≡ Err w
 opening_err slot o text w none is = rw (none, is) refl
 
 -- where a base is wrong
-pub base_wrong : (slot : Slot) (ts : List Token) (w : Wrong) → ended ts ≡ true → base_at slot ts ≡ Err w → Failing (List Operand) IsBase (base_at slot) ts w
+pub base_wrong : (slot : Slot) (ts : List Token) (w : SyntaxError) → ended ts ≡ true → base_at slot ts ≡ Err w → Failing (List Operand) IsBase (base_at slot) ts w
 base_wrong slot ts w end e = elim (bind_err (single_at (An_opening slot) ts) (λ o. single_at A_register o.1 >>= λ r. seen_as (λ none. r.0) (single_at A_closing r.1)) w e) [
   | inl f ↦ (let k = single_fault (An_opening slot) ts w end f in record {
     before = [];
@@ -134,8 +135,8 @@ name_is (NameToken name) n h = rw h refl
 name_is _ n h = absurd (cc)
 
 open_is : (k : Kind) → is_opening k ≡ true → begins is_register k ≡ Opens
-open_is (Mark Open) h = refl
-open_is (Mark _) h = absurd (cc)
+open_is (Punctuation Open) h = refl
+open_is (Punctuation _) h = absurd (cc)
 open_is _ h = absurd (cc)
 
 and_parts : (a b : Bool) → (a && b) ≡ true → (a ≡ true) × (b ≡ true)
@@ -179,8 +180,8 @@ base_closes : (rest : List Token) (os : List Operand) (more : List Token) → Is
 base_closes rest os more (o, r, c, number, w, opens, named, closed, is) = (o, r ∷ c ∷ more, ap (λ xs. xs ++ more) w, closes_open o.kind opens)
   where
     closes_open : (k : Kind) → is_opening k ≡ true → closes k ≡ true
-    closes_open (Mark Open) h = refl
-    closes_open (Mark _) h = absurd (cc)
+    closes_open (Punctuation Open) h = refl
+    closes_open (Punctuation _) h = absurd (cc)
     closes_open _ h = absurd (cc)
 
 base_begins : (rest : List Token) (os : List Operand) (more : List Token) → IsBase rest os → base_next (rest ++ more) ≡ true
@@ -223,7 +224,7 @@ next_at [] at more text h closed = rw (closed refl) refl
 next_at (t ∷ before) at more text h closed = next_behind (t ∷ before) (at ∷ text) (at ∷ more) (omega arith) refl ∙ h
 
 -- where a register in parentheses is not closed
-based_wrong : (role : Role) (ts : List Token) (w : Wrong) → ended ts ≡ true → base_next ts ≡ true → base_at A_register ts ≡ Err w
+based_wrong : (role : Role) (ts : List Token) (w : SyntaxError) → ended ts ≡ true → base_next ts ≡ true → base_at A_register ts ≡ Err w
     → Failing (List Operand) (IsOperand (An_address role)) (operand_at (An_address role)) ts w
 based_wrong role ts w end next e =
     let p = base_parts ts next in
@@ -257,7 +258,7 @@ based_wrong role ts w end next e =
 abbrev to_offset : (role : Role) (one : List Token) (e : Expression) → IsValue one e → (us : List Token) (os : List Operand) → IsBase us os → (all : List Operand) × IsOperand (An_address role) (one ++ us) all
 to_offset role one e v us os base = (Value e ∷ os, inr (one, us, e, os, refl, v, base, refl))
 
-offset_wrong : (role : Role) (ts : List Token) (w : Wrong) → ended ts ≡ true → base_next ts ≡ false → offset_at role ts ≡ Err w
+offset_wrong : (role : Role) (ts : List Token) (w : SyntaxError) → ended ts ≡ true → base_next ts ≡ false → offset_at role ts ≡ Err w
     → Failing (List Operand) (IsOperand (An_address role)) (operand_at (An_address role)) ts w
 offset_wrong role ts w end next e = elim (bind_err (value_in role ts) (λ v. seen_as (λ os. Value v.0 ∷ os) (base_at (A_value role) v.1)) w e) [
   | inl f ↦ valued (value_wrong role ts w end f)
@@ -298,7 +299,7 @@ offset_wrong role ts w end next e = elim (bind_err (value_in role ts) (λ v. see
         (λ us first fails. base_err (v.text ++ us) e us (next_behind v.text us rest (value_some v.text e v.is) first ∙ ap base_next (sym v.whole) ∙ next) (v.steady us first) fails)
         (base_wrong (A_value role) rest w last fails))
 
-pub address_wrong : (role : Role) (ts : List Token) (w : Wrong) → ended ts ≡ true → operand_at (An_address role) ts ≡ Err w
+pub address_wrong : (role : Role) (ts : List Token) (w : SyntaxError) → ended ts ≡ true → operand_at (An_address role) ts ≡ Err w
     → Failing (List Operand) (IsOperand (An_address role)) (operand_at (An_address role)) ts w
 address_wrong role ts w end e = go (base_next ts) refl e
   where

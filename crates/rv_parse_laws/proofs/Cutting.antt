@@ -9,7 +9,7 @@ use Rattle.rv_text_laws.proofs.Cut.{none_nothing, nothing_none}
 use Rattle.rv_statement.specs.Statement.{Spoken}
 use Rattle.rv_parse_laws.specs.Syntax.{Part, Ends, Says, IsPart, StopsPart, is_end}
 use Rattle.rv_parse_laws.specs.Parsing.{part_at}
-use Rattle.rv_text_laws.specs.Wrong.{Wrong}
+use Rattle.rv_text_laws.specs.SyntaxError.{SyntaxError}
 use Rattle.rv_parse_laws.specs.Reading.{AreParts, told, said}
 use Rattle.rv_parse_laws.proofs.Failing.{heads}
 use Rattle.rv_parse_laws.proofs.Whole.{counted, counted_none, find_part, finds_parts, no_tokens}
@@ -57,11 +57,11 @@ comparable all (p ∷ ps) (q ∷ qs) rest other c d =
     ]
 
 -- no part is read where the reading is wrong, and only there
-pub no_part : (rest : List Token) (w : Wrong) → part_at rest ≡ Err w → NothingReads IsPart StopsPart rest
+pub no_part : (rest : List Token) (w : SyntaxError) → part_at rest ≡ Err w → NothingReads IsPart StopsPart rest
 unfolding find_part
 no_part rest w e = none_nothing finds_parts rest (ap (counted (length rest)) e)
 
-pub wrong_there : (rest : List Token) → NothingReads IsPart StopsPart rest → (w : Wrong) × (part_at rest ≡ Err w)
+pub wrong_there : (rest : List Token) → NothingReads IsPart StopsPart rest → (w : SyntaxError) × (part_at rest ≡ Err w)
 unfolding find_part
 wrong_there rest nothing = counted_none (length rest) (part_at rest) (nothing_none finds_parts rest nothing)
 

@@ -2,7 +2,7 @@
 
 use Rattle.std.proofs.Common.{◌≡◌, ℕ, List, [], ◌∷◌, ◌++◌, append_assoc, Option, Some, None, Result, Ok, Err, refl, sym, ◌∙◌, ap, subst}
 use Rattle.rv_text_laws.specs.Lexing.{Token}
-use Rattle.rv_text_laws.specs.Wrong.{Wrong, wrong, Read}
+use Rattle.rv_text_laws.specs.SyntaxError.{SyntaxError, wrong, Read}
 use Rattle.rv_parse_laws.specs.Parsing.{seen_as}
 
 pub heads : {t u : Token} {ts us : List Token} → t ∷ ts ≡ u ∷ us → t ≡ u
@@ -11,10 +11,10 @@ heads e = cc
 pub tails : {t u : Token} {ts us : List Token} → t ∷ ts ≡ u ∷ us → ts ≡ us
 tails e = cc
 
-pub never : {X : Type 0} (x : X) (w : Wrong) → Ok x ≡ Err w → ⊥
+pub never : {X : Type 0} (x : X) (w : SyntaxError) → Ok x ≡ Err w → ⊥
 never x w e = cc
 
-pub wrongs : {X : Type 0} (v w : Wrong) → ◌≡◌ {A = Result X Wrong} (Err v) (Err w) → v ≡ w
+pub wrongs : {X : Type 0} (v w : SyntaxError) → ◌≡◌ {A = Result X SyntaxError} (Err v) (Err w) → v ≡ w
 wrongs v w e = cc
 
 abbrev pub first_of : List Token → Option Token
@@ -34,7 +34,7 @@ first_is t ts [] e = absurd (cc)
 first_is t ts (u ∷ us) e = let same : u ≡ t = cc in (us, ap (λ (x : Token). x ∷ us) same)
 
 -- R is wrong at the token `at`, whatever follows it; with the tokens before it, what P says can go on
-pub record Failing (X : Type 0) (P : List Token → X → Type 0) (R : List Token → Read X) (ts : List Token) (w : Wrong) : Type 0 where
+pub record Failing (X : Type 0) (P : List Token → X → Type 0) (R : List Token → Read X) (ts : List Token) (w : SyntaxError) : Type 0 where
   pub before : List Token
   pub at : Token
   pub more : List Token
@@ -45,12 +45,12 @@ pub record Failing (X : Type 0) (P : List Token → X → Type 0) (R : List Toke
   pub goes : (text : List Token) × (x : X) × P (before ++ text) x
 
 -- at the first token
-pub at_first : (X : Type 0) (P : List Token → X → Type 0) (R : List Token → Read X) (t : Token) (ts : List Token) (w : Wrong) (code : ℕ) → w ≡ wrong t code
+pub at_first : (X : Type 0) (P : List Token → X → Type 0) (R : List Token → Read X) (t : Token) (ts : List Token) (w : SyntaxError) (code : ℕ) → w ≡ wrong t code
     → ((text : List Token) → R (t ∷ text) ≡ Err w) → (text : List Token) × (x : X) × P text x → Failing X P R (t ∷ ts) w
 at_first X P R t ts w code is fails goes = record { before = []; at = t; more = ts; code = code; whole = refl; is_wrong = is; fails = fails; goes = goes }
 
 -- behind tokens that are passed
-pub behind : (X Y : Type 0) (P : List Token → X → Type 0) (Q : List Token → Y → Type 0) (R : List Token → Read X) (S : List Token → Read Y) (text ts : List Token) (w : Wrong)
+pub behind : (X Y : Type 0) (P : List Token → X → Type 0) (Q : List Token → Y → Type 0) (R : List Token → Read X) (S : List Token → Read Y) (text ts : List Token) (w : SyntaxError)
     → ((us : List Token) (y : Y) → Q us y → (x : X) × P (text ++ us) x)
     → ((us : List Token) → first_of us ≡ first_of ts → S us ≡ Err w → R (text ++ us) ≡ Err w)
     → Failing Y Q S ts w → Failing X P R (text ++ ts) w
@@ -70,9 +70,9 @@ behind X Y P Q R S text ts w to on f = record {
     goes (x, p) = (f.goes.0, x, subst (λ us. P us x) (sym (append_assoc text f.before f.goes.0)) p)
 
 -- the same reading, said otherwise
-pub alike : (X Y : Type 0) (P : List Token → X → Type 0) (Q : List Token → Y → Type 0) (R : List Token → Read X) (S : List Token → Read Y) (ts : List Token) (w : Wrong)
+pub alike : (X Y : Type 0) (P : List Token → X → Type 0) (Q : List Token → Y → Type 0) (R : List Token → Read X) (S : List Token → Read Y) (ts : List Token) (w : SyntaxError)
     → ((us : List Token) (y : Y) → Q us y → (x : X) × P us x) → ((us : List Token) → first_of us ≡ first_of ts → S us ≡ Err w → R us ≡ Err w) → Failing Y Q S ts w → Failing X P R ts w
 alike X Y P Q R S ts w to on f = behind X Y P Q R S [] ts w to on f
 
-pub seen_wrong : {X Y : Type 0} (view : X → Y) (r : Read X) (w : Wrong) → r ≡ Err w → seen_as view r ≡ Err w
+pub seen_wrong : {X Y : Type 0} (view : X → Y) (r : Read X) (w : SyntaxError) → r ≡ Err w → seen_as view r ≡ Err w
 seen_wrong view r w e = ap (seen_as view) e

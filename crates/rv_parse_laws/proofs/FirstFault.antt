@@ -10,7 +10,8 @@ use Rattle.rv_statement.specs.Statement.{Spoken}
 use Rattle.rv_parse_laws.specs.Syntax.{Part, IsPart, StopsPart, is_end}
 use Rattle.rv_parse_laws.specs.Opening.{is_opened, IsWrongOpening}
 use Rattle.rv_parse_laws.specs.Parsing.{part_at, opening_at, checked_at}
-use Rattle.rv_text_laws.specs.Wrong.{limit, Wrong, wrong, place_of}
+use Rattle.rv_text_laws.specs.Codes.{limit}
+use Rattle.rv_text_laws.specs.SyntaxError.{SyntaxError, wrong, offset_of}
 use Rattle.rv_parse_laws.specs.Reading.{AreParts, Reads, said, past_line, longest_source, most_statements, CanGoOn, code_of, code_at, OpensWell, AllOpenWell, WrongToken, WrongOpening, PastStatements, Stands, Fault, Refuses}
 use Rattle.rv_parse_laws.proofs.Failing.{heads, tails}
 use Rattle.rv_parse_laws.proofs.Parts.{part_wrong, stops_there}
@@ -34,22 +35,22 @@ abbrev pub IsFaulty : List ℕ → ℕ → ℕ → Type 0
 IsFaulty bytes place code = WrongToken bytes place code ⊎ WrongOpening bytes place code
 
 -- what is known where the part at the front of the rest is wrong
-pub record WrongPart (bytes : List ℕ) (t : Token) (w : Wrong) : Type 0 where
-  pub stands : IsFaulty bytes w.place w.code
-  pub line : w.line ≡ 1 + newlines (take w.place bytes)
-  pub behind : t.start ≤ w.place
+pub record WrongPart (bytes : List ℕ) (t : Token) (w : SyntaxError) : Type 0 where
+  pub stands : IsFaulty bytes w.offset w.code
+  pub line : w.line ≡ 1 + newlines (take w.offset bytes)
+  pub behind : t.start ≤ w.offset
 
 -- a token with which nothing goes on
-wrong_read : (bytes : List ℕ) (ts : List Token) (parts : List (Piece Part Token)) (t : Token) (us : List Token) (w : Wrong) → Lexes bytes ts → AreParts ts parts (t ∷ us)
+wrong_read : (bytes : List ℕ) (ts : List Token) (parts : List (Piece Part Token)) (t : Token) (us : List Token) (w : SyntaxError) → Lexes bytes ts → AreParts ts parts (t ∷ us)
     → AllOpenWell [] parts (t ∷ us) → part_at (t ∷ us) ≡ Err w → OpensWell (said parts) (t ∷ us) → WrongPart bytes t w
 wrong_read bytes ts parts t us w lexes cut opens e well =
     let s = part_wrong (t ∷ us) w (ended_rest bytes ts (texts parts) t us lexes cut.whole) e in
     let code : w.code ≡ code_at s.before s.at s.more = sym (ap code_of (ap part_at (sym s.whole) ∙ e)) in
-    let place : w.place ≡ place_of s.at w.code = ap (λ (x : Wrong). x.place) s.is_wrong ∙ ap (place_of s.at) (sym (ap (λ (x : Wrong). x.code) s.is_wrong)) in
+    let place : w.offset ≡ offset_of s.at w.code = ap (λ (x : SyntaxError). x.offset) s.is_wrong ∙ ap (offset_of s.at) (sym (ap (λ (x : SyntaxError). x.code) s.is_wrong)) in
     let whole : ts ≡ (texts parts ++ s.before) ++ s.at ∷ s.more = cut.whole ∙ ap (λ xs. texts parts ++ xs) s.whole ∙ sym (append_assoc (texts parts) s.before (s.at ∷ s.more)) in
-    let line : s.at.line ≡ 1 + newlines (take (place_of s.at w.code) bytes) = token_line bytes ts (texts parts ++ s.before) s.at s.more lexes whole w.code in
+    let line : s.at.line ≡ 1 + newlines (take (offset_of s.at w.code) bytes) = token_line bytes ts (texts parts ++ s.before) s.at s.more lexes whole w.code in
     let from = (standing_at bytes t.start s.before s.at s.more (subst (Standing bytes t.start) s.whole (standing_from bytes ts (texts parts) t us lexes cut.whole))).0 in
-    let least : s.at.start ≤ place_of s.at w.code = place_at_least s.at w.code in
+    let least : s.at.start ≤ offset_of s.at w.code = place_at_least s.at w.code in
     record {
       stands = inl (record {
         tokens = ts;
@@ -69,20 +70,20 @@ wrong_read bytes ts parts t us w lexes cut opens e well =
         code_is = code;
         place_is = place;
       });
-      line = ap (λ (x : Wrong). x.line) s.is_wrong ∙ line ∙ ap (λ n. 1 + newlines (take n bytes)) (sym place);
+      line = ap (λ (x : SyntaxError). x.line) s.is_wrong ∙ line ∙ ap (λ n. 1 + newlines (take n bytes)) (sym place);
       behind = omega (arith, from, least, place);
     }
 
 -- an opening that is wrong
-wrong_opened : (bytes : List ℕ) (ts : List Token) (parts : List (Piece Part Token)) (t : Token) (us : List Token) (w : Wrong) → Lexes bytes ts → AreParts ts parts (t ∷ us)
+wrong_opened : (bytes : List ℕ) (ts : List Token) (parts : List (Piece Part Token)) (t : Token) (us : List Token) (w : SyntaxError) → Lexes bytes ts → AreParts ts parts (t ∷ us)
     → AllOpenWell [] parts (t ∷ us) → OpeningThere (is_opened (said parts)) (t ∷ us) w → WrongPart bytes t w
 wrong_opened bytes ts parts t us w lexes cut opens x =
     let whole : ts ≡ (texts parts ++ x.before) ++ x.at ∷ x.more = cut.whole ∙ ap (λ xs. texts parts ++ xs) x.whole ∙ sym (append_assoc (texts parts) x.before (x.at ∷ x.more)) in
-    let line : x.at.line ≡ 1 + newlines (take (place_of x.at x.code) bytes) = token_line bytes ts (texts parts ++ x.before) x.at x.more lexes whole x.code in
+    let line : x.at.line ≡ 1 + newlines (take (offset_of x.at x.code) bytes) = token_line bytes ts (texts parts ++ x.before) x.at x.more lexes whole x.code in
     let from = (standing_at bytes t.start x.before x.at x.more (subst (Standing bytes t.start) x.whole (standing_from bytes ts (texts parts) t us lexes cut.whole))).0 in
-    let least : x.at.start ≤ place_of x.at x.code = place_at_least x.at x.code in
-    let place : w.place ≡ place_of x.at x.code = ap (λ (v : Wrong). v.place) x.is_wrong in
-    let code : w.code ≡ x.code = ap (λ (v : Wrong). v.code) x.is_wrong in
+    let least : x.at.start ≤ offset_of x.at x.code = place_at_least x.at x.code in
+    let place : w.offset ≡ offset_of x.at x.code = ap (λ (v : SyntaxError). v.offset) x.is_wrong in
+    let code : w.code ≡ x.code = ap (λ (v : SyntaxError). v.code) x.is_wrong in
     record {
       stands = inr (record {
         tokens = ts;
@@ -94,13 +95,13 @@ wrong_opened bytes ts parts t us w lexes cut opens x =
         cut = subst (AreParts ts parts) x.whole cut;
         opens = subst (AllOpenWell [] parts) x.whole opens;
         wrong = subst (IsWrongOpening (said parts) x.before x.at) (sym code) x.is;
-        place_is = place ∙ ap (place_of x.at) (sym code);
+        place_is = place ∙ ap (offset_of x.at) (sym code);
       });
-      line = ap (λ (v : Wrong). v.line) x.is_wrong ∙ line ∙ ap (λ n. 1 + newlines (take n bytes)) (sym place);
+      line = ap (λ (v : SyntaxError). v.line) x.is_wrong ∙ line ∙ ap (λ n. 1 + newlines (take n bytes)) (sym place);
       behind = omega (arith, from, least, place);
     }
 
-pub wrong_part : (bytes : List ℕ) (ts : List Token) (parts : List (Piece Part Token)) (t : Token) (us : List Token) (w : Wrong) → Lexes bytes ts → AreParts ts parts (t ∷ us)
+pub wrong_part : (bytes : List ℕ) (ts : List Token) (parts : List (Piece Part Token)) (t : Token) (us : List Token) (w : SyntaxError) → Lexes bytes ts → AreParts ts parts (t ∷ us)
     → AllOpenWell [] parts (t ∷ us) → checked_at (is_opened (said parts)) (t ∷ us) ≡ Err w → WrongPart bytes t w
 wrong_part bytes ts parts t us w lexes cut opens e = elim (checked_err (said parts) (t ∷ us) w e) [
   | inl x ↦ wrong_opened bytes ts parts t us w lexes cut opens x
@@ -130,7 +131,7 @@ goes_on_front rest before at more all is (p, after, label, spelled) =
 same_fault : (rest : List Token) (b : List Token) (t : Token) (more : List Token) (d : List Token) (u : Token) (others : List Token) (p c q e : ℕ)
     → b ++ t ∷ more ≡ d ++ u ∷ others
     → CanGoOn rest b → (CanGoOn rest (b ++ t ∷ []) → ⊥) → CanGoOn rest d → (CanGoOn rest (d ++ u ∷ []) → ⊥)
-    → c ≡ code_at b t more → e ≡ code_at d u others → p ≡ place_of t c → q ≡ place_of u e → (p ≡ q) × (c ≡ e)
+    → c ≡ code_at b t more → e ≡ code_at d u others → p ≡ offset_of t c → q ≡ offset_of u e → (p ≡ q) × (c ≡ e)
 same_fault rest b t more d u others p c q e whole goes stops goes' stops' code code' place place' =
     elim (fronts b d t u more others whole) [
       | inl (fronts, tokens, behind) ↦ (let codes : c ≡ e = cc in (cc, codes))
@@ -149,10 +150,10 @@ one_wrong bytes p c q d x y =
     x.goes x.stops (subst (λ r. CanGoOn r y.before) rests y.goes) (λ h. y.stops (subst (λ r. CanGoOn r (y.before ++ y.at ∷ [])) (sym rests) h))
     x.code_is y.code_is x.place_is y.place_is
 
-same_wrongs : (t u : Token) (c d : ℕ) → Some (wrong t c) ≡ Some (wrong u d) → (place_of t c ≡ place_of u d) × (c ≡ d)
+same_wrongs : (t u : Token) (c d : ℕ) → Some (wrong t c) ≡ Some (wrong u d) → (offset_of t c ≡ offset_of u d) × (c ≡ d)
 same_wrongs t u c d e =
     let same : wrong t c ≡ wrong u d = cc in
-    (ap (λ (x : Wrong). x.place) same, ap (λ (x : Wrong). x.code) same)
+    (ap (λ (x : SyntaxError). x.offset) same, ap (λ (x : SyntaxError). x.code) same)
 
 -- at most one opening is wrong
 one_opening : (bytes : List ℕ) (p c q d : ℕ) → WrongOpening bytes p c → WrongOpening bytes q d → (p ≡ q) × (c ≡ d)
@@ -209,14 +210,14 @@ behind_first t us (v ∷ vs) rest whole some = (vs, tails whole)
 
 -- a wrong token stands behind the first token of good parts
 behind_good : (bytes : List ℕ) (t : Token) (us : List Token) (m : Piece Part Token) (more : List (Piece Part Token)) (rest before : List Token) (at : Token) (others : List Token) (p code : ℕ)
-    → Standing bytes t.start (t ∷ us) → AreParts (t ∷ us) (m ∷ more) rest → rest ≡ before ++ at ∷ others → p ≡ place_of at code → t.start < p
+    → Standing bytes t.start (t ∷ us) → AreParts (t ∷ us) (m ∷ more) rest → rest ≡ before ++ at ∷ others → p ≡ offset_of at code → t.start < p
 behind_good bytes t us m more rest before at others p code standing cut whole place =
     let f = behind_first t us m.text (texts more ++ rest) (cut.whole ∙ append_assoc m.text (texts more) rest) (finds_parts.some m.kind m.text cut.each.0) in
     let is : us ≡ (f.0 ++ (texts more ++ before)) ++ at ∷ others =
     f.1 ∙ ap (λ xs. f.0 ++ (texts more ++ xs)) whole ∙ ap (λ xs. f.0 ++ xs) (sym (append_assoc (texts more) before (at ∷ others)))
     ∙ sym (append_assoc f.0 (texts more ++ before) (at ∷ others)) in
     let h = (standing_at bytes (suc t.start) (f.0 ++ (texts more ++ before)) at others (subst (Standing bytes (suc t.start)) is standing.2)).0 in
-    let least : at.start ≤ place_of at code = place_at_least at code in
+    let least : at.start ≤ offset_of at code = place_at_least at code in
     omega (arith, h, least, place)
 
 apart : (a b : ℕ) → a ≤ b → (a ≡ b → ⊥) → a < b
@@ -224,7 +225,7 @@ apart a b le other = grind arith
 
 -- behind a cut up to a token, where the part there is good or wrong behind the token, what is wrong stands behind it
 pub wrong_behind : (bytes : List ℕ) (ts : List Token) (ps : List (Piece Part Token)) (t : Token) (us : List Token) (p c : ℕ) → Lexes bytes ts → AreParts ts ps (t ∷ us)
-    → AllOpenWell [] ps (t ∷ us) → ((w : Wrong) → checked_at (is_opened (said ps)) (t ∷ us) ≡ Err w → w.place ≡ t.start → ⊥) → IsFaulty bytes p c → t.start < p
+    → AllOpenWell [] ps (t ∷ us) → ((w : SyntaxError) → checked_at (is_opened (said ps)) (t ∷ us) ≡ Err w → w.offset ≡ t.start → ⊥) → IsFaulty bytes p c → t.start < p
 wrong_behind bytes ts ps t us p c lexes cut opens not (inl x) =
     let tokens : x.tokens ≡ ts = one_list bytes x.tokens ts x.lexes lexes in
     go (comparable ts ps x.parts (t ∷ us) x.rest cut (subst (λ xs. AreParts xs x.parts x.rest) tokens x.cut))
@@ -234,7 +235,7 @@ wrong_behind bytes ts ps t us p c lexes cut opens not (inl x) =
         let e = wrong_there (t ∷ us) (subst (λ xs. NothingReads IsPart StopsPart xs) same x.nothing) in
         let v = checked_wrong (said ps) (t ∷ us) e.0 e.1 in
         let k = wrong_part bytes ts ps t us v.0 lexes cut opens v.1 in
-        let place : v.0.place ≡ p = (one_faulty bytes v.0.place v.0.code p c k.stands (inl x)).0 in
+        let place : v.0.offset ≡ p = (one_faulty bytes v.0.offset v.0.code p c k.stands (inl x)).0 in
         let le : t.start ≤ p = omega (arith, k.behind, place) in
         apart t.start p le (λ h. not v.0 v.1 (place ∙ sym h))
 
@@ -254,7 +255,7 @@ wrong_behind bytes ts ps t us p c lexes cut opens not (inr x) =
     here same =
         let from = (standing_at bytes t.start x.before x.at x.more (subst (Standing bytes t.start) same standing)).0 in
         let some = opening_behind (said x.parts) x.before x.at c x.wrong in
-        let least : x.at.start ≤ place_of x.at c = place_at_least x.at c in
+        let least : x.at.start ≤ offset_of x.at c = place_at_least x.at c in
         let place = x.place_is in
         omega (arith, from, some, least, place)
 
@@ -268,7 +269,7 @@ wrong_behind bytes ts ps t us p c lexes cut opens not (inr x) =
 abbrev pub StopsHere : List (Piece Part Token) → List Token → Type 0
 StopsHere ps rest = (m : Piece Part Token) (more : List (Piece Part Token)) (other : List Token) → AreParts rest (m ∷ more) other → OpensWell (said ps) rest → ⊥
 
-stops_here : (ps : List (Piece Part Token)) (rest : List Token) (w : Wrong) → checked_at (is_opened (said ps)) rest ≡ Err w → StopsHere ps rest
+stops_here : (ps : List (Piece Part Token)) (rest : List Token) (w : SyntaxError) → checked_at (is_opened (said ps)) rest ≡ Err w → StopsHere ps rest
 stops_here ps rest w e m more other cut well = elim (checked_err (said ps) rest w e) [
   | inl x ↦ well x.before x.at x.more x.code x.whole x.is
   | inr x ↦ no_further rest m more other (no_part rest w x.0) cut
@@ -294,14 +295,14 @@ abbrev pub InTokens : List ℕ → ℕ → ℕ → Type 0
 InTokens bytes place code = IsFaulty bytes place code ⊎ ((code ≡ limit) × PastStatements bytes place)
 
 -- the first fault that stands at a token
-pub record FirstInTokens (bytes : List ℕ) (w : Wrong) : Type 0 where
-  pub stands : InTokens bytes w.place w.code
-  pub first : (p c : ℕ) → InTokens bytes p c → (w.place < p) ⊎ ((w.place ≡ p) × (w.code ≤ c))
-  pub line : w.line ≡ 1 + newlines (take w.place bytes)
+pub record FirstInTokens (bytes : List ℕ) (w : SyntaxError) : Type 0 where
+  pub stands : InTokens bytes w.offset w.code
+  pub first : (p c : ℕ) → InTokens bytes p c → (w.offset < p) ⊎ ((w.offset ≡ p) × (w.code ≤ c))
+  pub line : w.line ≡ 1 + newlines (take w.offset bytes)
 
 -- the part at the front of the rest is wrong, and no statement too many begins before that place
-pub wrong_first : (bytes : List ℕ) (ts : List Token) (ps : List (Piece Part Token)) (t : Token) (us : List Token) (w : Wrong) → Lexes bytes ts → AreParts ts ps (t ∷ us)
-    → AllOpenWell [] ps (t ∷ us) → checked_at (is_opened (said ps)) (t ∷ us) ≡ Err w → w.code ≤ limit → (length (said ps) < most_statements) ⊎ ((length (said ps) ≡ most_statements) × (w.place ≡ t.start)) → FirstInTokens bytes w
+pub wrong_first : (bytes : List ℕ) (ts : List Token) (ps : List (Piece Part Token)) (t : Token) (us : List Token) (w : SyntaxError) → Lexes bytes ts → AreParts ts ps (t ∷ us)
+    → AllOpenWell [] ps (t ∷ us) → checked_at (is_opened (said ps)) (t ∷ us) ≡ Err w → w.code ≤ limit → (length (said ps) < most_statements) ⊎ ((length (said ps) ≡ most_statements) × (w.offset ≡ t.start)) → FirstInTokens bytes w
 wrong_first bytes ts ps t us w lexes cut opens e low few = record {
   stands = inl k.stands;
   first = first;
@@ -312,16 +313,16 @@ wrong_first bytes ts ps t us w lexes cut opens e low few = record {
     k = wrong_part bytes ts ps t us w lexes cut opens e
 
     at_past : (x : Token) (p c : ℕ) (xs : List Token) → t ∷ us ≡ x ∷ xs → length (said ps) ≡ most_statements → c ≡ limit → p ≡ x.start
-        → (length (said ps) < most_statements) ⊎ ((length (said ps) ≡ most_statements) × (w.place ≡ t.start)) → (w.place < p) ⊎ ((w.place ≡ p) × (w.code ≤ c))
+        → (length (said ps) < most_statements) ⊎ ((length (said ps) ≡ most_statements) × (w.offset ≡ t.start)) → (w.offset < p) ⊎ ((w.offset ≡ p) × (w.code ≤ c))
     at_past x p c xs same all is place (inl fewer) = absurd (omega (arith, all, fewer))
     at_past x p c xs same all is place (inr (count, here)) = inr (here ∙ ap (λ (y : Token). y.start) (heads same) ∙ sym place, subst (λ n. w.code ≤ n) (sym is) low)
 
-    too_many : (length (said ps) < most_statements) ⊎ ((length (said ps) ≡ most_statements) × (w.place ≡ t.start)) → most_statements < length (said ps) → ⊥
+    too_many : (length (said ps) < most_statements) ⊎ ((length (said ps) ≡ most_statements) × (w.offset ≡ t.start)) → most_statements < length (said ps) → ⊥
     too_many (inl fewer) more = omega (arith, fewer, more)
     too_many (inr (count, here)) more = omega (arith, count, more)
 
-    first : (p c : ℕ) → InTokens bytes p c → (w.place < p) ⊎ ((w.place ≡ p) × (w.code ≤ c))
-    first p c (inl x) = let same = one_faulty bytes w.place w.code p c k.stands x in inr (same.0, subst (λ n. w.code ≤ n) same.1 (omega arith))
+    first : (p c : ℕ) → InTokens bytes p c → (w.offset < p) ⊎ ((w.offset ≡ p) × (w.code ≤ c))
+    first p c (inl x) = let same = one_faulty bytes w.offset w.code p c k.stands x in inr (same.0, subst (λ n. w.code ≤ n) same.1 (omega arith))
     first p c (inr (is, x)) = elim (past_where bytes ts ps (t ∷ us) p lexes cut (stops_here ps (t ∷ us) w e) x) [
       | inl s ↦ at_past x.at p c x.more s.0 s.1 is x.place_is few
       | inr more ↦ absurd (too_many few more)
@@ -329,8 +330,8 @@ wrong_first bytes ts ps t us w lexes cut opens e low few = record {
 
 -- a statement too many begins, and the part there is good or wrong behind its first token
 pub past_first : (bytes : List ℕ) (ts : List Token) (ps : List (Piece Part Token)) (t : Token) (us : List Token) → Lexes bytes ts → AreParts ts ps (t ∷ us)
-    → AllOpenWell [] ps (t ∷ us) → is_end t.kind ≡ false → length (said ps) ≡ most_statements → ((w : Wrong) → checked_at (is_opened (said ps)) (t ∷ us) ≡ Err w → w.place ≡ t.start → ⊥)
-    → FirstInTokens bytes (record { place = t.start; line = t.line; code = limit })
+    → AllOpenWell [] ps (t ∷ us) → is_end t.kind ≡ false → length (said ps) ≡ most_statements → ((w : SyntaxError) → checked_at (is_opened (said ps)) (t ∷ us) ≡ Err w → w.offset ≡ t.start → ⊥)
+    → FirstInTokens bytes (record { offset = t.start; line = t.line; code = limit })
 past_first bytes ts ps t us lexes cut opens no_end most not = record {
   stands = inr (refl, record { tokens = ts; lexes = lexes; parts = ps; at = t; more = us; cut = cut; opens = opens; most = most; begins_one = no_end; place_is = refl });
   first = first;
@@ -412,34 +413,34 @@ line_refused bytes place line short past before is = inr (
     first p c (inr (inr (inl (code, at)))) = inr (one_place bytes place p past at, subst (λ n. limit ≤ n) (sym code) (omega arith))
     first p c (inr (inr (inr x))) = inl (before p c (inr x))
 
-pub before_tokens : (bytes : List ℕ) (w : Wrong) (place p c : ℕ) → FirstInTokens bytes w → place < w.place → InTokens bytes p c → place < p
+pub before_tokens : (bytes : List ℕ) (w : SyntaxError) (place p c : ℕ) → FirstInTokens bytes w → place < w.offset → InTokens bytes p c → place < p
 before_tokens bytes w place p c first before fault = elim (first.first p c fault) [
   | inl lt ↦ omega (arith, before, lt)
   | inr same ↦ omega (arith, before, same.0)
 ]
 
 -- a token's fault comes first
-pub token_refused : (bytes : List ℕ) (w : Wrong) → length bytes ≤ longest_source → FirstInTokens bytes w → w.code ≤ limit
-    → ((place : ℕ) → past_line 0 0 bytes ≡ Some place → w.place ≤ place) → Refuses bytes (record { code = w.code; line = w.line })
+pub token_refused : (bytes : List ℕ) (w : SyntaxError) → length bytes ≤ longest_source → FirstInTokens bytes w → w.code ≤ limit
+    → ((place : ℕ) → past_line 0 0 bytes ≡ Some place → w.offset ≤ place) → Refuses bytes (record { code = w.code; line = w.line })
 token_refused bytes w short tokens low lines = inr (
   short,
   record {
-    place = w.place;
+    place = w.offset;
     stands = stands tokens.stands;
     first = first;
     line = tokens.line;
   },
 )
   where
-    stands : InTokens bytes w.place w.code → Stands bytes w.place w.code
+    stands : InTokens bytes w.offset w.code → Stands bytes w.offset w.code
     stands (inl (inl x)) = inl x
     stands (inl (inr x)) = inr (inl x)
     stands (inr x) = inr (inr (inr x))
 
-    within : (p c : ℕ) → w.place ≤ p → w.code ≤ c → (w.place < p) ⊎ ((w.place ≡ p) × (w.code ≤ c))
+    within : (p c : ℕ) → w.offset ≤ p → w.code ≤ c → (w.offset < p) ⊎ ((w.offset ≡ p) × (w.code ≤ c))
     within p c le code = grind arith
 
-    first : (p c : ℕ) → Stands bytes p c → (w.place < p) ⊎ ((w.place ≡ p) × (w.code ≤ c))
+    first : (p c : ℕ) → Stands bytes p c → (w.offset < p) ⊎ ((w.offset ≡ p) × (w.code ≤ c))
     first p c (inl x) = tokens.first p c (inl (inl x))
     first p c (inr (inl x)) = tokens.first p c (inl (inr x))
     first p c (inr (inr (inl (code, at)))) = within p c (lines p at) (subst (λ n. w.code ≤ n) (sym code) low)

@@ -1,10 +1,10 @@
 -- Operands in the places of a statement.
 
 use Rattle.std.proofs.Common.{◌≡◌, Bool, true, false, cond, ◌||◌, ◌&&◌, not, List, [], ◌∷◌, ◌++◌, append_assoc, Option, Some, None, is_some, Ok, Err, refl, sym, ◌∙◌, ap, subst, inl, inr}
-use Rattle.rv_text_laws.specs.declared.sign.Sign.TheVariants.{Comma, Open}
-use Rattle.rv_text_laws.specs.Grammar.{Kind, Mark}
+use Rattle.rv_text_laws.specs.declared.punct.Punct.TheVariants.{Comma, Open}
+use Rattle.rv_text_laws.specs.Grammar.{Kind, Punctuation}
 use Rattle.rv_text_laws.specs.Lexing.{Token, ended}
-use Rattle.rv_text_laws.specs.Wrong.{Wrong, wrong}
+use Rattle.rv_text_laws.specs.SyntaxError.{SyntaxError, wrong}
 use Rattle.rv_statement.specs.declared.mnemonic.Mnemonic.{Mnemonic}
 use Rattle.rv_statement.specs.declared.mnemonic.Mnemonic.TheVariants.{Registers, Immediate, Shift, Upper, Load, Store, Jalr, LoadReserved, Atomic, Fence, FenceTso, Ecall, Ebreak, Li}
 use Rattle.rv_statement.specs.declared.directive.DirectiveWord.{DirectiveWord}
@@ -110,13 +110,13 @@ front_of_part s [] rest h = refl
 front_of_part s (t ∷ ts) rest h = h
 
 comma_some : (k : Kind) (os : List Operand) → cond {A = Option (List Operand)} (is_comma k) (Some []) None ≡ Some os → closes k ≡ true
-comma_some (Mark Comma) os h = refl
-comma_some (Mark _) os h = absurd (cc)
+comma_some (Punctuation Comma) os h = refl
+comma_some (Punctuation _) os h = absurd (cc)
 comma_some _ os h = absurd (cc)
 
 opening_some : (k : Kind) (os : List Operand) → cond {A = Option (List Operand)} (is_opening k) (Some []) None ≡ Some os → closes k ≡ true
-opening_some (Mark Open) os h = refl
-opening_some (Mark _) os h = absurd (cc)
+opening_some (Punctuation Open) os h = refl
+opening_some (Punctuation _) os h = absurd (cc)
 opening_some _ os h = absurd (cc)
 
 sign_closes : (s : Slot) (text : List Token) (os : List Operand) → is_sign s ≡ true → IsOperand s text os → Closes text
@@ -222,7 +222,7 @@ operands_live (Lists s) = let o = operand_live s in (o.0 ∷ o.1, o.2, (1, o.3),
 operands_live Anything = ([], [], (refl, refl), refl)
 
 -- where a choice is made
-chosen_wrong : (s : Slot) (more others : Slots) (ts : List Token) (w : Wrong) → front_begins s ts ≡ true
+chosen_wrong : (s : Slot) (more others : Slots) (ts : List Token) (w : SyntaxError) → front_begins s ts ≡ true
     → Failing (List Operand) (IsTaken s (λ us ps. AreOperands more us ps)) (taking s (λ us. operands_at more us)) ts w
     → Failing (List Operand) (λ us ps. AreOperands (Chooses s more others) us ps) (λ us. operands_at (Chooses s more others) us) ts w
 unfolding operands_at
@@ -231,7 +231,7 @@ chosen_wrong s more others ts w begins x =
     (λ us. operands_at (Chooses s more others) us) (taking s (λ us. operands_at more us)) ts w
     (λ us ps taken. (ps, inl taken)) (λ us first h. rw (front_same s us ts first ∙ begins) h) x
 
-other_wrong : (s : Slot) (more others : Slots) (ts : List Token) (w : Wrong) → front_begins s ts ≡ false
+other_wrong : (s : Slot) (more others : Slots) (ts : List Token) (w : SyntaxError) → front_begins s ts ≡ false
     → Failing (List Operand) (λ us ps. AreOperands others us ps) (λ us. operands_at others us) ts w
     → Failing (List Operand) (λ us ps. AreOperands (Chooses s more others) us ps) (λ us. operands_at (Chooses s more others) us) ts w
 unfolding operands_at
@@ -251,7 +251,7 @@ other_wrong s more others ts w unbegun x = record {
     goes [] whole live = operands_go (Chooses s more others)
     goes (t ∷ before) whole (text, os, are) = (text, os, inr (ap (front_begins s) (sym whole) ∙ unbegun, are))
 
-stop_wrong : (s : Slot) (ts : List Token) (w : Wrong) → (t : Token) × (us : List Token) × (ts ≡ t ∷ us) × (is_end t.kind ≡ false) × (w ≡ wrong t (wrong_after s t.kind))
+stop_wrong : (s : Slot) (ts : List Token) (w : SyntaxError) → (t : Token) × (us : List Token) × (ts ≡ t ∷ us) × (is_end t.kind ≡ false) × (w ≡ wrong t (wrong_after s t.kind))
     → Failing (List Operand) (λ us ps. AreOperands (Stops s) us ps) (λ us. operands_at (Stops s) us) ts w
 unfolding operands_at
 stop_wrong s ts w (t, us, whole, no_end, is) = record {
@@ -265,7 +265,7 @@ stop_wrong s ts w (t, us, whole, no_end, is) = record {
   goes = ([], [], (refl, refl));
 }
 
-pub operands_wrong : (ss : Slots) (ts : List Token) (w : Wrong) → ended ts ≡ true → operands_at ss ts ≡ Err w
+pub operands_wrong : (ss : Slots) (ts : List Token) (w : SyntaxError) → ended ts ≡ true → operands_at ss ts ≡ Err w
     → Failing (List Operand) (λ us ps. AreOperands ss us ps) (λ us. operands_at ss us) ts w
 unfolding operands_at
 operands_wrong (Stops s) ts w end e = stop_wrong s ts w (ended_err s ts w end e)

@@ -3,10 +3,10 @@
 use Rattle.std.proofs.Common.{◌≡◌, ℕ, zero, suc, ◌<◌, ◌≤◌, Bool, true, false, cond, ◌||◌, ◌&&◌, not, List, [], ◌∷◌, ◌++◌, length, Ok, Err, refl, sym, ◌∙◌, ap, subst, arith, ◌⊎◌, inl, inr}
 use Rattle.std.specs.List.{list_all}
 use Rattle.std.proofs.lemmas.List.{append-nil}
-use Rattle.rv_text_laws.specs.declared.sign.Sign.TheVariants.{Comma, Semicolon}
-use Rattle.rv_text_laws.specs.Grammar.{Kind, Newline, Mark, Bad_byte, Bad_token, End}
+use Rattle.rv_text_laws.specs.declared.punct.Punct.TheVariants.{Comma, Semicolon}
+use Rattle.rv_text_laws.specs.Grammar.{Kind, Newline, Punctuation, Bad_byte, Bad_token, End}
 use Rattle.rv_text_laws.specs.Lexing.{Token, is_last, ended}
-use Rattle.rv_text_laws.specs.Wrong.{Wrong, wrong, Read, nowhere, is_long}
+use Rattle.rv_text_laws.specs.SyntaxError.{SyntaxError, wrong, Read, nowhere, is_long}
 use Rattle.rv_text_laws.specs.Joined.{joined_at}
 use Rattle.rv_text_laws.proofs.ExpressionWrong.{ended_more}
 use Rattle.rv_statement.specs.Statement.{Operand}
@@ -20,20 +20,20 @@ use Rattle.rv_parse_laws.proofs.Values.{closes, Closes}
 use Rattle.rv_parse_laws.proofs.Operands.{Ready, operand_is, operand_shorter, taken_is, FoundTo, taken_found, taken_wrong}
 
 pub end_no_comma : (k : Kind) → is_end k ≡ true → is_comma k ≡ false
-end_no_comma (Mark Comma) h = absurd (cc)
-end_no_comma (Mark _) h = refl
+end_no_comma (Punctuation Comma) h = absurd (cc)
+end_no_comma (Punctuation _) h = refl
 end_no_comma _ h = refl
 
 end_closes : (k : Kind) → is_end k ≡ true → closes k ≡ true
 end_closes Newline h = refl
-end_closes (Mark Semicolon) h = refl
+end_closes (Punctuation Semicolon) h = refl
 end_closes End h = refl
-end_closes (Mark _) h = absurd (cc)
+end_closes (Punctuation _) h = absurd (cc)
 end_closes _ h = absurd (cc)
 
 comma_closes : (k : Kind) → is_comma k ≡ true → closes k ≡ true
-comma_closes (Mark Comma) h = refl
-comma_closes (Mark _) h = absurd (cc)
+comma_closes (Punctuation Comma) h = refl
+comma_closes (Punctuation _) h = absurd (cc)
 comma_closes _ h = absurd (cc)
 
 pub ended_closes : (rest : List Token) → EndsHere rest → Closes rest
@@ -61,7 +61,7 @@ ended_found s ts os rest e =
     let f = end_found s ts b.0 b.1 in
     (f.0 ∙ p.1, sym p.0, subst EndsHere p.1 f.1)
 
-pub ended_err : (s : Slot) (ts : List Token) (w : Wrong) → ended ts ≡ true → ended_at s ts ≡ Err w
+pub ended_err : (s : Slot) (ts : List Token) (w : SyntaxError) → ended ts ≡ true → ended_at s ts ≡ Err w
     → (t : Token) × (us : List Token) × (ts ≡ t ∷ us) × (is_end t.kind ≡ false) × (w ≡ wrong t (wrong_after s t.kind))
 ended_err s [] w end e = absurd (cc)
 ended_err s (t ∷ ts) w end e = elim (bind_err (end_at s (t ∷ ts)) (λ r. Ok ([], r)) w e) [
@@ -176,7 +176,7 @@ items_found_in (suc room) s ts os rest le e = finish
 pub items_found : (s : Slot) (ts : List Token) (os : List Operand) (rest : List Token) → items_at s ts ≡ Ok (os, rest) → FoundTo (λ us ps. Items s us ps) ts os rest
 items_found s ts os rest e = items_found_in (length ts) s ts os rest (omega arith) e
 
-items_wrong_in : (room : ℕ) (s : Slot) (ts : List Token) (w : Wrong) → length ts ≤ room → ended ts ≡ true → items_at s ts ≡ Err w → Failing (List Operand) (λ us ps. Items s us ps) (λ us. items_at s us) ts w
+items_wrong_in : (room : ℕ) (s : Slot) (ts : List Token) (w : SyntaxError) → length ts ≤ room → ended ts ≡ true → items_at s ts ≡ Err w → Failing (List Operand) (λ us ps. Items s us ps) (λ us. items_at s us) ts w
 items_wrong_in zero s [] w le end e = absurd (cc)
 items_wrong_in zero s (t ∷ ts) w le end e = absurd (omega (arith, le))
 items_wrong_in (suc room) s ts w le end e =
@@ -213,7 +213,7 @@ items_wrong_in (suc room) s ts w le end e =
               goes = ([], [], inl (refl, refl));
             }
 
-pub items_wrong : (s : Slot) (ts : List Token) (w : Wrong) → ended ts ≡ true → items_at s ts ≡ Err w → Failing (List Operand) (λ us ps. Items s us ps) (λ us. items_at s us) ts w
+pub items_wrong : (s : Slot) (ts : List Token) (w : SyntaxError) → ended ts ≡ true → items_at s ts ≡ Err w → Failing (List Operand) (λ us ps. Items s us ps) (λ us. items_at s us) ts w
 items_wrong s ts w end e = items_wrong_in (length ts) s ts w (omega arith) end e
 
 -- tokens that are not looked at
@@ -260,7 +260,7 @@ any_found (t ∷ ts) os rest e = go (is_end t.kind) refl e (any_found ts os rest
         more true any e = let f = ih e in (t ∷ f.0, ap (λ xs. t ∷ xs) f.1, (and_both (is_any t.kind) (list_all (λ (t : Token). is_any t.kind) f.0) any f.2.0, f.2.1), f.3)
         more false any e = absurd (cc)
 
-pub any_wrong : (ts : List Token) (w : Wrong) → ended ts ≡ true → any_at ts ≡ Err w → Failing (List Operand) AreAny any_at ts w
+pub any_wrong : (ts : List Token) (w : SyntaxError) → ended ts ≡ true → any_at ts ≡ Err w → Failing (List Operand) AreAny any_at ts w
 any_wrong [] w end e = absurd (cc)
 any_wrong (t ∷ ts) w end e = go (is_end t.kind) refl e (any_wrong ts w)
   where
@@ -281,6 +281,6 @@ any_wrong (t ∷ ts) w end e = go (is_end t.kind) refl e (any_wrong ts w)
           code = wrong_any t.kind;
           whole = refl;
           is_wrong = sym (wrongs _ w e);
-          fails = λ text. rw (any, h) (ap (λ (x : Wrong). Err x) (wrongs _ w e));
+          fails = λ text. rw (any, h) (ap (λ (x : SyntaxError). Err x) (wrongs _ w e));
           goes = ([], [], (refl, refl));
         }

@@ -7,22 +7,23 @@ use Rattle.rv_text_laws.specs.Cut.{Piece, texts}
 use Rattle.rv_text_laws.specs.Grammar.{Kind, Name as NameToken, Text}
 use Rattle.rv_text_laws.specs.Lexing.{Token}
 use Rattle.rv_text_laws.specs.Joined.{IsJoined}
-use Rattle.rv_text_laws.specs.Wrong.{Wrong, wrong, Read}
+use Rattle.rv_text_laws.specs.SyntaxError.{SyntaxError, wrong, Read}
 use Rattle.rv_statement.specs.declared.directive.DirectiveWord.TheVariants as words
 use Rattle.rv_statement.specs.Statement.{Operand, Word, Quoted, Directs, Spoken}
-use Rattle.rv_parse_laws.specs.Words.{Begins_directive, beginning, mnemonic_named, directive_named, instruction_words, atomic_operations, atomic_forms, directive_words}
+use Rattle.rv_parse_laws.specs.Words.{beginning, mnemonic_named, directive_named, instruction_words, atomic_operations, atomic_forms, directive_words}
 use Rattle.rv_parse_laws.specs.Syntax.{begins, is_comma, is_at, is_end, is_section_name, A_section, Some_flags, At_sign, A_comma, single, places, directed, colon_next, AreOperands, Part, Says, IsPart}
 use Rattle.rv_parse_laws.specs.Opening.{flags_fault, type_fault, is_text, is_section, is_opened, IsNamed, WrongFlags, WrongType, IsWrongOpening}
 use Rattle.rv_parse_laws.specs.Parsing.{part_at, section_at, single_at, front_fault, behind_read, or_else, type_wrong, flags_wrong, named_wrong, opening_at, unless, checked_at}
 use Rattle.rv_parse_laws.specs.Reading.{AreParts, told, said, OpensWell, AllOpenWell, CanGoOn}
 use Rattle.rv_parse_laws.proofs.Singles.{some_token, single_found}
 use Rattle.rv_parse_laws.proofs.Sections.{section_is, section_found}
+use Rattle.rv_parse_laws.specs.declared.beginning.Beginning.TheVariants as beginnings
 
-section_begins : beginning (codes ".section") ≡ Begins_directive words.Section
+section_begins : beginning (codes ".section") ≡ beginnings.Directive words.Section
 unfolding beginning mnemonic_named directive_named instruction_words atomic_operations atomic_forms directive_words
 section_begins = refl
 
-section_word : (k : Kind) → is_section k ≡ true → begins k ≡ Begins_directive words.Section
+section_word : (k : Kind) → is_section k ≡ true → begins k ≡ beginnings.Directive words.Section
 section_word (NameToken word) h = let same : word ≡ codes ".section" = (bytes_eq-Decides word (codes ".section")).0 h in rw same section_begins
 section_word _ h = absurd (cc)
 
@@ -66,7 +67,7 @@ opening_found ss before at code more (inr x) =
     ∙ rw x.good typed
 
 -- what is found is a wrong opening
-pub record OpeningThere (known : List ℕ → Bool) (ts : List Token) (w : Wrong) : Type 0 where
+pub record OpeningThere (known : List ℕ → Bool) (ts : List Token) (w : SyntaxError) : Type 0 where
   pub before : List Token
   pub at : Token
   pub more : List Token
@@ -76,7 +77,7 @@ pub record OpeningThere (known : List ℕ → Bool) (ts : List Token) (w : Wrong
   pub is_wrong : w ≡ wrong at code
 
 -- a fault of the token at the front
-fault_there : (fault : Kind → Option ℕ) (ts : List Token) (w : Wrong) → front_fault fault ts ≡ Some w
+fault_there : (fault : Kind → Option ℕ) (ts : List Token) (w : SyntaxError) → front_fault fault ts ≡ Some w
     → (t : Token) × (us : List Token) × (code : ℕ) × (ts ≡ t ∷ us) × (fault t.kind ≡ Some code) × (w ≡ wrong t code)
 fault_there fault [] w e = absurd (cc)
 fault_there fault (t ∷ ts) w e = go (fault t.kind) refl e
@@ -87,7 +88,7 @@ fault_there fault (t ∷ ts) w e = go (fault t.kind) refl e
     go (Some code) is e = (t, ts, code, refl, is, let some : front_fault fault (t ∷ ts) ≡ Some (wrong t code) = rw is refl in cc)
 
 -- what is wrong behind what is read, so it is read
-read_there : {X : Type 0} (f : List Token → Option Wrong) (r : Read X) (w : Wrong) → behind_read f r ≡ Some w → (x : X) × (us : List Token) × (r ≡ Ok (x, us)) × (f us ≡ Some w)
+read_there : {X : Type 0} (f : List Token → Option SyntaxError) (r : Read X) (w : SyntaxError) → behind_read f r ≡ Some w → (x : X) × (us : List Token) × (r ≡ Ok (x, us)) × (f us ≡ Some w)
 read_there f (Ok x) w e = (x.0, x.1, refl, e)
 read_there f (Err v) w e = absurd (cc)
 
@@ -110,7 +111,7 @@ text_there (Text bytes) os e = refl
 text_there _ os e = absurd (cc)
 
 -- a wrong type behind a name and good flags
-type_there : (known : List ℕ → Bool) (front : List Token) (name : List ℕ) (ts : List Token) (w : Wrong) → IsNamed front name → front_fault (flags_fault (known name)) ts ≡ None
+type_there : (known : List ℕ → Bool) (front : List Token) (name : List ℕ) (ts : List Token) (w : SyntaxError) → IsNamed front name → front_fault (flags_fault (known name)) ts ≡ None
     → type_wrong (known name) ts ≡ Some w → OpeningThere known (front ++ ts) w
 type_there known front name ts w named none e =
     let f = read_there _ (single_at Some_flags ts) w e in
@@ -156,11 +157,11 @@ type_there known front name ts w named none e =
             absurd (cc)
 
 -- wrong flags or a wrong type behind a name
-flags_there : (known : List ℕ → Bool) (front : List Token) (name : List ℕ) (ts : List Token) (w : Wrong) → IsNamed front name
+flags_there : (known : List ℕ → Bool) (front : List Token) (name : List ℕ) (ts : List Token) (w : SyntaxError) → IsNamed front name
     → flags_wrong (known name) ts ≡ Some w → OpeningThere known (front ++ ts) w
 flags_there known front name ts w named e = go (front_fault (flags_fault (known name)) ts) refl e
   where
-    go : (o : Option Wrong) → front_fault (flags_fault (known name)) ts ≡ o → or_else o (type_wrong (known name) ts) ≡ Some w → OpeningThere known (front ++ ts) w
+    go : (o : Option SyntaxError) → front_fault (flags_fault (known name)) ts ≡ o → or_else o (type_wrong (known name) ts) ≡ Some w → OpeningThere known (front ++ ts) w
     go None none e = type_there known front name ts w named none e
     go (Some v) some e =
         let same : v ≡ w = cc in
@@ -175,7 +176,7 @@ flags_there known front name ts w named e = go (front_fault (flags_fault (known 
           is_wrong = sym same ∙ t.5;
         }
 
-pub opening_there : (known : List ℕ → Bool) (ts : List Token) (w : Wrong) → opening_at known ts ≡ Some w → OpeningThere known ts w
+pub opening_there : (known : List ℕ → Bool) (ts : List Token) (w : SyntaxError) → opening_at known ts ≡ Some w → OpeningThere known ts w
 unfolding opening_at
 opening_there known [] w e = absurd (cc)
 opening_there known (t ∷ ts) w e = go (is_section t.kind) refl e
@@ -219,23 +220,23 @@ front_opens ss front ts more whole well before at rest code is wrong =
 pub checked_ok : (ss : List Spoken) (ts : List Token) (x : Part × List Token) → checked_at (is_opened ss) ts ≡ Ok x → (part_at ts ≡ Ok x) × OpensWell ss ts
 checked_ok ss ts x e = go (opening_at (is_opened ss) ts) refl e
   where
-    go : (o : Option Wrong) → opening_at (is_opened ss) ts ≡ o → unless o (part_at ts) ≡ Ok x → (part_at ts ≡ Ok x) × OpensWell ss ts
+    go : (o : Option SyntaxError) → opening_at (is_opened ss) ts ≡ o → unless o (part_at ts) ≡ Ok x → (part_at ts ≡ Ok x) × OpensWell ss ts
     go None none e = (e, none_opens ss ts none)
     go (Some w) some e = absurd (cc)
 
 -- what is wrong there: an opening, or without one the first token with which nothing goes on
-pub checked_err : (ss : List Spoken) (ts : List Token) (w : Wrong) → checked_at (is_opened ss) ts ≡ Err w
+pub checked_err : (ss : List Spoken) (ts : List Token) (w : SyntaxError) → checked_at (is_opened ss) ts ≡ Err w
     → OpeningThere (is_opened ss) ts w ⊎ ((part_at ts ≡ Err w) × OpensWell ss ts)
 checked_err ss ts w e = go (opening_at (is_opened ss) ts) refl e
   where
-    go : (o : Option Wrong) → opening_at (is_opened ss) ts ≡ o → unless o (part_at ts) ≡ Err w → OpeningThere (is_opened ss) ts w ⊎ ((part_at ts ≡ Err w) × OpensWell ss ts)
+    go : (o : Option SyntaxError) → opening_at (is_opened ss) ts ≡ o → unless o (part_at ts) ≡ Err w → OpeningThere (is_opened ss) ts w ⊎ ((part_at ts ≡ Err w) × OpensWell ss ts)
     go None none e = inr (e, none_opens ss ts none)
-    go (Some v) some e = let same : v ≡ w = cc in inl (subst (λ (u : Wrong). OpeningThere (is_opened ss) ts u) same (opening_there (is_opened ss) ts v some))
+    go (Some v) some e = let same : v ≡ w = cc in inl (subst (λ (u : SyntaxError). OpeningThere (is_opened ss) ts u) same (opening_there (is_opened ss) ts v some))
 
-pub checked_wrong : (ss : List Spoken) (ts : List Token) (w : Wrong) → part_at ts ≡ Err w → (v : Wrong) × (checked_at (is_opened ss) ts ≡ Err v)
+pub checked_wrong : (ss : List Spoken) (ts : List Token) (w : SyntaxError) → part_at ts ≡ Err w → (v : SyntaxError) × (checked_at (is_opened ss) ts ≡ Err v)
 checked_wrong ss ts w e = go (opening_at (is_opened ss) ts)
   where
-    go : (o : Option Wrong) → (v : Wrong) × (unless o (part_at ts) ≡ Err v)
+    go : (o : Option SyntaxError) → (v : SyntaxError) × (unless o (part_at ts) ≡ Err v)
     go None = (w, e)
     go (Some v) = (v, refl)
 

@@ -3,7 +3,7 @@
 
 use Rattle.std.proofs.Common.{◌≡◌, ℕ, ◌<◌, true, false, List, [], ◌∷◌, ◌++◌, append_assoc, length, length-append, Ok, Err, refl, sym, ◌∙◌, ap, subst, arith, inl, inr}
 use Rattle.rv_text_laws.specs.Lexing.{Token, ended}
-use Rattle.rv_text_laws.specs.Wrong.{Wrong, Read}
+use Rattle.rv_text_laws.specs.SyntaxError.{SyntaxError, Read}
 use Rattle.rv_text_laws.proofs.ExpressionWrong.{ended_more, ended_behind}
 use Rattle.rv_statement.specs.Statement.{Expression, Operand, Value, Word}
 use Rattle.rv_parse_laws.specs.Syntax.{is_colon, Slot, A_value, An_address, A_section, IsValue, IsOperand, IsTaken, EndsHere}
@@ -104,7 +104,7 @@ operand_live s = one_goes s refl
 pub operand_goes : (s : Slot) → (text : List Token) × (os : List Operand) × IsOperand s text os
 operand_goes s = let o = operand_live s in (o.0 ∷ o.1, o.2, o.3)
 
-pub operand_wrong : (s : Slot) (ts : List Token) (w : Wrong) → ended ts ≡ true → operand_at s ts ≡ Err w → Failing (List Operand) (IsOperand s) (operand_at s) ts w
+pub operand_wrong : (s : Slot) (ts : List Token) (w : SyntaxError) → ended ts ≡ true → operand_at s ts ≡ Err w → Failing (List Operand) (IsOperand s) (operand_at s) ts w
 operand_wrong (A_value role) ts w end e =
     alike (List Operand) Expression (IsOperand (A_value role)) IsValue (operand_at (A_value role)) (value_in role) ts w
     (λ us x v. (Value x ∷ [], (x, v, refl))) (λ us first h. ap (seen_as (λ e. Value e ∷ [])) h)
@@ -139,14 +139,14 @@ taken_found s R N ts os rest ih e =
       f.3,
     )
 
-operand_err : (s : Slot) (R : List Token → Read (List Operand)) (us : List Token) (w : Wrong) → operand_at s us ≡ Err w → taking s R us ≡ Err w
+operand_err : (s : Slot) (R : List Token → Read (List Operand)) (us : List Token) (w : SyntaxError) → operand_at s us ≡ Err w → taking s R us ≡ Err w
 operand_err s R us w e = rw e refl
 
-rest_err : (s : Slot) (R : List Token → Read (List Operand)) (us : List Token) (os : List Operand) (rest : List Token) (w : Wrong) → operand_at s us ≡ Ok (os, rest) → R rest ≡ Err w
+rest_err : (s : Slot) (R : List Token → Read (List Operand)) (us : List Token) (os : List Operand) (rest : List Token) (w : SyntaxError) → operand_at s us ≡ Ok (os, rest) → R rest ≡ Err w
     → taking s R us ≡ Err w
 rest_err s R us os rest w e f = rw (e, f) refl
 
-pub taken_wrong : (s : Slot) (R : List Token → Read (List Operand)) (N : List Token → List Operand → Type 0) (ts : List Token) (w : Wrong)
+pub taken_wrong : (s : Slot) (R : List Token → Read (List Operand)) (N : List Token → List Operand → Type 0) (ts : List Token) (w : SyntaxError)
     → (text : List Token) × (os : List Operand) × N text os → ended ts ≡ true → taking s R ts ≡ Err w
     → ((os : List Operand) (rest : List Token) → operand_at s ts ≡ Ok (os, rest) → ended rest ≡ true → R rest ≡ Err w → Failing (List Operand) N R rest w)
     → Failing (List Operand) (IsTaken s N) (taking s R) ts w

@@ -1,16 +1,16 @@
 -- The reading of a part answers exactly what the syntax spells, and is wrong at the first token with which nothing can go on.
 
 use Rattle.std.proofs.Common.{◌≡◌, ℕ, Bool, true, false, cond, List, [], ◌∷◌, ◌++◌, append_assoc, Some, None, Ok, Err, refl, sym, ◌∙◌, ap, subst, codes}
-use Rattle.rv_text_laws.specs.declared.sign.Sign.TheVariants.{Colon}
+use Rattle.rv_text_laws.specs.declared.punct.Punct.TheVariants.{Colon}
 use Rattle.rv_text_laws.specs.Bytes.{is_decimal}
 use Rattle.std.specs.List.{list_all}
-use Rattle.rv_text_laws.specs.Grammar.{Kind, Newline, Mark, Name as NameToken, Number, Bad_word}
+use Rattle.rv_text_laws.specs.Grammar.{Kind, Newline, Punctuation, Name as NameToken, Number, Bad_word}
 use Rattle.rv_text_laws.specs.Lexing.{Token, is_last, ended}
-use Rattle.rv_text_laws.specs.Wrong.{Wrong, wrong, Read}
+use Rattle.rv_text_laws.specs.SyntaxError.{SyntaxError, wrong, Read}
 use Rattle.rv_text_laws.proofs.ExpressionWrong.{ended_more}
 use Rattle.rv_statement.specs.Statement.{Operand, Statement, Label, Numbered, Instruction, Directs}
 use Rattle.rv_isa.specs.RegisterNames.{abi_names}
-use Rattle.rv_parse_laws.specs.Words.{names_of, register, Beginning, Begins_instruction, Begins_directive, Begins_nothing}
+use Rattle.rv_parse_laws.specs.Words.{names_of, register}
 use Rattle.rv_parse_laws.specs.Syntax.{is_symbol, label_of, begins, is_colon, is_end, Slots, slots, places, directed, AreOperands, colon_next, IsLabel, IsStatement, Part, Ends, Says, IsPart, EndsHere, StopsPart}
 use Rattle.rv_parse_laws.specs.Faults.{wrong_start, wrong_label}
 use Rattle.rv_parse_laws.specs.Parsing.{seen_as, taken, operands_at, begun_at, after_first, statement_at, part_at}
@@ -19,10 +19,12 @@ use Rattle.rv_parse_laws.proofs.Steps.{seen_ok, taken_ok, pair_parts, seen_err, 
 use Rattle.rv_parse_laws.proofs.Failing.{Failing, first_of, never, wrongs}
 use Rattle.rv_parse_laws.proofs.Singles.{some_token, a_symbol}
 use Rattle.rv_parse_laws.proofs.InPlaces.{slots_sound, places_sound, operands_is, operands_found, operands_wrong, operands_live}
+use Rattle.rv_parse_laws.specs.declared.beginning.Beginning.{Beginning}
+use Rattle.rv_parse_laws.specs.declared.beginning.Beginning.TheVariants as beginnings
 
 end_no_colon : (k : Kind) → is_end k ≡ true → is_colon k ≡ false
-end_no_colon (Mark Colon) h = absurd (cc)
-end_no_colon (Mark _) h = refl
+end_no_colon (Punctuation Colon) h = absurd (cc)
+end_no_colon (Punctuation _) h = refl
 end_no_colon _ h = refl
 
 label_no_end : (k : Kind) (s : Statement) → label_of k ≡ Some s → is_end k ≡ false
@@ -58,15 +60,15 @@ to_label ts (Instruction m os) l h = absurd (cc)
 to_label ts (Directs d) l h = absurd (cc)
 
 -- a token that begins something that is built
-begins_no_end : (k : Kind) (b : Beginning) → begins k ≡ b → (b ≡ Begins_nothing → ⊥) → is_end k ≡ false
+begins_no_end : (k : Kind) (b : Beginning) → begins k ≡ b → (b ≡ beginnings.Nothing → ⊥) → is_end k ≡ false
 begins_no_end (NameToken word) b h some = refl
 begins_no_end _ b h some = absurd (some (sym h))
 
-begins_no_last : (k : Kind) (b : Beginning) → begins k ≡ b → (b ≡ Begins_nothing → ⊥) → is_last k ≡ false
+begins_no_last : (k : Kind) (b : Beginning) → begins k ≡ b → (b ≡ beginnings.Nothing → ⊥) → is_last k ≡ false
 begins_no_last (NameToken word) b h some = refl
 begins_no_last _ b h some = absurd (some (sym h))
 
-pub last_begins_nothing : (k : Kind) → is_last k ≡ true → begins k ≡ Begins_nothing
+pub last_begins_nothing : (k : Kind) → is_last k ≡ true → begins k ≡ beginnings.Nothing
 last_begins_nothing (NameToken word) h = absurd (cc)
 last_begins_nothing _ h = refl
 
@@ -86,7 +88,7 @@ colon_first (t ∷ ts) [] e = absurd (cc)
 colon_first (t ∷ ts) (u ∷ us) e = let same : t ≡ u = cc in ap (λ (x : Token). is_colon x.kind) same
 
 -- a statement behind its first token, no label
-begun_is : (b : Beginning) (t : Token) (us : List Token) (s : Statement) (rest : List Token) → begins t.kind ≡ b → (b ≡ Begins_nothing → ⊥)
+begun_is : (b : Beginning) (t : Token) (us : List Token) (s : Statement) (rest : List Token) → begins t.kind ≡ b → (b ≡ beginnings.Nothing → ⊥)
     → colon_next us ≡ false → begun_at b t us ≡ Ok (s, rest) → part_at (t ∷ us) ≡ Ok (Says s, rest)
 unfolding part_at statement_at
 begun_is b t us s rest is some no_colon e = rw (begins_no_end t.kind b is some, no_colon, is, e) refl
@@ -101,10 +103,10 @@ part_is Ends text rest (t, w, is) stops = rw w (rw is refl)
 part_is (Says (Label name)) text rest label stops = label_is text rest (Label name) label
 part_is (Says (Numbered number)) text rest label stops = label_is text rest (Numbered number) label
 part_is (Says (Instruction m os)) text rest (t, more, w, colon, is, are) ends =
-    rw w (begun_is (Begins_instruction m) t (more ++ rest) (Instruction m os) rest is (λ h. cc) (colon_behind more rest colon ends)
+    rw w (begun_is (beginnings.Instruction m) t (more ++ rest) (Instruction m os) rest is (λ h. cc) (colon_behind more rest colon ends)
     (ap (seen_as (Instruction m)) (operands_is (slots m) more os (slots_sound m) are rest ends)))
 part_is (Says (Directs d)) text rest (t, more, word, os, w, colon, is, are, v) ends =
-    rw (w, v) (begun_is (Begins_directive word) t (more ++ rest) (Directs (directed word os)) rest is (λ h. cc) (colon_behind more rest colon ends)
+    rw (w, v) (begun_is (beginnings.Directive word) t (more ++ rest) (Directs (directed word os)) rest is (λ h. cc) (colon_behind more rest colon ends)
     (ap (seen_as (λ os. Directs (directed word os))) (operands_is (places word) more os (places_sound word) are rest ends)))
 
 -- a part, up to the rest
@@ -114,17 +116,17 @@ FoundPart ts p rest = (text : List Token) × (ts ≡ text ++ rest) × IsPart p t
 begun_found : (b : Beginning) (t : Token) (ts : List Token) (s : Statement) (rest : List Token) → begins t.kind ≡ b → colon_next ts ≡ false → begun_at b t ts ≡ Ok (s, rest)
     → FoundPart (t ∷ ts) (Says s) rest
 unfolding begun_at
-begun_found (Begins_instruction m) t ts s rest is colon e =
+begun_found (beginnings.Instruction m) t ts s rest is colon e =
     let v = seen_ok (Instruction m) (operands_at (slots m) ts) s rest e in
     let f = operands_found (slots m) ts v.0 rest v.1 in
     subst (λ s. FoundPart (t ∷ ts) (Says s) rest) (sym v.2)
     (t ∷ f.0, ap (λ us. t ∷ us) f.1, (t, f.0, refl, colon_of_part f.0 rest (ap colon_next (sym f.1) ∙ colon), is, f.2), f.3)
-begun_found (Begins_directive word) t ts s rest is colon e =
+begun_found (beginnings.Directive word) t ts s rest is colon e =
     let v = seen_ok (λ os. Directs (directed word os)) (operands_at (places word) ts) s rest e in
     let f = operands_found (places word) ts v.0 rest v.1 in
     subst (λ s. FoundPart (t ∷ ts) (Says s) rest) (sym v.2)
     (t ∷ f.0, ap (λ us. t ∷ us) f.1, (t, f.0, word, v.0, refl, colon_of_part f.0 rest (ap colon_next (sym f.1) ∙ colon), is, f.2, refl), f.3)
-begun_found Begins_nothing t ts s rest is colon e = absurd (cc)
+begun_found beginnings.Nothing t ts s rest is colon e = absurd (cc)
 
 any_stop : (s : Statement) (rest : List Token) → IsLabelled s → StopsPart (Says s) rest
 any_stop (Label name) rest l = tt
@@ -165,7 +167,7 @@ abbrev pub PartOf : List Token → List Token → Part → Type 0
 PartOf rest us p = (is_label p ≡ begins_label rest) × IsPart p us
 
 -- where no part stands: a colon behind the first token makes it a label, and without one it is none
-pub record WrongAt (ts : List Token) (w : Wrong) : Type 0 where
+pub record WrongAt (ts : List Token) (w : SyntaxError) : Type 0 where
   pub before : List Token
   pub at : Token
   pub more : List Token
@@ -179,9 +181,9 @@ abbrev a_newline : Token
 a_newline = some_token Newline
 
 abbrev a_colon : Token
-a_colon = some_token (Mark Colon)
+a_colon = some_token (Punctuation Colon)
 
-begun_err : (b : Beginning) (t : Token) (us : List Token) (w : Wrong) → is_end t.kind ≡ false → begins t.kind ≡ b → colon_next us ≡ false → begun_at b t us ≡ Err w → part_at (t ∷ us) ≡ Err w
+begun_err : (b : Beginning) (t : Token) (us : List Token) (w : SyntaxError) → is_end t.kind ≡ false → begins t.kind ≡ b → colon_next us ≡ false → begun_at b t us ≡ Err w → part_at (t ∷ us) ≡ Err w
 unfolding part_at statement_at
 begun_err b t us w no_end is colon e = rw (no_end, colon, is, e) refl
 
@@ -192,7 +194,7 @@ plain_goes ss ts [] at more whole colon live = operands_live ss
 plain_goes ss ts (t ∷ before) at more whole colon (text, os, are) = (text, os, are, ap colon_next (sym whole) ∙ colon)
 
 -- what is wrong behind the first token
-begun_behind : (t : Token) (ts : List Token) (w : Wrong) (b : Beginning) (ss : Slots) (view : List Operand → Statement) → is_end t.kind ≡ false → begins t.kind ≡ b → colon_next ts ≡ false
+begun_behind : (t : Token) (ts : List Token) (w : SyntaxError) (b : Beginning) (ss : Slots) (view : List Operand → Statement) → is_end t.kind ≡ false → begins t.kind ≡ b → colon_next ts ≡ false
     → ((us : List Token) → operands_at ss us ≡ Err w → begun_at b t us ≡ Err w)
     → ((us : List Token) (os : List Operand) → colon_next us ≡ false → AreOperands ss us os → PartOf (t ∷ ts) (t ∷ us) (Says (view os)))
     → Failing (List Operand) (λ us ps. AreOperands ss us ps) (λ us. operands_at ss us) ts w → WrongAt (t ∷ ts) w
@@ -209,19 +211,19 @@ begun_behind t ts w b ss view no_end is colon on to x =
       goes = (g.0, Says (view g.1), to (x.before ++ g.0) g.1 g.3 g.2);
     }
 
-begun_wrong : (b : Beginning) (t : Token) (ts : List Token) (w : Wrong) → ended (t ∷ ts) ≡ true → begins t.kind ≡ b → is_end t.kind ≡ false → colon_next ts ≡ false → begun_at b t ts ≡ Err w
+begun_wrong : (b : Beginning) (t : Token) (ts : List Token) (w : SyntaxError) → ended (t ∷ ts) ≡ true → begins t.kind ≡ b → is_end t.kind ≡ false → colon_next ts ≡ false → begun_at b t ts ≡ Err w
     → WrongAt (t ∷ ts) w
 unfolding begun_at
-begun_wrong (Begins_instruction m) t ts w end is no_end colon e =
-    begun_behind t ts w (Begins_instruction m) (slots m) (Instruction m) no_end is colon (λ us h. ap (seen_as (Instruction m)) h)
+begun_wrong (beginnings.Instruction m) t ts w end is no_end colon e =
+    begun_behind t ts w (beginnings.Instruction m) (slots m) (Instruction m) no_end is colon (λ us h. ap (seen_as (Instruction m)) h)
     (λ us os plain are. (sym colon, (t, us, refl, plain, is, are)))
-    (operands_wrong (slots m) ts w (ended_more t ts (begins_no_last t.kind (Begins_instruction m) is (λ h. cc)) end) (seen_err (Instruction m) (operands_at (slots m) ts) w e))
-begun_wrong (Begins_directive word) t ts w end is no_end colon e =
-    begun_behind t ts w (Begins_directive word) (places word) (λ os. Directs (directed word os)) no_end is colon (λ us h. ap (seen_as (λ os. Directs (directed word os))) h)
+    (operands_wrong (slots m) ts w (ended_more t ts (begins_no_last t.kind (beginnings.Instruction m) is (λ h. cc)) end) (seen_err (Instruction m) (operands_at (slots m) ts) w e))
+begun_wrong (beginnings.Directive word) t ts w end is no_end colon e =
+    begun_behind t ts w (beginnings.Directive word) (places word) (λ os. Directs (directed word os)) no_end is colon (λ us h. ap (seen_as (λ os. Directs (directed word os))) h)
     (λ us os plain are. (sym colon, (t, us, word, os, refl, plain, is, are, refl)))
-    (operands_wrong (places word) ts w (ended_more t ts (begins_no_last t.kind (Begins_directive word) is (λ h. cc)) end)
+    (operands_wrong (places word) ts w (ended_more t ts (begins_no_last t.kind (beginnings.Directive word) is (λ h. cc)) end)
     (seen_err (λ os. Directs (directed word os)) (operands_at (places word) ts) w e))
-begun_wrong Begins_nothing t ts w end is no_end colon e =
+begun_wrong beginnings.Nothing t ts w end is no_end colon e =
     let v : wrong t (wrong_start t.kind) ≡ w = wrongs _ w e in
     record {
       before = [];
@@ -230,11 +232,11 @@ begun_wrong Begins_nothing t ts w end is no_end colon e =
       code = wrong_start t.kind;
       whole = refl;
       is_wrong = sym v;
-      fails = λ text label. begun_err Begins_nothing t text w no_end is (label ∙ colon) e;
+      fails = λ text label. begun_err beginnings.Nothing t text w no_end is (label ∙ colon) e;
       goes = (a_newline ∷ [], Ends, (sym colon, (a_newline, refl, refl)));
     }
 
-label_err : (t : Token) (us : List Token) (w : Wrong) → is_end t.kind ≡ false → label_of t.kind ≡ None → w ≡ wrong t (wrong_label t.kind) → colon_next us ≡ true → part_at (t ∷ us) ≡ Err w
+label_err : (t : Token) (us : List Token) (w : SyntaxError) → is_end t.kind ≡ false → label_of t.kind ≡ None → w ≡ wrong t (wrong_label t.kind) → colon_next us ≡ true → part_at (t ∷ us) ≡ Err w
 unfolding part_at statement_at
 label_err t us w no_end none is colon = rw (no_end, colon) (rw (none, is) refl)
 
@@ -242,7 +244,7 @@ some_label : label_of a_symbol.kind ≡ Some (Label (codes "f"))
 unfolding is_symbol register names_of abi_names
 some_label = refl
 
-pub part_wrong : (ts : List Token) (w : Wrong) → ended ts ≡ true → part_at ts ≡ Err w → WrongAt ts w
+pub part_wrong : (ts : List Token) (w : SyntaxError) → ended ts ≡ true → part_at ts ≡ Err w → WrongAt ts w
 unfolding part_at statement_at
 part_wrong [] w end e = absurd (cc)
 part_wrong (t ∷ ts) w end e = go (is_end t.kind) refl e
@@ -297,7 +299,7 @@ label_behind t [] = refl
 label_behind t (u ∷ us) = refl
 
 -- with the wrong token no part goes on
-pub stops_there : (ts : List Token) (w : Wrong) (x : WrongAt ts w) (p : Part) (text : List Token) → PartOf ts (x.before ++ x.at ∷ text) p → ⊥
+pub stops_there : (ts : List Token) (w : SyntaxError) (x : WrongAt ts w) (p : Part) (text : List Token) → PartOf ts (x.before ++ x.at ∷ text) p → ⊥
 stops_there ts w x p text (label, is) =
     let all : List Token = x.before ++ x.at ∷ text in
     let n = part_nonempty p (x.before ++ x.at ∷ text) is in

@@ -12,13 +12,14 @@ use Rattle.rv_text_laws.specs.Cut.{Piece, texts, Each}
 use Rattle.rv_text_laws.specs.Bytes.{class, is_word}
 use Rattle.rv_text_laws.specs.Grammar.{Kind, Name, Spells, Stops}
 use Rattle.rv_text_laws.specs.Lexing.{Token, newlines, placed, is_gap, tokens_of, bad, last_kind, is_last, ended, last, Lexes}
-use Rattle.rv_text_laws.proofs.Pieces.{pieces}
+use Rattle.rv_text_laws.proofs.Lexemes.{lexemes}
 use Rattle.rv_text_laws.proofs.Tokens.{newlines-append}
-use Rattle.rv_text_laws.specs.Wrong.{longest_name, limit, is_long, place_of}
+use Rattle.rv_text_laws.specs.Codes.{limit}
+use Rattle.rv_text_laws.specs.SyntaxError.{longest_name, is_long, offset_of}
 
 -- the line of a token's faults is the token's
 abbrev pub LineIs : List ℕ → Token → Type 0
-LineIs bytes t = (code : ℕ) → t.line ≡ 1 + newlines (take (place_of t code) bytes)
+LineIs bytes t = (code : ℕ) → t.line ≡ 1 + newlines (take (offset_of t code) bytes)
 
 -- from a place on, each token stands behind the one before it
 abbrev pub Standing : List ℕ → ℕ → List Token → Type 0
@@ -80,7 +81,7 @@ long_name (Name name) text long (is, (b, bs, w, letter, all)) =
 long_name _ text long spelled = absurd (cc)
 
 line_of_piece : (bytes before after : List ℕ) (p : Piece Kind ℕ) → bytes ≡ before ++ (p.text ++ after) → Spells p.kind p.text → LineIs bytes (placed before p)
-unfolding place_of
+unfolding offset_of
 line_of_piece bytes before after p whole spelled code = rw whole (go ((code == limit) && is_long p.kind) refl)
   where
     go : (t : Bool) → ((code == limit) && is_long p.kind) ≡ t
@@ -101,7 +102,7 @@ and_false true b h = h
 and_false false b h = refl
 
 line_of_last : (bytes before rest : List ℕ) → bytes ≡ before ++ rest → LineIs bytes (last before rest)
-unfolding place_of
+unfolding offset_of
 line_of_last bytes before rest whole code =
     rw (whole, and_false (code == limit) (is_long (last_kind rest)) (last_short rest)) (sym (line_before before [] rest))
 
@@ -112,7 +113,7 @@ standing_of bytes before (p ∷ ps) rest whole each =
     let behind : bytes ≡ (before ++ p.text) ++ (texts ps ++ rest) =
     whole ∙ ap (λ xs. before ++ xs) (append_assoc p.text (texts ps) rest) ∙ sym (append_assoc before p.text (texts ps ++ rest)) in
     let more = standing_of bytes (before ++ p.text) ps rest behind each.2 in
-    let some : 0 < length p.text = pieces.some p.kind p.text each.0 in
+    let some : 0 < length p.text = lexemes.some p.kind p.text each.0 in
     let fits : suc (length before) ≤ length (before ++ p.text) = omega (arith, some, length-append before p.text) in
     go (is_gap p.kind) fits (line_of_piece bytes before (texts ps ++ rest) p (whole ∙ ap (λ xs. before ++ xs) (append_assoc p.text (texts ps) rest)) each.0)
     (subst (λ xs. Standing bytes (length (before ++ p.text)) (tokens_of (before ++ p.text) ps ++ last xs rest ∷ [])) (append_assoc before p.text (texts ps)) more)
@@ -140,8 +141,8 @@ standing_behind bytes low [] ts h = h
 standing_behind bytes low (b ∷ before) ts (above, line, others) =
     lower bytes low (suc b.start) ts (omega (arith, above)) (standing_behind bytes (suc b.start) before ts others)
 
-pub place_at_least : (t : Token) (code : ℕ) → t.start ≤ place_of t code
-unfolding place_of
+pub place_at_least : (t : Token) (code : ℕ) → t.start ≤ offset_of t code
+unfolding offset_of
 place_at_least t code = go ((code == limit) && is_long t.kind)
   where
     go : (b : Bool) → t.start ≤ cond b (t.start + longest_name) t.start
@@ -149,8 +150,8 @@ place_at_least t code = go ((code == limit) && is_long t.kind)
     go false = omega arith
 
 -- no token's own place is that of a limit
-pub place_of_none : (t : Token) → place_of t 0 ≡ t.start
-unfolding place_of
+pub place_of_none : (t : Token) → offset_of t 0 ≡ t.start
+unfolding offset_of
 place_of_none t = refl
 
 -- the last token of a source is a last one

@@ -5,11 +5,12 @@ use Rattle.std.specs.Str.{bytes_eq}
 use Rattle.std.proofs.lemmas.Bool.Decides.{nat_tests}
 use Rattle.std.proofs.lemmas.List.{append-nil}
 use Rattle.std.proofs.lemmas.Slice.Eq.{bytes_eq-Decides}
-use Rattle.rv_text_laws.specs.declared.sign.Sign.TheVariants.{Comma, Semicolon, Open, Minus}
-use Rattle.rv_text_laws.specs.Grammar.{Kind, Newline, Mark, Name, Bad_byte, Bad_token, End}
+use Rattle.rv_text_laws.specs.declared.punct.Punct.TheVariants.{Comma, Semicolon, Open, Minus}
+use Rattle.rv_text_laws.specs.Grammar.{Kind, Newline, Punctuation, Name, Bad_byte, Bad_token, End}
 use Rattle.rv_text_laws.specs.Lexing.{Token, is_last, ended}
-use Rattle.rv_text_laws.specs.Wrong.{Wrong, wrong, Read, longest_name, limit}
-use Rattle.rv_text_laws.specs.Joined.{bytes_of, AreBehind, IsJoined, joins, joined_behind, first_name, joined_at}
+use Rattle.rv_text_laws.specs.Codes.{limit}
+use Rattle.rv_text_laws.specs.SyntaxError.{SyntaxError, wrong, Read, longest_name}
+use Rattle.rv_text_laws.specs.Joined.{bytes_of, AreAfter, IsJoined, joins, joined_after, first_name, joined_at}
 use Rattle.rv_text_laws.proofs.ExpressionWrong.{ended_more}
 use Rattle.rv_parse_laws.specs.Syntax.{is_section_name, A_section}
 use Rattle.rv_parse_laws.specs.Faults.{wrong_first, unsupported_here}
@@ -42,12 +43,12 @@ to_joins place t bytes here is = go (t.start == place) refl
 
 -- what closes a name is none of its parts
 closing_none : (k : Kind) → closes k ≡ true → bytes_of k ≡ None
-closing_none (Mark Comma) h = refl
-closing_none (Mark Open) h = refl
-closing_none (Mark Semicolon) h = refl
+closing_none (Punctuation Comma) h = refl
+closing_none (Punctuation Open) h = refl
+closing_none (Punctuation Semicolon) h = refl
 closing_none Newline h = refl
 closing_none End h = refl
-closing_none (Mark _) h = absurd (cc)
+closing_none (Punctuation _) h = absurd (cc)
 closing_none _ h = absurd (cc)
 
 no_joins : (place : ℕ) (t : Token) → bytes_of t.kind ≡ None → joins place t ≡ None
@@ -59,13 +60,13 @@ no_joins place t none = go (t.start == place)
 
 -- one part more, and none
 behind_some : (place : ℕ) (t : Token) (ts : List Token) (bytes : List ℕ) → joins place t ≡ Some bytes
-    → joined_behind place (t ∷ ts) ≡ (bytes ++ (joined_behind t.stop ts).0, (joined_behind t.stop ts).1)
-behind_some place t ts bytes e = rw (e, joined_behind) refl
+    → joined_after place (t ∷ ts) ≡ (bytes ++ (joined_after t.stop ts).0, (joined_after t.stop ts).1)
+behind_some place t ts bytes e = rw (e, joined_after) refl
 
-behind_none : (place : ℕ) (t : Token) (ts : List Token) → joins place t ≡ None → joined_behind place (t ∷ ts) ≡ ([], t ∷ ts)
-behind_none place t ts e = rw (e, joined_behind) refl
+behind_none : (place : ℕ) (t : Token) (ts : List Token) → joins place t ≡ None → joined_after place (t ∷ ts) ≡ ([], t ∷ ts)
+behind_none place t ts e = rw (e, joined_after) refl
 
-joined_is : (place : ℕ) (text rest : List Token) (bytes : List ℕ) → AreBehind place text bytes → Closes rest → joined_behind place (text ++ rest) ≡ (bytes, rest)
+joined_is : (place : ℕ) (text rest : List Token) (bytes : List ℕ) → AreAfter place text bytes → Closes rest → joined_after place (text ++ rest) ≡ (bytes, rest)
 joined_is place [] rest bytes is (t, us, e, h) =
     rw (e, is) (behind_none place t us (no_joins place t (closing_none t.kind h)))
 joined_is place (t ∷ text) rest bytes (here, first, later, is, w, more) closes =
@@ -76,21 +77,21 @@ joined_is place (t ∷ text) rest bytes (here, first, later, is, w, more) closes
 -- what is joined, and that it is whatever stands behind the token behind it
 pub record JoinedFound (place : ℕ) (ts : List Token) : Type 0 where
   pub text : List Token
-  pub whole : ts ≡ text ++ (joined_behind place ts).1
-  pub is : AreBehind place text (joined_behind place ts).0
-  pub steady : (us : List Token) → first_of us ≡ first_of (joined_behind place ts).1 → joined_behind place (text ++ us) ≡ ((joined_behind place ts).0, us)
+  pub whole : ts ≡ text ++ (joined_after place ts).1
+  pub is : AreAfter place text (joined_after place ts).0
+  pub steady : (us : List Token) → first_of us ≡ first_of (joined_after place ts).1 → joined_after place (text ++ us) ≡ ((joined_after place ts).0, us)
 
 joined_found : (place : ℕ) (ts : List Token) → JoinedFound place ts
 joined_found place [] = record { text = []; whole = refl; is = refl; steady = λ us first. go us first }
   where
-    go : (us : List Token) → first_of us ≡ None → joined_behind place us ≡ ([], us)
+    go : (us : List Token) → first_of us ≡ None → joined_after place us ≡ ([], us)
     go [] e = refl
     go (u ∷ us) e = absurd (cc)
 joined_found place (t ∷ ts) = go (joins place t) refl (joined_found t.stop ts)
   where
     go : (o : Option (List ℕ)) → joins place t ≡ o → JoinedFound t.stop ts → JoinedFound place (t ∷ ts)
     go None e f =
-        let is : joined_behind place (t ∷ ts) ≡ ([], t ∷ ts) = behind_none place t ts e in record {
+        let is : joined_after place (t ∷ ts) ≡ ([], t ∷ ts) = behind_none place t ts e in record {
           text = [];
           whole = sym (ap (λ (x : List ℕ × List Token). x.1) is);
           is = ap (λ (x : List ℕ × List Token). x.0) is;
@@ -98,14 +99,14 @@ joined_found place (t ∷ ts) = go (joins place t) refl (joined_found t.stop ts)
               ∙ ap (λ (x : List ℕ). (x, us)) (sym (ap (λ (x : List ℕ × List Token). x.0) is));
         }
       where
-        stays : (us : List Token) → first_of us ≡ first_of (t ∷ ts) → joined_behind place us ≡ ([], us)
-        stays us first = let k = first_is t ts us first in ap (joined_behind place) k.1 ∙ behind_none place t k.0 e ∙ ap (λ (x : List Token). ([], x)) (sym k.1)
+        stays : (us : List Token) → first_of us ≡ first_of (t ∷ ts) → joined_after place us ≡ ([], us)
+        stays us first = let k = first_is t ts us first in ap (joined_after place) k.1 ∙ behind_none place t k.0 e ∙ ap (λ (x : List Token). ([], x)) (sym k.1)
     go (Some bytes) e f =
-        let is : joined_behind place (t ∷ ts) ≡ (bytes ++ (joined_behind t.stop ts).0, (joined_behind t.stop ts).1) = behind_some place t ts bytes e in
+        let is : joined_after place (t ∷ ts) ≡ (bytes ++ (joined_after t.stop ts).0, (joined_after t.stop ts).1) = behind_some place t ts bytes e in
         let parts = joins_parts place t bytes e in record {
           text = t ∷ f.text;
           whole = ap (λ us. t ∷ us) f.whole ∙ ap (λ us. t ∷ (f.text ++ us)) (sym (ap (λ (x : List ℕ × List Token). x.1) is));
-          is = (parts.0, bytes, (joined_behind t.stop ts).0, parts.1, ap (λ (x : List ℕ × List Token). x.0) is, f.is);
+          is = (parts.0, bytes, (joined_after t.stop ts).0, parts.1, ap (λ (x : List ℕ × List Token). x.0) is, f.is);
           steady = λ us first. behind_some place t (f.text ++ us) bytes e
               ∙ ap (λ (x : List ℕ × List Token). (bytes ++ x.0, x.1)) (f.steady us (first ∙ ap (λ (x : List ℕ × List Token). first_of x.1) is))
               ∙ ap (λ (x : List ℕ). (x, us)) (sym (ap (λ (x : List ℕ × List Token). x.0) is));
@@ -117,9 +118,9 @@ stop_of place [] = place
 stop_of place (t ∷ ts) = stop_of t.stop ts
 
 a_minus : ℕ → Token
-a_minus place = record { kind = Mark Minus; start = place; stop = place; line = 0 }
+a_minus place = record { kind = Punctuation Minus; start = place; stop = place; line = 0 }
 
-minus_more : (place : ℕ) (text : List Token) (bytes : List ℕ) → AreBehind place text bytes → AreBehind place (text ++ a_minus (stop_of place text) ∷ []) (bytes ++ codes "-")
+minus_more : (place : ℕ) (text : List Token) (bytes : List ℕ) → AreAfter place text bytes → AreAfter place (text ++ a_minus (stop_of place text) ∷ []) (bytes ++ codes "-")
 unfolding stop_of a_minus
 minus_more place [] bytes is = (refl, codes "-", [], refl, ap (λ xs. xs ++ codes "-") is, refl)
 minus_more place (t ∷ text) bytes (here, first, later, is, w, more) =
@@ -138,12 +139,12 @@ rows_more : is_section_name (codes ".rv.rows" ++ codes "-") ≡ true
 unfolding is_section_name
 rows_more = refl
 
-section_goes : (t : Token) (text : List Token) (first later : List ℕ) → t.kind ≡ Name first → AreBehind t.stop text later → length (first ++ later) ≤ longest_name
+section_goes : (t : Token) (text : List Token) (first later : List ℕ) → t.kind ≡ Name first → AreAfter t.stop text later → length (first ++ later) ≤ longest_name
     → (more : List Token) × (name : List ℕ) × IsSection ((t ∷ text) ++ more) name
 section_goes t text first later is behind fits = go (allowed (first ++ later) fits)
   where
     go : (is_section_name (first ++ later) ≡ true) ⊎ (first ++ later ≡ codes ".rv.rows") → (more : List Token) × (name : List ℕ) × IsSection ((t ∷ text) ++ more) name
-    go (inl good) = ([], first ++ later, ((first, later, is, refl, subst (λ us. AreBehind t.stop us later) (sym (append-nil text)) behind), good))
+    go (inl good) = ([], first ++ later, ((first, later, is, refl, subst (λ us. AreAfter t.stop us later) (sym (append-nil text)) behind), good))
     go (inr rows) = (
       a_minus (stop_of t.stop text) ∷ [],
       first ++ (later ++ codes "-"),
@@ -153,7 +154,7 @@ section_goes t text first later is behind fits = go (allowed (first ++ later) fi
       ),
     )
 
-name_at : (t : Token) (ts : List Token) (first : List ℕ) → t.kind ≡ Name first → joined_at (t ∷ ts) ≡ Some (first ++ (joined_behind t.stop ts).0, (joined_behind t.stop ts).1)
+name_at : (t : Token) (ts : List Token) (first : List ℕ) → t.kind ≡ Name first → joined_at (t ∷ ts) ≡ Some (first ++ (joined_after t.stop ts).0, (joined_after t.stop ts).1)
 unfolding joined_at
 name_at t ts first is = rw is refl
 
@@ -169,7 +170,7 @@ first_name_is _ first h = absurd (cc)
 abbrev outcome : Token → List Token → List ℕ → List Token → Read (List ℕ)
 outcome t ts name rest = cond (is_section_name name) (Ok (name, rest)) (cond (nat_lt longest_name (length name)) (Err (too_long 0 (t ∷ ts))) (Err (wrong_next rest unsupported_here)))
 
-section_by : (t : Token) (ts : List Token) (first later : List ℕ) (rest : List Token) → t.kind ≡ Name first → joined_behind t.stop ts ≡ (later, rest)
+section_by : (t : Token) (ts : List Token) (first later : List ℕ) (rest : List Token) → t.kind ≡ Name first → joined_after t.stop ts ≡ (later, rest)
     → section_at (t ∷ ts) ≡ outcome t ts (first ++ later) rest
 section_by t ts first later rest is behind =
     ap (named_or (t ∷ ts)) (name_at t ts first is) ∙ ap (λ (x : List ℕ × List Token). outcome t ts (first ++ x.0) x.1) behind
@@ -191,21 +192,21 @@ unfolding joined_at
 section_found [] name rest e = absurd (cc)
 section_found (t ∷ ts) name rest e = go (first_name t.kind) refl
   where
-    named : (first : List ℕ) → t.kind ≡ Name first → (b : Bool) → is_section_name (first ++ (joined_behind t.stop ts).0) ≡ b → SectionFound (t ∷ ts) name rest
-    named first is false bad = absurd (go (nat_lt longest_name (length (first ++ (joined_behind t.stop ts).0))) (sym (section_by t ts first (joined_behind t.stop ts).0 (joined_behind t.stop ts).1 is refl ∙ rw bad refl) ∙ e))
+    named : (first : List ℕ) → t.kind ≡ Name first → (b : Bool) → is_section_name (first ++ (joined_after t.stop ts).0) ≡ b → SectionFound (t ∷ ts) name rest
+    named first is false bad = absurd (go (nat_lt longest_name (length (first ++ (joined_after t.stop ts).0))) (sym (section_by t ts first (joined_after t.stop ts).0 (joined_after t.stop ts).1 is refl ∙ rw bad refl) ∙ e))
       where
-        go : (c : Bool) → cond {A = Read (List ℕ)} c (Err (too_long 0 (t ∷ ts))) (Err (wrong_next (joined_behind t.stop ts).1 unsupported_here)) ≡ Ok (name, rest) → ⊥
+        go : (c : Bool) → cond {A = Read (List ℕ)} c (Err (too_long 0 (t ∷ ts))) (Err (wrong_next (joined_after t.stop ts).1 unsupported_here)) ≡ Ok (name, rest) → ⊥
         go true h = cc
         go false h = cc
     named first is true good =
         let f = joined_found t.stop ts in
-        let read : section_at (t ∷ ts) ≡ Ok (first ++ (joined_behind t.stop ts).0, (joined_behind t.stop ts).1) = section_by t ts first (joined_behind t.stop ts).0 (joined_behind t.stop ts).1 is refl ∙ rw good refl in
+        let read : section_at (t ∷ ts) ≡ Ok (first ++ (joined_after t.stop ts).0, (joined_after t.stop ts).1) = section_by t ts first (joined_after t.stop ts).0 (joined_after t.stop ts).1 is refl ∙ rw good refl in
         let p = parts _ _ _ _ (sym read ∙ e) in
         record {
           text = t ∷ f.text;
           whole = ap (λ us. t ∷ us) f.whole ∙ ap (λ us. t ∷ (f.text ++ us)) p.1;
-          is = ((first, (joined_behind t.stop ts).0, is, sym p.0, f.is), ap is_section_name (sym p.0) ∙ good);
-          steady = λ us same. section_by t (f.text ++ us) first (joined_behind t.stop ts).0 us is (f.steady us (same ∙ ap first_of (sym p.1)))
+          is = ((first, (joined_after t.stop ts).0, is, sym p.0, f.is), ap is_section_name (sym p.0) ∙ good);
+          steady = λ us same. section_by t (f.text ++ us) first (joined_after t.stop ts).0 us is (f.steady us (same ∙ ap first_of (sym p.1)))
               ∙ ap (λ (x : List ℕ). outcome t (f.text ++ us) x us) p.0 ∙ rw (ap is_section_name (sym p.0) ∙ good) refl;
         }
       where
@@ -214,7 +215,7 @@ section_found (t ∷ ts) name rest e = go (first_name t.kind) refl
 
     go : (o : Option (List ℕ)) → first_name t.kind ≡ o → SectionFound (t ∷ ts) name rest
     go None none = absurd (cc (sym (ap (named_or (t ∷ ts)) (none_at t ts none)) ∙ e))
-    go (Some first) is = named first (first_name_is t.kind first is) (is_section_name (first ++ (joined_behind t.stop ts).0)) refl
+    go (Some first) is = named first (first_name_is t.kind first is) (is_section_name (first ++ (joined_after t.stop ts).0)) refl
 
 -- the first token with which a name is too long
 record LongAt (n place : ℕ) (ts : List Token) : Type 0 where
@@ -223,29 +224,29 @@ record LongAt (n place : ℕ) (ts : List Token) : Type 0 where
   pub more : List Token
   pub bytes : List ℕ
   pub whole : ts ≡ front ++ at ∷ more
-  pub is : AreBehind place front bytes
+  pub is : AreAfter place front bytes
   pub fits : n + length bytes ≤ longest_name
-  pub says : (text : List Token) → (too_long n (front ++ at ∷ text) ≡ wrong at limit) × (longest_name < n + length (joined_behind place (front ++ at ∷ text)).0)
+  pub says : (text : List Token) → (too_long n (front ++ at ∷ text) ≡ wrong at limit) × (longest_name < n + length (joined_after place (front ++ at ∷ text)).0)
 
 too_long_step : (n : ℕ) (t : Token) (ts : List Token) (bytes : List ℕ) → bytes_of t.kind ≡ Some bytes
     → too_long n (t ∷ ts) ≡ cond (nat_lt longest_name (n + length bytes)) (wrong t limit) (too_long (n + length bytes) ts)
 too_long_step n t ts bytes is = rw is refl
 
-too_long_within : (n : ℕ) (t : Token) (ts : List Token) (bytes : List ℕ) (w : Wrong) → bytes_of t.kind ≡ Some bytes → nat_lt longest_name (n + length bytes) ≡ false
+too_long_within : (n : ℕ) (t : Token) (ts : List Token) (bytes : List ℕ) (w : SyntaxError) → bytes_of t.kind ≡ Some bytes → nat_lt longest_name (n + length bytes) ≡ false
     → too_long (n + length bytes) ts ≡ w → too_long n (t ∷ ts) ≡ w
 too_long_within n t ts bytes w is within h = too_long_step n t ts bytes is ∙ rw within h
 
 length_behind : (place : ℕ) (t : Token) (ts : List Token) (bytes : List ℕ) → joins place t ≡ Some bytes
-    → length (joined_behind place (t ∷ ts)).0 ≡ length bytes + length (joined_behind t.stop ts).0
+    → length (joined_after place (t ∷ ts)).0 ≡ length bytes + length (joined_after t.stop ts).0
 length_behind place t ts bytes e =
-    ap (λ (x : List ℕ × List Token). length x.0) (behind_some place t ts bytes e) ∙ length-append bytes (joined_behind t.stop ts).0
+    ap (λ (x : List ℕ × List Token). length x.0) (behind_some place t ts bytes e) ∙ length-append bytes (joined_after t.stop ts).0
 
-long_at : (n place : ℕ) (ts : List Token) → n ≤ longest_name → longest_name < n + length (joined_behind place ts).0 → LongAt n place ts
+long_at : (n place : ℕ) (ts : List Token) → n ≤ longest_name → longest_name < n + length (joined_after place ts).0 → LongAt n place ts
 long_at n place [] fits long = absurd (omega (arith, fits, long))
 long_at n place (t ∷ ts) fits long = go (joins place t) refl (λ m. long_at m t.stop ts)
   where
     some : (bytes : List ℕ) → joins place t ≡ Some bytes → (b : Bool) → nat_lt longest_name (n + length bytes) ≡ b
-        → ((m : ℕ) → m ≤ longest_name → longest_name < m + length (joined_behind t.stop ts).0 → LongAt m t.stop ts) → LongAt n place (t ∷ ts)
+        → ((m : ℕ) → m ≤ longest_name → longest_name < m + length (joined_after t.stop ts).0 → LongAt m t.stop ts) → LongAt n place (t ∷ ts)
     some bytes e true over further =
         let lt : longest_name < n + length bytes = grind (arith, nat_tests, over) in record {
           front = [];
@@ -274,8 +275,8 @@ long_at n place (t ∷ ts) fits long = go (joins place t) refl (λ m. long_at m 
           );
         }
 
-    go : (o : Option (List ℕ)) → joins place t ≡ o → ((m : ℕ) → m ≤ longest_name → longest_name < m + length (joined_behind t.stop ts).0 → LongAt m t.stop ts) → LongAt n place (t ∷ ts)
-    go None e further = let none : length (joined_behind place (t ∷ ts)).0 ≡ 0 = ap (λ (x : List ℕ × List Token). length x.0) (behind_none place t ts e) in absurd (omega (arith, fits, long, none))
+    go : (o : Option (List ℕ)) → joins place t ≡ o → ((m : ℕ) → m ≤ longest_name → longest_name < m + length (joined_after t.stop ts).0 → LongAt m t.stop ts) → LongAt n place (t ∷ ts)
+    go None e further = let none : length (joined_after place (t ∷ ts)).0 ≡ 0 = ap (λ (x : List ℕ × List Token). length x.0) (behind_none place t ts e) in absurd (omega (arith, fits, long, none))
     go (Some bytes) e further = some bytes e (nat_lt longest_name (n + length bytes)) refl further
 
 over_bad : (name : List ℕ) → longest_name < length name → is_section_name name ≡ false
@@ -286,10 +287,10 @@ over_test : (n : ℕ) → longest_name < n → nat_lt longest_name n ≡ true
 over_test n over = grind (arith, nat_tests, over)
 
 -- a name that is too long
-long_err : (t : Token) (ts : List Token) (first later : List ℕ) (rest : List Token) (w : Wrong) → t.kind ≡ Name first → joined_behind t.stop ts ≡ (later, rest)
+long_err : (t : Token) (ts : List Token) (first later : List ℕ) (rest : List Token) (w : SyntaxError) → t.kind ≡ Name first → joined_after t.stop ts ≡ (later, rest)
     → longest_name < length (first ++ later) → too_long 0 (t ∷ ts) ≡ w → section_at (t ∷ ts) ≡ Err w
 long_err t ts first later rest w is behind over same =
-    section_by t ts first later rest is behind ∙ rw (over_bad (first ++ later) over, over_test (length (first ++ later)) over) (ap (λ (x : Wrong). Err x) same)
+    section_by t ts first later rest is behind ∙ rw (over_bad (first ++ later) over, over_test (length (first ++ later)) over) (ap (λ (x : SyntaxError). Err x) same)
 
 -- the last token is no part of a name
 part_no_last : (k : Kind) (bytes : List ℕ) → bytes_of k ≡ Some bytes → is_last k ≡ false
@@ -298,7 +299,7 @@ part_no_last Bad_token bytes h = absurd (cc)
 part_no_last End bytes h = absurd (cc)
 part_no_last _ bytes h = refl
 
-pub behind_ended : (place : ℕ) (text : List Token) (bytes : List ℕ) (rest : List Token) → AreBehind place text bytes → ended (text ++ rest) ≡ true → ended rest ≡ true
+pub behind_ended : (place : ℕ) (text : List Token) (bytes : List ℕ) (rest : List Token) → AreAfter place text bytes → ended (text ++ rest) ≡ true → ended rest ≡ true
 behind_ended place [] bytes rest is end = end
 behind_ended place (t ∷ text) bytes rest (here, first, later, is, w, more) end =
     behind_ended t.stop text later rest more (ended_more t (text ++ rest) (part_no_last t.kind first is) end)
@@ -317,15 +318,15 @@ pub name_no_last : (k : Kind) (first : List ℕ) → k ≡ Name first → is_las
 name_no_last k first is = rw is refl
 
 -- where a section's name is wrong
-pub section_wrong : (ts : List Token) (w : Wrong) → ended ts ≡ true → section_at ts ≡ Err w → Failing (List ℕ) IsSection section_at ts w
+pub section_wrong : (ts : List Token) (w : SyntaxError) → ended ts ≡ true → section_at ts ≡ Err w → Failing (List ℕ) IsSection section_at ts w
 section_wrong [] w end e = absurd (cc)
 section_wrong (t ∷ ts) w end e = go (first_name t.kind) refl
   where
     later : List ℕ
-    later = (joined_behind t.stop ts).0
+    later = (joined_after t.stop ts).0
 
     rest : List Token
-    rest = (joined_behind t.stop ts).1
+    rest = (joined_after t.stop ts).1
 
     first_long : (first : List ℕ) → t.kind ≡ Name first → nat_lt longest_name (0 + length first) ≡ true → too_long 0 (t ∷ ts) ≡ w → Failing (List ℕ) IsSection section_at (t ∷ ts) w
     first_long first is over same = record {
@@ -335,7 +336,7 @@ section_wrong (t ∷ ts) w end e = go (first_name t.kind) refl
       code = limit;
       whole = refl;
       is_wrong = sym same ∙ one ts;
-      fails = λ text. long_err t text first (joined_behind t.stop text).0 (joined_behind t.stop text).1 w is refl (omega (arith, lt, length-append first (joined_behind t.stop text).0))
+      fails = λ text. long_err t text first (joined_after t.stop text).0 (joined_after t.stop text).1 w is refl (omega (arith, lt, length-append first (joined_after t.stop text).0))
           (one text ∙ sym (one ts) ∙ same);
       goes = some_section;
     }
@@ -346,11 +347,11 @@ section_wrong (t ∷ ts) w end e = go (first_name t.kind) refl
         one : (text : List Token) → too_long 0 (t ∷ text) ≡ wrong t limit
         one text = too_long_step 0 t text first (ap bytes_of is) ∙ rw over refl
 
-    later_long : (first : List ℕ) → t.kind ≡ Name first → nat_lt longest_name (0 + length first) ≡ false → longest_name < length (first ++ (joined_behind t.stop ts).0) → too_long 0 (t ∷ ts) ≡ w
+    later_long : (first : List ℕ) → t.kind ≡ Name first → nat_lt longest_name (0 + length first) ≡ false → longest_name < length (first ++ (joined_after t.stop ts).0) → too_long 0 (t ∷ ts) ≡ w
         → Failing (List ℕ) IsSection section_at (t ∷ ts) w
     later_long first is within over same =
         let le : 0 + length first ≤ longest_name = grind (arith, nat_tests, within) in
-        let f = long_at (0 + length first) t.stop ts le (omega (arith, over, length-append first (joined_behind t.stop ts).0)) in
+        let f = long_at (0 + length first) t.stop ts le (omega (arith, over, length-append first (joined_after t.stop ts).0)) in
         let one : (text : List Token) → too_long 0 (t ∷ (f.front ++ f.at ∷ text)) ≡ wrong f.at limit =
         λ text. too_long_within 0 t (f.front ++ f.at ∷ text) first (wrong f.at limit) (ap bytes_of is) within (f.says text).0 in
         let is_wrong : w ≡ wrong f.at limit = sym same ∙ ap (λ us. too_long 0 (t ∷ us)) f.whole ∙ one f.more in
@@ -361,17 +362,17 @@ section_wrong (t ∷ ts) w end e = go (first_name t.kind) refl
           code = limit;
           whole = ap (λ us. t ∷ us) f.whole;
           is_wrong = is_wrong;
-          fails = λ text. long_err t (f.front ++ f.at ∷ text) first (joined_behind t.stop (f.front ++ f.at ∷ text)).0 (joined_behind t.stop (f.front ++ f.at ∷ text)).1 w is refl
-              (omega (arith, (f.says text).1, length-append first (joined_behind t.stop (f.front ++ f.at ∷ text)).0)) (one text ∙ sym is_wrong);
+          fails = λ text. long_err t (f.front ++ f.at ∷ text) first (joined_after t.stop (f.front ++ f.at ∷ text)).0 (joined_after t.stop (f.front ++ f.at ∷ text)).1 w is refl
+              (omega (arith, (f.says text).1, length-append first (joined_after t.stop (f.front ++ f.at ∷ text)).0)) (one text ∙ sym is_wrong);
           goes = section_goes t f.front first f.bytes is f.is (omega (arith, f.fits, length-append first f.bytes));
         }
 
-    rows : (first : List ℕ) → t.kind ≡ Name first → is_section_name (first ++ (joined_behind t.stop ts).0) ≡ false → nat_lt longest_name (length (first ++ (joined_behind t.stop ts).0)) ≡ false
-        → (us : List Token) → (joined_behind t.stop ts).1 ≡ us → wrong_next us unsupported_here ≡ w → Failing (List ℕ) IsSection section_at (t ∷ ts) w
+    rows : (first : List ℕ) → t.kind ≡ Name first → is_section_name (first ++ (joined_after t.stop ts).0) ≡ false → nat_lt longest_name (length (first ++ (joined_after t.stop ts).0)) ≡ false
+        → (us : List Token) → (joined_after t.stop ts).1 ≡ us → wrong_next us unsupported_here ≡ w → Failing (List ℕ) IsSection section_at (t ∷ ts) w
     rows first is bad within [] none same =
         let f = joined_found t.stop ts in
         let last : ended (f.text ++ []) ≡ true = ap (λ us. ended (f.text ++ us)) (sym none) ∙ ap ended (sym f.whole) ∙ ended_more t ts (name_no_last t.kind first is) end in
-        absurd (cc (behind_ended t.stop f.text (joined_behind t.stop ts).0 [] f.is last))
+        absurd (cc (behind_ended t.stop f.text (joined_after t.stop ts).0 [] f.is last))
     rows first is bad within (at ∷ more) next same =
         let f = joined_found t.stop ts in
         record {
@@ -381,25 +382,25 @@ section_wrong (t ∷ ts) w end e = go (first_name t.kind) refl
           code = unsupported_here;
           whole = ap (λ us. t ∷ us) (f.whole ∙ ap (λ us. f.text ++ us) next);
           is_wrong = sym same;
-          fails = λ text. section_by t (f.text ++ at ∷ text) first (joined_behind t.stop ts).0 (at ∷ text) is (f.steady (at ∷ text) (ap first_of (sym next))) ∙ rw (bad, within) (ap (λ (x : Wrong). Err x) same);
-          goes = section_goes t f.text first (joined_behind t.stop ts).0 is f.is (grind (arith, nat_tests, within));
+          fails = λ text. section_by t (f.text ++ at ∷ text) first (joined_after t.stop ts).0 (at ∷ text) is (f.steady (at ∷ text) (ap first_of (sym next))) ∙ rw (bad, within) (ap (λ (x : SyntaxError). Err x) same);
+          goes = section_goes t f.text first (joined_after t.stop ts).0 is f.is (grind (arith, nat_tests, within));
         }
 
-    over : (first : List ℕ) → t.kind ≡ Name first → is_section_name (first ++ (joined_behind t.stop ts).0) ≡ false → (b : Bool) → nat_lt longest_name (length (first ++ (joined_behind t.stop ts).0)) ≡ b
-        → cond {A = Read (List ℕ)} b (Err (too_long 0 (t ∷ ts))) (Err (wrong_next (joined_behind t.stop ts).1 unsupported_here)) ≡ Err w → Failing (List ℕ) IsSection section_at (t ∷ ts) w
+    over : (first : List ℕ) → t.kind ≡ Name first → is_section_name (first ++ (joined_after t.stop ts).0) ≡ false → (b : Bool) → nat_lt longest_name (length (first ++ (joined_after t.stop ts).0)) ≡ b
+        → cond {A = Read (List ℕ)} b (Err (too_long 0 (t ∷ ts))) (Err (wrong_next (joined_after t.stop ts).1 unsupported_here)) ≡ Err w → Failing (List ℕ) IsSection section_at (t ∷ ts) w
     over first is bad true long h = first_or (nat_lt longest_name (0 + length first)) refl
       where
         first_or : (b : Bool) → nat_lt longest_name (0 + length first) ≡ b → Failing (List ℕ) IsSection section_at (t ∷ ts) w
         first_or true more = first_long first is more (wrongs _ w h)
         first_or false less = later_long first is less (grind (arith, nat_tests, long)) (wrongs _ w h)
-    over first is bad false within h = rows first is bad within (joined_behind t.stop ts).1 refl (wrongs _ w h)
+    over first is bad false within h = rows first is bad within (joined_after t.stop ts).1 refl (wrongs _ w h)
 
-    named : (first : List ℕ) → t.kind ≡ Name first → (b : Bool) → is_section_name (first ++ (joined_behind t.stop ts).0) ≡ b → Failing (List ℕ) IsSection section_at (t ∷ ts) w
+    named : (first : List ℕ) → t.kind ≡ Name first → (b : Bool) → is_section_name (first ++ (joined_after t.stop ts).0) ≡ b → Failing (List ℕ) IsSection section_at (t ∷ ts) w
     named first is true good =
-        absurd (never (first ++ (joined_behind t.stop ts).0, (joined_behind t.stop ts).1) w (sym (section_by t ts first (joined_behind t.stop ts).0 (joined_behind t.stop ts).1 is refl ∙ rw good refl) ∙ e))
+        absurd (never (first ++ (joined_after t.stop ts).0, (joined_after t.stop ts).1) w (sym (section_by t ts first (joined_after t.stop ts).0 (joined_after t.stop ts).1 is refl ∙ rw good refl) ∙ e))
     named first is false bad =
-        over first is bad (nat_lt longest_name (length (first ++ (joined_behind t.stop ts).0))) refl
-        (sym (section_by t ts first (joined_behind t.stop ts).0 (joined_behind t.stop ts).1 is refl ∙ rw bad refl) ∙ e)
+        over first is bad (nat_lt longest_name (length (first ++ (joined_after t.stop ts).0))) refl
+        (sym (section_by t ts first (joined_after t.stop ts).0 (joined_after t.stop ts).1 is refl ∙ rw bad refl) ∙ e)
 
     none : first_name t.kind ≡ None → Failing (List ℕ) IsSection section_at (t ∷ ts) w
     none h =
@@ -411,10 +412,10 @@ section_wrong (t ∷ ts) w end e = go (first_name t.kind) refl
           code = wrong_first A_section t.kind;
           whole = refl;
           is_wrong = sym same;
-          fails = λ text. ap (named_or (t ∷ text)) (none_at t text h) ∙ ap (λ (x : Wrong). Err x) same;
+          fails = λ text. ap (named_or (t ∷ text)) (none_at t text h) ∙ ap (λ (x : SyntaxError). Err x) same;
           goes = some_section;
         }
 
     go : (o : Option (List ℕ)) → first_name t.kind ≡ o → Failing (List ℕ) IsSection section_at (t ∷ ts) w
     go None h = none h
-    go (Some first) h = named first (first_name_is t.kind first h) (is_section_name (first ++ (joined_behind t.stop ts).0)) refl
+    go (Some first) h = named first (first_name_is t.kind first h) (is_section_name (first ++ (joined_after t.stop ts).0)) refl

@@ -1,10 +1,10 @@
 -- What one token is in its place.
 
 use Rattle.std.proofs.Common.{◌≡◌, ℕ, ◌<◌, Bool, true, false, List, [], ◌∷◌, ◌++◌, length, Some, None, Ok, Err, refl, sym, ◌∙◌, ap, codes, arith}
-use Rattle.rv_text_laws.specs.declared.sign.Sign.TheVariants.{Comma, Colon, Semicolon, Open, Close, At}
-use Rattle.rv_text_laws.specs.Grammar.{Kind, Newline, Mark, Name as NameToken, Number, Text, Character, Bad_byte, Bad_token, End}
+use Rattle.rv_text_laws.specs.declared.punct.Punct.TheVariants.{Comma, Colon, Semicolon, Open, Close, At}
+use Rattle.rv_text_laws.specs.Grammar.{Kind, Newline, Punctuation, Name as NameToken, Number, Text, Character, Bad_byte, Bad_token, End}
 use Rattle.rv_text_laws.specs.Lexing.{Token, is_last, ended}
-use Rattle.rv_text_laws.specs.Wrong.{Wrong, wrong}
+use Rattle.rv_text_laws.specs.SyntaxError.{SyntaxError, wrong}
 use Rattle.rv_text_laws.proofs.ExpressionWrong.{ended_more}
 use Rattle.rv_isa.specs.RegisterNames.{abi_names}
 use Rattle.rv_isa.specs.declared.operation.AccessSet.{AccessSet}
@@ -36,7 +36,7 @@ newline_in : (s : Slot) → single s Newline ≡ None
 newline_in A_register = refl
 newline_in _ = refl
 
-semicolon_in : (s : Slot) → single s (Mark Semicolon) ≡ None
+semicolon_in : (s : Slot) → single s (Punctuation Semicolon) ≡ None
 semicolon_in A_register = refl
 semicolon_in _ = refl
 
@@ -49,9 +49,9 @@ single_no_last s _ os h = refl
 
 pub end_none : (s : Slot) (k : Kind) → is_end k ≡ true → single s k ≡ None
 end_none s Newline h = newline_in s
-end_none s (Mark Semicolon) h = semicolon_in s
+end_none s (Punctuation Semicolon) h = semicolon_in s
 end_none s End h = end_in s
-end_none s (Mark _) h = absurd (cc)
+end_none s (Punctuation _) h = absurd (cc)
 end_none s _ h = absurd (cc)
 
 pub register_no_last : (k : Kind) (r : ℕ) → register_of k ≡ Some r → is_last k ≡ false
@@ -68,11 +68,11 @@ zero_no_last (Character byte) h = refl
 zero_no_last _ h = absurd (cc)
 
 pub opening_no_last : (k : Kind) → is_opening k ≡ true → is_last k ≡ false
-opening_no_last (Mark sign) h = refl
+opening_no_last (Punctuation sign) h = refl
 opening_no_last _ h = absurd (cc)
 
 pub closing_no_last : (k : Kind) → is_closing k ≡ true → is_last k ≡ false
-closing_no_last (Mark sign) h = refl
+closing_no_last (Punctuation sign) h = refl
 closing_no_last _ h = absurd (cc)
 
 pub symbol_no_last : (k : Kind) (name : List ℕ) → symbol_of k ≡ Some name → is_last k ≡ false
@@ -80,11 +80,11 @@ symbol_no_last (NameToken word) name h = refl
 symbol_no_last _ name h = absurd (cc)
 
 pub comma_no_last : (k : Kind) → is_comma k ≡ true → is_last k ≡ false
-comma_no_last (Mark sign) h = refl
+comma_no_last (Punctuation sign) h = refl
 comma_no_last _ h = absurd (cc)
 
 pub at_no_last : (k : Kind) → is_at k ≡ true → is_last k ≡ false
-at_no_last (Mark sign) h = refl
+at_no_last (Punctuation sign) h = refl
 at_no_last _ h = absurd (cc)
 
 -- tokens that may stand in places
@@ -146,12 +146,12 @@ single_goes A_symbol h = symbol_goes
 single_goes A_string h = (some_token (Text []), Quoted [] ∷ [], refl)
 single_goes A_section h = absurd (cc)
 single_goes Some_flags h = (some_token (Text []), Quoted [] ∷ [], refl)
-single_goes At_sign h = (some_token (Mark At), [], refl)
+single_goes At_sign h = (some_token (Punctuation At), [], refl)
 single_goes A_type h = type_goes
 single_goes An_option h = option_goes
-single_goes (A_comma behind) h = (some_token (Mark Comma), [], refl)
-single_goes (An_opening behind) h = (some_token (Mark Open), [], refl)
-single_goes A_closing h = (some_token (Mark Close), [], refl)
+single_goes (A_comma behind) h = (some_token (Punctuation Comma), [], refl)
+single_goes (An_opening behind) h = (some_token (Punctuation Open), [], refl)
+single_goes A_closing h = (some_token (Punctuation Close), [], refl)
 
 pub single_is : (s : Slot) (t : Token) (os : List Operand) (rest : List Token) → single s t.kind ≡ Some os → single_at s (t ∷ rest) ≡ Ok (os, rest)
 single_is s t os rest is = rw is refl
@@ -163,10 +163,10 @@ single_found s (t ∷ ts) os rest e =
     let k = taken_ok t ts (single s t.kind) (wrong_first s t.kind) os rest e in
     (t, ap (λ us. t ∷ us) k.1, k.0)
 
-pub single_err : (s : Slot) (t : Token) (text : List Token) (w : Wrong) → single s t.kind ≡ None → w ≡ wrong t (wrong_first s t.kind) → single_at s (t ∷ text) ≡ Err w
+pub single_err : (s : Slot) (t : Token) (text : List Token) (w : SyntaxError) → single s t.kind ≡ None → w ≡ wrong t (wrong_first s t.kind) → single_at s (t ∷ text) ≡ Err w
 single_err s t text w none is = rw (none, is) refl
 
-pub single_wrong : (s : Slot) (ts : List Token) (w : Wrong) → is_single s ≡ true → ended ts ≡ true → single_at s ts ≡ Err w → Failing (List Operand) (IsSingle s) (single_at s) ts w
+pub single_wrong : (s : Slot) (ts : List Token) (w : SyntaxError) → is_single s ≡ true → ended ts ≡ true → single_at s ts ≡ Err w → Failing (List Operand) (IsSingle s) (single_at s) ts w
 single_wrong s [] w one end e = absurd (cc)
 single_wrong s (t ∷ ts) w one end e =
     let k = taken_err t ts (single s t.kind) (wrong_first s t.kind) w e in
@@ -174,7 +174,7 @@ single_wrong s (t ∷ ts) w one end e =
     at_first (List Operand) (IsSingle s) (single_at s) t ts w (wrong_first s t.kind) k.1 (λ text. single_err s t text w k.0 k.1) (g.0 ∷ [], g.1, (g.0, refl, g.2))
 
 -- where one token is wrong
-pub single_fault : (s : Slot) (ts : List Token) (w : Wrong) → ended ts ≡ true → single_at s ts ≡ Err w
+pub single_fault : (s : Slot) (ts : List Token) (w : SyntaxError) → ended ts ≡ true → single_at s ts ≡ Err w
     → (t : Token) × (us : List Token) × (ts ≡ t ∷ us) × (single s t.kind ≡ None) × (w ≡ wrong t (wrong_first s t.kind))
 single_fault s [] w end e = absurd (cc)
 single_fault s (t ∷ ts) w end e = let k = taken_err t ts (single s t.kind) (wrong_first s t.kind) w e in (t, ts, refl, k.0, k.1)
@@ -192,13 +192,13 @@ one_is s text os (t, w, is) rest = rw w (single_is s t os rest is)
 pub one_some : (s : Slot) (text : List Token) (os : List Operand) → IsSingle s text os → 0 < length text
 one_some s text os (t, w, is) = rw w (omega arith)
 
-colon_in : (s : Slot) → single s (Mark Colon) ≡ None
+colon_in : (s : Slot) → single s (Punctuation Colon) ≡ None
 colon_in A_register = refl
 colon_in _ = refl
 
 pub single_no_colon : (s : Slot) (k : Kind) (os : List Operand) → single s k ≡ Some os → is_colon k ≡ false
-single_no_colon s (Mark Colon) os h = let none = colon_in s in absurd (cc)
-single_no_colon s (Mark _) os h = refl
+single_no_colon s (Punctuation Colon) os h = let none = colon_in s in absurd (cc)
+single_no_colon s (Punctuation _) os h = refl
 single_no_colon s _ os h = refl
 
 pub one_goes : (s : Slot) → is_single s ≡ true → (t : Token) × (us : List Token) × (os : List Operand) × IsSingle s (t ∷ us) os × (is_colon t.kind ≡ false)

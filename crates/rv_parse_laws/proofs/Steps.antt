@@ -3,9 +3,9 @@
 use Rattle.std.proofs.Common.{◌≡◌, ℕ, Bool, true, false, cond, List, Option, Some, None, Result, Ok, Err, refl, sym, ap, ◌⊎◌, inl, inr}
 use Rattle.rv_text_laws.specs.Lexing.{Token}
 use Rattle.rv_parse_laws.specs.Parsing.{◌>>=◌, seen_as, taken}
-use Rattle.rv_text_laws.specs.Wrong.{Wrong, wrong, Read}
+use Rattle.rv_text_laws.specs.SyntaxError.{SyntaxError, wrong, Read}
 
-pub bind_ok : {A B : Type 0} (r : Result A Wrong) (f : A → Result B Wrong) (y : B) → (r >>= f) ≡ Ok y → (x : A) × (r ≡ Ok x) × (f x ≡ Ok y)
+pub bind_ok : {A B : Type 0} (r : Result A SyntaxError) (f : A → Result B SyntaxError) (y : B) → (r >>= f) ≡ Ok y → (x : A) × (r ≡ Ok x) × (f x ≡ Ok y)
 bind_ok (Ok x) f y e = (x, refl, e)
 bind_ok (Err w) f y e = absurd (cc)
 
@@ -21,27 +21,27 @@ taken_ok t ts (Some y) code x rest e =
     (ap (λ (q : _ × List Token). Some q.0) p, ap (λ (q : _ × List Token). q.1) p)
 taken_ok t ts None code x rest e = absurd (cc)
 
-pub tested_ok : {X : Type 0} (b : Bool) (x y : X) (w : Wrong) → cond b (Ok x) (Err w) ≡ Ok y → (b ≡ true) × (x ≡ y)
+pub tested_ok : {X : Type 0} (b : Bool) (x y : X) (w : SyntaxError) → cond b (Ok x) (Err w) ≡ Ok y → (b ≡ true) × (x ≡ y)
 tested_ok true x y w e = (refl, cc)
 tested_ok false x y w e = absurd (cc)
 
-pub pair_parts : {X Y : Type 0} (a x : X) (b y : Y) (r : Result (X × Y) Wrong) → r ≡ Ok (a, b) → r ≡ Ok (x, y) → (a ≡ x) × (b ≡ y)
+pub pair_parts : {X Y : Type 0} (a x : X) (b y : Y) (r : Result (X × Y) SyntaxError) → r ≡ Ok (a, b) → r ≡ Ok (x, y) → (a ≡ x) × (b ≡ y)
 pair_parts a x b y r d e =
     let p : (a, b) ≡ (x, y) = cc in
     (ap (λ (q : _ × _). q.0) p, ap (λ (q : _ × _). q.1) p)
 
-pub bind_err : {A B : Type 0} (r : Result A Wrong) (f : A → Result B Wrong) (w : Wrong) → (r >>= f) ≡ Err w → (r ≡ Err w) ⊎ ((x : A) × (r ≡ Ok x) × (f x ≡ Err w))
+pub bind_err : {A B : Type 0} (r : Result A SyntaxError) (f : A → Result B SyntaxError) (w : SyntaxError) → (r >>= f) ≡ Err w → (r ≡ Err w) ⊎ ((x : A) × (r ≡ Ok x) × (f x ≡ Err w))
 bind_err (Ok x) f w e = inr (x, refl, e)
-bind_err (Err v) f w e = let same : v ≡ w = cc in inl (ap (λ (x : Wrong). Err x) same)
+bind_err (Err v) f w e = let same : v ≡ w = cc in inl (ap (λ (x : SyntaxError). Err x) same)
 
-pub seen_err : {X Y : Type 0} (view : X → Y) (r : Read X) (w : Wrong) → seen_as view r ≡ Err w → r ≡ Err w
+pub seen_err : {X Y : Type 0} (view : X → Y) (r : Read X) (w : SyntaxError) → seen_as view r ≡ Err w → r ≡ Err w
 seen_err view (Ok x) w e = absurd (cc)
-seen_err view (Err v) w e = let same : v ≡ w = cc in ap (λ (x : Wrong). Err x) same
+seen_err view (Err v) w e = let same : v ≡ w = cc in ap (λ (x : SyntaxError). Err x) same
 
-pub taken_err : {X : Type 0} (t : Token) (ts : List Token) (o : Option X) (code : ℕ) (w : Wrong) → taken t ts o code ≡ Err w → (o ≡ None) × (w ≡ wrong t code)
+pub taken_err : {X : Type 0} (t : Token) (ts : List Token) (o : Option X) (code : ℕ) (w : SyntaxError) → taken t ts o code ≡ Err w → (o ≡ None) × (w ≡ wrong t code)
 taken_err t ts (Some y) code w e = absurd (cc)
 taken_err t ts None code w e = let same : wrong t code ≡ w = cc in (refl, sym same)
 
-pub tested_err : {X : Type 0} (b : Bool) (x : X) (v w : Wrong) → cond b (Ok x) (Err v) ≡ Err w → (b ≡ false) × (w ≡ v)
+pub tested_err : {X : Type 0} (b : Bool) (x : X) (v w : SyntaxError) → cond b (Ok x) (Err v) ≡ Err w → (b ≡ false) × (w ≡ v)
 tested_err true x v w e = absurd (cc)
 tested_err false x v w e = let same : v ≡ w = cc in (refl, sym same)

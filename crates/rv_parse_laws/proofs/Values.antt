@@ -1,22 +1,23 @@
 -- Expressions in their places.
 
 use Rattle.std.proofs.Common.{◌≡◌, ℕ, ◌<◌, Bool, true, false, cond, ◌||◌, ◌&&◌, List, [], ◌∷◌, ◌++◌, length, length-append, Some, Ok, Err, refl, sym, ◌∙◌, ap, arith, inl}
-use Rattle.rv_text_laws.specs.declared.sign.Sign.TheVariants.{Comma, Semicolon, Open, Percent}
-use Rattle.rv_text_laws.specs.Grammar.{Kind, Mark}
+use Rattle.rv_text_laws.specs.declared.punct.Punct.TheVariants.{Comma, Semicolon, Open, Percent}
+use Rattle.rv_text_laws.specs.Grammar.{Kind, Punctuation}
 use Rattle.rv_text_laws.specs.Lexing.{Token, ended}
-use Rattle.rv_text_laws.specs.Wrong.{Wrong, wrong, Read}
+use Rattle.rv_text_laws.specs.SyntaxError.{SyntaxError, wrong, Read}
 use Rattle.rv_text_laws.specs.Expression.{Tree, Leaf, Unary, Paren, Binary, Literal, begins, follows, No_operand, Nothing_more, SpellsTree, Node, postfix, EndsBefore, tree_of, bare}
 use Rattle.rv_text_laws.specs.ExpressionAt.{Wants, Fails, step, read_from, expression_at, FailsAt, EndsAt}
 use Rattle.rv_text_laws.proofs.Expressions.{fails, expression_is}
 use Rattle.rv_text_laws.proofs.ExpressionWrong.{can_go_on, fails_there, wrong_at, ends_there, end_at, whole_there}
 use Rattle.rv_text_laws.proofs.Trees.{postfix_tree}
 use Rattle.rv_statement.specs.Statement.{Expression}
-use Rattle.rv_parse_laws.specs.Syntax.{is_register, is_comma, is_opening, is_end, is_percent, Role, IsValue}
+use Rattle.rv_parse_laws.specs.Syntax.{is_register, is_comma, is_opening, is_end, is_percent, IsValue}
 use Rattle.rv_parse_laws.specs.Faults.{may_call, unsupported_here}
 use Rattle.rv_parse_laws.specs.Parsing.{seen_as, value_at, value_in}
 use Rattle.rv_parse_laws.proofs.Steps.{seen_ok, seen_err}
 use Rattle.rv_parse_laws.proofs.Failing.{Failing, first_of, same_first, first_is, never, wrongs}
 use Rattle.rv_parse_laws.proofs.Singles.{a_literal}
+use Rattle.rv_parse_laws.specs.declared.role.Role.{Role}
 
 -- what may stand behind an expression or a section's name: a comma, an opening parenthesis or the end
 abbrev pub closes : Kind → Bool
@@ -26,10 +27,10 @@ abbrev pub Closes : List Token → Type 0
 Closes rest = (t : Token) × (us : List Token) × (rest ≡ t ∷ us) × (closes t.kind ≡ true)
 
 follows_none : (k : Kind) → closes k ≡ true → follows k ≡ Nothing_more
-follows_none (Mark Comma) h = refl
-follows_none (Mark Open) h = refl
-follows_none (Mark Semicolon) h = refl
-follows_none (Mark _) h = absurd (cc)
+follows_none (Punctuation Comma) h = refl
+follows_none (Punctuation Open) h = refl
+follows_none (Punctuation Semicolon) h = refl
+follows_none (Punctuation _) h = absurd (cc)
 follows_none _ h = refl
 
 closed_before : (rest : List Token) → Closes rest → EndsBefore rest
@@ -52,8 +53,8 @@ pub value_some : (ts : List Token) (e : Expression) → IsValue ts e → 0 < len
 value_some ts e (tree, spelled, ordered, within, is) = spelled_some tree ts spelled
 
 percent_none : (k : Kind) → is_percent k ≡ true → begins is_register k ≡ No_operand 7
-percent_none (Mark Percent) h = refl
-percent_none (Mark _) h = absurd (cc)
+percent_none (Punctuation Percent) h = refl
+percent_none (Punctuation _) h = absurd (cc)
 percent_none _ h = absurd (cc)
 
 no_percent : (t : Token) (ts : List Token) (e : Expression) (rest : List Token) → value_at (t ∷ ts) ≡ Ok (e, rest) → is_percent t.kind ≡ false
@@ -124,13 +125,13 @@ value_goes = (a_literal ∷ [], Leaf (Literal 0), (Leaf (Literal 0), (a_literal,
 
 -- a token that no expression begins with is no opening parenthesis
 no_opening : (k : Kind) (code : ℕ) → step is_register (Wants [] []) k ≡ Fails code → is_opening k ≡ false
-no_opening (Mark Open) code h = absurd (cc)
-no_opening (Mark _) code h = refl
+no_opening (Punctuation Open) code h = absurd (cc)
+no_opening (Punctuation _) code h = refl
 no_opening _ code h = refl
 
 percent_no_opening : (k : Kind) → is_percent k ≡ true → is_opening k ≡ false
-percent_no_opening (Mark Percent) h = refl
-percent_no_opening (Mark _) h = absurd (cc)
+percent_no_opening (Punctuation Percent) h = refl
+percent_no_opening (Punctuation _) h = absurd (cc)
 percent_no_opening _ h = absurd (cc)
 
 and_parts : (a b : Bool) → (a && b) ≡ true → (a ≡ true) × (b ≡ true)
@@ -145,10 +146,10 @@ fails_first [] at code f e = go f.stage f.taken f.fails
 fails_first (t ∷ ts) at code f e = absurd (cc)
 
 -- where a value is wrong; an opening parenthesis can begin one
-abbrev pub ValueWrong : Role → List Token → Wrong → Type 0
+abbrev pub ValueWrong : Role → List Token → SyntaxError → Type 0
 ValueWrong role ts w = (x : Failing Expression IsValue (value_in role) ts w) × (x.before ≡ [] → is_opening x.at.kind ≡ false)
 
-pub value_wrong : (role : Role) (ts : List Token) (w : Wrong) → ended ts ≡ true → value_in role ts ≡ Err w → ValueWrong role ts w
+pub value_wrong : (role : Role) (ts : List Token) (w : SyntaxError) → ended ts ≡ true → value_in role ts ≡ Err w → ValueWrong role ts w
 value_wrong role [] w end e = absurd (cc)
 value_wrong role (t ∷ ts) w end e = go (may_call role && is_percent t.kind) refl e
   where
@@ -177,4 +178,4 @@ value_wrong role (t ∷ ts) w end e = go (may_call role && is_percent t.kind) re
         fails : (front : List Token) (at : Token) (more : List Token) (code : ℕ) → t ∷ ts ≡ front ++ at ∷ more → FailsAt is_register front at code → w ≡ wrong at code
             → (text : List Token) → value_in role (front ++ at ∷ text) ≡ Err w
         fails front at more code whole f is text =
-            plain role t ts (front ++ at ∷ text) h (same_first front at text more ∙ ap first_of (sym whole)) ∙ ap (seen_as tree_of) (fails_there is_register front at code text f ∙ ap (λ (x : Wrong). Err x) (sym is))
+            plain role t ts (front ++ at ∷ text) h (same_first front at text more ∙ ap first_of (sym whole)) ∙ ap (seen_as tree_of) (fails_there is_register front at code text f ∙ ap (λ (x : SyntaxError). Err x) (sym is))

@@ -7,7 +7,7 @@ use Rattle.rv_text_laws.proofs.Cut.{unique}
 use Rattle.rv_statement.specs.Statement.{Spoken}
 use Rattle.rv_parse_laws.specs.Syntax.{Part, IsPart, StopsPart}
 use Rattle.rv_parse_laws.specs.Parsing.{part_at}
-use Rattle.rv_text_laws.specs.Wrong.{Wrong, Read}
+use Rattle.rv_text_laws.specs.SyntaxError.{SyntaxError, Read}
 use Rattle.rv_text_laws.proofs.Tokens.{one_list, given}
 use Rattle.rv_parse_laws.specs.Reading.{AreParts, Reads, said, SaysUpTo, past_line, longest_source, most_statements}
 use Rattle.rv_text_laws.specs.Front.{tokens_from}
@@ -27,7 +27,7 @@ counted_some n (Ok (q, rest)) p k e =
     (rest, ap (λ (x : Part × ℕ). Ok (x.0, rest)) pair, sym (ap (λ (x : Part × ℕ). x.1) pair))
 counted_some n (Err w) p k e = absurd (cc)
 
-pub counted_none : (n : ℕ) (r : Read Part) → counted n r ≡ None → (w : Wrong) × (r ≡ Err w)
+pub counted_none : (n : ℕ) (r : Read Part) → counted n r ≡ None → (w : SyntaxError) × (r ≡ Err w)
 counted_none n (Ok (q, rest)) e = absurd (cc)
 counted_none n (Err w) e = (w, refl)
 

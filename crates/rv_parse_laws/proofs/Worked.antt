@@ -4,8 +4,8 @@ use Rattle.std.proofs.Common.{◌≡◌, ℕ, true, false, List, [], ◌∷◌, 
 use Rattle.rv_isa.specs.RegisterNames.{abi_names}
 use Rattle.rv_text_laws.specs.Bytes.{class, digit}
 use Rattle.rv_text_laws.specs.Cut.{cut}
-use Rattle.rv_text_laws.specs.Front.{tokens_from, piece_at, reference_in, number_in, escape_at, atom_at}
-use Rattle.rv_text_laws.specs.Wrong.{Read, place_of}
+use Rattle.rv_text_laws.specs.Front.{tokens_from, lexeme_at, reference_in, number_in, escape_at, atom_at}
+use Rattle.rv_text_laws.specs.SyntaxError.{Read, offset_of}
 use Rattle.rv_text_laws.specs.Joined.{joined_at}
 use Rattle.rv_text_laws.specs.Expression.{Leaf, Literal, Symbol, Here, Reference, Unary, Binary, tree_of}
 use Rattle.rv_text_laws.specs.ExpressionAt.{expression_at}
@@ -29,7 +29,7 @@ what (Err wrong) = None
 -- the fault's code and place
 code : Read Part → ℕ × ℕ
 code (Ok read) = (0, 0)
-code (Err wrong) = (wrong.code, wrong.place)
+code (Err wrong) = (wrong.code, wrong.offset)
 
 abbrev good_lines : List (List ℕ × Statement)
 good_lines =
@@ -123,9 +123,9 @@ read_line : List ℕ → Read Part
 read_line line = checked_at (is_opened behind_x) (tokens_from 0 1 line)
 
 each_reads : map (λ line. what (read_line line.0)) good_lines ≡ map (λ line. Some (Says line.1)) good_lines
-unfolding what code behind_x read_line opening_at part_at statement_at begun_at operands_at items_at tokens_from piece_at reference_in number_in escape_at atom_at cut class digit expression_at tree_of joined_at place_of is_symbol access_sets is_section_name base_words atomic_words atomic_ends pseudo_words left_out_directives is_known instruction_words atomic_operations atomic_forms mnemonic_named directive_words directive_named beginning choices left_out_options section_types names_of register abi_names
+unfolding what code behind_x read_line opening_at part_at statement_at begun_at operands_at items_at tokens_from lexeme_at reference_in number_in escape_at atom_at cut class digit expression_at tree_of joined_at offset_of is_symbol access_sets is_section_name base_words atomic_words atomic_ends pseudo_words left_out_directives is_known instruction_words atomic_operations atomic_forms mnemonic_named directive_words directive_named beginning choices left_out_options section_types names_of register abi_names
 each_reads = refl
 
 each_fails : map (λ line. code (read_line line.0)) bad_lines ≡ map (λ line. (line.1, line.2)) bad_lines
-unfolding what code behind_x read_line opening_at part_at statement_at begun_at operands_at items_at tokens_from piece_at reference_in number_in escape_at atom_at cut class digit expression_at tree_of joined_at place_of is_symbol access_sets is_section_name base_words atomic_words atomic_ends pseudo_words left_out_directives is_known instruction_words atomic_operations atomic_forms mnemonic_named directive_words directive_named beginning choices left_out_options section_types names_of register abi_names
+unfolding what code behind_x read_line opening_at part_at statement_at begun_at operands_at items_at tokens_from lexeme_at reference_in number_in escape_at atom_at cut class digit expression_at tree_of joined_at offset_of is_symbol access_sets is_section_name base_words atomic_words atomic_ends pseudo_words left_out_directives is_known instruction_words atomic_operations atomic_forms mnemonic_named directive_words directive_named beginning choices left_out_options section_types names_of register abi_names
 each_fails = refl

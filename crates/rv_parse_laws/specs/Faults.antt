@@ -4,11 +4,14 @@
 use Rattle.std.specs.Prelude.{ℕ, Bool, true, false, ◌||◌, ◌==◌, nat_lt, List, length, codes, take, if◌then◌else◌}
 use Rattle.std.specs.List.{list_all}
 use Rattle.std.specs.Str.{bytes_eq}
-use Rattle.rv_text_laws.specs.declared.sign.Sign.TheVariants.{DoubleSlash}
-use Rattle.rv_text_laws.specs.Grammar.{Kind, Mark, Name as NameToken, Bad_word, Text, Bad_byte, Bad_token}
-use Rattle.rv_text_laws.specs.Wrong.{longest_name, limit, is_long}
+use Rattle.rv_text_laws.specs.declared.punct.Punct.TheVariants.{DoubleSlash}
+use Rattle.rv_text_laws.specs.Grammar.{Kind, Punctuation, Name as NameToken, Bad_word, Text, Bad_byte, Bad_token}
+use Rattle.rv_text_laws.specs.Codes.{limit}
+use Rattle.rv_text_laws.specs.SyntaxError.{longest_name, is_long}
 use Rattle.rv_parse_laws.specs.Words.{is_known, is_among, left_out_options}
-use Rattle.rv_parse_laws.specs.Syntax.{Role, In_operand, In_load, In_store, In_alignment, Slot, A_value, A_symbol, A_string, Some_flags, At_sign, A_type, An_option, A_comma, An_opening, A_closing, is_comma, is_end, is_flag}
+use Rattle.rv_parse_laws.specs.Syntax.{Slot, A_value, A_symbol, A_string, Some_flags, At_sign, A_type, An_option, A_comma, An_opening, A_closing, is_comma, is_end, is_flag}
+use Rattle.rv_parse_laws.specs.declared.role.Role.{Role}
+use Rattle.rv_parse_laws.specs.declared.role.Role.TheVariants as roles
 
 -- the codes, by their numbers
 abbrev pub bad_byte : ℕ
@@ -34,7 +37,7 @@ abbrev pub wrong_or : Kind → ℕ → ℕ
 wrong_or Bad_byte code = bad_byte
 wrong_or Bad_token code = bad_token
 wrong_or (Bad_word word) code = bad_token
-wrong_or (Mark DoubleSlash) code = unsupported_here
+wrong_or (Punctuation DoubleSlash) code = unsupported_here
 wrong_or _ code = code
 
 -- a name that is no symbol's, where a symbol may stand
@@ -48,16 +51,16 @@ wrong_register k = wrong_or k bad_operands
 
 -- a function call with `%`, which instructions may have for a value, is not built yet
 abbrev pub may_call : Role → Bool
-may_call In_operand = true
-may_call In_load = true
-may_call In_store = true
+may_call roles.Operand = true
+may_call roles.Load = true
+may_call roles.Store = true
 may_call _ = false
 
 -- behind a whole expression: a symbol load or store is not built yet; a fill or a limit of an alignment is left out
 abbrev pub wrong_after_value : Role → Kind → ℕ
-wrong_after_value In_load k = if is_end k then unsupported_here else wrong_or k bad_operands
-wrong_after_value In_store k = if is_end k || is_comma k then unsupported_here else wrong_or k bad_operands
-wrong_after_value In_alignment k = if is_comma k then unsupported_here else wrong_or k bad_operands
+wrong_after_value roles.Load k = if is_end k then unsupported_here else wrong_or k bad_operands
+wrong_after_value roles.Store k = if is_end k || is_comma k then unsupported_here else wrong_or k bad_operands
+wrong_after_value roles.Alignment k = if is_comma k then unsupported_here else wrong_or k bad_operands
 wrong_after_value _ k = wrong_or k bad_operands
 
 -- behind what stands in a place

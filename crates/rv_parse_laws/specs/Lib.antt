@@ -1,4 +1,3 @@
-pub mod Value
 pub mod Words
 pub mod Syntax
 pub mod Faults

@@ -6,7 +6,8 @@ use Rattle.std.specs.List.{list_all, list_any}
 use Rattle.std.specs.Str.{bytes_eq}
 use Rattle.rv_text_laws.specs.Grammar.{Kind, Name as NameToken, Text}
 use Rattle.rv_text_laws.specs.Lexing.{Token}
-use Rattle.rv_text_laws.specs.Wrong.{longest_name, limit}
+use Rattle.rv_text_laws.specs.Codes.{limit}
+use Rattle.rv_text_laws.specs.SyntaxError.{longest_name}
 use Rattle.rv_text_laws.specs.Joined.{IsJoined}
 use Rattle.rv_statement.specs.Sections.{standard_name}
 use Rattle.rv_statement.specs.Statement.{Enters, Opens, Statement, Directs, Spoken}

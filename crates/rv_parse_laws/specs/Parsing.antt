@@ -4,18 +4,21 @@
 use Rattle.std.specs.Prelude.{ℕ, zero, suc, ◌+◌, Bool, false, ◌&&◌, nat_lt, List, [], ◌∷◌, ◌++◌, length, Option, Some, None, option_map, unwrap_or, Result, Ok, Err, if◌then◌else◌}
 use Rattle.rv_text_laws.specs.Grammar.{Kind}
 use Rattle.rv_text_laws.specs.Lexing.{Token}
-use Rattle.rv_text_laws.specs.Wrong.{Wrong, wrong, Read, nowhere, longest_name, limit}
+use Rattle.rv_text_laws.specs.Codes.{limit}
+use Rattle.rv_text_laws.specs.SyntaxError.{SyntaxError, wrong, Read, nowhere, longest_name}
 use Rattle.rv_text_laws.specs.Joined.{bytes_of, joined_at}
 use Rattle.rv_text_laws.specs.Expression.{tree_of}
 use Rattle.rv_text_laws.specs.ExpressionAt.{expression_at}
 use Rattle.rv_statement.specs.Statement.{Expression, Operand, Value, Word, Statement, Instruction, Directs}
-use Rattle.rv_parse_laws.specs.Words.{Beginning, Begins_instruction, Begins_directive, Begins_nothing}
-use Rattle.rv_parse_laws.specs.Syntax.{is_register, label_of, begins, is_comma, is_percent, is_end, is_opening, is_any, is_section_name, Role, Slot, A_register, A_value, An_address, A_section, Some_flags, At_sign, A_comma, A_closing, An_opening, single, front_begins, Slots, Stops, Takes, Chooses, Lists, Anything, slots, places, directed, colon_next, Part, Ends, Says}
+use Rattle.rv_parse_laws.specs.Syntax.{is_register, label_of, begins, is_comma, is_percent, is_end, is_opening, is_any, is_section_name, Slot, A_register, A_value, An_address, A_section, Some_flags, At_sign, A_comma, A_closing, An_opening, single, front_begins, Slots, Stops, Takes, Chooses, Lists, Anything, slots, places, directed, colon_next, Part, Ends, Says}
 use Rattle.rv_parse_laws.specs.Faults.{may_call, wrong_first, wrong_after, wrong_any, wrong_start, wrong_label, unsupported_here}
 use Rattle.rv_parse_laws.specs.Opening.{flags_fault, type_fault, is_section}
+use Rattle.rv_parse_laws.specs.declared.role.Role.{Role}
+use Rattle.rv_parse_laws.specs.declared.beginning.Beginning.{Beginning}
+use Rattle.rv_parse_laws.specs.declared.beginning.Beginning.TheVariants as beginnings
 
 infixl 10 ◌>>=◌
-abbrev pub ◌>>=◌ : {A B : Type 0} → Result A Wrong → (A → Result B Wrong) → Result B Wrong
+abbrev pub ◌>>=◌ : {A B : Type 0} → Result A SyntaxError → (A → Result B SyntaxError) → Result B SyntaxError
 (Ok x) >>= f = f x
 (Err e) >>= f = Err e
 
@@ -61,12 +64,12 @@ abbrev pub width : Kind → ℕ
 width k = length (unwrap_or (bytes_of k) [])
 
 -- the first token with which such a name is too long, where so many bytes of it stand before
-abbrev pub too_long : ℕ → List Token → Wrong
+abbrev pub too_long : ℕ → List Token → SyntaxError
 too_long before [] = nowhere
 too_long before (t ∷ ts) = let bytes = before + width t.kind in if nat_lt longest_name bytes then wrong t limit else too_long bytes ts
 
 -- the token behind, where what stands before it is wrong there
-abbrev pub wrong_next : List Token → ℕ → Wrong
+abbrev pub wrong_next : List Token → ℕ → SyntaxError
 wrong_next [] code = nowhere
 wrong_next (t ∷ ts) code = wrong t code
 
@@ -90,7 +93,7 @@ operand_at A_section ts = seen_as (λ name. Word name ∷ []) (section_at ts)
 operand_at s ts = single_at s ts
 
 -- the tokens, where a statement ends before them
-abbrev pub end_at : Slot → List Token → Result (List Token) Wrong
+abbrev pub end_at : Slot → List Token → Result (List Token) SyntaxError
 end_at s [] = Err nowhere
 end_at s (t ∷ ts) = if is_end t.kind then Ok (t ∷ ts) else Err (wrong t (wrong_after s t.kind))
 
@@ -131,9 +134,9 @@ operands_at Anything ts = any_at ts
 
 -- the statement that begins with the token t, before the tokens ts
 unfoldable pub begun_at : Beginning → Token → List Token → Read Statement
-begun_at (Begins_instruction m) t ts = seen_as (Instruction m) (operands_at (slots m) ts)
-begun_at (Begins_directive word) t ts = seen_as (λ os. Directs (directed word os)) (operands_at (places word) ts)
-begun_at Begins_nothing t ts = Err (wrong t (wrong_start t.kind))
+begun_at (beginnings.Instruction m) t ts = seen_as (Instruction m) (operands_at (slots m) ts)
+begun_at (beginnings.Directive word) t ts = seen_as (λ os. Directs (directed word os)) (operands_at (places word) ts)
+begun_at beginnings.Nothing t ts = Err (wrong t (wrong_start t.kind))
 
 abbrev pub after_first : List Token → List Token
 after_first [] = []
@@ -150,12 +153,12 @@ part_at [] = Err nowhere
 part_at (t ∷ ts) = if is_end t.kind then Ok (Ends, ts) else seen_as Says (statement_at t ts)
 
 -- the fault of the token at the front
-abbrev pub front_fault : (Kind → Option ℕ) → List Token → Option Wrong
+abbrev pub front_fault : (Kind → Option ℕ) → List Token → Option SyntaxError
 front_fault fault [] = None
 front_fault fault (t ∷ ts) = option_map (λ code. wrong t code) (fault t.kind)
 
 -- what is wrong behind what is read, if anything
-abbrev pub behind_read : {X : Type 0} → (List Token → Option Wrong) → Read X → Option Wrong
+abbrev pub behind_read : {X : Type 0} → (List Token → Option SyntaxError) → Read X → Option SyntaxError
 behind_read f (Ok x) = f x.1
 behind_read f (Err w) = None
 
@@ -164,27 +167,27 @@ or_else (Some x) other = Some x
 or_else None other = other
 
 -- what is wrong with a type behind flags, a comma and `@`, where the name is known, or new
-abbrev pub type_wrong : Bool → List Token → Option Wrong
+abbrev pub type_wrong : Bool → List Token → Option SyntaxError
 type_wrong known ts =
     behind_read (λ us. behind_read (λ vs. behind_read (front_fault (type_fault known)) (single_at At_sign vs)) (single_at (A_comma Some_flags) us))
     (single_at Some_flags ts)
 
 -- what is wrong with flags, and a type behind them
-abbrev pub flags_wrong : Bool → List Token → Option Wrong
+abbrev pub flags_wrong : Bool → List Token → Option SyntaxError
 flags_wrong known ts = or_else (front_fault (flags_fault known) ts) (type_wrong known ts)
 
 -- what is wrong behind a section's name
-abbrev pub named_wrong : (List ℕ → Bool) → Read (List ℕ) → Option Wrong
+abbrev pub named_wrong : (List ℕ → Bool) → Read (List ℕ) → Option SyntaxError
 named_wrong known (Ok read) = behind_read (λ us. flags_wrong (known read.0) us) (single_at (A_comma A_section) read.1)
 named_wrong known (Err w) = None
 
 -- what is wrong with an opening of a section at the front, where these names are known
-unfoldable pub opening_at : (List ℕ → Bool) → List Token → Option Wrong
+unfoldable pub opening_at : (List ℕ → Bool) → List Token → Option SyntaxError
 opening_at known [] = None
 opening_at known (t ∷ ts) = if is_section t.kind then named_wrong known (section_at ts) else None
 
 -- a part at the front, or what is wrong with it: an opening's flags or type, or the first token with which nothing goes on
-abbrev pub unless : {X : Type 0} → Option Wrong → Read X → Read X
+abbrev pub unless : {X : Type 0} → Option SyntaxError → Read X → Read X
 unless (Some w) r = Err w
 unless None r = r
 

@@ -3,7 +3,8 @@
 use Rattle.std.specs.Prelude.{◌≡◌, ℕ, ◌+◌, ◌^◌, ◌<◌, ◌≤◌, Bool, true, false, ◌==◌, List, [], ◌∷◌, ◌++◌, length, take, Option, Some, None, Ok, Err, ◌⊎◌, if◌then◌else◌}
 use Rattle.rv_text_laws.specs.Cut.{Piece, texts, Cuts, NothingReads}
 use Rattle.rv_text_laws.specs.Lexing.{Token, Lexes, newlines}
-use Rattle.rv_text_laws.specs.Wrong.{limit, place_of, Read}
+use Rattle.rv_text_laws.specs.Codes.{limit}
+use Rattle.rv_text_laws.specs.SyntaxError.{offset_of, Read}
 use Rattle.rv_statement.specs.Statement.{Label, Numbered, Spoken}
 use Rattle.rv_parse_laws.specs.Syntax.{Part, Ends, Says, IsPart, StopsPart, is_end, colon_next}
 use Rattle.rv_parse_laws.specs.Opening.{IsWrongOpening}
@@ -98,7 +99,7 @@ pub record WrongToken (bytes : List ℕ) (place code : ℕ) : Type 0 where
   pub stops : CanGoOn rest (before ++ at ∷ []) → ⊥
   pub opens_well : OpensWell (said parts) (before ++ at ∷ [])
   pub code_is : code ≡ code_at before at more
-  pub place_is : place ≡ place_of at code
+  pub place_is : place ≡ offset_of at code
 
 -- a token with which the opening of a section is wrong, behind good parts
 pub record WrongOpening (bytes : List ℕ) (place code : ℕ) : Type 0 where
@@ -111,7 +112,7 @@ pub record WrongOpening (bytes : List ℕ) (place code : ℕ) : Type 0 where
   pub cut : AreParts tokens parts (before ++ at ∷ more)
   pub opens : AllOpenWell [] parts (before ++ at ∷ more)
   pub wrong : IsWrongOpening (said parts) before at code
-  pub place_is : place ≡ place_of at code
+  pub place_is : place ≡ offset_of at code
 
 -- the first token of a statement past the most
 pub record PastStatements (bytes : List ℕ) (place : ℕ) : Type 0 where

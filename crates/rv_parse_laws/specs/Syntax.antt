@@ -4,11 +4,11 @@
 use Rattle.std.specs.Prelude.{◌≡◌, ℕ, zero, suc, Bool, true, false, ◌&&◌, ◌||◌, ◌==◌, not, nat_le, ◌≤◌, List, [], ◌∷◌, ◌++◌, length, Option, Some, None, option_map, is_some, codes, ◌⊎◌, if◌then◌else◌}
 use Rattle.std.specs.List.{list_all}
 use Rattle.std.specs.Str.{bytes_eq}
-use Rattle.rv_text_laws.specs.declared.sign.Sign.TheVariants.{Comma, Colon, Semicolon, Open, Close, Percent, At, DoubleSlash}
+use Rattle.rv_text_laws.specs.declared.punct.Punct.TheVariants.{Comma, Colon, Semicolon, Open, Close, Percent, At, DoubleSlash}
 use Rattle.rv_text_laws.specs.Bytes.{value, is_decimal}
-use Rattle.rv_text_laws.specs.Grammar.{Kind, Newline, Mark, Name as NameToken, Number, Bad_word, Text, Character, Bad_byte, Bad_token, End}
+use Rattle.rv_text_laws.specs.Grammar.{Kind, Newline, Punctuation, Name as NameToken, Number, Bad_word, Text, Character, Bad_byte, Bad_token, End}
 use Rattle.rv_text_laws.specs.Lexing.{Token}
-use Rattle.rv_text_laws.specs.Wrong.{longest_name, is_long}
+use Rattle.rv_text_laws.specs.SyntaxError.{longest_name, is_long}
 use Rattle.rv_text_laws.specs.Joined.{IsJoined}
 use Rattle.rv_text_laws.specs.Expression.{Tree, SpellsTree, IsAt, nesting, deepest, bare}
 use Rattle.rv_statement.specs.declared.mnemonic.Mnemonic.{Mnemonic}
@@ -23,7 +23,11 @@ use Rattle.rv_statement.specs.declared.directive.DirectiveWord.TheVariants as wo
 use Rattle.rv_statement.specs.declared.directive.Choice.{Choice}
 use Rattle.rv_statement.specs.Statement.{Expression, Operand, Register, Value, Accesses, Word, Quoted, Directive, Enters, Opens, Globl, Local, Sets, Aligns_to_power, Aligns_to_bytes, Values, Strings, Zeros, Chooses as Choosing, Ignored, Statement, Label, Numbered, Instruction, Directs}
 use Rattle.rv_statement.specs.View.{bytes_of}
-use Rattle.rv_parse_laws.specs.Words.{register, named_in, choices, Beginning, Begins_instruction, Begins_directive, Begins_nothing, beginning}
+use Rattle.rv_parse_laws.specs.Words.{register, named_in, choices, beginning}
+use Rattle.rv_parse_laws.specs.declared.role.Role.{Role}
+use Rattle.rv_parse_laws.specs.declared.role.Role.TheVariants as roles
+use Rattle.rv_parse_laws.specs.declared.beginning.Beginning.{Beginning}
+use Rattle.rv_parse_laws.specs.declared.beginning.Beginning.TheVariants as beginnings
 
 -- a name that a symbol may have: no register's, not `.` alone, and not too long
 unfoldable pub is_symbol : List ℕ → Bool
@@ -57,28 +61,28 @@ label_of _ = None
 -- what a statement that begins with this token says
 abbrev pub begins : Kind → Beginning
 begins (NameToken name) = beginning name
-begins _ = Begins_nothing
+begins _ = beginnings.Nothing
 
 abbrev pub is_comma : Kind → Bool
-is_comma (Mark Comma) = true
+is_comma (Punctuation Comma) = true
 is_comma _ = false
 
 abbrev pub is_colon : Kind → Bool
-is_colon (Mark Colon) = true
+is_colon (Punctuation Colon) = true
 is_colon _ = false
 
 abbrev pub is_percent : Kind → Bool
-is_percent (Mark Percent) = true
+is_percent (Punctuation Percent) = true
 is_percent _ = false
 
 abbrev pub is_at : Kind → Bool
-is_at (Mark At) = true
+is_at (Punctuation At) = true
 is_at _ = false
 
 -- a statement ends at its line's end, at `;` and at the source's end
 abbrev pub is_end : Kind → Bool
 is_end Newline = true
-is_end (Mark Semicolon) = true
+is_end (Punctuation Semicolon) = true
 is_end End = true
 is_end _ = false
 
@@ -89,11 +93,11 @@ is_source_end _ = false
 
 -- a parenthesis
 abbrev pub is_opening : Kind → Bool
-is_opening (Mark Open) = true
+is_opening (Punctuation Open) = true
 is_opening _ = false
 
 abbrev pub is_closing : Kind → Bool
-is_closing (Mark Close) = true
+is_closing (Punctuation Close) = true
 is_closing _ = false
 
 -- a literal of value 0
@@ -107,7 +111,7 @@ abbrev pub is_wrong : Kind → Bool
 is_wrong Bad_byte = true
 is_wrong Bad_token = true
 is_wrong (Bad_word word) = true
-is_wrong (Mark DoubleSlash) = true
+is_wrong (Punctuation DoubleSlash) = true
 is_wrong _ = false
 
 -- a token that may stand where operands are not looked at
@@ -146,19 +150,7 @@ accesses_of _ = None
 abbrev pub is_flag : ℕ → Bool
 is_flag letter = (letter == 97) || (letter == 119) || (letter == 120) || (letter == 77) || (letter == 83)
 
--- where an expression stands, which decides what is wrong around it
-pub data Role : Type 0 where
-  -- as an operand of an instruction
-  In_operand : Role
-  -- before the register of a load's address, or a store's
-  In_load : Role
-  In_store : Role
-  -- in a directive
-  In_directive : Role
-  -- as an alignment
-  In_alignment : Role
-
--- what may stand in one place of a statement
+-- what may stand in one slot of a statement
 pub data Slot : Type 0 where
   A_register : Slot
   -- an expression
@@ -233,33 +225,33 @@ with_constant _ = None
 
 -- the second source of an operation: a register, or a constant where it has that form
 abbrev pub source : Bool → Slots
-source true = Chooses A_register (Stops A_register) (last (A_value In_operand))
+source true = Chooses A_register (Stops A_register) (last (A_value roles.Operand))
 source false = last A_register
 
 -- the target of `jalr` behind its link register: `rs`, `rs, k`, `k(rs)`, `(rs)`
 abbrev pub jump_target : Slots
-jump_target = Chooses A_register (Chooses (A_comma A_register) (last (A_value In_operand)) (Stops A_register)) (last (An_address In_operand))
+jump_target = Chooses A_register (Chooses (A_comma A_register) (last (A_value roles.Operand)) (Stops A_register)) (last (An_address roles.Operand))
 
 -- the places of each instruction's operands (ISA, chapter 24; Assembly Programmer's Manual)
 abbrev pub slots : Mnemonic → Slots
 slots (Registers operation) = and_then A_register (and_then A_register (source (is_some (with_constant operation))))
-slots (Immediate operation) = and_then A_register (and_then A_register (last (A_value In_operand)))
-slots (Shift operation) = and_then A_register (and_then A_register (last (A_value In_operand)))
-slots (Upper operation) = and_then A_register (last (A_value In_operand))
-slots (Load operation) = and_then A_register (last (An_address In_load))
-slots (Store operation) = and_then A_register (last (An_address In_store))
-slots Jalr = Chooses A_register (Chooses (A_comma A_register) jump_target (Stops A_register)) (last (An_address In_operand))
+slots (Immediate operation) = and_then A_register (and_then A_register (last (A_value roles.Operand)))
+slots (Shift operation) = and_then A_register (and_then A_register (last (A_value roles.Operand)))
+slots (Upper operation) = and_then A_register (last (A_value roles.Operand))
+slots (Load operation) = and_then A_register (last (An_address roles.Load))
+slots (Store operation) = and_then A_register (last (An_address roles.Store))
+slots Jalr = Chooses A_register (Chooses (A_comma A_register) jump_target (Stops A_register)) (last (An_address roles.Operand))
 slots (LoadReserved form) = and_then A_register atomic_address
 slots (Atomic operation form) = and_then A_register (and_then A_register atomic_address)
 slots Fence = Chooses Some_accesses (Takes (A_comma Some_accesses) (last Some_accesses)) (Stops A_register)
 slots FenceTso = Stops A_register
 slots Ecall = Stops A_register
 slots Ebreak = Stops A_register
-slots Li = and_then A_register (last (A_value In_operand))
+slots Li = and_then A_register (last (A_value roles.Operand))
 
 -- `.section name[,"flags"[,@type[,n]]]`
 abbrev pub section_slots : Slots
-section_slots = and_maybe A_section (and_maybe Some_flags (Takes At_sign (and_maybe A_type (last (A_value In_directive)))))
+section_slots = and_maybe A_section (and_maybe Some_flags (Takes At_sign (and_maybe A_type (last (A_value roles.Directive)))))
 
 -- the places of each directive's operands (GNU as, "Pseudo Ops")
 abbrev pub places : DirectiveWord → Slots
@@ -267,13 +259,13 @@ places (words.Enters section) = Stops A_register
 places words.Section = section_slots
 places words.Globl = Lists A_symbol
 places words.Local = Lists A_symbol
-places words.Set = and_then A_symbol (last (A_value In_directive))
-places words.AlignToPower = last (A_value In_alignment)
-places words.AlignToBytes = last (A_value In_alignment)
-places (words.Value width) = Lists (A_value In_directive)
+places words.Set = and_then A_symbol (last (A_value roles.Directive))
+places words.AlignToPower = last (A_value roles.Alignment)
+places words.AlignToBytes = last (A_value roles.Alignment)
+places (words.Value width) = Lists (A_value roles.Directive)
 places words.Ascii = Lists A_string
 places words.Asciz = Lists A_string
-places words.Zero = last (A_value In_directive)
+places words.Zero = last (A_value roles.Directive)
 places words.Option = last An_option
 places words.Ignored = Anything
 
@@ -401,10 +393,10 @@ abbrev pub IsStatement : List Token → Statement → Type 0
 IsStatement ts (Label name) = IsLabel ts (Label name)
 IsStatement ts (Numbered number) = IsLabel ts (Numbered number)
 IsStatement ts (Instruction mnemonic operands) =
-    (t : Token) × (rest : List Token) × (ts ≡ t ∷ rest) × (colon_next rest ≡ false) × (begins t.kind ≡ Begins_instruction mnemonic) × AreOperands (slots mnemonic) rest operands
+    (t : Token) × (rest : List Token) × (ts ≡ t ∷ rest) × (colon_next rest ≡ false) × (begins t.kind ≡ beginnings.Instruction mnemonic) × AreOperands (slots mnemonic) rest operands
 IsStatement ts (Directs directive) =
     (t : Token) × (rest : List Token) × (word : DirectiveWord) × (operands : List Operand) × (ts ≡ t ∷ rest) × (colon_next rest ≡ false)
-    × (begins t.kind ≡ Begins_directive word) × AreOperands (places word) rest operands × (directive ≡ directed word operands)
+    × (begins t.kind ≡ beginnings.Directive word) × AreOperands (places word) rest operands × (directive ≡ directed word operands)
 
 -- a part of a source: a statement, or the end of one or of nothing
 pub data Part : Type 0 where

@@ -21,6 +21,8 @@ use Rattle.rv_statement.specs.declared.directive.Choice.{Choice}
 use Rattle.rv_statement.specs.declared.directive.Choice.TheVariants.{Rvc, Norvc, Relax, Norelax, Push, Pop, Nopic}
 use Rattle.rv_statement.specs.declared.directive.DirectiveWord.{DirectiveWord}
 use Rattle.rv_statement.specs.declared.directive.DirectiveWord.TheVariants as words
+use Rattle.rv_parse_laws.specs.declared.beginning.Beginning.{Beginning}
+use Rattle.rv_parse_laws.specs.declared.beginning.Beginning.TheVariants as beginnings
 
 -- the word is in the list
 abbrev pub is_among : List (List ℕ) → List ℕ → Bool
@@ -252,17 +254,11 @@ frame_directive word = if bytes_eq (take 5 word) (codes ".cfi_") then Some words
 unfoldable pub directive_named : List ℕ → Option DirectiveWord
 directive_named word = either (named_in directive_words word) (frame_directive word)
 
--- what a word begins that is built
-pub data Beginning : Type 0 where
-  Begins_instruction : (mnemonic : Mnemonic) → Beginning
-  Begins_directive : (word : DirectiveWord) → Beginning
-  -- nothing that is built
-  Begins_nothing : Beginning
-
+-- what a word begins: an instruction before a directive
 abbrev pub begun_by : Option Mnemonic → Option DirectiveWord → Beginning
-begun_by (Some mnemonic) directive = Begins_instruction mnemonic
-begun_by None (Some directive) = Begins_directive directive
-begun_by None None = Begins_nothing
+begun_by (Some mnemonic) directive = beginnings.Instruction mnemonic
+begun_by None (Some directive) = beginnings.Directive directive
+begun_by None None = beginnings.Nothing
 
 unfoldable pub beginning : List ℕ → Beginning
 beginning word = begun_by (mnemonic_named word) (directive_named word)

@@ -1,8 +1,23 @@
-//! What a source says: statements, their operands, and the reading of bytes as statements. Nothing here runs.
+//! What it is to read a source: words, the syntax of statements, the first fault; and the laws of that reading.
 //!
-//! Source: RISC-V Assembly Programmer's Manual.
+//! Takes bytes and gives statements, as relations: `Reads bytes statements` and `Refuses bytes fault` of `specs/Reading`.
+//! Main contracts: `one_reading`, `one_fault` and `not_both`: bytes have at most one reading or first fault, never both.
+//! Of code there are `Role` and `Beginning` alone, which definitions and code share.
+//! Must not know how the code goes over tokens, or what a statement means.
+//!
+//! ```text
+//! specs/Words     the words that begin statements      specs/Opening  openings of sections
+//! specs/Syntax    operands in slots, statements        specs/Parsing  the reading as a function on tokens
+//! specs/Faults    the code of a wrong token            specs/Reading  Reads and Refuses: read this last
+//! ```
+//!
+//! Source: RISC-V Assembly Programmer's Manual; GNU as, "Statements" and "Pseudo Ops".
 #![tactic(auto)]
 
+mod beginning;
 mod laws;
+mod role;
 
+pub use beginning::Beginning;
 pub use laws::{not_both, one_fault, one_reading};
+pub use role::Role;

@@ -5,7 +5,7 @@ use Rattle.std.specs.Borrow.{Bor}
 use Rattle.rv_text_laws.specs.Bytes.{value}
 use Rattle.rv_text_laws.specs.Expression.{Tree}
 use Rattle.rv_text.specs.Expr.{tree_of_expr}
-use Rattle.rv_text.specs.Token.{string_bytes}
+use Rattle.rv_lexer.specs.Token.{string_bytes}
 use Rattle.rv_statement.specs.declared.directive.Width.{Width}
 use Rattle.rv_statement.specs.declared.directive.Width.TheVariants as widths
 use Rattle.rv_statement.specs.declared.mnemonic.Mnemonic.TheVariants as mnemonics

@@ -1,5 +1,5 @@
 use Rattle.std.proofs.Common.{◌≡◌, length}
-use Rattle.rv_text.specs.Cursor.{left}
+use Rattle.rv_lexer.specs.Cursor.{left}
 use Rattle.rv_parse_laws.specs.Parsing.{any_at}
 use Rattle.rv_parse.proofs.directive.anything.Given as goal
 

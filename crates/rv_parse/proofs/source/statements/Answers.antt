@@ -1,6 +1,6 @@
 use Rattle.std.proofs.Common.{◌∙◌, sym, arith, map}
-use Rattle.rv_text.specs.Token.{token_of}
-use Rattle.rv_text.specs.Cursor.{left}
+use Rattle.rv_lexer.specs.Token.{token_of}
+use Rattle.rv_lexer.specs.Cursor.{left}
 use Rattle.rv_parse_laws.proofs.Progress.{push_end, statement_shorter}
 use Rattle.std.proofs.lemmas.Result.{err_from_is_err_and}
 use Rattle.rv_parse.proofs.Statements.{statements_push, counted_push, behind, left_is, statements_end, refuses_here}

@@ -1,8 +1,8 @@
 use Rattle.std.proofs.Common.{◌≡◌, ◌≤◌, map, length}
 use Rattle.rv_parse_laws.specs.Reading.{SaysUpTo, most_statements}
-use Rattle.rv_text.specs.Left.{tokens_left}
+use Rattle.rv_lexer.specs.Left.{tokens_left}
 use Rattle.rv_statement.specs.View.{said_by}
-use Rattle.rv_text.specs.Cursor.{left}
+use Rattle.rv_lexer.specs.Cursor.{left}
 use Rattle.rv_parse.specs.Opened.{Knows}
 use Rattle.rv_parse.proofs.source.statements.Given as goal
 

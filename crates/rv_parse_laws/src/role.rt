@@ -1,0 +1,16 @@
+//! Where an expression stands in a statement.
+
+/// Where an expression stands, which decides what is wrong around it.
+#[derive(Clone, Copy, Debug, PartialEq, Eq, Drop)]
+pub enum Role {
+    /// As an operand of an instruction.
+    Operand,
+    /// Before the register of a load's address.
+    Load,
+    /// Before the register of a store's address.
+    Store,
+    /// In a directive.
+    Directive,
+    /// As an alignment.
+    Alignment,
+}
