@@ -1,15 +1,16 @@
 -- The first fault, statement by statement.
 
 use Rattle.std.proofs.Common.{◌≡◌, ℕ, suc, ◌+◌, ◌<◌, List, ◌∷◌, length, map, drop, get_or, sym, ap, ◌∙◌, arith, Option, Some, None, option_map}
-use Rattle.rv_text.specs.declared.fault.SourceCode.{SourceCode}
-use Rattle.rv_text.specs.Fault.{number_of}
+use Rattle.rv_lexer.specs.declared.fault.SourceCode.{SourceCode}
+use Rattle.rv_lexer.specs.Fault.{number_of}
 use Rattle.rv_statement.specs.declared.statement.Statement.{Statement}
 use Rattle.rv_statement.specs.View.{said_by}
 use Rattle.rv_unit.specs.Faults.{IsLowest}
 use Rattle.rv_statement.specs.Statement.{Spoken}
 use Rattle.rv_unit_laws.specs.Tables.{Tables, after, tables}
 use Rattle.rv_unit_laws.specs.Faults.{faults, lowest, at_line, first_fault_from}
-use Rattle.rv_unit.proofs.Filling.{passed, drop_next}
+use Rattle.rv_tables.proofs.Filling.{drop_next}
+use Rattle.rv_unit.specs.Unit.{passed}
 
 -- a statement without a fault is passed over
 pub check_more : (ss : List Spoken) (i : ℕ) (x : Spoken) → drop i ss ≡ x ∷ drop (i + 1) ss → lowest (faults (tables ss) (passed ss i) (i + 1) x.says) ≡ None → passed ss (i + 1) ≡ after (passed ss i) (i + 1) x.says

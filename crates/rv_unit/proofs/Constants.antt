@@ -5,15 +5,16 @@ use Rattle.rv_text_laws.specs.Bytes.{value as digits_value}
 use Rattle.rv_text_laws.specs.Expression.{Literal, Symbol, Here, Reference}
 use Rattle.rv_text_laws.specs.Values.{Constant}
 use Rattle.rv_statement.specs.Statement.{Spoken, Expression}
-use Rattle.rv_unit_laws.specs.Tables.{Tables, Place, Marked, at_start, tables, after_all, marked_after, forward_in, meaning, value}
+use Rattle.rv_unit_laws.specs.Tables.{Tables, SectionOffset, NumericLabel, at_start, tables, after_all, numeric_label_after, forward_in, meaning, value}
 use Rattle.rv_unit_laws.proofs.Before.{before_all, before_start}
 use Rattle.rv_unit_laws.proofs.Settled.{Agree, is_settled, constant_same, constant_later}
-use Rattle.rv_unit.proofs.Filling.{passed, passed_rest}
+use Rattle.rv_unit.specs.Unit.{passed}
+use Rattle.rv_unit.proofs.Passed.{passed_rest}
 use Rattle.rv_unit.proofs.Scoped.{past_name, past_here, past_back}
 
-module _ (ss : List Spoken) (i : ℕ) (p : Place) (within : i ≤ length ss) (inside : p.section < length (passed ss i).opened.sections) where
+module _ (ss : List Spoken) (i : ℕ) (p : SectionOffset) (within : i ≤ length ss) (inside : p.section < length (passed ss i).opened.sections) where
   -- a numeric label that comes later is no constant
-  ahead : (o : Tables) (found : Option Marked) (digits : List ℕ) → is_settled (forward_in o.opened false found) ≡ true → meaning (passed ss i) false (i + 1) p (Reference digits true) ≡ forward_in o.opened false found
+  ahead : (o : Tables) (found : Option NumericLabel) (digits : List ℕ) → is_settled (forward_in o.opened false found) ≡ true → meaning (passed ss i) false (i + 1) p (Reference digits true) ≡ forward_in o.opened false found
   ahead o None digits e = absurd (cc)
   ahead o (Some m) digits e = absurd (cc)
 
@@ -21,7 +22,7 @@ module _ (ss : List Spoken) (i : ℕ) (p : Place) (within : i ≤ length ss) (in
   past_agrees (Literal number) e = refl
   past_agrees (Symbol name) e = sym (past_name ss i p name within)
   past_agrees Here e = sym (past_here ss i p within inside)
-  past_agrees (Reference digits true) e = ahead (tables ss) (marked_after (tables ss).marks (i + 1) (digits_value 10 digits)) digits e
+  past_agrees (Reference digits true) e = ahead (tables ss) (numeric_label_after (tables ss).numeric_labels (i + 1) (digits_value 10 digits)) digits e
   past_agrees (Reference digits false) e = sym (past_back ss i p digits within)
 
   -- by the statements before it
@@ -29,7 +30,7 @@ module _ (ss : List Spoken) (i : ℕ) (p : Place) (within : i ≤ length ss) (in
   constant_past e n is = constant_same (λ q. meaning (tables ss) false (i + 1) p q) (λ q. meaning (passed ss i) false (i + 1) p q) past_agrees e n is
 
 -- by all of the source
-pub constant_whole : (ss : List Spoken) (at : ℕ) (p : Place) (e : Expression) (n : ℕ) → value (tables ss) false at p e ≡ Constant n → value (tables ss) true at p e ≡ Constant n
+pub constant_whole : (ss : List Spoken) (at : ℕ) (p : SectionOffset) (e : Expression) (n : ℕ) → value (tables ss) false at p e ≡ Constant n → value (tables ss) true at p e ≡ Constant n
 constant_whole ss at p e n is = constant_later (tables ss) (1 + length ss) at (before_all at_start 1 ss (before_start 1)) p e n is
 
 -- the tables of a source by those of its first statements

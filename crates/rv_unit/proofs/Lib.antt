@@ -1,11 +1,7 @@
 mod Lowest
 mod Checked
-mod Digits
 mod Each
-mod Filling
-mod Gives
-mod Lookups
-mod Ordered
+mod Passed
 mod Scoped
 mod Sized
 pub mod Constants

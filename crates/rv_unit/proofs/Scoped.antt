@@ -18,12 +18,13 @@ use Rattle.rv_unit_laws.specs.Tables as laws
 use Rattle.rv_unit_laws.proofs.Before.{IsBefore, before_all, before_start}
 use Rattle.rv_unit_laws.proofs.Opened.{IsStood, stood_all, stood_start, stands_same, open_inside, find_passes}
 use Rattle.rv_unit.specs.declared.unit.Unit.{Unit as SourceUnit}
-use Rattle.rv_unit.specs.Tables.{tables_of}
+use Rattle.rv_tables.specs.Tables.{tables_of}
 use Rattle.rv_unit.specs.Unit.{said, IsFilled}
-use Rattle.rv_unit.proofs.Filling.{passed, passed_before, passed_keeps, passed_rest, passed_more}
-use Rattle.rv_unit.proofs.Lookups.{marked_none}
+use Rattle.rv_unit.specs.Unit.{passed}
+use Rattle.rv_unit.proofs.Passed.{passed_before, passed_keeps, passed_rest, passed_more}
+use Rattle.rv_tables.proofs.Lookups.{numeric_label_none}
 
--- the tables of a unit stand before the ordinal behind its last statement
+-- the tables of a unit stand before the ordinal after its last statement
 pub whole_before : (u : SourceUnit) → IsFilled u → IsBefore (tables_of u.tables) (1 + length (said u))
 whole_before u f = subst (λ t. IsBefore t (1 + length (said u))) (sym f.tables) (before_all laws.at_start 1 (said u) (before_start 1))
 
@@ -32,7 +33,7 @@ whole_before u f = subst (λ t. IsBefore t (1 + length (said u))) (sym f.tables)
 passed_stood : (ss : List Spoken) (i : ℕ) → IsStood (passed ss i)
 passed_stood ss i = stood_all laws.at_start 1 (take i ss) stood_start
 
-stands_passed : (ss : List Spoken) (i : ℕ) (p : laws.Place) → i ≤ length ss → p.section < length (passed ss i).opened.sections → laws.stands (laws.tables ss).opened p ≡ laws.stands (passed ss i).opened p
+stands_passed : (ss : List Spoken) (i : ℕ) (p : laws.SectionOffset) → i ≤ length ss → p.section < length (passed ss i).opened.sections → laws.stands (laws.tables ss).opened p ≡ laws.stands (passed ss i).opened p
 stands_passed ss i p within inside =
     ap (λ (t : laws.Tables). laws.stands t.opened p) (passed_rest ss i within) ∙ stands_same (passed ss i) (i + 1) (drop i ss) p (passed_stood ss i).opened inside
 
@@ -44,39 +45,39 @@ labelled_passed ss i name within (Some l) e =
     stands_passed ss i l.place within
     (ltb-true l.place.section n (find_passes (λ k. bytes_eq k.name name && nat_lt k.ordinal (i + 1)) (λ k. nat_lt k.place.section n) (passed ss i).labels l (passed_stood ss i).inside.labels e))
 
-marked_passed : (ss : List Spoken) (i n : ℕ) → i ≤ length ss → (found : Option laws.Marked) → laws.marked_before (passed ss i).marks (i + 1) n ≡ found
+numeric_label_passed : (ss : List Spoken) (i n : ℕ) → i ≤ length ss → (found : Option laws.NumericLabel) → laws.numeric_label_before (passed ss i).numeric_labels (i + 1) n ≡ found
     → laws.backward_in (laws.tables ss).opened found ≡ laws.backward_in (passed ss i).opened found
-marked_passed ss i n within None e = refl
-marked_passed ss i n within (Some m) e =
+numeric_label_passed ss i n within None e = refl
+numeric_label_passed ss i n within (Some m) e =
     let count = length (passed ss i).opened.sections in
     stands_passed ss i m.place within
-    (ltb-true m.place.section count (find_passes (λ k. nat_lt k.ordinal (i + 1) && (k.number == n)) (λ k. nat_lt k.place.section count) (passed ss i).marks m (passed_stood ss i).inside.marks e))
+    (ltb-true m.place.section count (find_passes (λ k. nat_lt k.ordinal (i + 1) && (k.number == n)) (λ k. nat_lt k.place.section count) (passed ss i).numeric_labels m (passed_stood ss i).inside.numeric_labels e))
 
-pub past_name : (ss : List Spoken) (i : ℕ) (p : laws.Place) (name : List ℕ) → i ≤ length ss → laws.meaning (laws.tables ss) false (i + 1) p (Symbol name) ≡ laws.meaning (passed ss i) false (i + 1) p (Symbol name)
+pub past_name : (ss : List Spoken) (i : ℕ) (p : laws.SectionOffset) (name : List ℕ) → i ≤ length ss → laws.meaning (laws.tables ss) false (i + 1) p (Symbol name) ≡ laws.meaning (passed ss i) false (i + 1) p (Symbol name)
 past_name ss i p name within =
     let all = laws.tables ss in
     let t = passed ss i in
     let o = i + 1 in
     let keeps = passed_keeps ss i within in
-    ap (λ f. laws.set_first f (laws.labelled all.opened (laws.label_of all.labels false o name) Open)) (keeps.settings (λ s. bytes_eq s.name name))
-    ∙ ap (λ l. laws.set_first (laws.set_before t.settings o name) (laws.labelled all.opened l Open)) (keeps.labels (λ l. bytes_eq l.name name))
-    ∙ ap (laws.set_first (laws.set_before t.settings o name)) (labelled_passed ss i name within (laws.label_of t.labels false o name) refl)
+    ap (λ f. laws.assigned_first f (laws.labelled all.opened (laws.label_of all.labels false o name) Open)) (keeps.assignments (λ s. bytes_eq s.name name))
+    ∙ ap (λ l. laws.assigned_first (laws.assigned_before t.assignments o name) (laws.labelled all.opened l Open)) (keeps.labels (λ l. bytes_eq l.name name))
+    ∙ ap (laws.assigned_first (laws.assigned_before t.assignments o name)) (labelled_passed ss i name within (laws.label_of t.labels false o name) refl)
 
-pub past_here : (ss : List Spoken) (i : ℕ) (p : laws.Place) → i ≤ length ss → p.section < length (passed ss i).opened.sections → laws.meaning (laws.tables ss) false (i + 1) p Here ≡ laws.meaning (passed ss i) false (i + 1) p Here
+pub past_here : (ss : List Spoken) (i : ℕ) (p : laws.SectionOffset) → i ≤ length ss → p.section < length (passed ss i).opened.sections → laws.meaning (laws.tables ss) false (i + 1) p Here ≡ laws.meaning (passed ss i) false (i + 1) p Here
 past_here ss i p within inside = stands_passed ss i p within inside
 
-pub past_back : (ss : List Spoken) (i : ℕ) (p : laws.Place) (digits : List ℕ) → i ≤ length ss → laws.meaning (laws.tables ss) false (i + 1) p (Reference digits false) ≡ laws.meaning (passed ss i) false (i + 1) p (Reference digits false)
+pub past_back : (ss : List Spoken) (i : ℕ) (p : laws.SectionOffset) (digits : List ℕ) → i ≤ length ss → laws.meaning (laws.tables ss) false (i + 1) p (Reference digits false) ≡ laws.meaning (passed ss i) false (i + 1) p (Reference digits false)
 past_back ss i p digits within =
     let n = digits_value 10 digits in
-    ap (laws.backward_in (laws.tables ss).opened) ((passed_keeps ss i within).marks (λ m. m.number == n))
-    ∙ marked_passed ss i n within (laws.marked_before (passed ss i).marks (i + 1) n) refl
+    ap (laws.backward_in (laws.tables ss).opened) ((passed_keeps ss i within).numeric_labels (λ m. m.number == n))
+    ∙ numeric_label_passed ss i n within (laws.numeric_label_before (passed ss i).numeric_labels (i + 1) n) refl
 
--- nothing comes behind the last
-pub past_ahead : (ss : List Spoken) (i : ℕ) (p : laws.Place) (digits : List ℕ) → i ≤ length ss → Refused 12 ≡ laws.meaning (passed ss i) false (i + 1) p (Reference digits true)
-past_ahead ss i p digits within = sym (ap (laws.forward_in (passed ss i).opened false) (marked_none (passed ss i) (i + 1) (digits_value 10 digits) (passed_before ss i within)))
+-- nothing comes after the last
+pub past_ahead : (ss : List Spoken) (i : ℕ) (p : laws.SectionOffset) (digits : List ℕ) → i ≤ length ss → Refused 12 ≡ laws.meaning (passed ss i) false (i + 1) p (Reference digits true)
+past_ahead ss i p digits within = sym (ap (laws.forward_in (passed ss i).opened false) (numeric_label_none (passed ss i) (i + 1) (digits_value 10 digits) (passed_before ss i within)))
 
--- all but what comes behind
-pub past_symbol : (ss : List Spoken) (i : ℕ) (p : laws.Place) (x : Written) → i ≤ length ss → p.section < length (passed ss i).opened.sections → ((digits : Bor (List ℕ)) → x ≡ symbols.Forward digits → ⊥)
+-- all but what comes after
+pub past_symbol : (ss : List Spoken) (i : ℕ) (p : laws.SectionOffset) (x : Written) → i ≤ length ss → p.section < length (passed ss i).opened.sections → ((digits : Bor (List ℕ)) → x ≡ symbols.Forward digits → ⊥)
     → laws.meaning (laws.tables ss) false (i + 1) p (symbol_of x) ≡ laws.meaning (passed ss i) false (i + 1) p (symbol_of x)
 past_symbol ss i p (symbols.Name name) within inside apart = past_name ss i p name.now within
 past_symbol ss i p symbols.Here within inside apart = past_here ss i p within inside
@@ -84,8 +85,8 @@ past_symbol ss i p (symbols.Backward digits) within inside apart = past_back ss 
 past_symbol ss i p (symbols.Forward digits) within inside apart = absurd (apart digits refl)
 
 -- where the next statement stands is in a section that is open
-pub here_inside : (ss : List Spoken) (i : ℕ) (p : laws.Place) → p ≡ laws.here (passed ss i) → p.section < length (passed ss i).opened.sections
-here_inside ss i p is = subst (λ (q : laws.Place). q.section < length (passed ss i).opened.sections) (sym is) (open_inside (passed ss i).opened (passed_stood ss i).opened)
+pub here_inside : (ss : List Spoken) (i : ℕ) (p : laws.SectionOffset) → p ≡ laws.here (passed ss i) → p.section < length (passed ss i).opened.sections
+here_inside ss i p is = subst (λ (q : laws.SectionOffset). q.section < length (passed ss i).opened.sections) (sym is) (open_inside (passed ss i).opened (passed_stood ss i).opened)
 
 -- ---- the statements so far
 

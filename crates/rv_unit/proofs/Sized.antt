@@ -22,7 +22,7 @@ shown offset n = by (nat_le (offset + n) (2 ^ 28)) refl
 
 -- the faults of data, but for those of its values
 abbrev pub data_faults : Section → ℕ → ℕ → List ℕ
-data_faults home offset bytes = faulty_if (home.executable || home.nobits) 15 ++ past_section home.executable offset bytes
+data_faults section offset bytes = faulty_if (section.executable || section.nobits) 15 ++ past_section section.executable offset bytes
 
-pub data_shown : (home : Section) (offset n : ℕ) → data_faults home offset (min n (2 ^ 64 - 1)) ≡ data_faults home offset n
-data_shown home offset n = ap (λ b. faulty_if (home.executable || home.nobits) 15 ++ faulty_if (not home.executable && not b) 17) (shown offset n)
+pub data_shown : (section : Section) (offset n : ℕ) → data_faults section offset (min n (2 ^ 64 - 1)) ≡ data_faults section offset n
+data_shown section offset n = ap (λ b. faulty_if (section.executable || section.nobits) 15 ++ faulty_if (not section.executable && not b) 17) (shown offset n)

@@ -1,34 +1,34 @@
 -- What a unit and a scope show.
 
 use Rattle.std.specs.Prelude.{◌≡◌, ℕ, ◌+◌, ◌≤◌, List, Some, length, map, take}
-use Rattle.rv_text.specs.declared.fault.SourceFault.{SourceFault}
-use Rattle.rv_text.specs.declared.fault.SourceFault.TheVariants as refusals
-use Rattle.rv_text.specs.declared.fault.SourceCode.{SourceCode}
-use Rattle.rv_text.specs.Fault.{number_of}
+use Rattle.rv_lexer.specs.declared.fault.SourceFault.{SourceFault}
+use Rattle.rv_lexer.specs.declared.fault.SourceFault.TheVariants as refusals
+use Rattle.rv_lexer.specs.declared.fault.SourceCode.{SourceCode}
+use Rattle.rv_lexer.specs.Fault.{number_of}
 use Rattle.rv_unit_laws.specs.Faults.{Fault, first_fault}
 use Rattle.rv_statement.specs.Statement.{Spoken}
 use Rattle.rv_statement.specs.View.{said_by}
 use Rattle.rv_unit_laws.specs.Tables as laws
-use Rattle.rv_unit.specs.declared.place.Home.{Home}
+use Rattle.rv_tables.specs.declared.section_offset.Definition.{Definition}
 use Rattle.rv_unit.specs.declared.unit.Unit.{Unit as SourceUnit}
 use Rattle.rv_unit.specs.declared.scope.Scope.{Scope}
-use Rattle.rv_unit.specs.Sections.{place_of}
-use Rattle.rv_unit.specs.Tables.{tables_of, IsIndexed}
+use Rattle.rv_tables.specs.Sections.{offset_of}
+use Rattle.rv_tables.specs.Tables.{tables_of, IsIndexed}
 
-abbrev pub home_of : Home → laws.Home
-home_of h = record { ordinal = h.ordinal; plus = h.plus }
+abbrev pub definition_of : Definition → laws.Definition
+definition_of h = record { ordinal = h.ordinal; plus = h.plus }
 
 -- the statements of a unit
 abbrev pub said : SourceUnit → List Spoken
 said u = map said_by u.statements.items
 
--- a unit with the places of its statements and their tables
+-- a unit with the offsets of its statements and their tables
 pub record IsFilled (u : SourceUnit) : Type 0 where
-  pub stand : map place_of u.places.items ≡ laws.places (said u)
+  pub stand : map offset_of u.places.items ≡ laws.places (said u)
   pub tables : tables_of u.tables ≡ laws.tables (said u)
   pub indexed : IsIndexed u.tables
 
--- the tables of the first statements, so many of them
+-- the tables of the first `count` statements
 abbrev pub passed : List Spoken → ℕ → laws.Tables
 passed ss count = laws.after_all laws.at_start 1 (take count ss)
 

@@ -9,37 +9,37 @@ ghost use Rattle.rv_unit_laws.specs.Sections as sections;
 ghost use Rattle.rv_unit_laws.proofs.Before.{IsBefore};
 ghost use Rattle.rv_unit_laws.specs.Tables as laws;
 ghost use Rattle.rv_unit.specs.Faults.{IsLowest};
-ghost use Rattle.rv_unit.specs.Sections.{section_of};
-ghost use Rattle.rv_unit.specs.Tables.{tables_of, IsIndexed};
+ghost use Rattle.rv_tables.specs.Sections.{section_of};
+ghost use Rattle.rv_tables.specs.Tables.{tables_of, IsIndexed};
 ghost use Rattle.rv_unit.specs.Unit.{said, fault_of, IsFilled};
 
-use crate::align::{asked_bytes, asked_power, strings_size, values_size, width_in_bytes};
 use crate::faults::{
     alignment_fault, bytes_fault, data_fault, faulty_if, lower, power_fault, set_fault,
     value_fault, zero_fault,
 };
-use crate::section::Section;
-use crate::tables::Tables;
 use crate::unit::Unit;
 use rv_statement::{Choice, Setting, StatementKind, Width};
+use rv_tables::{
+    Section, Tables, byte_alignment, power_alignment, strings_size, values_size, width_in_bytes,
+};
 use rv_text::{Expr, SourceCode};
 use std::alloc::{AllocError, Global};
 
 impl<'a> Unit<'a> {
     /// The fault of a `.set`.
-    fn fault_of_setting(
+    fn fault_of_assignment(
         &self,
         passed: &Tables<'_>,
         ordinal: usize,
-        setting: &Setting<'a>,
+        assignment: &Setting<'a>,
     ) -> Option<SourceCode>
-        ensures { (o : ℕ) → IsIndexed passed.now → IsBefore (tables_of passed.now) o → IsFilled self.now → ordinal ≡ o → IsLowest result (faults.directive_faults (laws.tables (said self.now)) (tables_of passed.now) o (Sets (setting.now).name.now (tree_of_expr (setting.now).expression))) }
+        ensures { (o : ℕ) → IsIndexed passed.now → IsBefore (tables_of passed.now) o → IsFilled self.now → ordinal ≡ o → IsLowest result (faults.directive_faults (laws.tables (said self.now)) (tables_of passed.now) o (Sets (assignment.now).name.now (tree_of_expr (assignment.now).expression))) }
     {
-        let value = self.early_value(ordinal, passed.here(), &setting.expression);
+        let value = self.early_value(ordinal, passed.here(), &assignment.expression);
         set_fault(
-            passed.home(),
-            passed.is_defined(setting.name),
-            passed.has_place(setting.name),
+            passed.current_section(),
+            passed.is_defined(assignment.name),
+            passed.has_location(assignment.name),
             &value,
         )
     }
@@ -54,7 +54,7 @@ impl<'a> Unit<'a> {
         ensures { (o : ℕ) → IsIndexed passed.now → IsBefore (tables_of passed.now) o → IsFilled self.now → ordinal ≡ o → IsLowest result (faults.directive_faults (laws.tables (said self.now)) (tables_of passed.now) o (Zeros (tree_of_expr count.now))) }
     {
         let value = self.early_value(ordinal, passed.here(), count);
-        zero_fault(passed.home(), passed.offset(), &value)
+        zero_fault(passed.current_section(), passed.offset(), &value)
     }
 
     /// The fault of an alignment to a power of two.
@@ -70,11 +70,15 @@ impl<'a> Unit<'a> {
         let found = power_fault(&value);
         lower(
             found,
-            alignment_fault(passed.home(), passed.offset(), asked_power(value)),
+            alignment_fault(
+                passed.current_section(),
+                passed.offset(),
+                power_alignment(value),
+            ),
         )
     }
 
-    /// The fault of an alignment to so many bytes.
+    /// The fault of an alignment in bytes.
     fn fault_of_bytes(
         &self,
         passed: &Tables<'_>,
@@ -87,7 +91,11 @@ impl<'a> Unit<'a> {
         let found = bytes_fault(&value);
         lower(
             found,
-            alignment_fault(passed.home(), passed.offset(), asked_bytes(value)),
+            alignment_fault(
+                passed.current_section(),
+                passed.offset(),
+                byte_alignment(value),
+            ),
         )
     }
 
@@ -121,7 +129,10 @@ impl<'a> Unit<'a> {
     {
         let each = self.fault_of_each(passed, ordinal, width, values);
         let bytes = values_size(width, values.len());
-        lower(each, data_fault(passed.home(), passed.offset(), bytes))
+        lower(
+            each,
+            data_fault(passed.current_section(), passed.offset(), bytes),
+        )
     }
 
     /// The fault of strings.
@@ -134,7 +145,7 @@ impl<'a> Unit<'a> {
         ensures { (all : laws.Tables) (o : ℕ) → IsLowest result (faults.directive_faults all (tables_of passed.now) o (Strings ended (map quoted strings.now))) }
     {
         let bytes = strings_size(ended, strings);
-        data_fault(passed.home(), passed.offset(), bytes)
+        data_fault(passed.current_section(), passed.offset(), bytes)
     }
 
     /// The fault of a label: its name is defined before.
@@ -148,8 +159,11 @@ impl<'a> Unit<'a> {
     fn fault_of_instruction(&self, passed: &Tables<'_>) -> Option<SourceCode>
         ensures { IsLowest result (faults.faulty_if (not (sections.current_section (tables_of passed.now).opened).executable || (sections.current_section (tables_of passed.now).opened).nobits) 15) }
     {
-        let home = passed.home();
-        faulty_if(!home.executable || home.nobits, SourceCode::WrongSection)
+        let section = passed.current_section();
+        faulty_if(
+            !section.executable || section.nobits,
+            SourceCode::WrongSection,
+        )
     }
 
     /// The fault of a section that is entered: it is one more than there may be.
@@ -162,12 +176,12 @@ impl<'a> Unit<'a> {
         )
     }
 
-    /// The fault of an option: none was kept.
+    /// The fault of an option: a pop without its push.
     fn fault_of_choice(&self, passed: &Tables<'_>, choice: Choice) -> Option<SourceCode>
-        ensures { IsLowest result (faults.choice_faults (tables_of passed.now).kept choice) }
+        ensures { IsLowest result (faults.choice_faults (tables_of passed.now).option_depth choice) }
     {
         match choice {
-            Choice::Pop => faulty_if(passed.kept == 0, SourceCode::OptionStack),
+            Choice::Pop => faulty_if(passed.option_depth == 0, SourceCode::OptionStack),
             Choice::Rvc => None,
             Choice::Norvc => None,
             Choice::Relax => None,
@@ -198,7 +212,9 @@ impl<'a> Unit<'a> {
                 passed,
                 Section::of(opening.name, opening.flags, opening.kind),
             ),
-            StatementKind::Sets(setting) => self.fault_of_setting(passed, ordinal, setting),
+            StatementKind::Sets(assignment) => self.fault_of_assignment(
+                passed, ordinal, assignment,
+            ),
             StatementKind::AlignsToPower(exponent) => {
                 self.fault_of_power(passed, ordinal, exponent)
             }

@@ -1,18 +1,14 @@
 //! The faults of one statement.
 
 ghost use Rattle.std.specs.Prelude.{◌≡◌, ◌≤◌, ◌<◌, ◌+◌, ◌^◌, ℕ, List, [], ◌∷◌, ◌++◌, Option, Some, None, not, ◌&&◌, ◌||◌, ◌==◌, nat_le, is_some};
-ghost use Rattle.rv_text.specs.Fault.{number_of};
+ghost use Rattle.rv_lexer.specs.Fault.{number_of};
 ghost use Rattle.rv_unit_laws.specs.Faults as laws;
 ghost use Rattle.rv_unit_laws.specs.Tables as tables;
 ghost use Rattle.rv_unit.specs.Faults.{IsLowest, ForValue};
-ghost use Rattle.rv_unit.specs.Sections.{section_of};
+ghost use Rattle.rv_tables.specs.Sections.{section_of};
 
-use crate::align::{LONGEST_SECTION, is_power_below, padding};
-use crate::section::Section;
+use rv_tables::{GREATEST_ALIGNMENT, LONGEST_SECTION, Section, is_power_below, padding};
 use rv_text::{SourceCode, SourceFault, Symbol, Value};
-
-/// The greatest alignment.
-const GREATEST_ALIGNMENT: u64 = 4096;
 
 /// What an expression is worth, or its fault.
 pub(crate) type Outcome<'a> = Result<Value<'a>, SourceFault>;
@@ -90,7 +86,7 @@ pub(crate) fn bytes_fault(value: &Outcome<'_>) -> Option<SourceCode>
     }
 }
 
-/// The fault of a value of data with so many bytes.
+/// The fault of a value of data of a width.
 pub(crate) fn value_fault(width: u64, value: &Outcome<'_>) -> Option<SourceCode>
     ensures { ForValue value.now (λ v. IsLowest result (laws.value_faults width v)) }
 {
@@ -102,7 +98,7 @@ pub(crate) fn value_fault(width: u64, value: &Outcome<'_>) -> Option<SourceCode>
     }
 }
 
-/// The fault of so many bytes of data at an offset.
+/// The fault of data at an offset.
 pub(crate) fn past_section(executable: bool, offset: u64, bytes: u64) -> Option<SourceCode>
     ensures { IsLowest result (laws.past_section executable offset bytes) }
 {
@@ -113,25 +109,32 @@ pub(crate) fn past_section(executable: bool, offset: u64, bytes: u64) -> Option<
     faulty_if(!executable && past, SourceCode::Limit)
 }
 
-/// The fault of data, but for the faults of its values: so many bytes at an offset.
-pub(crate) fn data_fault(home: Section<'_>, offset: u64, bytes: u64) -> Option<SourceCode>
-    ensures { IsLowest result (laws.faulty_if (home.entry.executable || home.entry.nobits) 15 ++ laws.past_section home.entry.executable offset bytes) }
+/// The fault of data at an offset, but for the faults of its values.
+pub(crate) fn data_fault(section: Section<'_>, offset: u64, bytes: u64) -> Option<SourceCode>
+    ensures { IsLowest result (laws.faulty_if (section.entry.executable || section.entry.nobits) 15 ++ laws.past_section section.entry.executable offset bytes) }
 {
-    let misplaced = faulty_if(home.executable || home.nobits, SourceCode::WrongSection);
-    lower(misplaced, past_section(home.executable, offset, bytes))
+    let misplaced = faulty_if(
+        section.executable || section.nobits,
+        SourceCode::WrongSection,
+    );
+    lower(misplaced, past_section(section.executable, offset, bytes))
 }
 
-/// The fault of so many zero bytes, by the value of their count.
-pub(crate) fn zero_fault(home: Section<'_>, offset: u64, value: &Outcome<'_>) -> Option<SourceCode>
-    ensures { ForValue value.now (λ v. IsLowest result (laws.zero_faults (section_of home.entry) offset v)) }
+/// The fault of zero bytes, by the value of their count.
+pub(crate) fn zero_fault(
+    section: Section<'_>,
+    offset: u64,
+    value: &Outcome<'_>,
+) -> Option<SourceCode>
+    ensures { ForValue value.now (λ v. IsLowest result (laws.zero_faults (section_of section.entry) offset v)) }
 {
     let past = match value {
         Ok(Value::Constant(count)) if *count < 1 << 63 => {
-            past_section(home.executable, offset, *count)
+            past_section(section.executable, offset, *count)
         }
         _ => None,
     };
-    let misplaced = faulty_if(home.executable, SourceCode::WrongSection);
+    let misplaced = faulty_if(section.executable, SourceCode::WrongSection);
     lower(size_fault(value), lower(misplaced, past))
 }
 
@@ -152,16 +155,16 @@ fn code_alignment_fault(nobits: bool, alignment: Option<u32>) -> Option<SourceCo
     }
 }
 
-/// The fault of an alignment at an offset, by the number that it asks for.
+/// The fault of an alignment at an offset, by its value.
 pub(crate) fn alignment_fault(
-    home: Section<'_>,
+    section: Section<'_>,
     offset: u64,
     alignment: Option<u32>,
 ) -> Option<SourceCode>
-    ensures { IsLowest result (laws.alignment_faults (section_of home.entry) offset alignment) }
+    ensures { IsLowest result (laws.alignment_faults (section_of section.entry) offset alignment) }
 {
-    if home.executable {
-        return code_alignment_fault(home.nobits, alignment);
+    if section.executable {
+        return code_alignment_fault(section.nobits, alignment);
     }
     if offset > LONGEST_SECTION {
         return Some(SourceCode::Limit);
@@ -169,7 +172,7 @@ pub(crate) fn alignment_fault(
     past_section(false, offset, padding(alignment, offset as u32))
 }
 
-/// The fault of a `.set` that gives no place, of a name that is one of a label or a place before.
+/// The fault of a `.set` that gives no location, of a name that a label or a location has before.
 fn constant_set_fault(placed: bool, value: &Outcome<'_>) -> Option<SourceCode>
     ensures { ForValue value.now (λ v. IsLowest result (laws.constant_faults v ++ laws.faulty_if placed 11)) }
 {
@@ -180,20 +183,20 @@ fn constant_set_fault(placed: bool, value: &Outcome<'_>) -> Option<SourceCode>
 }
 
 /// The fault of a `.set` in a section, by the value of its expression, where the name has a definition before, and one as a
-/// label or a place.
+/// label or a location.
 pub(crate) fn set_fault(
-    home: Section<'_>,
+    section: Section<'_>,
     defined: bool,
     placed: bool,
     value: &Outcome<'_>,
 ) -> Option<SourceCode>
-    ensures { (t : tables.Tables) (ordinal : ℕ) (name : List ℕ) → defined ≡ tables.is_defined t ordinal name → placed ≡ tables.has_place t ordinal name
-        → ForValue value.now (λ v. IsLowest result (laws.set_faults t ordinal (section_of home.entry) name v)) }
+    ensures { (t : tables.Tables) (ordinal : ℕ) (name : List ℕ) → defined ≡ tables.is_defined t ordinal name → placed ≡ tables.has_location t ordinal name
+        → ForValue value.now (λ v. IsLowest result (laws.set_faults t ordinal (section_of section.entry) name v)) }
 {
     match value {
         Ok(Value::Symbolic(Symbol::Here, _)) => lower(
             faulty_if(defined, SourceCode::DuplicateLabel),
-            faulty_if(home.executable, SourceCode::WrongSection),
+            faulty_if(section.executable, SourceCode::WrongSection),
         ),
         Ok(Value::Symbolic(Symbol::Name(_), _))
         | Ok(Value::Symbolic(Symbol::Backward(_), _))

@@ -1,25 +1,32 @@
-//! One source: its sections, where its statements stand, and what its names mean.
+//! One source: its sections, where its statements stand, what its names mean, and its first fault beyond syntax.
+//!
+//! `Unit::build` takes the statements of a source and gives them with the tables that `rv_tables` fills, or the first
+//! faulty label, directive or misplaced instruction: clauses `good` and `refuses` of its contract say that it refuses
+//! exactly the sources for which `rv_unit_laws`'s `first_fault` finds one, and names that. `Scope` goes over the
+//! statements one by one and tells what a name means in each (`meaning`, `value`) and where it is defined (`definition`).
+//!
+//! It knows no text, no instruction, no address and no other source.
+//!
+//! ```text
+//! let unit = Unit::build(alloc, statements)?;
+//! let mut scope = Scope::new(&unit);
+//! let value = scope.value(unit.places()[0], expression, 1)?;
+//! let definition = scope.definition(Symbol::Name(b"loop"));
+//! scope.pass();
+//! ```
 //!
 //! Source: GNU as, "Sections", "Symbols", "Expressions" and "Pseudo Ops".
 #![tactic(auto)]
 
-mod align;
 mod check;
 mod faults;
-mod fill;
-mod marks;
 mod names;
-mod number;
-mod place;
 mod scope;
-mod section;
-mod settings;
-mod tables;
 mod unit;
 
-pub use align::{LONGEST_SECTION, asked_bytes, asked_power, padding, strings_size, values_size};
-pub use place::{Home, Place};
+pub use rv_tables::{
+    Assignment, Definition, Extent, LONGEST_SECTION, Section, SectionOffset, byte_alignment,
+    padding, power_alignment, strings_size, values_size,
+};
 pub use scope::Scope;
-pub use section::{Extent, Section};
-pub use tables::Given;
 pub use unit::Unit;

@@ -8,18 +8,23 @@ ghost use Rattle.rv_text.specs.Expr.{tree_of_expr};
 ghost use Rattle.rv_text.specs.Eval.{meaning_of, IsOutcome};
 ghost use Rattle.rv_unit_laws.specs.Tables as laws;
 ghost use Rattle.rv_unit_laws.proofs.Before.{IsBefore};
-ghost use Rattle.rv_unit.specs.Sections.{place_of};
-ghost use Rattle.rv_unit.specs.Tables.{tables_of, IsIndexed};
+ghost use Rattle.rv_tables.specs.Sections.{offset_of};
+ghost use Rattle.rv_tables.specs.Tables.{tables_of, IsIndexed};
 ghost use Rattle.rv_unit.specs.Unit.{said, passed, IsFilled};
 
-use crate::place::Place;
 use crate::unit::Unit;
+use rv_tables::SectionOffset;
 use rv_text::{Expr, Meaning, SourceFault, Symbol, Value, eval};
 
 impl<'a> Unit<'a> {
-    /// What a symbol means in the statement of an ordinal, which stands at the place.
-    pub(crate) fn meaning(&self, ordinal: usize, place: Place, symbol: Symbol<'_>) -> Meaning
-        ensures { (o : ℕ) → IsFilled self.now → ordinal ≡ o → meaning_of result ≡ laws.meaning (laws.tables (said self.now)) true o (place_of place) (symbol_of symbol.entry) }
+    /// What a symbol means in the statement of an ordinal, which stands at the offset.
+    pub(crate) fn meaning(
+        &self,
+        ordinal: usize,
+        place: SectionOffset,
+        symbol: Symbol<'_>,
+    ) -> Meaning
+        ensures { (o : ℕ) → IsFilled self.now → ordinal ≡ o → meaning_of result ≡ laws.meaning (laws.tables (said self.now)) true o (offset_of place) (symbol_of symbol.entry) }
     {
         match symbol {
             Symbol::Name(name) => self.named(ordinal, name),
@@ -33,11 +38,11 @@ impl<'a> Unit<'a> {
     pub(crate) fn value<'e>(
         &self,
         ordinal: usize,
-        place: Place,
+        place: SectionOffset,
         expression: &Expr<'e>,
         line: u32,
     ) -> Result<Value<'e>, SourceFault>
-        ensures { (o : ℕ) → IsFilled self.now → ordinal ≡ o → IsOutcome result line (laws.value (laws.tables (said self.now)) true o (place_of place) (tree_of_expr expression.now)) }
+        ensures { (o : ℕ) → IsFilled self.now → ordinal ≡ o → IsOutcome result line (laws.value (laws.tables (said self.now)) true o (offset_of place) (tree_of_expr expression.now)) }
     {
         eval(
             expression,
@@ -50,28 +55,28 @@ impl<'a> Unit<'a> {
     fn named(&self, ordinal: usize, name: &[u8]) -> Meaning
         ensures { IsIndexed (self.now).tables → (o : ℕ) → IsBefore (tables_of (self.now).tables) o → meaning_of result ≡ laws.named (tables_of (self.now).tables) true ordinal name.now }
     {
-        match self.tables.setting_before(ordinal, name) {
-            Some(setting) => setting.meaning,
+        match self.tables.assignment_before(ordinal, name) {
+            Some(assignment) => assignment.meaning,
             None => self.labelled(name),
         }
     }
 
     /// What a name means that is not set before.
     fn labelled(&self, name: &[u8]) -> Meaning
-        ensures { IsIndexed (self.now).tables → meaning_of result ≡ laws.labelled (tables_of (self.now).tables).opened (laws.label_of (tables_of (self.now).tables).labels true 0 name.now) (laws.set_later true (laws.set_ever (tables_of (self.now).tables).settings name.now)) }
+        ensures { IsIndexed (self.now).tables → meaning_of result ≡ laws.labelled (tables_of (self.now).tables).opened (laws.label_of (tables_of (self.now).tables).labels true 0 name.now) (laws.assigned_later true (laws.assigned_ever (tables_of (self.now).tables).assignments name.now)) }
     {
         match self.tables.label(name) {
             Some(label) => self.tables.stands(label.place),
-            None => self.set_later(name),
+            None => self.assigned_later(name),
         }
     }
 
-    /// What a name means that is only set later: a place that it has then, or another file's.
-    fn set_later(&self, name: &[u8]) -> Meaning
-        ensures { IsIndexed (self.now).tables → meaning_of result ≡ laws.set_later true (laws.set_ever (tables_of (self.now).tables).settings name.now) }
+    /// What a name means that is only set later: a location that it has then, or another file's.
+    fn assigned_later(&self, name: &[u8]) -> Meaning
+        ensures { IsIndexed (self.now).tables → meaning_of result ≡ laws.assigned_later true (laws.assigned_ever (tables_of (self.now).tables).assignments name.now) }
     {
-        match self.tables.setting(name) {
-            Some(setting) => match setting.meaning {
+        match self.tables.assignment(name) {
+            Some(assignment) => match assignment.meaning {
                 Meaning::Constant(_) => Meaning::NotConstant,
                 meaning => meaning,
             },
@@ -81,27 +86,32 @@ impl<'a> Unit<'a> {
 
     /// What the nearest numeric label before means.
     fn backward(&self, ordinal: usize, digits: &[u8]) -> Meaning
-        ensures { IsIndexed (self.now).tables → (o : ℕ) → IsBefore (tables_of (self.now).tables) o → meaning_of result ≡ laws.backward_in (tables_of (self.now).tables).opened (laws.marked_before (tables_of (self.now).tables).marks ordinal (digits_value 10 digits.now)) }
+        ensures { IsIndexed (self.now).tables → (o : ℕ) → IsBefore (tables_of (self.now).tables) o → meaning_of result ≡ laws.backward_in (tables_of (self.now).tables).opened (laws.numeric_label_before (tables_of (self.now).tables).numeric_labels ordinal (digits_value 10 digits.now)) }
     {
-        match self.tables.marked_before(ordinal, digits) {
-            Some(mark) => self.tables.stands(mark.place),
+        match self.tables.numeric_label_before(ordinal, digits) {
+            Some(numeric_label) => self.tables.stands(numeric_label.place),
             None => Meaning::UndefinedLocal,
         }
     }
 
-    /// What the nearest numeric label behind means.
+    /// What the nearest numeric label after means.
     fn forward(&self, ordinal: usize, digits: &[u8]) -> Meaning
-        ensures { IsIndexed (self.now).tables → (o : ℕ) → IsBefore (tables_of (self.now).tables) o → meaning_of result ≡ laws.forward_in (tables_of (self.now).tables).opened true (laws.marked_after (tables_of (self.now).tables).marks ordinal (digits_value 10 digits.now)) }
+        ensures { IsIndexed (self.now).tables → (o : ℕ) → IsBefore (tables_of (self.now).tables) o → meaning_of result ≡ laws.forward_in (tables_of (self.now).tables).opened true (laws.numeric_label_after (tables_of (self.now).tables).numeric_labels ordinal (digits_value 10 digits.now)) }
     {
-        match self.tables.marked_after(ordinal, digits) {
-            Some(mark) => self.tables.stands(mark.place),
+        match self.tables.numeric_label_after(ordinal, digits) {
+            Some(numeric_label) => self.tables.stands(numeric_label.place),
             None => Meaning::UndefinedLocal,
         }
     }
 
-    /// What a symbol means in the statement of an ordinal, which stands at the place, where later definitions do not count.
-    pub(crate) fn early_meaning(&self, ordinal: usize, place: Place, symbol: Symbol<'_>) -> Meaning
-        ensures { (o : ℕ) → IsFilled self.now → ordinal ≡ o → meaning_of result ≡ laws.meaning (laws.tables (said self.now)) false o (place_of place) (symbol_of symbol.entry) }
+    /// What a symbol means in the statement of an ordinal, which stands at the offset, where later definitions do not count.
+    pub(crate) fn early_meaning(
+        &self,
+        ordinal: usize,
+        place: SectionOffset,
+        symbol: Symbol<'_>,
+    ) -> Meaning
+        ensures { (o : ℕ) → IsFilled self.now → ordinal ≡ o → meaning_of result ≡ laws.meaning (laws.tables (said self.now)) false o (offset_of place) (symbol_of symbol.entry) }
     {
         match symbol {
             Symbol::Name(name) => self.early_named(ordinal, name),
@@ -115,10 +125,10 @@ impl<'a> Unit<'a> {
     pub(crate) fn early_value(
         &self,
         ordinal: usize,
-        place: Place,
+        place: SectionOffset,
         expression: &Expr<'a>,
     ) -> Result<Value<'a>, SourceFault>
-        ensures { (o : ℕ) → IsFilled self.now → ordinal ≡ o → IsOutcome result 0 (laws.value (laws.tables (said self.now)) false o (place_of place) (tree_of_expr expression.now)) }
+        ensures { (o : ℕ) → IsFilled self.now → ordinal ≡ o → IsOutcome result 0 (laws.value (laws.tables (said self.now)) false o (offset_of place) (tree_of_expr expression.now)) }
     {
         eval(
             expression,
@@ -131,8 +141,8 @@ impl<'a> Unit<'a> {
     fn early_named(&self, ordinal: usize, name: &[u8]) -> Meaning
         ensures { IsIndexed (self.now).tables → (o : ℕ) → IsBefore (tables_of (self.now).tables) o → meaning_of result ≡ laws.named (tables_of (self.now).tables) false ordinal name.now }
     {
-        match self.tables.setting_before(ordinal, name) {
-            Some(setting) => setting.meaning,
+        match self.tables.assignment_before(ordinal, name) {
+            Some(assignment) => assignment.meaning,
             None => self.early_labelled(ordinal, name),
         }
     }
@@ -147,20 +157,20 @@ impl<'a> Unit<'a> {
         }
     }
 
-    /// What a numeric label behind means: no constant, if there is one.
+    /// What a numeric label after means: no constant, if there is one.
     fn early_forward(&self, ordinal: usize, digits: &[u8]) -> Meaning
-        ensures { IsIndexed (self.now).tables → (o : ℕ) → IsBefore (tables_of (self.now).tables) o → meaning_of result ≡ laws.forward_in (tables_of (self.now).tables).opened false (laws.marked_after (tables_of (self.now).tables).marks ordinal (digits_value 10 digits.now)) }
+        ensures { IsIndexed (self.now).tables → (o : ℕ) → IsBefore (tables_of (self.now).tables) o → meaning_of result ≡ laws.forward_in (tables_of (self.now).tables).opened false (laws.numeric_label_after (tables_of (self.now).tables).numeric_labels ordinal (digits_value 10 digits.now)) }
     {
-        match self.tables.marked_after(ordinal, digits) {
+        match self.tables.numeric_label_after(ordinal, digits) {
             Some(_) => Meaning::NotConstant,
             None => Meaning::UndefinedLocal,
         }
     }
 
-    /// What a symbol means in the statement of an ordinal by the statements before it alone, where nothing comes behind it.
-    fn past_meaning(&self, ordinal: usize, place: Place, symbol: Symbol<'_>) -> Meaning
+    /// What a symbol means in the statement of an ordinal by the statements before it alone, where nothing comes after it.
+    fn past_meaning(&self, ordinal: usize, place: SectionOffset, symbol: Symbol<'_>) -> Meaning
         ensures { (index : ℕ) → IsFilled self.now → index ≤ length (said self.now) → ordinal ≡ index + 1 → place.section < length (passed (said self.now) index).opened.sections
-            → meaning_of result ≡ laws.meaning (passed (said self.now) index) false (index + 1) (place_of place) (symbol_of symbol.entry) }
+            → meaning_of result ≡ laws.meaning (passed (said self.now) index) false (index + 1) (offset_of place) (symbol_of symbol.entry) }
     {
         match symbol {
             Symbol::Forward(_) => Meaning::UndefinedLocal,
@@ -172,11 +182,11 @@ impl<'a> Unit<'a> {
     pub(crate) fn past_value(
         &self,
         ordinal: usize,
-        place: Place,
+        place: SectionOffset,
         expression: &Expr<'a>,
     ) -> Result<Value<'a>, SourceFault>
         ensures { (index : ℕ) → IsFilled self.now → index ≤ length (said self.now) → ordinal ≡ index + 1 → place.section < length (passed (said self.now) index).opened.sections
-            → IsOutcome result 0 (laws.value (passed (said self.now) index) false (index + 1) (place_of place) (tree_of_expr expression.now)) }
+            → IsOutcome result 0 (laws.value (passed (said self.now) index) false (index + 1) (offset_of place) (tree_of_expr expression.now)) }
     {
         eval(
             expression,

@@ -6,15 +6,13 @@ ghost use Rattle.rv_text.specs.Expr.{tree_of_expr};
 ghost use Rattle.rv_text.specs.Eval.{meaning_of, IsOutcome};
 ghost use Rattle.rv_unit_laws.specs.Tables as laws;
 ghost use Rattle.rv_unit_laws.proofs.Before.{IsBefore};
-ghost use Rattle.rv_unit.specs.Sections.{place_of};
-ghost use Rattle.rv_unit.specs.Tables.{tables_of, marked_of, setting_of, IsIndexed};
-ghost use Rattle.rv_unit.specs.Unit.{said, passed, home_of, IsFilled, IsScope};
+ghost use Rattle.rv_tables.specs.Sections.{offset_of};
+ghost use Rattle.rv_tables.specs.Tables.{tables_of, numeric_label_of, assignment_of, IsIndexed};
+ghost use Rattle.rv_unit.specs.Unit.{said, passed, definition_of, IsFilled, IsScope};
 
-use crate::fill::given;
-use crate::place::{Home, Place};
-use crate::tables::{Given, Mark};
 use crate::unit::Unit;
 use rv_statement::Setting;
+use rv_tables::{Assignment, Definition, NumericLabel, SectionOffset, assigned};
 use rv_text::{Expr, Meaning, SourceFault, Symbol, Value};
 
 /// Names as the statements see them, one after the other.
@@ -26,28 +24,28 @@ pub struct Scope<'u, 'a> {
 }
 
 /// Where a numeric label stands.
-fn home_of_mark(mark: Option<Mark<'_>>) -> Option<Home>
-    ensures { option_map home_of result ≡ laws.home_marked (option_map marked_of mark.entry) }
+fn definition_of_numeric_label(numeric_label: Option<NumericLabel<'_>>) -> Option<Definition>
+    ensures { option_map definition_of result ≡ laws.numeric_definition (option_map numeric_label_of numeric_label.entry) }
 {
-    match mark {
-        Some(mark) => Some(Home {
-            ordinal: mark.ordinal,
+    match numeric_label {
+        Some(numeric_label) => Some(Definition {
+            ordinal: numeric_label.ordinal,
             plus: 0,
         }),
         None => None,
     }
 }
 
-/// Where a name stands that is set, if it is a place.
-fn home_of_setting(setting: Option<Given<'_>>) -> Option<Home>
-    ensures { option_map home_of result ≡ laws.home_set (option_map setting_of setting.entry) }
+/// The definition of a name that is assigned, if it is a location.
+fn definition_of_assignment(assignment: Option<Assignment<'_>>) -> Option<Definition>
+    ensures { option_map definition_of result ≡ laws.assigned_definition (option_map assignment_of assignment.entry) }
 {
-    match setting {
-        Some(setting) => {
-            if setting.is_place() {
-                Some(Home {
-                    ordinal: setting.ordinal,
-                    plus: setting.plus,
+    match assignment {
+        Some(assignment) => {
+            if assignment.is_location() {
+                Some(Definition {
+                    ordinal: assignment.ordinal,
+                    plus: assignment.plus,
                 })
             } else {
                 None
@@ -66,76 +64,82 @@ impl<'u, 'a> Scope<'u, 'a> {
         Scope { unit, ordinal: 1 }
     }
 
-    /// What a symbol means in the statement that is next, which stands at the place.
-    pub fn meaning(&self, place: Place, symbol: Symbol<'a>) -> Meaning
-        ensures { (index : ℕ) → IsFilled (self.now).unit.now → IsScope self.now index → meaning_of result ≡ laws.meaning (laws.tables (said (self.now).unit.now)) true (index + 1) (place_of place) (symbol_of symbol.entry) }
+    /// What a symbol means in the statement that is next, which stands at the offset.
+    pub fn meaning(&self, place: SectionOffset, symbol: Symbol<'a>) -> Meaning
+        ensures { (index : ℕ) → IsFilled (self.now).unit.now → IsScope self.now index → meaning_of result ≡ laws.meaning (laws.tables (said (self.now).unit.now)) true (index + 1) (offset_of place) (symbol_of symbol.entry) }
     {
         self.unit.meaning(self.ordinal, place, symbol)
     }
 
     /// Where a symbol of the statement that is next stands in this source; none where it is another file's.
-    pub fn home(&self, symbol: Symbol<'a>) -> Option<Home>
-        ensures { (index : ℕ) → IsFilled (self.now).unit.now → IsScope self.now index → option_map home_of result ≡ laws.home (laws.tables (said (self.now).unit.now)) (index + 1) (symbol_of symbol.entry) }
+    pub fn definition(&self, symbol: Symbol<'a>) -> Option<Definition>
+        ensures { (index : ℕ) → IsFilled (self.now).unit.now → IsScope self.now index → option_map definition_of result ≡ laws.definition (laws.tables (said (self.now).unit.now)) (index + 1) (symbol_of symbol.entry) }
     {
         match symbol {
-            Symbol::Name(name) => self.home_of_name(name),
-            Symbol::Here => Some(Home {
+            Symbol::Name(name) => self.definition_of_name(name),
+            Symbol::Here => Some(Definition {
                 ordinal: self.ordinal,
                 plus: 0,
             }),
             Symbol::Backward(digits) => {
-                home_of_mark(self.unit.tables.marked_before(self.ordinal, digits))
+                definition_of_numeric_label(
+                    self.unit.tables.numeric_label_before(self.ordinal, digits),
+                )
             }
             Symbol::Forward(digits) => {
-                home_of_mark(self.unit.tables.marked_after(self.ordinal, digits))
+                definition_of_numeric_label(
+                    self.unit.tables.numeric_label_after(self.ordinal, digits),
+                )
             }
         }
     }
 
     /// Where a name stands.
-    fn home_of_name(&self, name: &[u8]) -> Option<Home>
-        ensures { IsIndexed (self.now).unit.now.tables → (o : ℕ) → IsBefore (tables_of (self.now).unit.now.tables) o → option_map home_of result ≡ laws.home_first (laws.home_set (laws.set_before (tables_of (self.now).unit.now.tables).settings (self.now).ordinal name.now)) (laws.home_labelled (laws.label_of (tables_of (self.now).unit.now.tables).labels true 0 name.now) (laws.home_set (laws.set_ever (tables_of (self.now).unit.now.tables).settings name.now))) }
+    fn definition_of_name(&self, name: &[u8]) -> Option<Definition>
+        ensures { IsIndexed (self.now).unit.now.tables → (o : ℕ) → IsBefore (tables_of (self.now).unit.now.tables) o → option_map definition_of result ≡ laws.first_definition (laws.assigned_definition (laws.assigned_before (tables_of (self.now).unit.now.tables).assignments (self.now).ordinal name.now)) (laws.labelled_definition (laws.label_of (tables_of (self.now).unit.now.tables).labels true 0 name.now) (laws.assigned_definition (laws.assigned_ever (tables_of (self.now).unit.now.tables).assignments name.now))) }
     {
-        if let Some(home) = home_of_setting(self.unit.tables.setting_before(self.ordinal, name)) {
-            return Some(home);
+        if let Some(definition) = definition_of_assignment(
+            self.unit.tables.assignment_before(self.ordinal, name),
+        ) {
+            return Some(definition);
         }
         match self.unit.tables.label(name) {
-            Some(label) => Some(Home {
+            Some(label) => Some(Definition {
                 ordinal: label.ordinal,
                 plus: 0,
             }),
-            None => home_of_setting(self.unit.tables.setting(name)),
+            None => definition_of_assignment(self.unit.tables.assignment(name)),
         }
     }
 
-    /// The value of an expression of the statement that is next, which stands at the place; a fault has this line.
+    /// The value of an expression of the statement that is next, which stands at the offset; a fault has this line.
     pub fn value<'e>(
         &self,
-        place: Place,
+        place: SectionOffset,
         expression: &Expr<'e>,
         line: u32,
     ) -> Result<Value<'e>, SourceFault>
-        ensures { (index : ℕ) → IsFilled (self.now).unit.now → IsScope self.now index → IsOutcome result line (laws.value (laws.tables (said (self.now).unit.now)) true (index + 1) (place_of place) (tree_of_expr expression.now)) }
+        ensures { (index : ℕ) → IsFilled (self.now).unit.now → IsScope self.now index → IsOutcome result line (laws.value (laws.tables (said (self.now).unit.now)) true (index + 1) (offset_of place) (tree_of_expr expression.now)) }
     {
         self.unit.value(self.ordinal, place, expression, line)
     }
 
-    /// Whether the `.set` that is the next statement, which stands at the place, gives a place.
-    pub fn gives_place(&self, place: Place, setting: &Setting<'a>) -> bool
-        ensures { (index : ℕ) → IsFilled (self.now).unit.now → IsScope self.now index → place_of place ≡ laws.here (passed (said (self.now).unit.now) index)
-            → result ≡ laws.gives_place (laws.given (setting.now).name.now (index + 1) (laws.value (passed (said (self.now).unit.now) index) false (index + 1) (laws.here (passed (said (self.now).unit.now) index)) (tree_of_expr (setting.now).expression))) }
+    /// Whether the `.set` that is the next statement, which stands at the offset, gives a location.
+    pub fn gives_location(&self, place: SectionOffset, assignment: &Setting<'a>) -> bool
+        ensures { (index : ℕ) → IsFilled (self.now).unit.now → IsScope self.now index → offset_of place ≡ laws.here (passed (said (self.now).unit.now) index)
+            → result ≡ laws.gives_location (laws.assigned (assignment.now).name.now (index + 1) (laws.value (passed (said (self.now).unit.now) index) false (index + 1) (laws.here (passed (said (self.now).unit.now) index)) (tree_of_expr (assignment.now).expression))) }
     {
         let here = self.unit.tables.stands(place);
         let value = self
             .unit
-            .past_value(self.ordinal, place, &setting.expression);
-        match given(here, self.ordinal, setting.name, value) {
-            Some(given) => given.is_place(),
+            .past_value(self.ordinal, place, &assignment.expression);
+        match assigned(here, self.ordinal, assignment.name, value) {
+            Some(assigned) => assigned.is_location(),
             None => false,
         }
     }
 
-    /// Goes on behind the next statement, if there is one.
+    /// Goes on after the next statement, if there is one.
     pub fn pass(&mut self)
         ensures unit { (self.new).unit ≡ (self.old).unit }
         ensures passes { (index : ℕ) → index < length (said (self.old).unit.now) → IsScope self.old index → IsScope self.new (index + 1) }

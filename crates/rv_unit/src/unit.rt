@@ -3,14 +3,12 @@
 ghost use Rattle.std.specs.Prelude.{◌≡◌, None, map, option_map, IfOk, IfErr};
 ghost use Rattle.rv_statement.specs.View.{said_by};
 ghost use Rattle.rv_unit_laws.specs.Faults.{first_fault};
-ghost use Rattle.rv_unit_laws.specs.Tables.{set_ever};
-ghost use Rattle.rv_unit.specs.Tables.{tables_of, setting_of};
+ghost use Rattle.rv_unit_laws.specs.Tables.{assigned_ever};
+ghost use Rattle.rv_tables.specs.Tables.{tables_of, assignment_of};
 ghost use Rattle.rv_unit.specs.Unit.{said, IsFilled, NamesFirst};
 
-use crate::place::Place;
-use crate::section::Extent;
-use crate::tables::{Given, Tables};
 use rv_statement::Statement;
+use rv_tables::{Assignment, Extent, SectionOffset, Tables};
 use rv_text::SourceFault;
 use std::alloc::{AllocError, Global};
 
@@ -18,12 +16,12 @@ use std::alloc::{AllocError, Global};
 #[derive(Drop)]
 pub struct Unit<'a> {
     pub(crate) statements: Vec<Statement<'a>>,
-    pub(crate) places: Vec<Place>,
+    pub(crate) places: Vec<SectionOffset>,
     pub(crate) tables: Tables<'a>,
 }
 
 impl<'a> Unit<'a> {
-    /// The statements with their places, their sections and their names; or the first faulty label or directive, or
+    /// The statements with their offsets, their sections and their names; or the first faulty label or directive, or
     /// instruction outside code, at the line of its statement.
     pub fn build(alloc: Global, statements: Vec<Statement<'a>>) -> Result<Unit<'a>, SourceFault>
         ensures filled { IfOk result (λ u. IsFilled u) }
@@ -39,7 +37,7 @@ impl<'a> Unit<'a> {
         }
     }
 
-    /// The statements with their places, their sections and their names.
+    /// The statements with their offsets, their sections and their names.
     fn fill(alloc: Global, statements: Vec<Statement<'a>>) -> Result<Unit<'a>, AllocError>
         ensures filled { IfOk result (λ u. IsFilled u) }
         ensures same { IfOk result (λ u. u.statements ≡ statements.entry) }
@@ -60,8 +58,8 @@ impl<'a> Unit<'a> {
         self.statements.as_slice()
     }
 
-    /// The place of each statement.
-    pub fn places(&self) -> &[Place]
+    /// The section and the offset of each statement.
+    pub fn places(&self) -> &[SectionOffset]
         ensures { result.now ≡ (self.now).places.items }
     {
         self.places.as_slice()
@@ -74,16 +72,16 @@ impl<'a> Unit<'a> {
         self.tables.extents.as_slice()
     }
     /// What the `.set`s give, in their order.
-    pub fn settings(&self) -> &[Given<'a>]
-        ensures { result.now ≡ (self.now).tables.settings.items }
+    pub fn assignments(&self) -> &[Assignment<'a>]
+        ensures { result.now ≡ (self.now).tables.assignments.items }
     {
-        self.tables.settings.as_slice()
+        self.tables.assignments.as_slice()
     }
 
     /// What `.set` gives a name last.
-    pub fn setting(&self, name: &[u8]) -> Option<Given<'a>>
-        ensures { IsFilled self.now → option_map setting_of result ≡ set_ever (tables_of (self.now).tables).settings name.now }
+    pub fn assignment(&self, name: &[u8]) -> Option<Assignment<'a>>
+        ensures { IsFilled self.now → option_map assignment_of result ≡ assigned_ever (tables_of (self.now).tables).assignments name.now }
     {
-        self.tables.setting(name)
+        self.tables.assignment(name)
     }
 }

@@ -6,31 +6,32 @@ use Rattle.std.specs.List.{find, list_all, list_any}
 use Rattle.std.specs.Str.{bytes_eq}
 use Rattle.std.proofs.lemmas.Bool.{ltb-true, ltb-false, lt-ltb}
 use Rattle.std.proofs.lemmas.List.Folds.{list_all-append}
-use Rattle.rv_text_laws.specs.Values.{Meaning, Known, Placed, Open, Refused, Value, Constant, Symbolic, Difference, Faulty, add}
+use Rattle.rv_text_laws.specs.Values.{Meaning, Known, InSection, Open, Refused, Value, Constant, Symbolic, Difference, Faulty, add}
 use Rattle.rv_text_laws.specs.Expression.{Literal, Symbol, Here, Reference}
-use Rattle.rv_statement.specs.Statement.{Statement, Label, Numbered, Instruction, Directs, Spoken, Directive, Enters, Opens, Globl, Local, Sets, Aligns_to_power, Aligns_to_bytes, Values, Strings, Zeros, Chooses, Ignored}
+use Rattle.rv_statement.specs.Statement.{Statement, Label, Numbered, Instruction, Directs, Spoken, Expression, Directive, Sets}
 use Rattle.rv_statement.specs.declared.directive.Choice.{Choice}
-use Rattle.rv_statement.specs.declared.directive.Choice.TheVariants.{Rvc, Norvc, Relax, Norelax, Push, Pop, Nopic}
-use Rattle.rv_unit_laws.specs.Sections.{Section, Opened, current_section, entered, entered_by}
-use Rattle.rv_unit_laws.specs.Tables.{Tables, Labelled, Marked, Setting, at_start, here, after, after_directive, after_all, value, given, with_label, with_mark, with_setting, with_section, with_data, with_choice, opened_more, label_of, set_before, set_ever, has_place, is_defined, may_set, is_placed_setting, data_bytes, asked}
+use Rattle.rv_statement.specs.declared.directive.Choice.TheVariants.{Push, Pop}
+use Rattle.rv_unit_laws.specs.Sections.{Section, entered, entered_by}
+use Rattle.rv_unit_laws.specs.Contributions.{Contribution, Nothing, Bytes, Zero_bytes, Alignment, contribution}
+use Rattle.rv_unit_laws.specs.Tables.{Tables, Labelled, NumericLabel, Assignment, at_start, here, after, after_directive, after_all, value, assigned, assigned_by, chosen, with_label, with_numeric_label, with_assignment, with_section, with_contribution, with_choice, with_chosen, opened_more, label_of, assigned_before, assigned_ever, has_location, is_defined, may_set, is_location}
 use Rattle.rv_unit_laws.proofs.Found.{and_both, find_all, find_all_swapped, any_all, find_none, all_weaker, same_bytes}
 
 abbrev pub all_labels : ℕ → List Labelled → Bool
 all_labels o labels = list_all (λ l. nat_lt l.ordinal o) labels
 
-abbrev pub all_marks : ℕ → List Marked → Bool
-all_marks o marks = list_all (λ m. nat_lt m.ordinal o) marks
+abbrev pub all_numeric_labels : ℕ → List NumericLabel → Bool
+all_numeric_labels o numeric_labels = list_all (λ m. nat_lt m.ordinal o) numeric_labels
 
-abbrev pub all_settings : ℕ → List Setting → Bool
-all_settings o settings = list_all (λ s. nat_lt s.ordinal o) settings
+abbrev pub all_assignments : ℕ → List Assignment → Bool
+all_assignments o assignments = list_all (λ s. nat_lt s.ordinal o) assignments
 
--- whether the latest setting of a name, if any, is a place
-abbrev pub placed_latest : Option Setting → Bool
+-- whether the latest assignment of a name, if any, is a location
+abbrev pub placed_latest : Option Assignment → Bool
 placed_latest None = false
-placed_latest (Some s) = is_placed_setting s
+placed_latest (Some s) = is_location s
 
-abbrev pub placed_ever : List Setting → List ℕ → Bool
-placed_ever settings name = list_any (λ s. bytes_eq s.name name && is_placed_setting s) settings
+abbrev pub placed_ever : List Assignment → List ℕ → Bool
+placed_ever assignments name = list_any (λ s. bytes_eq s.name name && is_location s) assignments
 
 -- each has a lower number than those after it in the list, and each a higher one
 abbrev pub rises : {X : Type 0} → (X → ℕ) → List X → Bool
@@ -41,16 +42,16 @@ abbrev pub falls : {X : Type 0} → (X → ℕ) → List X → Bool
 falls at [] = true
 falls at (x ∷ xs) = list_all (λ y. nat_lt (at y) (at x)) xs && falls at xs
 
--- names, numeric labels and settings stand before the ordinal, labels with the latest last, numeric labels and settings
--- with the latest first; a name that was ever a place still is
+-- names, numeric labels and assignments stand before the ordinal, labels with the latest last, numeric labels and assignments
+-- with the latest first; a name that was ever a location still is
 pub record IsBefore (t : Tables) (o : ℕ) : Type 0 where
   pub labels : all_labels o t.labels ≡ true
   pub labels_rise : rises (λ (l : Labelled). l.ordinal) t.labels ≡ true
-  pub marks : all_marks o t.marks ≡ true
-  pub marks_fall : falls (λ (m : Marked). m.ordinal) t.marks ≡ true
-  pub settings : all_settings o t.settings ≡ true
-  pub settings_fall : falls (λ (s : Setting). s.ordinal) t.settings ≡ true
-  pub placed : (name : List ℕ) → placed_ever t.settings name ≡ placed_latest (set_ever t.settings name)
+  pub numeric_labels : all_numeric_labels o t.numeric_labels ≡ true
+  pub numeric_labels_fall : falls (λ (m : NumericLabel). m.ordinal) t.numeric_labels ≡ true
+  pub assignments : all_assignments o t.assignments ≡ true
+  pub assignments_fall : falls (λ (s : Assignment). s.ordinal) t.assignments ≡ true
+  pub placed : (name : List ℕ) → placed_ever t.assignments name ≡ placed_latest (assigned_ever t.assignments name)
 
 next : (a o : ℕ) → nat_lt a o ≡ true → nat_lt a (suc o) ≡ true
 next a o h = let l : a < o = ltb-true a o h in lt-ltb a (suc o) (omega arith)
@@ -63,21 +64,21 @@ pub before_next : (t : Tables) (o : ℕ) → IsBefore t o → IsBefore t (suc o)
 before_next t o h = record {
   labels = all_weaker (λ l. nat_lt l.ordinal o) (λ l. nat_lt l.ordinal (suc o)) t.labels (λ l. next l.ordinal o) h.labels;
   labels_rise = h.labels_rise;
-  marks = all_weaker (λ m. nat_lt m.ordinal o) (λ m. nat_lt m.ordinal (suc o)) t.marks (λ m. next m.ordinal o) h.marks;
-  marks_fall = h.marks_fall;
-  settings = all_weaker (λ s. nat_lt s.ordinal o) (λ s. nat_lt s.ordinal (suc o)) t.settings (λ s. next s.ordinal o) h.settings;
-  settings_fall = h.settings_fall;
+  numeric_labels = all_weaker (λ m. nat_lt m.ordinal o) (λ m. nat_lt m.ordinal (suc o)) t.numeric_labels (λ m. next m.ordinal o) h.numeric_labels;
+  numeric_labels_fall = h.numeric_labels_fall;
+  assignments = all_weaker (λ s. nat_lt s.ordinal o) (λ s. nat_lt s.ordinal (suc o)) t.assignments (λ s. next s.ordinal o) h.assignments;
+  assignments_fall = h.assignments_fall;
   placed = h.placed;
 }
 
--- what a statement before sees: labels, settings
+-- what a statement before sees: labels, assignments
 pub label_before : (t : Tables) (o : ℕ) (name : List ℕ) → IsBefore t o → label_of t.labels false o name ≡ label_of t.labels true 0 name
 label_before t o name h =
     find_all_swapped (λ l. bytes_eq l.name name) (λ l. nat_lt l.ordinal o) t.labels h.labels
     ∙ sym (find_all_swapped (λ l. bytes_eq l.name name) (λ l. true) t.labels (all_weaker (λ l. nat_lt l.ordinal o) (λ l. true) t.labels (λ l _. refl) h.labels))
 
-pub set_now : (t : Tables) (o : ℕ) (name : List ℕ) → IsBefore t o → set_before t.settings o name ≡ set_ever t.settings name
-set_now t o name h = find_all (λ s. bytes_eq s.name name) (λ s. nat_lt s.ordinal o) t.settings h.settings
+pub set_now : (t : Tables) (o : ℕ) (name : List ℕ) → IsBefore t o → assigned_before t.assignments o name ≡ assigned_ever t.assignments name
+set_now t o name h = find_all (λ s. bytes_eq s.name name) (λ s. nat_lt s.ordinal o) t.assignments h.assignments
 
 -- what was found, if it stands before the ordinal
 abbrev pub below : {X : Type 0} → (X → ℕ) → ℕ → Option X → Option X
@@ -123,26 +124,26 @@ any_same p q [] h = refl
 any_same p q (x ∷ xs) h = ap (λ b. b || list_any p xs) (h x) ∙ ap (λ r. q x || r) (any_same p q xs h)
 
 placed_now : (t : Tables) (o : ℕ) (name : List ℕ) → IsBefore t o
-    → list_any (λ s. nat_lt s.ordinal o && bytes_eq s.name name && is_placed_setting s) t.settings ≡ placed_ever t.settings name
+    → list_any (λ s. nat_lt s.ordinal o && bytes_eq s.name name && is_location s) t.assignments ≡ placed_ever t.assignments name
 placed_now t o name h =
-    any_same (λ s. nat_lt s.ordinal o && bytes_eq s.name name && is_placed_setting s) (λ s. nat_lt s.ordinal o && (bytes_eq s.name name && is_placed_setting s)) t.settings
-    (λ s. and_assoc (nat_lt s.ordinal o) (bytes_eq s.name name) (is_placed_setting s))
-    ∙ any_all (λ s. bytes_eq s.name name && is_placed_setting s) (λ s. nat_lt s.ordinal o) t.settings h.settings
+    any_same (λ s. nat_lt s.ordinal o && bytes_eq s.name name && is_location s) (λ s. nat_lt s.ordinal o && (bytes_eq s.name name && is_location s)) t.assignments
+    (λ s. and_assoc (nat_lt s.ordinal o) (bytes_eq s.name name) (is_location s))
+    ∙ any_all (λ s. bytes_eq s.name name && is_location s) (λ s. nat_lt s.ordinal o) t.assignments h.assignments
 
--- whether a name is a place, and whether it is defined, by look-ups
-pub has_place_now : (t : Tables) (o : ℕ) (name : List ℕ) → IsBefore t o → has_place t o name ≡ (is_some (label_of t.labels true 0 name) || placed_latest (set_ever t.settings name))
+-- whether a name is a location, and whether it is defined, by look-ups
+pub has_place_now : (t : Tables) (o : ℕ) (name : List ℕ) → IsBefore t o → has_location t o name ≡ (is_some (label_of t.labels true 0 name) || placed_latest (assigned_ever t.assignments name))
 has_place_now t o name h =
-    ap (λ l. is_some l || list_any (λ s. nat_lt s.ordinal o && bytes_eq s.name name && is_placed_setting s) t.settings) (label_before t o name h)
+    ap (λ l. is_some l || list_any (λ s. nat_lt s.ordinal o && bytes_eq s.name name && is_location s) t.assignments) (label_before t o name h)
     ∙ ap (λ r. is_some (label_of t.labels true 0 name) || r) (placed_now t o name h ∙ h.placed name)
 
-pub defined_now : (t : Tables) (o : ℕ) (name : List ℕ) → IsBefore t o → is_defined t o name ≡ (is_some (label_of t.labels true 0 name) || is_some (set_ever t.settings name))
+pub defined_now : (t : Tables) (o : ℕ) (name : List ℕ) → IsBefore t o → is_defined t o name ≡ (is_some (label_of t.labels true 0 name) || is_some (assigned_ever t.assignments name))
 defined_now t o name h =
-    ap (λ l. is_some l || is_some (set_before t.settings o name)) (label_before t o name h)
+    ap (λ l. is_some l || is_some (assigned_before t.assignments o name)) (label_before t o name h)
     ∙ ap (λ r. is_some (label_of t.labels true 0 name) || is_some r) (set_now t o name h)
 
 -- nothing comes later than the statements so far
-pub none_later : (o number : ℕ) (marks : List Marked) → all_marks o marks ≡ true → find (λ m. nat_lt o m.ordinal && (m.number == number)) marks ≡ None
-none_later o number marks h = find_none (λ m. nat_lt o m.ordinal && (m.number == number)) (λ m. nat_lt m.ordinal o) marks h (λ m l. later m.ordinal (m.number == number) l)
+pub none_later : (o number : ℕ) (numeric_labels : List NumericLabel) → all_numeric_labels o numeric_labels ≡ true → find (λ m. nat_lt o m.ordinal && (m.number == number)) numeric_labels ≡ None
+none_later o number numeric_labels h = find_none (λ m. nat_lt o m.ordinal && (m.number == number)) (λ m. nat_lt m.ordinal o) numeric_labels h (λ m l. later m.ordinal (m.number == number) l)
   where
     later : (a : ℕ) (b : Bool) → nat_lt a o ≡ true → (nat_lt o a && b) ≡ false
     later a b l = by (nat_lt o a) refl
@@ -152,18 +153,18 @@ none_later o number marks h = find_none (λ m. nat_lt o m.ordinal && (m.number =
         by false e = refl
 
 -- tables with other sections
-pub before_sections : (t u : Tables) (o : ℕ) → u.labels ≡ t.labels → u.marks ≡ t.marks → u.settings ≡ t.settings → IsBefore t o → IsBefore u o
+pub before_sections : (t u : Tables) (o : ℕ) → u.labels ≡ t.labels → u.numeric_labels ≡ t.numeric_labels → u.assignments ≡ t.assignments → IsBefore t o → IsBefore u o
 before_sections t u o l m s h = record {
   labels = ap (all_labels o) l ∙ h.labels;
   labels_rise = ap (rises (λ (l : Labelled). l.ordinal)) l ∙ h.labels_rise;
-  marks = ap (all_marks o) m ∙ h.marks;
-  marks_fall = ap (falls (λ (m : Marked). m.ordinal)) m ∙ h.marks_fall;
-  settings = ap (all_settings o) s ∙ h.settings;
-  settings_fall = ap (falls (λ (s : Setting). s.ordinal)) s ∙ h.settings_fall;
-  placed = λ name. ap (λ ss. placed_ever ss name) s ∙ h.placed name ∙ ap (λ ss. placed_latest (set_ever ss name)) (sym s);
+  numeric_labels = ap (all_numeric_labels o) m ∙ h.numeric_labels;
+  numeric_labels_fall = ap (falls (λ (m : NumericLabel). m.ordinal)) m ∙ h.numeric_labels_fall;
+  assignments = ap (all_assignments o) s ∙ h.assignments;
+  assignments_fall = ap (falls (λ (s : Assignment). s.ordinal)) s ∙ h.assignments_fall;
+  placed = λ name. ap (λ ss. placed_ever ss name) s ∙ h.placed name ∙ ap (λ ss. placed_latest (assigned_ever ss name)) (sym s);
 }
 
--- one more behind lower ones
+-- one more after lower ones
 rises_more : {X : Type 0} (at : X → ℕ) (xs : List X) (x : X) → list_all (λ y. nat_lt (at y) (at x)) xs ≡ true → rises at xs ≡ true → rises at (xs ++ x ∷ []) ≡ true
 rises_more at [] x low h = refl
 rises_more at (y ∷ ys) x low h =
@@ -184,29 +185,29 @@ before_label t o name h = by (is_defined t o name) refl
           labels = list_all-append (λ (l : Labelled). nat_lt l.ordinal (suc o)) t.labels (record { name = name; ordinal = o; place = here t } ∷ [])
               ∙ ap (λ b. b && (nat_lt o (suc o) && true)) f.labels ∙ ap (λ b. b && true) (now o);
           labels_rise = rises_more (λ (l : Labelled). l.ordinal) t.labels (record { name = name; ordinal = o; place = here t }) h.labels h.labels_rise;
-          marks = f.marks;
-          marks_fall = f.marks_fall;
-          settings = f.settings;
-          settings_fall = f.settings_fall;
+          numeric_labels = f.numeric_labels;
+          numeric_labels_fall = f.numeric_labels_fall;
+          assignments = f.assignments;
+          assignments_fall = f.assignments_fall;
           placed = f.placed;
         }
 
-before_mark : (t : Tables) (o number : ℕ) → IsBefore t o → IsBefore (with_mark t o number) (suc o)
-before_mark t o number h =
+before_numeric_label : (t : Tables) (o number : ℕ) → IsBefore t o → IsBefore (with_numeric_label t o number) (suc o)
+before_numeric_label t o number h =
     let f = before_next t o h in
     record {
       labels = f.labels;
       labels_rise = f.labels_rise;
-      marks = ap (λ b. b && all_marks (suc o) t.marks) (now o) ∙ f.marks;
-      marks_fall = ap (λ b. b && falls (λ (m : Marked). m.ordinal) t.marks) h.marks ∙ h.marks_fall;
-      settings = f.settings;
-      settings_fall = f.settings_fall;
+      numeric_labels = ap (λ b. b && all_numeric_labels (suc o) t.numeric_labels) (now o) ∙ f.numeric_labels;
+      numeric_labels_fall = ap (λ b. b && falls (λ (m : NumericLabel). m.ordinal) t.numeric_labels) h.numeric_labels ∙ h.numeric_labels_fall;
+      assignments = f.assignments;
+      assignments_fall = f.assignments_fall;
       placed = f.placed;
     }
 
--- one setting more that may be made
-placed_more : (t : Tables) (o : ℕ) (s : Setting) → IsBefore t o → not (has_place t o s.name) ≡ true → is_placed_setting s ≡ false → (name : List ℕ)
-    → placed_ever (s ∷ t.settings) name ≡ placed_latest (set_ever (s ∷ t.settings) name)
+-- one assignment more that may be made
+placed_more : (t : Tables) (o : ℕ) (s : Assignment) → IsBefore t o → not (has_location t o s.name) ≡ true → is_location s ≡ false → (name : List ℕ)
+    → placed_ever (s ∷ t.assignments) name ≡ placed_latest (assigned_ever (s ∷ t.assignments) name)
 placed_more t o s h may is name = by (bytes_eq s.name name) refl
   where
     or_right : (a b : Bool) → not (a || b) ≡ true → b ≡ false
@@ -214,106 +215,97 @@ placed_more t o s h may is name = by (bytes_eq s.name name) refl
     or_right false true e = absurd (cc)
     or_right false false e = refl
 
-    by : (b : Bool) → bytes_eq s.name name ≡ b → ((b && is_placed_setting s) || placed_ever t.settings name) ≡ placed_latest (cond b (Some s) (set_ever t.settings name))
+    by : (b : Bool) → bytes_eq s.name name ≡ b → ((b && is_location s) || placed_ever t.assignments name) ≡ placed_latest (cond b (Some s) (assigned_ever t.assignments name))
     by false e = h.placed name
     by true e =
-        let none : placed_ever t.settings s.name ≡ false =
-        h.placed s.name ∙ or_right (is_some (label_of t.labels true 0 s.name)) (placed_latest (set_ever t.settings s.name)) (ap not (sym (has_place_now t o s.name h)) ∙ may) in
-        ap (λ b. b || placed_ever t.settings name) is ∙ ap (placed_ever t.settings) (sym (same_bytes s.name name e)) ∙ none ∙ sym is
+        let none : placed_ever t.assignments s.name ≡ false =
+        h.placed s.name ∙ or_right (is_some (label_of t.labels true 0 s.name)) (placed_latest (assigned_ever t.assignments s.name)) (ap not (sym (has_place_now t o s.name h)) ∙ may) in
+        ap (λ b. b || placed_ever t.assignments name) is ∙ ap (placed_ever t.assignments) (sym (same_bytes s.name name e)) ∙ none ∙ sym is
 
-placed_first : (t : Tables) (o : ℕ) (s : Setting) → IsBefore t o → not (is_defined t o s.name) ≡ true → is_placed_setting s ≡ true → (name : List ℕ)
-    → placed_ever (s ∷ t.settings) name ≡ placed_latest (set_ever (s ∷ t.settings) name)
+placed_first : (t : Tables) (o : ℕ) (s : Assignment) → IsBefore t o → not (is_defined t o s.name) ≡ true → is_location s ≡ true → (name : List ℕ)
+    → placed_ever (s ∷ t.assignments) name ≡ placed_latest (assigned_ever (s ∷ t.assignments) name)
 placed_first t o s h may is name = by (bytes_eq s.name name) refl
   where
-    by : (b : Bool) → bytes_eq s.name name ≡ b → ((b && is_placed_setting s) || placed_ever t.settings name) ≡ placed_latest (cond b (Some s) (set_ever t.settings name))
+    by : (b : Bool) → bytes_eq s.name name ≡ b → ((b && is_location s) || placed_ever t.assignments name) ≡ placed_latest (cond b (Some s) (assigned_ever t.assignments name))
     by false e = h.placed name
-    by true e = ap (λ b. b || placed_ever t.settings name) is ∙ sym is
+    by true e = ap (λ b. b || placed_ever t.assignments name) is ∙ sym is
 
-may_be : (t : Tables) (o : ℕ) (s : Setting) (m : Meaning) → s.meaning ≡ m → IsBefore t o → may_set t o s.name m ≡ true → (name : List ℕ)
-    → placed_ever (s ∷ t.settings) name ≡ placed_latest (set_ever (s ∷ t.settings) name)
-may_be t o s (Placed section offset) is h may = placed_first t o s h may (ap (λ m. is_placed_setting (record s { meaning = m })) is)
-may_be t o s (Known n) is h may = placed_more t o s h may (ap (λ m. is_placed_setting (record s { meaning = m })) is)
-may_be t o s Open is h may = placed_more t o s h may (ap (λ m. is_placed_setting (record s { meaning = m })) is)
-may_be t o s (Refused code) is h may = placed_more t o s h may (ap (λ m. is_placed_setting (record s { meaning = m })) is)
+may_be : (t : Tables) (o : ℕ) (s : Assignment) (m : Meaning) → s.meaning ≡ m → IsBefore t o → may_set t o s.name m ≡ true → (name : List ℕ)
+    → placed_ever (s ∷ t.assignments) name ≡ placed_latest (assigned_ever (s ∷ t.assignments) name)
+may_be t o s (InSection section offset) is h may = placed_first t o s h may (ap (λ m. is_location (record s { meaning = m })) is)
+may_be t o s (Known n) is h may = placed_more t o s h may (ap (λ m. is_location (record s { meaning = m })) is)
+may_be t o s Open is h may = placed_more t o s h may (ap (λ m. is_location (record s { meaning = m })) is)
+may_be t o s (Refused code) is h may = placed_more t o s h may (ap (λ m. is_location (record s { meaning = m })) is)
 
-before_set : (t : Tables) (o : ℕ) (s : Setting) → s.ordinal ≡ o → IsBefore t o → IsBefore (with_setting t (Some s)) (suc o)
+before_set : (t : Tables) (o : ℕ) (s : Assignment) → s.ordinal ≡ o → IsBefore t o → IsBefore (with_assignment t (Some s)) (suc o)
 before_set t o s at h = by (may_set t s.ordinal s.name s.meaning) refl
   where
-    by : (b : Bool) → may_set t s.ordinal s.name s.meaning ≡ b → IsBefore (if b then record t { settings = s ∷ t.settings } else t) (suc o)
+    by : (b : Bool) → may_set t s.ordinal s.name s.meaning ≡ b → IsBefore (if b then record t { assignments = s ∷ t.assignments } else t) (suc o)
     by false e = before_next t o h
     by true e =
         let f = before_next t o h in
         record {
           labels = f.labels;
           labels_rise = f.labels_rise;
-          marks = f.marks;
-          marks_fall = f.marks_fall;
-          settings = ap (λ a. nat_lt a (suc o) && all_settings (suc o) t.settings) at ∙ ap (λ b. b && all_settings (suc o) t.settings) (now o) ∙ f.settings;
-          settings_fall = ap (λ b. b && falls (λ (x : Setting). x.ordinal) t.settings) (ap (λ a. all_settings a t.settings) at ∙ h.settings) ∙ h.settings_fall;
+          numeric_labels = f.numeric_labels;
+          numeric_labels_fall = f.numeric_labels_fall;
+          assignments = ap (λ a. nat_lt a (suc o) && all_assignments (suc o) t.assignments) at ∙ ap (λ b. b && all_assignments (suc o) t.assignments) (now o) ∙ f.assignments;
+          assignments_fall = ap (λ b. b && falls (λ (x : Assignment). x.ordinal) t.assignments) (ap (λ a. all_assignments a t.assignments) at ∙ h.assignments) ∙ h.assignments_fall;
           placed = may_be t o s s.meaning refl h (ap (λ a. may_set t a s.name s.meaning) (sym at) ∙ e);
         }
 
-before_given : (t : Tables) (o : ℕ) (name : List ℕ) (v : Value) → IsBefore t o → IsBefore (with_setting t (given name o v)) (suc o)
-before_given t o name (Constant n) h = before_set t o (record { name = name; ordinal = o; meaning = Known n; plus = 0 }) refl h
-before_given t o name (Symbolic Here (Placed section offset) plus) h = before_set t o (record { name = name; ordinal = o; meaning = Placed section (add offset plus); plus = plus }) refl h
-before_given t o name (Symbolic Here (Known n) plus) h = before_next t o h
-before_given t o name (Symbolic Here Open plus) h = before_next t o h
-before_given t o name (Symbolic Here (Refused code) plus) h = before_next t o h
-before_given t o name (Symbolic (Literal n) at plus) h = before_next t o h
-before_given t o name (Symbolic (Symbol n) at plus) h = before_next t o h
-before_given t o name (Symbolic (Reference d f) at plus) h = before_next t o h
-before_given t o name (Difference p q plus) h = before_next t o h
-before_given t o name (Faulty code) h = before_next t o h
+before_assigned : (t : Tables) (o : ℕ) (name : List ℕ) (v : Value) → IsBefore t o → IsBefore (with_assignment t (assigned name o v)) (suc o)
+before_assigned t o name (Constant n) h = before_set t o (record { name = name; ordinal = o; meaning = Known n; plus = 0 }) refl h
+before_assigned t o name (Symbolic Here (InSection section offset) plus) h = before_set t o (record { name = name; ordinal = o; meaning = InSection section (add offset plus); plus = plus }) refl h
+before_assigned t o name (Symbolic Here (Known n) plus) h = before_next t o h
+before_assigned t o name (Symbolic Here Open plus) h = before_next t o h
+before_assigned t o name (Symbolic Here (Refused code) plus) h = before_next t o h
+before_assigned t o name (Symbolic (Literal n) at plus) h = before_next t o h
+before_assigned t o name (Symbolic (Symbol n) at plus) h = before_next t o h
+before_assigned t o name (Symbolic (Reference d f) at plus) h = before_next t o h
+before_assigned t o name (Difference p q plus) h = before_next t o h
+before_assigned t o name (Faulty code) h = before_next t o h
 
--- sections and data leave the names
-before_opened : (t : Tables) (opened : Opened) (o : ℕ) → IsBefore t o → IsBefore (opened_more t opened) o
-before_opened t opened o h = by (length opened.sections == length t.opened.sections)
+before_named : (t : Tables) (o : ℕ) (v : Expression → Value) (d : Directive) → IsBefore t o → IsBefore (with_assignment t (assigned_by v o d)) (suc o)
+before_named t o v (Sets name e) h = before_assigned t o name (v e) h
+before_named t o v _ h = before_next t o h
+
+-- sections, options and data leave the names
+before_section : (t : Tables) (section : Option Section) (o : ℕ) → IsBefore t o → IsBefore (with_section t section) o
+before_section t None o h = h
+before_section t (Some section) o h = by (length (entered t.opened section).sections == length t.opened.sections)
   where
-    by : (b : Bool) → IsBefore (if b then record t { opened = opened } else record t { opened = opened; ends = t.ends ++ 0 ∷ []; alignments = t.alignments ++ 1 ∷ [] }) o
-    by true = before_sections t (record t { opened = opened }) o refl refl refl h
-    by false = before_sections t (record t { opened = opened; ends = t.ends ++ 0 ∷ []; alignments = t.alignments ++ 1 ∷ [] }) o refl refl refl h
+    by : (b : Bool) → IsBefore (if b then record t { opened = entered t.opened section } else record t { opened = entered t.opened section; ends = t.ends ++ 0 ∷ []; alignments = t.alignments ++ 1 ∷ [] }) o
+    by true = before_sections t (record t { opened = entered t.opened section }) o refl refl refl h
+    by false = before_sections t (record t { opened = entered t.opened section; ends = t.ends ++ 0 ∷ []; alignments = t.alignments ++ 1 ∷ [] }) o refl refl refl h
 
-before_section : (t : Tables) (section : Option Section) (o : ℕ) → IsBefore t o → IsBefore (with_section t section) (suc o)
-before_section t None o h = before_next t o h
-before_section t (Some section) o h = before_next (opened_more t (entered t.opened section)) o (before_opened t (entered t.opened section) o h)
+before_choice : (t : Tables) (choice : Choice) (o : ℕ) → IsBefore t o → IsBefore (with_choice t choice) o
+before_choice t Push o h = before_sections t (with_choice t Push) o refl refl refl h
+before_choice t Pop o h = before_sections t (with_choice t Pop) o refl refl refl h
+before_choice t _ o h = h
 
-before_data : (t : Tables) (bytes : ℕ) (alignment : Option ℕ) (o : ℕ) → IsBefore t o → IsBefore (with_data t bytes alignment) (suc o)
-before_data t bytes alignment o h = before_next (with_data t bytes alignment) o (by (current_section t.opened).executable refl)
-  where
-    by : (b : Bool) → (current_section t.opened).executable ≡ b → IsBefore (with_data t bytes alignment) o
-    by true e = before_sections t (with_data t bytes alignment) o (rw e refl) (rw e refl) (rw e refl) h
-    by false e = before_sections t (with_data t bytes alignment) o (rw e refl) (rw e refl) (rw e refl) h
+before_chosen : (t : Tables) (found : Option Choice) (o : ℕ) → IsBefore t o → IsBefore (with_chosen t found) o
+before_chosen t None o h = h
+before_chosen t (Some choice) o h = before_choice t choice o h
 
-before_choice : (t : Tables) (choice : Choice) (o : ℕ) → IsBefore t o → IsBefore (with_choice t choice) (suc o)
-before_choice t Push o h = before_sections t (with_choice t Push) (suc o) refl refl refl (before_next t o h)
-before_choice t Pop o h = before_sections t (with_choice t Pop) (suc o) refl refl refl (before_next t o h)
-before_choice t Rvc o h = before_next t o h
-before_choice t Norvc o h = before_next t o h
-before_choice t Relax o h = before_next t o h
-before_choice t Norelax o h = before_next t o h
-before_choice t Nopic o h = before_next t o h
-
-before_some : (t : Tables) (o : ℕ) (d : Directive) → IsBefore t o → IsBefore (with_data t (data_bytes (value t false o (here t)) (here t).offset d) (asked (value t false o (here t)) d)) (suc o)
-before_some t o d h = before_data t (data_bytes (value t false o (here t)) (here t).offset d) (asked (value t false o (here t)) d) o h
+before_contribution : (t : Tables) (v : Expression → Value) (c : Contribution) (o : ℕ) → IsBefore t o → IsBefore (with_contribution t v c) o
+before_contribution t v Nothing o h = h
+before_contribution t v (Bytes contents) o h = before_sections t (with_contribution t v (Bytes contents)) o refl refl refl h
+before_contribution t v (Zero_bytes count) o h = before_sections t (with_contribution t v (Zero_bytes count)) o refl refl refl h
+before_contribution t v (Alignment form number) o h = before_sections t (with_contribution t v (Alignment form number)) o refl refl refl h
 
 before_directive : (t : Tables) (o : ℕ) (d : Directive) → IsBefore t o → IsBefore (after_directive t o d) (suc o)
-before_directive t o (Enters standard) h = before_section t (entered_by (Enters standard)) o h
-before_directive t o (Opens name flags kind) h = before_section t (entered_by (Opens name flags kind)) o h
-before_directive t o (Globl names) h = before_next t o h
-before_directive t o (Local names) h = before_next t o h
-before_directive t o (Sets name e) h = before_given t o name (value t false o (here t) e) h
-before_directive t o (Aligns_to_power e) h = before_some t o (Aligns_to_power e) h
-before_directive t o (Aligns_to_bytes e) h = before_some t o (Aligns_to_bytes e) h
-before_directive t o (Values width values) h = before_some t o (Values width values) h
-before_directive t o (Strings ended strings) h = before_some t o (Strings ended strings) h
-before_directive t o (Zeros count) h = before_some t o (Zeros count) h
-before_directive t o (Chooses choice) h = before_choice t choice o h
-before_directive t o Ignored h = before_next t o h
+before_directive t o d h =
+    let v : Expression → Value = value t false o (here t) in
+    let entered = with_section t (entered_by d) in
+    let named = with_assignment entered (assigned_by v o d) in
+    before_contribution (with_chosen named (chosen d)) v (contribution d) (suc o)
+    (before_chosen named (chosen d) (suc o) (before_named entered o v d (before_section t (entered_by d) o h)))
 
 -- the tables after a statement are before the next
 pub before_after : (t : Tables) (o : ℕ) (s : Statement) → IsBefore t o → IsBefore (after t o s) (suc o)
 before_after t o (Label name) h = before_label t o name h
-before_after t o (Numbered number) h = before_mark t o number h
+before_after t o (Numbered number) h = before_numeric_label t o number h
 before_after t o (Instruction mnemonic operands) h = before_next t o h
 before_after t o (Directs d) h = before_directive t o d h
 
@@ -324,4 +316,4 @@ before_all t o (s ∷ ss) h =
     subst (IsBefore (after_all (after t o s.says) (suc o) ss)) n (before_all (after t o s.says) (suc o) ss (before_after t o s.says h))
 
 pub before_start : (o : ℕ) → IsBefore at_start o
-before_start o = record { labels = refl; labels_rise = refl; marks = refl; marks_fall = refl; settings = refl; settings_fall = refl; placed = λ name. refl }
+before_start o = record { labels = refl; labels_rise = refl; numeric_labels = refl; numeric_labels_fall = refl; assignments = refl; assignments_fall = refl; placed = λ name. refl }

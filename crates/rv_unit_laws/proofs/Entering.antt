@@ -40,7 +40,7 @@ longer xs s = by (length (xs ++ s ∷ []) == length xs) refl
     by true e = absurd (let same : length (xs ++ s ∷ []) ≡ length xs = eqb-true (length (xs ++ s ∷ [])) (length xs) e in omega (arith, length-append xs (s ∷ [])))
     by false e = refl
 
--- a name stands at the place of a section
+-- a name has the index of a section
 inside_by : (b : Bool) (found : Option ℕ) (count i : ℕ) → ((j : ℕ) → found ≡ Some j → j < count) → (if b then Some 0 else option_map suc found) ≡ Some i → i < suc count
 inside_by true found count i more e = let first : 0 ≡ i = cc in omega (arith, first)
 inside_by false None count i more e = absurd (cc)

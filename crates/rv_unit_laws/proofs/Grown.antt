@@ -1,4 +1,4 @@
--- What a statement adds to its section: bytes of data, and the multiple at which it asks to begin.
+-- What a statement adds to its section: bytes of data, and its alignment.
 
 use Rattle.std.proofs.Common.{eq-eqb, ◌≡◌, ℕ, zero, suc, ◌+◌, ◌*◌, ◌-◌, ◌%◌, ◌^◌, ◌<◌, ◌≤◌, Bool, true, false, ◌&&◌, ◌||◌, ◌==◌, nat_lt, nat_le, List, [], ◌∷◌, ◌++◌, length, max, refl, sym, ap, ◌∙◌, subst, arith, Option, Some, None}
 use Rattle.std.proofs.Math.Nat.{le-max_left, le-max_right, mul-mod_left}
@@ -8,11 +8,12 @@ use Rattle.std.proofs.lemmas.Nat.{pow-add, pow_pos}
 use Rattle.std.proofs.lemmas.List.{length-append}
 use Rattle.std.specs.Prelude.{⊤, if◌then◌else◌, slice_index_or}
 use Rattle.rv_text_laws.specs.Values.{Value, Constant, Symbolic, Difference, Faulty}
-use Rattle.rv_statement.specs.Statement.{Statement, Label, Numbered, Instruction, Directs, Spoken, Expression, Directive, Enters, Opens, Globl, Local, Sets, Aligns_to_power, Aligns_to_bytes, Values, Strings, Zeros, Chooses, Ignored}
+use Rattle.rv_statement.specs.Statement.{Statement, Label, Numbered, Instruction, Directs, Spoken, Expression, Directive, Aligns_to_power, Aligns_to_bytes, Values, Strings, Zeros}
 use Rattle.rv_statement.specs.declared.directive.Choice.{Choice}
 use Rattle.rv_statement.specs.declared.directive.Choice.TheVariants.{Push, Pop}
 use Rattle.rv_unit_laws.specs.Sections.{Section, Opened, current_section, entered, entered_at, entered_by, place_of_name, most_sections}
-use Rattle.rv_unit_laws.specs.Tables.{Tables, Setting, at_start, here, value, is_power, is_power_below, greatest_alignment, asked, asked_power, asked_bytes, or_none, data_bytes, changed_at, is_defined, may_set, with_setting, with_section, with_data, with_choice, with_mark, given, after, after_directive, after_all}
+use Rattle.rv_unit_laws.specs.Contributions.{AlignmentForm, As_power, As_bytes, Contribution, Nothing, Bytes, Zero_bytes, Alignment, contribution}
+use Rattle.rv_unit_laws.specs.Tables.{Tables, Assignment, at_start, here, value, is_power, is_power_below, greatest_alignment, alignment_of, power_alignment, byte_alignment, alignment_as, contribution_alignment, or_none, data_bytes, contributed, counted_in, changed_at, is_defined, may_set, with_assignment, with_section, with_data, with_contribution, with_choice, with_chosen, with_numeric_label, assigned_by, chosen, after, after_directive, after_all}
 use Rattle.rv_unit_laws.proofs.Found.{and_both}
 
 -- ---- powers of two
@@ -52,37 +53,43 @@ power_multiple n m (a, p) (b, q) less = by (nat_le a b) refl
         let more : 2 ^ b < 2 ^ a = pow-lt l in
         absurd (omega (arith, p, q, more, less))
 
--- what an alignment asks for, if anything, is a power of two
-abbrev pub AsksPower : Option ℕ → Type 0
-AsksPower None = ⊤
-AsksPower (Some n) = IsPower n
+-- an alignment, if there is one, is a power of two
+abbrev pub AlignsToPower : Option ℕ → Type 0
+AlignsToPower None = ⊤
+AlignsToPower (Some n) = IsPower n
 
-if_power : (b : Bool) (n : ℕ) → (b ≡ true → IsPower n) → AsksPower (if b then Some n else None)
+if_power : (b : Bool) (n : ℕ) → (b ≡ true → IsPower n) → AlignsToPower (if b then Some n else None)
 if_power true n h = h refl
 if_power false n h = tt
 
-power_asked : (v : Value) → AsksPower (asked_power v)
-power_asked (Constant k) = if_power (nat_lt k 13) (2 ^ k) (λ e. (k, refl))
-power_asked (Symbolic p at k) = tt
-power_asked (Difference p q k) = tt
-power_asked (Faulty c) = tt
+power_aligned : (v : Value) → AlignsToPower (power_alignment v)
+power_aligned (Constant k) = if_power (nat_lt k 13) (2 ^ k) (λ e. (k, refl))
+power_aligned (Symbolic p at k) = tt
+power_aligned (Difference p q k) = tt
+power_aligned (Faulty c) = tt
 
-bytes_asked : (v : Value) → AsksPower (asked_bytes v)
-bytes_asked (Constant n) = if_power (is_power n && nat_le n greatest_alignment) n (λ e. power_below 63 n (and_both (is_power n) (nat_le n greatest_alignment) e).0)
-bytes_asked (Symbolic p at k) = tt
-bytes_asked (Difference p q k) = tt
-bytes_asked (Faulty c) = tt
+byte_aligned : (v : Value) → AlignsToPower (byte_alignment v)
+byte_aligned (Constant n) = if_power (is_power n && nat_le n greatest_alignment) n (λ e. power_below 63 n (and_both (is_power n) (nat_le n greatest_alignment) e).0)
+byte_aligned (Symbolic p at k) = tt
+byte_aligned (Difference p q k) = tt
+byte_aligned (Faulty c) = tt
 
-pub asked_more : (v : Expression → Value) (d : Directive) → AsksPower (asked v d)
-asked_more v (Aligns_to_power e) = power_asked (v e)
-asked_more v (Aligns_to_bytes e) = bytes_asked (v e)
-asked_more v _ = tt
+form_aligned : (form : AlignmentForm) (v : Value) → AlignsToPower (alignment_as form v)
+form_aligned As_power v = power_aligned v
+form_aligned As_bytes v = byte_aligned v
+
+contribution_aligned : (v : Expression → Value) (c : Contribution) → AlignsToPower (contribution_alignment v c)
+contribution_aligned v (Alignment form number) = form_aligned form (v number)
+contribution_aligned v _ = tt
+
+pub directive_aligned : (v : Expression → Value) (d : Directive) → AlignsToPower (alignment_of v d)
+directive_aligned v d = contribution_aligned v (contribution d)
 
 -- the number that the multiple of its section is not to be below
 abbrev least : Option ℕ → ℕ
 least alignment = max 1 (or_none alignment)
 
-least_power : (alignment : Option ℕ) → AsksPower alignment → IsPower (least alignment)
+least_power : (alignment : Option ℕ) → AlignsToPower alignment → IsPower (least alignment)
 least_power None h = (0, refl)
 least_power (Some n) h = max_power 1 n (0, refl) h
 
@@ -91,7 +98,7 @@ abbrev pub BeginsAt : Option ℕ → ℕ → Type 0
 BeginsAt None begins = ⊤
 BeginsAt (Some n) begins = (0 < n) × (begins % n ≡ 0)
 
-begins_at : (alignment : Option ℕ) (begins : ℕ) → AsksPower alignment → IsPower begins → least alignment ≤ begins → BeginsAt alignment begins
+begins_at : (alignment : Option ℕ) (begins : ℕ) → AlignsToPower alignment → IsPower begins → least alignment ≤ begins → BeginsAt alignment begins
 begins_at None begins h p less = tt
 begins_at (Some n) begins (k, e) p less =
     let some = power_some k in
@@ -167,9 +174,9 @@ grows_then t u v h k = record {
   each_alignment = λ e. k.each_alignment (h.each_alignment e);
 }
 
-grows_set : (t : Tables) (found : Option Setting) → Grows t (with_setting t found)
+grows_set : (t : Tables) (found : Option Assignment) → Grows t (with_assignment t found)
 grows_set t None = grows_same t t refl refl refl
-grows_set t (Some s) = grows_if (may_set t s.ordinal s.name s.meaning) t (record t { settings = s ∷ t.settings }) t (grows_same t (record t { settings = s ∷ t.settings }) refl refl refl) (grows_same t t refl refl refl)
+grows_set t (Some s) = grows_if (may_set t s.ordinal s.name s.meaning) t (record t { assignments = s ∷ t.assignments }) t (grows_same t (record t { assignments = s ∷ t.assignments }) refl refl refl) (grows_same t t refl refl refl)
 
 -- a section that is entered and was not open is one more
 entered_one : (o : Opened) (section : Section) → (length (entered o section).sections == length o.sections) ≡ false → length (entered o section).sections ≡ suc (length o.sections)
@@ -215,48 +222,46 @@ grows_section t (Some section) = by (length o.sections == length t.opened.sectio
           each_alignment = λ h. let l = length-append t.alignments (1 ∷ []) in omega (arith, l, h, count);
         }
 
-abbrev more_bytes : Tables → ℕ → Option ℕ → Tables
-more_bytes t bytes alignment = record t {
-  ends = changed_at t.opened.current (λ n. n + bytes) t.ends;
-  alignments = changed_at t.opened.current (λ n. max n (max 1 (or_none alignment))) t.alignments;
-}
-
-grows_data : (t : Tables) (bytes : ℕ) (alignment : Option ℕ) → AsksPower alignment → Grows t (with_data t bytes alignment)
-grows_data t bytes alignment power = grows_if (current_section t.opened).executable t t (more_bytes t bytes alignment) (grows_same t t refl refl refl) (record {
-  ends = λ j. changed_more t.opened.current (λ n. n + bytes) t.ends 0 j (λ n. omega arith);
+grows_data : (t : Tables) (bytes : ℕ) (alignment : Option ℕ) → AlignsToPower alignment → Grows t (with_data t bytes alignment)
+grows_data t bytes alignment power = record {
+  ends = λ j. changed_more t.opened.current (λ n. n + counted_in (current_section t.opened) bytes) t.ends 0 j (λ n. omega arith);
   alignments = λ j. changed_more t.opened.current (λ n. max n (max 1 (or_none alignment))) t.alignments 1 j (λ n. le-max_left n (max 1 (or_none alignment)));
   powers = λ h. changed_powers t.opened.current (λ n. max n (max 1 (or_none alignment))) t.alignments (λ n p. max_power n (max 1 (or_none alignment)) p (least_power alignment power)) h;
-  each_end = λ h. changed_length t.opened.current (λ n. n + bytes) t.ends ∙ h;
+  each_end = λ h. changed_length t.opened.current (λ n. n + counted_in (current_section t.opened) bytes) t.ends ∙ h;
   each_alignment = λ h. changed_length t.opened.current (λ n. max n (max 1 (or_none alignment))) t.alignments ∙ h;
-})
+}
 
-grows_some : (t : Tables) (o : ℕ) (d : Directive) → Grows t (let v = value t false o (here t) in with_data t (data_bytes v (here t).offset d) (asked v d))
-grows_some t o d = let v : Expression → Value = value t false o (here t) in grows_data t (data_bytes v (here t).offset d) (asked v d) (asked_more v d)
+grows_contribution : (t : Tables) (v : Expression → Value) (c : Contribution) → Grows t (with_contribution t v c)
+grows_contribution t v Nothing = grows_same t t refl refl refl
+grows_contribution t v (Bytes contents) = grows_data t (contributed v (here t).offset (Bytes contents)) None tt
+grows_contribution t v (Zero_bytes count) = grows_data t (contributed v (here t).offset (Zero_bytes count)) None tt
+grows_contribution t v (Alignment form number) =
+    grows_data t (contributed v (here t).offset (Alignment form number)) (alignment_as form (v number)) (form_aligned form (v number))
 
 grows_choice : (t : Tables) (choice : Choice) → Grows t (with_choice t choice)
 grows_choice t Push = grows_same t (with_choice t Push) refl refl refl
 grows_choice t Pop = grows_same t (with_choice t Pop) refl refl refl
 grows_choice t _ = grows_same t t refl refl refl
 
+grows_chosen : (t : Tables) (found : Option Choice) → Grows t (with_chosen t found)
+grows_chosen t None = grows_same t t refl refl refl
+grows_chosen t (Some choice) = grows_choice t choice
+
 grows_directive : (t : Tables) (o : ℕ) (d : Directive) → Grows t (after_directive t o d)
-grows_directive t o (Enters standard) = grows_section t (entered_by (Enters standard))
-grows_directive t o (Opens name flags kind) = grows_section t (entered_by (Opens name flags kind))
-grows_directive t o (Globl names) = grows_same t t refl refl refl
-grows_directive t o (Local names) = grows_same t t refl refl refl
-grows_directive t o (Sets name e) = grows_set t (given name o (value t false o (here t) e))
-grows_directive t o (Aligns_to_power e) = grows_some t o (Aligns_to_power e)
-grows_directive t o (Aligns_to_bytes e) = grows_some t o (Aligns_to_bytes e)
-grows_directive t o (Values width values) = grows_some t o (Values width values)
-grows_directive t o (Strings ended strings) = grows_some t o (Strings ended strings)
-grows_directive t o (Zeros count) = grows_some t o (Zeros count)
-grows_directive t o (Chooses choice) = grows_choice t choice
-grows_directive t o Ignored = grows_same t t refl refl refl
+grows_directive t o d =
+    let v : Expression → Value = value t false o (here t) in
+    let entered = with_section t (entered_by d) in
+    let named = with_assignment entered (assigned_by v o d) in
+    let chose = with_chosen named (chosen d) in
+    grows_then t chose (with_contribution chose v (contribution d))
+    (grows_then t named chose (grows_then t entered named (grows_section t (entered_by d)) (grows_set entered (assigned_by v o d))) (grows_chosen named (chosen d)))
+    (grows_contribution chose v (contribution d))
 
 pub grows_after : (t : Tables) (o : ℕ) (says : Statement) → Grows t (after t o says)
 grows_after t o (Label name) =
     let u : Tables = record t { labels = t.labels ++ record { name = name; ordinal = o; place = here t } ∷ [] } in
     grows_if (is_defined t o name) t t u (grows_same t t refl refl refl) (grows_same t u refl refl refl)
-grows_after t o (Numbered number) = grows_same t (with_mark t o number) refl refl refl
+grows_after t o (Numbered number) = grows_same t (with_numeric_label t o number) refl refl refl
 grows_after t o (Instruction mnemonic operands) = grows_same t t refl refl refl
 grows_after t o (Directs d) = grows_directive t o d
 
@@ -280,36 +285,33 @@ grown_all o ss =
     let g = grows_all at_start o ss in
     record { ends = g.each_end refl; alignments = g.each_alignment refl; powers = g.powers start_powers }
 
--- ---- data in a section that is none of code
+-- ---- what a directive contributes to its section
 
--- what a directive of data makes of its section
 abbrev IsPut : Tables → ℕ → Directive → Type 0
 IsPut t o d =
     let v = value t false o (here t) in
-    after_directive t o d ≡ with_data t (data_bytes v (here t).offset d) (asked v d)
+    after_directive t o d ≡ with_data t (data_bytes v (here t).offset d) (alignment_of v d)
 
-put_end : (t : Tables) (o : ℕ) (d : Directive) → IsPut t o d → (current_section t.opened).executable ≡ false → t.opened.current < length t.ends
-    → slice_index_or (after_directive t o d).ends t.opened.current 0 ≡ (here t).offset + data_bytes (value t false o (here t)) (here t).offset d
-put_end t o d is stored inside =
+put_end : (t : Tables) (o : ℕ) (d : Directive) → IsPut t o d → t.opened.current < length t.ends
+    → slice_index_or (after_directive t o d).ends t.opened.current 0
+    ≡ (here t).offset + counted_in (current_section t.opened) (data_bytes (value t false o (here t)) (here t).offset d)
+put_end t o d is inside =
     ap (λ (u : Tables). slice_index_or u.ends t.opened.current 0) is
-    ∙ ap (λ b. slice_index_or (if b then t else more_bytes t (data_bytes (value t false o (here t)) (here t).offset d) (asked (value t false o (here t)) d)).ends t.opened.current 0) stored
-    ∙ changed_here t.opened.current (λ n. n + data_bytes (value t false o (here t)) (here t).offset d) t.ends 0 inside
+    ∙ changed_here t.opened.current (λ n. n + counted_in (current_section t.opened) (data_bytes (value t false o (here t)) (here t).offset d)) t.ends 0 inside
 
-put_alignment : (t : Tables) (o : ℕ) (d : Directive) → IsPut t o d → (current_section t.opened).executable ≡ false → t.opened.current < length t.alignments
-    → slice_index_or (after_directive t o d).alignments t.opened.current 1 ≡ max (slice_index_or t.alignments t.opened.current 1) (max 1 (or_none (asked (value t false o (here t)) d)))
-put_alignment t o d is stored inside =
+put_alignment : (t : Tables) (o : ℕ) (d : Directive) → IsPut t o d → t.opened.current < length t.alignments
+    → slice_index_or (after_directive t o d).alignments t.opened.current 1 ≡ max (slice_index_or t.alignments t.opened.current 1) (max 1 (or_none (alignment_of (value t false o (here t)) d)))
+put_alignment t o d is inside =
     ap (λ (u : Tables). slice_index_or u.alignments t.opened.current 1) is
-    ∙ ap (λ b. slice_index_or (if b then t else more_bytes t (data_bytes (value t false o (here t)) (here t).offset d) (asked (value t false o (here t)) d)).alignments t.opened.current 1) stored
-    ∙ changed_here t.opened.current (λ n. max n (max 1 (or_none (asked (value t false o (here t)) d)))) t.alignments 1 inside
+    ∙ changed_here t.opened.current (λ n. max n (max 1 (or_none (alignment_of (value t false o (here t)) d)))) t.alignments 1 inside
 
--- the directives of data
+-- the directives that contribute something
+abbrev contributes : Contribution → Bool
+contributes Nothing = false
+contributes _ = true
+
 abbrev pub puts : Directive → Bool
-puts (Aligns_to_power e) = true
-puts (Aligns_to_bytes e) = true
-puts (Values width values) = true
-puts (Strings ended strings) = true
-puts (Zeros count) = true
-puts _ = false
+puts d = contributes (contribution d)
 
 is_put : (t : Tables) (o : ℕ) (d : Directive) → puts d ≡ true → IsPut t o d
 is_put t o (Aligns_to_power e) h = refl
@@ -319,21 +321,24 @@ is_put t o (Strings ended strings) h = refl
 is_put t o (Zeros count) h = refl
 is_put t o _ h = absurd (cc)
 
--- the end of the section behind a directive of data
+-- the end of a section of data after a directive that contributes to it
 pub end_behind : (t : Tables) (o : ℕ) (d : Directive) → puts d ≡ true → IsGrown t → t.opened.current < length t.opened.sections → (current_section t.opened).executable ≡ false
     → slice_index_or (after t o (Directs d)).ends t.opened.current 0 ≡ (here t).offset + data_bytes (value t false o (here t)) (here t).offset d
-end_behind t o d h each inside stored = put_end t o d (is_put t o d h) stored (subst (λ n. t.opened.current < n) (sym each.ends) inside)
+end_behind t o d h each inside stored =
+    let bytes = data_bytes (value t false o (here t)) (here t).offset d in
+    put_end t o d (is_put t o d h) (subst (λ n. t.opened.current < n) (sym each.ends) inside)
+    ∙ ap (λ b. (here t).offset + (if b then 0 else bytes)) stored
 
--- in the end its section begins at a multiple of what an alignment asks for
-pub begins_multiple : (t : Tables) (o k : ℕ) (d : Directive) (ss : List Spoken) → puts d ≡ true → IsGrown t → t.opened.current < length t.opened.sections → (current_section t.opened).executable ≡ false
-    → BeginsAt (asked (value t false o (here t)) d) (slice_index_or (after_all (after t o (Directs d)) k ss).alignments t.opened.current 1)
-begins_multiple t o k d ss h each inside stored =
-    let alignment = asked (value t false o (here t)) d in
+-- in the end the alignment of its section is a multiple of the directive's own
+pub begins_multiple : (t : Tables) (o k : ℕ) (d : Directive) (ss : List Spoken) → puts d ≡ true → IsGrown t → t.opened.current < length t.opened.sections
+    → BeginsAt (alignment_of (value t false o (here t)) d) (slice_index_or (after_all (after t o (Directs d)) k ss).alignments t.opened.current 1)
+begins_multiple t o k d ss h each inside =
+    let alignment = alignment_of (value t false o (here t)) d in
     let before = slice_index_or t.alignments t.opened.current 1 in
     let last = slice_index_or (after_all (after t o (Directs d)) k ss).alignments t.opened.current 1 in
     let now = grows_after t o (Directs d) in
     let later = grows_all (after t o (Directs d)) k ss in
-    let asks = put_alignment t o d (is_put t o d h) stored (subst (λ n. t.opened.current < n) (sym each.alignments) inside) in
+    let asks = put_alignment t o d (is_put t o d h) (subst (λ n. t.opened.current < n) (sym each.alignments) inside) in
     let grown : slice_index_or (after_directive t o d).alignments t.opened.current 1 ≤ last = later.alignments t.opened.current in
     let below : least alignment ≤ max before (least alignment) = le-max_right before (least alignment) in
-    begins_at alignment last (asked_more (value t false o (here t)) d) (later.powers (now.powers each.powers) t.opened.current) (omega (arith, asks, grown, below))
+    begins_at alignment last (directive_aligned (value t false o (here t)) d) (later.powers (now.powers each.powers) t.opened.current) (omega (arith, asks, grown, below))

@@ -7,7 +7,7 @@ use Rattle.rv_text_laws.specs.declared.operator.UnaryOperator.TheVariants.{Negat
 use Rattle.rv_text_laws.specs.declared.operator.BinaryOperator.{BinaryOperator}
 use Rattle.rv_text_laws.specs.declared.operator.BinaryOperator.TheVariants.{Multiply, Divide, Remainder, ShiftLeft, ShiftRight, Or, And, ExclusiveOr, Add, Subtract}
 use Rattle.rv_text_laws.specs.Expression.{Primary, Literal, Symbol, Here, Reference, Tree, Leaf, Unary, Paren, Binary}
-use Rattle.rv_text_laws.specs.Values.{Meaning, Known, Placed, Open, Refused, Value, Constant, Symbolic, Difference, Faulty, arithmetic, refused, apart, sum, difference, constants, both, alone, meant, primary_value, value_of}
+use Rattle.rv_text_laws.specs.Values.{Meaning, Known, InSection, Open, Refused, Value, Constant, Symbolic, Difference, Faulty, arithmetic, refused, apart, sum, difference, constants, both, alone, meant, primary_value, value_of}
 
 abbrev pub HasMeaning : (Primary → Meaning) → Value → Type 0
 HasMeaning m (Symbolic p at k) = at ≡ m p
@@ -49,10 +49,10 @@ module _ (m : Primary → Meaning) where
   refused_meant o (Difference p q k) (Difference r s j) = tt
 
   apart_meant : (s t : Meaning) (p q : Primary) (k : ℕ) → HasMeaning m (apart s t p q k)
-  apart_meant (Placed s a) (Placed t b) p q k = if_meant (s == t) (Constant _) (Difference p q k) tt tt
-  apart_meant (Placed s a) (Known n) p q k = tt
-  apart_meant (Placed s a) Open p q k = tt
-  apart_meant (Placed s a) (Refused c) p q k = tt
+  apart_meant (InSection s a) (InSection t b) p q k = if_meant (s == t) (Constant _) (Difference p q k) tt tt
+  apart_meant (InSection s a) (Known n) p q k = tt
+  apart_meant (InSection s a) Open p q k = tt
+  apart_meant (InSection s a) (Refused c) p q k = tt
   apart_meant (Known n) t p q k = tt
   apart_meant Open t p q k = tt
   apart_meant (Refused c) t p q k = tt
@@ -122,7 +122,7 @@ module _ (m : Primary → Meaning) where
   meant_meant : (p : Primary) (at : Meaning) → at ≡ m p → HasMeaning m (meant p at)
   meant_meant p (Known n) h = tt
   meant_meant p (Refused c) h = tt
-  meant_meant p (Placed s a) h = h
+  meant_meant p (InSection s a) h = h
   meant_meant p Open h = h
 
   primary_meant : (p : Primary) → HasMeaning m (primary_value m p)

@@ -1,16 +1,17 @@
--- Sections that are open stay open, each at its place.
+-- Sections that are open stay open, each at its index.
 
 use Rattle.std.proofs.Common.{◌≡◌, ℕ, zero, suc, ◌<◌, ◌≤◌, Bool, true, false, ◌&&◌, ◌==◌, nat_lt, List, [], ◌∷◌, ◌++◌, length, refl, sym, ap, ◌∙◌, subst, arith, Option, Some, None, get_or}
 use Rattle.std.specs.Prelude.{if◌then◌else◌, slice_get}
 use Rattle.std.specs.List.{find, list_all}
 use Rattle.std.proofs.lemmas.Bool.{ltb-true, lt-ltb}
 use Rattle.std.proofs.lemmas.List.Folds.{list_all-append}
-use Rattle.rv_statement.specs.Statement.{Statement, Expression, Label, Numbered, Instruction, Directs, Spoken, Directive, Enters, Opens, Globl, Local, Sets, Aligns_to_power, Aligns_to_bytes, Values, Strings, Zeros, Chooses, Ignored}
+use Rattle.rv_statement.specs.Statement.{Statement, Expression, Label, Numbered, Instruction, Directs, Spoken, Directive}
 use Rattle.rv_statement.specs.declared.directive.Choice.{Choice}
 use Rattle.rv_statement.specs.declared.directive.Choice.TheVariants.{Push, Pop}
-use Rattle.rv_text_laws.specs.Values.{Open, Placed, Value}
+use Rattle.rv_text_laws.specs.Values.{Open, InSection, Value}
 use Rattle.rv_unit_laws.specs.Sections.{Section, Opened, place_of_name, most_sections, text_section, entered_at, entered, entered_by, section_at, current_section}
-use Rattle.rv_unit_laws.specs.Tables.{Tables, Place, Labelled, Marked, Setting, at_start, here, stands, value, asked, data_bytes, is_defined, may_set, with_label, with_setting, with_section, with_data, with_choice, after_directive, after, after_all}
+use Rattle.rv_unit_laws.specs.Contributions.{Contribution, Nothing, Bytes, Zero_bytes, Alignment, contribution}
+use Rattle.rv_unit_laws.specs.Tables.{Tables, SectionOffset, Labelled, NumericLabel, Assignment, at_start, here, stands, value, assigned_by, chosen, is_defined, may_set, with_label, with_assignment, with_section, with_contribution, with_choice, with_chosen, after_directive, after, after_all}
 use Rattle.rv_unit_laws.proofs.Entering.{place_inside}
 use Rattle.rv_unit_laws.proofs.Found.{and_both, all_weaker}
 
@@ -41,7 +42,7 @@ got_last (x ∷ xs) y = got_last xs y
 abbrev pub IsOpen : Opened → Type 0
 IsOpen o = (x : Section) × (slice_get o.sections o.current ≡ Some x)
 
--- those that are open stay, each at its place
+-- those that are open stay, each at its index
 abbrev pub Stays : Opened → Opened → Type 0
 Stays o now = (j : ℕ) (x : Section) → slice_get o.sections j ≡ Some x → slice_get now.sections j ≡ Some x
 
@@ -76,38 +77,34 @@ if_opened : (b : Bool) (t u : Tables) (o : Opened) → t.opened ≡ o → u.open
 if_opened true t u o e f = e
 if_opened false t u o e f = f
 
-set_opened : (t : Tables) (found : Option Setting) → (with_setting t found).opened ≡ t.opened
+set_opened : (t : Tables) (found : Option Assignment) → (with_assignment t found).opened ≡ t.opened
 set_opened t None = refl
 set_opened t (Some s) = if_opened (may_set t s.ordinal s.name s.meaning) _ t t.opened refl refl
-
-data_opened : (t : Tables) (bytes : ℕ) (alignment : Option ℕ) → (with_data t bytes alignment).opened ≡ t.opened
-data_opened t bytes alignment = if_opened (current_section t.opened).executable t _ t.opened refl refl
-
--- data leave the sections as they are
-put_opened : (t : Tables) (k : ℕ) (d : Directive) → (let v = value t false k (here t) in with_data t (data_bytes v (here t).offset d) (asked v d)).opened ≡ t.opened
-put_opened t k d = let v : Expression → Value = value t false k (here t) in data_opened t (data_bytes v (here t).offset d) (asked v d)
 
 choice_opened : (t : Tables) (choice : Choice) → (with_choice t choice).opened ≡ t.opened
 choice_opened t Push = refl
 choice_opened t Pop = refl
 choice_opened t _ = refl
 
-section_opened : (t : Tables) (section : Section) → (with_section t (Some section)).opened ≡ entered t.opened section
-section_opened t section = if_opened (length (entered t.opened section).sections == length t.opened.sections) _ _ (entered t.opened section) refl refl
+chosen_opened : (t : Tables) (found : Option Choice) → (with_chosen t found).opened ≡ t.opened
+chosen_opened t None = refl
+chosen_opened t (Some choice) = choice_opened t choice
+
+contribution_opened : (t : Tables) (v : Expression → Value) (c : Contribution) → (with_contribution t v c).opened ≡ t.opened
+contribution_opened t v Nothing = refl
+contribution_opened t v _ = refl
+
+section_opened : (t : Tables) (found : Option Section) → (with_section t found).opened ≡ next_opened t.opened found
+section_opened t None = refl
+section_opened t (Some section) = if_opened (length (entered t.opened section).sections == length t.opened.sections) _ _ (entered t.opened section) refl refl
 
 directive_opened : (t : Tables) (k : ℕ) (d : Directive) → (after_directive t k d).opened ≡ next_opened t.opened (entered_by d)
-directive_opened t k (Enters standard) = section_opened t _
-directive_opened t k (Opens name flags kind) = section_opened t _
-directive_opened t k (Globl names) = refl
-directive_opened t k (Local names) = refl
-directive_opened t k (Sets name e) = set_opened t _
-directive_opened t k (Aligns_to_power exponent) = put_opened t k (Aligns_to_power exponent)
-directive_opened t k (Aligns_to_bytes bytes) = put_opened t k (Aligns_to_bytes bytes)
-directive_opened t k (Values width values) = put_opened t k (Values width values)
-directive_opened t k (Strings ended strings) = put_opened t k (Strings ended strings)
-directive_opened t k (Zeros count) = put_opened t k (Zeros count)
-directive_opened t k (Chooses choice) = choice_opened t choice
-directive_opened t k Ignored = refl
+directive_opened t k d =
+    let v : Expression → Value = value t false k (here t) in
+    let entered = with_section t (entered_by d) in
+    let named = with_assignment entered (assigned_by v k d) in
+    contribution_opened (with_chosen named (chosen d)) v (contribution d)
+    ∙ chosen_opened named (chosen d) ∙ set_opened entered (assigned_by v k d) ∙ section_opened t (entered_by d)
 
 -- the open sections after a statement
 pub after_opened : (t : Tables) (k : ℕ) (says : Statement) → (after t k says).opened ≡ next_opened t.opened (entered_in says)
@@ -131,11 +128,11 @@ stays_all t k (s ∷ ss) is_open =
     λ j x h. stays_all (after t k s.says) (suc k) ss now.0 j x (now.1 j x h)
 
 -- what stands in a section that is open means the same with the sections that are opened later
-pub stands_same : (t : Tables) (k : ℕ) (ss : List Spoken) (p : Place) → IsOpen t.opened → p.section < length t.opened.sections → stands (after_all t k ss).opened p ≡ stands t.opened p
+pub stands_same : (t : Tables) (k : ℕ) (ss : List Spoken) (p : SectionOffset) → IsOpen t.opened → p.section < length t.opened.sections → stands (after_all t k ss).opened p ≡ stands t.opened p
 stands_same t k ss p is_open inside =
     let at = got t.opened.sections p.section text_section inside in
     let later = stays_all t k ss is_open p.section (section_at t.opened p.section) at in
-    ap (λ (s : Section). if s.executable then Open else Placed p.section p.offset) (got_of (after_all t k ss).opened.sections p.section text_section (section_at t.opened p.section) later)
+    ap (λ (s : Section). if s.executable then Open else InSection p.section p.offset) (got_of (after_all t k ss).opened.sections p.section text_section (section_at t.opened p.section) later)
 
 -- the current section is inside
 pub open_inside : (o : Opened) → IsOpen o → o.current < length o.sections
@@ -151,17 +148,17 @@ open_inside o (x, e) = inside o.sections o.current e
 abbrev pub labels_in : ℕ → List Labelled → Bool
 labels_in n labels = list_all (λ l. nat_lt l.place.section n) labels
 
-abbrev pub marks_in : ℕ → List Marked → Bool
-marks_in n marks = list_all (λ m. nat_lt m.place.section n) marks
+abbrev pub numeric_labels_in : ℕ → List NumericLabel → Bool
+numeric_labels_in n numeric_labels = list_all (λ m. nat_lt m.place.section n) numeric_labels
 
 pub record AreIn (t : Tables) (n : ℕ) : Type 0 where
   pub labels : labels_in n t.labels ≡ true
-  pub marks : marks_in n t.marks ≡ true
+  pub numeric_labels : numeric_labels_in n t.numeric_labels ≡ true
 
 in_more : (t : Tables) (n k : ℕ) → n ≤ k → AreIn t n → AreIn t k
 in_more t n k more h = record {
   labels = all_weaker (λ l. nat_lt l.place.section n) (λ l. nat_lt l.place.section k) t.labels (λ l. wider l.place.section) h.labels;
-  marks = all_weaker (λ m. nat_lt m.place.section n) (λ m. nat_lt m.place.section k) t.marks (λ m. wider m.place.section) h.marks;
+  numeric_labels = all_weaker (λ m. nat_lt m.place.section n) (λ m. nat_lt m.place.section k) t.numeric_labels (λ m. wider m.place.section) h.numeric_labels;
 }
   where
     wider : (a : ℕ) → nat_lt a n ≡ true → nat_lt a k ≡ true
@@ -176,45 +173,41 @@ in_label t o name n inside h =
     in_if (is_defined t o name) t (record t { labels = t.labels ++ record { name = name; ordinal = o; place = here t } ∷ [] }) n h (record {
       labels = list_all-append (λ (l : Labelled). nat_lt l.place.section n) t.labels (record { name = name; ordinal = o; place = here t } ∷ [])
           ∙ ap (λ b. b && (nat_lt t.opened.current n && true)) h.labels ∙ ap (λ b. b && true) (lt-ltb t.opened.current n inside);
-      marks = h.marks;
+      numeric_labels = h.numeric_labels;
     })
 
-in_set : (t : Tables) (s : Option Setting) (n : ℕ) → AreIn t n → AreIn (with_setting t s) n
+in_set : (t : Tables) (s : Option Assignment) (n : ℕ) → AreIn t n → AreIn (with_assignment t s) n
 in_set t None n h = h
-in_set t (Some s) n h = in_if (may_set t s.ordinal s.name s.meaning) (record t { settings = s ∷ t.settings }) t n (record { labels = h.labels; marks = h.marks }) h
-
-in_data : (t : Tables) (bytes : ℕ) (alignment : Option ℕ) (n : ℕ) → AreIn t n → AreIn (with_data t bytes alignment) n
-in_data t bytes alignment n h = in_if (current_section t.opened).executable t _ n h (record { labels = h.labels; marks = h.marks })
-
-in_some : (t : Tables) (o : ℕ) (d : Directive) (n : ℕ) → AreIn t n → AreIn (let v = value t false o (here t) in with_data t (data_bytes v (here t).offset d) (asked v d)) n
-in_some t o d n h = let v : Expression → Value = value t false o (here t) in in_data t (data_bytes v (here t).offset d) (asked v d) n h
+in_set t (Some s) n h = in_if (may_set t s.ordinal s.name s.meaning) (record t { assignments = s ∷ t.assignments }) t n (record { labels = h.labels; numeric_labels = h.numeric_labels }) h
 
 in_section : (t : Tables) (section : Option Section) (n : ℕ) → AreIn t n → AreIn (with_section t section) n
 in_section t None n h = h
-in_section t (Some section) n h = in_if (length (entered t.opened section).sections == length t.opened.sections) _ _ n (record { labels = h.labels; marks = h.marks }) (record { labels = h.labels; marks = h.marks })
+in_section t (Some section) n h = in_if (length (entered t.opened section).sections == length t.opened.sections) _ _ n (record { labels = h.labels; numeric_labels = h.numeric_labels }) (record { labels = h.labels; numeric_labels = h.numeric_labels })
 
 in_choice : (t : Tables) (choice : Choice) (n : ℕ) → AreIn t n → AreIn (with_choice t choice) n
-in_choice t Push n h = record { labels = h.labels; marks = h.marks }
-in_choice t Pop n h = record { labels = h.labels; marks = h.marks }
+in_choice t Push n h = record { labels = h.labels; numeric_labels = h.numeric_labels }
+in_choice t Pop n h = record { labels = h.labels; numeric_labels = h.numeric_labels }
 in_choice t _ n h = h
 
+in_chosen : (t : Tables) (found : Option Choice) (n : ℕ) → AreIn t n → AreIn (with_chosen t found) n
+in_chosen t None n h = h
+in_chosen t (Some choice) n h = in_choice t choice n h
+
+in_contribution : (t : Tables) (v : Expression → Value) (c : Contribution) (n : ℕ) → AreIn t n → AreIn (with_contribution t v c) n
+in_contribution t v Nothing n h = h
+in_contribution t v _ n h = record { labels = h.labels; numeric_labels = h.numeric_labels }
+
 in_directive : (t : Tables) (o : ℕ) (d : Directive) (n : ℕ) → AreIn t n → AreIn (after_directive t o d) n
-in_directive t o (Enters standard) n h = in_section t (entered_by (Enters standard)) n h
-in_directive t o (Opens name flags kind) n h = in_section t (entered_by (Opens name flags kind)) n h
-in_directive t o (Globl names) n h = h
-in_directive t o (Local names) n h = h
-in_directive t o (Sets name e) n h = in_set t _ n h
-in_directive t o (Aligns_to_power e) n h = in_some t o (Aligns_to_power e) n h
-in_directive t o (Aligns_to_bytes e) n h = in_some t o (Aligns_to_bytes e) n h
-in_directive t o (Values width values) n h = in_some t o (Values width values) n h
-in_directive t o (Strings ended strings) n h = in_some t o (Strings ended strings) n h
-in_directive t o (Zeros count) n h = in_some t o (Zeros count) n h
-in_directive t o (Chooses choice) n h = in_choice t choice n h
-in_directive t o Ignored n h = h
+in_directive t o d n h =
+    let v : Expression → Value = value t false o (here t) in
+    let entered = with_section t (entered_by d) in
+    let named = with_assignment entered (assigned_by v o d) in
+    in_contribution (with_chosen named (chosen d)) v (contribution d) n
+    (in_chosen named (chosen d) n (in_set entered (assigned_by v o d) n (in_section t (entered_by d) n h)))
 
 in_after : (t : Tables) (o : ℕ) (says : Statement) (n : ℕ) → t.opened.current < n → AreIn t n → AreIn (after t o says) n
 in_after t o (Label name) n inside h = in_label t o name n inside h
-in_after t o (Numbered number) n inside h = record { labels = h.labels; marks = ap (λ b. b && marks_in n t.marks) (lt-ltb t.opened.current n inside) ∙ h.marks }
+in_after t o (Numbered number) n inside h = record { labels = h.labels; numeric_labels = ap (λ b. b && numeric_labels_in n t.numeric_labels) (lt-ltb t.opened.current n inside) ∙ h.numeric_labels }
 in_after t o (Instruction mnemonic operands) n inside h = h
 in_after t o (Directs d) n inside h = in_directive t o d n h
 
@@ -246,7 +239,7 @@ stood_all t o [] h = h
 stood_all t o (s ∷ ss) h = stood_all (after t o s.says) (suc o) ss (stood_after t o s.says h)
 
 pub stood_start : IsStood at_start
-stood_start = record { opened = (text_section, refl); inside = record { labels = refl; marks = refl } }
+stood_start = record { opened = (text_section, refl); inside = record { labels = refl; numeric_labels = refl } }
 
 -- what is found stands inside
 pub find_passes : {X : Type 0} (p q : X → Bool) (xs : List X) (x : X) → list_all q xs ≡ true → find p xs ≡ Some x → q x ≡ true

@@ -8,21 +8,21 @@ use Rattle.rv_text_laws.specs.declared.operator.UnaryOperator.TheVariants.{Negat
 use Rattle.rv_text_laws.specs.declared.operator.BinaryOperator.{BinaryOperator}
 use Rattle.rv_text_laws.specs.declared.operator.BinaryOperator.TheVariants.{Multiply, Divide, Remainder, ShiftLeft, ShiftRight, Or, And, ExclusiveOr, Add, Subtract}
 use Rattle.rv_text_laws.specs.Expression.{Primary, Literal, Symbol, Here, Reference, Tree, Leaf, Unary, Paren, Binary}
-use Rattle.rv_text_laws.specs.Values.{Meaning, Known, Placed, Open, Refused, Value, Constant, Symbolic, Difference, Faulty, refused, apart, sum, difference, constants, both, alone, meant, primary_value, value_of}
+use Rattle.rv_text_laws.specs.Values.{Meaning, Known, InSection, Open, Refused, Value, Constant, Symbolic, Difference, Faulty, refused, apart, sum, difference, constants, both, alone, meant, primary_value, value_of}
 use Rattle.rv_statement.specs.Statement.{Expression}
-use Rattle.rv_unit_laws.specs.Tables.{Tables, Place, Labelled, Marked, Setting, label_of, set_before, set_ever, set_later, set_first, labelled, marked_after, forward_in, meaning, value}
+use Rattle.rv_unit_laws.specs.Tables.{Tables, SectionOffset, Labelled, NumericLabel, Assignment, label_of, assigned_before, assigned_ever, assigned_later, assigned_first, labelled, numeric_label_after, forward_in, meaning, value}
 use Rattle.rv_unit_laws.proofs.Before.{IsBefore, label_below, below}
 
 -- ---- values
 
--- a number or a place
+-- a number or a location
 abbrev pub is_settled : Meaning → Bool
 is_settled (Known n) = true
-is_settled (Placed section offset) = true
+is_settled (InSection section offset) = true
 is_settled Open = false
 is_settled (Refused code) = false
 
--- a constant, or a symbol with a place: no other value is ever part of a constant
+-- a constant, or a symbol with a location: no other value is ever part of a constant
 abbrev pub is_fixed : Value → Bool
 is_fixed (Constant n) = true
 is_fixed (Symbolic p at plus) = is_settled at
@@ -54,10 +54,10 @@ not_refused : (o : BinaryOperator) (v w : Value) → is_fixed (refused o v w) �
 not_refused o v w e = let f = refused_loose o v w in absurd (cc)
 
 apart_fixed : (s t : Meaning) (p q : Primary) (k : ℕ) → is_fixed (apart s t p q k) ≡ true → (is_settled s ≡ true) × (is_settled t ≡ true)
-apart_fixed (Placed s a) (Placed t b) p q k e = (refl, refl)
-apart_fixed (Placed s a) (Known n) p q k e = absurd (cc)
-apart_fixed (Placed s a) Open p q k e = absurd (cc)
-apart_fixed (Placed s a) (Refused c) p q k e = absurd (cc)
+apart_fixed (InSection s a) (InSection t b) p q k e = (refl, refl)
+apart_fixed (InSection s a) (Known n) p q k e = absurd (cc)
+apart_fixed (InSection s a) Open p q k e = absurd (cc)
+apart_fixed (InSection s a) (Refused c) p q k e = absurd (cc)
 apart_fixed (Known n) t p q k e = absurd (cc)
 apart_fixed Open t p q k e = absurd (cc)
 apart_fixed (Refused c) t p q k e = absurd (cc)
@@ -126,11 +126,11 @@ alone_fixed Complement (Faulty c) e = absurd (cc)
 
 meant_fixed : (p : Primary) (at : Meaning) → is_fixed (meant p at) ≡ true → is_settled at ≡ true
 meant_fixed p (Known n) e = refl
-meant_fixed p (Placed s a) e = refl
+meant_fixed p (InSection s a) e = refl
 meant_fixed p Open e = absurd (cc)
 meant_fixed p (Refused c) e = absurd (cc)
 
--- the numbers and places of the first are those of the second
+-- the numbers and locations of the first are those of the second
 abbrev pub Agree : (Primary → Meaning) → (Primary → Meaning) → Type 0
 Agree m now = (p : Primary) → is_settled (m p) ≡ true → now p ≡ m p
 
@@ -164,27 +164,27 @@ label_stays found (Some k) at is l e = by (nat_lt k.ordinal at) (sym e ∙ is)
     by false f = absurd (cc)
 
 module _ (t : Tables) (o at : ℕ) (before : IsBefore t o) where
-  named_later : (name : List ℕ) (first : Option Setting) (found : Option Labelled) → label_of t.labels false at name ≡ found
-      → is_settled (set_first first (labelled t.opened found Open)) ≡ true
-      → set_first first (labelled t.opened (label_of t.labels true at name) (set_later true (set_ever t.settings name))) ≡ set_first first (labelled t.opened found Open)
+  named_later : (name : List ℕ) (first : Option Assignment) (found : Option Labelled) → label_of t.labels false at name ≡ found
+      → is_settled (assigned_first first (labelled t.opened found Open)) ≡ true
+      → assigned_first first (labelled t.opened (label_of t.labels true at name) (assigned_later true (assigned_ever t.assignments name))) ≡ assigned_first first (labelled t.opened found Open)
   named_later name (Some s) found is e = refl
   named_later name None None is e = absurd (cc)
   named_later name None (Some l) is e =
-      ap (λ k. labelled t.opened k (set_later true (set_ever t.settings name)))
+      ap (λ k. labelled t.opened k (assigned_later true (assigned_ever t.assignments name)))
       (label_stays (label_of t.labels false at name) (label_of t.labels true 0 name) at (label_below t o at name before) l is)
 
-  ahead_later : (found : Option Marked) → is_settled (forward_in t.opened false found) ≡ true → forward_in t.opened true found ≡ forward_in t.opened false found
+  ahead_later : (found : Option NumericLabel) → is_settled (forward_in t.opened false found) ≡ true → forward_in t.opened true found ≡ forward_in t.opened false found
   ahead_later None e = absurd (cc)
   ahead_later (Some m) e = absurd (cc)
 
-  -- what has a number or a place where places defined later do not count has the same where they do
-  pub later_agrees : (p : Place) → Agree (λ q. meaning t false at p q) (λ q. meaning t true at p q)
+  -- what has a number or a location where locations defined later do not count has the same where they do
+  pub later_agrees : (p : SectionOffset) → Agree (λ q. meaning t false at p q) (λ q. meaning t true at p q)
   later_agrees p (Literal number) e = refl
-  later_agrees p (Symbol name) e = named_later name (set_before t.settings at name) (label_of t.labels false at name) refl e
+  later_agrees p (Symbol name) e = named_later name (assigned_before t.assignments at name) (label_of t.labels false at name) refl e
   later_agrees p Here e = refl
-  later_agrees p (Reference digits true) e = ahead_later (marked_after t.marks at (digits_value 10 digits)) e
+  later_agrees p (Reference digits true) e = ahead_later (numeric_label_after t.numeric_labels at (digits_value 10 digits)) e
   later_agrees p (Reference digits false) e = refl
 
   -- so a constant there is the same constant here
-  pub constant_later : (p : Place) (e : Expression) (n : ℕ) → value t false at p e ≡ Constant n → value t true at p e ≡ Constant n
+  pub constant_later : (p : SectionOffset) (e : Expression) (n : ℕ) → value t false at p e ≡ Constant n → value t true at p e ≡ Constant n
   constant_later p e n is = constant_same (λ q. meaning t false at p q) (λ q. meaning t true at p q) (later_agrees p) e n is

@@ -3,12 +3,13 @@
 
 use Rattle.std.specs.Prelude.{ℕ, suc, ◌+◌, ◌*◌, ◌^◌, Bool, true, false, not, ◌&&◌, ◌||◌, ◌==◌, nat_lt, nat_le, min, List, [], ◌∷◌, ◌++◌, length, flat_map, Option, Some, None, is_some, if◌then◌else◌}
 use Rattle.rv_text_laws.specs.Values.{Value, Constant, Symbolic, Difference, Faulty}
-use Rattle.rv_statement.specs.Statement.{Statement, Label, Numbered, Instruction, Directs, Spoken, Directive, Enters, Opens, Globl, Local, Sets, Aligns_to_power, Aligns_to_bytes, Values, Strings, Zeros, Chooses, Ignored}
+use Rattle.rv_statement.specs.Statement.{Statement, Label, Numbered, Instruction, Directs, Spoken, Expression, Directive, Enters, Opens, Sets, Chooses}
 use Rattle.rv_statement.specs.declared.directive.Choice.{Choice}
 use Rattle.rv_statement.specs.declared.directive.Choice.TheVariants.{Pop}
 use Rattle.rv_text_laws.specs.Expression.{Here}
 use Rattle.rv_unit_laws.specs.Sections.{Section, current_section, place_of_name, most_sections, entered_by}
-use Rattle.rv_unit_laws.specs.Tables.{Tables, at_start, after, tables, here, value, has_place, is_defined, is_power, greatest_alignment, longest_section, asked, counted, padding, string_bytes}
+use Rattle.rv_unit_laws.specs.Contributions.{Contents, Numbers, Texts, AlignmentForm, As_power, As_bytes, Contribution, Nothing, Bytes, Zero_bytes, Alignment, contribution}
+use Rattle.rv_unit_laws.specs.Tables.{Tables, at_start, after, tables, here, value, has_location, is_defined, is_power, greatest_alignment, longest_section, alignment_as, contents_size, counted, padding}
 
 -- the code of a fault where it is one
 abbrev pub faulty_if : Bool → ℕ → List ℕ
@@ -42,7 +43,7 @@ abbrev pub bytes_faults : Value → List ℕ
 bytes_faults (Constant n) = if is_power n then faulty_if (not (nat_le n greatest_alignment)) 17 else 14 ∷ []
 bytes_faults v = constant_faults v
 
--- a value of data of so many bytes: a place alone takes 4 or 8
+-- a value of data of a width: a symbol alone takes 4 or 8
 abbrev pub value_faults : ℕ → Value → List ℕ
 value_faults width (Constant n) = []
 value_faults width (Symbolic symbol at plus) = faulty_if (nat_lt width 4) 13
@@ -54,26 +55,26 @@ abbrev pub code_alignment_faults : Bool → Option ℕ → List ℕ
 code_alignment_faults nobits None = []
 code_alignment_faults nobits (Some alignment) = faulty_if (not (nat_le alignment 2)) (if nobits then 15 else 9)
 
--- so many bytes of data at an offset
+-- data at an offset
 abbrev pub past_section : Bool → ℕ → ℕ → List ℕ
 past_section executable offset bytes = faulty_if (not executable && not (nat_le (offset + bytes) longest_section)) 17
 
 abbrev pub zero_faults : Section → ℕ → Value → List ℕ
-zero_faults home offset v =
-    size_faults v ++ (faulty_if home.executable 15
+zero_faults section offset v =
+    size_faults v ++ (faulty_if section.executable 15
     ++ elim (counted v) [
       | None ↦ []
-      | Some n ↦ past_section home.executable offset n
+      | Some n ↦ past_section section.executable offset n
     ])
 
 abbrev pub alignment_faults : Section → ℕ → Option ℕ → List ℕ
-alignment_faults home offset alignment =
-    if home.executable then code_alignment_faults home.nobits alignment else past_section false offset (padding alignment offset)
+alignment_faults section offset alignment =
+    if section.executable then code_alignment_faults section.nobits alignment else past_section false offset (padding alignment offset)
 
--- a second definition of a name of which either is a label or a place; a place stands in no code
+-- a second definition of a name of which either is a label or a location; a location stands in no code
 abbrev pub set_faults : Tables → ℕ → Section → List ℕ → Value → List ℕ
-set_faults t ordinal home name (Symbolic Here at plus) = faulty_if (is_defined t ordinal name) 11 ++ faulty_if home.executable 15
-set_faults t ordinal home name v = constant_faults v ++ faulty_if (has_place t ordinal name) 11
+set_faults t ordinal section name (Symbolic Here at plus) = faulty_if (is_defined t ordinal name) 11 ++ faulty_if section.executable 15
+set_faults t ordinal section name v = constant_faults v ++ faulty_if (has_location t ordinal name) 11
 
 -- one section more than there may be
 abbrev pub section_faults : List Section → Option Section → List ℕ
@@ -85,30 +86,35 @@ abbrev pub choice_faults : ℕ → Choice → List ℕ
 choice_faults kept Pop = faulty_if (kept == 0) 16
 choice_faults kept _ = []
 
--- the codes of a directive's faults: `t` are the tables before it, `all` those of the whole source
+abbrev pub number_faults : AlignmentForm → Value → List ℕ
+number_faults As_power v = power_faults v
+number_faults As_bytes v = bytes_faults v
+
+abbrev pub contents_faults : (Expression → Value) → Contents → List ℕ
+contents_faults v (Numbers width values) = flat_map (λ e. value_faults width (v e)) values
+contents_faults v (Texts ended strings) = []
+
+-- the codes of the faults of what a directive contributes: `t` are the tables before it, `all` those of the whole source
+abbrev pub contribution_faults : Tables → Tables → ℕ → Contribution → List ℕ
+contribution_faults all t ordinal Nothing = []
+contribution_faults all t ordinal (Bytes contents) =
+    let section = current_section t.opened in
+    contents_faults (λ e. value all true ordinal (here t) e) contents
+    ++ (faulty_if (section.executable || section.nobits) 15 ++ past_section section.executable (here t).offset (contents_size contents))
+contribution_faults all t ordinal (Zero_bytes count) =
+    zero_faults (current_section t.opened) (here t).offset (value all false ordinal (here t) count)
+contribution_faults all t ordinal (Alignment form number) =
+    let v = value all false ordinal (here t) number in
+    number_faults form v ++ alignment_faults (current_section t.opened) (here t).offset (alignment_as form v)
+
+-- the codes of a directive's faults
 abbrev pub directive_faults : Tables → Tables → ℕ → Directive → List ℕ
 directive_faults all t ordinal (Enters standard) = section_faults t.opened.sections (entered_by (Enters standard))
 directive_faults all t ordinal (Opens name flags kind) = section_faults t.opened.sections (entered_by (Opens name flags kind))
-directive_faults all t ordinal (Globl names) = []
-directive_faults all t ordinal (Local names) = []
 directive_faults all t ordinal (Sets name e) =
     set_faults t ordinal (current_section t.opened) name (value all false ordinal (here t) e)
-directive_faults all t ordinal (Aligns_to_power exponent) =
-    power_faults (value all false ordinal (here t) exponent)
-    ++ alignment_faults (current_section t.opened) (here t).offset (asked (value all false ordinal (here t)) (Aligns_to_power exponent))
-directive_faults all t ordinal (Aligns_to_bytes bytes) =
-    bytes_faults (value all false ordinal (here t) bytes)
-    ++ alignment_faults (current_section t.opened) (here t).offset (asked (value all false ordinal (here t)) (Aligns_to_bytes bytes))
-directive_faults all t ordinal (Values width values) =
-    flat_map (λ e. value_faults width (value all true ordinal (here t) e)) values
-    ++ (faulty_if ((current_section t.opened).executable || (current_section t.opened).nobits) 15
-    ++ past_section (current_section t.opened).executable (here t).offset (width * length values))
-directive_faults all t ordinal (Strings ended strings) =
-    faulty_if ((current_section t.opened).executable || (current_section t.opened).nobits) 15
-    ++ past_section (current_section t.opened).executable (here t).offset (length (string_bytes ended strings))
-directive_faults all t ordinal (Zeros count) = zero_faults (current_section t.opened) (here t).offset (value all false ordinal (here t) count)
-directive_faults all t ordinal (Chooses choice) = choice_faults t.kept choice
-directive_faults all t ordinal Ignored = []
+directive_faults all t ordinal (Chooses choice) = choice_faults t.option_depth choice
+directive_faults all t ordinal d = contribution_faults all t ordinal (contribution d)
 
 -- an instruction stands in a section of code that has its bytes in the file
 abbrev pub faults : Tables → Tables → ℕ → Statement → List ℕ

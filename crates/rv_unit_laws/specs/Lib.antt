@@ -1,3 +1,4 @@
 pub mod Sections
+pub mod Contributions
 pub mod Tables
 pub mod Faults

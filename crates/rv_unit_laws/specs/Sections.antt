@@ -65,7 +65,7 @@ section_of name flags kind = record {
 abbrev pub text_section : Section
 text_section = record { name = codes ".text"; loaded = true; executable = true; writable = false; nobits = false }
 
--- the sections that a source has opened so far, in their order, and the current one's place among them, from 0
+-- the sections that a source has opened so far, in their order, and the current one's index among them, from 0
 pub record Opened : Type 0 where
   pub sections : List Section
   pub current : ℕ
@@ -90,7 +90,7 @@ entered_at opened section None =
     then record { sections = opened.sections ++ section ∷ []; current = length opened.sections }
     else opened
 
--- a name that was opened before keeps its section; a new one is a section behind the others, while there is room
+-- a name that was opened before keeps its section; a new one is a section after the others, while there is room
 abbrev pub entered : Opened → Section → Opened
 entered opened section = entered_at opened section (place_of_name opened.sections section.name)
 

@@ -1,5 +1,17 @@
-//! What the statements of one source define: its sections, its names and their meanings, and its first fault beyond
-//! syntax. Nothing here runs.
+//! What the statements of one source define, and which of them is the first to be wrong beyond its syntax. Nothing here
+//! runs: `rv_tables` and `rv_unit` are the code.
+//!
+//! It takes statements as `rv_statement` has them (`specs/Statement`), and defines, each in a module of `specs/`: the
+//! sections of a source (`Sections`), what a directive contributes to its section (`Contributions`), the tables that the
+//! statements fill one after the other and what a name means in each of them (`Tables`: `after`, `tables`, `meaning`,
+//! `definition`), and the faults (`Faults`: `first_fault`).
+//!
+//! It knows no text, no instruction, no address and no other source.
+//!
+//! ```text
+//! first_fault statements ≡ None
+//! value (tables statements) true ordinal (here t) expression ≡ Constant 4
+//! ```
 //!
 //! Source: GNU as, "Sections", "Symbols", "Expressions" and "Pseudo Ops".
 #![tactic(auto)]

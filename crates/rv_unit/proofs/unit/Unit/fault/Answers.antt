@@ -4,7 +4,7 @@ use Rattle.rv_statement.specs.View.{quoted, statement_of}
 use Rattle.rv_unit_laws.specs.Faults as faults
 use Rattle.rv_unit_laws.specs.Tables as laws
 use Rattle.rv_unit.specs.Faults.{IsLowest}
-use Rattle.rv_unit.specs.Tables.{tables_of}
+use Rattle.rv_tables.specs.Tables.{tables_of}
 use Rattle.rv_unit.specs.Unit.{said}
 use Rattle.rv_unit.proofs.unit.Unit.fault.Goals as goal
 

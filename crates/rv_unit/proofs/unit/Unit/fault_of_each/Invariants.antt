@@ -6,7 +6,7 @@ use Rattle.rv_unit_laws.specs.Faults as faults
 use Rattle.rv_unit_laws.specs.Tables as laws
 use Rattle.rv_unit_laws.proofs.Before.{IsBefore}
 use Rattle.rv_unit.specs.Faults.{IsLowest}
-use Rattle.rv_unit.specs.Tables.{tables_of, IsIndexed}
+use Rattle.rv_tables.specs.Tables.{tables_of, IsIndexed}
 use Rattle.rv_unit.specs.Unit.{said, IsFilled}
 use Rattle.rv_unit.proofs.unit.Unit.fault_of_each.Given as goal
 

@@ -2,7 +2,7 @@ use Rattle.std.proofs.Common.{sym, ◌∙◌, subst}
 use Rattle.rv_unit_laws.specs.Faults as faults
 use Rattle.rv_unit_laws.proofs.Before.{defined_now}
 use Rattle.rv_unit.specs.Faults.{IsLowest}
-use Rattle.rv_unit.specs.Tables.{tables_of}
+use Rattle.rv_tables.specs.Tables.{tables_of}
 use Rattle.rv_unit.proofs.unit.Unit.fault_of_label.Goals as goal
 
 pub returns : goal.returns

@@ -1,13 +1,14 @@
 use Rattle.std.proofs.Common.{◌≡◌, ◌+◌, ◌<◌, ◌≤◌, refl, ap, sym, ◌∙◌, rules, length, get_or, arith, Some, None}
 use Rattle.std.proofs.lemmas.List.{length-map, drop_all}
-use Rattle.rv_text.specs.Fault.{number_of}
+use Rattle.rv_lexer.specs.Fault.{number_of}
 use Rattle.rv_statement.specs.Statement.{Spoken}
 use Rattle.rv_statement.specs.View.{said_by}
 use Rattle.rv_unit_laws.specs.Faults as faults
 use Rattle.rv_unit_laws.specs.Tables as laws
-use Rattle.rv_unit.specs.Tables.{tables_of}
+use Rattle.rv_tables.specs.Tables.{tables_of}
 use Rattle.rv_unit.specs.Unit.{said}
-use Rattle.rv_unit.proofs.Filling.{passed, passed_more}
+use Rattle.rv_unit.specs.Unit.{passed}
+use Rattle.rv_unit.proofs.Passed.{passed_more}
 use Rattle.rv_unit.proofs.Scoped.{pass_more, pass_before, said_at}
 use Rattle.rv_unit.proofs.Checked.{check_more, check_found, check_lowest, next_said}
 use Rattle.rv_unit.proofs.unit.Unit.first_fault.Goals as goal

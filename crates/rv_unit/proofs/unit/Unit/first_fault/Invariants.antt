@@ -2,9 +2,9 @@
 use Rattle.std.proofs.Common.{◌≡◌, ◌+◌, drop}
 use Rattle.rv_unit_laws.specs.Faults.{first_fault, first_fault_from}
 use Rattle.rv_unit_laws.specs.Tables.{tables}
-use Rattle.rv_unit.specs.Tables.{tables_of, IsIndexed}
+use Rattle.rv_tables.specs.Tables.{tables_of, IsIndexed}
 use Rattle.rv_unit.specs.Unit.{said, IsFilled}
-use Rattle.rv_unit.proofs.Filling.{passed}
+use Rattle.rv_unit.specs.Unit.{passed}
 use Rattle.rv_unit.proofs.unit.Unit.first_fault.Given as goal
 
 abbrev pub invariant-loop-statement : goal.invariant-loop-statement

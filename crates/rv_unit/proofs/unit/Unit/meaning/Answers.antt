@@ -2,8 +2,8 @@ use Rattle.std.proofs.Common.{◌∙◌, ◌+◌, ap, sym, length, true, false}
 use Rattle.rv_text.specs.Nodes.{symbol_of}
 use Rattle.rv_text_laws.specs.Bytes.{value as digits_value}
 use Rattle.rv_unit_laws.specs.Tables as laws
-use Rattle.rv_unit.specs.Sections.{place_of}
-use Rattle.rv_unit.specs.Tables.{tables_of}
+use Rattle.rv_tables.specs.Sections.{offset_of}
+use Rattle.rv_tables.specs.Tables.{tables_of}
 use Rattle.rv_unit.specs.Unit.{said}
 use Rattle.rv_unit.proofs.Scoped.{whole_before}
 use Rattle.rv_unit.proofs.unit.Unit.meaning.Goals as goal
@@ -12,7 +12,7 @@ pub returns-in-Name : goal.returns-in-Name
 returns-in-Name c = λ o f at.
     let all = tables_of c.args.self.now.tables in
     let ss = said c.args.self.now in
-    let p = place_of c.args.place in
+    let p = offset_of c.args.place in
     c.named.ensures f.indexed (1 + length ss) (whole_before c.args.self.now f) ∙ ap (λ n. laws.named all true n c.in-Name.name.now) at ∙ ap (λ x. laws.named x true o c.in-Name.name.now) f.tables
     ∙ sym (ap (λ x. laws.meaning (laws.tables ss) true o p (symbol_of x)) c.in-Name.is)
 
@@ -20,7 +20,7 @@ pub returns-in-Here : goal.returns-in-Here
 returns-in-Here c = λ o f at.
     let all = tables_of c.args.self.now.tables in
     let ss = said c.args.self.now in
-    let p = place_of c.args.place in
+    let p = offset_of c.args.place in
     c.stands.ensures ∙ ap (λ (x : laws.Tables). laws.stands x.opened p) f.tables
     ∙ sym (ap (λ x. laws.meaning (laws.tables ss) true o p (symbol_of x)) c.in-Here.is)
 
@@ -28,7 +28,7 @@ pub returns-in-Backward : goal.returns-in-Backward
 returns-in-Backward c = λ o f at.
     let all = tables_of c.args.self.now.tables in
     let ss = said c.args.self.now in
-    let p = place_of c.args.place in
+    let p = offset_of c.args.place in
     c.backward.ensures f.indexed (1 + length ss) (whole_before c.args.self.now f) ∙ ap (λ n. laws.referred all true n (digits_value 10 c.in-Backward.digits.now) false) at ∙ ap (λ x. laws.referred x true o (digits_value 10 c.in-Backward.digits.now) false) f.tables
     ∙ sym (ap (λ x. laws.meaning (laws.tables ss) true o p (symbol_of x)) c.in-Backward.is)
 
@@ -36,6 +36,6 @@ pub returns-in-Forward : goal.returns-in-Forward
 returns-in-Forward c = λ o f at.
     let all = tables_of c.args.self.now.tables in
     let ss = said c.args.self.now in
-    let p = place_of c.args.place in
+    let p = offset_of c.args.place in
     c.forward.ensures f.indexed (1 + length ss) (whole_before c.args.self.now f) ∙ ap (λ n. laws.referred all true n (digits_value 10 c.in-Forward.digits.now) true) at ∙ ap (λ x. laws.referred x true o (digits_value 10 c.in-Forward.digits.now) true) f.tables
     ∙ sym (ap (λ x. laws.meaning (laws.tables ss) true o p (symbol_of x)) c.in-Forward.is)

@@ -1,0 +1,5 @@
+mod Digits
+mod Gives
+pub mod Lookups
+mod Ordered
+pub mod Filling

@@ -1,0 +1,15 @@
+use Rattle.std.proofs.Common.{nat_lt, slice_index_or, rules, of_calls}
+use Rattle.std.proofs.lemmas.Fn.{always_returns_same}
+use Rattle.std.proofs.lemmas.Bool.{ltb-true, ltb-false}
+use Rattle.rv_tables.specs.declared.tables.Assignment.{Assignment}
+use Rattle.rv_tables.proofs.Ordered.{partitioned_before}
+use Rattle.rv_tables.proofs.assignments.count_assigned_before.Goals as goal
+
+pub returns-clause-point : goal.returns-clause-point
+returns-clause-point c = λ rise.
+    let xs = c.args.assignments.now in
+    let o = c.args.ordinal in
+    let point = c.partition_point.ensures.partitioned (λ (x : Assignment). nat_lt x.ordinal o) (always_returns_same _ _ _ (λ a r f k. search (rules, of_calls))) (partitioned_before (λ (x : Assignment). x.ordinal) o xs rise) in (
+      (λ k d low high. ltb-true (slice_index_or xs k d).ordinal o (point.0 k d low high)),
+      (λ k d low high. ltb-false (slice_index_or xs k d).ordinal o (point.1 k d low high)),
+    )

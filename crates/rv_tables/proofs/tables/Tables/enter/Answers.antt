@@ -1,0 +1,19 @@
+use Rattle.std.proofs.Common.{◌≡◌, ◌∙◌, ap, sym, refl, length, rules, map, [], ◌∷◌}
+use Rattle.std.proofs.lemmas.List.{map-append, length-map}
+use Rattle.rv_tables.specs.Sections.{section_of, extent_section}
+use Rattle.rv_tables.proofs.Lookups.{indexed_more}
+use Rattle.rv_tables.proofs.tables.Tables.enter.Goals as goal
+
+pub returns-clause-indexed : goal.returns-clause-indexed
+returns-clause-indexed c = λ i.
+    let es = c.args.self.now.extents.items in
+    let count : c.len-count.result ≡ length es = search rules in
+    record {
+      numbers = indexed_more c.args.self.now.numbers.entries c.insert.new.self.entries (map extent_section es) (map extent_section c.push.new.self.items) (section_of c.args.section) c.len-count.result c.args.section.name
+          i.numbers (sym (i.numbers c.args.section.name.now) ∙ sym (c.copied.ensures ∙ c.get.ensures.value) ∙ c.in_default.is)
+          (count ∙ sym (length-map es extent_section))
+          (ap (map extent_section) c.in_ok-push.ensures.items ∙ map-append extent_section es (record { section = c.args.section; bytes = 0; alignment = 1 } ∷ []))
+          refl c.in_ok-insert.ensures.updates.0;
+      assignments = i.assignments;
+      numbered = i.numbered;
+    }

@@ -1,0 +1,60 @@
+-- What the tables of the code stand for.
+
+use Rattle.std.specs.Prelude.{◌≡◌, ◌==◌, ℕ, List, [], map, filter, reverse}
+use Rattle.std.specs.Option.{option_map_or}
+use Rattle.std.specs.declared.vec.Vec.{Vec}
+use Rattle.std.specs.Borrow.{Bor}
+use Rattle.std.specs.Str.{bytes_eq}
+use Rattle.indexmap.specs.IndexMap.{IndexMap, get_by}
+use Rattle.rv_text_laws.specs.Bytes.{value}
+use Rattle.rv_text.specs.Eval.{meaning_of}
+use Rattle.rv_unit_laws.specs.Sections as sections
+use Rattle.rv_unit_laws.specs.Tables as laws
+use Rattle.rv_tables.specs.declared.tables.Assignment.{Assignment}
+use Rattle.rv_tables.specs.declared.tables.Label.{Label}
+use Rattle.rv_tables.specs.declared.number.Number.{Number}
+use Rattle.rv_tables.specs.declared.tables.NumericLabel.{NumericLabel}
+use Rattle.rv_tables.specs.declared.tables.Tables.{Tables}
+use Rattle.rv_tables.specs.declared.section.Extent.{Extent}
+use Rattle.rv_tables.specs.Sections.{offset_of, extent_section}
+
+abbrev pub labelled_of : Bor (List ℕ) × Label → laws.Labelled
+labelled_of e = record { name = e.0.now; ordinal = e.1.ordinal; place = offset_of e.1.place }
+
+abbrev pub label_at : List ℕ → Label → laws.Labelled
+label_at name l = record { name = name; ordinal = l.ordinal; place = offset_of l.place }
+
+abbrev pub numeric_label_of : NumericLabel → laws.NumericLabel
+numeric_label_of m = record { number = value 10 m.digits.now; ordinal = m.ordinal; place = offset_of m.place }
+
+abbrev pub assignment_of : Assignment → laws.Assignment
+assignment_of s = record { name = s.name.now; ordinal = s.ordinal; meaning = meaning_of s.meaning; plus = s.plus }
+
+abbrev pub opened_by : List Extent → ℕ → sections.Opened
+opened_by extents current = record { sections = map extent_section extents; current = current }
+
+-- the tables, of which the code has assignments and numeric labels with the latest last
+abbrev pub tables_of : Tables → laws.Tables
+tables_of b = record {
+  opened = opened_by b.extents.items b.current;
+  ends = map (λ (e : Extent). e.bytes) b.extents.items;
+  alignments = map (λ (e : Extent). e.alignment) b.extents.items;
+  labels = map labelled_of b.labels.entries;
+  numeric_labels = reverse (map numeric_label_of b.numeric_labels.items);
+  assignments = reverse (map assignment_of b.assignments.items);
+  option_depth = b.option_depth;
+}
+
+-- the numeric labels of a number
+abbrev pub numeric_labels_at : {Z S : Type 0} → IndexMap Number (Vec NumericLabel Z) S → ℕ → List NumericLabel
+numeric_labels_at numbered number = option_map_or (λ numeric_labels. numeric_labels.items) (get_by (λ (k : Number). number == value 10 k.digits.now) numbered) []
+
+-- the assignments of a name
+abbrev pub assignments_at : {Z S : Type 0} → IndexMap (Bor (List ℕ)) (Vec Assignment Z) S → List ℕ → List Assignment
+assignments_at by_name name = option_map_or (λ assignments. assignments.items) (get_by (λ (k : Bor (List ℕ)). bytes_eq name k.now) by_name) []
+
+-- what is looked up by name or number is what a search would find
+pub record IsIndexed (b : Tables) : Type 0 where
+  pub numbers : (name : List ℕ) → get_by (λ (k : Bor (List ℕ)). bytes_eq name k.now) b.numbers ≡ sections.place_of_name (map extent_section b.extents.items) name
+  pub assignments : (name : List ℕ) → assignments_at b.by_name name ≡ filter (λ (g : Assignment). bytes_eq g.name.now name) b.assignments.items
+  pub numbered : (digits : List ℕ) → numeric_labels_at b.numbered (value 10 digits) ≡ filter (λ (m : NumericLabel). value 10 m.digits.now == value 10 digits) b.numeric_labels.items

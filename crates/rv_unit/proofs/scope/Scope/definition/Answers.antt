@@ -1,0 +1,36 @@
+use Rattle.std.proofs.Common.{◌∙◌, ap, sym, ◌+◌, true, false, length, Some}
+use Rattle.rv_text_laws.specs.Expression.{Symbol, Reference}
+use Rattle.rv_text.specs.Nodes.{symbol_of}
+use Rattle.rv_unit_laws.specs.Tables.{definition, tables, definition_at, numeric_definition}
+use Rattle.rv_tables.specs.Tables.{tables_of}
+use Rattle.rv_unit.specs.Unit.{said}
+use Rattle.rv_unit.proofs.Scoped.{whole_before}
+use Rattle.rv_unit.proofs.scope.Scope.definition.Goals as goal
+
+pub returns-in-Name : goal.returns-in-Name
+returns-in-Name c = λ i f s.
+    let u = c.args.self.now.unit.now in
+    let q = Symbol c.in-Name.name.now in
+    c.definition_of_name.ensures f.indexed (1 + length (said u)) (whole_before u f) ∙ ap (λ o. definition (tables_of u.tables) o q) s.ordinal ∙ ap (λ t. definition t (i + 1) q) f.tables
+    ∙ sym (ap (λ x. definition (tables (said u)) (i + 1) (symbol_of x)) c.in-Name.is)
+
+pub returns-in-Here : goal.returns-in-Here
+returns-in-Here c = λ i f s.
+    let ss = said c.args.self.now.unit.now in
+    ap (λ o. Some (definition_at o)) s.ordinal ∙ sym (ap (λ x. definition (tables ss) (i + 1) (symbol_of x)) c.in-Here.is)
+
+pub returns-in-Backward : goal.returns-in-Backward
+returns-in-Backward c = λ i f s.
+    let u = c.args.self.now.unit.now in
+    let q = Reference c.in-Backward.digits.now false in
+    c.definition_of_numeric_label.ensures ∙ ap numeric_definition (c.numeric_label_before.ensures f.indexed (1 + length (said u)) (whole_before u f))
+    ∙ ap (λ o. definition (tables_of u.tables) o q) s.ordinal ∙ ap (λ t. definition t (i + 1) q) f.tables
+    ∙ sym (ap (λ x. definition (tables (said u)) (i + 1) (symbol_of x)) c.in-Backward.is)
+
+pub returns-in-Forward : goal.returns-in-Forward
+returns-in-Forward c = λ i f s.
+    let u = c.args.self.now.unit.now in
+    let q = Reference c.in-Forward.digits.now true in
+    c.definition_of_numeric_label-in-Forward.ensures ∙ ap numeric_definition (c.numeric_label_after.ensures f.indexed (1 + length (said u)) (whole_before u f))
+    ∙ ap (λ o. definition (tables_of u.tables) o q) s.ordinal ∙ ap (λ t. definition t (i + 1) q) f.tables
+    ∙ sym (ap (λ x. definition (tables (said u)) (i + 1) (symbol_of x)) c.in-Forward.is)
