@@ -14,7 +14,8 @@ use Rattle.rv_isa_laws.specs.Memory.{Mem, Read, Write, Execute}
 use Rattle.rv_encode.specs.Word.{form, word, Spells}
 use Rattle.rv_isa_laws.specs.Reader.{Reader}
 use Rattle.rv_isa_laws.specs.Run.{fetch, Got}
-use Rattle.rv_statement.specs.Statement.{Statement, Label, Numbered, Instruction, Directs, Spoken, Directive, Sets, Aligns_to_power, Aligns_to_bytes, Values, Strings, Zeros}
+use Rattle.rv_statement.specs.Statement.{Statement, Label, Numbered, Instruction, Directs, Spoken, Expression, Directive, Sets}
+use Rattle.rv_unit_laws.specs.Contributions.{Contribution, Nothing, Bytes, Zero_bytes, Alignment, contribution}
 use Rattle.rv_unit_laws.specs.Sections.{Section, goes_to_text, goes_to_rodata, goes_to_data, goes_to_bss}
 use Rattle.rv_unit_laws.specs.Tables.{Tables, tables, aligned}
 use Rattle.rv_map.specs.Map.{Map}
@@ -23,12 +24,12 @@ use Rattle.rv_image.specs.Linked.{Linked}
 use Rattle.rv_image.specs.Executable.{linked_image}
 use Rattle.rv_isa_laws.specs.Platform.{stack_start, stack_end}
 use Rattle.rv_image.specs.Memory.{mem_of}
-use Rattle.rv_source_laws.specs.Stated.{stated}
-use Rattle.rv_source_laws.specs.Sites.{Entry, Site, Program, program, seated, sites_of}
+use Rattle.rv_source_laws.specs.Located.{located}
+use Rattle.rv_source_laws.specs.Program.{MaybeMapped, Mapped, Program, program, number, seated, mapped_of}
 use Rattle.rv_source_laws.specs.Resolves.{is_global_in, is_start, begins_run, starts_at}
 use Rattle.rv_source_laws.specs.Meaning.{Line, Lie, expansion}
-use Rattle.rv_source_laws.specs.Fits.{IsRowOf, IsPaddingIn, SizeFits, Block, block_of, blocks, blocks_of_file, blocks_of, greatest, Holds, Stand, end_of}
-use Rattle.rv_source_laws.specs.Start.{is_within, is_in, right_at, first_byte, byte_of, spelled}
+use Rattle.rv_source_laws.specs.Fits.{IsRowOf, IsPaddingIn, ContributionFits, SizeFits, InputSection, input_section, input_sections, input_sections_of_file, input_sections_of, greatest, Holds, Stand, end_of}
+use Rattle.rv_source_laws.specs.Start.{is_within, is_in, right_at, first_byte, byte_of, spelled, spelled_contribution}
 use Rattle.rv_source_laws.specs.SourceRun.{Starts, Gap, Outside, starts_or_inside, place, found}
 use Rattle.rv_chain_laws.specs.Realizes.{StandsIn, HoldsLines, Realizes}
 use Rattle.rv_chain_laws.specs.Contents.{words, code_bytes, contents, zeros, IsWritten, IsLinked}
@@ -37,7 +38,7 @@ use Rattle.rv_chain_laws.proofs.Words.{HasBytes, bytes_behind, fetch-word, may_a
 use Rattle.rv_chain_laws.proofs.Wide.{valid_wide}
 use Rattle.rv_chain_laws.proofs.Simulation.{find_holds, agreement_of_image}
 use Rattle.rv_chain_laws.proofs.Regions.{Sized, LiesIn, Misses, AllIn, IsAligned, byte_at, byte_zero, above, end_above, lie_blocks, held_blocks, zero_blocks, length_blocks}
-use Rattle.rv_chain_laws.proofs.Held.{DirectiveHeld, IsHeld, Held, held_of}
+use Rattle.rv_chain_laws.proofs.Held.{ContributionHeld, DirectiveHeld, IsHeld, Held, held_of}
 use Rattle.rv_chain_laws.proofs.Homes.{sections_of, sections_in, IsSeated, IsAtHome, seats, homes, all_join, all_map, to_blocks, from_blocks}
 use Rattle.rv_chain_laws.proofs.LaidOut.{AreRegions, apart, rights-are, text_held, rodata_held, data_held, bss_held, stack_zero}
 
@@ -73,7 +74,7 @@ module _ {StandsFor : ℕ → Inst → Type 0} (reader : Reader Spells StandsFor
       let got : fetch reader m a ≡ Got i 4 = fetch-word reader m a i (word (form i)) (words (Some is)) refl wide.0 wide.1 valid (omega arith) (may_all m 4 a (λ x l u. runs x l (omega arith)) (omega arith)) h in
       ((got, valid), lines_stand (a + 4) is ws (bytes_behind m a (to_le_bytes w32 (word (form i))) (words (Some is)) h) (λ x l u. runs x (omega arith) u) (omega arith))
 
-  holds_written : (p : Program) (s : Site) → IsWritten p s → HasBytes m s.row.address (code_bytes p s) → Runs m s.row.address stop → s.row.address + s.row.bytes ≤ stop → IsRowOf (expansion p s) s.row → HoldsLines reader m p s
+  holds_written : (p : Program) (s : Mapped) → IsWritten p s → HasBytes m s.row.address (code_bytes p s) → Runs m s.row.address stop → s.row.address + s.row.bytes ≤ stop → IsRowOf (expansion p s) s.row → HoldsLines reader m p s
   holds_written p s (is, e, size) h runs fits row =
       let a = s.row.address in
       let valid : AllByRecursion IsValid is = (subst (λ o. IsRowOf o s.row) e row).0 in
@@ -101,23 +102,25 @@ zero_index k n = elim (cases_lt n k) [
   | inr past ↦ get_or-eq_default (zeros k) 0 {n = n} (subst (λ x. x ≤ n) (sym (length-replicate {A = ℕ} k 0)) past)
 ]
 
-padding_code : (b : Bool) (p : Program) (s : Site) (d : Directive) → b ≡ true → IsPaddingIn b p s d → IsRowOf (expansion p s) s.row
+padding_code : (b : Bool) (p : Program) (s : Mapped) (d : Directive) → b ≡ true → IsPaddingIn b p s d → IsRowOf (expansion p s) s.row
 padding_code true p s d e h = h.0
 padding_code false p s d e h = absurd (cc)
 
 module _ (p : Program) (file ordinal section offset line : ℕ) (home : Section) (placed : Bool) (row : Row) where
-  abbrev at : Statement → Site
-  at says = record { stated = record { file = file; ordinal = ordinal; section = section; offset = offset; home = home; line = line; says = says; placed = placed }; row = row }
+  abbrev at : Statement → Mapped
+  at says = record { located = record { file = file; ordinal = ordinal; section = section; offset = offset; home = home; line = line; says = says; placed = placed }; row = row }
 
   -- a row outside of executable sections has the bytes that its statement spells
+  contribution_data : (d : Directive) (c : Contribution) → contribution d ≡ c → ContributionFits p (at (Directs d)) d c → Sized (spelled p) (at (Directs d))
+  contribution_data d Nothing e fits = absurd fits
+  contribution_data d (Bytes contents) e fits = sym fits.1
+  contribution_data d (Zero_bytes count) e fits = sym fits.1
+  contribution_data d (Alignment form value) e fits =
+      ap (λ (c : Contribution). length (spelled_contribution (number p (at (Directs d))) c row.bytes)) e ∙ length-replicate {A = ℕ} row.bytes 0
+
   directive_data : (d : Directive) → SizeFits p (at (Directs d)) → Sized (spelled p) (at (Directs d))
   directive_data (Sets name expression) fits = no_bytes true row fits
-  directive_data (Values width values) fits = sym fits.1
-  directive_data (Strings ended strings) fits = sym fits.1
-  directive_data (Zeros count) fits = sym fits.1
-  directive_data (Aligns_to_power exponent) fits = length-replicate {A = ℕ} row.bytes 0
-  directive_data (Aligns_to_bytes bytes) fits = length-replicate {A = ℕ} row.bytes 0
-  directive_data _ fits = absurd fits
+  directive_data d fits = contribution_data d (contribution d) refl fits
 
   statement_data : (says : Statement) → SizeFits p (at says) → IsHeld home says → home.executable ≡ false → Sized (spelled p) (at says)
   statement_data (Label name) fits held e = no_bytes true row fits
@@ -126,14 +129,16 @@ module _ (p : Program) (file ordinal section offset line : ℕ) (home : Section)
   statement_data (Directs directive) fits held e = directive_data directive fits
 
   -- a row in an executable section has its statement's instructions
+  contribution_code : (d : Directive) (c : Contribution) → ContributionFits p (at (Directs d)) d c → ContributionHeld home c → home.executable ≡ true
+      → IsRowOf (expansion p (at (Directs d))) row
+  contribution_code d Nothing fits held e = absurd fits
+  contribution_code d (Bytes contents) fits held e = true_false home.executable e held.0
+  contribution_code d (Zero_bytes count) fits held e = true_false home.executable e held
+  contribution_code d (Alignment form value) fits held e = padding_code home.executable p (at (Directs d)) d e fits
+
   directive_code : (d : Directive) → SizeFits p (at (Directs d)) → DirectiveHeld home d → home.executable ≡ true → IsRowOf (expansion p (at (Directs d))) row
   directive_code (Sets name expression) fits held e = fits
-  directive_code (Values width values) fits held e = true_false home.executable e held.0
-  directive_code (Strings ended strings) fits held e = true_false home.executable e held.0
-  directive_code (Zeros count) fits held e = true_false home.executable e held
-  directive_code (Aligns_to_power exponent) fits held e = padding_code home.executable p (at (Directs (Aligns_to_power exponent))) _ e fits
-  directive_code (Aligns_to_bytes bytes) fits held e = padding_code home.executable p (at (Directs (Aligns_to_bytes bytes))) _ e fits
-  directive_code _ fits held e = absurd fits
+  directive_code d fits held e = contribution_code d (contribution d) fits held e
 
   statement_code : (says : Statement) → SizeFits p (at says) → IsHeld home says → home.executable ≡ true → IsRowOf (expansion p (at says)) row
   statement_code (Label name) fits held e = fits
@@ -142,19 +147,17 @@ module _ (p : Program) (file ordinal section offset line : ℕ) (home : Section)
   statement_code (Directs directive) fits held e = directive_code directive fits held e
 
   -- a row without bytes in the file has zeros
-  directive_zeros : (d : Directive) → DirectiveHeld home d → home.nobits ≡ true → (n : ℕ) → slice_index (spelled p (at (Directs d))) n ≡ 0
-  directive_zeros (Values width values) held e n = true_false home.nobits e held.1
-  directive_zeros (Strings ended strings) held e n = true_false home.nobits e held.1
-  directive_zeros (Zeros count) held e n = zero_index _ n
-  directive_zeros (Aligns_to_power exponent) held e n = zero_index row.bytes n
-  directive_zeros (Aligns_to_bytes bytes) held e n = zero_index row.bytes n
-  directive_zeros _ held e n = refl
+  contribution_zeros : (v : Expression → ℕ) (c : Contribution) → ContributionHeld home c → home.nobits ≡ true → (n : ℕ) → slice_index (spelled_contribution v c row.bytes) n ≡ 0
+  contribution_zeros v Nothing held e n = refl
+  contribution_zeros v (Bytes contents) held e n = true_false home.nobits e held.1
+  contribution_zeros v (Zero_bytes count) held e n = zero_index (v count) n
+  contribution_zeros v (Alignment form value) held e n = zero_index row.bytes n
 
   statement_zeros : (says : Statement) → IsHeld home says → home.nobits ≡ true → (n : ℕ) → slice_index (spelled p (at says)) n ≡ 0
   statement_zeros (Label name) held e n = refl
   statement_zeros (Numbered number) held e n = refl
   statement_zeros (Instruction mnemonic operands) held e n = refl
-  statement_zeros (Directs directive) held e n = directive_zeros directive held e n
+  statement_zeros (Directs directive) held e n = contribution_zeros (number p (at (Directs directive))) (contribution directive) held e n
 
 -- ---- the region of a section
 
@@ -184,34 +187,34 @@ one_or_more : (b : Bool) (g : ℕ) → 1 ≤ max (if b then 2 else 1) g
 one_or_more true g = omega arith
 one_or_more false g = omega arith
 
-aligned_file : (goes : Section → Bool) (t : Tables) (sites : List Site) (file index : ℕ) (sections : List Section) → AllByRecursion IsAligned (blocks_of_file goes t sites file index sections)
-aligned_file goes t sites file index [] = tt
-aligned_file goes t sites file index (section ∷ sections) = go (goes section) (aligned_file goes t sites file (suc index) sections)
+aligned_file : (goes : Section → Bool) (t : Tables) (mapped : List Mapped) (file index : ℕ) (sections : List Section) → AllByRecursion IsAligned (input_sections_of_file goes t mapped file index sections)
+aligned_file goes t mapped file index [] = tt
+aligned_file goes t mapped file index (section ∷ sections) = go (goes section) (aligned_file goes t mapped file (suc index) sections)
   where
-    go : (b : Bool) → AllByRecursion IsAligned (blocks_of_file goes t sites file (suc index) sections)
-        → AllByRecursion IsAligned (if b then block_of t section sites file index ∷ blocks_of_file goes t sites file (suc index) sections else blocks_of_file goes t sites file (suc index) sections)
+    go : (b : Bool) → AllByRecursion IsAligned (input_sections_of_file goes t mapped file (suc index) sections)
+        → AllByRecursion IsAligned (if b then input_section t section mapped file index ∷ input_sections_of_file goes t mapped file (suc index) sections else input_sections_of_file goes t mapped file (suc index) sections)
     go true rest = (one_or_more (goes_to_text section) (slice_index_or t.alignments index 1), rest)
     go false rest = rest
 
-aligned_files : (goes : Section → Bool) (sites : List Site) (file : ℕ) (files : List (List Spoken)) → AllByRecursion IsAligned (blocks_of goes sites file files)
-aligned_files goes sites file [] = tt
-aligned_files goes sites file (ss ∷ files) =
-    all_join IsAligned (blocks_of_file goes (tables ss) sites file 0 (sections_of ss)) (blocks_of goes sites (suc file) files)
-    (aligned_file goes (tables ss) sites file 0 (sections_of ss)) (aligned_files goes sites (suc file) files)
+aligned_files : (goes : Section → Bool) (mapped : List Mapped) (file : ℕ) (files : List (List Spoken)) → AllByRecursion IsAligned (input_sections_of goes mapped file files)
+aligned_files goes mapped file [] = tt
+aligned_files goes mapped file (ss ∷ files) =
+    all_join IsAligned (input_sections_of_file goes (tables ss) mapped file 0 (sections_of ss)) (input_sections_of goes mapped (suc file) files)
+    (aligned_file goes (tables ss) mapped file 0 (sections_of ss)) (aligned_files goes mapped (suc file) files)
 
-some_alignment : (bs : List Block) → 1 ≤ greatest bs
+some_alignment : (bs : List InputSection) → 1 ≤ greatest bs
 some_alignment [] = omega arith
 some_alignment (b ∷ bs) = let e = some_alignment bs in omega arith
 
 -- ---- tests of places
 
-starts_when : (t g : Bool) (o : Option Site) (s : Site) → (if t then (if g then Gap else starts_or_inside o) else Outside) ≡ Starts s → (t ≡ true) × (o ≡ Some s)
+starts_when : (t g : Bool) (o : Option Mapped) (s : Mapped) → (if t then (if g then Gap else starts_or_inside o) else Outside) ≡ Starts s → (t ≡ true) × (o ≡ Some s)
 starts_when true true o s e = absurd (cc)
 starts_when true false (Some k) s e = (refl, cc)
 starts_when true false None s e = absurd (cc)
 starts_when false g o s e = absurd (cc)
 
-no_gap : (t : Bool) (o : Option Site) → (if t then starts_or_inside o else Outside) ≡ Gap → ⊥
+no_gap : (t : Bool) (o : Option Mapped) → (if t then starts_or_inside o else Outside) ≡ Gap → ⊥
 no_gap true (Some r) e = cc
 no_gap true None e = cc
 no_gap false o e = cc
@@ -261,16 +264,16 @@ past : {A : Type 0} (a b c x : ℕ) → is_within a b x ≡ true → b ≤ c →
 past a b c x inside le high = let parts = within_parts a b x inside in absurd (omega arith)
 
 -- what holds of the statements that have a row
-abbrev Seated : (Site → Type 0) → Entry → Type 0
-Seated P e = (r : Row) → e.row ≡ Some r → P (record { stated = e.stated; row = r })
+abbrev Seated : (Mapped → Type 0) → MaybeMapped → Type 0
+Seated P e = (r : Row) → e.row ≡ Some r → P (record { located = e.located; row = r })
 
-seated_all : (P : Site → Type 0) (entries : List Entry) → AllByRecursion P (sites_of entries) → AllByRecursion (Seated P) entries
+seated_all : (P : Mapped → Type 0) (statements : List MaybeMapped) → AllByRecursion P (mapped_of statements) → AllByRecursion (Seated P) statements
 seated_all P [] h = tt
 seated_all P (e ∷ es) h = go e.row refl h (λ hs. seated_all P es hs)
   where
-    go : (o : Option Row) → e.row ≡ o → AllByRecursion P (seated e.stated o ++ sites_of es) → (AllByRecursion P (sites_of es) → AllByRecursion (Seated P) es) → Seated P e × AllByRecursion (Seated P) es
+    go : (o : Option Row) → e.row ≡ o → AllByRecursion P (seated e.located o ++ mapped_of es) → (AllByRecursion P (mapped_of es) → AllByRecursion (Seated P) es) → Seated P e × AllByRecursion (Seated P) es
     go None none hs more = (λ r some. absurd (cc), more hs)
-    go (Some row) is (q, qs) more = (λ r some. (let same : row ≡ r = cc in subst (λ x. P (record { stated = e.stated; row = x })) same q), more qs)
+    go (Some row) is (q, qs) more = (λ r some. (let same : row ≡ r = cc in subst (λ x. P (record { located = e.located; row = x })) same q), more qs)
 
 -- ---- a linked program
 
@@ -287,28 +290,28 @@ module _ (sources : List (List Spoken)) (a : ℕ) (l : Linked) (h : IsLinked sou
   abbrev sections : ℕ → List Section
   sections = sections_in sources
 
-  abbrev region : (Section → Bool) → List Block
-  region goes = blocks goes sources map_of
+  abbrev region : (Section → Bool) → List InputSection
+  region goes = input_sections goes sources map_of
 
-  at_home : AllByRecursion (IsAtHome sections) p.sites
+  at_home : AllByRecursion (IsAtHome sections) p.mapped
   at_home = homes sources map_of.rows
 
   -- each statement fits its row, and stands in a section that can hold it
-  abbrev Fitting : Site → Type 0
-  Fitting s = SizeFits p s × Held s.stated
+  abbrev Fitting : Mapped → Type 0
+  Fitting s = SizeFits p s × Held s.located
 
-  fitting : AllByRecursion Fitting p.sites
+  fitting : AllByRecursion Fitting p.mapped
   fitting =
-      all_pair (SizeFits p) (λ s. Held s.stated) p.sites h.fits.sizes
-      (all_map (IsSeated Held) (λ s. Held s.stated) p.sites (λ s seat. seat.0) (seats Held (stated sources) map_of.rows (held_of 1 sources h.fits.good)))
+      all_pair (SizeFits p) (λ s. Held s.located) p.mapped h.fits.sizes
+      (all_map (IsSeated Held) (λ s. Held s.located) p.mapped (λ s seat. seat.0) (seats Held (located sources) map_of.rows (held_of 1 sources h.fits.good)))
 
   is_aligned : (goes : Section → Bool) → AllByRecursion IsAligned (region goes)
-  is_aligned goes = aligned_files goes p.sites 1 sources
+  is_aligned goes = aligned_files goes p.mapped 1 sources
 
   data_sized : (goes : Section → Bool) → ((s : Section) → goes s ≡ true → s.executable ≡ false) → AllIn (Sized (spelled p)) (region goes)
-  data_sized goes none = to_blocks p.sites sources goes (Sized (spelled p)) at_home
-      (all_map Fitting (λ s. goes s.stated.home ≡ true → Sized (spelled p) s) p.sites
-      (λ s fits good. statement_data p s.stated.file s.stated.ordinal s.stated.section s.stated.offset s.stated.line s.stated.home s.stated.placed s.row s.stated.says fits.0 fits.1 (none s.stated.home good)) fitting)
+  data_sized goes none = to_blocks p.mapped sources goes (Sized (spelled p)) at_home
+      (all_map Fitting (λ s. goes s.located.home ≡ true → Sized (spelled p) s) p.mapped
+      (λ s fits good. statement_data p s.located.file s.located.ordinal s.located.section s.located.offset s.located.line s.located.home s.located.placed s.row s.located.says fits.0 fits.1 (none s.located.home good)) fitting)
 
   not_rodata : (s : Section) → goes_to_rodata s ≡ true → s.executable ≡ false
   not_rodata s e = no_code_more s.loaded s.executable s.nobits (not s.writable) e
@@ -316,13 +319,13 @@ module _ (sources : List (List Spoken)) (a : ℕ) (l : Linked) (h : IsLinked sou
   not_data : (s : Section) → goes_to_data s ≡ true → s.executable ≡ false
   not_data s e = no_code_more s.loaded s.executable s.nobits s.writable e
 
-  written_sized : (s : Site) → IsWritten p s → Sized (code_bytes p) s
+  written_sized : (s : Mapped) → IsWritten p s → Sized (code_bytes p) s
   written_sized s (is, e, size) = ap (λ o. length (words o)) e ∙ words_length is ∙ sym size
 
   code_sized : AllIn (Sized (code_bytes p)) (region goes_to_text)
-  code_sized = to_blocks p.sites sources goes_to_text (Sized (code_bytes p)) at_home
-      (all_map (λ s. IsTrue s.stated.home.executable → IsWritten p s) (λ s. goes_to_text s.stated.home ≡ true → Sized (code_bytes p) s) p.sites
-      (λ s w good. written_sized s (w (and_parts s.stated.home.loaded s.stated.home.executable good).1)) h.written)
+  code_sized = to_blocks p.mapped sources goes_to_text (Sized (code_bytes p)) at_home
+      (all_map (λ s. IsTrue s.located.home.executable → IsWritten p s) (λ s. goes_to_text s.located.home ≡ true → Sized (code_bytes p) s) p.mapped
+      (λ s w good. written_sized s (w (and_parts s.located.home.loaded s.located.home.executable good).1)) h.written)
 
   -- each region holds its sections from its start on
   text_holds : Holds map_of.text a (region goes_to_text)
@@ -346,7 +349,7 @@ module _ (sources : List (List Spoken)) (a : ℕ) (l : Linked) (h : IsLinked sou
   data_is : l.data ≡ contents (spelled p) map_of.data.start (region goes_to_data)
   data_is = h.data
 
-  filled : (start place stop : ℕ) (bytes : Site → List ℕ) (bs : List Block) (stored : List ℕ) → start ≡ place → stop ≡ end_of place bs → stored ≡ contents bytes start bs → AllIn (Sized bytes) bs → AllByRecursion IsAligned bs → start + length stored ≡ stop
+  filled : (start place stop : ℕ) (bytes : Mapped → List ℕ) (bs : List InputSection) (stored : List ℕ) → start ≡ place → stop ≡ end_of place bs → stored ≡ contents bytes start bs → AllIn (Sized bytes) bs → AllByRecursion IsAligned bs → start + length stored ≡ stop
   filled start place stop bytes bs stored at ends is sized up =
       ap (λ x. start + length x) is ∙ length_blocks bytes bs start sized up ∙ ap (λ x. end_of x bs) at ∙ sym ends
 
@@ -364,46 +367,46 @@ module _ (sources : List (List Spoken)) (a : ℕ) (l : Linked) (h : IsLinked sou
 
   module _ {StandsFor : ℕ → Inst → Type 0} (reader : Reader Spells StandsFor) where
     -- where the statements of each region stand, and that memory holds their bytes
-    abbrev In : (Section → Bool) → (Site → Type 0) → Site → Type 0
-    In goes P s = goes s.stated.home ≡ true → P s
+    abbrev In : (Section → Bool) → (Mapped → Type 0) → Mapped → Type 0
+    In goes P s = goes s.located.home ≡ true → P s
 
     same_end : (n k : ℕ) → n ≡ k → k ≤ n
     same_end n k e = omega arith
 
-    lies : (goes : Section → Bool) (start place stop : ℕ) → start ≡ place → Stand place (region goes) → stop ≡ end_of place (region goes) → AllByRecursion (In goes (LiesIn start stop)) p.sites
+    lies : (goes : Section → Bool) (start place stop : ℕ) → start ≡ place → Stand place (region goes) → stop ≡ end_of place (region goes) → AllByRecursion (In goes (LiesIn start stop)) p.mapped
     lies goes start place stop at stand ends =
-        from_blocks p.sites sources goes (LiesIn start stop) at_home
+        from_blocks p.mapped sources goes (LiesIn start stop) at_home
         (lie_blocks (region goes) place start stop (is_aligned goes) stand (same_end place start (sym at)) (same_end stop (end_of place (region goes)) ends))
 
-    held : (goes : Section → Bool) (bytes : Site → List ℕ) (start place : ℕ) (stored : List ℕ) → start ≡ place → Stand place (region goes) → stored ≡ contents bytes start (region goes) → AllIn (Sized bytes) (region goes) → HasBytes m start stored
-        → AllByRecursion (In goes (λ s. HasBytes m s.row.address (bytes s))) p.sites
+    held : (goes : Section → Bool) (bytes : Mapped → List ℕ) (start place : ℕ) (stored : List ℕ) → start ≡ place → Stand place (region goes) → stored ≡ contents bytes start (region goes) → AllIn (Sized bytes) (region goes) → HasBytes m start stored
+        → AllByRecursion (In goes (λ s. HasBytes m s.row.address (bytes s))) p.mapped
     held goes bytes start place stored at stand is sized has =
-        from_blocks p.sites sources goes (λ s. HasBytes m s.row.address (bytes s)) at_home
+        from_blocks p.mapped sources goes (λ s. HasBytes m s.row.address (bytes s)) at_home
         (held_blocks bytes m (region goes) start sized (is_aligned goes) (subst (λ x. Stand x (region goes)) (sym at) stand) (subst (HasBytes m start) is has))
 
-    abbrev Whole : Site → Type 0
+    abbrev Whole : Mapped → Type 0
     Whole s =
-        IsAtHome sections s × (Fitting s × ((IsTrue s.stated.home.executable → IsWritten p s)
+        IsAtHome sections s × (Fitting s × ((IsTrue s.located.home.executable → IsWritten p s)
         × (In goes_to_text (LiesIn map_of.text.start map_of.text.end) s × (In goes_to_text (λ s. HasBytes m s.row.address (code_bytes p s)) s
         × (In goes_to_rodata (LiesIn map_of.rodata.start map_of.rodata.end) s × (In goes_to_rodata (λ s. HasBytes m s.row.address (spelled p s)) s
         × (In goes_to_data (LiesIn map_of.data.start map_of.data.end) s × (In goes_to_data (λ s. HasBytes m s.row.address (spelled p s)) s
         × In goes_to_bss (LiesIn map_of.bss.start map_of.bss.end) s))))))))
 
-    whole : AllByRecursion Whole p.sites
+    whole : AllByRecursion Whole p.mapped
     whole =
-        all_pair (IsAtHome sections) _ p.sites at_home
-        (all_pair Fitting _ p.sites fitting
-        (all_pair (λ s. IsTrue s.stated.home.executable → IsWritten p s) _ p.sites h.written
-        (all_pair (In goes_to_text (LiesIn map_of.text.start map_of.text.end)) _ p.sites (lies goes_to_text map_of.text.start a map_of.text.end text_holds.0 text_holds.1 text_holds.2)
-        (all_pair (In goes_to_text (λ s. HasBytes m s.row.address (code_bytes p s))) _ p.sites (held goes_to_text (code_bytes p) map_of.text.start a l.text text_holds.0 text_holds.1 text_is code_sized (text_held l are_regions))
-        (all_pair (In goes_to_rodata (LiesIn map_of.rodata.start map_of.rodata.end)) _ p.sites (lies goes_to_rodata map_of.rodata.start (aligned 4096 map_of.text.end) map_of.rodata.end rodata_holds.0 rodata_holds.1 rodata_holds.2)
-        (all_pair (In goes_to_rodata (λ s. HasBytes m s.row.address (spelled p s))) _ p.sites (held goes_to_rodata (spelled p) map_of.rodata.start (aligned 4096 map_of.text.end) l.rodata rodata_holds.0 rodata_holds.1 rodata_is (data_sized goes_to_rodata not_rodata) (rodata_held l are_regions))
-        (all_pair (In goes_to_data (LiesIn map_of.data.start map_of.data.end)) _ p.sites (lies goes_to_data map_of.data.start (aligned 4096 map_of.rodata.end) map_of.data.end data_holds.0 data_holds.1 data_holds.2)
-        (all_pair (In goes_to_data (λ s. HasBytes m s.row.address (spelled p s))) (In goes_to_bss (LiesIn map_of.bss.start map_of.bss.end)) p.sites (held goes_to_data (spelled p) map_of.data.start (aligned 4096 map_of.rodata.end) l.data data_holds.0 data_holds.1 data_is (data_sized goes_to_data not_data) (data_held l are_regions))
+        all_pair (IsAtHome sections) _ p.mapped at_home
+        (all_pair Fitting _ p.mapped fitting
+        (all_pair (λ s. IsTrue s.located.home.executable → IsWritten p s) _ p.mapped h.written
+        (all_pair (In goes_to_text (LiesIn map_of.text.start map_of.text.end)) _ p.mapped (lies goes_to_text map_of.text.start a map_of.text.end text_holds.0 text_holds.1 text_holds.2)
+        (all_pair (In goes_to_text (λ s. HasBytes m s.row.address (code_bytes p s))) _ p.mapped (held goes_to_text (code_bytes p) map_of.text.start a l.text text_holds.0 text_holds.1 text_is code_sized (text_held l are_regions))
+        (all_pair (In goes_to_rodata (LiesIn map_of.rodata.start map_of.rodata.end)) _ p.mapped (lies goes_to_rodata map_of.rodata.start (aligned 4096 map_of.text.end) map_of.rodata.end rodata_holds.0 rodata_holds.1 rodata_holds.2)
+        (all_pair (In goes_to_rodata (λ s. HasBytes m s.row.address (spelled p s))) _ p.mapped (held goes_to_rodata (spelled p) map_of.rodata.start (aligned 4096 map_of.text.end) l.rodata rodata_holds.0 rodata_holds.1 rodata_is (data_sized goes_to_rodata not_rodata) (rodata_held l are_regions))
+        (all_pair (In goes_to_data (LiesIn map_of.data.start map_of.data.end)) _ p.mapped (lies goes_to_data map_of.data.start (aligned 4096 map_of.rodata.end) map_of.data.end data_holds.0 data_holds.1 data_holds.2)
+        (all_pair (In goes_to_data (λ s. HasBytes m s.row.address (spelled p s))) (In goes_to_bss (LiesIn map_of.bss.start map_of.bss.end)) p.mapped (held goes_to_data (spelled p) map_of.data.start (aligned 4096 map_of.rodata.end) l.data data_holds.0 data_holds.1 data_is (data_sized goes_to_data not_data) (data_held l are_regions))
         (lies goes_to_bss map_of.bss.start (aligned (greatest (region goes_to_bss)) map_of.data.end) map_of.bss.end bss_holds.0 bss_holds.1 bss_holds.2)))))))))
 
     -- the ends of the regions in their order
-    text_room : map_of.text.end ≤ 0x3ff0_0000
+    text_room : map_of.text.end ≤ stack_start
     text_room =
         let r = are_regions in
         let e1 = r.rodata_after in
@@ -441,14 +444,14 @@ module _ (sources : List (List Spoken)) (a : ℕ) (l : Linked) (h : IsLinked sou
         rights-are l are_regions y Execute ∙ inside
 
     -- a row of the text holds its lines
-    row_holds : (s : Site) → Whole s → is_in map_of.text s.row.address ≡ true → HoldsLines reader m p s
+    row_holds : (s : Mapped) → Whole s → is_in map_of.text s.row.address ≡ true → HoldsLines reader m p s
     row_holds s (home, (fits, (written, (tl, (th, (rl, (rh, (dl, (dh, bl))))))))) inside =
-        elim (all_goes s.stated.home.loaded s.stated.home.executable s.stated.home.nobits s.stated.home.writable home.1) [
+        elim (all_goes s.located.home.loaded s.located.home.executable s.located.home.nobits s.located.home.writable home.1) [
           | inl good ↦
-              let x = (and_parts s.stated.home.loaded s.stated.home.executable good).1 in
+              let x = (and_parts s.located.home.loaded s.located.home.executable good).1 in
               let lie = tl good in
               holds_written reader m map_of.text.end (let e = text_room in omega arith) p s (written x) (th good) (text_runs s.row.address lie.0) lie.1
-              (statement_code p s.stated.file s.stated.ordinal s.stated.section s.stated.offset s.stated.line s.stated.home s.stated.placed s.row s.stated.says fits.0 fits.1 x)
+              (statement_code p s.located.file s.located.ordinal s.located.section s.located.offset s.located.line s.located.home s.located.placed s.row s.located.says fits.0 fits.1 x)
           | inr other ↦ elim other [
             | inl good ↦ past map_of.text.start map_of.text.end map_of.rodata.start s.row.address inside rodata_past (rl good).0
             | inr other ↦ elim other [
@@ -459,7 +462,7 @@ module _ (sources : List (List Spoken)) (a : ℕ) (l : Linked) (h : IsLinked sou
         ]
 
     -- a byte that its row spells
-    spelled_at : (s : Site) (x : ℕ) → Sized (spelled p) s → HasBytes m s.row.address (spelled p s) → is_within s.row.address (s.row.address + s.row.bytes) x ≡ true → m.byte x ≡ slice_index (spelled p s) (x - s.row.address)
+    spelled_at : (s : Mapped) (x : ℕ) → Sized (spelled p) s → HasBytes m s.row.address (spelled p s) → is_within s.row.address (s.row.address + s.row.bytes) x ≡ true → m.byte x ≡ slice_index (spelled p s) (x - s.row.address)
     spelled_at s x sized has inside =
         let parts = within_parts s.row.address (s.row.address + s.row.bytes) x inside in
         let at : s.row.address + (x - s.row.address) ≡ x = omega arith in
@@ -492,7 +495,7 @@ module _ (sources : List (List Spoken)) (a : ℕ) (l : Linked) (h : IsLinked sou
         let parts = within_parts a' b' x inside in
         grind (arith, nat_tests)
 
-    -- behind the data there are zeros up to the end of bss
+    -- after the data there are zeros up to the end of bss
     bss_zero : (x : ℕ) → map_of.data.end ≤ x → x < map_of.bss.end → m.byte x ≡ 0
     bss_zero x low high =
         let e1 = are_regions.bss_after in
@@ -500,35 +503,35 @@ module _ (sources : List (List Spoken)) (a : ℕ) (l : Linked) (h : IsLinked sou
         byte_zero m (map_of.bss.end - map_of.data.end) map_of.data.end x (bss_held l are_regions) low (omega arith)
 
     -- a row over a byte that can be read spells it
-    row_spells : (s : Site) (x : ℕ) → Whole s → right_at map_of x Read ≡ true → is_within s.row.address (s.row.address + s.row.bytes) x ≡ true → m.byte x ≡ slice_index (spelled p s) (x - s.row.address)
+    row_spells : (s : Mapped) (x : ℕ) → Whole s → right_at map_of x Read ≡ true → is_within s.row.address (s.row.address + s.row.bytes) x ≡ true → m.byte x ≡ slice_index (spelled p s) (x - s.row.address)
     row_spells s x (home, (fits, (written, (tl, (th, (rl, (rh, (dl, (dh, bl))))))))) readable inside =
-        let st = s.stated in
-        elim (all_goes s.stated.home.loaded s.stated.home.executable s.stated.home.nobits s.stated.home.writable home.1) [
+        let st = s.located in
+        elim (all_goes s.located.home.loaded s.located.home.executable s.located.home.nobits s.located.home.writable home.1) [
           | inl good ↦ true_false (right_at map_of x Read) readable (unreadable x (wider map_of.text.start map_of.text.end s.row.address (s.row.address + s.row.bytes) x (tl good).0 (tl good).1 inside))
           | inr other ↦ elim other [
-            | inl good ↦ spelled_at s x (statement_data p s.stated.file s.stated.ordinal s.stated.section s.stated.offset s.stated.line s.stated.home s.stated.placed s.row s.stated.says fits.0 fits.1 (not_rodata s.stated.home good)) (rh good) inside
+            | inl good ↦ spelled_at s x (statement_data p s.located.file s.located.ordinal s.located.section s.located.offset s.located.line s.located.home s.located.placed s.row s.located.says fits.0 fits.1 (not_rodata s.located.home good)) (rh good) inside
             | inr other ↦ elim other [
-              | inl good ↦ spelled_at s x (statement_data p s.stated.file s.stated.ordinal s.stated.section s.stated.offset s.stated.line s.stated.home s.stated.placed s.row s.stated.says fits.0 fits.1 (not_data s.stated.home good)) (dh good) inside
+              | inl good ↦ spelled_at s x (statement_data p s.located.file s.located.ordinal s.located.section s.located.offset s.located.line s.located.home s.located.placed s.row s.located.says fits.0 fits.1 (not_data s.located.home good)) (dh good) inside
               | inr good ↦
                   let parts = within_parts map_of.bss.start map_of.bss.end x (wider map_of.bss.start map_of.bss.end s.row.address (s.row.address + s.row.bytes) x (bl good).0 (bl good).1 inside) in
                   let e1 = are_regions.bss_after in
                   bss_zero x (omega arith) parts.1
-                  ∙ sym (statement_zeros p s.stated.file s.stated.ordinal s.stated.section s.stated.offset s.stated.line s.stated.home s.stated.placed s.row s.stated.says fits.1 (no_stored s.stated.home.loaded s.stated.home.executable s.stated.home.nobits good) (x - s.row.address))
+                  ∙ sym (statement_zeros p s.located.file s.located.ordinal s.located.section s.located.offset s.located.line s.located.home s.located.placed s.row s.located.says fits.1 (no_stored s.located.home.loaded s.located.home.executable s.located.home.nobits good) (x - s.row.address))
             ]
           ]
         ]
 
-    missed : (goes : Section → Bool) (x : ℕ) → AllByRecursion (Misses x) p.sites → AllIn (Misses x) (region goes)
-    missed goes x none = to_blocks p.sites sources goes (Misses x) at_home (all_map (Misses x) (In goes (Misses x)) p.sites (λ s e good. e) none)
+    missed : (goes : Section → Bool) (x : ℕ) → AllByRecursion (Misses x) p.mapped → AllIn (Misses x) (region goes)
+    missed goes x none = to_blocks p.mapped sources goes (Misses x) at_home (all_map (Misses x) (In goes (Misses x)) p.mapped (λ s e good. e) none)
 
     -- no row lies over a byte that can be read: it is zero
     region_zero : (goes : Section → Bool) (start place stop x : ℕ) (stored : List ℕ) → start ≡ place → Stand place (region goes) → stop ≡ end_of place (region goes) → stored ≡ contents (spelled p) start (region goes) → AllIn (Sized (spelled p)) (region goes) → HasBytes m start stored
-        → AllByRecursion (Misses x) p.sites → start ≤ x → x < stop → m.byte x ≡ 0
+        → AllByRecursion (Misses x) p.mapped → start ≤ x → x < stop → m.byte x ≡ 0
     region_zero goes start place stop x stored at stand ends is sized has none low high =
         zero_blocks (spelled p) m (region goes) start x sized (is_aligned goes) (subst (λ y. Stand y (region goes)) (sym at) stand) (subst (HasBytes m start) is has) (missed goes x none) low
         (subst (λ y. x < y) (ends ∙ ap (λ y. end_of y (region goes)) (sym at)) high)
 
-    none_zero : (x : ℕ) → AllByRecursion (Misses x) p.sites → right_at map_of x Read ≡ true → m.byte x ≡ 0
+    none_zero : (x : ℕ) → AllByRecursion (Misses x) p.mapped → right_at map_of x Read ≡ true → m.byte x ≡ 0
     none_zero x none readable =
         elim (or_cases (is_in map_of.rodata x) (is_within map_of.data.start map_of.bss.end x) (is_within stack_start stack_end x) readable) [
           | inl inside ↦
@@ -547,47 +550,47 @@ module _ (sources : List (List Spoken)) (a : ℕ) (l : Linked) (h : IsLinked sou
 
     -- each byte that can be read is what the data statements spell, and zero everywhere else
     bytes_are : (x : ℕ) → right_at map_of x Read ≡ true → m.byte x ≡ first_byte p x
-    bytes_are x readable = go (find over p.sites) refl
+    bytes_are x readable = go (find over p.mapped) refl
       where
-        over : Site → Bool
+        over : Mapped → Bool
         over s = is_within s.row.address (s.row.address + s.row.bytes) x
 
-        go : (o : Option Site) → find over p.sites ≡ o → m.byte x ≡ byte_of p o x
-        go (Some s) e = row_spells s x (all_found Whole over p.sites s e whole) readable (find_holds over p.sites s e)
-        go None e = none_zero x (none_found over p.sites e) readable
+        go : (o : Option Mapped) → find over p.mapped ≡ o → m.byte x ≡ byte_of p o x
+        go (Some s) e = row_spells s x (all_found Whole over p.mapped s e whole) readable (find_holds over p.mapped s e)
+        go None e = none_zero x (none_found over p.mapped e) readable
 
-    rows_hold : (pc : ℕ) (s : Site) → place p pc ≡ Starts s → HoldsLines reader m p s
+    rows_hold : (pc : ℕ) (s : Mapped) → place p pc ≡ Starts s → HoldsLines reader m p s
     rows_hold pc s e =
-        let starts = starts_when (is_in map_of.text pc) (list_any (λ gap. is_in gap pc) map_of.gaps) (found p.sites pc) s e in
-        let test = find_holds (λ (k : Site). nat_lt 0 k.row.bytes && (k.row.address == pc)) p.sites s starts.1 in
+        let starts = starts_when (is_in map_of.text pc) (list_any (λ gap. is_in gap pc) map_of.gaps) (found p.mapped pc) s e in
+        let test = find_holds (λ (k : Mapped). nat_lt 0 k.row.bytes && (k.row.address == pc)) p.mapped s starts.1 in
         let here : s.row.address ≡ pc = eqb-true s.row.address pc (and_parts (nat_lt 0 s.row.bytes) (s.row.address == pc) test).1 in
-        row_holds s (all_found Whole _ p.sites s starts.1 whole) (subst (λ x. is_in map_of.text x ≡ true) (sym here) starts.0)
+        row_holds s (all_found Whole _ p.mapped s starts.1 whole) (subst (λ x. is_in map_of.text x ≡ true) (sym here) starts.0)
 
     pub realizes_linked : Realizes reader m p
     realizes_linked = record {
       rows = λ pc s u e. rows_hold pc s e;
-      gaps = λ pc u even e. absurd (no_gap (is_in map_of.text pc) (found p.sites pc) (subst (λ gaps. (if is_in map_of.text pc then (if list_any (λ gap. is_in gap pc) gaps then Gap else starts_or_inside (found p.sites pc)) else Outside) ≡ Gap) h.gaps e));
+      gaps = λ pc u even e. absurd (no_gap (is_in map_of.text pc) (found p.mapped pc) (subst (λ gaps. (if is_in map_of.text pc then (if list_any (λ gap. is_in gap pc) gaps then Gap else starts_or_inside (found p.mapped pc)) else Outside) ≡ Gap) h.gaps e));
       rights = λ x u right. rights-are l are_regions x right;
       bytes = λ x u readable. bytes_are x readable;
       fixed = λ x u inside. unwritten x inside;
     }
 
     -- the entry is the place of a label in the text
-    lies_in_text : AllByRecursion (In goes_to_text (LiesIn map_of.text.start map_of.text.end)) p.sites
+    lies_in_text : AllByRecursion (In goes_to_text (LiesIn map_of.text.start map_of.text.end)) p.mapped
     lies_in_text = lies goes_to_text map_of.text.start a map_of.text.end text_holds.0 text_holds.1 text_holds.2
 
-    entry_of : (o : Option Entry) → find (λ e. begins_run sources e.stated) p.entries ≡ o → starts_at o ≡ Some map_of.entry → map_of.entry ≤ map_of.text.end
+    entry_of : (o : Option MaybeMapped) → find (λ e. begins_run sources e.located) p.statements ≡ o → starts_at o ≡ Some map_of.entry → map_of.entry ≤ map_of.text.end
     entry_of None e there = absurd (cc)
     entry_of (Some entry) e there = at_row entry.row refl there
       where
-        found_entry : (r : Row) → entry.row ≡ Some r → In goes_to_text (LiesIn map_of.text.start map_of.text.end) (record { stated = entry.stated; row = r })
-        found_entry = all_found (Seated (In goes_to_text (LiesIn map_of.text.start map_of.text.end))) (λ e. begins_run sources e.stated) p.entries entry e (seated_all _ p.entries lies_in_text)
+        found_entry : (r : Row) → entry.row ≡ Some r → In goes_to_text (LiesIn map_of.text.start map_of.text.end) (record { located = entry.located; row = r })
+        found_entry = all_found (Seated (In goes_to_text (LiesIn map_of.text.start map_of.text.end))) (λ e. begins_run sources e.located) p.statements entry e (seated_all _ p.statements lies_in_text)
 
-        begins : begins_run sources entry.stated ≡ true
-        begins = find_holds (λ (e : Entry). begins_run sources e.stated) p.entries entry e
+        begins : begins_run sources entry.located ≡ true
+        begins = find_holds (λ (e : MaybeMapped). begins_run sources e.located) p.statements entry e
 
-        goes : goes_to_text entry.stated.home ≡ true
-        goes = (and_parts (is_start entry.stated.says) (goes_to_text entry.stated.home) (and_parts (is_start entry.stated.says && goes_to_text entry.stated.home) (is_global_in sources entry.stated.file (codes "_start")) begins).0).1
+        goes : goes_to_text entry.located.home ≡ true
+        goes = (and_parts (is_start entry.located.says) (goes_to_text entry.located.home) (and_parts (is_start entry.located.says && goes_to_text entry.located.home) (is_global_in sources entry.located.file (codes "_start")) begins).0).1
 
         at_row : (o : Option Row) → entry.row ≡ o → option_map (λ (r : Row). r.address) o ≡ Some map_of.entry → map_of.entry ≤ map_of.text.end
         at_row None none same = absurd (cc)
@@ -598,7 +601,7 @@ module _ (sources : List (List Spoken)) (a : ℕ) (l : Linked) (h : IsLinked sou
 
     pub entry_low : map_of.entry < 2 ^ 64
     entry_low =
-        let low = entry_of (find (λ e. begins_run sources e.stated) p.entries) refl h.resolves.entry in
+        let low = entry_of (find (λ e. begins_run sources e.located) p.statements) refl h.resolves.entry in
         let room = text_room in
         omega arith
 

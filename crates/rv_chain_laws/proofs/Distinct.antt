@@ -1,6 +1,6 @@
 -- No name has two global definitions in one source without faults.
 
-use Rattle.std.proofs.Common.{◌≡◌, ℕ, suc, ◌<◌, ◌≤◌, Bool, true, false, List, [], ◌∷◌, ◌++◌, refl, sym, ap, ◌∙◌, subst, arith, append_assoc, append-nil, Option, Some, None}
+use Rattle.std.proofs.Common.{◌≡◌, ℕ, suc, ◌<◌, ◌≤◌, Bool, true, false, List, [], ◌∷◌, ◌++◌, refl, sym, ap, ◌∙◌, subst, arith, append_assoc, append-nil, Some, None}
 use Rattle.std.proofs.lemmas.Bool.{and_parts, ltb-true, lt-ltb, eqb-true}
 use Rattle.std.proofs.lemmas.List.Folds.{list_any-append}
 use Rattle.std.proofs.lemmas.Slice.Eq.{bytes_eq-Decides}
@@ -8,17 +8,18 @@ use Rattle.std.specs.Prelude.{◌&&◌, ◌||◌, ◌==◌, not, nat_lt, is_some
 use Rattle.std.specs.List.{AllByRecursion, find, list_any}
 use Rattle.std.specs.Str.{bytes_eq}
 use Rattle.rv_text_laws.specs.Expression.{Literal, Symbol, Here, Reference}
-use Rattle.rv_text_laws.specs.Values.{Known, Placed, Open, Refused, Value, Constant, Symbolic, Difference, Faulty, add}
+use Rattle.rv_text_laws.specs.Values.{Known, InSection, Open, Refused, Value, Constant, Symbolic, Difference, Faulty, add}
 use Rattle.rv_statement.specs.declared.directive.Choice.{Choice}
 use Rattle.rv_statement.specs.declared.directive.Choice.TheVariants.{Push, Pop}
-use Rattle.rv_statement.specs.Statement.{Statement, Expression, Label, Numbered, Instruction, Directs, Spoken, Directive, Enters, Opens, Globl, Local, Sets, Aligns_to_power, Aligns_to_bytes, Values, Strings, Zeros, Chooses, Ignored}
+use Rattle.rv_statement.specs.Statement.{Statement, Expression, Label, Numbered, Instruction, Directs, Spoken, Directive, Enters, Opens, Sets, Chooses}
+use Rattle.rv_unit_laws.specs.Contributions.{Contribution, Nothing, contribution}
 use Rattle.rv_unit_laws.specs.Sections.{Section, entered, current_section}
-use Rattle.rv_unit_laws.specs.Tables.{Tables, Labelled, Setting, at_start, here, value, asked, data_bytes, label_of, set_before, is_defined, has_place, may_set, given, with_setting, with_section, with_data, with_choice, after_directive, after, after_all, tables}
+use Rattle.rv_unit_laws.specs.Tables.{Tables, Labelled, Assignment, at_start, here, value, label_of, assigned_before, is_defined, has_location, may_set, assigned, with_assignment, with_section, with_contribution, with_choice, after_directive, after, after_all, tables}
 use Rattle.rv_unit_laws.specs.Faults.{faulty_if, lowest, constant_faults, set_faults, faults, first_fault_from, first_fault}
 use Rattle.rv_map.specs.Map.{Map}
 use Rattle.rv_map.specs.declared.map.Row.{Row}
-use Rattle.rv_source_laws.specs.Stated.{Stated, stated_now, stated_from, has_row}
-use Rattle.rv_source_laws.specs.Sites.{Entry, Program, program, tables_in, first_of, entries_of}
+use Rattle.rv_source_laws.specs.Located.{Located, located_now, located_from, has_row}
+use Rattle.rv_source_laws.specs.Program.{MaybeMapped, Program, program, tables_in, first_of, statements_of}
 use Rattle.rv_source_laws.specs.Resolves.{is_one_of, AreDistinct, is_global_in, sets_first, defined_name, global_names_of, global_names}
 use Rattle.rv_chain_laws.proofs.Homes.{all_filter, all_map, all_join}
 use Rattle.rv_chain_laws.proofs.Held.{none_left, no_test, no_lowest, no_fault}
@@ -67,7 +68,7 @@ any_front P xs ys e = list_any-append P xs ys ∙ or_true (list_any P xs) (list_
 any_behind : {X : Type 0} (P : X → Bool) (xs ys : List X) → list_any P ys ≡ true → list_any P (xs ++ ys) ≡ true
 any_behind P xs ys e = list_any-append P xs ys ∙ or_behind (list_any P xs) (list_any P ys) e
 
--- what holds of nothing in front holds of something behind
+-- what holds of nothing in front holds of something after
 any_left : {X : Type 0} (P : X → Bool) (xs ys : List X) → AllByRecursion (λ x. P x ≡ false) xs → list_any P (xs ++ ys) ≡ true → list_any P ys ≡ true
 any_left P [] ys h e = e
 any_left P (x ∷ xs) ys (h, hs) e = any_left P xs ys hs (ap (λ b. b || list_any P (xs ++ ys)) (sym h) ∙ e)
@@ -80,12 +81,12 @@ same_bytes n = (bytes_eq-Decides n n).1 refl
 pub record Grows (k : ℕ) (t u : Tables) : Type 0 where
   pub labels : List Labelled
   pub labels_are : u.labels ≡ t.labels ++ labels
-  pub settings : List Setting
-  pub settings_are : u.settings ≡ settings ++ t.settings
-  pub now : AllByRecursion (λ s. s.ordinal ≡ k) settings
+  pub assignments : List Assignment
+  pub settings_are : u.assignments ≡ assignments ++ t.assignments
+  pub now : AllByRecursion (λ s. s.ordinal ≡ k) assignments
 
-same_grows : (k : ℕ) (t u : Tables) → u.labels ≡ t.labels → u.settings ≡ t.settings → Grows k t u
-same_grows k t u l s = record { labels = []; labels_are = l ∙ sym (append-nil t.labels); settings = []; settings_are = s; now = tt }
+same_grows : (k : ℕ) (t u : Tables) → u.labels ≡ t.labels → u.assignments ≡ t.assignments → Grows k t u
+same_grows k t u l s = record { labels = []; labels_are = l ∙ sym (append-nil t.labels); assignments = []; settings_are = s; now = tt }
 
 if_grows : (b : Bool) (k : ℕ) (t u v : Tables) → Grows k t u → Grows k t v → Grows k t (if b then u else v)
 if_grows true k t u v g h = g
@@ -95,14 +96,14 @@ module _ (t : Tables) (k : ℕ) where
   stays : Grows k t t
   stays = same_grows k t t refl refl
 
-  set_grows : (s : Setting) → s.ordinal ≡ k → Grows k t (with_setting t (Some s))
+  set_grows : (s : Assignment) → s.ordinal ≡ k → Grows k t (with_assignment t (Some s))
   set_grows s e =
-      if_grows (may_set t s.ordinal s.name s.meaning) k t (record t { settings = s ∷ t.settings }) t
-      (record { labels = []; labels_are = sym (append-nil t.labels); settings = s ∷ []; settings_are = refl; now = (e, tt) }) stays
+      if_grows (may_set t s.ordinal s.name s.meaning) k t (record t { assignments = s ∷ t.assignments }) t
+      (record { labels = []; labels_are = sym (append-nil t.labels); assignments = s ∷ []; settings_are = refl; now = (e, tt) }) stays
 
-  given_grows : (name : List ℕ) (v : Value) → Grows k t (with_setting t (given name k v))
+  given_grows : (name : List ℕ) (v : Value) → Grows k t (with_assignment t (assigned name k v))
   given_grows name (Constant n) = set_grows (record { name = name; ordinal = k; meaning = Known n; plus = 0 }) refl
-  given_grows name (Symbolic Here (Placed section offset) plus) = set_grows (record { name = name; ordinal = k; meaning = Placed section (add offset plus); plus = plus }) refl
+  given_grows name (Symbolic Here (InSection section offset) plus) = set_grows (record { name = name; ordinal = k; meaning = InSection section (add offset plus); plus = plus }) refl
   given_grows name (Symbolic Here (Known n) plus) = stays
   given_grows name (Symbolic Here Open plus) = stays
   given_grows name (Symbolic Here (Refused code) plus) = stays
@@ -112,11 +113,9 @@ module _ (t : Tables) (k : ℕ) where
   given_grows name (Difference p q plus) = stays
   given_grows name (Faulty code) = stays
 
-  data_grows : (bytes : ℕ) (alignment : Option ℕ) → Grows k t (with_data t bytes alignment)
-  data_grows bytes alignment = if_grows (current_section t.opened).executable k t t _ stays (same_grows k t _ refl refl)
-
-  put_grows : (d : Directive) → Grows k t (let v = value t false k (here t) in with_data t (data_bytes v (here t).offset d) (asked v d))
-  put_grows d = let v : Expression → Value = value t false k (here t) in data_grows (data_bytes v (here t).offset d) (asked v d)
+  contribution_grows : (v : Expression → Value) (c : Contribution) → Grows k t (with_contribution t v c)
+  contribution_grows v Nothing = stays
+  contribution_grows v _ = same_grows k t _ refl refl
 
   choice_grows : (choice : Choice) → Grows k t (with_choice t choice)
   choice_grows Push = same_grows k t _ refl refl
@@ -130,22 +129,15 @@ module _ (t : Tables) (k : ℕ) where
   directive_grows : (d : Directive) → Grows k t (after_directive t k d)
   directive_grows (Enters standard) = section_grows _
   directive_grows (Opens name flags kind) = section_grows _
-  directive_grows (Globl names) = stays
-  directive_grows (Local names) = stays
   directive_grows (Sets name e) = given_grows name (value t false k (here t) e)
-  directive_grows (Aligns_to_power exponent) = put_grows (Aligns_to_power exponent)
-  directive_grows (Aligns_to_bytes bytes) = put_grows (Aligns_to_bytes bytes)
-  directive_grows (Values width values) = put_grows (Values width values)
-  directive_grows (Strings ended strings) = put_grows (Strings ended strings)
-  directive_grows (Zeros count) = put_grows (Zeros count)
   directive_grows (Chooses choice) = choice_grows choice
-  directive_grows Ignored = stays
+  directive_grows d = contribution_grows (value t false k (here t)) (contribution d)
 
   abbrev new_label : List ℕ → Labelled
   new_label name = record { name = name; ordinal = k; place = here t }
 
   label_grows : (name : List ℕ) → Grows k t (record t { labels = t.labels ++ new_label name ∷ [] })
-  label_grows name = record { labels = new_label name ∷ []; labels_are = refl; settings = []; settings_are = refl; now = tt }
+  label_grows name = record { labels = new_label name ∷ []; labels_are = refl; assignments = []; settings_are = refl; now = tt }
 
   after_grows : (says : Statement) → Grows k t (after t k says)
   after_grows (Label name) = if_grows (is_defined t k name) k t t _ stays (label_grows name)
@@ -155,18 +147,18 @@ module _ (t : Tables) (k : ℕ) where
 
 -- the settings of later tables: those from an ordinal on stand in front
 abbrev Since : ℕ → Tables → Tables → Type 0
-Since k t u = (more : List Setting) × (u.settings ≡ more ++ t.settings) × AllByRecursion (λ s. k ≤ s.ordinal) more
+Since k t u = (more : List Assignment) × (u.assignments ≡ more ++ t.assignments) × AllByRecursion (λ s. k ≤ s.ordinal) more
 
 since : (t : Tables) (k : ℕ) (ss : List Spoken) → Since k t (after_all t k ss)
 since t k [] = ([], refl, tt)
 since t k (s ∷ ss) =
     let g = after_grows t k s.says in
     let later = since (after t k s.says) (suc k) ss in
-    let more : List Setting = later.0 in (
-      more ++ g.settings,
-      later.1 ∙ ap (λ l. more ++ l) g.settings_are ∙ sym (append_assoc more g.settings t.settings),
-      all_join (λ s. k ≤ s.ordinal) more g.settings (all_map (λ s. suc k ≤ s.ordinal) (λ s. k ≤ s.ordinal) more (λ s h. omega arith) later.2)
-          (all_map (λ s. s.ordinal ≡ k) (λ s. k ≤ s.ordinal) g.settings (λ s h. omega arith) g.now),
+    let more : List Assignment = later.0 in (
+      more ++ g.assignments,
+      later.1 ∙ ap (λ l. more ++ l) g.settings_are ∙ sym (append_assoc more g.assignments t.assignments),
+      all_join (λ s. k ≤ s.ordinal) more g.assignments (all_map (λ s. suc k ≤ s.ordinal) (λ s. k ≤ s.ordinal) more (λ s h. omega arith) later.2)
+          (all_map (λ s. s.ordinal ≡ k) (λ s. k ≤ s.ordinal) g.assignments (λ s h. omega arith) g.now),
     )
 
 -- ---- names that are defined
@@ -174,12 +166,12 @@ since t k (s ∷ ss) =
 abbrev labels_name : ℕ → List ℕ → Labelled → Bool
 labels_name k n l = bytes_eq l.name n && (false || nat_lt l.ordinal k)
 
-abbrev sets_name : ℕ → List ℕ → Setting → Bool
+abbrev sets_name : ℕ → List ℕ → Assignment → Bool
 sets_name k n s = nat_lt s.ordinal k && bytes_eq s.name n
 
-is_known : (t : Tables) (k : ℕ) (n : List ℕ) → is_defined t k n ≡ (list_any (labels_name k n) t.labels || list_any (sets_name k n) t.settings)
+is_known : (t : Tables) (k : ℕ) (n : List ℕ) → is_defined t k n ≡ (list_any (labels_name k n) t.labels || list_any (sets_name k n) t.assignments)
 is_known t k n =
-    ap (λ b. b || is_some (set_before t.settings k n)) (found_any (labels_name k n) t.labels) ∙ ap (λ b. list_any (labels_name k n) t.labels || b) (found_any (sets_name k n) t.settings)
+    ap (λ b. b || is_some (assigned_before t.assignments k n)) (found_any (labels_name k n) t.labels) ∙ ap (λ b. list_any (labels_name k n) t.labels || b) (found_any (sets_name k n) t.assignments)
 
 below_more : (a k : ℕ) → nat_lt a k ≡ true → nat_lt a (suc k) ≡ true
 below_more a k e = let below : a < k = ltb-true a k e in lt-ltb a (suc k) (omega arith)
@@ -193,7 +185,7 @@ label_later k n l e =
     let parts = and_parts (bytes_eq l.name n) (nat_lt l.ordinal k) e in
     and_both (bytes_eq l.name n) (nat_lt l.ordinal (suc k)) parts.0 (below_more l.ordinal k parts.1)
 
-set_later : (k : ℕ) (n : List ℕ) (s : Setting) → sets_name k n s ≡ true → sets_name (suc k) n s ≡ true
+set_later : (k : ℕ) (n : List ℕ) (s : Assignment) → sets_name k n s ≡ true → sets_name (suc k) n s ≡ true
 set_later k n s e =
     let parts = and_parts (nat_lt s.ordinal k) (bytes_eq s.name n) e in
     and_both (nat_lt s.ordinal (suc k)) (bytes_eq s.name n) (below_more s.ordinal k parts.0) parts.1
@@ -201,14 +193,14 @@ set_later k n s e =
 defined_more : (k : ℕ) (t u : Tables) (n : List ℕ) → Grows k t u → is_defined t k n ≡ true → is_defined u (suc k) n ≡ true
 defined_more k t u n g e =
     is_known u (suc k) n
-    ∙ ap (λ ls. list_any (labels_name (suc k) n) ls || list_any (sets_name (suc k) n) u.settings) g.labels_are
+    ∙ ap (λ ls. list_any (labels_name (suc k) n) ls || list_any (sets_name (suc k) n) u.assignments) g.labels_are
     ∙ ap (λ xs. list_any (labels_name (suc k) n) (t.labels ++ g.labels) || list_any (sets_name (suc k) n) xs) g.settings_are
     ∙ go (list_any (labels_name k n) t.labels) refl (sym (is_known t k n) ∙ e)
   where
-    go : (b : Bool) → list_any (labels_name k n) t.labels ≡ b → (b || list_any (sets_name k n) t.settings) ≡ true
-        → (list_any (labels_name (suc k) n) (t.labels ++ g.labels) || list_any (sets_name (suc k) n) (g.settings ++ t.settings)) ≡ true
+    go : (b : Bool) → list_any (labels_name k n) t.labels ≡ b → (b || list_any (sets_name k n) t.assignments) ≡ true
+        → (list_any (labels_name (suc k) n) (t.labels ++ g.labels) || list_any (sets_name (suc k) n) (g.assignments ++ t.assignments)) ≡ true
     go true h f = or_true _ _ (any_front (labels_name (suc k) n) t.labels g.labels (any_more (labels_name k n) (labels_name (suc k) n) (label_later k n) t.labels h))
-    go false h f = or_behind _ _ (any_behind (sets_name (suc k) n) g.settings t.settings (any_more (sets_name k n) (sets_name (suc k) n) (set_later k n) t.settings f))
+    go false h f = or_behind _ _ (any_behind (sets_name (suc k) n) g.assignments t.assignments (any_more (sets_name k n) (sets_name (suc k) n) (set_later k n) t.assignments f))
 
 -- ---- the name of one statement
 
@@ -216,8 +208,8 @@ defined_more k t u n g e =
 no_label : (t : Tables) (k : ℕ) (home : Section) (n : List ℕ) (v : Value) → set_faults t k home n v ≡ [] → is_some (label_of t.labels false k n) ≡ false
 no_label t k home n v e = go v e
   where
-    place : (v : Value) → constant_faults v ++ faulty_if (has_place t k n) 11 ≡ [] → is_some (label_of t.labels false k n) ≡ false
-    place v e = (or_none _ _ (no_test (has_place t k n) 11 (none_left (constant_faults v) _ e).1)).0
+    place : (v : Value) → constant_faults v ++ faulty_if (has_location t k n) 11 ≡ [] → is_some (label_of t.labels false k n) ≡ false
+    place v e = (or_none _ _ (no_test (has_location t k n) 11 (none_left (constant_faults v) _ e).1)).0
 
     go : (v : Value) → set_faults t k home n v ≡ [] → is_some (label_of t.labels false k n) ≡ false
     go (Constant number) e = place (Constant number) e
@@ -239,27 +231,27 @@ all_if true P n f = (f refl, tt)
 all_if false P n f = tt
 
 -- the test of a `.set` that gives a name first
-abbrev now_named : ℕ → List ℕ → Setting → Bool
+abbrev now_named : ℕ → List ℕ → Assignment → Bool
 now_named k n s = (s.ordinal == k) && bytes_eq s.name n
 
 module _ (all t : Tables) (k : ℕ) where
   -- before its statement it is no name
   is_new : (says : Statement) → faults all t k says ≡ [] → Since k t all → AllByRecursion (IsNew k t) (defined_name all k says)
   is_new (Label name) e h = (no_test (is_defined t k name) 11 e, tt)
-  is_new (Directs (Sets name e)) free h = all_if (sets_first all.settings k name) (IsNew k t) name fresh
+  is_new (Directs (Sets name e)) free h = all_if (sets_first all.assignments k name) (IsNew k t) name fresh
     where
-      earlier : (b : Bool) → is_some (set_before all.settings k name) ≡ b → not b ≡ true → is_some (set_before t.settings k name) ≡ false
+      earlier : (b : Bool) → is_some (assigned_before all.assignments k name) ≡ b → not b ≡ true → is_some (assigned_before t.assignments k name) ≡ false
       earlier true same e = absurd (cc)
-      earlier false same e = is_false _ (λ found. not_both _ (found_any (sets_name k name) all.settings ∙ ap (λ l. list_any (sets_name k name) l) h.1
-          ∙ any_behind (sets_name k name) h.0 t.settings (sym (found_any (sets_name k name) t.settings) ∙ found)) same)
+      earlier false same e = is_false _ (λ found. not_both _ (found_any (sets_name k name) all.assignments ∙ ap (λ l. list_any (sets_name k name) l) h.1
+          ∙ any_behind (sets_name k name) h.0 t.assignments (sym (found_any (sets_name k name) t.assignments) ∙ found)) same)
 
-      fresh : sets_first all.settings k name ≡ true → IsNew k t name
+      fresh : sets_first all.assignments k name ≡ true → IsNew k t name
       fresh first =
-          let parts = and_parts (list_any (now_named k name) all.settings) (not (is_some (set_before all.settings k name))) first in
-          ap (λ b. b || is_some (set_before t.settings k name)) (no_label t k (current_section t.opened) name _ free) ∙ earlier _ refl parts.1
+          let parts = and_parts (list_any (now_named k name) all.assignments) (not (is_some (assigned_before all.assignments k name))) first in
+          ap (λ b. b || is_some (assigned_before t.assignments k name)) (no_label t k (current_section t.opened) name _ free) ∙ earlier _ refl parts.1
   is_new _ e h = tt
 
-  -- behind its statement it is one
+  -- after its statement it is one
   is_old : (says : Statement) → faults all t k says ≡ [] → Since (suc k) (after t k says) all → AllByRecursion (IsOld (suc k) (after t k says)) (defined_name all k says)
   is_old (Label name) e h = (go (is_defined t k name) (no_test (is_defined t k name) 11 e), tt)
     where
@@ -274,26 +266,26 @@ module _ (all t : Tables) (k : ℕ) where
       go false e =
           is_known more (suc k) name
           ∙ or_true _ _ (any_behind (labels_name (suc k) name) t.labels (new_label t k name ∷ []) (or_true (labels_name (suc k) name (new_label t k name)) false named))
-  is_old (Directs (Sets name e)) free h = all_if (sets_first all.settings k name) (IsOld (suc k) u) name given_now
+  is_old (Directs (Sets name e)) free h = all_if (sets_first all.assignments k name) (IsOld (suc k) u) name given_now
     where
       u : Tables
       u = after t k (Directs (Sets name e))
 
-      later : (s : Setting) → suc k ≤ s.ordinal → now_named k name s ≡ false
+      later : (s : Assignment) → suc k ≤ s.ordinal → now_named k name s ≡ false
       later s le = is_false _ (λ test. let same : s.ordinal ≡ k = eqb-true s.ordinal k (and_parts (s.ordinal == k) (bytes_eq s.name name) test).0 in absurd (omega arith))
 
-      to_set : (s : Setting) → now_named k name s ≡ true → sets_name (suc k) name s ≡ true
+      to_set : (s : Assignment) → now_named k name s ≡ true → sets_name (suc k) name s ≡ true
       to_set s test =
           let parts = and_parts (s.ordinal == k) (bytes_eq s.name name) test in
           let same : s.ordinal ≡ k = eqb-true s.ordinal k parts.0 in
           and_both (nat_lt s.ordinal (suc k)) (bytes_eq s.name name) (lt-ltb s.ordinal (suc k) (omega arith)) parts.1
 
-      given_now : sets_first all.settings k name ≡ true → IsOld (suc k) u name
+      given_now : sets_first all.assignments k name ≡ true → IsOld (suc k) u name
       given_now first =
-          let parts = and_parts (list_any (now_named k name) all.settings) (not (is_some (set_before all.settings k name))) first in
-          let behind : list_any (now_named k name) u.settings ≡ true =
-          any_left (now_named k name) h.0 u.settings (all_map (λ s. suc k ≤ s.ordinal) (λ s. now_named k name s ≡ false) h.0 later h.2) (ap (λ l. list_any (now_named k name) l) (sym h.1) ∙ parts.0) in
-          is_known u (suc k) name ∙ or_behind _ _ (any_more (now_named k name) (sets_name (suc k) name) to_set u.settings behind)
+          let parts = and_parts (list_any (now_named k name) all.assignments) (not (is_some (assigned_before all.assignments k name))) first in
+          let behind : list_any (now_named k name) u.assignments ≡ true =
+          any_left (now_named k name) h.0 u.assignments (all_map (λ s. suc k ≤ s.ordinal) (λ s. now_named k name s ≡ false) h.0 later h.2) (ap (λ l. list_any (now_named k name) l) (sym h.1) ∙ parts.0) in
+          is_known u (suc k) name ∙ or_behind _ _ (any_more (now_named k name) (sets_name (suc k) name) to_set u.assignments behind)
   is_old _ e h = tt
 
 -- ---- the names of a source
@@ -322,7 +314,7 @@ one_kept g false n = tt
 
 one_name : (g : List ℕ → Bool) (t : Tables) (k : ℕ) (says : Statement) → AreDistinct (filter g (defined_name t k says))
 one_name g t k (Label name) = one_if (g name) name
-one_name g t k (Directs (Sets name e)) = one_kept g (sets_first t.settings k name) name
+one_name g t k (Directs (Sets name e)) = one_kept g (sets_first t.assignments k name) name
 one_name g t k _ = tt
 
 module _ (ss : List Spoken) (m : Map) where
@@ -335,11 +327,11 @@ module _ (ss : List Spoken) (m : Map) where
   abbrev all : Tables
   all = tables ss
 
-  abbrev names_at : Stated → List (List ℕ)
+  abbrev names_at : Located → List (List ℕ)
   names_at s = global_names_of sources (tables_in p s.file) s
 
   abbrev names : ℕ → Tables → List Spoken → List (List ℕ)
-  names k t rest = flat_map names_at (stated_from 1 k t rest)
+  names k t rest = flat_map names_at (located_from 1 k t rest)
 
   abbrev is_global : List ℕ → Bool
   is_global name = is_global_in sources 1 name
@@ -354,7 +346,7 @@ module _ (ss : List Spoken) (m : Map) where
       let parts = no_fault s.line (lowest (faults all t k s.says)) (first_fault_from all u (suc k) rest) e in
       let free : faults all t k s.says ≡ [] = no_lowest (faults all t k s.says) parts.0 in
       let here = is_new all t k s.says free (subst (λ x. Since k t x) same (since t k (s ∷ rest))) in
-      all_join (IsNew k t) (names_at (stated_now 1 k t s)) (names (suc k) u rest) (all_filter (IsNew k t) is_global (defined_name all k s.says) here)
+      all_join (IsNew k t) (names_at (located_now 1 k t s)) (names (suc k) u rest) (all_filter (IsNew k t) is_global (defined_name all k s.says) here)
       (all_map (IsNew (suc k) u) (IsNew k t) (names (suc k) u rest) (λ n new. new_before k t u n (after_grows t k s.says) new) (all_new (suc k) u rest parts.1 same))
 
   all_distinct : (k : ℕ) (t : Tables) (rest : List Spoken) → first_fault_from all t k rest ≡ None → after_all t k rest ≡ all → AreDistinct (names k t rest)
@@ -365,23 +357,23 @@ module _ (ss : List Spoken) (m : Map) where
       let free : faults all t k s.says ≡ [] = no_lowest (faults all t k s.says) parts.0 in
       let here = is_old all t k s.says free (subst (λ x. Since (suc k) u x) same (since u (suc k) rest)) in
       let later : AllByRecursion (IsNew (suc k) u) (names (suc k) u rest) = all_new (suc k) u rest parts.1 same in
-      distinct_join (names_at (stated_now 1 k t s)) (names (suc k) u rest) (one_name is_global all k s.says) (all_distinct (suc k) u rest parts.1 same)
-      (all_map (IsOld (suc k) u) (λ n. is_one_of (names (suc k) u rest) n ≡ false) (names_at (stated_now 1 k t s))
+      distinct_join (names_at (located_now 1 k t s)) (names (suc k) u rest) (one_name is_global all k s.says) (all_distinct (suc k) u rest parts.1 same)
+      (all_map (IsOld (suc k) u) (λ n. is_one_of (names (suc k) u rest) n ≡ false) (names_at (located_now 1 k t s))
       (λ n old. old_is_none (suc k) u n (names (suc k) u rest) old later) (all_filter (IsOld (suc k) u) is_global (defined_name all k s.says) here))
 
-  entries_names : (ts : List Stated) (rows : List Row) → flat_map (λ e. names_at e.stated) (entries_of ts rows) ≡ flat_map names_at ts
+  entries_names : (ts : List Located) (rows : List Row) → flat_map (λ e. names_at e.located) (statements_of ts rows) ≡ flat_map names_at ts
   entries_names [] rows = refl
   entries_names (t ∷ ts) rows = go (has_row t) (entries_names ts (drop 1 rows)) (entries_names ts rows)
     where
-      seen : List Entry → List (List ℕ)
-      seen es = flat_map (λ e. names_at e.stated) es
+      seen : List MaybeMapped → List (List ℕ)
+      seen es = flat_map (λ e. names_at e.located) es
 
-      go : (b : Bool) → seen (entries_of ts (drop 1 rows)) ≡ flat_map names_at ts → seen (entries_of ts rows) ≡ flat_map names_at ts
-          → seen (if b then record { stated = t; row = first_of rows } ∷ entries_of ts (drop 1 rows) else record { stated = t; row = None } ∷ entries_of ts rows) ≡ names_at t ++ flat_map names_at ts
+      go : (b : Bool) → seen (statements_of ts (drop 1 rows)) ≡ flat_map names_at ts → seen (statements_of ts rows) ≡ flat_map names_at ts
+          → seen (if b then record { located = t; row = first_of rows } ∷ statements_of ts (drop 1 rows) else record { located = t; row = None } ∷ statements_of ts rows) ≡ names_at t ++ flat_map names_at ts
       go true e f = ap (λ l. names_at t ++ l) e
       go false e f = ap (λ l. names_at t ++ l) f
 
   pub once : first_fault ss ≡ None → AreDistinct (global_names sources m)
   once good =
-      let whole : flat_map names_at (stated_from 1 1 at_start ss ++ []) ≡ names 1 at_start ss = ap (λ ts. flat_map names_at ts) (append-nil (stated_from 1 1 at_start ss)) in
-      subst AreDistinct (sym (entries_names (stated_from 1 1 at_start ss ++ []) m.rows ∙ whole)) (all_distinct 1 at_start ss good refl)
+      let whole : flat_map names_at (located_from 1 1 at_start ss ++ []) ≡ names 1 at_start ss = ap (λ ts. flat_map names_at ts) (append-nil (located_from 1 1 at_start ss)) in
+      subst AreDistinct (sym (entries_names (located_from 1 1 at_start ss ++ []) m.rows ∙ whole)) (all_distinct 1 at_start ss good refl)

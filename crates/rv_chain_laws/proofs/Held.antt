@@ -1,22 +1,25 @@
 -- In sources without faults each statement stands in a section that can hold it.
 
 use Rattle.std.proofs.Common.{◌≡◌, ℕ, suc, Bool, true, false, List, [], ◌∷◌, ◌++◌, refl, sym, subst, Option, Some, None}
-use Rattle.std.specs.Prelude.{◌*◌, not, ◌||◌, min, flat_map, length, ⊤}
+use Rattle.std.specs.Prelude.{not, ◌||◌, min, ⊤}
 use Rattle.std.specs.List.{AllByRecursion}
-use Rattle.rv_statement.specs.Statement.{Statement, Label, Numbered, Instruction, Directs, Spoken, Directive, Values, Strings, Zeros}
+use Rattle.rv_statement.specs.Statement.{Statement, Label, Numbered, Instruction, Directs, Spoken, Directive, Enters, Opens, Sets, Chooses}
+use Rattle.rv_unit_laws.specs.Contributions.{Contribution, Bytes, Zero_bytes, contribution}
 use Rattle.rv_unit_laws.specs.Sections.{Section, section_at, current_section}
-use Rattle.rv_unit_laws.specs.Tables.{Tables, at_start, here, value, counted, string_bytes, after, tables, stood}
-use Rattle.rv_unit_laws.specs.Faults.{Fault, faulty_if, lowest, at_line, size_faults, value_faults, past_section, directive_faults, faults, first_fault_from, first_fault}
-use Rattle.rv_source_laws.specs.Stated.{Stated, stated_from, stated_of}
+use Rattle.rv_unit_laws.specs.Tables.{Tables, at_start, here, value, counted, contents_size, after, tables, stood}
+use Rattle.rv_unit_laws.specs.Faults.{Fault, faulty_if, lowest, at_line, size_faults, contents_faults, past_section, contribution_faults, directive_faults, faults, first_fault_from, first_fault}
+use Rattle.rv_source_laws.specs.Located.{Located, located_from, located_of}
 use Rattle.rv_chain_laws.proofs.Homes.{all_join}
 use Rattle.rv_unit_laws.proofs.Opened.{after_opened}
 
 -- instructions stand in sections of code, data in others, and those with bytes in the file in sections that have some
+abbrev pub ContributionHeld : Section → Contribution → Type 0
+ContributionHeld home (Bytes contents) = (home.executable ≡ false) × (home.nobits ≡ false)
+ContributionHeld home (Zero_bytes count) = home.executable ≡ false
+ContributionHeld home _ = ⊤
+
 abbrev pub DirectiveHeld : Section → Directive → Type 0
-DirectiveHeld home (Values width values) = (home.executable ≡ false) × (home.nobits ≡ false)
-DirectiveHeld home (Strings ended strings) = (home.executable ≡ false) × (home.nobits ≡ false)
-DirectiveHeld home (Zeros count) = home.executable ≡ false
-DirectiveHeld home _ = ⊤
+DirectiveHeld home d = ContributionHeld home (contribution d)
 
 abbrev pub IsHeld : Section → Statement → Type 0
 IsHeld home (Label name) = ⊤
@@ -24,7 +27,7 @@ IsHeld home (Numbered number) = ⊤
 IsHeld home (Instruction mnemonic operands) = home.executable ≡ true
 IsHeld home (Directs directive) = DirectiveHeld home directive
 
-abbrev pub Held : Stated → Type 0
+abbrev pub Held : Located → Type 0
 Held s = IsHeld s.home s.says
 
 -- ---- no code of a fault
@@ -78,13 +81,19 @@ module _ (all t : Tables) (k : ℕ) where
       let test = none_left (faulty_if home.executable 15) after next.1 in
       no_test home.executable 15 test.0
 
-  directive_held : (d : Directive) → Good d → DirectiveHeld home d
-  directive_held (Values width values) e =
-      stored (flat_map (λ e. value_faults width (value all true k (here t) e)) values) (past_section home.executable (here t).offset (width * length values)) e
-  directive_held (Strings ended strings) e = stored [] (past_section home.executable (here t).offset (length (string_bytes ended strings))) e
-  directive_held (Zeros count) e =
+  contribution_held : (c : Contribution) → contribution_faults all t k c ≡ [] → ContributionHeld home c
+  contribution_held (Bytes contents) e =
+      stored (contents_faults (λ e. value all true k (here t) e) contents) (past_section home.executable (here t).offset (contents_size contents)) e
+  contribution_held (Zero_bytes count) e =
       zeroed (size_faults (value all false k (here t) count)) (elim (counted (value all false k (here t) count)) [ None ↦ [] | Some n ↦ past_section home.executable (here t).offset n ]) e
-  directive_held _ e = tt
+  contribution_held _ e = tt
+
+  directive_held : (d : Directive) → Good d → DirectiveHeld home d
+  directive_held (Enters standard) e = tt
+  directive_held (Opens name flags kind) e = tt
+  directive_held (Sets name expression) e = tt
+  directive_held (Chooses choice) e = tt
+  directive_held d e = contribution_held (contribution d) e
 
   code : faulty_if (not home.executable || home.nobits) 15 ≡ [] → home.executable ≡ true
   code e = no_not home.executable (no_either (not home.executable) home.nobits (no_test (not home.executable || home.nobits) 15 e)).0
@@ -97,10 +106,9 @@ module _ (all t : Tables) (k : ℕ) where
 
   -- a statement that enters no section stands in the current one; one that enters a section holds nothing
   directive_at : (d : Directive) → DirectiveHeld home d → DirectiveHeld (section_at (after t k (Directs d)).opened (stood t k (Directs d)).section) d
-  directive_at (Values width values) h = subst (λ o. DirectiveHeld (section_at o t.opened.current) (Values width values)) (sym (after_opened t k (Directs (Values width values)))) h
-  directive_at (Strings ended strings) h = subst (λ o. DirectiveHeld (section_at o t.opened.current) (Strings ended strings)) (sym (after_opened t k (Directs (Strings ended strings)))) h
-  directive_at (Zeros count) h = subst (λ o. DirectiveHeld (section_at o t.opened.current) (Zeros count)) (sym (after_opened t k (Directs (Zeros count)))) h
-  directive_at _ h = tt
+  directive_at (Enters standard) h = tt
+  directive_at (Opens name flags kind) h = tt
+  directive_at d h = subst (λ o. DirectiveHeld (section_at o t.opened.current) d) (sym (after_opened t k (Directs d))) h
 
   held_at : (says : Statement) → IsHeld home says → IsHeld (section_at (after t k says).opened (stood t k says).section) says
   held_at (Label name) h = tt
@@ -108,13 +116,13 @@ module _ (all t : Tables) (k : ℕ) where
   held_at (Instruction mnemonic operands) h = h
   held_at (Directs directive) h = directive_at directive h
 
-held_from : (all : Tables) (file k : ℕ) (t : Tables) (ss : List Spoken) → first_fault_from all t k ss ≡ None → AllByRecursion Held (stated_from file k t ss)
+held_from : (all : Tables) (file k : ℕ) (t : Tables) (ss : List Spoken) → first_fault_from all t k ss ≡ None → AllByRecursion Held (located_from file k t ss)
 held_from all file k t [] e = tt
 held_from all file k t (s ∷ ss) e =
     let parts = no_fault s.line (lowest (faults all t k s.says)) (first_fault_from all (after t k s.says) (suc k) ss) e in
     (held_at all t k s.says (held all t k s.says (no_lowest (faults all t k s.says) parts.0)), held_from all file (suc k) (after t k s.says) ss parts.1)
 
-pub held_of : (file : ℕ) (sources : List (List Spoken)) → AllByRecursion (λ ss. first_fault ss ≡ None) sources → AllByRecursion Held (stated_of file sources)
+pub held_of : (file : ℕ) (sources : List (List Spoken)) → AllByRecursion (λ ss. first_fault ss ≡ None) sources → AllByRecursion Held (located_of file sources)
 held_of file [] h = tt
 held_of file (ss ∷ files) (e, es) =
-    all_join Held (stated_from file 1 at_start ss) (stated_of (suc file) files) (held_from (tables ss) file 1 at_start ss e) (held_of (suc file) files es)
+    all_join Held (located_from file 1 at_start ss) (located_of (suc file) files) (held_from (tables ss) file 1 at_start ss e) (held_of (suc file) files es)

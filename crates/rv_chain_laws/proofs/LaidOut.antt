@@ -17,7 +17,7 @@ use Rattle.rv_chain_laws.specs.Contents.{zeros}
 use Rattle.rv_chain_laws.proofs.Words.{HasBytes, bytes_behind}
 use Rattle.rv_chain_laws.proofs.Regions.{bytes_front}
 
--- the regions hold their bytes, one behind the other, bss behind the data, all below the stack
+-- the regions hold their bytes, one after the other, bss after the data, all below the stack
 pub record AreRegions (l : Linked) : Type 0 where
   pub text : l.map.text.start + length l.text ≡ l.map.text.end
   pub rodata : l.map.rodata.start + length l.rodata ≡ l.map.rodata.end
@@ -26,7 +26,7 @@ pub record AreRegions (l : Linked) : Type 0 where
   pub data_after : l.map.rodata.end ≤ l.map.data.start
   pub bss_after : l.map.data.end ≤ l.map.bss.start
   pub bss_ends : l.map.bss.start ≤ l.map.bss.end
-  pub below : l.map.bss.end ≤ 0x3ff0_0000
+  pub below : l.map.bss.end ≤ stack_start
 
 -- ---- a part without memory is no segment, and holds no address
 
@@ -254,7 +254,7 @@ module _ (l : Linked) (are : AreRegions l) where
   bss_held = subst (λ x. HasBytes m x (zeros (l.map.bss.end - l.map.data.end))) are.data (bytes_behind m l.map.data.start l.data (zeros (l.map.bss.end - l.map.data.end)) all_data)
 
   -- in the stack
-  pub stack_zero : (x : ℕ) → 0x3ff0_0000 ≤ x → m.byte x ≡ 0
+  pub stack_zero : (x : ℕ) → stack_start ≤ x → m.byte x ≡ 0
   stack_zero x high =
       let a = are.rodata_after in
       let b = rodata_ordered in

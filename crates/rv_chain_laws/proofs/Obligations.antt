@@ -12,9 +12,8 @@ use Rattle.rv_isa_laws.specs.Meaning.{effect, sets}
 use Rattle.rv_statement.specs.declared.mnemonic.Mnemonic.{Mnemonic}
 use Rattle.rv_statement.specs.declared.mnemonic.Mnemonic.TheVariants.{Li}
 use Rattle.rv_statement.specs.Statement.{Statement, Label, Numbered, Instruction, Directs, Directive, Sets, Aligns_to_power, Aligns_to_bytes, Expression}
-use Rattle.rv_parse_laws.specs.Value.{signed}
-use Rattle.rv_source_laws.specs.Sites.{Site, Program, number, has_values}
-use Rattle.rv_source_laws.specs.Written.{Argument, Of_register, Of_number, arguments, written}
+use Rattle.rv_source_laws.specs.Program.{Mapped, Program, number, has_values}
+use Rattle.rv_source_laws.specs.Written.{signed, Argument, Of_register, Of_number, arguments, written}
 use Rattle.rv_source_laws.specs.Meaning.{Line, Lie, AreLines, add_immediate, run_written, run_with, run_directive, run_said, meaning, cost, add_zero, alone, expanded_with, no_operation, expanded_directive, expanded_said, expansion}
 use Rattle.rv_source_laws.specs.Fits.{IsRowOf}
 use Rattle.rv_chain_laws.proofs.Walk.{Walked, once, more, then_walk, walk}
@@ -116,7 +115,7 @@ idle_walk (k ∷ ls) l a end idle lie below h pc =
     (idle_walk ls k (a + l.bytes) end idle.1 lie.1 below (advanced h l.bytes) later)
     ∙ ap (λ n. walked (Goes (record h { pc = n })) (suc (suc (length ls)))) same
 
--- an alignment goes on behind its padding
+-- an alignment goes on after its padding
 idle_lines : (n : ℕ) (lines : List Line) → replicate n no_operation ≡ map (λ (l : Line). l.instruction) lines → AllIdle lines
 idle_lines n [] e = tt
 idle_lines zero (l ∷ ls) e = absurd (cc)
@@ -161,7 +160,7 @@ does_where true v says count address bytes lines e lie n some below = does_said 
 does_where false v says count address bytes lines e lie n some below = absurd (cc)
 
 -- the lines of each statement come to its meaning and its cost
-pub does : (p : Program) (s : Site) (lines : List Line) → AreLines p s lines → IsRowOf (expansion p s) s.row → 0 < s.row.bytes → s.row.address + s.row.bytes < 2 ^ 64 → Does (meaning p s) (cost p s) s.row.address lines
+pub does : (p : Program) (s : Mapped) (lines : List Line) → AreLines p s lines → IsRowOf (expansion p s) s.row → 0 < s.row.bytes → s.row.address + s.row.bytes < 2 ^ 64 → Does (meaning p s) (cost p s) s.row.address lines
 does p s lines are fits some below =
     let row = subst (λ o. IsRowOf o s.row) are.0 fits in
-    does_where (has_values p s) (number p s) s.stated.says s.row.instructions s.row.address s.row.bytes lines are.0 are.1 row.1 some below
+    does_where (has_values p s) (number p s) s.located.says s.row.instructions s.row.address s.row.bytes lines are.0 are.1 row.1 some below

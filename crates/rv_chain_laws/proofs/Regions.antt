@@ -10,14 +10,14 @@ use Rattle.std.specs.Prelude.{flat_map, slice_index}
 use Rattle.std.specs.List.{AllByRecursion}
 use Rattle.rv_isa_laws.specs.Memory.{Mem}
 use Rattle.rv_map.specs.declared.map.Row.{Row}
-use Rattle.rv_source_laws.specs.Sites.{Site}
+use Rattle.rv_source_laws.specs.Program.{Mapped}
 use Rattle.rv_unit_laws.specs.Tables.{aligned}
-use Rattle.rv_source_laws.specs.Fits.{Block, rows_of, Follow, size, Stand, end_of}
+use Rattle.rv_source_laws.specs.Fits.{InputSection, rows_of, Follow, size, Stand, end_of}
 use Rattle.rv_source_laws.specs.Start.{is_within}
 use Rattle.rv_chain_laws.specs.Contents.{contents, zeros}
 use Rattle.rv_chain_laws.proofs.Words.{HasBytes, bytes_behind}
 
-abbrev row_of : Site → Row
+abbrev row_of : Mapped → Row
 row_of s = s.row
 
 -- ---- bytes in memory
@@ -40,26 +40,26 @@ byte_zero m n a x h low high =
 
 -- ---- the statements of one section
 
-abbrev pub Sized : (Site → List ℕ) → Site → Type 0
+abbrev pub Sized : (Mapped → List ℕ) → Mapped → Type 0
 Sized bytes s = length (bytes s) ≡ s.row.bytes
 
-abbrev pub LiesIn : ℕ → ℕ → Site → Type 0
+abbrev pub LiesIn : ℕ → ℕ → Mapped → Type 0
 LiesIn low high s = (low ≤ s.row.address) × (s.row.address + s.row.bytes ≤ high)
 
-abbrev pub Misses : ℕ → Site → Type 0
+abbrev pub Misses : ℕ → Mapped → Type 0
 Misses x s = is_within s.row.address (s.row.address + s.row.bytes) x ≡ false
 
-abbrev total : (s : Site) (ss : List Site) → size (map row_of (s ∷ ss)) ≡ s.row.bytes + size (map row_of ss)
+abbrev total : (s : Mapped) (ss : List Mapped) → size (map row_of (s ∷ ss)) ≡ s.row.bytes + size (map row_of ss)
 total s ss = sum_by-cons (λ r. r.bytes) s.row (map row_of ss)
 
-lie_follow : (ss : List Site) (a low high : ℕ) → Follow a (map row_of ss) → low ≤ a → a + size (map row_of ss) ≤ high → AllByRecursion (LiesIn low high) ss
+lie_follow : (ss : List Mapped) (a low high : ℕ) → Follow a (map row_of ss) → low ≤ a → a + size (map row_of ss) ≤ high → AllByRecursion (LiesIn low high) ss
 lie_follow [] a low high f lo hi = tt
 lie_follow (s ∷ ss) a low high (e, f) lo hi =
     let t = total s ss in
     let room : a + (s.row.bytes + size (map row_of ss)) ≤ high = subst (λ n. a + n ≤ high) t hi in
     ((omega arith, omega arith), lie_follow ss (a + s.row.bytes) low high f (omega arith) (omega arith))
 
-held_follow : (bytes : Site → List ℕ) (m : Mem) (ss : List Site) (a : ℕ) (rest : List ℕ) → AllByRecursion (Sized bytes) ss → Follow a (map row_of ss) → HasBytes m a (flat_map bytes ss ++ rest)
+held_follow : (bytes : Mapped → List ℕ) (m : Mem) (ss : List Mapped) (a : ℕ) (rest : List ℕ) → AllByRecursion (Sized bytes) ss → Follow a (map row_of ss) → HasBytes m a (flat_map bytes ss ++ rest)
     → AllByRecursion (λ s. HasBytes m s.row.address (bytes s)) ss × HasBytes m (a + size (map row_of ss)) rest
 held_follow bytes m [] a rest z f h = (tt, subst (λ x. HasBytes m x rest) (let e : a ≡ a + 0 = omega arith in e) h)
 held_follow bytes m (s ∷ ss) a rest (z, zs) (e, f) h =
@@ -72,7 +72,7 @@ held_follow bytes m (s ∷ ss) a rest (z, zs) (e, f) h =
       subst (λ x. HasBytes m x rest) there more.1,
     )
 
-none_follow : (ss : List Site) (a x : ℕ) → AllByRecursion (Misses x) ss → Follow a (map row_of ss) → a ≤ x → x < a + size (map row_of ss) → ⊥
+none_follow : (ss : List Mapped) (a x : ℕ) → AllByRecursion (Misses x) ss → Follow a (map row_of ss) → a ≤ x → x < a + size (map row_of ss) → ⊥
 none_follow [] a x n f lo hi = let e : a + 0 ≡ a = omega arith in absurd (omega arith)
 none_follow (s ∷ ss) a x (n, ns) (e, f) lo hi =
     let t = total s ss in
@@ -82,7 +82,7 @@ none_follow (s ∷ ss) a x (n, ns) (e, f) lo hi =
       | inr high ↦ none_follow ss (a + s.row.bytes) x ns f high (omega arith)
     ]
 
-length_follow : (bytes : Site → List ℕ) (ss : List Site) → AllByRecursion (Sized bytes) ss → length (flat_map bytes ss) ≡ size (map row_of ss)
+length_follow : (bytes : Mapped → List ℕ) (ss : List Mapped) → AllByRecursion (Sized bytes) ss → length (flat_map bytes ss) ≡ size (map row_of ss)
 length_follow bytes [] z = refl
 length_follow bytes (s ∷ ss) (z, zs) =
     let more = length_follow bytes ss zs in
@@ -90,10 +90,10 @@ length_follow bytes (s ∷ ss) (z, zs) =
 
 -- ---- the sections of a region
 
-abbrev pub AllIn : (Site → Type 0) → List Block → Type 0
-AllIn P bs = AllByRecursion (λ b. AllByRecursion P b.sites) bs
+abbrev pub AllIn : (Mapped → Type 0) → List InputSection → Type 0
+AllIn P bs = AllByRecursion (λ b. AllByRecursion P b.mapped) bs
 
-abbrev pub IsAligned : Block → Type 0
+abbrev pub IsAligned : InputSection → Type 0
 IsAligned b = 1 ≤ b.alignment
 
 not_below : (x q r n a : ℕ) → r ≡ x - q → q ≤ x → r < n → x ≡ a + (n - 1) → a ≤ q
@@ -104,55 +104,55 @@ above n a some =
     let x = a + (n - 1) in
     not_below x (x / n * n) (x % n) n a (mod-eq-sub-div-mul x n) (div-mul-le_self x n) (mod-lt x some) refl
 
-pub end_above : (bs : List Block) (a : ℕ) → AllByRecursion IsAligned bs → a ≤ end_of a bs
+pub end_above : (bs : List InputSection) (a : ℕ) → AllByRecursion IsAligned bs → a ≤ end_of a bs
 end_above [] a l = omega arith
 end_above (b ∷ bs) a (l, ls) =
     let up = above b.alignment a l in
     let more = end_above bs (aligned b.alignment a + size (rows_of b)) ls in
     omega arith
 
-pub lie_blocks : (bs : List Block) (a low high : ℕ) → AllByRecursion IsAligned bs → Stand a bs → low ≤ a → end_of a bs ≤ high → AllIn (LiesIn low high) bs
+pub lie_blocks : (bs : List InputSection) (a low high : ℕ) → AllByRecursion IsAligned bs → Stand a bs → low ≤ a → end_of a bs ≤ high → AllIn (LiesIn low high) bs
 lie_blocks [] a low high l st lo hi = tt
 lie_blocks (b ∷ bs) a low high (l, ls) (f, st) lo hi =
     let start = aligned b.alignment a in
     let up : a ≤ start = above b.alignment a l in
     let more : start + size (rows_of b) ≤ end_of (start + size (rows_of b)) bs = end_above bs (start + size (rows_of b)) ls in
-    (lie_follow b.sites start low high f (omega arith) (omega arith), lie_blocks bs (start + size (rows_of b)) low high ls st (omega arith) hi)
+    (lie_follow b.mapped start low high f (omega arith) (omega arith), lie_blocks bs (start + size (rows_of b)) low high ls st (omega arith) hi)
 
-module _ (bytes : Site → List ℕ) (m : Mem) where
-  abbrev later : ℕ → Block → List Block → List ℕ
-  later start b bs = flat_map bytes b.sites ++ contents bytes (start + size (rows_of b)) bs
+module _ (bytes : Mapped → List ℕ) (m : Mem) where
+  abbrev later : ℕ → InputSection → List InputSection → List ℕ
+  later start b bs = flat_map bytes b.mapped ++ contents bytes (start + size (rows_of b)) bs
 
-  -- behind the zeros before a section
+  -- after the zeros before a section
   behind_zeros : (a start : ℕ) (rest : List ℕ) → a ≤ start → HasBytes m a (zeros (start - a) ++ rest) → HasBytes m start rest
   behind_zeros a start rest up h =
       let long : length (zeros (start - a)) ≡ start - a = length-replicate {A = ℕ} (start - a) 0 in
       let there : a + length (zeros (start - a)) ≡ start = omega arith in
       subst (λ x. HasBytes m x rest) there (bytes_behind m a (zeros (start - a)) rest h)
 
-  pub held_blocks : (bs : List Block) (a : ℕ) → AllIn (Sized bytes) bs → AllByRecursion IsAligned bs → Stand a bs → HasBytes m a (contents bytes a bs) → AllIn (λ s. HasBytes m s.row.address (bytes s)) bs
+  pub held_blocks : (bs : List InputSection) (a : ℕ) → AllIn (Sized bytes) bs → AllByRecursion IsAligned bs → Stand a bs → HasBytes m a (contents bytes a bs) → AllIn (λ s. HasBytes m s.row.address (bytes s)) bs
   held_blocks [] a z l st h = tt
   held_blocks (b ∷ bs) a (z, zs) (l, ls) (f, st) h =
       let start = aligned b.alignment a in
-      let here = held_follow bytes m b.sites start (contents bytes (start + size (rows_of b)) bs) z f (behind_zeros a start (later start b bs) (above b.alignment a l) h) in
+      let here = held_follow bytes m b.mapped start (contents bytes (start + size (rows_of b)) bs) z f (behind_zeros a start (later start b bs) (above b.alignment a l) h) in
       (here.0, held_blocks bs (start + size (rows_of b)) zs ls st here.1)
 
   -- where no row lies there is zero
-  pub zero_blocks : (bs : List Block) (a x : ℕ) → AllIn (Sized bytes) bs → AllByRecursion IsAligned bs → Stand a bs → HasBytes m a (contents bytes a bs) → AllIn (Misses x) bs → a ≤ x → x < end_of a bs → m.byte x ≡ 0
+  pub zero_blocks : (bs : List InputSection) (a x : ℕ) → AllIn (Sized bytes) bs → AllByRecursion IsAligned bs → Stand a bs → HasBytes m a (contents bytes a bs) → AllIn (Misses x) bs → a ≤ x → x < end_of a bs → m.byte x ≡ 0
   zero_blocks [] a x z l st h n lo hi = absurd (omega arith)
   zero_blocks (b ∷ bs) a x (z, zs) (l, ls) (f, st) h (n, ns) lo hi =
       let start = aligned b.alignment a in
       let up : a ≤ start = above b.alignment a l in
-      let here = held_follow bytes m b.sites start (contents bytes (start + size (rows_of b)) bs) z f (behind_zeros a start (later start b bs) up h) in
+      let here = held_follow bytes m b.mapped start (contents bytes (start + size (rows_of b)) bs) z f (behind_zeros a start (later start b bs) up h) in
       elim (cases_lt x start) [
         | inl low ↦ byte_zero m (start - a) a x (bytes_front m a (zeros (start - a)) (later start b bs) h) lo (omega arith)
         | inr high ↦ elim (cases_lt x (start + size (rows_of b))) [
-          | inl inside ↦ absurd (none_follow b.sites start x n f high inside)
+          | inl inside ↦ absurd (none_follow b.mapped start x n f high inside)
           | inr past ↦ zero_blocks bs (start + size (rows_of b)) x zs ls st here.1 ns past hi
         ]
       ]
 
-pub length_blocks : (bytes : Site → List ℕ) (bs : List Block) (a : ℕ) → AllIn (Sized bytes) bs → AllByRecursion IsAligned bs → a + length (contents bytes a bs) ≡ end_of a bs
+pub length_blocks : (bytes : Mapped → List ℕ) (bs : List InputSection) (a : ℕ) → AllIn (Sized bytes) bs → AllByRecursion IsAligned bs → a + length (contents bytes a bs) ≡ end_of a bs
 length_blocks bytes [] a z l = omega arith
 length_blocks bytes (b ∷ bs) a (z, zs) (l, ls) =
     let start = aligned b.alignment a in
@@ -161,8 +161,8 @@ length_blocks bytes (b ∷ bs) a (z, zs) (l, ls) =
     let rest : List ℕ = contents bytes next bs in
     let more : next + length rest ≡ end_of next bs = length_blocks bytes bs next zs ls in
     let one : length (zeros (start - a)) ≡ start - a = length-replicate {A = ℕ} (start - a) 0 in
-    let two : length (flat_map bytes b.sites) ≡ size (rows_of b) = length_follow bytes b.sites z in
-    let three : length (zeros (start - a) ++ (flat_map bytes b.sites ++ rest)) ≡ length (zeros (start - a)) + length (flat_map bytes b.sites ++ rest) = length-append (zeros (start - a)) (flat_map bytes b.sites ++ rest) in
-    let four : length (flat_map bytes b.sites ++ rest) ≡ length (flat_map bytes b.sites) + length rest = length-append (flat_map bytes b.sites) rest in
-    let whole : a + length (zeros (start - a) ++ (flat_map bytes b.sites ++ rest)) ≡ end_of next bs = omega arith in
+    let two : length (flat_map bytes b.mapped) ≡ size (rows_of b) = length_follow bytes b.mapped z in
+    let three : length (zeros (start - a) ++ (flat_map bytes b.mapped ++ rest)) ≡ length (zeros (start - a)) + length (flat_map bytes b.mapped ++ rest) = length-append (zeros (start - a)) (flat_map bytes b.mapped ++ rest) in
+    let four : length (flat_map bytes b.mapped ++ rest) ≡ length (flat_map bytes b.mapped) + length rest = length-append (flat_map bytes b.mapped) rest in
+    let whole : a + length (zeros (start - a) ++ (flat_map bytes b.mapped ++ rest)) ≡ end_of next bs = omega arith in
     whole

@@ -16,7 +16,7 @@ use Rattle.rv_isa_laws.specs.Reader.{Reader}
 use Rattle.rv_isa_laws.specs.Run.{Fetched, Got, NoRight, NoInstruction, fetch, step, run, done, machine_run}
 use Rattle.rv_statement.specs.Statement.{Spoken}
 use Rattle.rv_map.specs.Map.{Map}
-use Rattle.rv_source_laws.specs.Sites.{Site, Program, program}
+use Rattle.rv_source_laws.specs.Program.{Mapped, Program, program}
 use Rattle.rv_source_laws.specs.Meaning.{meaning, cost}
 use Rattle.rv_source_laws.specs.Start.{right_at, is_in, first_memory}
 use Rattle.rv_source_laws.specs.SourceRun.{Place, Starts, Inside, Gap, Outside, starts_or_inside, found, place, step_at, cost_at, steps, source_run}
@@ -57,13 +57,13 @@ find_holds test [] x e = absurd (cc)
 find_holds test (y ∷ ys) x e = find_cons test (test y) y (find test ys) x refl (find_holds test ys x) e
 
 -- what a place is by its tests
-outside_of : (t g : Bool) (o : Option Site) → (if t then (if g then Gap else starts_or_inside o) else Outside) ≡ Outside → t ≡ false
+outside_of : (t g : Bool) (o : Option Mapped) → (if t then (if g then Gap else starts_or_inside o) else Outside) ≡ Outside → t ≡ false
 outside_of true true o e = absurd (cc)
 outside_of true false (Some s) e = absurd (cc)
 outside_of true false None e = absurd (cc)
 outside_of false g o e = refl
 
-starts_of : (t g : Bool) (o : Option Site) (s : Site) → (if t then (if g then Gap else starts_or_inside o) else Outside) ≡ Starts s → o ≡ Some s
+starts_of : (t g : Bool) (o : Option Mapped) (s : Mapped) → (if t then (if g then Gap else starts_or_inside o) else Outside) ≡ Starts s → o ≡ Some s
 starts_of true true o s e = absurd (cc)
 starts_of true false (Some k) s e = cc
 starts_of true false None s e = absurd (cc)
@@ -85,7 +85,7 @@ module _ {Spells StandsFor : ℕ → Inst → Type 0} (reader : Reader Spells St
   adds_next (On g m) h go all f = front_of_front h.console g.console (go g m).console f (all g m)
   adds_next (Over e) h go all f = front_self h.console
 
-  -- a run writes behind what is on the console
+  -- a run writes after what is on the console
   pub run_adds : (n : ℕ) (h : Hart) (m : Mem) → IsFront h.console (run reader n h m).console
   run_adds zero h m = front_self h.console
   run_adds (suc n) h m = adds_next (step reader h m) h (run reader n) (run_adds n) (adds_step (fetch reader m h.pc) h m)
@@ -94,7 +94,7 @@ module _ {Spells StandsFor : ℕ → Inst → Type 0} (reader : Reader Spells St
     abbrev Follows : Mem → Mem → Type 0
     Follows m s = Beside (right_at p.map) first m s
 
-    -- with at most so many steps the runs agree from wherever they are beside one another
+    -- with at most `most` steps the runs agree from wherever they are beside one another
     abbrev AgreeWithin : ℕ → Type 0
     AgreeWithin most = (left : ℕ) → left ≤ most → (h : Hart) (m s : Mem) → Follows m s → h.pc < 2 ^ 64 → IsEven h → Agrees (steps most p left h s) (run reader left h m)
 
@@ -136,7 +136,7 @@ module _ {Spells StandsFor : ℕ → Inst → Type 0} (reader : Reader Spells St
     follow_alike most left le ih h (Over e) (Over f) a good = inl (ap (λ q. stop h q) (sym a))
 
     -- a statement whose lines stand in memory
-    starts_turn : (most left : ℕ) → left ≤ suc most → AgreeWithin most → (h : Hart) (m s : Mem) → Follows m s → IsEven h → (site : Site) → 0 < site.row.bytes → site.row.address ≡ h.pc → (holds : HoldsLines reader first p site) → Does (meaning p site) (cost p site) site.row.address holds.lines → Agrees (turn most (Starts site) left h s) (run reader left h m)
+    starts_turn : (most left : ℕ) → left ≤ suc most → AgreeWithin most → (h : Hart) (m s : Mem) → Follows m s → IsEven h → (site : Mapped) → 0 < site.row.bytes → site.row.address ≡ h.pc → (holds : HoldsLines reader first p site) → Does (meaning p site) (cost p site) site.row.address holds.lines → Agrees (turn most (Starts site) left h s) (run reader left h m)
     starts_turn most left le ih h m s b even site some at holds d = by (cases_Bool (nat_le (cost p site h) left))
       where
         stand : AllByRecursion (StandsIn reader first) (d.first ∷ d.others)
@@ -175,7 +175,7 @@ module _ {Spells StandsFor : ℕ → Inst → Type 0} (reader : Reader Spells St
     any_turn most left le ih h m s b pc even Gap e = gap_turn most left h m s b pc even e
     any_turn most left le ih h m s b pc even Inside e = inside_turn most left h m s
     any_turn most left le ih h m s b pc even (Starts site) e =
-        let test = find_holds (λ (k : Site). nat_lt 0 k.row.bytes && (k.row.address == h.pc)) p.sites site (starts_of (is_in p.map.text h.pc) _ (found p.sites h.pc) site e) in
+        let test = find_holds (λ (k : Mapped). nat_lt 0 k.row.bytes && (k.row.address == h.pc)) p.mapped site (starts_of (is_in p.map.text h.pc) _ (found p.mapped h.pc) site e) in
         let parts = and_parts (nat_lt 0 site.row.bytes) (site.row.address == h.pc) test in
         let some : 0 < site.row.bytes = ltb-true 0 site.row.bytes parts.0 in
         let holds = r.rows h.pc site pc e in

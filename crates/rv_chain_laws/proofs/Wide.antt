@@ -1,6 +1,6 @@
 -- The word of every instruction in range fits 32 bits, and ends in 11 as each four-byte instruction does (ISA, 1.5).
 
-use Rattle.std.proofs.Common.{◌≡◌, ℕ, ◌+◌, ◌*◌, ◌/◌, ◌%◌, ◌^◌, ◌<◌, Bool, true, false, refl, arith, ℤ, pos, negsuc, lit<}
+use Rattle.std.proofs.Common.{◌≡◌, ℕ, ◌+◌, ◌*◌, ◌/◌, ◌%◌, ◌^◌, ◌<◌, Bool, true, false, arith, ℤ, pos, negsuc, lit<}
 use Rattle.std.proofs.lemmas.Int.{ints}
 use Rattle.std.specs.Int.{from_bool}
 use Rattle.rv_isa.specs.declared.instruction.RType.{RType}
@@ -14,9 +14,8 @@ use Rattle.rv_isa.specs.declared.instruction.Atomic.{Atomic}
 use Rattle.rv_isa.specs.declared.instruction.Reserve.{Reserve}
 use Rattle.rv_isa.specs.declared.instruction.Fence.{Fence as FenceOperands}
 use Rattle.rv_isa.specs.declared.instruction.Inst.{Inst}
-use Rattle.rv_isa.specs.declared.instruction.Inst.TheVariants.{Lui, Auipc, Jal, Jalr, Beq, Bne, Blt, Bge, Bltu, Bgeu, Lb, Lh, Lw, Ld, Lbu, Lhu, Lwu, Sb, Sh, Sw, Sd, Addi, Slti, Sltiu, Xori, Ori, Andi, Slli, Srli, Srai, Add, Sub, Sll, Slt, Sltu, Xor, Srl, Sra, Or, And, Addiw, Slliw, Srliw, Sraiw, Addw, Subw, Sllw, Srlw, Sraw, Fence, Ecall, Ebreak, Mul, Mulh, Mulhsu, Mulhu, Div, Divu, Rem, Remu, Mulw, Divw, Divuw, Remw, Remuw, LrW, ScW, AmoswapW, AmoaddW, AmoxorW, AmoandW, AmoorW, AmominW, AmomaxW, AmominuW, AmomaxuW, LrD, ScD, AmoswapD, AmoaddD, AmoxorD, AmoandD, AmoorD, AmominD, AmomaxD, AmominuD, AmomaxuD}
 use Rattle.rv_isa.specs.Ranges.{IsSigned12, IsBranchOffset, IsJumpOffset, IsRType, IsIType, IsShift, IsWordShift, IsSType, IsBType, IsUType, IsJType, IsAtomic, IsReserve, IsFence, IsValid}
-use Rattle.rv_encode.specs.Word.{Form, Register, Immediate, ShiftBy, WordShift, Store, Branch, Upper, Jump, Memory, LoadReserved, Ordering, form, word, field}
+use Rattle.rv_encode.specs.Word.{Form, Register, Immediate, ShiftBy, WordShift, Store, Branch, Upper, Jump, Memory, LoadReserved, Ordering, Whole, form, word, field}
 
 abbrev pub IsWideForm : Form → Type 0
 IsWideForm f = (word f < 2 ^ 32) × (word f % 4 ≡ 3)
@@ -112,91 +111,38 @@ reserve_wide opcode funct3 funct5 x o l f g (rd, rs1) =
 ordering_wide : (opcode funct3 : ℕ) (x : FenceOperands) → opcode < 128 → opcode % 4 ≡ 3 → funct3 < 8 → IsFence x → IsWideForm (Ordering opcode funct3 x)
 ordering_wide opcode funct3 x o l f (fm, pred, succ, rs1, rd) = (omega arith, omega arith)
 
+-- the selectors of a form fit their fields, and its operands are in their ranges
+abbrev IsFormed : Form → Type 0
+IsFormed (Register opcode funct3 funct7 x) = (opcode < 128) × (opcode % 4 ≡ 3) × (funct3 < 8) × (funct7 < 128) × IsRType x
+IsFormed (Immediate opcode funct3 x) = (opcode < 128) × (opcode % 4 ≡ 3) × (funct3 < 8) × IsIType x
+IsFormed (ShiftBy opcode funct3 funct6 x) = (opcode < 128) × (opcode % 4 ≡ 3) × (funct3 < 8) × (funct6 < 64) × IsShift x
+IsFormed (WordShift opcode funct3 funct7 x) = (opcode < 128) × (opcode % 4 ≡ 3) × (funct3 < 8) × (funct7 < 128) × IsWordShift x
+IsFormed (Store opcode funct3 x) = (opcode < 128) × (opcode % 4 ≡ 3) × (funct3 < 8) × IsSType x
+IsFormed (Branch opcode funct3 x) = (opcode < 128) × (opcode % 4 ≡ 3) × (funct3 < 8) × IsBType x
+IsFormed (Upper opcode x) = (opcode < 128) × (opcode % 4 ≡ 3) × IsUType x
+IsFormed (Jump opcode x) = (opcode < 128) × (opcode % 4 ≡ 3) × IsJType x
+IsFormed (Memory opcode funct3 funct5 x) = (opcode < 128) × (opcode % 4 ≡ 3) × (funct3 < 8) × (funct5 < 32) × IsAtomic x
+IsFormed (LoadReserved opcode funct3 funct5 x) = (opcode < 128) × (opcode % 4 ≡ 3) × (funct3 < 8) × (funct5 < 32) × IsReserve x
+IsFormed (Ordering opcode funct3 x) = (opcode < 128) × (opcode % 4 ≡ 3) × (funct3 < 8) × IsFence x
+IsFormed (Whole bits) = (bits < 2 ^ 32) × (bits % 4 ≡ 3)
+
+form_wide : (f : Form) → IsFormed f → IsWideForm f
+form_wide (Register opcode funct3 funct7 x) (o, l, f, g, v) = register_wide opcode funct3 funct7 x o l f g v
+form_wide (Immediate opcode funct3 x) (o, l, f, v) = immediate_wide opcode funct3 x o l f v
+form_wide (ShiftBy opcode funct3 funct6 x) (o, l, f, g, v) = shift_wide opcode funct3 funct6 x o l f g v
+form_wide (WordShift opcode funct3 funct7 x) (o, l, f, g, v) = word_shift_wide opcode funct3 funct7 x o l f g v
+form_wide (Store opcode funct3 x) (o, l, f, v) = store_wide opcode funct3 x o l f v
+form_wide (Branch opcode funct3 x) (o, l, f, v) = branch_wide opcode funct3 x o l f v
+form_wide (Upper opcode x) (o, l, v) = upper_wide opcode x o l v
+form_wide (Jump opcode x) (o, l, v) = jump_wide opcode x o l v
+form_wide (Memory opcode funct3 funct5 x) (o, l, f, g, v) = memory_wide opcode funct3 funct5 x o l f g v
+form_wide (LoadReserved opcode funct3 funct5 x) (o, l, f, g, v) = reserve_wide opcode funct3 funct5 x o l f g v
+form_wide (Ordering opcode funct3 x) (o, l, f, v) = ordering_wide opcode funct3 x o l f v
+form_wide (Whole bits) v = v
+
+-- each row of the table, by one search
+formed : (i : Inst) → IsValid i → IsFormed (form i)
+formed i v = grind arith
+
 pub valid_wide : (i : Inst) → IsValid i → IsWide i
-valid_wide (Lui x) v = upper_wide 0x37 x (lit< tt) refl v
-valid_wide (Auipc x) v = upper_wide 0x17 x (lit< tt) refl v
-valid_wide (Jal x) v = jump_wide 0x6f x (lit< tt) refl v
-valid_wide (Jalr x) v = immediate_wide 0x67 0 x (lit< tt) refl (lit< tt) v
-valid_wide (Beq x) v = branch_wide 0x63 0 x (lit< tt) refl (lit< tt) v
-valid_wide (Bne x) v = branch_wide 0x63 1 x (lit< tt) refl (lit< tt) v
-valid_wide (Blt x) v = branch_wide 0x63 4 x (lit< tt) refl (lit< tt) v
-valid_wide (Bge x) v = branch_wide 0x63 5 x (lit< tt) refl (lit< tt) v
-valid_wide (Bltu x) v = branch_wide 0x63 6 x (lit< tt) refl (lit< tt) v
-valid_wide (Bgeu x) v = branch_wide 0x63 7 x (lit< tt) refl (lit< tt) v
-valid_wide (Lb x) v = immediate_wide 0x03 0 x (lit< tt) refl (lit< tt) v
-valid_wide (Lh x) v = immediate_wide 0x03 1 x (lit< tt) refl (lit< tt) v
-valid_wide (Lw x) v = immediate_wide 0x03 2 x (lit< tt) refl (lit< tt) v
-valid_wide (Ld x) v = immediate_wide 0x03 3 x (lit< tt) refl (lit< tt) v
-valid_wide (Lbu x) v = immediate_wide 0x03 4 x (lit< tt) refl (lit< tt) v
-valid_wide (Lhu x) v = immediate_wide 0x03 5 x (lit< tt) refl (lit< tt) v
-valid_wide (Lwu x) v = immediate_wide 0x03 6 x (lit< tt) refl (lit< tt) v
-valid_wide (Sb x) v = store_wide 0x23 0 x (lit< tt) refl (lit< tt) v
-valid_wide (Sh x) v = store_wide 0x23 1 x (lit< tt) refl (lit< tt) v
-valid_wide (Sw x) v = store_wide 0x23 2 x (lit< tt) refl (lit< tt) v
-valid_wide (Sd x) v = store_wide 0x23 3 x (lit< tt) refl (lit< tt) v
-valid_wide (Addi x) v = immediate_wide 0x13 0 x (lit< tt) refl (lit< tt) v
-valid_wide (Slti x) v = immediate_wide 0x13 2 x (lit< tt) refl (lit< tt) v
-valid_wide (Sltiu x) v = immediate_wide 0x13 3 x (lit< tt) refl (lit< tt) v
-valid_wide (Xori x) v = immediate_wide 0x13 4 x (lit< tt) refl (lit< tt) v
-valid_wide (Ori x) v = immediate_wide 0x13 6 x (lit< tt) refl (lit< tt) v
-valid_wide (Andi x) v = immediate_wide 0x13 7 x (lit< tt) refl (lit< tt) v
-valid_wide (Slli x) v = shift_wide 0x13 1 0x00 x (lit< tt) refl (lit< tt) (lit< tt) v
-valid_wide (Srli x) v = shift_wide 0x13 5 0x00 x (lit< tt) refl (lit< tt) (lit< tt) v
-valid_wide (Srai x) v = shift_wide 0x13 5 0x10 x (lit< tt) refl (lit< tt) (lit< tt) v
-valid_wide (Add x) v = register_wide 0x33 0 0x00 x (lit< tt) refl (lit< tt) (lit< tt) v
-valid_wide (Sub x) v = register_wide 0x33 0 0x20 x (lit< tt) refl (lit< tt) (lit< tt) v
-valid_wide (Sll x) v = register_wide 0x33 1 0x00 x (lit< tt) refl (lit< tt) (lit< tt) v
-valid_wide (Slt x) v = register_wide 0x33 2 0x00 x (lit< tt) refl (lit< tt) (lit< tt) v
-valid_wide (Sltu x) v = register_wide 0x33 3 0x00 x (lit< tt) refl (lit< tt) (lit< tt) v
-valid_wide (Xor x) v = register_wide 0x33 4 0x00 x (lit< tt) refl (lit< tt) (lit< tt) v
-valid_wide (Srl x) v = register_wide 0x33 5 0x00 x (lit< tt) refl (lit< tt) (lit< tt) v
-valid_wide (Sra x) v = register_wide 0x33 5 0x20 x (lit< tt) refl (lit< tt) (lit< tt) v
-valid_wide (Or x) v = register_wide 0x33 6 0x00 x (lit< tt) refl (lit< tt) (lit< tt) v
-valid_wide (And x) v = register_wide 0x33 7 0x00 x (lit< tt) refl (lit< tt) (lit< tt) v
-valid_wide (Addiw x) v = immediate_wide 0x1b 0 x (lit< tt) refl (lit< tt) v
-valid_wide (Slliw x) v = word_shift_wide 0x1b 1 0x00 x (lit< tt) refl (lit< tt) (lit< tt) v
-valid_wide (Srliw x) v = word_shift_wide 0x1b 5 0x00 x (lit< tt) refl (lit< tt) (lit< tt) v
-valid_wide (Sraiw x) v = word_shift_wide 0x1b 5 0x20 x (lit< tt) refl (lit< tt) (lit< tt) v
-valid_wide (Addw x) v = register_wide 0x3b 0 0x00 x (lit< tt) refl (lit< tt) (lit< tt) v
-valid_wide (Subw x) v = register_wide 0x3b 0 0x20 x (lit< tt) refl (lit< tt) (lit< tt) v
-valid_wide (Sllw x) v = register_wide 0x3b 1 0x00 x (lit< tt) refl (lit< tt) (lit< tt) v
-valid_wide (Srlw x) v = register_wide 0x3b 5 0x00 x (lit< tt) refl (lit< tt) (lit< tt) v
-valid_wide (Sraw x) v = register_wide 0x3b 5 0x20 x (lit< tt) refl (lit< tt) (lit< tt) v
-valid_wide (Fence x) v = ordering_wide 0x0f 0 x (lit< tt) refl (lit< tt) v
-valid_wide (Mul x) v = register_wide 0x33 0 0x01 x (lit< tt) refl (lit< tt) (lit< tt) v
-valid_wide (Mulh x) v = register_wide 0x33 1 0x01 x (lit< tt) refl (lit< tt) (lit< tt) v
-valid_wide (Mulhsu x) v = register_wide 0x33 2 0x01 x (lit< tt) refl (lit< tt) (lit< tt) v
-valid_wide (Mulhu x) v = register_wide 0x33 3 0x01 x (lit< tt) refl (lit< tt) (lit< tt) v
-valid_wide (Div x) v = register_wide 0x33 4 0x01 x (lit< tt) refl (lit< tt) (lit< tt) v
-valid_wide (Divu x) v = register_wide 0x33 5 0x01 x (lit< tt) refl (lit< tt) (lit< tt) v
-valid_wide (Rem x) v = register_wide 0x33 6 0x01 x (lit< tt) refl (lit< tt) (lit< tt) v
-valid_wide (Remu x) v = register_wide 0x33 7 0x01 x (lit< tt) refl (lit< tt) (lit< tt) v
-valid_wide (Mulw x) v = register_wide 0x3b 0 0x01 x (lit< tt) refl (lit< tt) (lit< tt) v
-valid_wide (Divw x) v = register_wide 0x3b 4 0x01 x (lit< tt) refl (lit< tt) (lit< tt) v
-valid_wide (Divuw x) v = register_wide 0x3b 5 0x01 x (lit< tt) refl (lit< tt) (lit< tt) v
-valid_wide (Remw x) v = register_wide 0x3b 6 0x01 x (lit< tt) refl (lit< tt) (lit< tt) v
-valid_wide (Remuw x) v = register_wide 0x3b 7 0x01 x (lit< tt) refl (lit< tt) (lit< tt) v
-valid_wide (LrW x) v = reserve_wide 0x2f 2 0x02 x (lit< tt) refl (lit< tt) (lit< tt) v
-valid_wide (ScW x) v = memory_wide 0x2f 2 0x03 x (lit< tt) refl (lit< tt) (lit< tt) v
-valid_wide (AmoswapW x) v = memory_wide 0x2f 2 0x01 x (lit< tt) refl (lit< tt) (lit< tt) v
-valid_wide (AmoaddW x) v = memory_wide 0x2f 2 0x00 x (lit< tt) refl (lit< tt) (lit< tt) v
-valid_wide (AmoxorW x) v = memory_wide 0x2f 2 0x04 x (lit< tt) refl (lit< tt) (lit< tt) v
-valid_wide (AmoandW x) v = memory_wide 0x2f 2 0x0c x (lit< tt) refl (lit< tt) (lit< tt) v
-valid_wide (AmoorW x) v = memory_wide 0x2f 2 0x08 x (lit< tt) refl (lit< tt) (lit< tt) v
-valid_wide (AmominW x) v = memory_wide 0x2f 2 0x10 x (lit< tt) refl (lit< tt) (lit< tt) v
-valid_wide (AmomaxW x) v = memory_wide 0x2f 2 0x14 x (lit< tt) refl (lit< tt) (lit< tt) v
-valid_wide (AmominuW x) v = memory_wide 0x2f 2 0x18 x (lit< tt) refl (lit< tt) (lit< tt) v
-valid_wide (AmomaxuW x) v = memory_wide 0x2f 2 0x1c x (lit< tt) refl (lit< tt) (lit< tt) v
-valid_wide (LrD x) v = reserve_wide 0x2f 3 0x02 x (lit< tt) refl (lit< tt) (lit< tt) v
-valid_wide (ScD x) v = memory_wide 0x2f 3 0x03 x (lit< tt) refl (lit< tt) (lit< tt) v
-valid_wide (AmoswapD x) v = memory_wide 0x2f 3 0x01 x (lit< tt) refl (lit< tt) (lit< tt) v
-valid_wide (AmoaddD x) v = memory_wide 0x2f 3 0x00 x (lit< tt) refl (lit< tt) (lit< tt) v
-valid_wide (AmoxorD x) v = memory_wide 0x2f 3 0x04 x (lit< tt) refl (lit< tt) (lit< tt) v
-valid_wide (AmoandD x) v = memory_wide 0x2f 3 0x0c x (lit< tt) refl (lit< tt) (lit< tt) v
-valid_wide (AmoorD x) v = memory_wide 0x2f 3 0x08 x (lit< tt) refl (lit< tt) (lit< tt) v
-valid_wide (AmominD x) v = memory_wide 0x2f 3 0x10 x (lit< tt) refl (lit< tt) (lit< tt) v
-valid_wide (AmomaxD x) v = memory_wide 0x2f 3 0x14 x (lit< tt) refl (lit< tt) (lit< tt) v
-valid_wide (AmominuD x) v = memory_wide 0x2f 3 0x18 x (lit< tt) refl (lit< tt) (lit< tt) v
-valid_wide (AmomaxuD x) v = memory_wide 0x2f 3 0x1c x (lit< tt) refl (lit< tt) (lit< tt) v
-valid_wide Ecall v = (lit< tt, refl)
-valid_wide Ebreak v = (lit< tt, refl)
+valid_wide i v = form_wide (form i) (formed i v)

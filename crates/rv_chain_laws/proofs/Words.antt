@@ -41,7 +41,7 @@ module _ {StandsFor : ℕ → Inst → Type 0} (reader : Reader Spells StandsFor
       ∙ ap (λ n. spelled 4 (reader.word n)) number
       ∙ ap (λ o. spelled 4 o) read
 
--- what lies behind the first bytes
+-- what lies after the first bytes
 pub bytes_behind : (m : Mem) (a : ℕ) (bs cs : List ℕ) → HasBytes m a (bs ++ cs) → HasBytes m (a + length bs) cs
 bytes_behind m a [] cs h = subst (λ x. HasBytes m x cs) (let e : a ≡ a + 0 = omega arith in e) h
 bytes_behind m a (b ∷ bs) cs (h, hs) = subst (λ x. HasBytes m x cs) (let e : a + 1 + length bs ≡ a + suc (length bs) = omega arith in e) (bytes_behind m (a + 1) bs cs hs)

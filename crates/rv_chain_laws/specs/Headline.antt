@@ -1,20 +1,23 @@
 -- The headline: running the bytes of the executable gives exactly the console and the end that the source statements
 -- give, each executed in one step at the addresses of the printed map.
 
-use Rattle.std.specs.Prelude.{◌≡◌, ℕ, ◌<◌, List, [], ◌∷◌, ⊤, None}
+use Rattle.std.specs.Prelude.{◌≡◌, ℕ, ◌<◌, Bool, if◌then◌else◌, List, [], ◌∷◌, ⊤, None}
 use Rattle.std.specs.List.{AllByRecursion}
 use Rattle.rv_statement.specs.Statement.{Spoken}
 use Rattle.rv_parse_laws.specs.Reading.{Reads}
 use Rattle.rv_map.specs.Map.{Map}
 use Rattle.rv_map.specs.Text.{map_text}
+use Rattle.rv_map.specs.Limits.{IsMap}
 use Rattle.rv_image.specs.Image.{Image}
 use Rattle.rv_image.specs.ImageOf.{ImageOf}
 use Rattle.rv_image.specs.FirstFault.{first_fault}
+use Rattle.rv_image.specs.Header.{machine_flags}
 use Rattle.rv_encode.specs.Word.{Spells}
 use Rattle.rv_compress.specs.Parcel.{StandsFor}
 use Rattle.rv_isa_laws.specs.Reader.{Reader}
 use Rattle.rv_isa_laws.specs.Run.{machine_run}
 use Rattle.rv_image.specs.Memory.{mem_of}
+use Rattle.rv_source_laws.specs.Options.{is_compressed}
 use Rattle.rv_source_laws.specs.SourceRun.{source_run}
 use Rattle.rv_source_laws.specs.Fits.{Fits}
 use Rattle.rv_source_laws.specs.Resolves.{Resolves}
@@ -34,7 +37,12 @@ AreBytes bytes = AllByRecursion (λ byte. byte < 256) bytes
 -- for every input and every limit, the machine's run over the image agrees with the sources' run at the map
 abbrev pub RunsAgree : List (List Spoken) → Map → Image → Type 0
 RunsAgree sources map image =
-    (reader : Reader Spells StandsFor) (input : List ℕ) → AreBytes input → (n : ℕ) → Agrees (source_run sources map input n) (machine_run reader (mem_of image) image.entry input n)
+    (reader : Reader Spells StandsFor) (input : List ℕ) → AreBytes input → (n : ℕ)
+    → Agrees (source_run sources map input n) (machine_run reader (mem_of image) image.entry input n)
+
+-- EF_RISCV_RVC, the flag of compressed code (RISC-V ELF psABI, "File Header")
+abbrev pub rvc_flag : Bool → ℕ
+rvc_flag is_set = if is_set then 1 else 0
 
 -- what the texts of the sources, the text's start, the bytes of the executable and those of the map have to do with one another
 pub record TheHeadline (texts : List (List ℕ)) (text_start : ℕ) (executable map_bytes : List ℕ) : Type 0 where
@@ -43,6 +51,8 @@ pub record TheHeadline (texts : List (List ℕ)) (text_start : ℕ) (executable 
   -- the printed map: it fits the sources and resolves their names
   pub map : Map
   pub shown : map_bytes ≡ map_text map
+  -- reading those bytes gives this map: its numbers and names are such as a text can show
+  pub readable : IsMap map
   pub fits : Fits sources map text_start
   pub resolves : Resolves sources map
   -- the image of the executable
@@ -50,4 +60,6 @@ pub record TheHeadline (texts : List (List ℕ)) (text_start : ℕ) (executable 
   pub loads : ImageOf executable image
   -- which has no fault that a loader would name
   pub accepted : first_fault executable ≡ None
+  -- its one flag is set exactly where one of the sources has compressed code
+  pub flagged : machine_flags executable ≡ rvc_flag (is_compressed sources)
   pub agree : RunsAgree sources map image

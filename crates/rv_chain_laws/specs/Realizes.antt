@@ -7,7 +7,7 @@ use Rattle.rv_isa.specs.Ranges.{IsValid}
 use Rattle.rv_isa_laws.specs.Memory.{Mem, Right, Read, Write, Execute}
 use Rattle.rv_isa_laws.specs.Reader.{Reader}
 use Rattle.rv_isa_laws.specs.Run.{NoInstruction, Got, fetch}
-use Rattle.rv_source_laws.specs.Sites.{Site, Program}
+use Rattle.rv_source_laws.specs.Program.{Mapped, Program}
 use Rattle.rv_source_laws.specs.Meaning.{Line, AreLines, expansion}
 use Rattle.rv_source_laws.specs.Fits.{IsRowOf}
 use Rattle.rv_source_laws.specs.Start.{first_byte, right_at}
@@ -18,7 +18,7 @@ abbrev pub StandsIn : {Spells StandsFor : ℕ → Inst → Type 0} → Reader Sp
 StandsIn reader m l = (fetch reader m l.address ≡ Got l.instruction l.bytes) × IsValid l.instruction
 
 -- the bytes of a site's row are the lines of its statement
-pub record HoldsLines {Spells StandsFor : ℕ → Inst → Type 0} (reader : Reader Spells StandsFor) (m : Mem) (p : Program) (s : Site) : Type 0 where
+pub record HoldsLines {Spells StandsFor : ℕ → Inst → Type 0} (reader : Reader Spells StandsFor) (m : Mem) (p : Program) (s : Mapped) : Type 0 where
   pub lines : List Line
   pub are_lines : AreLines p s lines
   pub stand : AllByRecursion (StandsIn reader m) lines
@@ -28,7 +28,7 @@ pub record HoldsLines {Spells StandsFor : ℕ → Inst → Type 0} (reader : Rea
 -- memory m holds a program: what a run of the machine needs so that it does what the statements do
 pub record Realizes {Spells StandsFor : ℕ → Inst → Type 0} (reader : Reader Spells StandsFor) (m : Mem) (p : Program) : Type 0 where
   -- each row that the text runs holds the lines of its statement
-  pub rows : (pc : ℕ) (s : Site) → pc < 2 ^ 64 → place p pc ≡ Starts s → HoldsLines reader m p s
+  pub rows : (pc : ℕ) (s : Mapped) → pc < 2 ^ 64 → place p pc ≡ Starts s → HoldsLines reader m p s
   -- the gaps of the text spell no instruction
   pub gaps : (pc : ℕ) → pc < 2 ^ 64 → pc % 2 ≡ 0 → place p pc ≡ Gap → fetch reader m pc ≡ NoInstruction
   -- the rights are those of the regions, and what can be read is what memory holds at the start

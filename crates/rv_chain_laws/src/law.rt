@@ -12,7 +12,7 @@ ghost use Rattle.rv_isa_laws.specs.Reader.{Reader};
 ghost use Rattle.rv_isa_laws.specs.Run.{machine_run};
 ghost use Rattle.rv_chain_laws.specs.Agrees.{Agrees};
 ghost use Rattle.rv_chain_laws.specs.Realizes.{Realizes};
-ghost use Rattle.rv_source_laws.specs.Sites.{program};
+ghost use Rattle.rv_source_laws.specs.Program.{program};
 ghost use Rattle.rv_source_laws.specs.SourceRun.{source_run};
 ghost use Rattle.rv_chain_laws.specs.Headline.{RunsAgree};
 ghost use Rattle.rv_chain_laws.specs.Contents.{IsLinked};
@@ -22,24 +22,36 @@ ghost use Rattle.rv_chain_laws.specs.Refusals.{IsMapOf, has_entry};
 ghost use Rattle.rv_image.specs.Linked.{Linked};
 ghost use Rattle.rv_image.specs.Executable.{linked_image};
 
+/// A reading of code exists: for each word and each parcel it answers the one instruction that is
+/// spelled there, or none. So what holds for every reader is never said of nothing.
+pub fn code_has_a_reader()
+    ensures { Reader Spells StandsFor }
+{}
+
 /// Where memory holds the statements of the sources at the rows of a map, and the map's entry is an
 /// even address, the two runs agree for every input and every limit.
 pub fn runs_agree()
-    ensures { (reader : Reader Spells StandsFor) (m : Mem) (sources : List (List Spoken)) (map : Map) → Realizes reader m (program sources map) → map.entry < 2 ^ 64 → map.entry % 2 ≡ 0 → (input : List ℕ) (n : ℕ) → Agrees (source_run sources map input n) (machine_run reader m map.entry input n) }
+    ensures { (reader : Reader Spells StandsFor) (m : Mem) (sources : List (List Spoken)) (map : Map)
+        → Realizes reader m (program sources map) → map.entry < 2 ^ 64 → map.entry % 2 ≡ 0
+        → (input : List ℕ) (n : ℕ)
+        → Agrees (source_run sources map input n) (machine_run reader m map.entry input n) }
 {}
 
 /// Where the regions of a linked program hold the sections of its sources, code and data, the image
 /// of the program runs as their statements do, for every input and every limit.
 pub fn linked_runs_agree()
-    ensures { (start : ℕ) (sources : List (List Spoken)) (l : Linked) → IsLinked sources start l → RunsAgree sources l.map (linked_image l) }
+    ensures { (start : ℕ) (sources : List (List Spoken)) (l : Linked)
+        → IsLinked sources start l → RunsAgree sources l.map (linked_image l) }
 {}
 
 /// In one source without a faulty label or directive no name has two global definitions.
 pub fn names_are_distinct()
-    ensures { (ss : List Spoken) (map : Map) → first_fault ss ≡ None → AreDistinct (global_names (ss ∷ []) map) }
+    ensures { (ss : List Spoken) (map : Map)
+        → first_fault ss ≡ None → AreDistinct (global_names (ss ∷ []) map) }
 {}
 
 /// A source that has a map has an entry: no source is refused both for want of one and for its size.
 pub fn a_map_has_an_entry()
-    ensures { (start : ℕ) (ss : List Spoken) (map : Map) → IsMapOf start ss map → has_entry ss ≡ true }
+    ensures { (start : ℕ) (ss : List Spoken) (map : Map)
+        → IsMapOf start ss map → has_entry ss ≡ true }
 {}

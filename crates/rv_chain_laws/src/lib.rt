@@ -1,9 +1,28 @@
-//! When an executable does what a list of sources says, statement by statement, at the addresses of a map; and the law
-//! that it does. Nothing here runs.
+//! The headline: when an executable does what its sources say, statement by statement, at the addresses of a map; and the law
+//! that it does.
+//!
+//! It takes what sources mean (`rv_source_laws`), what a linked program and an image are (`rv_image`) and what the machine
+//! does (`rv_isa_laws`). It gives the definition that `build` promises (`specs/Headline`), what the linker owes to it
+//! (`Contents`) and what memory owes to it (`Realizes`), and why one source is refused (`Refusals`).
+//!
+//! Its main contract is the law `linked_runs_agree`: where the regions of a linked program hold the sections of its sources
+//! (`IsLinked`), the image's run agrees with the sources' run for every input and every limit. `code_has_a_reader` says that
+//! this speaks of some reading of code. Nothing here runs, and nothing here knows how a source is read or linked.
+//!
+//! A contract that cites it:
+//!
+//! ```text
+//! ghost use Rattle.rv_chain_laws.specs.Headline.{TheHeadline};
+//!
+//! pub fn build(alloc: Global, sources: &[&[u8]], options: LinkOptions) -> Result<Built, Fault>
+//!     ensures { IfOk result (λ built. TheHeadline (map now_of sources.now) options.text_start built.exe.items built.map.items) }
+//! ```
 //!
 //! Source: RISC-V Unprivileged ISA 20191213; RISC-V Assembly Programmer's Manual.
 #![tactic(auto)]
 
 mod law;
 
-pub use law::{a_map_has_an_entry, linked_runs_agree, names_are_distinct, runs_agree};
+pub use law::{
+    a_map_has_an_entry, code_has_a_reader, linked_runs_agree, names_are_distinct, runs_agree,
+};

@@ -10,18 +10,18 @@ use Rattle.rv_map.specs.declared.map.Row.{Row}
 use Rattle.rv_map.specs.declared.map.Region.{Region}
 use Rattle.rv_unit_laws.specs.Sections.{Section, goes_to_text, goes_to_rodata, goes_to_data, goes_to_bss}
 use Rattle.rv_unit_laws.specs.Tables.{Tables, after, at_start, tables, aligned}
-use Rattle.rv_source_laws.specs.Stated.{Stated, stated_now, stated_from, stated_of, has_row}
-use Rattle.rv_source_laws.specs.Sites.{Site, Program, program, first_of, entries_of, sites_of}
-use Rattle.rv_source_laws.specs.Fits.{Fits, Block, rows_of, block_of, blocks, blocks_of, blocks_of_file, sites_in, mark_of_row, mark_of_stated, Follow, size, Stand, end_of, Holds, greatest}
-use Rattle.rv_source_laws.specs.Placed.{Places, moved, TakesRow, RowsFrom, RowsOf, Joins, Spread, SpreadOf, Fills, IsLaidFrom}
+use Rattle.rv_source_laws.specs.Located.{Located, located_now, located_from, located_of, has_row}
+use Rattle.rv_source_laws.specs.Program.{Mapped, Program, program, first_of, statements_of, mapped_of}
+use Rattle.rv_source_laws.specs.Fits.{Fits, InputSection, rows_of, input_section, input_sections, input_sections_of, input_sections_of_file, mapped_in, identity_of_row, identity_of, Follow, size, Stand, end_of, Holds, greatest}
+use Rattle.rv_source_laws.specs.Placement.{Placement, moved, TakesRow, RowsFrom, RowsOf, Joins, Spread, SpreadOf, Fills, IsLaidFrom}
 
 -- ---- one row for each statement that has one
 
-abbrev Marked : List Stated → List Row → Type 0
-Marked ts rows = map mark_of_row rows ≡ map mark_of_stated (filter has_row ts)
+abbrev Marked : List Located → List Row → Type 0
+Marked ts rows = map identity_of_row rows ≡ map identity_of (filter has_row ts)
 
-marks_from : (file k : ℕ) (u : Tables) (next : Places) (ss : List Spoken) (rows : List Row) (Others : List Row → Places → Type 0) (more : List Stated) → RowsFrom file k u next ss rows Others
-    → ((rest : List Row) (now : Places) → Others rest now → Marked more rest) → Marked (stated_from file k u ss ++ more) rows
+marks_from : (file k : ℕ) (u : Tables) (next : Placement) (ss : List Spoken) (rows : List Row) (Others : List Row → Placement → Type 0) (more : List Located) → RowsFrom file k u next ss rows Others
+    → ((rest : List Row) (now : Placement) → Others rest now → Marked more rest) → Marked (located_from file k u ss ++ more) rows
 marks_from file k u next [] rows Others more h f = f rows next h
 marks_from file k u next (s ∷ ss) rows Others more h f =
     go (has_row t) rows (λ rest bytes. RowsFrom file (suc k) now (moved next file t.section bytes) ss rest Others) h
@@ -30,33 +30,33 @@ marks_from file k u next (s ∷ ss) rows Others more h f =
     now : Tables
     now = after u k s.says
 
-    t : Stated
-    t = stated_now file k u s
+    t : Located
+    t = located_now file k u s
 
-    others : List Stated
-    others = stated_from file (suc k) now ss ++ more
+    others : List Located
+    others = located_from file (suc k) now ss ++ more
 
     go : (b : Bool) (rows : List Row) (Rest : List Row → ℕ → Type 0) → TakesRow b t (next file t.section) rows Rest → ((rest : List Row) (bytes : ℕ) → Rest rest bytes → Marked others rest)
-        → map mark_of_row rows ≡ map mark_of_stated (if b then t ∷ filter has_row others else filter has_row others)
+        → map identity_of_row rows ≡ map identity_of (if b then t ∷ filter has_row others else filter has_row others)
     go true [] Rest none ih = absurd none
-    go true (row ∷ rest) Rest (mark, at, r) ih = ap (λ x. x ∷ map mark_of_row rest) mark ∙ ap (λ ms. mark_of_stated t ∷ ms) (ih rest row.bytes r)
+    go true (row ∷ rest) Rest (mark, at, r) ih = ap (λ x. x ∷ map identity_of_row rest) mark ∙ ap (λ ms. identity_of t ∷ ms) (ih rest row.bytes r)
     go false rows Rest r ih = ih rows 0 r
 
-marks_of : (file : ℕ) (next : Places) (files : List (List Spoken)) (rows : List Row) (last : Places) → RowsOf file next files rows last → Marked (stated_of file files) rows
-marks_of file next [] rows last (e, l) = ap (λ rs. map mark_of_row rs) e
+marks_of : (file : ℕ) (next : Placement) (files : List (List Spoken)) (rows : List Row) (last : Placement) → RowsOf file next files rows last → Marked (located_of file files) rows
+marks_of file next [] rows last (e, l) = ap (λ rs. map identity_of_row rs) e
 marks_of file next (ss ∷ files) rows last h =
-    marks_from file 1 at_start next ss rows (λ rest now. RowsOf (suc file) now files rest last) (stated_of (suc file) files) h (λ rest now r. marks_of (suc file) now files rest last r)
+    marks_from file 1 at_start next ss rows (λ rest now. RowsOf (suc file) now files rest last) (located_of (suc file) files) h (λ rest now r. marks_of (suc file) now files rest last r)
 
 -- ---- the rows of a section follow one another
 
-abbrev row_of : Site → Row
+abbrev row_of : Mapped → Row
 row_of s = s.row
 
-abbrev sites_from : List Stated → List Row → List Site
-sites_from ts rows = sites_of (entries_of ts rows)
+abbrev sites_from : List Located → List Row → List Mapped
+sites_from ts rows = mapped_of (statements_of ts rows)
 
-abbrev Runs : Places → Places → ℕ → ℕ → List Site → Type 0
-Runs next last f j sites = Follow (next f j) (map row_of (sites_in sites f j)) × (last f j ≡ next f j + size (map row_of (sites_in sites f j)))
+abbrev Runs : Placement → Placement → ℕ → ℕ → List Mapped → Type 0
+Runs next last f j mapped = Follow (next f j) (map row_of (mapped_in mapped f j)) × (last f j ≡ next f j + size (map row_of (mapped_in mapped f j)))
 
 both_swap : (a b c d : ℕ) (t : Bool) → ((a == b) && (c == d)) ≡ t → ((b == a) && (d == c)) ≡ t
 both_swap a b c d true e =
@@ -71,35 +71,35 @@ both_swap a b c d false e = go ((b == a) && (d == c)) refl
         absurd (cc)
     go false f = f
 
-one_more : (b : Bool) (next last : Places) (file c f j : ℕ) (s : Site) (sites : List Site) → ((f == file) && (j == c)) ≡ b → s.row.address ≡ next file c → Runs (moved next file c s.row.bytes) last f j sites
-    → Follow (next f j) (map row_of (if b then s ∷ sites_in sites f j else sites_in sites f j)) × (last f j ≡ next f j + size (map row_of (if b then s ∷ sites_in sites f j else sites_in sites f j)))
-one_more true next last file c f j s sites e at (follow, l) =
+one_more : (b : Bool) (next last : Placement) (file c f j : ℕ) (s : Mapped) (mapped : List Mapped) → ((f == file) && (j == c)) ≡ b → s.row.address ≡ next file c → Runs (moved next file c s.row.bytes) last f j mapped
+    → Follow (next f j) (map row_of (if b then s ∷ mapped_in mapped f j else mapped_in mapped f j)) × (last f j ≡ next f j + size (map row_of (if b then s ∷ mapped_in mapped f j else mapped_in mapped f j)))
+one_more true next last file c f j s mapped e at (follow, l) =
     let parts = and_parts (f == file) (j == c) e in
     let same : f ≡ file = eqb-true f file parts.0 in
     let same' : j ≡ c = eqb-true j c parts.1 in
     let place : moved next file c s.row.bytes f j ≡ next f j + s.row.bytes = ap (λ b. if b then next f j + s.row.bytes else next f j) e in
-    let rest = map row_of (sites_in sites f j) in
+    let rest = map row_of (mapped_in mapped f j) in
     let t : size (s.row ∷ rest) ≡ s.row.bytes + size rest = sum_by-cons (λ r. r.bytes) s.row rest in
     let m : next f j + s.row.bytes + size rest ≡ next f j + (s.row.bytes + size rest) = omega arith in (
       (at ∙ ap (λ x. next x c) (sym same) ∙ ap (next f) (sym same'), subst (λ x. Follow x rest) place follow),
       l ∙ ap (λ x. x + size rest) place ∙ m ∙ ap (λ n. next f j + n) (sym t),
     )
-one_more false next last file c f j s sites e at (follow, l) =
+one_more false next last file c f j s mapped e at (follow, l) =
     let place : moved next file c s.row.bytes f j ≡ next f j = ap (λ b. if b then next f j + s.row.bytes else next f j) e in
-    let rest = map row_of (sites_in sites f j) in
+    let rest = map row_of (mapped_in mapped f j) in
     (subst (λ x. Follow x rest) place follow, l ∙ ap (λ x. x + size rest) place)
 
-no_more : (next last : Places) (file c f j : ℕ) (sites : List Site) → Runs (moved next file c 0) last f j sites → Runs next last f j sites
-no_more next last file c f j sites (follow, l) =
-    let rest = map row_of (sites_in sites f j) in
+no_more : (next last : Placement) (file c f j : ℕ) (mapped : List Mapped) → Runs (moved next file c 0) last f j mapped → Runs next last f j mapped
+no_more next last file c f j mapped (follow, l) =
+    let rest = map row_of (mapped_in mapped f j) in
     (subst (λ x. Follow x rest) (same ((f == file) && (j == c))) follow, l ∙ ap (λ x. x + size rest) (same ((f == file) && (j == c))))
   where
     same : (b : Bool) → (if b then next f j + 0 else next f j) ≡ next f j
     same true = omega arith
     same false = refl
 
-runs_from : (file k : ℕ) (u : Tables) (next : Places) (ss : List Spoken) (rows : List Row) (last : Places) (Others : List Row → Places → Type 0) (more : List Stated) (f j : ℕ) → RowsFrom file k u next ss rows Others
-    → ((rest : List Row) (now : Places) → Others rest now → Runs now last f j (sites_from more rest)) → Runs next last f j (sites_from (stated_from file k u ss ++ more) rows)
+runs_from : (file k : ℕ) (u : Tables) (next : Placement) (ss : List Spoken) (rows : List Row) (last : Placement) (Others : List Row → Placement → Type 0) (more : List Located) (f j : ℕ) → RowsFrom file k u next ss rows Others
+    → ((rest : List Row) (now : Placement) → Others rest now → Runs now last f j (sites_from more rest)) → Runs next last f j (sites_from (located_from file k u ss ++ more) rows)
 runs_from file k u next [] rows last Others more f j h g = g rows next h
 runs_from file k u next (s ∷ ss) rows last Others more f j h g =
     go (has_row t) rows (λ rest bytes. RowsFrom file (suc k) now (moved next file t.section bytes) ss rest Others) h
@@ -108,42 +108,42 @@ runs_from file k u next (s ∷ ss) rows last Others more f j h g =
     now : Tables
     now = after u k s.says
 
-    t : Stated
-    t = stated_now file k u s
+    t : Located
+    t = located_now file k u s
 
-    others : List Stated
-    others = stated_from file (suc k) now ss ++ more
+    others : List Located
+    others = located_from file (suc k) now ss ++ more
 
     go : (b : Bool) (rows : List Row) (Rest : List Row → ℕ → Type 0) → TakesRow b t (next file t.section) rows Rest → ((rest : List Row) (bytes : ℕ) → Rest rest bytes → Runs (moved next file t.section bytes) last f j (sites_from others rest))
-        → Runs next last f j (sites_of (if b then record { stated = t; row = first_of rows } ∷ entries_of others (drop 1 rows) else record { stated = t; row = None } ∷ entries_of others rows))
+        → Runs next last f j (mapped_of (if b then record { located = t; row = first_of rows } ∷ statements_of others (drop 1 rows) else record { located = t; row = None } ∷ statements_of others rows))
     go true [] Rest none ih = absurd none
     go true (row ∷ rest) Rest (mark, at, r) ih =
-        one_more ((file == f) && (t.section == j)) next last file t.section f j (record { stated = t; row = row }) (sites_from others rest)
+        one_more ((file == f) && (t.section == j)) next last file t.section f j (record { located = t; row = row }) (sites_from others rest)
         (both_swap file f t.section j ((file == f) && (t.section == j)) refl) at (ih rest row.bytes r)
     go false rows Rest r ih = no_more next last file t.section f j (sites_from others rows) (ih rows 0 r)
 
-runs_of : (file : ℕ) (next : Places) (files : List (List Spoken)) (rows : List Row) (last : Places) → RowsOf file next files rows last → (f j : ℕ) → Runs next last f j (sites_from (stated_of file files) rows)
+runs_of : (file : ℕ) (next : Placement) (files : List (List Spoken)) (rows : List Row) (last : Placement) → RowsOf file next files rows last → (f j : ℕ) → Runs next last f j (sites_from (located_of file files) rows)
 runs_of file next [] rows last (e, l) f j = (tt, l f j ∙ omega arith)
 runs_of file next (ss ∷ files) rows last h f j =
-    runs_from file 1 at_start next ss rows last (λ rest now. RowsOf (suc file) now files rest last) (stated_of (suc file) files) f j h (λ rest now r. runs_of (suc file) now files rest last r f j)
+    runs_from file 1 at_start next ss rows last (λ rest now. RowsOf (suc file) now files rest last) (located_of (suc file) files) f j h (λ rest now r. runs_of (suc file) now files rest last r f j)
 
--- ---- the sections of a region stand one behind the other
+-- ---- the sections of a region stand one after the other
 
-module _ (goes : Section → Bool) (sites : List Site) (starts last : Places) (runs : (f j : ℕ) → Runs starts last f j sites) where
-  abbrev Stands : ℕ → ℕ → List Block → Type 0
+module _ (goes : Section → Bool) (mapped : List Mapped) (starts last : Placement) (runs : (f j : ℕ) → Runs starts last f j mapped) where
+  abbrev Stands : ℕ → ℕ → List InputSection → Type 0
   Stands end stop bs = Stand stop bs × (end ≡ end_of stop bs)
 
-  stands_file : (t : Tables) (file stop index : ℕ) (sections : List Section) (Others : ℕ → Type 0) (more : List Block) (end : ℕ) → Spread goes t starts last file stop index sections Others
-      → ((n : ℕ) → Others n → Stands end n more) → Stands end stop (blocks_of_file goes t sites file index sections ++ more)
+  stands_file : (t : Tables) (file stop index : ℕ) (sections : List Section) (Others : ℕ → Type 0) (more : List InputSection) (end : ℕ) → Spread goes t starts last file stop index sections Others
+      → ((n : ℕ) → Others n → Stands end n more) → Stands end stop (input_sections_of_file goes t mapped file index sections ++ more)
   stands_file t file stop index [] Others more end h f = f stop h
   stands_file t file stop index (section ∷ sections) Others more end h f =
       go (goes section) h (λ n r. stands_file t file n (suc index) sections Others more end r f)
     where
-      b : Block
-      b = block_of t section sites file index
+      b : InputSection
+      b = input_section t section mapped file index
 
-      later : List Block
-      later = blocks_of_file goes t sites file (suc index) sections
+      later : List InputSection
+      later = input_sections_of_file goes t mapped file (suc index) sections
 
       go : (g : Bool) → Joins g (starts file index) b.alignment stop (last file index) (λ n. Spread goes t starts last file n (suc index) sections Others)
           → ((n : ℕ) → Spread goes t starts last file n (suc index) sections Others → Stands end n (later ++ more))
@@ -155,13 +155,13 @@ module _ (goes : Section → Bool) (sites : List Site) (starts last : Places) (r
           ((subst (λ x. Follow x (rows_of b)) at here.0, subst (λ x. Stand x (later ++ more)) there rest.0), rest.1 ∙ ap (λ x. end_of x (later ++ more)) there)
       go false r ih = ih stop r
 
-  stands_of : (file stop : ℕ) (files : List (List Spoken)) (end : ℕ) → SpreadOf goes starts last file stop files end → Stands end stop (blocks_of goes sites file files)
+  stands_of : (file stop : ℕ) (files : List (List Spoken)) (end : ℕ) → SpreadOf goes starts last file stop files end → Stands end stop (input_sections_of goes mapped file files)
   stands_of file stop [] end e = (tt, sym e)
   stands_of file stop (ss ∷ files) end h =
-      stands_file (tables ss) file stop 0 (tables ss).opened.sections (λ n. SpreadOf goes starts last (suc file) n files end) (blocks_of goes sites (suc file) files) end h
+      stands_file (tables ss) file stop 0 (tables ss).opened.sections (λ n. SpreadOf goes starts last (suc file) n files end) (input_sections_of goes mapped (suc file) files) end h
       (λ n r. stands_of (suc file) n files end r)
 
-  holds : (r : Region) (place : ℕ) (sources : List (List Spoken)) → Fills goes starts last sources r place → Holds r place (blocks_of goes sites 1 sources)
+  holds : (r : Region) (place : ℕ) (sources : List (List Spoken)) → Fills goes starts last sources r place → Holds r place (input_sections_of goes mapped 1 sources)
   holds r place sources (at, spread) =
       let s = stands_of 1 place sources r.end spread in
       (at, s.0, s.1)
@@ -171,15 +171,15 @@ laid_fits a sources m h = record {
   good = h.good;
   rows = marks_of 1 h.starts sources m.rows h.last h.rows;
   sizes = h.sizes;
-  text = holds goes_to_text p.sites h.starts h.last runs m.text a sources h.text;
+  text = holds goes_to_text p.mapped h.starts h.last runs m.text a sources h.text;
   gaps = h.gaps;
-  rodata = holds goes_to_rodata p.sites h.starts h.last runs m.rodata (aligned 4096 m.text.end) sources h.rodata;
-  «data» = holds goes_to_data p.sites h.starts h.last runs m.data (aligned 4096 m.rodata.end) sources h.data;
-  bss = holds goes_to_bss p.sites h.starts h.last runs m.bss (aligned (greatest (blocks goes_to_bss sources m)) m.data.end) sources h.bss;
+  rodata = holds goes_to_rodata p.mapped h.starts h.last runs m.rodata (aligned 4096 m.text.end) sources h.rodata;
+  «data» = holds goes_to_data p.mapped h.starts h.last runs m.data (aligned 4096 m.rodata.end) sources h.data;
+  bss = holds goes_to_bss p.mapped h.starts h.last runs m.bss (aligned (greatest (input_sections goes_to_bss sources m)) m.data.end) sources h.bss;
 }
   where
     p : Program
     p = program sources m
 
-    runs : (f j : ℕ) → Runs h.starts h.last f j p.sites
+    runs : (f j : ℕ) → Runs h.starts h.last f j p.mapped
     runs f j = runs_of 1 h.starts sources m.rows h.last h.rows f j

@@ -5,29 +5,30 @@ use Rattle.std.specs.List.{AllByRecursion, list_all}
 use Rattle.rv_isa.specs.declared.instruction.Inst.{Inst}
 use Rattle.rv_isa.specs.Ranges.{IsValid}
 use Rattle.rv_text_laws.specs.Values.{Value, Constant}
-use Rattle.rv_statement.specs.Statement.{Statement, Label, Numbered, Instruction, Directs, Spoken, Directive, Sets, Aligns_to_power, Aligns_to_bytes, Values, Strings, Zeros}
+use Rattle.rv_statement.specs.Statement.{Statement, Label, Numbered, Instruction, Directs, Spoken, Directive, Sets}
+use Rattle.rv_unit_laws.specs.Contributions.{Contribution, Nothing, Bytes, Zero_bytes, Alignment, contribution}
 use Rattle.rv_unit_laws.specs.Sections.{Section, goes_to_text, goes_to_rodata, goes_to_data, goes_to_bss}
-use Rattle.rv_unit_laws.specs.Tables.{Tables, tables, aligned, asked, padding}
+use Rattle.rv_unit_laws.specs.Tables.{Tables, tables, aligned, alignment_of, padding}
 use Rattle.rv_unit_laws.specs.Faults.{first_fault}
 use Rattle.rv_map.specs.Map.{Map}
 use Rattle.rv_map.specs.declared.map.Row.{Row}
 use Rattle.rv_map.specs.declared.map.Region.{Region}
-use Rattle.rv_source_laws.specs.Stated.{Stated, stated, has_row}
-use Rattle.rv_source_laws.specs.Sites.{Site, Program, program, form, has_values, expressions}
+use Rattle.rv_source_laws.specs.Located.{Located, located, has_row}
+use Rattle.rv_source_laws.specs.Program.{Mapped, Program, program, form, has_values, expressions}
 use Rattle.rv_source_laws.specs.Meaning.{expansion}
 use Rattle.rv_source_laws.specs.Start.{spelled}
 
--- which statement a row is that of
-pub record Mark : Type 0 where
+-- a statement by its file, its line and its ordinal
+pub record Identity : Type 0 where
   pub file : ℕ
   pub line : ℕ
   pub ordinal : ℕ
 
-abbrev pub mark_of_row : Row → Mark
-mark_of_row r = record { file = r.file; line = r.line; ordinal = r.ordinal }
+abbrev pub identity_of_row : Row → Identity
+identity_of_row r = record { file = r.file; line = r.line; ordinal = r.ordinal }
 
-abbrev pub mark_of_stated : Stated → Mark
-mark_of_stated s = record { file = s.file; line = s.line; ordinal = s.ordinal }
+abbrev pub identity_of : Located → Identity
+identity_of s = record { file = s.file; line = s.line; ordinal = s.ordinal }
 
 -- the row of instructions that are valid, each of 2 or 4 bytes; no row fits a statement without instructions to stand for it
 abbrev pub IsRowOf : Option (List Inst) → Row → Type 0
@@ -41,16 +42,16 @@ abbrev pub is_constant : Value → Bool
 is_constant (Constant n) = true
 is_constant _ = false
 
-abbrev pub has_constants : Program → Site → Bool
-has_constants p s = list_all (λ e. is_constant (form p s.stated e)) (expressions s.stated.says)
+abbrev pub has_constants : Program → Mapped → Bool
+has_constants p s = list_all (λ e. is_constant (form p s.located e)) (expressions s.located.says)
 
 -- the row of data: the bytes that the statement spells, all zero where its section has none in the file
-abbrev pub IsDataRow : Program → Site → Type 0
+abbrev pub IsDataRow : Program → Mapped → Type 0
 IsDataRow p s = IsTrue (has_values p s) × (s.row.bytes ≡ length (spelled p s)) × (s.row.instructions ≡ 0)
 
 -- the least padding for which a row of an alignment ends at a multiple of it
-abbrev pub least_padding : Program → Site → Directive → ℕ
-least_padding p s d = padding (asked (λ e. form p s.stated e) d) s.row.address
+abbrev pub least_padding : Program → Mapped → Directive → ℕ
+least_padding p s d = padding (alignment_of (λ e. form p s.located e) d) s.row.address
 
 -- up to 2
 abbrev pub is_low : Option ℕ → Bool
@@ -58,67 +59,68 @@ is_low None = true
 is_low (Some alignment) = nat_le alignment 2
 
 -- the row of an alignment: in executable sections instructions, and none up to 2; in others zeros
-abbrev pub IsPaddingIn : Bool → Program → Site → Directive → Type 0
+abbrev pub IsPaddingIn : Bool → Program → Mapped → Directive → Type 0
 IsPaddingIn true p s d =
-    IsRowOf (expansion p s) s.row × (s.row.bytes ≡ (if is_low (asked (λ e. form p s.stated e) d) then 0 else least_padding p s d))
+    IsRowOf (expansion p s) s.row × (s.row.bytes ≡ (if is_low (alignment_of (λ e. form p s.located e) d) then 0 else least_padding p s d))
 IsPaddingIn false p s d = IsTrue (has_values p s) × (s.row.bytes ≡ least_padding p s d) × (s.row.instructions ≡ 0)
 
-abbrev pub IsPadding : Program → Site → Directive → Type 0
-IsPadding p s d = IsPaddingIn s.stated.home.executable p s d
+abbrev pub IsPadding : Program → Mapped → Directive → Type 0
+IsPadding p s d = IsPaddingIn s.located.home.executable p s d
 
-abbrev pub DirectiveFits : Program → Site → Directive → Type 0
+abbrev pub ContributionFits : Program → Mapped → Directive → Contribution → Type 0
+ContributionFits p s d Nothing = ⊥
+ContributionFits p s d (Bytes contents) = IsDataRow p s
+ContributionFits p s d (Zero_bytes count) = IsDataRow p s
+ContributionFits p s d (Alignment form number) = IsPadding p s d
+
+abbrev pub DirectiveFits : Program → Mapped → Directive → Type 0
 DirectiveFits p s (Sets name e) = IsRowOf (expansion p s) s.row
-DirectiveFits p s (Values width values) = IsDataRow p s
-DirectiveFits p s (Strings ended strings) = IsDataRow p s
-DirectiveFits p s (Zeros count) = IsDataRow p s
-DirectiveFits p s (Aligns_to_power exponent) = IsPadding p s (Aligns_to_power exponent)
-DirectiveFits p s (Aligns_to_bytes bytes) = IsPadding p s (Aligns_to_bytes bytes)
-DirectiveFits p s _ = ⊥
+DirectiveFits p s d = ContributionFits p s d (contribution d)
 
 -- the size of a statement's row, by its kind
-abbrev pub StatementFits : Program → Site → Statement → Type 0
+abbrev pub StatementFits : Program → Mapped → Statement → Type 0
 StatementFits p s (Label name) = IsRowOf (expansion p s) s.row
 StatementFits p s (Numbered number) = IsRowOf (expansion p s) s.row
 StatementFits p s (Instruction mnemonic operands) = IsTrue (has_constants p s) × IsRowOf (expansion p s) s.row
 StatementFits p s (Directs directive) = DirectiveFits p s directive
 
-abbrev pub SizeFits : Program → Site → Type 0
-SizeFits p s = StatementFits p s s.stated.says
+abbrev pub SizeFits : Program → Mapped → Type 0
+SizeFits p s = StatementFits p s s.located.says
 
--- a section of a file as it stands in the map
-pub record Block : Type 0 where
+-- a section of a file as the linker takes it: the multiple at which it begins, and its statements in the map
+pub record InputSection : Type 0 where
   pub alignment : ℕ
-  pub sites : List Site
+  pub mapped : List Mapped
 
-abbrev pub rows_of : Block → List Row
-rows_of b = map (λ s. s.row) b.sites
+abbrev pub rows_of : InputSection → List Row
+rows_of b = map (λ s. s.row) b.mapped
 
 -- the sites of a section, by its file and its place in the file
-abbrev pub sites_in : List Site → ℕ → ℕ → List Site
-sites_in sites file section = filter (λ s. (s.stated.file == file) && (s.stated.section == section)) sites
+abbrev pub mapped_in : List Mapped → ℕ → ℕ → List Mapped
+mapped_in mapped file section = filter (λ s. (s.located.file == file) && (s.located.section == section)) mapped
 
--- the multiple at which a section begins, by its place in its file: code stands at even addresses
+-- the multiple at which a section begins, by its index in its file: the greatest of its alignments, and 2 or more for code
 abbrev pub begins_at : Tables → ℕ → Section → ℕ
 begins_at t place section = max (if goes_to_text section then 2 else 1) (slice_index_or t.alignments place 1)
 
-abbrev pub block_of : Tables → Section → List Site → ℕ → ℕ → Block
-block_of t section sites file place = record { alignment = begins_at t place section; sites = sites_in sites file place }
+abbrev pub input_section : Tables → Section → List Mapped → ℕ → ℕ → InputSection
+input_section t section mapped file place = record { alignment = begins_at t place section; mapped = mapped_in mapped file place }
 
 -- the sections of a file that go to a region, from a place on in the file's order
-abbrev pub blocks_of_file : (Section → Bool) → Tables → List Site → ℕ → ℕ → List Section → List Block
-blocks_of_file goes t sites file place [] = []
-blocks_of_file goes t sites file place (section ∷ sections) =
-    let rest = blocks_of_file goes t sites file (suc place) sections in
-    if goes section then block_of t section sites file place ∷ rest else rest
+abbrev pub input_sections_of_file : (Section → Bool) → Tables → List Mapped → ℕ → ℕ → List Section → List InputSection
+input_sections_of_file goes t mapped file place [] = []
+input_sections_of_file goes t mapped file place (section ∷ sections) =
+    let rest = input_sections_of_file goes t mapped file (suc place) sections in
+    if goes section then input_section t section mapped file place ∷ rest else rest
 
 -- the sections that go to a region, in file order and then in the order of the file
-abbrev pub blocks_of : (Section → Bool) → List Site → ℕ → List (List Spoken) → List Block
-blocks_of goes sites file [] = []
-blocks_of goes sites file (ss ∷ files) =
-    blocks_of_file goes (tables ss) sites file 0 (tables ss).opened.sections ++ blocks_of goes sites (suc file) files
+abbrev pub input_sections_of : (Section → Bool) → List Mapped → ℕ → List (List Spoken) → List InputSection
+input_sections_of goes mapped file [] = []
+input_sections_of goes mapped file (ss ∷ files) =
+    input_sections_of_file goes (tables ss) mapped file 0 (tables ss).opened.sections ++ input_sections_of goes mapped (suc file) files
 
-abbrev pub blocks : (Section → Bool) → List (List Spoken) → Map → List Block
-blocks goes sources m = blocks_of goes (program sources m).sites 1 sources
+abbrev pub input_sections : (Section → Bool) → List (List Spoken) → Map → List InputSection
+input_sections goes sources m = input_sections_of goes (program sources m).mapped 1 sources
 
 -- each row starts where the one before ends
 abbrev pub Follow : ℕ → List Row → Type 0
@@ -129,17 +131,17 @@ abbrev pub size : List Row → ℕ
 size rows = sum_by (λ r. r.bytes) rows
 
 -- sections one after another: each at the least aligned place that is not below the end before
-abbrev pub Stand : ℕ → List Block → Type 0
+abbrev pub Stand : ℕ → List InputSection → Type 0
 Stand stop [] = ⊤
 Stand stop (b ∷ bs) = Follow (aligned b.alignment stop) (rows_of b) × Stand (aligned b.alignment stop + size (rows_of b)) bs
 
 -- the end of the last of them
-abbrev pub end_of : ℕ → List Block → ℕ
+abbrev pub end_of : ℕ → List InputSection → ℕ
 end_of stop [] = stop
 end_of stop (b ∷ bs) = end_of (aligned b.alignment stop + size (rows_of b)) bs
 
 -- a gap stands before each section that begins past the end before
-abbrev pub gaps_of : ℕ → List Block → List Region
+abbrev pub gaps_of : ℕ → List InputSection → List Region
 gaps_of stop [] = []
 gaps_of stop (b ∷ bs) =
     let start = aligned b.alignment stop in
@@ -147,26 +149,26 @@ gaps_of stop (b ∷ bs) =
     if nat_lt stop start then record { start = stop; end = start } ∷ rest else rest
 
 -- a region holds its sections from a place on
-abbrev pub Holds : Region → ℕ → List Block → Type 0
+abbrev pub Holds : Region → ℕ → List InputSection → Type 0
 Holds region place bs = (region.start ≡ place) × Stand place bs × (region.end ≡ end_of place bs)
 
-abbrev pub greatest : List Block → ℕ
+abbrev pub greatest : List InputSection → ℕ
 greatest [] = 1
 greatest (b ∷ bs) = max b.alignment (greatest bs)
 
 -- each statement that has a place has one row, by file and ordinal, and there are no others
 abbrev pub HasRows : List (List Spoken) → Map → Type 0
-HasRows sources m = map mark_of_row m.rows ≡ map mark_of_stated (filter has_row (stated sources))
+HasRows sources m = map identity_of_row m.rows ≡ map identity_of (filter has_row (located sources))
 
 -- the map fits the sources, from a text start on
 pub record Fits (sources : List (List Spoken)) (m : Map) (text_start : ℕ) : Type 0 where
   -- no label and no directive is faulty, and each statement stands in a section that can hold it
   pub good : AllByRecursion (λ ss. first_fault ss ≡ None) sources
   pub rows : HasRows sources m
-  pub sizes : AllByRecursion (SizeFits (program sources m)) (program sources m).sites
-  pub text : Holds m.text text_start (blocks goes_to_text sources m)
-  pub gaps : m.gaps ≡ gaps_of text_start (blocks goes_to_text sources m)
-  -- rodata and data begin at pages of 4096 bytes, bss behind data at its greatest alignment
-  pub rodata : Holds m.rodata (aligned 4096 m.text.end) (blocks goes_to_rodata sources m)
-  pub «data» : Holds m.data (aligned 4096 m.rodata.end) (blocks goes_to_data sources m)
-  pub bss : Holds m.bss (aligned (greatest (blocks goes_to_bss sources m)) m.data.end) (blocks goes_to_bss sources m)
+  pub sizes : AllByRecursion (SizeFits (program sources m)) (program sources m).mapped
+  pub text : Holds m.text text_start (input_sections goes_to_text sources m)
+  pub gaps : m.gaps ≡ gaps_of text_start (input_sections goes_to_text sources m)
+  -- rodata and data begin at pages of 4096 bytes, bss after data at the greatest alignment of its sections
+  pub rodata : Holds m.rodata (aligned 4096 m.text.end) (input_sections goes_to_rodata sources m)
+  pub «data» : Holds m.data (aligned 4096 m.rodata.end) (input_sections goes_to_data sources m)
+  pub bss : Holds m.bss (aligned (greatest (input_sections goes_to_bss sources m)) m.data.end) (input_sections goes_to_bss sources m)

@@ -1,9 +1,10 @@
-pub mod Stated
-pub mod Sites
+pub mod Located
+pub mod Options
+pub mod Program
 pub mod Written
 pub mod Meaning
 pub mod Fits
 pub mod Resolves
 pub mod Start
 pub mod SourceRun
-pub mod Placed
+pub mod Placement

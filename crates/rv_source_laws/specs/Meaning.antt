@@ -10,9 +10,8 @@ use Rattle.rv_isa_laws.specs.Meaning.{effect, sets}
 use Rattle.rv_statement.specs.declared.mnemonic.Mnemonic.{Mnemonic}
 use Rattle.rv_statement.specs.declared.mnemonic.Mnemonic.TheVariants.{Li}
 use Rattle.rv_statement.specs.Statement.{Statement, Label, Numbered, Instruction, Directs, Operand, Expression, Directive, Sets, Aligns_to_power, Aligns_to_bytes}
-use Rattle.rv_parse_laws.specs.Value.{signed}
-use Rattle.rv_source_laws.specs.Written.{Argument, Of_register, Of_number, arguments, written}
-use Rattle.rv_source_laws.specs.Sites.{Site, Program, number, has_values}
+use Rattle.rv_source_laws.specs.Written.{signed, Argument, Of_register, Of_number, arguments, written}
+use Rattle.rv_source_laws.specs.Program.{Mapped, Program, number, has_values}
 
 -- `addi rd, rs1, k`
 abbrev pub add_immediate : ℕ → ℕ → ℕ → Inst
@@ -33,7 +32,7 @@ run_with mnemonic arguments bytes h = run_written (written mnemonic arguments) b
 abbrev pub run_spoken : (Expression → ℕ) → Mnemonic → List Operand → ℕ → Hart → Effect
 run_spoken v mnemonic operands bytes h = run_with mnemonic (arguments v operands) bytes h
 
--- an alignment goes on behind its padding
+-- an alignment goes on after its padding
 abbrev pub run_directive : Directive → ℕ → Hart → Effect
 run_directive (Aligns_to_power exponent) bytes h = Goes (advanced h bytes)
 run_directive (Aligns_to_bytes alignment) bytes h = Goes (advanced h bytes)
@@ -47,8 +46,8 @@ run_said v (Instruction mnemonic operands) bytes h = run_spoken v mnemonic opera
 run_said v (Directs directive) bytes h = run_directive directive bytes h
 
 -- what the statement at a site does in one step; one with a name that has no meaning fits no row
-abbrev pub meaning : Program → Site → Hart → Effect
-meaning p s h = if has_values p s then run_said (number p s) s.stated.says s.row.bytes h else Breaks
+abbrev pub meaning : Program → Mapped → Hart → Effect
+meaning p s h = if has_values p s then run_said (number p s) s.located.says s.row.bytes h else Breaks
 
 -- whether a number fits 12 signed bits
 abbrev pub fits_12 : ℕ → Option ℕ
@@ -92,8 +91,8 @@ expanded_said v (Numbered number) bytes = Some []
 expanded_said v (Instruction mnemonic operands) bytes = expanded v mnemonic operands
 expanded_said v (Directs directive) bytes = expanded_directive directive bytes
 
-abbrev pub expansion : Program → Site → Option (List Inst)
-expansion p s = if has_values p s then expanded_said (number p s) s.stated.says s.row.bytes else None
+abbrev pub expansion : Program → Mapped → Option (List Inst)
+expansion p s = if has_values p s then expanded_said (number p s) s.located.says s.row.bytes else None
 
 -- a line of a statement: an instruction of 2 or 4 bytes at its address
 pub record Line : Type 0 where
@@ -107,10 +106,10 @@ Lie address [] stop = address ≡ stop
 Lie address (l ∷ ls) stop = (l.address ≡ address) × Lie (address + l.bytes) ls stop
 
 -- the lines of a statement: its base instructions, one after another over the bytes of its row
-abbrev pub AreLines : Program → Site → List Line → Type 0
+abbrev pub AreLines : Program → Mapped → List Line → Type 0
 AreLines p s lines =
     (expansion p s ≡ Some (map (λ l. l.instruction) lines)) × Lie s.row.address lines (s.row.address + s.row.bytes)
 
 -- how many instructions of its row run in one step of this hart
-abbrev pub cost : Program → Site → Hart → ℕ
+abbrev pub cost : Program → Mapped → Hart → ℕ
 cost p s h = s.row.instructions

@@ -2,13 +2,13 @@
 
 use Rattle.std.specs.Prelude.{◌≡◌, ℕ, ◌+◌, ◌-◌, ◌%◌, Bool, false, not, ◌&&◌, ◌||◌, ◌==◌, ⊤, List, [], ◌∷◌, ◌++◌, filter, flat_map, Option, Some, None, is_some, option_and_then, slice_index_or, codes, bytes_eq, if◌then◌else◌}
 use Rattle.std.specs.List.{find, list_any}
-use Rattle.rv_text_laws.specs.Values.{Known, Placed, Open, Refused}
+use Rattle.rv_text_laws.specs.Values.{Known, InSection, Open, Refused}
 use Rattle.rv_statement.specs.Statement.{Statement, Label, Directs, Spoken, Globl, Local, Sets}
 use Rattle.rv_unit_laws.specs.Sections.{goes_to_text}
-use Rattle.rv_unit_laws.specs.Tables.{Tables, Setting, set_before, set_ever}
+use Rattle.rv_unit_laws.specs.Tables.{Tables, Assignment, assigned_before, assigned_ever}
 use Rattle.rv_map.specs.Map.{Map, Global}
-use Rattle.rv_source_laws.specs.Stated.{Stated}
-use Rattle.rv_source_laws.specs.Sites.{Entry, Program, program, tables_in, address_of, home_address}
+use Rattle.rv_source_laws.specs.Located.{Located}
+use Rattle.rv_source_laws.specs.Program.{MaybeMapped, Program, program, tables_in, address_of, home_address}
 
 abbrev pub is_one_of : List (List ℕ) → List ℕ → Bool
 is_one_of names name = list_any (λ n. bytes_eq n name) names
@@ -44,52 +44,52 @@ shown name (Some address) = symbol name address ∷ []
 -- ---- definitions
 
 -- a `.set` at an ordinal gives a name for the first time
-abbrev pub sets_first : List Setting → ℕ → List ℕ → Bool
-sets_first settings ordinal name =
-    list_any (λ s. (s.ordinal == ordinal) && bytes_eq s.name name) settings && not (is_some (set_before settings ordinal name))
+abbrev pub sets_first : List Assignment → ℕ → List ℕ → Bool
+sets_first assignments ordinal name =
+    list_any (λ s. (s.ordinal == ordinal) && bytes_eq s.name name) assignments && not (is_some (assigned_before assignments ordinal name))
 
 -- the name that a statement defines: a label's, or one that `.set` gives for the first time
 abbrev pub defined_name : Tables → ℕ → Statement → List (List ℕ)
 defined_name t ordinal (Label name) = name ∷ []
-defined_name t ordinal (Directs (Sets name e)) = if sets_first t.settings ordinal name then name ∷ [] else []
+defined_name t ordinal (Directs (Sets name e)) = if sets_first t.assignments ordinal name then name ∷ [] else []
 defined_name t ordinal _ = []
 
 -- the number that `.set` gives, or the address of the place
-abbrev pub set_address : List Entry → ℕ → Option Setting → Option ℕ
-set_address entries file None = None
-set_address entries file (Some s) = elim s.meaning [
+abbrev pub set_address : List MaybeMapped → ℕ → Option Assignment → Option ℕ
+set_address statements file None = None
+set_address statements file (Some s) = elim s.meaning [
   | Known n ↦ Some n
-  | Placed section offset ↦ home_address entries file (record { ordinal = s.ordinal; plus = s.plus })
+  | InSection section offset ↦ home_address statements file (record { ordinal = s.ordinal; plus = s.plus })
   | Open ↦ None
   | Refused code ↦ None
 ]
 
 -- the address or the number of what a statement defines: a label's row's address, or what `.set` gives the name last
-abbrev pub defined_address : Tables → List Entry → Entry → Statement → Option ℕ
-defined_address t entries e (Directs (Sets name expression)) = set_address entries e.stated.file (set_ever t.settings name)
-defined_address t entries e _ = address_of e
+abbrev pub defined_address : Tables → List MaybeMapped → MaybeMapped → Statement → Option ℕ
+defined_address t statements e (Directs (Sets name expression)) = set_address statements e.located.file (assigned_ever t.assignments name)
+defined_address t statements e _ = address_of e
 
 -- the name that a statement of a file defines for all files
-abbrev pub global_names_of : List (List Spoken) → Tables → Stated → List (List ℕ)
+abbrev pub global_names_of : List (List Spoken) → Tables → Located → List (List ℕ)
 global_names_of sources t s = filter (λ name. is_global_in sources s.file name) (defined_name t s.ordinal s.says)
 
 -- that name with its address; one in a section that isn't loaded has none
-abbrev pub defined_by : List (List Spoken) → Program → Entry → List Global
+abbrev pub defined_by : List (List Spoken) → Program → MaybeMapped → List Global
 defined_by sources p e =
-    let t = tables_in p e.stated.file in
-    flat_map (λ name. shown name (defined_address t p.entries e e.stated.says)) (global_names_of sources t e.stated)
+    let t = tables_in p e.located.file in
+    flat_map (λ name. shown name (defined_address t p.statements e e.located.says)) (global_names_of sources t e.located)
 
 -- the names that are defined for all files, by file and then in the order of definition
 abbrev pub global_names : List (List Spoken) → Map → List (List ℕ)
 global_names sources m =
     let p = program sources m in
-    flat_map (λ e. global_names_of sources (tables_in p e.stated.file) e.stated) p.entries
+    flat_map (λ e. global_names_of sources (tables_in p e.located.file) e.located) p.statements
 
 -- the global definitions of a list of sources, by file and then in the order of definition
 abbrev pub definitions : List (List Spoken) → Map → List Global
 definitions sources m =
     let p = program sources m in
-    flat_map (defined_by sources p) p.entries
+    flat_map (defined_by sources p) p.statements
 
 -- the names that the linker gives
 abbrev pub linker_symbols : Map → List Global
@@ -101,6 +101,10 @@ linker_symbols m =
     ∷ symbol (codes "__global_pointer$") (m.data.start + 0x800)
     ∷ []
 
+-- those whose name no global definition has
+abbrev pub shown_symbols : List (List Spoken) → Map → List Global
+shown_symbols sources m = filter (λ g. not (is_one_of (global_names sources m) g.name)) (linker_symbols m)
+
 -- ---- the entry
 
 -- a label `_start` of a section of text that its file makes global
@@ -108,18 +112,18 @@ abbrev pub is_start : Statement → Bool
 is_start (Label name) = bytes_eq name (codes "_start")
 is_start _ = false
 
-abbrev pub begins_run : List (List Spoken) → Stated → Bool
+abbrev pub begins_run : List (List Spoken) → Located → Bool
 begins_run sources s = is_start s.says && goes_to_text s.home && is_global_in sources s.file (codes "_start")
 
-abbrev pub starts_at : Option Entry → Option ℕ
+abbrev pub starts_at : Option MaybeMapped → Option ℕ
 starts_at found = option_and_then address_of found
 
 -- the map resolves the names of the sources
 pub record Resolves (sources : List (List Spoken)) (m : Map) : Type 0 where
   -- a linker symbol is shown where no global definition has its name
-  pub globals : m.globals ≡ definitions sources m ++ filter (λ g. not (is_one_of (global_names sources m) g.name)) (linker_symbols m)
+  pub globals : m.globals ≡ definitions sources m ++ shown_symbols sources m
   -- no name has two global definitions
   pub once : AreDistinct (global_names sources m)
   -- a run begins at the global label _start, an even place of a section of text
-  pub entry : starts_at (find (λ e. begins_run sources e.stated) (program sources m).entries) ≡ Some m.entry
+  pub entry : starts_at (find (λ e. begins_run sources e.located) (program sources m).statements) ≡ Some m.entry
   pub even : m.entry % 2 ≡ 0

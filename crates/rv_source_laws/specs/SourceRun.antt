@@ -7,29 +7,29 @@ use Rattle.rv_isa_laws.specs.Hart.{Hart, Outcome, Illegal, FetchOutside, Astray,
 use Rattle.rv_isa_laws.specs.Effect.{Next, Over, apply, follow}
 use Rattle.rv_statement.specs.Statement.{Spoken}
 use Rattle.rv_map.specs.Map.{Map}
-use Rattle.rv_source_laws.specs.Sites.{Site, Program, program}
+use Rattle.rv_source_laws.specs.Program.{Mapped, Program, program}
 use Rattle.rv_source_laws.specs.Meaning.{meaning, cost}
 use Rattle.rv_source_laws.specs.Start.{is_in, first_memory}
 
 -- what stands at a pc: a statement that starts there, the inside of one, a gap of the text, or no text
 pub data Place : Type 0 where
-  Starts : (site : Site) → Place
+  Starts : (site : Mapped) → Place
   Inside : Place
   Gap : Place
   Outside : Place
 
-abbrev pub starts_or_inside : Option Site → Place
+abbrev pub starts_or_inside : Option Mapped → Place
 starts_or_inside (Some site) = Starts site
 starts_or_inside None = Inside
 
 -- the site with more than 0 bytes that starts at pc
-abbrev pub found : List Site → ℕ → Option Site
-found sites pc = find (λ s. nat_lt 0 s.row.bytes && (s.row.address == pc)) sites
+abbrev pub found : List Mapped → ℕ → Option Mapped
+found mapped pc = find (λ s. nat_lt 0 s.row.bytes && (s.row.address == pc)) mapped
 
 abbrev pub place : Program → ℕ → Place
 place p pc =
     if is_in p.map.text pc
-    then (if list_any (λ gap. is_in gap pc) p.map.gaps then Gap else starts_or_inside (found p.sites pc))
+    then (if list_any (λ gap. is_in gap pc) p.map.gaps then Gap else starts_or_inside (found p.mapped pc))
     else Outside
 
 -- the step at a place; the next pc is the row's end where the statement doesn't jump
@@ -46,7 +46,7 @@ cost_at p Inside h = 1
 cost_at p Gap h = 1
 cost_at p Outside h = 1
 
--- at most so many steps, while the next one's cost is at most what is left
+-- at most `most` steps, while the next one's cost is at most what is left
 abbrev pub steps : ℕ → Program → ℕ → Hart → Mem → Outcome
 steps zero p left h m = stop h Limit
 steps (suc most) p left h m =

@@ -4,12 +4,13 @@
 use Rattle.std.specs.Prelude.{ℕ, zero, suc, ◌+◌, ◌-◌, ◌/◌, ◌%◌, Bool, ◌&&◌, ◌||◌, nat_le, nat_lt, List, [], ◌∷◌, flat_map, replicate, Option, Some, None, slice_index}
 use Rattle.std.specs.List.{find}
 use Rattle.rv_isa_laws.specs.Memory.{Mem, Right, Read, Write, Execute}
-use Rattle.rv_statement.specs.Statement.{Statement, Label, Numbered, Instruction, Directs, Expression, Directive, Aligns_to_power, Aligns_to_bytes, Values, Strings, Zeros}
+use Rattle.rv_statement.specs.Statement.{Statement, Label, Numbered, Instruction, Directs, Expression}
+use Rattle.rv_unit_laws.specs.Contributions.{Contents, Numbers, Texts, Contribution, Nothing, Bytes, Zero_bytes, Alignment, contribution}
 use Rattle.rv_unit_laws.specs.Tables.{string_bytes}
 use Rattle.rv_map.specs.Map.{Map}
 use Rattle.rv_map.specs.declared.map.Region.{Region}
 use Rattle.rv_isa_laws.specs.Platform.{stack_start, stack_end}
-use Rattle.rv_source_laws.specs.Sites.{Site, Program, number}
+use Rattle.rv_source_laws.specs.Program.{Mapped, Program, number}
 
 -- whether an address is from a start on and below an end
 abbrev pub is_within : ℕ → ℕ → ℕ → Bool
@@ -18,37 +19,39 @@ is_within start stop a = nat_le start a && nat_lt a stop
 abbrev pub is_in : Region → ℕ → Bool
 is_in region a = is_within region.start region.end a
 
--- a number in so many bytes, the lowest first, modulo their width
+-- a number in `width` bytes, the lowest first, modulo their width
 abbrev pub little_endian : ℕ → ℕ → List ℕ
 little_endian zero n = []
 little_endian (suc width) n = n % 256 ∷ little_endian width (n / 256)
 
--- the bytes that a directive spells in so many bytes, by the values of expressions; an alignment's padding is zeros
-abbrev pub spelled_directive : (Expression → ℕ) → Directive → ℕ → List ℕ
-spelled_directive v (Values width values) bytes = flat_map (λ e. little_endian width (v e)) values
-spelled_directive v (Strings ended strings) bytes = string_bytes ended strings
-spelled_directive v (Zeros count) bytes = replicate (v count) 0
-spelled_directive v (Aligns_to_power exponent) bytes = replicate bytes 0
-spelled_directive v (Aligns_to_bytes alignment) bytes = replicate bytes 0
-spelled_directive v _ bytes = []
+abbrev pub spelled_contents : (Expression → ℕ) → Contents → List ℕ
+spelled_contents v (Numbers width values) = flat_map (λ e. little_endian width (v e)) values
+spelled_contents v (Texts ended strings) = string_bytes ended strings
+
+-- what a directive contributes to data in this count of bytes, by the values of expressions; an alignment's padding is zeros
+abbrev pub spelled_contribution : (Expression → ℕ) → Contribution → ℕ → List ℕ
+spelled_contribution v Nothing bytes = []
+spelled_contribution v (Bytes contents) bytes = spelled_contents v contents
+spelled_contribution v (Zero_bytes count) bytes = replicate (v count) 0
+spelled_contribution v (Alignment form number) bytes = replicate bytes 0
 
 -- the bytes that a statement spells in data; the text holds none
 abbrev pub spelled_said : (Expression → ℕ) → Statement → ℕ → List ℕ
 spelled_said v (Label name) bytes = []
 spelled_said v (Numbered number) bytes = []
 spelled_said v (Instruction mnemonic operands) bytes = []
-spelled_said v (Directs directive) bytes = spelled_directive v directive bytes
+spelled_said v (Directs directive) bytes = spelled_contribution v (contribution directive) bytes
 
-abbrev pub spelled : Program → Site → List ℕ
-spelled p s = spelled_said (number p s) s.stated.says s.row.bytes
+abbrev pub spelled : Program → Mapped → List ℕ
+spelled p s = spelled_said (number p s) s.located.says s.row.bytes
 
-abbrev pub byte_of : Program → Option Site → ℕ → ℕ
+abbrev pub byte_of : Program → Option Mapped → ℕ → ℕ
 byte_of p None a = 0
 byte_of p (Some s) a = slice_index (spelled p s) (a - s.row.address)
 
 -- the byte at an address: that of the row that lies over it, and 0 everywhere else
 abbrev pub first_byte : Program → ℕ → ℕ
-first_byte p a = byte_of p (find (λ s. is_within s.row.address (s.row.address + s.row.bytes) a) p.sites) a
+first_byte p a = byte_of p (find (λ s. is_within s.row.address (s.row.address + s.row.bytes) a) p.mapped) a
 
 -- text can be executed alone, rodata read alone; from data to the end of bss, and in the stack, a program reads and writes
 abbrev pub right_at : Map → ℕ → Right → Bool

@@ -1,5 +1,22 @@
-//! What a list of sources means at a map: where its statements stand, what their names and expressions are there, when
-//! a map fits the sources and resolves their names, and their run, statement by statement. Nothing here runs.
+//! What a list of sources means at a map.
+//!
+//! It takes the statements of sources (`rv_statement`), their names and sections (`rv_unit_laws`) and a map (`rv_map`), all as
+//! plain data. It gives the definitions by which a built program is judged: where each statement stands (`specs/Located`), its
+//! row and the values of its expressions (`Program`), what it does in one step (`Written`, `Meaning`), memory at the start
+//! (`Start`), when a map fits the sources (`Fits`) and resolves their names (`Resolves`), and their run (`SourceRun`).
+//!
+//! Its main contract is the law `laid_out_fits`: a map that is laid out section by section fits its sources. Nothing here
+//! runs, and nothing here knows of executables, of the machine's run or of how a linker works.
+//!
+//! A contract that cites it:
+//!
+//! ```text
+//! ghost use Rattle.rv_source_laws.specs.Fits.{Fits};
+//!
+//! pub fn exit7_fits()
+//!     ensures { Fits (exit7 ∷ []) exit7_map 0x10000 }
+//! {}
+//! ```
 //!
 //! Source: RISC-V Unprivileged ISA 20191213; RISC-V Assembly Programmer's Manual; System V gABI, "Sections" and "Symbol
 //! Table".

@@ -4,10 +4,10 @@ use Rattle.std.proofs.Common.{[], ◌∷◌, refl, arith}
 use Rattle.std.specs.List.{AllByRecursion}
 use Rattle.rv_text_laws.specs.Bytes.{digit}
 use Rattle.rv_worked.specs.Data.{figures, figures_map}
-use Rattle.rv_source_laws.specs.Sites.{program}
+use Rattle.rv_source_laws.specs.Program.{program}
 use Rattle.rv_source_laws.specs.Fits.{Fits, SizeFits}
 
-sizes : AllByRecursion (SizeFits (program (figures ∷ []) figures_map)) (program (figures ∷ []) figures_map).sites
+sizes : AllByRecursion (SizeFits (program (figures ∷ []) figures_map)) (program (figures ∷ []) figures_map).mapped
 unfolding digit
 sizes = ((tt, refl, omega arith, omega arith, refl), ((refl, ((tt, tt), refl, omega arith, omega arith, refl)), ((tt, refl, omega arith, omega arith, refl), ((refl, refl, refl), ((refl, refl, refl), ((tt, refl, omega arith, omega arith, refl), ((refl, refl, refl), ((tt, refl, omega arith, omega arith, refl), ((refl, refl, refl), ((refl, refl, refl), ((refl, refl, refl), ((tt, refl, omega arith, omega arith, refl), ((refl, refl, refl), tt)))))))))))))
 

@@ -1,5 +1,18 @@
-//! Worked programs and sources that are refused, as contracts that the check computes: what the definitions say of them.
-//! Nothing here runs.
+//! Worked programs, and worked sources that are refused: what the definitions say of them.
+//!
+//! It takes the definitions of what sources mean (`rv_source_laws`), of the headline (`rv_chain_laws`) and of executables
+//! (`rv_image`), and shows of whole sources (`specs/Exit7`, `Data`, `CodeAlignment`, `Refused`) what they come to: runs, maps,
+//! bytes, faults. Each contract is closed, so that the check computes it; a definition that said something else would fail
+//! here. Nothing here runs, and no other crate stands on this one.
+//!
+//! Its main contract is `exit7_executes`: the machine's run over the executable of the program `exit7` exits with 7.
+//!
+//! ```text
+//! pub fn exit7_is_limited()
+//!     ensures enough { source_run (exit7 ∷ []) exit7_map [] 3 ≡ exits 7 }
+//!     ensures short { source_run (exit7 ∷ []) exit7_map [] 2 ≡ record { console = []; «end» = Limit } }
+//! {}
+//! ```
 #![tactic(auto)]
 
 mod refused;
@@ -10,8 +23,8 @@ pub use refused::{
     wide_is_mapped, worked_are_sound,
 };
 pub use worked::{
-    differences_fit, differences_spell, exit7_executes, exit7_fits, exit7_is_limited,
-    exit7_is_written, exit7_links, exit7_loads, exit7_resolves, exit7_runs, exit7_shows,
-    exit255_runs, figures_fit, figures_resolve, figures_spell, hello_fits, hello_holds,
-    hello_resolves, hello_runs, two_files_run,
+    code_is_aligned, differences_fit, differences_spell, exit7_executes, exit7_fits,
+    exit7_is_limited, exit7_is_written, exit7_links, exit7_loads, exit7_resolves, exit7_runs,
+    exit7_shows, exit255_runs, figures_fit, figures_resolve, figures_spell, hello_fits,
+    hello_holds, hello_resolves, hello_runs, two_files_run,
 };

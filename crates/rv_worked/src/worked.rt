@@ -1,6 +1,6 @@
 //! Worked programs, as contracts that the check computes.
 
-ghost use Rattle.std.specs.Prelude.{◌≡◌, [], ◌∷◌, None, length, codes};
+ghost use Rattle.std.specs.Prelude.{◌≡◌, [], ◌∷◌, None, length, map, codes};
 ghost use Rattle.rv_isa_laws.specs.Hart.{Limit};
 ghost use Rattle.rv_worked.specs.Exit7.{exit7, exit7_map, exit7_text, exit255, exit255_map, first_file, second_file, two_files_map, exits};
 ghost use Rattle.rv_worked.specs.Exit7Executable.{exit7_file, exit7_image, exit7_linked};
@@ -13,12 +13,11 @@ ghost use Rattle.rv_encode.specs.Word.{Spells};
 ghost use Rattle.rv_compress.specs.Parcel.{StandsFor};
 ghost use Rattle.rv_isa_laws.specs.Reader.{Reader};
 ghost use Rattle.rv_isa_laws.specs.Run.{machine_run};
-ghost use Rattle.rv_chain_laws.specs.Contents.{IsLinked, contents, code_bytes};
+ghost use Rattle.rv_chain_laws.specs.Contents.{IsLinked};
 ghost use Rattle.rv_worked.specs.Data.{hello, hello_map, says_hello, hello_text, figures, figures_map, figures_data, differences, differences_map, differences_data};
-ghost use Rattle.rv_unit_laws.specs.Sections.{goes_to_data, goes_to_text, goes_to_rodata};
-ghost use Rattle.rv_source_laws.specs.Sites.{program};
-ghost use Rattle.rv_source_laws.specs.Start.{spelled};
-ghost use Rattle.rv_source_laws.specs.Fits.{Fits, blocks};
+ghost use Rattle.rv_worked.specs.CodeAlignment.{two_sections, with_gap, without_gap};
+ghost use Rattle.rv_worked.specs.Regions.{text_sections, text_bytes, rodata_bytes, data_bytes};
+ghost use Rattle.rv_source_laws.specs.Fits.{Fits, Holds, gaps_of};
 ghost use Rattle.rv_source_laws.specs.Resolves.{Resolves};
 ghost use Rattle.rv_source_laws.specs.SourceRun.{source_run};
 
@@ -72,7 +71,8 @@ pub fn exit7_loads()
 
 /// The machine's run over the image exits with 7 and writes nothing.
 pub fn exit7_executes()
-    ensures { (reader : Reader Spells StandsFor) → machine_run reader (mem_of exit7_image) exit7_image.entry [] 1000000 ≡ exits 7 }
+    ensures { (reader : Reader Spells StandsFor)
+        → machine_run reader (mem_of exit7_image) exit7_image.entry [] 1000000 ≡ exits 7 }
 {}
 
 /// The same program in two files: its map fits it and resolves its names, and it exits with 7.
@@ -99,8 +99,8 @@ pub fn hello_resolves()
 
 /// The bytes of its text and of its constants.
 pub fn hello_holds()
-    ensures text { contents (code_bytes (program (hello ∷ []) hello_map)) 0x10000 (blocks goes_to_text (hello ∷ []) hello_map) ≡ hello_text }
-    ensures constants { contents (spelled (program (hello ∷ []) hello_map)) 0x11000 (blocks goes_to_rodata (hello ∷ []) hello_map) ≡ codes "hello" }
+    ensures text { text_bytes hello hello_map ≡ hello_text }
+    ensures constants { rodata_bytes hello hello_map ≡ codes "hello" }
 {}
 
 /// The map of a source with constants, places and data of each kind fits it.
@@ -115,7 +115,16 @@ pub fn figures_resolve()
 
 /// The bytes of its data: a constant has its latest earlier value.
 pub fn figures_spell()
-    ensures { contents (spelled (program (figures ∷ []) figures_map)) 0x11000 (blocks goes_to_data (figures ∷ []) figures_map) ≡ figures_data }
+    ensures { data_bytes figures figures_map ≡ figures_data }
+{}
+
+/// A section of code begins at a multiple of the greatest of its alignments: a map without the gap
+/// before it does not hold the sections of the source.
+pub fn code_is_aligned()
+    ensures alignments { map (λ b. b.alignment) (text_sections two_sections with_gap) ≡ 2 ∷ 16 ∷ [] }
+    ensures gap { gaps_of 0x10000 (text_sections two_sections with_gap) ≡ with_gap.gaps }
+    ensures held { Holds with_gap.text 0x10000 (text_sections two_sections with_gap) }
+    ensures not_held { Holds without_gap.text 0x10000 (text_sections two_sections without_gap) → ⊥ }
 {}
 
 /// The map of a source with differences of places fits it.
@@ -125,5 +134,5 @@ pub fn differences_fit()
 
 /// The bytes of its data: a difference of two places is a number, and `|` and `%` bind as GNU as has it.
 pub fn differences_spell()
-    ensures { contents (spelled (program (differences ∷ []) differences_map)) 0x11000 (blocks goes_to_data (differences ∷ []) differences_map) ≡ differences_data }
+    ensures { data_bytes differences differences_map ≡ differences_data }
 {}

@@ -1,0 +1,68 @@
+-- The statements of the sources where they stand, and which of them have a row in the map (gABI, "Sections"; GNU as,
+-- "Pseudo Ops").
+
+use Rattle.std.specs.Prelude.{ℕ, suc, Bool, true, false, ◌&&◌, List, [], ◌∷◌, ◌++◌}
+use Rattle.rv_statement.specs.Statement.{Statement, Label, Numbered, Instruction, Directs, Spoken, Directive, Sets}
+use Rattle.rv_unit_laws.specs.Contributions.{Contribution, Nothing, contribution}
+use Rattle.rv_unit_laws.specs.Sections.{Section, section_at}
+use Rattle.rv_unit_laws.specs.Tables.{Tables, at_start, after, here, stood, value, assigned, gives_location}
+
+abbrev pub contributes : Contribution → Bool
+contributes Nothing = false
+contributes _ = true
+
+-- `.set` has a row where it gives a place, the other directives where they contribute to their section
+abbrev pub is_placed_directive : Tables → ℕ → Directive → Bool
+is_placed_directive t ordinal (Sets name e) = gives_location (assigned name ordinal (value t false ordinal (here t) e))
+is_placed_directive t ordinal d = contributes (contribution d)
+
+-- whether a statement has a row where its section is loaded: `t` are the tables before it
+abbrev pub is_placed : Tables → ℕ → Statement → Bool
+is_placed t ordinal (Label name) = true
+is_placed t ordinal (Numbered number) = true
+is_placed t ordinal (Instruction mnemonic operands) = true
+is_placed t ordinal (Directs directive) = is_placed_directive t ordinal directive
+
+-- a statement: its file and its ordinal, from 1; its section, by that one's index in the file from 0, and the bytes of data
+-- before it there; `home` is that section
+pub record Located : Type 0 where
+  pub file : ℕ
+  pub ordinal : ℕ
+  pub section : ℕ
+  pub offset : ℕ
+  pub home : Section
+  pub line : ℕ
+  pub says : Statement
+  pub placed : Bool
+
+-- the next statement of a file
+abbrev pub located_now : ℕ → ℕ → Tables → Spoken → Located
+located_now file ordinal t s =
+    let place = stood t ordinal s.says in
+    record {
+      file = file;
+      ordinal = ordinal;
+      section = place.section;
+      offset = place.offset;
+      home = section_at (after t ordinal s.says).opened place.section;
+      line = s.line;
+      says = s.says;
+      placed = is_placed t ordinal s.says;
+    }
+
+-- the statements of a file from an ordinal on
+abbrev pub located_from : ℕ → ℕ → Tables → List Spoken → List Located
+located_from file ordinal t [] = []
+located_from file ordinal t (s ∷ ss) = located_now file ordinal t s ∷ located_from file (suc ordinal) (after t ordinal s.says) ss
+
+-- the statements by file and ordinal; files are numbered from a first one on
+abbrev pub located_of : ℕ → List (List Spoken) → List Located
+located_of file [] = []
+located_of file (ss ∷ files) = located_from file 1 at_start ss ++ located_of (suc file) files
+
+abbrev pub located : List (List Spoken) → List Located
+located sources = located_of 1 sources
+
+-- whether the map has a row for the statement
+abbrev pub has_row : Located → Bool
+has_row s = s.placed && s.home.loaded

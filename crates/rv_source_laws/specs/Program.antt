@@ -1,0 +1,143 @@
+-- The statements of the sources where they stand in the map, and the values of their expressions there
+-- (Assembly Programmer's Manual; GNU as, "Symbols" and "Expressions").
+
+use Rattle.std.specs.Prelude.{ℕ, ◌-◌, ◌^◌, Bool, true, false, not, ◌&&◌, ◌||◌, ◌==◌, nat_lt, nat_le, if◌then◌else◌, List, [], ◌∷◌, drop, flat_map, map, Option, Some, None, is_some, option_map, option_and_then, unwrap_or, bytes_eq, slice_index_or}
+use Rattle.std.specs.List.{find, list_all}
+use Rattle.rv_text_laws.specs.Expression.{Primary, Symbol}
+use Rattle.rv_text_laws.specs.Values.{Value, Constant, Symbolic, Difference, Faulty, add, subtract}
+use Rattle.rv_statement.specs.Statement.{Statement, Label, Numbered, Instruction, Directs, Spoken, Expression, Operand, Value as Of_value}
+use Rattle.rv_unit_laws.specs.Contributions.{Numbers, Contribution, Bytes, Zero_bytes, Alignment, contribution}
+use Rattle.rv_unit_laws.specs.Tables.{Tables, SectionOffset, Definition, tables, at_start, definition, value as value_in_file}
+use Rattle.rv_map.specs.Map.{Map, Global}
+use Rattle.rv_map.specs.declared.map.Row.{Row}
+use Rattle.rv_source_laws.specs.Located.{Located, located, has_row}
+
+-- a statement with its row, if it has one
+pub record MaybeMapped : Type 0 where
+  pub located : Located
+  pub row : Option Row
+
+-- a statement that has a row
+pub record Mapped : Type 0 where
+  pub located : Located
+  pub row : Row
+
+abbrev pub first_of : List Row → Option Row
+first_of [] = None
+first_of (row ∷ rows) = Some row
+
+-- the rows go to the statements that have one; both lists are by file and ordinal
+abbrev pub statements_of : List Located → List Row → List MaybeMapped
+statements_of [] rows = []
+statements_of (s ∷ ss) rows =
+    if has_row s
+    then record { located = s; row = first_of rows } ∷ statements_of ss (drop 1 rows)
+    else record { located = s; row = None } ∷ statements_of ss rows
+
+abbrev pub seated : Located → Option Row → List Mapped
+seated located None = []
+seated located (Some row) = record { located = located; row = row } ∷ []
+
+abbrev pub mapped_of : List MaybeMapped → List Mapped
+mapped_of statements = flat_map (λ e. seated e.located e.row) statements
+
+-- what is executed in source steps: what the names of each file mean, the statements, those that have rows, and the map
+pub record Program : Type 0 where
+  pub tables : List Tables
+  pub statements : List MaybeMapped
+  pub mapped : List Mapped
+  pub map : Map
+
+abbrev pub program_at : List Tables → List MaybeMapped → Map → Program
+program_at ts statements m = record { tables = ts; statements = statements; mapped = mapped_of statements; map = m }
+
+abbrev pub program : List (List Spoken) → Map → Program
+program sources m = program_at (map tables sources) (statements_of (located sources) m.rows) m
+
+-- ---- addresses
+
+abbrev pub address_of : MaybeMapped → Option ℕ
+address_of e = option_map (λ r. r.address) e.row
+
+-- the address of a file's statement of this ordinal; none where it has no row
+abbrev pub address_at : List MaybeMapped → ℕ → ℕ → Option ℕ
+address_at statements file ordinal =
+    option_and_then address_of (find (λ e. (e.located.file == file) && (e.located.ordinal == ordinal)) statements)
+
+-- the address of a place of a file
+abbrev pub home_address : List MaybeMapped → ℕ → Definition → Option ℕ
+home_address statements file h = option_map (λ a. add a h.plus) (address_at statements file h.ordinal)
+
+-- the address of a name that every file can mean
+abbrev pub global_address : List Global → List ℕ → Option ℕ
+global_address globals name = option_map (λ g. g.address) (find (λ g. bytes_eq g.name name) globals)
+
+-- the address of what is no place of its own file
+abbrev pub outer_address : List Global → Primary → Option ℕ
+outer_address globals (Symbol name) = global_address globals name
+outer_address globals _ = None
+
+abbrev pub address_by : List MaybeMapped → List Global → ℕ → Primary → Option Definition → Option ℕ
+address_by statements globals file q None = outer_address globals q
+address_by statements globals file q (Some h) = home_address statements file h
+
+-- the tables of a file, which are numbered from 1
+abbrev pub tables_in : Program → ℕ → Tables
+tables_in p file = slice_index_or p.tables (file - 1) at_start
+
+-- the address of a name, a reference or `.` in a statement
+abbrev pub address : Program → Located → Primary → Option ℕ
+address p s q = address_by p.statements p.map.globals s.file q (definition (tables_in p s.file) s.ordinal q)
+
+-- ---- values
+
+-- the number of a value, by the addresses of its symbols
+abbrev pub resolved : (Primary → Option ℕ) → Value → Option ℕ
+resolved a (Constant n) = Some n
+resolved a (Symbolic q at k) = option_map (λ x. add x k) (a q)
+resolved a (Difference q r k) = option_and_then (λ x. option_map (λ y. add (subtract x y) k) (a r)) (a q)
+resolved a (Faulty code) = None
+
+abbrev pub place_of : Located → SectionOffset
+place_of s = record { section = s.section; offset = s.offset }
+
+-- what an expression of a statement is in its file: a constant, or one with a symbol or with a difference of two
+abbrev pub form : Program → Located → Expression → Value
+form p s e = value_in_file (tables_in p s.file) true s.ordinal (place_of s) e
+
+-- the value of an expression at a site; none where a name in it has no meaning
+abbrev pub value : Program → Mapped → Expression → Option ℕ
+value p s e = resolved (λ q. address p s.located q) (form p s.located e)
+
+abbrev pub number : Program → Mapped → Expression → ℕ
+number p s e = unwrap_or (value p s e) 0
+
+-- whether a value is a symbol's address
+abbrev pub is_symbolic : Value → Bool
+is_symbolic (Symbolic q at k) = true
+is_symbolic _ = false
+
+-- an address that four bytes cannot hold, neither as a number nor as a negative one
+abbrev pub is_far : ℕ → Bool
+is_far n = not (nat_lt n (2 ^ 32) || nat_le (2 ^ 64 - 2 ^ 31) n)
+
+-- the expressions that a statement evaluates where it stands; what `.set` gives stands in the tables
+abbrev pub in_operand : Operand → List Expression
+in_operand (Of_value e) = e ∷ []
+in_operand _ = []
+
+abbrev pub in_contribution : Contribution → List Expression
+in_contribution (Bytes (Numbers width values)) = values
+in_contribution (Zero_bytes count) = count ∷ []
+in_contribution (Alignment form number) = number ∷ []
+in_contribution _ = []
+
+abbrev pub expressions : Statement → List Expression
+expressions (Label name) = []
+expressions (Numbered number) = []
+expressions (Instruction mnemonic operands) = flat_map in_operand operands
+expressions (Directs directive) = in_contribution (contribution directive)
+
+-- all of them have values
+abbrev pub has_values : Program → Mapped → Bool
+has_values p s = list_all (λ e. is_some (value p s e)) (expressions s.located.says)
