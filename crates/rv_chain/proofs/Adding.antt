@@ -6,15 +6,16 @@ use Rattle.std.specs.List.{list_all}
 use Rattle.rv_isa.specs.declared.instruction.Inst.{Inst}
 use Rattle.rv_isa.specs.Ranges.{IsValid}
 use Rattle.rv_text_laws.specs.Values as values
-use Rattle.rv_text.specs.declared.fault.SourceFault.{SourceFault}
-use Rattle.rv_text.specs.declared.fault.SourceFault.TheVariants.{At, OutOfMemory}
+use Rattle.rv_lexer.specs.declared.fault.SourceFault.{SourceFault}
+use Rattle.rv_lexer.specs.declared.fault.SourceFault.TheVariants.{At, OutOfMemory}
 use Rattle.rv_statement.specs.declared.mnemonic.Mnemonic.{Mnemonic}
 use Rattle.rv_statement.specs.Statement.{Statement, Label, Numbered, Instruction, Directs, Expression, Spoken}
 use Rattle.rv_unit_laws.specs.Faults.{faulty_if}
 use Rattle.rv_chain_laws.specs.Contents.{words}
 use Rattle.rv_source_laws.specs.Fits.{is_constant}
-use Rattle.rv_chain_laws.specs.Refusals.{Options, instruction_faults, operand_faults, code_size}
-use Rattle.rv_source_laws.specs.Sites.{expressions}
+use Rattle.rv_chain_laws.specs.Refusals.{instruction_faults, operand_faults, code_size}
+use Rattle.rv_source_laws.specs.Options.{Options}
+use Rattle.rv_source_laws.specs.Program.{expressions}
 use Rattle.rv_chain_laws.proofs.Held.{none_left}
 use Rattle.rv_link_laws.specs.Suits.{constant_in, code_said}
 use Rattle.rv_chain.specs.Choices.{options_of}

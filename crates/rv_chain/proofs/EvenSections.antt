@@ -1,39 +1,49 @@
 -- Sections of code begin and end at even places.
 
-use Rattle.std.proofs.Common.{◌≡◌, ℕ, zero, suc, ◌+◌, ◌%◌, Bool, true, false, List, [], ◌∷◌, ◌++◌, refl, sym, ap, ◌∙◌, arith, Option, Some, None}
-use Rattle.std.proofs.lemmas.Bool.{and_parts, eqb-true, eq-eqb}
+use Rattle.std.proofs.Common.{◌≡◌, ℕ, zero, suc, ◌+◌, ◌%◌, ◌≤◌, Bool, true, false, List, [], ◌∷◌, ◌++◌, take, drop, refl, sym, ap, ◌∙◌, subst, arith, Option, Some, None}
+use Rattle.std.proofs.Math.Seq.{take-length}
+use Rattle.std.proofs.lemmas.Bool.{and_parts, eqb-true, eq-eqb, leb-true}
 use Rattle.std.specs.List.{AllByRecursion}
 use Rattle.std.specs.Prelude.{◌==◌, nat_lt, max, length, slice_index_or, if◌then◌else◌}
-use Rattle.rv_text_laws.specs.Values.{Value}
+use Rattle.rv_text_laws.specs.Values.{Value, Constant}
 use Rattle.rv_statement.specs.declared.directive.Choice.{Choice}
 use Rattle.rv_statement.specs.declared.directive.Choice.TheVariants.{Push, Pop}
 use Rattle.rv_statement.specs.Statement.{Statement, Label, Numbered, Instruction, Directs, Spoken, Expression, Directive, Enters, Opens, Globl, Local, Sets, Aligns_to_power, Aligns_to_bytes, Values, Strings, Zeros, Chooses, Ignored}
-use Rattle.rv_unit_laws.specs.Faults.{first_fault}
+use Rattle.rv_unit_laws.specs.Contributions.{AlignmentForm, As_power, As_bytes, Contribution, Nothing, Bytes, Zero_bytes, Alignment, contribution}
+use Rattle.rv_unit_laws.specs.Faults.{first_fault, faults, directive_faults, contribution_faults, number_faults, alignment_faults, code_alignment_faults, past_section}
 use Rattle.rv_unit_laws.specs.Sections.{Section, Opened, text_section, section_at, current_section, entered, entered_at, entered_by, place_of_name, most_sections, goes_to_text}
-use Rattle.rv_unit_laws.specs.Tables.{Tables, Setting, at_start, here, value, given, asked, data_bytes, changed_at, is_defined, may_set, or_none, with_label, with_setting, with_section, with_data, with_choice, opened_more, after, after_directive, after_all, tables}
-use Rattle.rv_source_laws.specs.Fits.{begins_at}
-use Rattle.rv_source_laws.specs.Stated.{Stated, stated_now, stated_from, is_placed, is_placed_directive}
-use Rattle.rv_chain_laws.proofs.Held.{Held, IsHeld, DirectiveHeld, held_of}
-use Rattle.rv_link.specs.declared.rows.Item.{Item}
+use Rattle.rv_unit_laws.specs.Tables.{Tables, Assignment, at_start, here, value, alignment_of, alignment_as, contribution_alignment, contributed, padding, changed_at, is_defined, may_set, or_none, assigned_by, chosen, with_label, with_assignment, with_section, with_data, with_choice, with_chosen, with_contribution, opened_more, after, after_directive, after_all, tables}
+use Rattle.rv_unit_laws.proofs.Opened.{open_inside, stood_all, stood_start}
+use Rattle.rv_unit.specs.Unit.{passed}
+use Rattle.rv_unit.proofs.Constants.{constant_past}
+use Rattle.rv_source_laws.specs.Fits.{begins_at, is_low}
+use Rattle.rv_source_laws.specs.Located.{Located, located_now, located_from, is_placed, is_placed_directive}
+use Rattle.rv_chain_laws.proofs.Held.{Held, IsHeld, DirectiveHeld, held_of, none_left}
+use Rattle.rv_link_laws.specs.declared.item.Item.{Item}
 use Rattle.rv_link_laws.specs.Bytes.{AreEven}
 use Rattle.rv_link_laws.specs.Items.{AreItems, grown}
 use Rattle.rv_chain.specs.Code.{value_at}
 use Rattle.rv_chain.specs.Sized.{AreSized, IsSized, IsSizedDirective, IsPadded}
 use Rattle.rv_chain.proofs.HeldCode.{all_in_text}
+use Rattle.rv_chain.proofs.Roomy.{a_power, a_multiple, low_code}
+use Rattle.rv_chain.proofs.Rooms.{drop_none}
+use Rattle.rv_chain.proofs.SoFarItems.{passed_next}
+use Rattle.rv_chain.proofs.Sound.{sound_at}
+use Rattle.rv_chain.proofs.Standing.{drop_tail, left_of}
 
--- ---- sections of code ask for no multiple
+-- ---- sections of code ask for a multiple of 2 at most
 
--- a section of code begins at any place; so does one that isn't open
-abbrev AnyPlace : Opened → List ℕ → Type 0
-AnyPlace o alignments = (j : ℕ) → (section_at o j).executable ≡ true → slice_index_or alignments j 1 ≡ 1
+-- a section of code begins at a multiple of 1 or 2; so does one that isn't open
+abbrev AreLow : Opened → List ℕ → Type 0
+AreLow o alignments = (j : ℕ) → (section_at o j).executable ≡ true → slice_index_or alignments j 1 ≤ 2
 
-abbrev IsFree : Tables → Type 0
-IsFree t = AnyPlace t.opened t.alignments
+abbrev IsLow : Tables → Type 0
+IsLow t = AreLow t.opened t.alignments
 
-at_first_place : (j : ℕ) → slice_index_or at_start.alignments j 1 ≡ 1
-at_first_place zero = refl
-at_first_place (suc zero) = refl
-at_first_place (suc (suc j)) = refl
+low_start : (j : ℕ) → slice_index_or at_start.alignments j 1 ≤ 2
+low_start zero = omega arith
+low_start (suc zero) = omega arith
+low_start (suc (suc j)) = omega arith
 
 one_more : (ns : List ℕ) (j : ℕ) → slice_index_or (ns ++ 1 ∷ []) j 1 ≡ slice_index_or ns j 1
 one_more [] zero = refl
@@ -42,107 +52,159 @@ one_more [] (suc (suc j)) = refl
 one_more (n ∷ ns) zero = refl
 one_more (n ∷ ns) (suc j) = one_more ns j
 
--- what is code behind one section more was code or not open
+-- what is code after one section more was code or not open
 code_before : (xs : List Section) (x : Section) (j : ℕ) → (slice_index_or (xs ++ x ∷ []) j text_section).executable ≡ true → (slice_index_or xs j text_section).executable ≡ true
 code_before [] x zero e = refl
 code_before [] x (suc j) e = refl
 code_before (y ∷ xs) x zero e = e
 code_before (y ∷ xs) x (suc j) e = code_before xs x j e
 
-others_same : (i : ℕ) (change : ℕ → ℕ) (ns : List ℕ) (j : ℕ) → (j ≡ i → ⊥) → slice_index_or (changed_at i change ns) j 1 ≡ slice_index_or ns j 1
-others_same zero change [] j other = refl
-others_same (suc i) change [] j other = refl
-others_same zero change (n ∷ ns) zero other = absurd (other refl)
-others_same zero change (n ∷ ns) (suc j) other = refl
-others_same (suc i) change (n ∷ ns) zero other = refl
-others_same (suc i) change (n ∷ ns) (suc j) other = others_same i change ns j (λ e. other (ap suc e))
+low_if : (b : Bool) (t u : Tables) → IsLow t → IsLow u → IsLow (if b then t else u)
+low_if true t u h k = h
+low_if false t u h k = k
 
-free_if : (b : Bool) (t u : Tables) → IsFree t → IsFree u → IsFree (if b then t else u)
-free_if true t u h k = h
-free_if false t u h k = k
+low_label : (t : Tables) (k : ℕ) (name : List ℕ) → IsLow t → IsLow (with_label t k name)
+low_label t k name h = low_if (is_defined t k name) t (record t { labels = t.labels ++ record { name = name; ordinal = k; place = here t } ∷ [] }) h h
 
-free_label : (t : Tables) (k : ℕ) (name : List ℕ) → IsFree t → IsFree (with_label t k name)
-free_label t k name h = go (is_defined t k name)
-  where
-    go : (b : Bool) → IsFree (if b then t else record t { labels = t.labels ++ record { name = name; ordinal = k; place = here t } ∷ [] })
-    go true = h
-    go false = h
+low_setting : (t : Tables) (found : Option Assignment) → IsLow t → IsLow (with_assignment t found)
+low_setting t None h = h
+low_setting t (Some s) h = low_if (may_set t s.ordinal s.name s.meaning) (record t { assignments = s ∷ t.assignments }) t h h
 
-free_setting : (t : Tables) (found : Option Setting) → IsFree t → IsFree (with_setting t found)
-free_setting t None h = h
-free_setting t (Some s) h = free_if (may_set t s.ordinal s.name s.meaning) (record t { settings = s ∷ t.settings }) t h h
-
-free_opened : (t : Tables) (opened : Opened) → AnyPlace opened t.alignments → IsFree (opened_more t opened)
-free_opened t opened h =
-    free_if (length opened.sections == length t.opened.sections) (record t { opened = opened })
+low_opened : (t : Tables) (opened : Opened) → AreLow opened t.alignments → IsLow (opened_more t opened)
+low_opened t opened h =
+    low_if (length opened.sections == length t.opened.sections) (record t { opened = opened })
     (record t { opened = opened; ends = t.ends ++ 0 ∷ []; alignments = t.alignments ++ 1 ∷ [] })
-    h (λ j code. one_more t.alignments j ∙ h j code)
+    h (λ j code. subst (λ n. n ≤ 2) (sym (one_more t.alignments j)) (h j code))
 
-free_section : (t : Tables) (found : Option Section) → IsFree t → IsFree (with_section t found)
-free_section t None h = h
-free_section t (Some s) h = free_opened t (entered t.opened s) (go (place_of_name t.opened.sections s.name))
+low_section : (t : Tables) (found : Option Section) → IsLow t → IsLow (with_section t found)
+low_section t None h = h
+low_section t (Some s) h = low_opened t (entered t.opened s) (go (place_of_name t.opened.sections s.name))
   where
-    new : (b : Bool) → AnyPlace (if b then record { sections = t.opened.sections ++ s ∷ []; current = length t.opened.sections } else t.opened) t.alignments
+    new : (b : Bool) → AreLow (if b then record { sections = t.opened.sections ++ s ∷ []; current = length t.opened.sections } else t.opened) t.alignments
     new true = λ j code. h j (code_before t.opened.sections s j code)
     new false = h
 
-    go : (found : Option ℕ) → AnyPlace (entered_at t.opened s found) t.alignments
+    go : (found : Option ℕ) → AreLow (entered_at t.opened s found) t.alignments
     go (Some i) = h
     go None = new (nat_lt (length t.opened.sections) most_sections)
 
--- data go to other sections
-free_data : (t : Tables) (bytes : ℕ) (alignment : Option ℕ) → IsFree t → IsFree (with_data t bytes alignment)
-free_data t bytes alignment h = go (current_section t.opened).executable refl
-  where
-    change : ℕ → ℕ
-    change n = max n (max 1 (or_none alignment))
+low_choice : (t : Tables) (choice : Choice) → IsLow t → IsLow (with_choice t choice)
+low_choice t Push h = h
+low_choice t Pop h = h
+low_choice t _ h = h
 
-    more : Tables
-    more = record t {
-      ends = changed_at t.opened.current (λ n. n + bytes) t.ends;
-      alignments = changed_at t.opened.current (λ n. max n (max 1 (or_none alignment))) t.alignments;
-    }
+low_chosen : (t : Tables) (choice : Option Choice) → IsLow t → IsLow (with_chosen t choice)
+low_chosen t None h = h
+low_chosen t (Some choice) h = low_choice t choice h
 
-    go : (b : Bool) → (current_section t.opened).executable ≡ b → IsFree (if b then t else more)
-    go true e = h
-    go false e = λ j code.
-        others_same t.opened.current (λ n. max n (max 1 (or_none alignment))) t.alignments j
-        (λ same. let as_code : (current_section t.opened).executable ≡ true = ap (λ n. (section_at t.opened n).executable) (sym same) ∙ code in absurd (cc))
-        ∙ h j code
+low_changed : (i a : ℕ) (ns : List ℕ) (j : ℕ) → (j ≡ i → a ≤ 2) → slice_index_or ns j 1 ≤ 2 → slice_index_or (changed_at i (λ n. max n (max 1 a)) ns) j 1 ≤ 2
+low_changed i a [] j low h = h
+low_changed zero a (n ∷ ns) zero low h = let l = low refl in omega (arith, h, l)
+low_changed zero a (n ∷ ns) (suc j) low h = h
+low_changed (suc i) a (n ∷ ns) zero low h = h
+low_changed (suc i) a (n ∷ ns) (suc j) low h = low_changed i a ns j (λ e. low (ap suc e)) h
 
-free_choice : (t : Tables) (choice : Choice) → IsFree t → IsFree (with_choice t choice)
-free_choice t Push h = h
-free_choice t Pop h = h
-free_choice t _ h = h
+-- the current section asks for one more alignment
+low_data : (t : Tables) (bytes : ℕ) (alignment : Option ℕ) → ((current_section t.opened).executable ≡ true → or_none alignment ≤ 2) → IsLow t → IsLow (with_data t bytes alignment)
+low_data t bytes alignment low h j code =
+    low_changed t.opened.current (or_none alignment) t.alignments j (λ same. low (ap (λ n. (section_at t.opened n).executable) (sym same) ∙ code)) (h j code)
 
-free_directive : (t : Tables) (k : ℕ) (d : Directive) → IsFree t → IsFree (after_directive t k d)
-free_directive t k (Enters standard) h = free_section t (entered_by (Enters standard)) h
-free_directive t k (Opens name flags kind) h = free_section t (entered_by (Opens name flags kind)) h
-free_directive t k (Globl names) h = h
-free_directive t k (Local names) h = h
-free_directive t k (Sets name e) h = free_setting t (given name k (value t false k (here t) e)) h
-free_directive t k (Aligns_to_power e) h =
-    free_data t (data_bytes (value t false k (here t)) (here t).offset (Aligns_to_power e)) (asked (value t false k (here t)) (Aligns_to_power e)) h
-free_directive t k (Aligns_to_bytes e) h =
-    free_data t (data_bytes (value t false k (here t)) (here t).offset (Aligns_to_bytes e)) (asked (value t false k (here t)) (Aligns_to_bytes e)) h
-free_directive t k (Values width values) h =
-    free_data t (data_bytes (value t false k (here t)) (here t).offset (Values width values)) (asked (value t false k (here t)) (Values width values)) h
-free_directive t k (Strings ended strings) h =
-    free_data t (data_bytes (value t false k (here t)) (here t).offset (Strings ended strings)) (asked (value t false k (here t)) (Strings ended strings)) h
-free_directive t k (Zeros count) h =
-    free_data t (data_bytes (value t false k (here t)) (here t).offset (Zeros count)) (asked (value t false k (here t)) (Zeros count)) h
-free_directive t k (Chooses choice) h = free_choice t choice h
-free_directive t k Ignored h = h
+low_contribution : (t : Tables) (v : Expression → Value) (c : Contribution) → ((current_section t.opened).executable ≡ true → or_none (contribution_alignment v c) ≤ 2) → IsLow t → IsLow (with_contribution t v c)
+low_contribution t v Nothing low h = h
+low_contribution t v (Bytes contents) low h = low_data t (contributed v (here t).offset (Bytes contents)) None low h
+low_contribution t v (Zero_bytes count) low h = low_data t (contributed v (here t).offset (Zero_bytes count)) None low h
+low_contribution t v (Alignment form number) low h = low_data t (contributed v (here t).offset (Alignment form number)) (alignment_as form (v number)) low h
 
-free_after : (t : Tables) (k : ℕ) (says : Statement) → IsFree t → IsFree (after t k says)
-free_after t k (Label name) h = free_label t k name h
-free_after t k (Numbered number) h = h
-free_after t k (Instruction mnemonic operands) h = h
-free_after t k (Directs directive) h = free_directive t k directive h
+-- an alignment in code is 2 at most
+abbrev AsksLow : Tables → ℕ → Directive → Type 0
+AsksLow t k d = (current_section t.opened).executable ≡ true → or_none (alignment_of (value t false k (here t)) d) ≤ 2
 
-free_all : (t : Tables) (k : ℕ) (ss : List Spoken) → IsFree t → IsFree (after_all t k ss)
-free_all t k [] h = h
-free_all t k (s ∷ ss) h = free_all (after t k s.says) (suc k) ss (free_after t k s.says h)
+-- a directive with its section, its name and its choice, and without what it contributes
+abbrev without : Tables → ℕ → Directive → Tables
+without t k d = with_chosen (with_assignment (with_section t (entered_by d)) (assigned_by (value t false k (here t)) k d)) (chosen d)
+
+none_low : or_none None ≤ 2
+none_low = omega arith
+
+-- where a directive contributes an alignment it does nothing else
+still_low : (t : Tables) (k : ℕ) (d : Directive) → AsksLow t k d → (current_section (without t k d).opened).executable ≡ true → or_none (alignment_of (value t false k (here t)) d) ≤ 2
+still_low t k (Aligns_to_power e) low = low
+still_low t k (Aligns_to_bytes e) low = low
+still_low t k _ low = λ code. none_low
+
+low_directive : (t : Tables) (k : ℕ) (d : Directive) → AsksLow t k d → IsLow t → IsLow (after_directive t k d)
+low_directive t k d low h =
+    low_contribution (without t k d) (value t false k (here t)) (contribution d) (still_low t k d low)
+    (low_chosen (with_assignment (with_section t (entered_by d)) (assigned_by (value t false k (here t)) k d)) (chosen d)
+    (low_setting (with_section t (entered_by d)) (assigned_by (value t false k (here t)) k d) (low_section t (entered_by d) h)))
+
+low_after : (t : Tables) (k : ℕ) (says : Statement) → ((d : Directive) → says ≡ Directs d → AsksLow t k d) → IsLow t → IsLow (after t k says)
+low_after t k (Label name) low h = low_label t k name h
+low_after t k (Numbered number) low h = h
+low_after t k (Instruction mnemonic operands) low h = h
+low_after t k (Directs directive) low h = low_directive t k directive (low directive refl) h
+
+-- ---- so do those of a source without faults
+
+is_low_or_none : (alignment : Option ℕ) → is_low alignment ≡ true → or_none alignment ≤ 2
+is_low_or_none None e = none_low
+is_low_or_none (Some n) e = leb-true n 2 e
+
+a_number : (form : AlignmentForm) (v : Value) → number_faults form v ≡ [] → (n : ℕ) × (v ≡ Constant n)
+a_number As_power v none = a_power v none
+a_number As_bytes v none = a_multiple v none
+
+-- an alignment without faults in a section of code
+asks_low : (all t : Tables) (k : ℕ) (c : Contribution) → ((e : Expression) (n : ℕ) → value all false k (here t) e ≡ Constant n → value t false k (here t) e ≡ Constant n)
+    → contribution_faults all t k c ≡ [] → (current_section t.opened).executable ≡ true → or_none (contribution_alignment (value t false k (here t)) c) ≤ 2
+asks_low all t k Nothing past none code = none_low
+asks_low all t k (Bytes contents) past none code = none_low
+asks_low all t k (Zero_bytes count) past none code = none_low
+asks_low all t k (Alignment form number) past none code =
+    let home = current_section t.opened in
+    let w = value all false k (here t) number in
+    let a = alignment_as form w in
+    let parts = none_left (number_faults form w) (alignment_faults home (here t).offset a) none in
+    let (n, is) = a_number form w parts.0 in
+    let low : is_low a ≡ true =
+    low_code home.nobits a (sym (ap (λ c. if c then code_alignment_faults home.nobits a else past_section false (here t).offset (padding a (here t).offset)) code) ∙ parts.1) in
+    subst (λ v. or_none (alignment_as form v) ≤ 2) (is ∙ sym (past number n is)) (is_low_or_none a low)
+
+directive_low : (all t : Tables) (k : ℕ) (d : Directive) → ((e : Expression) (n : ℕ) → value all false k (here t) e ≡ Constant n → value t false k (here t) e ≡ Constant n)
+    → directive_faults all t k d ≡ [] → AsksLow t k d
+directive_low all t k (Aligns_to_power e) past none = asks_low all t k (Alignment As_power e) past none
+directive_low all t k (Aligns_to_bytes e) past none = asks_low all t k (Alignment As_bytes e) past none
+directive_low all t k _ past none = λ code. none_low
+
+take_none : {A : Type 0} (xs : List A) → take 0 xs ≡ []
+take_none [] = refl
+take_none (x ∷ xs) = refl
+
+module _ (ss : List Spoken) (good : first_fault ss ≡ None) where
+  low_at : (i : ℕ) (s : Spoken) (d : Directive) → drop i ss ≡ s ∷ drop (i + 1) ss → i ≤ length ss → s.says ≡ Directs d → AsksLow (passed ss i) (i + 1) d
+  low_at i s d here_is within is =
+      let t = passed ss i in
+      let inside = open_inside t.opened (stood_all at_start 1 (take i ss) stood_start).opened in
+      directive_low (tables ss) t (i + 1) d (constant_past ss i (here t) within inside)
+      (subst (λ says. faults (tables ss) t (i + 1) says ≡ []) is (sound_at ss i s (drop (i + 1) ss) here_is good))
+
+  low_left : (i : ℕ) (rest : List Spoken) → drop i ss ≡ rest → i + length rest ≡ length ss → IsLow (passed ss i) → IsLow (passed ss (length ss))
+  low_left i [] e count h = subst (λ n. IsLow (passed ss n)) (let c : i + 0 ≡ length ss = count in let f : i ≡ length ss = omega (arith, c) in f) h
+  low_left i (s ∷ rest) e count h =
+      let here_is = left_of ss i s rest e in
+      let c : i + suc (length rest) ≡ length ss = count in
+      let more : i + 1 + length rest ≡ length ss = omega (arith, c) in
+      let within : i ≤ length ss = omega (arith, c) in
+      low_left (i + 1) rest (after_one i s rest e) more
+      (subst IsLow (sym (passed_next ss i s rest e)) (low_after (passed ss i) (i + 1) s.says (λ d is. low_at i s d here_is within is) h))
+    where
+      after_one : (i : ℕ) (s : Spoken) (rest : List Spoken) → drop i ss ≡ s ∷ rest → drop (i + 1) ss ≡ rest
+      after_one i s rest e = let f : i + 1 ≡ suc i = omega arith in ap (λ n. drop n ss) f ∙ drop_tail ss i s rest e
+
+  low_all : IsLow (tables ss)
+  low_all =
+      subst IsLow (ap (after_all at_start 1) (take-length ss))
+      (low_left 0 ss (drop_none ss) (let f : 0 + length ss ≡ length ss = omega arith in f) (subst (λ l. IsLow (after_all at_start 1 l)) (sym (take_none ss)) (λ j code. low_start j)))
 
 -- ---- the statements of code have 0 or 4 bytes
 
@@ -166,8 +228,8 @@ directive_even v home i begins t k (Sets name e) code placed held h = no_bytes i
 directive_even v home i begins t k (Values width values) code placed held h = true_false home.executable code held.0
 directive_even v home i begins t k (Strings ended strings) code placed held h = true_false home.executable code held.0
 directive_even v home i begins t k (Zeros count) code placed held h = true_false home.executable code held
-directive_even v home i begins t k (Aligns_to_power e) code placed held h = padding_even home.executable i begins (asked v (Aligns_to_power e)) code h.1
-directive_even v home i begins t k (Aligns_to_bytes e) code placed held h = padding_even home.executable i begins (asked v (Aligns_to_bytes e)) code h.1
+directive_even v home i begins t k (Aligns_to_power e) code placed held h = padding_even home.executable i begins (alignment_of v (Aligns_to_power e)) code h.1
+directive_even v home i begins t k (Aligns_to_bytes e) code placed held h = padding_even home.executable i begins (alignment_of v (Aligns_to_bytes e)) code h.1
 directive_even v home i begins t k (Enters standard) code placed held h = absurd (cc)
 directive_even v home i begins t k (Opens name flags kind) code placed held h = absurd (cc)
 directive_even v home i begins t k (Globl names) code placed held h = absurd (cc)
@@ -189,7 +251,7 @@ grows_even true before bytes e f = let g : bytes % 2 ≡ 0 = f refl in omega ari
 grows_even false before bytes e f = e
 
 ends_even : (all : Tables) (j k : ℕ) (t : Tables) (before last : ℕ → ℕ) (ss : List Spoken) (is : List Item) → AreItems k t before ss is last → AreSized all k t ss is
-    → AllByRecursion Held (stated_from 1 k t ss ++ []) → AllByRecursion (λ s. (s.section == j) ≡ true → goes_to_text s.home ≡ true) (stated_from 1 k t ss ++ [])
+    → AllByRecursion Held (located_from 1 k t ss ++ []) → AllByRecursion (λ s. (s.section == j) ≡ true → goes_to_text s.home ≡ true) (located_from 1 k t ss ++ [])
     → before j % 2 ≡ 0 → last j % 2 ≡ 0
 ends_even all j k t before last [] [] h sized held text even = ap (λ n. n % 2) (h j) ∙ even
 ends_even all j k t before last [] (i ∷ is) h sized held text even = absurd h
@@ -198,8 +260,8 @@ ends_even all j k t before last (s ∷ ss) (i ∷ is) (item, items) (size, sizes
     ends_even all j (suc k) (after t k s.says) (grown before i) last ss is items sizes held text
     (grows_even (j == i.section) (before j) i.bytes even (λ same. go i.shown refl (in_section same)))
   where
-    st : Stated
-    st = stated_now 1 k t s
+    st : Located
+    st = located_now 1 k t s
 
     in_section : (j == i.section) ≡ true → (st.section == j) ≡ true
     in_section same = eq-eqb st.section j (sym item.section ∙ sym (eqb-true j i.section same))
@@ -213,16 +275,20 @@ ends_even all j k t before last (s ∷ ss) (i ∷ is) (item, items) (size, sizes
 
 -- ---- both
 
-begins_even : (t : Tables) (j : ℕ) (section : Section) → goes_to_text section ≡ true → slice_index_or t.alignments j 1 ≡ 1 → begins_at t j section ≡ 2
-begins_even t j section text free = ap (λ b. max (if b then 2 else 1) (slice_index_or t.alignments j 1)) text ∙ ap (λ n. max 2 n) free
+-- an alignment is 1 or 2
+two_at_most : (n : ℕ) → n ≤ 2 → max 2 n ≡ 2
+two_at_most n low = omega (arith, low)
+
+begins_even : (t : Tables) (j : ℕ) (section : Section) → goes_to_text section ≡ true → slice_index_or t.alignments j 1 ≤ 2 → begins_at t j section ≡ 2
+begins_even t j section text low = ap (λ b. max (if b then 2 else 1) (slice_index_or t.alignments j 1)) text ∙ two_at_most (slice_index_or t.alignments j 1) low
 
 pub even_sections : (ss : List Spoken) (is : List Item) (last : ℕ → ℕ) → first_fault ss ≡ None → AreItems 1 at_start (λ j. 0) ss is last → AreSized (tables ss) 1 at_start ss is
     → AreEven (tables ss) last 0 (tables ss).opened.sections
 even_sections ss is last sound items sized j good =
     let section = slice_index_or (tables ss).opened.sections j text_section in
     let code = (and_parts section.loaded section.executable good).1 in
-    let free = free_all at_start 1 ss (λ j code. at_first_place j) j code in
+    let low = low_all ss sound j code in
     let place : j ≡ 0 + j = omega arith in (
-      ap (λ n. begins_at (tables ss) n section) (sym place) ∙ begins_even (tables ss) j section good free,
+      ap (λ n. begins_at (tables ss) n section) (sym place) ∙ begins_even (tables ss) j section good low,
       ap (λ n. last n % 2) (sym place) ∙ ends_even (tables ss) j 1 at_start (λ j. 0) last ss is items sized (held_of 1 (ss ∷ []) (sound, tt)) (all_in_text ss j good) refl,
     )

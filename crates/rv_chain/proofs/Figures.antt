@@ -17,11 +17,11 @@ use Rattle.rv_statement.specs.declared.statement.Plain.TheVariants as plains
 use Rattle.rv_statement.specs.declared.statement.StatementKind.{StatementKind}
 use Rattle.rv_statement.specs.declared.statement.StatementKind.TheVariants as kinds
 use Rattle.rv_unit_laws.specs.Sections.{Section}
-use Rattle.rv_source_laws.specs.Sites.{resolved, expressions}
+use Rattle.rv_source_laws.specs.Program.{resolved, expressions}
 use Rattle.rv_source_laws.specs.Fits.{is_constant}
 use Rattle.rv_source_laws.specs.Start.{little_endian}
 use Rattle.rv_chain_laws.proofs.Held.{IsHeld, DirectiveHeld}
-use Rattle.rv_link.specs.declared.rows.Item.{Item}
+use Rattle.rv_link_laws.specs.declared.item.Item.{Item}
 use Rattle.rv_chain.specs.Sized.{IsSized, IsSizedDirective}
 
 -- ---- bytes that are the same whatever number stands in for one that is missing: none is missing

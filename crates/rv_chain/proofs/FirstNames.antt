@@ -12,38 +12,38 @@ use Rattle.rv_statement.specs.declared.statement.StatementKind.TheVariants.{Igno
 use Rattle.rv_statement.specs.Statement.{Spoken, Expression}
 use Rattle.rv_statement.specs.View.{now_of, said_by}
 use Rattle.rv_unit_laws.specs.Sections.{Section}
-use Rattle.rv_unit_laws.specs.Tables.{Tables, Place, tables, at_start, after, stood}
-use Rattle.rv_unit.specs.declared.section.Extent.{Extent}
-use Rattle.rv_unit.specs.Sections.{extent_section}
-use Rattle.rv_unit.specs.declared.place.Place.{Place as Standing}
+use Rattle.rv_unit_laws.specs.Tables.{Tables, SectionOffset, tables, at_start, after, stood}
+use Rattle.rv_tables.specs.declared.section.Extent.{Extent}
+use Rattle.rv_tables.specs.Sections.{extent_section}
+use Rattle.rv_tables.specs.declared.section_offset.SectionOffset.{SectionOffset as Standing}
 use Rattle.rv_unit.specs.declared.unit.Unit.{Unit as SourceUnit}
 use Rattle.rv_unit.specs.Unit.{said, passed, IsFilled}
-use Rattle.rv_source_laws.specs.Stated.{Stated, stated, stated_from, has_row}
+use Rattle.rv_source_laws.specs.Located.{Located, located, located_from, has_row}
 use Rattle.rv_chain_laws.specs.Refusals.{first_name, missing_by, data_values, in_sections, undefined}
-use Rattle.rv_link.specs.declared.rows.Item.{Item}
+use Rattle.rv_link_laws.specs.declared.item.Item.{Item}
 use Rattle.rv_link_laws.specs.Items.{AreItems, grown}
-use Rattle.rv_chain.proofs.Standing.{stated_at, stands_at, got_inside}
+use Rattle.rv_chain.proofs.Standing.{located_at, stands_at, got_inside}
 use Rattle.rv_chain.specs.Undefined.{shown_by, missing_at, found_in, else_name, first_in, first_some}
 
 -- ---- statements with rows
 
 rows_shown : (k : ℕ) (t : Tables) (before last : ℕ → ℕ) (ss : List Spoken) (is : List Item) (ordinal : ℕ) → AreItems k t before ss is last
-    → list_any (λ (s : Stated). (s.ordinal == ordinal) && has_row s) (stated_from 1 k t ss) ≡ shown_by k is ordinal
+    → list_any (λ (s : Located). (s.ordinal == ordinal) && has_row s) (located_from 1 k t ss) ≡ shown_by k is ordinal
 rows_shown k t before last [] [] ordinal h = refl
 rows_shown k t before last [] (i ∷ is) ordinal h = absurd h
 rows_shown k t before last (s ∷ ss) [] ordinal h = absurd h
 rows_shown k t before last (s ∷ ss) (i ∷ is) ordinal (item, items) =
-    ap (λ b. ((k == ordinal) && b) || list_any (λ (s : Stated). (s.ordinal == ordinal) && has_row s) (stated_from 1 (suc k) (after t k s.says) ss)) (sym item.shown)
+    ap (λ b. ((k == ordinal) && b) || list_any (λ (s : Located). (s.ordinal == ordinal) && has_row s) (located_from 1 (suc k) (after t k s.says) ss)) (sym item.shown)
     ∙ ap (λ r. ((k == ordinal) && i.shown) || r) (rows_shown (suc k) (after t k s.says) (grown before i) last ss is ordinal items)
 
-one_file : (ss : List Spoken) → stated (ss ∷ []) ≡ stated_from 1 1 at_start ss
-one_file ss = append-nil (stated_from 1 1 at_start ss)
+one_file : (ss : List Spoken) → located (ss ∷ []) ≡ located_from 1 1 at_start ss
+one_file ss = append-nil (located_from 1 1 at_start ss)
 
 -- a statement of a source has a row where its item is shown
 pub row_shown : (ss : List Spoken) (is : List Item) (last : ℕ → ℕ) (ordinal : ℕ) → AreItems 1 at_start (λ j. 0) ss is last
-    → list_any (λ (s : Stated). (s.ordinal == ordinal) && has_row s) (stated (ss ∷ [])) ≡ shown_by 1 is ordinal
+    → list_any (λ (s : Located). (s.ordinal == ordinal) && has_row s) (located (ss ∷ [])) ≡ shown_by 1 is ordinal
 row_shown ss is last ordinal items =
-    ap (λ l. list_any (λ (s : Stated). (s.ordinal == ordinal) && has_row s) l) (one_file ss) ∙ rows_shown 1 at_start (λ j. 0) last ss is ordinal items
+    ap (λ l. list_any (λ (s : Located). (s.ordinal == ordinal) && has_row s) l) (one_file ss) ∙ rows_shown 1 at_start (λ j. 0) last ss is ordinal items
 
 apart : (k n : ℕ) → n < k → (k == n) ≡ false
 apart k n below = grind (arith, nat_tests)
@@ -101,20 +101,20 @@ pub first_loaded : (loaded : Bool) (names : List (List ℕ)) → first_name (if 
 first_loaded true names = refl
 first_loaded false names = refl
 
-abbrev firsts : List Spoken → ℕ → List Stated → Option (List ℕ)
-firsts ss j sts = first_name (flat_map (missing_by ss) (filter (λ (s : Stated). s.section == j) sts))
+abbrev firsts : List Spoken → ℕ → List Located → Option (List ℕ)
+firsts ss j sts = first_name (flat_map (missing_by ss) (filter (λ (s : Located). s.section == j) sts))
 
-first_next : (ss : List Spoken) (j : ℕ) (s : Stated) (rest : List Stated) → firsts ss j (s ∷ rest) ≡ (if s.section == j then else_name (first_name (missing_by ss s)) (firsts ss j rest) else firsts ss j rest)
+first_next : (ss : List Spoken) (j : ℕ) (s : Located) (rest : List Located) → firsts ss j (s ∷ rest) ≡ (if s.section == j then else_name (first_name (missing_by ss s)) (firsts ss j rest) else firsts ss j rest)
 first_next ss j s rest = go (s.section == j)
   where
-    go : (b : Bool) → first_name (flat_map (missing_by ss) (cond b (s ∷ filter (λ (s : Stated). s.section == j) rest) (filter (λ (s : Stated). s.section == j) rest)))
+    go : (b : Bool) → first_name (flat_map (missing_by ss) (cond b (s ∷ filter (λ (s : Located). s.section == j) rest) (filter (λ (s : Located). s.section == j) rest)))
         ≡ (if b then else_name (first_name (missing_by ss s)) (firsts ss j rest) else firsts ss j rest)
-    go true = first_joined (missing_by ss s) (flat_map (missing_by ss) (filter (λ (s : Stated). s.section == j) rest))
+    go true = first_joined (missing_by ss s) (flat_map (missing_by ss) (filter (λ (s : Located). s.section == j) rest))
     go false = refl
 
 -- what was found, and else the first of what is left, is the first of all
 abbrev pub FirstSoFar : List Spoken → ℕ → List (Option (Bor (List ℕ))) → Type 0
-FirstSoFar ss i found = (j : ℕ) → else_name (found_in found j) (firsts ss j (drop i (stated_from 1 1 at_start ss))) ≡ first_in ss j
+FirstSoFar ss i found = (j : ℕ) → else_name (found_in found j) (firsts ss j (drop i (located_from 1 1 at_start ss))) ≡ first_in ss j
 
 pub none_behind : (xs : List (Option (Bor (List ℕ)))) (j : ℕ) → ((i : ℕ) → found_in xs i ≡ None) → found_in (xs ++ None ∷ []) j ≡ None
 none_behind [] zero h = refl
@@ -124,41 +124,41 @@ none_behind (x ∷ xs) (suc j) h = none_behind xs j (λ i. h (suc i))
 
 pub first_begins : (ss : List Spoken) (found : List (Option (Bor (List ℕ)))) → ((j : ℕ) → found_in found j ≡ None) → FirstSoFar ss 0 found
 first_begins ss found none j =
-    ap (λ o. else_name o (firsts ss j (stated_from 1 1 at_start ss))) (none j)
+    ap (λ o. else_name o (firsts ss j (located_from 1 1 at_start ss))) (none j)
     ∙ ap (λ l. firsts ss j l) (sym (one_file ss))
 
-pub first_more : (ss : List Spoken) (i : ℕ) (s : Stated) (old new : List (Option (Bor (List ℕ)))) → drop i (stated_from 1 1 at_start ss) ≡ s ∷ drop (i + 1) (stated_from 1 1 at_start ss)
+pub first_more : (ss : List Spoken) (i : ℕ) (s : Located) (old new : List (Option (Bor (List ℕ)))) → drop i (located_from 1 1 at_start ss) ≡ s ∷ drop (i + 1) (located_from 1 1 at_start ss)
     → ((j : ℕ) → found_in new j ≡ (if s.section == j then else_name (found_in old j) (first_name (missing_by ss s)) else found_in old j))
     → FirstSoFar ss i old → FirstSoFar ss (i + 1) new
 first_more ss i s old new next kept h j =
     ap (λ o. else_name o (firsts ss j rest)) (kept j) ∙ go (s.section == j) ∙ ap (λ o. else_name (found_in old j) o) (sym (first_next ss j s rest))
     ∙ ap (λ l. else_name (found_in old j) (firsts ss j l)) (sym next) ∙ h j
   where
-    rest : List Stated
-    rest = drop (i + 1) (stated_from 1 1 at_start ss)
+    rest : List Located
+    rest = drop (i + 1) (located_from 1 1 at_start ss)
 
     go : (b : Bool) → else_name (if b then else_name (found_in old j) (first_name (missing_by ss s)) else found_in old j) (firsts ss j rest)
         ≡ else_name (found_in old j) (if b then else_name (first_name (missing_by ss s)) (firsts ss j rest) else firsts ss j rest)
     go true = else_assoc (found_in old j) (first_name (missing_by ss s)) (firsts ss j rest)
     go false = refl
 
-pub first_all : (ss : List Spoken) (i : ℕ) (found : List (Option (Bor (List ℕ)))) → drop i (stated_from 1 1 at_start ss) ≡ [] → FirstSoFar ss i found → (j : ℕ) → found_in found j ≡ first_in ss j
+pub first_all : (ss : List Spoken) (i : ℕ) (found : List (Option (Bor (List ℕ)))) → drop i (located_from 1 1 at_start ss) ≡ [] → FirstSoFar ss i found → (j : ℕ) → found_in found j ≡ first_in ss j
 first_all ss i found none h j = sym (else_none (found_in found j)) ∙ ap (λ l. else_name (found_in found j) (firsts ss j l)) (sym none) ∙ h j
 
 -- ---- the first of all sections
 
-map_joined : (f : Stated → List (List ℕ)) (xs ys : List Stated) → flat_map f (xs ++ ys) ≡ flat_map f xs ++ flat_map f ys
+map_joined : (f : Located → List (List ℕ)) (xs ys : List Located) → flat_map f (xs ++ ys) ≡ flat_map f xs ++ flat_map f ys
 map_joined f [] ys = refl
 map_joined f (x ∷ xs) ys = ap (λ l. f x ++ l) (map_joined f xs ys) ∙ sym (append_assoc (f x) (flat_map f xs) (flat_map f ys))
 
 sections_firsts : (ss : List Spoken) (k : ℕ) (sections : List Section) (found : List (Option (Bor (List ℕ)))) → length found ≡ length sections
-    → ((j : ℕ) → found_in found j ≡ first_in ss (k + j)) → first_some found ≡ first_name (flat_map (missing_by ss) (in_sections (stated (ss ∷ [])) k sections))
+    → ((j : ℕ) → found_in found j ≡ first_in ss (k + j)) → first_some found ≡ first_name (flat_map (missing_by ss) (in_sections (located (ss ∷ [])) k sections))
 sections_firsts ss k [] [] e h = refl
 sections_firsts ss k [] (o ∷ os) e h = absurd (cc)
 sections_firsts ss k (section ∷ sections) [] e h = absurd (cc)
 sections_firsts ss k (section ∷ sections) (o ∷ os) e h =
-    let own = filter (λ (s : Stated). s.section == k) (stated (ss ∷ [])) in
-    let others = in_sections (stated (ss ∷ [])) (suc k) sections in
+    let own = filter (λ (s : Located). s.section == k) (located (ss ∷ [])) in
+    let others = in_sections (located (ss ∷ [])) (suc k) sections in
     let here : k + 0 ≡ k = omega arith in
     ap (λ a. else_name a (first_some os)) (h 0 ∙ ap (first_in ss) here)
     ∙ ap (λ a. else_name (first_in ss k) a) (sections_firsts ss (suc k) sections os (omega arith) (λ j. h (suc j) ∙ (let n : k + suc j ≡ suc k + j = omega arith in ap (first_in ss) n)))
@@ -231,16 +231,16 @@ loaded_at (x ∷ es) zero d home e = let same : extent_section x ≡ home = cc i
 loaded_at (x ∷ es) (suc k) d home e = loaded_at es k d home e
 
 -- what a statement's section keeps
-pub kept_there : (ss : List Spoken) (i : ℕ) (x : Spoken) (p : Place) (old new : List (Option (Bor (List ℕ)))) (loaded : Bool) → p ≡ stood (passed ss i) (i + 1) x.says
-    → loaded ≡ (stated_at ss i x).home.loaded
+pub kept_there : (ss : List Spoken) (i : ℕ) (x : Spoken) (p : SectionOffset) (old new : List (Option (Bor (List ℕ)))) (loaded : Bool) → p ≡ stood (passed ss i) (i + 1) x.says
+    → loaded ≡ (located_at ss i x).home.loaded
     → ((j : ℕ) → found_in new j ≡ (if p.section == j then else_name (found_in old j) (if loaded then first_name (missing_at ss i p (data_values x.says)) else None) else found_in old j))
-    → (j : ℕ) → found_in new j ≡ (if (stated_at ss i x).section == j then else_name (found_in old j) (first_name (missing_by ss (stated_at ss i x))) else found_in old j)
+    → (j : ℕ) → found_in new j ≡ (if (located_at ss i x).section == j then else_name (found_in old j) (first_name (missing_by ss (located_at ss i x))) else found_in old j)
 kept_there ss i x p old new loaded place same h j =
     let q = stood (passed ss i) (i + 1) x.says in
     h j
-    ∙ ap (λ (r : Place). if r.section == j then else_name (found_in old j) (if loaded then first_name (missing_at ss i r (data_values x.says)) else None) else found_in old j) place
+    ∙ ap (λ (r : SectionOffset). if r.section == j then else_name (found_in old j) (if loaded then first_name (missing_at ss i r (data_values x.says)) else None) else found_in old j) place
     ∙ ap (λ b. if q.section == j then else_name (found_in old j) (if b then first_name (missing_at ss i q (data_values x.says)) else None) else found_in old j) same
-    ∙ ap (λ o. if q.section == j then else_name (found_in old j) o else found_in old j) (sym (first_loaded (stated_at ss i x).home.loaded (missing_at ss i q (data_values x.says))))
+    ∙ ap (λ o. if q.section == j then else_name (found_in old j) o else found_in old j) (sym (first_loaded (located_at ss i x).home.loaded (missing_at ss i q (data_values x.says))))
 
 pub taken_back : {A : Type 0} (ys zs : List A) (n : ℕ) → n ≡ length ys → take n (ys ++ zs) ≡ ys
 taken_back ys zs n e = ap (λ k. take k (ys ++ zs)) e ∙ front ys zs
@@ -262,5 +262,5 @@ section_inside u i statements places p filled inside statements_are places_are i
     let within : i < length u.statements.items = subst (λ l. i < length l) statements_are inside in
     let x = get_or u.statements.items i (record { kind = Ignored; line = 0 }) in
     let at = stands_at u i (record { kind = Ignored; line = 0 }) x (record { section = 0; offset = 0 }) p filled within refl (is ∙ ap (λ l. get_or l i (record { section = 0; offset = 0 })) places_are) in
-    let stands = got_inside (map extent_section u.tables.extents.items) p.section (stated_at (said u) i (said_by x)).home at.home in
+    let stands = got_inside (map extent_section u.tables.extents.items) p.section (located_at (said u) i (said_by x)).home at.home in
     subst (λ n. p.section < n) (length-map u.tables.extents.items extent_section) stands

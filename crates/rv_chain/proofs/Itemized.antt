@@ -1,4 +1,4 @@
--- The item of a unit's statement at an index, and the bytes of each section behind it.
+-- The item of a unit's statement at an index, and the bytes of each section after it.
 
 use Rattle.std.proofs.Common.{◌≡◌, ℕ, zero, suc, ◌+◌, ◌<◌, ◌≤◌, ◌^◌, ◌≢◌, ◌==◌, ◌&&◌, Bool, true, false, List, [], ◌∷◌, ◌++◌, length, map, set, get_or, inl, inr, Some, refl, sym, ap, ◌∙◌, subst, arith}
 use Rattle.std.specs.Prelude.{if◌then◌else◌, slice_index, slice_index_or, slice_get}
@@ -8,20 +8,20 @@ use Rattle.rv_statement.specs.View.{said_by, statement_of}
 use Rattle.rv_statement.specs.declared.statement.Statement.{Statement}
 use Rattle.rv_statement.specs.declared.statement.StatementKind.TheVariants as kinds
 use Rattle.rv_unit_laws.specs.Sections.{Section, goes_to_text}
-use Rattle.rv_unit_laws.specs.Tables.{Tables, Place as Standing, tables, value, stood}
-use Rattle.rv_unit.specs.declared.place.Place.{Place}
-use Rattle.rv_unit.specs.declared.section.Extent.{Extent}
+use Rattle.rv_unit_laws.specs.Tables.{Tables, SectionOffset as Standing, tables, value, stood}
+use Rattle.rv_tables.specs.declared.section_offset.SectionOffset.{SectionOffset}
+use Rattle.rv_tables.specs.declared.section.Extent.{Extent}
 use Rattle.rv_unit.specs.declared.unit.Unit.{Unit as SourceUnit}
-use Rattle.rv_unit.specs.Sections.{place_of, extent_section}
+use Rattle.rv_tables.specs.Sections.{offset_of, extent_section}
 use Rattle.rv_unit.specs.Unit.{said, passed, IsFilled}
-use Rattle.rv_source_laws.specs.Stated.{is_placed}
-use Rattle.rv_link.specs.declared.rows.Item.{Item}
+use Rattle.rv_source_laws.specs.Located.{is_placed}
+use Rattle.rv_link_laws.specs.declared.item.Item.{Item}
 use Rattle.rv_link_laws.specs.Items.{IsItem, grown}
 use Rattle.rv_chain.specs.Sized.{IsSized}
 use Rattle.rv_chain.specs.Code.{value_at}
 use Rattle.rv_chain.specs.Measured.{IsExtentAt, HasRoom}
 use Rattle.rv_chain.proofs.Roomy.{IsRoomy}
-use Rattle.rv_chain.proofs.Standing.{StandsAt, stands_at, stated_at, got_inside}
+use Rattle.rv_chain.proofs.Standing.{StandsAt, stands_at, located_at, got_inside}
 use Rattle.rv_chain.proofs.SoFarSized.{IsSizedAt}
 
 -- ---- the bytes of each section
@@ -32,7 +32,7 @@ grown_at true ends k n bytes j inside grows here other =
     ap (λ i. get_or (set ends k n) i 0) (here refl) ∙ get_or-set_same ends k n 0 inside ∙ grows ∙ ap (λ i. slice_index ends i + bytes) (sym (here refl))
 grown_at false ends k n bytes j inside grows here other = get_or-set_other ends k j n 0 (other refl)
 
--- the bytes of each section behind an item that stands at the end of its own
+-- the bytes of each section after an item that stands at the end of its own
 pub grown_by : (ends : List ℕ) (x : Item) (j : ℕ) → x.section < length ends → x.offset ≡ slice_index ends x.section
     → slice_index (set ends x.section (x.offset + x.bytes)) j ≡ grown (λ k. slice_index ends k) x j
 grown_by ends x j inside at =
@@ -45,7 +45,7 @@ low_by ends k n j inside low all =
       | inr other ↦ subst (λ m. m ≤ 2 ^ 28) (sym (get_or-set_other ends k j n 0 other)) (all j)
     ]
 
--- a section without a byte behind others
+-- a section without a byte after others
 pub none_behind : (xs : List ℕ) (j : ℕ) → ((i : ℕ) → slice_index xs i ≡ 0) → slice_index (xs ++ 0 ∷ []) j ≡ 0
 none_behind [] zero h = refl
 none_behind [] (suc j) h = refl
@@ -67,15 +67,15 @@ read_map f (x ∷ xs) (suc i) d e h = read_map f xs i d e (omega arith)
 some_same : {A : Type 0} (a b : A) → Some a ≡ Some b → a ≡ b
 some_same a b e = cc
 
-home_at : (u : SourceUnit) (i : ℕ) (s : Statement) (p : Place) (e : Extent) → StandsAt u i s p → IsExtentAt u.tables.extents.items p.section e → extent_section e ≡ (stated_at (said u) i (said_by s)).home
-home_at u i s p e at there = some_same (extent_section e) (stated_at (said u) i (said_by s)).home (sym there.section ∙ at.home)
+pub home_at : (u : SourceUnit) (i : ℕ) (s : Statement) (p : SectionOffset) (e : Extent) → StandsAt u i s p → IsExtentAt u.tables.extents.items p.section e → extent_section e ≡ (located_at (said u) i (said_by s)).home
+home_at u i s p e at there = some_same (extent_section e) (located_at (said u) i (said_by s)).home (sym there.section ∙ at.home)
 
 -- ---- the item of a statement
 
-pub item_at : (u : SourceUnit) (i : ℕ) (s : Statement) (p : Place) (e : Extent) (before : ℕ → ℕ) (x : Item) → StandsAt u i s p → IsExtentAt u.tables.extents.items p.section e
+pub item_at : (u : SourceUnit) (i : ℕ) (s : Statement) (p : SectionOffset) (e : Extent) (before : ℕ → ℕ) (x : Item) → StandsAt u i s p → IsExtentAt u.tables.extents.items p.section e
     → x.section ≡ p.section → x.offset ≡ before p.section → x.line ≡ s.line → x.text ≡ goes_to_text (extent_section e)
     → x.shown ≡ (is_placed (passed (said u) i) (i + 1) (statement_of s.kind) && e.section.loaded) → (x.shown ≡ false → x.bytes ≡ 0)
-    → IsItem (stated_at (said u) i (said_by s)) before x
+    → IsItem (located_at (said u) i (said_by s)) before x
 item_at u i s p e before x at there section offset line text shown absent =
     let seat = ap (λ (q : Standing). q.section) at.place in
     let home = home_at u i s p e at there in
@@ -88,8 +88,8 @@ item_at u i s p e before x at there section offset line text shown absent =
       absent = absent;
     }
 
-pub sized_at : (u : SourceUnit) (i : ℕ) (s : Statement) (p : Place) (e : Extent) (x : Item) → IsFilled u → StandsAt u i s p → IsExtentAt u.tables.extents.items p.section e → x.section ≡ p.section
-    → (x.shown ≡ true → IsSized (λ t. value (tables (said u)) true (i + 1) (place_of p) t) e.section.executable x e.alignment (statement_of s.kind))
+pub sized_at : (u : SourceUnit) (i : ℕ) (s : Statement) (p : SectionOffset) (e : Extent) (x : Item) → IsFilled u → StandsAt u i s p → IsExtentAt u.tables.extents.items p.section e → x.section ≡ p.section
+    → (x.shown ≡ true → IsSized (λ t. value (tables (said u)) true (i + 1) (offset_of p) t) e.section.executable x e.alignment (statement_of s.kind))
     → IsSizedAt (tables (said u)) (said u) i (said_by s) x
 sized_at u i s p e x filled at there section h shown =
     let all = tables (said u) in
@@ -101,27 +101,27 @@ sized_at u i s p e x filled at there section h shown =
     (subst (λ (q : Standing). IsSized (λ t. value all true (i + 1) q t) e.section.executable x e.alignment (statement_of s.kind)) at.place (h shown)))
 
 -- a statement that has a size, and for which its section has room
-pub room_at : (u : SourceUnit) (i : ℕ) (s : Statement) (p : Place) (e : Extent) (ends : ℕ → ℕ) (stop : ℕ) → IsFilled u → StandsAt u i s p → IsExtentAt u.tables.extents.items p.section e
-    → (let st = stated_at (said u) i (said_by s) in
+pub room_at : (u : SourceUnit) (i : ℕ) (s : Statement) (p : SectionOffset) (e : Extent) (ends : ℕ → ℕ) (stop : ℕ) → IsFilled u → StandsAt u i s p → IsExtentAt u.tables.extents.items p.section e
+    → (let st = located_at (said u) i (said_by s) in
     IsRoomy (λ t. value_at (tables (said u)) st t) st.home.executable (slice_index_or (tables (said u)).alignments st.section 1) (ends st.section) stop (said_by s).says)
-    → HasRoom (λ t. value (tables (said u)) true (i + 1) (place_of p) t) e.section.executable e.alignment (ends p.section) (statement_of s.kind)
+    → HasRoom (λ t. value (tables (said u)) true (i + 1) (offset_of p) t) e.section.executable e.alignment (ends p.section) (statement_of s.kind)
 room_at u i s p e ends stop filled at there roomy =
     let all = tables (said u) in
-    let st = stated_at (said u) i (said_by s) in
+    let st = located_at (said u) i (said_by s) in
     let RoomAt : Standing → Section → ℕ → Type 0 = λ q home begins. HasRoom (λ t. value all true (i + 1) q t) home.executable begins (ends q.section) (statement_of s.kind) in
     let begins : slice_index_or all.alignments p.section 1 ≡ e.alignment = ap (λ (t : Tables). slice_index_or t.alignments p.section 1) (sym filled.tables) ∙ there.alignment in
     let room : RoomAt (stood (passed (said u) i) (i + 1) (said_by s).says) st.home (slice_index_or all.alignments st.section 1) = record { size = roomy.size; room = roomy.room } in
-    subst (RoomAt (place_of p) (extent_section e)) begins
-    (subst (λ h. RoomAt (place_of p) h (slice_index_or all.alignments p.section 1)) (sym (home_at u i s p e at there))
+    subst (RoomAt (offset_of p) (extent_section e)) begins
+    (subst (λ h. RoomAt (offset_of p) h (slice_index_or all.alignments p.section 1)) (sym (home_at u i s p e at there))
     (subst (λ q. RoomAt q st.home (slice_index_or all.alignments q.section 1)) (sym at.place) room))
 
 -- the section of a statement is one of the unit's
-pub stands_inside : (u : SourceUnit) (i : ℕ) (s : Statement) (p : Place) → StandsAt u i s p → p.section < length u.tables.extents.items
+pub stands_inside : (u : SourceUnit) (i : ℕ) (s : Statement) (p : SectionOffset) → StandsAt u i s p → p.section < length u.tables.extents.items
 stands_inside u i s p at =
     subst (λ n. p.section < n) (length-map u.tables.extents.items extent_section)
-    (got_inside (map extent_section u.tables.extents.items) p.section (stated_at (said u) i (said_by s)).home at.home)
+    (got_inside (map extent_section u.tables.extents.items) p.section (located_at (said u) i (said_by s)).home at.home)
 
-pub place_inside : (u : SourceUnit) (i : ℕ) (d p : Place) → IsFilled u → i < length u.statements.items → p ≡ get_or u.places.items i d → p.section < length u.tables.extents.items
+pub place_inside : (u : SourceUnit) (i : ℕ) (d p : SectionOffset) → IsFilled u → i < length u.statements.items → p ≡ get_or u.places.items i d → p.section < length u.tables.extents.items
 place_inside u i d p filled inside is =
     let none : Statement = record { kind = kinds.Ignored; line = 0 } in
     let x : Statement = get_or u.statements.items i none in

@@ -1,4 +1,6 @@
 pub mod Adding
+pub mod FirstCode
+pub mod Headlined
 pub mod Figures
 pub mod Growing
 pub mod SoFar
@@ -16,7 +18,6 @@ pub mod FirstNames
 pub mod SoFarSized
 pub mod Itemized
 pub mod Sound
-pub mod Begins
 pub mod Started
 pub mod SuitsAll
 pub mod Roomy

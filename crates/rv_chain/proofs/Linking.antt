@@ -11,28 +11,28 @@ use Rattle.rv_unit_laws.specs.Sections.{Section, goes_to_text}
 use Rattle.rv_unit_laws.specs.Tables.{Tables, tables, aligned}
 use Rattle.rv_unit_laws.specs.Faults.{first_fault}
 use Rattle.rv_unit.specs.declared.unit.Unit.{Unit as SourceUnit}
-use Rattle.rv_unit.specs.Sections.{extent_section}
+use Rattle.rv_tables.specs.Sections.{extent_section}
 use Rattle.rv_unit.specs.Unit.{said, IsFilled}
 use Rattle.rv_map.specs.Map.{Map, Global}
 use Rattle.rv_map.specs.declared.map.Row.{Row}
 use Rattle.rv_image.specs.Linked.{Linked}
 use Rattle.rv_chain_laws.specs.Contents.{IsLinked}
 use Rattle.rv_source_laws.specs.Resolves.{is_global_after}
-use Rattle.rv_source_laws.specs.Sites.{program}
-use Rattle.rv_source_laws.specs.Stated.{stated}
+use Rattle.rv_source_laws.specs.Program.{program}
+use Rattle.rv_source_laws.specs.Located.{located}
 use Rattle.rv_chain_laws.proofs.LaidOut.{AreRegions}
 use Rattle.rv_chain_laws.proofs.Regions.{above}
 use Rattle.rv_chain_laws.proofs.Contents.{are_regions}
-use Rattle.rv_link.specs.declared.piece.Destination.{Destination}
-use Rattle.rv_link.specs.declared.piece.Destination.TheVariants.{Data, Bss, Text, Rodata}
-use Rattle.rv_link.specs.declared.piece.Piece.{Piece}
-use Rattle.rv_link.specs.declared.layout.Layout.{Layout}
-use Rattle.rv_link.specs.Layout.{IsLayout, goes, end_behind, end_of, started, greatest}
-use Rattle.rv_link.specs.declared.rows.Item.{Item}
-use Rattle.rv_link.specs.Contents.{contents_of}
-use Rattle.rv_link.specs.Definitions.{entry_from}
+use Rattle.rv_link_laws.specs.declared.piece.Destination.{Destination}
+use Rattle.rv_link_laws.specs.declared.piece.Destination.TheVariants.{Data, Bss, Text, Rodata}
+use Rattle.rv_link_laws.specs.declared.piece.Piece.{Piece}
+use Rattle.rv_link_laws.specs.declared.layout.Layout.{Layout}
+use Rattle.rv_link_laws.specs.Layout.{IsLayout, goes, end_behind, end_of, started, greatest}
+use Rattle.rv_link_laws.specs.declared.item.Item.{Item}
+use Rattle.rv_link_laws.specs.Contents.{contents_of}
+use Rattle.rv_link_laws.specs.Definitions.{entry_from}
 use Rattle.rv_link.specs.Globals.{NameSet, Has, AreGlobals}
-use Rattle.rv_link.specs.Rows.{rows_from}
+use Rattle.rv_link_laws.specs.Rows.{rows_from}
 use Rattle.rv_link.proofs.Placed.{one_or_more}
 use Rattle.rv_link_laws.specs.Bytes.{AreEach}
 use Rattle.rv_link_laws.specs.Laws.{PlacedLinks, PlacedNames, map_of}
@@ -127,18 +127,18 @@ figures_count u start entry x globals figures figures_now filled stands count sa
 
 -- ---- the program
 
-pub linked_from : PlacedLinks → PlacedNames → (ss : List Spoken) (start entry : ℕ) (x : Placed) (globals : List Global) (texts figures : List (Vec ℕ))
+pub linked_from : PlacedLinks → PlacedNames → (ss : List Spoken) (start entry : ℕ) (x : Placed) (globals : List Global) (texts figures : List (Vec ℕ)) (rvc : Bool)
     → first_fault ss ≡ None → start % 4096 ≡ 0 → StandsFrom ss start x → AreCoded ss
-    → ((j : ℕ) → bytes_in texts j ≡ section_code (tables ss) j (stated (ss ∷ []))) → length texts ≡ length (tables ss).opened.sections
+    → ((j : ℕ) → bytes_in texts j ≡ section_code (tables ss) j (located (ss ∷ []))) → length texts ≡ length (tables ss).opened.sections
     → AreNamed ss x globals → Begins ss x entry
     → IsData (program (ss ∷ []) (map_from x entry globals)) x.layout.starts.items ss x.items.items (map (λ b. b.items) figures)
-    → IsLinked (ss ∷ []) start (program_from x entry globals texts figures)
-linked_from links names ss start entry x globals texts figures good page stands coded code count named begins are =
+    → IsLinked (ss ∷ []) start (program_from x entry globals texts figures rvc)
+linked_from links names ss start entry x globals texts figures rvc good page stands coded code count named begins are =
     let m = map_from x entry globals in
     let starts = x.layout.starts.items in
     let is = x.items.items in
     let suits = suits_all start ss is stands.last x.pieces.items x.layout m good stands.items stands.sized coded are.valued stands.sections stands.lies in
-    links start ss is stands.last x.pieces.items x.layout entry globals (map (λ b. b.items) texts) (map (λ b. b.items) figures) false
+    links start ss is stands.last x.pieces.items x.layout entry globals (map (λ b. b.items) texts) (map (λ b. b.items) figures) rvc
     (record {
       good = good;
       page = (let e : start % 2 ≡ 0 = omega arith in e);
@@ -170,31 +170,31 @@ fits_memory l are low =
     omega arith
 
 -- the parts as they were made
-pub whole : (ss : List Spoken) (start entry : ℕ) (x : Placed) (globals : List Global) (texts figures : List (Vec ℕ)) (text rodata variables : List ℕ) (m : Map)
-    → text ≡ (program_from x entry globals texts figures).text → rodata ≡ (program_from x entry globals texts figures).rodata
-    → variables ≡ (program_from x entry globals texts figures).data → m ≡ map_from x entry globals → IsLayout start x.pieces.items x.layout
-    → IsLinked (ss ∷ []) start (program_from x entry globals texts figures)
-    → IsWhole ss start (record { text = text; rodata = rodata; «data» = variables; map = m; rvc = false })
-whole ss start entry x globals texts figures text rodata variables m text_is rodata_is variables_is map_is lies h =
-    let p = program_from x entry globals texts figures in
-    let linked : IsLinked (ss ∷ []) start (record { text = text; rodata = rodata; «data» = variables; map = m; rvc = false }) =
-    subst (λ t. IsLinked (ss ∷ []) start (record { text = t; rodata = rodata; «data» = variables; map = m; rvc = false })) (sym text_is)
-    (subst (λ t. IsLinked (ss ∷ []) start (record { text = p.text; rodata = t; «data» = variables; map = m; rvc = false })) (sym rodata_is)
-    (subst (λ t. IsLinked (ss ∷ []) start (record { text = p.text; rodata = p.rodata; «data» = t; map = m; rvc = false })) (sym variables_is)
-    (subst (λ n. IsLinked (ss ∷ []) start (record { text = p.text; rodata = p.rodata; «data» = p.data; map = n; rvc = false })) (sym map_is) h))) in
-    let regions = are_regions (ss ∷ []) start (record { text = text; rodata = rodata; «data» = variables; map = m; rvc = false }) linked in
+pub whole : (ss : List Spoken) (start entry : ℕ) (x : Placed) (globals : List Global) (texts figures : List (Vec ℕ)) (text rodata variables : List ℕ) (m : Map) (rvc : Bool)
+    → text ≡ (program_from x entry globals texts figures rvc).text → rodata ≡ (program_from x entry globals texts figures rvc).rodata
+    → variables ≡ (program_from x entry globals texts figures rvc).data → m ≡ map_from x entry globals → IsLayout start x.pieces.items x.layout
+    → IsLinked (ss ∷ []) start (program_from x entry globals texts figures rvc)
+    → IsWhole ss start (record { text = text; rodata = rodata; «data» = variables; map = m; rvc = rvc })
+whole ss start entry x globals texts figures text rodata variables m rvc text_is rodata_is variables_is map_is lies h =
+    let p = program_from x entry globals texts figures rvc in
+    let linked : IsLinked (ss ∷ []) start (record { text = text; rodata = rodata; «data» = variables; map = m; rvc = rvc }) =
+    subst (λ t. IsLinked (ss ∷ []) start (record { text = t; rodata = rodata; «data» = variables; map = m; rvc = rvc })) (sym text_is)
+    (subst (λ t. IsLinked (ss ∷ []) start (record { text = p.text; rodata = t; «data» = variables; map = m; rvc = rvc })) (sym rodata_is)
+    (subst (λ t. IsLinked (ss ∷ []) start (record { text = p.text; rodata = p.rodata; «data» = t; map = m; rvc = rvc })) (sym variables_is)
+    (subst (λ n. IsLinked (ss ∷ []) start (record { text = p.text; rodata = p.rodata; «data» = p.data; map = n; rvc = rvc })) (sym map_is) h))) in
+    let regions = are_regions (ss ∷ []) start (record { text = text; rodata = rodata; «data» = variables; map = m; rvc = rvc }) linked in
     record {
       linked = linked;
       regions = regions;
       even = linked.resolves.even;
-      limit = fits_memory (record { text = text; rodata = rodata; «data» = variables; map = m; rvc = false }) regions
+      limit = fits_memory (record { text = text; rodata = rodata; «data» = variables; map = m; rvc = rvc }) regions
           (subst (λ n. (n.text.end - n.text.start) + (n.rodata.end - n.rodata.start) + (n.bss.end - n.data.start) ≤ 2 ^ 28) (sym map_is) lies.memory);
     }
 
 pub made : PlacedLinks → PlacedNames → (u : SourceUnit) (start entry : ℕ) (x : Placed) (globals globals_now : List Global) (set : NameSet) (texts texts_now figures figures_now : List (Vec ℕ))
-    (statements : List Statement) (starts : List ℕ) (items : List Item) (rows : List Row) (text rodata variables : List ℕ) (m : Map)
+    (statements : List Statement) (starts : List ℕ) (items : List Item) (rows : List Row) (text rodata variables : List ℕ) (m : Map) (rvc : Bool)
     → IsFilled u → first_fault (said u) ≡ None → start % 4096 ≡ 0 → StandsFrom (said u) start x → AreCoded (said u)
-    → ((j : ℕ) → bytes_in texts j ≡ section_code (tables (said u)) j (stated (said u ∷ []))) → length texts ≡ length u.tables.extents.items
+    → ((j : ℕ) → bytes_in texts j ≡ section_code (tables (said u)) j (located (said u ∷ []))) → length texts ≡ length u.tables.extents.items
     → statements ≡ u.statements.items → starts ≡ x.layout.starts.items → items ≡ x.items.items → texts_now ≡ texts → figures_now ≡ figures → globals_now ≡ globals
     → AreGlobals set (map said_by statements) → AreNamed (said u) x globals
     → ((test : List ℕ → Bool) → Has set test → test (codes "_start") ≡ true) → entry_from starts (map said_by statements) items ≡ Some entry → entry % 2 ≡ 0
@@ -204,8 +204,8 @@ pub made : PlacedLinks → PlacedNames → (u : SourceUnit) (start entry : ℕ) 
     → rodata ≡ contents_of Rodata x.layout.rodata.start x.pieces.items x.layout.starts.items (map (λ b. b.items) figures_now)
     → variables ≡ contents_of Data x.layout.data.start x.pieces.items x.layout.starts.items (map (λ b. b.items) figures_now)
     → m ≡ map_of x.layout entry globals rows
-    → IsWhole (said u) start (record { text = text; rodata = rodata; «data» = variables; map = m; rvc = false })
-made links resolves u start entry x globals globals_now set texts texts_now figures figures_now statements starts items rows text rodata variables m
+    → IsWhole (said u) start (record { text = text; rodata = rodata; «data» = variables; map = m; rvc = rvc })
+made links resolves u start entry x globals globals_now set texts texts_now figures figures_now statements starts items rows text rodata variables m rvc
     filled good page stands coded code count statements_are starts_are items_are texts_are figures_are globals_are
     has named global begins even gives rows_are text_is rodata_is variables_is map_is =
     let ss = said u in
@@ -218,10 +218,10 @@ made links resolves u start entry x globals globals_now set texts texts_now figu
     rows_are ∙ ap (λ s. rows_from 1 s 1 items) starts_are ∙ ap (λ i. rows_from 1 x.layout.starts.items 1 i) items_are in
     let figures_hold : GivesData ss x.layout.starts.items x.items.items globals (map (λ b. b.items) figures) =
     subst (λ g. GivesData ss x.layout.starts.items x.items.items g (map (λ b. b.items) figures)) globals_are gives in
-    whole ss start entry x globals texts figures text rodata variables m
+    whole ss start entry x globals texts figures text rodata variables m rvc
     (text_is ∙ ap (λ (l : List (Vec ℕ)). contents_of Text x.layout.text.start x.pieces.items x.layout.starts.items (map (λ b. b.items) l)) texts_are)
     (rodata_is ∙ ap (λ (l : List (Vec ℕ)). contents_of Rodata x.layout.rodata.start x.pieces.items x.layout.starts.items (map (λ b. b.items) l)) figures_are)
     (variables_is ∙ ap (λ (l : List (Vec ℕ)). contents_of Data x.layout.data.start x.pieces.items x.layout.starts.items (map (λ b. b.items) l)) figures_are)
     (map_is ∙ ap (λ r. map_of x.layout entry globals r) rows_from_items) stands.lies
-    (linked_from links resolves ss start entry x globals texts figures good page stands coded code (count ∙ sym (sections_count u filled)) named (starts_global, entered, even)
+    (linked_from links resolves ss start entry x globals texts figures rvc good page stands coded code (count ∙ sym (sections_count u filled)) named (starts_global, entered, even)
     (figures_hold stands.last (map_from x entry globals) stands.items stands.sized refl refl))

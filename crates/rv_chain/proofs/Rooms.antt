@@ -6,36 +6,36 @@ use Rattle.std.specs.Prelude.{slice_index_or, if◌then◌else◌}
 use Rattle.rv_statement.specs.Statement.{Statement, Label, Numbered, Instruction, Directs, Spoken, Expression, Directive, Sets, Aligns_to_power, Aligns_to_bytes, Values, Strings, Zeros}
 use Rattle.rv_text_laws.specs.Values.{Value}
 use Rattle.rv_unit_laws.specs.Sections.{Section, Opened, text_section, section_at, current_section}
-use Rattle.rv_unit_laws.specs.Tables.{Tables, Place, at_start, here, value, asked, stood, after, after_all, tables, longest_section}
+use Rattle.rv_unit_laws.specs.Tables.{Tables, SectionOffset, at_start, here, value, alignment_of, stood, after, after_all, tables, longest_section}
 use Rattle.rv_unit_laws.specs.Faults.{first_fault}
 use Rattle.rv_unit_laws.proofs.Grown.{BeginsAt, puts, grows_after, grown_all, begins_multiple}
 use Rattle.rv_unit_laws.proofs.Opened.{after_opened, open_inside, stood_all, stood_start}
 use Rattle.rv_unit.specs.Unit.{passed}
 use Rattle.rv_unit.proofs.Constants.{constant_past, constant_whole, whole_rest}
-use Rattle.rv_source_laws.specs.Stated.{Stated, stated_from, is_placed, is_placed_directive}
+use Rattle.rv_source_laws.specs.Located.{Located, located_from, is_placed, is_placed_directive}
 use Rattle.rv_chain_laws.specs.Refusals.{code_size, grown as grown_by, size_fault_from, size_fault}
 use Rattle.rv_chain_laws.proofs.Held.{no_fault}
 use Rattle.rv_chain_laws.proofs.Homes.{IsHomeIn, homes_from}
-use Rattle.rv_link.specs.declared.rows.Item.{Item}
+use Rattle.rv_link_laws.specs.declared.item.Item.{Item}
 use Rattle.rv_link_laws.specs.Items.{IsItem, grown}
 use Rattle.rv_chain.specs.Code.{value_at}
 use Rattle.rv_chain.specs.Sized.{IsPadded, IsSizedDirective, IsSized}
 use Rattle.rv_chain.specs.Measured.{stretch, IsSize}
-use Rattle.rv_chain.proofs.Standing.{all_at, got_or, stated_at, stated_next}
+use Rattle.rv_chain.proofs.Standing.{all_at, got_or, located_at, stated_next}
 use Rattle.rv_chain.proofs.SoFarItems.{passed_next}
 use Rattle.rv_chain.proofs.SoFarSized.{IsSizedAt}
 use Rattle.rv_chain.proofs.Sound.{sound_at}
 use Rattle.rv_chain.proofs.Roomy.{IsRoomy, statement_here}
 
--- where each section has so many bytes before the statement at an index: those of code are no more than what the sizes of
+-- the bytes of each section before the statement at an index: those of code are no more than what the sizes of
 -- code have counted, and these have room for what is left; those of others are no more than the tables'
 pub record HasRoomLeft (ss : List Spoken) (i : ℕ) (ends : ℕ → ℕ) : Type 0 where
   pub sizes : ℕ → ℕ
-  pub rest : size_fault_from sizes (drop i (stated_from 1 1 at_start ss)) ≡ None
+  pub rest : size_fault_from sizes (drop i (located_from 1 1 at_start ss)) ≡ None
   pub code : (j : ℕ) → (section_at (tables ss).opened j).executable ≡ true → ends j ≤ sizes j
   pub stored : (j : ℕ) → (section_at (tables ss).opened j).executable ≡ false → ends j ≤ slice_index_or (passed ss i).ends j 0
 
-drop_none : {A : Type 0} (xs : List A) → drop 0 xs ≡ xs
+pub drop_none : {A : Type 0} (xs : List A) → drop 0 xs ≡ xs
 drop_none [] = refl
 drop_none (x ∷ xs) = refl
 
@@ -48,7 +48,7 @@ drop_inside (x ∷ xs) (suc i) y ys e = let l : i < length xs = drop_inside xs i
 pub rooms_begin : (ss : List Spoken) (ends : ℕ → ℕ) → size_fault ss ≡ None → ((j : ℕ) → ends j ≡ 0) → HasRoomLeft ss 0 ends
 rooms_begin ss ends good zeros = record {
   sizes = λ j. 0;
-  rest = ap (size_fault_from (λ j. 0)) (drop_none (stated_from 1 1 at_start ss) ∙ sym (append-nil (stated_from 1 1 at_start ss))) ∙ good;
+  rest = ap (size_fault_from (λ j. 0)) (drop_none (located_from 1 1 at_start ss) ∙ sym (append-nil (located_from 1 1 at_start ss))) ∙ good;
   code = λ j code. let e = zeros j in omega (arith, e);
   stored = λ j other. let e = zeros j in omega (arith, e);
 }
@@ -81,8 +81,8 @@ directive_as v b x begins (Sets name e) h = h
 directive_as v b x begins (Values width values) h = h
 directive_as v b x begins (Strings ended strings) h = h
 directive_as v b x begins (Zeros count) h = h
-directive_as v b x begins (Aligns_to_power e) h = (h.0, padded_as b x begins (asked v (Aligns_to_power e)) h.1)
-directive_as v b x begins (Aligns_to_bytes e) h = (h.0, padded_as b x begins (asked v (Aligns_to_bytes e)) h.1)
+directive_as v b x begins (Aligns_to_power e) h = (h.0, padded_as b x begins (alignment_of v (Aligns_to_power e)) h.1)
+directive_as v b x begins (Aligns_to_bytes e) h = (h.0, padded_as b x begins (alignment_of v (Aligns_to_bytes e)) h.1)
 directive_as v b x begins _ h = tt
 
 size_as : (v : Expression → Value) (b : Bool) (x : Item) (begins : ℕ) (says : Statement) → IsSized v b x begins says → IsSize v b begins x.offset says x.bytes
@@ -107,8 +107,8 @@ module _ (ss : List Spoken) (i : ℕ) (s : Spoken) (here_is : drop i ss ≡ s �
   abbrev k : ℕ
   k = i + 1
 
-  abbrev st : Stated
-  st = stated_at ss i s
+  abbrev st : Located
+  st = located_at ss i s
 
   within : i ≤ length ss
   within = let l = drop_inside ss i s (drop (i + 1) ss) here_is in omega (arith, l)
@@ -116,24 +116,24 @@ module _ (ss : List Spoken) (i : ℕ) (s : Spoken) (here_is : drop i ss ≡ s �
   inside : t.opened.current < length t.opened.sections
   inside = open_inside t.opened (stood_all at_start 1 (take i ss) stood_start).opened
 
-  next : drop i (stated_from 1 1 at_start ss) ≡ st ∷ drop (i + 1) (stated_from 1 1 at_start ss)
+  next : drop i (located_from 1 1 at_start ss) ≡ st ∷ drop (i + 1) (located_from 1 1 at_start ss)
   next = stated_next ss i s (drop (i + 1) ss) here_is
 
   -- the section of the statement
   home_is : section_at all.opened st.section ≡ st.home
   home_is =
       got_or all.opened.sections st.section text_section st.home
-      (all_at (IsHomeIn (λ file. all.opened.sections)) (stated_from 1 1 at_start ss) i st (drop (i + 1) (stated_from 1 1 at_start ss)) next
+      (all_at (IsHomeIn (λ file. all.opened.sections)) (located_from 1 1 at_start ss) i st (drop (i + 1) (located_from 1 1 at_start ss)) next
       (homes_from (λ file. all.opened.sections) 1 1 at_start ss refl (text_section, refl)))
 
-  multiples : (d : Directive) → s.says ≡ Directs d → (current_section t.opened).executable ≡ false → puts d ≡ true → BeginsAt (asked (value t false k (here t)) d) (slice_index_or all.alignments t.opened.current 1)
-  multiples d is other h =
-      subst (λ (u : Tables). BeginsAt (asked (value t false k (here t)) d) (slice_index_or u.alignments t.opened.current 1))
+  multiples : (d : Directive) → s.says ≡ Directs d → puts d ≡ true → BeginsAt (alignment_of (value t false k (here t)) d) (slice_index_or all.alignments t.opened.current 1)
+  multiples d is h =
+      subst (λ (u : Tables). BeginsAt (alignment_of (value t false k (here t)) d) (slice_index_or u.alignments t.opened.current 1))
       (sym (whole_rest ss i within ∙ ap (after_all t k) here_is ∙ ap (λ y. after_all (after t k y) (suc k) (drop (i + 1) ss)) is))
-      (begins_multiple t k (suc k) d (drop (i + 1) ss) h (grown_all 1 (take i ss)) inside other)
+      (begins_multiple t k (suc k) d (drop (i + 1) ss) h (grown_all 1 (take i ss)) inside)
 
   -- what a place with its section says
-  abbrev RoomyIn : ℕ → Place → Opened → Type 0
+  abbrev RoomyIn : ℕ → SectionOffset → Opened → Type 0
   RoomyIn offset p o =
       IsRoomy (λ e. value all true k p e) (section_at o p.section).executable (slice_index_or all.alignments p.section 1) offset (slice_index_or (after t k s.says).ends p.section 0) s.says
 
@@ -142,9 +142,9 @@ module _ (ss : List Spoken) (i : ℕ) (s : Spoken) (here_is : drop i ss ≡ s �
       → IsRoomy (λ e. value_at all st e) st.home.executable (slice_index_or all.alignments st.section 1) offset (slice_index_or (after t k s.says).ends st.section 0) s.says
   roomy_at offset low placed fits before =
       let (place, opened) = stood_here t k s.says placed in
-      let home : st.home ≡ current_section t.opened = ap (λ o. section_at o st.section) opened ∙ ap (λ (p : Place). section_at t.opened p.section) place in
+      let home : st.home ≡ current_section t.opened = ap (λ o. section_at o st.section) opened ∙ ap (λ (p : SectionOffset). section_at t.opened p.section) place in
       let before' : (current_section t.opened).executable ≡ false → offset ≤ (here t).offset =
-      λ e. subst (λ (p : Place). offset ≤ slice_index_or t.ends p.section 0) place (before (ap (λ (h : Section). h.executable) home ∙ e)) in
+      λ e. subst (λ (p : SectionOffset). offset ≤ slice_index_or t.ends p.section 0) place (before (ap (λ (h : Section). h.executable) home ∙ e)) in
       let fits' : (current_section t.opened).executable ≡ true → offset + code_size s.says ≤ longest_section = λ e. fits (ap (λ (h : Section). h.executable) home ∙ e) in
       subst (λ p. RoomyIn offset p (after t k s.says).opened) (sym place)
       (subst (λ o. RoomyIn offset (here t) o) (sym opened)
@@ -152,14 +152,14 @@ module _ (ss : List Spoken) (i : ℕ) (s : Spoken) (here_is : drop i ss ≡ s �
       multiples ((grows_after t k s.says).ends t.opened.current) fits' (sound_at ss i s (drop (i + 1) ss) here_is good)))
 
   module _ (ends : ℕ → ℕ) (low : (j : ℕ) → ends j ≤ longest_section) (left : HasRoomLeft ss i ends) where
-    -- whether the section of the statement is too long behind it
+    -- whether the section of the statement is too long after it
     abbrev full : Option ℕ
     full = if nat_lt longest_section (left.sizes st.section + code_size s.says) then Some 17 else None
 
-    parts : (full ≡ None) × (size_fault_from (grown_by left.sizes st.section (code_size s.says)) (drop (i + 1) (stated_from 1 1 at_start ss)) ≡ None)
+    parts : (full ≡ None) × (size_fault_from (grown_by left.sizes st.section (code_size s.says)) (drop (i + 1) (located_from 1 1 at_start ss)) ≡ None)
     parts =
         no_fault st.line full
-        (size_fault_from (grown_by left.sizes st.section (code_size s.says)) (drop (i + 1) (stated_from 1 1 at_start ss)))
+        (size_fault_from (grown_by left.sizes st.section (code_size s.says)) (drop (i + 1) (located_from 1 1 at_start ss)))
         (ap (size_fault_from left.sizes) (sym next) ∙ left.rest)
 
     fits : st.home.executable ≡ true → ends st.section + code_size s.says ≤ longest_section

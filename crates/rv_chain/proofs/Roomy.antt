@@ -8,12 +8,12 @@ use Rattle.std.specs.Prelude.{IfErr, Result, Ok, Err, not, flat_map, slice_index
 use Rattle.rv_text_laws.specs.Values.{Value, Constant, Symbolic, Difference, Faulty}
 use Rattle.rv_statement.specs.Statement.{Statement, Label, Numbered, Instruction, Directs, Expression, Directive, Sets, Aligns_to_power, Aligns_to_bytes, Values, Strings, Zeros}
 use Rattle.rv_unit_laws.specs.Sections.{Section, current_section}
-use Rattle.rv_unit_laws.specs.Tables.{Tables, here, value, aligned, asked, asked_power, asked_bytes, counted, or_none, within, padding, data_bytes, string_bytes, longest_section, after}
+use Rattle.rv_unit_laws.specs.Tables.{Tables, here, value, aligned, alignment_of, power_alignment, byte_alignment, counted, or_none, within, padding, data_bytes, string_bytes, longest_section, after}
 use Rattle.rv_unit_laws.specs.Faults.{faulty_if, size_faults, power_faults, bytes_faults, value_faults, code_alignment_faults, past_section, alignment_faults, directive_faults, faults}
 use Rattle.rv_unit_laws.proofs.Grown.{BeginsAt, IsGrown, puts, end_behind}
 use Rattle.rv_source_laws.specs.Fits.{is_constant, is_low}
 use Rattle.rv_chain_laws.specs.Refusals.{code_size}
-use Rattle.rv_source_laws.specs.Stated.{is_placed, is_placed_directive}
+use Rattle.rv_source_laws.specs.Located.{is_placed, is_placed_directive}
 use Rattle.rv_chain_laws.proofs.Held.{none_left, no_test}
 use Rattle.rv_link_laws.specs.Suits.{IsMultiple}
 use Rattle.rv_chain.specs.Sized.{IsPadded, IsSizedDirective}
@@ -50,7 +50,7 @@ not_false : (b : Bool) → not b ≡ false → b ≡ true
 not_false true e = refl
 not_false false e = absurd (cc)
 
--- so many bytes do not pass the longest section
+-- bytes that do not pass the longest section
 past_fits : (executable : Bool) (offset bytes : ℕ) → executable ≡ false → past_section executable offset bytes ≡ [] → offset + bytes ≤ longest_section
 past_fits true offset bytes e none = absurd (cc)
 past_fits false offset bytes e none =
@@ -71,19 +71,19 @@ a_count (Difference p q k) e = absurd (cc)
 a_count (Faulty c) e = absurd (cc)
 
 -- the constants of alignments
-a_power : (v : Value) → power_faults v ≡ [] → (n : ℕ) × (v ≡ Constant n)
+pub a_power : (v : Value) → power_faults v ≡ [] → (n : ℕ) × (v ≡ Constant n)
 a_power (Constant k) e = (k, refl)
 a_power (Symbolic p at k) e = absurd (cc)
 a_power (Difference p q k) e = absurd (cc)
 a_power (Faulty c) e = absurd (cc)
 
-a_multiple : (v : Value) → bytes_faults v ≡ [] → (n : ℕ) × (v ≡ Constant n)
+pub a_multiple : (v : Value) → bytes_faults v ≡ [] → (n : ℕ) × (v ≡ Constant n)
 a_multiple (Constant n) e = (n, refl)
 a_multiple (Symbolic p at k) e = absurd (cc)
 a_multiple (Difference p q k) e = absurd (cc)
 a_multiple (Faulty c) e = absurd (cc)
 
-low_code : (nobits : Bool) (alignment : Option ℕ) → code_alignment_faults nobits alignment ≡ [] → is_low alignment ≡ true
+pub low_code : (nobits : Bool) (alignment : Option ℕ) → code_alignment_faults nobits alignment ≡ [] → is_low alignment ≡ true
 low_code nobits None e = refl
 low_code nobits (Some n) e = not_false (nat_le n 2) (no_test (not (nat_le n 2)) (if nobits then 15 else 9) e)
 
@@ -97,7 +97,7 @@ aligned_more n x y some less =
     let quotient : a / n ≤ b / n = le-div (a / n) b n some (omega (arith, whole, less)) in
     mul-le-mul_right n quotient
 
--- behind fewer bytes the padding ends no later
+-- after fewer bytes the padding ends no later
 padding_more : (alignment : Option ℕ) (begins x y : ℕ) → BeginsAt alignment begins → x ≤ y → x + padding alignment x ≤ y + padding alignment y
 padding_more None begins x y h less = omega arith
 padding_more (Some n) begins x y (some, h) less = let more = aligned_more n x y some less in omega (arith, more)
@@ -200,15 +200,15 @@ module _ (all t : Tables) (k begins offset : ℕ) (low : offset ≤ longest_sect
       constant_is m n e = cc
 
   -- the padding of an alignment, by whether its section is one of code
-  padding_here : (b : Bool) → home.executable ≡ b → (alignment : Option ℕ) → (b ≡ false → BeginsAt alignment begins) → alignment_faults home (here t).offset alignment ≡ [] → CanPad b begins offset alignment
+  padding_here : (b : Bool) → home.executable ≡ b → (alignment : Option ℕ) → BeginsAt alignment begins → alignment_faults home (here t).offset alignment ≡ [] → CanPad b begins offset alignment
   padding_here true code alignment multiples none = low_code home.nobits alignment (sym (ap (λ c. if c then code_alignment_faults home.nobits alignment else past_section false (here t).offset (padding alignment (here t).offset)) code) ∙ none)
   padding_here false other alignment multiples none =
       let fits = padding_fits alignment other none in
-      let less = padding_more alignment begins offset (here t).offset (multiples refl) (before other) in
-      (multiple alignment begins (multiples refl), omega (arith, fits, less))
+      let less = padding_more alignment begins offset (here t).offset multiples (before other) in
+      (multiple alignment begins multiples, omega (arith, fits, less))
 
   -- what an alignment makes of its section
-  aligned_here : (d : Directive) (alignment : Option ℕ) → puts d ≡ true → (home.executable ≡ false → BeginsAt alignment begins) → alignment_faults home (here t).offset alignment ≡ []
+  aligned_here : (d : Directive) (alignment : Option ℕ) → puts d ≡ true → BeginsAt alignment begins → alignment_faults home (here t).offset alignment ≡ []
       → data_bytes first (here t).offset d ≡ within (here t).offset (padding alignment (here t).offset)
       → HasSizeDirective v home.executable begins offset d
       → ((n : ℕ) → IsSizedDirective v home.executable (stretch offset n) begins d → IsPadded home.executable (stretch offset n) begins alignment) → Here (Directs d)
@@ -226,42 +226,42 @@ module _ (all t : Tables) (k begins offset : ℕ) (low : offset ≤ longest_sect
       by true code = none_in_code (Directs d) size (λ n h. code_size_none home.executable n code (padded n h)) code
       by false other =
           let fits = padding_fits alignment other none in
-          let less = padding_more alignment begins offset (here t).offset (multiples other) (before other) in
+          let less = padding_more alignment begins offset (here t).offset multiples (before other) in
           let same = bytes ∙ within_fits (here t).offset (padding alignment (here t).offset) fits in
           put_here d other puts size (omega (arith, same, fits)) (λ n h. let f = data_size home.executable n other (padded n h) in omega (arith, f, less, same))
 
-  power_here : (e : Expression) → (home.executable ≡ false → BeginsAt (asked first (Aligns_to_power e)) begins) → directive_faults all t k (Aligns_to_power e) ≡ [] → Here (Directs (Aligns_to_power e))
+  power_here : (e : Expression) → BeginsAt (alignment_of first (Aligns_to_power e)) begins → directive_faults all t k (Aligns_to_power e) ≡ [] → Here (Directs (Aligns_to_power e))
   power_here e multiples none =
       let w = value all false k (here t) e in
-      let parts = none_left (power_faults w) (alignment_faults home (here t).offset (asked_power w)) none in
+      let parts = none_left (power_faults w) (alignment_faults home (here t).offset (power_alignment w)) none in
       let (n, is) = a_power w parts.0 in
-      let now : asked_power (v e) ≡ asked_power w = ap asked_power (whole e n is ∙ sym is) in
-      let sooner : asked_power (first e) ≡ asked_power w = ap asked_power (past e n is ∙ sym is) in
-      let multiples' : home.executable ≡ false → BeginsAt (asked_power (v e)) begins = λ o. subst (λ a. BeginsAt a begins) (sooner ∙ sym now) (multiples o) in
-      let none' : alignment_faults home (here t).offset (asked_power (v e)) ≡ [] = ap (alignment_faults home (here t).offset) now ∙ parts.1 in
-      aligned_here (Aligns_to_power e) (asked_power (v e)) refl multiples' none' (ap (λ a. within (here t).offset (padding a (here t).offset)) (sooner ∙ sym now))
-      (ap is_constant (whole e n is), padding_here home.executable refl (asked_power (v e)) multiples' none') (λ m h. h.1)
+      let now : power_alignment (v e) ≡ power_alignment w = ap power_alignment (whole e n is ∙ sym is) in
+      let sooner : power_alignment (first e) ≡ power_alignment w = ap power_alignment (past e n is ∙ sym is) in
+      let multiples' : BeginsAt (power_alignment (v e)) begins = subst (λ a. BeginsAt a begins) (sooner ∙ sym now) multiples in
+      let none' : alignment_faults home (here t).offset (power_alignment (v e)) ≡ [] = ap (alignment_faults home (here t).offset) now ∙ parts.1 in
+      aligned_here (Aligns_to_power e) (power_alignment (v e)) refl multiples' none' (ap (λ a. within (here t).offset (padding a (here t).offset)) (sooner ∙ sym now))
+      (ap is_constant (whole e n is), padding_here home.executable refl (power_alignment (v e)) multiples' none') (λ m h. h.1)
 
-  bytes_here : (e : Expression) → (home.executable ≡ false → BeginsAt (asked first (Aligns_to_bytes e)) begins) → directive_faults all t k (Aligns_to_bytes e) ≡ [] → Here (Directs (Aligns_to_bytes e))
+  bytes_here : (e : Expression) → BeginsAt (alignment_of first (Aligns_to_bytes e)) begins → directive_faults all t k (Aligns_to_bytes e) ≡ [] → Here (Directs (Aligns_to_bytes e))
   bytes_here e multiples none =
       let w = value all false k (here t) e in
-      let parts = none_left (bytes_faults w) (alignment_faults home (here t).offset (asked_bytes w)) none in
+      let parts = none_left (bytes_faults w) (alignment_faults home (here t).offset (byte_alignment w)) none in
       let (n, is) = a_multiple w parts.0 in
-      let now : asked_bytes (v e) ≡ asked_bytes w = ap asked_bytes (whole e n is ∙ sym is) in
-      let sooner : asked_bytes (first e) ≡ asked_bytes w = ap asked_bytes (past e n is ∙ sym is) in
-      let multiples' : home.executable ≡ false → BeginsAt (asked_bytes (v e)) begins = λ o. subst (λ a. BeginsAt a begins) (sooner ∙ sym now) (multiples o) in
-      let none' : alignment_faults home (here t).offset (asked_bytes (v e)) ≡ [] = ap (alignment_faults home (here t).offset) now ∙ parts.1 in
-      aligned_here (Aligns_to_bytes e) (asked_bytes (v e)) refl multiples' none' (ap (λ a. within (here t).offset (padding a (here t).offset)) (sooner ∙ sym now))
-      (ap is_constant (whole e n is), padding_here home.executable refl (asked_bytes (v e)) multiples' none') (λ m h. h.1)
+      let now : byte_alignment (v e) ≡ byte_alignment w = ap byte_alignment (whole e n is ∙ sym is) in
+      let sooner : byte_alignment (first e) ≡ byte_alignment w = ap byte_alignment (past e n is ∙ sym is) in
+      let multiples' : BeginsAt (byte_alignment (v e)) begins = subst (λ a. BeginsAt a begins) (sooner ∙ sym now) multiples in
+      let none' : alignment_faults home (here t).offset (byte_alignment (v e)) ≡ [] = ap (alignment_faults home (here t).offset) now ∙ parts.1 in
+      aligned_here (Aligns_to_bytes e) (byte_alignment (v e)) refl multiples' none' (ap (λ a. within (here t).offset (padding a (here t).offset)) (sooner ∙ sym now))
+      (ap is_constant (whole e n is), padding_here home.executable refl (byte_alignment (v e)) multiples' none') (λ m h. h.1)
 
-  directive_here : (d : Directive) → is_placed_directive t k d ≡ true → (home.executable ≡ false → puts d ≡ true → BeginsAt (asked first d) begins) → (here t).offset ≤ stop (Directs d)
+  directive_here : (d : Directive) → is_placed_directive t k d ≡ true → (puts d ≡ true → BeginsAt (alignment_of first d) begins) → (here t).offset ≤ stop (Directs d)
       → directive_faults all t k d ≡ [] → Here (Directs d)
   directive_here (Sets name e) placed multiples more none = none_here (Directs (Sets name e)) tt (λ n h. h) more
   directive_here (Values width values) placed multiples more none = values_here width values none
   directive_here (Strings ended strings) placed multiples more none = strings_here ended strings none
   directive_here (Zeros count) placed multiples more none = zeros_here count none
-  directive_here (Aligns_to_power e) placed multiples more none = power_here e (λ o. multiples o refl) none
-  directive_here (Aligns_to_bytes e) placed multiples more none = bytes_here e (λ o. multiples o refl) none
+  directive_here (Aligns_to_power e) placed multiples more none = power_here e (multiples refl) none
+  directive_here (Aligns_to_bytes e) placed multiples more none = bytes_here e (multiples refl) none
   directive_here _ placed multiples more none = absurd (cc)
 
   -- an instruction, where its section has room for it
@@ -274,7 +274,7 @@ module _ (all t : Tables) (k begins offset : ℕ) (low : offset ≤ longest_sect
     stored = λ e. true_false home.executable code e;
   }
 
-  pub statement_here : (says : Statement) → is_placed t k says ≡ true → ((d : Directive) → says ≡ Directs d → home.executable ≡ false → puts d ≡ true → BeginsAt (asked first d) begins)
+  pub statement_here : (says : Statement) → is_placed t k says ≡ true → ((d : Directive) → says ≡ Directs d → puts d ≡ true → BeginsAt (alignment_of first d) begins)
       → (here t).offset ≤ stop says → (home.executable ≡ true → offset + code_size says ≤ longest_section) → faults all t k says ≡ [] → Here says
   statement_here (Label name) placed multiples more fits none = none_here (Label name) tt (λ n h. h) more
   statement_here (Numbered number) placed multiples more fits none = none_here (Numbered number) tt (λ n h. h) more

@@ -4,8 +4,9 @@ use Rattle.std.proofs.Common.{◌≡◌, ℕ, ◌+◌, ◌==◌, nat_lt, Bool, t
 use Rattle.std.specs.Global.{Vec}
 use Rattle.rv_unit_laws.specs.Faults.{Fault, lowest, at_line}
 use Rattle.rv_unit_laws.specs.Tables.{Tables, longest_section}
-use Rattle.rv_source_laws.specs.Stated.{Stated}
-use Rattle.rv_chain_laws.specs.Refusals.{instruction_fault_from, size_fault_from, else_fault, grown, code_size, first_options, options_after, instruction_faults}
+use Rattle.rv_source_laws.specs.Located.{Located}
+use Rattle.rv_chain_laws.specs.Refusals.{instruction_fault_from, size_fault_from, else_fault, grown, code_size, instruction_faults}
+use Rattle.rv_source_laws.specs.Options.{first_options, options_after}
 use Rattle.rv_link_laws.specs.Suits.{code_said}
 use Rattle.rv_chain.specs.Choices.{options_of}
 use Rattle.rv_chain.specs.Code.{bytes_in, value_at, section_code, full_fault, full_at}
@@ -21,7 +22,7 @@ at_else line None other = refl
 at_else line (Some code) other = refl
 
 -- sizes that are the same have the same fault
-sizes_alike : (f g : ℕ → ℕ) (ss : List Stated) → ((j : ℕ) → f j ≡ g j) → size_fault_from f ss ≡ size_fault_from g ss
+sizes_alike : (f g : ℕ → ℕ) (ss : List Located) → ((j : ℕ) → f j ≡ g j) → size_fault_from f ss ≡ size_fault_from g ss
 sizes_alike f g [] e = refl
 sizes_alike f g (s ∷ ss) e =
     ap (λ n. at_line s.line (if nat_lt longest_section (n + code_size s.says) then Some 17 else None) (size_fault_from (grown f s.section (code_size s.says)) ss)) (e s.section)
@@ -36,11 +37,11 @@ grown_length false old more size e = refl
 same : (n : ℕ) → (n == n) ≡ true
 same n = search rules
 
-joined : (b : Bool) (old : List ℕ) (code : Stated → List ℕ) (s : Stated) (rest : List Stated) → (if b then old ++ code s else old) ++ flat_map code rest ≡ old ++ flat_map code (cond b (s ∷ rest) rest)
+joined : (b : Bool) (old : List ℕ) (code : Located → List ℕ) (s : Located) (rest : List Located) → (if b then old ++ code s else old) ++ flat_map code rest ≡ old ++ flat_map code (cond b (s ∷ rest) rest)
 joined true old code s rest = append_assoc old (code s) (flat_map code rest)
 joined false old code s rest = refl
 
-pub next_code : (t : Tables) (all : List Stated) (s : Stated) (next : List Stated) (old new : Coder) → IsCodeSoFar t all (s ∷ next) old → IsAdded old new s.section (value_at t s) (record { line = s.line; says = s.says }) → IsCodeSoFar t all next new
+pub next_code : (t : Tables) (all : List Located) (s : Located) (next : List Located) (old new : Coder) → IsCodeSoFar t all (s ∷ next) old → IsAdded old new s.section (value_at t s) (record { line = s.line; says = s.says }) → IsCodeSoFar t all next new
 next_code t all s next old new h a =
     let f = λ (j : ℕ). length (bytes_in old.sections.items j) in
     let g = λ (j : ℕ). length (bytes_in new.sections.items j) in
@@ -67,23 +68,23 @@ next_code t all s next old new h a =
     }
 
 -- the first faulty instruction is the next one
-pub wrong_code : (t : Tables) (all : List Stated) (s : Stated) (next : List Stated) (old : Coder) (code : ℕ) → IsCodeSoFar t all (s ∷ next) old → lowest (instruction_faults (options_of old.choices) (value_at t s) s.says) ≡ Some code → instruction_fault_from t first_options all ≡ Some (record { code = code; line = s.line })
+pub wrong_code : (t : Tables) (all : List Located) (s : Located) (next : List Located) (old : Coder) (code : ℕ) → IsCodeSoFar t all (s ∷ next) old → lowest (instruction_faults (options_of old.choices) (value_at t s) s.says) ≡ Some code → instruction_fault_from t first_options all ≡ Some (record { code = code; line = s.line })
 wrong_code t all s next old code h e =
     sym h.instructions ∙ ap (λ c. at_line s.line c (instruction_fault_from t (options_after (options_of old.choices) s.says) next)) e
 
--- behind the last statement the code is whole
-pub whole_code : (t : Tables) (all : List Stated) (c : Coder) → IsCodeSoFar t all [] c → (j : ℕ) → bytes_in c.sections.items j ≡ section_code t j all
+-- after the last statement the code is whole
+pub whole_code : (t : Tables) (all : List Located) (c : Coder) → IsCodeSoFar t all [] c → (j : ℕ) → bytes_in c.sections.items j ≡ section_code t j all
 whole_code t all c h j = sym (append-nil (bytes_in c.sections.items j)) ∙ h.bytes j
 
 else_none : (a : Option Fault) → else_fault a None ≡ a
 else_none None = refl
 else_none (Some f) = refl
 
-pub whole_sizes : (t : Tables) (all : List Stated) (c : Coder) → IsCodeSoFar t all [] c → size_fault_from (λ j. 0) all ≡ full_fault c.full
+pub whole_sizes : (t : Tables) (all : List Located) (c : Coder) → IsCodeSoFar t all [] c → size_fault_from (λ j. 0) all ≡ full_fault c.full
 whole_sizes t all c h = sym h.sizes ∙ else_none (full_fault c.full)
 
 -- before the first statement there is none
-pub begun : (t : Tables) (all : List Stated) (c : Coder) → options_of c.choices ≡ first_options → full_fault c.full ≡ None → ((j : ℕ) → bytes_in c.sections.items j ≡ []) → IsCodeSoFar t all all c
+pub begun : (t : Tables) (all : List Located) (c : Coder) → options_of c.choices ≡ first_options → full_fault c.full ≡ None → ((j : ℕ) → bytes_in c.sections.items j ≡ []) → IsCodeSoFar t all all c
 begun t all c o f e = record {
   instructions = ap (λ x. instruction_fault_from t x all) o;
   sizes =
@@ -92,7 +93,7 @@ begun t all c o f e = record {
   bytes = λ j. ap (λ x. x ++ section_code t j all) (e j);
 }
 
--- an empty section behind others
+-- an empty section after others
 pub empty_behind : (xs : List (Vec ℕ)) (x : Vec ℕ) (j : ℕ) → x.items ≡ [] → ((i : ℕ) → bytes_in xs i ≡ []) → bytes_in (xs ++ x ∷ []) j ≡ []
 empty_behind [] x zero e h = e
 empty_behind [] x (suc j) e h = refl

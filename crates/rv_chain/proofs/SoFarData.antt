@@ -10,19 +10,19 @@ use Rattle.rv_map.specs.Map.{Map, Global}
 use Rattle.rv_text_laws.specs.Values.{Value}
 use Rattle.rv_statement.specs.Statement.{Directs, Zeros, Values, Spoken, Expression}
 use Rattle.rv_unit_laws.specs.Sections.{Section, text_section, section_at, goes_to_rodata, goes_to_data}
-use Rattle.rv_unit_laws.specs.Tables.{Tables, Place as Standing, at_start, after, after_all, tables, stood, home as home_in, value as value_in_file}
+use Rattle.rv_unit_laws.specs.Tables.{Tables, SectionOffset as Standing, at_start, after, after_all, tables, stood, definition as home_in, value as value_in_file}
 use Rattle.rv_unit_laws.specs.Faults.{first_fault}
-use Rattle.rv_unit.specs.Sections.{place_of}
+use Rattle.rv_tables.specs.Sections.{offset_of}
 use Rattle.rv_unit.specs.Unit.{said, passed, IsFilled, IsScope}
-use Rattle.rv_source_laws.specs.Stated.{Stated, stated_now, stated_from}
-use Rattle.rv_source_laws.specs.Sites.{Program, Site, program, entries_of, sites_of, address_at, address_by, resolved, value, address, has_values}
-use Rattle.rv_source_laws.specs.Fits.{sites_in}
+use Rattle.rv_source_laws.specs.Located.{Located, located_now, located_from}
+use Rattle.rv_source_laws.specs.Program.{Program, Mapped, program, statements_of, mapped_of, address_at, address_by, resolved, value, address, has_values}
+use Rattle.rv_source_laws.specs.Fits.{mapped_in}
 use Rattle.rv_source_laws.specs.Start.{spelled, spelled_said}
 use Rattle.rv_chain_laws.proofs.Held.{Held, held_of}
-use Rattle.rv_link.specs.declared.rows.Item.{Item}
+use Rattle.rv_link_laws.specs.declared.item.Item.{Item}
 use Rattle.rv_link.specs.declared.numbers.Numbers.{Numbers}
 use Rattle.rv_link.specs.Numbers.{AreAddresses, AreOf, StandAt, IsNumber, Gives, Counts}
-use Rattle.rv_link.specs.Rows.{address_of}
+use Rattle.rv_link_laws.specs.Rows.{address_of}
 use Rattle.rv_link_laws.specs.Items.{entries_by, site_of, sites_by, nth_address}
 use Rattle.rv_link_laws.specs.Bytes.{HoldBytes, AreEach}
 use Rattle.rv_link_laws.proofs.Addresses.{addresses_are}
@@ -33,7 +33,7 @@ use Rattle.rv_chain.specs.DataSoFar.{IsLaid, IsDataTo, DataTo, sites_left}
 use Rattle.rv_chain.specs.Valued.{AreValued, GivesData, Spells, is_figure, is_filled}
 use Rattle.rv_chain.proofs.Figures.{all_told, valued_says}
 use Rattle.rv_chain.proofs.SoFarItems.{passed_next}
-use Rattle.rv_chain.proofs.Standing.{stated_at, stated_next, all_at}
+use Rattle.rv_chain.proofs.Standing.{located_at, stated_next, all_at}
 
 -- ---- before the first statement
 
@@ -51,8 +51,8 @@ pub data_begin : (ss : List Spoken) (starts : List ℕ) (is : List Item) (global
 data_begin ss starts is globals sections empty last m laid =
     let p = program (ss ∷ []) m in
     record {
-      bytes = λ j e. ap (λ l. l ++ flat_map (spelled p) (sites_in (sites_left starts ss is 0) 1 j)) (empty j)
-          ∙ ap (λ l. flat_map (spelled p) (sites_in l 1 j)) (sites_begin starts ss is);
+      bytes = λ j e. ap (λ l. l ++ flat_map (spelled p) (mapped_in (sites_left starts ss is 0) 1 j)) (empty j)
+          ∙ ap (λ l. flat_map (spelled p) (mapped_in l 1 j)) (sites_begin starts ss is);
       valued = valued_begin p starts ss is;
     }
 
@@ -60,7 +60,7 @@ data_begin ss starts is globals sections empty last m laid =
 
 abbrev SizedAt : Tables → ℕ → Tables → Spoken → Item → Type 0
 SizedAt all k t s x =
-    x.shown ≡ true → IsSized (λ e. value_at all (stated_now 1 k t s) e) (stated_now 1 k t s).home.executable x (slice_index_or all.alignments x.section 1) s.says
+    x.shown ≡ true → IsSized (λ e. value_at all (located_now 1 k t s) e) (located_now 1 k t s).home.executable x (slice_index_or all.alignments x.section 1) s.says
 
 sized_left : (all : Tables) (k i : ℕ) (t : Tables) (ss : List Spoken) (is : List Item) (s : Spoken) (rest : List Spoken) (x : Item) (more : List Item)
     → AreSized all k t ss is → drop i ss ≡ s ∷ rest → drop i is ≡ x ∷ more → SizedAt all (i + k) (after_all t k (take i ss)) s x
@@ -77,11 +77,11 @@ sized_left all k (suc i) t (y ∷ ys) (z ∷ zs) s rest x more h e g =
     let n : i + suc k ≡ suc i + k = omega arith in
     subst (λ n. SizedAt all n (after_all (after t k y.says) (suc k) (take i ys)) s x) n (sized_left all (suc k) i (after t k y.says) ys zs s rest x more h.1 e g)
 
-held_left : (ss : List Spoken) (i : ℕ) (s : Spoken) → first_fault ss ≡ None → drop i ss ≡ s ∷ drop (i + 1) ss → Held (stated_at ss i s)
+held_left : (ss : List Spoken) (i : ℕ) (s : Spoken) → first_fault ss ≡ None → drop i ss ≡ s ∷ drop (i + 1) ss → Held (located_at ss i s)
 held_left ss i s good here =
-    let all = stated_from 1 1 at_start ss in
+    let all = located_from 1 1 at_start ss in
     let held : AllByRecursion Held all = subst (λ l. AllByRecursion Held l) (append-nil all) (held_of 1 (ss ∷ []) (good, tt)) in
-    all_at Held all i (stated_at ss i s) (drop (i + 1) all) (stated_next ss i s (drop (i + 1) ss) here) held
+    all_at Held all i (located_at ss i s) (drop (i + 1) all) (stated_next ss i s (drop (i + 1) ss) here) held
 
 -- ---- where statements stand
 
@@ -97,16 +97,16 @@ module _ (ss : List Spoken) (starts : List ℕ) (is : List Item) (globals : List
   abbrev p : Program
   p = program (ss ∷ []) m
 
-  entries : p.entries ≡ entries_by starts 1 at_start ss is
-  entries = ap (λ r. entries_of (stated_from 1 1 at_start ss ++ []) r) laid.rows ∙ entries_are starts 1 at_start (λ j. 0) last ss is laid.items
+  statements : p.statements ≡ entries_by starts 1 at_start ss is
+  statements = ap (λ r. statements_of (located_from 1 1 at_start ss ++ []) r) laid.rows ∙ entries_are starts 1 at_start (λ j. 0) last ss is laid.items
 
-  pub sites : p.sites ≡ sites_by starts 1 at_start ss is
-  sites = ap (λ e. sites_of e) entries ∙ sites_are starts 1 at_start ss is
+  pub mapped : p.mapped ≡ sites_by starts 1 at_start ss is
+  mapped = ap (λ e. mapped_of e) statements ∙ sites_are starts 1 at_start ss is
 
-  pub stand : StandAt starts is p.entries 1
+  pub stand : StandAt starts is p.statements 1
   stand index x got shown =
       let n : index + 1 ≡ 1 + index = omega arith in
-      ap (λ es. address_at es 1 (index + 1)) entries
+      ap (λ es. address_at es 1 (index + 1)) statements
       ∙ ap (λ n. address_at (entries_by starts 1 at_start ss is) 1 n) n
       ∙ addresses_are starts index 1 at_start (λ j. 0) last ss is laid.items ∙ nth_is starts is index x got shown
 
@@ -140,45 +140,45 @@ pub record IsNumbering (ss : List Spoken) (starts : List ℕ) (is : List Item) (
   pub begins : n.starts.now ≡ starts
   pub parts : n.items.now ≡ is
   pub names : AreAddresses n.addresses.now.names globals
-  pub stands : place_of n.place ≡ stood (passed ss i) (i + 1) s.says
+  pub stands : offset_of n.place ≡ stood (passed ss i) (i + 1) s.says
 
 -- the statement at an index, with its item, adds to the sections
 pub record IsPut (ss : List Spoken) (is : List Item) (i : ℕ) (s : Spoken) (x : Item) (n : Numbers) (old new : List (Vec ℕ)) : Type 0 where
   pub here : drop i ss ≡ s ∷ drop (i + 1) ss
   pub item : drop i is ≡ x ∷ drop (i + 1) is
-  pub home : slice_get (tables ss).opened.sections (stated_at ss i s).section ≡ Some (stated_at ss i s).home
+  pub home : slice_get (tables ss).opened.sections (located_at ss i s).section ≡ Some (located_at ss i s).home
   pub wide : (w : ℕ) (vs : List Expression) → s.says ≡ Directs (Values w vs) → 0 < w
-  pub put : is_figure x (stated_at ss i s).home ≡ true → Spells n s.says x.bytes old new n.place.section
-  pub left : is_figure x (stated_at ss i s).home ≡ false → new ≡ old
+  pub put : is_figure x (located_at ss i s).home ≡ true → Spells n s.says x.bytes old new n.place.section
+  pub left : is_figure x (located_at ss i s).home ≡ false → new ≡ old
 
 module _ (ss : List Spoken) (starts : List ℕ) (is : List Item) (globals : List Global) (last : ℕ → ℕ) (m : Map) (laid : IsLaid ss starts is globals last m)
     (i : ℕ) (s : Spoken) (x : Item) (n : Numbers) (old new : List (Vec ℕ)) (numbering : IsNumbering ss starts is globals i s n) (h : IsPut ss is i s x n old new) where
   abbrev q : Program
   q = program (ss ∷ []) m
 
-  abbrev st : Stated
-  st = stated_at ss i s
+  abbrev st : Located
+  st = located_at ss i s
 
-  abbrev site : Site
+  abbrev site : Mapped
   site = site_of starts (i + 1) (passed ss i) s x
 
   abbrev or_else : ℕ → Expression → ℕ
   or_else d e = unwrap_or (value q site e) d
 
-  areof : AreOf n i q.entries q.map.globals 1
+  areof : AreOf n i q.statements q.map.globals 1
   areof = record {
     filled = numbering.filled;
     scope = numbering.scope;
-    own = subst (λ a. StandAt a n.items.now q.entries 1) (sym numbering.begins)
-        (subst (λ b. StandAt starts b q.entries 1) (sym numbering.parts) (stand ss starts is globals last m laid));
+    own = subst (λ a. StandAt a n.items.now q.statements 1) (sym numbering.begins)
+        (subst (λ b. StandAt starts b q.statements 1) (sym numbering.parts) (stand ss starts is globals last m laid));
     others = subst (λ g. AreAddresses n.addresses.now.names g) (sym laid.names) numbering.names;
   }
 
   number_is : (e : Expression) (k : ℕ) → IsNumber n e k → value q site e ≡ Some k
   number_is e k told =
-      subst (λ (r : Standing). resolved (λ a. address_by q.entries q.map.globals 1 a (home_in (tables ss) (i + 1) a)) (value_in_file (tables ss) true (i + 1) r e) ≡ Some k) numbering.stands
-      (subst (λ l. resolved (λ a. address_by q.entries q.map.globals 1 a (home_in (tables l) (i + 1) a)) (value_in_file (tables l) true (i + 1) (place_of n.place) e) ≡ Some k) numbering.source
-      (told i q.entries q.map.globals 1 areof))
+      subst (λ (r : Standing). resolved (λ a. address_by q.statements q.map.globals 1 a (home_in (tables ss) (i + 1) a)) (value_in_file (tables ss) true (i + 1) r e) ≡ Some k) numbering.stands
+      (subst (λ l. resolved (λ a. address_by q.statements q.map.globals 1 a (home_in (tables l) (i + 1) a)) (value_in_file (tables l) true (i + 1) (offset_of n.place) e) ≡ Some k) numbering.source
+      (told i q.statements q.map.globals 1 areof))
 
   gives : (d : ℕ) → Gives n (or_else d)
   gives d e k told = ap (λ o. unwrap_or o d) (number_is e k told)
@@ -214,7 +214,7 @@ module _ (ss : List Spoken) (starts : List ℕ) (is : List Item) (globals : List
   grown_at j true true false eb ec ef here = let other : is_filled st.home ≡ true = filled_at j ec here in absurd (cc)
   grown_at j false c f eb ec ef here = ap (λ l. bytes_in l j) (h.left (ap (λ b. b && is_filled st.home) eb))
 
-  abbrev more : List Site
+  abbrev more : List Mapped
   more = sites_left starts ss is (i + 1)
 
   sites_next : sites_left starts ss is i ≡ (if x.shown then site ∷ more else more)
@@ -226,20 +226,20 @@ module _ (ss : List Spoken) (starts : List ℕ) (is : List Item) (globals : List
       ∙ ap (λ t. let rest = sites_by starts (i + 1 + 1) t (drop (i + 1) ss) (drop (i + 1) is) in if x.shown then site ∷ rest else rest) (sym (passed_next ss i s (drop (i + 1) ss) h.here))
 
   joined_at : (j : ℕ) (b c : Bool) (first next : List ℕ) → (st.section == j) ≡ c → next ≡ (if b && c then first ++ spelled q site else first)
-      → next ++ flat_map (spelled q) (sites_in more 1 j) ≡ first ++ flat_map (spelled q) (sites_in (if b then site ∷ more else more) 1 j)
+      → next ++ flat_map (spelled q) (mapped_in more 1 j) ≡ first ++ flat_map (spelled q) (mapped_in (if b then site ∷ more else more) 1 j)
   joined_at j true true first next e is =
-      ap (λ l. l ++ flat_map (spelled q) (sites_in more 1 j)) is ∙ append_assoc first (spelled q site) (flat_map (spelled q) (sites_in more 1 j))
-      ∙ ap (λ b. first ++ flat_map (spelled q) (if b then site ∷ sites_in more 1 j else sites_in more 1 j)) (sym e)
+      ap (λ l. l ++ flat_map (spelled q) (mapped_in more 1 j)) is ∙ append_assoc first (spelled q site) (flat_map (spelled q) (mapped_in more 1 j))
+      ∙ ap (λ b. first ++ flat_map (spelled q) (if b then site ∷ mapped_in more 1 j else mapped_in more 1 j)) (sym e)
   joined_at j true false first next e is =
-      ap (λ l. l ++ flat_map (spelled q) (sites_in more 1 j)) is
-      ∙ ap (λ b. first ++ flat_map (spelled q) (if b then site ∷ sites_in more 1 j else sites_in more 1 j)) (sym e)
-  joined_at j false c first next e is = ap (λ l. l ++ flat_map (spelled q) (sites_in more 1 j)) is
+      ap (λ l. l ++ flat_map (spelled q) (mapped_in more 1 j)) is
+      ∙ ap (λ b. first ++ flat_map (spelled q) (if b then site ∷ mapped_in more 1 j else mapped_in more 1 j)) (sym e)
+  joined_at j false c first next e is = ap (λ l. l ++ flat_map (spelled q) (mapped_in more 1 j)) is
 
   bytes_more : (j : ℕ) → is_filled (section_at (tables ss).opened j) ≡ true
-      → bytes_in new j ++ flat_map (spelled q) (sites_in more 1 j) ≡ bytes_in old j ++ flat_map (spelled q) (sites_in (sites_left starts ss is i) 1 j)
+      → bytes_in new j ++ flat_map (spelled q) (mapped_in more 1 j) ≡ bytes_in old j ++ flat_map (spelled q) (mapped_in (sites_left starts ss is i) 1 j)
   bytes_more j here =
       joined_at j x.shown (st.section == j) (bytes_in old j) (bytes_in new j) refl (grown_at j x.shown (st.section == j) (is_filled st.home) refl refl refl here)
-      ∙ ap (λ l. bytes_in old j ++ flat_map (spelled q) (sites_in l 1 j)) (sym sites_next)
+      ∙ ap (λ l. bytes_in old j ++ flat_map (spelled q) (mapped_in l 1 j)) (sym sites_next)
 
   -- ---- the values of the statement
 
@@ -277,7 +277,7 @@ data_more ss starts is globals i s x n old new good numbering put so_far last m 
   valued = λ rest. (so_far last m laid).valued (valued_more ss starts is globals last m laid i s x n old new numbering put good rest);
 }
 
--- ---- behind the last statement
+-- ---- after the last statement
 
 figure_is : (xs : List (Vec ℕ)) (j : ℕ) → slice_index_or (map (λ b. b.items) xs) j [] ≡ bytes_in xs j
 figure_is [] zero = refl
@@ -312,15 +312,15 @@ filled_variable home e = go home.loaded home.executable home.nobits home.writabl
 module _ (ss : List Spoken) (starts : List ℕ) (is : List Item) (globals : List Global) (last : ℕ → ℕ) (m : Map) (laid : IsLaid ss starts is globals last m)
     (i : ℕ) (sections : List (Vec ℕ)) (none : drop i ss ≡ []) (whole : IsDataTo (program (ss ∷ []) m) starts ss is i sections) where
   held_by : (goes : Section → Bool) → ((home : Section) → goes home ≡ true → is_filled home ≡ true)
-      → HoldBytes (program (ss ∷ []) m).sites goes (spelled (program (ss ∷ []) m)) 0 (tables ss).opened.sections (map (λ b. b.items) sections)
+      → HoldBytes (program (ss ∷ []) m).mapped goes (spelled (program (ss ∷ []) m)) 0 (tables ss).opened.sections (map (λ b. b.items) sections)
   held_by goes filled j e =
       let r = program (ss ∷ []) m in
       let at : j ≡ 0 + j = omega arith in
       figure_is sections j ∙ sym (append-nil (bytes_in sections j))
-      ∙ ap (λ l. bytes_in sections j ++ flat_map (spelled r) (sites_in (sites_by starts (i + 1) (passed ss i) l (drop i is)) 1 j)) (sym none)
+      ∙ ap (λ l. bytes_in sections j ++ flat_map (spelled r) (mapped_in (sites_by starts (i + 1) (passed ss i) l (drop i is)) 1 j)) (sym none)
       ∙ whole.bytes j (filled (slice_index_or (tables ss).opened.sections j text_section) e)
-      ∙ ap (λ l. flat_map (spelled r) (sites_in l 1 j)) (sym (sites ss starts is globals last m laid))
-      ∙ ap (λ k. flat_map (spelled r) (sites_in r.sites 1 k)) at
+      ∙ ap (λ l. flat_map (spelled r) (mapped_in l 1 j)) (sym (mapped ss starts is globals last m laid))
+      ∙ ap (λ k. flat_map (spelled r) (mapped_in r.mapped 1 k)) at
 
   all_valued : AreValued (program (ss ∷ []) m) starts 1 at_start ss is
   all_valued = whole.valued (subst (λ l. AreValued (program (ss ∷ []) m) starts (i + 1) (passed ss i) l (drop i is)) (sym none) tt)

@@ -5,12 +5,12 @@ use Rattle.std.specs.Prelude.{if◌then◌else◌, ◌==◌}
 use Rattle.rv_statement.specs.Statement.{Spoken}
 use Rattle.rv_unit_laws.specs.Tables.{Tables, at_start, after, after_all}
 use Rattle.rv_unit.specs.Unit.{passed}
-use Rattle.rv_source_laws.specs.Stated.{Stated, stated_now}
-use Rattle.rv_link.specs.declared.rows.Item.{Item}
+use Rattle.rv_source_laws.specs.Located.{Located, located_now}
+use Rattle.rv_link_laws.specs.declared.item.Item.{Item}
 use Rattle.rv_link_laws.specs.Items.{IsItem, AreItems, grown}
-use Rattle.rv_chain.proofs.Standing.{stated_at}
+use Rattle.rv_chain.proofs.Standing.{located_at}
 
--- the tables behind one statement more
+-- the tables after one statement more
 passed_left : (k : ℕ) (t : Tables) (ss : List Spoken) (i : ℕ) (s : Spoken) (rest : List Spoken) → drop i ss ≡ s ∷ rest → after_all t k (take (suc i) ss) ≡ after (after_all t k (take i ss)) (i + k) s.says
 passed_left k t [] zero s rest e = absurd (cc)
 passed_left k t [] (suc i) s rest e = absurd (cc)
@@ -22,7 +22,7 @@ passed_left k t (x ∷ xs) (suc i) s rest e =
 pub passed_next : (ss : List Spoken) (i : ℕ) (s : Spoken) (rest : List Spoken) → drop i ss ≡ s ∷ rest → passed ss (i + 1) ≡ after (passed ss i) (i + 1) s.says
 passed_next ss i s rest e = ap (λ n. passed ss n) (let f : i + 1 ≡ suc i = omega arith in f) ∙ passed_left 1 at_start ss i s rest e
 
-item_alike : (s : Stated) (f g : ℕ → ℕ) (x : Item) → ((j : ℕ) → f j ≡ g j) → IsItem s f x → IsItem s g x
+item_alike : (s : Located) (f g : ℕ → ℕ) (x : Item) → ((j : ℕ) → f j ≡ g j) → IsItem s f x → IsItem s g x
 item_alike s f g x same h = record { section = h.section; offset = h.offset ∙ same s.section; line = h.line; shown = h.shown; text = h.text; absent = h.absent }
 
 -- the same bytes before them make the same items
@@ -31,7 +31,7 @@ items_alike o t f g [] [] last same h = λ j. h j ∙ same j
 items_alike o t f g [] (x ∷ is) last same h = h
 items_alike o t f g (s ∷ ss) [] last same h = h
 items_alike o t f g (s ∷ ss) (x ∷ is) last same h = (
-  item_alike (stated_now 1 o t s) f g x same h.0,
+  item_alike (located_now 1 o t s) f g x same h.0,
   items_alike (suc o) (after t o s.says) (grown f x) (grown g x) ss is last (λ j. ap (λ n. if j == x.section then n + x.bytes else n) (same j)) h.1,
 )
 
@@ -45,7 +45,7 @@ items_begin [] before zeros rest last h = items_alike 1 at_start before (λ j. 0
 items_begin (s ∷ ss) before zeros rest last h = items_alike 1 at_start before (λ j. 0) (s ∷ ss) rest last zeros h
 
 pub items_more : (ss : List Spoken) (i : ℕ) (s : Spoken) (before behind : ℕ → ℕ) (so_far : List Item) (x : Item) → drop i ss ≡ s ∷ drop (i + 1) ss
-    → IsItem (stated_at ss i s) before x → ((j : ℕ) → behind j ≡ grown before x j)
+    → IsItem (located_at ss i s) before x → ((j : ℕ) → behind j ≡ grown before x j)
     → AreItemsSoFar ss i before so_far → AreItemsSoFar ss (i + 1) behind (so_far ++ x ∷ [])
 items_more ss i s before behind so_far x here one grows h rest last more =
     let same = passed_next ss i s (drop (i + 1) ss) here in

@@ -4,9 +4,9 @@ use Rattle.std.proofs.Common.{◌≡◌, ℕ, zero, suc, ◌+◌, ◌<◌, List,
 use Rattle.std.specs.Prelude.{slice_index, slice_index_or}
 use Rattle.std.proofs.lemmas.List.{drop_more}
 use Rattle.rv_unit_laws.specs.Tables.{Tables}
-use Rattle.rv_unit.specs.declared.section.Extent.{Extent}
-use Rattle.rv_unit.specs.Sections.{extent_section}
-use Rattle.rv_link.specs.declared.piece.Piece.{Piece}
+use Rattle.rv_tables.specs.declared.section.Extent.{Extent}
+use Rattle.rv_tables.specs.Sections.{extent_section}
+use Rattle.rv_link_laws.specs.declared.piece.Piece.{Piece}
 use Rattle.rv_link_laws.specs.Pieces.{IsPiece, ArePieces, destination_of}
 use Rattle.rv_chain.specs.Pieces.{AreAllPieces, fewest}
 

@@ -5,10 +5,10 @@ use Rattle.std.specs.Prelude.{slice_index_or}
 use Rattle.rv_statement.specs.Statement.{Spoken}
 use Rattle.rv_unit_laws.specs.Tables.{Tables, at_start, after}
 use Rattle.rv_unit.specs.Unit.{passed}
-use Rattle.rv_link.specs.declared.rows.Item.{Item}
+use Rattle.rv_link_laws.specs.declared.item.Item.{Item}
 use Rattle.rv_chain.specs.Code.{value_at}
 use Rattle.rv_chain.specs.Sized.{IsSized, AreSized}
-use Rattle.rv_chain.proofs.Standing.{stated_at}
+use Rattle.rv_chain.proofs.Standing.{located_at}
 use Rattle.rv_chain.proofs.SoFarItems.{passed_next}
 
 -- the sizes of the items so far, with those of what is left, are those of all items
@@ -23,7 +23,7 @@ sized_begin all (s ∷ ss) rest h = h
 -- the item of a statement has its size where it has a row
 abbrev pub IsSizedAt : Tables → List Spoken → ℕ → Spoken → Item → Type 0
 IsSizedAt all ss i s x =
-    x.shown ≡ true → IsSized (λ e. value_at all (stated_at ss i s) e) (stated_at ss i s).home.executable x (slice_index_or all.alignments x.section 1) s.says
+    x.shown ≡ true → IsSized (λ e. value_at all (located_at ss i s) e) (located_at ss i s).home.executable x (slice_index_or all.alignments x.section 1) s.says
 
 pub sized_more : (all : Tables) (ss : List Spoken) (i : ℕ) (s : Spoken) (so_far : List Item) (x : Item) → drop i ss ≡ s ∷ drop (i + 1) ss
     → IsSizedAt all ss i s x → AreSizedSoFar all ss i so_far → AreSizedSoFar all ss (i + 1) (so_far ++ x ∷ [])

@@ -2,25 +2,29 @@
 
 use Rattle.std.proofs.Common.{◌≡◌, ℕ, zero, suc, ◌+◌, ◌*◌, ◌/◌, ◌-◌, ◌%◌, ◌<◌, Bool, true, false, List, [], ◌∷◌, max, Option, Some, None, add-zero, refl, sym, ap, ◌∙◌, subst, arith}
 use Rattle.std.proofs.Math.Nat.{mul-mod_left, mul_assoc}
-use Rattle.std.proofs.lemmas.Nat.{div-add-mod'}
+use Rattle.std.proofs.lemmas.Nat.{div-add-mod', pow_pos}
 use Rattle.std.specs.Prelude.{◌&&◌, if◌then◌else◌, slice_index, slice_index_or, slice_get}
 use Rattle.rv_statement.specs.Statement.{Spoken}
 use Rattle.rv_unit_laws.specs.Sections.{Section}
 use Rattle.rv_unit_laws.specs.Tables.{Tables, tables, aligned}
+use Rattle.rv_unit_laws.proofs.Grown.{grown_all}
 use Rattle.rv_source_laws.specs.Fits.{begins_at}
-use Rattle.rv_link.specs.declared.layout.Layout.{Layout}
-use Rattle.rv_link.specs.declared.piece.Destination.{Destination}
-use Rattle.rv_link.specs.declared.piece.Destination.TheVariants.{Rodata, Data, Bss, Nowhere}
-use Rattle.rv_link.specs.declared.piece.Piece.{Piece}
-use Rattle.rv_link.specs.Destination.{is_bound_for}
-use Rattle.rv_link.specs.Layout.{IsLayout, starts_of, goes, end_behind}
+use Rattle.rv_link_laws.specs.declared.layout.Layout.{Layout}
+use Rattle.rv_link_laws.specs.declared.piece.Destination.{Destination}
+use Rattle.rv_link_laws.specs.declared.piece.Destination.TheVariants.{Rodata, Data, Bss, NotLoaded}
+use Rattle.rv_link_laws.specs.declared.piece.Piece.{Piece}
+use Rattle.rv_link_laws.specs.Destination.{is_bound_for}
+use Rattle.rv_link_laws.specs.Layout.{IsLayout, starts_of, goes, end_behind}
 use Rattle.rv_link_laws.specs.Laws.{start_of}
 use Rattle.rv_link_laws.specs.Pieces.{ArePieces, goes_to}
 use Rattle.rv_link_laws.specs.Suits.{IsMultiple}
 use Rattle.rv_link_laws.proofs.Spread.{bound_for, Stands, all_stand}
-use Rattle.rv_chain.proofs.Begins.{asks_some}
 
--- the least aligned place behind some end
+-- each section asks to begin at a multiple of one or more
+asks_some : (ss : List Spoken) (j : ℕ) → 0 < slice_index_or (tables ss).alignments j 1
+asks_some ss j = let (power, is) = (grown_all 1 ss).powers j in subst (λ n. 0 < n) (sym is) (pow_pos power)
+
+-- the least aligned place after some end
 abbrev IsBehind : ℕ → ℕ → Type 0
 IsBehind alignment start = (stop : ℕ) × (start ≡ aligned alignment stop)
 
@@ -57,7 +61,7 @@ multiple_behind (Some b) a stop (some, h) = (some, multiple_of b a ((stop + (a -
 
 -- data that are loaded go to one of three regions
 abbrev Region : Section → Type 0
-Region home = (to : Destination) × (is_bound_for to Nowhere ≡ false) × (goes_to to home ≡ true)
+Region home = (to : Destination) × (is_bound_for to NotLoaded ≡ false) × (goes_to to home ≡ true)
 
 region_by : (l x n w : Bool) (name : List ℕ) → l ≡ true → x ≡ false → Region (record { name = name; loaded = l; executable = x; writable = w; nobits = n })
 region_by true true n w name e f = absurd (cc)

@@ -10,10 +10,11 @@ use Rattle.rv_statement.specs.declared.statement.Operation.TheVariants as operat
 use Rattle.rv_statement.specs.declared.statement.Plain.{Plain}
 use Rattle.rv_statement.specs.declared.statement.Plain.TheVariants as plains
 use Rattle.rv_unit_laws.specs.Faults.{faulty_if}
-use Rattle.rv_chain_laws.specs.Refusals.{Options, instruction_faults, operand_faults, code_size}
+use Rattle.rv_chain_laws.specs.Refusals.{instruction_faults, operand_faults, code_size}
+use Rattle.rv_source_laws.specs.Options.{Options}
 use Rattle.rv_link_laws.specs.Suits.{constant_in}
 use Rattle.rv_chain.specs.Code.{instruction_by, mnemonic_of, numbered, IsBuilt}
-use Rattle.rv_text.specs.declared.fault.SourceFault.{SourceFault}
+use Rattle.rv_lexer.specs.declared.fault.SourceFault.{SourceFault}
 
 pub plain_faults : (p : Plain) (o : Options) (v : Expression → values.Value) → instruction_faults o v (plain_of p) ≡ faulty_if o.rvc 9 ++ []
 plain_faults plains.Ecall o v = refl

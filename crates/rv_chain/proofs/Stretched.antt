@@ -3,8 +3,8 @@
 use Rattle.std.proofs.Common.{◌≡◌, ℕ, Bool, true, false, Option}
 use Rattle.rv_text_laws.specs.Values.{Value}
 use Rattle.rv_statement.specs.Statement.{Statement, Label, Numbered, Instruction, Directs, Expression, Directive, Enters, Opens, Globl, Local, Sets, Aligns_to_power, Aligns_to_bytes, Values, Strings, Zeros, Chooses, Ignored}
-use Rattle.rv_unit_laws.specs.Tables.{asked}
-use Rattle.rv_link.specs.declared.rows.Item.{Item}
+use Rattle.rv_unit_laws.specs.Tables.{alignment_of}
+use Rattle.rv_link_laws.specs.declared.item.Item.{Item}
 use Rattle.rv_chain.specs.Measured.{IsSize, is_executed, stretch}
 use Rattle.rv_chain.specs.Sized.{IsPadded, IsSizedDirective, IsSized}
 
@@ -17,8 +17,8 @@ sized_directive v b x begins (Sets name e) h = h
 sized_directive v b x begins (Values width values) h = h
 sized_directive v b x begins (Strings ended strings) h = h
 sized_directive v b x begins (Zeros count) h = h
-sized_directive v b x begins (Aligns_to_power e) h = (h.0, padded b x begins (asked v (Aligns_to_power e)) h.1)
-sized_directive v b x begins (Aligns_to_bytes e) h = (h.0, padded b x begins (asked v (Aligns_to_bytes e)) h.1)
+sized_directive v b x begins (Aligns_to_power e) h = (h.0, padded b x begins (alignment_of v (Aligns_to_power e)) h.1)
+sized_directive v b x begins (Aligns_to_bytes e) h = (h.0, padded b x begins (alignment_of v (Aligns_to_bytes e)) h.1)
 sized_directive v b x begins (Enters standard) h = h
 sized_directive v b x begins (Opens name flags kind) h = h
 sized_directive v b x begins (Globl names) h = h

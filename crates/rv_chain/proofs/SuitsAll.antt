@@ -7,18 +7,18 @@ use Rattle.std.specs.List.{AllByRecursion}
 use Rattle.rv_text_laws.specs.Values.{Value}
 use Rattle.rv_statement.specs.Statement.{Statement, Label, Numbered, Instruction, Directs, Spoken, Expression, Directive, Sets, Aligns_to_power, Aligns_to_bytes, Values, Strings, Zeros}
 use Rattle.rv_unit_laws.specs.Sections.{Section, text_section}
-use Rattle.rv_unit_laws.specs.Tables.{Tables, at_start, after, tables, asked}
+use Rattle.rv_unit_laws.specs.Tables.{Tables, at_start, after, tables, alignment_of}
 use Rattle.rv_unit_laws.specs.Faults.{first_fault}
 use Rattle.rv_map.specs.Map.{Map}
-use Rattle.rv_source_laws.specs.Stated.{Stated, stated_now, stated_from, is_placed}
-use Rattle.rv_source_laws.specs.Sites.{Program, program, form, has_values}
+use Rattle.rv_source_laws.specs.Located.{Located, located_now, located_from, is_placed}
+use Rattle.rv_source_laws.specs.Program.{Program, program, form, has_values}
 use Rattle.rv_chain_laws.proofs.Held.{DirectiveHeld, IsHeld, Held, held_of}
 use Rattle.rv_chain_laws.proofs.Homes.{IsHomeIn, homes_from}
-use Rattle.rv_link.specs.declared.rows.Item.{Item}
-use Rattle.rv_link.specs.declared.layout.Layout.{Layout}
-use Rattle.rv_link.specs.declared.piece.Piece.{Piece}
-use Rattle.rv_link.specs.Layout.{IsLayout}
-use Rattle.rv_link.specs.Rows.{row_of}
+use Rattle.rv_link_laws.specs.declared.item.Item.{Item}
+use Rattle.rv_link_laws.specs.declared.layout.Layout.{Layout}
+use Rattle.rv_link_laws.specs.declared.piece.Piece.{Piece}
+use Rattle.rv_link_laws.specs.Layout.{IsLayout}
+use Rattle.rv_link_laws.specs.Rows.{row_of}
 use Rattle.rv_link_laws.specs.Items.{AreItems, AllSuit, grown, site_of}
 use Rattle.rv_link_laws.specs.Pieces.{ArePieces}
 use Rattle.rv_link_laws.specs.Suits.{IsMultiple, SuitsPadding, SuitsAlignment, SuitsDirective, Suits}
@@ -57,8 +57,8 @@ module _ (k : ℕ) (t : Tables) (starts : List ℕ) (i : Item) (v : Expression �
   directive_suits (Values width values) placed held none bytes = (executed_none i.executed none, is_valued held.0, bytes)
   directive_suits (Strings ended strings) placed held none bytes = (executed_none i.executed none, bytes)
   directive_suits (Zeros count) placed held none is = (executed_none i.executed none, is)
-  directive_suits (Aligns_to_power e) placed held none h = alignment_suits e (asked v (Aligns_to_power e)) none h
-  directive_suits (Aligns_to_bytes e) placed held none h = alignment_suits e (asked v (Aligns_to_bytes e)) none h
+  directive_suits (Aligns_to_power e) placed held none h = alignment_suits e (alignment_of v (Aligns_to_power e)) none h
+  directive_suits (Aligns_to_bytes e) placed held none h = alignment_suits e (alignment_of v (Aligns_to_bytes e)) none h
   directive_suits _ placed held none h = absurd (cc)
 
   statement_suits : (says : Statement) → is_placed t k says ≡ true → IsHeld home says → IsSized v home.executable i asks says → IsCoded v says
@@ -83,20 +83,20 @@ module _ (ss : List Spoken) (m : Map) (starts : List ℕ) where
       (j : ℕ) (home : Section) → slice_get all.opened.sections j ≡ Some home → home.loaded ≡ true → home.executable ≡ false
       → (alignment : Option ℕ) → IsMultiple alignment (slice_index_or all.alignments j 1) → IsMultiple alignment (slice_index starts j)
 
-  abbrev CodedHere : Stated → Type 0
+  abbrev CodedHere : Located → Type 0
   CodedHere s = IsCoded (λ e. value_at all s e) s.says
 
   suits_from : AreStarted → (k : ℕ) (t : Tables) (rest : List Spoken) (is : List Item) (before last : ℕ → ℕ) → AreItems k t before rest is last
-      → AreSized all k t rest is → AllByRecursion CodedHere (stated_from 1 k t rest ++ []) → AreValued p starts k t rest is
-      → AllByRecursion Held (stated_from 1 k t rest ++ []) → AllByRecursion (IsHomeIn (λ file. all.opened.sections)) (stated_from 1 k t rest)
+      → AreSized all k t rest is → AllByRecursion CodedHere (located_from 1 k t rest ++ []) → AreValued p starts k t rest is
+      → AllByRecursion Held (located_from 1 k t rest ++ []) → AllByRecursion (IsHomeIn (λ file. all.opened.sections)) (located_from 1 k t rest)
       → AllSuit p starts k t rest is
   suits_from started k t [] is before last items sized coded valued held homes = tt
   suits_from started k t (s ∷ rest) [] before last items sized coded valued held homes = tt
   suits_from started k t (s ∷ rest) (i ∷ is) before last (item, items) (size, sized) (code, coded) (value, valued) (hold, held) (at, homes) =
       (here, suits_from started (suc k) (after t k s.says) rest is (grown before i) last items sized coded valued held homes)
     where
-      st : Stated
-      st = stated_now 1 k t s
+      st : Located
+      st = located_now 1 k t s
 
       here : i.shown ≡ true → Suits (form p st) (has_values p (site_of starts k t s i)) st.home (row_of 1 starts k i) i.offset (slice_index starts i.section) s.says
       here shown =

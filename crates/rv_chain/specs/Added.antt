@@ -3,14 +3,15 @@
 use Rattle.std.specs.Prelude.{◌≡◌, ℕ, List, [], ◌∷◌, ◌++◌, length, Result, Ok, Err, Some, None, ⊤}
 use Rattle.std.specs.Global.{Vec}
 use Rattle.rv_text_laws.specs.Values as values
-use Rattle.rv_text.specs.declared.fault.SourceFault.{SourceFault}
-use Rattle.rv_text.specs.declared.fault.SourceFault.TheVariants.{At, OutOfMemory}
-use Rattle.rv_text.specs.Fault.{number_of}
+use Rattle.rv_lexer.specs.declared.fault.SourceFault.{SourceFault}
+use Rattle.rv_lexer.specs.declared.fault.SourceFault.TheVariants.{At, OutOfMemory}
+use Rattle.rv_lexer.specs.Fault.{number_of}
 use Rattle.rv_statement.specs.Statement.{Expression, Spoken}
 use Rattle.rv_unit_laws.specs.Faults.{lowest}
 use Rattle.rv_unit_laws.specs.Tables.{Tables, tables}
-use Rattle.rv_source_laws.specs.Stated.{Stated, stated}
-use Rattle.rv_chain_laws.specs.Refusals.{instruction_faults, options_after, first_options, instruction_fault_from, size_fault_from, instruction_fault, size_fault, else_fault, code_size}
+use Rattle.rv_source_laws.specs.Located.{Located, located}
+use Rattle.rv_chain_laws.specs.Refusals.{instruction_faults, instruction_fault_from, size_fault_from, instruction_fault, size_fault, else_fault, code_size}
+use Rattle.rv_source_laws.specs.Options.{options_after, first_options}
 use Rattle.rv_link_laws.specs.Suits.{code_said}
 use Rattle.rv_chain.specs.Choices.{options_of}
 use Rattle.rv_chain.specs.Code.{GrowsBy, bytes_in, section_code, full_fault, full_at}
@@ -33,13 +34,13 @@ Adds old new section v s (Err (At code at)) = (lowest (instruction_faults (optio
 Adds old new section v s (Err OutOfMemory) = Unit {0}
 
 -- what is there so far and what the rest gives make up the whole
-pub record IsCodeSoFar (t : Tables) (all rest : List Stated) (c : Coder) : Type 0 where
+pub record IsCodeSoFar (t : Tables) (all rest : List Located) (c : Coder) : Type 0 where
   pub instructions : instruction_fault_from t (options_of c.choices) rest ≡ instruction_fault_from t first_options all
   pub sizes : else_fault (full_fault c.full) (size_fault_from (λ j. length (bytes_in c.sections.items j)) rest) ≡ size_fault_from (λ j. 0) all
   pub bytes : (j : ℕ) → bytes_in c.sections.items j ++ section_code t j rest ≡ section_code t j all
 
 -- the code of each section, or the first statement whose end passes the longest section
-abbrev pub IsCode : Tables → List Stated → Result (Vec (Vec ℕ)) SourceFault → Type 0
+abbrev pub IsCode : Tables → List Located → Result (Vec (Vec ℕ)) SourceFault → Type 0
 IsCode t all (Ok sections) =
     (instruction_fault_from t first_options all ≡ None) × (size_fault_from (λ j. 0) all ≡ None) × ((j : ℕ) → bytes_in sections.items j ≡ section_code t j all)
 IsCode t all (Err (At code line)) =
@@ -49,6 +50,6 @@ IsCode t all (Err OutOfMemory) = ⊥
 -- the code of each section of a source, or the first fault of its instructions and their sizes; memory may run out
 abbrev pub IsSourceCode : List Spoken → Result (Vec (Vec ℕ)) SourceFault → Type 0
 IsSourceCode ss (Ok sections) =
-    (instruction_fault ss ≡ None) × (size_fault ss ≡ None) × ((j : ℕ) → bytes_in sections.items j ≡ section_code (tables ss) j (stated (ss ∷ [])))
+    (instruction_fault ss ≡ None) × (size_fault ss ≡ None) × ((j : ℕ) → bytes_in sections.items j ≡ section_code (tables ss) j (located (ss ∷ [])))
 IsSourceCode ss (Err (At code line)) = else_fault (instruction_fault ss) (size_fault ss) ≡ Some (record { code = number_of code; line = line })
 IsSourceCode ss (Err OutOfMemory) = Unit {0}

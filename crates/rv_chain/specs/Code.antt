@@ -5,13 +5,14 @@ use Rattle.std.specs.Borrow.{Bor}
 use Rattle.std.specs.Global.{Vec}
 use Rattle.rv_isa.specs.declared.instruction.Inst.{Inst}
 use Rattle.rv_isa.specs.declared.instruction.Inst.TheVariants.{Jalr}
+use Rattle.rv_isa.specs.Operations.{of_immediate, of_shift, of_upper, of_load, of_store}
 use Rattle.rv_isa.specs.Ranges.{IsValid}
 use Rattle.rv_text_laws.specs.Values as values
-use Rattle.rv_text.specs.declared.fault.SourceCode.{SourceCode}
-use Rattle.rv_text.specs.declared.fault.SourceCode.TheVariants.{ImmediateRange}
-use Rattle.rv_text.specs.declared.fault.SourceFault.{SourceFault}
-use Rattle.rv_text.specs.declared.fault.SourceFault.TheVariants.{At, OutOfMemory}
-use Rattle.rv_text.specs.Fault.{number_of}
+use Rattle.rv_lexer.specs.declared.fault.SourceCode.{SourceCode}
+use Rattle.rv_lexer.specs.declared.fault.SourceCode.TheVariants.{ImmediateRange}
+use Rattle.rv_lexer.specs.declared.fault.SourceFault.{SourceFault}
+use Rattle.rv_lexer.specs.declared.fault.SourceFault.TheVariants.{At, OutOfMemory}
+use Rattle.rv_lexer.specs.Fault.{number_of}
 use Rattle.rv_text.specs.declared.expr.Expr.{Expr}
 use Rattle.rv_text.specs.declared.evaluation.Value.{Value}
 use Rattle.rv_text.specs.Eval.{IsOutcome}
@@ -24,12 +25,13 @@ use Rattle.rv_statement.specs.Statement.{Statement, Instruction, Expression, Spo
 use Rattle.rv_parse_laws.specs.Syntax.{with_constant}
 use Rattle.rv_unit_laws.specs.Faults.{Fault, lowest, at_line, constant_faults}
 use Rattle.rv_unit_laws.specs.Tables.{Tables, value, longest_section}
-use Rattle.rv_source_laws.specs.Written.{of_immediate, of_shift, of_upper, of_load, of_store, i_type, s_type, u_type, shift_by, by_constant}
+use Rattle.rv_source_laws.specs.Written.{i_type, s_type, u_type, shift_by, by_constant}
 use Rattle.rv_source_laws.specs.Meaning.{add_zero, alone, fits_12, expanded}
-use Rattle.rv_source_laws.specs.Stated.{Stated}
-use Rattle.rv_source_laws.specs.Sites.{place_of}
+use Rattle.rv_source_laws.specs.Located.{Located}
+use Rattle.rv_source_laws.specs.Program.{place_of}
 use Rattle.rv_chain_laws.specs.Contents.{words}
-use Rattle.rv_chain_laws.specs.Refusals.{Options, range_faults, instruction_faults, code_size}
+use Rattle.rv_chain_laws.specs.Refusals.{range_faults, instruction_faults, code_size}
+use Rattle.rv_source_laws.specs.Options.{Options}
 use Rattle.rv_link_laws.specs.Suits.{constant_in, code_said}
 
 -- ---- one instruction
@@ -121,10 +123,10 @@ word_of None = []
 word_of (Some i) = words (Some (i ∷ []))
 
 -- the code of the statements of a section
-abbrev pub value_at : Tables → Stated → Expression → values.Value
+abbrev pub value_at : Tables → Located → Expression → values.Value
 value_at t s e = value t true s.ordinal (place_of s) e
 
-abbrev pub section_code : Tables → ℕ → List Stated → List ℕ
+abbrev pub section_code : Tables → ℕ → List Located → List ℕ
 section_code t section ss = flat_map (λ s. code_said (value_at t s) s.says) (filter (λ s. section == s.section) ss)
 
 -- a section of code that is too long, at a line

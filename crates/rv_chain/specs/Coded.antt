@@ -6,7 +6,7 @@ use Rattle.rv_isa.specs.declared.instruction.Inst.{Inst}
 use Rattle.rv_text_laws.specs.Values.{Value}
 use Rattle.rv_statement.specs.Statement.{Statement, Instruction, Spoken, Expression}
 use Rattle.rv_unit_laws.specs.Tables.{tables}
-use Rattle.rv_source_laws.specs.Stated.{stated}
+use Rattle.rv_source_laws.specs.Located.{located}
 use Rattle.rv_link_laws.specs.Suits.{IsInstruction}
 use Rattle.rv_chain.specs.Code.{value_at}
 
@@ -16,4 +16,4 @@ IsCoded v (Instruction mnemonic operands) = (i : Inst) × IsInstruction v (Instr
 IsCoded v _ = ⊤
 
 abbrev pub AreCoded : List Spoken → Type 0
-AreCoded ss = AllByRecursion (λ s. IsCoded (λ e. value_at (tables ss) s e) s.says) (stated (ss ∷ []))
+AreCoded ss = AllByRecursion (λ s. IsCoded (λ e. value_at (tables ss) s e) s.says) (located (ss ∷ []))

@@ -7,11 +7,11 @@ use Rattle.rv_statement.specs.Statement.{Spoken}
 use Rattle.rv_unit_laws.specs.Sections.{section_at}
 use Rattle.rv_unit_laws.specs.Tables.{at_start, tables}
 use Rattle.rv_unit.specs.Unit.{passed}
-use Rattle.rv_source_laws.specs.Sites.{Program, Site, program}
-use Rattle.rv_source_laws.specs.Fits.{sites_in}
+use Rattle.rv_source_laws.specs.Program.{Program, Mapped, program}
+use Rattle.rv_source_laws.specs.Fits.{mapped_in}
 use Rattle.rv_source_laws.specs.Start.{spelled}
-use Rattle.rv_link.specs.declared.rows.Item.{Item}
-use Rattle.rv_link.specs.Rows.{rows_from}
+use Rattle.rv_link_laws.specs.declared.item.Item.{Item}
+use Rattle.rv_link_laws.specs.Rows.{rows_from}
 use Rattle.rv_link_laws.specs.Items.{AreItems, sites_by}
 use Rattle.rv_chain.specs.Code.{bytes_in}
 use Rattle.rv_chain.specs.Sized.{AreSized}
@@ -25,13 +25,13 @@ pub record IsLaid (ss : List Spoken) (starts : List ℕ) (is : List Item) (globa
   pub names : m.globals ≡ globals
 
 -- the statements that are left, those that have a row
-abbrev pub sites_left : List ℕ → List Spoken → List Item → ℕ → List Site
+abbrev pub sites_left : List ℕ → List Spoken → List Item → ℕ → List Mapped
 sites_left starts ss is i = sites_by starts (i + 1) (passed ss i) (drop i ss) (drop i is)
 
 -- what is there so far and what the rest spells make up the whole
 pub record IsDataTo (p : Program) (starts : List ℕ) (ss : List Spoken) (is : List Item) (i : ℕ) (sections : List (Vec ℕ)) : Type 0 where
   pub bytes : (j : ℕ) → is_filled (section_at (tables ss).opened j) ≡ true
-      → bytes_in sections j ++ flat_map (spelled p) (sites_in (sites_left starts ss is i) 1 j) ≡ flat_map (spelled p) (sites_in (sites_by starts 1 at_start ss is) 1 j)
+      → bytes_in sections j ++ flat_map (spelled p) (mapped_in (sites_left starts ss is i) 1 j) ≡ flat_map (spelled p) (mapped_in (sites_by starts 1 at_start ss is) 1 j)
   pub valued : AreValued p starts (i + 1) (passed ss i) (drop i ss) (drop i is) → AreValued p starts 1 at_start ss is
 
 abbrev pub DataTo : List Spoken → List ℕ → List Item → List Global → ℕ → List (Vec ℕ) → Type 0

@@ -1,8 +1,8 @@
 -- How messages show a fault of the link.
 
 use Rattle.std.specs.Prelude.{ℕ, ⊤, List, Option, Some, None, codes}
-use Rattle.rv_text.specs.declared.fault.SourceFault.{SourceFault}
-use Rattle.rv_text.specs.declared.fault.SourceFault.TheVariants as refusals
+use Rattle.rv_lexer.specs.declared.fault.SourceFault.{SourceFault}
+use Rattle.rv_lexer.specs.declared.fault.SourceFault.TheVariants as refusals
 use Rattle.rv_chain.specs.declared.fault.Fault.{Fault}
 use Rattle.rv_chain.specs.declared.fault.Fault.TheVariants.{Source, File, Link, Memory}
 use Rattle.rv_chain.specs.declared.fault.LinkFault.{LinkFault}

@@ -1,4 +1,5 @@
 pub mod Added
+pub mod Building
 pub mod Choices
 pub mod Code
 pub mod Coded

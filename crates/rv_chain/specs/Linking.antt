@@ -1,17 +1,17 @@
 -- One source as a program.
 
-use Rattle.std.specs.Prelude.{◌≡◌, ℕ, ◌%◌, true, false, List, [], ◌++◌, filter, map, not, Some, codes}
+use Rattle.std.specs.Prelude.{◌≡◌, ℕ, ◌%◌, Bool, true, false, List, [], ◌++◌, filter, map, not, Some, codes}
 use Rattle.std.specs.Global.{Vec}
 use Rattle.rv_statement.specs.Statement.{Spoken}
 use Rattle.rv_unit_laws.specs.Tables.{tables, at_start}
 use Rattle.rv_map.specs.Map.{Map, Global}
 use Rattle.rv_image.specs.Linked.{Linked}
 use Rattle.rv_source_laws.specs.Resolves.{is_one_of, is_global_after, linker_symbols}
-use Rattle.rv_link.specs.declared.piece.Destination.TheVariants.{Text, Rodata, Data}
-use Rattle.rv_link.specs.Contents.{contents_of}
-use Rattle.rv_link.specs.Definitions.{names_from, definitions_from, entry_from}
-use Rattle.rv_link.specs.Layout.{IsLayout}
-use Rattle.rv_link.specs.Rows.{rows_from}
+use Rattle.rv_link_laws.specs.declared.piece.Destination.TheVariants.{Text, Rodata, Data}
+use Rattle.rv_link_laws.specs.Contents.{contents_of}
+use Rattle.rv_link_laws.specs.Definitions.{names_from, definitions_from, entry_from}
+use Rattle.rv_link_laws.specs.Layout.{IsLayout}
+use Rattle.rv_link_laws.specs.Rows.{rows_from}
 use Rattle.rv_link_laws.specs.Items.{AreItems}
 use Rattle.rv_link_laws.specs.Laws.{map_of}
 use Rattle.rv_link_laws.specs.Pieces.{ArePieces}
@@ -26,7 +26,7 @@ pub record StandsFrom (ss : List Spoken) (start : ℕ) (x : Placed) : Type 0 whe
   pub sections : ArePieces (tables ss) last 0 (tables ss).opened.sections x.pieces.items
   pub lies : IsLayout start x.pieces.items x.layout
 
--- the map: it shows so many bytes and one row for each statement that has a place
+-- the map: it shows the layout, and one row for each statement that has a place
 abbrev pub map_from : Placed → ℕ → List Global → Map
 map_from x entry globals = map_of x.layout entry globals (rows_from 1 x.layout.starts.items 1 x.items.items)
 
@@ -46,11 +46,11 @@ Begins ss x entry =
     (is_global_after false ss (codes "_start") ≡ true) × (entry_from x.layout.starts.items ss x.items.items ≡ Some entry) × (entry % 2 ≡ 0)
 
 -- the program: each region has the bytes of its sections, which are code or data
-abbrev pub program_from : Placed → ℕ → List Global → List (Vec ℕ) → List (Vec ℕ) → Linked
-program_from x entry globals texts figures = record {
+abbrev pub program_from : Placed → ℕ → List Global → List (Vec ℕ) → List (Vec ℕ) → Bool → Linked
+program_from x entry globals texts figures rvc = record {
   text = contents_of Text x.layout.text.start x.pieces.items x.layout.starts.items (map (λ b. b.items) texts);
   rodata = contents_of Rodata x.layout.rodata.start x.pieces.items x.layout.starts.items (map (λ b. b.items) figures);
   «data» = contents_of Data x.layout.data.start x.pieces.items x.layout.starts.items (map (λ b. b.items) figures);
   map = map_from x entry globals;
-  rvc = false;
+  rvc = rvc;
 }

@@ -1,22 +1,22 @@
--- How many bytes one statement has, behind others of its section.
+-- How many bytes one statement has, after others of its section.
 
 use Rattle.std.specs.Prelude.{◌≡◌, ℕ, ◌+◌, ◌*◌, ◌≤◌, Bool, true, false, ⊤, List, length, map, Option, Some, slice_get, slice_index_or}
 use Rattle.rv_text_laws.specs.Values.{Value, Constant}
 use Rattle.rv_statement.specs.Statement.{Statement, Label, Numbered, Instruction, Directs, Expression, Directive, Aligns_to_power, Aligns_to_bytes, Values, Strings, Zeros}
-use Rattle.rv_unit_laws.specs.Tables.{asked, padding, string_bytes, longest_section}
-use Rattle.rv_unit.specs.declared.section.Extent.{Extent}
-use Rattle.rv_unit.specs.Sections.{extent_section}
+use Rattle.rv_unit_laws.specs.Tables.{alignment_of, padding, string_bytes, longest_section}
+use Rattle.rv_tables.specs.declared.section.Extent.{Extent}
+use Rattle.rv_tables.specs.Sections.{extent_section}
 use Rattle.rv_source_laws.specs.Fits.{is_constant, is_low}
-use Rattle.rv_link.specs.declared.rows.Item.{Item}
+use Rattle.rv_link_laws.specs.declared.item.Item.{Item}
 use Rattle.rv_link_laws.specs.Suits.{IsMultiple}
 use Rattle.rv_chain.specs.Sized.{IsSizedDirective}
 
--- so many bytes of data behind so many others
+-- `bytes` bytes of data after `offset` others
 abbrev pub stretch : ℕ → ℕ → Item
 stretch offset bytes = record { section = 0; offset = offset; bytes = bytes; line = 0; shown = true; executed = false; text = false }
 
 -- the bytes of a statement that has a row, by the values of its expressions: in a section of code or not, that asks to begin
--- at this multiple, behind so many others
+-- at this multiple, after `offset` bytes
 abbrev pub IsSize : (Expression → Value) → Bool → ℕ → ℕ → Statement → ℕ → Type 0
 IsSize v executable begins offset (Label name) bytes = bytes ≡ 0
 IsSize v executable begins offset (Numbered number) bytes = bytes ≡ 0
@@ -48,13 +48,13 @@ abbrev pub CanCount : Value → Type 0
 CanCount v = (n : ℕ) × (v ≡ Constant n) × (n ≤ longest_section)
 
 -- a statement has a size, by the values of its expressions: in a section of code or not, that asks to begin at this
--- multiple, behind so many others
+-- multiple, after `offset` bytes
 abbrev pub HasSizeDirective : (Expression → Value) → Bool → ℕ → ℕ → Directive → Type 0
 HasSizeDirective v executable begins offset (Values width values) = width * length values ≤ longest_section
 HasSizeDirective v executable begins offset (Strings ended strings) = length (string_bytes ended strings) ≤ longest_section
 HasSizeDirective v executable begins offset (Zeros count) = CanCount (v count)
-HasSizeDirective v executable begins offset (Aligns_to_power e) = CanAlign (v e) executable begins offset (asked v (Aligns_to_power e))
-HasSizeDirective v executable begins offset (Aligns_to_bytes e) = CanAlign (v e) executable begins offset (asked v (Aligns_to_bytes e))
+HasSizeDirective v executable begins offset (Aligns_to_power e) = CanAlign (v e) executable begins offset (alignment_of v (Aligns_to_power e))
+HasSizeDirective v executable begins offset (Aligns_to_bytes e) = CanAlign (v e) executable begins offset (alignment_of v (Aligns_to_bytes e))
 HasSizeDirective v executable begins offset _ = ⊤
 
 abbrev pub HasSize : (Expression → Value) → Bool → ℕ → ℕ → Statement → Type 0

@@ -3,9 +3,9 @@
 use Rattle.std.specs.Prelude.{◌≡◌, ℕ, List, map, slice_index, if◌then◌else◌}
 use Rattle.rv_unit_laws.specs.Sections.{Section, goes_to_text}
 use Rattle.rv_unit_laws.specs.Tables.{Tables}
-use Rattle.rv_unit.specs.declared.section.Extent.{Extent}
-use Rattle.rv_unit.specs.Sections.{extent_section}
-use Rattle.rv_link.specs.declared.piece.Piece.{Piece}
+use Rattle.rv_tables.specs.declared.section.Extent.{Extent}
+use Rattle.rv_tables.specs.Sections.{extent_section}
+use Rattle.rv_link_laws.specs.declared.piece.Piece.{Piece}
 use Rattle.rv_link_laws.specs.Pieces.{ArePieces}
 
 -- code stands at even addresses

@@ -3,10 +3,10 @@
 use Rattle.std.specs.Prelude.{◌≡◌, ℕ, suc, ◌*◌, Bool, true, false, ⊤, List, ◌∷◌, length, Option, slice_index_or}
 use Rattle.rv_text_laws.specs.Values.{Value, Constant}
 use Rattle.rv_statement.specs.Statement.{Statement, Label, Numbered, Instruction, Directs, Spoken, Expression, Directive, Sets, Aligns_to_power, Aligns_to_bytes, Values, Strings, Zeros}
-use Rattle.rv_unit_laws.specs.Tables.{Tables, after, asked, padding, string_bytes}
-use Rattle.rv_source_laws.specs.Stated.{stated_now}
+use Rattle.rv_unit_laws.specs.Tables.{Tables, after, alignment_of, padding, string_bytes}
+use Rattle.rv_source_laws.specs.Located.{located_now}
 use Rattle.rv_source_laws.specs.Fits.{is_constant, is_low}
-use Rattle.rv_link.specs.declared.rows.Item.{Item}
+use Rattle.rv_link_laws.specs.declared.item.Item.{Item}
 use Rattle.rv_link_laws.specs.Suits.{IsMultiple}
 use Rattle.rv_chain.specs.Code.{value_at}
 
@@ -24,8 +24,8 @@ IsSizedDirective v executable i begins (Sets name e) = i.bytes ≡ 0
 IsSizedDirective v executable i begins (Values width values) = i.bytes ≡ width * length values
 IsSizedDirective v executable i begins (Strings ended strings) = i.bytes ≡ length (string_bytes ended strings)
 IsSizedDirective v executable i begins (Zeros count) = v count ≡ Constant i.bytes
-IsSizedDirective v executable i begins (Aligns_to_power e) = IsAligned (v e) executable i begins (asked v (Aligns_to_power e))
-IsSizedDirective v executable i begins (Aligns_to_bytes e) = IsAligned (v e) executable i begins (asked v (Aligns_to_bytes e))
+IsSizedDirective v executable i begins (Aligns_to_power e) = IsAligned (v e) executable i begins (alignment_of v (Aligns_to_power e))
+IsSizedDirective v executable i begins (Aligns_to_bytes e) = IsAligned (v e) executable i begins (alignment_of v (Aligns_to_bytes e))
 IsSizedDirective v executable i begins _ = ⊤
 
 -- an instruction is one that is executed, and has four bytes
@@ -38,6 +38,6 @@ IsSized v executable i begins (Directs directive) = (i.executed ≡ false) × Is
 -- of each statement that has a row: `all` are the tables of the whole source, `t` those before the statement
 abbrev pub AreSized : Tables → ℕ → Tables → List Spoken → List Item → Type 0
 AreSized all k t (s ∷ ss) (i ∷ is) =
-    (i.shown ≡ true → IsSized (λ e. value_at all (stated_now 1 k t s) e) (stated_now 1 k t s).home.executable i (slice_index_or all.alignments i.section 1) s.says)
+    (i.shown ≡ true → IsSized (λ e. value_at all (located_now 1 k t s) e) (located_now 1 k t s).home.executable i (slice_index_or all.alignments i.section 1) s.says)
     × AreSized all (suc k) (after t k s.says) ss is
 AreSized all k t ss is = ⊤

@@ -7,12 +7,12 @@ use Rattle.rv_text_laws.specs.Values.{Value, Faulty}
 use Rattle.rv_text_laws.specs.Expression.{Primary}
 use Rattle.rv_statement.specs.Statement.{Spoken, Expression}
 use Rattle.rv_statement.specs.View.{now_of}
-use Rattle.rv_unit_laws.specs.Tables.{Place, tables, at_start, home, value}
+use Rattle.rv_unit_laws.specs.Tables.{SectionOffset, tables, at_start, definition, value}
 use Rattle.rv_unit.specs.Unit.{said, IsFilled, IsScope}
 use Rattle.rv_unit.specs.declared.scope.Scope.{Scope}
-use Rattle.rv_source_laws.specs.Stated.{stated}
+use Rattle.rv_source_laws.specs.Located.{located}
 use Rattle.rv_chain_laws.specs.Refusals.{has_address_by, missing_in, missing_by, first_name}
-use Rattle.rv_link.specs.declared.rows.Item.{Item}
+use Rattle.rv_link_laws.specs.declared.item.Item.{Item}
 use Rattle.rv_link_laws.specs.Items.{AreItems}
 
 -- whether the statement of an ordinal has a row; those of the items count on from another
@@ -22,10 +22,10 @@ shown_by k (i ∷ is) ordinal = ((k == ordinal) && i.shown) || shown_by (suc k) 
 
 -- whether what the statement at an index names has an address
 abbrev pub addressed : List Spoken → ℕ → Primary → Bool
-addressed ss index q = has_address_by (stated (ss ∷ [])) q (home (tables ss) (index + 1) q)
+addressed ss index q = has_address_by (located (ss ∷ [])) q (definition (tables ss) (index + 1) q)
 
 -- what expressions of the statement at an index refer to without an address
-abbrev pub missing_at : List Spoken → ℕ → Place → List Expression → List (List ℕ)
+abbrev pub missing_at : List Spoken → ℕ → SectionOffset → List Expression → List (List ℕ)
 missing_at ss index place es = flat_map (λ e. missing_in (addressed ss index) (value (tables ss) true (index + 1) place e)) es
 
 -- the statement at an index is next, and the statements have these items
@@ -41,7 +41,7 @@ HasValue (Faulty code) = ⊥
 HasValue _ = ⊤
 
 -- expressions of the statement at an index
-abbrev pub HaveValues : List Spoken → ℕ → Place → List Expression → Type 0
+abbrev pub HaveValues : List Spoken → ℕ → SectionOffset → List Expression → Type 0
 HaveValues ss index place es = AllByRecursion (λ e. HasValue (value (tables ss) true (index + 1) place e)) es
 
 -- what is found is the first of the names
@@ -58,7 +58,7 @@ else_name (Some name) other = Some name
 
 -- the first name of the statements of a section
 abbrev pub first_in : List Spoken → ℕ → Option (List ℕ)
-first_in ss j = first_name (flat_map (missing_by ss) (filter (λ s. s.section == j) (stated (ss ∷ []))))
+first_in ss j = first_name (flat_map (missing_by ss) (filter (λ s. s.section == j) (located (ss ∷ []))))
 
 -- the first that was found
 abbrev pub first_some : List (Option (Bor (List ℕ))) → Option (List ℕ)

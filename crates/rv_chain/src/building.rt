@@ -2,12 +2,15 @@
 
 ghost use Rattle.std.specs.Prelude.{◌≡◌, ◌<◌, ◌%◌, ◌∷◌, [], IfOk, IsTrue, map, ◌↔◌};
 ghost use Rattle.rv_statement.specs.View.{now_of};
+ghost use Rattle.rv_image.specs.Linked.{linked_of};
 ghost use Rattle.rv_chain_laws.specs.Headline.{TheHeadline};
+ghost use Rattle.rv_chain.specs.Building.{IsProgramOf, IsExecutableOf};
 
 use crate::fault::{Fault, LinkFault};
 use crate::link::link;
 use crate::options::{Built, LinkOptions};
-use rv_image::{STACK_START, write_exec};
+use rv_image::{Linked, STACK_START, write_exec};
+use rv_map::known;
 use rv_parse::parse;
 use rv_unit::Unit;
 use std::alloc::Global;
@@ -20,14 +23,37 @@ use std::alloc::Global;
 pub fn build(alloc: Global, sources: &[&[u8]], options: LinkOptions) -> Result<Built, Fault>
     ensures { IfOk result (λ built. TheHeadline (map now_of sources.now) options.text_start built.exe.items built.map.items) }
 {
+    let linked = linked(alloc, sources, options.text_start)?;
+    // what the types of a map keep
+    known(&linked.map);
+    let exe = write_exec(alloc, &linked)?;
+    let map = rv_map::write(alloc, &linked.map)?;
+    Ok(Built { exe, map })
+}
+
+/// Assembles and links as `build`, without the text of the map: the same executable.
+pub fn build_exe(alloc: Global, sources: &[&[u8]], options: LinkOptions) -> Result<Vec<u8>, Fault>
+    ensures { IfOk result (λ exe. IsExecutableOf (map now_of sources.now) options.text_start exe.items) }
+{
+    let linked = linked(alloc, sources, options.text_start)?;
+    // what the types of a map keep
+    known(&linked.map);
+    let exe = write_exec(alloc, &linked)?;
+    Ok(exe)
+}
+
+/// The linked program of a list of sources.
+fn linked(alloc: Global, sources: &[&[u8]], start: u64) -> Result<Linked, Fault>
+    ensures { IfOk result (λ l. IsProgramOf (map now_of sources.now) start (linked_of l)) }
+{
     if sources.len() > 1 {
         return Err(Fault::Link(LinkFault::TooManyFiles));
     }
-    if !is_text_start(options.text_start) {
+    if !is_text_start(start) {
         return Err(Fault::Link(LinkFault::BadTextStart));
     }
     match sources {
-        [source] => build_one(alloc, *source, options.text_start),
+        [source] => linked_one(alloc, *source, start),
         _ => Err(Fault::Link(LinkFault::EntryMissing)),
     }
 }
@@ -39,18 +65,14 @@ fn is_text_start(address: u64) -> bool
     address % 4096 == 0 && address < STACK_START
 }
 
-/// Builds one source.
-fn build_one(alloc: Global, source: &[u8], start: u64) -> Result<Built, Fault>
+/// The linked program of one source. Its statements are gone when the program is written.
+fn linked_one(alloc: Global, source: &[u8], start: u64) -> Result<Linked, Fault>
     requires page { start % 4096 ≡ 0 }
     requires low { start < 0x3ff0_0000 }
-    ensures { IfOk result (λ built. TheHeadline (source.now ∷ []) start built.exe.items built.map.items) }
+    ensures { IfOk result (λ l. IsProgramOf (source.now ∷ []) start (linked_of l)) }
 {
     let statements = parse(alloc, source)?;
     let unit = Unit::build(alloc, statements)?;
     let linked = link(alloc, &unit, start)?;
-    // that the entry is an address
-    let _entry = linked.entry();
-    let exe = write_exec(alloc, &linked)?;
-    let map = rv_map::write(alloc, &linked.map)?;
-    Ok(Built { exe, map })
+    Ok(linked)
 }

@@ -2,7 +2,7 @@
 
 ghost use Rattle.std.specs.Prelude.{◌≡◌, ◌∷◌, reverse, IfOk};
 ghost use Rattle.rv_statement.specs.View.{statement_of};
-ghost use Rattle.rv_chain_laws.specs.Refusals as laws;
+ghost use Rattle.rv_source_laws.specs.Options as laws;
 ghost use Rattle.rv_chain.specs.Choices.{options_of};
 
 use rv_statement::{Choice, StatementKind};

@@ -6,10 +6,10 @@ ghost use Rattle.rv_text_laws.specs.Values as values;
 ghost use Rattle.rv_statement.specs.Statement.{Expression};
 ghost use Rattle.rv_statement.specs.View.{said_by};
 ghost use Rattle.rv_unit_laws.specs.Tables.{Tables, tables, value as value_of};
-ghost use Rattle.rv_unit.specs.Sections.{place_of};
+ghost use Rattle.rv_tables.specs.Sections.{offset_of};
 ghost use Rattle.rv_unit.specs.Unit.{said, IsFilled, IsScope};
 ghost use Rattle.rv_chain_laws.specs.Contents.{words};
-ghost use Rattle.rv_source_laws.specs.Stated.{Stated};
+ghost use Rattle.rv_source_laws.specs.Located.{Located};
 ghost use Rattle.rv_chain_laws.specs.Refusals.{else_fault};
 ghost use Rattle.rv_chain.specs.Added.{Adds, IsCode, IsCodeSoFar, IsSourceCode};
 ghost use Rattle.rv_chain.specs.Choices.{options_of};
@@ -23,7 +23,7 @@ use rv_encode::encode;
 use rv_isa::Inst;
 use rv_statement::Statement;
 use rv_text::{Expr, SourceCode, SourceFault, Value};
-use rv_unit::{LONGEST_SECTION, Place, Scope, Unit};
+use rv_unit::{LONGEST_SECTION, Scope, SectionOffset, Unit};
 use std::alloc::{AllocError, Global};
 
 /// Adds the word of an instruction to the code of a section.
@@ -69,7 +69,7 @@ fn bytes_in(sections: &[Vec<u8>], section: u32) -> usize
     sections[section as usize].len()
 }
 
-/// The line of the first statement behind which a section is too long; this one's has so many bytes.
+/// The line of the first statement after which a section is too long; this one's has `bytes`.
 fn full_behind(full: Option<u32>, bytes: usize, line: u32) -> Option<u32>
     ensures { full_fault result ≡ else_fault (full_fault full) (full_at line bytes) }
 {
@@ -86,16 +86,16 @@ pub(crate) struct Coder {
     choices: Choices,
     /// The bytes of each section.
     pub(crate) sections: Vec<Vec<u8>>,
-    /// The line of the first statement behind which its section is too long.
+    /// The line of the first statement after which its section is too long.
     pub(crate) full: Option<u32>,
 }
 
 impl Coder {
-    /// The code of so many sections before the first statement.
+    /// The code of `sections` sections before the first statement.
     #[tactic(auto, using(crate::proofs::SoFar::begun))]
     pub(crate) fn new(alloc: Global, sections: usize) -> Result<Self, AllocError>
         ensures count { IfOk result (λ c. length c.sections.items ≡ sections) }
-        ensures begun { IfOk result (λ c. (t : Tables) (all : List Stated) → IsCodeSoFar t all all c) }
+        ensures begun { IfOk result (λ c. (t : Tables) (all : List Located) → IsCodeSoFar t all all c) }
     {
         Ok(Coder {
             choices: Choices::new(alloc),
@@ -104,11 +104,11 @@ impl Coder {
         })
     }
 
-    /// The bytes of each section behind the last statement, where none is too long.
+    /// The bytes of each section after the last statement, where none is too long.
     #[tactic(auto, using(crate::proofs::SoFar::whole_code, crate::proofs::SoFar::whole_sizes))]
     pub(crate) fn finish(self) -> Result<Vec<Vec<u8>>, SourceFault>
         ensures count { IfOk result (λ sections. length sections.items ≡ length self.sections.items) }
-        ensures code { (t : Tables) (all : List Stated) → IsCodeSoFar t all [] self → IsCode t all result }
+        ensures code { (t : Tables) (all : List Located) → IsCodeSoFar t all [] self → IsCode t all result }
     {
         match self.full {
             Some(line) => Err(SourceFault::At {
@@ -160,10 +160,10 @@ fn put_code(
     coder: &mut Coder,
     scope: &Scope<'_, '_>,
     statement: &Statement<'_>,
-    place: Place,
+    place: SectionOffset,
 ) -> Result<(), SourceFault>
     requires { place.section < length coder.old.sections.items }
-    ensures { (index : ℕ) → IsFilled (scope.now).unit.now → IsScope scope.now index → Adds coder.old coder.new place.section (λ e. value_of (tables (said (scope.now).unit.now)) true (index + 1) (place_of place) e) (said_by statement.now) result }
+    ensures { (index : ℕ) → IsFilled (scope.now).unit.now → IsScope scope.now index → Adds coder.old coder.new place.section (λ e. value_of (tables (said (scope.now).unit.now)) true (index + 1) (offset_of place) e) (said_by statement.now) result }
 {
     let line = statement.line;
     coder.add(statement, place.section, &|e| scope.value(place, e, line))

@@ -3,7 +3,7 @@
 ghost use Rattle.std.specs.Prelude.{◌≡◌, ◌<◌, ◌+◌, true, false, List, None, length, map, IfOk, OnOk};
 ghost use Rattle.rv_statement.specs.View.{statement_of};
 ghost use Rattle.rv_unit_laws.specs.Faults.{first_fault};
-ghost use Rattle.rv_unit.specs.Sections.{section_of};
+ghost use Rattle.rv_tables.specs.Sections.{section_of};
 ghost use Rattle.rv_unit.specs.Unit.{said, IsFilled, IsScope};
 ghost use Rattle.rv_map.specs.Map.{Global, global_of};
 ghost use Rattle.rv_link.specs.Numbers.{AreAddresses};
@@ -16,7 +16,7 @@ use rv_statement::StatementKind;
 use rv_unit::{Scope, Section, Unit};
 use std::alloc::Global as Allocator;
 
-/// Adds the bytes that a statement spells to the data of a section; a count of zeros, or an alignment, has so many.
+/// Adds the bytes that a statement spells to the data of a section; a count of zeros, or an alignment, has `count`.
 fn put_bytes<'a>(
     sections: &mut [Vec<u8>],
     section: u32,

@@ -3,36 +3,34 @@
 ghost use Rattle.std.specs.Prelude.{◌≡◌, ℕ, ◌<◌, true, false, nat_lt, List, [], ◌∷◌, ◌++◌, Option, Some, None, is_some, IfOk, IfSome, MatchOption, MatchResult};
 ghost use Rattle.rv_isa.specs.declared.instruction.Inst.{Inst as Instruction};
 ghost use Rattle.rv_isa.specs.declared.instruction.Inst.TheVariants.{Jalr};
+ghost use Rattle.rv_isa.specs.Operations.{of_immediate, of_load, of_store};
 ghost use Rattle.rv_isa.specs.Ranges.{IsValid, IsSigned12};
 ghost use Rattle.rv_text_laws.specs.Values as values;
-ghost use Rattle.rv_text.specs.declared.fault.SourceCode.TheVariants.{ImmediateRange};
+ghost use Rattle.rv_lexer.specs.declared.fault.SourceCode.TheVariants.{ImmediateRange};
 ghost use Rattle.rv_text.specs.Eval.{IsOutcome};
 ghost use Rattle.rv_statement.specs.Statement.{Expression, Spoken};
 ghost use Rattle.rv_statement.specs.declared.statement.Operation.TheVariants.{Li};
 ghost use Rattle.rv_statement.specs.View.{plain_of, said_by};
 ghost use Rattle.rv_parse_laws.specs.Syntax as syntax;
-ghost use Rattle.rv_parse_laws.specs.Value.{signed};
 ghost use Rattle.rv_unit_laws.specs.Faults.{faulty_if};
 ghost use Rattle.rv_source_laws.specs.Written as laws;
 ghost use Rattle.rv_source_laws.specs.Meaning.{fits_12};
-ghost use Rattle.rv_chain_laws.specs.Refusals.{Options, form_takes, operand_faults, instruction_faults, code_size};
+ghost use Rattle.rv_chain_laws.specs.Refusals.{form_takes, operand_faults, instruction_faults, code_size};
+ghost use Rattle.rv_source_laws.specs.Options.{Options};
 ghost use Rattle.rv_link_laws.specs.Suits.{constant_in};
 ghost use Rattle.rv_chain.specs.Code.{instruction_by, mnemonic_of, numbered, InRange, OfNumber, IsNumber, IsBuilt, Evaluates, Codes};
 
-use crate::written::{
-    access_bits, atomic, fence, load_reserved, of_immediate, of_load, of_registers, of_shift,
-    of_store, of_upper,
-};
+use crate::written::{atomic, load_reserved, shift, upper};
 use rv_isa::{
     IType, ImmediateOperation, Inst, LoadOperation, RType, Reg, RegisterOperation, SType,
-    ShiftOperation, StoreOperation,
+    ShiftOperation, StoreOperation, fence,
 };
 use rv_statement::{Operation, Plain, Statement, StatementKind};
 use rv_text::{Expr, SourceCode, SourceFault, Value};
 
 /// The immediate of 12 bits that a number is, taken as signed.
 fn immediate_of(number: u64) -> Option<i32>
-    ensures { MatchOption result (fits_12 number ≡ None) (λ i. (fits_12 number ≡ Some number) × (i ≡ signed number) × IsSigned12 i) }
+    ensures { MatchOption result (fits_12 number ≡ None) (λ i. (fits_12 number ≡ Some number) × (i ≡ laws.signed number) × IsSigned12 i) }
 {
     let above = number.wrapping_add(2048);
     if above < 4096 {
@@ -44,7 +42,7 @@ fn immediate_of(number: u64) -> Option<i32>
 
 /// The immediate of 12 bits that a number is, or why it is none.
 fn immediate(number: u64) -> Result<i32, SourceCode>
-    ensures { MatchResult result (λ i. (is_some (fits_12 number) ≡ true) × (i ≡ signed number) × IsSigned12 i) (λ code. (is_some (fits_12 number) ≡ false) × (code ≡ ImmediateRange)) }
+    ensures { MatchResult result (λ i. (is_some (fits_12 number) ≡ true) × (i ≡ laws.signed number) × IsSigned12 i) (λ code. (is_some (fits_12 number) ≡ false) × (code ≡ ImmediateRange)) }
 {
     match immediate_of(number) {
         Some(immediate) => Ok(immediate),
@@ -59,19 +57,13 @@ pub(crate) fn plain(statement: Plain) -> Inst
     let ra = Reg::from_low_bits(1);
     let immediate = 0;
     match statement {
-        Plain::Registers(operation, rd, rs1, rs2) => of_registers(
-            operation,
-            RType { rd, rs1, rs2 },
-        ),
-        Plain::Load(operation, rd, rs1) => of_load(operation, IType { immediate, rd, rs1 }),
-        Plain::Store(operation, rs2, rs1) => of_store(
-            operation,
-            SType {
-                immediate,
-                rs1,
-                rs2,
-            },
-        ),
+        Plain::Registers(operation, rd, rs1, rs2) => operation.instruction(RType { rd, rs1, rs2 }),
+        Plain::Load(operation, rd, rs1) => operation.instruction(IType { immediate, rd, rs1 }),
+        Plain::Store(operation, rs2, rs1) => operation.instruction(SType {
+            immediate,
+            rs1,
+            rs2,
+        }),
         Plain::Jalr(rd, rs1) => Inst::Jalr(IType { immediate, rd, rs1 }),
         Plain::JalrLinked(rs1) => Inst::Jalr(IType {
             immediate,
@@ -81,7 +73,7 @@ pub(crate) fn plain(statement: Plain) -> Inst
         Plain::LoadReserved(form, rd, rs1) => load_reserved(form, rd, rs1),
         Plain::Atomic(operation, form, rd, rs2, rs1) => atomic(operation, form, rd, rs2, rs1),
         Plain::Fence => fence(0, 15, 15),
-        Plain::FenceBetween(before, after) => fence(0, access_bits(before), access_bits(after)),
+        Plain::FenceBetween(before, after) => fence(0, before.bits(), after.bits()),
         Plain::FenceTso => fence(8, 3, 3),
         Plain::Ecall => Inst::Ecall,
         Plain::Ebreak => Inst::Ebreak,
@@ -95,10 +87,10 @@ fn with_immediate(
     rs1: Reg,
     number: u64,
 ) -> Result<Inst, SourceCode>
-    ensures { InRange (is_some (fits_12 number)) (Some (laws.of_immediate operation (laws.i_type rd rs1 number))) result }
+    ensures { InRange (is_some (fits_12 number)) (Some (of_immediate operation (laws.i_type rd rs1 number))) result }
 {
     let immediate = immediate(number)?;
-    Ok(of_immediate(operation, IType { immediate, rd, rs1 }))
+    Ok(operation.instruction(IType { immediate, rd, rs1 }))
 }
 
 /// The form with a constant of an operation on registers.
@@ -118,38 +110,35 @@ fn with_constant(
         RegisterOperation::Or => with_immediate(ImmediateOperation::Ori, rd, rs1, number),
         RegisterOperation::And => with_immediate(ImmediateOperation::Andi, rd, rs1, number),
         RegisterOperation::Addw => with_immediate(ImmediateOperation::Addiw, rd, rs1, number),
-        RegisterOperation::Sll => of_shift(ShiftOperation::Slli, rd, rs1, number),
-        RegisterOperation::Srl => of_shift(ShiftOperation::Srli, rd, rs1, number),
-        RegisterOperation::Sra => of_shift(ShiftOperation::Srai, rd, rs1, number),
-        RegisterOperation::Sllw => of_shift(ShiftOperation::Slliw, rd, rs1, number),
-        RegisterOperation::Srlw => of_shift(ShiftOperation::Srliw, rd, rs1, number),
-        RegisterOperation::Sraw => of_shift(ShiftOperation::Sraiw, rd, rs1, number),
-        // the parser reads no constant behind the others
+        RegisterOperation::Sll => shift(ShiftOperation::Slli, rd, rs1, number),
+        RegisterOperation::Srl => shift(ShiftOperation::Srli, rd, rs1, number),
+        RegisterOperation::Sra => shift(ShiftOperation::Srai, rd, rs1, number),
+        RegisterOperation::Sllw => shift(ShiftOperation::Slliw, rd, rs1, number),
+        RegisterOperation::Srlw => shift(ShiftOperation::Srliw, rd, rs1, number),
+        RegisterOperation::Sraw => shift(ShiftOperation::Sraiw, rd, rs1, number),
+        // the parser reads no constant after the others
         _ => Err(SourceCode::ImmediateRange),
     }
 }
 
 /// A load at a number from a register.
 fn load(operation: LoadOperation, rd: Reg, rs1: Reg, number: u64) -> Result<Inst, SourceCode>
-    ensures { InRange (is_some (fits_12 number)) (Some (laws.of_load operation (laws.i_type rd rs1 number))) result }
+    ensures { InRange (is_some (fits_12 number)) (Some (of_load operation (laws.i_type rd rs1 number))) result }
 {
     let immediate = immediate(number)?;
-    Ok(of_load(operation, IType { immediate, rd, rs1 }))
+    Ok(operation.instruction(IType { immediate, rd, rs1 }))
 }
 
 /// A store at a number from a register.
 fn store(operation: StoreOperation, rs2: Reg, rs1: Reg, number: u64) -> Result<Inst, SourceCode>
-    ensures { InRange (is_some (fits_12 number)) (Some (laws.of_store operation (laws.s_type rs2 rs1 number))) result }
+    ensures { InRange (is_some (fits_12 number)) (Some (of_store operation (laws.s_type rs2 rs1 number))) result }
 {
     let immediate = immediate(number)?;
-    Ok(of_store(
-        operation,
-        SType {
-            immediate,
-            rs1,
-            rs2,
-        },
-    ))
+    Ok(operation.instruction(SType {
+        immediate,
+        rs1,
+        rs2,
+    }))
 }
 
 /// A jump to a number from a register.
@@ -178,8 +167,8 @@ fn with_number(operation: Operation, number: u64) -> Result<Inst, SourceCode>
     match operation {
         Operation::Registers(operation, rd, rs1) => with_constant(operation, rd, rs1, number),
         Operation::Immediate(operation, rd, rs1) => with_immediate(operation, rd, rs1, number),
-        Operation::Shift(operation, rd, rs1) => of_shift(operation, rd, rs1, number),
-        Operation::Upper(operation, rd) => of_upper(operation, rd, number),
+        Operation::Shift(operation, rd, rs1) => shift(operation, rd, rs1, number),
+        Operation::Upper(operation, rd) => upper(operation, rd, number),
         Operation::Load(operation, rd, rs1) => load(operation, rd, rs1, number),
         Operation::Store(operation, rs2, rs1) => store(operation, rs2, rs1, number),
         Operation::Jalr(rd, rs1) | Operation::JalrThen(rd, rs1) => jalr(rd, rs1, number),

@@ -1,17 +1,17 @@
-//! The statements of a source as items: their bytes, one behind the other in each section, and which have a row in the
+//! The statements of a source as items: their bytes, one after the other in each section, and which have a row in the
 //! map.
 
 ghost use Rattle.std.specs.Prelude.{◌≡◌, ◌&&◌, ◌+◌, ◌*◌, ◌<◌, ◌≤◌, ◌^◌, ℕ, true, false, length, map, slice_index, slice_set, None, IfOk, IfErr};
 ghost use Rattle.rv_text_laws.specs.Values as values;
 ghost use Rattle.rv_text.specs.Eval.{IsOutcome};
-ghost use Rattle.rv_text.specs.declared.fault.SourceFault.TheVariants.{OutOfMemory};
+ghost use Rattle.rv_lexer.specs.declared.fault.SourceFault.TheVariants.{OutOfMemory};
 ghost use Rattle.rv_statement.specs.View.{bytes_of, quoted, statement_of};
 ghost use Rattle.rv_unit_laws.specs.Faults.{first_fault};
 ghost use Rattle.rv_unit_laws.specs.Sections.{goes_to_text};
 ghost use Rattle.rv_unit_laws.specs.Tables as laws;
-ghost use Rattle.rv_unit.specs.Sections.{place_of, section_of};
+ghost use Rattle.rv_tables.specs.Sections.{offset_of, section_of};
 ghost use Rattle.rv_unit.specs.Unit.{said, passed, IsFilled, IsScope};
-ghost use Rattle.rv_source_laws.specs.Stated.{is_placed};
+ghost use Rattle.rv_source_laws.specs.Located.{is_placed};
 ghost use Rattle.rv_source_laws.specs.Fits.{is_low};
 ghost use Rattle.rv_chain_laws.specs.Refusals.{size_fault};
 ghost use Rattle.rv_link_laws.specs.Items.{AreItems};
@@ -24,8 +24,8 @@ use rv_link::Item;
 use rv_statement::{Statement, StatementKind, Width};
 use rv_text::{SourceCode, SourceFault, Value};
 use rv_unit::{
-    Extent, LONGEST_SECTION, Place, Scope, Section, Unit, asked_bytes, asked_power, padding,
-    strings_size, values_size,
+    Extent, LONGEST_SECTION, Scope, Section, SectionOffset, Unit, byte_alignment, padding,
+    power_alignment, strings_size, values_size,
 };
 use std::alloc::{AllocError, Global};
 
@@ -52,7 +52,7 @@ fn bytes_of_values(width: Width, count: usize, line: u32) -> Result<u32, SourceF
     fitting(values_size(width, count), line)
 }
 
-/// The bytes of strings, where asked with a zero byte behind each.
+/// The bytes of strings, where asked with a zero byte after each.
 fn bytes_of_strings(ended: bool, strings: &[&[u8]], line: u32) -> Result<u32, SourceFault>
     ensures size { IfOk result (λ n. n ≡ length (laws.string_bytes ended (map quoted strings.now))) }
     ensures refuses { IfErr result (λ _. length (laws.string_bytes ended (map quoted strings.now)) ≤ 2 ^ 28 → ⊥) }
@@ -114,7 +114,7 @@ fn padding_in_data(
     fitting(padding(alignment, offset), line)
 }
 
-/// The padding of an alignment behind so many bytes of a section.
+/// The padding of an alignment after `offset` bytes of a section.
 fn bytes_of_padding(
     extent: Extent<'_>,
     alignment: Option<u32>,
@@ -137,11 +137,11 @@ fn padding_to_power(
     offset: u32,
     line: u32,
 ) -> Result<u32, SourceFault>
-    ensures size { IfOk result (λ n. (v : values.Value) → IsOutcome value.entry line v → IsAligned v (extent.entry).section.executable (stretch offset n) (extent.entry).alignment (laws.asked_power v)) }
-    ensures refuses { IfErr result (λ _. (v : values.Value) → IsOutcome value.entry line v → CanAlign v (extent.entry).section.executable (extent.entry).alignment offset (laws.asked_power v) → ⊥) }
+    ensures size { IfOk result (λ n. (v : values.Value) → IsOutcome value.entry line v → IsAligned v (extent.entry).section.executable (stretch offset n) (extent.entry).alignment (laws.power_alignment v)) }
+    ensures refuses { IfErr result (λ _. (v : values.Value) → IsOutcome value.entry line v → CanAlign v (extent.entry).section.executable (extent.entry).alignment offset (laws.power_alignment v) → ⊥) }
 {
     let power = constant(value, line)?;
-    let alignment = asked_power(Ok(Value::Constant(power)));
+    let alignment = power_alignment(Ok(Value::Constant(power)));
     bytes_of_padding(extent, alignment, offset, line)
 }
 
@@ -152,26 +152,26 @@ fn padding_to_bytes(
     offset: u32,
     line: u32,
 ) -> Result<u32, SourceFault>
-    ensures size { IfOk result (λ n. (v : values.Value) → IsOutcome value.entry line v → IsAligned v (extent.entry).section.executable (stretch offset n) (extent.entry).alignment (laws.asked_bytes v)) }
-    ensures refuses { IfErr result (λ _. (v : values.Value) → IsOutcome value.entry line v → CanAlign v (extent.entry).section.executable (extent.entry).alignment offset (laws.asked_bytes v) → ⊥) }
+    ensures size { IfOk result (λ n. (v : values.Value) → IsOutcome value.entry line v → IsAligned v (extent.entry).section.executable (stretch offset n) (extent.entry).alignment (laws.byte_alignment v)) }
+    ensures refuses { IfErr result (λ _. (v : values.Value) → IsOutcome value.entry line v → CanAlign v (extent.entry).section.executable (extent.entry).alignment offset (laws.byte_alignment v) → ⊥) }
 {
     let bytes = constant(value, line)?;
-    let alignment = asked_bytes(Ok(Value::Constant(bytes)));
+    let alignment = byte_alignment(Ok(Value::Constant(bytes)));
     bytes_of_padding(extent, alignment, offset, line)
 }
 
-/// The bytes of the statement that is next, in a section that has so many before it.
+/// The bytes of the statement that is next, after `offset` bytes of its section.
 fn size(
     scope: &Scope<'_, '_>,
     statement: &Statement<'_>,
-    place: Place,
+    place: SectionOffset,
     extent: Extent<'_>,
     offset: u32,
 ) -> Result<u32, SourceFault>
     ensures size { IfOk result (λ n. (index : ℕ) → IsFilled (scope.now).unit.now → IsScope scope.now index
-        → IsSize (λ e. laws.value (laws.tables (said (scope.now).unit.now)) true (index + 1) (place_of place) e) (extent.entry).section.executable (extent.entry).alignment offset (statement_of (statement.now).kind) n) }
+        → IsSize (λ e. laws.value (laws.tables (said (scope.now).unit.now)) true (index + 1) (offset_of place) e) (extent.entry).section.executable (extent.entry).alignment offset (statement_of (statement.now).kind) n) }
     ensures refuses { IfErr result (λ _. (index : ℕ) → IsFilled (scope.now).unit.now → IsScope scope.now index
-        → HasSize (λ e. laws.value (laws.tables (said (scope.now).unit.now)) true (index + 1) (place_of place) e) (extent.entry).section.executable (extent.entry).alignment offset (statement_of (statement.now).kind) → ⊥) }
+        → HasSize (λ e. laws.value (laws.tables (said (scope.now).unit.now)) true (index + 1) (offset_of place) e) (extent.entry).section.executable (extent.entry).alignment offset (statement_of (statement.now).kind) → ⊥) }
 {
     let line = statement.line;
     match &statement.kind {
@@ -205,15 +205,15 @@ fn shown_size(
     shown: bool,
     scope: &Scope<'_, '_>,
     statement: &Statement<'_>,
-    place: Place,
+    place: SectionOffset,
     extent: Extent<'_>,
     offset: u32,
 ) -> Result<u32, SourceFault>
     ensures absent { IfOk result (λ n. shown ≡ false → n ≡ 0) }
     ensures size { IfOk result (λ n. (index : ℕ) → IsFilled (scope.now).unit.now → IsScope scope.now index → shown ≡ true
-        → IsSize (λ e. laws.value (laws.tables (said (scope.now).unit.now)) true (index + 1) (place_of place) e) (extent.entry).section.executable (extent.entry).alignment offset (statement_of (statement.now).kind) n) }
+        → IsSize (λ e. laws.value (laws.tables (said (scope.now).unit.now)) true (index + 1) (offset_of place) e) (extent.entry).section.executable (extent.entry).alignment offset (statement_of (statement.now).kind) n) }
     ensures refuses { IfErr result (λ _. (index : ℕ) → IsFilled (scope.now).unit.now → IsScope scope.now index
-        → (shown ≡ true → HasSize (λ e. laws.value (laws.tables (said (scope.now).unit.now)) true (index + 1) (place_of place) e) (extent.entry).section.executable (extent.entry).alignment offset (statement_of (statement.now).kind)) → ⊥) }
+        → (shown ≡ true → HasSize (λ e. laws.value (laws.tables (said (scope.now).unit.now)) true (index + 1) (offset_of place) e) (extent.entry).section.executable (extent.entry).alignment offset (statement_of (statement.now).kind)) → ⊥) }
 {
     if !shown {
         return Ok(0);
@@ -229,12 +229,12 @@ fn executed(kind: &StatementKind<'_>) -> bool
 }
 
 /// Whether the statement that is next, which stands at the place, has a row where its section is loaded.
-fn placed<'a>(scope: &Scope<'_, 'a>, place: Place, kind: &StatementKind<'a>) -> bool
-    ensures { (index : ℕ) → IsFilled (scope.now).unit.now → IsScope scope.now index → place_of place ≡ laws.stood (passed (said (scope.now).unit.now) index) (index + 1) (statement_of kind.now)
+fn placed<'a>(scope: &Scope<'_, 'a>, place: SectionOffset, kind: &StatementKind<'a>) -> bool
+    ensures { (index : ℕ) → IsFilled (scope.now).unit.now → IsScope scope.now index → offset_of place ≡ laws.stood (passed (said (scope.now).unit.now) index) (index + 1) (statement_of kind.now)
         → result ≡ is_placed (passed (said (scope.now).unit.now) index) (index + 1) (statement_of kind.now) }
 {
     match kind {
-        StatementKind::Sets(setting) => scope.gives_place(place, setting),
+        StatementKind::Sets(setting) => scope.gives_location(place, setting),
         StatementKind::Label(_) => true,
         StatementKind::Numbered(_) => true,
         StatementKind::Plain(_) => true,
@@ -280,18 +280,18 @@ fn no_bytes(alloc: Global, count: usize) -> Result<Vec<u32>, AllocError>
 
 /// The section at a place.
 #[tactic(auto, using(crate::proofs::Itemized::got_map, crate::proofs::Itemized::read_map))]
-fn extent_at<'a>(extents: &[Extent<'a>], section: u32) -> Extent<'a>
+pub(crate) fn extent_at<'a>(extents: &[Extent<'a>], section: u32) -> Extent<'a>
     requires { section < length extents.now }
     ensures { IsExtentAt extents.now section result }
 {
     extents[section as usize]
 }
 
-/// The item of the statement that is next, in a section that has so many bytes before it.
+/// The item of the statement that is next, after `offset` bytes of its section.
 fn next_item<'a>(
     scope: &Scope<'_, 'a>,
     statement: &Statement<'a>,
-    place: Place,
+    place: SectionOffset,
     extent: &Extent<'_>,
     offset: u32,
 ) -> Result<Item, SourceFault>
@@ -300,16 +300,16 @@ fn next_item<'a>(
     ensures offset { IfOk result (λ x. x.offset ≡ offset) }
     ensures line { IfOk result (λ x. x.line ≡ (statement.now).line) }
     ensures text { IfOk result (λ x. x.text ≡ goes_to_text (section_of (extent.now).section)) }
-    ensures shown { IfOk result (λ x. (index : ℕ) → IsFilled (scope.now).unit.now → IsScope scope.now index → place_of place ≡ laws.stood (passed (said (scope.now).unit.now) index) (index + 1) (statement_of (statement.now).kind)
+    ensures shown { IfOk result (λ x. (index : ℕ) → IsFilled (scope.now).unit.now → IsScope scope.now index → offset_of place ≡ laws.stood (passed (said (scope.now).unit.now) index) (index + 1) (statement_of (statement.now).kind)
         → x.shown ≡ (is_placed (passed (said (scope.now).unit.now) index) (index + 1) (statement_of (statement.now).kind) && (extent.now).section.loaded)) }
     ensures absent { IfOk result (λ x. x.shown ≡ false → x.bytes ≡ 0) }
     ensures sized { IfOk result (λ x. (index : ℕ) → IsFilled (scope.now).unit.now → IsScope scope.now index → x.shown ≡ true
-        → IsSized (λ e. laws.value (laws.tables (said (scope.now).unit.now)) true (index + 1) (place_of place) e) (extent.now).section.executable x (extent.now).alignment (statement_of (statement.now).kind)) }
+        → IsSized (λ e. laws.value (laws.tables (said (scope.now).unit.now)) true (index + 1) (offset_of place) e) (extent.now).section.executable x (extent.now).alignment (statement_of (statement.now).kind)) }
     ensures fits { IfOk result (λ x. x.offset + x.bytes ≤ 2 ^ 28) }
     ensures refuses { IfErr result (λ _. (index : ℕ) → IsFilled (scope.now).unit.now → IsScope scope.now index
-        → place_of place ≡ laws.stood (passed (said (scope.now).unit.now) index) (index + 1) (statement_of (statement.now).kind)
+        → offset_of place ≡ laws.stood (passed (said (scope.now).unit.now) index) (index + 1) (statement_of (statement.now).kind)
         → (is_placed (passed (said (scope.now).unit.now) index) (index + 1) (statement_of (statement.now).kind) ≡ true → (extent.now).section.loaded ≡ true
-        → HasRoom (λ e. laws.value (laws.tables (said (scope.now).unit.now)) true (index + 1) (place_of place) e) (extent.now).section.executable (extent.now).alignment offset (statement_of (statement.now).kind)) → ⊥) }
+        → HasRoom (λ e. laws.value (laws.tables (said (scope.now).unit.now)) true (index + 1) (offset_of place) e) (extent.now).section.executable (extent.now).alignment offset (statement_of (statement.now).kind)) → ⊥) }
 {
     let line = statement.line;
     let shown = placed(scope, place, &statement.kind) && extent.section.loaded;
@@ -335,7 +335,7 @@ fn grow(ends: &mut Vec<u32>, item: Item)
     ends[item.section as usize] = item.offset + item.bytes;
 }
 
-/// The items of a source's statements, and the bytes of each section behind the last of them.
+/// The items of a source's statements, and the bytes of each section after the last of them.
 pub(crate) fn items(alloc: Global, unit: &Unit<'_>) -> Result<(Vec<Item>, Vec<u32>), SourceFault>
     requires { IsFilled unit.now }
     ensures count { IfOk result (λ r. length r.0.items ≡ length (unit.now).statements.items) }

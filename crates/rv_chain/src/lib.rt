@@ -1,14 +1,28 @@
 //! Whole runs: from sources to an executable with its map, and from an executable to its end.
+//!
+//! Takes the bytes of sources (of one, today) and how to link them; or the bytes of an executable, an input and a limit
+//! of instructions. Gives an executable and its map's text, or a run's console and end; or the first fault.
+//!
+//! The main contract: what `build` gives keeps `TheHeadline`: the run of the executable's bytes is the run of the
+//! sources' statements at the addresses of the printed map, for every input and limit. `build_exe` gives the same
+//! executable without the map's text. `run_exec` gives the machine's run over the file's image.
+//!
+//! It must not know where bytes come from, nor how faults are told. In use:
+//!
+//!     let options = LinkOptions { text_start: 0x1_0000, relax: true };
+//!     let source = b".option norvc\n.globl _start\n_start: li a0, 7; li a7, 93; ecall\n";
+//!     let built = build(alloc, &[source], options)?;
+//!     let outcome = run_exec(alloc, built.exe.as_slice(), b"", 1_000_000)?;
+//!     assert!(rt; outcome.end == End::Exited(7));
 #![tactic(auto)]
 
 mod building;
 mod choices;
 mod code;
+mod compressed;
 mod data;
 mod fault;
 mod instruction;
-#[cfg(test)]
-mod instruction_tests;
 mod items;
 mod link;
 mod options;
@@ -18,7 +32,7 @@ mod running;
 mod undefined;
 mod written;
 
-pub use building::build;
+pub use building::{build, build_exe};
 pub use fault::{Fault, LinkFault};
 pub use options::{Built, LinkOptions};
 pub use running::run_exec;

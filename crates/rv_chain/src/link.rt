@@ -8,7 +8,8 @@ ghost use Rattle.rv_map.specs.Map.{global_of, map_of as shown_map};
 ghost use Rattle.rv_image.specs.Linked.{linked_of};
 ghost use Rattle.rv_chain_laws.specs.Contents.{IsLinked};
 ghost use Rattle.rv_chain_laws.specs.Refusals.{size_fault};
-ghost use Rattle.rv_link.specs.Contents.{contents_of};
+ghost use Rattle.rv_source_laws.specs.Options.{is_compressed};
+ghost use Rattle.rv_link_laws.specs.Contents.{contents_of};
 ghost use Rattle.rv_link.specs.Globals.{AreGlobals};
 ghost use Rattle.rv_link_laws.specs.Laws.{map_of};
 ghost use Rattle.rv_chain.specs.Fault.{IsOfLink};
@@ -16,6 +17,7 @@ ghost use Rattle.rv_chain.specs.Valued.{GivesData};
 ghost use Rattle.rv_chain.specs.Linking.{StandsFrom, AreNamed};
 
 use crate::code::code;
+use crate::compressed::has_compressed;
 use crate::data::data;
 use crate::fault::{Fault, LinkFault};
 use crate::items::items;
@@ -39,7 +41,9 @@ pub(crate) fn link(alloc: Global, unit: &Unit<'_>, start: u64) -> Result<Linked,
     requires good { first_fault (said unit.now) ≡ None }
     requires page { start % 4096 ≡ 0 }
     requires low { start < 0x3ff0_0000 }
-    ensures { IfOk result (λ l. IsLinked (said unit.now ∷ []) start (linked_of l)) }
+    ensures linked { IfOk result (λ l. IsLinked (said unit.now ∷ []) start (linked_of l)) }
+    // It is flagged where the source has compressed code.
+    ensures flag { IfOk result (λ l. l.rvc ≡ is_compressed (said unit.now ∷ [])) }
 {
     let texts = code(alloc, unit)?;
     let statements = unit.statements();
@@ -54,6 +58,7 @@ pub(crate) fn link(alloc: Global, unit: &Unit<'_>, start: u64) -> Result<Linked,
     let names = names(alloc, unit, &globals, &placed)?;
     let figures = figures(alloc, unit, &placed, names.as_slice())?;
     let rows = statement_rows(alloc, 1, starts, items)?;
+    let rvc = has_compressed(alloc, unit)?;
     // what stands so is a linked program
     placed_links();
     placed_names();
@@ -78,7 +83,7 @@ pub(crate) fn link(alloc: Global, unit: &Unit<'_>, start: u64) -> Result<Linked,
         rodata,
         data: variables,
         map: map_with(alloc, layout, entry, names, rows),
-        rvc: false,
+        rvc,
     })
 }
 

@@ -3,7 +3,7 @@
 ghost use Rattle.std.specs.Prelude.{◌≡◌, ◌<◌, length, max, IfOk, if◌then◌else◌};
 ghost use Rattle.rv_unit_laws.specs.Sections.{goes_to_text};
 ghost use Rattle.rv_unit_laws.specs.Tables.{Tables};
-ghost use Rattle.rv_unit.specs.Sections.{section_of};
+ghost use Rattle.rv_tables.specs.Sections.{section_of};
 ghost use Rattle.rv_link_laws.specs.Pieces.{destination_of};
 ghost use Rattle.rv_chain.specs.Pieces.{AreAllPieces, fewest};
 
@@ -16,7 +16,7 @@ fn destination(section: Section<'_>) -> Destination
     ensures { result ≡ destination_of (section_of section.entry) }
 {
     if !section.loaded {
-        Destination::Nowhere
+        Destination::NotLoaded
     } else if section.executable {
         Destination::Text
     } else if section.nobits {
@@ -40,7 +40,7 @@ fn fewest_of(section: Section<'_>) -> u32
     }
 }
 
-/// The piece of a section that has so many bytes.
+/// The piece of a section that has `bytes` bytes.
 fn piece(extent: Extent<'_>, bytes: u32) -> Piece
     ensures destination { result.destination ≡ destination_of (section_of (extent.entry).section) }
     ensures bytes { result.bytes ≡ bytes }
@@ -53,7 +53,7 @@ fn piece(extent: Extent<'_>, bytes: u32) -> Piece
     }
 }
 
-/// The pieces of sections that have so many bytes.
+/// The pieces of sections that have `ends` bytes.
 #[tactic(auto, using(crate::proofs::SoFarPieces::pieces_begin, crate::proofs::SoFarPieces::pieces_more))]
 pub(crate) fn pieces(
     alloc: Global,

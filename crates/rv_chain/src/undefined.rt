@@ -4,13 +4,13 @@ ghost use Rattle.std.specs.Prelude.{◌≡◌, ◌<◌, ◌==◌, ◌∷◌, [],
 ghost use Rattle.rv_text_laws.specs.Values as values;
 ghost use Rattle.rv_text.specs.Nodes.{symbol_of};
 ghost use Rattle.rv_text.specs.Eval.{value_told};
-ghost use Rattle.rv_text.specs.declared.fault.SourceFault.TheVariants.{OutOfMemory};
+ghost use Rattle.rv_lexer.specs.declared.fault.SourceFault.TheVariants.{OutOfMemory};
 ghost use Rattle.rv_text.specs.Expr.{tree_of_expr};
 ghost use Rattle.rv_statement.specs.View.{said_by, now_of};
 ghost use Rattle.rv_unit_laws.specs.Faults.{first_fault};
 ghost use Rattle.rv_unit_laws.specs.Sections.{Section as Home};
 ghost use Rattle.rv_unit_laws.specs.Tables.{at_start};
-ghost use Rattle.rv_unit.specs.Sections.{place_of, extent_section};
+ghost use Rattle.rv_tables.specs.Sections.{offset_of, extent_section};
 ghost use Rattle.rv_unit.specs.Unit.{said, IsFilled, IsScope};
 ghost use Rattle.rv_chain_laws.specs.Refusals as laws;
 ghost use Rattle.rv_chain_laws.specs.Refusals.{data_values, first_name};
@@ -20,7 +20,7 @@ ghost use Rattle.rv_chain.specs.Undefined.{shown_by, addressed, missing_at, Have
 use rv_link::Item;
 use rv_statement::{Statement, StatementKind};
 use rv_text::{Expr, SourceFault, Symbol, Value};
-use rv_unit::{Extent, Place, Scope, Unit};
+use rv_unit::{Extent, Scope, SectionOffset, Unit};
 use std::alloc::{AllocError, Global};
 
 /// Whether a name that is no place of the source is one that the linker gives.
@@ -65,7 +65,7 @@ fn is_shown(items: &[Item], ordinal: usize) -> bool
 fn has_address<'a>(scope: &Scope<'_, 'a>, items: &[Item], symbol: Symbol<'a>) -> bool
     ensures { (index : ℕ) → Sees scope.now items.now index → result ≡ addressed (said (scope.now).unit.now) index (symbol_of symbol.entry) }
 {
-    match scope.home(symbol) {
+    match scope.definition(symbol) {
         Some(home) => is_shown(items, home.ordinal),
         None => is_linkers(symbol),
     }
@@ -103,11 +103,11 @@ fn missing_of<'a>(
     scope: &Scope<'_, 'a>,
     items: &[Item],
     value: &Expr<'a>,
-    place: Place,
+    place: SectionOffset,
     line: u32,
 ) -> Result<Option<&'a [u8]>, SourceFault>
-    ensures first { IfOk result (λ found. (index : ℕ) → Sees scope.now items.now index → IsFirst found (missing_at (said (scope.now).unit.now) index (place_of place) (tree_of_expr value.now ∷ []))) }
-    ensures refuses { IfErr result (λ _. (index : ℕ) → IsFilled (scope.now).unit.now → IsScope scope.now index → HaveValues (said (scope.now).unit.now) index (place_of place) (tree_of_expr value.now ∷ []) → ⊥) }
+    ensures first { IfOk result (λ found. (index : ℕ) → Sees scope.now items.now index → IsFirst found (missing_at (said (scope.now).unit.now) index (offset_of place) (tree_of_expr value.now ∷ []))) }
+    ensures refuses { IfErr result (λ _. (index : ℕ) → IsFilled (scope.now).unit.now → IsScope scope.now index → HaveValues (said (scope.now).unit.now) index (offset_of place) (tree_of_expr value.now ∷ []) → ⊥) }
 {
     let value = scope.value(place, value, line)?;
     Ok(missing_in(scope, items, value))
@@ -118,11 +118,11 @@ fn missing_among<'a>(
     scope: &Scope<'_, 'a>,
     items: &[Item],
     values: &[Expr<'a>],
-    place: Place,
+    place: SectionOffset,
     line: u32,
 ) -> Result<Option<&'a [u8]>, SourceFault>
-    ensures first { IfOk result (λ found. (index : ℕ) → Sees scope.now items.now index → IsFirst found (missing_at (said (scope.now).unit.now) index (place_of place) (map tree_of_expr values.now))) }
-    ensures refuses { IfErr result (λ _. (index : ℕ) → IsFilled (scope.now).unit.now → IsScope scope.now index → HaveValues (said (scope.now).unit.now) index (place_of place) (map tree_of_expr values.now) → ⊥) }
+    ensures first { IfOk result (λ found. (index : ℕ) → Sees scope.now items.now index → IsFirst found (missing_at (said (scope.now).unit.now) index (offset_of place) (map tree_of_expr values.now))) }
+    ensures refuses { IfErr result (λ _. (index : ℕ) → IsFilled (scope.now).unit.now → IsScope scope.now index → HaveValues (said (scope.now).unit.now) index (offset_of place) (map tree_of_expr values.now) → ⊥) }
 {
     for value in values {
         match missing_of(scope, items, value, place, line)? {
@@ -138,10 +138,10 @@ fn missing_by<'a>(
     scope: &Scope<'_, 'a>,
     items: &[Item],
     statement: &Statement<'a>,
-    place: Place,
+    place: SectionOffset,
 ) -> Result<Option<&'a [u8]>, SourceFault>
-    ensures first { IfOk result (λ found. (index : ℕ) → Sees scope.now items.now index → IsFirst found (missing_at (said (scope.now).unit.now) index (place_of place) (data_values (said_by statement.now).says))) }
-    ensures refuses { IfErr result (λ _. (index : ℕ) → IsFilled (scope.now).unit.now → IsScope scope.now index → HaveValues (said (scope.now).unit.now) index (place_of place) (data_values (said_by statement.now).says) → ⊥) }
+    ensures first { IfOk result (λ found. (index : ℕ) → Sees scope.now items.now index → IsFirst found (missing_at (said (scope.now).unit.now) index (offset_of place) (data_values (said_by statement.now).says))) }
+    ensures refuses { IfErr result (λ _. (index : ℕ) → IsFilled (scope.now).unit.now → IsScope scope.now index → HaveValues (said (scope.now).unit.now) index (offset_of place) (data_values (said_by statement.now).says) → ⊥) }
 {
     let line = statement.line;
     match &statement.kind {
@@ -160,14 +160,14 @@ fn keep<'a>(
     scope: &Scope<'_, 'a>,
     items: &[Item],
     statement: &Statement<'a>,
-    place: Place,
+    place: SectionOffset,
     loaded: bool,
 ) -> Result<(), SourceFault>
     requires { place.section < length found.old }
     ensures first { OnOk result ((index j : ℕ) → Sees scope.now items.now index → found_in found.new j ≡ (if place.section == j
-        then else_name (found_in found.old j) (if loaded then first_name (missing_at (said (scope.now).unit.now) index (place_of place) (data_values (said_by statement.now).says)) else None)
+        then else_name (found_in found.old j) (if loaded then first_name (missing_at (said (scope.now).unit.now) index (offset_of place) (data_values (said_by statement.now).says)) else None)
         else found_in found.old j)) }
-    ensures refuses { IfErr result (λ _. (index : ℕ) → IsFilled (scope.now).unit.now → IsScope scope.now index → HaveValues (said (scope.now).unit.now) index (place_of place) (data_values (said_by statement.now).says) → ⊥) }
+    ensures refuses { IfErr result (λ _. (index : ℕ) → IsFilled (scope.now).unit.now → IsScope scope.now index → HaveValues (said (scope.now).unit.now) index (offset_of place) (data_values (said_by statement.now).says) → ⊥) }
 {
     let section = place.section as usize;
     if !loaded {

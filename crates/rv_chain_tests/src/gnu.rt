@@ -19,7 +19,7 @@ fn put_digits(text: &mut Vec<u8>, bytes: &[u8]) -> Result<(), AllocError> {
     Ok(())
 }
 
-/// The rows of 32 bytes that are not all zero behind their places, and how many bytes there are.
+/// The rows of 32 bytes that are not all zero after their places, and how many bytes there are.
 fn rows(alloc: Global, bytes: &[u8]) -> Result<Vec<u8>, AllocError> {
     let mut text = Vec::new(alloc);
     for (index, row) in bytes.chunks(32).enumerate() {
@@ -59,7 +59,7 @@ fn programs(rt: HostRuntime) -> Result<(), Fail> {
     Ok(())
 }
 
-/// Of some hundred random programs those that have the most different forms: a source; the rows of 32 bytes behind
+/// Of some hundred random programs those that have the most different forms: a source; the rows of 32 bytes after
 /// the first page of its file that are not all zero, and their count; how its map begins.
 const PROGRAMS: &str = "===
 .option norvc

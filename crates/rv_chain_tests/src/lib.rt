@@ -12,6 +12,8 @@ mod files;
 #[cfg(test)]
 mod gnu;
 #[cfg(test)]
+mod instructions;
+#[cfg(test)]
 mod later;
 #[cfg(test)]
 mod limits;
@@ -19,5 +21,7 @@ mod limits;
 mod order;
 #[cfg(test)]
 mod programs;
+#[cfg(test)]
+mod sections;
 #[cfg(test)]
 mod sources;

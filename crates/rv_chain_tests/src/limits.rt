@@ -18,7 +18,7 @@ fn with_bytes(
     Ok(source)
 }
 
-/// What is before and behind the bytes, the byte, the greatest count of them, and the fault of one more.
+/// What is before and after the bytes, the byte, the greatest count of them, and the fault of one more.
 const COUNTS: [(&[u8], u8, &[u8], usize, Answer); 15] = [
     // lines of 65,535 bytes: a blank before the line feed counts, the line feed does not
     (b"", b' ', b"ecall\n", 65_530, Answer::Source(17, 5)),

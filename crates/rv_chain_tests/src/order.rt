@@ -40,7 +40,7 @@ const FAULTY: [(&[u8], u8, u8); 28] = [
     (b"slli a0, a0, 64", 14, 3),
 ];
 
-/// Two lines behind the program.
+/// Two lines after the program.
 fn pair(alloc: Global, first: &[u8], second: &[u8]) -> Result<Answer, AllocError> {
     let mut source = with_lines(alloc, first)?;
     source.push(b'\n')?;

@@ -67,8 +67,8 @@ pub(super) fn with_lines(alloc: Global, lines: &[u8]) -> Result<Vec<u8>, AllocEr
     Ok(source)
 }
 
-/// Each row has lines, their fault, and its line among them, from 1. They stand behind the program and some
-/// good lines; each row behind other ones.
+/// Each row has lines, their fault, and its line among them, from 1. They stand after the program and some
+/// good lines; each row after other ones.
 pub(super) fn refused(
     rt: &impl Abort,
     alloc: Global,
@@ -92,7 +92,7 @@ pub(super) fn refused(
     Ok(())
 }
 
-/// What each source's build comes to, behind the same front.
+/// What each source's build comes to, after the same front.
 pub(super) fn answers(
     rt: &impl Abort,
     alloc: Global,

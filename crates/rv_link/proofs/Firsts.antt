@@ -6,9 +6,9 @@ use Rattle.std.specs.List.{find, list_any}
 use Rattle.std.specs.Str.{bytes_eq}
 use Rattle.std.proofs.lemmas.Bool.{ltb-true, ltb-false, lt-ltb, leb-true, le-leb, eqb-true, eq-eqb}
 use Rattle.std.proofs.lemmas.List.{take_more, map-append, reverse-append}
-use Rattle.rv_unit_laws.specs.Tables.{Setting}
-use Rattle.rv_unit.specs.declared.tables.Given.{Given}
-use Rattle.rv_unit.specs.Tables.{setting_of}
+use Rattle.rv_unit_laws.specs.Tables.{Assignment}
+use Rattle.rv_tables.specs.declared.tables.Assignment.{Assignment as DeclaredSetting}
+use Rattle.rv_tables.specs.Tables.{assignment_of}
 use Rattle.rv_source_laws.specs.Resolves.{sets_first}
 use Rattle.rv_link.specs.Settings.{least, first_ordinal}
 use Rattle.rv_link.proofs.Named.{bytes_same}
@@ -57,14 +57,14 @@ least_below k o (Some m) = same_tests (nat_lt (min o m) k) (nat_lt o k || nat_lt
     from false f false g e = absurd (let h : (nat_lt o k || nat_lt m k) ≡ false = ap (λ a. a || nat_lt m k) f ∙ g in cc)
 
 module _ (k : ℕ) (name : List ℕ) where
-  abbrev now : Setting → Bool
+  abbrev now : Assignment → Bool
   now s = (s.ordinal == k) && bytes_eq s.name name
 
-  abbrev earlier : Setting → Bool
+  abbrev earlier : Assignment → Bool
   earlier s = nat_lt s.ordinal k && bytes_eq s.name name
 
   -- an earlier one is found where the lowest ordinal is below
-  found_below : (ss : List Setting) → is_some (find earlier ss) ≡ below k (first_ordinal ss name)
+  found_below : (ss : List Assignment) → is_some (find earlier ss) ≡ below k (first_ordinal ss name)
   found_below [] = refl
   found_below (s ∷ ss) = go (nat_lt s.ordinal k) refl (bytes_eq s.name name) (found_below ss)
     where
@@ -84,7 +84,7 @@ module _ (k : ℕ) (name : List ℕ) where
   low_more o None e = absurd (cc)
   low_more o (Some m) e = let x : m ≤ k = leb-true m k e in le-leb (min o m) k (omega arith)
 
-  any_low : (ss : List Setting) → list_any now ss ≡ true → low k (first_ordinal ss name) ≡ true
+  any_low : (ss : List Assignment) → list_any now ss ≡ true → low k (first_ordinal ss name) ≡ true
   any_low [] e = absurd (cc)
   any_low (s ∷ ss) e = go (s.ordinal == k) refl (bytes_eq s.name name) (any_low ss) e
     where
@@ -103,7 +103,7 @@ module _ (k : ℕ) (name : List ℕ) where
       let other : o ≡ k → ⊥ = λ same. let t : (o == k) ≡ true = eq-eqb o k same in cc in
       eq-eqb m k (omega (arith, other))
 
-  at_any : (ss : List Setting) → is_at k (first_ordinal ss name) ≡ true → list_any now ss ≡ true
+  at_any : (ss : List Assignment) → is_at k (first_ordinal ss name) ≡ true → list_any now ss ≡ true
   at_any [] e = absurd (cc)
   at_any (s ∷ ss) e = go (s.ordinal == k) refl (bytes_eq s.name name) (at_any ss) e
     where
@@ -123,7 +123,7 @@ module _ (k : ℕ) (name : List ℕ) where
       go false f = let x : m ≤ k = leb-true m k e in let y : k ≤ m = ltb-false m k f in sym (eq-eqb m k (omega arith))
 
   -- a statement gives a name first where its ordinal is the lowest
-  pub first_is : (ss : List Setting) → sets_first ss k name ≡ is_at k (first_ordinal ss name)
+  pub first_is : (ss : List Assignment) → sets_first ss k name ≡ is_at k (first_ordinal ss name)
   first_is ss = ap (λ b. list_any now ss && not b) (found_below ss) ∙ go (list_any now ss) refl
     where
       go : (b : Bool) → list_any now ss ≡ b → (b && not (below k (first_ordinal ss name))) ≡ is_at k (first_ordinal ss name)
@@ -131,17 +131,17 @@ module _ (k : ℕ) (name : List ℕ) where
       go false e = same_tests false (is_at k (first_ordinal ss name)) (λ g. absurd (cc)) (λ g. let h : list_any now ss ≡ true = at_any ss g in cc)
 
 -- one setting more
-pub first_more : (name query : List ℕ) (o : ℕ) (settings : List Setting) (s : Setting) (first : ℕ) (other old new : Option ℕ) → s.name ≡ name → s.ordinal ≡ o
-    → other ≡ first_ordinal settings name → first ≡ least o other → new ≡ cond (bytes_eq name query) (Some first) old → old ≡ first_ordinal settings query → new ≡ first_ordinal (s ∷ settings) query
-first_more name query o settings s first other old new is at known lowest now before =
-    now ∙ go (bytes_eq name query) refl ∙ ap (λ n. if bytes_eq n query then Some (least s.ordinal (first_ordinal settings query)) else first_ordinal settings query) (sym is)
+pub first_more : (name query : List ℕ) (o : ℕ) (assignments : List Assignment) (s : Assignment) (first : ℕ) (other old new : Option ℕ) → s.name ≡ name → s.ordinal ≡ o
+    → other ≡ first_ordinal assignments name → first ≡ least o other → new ≡ cond (bytes_eq name query) (Some first) old → old ≡ first_ordinal assignments query → new ≡ first_ordinal (s ∷ assignments) query
+first_more name query o assignments s first other old new is at known lowest now before =
+    now ∙ go (bytes_eq name query) refl ∙ ap (λ n. if bytes_eq n query then Some (least s.ordinal (first_ordinal assignments query)) else first_ordinal assignments query) (sym is)
   where
-    go : (b : Bool) → bytes_eq name query ≡ b → cond b (Some first) old ≡ (if b then Some (least s.ordinal (first_ordinal settings query)) else first_ordinal settings query)
+    go : (b : Bool) → bytes_eq name query ≡ b → cond b (Some first) old ≡ (if b then Some (least s.ordinal (first_ordinal assignments query)) else first_ordinal assignments query)
     go true e =
-        ap (λ n. Some n) (lowest ∙ ap (λ f. least o f) (known ∙ ap (λ n. first_ordinal settings n) (bytes_same name query e)) ∙ ap (λ n. least n (first_ordinal settings query)) (sym at))
+        ap (λ n. Some n) (lowest ∙ ap (λ f. least o f) (known ∙ ap (λ n. first_ordinal assignments n) (bytes_same name query e)) ∙ ap (λ n. least n (first_ordinal assignments query)) (sym at))
     go false e = before
 
 -- settings in order, and one more
-pub settings_more : (xs : List Given) (i : ℕ) (d : Given) → i < length xs → reverse (map setting_of (take (i + 1) xs)) ≡ setting_of (get_or xs i d) ∷ reverse (map setting_of (take i xs))
+pub settings_more : (xs : List DeclaredSetting) (i : ℕ) (d : DeclaredSetting) → i < length xs → reverse (map assignment_of (take (i + 1) xs)) ≡ assignment_of (get_or xs i d) ∷ reverse (map assignment_of (take i xs))
 settings_more xs i d inside =
-    ap (λ l. reverse (map setting_of l)) (take_more xs i d inside) ∙ ap reverse (map-append setting_of (take i xs) (get_or xs i d ∷ [])) ∙ reverse-append (map setting_of (take i xs)) (setting_of (get_or xs i d) ∷ [])
+    ap (λ l. reverse (map assignment_of l)) (take_more xs i d inside) ∙ ap reverse (map-append assignment_of (take i xs) (get_or xs i d ∷ [])) ∙ reverse-append (map assignment_of (take i xs)) (assignment_of (get_or xs i d) ∷ [])

@@ -10,14 +10,14 @@ use Rattle.rv_statement.specs.Statement.{Spoken}
 use Rattle.rv_statement.specs.View.{now_of}
 use Rattle.rv_map.specs.Map.{Global}
 use Rattle.rv_source_laws.specs.Resolves.{is_one_of, made_global, is_global_after}
-use Rattle.rv_link.specs.declared.rows.Item.{Item}
+use Rattle.rv_link_laws.specs.declared.item.Item.{Item}
 use Rattle.std.specs.Prelude.{if◌then◌else◌, Some, filter}
 use Rattle.std.proofs.lemmas.List.Elements.{filter-append}
 use Rattle.std.proofs.lemmas.Slice.Eq.{bytes_eq-Decides}
 use Rattle.rv_unit_laws.specs.Tables.{Tables}
 use Rattle.rv_source_laws.specs.Resolves.{is_start, defined_name}
-use Rattle.rv_link.specs.Rows.{address_of}
-use Rattle.rv_link.specs.Definitions.{named_by, names_from, entry_from, defined_by, definitions_from}
+use Rattle.rv_link_laws.specs.Rows.{address_of}
+use Rattle.rv_link_laws.specs.Definitions.{named_by, names_from, entry_from, defined_by, definitions_from}
 
 or_moves : (a b c : Bool) → (a || (b || c)) ≡ ((b || (a || false)) || c)
 or_moves true true c = refl

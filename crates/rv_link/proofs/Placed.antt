@@ -6,12 +6,12 @@ use Rattle.std.proofs.lemmas.List.{take_more, take_more_set, drop_more, drop-set
 use Rattle.std.specs.Prelude.{◌-◌, map}
 use Rattle.std.specs.List.{drop-map}
 use Rattle.std.proofs.Math.Seq.{drop-cons}
-use Rattle.rv_link.specs.declared.piece.Destination.{Destination}
-use Rattle.rv_link.specs.declared.piece.Piece.{Piece}
+use Rattle.rv_link_laws.specs.declared.piece.Destination.{Destination}
+use Rattle.rv_link_laws.specs.declared.piece.Piece.{Piece}
 use Rattle.rv_unit_laws.specs.Tables.{aligned}
-use Rattle.rv_link.specs.Layout.{goes, end_behind, end_of, started, greatest}
+use Rattle.rv_link_laws.specs.Layout.{goes, end_behind, end_of, started, greatest}
 use Rattle.rv_chain_laws.specs.Contents.{zeros}
-use Rattle.rv_link.specs.Contents.{contents_of}
+use Rattle.rv_link_laws.specs.Contents.{contents_of}
 
 -- what is left of a list, from an element on
 pub left : {X : Type 0} (xs : List X) (i : ℕ) (x : X) → i < length xs → x ≡ get_or xs i x → drop i xs ≡ x ∷ drop (i + 1) xs
@@ -29,7 +29,7 @@ module _ (to : Destination) (stop : ℕ) (starts : List ℕ) (i : ℕ) (x : Piec
       ∙ ap (λ l. take i starts ++ started to stop l (x ∷ next)) (sym (drop_more starts i 0 inside))
       ∙ ap (λ l. take i starts ++ started to stop (drop i starts) l) (sym here) ∙ h
 
-  -- a section that goes there starts behind the end before
+  -- a section that goes there starts after the end before
   pub taken : (start : ℕ) → start ≡ aligned x.alignment stop → goes to x ≡ true → take i starts ++ started to stop (drop i starts) rest ≡ all
       → take (i + 1) (set starts i start) ++ started to (end_behind x stop) (drop (i + 1) (set starts i start)) next ≡ all
   taken start is e h =

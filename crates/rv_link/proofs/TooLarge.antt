@@ -2,13 +2,14 @@
 
 use Rattle.std.proofs.Common.{ℕ, ◌<◌, ◌≤◌, Bool, true, false, List, [], ◌∷◌, arith}
 use Rattle.std.specs.Prelude.{if◌then◌else◌, Option, None, Some, IfNone, Result, Ok, Err, IfErr}
-use Rattle.rv_link.specs.declared.piece.Destination.{Destination}
-use Rattle.rv_link.specs.declared.piece.Destination.TheVariants.{Bss, Data, Rodata}
-use Rattle.rv_link.specs.declared.piece.Piece.{Piece}
+use Rattle.rv_link_laws.specs.declared.piece.Destination.{Destination}
+use Rattle.rv_link_laws.specs.declared.piece.Destination.TheVariants.{Bss, Data, Rodata}
+use Rattle.rv_link_laws.specs.declared.piece.Piece.{Piece}
 use Rattle.rv_link.specs.declared.layout.LayoutFault.{LayoutFault}
 use Rattle.rv_link.specs.declared.layout.LayoutFault.TheVariants.{TooLarge, OutOfMemory}
 use Rattle.rv_chain_laws.proofs.Regions.{above}
-use Rattle.rv_link.specs.Layout.{goes, end_behind, end_of, greatest, text_end, rodata_start, rodata_end, data_start, data_end, bss_start, bss_end, IsTooLarge, IsRefused}
+use Rattle.rv_link_laws.specs.Layout.{goes, end_behind, end_of, greatest}
+use Rattle.rv_link.specs.TooLarge.{text_end, rodata_start, rodata_end, data_start, data_end, bss_start, bss_end, IsTooLarge, IsRefused}
 use Rattle.rv_link.proofs.Placed.{one_or_more}
 
 -- sections end at the earliest where they begin

@@ -6,10 +6,11 @@ use Rattle.std.specs.List.{list_all}
 use Rattle.rv_statement.specs.Statement.{Spoken}
 use Rattle.rv_unit_laws.specs.Tables.{Tables}
 use Rattle.rv_map.specs.Name.{is_name}
-use Rattle.rv_link.specs.declared.rows.Item.{Item}
+use Rattle.rv_link_laws.specs.declared.item.Item.{Item}
 use Rattle.rv_link.specs.declared.definitions.NameFault.{NameFault}
 use Rattle.rv_link.specs.declared.definitions.NameFault.TheVariants.{Name, OutOfMemory}
-use Rattle.rv_link.specs.Definitions.{defined_by, unshown, first_unshown, NamesLine}
+use Rattle.rv_link_laws.specs.Definitions.{defined_by}
+use Rattle.rv_link.specs.Names.{unshown, first_unshown, NamesLine}
 
 -- where each name can be shown, memory has run out
 pub only_memory : (e : NameFault) → NamesLine e None → e ≡ OutOfMemory

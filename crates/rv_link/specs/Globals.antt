@@ -17,6 +17,6 @@ NameSet = HashSet (Bor (List ℕ)) (BuildHasherDefault FoldHasher)
 abbrev pub Has : NameSet → (List ℕ → Bool) → Type 0
 Has set test = (q : Bor (List ℕ)) → list_any (λ k. bytes_eq q.now k.now) set.keys ≡ test q.now
 
--- the set has the names that are global behind the statements
+-- the set has the names that are global after the statements
 abbrev pub AreGlobals : NameSet → List Spoken → Type 0
 AreGlobals set ss = Has set (λ name. is_global_after false ss name)

@@ -1,8 +1,5 @@
-pub mod Destination
-pub mod Layout
-pub mod Rows
-pub mod Contents
+pub mod TooLarge
 pub mod Globals
 pub mod Settings
-pub mod Definitions
+pub mod Names
 pub mod Numbers

@@ -12,14 +12,14 @@ use Rattle.rv_text.specs.Nodes.{symbol_of}
 use Rattle.rv_text.specs.Eval.{IsOutcome}
 use Rattle.rv_text_laws.specs.Values.{Value, Symbolic, Difference, add}
 use Rattle.rv_statement.specs.Statement.{Statement, Directs, Values, Zeros}
-use Rattle.rv_unit_laws.specs.Tables.{Home, tables, home, value as value_in_file}
-use Rattle.rv_unit.specs.Sections.{place_of}
+use Rattle.rv_unit_laws.specs.Tables.{Definition, tables, definition, value as value_in_file}
+use Rattle.rv_tables.specs.Sections.{offset_of}
 use Rattle.rv_unit.specs.Unit.{said, IsFilled, IsScope}
 use Rattle.rv_map.specs.Map.{Global}
-use Rattle.rv_source_laws.specs.Sites.{Entry, address_at, address_by, global_address, resolved}
-use Rattle.rv_chain_laws.specs.Refusals.{is_symbolic}
-use Rattle.rv_link.specs.Rows.{address_of, address_at as row_address_at}
-use Rattle.rv_link.specs.declared.rows.Item.{Item}
+use Rattle.rv_source_laws.specs.Program.{MaybeMapped, address_at, address_by, global_address, resolved, is_far}
+use Rattle.rv_source_laws.specs.Program.{is_symbolic}
+use Rattle.rv_link_laws.specs.Rows.{address_of, address_at as row_address_at}
+use Rattle.rv_link_laws.specs.declared.item.Item.{Item}
 use Rattle.rv_link.specs.declared.numbers.DataFault.{DataFault}
 use Rattle.rv_link.specs.declared.numbers.DataFault.TheVariants as faults
 use Rattle.rv_link.specs.declared.numbers.Numbers.{Numbers}
@@ -32,43 +32,39 @@ abbrev pub AreAddresses : NameMap → List Global → Type 0
 AreAddresses names globals = (q : Bor (List ℕ)) → get_by (λ k. bytes_eq q.now k.now) names ≡ global_address globals q.now
 
 -- the file's statements stand where their items do, in sections that start here
-abbrev pub StandAt : List ℕ → List Item → List Entry → ℕ → Type 0
-StandAt starts items entries file = (index : ℕ) (i : Item) → slice_get items index ≡ Some i → i.shown ≡ true → address_at entries file (index + 1) ≡ Some (address_of starts i)
+abbrev pub StandAt : List ℕ → List Item → List MaybeMapped → ℕ → Type 0
+StandAt starts items statements file = (index : ℕ) (i : Item) → slice_get items index ≡ Some i → i.shown ≡ true → address_at statements file (index + 1) ≡ Some (address_of starts i)
 
 -- the numbers are those of the statement at an index from 0 of a file whose statements, and names, stand so
-pub record AreOf (n : Numbers) (index : ℕ) (entries : List Entry) (globals : List Global) (file : ℕ) : Type 0 where
+pub record AreOf (n : Numbers) (index : ℕ) (statements : List MaybeMapped) (globals : List Global) (file : ℕ) : Type 0 where
   pub filled : IsFilled n.scope.now.unit.now
   pub scope : IsScope n.scope.now index
-  pub own : StandAt n.starts.now n.items.now entries file
+  pub own : StandAt n.starts.now n.items.now statements file
   pub others : AreAddresses n.addresses.now.names globals
 
 -- the address of a name, a reference or `.`
 abbrev pub IsAddress : Numbers → Primary → ℕ → Type 0
 IsAddress n q a =
-    (index : ℕ) (entries : List Entry) (globals : List Global) (file : ℕ) → AreOf n index entries globals file
-    → address_by entries globals file q (home (tables (said n.scope.now.unit.now)) (index + 1) q) ≡ Some a
+    (index : ℕ) (statements : List MaybeMapped) (globals : List Global) (file : ℕ) → AreOf n index statements globals file
+    → address_by statements globals file q (definition (tables (said n.scope.now.unit.now)) (index + 1) q) ≡ Some a
 
 -- the value of an expression in its file
 abbrev pub value_at : Numbers → ℕ → Tree → Value
-value_at n index e = value_in_file (tables (said n.scope.now.unit.now)) true (index + 1) (place_of n.place) e
+value_at n index e = value_in_file (tables (said n.scope.now.unit.now)) true (index + 1) (offset_of n.place) e
 
 -- the number of an expression
 abbrev pub IsNumber : Numbers → Tree → ℕ → Type 0
 IsNumber n e k =
-    (index : ℕ) (entries : List Entry) (globals : List Global) (file : ℕ) → AreOf n index entries globals file
-    → resolved (λ q. address_by entries globals file q (home (tables (said n.scope.now.unit.now)) (index + 1) q)) (value_at n index e) ≡ Some k
+    (index : ℕ) (statements : List MaybeMapped) (globals : List Global) (file : ℕ) → AreOf n index statements globals file
+    → resolved (λ q. address_by statements globals file q (definition (tables (said n.scope.now.unit.now)) (index + 1) q)) (value_at n index e) ≡ Some k
 
 -- the function gives the numbers of expressions
 abbrev pub Gives : Numbers → (Tree → ℕ) → Type 0
 Gives n v = (e : Tree) (k : ℕ) → IsNumber n e k → v e ≡ k
 
--- a statement that spells zeros has so many bytes
+-- a statement that spells zeros has this count of bytes
 abbrev pub Counts : (Tree → ℕ) → Statement → ℕ → Type 0
 Counts v says bytes = (e : Tree) → says ≡ Directs (Zeros e) → v e ≡ bytes
-
--- an address that 4 bytes cannot hold, neither as a number nor as a negative one
-abbrev pub is_far : ℕ → Bool
-is_far k = not (nat_lt k (2 ^ 32) || nat_le (2 ^ 64 - 2 ^ 31) k)
 
 -- ---- what has a number, by the items and the addresses of names
 
@@ -83,16 +79,16 @@ outer_by names (Symbol name) = get_by (λ k. bytes_eq name k.now) names
 outer_by names _ = None
 
 -- the address of a place of this file; none where its statement has no row
-abbrev pub own_by : List ℕ → List Item → Home → Option ℕ
+abbrev pub own_by : List ℕ → List Item → Definition → Option ℕ
 own_by starts items h = option_map (λ a. add a h.plus) (row_address_at starts items h.ordinal)
 
-abbrev pub found_by : Numbers → Primary → Option Home → Option ℕ
+abbrev pub found_by : Numbers → Primary → Option Definition → Option ℕ
 found_by n q None = outer_by n.addresses.now.names q
 found_by n q (Some h) = own_by n.starts.now n.items.now h
 
 -- the address of a name, a reference or `.` in the statement at an index
 abbrev pub address_in : Numbers → ℕ → Primary → Option ℕ
-address_in n index q = found_by n q (home (tables (said n.scope.now.unit.now)) (index + 1) q)
+address_in n index q = found_by n q (definition (tables (said n.scope.now.unit.now)) (index + 1) q)
 
 -- what a value refers to and has no address; of a difference first what is added
 abbrev pub missing : (Primary → Option ℕ) → Value → Option Primary
@@ -100,13 +96,13 @@ missing a (Symbolic q at k) = if is_some (a q) then None else Some q
 missing a (Difference q r k) = if is_some (a q) then (if is_some (a r) then None else Some r) else Some q
 missing a _ = None
 
--- the expression has this number, and if that is an address, a place of so many bytes can hold it
+-- the expression has this number, and if that is an address, `width` bytes can hold it
 abbrev pub IsKept : Numbers → ℕ → Tree → ℕ → Type 0
 IsKept n width e k =
     (index : ℕ) → AreAt n index
     → (resolved (address_in n index) (value_at n index e) ≡ Some k) × (width ≡ 4 → is_symbolic (value_at n index e) ≡ true → is_far k ≡ false)
 
--- an expression has no number for a place of so many bytes: what it refers to has no address, its address is too far for
+-- an expression has no number for `width` bytes: what it refers to has no address, its address is too far for
 -- 4 bytes, or it has no value; the last two at the statement's line. It takes no memory
 abbrev pub IsRefused : Numbers → ℕ → Tree → DataFault → Type 0
 IsRefused n width e (faults.Undefined symbol) = (index : ℕ) → AreAt n index → missing (address_in n index) (value_at n index e) ≡ Some (symbol_of symbol)

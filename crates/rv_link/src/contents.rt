@@ -2,9 +2,10 @@
 
 ghost use Rattle.std.specs.Prelude.{◌≡◌, ◌+◌, ◌-◌, ◌++◌, ◌<◌, ◌^◌, length, map, IfOk, OnOk};
 ghost use Rattle.rv_chain_laws.specs.Contents.{zeros};
-ghost use Rattle.rv_link.specs.Contents.{contents_of};
+ghost use Rattle.rv_link_laws.specs.Contents.{contents_of};
 
-use crate::piece::{Destination, Piece};
+use crate::layout::goes_to;
+use rv_link_laws::{Destination, Piece};
 use std::alloc::{AllocError, Global};
 
 /// What a region holds that begins at a place: the bytes of its sections, which start here, with zeros between them.
@@ -24,7 +25,7 @@ pub fn region_bytes(
     let mut stop = place;
     for i in 0..pieces.len() {
         let piece = pieces[i];
-        if !piece.destination.is(destination) {
+        if !goes_to(destination, piece) {
             continue;
         }
         let start = starts[i];
@@ -35,7 +36,7 @@ pub fn region_bytes(
     Ok(bytes)
 }
 
-/// Adds a section's bytes behind so many zeros.
+/// Adds `gap` zeros and then a section's bytes.
 fn join(bytes: &mut Vec<u8>, section: &[u8], gap: u64) -> Result<(), AllocError>
     ensures { OnOk result (bytes.new.items ≡ bytes.old.items ++ (zeros gap ++ section.now)) }
 {
@@ -45,7 +46,7 @@ fn join(bytes: &mut Vec<u8>, section: &[u8], gap: u64) -> Result<(), AllocError>
     bytes.extend_from_slice(section)
 }
 
-/// The end of so many bytes from a start on.
+/// The end of `bytes` bytes from a start on.
 fn end(start: u32, bytes: u32) -> u64
     ensures { result ≡ start + bytes }
 {

@@ -14,7 +14,7 @@ use rv_statement::{StatementKind, Width};
 use rv_text::{Expr, append_string};
 use std::alloc::AllocError;
 
-/// Adds a number in so many bytes, the lowest first.
+/// Adds a number in the bytes of its width, the lowest first.
 fn put_number(bytes: &mut Vec<u8>, width: Width, number: u64) -> Result<(), AllocError>
     ensures { OnOk result (bytes.new.items ≡ bytes.old.items ++ little_endian (bytes_of width) number) }
 {
@@ -37,7 +37,7 @@ fn put_zeros(bytes: &mut Vec<u8>, count: u64) -> Result<(), AllocError>
     Ok(())
 }
 
-/// Adds a string, where asked with a zero byte behind it.
+/// Adds a string, where asked with a zero byte after it.
 fn put_string(bytes: &mut Vec<u8>, ended: bool, text: &[u8]) -> Result<(), AllocError>
     ensures { OnOk result (bytes.new.items ≡ bytes.old.items ++ string_bytes ended (quoted text.entry ∷ [])) }
 {
@@ -49,7 +49,7 @@ fn put_string(bytes: &mut Vec<u8>, ended: bool, text: &[u8]) -> Result<(), Alloc
     Ok(())
 }
 
-/// Adds strings, where asked with a zero byte behind each.
+/// Adds strings, where asked with a zero byte after each.
 fn put_strings(bytes: &mut Vec<u8>, ended: bool, strings: &[&[u8]]) -> Result<(), AllocError>
     ensures { OnOk result (bytes.new.items ≡ bytes.old.items ++ string_bytes ended (map quoted strings.now)) }
 {
@@ -92,7 +92,7 @@ fn put_values<'a>(
     Ok(())
 }
 
-/// Adds the bytes that a statement spells in data; an alignment, or a count of zeros, has so many.
+/// Adds the bytes that a statement spells in data; an alignment, or a count of zeros, has `count` of them.
 pub fn put_data<'a>(
     bytes: &mut Vec<u8>,
     kind: &StatementKind<'a>,

@@ -3,21 +3,23 @@
 ghost use Rattle.std.specs.Prelude.{◌≡◌, ◌++◌, ℕ, List, [], ◌∷◌, Bool, None, Some, true, map, length, IfOk, IfErr, OnOk};
 ghost use Rattle.rv_statement.specs.View.{said_by};
 ghost use Rattle.rv_unit_laws.specs.Tables.{tables};
-ghost use Rattle.rv_unit.specs.Tables.{setting_of};
+ghost use Rattle.rv_tables.specs.Tables.{assignment_of};
 ghost use Rattle.rv_unit.specs.Unit.{said, IsFilled};
 ghost use Rattle.rv_map.specs.Map.{global_of};
 ghost use Rattle.rv_map.specs.Name.{is_name};
 ghost use Rattle.rv_source_laws.specs.Resolves.{symbol};
 ghost use Rattle.rv_link.specs.Globals.{Has};
 ghost use Rattle.rv_link.specs.Settings.{AreFirsts};
-ghost use Rattle.rv_link.specs.Definitions.{set_address, defined_address, defined_by, definitions_from, unshown, first_unshown, NamesLine};
+ghost use Rattle.rv_link_laws.specs.Definitions.{set_address, defined_address, defined_by, definitions_from};
+ghost use Rattle.rv_link.specs.Names.{unshown, first_unshown, NamesLine};
 
 use crate::names::Names;
-use crate::rows::{Item, address_of_ordinal, row_address};
+use crate::rows::{address_of_ordinal, row_address};
+use rv_link_laws::Item;
 use rv_map::Global;
 use rv_statement::{Statement, StatementKind};
 use rv_text::Meaning;
-use rv_unit::{Given, Unit};
+use rv_unit::{Assignment, Unit};
 use std::alloc::{AllocError, AllocFailed, Global as Allocator};
 
 /// Why a source's names cannot be defined.
@@ -65,10 +67,10 @@ pub fn global_definitions(
     items: &[Item],
 ) -> Result<Vec<Global>, NameFault>
     requires { length items.now ≡ length (unit.now).statements.items }
-    ensures defines { IfOk result (λ defined. (test : List ℕ → Bool) → IsFilled unit.now → Has (names.now).globals.now.set test → AreFirsts (names.now).firsts.ordinals (tables (said unit.now)).settings →
+    ensures defines { IfOk result (λ defined. (test : List ℕ → Bool) → IsFilled unit.now → Has (names.now).globals.now.set test → AreFirsts (names.now).firsts.ordinals (tables (said unit.now)).assignments →
         map global_of defined.items ≡ definitions_from test (tables (said unit.now)) starts.now items.now 1 (said unit.now) items.now) }
-    ensures shown { IfOk result (λ _. (test : List ℕ → Bool) → IsFilled unit.now → Has (names.now).globals.now.set test → AreFirsts (names.now).firsts.ordinals (tables (said unit.now)).settings → first_unshown test (tables (said unit.now)) starts.now items.now 1 (said unit.now) items.now ≡ None) }
-    ensures refused { IfErr result (λ e. (test : List ℕ → Bool) → IsFilled unit.now → Has (names.now).globals.now.set test → AreFirsts (names.now).firsts.ordinals (tables (said unit.now)).settings → NamesLine e (first_unshown test (tables (said unit.now)) starts.now items.now 1 (said unit.now) items.now)) }
+    ensures shown { IfOk result (λ _. (test : List ℕ → Bool) → IsFilled unit.now → Has (names.now).globals.now.set test → AreFirsts (names.now).firsts.ordinals (tables (said unit.now)).assignments → first_unshown test (tables (said unit.now)) starts.now items.now 1 (said unit.now) items.now ≡ None) }
+    ensures refused { IfErr result (λ e. (test : List ℕ → Bool) → IsFilled unit.now → Has (names.now).globals.now.set test → AreFirsts (names.now).firsts.ordinals (tables (said unit.now)).assignments → NamesLine e (first_unshown test (tables (said unit.now)) starts.now items.now 1 (said unit.now) items.now)) }
 {
     let placed = Placed {
         unit,
@@ -101,10 +103,10 @@ fn put_definition(
     statement: &Statement<'_>,
     item: Item,
 ) -> Result<(), NameFault>
-    ensures defines { OnOk result ((test : List ℕ → Bool) → IsFilled (placed.now).unit.now → Has (names.now).globals.now.set test → AreFirsts (names.now).firsts.ordinals (tables (said (placed.now).unit.now)).settings →
+    ensures defines { OnOk result ((test : List ℕ → Bool) → IsFilled (placed.now).unit.now → Has (names.now).globals.now.set test → AreFirsts (names.now).firsts.ordinals (tables (said (placed.now).unit.now)).assignments →
         map global_of defined.new.items ≡ map global_of defined.old.items ++ defined_by test (tables (said (placed.now).unit.now)) (placed.now).starts.now (placed.now).items.now ordinal (said_by statement.now).says item) }
-    ensures shown { OnOk result ((test : List ℕ → Bool) → IsFilled (placed.now).unit.now → Has (names.now).globals.now.set test → AreFirsts (names.now).firsts.ordinals (tables (said (placed.now).unit.now)).settings → unshown (defined_by test (tables (said (placed.now).unit.now)) (placed.now).starts.now (placed.now).items.now ordinal (said_by statement.now).says item) (statement.now).line ≡ None) }
-    ensures refused { IfErr result (λ e. (test : List ℕ → Bool) → IsFilled (placed.now).unit.now → Has (names.now).globals.now.set test → AreFirsts (names.now).firsts.ordinals (tables (said (placed.now).unit.now)).settings → NamesLine e (unshown (defined_by test (tables (said (placed.now).unit.now)) (placed.now).starts.now (placed.now).items.now ordinal (said_by statement.now).says item) (statement.now).line)) }
+    ensures shown { OnOk result ((test : List ℕ → Bool) → IsFilled (placed.now).unit.now → Has (names.now).globals.now.set test → AreFirsts (names.now).firsts.ordinals (tables (said (placed.now).unit.now)).assignments → unshown (defined_by test (tables (said (placed.now).unit.now)) (placed.now).starts.now (placed.now).items.now ordinal (said_by statement.now).says item) (statement.now).line ≡ None) }
+    ensures refused { IfErr result (λ e. (test : List ℕ → Bool) → IsFilled (placed.now).unit.now → Has (names.now).globals.now.set test → AreFirsts (names.now).firsts.ordinals (tables (said (placed.now).unit.now)).assignments → NamesLine e (unshown (defined_by test (tables (said (placed.now).unit.now)) (placed.now).starts.now (placed.now).items.now ordinal (said_by statement.now).says item) (statement.now).line)) }
 {
     let Some(name) = names.defined(ordinal, statement) else {
         return Ok(());
@@ -123,7 +125,7 @@ impl Placed<'_, '_> {
         ensures { IsFilled (self.now).unit.now → result ≡ defined_address (tables (said (self.now).unit.now)) (self.now).starts.now (self.now).items.now item (said_by statement.now).says }
     {
         match &statement.kind {
-            StatementKind::Sets(setting) => match self.unit.setting(setting.name) {
+            StatementKind::Sets(setting) => match self.unit.assignment(setting.name) {
                 Some(given) => self.set_address(given),
                 None => None,
             },
@@ -132,12 +134,12 @@ impl Placed<'_, '_> {
     }
 
     /// The number that `.set` gives, or the address of the place.
-    fn set_address(&self, given: Given<'_>) -> Option<u64>
-        ensures { result ≡ set_address (self.now).starts.now (self.now).items.now (Some (setting_of given.entry)) }
+    fn set_address(&self, given: Assignment<'_>) -> Option<u64>
+        ensures { result ≡ set_address (self.now).starts.now (self.now).items.now (Some (assignment_of given.entry)) }
     {
         match given.meaning {
             Meaning::Constant(number) => Some(number),
-            Meaning::Place(_, _) => {
+            Meaning::InSection(_, _) => {
                 let address = address_of_ordinal(self.starts, self.items, given.ordinal)?;
                 Some(address.wrapping_add(given.plus))
             }

@@ -18,7 +18,7 @@ pub struct Globals<'a> {
 }
 
 impl<'a> Globals<'a> {
-    /// Those that are global behind the statements: the last directive for a name holds.
+    /// Those that are global after the statements: the last directive for a name holds.
     pub fn of(alloc: Global, statements: &[Statement<'a>]) -> Result<Self, AllocError>
         ensures { IfOk result (λ globals. AreGlobals globals.set (map said_by statements.now)) }
     {

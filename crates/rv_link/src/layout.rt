@@ -2,10 +2,11 @@
 
 ghost use Rattle.std.specs.Prelude.{◌≡◌, ◌+◌, ◌-◌, ◌^◌, ◌<◌, ◌≤◌, length, IfOk, IfErr, IfSome, IfNone};
 ghost use Rattle.rv_unit_laws.specs.Tables.{aligned};
-ghost use Rattle.rv_link.specs.Layout.{started, end_of, end_behind, greatest, IsLayout, IsRefused};
+ghost use Rattle.rv_link_laws.specs.Layout.{goes, started, end_of, end_behind, greatest, IsLayout};
+ghost use Rattle.rv_link.specs.TooLarge.{IsRefused};
 
-use crate::piece::{Destination, Piece};
 use rv_image::STACK_START;
+use rv_link_laws::{Destination, Layout, Piece};
 use rv_map::Region;
 use std::alloc::{AllocError, Global};
 
@@ -13,16 +14,6 @@ use std::alloc::{AllocError, Global};
 const MEMORY_LIMIT: u64 = 1 << 28;
 /// Regions with different rights begin at multiples of this.
 const PAGE: u32 = 4096;
-
-/// Where each section starts, by its place in the source, and the regions.
-#[derive(Debug, PartialEq, Eq, Drop)]
-pub struct Layout {
-    pub starts: Vec<u32>,
-    pub text: Region,
-    pub rodata: Region,
-    pub data: Region,
-    pub bss: Region,
-}
 
 /// Why sections cannot be placed.
 #[derive(Clone, Copy, Debug, PartialEq, Eq, Drop)]
@@ -52,7 +43,21 @@ pub(crate) fn next_multiple(alignment: u32, address: u64) -> u64
     (address + (alignment - 1)) / alignment * alignment
 }
 
-/// Where a section begins and ends that comes behind an end; `None` where it passes the end of memory.
+/// Whether a section goes to a region.
+pub(crate) fn goes_to(destination: Destination, piece: Piece) -> bool
+    ensures { result ≡ goes destination piece }
+{
+    match (piece.destination, destination) {
+        (Destination::Text, Destination::Text)
+        | (Destination::Rodata, Destination::Rodata)
+        | (Destination::Data, Destination::Data)
+        | (Destination::Bss, Destination::Bss)
+        | (Destination::NotLoaded, Destination::NotLoaded) => true,
+        _ => false,
+    }
+}
+
+/// Where a section begins and ends that comes after an end; `None` where it passes the end of memory.
 fn behind(piece: Piece, stop: u64) -> Option<(u32, u64)>
     requires { stop ≤ 0x3ff0_0000 }
     ensures found { IfSome result (λ found. (found.0 ≡ aligned piece.alignment stop) × (found.1 ≡ aligned piece.alignment stop + piece.bytes) × (found.1 ≤ 0x3ff0_0000)) }
@@ -80,7 +85,7 @@ fn spread(starts: &mut [u32], pieces: &[Piece], destination: Destination, place:
     let mut stop = place;
     for i in 0..pieces.len() {
         let piece = pieces[i];
-        if !piece.destination.is(destination) {
+        if !goes_to(destination, piece) {
             continue;
         }
         let (start, end) = behind(piece, stop)?;
@@ -97,7 +102,7 @@ fn greatest_alignment(pieces: &[Piece], destination: Destination) -> u32
 {
     let mut alignment = 1;
     for piece in pieces {
-        if piece.destination.is(destination) {
+        if goes_to(destination, *piece) {
             alignment = piece.alignment.max(alignment);
         }
     }

@@ -3,10 +3,11 @@
 ghost use Rattle.std.specs.Prelude.{◌≡◌, ℕ, List, [], ◌∷◌, Bool, filter, IfOk};
 ghost use Rattle.rv_statement.specs.View.{said_by};
 ghost use Rattle.rv_unit_laws.specs.Tables.{Tables};
-ghost use Rattle.rv_unit.specs.Tables.{tables_of};
+ghost use Rattle.rv_tables.specs.Tables.{tables_of};
 ghost use Rattle.rv_link.specs.Globals.{Has};
 ghost use Rattle.rv_link.specs.Settings.{AreFirsts};
-ghost use Rattle.rv_link.specs.Definitions.{name_in, named_by};
+ghost use Rattle.rv_link_laws.specs.Definitions.{named_by};
+ghost use Rattle.rv_link.specs.Names.{name_in};
 
 use crate::globals::Globals;
 use crate::settings::FirstSettings;
@@ -25,9 +26,9 @@ impl<'g, 'a> Names<'g, 'a> {
     /// Those of a source that makes these names global.
     pub fn of(alloc: Global, globals: &'g Globals<'a>, unit: &Unit<'a>) -> Result<Self, AllocError>
         ensures globals { IfOk result (λ names. names.globals.now ≡ globals.now) }
-        ensures firsts { IfOk result (λ names. AreFirsts names.firsts.ordinals (tables_of (unit.now).tables).settings) }
+        ensures firsts { IfOk result (λ names. AreFirsts names.firsts.ordinals (tables_of (unit.now).tables).assignments) }
     {
-        let firsts = FirstSettings::of(alloc, unit.settings())?;
+        let firsts = FirstSettings::of(alloc, unit.assignments())?;
         Ok(Names { globals, firsts })
     }
 
@@ -44,7 +45,7 @@ impl<'g, 'a> Names<'g, 'a> {
 
     /// The name that the statement of this ordinal defines for all files.
     pub(crate) fn defined<'s>(&self, ordinal: usize, statement: &Statement<'s>) -> Option<&'s [u8]>
-        ensures { (test : List ℕ → Bool) (t : Tables) → Has (self.now).globals.now.set test → AreFirsts (self.now).firsts.ordinals t.settings → name_in result ≡ named_by test t ordinal (said_by statement.now).says }
+        ensures { (test : List ℕ → Bool) (t : Tables) → Has (self.now).globals.now.set test → AreFirsts (self.now).firsts.ordinals t.assignments → name_in result ≡ named_by test t ordinal (said_by statement.now).says }
     {
         match &statement.kind {
             StatementKind::Label(name) => self.global(*name),

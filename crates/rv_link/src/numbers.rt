@@ -3,18 +3,19 @@
 ghost use Rattle.std.specs.Prelude.{◌≡◌, ◌-◌, ◌^◌, ◌==◌, ◌||◌, nat_lt, nat_le, ℕ, List, ◌∷◌, map, Some, IfOk, IfErr, OnOk, IfSome};
 ghost use Rattle.rv_text.specs.Nodes.{symbol_of};
 ghost use Rattle.rv_text.specs.Expr.{tree_of_expr};
-ghost use Rattle.rv_unit.specs.Unit.{home_of};
+ghost use Rattle.rv_unit.specs.Unit.{definition_of};
 ghost use Rattle.rv_text_laws.specs.Values.{add, subtract};
 ghost use Rattle.rv_statement.specs.View.{bytes_of};
 ghost use Rattle.rv_map.specs.Map.{Global, global_of};
-ghost use Rattle.rv_source_laws.specs.Sites.{Entry, home_address, outer_address};
+ghost use Rattle.rv_source_laws.specs.Program.{MaybeMapped, home_address, outer_address};
 ghost use Rattle.rv_source_laws.specs.Resolves.{symbol};
 
-use crate::rows::{Item, address};
+use crate::rows::address;
+use rv_link_laws::Item;
 use rv_map::Global as Defined;
 use rv_statement::Width;
 use rv_text::{Expr, SourceFault, Symbol, Value};
-use rv_unit::{Home, Place, Scope};
+use rv_unit::{Definition, SectionOffset, Scope};
 use std::alloc::{AllocError, Global as Allocator};
 use std::collections::HashMap;
 
@@ -95,7 +96,7 @@ pub struct Numbers<'s, 'u, 'a> {
     /// The names of other files.
     pub addresses: &'s Addresses<'s>,
     /// The place of the statement, and its line.
-    pub place: Place,
+    pub place: SectionOffset,
     pub line: u32,
 }
 
@@ -124,9 +125,9 @@ impl<'s, 'u, 'a> Numbers<'s, 'u, 'a> {
     ghost use Rattle.rv_link.specs.Numbers.{AreAddresses, StandAt, AreAt, IsAddress, IsNumber, IsKept, IsRefused, own_by, outer_by, address_in};
 
     /// The address of a place of this file; none where its statement has no row.
-    fn own_address(&self, home: Home) -> Option<u64>
-        ensures value { result ≡ own_by (self.now).starts.now (self.now).items.now (home_of home) }
-        ensures stands { IfSome result (λ a. (entries : List Entry) (file : ℕ) → StandAt (self.now).starts.now (self.now).items.now entries file → home_address entries file (home_of home) ≡ Some a) }
+    fn own_address(&self, home: Definition) -> Option<u64>
+        ensures value { result ≡ own_by (self.now).starts.now (self.now).items.now (definition_of home) }
+        ensures stands { IfSome result (λ a. (statements : List MaybeMapped) (file : ℕ) → StandAt (self.now).starts.now (self.now).items.now statements file → home_address statements file (definition_of home) ≡ Some a) }
     {
         let index = home.ordinal.checked_sub(1)?;
         let item = *self.items.get(index)?;
@@ -152,7 +153,7 @@ impl<'s, 'u, 'a> Numbers<'s, 'u, 'a> {
         ensures value { (index : ℕ) → AreAt self.now index → result ≡ address_in self.now index (symbol_of symbol.entry) }
         ensures stands { IfSome result (IsAddress self.now (symbol_of symbol.entry)) }
     {
-        match self.scope.home(symbol) {
+        match self.scope.definition(symbol) {
             Some(home) => self.own_address(home),
             None => self.other_address(symbol),
         }

@@ -1,26 +1,11 @@
 //! Where statements stand.
 
 ghost use Rattle.std.specs.Prelude.{◌≡◌, ◌++◌, ◌+◌, ◌^◌, ◌<◌, IfOk, OnOk};
-ghost use Rattle.rv_link.specs.Rows.{address_of, shown_address, address_at, rows_of, rows_from};
+ghost use Rattle.rv_link_laws.specs.Rows.{address_of, shown_address, address_at, rows_of, rows_from};
 
+use rv_link_laws::Item;
 use rv_map::Row;
 use std::alloc::{AllocError, Global};
-
-/// A statement in its section: the section's place in the source, the bytes before the statement there, its own bytes,
-/// and its line.
-#[derive(Clone, Copy, Debug, PartialEq, Eq, Drop)]
-pub struct Item {
-    pub section: u32,
-    pub offset: u32,
-    pub bytes: u32,
-    pub line: u32,
-    /// It has a row in the map.
-    pub shown: bool,
-    /// It is one instruction; else it is none.
-    pub executed: bool,
-    /// Its section goes to the text.
-    pub text: bool,
-}
 
 /// The address of a statement, in sections that start here.
 pub fn address(starts: &[u32], item: Item) -> u64

@@ -1,12 +1,12 @@
 //! Where `.set` gives names first.
 
 ghost use Rattle.std.specs.Prelude.{◌≡◌, ℕ, List, ◌∷◌, Option, map, reverse, IfOk, OnOk};
-ghost use Rattle.rv_unit_laws.specs.Tables.{Setting};
-ghost use Rattle.rv_unit.specs.Tables.{setting_of};
+ghost use Rattle.rv_unit_laws.specs.Tables.{Assignment as SaidSetting};
+ghost use Rattle.rv_tables.specs.Tables.{assignment_of};
 ghost use Rattle.rv_source_laws.specs.Resolves.{sets_first};
 ghost use Rattle.rv_link.specs.Settings as laws;
 
-use rv_unit::Given;
+use rv_unit::Assignment;
 use std::alloc::{AllocError, Global};
 use std::collections::HashMap;
 
@@ -30,21 +30,21 @@ impl<'a> FirstSettings<'a> {
     ghost use Rattle.rv_link.specs.Settings.{AreFirsts};
 
     /// Those of what `.set`s give, in their order.
-    pub fn of(alloc: Global, settings: &[Given<'a>]) -> Result<Self, AllocError>
-        ensures { IfOk result (λ firsts. AreFirsts firsts.ordinals (reverse (map setting_of settings.now))) }
+    pub fn of(alloc: Global, assignments: &[Assignment<'a>]) -> Result<Self, AllocError>
+        ensures { IfOk result (λ firsts. AreFirsts firsts.ordinals (reverse (map assignment_of assignments.now))) }
     {
         let mut firsts = FirstSettings {
             ordinals: HashMap::new(alloc),
         };
-        for setting in settings {
+        for setting in assignments {
             firsts.put(setting)?;
         }
         Ok(firsts)
     }
 
     /// Adds a setting.
-    fn put(&mut self, setting: &Given<'a>) -> Result<(), AllocError>
-        ensures { OnOk result ((settings : List Setting) → AreFirsts (self.old).ordinals settings → AreFirsts (self.new).ordinals (setting_of setting.now ∷ settings)) }
+    fn put(&mut self, setting: &Assignment<'a>) -> Result<(), AllocError>
+        ensures { OnOk result ((assignments : List SaidSetting) → AreFirsts (self.old).ordinals assignments → AreFirsts (self.new).ordinals (assignment_of setting.now ∷ assignments)) }
     {
         let other = self.ordinals.get(&setting.name).copied();
         let first = least(setting.ordinal, other);
@@ -54,7 +54,7 @@ impl<'a> FirstSettings<'a> {
 
     /// Whether the statement of an ordinal is the first that gives the name.
     pub fn is_first(&self, ordinal: usize, name: &[u8]) -> bool
-        ensures { (settings : List Setting) → AreFirsts (self.now).ordinals settings → result ≡ sets_first settings ordinal name.now }
+        ensures { (assignments : List SaidSetting) → AreFirsts (self.now).ordinals assignments → result ≡ sets_first assignments ordinal name.now }
     {
         match self.ordinals.get(&name).copied() {
             Some(first) => first == ordinal,

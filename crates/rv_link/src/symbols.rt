@@ -7,21 +7,22 @@ ghost use Rattle.rv_map.specs.Map.{global_of as shown_global};
 ghost use Rattle.rv_source_laws.specs.Resolves.{is_one_of, is_start, symbol};
 ghost use Rattle.rv_link.specs.Globals.{Has};
 ghost use Rattle.rv_link.specs.Settings.{AreFirsts};
-ghost use Rattle.rv_link.specs.Definitions.{named_by, names_from, entry_from, unshown, NamesLine};
+ghost use Rattle.rv_link_laws.specs.Definitions.{named_by, names_from, entry_from};
+ghost use Rattle.rv_link.specs.Names.{unshown, NamesLine};
 ghost use Rattle.rv_link.specs.declared.definitions.NameFault.TheVariants.{OutOfMemory};
 
 use crate::definitions::{NameFault, named};
 use crate::globals::Globals;
-use crate::layout::Layout;
 use crate::names::Names;
-use crate::rows::{Item, address};
+use crate::rows::address;
+use rv_link_laws::{Item, Layout};
 use rv_map::Global;
 use rv_statement::{Statement, StatementKind};
 use std::alloc::Global as Allocator;
 
 /// Whether the statement of this ordinal defines the name for all files.
 fn is_named(names: &Names<'_, '_>, ordinal: usize, statement: &Statement<'_>, name: &[u8]) -> bool
-    ensures { (test : List ℕ → Bool) (t : Tables) → Has (names.now).globals.now.set test → AreFirsts (names.now).firsts.ordinals t.settings → result ≡ is_one_of (named_by test t ordinal (said_by statement.now).says) name.now }
+    ensures { (test : List ℕ → Bool) (t : Tables) → Has (names.now).globals.now.set test → AreFirsts (names.now).firsts.ordinals t.assignments → result ≡ is_one_of (named_by test t ordinal (said_by statement.now).says) name.now }
 {
     match names.defined(ordinal, statement) {
         Some(own) => own == name,
@@ -41,7 +42,7 @@ fn is_entry(statement: &Statement<'_>) -> bool
 
 /// Whether one of the statements defines the name for all files.
 fn defines(names: &Names<'_, '_>, statements: &[Statement<'_>], name: &[u8]) -> bool
-    ensures { (test : List ℕ → Bool) (t : Tables) → Has (names.now).globals.now.set test → AreFirsts (names.now).firsts.ordinals t.settings → result ≡ is_one_of (names_from test t 1 (map said_by statements.now)) name.now }
+    ensures { (test : List ℕ → Bool) (t : Tables) → Has (names.now).globals.now.set test → AreFirsts (names.now).firsts.ordinals t.assignments → result ≡ is_one_of (names_from test t 1 (map said_by statements.now)) name.now }
 {
     if !names.globals.has(name) {
         return false;
@@ -93,7 +94,7 @@ fn put_symbol(
     name: &str,
     address: u64,
 ) -> Result<(), NameFault>
-    ensures names { OnOk result ((test : List ℕ → Bool) (t : Tables) → Has (names.now).globals.now.set test → AreFirsts (names.now).firsts.ordinals t.settings → map shown_global symbols.new.items ≡ map shown_global symbols.old.items
+    ensures names { OnOk result ((test : List ℕ → Bool) (t : Tables) → Has (names.now).globals.now.set test → AreFirsts (names.now).firsts.ordinals t.assignments → map shown_global symbols.new.items ≡ map shown_global symbols.old.items
         ++ filter (λ g. not (is_one_of (names_from test t 1 (map said_by statements.now)) g.name)) (symbol name.now address ∷ [])) }
     ensures refused { IfErr result (λ e. NamesLine e (unshown (symbol name.now address ∷ []) 0)) }
 {
@@ -114,7 +115,7 @@ pub fn put_symbols(
     layout: &Layout,
 ) -> Result<(), NameFault>
     requires { (layout.now).data.start ≤ 0x3ff0_0000 }
-    ensures names { OnOk result ((test : List ℕ → Bool) (t : Tables) → Has (names.now).globals.now.set test → AreFirsts (names.now).firsts.ordinals t.settings → map shown_global symbols.new.items ≡ map shown_global symbols.old.items
+    ensures names { OnOk result ((test : List ℕ → Bool) (t : Tables) → Has (names.now).globals.now.set test → AreFirsts (names.now).firsts.ordinals t.assignments → map shown_global symbols.new.items ≡ map shown_global symbols.old.items
         ++ filter (λ g. not (is_one_of (names_from test t 1 (map said_by statements.now)) g.name))
         (symbol (codes "_etext") (layout.now).text.end ∷ symbol (codes "__bss_start") (layout.now).bss.start ∷ symbol (codes "_edata") (layout.now).data.end
         ∷ symbol (codes "_end") (layout.now).bss.end ∷ symbol (codes "__global_pointer$") ((layout.now).data.start + 0x800) ∷ [])) }

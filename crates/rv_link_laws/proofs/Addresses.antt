@@ -6,9 +6,9 @@ use Rattle.std.specs.Prelude.{◌&&◌, ◌==◌, option_map, option_and_then, i
 use Rattle.std.specs.List.{find}
 use Rattle.rv_statement.specs.Statement.{Spoken}
 use Rattle.rv_unit_laws.specs.Tables.{Tables, after}
-use Rattle.rv_source_laws.specs.Sites.{Entry, address_at, address_of}
-use Rattle.rv_link.specs.declared.rows.Item.{Item}
-use Rattle.rv_link.specs.Rows.{row_of, address_of as item_address}
+use Rattle.rv_source_laws.specs.Program.{MaybeMapped, address_at, address_of}
+use Rattle.rv_link_laws.specs.declared.item.Item.{Item}
+use Rattle.rv_link_laws.specs.Rows.{row_of, address_of as item_address}
 use Rattle.rv_link_laws.specs.Items.{AreItems, grown, entry_of, entries_by, nth_address}
 
 is_no : (b : Bool) → (b ≡ true → ⊥) → b ≡ false
@@ -20,11 +20,11 @@ row_address starts k i true = refl
 row_address starts k i false = refl
 
 module _ (starts : List ℕ) where
-  found : (ordinal : ℕ) (e : Entry) (rest : List Entry) (b : Bool) → (e.stated.ordinal == ordinal) ≡ b
-      → option_and_then address_of (if e.stated.ordinal == ordinal then Some e else find (λ x. (x.stated.file == 1) && (x.stated.ordinal == ordinal)) rest)
+  found : (ordinal : ℕ) (e : MaybeMapped) (rest : List MaybeMapped) (b : Bool) → (e.located.ordinal == ordinal) ≡ b
+      → option_and_then address_of (if e.located.ordinal == ordinal then Some e else find (λ x. (x.located.file == 1) && (x.located.ordinal == ordinal)) rest)
       ≡ (if b then address_of e else address_at rest 1 ordinal)
-  found ordinal e rest true f = ap (λ b. option_and_then address_of (if b then Some e else find (λ x. (x.stated.file == 1) && (x.stated.ordinal == ordinal)) rest)) f
-  found ordinal e rest false f = ap (λ b. option_and_then address_of (if b then Some e else find (λ x. (x.stated.file == 1) && (x.stated.ordinal == ordinal)) rest)) f
+  found ordinal e rest true f = ap (λ b. option_and_then address_of (if b then Some e else find (λ x. (x.located.file == 1) && (x.located.ordinal == ordinal)) rest)) f
+  found ordinal e rest false f = ap (λ b. option_and_then address_of (if b then Some e else find (λ x. (x.located.file == 1) && (x.located.ordinal == ordinal)) rest)) f
 
   pub addresses_are : (n k : ℕ) (t : Tables) (before last : ℕ → ℕ) (ss : List Spoken) (is : List Item) → AreItems k t before ss is last → address_at (entries_by starts k t ss is) 1 (k + n) ≡ nth_address starts is n
   addresses_are n k t before last [] [] h = refl

@@ -15,9 +15,9 @@ use Rattle.rv_text_laws.specs.Values.{Value, Constant, Symbolic, Difference, Fau
 use Rattle.rv_statement.specs.declared.mnemonic.Mnemonic.{Mnemonic}
 use Rattle.rv_statement.specs.Statement.{Statement, Label, Numbered, Instruction, Directs, Expression, Operand, Register, Value as Of_value, Accesses, Word, Quoted, Directive, Sets, Aligns_to_power, Aligns_to_bytes, Values, Strings, Zeros}
 use Rattle.rv_unit_laws.specs.Sections.{Section}
-use Rattle.rv_unit_laws.specs.Tables.{asked, padding, aligned}
+use Rattle.rv_unit_laws.specs.Tables.{alignment_of, padding, aligned}
 use Rattle.rv_map.specs.declared.map.Row.{Row}
-use Rattle.rv_source_laws.specs.Sites.{Site, Program, form, address, resolved, number, has_values, expressions, in_operand}
+use Rattle.rv_source_laws.specs.Program.{Mapped, Program, form, address, resolved, number, has_values, expressions, in_operand}
 use Rattle.rv_source_laws.specs.Meaning.{expansion, expanded, expanded_with, padding_count, no_operation}
 use Rattle.rv_source_laws.specs.Written.{arguments, argument}
 use Rattle.rv_source_laws.specs.Fits.{SizeFits, IsRowOf, IsPaddingIn, is_constant}
@@ -112,14 +112,14 @@ true_false true e f = absurd (cc)
 true_false false e f = absurd (cc)
 
 module _ (p : Program) (ordinal section offset line : ℕ) (home : Section) (placed : Bool) (row : Row) (before start : ℕ) where
-  abbrev at : Statement → Site
-  at says = record { stated = record { file = 1; ordinal = ordinal; section = section; offset = offset; home = home; line = line; says = says; placed = placed }; row = row }
+  abbrev at : Statement → Mapped
+  at says = record { located = record { file = 1; ordinal = ordinal; section = section; offset = offset; home = home; line = line; says = says; placed = placed }; row = row }
 
   abbrev f : Expression → Value
-  f e = form p (at (Label [])).stated e
+  f e = form p (at (Label [])).located e
 
   abbrev a : Primary → Option ℕ
-  a q = address p (at (Label [])).stated q
+  a q = address p (at (Label [])).located q
 
   -- ---- instructions
 
@@ -135,12 +135,12 @@ module _ (p : Program) (ordinal section offset line : ℕ) (home : Section) (pla
   -- an alignment
   alignment_fits : (e : Expression) (d : Directive) → is_constant (f e) ≡ true → has_values p (at (Directs d)) ≡ true → row.instructions ≡ 0
       → expansion p (at (Directs d)) ≡ (if has_values p (at (Directs d)) then Some (replicate (padding_count row.bytes) no_operation) else None)
-      → (b : Bool) → SuitsPadding b row before start (asked f d) → IsPaddingIn b p (at (Directs d)) d
+      → (b : Bool) → SuitsPadding b row before start (alignment_of f d) → IsPaddingIn b p (at (Directs d)) d
   alignment_fits e d constant valued none is true (bytes, low) =
       let here : expansion p (at (Directs d)) ≡ Some [] = is ∙ ap (λ b. if b then Some (replicate (padding_count row.bytes) no_operation) else None) valued ∙ ap (λ n. Some (replicate (padding_count n) no_operation)) bytes in
-      (subst (λ o. IsRowOf o row) (sym here) (no_row row bytes none), bytes ∙ ap (λ b. if b then 0 else padding (asked f d) row.address) (sym low))
+      (subst (λ o. IsRowOf o row) (sym here) (no_row row bytes none), bytes ∙ ap (λ b. if b then 0 else padding (alignment_of f d) row.address) (sym low))
   alignment_fits e d constant valued none is false (bytes, place, multiple) =
-      (is_true _ valued, bytes ∙ sym (padding_moves (asked f d) start before multiple) ∙ ap (λ n. padding (asked f d) n) (sym place), none)
+      (is_true _ valued, bytes ∙ sym (padding_moves (alignment_of f d) start before multiple) ∙ ap (λ n. padding (alignment_of f d) n) (sym place), none)
 
   directive_fits : (d : Directive) → SuitsDirective f (has_values p (at (Directs d))) home row before start d → SizeFits p (at (Directs d))
   directive_fits (Values width values) (none, valued, bytes) = (is_true _ valued, bytes ∙ sym (values_length (number p (at (Directs (Values width values)))) width values), none)
@@ -167,7 +167,7 @@ module _ (p : Program) (ordinal section offset line : ℕ) (home : Section) (pla
 
   alignment_written : (e : Expression) (d : Directive) → is_constant (f e) ≡ true → has_values p (at (Directs d)) ≡ true
       → expansion p (at (Directs d)) ≡ (if has_values p (at (Directs d)) then Some (replicate (padding_count row.bytes) no_operation) else None)
-      → (b : Bool) → b ≡ true → SuitsPadding b row before start (asked f d) → IsWritten p (at (Directs d))
+      → (b : Bool) → b ≡ true → SuitsPadding b row before start (alignment_of f d) → IsWritten p (at (Directs d))
   alignment_written e d constant valued is true yes' (bytes, low) =
       ([], is ∙ ap (λ b. if b then Some (replicate (padding_count row.bytes) no_operation) else None) valued ∙ ap (λ n. Some (replicate (padding_count n) no_operation)) bytes, bytes)
   alignment_written e d constant valued is false no' h = absurd (cc)
@@ -193,7 +193,7 @@ module _ (p : Program) (ordinal section offset line : ℕ) (home : Section) (pla
 
   alignment_coded : (d : Directive) → has_values p (at (Directs d)) ≡ true
       → expansion p (at (Directs d)) ≡ (if has_values p (at (Directs d)) then Some (replicate (padding_count row.bytes) no_operation) else None)
-      → (b : Bool) → b ≡ true → SuitsPadding b row before start (asked f d) → code_bytes p (at (Directs d)) ≡ []
+      → (b : Bool) → b ≡ true → SuitsPadding b row before start (alignment_of f d) → code_bytes p (at (Directs d)) ≡ []
   alignment_coded d valued is true yes' (bytes, low) =
       ap words (is ∙ ap (λ b. if b then Some (replicate (padding_count row.bytes) no_operation) else None) valued ∙ ap (λ n. Some (replicate (padding_count n) no_operation)) bytes)
   alignment_coded d valued is false no' h = absurd (cc)

@@ -5,16 +5,16 @@ use Rattle.std.proofs.lemmas.Bool.{and_parts, ne_eqb}
 use Rattle.std.specs.Prelude.{◌&&◌, ◌==◌, flat_map, option_map, option_and_then, if◌then◌else◌, codes}
 use Rattle.std.specs.List.{find, slice_get}
 use Rattle.rv_map.specs.Map.{Map}
-use Rattle.rv_text_laws.specs.Values.{Meaning, Known, Placed, Open, Refused, add}
+use Rattle.rv_text_laws.specs.Values.{Meaning, Known, InSection, Open, Refused, add}
 use Rattle.rv_statement.specs.Statement.{Statement, Label, Numbered, Instruction, Directs, Spoken, Sets}
 use Rattle.rv_unit_laws.specs.Sections.{goes_to_text}
-use Rattle.rv_unit_laws.specs.Tables.{Tables, Setting, at_start, after, tables, set_ever}
-use Rattle.rv_source_laws.specs.Stated.{Stated, stated_now, has_row}
-use Rattle.rv_source_laws.specs.Sites.{Entry, Program, program, tables_in, address_at, address_of}
+use Rattle.rv_unit_laws.specs.Tables.{Tables, Assignment, at_start, after, tables, assigned_ever}
+use Rattle.rv_source_laws.specs.Located.{Located, located_now, has_row}
+use Rattle.rv_source_laws.specs.Program.{MaybeMapped, Program, program, tables_in, address_at, address_of}
 use Rattle.rv_source_laws.specs.Resolves as laws
-use Rattle.rv_link.specs.declared.rows.Item.{Item}
-use Rattle.rv_link.specs.Rows.{row_of, shown_address, address_of as item_address, address_at as place_address}
-use Rattle.rv_link.specs.Definitions.{named_by, set_address, defined_address, defined_by, names_from, definitions_from, entry_from}
+use Rattle.rv_link_laws.specs.declared.item.Item.{Item}
+use Rattle.rv_link_laws.specs.Rows.{row_of, shown_address, address_of as item_address, address_at as place_address}
+use Rattle.rv_link_laws.specs.Definitions.{named_by, set_address, defined_address, defined_by, names_from, definitions_from, entry_from}
 use Rattle.rv_link_laws.specs.Items.{AreItems, grown, entry_of, entries_by, nth_address}
 use Rattle.rv_link_laws.proofs.Addresses.{addresses_are}
 
@@ -25,7 +25,7 @@ none_at_zero starts k u (s ∷ ss) [] = refl
 none_at_zero starts k u (s ∷ ss) (i ∷ is) =
     let other : (suc k == 0) ≡ false = ne_eqb (suc k) 0 (λ e. omega (arith, e)) in
     let rest = entries_by starts (suc (suc k)) (after u (suc k) s.says) ss is in
-    ap (λ b. option_and_then address_of (if b then Some (entry_of starts (suc k) u s i) else find (λ x. (x.stated.file == 1) && (x.stated.ordinal == 0)) rest)) other
+    ap (λ b. option_and_then address_of (if b then Some (entry_of starts (suc k) u s i) else find (λ x. (x.located.file == 1) && (x.located.ordinal == 0)) rest)) other
     ∙ none_at_zero starts (suc k) (after u (suc k) s.says) ss is
 
 nth_is : (starts : List ℕ) (is : List Item) (n : ℕ) → nth_address starts is n ≡ option_and_then (shown_address starts) (slice_get is n)
@@ -47,34 +47,34 @@ module _ (all : List Spoken) (m : Map) (starts : List ℕ) where
   -- ---- names and their addresses
 
   pub names_are : (k : ℕ) (u : Tables) (ss : List Spoken) (is : List Item) (before last : ℕ → ℕ) → AreItems k u before ss is last
-      → flat_map (λ e. laws.global_names_of (all ∷ []) (tables_in p e.stated.file) e.stated) (entries_by starts k u ss is) ≡ names_from test (tables all) k ss
+      → flat_map (λ e. laws.global_names_of (all ∷ []) (tables_in p e.located.file) e.located) (entries_by starts k u ss is) ≡ names_from test (tables all) k ss
   names_are k u [] [] before last h = refl
   names_are k u [] (i ∷ is) before last h = absurd h
   names_are k u (s ∷ ss) [] before last h = absurd h
   names_are k u (s ∷ ss) (i ∷ is) before last (item, items) =
       ap (λ l. named_by test (tables all) k s.says ++ l) (names_are (suc k) (after u k s.says) ss is (grown before i) last items)
 
-  module _ (items : List Item) (last : ℕ → ℕ) (are : AreItems 1 at_start (λ j. 0) all items last) (entries : p.entries ≡ entries_by starts 1 at_start all items) where
-    place_is : (n : ℕ) → address_at p.entries 1 n ≡ place_address starts items n
-    place_is zero = ap (λ e. address_at e 1 0) entries ∙ none_at_zero starts 0 at_start all items
+  module _ (items : List Item) (last : ℕ → ℕ) (are : AreItems 1 at_start (λ j. 0) all items last) (statements : p.statements ≡ entries_by starts 1 at_start all items) where
+    place_is : (n : ℕ) → address_at p.statements 1 n ≡ place_address starts items n
+    place_is zero = ap (λ e. address_at e 1 0) statements ∙ none_at_zero starts 0 at_start all items
     place_is (suc n) =
         let next : suc n ≡ 1 + n = omega arith in
-        ap (λ e. address_at e 1 (suc n)) entries ∙ ap (λ k. address_at (entries_by starts 1 at_start all items) 1 k) next
+        ap (λ e. address_at e 1 (suc n)) statements ∙ ap (λ k. address_at (entries_by starts 1 at_start all items) 1 k) next
         ∙ addresses_are starts n 1 at_start (λ j. 0) last all items are ∙ nth_is starts items n
 
-    set_is : (o : Option Setting) → laws.set_address p.entries 1 o ≡ set_address starts items o
+    set_is : (o : Option Assignment) → laws.set_address p.statements 1 o ≡ set_address starts items o
     set_is None = refl
     set_is (Some s) = go s.meaning
       where
-        go : (v : Meaning) → laws.set_address p.entries 1 (Some (record s { meaning = v })) ≡ set_address starts items (Some (record s { meaning = v }))
+        go : (v : Meaning) → laws.set_address p.statements 1 (Some (record s { meaning = v })) ≡ set_address starts items (Some (record s { meaning = v }))
         go (Known n) = refl
-        go (Placed section offset) = ap (λ o. option_map (λ a. add a s.plus) o) (place_is s.ordinal)
+        go (InSection section offset) = ap (λ o. option_map (λ a. add a s.plus) o) (place_is s.ordinal)
         go Open = refl
         go (Refused code) = refl
 
     address_is : (k : ℕ) (u : Tables) (line : ℕ) (says : Statement) (i : Item)
-        → laws.defined_address (tables all) p.entries (entry_of starts k u (record { line = line; says = says }) i) says ≡ defined_address (tables all) starts items i says
-    address_is k u line (Directs (Sets name e)) i = set_is (set_ever (tables all).settings name)
+        → laws.defined_address (tables all) p.statements (entry_of starts k u (record { line = line; says = says }) i) says ≡ defined_address (tables all) starts items i says
+    address_is k u line (Directs (Sets name e)) i = set_is (assigned_ever (tables all).assignments name)
     address_is k u line _ i = row_shown starts k i i.shown
 
     pub definitions_are : (k : ℕ) (u : Tables) (ss : List Spoken) (is : List Item) (before last : ℕ → ℕ) → AreItems k u before ss is last
@@ -89,8 +89,8 @@ module _ (all : List Spoken) (m : Map) (starts : List ℕ) where
 
   -- ---- the entry
 
-  is_shown : (k : ℕ) (t : Tables) (line : ℕ) (says : Statement) → laws.is_start says ≡ true → goes_to_text (stated_now 1 k t (record { line = line; says = says })).home ≡ true
-      → has_row (stated_now 1 k t (record { line = line; says = says })) ≡ true
+  is_shown : (k : ℕ) (t : Tables) (line : ℕ) (says : Statement) → laws.is_start says ≡ true → goes_to_text (located_now 1 k t (record { line = line; says = says })).home ≡ true
+      → has_row (located_now 1 k t (record { line = line; says = says })) ≡ true
   is_shown k t line (Label name) e f = (and_parts _ _ f).0
   is_shown k t line (Numbered number) e f = absurd (cc)
   is_shown k t line (Instruction mnemonic operands) e f = absurd (cc)
@@ -102,17 +102,17 @@ module _ (all : List Spoken) (m : Map) (starts : List ℕ) where
   and_true false b c e = refl
 
   pub entry_is : (k : ℕ) (t : Tables) (ss : List Spoken) (is : List Item) (before last : ℕ → ℕ) (a : ℕ) → AreItems k t before ss is last → test (codes "_start") ≡ true → entry_from starts ss is ≡ Some a
-      → laws.starts_at (find (λ e. laws.begins_run (all ∷ []) e.stated) (entries_by starts k t ss is)) ≡ Some a
+      → laws.starts_at (find (λ e. laws.begins_run (all ∷ []) e.located) (entries_by starts k t ss is)) ≡ Some a
   entry_is k t [] [] before last a h known e = absurd (cc)
   entry_is k t [] (i ∷ is) before last a h known e = absurd h
   entry_is k t (s ∷ ss) [] before last a h known e = absurd h
   entry_is k t (s ∷ ss) (i ∷ is) before last a (item, items) known e =
       go (laws.is_start s.says && i.text) refl same e (λ f. entry_is (suc k) (after t k s.says) ss is (grown before i) last a items known f)
     where
-      st : Stated
-      st = stated_now 1 k t s
+      st : Located
+      st = located_now 1 k t s
 
-      rest : List Entry
+      rest : List MaybeMapped
       rest = entries_by starts (suc k) (after t k s.says) ss is
 
       same : laws.begins_run (all ∷ []) st ≡ (laws.is_start s.says && i.text)
@@ -120,14 +120,14 @@ module _ (all : List Spoken) (m : Map) (starts : List ℕ) where
 
       go : (b : Bool) → (laws.is_start s.says && i.text) ≡ b → laws.begins_run (all ∷ []) st ≡ (laws.is_start s.says && i.text)
           → (if laws.is_start s.says && i.text then Some (item_address starts i) else entry_from starts ss is) ≡ Some a
-          → (entry_from starts ss is ≡ Some a → laws.starts_at (find (λ e. laws.begins_run (all ∷ []) e.stated) rest) ≡ Some a)
-          → laws.starts_at (if laws.begins_run (all ∷ []) st then Some (entry_of starts k t s i) else find (λ e. laws.begins_run (all ∷ []) e.stated) rest) ≡ Some a
+          → (entry_from starts ss is ≡ Some a → laws.starts_at (find (λ e. laws.begins_run (all ∷ []) e.located) rest) ≡ Some a)
+          → laws.starts_at (if laws.begins_run (all ∷ []) st then Some (entry_of starts k t s i) else find (λ e. laws.begins_run (all ∷ []) e.located) rest) ≡ Some a
       go true e1 e2 e3 ih =
           let parts = and_parts (laws.is_start s.says) i.text e1 in
           let shown : i.shown ≡ true = item.shown ∙ is_shown k t s.line s.says parts.0 (sym item.text ∙ parts.1) in
           let at : Some (item_address starts i) ≡ Some a = ap (λ b. if b then Some (item_address starts i) else entry_from starts ss is) (sym e1) ∙ e3 in
-          ap (λ b. laws.starts_at (if b then Some (entry_of starts k t s i) else find (λ e. laws.begins_run (all ∷ []) e.stated) rest)) (e2 ∙ e1)
+          ap (λ b. laws.starts_at (if b then Some (entry_of starts k t s i) else find (λ e. laws.begins_run (all ∷ []) e.located) rest)) (e2 ∙ e1)
           ∙ ap (λ b. option_map (λ r. r.address) (if b then Some (row_of 1 starts k i) else None)) shown ∙ at
       go false e1 e2 e3 ih =
-          ap (λ b. laws.starts_at (if b then Some (entry_of starts k t s i) else find (λ e. laws.begins_run (all ∷ []) e.stated) rest)) (e2 ∙ e1)
+          ap (λ b. laws.starts_at (if b then Some (entry_of starts k t s i) else find (λ e. laws.begins_run (all ∷ []) e.located) rest)) (e2 ∙ e1)
           ∙ ih (ap (λ b. if b then Some (item_address starts i) else entry_from starts ss is) (sym e1) ∙ e3)

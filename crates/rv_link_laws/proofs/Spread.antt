@@ -1,16 +1,16 @@
--- The sections of a region stand one behind the other.
+-- The sections of a region stand one after the other.
 
 use Rattle.std.proofs.Common.{◌≡◌, ℕ, suc, ◌+◌, Bool, true, false, List, [], ◌∷◌, length, refl, sym, ap, ◌∙◌, subst, arith}
 use Rattle.std.specs.Prelude.{slice_index, if◌then◌else◌, replicate, ⊤}
 use Rattle.rv_unit_laws.specs.Sections.{Section}
 use Rattle.rv_unit_laws.specs.Tables.{Tables, aligned}
 use Rattle.rv_source_laws.specs.Fits.{begins_at}
-use Rattle.rv_source_laws.specs.Placed.{Joins, Spread}
-use Rattle.rv_link.specs.declared.piece.Destination.{Destination}
-use Rattle.rv_link.specs.declared.piece.Destination.TheVariants.{Text, Rodata, Data, Bss, Nowhere}
-use Rattle.rv_link.specs.declared.piece.Piece.{Piece}
-use Rattle.rv_link.specs.Destination.{is_bound_for}
-use Rattle.rv_link.specs.Layout.{goes, end_behind, end_of, started, starts_of}
+use Rattle.rv_source_laws.specs.Placement.{Joins, Spread}
+use Rattle.rv_link_laws.specs.declared.piece.Destination.{Destination}
+use Rattle.rv_link_laws.specs.declared.piece.Destination.TheVariants.{Text, Rodata, Data, Bss, NotLoaded}
+use Rattle.rv_link_laws.specs.declared.piece.Piece.{Piece}
+use Rattle.rv_link_laws.specs.Destination.{is_bound_for}
+use Rattle.rv_link_laws.specs.Layout.{goes, end_behind, end_of, started, starts_of}
 use Rattle.rv_link_laws.specs.Items.{starts_at, ends_at}
 use Rattle.rv_link_laws.specs.Pieces.{destination_of, goes_to, ArePieces}
 use Rattle.rv_link_laws.specs.Laws.{start_of}
@@ -39,16 +39,16 @@ bound Bss true false true w name = refl
 bound Bss true false false true name = refl
 bound Bss true false false false name = refl
 bound Bss false x n w name = refl
-bound Nowhere true true n w name = refl
-bound Nowhere true false true w name = refl
-bound Nowhere true false false true name = refl
-bound Nowhere true false false false name = refl
-bound Nowhere false x n w name = refl
+bound NotLoaded true true n w name = refl
+bound NotLoaded true false true w name = refl
+bound NotLoaded true false false true name = refl
+bound NotLoaded true false false false name = refl
+bound NotLoaded false x n w name = refl
 
 pub bound_for : (to : Destination) (s : Section) → goes_to to s ≡ is_bound_for to (destination_of s)
 bound_for to s = bound to s.loaded s.executable s.nobits s.writable s.name
 
--- ---- starts one behind the other
+-- ---- starts one after the other
 
 abbrev pub Stands : Destination → ℕ → List ℕ → List Piece → Type 0
 Stands to stop [] [] = ⊤
@@ -109,29 +109,29 @@ apart Text Text Text e f = absurd (cc)
 apart Text Rodata Text e f = refl
 apart Text Data Text e f = refl
 apart Text Bss Text e f = refl
-apart Text Nowhere Text e f = refl
+apart Text NotLoaded Text e f = refl
 apart Text b Rodata e f = absurd (cc)
 apart Text b Data e f = absurd (cc)
 apart Text b Bss e f = absurd (cc)
-apart Text b Nowhere e f = absurd (cc)
+apart Text b NotLoaded e f = absurd (cc)
 apart Rodata b Text e f = absurd (cc)
 apart Rodata Text Rodata e f = refl
 apart Rodata Rodata Rodata e f = absurd (cc)
 apart Rodata Data Rodata e f = refl
 apart Rodata Bss Rodata e f = refl
-apart Rodata Nowhere Rodata e f = refl
+apart Rodata NotLoaded Rodata e f = refl
 apart Rodata b Data e f = absurd (cc)
 apart Rodata b Bss e f = absurd (cc)
-apart Rodata b Nowhere e f = absurd (cc)
+apart Rodata b NotLoaded e f = absurd (cc)
 apart Data b Text e f = absurd (cc)
 apart Data b Rodata e f = absurd (cc)
 apart Data Text Data e f = refl
 apart Data Rodata Data e f = refl
 apart Data Data Data e f = absurd (cc)
 apart Data Bss Data e f = refl
-apart Data Nowhere Data e f = refl
+apart Data NotLoaded Data e f = refl
 apart Data b Bss e f = absurd (cc)
-apart Data b Nowhere e f = absurd (cc)
+apart Data b NotLoaded e f = absurd (cc)
 apart Bss b Text e f = absurd (cc)
 apart Bss b Rodata e f = absurd (cc)
 apart Bss b Data e f = absurd (cc)
@@ -139,17 +139,17 @@ apart Bss Text Bss e f = refl
 apart Bss Rodata Bss e f = refl
 apart Bss Data Bss e f = refl
 apart Bss Bss Bss e f = absurd (cc)
-apart Bss Nowhere Bss e f = refl
-apart Bss b Nowhere e f = absurd (cc)
-apart Nowhere b Text e f = absurd (cc)
-apart Nowhere b Rodata e f = absurd (cc)
-apart Nowhere b Data e f = absurd (cc)
-apart Nowhere b Bss e f = absurd (cc)
-apart Nowhere Text Nowhere e f = refl
-apart Nowhere Rodata Nowhere e f = refl
-apart Nowhere Data Nowhere e f = refl
-apart Nowhere Bss Nowhere e f = refl
-apart Nowhere Nowhere Nowhere e f = absurd (cc)
+apart Bss NotLoaded Bss e f = refl
+apart Bss b NotLoaded e f = absurd (cc)
+apart NotLoaded b Text e f = absurd (cc)
+apart NotLoaded b Rodata e f = absurd (cc)
+apart NotLoaded b Data e f = absurd (cc)
+apart NotLoaded b Bss e f = absurd (cc)
+apart NotLoaded Text NotLoaded e f = refl
+apart NotLoaded Rodata NotLoaded e f = refl
+apart NotLoaded Data NotLoaded e f = refl
+apart NotLoaded Bss NotLoaded e f = refl
+apart NotLoaded NotLoaded NotLoaded e f = absurd (cc)
 
 still : (to other : Destination) → is_bound_for to other ≡ false → (stop stop' : ℕ) (ss : List ℕ) (xs : List Piece) → Stands to stop ss xs → Stands to stop (started other stop' ss xs) xs
 still to other e = kept to other (λ x f. apart to other x.destination e f)
@@ -177,12 +177,12 @@ module _ (xs : List Piece) (a b c d : ℕ) where
   same_third : AreSame third xs
   same_third = same_started Data c second xs same_second
 
-  pub all_stand : (to : Destination) → is_bound_for to Nowhere ≡ false → Stands to (start_of to a b c d) (starts_of xs a b c d) xs
+  pub all_stand : (to : Destination) → is_bound_for to NotLoaded ≡ false → Stands to (start_of to a b c d) (starts_of xs a b c d) xs
   all_stand Text e = still Text Bss refl a d third xs (still Text Data refl a c second xs (still Text Rodata refl a b first xs (stands Text a none xs (same_zeros xs))))
   all_stand Rodata e = still Rodata Bss refl b d third xs (still Rodata Data refl b c second xs (stands Rodata b first xs same_first))
   all_stand Data e = still Data Bss refl c d third xs (stands Data c second xs same_second)
   all_stand Bss e = stands Bss d third xs same_third
-  all_stand Nowhere e = absurd (cc)
+  all_stand NotLoaded e = absurd (cc)
 
 -- ---- the sections of a source
 

@@ -3,13 +3,13 @@
 use Rattle.std.specs.Prelude.{◌≡◌, ℕ, ◌+◌, ◌%◌, Bool, true, ⊤, List, [], ◌∷◌, flat_map, slice_index_or}
 use Rattle.rv_unit_laws.specs.Sections.{Section, text_section, goes_to_text}
 use Rattle.rv_unit_laws.specs.Tables.{Tables}
-use Rattle.rv_source_laws.specs.Sites.{Site}
-use Rattle.rv_source_laws.specs.Fits.{begins_at, sites_in}
+use Rattle.rv_source_laws.specs.Program.{Mapped}
+use Rattle.rv_source_laws.specs.Fits.{begins_at, mapped_in}
 
 -- each section that goes to a region has the bytes of its statements, by its place from an index on
-abbrev pub HoldBytes : List Site → (Section → Bool) → (Site → List ℕ) → ℕ → List Section → List (List ℕ) → Type 0
-HoldBytes sites goes bytes index sections cs =
-    (j : ℕ) → goes (slice_index_or sections j text_section) ≡ true → slice_index_or cs j [] ≡ flat_map bytes (sites_in sites 1 (index + j))
+abbrev pub HoldBytes : List Mapped → (Section → Bool) → (Mapped → List ℕ) → ℕ → List Section → List (List ℕ) → Type 0
+HoldBytes mapped goes bytes index sections cs =
+    (j : ℕ) → goes (slice_index_or sections j text_section) ≡ true → slice_index_or cs j [] ≡ flat_map bytes (mapped_in mapped 1 (index + j))
 
 -- bytes for each section
 abbrev pub AreEach : List Section → List (List ℕ) → Type 0

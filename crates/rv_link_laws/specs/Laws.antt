@@ -10,32 +10,32 @@ use Rattle.rv_unit_laws.specs.Faults.{first_fault}
 use Rattle.rv_chain_laws.specs.Contents.{IsLinked, code_bytes}
 use Rattle.rv_source_laws.specs.Resolves.{Resolves}
 use Rattle.rv_source_laws.specs.Start.{spelled}
-use Rattle.rv_link.specs.declared.layout.Layout.{Layout}
-use Rattle.rv_link.specs.Layout.{IsLayout}
-use Rattle.rv_link.specs.Contents.{contents_of}
+use Rattle.rv_link_laws.specs.declared.layout.Layout.{Layout}
+use Rattle.rv_link_laws.specs.Layout.{IsLayout}
+use Rattle.rv_link_laws.specs.Contents.{contents_of}
 use Rattle.std.specs.Prelude.{◌++◌, true, Some, not, filter, codes}
 use Rattle.rv_source_laws.specs.Resolves.{is_one_of, is_global_after, linker_symbols}
-use Rattle.rv_link.specs.Definitions.{names_from, definitions_from, entry_from}
+use Rattle.rv_link_laws.specs.Definitions.{names_from, definitions_from, entry_from}
 use Rattle.std.specs.Prelude.{flat_map, ◌==◌, ◌+◌}
 use Rattle.std.specs.List.{AllByRecursion}
-use Rattle.rv_source_laws.specs.Stated.{stated}
-use Rattle.rv_source_laws.specs.Sites.{Program, form, address_at}
+use Rattle.rv_source_laws.specs.Located.{located}
+use Rattle.rv_source_laws.specs.Program.{Program, form, address_at}
 use Rattle.rv_link_laws.specs.Suits.{code_said}
 use Rattle.rv_link_laws.specs.Items.{AllSuit}
 use Rattle.rv_link_laws.specs.Bytes.{HoldBytes, AreEach, AreEven}
 use Rattle.rv_statement.specs.Statement.{Spoken}
 use Rattle.rv_unit_laws.specs.Tables.{at_start, tables}
-use Rattle.rv_source_laws.specs.Placed.{RowsOf, SpreadOf}
-use Rattle.rv_link.specs.declared.rows.Item.{Item}
-use Rattle.rv_link.specs.declared.piece.Destination.{Destination}
-use Rattle.rv_link.specs.declared.piece.Destination.TheVariants.{Text, Rodata, Data, Bss, Nowhere}
-use Rattle.rv_link.specs.Destination.{is_bound_for}
-use Rattle.rv_link.specs.declared.piece.Piece.{Piece}
-use Rattle.rv_link.specs.Rows.{rows_from}
-use Rattle.rv_link.specs.Layout.{starts_of, end_of}
+use Rattle.rv_source_laws.specs.Placement.{RowsOf, SpreadOf}
+use Rattle.rv_link_laws.specs.declared.item.Item.{Item}
+use Rattle.rv_link_laws.specs.declared.piece.Destination.{Destination}
+use Rattle.rv_link_laws.specs.declared.piece.Destination.TheVariants.{Text, Rodata, Data, Bss, NotLoaded}
+use Rattle.rv_link_laws.specs.Destination.{is_bound_for}
+use Rattle.rv_link_laws.specs.declared.piece.Piece.{Piece}
+use Rattle.rv_link_laws.specs.Rows.{rows_from}
+use Rattle.rv_link_laws.specs.Layout.{starts_of, end_of}
 use Rattle.rv_map.specs.Map.{Map}
-use Rattle.rv_source_laws.specs.Sites.{program}
-use Rattle.rv_source_laws.specs.Fits.{sites_in, size}
+use Rattle.rv_source_laws.specs.Program.{program}
+use Rattle.rv_source_laws.specs.Fits.{mapped_in, size}
 use Rattle.rv_link_laws.specs.Items.{AreItems, starts_at, ends_at, entries_by, sites_by, nth_address}
 use Rattle.rv_link_laws.specs.Pieces.{ArePieces, goes_to}
 
@@ -55,7 +55,7 @@ start_of _ text rodata variables bss = 0
 abbrev pub PlacedSections : Type 0
 PlacedSections =
     (to : Destination) (ss : List Spoken) (pieces : List Piece) (last : ℕ → ℕ) (text rodata variables bss : ℕ)
-    → is_bound_for to Nowhere ≡ false → ArePieces (tables ss) last 0 (tables ss).opened.sections pieces
+    → is_bound_for to NotLoaded ≡ false → ArePieces (tables ss) last 0 (tables ss).opened.sections pieces
     → let starts = starts_of pieces text rodata variables bss in
     let place = start_of to text rodata variables bss in
     SpreadOf (goes_to to) (starts_at starts) (ends_at starts last) 1 place (ss ∷ []) (end_of to place pieces)
@@ -63,8 +63,8 @@ PlacedSections =
 abbrev pub PlacedSites : Type 0
 PlacedSites =
     (starts : List ℕ) (ss : List Spoken) (is : List Item) (last : ℕ → ℕ) (m : Map) → AreItems 1 at_start (λ j. 0) ss is last → m.rows ≡ rows_from 1 starts 1 is
-    → ((program (ss ∷ []) m).entries ≡ entries_by starts 1 at_start ss is) × ((program (ss ∷ []) m).sites ≡ sites_by starts 1 at_start ss is)
-    × ((j : ℕ) → size (map (λ s. s.row) (sites_in (sites_by starts 1 at_start ss is) 1 j)) ≡ last j)
+    → ((program (ss ∷ []) m).statements ≡ entries_by starts 1 at_start ss is) × ((program (ss ∷ []) m).mapped ≡ sites_by starts 1 at_start ss is)
+    × ((j : ℕ) → size (map (λ s. s.row) (mapped_in (sites_by starts 1 at_start ss is) 1 j)) ≡ last j)
 
 -- the map of a layout
 abbrev pub map_of : Layout → ℕ → List Global → List Row → Map
@@ -83,9 +83,9 @@ pub record IsPlaced (text_start : ℕ) (ss : List Spoken) (is : List Item) (last
   pub resolves : Resolves (ss ∷ []) m
   pub each_code : AreEach (tables ss).opened.sections texts
   pub each_data : AreEach (tables ss).opened.sections figures
-  pub code : HoldBytes (program (ss ∷ []) m).sites goes_to_text (code_bytes (program (ss ∷ []) m)) 0 (tables ss).opened.sections texts
-  pub constants : HoldBytes (program (ss ∷ []) m).sites goes_to_rodata (spelled (program (ss ∷ []) m)) 0 (tables ss).opened.sections figures
-  pub variables : HoldBytes (program (ss ∷ []) m).sites goes_to_data (spelled (program (ss ∷ []) m)) 0 (tables ss).opened.sections figures
+  pub code : HoldBytes (program (ss ∷ []) m).mapped goes_to_text (code_bytes (program (ss ∷ []) m)) 0 (tables ss).opened.sections texts
+  pub constants : HoldBytes (program (ss ∷ []) m).mapped goes_to_rodata (spelled (program (ss ∷ []) m)) 0 (tables ss).opened.sections figures
+  pub variables : HoldBytes (program (ss ∷ []) m).mapped goes_to_data (spelled (program (ss ∷ []) m)) 0 (tables ss).opened.sections figures
 
 -- they make the linked program of the source
 abbrev pub PlacedLinks : Type 0
@@ -118,8 +118,8 @@ abbrev pub PlacedCode : Type 0
 PlacedCode =
     (p : Program) (starts : List ℕ) (j : ℕ) (ss : List Spoken) (is : List Item) (last : ℕ → ℕ)
     → AreItems 1 at_start (λ j. 0) ss is last → AllSuit p starts 1 at_start ss is → first_fault ss ≡ None
-    → AllByRecursion (λ s. (s.section == j) ≡ true → goes_to_text s.home ≡ true) (stated (ss ∷ []))
-    → flat_map (code_bytes p) (sites_in (sites_by starts 1 at_start ss is) 1 j) ≡ flat_map (λ s. code_said (form p s) s.says) (filter (λ s. j == s.section) (stated (ss ∷ [])))
+    → AllByRecursion (λ s. (s.section == j) ≡ true → goes_to_text s.home ≡ true) (located (ss ∷ []))
+    → flat_map (code_bytes p) (mapped_in (sites_by starts 1 at_start ss is) 1 j) ≡ flat_map (λ s. code_said (form p s) s.says) (filter (λ s. j == s.section) (located (ss ∷ [])))
 
 -- the address of a statement by its ordinal
 abbrev pub PlacedAddresses : Type 0

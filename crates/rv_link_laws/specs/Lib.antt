@@ -1,3 +1,8 @@
+pub mod Destination
+pub mod Layout
+pub mod Rows
+pub mod Contents
+pub mod Definitions
 pub mod Suits
 pub mod Items
 pub mod Pieces

@@ -4,23 +4,23 @@ use Rattle.std.specs.Prelude.{◌≡◌, ℕ, suc, Bool, not, ⊤, List, [], ◌
 use Rattle.rv_unit_laws.specs.Sections.{Section, goes_to_text, goes_to_rodata, goes_to_data, goes_to_bss}
 use Rattle.rv_unit_laws.specs.Tables.{Tables}
 use Rattle.rv_source_laws.specs.Fits.{begins_at}
-use Rattle.rv_link.specs.declared.piece.Destination.{Destination}
-use Rattle.rv_link.specs.declared.piece.Destination.TheVariants.{Text, Rodata, Data, Bss, Nowhere}
-use Rattle.rv_link.specs.declared.piece.Piece.{Piece}
+use Rattle.rv_link_laws.specs.declared.piece.Destination.{Destination}
+use Rattle.rv_link_laws.specs.declared.piece.Destination.TheVariants.{Text, Rodata, Data, Bss, NotLoaded}
+use Rattle.rv_link_laws.specs.declared.piece.Piece.{Piece}
 
 -- where a section goes by its flags
 abbrev pub destination_of : Section → Destination
 destination_of s =
-    if s.loaded then (if s.executable then Text else (if s.nobits then Bss else (if s.writable then Data else Rodata))) else Nowhere
+    if s.loaded then (if s.executable then Text else (if s.nobits then Bss else (if s.writable then Data else Rodata))) else NotLoaded
 
 abbrev pub goes_to : Destination → Section → Bool
 goes_to Text s = goes_to_text s
 goes_to Rodata s = goes_to_rodata s
 goes_to Data s = goes_to_data s
 goes_to Bss s = goes_to_bss s
-goes_to Nowhere s = not s.loaded
+goes_to NotLoaded s = not s.loaded
 
--- the piece of a section that has so many bytes
+-- the piece of a section of this size
 pub record IsPiece (t : Tables) (index : ℕ) (section : Section) (count : ℕ) (x : Piece) : Type 0 where
   pub destination : x.destination ≡ destination_of section
   pub bytes : x.bytes ≡ count

@@ -7,9 +7,9 @@ use Rattle.rv_isa.specs.Ranges.{IsValid}
 use Rattle.rv_text_laws.specs.Values.{Value, Constant}
 use Rattle.rv_statement.specs.Statement.{Statement, Label, Numbered, Instruction, Directs, Expression, Directive, Sets, Aligns_to_power, Aligns_to_bytes, Values, Strings, Zeros}
 use Rattle.rv_unit_laws.specs.Sections.{Section}
-use Rattle.rv_unit_laws.specs.Tables.{asked, padding, string_bytes}
+use Rattle.rv_unit_laws.specs.Tables.{alignment_of, padding, string_bytes}
 use Rattle.rv_map.specs.declared.map.Row.{Row}
-use Rattle.rv_source_laws.specs.Sites.{expressions}
+use Rattle.rv_source_laws.specs.Program.{expressions}
 use Rattle.rv_source_laws.specs.Fits.{is_constant, is_low}
 use Rattle.rv_source_laws.specs.Meaning.{expanded, expanded_said}
 use Rattle.rv_chain_laws.specs.Contents.{words}
@@ -43,8 +43,8 @@ SuitsDirective f valued home row offset start (Values width values) =
 SuitsDirective f valued home row offset start (Strings ended strings) =
     (row.instructions ≡ 0) × (row.bytes ≡ length (string_bytes ended strings))
 SuitsDirective f valued home row offset start (Zeros count) = (row.instructions ≡ 0) × (f count ≡ Constant row.bytes)
-SuitsDirective f valued home row offset start (Aligns_to_power e) = SuitsAlignment (f e) home row offset start (asked f (Aligns_to_power e))
-SuitsDirective f valued home row offset start (Aligns_to_bytes e) = SuitsAlignment (f e) home row offset start (asked f (Aligns_to_bytes e))
+SuitsDirective f valued home row offset start (Aligns_to_power e) = SuitsAlignment (f e) home row offset start (alignment_of f (Aligns_to_power e))
+SuitsDirective f valued home row offset start (Aligns_to_bytes e) = SuitsAlignment (f e) home row offset start (alignment_of f (Aligns_to_bytes e))
 SuitsDirective f valued home row offset start (Sets name e) = (row.bytes ≡ 0) × (row.instructions ≡ 0)
 SuitsDirective f valued home row offset start _ = ⊥
 

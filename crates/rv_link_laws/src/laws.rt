@@ -7,7 +7,7 @@ pub fn placed_rows()
     ensures { PlacedRows }
 {}
 
-/// The sections of a region stand one behind the other.
+/// The sections of a region stand one after the other.
 pub fn placed_sections()
     ensures { PlacedSections }
 {}

@@ -4,12 +4,12 @@ use Rattle.std.specs.Global.{Vec}
 use Rattle.std.proofs.lemmas.Result.{err_from_is_err_and}
 use Rattle.std.proofs.lemmas.List.{length-map}
 use Rattle.rv_statement.specs.View.{said_by}
-use Rattle.rv_unit.specs.declared.place.Place.{Place}
+use Rattle.rv_tables.specs.declared.section_offset.SectionOffset.{SectionOffset}
 use Rattle.rv_unit.specs.Unit.{said, IsFilled}
-use Rattle.rv_unit.specs.Sections.{extent_section, place_of}
+use Rattle.rv_tables.specs.Sections.{extent_section, offset_of}
 use Rattle.rv_unit_laws.specs.Tables.{tables, value as value_of}
 use Rattle.rv_chain.specs.Added.{IsAdded, Adds}
-use Rattle.rv_chain.proofs.Standing.{StandsAt, stands_at, places_count, got_inside, stated_at, stated_none}
+use Rattle.rv_chain.proofs.Standing.{StandsAt, stands_at, places_count, got_inside, located_at, stated_none}
 use Rattle.rv_chain.proofs.Whole.{code_more, coded_more, code_wrong, code_whole, coded_whole}
 use Rattle.rv_chain.proofs.code.code.Goals as goal
 
@@ -28,11 +28,11 @@ put_code-requires c =
     let u = c.args.unit.now in
     let i = c.loop-index.index in
     let x = c.index-statements-index.result in
-    let p : Place = slice_index_or c.places-places.result.now i (record { section = 0; offset = 0 }) in
+    let p : SectionOffset = slice_index_or c.places-places.result.now i (record { section = 0; offset = 0 }) in
     let inside = subst (λ l. i < length l) c.statements-statements.ensures c.loop-index-test.true in
     let is : x ≡ get_or u.statements.items i x = c.index-statements-index.is ∙ ap (λ l. get_or l i x) c.statements-statements.ensures in
     let at : StandsAt u i x p = stands_at u i x x (record { section = 0; offset = 0 }) p c.requires inside is (ap (λ l. get_or l i (record { section = 0; offset = 0 })) c.places-places.ensures) in
-    let stands = got_inside (map extent_section u.tables.extents.items) p.section (stated_at (said u) i (said_by x)).home at.home in
+    let stands = got_inside (map extent_section u.tables.extents.items) p.section (located_at (said u) i (said_by x)).home at.home in
     subst (λ n. p.section < n) (length-map u.tables.extents.items extent_section ∙ sym c.loop-index.invariant.3) stands
 
 pub loop-index-preserved : goal.loop-index-preserved
@@ -40,14 +40,14 @@ loop-index-preserved c =
     let u = c.args.unit.now in
     let i = c.loop-index.index in
     let x = c.index-statements-index.result in
-    let p : Place = slice_index_or c.places-places.result.now i (record { section = 0; offset = 0 }) in
+    let p : SectionOffset = slice_index_or c.places-places.result.now i (record { section = 0; offset = 0 }) in
     let inside = subst (λ l. i < length l) c.statements-statements.ensures c.loop-index-test.true in
     let is : x ≡ get_or u.statements.items i x = c.index-statements-index.is ∙ ap (λ l. get_or l i x) c.statements-statements.ensures in
     let at : StandsAt u i x p = stands_at u i x x (record { section = 0; offset = 0 }) p c.requires inside is (ap (λ l. get_or l i (record { section = 0; offset = 0 })) c.places-places.ensures) in
     let same = c.loop-index.invariant.0 in
     let filled = subst IsFilled (sym same) c.requires in
-    let added : IsAdded c.loop-index.coder c.put_code.new.coder p.section (λ e. value_of (tables (said u)) true (i + 1) (place_of p) e) (said_by x) =
-    subst (λ w. IsAdded c.loop-index.coder c.put_code.new.coder p.section (λ e. value_of (tables (said w)) true (i + 1) (place_of p) e) (said_by x)) same
+    let added : IsAdded c.loop-index.coder c.put_code.new.coder p.section (λ e. value_of (tables (said u)) true (i + 1) (offset_of p) e) (said_by x) =
+    subst (λ w. IsAdded c.loop-index.coder c.put_code.new.coder p.section (λ e. value_of (tables (said w)) true (i + 1) (offset_of p) e) (said_by x)) same
     (c.in_ok-put_code.ensures i filled c.loop-index.invariant.1) in
     let within = subst (λ n. i < n) (sym (length-map u.statements.items said_by)) inside in
     let within' = subst (λ w. i < length (said w)) (sym same) within in (
@@ -63,13 +63,13 @@ returns-in_err-put_code-clause-code c =
     let u = c.args.unit.now in
     let i = c.loop-index.index in
     let x = c.index-statements-index.result in
-    let p : Place = slice_index_or c.places-places.result.now i (record { section = 0; offset = 0 }) in
+    let p : SectionOffset = slice_index_or c.places-places.result.now i (record { section = 0; offset = 0 }) in
     let inside = subst (λ l. i < length l) c.statements-statements.ensures c.loop-index-test.true in
     let is : x ≡ get_or u.statements.items i x = c.index-statements-index.is ∙ ap (λ l. get_or l i x) c.statements-statements.ensures in
     let at : StandsAt u i x p = stands_at u i x x (record { section = 0; offset = 0 }) p c.requires inside is (ap (λ l. get_or l i (record { section = 0; offset = 0 })) c.places-places.ensures) in
     let same = c.loop-index.invariant.0 in
     let filled = subst IsFilled (sym same) c.requires in
-    let wrong = subst (λ w. Adds c.loop-index.coder c.put_code.new.coder p.section (λ e. value_of (tables (said w)) true (i + 1) (place_of p) e) (said_by x) (Err c.in_err-put_code.field-0.0)) same
+    let wrong = subst (λ w. Adds c.loop-index.coder c.put_code.new.coder p.section (λ e. value_of (tables (said w)) true (i + 1) (offset_of p) e) (said_by x) (Err c.in_err-put_code.field-0.0)) same
     (c.in_err-put_code.ensures i filled c.loop-index.invariant.1) in
     let found = err_from_is_err_and c.from_residual-in_err-put_code.result c.from_residual-in_err-put_code.ensures.1 in
     rw (found.1, found.2)

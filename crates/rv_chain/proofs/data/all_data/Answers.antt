@@ -3,7 +3,7 @@ use Rattle.std.proofs.lemmas.List.{at_drop_all, length-map}
 use Rattle.rv_statement.specs.View.{said_by}
 use Rattle.rv_unit_laws.specs.Tables.{Tables}
 use Rattle.rv_unit.specs.Unit.{said}
-use Rattle.rv_unit.specs.Sections.{extent_section}
+use Rattle.rv_tables.specs.Sections.{extent_section}
 use Rattle.rv_chain.specs.DataSoFar.{DataTo}
 use Rattle.rv_chain.proofs.Growing.{written_back}
 use Rattle.rv_chain.proofs.SoFarData.{data_begin, data_all}

@@ -2,15 +2,15 @@ use Rattle.std.proofs.Common.{◌≡◌, ◌+◌, ◌<◌, ◌≤◌, ◌^◌, �
 use Rattle.std.specs.Prelude.{slice_index, slice_index_or, ◌&&◌}
 use Rattle.std.proofs.lemmas.List.{length-map, length-set, at_drop_all}
 use Rattle.rv_statement.specs.View.{said_by, statement_of}
-use Rattle.rv_unit.specs.declared.place.Place.{Place}
+use Rattle.rv_tables.specs.declared.section_offset.SectionOffset.{SectionOffset}
 use Rattle.rv_unit.specs.Unit.{said, passed, IsFilled}
-use Rattle.rv_unit.specs.Sections.{place_of}
+use Rattle.rv_tables.specs.Sections.{offset_of}
 use Rattle.rv_unit_laws.specs.Tables.{stood, tables, value as value_of}
-use Rattle.rv_source_laws.specs.Stated.{is_placed}
+use Rattle.rv_source_laws.specs.Located.{is_placed}
 use Rattle.rv_link_laws.specs.Items.{IsItem, grown}
 use Rattle.rv_chain.specs.Sized.{IsSized}
 use Rattle.rv_chain.specs.Measured.{IsExtentAt, HasRoom}
-use Rattle.rv_chain.proofs.Standing.{StandsAt, stands_at, places_count, stated_at}
+use Rattle.rv_chain.proofs.Standing.{StandsAt, stands_at, places_count, located_at}
 use Rattle.rv_chain.proofs.Itemized.{item_at, room_at, sized_at, grown_by, low_by, stands_inside, place_inside}
 use Rattle.rv_chain.proofs.Roomy.{err_always}
 use Rattle.rv_chain.proofs.Rooms.{rooms_begin, rooms_more, roomy_now}
@@ -46,7 +46,7 @@ pub extent_at-extent-requires : goal.extent_at-extent-requires
 extent_at-extent-requires c =
     let u = c.args.unit.now in
     let i = c.loop-index.index in
-    let p : Place = slice_index_or c.places-places.result.now i (record { section = 0; offset = 0 }) in
+    let p : SectionOffset = slice_index_or c.places-places.result.now i (record { section = 0; offset = 0 }) in
     let inside = subst (λ l. i < length l) c.statements-statements.ensures c.loop-index-test.true in
     let stands : p.section < length u.tables.extents.items =
     place_inside u i (record { section = 0; offset = 0 }) p c.requires inside (ap (λ l. get_or l i (record { section = 0; offset = 0 })) c.places-places.ensures) in
@@ -56,7 +56,7 @@ pub end-offset-requires : goal.end-offset-requires
 end-offset-requires c =
     let u = c.args.unit.now in
     let i = c.loop-index.index in
-    let p : Place = slice_index_or c.places-places.result.now i (record { section = 0; offset = 0 }) in
+    let p : SectionOffset = slice_index_or c.places-places.result.now i (record { section = 0; offset = 0 }) in
     let inside = subst (λ l. i < length l) c.statements-statements.ensures c.loop-index-test.true in
     let stands : p.section < length u.tables.extents.items =
     place_inside u i (record { section = 0; offset = 0 }) p c.requires inside (ap (λ l. get_or l i (record { section = 0; offset = 0 })) c.places-places.ensures) in
@@ -64,14 +64,14 @@ end-offset-requires c =
 
 pub next_item-requires : goal.next_item-requires
 next_item-requires c =
-    let p : Place = slice_index_or c.places-places.result.now c.loop-index.index (record { section = 0; offset = 0 }) in
+    let p : SectionOffset = slice_index_or c.places-places.result.now c.loop-index.index (record { section = 0; offset = 0 }) in
     subst (λ n. n ≤ 2 ^ 28) (sym (c.end-offset.ensures ∙ ap (λ l. slice_index l p.section) c.as_slice.ensures.value)) (c.loop-index.invariant.low p.section)
 
 pub grow-requires-clause-section : goal.grow-requires-clause-section
 grow-requires-clause-section c =
     let u = c.args.unit.now in
     let i = c.loop-index.index in
-    let p : Place = slice_index_or c.places-places.result.now i (record { section = 0; offset = 0 }) in
+    let p : SectionOffset = slice_index_or c.places-places.result.now i (record { section = 0; offset = 0 }) in
     let inside = subst (λ l. i < length l) c.statements-statements.ensures c.loop-index-test.true in
     let stands : p.section < length u.tables.extents.items =
     place_inside u i (record { section = 0; offset = 0 }) p c.requires inside (ap (λ l. get_or l i (record { section = 0; offset = 0 })) c.places-places.ensures) in
@@ -90,7 +90,7 @@ returns-in_err-item-clause-refuses c =
     let ends = c.loop-index.ends.items in
     let before = λ (j : ℕ). slice_index ends j in
     let x = c.index-statements-index.result in
-    let p : Place = slice_index_or c.places-places.result.now i (record { section = 0; offset = 0 }) in
+    let p : SectionOffset = slice_index_or c.places-places.result.now i (record { section = 0; offset = 0 }) in
     let inside = subst (λ l. i < length l) c.statements-statements.ensures c.loop-index-test.true in
     let is : x ≡ get_or u.statements.items i x = c.index-statements-index.is ∙ ap (λ l. get_or l i x) c.statements-statements.ensures in
     let at : StandsAt u i x p = stands_at u i x x (record { section = 0; offset = 0 }) p c.requires inside is (ap (λ l. get_or l i (record { section = 0; offset = 0 })) c.places-places.ensures) in
@@ -100,12 +100,12 @@ returns-in_err-item-clause-refuses c =
     let there : IsExtentAt u.tables.extents.items p.section e = subst (λ l. IsExtentAt l p.section e) c.sections-extents.ensures c.extent_at-extent.ensures in
     let offset : slice_index ends p.section ≡ c.end-offset.result = sym (c.end-offset.ensures ∙ ap (λ l. slice_index l p.section) c.as_slice.ensures.value) in
     err_always c.from_residual-in_err-item.result (λ y good sizes.
-    absurd (c.in_err-item.ensures.refuses i filled inv.scope (subst (λ w. place_of p ≡ stood (passed (said w) i) (i + 1) (statement_of x.kind)) (sym same) at.place)
+    absurd (c.in_err-item.ensures.refuses i filled inv.scope (subst (λ w. offset_of p ≡ stood (passed (said w) i) (i + 1) (statement_of x.kind)) (sym same) at.place)
     (subst
-    (λ w. is_placed (passed (said w) i) (i + 1) (statement_of x.kind) ≡ true → e.section.loaded ≡ true → HasRoom (λ t. value_of (tables (said w)) true (i + 1) (place_of p) t) e.section.executable e.alignment c.end-offset.result (statement_of x.kind))
+    (λ w. is_placed (passed (said w) i) (i + 1) (statement_of x.kind) ≡ true → e.section.loaded ≡ true → HasRoom (λ t. value_of (tables (said w)) true (i + 1) (offset_of p) t) e.section.executable e.alignment c.end-offset.result (statement_of x.kind))
     (sym same)
     (λ placed loaded.
-    subst (λ n. HasRoom (λ t. value_of (tables ss) true (i + 1) (place_of p) t) e.section.executable e.alignment n (statement_of x.kind)) offset
+    subst (λ n. HasRoom (λ t. value_of (tables ss) true (i + 1) (offset_of p) t) e.section.executable e.alignment n (statement_of x.kind)) offset
     (room_at u i x p e before _ c.requires at there (roomy_now ss i (said_by x) at.here good before inv.low (inv.room good sizes) placed))))))
 
 pub loop-index-preserved : goal.loop-index-preserved
@@ -118,7 +118,7 @@ loop-index-preserved c =
     let before = λ (j : ℕ). slice_index ends j in
     let behind = λ (j : ℕ). slice_index c.grow.new.ends.items j in
     let x = c.index-statements-index.result in
-    let p : Place = slice_index_or c.places-places.result.now i (record { section = 0; offset = 0 }) in
+    let p : SectionOffset = slice_index_or c.places-places.result.now i (record { section = 0; offset = 0 }) in
     let inside = subst (λ l. i < length l) c.statements-statements.ensures c.loop-index-test.true in
     let is : x ≡ get_or u.statements.items i x = c.index-statements-index.is ∙ ap (λ l. get_or l i x) c.statements-statements.ensures in
     let at : StandsAt u i x p = stands_at u i x x (record { section = 0; offset = 0 }) p c.requires inside is (ap (λ l. get_or l i (record { section = 0; offset = 0 })) c.places-places.ensures) in
@@ -133,11 +133,11 @@ loop-index-preserved c =
     let offset : y.offset ≡ slice_index ends p.section = told.offset ∙ c.end-offset.ensures ∙ ap (λ l. slice_index l p.section) c.as_slice.ensures.value in
     let room : y.section < length ends = subst (λ n. n < length ends) (sym section) (subst (λ n. p.section < n) (sym inv.sections) (stands_inside u i x p at)) in
     let shown : y.shown ≡ (is_placed (passed ss i) (i + 1) (statement_of x.kind) && e.section.loaded) =
-    subst (λ w. y.shown ≡ (is_placed (passed (said w) i) (i + 1) (statement_of x.kind) && e.section.loaded)) same (told.shown i filled inv.scope (subst (λ w. place_of p ≡ stood (passed (said w) i) (i + 1) (statement_of x.kind)) (sym same) at.place)) in
-    let one : IsItem (stated_at ss i (said_by x)) before y = item_at u i x p e before y at there section offset told.line told.text shown told.absent in
+    subst (λ w. y.shown ≡ (is_placed (passed (said w) i) (i + 1) (statement_of x.kind) && e.section.loaded)) same (told.shown i filled inv.scope (subst (λ w. offset_of p ≡ stood (passed (said w) i) (i + 1) (statement_of x.kind)) (sym same) at.place)) in
+    let one : IsItem (located_at ss i (said_by x)) before y = item_at u i x p e before y at there section offset told.line told.text shown told.absent in
     let sized : IsSizedAt (tables ss) ss i (said_by x) y =
     sized_at u i x p e y c.requires at there section
-    (subst (λ w. y.shown ≡ true → IsSized (λ t. value_of (tables (said w)) true (i + 1) (place_of p) t) e.section.executable y e.alignment (statement_of x.kind)) same (told.sized i filled inv.scope)) in
+    (subst (λ w. y.shown ≡ true → IsSized (λ t. value_of (tables (said w)) true (i + 1) (offset_of p) t) e.section.executable y e.alignment (statement_of x.kind)) same (told.sized i filled inv.scope)) in
     let at_end : y.offset ≡ slice_index ends y.section = offset ∙ ap (λ n. slice_index ends n) (sym section) in
     let grows : (j : ℕ) → behind j ≡ grown before y j = λ j. ap (λ l. slice_index l j) c.grow.ensures ∙ grown_by ends y j room at_end in
     record {

@@ -3,9 +3,9 @@ use Rattle.rv_text_laws.specs.Values.{Value}
 use Rattle.rv_statement.specs.Statement.{Expression}
 use Rattle.rv_statement.specs.View.{statement_of}
 use Rattle.rv_unit_laws.specs.Tables as laws
-use Rattle.rv_unit.specs.Sections.{place_of}
+use Rattle.rv_tables.specs.Sections.{offset_of}
 use Rattle.rv_unit.specs.Unit.{said, passed}
-use Rattle.rv_source_laws.specs.Stated.{is_placed}
+use Rattle.rv_source_laws.specs.Located.{is_placed}
 use Rattle.rv_chain.proofs.Roomy.{err_always, room_by}
 use Rattle.rv_chain.proofs.Stretched.{sized_as}
 use Rattle.rv_chain.proofs.items.next_item.Goals as goal
@@ -13,7 +13,7 @@ use Rattle.rv_chain.proofs.items.next_item.Goals.{then-placed, else-placed}
 
 pub returns-clause-sized : goal.returns-clause-sized
 returns-clause-sized c = λ index f s shown.
-    let v : Expression → Value = λ e. laws.value (laws.tables (said c.args.scope.now.unit.now)) true (index + 1) (place_of c.args.place) e in
+    let v : Expression → Value = λ e. laws.value (laws.tables (said c.args.scope.now.unit.now)) true (index + 1) (offset_of c.args.place) e in
     sized_as v c.args.extent.now.section.executable
     (record {
       section = c.args.place.section;

@@ -2,7 +2,7 @@ use Rattle.std.proofs.Common.{◌≡◌, ℕ, ◌+◌, true, rules}
 use Rattle.std.proofs.lemmas.Result.{IfErr-weaker, IfOk-weaker}
 use Rattle.rv_statement.specs.View.{statement_of}
 use Rattle.rv_unit_laws.specs.Tables as laws
-use Rattle.rv_unit.specs.Sections.{place_of}
+use Rattle.rv_tables.specs.Sections.{offset_of}
 use Rattle.rv_unit.specs.Unit.{said, IsFilled, IsScope}
 use Rattle.rv_chain.specs.Measured.{HasSize, IsSize}
 use Rattle.rv_chain.proofs.items.shown_size.Goals as goal
@@ -10,7 +10,7 @@ use Rattle.rv_chain.proofs.items.shown_size.Goals as goal
 pub returns-clause-size : goal.returns-clause-size
 returns-clause-size c =
     let u = c.args.scope.now.unit.now in
-    let p = place_of c.args.place in
+    let p = offset_of c.args.place in
     let extent = c.args.extent in
     IfOk-weaker c.size.result
     (λ n. (index : ℕ) → IsFilled u → IsScope c.args.scope.now index → IsSize (λ e. laws.value (laws.tables (said u)) true (index + 1) p e) extent.section.executable extent.alignment c.args.offset (statement_of c.args.statement.now.kind) n)
@@ -21,7 +21,7 @@ returns-clause-size c =
 pub returns-clause-refuses : goal.returns-clause-refuses
 returns-clause-refuses c =
     let u = c.args.scope.now.unit.now in
-    let p = place_of c.args.place in
+    let p = offset_of c.args.place in
     let extent = c.args.extent in
     let shown : c.args.shown ≡ true = search rules in
     IfErr-weaker c.size.result

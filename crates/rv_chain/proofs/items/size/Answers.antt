@@ -4,7 +4,7 @@ use Rattle.rv_text_laws.specs.Values as values
 use Rattle.rv_text.specs.Eval.{IsOutcome}
 use Rattle.rv_statement.specs.View.{statement_of}
 use Rattle.rv_unit_laws.specs.Tables as laws
-use Rattle.rv_unit.specs.Sections.{place_of}
+use Rattle.rv_tables.specs.Sections.{offset_of}
 use Rattle.rv_unit.specs.Unit.{said, IsFilled, IsScope}
 use Rattle.rv_chain.specs.Measured.{CanAlign, CanCount, HasSize, IsSize, stretch}
 use Rattle.rv_chain.specs.Sized.{IsAligned}
@@ -14,7 +14,7 @@ pub returns-in-Zeros : goal.returns-in-Zeros
 returns-in-Zeros c =
     let u = c.args.scope.now.unit.now in
     let line = c.args.statement.now.line in
-    let p = place_of c.args.place in
+    let p = offset_of c.args.place in
     let extent = c.args.extent in
     record {
       size =
@@ -39,12 +39,12 @@ pub returns-in-AlignsToPower : goal.returns-in-AlignsToPower
 returns-in-AlignsToPower c =
     let u = c.args.scope.now.unit.now in
     let line = c.args.statement.now.line in
-    let p = place_of c.args.place in
+    let p = offset_of c.args.place in
     let extent = c.args.extent in
     record {
       size =
           IfOk-weaker c.padding_to_power.result
-          (λ n. (v : values.Value) → IsOutcome c.value-in-AlignsToPower.result line v → IsAligned v extent.section.executable (stretch c.args.offset n) extent.alignment (laws.asked_power v))
+          (λ n. (v : values.Value) → IsOutcome c.value-in-AlignsToPower.result line v → IsAligned v extent.section.executable (stretch c.args.offset n) extent.alignment (laws.power_alignment v))
           (λ n. (index : ℕ) → IsFilled u → IsScope c.args.scope.now index → IsSize (λ e. laws.value (laws.tables (said u)) true (index + 1) p e) extent.section.executable extent.alignment c.args.offset (statement_of c.args.statement.now.kind) n)
           (λ n h index f s.
           subst (λ k. IsSize (λ e. laws.value (laws.tables (said u)) true (index + 1) p e) extent.section.executable extent.alignment c.args.offset (statement_of k) n) (sym c.in-AlignsToPower.is)
@@ -52,7 +52,7 @@ returns-in-AlignsToPower c =
           c.padding_to_power.ensures.size;
       refuses =
           IfErr-weaker c.padding_to_power.result
-          (λ y. (v : values.Value) → IsOutcome c.value-in-AlignsToPower.result line v → CanAlign v extent.section.executable extent.alignment c.args.offset (laws.asked_power v) → ⊥)
+          (λ y. (v : values.Value) → IsOutcome c.value-in-AlignsToPower.result line v → CanAlign v extent.section.executable extent.alignment c.args.offset (laws.power_alignment v) → ⊥)
           (λ y. (index : ℕ) → IsFilled u → IsScope c.args.scope.now index → HasSize (λ e. laws.value (laws.tables (said u)) true (index + 1) p e) extent.section.executable extent.alignment c.args.offset (statement_of c.args.statement.now.kind) → ⊥)
           (λ y h index f s has.
           h _ (c.value-in-AlignsToPower.ensures index f s)
@@ -64,12 +64,12 @@ pub returns-in-AlignsToBytes : goal.returns-in-AlignsToBytes
 returns-in-AlignsToBytes c =
     let u = c.args.scope.now.unit.now in
     let line = c.args.statement.now.line in
-    let p = place_of c.args.place in
+    let p = offset_of c.args.place in
     let extent = c.args.extent in
     record {
       size =
           IfOk-weaker c.padding_to_bytes.result
-          (λ n. (v : values.Value) → IsOutcome c.value-in-AlignsToBytes.result line v → IsAligned v extent.section.executable (stretch c.args.offset n) extent.alignment (laws.asked_bytes v))
+          (λ n. (v : values.Value) → IsOutcome c.value-in-AlignsToBytes.result line v → IsAligned v extent.section.executable (stretch c.args.offset n) extent.alignment (laws.byte_alignment v))
           (λ n. (index : ℕ) → IsFilled u → IsScope c.args.scope.now index → IsSize (λ e. laws.value (laws.tables (said u)) true (index + 1) p e) extent.section.executable extent.alignment c.args.offset (statement_of c.args.statement.now.kind) n)
           (λ n h index f s.
           subst (λ k. IsSize (λ e. laws.value (laws.tables (said u)) true (index + 1) p e) extent.section.executable extent.alignment c.args.offset (statement_of k) n) (sym c.in-AlignsToBytes.is)
@@ -77,7 +77,7 @@ returns-in-AlignsToBytes c =
           c.padding_to_bytes.ensures.size;
       refuses =
           IfErr-weaker c.padding_to_bytes.result
-          (λ y. (v : values.Value) → IsOutcome c.value-in-AlignsToBytes.result line v → CanAlign v extent.section.executable extent.alignment c.args.offset (laws.asked_bytes v) → ⊥)
+          (λ y. (v : values.Value) → IsOutcome c.value-in-AlignsToBytes.result line v → CanAlign v extent.section.executable extent.alignment c.args.offset (laws.byte_alignment v) → ⊥)
           (λ y. (index : ℕ) → IsFilled u → IsScope c.args.scope.now index → HasSize (λ e. laws.value (laws.tables (said u)) true (index + 1) p e) extent.section.executable extent.alignment c.args.offset (statement_of c.args.statement.now.kind) → ⊥)
           (λ y h index f s has.
           h _ (c.value-in-AlignsToBytes.ensures index f s)

@@ -7,7 +7,7 @@ use Rattle.rv_map.specs.Map.{global_of}
 use Rattle.rv_source_laws.specs.Resolves.{is_one_of, is_global_after, linker_symbols}
 use Rattle.rv_link.specs.Globals.{Has}
 use Rattle.rv_link.specs.Settings.{AreFirsts}
-use Rattle.rv_link.specs.Definitions.{names_from, definitions_from}
+use Rattle.rv_link_laws.specs.Definitions.{names_from, definitions_from}
 use Rattle.rv_chain.specs.Linking.{map_from}
 use Rattle.rv_chain.proofs.link.names.Goals as goal
 
@@ -18,8 +18,8 @@ returns c =
     let x = c.args.placed.now in
     let test : List ℕ → Bool = λ name. is_global_after false ss name in
     let set : Has c.in_ok-defined.defined.globals.now.set test = subst (λ g. Has g.set test) (sym c.in_ok-defined.ensures.globals) c.requires.globals in
-    let firsts : AreFirsts c.in_ok-defined.defined.firsts.ordinals t.settings =
-    subst (λ u. AreFirsts c.in_ok-defined.defined.firsts.ordinals u.settings) c.requires.filled.tables c.in_ok-defined.ensures.firsts in
+    let firsts : AreFirsts c.in_ok-defined.defined.firsts.ordinals t.assignments =
+    subst (λ u. AreFirsts c.in_ok-defined.defined.firsts.ordinals u.assignments) c.requires.filled.tables c.in_ok-defined.ensures.firsts in
     let said_are = ap (λ l. map said_by l) c.statements.ensures in
     let found = c.in_ok-names.ensures.defines test c.requires.filled set firsts in
     let names = c.in_ok-put_symbols.ensures.names test t set firsts in

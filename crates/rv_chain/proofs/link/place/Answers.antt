@@ -2,7 +2,7 @@ use Rattle.std.proofs.Common.{ℕ, subst, ◌∙◌}
 use Rattle.std.specs.Prelude.{slice_index}
 use Rattle.rv_unit_laws.specs.Tables.{tables}
 use Rattle.rv_unit.specs.Unit.{said}
-use Rattle.rv_link.specs.Layout.{IsLayout}
+use Rattle.rv_link_laws.specs.Layout.{IsLayout}
 use Rattle.rv_link_laws.specs.Pieces.{ArePieces}
 use Rattle.rv_chain.specs.Pieces.{AreAllPieces}
 use Rattle.rv_chain.proofs.Linking.{pieces_of, pieces_count, sections_count, starts_count, data_low}

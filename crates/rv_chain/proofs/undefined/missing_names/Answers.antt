@@ -3,17 +3,17 @@ use Rattle.std.specs.Prelude.{slice_index_or, if◌then◌else◌}
 use Rattle.std.specs.List.{slice_get}
 use Rattle.std.proofs.lemmas.List.{length-map}
 use Rattle.rv_statement.specs.View.{said_by}
-use Rattle.rv_unit_laws.specs.Tables.{at_start, Place as Standing}
+use Rattle.rv_unit_laws.specs.Tables.{at_start, SectionOffset as Standing}
 use Rattle.rv_chain_laws.specs.Refusals.{first_name, data_values}
 use Rattle.rv_link_laws.specs.Items.{AreItems}
-use Rattle.rv_unit.specs.declared.place.Place.{Place}
+use Rattle.rv_tables.specs.declared.section_offset.SectionOffset.{SectionOffset}
 use Rattle.rv_unit.specs.Unit.{said, IsFilled}
-use Rattle.rv_unit.specs.Sections.{extent_section, place_of}
+use Rattle.rv_tables.specs.Sections.{extent_section, offset_of}
 use Rattle.rv_chain.specs.Undefined.{missing_at, else_name, found_in, HaveValues}
 use Rattle.rv_chain.proofs.Roomy.{err_always}
 use Rattle.rv_chain.proofs.Sound.{values_at}
 use Rattle.rv_chain.proofs.FirstNames.{FirstSoFar, first_begins, first_more, first_all, kept_there, taken_back, section_inside}
-use Rattle.rv_chain.proofs.Standing.{StandsAt, stands_at, places_count, stated_at, stated_none}
+use Rattle.rv_chain.proofs.Standing.{StandsAt, stands_at, places_count, located_at, stated_none}
 use Rattle.rv_chain.proofs.undefined.missing_names.Goals as goal
 
 pub loop-index-init : goal.loop-index-init
@@ -34,14 +34,14 @@ bounds-places-index c =
 pub is_loaded-loaded-requires : goal.is_loaded-loaded-requires
 is_loaded-loaded-requires c =
     let u = c.args.unit.now in
-    let p : Place = slice_index_or c.places-places.result.now c.loop-index.index (record { section = 0; offset = 0 }) in
+    let p : SectionOffset = slice_index_or c.places-places.result.now c.loop-index.index (record { section = 0; offset = 0 }) in
     subst (λ l. p.section < length l) (sym c.sections-sections.ensures)
     (section_inside u c.loop-index.index c.statements-statements.result.now c.places-places.result.now p c.requires c.loop-index-test.true c.statements-statements.ensures c.places-places.ensures refl)
 
 pub keep-requires : goal.keep-requires
 keep-requires c =
     let u = c.args.unit.now in
-    let p : Place = slice_index_or c.places-places.result.now c.loop-index.index (record { section = 0; offset = 0 }) in
+    let p : SectionOffset = slice_index_or c.places-places.result.now c.loop-index.index (record { section = 0; offset = 0 }) in
     subst (λ n. p.section < n) (sym (ap length c.as_mut_slice-names.ensures.value ∙ c.loop-index.invariant.2))
     (section_inside u c.loop-index.index c.statements-statements.result.now c.places-places.result.now p c.requires c.loop-index-test.true c.statements-statements.ensures c.places-places.ensures refl)
 
@@ -50,7 +50,7 @@ loop-index-preserved c =
     let u = c.args.unit.now in
     let i = c.loop-index.index in
     let x = c.index-statements-index.result in
-    let p : Place = slice_index_or c.places-places.result.now i (record { section = 0; offset = 0 }) in
+    let p : SectionOffset = slice_index_or c.places-places.result.now i (record { section = 0; offset = 0 }) in
     let inside = subst (λ l. i < length l) c.statements-statements.ensures c.loop-index-test.true in
     let is : x ≡ get_or u.statements.items i x = c.index-statements-index.is ∙ ap (λ l. get_or l i x) c.statements-statements.ensures in
     let at : StandsAt u i x p = stands_at u i x x (record { section = 0; offset = 0 }) p c.requires inside is (ap (λ l. get_or l i (record { section = 0; offset = 0 })) c.places-places.ensures) in
@@ -62,17 +62,17 @@ loop-index-preserved c =
     let new = c.keep.new.found in
     let count : c.loop-index.found.len ≡ length new = sym (c.keep.auto.found ∙ c.as_mut_slice-names.ensures.len) in
     let back = taken_back new (drop (length new) old) c.loop-index.found.len count in
-    let home = (stated_at (said u) i (said_by x)).home in
+    let home = (located_at (said u) i (said_by x)).home in
     let loaded : c.is_loaded-loaded.result ≡ home.loaded = c.is_loaded-loaded.ensures home (subst (λ l. slice_get (map extent_section l) p.section ≡ Some home) (sym c.sections-sections.ensures) at.home) in
     let kept = λ (last : ℕ → ℕ) (items : AreItems 1 at_start (λ j. 0) (said u) c.args.items.now last) (j : ℕ).
-    subst (λ w. found_in new j ≡ (if p.section == j then else_name (found_in c.as_mut_slice-names.result.now j) (if c.is_loaded-loaded.result then first_name (missing_at (said w) i (place_of p) (data_values (said_by x).says)) else None) else found_in c.as_mut_slice-names.result.now j)) same
+    subst (λ w. found_in new j ≡ (if p.section == j then else_name (found_in c.as_mut_slice-names.result.now j) (if c.is_loaded-loaded.result then first_name (missing_at (said w) i (offset_of p) (data_values (said_by x).says)) else None) else found_in c.as_mut_slice-names.result.now j)) same
     (c.in_ok-keep.ensures.first i j (record { filled = filled; stands = c.loop-index.invariant.1; last = last; items = subst (λ w. AreItems 1 at_start (λ j. 0) (said w) c.args.items.now last) (sym same) items })) in (
       ap (λ b. b.now) c.pass.ensures.unit ∙ same,
       c.pass.ensures.passes i within' c.loop-index.invariant.1,
       ap (λ l. length l) back ∙ c.keep.auto.found ∙ ap length c.as_mut_slice-names.ensures.value ∙ c.loop-index.invariant.2,
       λ last items. subst (λ f. FirstSoFar (said u) (i + 1) f) (sym back)
-          (first_more (said u) i (stated_at (said u) i (said_by x)) c.as_mut_slice-names.result.now new at.next
-          (kept_there (said u) i (said_by x) (place_of p) c.as_mut_slice-names.result.now new c.is_loaded-loaded.result at.place loaded (kept last items))
+          (first_more (said u) i (located_at (said u) i (said_by x)) c.as_mut_slice-names.result.now new at.next
+          (kept_there (said u) i (said_by x) (offset_of p) c.as_mut_slice-names.result.now new c.is_loaded-loaded.result at.place loaded (kept last items))
           (subst (λ f. FirstSoFar (said u) i f) (sym c.as_mut_slice-names.ensures.value) (c.loop-index.invariant.3 last items))),
     )
 
@@ -88,7 +88,7 @@ returns-in_err-keep-clause-refuses c =
     let u = c.args.unit.now in
     let i = c.loop-index.index in
     let x = c.index-statements-index.result in
-    let p : Place = slice_index_or c.places-places.result.now i (record { section = 0; offset = 0 }) in
+    let p : SectionOffset = slice_index_or c.places-places.result.now i (record { section = 0; offset = 0 }) in
     let inside = subst (λ l. i < length l) c.statements-statements.ensures c.loop-index-test.true in
     let is : x ≡ get_or u.statements.items i x = c.index-statements-index.is ∙ ap (λ l. get_or l i x) c.statements-statements.ensures in
     let at : StandsAt u i x p = stands_at u i x x (record { section = 0; offset = 0 }) p c.requires inside is (ap (λ l. get_or l i (record { section = 0; offset = 0 })) c.places-places.ensures) in
@@ -96,6 +96,6 @@ returns-in_err-keep-clause-refuses c =
     let filled = subst IsFilled (sym same) c.requires in
     err_always c.from_residual-in_err-keep.result (λ y good.
     absurd (c.in_err-keep.ensures.refuses i filled c.loop-index.invariant.1
-    (subst (λ w. HaveValues (said w) i (place_of p) (data_values (said_by x).says)) (sym same)
+    (subst (λ w. HaveValues (said w) i (offset_of p) (data_values (said_by x).says)) (sym same)
     (subst (λ (q : Standing). HaveValues (said u) i q (data_values (said_by x).says)) (sym at.place)
     (values_at (said u) i (said_by x) (drop (i + 1) (said u)) at.here good)))))

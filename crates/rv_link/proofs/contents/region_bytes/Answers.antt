@@ -1,14 +1,14 @@
 use Rattle.std.proofs.Common.{rules, ◌≡◌, ◌+◌, ◌-◌, ◌<◌, ◌++◌, ◌∙◌, length, map, drop, true, false, sym, ap, get_or}
 use Rattle.std.proofs.Common.{[], subst}
 use Rattle.std.proofs.lemmas.List.{drop_more, length-map}
-use Rattle.rv_link.specs.Layout.{goes}
+use Rattle.rv_link_laws.specs.Layout.{goes}
 use Rattle.rv_chain_laws.specs.Contents.{zeros}
-use Rattle.rv_link.specs.Contents.{contents_of}
+use Rattle.rv_link_laws.specs.Contents.{contents_of}
 use Rattle.rv_link.proofs.Placed.{left, left_map, passed, joined}
 use Rattle.rv_link.proofs.contents.region_bytes.Goals as goal
 
-pub loop-i-preserved-then-not-is : goal.loop-i-preserved-then-not-is
-loop-i-preserved-then-not-is c =
+pub loop-i-preserved-then-not-goes_to : goal.loop-i-preserved-then-not-goes_to
+loop-i-preserved-then-not-goes_to c =
     let i = c.loop-i.i in
     let pieces = c.args.pieces.now in
     let starts = c.args.starts.now in

@@ -1,5 +1,5 @@
 use Rattle.std.proofs.Common.{◌≡◌, ◌++◌, drop, map}
-use Rattle.rv_link.specs.Contents.{contents_of}
+use Rattle.rv_link_laws.specs.Contents.{contents_of}
 use Rattle.rv_link.proofs.contents.region_bytes.Given as goal
 
 abbrev pub invariant-loop-i : goal.invariant-loop-i

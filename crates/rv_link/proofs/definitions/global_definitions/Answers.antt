@@ -1,11 +1,12 @@
 use Rattle.std.proofs.Common.{rules, ◌≡◌, ◌<◌, ◌≤◌, ◌+◌, ◌∷◌, ◌++◌, ◌∙◌, [], suc, false, length, map, drop, get_or, sym, ap, subst, append-nil, arith}
 use Rattle.std.proofs.lemmas.List.{at_drop_all, drop_more, length-map}
-use Rattle.rv_link.specs.declared.rows.Item.{Item}
+use Rattle.rv_link_laws.specs.declared.item.Item.{Item}
 use Rattle.rv_statement.specs.View.{said_by}
 use Rattle.rv_unit_laws.specs.Tables.{tables}
 use Rattle.rv_unit.specs.Unit.{said}
 use Rattle.rv_map.specs.Map.{global_of}
-use Rattle.rv_link.specs.Definitions.{definitions_from, first_unshown, NamesLine}
+use Rattle.rv_link_laws.specs.Definitions.{definitions_from}
+use Rattle.rv_link.specs.Names.{first_unshown, NamesLine}
 use Rattle.rv_link.proofs.Placed.{left_map}
 use Rattle.rv_link.proofs.Named.{defined_more}
 use Rattle.rv_link.proofs.Unshown.{shown_more, unshown_here}

@@ -1,5 +1,5 @@
 use Rattle.std.proofs.Common.{◌≡◌, ◌<◌, max, drop}
-use Rattle.rv_link.specs.Layout.{greatest}
+use Rattle.rv_link_laws.specs.Layout.{greatest}
 use Rattle.rv_link.proofs.layout.greatest_alignment.Given as goal
 
 abbrev pub invariant-loop-piece : goal.invariant-loop-piece

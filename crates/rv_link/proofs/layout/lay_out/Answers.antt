@@ -1,7 +1,8 @@
 use Rattle.std.proofs.Common.{◌≡◌, ◌<◌, ◌∙◌, ap, subst, inl}
-use Rattle.rv_link.specs.declared.piece.Destination.TheVariants.{Data, Rodata}
+use Rattle.rv_link_laws.specs.declared.piece.Destination.TheVariants.{Data, Rodata}
 use Rattle.rv_unit_laws.specs.Tables.{aligned}
-use Rattle.rv_link.specs.Layout.{end_of, rodata_start, data_start}
+use Rattle.rv_link_laws.specs.Layout.{end_of}
+use Rattle.rv_link.specs.TooLarge.{rodata_start, data_start}
 use Rattle.rv_link.proofs.TooLarge.{text_far, rodata_far, data_far, handed_on}
 use Rattle.rv_link.proofs.layout.lay_out.Goals as goal
 

@@ -1,11 +1,11 @@
 use Rattle.std.proofs.Common.{rules, ◌≡◌, ◌+◌, ◌<◌, arith, [], ◌∷◌, ◌++◌, ◌∙◌, length, take, drop, set, true, false, ap}
-use Rattle.rv_link.specs.Layout.{goes, started, end_of, end_behind}
+use Rattle.rv_link_laws.specs.Layout.{goes, started, end_of, end_behind}
 use Rattle.rv_link.proofs.Placed.{left, skipped, taken, end_skipped, end_taken}
 use Rattle.rv_link.proofs.TooLarge.{grows, if_none}
 use Rattle.rv_link.proofs.layout.spread.Goals as goal
 
-pub loop-i-preserved-then-not-is : goal.loop-i-preserved-then-not-is
-loop-i-preserved-then-not-is c =
+pub loop-i-preserved-then-not-goes_to : goal.loop-i-preserved-then-not-goes_to
+loop-i-preserved-then-not-goes_to c =
     let i = c.loop-i.i in
     let x = c.index-pieces-i.result in
     let inside : i < length c.args.pieces.now = search rules in

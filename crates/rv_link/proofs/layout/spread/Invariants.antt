@@ -1,5 +1,5 @@
 use Rattle.std.proofs.Common.{◌≡◌, ◌++◌, ◌≤◌, take, drop}
-use Rattle.rv_link.specs.Layout.{started, end_of}
+use Rattle.rv_link_laws.specs.Layout.{started, end_of}
 use Rattle.rv_link.proofs.layout.spread.Given as goal
 
 -- what is placed so far, and what is left, make up the whole

@@ -1,5 +1,5 @@
 use Rattle.std.proofs.Common.{◌≡◌, ◌++◌, ◌+◌, drop}
-use Rattle.rv_link.specs.Rows.{rows_from}
+use Rattle.rv_link_laws.specs.Rows.{rows_from}
 use Rattle.rv_link.proofs.rows.statement_rows.Given as goal
 
 -- the rows so far, and those of what is left, are all rows

@@ -2,7 +2,7 @@ use Rattle.std.proofs.Common.{rules, ◌≡◌, ◌<◌, ◌≤◌, ◌+◌, ◌
 use Rattle.std.proofs.lemmas.List.{at_drop_all, length-map}
 use Rattle.rv_statement.specs.View.{said_by}
 use Rattle.rv_source_laws.specs.Resolves.{is_one_of}
-use Rattle.rv_link.specs.Definitions.{named_by, names_from}
+use Rattle.rv_link_laws.specs.Definitions.{named_by, names_from}
 use Rattle.rv_link.proofs.Placed.{left_map}
 use Rattle.rv_link.proofs.Named.{no_name, first_or}
 use Rattle.rv_link.proofs.symbols.defines.Goals as goal

@@ -4,9 +4,9 @@ use Rattle.std.proofs.lemmas.List.{drop_more}
 use Rattle.rv_statement.specs.View.{said_by}
 use Rattle.rv_statement.specs.declared.statement.Statement.{Statement}
 use Rattle.rv_source_laws.specs.Resolves.{is_start}
-use Rattle.rv_link.specs.declared.rows.Item.{Item}
-use Rattle.rv_link.specs.Rows.{address_of}
-use Rattle.rv_link.specs.Definitions.{entry_from}
+use Rattle.rv_link_laws.specs.declared.item.Item.{Item}
+use Rattle.rv_link_laws.specs.Rows.{address_of}
+use Rattle.rv_link_laws.specs.Definitions.{entry_from}
 use Rattle.rv_link.proofs.Placed.{left_map}
 use Rattle.rv_link.proofs.Named.{entry_here}
 use Rattle.rv_link.proofs.symbols.entry.Goals as goal

@@ -1,6 +1,6 @@
 use Rattle.std.proofs.Common.{◌≡◌, map, drop}
 use Rattle.rv_statement.specs.View.{said_by}
-use Rattle.rv_link.specs.Definitions.{entry_from}
+use Rattle.rv_link_laws.specs.Definitions.{entry_from}
 use Rattle.rv_link.proofs.symbols.entry.Given as goal
 
 abbrev pub invariant-loop-i : goal.invariant-loop-i

@@ -4,7 +4,7 @@ use Rattle.std.proofs.lemmas.Result.{err_from_is_err_and}
 use Rattle.rv_statement.specs.View.{said_by}
 use Rattle.rv_map.specs.Map.{Global, global_of as shown_global}
 use Rattle.rv_source_laws.specs.Resolves.{is_one_of, symbol}
-use Rattle.rv_link.specs.Definitions.{names_from}
+use Rattle.rv_link_laws.specs.Definitions.{names_from}
 use Rattle.rv_link.proofs.Unshown.{only_memory}
 use Rattle.rv_link.proofs.Named.{filtered_more}
 use Rattle.rv_link.proofs.symbols.put_symbols.Goals as goal

@@ -1,5 +1,5 @@
 use Rattle.rv_unit_laws.specs.Tables.{tables}
-use Rattle.rv_link.specs.Layout.{starts_of}
+use Rattle.rv_link_laws.specs.Layout.{starts_of}
 use Rattle.std.proofs.Common.{ap, arith, ◌≡◌, ◌+◌}
 use Rattle.std.specs.Prelude.{slice_index}
 use Rattle.rv_link_laws.specs.Laws.{start_of}

@@ -1,6 +1,6 @@
 use Rattle.std.proofs.Common.{rules, ◌≡◌, ◌-◌, ◌+◌, ◌<◌, ◌≤◌, ◌∷◌, ◌∙◌, length, map, drop, sym, ap, arith}
 use Rattle.rv_map.specs.Map.{global_of}
-use Rattle.rv_source_laws.specs.Sites.{global_address}
+use Rattle.rv_source_laws.specs.Program.{global_address}
 use Rattle.rv_source_laws.specs.Resolves.{symbol}
 use Rattle.rv_link.proofs.Placed.{left_map}
 use Rattle.rv_link.proofs.numbers.Addresses.of.Goals as goal

@@ -1,13 +1,10 @@
 //! Instructions of each format, with the words that GNU as writes for them.
 
-use crate::{End, Fault, LinkOptions, SourceFault, build, run_exec};
+use crate::sources::{built, refused};
+use rv_chain::{End, run_exec};
 use std::alloc::Global;
+use std::process::Abort;
 use std::test::Fail;
-
-const OPTIONS: LinkOptions = LinkOptions {
-    text_start: 0x1_0000,
-    relax: true,
-};
 
 const FRONT: &[u8] = b".option norvc\n.globl _start\n_start:\n";
 
@@ -146,133 +143,130 @@ fn has_words(alloc: Global, rows: &[(&[u8], u32)]) -> Result<bool, Fail> {
         source.push(b'\n')?;
         words.extend_from_slice(row.1.to_le_bytes().as_slice())?;
     }
-    let built = build(alloc, &[source.as_slice()], OPTIONS)?;
+    let built = built(alloc, source.as_slice())?;
     Ok(built.exe.len() == 4096 + words.len() && built.exe.as_slice().ends_with(words.as_slice()))
 }
 
 #[test]
 fn registers(rt: HostRuntime) -> Result<(), Fail> {
-    assert!(rt; has_words(rt.alloc(), REGISTERS.as_slice())?);
+    assert!(rt; has_words(rt.alloc(), &REGISTERS)?);
     Ok(())
 }
 
 #[test]
 fn constants(rt: HostRuntime) -> Result<(), Fail> {
-    assert!(rt; has_words(rt.alloc(), CONSTANTS.as_slice())?);
+    assert!(rt; has_words(rt.alloc(), &CONSTANTS)?);
     Ok(())
 }
 
 #[test]
 fn memory(rt: HostRuntime) -> Result<(), Fail> {
-    assert!(rt; has_words(rt.alloc(), MEMORY.as_slice())?);
+    assert!(rt; has_words(rt.alloc(), &MEMORY)?);
     Ok(())
 }
 
 #[test]
 fn atomics(rt: HostRuntime) -> Result<(), Fail> {
-    assert!(rt; has_words(rt.alloc(), ATOMICS.as_slice())?);
+    assert!(rt; has_words(rt.alloc(), &ATOMICS)?);
     Ok(())
 }
 
 #[test]
 fn others(rt: HostRuntime) -> Result<(), Fail> {
-    assert!(rt; has_words(rt.alloc(), OTHERS.as_slice())?);
+    assert!(rt; has_words(rt.alloc(), &OTHERS)?);
     Ok(())
 }
 
-/// The number and the line of the fault for which a statement on the fourth line is refused.
-fn refusal(alloc: Global, statement: &[u8]) -> Result<(u8, u32), Fail> {
-    let mut source = Vec::from_slice(alloc, FRONT)?;
-    source.extend_from_slice(statement)?;
-    match build(alloc, &[source.as_slice()], OPTIONS) {
-        Err(Fault::Source(1, SourceFault::At { code, line })) => Ok((code.number(), line)),
-        _ => Ok((0, 0)),
-    }
-}
+/// Refused instructions, with their codes.
+const REFUSED: [(&[u8], u8, u32); 24] = [
+    // ranges
+    (b"addiw a0, a0, 2048", 14, 1),
+    (b"add a0, a1, -2049", 14, 1),
+    (b"slli a0, a0, 64", 14, 1),
+    (b"srliw a0, a0, 32", 14, 1),
+    (b"sll a0, a1, -1", 14, 1),
+    (b"lui a0, 1048576", 14, 1),
+    (b"auipc a0, -1", 14, 1),
+    (b"lw a0, 2048(sp)", 14, 1),
+    (b"sd a0, -2049(sp)", 14, 1),
+    (b"jalr a0, 2048(a1)", 14, 1),
+    // operands that the instruction does not take
+    (b"sub a0, a1, 5", 7, 1),
+    (b"addi a0, a1, a2", 7, 1),
+    (b"lw a0, a1", 7, 1),
+    (b"sw a0, 4(5", 7, 1),
+    (b"amoadd.w a0, a1, 4(a2)", 7, 1),
+    (b"amoadd.w a0, a1, a2", 7, 1),
+    (b"fence wr, r", 7, 1),
+    (b"fence r", 7, 1),
+    (b"ecall a0", 7, 1),
+    (b"jalr", 7, 1),
+    // not built yet: symbols and numbers as places, expressions
+    (b"lw a0, 8", 9, 1),
+    (b"lw a0, x", 9, 1),
+    (b"beq a0, a1, x", 9, 1),
+    (b"lui a0, %hi(x)", 9, 1),
+];
 
 #[test]
 fn refused_instructions(rt: HostRuntime) -> Result<(), Fail> {
-    let cases: [(&[u8], u8); 24] = [
-        // ranges
-        (b"addiw a0, a0, 2048", 14),
-        (b"add a0, a1, -2049", 14),
-        (b"slli a0, a0, 64", 14),
-        (b"srliw a0, a0, 32", 14),
-        (b"sll a0, a1, -1", 14),
-        (b"lui a0, 1048576", 14),
-        (b"auipc a0, -1", 14),
-        (b"lw a0, 2048(sp)", 14),
-        (b"sd a0, -2049(sp)", 14),
-        (b"jalr a0, 2048(a1)", 14),
-        // operands that the instruction does not take
-        (b"sub a0, a1, 5", 7),
-        (b"addi a0, a1, a2", 7),
-        (b"lw a0, a1", 7),
-        (b"sw a0, 4(5", 7),
-        (b"amoadd.w a0, a1, 4(a2)", 7),
-        (b"amoadd.w a0, a1, a2", 7),
-        (b"fence wr, r", 7),
-        (b"fence r", 7),
-        (b"ecall a0", 7),
-        (b"jalr", 7),
-        // not built yet: symbols and numbers as places, expressions
-        (b"lw a0, 8", 9),
-        (b"lw a0, x", 9),
-        (b"beq a0, a1, x", 9),
-        (b"lui a0, %hi(x)", 9),
-    ];
-    for (statement, number) in cases {
-        assert_eq!(rt; refusal(rt.alloc(), statement)?, (number, 4));
+    Ok(refused(&rt, rt.alloc(), &REFUSED)?)
+}
+
+/// Runs each row's statements, and then an exit with the number in a0: they end so.
+fn ends(rt: &impl Abort, alloc: Global, rows: &[(&[u8], End)]) -> Result<(), Fail> {
+    for row in rows {
+        let mut source = Vec::from_slice(alloc, FRONT)?;
+        source.extend_from_slice(row.0)?;
+        source.extend_from_slice(b"\nli a7, 93\necall\n")?;
+        let built = built(alloc, source.as_slice())?;
+        let outcome = run_exec(alloc, built.exe.as_slice(), b"", 1_000_000)?;
+        assert!(rt; outcome.end == row.1);
     }
     Ok(())
 }
 
-/// Runs the statements, and then an exit with the number in a0.
-fn exit_of(alloc: Global, statements: &[u8]) -> Result<End, Fail> {
-    let mut source = Vec::from_slice(alloc, FRONT)?;
-    source.extend_from_slice(statements)?;
-    source.extend_from_slice(b"\nli a7, 93\necall\n")?;
-    let built = build(alloc, &[source.as_slice()], OPTIONS)?;
-    Ok(run_exec(alloc, built.exe.as_slice(), b"", 1_000_000)?.end)
-}
+/// Division by 0, and of the least number by -1.
+const DIVISION: [(&[u8], End); 5] = [
+    // by 0: a quotient of all ones, the dividend as remainder
+    (b"li a1, 7; div a0, a1, zero", End::Exited(255)),
+    (b"li a1, 7; rem a0, a1, zero", End::Exited(7)),
+    (
+        b"li a1, 7; divuw a0, a1, zero; srl a0, a0, 60",
+        End::Exited(15),
+    ),
+    // the least number by -1 is itself, with remainder 0
+    (
+        b"li a1, -1; slli a2, a1, 63; div a0, a2, a1; srli a0, a0, 56",
+        End::Exited(128),
+    ),
+    (
+        b"lui a1, 0x80000; li a2, -1; remw a0, a1, a2",
+        End::Exited(0),
+    ),
+];
 
 #[test]
 fn division_by_words(rt: HostRuntime) -> Result<(), Fail> {
-    let cases: [(&[u8], u8); 5] = [
-        // by 0: a quotient of all ones, the dividend as remainder
-        (b"li a1, 7; div a0, a1, zero", 255),
-        (b"li a1, 7; rem a0, a1, zero", 7),
-        (b"li a1, 7; divuw a0, a1, zero; srl a0, a0, 60", 15),
-        // the least number by -1 is itself, with remainder 0
-        (
-            b"li a1, -1; slli a2, a1, 63; div a0, a2, a1; srli a0, a0, 56",
-            128,
-        ),
-        (b"lui a1, 0x80000; li a2, -1; remw a0, a1, a2", 0),
-    ];
-    for (statements, code) in cases {
-        assert!(rt; exit_of(rt.alloc(), statements)? == End::Exited(code));
-    }
-    Ok(())
+    ends(&rt, rt.alloc(), &DIVISION)
 }
+
+/// Atomics, the reservation, and stores across the end of the stack.
+const MEMORY_ENDS: [(&[u8], End); 4] = [
+    (
+        b"li t1, 5; sd t1, -8(sp); addi t0, sp, -8; amoadd.d a1, t1, (t0); ld a0, (t0)",
+        End::Exited(10),
+    ),
+    // a failed sc gives 1 and ends the reservation
+    (
+        b"addi t0, sp, -8; lr.w t1, (t0); sc.w a0, t1, (t0); sc.w a1, t1, (t0); slli a1, a1, 1; or a0, a0, a1",
+        End::Exited(2),
+    ),
+    (b"sd zero, -4(sp)", End::StoreOutside(0x3fff_fffc)),
+    (b"li t0, 1; lr.w a0, (t0)", End::MisalignedAtomic(1)),
+];
 
 #[test]
 fn memory_and_reservation(rt: HostRuntime) -> Result<(), Fail> {
-    let cases: [(&[u8], End); 4] = [
-        (
-            b"li t1, 5; sd t1, -8(sp); addi t0, sp, -8; amoadd.d a1, t1, (t0); ld a0, (t0)",
-            End::Exited(10),
-        ),
-        // a failed sc gives 1 and ends the reservation
-        (
-            b"addi t0, sp, -8; lr.w t1, (t0); sc.w a0, t1, (t0); sc.w a1, t1, (t0); slli a1, a1, 1; or a0, a0, a1",
-            End::Exited(2),
-        ),
-        (b"sd zero, -4(sp)", End::StoreOutside(0x3fff_fffc)),
-        (b"li t0, 1; lr.w a0, (t0)", End::MisalignedAtomic(1)),
-    ];
-    for (statements, end) in cases {
-        assert!(rt; exit_of(rt.alloc(), statements)? == end);
-    }
-    Ok(())
+    ends(&rt, rt.alloc(), &MEMORY_ENDS)
 }

@@ -2,7 +2,9 @@
 
 ghost use Rattle.std.specs.Prelude.{◌<◌};
 
-use crate::{Destination, Item, Layout, LayoutFault, Piece, lay_out, region_bytes, statement_rows};
+use rv_link::{
+    Destination, Item, Layout, LayoutFault, Piece, lay_out, region_bytes, statement_rows,
+};
 use std::alloc::Global;
 use std::test::Fail;
 
@@ -23,7 +25,7 @@ fn placed(alloc: Global, text_start: u64) -> Result<Layout, LayoutFault> {
         piece(Destination::Text, 40, 2),
         piece(Destination::Data, 5, 1),
         piece(Destination::Rodata, 3, 1),
-        piece(Destination::Nowhere, 9, 1),
+        piece(Destination::NotLoaded, 9, 1),
         piece(Destination::Data, 8, 8),
         piece(Destination::Bss, 16, 16),
     ];

@@ -3,7 +3,7 @@
 use Rattle.std.specs.Prelude.{ℕ, zero, suc, ◌+◌, Option, Some, None, option_and_then, List, [], ◌∷◌, ◌++◌, slice_index, if◌then◌else◌}
 use Rattle.std.specs.List.{slice_get}
 use Rattle.rv_map.specs.declared.map.Row.{Row}
-use Rattle.rv_link.specs.declared.rows.Item.{Item}
+use Rattle.rv_link_laws.specs.declared.item.Item.{Item}
 
 -- where a statement stands, in sections that start here
 abbrev pub address_of : List ℕ → Item → ℕ

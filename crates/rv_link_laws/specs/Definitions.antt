@@ -1,41 +1,31 @@
 -- The names that a source defines for all files.
 
-use Rattle.std.specs.Borrow.{Bor}
-use Rattle.std.specs.List.{list_all}
-use Rattle.std.specs.Prelude.{◌≡◌, ℕ, suc, ⊤, Bool, ◌&&◌, Option, Some, None, option_map, List, [], ◌∷◌, ◌++◌, filter, flat_map, if◌then◌else◌}
-use Rattle.rv_text_laws.specs.Values.{Known, Placed, Open, Refused, add}
+use Rattle.std.specs.Prelude.{ℕ, suc, Bool, ◌&&◌, Option, Some, None, option_map, List, [], ◌∷◌, ◌++◌, filter, flat_map, if◌then◌else◌}
+use Rattle.rv_text_laws.specs.Values.{Known, InSection, Open, Refused, add}
 use Rattle.rv_statement.specs.Statement.{Statement, Directs, Spoken, Sets}
-use Rattle.rv_unit_laws.specs.Tables.{Tables, Setting, set_ever}
+use Rattle.rv_unit_laws.specs.Tables.{Tables, Assignment, assigned_ever}
 use Rattle.rv_map.specs.Map.{Global}
-use Rattle.rv_map.specs.Name.{is_name}
 use Rattle.rv_source_laws.specs.Resolves.{shown, is_start, defined_name}
-use Rattle.rv_link.specs.declared.rows.Item.{Item}
-use Rattle.rv_link.specs.declared.definitions.NameFault.{NameFault}
-use Rattle.rv_link.specs.declared.definitions.NameFault.TheVariants.{Name, OutOfMemory}
-use Rattle.rv_link.specs.Rows.{address_of, shown_address, address_at}
-
--- a name, or none
-abbrev pub name_in : Option (Bor (List ℕ)) → List (List ℕ)
-name_in None = []
-name_in (Some name) = name.now ∷ []
+use Rattle.rv_link_laws.specs.declared.item.Item.{Item}
+use Rattle.rv_link_laws.specs.Rows.{address_of, shown_address, address_at}
 
 -- the name that a statement of this ordinal defines for all files, by the tables of its source
 abbrev pub named_by : (List ℕ → Bool) → Tables → ℕ → Statement → List (List ℕ)
 named_by is_global t ordinal says = filter is_global (defined_name t ordinal says)
 
 -- the number that `.set` gives, or the address of the place
-abbrev pub set_address : List ℕ → List Item → Option Setting → Option ℕ
+abbrev pub set_address : List ℕ → List Item → Option Assignment → Option ℕ
 set_address starts items None = None
 set_address starts items (Some s) = elim s.meaning [
   | Known n ↦ Some n
-  | Placed section offset ↦ option_map (λ a. add a s.plus) (address_at starts items s.ordinal)
+  | InSection section offset ↦ option_map (λ a. add a s.plus) (address_at starts items s.ordinal)
   | Open ↦ None
   | Refused code ↦ None
 ]
 
 -- the address or the number of what a statement defines: a label's, or what `.set` gives the name last
 abbrev pub defined_address : Tables → List ℕ → List Item → Item → Statement → Option ℕ
-defined_address t starts items i (Directs (Sets name e)) = set_address starts items (set_ever t.settings name)
+defined_address t starts items i (Directs (Sets name e)) = set_address starts items (assigned_ever t.assignments name)
 defined_address t starts items i _ = shown_address starts i
 
 -- the name with its address, if it has one
@@ -57,20 +47,3 @@ definitions_from is_global t starts items ordinal ss is = []
 abbrev pub entry_from : List ℕ → List Spoken → List Item → Option ℕ
 entry_from starts (s ∷ ss) (i ∷ is) = if is_start s.says && i.text then Some (address_of starts i) else entry_from starts ss is
 entry_from starts ss is = None
-
--- ---- names that a map cannot show
-
--- the line of a statement that defines such a name
-abbrev pub unshown : List Global → ℕ → Option ℕ
-unshown globals line = if list_all (λ g. is_name g.name) globals then None else Some line
-
--- that of the first statement from an ordinal on which defines one
-abbrev pub first_unshown : (List ℕ → Bool) → Tables → List ℕ → List Item → ℕ → List Spoken → List Item → Option ℕ
-first_unshown is_global t starts items ordinal (s ∷ ss) (i ∷ is) =
-    if list_all (λ g. is_name g.name) (defined_by is_global t starts items ordinal s.says i) then first_unshown is_global t starts items (suc ordinal) ss is else Some s.line
-first_unshown is_global t starts items ordinal ss is = None
-
--- a refusal is at this line; memory may run out whatever the names are
-abbrev pub NamesLine : NameFault → Option ℕ → Type 0
-NamesLine (Name line) found = found ≡ Some line
-NamesLine OutOfMemory found = ⊤

@@ -1,0 +1,35 @@
+-- The executable of a linked program keeps the headline's promise.
+
+use Rattle.std.proofs.Common.{◌≡◌, ◌<◌, ◌^◌, ℕ, List, refl, ap, subst, sym, ◌∙◌}
+use Rattle.rv_map.specs.Limits.{IsMap}
+use Rattle.rv_map.specs.Text.{map_text}
+use Rattle.rv_image.specs.declared.linked.Linked.{Linked}
+use Rattle.rv_image.specs.Linked.{linked_of}
+use Rattle.rv_image.specs.Executable.{exe_of, linked_image}
+use Rattle.rv_image.specs.Header.{machine_flags}
+use Rattle.rv_image.specs.ImageOf.{ImageOf}
+use Rattle.rv_image.specs.FirstFault.{first_fault}
+use Rattle.rv_image.proofs.LoadedAgain.{laid_out, reads, reload_image, reload_fault}
+use Rattle.rv_chain_laws.specs.Headline.{TheHeadline, rvc_flag}
+use Rattle.rv_chain_laws.proofs.Contents.{linked_agrees}
+use Rattle.rv_chain.specs.Building.{IsProgramOf}
+
+pub headlined : (texts : List (List ℕ)) (start : ℕ) (linked : Linked) (exe : List ℕ) → IsMap (linked_of linked).map → IsProgramOf texts start (linked_of linked)
+    → exe ≡ exe_of (linked_of linked) → TheHeadline texts start exe (map_text (linked_of linked).map)
+headlined texts start linked exe is_map program written =
+    let l = linked_of linked in
+    let laid = laid_out linked is_map.entry in
+    record {
+      sources = program.sources;
+      read = program.read;
+      map = l.map;
+      shown = refl;
+      readable = is_map;
+      fits = program.linked.fits;
+      resolves = program.linked.resolves;
+      image = linked_image l;
+      loads = subst (λ file. ImageOf file (linked_image l)) (sym written) (reload_image l laid);
+      accepted = ap first_fault written ∙ reload_fault l laid;
+      flagged = ap machine_flags written ∙ (reads l laid).flags ∙ ap rvc_flag program.flag;
+      agree = linked_agrees start program.sources l program.linked;
+    }

@@ -1,0 +1,12 @@
+use Rattle.std.proofs.Common.{map}
+use Rattle.rv_statement.specs.View.{now_of}
+use Rattle.rv_map.specs.Text.{map_text}
+use Rattle.rv_image.specs.Linked.{linked_of}
+use Rattle.rv_chain.proofs.Headlined.{headlined}
+use Rattle.rv_chain.proofs.building.build_exe.Goals as goal
+
+pub returns : goal.returns
+returns c = (
+  map_text (linked_of c.in_ok-linked.linked).map,
+  headlined (map now_of c.args.sources.now) c.args.options.text_start c.in_ok-linked.linked c.in_ok-exe.exe.items c.known.ensures c.in_ok-linked.ensures c.in_ok-exe.ensures,
+)
