@@ -1,34 +1,27 @@
 //! The program `rv`: builds bare RISC-V programs from assembly sources and runs them.
+//!
+//! All but the start of the process stands in `rv_program`.
 #![tactic(auto)]
 
-mod jobs;
-mod messages;
-mod status;
-mod system;
-#[cfg(test)]
-mod tests;
-mod words;
-
-use jobs::Trouble;
+use rv_program::{CliError, Host, exit_status, report};
 use std::alloc::Global;
 use std::env;
 use std::process::ExitCode;
-use system::Host;
 
 fn main(rt: HostRuntime) -> ExitCode {
     let words = words_given(&rt);
     let mut host = Host { rt: &rt };
     ExitCode::from(match words {
-        Ok(words) => status::status(&mut host, words.as_slice()),
-        Err(trouble) => status::told(&mut host, trouble),
+        Ok(words) => exit_status(&mut host, words.as_slice()),
+        Err(error) => report(&mut host, error),
     })
 }
 
 /// The words of the command line, the program's own name before them.
-fn words_given(rt: &HostRuntime) -> Result<Vec<String>, Trouble> {
+fn words_given(rt: &HostRuntime) -> Result<Vec<String>, CliError> {
     let alloc: Global = rt.alloc();
     let Ok(args) = env::args(rt) else {
-        return Err(Trouble::NotText);
+        return Err(CliError::NotText);
     };
     Ok(args.collect(alloc)?)
 }

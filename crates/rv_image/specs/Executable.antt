@@ -54,7 +54,7 @@ program_bytes start part = little_bytes 4 1 ++ (little_bytes 4 part.flags ++ (li
     ++ (little_bytes 8 part.address ++ (little_bytes 8 part.address
     ++ (little_bytes 8 (length part.stored) ++ (little_bytes 8 (memory_size_of part) ++ little_bytes 8 0x1000))))))
 
--- a file with these bytes at a place behind its end, zeros between; nothing for no bytes
+-- a file with these bytes at a place after its end, zeros between; nothing for no bytes
 abbrev pub with_contents : List ℕ → ℕ → List ℕ → List ℕ
 with_contents file place [] = file
 with_contents file place (byte ∷ bytes) = file ++ (replicate (place - length file) 0 ++ (byte ∷ bytes))

@@ -63,7 +63,7 @@ program_at place file = record {
   memory_size = field 8 (place + 40) file;
 }
 
--- so many program headers from a place on
+-- the program headers from a place on, `count` of them
 abbrev pub programs_from : ℕ → ℕ → List ℕ → List Program
 programs_from zero place file = []
 programs_from (suc count) place file = program_at place file ∷ programs_from count (place + 56) file

@@ -1,6 +1,7 @@
 -- What the linker makes, as a plain value.
 
 use Rattle.std.specs.Prelude.{◌≡◌, ℕ, ◌+◌, ◌-◌, ◌%◌, ◌^◌, ◌≤◌, ◌<◌, Bool, List, length}
+use Rattle.rv_isa_laws.specs.Platform.{stack_start}
 use Rattle.rv_map.specs.Map.{Map, map_of}
 use Rattle.rv_image.specs.declared.linked.Linked.{Linked as DeclaredLinked}
 
@@ -15,7 +16,7 @@ pub record Linked : Type 0 where
 abbrev pub linked_of : DeclaredLinked → Linked
 linked_of l = record { text = l.text.items; rodata = l.rodata.items; «data» = l.data.items; map = map_of l.map; rvc = l.rvc }
 
--- how the linker lays a program out: each region has its bytes, one behind the other, bss behind the data, all below the
+-- how the linker lays a program out: each region has its bytes, one after the other, bss after the data, all below the
 -- stack, 256 MiB at most; the entry is even
 pub record IsLaidOut (l : Linked) : Type 0 where
   pub text_fills : l.map.text.start + length l.text ≡ l.map.text.end
@@ -25,7 +26,7 @@ pub record IsLaidOut (l : Linked) : Type 0 where
   pub data_after_rodata : l.map.rodata.end ≤ l.map.data.start
   pub bss_after_data : l.map.data.end ≤ l.map.bss.start
   pub bss_ends : l.map.bss.start ≤ l.map.bss.end
-  pub below_stack : l.map.bss.end ≤ 0x3FF0_0000
+  pub below_stack : l.map.bss.end ≤ stack_start
   pub limit : length l.text + length l.rodata + (l.map.bss.end - l.map.data.start) ≤ 2 ^ 28
   pub even : l.map.entry % 2 ≡ 0
   pub entry : l.map.entry < 2 ^ 64

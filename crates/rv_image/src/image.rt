@@ -8,7 +8,9 @@ use crate::segment::Segment;
 /// The segments of a program and the address at which it begins.
 #[derive(Debug, PartialEq, Eq, Drop)]
 pub struct Image {
+    /// The address of the first instruction.
     pub entry: u64,
+    /// The segments, in the order of the file.
     pub segments: Vec<Segment>,
     /// Instructions begin at even addresses.
     pub ghost even: { entry % 2 ≡ 0 },

@@ -1,6 +1,7 @@
 //! What the linker makes.
 
 ghost use Rattle.std.specs.Prelude.{◌≡◌, ◌+◌, ◌-◌, ◌%◌, ◌^◌, ◌<◌, ◌≤◌, length};
+ghost use Rattle.rv_isa_laws.specs.Platform.{stack_start};
 
 use rv_map::Map;
 
@@ -25,7 +26,7 @@ pub struct Linked {
     pub ghost bss_after_data: { map.data.end ≤ map.bss.start },
     pub ghost bss_ends: { map.bss.start ≤ map.bss.end },
     /// The stack lies above.
-    pub ghost below_stack: { map.bss.end ≤ 0x3FF0_0000 },
+    pub ghost below_stack: { map.bss.end ≤ stack_start },
     /// The memory has 256 MiB at most.
     pub ghost limit: { length text.items + length rodata.items + (map.bss.end - map.data.start) ≤ 2 ^ 28 },
     /// Instructions begin at even addresses.

@@ -100,7 +100,7 @@ fn segment(alloc: Global, file: &[u8], program: Program) -> Result<Segment, Allo
     })
 }
 
-/// So many bytes of the file from a place on.
+/// The bytes of the file from a place on, `size` of them.
 fn contents(file: &[u8], place: u64, size: u64) -> &[u8]
     requires { is_past file.now place size ≡ false }
     ensures bytes { result.now ≡ take size (drop place file.now) }

@@ -10,7 +10,9 @@ pub const STACK_BYTES: usize = 0x10_0000;
 /// Bytes that stand in memory from `address` on.
 #[derive(Debug, PartialEq, Eq, Drop)]
 pub struct Segment {
+    /// The address of its first byte.
     pub address: u64,
+    /// Its bytes, with the zeros that the file leaves out.
     pub bytes: Vec<u8>,
     /// Its rights: 1 to execute, 2 to write, 4 to read; other bits have no meaning.
     pub flags: u32,

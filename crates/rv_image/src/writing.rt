@@ -41,7 +41,7 @@ fn put_header(file: &mut Vec<u8>, linked: &Linked) -> Result<(), AllocError>
     Ok(())
 }
 
-/// The fields of the header behind the places of the tables.
+/// The fields of the header after the places of the tables.
 fn put_sizes(file: &mut Vec<u8>, linked: &Linked) -> Result<(), AllocError>
     ensures length { OnOk result (vec_len file.new ≡ vec_len file.old + 16) }
     ensures bytes { OnOk result (file.new.items ≡ file.old.items

@@ -21,13 +21,12 @@ pub fn one_map()
 pub fn reread(alloc: Allocator, map: &Map) -> Result<Option<Map>, AllocError>
     ensures { IfOk result (λ read. option_map map_of read ≡ Some (map_of map.now)) }
 {
-    known(map);
     let text = write(alloc, map)?;
     read(alloc, &text)
 }
 
-/// What the types of a map keep.
-fn known(map: &Map)
+/// What the types of a map keep: its text gives it again.
+pub fn known(map: &Map)
     ensures { IsMap (map_of map.now) }
 {
     let _entry = map.entry;

@@ -6,43 +6,57 @@ ghost use Rattle.rv_map.specs.Name.{is_name};
 /// The addresses from `start` on and below `end`.
 #[derive(Clone, Copy, Debug, PartialEq, Eq, Drop)]
 pub struct Region {
+    /// The address of its first byte.
     pub start: u64,
+    /// The address after its last byte.
     pub end: u64,
 }
 
 /// A global name and its address.
 #[derive(Debug, PartialEq, Eq, Drop)]
 pub struct Global {
+    /// The bytes of the name.
     pub name: Vec<u8>,
+    /// The address in memory.
     pub address: u64,
     /// A name has one byte or more, all of 21h to 7Eh.
     pub ghost named: { IsTrue (is_name name.items) },
 }
 
-/// Where a statement stands: its file and its line from 1, its ordinal among the file's statements
-/// from 1, and the bytes and instructions that it has at `address`.
+/// Where a statement stands, and what it became there.
 #[derive(Clone, Copy, Debug, PartialEq, Eq, Drop)]
 pub struct Row {
+    /// Its file, from 1.
     pub file: u64,
+    /// Its line in the file, from 1.
     pub line: u64,
+    /// Its number among the statements of the file, from 1.
     pub ordinal: u64,
+    /// The address of its first byte.
     pub address: u64,
+    /// How many bytes it has there.
     pub bytes: u64,
+    /// How many instructions it has there.
     pub instructions: u64,
 }
 
 /// The map of an executable.
 #[derive(Debug, PartialEq, Eq, Drop)]
 pub struct Map {
+    /// The instructions.
     pub text: Region,
+    /// The constants.
     pub rodata: Region,
+    /// The variables, but for those that begin as zeros.
     pub data: Region,
+    /// The variables that begin as zeros.
     pub bss: Region,
-    /// Where a run begins.
+    /// The address at which a run begins.
     pub entry: u64,
     /// The parts of the text between its sections, which hold zeros.
     pub gaps: Vec<Region>,
+    /// The global names, in the order of the map's text.
     pub globals: Vec<Global>,
-    /// The statements that have a place, by file and ordinal.
+    /// The statements that have an address, by file and ordinal.
     pub rows: Vec<Row>,
 }

@@ -9,7 +9,7 @@ ghost use Rattle.rv_map.specs.Reading.{Gives, cut_at, number_at};
 
 use memchr::memchr;
 
-/// The number that stands before the first such byte, and what stands behind it.
+/// The number that stands before the first such byte, and what stands after it.
 #[tactic(auto, unfolding(crate::specs::Reading::number_at))]
 pub(crate) fn number_before(base: u64, end: u8, bytes: &[u8]) -> Option<(u64, &[u8])>
     requires { IsBase base }
@@ -22,7 +22,7 @@ pub(crate) fn number_before(base: u64, end: u8, bytes: &[u8]) -> Option<(u64, &[
     Some((number, rest))
 }
 
-/// What stands before the first such byte, and what stands behind it.
+/// What stands before the first such byte, and what stands after it.
 pub(crate) fn cut(end: u8, bytes: &[u8]) -> Option<(&[u8], &[u8])>
     ensures exact { Gives (λ found. (found.0.now, found.1.now)) result (cut_at end bytes.now) }
     ensures found { IfSome result (λ found. bytes.now ≡ found.0.now ++ end ∷ found.1.now) }

@@ -180,7 +180,7 @@ fn are_shown(name: &[u8]) -> bool
     name.iter().all(|byte| b'!' <= *byte && *byte <= b'~')
 }
 
-/// What stands behind this front.
+/// What stands after this front.
 #[tactic(auto, unfolding(crate::specs::Reading::behind))]
 fn behind<'a>(front: &[u8], bytes: &'a [u8]) -> Option<&'a [u8]>
     ensures exact { Gives (λ found. found.now) result (behind front.now bytes.now) }

@@ -3,16 +3,21 @@
 ghost use Rattle.std.specs.Prelude.{◌≡◌, ◌<◌, ◌++◌, ◌∷◌, [], IfOk, OnOk, false, map, flat_map, codes, decimal};
 ghost use Rattle.std.specs.Fmt.{digit_glyph};
 ghost use Rattle.rv_map.specs.Map.{map_of, global_of};
+ghost use Rattle.rv_map.specs.Limits.{IsMap};
 ghost use Rattle.rv_map.specs.Text.{hexadecimal, line_text, region_line, gap_line, global_line, row_line, region_lines, head_lines, map_text};
 
+use crate::law::known;
 use crate::map::{Global, Map, Region, Row};
 use itoa::Buffer;
 use std::alloc::{AllocError, Global as Allocator};
 
 /// The text of a map: a line for each region, gap, global and row.
 pub fn write(alloc: Allocator, map: &Map) -> Result<Vec<u8>, AllocError>
-    ensures { IfOk result (λ text. text.items ≡ map_text (map_of map.now)) }
+    ensures text { IfOk result (λ text. text.items ≡ map_text (map_of map.now)) }
+    // Its numbers and names are those that a text can show: reading the text gives this map.
+    ensures readable { IfOk result (λ _. IsMap (map_of map.now)) }
 {
+    known(map);
     let mut text = Vec::new(alloc);
     put_head(&mut text, map)?;
     put_gaps(&mut text, &map.gaps)?;

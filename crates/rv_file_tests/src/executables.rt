@@ -1,6 +1,6 @@
 //! Files made by hand, and what is read from them.
 
-use crate::{FileFault, Linked, Map, Region, load, reload, write_exec};
+use rv_image::{FileFault, Linked, Map, Region, load, reload, write_exec};
 use std::alloc::{AllocError, Global};
 use std::test::Fail;
 
@@ -59,33 +59,54 @@ fn writes_and_loads(rt: HostRuntime) -> Result<(), Fail> {
     Ok(())
 }
 
+/// The shortest front part of a file that is not refused as truncated.
+fn first_whole(alloc: Global, file: &[u8]) -> usize {
+    for length in 0..file.len() {
+        if load(alloc, &file[..length]) != Err(FileFault::Truncated) {
+            return length;
+        }
+    }
+    file.len()
+}
+
+/// A place of the file, another byte there, and the fault that it makes.
+const DAMAGES: [(usize, u8, FileFault); 11] = [
+    (0, 0x7E, FileFault::BadMagic),
+    (4, 1, FileFault::WrongClass),
+    (18, 62, FileFault::WrongMachine),
+    (48, 2, FileFault::WrongMachine),
+    (16, 1, FileFault::NotExecutable),
+    (54, 55, FileFault::BadTable),
+    (61, 0xFF, FileFault::BadTable),
+    (64, 2, FileFault::Dynamic),
+    (104, 11, FileFault::BadTable),
+    (24, 1, FileFault::BadTable),
+    (107, 0x10, FileFault::MemoryLimit),
+];
+
+/// Whether a file is refused for this fault when this byte stands there.
+fn is_damaged(
+    alloc: Global,
+    file: &[u8],
+    place: usize,
+    byte: u8,
+    fault: FileFault,
+) -> Result<bool, AllocError> {
+    let mut damaged = Vec::from_slice(alloc, file)?;
+    if place >= damaged.len() {
+        return Ok(false);
+    }
+    damaged[place] = byte;
+    Ok(load(alloc, &damaged) == Err(fault))
+}
+
 #[test]
 fn refuses_damaged_files(rt: HostRuntime) -> Result<(), Fail> {
     let alloc = rt.alloc();
     let file = write_exec(alloc, &exit7(alloc)?)?;
-    for length in 0..file.len() {
-        assert!(rt;
-            load(alloc, &file[..length]) == Err(FileFault::Truncated),
-            "{length}"
-        );
-    }
-    for (place, byte, fault) in [
-        (0, 0x7E, FileFault::BadMagic),
-        (4, 1, FileFault::WrongClass),
-        (18, 62, FileFault::WrongMachine),
-        (48, 2, FileFault::WrongMachine),
-        (16, 1, FileFault::NotExecutable),
-        (54, 55, FileFault::BadTable),
-        (61, 0xFF, FileFault::BadTable),
-        (64, 2, FileFault::Dynamic),
-        (104, 11, FileFault::BadTable),
-        (24, 1, FileFault::BadTable),
-        (107, 0x10, FileFault::MemoryLimit),
-    ] {
-        let mut damaged = Vec::from_slice(alloc, &file)?;
-        assert!(rt; place < damaged.len());
-        damaged[place] = byte;
-        assert!(rt; load(alloc, &damaged) == Err(fault), "{place}");
+    assert_eq!(rt; first_whole(alloc, &file), file.len());
+    for (place, byte, fault) in DAMAGES.iter() {
+        assert!(rt; is_damaged(alloc, &file, *place, *byte, *fault)?, "{place}");
     }
     Ok(())
 }

@@ -1,21 +1,17 @@
 //! The lines that the program writes to standard error, without `rv: ` before them.
 
-use crate::jobs::Trouble;
+use crate::error::CliError;
 use rv_chain::{End, Fault, FileFault, LinkFault, SourceFault};
 use std::alloc::{AllocError, Global};
 use std::str::from_utf8;
 
 /// The line of a fault of `build` or `run_exec`; `names` are the files in their order.
-pub(crate) fn fault_line(
-    alloc: Global,
-    fault: &Fault,
-    names: &[&str],
-) -> Result<Trouble, AllocError> {
+pub fn fault_line(alloc: Global, fault: &Fault, names: &[&str]) -> Result<CliError, AllocError> {
     match fault {
         Fault::Source(file, fault) => source_line(alloc, name_of(names, *file), fault),
         Fault::File(file, fault) => file_line(alloc, name_of(names, *file), fault),
         Fault::Link(fault) => link_line(alloc, fault),
-        Fault::Memory => Ok(Trouble::Memory),
+        Fault::Memory => Ok(CliError::Memory),
     }
 }
 
@@ -29,21 +25,21 @@ fn name_of<'a>(names: &[&'a str], file: u32) -> &'a str {
 }
 
 /// As `a.s:5: E7 BadOperands`.
-fn source_line(alloc: Global, name: &str, fault: &SourceFault) -> Result<Trouble, AllocError> {
+fn source_line(alloc: Global, name: &str, fault: &SourceFault) -> Result<CliError, AllocError> {
     match fault {
         SourceFault::At { code, line } => {
             let number = code.number();
             let what = code.name();
-            Ok(Trouble::Line(format!(in alloc; "{name}:{line}: E{number} {what}")?))
+            Ok(CliError::Line(format!(in alloc; "{name}:{line}: E{number} {what}")?))
         }
-        SourceFault::OutOfMemory => Ok(Trouble::Memory),
+        SourceFault::OutOfMemory => Ok(CliError::Memory),
     }
 }
 
 /// As `a.o: F9 UnsupportedRelocation 20`.
-fn file_line(alloc: Global, name: &str, fault: &FileFault) -> Result<Trouble, AllocError> {
+fn file_line(alloc: Global, name: &str, fault: &FileFault) -> Result<CliError, AllocError> {
     let Some(number) = fault.number() else {
-        return Ok(Trouble::Memory);
+        return Ok(CliError::Memory);
     };
     let what = fault.name();
     let line = match fault {
@@ -52,13 +48,13 @@ fn file_line(alloc: Global, name: &str, fault: &FileFault) -> Result<Trouble, Al
         }
         _ => format!(in alloc; "{name}: F{number} {what}")?,
     };
-    Ok(Trouble::Line(line))
+    Ok(CliError::Line(line))
 }
 
 /// As `L7 EntryMissing`, or `L5 Undefined f`.
-fn link_line(alloc: Global, fault: &LinkFault) -> Result<Trouble, AllocError> {
+fn link_line(alloc: Global, fault: &LinkFault) -> Result<CliError, AllocError> {
     let Some(number) = fault.number() else {
-        return Ok(Trouble::Memory);
+        return Ok(CliError::Memory);
     };
     let what = fault.name();
     let line = match fault {
@@ -68,11 +64,11 @@ fn link_line(alloc: Global, fault: &LinkFault) -> Result<Trouble, AllocError> {
         }
         _ => format!(in alloc; "L{number} {what}")?,
     };
-    Ok(Trouble::Line(line))
+    Ok(CliError::Line(line))
 }
 
 /// As `FetchOutside 8`; an address is hexadecimal, in lower case.
-pub(crate) fn end_line(alloc: Global, end: &End) -> Result<String, AllocError> {
+pub fn end_line(alloc: Global, end: &End) -> Result<String, AllocError> {
     let what = end.name();
     match end.address() {
         Some(address) => format!(in alloc; "{what} {address:x}"),

@@ -1,10 +1,9 @@
 //! What `rv run` writes for each end of a run, and its status. The words are those that GNU as writes.
 
-use super::fake::{Given, does_each};
-use crate::words::default_options;
+use super::fake::{Row, Scene, ends, first_other};
 use rv_chain::{Fault, build};
+use rv_program::default_options;
 use std::alloc::Global;
-use std::process::Abort;
 use std::test::Fail;
 
 pub(super) const EXIT7: &[u8] =
@@ -55,39 +54,30 @@ pub(super) fn executable(alloc: Global, words: &[u32]) -> Result<Vec<u8>, Fault>
 }
 
 /// A source that is built, and an executable.
-const BOTH: [(&str, u8, &str, &str); 2] = [("rv run a.s", 7, "", ""), ("rv run a", 0, "h", "")];
+const BOTH: [Row; 2] = [("rv run a.s", 7, "", ""), ("rv run a", 0, "h", "")];
 
 #[test]
 fn a_guest_exits(rt: HostRuntime) -> Result<(), Fail> {
     let alloc = rt.alloc();
     let exe = executable(alloc, &WRITES_H)?;
-    let files = [
-        Given {
-            name: "a.s",
-            bytes: EXIT7,
-        },
-        Given {
-            name: "a",
-            bytes: exe.as_slice(),
-        },
-    ];
-    Ok(does_each(&rt, alloc, &files, Some(b""), "", &BOTH)?)
+    let mut scene = Scene::source(EXIT7);
+    scene.exe = exe.as_slice();
+    assert_eq!(rt; first_other(alloc, scene, &BOTH)?, None);
+    Ok(())
 }
 
-/// A run of the executable of these words with an input ends with a status, an output and a line.
-fn ends(
-    rt: &impl Abort,
+/// Whether a run of the executable of these words with an input ends with a status, an output and a line.
+fn run_ends(
     alloc: Global,
     words: &[u32],
     input: Option<&[u8]>,
-    row: (&str, u8, &str, &str),
-) -> Result<(), Fault> {
+    status: u8,
+    output: &str,
+    line: &str,
+) -> Result<bool, Fault> {
     let exe = executable(alloc, words)?;
-    let files = [Given {
-        name: "a",
-        bytes: exe.as_slice(),
-    }];
-    Ok(does_each(rt, alloc, &files, input, "", &[row])?)
+    let scene = Scene::exe(exe.as_slice(), input);
+    Ok(ends(alloc, scene, "rv run a", status, output, line)?)
 }
 
 const ENDS: [(&[u32], &str); 9] = [
@@ -105,18 +95,15 @@ const ENDS: [(&[u32], &str); 9] = [
 #[test]
 fn a_run_ends_otherwise(rt: HostRuntime) -> Result<(), Fail> {
     for (words, line) in ENDS.iter() {
-        ends(
-            &rt,
-            rt.alloc(),
-            *words,
-            Some(b""),
-            ("rv run a", 125, "", *line),
-        )?;
+        assert!(rt;
+            run_ends(rt.alloc(), *words, Some(b""), 125, "", *line)?,
+            "{line}"
+        );
     }
     Ok(())
 }
 
-const LIMITS: [(&str, u8, &str, &str); 3] = [
+const LIMITS: [Row; 3] = [
     ("rv run --limit 3 a.s", 7, "", ""),
     ("rv run a.s --limit=2", 125, "", "rv: Limit\n"),
     ("rv run --limit 0 -- a.s", 125, "", "rv: Limit\n"),
@@ -124,11 +111,11 @@ const LIMITS: [(&str, u8, &str, &str); 3] = [
 
 #[test]
 fn a_limit_ends_a_run(rt: HostRuntime) -> Result<(), Fail> {
-    let files = [Given {
-        name: "a.s",
-        bytes: EXIT7,
-    }];
-    Ok(does_each(&rt, rt.alloc(), &files, Some(b""), "", &LIMITS)?)
+    assert_eq!(rt;
+        first_other(rt.alloc(), Scene::source(EXIT7), &LIMITS)?,
+        None
+    );
+    Ok(())
 }
 
 /// Inputs, and what of them is written.
@@ -138,22 +125,13 @@ const ECHOES: [(&[u8], &str); 3] = [(b"abcdef", "abcd"), (b"ab", "ab"), (b"", ""
 fn a_guest_reads_standard_input(rt: HostRuntime) -> Result<(), Fail> {
     let alloc = rt.alloc();
     for (input, output) in ECHOES.iter() {
-        ends(
-            &rt,
-            alloc,
-            &ECHO_FOUR,
-            Some(*input),
-            ("rv run a", 0, *output, ""),
-        )?;
+        assert!(rt;
+            run_ends(alloc, &ECHO_FOUR, Some(*input), 0, *output, "")?,
+            "{output}"
+        );
     }
     let largest = Vec::from_elem(alloc, b'x', 1 << 24)?;
-    ends(
-        &rt,
-        alloc,
-        &ECHO_FOUR,
-        Some(largest.as_slice()),
-        ("rv run a", 0, "xxxx", ""),
-    )?;
+    assert!(rt; run_ends(alloc, &ECHO_FOUR, Some(largest.as_slice()), 0, "xxxx", "")?);
     Ok(())
 }
 
@@ -166,47 +144,48 @@ li a0, 0; li a7, 93; ecall
 msg: .ascii \"hello\"
 ";
 
-const INPUT_RUNS: [(&str, u8, &str, &str); 2] = [("rv", 7, "", ""), ("rv run -", 7, "", "")];
+const INPUT_RUNS: [Row; 2] = [("rv", 7, "", ""), ("rv run -", 7, "", "")];
 
-const INPUT_WRITES: [(&str, u8, &str, &str); 2] = [
+const INPUT_WRITES: [Row; 2] = [
     ("rv", 0, "hello", ""),
     ("rv run --limit 8 -", 0, "hello", ""),
 ];
+
 /// The guest's input is empty.
-const INPUT_ECHOES: [(&str, u8, &str, &str); 1] = [("rv run -", 0, "", "")];
+const INPUT_ECHOES: [Row; 1] = [("rv run -", 0, "", "")];
 
 #[test]
 fn standard_input_is_the_file(rt: HostRuntime) -> Result<(), Fail> {
     let alloc = rt.alloc();
-    does_each(&rt, alloc, &[], Some(EXIT7), "", &INPUT_RUNS)?;
-    does_each(&rt, alloc, &[], Some(HELLO), "", &INPUT_WRITES)?;
+    assert_eq!(rt;
+        first_other(alloc, Scene::exe(b"", Some(EXIT7)), &INPUT_RUNS)?,
+        None
+    );
+    assert_eq!(rt;
+        first_other(alloc, Scene::exe(b"", Some(HELLO)), &INPUT_WRITES)?,
+        None
+    );
     let exe = executable(alloc, &ECHO_FOUR)?;
-    does_each(&rt, alloc, &[], Some(exe.as_slice()), "", &INPUT_ECHOES)?;
+    let scene = Scene::exe(b"", Some(exe.as_slice()));
+    assert_eq!(rt; first_other(alloc, scene, &INPUT_ECHOES)?, None);
     Ok(())
 }
 
-const INPUT_FAILS: [(&str, u8, &str, &str); 1] = [("rv run a", 1, "", "rv: X1 InputFault\n")];
+const INPUT_FAILS: [Row; 1] = [("rv run a", 1, "", "rv: X1 InputFault\n")];
 
-const OUTPUT_FAILS: [(&str, u8, &str, &str); 1] = [("rv run a", 1, "", "rv: X2 OutputFault\n")];
+const OUTPUT_FAILS: [Row; 1] = [("rv run a", 1, "", "rv: X2 OutputFault\n")];
 
 #[test]
 fn a_stream_fails(rt: HostRuntime) -> Result<(), Fail> {
     let alloc = rt.alloc();
     let exe = executable(alloc, &WRITES_H)?;
-    let files = [Given {
-        name: "a",
-        bytes: exe.as_slice(),
-    }];
-    does_each(&rt, alloc, &files, None, "", &INPUT_FAILS)?;
     let too_much = Vec::from_elem(alloc, b'x', (1 << 24) + 1)?;
-    does_each(
-        &rt,
-        alloc,
-        &files,
-        Some(too_much.as_slice()),
-        "",
-        &INPUT_FAILS,
-    )?;
-    does_each(&rt, alloc, &files, Some(b""), "-", &OUTPUT_FAILS)?;
+    let mut scene = Scene::exe(exe.as_slice(), None);
+    assert_eq!(rt; first_other(alloc, scene, &INPUT_FAILS)?, None);
+    scene.input = Some(too_much.as_slice());
+    assert_eq!(rt; first_other(alloc, scene, &INPUT_FAILS)?, None);
+    scene.input = Some(b"");
+    scene.closed = "-";
+    assert_eq!(rt; first_other(alloc, scene, &OUTPUT_FAILS)?, None);
     Ok(())
 }

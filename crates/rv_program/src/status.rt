@@ -1,8 +1,9 @@
 //! From the words of the command line to the exit status.
 
-use crate::jobs::{self, Trouble};
+use crate::error::CliError;
+use crate::jobs::run_job;
 use crate::system::System;
-use crate::words;
+use crate::words::parse_job;
 use std::alloc::Global;
 
 /// The exit status of a refused job.
@@ -11,48 +12,48 @@ const REFUSED: u8 = 1;
 const USAGE: u8 = 2;
 
 /// Does what the words ask for, or says why not; the exit status.
-pub(crate) fn status<S: System>(system: &mut S, words: &[String]) -> u8 {
+pub fn exit_status<S: System>(system: &mut S, words: &[String]) -> u8 {
     match work(system, words) {
         Ok(status) => status,
-        Err(trouble) => told(system, trouble),
+        Err(error) => report(system, error),
     }
 }
 
 /// Reads the words and does their job; the exit status.
-fn work<S: System>(system: &mut S, words: &[String]) -> Result<u8, Trouble> {
+fn work<S: System>(system: &mut S, words: &[String]) -> Result<u8, CliError> {
     let alloc: Global = system.alloc();
     let mut given: Vec<&str> = Vec::new(alloc);
     for word in words {
         given.push(word.as_str())?;
     }
-    let job = words::job_of(alloc, given.as_slice())?;
-    jobs::done(system, &job)
+    let job = parse_job(alloc, given.as_slice())?;
+    run_job(system, &job)
 }
 
 /// Shows why a job was not done; the exit status.
-pub(crate) fn told<S: System>(system: &mut S, trouble: Trouble) -> u8 {
-    match trouble {
-        Trouble::Usage(error) => explained(system, &error),
-        Trouble::NotText => {
+pub fn report<S: System>(system: &mut S, error: CliError) -> u8 {
+    match error {
+        CliError::Usage(error) => show_usage(system, &error),
+        CliError::NotText => {
             system.tell("a word of the command line is not text");
             USAGE
         }
-        Trouble::Line(line) => refused(system, line.as_str()),
-        Trouble::Memory => refused(system, "out of memory"),
+        CliError::Line(line) => refuse(system, line.as_str()),
+        CliError::Memory => refuse(system, "out of memory"),
     }
 }
 
 /// Says why a job was refused; the exit status.
-fn refused<S: System>(system: &mut S, line: &str) -> u8 {
+fn refuse<S: System>(system: &mut S, line: &str) -> u8 {
     system.tell(line);
     REFUSED
 }
 
 /// Shows what is wrong with the words, or prints the help or the version that they ask for; the
 /// exit status.
-fn explained<S: System>(system: &mut S, error: &clap::Error) -> u8 {
+fn show_usage<S: System>(system: &mut S, error: &clap::Error) -> u8 {
     let Ok(text) = error.to_string(system.alloc()) else {
-        return refused(system, "out of memory");
+        return refuse(system, "out of memory");
     };
     if error.use_stderr() {
         system.show(text.as_str());
@@ -60,6 +61,6 @@ fn explained<S: System>(system: &mut S, error: &clap::Error) -> u8 {
     }
     match system.print(text.as_bytes()) {
         Ok(()) => 0,
-        Err(_) => refused(system, "-: cannot write"),
+        Err(_) => refuse(system, "-: cannot write"),
     }
 }

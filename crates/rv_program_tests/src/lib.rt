@@ -1,8 +1,15 @@
 //! The program from its words to its exit status, and the lines that it writes.
+#![tactic(auto)]
 
+#[cfg(test)]
 mod fake;
+#[cfg(test)]
 mod files;
+#[cfg(test)]
 mod lines;
+#[cfg(test)]
 mod refusals;
+#[cfg(test)]
 mod runs;
+#[cfg(test)]
 mod usage;

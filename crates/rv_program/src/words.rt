@@ -1,6 +1,7 @@
 //! The command line: which words mean which job.
 
-use crate::jobs::{Job, Trouble};
+use crate::error::CliError;
+use crate::jobs::Job;
 use clap::error::ErrorKind;
 use clap::{Arg, ArgAction, ArgMatches, Command, Error};
 use rv_chain::LinkOptions;
@@ -35,13 +36,13 @@ const MAP_HELP: &str = "Example:
   rv map --text-start 0x20000 prog.s";
 
 /// What the words ask for; the first word is the program's own name.
-pub(crate) fn job_of<'a>(alloc: Global, words: &'a [&'a str]) -> Result<Job<'a>, Trouble> {
+pub(crate) fn parse_job<'a>(alloc: Global, words: &'a [&'a str]) -> Result<Job<'a>, CliError> {
     let mut command = command(alloc)?;
     let matches = command.try_get_matches_from_mut(words)?;
     match matches.subcommand() {
-        Some(("run", found)) => run_job(&mut command, found),
-        Some(("build", found)) => build_job(alloc, &mut command, found),
-        Some(("map", found)) => map_job(alloc, &mut command, found),
+        Some(("run", found)) => parse_run(&mut command, found),
+        Some(("build", found)) => parse_build(alloc, &mut command, found),
+        Some(("map", found)) => parse_map(alloc, &mut command, found),
         _ => Ok(Job::Run {
             file: "-",
             limit: LIMIT,
@@ -50,70 +51,68 @@ pub(crate) fn job_of<'a>(alloc: Global, words: &'a [&'a str]) -> Result<Job<'a>,
 }
 
 fn command<'a>(alloc: Global) -> Result<Command<'a>, Error> {
-    let about = "Assembles, links and runs bare RISC-V programs (RV64IMAC).";
-    let run = Command::new(alloc, "run")
-        .about("Runs an executable, or builds a source and runs it")
-        .after_help(RUN_HELP)
-        .arg(limit(alloc))?
-        .arg(
-            Arg::new(alloc, "file")
-                .value_name("FILE")
-                .required(true)
-                .help("An executable or a source; - is standard input"),
-        )?;
-    let build = Command::new(alloc, "build")
-        .about("Builds an executable from sources")
-        .after_help(BUILD_HELP)
-        .arg(
-            Arg::new(alloc, "output")
-                .short('o')
-                .value_name("EXE")
-                .required(true)
-                .help("The executable to write"),
-        )?
-        .arg(
-            Arg::new(alloc, "map")
-                .long("map")
-                .value_name("F")
-                .help("Writes the map as well"),
-        )?
-        .arg(text_start_option(alloc))?
-        .arg(sources(alloc))?;
-    let map = Command::new(alloc, "map")
-        .about("Prints the map of what the sources build")
-        .after_help(MAP_HELP)
-        .arg(text_start_option(alloc))?
-        .arg(sources(alloc))?;
     let all = Command::new(alloc, "rv")
         .version("0.1.0")
-        .about(about)
+        .about("Assembles, links and runs bare RISC-V programs (RV64IMAC).")
         .after_help(HELP);
-    Ok(all.subcommand(run)?.subcommand(build)?.subcommand(map)?)
+    let all = all.subcommand(run_command(alloc)?)?;
+    let all = all.subcommand(build_command(alloc)?)?;
+    Ok(all.subcommand(map_command(alloc)?)?)
 }
 
-fn limit<'a>(alloc: Global) -> Arg<'a> {
-    Arg::new(alloc, "limit").long("limit").value_name("N").help(
+fn run_command<'a>(alloc: Global) -> Result<Command<'a>, Error> {
+    let limit = Arg::new(alloc, "limit").long("limit").value_name("N").help(
         "The most instructions to execute [default: 1000000000000]",
-    )
+    );
+    let file = Arg::new(alloc, "file")
+        .value_name("FILE")
+        .required(true)
+        .help("An executable or a source; - is standard input");
+    let run = Command::new(alloc, "run")
+        .about("Runs an executable, or builds a source and runs it")
+        .after_help(RUN_HELP);
+    Ok(run.arg(limit)?.arg(file)?)
 }
 
-fn text_start_option<'a>(alloc: Global) -> Arg<'a> {
-    Arg::new(alloc, "text-start")
+fn build_command<'a>(alloc: Global) -> Result<Command<'a>, Error> {
+    let output = Arg::new(alloc, "output")
+        .short('o')
+        .value_name("EXE")
+        .required(true)
+        .help("The executable to write");
+    let map = Arg::new(alloc, "map")
+        .long("map")
+        .value_name("F")
+        .help("Writes the map as well");
+    let build = Command::new(alloc, "build")
+        .about("Builds an executable from sources")
+        .after_help(BUILD_HELP);
+    with_sources(alloc, build.arg(output)?.arg(map)?)
+}
+
+fn map_command<'a>(alloc: Global) -> Result<Command<'a>, Error> {
+    let map = Command::new(alloc, "map")
+        .about("Prints the map of what the sources build")
+        .after_help(MAP_HELP);
+    with_sources(alloc, map)
+}
+
+/// The command with what `build` and `map` share: the start of the text and the sources.
+fn with_sources<'a>(alloc: Global, command: Command<'a>) -> Result<Command<'a>, Error> {
+    let start = Arg::new(alloc, "text-start")
         .long("text-start")
         .value_name("N")
-        .help("The address of the text, decimal or 0x and hexadecimal [default: 0x10000]")
-}
-
-fn sources<'a>(alloc: Global) -> Arg<'a> {
-    Arg::new(alloc, "sources")
+        .help("The address of the text, decimal or 0x and hexadecimal [default: 0x10000]");
+    let sources = Arg::new(alloc, "sources")
         .value_name("SRC")
         .required(true)
         .action(ArgAction::Append)
         .num_args(1..)
-        .help("The sources, in the order of their sections")
+        .help("The sources, in the order of their sections");
+    Ok(command.arg(start)?.arg(sources)?)
 }
 
-fn run_job<'a>(command: &mut Command<'a>, found: &ArgMatches<'a>) -> Result<Job<'a>, Trouble> {
+fn parse_run<'a>(command: &mut Command<'a>, found: &ArgMatches<'a>) -> Result<Job<'a>, CliError> {
     let limit = match found.get_str("limit") {
         None => LIMIT,
         Some(text) => number(
@@ -128,11 +127,11 @@ fn run_job<'a>(command: &mut Command<'a>, found: &ArgMatches<'a>) -> Result<Job<
     })
 }
 
-fn build_job<'a>(
+fn parse_build<'a>(
     alloc: Global,
     command: &mut Command<'a>,
     found: &ArgMatches<'a>,
-) -> Result<Job<'a>, Trouble> {
+) -> Result<Job<'a>, CliError> {
     let options = link_options(command, found)?;
     Ok(Job::Build {
         exe: found.get_str("output").unwrap_or(""),
@@ -142,11 +141,11 @@ fn build_job<'a>(
     })
 }
 
-fn map_job<'a>(
+fn parse_map<'a>(
     alloc: Global,
     command: &mut Command<'a>,
     found: &ArgMatches<'a>,
-) -> Result<Job<'a>, Trouble> {
+) -> Result<Job<'a>, CliError> {
     let options = link_options(command, found)?;
     Ok(Job::Map {
         options,
@@ -155,7 +154,10 @@ fn map_job<'a>(
 }
 
 /// The options that `build` and `map` share.
-fn link_options(command: &mut Command<'_>, found: &ArgMatches<'_>) -> Result<LinkOptions, Trouble> {
+fn link_options(
+    command: &mut Command<'_>,
+    found: &ArgMatches<'_>,
+) -> Result<LinkOptions, CliError> {
     let text_start = match found.get_str("text-start") {
         None => TEXT_START,
         Some(text) => {
@@ -173,7 +175,7 @@ fn link_options(command: &mut Command<'_>, found: &ArgMatches<'_>) -> Result<Lin
     })
 }
 
-fn source_names<'a>(alloc: Global, found: &ArgMatches<'a>) -> Result<Vec<&'a str>, Trouble> {
+fn source_names<'a>(alloc: Global, found: &ArgMatches<'a>) -> Result<Vec<&'a str>, CliError> {
     let mut names = Vec::new(alloc);
     if let Some(given) = found.get_strs("sources") {
         names.extend_from_slice(given)?;
@@ -182,15 +184,15 @@ fn source_names<'a>(alloc: Global, found: &ArgMatches<'a>) -> Result<Vec<&'a str
 }
 
 /// The number, or a usage fault that says what was wanted.
-fn number(command: &mut Command<'_>, read: Option<u64>, wanted: &str) -> Result<u64, Trouble> {
+fn number(command: &mut Command<'_>, read: Option<u64>, wanted: &str) -> Result<u64, CliError> {
     match read {
         Some(number) => Ok(number),
-        None => Err(Trouble::from(command.error(ErrorKind::ValueValidation, wanted)?)),
+        None => Err(CliError::from(command.error(ErrorKind::ValueValidation, wanted)?)),
     }
 }
 
 /// A decimal number below 2^64: digits alone, one at least.
-pub(crate) fn decimal(text: &str) -> Option<u64> {
+pub fn decimal(text: &str) -> Option<u64> {
     if text.bytes().all(|byte| byte.is_ascii_digit()) {
         text.parse().ok()
     } else {
@@ -199,7 +201,7 @@ pub(crate) fn decimal(text: &str) -> Option<u64> {
 }
 
 /// A number below 2^64, decimal or `0x` with hexadecimal digits of either case.
-pub(crate) fn text_start(text: &str) -> Option<u64> {
+pub fn text_start(text: &str) -> Option<u64> {
     match text.strip_prefix("0x") {
         Some(digits) if digits.bytes().all(|byte| byte.is_ascii_hexdigit()) => {
             u64::from_str_radix(digits, 16).ok()
@@ -210,7 +212,7 @@ pub(crate) fn text_start(text: &str) -> Option<u64> {
 }
 
 /// The options of a build whose words say nothing else.
-pub(crate) fn default_options() -> LinkOptions {
+pub fn default_options() -> LinkOptions {
     LinkOptions {
         text_start: TEXT_START,
         relax: true,

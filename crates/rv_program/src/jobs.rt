@@ -1,0 +1,211 @@
+//! What the program does: runs, builds, prints a map.
+
+use crate::error::CliError;
+use crate::messages::{end_line, fault_line};
+use crate::system::{FILE_LIMIT, INPUT_LIMIT, Purpose, ReadFault, System};
+use crate::words::default_options;
+use rv_chain::{Built, End, LinkOptions, build, build_exe, run_exec};
+use std::alloc::{AllocError, Global};
+
+/// The exit status of a run that the guest did not end by an exit.
+const NOT_EXITED: u8 = 125;
+
+/// What the command line asks for.
+#[derive(Drop)]
+pub(crate) enum Job<'a> {
+    /// Runs an executable, or a source; `-` is standard input.
+    Run {
+        file: &'a str,
+        limit: u64,
+    },
+    /// Writes the executable, and the map where a file is named for it.
+    Build {
+        exe: &'a str,
+        map: Option<&'a str>,
+        options: LinkOptions,
+        sources: Vec<&'a str>,
+    },
+    /// Prints the map.
+    Map {
+        options: LinkOptions,
+        sources: Vec<&'a str>,
+    },
+}
+
+/// Does a job; the exit status.
+pub(crate) fn run_job<S: System>(system: &mut S, job: &Job<'_>) -> Result<u8, CliError> {
+    match job {
+        Job::Run { file, limit } => run(system, file, *limit),
+        Job::Build {
+            exe,
+            map: None,
+            options,
+            sources,
+        } => {
+            let built = build_without_map(system, sources.as_slice(), *options)?;
+            write(system, exe, Purpose::ToRun, built.as_slice())?;
+            Ok(0)
+        }
+        Job::Build {
+            exe,
+            map: Some(map),
+            options,
+            sources,
+        } => {
+            let built = build_with_map(system, sources.as_slice(), *options)?;
+            write(system, exe, Purpose::ToRun, built.exe.as_slice())?;
+            write(system, map, Purpose::ToRead, built.map.as_slice())?;
+            Ok(0)
+        }
+        Job::Map { options, sources } => {
+            let built = build_with_map(system, sources.as_slice(), *options)?;
+            print(system, built.map.as_slice())?;
+            Ok(0)
+        }
+    }
+}
+
+/// Runs an executable, or builds a source and runs it.
+fn run<S: System>(system: &mut S, name: &str, limit: u64) -> Result<u8, CliError> {
+    let alloc: Global = system.alloc();
+    let from_input = name == "-";
+    let read = if from_input {
+        system.input(FILE_LIMIT)
+    } else {
+        system.file(name)
+    };
+    let bytes = contents(alloc, name, read)?;
+    let exe = if bytes.as_slice().starts_with(b"\x7fELF") {
+        bytes
+    } else {
+        executable(alloc, name, bytes.as_slice())?
+    };
+    let input = if from_input {
+        Vec::new(alloc)
+    } else {
+        guest_input(system)?
+    };
+    match run_exec(alloc, exe.as_slice(), input.as_slice(), limit) {
+        Ok(outcome) => report_end(system, outcome.console.as_slice(), &outcome.end),
+        Err(fault) => Err(fault_line(alloc, &fault, &[name])?),
+    }
+}
+
+/// The executable of one source, with the default options.
+fn executable(alloc: Global, name: &str, source: &[u8]) -> Result<Vec<u8>, CliError> {
+    match build_exe(alloc, &[source], default_options()) {
+        Ok(exe) => Ok(exe),
+        Err(fault) => Err(fault_line(alloc, &fault, &[name])?),
+    }
+}
+
+/// All of standard input, for the guest.
+fn guest_input<S: System>(system: &mut S) -> Result<Vec<u8>, CliError> {
+    match system.input(INPUT_LIMIT) {
+        Ok(input) => Ok(input),
+        Err(ReadFault::Failed) => Err(CliError::Line("X1 InputFault".to_string(system.alloc())?)),
+        Err(ReadFault::Memory) => Err(CliError::Memory),
+    }
+}
+
+/// Prints the console and says how the run ended; the exit status.
+fn report_end<S: System>(system: &mut S, console: &[u8], end: &End) -> Result<u8, CliError> {
+    if system.print(console).is_err() {
+        return Err(CliError::Line("X2 OutputFault".to_string(system.alloc())?));
+    }
+    match end {
+        End::Exited(code) => Ok(*code),
+        _ => {
+            let line = end_line(system.alloc(), end)?;
+            system.tell(line.as_str());
+            Ok(NOT_EXITED)
+        }
+    }
+}
+
+/// Reads the sources in their order and builds them: the executable and its map.
+fn build_with_map<S: System>(
+    system: &mut S,
+    names: &[&str],
+    options: LinkOptions,
+) -> Result<Built, CliError> {
+    let alloc: Global = system.alloc();
+    let read = read_sources(system, names)?;
+    let sources = texts(alloc, read.as_slice())?;
+    match build(alloc, sources.as_slice(), options) {
+        Ok(built) => Ok(built),
+        Err(fault) => Err(fault_line(alloc, &fault, names)?),
+    }
+}
+
+/// Reads the sources in their order and builds them: the executable alone.
+fn build_without_map<S: System>(
+    system: &mut S,
+    names: &[&str],
+    options: LinkOptions,
+) -> Result<Vec<u8>, CliError> {
+    let alloc: Global = system.alloc();
+    let read = read_sources(system, names)?;
+    let sources = texts(alloc, read.as_slice())?;
+    match build_exe(alloc, sources.as_slice(), options) {
+        Ok(exe) => Ok(exe),
+        Err(fault) => Err(fault_line(alloc, &fault, names)?),
+    }
+}
+
+/// The bytes of the files, in their order.
+fn read_sources<S: System>(system: &mut S, names: &[&str]) -> Result<Vec<Vec<u8>>, CliError> {
+    let alloc: Global = system.alloc();
+    let mut read: Vec<Vec<u8>> = Vec::new(alloc);
+    for name in names {
+        read.push(contents(alloc, name, system.file(name))?)?;
+    }
+    Ok(read)
+}
+
+/// The same bytes, borrowed.
+fn texts<'a>(alloc: Global, read: &'a [Vec<u8>]) -> Result<Vec<&'a [u8]>, AllocError> {
+    let mut texts: Vec<&'a [u8]> = Vec::new(alloc);
+    for bytes in read {
+        texts.push(bytes.as_slice())?;
+    }
+    Ok(texts)
+}
+
+/// The bytes that were read, or the line that says that they weren't.
+fn contents(
+    alloc: Global,
+    name: &str,
+    read: Result<Vec<u8>, ReadFault>,
+) -> Result<Vec<u8>, CliError> {
+    match read {
+        Ok(bytes) => Ok(bytes),
+        Err(ReadFault::Failed) => Err(cannot(alloc, "read", name)?),
+        Err(ReadFault::Memory) => Err(CliError::Memory),
+    }
+}
+
+fn write<S: System>(
+    system: &mut S,
+    name: &str,
+    purpose: Purpose,
+    bytes: &[u8],
+) -> Result<(), CliError> {
+    match system.write(name, purpose, bytes) {
+        Ok(()) => Ok(()),
+        Err(_) => Err(cannot(system.alloc(), "write", name)?),
+    }
+}
+
+/// Writes to standard output, which messages call `-`.
+fn print<S: System>(system: &mut S, bytes: &[u8]) -> Result<(), CliError> {
+    match system.print(bytes) {
+        Ok(()) => Ok(()),
+        Err(_) => Err(cannot(system.alloc(), "write", "-")?),
+    }
+}
+
+/// The line of a file that cannot be read or written.
+fn cannot(alloc: Global, verb: &str, name: &str) -> Result<CliError, AllocError> {
+    Ok(CliError::Line(format!(in alloc; "{name}: cannot {verb}")?))
+}

@@ -1,0 +1,33 @@
+//! The program `rv` below its `main`: from the words of a command line to an exit status.
+//!
+//! It takes the words and a [`System`], which gives files and the standard streams, and gives the exit status, after
+//! it has written what the words ask for, or one line that says why not.
+//!
+//! Main function: `exit_status`. No contract speaks of what it prints: that is tested. What runs and builds give is
+//! said by the clauses of `run_exec`, `build` and `build_exe`, of which it hands on the bytes as they are. It does not
+//! know how statements are read or instructions executed, and of the system only what [`System`] has: [`Host`] is
+//! the real one, and a test stands in for it.
+//!
+//! ```text
+//! let mut host = Host { rt: &rt };
+//! let words = env::args(&rt)?.collect(rt.alloc())?;
+//! let status = exit_status(&mut host, words.as_slice());
+//! // rv build -o a a.s: 0, and the file `a` is there
+//! // rv run b.s: 1, and 'rv: b.s: cannot read' on standard error
+//! ```
+#![tactic(auto)]
+
+mod error;
+mod host;
+mod jobs;
+mod messages;
+mod status;
+mod system;
+mod words;
+
+pub use error::CliError;
+pub use host::Host;
+pub use messages::{end_line, fault_line};
+pub use status::{exit_status, report};
+pub use system::{Purpose, ReadFault, System, read_whole};
+pub use words::{decimal, default_options, text_start};
