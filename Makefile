@@ -1,14 +1,16 @@
-# make          builds the program as ./rv and runs an example with it
-# make test     the whole gate: every proof from nothing, the must-fail edits, the tests and the program
-# make bench    measures rv beside GNU's tools and qemu-riscv64, where they are installed
-# make install  PREFIX=/usr/local by default
+# make             proves and builds the program as ./rv, and runs an example with it
+# make test        the whole gate: every proof from nothing, the must-fail edits, the tests and the program
+# make gate-times  the same, with a table of what each crate cost
+# make bench       measures rv beside GNU's tools and qemu-riscv64, where they are installed
+# make install     PREFIX=/usr/local by default
 
 PREFIX ?= /usr/local
 EXAMPLE := examples/exit7.s
 PROGRAM := crates/rv_cli/out/rv_cli
-SOURCES := $(shell find crates -name out -prune -o -type f -print) crates.txt
+# What the program is made of: no test crate, and no edit that must fail.
+SOURCES := crates.txt $(shell find crates \( -name out -o -name must-fail -o -name '*_tests' \) -prune -o -type f -print)
 
-.PHONY: all test bench install clean
+.PHONY: all test gate-times bench install clean
 
 all: rv
 	@echo "rv run $(EXAMPLE)"
@@ -16,11 +18,14 @@ all: rv
 
 # A program bears its crate's name; it is copied under its own.
 rv: $(SOURCES)
-	cd crates/rv_cli && rt run -- --version
+	scripts/build.py rv_cli
 	cp $(PROGRAM) rv
 
 test:
 	rt ci
+
+gate-times:
+	scripts/gate_times.py
 
 bench: rv
 	python3 bench/run.py
@@ -29,4 +34,4 @@ install: rv
 	install -D -m 755 rv $(DESTDIR)$(PREFIX)/bin/rv
 
 clean:
-	rm -rf rv crates/*/out
+	rm -rf rv out crates/*/out
