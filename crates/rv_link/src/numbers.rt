@@ -15,7 +15,7 @@ use rv_link_laws::Item;
 use rv_map::Global as Defined;
 use rv_statement::Width;
 use rv_text::{Expr, SourceFault, Symbol, Value};
-use rv_unit::{Definition, SectionOffset, Scope};
+use rv_unit::{Definition, Scope, SectionOffset};
 use std::alloc::{AllocError, Global as Allocator};
 use std::collections::HashMap;
 
