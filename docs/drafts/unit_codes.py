@@ -40,5 +40,5 @@ sub('rv_unit/src/check.rt',[
 sub('rv_unit/src/faults.rt',[
 ("section.entry.nobits) 15 ++","section.entry.nobits) wrong_section ++",1),
 ("laws.faulty_if placed 11)","laws.faulty_if placed duplicate_label)",1),
-("ghost use Rattle.rv_text.specs.Fault.{number_of};","ghost use Rattle.rv_text_laws.specs.Codes.{duplicate_label, wrong_section};\nghost use Rattle.rv_text.specs.Fault.{number_of};",1),
+("ghost use Rattle.rv_lexer.specs.Fault.{number_of};","ghost use Rattle.rv_text_laws.specs.Codes.{duplicate_label, wrong_section};\nghost use Rattle.rv_text.specs.Fault.{number_of};",1),
 ])

@@ -8,7 +8,7 @@ use Rattle.std.specs.Prelude.{◌==◌, nat_lt, max, length, slice_index_or, if�
 use Rattle.rv_text_laws.specs.Values.{Value, Constant}
 use Rattle.rv_statement.specs.declared.directive.Choice.{Choice}
 use Rattle.rv_statement.specs.declared.directive.Choice.TheVariants.{Push, Pop}
-use Rattle.rv_statement.specs.Statement.{Statement, Label, Numbered, Instruction, Directs, Spoken, Expression, Directive, Enters, Opens, Globl, Local, Sets, Aligns_to_power, Aligns_to_bytes, Values, Strings, Zeros, Chooses, Ignored}
+use Rattle.rv_statement.specs.Statement.{StatementKind, Label, Numbered, Instruction, Directs, Statement, Expression, Directive, Enters, Opens, Globl, Local, Sets, Aligns_to_power, Aligns_to_bytes, Values, Strings, Zeros, Chooses, Ignored}
 use Rattle.rv_unit_laws.specs.Contributions.{AlignmentForm, As_power, As_bytes, Contribution, Nothing, Bytes, Zero_bytes, Alignment, contribution}
 use Rattle.rv_unit_laws.specs.Faults.{first_fault, faults, directive_faults, contribution_faults, number_faults, alignment_faults, code_alignment_faults, past_section}
 use Rattle.rv_unit_laws.specs.Sections.{Section, Opened, text_section, section_at, current_section, entered, entered_at, entered_by, place_of_name, most_sections, goes_to_text}
@@ -138,7 +138,7 @@ low_directive t k d low h =
     (low_chosen (with_assignment (with_section t (entered_by d)) (assigned_by (value t false k (here t)) k d)) (chosen d)
     (low_setting (with_section t (entered_by d)) (assigned_by (value t false k (here t)) k d) (low_section t (entered_by d) h)))
 
-low_after : (t : Tables) (k : ℕ) (says : Statement) → ((d : Directive) → says ≡ Directs d → AsksLow t k d) → IsLow t → IsLow (after t k says)
+low_after : (t : Tables) (k : ℕ) (says : StatementKind) → ((d : Directive) → says ≡ Directs d → AsksLow t k d) → IsLow t → IsLow (after t k says)
 low_after t k (Label name) low h = low_label t k name h
 low_after t k (Numbered number) low h = h
 low_after t k (Instruction mnemonic operands) low h = h
@@ -180,15 +180,15 @@ take_none : {A : Type 0} (xs : List A) → take 0 xs ≡ []
 take_none [] = refl
 take_none (x ∷ xs) = refl
 
-module _ (ss : List Spoken) (good : first_fault ss ≡ None) where
-  low_at : (i : ℕ) (s : Spoken) (d : Directive) → drop i ss ≡ s ∷ drop (i + 1) ss → i ≤ length ss → s.says ≡ Directs d → AsksLow (passed ss i) (i + 1) d
+module _ (ss : List Statement) (good : first_fault ss ≡ None) where
+  low_at : (i : ℕ) (s : Statement) (d : Directive) → drop i ss ≡ s ∷ drop (i + 1) ss → i ≤ length ss → s.kind ≡ Directs d → AsksLow (passed ss i) (i + 1) d
   low_at i s d here_is within is =
       let t = passed ss i in
       let inside = open_inside t.opened (stood_all at_start 1 (take i ss) stood_start).opened in
       directive_low (tables ss) t (i + 1) d (constant_past ss i (here t) within inside)
       (subst (λ says. faults (tables ss) t (i + 1) says ≡ []) is (sound_at ss i s (drop (i + 1) ss) here_is good))
 
-  low_left : (i : ℕ) (rest : List Spoken) → drop i ss ≡ rest → i + length rest ≡ length ss → IsLow (passed ss i) → IsLow (passed ss (length ss))
+  low_left : (i : ℕ) (rest : List Statement) → drop i ss ≡ rest → i + length rest ≡ length ss → IsLow (passed ss i) → IsLow (passed ss (length ss))
   low_left i [] e count h = subst (λ n. IsLow (passed ss n)) (let c : i + 0 ≡ length ss = count in let f : i ≡ length ss = omega (arith, c) in f) h
   low_left i (s ∷ rest) e count h =
       let here_is = left_of ss i s rest e in
@@ -196,9 +196,9 @@ module _ (ss : List Spoken) (good : first_fault ss ≡ None) where
       let more : i + 1 + length rest ≡ length ss = omega (arith, c) in
       let within : i ≤ length ss = omega (arith, c) in
       low_left (i + 1) rest (after_one i s rest e) more
-      (subst IsLow (sym (passed_next ss i s rest e)) (low_after (passed ss i) (i + 1) s.says (λ d is. low_at i s d here_is within is) h))
+      (subst IsLow (sym (passed_next ss i s rest e)) (low_after (passed ss i) (i + 1) s.kind (λ d is. low_at i s d here_is within is) h))
     where
-      after_one : (i : ℕ) (s : Spoken) (rest : List Spoken) → drop i ss ≡ s ∷ rest → drop (i + 1) ss ≡ rest
+      after_one : (i : ℕ) (s : Statement) (rest : List Statement) → drop i ss ≡ s ∷ rest → drop (i + 1) ss ≡ rest
       after_one i s rest e = let f : i + 1 ≡ suc i = omega arith in ap (λ n. drop n ss) f ∙ drop_tail ss i s rest e
 
   low_all : IsLow (tables ss)
@@ -237,7 +237,7 @@ directive_even v home i begins t k (Local names) code placed held h = absurd (cc
 directive_even v home i begins t k (Chooses choice) code placed held h = absurd (cc)
 directive_even v home i begins t k Ignored code placed held h = absurd (cc)
 
-statement_even : (v : Expression → Value) (home : Section) (i : Item) (begins : ℕ) (t : Tables) (k : ℕ) (says : Statement) → home.executable ≡ true → is_placed t k says ≡ true
+statement_even : (v : Expression → Value) (home : Section) (i : Item) (begins : ℕ) (t : Tables) (k : ℕ) (says : StatementKind) → home.executable ≡ true → is_placed t k says ≡ true
     → IsHeld home says → IsSized v home.executable i begins says → i.bytes % 2 ≡ 0
 statement_even v home i begins t k (Label name) code placed held h = no_bytes i.bytes h.0
 statement_even v home i begins t k (Numbered number) code placed held h = no_bytes i.bytes h.0
@@ -250,14 +250,14 @@ grows_even : (b : Bool) (before bytes : ℕ) → before % 2 ≡ 0 → (b ≡ tru
 grows_even true before bytes e f = let g : bytes % 2 ≡ 0 = f refl in omega arith
 grows_even false before bytes e f = e
 
-ends_even : (all : Tables) (j k : ℕ) (t : Tables) (before last : ℕ → ℕ) (ss : List Spoken) (is : List Item) → AreItems k t before ss is last → AreSized all k t ss is
+ends_even : (all : Tables) (j k : ℕ) (t : Tables) (before last : ℕ → ℕ) (ss : List Statement) (is : List Item) → AreItems k t before ss is last → AreSized all k t ss is
     → AllByRecursion Held (located_from 1 k t ss ++ []) → AllByRecursion (λ s. (s.section == j) ≡ true → goes_to_text s.home ≡ true) (located_from 1 k t ss ++ [])
     → before j % 2 ≡ 0 → last j % 2 ≡ 0
 ends_even all j k t before last [] [] h sized held text even = ap (λ n. n % 2) (h j) ∙ even
 ends_even all j k t before last [] (i ∷ is) h sized held text even = absurd h
 ends_even all j k t before last (s ∷ ss) [] h sized held text even = absurd h
 ends_even all j k t before last (s ∷ ss) (i ∷ is) (item, items) (size, sizes) (own, held) (here', text) even =
-    ends_even all j (suc k) (after t k s.says) (grown before i) last ss is items sizes held text
+    ends_even all j (suc k) (after t k s.kind) (grown before i) last ss is items sizes held text
     (grows_even (j == i.section) (before j) i.bytes even (λ same. go i.shown refl (in_section same)))
   where
     st : Located
@@ -270,7 +270,7 @@ ends_even all j k t before last (s ∷ ss) (i ∷ is) (item, items) (size, sizes
     go true e same =
         let code = (and_parts st.home.loaded st.home.executable (here' same)).1 in
         let placed = (and_parts st.placed st.home.loaded (sym item.shown ∙ e)).0 in
-        statement_even (λ e. value_at all st e) st.home i (slice_index_or all.alignments i.section 1) t k s.says code placed own (size e)
+        statement_even (λ e. value_at all st e) st.home i (slice_index_or all.alignments i.section 1) t k s.kind code placed own (size e)
     go false e same = no_bytes i.bytes (item.absent e)
 
 -- ---- both
@@ -282,7 +282,7 @@ two_at_most n low = omega (arith, low)
 begins_even : (t : Tables) (j : ℕ) (section : Section) → goes_to_text section ≡ true → slice_index_or t.alignments j 1 ≤ 2 → begins_at t j section ≡ 2
 begins_even t j section text low = ap (λ b. max (if b then 2 else 1) (slice_index_or t.alignments j 1)) text ∙ two_at_most (slice_index_or t.alignments j 1) low
 
-pub even_sections : (ss : List Spoken) (is : List Item) (last : ℕ → ℕ) → first_fault ss ≡ None → AreItems 1 at_start (λ j. 0) ss is last → AreSized (tables ss) 1 at_start ss is
+pub even_sections : (ss : List Statement) (is : List Item) (last : ℕ → ℕ) → first_fault ss ≡ None → AreItems 1 at_start (λ j. 0) ss is last → AreSized (tables ss) 1 at_start ss is
     → AreEven (tables ss) last 0 (tables ss).opened.sections
 even_sections ss is last sound items sized j good =
     let section = slice_index_or (tables ss).opened.sections j text_section in

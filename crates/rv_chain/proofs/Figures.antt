@@ -6,8 +6,8 @@ use Rattle.std.specs.Prelude.{◌&&◌, flat_map, is_some, unwrap_or}
 use Rattle.std.specs.List.{list_all}
 use Rattle.rv_text_laws.specs.Expression.{Primary}
 use Rattle.rv_text_laws.specs.Values.{Value, Constant, Symbolic, Difference, Faulty}
-use Rattle.rv_statement.specs.Statement.{Statement, Label, Numbered, Instruction, Directs, Expression, Directive, Aligns_to_power, Aligns_to_bytes, Values, Zeros}
-use Rattle.rv_statement.specs.View.{statement_of, plain_of, with_expression, bytes_of}
+use Rattle.rv_statement.specs.Statement.{StatementKind as SpecKind, Label, Numbered, Instruction, Directs, Expression, Directive, Aligns_to_power, Aligns_to_bytes, Values, Zeros}
+use Rattle.rv_statement.specs.View.{statement_kind, plain_of, with_expression, bytes_of}
 use Rattle.rv_statement.specs.declared.directive.Width.{Width}
 use Rattle.rv_statement.specs.declared.directive.Width.TheVariants as widths
 use Rattle.rv_statement.specs.declared.statement.Operation.{Operation}
@@ -54,7 +54,7 @@ with_no : (operation : Operation) (x : Expression) (w : ℕ) (vs : List Expressi
 with_no (operations.Li rd) x w vs e = absurd (cc)
 with_no _ x w vs e = absurd (cc)
 
-pub width_some : (kind : StatementKind) (w : ℕ) (vs : List Expression) → statement_of kind ≡ Directs (Values w vs) → 0 < w
+pub width_some : (kind : StatementKind) (w : ℕ) (vs : List Expression) → statement_kind kind ≡ Directs (Values w vs) → 0 < w
 width_some (kinds.Value width one) w vs e = let same : bytes_of width ≡ w = cc in subst (λ n. 0 < n) same (bytes_some width)
 width_some (kinds.Values width values) w vs e = let same : bytes_of width ≡ w = cc in subst (λ n. 0 < n) same (bytes_some width)
 width_some (kinds.Plain p) w vs e = absurd (plain_no p w vs e)
@@ -77,7 +77,7 @@ module _ (a : Primary → Option ℕ) (f : Expression → Value) (home : Section
   Some_in e = is_some (resolved a (f e))
 
   -- the values of a section that has its bytes in the file
-  abbrev pub HasNumbers : Statement → Type 0
+  abbrev pub HasNumbers : SpecKind → Type 0
   HasNumbers says = home.nobits ≡ false → (w : ℕ) (vs : List Expression) → says ≡ Directs (Values w vs) → list_all (λ e. is_some (resolved a (f e))) vs ≡ true
 
   directive_valued : (d : Directive) → DirectiveHeld home d → IsSizedDirective f false x begins d → HasNumbers (Directs d)
@@ -88,7 +88,7 @@ module _ (a : Primary → Option ℕ) (f : Expression → Value) (home : Section
   directive_valued (Aligns_to_bytes e) held sized numbers = alone (Some_in e) (constant_some a (f e) sized.0)
   directive_valued _ held sized numbers = refl
 
-  pub valued_says : (says : Statement) → home.executable ≡ false → IsHeld home says → IsSized f false x begins says → HasNumbers says
+  pub valued_says : (says : SpecKind) → home.executable ≡ false → IsHeld home says → IsSized f false x begins says → HasNumbers says
       → list_all (λ e. is_some (resolved a (f e))) (expressions says) ≡ true
   valued_says (Label name) e held sized numbers = refl
   valued_says (Numbered number) e held sized numbers = refl

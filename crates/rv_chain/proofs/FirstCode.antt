@@ -2,8 +2,8 @@
 
 use Rattle.std.proofs.Common.{◌≡◌, ℕ, ◌+◌, Bool, true, false, List, [], ◌∷◌, drop, refl, sym, ap, ◌∙◌}
 use Rattle.std.specs.Prelude.{◌&&◌, ◌||◌}
-use Rattle.rv_statement.specs.Statement.{Spoken, Expression}
-use Rattle.rv_statement.specs.View.{statement_of, plain_of, with_expression}
+use Rattle.rv_statement.specs.Statement.{Statement, Expression}
+use Rattle.rv_statement.specs.View.{statement_kind, plain_of, with_expression}
 use Rattle.rv_statement.specs.declared.statement.Operation.{Operation}
 use Rattle.rv_statement.specs.declared.statement.Operation.TheVariants as operations
 use Rattle.rv_statement.specs.declared.statement.Plain.{Plain}
@@ -39,7 +39,7 @@ with_code : (executable : Bool) (operation : Operation) (x : Expression) → tru
 with_code executable (operations.Li rd) x = refl
 with_code executable _ x = refl
 
-pub code_as : (executable : Bool) (kind : StatementKind) → is_code_kind executable kind ≡ is_code executable (statement_of kind)
+pub code_as : (executable : Bool) (kind : StatementKind) → is_code_kind executable kind ≡ is_code executable (statement_kind kind)
 code_as executable (kinds.Plain p) = plain_code executable p
 code_as executable (kinds.With operation x) = with_code executable operation _
 code_as executable (kinds.AlignsToPower x) = and_true executable
@@ -51,27 +51,27 @@ code_as executable _ = and_false executable
 -- ---- the first code
 
 -- the statements of a source from an index on decide, where these options are on
-abbrev pub Decides : List Spoken → ℕ → Options → Type 0
+abbrev pub Decides : List Statement → ℕ → Options → Type 0
 Decides ss i o = has_compressed_from o (drop i (located_from 1 1 at_start ss)) ≡ has_compressed ss
 
-pub all_decide : (ss : List Spoken) (o : Options) → o ≡ first_options → Decides ss 0 o
+pub all_decide : (ss : List Statement) (o : Options) → o ≡ first_options → Decides ss 0 o
 all_decide ss o is =
     ap (λ (p : Options). has_compressed_from p (located_from 1 1 at_start ss)) is ∙ ap (has_compressed_from first_options) (sym (one_file ss))
 
-module _ (ss : List Spoken) (i : ℕ) (s : Located) (o : Options) (next : drop i (located_from 1 1 at_start ss) ≡ s ∷ drop (i + 1) (located_from 1 1 at_start ss)) (h : Decides ss i o) where
-  here : ((o.rvc && is_code s.home.executable s.says) || has_compressed_from (options_after o s.says) (drop (i + 1) (located_from 1 1 at_start ss))) ≡ has_compressed ss
+module _ (ss : List Statement) (i : ℕ) (s : Located) (o : Options) (next : drop i (located_from 1 1 at_start ss) ≡ s ∷ drop (i + 1) (located_from 1 1 at_start ss)) (h : Decides ss i o) where
+  here : ((o.rvc && is_code s.home.executable s.kind) || has_compressed_from (options_after o s.kind) (drop (i + 1) (located_from 1 1 at_start ss))) ≡ has_compressed ss
   here = ap (has_compressed_from o) (sym next) ∙ h
 
   -- a statement of compressed code decides
-  pub decided : true ≡ (o.rvc && is_code s.home.executable s.says) → true ≡ has_compressed ss
-  decided found = ap (λ b. b || has_compressed_from (options_after o s.says) (drop (i + 1) (located_from 1 1 at_start ss))) found ∙ here
+  pub decided : true ≡ (o.rvc && is_code s.home.executable s.kind) → true ≡ has_compressed ss
+  decided found = ap (λ b. b || has_compressed_from (options_after o s.kind) (drop (i + 1) (located_from 1 1 at_start ss))) found ∙ here
 
   -- another leaves it to those after it
-  pub left_to_others : (new : Options) → new ≡ options_after o s.says → false ≡ (o.rvc && is_code s.home.executable s.says) → Decides ss (i + 1) new
+  pub left_to_others : (new : Options) → new ≡ options_after o s.kind → false ≡ (o.rvc && is_code s.home.executable s.kind) → Decides ss (i + 1) new
   left_to_others new is none =
       ap (λ (p : Options). has_compressed_from p (drop (i + 1) (located_from 1 1 at_start ss))) is
-      ∙ ap (λ b. b || has_compressed_from (options_after o s.says) (drop (i + 1) (located_from 1 1 at_start ss))) none ∙ here
+      ∙ ap (λ b. b || has_compressed_from (options_after o s.kind) (drop (i + 1) (located_from 1 1 at_start ss))) none ∙ here
 
 -- none is left
-pub none_decides : (ss : List Spoken) (i : ℕ) (o : Options) → drop i (located_from 1 1 at_start ss) ≡ [] → Decides ss i o → false ≡ has_compressed ss
+pub none_decides : (ss : List Statement) (i : ℕ) (o : Options) → drop i (located_from 1 1 at_start ss) ≡ [] → Decides ss i o → false ≡ has_compressed ss
 none_decides ss i o none h = ap (has_compressed_from o) (sym none) ∙ h

@@ -9,8 +9,8 @@ use Rattle.std.specs.List.{list_any, slice_get}
 use Rattle.std.specs.Borrow.{Bor}
 use Rattle.rv_statement.specs.declared.statement.Statement.{Statement}
 use Rattle.rv_statement.specs.declared.statement.StatementKind.TheVariants.{Ignored}
-use Rattle.rv_statement.specs.Statement.{Spoken, Expression}
-use Rattle.rv_statement.specs.View.{now_of, said_by}
+use Rattle.rv_statement.specs.Statement.{Statement as SpecStatement, Expression}
+use Rattle.rv_statement.specs.View.{now_of, statement_of}
 use Rattle.rv_unit_laws.specs.Sections.{Section}
 use Rattle.rv_unit_laws.specs.Tables.{Tables, SectionOffset, tables, at_start, after, stood}
 use Rattle.rv_tables.specs.declared.section.Extent.{Extent}
@@ -27,20 +27,20 @@ use Rattle.rv_chain.specs.Undefined.{shown_by, missing_at, found_in, else_name, 
 
 -- ---- statements with rows
 
-rows_shown : (k : ℕ) (t : Tables) (before last : ℕ → ℕ) (ss : List Spoken) (is : List Item) (ordinal : ℕ) → AreItems k t before ss is last
+rows_shown : (k : ℕ) (t : Tables) (before last : ℕ → ℕ) (ss : List SpecStatement) (is : List Item) (ordinal : ℕ) → AreItems k t before ss is last
     → list_any (λ (s : Located). (s.ordinal == ordinal) && has_row s) (located_from 1 k t ss) ≡ shown_by k is ordinal
 rows_shown k t before last [] [] ordinal h = refl
 rows_shown k t before last [] (i ∷ is) ordinal h = absurd h
 rows_shown k t before last (s ∷ ss) [] ordinal h = absurd h
 rows_shown k t before last (s ∷ ss) (i ∷ is) ordinal (item, items) =
-    ap (λ b. ((k == ordinal) && b) || list_any (λ (s : Located). (s.ordinal == ordinal) && has_row s) (located_from 1 (suc k) (after t k s.says) ss)) (sym item.shown)
-    ∙ ap (λ r. ((k == ordinal) && i.shown) || r) (rows_shown (suc k) (after t k s.says) (grown before i) last ss is ordinal items)
+    ap (λ b. ((k == ordinal) && b) || list_any (λ (s : Located). (s.ordinal == ordinal) && has_row s) (located_from 1 (suc k) (after t k s.kind) ss)) (sym item.shown)
+    ∙ ap (λ r. ((k == ordinal) && i.shown) || r) (rows_shown (suc k) (after t k s.kind) (grown before i) last ss is ordinal items)
 
-one_file : (ss : List Spoken) → located (ss ∷ []) ≡ located_from 1 1 at_start ss
+one_file : (ss : List SpecStatement) → located (ss ∷ []) ≡ located_from 1 1 at_start ss
 one_file ss = append-nil (located_from 1 1 at_start ss)
 
 -- a statement of a source has a row where its item is shown
-pub row_shown : (ss : List Spoken) (is : List Item) (last : ℕ → ℕ) (ordinal : ℕ) → AreItems 1 at_start (λ j. 0) ss is last
+pub row_shown : (ss : List SpecStatement) (is : List Item) (last : ℕ → ℕ) (ordinal : ℕ) → AreItems 1 at_start (λ j. 0) ss is last
     → list_any (λ (s : Located). (s.ordinal == ordinal) && has_row s) (located (ss ∷ [])) ≡ shown_by 1 is ordinal
 row_shown ss is last ordinal items =
     ap (λ l. list_any (λ (s : Located). (s.ordinal == ordinal) && has_row s) l) (one_file ss) ∙ rows_shown 1 at_start (λ j. 0) last ss is ordinal items
@@ -101,10 +101,10 @@ pub first_loaded : (loaded : Bool) (names : List (List ℕ)) → first_name (if 
 first_loaded true names = refl
 first_loaded false names = refl
 
-abbrev firsts : List Spoken → ℕ → List Located → Option (List ℕ)
+abbrev firsts : List SpecStatement → ℕ → List Located → Option (List ℕ)
 firsts ss j sts = first_name (flat_map (missing_by ss) (filter (λ (s : Located). s.section == j) sts))
 
-first_next : (ss : List Spoken) (j : ℕ) (s : Located) (rest : List Located) → firsts ss j (s ∷ rest) ≡ (if s.section == j then else_name (first_name (missing_by ss s)) (firsts ss j rest) else firsts ss j rest)
+first_next : (ss : List SpecStatement) (j : ℕ) (s : Located) (rest : List Located) → firsts ss j (s ∷ rest) ≡ (if s.section == j then else_name (first_name (missing_by ss s)) (firsts ss j rest) else firsts ss j rest)
 first_next ss j s rest = go (s.section == j)
   where
     go : (b : Bool) → first_name (flat_map (missing_by ss) (cond b (s ∷ filter (λ (s : Located). s.section == j) rest) (filter (λ (s : Located). s.section == j) rest)))
@@ -113,7 +113,7 @@ first_next ss j s rest = go (s.section == j)
     go false = refl
 
 -- what was found, and else the first of what is left, is the first of all
-abbrev pub FirstSoFar : List Spoken → ℕ → List (Option (Bor (List ℕ))) → Type 0
+abbrev pub FirstSoFar : List SpecStatement → ℕ → List (Option (Bor (List ℕ))) → Type 0
 FirstSoFar ss i found = (j : ℕ) → else_name (found_in found j) (firsts ss j (drop i (located_from 1 1 at_start ss))) ≡ first_in ss j
 
 pub none_behind : (xs : List (Option (Bor (List ℕ)))) (j : ℕ) → ((i : ℕ) → found_in xs i ≡ None) → found_in (xs ++ None ∷ []) j ≡ None
@@ -122,12 +122,12 @@ none_behind [] (suc j) h = refl
 none_behind (x ∷ xs) zero h = h 0
 none_behind (x ∷ xs) (suc j) h = none_behind xs j (λ i. h (suc i))
 
-pub first_begins : (ss : List Spoken) (found : List (Option (Bor (List ℕ)))) → ((j : ℕ) → found_in found j ≡ None) → FirstSoFar ss 0 found
+pub first_begins : (ss : List SpecStatement) (found : List (Option (Bor (List ℕ)))) → ((j : ℕ) → found_in found j ≡ None) → FirstSoFar ss 0 found
 first_begins ss found none j =
     ap (λ o. else_name o (firsts ss j (located_from 1 1 at_start ss))) (none j)
     ∙ ap (λ l. firsts ss j l) (sym (one_file ss))
 
-pub first_more : (ss : List Spoken) (i : ℕ) (s : Located) (old new : List (Option (Bor (List ℕ)))) → drop i (located_from 1 1 at_start ss) ≡ s ∷ drop (i + 1) (located_from 1 1 at_start ss)
+pub first_more : (ss : List SpecStatement) (i : ℕ) (s : Located) (old new : List (Option (Bor (List ℕ)))) → drop i (located_from 1 1 at_start ss) ≡ s ∷ drop (i + 1) (located_from 1 1 at_start ss)
     → ((j : ℕ) → found_in new j ≡ (if s.section == j then else_name (found_in old j) (first_name (missing_by ss s)) else found_in old j))
     → FirstSoFar ss i old → FirstSoFar ss (i + 1) new
 first_more ss i s old new next kept h j =
@@ -142,7 +142,7 @@ first_more ss i s old new next kept h j =
     go true = else_assoc (found_in old j) (first_name (missing_by ss s)) (firsts ss j rest)
     go false = refl
 
-pub first_all : (ss : List Spoken) (i : ℕ) (found : List (Option (Bor (List ℕ)))) → drop i (located_from 1 1 at_start ss) ≡ [] → FirstSoFar ss i found → (j : ℕ) → found_in found j ≡ first_in ss j
+pub first_all : (ss : List SpecStatement) (i : ℕ) (found : List (Option (Bor (List ℕ)))) → drop i (located_from 1 1 at_start ss) ≡ [] → FirstSoFar ss i found → (j : ℕ) → found_in found j ≡ first_in ss j
 first_all ss i found none h j = sym (else_none (found_in found j)) ∙ ap (λ l. else_name (found_in found j) (firsts ss j l)) (sym none) ∙ h j
 
 -- ---- the first of all sections
@@ -151,7 +151,7 @@ map_joined : (f : Located → List (List ℕ)) (xs ys : List Located) → flat_m
 map_joined f [] ys = refl
 map_joined f (x ∷ xs) ys = ap (λ l. f x ++ l) (map_joined f xs ys) ∙ sym (append_assoc (f x) (flat_map f xs) (flat_map f ys))
 
-sections_firsts : (ss : List Spoken) (k : ℕ) (sections : List Section) (found : List (Option (Bor (List ℕ)))) → length found ≡ length sections
+sections_firsts : (ss : List SpecStatement) (k : ℕ) (sections : List Section) (found : List (Option (Bor (List ℕ)))) → length found ≡ length sections
     → ((j : ℕ) → found_in found j ≡ first_in ss (k + j)) → first_some found ≡ first_name (flat_map (missing_by ss) (in_sections (located (ss ∷ [])) k sections))
 sections_firsts ss k [] [] e h = refl
 sections_firsts ss k [] (o ∷ os) e h = absurd (cc)
@@ -165,7 +165,7 @@ sections_firsts ss k (section ∷ sections) (o ∷ os) e h =
     ∙ sym (first_joined (flat_map (missing_by ss) own) (flat_map (missing_by ss) others))
     ∙ ap first_name (sym (map_joined (missing_by ss) own others))
 
-pub first_undefined : (ss : List Spoken) (found : List (Option (Bor (List ℕ)))) → length found ≡ length (tables ss).opened.sections
+pub first_undefined : (ss : List SpecStatement) (found : List (Option (Bor (List ℕ)))) → length found ≡ length (tables ss).opened.sections
     → ((j : ℕ) → found_in found j ≡ first_in ss j) → first_some found ≡ undefined ss
 first_undefined ss found e h = sections_firsts ss 0 (tables ss).opened.sections found e (λ j. h j ∙ (let n : j ≡ 0 + j = omega arith in ap (first_in ss) n))
 
@@ -231,16 +231,16 @@ loaded_at (x ∷ es) zero d home e = let same : extent_section x ≡ home = cc i
 loaded_at (x ∷ es) (suc k) d home e = loaded_at es k d home e
 
 -- what a statement's section keeps
-pub kept_there : (ss : List Spoken) (i : ℕ) (x : Spoken) (p : SectionOffset) (old new : List (Option (Bor (List ℕ)))) (loaded : Bool) → p ≡ stood (passed ss i) (i + 1) x.says
+pub kept_there : (ss : List SpecStatement) (i : ℕ) (x : SpecStatement) (p : SectionOffset) (old new : List (Option (Bor (List ℕ)))) (loaded : Bool) → p ≡ stood (passed ss i) (i + 1) x.kind
     → loaded ≡ (located_at ss i x).home.loaded
-    → ((j : ℕ) → found_in new j ≡ (if p.section == j then else_name (found_in old j) (if loaded then first_name (missing_at ss i p (data_values x.says)) else None) else found_in old j))
+    → ((j : ℕ) → found_in new j ≡ (if p.section == j then else_name (found_in old j) (if loaded then first_name (missing_at ss i p (data_values x.kind)) else None) else found_in old j))
     → (j : ℕ) → found_in new j ≡ (if (located_at ss i x).section == j then else_name (found_in old j) (first_name (missing_by ss (located_at ss i x))) else found_in old j)
 kept_there ss i x p old new loaded place same h j =
-    let q = stood (passed ss i) (i + 1) x.says in
+    let q = stood (passed ss i) (i + 1) x.kind in
     h j
-    ∙ ap (λ (r : SectionOffset). if r.section == j then else_name (found_in old j) (if loaded then first_name (missing_at ss i r (data_values x.says)) else None) else found_in old j) place
-    ∙ ap (λ b. if q.section == j then else_name (found_in old j) (if b then first_name (missing_at ss i q (data_values x.says)) else None) else found_in old j) same
-    ∙ ap (λ o. if q.section == j then else_name (found_in old j) o else found_in old j) (sym (first_loaded (located_at ss i x).home.loaded (missing_at ss i q (data_values x.says))))
+    ∙ ap (λ (r : SectionOffset). if r.section == j then else_name (found_in old j) (if loaded then first_name (missing_at ss i r (data_values x.kind)) else None) else found_in old j) place
+    ∙ ap (λ b. if q.section == j then else_name (found_in old j) (if b then first_name (missing_at ss i q (data_values x.kind)) else None) else found_in old j) same
+    ∙ ap (λ o. if q.section == j then else_name (found_in old j) o else found_in old j) (sym (first_loaded (located_at ss i x).home.loaded (missing_at ss i q (data_values x.kind))))
 
 pub taken_back : {A : Type 0} (ys zs : List A) (n : ℕ) → n ≡ length ys → take n (ys ++ zs) ≡ ys
 taken_back ys zs n e = ap (λ k. take k (ys ++ zs)) e ∙ front ys zs
@@ -262,5 +262,5 @@ section_inside u i statements places p filled inside statements_are places_are i
     let within : i < length u.statements.items = subst (λ l. i < length l) statements_are inside in
     let x = get_or u.statements.items i (record { kind = Ignored; line = 0 }) in
     let at = stands_at u i (record { kind = Ignored; line = 0 }) x (record { section = 0; offset = 0 }) p filled within refl (is ∙ ap (λ l. get_or l i (record { section = 0; offset = 0 })) places_are) in
-    let stands = got_inside (map extent_section u.tables.extents.items) p.section (located_at (said u) i (said_by x)).home at.home in
+    let stands = got_inside (map extent_section u.tables.extents.items) p.section (located_at (said u) i (statement_of x)).home at.home in
     subst (λ n. p.section < n) (length-map u.tables.extents.items extent_section) stands

@@ -7,7 +7,7 @@ use Rattle.std.specs.Global.{Vec}
 use Rattle.std.specs.List.{AllByRecursion}
 use Rattle.std.specs.Prelude.{◌==◌, filter, flat_map, slice_index_or, if◌then◌else◌}
 use Rattle.rv_map.specs.Map.{Map}
-use Rattle.rv_statement.specs.Statement.{Spoken}
+use Rattle.rv_statement.specs.Statement.{Statement}
 use Rattle.rv_unit_laws.specs.Faults.{first_fault}
 use Rattle.rv_unit_laws.specs.Sections.{Section, text_section, goes_to_text}
 use Rattle.rv_unit_laws.specs.Tables.{Tables, at_start, after, tables}
@@ -31,7 +31,7 @@ use Rattle.rv_chain.specs.Code.{bytes_in, section_code, value_at}
 use Rattle.rv_chain.proofs.Standing.{got_or}
 
 -- a statement of a section of code stands in text
-pub all_in_text : (ss : List Spoken) (j : ℕ) → goes_to_text (slice_index_or (tables ss).opened.sections j text_section) ≡ true
+pub all_in_text : (ss : List Statement) (j : ℕ) → goes_to_text (slice_index_or (tables ss).opened.sections j text_section) ≡ true
     → AllByRecursion (λ s. (s.section == j) ≡ true → goes_to_text s.home ≡ true) (located (ss ∷ []))
 all_in_text ss j good =
     let sections = (tables ss).opened.sections in
@@ -41,26 +41,26 @@ all_in_text ss j good =
     (all_join (IsHomeIn (λ file. sections)) (located_from 1 1 at_start ss) [] (homes_from (λ file. sections) 1 1 at_start ss refl (text_section, refl)) tt)
 
 -- the code of a section is the same by the values of the program of its one source
-same_code : (p : Program) (all : Tables) (j k : ℕ) (t : Tables) (ss : List Spoken) → tables_in p 1 ≡ all
-    → flat_map (λ s. code_said (form p s) s.says) (filter (λ s. j == s.section) (located_from 1 k t ss ++ [])) ≡ section_code all j (located_from 1 k t ss ++ [])
+same_code : (p : Program) (all : Tables) (j k : ℕ) (t : Tables) (ss : List Statement) → tables_in p 1 ≡ all
+    → flat_map (λ s. code_said (form p s) s.kind) (filter (λ s. j == s.section) (located_from 1 k t ss ++ [])) ≡ section_code all j (located_from 1 k t ss ++ [])
 same_code p all j k t [] e = refl
-same_code p all j k t (s ∷ ss) e = go (j == st.section) (same_code p all j (suc k) (after t k s.says) ss e)
+same_code p all j k t (s ∷ ss) e = go (j == st.section) (same_code p all j (suc k) (after t k s.kind) ss e)
   where
     st : Located
     st = located_now 1 k t s
 
     rest : List Located
-    rest = filter (λ s. j == s.section) (located_from 1 (suc k) (after t k s.says) ss ++ [])
+    rest = filter (λ s. j == s.section) (located_from 1 (suc k) (after t k s.kind) ss ++ [])
 
-    own : code_said (form p st) s.says ≡ code_said (value_at all st) s.says
-    own = ap (λ u. code_said (value_at u st) s.says) e
+    own : code_said (form p st) s.kind ≡ code_said (value_at all st) s.kind
+    own = ap (λ u. code_said (value_at u st) s.kind) e
 
-    go : (b : Bool) → flat_map (λ s. code_said (form p s) s.says) rest ≡ flat_map (λ s. code_said (value_at all s) s.says) rest
-        → flat_map (λ s. code_said (form p s) s.says) (if b then st ∷ rest else rest) ≡ flat_map (λ s. code_said (value_at all s) s.says) (if b then st ∷ rest else rest)
-    go true ih = ap (λ l. l ++ flat_map (λ s. code_said (form p s) s.says) rest) own ∙ ap (λ l. code_said (value_at all st) s.says ++ l) ih
+    go : (b : Bool) → flat_map (λ s. code_said (form p s) s.kind) rest ≡ flat_map (λ s. code_said (value_at all s) s.kind) rest
+        → flat_map (λ s. code_said (form p s) s.kind) (if b then st ∷ rest else rest) ≡ flat_map (λ s. code_said (value_at all s) s.kind) (if b then st ∷ rest else rest)
+    go true ih = ap (λ l. l ++ flat_map (λ s. code_said (form p s) s.kind) rest) own ∙ ap (λ l. code_said (value_at all st) s.kind ++ l) ih
     go false ih = ih
 
-pub held_code : (ss : List Spoken) (is : List Item) (last : ℕ → ℕ) (starts : List ℕ) (m : Map) (cs : List (List ℕ)) → first_fault ss ≡ None → AreItems 1 at_start (λ j. 0) ss is last
+pub held_code : (ss : List Statement) (is : List Item) (last : ℕ → ℕ) (starts : List ℕ) (m : Map) (cs : List (List ℕ)) → first_fault ss ≡ None → AreItems 1 at_start (λ j. 0) ss is last
     → AllSuit (program (ss ∷ []) m) starts 1 at_start ss is → m.rows ≡ rows_from 1 starts 1 is → ((j : ℕ) → slice_index_or cs j [] ≡ section_code (tables ss) j (located (ss ∷ [])))
     → HoldBytes (program (ss ∷ []) m).mapped goes_to_text (code_bytes (program (ss ∷ []) m)) 0 (tables ss).opened.sections cs
 held_code ss is last starts m cs sound items suits rows code j good =
@@ -96,7 +96,7 @@ pub lists_count : (vectors : List (Vec ℕ)) → length (lists_of vectors) ≡ l
 lists_count vectors = length-map vectors (λ (v : Vec ℕ). v.items)
 
 -- what `code` says of its vectors, of their lists
-pub listed_code : (ss : List Spoken) (vectors : List (Vec ℕ)) → ((j : ℕ) → bytes_in vectors j ≡ section_code (tables ss) j (located (ss ∷ [])))
+pub listed_code : (ss : List Statement) (vectors : List (Vec ℕ)) → ((j : ℕ) → bytes_in vectors j ≡ section_code (tables ss) j (located (ss ∷ [])))
     → (j : ℕ) → slice_index_or (lists_of vectors) j [] ≡ section_code (tables ss) j (located (ss ∷ []))
 listed_code ss vectors code j = listed vectors j ∙ code j
 

@@ -4,7 +4,7 @@ use Rattle.std.proofs.Common.{◌≡◌, ℕ, zero, suc, ◌+◌, ◌<◌, ◌�
 use Rattle.std.specs.Prelude.{if◌then◌else◌, slice_index, slice_index_or, slice_get}
 use Rattle.std.proofs.lemmas.List.{length-map, get_or-set_same, get_or-set_other}
 use Rattle.std.proofs.lemmas.Bool.{eqb-true, eqb-false, cases_eq}
-use Rattle.rv_statement.specs.View.{said_by, statement_of}
+use Rattle.rv_statement.specs.View.{statement_of, statement_kind}
 use Rattle.rv_statement.specs.declared.statement.Statement.{Statement}
 use Rattle.rv_statement.specs.declared.statement.StatementKind.TheVariants as kinds
 use Rattle.rv_unit_laws.specs.Sections.{Section, goes_to_text}
@@ -67,15 +67,15 @@ read_map f (x ∷ xs) (suc i) d e h = read_map f xs i d e (omega arith)
 some_same : {A : Type 0} (a b : A) → Some a ≡ Some b → a ≡ b
 some_same a b e = cc
 
-pub home_at : (u : SourceUnit) (i : ℕ) (s : Statement) (p : SectionOffset) (e : Extent) → StandsAt u i s p → IsExtentAt u.tables.extents.items p.section e → extent_section e ≡ (located_at (said u) i (said_by s)).home
-home_at u i s p e at there = some_same (extent_section e) (located_at (said u) i (said_by s)).home (sym there.section ∙ at.home)
+pub home_at : (u : SourceUnit) (i : ℕ) (s : Statement) (p : SectionOffset) (e : Extent) → StandsAt u i s p → IsExtentAt u.tables.extents.items p.section e → extent_section e ≡ (located_at (said u) i (statement_of s)).home
+home_at u i s p e at there = some_same (extent_section e) (located_at (said u) i (statement_of s)).home (sym there.section ∙ at.home)
 
 -- ---- the item of a statement
 
 pub item_at : (u : SourceUnit) (i : ℕ) (s : Statement) (p : SectionOffset) (e : Extent) (before : ℕ → ℕ) (x : Item) → StandsAt u i s p → IsExtentAt u.tables.extents.items p.section e
     → x.section ≡ p.section → x.offset ≡ before p.section → x.line ≡ s.line → x.text ≡ goes_to_text (extent_section e)
-    → x.shown ≡ (is_placed (passed (said u) i) (i + 1) (statement_of s.kind) && e.section.loaded) → (x.shown ≡ false → x.bytes ≡ 0)
-    → IsItem (located_at (said u) i (said_by s)) before x
+    → x.shown ≡ (is_placed (passed (said u) i) (i + 1) (statement_kind s.kind) && e.section.loaded) → (x.shown ≡ false → x.bytes ≡ 0)
+    → IsItem (located_at (said u) i (statement_of s)) before x
 item_at u i s p e before x at there section offset line text shown absent =
     let seat = ap (λ (q : Standing). q.section) at.place in
     let home = home_at u i s p e at there in
@@ -83,34 +83,34 @@ item_at u i s p e before x at there section offset line text shown absent =
       section = section ∙ seat;
       offset = offset ∙ ap before seat;
       line = line;
-      shown = shown ∙ ap (λ (h : Section). is_placed (passed (said u) i) (i + 1) (statement_of s.kind) && h.loaded) home;
+      shown = shown ∙ ap (λ (h : Section). is_placed (passed (said u) i) (i + 1) (statement_kind s.kind) && h.loaded) home;
       text = text ∙ ap goes_to_text home;
       absent = absent;
     }
 
 pub sized_at : (u : SourceUnit) (i : ℕ) (s : Statement) (p : SectionOffset) (e : Extent) (x : Item) → IsFilled u → StandsAt u i s p → IsExtentAt u.tables.extents.items p.section e → x.section ≡ p.section
-    → (x.shown ≡ true → IsSized (λ t. value (tables (said u)) true (i + 1) (offset_of p) t) e.section.executable x e.alignment (statement_of s.kind))
-    → IsSizedAt (tables (said u)) (said u) i (said_by s) x
+    → (x.shown ≡ true → IsSized (λ t. value (tables (said u)) true (i + 1) (offset_of p) t) e.section.executable x e.alignment (statement_kind s.kind))
+    → IsSizedAt (tables (said u)) (said u) i (statement_of s) x
 sized_at u i s p e x filled at there section h shown =
     let all = tables (said u) in
     let begins : e.alignment ≡ slice_index_or all.alignments x.section 1 =
     sym there.alignment ∙ ap (λ (t : Tables). slice_index_or t.alignments p.section 1) filled.tables ∙ ap (λ n. slice_index_or all.alignments n 1) (sym section) in
     let home = home_at u i s p e at there in
-    subst (λ (h : Section). IsSized (λ t. value all true (i + 1) (stood (passed (said u) i) (i + 1) (said_by s).says) t) h.executable x (slice_index_or all.alignments x.section 1) (statement_of s.kind)) home
-    (subst (λ n. IsSized (λ t. value all true (i + 1) (stood (passed (said u) i) (i + 1) (said_by s).says) t) e.section.executable x n (statement_of s.kind)) begins
-    (subst (λ (q : Standing). IsSized (λ t. value all true (i + 1) q t) e.section.executable x e.alignment (statement_of s.kind)) at.place (h shown)))
+    subst (λ (h : Section). IsSized (λ t. value all true (i + 1) (stood (passed (said u) i) (i + 1) (statement_of s).kind) t) h.executable x (slice_index_or all.alignments x.section 1) (statement_kind s.kind)) home
+    (subst (λ n. IsSized (λ t. value all true (i + 1) (stood (passed (said u) i) (i + 1) (statement_of s).kind) t) e.section.executable x n (statement_kind s.kind)) begins
+    (subst (λ (q : Standing). IsSized (λ t. value all true (i + 1) q t) e.section.executable x e.alignment (statement_kind s.kind)) at.place (h shown)))
 
 -- a statement that has a size, and for which its section has room
 pub room_at : (u : SourceUnit) (i : ℕ) (s : Statement) (p : SectionOffset) (e : Extent) (ends : ℕ → ℕ) (stop : ℕ) → IsFilled u → StandsAt u i s p → IsExtentAt u.tables.extents.items p.section e
-    → (let st = located_at (said u) i (said_by s) in
-    IsRoomy (λ t. value_at (tables (said u)) st t) st.home.executable (slice_index_or (tables (said u)).alignments st.section 1) (ends st.section) stop (said_by s).says)
-    → HasRoom (λ t. value (tables (said u)) true (i + 1) (offset_of p) t) e.section.executable e.alignment (ends p.section) (statement_of s.kind)
+    → (let st = located_at (said u) i (statement_of s) in
+    IsRoomy (λ t. value_at (tables (said u)) st t) st.home.executable (slice_index_or (tables (said u)).alignments st.section 1) (ends st.section) stop (statement_of s).kind)
+    → HasRoom (λ t. value (tables (said u)) true (i + 1) (offset_of p) t) e.section.executable e.alignment (ends p.section) (statement_kind s.kind)
 room_at u i s p e ends stop filled at there roomy =
     let all = tables (said u) in
-    let st = located_at (said u) i (said_by s) in
-    let RoomAt : Standing → Section → ℕ → Type 0 = λ q home begins. HasRoom (λ t. value all true (i + 1) q t) home.executable begins (ends q.section) (statement_of s.kind) in
+    let st = located_at (said u) i (statement_of s) in
+    let RoomAt : Standing → Section → ℕ → Type 0 = λ q home begins. HasRoom (λ t. value all true (i + 1) q t) home.executable begins (ends q.section) (statement_kind s.kind) in
     let begins : slice_index_or all.alignments p.section 1 ≡ e.alignment = ap (λ (t : Tables). slice_index_or t.alignments p.section 1) (sym filled.tables) ∙ there.alignment in
-    let room : RoomAt (stood (passed (said u) i) (i + 1) (said_by s).says) st.home (slice_index_or all.alignments st.section 1) = record { size = roomy.size; room = roomy.room } in
+    let room : RoomAt (stood (passed (said u) i) (i + 1) (statement_of s).kind) st.home (slice_index_or all.alignments st.section 1) = record { size = roomy.size; room = roomy.room } in
     subst (RoomAt (offset_of p) (extent_section e)) begins
     (subst (λ h. RoomAt (offset_of p) h (slice_index_or all.alignments p.section 1)) (sym (home_at u i s p e at there))
     (subst (λ q. RoomAt q st.home (slice_index_or all.alignments q.section 1)) (sym at.place) room))
@@ -119,7 +119,7 @@ room_at u i s p e ends stop filled at there roomy =
 pub stands_inside : (u : SourceUnit) (i : ℕ) (s : Statement) (p : SectionOffset) → StandsAt u i s p → p.section < length u.tables.extents.items
 stands_inside u i s p at =
     subst (λ n. p.section < n) (length-map u.tables.extents.items extent_section)
-    (got_inside (map extent_section u.tables.extents.items) p.section (located_at (said u) i (said_by s)).home at.home)
+    (got_inside (map extent_section u.tables.extents.items) p.section (located_at (said u) i (statement_of s)).home at.home)
 
 pub place_inside : (u : SourceUnit) (i : ℕ) (d p : SectionOffset) → IsFilled u → i < length u.statements.items → p ≡ get_or u.places.items i d → p.section < length u.tables.extents.items
 place_inside u i d p filled inside is =

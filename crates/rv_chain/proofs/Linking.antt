@@ -5,8 +5,8 @@ use Rattle.std.specs.Prelude.{codes, if◌then◌else◌, slice_index_or, slice_
 use Rattle.std.specs.Global.{Vec}
 use Rattle.std.proofs.lemmas.List.{length-map, length-replicate}
 use Rattle.rv_statement.specs.declared.statement.Statement.{Statement}
-use Rattle.rv_statement.specs.Statement.{Spoken}
-use Rattle.rv_statement.specs.View.{said_by}
+use Rattle.rv_statement.specs.Statement.{Statement as SpecStatement}
+use Rattle.rv_statement.specs.View.{statement_of}
 use Rattle.rv_unit_laws.specs.Sections.{Section, goes_to_text}
 use Rattle.rv_unit_laws.specs.Tables.{Tables, tables, aligned}
 use Rattle.rv_unit_laws.specs.Faults.{first_fault}
@@ -127,7 +127,7 @@ figures_count u start entry x globals figures figures_now filled stands count sa
 
 -- ---- the program
 
-pub linked_from : PlacedLinks → PlacedNames → (ss : List Spoken) (start entry : ℕ) (x : Placed) (globals : List Global) (texts figures : List (Vec ℕ)) (rvc : Bool)
+pub linked_from : PlacedLinks → PlacedNames → (ss : List SpecStatement) (start entry : ℕ) (x : Placed) (globals : List Global) (texts figures : List (Vec ℕ)) (rvc : Bool)
     → first_fault ss ≡ None → start % 4096 ≡ 0 → StandsFrom ss start x → AreCoded ss
     → ((j : ℕ) → bytes_in texts j ≡ section_code (tables ss) j (located (ss ∷ []))) → length texts ≡ length (tables ss).opened.sections
     → AreNamed ss x globals → Begins ss x entry
@@ -156,7 +156,7 @@ linked_from links names ss start entry x globals texts figures rvc good page sta
     })
 
 -- a program has its regions, and fits memory
-pub record IsWhole (ss : List Spoken) (start : ℕ) (l : Linked) : Type 0 where
+pub record IsWhole (ss : List SpecStatement) (start : ℕ) (l : Linked) : Type 0 where
   pub linked : IsLinked (ss ∷ []) start l
   pub regions : AreRegions l
   pub even : l.map.entry % 2 ≡ 0
@@ -170,7 +170,7 @@ fits_memory l are low =
     omega arith
 
 -- the parts as they were made
-pub whole : (ss : List Spoken) (start entry : ℕ) (x : Placed) (globals : List Global) (texts figures : List (Vec ℕ)) (text rodata variables : List ℕ) (m : Map) (rvc : Bool)
+pub whole : (ss : List SpecStatement) (start entry : ℕ) (x : Placed) (globals : List Global) (texts figures : List (Vec ℕ)) (text rodata variables : List ℕ) (m : Map) (rvc : Bool)
     → text ≡ (program_from x entry globals texts figures rvc).text → rodata ≡ (program_from x entry globals texts figures rvc).rodata
     → variables ≡ (program_from x entry globals texts figures rvc).data → m ≡ map_from x entry globals → IsLayout start x.pieces.items x.layout
     → IsLinked (ss ∷ []) start (program_from x entry globals texts figures rvc)
@@ -196,8 +196,8 @@ pub made : PlacedLinks → PlacedNames → (u : SourceUnit) (start entry : ℕ) 
     → IsFilled u → first_fault (said u) ≡ None → start % 4096 ≡ 0 → StandsFrom (said u) start x → AreCoded (said u)
     → ((j : ℕ) → bytes_in texts j ≡ section_code (tables (said u)) j (located (said u ∷ []))) → length texts ≡ length u.tables.extents.items
     → statements ≡ u.statements.items → starts ≡ x.layout.starts.items → items ≡ x.items.items → texts_now ≡ texts → figures_now ≡ figures → globals_now ≡ globals
-    → AreGlobals set (map said_by statements) → AreNamed (said u) x globals
-    → ((test : List ℕ → Bool) → Has set test → test (codes "_start") ≡ true) → entry_from starts (map said_by statements) items ≡ Some entry → entry % 2 ≡ 0
+    → AreGlobals set (map statement_of statements) → AreNamed (said u) x globals
+    → ((test : List ℕ → Bool) → Has set test → test (codes "_start") ≡ true) → entry_from starts (map statement_of statements) items ≡ Some entry → entry % 2 ≡ 0
     → GivesData (said u) x.layout.starts.items x.items.items globals_now (map (λ b. b.items) figures)
     → rows ≡ rows_from 1 starts 1 items
     → text ≡ contents_of Text x.layout.text.start x.pieces.items x.layout.starts.items (map (λ b. b.items) texts_now)
@@ -209,11 +209,11 @@ made links resolves u start entry x globals globals_now set texts texts_now figu
     filled good page stands coded code count statements_are starts_are items_are texts_are figures_are globals_are
     has named global begins even gives rows_are text_is rodata_is variables_is map_is =
     let ss = said u in
-    let said_are : map said_by statements ≡ ss = ap (λ l. map said_by l) statements_are in
+    let said_are : map statement_of statements ≡ ss = ap (λ l. map statement_of l) statements_are in
     let test : List ℕ → Bool = λ name. is_global_after false ss name in
     let starts_global : test (codes "_start") ≡ true = global test (subst (λ l. AreGlobals set l) said_are has) in
     let entered : entry_from x.layout.starts.items ss x.items.items ≡ Some entry =
-    sym (ap (λ s. entry_from s (map said_by statements) items) starts_are ∙ ap (λ l. entry_from x.layout.starts.items l items) said_are ∙ ap (λ i. entry_from x.layout.starts.items ss i) items_are) ∙ begins in
+    sym (ap (λ s. entry_from s (map statement_of statements) items) starts_are ∙ ap (λ l. entry_from x.layout.starts.items l items) said_are ∙ ap (λ i. entry_from x.layout.starts.items ss i) items_are) ∙ begins in
     let rows_from_items : rows ≡ rows_from 1 x.layout.starts.items 1 x.items.items =
     rows_are ∙ ap (λ s. rows_from 1 s 1 items) starts_are ∙ ap (λ i. rows_from 1 x.layout.starts.items 1 i) items_are in
     let figures_hold : GivesData ss x.layout.starts.items x.items.items globals (map (λ b. b.items) figures) =

@@ -3,7 +3,7 @@
 use Rattle.std.proofs.Common.{◌≡◌, ℕ, zero, suc, ◌+◌, ◌<◌, ◌≤◌, Bool, true, false, ◌==◌, nat_lt, List, [], ◌∷◌, length, take, drop, refl, sym, ap, ◌∙◌, subst, append-nil, arith, Option, Some, None}
 use Rattle.std.proofs.lemmas.Bool.{and_parts, eqb-true, ltb-false}
 use Rattle.std.specs.Prelude.{slice_index_or, if◌then◌else◌}
-use Rattle.rv_statement.specs.Statement.{Statement, Label, Numbered, Instruction, Directs, Spoken, Expression, Directive, Sets, Aligns_to_power, Aligns_to_bytes, Values, Strings, Zeros}
+use Rattle.rv_statement.specs.Statement.{StatementKind, Label, Numbered, Instruction, Directs, Statement, Expression, Directive, Sets, Aligns_to_power, Aligns_to_bytes, Values, Strings, Zeros}
 use Rattle.rv_text_laws.specs.Values.{Value}
 use Rattle.rv_unit_laws.specs.Sections.{Section, Opened, text_section, section_at, current_section}
 use Rattle.rv_unit_laws.specs.Tables.{Tables, SectionOffset, at_start, here, value, alignment_of, stood, after, after_all, tables, longest_section}
@@ -29,7 +29,7 @@ use Rattle.rv_chain.proofs.Roomy.{IsRoomy, statement_here}
 
 -- the bytes of each section before the statement at an index: those of code are no more than what the sizes of
 -- code have counted, and these have room for what is left; those of others are no more than the tables'
-pub record HasRoomLeft (ss : List Spoken) (i : ℕ) (ends : ℕ → ℕ) : Type 0 where
+pub record HasRoomLeft (ss : List Statement) (i : ℕ) (ends : ℕ → ℕ) : Type 0 where
   pub sizes : ℕ → ℕ
   pub rest : size_fault_from sizes (drop i (located_from 1 1 at_start ss)) ≡ None
   pub code : (j : ℕ) → (section_at (tables ss).opened j).executable ≡ true → ends j ≤ sizes j
@@ -45,7 +45,7 @@ drop_inside [] (suc i) y ys e = absurd (cc)
 drop_inside (x ∷ xs) zero y ys e = omega arith
 drop_inside (x ∷ xs) (suc i) y ys e = let l : i < length xs = drop_inside xs i y ys e in omega (arith, l)
 
-pub rooms_begin : (ss : List Spoken) (ends : ℕ → ℕ) → size_fault ss ≡ None → ((j : ℕ) → ends j ≡ 0) → HasRoomLeft ss 0 ends
+pub rooms_begin : (ss : List Statement) (ends : ℕ → ℕ) → size_fault ss ≡ None → ((j : ℕ) → ends j ≡ 0) → HasRoomLeft ss 0 ends
 rooms_begin ss ends good zeros = record {
   sizes = λ j. 0;
   rest = ap (size_fault_from (λ j. 0)) (drop_none (located_from 1 1 at_start ss) ∙ sym (append-nil (located_from 1 1 at_start ss))) ∙ good;
@@ -64,7 +64,7 @@ stood_directive t k (Strings ended strings) placed = (refl, after_opened t k (Di
 stood_directive t k (Zeros count) placed = (refl, after_opened t k (Directs (Zeros count)))
 stood_directive t k _ placed = absurd (cc)
 
-stood_here : (t : Tables) (k : ℕ) (says : Statement) → is_placed t k says ≡ true → (stood t k says ≡ here t) × ((after t k says).opened ≡ t.opened)
+stood_here : (t : Tables) (k : ℕ) (says : StatementKind) → is_placed t k says ≡ true → (stood t k says ≡ here t) × ((after t k says).opened ≡ t.opened)
 stood_here t k (Label name) placed = (refl, after_opened t k (Label name))
 stood_here t k (Numbered number) placed = (refl, refl)
 stood_here t k (Instruction mnemonic operands) placed = (refl, refl)
@@ -85,7 +85,7 @@ directive_as v b x begins (Aligns_to_power e) h = (h.0, padded_as b x begins (al
 directive_as v b x begins (Aligns_to_bytes e) h = (h.0, padded_as b x begins (alignment_of v (Aligns_to_bytes e)) h.1)
 directive_as v b x begins _ h = tt
 
-size_as : (v : Expression → Value) (b : Bool) (x : Item) (begins : ℕ) (says : Statement) → IsSized v b x begins says → IsSize v b begins x.offset says x.bytes
+size_as : (v : Expression → Value) (b : Bool) (x : Item) (begins : ℕ) (says : StatementKind) → IsSized v b x begins says → IsSize v b begins x.offset says x.bytes
 size_as v b x begins (Label name) h = h.0
 size_as v b x begins (Numbered number) h = h.0
 size_as v b x begins (Instruction mnemonic operands) h = h.0
@@ -97,7 +97,7 @@ if_some : (b : Bool) (code : ℕ) → (if b then Some code else None) ≡ None �
 if_some true code e = absurd (cc)
 if_some false code e = refl
 
-module _ (ss : List Spoken) (i : ℕ) (s : Spoken) (here_is : drop i ss ≡ s ∷ drop (i + 1) ss) (good : first_fault ss ≡ None) where
+module _ (ss : List Statement) (i : ℕ) (s : Statement) (here_is : drop i ss ≡ s ∷ drop (i + 1) ss) (good : first_fault ss ≡ None) where
   abbrev t : Tables
   t = passed ss i
 
@@ -126,7 +126,7 @@ module _ (ss : List Spoken) (i : ℕ) (s : Spoken) (here_is : drop i ss ≡ s �
       (all_at (IsHomeIn (λ file. all.opened.sections)) (located_from 1 1 at_start ss) i st (drop (i + 1) (located_from 1 1 at_start ss)) next
       (homes_from (λ file. all.opened.sections) 1 1 at_start ss refl (text_section, refl)))
 
-  multiples : (d : Directive) → s.says ≡ Directs d → puts d ≡ true → BeginsAt (alignment_of (value t false k (here t)) d) (slice_index_or all.alignments t.opened.current 1)
+  multiples : (d : Directive) → s.kind ≡ Directs d → puts d ≡ true → BeginsAt (alignment_of (value t false k (here t)) d) (slice_index_or all.alignments t.opened.current 1)
   multiples d is h =
       subst (λ (u : Tables). BeginsAt (alignment_of (value t false k (here t)) d) (slice_index_or u.alignments t.opened.current 1))
       (sym (whole_rest ss i within ∙ ap (after_all t k) here_is ∙ ap (λ y. after_all (after t k y) (suc k) (drop (i + 1) ss)) is))
@@ -135,68 +135,68 @@ module _ (ss : List Spoken) (i : ℕ) (s : Spoken) (here_is : drop i ss ≡ s �
   -- what a place with its section says
   abbrev RoomyIn : ℕ → SectionOffset → Opened → Type 0
   RoomyIn offset p o =
-      IsRoomy (λ e. value all true k p e) (section_at o p.section).executable (slice_index_or all.alignments p.section 1) offset (slice_index_or (after t k s.says).ends p.section 0) s.says
+      IsRoomy (λ e. value all true k p e) (section_at o p.section).executable (slice_index_or all.alignments p.section 1) offset (slice_index_or (after t k s.kind).ends p.section 0) s.kind
 
-  pub roomy_at : (offset : ℕ) → offset ≤ longest_section → is_placed t k s.says ≡ true → (st.home.executable ≡ true → offset + code_size s.says ≤ longest_section)
+  pub roomy_at : (offset : ℕ) → offset ≤ longest_section → is_placed t k s.kind ≡ true → (st.home.executable ≡ true → offset + code_size s.kind ≤ longest_section)
       → (st.home.executable ≡ false → offset ≤ slice_index_or t.ends st.section 0)
-      → IsRoomy (λ e. value_at all st e) st.home.executable (slice_index_or all.alignments st.section 1) offset (slice_index_or (after t k s.says).ends st.section 0) s.says
+      → IsRoomy (λ e. value_at all st e) st.home.executable (slice_index_or all.alignments st.section 1) offset (slice_index_or (after t k s.kind).ends st.section 0) s.kind
   roomy_at offset low placed fits before =
-      let (place, opened) = stood_here t k s.says placed in
+      let (place, opened) = stood_here t k s.kind placed in
       let home : st.home ≡ current_section t.opened = ap (λ o. section_at o st.section) opened ∙ ap (λ (p : SectionOffset). section_at t.opened p.section) place in
       let before' : (current_section t.opened).executable ≡ false → offset ≤ (here t).offset =
       λ e. subst (λ (p : SectionOffset). offset ≤ slice_index_or t.ends p.section 0) place (before (ap (λ (h : Section). h.executable) home ∙ e)) in
-      let fits' : (current_section t.opened).executable ≡ true → offset + code_size s.says ≤ longest_section = λ e. fits (ap (λ (h : Section). h.executable) home ∙ e) in
-      subst (λ p. RoomyIn offset p (after t k s.says).opened) (sym place)
+      let fits' : (current_section t.opened).executable ≡ true → offset + code_size s.kind ≤ longest_section = λ e. fits (ap (λ (h : Section). h.executable) home ∙ e) in
+      subst (λ p. RoomyIn offset p (after t k s.kind).opened) (sym place)
       (subst (λ o. RoomyIn offset (here t) o) (sym opened)
-      (statement_here all t k (slice_index_or all.alignments t.opened.current 1) offset low inside (grown_all 1 (take i ss)) (constant_whole ss k (here t)) (constant_past ss i (here t) within inside) before' s.says placed
-      multiples ((grows_after t k s.says).ends t.opened.current) fits' (sound_at ss i s (drop (i + 1) ss) here_is good)))
+      (statement_here all t k (slice_index_or all.alignments t.opened.current 1) offset low inside (grown_all 1 (take i ss)) (constant_whole ss k (here t)) (constant_past ss i (here t) within inside) before' s.kind placed
+      multiples ((grows_after t k s.kind).ends t.opened.current) fits' (sound_at ss i s (drop (i + 1) ss) here_is good)))
 
   module _ (ends : ℕ → ℕ) (low : (j : ℕ) → ends j ≤ longest_section) (left : HasRoomLeft ss i ends) where
     -- whether the section of the statement is too long after it
     abbrev full : Option ℕ
-    full = if nat_lt longest_section (left.sizes st.section + code_size s.says) then Some 17 else None
+    full = if nat_lt longest_section (left.sizes st.section + code_size s.kind) then Some 17 else None
 
-    parts : (full ≡ None) × (size_fault_from (grown_by left.sizes st.section (code_size s.says)) (drop (i + 1) (located_from 1 1 at_start ss)) ≡ None)
+    parts : (full ≡ None) × (size_fault_from (grown_by left.sizes st.section (code_size s.kind)) (drop (i + 1) (located_from 1 1 at_start ss)) ≡ None)
     parts =
         no_fault st.line full
-        (size_fault_from (grown_by left.sizes st.section (code_size s.says)) (drop (i + 1) (located_from 1 1 at_start ss)))
+        (size_fault_from (grown_by left.sizes st.section (code_size s.kind)) (drop (i + 1) (located_from 1 1 at_start ss)))
         (ap (size_fault_from left.sizes) (sym next) ∙ left.rest)
 
-    fits : st.home.executable ≡ true → ends st.section + code_size s.says ≤ longest_section
+    fits : st.home.executable ≡ true → ends st.section + code_size s.kind ≤ longest_section
     fits e =
         let l = left.code st.section (ap (λ (h : Section). h.executable) home_is ∙ e) in
-        let m : left.sizes st.section + code_size s.says ≤ longest_section = ltb-false longest_section (left.sizes st.section + code_size s.says) (if_some (nat_lt longest_section (left.sizes st.section + code_size s.says)) 17 parts.0) in
+        let m : left.sizes st.section + code_size s.kind ≤ longest_section = ltb-false longest_section (left.sizes st.section + code_size s.kind) (if_some (nat_lt longest_section (left.sizes st.section + code_size s.kind)) 17 parts.0) in
         omega (arith, l, m)
 
     -- the next statement has a size, and its section has room for it
-    pub roomy_now : is_placed t k s.says ≡ true
-        → IsRoomy (λ e. value_at all st e) st.home.executable (slice_index_or all.alignments st.section 1) (ends st.section) (slice_index_or (after t k s.says).ends st.section 0) s.says
+    pub roomy_now : is_placed t k s.kind ≡ true
+        → IsRoomy (λ e. value_at all st e) st.home.executable (slice_index_or all.alignments st.section 1) (ends st.section) (slice_index_or (after t k s.kind).ends st.section 0) s.kind
     roomy_now placed = roomy_at (ends st.section) (low st.section) placed fits (λ e. left.stored st.section (ap (λ (h : Section). h.executable) home_is ∙ e))
 
     module _ (x : Item) (one : IsItem st ends x) (sized : IsSizedAt all ss i s x) where
       -- the size of an item that is shown
-      shown_size : x.shown ≡ true → (is_placed t k s.says ≡ true) × IsSize (λ e. value_at all st e) st.home.executable (slice_index_or all.alignments st.section 1) (ends st.section) s.says x.bytes
+      shown_size : x.shown ≡ true → (is_placed t k s.kind ≡ true) × IsSize (λ e. value_at all st e) st.home.executable (slice_index_or all.alignments st.section 1) (ends st.section) s.kind x.bytes
       shown_size e = (
         (and_parts st.placed st.home.loaded (sym one.shown ∙ e)).0,
-        subst (λ n. IsSize (λ e. value_at all st e) st.home.executable (slice_index_or all.alignments st.section 1) n s.says x.bytes) one.offset
-            (subst (λ n. IsSize (λ e. value_at all st e) st.home.executable (slice_index_or all.alignments n 1) x.offset s.says x.bytes) one.section
-            (size_as (λ e. value_at all st e) st.home.executable x (slice_index_or all.alignments x.section 1) s.says (sized e))),
+        subst (λ n. IsSize (λ e. value_at all st e) st.home.executable (slice_index_or all.alignments st.section 1) n s.kind x.bytes) one.offset
+            (subst (λ n. IsSize (λ e. value_at all st e) st.home.executable (slice_index_or all.alignments n 1) x.offset s.kind x.bytes) one.section
+            (size_as (λ e. value_at all st e) st.home.executable x (slice_index_or all.alignments x.section 1) s.kind (sized e))),
       )
 
-      in_code : (b : Bool) → x.shown ≡ b → st.home.executable ≡ true → x.bytes ≤ code_size s.says
+      in_code : (b : Bool) → x.shown ≡ b → st.home.executable ≡ true → x.bytes ≤ code_size s.kind
       in_code true e code = let (placed, is) = shown_size e in (roomy_now placed).code code x.bytes is
       in_code false e code = let none = one.absent e in omega (arith, none)
 
-      in_store : (b : Bool) → x.shown ≡ b → st.home.executable ≡ false → ends st.section + x.bytes ≤ slice_index_or (after t k s.says).ends st.section 0
+      in_store : (b : Bool) → x.shown ≡ b → st.home.executable ≡ false → ends st.section + x.bytes ≤ slice_index_or (after t k s.kind).ends st.section 0
       in_store true e other = let (placed, is) = shown_size e in (roomy_now placed).stored other x.bytes is
       in_store false e other =
           let none = one.absent e in
           let l = left.stored st.section (ap (λ (h : Section). h.executable) home_is ∙ other) in
-          let m = (grows_after t k s.says).ends st.section in
+          let m = (grows_after t k s.kind).ends st.section in
           omega (arith, none, l, m)
 
       code_by : (j : ℕ) (b : Bool) → (j == st.section) ≡ b → (section_at all.opened j).executable ≡ true
-          → (if b then ends j + x.bytes else ends j) ≤ (if b then left.sizes j + code_size s.says else left.sizes j)
+          → (if b then ends j + x.bytes else ends j) ≤ (if b then left.sizes j + code_size s.kind else left.sizes j)
       code_by j true is e =
           let at : j ≡ st.section = eqb-true j st.section is in
           let l = left.code j e in
@@ -204,21 +204,21 @@ module _ (ss : List Spoken) (i : ℕ) (s : Spoken) (here_is : drop i ss ≡ s �
           omega (arith, l, m)
       code_by j false is e = left.code j e
 
-      store_by : (j : ℕ) (b : Bool) → (j == st.section) ≡ b → (section_at all.opened j).executable ≡ false → (if b then ends j + x.bytes else ends j) ≤ slice_index_or (after t k s.says).ends j 0
+      store_by : (j : ℕ) (b : Bool) → (j == st.section) ≡ b → (section_at all.opened j).executable ≡ false → (if b then ends j + x.bytes else ends j) ≤ slice_index_or (after t k s.kind).ends j 0
       store_by j true is e =
           let at : st.section ≡ j = sym (eqb-true j st.section is) in
-          subst (λ n. ends n + x.bytes ≤ slice_index_or (after t k s.says).ends n 0) at
+          subst (λ n. ends n + x.bytes ≤ slice_index_or (after t k s.kind).ends n 0) at
           (in_store x.shown refl (ap (λ (h : Section). h.executable) (sym home_is ∙ ap (section_at all.opened) at) ∙ e))
-      store_by j false is e = let l = left.stored j e in let m = (grows_after t k s.says).ends j in omega (arith, l, m)
+      store_by j false is e = let l = left.stored j e in let m = (grows_after t k s.kind).ends j in omega (arith, l, m)
 
       pub rooms_more : (behind : ℕ → ℕ) → ((j : ℕ) → behind j ≡ grown ends x j) → HasRoomLeft ss (i + 1) behind
       rooms_more behind grows = record {
-        sizes = grown_by left.sizes st.section (code_size s.says);
+        sizes = grown_by left.sizes st.section (code_size s.kind);
         rest = parts.1;
-        code = λ j e. subst (λ n. n ≤ grown_by left.sizes st.section (code_size s.says) j) (sym (at_section j)) (code_by j (j == st.section) refl e);
+        code = λ j e. subst (λ n. n ≤ grown_by left.sizes st.section (code_size s.kind) j) (sym (at_section j)) (code_by j (j == st.section) refl e);
         stored = λ j e.
             subst (λ (u : Tables). behind j ≤ slice_index_or u.ends j 0) (sym (passed_next ss i s (drop (i + 1) ss) here_is))
-            (subst (λ n. n ≤ slice_index_or (after t k s.says).ends j 0) (sym (at_section j)) (store_by j (j == st.section) refl e));
+            (subst (λ n. n ≤ slice_index_or (after t k s.kind).ends j 0) (sym (at_section j)) (store_by j (j == st.section) refl e));
       }
         where
           at_section : (j : ℕ) → behind j ≡ (if j == st.section then ends j + x.bytes else ends j)

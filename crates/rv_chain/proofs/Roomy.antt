@@ -6,7 +6,7 @@ use Rattle.std.proofs.lemmas.Bool.{leb-true, le-leb}
 use Rattle.std.proofs.lemmas.Nat.{le-div}
 use Rattle.std.specs.Prelude.{IfErr, Result, Ok, Err, not, flat_map, slice_index_or, if◌then◌else◌}
 use Rattle.rv_text_laws.specs.Values.{Value, Constant, Symbolic, Difference, Faulty}
-use Rattle.rv_statement.specs.Statement.{Statement, Label, Numbered, Instruction, Directs, Expression, Directive, Sets, Aligns_to_power, Aligns_to_bytes, Values, Strings, Zeros}
+use Rattle.rv_statement.specs.Statement.{StatementKind, Label, Numbered, Instruction, Directs, Expression, Directive, Sets, Aligns_to_power, Aligns_to_bytes, Values, Strings, Zeros}
 use Rattle.rv_unit_laws.specs.Sections.{Section, current_section}
 use Rattle.rv_unit_laws.specs.Tables.{Tables, here, value, aligned, alignment_of, power_alignment, byte_alignment, counted, or_none, within, padding, data_bytes, string_bytes, longest_section, after}
 use Rattle.rv_unit_laws.specs.Faults.{faulty_if, size_faults, power_faults, bytes_faults, value_faults, code_alignment_faults, past_section, alignment_faults, directive_faults, faults}
@@ -20,7 +20,7 @@ use Rattle.rv_chain.specs.Sized.{IsPadded, IsSizedDirective}
 use Rattle.rv_chain.specs.Measured.{stretch, IsSize, CanPad, HasSize, HasSizeDirective}
 
 -- a statement's size, and what it makes of its section: in code no more than its code, else no more than up to this end
-pub record IsRoomy (v : Expression → Value) (executable : Bool) (begins offset stop : ℕ) (says : Statement) : Type 0 where
+pub record IsRoomy (v : Expression → Value) (executable : Bool) (begins offset stop : ℕ) (says : StatementKind) : Type 0 where
   pub size : HasSize v executable begins offset says
   pub room : (n : ℕ) → IsSize v executable begins offset says n → offset + n ≤ longest_section
   pub code : executable ≡ true → (n : ℕ) → IsSize v executable begins offset says n → n ≤ code_size says
@@ -121,10 +121,10 @@ module _ (all t : Tables) (k begins offset : ℕ) (low : offset ≤ longest_sect
   abbrev first : Expression → Value
   first e = value t false k (here t) e
 
-  abbrev stop : Statement → ℕ
+  abbrev stop : StatementKind → ℕ
   stop says = slice_index_or (after t k says).ends t.opened.current 0
 
-  abbrev Here : Statement → Type 0
+  abbrev Here : StatementKind → Type 0
   Here says = IsRoomy v home.executable begins offset (stop says) says
 
   -- data that end no later than those of the tables
@@ -139,7 +139,7 @@ module _ (all t : Tables) (k begins offset : ℕ) (low : offset ≤ longest_sect
   }
 
   -- a statement without bytes
-  none_here : (says : Statement) → HasSize v home.executable begins offset says → ((n : ℕ) → IsSize v home.executable begins offset says n → n ≡ 0) → (here t).offset ≤ stop says → Here says
+  none_here : (says : StatementKind) → HasSize v home.executable begins offset says → ((n : ℕ) → IsSize v home.executable begins offset says n → n ≡ 0) → (here t).offset ≤ stop says → Here says
   none_here says size none more = record {
     size = size;
     room = λ n h. let e = none n h in omega (arith, e, low);
@@ -148,7 +148,7 @@ module _ (all t : Tables) (k begins offset : ℕ) (low : offset ≤ longest_sect
   }
 
   -- a statement without bytes in code
-  none_in_code : (says : Statement) → HasSize v home.executable begins offset says → ((n : ℕ) → IsSize v home.executable begins offset says n → n ≡ 0) → home.executable ≡ true → Here says
+  none_in_code : (says : StatementKind) → HasSize v home.executable begins offset says → ((n : ℕ) → IsSize v home.executable begins offset says n → n ≡ 0) → home.executable ≡ true → Here says
   none_in_code says size none code = record {
     size = size;
     room = λ n h. let e = none n h in omega (arith, e, low);
@@ -265,7 +265,7 @@ module _ (all t : Tables) (k begins offset : ℕ) (low : offset ≤ longest_sect
   directive_here _ placed multiples more none = absurd (cc)
 
   -- an instruction, where its section has room for it
-  instruction_here : (says : Statement) → HasSize v home.executable begins offset says → ((n : ℕ) → IsSize v home.executable begins offset says n → n ≡ code_size says)
+  instruction_here : (says : StatementKind) → HasSize v home.executable begins offset says → ((n : ℕ) → IsSize v home.executable begins offset says n → n ≡ code_size says)
       → home.executable ≡ true → offset + code_size says ≤ longest_section → Here says
   instruction_here says size four code fits = record {
     size = size;
@@ -274,7 +274,7 @@ module _ (all t : Tables) (k begins offset : ℕ) (low : offset ≤ longest_sect
     stored = λ e. true_false home.executable code e;
   }
 
-  pub statement_here : (says : Statement) → is_placed t k says ≡ true → ((d : Directive) → says ≡ Directs d → puts d ≡ true → BeginsAt (alignment_of first d) begins)
+  pub statement_here : (says : StatementKind) → is_placed t k says ≡ true → ((d : Directive) → says ≡ Directs d → puts d ≡ true → BeginsAt (alignment_of first d) begins)
       → (here t).offset ≤ stop says → (home.executable ≡ true → offset + code_size says ≤ longest_section) → faults all t k says ≡ [] → Here says
   statement_here (Label name) placed multiples more fits none = none_here (Label name) tt (λ n h. h) more
   statement_here (Numbered number) placed multiples more fits none = none_here (Numbered number) tt (λ n h. h) more

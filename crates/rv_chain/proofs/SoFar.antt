@@ -25,10 +25,10 @@ at_else line (Some code) other = refl
 sizes_alike : (f g : ℕ → ℕ) (ss : List Located) → ((j : ℕ) → f j ≡ g j) → size_fault_from f ss ≡ size_fault_from g ss
 sizes_alike f g [] e = refl
 sizes_alike f g (s ∷ ss) e =
-    ap (λ n. at_line s.line (if nat_lt longest_section (n + code_size s.says) then Some 17 else None) (size_fault_from (grown f s.section (code_size s.says)) ss)) (e s.section)
-    ∙ ap (λ r. at_line s.line (if nat_lt longest_section (g s.section + code_size s.says) then Some 17 else None) r)
-    (sizes_alike (grown f s.section (code_size s.says)) (grown g s.section (code_size s.says)) ss
-    (λ j. ap (λ n. if j == s.section then n + code_size s.says else n) (e j)))
+    ap (λ n. at_line s.line (if nat_lt longest_section (n + code_size s.kind) then Some 17 else None) (size_fault_from (grown f s.section (code_size s.kind)) ss)) (e s.section)
+    ∙ ap (λ r. at_line s.line (if nat_lt longest_section (g s.section + code_size s.kind) then Some 17 else None) r)
+    (sizes_alike (grown f s.section (code_size s.kind)) (grown g s.section (code_size s.kind)) ss
+    (λ j. ap (λ n. if j == s.section then n + code_size s.kind else n) (e j)))
 
 grown_length : (b : Bool) (old more : List ℕ) (size : ℕ) → length more ≡ size → length (if b then old ++ more else old) ≡ (if b then length old + size else length old)
 grown_length true old more size e = length-append old more ∙ ap (λ n. length old + n) e
@@ -41,17 +41,17 @@ joined : (b : Bool) (old : List ℕ) (code : Located → List ℕ) (s : Located)
 joined true old code s rest = append_assoc old (code s) (flat_map code rest)
 joined false old code s rest = refl
 
-pub next_code : (t : Tables) (all : List Located) (s : Located) (next : List Located) (old new : Coder) → IsCodeSoFar t all (s ∷ next) old → IsAdded old new s.section (value_at t s) (record { line = s.line; says = s.says }) → IsCodeSoFar t all next new
+pub next_code : (t : Tables) (all : List Located) (s : Located) (next : List Located) (old new : Coder) → IsCodeSoFar t all (s ∷ next) old → IsAdded old new s.section (value_at t s) (record { line = s.line; kind = s.kind }) → IsCodeSoFar t all next new
 next_code t all s next old new h a =
     let f = λ (j : ℕ). length (bytes_in old.sections.items j) in
     let g = λ (j : ℕ). length (bytes_in new.sections.items j) in
-    let size = code_size s.says in
-    let alike = λ (j : ℕ). ap length (a.grows.1 j) ∙ grown_length (j == s.section) (bytes_in old.sections.items j) (code_said (value_at t s) s.says) size a.size in
+    let size = code_size s.kind in
+    let alike = λ (j : ℕ). ap length (a.grows.1 j) ∙ grown_length (j == s.section) (bytes_in old.sections.items j) (code_said (value_at t s) s.kind) size a.size in
     let here : g s.section ≡ f s.section + size = alike s.section ∙ ap (λ b. if b then f s.section + size else f s.section) (same s.section) in
     record {
       instructions =
           ap (λ o. instruction_fault_from t o next) a.options
-          ∙ sym (ap (λ fs. at_line s.line (lowest fs) (instruction_fault_from t (options_after (options_of old.choices) s.says) next)) a.sound)
+          ∙ sym (ap (λ fs. at_line s.line (lowest fs) (instruction_fault_from t (options_after (options_of old.choices) s.kind) next)) a.sound)
           ∙ h.instructions;
       sizes =
           ap (λ x. else_fault x (size_fault_from g next)) a.full
@@ -63,14 +63,14 @@ next_code t all s next old new h a =
           ∙ h.sizes;
       bytes = λ j.
           ap (λ x. x ++ section_code t j next) (a.grows.1 j)
-          ∙ joined (j == s.section) (bytes_in old.sections.items j) (λ u. code_said (value_at t u) u.says) s (filter (λ u. j == u.section) next)
+          ∙ joined (j == s.section) (bytes_in old.sections.items j) (λ u. code_said (value_at t u) u.kind) s (filter (λ u. j == u.section) next)
           ∙ h.bytes j;
     }
 
 -- the first faulty instruction is the next one
-pub wrong_code : (t : Tables) (all : List Located) (s : Located) (next : List Located) (old : Coder) (code : ℕ) → IsCodeSoFar t all (s ∷ next) old → lowest (instruction_faults (options_of old.choices) (value_at t s) s.says) ≡ Some code → instruction_fault_from t first_options all ≡ Some (record { code = code; line = s.line })
+pub wrong_code : (t : Tables) (all : List Located) (s : Located) (next : List Located) (old : Coder) (code : ℕ) → IsCodeSoFar t all (s ∷ next) old → lowest (instruction_faults (options_of old.choices) (value_at t s) s.kind) ≡ Some code → instruction_fault_from t first_options all ≡ Some (record { code = code; line = s.line })
 wrong_code t all s next old code h e =
-    sym h.instructions ∙ ap (λ c. at_line s.line c (instruction_fault_from t (options_after (options_of old.choices) s.says) next)) e
+    sym h.instructions ∙ ap (λ c. at_line s.line c (instruction_fault_from t (options_after (options_of old.choices) s.kind) next)) e
 
 -- after the last statement the code is whole
 pub whole_code : (t : Tables) (all : List Located) (c : Coder) → IsCodeSoFar t all [] c → (j : ℕ) → bytes_in c.sections.items j ≡ section_code t j all

@@ -8,7 +8,7 @@ use Rattle.std.proofs.lemmas.Bool.{eqb-true, eq-eqb, and_parts}
 use Rattle.std.proofs.lemmas.List.{append_cancel_left}
 use Rattle.rv_map.specs.Map.{Map, Global}
 use Rattle.rv_text_laws.specs.Values.{Value}
-use Rattle.rv_statement.specs.Statement.{Directs, Zeros, Values, Spoken, Expression}
+use Rattle.rv_statement.specs.Statement.{Directs, Zeros, Values, Statement, Expression}
 use Rattle.rv_unit_laws.specs.Sections.{Section, text_section, section_at, goes_to_rodata, goes_to_data}
 use Rattle.rv_unit_laws.specs.Tables.{Tables, SectionOffset as Standing, at_start, after, after_all, tables, stood, definition as home_in, value as value_in_file}
 use Rattle.rv_unit_laws.specs.Faults.{first_fault}
@@ -37,17 +37,17 @@ use Rattle.rv_chain.proofs.Standing.{located_at, stated_next, all_at}
 
 -- ---- before the first statement
 
-sites_begin : (starts : List ℕ) (ss : List Spoken) (is : List Item) → sites_left starts ss is 0 ≡ sites_by starts 1 at_start ss is
+sites_begin : (starts : List ℕ) (ss : List Statement) (is : List Item) → sites_left starts ss is 0 ≡ sites_by starts 1 at_start ss is
 sites_begin starts [] is = refl
 sites_begin starts (s ∷ ss) [] = refl
 sites_begin starts (s ∷ ss) (i ∷ is) = refl
 
-valued_begin : (p : Program) (starts : List ℕ) (ss : List Spoken) (is : List Item) → AreValued p starts 1 (passed ss 0) (drop 0 ss) (drop 0 is) → AreValued p starts 1 at_start ss is
+valued_begin : (p : Program) (starts : List ℕ) (ss : List Statement) (is : List Item) → AreValued p starts 1 (passed ss 0) (drop 0 ss) (drop 0 is) → AreValued p starts 1 at_start ss is
 valued_begin p starts [] is h = tt
 valued_begin p starts (s ∷ ss) [] h = tt
 valued_begin p starts (s ∷ ss) (i ∷ is) h = h
 
-pub data_begin : (ss : List Spoken) (starts : List ℕ) (is : List Item) (globals : List Global) (sections : List (Vec ℕ)) → ((j : ℕ) → bytes_in sections j ≡ []) → DataTo ss starts is globals 0 sections
+pub data_begin : (ss : List Statement) (starts : List ℕ) (is : List Item) (globals : List Global) (sections : List (Vec ℕ)) → ((j : ℕ) → bytes_in sections j ≡ []) → DataTo ss starts is globals 0 sections
 data_begin ss starts is globals sections empty last m laid =
     let p = program (ss ∷ []) m in
     record {
@@ -58,11 +58,11 @@ data_begin ss starts is globals sections empty last m laid =
 
 -- ---- what is known of the statement at an index
 
-abbrev SizedAt : Tables → ℕ → Tables → Spoken → Item → Type 0
+abbrev SizedAt : Tables → ℕ → Tables → Statement → Item → Type 0
 SizedAt all k t s x =
-    x.shown ≡ true → IsSized (λ e. value_at all (located_now 1 k t s) e) (located_now 1 k t s).home.executable x (slice_index_or all.alignments x.section 1) s.says
+    x.shown ≡ true → IsSized (λ e. value_at all (located_now 1 k t s) e) (located_now 1 k t s).home.executable x (slice_index_or all.alignments x.section 1) s.kind
 
-sized_left : (all : Tables) (k i : ℕ) (t : Tables) (ss : List Spoken) (is : List Item) (s : Spoken) (rest : List Spoken) (x : Item) (more : List Item)
+sized_left : (all : Tables) (k i : ℕ) (t : Tables) (ss : List Statement) (is : List Item) (s : Statement) (rest : List Statement) (x : Item) (more : List Item)
     → AreSized all k t ss is → drop i ss ≡ s ∷ rest → drop i is ≡ x ∷ more → SizedAt all (i + k) (after_all t k (take i ss)) s x
 sized_left all k zero t [] is s rest x more h e g = absurd (cc)
 sized_left all k (suc i) t [] is s rest x more h e g = absurd (cc)
@@ -75,9 +75,9 @@ sized_left all k zero t (y ∷ ys) (z ∷ zs) s rest x more h e g =
     subst (λ n. SizedAt all n t s x) n (subst (λ s. SizedAt all k t s x) same (subst (λ x. SizedAt all k t y x) alike h.0))
 sized_left all k (suc i) t (y ∷ ys) (z ∷ zs) s rest x more h e g =
     let n : i + suc k ≡ suc i + k = omega arith in
-    subst (λ n. SizedAt all n (after_all (after t k y.says) (suc k) (take i ys)) s x) n (sized_left all (suc k) i (after t k y.says) ys zs s rest x more h.1 e g)
+    subst (λ n. SizedAt all n (after_all (after t k y.kind) (suc k) (take i ys)) s x) n (sized_left all (suc k) i (after t k y.kind) ys zs s rest x more h.1 e g)
 
-held_left : (ss : List Spoken) (i : ℕ) (s : Spoken) → first_fault ss ≡ None → drop i ss ≡ s ∷ drop (i + 1) ss → Held (located_at ss i s)
+held_left : (ss : List Statement) (i : ℕ) (s : Statement) → first_fault ss ≡ None → drop i ss ≡ s ∷ drop (i + 1) ss → Held (located_at ss i s)
 held_left ss i s good here =
     let all = located_from 1 1 at_start ss in
     let held : AllByRecursion Held all = subst (λ l. AllByRecursion Held l) (append-nil all) (held_of 1 (ss ∷ []) (good, tt)) in
@@ -93,7 +93,7 @@ nth_is starts (y ∷ ys) zero x e h =
     ap (λ (z : Item). if z.shown then Some (address_of starts z) else None) same ∙ ap (λ b. if b then Some (address_of starts x) else None) h
 nth_is starts (y ∷ ys) (suc n) x e h = nth_is starts ys n x e h
 
-module _ (ss : List Spoken) (starts : List ℕ) (is : List Item) (globals : List Global) (last : ℕ → ℕ) (m : Map) (laid : IsLaid ss starts is globals last m) where
+module _ (ss : List Statement) (starts : List ℕ) (is : List Item) (globals : List Global) (last : ℕ → ℕ) (m : Map) (laid : IsLaid ss starts is globals last m) where
   abbrev p : Program
   p = program (ss ∷ []) m
 
@@ -133,26 +133,26 @@ got_map f (x ∷ xs) zero d y e = cc
 got_map f (x ∷ xs) (suc k) d y e = got_map f xs k d y e
 
 -- what gives the numbers of the statement at an index
-pub record IsNumbering (ss : List Spoken) (starts : List ℕ) (is : List Item) (globals : List Global) (i : ℕ) (s : Spoken) (n : Numbers) : Type 0 where
+pub record IsNumbering (ss : List Statement) (starts : List ℕ) (is : List Item) (globals : List Global) (i : ℕ) (s : Statement) (n : Numbers) : Type 0 where
   pub filled : IsFilled n.scope.now.unit.now
   pub scope : IsScope n.scope.now i
   pub source : said n.scope.now.unit.now ≡ ss
   pub begins : n.starts.now ≡ starts
   pub parts : n.items.now ≡ is
   pub names : AreAddresses n.addresses.now.names globals
-  pub stands : offset_of n.place ≡ stood (passed ss i) (i + 1) s.says
+  pub stands : offset_of n.place ≡ stood (passed ss i) (i + 1) s.kind
 
 -- the statement at an index, with its item, adds to the sections
-pub record IsPut (ss : List Spoken) (is : List Item) (i : ℕ) (s : Spoken) (x : Item) (n : Numbers) (old new : List (Vec ℕ)) : Type 0 where
+pub record IsPut (ss : List Statement) (is : List Item) (i : ℕ) (s : Statement) (x : Item) (n : Numbers) (old new : List (Vec ℕ)) : Type 0 where
   pub here : drop i ss ≡ s ∷ drop (i + 1) ss
   pub item : drop i is ≡ x ∷ drop (i + 1) is
   pub home : slice_get (tables ss).opened.sections (located_at ss i s).section ≡ Some (located_at ss i s).home
-  pub wide : (w : ℕ) (vs : List Expression) → s.says ≡ Directs (Values w vs) → 0 < w
-  pub put : is_figure x (located_at ss i s).home ≡ true → Spells n s.says x.bytes old new n.place.section
+  pub wide : (w : ℕ) (vs : List Expression) → s.kind ≡ Directs (Values w vs) → 0 < w
+  pub put : is_figure x (located_at ss i s).home ≡ true → Spells n s.kind x.bytes old new n.place.section
   pub left : is_figure x (located_at ss i s).home ≡ false → new ≡ old
 
-module _ (ss : List Spoken) (starts : List ℕ) (is : List Item) (globals : List Global) (last : ℕ → ℕ) (m : Map) (laid : IsLaid ss starts is globals last m)
-    (i : ℕ) (s : Spoken) (x : Item) (n : Numbers) (old new : List (Vec ℕ)) (numbering : IsNumbering ss starts is globals i s n) (h : IsPut ss is i s x n old new) where
+module _ (ss : List Statement) (starts : List ℕ) (is : List Item) (globals : List Global) (last : ℕ → ℕ) (m : Map) (laid : IsLaid ss starts is globals last m)
+    (i : ℕ) (s : Statement) (x : Item) (n : Numbers) (old new : List (Vec ℕ)) (numbering : IsNumbering ss starts is globals i s n) (h : IsPut ss is i s x n old new) where
   abbrev q : Program
   q = program (ss ∷ []) m
 
@@ -186,10 +186,10 @@ module _ (ss : List Spoken) (starts : List ℕ) (is : List Item) (globals : List
   abbrev form_of : Expression → Value
   form_of e = value_at (tables ss) st e
 
-  sized_here : x.shown ≡ true → IsSized form_of st.home.executable x (slice_index_or (tables ss).alignments x.section 1) s.says
+  sized_here : x.shown ≡ true → IsSized form_of st.home.executable x (slice_index_or (tables ss).alignments x.section 1) s.kind
   sized_here = sized_left (tables ss) 1 i at_start ss is s (drop (i + 1) ss) x (drop (i + 1) is) laid.sized h.here h.item
 
-  counts : (d : ℕ) → x.shown ≡ true → Counts (or_else d) s.says x.bytes
+  counts : (d : ℕ) → x.shown ≡ true → Counts (or_else d) s.kind x.bytes
   counts d shown e same =
       let sized : IsSized form_of st.home.executable x (slice_index_or (tables ss).alignments x.section 1) (Directs (Zeros e)) =
       subst (λ t. IsSized form_of st.home.executable x (slice_index_or (tables ss).alignments x.section 1) t) same (sized_here shown) in
@@ -198,8 +198,8 @@ module _ (ss : List Spoken) (starts : List ℕ) (is : List Item) (globals : List
   section : n.place.section ≡ st.section
   section = ap (λ (r : Standing). r.section) numbering.stands
 
-  puts : (d : ℕ) → is_figure x st.home ≡ true → GrowsBy old new st.section (spelled_said (or_else d) s.says x.bytes)
-  puts d f = subst (λ k. GrowsBy old new k (spelled_said (or_else d) s.says x.bytes)) section (h.put f (or_else d) (gives d) (counts d (and_parts x.shown (is_filled st.home) f).0))
+  puts : (d : ℕ) → is_figure x st.home ≡ true → GrowsBy old new st.section (spelled_said (or_else d) s.kind x.bytes)
+  puts d f = subst (λ k. GrowsBy old new k (spelled_said (or_else d) s.kind x.bytes)) section (h.put f (or_else d) (gives d) (counts d (and_parts x.shown (is_filled st.home) f).0))
 
   filled_at : (j : ℕ) → (st.section == j) ≡ true → is_filled (section_at (tables ss).opened j) ≡ true → is_filled st.home ≡ true
   filled_at j e f =
@@ -222,7 +222,7 @@ module _ (ss : List Spoken) (starts : List ℕ) (is : List Item) (globals : List
       let next : suc (i + 1) ≡ i + 1 + 1 = omega arith in
       ap (λ l. sites_by starts (i + 1) (passed ss i) l (drop i is)) h.here
       ∙ ap (λ l. sites_by starts (i + 1) (passed ss i) (s ∷ drop (i + 1) ss) l) h.item
-      ∙ ap (λ k. let rest = sites_by starts k (after (passed ss i) (i + 1) s.says) (drop (i + 1) ss) (drop (i + 1) is) in if x.shown then site ∷ rest else rest) next
+      ∙ ap (λ k. let rest = sites_by starts k (after (passed ss i) (i + 1) s.kind) (drop (i + 1) ss) (drop (i + 1) is) in if x.shown then site ∷ rest else rest) next
       ∙ ap (λ t. let rest = sites_by starts (i + 1 + 1) t (drop (i + 1) ss) (drop (i + 1) is) in if x.shown then site ∷ rest else rest) (sym (passed_next ss i s (drop (i + 1) ss) h.here))
 
   joined_at : (j : ℕ) (b c : Bool) (first next : List ℕ) → (st.section == j) ≡ c → next ≡ (if b && c then first ++ spelled q site else first)
@@ -243,17 +243,17 @@ module _ (ss : List Spoken) (starts : List ℕ) (is : List Item) (globals : List
 
   -- ---- the values of the statement
 
-  spelled_same : is_figure x st.home ≡ true → spelled_said (or_else 0) s.says x.bytes ≡ spelled_said (or_else 1) s.says x.bytes
+  spelled_same : is_figure x st.home ≡ true → spelled_said (or_else 0) s.kind x.bytes ≡ spelled_said (or_else 1) s.kind x.bytes
   spelled_same f =
       let before = bytes_in old st.section in
-      let at : (d : ℕ) → bytes_in new st.section ≡ before ++ spelled_said (or_else d) s.says x.bytes =
-      λ d. (puts d f).1 st.section ∙ ap (λ b. if b then before ++ spelled_said (or_else d) s.says x.bytes else before) (eq-eqb st.section st.section refl) in
-      append_cancel_left before (spelled_said (or_else 0) s.says x.bytes) (spelled_said (or_else 1) s.says x.bytes) (sym (at 0) ∙ at 1)
+      let at : (d : ℕ) → bytes_in new st.section ≡ before ++ spelled_said (or_else d) s.kind x.bytes =
+      λ d. (puts d f).1 st.section ∙ ap (λ b. if b then before ++ spelled_said (or_else d) s.kind x.bytes else before) (eq-eqb st.section st.section refl) in
+      append_cancel_left before (spelled_said (or_else 0) s.kind x.bytes) (spelled_said (or_else 1) s.kind x.bytes) (sym (at 0) ∙ at 1)
 
   valued_here : first_fault ss ≡ None → x.shown ≡ true → st.home.executable ≡ false → has_values q site ≡ true
   valued_here good shown e =
-      valued_says (λ a. address q st a) form_of st.home x (slice_index_or (tables ss).alignments x.section 1) s.says e (held_left ss i s good h.here)
-      (subst (λ b. IsSized form_of b x (slice_index_or (tables ss).alignments x.section 1) s.says) e (sized_here shown))
+      valued_says (λ a. address q st a) form_of st.home x (slice_index_or (tables ss).alignments x.section 1) s.kind e (held_left ss i s good h.here)
+      (subst (λ b. IsSized form_of b x (slice_index_or (tables ss).alignments x.section 1) s.kind) e (sized_here shown))
       (λ nobits w vs same.
       let filled : is_filled st.home ≡ true = ap (λ b. not b && not st.home.nobits) e ∙ ap not nobits in
       let figure : is_figure x st.home ≡ true = ap (λ b. b && is_filled st.home) shown ∙ filled in
@@ -263,14 +263,14 @@ module _ (ss : List Spoken) (starts : List ℕ) (is : List Item) (globals : List
   valued_more : first_fault ss ≡ None → AreValued q starts (i + 1 + 1) (passed ss (i + 1)) (drop (i + 1) ss) (drop (i + 1) is) → AreValued q starts (i + 1) (passed ss i) (drop i ss) (drop i is)
   valued_more good rest =
       let next : i + 1 + 1 ≡ suc (i + 1) = omega arith in
-      let rest' : AreValued q starts (i + 1 + 1) (after (passed ss i) (i + 1) s.says) (drop (i + 1) ss) (drop (i + 1) is) =
+      let rest' : AreValued q starts (i + 1 + 1) (after (passed ss i) (i + 1) s.kind) (drop (i + 1) ss) (drop (i + 1) is) =
       subst (λ t. AreValued q starts (i + 1 + 1) t (drop (i + 1) ss) (drop (i + 1) is)) (passed_next ss i s (drop (i + 1) ss) h.here) rest in
-      let rest'' : AreValued q starts (suc (i + 1)) (after (passed ss i) (i + 1) s.says) (drop (i + 1) ss) (drop (i + 1) is) =
-      subst (λ k. AreValued q starts k (after (passed ss i) (i + 1) s.says) (drop (i + 1) ss) (drop (i + 1) is)) next rest' in
+      let rest'' : AreValued q starts (suc (i + 1)) (after (passed ss i) (i + 1) s.kind) (drop (i + 1) ss) (drop (i + 1) is) =
+      subst (λ k. AreValued q starts k (after (passed ss i) (i + 1) s.kind) (drop (i + 1) ss) (drop (i + 1) is)) next rest' in
       subst (λ l. AreValued q starts (i + 1) (passed ss i) l (drop i is)) (sym h.here)
       (subst (λ l. AreValued q starts (i + 1) (passed ss i) (s ∷ drop (i + 1) ss) l) (sym h.item) (valued_here good, rest''))
 
-pub data_more : (ss : List Spoken) (starts : List ℕ) (is : List Item) (globals : List Global) (i : ℕ) (s : Spoken) (x : Item) (n : Numbers) (old new : List (Vec ℕ))
+pub data_more : (ss : List Statement) (starts : List ℕ) (is : List Item) (globals : List Global) (i : ℕ) (s : Statement) (x : Item) (n : Numbers) (old new : List (Vec ℕ))
     → first_fault ss ≡ None → IsNumbering ss starts is globals i s n → IsPut ss is i s x n old new → DataTo ss starts is globals i old → DataTo ss starts is globals (i + 1) new
 data_more ss starts is globals i s x n old new good numbering put so_far last m laid = record {
   bytes = λ j here. bytes_more ss starts is globals last m laid i s x n old new numbering put j here ∙ (so_far last m laid).bytes j here;
@@ -309,7 +309,7 @@ filled_variable home e = go home.loaded home.executable home.nobits home.writabl
     go true true n w e = absurd (cc)
     go true false true w e = absurd (cc)
 
-module _ (ss : List Spoken) (starts : List ℕ) (is : List Item) (globals : List Global) (last : ℕ → ℕ) (m : Map) (laid : IsLaid ss starts is globals last m)
+module _ (ss : List Statement) (starts : List ℕ) (is : List Item) (globals : List Global) (last : ℕ → ℕ) (m : Map) (laid : IsLaid ss starts is globals last m)
     (i : ℕ) (sections : List (Vec ℕ)) (none : drop i ss ≡ []) (whole : IsDataTo (program (ss ∷ []) m) starts ss is i sections) where
   held_by : (goes : Section → Bool) → ((home : Section) → goes home ≡ true → is_filled home ≡ true)
       → HoldBytes (program (ss ∷ []) m).mapped goes (spelled (program (ss ∷ []) m)) 0 (tables ss).opened.sections (map (λ b. b.items) sections)
@@ -325,7 +325,7 @@ module _ (ss : List Spoken) (starts : List ℕ) (is : List Item) (globals : List
   all_valued : AreValued (program (ss ∷ []) m) starts 1 at_start ss is
   all_valued = whole.valued (subst (λ l. AreValued (program (ss ∷ []) m) starts (i + 1) (passed ss i) l (drop i is)) (sym none) tt)
 
-pub data_all : (ss : List Spoken) (starts : List ℕ) (is : List Item) (globals : List Global) (i : ℕ) (sections : List (Vec ℕ))
+pub data_all : (ss : List Statement) (starts : List ℕ) (is : List Item) (globals : List Global) (i : ℕ) (sections : List (Vec ℕ))
     → drop i ss ≡ [] → length sections ≡ length (tables ss).opened.sections → DataTo ss starts is globals i sections → GivesData ss starts is globals (map (λ b. b.items) sections)
 data_all ss starts is globals i sections none count so_far last m items sized rows names =
     let laid : IsLaid ss starts is globals last m = record { items = items; sized = sized; rows = rows; names = names } in

@@ -4,7 +4,7 @@ use Rattle.std.proofs.Common.{◌≡◌, ℕ, zero, suc, ◌+◌, ◌*◌, true,
 use Rattle.std.specs.Prelude.{⊤, flat_map}
 use Rattle.std.specs.List.{AllByRecursion}
 use Rattle.rv_text_laws.specs.Values.{Value, Constant, Symbolic, Difference, Faulty}
-use Rattle.rv_statement.specs.Statement.{Statement, Label, Numbered, Instruction, Directs, Spoken, Expression, Directive, Values}
+use Rattle.rv_statement.specs.Statement.{StatementKind, Label, Numbered, Instruction, Directs, Statement, Expression, Directive, Values}
 use Rattle.rv_unit_laws.specs.Sections.{current_section}
 use Rattle.rv_unit_laws.specs.Tables.{Tables, at_start, here, value, after, after_all, tables, stood}
 use Rattle.rv_unit_laws.specs.Faults.{faulty_if, value_faults, past_section, directive_faults, faults, lowest, first_fault_from, first_fault}
@@ -14,32 +14,32 @@ use Rattle.rv_chain_laws.proofs.Held.{none_left, no_lowest, no_fault}
 use Rattle.rv_chain.specs.Undefined.{HasValue, HaveValues}
 
 -- no statement from an ordinal on has a fault
-abbrev pub AreSound : Tables → ℕ → Tables → List Spoken → Type 0
+abbrev pub AreSound : Tables → ℕ → Tables → List Statement → Type 0
 AreSound all k t [] = ⊤
-AreSound all k t (s ∷ ss) = (faults all t k s.says ≡ []) × AreSound all (suc k) (after t k s.says) ss
+AreSound all k t (s ∷ ss) = (faults all t k s.kind ≡ []) × AreSound all (suc k) (after t k s.kind) ss
 
-sound_from : (all : Tables) (k : ℕ) (t : Tables) (ss : List Spoken) → first_fault_from all t k ss ≡ None → AreSound all k t ss
+sound_from : (all : Tables) (k : ℕ) (t : Tables) (ss : List Statement) → first_fault_from all t k ss ≡ None → AreSound all k t ss
 sound_from all k t [] e = tt
 sound_from all k t (s ∷ ss) e =
-    let parts = no_fault s.line (lowest (faults all t k s.says)) (first_fault_from all (after t k s.says) (suc k) ss) e in
-    (no_lowest (faults all t k s.says) parts.0, sound_from all (suc k) (after t k s.says) ss parts.1)
+    let parts = no_fault s.line (lowest (faults all t k s.kind)) (first_fault_from all (after t k s.kind) (suc k) ss) e in
+    (no_lowest (faults all t k s.kind) parts.0, sound_from all (suc k) (after t k s.kind) ss parts.1)
 
-pub sound : (ss : List Spoken) → first_fault ss ≡ None → AreSound (tables ss) 1 at_start ss
+pub sound : (ss : List Statement) → first_fault ss ≡ None → AreSound (tables ss) 1 at_start ss
 sound ss e = sound_from (tables ss) 1 at_start ss e
 
-sound_left : (all : Tables) (k : ℕ) (t : Tables) (ss : List Spoken) (i : ℕ) (s : Spoken) (rest : List Spoken) → drop i ss ≡ s ∷ rest → AreSound all k t ss
-    → faults all (after_all t k (take i ss)) (i + k) s.says ≡ []
+sound_left : (all : Tables) (k : ℕ) (t : Tables) (ss : List Statement) (i : ℕ) (s : Statement) (rest : List Statement) → drop i ss ≡ s ∷ rest → AreSound all k t ss
+    → faults all (after_all t k (take i ss)) (i + k) s.kind ≡ []
 sound_left all k t [] zero s rest e h = absurd (cc)
 sound_left all k t [] (suc i) s rest e h = absurd (cc)
 sound_left all k t (x ∷ xs) zero s rest e h =
     let same : x ≡ s = cc in
-    subst (λ n. faults all t n s.says ≡ []) (let f : k ≡ 0 + k = omega arith in f) (subst (λ (y : Spoken). faults all t k y.says ≡ []) same h.0)
+    subst (λ n. faults all t n s.kind ≡ []) (let f : k ≡ 0 + k = omega arith in f) (subst (λ (y : Statement). faults all t k y.kind ≡ []) same h.0)
 sound_left all k t (x ∷ xs) (suc i) s rest e h =
-    subst (λ n. faults all (after_all (after t k x.says) (suc k) (take i xs)) n s.says ≡ []) (let f : i + suc k ≡ suc i + k = omega arith in f)
-    (sound_left all (suc k) (after t k x.says) xs i s rest e h.1)
+    subst (λ n. faults all (after_all (after t k x.kind) (suc k) (take i xs)) n s.kind ≡ []) (let f : i + suc k ≡ suc i + k = omega arith in f)
+    (sound_left all (suc k) (after t k x.kind) xs i s rest e h.1)
 
 -- of the statement at an index of a source
-pub sound_at : (ss : List Spoken) (i : ℕ) (s : Spoken) (rest : List Spoken) → drop i ss ≡ s ∷ rest → first_fault ss ≡ None → faults (tables ss) (passed ss i) (i + 1) s.says ≡ []
+pub sound_at : (ss : List Statement) (i : ℕ) (s : Statement) (rest : List Statement) → drop i ss ≡ s ∷ rest → first_fault ss ≡ None → faults (tables ss) (passed ss i) (i + 1) s.kind ≡ []
 sound_at ss i s rest e good = sound_left (tables ss) 1 at_start ss i s rest e (sound ss good)
 
 -- ---- the values of data
@@ -63,12 +63,12 @@ directive_values all t k (Values width values) e =
     (faulty_if ((current_section t.opened).executable || (current_section t.opened).nobits) 15 ++ past_section (current_section t.opened).executable (here t).offset (width * length values)) e).0
 directive_values all t k _ e = tt
 
-statement_values : (all t : Tables) (k : ℕ) (says : Statement) → faults all t k says ≡ [] → AllByRecursion (λ e. HasValue (value all true k (stood t k says) e)) (data_values says)
+statement_values : (all t : Tables) (k : ℕ) (says : StatementKind) → faults all t k says ≡ [] → AllByRecursion (λ e. HasValue (value all true k (stood t k says) e)) (data_values says)
 statement_values all t k (Label name) e = tt
 statement_values all t k (Numbered number) e = tt
 statement_values all t k (Instruction mnemonic operands) e = tt
 statement_values all t k (Directs d) e = directive_values all t k d e
 
 -- those of the statement at an index are no faults
-pub values_at : (ss : List Spoken) (i : ℕ) (s : Spoken) (rest : List Spoken) → drop i ss ≡ s ∷ rest → first_fault ss ≡ None → HaveValues ss i (stood (passed ss i) (i + 1) s.says) (data_values s.says)
-values_at ss i s rest e good = statement_values (tables ss) (passed ss i) (i + 1) s.says (sound_at ss i s rest e good)
+pub values_at : (ss : List Statement) (i : ℕ) (s : Statement) (rest : List Statement) → drop i ss ≡ s ∷ rest → first_fault ss ≡ None → HaveValues ss i (stood (passed ss i) (i + 1) s.kind) (data_values s.kind)
+values_at ss i s rest e good = statement_values (tables ss) (passed ss i) (i + 1) s.kind (sound_at ss i s rest e good)

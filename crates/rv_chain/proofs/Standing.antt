@@ -5,8 +5,8 @@ use Rattle.std.specs.Prelude.{slice_get, slice_index_or}
 use Rattle.std.specs.List.{drop-map, AllByRecursion}
 use Rattle.std.proofs.Math.Seq.{drop-cons}
 use Rattle.std.proofs.lemmas.List.{length-map, at_drop_all}
-use Rattle.rv_statement.specs.Statement.{Spoken}
-use Rattle.rv_statement.specs.View.{said_by}
+use Rattle.rv_statement.specs.Statement.{Statement as SpecStatement}
+use Rattle.rv_statement.specs.View.{statement_of}
 use Rattle.rv_statement.specs.declared.statement.Statement.{Statement}
 use Rattle.rv_unit_laws.specs.Sections.{text_section}
 use Rattle.rv_unit_laws.specs.Tables.{Tables, SectionOffset as Standing, at_start, after, after_all, tables, stood, places, places_from}
@@ -18,21 +18,21 @@ use Rattle.rv_source_laws.specs.Located.{Located, located_now, located_from}
 use Rattle.rv_chain_laws.proofs.Homes.{IsHomeIn, homes_from}
 
 -- what is left of the statements of a source, and of their places
-pub stated_left : (file k : ℕ) (t : Tables) (ss : List Spoken) (i : ℕ) → drop i (located_from file k t ss) ≡ located_from file (i + k) (after_all t k (take i ss)) (drop i ss)
+pub stated_left : (file k : ℕ) (t : Tables) (ss : List SpecStatement) (i : ℕ) → drop i (located_from file k t ss) ≡ located_from file (i + k) (after_all t k (take i ss)) (drop i ss)
 stated_left file k t [] zero = refl
 stated_left file k t [] (suc i) = refl
 stated_left file k t (s ∷ ss) zero = ap (λ n. located_from file n t (s ∷ ss)) (let e : k ≡ 0 + k = omega arith in e)
 stated_left file k t (s ∷ ss) (suc i) =
-    stated_left file (suc k) (after t k s.says) ss i
-    ∙ ap (λ n. located_from file n (after_all (after t k s.says) (suc k) (take i ss)) (drop i ss)) (let e : i + suc k ≡ suc i + k = omega arith in e)
+    stated_left file (suc k) (after t k s.kind) ss i
+    ∙ ap (λ n. located_from file n (after_all (after t k s.kind) (suc k) (take i ss)) (drop i ss)) (let e : i + suc k ≡ suc i + k = omega arith in e)
 
-pub places_left : (k : ℕ) (t : Tables) (ss : List Spoken) (i : ℕ) → drop i (places_from t k ss) ≡ places_from (after_all t k (take i ss)) (i + k) (drop i ss)
+pub places_left : (k : ℕ) (t : Tables) (ss : List SpecStatement) (i : ℕ) → drop i (places_from t k ss) ≡ places_from (after_all t k (take i ss)) (i + k) (drop i ss)
 places_left k t [] zero = refl
 places_left k t [] (suc i) = refl
 places_left k t (s ∷ ss) zero = ap (λ n. places_from t n (s ∷ ss)) (let e : k ≡ 0 + k = omega arith in e)
 places_left k t (s ∷ ss) (suc i) =
-    places_left (suc k) (after t k s.says) ss i
-    ∙ ap (λ n. places_from (after_all (after t k s.says) (suc k) (take i ss)) n (drop i ss)) (let e : i + suc k ≡ suc i + k = omega arith in e)
+    places_left (suc k) (after t k s.kind) ss i
+    ∙ ap (λ n. places_from (after_all (after t k s.kind) (suc k) (take i ss)) n (drop i ss)) (let e : i + suc k ≡ suc i + k = omega arith in e)
 
 drop_next : {A B : Type 0} (f : A → B) (d x : A) (xs : List A) (i : ℕ) → i < length xs → x ≡ get_or xs i d → drop i (map f xs) ≡ f x ∷ drop (i + 1) (map f xs)
 drop_next f d x xs i h is =
@@ -73,46 +73,46 @@ got_or (y ∷ ys) zero d x e = cc
 got_or (y ∷ ys) (suc i) d x e = got_or ys i d x e
 
 -- the statement at an index of a source, where it stands
-abbrev pub located_at : List Spoken → ℕ → Spoken → Located
+abbrev pub located_at : List SpecStatement → ℕ → SpecStatement → Located
 located_at ss i s = located_now 1 (i + 1) (passed ss i) s
 
-pub stated_next : (ss : List Spoken) (i : ℕ) (s : Spoken) (rest : List Spoken) → drop i ss ≡ s ∷ rest → drop i (located_from 1 1 at_start ss) ≡ located_at ss i s ∷ drop (i + 1) (located_from 1 1 at_start ss)
+pub stated_next : (ss : List SpecStatement) (i : ℕ) (s : SpecStatement) (rest : List SpecStatement) → drop i ss ≡ s ∷ rest → drop i (located_from 1 1 at_start ss) ≡ located_at ss i s ∷ drop (i + 1) (located_from 1 1 at_start ss)
 stated_next ss i s rest e =
-    left_of (located_from 1 1 at_start ss) i (located_at ss i s) (located_from 1 (suc (i + 1)) (after (passed ss i) (i + 1) s.says) rest)
+    left_of (located_from 1 1 at_start ss) i (located_at ss i s) (located_from 1 (suc (i + 1)) (after (passed ss i) (i + 1) s.kind) rest)
     (stated_left 1 1 at_start ss i ∙ ap (located_from 1 (i + 1) (passed ss i)) e)
 
-pub places_next : (ss : List Spoken) (i : ℕ) (s : Spoken) (rest : List Spoken) → drop i ss ≡ s ∷ rest → drop i (places ss) ≡ stood (passed ss i) (i + 1) s.says ∷ drop (i + 1) (places ss)
+pub places_next : (ss : List SpecStatement) (i : ℕ) (s : SpecStatement) (rest : List SpecStatement) → drop i ss ≡ s ∷ rest → drop i (places ss) ≡ stood (passed ss i) (i + 1) s.kind ∷ drop (i + 1) (places ss)
 places_next ss i s rest e =
-    left_of (places ss) i (stood (passed ss i) (i + 1) s.says) (places_from (after (passed ss i) (i + 1) s.says) (suc (i + 1)) rest)
+    left_of (places ss) i (stood (passed ss i) (i + 1) s.kind) (places_from (after (passed ss i) (i + 1) s.kind) (suc (i + 1)) rest)
     (places_left 1 at_start ss i ∙ ap (places_from (passed ss i) (i + 1)) e)
 
 -- a unit's statement and place at an index
 pub record StandsAt (u : SourceUnit) (i : ℕ) (x : Statement) (p : SectionOffset) : Type 0 where
-  pub here : drop i (said u) ≡ said_by x ∷ drop (i + 1) (said u)
-  pub next : drop i (located_from 1 1 at_start (said u)) ≡ located_at (said u) i (said_by x) ∷ drop (i + 1) (located_from 1 1 at_start (said u))
-  pub place : offset_of p ≡ stood (passed (said u) i) (i + 1) (said_by x).says
-  pub home : slice_get (map extent_section u.tables.extents.items) p.section ≡ Some (located_at (said u) i (said_by x)).home
+  pub here : drop i (said u) ≡ statement_of x ∷ drop (i + 1) (said u)
+  pub next : drop i (located_from 1 1 at_start (said u)) ≡ located_at (said u) i (statement_of x) ∷ drop (i + 1) (located_from 1 1 at_start (said u))
+  pub place : offset_of p ≡ stood (passed (said u) i) (i + 1) (statement_of x).kind
+  pub home : slice_get (map extent_section u.tables.extents.items) p.section ≡ Some (located_at (said u) i (statement_of x)).home
 
-places_length : (k : ℕ) (t : Tables) (ss : List Spoken) → length (places_from t k ss) ≡ length ss
+places_length : (k : ℕ) (t : Tables) (ss : List SpecStatement) → length (places_from t k ss) ≡ length ss
 places_length k t [] = refl
-places_length k t (s ∷ ss) = ap suc (places_length (suc k) (after t k s.says) ss)
+places_length k t (s ∷ ss) = ap suc (places_length (suc k) (after t k s.kind) ss)
 
 -- each statement has a place
 pub places_count : (u : SourceUnit) → IsFilled u → length u.places.items ≡ length u.statements.items
-places_count u f = sym (length-map u.places.items offset_of) ∙ ap length f.stand ∙ places_length 1 at_start (said u) ∙ length-map u.statements.items said_by
+places_count u f = sym (length-map u.places.items offset_of) ∙ ap length f.stand ∙ places_length 1 at_start (said u) ∙ length-map u.statements.items statement_of
 
 pub stands_at : (u : SourceUnit) (i : ℕ) (dx x : Statement) (dp p : SectionOffset) → IsFilled u → i < length u.statements.items → x ≡ get_or u.statements.items i dx → p ≡ get_or u.places.items i dp → StandsAt u i x p
 stands_at u i dx x dp p f inside is at =
     let ss = said u in
-    let here : drop i ss ≡ said_by x ∷ drop (i + 1) ss = drop_next said_by dx x u.statements.items i inside is in
-    let next = stated_next ss i (said_by x) (drop (i + 1) ss) here in
+    let here : drop i ss ≡ statement_of x ∷ drop (i + 1) ss = drop_next statement_of dx x u.statements.items i inside is in
+    let next = stated_next ss i (statement_of x) (drop (i + 1) ss) here in
     let inside' : i < length u.places.items = subst (λ n. i < n) (sym (places_count u f)) inside in
     let seat = drop_next offset_of dp p u.places.items i inside' at in
-    let place : offset_of p ≡ stood (passed ss i) (i + 1) (said_by x).says =
-    first_same (offset_of p) (stood (passed ss i) (i + 1) (said_by x).says) (drop (i + 1) (map offset_of u.places.items)) (drop (i + 1) (places ss))
-    (sym seat ∙ ap (drop i) f.stand ∙ places_next ss i (said_by x) (drop (i + 1) ss) here) in
+    let place : offset_of p ≡ stood (passed ss i) (i + 1) (statement_of x).kind =
+    first_same (offset_of p) (stood (passed ss i) (i + 1) (statement_of x).kind) (drop (i + 1) (map offset_of u.places.items)) (drop (i + 1) (places ss))
+    (sym seat ∙ ap (drop i) f.stand ∙ places_next ss i (statement_of x) (drop (i + 1) ss) here) in
     let homes = homes_from (λ file. (tables ss).opened.sections) 1 1 at_start ss refl (text_section, refl) in
-    let home = all_at (IsHomeIn (λ file. (tables ss).opened.sections)) (located_from 1 1 at_start ss) i (located_at ss i (said_by x)) (drop (i + 1) (located_from 1 1 at_start ss)) next homes in
+    let home = all_at (IsHomeIn (λ file. (tables ss).opened.sections)) (located_from 1 1 at_start ss) i (located_at ss i (statement_of x)) (drop (i + 1) (located_from 1 1 at_start ss)) next homes in
     record {
       here = here;
       next = next;
@@ -122,10 +122,10 @@ stands_at u i dx x dp p f inside is at =
           ∙ ap (λ (q : Standing). slice_get (tables ss).opened.sections q.section) place ∙ home;
     }
 
-stated_length : (file k : ℕ) (t : Tables) (ss : List Spoken) → length (located_from file k t ss) ≡ length ss
+stated_length : (file k : ℕ) (t : Tables) (ss : List SpecStatement) → length (located_from file k t ss) ≡ length ss
 stated_length file k t [] = refl
-stated_length file k t (s ∷ ss) = ap suc (stated_length file (suc k) (after t k s.says) ss)
+stated_length file k t (s ∷ ss) = ap suc (stated_length file (suc k) (after t k s.kind) ss)
 
 -- none is left after the last
-pub stated_none : (ss : List Spoken) (i : ℕ) → length ss ≤ i → drop i (located_from 1 1 at_start ss) ≡ []
+pub stated_none : (ss : List SpecStatement) (i : ℕ) → length ss ≤ i → drop i (located_from 1 1 at_start ss) ≡ []
 stated_none ss i past = at_drop_all (λ l. l) (located_from 1 1 at_start ss) i (subst (λ n. n ≤ i) (sym (stated_length 1 1 at_start ss)) past)

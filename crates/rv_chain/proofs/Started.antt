@@ -4,7 +4,7 @@ use Rattle.std.proofs.Common.{◌≡◌, ℕ, zero, suc, ◌+◌, ◌*◌, ◌/�
 use Rattle.std.proofs.Math.Nat.{mul-mod_left, mul_assoc}
 use Rattle.std.proofs.lemmas.Nat.{div-add-mod', pow_pos}
 use Rattle.std.specs.Prelude.{◌&&◌, if◌then◌else◌, slice_index, slice_index_or, slice_get}
-use Rattle.rv_statement.specs.Statement.{Spoken}
+use Rattle.rv_statement.specs.Statement.{Statement}
 use Rattle.rv_unit_laws.specs.Sections.{Section}
 use Rattle.rv_unit_laws.specs.Tables.{Tables, tables, aligned}
 use Rattle.rv_unit_laws.proofs.Grown.{grown_all}
@@ -21,7 +21,7 @@ use Rattle.rv_link_laws.specs.Suits.{IsMultiple}
 use Rattle.rv_link_laws.proofs.Spread.{bound_for, Stands, all_stand}
 
 -- each section asks to begin at a multiple of one or more
-asks_some : (ss : List Spoken) (j : ℕ) → 0 < slice_index_or (tables ss).alignments j 1
+asks_some : (ss : List Statement) (j : ℕ) → 0 < slice_index_or (tables ss).alignments j 1
 asks_some ss j = let (power, is) = (grown_all 1 ss).powers j in subst (λ n. 0 < n) (sym is) (pow_pos power)
 
 -- the least aligned place after some end
@@ -85,7 +85,7 @@ data_begins : (t : Tables) (j : ℕ) (home : Section) → home.executable ≡ fa
 data_begins t j home data' some =
     ap (λ b. max (if b then 2 else 1) (slice_index_or t.alignments j 1)) (no_code home.loaded home.executable data') ∙ one_or (slice_index_or t.alignments j 1) some
 
-pub started_multiple : (text_start : ℕ) (ss : List Spoken) (last : ℕ → ℕ) (pieces : List Piece) (l : Layout)
+pub started_multiple : (text_start : ℕ) (ss : List Statement) (last : ℕ → ℕ) (pieces : List Piece) (l : Layout)
     → ArePieces (tables ss) last 0 (tables ss).opened.sections pieces → IsLayout text_start pieces l
     → (j : ℕ) (home : Section) → slice_get (tables ss).opened.sections j ≡ Some home → home.loaded ≡ true → home.executable ≡ false
     → (alignment : Option ℕ) → IsMultiple alignment (slice_index_or (tables ss).alignments j 1) → IsMultiple alignment (slice_index l.starts.items j)

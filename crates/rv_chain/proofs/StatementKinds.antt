@@ -3,7 +3,7 @@
 use Rattle.std.proofs.Common.{◌≡◌, ℕ, List, [], ◌++◌, Option, Bool, Result, refl, sym, ap, ◌∙◌, subst, append-nil}
 use Rattle.rv_isa.specs.declared.instruction.Inst.{Inst}
 use Rattle.rv_text_laws.specs.Values as values
-use Rattle.rv_statement.specs.Statement.{Expression, Spoken}
+use Rattle.rv_statement.specs.Statement.{Expression, Statement}
 use Rattle.rv_statement.specs.View.{plain_of, with_expression}
 use Rattle.rv_statement.specs.declared.statement.Operation.{Operation}
 use Rattle.rv_statement.specs.declared.statement.Operation.TheVariants as operations
@@ -51,13 +51,13 @@ built_as : (faults others : List ℕ) (wanted meant : Option (List Inst)) (line 
 built_as faults others wanted meant line r e d h = subst (λ t. IsBuilt t meant line r) e (subst (λ t. IsBuilt faults t line r) d h)
 
 -- what is built of a statement by its kind
-pub plain_built : (p : Plain) (s : Spoken) (o : Options) (v : Expression → values.Value) (compressed : Bool) (r : Result Inst SourceFault) → s.says ≡ plain_of p → o.rvc ≡ compressed → IsBuilt (faulty_if compressed 9 ++ []) (instruction_by (λ e. constant_in (v e)) (plain_of p)) s.line r → IsBuilt (instruction_faults o v s.says) (instruction_by (λ e. constant_in (v e)) s.says) s.line r
+pub plain_built : (p : Plain) (s : Statement) (o : Options) (v : Expression → values.Value) (compressed : Bool) (r : Result Inst SourceFault) → s.kind ≡ plain_of p → o.rvc ≡ compressed → IsBuilt (faulty_if compressed 9 ++ []) (instruction_by (λ e. constant_in (v e)) (plain_of p)) s.line r → IsBuilt (instruction_faults o v s.kind) (instruction_by (λ e. constant_in (v e)) s.kind) s.line r
 plain_built p s o v compressed r e c h =
     built_as _ _ _ _ s.line r
     (ap (λ b. faulty_if b 9 ++ []) (sym c) ∙ sym (plain_faults p o v) ∙ ap (λ t. instruction_faults o v t) (sym e))
     (ap (λ t. instruction_by (λ e. constant_in (v e)) t) (sym e)) h
 
-pub with_built : (operation : Operation) (x : Expression) (s : Spoken) (o : Options) (v : Expression → values.Value) (compressed : Bool) (r : Result Inst SourceFault) → s.says ≡ with_expression operation x → o.rvc ≡ compressed → IsBuilt (faulty_if compressed 9 ++ operand_faults (mnemonic_of operation) (v x)) (numbered operation (constant_in (v x))) s.line r → IsBuilt (instruction_faults o v s.says) (instruction_by (λ e. constant_in (v e)) s.says) s.line r
+pub with_built : (operation : Operation) (x : Expression) (s : Statement) (o : Options) (v : Expression → values.Value) (compressed : Bool) (r : Result Inst SourceFault) → s.kind ≡ with_expression operation x → o.rvc ≡ compressed → IsBuilt (faulty_if compressed 9 ++ operand_faults (mnemonic_of operation) (v x)) (numbered operation (constant_in (v x))) s.line r → IsBuilt (instruction_faults o v s.kind) (instruction_by (λ e. constant_in (v e)) s.kind) s.line r
 with_built operation x s o v compressed r e c h =
     built_as _ _ _ _ s.line r
     (ap (λ b. faulty_if b 9 ++ operand_faults (mnemonic_of operation) (v x)) (sym c) ∙ sym (with_faults operation x o v) ∙ ap (λ t. instruction_faults o v t) (sym e))

@@ -2,7 +2,7 @@
 
 use Rattle.std.proofs.Common.{◌≡◌, ℕ, Bool, true, false, Option}
 use Rattle.rv_text_laws.specs.Values.{Value}
-use Rattle.rv_statement.specs.Statement.{Statement, Label, Numbered, Instruction, Directs, Expression, Directive, Enters, Opens, Globl, Local, Sets, Aligns_to_power, Aligns_to_bytes, Values, Strings, Zeros, Chooses, Ignored}
+use Rattle.rv_statement.specs.Statement.{StatementKind, Label, Numbered, Instruction, Directs, Expression, Directive, Enters, Opens, Globl, Local, Sets, Aligns_to_power, Aligns_to_bytes, Values, Strings, Zeros, Chooses, Ignored}
 use Rattle.rv_unit_laws.specs.Tables.{alignment_of}
 use Rattle.rv_link_laws.specs.declared.item.Item.{Item}
 use Rattle.rv_chain.specs.Measured.{IsSize, is_executed, stretch}
@@ -26,7 +26,7 @@ sized_directive v b x begins (Local names) h = h
 sized_directive v b x begins (Chooses choice) h = h
 sized_directive v b x begins Ignored h = h
 
-pub sized_as : (v : Expression → Value) (b : Bool) (x : Item) (begins : ℕ) (says : Statement) → x.executed ≡ is_executed says → IsSize v b begins x.offset says x.bytes → IsSized v b x begins says
+pub sized_as : (v : Expression → Value) (b : Bool) (x : Item) (begins : ℕ) (says : StatementKind) → x.executed ≡ is_executed says → IsSize v b begins x.offset says x.bytes → IsSized v b x begins says
 sized_as v b x begins (Label name) executed h = (h, executed)
 sized_as v b x begins (Numbered number) executed h = (h, executed)
 sized_as v b x begins (Instruction mnemonic operands) executed h = (h, executed)

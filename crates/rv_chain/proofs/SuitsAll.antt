@@ -5,7 +5,7 @@ use Rattle.std.proofs.lemmas.Bool.{and_parts}
 use Rattle.std.specs.Prelude.{if◌then◌else◌, slice_index, slice_index_or, slice_get}
 use Rattle.std.specs.List.{AllByRecursion}
 use Rattle.rv_text_laws.specs.Values.{Value}
-use Rattle.rv_statement.specs.Statement.{Statement, Label, Numbered, Instruction, Directs, Spoken, Expression, Directive, Sets, Aligns_to_power, Aligns_to_bytes, Values, Strings, Zeros}
+use Rattle.rv_statement.specs.Statement.{StatementKind, Label, Numbered, Instruction, Directs, Statement, Expression, Directive, Sets, Aligns_to_power, Aligns_to_bytes, Values, Strings, Zeros}
 use Rattle.rv_unit_laws.specs.Sections.{Section, text_section}
 use Rattle.rv_unit_laws.specs.Tables.{Tables, at_start, after, tables, alignment_of}
 use Rattle.rv_unit_laws.specs.Faults.{first_fault}
@@ -61,7 +61,7 @@ module _ (k : ℕ) (t : Tables) (starts : List ℕ) (i : Item) (v : Expression �
   directive_suits (Aligns_to_bytes e) placed held none h = alignment_suits e (alignment_of v (Aligns_to_bytes e)) none h
   directive_suits _ placed held none h = absurd (cc)
 
-  statement_suits : (says : Statement) → is_placed t k says ≡ true → IsHeld home says → IsSized v home.executable i asks says → IsCoded v says
+  statement_suits : (says : StatementKind) → is_placed t k says ≡ true → IsHeld home says → IsSized v home.executable i asks says → IsCoded v says
       → Suits v valued home (row_of 1 starts k i) i.offset (slice_index starts i.section) says
   statement_suits (Label name) placed held (bytes, none) coded = (bytes, executed_none i.executed none)
   statement_suits (Numbered number) placed held (bytes, none) coded = (bytes, executed_none i.executed none)
@@ -70,7 +70,7 @@ module _ (k : ℕ) (t : Tables) (starts : List ℕ) (i : Item) (v : Expression �
 
 -- ---- all statements
 
-module _ (ss : List Spoken) (m : Map) (starts : List ℕ) where
+module _ (ss : List Statement) (m : Map) (starts : List ℕ) where
   abbrev all : Tables
   all = tables ss
 
@@ -84,29 +84,29 @@ module _ (ss : List Spoken) (m : Map) (starts : List ℕ) where
       → (alignment : Option ℕ) → IsMultiple alignment (slice_index_or all.alignments j 1) → IsMultiple alignment (slice_index starts j)
 
   abbrev CodedHere : Located → Type 0
-  CodedHere s = IsCoded (λ e. value_at all s e) s.says
+  CodedHere s = IsCoded (λ e. value_at all s e) s.kind
 
-  suits_from : AreStarted → (k : ℕ) (t : Tables) (rest : List Spoken) (is : List Item) (before last : ℕ → ℕ) → AreItems k t before rest is last
+  suits_from : AreStarted → (k : ℕ) (t : Tables) (rest : List Statement) (is : List Item) (before last : ℕ → ℕ) → AreItems k t before rest is last
       → AreSized all k t rest is → AllByRecursion CodedHere (located_from 1 k t rest ++ []) → AreValued p starts k t rest is
       → AllByRecursion Held (located_from 1 k t rest ++ []) → AllByRecursion (IsHomeIn (λ file. all.opened.sections)) (located_from 1 k t rest)
       → AllSuit p starts k t rest is
   suits_from started k t [] is before last items sized coded valued held homes = tt
   suits_from started k t (s ∷ rest) [] before last items sized coded valued held homes = tt
   suits_from started k t (s ∷ rest) (i ∷ is) before last (item, items) (size, sized) (code, coded) (value, valued) (hold, held) (at, homes) =
-      (here, suits_from started (suc k) (after t k s.says) rest is (grown before i) last items sized coded valued held homes)
+      (here, suits_from started (suc k) (after t k s.kind) rest is (grown before i) last items sized coded valued held homes)
     where
       st : Located
       st = located_now 1 k t s
 
-      here : i.shown ≡ true → Suits (form p st) (has_values p (site_of starts k t s i)) st.home (row_of 1 starts k i) i.offset (slice_index starts i.section) s.says
+      here : i.shown ≡ true → Suits (form p st) (has_values p (site_of starts k t s i)) st.home (row_of 1 starts k i) i.offset (slice_index starts i.section) s.kind
       here shown =
-          let parts = and_parts (is_placed t k s.says) st.home.loaded (sym item.shown ∙ shown) in
+          let parts = and_parts (is_placed t k s.kind) st.home.loaded (sym item.shown ∙ shown) in
           let home : slice_get all.opened.sections i.section ≡ Some st.home = ap (λ j. slice_get all.opened.sections j) item.section ∙ at in
           statement_suits k t starts i (form p st) (has_values p (site_of starts k t s i)) st.home (slice_index_or all.alignments i.section 1) (value shown)
-          (started i.section st.home home parts.1) s.says parts.0 hold (size shown) code
+          (started i.section st.home home parts.1) s.kind parts.0 hold (size shown) code
 
 -- of a source without faults that is laid out, with its items, its code and its data
-pub suits_all : (text_start : ℕ) (ss : List Spoken) (is : List Item) (last : ℕ → ℕ) (pieces : List Piece) (l : Layout) (m : Map)
+pub suits_all : (text_start : ℕ) (ss : List Statement) (is : List Item) (last : ℕ → ℕ) (pieces : List Piece) (l : Layout) (m : Map)
     → first_fault ss ≡ None → AreItems 1 at_start (λ j. 0) ss is last → AreSized (tables ss) 1 at_start ss is → AreCoded ss
     → AreValued (program (ss ∷ []) m) l.starts.items 1 at_start ss is → ArePieces (tables ss) last 0 (tables ss).opened.sections pieces → IsLayout text_start pieces l
     → AllSuit (program (ss ∷ []) m) l.starts.items 1 at_start ss is

@@ -7,8 +7,8 @@ use Rattle.std.specs.Prelude.{IfOk}
 use Rattle.rv_lexer.specs.declared.fault.SourceFault.{SourceFault}
 use Rattle.rv_lexer.specs.declared.fault.SourceFault.TheVariants.{At, OutOfMemory}
 use Rattle.rv_lexer.specs.Fault.{number_of}
-use Rattle.rv_statement.specs.Statement.{Spoken}
-use Rattle.rv_statement.specs.View.{said_by}
+use Rattle.rv_statement.specs.Statement.{Statement as SpecStatement}
+use Rattle.rv_statement.specs.View.{statement_of}
 use Rattle.rv_statement.specs.declared.statement.Statement.{Statement}
 use Rattle.rv_unit_laws.specs.Faults.{Fault, lowest}
 use Rattle.rv_unit_laws.specs.Tables.{Tables, SectionOffset as Standing, at_start, tables, value, stood}
@@ -28,62 +28,62 @@ use Rattle.rv_chain.proofs.SoFar.{next_code, wrong_code}
 use Rattle.rv_chain.proofs.Standing.{StandsAt, located_at}
 
 -- the code of the first `i` statements of a source
-abbrev pub CodeTo : List Spoken → ℕ → Coder → Type 0
+abbrev pub CodeTo : List SpecStatement → ℕ → Coder → Type 0
 CodeTo ss i c = IsCodeSoFar (tables ss) (located_from 1 1 at_start ss) (drop i (located_from 1 1 at_start ss)) c
 
 abbrev pub IsCodedBy : Tables → Located → Type 0
-IsCodedBy t s = IsCoded (λ e. value_at t s e) s.says
+IsCodedBy t s = IsCoded (λ e. value_at t s e) s.kind
 
 -- what is added where the statement stands
-added_there : (t : Tables) (o i : ℕ) (c d : Coder) (s : Spoken) (p q : Standing) → p ≡ q → IsAdded c d p.section (λ e. value t true o p e) s → IsAdded c d q.section (λ e. value t true o q e) s
+added_there : (t : Tables) (o i : ℕ) (c d : Coder) (s : SpecStatement) (p q : Standing) → p ≡ q → IsAdded c d p.section (λ e. value t true o p e) s → IsAdded c d q.section (λ e. value t true o q e) s
 added_there t o i c d s p q e h = subst (λ (r : Standing). IsAdded c d r.section (λ e. value t true o r e) s) e h
 
 pub code_more : (u : SourceUnit) (i : ℕ) (x : Statement) (p : SectionOffset) (c d : Coder) → StandsAt u i x p → CodeTo (said u) i c
-    → IsAdded c d p.section (λ e. value (tables (said u)) true (i + 1) (offset_of p) e) (said_by x) → CodeTo (said u) (i + 1) d
+    → IsAdded c d p.section (λ e. value (tables (said u)) true (i + 1) (offset_of p) e) (statement_of x) → CodeTo (said u) (i + 1) d
 code_more u i x p c d at h added =
     let ss = said u in
     let all = located_from 1 1 at_start ss in
-    next_code (tables ss) all (located_at ss i (said_by x)) (drop (i + 1) all) c d
+    next_code (tables ss) all (located_at ss i (statement_of x)) (drop (i + 1) all) c d
     (subst (λ rest. IsCodeSoFar (tables ss) all rest c) at.next h)
-    (added_there (tables ss) (i + 1) i c d (said_by x) (offset_of p) (stood (passed ss i) (i + 1) (said_by x).says) at.place added)
+    (added_there (tables ss) (i + 1) i c d (statement_of x) (offset_of p) (stood (passed ss i) (i + 1) (statement_of x).kind) at.place added)
 
 -- all statements of a source are coded where those from an index on are
-abbrev pub CodedTo : List Spoken → ℕ → Type 0
+abbrev pub CodedTo : List SpecStatement → ℕ → Type 0
 CodedTo ss i =
     AllByRecursion (IsCodedBy (tables ss)) (drop i (located_from 1 1 at_start ss)) → AllByRecursion (IsCodedBy (tables ss)) (located_from 1 1 at_start ss)
 
 pub coded_more : (u : SourceUnit) (i : ℕ) (x : Statement) (p : SectionOffset) (c d : Coder) → StandsAt u i x p → CodedTo (said u) i
-    → IsAdded c d p.section (λ e. value (tables (said u)) true (i + 1) (offset_of p) e) (said_by x) → CodedTo (said u) (i + 1)
+    → IsAdded c d p.section (λ e. value (tables (said u)) true (i + 1) (offset_of p) e) (statement_of x) → CodedTo (said u) (i + 1)
 coded_more u i x p c d at h added rest =
     let ss = said u in
-    let there = added_there (tables ss) (i + 1) i c d (said_by x) (offset_of p) (stood (passed ss i) (i + 1) (said_by x).says) at.place added in
+    let there = added_there (tables ss) (i + 1) i c d (statement_of x) (offset_of p) (stood (passed ss i) (i + 1) (statement_of x).kind) at.place added in
     h (subst (λ l. AllByRecursion (IsCodedBy (tables ss)) l) (sym at.next) (there.coded, rest))
 
 abbrev fault_at : ℕ → ℕ → Option Fault
 fault_at code line = Some (record { code = code; line = line })
 
-code_fault : (ss : List Spoken) (code line at : ℕ) → instruction_fault ss ≡ Some (record { code = code; line = line }) → at ≡ line → else_fault (instruction_fault ss) (size_fault ss) ≡ Some (record { code = code; line = at })
+code_fault : (ss : List SpecStatement) (code line at : ℕ) → instruction_fault ss ≡ Some (record { code = code; line = line }) → at ≡ line → else_fault (instruction_fault ss) (size_fault ss) ≡ Some (record { code = code; line = at })
 code_fault ss code line at e f = ap (λ a. else_fault a (size_fault ss)) e ∙ ap (fault_at code) (sym f)
 
-pub one_file : (ss : List Spoken) → located (ss ∷ []) ≡ located_from 1 1 at_start ss
+pub one_file : (ss : List SpecStatement) → located (ss ∷ []) ≡ located_from 1 1 at_start ss
 one_file ss = append-nil (located_from 1 1 at_start ss)
 
 -- a statement with a fault is the first
 pub code_wrong : (u : SourceUnit) (i : ℕ) (x : Statement) (p : SectionOffset) (c d : Coder) (fault : SourceFault) → StandsAt u i x p → CodeTo (said u) i c
-    → Adds c d p.section (λ e. value (tables (said u)) true (i + 1) (offset_of p) e) (said_by x) (Err fault) → IsSourceCode (said u) (Err fault)
+    → Adds c d p.section (λ e. value (tables (said u)) true (i + 1) (offset_of p) e) (statement_of x) (Err fault) → IsSourceCode (said u) (Err fault)
 code_wrong u i x p c d OutOfMemory at h wrong = tt
 code_wrong u i x p c d (At code line) at h wrong =
     let ss = said u in
     let all = located_from 1 1 at_start ss in
-    let q = stood (passed ss i) (i + 1) (said_by x).says in
+    let q = stood (passed ss i) (i + 1) (statement_of x).kind in
     code_fault ss (number_of code) x.line line
     (ap (λ l. instruction_fault_from (tables ss) first_options l) (one_file ss)
-    ∙ wrong_code (tables ss) all (located_at ss i (said_by x)) (drop (i + 1) all) c (number_of code)
+    ∙ wrong_code (tables ss) all (located_at ss i (statement_of x)) (drop (i + 1) all) c (number_of code)
     (subst (λ rest. IsCodeSoFar (tables ss) all rest c) at.next h)
-    (subst (λ r. lowest (instruction_faults (options_of c.choices) (λ e. value (tables ss) true (i + 1) r e) (said_by x).says) ≡ Some (number_of code)) at.place wrong.0))
+    (subst (λ r. lowest (instruction_faults (options_of c.choices) (λ e. value (tables ss) true (i + 1) r e) (statement_of x).kind) ≡ Some (number_of code)) at.place wrong.0))
     wrong.1
 
-pub code_whole : (ss : List Spoken) (i : ℕ) (c : Coder) (r : Result (Vec (Vec ℕ)) SourceFault) → drop i (located_from 1 1 at_start ss) ≡ [] → CodeTo ss i c
+pub code_whole : (ss : List SpecStatement) (i : ℕ) (c : Coder) (r : Result (Vec (Vec ℕ)) SourceFault) → drop i (located_from 1 1 at_start ss) ≡ [] → CodeTo ss i c
     → ((t : Tables) (all : List Located) → IsCodeSoFar t all [] c → IsCode t all r) → IsSourceCode ss r
 code_whole ss i c r none h finish =
     go r (subst (λ l. IsCode (tables ss) l r) (sym (one_file ss)) (finish (tables ss) (located_from 1 1 at_start ss) (subst (λ l. IsCodeSoFar (tables ss) (located_from 1 1 at_start ss) l c) none h)))
@@ -94,7 +94,7 @@ code_whole ss i c r none h finish =
     go (Err OutOfMemory) h = tt
 
 -- after the last statement all are coded
-pub coded_whole : (ss : List Spoken) (i : ℕ) (r : Result (Vec (Vec ℕ)) SourceFault) → drop i (located_from 1 1 at_start ss) ≡ [] → CodedTo ss i → IfOk r (λ sections. AreCoded ss)
+pub coded_whole : (ss : List SpecStatement) (i : ℕ) (r : Result (Vec (Vec ℕ)) SourceFault) → drop i (located_from 1 1 at_start ss) ≡ [] → CodedTo ss i → IfOk r (λ sections. AreCoded ss)
 coded_whole ss i (Ok sections) none h =
     subst (λ l. AllByRecursion (IsCodedBy (tables ss)) l) (sym (one_file ss)) (h (subst (λ l. AllByRecursion (IsCodedBy (tables ss)) l) (sym none) tt))
 coded_whole ss i (Err fault) none h = tt

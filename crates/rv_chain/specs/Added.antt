@@ -6,7 +6,7 @@ use Rattle.rv_text_laws.specs.Values as values
 use Rattle.rv_lexer.specs.declared.fault.SourceFault.{SourceFault}
 use Rattle.rv_lexer.specs.declared.fault.SourceFault.TheVariants.{At, OutOfMemory}
 use Rattle.rv_lexer.specs.Fault.{number_of}
-use Rattle.rv_statement.specs.Statement.{Expression, Spoken}
+use Rattle.rv_statement.specs.Statement.{Expression, Statement}
 use Rattle.rv_unit_laws.specs.Faults.{lowest}
 use Rattle.rv_unit_laws.specs.Tables.{Tables, tables}
 use Rattle.rv_source_laws.specs.Located.{Located, located}
@@ -19,18 +19,18 @@ use Rattle.rv_chain.specs.Coded.{IsCoded}
 use Rattle.rv_chain.specs.declared.code.Coder.{Coder}
 
 -- a statement without faults, in a section, by the values of its expressions
-pub record IsAdded (old new : Coder) (section : ℕ) (v : Expression → values.Value) (s : Spoken) : Type 0 where
-  pub coded : IsCoded v s.says
-  pub sound : instruction_faults (options_of old.choices) v s.says ≡ []
-  pub size : length (code_said v s.says) ≡ code_size s.says
-  pub options : options_of new.choices ≡ options_after (options_of old.choices) s.says
-  pub grows : GrowsBy old.sections.items new.sections.items section (code_said v s.says)
+pub record IsAdded (old new : Coder) (section : ℕ) (v : Expression → values.Value) (s : Statement) : Type 0 where
+  pub coded : IsCoded v s.kind
+  pub sound : instruction_faults (options_of old.choices) v s.kind ≡ []
+  pub size : length (code_said v s.kind) ≡ code_size s.kind
+  pub options : options_of new.choices ≡ options_after (options_of old.choices) s.kind
+  pub grows : GrowsBy old.sections.items new.sections.items section (code_said v s.kind)
   pub full : full_fault new.full ≡ else_fault (full_fault old.full) (full_at s.line (length (bytes_in new.sections.items section)))
 
 -- a statement is added, or has a fault
-abbrev pub Adds : Coder → Coder → ℕ → (Expression → values.Value) → Spoken → Result ⊤ SourceFault → Type 0
+abbrev pub Adds : Coder → Coder → ℕ → (Expression → values.Value) → Statement → Result ⊤ SourceFault → Type 0
 Adds old new section v s (Ok done) = IsAdded old new section v s
-Adds old new section v s (Err (At code at)) = (lowest (instruction_faults (options_of old.choices) v s.says) ≡ Some (number_of code)) × (at ≡ s.line)
+Adds old new section v s (Err (At code at)) = (lowest (instruction_faults (options_of old.choices) v s.kind) ≡ Some (number_of code)) × (at ≡ s.line)
 Adds old new section v s (Err OutOfMemory) = Unit {0}
 
 -- what is there so far and what the rest gives make up the whole
@@ -48,7 +48,7 @@ IsCode t all (Err (At code line)) =
 IsCode t all (Err OutOfMemory) = ⊥
 
 -- the code of each section of a source, or the first fault of its instructions and their sizes; memory may run out
-abbrev pub IsSourceCode : List Spoken → Result (Vec (Vec ℕ)) SourceFault → Type 0
+abbrev pub IsSourceCode : List Statement → Result (Vec (Vec ℕ)) SourceFault → Type 0
 IsSourceCode ss (Ok sections) =
     (instruction_fault ss ≡ None) × (size_fault ss ≡ None) × ((j : ℕ) → bytes_in sections.items j ≡ section_code (tables ss) j (located (ss ∷ [])))
 IsSourceCode ss (Err (At code line)) = else_fault (instruction_fault ss) (size_fault ss) ≡ Some (record { code = number_of code; line = line })

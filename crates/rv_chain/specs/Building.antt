@@ -1,7 +1,7 @@
 -- What a build makes of the texts of sources.
 
 use Rattle.std.specs.Prelude.{◌≡◌, ℕ, List}
-use Rattle.rv_statement.specs.Statement.{Spoken}
+use Rattle.rv_statement.specs.Statement.{Statement}
 use Rattle.rv_image.specs.Linked.{Linked}
 use Rattle.rv_source_laws.specs.Options.{is_compressed}
 use Rattle.rv_chain_laws.specs.Contents.{IsLinked}
@@ -9,7 +9,7 @@ use Rattle.rv_chain_laws.specs.Headline.{AllRead, TheHeadline}
 
 -- the linked program of the statements that the texts read as, flagged where they have compressed code
 pub record IsProgramOf (texts : List (List ℕ)) (start : ℕ) (l : Linked) : Type 0 where
-  pub sources : List (List Spoken)
+  pub sources : List (List Statement)
   pub read : AllRead texts sources
   pub linked : IsLinked sources start l
   pub flag : l.rvc ≡ is_compressed sources

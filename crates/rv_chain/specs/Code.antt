@@ -21,7 +21,7 @@ use Rattle.rv_statement.specs.declared.mnemonic.Mnemonic.{Mnemonic}
 use Rattle.rv_statement.specs.declared.mnemonic.Mnemonic.TheVariants as mnemonics
 use Rattle.rv_statement.specs.declared.statement.Operation.{Operation}
 use Rattle.rv_statement.specs.declared.statement.Operation.TheVariants as operations
-use Rattle.rv_statement.specs.Statement.{Statement, Instruction, Expression, Spoken}
+use Rattle.rv_statement.specs.Statement.{StatementKind, Instruction, Expression, Statement}
 use Rattle.rv_parse_laws.specs.Syntax.{with_constant}
 use Rattle.rv_unit_laws.specs.Faults.{Fault, lowest, at_line, constant_faults}
 use Rattle.rv_unit_laws.specs.Tables.{Tables, value, longest_section}
@@ -37,7 +37,7 @@ use Rattle.rv_link_laws.specs.Suits.{constant_in, code_said}
 -- ---- one instruction
 
 -- the instruction of a statement, by the values of its expressions
-abbrev pub instruction_by : (Expression → ℕ) → Statement → Option (List Inst)
+abbrev pub instruction_by : (Expression → ℕ) → StatementKind → Option (List Inst)
 instruction_by v (Instruction mnemonic operands) = expanded v mnemonic operands
 instruction_by v _ = None
 
@@ -95,11 +95,11 @@ abbrev pub Evaluates : (Bor Expr → Result Value SourceFault → Type 0) → �
 Evaluates gives line v = (e : Bor Expr) (outcome : Result Value SourceFault) → gives e outcome → IsOutcome outcome line (v (tree_of_expr e.now))
 
 -- the instruction of a statement that is one, or the lowest code of its faults, at its line
-abbrev pub Codes : Options → (Expression → values.Value) → Spoken → Result (Option Inst) SourceFault → Type 0
-Codes o v s (Ok None) = (instruction_faults o v s.says ≡ []) × (code_said v s.says ≡ []) × (code_size s.says ≡ 0)
+abbrev pub Codes : Options → (Expression → values.Value) → Statement → Result (Option Inst) SourceFault → Type 0
+Codes o v s (Ok None) = (instruction_faults o v s.kind ≡ []) × (code_said v s.kind ≡ []) × (code_size s.kind ≡ 0)
 Codes o v s (Ok (Some i)) =
-    (instruction_faults o v s.says ≡ []) × (instruction_by (λ e. constant_in (v e)) s.says ≡ Some (i ∷ [])) × IsValid i × (code_size s.says ≡ 4)
-Codes o v s (Err (At code at)) = (lowest (instruction_faults o v s.says) ≡ Some (number_of code)) × (at ≡ s.line)
+    (instruction_faults o v s.kind ≡ []) × (instruction_by (λ e. constant_in (v e)) s.kind ≡ Some (i ∷ [])) × IsValid i × (code_size s.kind ≡ 4)
+Codes o v s (Err (At code at)) = (lowest (instruction_faults o v s.kind) ≡ Some (number_of code)) × (at ≡ s.line)
 Codes o v s (Err OutOfMemory) = ⊥
 
 -- ---- the code of sections
@@ -127,7 +127,7 @@ abbrev pub value_at : Tables → Located → Expression → values.Value
 value_at t s e = value t true s.ordinal (place_of s) e
 
 abbrev pub section_code : Tables → ℕ → List Located → List ℕ
-section_code t section ss = flat_map (λ s. code_said (value_at t s) s.says) (filter (λ s. section == s.section) ss)
+section_code t section ss = flat_map (λ s. code_said (value_at t s) s.kind) (filter (λ s. section == s.section) ss)
 
 -- a section of code that is too long, at a line
 abbrev pub full_fault : Option ℕ → Option Fault

@@ -4,16 +4,16 @@ use Rattle.std.specs.Prelude.{⊤, List, [], ◌∷◌}
 use Rattle.std.specs.List.{AllByRecursion}
 use Rattle.rv_isa.specs.declared.instruction.Inst.{Inst}
 use Rattle.rv_text_laws.specs.Values.{Value}
-use Rattle.rv_statement.specs.Statement.{Statement, Instruction, Spoken, Expression}
+use Rattle.rv_statement.specs.Statement.{StatementKind, Instruction, Statement, Expression}
 use Rattle.rv_unit_laws.specs.Tables.{tables}
 use Rattle.rv_source_laws.specs.Located.{located}
 use Rattle.rv_link_laws.specs.Suits.{IsInstruction}
 use Rattle.rv_chain.specs.Code.{value_at}
 
 -- an instruction of a statement is one that is valid, by constants
-abbrev pub IsCoded : (Expression → Value) → Statement → Type 0
+abbrev pub IsCoded : (Expression → Value) → StatementKind → Type 0
 IsCoded v (Instruction mnemonic operands) = (i : Inst) × IsInstruction v (Instruction mnemonic operands) i
 IsCoded v _ = ⊤
 
-abbrev pub AreCoded : List Spoken → Type 0
-AreCoded ss = AllByRecursion (λ s. IsCoded (λ e. value_at (tables ss) s e) s.says) (located (ss ∷ []))
+abbrev pub AreCoded : List Statement → Type 0
+AreCoded ss = AllByRecursion (λ s. IsCoded (λ e. value_at (tables ss) s e) s.kind) (located (ss ∷ []))

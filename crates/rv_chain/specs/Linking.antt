@@ -2,7 +2,7 @@
 
 use Rattle.std.specs.Prelude.{◌≡◌, ℕ, ◌%◌, Bool, true, false, List, [], ◌++◌, filter, map, not, Some, codes}
 use Rattle.std.specs.Global.{Vec}
-use Rattle.rv_statement.specs.Statement.{Spoken}
+use Rattle.rv_statement.specs.Statement.{Statement}
 use Rattle.rv_unit_laws.specs.Tables.{tables, at_start}
 use Rattle.rv_map.specs.Map.{Map, Global}
 use Rattle.rv_image.specs.Linked.{Linked}
@@ -19,7 +19,7 @@ use Rattle.rv_chain.specs.Sized.{AreSized}
 use Rattle.rv_chain.specs.declared.placed.Placed.{Placed}
 
 -- the statements and the sections have their places, from a text start on
-pub record StandsFrom (ss : List Spoken) (start : ℕ) (x : Placed) : Type 0 where
+pub record StandsFrom (ss : List Statement) (start : ℕ) (x : Placed) : Type 0 where
   pub last : ℕ → ℕ
   pub items : AreItems 1 at_start (λ j. 0) ss x.items.items last
   pub sized : AreSized (tables ss) 1 at_start ss x.items.items
@@ -31,17 +31,17 @@ abbrev pub map_from : Placed → ℕ → List Global → Map
 map_from x entry globals = map_of x.layout entry globals (rows_from 1 x.layout.starts.items 1 x.items.items)
 
 -- the names that the map shows: those that the source makes global, and the linker's that it leaves
-abbrev pub shown_names : List Spoken → Placed → List Global
+abbrev pub shown_names : List Statement → Placed → List Global
 shown_names ss x =
     let is_global = λ (name : List ℕ). is_global_after false ss name in
     definitions_from is_global (tables ss) x.layout.starts.items x.items.items 1 ss x.items.items
     ++ filter (λ g. not (is_one_of (names_from is_global (tables ss) 1 ss) g.name)) (linker_symbols (map_from x 0 []))
 
-abbrev pub AreNamed : List Spoken → Placed → List Global → Type 0
+abbrev pub AreNamed : List Statement → Placed → List Global → Type 0
 AreNamed ss x globals = globals ≡ shown_names ss x
 
 -- a run begins at the global label `_start`, at an even place
-abbrev pub Begins : List Spoken → Placed → ℕ → Type 0
+abbrev pub Begins : List Statement → Placed → ℕ → Type 0
 Begins ss x entry =
     (is_global_after false ss (codes "_start") ≡ true) × (entry_from x.layout.starts.items ss x.items.items ≡ Some entry) × (entry % 2 ≡ 0)
 

@@ -2,7 +2,7 @@
 
 use Rattle.std.specs.Prelude.{◌≡◌, ℕ, ◌+◌, ◌*◌, ◌≤◌, Bool, true, false, ⊤, List, length, map, Option, Some, slice_get, slice_index_or}
 use Rattle.rv_text_laws.specs.Values.{Value, Constant}
-use Rattle.rv_statement.specs.Statement.{Statement, Label, Numbered, Instruction, Directs, Expression, Directive, Aligns_to_power, Aligns_to_bytes, Values, Strings, Zeros}
+use Rattle.rv_statement.specs.Statement.{StatementKind, Label, Numbered, Instruction, Directs, Expression, Directive, Aligns_to_power, Aligns_to_bytes, Values, Strings, Zeros}
 use Rattle.rv_unit_laws.specs.Tables.{alignment_of, padding, string_bytes, longest_section}
 use Rattle.rv_tables.specs.declared.section.Extent.{Extent}
 use Rattle.rv_tables.specs.Sections.{extent_section}
@@ -17,14 +17,14 @@ stretch offset bytes = record { section = 0; offset = offset; bytes = bytes; lin
 
 -- the bytes of a statement that has a row, by the values of its expressions: in a section of code or not, that asks to begin
 -- at this multiple, after `offset` bytes
-abbrev pub IsSize : (Expression → Value) → Bool → ℕ → ℕ → Statement → ℕ → Type 0
+abbrev pub IsSize : (Expression → Value) → Bool → ℕ → ℕ → StatementKind → ℕ → Type 0
 IsSize v executable begins offset (Label name) bytes = bytes ≡ 0
 IsSize v executable begins offset (Numbered number) bytes = bytes ≡ 0
 IsSize v executable begins offset (Instruction mnemonic operands) bytes = bytes ≡ 4
 IsSize v executable begins offset (Directs directive) bytes = IsSizedDirective v executable (stretch offset bytes) begins directive
 
 -- whether a statement is executed
-abbrev pub is_executed : Statement → Bool
+abbrev pub is_executed : StatementKind → Bool
 is_executed (Instruction mnemonic operands) = true
 is_executed _ = false
 
@@ -57,11 +57,11 @@ HasSizeDirective v executable begins offset (Aligns_to_power e) = CanAlign (v e)
 HasSizeDirective v executable begins offset (Aligns_to_bytes e) = CanAlign (v e) executable begins offset (alignment_of v (Aligns_to_bytes e))
 HasSizeDirective v executable begins offset _ = ⊤
 
-abbrev pub HasSize : (Expression → Value) → Bool → ℕ → ℕ → Statement → Type 0
+abbrev pub HasSize : (Expression → Value) → Bool → ℕ → ℕ → StatementKind → Type 0
 HasSize v executable begins offset (Directs directive) = HasSizeDirective v executable begins offset directive
 HasSize v executable begins offset _ = ⊤
 
 -- and its section has room for it
-pub record HasRoom (v : Expression → Value) (executable : Bool) (begins offset : ℕ) (says : Statement) : Type 0 where
+pub record HasRoom (v : Expression → Value) (executable : Bool) (begins offset : ℕ) (says : StatementKind) : Type 0 where
   pub size : HasSize v executable begins offset says
   pub room : (n : ℕ) → IsSize v executable begins offset says n → offset + n ≤ longest_section

@@ -2,7 +2,7 @@
 
 use Rattle.std.specs.Prelude.{◌≡◌, ℕ, suc, ◌*◌, Bool, true, false, ⊤, List, ◌∷◌, length, Option, slice_index_or}
 use Rattle.rv_text_laws.specs.Values.{Value, Constant}
-use Rattle.rv_statement.specs.Statement.{Statement, Label, Numbered, Instruction, Directs, Spoken, Expression, Directive, Sets, Aligns_to_power, Aligns_to_bytes, Values, Strings, Zeros}
+use Rattle.rv_statement.specs.Statement.{StatementKind, Label, Numbered, Instruction, Directs, Statement, Expression, Directive, Sets, Aligns_to_power, Aligns_to_bytes, Values, Strings, Zeros}
 use Rattle.rv_unit_laws.specs.Tables.{Tables, after, alignment_of, padding, string_bytes}
 use Rattle.rv_source_laws.specs.Located.{located_now}
 use Rattle.rv_source_laws.specs.Fits.{is_constant, is_low}
@@ -29,15 +29,15 @@ IsSizedDirective v executable i begins (Aligns_to_bytes e) = IsAligned (v e) exe
 IsSizedDirective v executable i begins _ = ⊤
 
 -- an instruction is one that is executed, and has four bytes
-abbrev pub IsSized : (Expression → Value) → Bool → Item → ℕ → Statement → Type 0
+abbrev pub IsSized : (Expression → Value) → Bool → Item → ℕ → StatementKind → Type 0
 IsSized v executable i begins (Label name) = (i.bytes ≡ 0) × (i.executed ≡ false)
 IsSized v executable i begins (Numbered number) = (i.bytes ≡ 0) × (i.executed ≡ false)
 IsSized v executable i begins (Instruction mnemonic operands) = (i.bytes ≡ 4) × (i.executed ≡ true)
 IsSized v executable i begins (Directs directive) = (i.executed ≡ false) × IsSizedDirective v executable i begins directive
 
 -- of each statement that has a row: `all` are the tables of the whole source, `t` those before the statement
-abbrev pub AreSized : Tables → ℕ → Tables → List Spoken → List Item → Type 0
+abbrev pub AreSized : Tables → ℕ → Tables → List Statement → List Item → Type 0
 AreSized all k t (s ∷ ss) (i ∷ is) =
-    (i.shown ≡ true → IsSized (λ e. value_at all (located_now 1 k t s) e) (located_now 1 k t s).home.executable i (slice_index_or all.alignments i.section 1) s.says)
-    × AreSized all (suc k) (after t k s.says) ss is
+    (i.shown ≡ true → IsSized (λ e. value_at all (located_now 1 k t s) e) (located_now 1 k t s).home.executable i (slice_index_or all.alignments i.section 1) s.kind)
+    × AreSized all (suc k) (after t k s.kind) ss is
 AreSized all k t ss is = ⊤

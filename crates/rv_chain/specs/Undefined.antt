@@ -5,7 +5,7 @@ use Rattle.std.specs.Borrow.{Bor}
 use Rattle.std.specs.List.{AllByRecursion}
 use Rattle.rv_text_laws.specs.Values.{Value, Faulty}
 use Rattle.rv_text_laws.specs.Expression.{Primary}
-use Rattle.rv_statement.specs.Statement.{Spoken, Expression}
+use Rattle.rv_statement.specs.Statement.{Statement, Expression}
 use Rattle.rv_statement.specs.View.{now_of}
 use Rattle.rv_unit_laws.specs.Tables.{SectionOffset, tables, at_start, definition, value}
 use Rattle.rv_unit.specs.Unit.{said, IsFilled, IsScope}
@@ -21,11 +21,11 @@ shown_by k [] ordinal = false
 shown_by k (i ∷ is) ordinal = ((k == ordinal) && i.shown) || shown_by (suc k) is ordinal
 
 -- whether what the statement at an index names has an address
-abbrev pub addressed : List Spoken → ℕ → Primary → Bool
+abbrev pub addressed : List Statement → ℕ → Primary → Bool
 addressed ss index q = has_address_by (located (ss ∷ [])) q (definition (tables ss) (index + 1) q)
 
 -- what expressions of the statement at an index refer to without an address
-abbrev pub missing_at : List Spoken → ℕ → SectionOffset → List Expression → List (List ℕ)
+abbrev pub missing_at : List Statement → ℕ → SectionOffset → List Expression → List (List ℕ)
 missing_at ss index place es = flat_map (λ e. missing_in (addressed ss index) (value (tables ss) true (index + 1) place e)) es
 
 -- the statement at an index is next, and the statements have these items
@@ -41,7 +41,7 @@ HasValue (Faulty code) = ⊥
 HasValue _ = ⊤
 
 -- expressions of the statement at an index
-abbrev pub HaveValues : List Spoken → ℕ → SectionOffset → List Expression → Type 0
+abbrev pub HaveValues : List Statement → ℕ → SectionOffset → List Expression → Type 0
 HaveValues ss index place es = AllByRecursion (λ e. HasValue (value (tables ss) true (index + 1) place e)) es
 
 -- what is found is the first of the names
@@ -57,7 +57,7 @@ else_name None other = other
 else_name (Some name) other = Some name
 
 -- the first name of the statements of a section
-abbrev pub first_in : List Spoken → ℕ → Option (List ℕ)
+abbrev pub first_in : List Statement → ℕ → Option (List ℕ)
 first_in ss j = first_name (flat_map (missing_by ss) (filter (λ s. s.section == j) (located (ss ∷ []))))
 
 -- the first that was found

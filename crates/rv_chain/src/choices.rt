@@ -1,7 +1,7 @@
 //! What `.option` chooses.
 
 ghost use Rattle.std.specs.Prelude.{◌≡◌, ◌∷◌, reverse, IfOk};
-ghost use Rattle.rv_statement.specs.View.{statement_of};
+ghost use Rattle.rv_statement.specs.View.{statement_kind};
 ghost use Rattle.rv_source_laws.specs.Options as laws;
 ghost use Rattle.rv_chain.specs.Choices.{options_of};
 
@@ -51,7 +51,7 @@ impl Choices {
 
     /// What a statement says of them.
     pub(crate) fn follow(&mut self, statement: &StatementKind<'_>) -> Result<(), AllocError>
-        ensures { IfOk result (λ _. options_of self.new ≡ laws.options_after (options_of self.old) (statement_of statement.now)) }
+        ensures { IfOk result (λ _. options_of self.new ≡ laws.options_after (options_of self.old) (statement_kind statement.now)) }
     {
         match statement {
             StatementKind::Chooses(choice) => self.choose(*choice),

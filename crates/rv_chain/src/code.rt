@@ -4,7 +4,7 @@ ghost use Rattle.std.specs.Prelude.{◌≡◌, ◌<◌, ℕ, ◌+◌, true, List
 ghost use Rattle.rv_isa.specs.Ranges.{IsValid};
 ghost use Rattle.rv_text_laws.specs.Values as values;
 ghost use Rattle.rv_statement.specs.Statement.{Expression};
-ghost use Rattle.rv_statement.specs.View.{said_by};
+ghost use Rattle.rv_statement.specs.View.{statement_of};
 ghost use Rattle.rv_unit_laws.specs.Tables.{Tables, tables, value as value_of};
 ghost use Rattle.rv_tables.specs.Sections.{offset_of};
 ghost use Rattle.rv_unit.specs.Unit.{said, IsFilled, IsScope};
@@ -128,7 +128,7 @@ impl Coder {
     ) -> Result<(), SourceFault>
         requires callable { F.IsAlwaysCallable value.now }
         requires section { section < length self.old.sections.items }
-        ensures { (v : Expression → values.Value) → Evaluates (F.post value.now) statement.now.line v → Adds self.old self.new section v (said_by statement.now) result }
+        ensures { (v : Expression → values.Value) → Evaluates (F.post value.now) statement.now.line v → Adds self.old self.new section v (statement_of statement.now) result }
     {
         match instruction(statement, self.choices.rvc, value) {
             Ok(found) => self.add_found(statement, section, found),
@@ -145,7 +145,7 @@ impl Coder {
     ) -> Result<(), SourceFault>
         requires valid { IfSome found IsValid }
         requires section { section < length self.old.sections.items }
-        ensures { (v : Expression → values.Value) → Codes (options_of self.old.choices) v (said_by statement.now) (Ok found) → Adds self.old self.new section v (said_by statement.now) result }
+        ensures { (v : Expression → values.Value) → Codes (options_of self.old.choices) v (statement_of statement.now) (Ok found) → Adds self.old self.new section v (statement_of statement.now) result }
     {
         put_found(self.sections.as_mut_slice(), section, found)?;
         let bytes = bytes_in(self.sections.as_slice(), section);
@@ -163,7 +163,7 @@ fn put_code(
     place: SectionOffset,
 ) -> Result<(), SourceFault>
     requires { place.section < length coder.old.sections.items }
-    ensures { (index : ℕ) → IsFilled (scope.now).unit.now → IsScope scope.now index → Adds coder.old coder.new place.section (λ e. value_of (tables (said (scope.now).unit.now)) true (index + 1) (offset_of place) e) (said_by statement.now) result }
+    ensures { (index : ℕ) → IsFilled (scope.now).unit.now → IsScope scope.now index → Adds coder.old coder.new place.section (λ e. value_of (tables (said (scope.now).unit.now)) true (index + 1) (offset_of place) e) (statement_of statement.now) result }
 {
     let line = statement.line;
     coder.add(statement, place.section, &|e| scope.value(place, e, line))

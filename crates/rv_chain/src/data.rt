@@ -1,7 +1,7 @@
 //! The bytes of a source's data.
 
 ghost use Rattle.std.specs.Prelude.{◌≡◌, ◌<◌, ◌+◌, true, false, List, None, length, map, IfOk, OnOk};
-ghost use Rattle.rv_statement.specs.View.{statement_of};
+ghost use Rattle.rv_statement.specs.View.{statement_kind};
 ghost use Rattle.rv_unit_laws.specs.Faults.{first_fault};
 ghost use Rattle.rv_tables.specs.Sections.{section_of};
 ghost use Rattle.rv_unit.specs.Unit.{said, IsFilled, IsScope};
@@ -25,7 +25,7 @@ fn put_bytes<'a>(
     numbers: &Numbers<'_, '_, 'a>,
 ) -> Result<(), DataFault<'a>>
     requires section { section < length sections.old }
-    ensures spells { OnOk result (Spells numbers.now (statement_of kind.now) count sections.old sections.new section) }
+    ensures spells { OnOk result (Spells numbers.now (statement_kind kind.now) count sections.old sections.new section) }
     ensures count { length sections.new ≡ length sections.old }
 {
     put_data(
@@ -45,7 +45,7 @@ fn put_figure<'a>(
     numbers: &Numbers<'_, '_, 'a>,
 ) -> Result<(), DataFault<'a>>
     requires section { (numbers.now).place.section < length sections.old }
-    ensures put { OnOk result (is_figure item (section_of section.entry) ≡ true → Spells numbers.now (statement_of kind.now) item.bytes sections.old sections.new (numbers.now).place.section) }
+    ensures put { OnOk result (is_figure item (section_of section.entry) ≡ true → Spells numbers.now (statement_kind kind.now) item.bytes sections.old sections.new (numbers.now).place.section) }
     ensures left { OnOk result (is_figure item (section_of section.entry) ≡ false → sections.new ≡ sections.old) }
     ensures count { length sections.new ≡ length sections.old }
 {

@@ -8,9 +8,9 @@ ghost use Rattle.rv_isa.specs.Ranges.{IsValid, IsSigned12};
 ghost use Rattle.rv_text_laws.specs.Values as values;
 ghost use Rattle.rv_lexer.specs.declared.fault.SourceCode.TheVariants.{ImmediateRange};
 ghost use Rattle.rv_text.specs.Eval.{IsOutcome};
-ghost use Rattle.rv_statement.specs.Statement.{Expression, Spoken};
+ghost use Rattle.rv_statement.specs.Statement.{Expression, Statement as SpecStatement};
 ghost use Rattle.rv_statement.specs.declared.statement.Operation.TheVariants.{Li};
-ghost use Rattle.rv_statement.specs.View.{plain_of, said_by};
+ghost use Rattle.rv_statement.specs.View.{plain_of, statement_of};
 ghost use Rattle.rv_parse_laws.specs.Syntax as syntax;
 ghost use Rattle.rv_unit_laws.specs.Faults.{faulty_if};
 ghost use Rattle.rv_source_laws.specs.Written as laws;
@@ -233,7 +233,7 @@ pub(crate) fn as_word(
 /// What was built, as what a statement has.
 fn found(built: Result<Inst, SourceFault>) -> Result<Option<Inst>, SourceFault>
     ensures valid { IfOk built IsValid → IfOk result (λ f. IfSome f IsValid) }
-    ensures codes { (o : Options) (v : Expression → values.Value) (s : Spoken) → IsBuilt (instruction_faults o v s.says) (instruction_by (λ e. constant_in (v e)) s.says) s.line built → code_size s.says ≡ 4 → Codes o v s result }
+    ensures codes { (o : Options) (v : Expression → values.Value) (s : SpecStatement) → IsBuilt (instruction_faults o v s.kind) (instruction_by (λ e. constant_in (v e)) s.kind) s.line built → code_size s.kind ≡ 4 → Codes o v s result }
 {
     let inst = built?;
     Ok(Some(inst))
@@ -247,7 +247,7 @@ pub(crate) fn instruction<'a, F: Fn(&Expr<'a>) -> Result<Value<'a>, SourceFault>
 ) -> Result<Option<Inst>, SourceFault>
     requires { F.IsAlwaysCallable value.now }
     ensures valid { IfOk result (λ f. IfSome f IsValid) }
-    ensures codes { (o : Options) (v : Expression → values.Value) → o.rvc ≡ compressed → Evaluates (F.post value.now) statement.now.line v → Codes o v (said_by statement.now) result }
+    ensures codes { (o : Options) (v : Expression → values.Value) → o.rvc ≡ compressed → Evaluates (F.post value.now) statement.now.line v → Codes o v (statement_of statement.now) result }
 {
     let line = statement.line;
     match &statement.kind {

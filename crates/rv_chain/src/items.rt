@@ -5,7 +5,7 @@ ghost use Rattle.std.specs.Prelude.{◌≡◌, ◌&&◌, ◌+◌, ◌*◌, ◌<�
 ghost use Rattle.rv_text_laws.specs.Values as values;
 ghost use Rattle.rv_text.specs.Eval.{IsOutcome};
 ghost use Rattle.rv_lexer.specs.declared.fault.SourceFault.TheVariants.{OutOfMemory};
-ghost use Rattle.rv_statement.specs.View.{bytes_of, quoted, statement_of};
+ghost use Rattle.rv_statement.specs.View.{bytes_of, quoted, statement_kind};
 ghost use Rattle.rv_unit_laws.specs.Faults.{first_fault};
 ghost use Rattle.rv_unit_laws.specs.Sections.{goes_to_text};
 ghost use Rattle.rv_unit_laws.specs.Tables as laws;
@@ -169,9 +169,9 @@ fn size(
     offset: u32,
 ) -> Result<u32, SourceFault>
     ensures size { IfOk result (λ n. (index : ℕ) → IsFilled (scope.now).unit.now → IsScope scope.now index
-        → IsSize (λ e. laws.value (laws.tables (said (scope.now).unit.now)) true (index + 1) (offset_of place) e) (extent.entry).section.executable (extent.entry).alignment offset (statement_of (statement.now).kind) n) }
+        → IsSize (λ e. laws.value (laws.tables (said (scope.now).unit.now)) true (index + 1) (offset_of place) e) (extent.entry).section.executable (extent.entry).alignment offset (statement_kind (statement.now).kind) n) }
     ensures refuses { IfErr result (λ _. (index : ℕ) → IsFilled (scope.now).unit.now → IsScope scope.now index
-        → HasSize (λ e. laws.value (laws.tables (said (scope.now).unit.now)) true (index + 1) (offset_of place) e) (extent.entry).section.executable (extent.entry).alignment offset (statement_of (statement.now).kind) → ⊥) }
+        → HasSize (λ e. laws.value (laws.tables (said (scope.now).unit.now)) true (index + 1) (offset_of place) e) (extent.entry).section.executable (extent.entry).alignment offset (statement_kind (statement.now).kind) → ⊥) }
 {
     let line = statement.line;
     match &statement.kind {
@@ -211,9 +211,9 @@ fn shown_size(
 ) -> Result<u32, SourceFault>
     ensures absent { IfOk result (λ n. shown ≡ false → n ≡ 0) }
     ensures size { IfOk result (λ n. (index : ℕ) → IsFilled (scope.now).unit.now → IsScope scope.now index → shown ≡ true
-        → IsSize (λ e. laws.value (laws.tables (said (scope.now).unit.now)) true (index + 1) (offset_of place) e) (extent.entry).section.executable (extent.entry).alignment offset (statement_of (statement.now).kind) n) }
+        → IsSize (λ e. laws.value (laws.tables (said (scope.now).unit.now)) true (index + 1) (offset_of place) e) (extent.entry).section.executable (extent.entry).alignment offset (statement_kind (statement.now).kind) n) }
     ensures refuses { IfErr result (λ _. (index : ℕ) → IsFilled (scope.now).unit.now → IsScope scope.now index
-        → (shown ≡ true → HasSize (λ e. laws.value (laws.tables (said (scope.now).unit.now)) true (index + 1) (offset_of place) e) (extent.entry).section.executable (extent.entry).alignment offset (statement_of (statement.now).kind)) → ⊥) }
+        → (shown ≡ true → HasSize (λ e. laws.value (laws.tables (said (scope.now).unit.now)) true (index + 1) (offset_of place) e) (extent.entry).section.executable (extent.entry).alignment offset (statement_kind (statement.now).kind)) → ⊥) }
 {
     if !shown {
         return Ok(0);
@@ -223,15 +223,15 @@ fn shown_size(
 
 /// Whether a statement is executed.
 fn executed(kind: &StatementKind<'_>) -> bool
-    ensures { result ≡ is_executed (statement_of kind.now) }
+    ensures { result ≡ is_executed (statement_kind kind.now) }
 {
     matches!(kind, StatementKind::Plain(_) | StatementKind::With(..))
 }
 
 /// Whether the statement that is next, which stands at the place, has a row where its section is loaded.
 fn placed<'a>(scope: &Scope<'_, 'a>, place: SectionOffset, kind: &StatementKind<'a>) -> bool
-    ensures { (index : ℕ) → IsFilled (scope.now).unit.now → IsScope scope.now index → offset_of place ≡ laws.stood (passed (said (scope.now).unit.now) index) (index + 1) (statement_of kind.now)
-        → result ≡ is_placed (passed (said (scope.now).unit.now) index) (index + 1) (statement_of kind.now) }
+    ensures { (index : ℕ) → IsFilled (scope.now).unit.now → IsScope scope.now index → offset_of place ≡ laws.stood (passed (said (scope.now).unit.now) index) (index + 1) (statement_kind kind.now)
+        → result ≡ is_placed (passed (said (scope.now).unit.now) index) (index + 1) (statement_kind kind.now) }
 {
     match kind {
         StatementKind::Sets(setting) => scope.gives_location(place, setting),
@@ -300,16 +300,16 @@ fn next_item<'a>(
     ensures offset { IfOk result (λ x. x.offset ≡ offset) }
     ensures line { IfOk result (λ x. x.line ≡ (statement.now).line) }
     ensures text { IfOk result (λ x. x.text ≡ goes_to_text (section_of (extent.now).section)) }
-    ensures shown { IfOk result (λ x. (index : ℕ) → IsFilled (scope.now).unit.now → IsScope scope.now index → offset_of place ≡ laws.stood (passed (said (scope.now).unit.now) index) (index + 1) (statement_of (statement.now).kind)
-        → x.shown ≡ (is_placed (passed (said (scope.now).unit.now) index) (index + 1) (statement_of (statement.now).kind) && (extent.now).section.loaded)) }
+    ensures shown { IfOk result (λ x. (index : ℕ) → IsFilled (scope.now).unit.now → IsScope scope.now index → offset_of place ≡ laws.stood (passed (said (scope.now).unit.now) index) (index + 1) (statement_kind (statement.now).kind)
+        → x.shown ≡ (is_placed (passed (said (scope.now).unit.now) index) (index + 1) (statement_kind (statement.now).kind) && (extent.now).section.loaded)) }
     ensures absent { IfOk result (λ x. x.shown ≡ false → x.bytes ≡ 0) }
     ensures sized { IfOk result (λ x. (index : ℕ) → IsFilled (scope.now).unit.now → IsScope scope.now index → x.shown ≡ true
-        → IsSized (λ e. laws.value (laws.tables (said (scope.now).unit.now)) true (index + 1) (offset_of place) e) (extent.now).section.executable x (extent.now).alignment (statement_of (statement.now).kind)) }
+        → IsSized (λ e. laws.value (laws.tables (said (scope.now).unit.now)) true (index + 1) (offset_of place) e) (extent.now).section.executable x (extent.now).alignment (statement_kind (statement.now).kind)) }
     ensures fits { IfOk result (λ x. x.offset + x.bytes ≤ 2 ^ 28) }
     ensures refuses { IfErr result (λ _. (index : ℕ) → IsFilled (scope.now).unit.now → IsScope scope.now index
-        → offset_of place ≡ laws.stood (passed (said (scope.now).unit.now) index) (index + 1) (statement_of (statement.now).kind)
-        → (is_placed (passed (said (scope.now).unit.now) index) (index + 1) (statement_of (statement.now).kind) ≡ true → (extent.now).section.loaded ≡ true
-        → HasRoom (λ e. laws.value (laws.tables (said (scope.now).unit.now)) true (index + 1) (offset_of place) e) (extent.now).section.executable (extent.now).alignment offset (statement_of (statement.now).kind)) → ⊥) }
+        → offset_of place ≡ laws.stood (passed (said (scope.now).unit.now) index) (index + 1) (statement_kind (statement.now).kind)
+        → (is_placed (passed (said (scope.now).unit.now) index) (index + 1) (statement_kind (statement.now).kind) ≡ true → (extent.now).section.loaded ≡ true
+        → HasRoom (λ e. laws.value (laws.tables (said (scope.now).unit.now)) true (index + 1) (offset_of place) e) (extent.now).section.executable (extent.now).alignment offset (statement_kind (statement.now).kind)) → ⊥) }
 {
     let line = statement.line;
     let shown = placed(scope, place, &statement.kind) && extent.section.loaded;

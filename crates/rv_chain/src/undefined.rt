@@ -6,7 +6,7 @@ ghost use Rattle.rv_text.specs.Nodes.{symbol_of};
 ghost use Rattle.rv_text.specs.Eval.{value_told};
 ghost use Rattle.rv_lexer.specs.declared.fault.SourceFault.TheVariants.{OutOfMemory};
 ghost use Rattle.rv_text.specs.Expr.{tree_of_expr};
-ghost use Rattle.rv_statement.specs.View.{said_by, now_of};
+ghost use Rattle.rv_statement.specs.View.{statement_of, now_of};
 ghost use Rattle.rv_unit_laws.specs.Faults.{first_fault};
 ghost use Rattle.rv_unit_laws.specs.Sections.{Section as Home};
 ghost use Rattle.rv_unit_laws.specs.Tables.{at_start};
@@ -140,8 +140,8 @@ fn missing_by<'a>(
     statement: &Statement<'a>,
     place: SectionOffset,
 ) -> Result<Option<&'a [u8]>, SourceFault>
-    ensures first { IfOk result (λ found. (index : ℕ) → Sees scope.now items.now index → IsFirst found (missing_at (said (scope.now).unit.now) index (offset_of place) (data_values (said_by statement.now).says))) }
-    ensures refuses { IfErr result (λ _. (index : ℕ) → IsFilled (scope.now).unit.now → IsScope scope.now index → HaveValues (said (scope.now).unit.now) index (offset_of place) (data_values (said_by statement.now).says) → ⊥) }
+    ensures first { IfOk result (λ found. (index : ℕ) → Sees scope.now items.now index → IsFirst found (missing_at (said (scope.now).unit.now) index (offset_of place) (data_values (statement_of statement.now).kind))) }
+    ensures refuses { IfErr result (λ _. (index : ℕ) → IsFilled (scope.now).unit.now → IsScope scope.now index → HaveValues (said (scope.now).unit.now) index (offset_of place) (data_values (statement_of statement.now).kind) → ⊥) }
 {
     let line = statement.line;
     match &statement.kind {
@@ -165,9 +165,9 @@ fn keep<'a>(
 ) -> Result<(), SourceFault>
     requires { place.section < length found.old }
     ensures first { OnOk result ((index j : ℕ) → Sees scope.now items.now index → found_in found.new j ≡ (if place.section == j
-        then else_name (found_in found.old j) (if loaded then first_name (missing_at (said (scope.now).unit.now) index (offset_of place) (data_values (said_by statement.now).says)) else None)
+        then else_name (found_in found.old j) (if loaded then first_name (missing_at (said (scope.now).unit.now) index (offset_of place) (data_values (statement_of statement.now).kind)) else None)
         else found_in found.old j)) }
-    ensures refuses { IfErr result (λ _. (index : ℕ) → IsFilled (scope.now).unit.now → IsScope scope.now index → HaveValues (said (scope.now).unit.now) index (offset_of place) (data_values (said_by statement.now).says) → ⊥) }
+    ensures refuses { IfErr result (λ _. (index : ℕ) → IsFilled (scope.now).unit.now → IsScope scope.now index → HaveValues (said (scope.now).unit.now) index (offset_of place) (data_values (statement_of statement.now).kind) → ⊥) }
 {
     let section = place.section as usize;
     if !loaded {

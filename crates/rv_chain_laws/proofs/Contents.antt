@@ -14,7 +14,7 @@ use Rattle.rv_isa_laws.specs.Memory.{Mem, Read, Write, Execute}
 use Rattle.rv_encode.specs.Word.{form, word, Spells}
 use Rattle.rv_isa_laws.specs.Reader.{Reader}
 use Rattle.rv_isa_laws.specs.Run.{fetch, Got}
-use Rattle.rv_statement.specs.Statement.{Statement, Label, Numbered, Instruction, Directs, Spoken, Expression, Directive, Sets}
+use Rattle.rv_statement.specs.Statement.{StatementKind, Label, Numbered, Instruction, Directs, Statement, Expression, Directive, Sets}
 use Rattle.rv_unit_laws.specs.Contributions.{Contribution, Nothing, Bytes, Zero_bytes, Alignment, contribution}
 use Rattle.rv_unit_laws.specs.Sections.{Section, goes_to_text, goes_to_rodata, goes_to_data, goes_to_bss}
 use Rattle.rv_unit_laws.specs.Tables.{Tables, tables, aligned}
@@ -107,8 +107,8 @@ padding_code true p s d e h = h.0
 padding_code false p s d e h = absurd (cc)
 
 module _ (p : Program) (file ordinal section offset line : ℕ) (home : Section) (placed : Bool) (row : Row) where
-  abbrev at : Statement → Mapped
-  at says = record { located = record { file = file; ordinal = ordinal; section = section; offset = offset; home = home; line = line; says = says; placed = placed }; row = row }
+  abbrev at : StatementKind → Mapped
+  at says = record { located = record { file = file; ordinal = ordinal; section = section; offset = offset; home = home; line = line; kind = says; placed = placed }; row = row }
 
   -- a row outside of executable sections has the bytes that its statement spells
   contribution_data : (d : Directive) (c : Contribution) → contribution d ≡ c → ContributionFits p (at (Directs d)) d c → Sized (spelled p) (at (Directs d))
@@ -122,7 +122,7 @@ module _ (p : Program) (file ordinal section offset line : ℕ) (home : Section)
   directive_data (Sets name expression) fits = no_bytes true row fits
   directive_data d fits = contribution_data d (contribution d) refl fits
 
-  statement_data : (says : Statement) → SizeFits p (at says) → IsHeld home says → home.executable ≡ false → Sized (spelled p) (at says)
+  statement_data : (says : StatementKind) → SizeFits p (at says) → IsHeld home says → home.executable ≡ false → Sized (spelled p) (at says)
   statement_data (Label name) fits held e = no_bytes true row fits
   statement_data (Numbered number) fits held e = no_bytes true row fits
   statement_data (Instruction mnemonic operands) fits held e = true_false home.executable held e
@@ -140,7 +140,7 @@ module _ (p : Program) (file ordinal section offset line : ℕ) (home : Section)
   directive_code (Sets name expression) fits held e = fits
   directive_code d fits held e = contribution_code d (contribution d) fits held e
 
-  statement_code : (says : Statement) → SizeFits p (at says) → IsHeld home says → home.executable ≡ true → IsRowOf (expansion p (at says)) row
+  statement_code : (says : StatementKind) → SizeFits p (at says) → IsHeld home says → home.executable ≡ true → IsRowOf (expansion p (at says)) row
   statement_code (Label name) fits held e = fits
   statement_code (Numbered number) fits held e = fits
   statement_code (Instruction mnemonic operands) fits held e = fits.1
@@ -153,7 +153,7 @@ module _ (p : Program) (file ordinal section offset line : ℕ) (home : Section)
   contribution_zeros v (Zero_bytes count) held e n = zero_index (v count) n
   contribution_zeros v (Alignment form value) held e n = zero_index row.bytes n
 
-  statement_zeros : (says : Statement) → IsHeld home says → home.nobits ≡ true → (n : ℕ) → slice_index (spelled p (at says)) n ≡ 0
+  statement_zeros : (says : StatementKind) → IsHeld home says → home.nobits ≡ true → (n : ℕ) → slice_index (spelled p (at says)) n ≡ 0
   statement_zeros (Label name) held e n = refl
   statement_zeros (Numbered number) held e n = refl
   statement_zeros (Instruction mnemonic operands) held e n = refl
@@ -196,7 +196,7 @@ aligned_file goes t mapped file index (section ∷ sections) = go (goes section)
     go true rest = (one_or_more (goes_to_text section) (slice_index_or t.alignments index 1), rest)
     go false rest = rest
 
-aligned_files : (goes : Section → Bool) (mapped : List Mapped) (file : ℕ) (files : List (List Spoken)) → AllByRecursion IsAligned (input_sections_of goes mapped file files)
+aligned_files : (goes : Section → Bool) (mapped : List Mapped) (file : ℕ) (files : List (List Statement)) → AllByRecursion IsAligned (input_sections_of goes mapped file files)
 aligned_files goes mapped file [] = tt
 aligned_files goes mapped file (ss ∷ files) =
     all_join IsAligned (input_sections_of_file goes (tables ss) mapped file 0 (sections_of ss)) (input_sections_of goes mapped (suc file) files)
@@ -277,7 +277,7 @@ seated_all P (e ∷ es) h = go e.row refl h (λ hs. seated_all P es hs)
 
 -- ---- a linked program
 
-module _ (sources : List (List Spoken)) (a : ℕ) (l : Linked) (h : IsLinked sources a l) where
+module _ (sources : List (List Statement)) (a : ℕ) (l : Linked) (h : IsLinked sources a l) where
   abbrev p : Program
   p = program sources l.map
 
@@ -311,7 +311,7 @@ module _ (sources : List (List Spoken)) (a : ℕ) (l : Linked) (h : IsLinked sou
   data_sized : (goes : Section → Bool) → ((s : Section) → goes s ≡ true → s.executable ≡ false) → AllIn (Sized (spelled p)) (region goes)
   data_sized goes none = to_blocks p.mapped sources goes (Sized (spelled p)) at_home
       (all_map Fitting (λ s. goes s.located.home ≡ true → Sized (spelled p) s) p.mapped
-      (λ s fits good. statement_data p s.located.file s.located.ordinal s.located.section s.located.offset s.located.line s.located.home s.located.placed s.row s.located.says fits.0 fits.1 (none s.located.home good)) fitting)
+      (λ s fits good. statement_data p s.located.file s.located.ordinal s.located.section s.located.offset s.located.line s.located.home s.located.placed s.row s.located.kind fits.0 fits.1 (none s.located.home good)) fitting)
 
   not_rodata : (s : Section) → goes_to_rodata s ≡ true → s.executable ≡ false
   not_rodata s e = no_code_more s.loaded s.executable s.nobits (not s.writable) e
@@ -451,7 +451,7 @@ module _ (sources : List (List Spoken)) (a : ℕ) (l : Linked) (h : IsLinked sou
               let x = (and_parts s.located.home.loaded s.located.home.executable good).1 in
               let lie = tl good in
               holds_written reader m map_of.text.end (let e = text_room in omega arith) p s (written x) (th good) (text_runs s.row.address lie.0) lie.1
-              (statement_code p s.located.file s.located.ordinal s.located.section s.located.offset s.located.line s.located.home s.located.placed s.row s.located.says fits.0 fits.1 x)
+              (statement_code p s.located.file s.located.ordinal s.located.section s.located.offset s.located.line s.located.home s.located.placed s.row s.located.kind fits.0 fits.1 x)
           | inr other ↦ elim other [
             | inl good ↦ past map_of.text.start map_of.text.end map_of.rodata.start s.row.address inside rodata_past (rl good).0
             | inr other ↦ elim other [
@@ -509,14 +509,14 @@ module _ (sources : List (List Spoken)) (a : ℕ) (l : Linked) (h : IsLinked sou
         elim (all_goes s.located.home.loaded s.located.home.executable s.located.home.nobits s.located.home.writable home.1) [
           | inl good ↦ true_false (right_at map_of x Read) readable (unreadable x (wider map_of.text.start map_of.text.end s.row.address (s.row.address + s.row.bytes) x (tl good).0 (tl good).1 inside))
           | inr other ↦ elim other [
-            | inl good ↦ spelled_at s x (statement_data p s.located.file s.located.ordinal s.located.section s.located.offset s.located.line s.located.home s.located.placed s.row s.located.says fits.0 fits.1 (not_rodata s.located.home good)) (rh good) inside
+            | inl good ↦ spelled_at s x (statement_data p s.located.file s.located.ordinal s.located.section s.located.offset s.located.line s.located.home s.located.placed s.row s.located.kind fits.0 fits.1 (not_rodata s.located.home good)) (rh good) inside
             | inr other ↦ elim other [
-              | inl good ↦ spelled_at s x (statement_data p s.located.file s.located.ordinal s.located.section s.located.offset s.located.line s.located.home s.located.placed s.row s.located.says fits.0 fits.1 (not_data s.located.home good)) (dh good) inside
+              | inl good ↦ spelled_at s x (statement_data p s.located.file s.located.ordinal s.located.section s.located.offset s.located.line s.located.home s.located.placed s.row s.located.kind fits.0 fits.1 (not_data s.located.home good)) (dh good) inside
               | inr good ↦
                   let parts = within_parts map_of.bss.start map_of.bss.end x (wider map_of.bss.start map_of.bss.end s.row.address (s.row.address + s.row.bytes) x (bl good).0 (bl good).1 inside) in
                   let e1 = are_regions.bss_after in
                   bss_zero x (omega arith) parts.1
-                  ∙ sym (statement_zeros p s.located.file s.located.ordinal s.located.section s.located.offset s.located.line s.located.home s.located.placed s.row s.located.says fits.1 (no_stored s.located.home.loaded s.located.home.executable s.located.home.nobits good) (x - s.row.address))
+                  ∙ sym (statement_zeros p s.located.file s.located.ordinal s.located.section s.located.offset s.located.line s.located.home s.located.placed s.row s.located.kind fits.1 (no_stored s.located.home.loaded s.located.home.executable s.located.home.nobits good) (x - s.row.address))
             ]
           ]
         ]
@@ -590,7 +590,7 @@ module _ (sources : List (List Spoken)) (a : ℕ) (l : Linked) (h : IsLinked sou
         begins = find_holds (λ (e : MaybeMapped). begins_run sources e.located) p.statements entry e
 
         goes : goes_to_text entry.located.home ≡ true
-        goes = (and_parts (is_start entry.located.says) (goes_to_text entry.located.home) (and_parts (is_start entry.located.says && goes_to_text entry.located.home) (is_global_in sources entry.located.file (codes "_start")) begins).0).1
+        goes = (and_parts (is_start entry.located.kind) (goes_to_text entry.located.home) (and_parts (is_start entry.located.kind && goes_to_text entry.located.home) (is_global_in sources entry.located.file (codes "_start")) begins).0).1
 
         at_row : (o : Option Row) → entry.row ≡ o → option_map (λ (r : Row). r.address) o ≡ Some map_of.entry → map_of.entry ≤ map_of.text.end
         at_row None none same = absurd (cc)
@@ -606,6 +606,6 @@ module _ (sources : List (List Spoken)) (a : ℕ) (l : Linked) (h : IsLinked sou
         omega arith
 
 -- a linked program runs as its sources do, for every input and every limit
-pub linked_agrees : (a : ℕ) (sources : List (List Spoken)) (l : Linked) → IsLinked sources a l → RunsAgree sources l.map (linked_image l)
+pub linked_agrees : (a : ℕ) (sources : List (List Statement)) (l : Linked) → IsLinked sources a l → RunsAgree sources l.map (linked_image l)
 linked_agrees a sources l h reader input bytes n =
     agreement_of_image sources l.map (mem_of (linked_image l)) l.map.entry (λ r. realizes_linked sources a l h r) refl (entry_low sources a l h reader) h.resolves.even reader input n

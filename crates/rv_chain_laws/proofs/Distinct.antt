@@ -11,7 +11,7 @@ use Rattle.rv_text_laws.specs.Expression.{Literal, Symbol, Here, Reference}
 use Rattle.rv_text_laws.specs.Values.{Known, InSection, Open, Refused, Value, Constant, Symbolic, Difference, Faulty, add}
 use Rattle.rv_statement.specs.declared.directive.Choice.{Choice}
 use Rattle.rv_statement.specs.declared.directive.Choice.TheVariants.{Push, Pop}
-use Rattle.rv_statement.specs.Statement.{Statement, Expression, Label, Numbered, Instruction, Directs, Spoken, Directive, Enters, Opens, Sets, Chooses}
+use Rattle.rv_statement.specs.Statement.{StatementKind, Expression, Label, Numbered, Instruction, Directs, Statement, Directive, Enters, Opens, Sets, Chooses}
 use Rattle.rv_unit_laws.specs.Contributions.{Contribution, Nothing, contribution}
 use Rattle.rv_unit_laws.specs.Sections.{Section, entered, current_section}
 use Rattle.rv_unit_laws.specs.Tables.{Tables, Labelled, Assignment, at_start, here, value, label_of, assigned_before, is_defined, has_location, may_set, assigned, with_assignment, with_section, with_contribution, with_choice, after_directive, after, after_all, tables}
@@ -139,7 +139,7 @@ module _ (t : Tables) (k : ℕ) where
   label_grows : (name : List ℕ) → Grows k t (record t { labels = t.labels ++ new_label name ∷ [] })
   label_grows name = record { labels = new_label name ∷ []; labels_are = refl; assignments = []; settings_are = refl; now = tt }
 
-  after_grows : (says : Statement) → Grows k t (after t k says)
+  after_grows : (says : StatementKind) → Grows k t (after t k says)
   after_grows (Label name) = if_grows (is_defined t k name) k t t _ stays (label_grows name)
   after_grows (Numbered number) = same_grows k t _ refl refl
   after_grows (Instruction mnemonic operands) = stays
@@ -149,11 +149,11 @@ module _ (t : Tables) (k : ℕ) where
 abbrev Since : ℕ → Tables → Tables → Type 0
 Since k t u = (more : List Assignment) × (u.assignments ≡ more ++ t.assignments) × AllByRecursion (λ s. k ≤ s.ordinal) more
 
-since : (t : Tables) (k : ℕ) (ss : List Spoken) → Since k t (after_all t k ss)
+since : (t : Tables) (k : ℕ) (ss : List Statement) → Since k t (after_all t k ss)
 since t k [] = ([], refl, tt)
 since t k (s ∷ ss) =
-    let g = after_grows t k s.says in
-    let later = since (after t k s.says) (suc k) ss in
+    let g = after_grows t k s.kind in
+    let later = since (after t k s.kind) (suc k) ss in
     let more : List Assignment = later.0 in (
       more ++ g.assignments,
       later.1 ∙ ap (λ l. more ++ l) g.settings_are ∙ sym (append_assoc more g.assignments t.assignments),
@@ -236,7 +236,7 @@ now_named k n s = (s.ordinal == k) && bytes_eq s.name n
 
 module _ (all t : Tables) (k : ℕ) where
   -- before its statement it is no name
-  is_new : (says : Statement) → faults all t k says ≡ [] → Since k t all → AllByRecursion (IsNew k t) (defined_name all k says)
+  is_new : (says : StatementKind) → faults all t k says ≡ [] → Since k t all → AllByRecursion (IsNew k t) (defined_name all k says)
   is_new (Label name) e h = (no_test (is_defined t k name) 11 e, tt)
   is_new (Directs (Sets name e)) free h = all_if (sets_first all.assignments k name) (IsNew k t) name fresh
     where
@@ -252,7 +252,7 @@ module _ (all t : Tables) (k : ℕ) where
   is_new _ e h = tt
 
   -- after its statement it is one
-  is_old : (says : Statement) → faults all t k says ≡ [] → Since (suc k) (after t k says) all → AllByRecursion (IsOld (suc k) (after t k says)) (defined_name all k says)
+  is_old : (says : StatementKind) → faults all t k says ≡ [] → Since (suc k) (after t k says) all → AllByRecursion (IsOld (suc k) (after t k says)) (defined_name all k says)
   is_old (Label name) e h = (go (is_defined t k name) (no_test (is_defined t k name) 11 e), tt)
     where
       more : Tables
@@ -312,13 +312,13 @@ one_kept : (g : List ℕ → Bool) (b : Bool) (n : List ℕ) → AreDistinct (fi
 one_kept g true n = one_if (g n) n
 one_kept g false n = tt
 
-one_name : (g : List ℕ → Bool) (t : Tables) (k : ℕ) (says : Statement) → AreDistinct (filter g (defined_name t k says))
+one_name : (g : List ℕ → Bool) (t : Tables) (k : ℕ) (says : StatementKind) → AreDistinct (filter g (defined_name t k says))
 one_name g t k (Label name) = one_if (g name) name
 one_name g t k (Directs (Sets name e)) = one_kept g (sets_first t.assignments k name) name
 one_name g t k _ = tt
 
-module _ (ss : List Spoken) (m : Map) where
-  abbrev sources : List (List Spoken)
+module _ (ss : List Statement) (m : Map) where
+  abbrev sources : List (List Statement)
   sources = ss ∷ []
 
   abbrev p : Program
@@ -330,7 +330,7 @@ module _ (ss : List Spoken) (m : Map) where
   abbrev names_at : Located → List (List ℕ)
   names_at s = global_names_of sources (tables_in p s.file) s
 
-  abbrev names : ℕ → Tables → List Spoken → List (List ℕ)
+  abbrev names : ℕ → Tables → List Statement → List (List ℕ)
   names k t rest = flat_map names_at (located_from 1 k t rest)
 
   abbrev is_global : List ℕ → Bool
@@ -339,27 +339,27 @@ module _ (ss : List Spoken) (m : Map) where
   new_before : (k : ℕ) (t u : Tables) (n : List ℕ) → Grows k t u → IsNew (suc k) u n → IsNew k t n
   new_before k t u n g new = is_false (is_defined t k n) (λ old. not_both (is_defined u (suc k) n) (defined_more k t u n g old) new)
 
-  all_new : (k : ℕ) (t : Tables) (rest : List Spoken) → first_fault_from all t k rest ≡ None → after_all t k rest ≡ all → AllByRecursion (IsNew k t) (names k t rest)
+  all_new : (k : ℕ) (t : Tables) (rest : List Statement) → first_fault_from all t k rest ≡ None → after_all t k rest ≡ all → AllByRecursion (IsNew k t) (names k t rest)
   all_new k t [] e same = tt
   all_new k t (s ∷ rest) e same =
-      let u = after t k s.says in
-      let parts = no_fault s.line (lowest (faults all t k s.says)) (first_fault_from all u (suc k) rest) e in
-      let free : faults all t k s.says ≡ [] = no_lowest (faults all t k s.says) parts.0 in
-      let here = is_new all t k s.says free (subst (λ x. Since k t x) same (since t k (s ∷ rest))) in
-      all_join (IsNew k t) (names_at (located_now 1 k t s)) (names (suc k) u rest) (all_filter (IsNew k t) is_global (defined_name all k s.says) here)
-      (all_map (IsNew (suc k) u) (IsNew k t) (names (suc k) u rest) (λ n new. new_before k t u n (after_grows t k s.says) new) (all_new (suc k) u rest parts.1 same))
+      let u = after t k s.kind in
+      let parts = no_fault s.line (lowest (faults all t k s.kind)) (first_fault_from all u (suc k) rest) e in
+      let free : faults all t k s.kind ≡ [] = no_lowest (faults all t k s.kind) parts.0 in
+      let here = is_new all t k s.kind free (subst (λ x. Since k t x) same (since t k (s ∷ rest))) in
+      all_join (IsNew k t) (names_at (located_now 1 k t s)) (names (suc k) u rest) (all_filter (IsNew k t) is_global (defined_name all k s.kind) here)
+      (all_map (IsNew (suc k) u) (IsNew k t) (names (suc k) u rest) (λ n new. new_before k t u n (after_grows t k s.kind) new) (all_new (suc k) u rest parts.1 same))
 
-  all_distinct : (k : ℕ) (t : Tables) (rest : List Spoken) → first_fault_from all t k rest ≡ None → after_all t k rest ≡ all → AreDistinct (names k t rest)
+  all_distinct : (k : ℕ) (t : Tables) (rest : List Statement) → first_fault_from all t k rest ≡ None → after_all t k rest ≡ all → AreDistinct (names k t rest)
   all_distinct k t [] e same = tt
   all_distinct k t (s ∷ rest) e same =
-      let u = after t k s.says in
-      let parts = no_fault s.line (lowest (faults all t k s.says)) (first_fault_from all u (suc k) rest) e in
-      let free : faults all t k s.says ≡ [] = no_lowest (faults all t k s.says) parts.0 in
-      let here = is_old all t k s.says free (subst (λ x. Since (suc k) u x) same (since u (suc k) rest)) in
+      let u = after t k s.kind in
+      let parts = no_fault s.line (lowest (faults all t k s.kind)) (first_fault_from all u (suc k) rest) e in
+      let free : faults all t k s.kind ≡ [] = no_lowest (faults all t k s.kind) parts.0 in
+      let here = is_old all t k s.kind free (subst (λ x. Since (suc k) u x) same (since u (suc k) rest)) in
       let later : AllByRecursion (IsNew (suc k) u) (names (suc k) u rest) = all_new (suc k) u rest parts.1 same in
-      distinct_join (names_at (located_now 1 k t s)) (names (suc k) u rest) (one_name is_global all k s.says) (all_distinct (suc k) u rest parts.1 same)
+      distinct_join (names_at (located_now 1 k t s)) (names (suc k) u rest) (one_name is_global all k s.kind) (all_distinct (suc k) u rest parts.1 same)
       (all_map (IsOld (suc k) u) (λ n. is_one_of (names (suc k) u rest) n ≡ false) (names_at (located_now 1 k t s))
-      (λ n old. old_is_none (suc k) u n (names (suc k) u rest) old later) (all_filter (IsOld (suc k) u) is_global (defined_name all k s.says) here))
+      (λ n old. old_is_none (suc k) u n (names (suc k) u rest) old later) (all_filter (IsOld (suc k) u) is_global (defined_name all k s.kind) here))
 
   entries_names : (ts : List Located) (rows : List Row) → flat_map (λ e. names_at e.located) (statements_of ts rows) ≡ flat_map names_at ts
   entries_names [] rows = refl

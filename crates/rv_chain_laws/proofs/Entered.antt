@@ -3,7 +3,7 @@
 use Rattle.std.proofs.Common.{◌≡◌, ℕ, Bool, true, false, List, [], ◌∷◌, refl, sym, ap, ◌∙◌, Option, Some, None}
 use Rattle.std.specs.Prelude.{◌||◌, drop, is_some, if◌then◌else◌}
 use Rattle.std.specs.List.{find, list_any}
-use Rattle.rv_statement.specs.Statement.{Spoken}
+use Rattle.rv_statement.specs.Statement.{Statement}
 use Rattle.rv_map.specs.Map.{Map}
 use Rattle.rv_map.specs.declared.map.Row.{Row}
 use Rattle.rv_source_laws.specs.Located.{Located, located, has_row}
@@ -28,9 +28,9 @@ starts_some : (o : Option MaybeMapped) (entry : ℕ) → starts_at o ≡ Some en
 starts_some None entry e = absurd (cc)
 starts_some (Some found) entry e = refl
 
-pub entered : (start : ℕ) (ss : List Spoken) (m : Map) → IsMapOf start ss m → has_entry ss ≡ true
+pub entered : (start : ℕ) (ss : List Statement) (m : Map) → IsMapOf start ss m → has_entry ss ≡ true
 entered start ss m h =
-    let sources : List (List Spoken) = ss ∷ [] in
+    let sources : List (List Statement) = ss ∷ [] in
     sym (any_stated (begins_run sources) (located sources) m.rows)
     ∙ sym (found_any (λ (e : MaybeMapped). begins_run sources e.located) (program sources m).statements)
     ∙ starts_some (find (λ (e : MaybeMapped). begins_run sources e.located) (program sources m).statements) m.entry h.resolves.entry

@@ -3,7 +3,7 @@
 use Rattle.std.proofs.Common.{◌≡◌, ℕ, suc, Bool, true, false, List, [], ◌∷◌, ◌++◌, refl, sym, subst, Option, Some, None}
 use Rattle.std.specs.Prelude.{not, ◌||◌, min, ⊤}
 use Rattle.std.specs.List.{AllByRecursion}
-use Rattle.rv_statement.specs.Statement.{Statement, Label, Numbered, Instruction, Directs, Spoken, Directive, Enters, Opens, Sets, Chooses}
+use Rattle.rv_statement.specs.Statement.{StatementKind, Label, Numbered, Instruction, Directs, Statement, Directive, Enters, Opens, Sets, Chooses}
 use Rattle.rv_unit_laws.specs.Contributions.{Contribution, Bytes, Zero_bytes, contribution}
 use Rattle.rv_unit_laws.specs.Sections.{Section, section_at, current_section}
 use Rattle.rv_unit_laws.specs.Tables.{Tables, at_start, here, value, counted, contents_size, after, tables, stood}
@@ -21,14 +21,14 @@ ContributionHeld home _ = ⊤
 abbrev pub DirectiveHeld : Section → Directive → Type 0
 DirectiveHeld home d = ContributionHeld home (contribution d)
 
-abbrev pub IsHeld : Section → Statement → Type 0
+abbrev pub IsHeld : Section → StatementKind → Type 0
 IsHeld home (Label name) = ⊤
 IsHeld home (Numbered number) = ⊤
 IsHeld home (Instruction mnemonic operands) = home.executable ≡ true
 IsHeld home (Directs directive) = DirectiveHeld home directive
 
 abbrev pub Held : Located → Type 0
-Held s = IsHeld s.home s.says
+Held s = IsHeld s.home s.kind
 
 -- ---- no code of a fault
 
@@ -98,7 +98,7 @@ module _ (all t : Tables) (k : ℕ) where
   code : faulty_if (not home.executable || home.nobits) 15 ≡ [] → home.executable ≡ true
   code e = no_not home.executable (no_either (not home.executable) home.nobits (no_test (not home.executable || home.nobits) 15 e)).0
 
-  held : (says : Statement) → faults all t k says ≡ [] → IsHeld home says
+  held : (says : StatementKind) → faults all t k says ≡ [] → IsHeld home says
   held (Label name) e = tt
   held (Numbered number) e = tt
   held (Instruction mnemonic operands) e = code e
@@ -110,19 +110,19 @@ module _ (all t : Tables) (k : ℕ) where
   directive_at (Opens name flags kind) h = tt
   directive_at d h = subst (λ o. DirectiveHeld (section_at o t.opened.current) d) (sym (after_opened t k (Directs d))) h
 
-  held_at : (says : Statement) → IsHeld home says → IsHeld (section_at (after t k says).opened (stood t k says).section) says
+  held_at : (says : StatementKind) → IsHeld home says → IsHeld (section_at (after t k says).opened (stood t k says).section) says
   held_at (Label name) h = tt
   held_at (Numbered number) h = tt
   held_at (Instruction mnemonic operands) h = h
   held_at (Directs directive) h = directive_at directive h
 
-held_from : (all : Tables) (file k : ℕ) (t : Tables) (ss : List Spoken) → first_fault_from all t k ss ≡ None → AllByRecursion Held (located_from file k t ss)
+held_from : (all : Tables) (file k : ℕ) (t : Tables) (ss : List Statement) → first_fault_from all t k ss ≡ None → AllByRecursion Held (located_from file k t ss)
 held_from all file k t [] e = tt
 held_from all file k t (s ∷ ss) e =
-    let parts = no_fault s.line (lowest (faults all t k s.says)) (first_fault_from all (after t k s.says) (suc k) ss) e in
-    (held_at all t k s.says (held all t k s.says (no_lowest (faults all t k s.says) parts.0)), held_from all file (suc k) (after t k s.says) ss parts.1)
+    let parts = no_fault s.line (lowest (faults all t k s.kind)) (first_fault_from all (after t k s.kind) (suc k) ss) e in
+    (held_at all t k s.kind (held all t k s.kind (no_lowest (faults all t k s.kind) parts.0)), held_from all file (suc k) (after t k s.kind) ss parts.1)
 
-pub held_of : (file : ℕ) (sources : List (List Spoken)) → AllByRecursion (λ ss. first_fault ss ≡ None) sources → AllByRecursion Held (located_of file sources)
+pub held_of : (file : ℕ) (sources : List (List Statement)) → AllByRecursion (λ ss. first_fault ss ≡ None) sources → AllByRecursion Held (located_of file sources)
 held_of file [] h = tt
 held_of file (ss ∷ files) (e, es) =
     all_join Held (located_from file 1 at_start ss) (located_of (suc file) files) (held_from (tables ss) file 1 at_start ss e) (held_of (suc file) files es)

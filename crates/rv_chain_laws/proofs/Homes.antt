@@ -4,7 +4,7 @@ use Rattle.std.proofs.Common.{◌≡◌, ℕ, zero, suc, ◌+◌, Bool, true, fa
 use Rattle.std.proofs.lemmas.Bool.{and_parts, eqb-true, eq-eqb}
 use Rattle.std.specs.Prelude.{◌&&◌, ◌==◌, if◌then◌else◌, filter, slice_get}
 use Rattle.std.specs.List.{AllByRecursion}
-use Rattle.rv_statement.specs.Statement.{Statement, Label, Numbered, Instruction, Directs, Spoken, Enters, Opens}
+use Rattle.rv_statement.specs.Statement.{StatementKind, Label, Numbered, Instruction, Directs, Statement, Enters, Opens}
 use Rattle.rv_unit_laws.specs.Sections.{Section, text_section, section_at}
 use Rattle.rv_unit_laws.specs.Tables.{Tables, at_start, after, after_all, tables, stood}
 use Rattle.rv_unit_laws.proofs.Opened.{got_of, IsOpen, after_opened, after_open, stays_all}
@@ -35,7 +35,7 @@ all_both P Q R (x ∷ xs) f (p, ps) (q, qs) = (f x p q, all_both P Q R xs f ps q
 -- ---- where a statement stands
 
 -- a statement stands in the section that is current after it
-pub stood_in : (t : Tables) (k : ℕ) (says : Statement) → (stood t k says).section ≡ (after t k says).opened.current
+pub stood_in : (t : Tables) (k : ℕ) (says : StatementKind) → (stood t k says).section ≡ (after t k says).opened.current
 stood_in t k (Label name) = ap (λ o. o.current) (sym (after_opened t k (Label name)))
 stood_in t k (Numbered number) = refl
 stood_in t k (Instruction mnemonic operands) = refl
@@ -45,34 +45,34 @@ stood_in t k (Directs d) = ap (λ o. o.current) (sym (after_opened t k (Directs 
 
 -- ---- the sections of statements
 
-abbrev pub sections_of : List Spoken → List Section
+abbrev pub sections_of : List Statement → List Section
 sections_of ss = (tables ss).opened.sections
 
 -- the sections of the files, which are numbered from 1
-abbrev pub sections_by : List (List Spoken) → ℕ → List Section
+abbrev pub sections_by : List (List Statement) → ℕ → List Section
 sections_by [] i = []
 sections_by (ss ∷ files) zero = sections_of ss
 sections_by (ss ∷ files) (suc i) = sections_by files i
 
-abbrev pub sections_in : List (List Spoken) → ℕ → List Section
+abbrev pub sections_in : List (List Statement) → ℕ → List Section
 sections_in sources zero = []
 sections_in sources (suc i) = sections_by sources i
 
 abbrev pub IsHomeIn : (ℕ → List Section) → Located → Type 0
 IsHomeIn sections t = slice_get (sections t.file) t.section ≡ Some t.home
 
-pub home_now : (t : Tables) (k : ℕ) (ss : List Spoken) (i : ℕ) → IsOpen t.opened → i ≡ t.opened.current → slice_get (after_all t k ss).opened.sections i ≡ Some (section_at t.opened i)
+pub home_now : (t : Tables) (k : ℕ) (ss : List Statement) (i : ℕ) → IsOpen t.opened → i ≡ t.opened.current → slice_get (after_all t k ss).opened.sections i ≡ Some (section_at t.opened i)
 home_now t k ss i (x, e) same =
     let at : slice_get t.opened.sections i ≡ Some x = ap (λ n. slice_get t.opened.sections n) same ∙ e in
     stays_all t k ss (x, e) i (section_at t.opened i) (at ∙ ap Some (sym (got_of t.opened.sections i text_section x at)))
 
-pub homes_from : (sections : ℕ → List Section) (file k : ℕ) (t : Tables) (ss : List Spoken) → sections file ≡ (after_all t k ss).opened.sections → IsOpen t.opened → AllByRecursion (IsHomeIn sections) (located_from file k t ss)
+pub homes_from : (sections : ℕ → List Section) (file k : ℕ) (t : Tables) (ss : List Statement) → sections file ≡ (after_all t k ss).opened.sections → IsOpen t.opened → AllByRecursion (IsHomeIn sections) (located_from file k t ss)
 homes_from sections file k t [] same is_open = tt
 homes_from sections file k t (s ∷ ss) same is_open =
-    let now = after_open t k s.says is_open in
-    let i = (stood t k s.says).section in (
-      ap (λ xs. slice_get xs i) same ∙ home_now (after t k s.says) (suc k) ss i now.0 (stood_in t k s.says),
-      homes_from sections file (suc k) (after t k s.says) ss same now.0,
+    let now = after_open t k s.kind is_open in
+    let i = (stood t k s.kind).section in (
+      ap (λ xs. slice_get xs i) same ∙ home_now (after t k s.kind) (suc k) ss i now.0 (stood_in t k s.kind),
+      homes_from sections file (suc k) (after t k s.kind) ss same now.0,
     )
 
 pub all_join : {X : Type 0} (P : X → Type 0) (xs ys : List X) → AllByRecursion P xs → AllByRecursion P ys → AllByRecursion P (xs ++ ys)
@@ -80,16 +80,16 @@ all_join P [] ys h k = k
 all_join P (x ∷ xs) ys (p, ps) k = (p, all_join P xs ys ps k)
 
 -- these are the sections of files that are numbered from here on
-abbrev AreOf : (ℕ → List Section) → ℕ → List (List Spoken) → Type 0
+abbrev AreOf : (ℕ → List Section) → ℕ → List (List Statement) → Type 0
 AreOf sections file sources = (i : ℕ) → sections (file + i) ≡ sections_by sources i
 
-first_of_these : (sections : ℕ → List Section) (file : ℕ) (ss : List Spoken) (files : List (List Spoken)) → AreOf sections file (ss ∷ files) → sections file ≡ sections_of ss
+first_of_these : (sections : ℕ → List Section) (file : ℕ) (ss : List Statement) (files : List (List Statement)) → AreOf sections file (ss ∷ files) → sections file ≡ sections_of ss
 first_of_these sections file ss files same = ap sections (let e : file ≡ file + 0 = omega arith in e) ∙ same 0
 
-rest_of_these : (sections : ℕ → List Section) (file : ℕ) (ss : List Spoken) (files : List (List Spoken)) → AreOf sections file (ss ∷ files) → AreOf sections (suc file) files
+rest_of_these : (sections : ℕ → List Section) (file : ℕ) (ss : List Statement) (files : List (List Statement)) → AreOf sections file (ss ∷ files) → AreOf sections (suc file) files
 rest_of_these sections file ss files same i = ap sections (let e : suc file + i ≡ file + suc i = omega arith in e) ∙ same (suc i)
 
-homes_of : (sections : ℕ → List Section) (file : ℕ) (sources : List (List Spoken)) → AreOf sections file sources → AllByRecursion (IsHomeIn sections) (located_of file sources)
+homes_of : (sections : ℕ → List Section) (file : ℕ) (sources : List (List Statement)) → AreOf sections file sources → AllByRecursion (IsHomeIn sections) (located_of file sources)
 homes_of sections file [] same = tt
 homes_of sections file (ss ∷ files) same =
     all_join (IsHomeIn sections) (located_from file 1 at_start ss) (located_of (suc file) files)
@@ -115,15 +115,15 @@ seats P (t ∷ ts) rows (q, qs) = go (has_row t) refl (seats P ts (drop 1 rows) 
     go true e taken left = seat (first_of rows) (mapped_of (statements_of ts (drop 1 rows))) e taken
     go false e taken left = left
 
-are_in : (sources : List (List Spoken)) → AreOf (sections_in sources) 1 sources
+are_in : (sources : List (List Statement)) → AreOf (sections_in sources) 1 sources
 are_in sources i = ap (sections_in sources) (let e : 1 + i ≡ suc i = omega arith in e)
 
-pub homes : (sources : List (List Spoken)) (rows : List Row) → AllByRecursion (IsAtHome (sections_in sources)) (mapped_of (statements_of (located sources) rows))
+pub homes : (sources : List (List Statement)) (rows : List Row) → AllByRecursion (IsAtHome (sections_in sources)) (mapped_of (statements_of (located sources) rows))
 homes sources rows = seats (IsHomeIn (sections_in sources)) (located sources) rows (homes_of (sections_in sources) 1 sources (are_in sources))
 
 -- ---- from the statements to the sections, and back
 
-module _ (all : List Mapped) (sources : List (List Spoken)) (goes : Section → Bool) (P : Mapped → Type 0) where
+module _ (all : List Mapped) (sources : List (List Statement)) (goes : Section → Bool) (P : Mapped → Type 0) where
   abbrev sections : ℕ → List Section
   sections = sections_in sources
 
@@ -158,7 +158,7 @@ module _ (all : List Mapped) (sources : List (List Spoken)) (goes : Section → 
           (in_section file index section here e all hs ws, next)
       go false e next = next
 
-  to_files : AllByRecursion (IsAtHome sections) all → AllByRecursion Where all → (file : ℕ) (files : List (List Spoken)) → AreOf sections file files → AllIn P (input_sections_of goes all file files)
+  to_files : AllByRecursion (IsAtHome sections) all → AllByRecursion Where all → (file : ℕ) (files : List (List Statement)) → AreOf sections file files → AllIn P (input_sections_of goes all file files)
   to_files hs ws file [] same = tt
   to_files hs ws file (ss ∷ files) same =
       let own : sections file ≡ sections_of ss = first_of_these sections file ss files same in
@@ -191,7 +191,7 @@ module _ (all : List Mapped) (sources : List (List Spoken)) (goes : Section → 
   halves Q [] ys h = (tt, h)
   halves Q (x ∷ xs) ys (q, qs) = let more = halves Q xs ys qs in ((q, more.0), more.1)
 
-  at_files : (file : ℕ) (files : List (List Spoken)) (i j : ℕ) (section : Section) → AllIn P (input_sections_of goes all file files) → slice_get (sections_by files i) j ≡ Some section → goes section ≡ true → AllByRecursion P (mapped_in all (file + i) j)
+  at_files : (file : ℕ) (files : List (List Statement)) (i j : ℕ) (section : Section) → AllIn P (input_sections_of goes all file files) → slice_get (sections_by files i) j ≡ Some section → goes section ≡ true → AllByRecursion P (mapped_in all (file + i) j)
   at_files file [] i j section held at good = absurd (cc)
   at_files file (ss ∷ files) zero j section held at good =
       let parts = halves (λ b. AllByRecursion P b.mapped) (input_sections_of_file goes (tables ss) all file 0 (sections_of ss)) (input_sections_of goes all (suc file) files) held in

@@ -11,7 +11,7 @@ use Rattle.rv_isa_laws.specs.Effect.{Effect, Goes, Breaks}
 use Rattle.rv_isa_laws.specs.Meaning.{effect, sets}
 use Rattle.rv_statement.specs.declared.mnemonic.Mnemonic.{Mnemonic}
 use Rattle.rv_statement.specs.declared.mnemonic.Mnemonic.TheVariants.{Li}
-use Rattle.rv_statement.specs.Statement.{Statement, Label, Numbered, Instruction, Directs, Directive, Sets, Aligns_to_power, Aligns_to_bytes, Expression}
+use Rattle.rv_statement.specs.Statement.{StatementKind, Label, Numbered, Instruction, Directs, Directive, Sets, Aligns_to_power, Aligns_to_bytes, Expression}
 use Rattle.rv_source_laws.specs.Program.{Mapped, Program, number, has_values}
 use Rattle.rv_source_laws.specs.Written.{signed, Argument, Of_register, Of_number, arguments, written}
 use Rattle.rv_source_laws.specs.Meaning.{Line, Lie, AreLines, add_immediate, run_written, run_with, run_directive, run_said, meaning, cost, add_zero, alone, expanded_with, no_operation, expanded_directive, expanded_said, expansion}
@@ -148,14 +148,14 @@ does_directive (Aligns_to_bytes alignment) count address bytes lines e lie n som
 does_directive (Sets name expression) count address bytes lines e lie n some below = no_lines _ count address bytes lines e lie some
 does_directive _ count address bytes lines e lie n some below = absurd (cc)
 
-does_said : (v : Expression → ℕ) (says : Statement) (count address bytes : ℕ) (lines : List Line) → expanded_said v says bytes ≡ Some (map (λ (l : Line). l.instruction) lines) → Lie address lines (address + bytes) → count ≡ length (map (λ (l : Line). l.instruction) lines) → 0 < bytes → address + bytes < 2 ^ 64 → Does (run_said v says bytes) (λ h. count) address lines
+does_said : (v : Expression → ℕ) (says : StatementKind) (count address bytes : ℕ) (lines : List Line) → expanded_said v says bytes ≡ Some (map (λ (l : Line). l.instruction) lines) → Lie address lines (address + bytes) → count ≡ length (map (λ (l : Line). l.instruction) lines) → 0 < bytes → address + bytes < 2 ^ 64 → Does (run_said v says bytes) (λ h. count) address lines
 does_said v (Label name) count address bytes lines e lie n some below = no_lines _ count address bytes lines e lie some
 does_said v (Numbered number) count address bytes lines e lie n some below = no_lines _ count address bytes lines e lie some
 does_said v (Instruction mnemonic operands) count address bytes lines e lie n some below = does_with mnemonic (arguments v operands) count address bytes lines e lie n
 does_said v (Directs directive) count address bytes lines e lie n some below = does_directive directive count address bytes lines e lie n some below
 
 -- only where each name has a meaning
-does_where : (b : Bool) (v : Expression → ℕ) (says : Statement) (count address bytes : ℕ) (lines : List Line) → (if b then expanded_said v says bytes else None) ≡ Some (map (λ (l : Line). l.instruction) lines) → Lie address lines (address + bytes) → count ≡ length (map (λ (l : Line). l.instruction) lines) → 0 < bytes → address + bytes < 2 ^ 64 → Does (λ h. if b then run_said v says bytes h else Breaks) (λ h. count) address lines
+does_where : (b : Bool) (v : Expression → ℕ) (says : StatementKind) (count address bytes : ℕ) (lines : List Line) → (if b then expanded_said v says bytes else None) ≡ Some (map (λ (l : Line). l.instruction) lines) → Lie address lines (address + bytes) → count ≡ length (map (λ (l : Line). l.instruction) lines) → 0 < bytes → address + bytes < 2 ^ 64 → Does (λ h. if b then run_said v says bytes h else Breaks) (λ h. count) address lines
 does_where true v says count address bytes lines e lie n some below = does_said v says count address bytes lines e lie n some below
 does_where false v says count address bytes lines e lie n some below = absurd (cc)
 
@@ -163,4 +163,4 @@ does_where false v says count address bytes lines e lie n some below = absurd (c
 pub does : (p : Program) (s : Mapped) (lines : List Line) → AreLines p s lines → IsRowOf (expansion p s) s.row → 0 < s.row.bytes → s.row.address + s.row.bytes < 2 ^ 64 → Does (meaning p s) (cost p s) s.row.address lines
 does p s lines are fits some below =
     let row = subst (λ o. IsRowOf o s.row) are.0 fits in
-    does_where (has_values p s) (number p s) s.located.says s.row.instructions s.row.address s.row.bytes lines are.0 are.1 row.1 some below
+    does_where (has_values p s) (number p s) s.located.kind s.row.instructions s.row.address s.row.bytes lines are.0 are.1 row.1 some below

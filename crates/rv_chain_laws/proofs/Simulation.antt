@@ -14,7 +14,7 @@ use Rattle.rv_isa_laws.specs.Kept.{GoesOn, Kept}
 use Rattle.rv_isa_laws.proofs.EffectLaws.{effect_keeps}
 use Rattle.rv_isa_laws.specs.Reader.{Reader}
 use Rattle.rv_isa_laws.specs.Run.{Fetched, Got, NoRight, NoInstruction, fetch, step, run, done, machine_run}
-use Rattle.rv_statement.specs.Statement.{Spoken}
+use Rattle.rv_statement.specs.Statement.{Statement}
 use Rattle.rv_map.specs.Map.{Map}
 use Rattle.rv_source_laws.specs.Program.{Mapped, Program, program}
 use Rattle.rv_source_laws.specs.Meaning.{meaning, cost}
@@ -188,13 +188,13 @@ module _ {Spells StandsFor : ℕ → Inst → Type 0} (reader : Reader Spells St
     simulates (suc most) left le h m s b pc even = any_turn most left le (simulates most) h m s b pc even (place p h.pc) refl
 
 -- the law
-pub agreement : {Spells StandsFor : ℕ → Inst → Type 0} (reader : Reader Spells StandsFor) (m : Mem) (sources : List (List Spoken)) (map : Map) → Realizes reader m (program sources map) → map.entry < 2 ^ 64 → map.entry % 2 ≡ 0 → (input : List ℕ) (n : ℕ) → Agrees (source_run sources map input n) (machine_run reader m map.entry input n)
+pub agreement : {Spells StandsFor : ℕ → Inst → Type 0} (reader : Reader Spells StandsFor) (m : Mem) (sources : List (List Statement)) (map : Map) → Realizes reader m (program sources map) → map.entry < 2 ^ 64 → map.entry % 2 ≡ 0 → (input : List ℕ) (n : ℕ) → Agrees (source_run sources map input n) (machine_run reader m map.entry input n)
 agreement reader m sources map r below even input n =
     simulates reader (program sources map) m r n n (omega arith) (start map.entry input) m (first_memory (program sources map))
     (record { machine = r.rights; source = λ a less right. refl; read = r.bytes; kept = λ a less runs. refl })
     below even
 
 -- an image that holds the program for every reading of it, with the map's entry
-pub agreement_of_image : {Spells StandsFor : ℕ → Inst → Type 0} (sources : List (List Spoken)) (map : Map) (m : Mem) (entry : ℕ) → ((reader : Reader Spells StandsFor) → Realizes reader m (program sources map)) → entry ≡ map.entry → map.entry < 2 ^ 64 → map.entry % 2 ≡ 0 → (reader : Reader Spells StandsFor) (input : List ℕ) (n : ℕ) → Agrees (source_run sources map input n) (machine_run reader m entry input n)
+pub agreement_of_image : {Spells StandsFor : ℕ → Inst → Type 0} (sources : List (List Statement)) (map : Map) (m : Mem) (entry : ℕ) → ((reader : Reader Spells StandsFor) → Realizes reader m (program sources map)) → entry ≡ map.entry → map.entry < 2 ^ 64 → map.entry % 2 ≡ 0 → (reader : Reader Spells StandsFor) (input : List ℕ) (n : ℕ) → Agrees (source_run sources map input n) (machine_run reader m entry input n)
 agreement_of_image sources map m entry realizes same below even reader input n =
     subst (λ e. Agrees (source_run sources map input n) (machine_run reader m e input n)) (sym same) (agreement reader m sources map (realizes reader) below even input n)

@@ -6,7 +6,7 @@ use Rattle.std.specs.List.{AllByRecursion}
 use Rattle.rv_isa.specs.declared.instruction.Inst.{Inst}
 use Rattle.rv_isa_laws.specs.Platform.{stack_start}
 use Rattle.rv_encode.specs.Word.{form, word}
-use Rattle.rv_statement.specs.Statement.{Spoken}
+use Rattle.rv_statement.specs.Statement.{Statement}
 use Rattle.rv_image.specs.Linked.{Linked}
 use Rattle.rv_unit_laws.specs.Sections.{goes_to_text, goes_to_rodata, goes_to_data}
 use Rattle.rv_source_laws.specs.Program.{Mapped, Program, program}
@@ -44,7 +44,7 @@ abbrev pub IsCodeWritten : Program → Type 0
 IsCodeWritten p = AllByRecursion (λ s. IsTrue s.located.home.executable → IsWritten p s) p.mapped
 
 -- the linked program of sources: its map fits them, and each region has the bytes of its sections, bss zeros
-pub record IsLinked (sources : List (List Spoken)) (text_start : ℕ) (l : Linked) : Type 0 where
+pub record IsLinked (sources : List (List Statement)) (text_start : ℕ) (l : Linked) : Type 0 where
   pub fits : Fits sources l.map text_start
   pub resolves : Resolves sources l.map
   pub written : IsCodeWritten (program sources l.map)

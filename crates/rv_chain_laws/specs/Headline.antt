@@ -3,7 +3,7 @@
 
 use Rattle.std.specs.Prelude.{◌≡◌, ℕ, ◌<◌, Bool, if◌then◌else◌, List, [], ◌∷◌, ⊤, None}
 use Rattle.std.specs.List.{AllByRecursion}
-use Rattle.rv_statement.specs.Statement.{Spoken}
+use Rattle.rv_statement.specs.Statement.{Statement}
 use Rattle.rv_parse_laws.specs.Reading.{Reads}
 use Rattle.rv_map.specs.Map.{Map}
 use Rattle.rv_map.specs.Text.{map_text}
@@ -24,7 +24,7 @@ use Rattle.rv_source_laws.specs.Resolves.{Resolves}
 use Rattle.rv_chain_laws.specs.Agrees.{Agrees}
 
 -- each text reads as its list of statements
-abbrev pub AllRead : List (List ℕ) → List (List Spoken) → Type 0
+abbrev pub AllRead : List (List ℕ) → List (List Statement) → Type 0
 AllRead [] [] = ⊤
 AllRead [] (statements ∷ sources) = ⊥
 AllRead (text ∷ texts) [] = ⊥
@@ -35,7 +35,7 @@ abbrev pub AreBytes : List ℕ → Type 0
 AreBytes bytes = AllByRecursion (λ byte. byte < 256) bytes
 
 -- for every input and every limit, the machine's run over the image agrees with the sources' run at the map
-abbrev pub RunsAgree : List (List Spoken) → Map → Image → Type 0
+abbrev pub RunsAgree : List (List Statement) → Map → Image → Type 0
 RunsAgree sources map image =
     (reader : Reader Spells StandsFor) (input : List ℕ) → AreBytes input → (n : ℕ)
     → Agrees (source_run sources map input n) (machine_run reader (mem_of image) image.entry input n)
@@ -46,7 +46,7 @@ rvc_flag is_set = if is_set then 1 else 0
 
 -- what the texts of the sources, the text's start, the bytes of the executable and those of the map have to do with one another
 pub record TheHeadline (texts : List (List ℕ)) (text_start : ℕ) (executable map_bytes : List ℕ) : Type 0 where
-  pub sources : List (List Spoken)
+  pub sources : List (List Statement)
   pub read : AllRead texts sources
   -- the printed map: it fits the sources and resolves their names
   pub map : Map

@@ -10,7 +10,7 @@ use Rattle.rv_text_laws.specs.Codes.{unsupported_here, not_constant, immediate_r
 use Rattle.rv_text_laws.specs.Values.{Value, Constant, Symbolic, Difference, Faulty}
 use Rattle.rv_statement.specs.declared.mnemonic.Mnemonic.{Mnemonic}
 use Rattle.rv_statement.specs.declared.mnemonic.Mnemonic.TheVariants.{Registers, Shift, Upper, Li}
-use Rattle.rv_statement.specs.Statement.{Statement, Instruction, Directs, Spoken, Expression, Directive, Values}
+use Rattle.rv_statement.specs.Statement.{StatementKind, Instruction, Directs, Statement, Expression, Directive, Values}
 use Rattle.rv_parse_laws.specs.Syntax.{with_constant}
 use Rattle.rv_unit_laws.specs.Sections.{Section}
 use Rattle.rv_unit_laws.specs.Tables.{Tables, Definition, tables, definition as home, value, longest_section}
@@ -49,7 +49,7 @@ operand_faults mnemonic (Faulty code) = code ∷ []
 operand_faults mnemonic _ = not_constant ∷ []
 
 -- the codes of an instruction's faults, by the values of its expressions
-abbrev pub instruction_faults : Options → (Expression → Value) → Statement → List ℕ
+abbrev pub instruction_faults : Options → (Expression → Value) → StatementKind → List ℕ
 instruction_faults o v (Instruction mnemonic operands) =
     faulty_if o.rvc unsupported_here ++ flat_map (λ e. operand_faults mnemonic (v e)) (expressions (Instruction mnemonic operands))
 instruction_faults o v _ = []
@@ -57,17 +57,17 @@ instruction_faults o v _ = []
 abbrev pub instruction_fault_from : Tables → Options → List Located → Option Fault
 instruction_fault_from t o [] = None
 instruction_fault_from t o (s ∷ ss) =
-    at_line s.line (lowest (instruction_faults o (λ e. value t true s.ordinal (place_of s) e) s.says))
-    (instruction_fault_from t (options_after o s.says) ss)
+    at_line s.line (lowest (instruction_faults o (λ e. value t true s.ordinal (place_of s) e) s.kind))
+    (instruction_fault_from t (options_after o s.kind) ss)
 
 -- the first faulty instruction, with the lowest code of its faults
-abbrev pub instruction_fault : List Spoken → Option Fault
+abbrev pub instruction_fault : List Statement → Option Fault
 instruction_fault ss = instruction_fault_from (tables ss) first_options (located (ss ∷ []))
 
 -- ---- the sizes of code
 
 -- an instruction has four bytes
-abbrev pub code_size : Statement → ℕ
+abbrev pub code_size : StatementKind → ℕ
 code_size (Instruction mnemonic operands) = 4
 code_size _ = 0
 
@@ -78,11 +78,11 @@ grown sizes section bytes j = if j == section then sizes j + bytes else sizes j
 abbrev pub size_fault_from : (ℕ → ℕ) → List Located → Option Fault
 size_fault_from sizes [] = None
 size_fault_from sizes (s ∷ ss) =
-    at_line s.line (if nat_lt longest_section (sizes s.section + code_size s.says) then Some limit else None)
-    (size_fault_from (grown sizes s.section (code_size s.says)) ss)
+    at_line s.line (if nat_lt longest_section (sizes s.section + code_size s.kind) then Some limit else None)
+    (size_fault_from (grown sizes s.section (code_size s.kind)) ss)
 
 -- the first statement whose end passes the longest section of code
-abbrev pub size_fault : List Spoken → Option Fault
+abbrev pub size_fault : List Statement → Option Fault
 size_fault ss = size_fault_from (λ j. 0) (located (ss ∷ []))
 
 -- ---- the first fault of a source
@@ -92,7 +92,7 @@ else_fault (Some f) other = Some f
 else_fault None other = other
 
 -- labels and directives come first, then instructions, then sizes
-abbrev pub statements_fault : List Spoken → Option Fault
+abbrev pub statements_fault : List Statement → Option Fault
 statements_fault ss = else_fault (first_fault ss) (else_fault (instruction_fault ss) (size_fault ss))
 
 -- ---- the link of one source
@@ -126,19 +126,19 @@ missing_in has (Difference q r k) = missing has q ++ missing has r
 missing_in has (Faulty code) = []
 
 -- values of data refer to symbols
-abbrev pub data_values : Statement → List Expression
+abbrev pub data_values : StatementKind → List Expression
 data_values (Directs (Values width values)) = values
 data_values _ = []
 
 -- whether what a statement names has an address
-abbrev pub has_address : List Spoken → Located → Primary → Bool
+abbrev pub has_address : List Statement → Located → Primary → Bool
 has_address ss s q = has_address_by (located (ss ∷ [])) q (home (tables ss) s.ordinal q)
 
 -- what a statement refers to without an address; those of a section that isn't loaded don't count
-abbrev pub missing_by : List Spoken → Located → List (List ℕ)
+abbrev pub missing_by : List Statement → Located → List (List ℕ)
 missing_by ss s =
     if s.home.loaded
-    then flat_map (λ e. missing_in (has_address ss s) (value (tables ss) true s.ordinal (place_of s) e)) (data_values s.says)
+    then flat_map (λ e. missing_in (has_address ss s) (value (tables ss) true s.ordinal (place_of s) e)) (data_values s.kind)
     else []
 
 -- the statements by section, and then in their order
@@ -146,7 +146,7 @@ abbrev pub in_sections : List Located → ℕ → List Section → List Located
 in_sections ss place [] = []
 in_sections ss place (section ∷ sections) = filter (λ s. s.section == place) ss ++ in_sections ss (suc place) sections
 
-abbrev pub by_section : List Spoken → List Located
+abbrev pub by_section : List Statement → List Located
 by_section ss = in_sections (located (ss ∷ [])) 0 (tables ss).opened.sections
 
 abbrev pub first_name : List (List ℕ) → Option (List ℕ)
@@ -154,10 +154,10 @@ first_name [] = None
 first_name (name ∷ names) = Some name
 
 -- the first name without an address, by section and then by place
-abbrev pub undefined : List Spoken → Option (List ℕ)
+abbrev pub undefined : List Statement → Option (List ℕ)
 undefined ss = first_name (flat_map (missing_by ss) (by_section ss))
 
-abbrev pub has_entry : List Spoken → Bool
+abbrev pub has_entry : List Statement → Bool
 has_entry ss = list_any (begins_run (ss ∷ [])) (located (ss ∷ []))
 
 abbrev pub overflows_in : Program → Mapped → Directive → Bool
@@ -165,18 +165,18 @@ overflows_in p s (Values width values) = (width == 4) && list_any (λ e. is_symb
 overflows_in p s _ = false
 
 abbrev pub overflows_at : Program → Mapped → Bool
-overflows_at p s = elim s.located.says [
+overflows_at p s = elim s.located.kind [
   | Directs directive ↦ overflows_in p s directive
   | _ ↦ false
 ]
 
-abbrev pub overflows : List Spoken → Map → Bool
+abbrev pub overflows : List Statement → Map → Bool
 overflows ss m = let p = program (ss ∷ []) m in list_any (overflows_at p) p.mapped
 
 -- ---- the map of a source without faults
 
 -- the map that a source has from a text start on, where each instruction has four bytes
-pub record IsMapOf (start : ℕ) (ss : List Spoken) (m : Map) : Type 0 where
+pub record IsMapOf (start : ℕ) (ss : List Statement) (m : Map) : Type 0 where
   pub fits : Fits (ss ∷ []) m start
   pub resolves : Resolves (ss ∷ []) m
   pub written : IsCodeWritten (program (ss ∷ []) m)

@@ -4,7 +4,7 @@
 ghost use Rattle.std.specs.Prelude.{◌≡◌, ℕ, ◌^◌, ◌%◌, ◌<◌, List, [], ◌∷◌, None, true};
 ghost use Rattle.rv_unit_laws.specs.Faults.{first_fault};
 ghost use Rattle.rv_isa_laws.specs.Memory.{Mem};
-ghost use Rattle.rv_statement.specs.Statement.{Spoken};
+ghost use Rattle.rv_statement.specs.Statement.{Statement};
 ghost use Rattle.rv_map.specs.Map.{Map};
 ghost use Rattle.rv_encode.specs.Word.{Spells};
 ghost use Rattle.rv_compress.specs.Parcel.{StandsFor};
@@ -31,7 +31,7 @@ pub fn code_has_a_reader()
 /// Where memory holds the statements of the sources at the rows of a map, and the map's entry is an
 /// even address, the two runs agree for every input and every limit.
 pub fn runs_agree()
-    ensures { (reader : Reader Spells StandsFor) (m : Mem) (sources : List (List Spoken)) (map : Map)
+    ensures { (reader : Reader Spells StandsFor) (m : Mem) (sources : List (List Statement)) (map : Map)
         → Realizes reader m (program sources map) → map.entry < 2 ^ 64 → map.entry % 2 ≡ 0
         → (input : List ℕ) (n : ℕ)
         → Agrees (source_run sources map input n) (machine_run reader m map.entry input n) }
@@ -40,18 +40,18 @@ pub fn runs_agree()
 /// Where the regions of a linked program hold the sections of its sources, code and data, the image
 /// of the program runs as their statements do, for every input and every limit.
 pub fn linked_runs_agree()
-    ensures { (start : ℕ) (sources : List (List Spoken)) (l : Linked)
+    ensures { (start : ℕ) (sources : List (List Statement)) (l : Linked)
         → IsLinked sources start l → RunsAgree sources l.map (linked_image l) }
 {}
 
 /// In one source without a faulty label or directive no name has two global definitions.
 pub fn names_are_distinct()
-    ensures { (ss : List Spoken) (map : Map)
+    ensures { (ss : List Statement) (map : Map)
         → first_fault ss ≡ None → AreDistinct (global_names (ss ∷ []) map) }
 {}
 
 /// A source that has a map has an entry: no source is refused both for want of one and for its size.
 pub fn a_map_has_an_entry()
-    ensures { (start : ℕ) (ss : List Spoken) (map : Map)
+    ensures { (start : ℕ) (ss : List Statement) (map : Map)
         → IsMapOf start ss map → has_entry ss ≡ true }
 {}

@@ -6,7 +6,7 @@ use Rattle.std.specs.Str.{bytes_eq}
 use Rattle.std.specs.Borrow.{Bor}
 use Rattle.std.proofs.lemmas.List.{take_more, get_or-map, length-map, map-append}
 use Rattle.std.proofs.lemmas.List.Folds.{list_any-append}
-use Rattle.rv_statement.specs.Statement.{Spoken}
+use Rattle.rv_statement.specs.Statement.{Statement}
 use Rattle.rv_statement.specs.View.{now_of}
 use Rattle.rv_map.specs.Map.{Global}
 use Rattle.rv_source_laws.specs.Resolves.{is_one_of, made_global, is_global_after}
@@ -48,12 +48,12 @@ pub taken_away : (xs : List (Bor (List ℕ))) (i : ℕ) (d : Bor (List ℕ)) (na
 taken_away xs i d name before inside =
     not_moves (bytes_eq (get_or xs i d).now name) (is_one_of (map now_of (take i xs)) name) before ∙ ap (λ b. not b && before) (sym (one_of_more xs i d name inside))
 
-global_snoc : (before : Bool) (ss : List Spoken) (s : Spoken) (name : List ℕ) → is_global_after before (ss ++ s ∷ []) name ≡ made_global s.says name (is_global_after before ss name)
+global_snoc : (before : Bool) (ss : List Statement) (s : Statement) (name : List ℕ) → is_global_after before (ss ++ s ∷ []) name ≡ made_global s.kind name (is_global_after before ss name)
 global_snoc before [] s name = refl
-global_snoc before (r ∷ ss) s name = global_snoc (made_global r.says name before) ss s name
+global_snoc before (r ∷ ss) s name = global_snoc (made_global r.kind name before) ss s name
 
-pub global_more : {X : Type 0} (f : X → Spoken) (xs : List X) (i : ℕ) (x : X) (name : List ℕ) → i < length xs → x ≡ get_or xs i x
-    → made_global (f x).says name (is_global_after false (take i (map f xs)) name) ≡ is_global_after false (take (i + 1) (map f xs)) name
+pub global_more : {X : Type 0} (f : X → Statement) (xs : List X) (i : ℕ) (x : X) (name : List ℕ) → i < length xs → x ≡ get_or xs i x
+    → made_global (f x).kind name (is_global_after false (take i (map f xs)) name) ≡ is_global_after false (take (i + 1) (map f xs)) name
 global_more f xs i x name inside same =
     let long : i < length (map f xs) = subst (λ n. i < n) (sym (length-map xs f)) inside in
     let at : get_or (map f xs) i (f x) ≡ f x = get_or-map f xs i x (f x) inside ∙ ap f (sym same) in
@@ -62,12 +62,12 @@ global_more f xs i x name inside same =
 -- ---- definitions
 
 -- one statement's definition more
-pub defined_more : (test : List ℕ → Bool) (t : Tables) (starts : List ℕ) (all_items : List Item) (k m : ℕ) (rest next : List Spoken) (items behind : List Item) (s : Spoken) (i : Item) (old new all : List Global)
-    → m ≡ suc k → rest ≡ s ∷ next → items ≡ i ∷ behind → new ≡ old ++ defined_by test t starts all_items k s.says i
+pub defined_more : (test : List ℕ → Bool) (t : Tables) (starts : List ℕ) (all_items : List Item) (k m : ℕ) (rest next : List Statement) (items behind : List Item) (s : Statement) (i : Item) (old new all : List Global)
+    → m ≡ suc k → rest ≡ s ∷ next → items ≡ i ∷ behind → new ≡ old ++ defined_by test t starts all_items k s.kind i
     → old ++ definitions_from test t starts all_items k rest items ≡ all → new ++ definitions_from test t starts all_items m next behind ≡ all
 defined_more test t starts all_items k m rest next items behind s i old new all after here at more h =
     let later = definitions_from test t starts all_items (suc k) next behind in
-    ap (λ n. new ++ definitions_from test t starts all_items n next behind) after ∙ ap (λ l. l ++ later) more ∙ append_assoc old (defined_by test t starts all_items k s.says i) later
+    ap (λ n. new ++ definitions_from test t starts all_items n next behind) after ∙ ap (λ l. l ++ later) more ∙ append_assoc old (defined_by test t starts all_items k s.kind i) later
     ∙ ap (λ l. old ++ definitions_from test t starts all_items k (s ∷ next) l) (sym at) ∙ ap (λ l. old ++ definitions_from test t starts all_items k l items) (sym here) ∙ h
 
 -- ---- names that are defined
@@ -88,22 +88,22 @@ none_passes test name (own ∷ names) e = go (test own) refl (none_passes test n
     go true f ih = ap (λ b. b || is_one_of (filter test names) name) (is_no (bytes_eq own name) (λ g. let h : test name ≡ true = ap test (sym (bytes_same own name g)) ∙ f in cc)) ∙ ih
     go false f ih = ih
 
-pub no_name : (test : List ℕ → Bool) (t : Tables) (name : List ℕ) (k : ℕ) (ss : List Spoken) → test name ≡ false → is_one_of (names_from test t k ss) name ≡ false
+pub no_name : (test : List ℕ → Bool) (t : Tables) (name : List ℕ) (k : ℕ) (ss : List Statement) → test name ≡ false → is_one_of (names_from test t k ss) name ≡ false
 no_name test t name k [] e = refl
 no_name test t name k (s ∷ ss) e =
-    list_any-append (λ n. bytes_eq n name) (named_by test t k s.says) (names_from test t (suc k) ss)
-    ∙ ap (λ b. b || is_one_of (names_from test t (suc k) ss) name) (none_passes test name (defined_name t k s.says) e) ∙ no_name test t name (suc k) ss e
+    list_any-append (λ n. bytes_eq n name) (named_by test t k s.kind) (names_from test t (suc k) ss)
+    ∙ ap (λ b. b || is_one_of (names_from test t (suc k) ss) name) (none_passes test name (defined_name t k s.kind) e) ∙ no_name test t name (suc k) ss e
 
 -- whether the first statement, or one of the others, defines this name
-pub first_or : (test : List ℕ → Bool) (t : Tables) (name : List ℕ) (k m : ℕ) (rest next : List Spoken) (s : Spoken) (b : Bool) → m ≡ suc k → rest ≡ s ∷ next → b ≡ is_one_of (named_by test t k s.says) name
+pub first_or : (test : List ℕ → Bool) (t : Tables) (name : List ℕ) (k m : ℕ) (rest next : List Statement) (s : Statement) (b : Bool) → m ≡ suc k → rest ≡ s ∷ next → b ≡ is_one_of (named_by test t k s.kind) name
     → is_one_of (names_from test t k rest) name ≡ (b || is_one_of (names_from test t m next) name)
 first_or test t name k m rest next s b after here e =
-    ap (λ l. is_one_of (names_from test t k l) name) here ∙ list_any-append (λ n. bytes_eq n name) (named_by test t k s.says) (names_from test t (suc k) next)
+    ap (λ l. is_one_of (names_from test t k l) name) here ∙ list_any-append (λ n. bytes_eq n name) (named_by test t k s.kind) (names_from test t (suc k) next)
     ∙ ap (λ c. c || is_one_of (names_from test t (suc k) next) name) (sym e) ∙ ap (λ n. b || is_one_of (names_from test t n next) name) (sym after)
 
 -- ---- the entry
 
-pub entry_here : (starts : List ℕ) (rest next : List Spoken) (items behind : List Item) (s : Spoken) (i : Item) (b : Bool) → rest ≡ s ∷ next → items ≡ i ∷ behind → (is_start s.says && i.text) ≡ b
+pub entry_here : (starts : List ℕ) (rest next : List Statement) (items behind : List Item) (s : Statement) (i : Item) (b : Bool) → rest ≡ s ∷ next → items ≡ i ∷ behind → (is_start s.kind && i.text) ≡ b
     → entry_from starts rest items ≡ (if b then Some (address_of starts i) else entry_from starts next behind)
 entry_here starts rest next items behind s i b here at e =
     ap (λ l. entry_from starts l items) here ∙ ap (λ l. entry_from starts (s ∷ next) l) at ∙ ap (λ c. if c then Some (address_of starts i) else entry_from starts next behind) e

@@ -3,7 +3,7 @@
 use Rattle.std.specs.Borrow.{Bor}
 use Rattle.std.specs.List.{list_all}
 use Rattle.std.specs.Prelude.{◌≡◌, ℕ, suc, ⊤, Bool, Option, Some, None, List, [], ◌∷◌, if◌then◌else◌}
-use Rattle.rv_statement.specs.Statement.{Spoken}
+use Rattle.rv_statement.specs.Statement.{Statement}
 use Rattle.rv_unit_laws.specs.Tables.{Tables}
 use Rattle.rv_map.specs.Map.{Global}
 use Rattle.rv_map.specs.Name.{is_name}
@@ -22,9 +22,9 @@ abbrev pub unshown : List Global → ℕ → Option ℕ
 unshown globals line = if list_all (λ g. is_name g.name) globals then None else Some line
 
 -- that of the first statement from an ordinal on which defines one
-abbrev pub first_unshown : (List ℕ → Bool) → Tables → List ℕ → List Item → ℕ → List Spoken → List Item → Option ℕ
+abbrev pub first_unshown : (List ℕ → Bool) → Tables → List ℕ → List Item → ℕ → List Statement → List Item → Option ℕ
 first_unshown is_global t starts items ordinal (s ∷ ss) (i ∷ is) =
-    if list_all (λ g. is_name g.name) (defined_by is_global t starts items ordinal s.says i) then first_unshown is_global t starts items (suc ordinal) ss is else Some s.line
+    if list_all (λ g. is_name g.name) (defined_by is_global t starts items ordinal s.kind i) then first_unshown is_global t starts items (suc ordinal) ss is else Some s.line
 first_unshown is_global t starts items ordinal ss is = None
 
 -- a refusal is at this line; memory may run out whatever the names are

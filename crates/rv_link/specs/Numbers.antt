@@ -11,7 +11,7 @@ use Rattle.rv_text_laws.specs.Expression.{Primary, Symbol, Tree}
 use Rattle.rv_text.specs.Nodes.{symbol_of}
 use Rattle.rv_text.specs.Eval.{IsOutcome}
 use Rattle.rv_text_laws.specs.Values.{Value, Symbolic, Difference, add}
-use Rattle.rv_statement.specs.Statement.{Statement, Directs, Values, Zeros}
+use Rattle.rv_statement.specs.Statement.{StatementKind, Directs, Values, Zeros}
 use Rattle.rv_unit_laws.specs.Tables.{Definition, tables, definition, value as value_in_file}
 use Rattle.rv_tables.specs.Sections.{offset_of}
 use Rattle.rv_unit.specs.Unit.{said, IsFilled, IsScope}
@@ -63,7 +63,7 @@ abbrev pub Gives : Numbers → (Tree → ℕ) → Type 0
 Gives n v = (e : Tree) (k : ℕ) → IsNumber n e k → v e ≡ k
 
 -- a statement that spells zeros has this count of bytes
-abbrev pub Counts : (Tree → ℕ) → Statement → ℕ → Type 0
+abbrev pub Counts : (Tree → ℕ) → StatementKind → ℕ → Type 0
 Counts v says bytes = (e : Tree) → says ≡ Directs (Zeros e) → v e ≡ bytes
 
 -- ---- what has a number, by the items and the addresses of names
@@ -118,7 +118,7 @@ abbrev pub AreKept : Numbers → ℕ → List Tree → Type 0
 AreKept n width es = AllByRecursion (λ e. (k : ℕ) × IsKept n width e k) es
 
 -- so has each value of a statement
-abbrev pub KeepsData : Numbers → Statement → Type 0
+abbrev pub KeepsData : Numbers → StatementKind → Type 0
 KeepsData n (Directs (Values width es)) = AreKept n width es
 KeepsData n says = ⊤
 
@@ -128,7 +128,7 @@ RefusesFirst n width [] f = ⊥
 RefusesFirst n width (e ∷ es) f = IsRefused n width e f ⊎ (((k : ℕ) × IsKept n width e k) × RefusesFirst n width es f)
 
 -- a statement of data has no bytes: memory has run out, or one of its values has no number
-abbrev pub RefusesData : Numbers → Statement → DataFault → Type 0
+abbrev pub RefusesData : Numbers → StatementKind → DataFault → Type 0
 RefusesData n says faults.OutOfMemory = ⊤
 RefusesData n (Directs (Values width es)) f = RefusesFirst n width es f
 RefusesData n says f = ⊥

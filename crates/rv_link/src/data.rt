@@ -3,7 +3,7 @@
 ghost use Rattle.std.specs.Prelude.{◌≡◌, ◌+◌, ◌++◌, ℕ, List, [], ◌∷◌, flat_map, map, replicate, IfOk, IfErr, OnOk};
 ghost use Rattle.rv_text_laws.specs.Expression.{Tree};
 ghost use Rattle.rv_text.specs.Expr.{tree_of_expr};
-ghost use Rattle.rv_statement.specs.View.{bytes_of, quoted, statement_of};
+ghost use Rattle.rv_statement.specs.View.{bytes_of, quoted, statement_kind};
 ghost use Rattle.rv_statement.specs.Statement.{Directs, Values};
 ghost use Rattle.rv_unit_laws.specs.Tables.{string_bytes};
 ghost use Rattle.rv_source_laws.specs.Start.{little_endian, spelled_said};
@@ -99,10 +99,10 @@ pub fn put_data<'a>(
     count: u64,
     numbers: &Numbers<'_, '_, 'a>,
 ) -> Result<(), DataFault<'a>>
-    ensures spells { OnOk result ((v : Tree → ℕ) → Gives numbers.now v → Counts v (statement_of kind.now) count
-        → bytes.new.items ≡ bytes.old.items ++ spelled_said (λ e. v e) (statement_of kind.now) count) }
-    ensures kept { OnOk result (KeepsData numbers.now (statement_of kind.now)) }
-    ensures refused { IfErr result (RefusesData numbers.now (statement_of kind.now)) }
+    ensures spells { OnOk result ((v : Tree → ℕ) → Gives numbers.now v → Counts v (statement_kind kind.now) count
+        → bytes.new.items ≡ bytes.old.items ++ spelled_said (λ e. v e) (statement_kind kind.now) count) }
+    ensures kept { OnOk result (KeepsData numbers.now (statement_kind kind.now)) }
+    ensures refused { IfErr result (RefusesData numbers.now (statement_kind kind.now)) }
 {
     match kind {
         StatementKind::Value(width, value) => put_value(bytes, *width, value, numbers),

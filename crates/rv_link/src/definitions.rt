@@ -1,7 +1,7 @@
 //! The names that a source defines for all files, with their addresses.
 
 ghost use Rattle.std.specs.Prelude.{◌≡◌, ◌++◌, ℕ, List, [], ◌∷◌, Bool, None, Some, true, map, length, IfOk, IfErr, OnOk};
-ghost use Rattle.rv_statement.specs.View.{said_by};
+ghost use Rattle.rv_statement.specs.View.{statement_of};
 ghost use Rattle.rv_unit_laws.specs.Tables.{tables};
 ghost use Rattle.rv_tables.specs.Tables.{assignment_of};
 ghost use Rattle.rv_unit.specs.Unit.{said, IsFilled};
@@ -104,9 +104,9 @@ fn put_definition(
     item: Item,
 ) -> Result<(), NameFault>
     ensures defines { OnOk result ((test : List ℕ → Bool) → IsFilled (placed.now).unit.now → Has (names.now).globals.now.set test → AreFirsts (names.now).firsts.ordinals (tables (said (placed.now).unit.now)).assignments →
-        map global_of defined.new.items ≡ map global_of defined.old.items ++ defined_by test (tables (said (placed.now).unit.now)) (placed.now).starts.now (placed.now).items.now ordinal (said_by statement.now).says item) }
-    ensures shown { OnOk result ((test : List ℕ → Bool) → IsFilled (placed.now).unit.now → Has (names.now).globals.now.set test → AreFirsts (names.now).firsts.ordinals (tables (said (placed.now).unit.now)).assignments → unshown (defined_by test (tables (said (placed.now).unit.now)) (placed.now).starts.now (placed.now).items.now ordinal (said_by statement.now).says item) (statement.now).line ≡ None) }
-    ensures refused { IfErr result (λ e. (test : List ℕ → Bool) → IsFilled (placed.now).unit.now → Has (names.now).globals.now.set test → AreFirsts (names.now).firsts.ordinals (tables (said (placed.now).unit.now)).assignments → NamesLine e (unshown (defined_by test (tables (said (placed.now).unit.now)) (placed.now).starts.now (placed.now).items.now ordinal (said_by statement.now).says item) (statement.now).line)) }
+        map global_of defined.new.items ≡ map global_of defined.old.items ++ defined_by test (tables (said (placed.now).unit.now)) (placed.now).starts.now (placed.now).items.now ordinal (statement_of statement.now).kind item) }
+    ensures shown { OnOk result ((test : List ℕ → Bool) → IsFilled (placed.now).unit.now → Has (names.now).globals.now.set test → AreFirsts (names.now).firsts.ordinals (tables (said (placed.now).unit.now)).assignments → unshown (defined_by test (tables (said (placed.now).unit.now)) (placed.now).starts.now (placed.now).items.now ordinal (statement_of statement.now).kind item) (statement.now).line ≡ None) }
+    ensures refused { IfErr result (λ e. (test : List ℕ → Bool) → IsFilled (placed.now).unit.now → Has (names.now).globals.now.set test → AreFirsts (names.now).firsts.ordinals (tables (said (placed.now).unit.now)).assignments → NamesLine e (unshown (defined_by test (tables (said (placed.now).unit.now)) (placed.now).starts.now (placed.now).items.now ordinal (statement_of statement.now).kind item) (statement.now).line)) }
 {
     let Some(name) = names.defined(ordinal, statement) else {
         return Ok(());
@@ -122,7 +122,7 @@ fn put_definition(
 impl Placed<'_, '_> {
     /// The address or the number of what a statement defines.
     fn defined_address(&self, statement: &Statement<'_>, item: Item) -> Option<u64>
-        ensures { IsFilled (self.now).unit.now → result ≡ defined_address (tables (said (self.now).unit.now)) (self.now).starts.now (self.now).items.now item (said_by statement.now).says }
+        ensures { IsFilled (self.now).unit.now → result ≡ defined_address (tables (said (self.now).unit.now)) (self.now).starts.now (self.now).items.now item (statement_of statement.now).kind }
     {
         match &statement.kind {
             StatementKind::Sets(setting) => match self.unit.assignment(setting.name) {

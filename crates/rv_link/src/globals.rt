@@ -2,8 +2,8 @@
 
 ghost use Rattle.std.specs.Prelude.{◌≡◌, ℕ, List, [], map, Bool, ◌||◌, ◌&&◌, not, false, IfOk, OnOk};
 ghost use Rattle.std.specs.Str.{bytes_eq};
-ghost use Rattle.rv_statement.specs.Statement.{Spoken};
-ghost use Rattle.rv_statement.specs.View.{said_by, now_of};
+ghost use Rattle.rv_statement.specs.Statement.{Statement as SpecStatement};
+ghost use Rattle.rv_statement.specs.View.{statement_of, now_of};
 ghost use Rattle.rv_source_laws.specs.Resolves.{is_one_of, made_global, is_global_after};
 ghost use Rattle.rv_link.specs.Globals.{Has, AreGlobals};
 
@@ -20,7 +20,7 @@ pub struct Globals<'a> {
 impl<'a> Globals<'a> {
     /// Those that are global after the statements: the last directive for a name holds.
     pub fn of(alloc: Global, statements: &[Statement<'a>]) -> Result<Self, AllocError>
-        ensures { IfOk result (λ globals. AreGlobals globals.set (map said_by statements.now)) }
+        ensures { IfOk result (λ globals. AreGlobals globals.set (map statement_of statements.now)) }
     {
         let mut globals = Globals {
             set: HashSet::new(alloc),
@@ -40,7 +40,7 @@ impl<'a> Globals<'a> {
 
     /// What a statement says of names.
     fn choose(&mut self, statement: &Statement<'a>) -> Result<(), AllocError>
-        ensures { OnOk result ((test : List ℕ → Bool) → Has (self.old).set test → Has (self.new).set (λ name. made_global (said_by statement.now).says name (test name))) }
+        ensures { OnOk result ((test : List ℕ → Bool) → Has (self.old).set test → Has (self.new).set (λ name. made_global (statement_of statement.now).kind name (test name))) }
     {
         match &statement.kind {
             StatementKind::Globl(names) => self.add_all(names.as_slice()),

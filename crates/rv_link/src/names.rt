@@ -1,7 +1,7 @@
 //! Which names a source defines for all files.
 
 ghost use Rattle.std.specs.Prelude.{◌≡◌, ℕ, List, [], ◌∷◌, Bool, filter, IfOk};
-ghost use Rattle.rv_statement.specs.View.{said_by};
+ghost use Rattle.rv_statement.specs.View.{statement_of};
 ghost use Rattle.rv_unit_laws.specs.Tables.{Tables};
 ghost use Rattle.rv_tables.specs.Tables.{tables_of};
 ghost use Rattle.rv_link.specs.Globals.{Has};
@@ -45,7 +45,7 @@ impl<'g, 'a> Names<'g, 'a> {
 
     /// The name that the statement of this ordinal defines for all files.
     pub(crate) fn defined<'s>(&self, ordinal: usize, statement: &Statement<'s>) -> Option<&'s [u8]>
-        ensures { (test : List ℕ → Bool) (t : Tables) → Has (self.now).globals.now.set test → AreFirsts (self.now).firsts.ordinals t.assignments → name_in result ≡ named_by test t ordinal (said_by statement.now).says }
+        ensures { (test : List ℕ → Bool) (t : Tables) → Has (self.now).globals.now.set test → AreFirsts (self.now).firsts.ordinals t.assignments → name_in result ≡ named_by test t ordinal (statement_of statement.now).kind }
     {
         match &statement.kind {
             StatementKind::Label(name) => self.global(*name),

@@ -1,7 +1,7 @@
 //! The names that the linker gives, and where a run begins.
 
 ghost use Rattle.std.specs.Prelude.{◌≡◌, ◌+◌, ◌++◌, ◌%◌, ◌<◌, ◌≤◌, ◌^◌, ℕ, List, [], ◌∷◌, Bool, not, true, length, map, filter, codes, Some, None, IfOk, IfErr, OnOk, IfSome, IfNone};
-ghost use Rattle.rv_statement.specs.View.{said_by};
+ghost use Rattle.rv_statement.specs.View.{statement_of};
 ghost use Rattle.rv_unit_laws.specs.Tables.{Tables};
 ghost use Rattle.rv_map.specs.Map.{global_of as shown_global};
 ghost use Rattle.rv_source_laws.specs.Resolves.{is_one_of, is_start, symbol};
@@ -22,7 +22,7 @@ use std::alloc::Global as Allocator;
 
 /// Whether the statement of this ordinal defines the name for all files.
 fn is_named(names: &Names<'_, '_>, ordinal: usize, statement: &Statement<'_>, name: &[u8]) -> bool
-    ensures { (test : List ℕ → Bool) (t : Tables) → Has (names.now).globals.now.set test → AreFirsts (names.now).firsts.ordinals t.assignments → result ≡ is_one_of (named_by test t ordinal (said_by statement.now).says) name.now }
+    ensures { (test : List ℕ → Bool) (t : Tables) → Has (names.now).globals.now.set test → AreFirsts (names.now).firsts.ordinals t.assignments → result ≡ is_one_of (named_by test t ordinal (statement_of statement.now).kind) name.now }
 {
     match names.defined(ordinal, statement) {
         Some(own) => own == name,
@@ -32,7 +32,7 @@ fn is_named(names: &Names<'_, '_>, ordinal: usize, statement: &Statement<'_>, na
 
 /// Whether a statement is the label where a run begins.
 fn is_entry(statement: &Statement<'_>) -> bool
-    ensures { result ≡ is_start (said_by statement.now).says }
+    ensures { result ≡ is_start (statement_of statement.now).kind }
 {
     match &statement.kind {
         StatementKind::Label(name) => *name == b"_start".as_slice(),
@@ -42,7 +42,7 @@ fn is_entry(statement: &Statement<'_>) -> bool
 
 /// Whether one of the statements defines the name for all files.
 fn defines(names: &Names<'_, '_>, statements: &[Statement<'_>], name: &[u8]) -> bool
-    ensures { (test : List ℕ → Bool) (t : Tables) → Has (names.now).globals.now.set test → AreFirsts (names.now).firsts.ordinals t.assignments → result ≡ is_one_of (names_from test t 1 (map said_by statements.now)) name.now }
+    ensures { (test : List ℕ → Bool) (t : Tables) → Has (names.now).globals.now.set test → AreFirsts (names.now).firsts.ordinals t.assignments → result ≡ is_one_of (names_from test t 1 (map statement_of statements.now)) name.now }
 {
     if !names.globals.has(name) {
         return false;
@@ -63,10 +63,10 @@ pub fn entry(
     items: &[Item],
 ) -> Option<u64>
     requires { length items.now ≡ length statements.now }
-    ensures start { IfSome result (λ a. entry_from starts.now (map said_by statements.now) items.now ≡ Some a) }
+    ensures start { IfSome result (λ a. entry_from starts.now (map statement_of statements.now) items.now ≡ Some a) }
     ensures even { IfSome result (λ a. a % 2 ≡ 0) }
     ensures global { IfSome result (λ a. (test : List ℕ → Bool) → Has (globals.now).set test → test (codes "_start") ≡ true) }
-    ensures none { IfNone result ((test : List ℕ → Bool) → Has (globals.now).set test → test (codes "_start") ≡ true → IfSome (entry_from starts.now (map said_by statements.now) items.now) (λ a. a % 2 ≡ 1)) }
+    ensures none { IfNone result ((test : List ℕ → Bool) → Has (globals.now).set test → test (codes "_start") ≡ true → IfSome (entry_from starts.now (map statement_of statements.now) items.now) (λ a. a % 2 ≡ 1)) }
 {
     if !globals.has(b"_start") {
         return None;
@@ -95,7 +95,7 @@ fn put_symbol(
     address: u64,
 ) -> Result<(), NameFault>
     ensures names { OnOk result ((test : List ℕ → Bool) (t : Tables) → Has (names.now).globals.now.set test → AreFirsts (names.now).firsts.ordinals t.assignments → map shown_global symbols.new.items ≡ map shown_global symbols.old.items
-        ++ filter (λ g. not (is_one_of (names_from test t 1 (map said_by statements.now)) g.name)) (symbol name.now address ∷ [])) }
+        ++ filter (λ g. not (is_one_of (names_from test t 1 (map statement_of statements.now)) g.name)) (symbol name.now address ∷ [])) }
     ensures refused { IfErr result (λ e. NamesLine e (unshown (symbol name.now address ∷ []) 0)) }
 {
     if defines(names, statements, name.as_bytes()) {
@@ -116,7 +116,7 @@ pub fn put_symbols(
 ) -> Result<(), NameFault>
     requires { (layout.now).data.start ≤ 0x3ff0_0000 }
     ensures names { OnOk result ((test : List ℕ → Bool) (t : Tables) → Has (names.now).globals.now.set test → AreFirsts (names.now).firsts.ordinals t.assignments → map shown_global symbols.new.items ≡ map shown_global symbols.old.items
-        ++ filter (λ g. not (is_one_of (names_from test t 1 (map said_by statements.now)) g.name))
+        ++ filter (λ g. not (is_one_of (names_from test t 1 (map statement_of statements.now)) g.name))
         (symbol (codes "_etext") (layout.now).text.end ∷ symbol (codes "__bss_start") (layout.now).bss.start ∷ symbol (codes "_edata") (layout.now).data.end
         ∷ symbol (codes "_end") (layout.now).bss.end ∷ symbol (codes "__global_pointer$") ((layout.now).data.start + 0x800) ∷ [])) }
     ensures refused { IfErr result (λ e. e ≡ OutOfMemory) }

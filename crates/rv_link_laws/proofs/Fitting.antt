@@ -13,7 +13,7 @@ use Rattle.rv_isa.specs.Ranges.{IsValid}
 use Rattle.rv_text_laws.specs.Expression.{Primary}
 use Rattle.rv_text_laws.specs.Values.{Value, Constant, Symbolic, Difference, Faulty}
 use Rattle.rv_statement.specs.declared.mnemonic.Mnemonic.{Mnemonic}
-use Rattle.rv_statement.specs.Statement.{Statement, Label, Numbered, Instruction, Directs, Expression, Operand, Register, Value as Of_value, Accesses, Word, Quoted, Directive, Sets, Aligns_to_power, Aligns_to_bytes, Values, Strings, Zeros}
+use Rattle.rv_statement.specs.Statement.{StatementKind, Label, Numbered, Instruction, Directs, Expression, Operand, Register, Value as Of_value, Accesses, Word, Quoted, Directive, Sets, Aligns_to_power, Aligns_to_bytes, Values, Strings, Zeros}
 use Rattle.rv_unit_laws.specs.Sections.{Section}
 use Rattle.rv_unit_laws.specs.Tables.{alignment_of, padding, aligned}
 use Rattle.rv_map.specs.declared.map.Row.{Row}
@@ -112,8 +112,8 @@ true_false true e f = absurd (cc)
 true_false false e f = absurd (cc)
 
 module _ (p : Program) (ordinal section offset line : ℕ) (home : Section) (placed : Bool) (row : Row) (before start : ℕ) where
-  abbrev at : Statement → Mapped
-  at says = record { located = record { file = 1; ordinal = ordinal; section = section; offset = offset; home = home; line = line; says = says; placed = placed }; row = row }
+  abbrev at : StatementKind → Mapped
+  at says = record { located = record { file = 1; ordinal = ordinal; section = section; offset = offset; home = home; line = line; kind = says; placed = placed }; row = row }
 
   abbrev f : Expression → Value
   f e = form p (at (Label [])).located e
@@ -128,7 +128,7 @@ module _ (p : Program) (ordinal section offset line : ℕ) (home : Section) (pla
       let valued : has_values p (at (Instruction m os)) ≡ true = constants_some a f (flat_map in_operand os) constants in
       ap (λ b. if b then expanded (number p (at (Instruction m os))) m os else None) valued ∙ ap (λ l. expanded_with m l) (same_arguments a f os constants) ∙ is
 
-  valued_alone : (e : Expression) (says : Statement) → expressions says ≡ e ∷ [] → is_constant (f e) ≡ true → has_values p (at says) ≡ true
+  valued_alone : (e : Expression) (says : StatementKind) → expressions says ≡ e ∷ [] → is_constant (f e) ≡ true → has_values p (at says) ≡ true
   valued_alone e says is constant =
       ap (λ es. list_all (λ e. is_some (resolved a (f e))) es) is ∙ true_and (is_some (resolved a (f e))) true (constant_some a (f e) constant) refl
 
@@ -156,7 +156,7 @@ module _ (p : Program) (ordinal section offset line : ℕ) (home : Section) (pla
   directive_fits (Sets name e) (bytes, none) = no_row row bytes none
   directive_fits _ h = absurd h
 
-  pub fits : (says : Statement) → Suits f (has_values p (at says)) home row before start says → SizeFits p (at says)
+  pub fits : (says : StatementKind) → Suits f (has_values p (at says)) home row before start says → SizeFits p (at says)
   fits (Label name) (bytes, none) = no_row row bytes none
   fits (Numbered digits) (bytes, none) = no_row row bytes none
   fits (Instruction m os) (bytes, one, (i, is)) =
@@ -183,7 +183,7 @@ module _ (p : Program) (ordinal section offset line : ℕ) (home : Section) (pla
   directive_written (Sets name e) (bytes, none) held yes' = ([], refl, bytes)
   directive_written _ h held yes' = absurd h
 
-  pub is_written : (says : Statement) → Suits f (has_values p (at says)) home row before start says → IsHeld home says → home.executable ≡ true → IsWritten p (at says)
+  pub is_written : (says : StatementKind) → Suits f (has_values p (at says)) home row before start says → IsHeld home says → home.executable ≡ true → IsWritten p (at says)
   is_written (Label name) (bytes, none) held yes' = ([], refl, bytes)
   is_written (Numbered digits) (bytes, none) held yes' = ([], refl, bytes)
   is_written (Instruction m os) (bytes, one, (i, is)) held yes' = (i ∷ [], instructions_are m os i is, bytes)
@@ -210,7 +210,7 @@ module _ (p : Program) (ordinal section offset line : ℕ) (home : Section) (pla
   directive_coded _ h held yes' = absurd h
 
   -- in code a statement has the words of its instruction, by the constants of its expressions
-  pub coded : (says : Statement) → Suits f (has_values p (at says)) home row before start says → IsHeld home says → home.executable ≡ true → code_bytes p (at says) ≡ code_said f says
+  pub coded : (says : StatementKind) → Suits f (has_values p (at says)) home row before start says → IsHeld home says → home.executable ≡ true → code_bytes p (at says) ≡ code_said f says
   coded (Label name) h held yes' = refl
   coded (Numbered digits) h held yes' = refl
   coded (Instruction m os) (bytes, one, (i, is)) held yes' = ap words (instructions_are m os i is ∙ sym is.1)

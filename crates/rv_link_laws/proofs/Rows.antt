@@ -4,7 +4,7 @@ use Rattle.std.proofs.Common.{◌≡◌, ℕ, suc, ◌+◌, Bool, true, false, L
 use Rattle.std.proofs.lemmas.Bool.{eqb-true}
 use Rattle.std.specs.Prelude.{◌&&◌, ◌==◌, slice_index, if◌then◌else◌}
 use Rattle.rv_map.specs.declared.map.Row.{Row}
-use Rattle.rv_statement.specs.Statement.{Spoken}
+use Rattle.rv_statement.specs.Statement.{Statement}
 use Rattle.rv_unit_laws.specs.Tables.{Tables, after, at_start}
 use Rattle.rv_source_laws.specs.Located.{Located, located_now, has_row}
 use Rattle.rv_source_laws.specs.Fits.{Identity, identity_of_row}
@@ -38,19 +38,19 @@ module _ (starts : List ℕ) where
   mark : ℕ → ℕ → Identity
   mark line ordinal = record { file = 1; line = line; ordinal = ordinal }
 
-  rows_are : (k : ℕ) (t : Tables) (now : Placement) (before last : ℕ → ℕ) (ss : List Spoken) (is : List Item) → AreItems k t before ss is last → AreNext now before
+  rows_are : (k : ℕ) (t : Tables) (now : Placement) (before last : ℕ → ℕ) (ss : List Statement) (is : List Item) → AreItems k t before ss is last → AreNext now before
       → RowsFrom 1 k t now ss (rows_from 1 starts k is) (λ rest after. RowsOf 2 after [] rest (ends_at starts last))
   rows_are k t now before last [] [] same next = (refl, at_end now before last next same)
   rows_are k t now before last [] (i ∷ is) none next = absurd none
   rows_are k t now before last (s ∷ ss) [] none next = absurd none
   rows_are k t now before last (s ∷ ss) (i ∷ is) (item, items) next =
-      go (has_row located) i.shown item.shown refl (λ bytes size. rows_are (suc k) (after t k s.says) (moved now 1 located.section bytes) (grown before i) last ss is items (moves now before i located.section bytes next item.section size))
+      go (has_row located) i.shown item.shown refl (λ bytes size. rows_are (suc k) (after t k s.kind) (moved now 1 located.section bytes) (grown before i) last ss is items (moves now before i located.section bytes next item.section size))
     where
       located : Located
       located = located_now 1 k t s
 
       Rest : List Row → ℕ → Type 0
-      Rest rest bytes = RowsFrom 1 (suc k) (after t k s.says) (moved now 1 located.section bytes) ss rest (λ rest after. RowsOf 2 after [] rest (ends_at starts last))
+      Rest rest bytes = RowsFrom 1 (suc k) (after t k s.kind) (moved now 1 located.section bytes) ss rest (λ rest after. RowsOf 2 after [] rest (ends_at starts last))
 
       there : slice_index starts i.section + i.offset ≡ now 1 located.section
       there = ap (λ n. slice_index starts n + i.offset) item.section ∙ ap (λ n. slice_index starts located.section + n) item.offset ∙ sym (next.0 located.section)
@@ -62,7 +62,7 @@ module _ (starts : List ℕ) where
       go true false e f ih = absurd (cc)
       go false true e f ih = absurd (cc)
 
-pub placed : (starts : List ℕ) (ss : List Spoken) (is : List Item) (last : ℕ → ℕ) → AreItems 1 at_start (λ j. 0) ss is last
+pub placed : (starts : List ℕ) (ss : List Statement) (is : List Item) (last : ℕ → ℕ) → AreItems 1 at_start (λ j. 0) ss is last
     → RowsOf 1 (starts_at starts) (ss ∷ []) (rows_from 1 starts 1 is) (ends_at starts last)
 placed starts ss is last items =
     rows_are starts 1 at_start (starts_at starts) (λ j. 0) last ss is items ((λ j. let e : slice_index starts j ≡ slice_index starts j + 0 = omega arith in e), (λ file j e. refl))

@@ -5,7 +5,7 @@ use Rattle.std.proofs.lemmas.Bool.{eqb-true, eq-eqb}
 use Rattle.std.proofs.lemmas.List.Sums.{sum_by-cons}
 use Rattle.std.specs.Prelude.{◌==◌, if◌then◌else◌}
 use Rattle.rv_map.specs.declared.map.Row.{Row}
-use Rattle.rv_statement.specs.Statement.{Spoken}
+use Rattle.rv_statement.specs.Statement.{Statement}
 use Rattle.rv_unit_laws.specs.Tables.{Tables, after}
 use Rattle.rv_source_laws.specs.Located.{Located, located_now, located_from, has_row}
 use Rattle.rv_source_laws.specs.Program.{MaybeMapped, Mapped, statements_of, mapped_of, first_of}
@@ -15,12 +15,12 @@ use Rattle.rv_link_laws.specs.Rows.{row_of, rows_from}
 use Rattle.rv_link_laws.specs.Items.{AreItems, grown, entries_by, site_of, sites_by}
 
 module _ (starts : List ℕ) where
-  pub entries_are : (k : ℕ) (t : Tables) (before last : ℕ → ℕ) (ss : List Spoken) (is : List Item) → AreItems k t before ss is last
+  pub entries_are : (k : ℕ) (t : Tables) (before last : ℕ → ℕ) (ss : List Statement) (is : List Item) → AreItems k t before ss is last
       → statements_of (located_from 1 k t ss ++ []) (rows_from 1 starts k is) ≡ entries_by starts k t ss is
   entries_are k t before last [] [] h = refl
   entries_are k t before last [] (i ∷ is) h = absurd h
   entries_are k t before last (s ∷ ss) [] h = absurd h
-  entries_are k t before last (s ∷ ss) (i ∷ is) (item, items) = go (has_row located) i.shown item.shown (entries_are (suc k) (after t k s.says) (grown before i) last ss is items)
+  entries_are k t before last (s ∷ ss) (i ∷ is) (item, items) = go (has_row located) i.shown item.shown (entries_are (suc k) (after t k s.kind) (grown before i) last ss is items)
     where
       located : Located
       located = located_now 1 k t s
@@ -29,10 +29,10 @@ module _ (starts : List ℕ) where
       more = rows_from 1 starts (suc k) is
 
       others : List Located
-      others = located_from 1 (suc k) (after t k s.says) ss ++ []
+      others = located_from 1 (suc k) (after t k s.kind) ss ++ []
 
       rest : List MaybeMapped
-      rest = entries_by starts (suc k) (after t k s.says) ss is
+      rest = entries_by starts (suc k) (after t k s.kind) ss is
 
       go : (b c : Bool) → c ≡ b → statements_of others more ≡ rest
           → (if b then record { located = located; row = first_of ((if c then row_of 1 starts k i ∷ [] else []) ++ more) } ∷ statements_of others (drop 1 ((if c then row_of 1 starts k i ∷ [] else []) ++ more))
@@ -43,16 +43,16 @@ module _ (starts : List ℕ) where
       go true false e ih = absurd (cc)
       go false true e ih = absurd (cc)
 
-  pub sites_are : (k : ℕ) (t : Tables) (ss : List Spoken) (is : List Item) → mapped_of (entries_by starts k t ss is) ≡ sites_by starts k t ss is
+  pub sites_are : (k : ℕ) (t : Tables) (ss : List Statement) (is : List Item) → mapped_of (entries_by starts k t ss is) ≡ sites_by starts k t ss is
   sites_are k t [] is = refl
   sites_are k t (s ∷ ss) [] = refl
-  sites_are k t (s ∷ ss) (i ∷ is) = go i.shown (sites_are (suc k) (after t k s.says) ss is)
+  sites_are k t (s ∷ ss) (i ∷ is) = go i.shown (sites_are (suc k) (after t k s.kind) ss is)
     where
       rest : List MaybeMapped
-      rest = entries_by starts (suc k) (after t k s.says) ss is
+      rest = entries_by starts (suc k) (after t k s.kind) ss is
 
       more : List Mapped
-      more = sites_by starts (suc k) (after t k s.says) ss is
+      more = sites_by starts (suc k) (after t k s.kind) ss is
 
       go : (b : Bool) → mapped_of rest ≡ more
           → mapped_of (record { located = located_now 1 k t s; row = (if b then Some (row_of 1 starts k i) else None) } ∷ rest) ≡ (if b then site_of starts k t s i ∷ more else more)
@@ -71,17 +71,17 @@ module _ (starts : List ℕ) where
   row_at s = s.row
 
   -- a section has the bytes of its rows
-  pub sized : (j k : ℕ) (t : Tables) (before last : ℕ → ℕ) (ss : List Spoken) (is : List Item) → AreItems k t before ss is last
+  pub sized : (j k : ℕ) (t : Tables) (before last : ℕ → ℕ) (ss : List Statement) (is : List Item) → AreItems k t before ss is last
       → before j + size (map (λ s. s.row) (mapped_in (sites_by starts k t ss is) 1 j)) ≡ last j
   sized j k t before last [] [] h = omega (arith, h j)
   sized j k t before last [] (i ∷ is) h = absurd h
   sized j k t before last (s ∷ ss) [] h = absurd h
   sized j k t before last (s ∷ ss) (i ∷ is) (item, items) =
       go i.shown refl (j == i.section) refl (eqb_swap j (located_now 1 k t s).section (j == i.section) (ap (λ n. j == n) (sym item.section)))
-      (sized j (suc k) (after t k s.says) (grown before i) last ss is items)
+      (sized j (suc k) (after t k s.kind) (grown before i) last ss is items)
     where
       more : List Mapped
-      more = sites_by starts (suc k) (after t k s.says) ss is
+      more = sites_by starts (suc k) (after t k s.kind) ss is
 
       rest : List Row
       rest = map (λ s. s.row) (mapped_in more 1 j)

@@ -4,7 +4,7 @@ use Rattle.std.proofs.Common.{◌≡◌, ℕ, suc, ◌+◌, ◌%◌, Bool, true,
 use Rattle.std.specs.Prelude.{IsTrue, slice_index, if◌then◌else◌}
 use Rattle.std.specs.List.{AllByRecursion}
 use Rattle.rv_map.specs.Map.{Map, Global}
-use Rattle.rv_statement.specs.Statement.{Spoken}
+use Rattle.rv_statement.specs.Statement.{Statement}
 use Rattle.rv_unit_laws.specs.Sections.{Section, goes_to_text, goes_to_rodata, goes_to_data, goes_to_bss}
 use Rattle.rv_unit_laws.specs.Tables.{Tables, tables, after, at_start, aligned}
 use Rattle.rv_unit_laws.specs.Faults.{first_fault}
@@ -37,33 +37,33 @@ use Rattle.rv_link_laws.proofs.Held.{holds_contents, no_gaps}
 use Rattle.rv_link_laws.proofs.Fitting.{fits, is_written}
 
 module _ (p : Program) (starts : List ℕ) where
-  sizes_all : (k : ℕ) (t : Tables) (ss : List Spoken) (is : List Item) → AllSuit p starts k t ss is → AllByRecursion (SizeFits p) (sites_by starts k t ss is)
+  sizes_all : (k : ℕ) (t : Tables) (ss : List Statement) (is : List Item) → AllSuit p starts k t ss is → AllByRecursion (SizeFits p) (sites_by starts k t ss is)
   sizes_all k t [] is h = tt
   sizes_all k t (s ∷ ss) [] h = tt
-  sizes_all k t (s ∷ ss) (i ∷ is) (h, hs) = go i.shown refl (sizes_all (suc k) (after t k s.says) ss is hs)
+  sizes_all k t (s ∷ ss) (i ∷ is) (h, hs) = go i.shown refl (sizes_all (suc k) (after t k s.kind) ss is hs)
     where
       st : Located
       st = located_now 1 k t s
 
-      go : (b : Bool) → i.shown ≡ b → AllByRecursion (SizeFits p) (sites_by starts (suc k) (after t k s.says) ss is)
-          → AllByRecursion (SizeFits p) (if b then site_of starts k t s i ∷ sites_by starts (suc k) (after t k s.says) ss is else sites_by starts (suc k) (after t k s.says) ss is)
-      go true e ih = (fits p k st.section st.offset st.line st.home st.placed (row_of 1 starts k i) i.offset (slice_index starts i.section) s.says (h e), ih)
+      go : (b : Bool) → i.shown ≡ b → AllByRecursion (SizeFits p) (sites_by starts (suc k) (after t k s.kind) ss is)
+          → AllByRecursion (SizeFits p) (if b then site_of starts k t s i ∷ sites_by starts (suc k) (after t k s.kind) ss is else sites_by starts (suc k) (after t k s.kind) ss is)
+      go true e ih = (fits p k st.section st.offset st.line st.home st.placed (row_of 1 starts k i) i.offset (slice_index starts i.section) s.kind (h e), ih)
       go false e ih = ih
 
   abbrev Writes : Mapped → Type 0
   Writes s = IsTrue s.located.home.executable → IsWritten p s
 
-  written_all : (k : ℕ) (t : Tables) (ss : List Spoken) (is : List Item) → AllSuit p starts k t ss is → AllByRecursion Held (located_from 1 k t ss ++ []) → AllByRecursion Writes (sites_by starts k t ss is)
+  written_all : (k : ℕ) (t : Tables) (ss : List Statement) (is : List Item) → AllSuit p starts k t ss is → AllByRecursion Held (located_from 1 k t ss ++ []) → AllByRecursion Writes (sites_by starts k t ss is)
   written_all k t [] is h held = tt
   written_all k t (s ∷ ss) [] h held = tt
-  written_all k t (s ∷ ss) (i ∷ is) (h, hs) (own, held) = go i.shown refl (written_all (suc k) (after t k s.says) ss is hs held)
+  written_all k t (s ∷ ss) (i ∷ is) (h, hs) (own, held) = go i.shown refl (written_all (suc k) (after t k s.kind) ss is hs held)
     where
       st : Located
       st = located_now 1 k t s
 
-      go : (b : Bool) → i.shown ≡ b → AllByRecursion Writes (sites_by starts (suc k) (after t k s.says) ss is)
-          → AllByRecursion Writes (if b then site_of starts k t s i ∷ sites_by starts (suc k) (after t k s.says) ss is else sites_by starts (suc k) (after t k s.says) ss is)
-      go true e ih = ((λ x. is_written p k st.section st.offset st.line st.home st.placed (row_of 1 starts k i) i.offset (slice_index starts i.section) s.says (h e) own x), ih)
+      go : (b : Bool) → i.shown ≡ b → AllByRecursion Writes (sites_by starts (suc k) (after t k s.kind) ss is)
+          → AllByRecursion Writes (if b then site_of starts k t s i ∷ sites_by starts (suc k) (after t k s.kind) ss is else sites_by starts (suc k) (after t k s.kind) ss is)
+      go true e ih = ((λ x. is_written p k st.section st.offset st.line st.home st.placed (row_of 1 starts k i) i.offset (slice_index starts i.section) s.kind (h e) own x), ih)
       go false e ih = ih
 
 -- the greatest alignment of a region
@@ -87,7 +87,7 @@ greatest_same to t mapped last index (section ∷ sections) (x ∷ xs) (piece, p
     go true false e ih = absurd (cc)
     go false true e ih = absurd (cc)
 
-module _ (text_start : ℕ) (ss : List Spoken) (is : List Item) (last : ℕ → ℕ) (pieces : List Piece) (l : Layout) (entry : ℕ) (globals : List Global) where
+module _ (text_start : ℕ) (ss : List Statement) (is : List Item) (last : ℕ → ℕ) (pieces : List Piece) (l : Layout) (entry : ℕ) (globals : List Global) where
   abbrev m : Map
   m = record { text = l.text; rodata = l.rodata; «data» = l.data; bss = l.bss; entry = entry; gaps = []; globals = globals; rows = rows_from 1 l.starts.items 1 is }
 

@@ -23,7 +23,7 @@ use Rattle.rv_source_laws.specs.Program.{Program, form, address_at}
 use Rattle.rv_link_laws.specs.Suits.{code_said}
 use Rattle.rv_link_laws.specs.Items.{AllSuit}
 use Rattle.rv_link_laws.specs.Bytes.{HoldBytes, AreEach, AreEven}
-use Rattle.rv_statement.specs.Statement.{Spoken}
+use Rattle.rv_statement.specs.Statement.{Statement}
 use Rattle.rv_unit_laws.specs.Tables.{at_start, tables}
 use Rattle.rv_source_laws.specs.Placement.{RowsOf, SpreadOf}
 use Rattle.rv_link_laws.specs.declared.item.Item.{Item}
@@ -41,7 +41,7 @@ use Rattle.rv_link_laws.specs.Pieces.{ArePieces, goes_to}
 
 abbrev pub PlacedRows : Type 0
 PlacedRows =
-    (starts : List ℕ) (ss : List Spoken) (is : List Item) (last : ℕ → ℕ) → AreItems 1 at_start (λ j. 0) ss is last
+    (starts : List ℕ) (ss : List Statement) (is : List Item) (last : ℕ → ℕ) → AreItems 1 at_start (λ j. 0) ss is last
     → RowsOf 1 (starts_at starts) (ss ∷ []) (rows_from 1 starts 1 is) (ends_at starts last)
 
 -- of each region, from its start
@@ -54,7 +54,7 @@ start_of _ text rodata variables bss = 0
 
 abbrev pub PlacedSections : Type 0
 PlacedSections =
-    (to : Destination) (ss : List Spoken) (pieces : List Piece) (last : ℕ → ℕ) (text rodata variables bss : ℕ)
+    (to : Destination) (ss : List Statement) (pieces : List Piece) (last : ℕ → ℕ) (text rodata variables bss : ℕ)
     → is_bound_for to NotLoaded ≡ false → ArePieces (tables ss) last 0 (tables ss).opened.sections pieces
     → let starts = starts_of pieces text rodata variables bss in
     let place = start_of to text rodata variables bss in
@@ -62,7 +62,7 @@ PlacedSections =
 
 abbrev pub PlacedSites : Type 0
 PlacedSites =
-    (starts : List ℕ) (ss : List Spoken) (is : List Item) (last : ℕ → ℕ) (m : Map) → AreItems 1 at_start (λ j. 0) ss is last → m.rows ≡ rows_from 1 starts 1 is
+    (starts : List ℕ) (ss : List Statement) (is : List Item) (last : ℕ → ℕ) (m : Map) → AreItems 1 at_start (λ j. 0) ss is last → m.rows ≡ rows_from 1 starts 1 is
     → ((program (ss ∷ []) m).statements ≡ entries_by starts 1 at_start ss is) × ((program (ss ∷ []) m).mapped ≡ sites_by starts 1 at_start ss is)
     × ((j : ℕ) → size (map (λ s. s.row) (mapped_in (sites_by starts 1 at_start ss is) 1 j)) ≡ last j)
 
@@ -72,7 +72,7 @@ map_of l entry globals rows =
     record { text = l.text; rodata = l.rodata; «data» = l.data; bss = l.bss; entry = entry; gaps = []; globals = globals; rows = rows }
 
 -- the parts of a source that is placed: of each section its bytes as code, and its bytes as data
-pub record IsPlaced (text_start : ℕ) (ss : List Spoken) (is : List Item) (last : ℕ → ℕ) (pieces : List Piece) (l : Layout) (m : Map) (texts figures : List (List ℕ)) : Type 0 where
+pub record IsPlaced (text_start : ℕ) (ss : List Statement) (is : List Item) (last : ℕ → ℕ) (pieces : List Piece) (l : Layout) (m : Map) (texts figures : List (List ℕ)) : Type 0 where
   pub good : first_fault ss ≡ None
   pub page : text_start % 2 ≡ 0
   pub items : AreItems 1 at_start (λ j. 0) ss is last
@@ -90,7 +90,7 @@ pub record IsPlaced (text_start : ℕ) (ss : List Spoken) (is : List Item) (last
 -- they make the linked program of the source
 abbrev pub PlacedLinks : Type 0
 PlacedLinks =
-    (text_start : ℕ) (ss : List Spoken) (is : List Item) (last : ℕ → ℕ) (pieces : List Piece) (l : Layout) (entry : ℕ) (globals : List Global) (texts figures : List (List ℕ)) (rvc : Bool)
+    (text_start : ℕ) (ss : List Statement) (is : List Item) (last : ℕ → ℕ) (pieces : List Piece) (l : Layout) (entry : ℕ) (globals : List Global) (texts figures : List (List ℕ)) (rvc : Bool)
     → let m = map_of l entry globals (rows_from 1 l.starts.items 1 is) in
     IsPlaced text_start ss is last pieces l m texts figures
     → IsLinked (ss ∷ []) text_start (record {
@@ -104,7 +104,7 @@ PlacedLinks =
 -- the global names and the linker's, with the entry, are what the names of the source resolve to
 abbrev pub PlacedNames : Type 0
 PlacedNames =
-    (ss : List Spoken) (is : List Item) (last : ℕ → ℕ) (l : Layout) (entry : ℕ) (globals : List Global)
+    (ss : List Statement) (is : List Item) (last : ℕ → ℕ) (l : Layout) (entry : ℕ) (globals : List Global)
     → let m = map_of l entry globals (rows_from 1 l.starts.items 1 is) in
     let is_global = λ (name : List ℕ). is_global_after false ss name in
     first_fault ss ≡ None → AreItems 1 at_start (λ j. 0) ss is last
@@ -116,13 +116,13 @@ PlacedNames =
 -- the bytes of a section of code, by its place in the source, are those of its statements
 abbrev pub PlacedCode : Type 0
 PlacedCode =
-    (p : Program) (starts : List ℕ) (j : ℕ) (ss : List Spoken) (is : List Item) (last : ℕ → ℕ)
+    (p : Program) (starts : List ℕ) (j : ℕ) (ss : List Statement) (is : List Item) (last : ℕ → ℕ)
     → AreItems 1 at_start (λ j. 0) ss is last → AllSuit p starts 1 at_start ss is → first_fault ss ≡ None
     → AllByRecursion (λ s. (s.section == j) ≡ true → goes_to_text s.home ≡ true) (located (ss ∷ []))
-    → flat_map (code_bytes p) (mapped_in (sites_by starts 1 at_start ss is) 1 j) ≡ flat_map (λ s. code_said (form p s) s.says) (filter (λ s. j == s.section) (located (ss ∷ [])))
+    → flat_map (code_bytes p) (mapped_in (sites_by starts 1 at_start ss is) 1 j) ≡ flat_map (λ s. code_said (form p s) s.kind) (filter (λ s. j == s.section) (located (ss ∷ [])))
 
 -- the address of a statement by its ordinal
 abbrev pub PlacedAddresses : Type 0
 PlacedAddresses =
-    (starts : List ℕ) (ss : List Spoken) (is : List Item) (last : ℕ → ℕ) (n : ℕ) → AreItems 1 at_start (λ j. 0) ss is last
+    (starts : List ℕ) (ss : List Statement) (is : List Item) (last : ℕ → ℕ) (n : ℕ) → AreItems 1 at_start (λ j. 0) ss is last
     → address_at (entries_by starts 1 at_start ss is) 1 (1 + n) ≡ nth_address starts is n

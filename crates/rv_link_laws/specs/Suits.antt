@@ -5,7 +5,7 @@ use Rattle.std.specs.List.{list_all}
 use Rattle.rv_isa.specs.declared.instruction.Inst.{Inst}
 use Rattle.rv_isa.specs.Ranges.{IsValid}
 use Rattle.rv_text_laws.specs.Values.{Value, Constant}
-use Rattle.rv_statement.specs.Statement.{Statement, Label, Numbered, Instruction, Directs, Expression, Directive, Sets, Aligns_to_power, Aligns_to_bytes, Values, Strings, Zeros}
+use Rattle.rv_statement.specs.Statement.{StatementKind, Label, Numbered, Instruction, Directs, Expression, Directive, Sets, Aligns_to_power, Aligns_to_bytes, Values, Strings, Zeros}
 use Rattle.rv_unit_laws.specs.Sections.{Section}
 use Rattle.rv_unit_laws.specs.Tables.{alignment_of, padding, string_bytes}
 use Rattle.rv_map.specs.declared.map.Row.{Row}
@@ -20,7 +20,7 @@ constant_in (Constant n) = n
 constant_in _ = 0
 
 -- the one valid instruction of a statement whose expressions are constants
-abbrev pub IsInstruction : (Expression → Value) → Statement → Inst → Type 0
+abbrev pub IsInstruction : (Expression → Value) → StatementKind → Inst → Type 0
 IsInstruction f says i =
     (list_all (λ e. is_constant (f e)) (expressions says) ≡ true) × (expanded_said (λ e. constant_in (f e)) says 4 ≡ Some (i ∷ [])) × IsValid i
 
@@ -48,7 +48,7 @@ SuitsDirective f valued home row offset start (Aligns_to_bytes e) = SuitsAlignme
 SuitsDirective f valued home row offset start (Sets name e) = (row.bytes ≡ 0) × (row.instructions ≡ 0)
 SuitsDirective f valued home row offset start _ = ⊥
 
-abbrev pub Suits : (Expression → Value) → Bool → Section → Row → ℕ → ℕ → Statement → Type 0
+abbrev pub Suits : (Expression → Value) → Bool → Section → Row → ℕ → ℕ → StatementKind → Type 0
 Suits f valued home row offset start (Label name) = (row.bytes ≡ 0) × (row.instructions ≡ 0)
 Suits f valued home row offset start (Numbered number) = (row.bytes ≡ 0) × (row.instructions ≡ 0)
 Suits f valued home row offset start (Instruction mnemonic operands) =
@@ -56,6 +56,6 @@ Suits f valued home row offset start (Instruction mnemonic operands) =
 Suits f valued home row offset start (Directs directive) = SuitsDirective f valued home row offset start directive
 
 -- the bytes of a statement in code
-abbrev pub code_said : (Expression → Value) → Statement → List ℕ
+abbrev pub code_said : (Expression → Value) → StatementKind → List ℕ
 code_said f (Instruction mnemonic operands) = words (expanded (λ e. constant_in (f e)) mnemonic operands)
 code_said f _ = []

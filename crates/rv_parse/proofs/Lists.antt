@@ -8,7 +8,7 @@ use Rattle.rv_text.specs.declared.expr.Expr.{Expr}
 use Rattle.rv_text.specs.Expr.{tree_of_expr}
 use Rattle.rv_statement.specs.declared.directive.Width.{Width}
 use Rattle.rv_statement.specs.declared.directive.DirectiveWord.TheVariants as words
-use Rattle.rv_statement.specs.Statement.{Operand, Value, Values, Statement, Directs}
+use Rattle.rv_statement.specs.Statement.{Operand, Value, Values, StatementKind, Directs}
 use Rattle.rv_statement.specs.View.{now_of, quoted, bytes_of}
 use Rattle.rv_parse_laws.specs.Syntax.{is_comma, Slot, A_symbol, A_string, A_value, A_comma, front_begins, places, directed, names_in, strings_in, values_in}
 use Rattle.rv_parse_laws.specs.Parsing.{operand_at, operands_at, end_at, ended_at, items_at, value_in, seen_as}
@@ -132,10 +132,10 @@ all_values [] = refl
 all_values (x ∷ xs) = ap (λ es. tree_of_expr x ∷ es) (all_values xs)
 
 -- what `.byte` and its kin say with these operands
-abbrev pub data_said : Width → List Operand → Statement
+abbrev pub data_said : Width → List Operand → StatementKind
 data_said width os = Directs (directed (words.Value width) os)
 
-abbrev pub data_at : Width → List Token → Read Statement
+abbrev pub data_at : Width → List Token → Read StatementKind
 data_at width ts = seen_as (data_said width) (operands_at (places (words.Value width)) ts)
 
 data_is : (width : Width) (ts us : List Token) (x : Expr) → value_in roles.Directive ts ≡ Ok (tree_of_expr x, us)

@@ -4,8 +4,8 @@ use Rattle.std.proofs.Common.{◌≡◌, ℕ, Bool, true, false, ◌||◌, List,
 use Rattle.rv_text_laws.specs.Grammar.{Kind, Name as NameToken}
 use Rattle.rv_text_laws.specs.Lexing.{Token, is_last}
 use Rattle.rv_text_laws.specs.SyntaxError.{SyntaxError, Read}
-use Rattle.rv_statement.specs.Statement.{Operand, Word, Spoken}
-use Rattle.rv_statement.specs.View.{statement_of, said_by}
+use Rattle.rv_statement.specs.Statement.{Operand, Word, Statement as SpecStatement}
+use Rattle.rv_statement.specs.View.{statement_kind, statement_of}
 use Rattle.rv_statement.specs.declared.statement.Statement.{Statement}
 use Rattle.rv_parse_laws.specs.Syntax.{A_section, A_comma}
 use Rattle.rv_parse_laws.specs.Opening.{is_section, opens}
@@ -47,21 +47,21 @@ either true false = refl
 either false true = refl
 either false false = refl
 
-had_append : (ss : List Spoken) (s : Spoken) (name : List ℕ) → is_had (ss ++ s ∷ []) name ≡ (is_had ss name || (opens name s.says || false))
+had_append : (ss : List SpecStatement) (s : SpecStatement) (name : List ℕ) → is_had (ss ++ s ∷ []) name ≡ (is_had ss name || (opens name s.kind || false))
 had_append [] s name = refl
-had_append (x ∷ xs) s name = go (opens name x.says) (had_append xs s name)
+had_append (x ∷ xs) s name = go (opens name x.kind) (had_append xs s name)
   where
-    go : (b : Bool) → is_had (xs ++ s ∷ []) name ≡ (is_had xs name || (opens name s.says || false))
-        → (b || is_had (xs ++ s ∷ []) name) ≡ ((b || is_had xs name) || (opens name s.says || false))
+    go : (b : Bool) → is_had (xs ++ s ∷ []) name ≡ (is_had xs name || (opens name s.kind || false))
+        → (b || is_had (xs ++ s ∷ []) name) ≡ ((b || is_had xs name) || (opens name s.kind || false))
     go true e = refl
     go false e = e
 
-map_said : (items : List Statement) (s : Statement) → map said_by (items ++ s ∷ []) ≡ map said_by items ++ said_by s ∷ []
+map_said : (items : List Statement) (s : Statement) → map statement_of (items ++ s ∷ []) ≡ map statement_of items ++ statement_of s ∷ []
 map_said [] s = refl
-map_said (x ∷ xs) s = ap (λ ss. said_by x ∷ ss) (map_said xs s)
+map_said (x ∷ xs) s = ap (λ ss. statement_of x ∷ ss) (map_said xs s)
 
-pub knows_push : (set : NameSet) (items new : List Statement) (s : Statement) → Has set (λ n. opens n (statement_of s.kind) || is_had (map said_by items) n) → new ≡ items ++ s ∷ []
-    → Knows set (map said_by new)
+pub knows_push : (set : NameSet) (items new : List Statement) (s : Statement) → Has set (λ n. opens n (statement_kind s.kind) || is_had (map statement_of items) n) → new ≡ items ++ s ∷ []
+    → Knows set (map statement_of new)
 knows_push set items new s has pushed q =
-    has q ∙ either (opens q.now (statement_of s.kind)) (is_had (map said_by items) q.now)
-    ∙ sym (ap (λ (xs : List Statement). is_had (map said_by xs) q.now) pushed ∙ ap (λ ss. is_had ss q.now) (map_said items s) ∙ had_append (map said_by items) (said_by s) q.now)
+    has q ∙ either (opens q.now (statement_kind s.kind)) (is_had (map statement_of items) q.now)
+    ∙ sym (ap (λ (xs : List Statement). is_had (map statement_of xs) q.now) pushed ∙ ap (λ ss. is_had ss q.now) (map_said items s) ∙ had_append (map statement_of items) (statement_of s) q.now)

@@ -7,18 +7,18 @@ use Rattle.rv_text_laws.specs.Lexing.{Token}
 use Rattle.rv_text_laws.specs.SyntaxError.{Read, longest_name}
 use Rattle.rv_text_laws.specs.Joined.{joined_at}
 use Rattle.rv_statement.specs.declared.directive.DirectiveWord.TheVariants as words
-use Rattle.rv_statement.specs.Statement.{Operand, Word, Quoted, Statement, Directs}
+use Rattle.rv_statement.specs.Statement.{Operand, Word, Quoted, StatementKind, Directs}
 use Rattle.rv_parse_laws.specs.Syntax.{is_section_name, A_section, Some_flags, At_sign, A_comma, front_begins, places, directed}
 use Rattle.rv_parse_laws.specs.Parsing.{operand_at, operands_at, seen_as, section_at, too_long, wrong_next}
 use Rattle.rv_parse_laws.specs.Faults.{unsupported_here}
 use Rattle.rv_parse.specs.Slots.{flags_slots, type_slots}
 
-at_once : (view : List Operand → Statement) (now : List Operand) (r : Read (List Operand))
+at_once : (view : List Operand → StatementKind) (now : List Operand) (r : Read (List Operand))
     → seen_as view (seen_as (λ os. now ++ os) (seen_as (λ os. os) r)) ≡ seen_as (λ os. view (now ++ os)) r
 at_once view now (Ok (os, ts)) = refl
 at_once view now (Err w) = refl
 
-at_once_behind : (view : List Operand → Statement) (now : List Operand) (r : Read (List Operand))
+at_once_behind : (view : List Operand → StatementKind) (now : List Operand) (r : Read (List Operand))
     → seen_as view (seen_as (λ os. now ++ os) (seen_as (λ os. os) (seen_as (λ os. os) r))) ≡ seen_as (λ os. view (now ++ os)) r
 at_once_behind view now (Ok (os, ts)) = refl
 at_once_behind view now (Err w) = refl

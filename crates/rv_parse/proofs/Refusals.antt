@@ -8,7 +8,7 @@ use Rattle.rv_text_laws.proofs.Tokens.{given}
 use Rattle.rv_lexer.specs.declared.fault.SourceCode.{SourceCode}
 use Rattle.rv_lexer.specs.declared.fault.SourceCode.TheVariants.{Limit}
 use Rattle.rv_lexer.specs.Fault.{number_of}
-use Rattle.rv_statement.specs.Statement.{Spoken}
+use Rattle.rv_statement.specs.Statement.{Statement}
 use Rattle.rv_text_laws.specs.Codes.{limit}
 use Rattle.rv_parse_laws.specs.Opening.{is_opened}
 use Rattle.rv_parse_laws.specs.Parsing as parsing
@@ -33,7 +33,7 @@ first_in_tokens bytes ts w is (t, us, ss, (ps, cut, opens, said_is), no_end, sto
     lexes = subst (lexing.Lexes bytes) (sym is) (given bytes)
 
     counts : length ss ≡ length (said ps)
-    counts = ap (λ (xs : List Spoken). length xs) said_is
+    counts = ap (λ (xs : List Statement). length xs) said_is
 
     few : (length ss < most_statements) ⊎ ((length ss ≡ most_statements) × (w.offset ≡ t.start)) → (length (said ps) < most_statements) ⊎ ((length (said ps) ≡ most_statements) × (w.offset ≡ t.start))
     few (inl fewer) = inl (subst (λ n. n < most_statements) counts fewer)
@@ -53,11 +53,11 @@ line_first bytes ts w place line short is refuses past before line_is =
     line_refused bytes place line short past (λ p c fault. before_tokens bytes (syntax_error_of w) place p c (first_in_tokens bytes ts w is refuses) before fault) line_is
 
 -- a line that is too long behind good statements
-pub line_alone : (bytes : List ℕ) (ts : List lexing.Token) (ss : List Spoken) (place line : ℕ) → length bytes ≤ longest_source → ts ≡ tokens_from 0 1 bytes → SaysUpTo ts [] ss
+pub line_alone : (bytes : List ℕ) (ts : List lexing.Token) (ss : List Statement) (place line : ℕ) → length bytes ≤ longest_source → ts ≡ tokens_from 0 1 bytes → SaysUpTo ts [] ss
     → length ss ≤ most_statements → past_line 0 0 bytes ≡ Some place → line ≡ 1 + lexing.newlines (take place bytes) → Refuses bytes (record { code = limit; line = line })
 line_alone bytes ts ss place line short is (ps, cut, opens, said_is) few past line_is =
     line_refused bytes place line short past
-    (λ p c fault. absurd (all_good bytes ts ps (subst (lexing.Lexes bytes) (sym is) (given bytes)) cut opens (subst (λ (xs : List Spoken). length xs ≤ most_statements) said_is few) p c fault)) line_is
+    (λ p c fault. absurd (all_good bytes ts ps (subst (lexing.Lexes bytes) (sym is) (given bytes)) cut opens (subst (λ (xs : List Statement). length xs ≤ most_statements) said_is few) p c fault)) line_is
 
 -- the tokens' first fault before a line that is too long, or where there is none
 pub token_before : (bytes : List ℕ) (ts : List lexing.Token) (w : SyntaxError) (place : ℕ) → length bytes ≤ longest_source → ts ≡ tokens_from 0 1 bytes → RefusesTokens ts (refusals.At w)

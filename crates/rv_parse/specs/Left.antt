@@ -1,7 +1,7 @@
 -- What the readings of a cursor answer.
 
 use Rattle.std.specs.Prelude.{◌≡◌, ◌<◌, ℕ, Bool, false, List, ◌∷◌, length, Result, Ok, Err, ◌⊎◌}
-use Rattle.rv_statement.specs.Statement.{Spoken}
+use Rattle.rv_statement.specs.Statement.{Statement}
 use Rattle.rv_parse_laws.specs.Syntax.{is_end}
 use Rattle.rv_text_laws.specs.Codes.{limit}
 use Rattle.rv_parse_laws.specs.Reading.{most_statements, SaysUpTo, Refuses}
@@ -34,7 +34,7 @@ StopsAt refusals.OutOfMemory known count t ts = Unit {0}
 -- the tokens say statements up to a token where no further one is answered
 abbrev pub RefusesTokens : List lexing.Token → ReadError → Type 0
 RefusesTokens ts (refusals.At w) =
-    (t : lexing.Token) × (us : List lexing.Token) × (ss : List Spoken) × SaysUpTo ts (t ∷ us) ss × (is_end t.kind ≡ false)
+    (t : lexing.Token) × (us : List lexing.Token) × (ss : List Statement) × SaysUpTo ts (t ∷ us) ss × (is_end t.kind ≡ false)
     × StopsAt (refusals.At w) (is_opened ss) (length ss) t (t ∷ us)
 RefusesTokens ts refusals.OutOfMemory = Unit {0}
 

@@ -4,7 +4,7 @@ ghost use Rattle.std.specs.Prelude.{◌≡◌, ◌∷◌, []};
 ghost use Rattle.rv_statement.specs.declared.mnemonic.Mnemonic.TheVariants.{Registers, Immediate, Shift, Upper, Load, Store, Jalr, LoadReserved, Atomic, Fence, Li};
 ghost use Rattle.rv_statement.specs.Statement.{Instruction, Register};
 ghost use Rattle.rv_text.specs.Expr.{tree_of_expr};
-ghost use Rattle.rv_statement.specs.View.{statement_of, with_expression};
+ghost use Rattle.rv_statement.specs.View.{statement_kind, with_expression};
 ghost use Rattle.rv_parse_laws.specs.Syntax.{slots, closed, atomic_address, jump_target, Stops, A_register};
 ghost use Rattle.rv_parse_laws.specs.Parsing.{operands_at, seen_as};
 ghost use Rattle.rv_lexer.specs.Cursor.{left, Answers};
@@ -24,7 +24,7 @@ use std::alloc::Global;
 
 /// An instruction with its expression.
 fn with<'a>(operation: Operation, expression: Expr<'a>) -> StatementKind<'a>
-    ensures { statement_of result ≡ with_expression operation (tree_of_expr expression.entry) }
+    ensures { statement_kind result ≡ with_expression operation (tree_of_expr expression.entry) }
 {
     StatementKind::With(operation, expression)
 }
@@ -61,7 +61,7 @@ fn registers<'a>(
     cursor: &mut Cursor<'a>,
     operation: RegisterOperation,
 ) -> Result<StatementKind<'a>, ReadError>
-    ensures { Answers (λ k. (statement_of k, left cursor.new)) result (seen_as (Instruction (Registers operation)) (operands_at (slots (Registers operation)) (left cursor.old))) }
+    ensures { Answers (λ k. (statement_kind k, left cursor.new)) result (seen_as (Instruction (Registers operation)) (operands_at (slots (Registers operation)) (left cursor.old))) }
 {
     let rd = slot::register(cursor)?;
     slot::comma(cursor, Slot::Register)?;
@@ -84,7 +84,7 @@ fn immediate<'a>(
     cursor: &mut Cursor<'a>,
     operation: ImmediateOperation,
 ) -> Result<StatementKind<'a>, ReadError>
-    ensures { Answers (λ k. (statement_of k, left cursor.new)) result (seen_as (Instruction (Immediate operation)) (operands_at (slots (Immediate operation)) (left cursor.old))) }
+    ensures { Answers (λ k. (statement_kind k, left cursor.new)) result (seen_as (Instruction (Immediate operation)) (operands_at (slots (Immediate operation)) (left cursor.old))) }
 {
     let rd = slot::register(cursor)?;
     slot::comma(cursor, Slot::Register)?;
@@ -102,7 +102,7 @@ fn shift<'a>(
     cursor: &mut Cursor<'a>,
     operation: ShiftOperation,
 ) -> Result<StatementKind<'a>, ReadError>
-    ensures { Answers (λ k. (statement_of k, left cursor.new)) result (seen_as (Instruction (Shift operation)) (operands_at (slots (Shift operation)) (left cursor.old))) }
+    ensures { Answers (λ k. (statement_kind k, left cursor.new)) result (seen_as (Instruction (Shift operation)) (operands_at (slots (Shift operation)) (left cursor.old))) }
 {
     let rd = slot::register(cursor)?;
     slot::comma(cursor, Slot::Register)?;
@@ -120,7 +120,7 @@ fn upper<'a>(
     cursor: &mut Cursor<'a>,
     operation: UpperOperation,
 ) -> Result<StatementKind<'a>, ReadError>
-    ensures { Answers (λ k. (statement_of k, left cursor.new)) result (seen_as (Instruction (Upper operation)) (operands_at (slots (Upper operation)) (left cursor.old))) }
+    ensures { Answers (λ k. (statement_kind k, left cursor.new)) result (seen_as (Instruction (Upper operation)) (operands_at (slots (Upper operation)) (left cursor.old))) }
 {
     let rd = slot::register(cursor)?;
     slot::comma(cursor, Slot::Register)?;
@@ -136,7 +136,7 @@ fn load<'a>(
     cursor: &mut Cursor<'a>,
     operation: LoadOperation,
 ) -> Result<StatementKind<'a>, ReadError>
-    ensures { Answers (λ k. (statement_of k, left cursor.new)) result (seen_as (Instruction (Load operation)) (operands_at (slots (Load operation)) (left cursor.old))) }
+    ensures { Answers (λ k. (statement_kind k, left cursor.new)) result (seen_as (Instruction (Load operation)) (operands_at (slots (Load operation)) (left cursor.old))) }
 {
     let rd = slot::register(cursor)?;
     slot::comma(cursor, Slot::Register)?;
@@ -158,7 +158,7 @@ fn store<'a>(
     cursor: &mut Cursor<'a>,
     operation: StoreOperation,
 ) -> Result<StatementKind<'a>, ReadError>
-    ensures { Answers (λ k. (statement_of k, left cursor.new)) result (seen_as (Instruction (Store operation)) (operands_at (slots (Store operation)) (left cursor.old))) }
+    ensures { Answers (λ k. (statement_kind k, left cursor.new)) result (seen_as (Instruction (Store operation)) (operands_at (slots (Store operation)) (left cursor.old))) }
 {
     let rs2 = slot::register(cursor)?;
     slot::comma(cursor, Slot::Register)?;
@@ -179,7 +179,7 @@ fn load_reserved<'a>(
     cursor: &mut Cursor<'a>,
     form: AtomicForm,
 ) -> Result<StatementKind<'a>, SyntaxError>
-    ensures { Gives (λ k. (statement_of k, left cursor.new)) result (seen_as (Instruction (LoadReserved form)) (operands_at (slots (LoadReserved form)) (left cursor.old))) }
+    ensures { Gives (λ k. (statement_kind k, left cursor.new)) result (seen_as (Instruction (LoadReserved form)) (operands_at (slots (LoadReserved form)) (left cursor.old))) }
 {
     let rd = slot::register(cursor)?;
     slot::comma(cursor, Slot::Register)?;
@@ -194,7 +194,7 @@ fn atomic<'a>(
     operation: AtomicOperation,
     form: AtomicForm,
 ) -> Result<StatementKind<'a>, SyntaxError>
-    ensures { Gives (λ k. (statement_of k, left cursor.new)) result (seen_as (Instruction (Atomic operation form)) (operands_at (slots (Atomic operation form)) (left cursor.old))) }
+    ensures { Gives (λ k. (statement_kind k, left cursor.new)) result (seen_as (Instruction (Atomic operation form)) (operands_at (slots (Atomic operation form)) (left cursor.old))) }
 {
     let rd = slot::register(cursor)?;
     slot::comma(cursor, Slot::Register)?;
@@ -207,7 +207,7 @@ fn atomic<'a>(
 /// The operands of `li`: `rd, value`.
 #[tactic(auto, unfolding(rv_parse_laws::specs::Parsing::operands_at))]
 fn li<'a>(alloc: Global, cursor: &mut Cursor<'a>) -> Result<StatementKind<'a>, ReadError>
-    ensures { Answers (λ k. (statement_of k, left cursor.new)) result (seen_as (Instruction (Li)) (operands_at (slots (Li)) (left cursor.old))) }
+    ensures { Answers (λ k. (statement_kind k, left cursor.new)) result (seen_as (Instruction (Li)) (operands_at (slots (Li)) (left cursor.old))) }
 {
     let rd = slot::register(cursor)?;
     slot::comma(cursor, Slot::Register)?;
@@ -219,7 +219,7 @@ fn li<'a>(alloc: Global, cursor: &mut Cursor<'a>) -> Result<StatementKind<'a>, R
 /// The operands of `jalr`: an address, or the link register and its target.
 #[tactic(auto, unfolding(rv_parse_laws::specs::Parsing::operands_at))]
 fn jalr<'a>(alloc: Global, cursor: &mut Cursor<'a>) -> Result<StatementKind<'a>, ReadError>
-    ensures { Answers (λ k. (statement_of k, left cursor.new)) result (seen_as (Instruction Jalr) (operands_at (slots Jalr) (left cursor.old))) }
+    ensures { Answers (λ k. (statement_kind k, left cursor.new)) result (seen_as (Instruction Jalr) (operands_at (slots Jalr) (left cursor.old))) }
 {
     if !slot::begins_register(cursor) {
         if slot::begins_base(cursor) {
@@ -248,7 +248,7 @@ fn jump_target<'a>(
     cursor: &mut Cursor<'a>,
     rd: Reg,
 ) -> Result<StatementKind<'a>, ReadError>
-    ensures { Answers (λ k. (statement_of k, left cursor.new)) result (seen_as (Instruction Jalr) (seen_as (λ os. Register rd ∷ os) (seen_as (λ os. os) (operands_at jump_target (left cursor.old))))) }
+    ensures { Answers (λ k. (statement_kind k, left cursor.new)) result (seen_as (Instruction Jalr) (seen_as (λ os. Register rd ∷ os) (seen_as (λ os. os) (operands_at jump_target (left cursor.old))))) }
 {
     if !slot::begins_register(cursor) {
         if slot::begins_base(cursor) {
@@ -275,7 +275,7 @@ fn jump_target<'a>(
 /// The operands of `fence`: none, or two sets of accesses.
 #[tactic(auto, unfolding(rv_parse_laws::specs::Parsing::operands_at))]
 fn fence<'a>(cursor: &mut Cursor<'a>) -> Result<StatementKind<'a>, SyntaxError>
-    ensures { Gives (λ k. (statement_of k, left cursor.new)) result (seen_as (Instruction (Fence)) (operands_at (slots (Fence)) (left cursor.old))) }
+    ensures { Gives (λ k. (statement_kind k, left cursor.new)) result (seen_as (Instruction (Fence)) (operands_at (slots (Fence)) (left cursor.old))) }
 {
     if slot::begins_accesses(cursor) {
         let before = slot::accesses(cursor)?;
@@ -302,7 +302,7 @@ pub fn instruction<'a>(
     cursor: &mut Cursor<'a>,
     mnemonic: Mnemonic,
 ) -> Result<StatementKind<'a>, ReadError>
-    ensures { Answers (λ k. (statement_of k, left cursor.new)) result (seen_as (Instruction mnemonic) (operands_at (slots mnemonic) (left cursor.old))) }
+    ensures { Answers (λ k. (statement_kind k, left cursor.new)) result (seen_as (Instruction mnemonic) (operands_at (slots mnemonic) (left cursor.old))) }
 {
     match mnemonic {
         Mnemonic::Registers(operation) => registers(alloc, cursor, operation),

@@ -3,8 +3,8 @@
 ghost use Rattle.std.specs.Str.{bytes_eq};
 ghost use Rattle.std.specs.Prelude.{◌≡◌, ℕ, List, [], Bool, ◌||◌, option_map, IfOk, OnOk};
 ghost use Rattle.rv_lexer.specs.Cursor.{left, syntax_error_of};
-ghost use Rattle.rv_statement.specs.Statement.{Spoken};
-ghost use Rattle.rv_statement.specs.View.{statement_of};
+ghost use Rattle.rv_statement.specs.Statement.{Statement};
+ghost use Rattle.rv_statement.specs.View.{statement_kind};
 ghost use Rattle.rv_parse_laws.specs.Opening.{opens, is_opened, flags_fault, type_fault};
 ghost use Rattle.rv_parse_laws.specs.Parsing.{front_fault, type_wrong, flags_wrong, opening_at};
 ghost use Rattle.rv_parse.specs.Opened.{Has, Knows};
@@ -35,7 +35,7 @@ impl<'a> Opened<'a> {
 
     /// Whether a statement had this name; a source begins in `.text`.
     pub fn has(&self, name: &[u8]) -> bool
-        ensures { (ss : List Spoken) → Knows (self.now).set ss → result ≡ is_opened ss name.now }
+        ensures { (ss : List Statement) → Knows (self.now).set ss → result ≡ is_opened ss name.now }
     {
         name == b".text".as_slice() || self.set.contains(&name)
     }
@@ -50,7 +50,7 @@ impl<'a> Opened<'a> {
 
     /// Adds what a statement opens or enters.
     pub fn add(&mut self, kind: &StatementKind<'a>) -> Result<(), AllocError>
-        ensures { OnOk result ((test : List ℕ → Bool) → Has (self.old).set test → Has (self.new).set (λ n. opens n (statement_of kind.now) || test n)) }
+        ensures { OnOk result ((test : List ℕ → Bool) → Has (self.old).set test → Has (self.new).set (λ n. opens n (statement_kind kind.now) || test n)) }
     {
         match kind {
             StatementKind::Enters(standard) => self.insert(standard.name()),
@@ -143,7 +143,7 @@ pub fn wrong_opening(
     cursor: &Cursor<'_>,
     opened: &Opened<'_>,
 ) -> Result<Option<SyntaxError>, AllocError>
-    ensures { IfOk result (λ found. (ss : List Spoken) → Knows (opened.now).set ss → option_map syntax_error_of found ≡ opening_at (is_opened ss) (left cursor.now)) }
+    ensures { IfOk result (λ found. (ss : List Statement) → Knows (opened.now).set ss → option_map syntax_error_of found ≡ opening_at (is_opened ss) (left cursor.now)) }
 {
     if !kinds::is_section(cursor.next.kind) {
         return Ok(None);

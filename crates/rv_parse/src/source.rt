@@ -5,13 +5,13 @@ ghost use Rattle.rv_lexer.specs.Token.{token_of, kind_of};
 ghost use Rattle.rv_text_laws.specs.Lexing.{newlines};
 ghost use Rattle.rv_parse_laws.specs.Syntax.{is_end, Says};
 ghost use Rattle.rv_text_laws.specs.Codes.{limit};
-ghost use Rattle.rv_statement.specs.Statement.{Spoken};
+ghost use Rattle.rv_statement.specs.Statement.{Statement as SpecStatement};
 ghost use Rattle.rv_parse_laws.specs.Opening.{is_opened};
 ghost use Rattle.rv_parse_laws.specs.Parsing.{checked_at};
 ghost use Rattle.rv_parse.specs.Opened.{Knows};
 ghost use Rattle.rv_parse_laws.specs.Reading.{Reads, past_line, most_statements, SaysUpTo};
 ghost use Rattle.rv_lexer.specs.Left.{tokens_left};
-ghost use Rattle.rv_statement.specs.View.{statement_of, said_by};
+ghost use Rattle.rv_statement.specs.View.{statement_kind, statement_of};
 ghost use Rattle.rv_lexer.specs.Cursor.{left, syntax_error_of, Answers};
 ghost use Rattle.rv_parse.specs.Left.{StopsAt, RefusesTokens, RefusedWith};
 
@@ -66,7 +66,7 @@ fn checked<'a>(
     opened: &Opened<'a>,
 ) -> Result<StatementKind<'a>, ReadError>
     requires { is_end (kind_of cursor.old.next.kind) ≡ false }
-    ensures { (ss : List Spoken) → Knows (opened.now).set ss → Answers (λ k. (Says (statement_of k), left cursor.new)) result (checked_at (is_opened ss) (left cursor.old)) }
+    ensures { (ss : List SpecStatement) → Knows (opened.now).set ss → Answers (λ k. (Says (statement_kind k), left cursor.new)) result (checked_at (is_opened ss) (left cursor.old)) }
 {
     if let Some(wrong) = wrong_opening(alloc, cursor, opened)? {
         return Err(ReadError::At(wrong));
@@ -82,10 +82,10 @@ fn next_statement<'a>(
     opened: &Opened<'a>,
 ) -> Result<Statement<'a>, ReadError>
     requires { is_end (kind_of cursor.old.next.kind) ≡ false }
-    ensures read { (ss : List Spoken) → Knows (opened.now).set ss → IfOk result (λ s. checked_at (is_opened ss) (left cursor.old) ≡ Ok (Says (statement_of s.kind), left cursor.new)) }
+    ensures read { (ss : List SpecStatement) → Knows (opened.now).set ss → IfOk result (λ s. checked_at (is_opened ss) (left cursor.old) ≡ Ok (Says (statement_kind s.kind), left cursor.new)) }
     ensures line { IfOk result (λ s. s.line ≡ cursor.old.next.line) }
     ensures room { IfOk result (λ s. count < most_statements) }
-    ensures stops { (ss : List Spoken) → Knows (opened.now).set ss → count ≤ most_statements → IfErr result (λ e. StopsAt e (is_opened ss) count (token_of cursor.old.next) (left cursor.old)) }
+    ensures stops { (ss : List SpecStatement) → Knows (opened.now).set ss → count ≤ most_statements → IfErr result (λ e. StopsAt e (is_opened ss) count (token_of cursor.old.next) (left cursor.old)) }
 {
     let first = cursor.next;
     let past = past_statements(first);
@@ -114,8 +114,8 @@ fn next_statement<'a>(
 /// The statements that the tokens say, up to the source's end.
 #[tactic(auto, using(rv_parse_laws::proofs::Progress::end_no_last))]
 fn statements<'a>(alloc: Global, lexer: Lexer<'a>) -> Result<Vec<Statement<'a>>, ReadError>
-    ensures says { IfOk result (λ v. SaysUpTo (tokens_left lexer.entry) [] (map said_by v.items)) }
-    ensures within { IfOk result (λ v. length (map said_by v.items) ≤ most_statements) }
+    ensures says { IfOk result (λ v. SaysUpTo (tokens_left lexer.entry) [] (map statement_of v.items)) }
+    ensures within { IfOk result (λ v. length (map statement_of v.items) ≤ most_statements) }
     ensures refuses { IfErr result (λ e. RefusesTokens (tokens_left lexer.entry) e) }
 {
     let mut cursor = Cursor::new(lexer);
@@ -152,7 +152,7 @@ fn line_of(text: &[u8]) -> u32
 /// The statements of a source. A fault names its line, from 1: it is the first of the source, in the order of its bytes;
 /// a source over 16 MiB has it at line 0.
 pub fn parse(alloc: Global, source: &[u8]) -> Result<Vec<Statement<'_>>, SourceFault>
-    ensures reads { IfOk result (λ v. Reads source.now (map said_by v.items)) }
+    ensures reads { IfOk result (λ v. Reads source.now (map statement_of v.items)) }
     ensures refuses { IfErr result (λ e. RefusedWith source.now e) }
 {
     if LONGEST_SOURCE < source.len() {

@@ -3,7 +3,7 @@
 ghost use Rattle.std.specs.Prelude.{◌≡◌, false, true};
 ghost use Rattle.rv_lexer.specs.Token.{token_of, kind_of};
 ghost use Rattle.rv_lexer.specs.Cursor.{left, Answers};
-ghost use Rattle.rv_statement.specs.View.{statement_of};
+ghost use Rattle.rv_statement.specs.View.{statement_kind};
 ghost use Rattle.rv_parse_laws.specs.Syntax.{begins, label_of, is_colon, is_end, Says};
 ghost use Rattle.rv_parse_laws.specs.Faults.{wrong_label};
 ghost use Rattle.rv_parse_laws.specs.Parsing.{begun_at, part_at, taken, after_first};
@@ -20,7 +20,7 @@ use std::alloc::Global;
 #[tactic(auto, using(crate::proofs::Tokens::colon_no_last), unfolding(rv_lexer::specs::Cursor::left))]
 fn label<'a>(cursor: &mut Cursor<'a>, first: Token<'a>) -> Result<StatementKind<'a>, SyntaxError>
     requires { is_colon (kind_of cursor.old.next.kind) ≡ true }
-    ensures { Gives (λ k. (statement_of k, left cursor.new)) result (taken (token_of first.entry) (after_first (left cursor.old)) (label_of (kind_of first.entry.kind)) (wrong_label (kind_of first.entry.kind))) }
+    ensures { Gives (λ k. (statement_kind k, left cursor.new)) result (taken (token_of first.entry) (after_first (left cursor.old)) (label_of (kind_of first.entry.kind)) (wrong_label (kind_of first.entry.kind))) }
 {
     match kinds::label_of(first.kind) {
         Some(label) => {
@@ -38,7 +38,7 @@ fn begun<'a>(
     cursor: &mut Cursor<'a>,
     first: Token<'a>,
 ) -> Result<StatementKind<'a>, ReadError>
-    ensures { Answers (λ k. (statement_of k, left cursor.new)) result (begun_at (begins (kind_of first.entry.kind)) (token_of first.entry) (left cursor.old)) }
+    ensures { Answers (λ k. (statement_kind k, left cursor.new)) result (begun_at (begins (kind_of first.entry.kind)) (token_of first.entry) (left cursor.old)) }
 {
     match kinds::begins(first.kind) {
         Beginning::Instruction(mnemonic) => instruction(alloc, cursor, mnemonic),
@@ -54,7 +54,7 @@ fn begun<'a>(
 #[tactic(auto, using(rv_parse_laws::proofs::Parts::last_begins_nothing), unfolding(rv_lexer::specs::Cursor::left, rv_parse_laws::specs::Parsing::part_at, rv_parse_laws::specs::Parsing::statement_at, rv_parse_laws::specs::Parsing::begun_at))]
 pub fn statement<'a>(alloc: Global, cursor: &mut Cursor<'a>) -> Result<StatementKind<'a>, ReadError>
     requires { is_end (kind_of cursor.old.next.kind) ≡ false }
-    ensures { Answers (λ k. (Says (statement_of k), left cursor.new)) result (part_at (left cursor.old)) }
+    ensures { Answers (λ k. (Says (statement_kind k), left cursor.new)) result (part_at (left cursor.old)) }
 {
     let first = cursor.next;
     if kinds::is_last(first.kind) {

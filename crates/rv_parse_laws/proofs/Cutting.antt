@@ -6,7 +6,7 @@ use Rattle.std.proofs.Math.Seq.{take-append_seam, drop-append_seam}
 use Rattle.rv_text_laws.specs.Cut.{Piece, texts, NothingReads}
 use Rattle.rv_text_laws.specs.Lexing.{Token}
 use Rattle.rv_text_laws.proofs.Cut.{none_nothing, nothing_none}
-use Rattle.rv_statement.specs.Statement.{Spoken}
+use Rattle.rv_statement.specs.Statement.{Statement}
 use Rattle.rv_parse_laws.specs.Syntax.{Part, Ends, Says, IsPart, StopsPart, is_end}
 use Rattle.rv_parse_laws.specs.Parsing.{part_at}
 use Rattle.rv_text_laws.specs.SyntaxError.{SyntaxError}
@@ -74,7 +74,7 @@ said_append [] more = refl
 said_append (p ∷ ps) more = ap (λ ss. told p.kind p.text ++ ss) (said_append ps more) ∙ sym (append_assoc (told p.kind p.text) (said ps) (said more))
 
 -- a part that begins with a token that ends nothing says a statement
-tells_one : (p : Part) (t : Token) (us text after : List Token) (ss : List Spoken) → is_end t.kind ≡ false → t ∷ us ≡ text ++ after → IsPart p text → 0 < length (told p text ++ ss)
+tells_one : (p : Part) (t : Token) (us text after : List Token) (ss : List Statement) → is_end t.kind ≡ false → t ∷ us ≡ text ++ after → IsPart p text → 0 < length (told p text ++ ss)
 tells_one Ends t us text after ss no_end whole (u, w, ends) =
     let first : t ∷ us ≡ u ∷ after = whole ∙ ap (λ xs. xs ++ after) w in
     let end : is_end t.kind ≡ true = ap (λ (k : Token). is_end k.kind) (heads first) ∙ ends in
@@ -89,7 +89,7 @@ says_more t us m more other no_end c =
 
 pub nothing_more_said : (ps qs : List (Piece Part Token)) → qs ≡ ps ++ [] → length (said ps) ≡ length (said qs)
 nothing_more_said ps qs is =
-    let counts : length (said qs) ≡ length (said ps ++ []) = ap (λ (xs : List (Piece Part Token)). length (said xs)) is ∙ ap (λ (ss : List Spoken). length ss) (said_append ps []) in
+    let counts : length (said qs) ≡ length (said ps ++ []) = ap (λ (xs : List (Piece Part Token)). length (said xs)) is ∙ ap (λ (ss : List Statement). length ss) (said_append ps []) in
     omega (arith, counts, length-append (said ps) [])
 
 -- nothing reads at the end of the tokens
@@ -101,6 +101,6 @@ pub same_or_more : (t : Token) (us : List Token) (ps qs : List (Piece Part Token
     → ((t ∷ us ≡ other) × (length (said ps) ≡ length (said qs))) ⊎ (length (said ps) < length (said qs))
 same_or_more t us ps qs other no_end ([], is, c) = inl (c.whole, nothing_more_said ps qs is)
 same_or_more t us ps qs other no_end (m ∷ more, is, c) =
-    let counts : length (said qs) ≡ length (said ps ++ said (m ∷ more)) = ap (λ (xs : List (Piece Part Token)). length (said xs)) is ∙ ap (λ (ss : List Spoken). length ss) (said_append ps (m ∷ more)) in
+    let counts : length (said qs) ≡ length (said ps ++ said (m ∷ more)) = ap (λ (xs : List (Piece Part Token)). length (said xs)) is ∙ ap (λ (ss : List Statement). length ss) (said_append ps (m ∷ more)) in
     let some : 0 < length (said (m ∷ more)) = says_more t us m more other no_end c in
     inr (omega (arith, counts, some, length-append (said ps) (said (m ∷ more))))

@@ -6,7 +6,7 @@ use Rattle.rv_text_laws.specs.Cut.{Piece, texts, NothingReads, cut}
 use Rattle.rv_text_laws.specs.Lexing.{Token, Lexes, newlines}
 use Rattle.rv_text_laws.proofs.Cut.{unique, nothing_none}
 use Rattle.rv_text_laws.proofs.Tokens.{one_list}
-use Rattle.rv_statement.specs.Statement.{Spoken}
+use Rattle.rv_statement.specs.Statement.{Statement}
 use Rattle.rv_parse_laws.specs.Syntax.{Part, IsPart, StopsPart, is_end}
 use Rattle.rv_parse_laws.specs.Opening.{is_opened, IsWrongOpening}
 use Rattle.rv_parse_laws.specs.Parsing.{part_at, opening_at, checked_at}
@@ -466,12 +466,12 @@ one_fault bytes f g (inr (short, x)) (inr (short', y)) =
     same_faults f g s.1 (x.line ∙ ap (λ n. 1 + newlines (take n bytes)) s.0 ∙ sym y.line)
 
 -- no source is both read and refused
-pub not_both : (bytes : List ℕ) (ss : List Spoken) (f : Fault) → Reads bytes ss → Refuses bytes f → ⊥
+pub not_both : (bytes : List ℕ) (ss : List Statement) (f : Fault) → Reads bytes ss → Refuses bytes f → ⊥
 not_both bytes ss f (short, lines, few, ts, ps, lexes, cut, opens, is) (inl (long, e)) = omega (arith, long, short)
 not_both bytes ss f (short, lines, few, ts, ps, lexes, cut, opens, is) (inr (short', x)) = go x.stands
   where
     good : (p c : ℕ) → InTokens bytes p c → ⊥
-    good = all_good bytes ts ps lexes cut opens (subst (λ (xs : List Spoken). length xs ≤ most_statements) is few)
+    good = all_good bytes ts ps lexes cut opens (subst (λ (xs : List Statement). length xs ≤ most_statements) is few)
 
     go : Stands bytes x.place f.code → ⊥
     go (inl y) = good x.place f.code (inl (inl y))

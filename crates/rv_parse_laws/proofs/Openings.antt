@@ -9,7 +9,7 @@ use Rattle.rv_text_laws.specs.Lexing.{Token}
 use Rattle.rv_text_laws.specs.Joined.{IsJoined}
 use Rattle.rv_text_laws.specs.SyntaxError.{SyntaxError, wrong, Read}
 use Rattle.rv_statement.specs.declared.directive.DirectiveWord.TheVariants as words
-use Rattle.rv_statement.specs.Statement.{Operand, Word, Quoted, Directs, Spoken}
+use Rattle.rv_statement.specs.Statement.{Operand, Word, Quoted, Directs, Statement}
 use Rattle.rv_parse_laws.specs.Words.{beginning, mnemonic_named, directive_named, instruction_words, atomic_operations, atomic_forms, directive_words}
 use Rattle.rv_parse_laws.specs.Syntax.{begins, is_comma, is_at, is_end, is_section_name, A_section, Some_flags, At_sign, A_comma, single, places, directed, colon_next, AreOperands, Part, Says, IsPart}
 use Rattle.rv_parse_laws.specs.Opening.{flags_fault, type_fault, is_text, is_section, is_opened, IsNamed, WrongFlags, WrongType, IsWrongOpening}
@@ -53,7 +53,7 @@ named_is known front us name (word, text, comma, whole, is, joined, good, comma_
     ∙ rw is (ap (named_wrong known) read ∙ ap (behind_read (λ vs. flags_wrong (known name) vs)) (comma_single comma us comma_is))
 
 -- a wrong opening is found
-pub opening_found : (ss : List Spoken) (before : List Token) (at : Token) (code : ℕ) (more : List Token) → IsWrongOpening ss before at code
+pub opening_found : (ss : List Statement) (before : List Token) (at : Token) (code : ℕ) (more : List Token) → IsWrongOpening ss before at code
     → opening_at (is_opened ss) (before ++ at ∷ more) ≡ Some (wrong at code)
 opening_found ss before at code more (inl x) =
     named_is (is_opened ss) before (at ∷ more) x.name x.named ∙ rw x.wrong refl
@@ -198,7 +198,7 @@ opening_there known (t ∷ ts) w e = go (is_section t.kind) refl e
     go false is e = absurd (cc)
 
 -- no wrong opening, and none at an end
-pub none_opens : (ss : List Spoken) (ts : List Token) → opening_at (is_opened ss) ts ≡ None → OpensWell ss ts
+pub none_opens : (ss : List Statement) (ts : List Token) → opening_at (is_opened ss) ts ≡ None → OpensWell ss ts
 none_opens ss ts none before at more code whole is =
     let some : opening_at (is_opened ss) ts ≡ Some (wrong at code) = ap (opening_at (is_opened ss)) whole ∙ opening_found ss before at code more is in
     cc
@@ -207,17 +207,17 @@ end_no_section : (k : Kind) → is_end k ≡ true → is_section k ≡ false
 end_no_section (NameToken name) h = absurd (cc)
 end_no_section _ h = refl
 
-pub end_opens : (ss : List Spoken) (t : Token) (ts : List Token) → is_end t.kind ≡ true → OpensWell ss (t ∷ ts)
+pub end_opens : (ss : List Statement) (t : Token) (ts : List Token) → is_end t.kind ≡ true → OpensWell ss (t ∷ ts)
 unfolding opening_at
 end_opens ss t ts ends = none_opens ss (t ∷ ts) (rw (end_no_section t.kind ends) refl)
 
 -- tokens before others
-pub front_opens : (ss : List Spoken) (front ts more : List Token) → ts ≡ front ++ more → OpensWell ss ts → OpensWell ss front
+pub front_opens : (ss : List Statement) (front ts more : List Token) → ts ≡ front ++ more → OpensWell ss ts → OpensWell ss front
 front_opens ss front ts more whole well before at rest code is wrong =
     well before at (rest ++ more) code (whole ∙ ap (λ us. us ++ more) is ∙ append_assoc before (at ∷ rest) more) wrong
 
 -- what is checked is read, and opens well
-pub checked_ok : (ss : List Spoken) (ts : List Token) (x : Part × List Token) → checked_at (is_opened ss) ts ≡ Ok x → (part_at ts ≡ Ok x) × OpensWell ss ts
+pub checked_ok : (ss : List Statement) (ts : List Token) (x : Part × List Token) → checked_at (is_opened ss) ts ≡ Ok x → (part_at ts ≡ Ok x) × OpensWell ss ts
 checked_ok ss ts x e = go (opening_at (is_opened ss) ts) refl e
   where
     go : (o : Option SyntaxError) → opening_at (is_opened ss) ts ≡ o → unless o (part_at ts) ≡ Ok x → (part_at ts ≡ Ok x) × OpensWell ss ts
@@ -225,7 +225,7 @@ checked_ok ss ts x e = go (opening_at (is_opened ss) ts) refl e
     go (Some w) some e = absurd (cc)
 
 -- what is wrong there: an opening, or without one the first token with which nothing goes on
-pub checked_err : (ss : List Spoken) (ts : List Token) (w : SyntaxError) → checked_at (is_opened ss) ts ≡ Err w
+pub checked_err : (ss : List Statement) (ts : List Token) (w : SyntaxError) → checked_at (is_opened ss) ts ≡ Err w
     → OpeningThere (is_opened ss) ts w ⊎ ((part_at ts ≡ Err w) × OpensWell ss ts)
 checked_err ss ts w e = go (opening_at (is_opened ss) ts) refl e
   where
@@ -233,7 +233,7 @@ checked_err ss ts w e = go (opening_at (is_opened ss) ts) refl e
     go None none e = inr (e, none_opens ss ts none)
     go (Some v) some e = let same : v ≡ w = cc in inl (subst (λ (u : SyntaxError). OpeningThere (is_opened ss) ts u) same (opening_there (is_opened ss) ts v some))
 
-pub checked_wrong : (ss : List Spoken) (ts : List Token) (w : SyntaxError) → part_at ts ≡ Err w → (v : SyntaxError) × (checked_at (is_opened ss) ts ≡ Err v)
+pub checked_wrong : (ss : List Statement) (ts : List Token) (w : SyntaxError) → part_at ts ≡ Err w → (v : SyntaxError) × (checked_at (is_opened ss) ts ≡ Err v)
 checked_wrong ss ts w e = go (opening_at (is_opened ss) ts)
   where
     go : (o : Option SyntaxError) → (v : SyntaxError) × (unless o (part_at ts) ≡ Err v)
@@ -337,7 +337,7 @@ section_part : (word : Token) (text us : List Token) (os : List Operand) (name :
     → IsPart (Says (Directs (directed words.Section os))) (word ∷ (text ++ us))
 section_part word text us os name is joined are = (word, text ++ us, words.Section, os, refl, joined_no_colon text us name joined, section_word word.kind is, are, refl)
 
-pub opening_goes : (ss : List Spoken) (before : List Token) (at : Token) (code : ℕ) (more : List Token) → IsWrongOpening ss before at code → CanGoOn (before ++ at ∷ more) before
+pub opening_goes : (ss : List Statement) (before : List Token) (at : Token) (code : ℕ) (more : List Token) → IsWrongOpening ss before at code → CanGoOn (before ++ at ∷ more) before
 opening_goes ss before at code more (inl x) = go x.name x.named
   where
     go : (name : List ℕ) → IsNamed before name → CanGoOn (before ++ at ∷ more) before
@@ -375,7 +375,7 @@ opening_goes ss before at code more (inr x) = go x.name x.named
         label bytes name = refl
 
 -- tokens stand before it
-pub opening_behind : (ss : List Spoken) (before : List Token) (at : Token) (code : ℕ) → IsWrongOpening ss before at code → 0 < length before
+pub opening_behind : (ss : List Statement) (before : List Token) (at : Token) (code : ℕ) → IsWrongOpening ss before at code → 0 < length before
 opening_behind ss before at code (inl x) = go x.named
   where
     go : IsNamed before x.name → 0 < length before
@@ -396,7 +396,7 @@ texts_push [] x rest = append_assoc x.text [] rest
 texts_push (p ∷ ps) x rest =
     append_assoc p.text (texts (ps ++ x ∷ [])) rest ∙ ap (λ us. p.text ++ us) (texts_push ps x rest) ∙ sym (append_assoc p.text (texts ps) (x.text ++ rest))
 
-pub open_push : (ss : List Spoken) (ps : List (Piece Part Token)) (m : Piece Part Token) (rest : List Token) → AllOpenWell ss ps (m.text ++ rest) → OpensWell (ss ++ said ps) (m.text ++ rest)
+pub open_push : (ss : List Statement) (ps : List (Piece Part Token)) (m : Piece Part Token) (rest : List Token) → AllOpenWell ss ps (m.text ++ rest) → OpensWell (ss ++ said ps) (m.text ++ rest)
     → AllOpenWell ss (ps ++ m ∷ []) rest
 open_push ss [] m rest all well =
     (subst (λ xs. OpensWell xs ((m.text ++ []) ++ rest)) (append-nil ss) (subst (OpensWell (ss ++ [])) (sym (append_assoc m.text [] rest)) well), tt)
@@ -406,7 +406,7 @@ open_push ss (p ∷ ps) m rest (first, all) well = (
 )
 
 -- where parts go on, no opening is wrong
-open_behind : (ss : List Spoken) (ps : List (Piece Part Token)) (m : Piece Part Token) (more : List (Piece Part Token)) (rest : List Token) → AllOpenWell ss (ps ++ m ∷ more) rest
+open_behind : (ss : List Statement) (ps : List (Piece Part Token)) (m : Piece Part Token) (more : List (Piece Part Token)) (rest : List Token) → AllOpenWell ss (ps ++ m ∷ more) rest
     → OpensWell (ss ++ said ps) (texts (m ∷ more) ++ rest)
 open_behind ss [] m more rest (first, all) = subst (λ xs. OpensWell xs (texts (m ∷ more) ++ rest)) (sym (append-nil ss)) first
 open_behind ss (p ∷ ps) m more rest (first, all) =

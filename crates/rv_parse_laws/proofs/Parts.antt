@@ -8,7 +8,7 @@ use Rattle.rv_text_laws.specs.Grammar.{Kind, Newline, Punctuation, Name as NameT
 use Rattle.rv_text_laws.specs.Lexing.{Token, is_last, ended}
 use Rattle.rv_text_laws.specs.SyntaxError.{SyntaxError, wrong, Read}
 use Rattle.rv_text_laws.proofs.ExpressionWrong.{ended_more}
-use Rattle.rv_statement.specs.Statement.{Operand, Statement, Label, Numbered, Instruction, Directs}
+use Rattle.rv_statement.specs.Statement.{Operand, StatementKind, Label, Numbered, Instruction, Directs}
 use Rattle.rv_isa.specs.RegisterNames.{abi_names}
 use Rattle.rv_parse_laws.specs.Words.{names_of, register}
 use Rattle.rv_parse_laws.specs.Syntax.{is_symbol, label_of, begins, is_colon, is_end, Slots, slots, places, directed, AreOperands, colon_next, IsLabel, IsStatement, Part, Ends, Says, IsPart, EndsHere, StopsPart}
@@ -27,33 +27,33 @@ end_no_colon (Punctuation Colon) h = absurd (cc)
 end_no_colon (Punctuation _) h = refl
 end_no_colon _ h = refl
 
-label_no_end : (k : Kind) (s : Statement) → label_of k ≡ Some s → is_end k ≡ false
+label_no_end : (k : Kind) (s : StatementKind) → label_of k ≡ Some s → is_end k ≡ false
 label_no_end (NameToken name) s h = refl
 label_no_end (Number word number) s h = refl
 label_no_end (Bad_word word) s h = refl
 label_no_end _ s h = absurd (cc)
 
-pub label_no_last : (k : Kind) (s : Statement) → label_of k ≡ Some s → is_last k ≡ false
+pub label_no_last : (k : Kind) (s : StatementKind) → label_of k ≡ Some s → is_last k ≡ false
 label_no_last (NameToken name) s h = refl
 label_no_last (Number word number) s h = refl
 label_no_last (Bad_word word) s h = refl
 label_no_last _ s h = absurd (cc)
 
 -- a label says one
-abbrev pub IsLabelled : Statement → Type 0
+abbrev pub IsLabelled : StatementKind → Type 0
 IsLabelled s = is_label (Says s) ≡ true
 
-labelled_if : (b : Bool) (t s : Statement) → IsLabelled t → cond b (Some t) None ≡ Some s → IsLabelled s
+labelled_if : (b : Bool) (t s : StatementKind) → IsLabelled t → cond b (Some t) None ≡ Some s → IsLabelled s
 labelled_if true t s l h = let same : t ≡ s = cc in subst IsLabelled same l
 labelled_if false t s l h = absurd (cc)
 
-labels : (k : Kind) (s : Statement) → label_of k ≡ Some s → IsLabelled s
+labels : (k : Kind) (s : StatementKind) → label_of k ≡ Some s → IsLabelled s
 labels (NameToken name) s h = labelled_if (is_symbol name) (Label name) s refl h
 labels (Number word number) s h = labelled_if (list_all is_decimal word) (Numbered _) s refl h
 labels (Bad_word word) s h = labelled_if (list_all is_decimal word) (Numbered _) s refl h
 labels _ s h = absurd (cc)
 
-to_label : (ts : List Token) (s : Statement) → IsLabelled s → IsLabel ts s → IsStatement ts s
+to_label : (ts : List Token) (s : StatementKind) → IsLabelled s → IsLabel ts s → IsStatement ts s
 to_label ts (Label name) l h = h
 to_label ts (Numbered number) l h = h
 to_label ts (Instruction m os) l h = absurd (cc)
@@ -88,12 +88,12 @@ colon_first (t ∷ ts) [] e = absurd (cc)
 colon_first (t ∷ ts) (u ∷ us) e = let same : t ≡ u = cc in ap (λ (x : Token). is_colon x.kind) same
 
 -- a statement behind its first token, no label
-begun_is : (b : Beginning) (t : Token) (us : List Token) (s : Statement) (rest : List Token) → begins t.kind ≡ b → (b ≡ beginnings.Nothing → ⊥)
+begun_is : (b : Beginning) (t : Token) (us : List Token) (s : StatementKind) (rest : List Token) → begins t.kind ≡ b → (b ≡ beginnings.Nothing → ⊥)
     → colon_next us ≡ false → begun_at b t us ≡ Ok (s, rest) → part_at (t ∷ us) ≡ Ok (Says s, rest)
 unfolding part_at statement_at
 begun_is b t us s rest is some no_colon e = rw (begins_no_end t.kind b is some, no_colon, is, e) refl
 
-label_is : (text rest : List Token) (s : Statement) → IsLabel text s → part_at (text ++ rest) ≡ Ok (Says s, rest)
+label_is : (text rest : List Token) (s : StatementKind) → IsLabel text s → part_at (text ++ rest) ≡ Ok (Says s, rest)
 unfolding part_at statement_at
 label_is text rest s (t, c, w, is, colon) = rw w (rw (label_no_end t.kind s is, colon, is) refl)
 
@@ -113,7 +113,7 @@ part_is (Says (Directs d)) text rest (t, more, word, os, w, colon, is, are, v) e
 abbrev pub FoundPart : List Token → Part → List Token → Type 0
 FoundPart ts p rest = (text : List Token) × (ts ≡ text ++ rest) × IsPart p text × StopsPart p rest
 
-begun_found : (b : Beginning) (t : Token) (ts : List Token) (s : Statement) (rest : List Token) → begins t.kind ≡ b → colon_next ts ≡ false → begun_at b t ts ≡ Ok (s, rest)
+begun_found : (b : Beginning) (t : Token) (ts : List Token) (s : StatementKind) (rest : List Token) → begins t.kind ≡ b → colon_next ts ≡ false → begun_at b t ts ≡ Ok (s, rest)
     → FoundPart (t ∷ ts) (Says s) rest
 unfolding begun_at
 begun_found (beginnings.Instruction m) t ts s rest is colon e =
@@ -128,13 +128,13 @@ begun_found (beginnings.Directive word) t ts s rest is colon e =
     (t ∷ f.0, ap (λ us. t ∷ us) f.1, (t, f.0, word, v.0, refl, colon_of_part f.0 rest (ap colon_next (sym f.1) ∙ colon), is, f.2, refl), f.3)
 begun_found beginnings.Nothing t ts s rest is colon e = absurd (cc)
 
-any_stop : (s : Statement) (rest : List Token) → IsLabelled s → StopsPart (Says s) rest
+any_stop : (s : StatementKind) (rest : List Token) → IsLabelled s → StopsPart (Says s) rest
 any_stop (Label name) rest l = tt
 any_stop (Numbered number) rest l = tt
 any_stop (Instruction m os) rest l = absurd (cc)
 any_stop (Directs d) rest l = absurd (cc)
 
-statement_found : (t : Token) (ts : List Token) (s : Statement) (rest : List Token) → statement_at t ts ≡ Ok (s, rest) → FoundPart (t ∷ ts) (Says s) rest
+statement_found : (t : Token) (ts : List Token) (s : StatementKind) (rest : List Token) → statement_at t ts ≡ Ok (s, rest) → FoundPart (t ∷ ts) (Says s) rest
 unfolding statement_at
 statement_found t ts s rest e = go (colon_next ts) refl e
   where
@@ -194,7 +194,7 @@ plain_goes ss ts [] at more whole colon live = operands_live ss
 plain_goes ss ts (t ∷ before) at more whole colon (text, os, are) = (text, os, are, ap colon_next (sym whole) ∙ colon)
 
 -- what is wrong behind the first token
-begun_behind : (t : Token) (ts : List Token) (w : SyntaxError) (b : Beginning) (ss : Slots) (view : List Operand → Statement) → is_end t.kind ≡ false → begins t.kind ≡ b → colon_next ts ≡ false
+begun_behind : (t : Token) (ts : List Token) (w : SyntaxError) (b : Beginning) (ss : Slots) (view : List Operand → StatementKind) → is_end t.kind ≡ false → begins t.kind ≡ b → colon_next ts ≡ false
     → ((us : List Token) → operands_at ss us ≡ Err w → begun_at b t us ≡ Err w)
     → ((us : List Token) (os : List Operand) → colon_next us ≡ false → AreOperands ss us os → PartOf (t ∷ ts) (t ∷ us) (Says (view os)))
     → Failing (List Operand) (λ us ps. AreOperands ss us ps) (λ us. operands_at ss us) ts w → WrongAt (t ∷ ts) w
@@ -270,7 +270,7 @@ part_wrong (t ∷ ts) w end e = go (is_end t.kind) refl e
     go false ends e = labelled (colon_next ts) refl ends (seen_err Says (statement_at t ts) w e)
 
 -- a part has a colon behind its first token exactly where it is a label
-label_colon : (text : List Token) (s : Statement) → IsLabel text s → begins_label text ≡ true
+label_colon : (text : List Token) (s : StatementKind) → IsLabel text s → begins_label text ≡ true
 label_colon text s (t, c, w, is, colon) = rw w colon
 
 part_label : (p : Part) (text : List Token) → IsPart p text → is_label p ≡ begins_label text

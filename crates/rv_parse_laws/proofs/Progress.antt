@@ -4,7 +4,7 @@ use Rattle.std.proofs.Common.{◌≡◌, true, false, List, [], ◌∷◌, ◌++
 use Rattle.rv_text_laws.specs.Cut.{Piece, Each}
 use Rattle.rv_text_laws.specs.Lexing.{Token, is_last}
 use Rattle.rv_text_laws.specs.Grammar.{Kind, Bad_byte, Bad_token, End}
-use Rattle.rv_statement.specs.Statement.{Statement, Spoken}
+use Rattle.rv_statement.specs.Statement.{StatementKind, Statement}
 use Rattle.rv_parse_laws.specs.Syntax.{Part, Ends, Says, IsPart, StopsPart, is_end, is_source_end}
 use Rattle.rv_parse_laws.specs.Opening.{is_opened}
 use Rattle.rv_parse_laws.specs.Parsing.{checked_at}
@@ -17,7 +17,7 @@ each_push : (ps : List (Piece Part Token)) (x : Piece Part Token) (rest : List T
 each_push [] x rest each is stops = (is, stops, tt)
 each_push (p ∷ ps) x rest (a, b, each) is stops = (a, subst (StopsPart p.kind) (sym (texts_push ps x rest)) b, each_push ps x rest each is stops)
 
-no_more_said : (ss : List Spoken) → ss ++ [] ≡ ss
+no_more_said : (ss : List Statement) → ss ++ [] ≡ ss
 no_more_said [] = refl
 no_more_said (s ∷ ss) = ap (λ us. s ∷ us) (no_more_said ss)
 
@@ -25,7 +25,7 @@ said_push : (ps : List (Piece Part Token)) (x : Piece Part Token) → said (ps +
 said_push [] x = no_more_said (told x.kind x.text)
 said_push (p ∷ ps) x = ap (λ us. told p.kind p.text ++ us) (said_push ps x) ∙ sym (append_assoc (told p.kind p.text) (said ps) (told x.kind x.text))
 
-pub push : (ts text rest : List Token) (p : Part) (ss : List Spoken) → SaysUpTo ts (text ++ rest) ss → OpensWell ss (text ++ rest) → IsPart p text → StopsPart p rest
+pub push : (ts text rest : List Token) (p : Part) (ss : List Statement) → SaysUpTo ts (text ++ rest) ss → OpensWell ss (text ++ rest) → IsPart p text → StopsPart p rest
     → SaysUpTo ts rest (ss ++ told p text)
 push ts text rest p ss (ps, cuts, opens, is_said) well is stops =
     let x : Piece Part Token = record { kind = p; text = text } in (
@@ -36,35 +36,35 @@ push ts text rest p ss (ps, cuts, opens, is_said) well is stops =
     )
 
 -- an end of a statement
-pub push_end : (ts : List Token) (t : Token) (before rest : List Token) (ss : List Spoken) → SaysUpTo ts before ss → before ≡ t ∷ rest → is_end t.kind ≡ true → SaysUpTo ts rest ss
+pub push_end : (ts : List Token) (t : Token) (before rest : List Token) (ss : List Statement) → SaysUpTo ts before ss → before ≡ t ∷ rest → is_end t.kind ≡ true → SaysUpTo ts rest ss
 push_end ts t before rest ss so is ends =
     subst (SaysUpTo ts rest) (no_more_said ss) (push ts (t ∷ []) rest Ends ss (subst (λ us. SaysUpTo ts us ss) is so) (end_opens ss t rest ends) (t, refl, ends) tt)
 
 -- no statement is said by no tokens
-no_text : (s : Statement) → IsPart (Says s) [] → ⊥
+no_text : (s : StatementKind) → IsPart (Says s) [] → ⊥
 no_text s is = let n = part_nonempty (Says s) [] is in let w : [] ≡ n.0 ∷ n.1 = n.2 in cc
 
 -- a statement, with its line
-pub push_statement : (ts : List Token) (t : Token) (before us rest : List Token) (s : Statement) (ss : List Spoken) → SaysUpTo ts before ss → before ≡ t ∷ us
-    → checked_at (is_opened ss) before ≡ Ok (Says s, rest) → SaysUpTo ts rest (ss ++ record { line = t.line; says = s } ∷ [])
+pub push_statement : (ts : List Token) (t : Token) (before us rest : List Token) (s : StatementKind) (ss : List Statement) → SaysUpTo ts before ss → before ≡ t ∷ us
+    → checked_at (is_opened ss) before ≡ Ok (Says s, rest) → SaysUpTo ts rest (ss ++ record { line = t.line; kind = s } ∷ [])
 push_statement ts t before us rest s ss so is checked =
     let c = checked_ok ss before (Says s, rest) checked in
     let f = part_found before (Says s) rest c.0 in
     go f.0 f.1 f.2 f.3 c.1
   where
-    go : (text : List Token) → before ≡ text ++ rest → IsPart (Says s) text → StopsPart (Says s) rest → OpensWell ss before → SaysUpTo ts rest (ss ++ record { line = t.line; says = s } ∷ [])
+    go : (text : List Token) → before ≡ text ++ rest → IsPart (Says s) text → StopsPart (Says s) rest → OpensWell ss before → SaysUpTo ts rest (ss ++ record { line = t.line; kind = s } ∷ [])
     go [] whole spelled stops well = absurd (no_text s spelled)
     go (v ∷ vs) whole spelled stops well =
         let same : t ∷ us ≡ v ∷ (vs ++ rest) = sym is ∙ whole in
         let head : t ≡ v = cc in
-        subst (λ (u : Token). SaysUpTo ts rest (ss ++ record { line = u.line; says = s } ∷ [])) (sym head)
+        subst (λ (u : Token). SaysUpTo ts rest (ss ++ record { line = u.line; kind = s } ∷ [])) (sym head)
         (push ts (v ∷ vs) rest (Says s) ss (subst (λ xs. SaysUpTo ts xs ss) whole so) (subst (OpensWell ss) whole well) spelled stops)
 
 pub nothing_yet : (ts : List Token) → SaysUpTo ts ts []
 nothing_yet ts = ([], record { whole = refl; each = tt }, tt, refl)
 
 -- a statement takes tokens
-pub statement_shorter : (ss : List Spoken) (ts rest : List Token) (s : Statement) → checked_at (is_opened ss) ts ≡ Ok (Says s, rest) → length rest < length ts
+pub statement_shorter : (ss : List Statement) (ts rest : List Token) (s : StatementKind) → checked_at (is_opened ss) ts ≡ Ok (Says s, rest) → length rest < length ts
 statement_shorter ss ts rest s checked =
     let f = part_found ts (Says s) rest (checked_ok ss ts (Says s, rest) checked).0 in go f.0 f.1 f.2
   where

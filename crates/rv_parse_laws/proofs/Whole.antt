@@ -4,7 +4,7 @@ use Rattle.std.proofs.Common.{◌≡◌, ℕ, ◌-◌, ◌<◌, ◌≤◌, List,
 use Rattle.rv_text_laws.specs.Cut.{Piece, Finds}
 use Rattle.rv_text_laws.specs.Lexing.{Token, Lexes}
 use Rattle.rv_text_laws.proofs.Cut.{unique}
-use Rattle.rv_statement.specs.Statement.{Spoken}
+use Rattle.rv_statement.specs.Statement.{Statement}
 use Rattle.rv_parse_laws.specs.Syntax.{Part, IsPart, StopsPart}
 use Rattle.rv_parse_laws.specs.Parsing.{part_at}
 use Rattle.rv_text_laws.specs.SyntaxError.{SyntaxError, Read}
@@ -63,12 +63,12 @@ one_cut ts ps qs c d =
     ap (λ (x : List (Piece Part Token) × List Token). x.0) p
 
 -- bytes have at most one reading
-pub one_reading : (bytes : List ℕ) (ss others : List Spoken) → Reads bytes ss → Reads bytes others → ss ≡ others
+pub one_reading : (bytes : List ℕ) (ss others : List Statement) → Reads bytes ss → Reads bytes others → ss ≡ others
 one_reading bytes ss others (a, b, c, ts, ps, lexes, cuts, opens, says) (d, e, f, us, qs, lexes', cuts', opens', says') =
     let same : ts ≡ us = one_list bytes ts us lexes lexes' in
     says ∙ ap said (one_cut us ps qs (subst (λ xs. AreParts xs ps []) same cuts) cuts') ∙ sym says'
 
 -- what the tokens of bytes say within the limits is their reading
-pub reads_as : (bytes : List ℕ) (ts : List Token) (ss : List Spoken) → length bytes ≤ longest_source → past_line 0 0 bytes ≡ None → length ss ≤ most_statements
+pub reads_as : (bytes : List ℕ) (ts : List Token) (ss : List Statement) → length bytes ≤ longest_source → past_line 0 0 bytes ≡ None → length ss ≤ most_statements
     → ts ≡ tokens_from 0 1 bytes → SaysUpTo ts [] ss → Reads bytes ss
 reads_as bytes ts ss short lines few is (ps, cuts, opens, says) = (short, lines, few, ts, ps, subst (Lexes bytes) (sym is) (given bytes), cuts, opens, says)

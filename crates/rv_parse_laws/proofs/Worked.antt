@@ -16,7 +16,7 @@ use Rattle.rv_statement.specs.declared.directive.Standard.TheVariants.{Bss}
 use Rattle.rv_statement.specs.declared.mnemonic.Mnemonic.TheVariants.{Registers, Load, Jalr, LoadReserved}
 use Rattle.rv_isa.specs.declared.operation.RegisterOperation.TheVariants.{And}
 use Rattle.rv_isa.specs.declared.operation.LoadOperation.TheVariants.{Lw}
-use Rattle.rv_statement.specs.Statement.{Register, Value, Enters, Opens, Globl, Local, Sets, Aligns_to_power, Aligns_to_bytes, Values, Strings, Zeros, Chooses as Choosing, Ignored, Statement, Label, Numbered, Instruction, Directs, Spoken}
+use Rattle.rv_statement.specs.Statement.{Register, Value, Enters, Opens, Globl, Local, Sets, Aligns_to_power, Aligns_to_bytes, Values, Strings, Zeros, Chooses as Choosing, Ignored, StatementKind, Label, Numbered, Instruction, Directs, Statement}
 use Rattle.rv_parse_laws.specs.Words.{base_words, atomic_words, atomic_ends, pseudo_words, left_out_directives, is_known, instruction_words, atomic_operations, atomic_forms, form_with, mnemonic_named, directive_words, directive_named, beginning, choices, left_out_options, section_types, names_of, register}
 use Rattle.rv_parse_laws.specs.Syntax.{is_symbol, access_sets, is_section_name, Part, Says}
 use Rattle.rv_parse_laws.specs.Opening.{is_opened}
@@ -31,7 +31,7 @@ code : Read Part → ℕ × ℕ
 code (Ok read) = (0, 0)
 code (Err wrong) = (wrong.code, wrong.offset)
 
-abbrev good_lines : List (List ℕ × Statement)
+abbrev good_lines : List (List ℕ × StatementKind)
 good_lines =
     (codes "lw a0, (4)(sp)", Instruction (Load Lw) (Register 10 ∷ Value (Leaf (Literal 4)) ∷ Register 2 ∷ [])) ∷
     (codes "lw a0, (sp)", Instruction (Load Lw) (Register 10 ∷ Register 2 ∷ [])) ∷
@@ -116,8 +116,8 @@ bad_lines =
     []
 
 -- as they are read behind `.text` and `.section x`
-behind_x : List Spoken
-behind_x = record { line = 1; says = Directs (Opens (codes "x") None None) } ∷ []
+behind_x : List Statement
+behind_x = record { line = 1; kind = Directs (Opens (codes "x") None None) } ∷ []
 
 read_line : List ℕ → Read Part
 read_line line = checked_at (is_opened behind_x) (tokens_from 0 1 line)

@@ -10,20 +10,20 @@ use Rattle.rv_text_laws.specs.Codes.{limit}
 use Rattle.rv_text_laws.specs.SyntaxError.{longest_name}
 use Rattle.rv_text_laws.specs.Joined.{IsJoined}
 use Rattle.rv_statement.specs.Sections.{standard_name}
-use Rattle.rv_statement.specs.Statement.{Enters, Opens, Statement, Directs, Spoken}
+use Rattle.rv_statement.specs.Statement.{Enters, Opens, StatementKind, Directs, Statement}
 use Rattle.rv_parse_laws.specs.Words.{is_among, section_types}
 use Rattle.rv_parse_laws.specs.Syntax.{is_comma, is_at, is_flag, is_section_name}
 use Rattle.rv_parse_laws.specs.Faults.{unsupported_here, wrong_letters}
 
 -- a statement opens, or enters, the section of this name
-abbrev pub opens : List ℕ → Statement → Bool
+abbrev pub opens : List ℕ → StatementKind → Bool
 opens name (Directs (Enters standard)) = bytes_eq (standard_name standard) name
 opens name (Directs (Opens other flags kind)) = bytes_eq other name
 opens name _ = false
 
 -- a statement had this name; a source begins in `.text`
-abbrev pub is_opened : List Spoken → List ℕ → Bool
-is_opened ss name = bytes_eq name (codes ".text") || list_any (λ (s : Spoken). opens name s.says) ss
+abbrev pub is_opened : List Statement → List ℕ → Bool
+is_opened ss name = bytes_eq name (codes ".text") || list_any (λ (s : Statement). opens name s.kind) ss
 
 -- the code of a string as the flags of a name that is known, or new
 abbrev pub flags_fault : Bool → Kind → Option ℕ
@@ -73,5 +73,5 @@ pub record WrongType (known : List ℕ → Bool) (before : List Token) (at : Tok
   pub wrong : type_fault (known name) at.kind ≡ Some code
 
 -- behind the statements ss the tokens `before` begin an opening with whose name the token `at` is wrong
-abbrev pub IsWrongOpening : List Spoken → List Token → Token → ℕ → Type 0
+abbrev pub IsWrongOpening : List Statement → List Token → Token → ℕ → Type 0
 IsWrongOpening ss before at code = WrongFlags (is_opened ss) before at code ⊎ WrongType (is_opened ss) before at code

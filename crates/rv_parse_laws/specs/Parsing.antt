@@ -9,7 +9,7 @@ use Rattle.rv_text_laws.specs.SyntaxError.{SyntaxError, wrong, Read, nowhere, lo
 use Rattle.rv_text_laws.specs.Joined.{bytes_of, joined_at}
 use Rattle.rv_text_laws.specs.Expression.{tree_of}
 use Rattle.rv_text_laws.specs.ExpressionAt.{expression_at}
-use Rattle.rv_statement.specs.Statement.{Expression, Operand, Value, Word, Statement, Instruction, Directs}
+use Rattle.rv_statement.specs.Statement.{Expression, Operand, Value, Word, StatementKind, Instruction, Directs}
 use Rattle.rv_parse_laws.specs.Syntax.{is_register, label_of, begins, is_comma, is_percent, is_end, is_opening, is_any, is_section_name, Slot, A_register, A_value, An_address, A_section, Some_flags, At_sign, A_comma, A_closing, An_opening, single, front_begins, Slots, Stops, Takes, Chooses, Lists, Anything, slots, places, directed, colon_next, Part, Ends, Says}
 use Rattle.rv_parse_laws.specs.Faults.{may_call, wrong_first, wrong_after, wrong_any, wrong_start, wrong_label, unsupported_here}
 use Rattle.rv_parse_laws.specs.Opening.{flags_fault, type_fault, is_section}
@@ -133,7 +133,7 @@ operands_at (Lists s) ts = items_at s ts
 operands_at Anything ts = any_at ts
 
 -- the statement that begins with the token t, before the tokens ts
-unfoldable pub begun_at : Beginning → Token → List Token → Read Statement
+unfoldable pub begun_at : Beginning → Token → List Token → Read StatementKind
 begun_at (beginnings.Instruction m) t ts = seen_as (Instruction m) (operands_at (slots m) ts)
 begun_at (beginnings.Directive word) t ts = seen_as (λ os. Directs (directed word os)) (operands_at (places word) ts)
 begun_at beginnings.Nothing t ts = Err (wrong t (wrong_start t.kind))
@@ -143,7 +143,7 @@ after_first [] = []
 after_first (t ∷ ts) = ts
 
 -- a label or another statement, at a token that ends none
-unfoldable pub statement_at : Token → List Token → Read Statement
+unfoldable pub statement_at : Token → List Token → Read StatementKind
 statement_at t ts =
     if colon_next ts then taken t (after_first ts) (label_of t.kind) (wrong_label t.kind)
     else begun_at (begins t.kind) t ts

@@ -5,7 +5,7 @@ use Rattle.rv_text_laws.specs.Cut.{Piece, texts, Cuts, NothingReads}
 use Rattle.rv_text_laws.specs.Lexing.{Token, Lexes, newlines}
 use Rattle.rv_text_laws.specs.Codes.{limit}
 use Rattle.rv_text_laws.specs.SyntaxError.{offset_of, Read}
-use Rattle.rv_statement.specs.Statement.{Label, Numbered, Spoken}
+use Rattle.rv_statement.specs.Statement.{Label, Numbered, Statement}
 use Rattle.rv_parse_laws.specs.Syntax.{Part, Ends, Says, IsPart, StopsPart, is_end, colon_next}
 use Rattle.rv_parse_laws.specs.Opening.{IsWrongOpening}
 use Rattle.rv_parse_laws.specs.Parsing.{part_at}
@@ -29,13 +29,13 @@ past_line place before (b ∷ bs) =
     else (if before == longest_line then Some place else past_line (place + 1) (before + 1) bs)
 
 -- the statement that a part is, with the line of its first token
-abbrev pub told : Part → List Token → List Spoken
+abbrev pub told : Part → List Token → List Statement
 told Ends ts = []
 told (Says statement) [] = []
-told (Says statement) (t ∷ ts) = record { line = t.line; says = statement } ∷ []
+told (Says statement) (t ∷ ts) = record { line = t.line; kind = statement } ∷ []
 
 -- the statements of parts, in order
-abbrev pub said : List (Piece Part Token) → List Spoken
+abbrev pub said : List (Piece Part Token) → List Statement
 said [] = []
 said (p ∷ ps) = told p.kind p.text ++ said ps
 
@@ -44,17 +44,17 @@ abbrev pub AreParts : List Token → List (Piece Part Token) → List Token → 
 AreParts ts ps rest = Cuts Part Token IsPart StopsPart ts ps rest
 
 -- at the front of the tokens, behind these statements, no opening of a section is wrong
-abbrev pub OpensWell : List Spoken → List Token → Type 0
+abbrev pub OpensWell : List Statement → List Token → Type 0
 OpensWell ss ts = (before : List Token) (at : Token) (more : List Token) (code : ℕ) → ts ≡ before ++ at ∷ more → IsWrongOpening ss before at code → ⊥
 
 -- nor is one at the front of any of these parts, behind these statements and before the rest
-abbrev pub AllOpenWell : List Spoken → List (Piece Part Token) → List Token → Type 0
+abbrev pub AllOpenWell : List Statement → List (Piece Part Token) → List Token → Type 0
 AllOpenWell ss [] rest = Unit {0}
 AllOpenWell ss (p ∷ ps) rest = OpensWell ss (texts (p ∷ ps) ++ rest) × AllOpenWell (ss ++ told p.kind p.text) ps rest
 
 -- the bytes read as these statements: they are cut into tokens, the tokens into parts whose openings are good, all within
 -- the limits
-abbrev pub Reads : List ℕ → List Spoken → Type 0
+abbrev pub Reads : List ℕ → List Statement → Type 0
 Reads bytes ss =
     (length bytes ≤ longest_source) × (past_line 0 0 bytes ≡ None) × (length ss ≤ most_statements)
     × (ts : List Token) × (ps : List (Piece Part Token)) × Lexes bytes ts × AreParts ts ps [] × AllOpenWell [] ps [] × (ss ≡ said ps)
@@ -151,5 +151,5 @@ Refuses bytes f =
     ⊎ ((length bytes ≤ longest_source) × IsFirst bytes f)
 
 -- the tokens say these statements, with good openings, up to the rest
-abbrev pub SaysUpTo : List Token → List Token → List Spoken → Type 0
+abbrev pub SaysUpTo : List Token → List Token → List Statement → Type 0
 SaysUpTo ts rest ss = (ps : List (Piece Part Token)) × AreParts ts ps rest × AllOpenWell [] ps rest × (ss ≡ said ps)

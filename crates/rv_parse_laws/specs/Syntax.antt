@@ -21,7 +21,7 @@ use Rattle.rv_isa.specs.declared.operation.AccessSet.{AccessSet}
 use Rattle.rv_statement.specs.declared.directive.DirectiveWord.{DirectiveWord}
 use Rattle.rv_statement.specs.declared.directive.DirectiveWord.TheVariants as words
 use Rattle.rv_statement.specs.declared.directive.Choice.{Choice}
-use Rattle.rv_statement.specs.Statement.{Expression, Operand, Register, Value, Accesses, Word, Quoted, Directive, Enters, Opens, Globl, Local, Sets, Aligns_to_power, Aligns_to_bytes, Values, Strings, Zeros, Chooses as Choosing, Ignored, Statement, Label, Numbered, Instruction, Directs}
+use Rattle.rv_statement.specs.Statement.{Expression, Operand, Register, Value, Accesses, Word, Quoted, Directive, Enters, Opens, Globl, Local, Sets, Aligns_to_power, Aligns_to_bytes, Values, Strings, Zeros, Chooses as Choosing, Ignored, StatementKind, Label, Numbered, Instruction, Directs}
 use Rattle.rv_statement.specs.View.{bytes_of}
 use Rattle.rv_parse_laws.specs.Words.{register, named_in, choices, beginning}
 use Rattle.rv_parse_laws.specs.declared.role.Role.{Role}
@@ -48,11 +48,11 @@ symbol_of (NameToken name) = if is_symbol name then Some name else None
 symbol_of _ = None
 
 -- a numeric label, by its decimal digits
-abbrev pub numbered : List ℕ → Option Statement
+abbrev pub numbered : List ℕ → Option StatementKind
 numbered word = if list_all is_decimal word then Some (Numbered (value 10 word)) else None
 
 -- the label that a token is before a colon
-abbrev pub label_of : Kind → Option Statement
+abbrev pub label_of : Kind → Option StatementKind
 label_of (NameToken name) = if is_symbol name then Some (Label name) else None
 label_of (Number word number) = numbered word
 label_of (Bad_word word) = numbered word
@@ -385,11 +385,11 @@ colon_next [] = false
 colon_next (t ∷ ts) = is_colon t.kind
 
 -- the tokens are a label and its colon
-abbrev pub IsLabel : List Token → Statement → Type 0
+abbrev pub IsLabel : List Token → StatementKind → Type 0
 IsLabel ts s = (t c : Token) × (ts ≡ t ∷ c ∷ []) × (label_of t.kind ≡ Some s) × (is_colon c.kind ≡ true)
 
 -- the tokens that say a statement, without its end; a word before a colon is a label
-abbrev pub IsStatement : List Token → Statement → Type 0
+abbrev pub IsStatement : List Token → StatementKind → Type 0
 IsStatement ts (Label name) = IsLabel ts (Label name)
 IsStatement ts (Numbered number) = IsLabel ts (Numbered number)
 IsStatement ts (Instruction mnemonic operands) =
@@ -401,7 +401,7 @@ IsStatement ts (Directs directive) =
 -- a part of a source: a statement, or the end of one or of nothing
 pub data Part : Type 0 where
   Ends : Part
-  Says : (statement : Statement) → Part
+  Says : (statement : StatementKind) → Part
 
 -- the tokens that a part consists of
 abbrev pub IsPart : Part → List Token → Type 0

@@ -1,12 +1,12 @@
 //! Laws of the reading of a source, each the contract of a function with nothing to do.
 
 ghost use Rattle.std.specs.Prelude.{◌≡◌, ℕ, List};
-ghost use Rattle.rv_statement.specs.Statement.{Spoken};
+ghost use Rattle.rv_statement.specs.Statement.{Statement};
 ghost use Rattle.rv_parse_laws.specs.Reading.{Reads, Fault, Refuses};
 
 /// Bytes have at most one reading.
 pub fn one_reading()
-    ensures { (bytes : List ℕ) (ss others : List Spoken) → Reads bytes ss → Reads bytes others → ss ≡ others }
+    ensures { (bytes : List ℕ) (ss others : List Statement) → Reads bytes ss → Reads bytes others → ss ≡ others }
 {}
 
 /// Bytes have at most one first fault.
@@ -16,5 +16,5 @@ pub fn one_fault()
 
 /// No bytes have both a reading and a fault.
 pub fn not_both()
-    ensures { (bytes : List ℕ) (ss : List Spoken) (fault : Fault) → Reads bytes ss → Refuses bytes fault → ⊥ }
+    ensures { (bytes : List ℕ) (ss : List Statement) (fault : Fault) → Reads bytes ss → Refuses bytes fault → ⊥ }
 {}

@@ -4,7 +4,7 @@ use Rattle.std.proofs.Common.{◌≡◌, ℕ, suc, ◌+◌, Bool, true, false, L
 use Rattle.std.proofs.lemmas.Bool.{eqb-true, eq-eqb, and_parts}
 use Rattle.std.proofs.lemmas.List.Sums.{sum_by-cons}
 use Rattle.std.specs.Prelude.{◌&&◌, ◌==◌, if◌then◌else◌, filter}
-use Rattle.rv_statement.specs.Statement.{Spoken}
+use Rattle.rv_statement.specs.Statement.{Statement}
 use Rattle.rv_map.specs.Map.{Map}
 use Rattle.rv_map.specs.declared.map.Row.{Row}
 use Rattle.rv_map.specs.declared.map.Region.{Region}
@@ -20,7 +20,7 @@ use Rattle.rv_source_laws.specs.Placement.{Placement, moved, TakesRow, RowsFrom,
 abbrev Marked : List Located → List Row → Type 0
 Marked ts rows = map identity_of_row rows ≡ map identity_of (filter has_row ts)
 
-marks_from : (file k : ℕ) (u : Tables) (next : Placement) (ss : List Spoken) (rows : List Row) (Others : List Row → Placement → Type 0) (more : List Located) → RowsFrom file k u next ss rows Others
+marks_from : (file k : ℕ) (u : Tables) (next : Placement) (ss : List Statement) (rows : List Row) (Others : List Row → Placement → Type 0) (more : List Located) → RowsFrom file k u next ss rows Others
     → ((rest : List Row) (now : Placement) → Others rest now → Marked more rest) → Marked (located_from file k u ss ++ more) rows
 marks_from file k u next [] rows Others more h f = f rows next h
 marks_from file k u next (s ∷ ss) rows Others more h f =
@@ -28,7 +28,7 @@ marks_from file k u next (s ∷ ss) rows Others more h f =
     (λ rest bytes r. marks_from file (suc k) now (moved next file t.section bytes) ss rest Others more r f)
   where
     now : Tables
-    now = after u k s.says
+    now = after u k s.kind
 
     t : Located
     t = located_now file k u s
@@ -42,7 +42,7 @@ marks_from file k u next (s ∷ ss) rows Others more h f =
     go true (row ∷ rest) Rest (mark, at, r) ih = ap (λ x. x ∷ map identity_of_row rest) mark ∙ ap (λ ms. identity_of t ∷ ms) (ih rest row.bytes r)
     go false rows Rest r ih = ih rows 0 r
 
-marks_of : (file : ℕ) (next : Placement) (files : List (List Spoken)) (rows : List Row) (last : Placement) → RowsOf file next files rows last → Marked (located_of file files) rows
+marks_of : (file : ℕ) (next : Placement) (files : List (List Statement)) (rows : List Row) (last : Placement) → RowsOf file next files rows last → Marked (located_of file files) rows
 marks_of file next [] rows last (e, l) = ap (λ rs. map identity_of_row rs) e
 marks_of file next (ss ∷ files) rows last h =
     marks_from file 1 at_start next ss rows (λ rest now. RowsOf (suc file) now files rest last) (located_of (suc file) files) h (λ rest now r. marks_of (suc file) now files rest last r)
@@ -98,7 +98,7 @@ no_more next last file c f j mapped (follow, l) =
     same true = omega arith
     same false = refl
 
-runs_from : (file k : ℕ) (u : Tables) (next : Placement) (ss : List Spoken) (rows : List Row) (last : Placement) (Others : List Row → Placement → Type 0) (more : List Located) (f j : ℕ) → RowsFrom file k u next ss rows Others
+runs_from : (file k : ℕ) (u : Tables) (next : Placement) (ss : List Statement) (rows : List Row) (last : Placement) (Others : List Row → Placement → Type 0) (more : List Located) (f j : ℕ) → RowsFrom file k u next ss rows Others
     → ((rest : List Row) (now : Placement) → Others rest now → Runs now last f j (sites_from more rest)) → Runs next last f j (sites_from (located_from file k u ss ++ more) rows)
 runs_from file k u next [] rows last Others more f j h g = g rows next h
 runs_from file k u next (s ∷ ss) rows last Others more f j h g =
@@ -106,7 +106,7 @@ runs_from file k u next (s ∷ ss) rows last Others more f j h g =
     (λ rest bytes r. runs_from file (suc k) now (moved next file t.section bytes) ss rest last Others more f j r g)
   where
     now : Tables
-    now = after u k s.says
+    now = after u k s.kind
 
     t : Located
     t = located_now file k u s
@@ -122,7 +122,7 @@ runs_from file k u next (s ∷ ss) rows last Others more f j h g =
         (both_swap file f t.section j ((file == f) && (t.section == j)) refl) at (ih rest row.bytes r)
     go false rows Rest r ih = no_more next last file t.section f j (sites_from others rows) (ih rows 0 r)
 
-runs_of : (file : ℕ) (next : Placement) (files : List (List Spoken)) (rows : List Row) (last : Placement) → RowsOf file next files rows last → (f j : ℕ) → Runs next last f j (sites_from (located_of file files) rows)
+runs_of : (file : ℕ) (next : Placement) (files : List (List Statement)) (rows : List Row) (last : Placement) → RowsOf file next files rows last → (f j : ℕ) → Runs next last f j (sites_from (located_of file files) rows)
 runs_of file next [] rows last (e, l) f j = (tt, l f j ∙ omega arith)
 runs_of file next (ss ∷ files) rows last h f j =
     runs_from file 1 at_start next ss rows last (λ rest now. RowsOf (suc file) now files rest last) (located_of (suc file) files) f j h (λ rest now r. runs_of (suc file) now files rest last r f j)
@@ -155,18 +155,18 @@ module _ (goes : Section → Bool) (mapped : List Mapped) (starts last : Placeme
           ((subst (λ x. Follow x (rows_of b)) at here.0, subst (λ x. Stand x (later ++ more)) there rest.0), rest.1 ∙ ap (λ x. end_of x (later ++ more)) there)
       go false r ih = ih stop r
 
-  stands_of : (file stop : ℕ) (files : List (List Spoken)) (end : ℕ) → SpreadOf goes starts last file stop files end → Stands end stop (input_sections_of goes mapped file files)
+  stands_of : (file stop : ℕ) (files : List (List Statement)) (end : ℕ) → SpreadOf goes starts last file stop files end → Stands end stop (input_sections_of goes mapped file files)
   stands_of file stop [] end e = (tt, sym e)
   stands_of file stop (ss ∷ files) end h =
       stands_file (tables ss) file stop 0 (tables ss).opened.sections (λ n. SpreadOf goes starts last (suc file) n files end) (input_sections_of goes mapped (suc file) files) end h
       (λ n r. stands_of (suc file) n files end r)
 
-  holds : (r : Region) (place : ℕ) (sources : List (List Spoken)) → Fills goes starts last sources r place → Holds r place (input_sections_of goes mapped 1 sources)
+  holds : (r : Region) (place : ℕ) (sources : List (List Statement)) → Fills goes starts last sources r place → Holds r place (input_sections_of goes mapped 1 sources)
   holds r place sources (at, spread) =
       let s = stands_of 1 place sources r.end spread in
       (at, s.0, s.1)
 
-pub laid_fits : (a : ℕ) (sources : List (List Spoken)) (m : Map) → IsLaidFrom a sources m → Fits sources m a
+pub laid_fits : (a : ℕ) (sources : List (List Statement)) (m : Map) → IsLaidFrom a sources m → Fits sources m a
 laid_fits a sources m h = record {
   good = h.good;
   rows = marks_of 1 h.starts sources m.rows h.last h.rows;

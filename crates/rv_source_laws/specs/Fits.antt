@@ -5,7 +5,7 @@ use Rattle.std.specs.List.{AllByRecursion, list_all}
 use Rattle.rv_isa.specs.declared.instruction.Inst.{Inst}
 use Rattle.rv_isa.specs.Ranges.{IsValid}
 use Rattle.rv_text_laws.specs.Values.{Value, Constant}
-use Rattle.rv_statement.specs.Statement.{Statement, Label, Numbered, Instruction, Directs, Spoken, Directive, Sets}
+use Rattle.rv_statement.specs.Statement.{StatementKind, Label, Numbered, Instruction, Directs, Statement, Directive, Sets}
 use Rattle.rv_unit_laws.specs.Contributions.{Contribution, Nothing, Bytes, Zero_bytes, Alignment, contribution}
 use Rattle.rv_unit_laws.specs.Sections.{Section, goes_to_text, goes_to_rodata, goes_to_data, goes_to_bss}
 use Rattle.rv_unit_laws.specs.Tables.{Tables, tables, aligned, alignment_of, padding}
@@ -43,7 +43,7 @@ is_constant (Constant n) = true
 is_constant _ = false
 
 abbrev pub has_constants : Program → Mapped → Bool
-has_constants p s = list_all (λ e. is_constant (form p s.located e)) (expressions s.located.says)
+has_constants p s = list_all (λ e. is_constant (form p s.located e)) (expressions s.located.kind)
 
 -- the row of data: the bytes that the statement spells, all zero where its section has none in the file
 abbrev pub IsDataRow : Program → Mapped → Type 0
@@ -78,14 +78,14 @@ DirectiveFits p s (Sets name e) = IsRowOf (expansion p s) s.row
 DirectiveFits p s d = ContributionFits p s d (contribution d)
 
 -- the size of a statement's row, by its kind
-abbrev pub StatementFits : Program → Mapped → Statement → Type 0
+abbrev pub StatementFits : Program → Mapped → StatementKind → Type 0
 StatementFits p s (Label name) = IsRowOf (expansion p s) s.row
 StatementFits p s (Numbered number) = IsRowOf (expansion p s) s.row
 StatementFits p s (Instruction mnemonic operands) = IsTrue (has_constants p s) × IsRowOf (expansion p s) s.row
 StatementFits p s (Directs directive) = DirectiveFits p s directive
 
 abbrev pub SizeFits : Program → Mapped → Type 0
-SizeFits p s = StatementFits p s s.located.says
+SizeFits p s = StatementFits p s s.located.kind
 
 -- a section of a file as the linker takes it: the multiple at which it begins, and its statements in the map
 pub record InputSection : Type 0 where
@@ -114,12 +114,12 @@ input_sections_of_file goes t mapped file place (section ∷ sections) =
     if goes section then input_section t section mapped file place ∷ rest else rest
 
 -- the sections that go to a region, in file order and then in the order of the file
-abbrev pub input_sections_of : (Section → Bool) → List Mapped → ℕ → List (List Spoken) → List InputSection
+abbrev pub input_sections_of : (Section → Bool) → List Mapped → ℕ → List (List Statement) → List InputSection
 input_sections_of goes mapped file [] = []
 input_sections_of goes mapped file (ss ∷ files) =
     input_sections_of_file goes (tables ss) mapped file 0 (tables ss).opened.sections ++ input_sections_of goes mapped (suc file) files
 
-abbrev pub input_sections : (Section → Bool) → List (List Spoken) → Map → List InputSection
+abbrev pub input_sections : (Section → Bool) → List (List Statement) → Map → List InputSection
 input_sections goes sources m = input_sections_of goes (program sources m).mapped 1 sources
 
 -- each row starts where the one before ends
@@ -157,11 +157,11 @@ greatest [] = 1
 greatest (b ∷ bs) = max b.alignment (greatest bs)
 
 -- each statement that has a place has one row, by file and ordinal, and there are no others
-abbrev pub HasRows : List (List Spoken) → Map → Type 0
+abbrev pub HasRows : List (List Statement) → Map → Type 0
 HasRows sources m = map identity_of_row m.rows ≡ map identity_of (filter has_row (located sources))
 
 -- the map fits the sources, from a text start on
-pub record Fits (sources : List (List Spoken)) (m : Map) (text_start : ℕ) : Type 0 where
+pub record Fits (sources : List (List Statement)) (m : Map) (text_start : ℕ) : Type 0 where
   -- no label and no directive is faulty, and each statement stands in a section that can hold it
   pub good : AllByRecursion (λ ss. first_fault ss ≡ None) sources
   pub rows : HasRows sources m

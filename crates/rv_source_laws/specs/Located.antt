@@ -2,7 +2,7 @@
 -- "Pseudo Ops").
 
 use Rattle.std.specs.Prelude.{ℕ, suc, Bool, true, false, ◌&&◌, List, [], ◌∷◌, ◌++◌}
-use Rattle.rv_statement.specs.Statement.{Statement, Label, Numbered, Instruction, Directs, Spoken, Directive, Sets}
+use Rattle.rv_statement.specs.Statement.{StatementKind, Label, Numbered, Instruction, Directs, Statement, Directive, Sets}
 use Rattle.rv_unit_laws.specs.Contributions.{Contribution, Nothing, contribution}
 use Rattle.rv_unit_laws.specs.Sections.{Section, section_at}
 use Rattle.rv_unit_laws.specs.Tables.{Tables, at_start, after, here, stood, value, assigned, gives_location}
@@ -17,7 +17,7 @@ is_placed_directive t ordinal (Sets name e) = gives_location (assigned name ordi
 is_placed_directive t ordinal d = contributes (contribution d)
 
 -- whether a statement has a row where its section is loaded: `t` are the tables before it
-abbrev pub is_placed : Tables → ℕ → Statement → Bool
+abbrev pub is_placed : Tables → ℕ → StatementKind → Bool
 is_placed t ordinal (Label name) = true
 is_placed t ordinal (Numbered number) = true
 is_placed t ordinal (Instruction mnemonic operands) = true
@@ -32,35 +32,35 @@ pub record Located : Type 0 where
   pub offset : ℕ
   pub home : Section
   pub line : ℕ
-  pub says : Statement
+  pub kind : StatementKind
   pub placed : Bool
 
 -- the next statement of a file
-abbrev pub located_now : ℕ → ℕ → Tables → Spoken → Located
+abbrev pub located_now : ℕ → ℕ → Tables → Statement → Located
 located_now file ordinal t s =
-    let place = stood t ordinal s.says in
+    let place = stood t ordinal s.kind in
     record {
       file = file;
       ordinal = ordinal;
       section = place.section;
       offset = place.offset;
-      home = section_at (after t ordinal s.says).opened place.section;
+      home = section_at (after t ordinal s.kind).opened place.section;
       line = s.line;
-      says = s.says;
-      placed = is_placed t ordinal s.says;
+      kind = s.kind;
+      placed = is_placed t ordinal s.kind;
     }
 
 -- the statements of a file from an ordinal on
-abbrev pub located_from : ℕ → ℕ → Tables → List Spoken → List Located
+abbrev pub located_from : ℕ → ℕ → Tables → List Statement → List Located
 located_from file ordinal t [] = []
-located_from file ordinal t (s ∷ ss) = located_now file ordinal t s ∷ located_from file (suc ordinal) (after t ordinal s.says) ss
+located_from file ordinal t (s ∷ ss) = located_now file ordinal t s ∷ located_from file (suc ordinal) (after t ordinal s.kind) ss
 
 -- the statements by file and ordinal; files are numbered from a first one on
-abbrev pub located_of : ℕ → List (List Spoken) → List Located
+abbrev pub located_of : ℕ → List (List Statement) → List Located
 located_of file [] = []
 located_of file (ss ∷ files) = located_from file 1 at_start ss ++ located_of (suc file) files
 
-abbrev pub located : List (List Spoken) → List Located
+abbrev pub located : List (List Statement) → List Located
 located sources = located_of 1 sources
 
 -- whether the map has a row for the statement

@@ -9,7 +9,7 @@ use Rattle.rv_isa_laws.specs.Effect.{Effect, Goes, Breaks}
 use Rattle.rv_isa_laws.specs.Meaning.{effect, sets}
 use Rattle.rv_statement.specs.declared.mnemonic.Mnemonic.{Mnemonic}
 use Rattle.rv_statement.specs.declared.mnemonic.Mnemonic.TheVariants.{Li}
-use Rattle.rv_statement.specs.Statement.{Statement, Label, Numbered, Instruction, Directs, Operand, Expression, Directive, Sets, Aligns_to_power, Aligns_to_bytes}
+use Rattle.rv_statement.specs.Statement.{StatementKind, Label, Numbered, Instruction, Directs, Operand, Expression, Directive, Sets, Aligns_to_power, Aligns_to_bytes}
 use Rattle.rv_source_laws.specs.Written.{signed, Argument, Of_register, Of_number, arguments, written}
 use Rattle.rv_source_laws.specs.Program.{Mapped, Program, number, has_values}
 
@@ -39,7 +39,7 @@ run_directive (Aligns_to_bytes alignment) bytes h = Goes (advanced h bytes)
 run_directive _ bytes h = Breaks
 
 -- a statement that isn't executed has no bytes in the text, and so is never run
-abbrev pub run_said : (Expression → ℕ) → Statement → ℕ → Hart → Effect
+abbrev pub run_said : (Expression → ℕ) → StatementKind → ℕ → Hart → Effect
 run_said v (Label name) bytes h = Breaks
 run_said v (Numbered number) bytes h = Breaks
 run_said v (Instruction mnemonic operands) bytes h = run_spoken v mnemonic operands bytes h
@@ -47,7 +47,7 @@ run_said v (Directs directive) bytes h = run_directive directive bytes h
 
 -- what the statement at a site does in one step; one with a name that has no meaning fits no row
 abbrev pub meaning : Program → Mapped → Hart → Effect
-meaning p s h = if has_values p s then run_said (number p s) s.located.says s.row.bytes h else Breaks
+meaning p s h = if has_values p s then run_said (number p s) s.located.kind s.row.bytes h else Breaks
 
 -- whether a number fits 12 signed bits
 abbrev pub fits_12 : ℕ → Option ℕ
@@ -85,14 +85,14 @@ expanded_directive (Aligns_to_bytes alignment) bytes = Some (replicate (padding_
 expanded_directive _ bytes = None
 
 -- the base instructions that stand for a statement whose row has so many bytes
-abbrev pub expanded_said : (Expression → ℕ) → Statement → ℕ → Option (List Inst)
+abbrev pub expanded_said : (Expression → ℕ) → StatementKind → ℕ → Option (List Inst)
 expanded_said v (Label name) bytes = Some []
 expanded_said v (Numbered number) bytes = Some []
 expanded_said v (Instruction mnemonic operands) bytes = expanded v mnemonic operands
 expanded_said v (Directs directive) bytes = expanded_directive directive bytes
 
 abbrev pub expansion : Program → Mapped → Option (List Inst)
-expansion p s = if has_values p s then expanded_said (number p s) s.located.says s.row.bytes else None
+expansion p s = if has_values p s then expanded_said (number p s) s.located.kind s.row.bytes else None
 
 -- a line of a statement: an instruction of 2 or 4 bytes at its address
 pub record Line : Type 0 where

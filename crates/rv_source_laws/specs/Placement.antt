@@ -2,7 +2,7 @@
 
 use Rattle.std.specs.Prelude.{◌≡◌, ℕ, suc, ◌+◌, ◌==◌, Bool, true, false, ◌&&◌, if◌then◌else◌, List, [], ◌∷◌, None}
 use Rattle.std.specs.List.{AllByRecursion}
-use Rattle.rv_statement.specs.Statement.{Spoken}
+use Rattle.rv_statement.specs.Statement.{Statement}
 use Rattle.rv_map.specs.Map.{Map}
 use Rattle.rv_map.specs.declared.map.Row.{Row}
 use Rattle.rv_map.specs.declared.map.Region.{Region}
@@ -28,15 +28,15 @@ TakesRow true located place (row ∷ rows) Others = (identity_of_row row ≡ ide
 TakesRow false located place rows Others = Others rows 0
 
 -- the rows of a file's statements from an ordinal on, each at the next place of its section; and what is said of the rest
-abbrev pub RowsFrom : ℕ → ℕ → Tables → Placement → List Spoken → List Row → (List Row → Placement → Type 0) → Type 0
+abbrev pub RowsFrom : ℕ → ℕ → Tables → Placement → List Statement → List Row → (List Row → Placement → Type 0) → Type 0
 RowsFrom file ordinal t next [] rows Others = Others rows next
 RowsFrom file ordinal t next (s ∷ ss) rows Others =
     let located = located_now file ordinal t s in
     TakesRow (has_row located) located (next file located.section) rows
-    (λ rest bytes. RowsFrom file (suc ordinal) (after t ordinal s.says) (moved next file located.section bytes) ss rest Others)
+    (λ rest bytes. RowsFrom file (suc ordinal) (after t ordinal s.kind) (moved next file located.section bytes) ss rest Others)
 
 -- the rows of files, and the addresses after the last of them
-abbrev pub RowsOf : ℕ → Placement → List (List Spoken) → List Row → Placement → Type 0
+abbrev pub RowsOf : ℕ → Placement → List (List Statement) → List Row → Placement → Type 0
 RowsOf file next [] rows last = (rows ≡ []) × ((f j : ℕ) → last f j ≡ next f j)
 RowsOf file next (ss ∷ files) rows last = RowsFrom file 1 at_start next ss rows (λ rest now. RowsOf (suc file) now files rest last)
 
@@ -53,17 +53,17 @@ Spread goes t starts last file stop index (section ∷ sections) Others =
     (λ stop. Spread goes t starts last file stop (suc index) sections Others)
 
 -- those of all files, up to the region's end
-abbrev pub SpreadOf : (Section → Bool) → Placement → Placement → ℕ → ℕ → List (List Spoken) → ℕ → Type 0
+abbrev pub SpreadOf : (Section → Bool) → Placement → Placement → ℕ → ℕ → List (List Statement) → ℕ → Type 0
 SpreadOf goes starts last file stop [] end = stop ≡ end
 SpreadOf goes starts last file stop (ss ∷ files) end =
     Spread goes (tables ss) starts last file stop 0 (tables ss).opened.sections (λ stop. SpreadOf goes starts last (suc file) stop files end)
 
 -- a region from a place on
-abbrev pub Fills : (Section → Bool) → Placement → Placement → List (List Spoken) → Region → ℕ → Type 0
+abbrev pub Fills : (Section → Bool) → Placement → Placement → List (List Statement) → Region → ℕ → Type 0
 Fills goes starts last sources region place = (region.start ≡ place) × SpreadOf goes starts last 1 place sources region.end
 
 -- the map of sources, laid out by the places where their sections start
-pub record IsLaidFrom (text_start : ℕ) (sources : List (List Spoken)) (m : Map) : Type 0 where
+pub record IsLaidFrom (text_start : ℕ) (sources : List (List Statement)) (m : Map) : Type 0 where
   pub good : AllByRecursion (λ ss. first_fault ss ≡ None) sources
   pub starts : Placement
   pub last : Placement

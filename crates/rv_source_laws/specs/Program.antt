@@ -5,7 +5,7 @@ use Rattle.std.specs.Prelude.{ℕ, ◌-◌, ◌^◌, Bool, true, false, not, ◌
 use Rattle.std.specs.List.{find, list_all}
 use Rattle.rv_text_laws.specs.Expression.{Primary, Symbol}
 use Rattle.rv_text_laws.specs.Values.{Value, Constant, Symbolic, Difference, Faulty, add, subtract}
-use Rattle.rv_statement.specs.Statement.{Statement, Label, Numbered, Instruction, Directs, Spoken, Expression, Operand, Value as Of_value}
+use Rattle.rv_statement.specs.Statement.{StatementKind, Label, Numbered, Instruction, Directs, Statement, Expression, Operand, Value as Of_value}
 use Rattle.rv_unit_laws.specs.Contributions.{Numbers, Contribution, Bytes, Zero_bytes, Alignment, contribution}
 use Rattle.rv_unit_laws.specs.Tables.{Tables, SectionOffset, Definition, tables, at_start, definition, value as value_in_file}
 use Rattle.rv_map.specs.Map.{Map, Global}
@@ -51,7 +51,7 @@ pub record Program : Type 0 where
 abbrev pub program_at : List Tables → List MaybeMapped → Map → Program
 program_at ts statements m = record { tables = ts; statements = statements; mapped = mapped_of statements; map = m }
 
-abbrev pub program : List (List Spoken) → Map → Program
+abbrev pub program : List (List Statement) → Map → Program
 program sources m = program_at (map tables sources) (statements_of (located sources) m.rows) m
 
 -- ---- addresses
@@ -132,7 +132,7 @@ in_contribution (Zero_bytes count) = count ∷ []
 in_contribution (Alignment form number) = number ∷ []
 in_contribution _ = []
 
-abbrev pub expressions : Statement → List Expression
+abbrev pub expressions : StatementKind → List Expression
 expressions (Label name) = []
 expressions (Numbered number) = []
 expressions (Instruction mnemonic operands) = flat_map in_operand operands
@@ -140,4 +140,4 @@ expressions (Directs directive) = in_contribution (contribution directive)
 
 -- all of them have values
 abbrev pub has_values : Program → Mapped → Bool
-has_values p s = list_all (λ e. is_some (value p s e)) (expressions s.located.says)
+has_values p s = list_all (λ e. is_some (value p s e)) (expressions s.located.kind)

@@ -3,7 +3,7 @@
 use Rattle.std.specs.Prelude.{◌≡◌, ℕ, ◌+◌, ◌-◌, ◌%◌, Bool, false, not, ◌&&◌, ◌||◌, ◌==◌, ⊤, List, [], ◌∷◌, ◌++◌, filter, flat_map, Option, Some, None, is_some, option_and_then, slice_index_or, codes, bytes_eq, if◌then◌else◌}
 use Rattle.std.specs.List.{find, list_any}
 use Rattle.rv_text_laws.specs.Values.{Known, InSection, Open, Refused}
-use Rattle.rv_statement.specs.Statement.{Statement, Label, Directs, Spoken, Globl, Local, Sets}
+use Rattle.rv_statement.specs.Statement.{StatementKind, Label, Directs, Statement, Globl, Local, Sets}
 use Rattle.rv_unit_laws.specs.Sections.{goes_to_text}
 use Rattle.rv_unit_laws.specs.Tables.{Tables, Assignment, assigned_before, assigned_ever}
 use Rattle.rv_map.specs.Map.{Map, Global}
@@ -19,18 +19,18 @@ AreDistinct [] = ⊤
 AreDistinct (name ∷ names) = (is_one_of names name ≡ false) × AreDistinct names
 
 -- whether a name is global after a statement, where it was or wasn't before
-abbrev pub made_global : Statement → List ℕ → Bool → Bool
+abbrev pub made_global : StatementKind → List ℕ → Bool → Bool
 made_global (Directs (Globl names)) name before = is_one_of names name || before
 made_global (Directs (Local names)) name before = not (is_one_of names name) && before
 made_global _ name before = before
 
 -- the last of a file's statements that make a name global or local holds
-abbrev pub is_global_after : Bool → List Spoken → List ℕ → Bool
+abbrev pub is_global_after : Bool → List Statement → List ℕ → Bool
 is_global_after before [] name = before
-is_global_after before (s ∷ ss) name = is_global_after (made_global s.says name before) ss name
+is_global_after before (s ∷ ss) name = is_global_after (made_global s.kind name before) ss name
 
 -- whether a file, numbered from 1, makes a name global
-abbrev pub is_global_in : List (List Spoken) → ℕ → List ℕ → Bool
+abbrev pub is_global_in : List (List Statement) → ℕ → List ℕ → Bool
 is_global_in sources file name = is_global_after false (slice_index_or sources (file - 1) []) name
 
 abbrev pub symbol : List ℕ → ℕ → Global
@@ -49,7 +49,7 @@ sets_first assignments ordinal name =
     list_any (λ s. (s.ordinal == ordinal) && bytes_eq s.name name) assignments && not (is_some (assigned_before assignments ordinal name))
 
 -- the name that a statement defines: a label's, or one that `.set` gives for the first time
-abbrev pub defined_name : Tables → ℕ → Statement → List (List ℕ)
+abbrev pub defined_name : Tables → ℕ → StatementKind → List (List ℕ)
 defined_name t ordinal (Label name) = name ∷ []
 defined_name t ordinal (Directs (Sets name e)) = if sets_first t.assignments ordinal name then name ∷ [] else []
 defined_name t ordinal _ = []
@@ -65,28 +65,28 @@ set_address statements file (Some s) = elim s.meaning [
 ]
 
 -- the address or the number of what a statement defines: a label's row's address, or what `.set` gives the name last
-abbrev pub defined_address : Tables → List MaybeMapped → MaybeMapped → Statement → Option ℕ
+abbrev pub defined_address : Tables → List MaybeMapped → MaybeMapped → StatementKind → Option ℕ
 defined_address t statements e (Directs (Sets name expression)) = set_address statements e.located.file (assigned_ever t.assignments name)
 defined_address t statements e _ = address_of e
 
 -- the name that a statement of a file defines for all files
-abbrev pub global_names_of : List (List Spoken) → Tables → Located → List (List ℕ)
-global_names_of sources t s = filter (λ name. is_global_in sources s.file name) (defined_name t s.ordinal s.says)
+abbrev pub global_names_of : List (List Statement) → Tables → Located → List (List ℕ)
+global_names_of sources t s = filter (λ name. is_global_in sources s.file name) (defined_name t s.ordinal s.kind)
 
 -- that name with its address; one in a section that isn't loaded has none
-abbrev pub defined_by : List (List Spoken) → Program → MaybeMapped → List Global
+abbrev pub defined_by : List (List Statement) → Program → MaybeMapped → List Global
 defined_by sources p e =
     let t = tables_in p e.located.file in
-    flat_map (λ name. shown name (defined_address t p.statements e e.located.says)) (global_names_of sources t e.located)
+    flat_map (λ name. shown name (defined_address t p.statements e e.located.kind)) (global_names_of sources t e.located)
 
 -- the names that are defined for all files, by file and then in the order of definition
-abbrev pub global_names : List (List Spoken) → Map → List (List ℕ)
+abbrev pub global_names : List (List Statement) → Map → List (List ℕ)
 global_names sources m =
     let p = program sources m in
     flat_map (λ e. global_names_of sources (tables_in p e.located.file) e.located) p.statements
 
 -- the global definitions of a list of sources, by file and then in the order of definition
-abbrev pub definitions : List (List Spoken) → Map → List Global
+abbrev pub definitions : List (List Statement) → Map → List Global
 definitions sources m =
     let p = program sources m in
     flat_map (defined_by sources p) p.statements
@@ -102,24 +102,24 @@ linker_symbols m =
     ∷ []
 
 -- those whose name no global definition has
-abbrev pub shown_symbols : List (List Spoken) → Map → List Global
+abbrev pub shown_symbols : List (List Statement) → Map → List Global
 shown_symbols sources m = filter (λ g. not (is_one_of (global_names sources m) g.name)) (linker_symbols m)
 
 -- ---- the entry
 
 -- a label `_start` of a section of text that its file makes global
-abbrev pub is_start : Statement → Bool
+abbrev pub is_start : StatementKind → Bool
 is_start (Label name) = bytes_eq name (codes "_start")
 is_start _ = false
 
-abbrev pub begins_run : List (List Spoken) → Located → Bool
-begins_run sources s = is_start s.says && goes_to_text s.home && is_global_in sources s.file (codes "_start")
+abbrev pub begins_run : List (List Statement) → Located → Bool
+begins_run sources s = is_start s.kind && goes_to_text s.home && is_global_in sources s.file (codes "_start")
 
 abbrev pub starts_at : Option MaybeMapped → Option ℕ
 starts_at found = option_and_then address_of found
 
 -- the map resolves the names of the sources
-pub record Resolves (sources : List (List Spoken)) (m : Map) : Type 0 where
+pub record Resolves (sources : List (List Statement)) (m : Map) : Type 0 where
   -- a linker symbol is shown where no global definition has its name
   pub globals : m.globals ≡ definitions sources m ++ shown_symbols sources m
   -- no name has two global definitions

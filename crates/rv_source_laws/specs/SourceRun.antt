@@ -5,7 +5,7 @@ use Rattle.std.specs.List.{find, list_any}
 use Rattle.rv_isa_laws.specs.Memory.{Mem}
 use Rattle.rv_isa_laws.specs.Hart.{Hart, Outcome, Illegal, FetchOutside, Astray, Limit, start, stop}
 use Rattle.rv_isa_laws.specs.Effect.{Next, Over, apply, follow}
-use Rattle.rv_statement.specs.Statement.{Spoken}
+use Rattle.rv_statement.specs.Statement.{Statement}
 use Rattle.rv_map.specs.Map.{Map}
 use Rattle.rv_source_laws.specs.Program.{Mapped, Program, program}
 use Rattle.rv_source_laws.specs.Meaning.{meaning, cost}
@@ -56,7 +56,7 @@ steps (suc most) p left h m =
     else stop h Limit
 
 -- the run of the sources at a map, on an input, within n instructions; each step counts one or more
-abbrev pub source_run : List (List Spoken) → Map → List ℕ → ℕ → Outcome
+abbrev pub source_run : List (List Statement) → Map → List ℕ → ℕ → Outcome
 source_run sources map input n =
     let p = program sources map in
     steps n p n (start map.entry input) (first_memory p)

@@ -4,7 +4,7 @@
 use Rattle.std.specs.Prelude.{ℕ, zero, suc, ◌+◌, ◌-◌, ◌/◌, ◌%◌, Bool, ◌&&◌, ◌||◌, nat_le, nat_lt, List, [], ◌∷◌, flat_map, replicate, Option, Some, None, slice_index}
 use Rattle.std.specs.List.{find}
 use Rattle.rv_isa_laws.specs.Memory.{Mem, Right, Read, Write, Execute}
-use Rattle.rv_statement.specs.Statement.{Statement, Label, Numbered, Instruction, Directs, Expression}
+use Rattle.rv_statement.specs.Statement.{StatementKind, Label, Numbered, Instruction, Directs, Expression}
 use Rattle.rv_unit_laws.specs.Contributions.{Contents, Numbers, Texts, Contribution, Nothing, Bytes, Zero_bytes, Alignment, contribution}
 use Rattle.rv_unit_laws.specs.Tables.{string_bytes}
 use Rattle.rv_map.specs.Map.{Map}
@@ -36,14 +36,14 @@ spelled_contribution v (Zero_bytes count) bytes = replicate (v count) 0
 spelled_contribution v (Alignment form number) bytes = replicate bytes 0
 
 -- the bytes that a statement spells in data; the text holds none
-abbrev pub spelled_said : (Expression → ℕ) → Statement → ℕ → List ℕ
+abbrev pub spelled_said : (Expression → ℕ) → StatementKind → ℕ → List ℕ
 spelled_said v (Label name) bytes = []
 spelled_said v (Numbered number) bytes = []
 spelled_said v (Instruction mnemonic operands) bytes = []
 spelled_said v (Directs directive) bytes = spelled_contribution v (contribution directive) bytes
 
 abbrev pub spelled : Program → Mapped → List ℕ
-spelled p s = spelled_said (number p s) s.located.says s.row.bytes
+spelled p s = spelled_said (number p s) s.located.kind s.row.bytes
 
 abbrev pub byte_of : Program → Option Mapped → ℕ → ℕ
 byte_of p None a = 0

@@ -4,6 +4,7 @@
 use Rattle.std.specs.Prelude.{ℕ, List, Bool, Option}
 use Rattle.rv_text_laws.specs.Expression.{Tree}
 use Rattle.rv_statement.specs.declared.mnemonic.Mnemonic.{Mnemonic}
+use Rattle.rv_statement.specs.declared.pseudo.Function.{Function}
 use Rattle.rv_isa.specs.declared.operation.AccessSet.{AccessSet}
 use Rattle.rv_statement.specs.declared.directive.Standard.{Standard}
 use Rattle.rv_statement.specs.declared.directive.Choice.{Choice}
@@ -17,6 +18,10 @@ pub data Operand : Type 0 where
   -- a register, by its number
   Register : (number : ℕ) → Operand
   Value : (expression : Expression) → Operand
+  -- a function of a value: `%lo(x)`
+  Applied : (function : Function) (expression : Expression) → Operand
+  -- where a branch, a jump or a call goes, or the address that a load or a store of a symbol takes
+  Target : (expression : Expression) → Operand
   -- the accesses that a fence orders
   Accesses : (set : AccessSet) → Operand
   -- a symbol's name, or another word
@@ -50,14 +55,14 @@ pub data Directive : Type 0 where
   -- a directive without effect
   Ignored : Directive
 
-pub data Statement : Type 0 where
-  Label : (name : List ℕ) → Statement
+pub data StatementKind : Type 0 where
+  Label : (name : List ℕ) → StatementKind
   -- a numeric label, by its number
-  Numbered : (number : ℕ) → Statement
-  Instruction : (mnemonic : Mnemonic) (operands : List Operand) → Statement
-  Directs : (directive : Directive) → Statement
+  Numbered : (number : ℕ) → StatementKind
+  Instruction : (mnemonic : Mnemonic) (operands : List Operand) → StatementKind
+  Directs : (directive : Directive) → StatementKind
 
 -- a statement with the line of its first byte, from 1; its ordinal is its place in the list, from 1
-pub record Spoken : Type 0 where
+pub record Statement : Type 0 where
   pub line : ℕ
-  pub says : Statement
+  pub kind : StatementKind

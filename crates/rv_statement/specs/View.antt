@@ -9,6 +9,7 @@ use Rattle.rv_lexer.specs.Token.{string_bytes}
 use Rattle.rv_statement.specs.declared.directive.Width.{Width}
 use Rattle.rv_statement.specs.declared.directive.Width.TheVariants as widths
 use Rattle.rv_statement.specs.declared.mnemonic.Mnemonic.TheVariants as mnemonics
+use Rattle.rv_statement.specs.declared.pseudo.Function.{Function}
 use Rattle.rv_statement.specs.declared.statement.Operation.{Operation}
 use Rattle.rv_statement.specs.declared.statement.Operation.TheVariants as operations
 use Rattle.rv_statement.specs.declared.statement.Plain.{Plain}
@@ -18,7 +19,7 @@ use Rattle.rv_statement.specs.declared.statement.Setting.{Setting}
 use Rattle.rv_statement.specs.declared.statement.StatementKind.{StatementKind}
 use Rattle.rv_statement.specs.declared.statement.StatementKind.TheVariants as kinds
 use Rattle.rv_statement.specs.declared.statement.Statement.{Statement}
-use Rattle.rv_statement.specs.Statement as said
+use Rattle.rv_statement.specs.Statement as specs
 
 -- what a reference points to
 abbrev pub now_of : Bor (List ℕ) → List ℕ
@@ -35,59 +36,103 @@ bytes_of widths.Word = 4
 bytes_of widths.Double = 8
 
 -- an instruction without an expression
-abbrev pub plain_of : Plain → said.Statement
-plain_of (plains.Registers operation rd rs1 rs2) = said.Instruction (mnemonics.Registers operation) (said.Register rd ∷ said.Register rs1 ∷ said.Register rs2 ∷ [])
-plain_of (plains.Load operation rd rs1) = said.Instruction (mnemonics.Load operation) (said.Register rd ∷ said.Register rs1 ∷ [])
-plain_of (plains.Store operation rs2 rs1) = said.Instruction (mnemonics.Store operation) (said.Register rs2 ∷ said.Register rs1 ∷ [])
-plain_of (plains.Jalr rd rs1) = said.Instruction mnemonics.Jalr (said.Register rd ∷ said.Register rs1 ∷ [])
-plain_of (plains.JalrLinked rs1) = said.Instruction mnemonics.Jalr (said.Register rs1 ∷ [])
-plain_of (plains.LoadReserved form rd rs1) = said.Instruction (mnemonics.LoadReserved form) (said.Register rd ∷ said.Register rs1 ∷ [])
-plain_of (plains.Atomic operation form rd rs2 rs1) = said.Instruction (mnemonics.Atomic operation form) (said.Register rd ∷ said.Register rs2 ∷ said.Register rs1 ∷ [])
-plain_of plains.Fence = said.Instruction mnemonics.Fence []
-plain_of (plains.FenceBetween before after) = said.Instruction mnemonics.Fence (said.Accesses before ∷ said.Accesses after ∷ [])
-plain_of plains.FenceTso = said.Instruction mnemonics.FenceTso []
-plain_of plains.Ecall = said.Instruction mnemonics.Ecall []
-plain_of plains.Ebreak = said.Instruction mnemonics.Ebreak []
+abbrev pub plain_of : Plain → specs.StatementKind
+plain_of (plains.Registers operation rd rs1 rs2) = specs.Instruction (mnemonics.Registers operation) (specs.Register rd ∷ specs.Register rs1 ∷ specs.Register rs2 ∷ [])
+plain_of (plains.Load operation rd rs1) = specs.Instruction (mnemonics.Load operation) (specs.Register rd ∷ specs.Register rs1 ∷ [])
+plain_of (plains.Store operation rs2 rs1) = specs.Instruction (mnemonics.Store operation) (specs.Register rs2 ∷ specs.Register rs1 ∷ [])
+plain_of (plains.Jalr rd rs1) = specs.Instruction mnemonics.Jalr (specs.Register rd ∷ specs.Register rs1 ∷ [])
+plain_of (plains.JalrLinked rs1) = specs.Instruction mnemonics.Jalr (specs.Register rs1 ∷ [])
+plain_of (plains.LoadReserved form rd rs1) = specs.Instruction (mnemonics.LoadReserved form) (specs.Register rd ∷ specs.Register rs1 ∷ [])
+plain_of (plains.Atomic operation form rd rs2 rs1) = specs.Instruction (mnemonics.Atomic operation form) (specs.Register rd ∷ specs.Register rs2 ∷ specs.Register rs1 ∷ [])
+plain_of plains.Fence = specs.Instruction mnemonics.Fence []
+plain_of (plains.FenceBetween before after) = specs.Instruction mnemonics.Fence (specs.Accesses before ∷ specs.Accesses after ∷ [])
+plain_of plains.FenceTso = specs.Instruction mnemonics.FenceTso []
+plain_of plains.Ecall = specs.Instruction mnemonics.Ecall []
+plain_of plains.Ebreak = specs.Instruction mnemonics.Ebreak []
+plain_of plains.Nop = specs.Instruction mnemonics.Nop []
+plain_of (plains.Unary operation rd rs) = specs.Instruction (mnemonics.Unary operation) (specs.Register rd ∷ specs.Register rs ∷ [])
+plain_of (plains.Compare operation rd rs1 rs2) = specs.Instruction (mnemonics.Compare operation) (specs.Register rd ∷ specs.Register rs1 ∷ specs.Register rs2 ∷ [])
+plain_of (plains.Jr rs) = specs.Instruction mnemonics.Jr (specs.Register rs ∷ [])
+plain_of plains.Ret = specs.Instruction mnemonics.Ret []
 
--- an operation with the expression where it stands
-abbrev pub with_expression : Operation → Tree → said.Statement
-with_expression (operations.Registers operation rd rs1) e = said.Instruction (mnemonics.Registers operation) (said.Register rd ∷ said.Register rs1 ∷ said.Value e ∷ [])
-with_expression (operations.Immediate operation rd rs1) e = said.Instruction (mnemonics.Immediate operation) (said.Register rd ∷ said.Register rs1 ∷ said.Value e ∷ [])
-with_expression (operations.Shift operation rd rs1) e = said.Instruction (mnemonics.Shift operation) (said.Register rd ∷ said.Register rs1 ∷ said.Value e ∷ [])
-with_expression (operations.Upper operation rd) e = said.Instruction (mnemonics.Upper operation) (said.Register rd ∷ said.Value e ∷ [])
-with_expression (operations.Load operation rd rs1) e = said.Instruction (mnemonics.Load operation) (said.Register rd ∷ said.Value e ∷ said.Register rs1 ∷ [])
-with_expression (operations.Store operation rs2 rs1) e = said.Instruction (mnemonics.Store operation) (said.Register rs2 ∷ said.Value e ∷ said.Register rs1 ∷ [])
-with_expression (operations.Jalr rd rs1) e = said.Instruction mnemonics.Jalr (said.Register rd ∷ said.Value e ∷ said.Register rs1 ∷ [])
-with_expression (operations.JalrThen rd rs1) e = said.Instruction mnemonics.Jalr (said.Register rd ∷ said.Register rs1 ∷ said.Value e ∷ [])
-with_expression (operations.JalrLinked rs1) e = said.Instruction mnemonics.Jalr (said.Value e ∷ said.Register rs1 ∷ [])
-with_expression (operations.Li rd) e = said.Instruction mnemonics.Li (said.Register rd ∷ said.Value e ∷ [])
+-- an operation with an operand that is no register, where it stands
+abbrev pub with_operand : Operation → specs.Operand → specs.StatementKind
+with_operand (operations.Registers operation rd rs1) o = specs.Instruction (mnemonics.Registers operation) (specs.Register rd ∷ specs.Register rs1 ∷ o ∷ [])
+with_operand (operations.Immediate operation rd rs1) o = specs.Instruction (mnemonics.Immediate operation) (specs.Register rd ∷ specs.Register rs1 ∷ o ∷ [])
+with_operand (operations.Shift operation rd rs1) o = specs.Instruction (mnemonics.Shift operation) (specs.Register rd ∷ specs.Register rs1 ∷ o ∷ [])
+with_operand (operations.Upper operation rd) o = specs.Instruction (mnemonics.Upper operation) (specs.Register rd ∷ o ∷ [])
+with_operand (operations.Load operation rd rs1) o = specs.Instruction (mnemonics.Load operation) (specs.Register rd ∷ o ∷ specs.Register rs1 ∷ [])
+with_operand (operations.Store operation rs2 rs1) o = specs.Instruction (mnemonics.Store operation) (specs.Register rs2 ∷ o ∷ specs.Register rs1 ∷ [])
+with_operand (operations.Jalr rd rs1) o = specs.Instruction mnemonics.Jalr (specs.Register rd ∷ o ∷ specs.Register rs1 ∷ [])
+with_operand (operations.JalrThen rd rs1) o = specs.Instruction mnemonics.Jalr (specs.Register rd ∷ specs.Register rs1 ∷ o ∷ [])
+with_operand (operations.JalrLinked rs1) o = specs.Instruction mnemonics.Jalr (o ∷ specs.Register rs1 ∷ [])
+with_operand (operations.Branch operation rs1 rs2) o = specs.Instruction (mnemonics.Branch operation) (specs.Register rs1 ∷ specs.Register rs2 ∷ o ∷ [])
+with_operand (operations.Jal rd) o = specs.Instruction mnemonics.Jal (specs.Register rd ∷ o ∷ [])
+with_operand operations.JalLinked o = specs.Instruction mnemonics.Jal (o ∷ [])
+with_operand (operations.LoadSymbol operation rd) o = specs.Instruction (mnemonics.Load operation) (specs.Register rd ∷ o ∷ [])
+with_operand (operations.StoreSymbol operation rs2 rt) o = specs.Instruction (mnemonics.Store operation) (specs.Register rs2 ∷ o ∷ specs.Register rt ∷ [])
+with_operand (operations.ZeroBranch operation rs) o = specs.Instruction (mnemonics.ZeroBranch operation) (specs.Register rs ∷ o ∷ [])
+with_operand (operations.SwappedBranch operation rs1 rs2) o = specs.Instruction (mnemonics.SwappedBranch operation) (specs.Register rs1 ∷ specs.Register rs2 ∷ o ∷ [])
+with_operand operations.J o = specs.Instruction mnemonics.J (o ∷ [])
+with_operand (operations.Jr rs) o = specs.Instruction mnemonics.Jr (o ∷ specs.Register rs ∷ [])
+with_operand (operations.La rd) o = specs.Instruction mnemonics.La (specs.Register rd ∷ o ∷ [])
+with_operand (operations.Li rd) o = specs.Instruction mnemonics.Li (specs.Register rd ∷ o ∷ [])
+with_operand (operations.Call rd) o = specs.Instruction mnemonics.Call (specs.Register rd ∷ o ∷ [])
+with_operand operations.CallLinked o = specs.Instruction mnemonics.Call (o ∷ [])
+with_operand operations.Tail o = specs.Instruction mnemonics.Tail (o ∷ [])
+with_operand (operations.Jump rt) o = specs.Instruction mnemonics.Jump (o ∷ specs.Register rt ∷ [])
 
-abbrev pub opening_of : Opening → said.Directive
-opening_of o = said.Opens o.name.now (option_map quoted o.flags) (option_map now_of o.kind)
+-- an expression as an operand: a target, or a value
+abbrev pub operand_in : Operation → Tree → specs.Operand
+operand_in (operations.Branch operation rs1 rs2) e = specs.Target e
+operand_in (operations.Jal rd) e = specs.Target e
+operand_in operations.JalLinked e = specs.Target e
+operand_in (operations.LoadSymbol operation rd) e = specs.Target e
+operand_in (operations.StoreSymbol operation rs2 rt) e = specs.Target e
+operand_in (operations.ZeroBranch operation rs) e = specs.Target e
+operand_in (operations.SwappedBranch operation rs1 rs2) e = specs.Target e
+operand_in operations.J e = specs.Target e
+operand_in (operations.La rd) e = specs.Target e
+operand_in (operations.Call rd) e = specs.Target e
+operand_in operations.CallLinked e = specs.Target e
+operand_in operations.Tail e = specs.Target e
+operand_in (operations.Jump rt) e = specs.Target e
+operand_in _ e = specs.Value e
 
-abbrev pub setting_of : Setting → said.Directive
-setting_of s = said.Sets s.name.now (tree_of_expr s.expression)
+-- an operation with an expression, or with a function of one
+abbrev pub with_expression : Operation → Tree → specs.StatementKind
+with_expression operation e = with_operand operation (operand_in operation e)
 
-abbrev pub statement_of : StatementKind → said.Statement
-statement_of (kinds.Label name) = said.Label name.now
-statement_of (kinds.Numbered digits) = said.Numbered (value 10 digits.now)
-statement_of (kinds.Plain p) = plain_of p
-statement_of (kinds.With operation e) = with_expression operation (tree_of_expr e)
-statement_of (kinds.Enters section) = said.Directs (said.Enters section)
-statement_of (kinds.Opens opening) = said.Directs (opening_of (box_value opening))
-statement_of (kinds.Globl names) = said.Directs (said.Globl (map now_of names.items))
-statement_of (kinds.Local names) = said.Directs (said.Local (map now_of names.items))
-statement_of (kinds.Sets setting) = said.Directs (setting_of (box_value setting))
-statement_of (kinds.AlignsToPower exponent) = said.Directs (said.Aligns_to_power (tree_of_expr exponent))
-statement_of (kinds.AlignsToBytes bytes) = said.Directs (said.Aligns_to_bytes (tree_of_expr bytes))
-statement_of (kinds.Value width one) = said.Directs (said.Values (bytes_of width) (tree_of_expr one ∷ []))
-statement_of (kinds.Values width values) = said.Directs (said.Values (bytes_of width) (map tree_of_expr values.items))
-statement_of (kinds.Ascii strings) = said.Directs (said.Strings false (map quoted strings.items))
-statement_of (kinds.Asciz strings) = said.Directs (said.Strings true (map quoted strings.items))
-statement_of (kinds.Zeros count) = said.Directs (said.Zeros (tree_of_expr count))
-statement_of (kinds.Chooses choice) = said.Directs (said.Chooses choice)
-statement_of kinds.Ignored = said.Directs said.Ignored
+abbrev pub with_function : Operation → Function → Tree → specs.StatementKind
+with_function operation function e = with_operand operation (specs.Applied function e)
+
+abbrev pub opening_of : Opening → specs.Directive
+opening_of o = specs.Opens o.name.now (option_map quoted o.flags) (option_map now_of o.kind)
+
+abbrev pub setting_of : Setting → specs.Directive
+setting_of s = specs.Sets s.name.now (tree_of_expr s.expression)
+
+abbrev pub statement_kind : StatementKind → specs.StatementKind
+statement_kind (kinds.Label name) = specs.Label name.now
+statement_kind (kinds.Numbered digits) = specs.Numbered (value 10 digits.now)
+statement_kind (kinds.Plain p) = plain_of p
+statement_kind (kinds.With operation e) = with_expression operation (tree_of_expr e)
+statement_kind (kinds.WithFunction operation function e) = with_function operation function (tree_of_expr e)
+statement_kind (kinds.Enters section) = specs.Directs (specs.Enters section)
+statement_kind (kinds.Opens opening) = specs.Directs (opening_of (box_value opening))
+statement_kind (kinds.Globl names) = specs.Directs (specs.Globl (map now_of names.items))
+statement_kind (kinds.Local names) = specs.Directs (specs.Local (map now_of names.items))
+statement_kind (kinds.Sets setting) = specs.Directs (setting_of (box_value setting))
+statement_kind (kinds.AlignsToPower exponent) = specs.Directs (specs.Aligns_to_power (tree_of_expr exponent))
+statement_kind (kinds.AlignsToBytes bytes) = specs.Directs (specs.Aligns_to_bytes (tree_of_expr bytes))
+statement_kind (kinds.Value width one) = specs.Directs (specs.Values (bytes_of width) (tree_of_expr one ∷ []))
+statement_kind (kinds.Values width values) = specs.Directs (specs.Values (bytes_of width) (map tree_of_expr values.items))
+statement_kind (kinds.Ascii strings) = specs.Directs (specs.Strings false (map quoted strings.items))
+statement_kind (kinds.Asciz strings) = specs.Directs (specs.Strings true (map quoted strings.items))
+statement_kind (kinds.Zeros count) = specs.Directs (specs.Zeros (tree_of_expr count))
+statement_kind (kinds.Chooses choice) = specs.Directs (specs.Chooses choice)
+statement_kind kinds.Ignored = specs.Directs specs.Ignored
 
 -- a statement with its line
-abbrev pub said_by : Statement → said.Spoken
-said_by s = record { line = s.line; says = statement_of s.kind }
+abbrev pub statement_of : Statement → specs.Statement
+statement_of s = record { line = s.line; kind = statement_kind s.kind }

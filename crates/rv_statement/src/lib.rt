@@ -18,8 +18,12 @@
 
 mod directive;
 mod mnemonic;
+mod pseudo;
 mod statement;
 
 pub use directive::{Choice, DirectiveWord, Standard, Width};
 pub use mnemonic::Mnemonic;
+pub use pseudo::{
+    CompareOperation, Function, SwappedBranchOperation, UnaryOperation, ZeroBranchOperation,
+};
 pub use statement::{Opening, Operation, Plain, Setting, Statement, StatementKind};

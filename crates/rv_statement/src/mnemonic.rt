@@ -2,12 +2,15 @@
 //!
 //! Source: RISC-V Unprivileged ISA 20191213, chapter 24; RISC-V Assembly Programmer's Manual.
 
+use crate::pseudo::{
+    CompareOperation, SwappedBranchOperation, UnaryOperation, ZeroBranchOperation,
+};
 use rv_isa::{
-    AtomicForm, AtomicOperation, ImmediateOperation, LoadOperation, RegisterOperation,
-    ShiftOperation, StoreOperation, UpperOperation,
+    AtomicForm, AtomicOperation, BranchOperation, ImmediateOperation, LoadOperation,
+    RegisterOperation, ShiftOperation, StoreOperation, UpperOperation,
 };
 
-/// A mnemonic that is built.
+/// A mnemonic: of a base instruction, then of a pseudo-instruction.
 #[derive(Clone, Copy, Debug, PartialEq, Eq, Drop)]
 pub enum Mnemonic {
     Registers(RegisterOperation),
@@ -16,6 +19,9 @@ pub enum Mnemonic {
     Upper(UpperOperation),
     Load(LoadOperation),
     Store(StoreOperation),
+    Branch(BranchOperation),
+    /// `jal` with any of its operands.
+    Jal,
     /// `jalr` with any of its operands.
     Jalr,
     LoadReserved(AtomicForm),
@@ -24,6 +30,24 @@ pub enum Mnemonic {
     FenceTso,
     Ecall,
     Ebreak,
+    Nop,
+    Unary(UnaryOperation),
+    Compare(CompareOperation),
+    ZeroBranch(ZeroBranchOperation),
+    SwappedBranch(SwappedBranchOperation),
+    /// `j target`
+    J,
+    /// `jr rs` or `jr offset(rs)`
+    Jr,
+    Ret,
+    /// `la rd, symbol` or `lla rd, symbol`
+    La,
     /// `li rd, immediate`
     Li,
+    /// `call symbol` or `call rd, symbol`
+    Call,
+    /// `tail symbol`
+    Tail,
+    /// `jump symbol, rt`
+    Jump,
 }

@@ -1,9 +1,12 @@
 //! Statements as the code holds them: names, digits and strings are parts of the source.
 
 use crate::directive::{Choice, Standard, Width};
+use crate::pseudo::{
+    CompareOperation, Function, SwappedBranchOperation, UnaryOperation, ZeroBranchOperation,
+};
 use rv_isa::{
-    AccessSet, AtomicForm, AtomicOperation, ImmediateOperation, LoadOperation, Reg,
-    RegisterOperation, ShiftOperation, StoreOperation, UpperOperation,
+    AccessSet, AtomicForm, AtomicOperation, BranchOperation, ImmediateOperation, LoadOperation,
+    Reg, RegisterOperation, ShiftOperation, StoreOperation, UpperOperation,
 };
 use rv_text::Expr;
 
@@ -31,6 +34,14 @@ pub enum Plain {
     FenceTso,
     Ecall,
     Ebreak,
+    Nop,
+    /// `mv rd, rs`
+    Unary(UnaryOperation, Reg, Reg),
+    /// `sgt rd, rs1, rs2`
+    Compare(CompareOperation, Reg, Reg, Reg),
+    /// `jr rs` or `jr (rs)`
+    Jr(Reg),
+    Ret,
 }
 
 /// A mnemonic with its registers, and an expression among them.
@@ -54,8 +65,36 @@ pub enum Operation {
     JalrThen(Reg, Reg),
     /// `jalr ..(rs1)`
     JalrLinked(Reg),
+    /// `beq rs1, rs2, ..`
+    Branch(BranchOperation, Reg, Reg),
+    /// `jal rd, ..`
+    Jal(Reg),
+    /// `jal ..`
+    JalLinked,
+    /// `lw rd, ..`, where an address stands in place of an offset and a register.
+    LoadSymbol(LoadOperation, Reg),
+    /// `sw rs2, .., rt`, where an address stands in place of an offset and a register.
+    StoreSymbol(StoreOperation, Reg, Reg),
+    /// `beqz rs, ..`
+    ZeroBranch(ZeroBranchOperation, Reg),
+    /// `bgt rs1, rs2, ..`
+    SwappedBranch(SwappedBranchOperation, Reg, Reg),
+    /// `j ..`
+    J,
+    /// `jr ..(rs)`
+    Jr(Reg),
+    /// `la rd, ..`
+    La(Reg),
     /// `li rd, ..`
     Li(Reg),
+    /// `call rd, ..`
+    Call(Reg),
+    /// `call ..`
+    CallLinked,
+    /// `tail ..`
+    Tail,
+    /// `jump .., rt`
+    Jump(Reg),
 }
 
 /// What `.section` says.
@@ -86,6 +125,8 @@ pub enum StatementKind<'a> {
     Plain(Plain),
     /// An instruction with an expression among its operands.
     With(Operation, Expr<'a>),
+    /// An instruction with a function of an expression among its operands.
+    WithFunction(Operation, Function, Expr<'a>),
     /// `.text`, `.data`, `.rodata` and `.bss`
     Enters(Standard),
     /// `.section`

@@ -4,39 +4,39 @@ use Rattle.std.proofs.Common.{◌≡◌, ℕ, suc, ◌+◌, ◌<◌, ◌≤◌, 
 use Rattle.std.specs.List.{drop-map}
 use Rattle.std.proofs.Math.Seq.{drop-cons}
 use Rattle.std.proofs.lemmas.List.{take_more, take-append-drop, length-take-le}
-use Rattle.rv_statement.specs.Statement.{Spoken}
+use Rattle.rv_statement.specs.Statement.{Statement}
 use Rattle.rv_unit_laws.specs.Tables.{Tables, SectionOffset, at_start, after, after_all, tables, stood, places, places_from}
 use Rattle.rv_unit_laws.proofs.Before.{IsBefore, before_after, before_all, before_start}
 use Rattle.rv_unit_laws.proofs.Later.{Keeps, keeps_all}
 
 -- `done` statements are done, and with what the rest changes the tables and the offsets are those of all
-pub record FillsTo (t : Tables) (done : ℕ) (rest all : List Spoken) (so_far : List SectionOffset) : Type 0 where
+pub record FillsTo (t : Tables) (done : ℕ) (rest all : List Statement) (so_far : List SectionOffset) : Type 0 where
   pub before : IsBefore t (done + 1)
   pub fills : after_all t (done + 1) rest ≡ tables all
   pub stand : so_far ++ places_from t (done + 1) rest ≡ places all
 
-pub fills_start : (t : Tables) (all : List Spoken) → t ≡ at_start → FillsTo t 0 all all []
+pub fills_start : (t : Tables) (all : List Statement) → t ≡ at_start → FillsTo t 0 all all []
 fills_start t all is = subst (λ u. FillsTo u 0 all all []) (sym is) (record { before = before_start 1; fills = refl; stand = refl })
 
-pub fills_more : (t u : Tables) (done : ℕ) (s : Spoken) (rest more all : List Spoken) (so_far new : List SectionOffset) (p : SectionOffset) → FillsTo t done rest all so_far → rest ≡ s ∷ more → u ≡ after t (done + 1) s.says → p ≡ stood t (done + 1) s.says → new ≡ so_far ++ p ∷ []
+pub fills_more : (t u : Tables) (done : ℕ) (s : Statement) (rest more all : List Statement) (so_far new : List SectionOffset) (p : SectionOffset) → FillsTo t done rest all so_far → rest ≡ s ∷ more → u ≡ after t (done + 1) s.kind → p ≡ stood t (done + 1) s.kind → new ≡ so_far ++ p ∷ []
     → FillsTo u (done + 1) more all new
 fills_more t u done s rest more all so_far new p f is changed stands added = record {
-  before = subst (λ v. IsBefore v (done + 1 + 1)) (sym changed) (subst (IsBefore (after t (done + 1) s.says)) next (before_after t (done + 1) s.says f.before));
-  fills = ap (λ v. after_all v (done + 1 + 1) more) changed ∙ ap (λ n. after_all (after t (done + 1) s.says) n more) (sym next) ∙ sym (ap (after_all t (done + 1)) is) ∙ f.fills;
+  before = subst (λ v. IsBefore v (done + 1 + 1)) (sym changed) (subst (IsBefore (after t (done + 1) s.kind)) next (before_after t (done + 1) s.kind f.before));
+  fills = ap (λ v. after_all v (done + 1 + 1) more) changed ∙ ap (λ n. after_all (after t (done + 1) s.kind) n more) (sym next) ∙ sym (ap (after_all t (done + 1)) is) ∙ f.fills;
   stand = ap (λ l. l ++ places_from u (done + 1 + 1) more) added ∙ append_assoc so_far (p ∷ []) (places_from u (done + 1 + 1) more)
       ∙ ap (λ q. so_far ++ q ∷ places_from u (done + 1 + 1) more) stands
-      ∙ ap (λ v. so_far ++ stood t (done + 1) s.says ∷ places_from v (done + 1 + 1) more) changed
-      ∙ ap (λ n. so_far ++ stood t (done + 1) s.says ∷ places_from (after t (done + 1) s.says) n more) (sym next)
+      ∙ ap (λ v. so_far ++ stood t (done + 1) s.kind ∷ places_from v (done + 1 + 1) more) changed
+      ∙ ap (λ n. so_far ++ stood t (done + 1) s.kind ∷ places_from (after t (done + 1) s.kind) n more) (sym next)
       ∙ sym (ap (λ l. so_far ++ places_from t (done + 1) l) is) ∙ f.stand;
 }
   where
     next : suc (done + 1) ≡ done + 1 + 1
     next = omega arith
 
-pub fills_tables : (t : Tables) (done : ℕ) (rest all : List Spoken) (so_far : List SectionOffset) → FillsTo t done rest all so_far → rest ≡ [] → t ≡ tables all
+pub fills_tables : (t : Tables) (done : ℕ) (rest all : List Statement) (so_far : List SectionOffset) → FillsTo t done rest all so_far → rest ≡ [] → t ≡ tables all
 fills_tables t done rest all so_far f is = sym (ap (after_all t (done + 1)) is) ∙ f.fills
 
-pub fills_places : (t : Tables) (done : ℕ) (rest all : List Spoken) (so_far : List SectionOffset) → FillsTo t done rest all so_far → rest ≡ [] → so_far ≡ places all
+pub fills_places : (t : Tables) (done : ℕ) (rest all : List Statement) (so_far : List SectionOffset) → FillsTo t done rest all so_far → rest ≡ [] → so_far ≡ places all
 fills_places t done rest all so_far f is = sym (append-nil so_far) ∙ sym (ap (λ r. so_far ++ places_from t (done + 1) r) is) ∙ f.stand
 
 -- the next of a list that was mapped

@@ -1,10 +1,7 @@
 //! Assignments by their names.
 
-ghost use Rattle.std.specs.Prelude.{◌≡◌, ◌++◌, ◌≤◌, ◌<◌, ℕ, false, List, [], ◌∷◌, nat_lt, length, reverse, if◌then◌else◌, OnOk};
-ghost use Rattle.std.specs.List.{find};
-ghost use Rattle.std.specs.List.Sorted.{IsNonDecreasingBy, IsPartitionPoint};
+ghost use Rattle.std.specs.Prelude.{◌≡◌, ◌++◌, ℕ, false, List, [], ◌∷◌, if◌then◌else◌, OnOk};
 ghost use Rattle.std.specs.Str.{bytes_eq};
-ghost use Rattle.rv_tables.specs.declared.tables.Assignment.{Assignment as AssignmentOf};
 ghost use Rattle.rv_tables.specs.Tables.{assignments_at};
 
 use crate::tables::Assignment;
@@ -38,29 +35,4 @@ pub(crate) fn add_assigned<'a>(
     assignments.push(assigned)?;
     by_name.insert(assigned.name, assignments)?;
     Ok(())
-}
-
-/// How many of assignments in their order stand before an ordinal.
-fn count_assigned_before(assignments: &[Assignment<'_>], ordinal: usize) -> usize
-    ensures bound { result ≤ length assignments.now }
-    ensures point { IsNonDecreasingBy (λ (g : AssignmentOf). g.ordinal) assignments.now → IsPartitionPoint (λ (g : AssignmentOf). g.ordinal < ordinal) (λ (g : AssignmentOf). ordinal ≤ g.ordinal) assignments.now result }
-{
-    assignments.partition_point(
-        |assigned: &Assignment<'_>| -> bool
-            ensures { result ≡ nat_lt (assigned.now).ordinal ordinal }
-        { assigned.ordinal < ordinal },
-    )
-}
-
-/// The last of assignments in their order that stands before an ordinal.
-pub(crate) fn last_assigned_before<'a>(
-    assignments: &[Assignment<'a>],
-    ordinal: usize,
-) -> Option<Assignment<'a>>
-    ensures { IsNonDecreasingBy (λ (g : AssignmentOf). g.ordinal) assignments.now → result ≡ find (λ (g : AssignmentOf). nat_lt g.ordinal ordinal) (reverse assignments.now) }
-{
-    match count_assigned_before(assignments, ordinal).checked_sub(1) {
-        Some(last) => assignments.get(last).copied(),
-        None => None,
-    }
 }

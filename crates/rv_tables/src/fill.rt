@@ -8,7 +8,7 @@ ghost use Rattle.rv_text.specs.Nodes.{symbol_of};
 ghost use Rattle.rv_text.specs.Expr.{tree_of_expr};
 ghost use Rattle.rv_text.specs.Eval.{meaning_of, value_told, IsOutcome};
 ghost use Rattle.rv_statement.specs.Statement.{Aligns_to_power, Aligns_to_bytes, Zeros};
-ghost use Rattle.rv_statement.specs.View.{statement_of, opening_of, said_by};
+ghost use Rattle.rv_statement.specs.View.{statement_kind, opening_of, statement_of};
 ghost use Rattle.rv_unit_laws.specs.Sections.{entered_by};
 ghost use Rattle.rv_unit_laws.specs.Tables as laws;
 ghost use Rattle.rv_unit_laws.proofs.Before.{IsBefore};
@@ -27,7 +27,7 @@ use std::alloc::{AllocError, Global};
 
 /// Whether a statement enters a section.
 fn enters(kind: &StatementKind<'_>) -> bool
-    ensures { result ≡ laws.enters (statement_of kind.now) }
+    ensures { result ≡ laws.enters (statement_kind kind.now) }
 {
     matches!(kind, StatementKind::Enters(_) | StatementKind::Opens(_))
 }
@@ -150,7 +150,7 @@ impl<'a> Tables<'a> {
 
     /// What a statement of this ordinal changes.
     pub fn add(&mut self, ordinal: usize, kind: &StatementKind<'a>) -> Result<(), AllocError>
-        ensures tables { OnOk result (IsIndexed self.old → IsBefore (tables_of self.old) ordinal → tables_of self.new ≡ laws.after (tables_of self.old) ordinal (statement_of kind.now)) }
+        ensures tables { OnOk result (IsIndexed self.old → IsBefore (tables_of self.old) ordinal → tables_of self.new ≡ laws.after (tables_of self.old) ordinal (statement_kind kind.now)) }
         ensures indexed { OnOk result (IsIndexed self.old → IsIndexed self.new) }
     {
         match kind {
@@ -183,9 +183,9 @@ impl<'a> Tables<'a> {
         ordinal: usize,
         kind: &StatementKind<'a>,
     ) -> Result<SectionOffset, AllocError>
-        ensures tables { OnOk result (IsIndexed self.old → IsBefore (tables_of self.old) ordinal → tables_of self.new ≡ laws.after (tables_of self.old) ordinal (statement_of kind.now)) }
+        ensures tables { OnOk result (IsIndexed self.old → IsBefore (tables_of self.old) ordinal → tables_of self.new ≡ laws.after (tables_of self.old) ordinal (statement_kind kind.now)) }
         ensures indexed { OnOk result (IsIndexed self.old → IsIndexed self.new) }
-        ensures place { IfOk result (λ place. IsIndexed self.old → IsBefore (tables_of self.old) ordinal → offset_of place ≡ laws.stood (tables_of self.old) ordinal (statement_of kind.now)) }
+        ensures place { IfOk result (λ place. IsIndexed self.old → IsBefore (tables_of self.old) ordinal → offset_of place ≡ laws.stood (tables_of self.old) ordinal (statement_kind kind.now)) }
     {
         let before = self.here();
         self.add(ordinal, kind)?;
@@ -201,9 +201,9 @@ impl<'a> Tables<'a> {
         alloc: Global,
         statements: &[Statement<'a>],
     ) -> Result<Vec<SectionOffset>, AllocError>
-        ensures tables { OnOk result (tables_of self.old ≡ laws.at_start → IsIndexed self.old → tables_of self.new ≡ laws.tables (map said_by statements.now)) }
+        ensures tables { OnOk result (tables_of self.old ≡ laws.at_start → IsIndexed self.old → tables_of self.new ≡ laws.tables (map statement_of statements.now)) }
         ensures indexed { OnOk result (tables_of self.old ≡ laws.at_start → IsIndexed self.old → IsIndexed self.new) }
-        ensures places { IfOk result (λ places. tables_of self.old ≡ laws.at_start → IsIndexed self.old → map offset_of places.items ≡ laws.places (map said_by statements.now)) }
+        ensures places { IfOk result (λ places. tables_of self.old ≡ laws.at_start → IsIndexed self.old → map offset_of places.items ≡ laws.places (map statement_of statements.now)) }
     {
         let mut places = Vec::new(alloc);
         let mut ordinal: usize = 0;

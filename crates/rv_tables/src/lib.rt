@@ -22,6 +22,7 @@ mod assignments;
 mod fill;
 mod number;
 mod numeric_labels;
+mod ordinal;
 mod section;
 mod section_offset;
 mod tables;

@@ -1,6 +1,6 @@
 //! Numeric labels by their numbers.
 
-ghost use Rattle.std.specs.Prelude.{◌≡◌, ◌==◌, ◌++◌, ◌≤◌, ◌<◌, ℕ, false, List, [], ◌∷◌, nat_lt, nat_le, length, reverse, if◌then◌else◌, OnOk};
+ghost use Rattle.std.specs.Prelude.{◌≡◌, ◌==◌, ◌++◌, ◌≤◌, ◌<◌, ℕ, false, List, [], ◌∷◌, nat_lt, nat_le, if◌then◌else◌, OnOk};
 ghost use Rattle.std.specs.List.{find};
 ghost use Rattle.std.specs.List.Sorted.{IsNonDecreasingBy, IsPartitionPoint};
 ghost use Rattle.rv_text_laws.specs.Bytes.{value};
@@ -65,29 +65,4 @@ pub(crate) fn first_after<'a>(
     numeric_labels
         .get(count_until(numeric_labels, ordinal))
         .copied()
-}
-
-/// How many of numeric labels in their order stand before an ordinal.
-fn count_before(numeric_labels: &[NumericLabel<'_>], ordinal: usize) -> usize
-    ensures bound { result ≤ length numeric_labels.now }
-    ensures point { IsNonDecreasingBy (λ (m : NumericLabelOf). m.ordinal) numeric_labels.now → IsPartitionPoint (λ (m : NumericLabelOf). m.ordinal < ordinal) (λ (m : NumericLabelOf). ordinal ≤ m.ordinal) numeric_labels.now result }
-{
-    numeric_labels.partition_point(
-        |numeric_label: &NumericLabel<'_>| -> bool
-            ensures { result ≡ nat_lt (numeric_label.now).ordinal ordinal }
-        { numeric_label.ordinal < ordinal },
-    )
-}
-
-/// The last of numeric labels in their order that stands before an ordinal.
-pub(crate) fn last_before<'a>(
-    numeric_labels: &[NumericLabel<'a>],
-    ordinal: usize,
-) -> Option<NumericLabel<'a>>
-    ensures { IsNonDecreasingBy (λ (m : NumericLabelOf). m.ordinal) numeric_labels.now → result ≡ find (λ (m : NumericLabelOf). nat_lt m.ordinal ordinal) (reverse numeric_labels.now) }
-{
-    match count_before(numeric_labels, ordinal).checked_sub(1) {
-        Some(last) => numeric_labels.get(last).copied(),
-        None => None,
-    }
 }

@@ -7,16 +7,17 @@ ghost use Rattle.rv_text_laws.specs.Values.{Open};
 ghost use Rattle.rv_text.specs.Nodes.{symbol_of};
 ghost use Rattle.rv_text.specs.Expr.{tree_of_expr};
 ghost use Rattle.rv_text.specs.Eval.{meaning_of, IsOutcome};
-ghost use Rattle.rv_statement.specs.View.{statement_of};
+ghost use Rattle.rv_statement.specs.View.{statement_kind};
 ghost use Rattle.rv_unit_laws.specs.Sections as sections;
 ghost use Rattle.rv_unit_laws.specs.Tables as laws;
 ghost use Rattle.rv_unit_laws.proofs.Before.{IsBefore, placed_latest};
 ghost use Rattle.rv_tables.specs.Sections.{section_of, offset_of};
 ghost use Rattle.rv_tables.specs.Tables.{tables_of, label_at, numeric_label_of, assignment_of, IsIndexed};
 
-use crate::assignments::{add_assigned, last_assigned_before};
+use crate::assignments::add_assigned;
 use crate::number::Number;
-use crate::numeric_labels::{add_numbered, first_after, last_before};
+use crate::numeric_labels::{add_numbered, first_after};
+use crate::ordinal::{HasOrdinal, last_before};
 use crate::section::{Extent, Section};
 use crate::section_offset::SectionOffset;
 use indexmap::IndexMap;
@@ -53,6 +54,22 @@ pub struct Assignment<'a> {
     pub meaning: Meaning,
     /// The bytes between its statement and a location.
     pub plus: u64,
+}
+
+impl HasOrdinal for NumericLabel<'_> {
+    ghost at = { λ m. m.ordinal };
+
+    fn ordinal(&self) -> usize {
+        self.ordinal
+    }
+}
+
+impl HasOrdinal for Assignment<'_> {
+    ghost at = { λ s. s.ordinal };
+
+    fn ordinal(&self) -> usize {
+        self.ordinal
+    }
 }
 
 impl Assignment<'_> {
@@ -190,7 +207,7 @@ impl<'a> Tables<'a> {
         ensures { IsIndexed self.now → (o : ℕ) → IsBefore (tables_of self.now) o → option_map assignment_of result ≡ laws.assigned_before (tables_of self.now).assignments ordinal name.now }
     {
         match self.by_name.get(&name) {
-            Some(assignments) => last_assigned_before(assignments.as_slice(), ordinal),
+            Some(assignments) => last_before(assignments.as_slice(), ordinal),
             None => None,
         }
     }

@@ -4,7 +4,7 @@ use Rattle.std.proofs.Common.{◌≡◌, ℕ, ◌+◌, ◌<◌, ◌≤◌, true,
 use Rattle.rv_text_laws.specs.Bytes.{value as digits_value}
 use Rattle.rv_text_laws.specs.Expression.{Literal, Symbol, Here, Reference}
 use Rattle.rv_text_laws.specs.Values.{Constant}
-use Rattle.rv_statement.specs.Statement.{Spoken, Expression}
+use Rattle.rv_statement.specs.Statement.{Statement, Expression}
 use Rattle.rv_unit_laws.specs.Tables.{Tables, SectionOffset, NumericLabel, at_start, tables, after_all, numeric_label_after, forward_in, meaning, value}
 use Rattle.rv_unit_laws.proofs.Before.{before_all, before_start}
 use Rattle.rv_unit_laws.proofs.Settled.{Agree, is_settled, constant_same, constant_later}
@@ -12,7 +12,7 @@ use Rattle.rv_unit.specs.Unit.{passed}
 use Rattle.rv_unit.proofs.Passed.{passed_rest}
 use Rattle.rv_unit.proofs.Scoped.{past_name, past_here, past_back}
 
-module _ (ss : List Spoken) (i : ℕ) (p : SectionOffset) (within : i ≤ length ss) (inside : p.section < length (passed ss i).opened.sections) where
+module _ (ss : List Statement) (i : ℕ) (p : SectionOffset) (within : i ≤ length ss) (inside : p.section < length (passed ss i).opened.sections) where
   -- a numeric label that comes later is no constant
   ahead : (o : Tables) (found : Option NumericLabel) (digits : List ℕ) → is_settled (forward_in o.opened false found) ≡ true → meaning (passed ss i) false (i + 1) p (Reference digits true) ≡ forward_in o.opened false found
   ahead o None digits e = absurd (cc)
@@ -30,9 +30,9 @@ module _ (ss : List Spoken) (i : ℕ) (p : SectionOffset) (within : i ≤ length
   constant_past e n is = constant_same (λ q. meaning (tables ss) false (i + 1) p q) (λ q. meaning (passed ss i) false (i + 1) p q) past_agrees e n is
 
 -- by all of the source
-pub constant_whole : (ss : List Spoken) (at : ℕ) (p : SectionOffset) (e : Expression) (n : ℕ) → value (tables ss) false at p e ≡ Constant n → value (tables ss) true at p e ≡ Constant n
+pub constant_whole : (ss : List Statement) (at : ℕ) (p : SectionOffset) (e : Expression) (n : ℕ) → value (tables ss) false at p e ≡ Constant n → value (tables ss) true at p e ≡ Constant n
 constant_whole ss at p e n is = constant_later (tables ss) (1 + length ss) at (before_all at_start 1 ss (before_start 1)) p e n is
 
 -- the tables of a source by those of its first statements
-pub whole_rest : (ss : List Spoken) (i : ℕ) → i ≤ length ss → tables ss ≡ after_all (passed ss i) (i + 1) (drop i ss)
+pub whole_rest : (ss : List Statement) (i : ℕ) → i ≤ length ss → tables ss ≡ after_all (passed ss i) (i + 1) (drop i ss)
 whole_rest ss i within = passed_rest ss i within

@@ -8,9 +8,9 @@ use Rattle.std.proofs.lemmas.List.{get_or-map, length-map}
 use Rattle.rv_text_laws.specs.Bytes.{value as digits_value}
 use Rattle.rv_text_laws.specs.Expression.{Symbol, Here, Reference}
 use Rattle.rv_text_laws.specs.Values.{Open, Refused}
-use Rattle.rv_statement.specs.Statement.{Spoken}
+use Rattle.rv_statement.specs.Statement.{Statement as SpecStatement}
 use Rattle.rv_statement.specs.declared.statement.Statement.{Statement}
-use Rattle.rv_statement.specs.View.{said_by}
+use Rattle.rv_statement.specs.View.{statement_of}
 use Rattle.rv_text.specs.declared.node.Symbol.{Symbol as Written}
 use Rattle.rv_text.specs.declared.node.Symbol.TheVariants as symbols
 use Rattle.rv_text.specs.Nodes.{symbol_of}
@@ -30,14 +30,14 @@ whole_before u f = subst (λ t. IsBefore t (1 + length (said u))) (sym f.tables)
 
 -- ---- what the statements before an ordinal say alone
 
-passed_stood : (ss : List Spoken) (i : ℕ) → IsStood (passed ss i)
+passed_stood : (ss : List SpecStatement) (i : ℕ) → IsStood (passed ss i)
 passed_stood ss i = stood_all laws.at_start 1 (take i ss) stood_start
 
-stands_passed : (ss : List Spoken) (i : ℕ) (p : laws.SectionOffset) → i ≤ length ss → p.section < length (passed ss i).opened.sections → laws.stands (laws.tables ss).opened p ≡ laws.stands (passed ss i).opened p
+stands_passed : (ss : List SpecStatement) (i : ℕ) (p : laws.SectionOffset) → i ≤ length ss → p.section < length (passed ss i).opened.sections → laws.stands (laws.tables ss).opened p ≡ laws.stands (passed ss i).opened p
 stands_passed ss i p within inside =
     ap (λ (t : laws.Tables). laws.stands t.opened p) (passed_rest ss i within) ∙ stands_same (passed ss i) (i + 1) (drop i ss) p (passed_stood ss i).opened inside
 
-labelled_passed : (ss : List Spoken) (i : ℕ) (name : List ℕ) → i ≤ length ss → (found : Option laws.Labelled) → laws.label_of (passed ss i).labels false (i + 1) name ≡ found
+labelled_passed : (ss : List SpecStatement) (i : ℕ) (name : List ℕ) → i ≤ length ss → (found : Option laws.Labelled) → laws.label_of (passed ss i).labels false (i + 1) name ≡ found
     → laws.labelled (laws.tables ss).opened found Open ≡ laws.labelled (passed ss i).opened found Open
 labelled_passed ss i name within None e = refl
 labelled_passed ss i name within (Some l) e =
@@ -45,7 +45,7 @@ labelled_passed ss i name within (Some l) e =
     stands_passed ss i l.place within
     (ltb-true l.place.section n (find_passes (λ k. bytes_eq k.name name && nat_lt k.ordinal (i + 1)) (λ k. nat_lt k.place.section n) (passed ss i).labels l (passed_stood ss i).inside.labels e))
 
-numeric_label_passed : (ss : List Spoken) (i n : ℕ) → i ≤ length ss → (found : Option laws.NumericLabel) → laws.numeric_label_before (passed ss i).numeric_labels (i + 1) n ≡ found
+numeric_label_passed : (ss : List SpecStatement) (i n : ℕ) → i ≤ length ss → (found : Option laws.NumericLabel) → laws.numeric_label_before (passed ss i).numeric_labels (i + 1) n ≡ found
     → laws.backward_in (laws.tables ss).opened found ≡ laws.backward_in (passed ss i).opened found
 numeric_label_passed ss i n within None e = refl
 numeric_label_passed ss i n within (Some m) e =
@@ -53,7 +53,7 @@ numeric_label_passed ss i n within (Some m) e =
     stands_passed ss i m.place within
     (ltb-true m.place.section count (find_passes (λ k. nat_lt k.ordinal (i + 1) && (k.number == n)) (λ k. nat_lt k.place.section count) (passed ss i).numeric_labels m (passed_stood ss i).inside.numeric_labels e))
 
-pub past_name : (ss : List Spoken) (i : ℕ) (p : laws.SectionOffset) (name : List ℕ) → i ≤ length ss → laws.meaning (laws.tables ss) false (i + 1) p (Symbol name) ≡ laws.meaning (passed ss i) false (i + 1) p (Symbol name)
+pub past_name : (ss : List SpecStatement) (i : ℕ) (p : laws.SectionOffset) (name : List ℕ) → i ≤ length ss → laws.meaning (laws.tables ss) false (i + 1) p (Symbol name) ≡ laws.meaning (passed ss i) false (i + 1) p (Symbol name)
 past_name ss i p name within =
     let all = laws.tables ss in
     let t = passed ss i in
@@ -63,21 +63,21 @@ past_name ss i p name within =
     ∙ ap (λ l. laws.assigned_first (laws.assigned_before t.assignments o name) (laws.labelled all.opened l Open)) (keeps.labels (λ l. bytes_eq l.name name))
     ∙ ap (laws.assigned_first (laws.assigned_before t.assignments o name)) (labelled_passed ss i name within (laws.label_of t.labels false o name) refl)
 
-pub past_here : (ss : List Spoken) (i : ℕ) (p : laws.SectionOffset) → i ≤ length ss → p.section < length (passed ss i).opened.sections → laws.meaning (laws.tables ss) false (i + 1) p Here ≡ laws.meaning (passed ss i) false (i + 1) p Here
+pub past_here : (ss : List SpecStatement) (i : ℕ) (p : laws.SectionOffset) → i ≤ length ss → p.section < length (passed ss i).opened.sections → laws.meaning (laws.tables ss) false (i + 1) p Here ≡ laws.meaning (passed ss i) false (i + 1) p Here
 past_here ss i p within inside = stands_passed ss i p within inside
 
-pub past_back : (ss : List Spoken) (i : ℕ) (p : laws.SectionOffset) (digits : List ℕ) → i ≤ length ss → laws.meaning (laws.tables ss) false (i + 1) p (Reference digits false) ≡ laws.meaning (passed ss i) false (i + 1) p (Reference digits false)
+pub past_back : (ss : List SpecStatement) (i : ℕ) (p : laws.SectionOffset) (digits : List ℕ) → i ≤ length ss → laws.meaning (laws.tables ss) false (i + 1) p (Reference digits false) ≡ laws.meaning (passed ss i) false (i + 1) p (Reference digits false)
 past_back ss i p digits within =
     let n = digits_value 10 digits in
     ap (laws.backward_in (laws.tables ss).opened) ((passed_keeps ss i within).numeric_labels (λ m. m.number == n))
     ∙ numeric_label_passed ss i n within (laws.numeric_label_before (passed ss i).numeric_labels (i + 1) n) refl
 
 -- nothing comes after the last
-pub past_ahead : (ss : List Spoken) (i : ℕ) (p : laws.SectionOffset) (digits : List ℕ) → i ≤ length ss → Refused 12 ≡ laws.meaning (passed ss i) false (i + 1) p (Reference digits true)
+pub past_ahead : (ss : List SpecStatement) (i : ℕ) (p : laws.SectionOffset) (digits : List ℕ) → i ≤ length ss → Refused 12 ≡ laws.meaning (passed ss i) false (i + 1) p (Reference digits true)
 past_ahead ss i p digits within = sym (ap (laws.forward_in (passed ss i).opened false) (numeric_label_none (passed ss i) (i + 1) (digits_value 10 digits) (passed_before ss i within)))
 
 -- all but what comes after
-pub past_symbol : (ss : List Spoken) (i : ℕ) (p : laws.SectionOffset) (x : Written) → i ≤ length ss → p.section < length (passed ss i).opened.sections → ((digits : Bor (List ℕ)) → x ≡ symbols.Forward digits → ⊥)
+pub past_symbol : (ss : List SpecStatement) (i : ℕ) (p : laws.SectionOffset) (x : Written) → i ≤ length ss → p.section < length (passed ss i).opened.sections → ((digits : Bor (List ℕ)) → x ≡ symbols.Forward digits → ⊥)
     → laws.meaning (laws.tables ss) false (i + 1) p (symbol_of x) ≡ laws.meaning (passed ss i) false (i + 1) p (symbol_of x)
 past_symbol ss i p (symbols.Name name) within inside apart = past_name ss i p name.now within
 past_symbol ss i p symbols.Here within inside apart = past_here ss i p within inside
@@ -85,21 +85,21 @@ past_symbol ss i p (symbols.Backward digits) within inside apart = past_back ss 
 past_symbol ss i p (symbols.Forward digits) within inside apart = absurd (apart digits refl)
 
 -- where the next statement stands is in a section that is open
-pub here_inside : (ss : List Spoken) (i : ℕ) (p : laws.SectionOffset) → p ≡ laws.here (passed ss i) → p.section < length (passed ss i).opened.sections
+pub here_inside : (ss : List SpecStatement) (i : ℕ) (p : laws.SectionOffset) → p ≡ laws.here (passed ss i) → p.section < length (passed ss i).opened.sections
 here_inside ss i p is = subst (λ (q : laws.SectionOffset). q.section < length (passed ss i).opened.sections) (sym is) (open_inside (passed ss i).opened (passed_stood ss i).opened)
 
 -- ---- the statements so far
 
 -- the tables of one statement more
-pub pass_more : (t u : laws.Tables) (ss : List Spoken) (i o : ℕ) (x : Spoken) → i < length ss → t ≡ passed ss i → o ≡ i + 1 → get_or ss i x ≡ x → u ≡ laws.after t o x.says → u ≡ passed ss (i + 1)
+pub pass_more : (t u : laws.Tables) (ss : List SpecStatement) (i o : ℕ) (x : SpecStatement) → i < length ss → t ≡ passed ss i → o ≡ i + 1 → get_or ss i x ≡ x → u ≡ laws.after t o x.kind → u ≡ passed ss (i + 1)
 pass_more t u ss i o x inside is at next changed =
-    changed ∙ ap (λ v. laws.after v o x.says) is ∙ ap (λ n. laws.after (passed ss i) n x.says) at ∙ ap (λ (y : Spoken). laws.after (passed ss i) (i + 1) y.says) (sym next) ∙ sym (passed_more ss i x inside)
+    changed ∙ ap (λ v. laws.after v o x.kind) is ∙ ap (λ n. laws.after (passed ss i) n x.kind) at ∙ ap (λ (y : SpecStatement). laws.after (passed ss i) (i + 1) y.kind) (sym next) ∙ sym (passed_more ss i x inside)
 
-pub pass_before : (t : laws.Tables) (ss : List Spoken) (i o : ℕ) → i ≤ length ss → t ≡ passed ss i → o ≡ i + 1 → IsBefore t o
+pub pass_before : (t : laws.Tables) (ss : List SpecStatement) (i o : ℕ) → i ≤ length ss → t ≡ passed ss i → o ≡ i + 1 → IsBefore t o
 pass_before t ss i o within is at = subst (λ v. IsBefore v o) (sym is) (subst (λ n. IsBefore (passed ss i) n) (sym at) (passed_before ss i within))
 
 -- a statement of a list, as it is said
-pub said_at : (xs : List Statement) (i k : ℕ) (x : Statement) → i < length (map said_by xs) → k ≡ i → x ≡ get_or xs k x → get_or (map said_by xs) i (said_by x) ≡ said_by x
+pub said_at : (xs : List Statement) (i k : ℕ) (x : Statement) → i < length (map statement_of xs) → k ≡ i → x ≡ get_or xs k x → get_or (map statement_of xs) i (statement_of x) ≡ statement_of x
 said_at xs i k x inside same is =
-    let long : i < length xs = subst (λ n. i < n) (length-map xs said_by) inside in
-    get_or-map said_by xs i x (said_by x) long ∙ ap (λ n. said_by (get_or xs n x)) (sym same) ∙ ap said_by (sym is)
+    let long : i < length xs = subst (λ n. i < n) (length-map xs statement_of) inside in
+    get_or-map statement_of xs i x (statement_of x) long ∙ ap (λ n. statement_of (get_or xs n x)) (sym same) ∙ ap statement_of (sym is)

@@ -6,8 +6,8 @@ use Rattle.rv_lexer.specs.declared.fault.SourceFault.TheVariants as refusals
 use Rattle.rv_lexer.specs.declared.fault.SourceCode.{SourceCode}
 use Rattle.rv_lexer.specs.Fault.{number_of}
 use Rattle.rv_unit_laws.specs.Faults.{Fault, first_fault}
-use Rattle.rv_statement.specs.Statement.{Spoken}
-use Rattle.rv_statement.specs.View.{said_by}
+use Rattle.rv_statement.specs.Statement.{Statement}
+use Rattle.rv_statement.specs.View.{statement_of}
 use Rattle.rv_unit_laws.specs.Tables as laws
 use Rattle.rv_tables.specs.declared.section_offset.Definition.{Definition}
 use Rattle.rv_unit.specs.declared.unit.Unit.{Unit as SourceUnit}
@@ -19,8 +19,8 @@ abbrev pub definition_of : Definition → laws.Definition
 definition_of h = record { ordinal = h.ordinal; plus = h.plus }
 
 -- the statements of a unit
-abbrev pub said : SourceUnit → List Spoken
-said u = map said_by u.statements.items
+abbrev pub said : SourceUnit → List Statement
+said u = map statement_of u.statements.items
 
 -- a unit with the offsets of its statements and their tables
 pub record IsFilled (u : SourceUnit) : Type 0 where
@@ -29,7 +29,7 @@ pub record IsFilled (u : SourceUnit) : Type 0 where
   pub indexed : IsIndexed u.tables
 
 -- the tables of the first `count` statements
-abbrev pub passed : List Spoken → ℕ → laws.Tables
+abbrev pub passed : List Statement → ℕ → laws.Tables
 passed ss count = laws.after_all laws.at_start 1 (take count ss)
 
 -- the scope stands before the statement at this index from 0
@@ -42,6 +42,6 @@ abbrev pub fault_of : SourceCode × ℕ → Fault
 fault_of f = record { code = number_of f.0; line = f.1 }
 
 -- the first fault that a refusal names, unless memory ran out
-abbrev pub NamesFirst : SourceFault → List Spoken → Type 0
+abbrev pub NamesFirst : SourceFault → List Statement → Type 0
 NamesFirst (refusals.At code line) ss = first_fault ss ≡ Some (record { code = number_of code; line = line })
 NamesFirst refusals.OutOfMemory ss = Unit {0}

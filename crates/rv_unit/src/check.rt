@@ -1,9 +1,10 @@
 //! The first fault of the labels and the directives of a source.
 
 ghost use Rattle.std.specs.Prelude.{◌≡◌, ℕ, ◌++◌, ◌*◌, Some, None, flat_map, map, not, ◌||◌, true, false, length, option_map, IfOk};
+ghost use Rattle.rv_text_laws.specs.Codes.{duplicate_label, wrong_section};
 ghost use Rattle.rv_text.specs.Expr.{tree_of_expr};
 ghost use Rattle.rv_statement.specs.Statement.{Sets, Zeros, Aligns_to_power, Aligns_to_bytes, Values, Strings};
-ghost use Rattle.rv_statement.specs.View.{bytes_of, quoted, statement_of};
+ghost use Rattle.rv_statement.specs.View.{bytes_of, quoted, statement_kind};
 ghost use Rattle.rv_unit_laws.specs.Faults as faults;
 ghost use Rattle.rv_unit_laws.specs.Sections as sections;
 ghost use Rattle.rv_unit_laws.proofs.Before.{IsBefore};
@@ -150,14 +151,14 @@ impl<'a> Unit<'a> {
 
     /// The fault of a label: its name is defined before.
     fn fault_of_label(&self, passed: &Tables<'_>, name: &[u8]) -> Option<SourceCode>
-        ensures { (o : ℕ) → IsIndexed passed.now → IsBefore (tables_of passed.now) o → IsLowest result (faults.faulty_if (laws.is_defined (tables_of passed.now) o name.now) 11) }
+        ensures { (o : ℕ) → IsIndexed passed.now → IsBefore (tables_of passed.now) o → IsLowest result (faults.faulty_if (laws.is_defined (tables_of passed.now) o name.now) duplicate_label) }
     {
         faulty_if(passed.is_defined(name), SourceCode::DuplicateLabel)
     }
 
     /// The fault of an instruction: it stands in no section of code, or in one without bytes.
     fn fault_of_instruction(&self, passed: &Tables<'_>) -> Option<SourceCode>
-        ensures { IsLowest result (faults.faulty_if (not (sections.current_section (tables_of passed.now).opened).executable || (sections.current_section (tables_of passed.now).opened).nobits) 15) }
+        ensures { IsLowest result (faults.faulty_if (not (sections.current_section (tables_of passed.now).opened).executable || (sections.current_section (tables_of passed.now).opened).nobits) wrong_section) }
     {
         let section = passed.current_section();
         faulty_if(
@@ -198,7 +199,7 @@ impl<'a> Unit<'a> {
         ordinal: usize,
         kind: &StatementKind<'a>,
     ) -> Option<SourceCode>
-        ensures { (o : ℕ) → IsIndexed passed.now → IsBefore (tables_of passed.now) o → IsFilled self.now → ordinal ≡ o → IsLowest result (faults.faults (laws.tables (said self.now)) (tables_of passed.now) o (statement_of kind.now)) }
+        ensures { (o : ℕ) → IsIndexed passed.now → IsBefore (tables_of passed.now) o → IsFilled self.now → ordinal ≡ o → IsLowest result (faults.faults (laws.tables (said self.now)) (tables_of passed.now) o (statement_kind kind.now)) }
     {
         match kind {
             StatementKind::Label(name) => self.fault_of_label(passed, *name),

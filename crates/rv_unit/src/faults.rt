@@ -1,7 +1,8 @@
 //! The faults of one statement.
 
 ghost use Rattle.std.specs.Prelude.{◌≡◌, ◌≤◌, ◌<◌, ◌+◌, ◌^◌, ℕ, List, [], ◌∷◌, ◌++◌, Option, Some, None, not, ◌&&◌, ◌||◌, ◌==◌, nat_le, is_some};
-ghost use Rattle.rv_lexer.specs.Fault.{number_of};
+ghost use Rattle.rv_text_laws.specs.Codes.{duplicate_label, wrong_section};
+ghost use Rattle.rv_text.specs.Fault.{number_of};
 ghost use Rattle.rv_unit_laws.specs.Faults as laws;
 ghost use Rattle.rv_unit_laws.specs.Tables as tables;
 ghost use Rattle.rv_unit.specs.Faults.{IsLowest, ForValue};
@@ -111,7 +112,7 @@ pub(crate) fn past_section(executable: bool, offset: u64, bytes: u64) -> Option<
 
 /// The fault of data at an offset, but for the faults of its values.
 pub(crate) fn data_fault(section: Section<'_>, offset: u64, bytes: u64) -> Option<SourceCode>
-    ensures { IsLowest result (laws.faulty_if (section.entry.executable || section.entry.nobits) 15 ++ laws.past_section section.entry.executable offset bytes) }
+    ensures { IsLowest result (laws.faulty_if (section.entry.executable || section.entry.nobits) wrong_section ++ laws.past_section section.entry.executable offset bytes) }
 {
     let misplaced = faulty_if(
         section.executable || section.nobits,
@@ -174,7 +175,7 @@ pub(crate) fn alignment_fault(
 
 /// The fault of a `.set` that gives no location, of a name that a label or a location has before.
 fn constant_set_fault(placed: bool, value: &Outcome<'_>) -> Option<SourceCode>
-    ensures { ForValue value.now (λ v. IsLowest result (laws.constant_faults v ++ laws.faulty_if placed 11)) }
+    ensures { ForValue value.now (λ v. IsLowest result (laws.constant_faults v ++ laws.faulty_if placed duplicate_label)) }
 {
     lower(
         constant_fault(value),

@@ -1,7 +1,7 @@
 //! A source's statements with what they define.
 
 ghost use Rattle.std.specs.Prelude.{◌≡◌, None, map, option_map, IfOk, IfErr};
-ghost use Rattle.rv_statement.specs.View.{said_by};
+ghost use Rattle.rv_statement.specs.View.{statement_of};
 ghost use Rattle.rv_unit_laws.specs.Faults.{first_fault};
 ghost use Rattle.rv_unit_laws.specs.Tables.{assigned_ever};
 ghost use Rattle.rv_tables.specs.Tables.{tables_of, assignment_of};
@@ -27,7 +27,7 @@ impl<'a> Unit<'a> {
         ensures filled { IfOk result (λ u. IsFilled u) }
         ensures same { IfOk result (λ u. u.statements ≡ statements.entry) }
         ensures good { IfOk result (λ u. first_fault (said u) ≡ None) }
-        ensures refuses { IfErr result (λ e. NamesFirst e (map said_by (statements.entry).items)) }
+        ensures refuses { IfErr result (λ e. NamesFirst e (map statement_of (statements.entry).items)) }
     {
         let unit = Unit::fill(alloc, statements)?;
         match unit.first_fault(alloc) {

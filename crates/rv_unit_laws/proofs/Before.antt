@@ -8,7 +8,7 @@ use Rattle.std.proofs.lemmas.Bool.{ltb-true, ltb-false, lt-ltb}
 use Rattle.std.proofs.lemmas.List.Folds.{list_all-append}
 use Rattle.rv_text_laws.specs.Values.{Meaning, Known, InSection, Open, Refused, Value, Constant, Symbolic, Difference, Faulty, add}
 use Rattle.rv_text_laws.specs.Expression.{Literal, Symbol, Here, Reference}
-use Rattle.rv_statement.specs.Statement.{Statement, Label, Numbered, Instruction, Directs, Spoken, Expression, Directive, Sets}
+use Rattle.rv_statement.specs.Statement.{StatementKind, Label, Numbered, Instruction, Directs, Statement, Expression, Directive, Sets}
 use Rattle.rv_statement.specs.declared.directive.Choice.{Choice}
 use Rattle.rv_statement.specs.declared.directive.Choice.TheVariants.{Push, Pop}
 use Rattle.rv_unit_laws.specs.Sections.{Section, entered, entered_by}
@@ -303,17 +303,17 @@ before_directive t o d h =
     (before_chosen named (chosen d) (suc o) (before_named entered o v d (before_section t (entered_by d) o h)))
 
 -- the tables after a statement are before the next
-pub before_after : (t : Tables) (o : ℕ) (s : Statement) → IsBefore t o → IsBefore (after t o s) (suc o)
+pub before_after : (t : Tables) (o : ℕ) (s : StatementKind) → IsBefore t o → IsBefore (after t o s) (suc o)
 before_after t o (Label name) h = before_label t o name h
 before_after t o (Numbered number) h = before_numeric_label t o number h
 before_after t o (Instruction mnemonic operands) h = before_next t o h
 before_after t o (Directs d) h = before_directive t o d h
 
-pub before_all : (t : Tables) (o : ℕ) (ss : List Spoken) → IsBefore t o → IsBefore (after_all t o ss) (o + length ss)
+pub before_all : (t : Tables) (o : ℕ) (ss : List Statement) → IsBefore t o → IsBefore (after_all t o ss) (o + length ss)
 before_all t o [] h = subst (IsBefore t) (sym (add-zero o)) h
 before_all t o (s ∷ ss) h =
     let n : suc o + length ss ≡ o + suc (length ss) = omega arith in
-    subst (IsBefore (after_all (after t o s.says) (suc o) ss)) n (before_all (after t o s.says) (suc o) ss (before_after t o s.says h))
+    subst (IsBefore (after_all (after t o s.kind) (suc o) ss)) n (before_all (after t o s.kind) (suc o) ss (before_after t o s.kind h))
 
 pub before_start : (o : ℕ) → IsBefore at_start o
 before_start o = record { labels = refl; labels_rise = refl; numeric_labels = refl; numeric_labels_fall = refl; assignments = refl; assignments_fall = refl; placed = λ name. refl }

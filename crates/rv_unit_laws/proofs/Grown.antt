@@ -8,7 +8,7 @@ use Rattle.std.proofs.lemmas.Nat.{pow-add, pow_pos}
 use Rattle.std.proofs.lemmas.List.{length-append}
 use Rattle.std.specs.Prelude.{⊤, if◌then◌else◌, slice_index_or}
 use Rattle.rv_text_laws.specs.Values.{Value, Constant, Symbolic, Difference, Faulty}
-use Rattle.rv_statement.specs.Statement.{Statement, Label, Numbered, Instruction, Directs, Spoken, Expression, Directive, Aligns_to_power, Aligns_to_bytes, Values, Strings, Zeros}
+use Rattle.rv_statement.specs.Statement.{StatementKind, Label, Numbered, Instruction, Directs, Statement, Expression, Directive, Aligns_to_power, Aligns_to_bytes, Values, Strings, Zeros}
 use Rattle.rv_statement.specs.declared.directive.Choice.{Choice}
 use Rattle.rv_statement.specs.declared.directive.Choice.TheVariants.{Push, Pop}
 use Rattle.rv_unit_laws.specs.Sections.{Section, Opened, current_section, entered, entered_at, entered_by, place_of_name, most_sections}
@@ -257,7 +257,7 @@ grows_directive t o d =
     (grows_then t named chose (grows_then t entered named (grows_section t (entered_by d)) (grows_set entered (assigned_by v o d))) (grows_chosen named (chosen d)))
     (grows_contribution chose v (contribution d))
 
-pub grows_after : (t : Tables) (o : ℕ) (says : Statement) → Grows t (after t o says)
+pub grows_after : (t : Tables) (o : ℕ) (says : StatementKind) → Grows t (after t o says)
 grows_after t o (Label name) =
     let u : Tables = record t { labels = t.labels ++ record { name = name; ordinal = o; place = here t } ∷ [] } in
     grows_if (is_defined t o name) t t u (grows_same t t refl refl refl) (grows_same t u refl refl refl)
@@ -265,9 +265,9 @@ grows_after t o (Numbered number) = grows_same t (with_numeric_label t o number)
 grows_after t o (Instruction mnemonic operands) = grows_same t t refl refl refl
 grows_after t o (Directs d) = grows_directive t o d
 
-pub grows_all : (t : Tables) (o : ℕ) (ss : List Spoken) → Grows t (after_all t o ss)
+pub grows_all : (t : Tables) (o : ℕ) (ss : List Statement) → Grows t (after_all t o ss)
 grows_all t o [] = grows_same t t refl refl refl
-grows_all t o (s ∷ ss) = grows_then t (after t o s.says) (after_all (after t o s.says) (suc o) ss) (grows_after t o s.says) (grows_all (after t o s.says) (suc o) ss)
+grows_all t o (s ∷ ss) = grows_then t (after t o s.kind) (after_all (after t o s.kind) (suc o) ss) (grows_after t o s.kind) (grows_all (after t o s.kind) (suc o) ss)
 
 -- each section has both numbers, of which the multiple is a power of two
 pub record IsGrown (t : Tables) : Type 0 where
@@ -280,7 +280,7 @@ start_powers zero = (0, refl)
 start_powers (suc zero) = (0, refl)
 start_powers (suc (suc j)) = (0, refl)
 
-pub grown_all : (o : ℕ) (ss : List Spoken) → IsGrown (after_all at_start o ss)
+pub grown_all : (o : ℕ) (ss : List Statement) → IsGrown (after_all at_start o ss)
 grown_all o ss =
     let g = grows_all at_start o ss in
     record { ends = g.each_end refl; alignments = g.each_alignment refl; powers = g.powers start_powers }
@@ -330,7 +330,7 @@ end_behind t o d h each inside stored =
     ∙ ap (λ b. (here t).offset + (if b then 0 else bytes)) stored
 
 -- in the end the alignment of its section is a multiple of the directive's own
-pub begins_multiple : (t : Tables) (o k : ℕ) (d : Directive) (ss : List Spoken) → puts d ≡ true → IsGrown t → t.opened.current < length t.opened.sections
+pub begins_multiple : (t : Tables) (o k : ℕ) (d : Directive) (ss : List Statement) → puts d ≡ true → IsGrown t → t.opened.current < length t.opened.sections
     → BeginsAt (alignment_of (value t false o (here t)) d) (slice_index_or (after_all (after t o (Directs d)) k ss).alignments t.opened.current 1)
 begins_multiple t o k d ss h each inside =
     let alignment = alignment_of (value t false o (here t)) d in

@@ -6,7 +6,7 @@ use Rattle.std.specs.List.{find}
 use Rattle.std.proofs.lemmas.Bool.{ltb-true, lt-ltb}
 use Rattle.rv_text_laws.specs.Values.{Known, InSection, Open, Refused, Value, Constant, Symbolic, Difference, Faulty, add}
 use Rattle.rv_text_laws.specs.Expression.{Literal, Symbol, Here, Reference}
-use Rattle.rv_statement.specs.Statement.{Statement, Label, Numbered, Instruction, Directs, Spoken, Expression, Directive, Sets}
+use Rattle.rv_statement.specs.Statement.{StatementKind, Label, Numbered, Instruction, Directs, Statement, Expression, Directive, Sets}
 use Rattle.rv_statement.specs.declared.directive.Choice.{Choice}
 use Rattle.rv_statement.specs.declared.directive.Choice.TheVariants.{Push, Pop}
 use Rattle.rv_unit_laws.specs.Sections.{Section, entered, entered_by}
@@ -158,16 +158,16 @@ keeps_directive t o d =
     (keeps_then t named chose o (keeps_then t entered named o (keeps_section t (entered_by d) o) (keeps_named entered o v d)) (keeps_chosen named (chosen d) o))
     (keeps_contribution chose v (contribution d) o)
 
-keeps_after : (t : Tables) (o : ℕ) (s : Statement) → Keeps t (after t o s) o
+keeps_after : (t : Tables) (o : ℕ) (s : StatementKind) → Keeps t (after t o s) o
 keeps_after t o (Label name) = keeps_label t o name
 keeps_after t o (Numbered number) = keeps_numeric_label t o number
 keeps_after t o (Instruction mnemonic operands) = keeps_same t t o refl refl refl
 keeps_after t o (Directs d) = keeps_directive t o d
 
 -- all statements that follow keep what is before them
-pub keeps_all : (t : Tables) (o : ℕ) (ss : List Spoken) → Keeps t (after_all t o ss) o
+pub keeps_all : (t : Tables) (o : ℕ) (ss : List Statement) → Keeps t (after_all t o ss) o
 keeps_all t o [] = keeps_same t t o refl refl refl
 keeps_all t o (s ∷ ss) =
-    let now = after t o s.says in
+    let now = after t o s.kind in
     let last = after_all now (suc o) ss in
-    keeps_then t now last o (keeps_after t o s.says) (weaker now last o (keeps_all now (suc o) ss))
+    keeps_then t now last o (keeps_after t o s.kind) (weaker now last o (keeps_all now (suc o) ss))

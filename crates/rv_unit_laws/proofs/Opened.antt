@@ -5,7 +5,7 @@ use Rattle.std.specs.Prelude.{if◌then◌else◌, slice_get}
 use Rattle.std.specs.List.{find, list_all}
 use Rattle.std.proofs.lemmas.Bool.{ltb-true, lt-ltb}
 use Rattle.std.proofs.lemmas.List.Folds.{list_all-append}
-use Rattle.rv_statement.specs.Statement.{Statement, Expression, Label, Numbered, Instruction, Directs, Spoken, Directive}
+use Rattle.rv_statement.specs.Statement.{StatementKind, Expression, Label, Numbered, Instruction, Directs, Statement, Directive}
 use Rattle.rv_statement.specs.declared.directive.Choice.{Choice}
 use Rattle.rv_statement.specs.declared.directive.Choice.TheVariants.{Push, Pop}
 use Rattle.rv_text_laws.specs.Values.{Open, InSection, Value}
@@ -63,7 +63,7 @@ entered_open o section is_open = go (place_of_name o.sections section.name) refl
     go None e = new (nat_lt (length o.sections) most_sections)
 
 -- the section that a statement enters
-abbrev entered_in : Statement → Option Section
+abbrev entered_in : StatementKind → Option Section
 entered_in (Label name) = None
 entered_in (Numbered number) = None
 entered_in (Instruction mnemonic operands) = None
@@ -107,7 +107,7 @@ directive_opened t k d =
     ∙ chosen_opened named (chosen d) ∙ set_opened entered (assigned_by v k d) ∙ section_opened t (entered_by d)
 
 -- the open sections after a statement
-pub after_opened : (t : Tables) (k : ℕ) (says : Statement) → (after t k says).opened ≡ next_opened t.opened (entered_in says)
+pub after_opened : (t : Tables) (k : ℕ) (says : StatementKind) → (after t k says).opened ≡ next_opened t.opened (entered_in says)
 after_opened t k (Label name) = if_opened (is_defined t k name) t _ t.opened refl refl
 after_opened t k (Numbered number) = refl
 after_opened t k (Instruction mnemonic operands) = refl
@@ -117,18 +117,18 @@ next_open : (o : Opened) (found : Option Section) → IsOpen o → IsOpen (next_
 next_open o None is_open = (is_open, λ j x h. h)
 next_open o (Some section) is_open = entered_open o section is_open
 
-pub after_open : (t : Tables) (k : ℕ) (says : Statement) → IsOpen t.opened → IsOpen (after t k says).opened × Stays t.opened (after t k says).opened
+pub after_open : (t : Tables) (k : ℕ) (says : StatementKind) → IsOpen t.opened → IsOpen (after t k says).opened × Stays t.opened (after t k says).opened
 after_open t k says is_open =
     subst (λ o. IsOpen o × Stays t.opened o) (sym (after_opened t k says)) (next_open t.opened (entered_in says) is_open)
 
-pub stays_all : (t : Tables) (k : ℕ) (ss : List Spoken) → IsOpen t.opened → Stays t.opened (after_all t k ss).opened
+pub stays_all : (t : Tables) (k : ℕ) (ss : List Statement) → IsOpen t.opened → Stays t.opened (after_all t k ss).opened
 stays_all t k [] is_open = λ j x h. h
 stays_all t k (s ∷ ss) is_open =
-    let now = after_open t k s.says is_open in
-    λ j x h. stays_all (after t k s.says) (suc k) ss now.0 j x (now.1 j x h)
+    let now = after_open t k s.kind is_open in
+    λ j x h. stays_all (after t k s.kind) (suc k) ss now.0 j x (now.1 j x h)
 
 -- what stands in a section that is open means the same with the sections that are opened later
-pub stands_same : (t : Tables) (k : ℕ) (ss : List Spoken) (p : SectionOffset) → IsOpen t.opened → p.section < length t.opened.sections → stands (after_all t k ss).opened p ≡ stands t.opened p
+pub stands_same : (t : Tables) (k : ℕ) (ss : List Statement) (p : SectionOffset) → IsOpen t.opened → p.section < length t.opened.sections → stands (after_all t k ss).opened p ≡ stands t.opened p
 stands_same t k ss p is_open inside =
     let at = got t.opened.sections p.section text_section inside in
     let later = stays_all t k ss is_open p.section (section_at t.opened p.section) at in
@@ -205,7 +205,7 @@ in_directive t o d n h =
     in_contribution (with_chosen named (chosen d)) v (contribution d) n
     (in_chosen named (chosen d) n (in_set entered (assigned_by v o d) n (in_section t (entered_by d) n h)))
 
-in_after : (t : Tables) (o : ℕ) (says : Statement) (n : ℕ) → t.opened.current < n → AreIn t n → AreIn (after t o says) n
+in_after : (t : Tables) (o : ℕ) (says : StatementKind) (n : ℕ) → t.opened.current < n → AreIn t n → AreIn (after t o says) n
 in_after t o (Label name) n inside h = in_label t o name n inside h
 in_after t o (Numbered number) n inside h = record { labels = h.labels; numeric_labels = ap (λ b. b && numeric_labels_in n t.numeric_labels) (lt-ltb t.opened.current n inside) ∙ h.numeric_labels }
 in_after t o (Instruction mnemonic operands) n inside h = h
@@ -225,7 +225,7 @@ pub record IsStood (t : Tables) : Type 0 where
   pub opened : IsOpen t.opened
   pub inside : AreIn t (length t.opened.sections)
 
-stood_after : (t : Tables) (o : ℕ) (says : Statement) → IsStood t → IsStood (after t o says)
+stood_after : (t : Tables) (o : ℕ) (says : StatementKind) → IsStood t → IsStood (after t o says)
 stood_after t o says h =
     let now = after_open t o says h.opened in
     record {
@@ -234,9 +234,9 @@ stood_after t o says h =
           (in_after t o says (length t.opened.sections) (open_inside t.opened h.opened) h.inside);
     }
 
-pub stood_all : (t : Tables) (o : ℕ) (ss : List Spoken) → IsStood t → IsStood (after_all t o ss)
+pub stood_all : (t : Tables) (o : ℕ) (ss : List Statement) → IsStood t → IsStood (after_all t o ss)
 stood_all t o [] h = h
-stood_all t o (s ∷ ss) h = stood_all (after t o s.says) (suc o) ss (stood_after t o s.says h)
+stood_all t o (s ∷ ss) h = stood_all (after t o s.kind) (suc o) ss (stood_after t o s.kind h)
 
 pub stood_start : IsStood at_start
 stood_start = record { opened = (text_section, refl); inside = record { labels = refl; numeric_labels = refl } }

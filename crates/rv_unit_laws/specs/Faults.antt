@@ -2,8 +2,9 @@
 -- for what directives take).
 
 use Rattle.std.specs.Prelude.{ℕ, suc, ◌+◌, ◌*◌, ◌^◌, Bool, true, false, not, ◌&&◌, ◌||◌, ◌==◌, nat_lt, nat_le, min, List, [], ◌∷◌, ◌++◌, length, flat_map, Option, Some, None, is_some, if◌then◌else◌}
+use Rattle.rv_text_laws.specs.Codes.{unsupported_here, duplicate_label, not_constant, immediate_range, wrong_section, option_stack, limit}
 use Rattle.rv_text_laws.specs.Values.{Value, Constant, Symbolic, Difference, Faulty}
-use Rattle.rv_statement.specs.Statement.{Statement, Label, Numbered, Instruction, Directs, Spoken, Expression, Directive, Enters, Opens, Sets, Chooses}
+use Rattle.rv_statement.specs.Statement.{StatementKind, Label, Numbered, Instruction, Directs, Statement, Expression, Directive, Enters, Opens, Sets, Chooses}
 use Rattle.rv_statement.specs.declared.directive.Choice.{Choice}
 use Rattle.rv_statement.specs.declared.directive.Choice.TheVariants.{Pop}
 use Rattle.rv_text_laws.specs.Expression.{Here}
@@ -27,41 +28,41 @@ lowest (c ∷ cs) = elim (lowest cs) [
 abbrev pub constant_faults : Value → List ℕ
 constant_faults (Constant n) = []
 constant_faults (Faulty code) = code ∷ []
-constant_faults _ = 13 ∷ []
+constant_faults _ = not_constant ∷ []
 
 -- a size is not negative
 abbrev pub size_faults : Value → List ℕ
-size_faults (Constant n) = faulty_if (not (nat_lt n (2 ^ 63))) 14
+size_faults (Constant n) = faulty_if (not (nat_lt n (2 ^ 63))) immediate_range
 size_faults v = constant_faults v
 
 -- an alignment is a power of two and not too great; as a power of two it is not negative
 abbrev pub power_faults : Value → List ℕ
-power_faults (Constant k) = if nat_lt k (2 ^ 63) then faulty_if (not (nat_lt k 13)) 17 else 14 ∷ []
+power_faults (Constant k) = if nat_lt k (2 ^ 63) then faulty_if (not (nat_lt k 13)) limit else immediate_range ∷ []
 power_faults v = constant_faults v
 
 abbrev pub bytes_faults : Value → List ℕ
-bytes_faults (Constant n) = if is_power n then faulty_if (not (nat_le n greatest_alignment)) 17 else 14 ∷ []
+bytes_faults (Constant n) = if is_power n then faulty_if (not (nat_le n greatest_alignment)) limit else immediate_range ∷ []
 bytes_faults v = constant_faults v
 
 -- a value of data of a width: a symbol alone takes 4 or 8
 abbrev pub value_faults : ℕ → Value → List ℕ
 value_faults width (Constant n) = []
-value_faults width (Symbolic symbol at plus) = faulty_if (nat_lt width 4) 13
+value_faults width (Symbolic symbol at plus) = faulty_if (nat_lt width 4) not_constant
 value_faults width (Difference symbol minus plus) = []
 value_faults width (Faulty code) = code ∷ []
 
 -- an alignment in code beyond 2 has bytes: none can stand in a section without them, and elsewhere they are not built yet
 abbrev pub code_alignment_faults : Bool → Option ℕ → List ℕ
 code_alignment_faults nobits None = []
-code_alignment_faults nobits (Some alignment) = faulty_if (not (nat_le alignment 2)) (if nobits then 15 else 9)
+code_alignment_faults nobits (Some alignment) = faulty_if (not (nat_le alignment 2)) (if nobits then wrong_section else unsupported_here)
 
 -- data at an offset
 abbrev pub past_section : Bool → ℕ → ℕ → List ℕ
-past_section executable offset bytes = faulty_if (not executable && not (nat_le (offset + bytes) longest_section)) 17
+past_section executable offset bytes = faulty_if (not executable && not (nat_le (offset + bytes) longest_section)) limit
 
 abbrev pub zero_faults : Section → ℕ → Value → List ℕ
 zero_faults section offset v =
-    size_faults v ++ (faulty_if section.executable 15
+    size_faults v ++ (faulty_if section.executable wrong_section
     ++ elim (counted v) [
       | None ↦ []
       | Some n ↦ past_section section.executable offset n
@@ -73,18 +74,18 @@ alignment_faults section offset alignment =
 
 -- a second definition of a name of which either is a label or a location; a location stands in no code
 abbrev pub set_faults : Tables → ℕ → Section → List ℕ → Value → List ℕ
-set_faults t ordinal section name (Symbolic Here at plus) = faulty_if (is_defined t ordinal name) 11 ++ faulty_if section.executable 15
-set_faults t ordinal section name v = constant_faults v ++ faulty_if (has_location t ordinal name) 11
+set_faults t ordinal section name (Symbolic Here at plus) = faulty_if (is_defined t ordinal name) duplicate_label ++ faulty_if section.executable wrong_section
+set_faults t ordinal section name v = constant_faults v ++ faulty_if (has_location t ordinal name) duplicate_label
 
 -- one section more than there may be
 abbrev pub section_faults : List Section → Option Section → List ℕ
 section_faults sections None = []
 section_faults sections (Some section) =
-    faulty_if (not (is_some (place_of_name sections section.name)) && not (nat_lt (length sections) most_sections)) 17
+    faulty_if (not (is_some (place_of_name sections section.name)) && not (nat_lt (length sections) most_sections)) limit
 
 abbrev pub choice_faults : ℕ → Choice → List ℕ
-choice_faults kept Pop = faulty_if (kept == 0) 16
-choice_faults kept _ = []
+choice_faults depth Pop = faulty_if (depth == 0) option_stack
+choice_faults depth _ = []
 
 abbrev pub number_faults : AlignmentForm → Value → List ℕ
 number_faults As_power v = power_faults v
@@ -100,7 +101,7 @@ contribution_faults all t ordinal Nothing = []
 contribution_faults all t ordinal (Bytes contents) =
     let section = current_section t.opened in
     contents_faults (λ e. value all true ordinal (here t) e) contents
-    ++ (faulty_if (section.executable || section.nobits) 15 ++ past_section section.executable (here t).offset (contents_size contents))
+    ++ (faulty_if (section.executable || section.nobits) wrong_section ++ past_section section.executable (here t).offset (contents_size contents))
 contribution_faults all t ordinal (Zero_bytes count) =
     zero_faults (current_section t.opened) (here t).offset (value all false ordinal (here t) count)
 contribution_faults all t ordinal (Alignment form number) =
@@ -117,10 +118,10 @@ directive_faults all t ordinal (Chooses choice) = choice_faults t.option_depth c
 directive_faults all t ordinal d = contribution_faults all t ordinal (contribution d)
 
 -- an instruction stands in a section of code that has its bytes in the file
-abbrev pub faults : Tables → Tables → ℕ → Statement → List ℕ
-faults all t ordinal (Label name) = faulty_if (is_defined t ordinal name) 11
+abbrev pub faults : Tables → Tables → ℕ → StatementKind → List ℕ
+faults all t ordinal (Label name) = faulty_if (is_defined t ordinal name) duplicate_label
 faults all t ordinal (Numbered number) = []
-faults all t ordinal (Instruction mnemonic operands) = faulty_if (not (current_section t.opened).executable || (current_section t.opened).nobits) 15
+faults all t ordinal (Instruction mnemonic operands) = faulty_if (not (current_section t.opened).executable || (current_section t.opened).nobits) wrong_section
 faults all t ordinal (Directs directive) = directive_faults all t ordinal directive
 
 -- a fault: its code and its line
@@ -133,11 +134,11 @@ at_line line None others = others
 at_line line (Some code) others = Some (record { code = code; line = line })
 
 -- the first faulty statement, with the lowest code of its faults
-abbrev pub first_fault_from : Tables → Tables → ℕ → List Spoken → Option Fault
+abbrev pub first_fault_from : Tables → Tables → ℕ → List Statement → Option Fault
 first_fault_from all t ordinal [] = None
 first_fault_from all t ordinal (s ∷ ss) =
-    at_line s.line (lowest (faults all t ordinal s.says)) (first_fault_from all (after t ordinal s.says) (suc ordinal) ss)
+    at_line s.line (lowest (faults all t ordinal s.kind)) (first_fault_from all (after t ordinal s.kind) (suc ordinal) ss)
 
 -- the first fault of a source's labels and directives
-abbrev pub first_fault : List Spoken → Option Fault
+abbrev pub first_fault : List Statement → Option Fault
 first_fault ss = first_fault_from (tables ss) at_start 1 ss

@@ -6,8 +6,9 @@ use Rattle.std.specs.List.{find, list_any}
 use Rattle.std.specs.Str.{bytes_eq}
 use Rattle.rv_text_laws.specs.Bytes.{value as digits_value}
 use Rattle.rv_text_laws.specs.Expression.{Primary, Literal, Symbol, Here, Reference}
+use Rattle.rv_text_laws.specs.Codes.{undefined_local, not_constant}
 use Rattle.rv_text_laws.specs.Values.{Meaning, Known, InSection, Open, Refused, Value, Constant, Symbolic, add, value_of}
-use Rattle.rv_statement.specs.Statement.{Statement, Label, Numbered, Instruction, Directs, Spoken, Expression, Directive, Sets, Chooses}
+use Rattle.rv_statement.specs.Statement.{StatementKind, Label, Numbered, Instruction, Directs, Statement, Expression, Directive, Sets, Chooses}
 use Rattle.rv_statement.specs.declared.directive.Choice.{Choice}
 use Rattle.rv_statement.specs.declared.directive.Choice.TheVariants.{Push, Pop}
 use Rattle.rv_unit_laws.specs.Sections.{Section, Opened, at_first, entered, entered_by, section_at, current_section}
@@ -86,7 +87,7 @@ abbrev pub assigned_later : Bool → Option Assignment → Meaning
 assigned_later false found = Open
 assigned_later true None = Open
 assigned_later true (Some s) = elim s.meaning [
-  | Known n ↦ Refused 13
+  | Known n ↦ Refused not_constant
   | InSection section offset ↦ InSection section offset
   | Open ↦ Open
   | Refused code ↦ Refused code
@@ -108,12 +109,12 @@ named t all ordinal name =
 
 -- a numeric reference; where later definitions do not count, one that comes later is no constant
 abbrev pub forward_in : Opened → Bool → Option NumericLabel → Meaning
-forward_in opened all None = Refused 12
-forward_in opened false (Some m) = Refused 13
+forward_in opened all None = Refused undefined_local
+forward_in opened false (Some m) = Refused not_constant
 forward_in opened true (Some m) = stands opened m.place
 
 abbrev pub backward_in : Opened → Option NumericLabel → Meaning
-backward_in opened None = Refused 12
+backward_in opened None = Refused undefined_local
 backward_in opened (Some m) = stands opened m.place
 
 abbrev pub referred : Tables → Bool → ℕ → ℕ → Bool → Meaning
@@ -354,33 +355,33 @@ after_directive t ordinal d =
     with_contribution (with_chosen named (chosen d)) v (contribution d)
 
 -- the tables after a statement of this ordinal; a faulty one defines nothing
-abbrev pub after : Tables → ℕ → Statement → Tables
+abbrev pub after : Tables → ℕ → StatementKind → Tables
 after t ordinal (Label name) = with_label t ordinal name
 after t ordinal (Numbered number) = with_numeric_label t ordinal number
 after t ordinal (Instruction mnemonic operands) = t
 after t ordinal (Directs directive) = after_directive t ordinal directive
 
 -- the tables after statements from an ordinal on
-abbrev pub after_all : Tables → ℕ → List Spoken → Tables
+abbrev pub after_all : Tables → ℕ → List Statement → Tables
 after_all t ordinal [] = t
-after_all t ordinal (s ∷ ss) = after_all (after t ordinal s.says) (suc ordinal) ss
+after_all t ordinal (s ∷ ss) = after_all (after t ordinal s.kind) (suc ordinal) ss
 
 -- the tables of a source
-abbrev pub tables : List Spoken → Tables
+abbrev pub tables : List Statement → Tables
 tables ss = after_all at_start 1 ss
 
 -- whether a statement enters a section
-abbrev pub enters : Statement → Bool
+abbrev pub enters : StatementKind → Bool
 enters (Directs directive) = is_some (entered_by directive)
 enters _ = false
 
 -- where a statement stands: in the section that is current after it
-abbrev pub stood : Tables → ℕ → Statement → SectionOffset
+abbrev pub stood : Tables → ℕ → StatementKind → SectionOffset
 stood t ordinal says = if enters says then here (after t ordinal says) else here t
 
-abbrev pub places_from : Tables → ℕ → List Spoken → List SectionOffset
+abbrev pub places_from : Tables → ℕ → List Statement → List SectionOffset
 places_from t ordinal [] = []
-places_from t ordinal (s ∷ ss) = stood t ordinal s.says ∷ places_from (after t ordinal s.says) (suc ordinal) ss
+places_from t ordinal (s ∷ ss) = stood t ordinal s.kind ∷ places_from (after t ordinal s.kind) (suc ordinal) ss
 
-abbrev pub places : List Spoken → List SectionOffset
+abbrev pub places : List Statement → List SectionOffset
 places ss = places_from at_start 1 ss

@@ -5,7 +5,7 @@ ghost use Rattle.std.specs.List.{list_all};
 ghost use Rattle.rv_text_laws.specs.Bytes.{is_decimal};
 ghost use Rattle.rv_text_laws.specs.Lexing.{is_last};
 ghost use Rattle.rv_lexer.specs.Token.{kind_of};
-ghost use Rattle.rv_statement.specs.View.{now_of, statement_of};
+ghost use Rattle.rv_statement.specs.View.{now_of, statement_kind};
 ghost use Rattle.rv_parse_laws.specs.Syntax.{is_symbol, is_section_name, register_of, symbol_of, label_of, begins, is_comma, is_colon, is_percent, is_at, is_end, is_source_end, is_opening, is_closing, is_zero, is_any, is_wrong, accesses_of, single, A_string, A_type};
 ghost use Rattle.rv_parse_laws.specs.Opening.{is_section};
 ghost use Rattle.rv_parse_laws.specs.Parsing.{width};
@@ -108,7 +108,7 @@ fn is_decimal(word: &[u8]) -> bool
 
 /// The label that the token is before a colon.
 pub fn label_of(kind: TokenKind<'_>) -> Option<StatementKind<'_>>
-    ensures { option_map statement_of result ≡ label_of (kind_of kind.entry) }
+    ensures { option_map statement_kind result ≡ label_of (kind_of kind.entry) }
 {
     match kind {
         TokenKind::Name(name) if is_symbol(name) => Some(StatementKind::Label(name)),

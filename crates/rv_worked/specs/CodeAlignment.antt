@@ -6,12 +6,12 @@
 --     ecall
 
 use Rattle.std.specs.Prelude.{List, [], ◌∷◌, Some, None, codes}
-use Rattle.rv_statement.specs.Statement.{Directs, Spoken, Opens, Aligns_to_power}
+use Rattle.rv_statement.specs.Statement.{Directs, Statement, Opens, Aligns_to_power}
 use Rattle.rv_map.specs.Map.{Map}
 use Rattle.rv_worked.specs.Exit7.{said, constant, row, region, exit7_map}
 use Rattle.rv_worked.specs.Data.{call}
 
-abbrev pub two_sections : List Spoken
+abbrev pub two_sections : List Statement
 two_sections =
     said 1 call
     ∷ said 2 (Directs (Opens (codes ".text.b") (Some (codes "ax")) None))

@@ -8,11 +8,11 @@ use Rattle.rv_text_laws.specs.Expression.{Symbol, Here, Reference, Leaf, Unary, 
 use Rattle.rv_statement.specs.declared.directive.Standard.TheVariants.{Data, Bss}
 use Rattle.rv_statement.specs.declared.mnemonic.Mnemonic.TheVariants.{Upper, Ecall}
 use Rattle.rv_isa.specs.declared.operation.UpperOperation.TheVariants.{Lui}
-use Rattle.rv_statement.specs.Statement.{Statement, Label, Numbered, Instruction, Directs, Spoken, Expression, Register, Value, Enters, Opens, Globl, Local, Sets, Aligns_to_power, Aligns_to_bytes, Values, Strings, Zeros}
+use Rattle.rv_statement.specs.Statement.{StatementKind, Label, Numbered, Instruction, Directs, Statement, Expression, Register, Value, Enters, Opens, Globl, Local, Sets, Aligns_to_power, Aligns_to_bytes, Values, Strings, Zeros}
 use Rattle.rv_map.specs.Map.{Map}
 use Rattle.rv_worked.specs.Exit7.{said, constant, norvc, globl, load, row, region, global}
 
-abbrev pub call : Statement
+abbrev pub call : StatementKind
 call = Instruction Ecall []
 
 abbrev pub symbol : List ℕ → Expression
@@ -34,7 +34,7 @@ symbol name = Leaf (Symbol name)
 --     .section .rodata
 --     msg:
 --     .ascii "hello"
-abbrev pub hello : List Spoken
+abbrev pub hello : List Statement
 hello =
     said 1 norvc
     ∷ said 2 (globl (codes "_start"))
@@ -118,7 +118,7 @@ says_hello = record { console = codes "hello"; «end» = Exited 0 }
 --     room:
 --     .zero limit
 --     .local table
-abbrev pub figures : List Spoken
+abbrev pub figures : List Statement
 figures =
     said 1 (Directs (Globl (codes "_start" ∷ codes "limit" ∷ codes "table" ∷ [])))
     ∷ said 2 (Label (codes "_start"))
@@ -194,7 +194,7 @@ figures_data =
 --     .align 2
 --     b:
 --     .word b - a, 5 % 3 << 2
-abbrev pub differences : List Spoken
+abbrev pub differences : List Statement
 differences =
     said 1 norvc
     ∷ said 2 (globl (codes "_start"))

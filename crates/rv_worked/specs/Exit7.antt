@@ -13,30 +13,30 @@ use Rattle.rv_text_laws.specs.Expression.{Literal, Leaf, Unary}
 use Rattle.rv_statement.specs.declared.directive.Choice.TheVariants.{Norvc}
 use Rattle.rv_statement.specs.declared.mnemonic.Mnemonic.TheVariants.{Immediate, Ecall, Li}
 use Rattle.rv_isa.specs.declared.operation.ImmediateOperation.TheVariants.{Addi}
-use Rattle.rv_statement.specs.Statement.{Statement, Label, Instruction, Directs, Spoken, Expression, Register, Value, Globl, Chooses}
+use Rattle.rv_statement.specs.Statement.{StatementKind, Label, Instruction, Directs, Statement, Expression, Register, Value, Globl, Chooses}
 use Rattle.rv_map.specs.Map.{Map, Global}
 use Rattle.rv_map.specs.declared.map.Row.{Row}
 use Rattle.rv_map.specs.declared.map.Region.{Region}
 
-abbrev pub said : ℕ → Statement → Spoken
-said line says = record { line = line; says = says }
+abbrev pub said : ℕ → StatementKind → Statement
+said line says = record { line = line; kind = says }
 
 abbrev pub constant : ℕ → Expression
 constant k = Leaf (Literal k)
 
 -- `.option norvc`
-abbrev pub norvc : Statement
+abbrev pub norvc : StatementKind
 norvc = Directs (Chooses Norvc)
 
 -- `.globl name`
-abbrev pub globl : List ℕ → Statement
+abbrev pub globl : List ℕ → StatementKind
 globl name = Directs (Globl (name ∷ []))
 
 -- `li rd, k`
-abbrev pub load : ℕ → ℕ → Statement
+abbrev pub load : ℕ → ℕ → StatementKind
 load rd k = Instruction Li (Register rd ∷ Value (constant k) ∷ [])
 
-abbrev pub exit7 : List Spoken
+abbrev pub exit7 : List Statement
 exit7 =
     said 1 norvc
     ∷ said 2 (globl (codes "_start"))
@@ -79,7 +79,7 @@ exit7_map = record {
 }
 
 -- the same with `addi a0, a0, -8` before `li a7, 93`
-abbrev pub exit255 : List Spoken
+abbrev pub exit255 : List Statement
 exit255 =
     said 1 norvc
     ∷ said 2 (globl (codes "_start"))
@@ -112,7 +112,7 @@ abbrev pub exits : ℕ → Outcome
 exits code = record { console = []; «end» = Exited code }
 
 -- the two lines that end it in a file of their own: the run goes on from the one file to the next
-abbrev pub first_file : List Spoken
+abbrev pub first_file : List Statement
 first_file =
     said 1 norvc
     ∷ said 2 (globl (codes "_start"))
@@ -120,7 +120,7 @@ first_file =
     ∷ said 3 (load 10 7)
     ∷ []
 
-abbrev pub second_file : List Spoken
+abbrev pub second_file : List Statement
 second_file =
     said 1 norvc
     ∷ said 2 (load 17 93)

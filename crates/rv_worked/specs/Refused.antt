@@ -12,7 +12,7 @@ use Rattle.rv_isa.specs.declared.operation.ImmediateOperation.TheVariants.{Addi}
 use Rattle.rv_isa.specs.declared.operation.ShiftOperation.TheVariants.{Slli}
 use Rattle.rv_isa.specs.declared.operation.UpperOperation.TheVariants.{Lui}
 use Rattle.rv_isa.specs.declared.operation.LoadOperation.TheVariants.{Ld}
-use Rattle.rv_statement.specs.Statement.{Statement, Label, Instruction, Directs, Spoken, Expression, Register, Value, Enters, Opens, Values, Chooses}
+use Rattle.rv_statement.specs.Statement.{StatementKind, Label, Instruction, Directs, Statement, Expression, Register, Value, Enters, Opens, Values, Chooses}
 use Rattle.rv_unit_laws.specs.Faults.{Fault}
 use Rattle.rv_map.specs.Map.{Map}
 use Rattle.rv_worked.specs.Exit7.{said, constant, norvc, globl, row, region, global}
@@ -23,35 +23,35 @@ abbrev pub fault : ℕ → ℕ → Option Fault
 fault code line = Some (record { code = code; line = line })
 
 -- one instruction at line 2, where compressed code is off
-abbrev pub alone : Statement → List Spoken
+abbrev pub alone : StatementKind → List Statement
 alone s = said 1 norvc ∷ said 2 s ∷ []
 
 -- `addi a0, a0, e`
-abbrev pub adds : Expression → Statement
+abbrev pub adds : Expression → StatementKind
 adds e = Instruction (Immediate Addi) (Register 10 ∷ Register 10 ∷ Value e ∷ [])
 
 abbrev pub minus : ℕ → Expression
 minus k = Unary Negate (constant k)
 
 -- `slli a0, a0, k` and `sllw a0, a0, k`
-abbrev pub shifts : ℕ → Statement
+abbrev pub shifts : ℕ → StatementKind
 shifts k = Instruction (Shift Slli) (Register 10 ∷ Register 10 ∷ Value (constant k) ∷ [])
 
-abbrev pub shifts_word : ℕ → Statement
+abbrev pub shifts_word : ℕ → StatementKind
 shifts_word k = Instruction (Registers Sllw) (Register 10 ∷ Register 10 ∷ Value (constant k) ∷ [])
 
 -- `and a0, a0, e`, `lui a0, e` and `ld a0, e(a1)`
-abbrev pub ands : Expression → Statement
+abbrev pub ands : Expression → StatementKind
 ands e = Instruction (Registers And) (Register 10 ∷ Register 10 ∷ Value e ∷ [])
 
-abbrev pub uppers : Expression → Statement
+abbrev pub uppers : Expression → StatementKind
 uppers e = Instruction (Upper Lui) (Register 10 ∷ Value e ∷ [])
 
-abbrev pub loads : Expression → Statement
+abbrev pub loads : Expression → StatementKind
 loads e = Instruction (Load Ld) (Register 10 ∷ Value e ∷ Register 11 ∷ [])
 
 -- compressed code is off at line 3, and on again at line 5
-abbrev pub options : List Spoken
+abbrev pub options : List Statement
 options =
     said 1 (Directs (Chooses Push))
     ∷ said 2 (Directs (Chooses Norvc))
@@ -61,7 +61,7 @@ options =
     ∷ []
 
 -- a division by zero stands before a number out of range
-abbrev pub two_faults : List Spoken
+abbrev pub two_faults : List Statement
 two_faults =
     said 1 norvc
     ∷ said 2 (adds (Binary Divide (constant 1) (constant 0)))
@@ -69,7 +69,7 @@ two_faults =
     ∷ []
 
 -- the faults of labels and directives come before those of instructions
-abbrev pub directive_later : List Spoken
+abbrev pub directive_later : List Statement
 directive_later =
     said 1 norvc
     ∷ said 2 (adds (constant 2048))
@@ -78,7 +78,7 @@ directive_later =
     ∷ []
 
 -- the data name `late` in the first section of data, and before it in the source `early` in the second one
-abbrev pub unknown_names : List Spoken
+abbrev pub unknown_names : List Statement
 unknown_names =
     said 1 norvc
     ∷ said 2 (Directs (Enters Data))
@@ -90,7 +90,7 @@ unknown_names =
     ∷ []
 
 -- a place in a section that is not loaded has no address, but its distance to another one there is known
-abbrev pub unloaded_place : List Spoken
+abbrev pub unloaded_place : List Statement
 unloaded_place =
     said 1 (Directs (Opens (codes "notes") None None))
     ∷ said 2 (Label (codes "n"))
@@ -102,7 +102,7 @@ unloaded_place =
     ∷ []
 
 -- a global constant, and a label of data, are no entry
-abbrev pub no_entry : List Spoken
+abbrev pub no_entry : List Statement
 no_entry =
     said 1 (globl (codes "_start"))
     ∷ said 2 (Directs (Enters Data))
@@ -110,7 +110,7 @@ no_entry =
     ∷ []
 
 -- a place plus a number, in four bytes
-abbrev pub wide : ℕ → List Spoken
+abbrev pub wide : ℕ → List Statement
 wide k =
     said 1 norvc
     ∷ said 2 (globl (codes "_start"))

@@ -1,7 +1,7 @@
 -- What the regions hold of one worked source at its map.
 
 use Rattle.std.specs.Prelude.{ℕ, List, [], ◌∷◌}
-use Rattle.rv_statement.specs.Statement.{Spoken}
+use Rattle.rv_statement.specs.Statement.{Statement}
 use Rattle.rv_unit_laws.specs.Sections.{goes_to_text, goes_to_rodata, goes_to_data}
 use Rattle.rv_map.specs.Map.{Map}
 use Rattle.rv_source_laws.specs.Program.{program}
@@ -9,17 +9,17 @@ use Rattle.rv_source_laws.specs.Start.{spelled}
 use Rattle.rv_source_laws.specs.Fits.{InputSection, input_sections}
 use Rattle.rv_chain_laws.specs.Contents.{contents, code_bytes}
 
-abbrev pub text_sections : List Spoken → Map → List InputSection
+abbrev pub text_sections : List Statement → Map → List InputSection
 text_sections source m = input_sections goes_to_text (source ∷ []) m
 
 -- the bytes of the text, of the constants and of the variables
-abbrev pub text_bytes : List Spoken → Map → List ℕ
+abbrev pub text_bytes : List Statement → Map → List ℕ
 text_bytes source m = contents (code_bytes (program (source ∷ []) m)) m.text.start (text_sections source m)
 
-abbrev pub rodata_bytes : List Spoken → Map → List ℕ
+abbrev pub rodata_bytes : List Statement → Map → List ℕ
 rodata_bytes source m =
     contents (spelled (program (source ∷ []) m)) m.rodata.start (input_sections goes_to_rodata (source ∷ []) m)
 
-abbrev pub data_bytes : List Spoken → Map → List ℕ
+abbrev pub data_bytes : List Statement → Map → List ℕ
 data_bytes source m =
     contents (spelled (program (source ∷ []) m)) m.data.start (input_sections goes_to_data (source ∷ []) m)

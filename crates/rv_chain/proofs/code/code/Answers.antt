@@ -3,7 +3,7 @@ use Rattle.std.specs.Prelude.{slice_index_or, ℕ, IfOk}
 use Rattle.std.specs.Global.{Vec}
 use Rattle.std.proofs.lemmas.Result.{err_from_is_err_and}
 use Rattle.std.proofs.lemmas.List.{length-map}
-use Rattle.rv_statement.specs.View.{said_by}
+use Rattle.rv_statement.specs.View.{statement_of}
 use Rattle.rv_tables.specs.declared.section_offset.SectionOffset.{SectionOffset}
 use Rattle.rv_unit.specs.Unit.{said, IsFilled}
 use Rattle.rv_tables.specs.Sections.{extent_section, offset_of}
@@ -32,7 +32,7 @@ put_code-requires c =
     let inside = subst (λ l. i < length l) c.statements-statements.ensures c.loop-index-test.true in
     let is : x ≡ get_or u.statements.items i x = c.index-statements-index.is ∙ ap (λ l. get_or l i x) c.statements-statements.ensures in
     let at : StandsAt u i x p = stands_at u i x x (record { section = 0; offset = 0 }) p c.requires inside is (ap (λ l. get_or l i (record { section = 0; offset = 0 })) c.places-places.ensures) in
-    let stands = got_inside (map extent_section u.tables.extents.items) p.section (located_at (said u) i (said_by x)).home at.home in
+    let stands = got_inside (map extent_section u.tables.extents.items) p.section (located_at (said u) i (statement_of x)).home at.home in
     subst (λ n. p.section < n) (length-map u.tables.extents.items extent_section ∙ sym c.loop-index.invariant.3) stands
 
 pub loop-index-preserved : goal.loop-index-preserved
@@ -46,10 +46,10 @@ loop-index-preserved c =
     let at : StandsAt u i x p = stands_at u i x x (record { section = 0; offset = 0 }) p c.requires inside is (ap (λ l. get_or l i (record { section = 0; offset = 0 })) c.places-places.ensures) in
     let same = c.loop-index.invariant.0 in
     let filled = subst IsFilled (sym same) c.requires in
-    let added : IsAdded c.loop-index.coder c.put_code.new.coder p.section (λ e. value_of (tables (said u)) true (i + 1) (offset_of p) e) (said_by x) =
-    subst (λ w. IsAdded c.loop-index.coder c.put_code.new.coder p.section (λ e. value_of (tables (said w)) true (i + 1) (offset_of p) e) (said_by x)) same
+    let added : IsAdded c.loop-index.coder c.put_code.new.coder p.section (λ e. value_of (tables (said u)) true (i + 1) (offset_of p) e) (statement_of x) =
+    subst (λ w. IsAdded c.loop-index.coder c.put_code.new.coder p.section (λ e. value_of (tables (said w)) true (i + 1) (offset_of p) e) (statement_of x)) same
     (c.in_ok-put_code.ensures i filled c.loop-index.invariant.1) in
-    let within = subst (λ n. i < n) (sym (length-map u.statements.items said_by)) inside in
+    let within = subst (λ n. i < n) (sym (length-map u.statements.items statement_of)) inside in
     let within' = subst (λ w. i < length (said w)) (sym same) within in (
       ap (λ b. b.now) c.pass.ensures.unit ∙ same,
       c.pass.ensures.passes i within' c.loop-index.invariant.1,
@@ -69,7 +69,7 @@ returns-in_err-put_code-clause-code c =
     let at : StandsAt u i x p = stands_at u i x x (record { section = 0; offset = 0 }) p c.requires inside is (ap (λ l. get_or l i (record { section = 0; offset = 0 })) c.places-places.ensures) in
     let same = c.loop-index.invariant.0 in
     let filled = subst IsFilled (sym same) c.requires in
-    let wrong = subst (λ w. Adds c.loop-index.coder c.put_code.new.coder p.section (λ e. value_of (tables (said w)) true (i + 1) (offset_of p) e) (said_by x) (Err c.in_err-put_code.field-0.0)) same
+    let wrong = subst (λ w. Adds c.loop-index.coder c.put_code.new.coder p.section (λ e. value_of (tables (said w)) true (i + 1) (offset_of p) e) (statement_of x) (Err c.in_err-put_code.field-0.0)) same
     (c.in_err-put_code.ensures i filled c.loop-index.invariant.1) in
     let found = err_from_is_err_and c.from_residual-in_err-put_code.result c.from_residual-in_err-put_code.ensures.1 in
     rw (found.1, found.2)
@@ -80,14 +80,14 @@ returns-clause-code c =
     let u = c.args.unit.now in
     let i = c.loop-index.index in
     let past = subst (λ l. length l ≤ i) c.statements-statements.ensures c.loop-index-test.false in
-    code_whole (said u) i c.loop-index.coder c.finish.result (stated_none (said u) i (subst (λ n. n ≤ i) (sym (length-map u.statements.items said_by)) past)) c.loop-index.invariant.2 c.finish.ensures.code
+    code_whole (said u) i c.loop-index.coder c.finish.result (stated_none (said u) i (subst (λ n. n ≤ i) (sym (length-map u.statements.items statement_of)) past)) c.loop-index.invariant.2 c.finish.ensures.code
 
 pub returns-clause-coded : goal.returns-clause-coded
 returns-clause-coded c =
     let u = c.args.unit.now in
     let i = c.loop-index.index in
     let past = subst (λ l. length l ≤ i) c.statements-statements.ensures c.loop-index-test.false in
-    coded_whole (said u) i c.finish.result (stated_none (said u) i (subst (λ n. n ≤ i) (sym (length-map u.statements.items said_by)) past)) c.loop-index.invariant.4
+    coded_whole (said u) i c.finish.result (stated_none (said u) i (subst (λ n. n ≤ i) (sym (length-map u.statements.items statement_of)) past)) c.loop-index.invariant.4
 
 pub returns-clause-count : goal.returns-clause-count
 returns-clause-count c = subst (λ n. IfOk c.finish.result (λ (sections : Vec (Vec ℕ)). length sections.items ≡ n)) c.loop-index.invariant.3 c.finish.ensures.count

@@ -1,7 +1,7 @@
 use Rattle.std.proofs.Common.{◌≡◌, ◌+◌, ◌<◌, ◌≤◌, ◌&&◌, Bool, true, false, ℕ, length, get_or, sym, ap, subst, ◌∙◌}
 use Rattle.std.specs.Prelude.{slice_index_or}
 use Rattle.std.proofs.lemmas.List.{length-map}
-use Rattle.rv_statement.specs.View.{said_by, statement_of}
+use Rattle.rv_statement.specs.View.{statement_of, statement_kind}
 use Rattle.rv_unit_laws.specs.Sections.{Section}
 use Rattle.rv_tables.specs.declared.section_offset.SectionOffset.{SectionOffset}
 use Rattle.rv_unit.specs.Unit.{said}
@@ -45,8 +45,8 @@ returns-then-is_compressed c =
     let e = c.extent_at-extent.result in
     let there : IsExtentAt u.tables.extents.items p.section e = subst (λ l. IsExtentAt l p.section e) c.sections-extents.ensures c.extent_at-extent.ensures in
     let o = options_of c.loop-index.choices in
-    decided (said u) i (located_at (said u) i (said_by x)) o at.next c.loop-index.invariant
-    (sym c.if-is_compressed.true ∙ c.is_compressed.ensures ∙ ap (λ b. o.rvc && b) (code_as e.section.executable x.kind) ∙ ap (λ (h : Section). o.rvc && is_code h.executable (statement_of x.kind)) (home_at u i x p e at there))
+    decided (said u) i (located_at (said u) i (statement_of x)) o at.next c.loop-index.invariant
+    (sym c.if-is_compressed.true ∙ c.is_compressed.ensures ∙ ap (λ b. o.rvc && b) (code_as e.section.executable x.kind) ∙ ap (λ (h : Section). o.rvc && is_code h.executable (statement_kind x.kind)) (home_at u i x p e at there))
 
 pub loop-index-preserved : goal.loop-index-preserved
 loop-index-preserved c =
@@ -60,12 +60,12 @@ loop-index-preserved c =
     let e = c.extent_at-extent.result in
     let there : IsExtentAt u.tables.extents.items p.section e = subst (λ l. IsExtentAt l p.section e) c.sections-extents.ensures c.extent_at-extent.ensures in
     let o = options_of c.loop-index.choices in
-    left_to_others (said u) i (located_at (said u) i (said_by x)) o at.next c.loop-index.invariant (options_of c.follow.new.self) c.in_ok-follow.ensures
-    (sym c.if-is_compressed.false ∙ c.is_compressed.ensures ∙ ap (λ b. o.rvc && b) (code_as e.section.executable x.kind) ∙ ap (λ (h : Section). o.rvc && is_code h.executable (statement_of x.kind)) (home_at u i x p e at there))
+    left_to_others (said u) i (located_at (said u) i (statement_of x)) o at.next c.loop-index.invariant (options_of c.follow.new.self) c.in_ok-follow.ensures
+    (sym c.if-is_compressed.false ∙ c.is_compressed.ensures ∙ ap (λ b. o.rvc && b) (code_as e.section.executable x.kind) ∙ ap (λ (h : Section). o.rvc && is_code h.executable (statement_kind x.kind)) (home_at u i x p e at there))
 
 pub returns : goal.returns
 returns c =
     let u = c.args.unit.now in
     let i = c.loop-index.index in
     let past = subst (λ l. length l ≤ i) c.statements-statements.ensures c.loop-index-test.false in
-    none_decides (said u) i (options_of c.loop-index.choices) (stated_none (said u) i (subst (λ n. n ≤ i) (sym (length-map u.statements.items said_by)) past)) c.loop-index.invariant
+    none_decides (said u) i (options_of c.loop-index.choices) (stated_none (said u) i (subst (λ n. n ≤ i) (sym (length-map u.statements.items statement_of)) past)) c.loop-index.invariant

@@ -1,6 +1,6 @@
 use Rattle.std.proofs.Common.{◌≡◌, ◌+◌, ◌<◌, ◌≤◌, ◌++◌, take, drop, sym, ap, subst, length, ◌∙◌}
 use Rattle.std.proofs.lemmas.List.{at_drop_all, length-map}
-use Rattle.rv_statement.specs.View.{said_by}
+use Rattle.rv_statement.specs.View.{statement_of}
 use Rattle.rv_unit_laws.specs.Tables.{Tables}
 use Rattle.rv_unit.specs.Unit.{said}
 use Rattle.rv_tables.specs.Sections.{extent_section}
@@ -26,7 +26,7 @@ loop-index-preserved c =
     let i = c.loop-index.index in
     let same = c.loop-index.invariant.0 in
     let inside : i < length u.statements.items = subst (λ l. i < length l) c.statements-index-end.ensures c.loop-index-test.true in
-    let within = subst (λ n. i < n) (sym (length-map u.statements.items said_by)) inside in
+    let within = subst (λ n. i < n) (sym (length-map u.statements.items statement_of)) inside in
     let within' = subst (λ w. i < length (said w)) (sym same) within in
     let old = c.loop-index.sections.items in
     let new = c.put_next.new.sections in
@@ -46,6 +46,6 @@ returns c = λ globals names.
     let u = c.args.unit.now in
     let i = c.loop-index.index in
     let past = subst (λ l. length l ≤ i) c.statements-index-end.ensures c.loop-index-test.false in
-    let past' = subst (λ n. n ≤ i) (sym (length-map u.statements.items said_by)) past in
+    let past' = subst (λ n. n ≤ i) (sym (length-map u.statements.items statement_of)) past in
     let count = c.loop-index.invariant.3 ∙ sym (length-map u.tables.extents.items extent_section) ∙ ap (λ (t : Tables). length t.opened.sections) c.requires.filled.tables in
     data_all (said u) c.args.starts.now c.args.items.now globals i c.loop-index.sections.items (at_drop_all (λ l. l) (said u) i past') count (c.loop-index.invariant.2 globals names)

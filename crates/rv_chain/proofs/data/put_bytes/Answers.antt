@@ -1,6 +1,6 @@
 use Rattle.std.proofs.Common.{◌++◌, ◌∙◌, sym, ap, subst}
 use Rattle.std.proofs.lemmas.Result.{on_ok_weaker}
-use Rattle.rv_statement.specs.View.{statement_of}
+use Rattle.rv_statement.specs.View.{statement_kind}
 use Rattle.rv_source_laws.specs.Start.{spelled_said}
 use Rattle.rv_link.specs.Numbers.{Counts}
 use Rattle.rv_chain.specs.Code.{bytes_in}
@@ -12,7 +12,7 @@ returns-clause-spells c =
     let old = c.args.sections.now in
     let k = c.args.section in
     let x = c.index-sections-section.result in
-    let says = statement_of c.args.kind.now in
+    let says = statement_kind c.args.kind.now in
     on_ok_weaker c.put_data.result
     (λ told v gives counts.
     let counts' : Counts v says c.from.result = subst (λ n. Counts v says n) (sym c.from.ensures) counts in

@@ -2,7 +2,7 @@ use Rattle.std.proofs.Common.{◌≡◌, ◌<◌, length, map, get_or, sym, ap, 
 use Rattle.std.specs.Prelude.{slice_index_or, slice_get}
 use Rattle.std.proofs.lemmas.List.{drop_more, length-map}
 use Rattle.std.proofs.lemmas.Result.{on_ok_weaker}
-use Rattle.rv_statement.specs.View.{said_by}
+use Rattle.rv_statement.specs.View.{statement_of}
 use Rattle.rv_tables.specs.declared.section_offset.SectionOffset.{SectionOffset}
 use Rattle.rv_unit.specs.Unit.{said, IsFilled}
 use Rattle.rv_tables.specs.Sections.{extent_section}
@@ -30,7 +30,7 @@ bounds-sections-place c =
     let p : SectionOffset = slice_index_or c.places.result.now i (record { section = 0; offset = 0 }) in
     let is : x ≡ get_or u.statements.items i x = c.index-statements-index.is ∙ ap (λ l. get_or l i x) c.statements.ensures in
     let at : StandsAt u i x p = stands_at u i x x (record { section = 0; offset = 0 }) p c.requires.filled c.requires.within is (ap (λ l. get_or l i (record { section = 0; offset = 0 })) c.places.ensures) in
-    let stands = got_inside (map extent_section u.tables.extents.items) p.section (located_at (said u) i (said_by x)).home at.home in
+    let stands = got_inside (map extent_section u.tables.extents.items) p.section (located_at (said u) i (statement_of x)).home at.home in
     subst (λ n. p.section < n) (length-map u.tables.extents.items extent_section ∙ sym (ap length c.sections.ensures)) stands
 
 pub put_figure-requires : goal.put_figure-requires
@@ -41,7 +41,7 @@ put_figure-requires c =
     let p : SectionOffset = slice_index_or c.places.result.now i (record { section = 0; offset = 0 }) in
     let is : x ≡ get_or u.statements.items i x = c.index-statements-index.is ∙ ap (λ l. get_or l i x) c.statements.ensures in
     let at : StandsAt u i x p = stands_at u i x x (record { section = 0; offset = 0 }) p c.requires.filled c.requires.within is (ap (λ l. get_or l i (record { section = 0; offset = 0 })) c.places.ensures) in
-    let stands = got_inside (map extent_section u.tables.extents.items) p.section (located_at (said u) i (said_by x)).home at.home in
+    let stands = got_inside (map extent_section u.tables.extents.items) p.section (located_at (said u) i (statement_of x)).home at.home in
     record { section = subst (λ n. p.section < n) (length-map u.tables.extents.items extent_section ∙ sym c.requires.each) stands }
 
 pub returns-clause-data : goal.returns-clause-data
@@ -55,14 +55,14 @@ returns-clause-data c =
     let item : Item = slice_index_or c.args.items.now i none in
     let is : x ≡ get_or u.statements.items i x = c.index-statements-index.is ∙ ap (λ l. get_or l i x) c.statements.ensures in
     let at : StandsAt u i x p = stands_at u i x x (record { section = 0; offset = 0 }) p c.requires.filled c.requires.within is (ap (λ l. get_or l i (record { section = 0; offset = 0 })) c.places.ensures) in
-    let st = located_at ss i (said_by x) in
+    let st = located_at ss i (statement_of x) in
     let tables_are = c.requires.filled.tables in
     let home : slice_get (tables ss).opened.sections st.section ≡ Some st.home =
     ap (λ (q : Standing). slice_get (tables ss).opened.sections q.section) (sym at.place) ∙ ap (λ (t : Tables). slice_get t.opened.sections p.section) (sym tables_are) ∙ at.home in
     let here : slice_get (map extent_section c.sections.result.now) p.section ≡ Some st.home = ap (λ l. slice_get (map extent_section l) p.section) c.sections.ensures ∙ at.home in
     on_ok_weaker c.put_figure.result
     (λ told globals same scope good names so_far.
-    data_more ss c.args.starts.now c.args.items.now globals i (said_by x) item _ c.args.sections.now c.put_figure.new.sections good
+    data_more ss c.args.starts.now c.args.items.now globals i (statement_of x) item _ c.args.sections.now c.put_figure.new.sections good
     (record {
       filled = subst IsFilled (sym same) c.requires.filled;
       scope = scope;

@@ -1,7 +1,7 @@
 use Rattle.std.proofs.Common.{◌≡◌, ◌+◌, ◌<◌, ◌≤◌, ◌^◌, ℕ, ◌∷◌, [], true, length, get_or, sym, ap, subst, ◌∙◌, arith, length-append}
 use Rattle.std.specs.Prelude.{slice_index, slice_index_or, ◌&&◌}
 use Rattle.std.proofs.lemmas.List.{length-map, length-set, at_drop_all}
-use Rattle.rv_statement.specs.View.{said_by, statement_of}
+use Rattle.rv_statement.specs.View.{statement_of, statement_kind}
 use Rattle.rv_tables.specs.declared.section_offset.SectionOffset.{SectionOffset}
 use Rattle.rv_unit.specs.Unit.{said, passed, IsFilled}
 use Rattle.rv_tables.specs.Sections.{offset_of}
@@ -100,13 +100,13 @@ returns-in_err-item-clause-refuses c =
     let there : IsExtentAt u.tables.extents.items p.section e = subst (λ l. IsExtentAt l p.section e) c.sections-extents.ensures c.extent_at-extent.ensures in
     let offset : slice_index ends p.section ≡ c.end-offset.result = sym (c.end-offset.ensures ∙ ap (λ l. slice_index l p.section) c.as_slice.ensures.value) in
     err_always c.from_residual-in_err-item.result (λ y good sizes.
-    absurd (c.in_err-item.ensures.refuses i filled inv.scope (subst (λ w. offset_of p ≡ stood (passed (said w) i) (i + 1) (statement_of x.kind)) (sym same) at.place)
+    absurd (c.in_err-item.ensures.refuses i filled inv.scope (subst (λ w. offset_of p ≡ stood (passed (said w) i) (i + 1) (statement_kind x.kind)) (sym same) at.place)
     (subst
-    (λ w. is_placed (passed (said w) i) (i + 1) (statement_of x.kind) ≡ true → e.section.loaded ≡ true → HasRoom (λ t. value_of (tables (said w)) true (i + 1) (offset_of p) t) e.section.executable e.alignment c.end-offset.result (statement_of x.kind))
+    (λ w. is_placed (passed (said w) i) (i + 1) (statement_kind x.kind) ≡ true → e.section.loaded ≡ true → HasRoom (λ t. value_of (tables (said w)) true (i + 1) (offset_of p) t) e.section.executable e.alignment c.end-offset.result (statement_kind x.kind))
     (sym same)
     (λ placed loaded.
-    subst (λ n. HasRoom (λ t. value_of (tables ss) true (i + 1) (offset_of p) t) e.section.executable e.alignment n (statement_of x.kind)) offset
-    (room_at u i x p e before _ c.requires at there (roomy_now ss i (said_by x) at.here good before inv.low (inv.room good sizes) placed))))))
+    subst (λ n. HasRoom (λ t. value_of (tables ss) true (i + 1) (offset_of p) t) e.section.executable e.alignment n (statement_kind x.kind)) offset
+    (room_at u i x p e before _ c.requires at there (roomy_now ss i (statement_of x) at.here good before inv.low (inv.room good sizes) placed))))))
 
 pub loop-index-preserved : goal.loop-index-preserved
 loop-index-preserved c =
@@ -124,7 +124,7 @@ loop-index-preserved c =
     let at : StandsAt u i x p = stands_at u i x x (record { section = 0; offset = 0 }) p c.requires inside is (ap (λ l. get_or l i (record { section = 0; offset = 0 })) c.places-places.ensures) in
     let same = inv.unit in
     let filled = subst IsFilled (sym same) c.requires in
-    let within = subst (λ w. i < length (said w)) (sym same) (subst (λ n. i < n) (sym (length-map u.statements.items said_by)) inside) in
+    let within = subst (λ w. i < length (said w)) (sym same) (subst (λ n. i < n) (sym (length-map u.statements.items statement_of)) inside) in
     let e = c.extent_at-extent.result in
     let there : IsExtentAt u.tables.extents.items p.section e = subst (λ l. IsExtentAt l p.section e) c.sections-extents.ensures c.extent_at-extent.ensures in
     let y = c.in_ok-item.item in
@@ -132,12 +132,12 @@ loop-index-preserved c =
     let section : y.section ≡ p.section = told.section in
     let offset : y.offset ≡ slice_index ends p.section = told.offset ∙ c.end-offset.ensures ∙ ap (λ l. slice_index l p.section) c.as_slice.ensures.value in
     let room : y.section < length ends = subst (λ n. n < length ends) (sym section) (subst (λ n. p.section < n) (sym inv.sections) (stands_inside u i x p at)) in
-    let shown : y.shown ≡ (is_placed (passed ss i) (i + 1) (statement_of x.kind) && e.section.loaded) =
-    subst (λ w. y.shown ≡ (is_placed (passed (said w) i) (i + 1) (statement_of x.kind) && e.section.loaded)) same (told.shown i filled inv.scope (subst (λ w. offset_of p ≡ stood (passed (said w) i) (i + 1) (statement_of x.kind)) (sym same) at.place)) in
-    let one : IsItem (located_at ss i (said_by x)) before y = item_at u i x p e before y at there section offset told.line told.text shown told.absent in
-    let sized : IsSizedAt (tables ss) ss i (said_by x) y =
+    let shown : y.shown ≡ (is_placed (passed ss i) (i + 1) (statement_kind x.kind) && e.section.loaded) =
+    subst (λ w. y.shown ≡ (is_placed (passed (said w) i) (i + 1) (statement_kind x.kind) && e.section.loaded)) same (told.shown i filled inv.scope (subst (λ w. offset_of p ≡ stood (passed (said w) i) (i + 1) (statement_kind x.kind)) (sym same) at.place)) in
+    let one : IsItem (located_at ss i (statement_of x)) before y = item_at u i x p e before y at there section offset told.line told.text shown told.absent in
+    let sized : IsSizedAt (tables ss) ss i (statement_of x) y =
     sized_at u i x p e y c.requires at there section
-    (subst (λ w. y.shown ≡ true → IsSized (λ t. value_of (tables (said w)) true (i + 1) (offset_of p) t) e.section.executable y e.alignment (statement_of x.kind)) same (told.sized i filled inv.scope)) in
+    (subst (λ w. y.shown ≡ true → IsSized (λ t. value_of (tables (said w)) true (i + 1) (offset_of p) t) e.section.executable y e.alignment (statement_kind x.kind)) same (told.sized i filled inv.scope)) in
     let at_end : y.offset ≡ slice_index ends y.section = offset ∙ ap (λ n. slice_index ends n) (sym section) in
     let grows : (j : ℕ) → behind j ≡ grown before y j = λ j. ap (λ l. slice_index l j) c.grow.ensures ∙ grown_by ends y j room at_end in
     record {
@@ -145,13 +145,13 @@ loop-index-preserved c =
       scope = c.pass.ensures.passes i within inv.scope;
       items =
           subst (λ l. AreItemsSoFar ss (i + 1) behind l) (sym c.in_ok-push.ensures.items)
-          (items_more ss i (said_by x) before behind c.loop-index.items.items y at.here one grows inv.items);
+          (items_more ss i (statement_of x) before behind c.loop-index.items.items y at.here one grows inv.items);
       sized =
           subst (λ l. AreSizedSoFar (tables ss) ss (i + 1) l) (sym c.in_ok-push.ensures.items)
-          (sized_more (tables ss) ss i (said_by x) c.loop-index.items.items y at.here sized inv.sized);
+          (sized_more (tables ss) ss i (statement_of x) c.loop-index.items.items y at.here sized inv.sized);
       sections = ap length c.grow.ensures ∙ length-set ends y.section (y.offset + y.bytes) ∙ inv.sections;
       count = ap length c.in_ok-push.ensures.items ∙ length-append c.loop-index.items.items (y ∷ []) ∙ ap (λ n. n + 1) inv.count;
-      room = λ good sizes. rooms_more ss i (said_by x) at.here good before inv.low (inv.room good sizes) y one sized behind grows;
+      room = λ good sizes. rooms_more ss i (statement_of x) at.here good before inv.low (inv.room good sizes) y one sized behind grows;
       low = λ j. subst (λ l. slice_index l j ≤ 2 ^ 28) (sym c.grow.ensures) (low_by ends y.section (y.offset + y.bytes) j room told.fits inv.low);
     }
 
@@ -160,7 +160,7 @@ returns-clause-items c =
     let u = c.args.unit.now in
     let i = c.loop-index.index in
     let past = subst (λ l. length l ≤ i) c.statements-statements.ensures c.loop-index-test.false in
-    let none = at_drop_all (λ l. l) (said u) i (subst (λ n. n ≤ i) (sym (length-map u.statements.items said_by)) past) in
+    let none = at_drop_all (λ l. l) (said u) i (subst (λ n. n ≤ i) (sym (length-map u.statements.items statement_of)) past) in
     items_all (said u) i (λ j. slice_index c.loop-index.ends.items j) c.loop-index.items.items none c.loop-index.invariant.items
 
 pub returns-clause-sized : goal.returns-clause-sized
@@ -168,5 +168,5 @@ returns-clause-sized c =
     let u = c.args.unit.now in
     let i = c.loop-index.index in
     let past = subst (λ l. length l ≤ i) c.statements-statements.ensures c.loop-index-test.false in
-    let none = at_drop_all (λ l. l) (said u) i (subst (λ n. n ≤ i) (sym (length-map u.statements.items said_by)) past) in
+    let none = at_drop_all (λ l. l) (said u) i (subst (λ n. n ≤ i) (sym (length-map u.statements.items statement_of)) past) in
     sized_all (tables (said u)) (said u) i c.loop-index.items.items none c.loop-index.invariant.sized

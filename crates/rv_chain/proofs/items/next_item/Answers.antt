@@ -1,7 +1,7 @@
 use Rattle.std.proofs.Common.{◌≡◌, ◌+◌, ◌^◌, ◌<◌, ◌≤◌, true, sym, ◌∙◌, arith, rules}
 use Rattle.rv_text_laws.specs.Values.{Value}
 use Rattle.rv_statement.specs.Statement.{Expression}
-use Rattle.rv_statement.specs.View.{statement_of}
+use Rattle.rv_statement.specs.View.{statement_kind}
 use Rattle.rv_unit_laws.specs.Tables as laws
 use Rattle.rv_tables.specs.Sections.{offset_of}
 use Rattle.rv_unit.specs.Unit.{said, passed}
@@ -24,13 +24,13 @@ returns-clause-sized c = λ index f s shown.
       executed = c.executed.result;
       text = c.in_text.result;
     })
-    c.args.extent.now.alignment (statement_of c.args.statement.now.kind) c.executed.ensures (c.in_ok-bytes.ensures.size index f s shown)
+    c.args.extent.now.alignment (statement_kind c.args.statement.now.kind) c.executed.ensures (c.in_ok-bytes.ensures.size index f s shown)
 
 pub returns-in_err-bytes-clause-refuses : goal.returns-in_err-bytes-clause-refuses
 returns-in_err-bytes-clause-refuses c =
     err_always c.from_residual.result (λ y index f s stands room.
     let t = passed (said c.args.scope.now.unit.now) index in
-    let says = statement_of c.args.statement.now.kind in
+    let says = statement_kind c.args.statement.now.kind in
     let placed = c.placed.ensures index f s stands in
     let row : c.if-placed.shown ≡ true → (is_placed t (index + 1) says ≡ true) × (c.args.extent.now.section.loaded ≡ true) =
     elim c.if-placed.branch [
@@ -44,7 +44,7 @@ returns-in_err-fitting-clause-refuses c =
     let past : 2 ^ 28 < c.args.offset + c.in_ok-bytes.bytes = search rules in
     err_always c.from_residual-in_err-fitting.result (λ y index f s stands room.
     let t = passed (said c.args.scope.now.unit.now) index in
-    let says = statement_of c.args.statement.now.kind in
+    let says = statement_kind c.args.statement.now.kind in
     let placed = c.placed.ensures index f s stands in
     let row : c.if-placed.shown ≡ true → (is_placed t (index + 1) says ≡ true) × (c.args.extent.now.section.loaded ≡ true) =
     elim c.if-placed.branch [

@@ -1,6 +1,6 @@
 use Rattle.std.proofs.Common.{◌≡◌, ℕ, ◌+◌, true, rules}
 use Rattle.std.proofs.lemmas.Result.{IfErr-weaker, IfOk-weaker}
-use Rattle.rv_statement.specs.View.{statement_of}
+use Rattle.rv_statement.specs.View.{statement_kind}
 use Rattle.rv_unit_laws.specs.Tables as laws
 use Rattle.rv_tables.specs.Sections.{offset_of}
 use Rattle.rv_unit.specs.Unit.{said, IsFilled, IsScope}
@@ -13,8 +13,8 @@ returns-clause-size c =
     let p = offset_of c.args.place in
     let extent = c.args.extent in
     IfOk-weaker c.size.result
-    (λ n. (index : ℕ) → IsFilled u → IsScope c.args.scope.now index → IsSize (λ e. laws.value (laws.tables (said u)) true (index + 1) p e) extent.section.executable extent.alignment c.args.offset (statement_of c.args.statement.now.kind) n)
-    (λ n. (index : ℕ) → IsFilled u → IsScope c.args.scope.now index → c.args.shown ≡ true → IsSize (λ e. laws.value (laws.tables (said u)) true (index + 1) p e) extent.section.executable extent.alignment c.args.offset (statement_of c.args.statement.now.kind) n)
+    (λ n. (index : ℕ) → IsFilled u → IsScope c.args.scope.now index → IsSize (λ e. laws.value (laws.tables (said u)) true (index + 1) p e) extent.section.executable extent.alignment c.args.offset (statement_kind c.args.statement.now.kind) n)
+    (λ n. (index : ℕ) → IsFilled u → IsScope c.args.scope.now index → c.args.shown ≡ true → IsSize (λ e. laws.value (laws.tables (said u)) true (index + 1) p e) extent.section.executable extent.alignment c.args.offset (statement_kind c.args.statement.now.kind) n)
     (λ n h index f s shown. h index f s)
     c.size.ensures.size
 
@@ -25,7 +25,7 @@ returns-clause-refuses c =
     let extent = c.args.extent in
     let shown : c.args.shown ≡ true = search rules in
     IfErr-weaker c.size.result
-    (λ y. (index : ℕ) → IsFilled u → IsScope c.args.scope.now index → HasSize (λ e. laws.value (laws.tables (said u)) true (index + 1) p e) extent.section.executable extent.alignment c.args.offset (statement_of c.args.statement.now.kind) → ⊥)
-    (λ y. (index : ℕ) → IsFilled u → IsScope c.args.scope.now index → (c.args.shown ≡ true → HasSize (λ e. laws.value (laws.tables (said u)) true (index + 1) p e) extent.section.executable extent.alignment c.args.offset (statement_of c.args.statement.now.kind)) → ⊥)
+    (λ y. (index : ℕ) → IsFilled u → IsScope c.args.scope.now index → HasSize (λ e. laws.value (laws.tables (said u)) true (index + 1) p e) extent.section.executable extent.alignment c.args.offset (statement_kind c.args.statement.now.kind) → ⊥)
+    (λ y. (index : ℕ) → IsFilled u → IsScope c.args.scope.now index → (c.args.shown ≡ true → HasSize (λ e. laws.value (laws.tables (said u)) true (index + 1) p e) extent.section.executable extent.alignment c.args.offset (statement_kind c.args.statement.now.kind)) → ⊥)
     (λ y h index f s has. h index f s (has shown))
     c.size.ensures.refuses

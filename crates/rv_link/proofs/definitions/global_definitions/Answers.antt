@@ -1,7 +1,7 @@
 use Rattle.std.proofs.Common.{rules, ◌≡◌, ◌<◌, ◌≤◌, ◌+◌, ◌∷◌, ◌++◌, ◌∙◌, [], suc, false, length, map, drop, get_or, sym, ap, subst, append-nil, arith}
 use Rattle.std.proofs.lemmas.List.{at_drop_all, drop_more, length-map}
 use Rattle.rv_link_laws.specs.declared.item.Item.{Item}
-use Rattle.rv_statement.specs.View.{said_by}
+use Rattle.rv_statement.specs.View.{statement_of}
 use Rattle.rv_unit_laws.specs.Tables.{tables}
 use Rattle.rv_unit.specs.Unit.{said}
 use Rattle.rv_map.specs.Map.{global_of}
@@ -28,15 +28,15 @@ loop-i-preserved c =
     let inside : i < length u.statements.items = search rules in
     let inside' : i < length items = search rules in
     let all = said u in
-    let here : drop i all ≡ said_by x ∷ drop (i + 1) all = left_map said_by u.statements.items i x inside (c.index-statements-i.is ∙ ap (λ l. get_or l i x) same) in
+    let here : drop i all ≡ statement_of x ∷ drop (i + 1) all = left_map statement_of u.statements.items i x inside (c.index-statements-i.is ∙ ap (λ l. get_or l i x) same) in
     let at = drop_more items i no_item inside' in
     let next : i + 1 + 1 ≡ suc (i + 1) = omega arith in
     record {
       defines = λ test filled set firsts.
-          defined_more test (tables all) starts items (i + 1) (i + 1 + 1) (drop i all) (drop (i + 1) all) (drop i items) (drop (i + 1) items) (said_by x) _
+          defined_more test (tables all) starts items (i + 1) (i + 1 + 1) (drop i all) (drop (i + 1) all) (drop i items) (drop (i + 1) items) (statement_of x) _
           (map global_of c.loop-i.defined.items) (map global_of c.put_definition.new.defined.items) _ next here at (c.in_ok-put_definition.ensures.defines test filled set firsts) (c.loop-i.invariant.defines test filled set firsts);
       shown = λ test filled set firsts.
-          shown_more test (tables all) starts items (i + 1) (i + 1 + 1) (drop i all) (drop (i + 1) all) (drop i items) (drop (i + 1) items) (said_by x) _ next here at (c.in_ok-put_definition.ensures.shown test filled set firsts)
+          shown_more test (tables all) starts items (i + 1) (i + 1 + 1) (drop i all) (drop (i + 1) all) (drop i items) (drop (i + 1) items) (statement_of x) _ next here at (c.in_ok-put_definition.ensures.shown test filled set firsts)
           ∙ c.loop-i.invariant.shown test filled set firsts;
     }
 
@@ -52,21 +52,21 @@ returns-in_err-put_definition-clause-refused c =
     let inside : i < length u.statements.items = search rules in
     let inside' : i < length items = search rules in
     let all = said u in
-    let here : drop i all ≡ said_by x ∷ drop (i + 1) all = left_map said_by u.statements.items i x inside (c.index-statements-i.is ∙ ap (λ l. get_or l i x) same) in
+    let here : drop i all ≡ statement_of x ∷ drop (i + 1) all = left_map statement_of u.statements.items i x inside (c.index-statements-i.is ∙ ap (λ l. get_or l i x) same) in
     let at = drop_more items i no_item inside' in
     let next : i + 1 + 1 ≡ suc (i + 1) = omega arith in
     let found = err_from_is_err_and c.from_residual.result c.from_residual.ensures.1 in
     let e = c.in_err-put_definition.field-0.0 in
     rw (found.1, found.2) (λ test filled set firsts.
     subst (λ line. NamesLine e line) (c.loop-i.invariant.shown test filled set firsts)
-    (unshown_here test (tables all) starts items (i + 1) (i + 1 + 1) (drop i all) (drop (i + 1) all) (drop i items) (drop (i + 1) items) (said_by x) _ next here at e (c.in_err-put_definition.ensures.refused test filled set firsts)))
+    (unshown_here test (tables all) starts items (i + 1) (i + 1 + 1) (drop i all) (drop (i + 1) all) (drop i items) (drop (i + 1) items) (statement_of x) _ next here at e (c.in_err-put_definition.ensures.refused test filled set firsts)))
 
 pub returns-clause-defines : goal.returns-clause-defines
 returns-clause-defines c = λ test filled set firsts.
     let n = c.loop-i.i in
     let u = c.args.unit.now in
     let all = said u in
-    let past : length all ≤ n = subst (λ k. k ≤ n) (ap length c.statements-statements.ensures ∙ sym (length-map u.statements.items said_by)) c.loop-i-test.false in
+    let past : length all ≤ n = subst (λ k. k ≤ n) (ap length c.statements-statements.ensures ∙ sym (length-map u.statements.items statement_of)) c.loop-i-test.false in
     let none : drop n all ≡ [] = at_drop_all (λ l. l) all n past in
     sym (append-nil (map global_of c.loop-i.defined.items))
     ∙ ap (λ l. map global_of c.loop-i.defined.items ++ definitions_from test (tables all) c.args.starts.now c.args.items.now (n + 1) l (drop n c.args.items.now)) (sym none)
@@ -77,6 +77,6 @@ returns-clause-shown c = λ test filled set firsts.
     let n = c.loop-i.i in
     let u = c.args.unit.now in
     let all = said u in
-    let past : length all ≤ n = subst (λ k. k ≤ n) (ap length c.statements-statements.ensures ∙ sym (length-map u.statements.items said_by)) c.loop-i-test.false in
+    let past : length all ≤ n = subst (λ k. k ≤ n) (ap length c.statements-statements.ensures ∙ sym (length-map u.statements.items statement_of)) c.loop-i-test.false in
     let none : drop n all ≡ [] = at_drop_all (λ l. l) all n past in
     sym (c.loop-i.invariant.shown test filled set firsts) ∙ ap (λ l. first_unshown test (tables all) c.args.starts.now c.args.items.now (n + 1) l (drop n c.args.items.now)) none

@@ -1,7 +1,7 @@
 use Rattle.std.proofs.Common.{rules, arith, ℕ, List, ◌%◌, ◌≡◌, ◌<◌, ◌+◌, ◌∷◌, ◌∙◌, Bool, true, false, length, map, drop, get_or, sym, ap, refl}
 use Rattle.std.specs.Prelude.{◌&&◌, Option, Some, IfSome}
 use Rattle.std.proofs.lemmas.List.{drop_more}
-use Rattle.rv_statement.specs.View.{said_by}
+use Rattle.rv_statement.specs.View.{statement_of}
 use Rattle.rv_statement.specs.declared.statement.Statement.{Statement}
 use Rattle.rv_source_laws.specs.Resolves.{is_start}
 use Rattle.rv_link_laws.specs.declared.item.Item.{Item}
@@ -35,23 +35,23 @@ loop-i-preserved c =
     let item = get_or items i no_item in
     let inside : i < length statements = search rules in
     let inside' : i < length items = search rules in
-    let all = map said_by statements in
-    let here : drop i all ≡ said_by x ∷ drop (i + 1) all = left_map said_by statements i x inside c.index-statements-i.is in
-    let test : (is_start (said_by x).says && item.text) ≡ false = elim c.then-not-is_entry.branch [
-      | then-not-is_entry-via-then-not-is_entry w ↦ and_no (is_start (said_by x).says) item.text (sym c.is_entry.ensures ∙ w.if-not-is_entry.true)
-      | then-not-is_entry-via-else-not-is_entry+then-not-items-i w ↦ and_other (is_start (said_by x).says) item.text w.if-not-items-i.true
+    let all = map statement_of statements in
+    let here : drop i all ≡ statement_of x ∷ drop (i + 1) all = left_map statement_of statements i x inside c.index-statements-i.is in
+    let test : (is_start (statement_of x).kind && item.text) ≡ false = elim c.then-not-is_entry.branch [
+      | then-not-is_entry-via-then-not-is_entry w ↦ and_no (is_start (statement_of x).kind) item.text (sym c.is_entry.ensures ∙ w.if-not-is_entry.true)
+      | then-not-is_entry-via-else-not-is_entry+then-not-items-i w ↦ and_other (is_start (statement_of x).kind) item.text w.if-not-items-i.true
     ] in
-    sym (entry_here c.args.starts.now (drop i all) (drop (i + 1) all) (drop i items) (drop (i + 1) items) (said_by x) item false here (drop_more items i no_item inside') test) ∙ c.loop-i.invariant
+    sym (entry_here c.args.starts.now (drop i all) (drop (i + 1) all) (drop i items) (drop (i + 1) items) (statement_of x) item false here (drop_more items i no_item inside') test) ∙ c.loop-i.invariant
 
 -- the address that is found at a statement where a run may begin
 found_at : (starts : List ℕ) (statements : List Statement) (items : List Item) (i : ℕ) (x : Statement) (address : ℕ) (found : Option ℕ)
-    → i < length statements → i < length items → x ≡ get_or statements i x → is_start (said_by x).says ≡ true → (get_or items i no_item).text ≡ true
-    → address ≡ address_of starts (get_or items i no_item) → entry_from starts (drop i (map said_by statements)) (drop i items) ≡ found → found ≡ Some address
+    → i < length statements → i < length items → x ≡ get_or statements i x → is_start (statement_of x).kind ≡ true → (get_or items i no_item).text ≡ true
+    → address ≡ address_of starts (get_or items i no_item) → entry_from starts (drop i (map statement_of statements)) (drop i items) ≡ found → found ≡ Some address
 found_at starts statements items i x address found inside inside' same start text is whole =
     let item = get_or items i no_item in
-    let all = map said_by statements in
-    let here : drop i all ≡ said_by x ∷ drop (i + 1) all = left_map said_by statements i x inside same in
-    sym whole ∙ entry_here starts (drop i all) (drop (i + 1) all) (drop i items) (drop (i + 1) items) (said_by x) item true here (drop_more items i no_item inside') (and_all (is_start (said_by x).says) item.text start text)
+    let all = map statement_of statements in
+    let here : drop i all ≡ statement_of x ∷ drop (i + 1) all = left_map statement_of statements i x inside same in
+    sym whole ∙ entry_here starts (drop i all) (drop (i + 1) all) (drop i items) (drop (i + 1) items) (statement_of x) item true here (drop_more items i no_item inside') (and_all (is_start (statement_of x).kind) item.text start text)
     ∙ ap (λ a. Some a) (sym is)
 
 odd : (found : Option ℕ) (a : ℕ) → found ≡ Some a → (a % 2 ≡ 0 → ⊥) → IfSome found (λ a. a % 2 ≡ 1)

@@ -1,7 +1,7 @@
 use Rattle.std.proofs.Common.{◌∷◌, [], Bool, map, ◌+◌}
 use Rattle.std.specs.Prelude.{not, codes}
 use Rattle.std.proofs.lemmas.Result.{err_from_is_err_and}
-use Rattle.rv_statement.specs.View.{said_by}
+use Rattle.rv_statement.specs.View.{statement_of}
 use Rattle.rv_map.specs.Map.{Global, global_of as shown_global}
 use Rattle.rv_source_laws.specs.Resolves.{is_one_of, symbol}
 use Rattle.rv_link_laws.specs.Definitions.{names_from}
@@ -11,7 +11,7 @@ use Rattle.rv_link.proofs.symbols.put_symbols.Goals as goal
 
 pub returns-clause-names : goal.returns-clause-names
 returns-clause-names c = λ test t set firsts.
-    let p : Global → Bool = λ g. not (is_one_of (names_from test t 1 (map said_by c.args.statements.now)) g.name) in
+    let p : Global → Bool = λ g. not (is_one_of (names_from test t 1 (map statement_of c.args.statements.now)) g.name) in
     let l = c.args.layout.now in
     let old = map shown_global c.args.symbols.now.items in
     let a = symbol (codes "_etext") l.text.end in

@@ -1,13 +1,13 @@
 use Rattle.std.proofs.Common.{arith, rules}
 use Rattle.std.proofs.lemmas.Grind.{common_steps}
-use Rattle.rv_statement.specs.View.{said_by}
+use Rattle.rv_statement.specs.View.{statement_of}
 use Rattle.rv_chain.specs.Choices.{options_of}
 use Rattle.rv_chain.proofs.Adding.{codes_found}
 use Rattle.rv_chain.proofs.code.Coder.add_found.Goals as goal
 
 pub returns : goal.returns
 returns c = λ v codes.
-    let s = said_by c.args.statement.now in
+    let s = statement_of c.args.statement.now in
     let h = codes_found (options_of c.args.self.now.choices) v s c.args.found codes in
     let same = h.2 in
     record {

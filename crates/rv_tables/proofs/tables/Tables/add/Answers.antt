@@ -1,5 +1,5 @@
 use Rattle.std.proofs.Common.{◌∙◌, ap, sym}
-use Rattle.rv_statement.specs.View.{statement_of}
+use Rattle.rv_statement.specs.View.{statement_kind}
 use Rattle.rv_unit_laws.specs.Tables.{after}
 use Rattle.rv_tables.specs.Tables.{tables_of}
 use Rattle.rv_tables.proofs.Gives.{on_ok}
@@ -8,5 +8,5 @@ use Rattle.rv_tables.proofs.tables.Tables.add.Goals as goal
 pub returns-in-AlignsToBytes-clause-tables : goal.returns-in-AlignsToBytes-clause-tables
 returns-in-AlignsToBytes-clause-tables c =
     on_ok c.align_to_bytes.result _ _
-    (λ f i h. f i c.args.ordinal h ∙ sym (ap (λ k. after (tables_of c.args.self.now) c.args.ordinal (statement_of k)) c.in-AlignsToBytes.is))
+    (λ f i h. f i c.args.ordinal h ∙ sym (ap (λ k. after (tables_of c.args.self.now) c.args.ordinal (statement_kind k)) c.in-AlignsToBytes.is))
     c.align_to_bytes.ensures.tables

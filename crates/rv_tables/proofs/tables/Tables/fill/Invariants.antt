@@ -1,6 +1,6 @@
 -- What is done and what the rest changes make up the whole.
 use Rattle.std.proofs.Common.{◌≡◌, map, drop}
-use Rattle.rv_statement.specs.View.{said_by}
+use Rattle.rv_statement.specs.View.{statement_of}
 use Rattle.rv_unit_laws.specs.Tables.{at_start}
 use Rattle.rv_tables.specs.Sections.{offset_of}
 use Rattle.rv_tables.specs.Tables.{tables_of, IsIndexed}
@@ -10,5 +10,5 @@ use Rattle.rv_tables.proofs.tables.Tables.fill.Given as goal
 abbrev pub invariant-loop-statement : goal.invariant-loop-statement
 invariant-loop-statement l =
     (l.ordinal ≡ l.statement-index)
-    × (tables_of l.fn.self ≡ at_start → IsIndexed l.fn.self → FillsTo (tables_of l.self) l.ordinal (drop l.statement-index (map said_by l.statements)) (map said_by l.statements) (map offset_of l.places.items))
+    × (tables_of l.fn.self ≡ at_start → IsIndexed l.fn.self → FillsTo (tables_of l.self) l.ordinal (drop l.statement-index (map statement_of l.statements)) (map statement_of l.statements) (map offset_of l.places.items))
     × (tables_of l.fn.self ≡ at_start → IsIndexed l.fn.self → IsIndexed l.self)

@@ -1,8 +1,8 @@
 use Rattle.std.proofs.Common.{◌≡◌, ◌+◌, ◌<◌, ◌≤◌, refl, ap, sym, ◌∙◌, rules, length, get_or, arith, Some, None}
 use Rattle.std.proofs.lemmas.List.{length-map, drop_all}
 use Rattle.rv_lexer.specs.Fault.{number_of}
-use Rattle.rv_statement.specs.Statement.{Spoken}
-use Rattle.rv_statement.specs.View.{said_by}
+use Rattle.rv_statement.specs.Statement.{Statement}
+use Rattle.rv_statement.specs.View.{statement_of}
 use Rattle.rv_unit_laws.specs.Faults as faults
 use Rattle.rv_unit_laws.specs.Tables as laws
 use Rattle.rv_tables.specs.Tables.{tables_of}
@@ -22,12 +22,12 @@ returns-in-Some c = λ filled.
     let x = c.statement-item.result in
     let inside : i < length xs = search rules in
     let item : x ≡ get_or xs i x = c.statement-item.is ∙ ap (λ l. get_or l i x) c.deref-statement-items.ensures.value in
-    let within : i ≤ length ss = omega (arith, length-map xs said_by) in
+    let within : i ≤ length ss = omega (arith, length-map xs statement_of) in
     let t = tables_of c.loop-statement.passed in
     let is : t ≡ passed ss i = c.loop-statement.invariant.2 in
     let found = c.fault.ensures (i + 1) c.loop-statement.invariant.1 (pass_before t ss i (i + 1) within is refl) filled (ap (λ n. n + 1) c.loop-statement.invariant.0) in
-    sym (check_found ss i (number_of c.in-Some.code) (said_by x) (next_said xs i x inside item)
-    (check_lowest ss t i (said_by x) is c.fault.result (Some c.in-Some.code) found c.in-Some.is))
+    sym (check_found ss i (number_of c.in-Some.code) (statement_of x) (next_said xs i x inside item)
+    (check_lowest ss t i (statement_of x) is c.fault.result (Some c.in-Some.code) found c.in-Some.is))
     ∙ c.loop-statement.invariant.3 filled
 
 pub loop-statement-preserved : goal.loop-statement-preserved
@@ -39,21 +39,21 @@ loop-statement-preserved c =
     let x = c.statement-item.result in
     let inside : i < length xs = search rules in
     let item : x ≡ get_or xs i x = c.statement-item.is ∙ ap (λ l. get_or l i x) c.deref-statement-items.ensures.value in
-    let within : i ≤ length ss = omega (arith, length-map xs said_by) in
-    let below : i < length ss = omega (arith, length-map xs said_by) in
+    let within : i ≤ length ss = omega (arith, length-map xs statement_of) in
+    let below : i < length ss = omega (arith, length-map xs statement_of) in
     let t = tables_of c.loop-statement.passed in
     let is : t ≡ passed ss i = c.loop-statement.invariant.2 in
     let o : c.loop-statement.ordinal + 1 ≡ i + 1 = ap (λ n. n + 1) c.loop-statement.invariant.0 in
     let next = next_said xs i x inside item in
-    let at : get_or ss i (said_by x) ≡ said_by x = said_at xs i i x below (omega arith) item in
+    let at : get_or ss i (statement_of x) ≡ statement_of x = said_at xs i i x below (omega arith) item in
     let more : tables_of c.add.new.self ≡ passed ss (i + 1) =
-    pass_more t (tables_of c.add.new.self) ss i (c.loop-statement.ordinal + 1) (said_by x) below is o at (c.in_ok-add-in-None.ensures.tables c.loop-statement.invariant.1 (pass_before t ss i (c.loop-statement.ordinal + 1) within is o)) in (
+    pass_more t (tables_of c.add.new.self) ss i (c.loop-statement.ordinal + 1) (statement_of x) below is o at (c.in_ok-add-in-None.ensures.tables c.loop-statement.invariant.1 (pass_before t ss i (c.loop-statement.ordinal + 1) within is o)) in (
       o,
       c.in_ok-add-in-None.ensures.indexed c.loop-statement.invariant.1,
       more,
       (λ filled.
           let found = c.fault.ensures (i + 1) c.loop-statement.invariant.1 (pass_before t ss i (i + 1) within is refl) filled o in
-          sym (check_more ss i (said_by x) next (check_lowest ss t i (said_by x) is c.fault.result None found c.in-None.is) (passed_more ss i (said_by x) below ∙ ap (λ (y : Spoken). laws.after (passed ss i) (i + 1) y.says) at))
+          sym (check_more ss i (statement_of x) next (check_lowest ss t i (statement_of x) is c.fault.result None found c.in-None.is) (passed_more ss i (statement_of x) below ∙ ap (λ (y : Statement). laws.after (passed ss i) (i + 1) y.kind) at))
           ∙ c.loop-statement.invariant.3 filled),
     )
 
@@ -62,5 +62,5 @@ returns c = λ filled.
     let ss = said c.args.self.now in
     let i = c.loop-statement.statement-index in
     let past : length c.args.self.now.statements.items ≤ i = search rules in
-    let long : length ss ≤ i = omega (arith, length-map c.args.self.now.statements.items said_by) in
+    let long : length ss ≤ i = omega (arith, length-map c.args.self.now.statements.items statement_of) in
     sym (ap (faults.first_fault_from (laws.tables ss) (passed ss i) (i + 1)) (drop_all i ss long)) ∙ c.loop-statement.invariant.3 filled
