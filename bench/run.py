@@ -6,6 +6,7 @@ time, the least of three runs, with the start of the program.
 """
 
 import os
+import re
 import resource
 import shutil
 import subprocess
@@ -146,6 +147,35 @@ def write_source(path):
             file.write(line + "\n")
 
 
+def compiled(folder):
+    """The examples in C as a compiler writes them, each as its parts: every second one is a name that it defines."""
+    out = folder / "compiled.s"
+    for source in sorted((HERE.parent / "examples" / "c").glob("*.c")):
+        subprocess.run([GCC, *FLAGS, "-S", "-o", out, source], check=True, capture_output=True)
+        # (attributes stand before all instructions)
+        lines = [line for line in out.read_text().splitlines() if not line.lstrip().startswith(".attribute")]
+        text = "\n".join(lines) + "\n"
+        names = set(re.findall(r"^(?:\s*\.set\s+)?([\w.$]+)(?=:|,)", text, re.MULTILINE))
+        longest = sorted(names, key=len, reverse=True)
+        yield re.split(r"(?<![\w.$])(" + "|".join(map(re.escape, longest)) + r")(?![\w.$])", text)
+
+
+def write_compiled(folder, path):
+    """Writes a compiler's output again and again, each time with other names, up to the length that is measured; it
+    answers how many lines there are."""
+    texts = list(compiled(folder))
+    count, length, number = 0, 0, 0
+    with path.open("w") as file:
+        while True:
+            copy = "".join(part + f"_{number}" * (at % 2) for at, part in enumerate(texts[number % len(texts)]))
+            length += len(copy)
+            if length > SOURCE_BYTES:
+                return count
+            count += copy.count("\n")
+            number += 1
+            file.write(copy)
+
+
 def peak(command, status=0):
     """The most memory that a program has, in bytes, and whether it ends with this status."""
     process = subprocess.Popen(command, stdout=subprocess.DEVNULL, stderr=subprocess.DEVNULL)
@@ -191,6 +221,28 @@ def reading(folder):
     row("rv, reading alone", seconds, length, memory, "" if good else ", BUT TAKES ITS FAULT")
 
 
+def compiler(folder):
+    """Reading what a compiler writes: labels, branches, pseudo-instructions and directives."""
+    if missing(GCC):
+        return
+    source, faulty = folder / "compiled_all.s", folder / "compiled_faulty.s"
+    count = write_compiled(folder, source)
+    length = source.stat().st_size
+    print(f"Reading the output of {GCC} -O2, {length} bytes, {count} lines")
+    if not missing(AS):
+        command = [AS, "-march=rv64imac", "-mabi=lp64", "-o", folder / "object", source]
+        memory, good = peak(command)
+        seconds, _ = best(command, b"")
+        row("as", seconds, length, memory, "" if good else ", BUT REFUSES IT")
+    shutil.copy(source, faulty)
+    with faulty.open("a") as file:
+        file.write(FAULT)
+    command = [RV, "build", "-o", folder / "executable", faulty]
+    memory, good = peak(command, status=1)
+    seconds, _ = best(command, b"")
+    row("rv, reading alone", seconds, length, memory, "" if good else ", BUT TAKES ITS FAULT")
+
+
 def statements(folder):
     """The most statements that a source may have: the memory that each takes, with the source's own."""
     source, faulty = folder / "statements.s", folder / "too_many.s"
@@ -208,7 +260,7 @@ def statements(folder):
 
 def main():
     with tempfile.TemporaryDirectory() as folder:
-        for benchmark in (kernel, reading, statements):
+        for benchmark in (kernel, reading, compiler, statements):
             benchmark(Path(folder))
 
 
