@@ -206,6 +206,7 @@ impl<'a> Unit<'a> {
             StatementKind::Numbered(_) => None,
             StatementKind::Plain(_) => self.fault_of_instruction(passed),
             StatementKind::With(..) => self.fault_of_instruction(passed),
+            StatementKind::WithFunction(..) => self.fault_of_instruction(passed),
             StatementKind::Enters(standard) => {
                 self.fault_of_section(passed, Section::standard(*standard))
             }

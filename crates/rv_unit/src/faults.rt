@@ -2,7 +2,7 @@
 
 ghost use Rattle.std.specs.Prelude.{◌≡◌, ◌≤◌, ◌<◌, ◌+◌, ◌^◌, ℕ, List, [], ◌∷◌, ◌++◌, Option, Some, None, not, ◌&&◌, ◌||◌, ◌==◌, nat_le, is_some};
 ghost use Rattle.rv_text_laws.specs.Codes.{duplicate_label, wrong_section};
-ghost use Rattle.rv_text.specs.Fault.{number_of};
+ghost use Rattle.rv_lexer.specs.Fault.{number_of};
 ghost use Rattle.rv_unit_laws.specs.Faults as laws;
 ghost use Rattle.rv_unit_laws.specs.Tables as tables;
 ghost use Rattle.rv_unit.specs.Faults.{IsLowest, ForValue};
