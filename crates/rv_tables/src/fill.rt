@@ -171,6 +171,7 @@ impl<'a> Tables<'a> {
             StatementKind::Zeros(count) => self.add_zeros(count),
             StatementKind::Plain(_) => Ok(()),
             StatementKind::With(..) => Ok(()),
+            StatementKind::WithFunction(..) => Ok(()),
             StatementKind::Globl(_) => Ok(()),
             StatementKind::Local(_) => Ok(()),
             StatementKind::Ignored => Ok(()),

@@ -7,7 +7,7 @@ use Rattle.rv_statement.specs.declared.statement.Statement.{Statement}
 use Rattle.rv_statement.specs.View.{statement_of}
 use Rattle.rv_unit.specs.Faults.{IsLowest}
 use Rattle.rv_statement.specs.Statement.{Statement as SpecStatement}
-use Rattle.rv_unit_laws.specs.Tables.{Tables, after, tables}
+use Rattle.rv_unit_laws.specs.Tables.{after, tables}
 use Rattle.rv_unit_laws.specs.Faults.{faults, lowest, at_line, first_fault_from}
 use Rattle.rv_tables.proofs.Filling.{drop_next}
 use Rattle.rv_unit.specs.Unit.{passed}
@@ -28,11 +28,10 @@ check_found ss i code x next found =
     ap (first_fault_from (tables ss) (passed ss i) (i + 1)) next
     ∙ ap (λ f. at_line x.line f (first_fault_from (tables ss) (after (passed ss i) (i + 1) x.kind) (suc (i + 1)) (drop (i + 1) ss))) found
 
--- the lowest code of a statement, by what was found with its tables
-pub check_lowest : (ss : List SpecStatement) (t : Tables) (i : ℕ) (x : SpecStatement) → t ≡ passed ss i → (found same : Option SourceCode) → IsLowest found (faults (tables ss) t (i + 1) x.kind) → found ≡ same
+-- the lowest code of a statement, by what was found
+pub check_lowest : (ss : List SpecStatement) (i : ℕ) (x : SpecStatement) (found same : Option SourceCode) → IsLowest found (faults (tables ss) (passed ss i) (i + 1) x.kind) → found ≡ same
     → lowest (faults (tables ss) (passed ss i) (i + 1) x.kind) ≡ option_map number_of same
-check_lowest ss t i x is found same low at =
-    sym (ap (λ (u : Tables). lowest (faults (tables ss) u (i + 1) x.kind)) is) ∙ sym low ∙ ap (option_map number_of) at
+check_lowest ss i x found same low at = sym low ∙ ap (option_map number_of) at
 
 -- the next statement
 pub next_said : (xs : List Statement) (i : ℕ) (x : Statement) → i < length xs → x ≡ get_or xs i x → drop i (map statement_of xs) ≡ statement_of x ∷ drop (i + 1) (map statement_of xs)

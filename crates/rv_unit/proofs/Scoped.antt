@@ -30,7 +30,7 @@ whole_before u f = subst (λ t. IsBefore t (1 + length (said u))) (sym f.tables)
 
 -- ---- what the statements before an ordinal say alone
 
-passed_stood : (ss : List SpecStatement) (i : ℕ) → IsStood (passed ss i)
+pub passed_stood : (ss : List SpecStatement) (i : ℕ) → IsStood (passed ss i)
 passed_stood ss i = stood_all laws.at_start 1 (take i ss) stood_start
 
 stands_passed : (ss : List SpecStatement) (i : ℕ) (p : laws.SectionOffset) → i ≤ length ss → p.section < length (passed ss i).opened.sections → laws.stands (laws.tables ss).opened p ≡ laws.stands (passed ss i).opened p

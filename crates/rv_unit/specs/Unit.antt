@@ -1,15 +1,16 @@
 -- What a unit and a scope show.
 
-use Rattle.std.specs.Prelude.{◌≡◌, ℕ, ◌+◌, ◌≤◌, List, Some, length, map, take}
+use Rattle.std.specs.Prelude.{◌≡◌, ℕ, ◌+◌, ◌<◌, ◌≤◌, List, Some, length, map, take}
 use Rattle.rv_lexer.specs.declared.fault.SourceFault.{SourceFault}
 use Rattle.rv_lexer.specs.declared.fault.SourceFault.TheVariants as refusals
 use Rattle.rv_lexer.specs.declared.fault.SourceCode.{SourceCode}
 use Rattle.rv_lexer.specs.Fault.{number_of}
 use Rattle.rv_unit_laws.specs.Faults.{Fault, first_fault}
-use Rattle.rv_statement.specs.Statement.{Statement}
+use Rattle.rv_statement.specs.Statement.{Statement, StatementKind}
 use Rattle.rv_statement.specs.View.{statement_of}
 use Rattle.rv_unit_laws.specs.Tables as laws
 use Rattle.rv_tables.specs.declared.section_offset.Definition.{Definition}
+use Rattle.rv_tables.specs.declared.section_offset.SectionOffset.{SectionOffset}
 use Rattle.rv_unit.specs.declared.unit.Unit.{Unit as SourceUnit}
 use Rattle.rv_unit.specs.declared.scope.Scope.{Scope}
 use Rattle.rv_tables.specs.Sections.{offset_of}
@@ -31,6 +32,14 @@ pub record IsFilled (u : SourceUnit) : Type 0 where
 -- the tables of the first `count` statements
 abbrev pub passed : List Statement → ℕ → laws.Tables
 passed ss count = laws.after_all laws.at_start 1 (take count ss)
+
+-- the statement at this index from 0 has this ordinal, stands at this offset and says this
+pub record IsAt (u : SourceUnit) (i o : ℕ) (p : SectionOffset) (kind : StatementKind) : Type 0 where
+  pub filled : IsFilled u
+  pub within : i < length (said u)
+  pub ordinal : o ≡ i + 1
+  pub place : offset_of p ≡ laws.stood (passed (said u) i) (i + 1) kind
+  pub more : passed (said u) (i + 1) ≡ laws.after (passed (said u) i) (i + 1) kind
 
 -- the scope stands before the statement at this index from 0
 pub record IsScope (s : Scope) (index : ℕ) : Type 0 where

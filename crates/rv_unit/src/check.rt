@@ -1,46 +1,63 @@
 //! The first fault of the labels and the directives of a source.
+//!
+//! The tables of the whole source answer all but one question: names and sections by the ordinal of the statement and by
+//! where it stands. The depth of the option stack is counted on the way.
 
-ghost use Rattle.std.specs.Prelude.{◌≡◌, ℕ, ◌++◌, ◌*◌, Some, None, flat_map, map, not, ◌||◌, true, false, length, option_map, IfOk};
+ghost use Rattle.std.specs.Prelude.{◌≡◌, ℕ, ◌+◌, ◌*◌, ◌<◌, ◌≤◌, ◌^◌, ◌-◌, Some, None, flat_map, map, not, ◌||◌, true, false, length, option_map};
 ghost use Rattle.rv_text_laws.specs.Codes.{duplicate_label, wrong_section};
 ghost use Rattle.rv_text.specs.Expr.{tree_of_expr};
-ghost use Rattle.rv_statement.specs.Statement.{Sets, Zeros, Aligns_to_power, Aligns_to_bytes, Values, Strings};
-ghost use Rattle.rv_statement.specs.View.{bytes_of, quoted, statement_kind};
+ghost use Rattle.rv_statement.specs.Statement.{StatementKind as SpecKind, Label, Directs, Zeros, Aligns_to_power, Aligns_to_bytes, Values, Strings};
+ghost use Rattle.rv_statement.specs.View.{bytes_of, quoted, setting_of, statement_kind};
 ghost use Rattle.rv_unit_laws.specs.Faults as faults;
 ghost use Rattle.rv_unit_laws.specs.Sections as sections;
-ghost use Rattle.rv_unit_laws.proofs.Before.{IsBefore};
 ghost use Rattle.rv_unit_laws.specs.Tables as laws;
+ghost use Rattle.rv_unit_laws.proofs.Asked.{depth_after as depth_then};
+ghost use Rattle.rv_tables.specs.Sections.{section_of, offset_of};
+ghost use Rattle.rv_tables.specs.declared.section_offset.SectionOffset.{SectionOffset as SectionOffsetOf};
 ghost use Rattle.rv_unit.specs.Faults.{IsLowest};
-ghost use Rattle.rv_tables.specs.Sections.{section_of};
-ghost use Rattle.rv_tables.specs.Tables.{tables_of, IsIndexed};
-ghost use Rattle.rv_unit.specs.Unit.{said, fault_of, IsFilled};
+ghost use Rattle.rv_unit.specs.Unit.{said, passed, fault_of, IsAt, IsFilled};
 
 use crate::faults::{
-    alignment_fault, bytes_fault, data_fault, faulty_if, lower, power_fault, set_fault,
-    value_fault, zero_fault,
+    alignment_fault, bytes_fault, choice_fault, data_fault, faulty_if, instruction_fault, lower,
+    power_fault, set_fault, value_fault, zero_fault,
 };
 use crate::unit::Unit;
 use rv_statement::{Choice, Setting, StatementKind, Width};
 use rv_tables::{
-    Section, Tables, byte_alignment, power_alignment, strings_size, values_size, width_in_bytes,
+    Section, SectionOffset, byte_alignment, power_alignment, strings_size, values_size,
+    width_in_bytes,
 };
 use rv_text::{Expr, SourceCode};
-use std::alloc::{AllocError, Global};
+
+/// The depth of the option stack after a statement.
+fn depth_after(depth: usize, kind: &StatementKind<'_>) -> usize
+    requires { depth < 2 ^ 64 - 1 }
+    ensures depth { result ≡ depth_then depth (statement_kind kind.now) }
+    ensures bound { result ≤ depth + 1 }
+{
+    match kind {
+        StatementKind::Chooses(Choice::Push) => depth + 1,
+        StatementKind::Chooses(Choice::Pop) => depth.saturating_sub(1),
+        _ => depth,
+    }
+}
 
 impl<'a> Unit<'a> {
     /// The fault of a `.set`.
     fn fault_of_assignment(
         &self,
-        passed: &Tables<'_>,
         ordinal: usize,
+        place: SectionOffset,
         assignment: &Setting<'a>,
     ) -> Option<SourceCode>
-        ensures { (o : ℕ) → IsIndexed passed.now → IsBefore (tables_of passed.now) o → IsFilled self.now → ordinal ≡ o → IsLowest result (faults.directive_faults (laws.tables (said self.now)) (tables_of passed.now) o (Sets (assignment.now).name.now (tree_of_expr (assignment.now).expression))) }
+        ensures { (index : ℕ) → IsAt self.now index ordinal place (Directs (setting_of assignment.now))
+            → IsLowest result (faults.directive_faults (laws.tables (said self.now)) (passed (said self.now) index) (index + 1) (setting_of assignment.now)) }
     {
-        let value = self.early_value(ordinal, passed.here(), &assignment.expression);
+        let value = self.early_value(ordinal, place, &assignment.expression);
         set_fault(
-            passed.current_section(),
-            passed.is_defined(assignment.name),
-            passed.has_location(assignment.name),
+            self.tables.section_at(place.section),
+            self.is_defined_before(ordinal, assignment.name),
+            self.has_location_before(ordinal, assignment.name),
             &value,
         )
     }
@@ -48,32 +65,34 @@ impl<'a> Unit<'a> {
     /// The fault of a count of zero bytes.
     fn fault_of_zeros(
         &self,
-        passed: &Tables<'_>,
         ordinal: usize,
+        place: SectionOffset,
         count: &Expr<'a>,
     ) -> Option<SourceCode>
-        ensures { (o : ℕ) → IsIndexed passed.now → IsBefore (tables_of passed.now) o → IsFilled self.now → ordinal ≡ o → IsLowest result (faults.directive_faults (laws.tables (said self.now)) (tables_of passed.now) o (Zeros (tree_of_expr count.now))) }
+        ensures { (index : ℕ) → IsAt self.now index ordinal place (Directs (Zeros (tree_of_expr count.now)))
+            → IsLowest result (faults.directive_faults (laws.tables (said self.now)) (passed (said self.now) index) (index + 1) (Zeros (tree_of_expr count.now))) }
     {
-        let value = self.early_value(ordinal, passed.here(), count);
-        zero_fault(passed.current_section(), passed.offset(), &value)
+        let value = self.early_value(ordinal, place, count);
+        zero_fault(self.tables.section_at(place.section), place.offset, &value)
     }
 
     /// The fault of an alignment to a power of two.
     fn fault_of_power(
         &self,
-        passed: &Tables<'_>,
         ordinal: usize,
+        place: SectionOffset,
         exponent: &Expr<'a>,
     ) -> Option<SourceCode>
-        ensures { (o : ℕ) → IsIndexed passed.now → IsBefore (tables_of passed.now) o → IsFilled self.now → ordinal ≡ o → IsLowest result (faults.directive_faults (laws.tables (said self.now)) (tables_of passed.now) o (Aligns_to_power (tree_of_expr exponent.now))) }
+        ensures { (index : ℕ) → IsAt self.now index ordinal place (Directs (Aligns_to_power (tree_of_expr exponent.now)))
+            → IsLowest result (faults.directive_faults (laws.tables (said self.now)) (passed (said self.now) index) (index + 1) (Aligns_to_power (tree_of_expr exponent.now))) }
     {
-        let value = self.early_value(ordinal, passed.here(), exponent);
+        let value = self.early_value(ordinal, place, exponent);
         let found = power_fault(&value);
         lower(
             found,
             alignment_fault(
-                passed.current_section(),
-                passed.offset(),
+                self.tables.section_at(place.section),
+                place.offset,
                 power_alignment(value),
             ),
         )
@@ -82,19 +101,20 @@ impl<'a> Unit<'a> {
     /// The fault of an alignment in bytes.
     fn fault_of_bytes(
         &self,
-        passed: &Tables<'_>,
         ordinal: usize,
+        place: SectionOffset,
         bytes: &Expr<'a>,
     ) -> Option<SourceCode>
-        ensures { (o : ℕ) → IsIndexed passed.now → IsBefore (tables_of passed.now) o → IsFilled self.now → ordinal ≡ o → IsLowest result (faults.directive_faults (laws.tables (said self.now)) (tables_of passed.now) o (Aligns_to_bytes (tree_of_expr bytes.now))) }
+        ensures { (index : ℕ) → IsAt self.now index ordinal place (Directs (Aligns_to_bytes (tree_of_expr bytes.now)))
+            → IsLowest result (faults.directive_faults (laws.tables (said self.now)) (passed (said self.now) index) (index + 1) (Aligns_to_bytes (tree_of_expr bytes.now))) }
     {
-        let value = self.early_value(ordinal, passed.here(), bytes);
+        let value = self.early_value(ordinal, place, bytes);
         let found = bytes_fault(&value);
         lower(
             found,
             alignment_fault(
-                passed.current_section(),
-                passed.offset(),
+                self.tables.section_at(place.section),
+                place.offset,
                 byte_alignment(value),
             ),
         )
@@ -103,16 +123,17 @@ impl<'a> Unit<'a> {
     /// The fault of the values of data, one by one.
     fn fault_of_each(
         &self,
-        passed: &Tables<'_>,
         ordinal: usize,
+        place: SectionOffset,
         width: Width,
         values: &[Expr<'a>],
     ) -> Option<SourceCode>
-        ensures { (o : ℕ) → IsIndexed passed.now → IsBefore (tables_of passed.now) o → IsFilled self.now → ordinal ≡ o → IsLowest result (flat_map (λ e. faults.value_faults (bytes_of width) (laws.value (laws.tables (said self.now)) true o (laws.here (tables_of passed.now)) e)) (map tree_of_expr values.now)) }
+        ensures { (o : ℕ) → IsFilled self.now → ordinal ≡ o
+            → IsLowest result (flat_map (λ e. faults.value_faults (bytes_of width) (laws.value (laws.tables (said self.now)) true o (offset_of place) e)) (map tree_of_expr values.now)) }
     {
         let mut found = None;
         for value in values {
-            let value = self.value(ordinal, passed.here(), value, 0);
+            let value = self.value(ordinal, place, value, 0);
             found = lower(found, value_fault(width_in_bytes(width), &value));
         }
         found
@@ -121,115 +142,102 @@ impl<'a> Unit<'a> {
     /// The fault of values of data.
     fn fault_of_values(
         &self,
-        passed: &Tables<'_>,
         ordinal: usize,
+        place: SectionOffset,
         width: Width,
         values: &[Expr<'a>],
     ) -> Option<SourceCode>
-        ensures { (o : ℕ) → IsIndexed passed.now → IsBefore (tables_of passed.now) o → IsFilled self.now → ordinal ≡ o → IsLowest result (faults.directive_faults (laws.tables (said self.now)) (tables_of passed.now) o (Values (bytes_of width) (map tree_of_expr values.now))) }
+        ensures { (index : ℕ) → IsAt self.now index ordinal place (Directs (Values (bytes_of width) (map tree_of_expr values.now)))
+            → IsLowest result (faults.directive_faults (laws.tables (said self.now)) (passed (said self.now) index) (index + 1) (Values (bytes_of width) (map tree_of_expr values.now))) }
     {
-        let each = self.fault_of_each(passed, ordinal, width, values);
+        let each = self.fault_of_each(ordinal, place, width, values);
         let bytes = values_size(width, values.len());
         lower(
             each,
-            data_fault(passed.current_section(), passed.offset(), bytes),
+            data_fault(self.tables.section_at(place.section), place.offset, bytes),
         )
     }
 
     /// The fault of strings.
     fn fault_of_strings(
         &self,
-        passed: &Tables<'_>,
+        place: SectionOffset,
         ended: bool,
         strings: &[&[u8]],
     ) -> Option<SourceCode>
-        ensures { (all : laws.Tables) (o : ℕ) → IsLowest result (faults.directive_faults all (tables_of passed.now) o (Strings ended (map quoted strings.now))) }
+        ensures { (index o : ℕ) → IsAt self.now index o place (Directs (Strings ended (map quoted strings.now)))
+            → IsLowest result (faults.directive_faults (laws.tables (said self.now)) (passed (said self.now) index) (index + 1) (Strings ended (map quoted strings.now))) }
     {
         let bytes = strings_size(ended, strings);
-        data_fault(passed.current_section(), passed.offset(), bytes)
+        data_fault(self.tables.section_at(place.section), place.offset, bytes)
     }
 
     /// The fault of a label: its name is defined before.
-    fn fault_of_label(&self, passed: &Tables<'_>, name: &[u8]) -> Option<SourceCode>
-        ensures { (o : ℕ) → IsIndexed passed.now → IsBefore (tables_of passed.now) o → IsLowest result (faults.faulty_if (laws.is_defined (tables_of passed.now) o name.now) duplicate_label) }
+    fn fault_of_label(&self, ordinal: usize, name: &[u8]) -> Option<SourceCode>
+        ensures { (index : ℕ) (p : SectionOffsetOf) → IsAt self.now index ordinal p (Label name.now)
+            → IsLowest result (faults.faulty_if (laws.is_defined (passed (said self.now) index) (index + 1) name.now) duplicate_label) }
     {
-        faulty_if(passed.is_defined(name), SourceCode::DuplicateLabel)
+        faulty_if(
+            self.is_defined_before(ordinal, name),
+            SourceCode::DuplicateLabel,
+        )
     }
 
     /// The fault of an instruction: it stands in no section of code, or in one without bytes.
-    fn fault_of_instruction(&self, passed: &Tables<'_>) -> Option<SourceCode>
-        ensures { IsLowest result (faults.faulty_if (not (sections.current_section (tables_of passed.now).opened).executable || (sections.current_section (tables_of passed.now).opened).nobits) wrong_section) }
+    fn fault_of_instruction(&self, place: SectionOffset) -> Option<SourceCode>
+        ensures { (index o : ℕ) (kind : SpecKind) → laws.enters kind ≡ false → IsAt self.now index o place kind
+            → IsLowest result (faults.faulty_if (not (sections.current_section (passed (said self.now) index).opened).executable || (sections.current_section (passed (said self.now) index).opened).nobits) wrong_section) }
     {
-        let section = passed.current_section();
-        faulty_if(
-            !section.executable || section.nobits,
-            SourceCode::WrongSection,
-        )
+        instruction_fault(self.tables.section_at(place.section))
     }
 
-    /// The fault of a section that is entered: it is one more than there may be.
-    fn fault_of_section(&self, passed: &Tables<'_>, section: Section<'_>) -> Option<SourceCode>
-        ensures { IsIndexed passed.now → IsLowest result (faults.section_faults (tables_of passed.now).opened.sections (Some (section_of section.entry))) }
+    /// The fault of a section that is entered: it is one more than there may be, so that the source has none of its name.
+    fn fault_of_section(&self, section: Section<'_>) -> Option<SourceCode>
+        ensures { (index : ℕ) → IsFilled self.now → index < length (said self.now)
+            → (passed (said self.now) (index + 1)).opened ≡ sections.entered (passed (said self.now) index).opened (section_of section.entry)
+            → IsLowest result (faults.section_faults (passed (said self.now) index).opened.sections (Some (section_of section.entry))) }
     {
-        faulty_if(
-            !passed.knows(section.name) && passed.is_full(),
-            SourceCode::Limit,
-        )
+        faulty_if(!self.tables.knows(section.name), SourceCode::Limit)
     }
 
-    /// The fault of an option: a pop without its push.
-    fn fault_of_choice(&self, passed: &Tables<'_>, choice: Choice) -> Option<SourceCode>
-        ensures { IsLowest result (faults.choice_faults (tables_of passed.now).option_depth choice) }
-    {
-        match choice {
-            Choice::Pop => faulty_if(passed.option_depth == 0, SourceCode::OptionStack),
-            Choice::Rvc => None,
-            Choice::Norvc => None,
-            Choice::Relax => None,
-            Choice::Norelax => None,
-            Choice::Push => None,
-            Choice::Nopic => None,
-        }
-    }
-
-    /// The fault of a statement of an ordinal, with the tables of those before it.
+    /// The fault of a statement of an ordinal, at the offset where it stands, after so many pushes without their pop.
     fn fault(
         &self,
-        passed: &Tables<'_>,
         ordinal: usize,
+        place: SectionOffset,
+        depth: usize,
         kind: &StatementKind<'a>,
     ) -> Option<SourceCode>
-        ensures { (o : ℕ) → IsIndexed passed.now → IsBefore (tables_of passed.now) o → IsFilled self.now → ordinal ≡ o → IsLowest result (faults.faults (laws.tables (said self.now)) (tables_of passed.now) o (statement_kind kind.now)) }
+        ensures { (index : ℕ) → IsAt self.now index ordinal place (statement_kind kind.now) → depth ≡ (passed (said self.now) index).option_depth
+            → IsLowest result (faults.faults (laws.tables (said self.now)) (passed (said self.now) index) (index + 1) (statement_kind kind.now)) }
     {
         match kind {
-            StatementKind::Label(name) => self.fault_of_label(passed, *name),
+            StatementKind::Label(name) => self.fault_of_label(ordinal, *name),
             StatementKind::Numbered(_) => None,
-            StatementKind::Plain(_) => self.fault_of_instruction(passed),
-            StatementKind::With(..) => self.fault_of_instruction(passed),
-            StatementKind::Enters(standard) => {
-                self.fault_of_section(passed, Section::standard(*standard))
-            }
-            StatementKind::Opens(opening) => self.fault_of_section(
-                passed,
-                Section::of(opening.name, opening.flags, opening.kind),
-            ),
-            StatementKind::Sets(assignment) => self.fault_of_assignment(
-                passed, ordinal, assignment,
-            ),
+            StatementKind::Plain(_) => self.fault_of_instruction(place),
+            StatementKind::With(..) => self.fault_of_instruction(place),
+            StatementKind::WithFunction(..) => self.fault_of_instruction(place),
+            StatementKind::Enters(standard) => self.fault_of_section(Section::standard(*standard)),
+            StatementKind::Opens(opening) => self.fault_of_section(Section::of(
+                opening.name,
+                opening.flags,
+                opening.kind,
+            )),
+            StatementKind::Sets(assignment) => self.fault_of_assignment(ordinal, place, assignment),
             StatementKind::AlignsToPower(exponent) => {
-                self.fault_of_power(passed, ordinal, exponent)
+                self.fault_of_power(ordinal, place, exponent)
             }
-            StatementKind::AlignsToBytes(bytes) => self.fault_of_bytes(passed, ordinal, bytes),
+            StatementKind::AlignsToBytes(bytes) => self.fault_of_bytes(ordinal, place, bytes),
             StatementKind::Value(width, value) => {
-                self.fault_of_values(passed, ordinal, *width, std::slice::from_ref(value))
+                self.fault_of_values(ordinal, place, *width, std::slice::from_ref(value))
             }
             StatementKind::Values(width, values) => {
-                self.fault_of_values(passed, ordinal, *width, values)
+                self.fault_of_values(ordinal, place, *width, values)
             }
-            StatementKind::Ascii(strings) => self.fault_of_strings(passed, false, strings),
-            StatementKind::Asciz(strings) => self.fault_of_strings(passed, true, strings),
-            StatementKind::Zeros(count) => self.fault_of_zeros(passed, ordinal, count),
-            StatementKind::Chooses(choice) => self.fault_of_choice(passed, *choice),
+            StatementKind::Ascii(strings) => self.fault_of_strings(place, false, strings),
+            StatementKind::Asciz(strings) => self.fault_of_strings(place, true, strings),
+            StatementKind::Zeros(count) => self.fault_of_zeros(ordinal, place, count),
+            StatementKind::Chooses(choice) => choice_fault(depth, *choice),
             StatementKind::Globl(_) => None,
             StatementKind::Local(_) => None,
             StatementKind::Ignored => None,
@@ -237,18 +245,21 @@ impl<'a> Unit<'a> {
     }
 
     /// The first fault of the statements, with its line: a label's, a directive's, or that of an instruction outside code.
-    pub(crate) fn first_fault(&self, alloc: Global) -> Result<Option<(SourceCode, u32)>, AllocError>
-        ensures { IfOk result (λ found. IsFilled self.now → option_map fault_of found ≡ faults.first_fault (said self.now)) }
+    pub(crate) fn first_fault(&self) -> Option<(SourceCode, u32)>
+        requires { IsFilled self.now }
+        ensures { option_map fault_of result ≡ faults.first_fault (said self.now) }
     {
-        let mut passed = Tables::new(alloc)?;
-        let mut ordinal: usize = 0;
-        for statement in &self.statements {
-            ordinal += 1;
-            match self.fault(&passed, ordinal, &statement.kind) {
-                Some(code) => return Ok(Some((code, statement.line))),
-                None => passed.add(ordinal, &statement.kind)?,
+        let statements = self.statements();
+        let places = self.places();
+        let mut depth: usize = 0;
+        for index in 0..statements.len() {
+            let statement = &statements[index];
+            let place = places[index];
+            match self.fault(index + 1, place, depth, &statement.kind) {
+                Some(code) => return Some((code, statement.line)),
+                None => depth = depth_after(depth, &statement.kind),
             }
         }
-        Ok(None)
+        None
     }
 }

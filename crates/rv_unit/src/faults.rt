@@ -2,12 +2,13 @@
 
 ghost use Rattle.std.specs.Prelude.{◌≡◌, ◌≤◌, ◌<◌, ◌+◌, ◌^◌, ℕ, List, [], ◌∷◌, ◌++◌, Option, Some, None, not, ◌&&◌, ◌||◌, ◌==◌, nat_le, is_some};
 ghost use Rattle.rv_text_laws.specs.Codes.{duplicate_label, wrong_section};
-ghost use Rattle.rv_text.specs.Fault.{number_of};
+ghost use Rattle.rv_lexer.specs.Fault.{number_of};
 ghost use Rattle.rv_unit_laws.specs.Faults as laws;
 ghost use Rattle.rv_unit_laws.specs.Tables as tables;
 ghost use Rattle.rv_unit.specs.Faults.{IsLowest, ForValue};
 ghost use Rattle.rv_tables.specs.Sections.{section_of};
 
+use rv_statement::Choice;
 use rv_tables::{GREATEST_ALIGNMENT, LONGEST_SECTION, Section, is_power_below, padding};
 use rv_text::{SourceCode, SourceFault, Symbol, Value};
 
@@ -206,4 +207,29 @@ pub(crate) fn set_fault(
         Err(SourceFault::At { .. }) => constant_set_fault(placed, value),
         Err(SourceFault::OutOfMemory) => constant_set_fault(placed, value),
     }
+}
+
+/// The fault of an option, after so many pushes without their pop: a pop without its push.
+pub(crate) fn choice_fault(depth: usize, choice: Choice) -> Option<SourceCode>
+    ensures { IsLowest result (laws.choice_faults depth choice) }
+{
+    match choice {
+        Choice::Pop => faulty_if(depth == 0, SourceCode::OptionStack),
+        Choice::Rvc => None,
+        Choice::Norvc => None,
+        Choice::Relax => None,
+        Choice::Norelax => None,
+        Choice::Push => None,
+        Choice::Nopic => None,
+    }
+}
+
+/// The fault of an instruction in a section: it is none of code, or one without bytes.
+pub(crate) fn instruction_fault(section: Section<'_>) -> Option<SourceCode>
+    ensures { IsLowest result (laws.faulty_if (not section.entry.executable || section.entry.nobits) wrong_section) }
+{
+    faulty_if(
+        !section.executable || section.nobits,
+        SourceCode::WrongSection,
+    )
 }

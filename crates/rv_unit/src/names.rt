@@ -1,13 +1,13 @@
 //! What names mean in a statement, by its ordinal.
 
-ghost use Rattle.std.specs.Prelude.{◌≡◌, ℕ, ◌+◌, ◌≤◌, ◌<◌, true, false, length};
+ghost use Rattle.std.specs.Prelude.{◌≡◌, ℕ, ◌+◌, ◌≤◌, ◌<◌, ◌||◌, true, false, is_some, length};
 ghost use Rattle.rv_text_laws.specs.Bytes.{value as digits_value};
 ghost use Rattle.rv_text_laws.specs.Values.{Open};
 ghost use Rattle.rv_text.specs.Nodes.{symbol_of};
 ghost use Rattle.rv_text.specs.Expr.{tree_of_expr};
 ghost use Rattle.rv_text.specs.Eval.{meaning_of, IsOutcome};
 ghost use Rattle.rv_unit_laws.specs.Tables as laws;
-ghost use Rattle.rv_unit_laws.proofs.Before.{IsBefore};
+ghost use Rattle.rv_unit_laws.proofs.Before.{IsBefore, placed_latest};
 ghost use Rattle.rv_tables.specs.Sections.{offset_of};
 ghost use Rattle.rv_tables.specs.Tables.{tables_of, IsIndexed};
 ghost use Rattle.rv_unit.specs.Unit.{said, passed, IsFilled};
@@ -164,6 +164,28 @@ impl<'a> Unit<'a> {
         match self.tables.numeric_label_after(ordinal, digits) {
             Some(_) => Meaning::NotConstant,
             None => Meaning::UndefinedLocal,
+        }
+    }
+
+    /// Whether a label or an assignment has the name before an ordinal.
+    pub(crate) fn is_defined_before(&self, ordinal: usize, name: &[u8]) -> bool
+        ensures { IsIndexed (self.now).tables → (o : ℕ) → IsBefore (tables_of (self.now).tables) o → result ≡ laws.is_defined (tables_of (self.now).tables) ordinal name.now }
+    {
+        self.tables.label_before(ordinal, name).is_some()
+            || self.tables.assignment_before(ordinal, name).is_some()
+    }
+
+    /// Whether a label or a location has the name before an ordinal.
+    pub(crate) fn has_location_before(&self, ordinal: usize, name: &[u8]) -> bool
+        ensures { IsIndexed (self.now).tables → (o : ℕ) → IsBefore (tables_of (self.now).tables) o
+            → result ≡ (is_some (laws.label_of (tables_of (self.now).tables).labels false ordinal name.now) || placed_latest (laws.assigned_before (tables_of (self.now).tables).assignments ordinal name.now)) }
+    {
+        if self.tables.label_before(ordinal, name).is_some() {
+            return true;
+        }
+        match self.tables.assignment_before(ordinal, name) {
+            Some(assignment) => assignment.is_location(),
+            None => false,
         }
     }
 

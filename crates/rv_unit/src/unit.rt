@@ -30,10 +30,9 @@ impl<'a> Unit<'a> {
         ensures refuses { IfErr result (λ e. NamesFirst e (map statement_of (statements.entry).items)) }
     {
         let unit = Unit::fill(alloc, statements)?;
-        match unit.first_fault(alloc) {
-            Ok(None) => Ok(unit),
-            Ok(Some((code, line))) => Err(SourceFault::At { code, line }),
-            Err(_) => Err(SourceFault::OutOfMemory),
+        match unit.first_fault() {
+            None => Ok(unit),
+            Some((code, line)) => Err(SourceFault::At { code, line }),
         }
     }
 

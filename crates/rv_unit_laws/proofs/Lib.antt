@@ -6,3 +6,4 @@ pub mod Later
 pub mod Opened
 pub mod Settled
 pub mod Grown
+pub mod Asked

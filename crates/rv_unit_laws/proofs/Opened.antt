@@ -63,13 +63,13 @@ entered_open o section is_open = go (place_of_name o.sections section.name) refl
     go None e = new (nat_lt (length o.sections) most_sections)
 
 -- the section that a statement enters
-abbrev entered_in : StatementKind → Option Section
+abbrev pub entered_in : StatementKind → Option Section
 entered_in (Label name) = None
 entered_in (Numbered number) = None
 entered_in (Instruction mnemonic operands) = None
 entered_in (Directs directive) = entered_by directive
 
-abbrev next_opened : Opened → Option Section → Opened
+abbrev pub next_opened : Opened → Option Section → Opened
 next_opened o None = o
 next_opened o (Some section) = entered o section
 

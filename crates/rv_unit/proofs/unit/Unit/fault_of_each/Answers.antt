@@ -6,25 +6,25 @@ use Rattle.rv_statement.specs.View.{bytes_of}
 use Rattle.rv_unit_laws.specs.Faults as faults
 use Rattle.rv_unit_laws.specs.Tables as laws
 use Rattle.rv_unit.specs.Faults.{IsLowest}
-use Rattle.rv_tables.specs.Tables.{tables_of}
+use Rattle.rv_tables.specs.Sections.{offset_of}
 use Rattle.rv_unit.specs.Unit.{said}
 use Rattle.rv_unit.proofs.Each.{each_more}
 use Rattle.rv_unit.proofs.unit.Unit.fault_of_each.Goals as goal
 
 pub loop-value-preserved : goal.loop-value-preserved
-loop-value-preserved c = λ o i h f at.
+loop-value-preserved c = λ o f at.
     let n = c.loop-value.value-index in
     let xs = c.args.values.now in
     let x = c.value-item.result in
     let inside : n < length xs = search rules in
-    let each : Tree → List ℕ = (λ e. faults.value_faults (bytes_of c.args.width) (laws.value (laws.tables (said c.args.self.now)) true o (laws.here (tables_of c.args.passed.now)) e)) in
+    let each : Tree → List ℕ = (λ e. faults.value_faults (bytes_of c.args.width) (laws.value (laws.tables (said c.args.self.now)) true o (offset_of c.args.place) e)) in
     let value = c.value-value.ensures o f at in
     subst (IsLowest c.lower-found.result) (sym (each_more each xs n x inside c.value-item.is))
-    (c.lower-found.ensures (flat_map each (map tree_of_expr (take n xs))) (each (tree_of_expr x)) (c.loop-value.invariant o i h f at)
-    (subst (λ w. IsLowest c.value_fault.result (faults.value_faults w (laws.value (laws.tables (said c.args.self.now)) true o (laws.here (tables_of c.args.passed.now)) (tree_of_expr x)))) c.width_in_bytes.ensures
-    (subst (λ p. IsLowest c.value_fault.result (faults.value_faults c.width_in_bytes.result (laws.value (laws.tables (said c.args.self.now)) true o p (tree_of_expr x)))) c.here.ensures (c.value_fault.ensures 0 _ value))))
+    (c.lower-found.ensures (flat_map each (map tree_of_expr (take n xs))) (each (tree_of_expr x)) (c.loop-value.invariant o f at)
+    (subst (λ w. IsLowest c.value_fault.result (faults.value_faults w (laws.value (laws.tables (said c.args.self.now)) true o (offset_of c.args.place) (tree_of_expr x)))) c.width_in_bytes.ensures
+    (c.value_fault.ensures 0 _ value)))
 
 pub returns : goal.returns
-returns c = λ o i h f at.
-    let each : Tree → List ℕ = (λ e. faults.value_faults (bytes_of c.args.width) (laws.value (laws.tables (said c.args.self.now)) true o (laws.here (tables_of c.args.passed.now)) e)) in
-    subst (λ l. IsLowest c.loop-value.found (flat_map each (map tree_of_expr l))) (take_all c.loop-value.value-index c.args.values.now c.loop-value-test.false) (c.loop-value.invariant o i h f at)
+returns c = λ o f at.
+    let each : Tree → List ℕ = (λ e. faults.value_faults (bytes_of c.args.width) (laws.value (laws.tables (said c.args.self.now)) true o (offset_of c.args.place) e)) in
+    subst (λ l. IsLowest c.loop-value.found (flat_map each (map tree_of_expr l))) (take_all c.loop-value.value-index c.args.values.now c.loop-value-test.false) (c.loop-value.invariant o f at)

@@ -4,14 +4,13 @@ use Rattle.rv_text.specs.Expr.{tree_of_expr}
 use Rattle.rv_statement.specs.View.{bytes_of}
 use Rattle.rv_unit_laws.specs.Faults as faults
 use Rattle.rv_unit_laws.specs.Tables as laws
-use Rattle.rv_unit_laws.proofs.Before.{IsBefore}
 use Rattle.rv_unit.specs.Faults.{IsLowest}
-use Rattle.rv_tables.specs.Tables.{tables_of, IsIndexed}
+use Rattle.rv_tables.specs.Sections.{offset_of}
 use Rattle.rv_unit.specs.Unit.{said, IsFilled}
 use Rattle.rv_unit.proofs.unit.Unit.fault_of_each.Given as goal
 
 -- the lowest fault of the values so far
 abbrev pub invariant-loop-value : goal.invariant-loop-value
 invariant-loop-value l =
-    (o : ℕ) → IsIndexed l.passed → IsBefore (tables_of l.passed) o → IsFilled l.self → l.ordinal ≡ o
-    → IsLowest l.found (flat_map (λ e. faults.value_faults (bytes_of l.width) (laws.value (laws.tables (said l.self)) true o (laws.here (tables_of l.passed)) e)) (map tree_of_expr (take l.value-index l.values)))
+    (o : ℕ) → IsFilled l.self → l.ordinal ≡ o
+    → IsLowest l.found (flat_map (λ e. faults.value_faults (bytes_of l.width) (laws.value (laws.tables (said l.self)) true o (offset_of l.place) e)) (map tree_of_expr (take l.value-index l.values)))

@@ -1,10 +1,14 @@
-use Rattle.std.proofs.Common.{sym, ◌∙◌, subst}
+use Rattle.std.proofs.Common.{◌∙◌, ◌+◌, length, subst}
+use Rattle.rv_statement.specs.Statement.{Label}
 use Rattle.rv_unit_laws.specs.Faults as faults
-use Rattle.rv_unit_laws.proofs.Before.{defined_now}
 use Rattle.rv_unit.specs.Faults.{IsLowest}
-use Rattle.rv_tables.specs.Tables.{tables_of}
+use Rattle.rv_unit.specs.Unit.{said}
+use Rattle.rv_unit.proofs.Scoped.{whole_before}
+use Rattle.rv_unit.proofs.Standing.{at_defined}
 use Rattle.rv_unit.proofs.unit.Unit.fault_of_label.Goals as goal
 
 pub returns : goal.returns
-returns c = λ o i h.
-    subst (λ b. IsLowest c.faulty_if.result (faults.faulty_if b 11)) (c.is_defined.ensures i ∙ sym (defined_now (tables_of c.args.passed.now) o c.args.name.now h)) c.faulty_if.ensures
+returns c = λ i p at.
+    let u = c.args.self.now in
+    subst (λ b. IsLowest c.faulty_if.result (faults.faulty_if b 11))
+    (c.is_defined_before.ensures at.filled.indexed (1 + length (said u)) (whole_before u at.filled) ∙ at_defined u i c.args.ordinal p (Label c.args.name.now) c.args.name.now at) c.faulty_if.ensures

@@ -1,0 +1,28 @@
+use Rattle.std.proofs.Common.{◌∙◌, ◌+◌, sym, subst, refl, false}
+use Rattle.rv_text_laws.specs.Values.{Value}
+use Rattle.rv_text.specs.Expr.{tree_of_expr}
+use Rattle.rv_statement.specs.Statement.{StatementKind, Directs, Aligns_to_bytes}
+use Rattle.rv_unit_laws.specs.Faults as faults
+use Rattle.rv_unit_laws.specs.Sections.{current_section}
+use Rattle.rv_unit_laws.specs.Tables as laws
+use Rattle.rv_tables.specs.Sections.{section_of}
+use Rattle.rv_unit.specs.Faults.{IsLowest}
+use Rattle.rv_unit.specs.Unit.{said, passed}
+use Rattle.rv_unit.proofs.Standing.{at_here, at_home}
+use Rattle.rv_unit.proofs.unit.Unit.fault_of_bytes.Goals as goal
+
+pub returns : goal.returns
+returns c = λ i at.
+    let u = c.args.self.now in
+    let t = passed (said u) i in
+    let e = tree_of_expr c.args.bytes.now in
+    let kind : StatementKind = Directs (Aligns_to_bytes e) in
+    let worth : laws.SectionOffset → Value = λ q. laws.value (laws.tables (said u)) false (i + 1) q e in
+    let r = c.alignment_fault.result in
+    let here = at_here u i c.args.ordinal c.args.place kind at refl in
+    let value = c.early_value-value.ensures (i + 1) at.filled at.ordinal in
+    c.lower.ensures (faults.bytes_faults (worth (laws.here t))) (faults.alignment_faults (current_section t.opened) (laws.here t).offset (laws.byte_alignment (worth (laws.here t))))
+    (subst (λ q. IsLowest c.bytes_fault-found.result (faults.bytes_faults (worth q))) here (c.bytes_fault-found.ensures 0 _ value))
+    (subst (λ k. IsLowest r (faults.alignment_faults k (laws.here t).offset (laws.byte_alignment (worth (laws.here t))))) (c.section_at.ensures ∙ at_home u i c.args.ordinal c.args.place kind at refl)
+    (subst (λ (q : laws.SectionOffset). IsLowest r (faults.alignment_faults (section_of c.section_at.result) q.offset (laws.byte_alignment (worth q)))) here
+    (subst (λ a. IsLowest r (faults.alignment_faults (section_of c.section_at.result) c.args.place.offset a)) (c.byte_alignment.ensures _ value) c.alignment_fault.ensures)))

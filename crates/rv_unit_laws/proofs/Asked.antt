@@ -1,0 +1,188 @@
+-- What the tables before a statement answer, asked of the tables of the whole source.
+
+use Rattle.std.proofs.Common.{◌≡◌, ℕ, zero, suc, ◌+◌, ◌-◌, ◌<◌, Bool, true, false, ◌&&◌, ◌||◌, ◌==◌, nat_lt, List, [], ◌∷◌, ◌++◌, length, take, get_or, refl, sym, ap, ◌∙◌, arith, Option, Some, None}
+use Rattle.std.specs.Prelude.{not, is_some, if◌then◌else◌}
+use Rattle.std.specs.Str.{bytes_eq}
+use Rattle.rv_text_laws.specs.Values.{Value}
+use Rattle.rv_statement.specs.Statement.{StatementKind, Label, Numbered, Instruction, Directs, Statement, Expression, Directive}
+use Rattle.rv_statement.specs.declared.directive.Choice.{Choice}
+use Rattle.rv_statement.specs.declared.directive.Choice.TheVariants.{Push, Pop}
+use Rattle.rv_unit_laws.specs.Sections.{Section, Opened, place_of_name, most_sections, text_section, entered_at, entered, entered_by, section_at, current_section}
+use Rattle.rv_unit_laws.specs.Contributions.{Contribution, Nothing, contribution}
+use Rattle.rv_unit_laws.specs.Tables.{Tables, SectionOffset, Assignment, here, stood, places_from, value, assigned_by, chosen, label_of, assigned_before, assigned_ever, is_defined, has_location, may_set, with_assignment, with_section, with_contribution, with_choice, with_chosen, after_directive, after, after_all}
+use Rattle.rv_unit_laws.proofs.Before.{IsBefore, label_before, set_now, has_place_now, placed_latest}
+use Rattle.rv_unit_laws.proofs.Entering.{place_more, or_last}
+use Rattle.rv_unit_laws.proofs.Found.{bytes_same}
+use Rattle.rv_unit_laws.proofs.Later.{Keeps}
+use Rattle.rv_unit_laws.proofs.Opened.{IsOpen, got, got_of, entered_in, next_opened, after_opened, stays_all, open_inside}
+
+-- ---- names
+
+-- whether a name is defined before an ordinal
+pub defined_kept : (t u : Tables) (o : ℕ) (name : List ℕ) → Keeps t u o → is_defined u o name ≡ is_defined t o name
+defined_kept t u o name k =
+    ap (λ l. is_some l || is_some (assigned_before u.assignments o name)) (k.labels (λ l. bytes_eq l.name name))
+    ∙ ap (λ s. is_some (label_of t.labels false o name) || is_some s) (k.assignments (λ s. bytes_eq s.name name))
+
+-- whether it is a label or a location before an ordinal, by look-ups
+pub location_kept : (t u : Tables) (o : ℕ) (name : List ℕ) → IsBefore t o → Keeps t u o
+    → (is_some (label_of u.labels false o name) || placed_latest (assigned_before u.assignments o name)) ≡ has_location t o name
+location_kept t u o name h k =
+    ap (λ l. is_some l || placed_latest (assigned_before u.assignments o name)) (k.labels (λ l. bytes_eq l.name name) ∙ label_before t o name h)
+    ∙ ap (λ s. is_some (label_of t.labels true 0 name) || placed_latest s) (k.assignments (λ s. bytes_eq s.name name) ∙ set_now t o name h)
+    ∙ sym (has_place_now t o name h)
+
+-- ---- sections
+
+-- the current section
+pub home_same : (t : Tables) (k : ℕ) (ss : List Statement) → IsOpen t.opened → section_at (after_all t k ss).opened t.opened.current ≡ current_section t.opened
+home_same t k ss is_open =
+    let at = got t.opened.sections t.opened.current text_section (open_inside t.opened is_open) in
+    got_of (after_all t k ss).opened.sections t.opened.current text_section (current_section t.opened) (stays_all t k ss is_open t.opened.current (current_section t.opened) at)
+
+-- a section more
+abbrev with_last : Opened → Section → Opened
+with_last o section = record { sections = o.sections ++ section ∷ []; current = length o.sections }
+
+-- a name that is known keeps its index
+known_next : (o : Opened) (found : Option Section) (name : List ℕ) (i : ℕ) → place_of_name o.sections name ≡ Some i → place_of_name (next_opened o found).sections name ≡ Some i
+known_next o None name i e = e
+known_next o (Some section) name i e = go (place_of_name o.sections section.name)
+  where
+    new : (b : Bool) → place_of_name (if b then with_last o section else o).sections name ≡ Some i
+    new true = place_more o.sections section name ∙ ap (λ f. or_last f (length o.sections) (bytes_eq section.name name)) e
+    new false = e
+
+    go : (found : Option ℕ) → place_of_name (entered_at o section found).sections name ≡ Some i
+    go (Some j) = e
+    go None = new (nat_lt (length o.sections) most_sections)
+
+known_later : (t : Tables) (k : ℕ) (ss : List Statement) (name : List ℕ) (i : ℕ) → place_of_name t.opened.sections name ≡ Some i → place_of_name (after_all t k ss).opened.sections name ≡ Some i
+known_later t k [] name i e = e
+known_later t k (s ∷ ss) name i e =
+    known_later (after t k s.kind) (suc k) ss name i
+    (ap (λ (o : Opened). place_of_name o.sections name) (after_opened t k s.kind) ∙ known_next t.opened (entered_in s.kind) name i e)
+
+-- where there are as many sections as there may be, they stay the same
+full_next : (o : Opened) (found : Option Section) → nat_lt (length o.sections) most_sections ≡ false → (next_opened o found).sections ≡ o.sections
+full_next o None full = refl
+full_next o (Some section) full = go (place_of_name o.sections section.name)
+  where
+    new : (b : Bool) → b ≡ false → (if b then with_last o section else o).sections ≡ o.sections
+    new true e = absurd (cc)
+    new false e = refl
+
+    go : (found : Option ℕ) → (entered_at o section found).sections ≡ o.sections
+    go (Some j) = refl
+    go None = new (nat_lt (length o.sections) most_sections) full
+
+full_later : (t : Tables) (k : ℕ) (ss : List Statement) → nat_lt (length t.opened.sections) most_sections ≡ false → (after_all t k ss).opened.sections ≡ t.opened.sections
+full_later t k [] full = refl
+full_later t k (s ∷ ss) full =
+    let now : (after t k s.kind).opened.sections ≡ t.opened.sections = ap (λ (o : Opened). o.sections) (after_opened t k s.kind) ∙ full_next t.opened (entered_in s.kind) full in
+    full_later (after t k s.kind) (suc k) ss (ap (λ l. nat_lt (length l) most_sections) now ∙ full) ∙ now
+
+-- a new section has its name
+new_known : (o : Opened) (section : Section) → place_of_name o.sections section.name ≡ None → nat_lt (length o.sections) most_sections ≡ true
+    → place_of_name (entered o section).sections section.name ≡ Some (length o.sections)
+new_known o section none room =
+    ap (λ f. place_of_name (entered_at o section f).sections section.name) none
+    ∙ ap (λ b. place_of_name (if b then with_last o section else o).sections section.name) room
+    ∙ place_more o.sections section section.name
+    ∙ ap (λ f. or_last f (length o.sections) (bytes_eq section.name section.name)) none
+    ∙ ap (or_last None (length o.sections)) (bytes_same section.name)
+
+-- a section that is entered is one too many where its name is not known in the end
+pub too_many : (t now : Tables) (k : ℕ) (ss : List Statement) (section : Section) → now.opened ≡ entered t.opened section
+    → not (is_some (place_of_name (after_all now k ss).opened.sections section.name))
+    ≡ (not (is_some (place_of_name t.opened.sections section.name)) && not (nat_lt (length t.opened.sections) most_sections))
+too_many t now k ss section is = go (place_of_name t.opened.sections section.name) refl
+  where
+    found_later : (i : ℕ) → place_of_name (entered t.opened section).sections section.name ≡ Some i → not (is_some (place_of_name (after_all now k ss).opened.sections section.name)) ≡ false
+    found_later i e =
+        ap (λ f. not (is_some f)) (known_later now k ss section.name i (ap (λ (o : Opened). place_of_name o.sections section.name) is ∙ e))
+
+    by : (b : Bool) → nat_lt (length t.opened.sections) most_sections ≡ b → place_of_name t.opened.sections section.name ≡ None
+        → not (is_some (place_of_name (after_all now k ss).opened.sections section.name)) ≡ not b
+    by true room none = found_later (length t.opened.sections) (new_known t.opened section none room)
+    by false full none =
+        let same : now.opened.sections ≡ t.opened.sections = ap (λ (o : Opened). o.sections) is ∙ full_next t.opened (Some section) full in
+        ap (λ l. not (is_some (place_of_name l section.name))) (full_later now k ss (ap (λ l. nat_lt (length l) most_sections) same ∙ full) ∙ same)
+        ∙ ap (λ f. not (is_some f)) none
+
+    go : (found : Option ℕ) → place_of_name t.opened.sections section.name ≡ found
+        → not (is_some (place_of_name (after_all now k ss).opened.sections section.name)) ≡ (not (is_some found) && not (nat_lt (length t.opened.sections) most_sections))
+    go (Some i) e = found_later i (known_next t.opened (Some section) section.name i e)
+    go None e = by (nat_lt (length t.opened.sections) most_sections) refl e
+
+-- ---- places
+
+pub places_length : (t : Tables) (k : ℕ) (ss : List Statement) → length (places_from t k ss) ≡ length ss
+places_length t k [] = refl
+places_length t k (s ∷ ss) = ap suc (places_length (after t k s.kind) (suc k) ss)
+
+-- where the statement at an index stands
+pub place_at : (t : Tables) (k : ℕ) (ss : List Statement) (i : ℕ) (d : SectionOffset) (x : Statement) → i < length ss
+    → get_or (places_from t k ss) i d ≡ stood (after_all t k (take i ss)) (k + i) (get_or ss i x).kind
+place_at t k [] i d x inside = absurd (omega arith)
+place_at t k (s ∷ ss) zero d x inside = ap (λ n. stood t n s.kind) (let e : k ≡ k + 0 = omega arith in e)
+place_at t k (s ∷ ss) (suc i) d x inside =
+    place_at (after t k s.kind) (suc k) ss i d x (omega arith)
+    ∙ ap (λ n. stood (after_all (after t k s.kind) (suc k) (take i ss)) n (get_or ss i x).kind) (let e : suc k + i ≡ k + suc i = omega arith in e)
+
+-- ---- options
+
+-- the depth of the option stack after a choice
+abbrev pub depth_chosen : ℕ → Choice → ℕ
+depth_chosen depth Push = suc depth
+depth_chosen depth Pop = depth - 1
+depth_chosen depth _ = depth
+
+abbrev depth_by : ℕ → Option Choice → ℕ
+depth_by depth None = depth
+depth_by depth (Some choice) = depth_chosen depth choice
+
+-- and after a statement
+abbrev pub depth_after : ℕ → StatementKind → ℕ
+depth_after depth (Directs directive) = depth_by depth (chosen directive)
+depth_after depth _ = depth
+
+if_depth : (b : Bool) (t u : Tables) (n : ℕ) → t.option_depth ≡ n → u.option_depth ≡ n → (if b then t else u).option_depth ≡ n
+if_depth true t u n e f = e
+if_depth false t u n e f = f
+
+set_depth : (t : Tables) (found : Option Assignment) → (with_assignment t found).option_depth ≡ t.option_depth
+set_depth t None = refl
+set_depth t (Some s) = if_depth (may_set t s.ordinal s.name s.meaning) _ t t.option_depth refl refl
+
+section_depth : (t : Tables) (found : Option Section) → (with_section t found).option_depth ≡ t.option_depth
+section_depth t None = refl
+section_depth t (Some section) = if_depth (length (entered t.opened section).sections == length t.opened.sections) _ _ t.option_depth refl refl
+
+choice_depth : (t : Tables) (choice : Choice) → (with_choice t choice).option_depth ≡ depth_chosen t.option_depth choice
+choice_depth t Push = refl
+choice_depth t Pop = refl
+choice_depth t _ = refl
+
+chosen_depth : (t : Tables) (found : Option Choice) → (with_chosen t found).option_depth ≡ depth_by t.option_depth found
+chosen_depth t None = refl
+chosen_depth t (Some choice) = choice_depth t choice
+
+contribution_depth : (t : Tables) (v : Expression → Value) (c : Contribution) → (with_contribution t v c).option_depth ≡ t.option_depth
+contribution_depth t v Nothing = refl
+contribution_depth t v _ = refl
+
+directive_depth : (t : Tables) (o : ℕ) (d : Directive) → (after_directive t o d).option_depth ≡ depth_by t.option_depth (chosen d)
+directive_depth t o d =
+    let v : Expression → Value = value t false o (here t) in
+    let entered = with_section t (entered_by d) in
+    let named = with_assignment entered (assigned_by v o d) in
+    contribution_depth (with_chosen named (chosen d)) v (contribution d)
+    ∙ chosen_depth named (chosen d)
+    ∙ ap (λ n. depth_by n (chosen d)) (set_depth entered (assigned_by v o d) ∙ section_depth t (entered_by d))
+
+pub after_depth : (t : Tables) (o : ℕ) (s : StatementKind) → (after t o s).option_depth ≡ depth_after t.option_depth s
+after_depth t o (Label name) = if_depth (is_defined t o name) t _ t.option_depth refl refl
+after_depth t o (Numbered number) = refl
+after_depth t o (Instruction mnemonic operands) = refl
+after_depth t o (Directs d) = directive_depth t o d
