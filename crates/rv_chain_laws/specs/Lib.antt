@@ -2,4 +2,5 @@ pub mod Realizes
 pub mod Agrees
 pub mod Headline
 pub mod Contents
+pub mod InstructionFaults
 pub mod Refusals

@@ -1,63 +1,30 @@
 -- Why one source is refused that reads well: after the faults of its labels and directives those of its instructions and of
--- the sizes of code, and then those of the link. Compressed code, symbols in instructions and long constants are not built
--- yet: they are refused as such.
+-- the sizes of code, and then those of the link.
 
-use Rattle.std.specs.Prelude.{ℕ, suc, ◌+◌, ◌^◌, Bool, true, false, not, ◌&&◌, ◌==◌, nat_lt, List, [], ◌∷◌, ◌++◌, filter, flat_map, Option, Some, None, is_some, codes, if◌then◌else◌}
+use Rattle.std.specs.Prelude.{ℕ, suc, ◌+◌, Bool, true, false, ◌&&◌, ◌==◌, nat_lt, List, [], ◌∷◌, ◌++◌, filter, flat_map, Option, Some, None, codes, if◌then◌else◌}
 use Rattle.std.specs.List.{list_any}
-use Rattle.rv_isa.specs.Ranges.{shift_limit}
 use Rattle.rv_text_laws.specs.Expression.{Primary, Symbol}
-use Rattle.rv_text_laws.specs.Codes.{unsupported_here, not_constant, immediate_range, limit}
+use Rattle.rv_text_laws.specs.Codes.{limit}
 use Rattle.rv_text_laws.specs.Values.{Value, Constant, Symbolic, Difference, Faulty}
-use Rattle.rv_statement.specs.declared.mnemonic.Mnemonic.{Mnemonic}
-use Rattle.rv_statement.specs.declared.mnemonic.Mnemonic.TheVariants.{Registers, Shift, Upper, Li}
 use Rattle.rv_statement.specs.Statement.{StatementKind, Instruction, Directs, Statement, Expression, Directive, Values}
-use Rattle.rv_parse_laws.specs.Syntax.{with_constant}
 use Rattle.rv_unit_laws.specs.Sections.{Section}
 use Rattle.rv_unit_laws.specs.Tables.{Tables, Definition, tables, definition as home, value, longest_section}
-use Rattle.rv_unit_laws.specs.Faults.{Fault, faulty_if, lowest, at_line, first_fault}
+use Rattle.rv_unit_laws.specs.Faults.{Fault, lowest, at_line, first_fault}
 use Rattle.rv_map.specs.Map.{Map}
 use Rattle.rv_source_laws.specs.Located.{Located, located, has_row}
 use Rattle.rv_source_laws.specs.Options.{Options, first_options, options_after}
-use Rattle.rv_source_laws.specs.Program.{Mapped, Program, program, form, place_of, number, expressions, is_symbolic, is_far}
-use Rattle.rv_source_laws.specs.Meaning.{fits_12}
+use Rattle.rv_source_laws.specs.Program.{Mapped, Program, program, form, place_of, number, is_symbolic, is_far}
 use Rattle.rv_source_laws.specs.Fits.{Fits}
 use Rattle.rv_source_laws.specs.Resolves.{Resolves, is_one_of, begins_run}
 use Rattle.rv_chain_laws.specs.Contents.{IsCodeWritten}
+use Rattle.rv_chain_laws.specs.InstructionFaults.{instruction_faults, is_label}
 
 -- ---- instructions
-
--- whether a constant is in the range of an instruction's number: a shift's, 20 bits, else 12 signed ones
-abbrev pub takes : Mnemonic → ℕ → Bool
-takes (Shift operation) n = nat_lt n (shift_limit operation)
-takes (Upper operation) n = nat_lt n (2 ^ 20)
-takes mnemonic n = is_some (fits_12 n)
-
-abbrev pub form_takes : Option Mnemonic → ℕ → Bool
-form_takes None n = false
-form_takes (Some mnemonic) n = takes mnemonic n
-
--- `li` of a longer constant is not built yet
-abbrev pub range_faults : Mnemonic → ℕ → List ℕ
-range_faults Li n = faulty_if (not (takes Li n)) unsupported_here
-range_faults (Registers operation) n = faulty_if (not (form_takes (with_constant operation) n)) immediate_range
-range_faults mnemonic n = faulty_if (not (takes mnemonic n)) immediate_range
-
--- an instruction's expression has to be a constant
-abbrev pub operand_faults : Mnemonic → Value → List ℕ
-operand_faults mnemonic (Constant n) = range_faults mnemonic n
-operand_faults mnemonic (Faulty code) = code ∷ []
-operand_faults mnemonic _ = not_constant ∷ []
-
--- the codes of an instruction's faults, by the values of its expressions
-abbrev pub instruction_faults : Options → (Expression → Value) → StatementKind → List ℕ
-instruction_faults o v (Instruction mnemonic operands) =
-    faulty_if o.rvc unsupported_here ++ flat_map (λ e. operand_faults mnemonic (v e)) (expressions (Instruction mnemonic operands))
-instruction_faults o v _ = []
 
 abbrev pub instruction_fault_from : Tables → Options → List Located → Option Fault
 instruction_fault_from t o [] = None
 instruction_fault_from t o (s ∷ ss) =
-    at_line s.line (lowest (instruction_faults o (λ e. value t true s.ordinal (place_of s) e) s.kind))
+    at_line s.line (lowest (instruction_faults o (λ e. value t true s.ordinal (place_of s) e) (is_label t s.ordinal) s.kind))
     (instruction_fault_from t (options_after o s.kind) ss)
 
 -- the first faulty instruction, with the lowest code of its faults

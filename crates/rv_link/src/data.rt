@@ -118,6 +118,7 @@ pub fn put_data<'a>(
         StatementKind::Numbered(_) => Ok(()),
         StatementKind::Plain(_) => Ok(()),
         StatementKind::With(..) => Ok(()),
+        StatementKind::WithFunction(..) => Ok(()),
         StatementKind::Enters(_) => Ok(()),
         StatementKind::Opens(_) => Ok(()),
         StatementKind::Globl(_) => Ok(()),

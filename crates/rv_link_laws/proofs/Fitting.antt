@@ -13,18 +13,18 @@ use Rattle.rv_isa.specs.Ranges.{IsValid}
 use Rattle.rv_text_laws.specs.Expression.{Primary}
 use Rattle.rv_text_laws.specs.Values.{Value, Constant, Symbolic, Difference, Faulty}
 use Rattle.rv_statement.specs.declared.mnemonic.Mnemonic.{Mnemonic}
-use Rattle.rv_statement.specs.Statement.{StatementKind, Label, Numbered, Instruction, Directs, Expression, Operand, Register, Value as Of_value, Accesses, Word, Quoted, Directive, Sets, Aligns_to_power, Aligns_to_bytes, Values, Strings, Zeros}
+use Rattle.rv_statement.specs.Statement.{StatementKind, Label, Numbered, Instruction, Directs, Expression, Operand, Register, Value as Of_value, Applied, Target, Accesses, Word, Quoted, Directive, Sets, Aligns_to_power, Aligns_to_bytes, Values, Strings, Zeros}
 use Rattle.rv_unit_laws.specs.Sections.{Section}
 use Rattle.rv_unit_laws.specs.Tables.{alignment_of, padding, aligned}
 use Rattle.rv_map.specs.declared.map.Row.{Row}
 use Rattle.rv_source_laws.specs.Program.{Mapped, Program, form, address, resolved, number, has_values, expressions, in_operand}
 use Rattle.rv_source_laws.specs.Meaning.{expansion, expanded, expanded_with, padding_count, no_operation}
 use Rattle.rv_source_laws.specs.Written.{arguments, argument}
-use Rattle.rv_source_laws.specs.Fits.{SizeFits, IsRowOf, IsPaddingIn, is_constant}
+use Rattle.rv_source_laws.specs.Fits.{constant_in, SizeFits, IsRowOf, IsPaddingIn, is_constant}
 use Rattle.rv_chain_laws.specs.Contents.{IsWritten, words, code_bytes}
 use Rattle.rv_source_laws.specs.Start.{little_endian}
 use Rattle.rv_chain_laws.proofs.Held.{IsHeld, DirectiveHeld}
-use Rattle.rv_link_laws.specs.Suits.{constant_in, IsInstruction, IsMultiple, SuitsPadding, SuitsDirective, Suits, code_said}
+use Rattle.rv_link_laws.specs.Suits.{IsInstruction, IsMultiple, SuitsPadding, SuitsDirective, Suits, code_said}
 
 -- ---- constants
 
@@ -57,6 +57,14 @@ same_arguments a f (Of_value e ∷ os) h =
     let parts = and_parts (is_constant (f e)) (list_all (λ e. is_constant (f e)) (flat_map in_operand os)) h in
     ap (λ n. argument (λ e. n) (Of_value e) ∷ arguments (λ e. unwrap_or (resolved a (f e)) 0) os) (constant_number a (f e) parts.0)
     ∙ ap (λ l. argument (λ e. constant_in (f e)) (Of_value e) ∷ l) (same_arguments a f os parts.1)
+same_arguments a f (Applied g e ∷ os) h =
+    let parts = and_parts (is_constant (f e)) (list_all (λ e. is_constant (f e)) (flat_map in_operand os)) h in
+    ap (λ n. argument (λ e. n) (Applied g e) ∷ arguments (λ e. unwrap_or (resolved a (f e)) 0) os) (constant_number a (f e) parts.0)
+    ∙ ap (λ l. argument (λ e. constant_in (f e)) (Applied g e) ∷ l) (same_arguments a f os parts.1)
+same_arguments a f (Target e ∷ os) h =
+    let parts = and_parts (is_constant (f e)) (list_all (λ e. is_constant (f e)) (flat_map in_operand os)) h in
+    ap (λ n. argument (λ e. n) (Target e) ∷ arguments (λ e. unwrap_or (resolved a (f e)) 0) os) (constant_number a (f e) parts.0)
+    ∙ ap (λ l. argument (λ e. constant_in (f e)) (Target e) ∷ l) (same_arguments a f os parts.1)
 same_arguments a f (Accesses s ∷ os) h = ap (λ l. argument (λ e. constant_in (f e)) (Accesses s) ∷ l) (same_arguments a f os h)
 same_arguments a f (Word w ∷ os) h = ap (λ l. argument (λ e. constant_in (f e)) (Word w) ∷ l) (same_arguments a f os h)
 same_arguments a f (Quoted q ∷ os) h = ap (λ l. argument (λ e. constant_in (f e)) (Quoted q) ∷ l) (same_arguments a f os h)

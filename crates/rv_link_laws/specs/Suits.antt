@@ -10,14 +10,9 @@ use Rattle.rv_unit_laws.specs.Sections.{Section}
 use Rattle.rv_unit_laws.specs.Tables.{alignment_of, padding, string_bytes}
 use Rattle.rv_map.specs.declared.map.Row.{Row}
 use Rattle.rv_source_laws.specs.Program.{expressions}
-use Rattle.rv_source_laws.specs.Fits.{is_constant, is_low}
+use Rattle.rv_source_laws.specs.Fits.{is_constant, constant_in, is_low}
 use Rattle.rv_source_laws.specs.Meaning.{expanded, expanded_said}
 use Rattle.rv_chain_laws.specs.Contents.{words}
-
--- the number of a constant
-abbrev pub constant_in : Value → ℕ
-constant_in (Constant n) = n
-constant_in _ = 0
 
 -- the one valid instruction of a statement whose expressions are constants
 abbrev pub IsInstruction : (Expression → Value) → StatementKind → Inst → Type 0

@@ -42,6 +42,11 @@ abbrev pub is_constant : Value → Bool
 is_constant (Constant n) = true
 is_constant _ = false
 
+-- the number of a constant
+abbrev pub constant_in : Value → ℕ
+constant_in (Constant n) = n
+constant_in _ = 0
+
 abbrev pub has_constants : Program → Mapped → Bool
 has_constants p s = list_all (λ e. is_constant (form p s.located e)) (expressions s.located.kind)
 

@@ -5,7 +5,7 @@ use Rattle.std.specs.Prelude.{ℕ, ◌-◌, ◌^◌, Bool, true, false, not, ◌
 use Rattle.std.specs.List.{find, list_all}
 use Rattle.rv_text_laws.specs.Expression.{Primary, Symbol}
 use Rattle.rv_text_laws.specs.Values.{Value, Constant, Symbolic, Difference, Faulty, add, subtract}
-use Rattle.rv_statement.specs.Statement.{StatementKind, Label, Numbered, Instruction, Directs, Statement, Expression, Operand, Value as Of_value}
+use Rattle.rv_statement.specs.Statement.{StatementKind, Label, Numbered, Instruction, Directs, Statement, Expression, Operand, Value as Of_value, Applied, Target}
 use Rattle.rv_unit_laws.specs.Contributions.{Numbers, Contribution, Bytes, Zero_bytes, Alignment, contribution}
 use Rattle.rv_unit_laws.specs.Tables.{Tables, SectionOffset, Definition, tables, at_start, definition, value as value_in_file}
 use Rattle.rv_map.specs.Map.{Map, Global}
@@ -124,6 +124,8 @@ is_far n = not (nat_lt n (2 ^ 32) || nat_le (2 ^ 64 - 2 ^ 31) n)
 -- the expressions that a statement evaluates where it stands; what `.set` gives stands in the tables
 abbrev pub in_operand : Operand → List Expression
 in_operand (Of_value e) = e ∷ []
+in_operand (Applied function e) = e ∷ []
+in_operand (Target e) = e ∷ []
 in_operand _ = []
 
 abbrev pub in_contribution : Contribution → List Expression

@@ -16,7 +16,8 @@ use Rattle.rv_isa.specs.declared.operation.AccessSet.{AccessSet}
 use Rattle.rv_isa.specs.declared.operation.AtomicForm.{AtomicForm}
 use Rattle.rv_statement.specs.declared.mnemonic.Mnemonic.{Mnemonic}
 use Rattle.rv_statement.specs.declared.mnemonic.Mnemonic.TheVariants.{Registers, Immediate, Shift, Upper, Load, Store, Jalr, LoadReserved, Atomic, Fence, FenceTso, Ecall, Ebreak}
-use Rattle.rv_statement.specs.Statement.{Operand, Register, Value, Accesses, Word, Quoted, Expression}
+use Rattle.rv_statement.specs.declared.pseudo.Function.{Function}
+use Rattle.rv_statement.specs.Statement.{Operand, Register, Value, Applied, Target, Accesses, Word, Quoted, Expression}
 use Rattle.rv_parse_laws.specs.Syntax.{with_constant}
 
 -- a number below 2 ^ 64 taken as signed: 64-bit two's complement
@@ -50,12 +51,17 @@ pub data Argument : Type 0 where
   Of_register : (number : ℕ) → Argument
   Of_number : (number : ℕ) → Argument
   Of_accesses : (set : AccessSet) → Argument
+  -- the address of a target, and a part of a value: no base mnemonic takes them yet, so they write no instruction
+  Of_target : (address : ℕ) → Argument
+  Of_part : (function : Function) (number : ℕ) → Argument
   -- a word or a string, which no instruction has
   Of_text : (bytes : List ℕ) → Argument
 
 abbrev pub argument : (Expression → ℕ) → Operand → Argument
 argument v (Register number) = Of_register number
 argument v (Value e) = Of_number (v e)
+argument v (Applied function e) = Of_part function (v e)
+argument v (Target e) = Of_target (v e)
 argument v (Accesses set) = Of_accesses set
 argument v (Word name) = Of_text name
 argument v (Quoted bytes) = Of_text bytes

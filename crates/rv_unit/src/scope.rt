@@ -1,6 +1,6 @@
 //! What names mean, statement by statement.
 
-ghost use Rattle.std.specs.Prelude.{◌≡◌, ℕ, ◌+◌, ◌<◌, true, false, length, option_map};
+ghost use Rattle.std.specs.Prelude.{◌≡◌, ℕ, ◌+◌, ◌<◌, true, false, length, option_map, is_some};
 ghost use Rattle.rv_text.specs.Nodes.{symbol_of};
 ghost use Rattle.rv_text.specs.Expr.{tree_of_expr};
 ghost use Rattle.rv_text.specs.Eval.{meaning_of, IsOutcome};
@@ -110,6 +110,13 @@ impl<'u, 'a> Scope<'u, 'a> {
             }),
             None => definition_of_assignment(self.unit.tables.assignment(name)),
         }
+    }
+
+    /// Whether a name is that of a label of this source, before the statement that is next or after it.
+    pub fn is_label(&self, name: &[u8]) -> bool
+        ensures { IsFilled (self.now).unit.now → result ≡ is_some (laws.label_of (laws.tables (said (self.now).unit.now)).labels true 0 name.now) }
+    {
+        self.unit.tables.label(name).is_some()
     }
 
     /// The value of an expression of the statement that is next, which stands at the offset; a fault has this line.
