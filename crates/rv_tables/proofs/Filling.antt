@@ -1,13 +1,11 @@
 -- Tables that are filled statement by statement.
 
-use Rattle.std.proofs.Common.{◌≡◌, ℕ, suc, ◌+◌, ◌<◌, ◌≤◌, List, [], ◌∷◌, ◌++◌, length, map, take, drop, get_or, refl, sym, ap, ◌∙◌, subst, arith, append_assoc, append-nil}
+use Rattle.std.proofs.Common.{◌≡◌, ℕ, suc, ◌+◌, ◌<◌, List, [], ◌∷◌, ◌++◌, length, map, drop, get_or, refl, sym, ap, ◌∙◌, subst, arith, append_assoc, append-nil}
 use Rattle.std.specs.List.{drop-map}
 use Rattle.std.proofs.Math.Seq.{drop-cons}
-use Rattle.std.proofs.lemmas.List.{take_more, take-append-drop, length-take-le}
 use Rattle.rv_statement.specs.Statement.{Statement}
 use Rattle.rv_unit_laws.specs.Tables.{Tables, SectionOffset, at_start, after, after_all, tables, stood, places, places_from}
-use Rattle.rv_unit_laws.proofs.Before.{IsBefore, before_after, before_all, before_start}
-use Rattle.rv_unit_laws.proofs.Later.{Keeps, keeps_all}
+use Rattle.rv_unit_laws.proofs.Before.{IsBefore, before_after, before_start}
 
 -- `done` statements are done, and with what the rest changes the tables and the offsets are those of all
 pub record FillsTo (t : Tables) (done : ℕ) (rest all : List Statement) (so_far : List SectionOffset) : Type 0 where

@@ -149,7 +149,7 @@ impl<'a> Tables<'a> {
     }
 
     /// What a statement of this ordinal changes.
-    pub fn add(&mut self, ordinal: usize, kind: &StatementKind<'a>) -> Result<(), AllocError>
+    fn add(&mut self, ordinal: usize, kind: &StatementKind<'a>) -> Result<(), AllocError>
         ensures tables { OnOk result (IsIndexed self.old → IsBefore (tables_of self.old) ordinal → tables_of self.new ≡ laws.after (tables_of self.old) ordinal (statement_kind kind.now)) }
         ensures indexed { OnOk result (IsIndexed self.old → IsIndexed self.new) }
     {

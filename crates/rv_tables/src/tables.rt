@@ -97,7 +97,7 @@ pub struct Tables<'a> {
     pub assignments: Vec<Assignment<'a>>,
     pub(crate) by_name: IndexMap<&'a [u8], Vec<Assignment<'a>>>,
     /// The depth of the option stack: pushes without their pop.
-    pub option_depth: usize,
+    pub(crate) option_depth: usize,
 }
 
 impl<'a> Tables<'a> {
@@ -129,7 +129,7 @@ impl<'a> Tables<'a> {
     }
 
     /// Where the next statement stands.
-    pub fn here(&self) -> SectionOffset
+    pub(crate) fn here(&self) -> SectionOffset
         ensures { offset_of result ≡ laws.here (tables_of self.now) }
     {
         SectionOffset {
@@ -139,7 +139,7 @@ impl<'a> Tables<'a> {
     }
 
     /// The bytes of data so far in the current section.
-    pub fn offset(&self) -> u64
+    pub(crate) fn offset(&self) -> u64
         ensures { result ≡ (laws.here (tables_of self.now)).offset }
     {
         match self.extents.get(self.current as usize) {
@@ -291,20 +291,6 @@ impl<'a> Tables<'a> {
         eval(expression, 0, &|symbol| self.meaning(symbol))
     }
 
-    /// The current section.
-    pub fn current_section(&self) -> Section<'a>
-        ensures { section_of result ≡ sections.current_section (tables_of self.now).opened }
-    {
-        self.section_at(self.current)
-    }
-
-    /// Whether there are as many sections as there may be.
-    pub fn is_full(&self) -> bool
-        ensures { result ≡ not (nat_lt (length (tables_of self.now).opened.sections) sections.most_sections) }
-    {
-        self.extents.len() >= MOST_SECTIONS
-    }
-
     /// Whether a section of the name is open.
     pub fn knows(&self, name: &[u8]) -> bool
         ensures { IsIndexed self.now → result ≡ is_some (sections.place_of_name (tables_of self.now).opened.sections name.now) }
@@ -313,14 +299,14 @@ impl<'a> Tables<'a> {
     }
 
     /// Whether a label or an assignment has the name.
-    pub fn is_defined(&self, name: &[u8]) -> bool
+    pub(crate) fn is_defined(&self, name: &[u8]) -> bool
         ensures { IsIndexed self.now → result ≡ (is_some (laws.label_of (tables_of self.now).labels true 0 name.now) || is_some (laws.assigned_ever (tables_of self.now).assignments name.now)) }
     {
         self.label(name).is_some() || self.assignment(name).is_some()
     }
 
     /// Whether a label or a location has the name.
-    pub fn has_location(&self, name: &[u8]) -> bool
+    pub(crate) fn has_location(&self, name: &[u8]) -> bool
         ensures { IsIndexed self.now → result ≡ (is_some (laws.label_of (tables_of self.now).labels true 0 name.now) || placed_latest (laws.assigned_ever (tables_of self.now).assignments name.now)) }
     {
         if self.label(name).is_some() {

@@ -21,7 +21,7 @@ use Rattle.rv_unit.specs.declared.unit.Unit.{Unit as SourceUnit}
 use Rattle.rv_tables.specs.Tables.{tables_of}
 use Rattle.rv_unit.specs.Unit.{said, IsFilled}
 use Rattle.rv_unit.specs.Unit.{passed}
-use Rattle.rv_unit.proofs.Passed.{passed_before, passed_keeps, passed_rest, passed_more}
+use Rattle.rv_unit.proofs.Passed.{passed_before, passed_keeps, passed_rest}
 use Rattle.rv_tables.proofs.Lookups.{numeric_label_none}
 
 -- the tables of a unit stand before the ordinal after its last statement
@@ -87,16 +87,6 @@ past_symbol ss i p (symbols.Forward digits) within inside apart = absurd (apart 
 -- where the next statement stands is in a section that is open
 pub here_inside : (ss : List SpecStatement) (i : ℕ) (p : laws.SectionOffset) → p ≡ laws.here (passed ss i) → p.section < length (passed ss i).opened.sections
 here_inside ss i p is = subst (λ (q : laws.SectionOffset). q.section < length (passed ss i).opened.sections) (sym is) (open_inside (passed ss i).opened (passed_stood ss i).opened)
-
--- ---- the statements so far
-
--- the tables of one statement more
-pub pass_more : (t u : laws.Tables) (ss : List SpecStatement) (i o : ℕ) (x : SpecStatement) → i < length ss → t ≡ passed ss i → o ≡ i + 1 → get_or ss i x ≡ x → u ≡ laws.after t o x.kind → u ≡ passed ss (i + 1)
-pass_more t u ss i o x inside is at next changed =
-    changed ∙ ap (λ v. laws.after v o x.kind) is ∙ ap (λ n. laws.after (passed ss i) n x.kind) at ∙ ap (λ (y : SpecStatement). laws.after (passed ss i) (i + 1) y.kind) (sym next) ∙ sym (passed_more ss i x inside)
-
-pub pass_before : (t : laws.Tables) (ss : List SpecStatement) (i o : ℕ) → i ≤ length ss → t ≡ passed ss i → o ≡ i + 1 → IsBefore t o
-pass_before t ss i o within is at = subst (λ v. IsBefore v o) (sym is) (subst (λ n. IsBefore (passed ss i) n) (sym at) (passed_before ss i within))
 
 -- a statement of a list, as it is said
 pub said_at : (xs : List Statement) (i k : ℕ) (x : Statement) → i < length (map statement_of xs) → k ≡ i → x ≡ get_or xs k x → get_or (map statement_of xs) i (statement_of x) ≡ statement_of x

@@ -13,7 +13,7 @@ use Rattle.rv_statement.specs.declared.directive.Choice.{Choice}
 use Rattle.rv_statement.specs.declared.directive.Choice.TheVariants.{Push, Pop}
 use Rattle.rv_unit_laws.specs.Sections.{Section, entered, entered_by}
 use Rattle.rv_unit_laws.specs.Contributions.{Contribution, Nothing, Bytes, Zero_bytes, Alignment, contribution}
-use Rattle.rv_unit_laws.specs.Tables.{Tables, Labelled, NumericLabel, Assignment, at_start, here, after, after_directive, after_all, value, assigned, assigned_by, chosen, with_label, with_numeric_label, with_assignment, with_section, with_contribution, with_choice, with_chosen, opened_more, label_of, assigned_before, assigned_ever, has_location, is_defined, may_set, is_location}
+use Rattle.rv_unit_laws.specs.Tables.{Tables, Labelled, NumericLabel, Assignment, at_start, here, after, after_directive, after_all, value, assigned, assigned_by, chosen, with_label, with_numeric_label, with_assignment, with_section, with_contribution, with_choice, with_chosen, label_of, assigned_before, assigned_ever, has_location, is_defined, may_set, is_location}
 use Rattle.rv_unit_laws.proofs.Found.{and_both, find_all, find_all_swapped, any_all, find_none, all_weaker, same_bytes}
 
 abbrev pub all_labels : ℕ → List Labelled → Bool

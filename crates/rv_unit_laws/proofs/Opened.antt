@@ -9,8 +9,8 @@ use Rattle.rv_statement.specs.Statement.{StatementKind, Expression, Label, Numbe
 use Rattle.rv_statement.specs.declared.directive.Choice.{Choice}
 use Rattle.rv_statement.specs.declared.directive.Choice.TheVariants.{Push, Pop}
 use Rattle.rv_text_laws.specs.Values.{Open, InSection, Value}
-use Rattle.rv_unit_laws.specs.Sections.{Section, Opened, place_of_name, most_sections, text_section, entered_at, entered, entered_by, section_at, current_section}
-use Rattle.rv_unit_laws.specs.Contributions.{Contribution, Nothing, Bytes, Zero_bytes, Alignment, contribution}
+use Rattle.rv_unit_laws.specs.Sections.{Section, Opened, place_of_name, most_sections, text_section, entered_at, entered, entered_by, section_at}
+use Rattle.rv_unit_laws.specs.Contributions.{Contribution, Nothing, contribution}
 use Rattle.rv_unit_laws.specs.Tables.{Tables, SectionOffset, Labelled, NumericLabel, Assignment, at_start, here, stands, value, assigned_by, chosen, is_defined, may_set, with_label, with_assignment, with_section, with_contribution, with_choice, with_chosen, after_directive, after, after_all}
 use Rattle.rv_unit_laws.proofs.Entering.{place_inside}
 use Rattle.rv_unit_laws.proofs.Found.{and_both, all_weaker}

@@ -1,7 +1,7 @@
 use Rattle.std.proofs.Common.{◌≡◌, ◌∙◌, ◌+◌, ap, sym, subst, map, refl, true, false, Some, option_map}
 use Rattle.std.specs.Prelude.{box_value}
 use Rattle.rv_text.specs.Expr.{tree_of_expr}
-use Rattle.rv_statement.specs.Statement.{StatementKind, Instruction, Strings}
+use Rattle.rv_statement.specs.Statement.{Instruction, Strings}
 use Rattle.rv_statement.specs.declared.statement.Opening.{Opening}
 use Rattle.rv_statement.specs.View.{now_of, quoted, opening_of, statement_kind, operand_in}
 use Rattle.rv_statement.specs.Statement.{Applied, Directs, Enters}

@@ -1,4 +1,4 @@
-use Rattle.std.proofs.Common.{◌∙◌, ◌+◌, sym, subst, refl, false}
+use Rattle.std.proofs.Common.{◌∙◌, ◌+◌, subst, refl, false}
 use Rattle.rv_text_laws.specs.Values.{Value}
 use Rattle.rv_text.specs.Expr.{tree_of_expr}
 use Rattle.rv_statement.specs.Statement.{StatementKind, Directs, Aligns_to_bytes}
