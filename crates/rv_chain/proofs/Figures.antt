@@ -7,9 +7,10 @@ use Rattle.std.specs.List.{list_all}
 use Rattle.rv_text_laws.specs.Expression.{Primary}
 use Rattle.rv_text_laws.specs.Values.{Value, Constant, Symbolic, Difference, Faulty}
 use Rattle.rv_statement.specs.Statement.{StatementKind as SpecKind, Label, Numbered, Instruction, Directs, Expression, Directive, Aligns_to_power, Aligns_to_bytes, Values, Zeros}
-use Rattle.rv_statement.specs.View.{statement_kind, plain_of, with_expression, bytes_of}
+use Rattle.rv_statement.specs.View.{statement_kind, plain_of, with_expression, with_function, bytes_of}
 use Rattle.rv_statement.specs.declared.directive.Width.{Width}
 use Rattle.rv_statement.specs.declared.directive.Width.TheVariants as widths
+use Rattle.rv_statement.specs.declared.pseudo.Function.{Function}
 use Rattle.rv_statement.specs.declared.statement.Operation.{Operation}
 use Rattle.rv_statement.specs.declared.statement.Operation.TheVariants as operations
 use Rattle.rv_statement.specs.declared.statement.Plain.{Plain}
@@ -54,11 +55,16 @@ with_no : (operation : Operation) (x : Expression) (w : ℕ) (vs : List Expressi
 with_no (operations.Li rd) x w vs e = absurd (cc)
 with_no _ x w vs e = absurd (cc)
 
+function_no : (operation : Operation) (function : Function) (x : Expression) (w : ℕ) (vs : List Expression) → with_function operation function x ≡ Directs (Values w vs) → ⊥
+function_no (operations.Li rd) function x w vs e = absurd (cc)
+function_no _ function x w vs e = absurd (cc)
+
 pub width_some : (kind : StatementKind) (w : ℕ) (vs : List Expression) → statement_kind kind ≡ Directs (Values w vs) → 0 < w
 width_some (kinds.Value width one) w vs e = let same : bytes_of width ≡ w = cc in subst (λ n. 0 < n) same (bytes_some width)
 width_some (kinds.Values width values) w vs e = let same : bytes_of width ≡ w = cc in subst (λ n. 0 < n) same (bytes_some width)
 width_some (kinds.Plain p) w vs e = absurd (plain_no p w vs e)
 width_some (kinds.With operation x) w vs e = absurd (with_no operation _ w vs e)
+width_some (kinds.WithFunction operation function x) w vs e = absurd (function_no operation function _ w vs e)
 width_some _ w vs e = absurd (cc)
 
 -- ---- the expressions of a statement in a section of data

@@ -3,7 +3,8 @@
 use Rattle.std.proofs.Common.{◌≡◌, ℕ, ◌+◌, Bool, true, false, List, [], ◌∷◌, drop, refl, sym, ap, ◌∙◌}
 use Rattle.std.specs.Prelude.{◌&&◌, ◌||◌}
 use Rattle.rv_statement.specs.Statement.{Statement, Expression}
-use Rattle.rv_statement.specs.View.{statement_kind, plain_of, with_expression}
+use Rattle.rv_statement.specs.View.{statement_kind, plain_of, with_expression, with_function}
+use Rattle.rv_statement.specs.declared.pseudo.Function.{Function}
 use Rattle.rv_statement.specs.declared.statement.Operation.{Operation}
 use Rattle.rv_statement.specs.declared.statement.Operation.TheVariants as operations
 use Rattle.rv_statement.specs.declared.statement.Plain.{Plain}
@@ -39,9 +40,14 @@ with_code : (executable : Bool) (operation : Operation) (x : Expression) → tru
 with_code executable (operations.Li rd) x = refl
 with_code executable _ x = refl
 
+function_code : (executable : Bool) (operation : Operation) (function : Function) (x : Expression) → true ≡ is_code executable (with_function operation function x)
+function_code executable (operations.Li rd) function x = refl
+function_code executable _ function x = refl
+
 pub code_as : (executable : Bool) (kind : StatementKind) → is_code_kind executable kind ≡ is_code executable (statement_kind kind)
 code_as executable (kinds.Plain p) = plain_code executable p
 code_as executable (kinds.With operation x) = with_code executable operation _
+code_as executable (kinds.WithFunction operation function x) = function_code executable operation function _
 code_as executable (kinds.AlignsToPower x) = and_true executable
 code_as executable (kinds.AlignsToBytes x) = and_true executable
 code_as executable (kinds.Label name) = refl

@@ -1,6 +1,6 @@
 -- The executable of a linked program keeps the headline's promise.
 
-use Rattle.std.proofs.Common.{◌≡◌, ◌<◌, ◌^◌, ℕ, List, refl, ap, subst, sym, ◌∙◌}
+use Rattle.std.proofs.Common.{◌≡◌, ℕ, List, refl, ap, subst, sym, ◌∙◌}
 use Rattle.rv_map.specs.Limits.{IsMap}
 use Rattle.rv_map.specs.Text.{map_text}
 use Rattle.rv_image.specs.declared.linked.Linked.{Linked}

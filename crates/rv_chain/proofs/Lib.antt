@@ -5,6 +5,7 @@ pub mod Figures
 pub mod Growing
 pub mod SoFar
 pub mod StatementKinds
+pub mod Unplaced
 pub mod SoFarData
 pub mod SoFarPieces
 mod Stretched

@@ -2,10 +2,12 @@
 
 use Rattle.std.proofs.Common.{◌≡◌, ℕ, ◌+◌, ◌==◌, nat_lt, Bool, true, false, cond, List, [], ◌∷◌, ◌++◌, length, flat_map, filter, Option, Some, None, if◌then◌else◌, refl, sym, ap, ◌∙◌, append-nil, zero, suc, append_assoc, length-append, rules}
 use Rattle.std.specs.Global.{Vec}
+use Rattle.rv_text_laws.specs.Codes.{limit}
 use Rattle.rv_unit_laws.specs.Faults.{Fault, lowest, at_line}
 use Rattle.rv_unit_laws.specs.Tables.{Tables, longest_section}
 use Rattle.rv_source_laws.specs.Located.{Located}
-use Rattle.rv_chain_laws.specs.Refusals.{instruction_fault_from, size_fault_from, else_fault, grown, code_size, instruction_faults}
+use Rattle.rv_chain_laws.specs.InstructionFaults.{is_label, instruction_faults}
+use Rattle.rv_chain_laws.specs.Refusals.{instruction_fault_from, size_fault_from, else_fault, grown, code_size}
 use Rattle.rv_source_laws.specs.Options.{first_options, options_after}
 use Rattle.rv_link_laws.specs.Suits.{code_said}
 use Rattle.rv_chain.specs.Choices.{options_of}
@@ -25,8 +27,8 @@ at_else line (Some code) other = refl
 sizes_alike : (f g : ℕ → ℕ) (ss : List Located) → ((j : ℕ) → f j ≡ g j) → size_fault_from f ss ≡ size_fault_from g ss
 sizes_alike f g [] e = refl
 sizes_alike f g (s ∷ ss) e =
-    ap (λ n. at_line s.line (if nat_lt longest_section (n + code_size s.kind) then Some 17 else None) (size_fault_from (grown f s.section (code_size s.kind)) ss)) (e s.section)
-    ∙ ap (λ r. at_line s.line (if nat_lt longest_section (g s.section + code_size s.kind) then Some 17 else None) r)
+    ap (λ n. at_line s.line (if nat_lt longest_section (n + code_size s.kind) then Some limit else None) (size_fault_from (grown f s.section (code_size s.kind)) ss)) (e s.section)
+    ∙ ap (λ r. at_line s.line (if nat_lt longest_section (g s.section + code_size s.kind) then Some limit else None) r)
     (sizes_alike (grown f s.section (code_size s.kind)) (grown g s.section (code_size s.kind)) ss
     (λ j. ap (λ n. if j == s.section then n + code_size s.kind else n) (e j)))
 
@@ -41,7 +43,7 @@ joined : (b : Bool) (old : List ℕ) (code : Located → List ℕ) (s : Located)
 joined true old code s rest = append_assoc old (code s) (flat_map code rest)
 joined false old code s rest = refl
 
-pub next_code : (t : Tables) (all : List Located) (s : Located) (next : List Located) (old new : Coder) → IsCodeSoFar t all (s ∷ next) old → IsAdded old new s.section (value_at t s) (record { line = s.line; kind = s.kind }) → IsCodeSoFar t all next new
+pub next_code : (t : Tables) (all : List Located) (s : Located) (next : List Located) (old new : Coder) → IsCodeSoFar t all (s ∷ next) old → IsAdded old new s.section (value_at t s) (is_label t s.ordinal) (record { line = s.line; kind = s.kind }) → IsCodeSoFar t all next new
 next_code t all s next old new h a =
     let f = λ (j : ℕ). length (bytes_in old.sections.items j) in
     let g = λ (j : ℕ). length (bytes_in new.sections.items j) in
@@ -57,9 +59,9 @@ next_code t all s next old new h a =
           ap (λ x. else_fault x (size_fault_from g next)) a.full
           ∙ else_assoc (full_fault old.full) (full_at s.line (g s.section)) (size_fault_from g next)
           ∙ ap (λ x. else_fault (full_fault old.full) x)
-          (at_else s.line (if nat_lt longest_section (g s.section) then Some 17 else None) (size_fault_from g next)
-          ∙ ap (λ n. at_line s.line (if nat_lt longest_section n then Some 17 else None) (size_fault_from g next)) here
-          ∙ ap (λ r. at_line s.line (if nat_lt longest_section (f s.section + size) then Some 17 else None) r) (sizes_alike g (grown f s.section size) next alike))
+          (at_else s.line (if nat_lt longest_section (g s.section) then Some limit else None) (size_fault_from g next)
+          ∙ ap (λ n. at_line s.line (if nat_lt longest_section n then Some limit else None) (size_fault_from g next)) here
+          ∙ ap (λ r. at_line s.line (if nat_lt longest_section (f s.section + size) then Some limit else None) r) (sizes_alike g (grown f s.section size) next alike))
           ∙ h.sizes;
       bytes = λ j.
           ap (λ x. x ++ section_code t j next) (a.grows.1 j)
@@ -68,7 +70,7 @@ next_code t all s next old new h a =
     }
 
 -- the first faulty instruction is the next one
-pub wrong_code : (t : Tables) (all : List Located) (s : Located) (next : List Located) (old : Coder) (code : ℕ) → IsCodeSoFar t all (s ∷ next) old → lowest (instruction_faults (options_of old.choices) (value_at t s) s.kind) ≡ Some code → instruction_fault_from t first_options all ≡ Some (record { code = code; line = s.line })
+pub wrong_code : (t : Tables) (all : List Located) (s : Located) (next : List Located) (old : Coder) (code : ℕ) → IsCodeSoFar t all (s ∷ next) old → lowest (instruction_faults (options_of old.choices) (value_at t s) (is_label t s.ordinal) s.kind) ≡ Some code → instruction_fault_from t first_options all ≡ Some (record { code = code; line = s.line })
 wrong_code t all s next old code h e =
     sym h.instructions ∙ ap (λ c. at_line s.line c (instruction_fault_from t (options_after (options_of old.choices) s.kind) next)) e
 

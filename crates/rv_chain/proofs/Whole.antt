@@ -17,7 +17,8 @@ use Rattle.rv_unit.specs.declared.unit.Unit.{Unit as SourceUnit}
 use Rattle.rv_tables.specs.Sections.{offset_of}
 use Rattle.rv_unit.specs.Unit.{said, passed}
 use Rattle.rv_source_laws.specs.Located.{Located, located, located_from}
-use Rattle.rv_chain_laws.specs.Refusals.{else_fault, instruction_fault, instruction_faults, instruction_fault_from, size_fault}
+use Rattle.rv_chain_laws.specs.InstructionFaults.{is_label, instruction_faults}
+use Rattle.rv_chain_laws.specs.Refusals.{else_fault, instruction_fault, instruction_fault_from, size_fault}
 use Rattle.rv_source_laws.specs.Options.{first_options}
 use Rattle.rv_chain.specs.Choices.{options_of}
 use Rattle.rv_chain.specs.Code.{value_at}
@@ -35,11 +36,11 @@ abbrev pub IsCodedBy : Tables → Located → Type 0
 IsCodedBy t s = IsCoded (λ e. value_at t s e) s.kind
 
 -- what is added where the statement stands
-added_there : (t : Tables) (o i : ℕ) (c d : Coder) (s : SpecStatement) (p q : Standing) → p ≡ q → IsAdded c d p.section (λ e. value t true o p e) s → IsAdded c d q.section (λ e. value t true o q e) s
-added_there t o i c d s p q e h = subst (λ (r : Standing). IsAdded c d r.section (λ e. value t true o r e) s) e h
+added_there : (t : Tables) (o i : ℕ) (c d : Coder) (s : SpecStatement) (p q : Standing) → p ≡ q → IsAdded c d p.section (λ e. value t true o p e) (is_label t o) s → IsAdded c d q.section (λ e. value t true o q e) (is_label t o) s
+added_there t o i c d s p q e h = subst (λ (r : Standing). IsAdded c d r.section (λ e. value t true o r e) (is_label t o) s) e h
 
 pub code_more : (u : SourceUnit) (i : ℕ) (x : Statement) (p : SectionOffset) (c d : Coder) → StandsAt u i x p → CodeTo (said u) i c
-    → IsAdded c d p.section (λ e. value (tables (said u)) true (i + 1) (offset_of p) e) (statement_of x) → CodeTo (said u) (i + 1) d
+    → IsAdded c d p.section (λ e. value (tables (said u)) true (i + 1) (offset_of p) e) (is_label (tables (said u)) (i + 1)) (statement_of x) → CodeTo (said u) (i + 1) d
 code_more u i x p c d at h added =
     let ss = said u in
     let all = located_from 1 1 at_start ss in
@@ -53,7 +54,7 @@ CodedTo ss i =
     AllByRecursion (IsCodedBy (tables ss)) (drop i (located_from 1 1 at_start ss)) → AllByRecursion (IsCodedBy (tables ss)) (located_from 1 1 at_start ss)
 
 pub coded_more : (u : SourceUnit) (i : ℕ) (x : Statement) (p : SectionOffset) (c d : Coder) → StandsAt u i x p → CodedTo (said u) i
-    → IsAdded c d p.section (λ e. value (tables (said u)) true (i + 1) (offset_of p) e) (statement_of x) → CodedTo (said u) (i + 1)
+    → IsAdded c d p.section (λ e. value (tables (said u)) true (i + 1) (offset_of p) e) (is_label (tables (said u)) (i + 1)) (statement_of x) → CodedTo (said u) (i + 1)
 coded_more u i x p c d at h added rest =
     let ss = said u in
     let there = added_there (tables ss) (i + 1) i c d (statement_of x) (offset_of p) (stood (passed ss i) (i + 1) (statement_of x).kind) at.place added in
@@ -70,7 +71,7 @@ one_file ss = append-nil (located_from 1 1 at_start ss)
 
 -- a statement with a fault is the first
 pub code_wrong : (u : SourceUnit) (i : ℕ) (x : Statement) (p : SectionOffset) (c d : Coder) (fault : SourceFault) → StandsAt u i x p → CodeTo (said u) i c
-    → Adds c d p.section (λ e. value (tables (said u)) true (i + 1) (offset_of p) e) (statement_of x) (Err fault) → IsSourceCode (said u) (Err fault)
+    → Adds c d p.section (λ e. value (tables (said u)) true (i + 1) (offset_of p) e) (is_label (tables (said u)) (i + 1)) (statement_of x) (Err fault) → IsSourceCode (said u) (Err fault)
 code_wrong u i x p c d OutOfMemory at h wrong = tt
 code_wrong u i x p c d (At code line) at h wrong =
     let ss = said u in
@@ -80,7 +81,7 @@ code_wrong u i x p c d (At code line) at h wrong =
     (ap (λ l. instruction_fault_from (tables ss) first_options l) (one_file ss)
     ∙ wrong_code (tables ss) all (located_at ss i (statement_of x)) (drop (i + 1) all) c (number_of code)
     (subst (λ rest. IsCodeSoFar (tables ss) all rest c) at.next h)
-    (subst (λ r. lowest (instruction_faults (options_of c.choices) (λ e. value (tables ss) true (i + 1) r e) (statement_of x).kind) ≡ Some (number_of code)) at.place wrong.0))
+    (subst (λ r. lowest (instruction_faults (options_of c.choices) (λ e. value (tables ss) true (i + 1) r e) (is_label (tables ss) (i + 1)) (statement_of x).kind) ≡ Some (number_of code)) at.place wrong.0))
     wrong.1
 
 pub code_whole : (ss : List SpecStatement) (i : ℕ) (c : Coder) (r : Result (Vec (Vec ℕ)) SourceFault) → drop i (located_from 1 1 at_start ss) ≡ [] → CodeTo ss i c

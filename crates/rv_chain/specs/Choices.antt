@@ -2,7 +2,7 @@
 
 use Rattle.std.specs.Prelude.{Bool, true, false, reverse}
 use Rattle.rv_statement.specs.declared.statement.StatementKind.{StatementKind}
-use Rattle.rv_statement.specs.declared.statement.StatementKind.TheVariants.{Plain, With, AlignsToPower, AlignsToBytes}
+use Rattle.rv_statement.specs.declared.statement.StatementKind.TheVariants.{Plain, With, WithFunction, AlignsToPower, AlignsToBytes}
 use Rattle.rv_source_laws.specs.Options.{Options}
 use Rattle.rv_chain.specs.declared.choices.Choices.{Choices}
 
@@ -14,6 +14,7 @@ options_of c = record { rvc = c.rvc; kept = reverse c.kept.items }
 abbrev pub is_code_kind : Bool → StatementKind → Bool
 is_code_kind executable (Plain plain) = true
 is_code_kind executable (With operation expression) = true
+is_code_kind executable (WithFunction operation function expression) = true
 is_code_kind executable (AlignsToPower exponent) = executable
 is_code_kind executable (AlignsToBytes bytes) = executable
 is_code_kind executable _ = false

@@ -9,6 +9,7 @@ pub mod Linking
 pub mod Measured
 pub mod Pieces
 pub mod Running
+pub mod Scoped
 pub mod Sized
 pub mod Undefined
 pub mod Valued

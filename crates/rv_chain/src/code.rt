@@ -1,12 +1,12 @@
 //! The code of a source's sections: the words of its instructions, one after another.
 
-ghost use Rattle.std.specs.Prelude.{◌≡◌, ◌<◌, ℕ, ◌+◌, true, List, Some, Ok, [], ◌∷◌, length, IfOk, IfSome};
+ghost use Rattle.std.specs.Prelude.{◌≡◌, ◌<◌, ℕ, ◌+◌, Bool, true, List, Some, Ok, [], ◌∷◌, length, IfOk, IfSome};
 ghost use Rattle.rv_isa.specs.Ranges.{IsValid};
+ghost use Rattle.rv_text_laws.specs.Expression.{Primary};
 ghost use Rattle.rv_text_laws.specs.Values as values;
 ghost use Rattle.rv_statement.specs.Statement.{Expression};
 ghost use Rattle.rv_statement.specs.View.{statement_of};
-ghost use Rattle.rv_unit_laws.specs.Tables.{Tables, tables, value as value_of};
-ghost use Rattle.rv_tables.specs.Sections.{offset_of};
+ghost use Rattle.rv_unit_laws.specs.Tables.{Tables};
 ghost use Rattle.rv_unit.specs.Unit.{said, IsFilled, IsScope};
 ghost use Rattle.rv_chain_laws.specs.Contents.{words};
 ghost use Rattle.rv_source_laws.specs.Located.{Located};
@@ -15,14 +15,15 @@ ghost use Rattle.rv_chain.specs.Added.{Adds, IsCode, IsCodeSoFar, IsSourceCode};
 ghost use Rattle.rv_chain.specs.Choices.{options_of};
 ghost use Rattle.rv_chain.specs.Coded.{AreCoded};
 ghost use Rattle.rv_chain.specs.Code as laws;
-ghost use Rattle.rv_chain.specs.Code.{GrowsBy, Codes, Evaluates, word_of, full_fault, full_at};
+ghost use Rattle.rv_chain.specs.Code.{GrowsBy, Codes, word_of, full_fault, full_at};
+ghost use Rattle.rv_chain.specs.Scoped.{values_at, labels_at};
 
 use crate::choices::Choices;
 use crate::instruction::instruction;
 use rv_encode::encode;
 use rv_isa::Inst;
 use rv_statement::Statement;
-use rv_text::{Expr, SourceCode, SourceFault, Value};
+use rv_text::{SourceCode, SourceFault};
 use rv_unit::{LONGEST_SECTION, Scope, SectionOffset, Unit};
 use std::alloc::{AllocError, Global};
 
@@ -119,19 +120,18 @@ impl Coder {
         }
     }
 
-    /// Adds a statement in a section, by the values of expressions, or gives the lowest code of its faults.
-    pub(crate) fn add<'a, F: Fn(&Expr<'a>) -> Result<Value<'a>, SourceFault>>(
+    /// Adds a unit's next statement, which stands at the place, or gives the lowest code of its faults.
+    pub(crate) fn add<'a>(
         &mut self,
         statement: &Statement<'a>,
-        section: u32,
-        value: &F,
+        scope: &Scope<'_, 'a>,
+        place: SectionOffset,
     ) -> Result<(), SourceFault>
-        requires callable { F.IsAlwaysCallable value.now }
-        requires section { section < length self.old.sections.items }
-        ensures { (v : Expression → values.Value) → Evaluates (F.post value.now) statement.now.line v → Adds self.old self.new section v (statement_of statement.now) result }
+        requires { place.section < length self.old.sections.items }
+        ensures { (index : ℕ) → IsFilled (scope.now).unit.now → IsScope scope.now index → Adds self.old self.new place.section (values_at scope.now index place) (labels_at scope.now index) (statement_of statement.now) result }
     {
-        match instruction(statement, self.choices.rvc, value) {
-            Ok(found) => self.add_found(statement, section, found),
+        match instruction(statement, self.choices.rvc, scope, place) {
+            Ok(found) => self.add_found(statement, place.section, found),
             Err(fault) => Err(fault),
         }
     }
@@ -145,7 +145,7 @@ impl Coder {
     ) -> Result<(), SourceFault>
         requires valid { IfSome found IsValid }
         requires section { section < length self.old.sections.items }
-        ensures { (v : Expression → values.Value) → Codes (options_of self.old.choices) v (statement_of statement.now) (Ok found) → Adds self.old self.new section v (statement_of statement.now) result }
+        ensures { (v : Expression → values.Value) (l : Primary → Bool) → Codes (options_of self.old.choices) v l (statement_of statement.now) (Ok found) → Adds self.old self.new section v l (statement_of statement.now) result }
     {
         put_found(self.sections.as_mut_slice(), section, found)?;
         let bytes = bytes_in(self.sections.as_slice(), section);
@@ -153,20 +153,6 @@ impl Coder {
         self.choices.follow(&statement.kind)?;
         Ok(())
     }
-}
-
-/// Adds the code of a unit's next statement.
-fn put_code(
-    coder: &mut Coder,
-    scope: &Scope<'_, '_>,
-    statement: &Statement<'_>,
-    place: SectionOffset,
-) -> Result<(), SourceFault>
-    requires { place.section < length coder.old.sections.items }
-    ensures { (index : ℕ) → IsFilled (scope.now).unit.now → IsScope scope.now index → Adds coder.old coder.new place.section (λ e. value_of (tables (said (scope.now).unit.now)) true (index + 1) (offset_of place) e) (statement_of statement.now) result }
-{
-    let line = statement.line;
-    coder.add(statement, place.section, &|e| scope.value(place, e, line))
 }
 
 /// The code of each section of a unit.
@@ -182,7 +168,7 @@ pub(crate) fn code(alloc: Global, unit: &Unit<'_>) -> Result<Vec<Vec<u8>>, Sourc
     let places = unit.places();
     for index in 0..statements.len() {
         let place = places[index];
-        put_code(&mut coder, &scope, &statements[index], place)?;
+        coder.add(&statements[index], &scope, place)?;
         scope.pass();
     }
     coder.finish()

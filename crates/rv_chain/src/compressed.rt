@@ -16,7 +16,7 @@ fn is_code(executable: bool, kind: &StatementKind<'_>) -> bool
     ensures { result ≡ is_code_kind executable kind.now }
 {
     match kind {
-        StatementKind::Plain(_) | StatementKind::With(..) => true,
+        StatementKind::Plain(_) | StatementKind::With(..) | StatementKind::WithFunction(..) => true,
         StatementKind::AlignsToPower(_) | StatementKind::AlignsToBytes(_) => executable,
         _ => false,
     }

@@ -1,44 +1,40 @@
 //! The base instruction of a statement.
 
-ghost use Rattle.std.specs.Prelude.{◌≡◌, ℕ, ◌<◌, true, false, nat_lt, List, [], ◌∷◌, ◌++◌, Option, Some, None, is_some, IfOk, IfSome, MatchOption, MatchResult};
+ghost use Rattle.std.specs.Prelude.{◌≡◌, ℕ, Bool, true, false, not, ◌&&◌, List, [], ◌∷◌, Option, Some, is_some, option_map, IfOk, IfSome, MatchResult};
 ghost use Rattle.rv_isa.specs.declared.instruction.Inst.{Inst as Instruction};
 ghost use Rattle.rv_isa.specs.declared.instruction.Inst.TheVariants.{Jalr};
 ghost use Rattle.rv_isa.specs.Operations.{of_immediate, of_load, of_store};
 ghost use Rattle.rv_isa.specs.Ranges.{IsValid, IsSigned12};
+ghost use Rattle.rv_text_laws.specs.Codes.{immediate_range};
+ghost use Rattle.rv_text_laws.specs.Expression.{Primary};
 ghost use Rattle.rv_text_laws.specs.Values as values;
 ghost use Rattle.rv_lexer.specs.declared.fault.SourceCode.TheVariants.{ImmediateRange};
+ghost use Rattle.rv_lexer.specs.Fault.{number_of};
 ghost use Rattle.rv_text.specs.Eval.{IsOutcome};
 ghost use Rattle.rv_statement.specs.Statement.{Expression, Statement as SpecStatement};
 ghost use Rattle.rv_statement.specs.declared.statement.Operation.TheVariants.{Li};
 ghost use Rattle.rv_statement.specs.View.{plain_of, statement_of};
 ghost use Rattle.rv_parse_laws.specs.Syntax as syntax;
 ghost use Rattle.rv_unit_laws.specs.Faults.{faulty_if};
+ghost use Rattle.rv_unit.specs.Unit.{IsFilled, IsScope};
+ghost use Rattle.rv_source_laws.specs.Fits.{constant_in};
 ghost use Rattle.rv_source_laws.specs.Written as laws;
 ghost use Rattle.rv_source_laws.specs.Meaning.{fits_12};
-ghost use Rattle.rv_chain_laws.specs.Refusals.{form_takes, operand_faults, instruction_faults, code_size};
 ghost use Rattle.rv_source_laws.specs.Options.{Options};
-ghost use Rattle.rv_link_laws.specs.Suits.{constant_in};
-ghost use Rattle.rv_chain.specs.Code.{instruction_by, mnemonic_of, numbered, InRange, OfNumber, IsNumber, IsBuilt, Evaluates, Codes};
+ghost use Rattle.rv_chain_laws.specs.InstructionFaults.{form_takes, else_unplaced, instruction_faults};
+ghost use Rattle.rv_chain_laws.specs.Refusals.{code_size};
+ghost use Rattle.rv_chain.specs.Code.{instruction_by, numbered, value_faults, InRange, OfNumber, IsNumber, IsBuilt, Codes};
+ghost use Rattle.rv_chain.specs.Scoped.{values_at, labels_at};
 
+use crate::operand::{Outcome, function_code, immediate_of, takes_target, target_code};
 use crate::written::{atomic, load_reserved, shift, upper};
 use rv_isa::{
     IType, ImmediateOperation, Inst, LoadOperation, RType, Reg, RegisterOperation, SType,
     ShiftOperation, StoreOperation, fence,
 };
 use rv_statement::{Operation, Plain, Statement, StatementKind};
-use rv_text::{Expr, SourceCode, SourceFault, Value};
-
-/// The immediate of 12 bits that a number is, taken as signed.
-fn immediate_of(number: u64) -> Option<i32>
-    ensures { MatchOption result (fits_12 number ≡ None) (λ i. (fits_12 number ≡ Some number) × (i ≡ laws.signed number) × IsSigned12 i) }
-{
-    let above = number.wrapping_add(2048);
-    if above < 4096 {
-        Some(above as i32 - 2048)
-    } else {
-        None
-    }
-}
+use rv_text::{SourceCode, SourceFault, Value};
+use rv_unit::{Scope, SectionOffset};
 
 /// The immediate of 12 bits that a number is, or why it is none.
 fn immediate(number: u64) -> Result<i32, SourceCode>
@@ -50,13 +46,14 @@ fn immediate(number: u64) -> Result<i32, SourceCode>
     }
 }
 
-/// The instruction of a statement without an expression.
-pub(crate) fn plain(statement: Plain) -> Inst
-    ensures { (v : Expression → ℕ) → (instruction_by v (plain_of statement) ≡ Some (result ∷ [])) × IsValid result }
+/// The instruction of a statement without an expression, if it can be placed.
+pub(crate) fn plain(statement: Plain) -> Option<Inst>
+    ensures valid { IfSome result IsValid }
+    ensures is { (v : Expression → ℕ) → instruction_by v (plain_of statement) ≡ option_map (λ i. i ∷ []) result }
 {
     let ra = Reg::from_low_bits(1);
     let immediate = 0;
-    match statement {
+    let inst = match statement {
         Plain::Registers(operation, rd, rs1, rs2) => operation.instruction(RType { rd, rs1, rs2 }),
         Plain::Load(operation, rd, rs1) => operation.instruction(IType { immediate, rd, rs1 }),
         Plain::Store(operation, rs2, rs1) => operation.instruction(SType {
@@ -77,6 +74,24 @@ pub(crate) fn plain(statement: Plain) -> Inst
         Plain::FenceTso => fence(8, 3, 3),
         Plain::Ecall => Inst::Ecall,
         Plain::Ebreak => Inst::Ebreak,
+        Plain::Nop | Plain::Unary(..) | Plain::Compare(..) | Plain::Jr(_) | Plain::Ret => {
+            return None;
+        }
+    };
+    Some(inst)
+}
+
+/// The instruction at a line, where it can be placed.
+fn placed(inst: Option<Inst>, line: u32) -> Result<Inst, SourceFault>
+    ensures valid { IfSome inst IsValid → IfOk result IsValid }
+    ensures built { IfSome inst IsValid → (wanted : Option (List Instruction)) → wanted ≡ option_map (λ i. i ∷ []) inst → IsBuilt (else_unplaced (is_some wanted) []) wanted line result }
+{
+    match inst {
+        Some(inst) => Ok(inst),
+        None => Err(SourceFault::At {
+            code: SourceCode::UnsupportedHere,
+            line,
+        }),
     }
 }
 
@@ -149,7 +164,7 @@ fn jalr(rd: Reg, rs1: Reg, number: u64) -> Result<Inst, SourceCode>
     Ok(Inst::Jalr(IType { immediate, rd, rs1 }))
 }
 
-/// `li` of a number of 12 bits; of a larger one it is not built yet.
+/// `li` of a number of 12 bits; of a larger one it cannot be placed yet.
 fn li(rd: Reg, number: u64) -> Result<Inst, SourceCode>
     ensures { OfNumber (Li rd) number result }
 {
@@ -158,6 +173,16 @@ fn li(rd: Reg, number: u64) -> Result<Inst, SourceCode>
     };
     let rs1 = Reg::from_low_bits(0);
     Ok(Inst::Addi(IType { immediate, rd, rs1 }))
+}
+
+/// The code of an immediate of 12 bits in an instruction that cannot be placed yet.
+fn unplaced(number: u64) -> SourceCode
+    ensures { else_unplaced false (faulty_if (not (is_some (fits_12 number))) immediate_range) ≡ number_of result ∷ [] }
+{
+    match immediate(number) {
+        Ok(_) => SourceCode::UnsupportedHere,
+        Err(code) => code,
+    }
 }
 
 /// The instruction of an operation with a number, or why there is none.
@@ -174,11 +199,12 @@ fn with_number(operation: Operation, number: u64) -> Result<Inst, SourceCode>
         Operation::Jalr(rd, rs1) | Operation::JalrThen(rd, rs1) => jalr(rd, rs1, number),
         Operation::JalrLinked(rs1) => jalr(Reg::from_low_bits(1), rs1, number),
         Operation::Li(rd) => li(rd, number),
+        _ => Err(unplaced(number)),
     }
 }
 
 /// The number of an expression that has to be a constant, by its value.
-pub(crate) fn constant(value: Result<Value<'_>, SourceFault>, line: u32) -> Result<u64, SourceFault>
+pub(crate) fn constant(value: Outcome<'_>, line: u32) -> Result<u64, SourceFault>
     ensures { (v : values.Value) → IsOutcome value.entry line v → IsNumber v line result }
 {
     match value? {
@@ -193,12 +219,16 @@ pub(crate) fn constant(value: Result<Value<'_>, SourceFault>, line: u32) -> Resu
 /// The instruction of an operation at a line, by the value of its expression.
 pub(crate) fn with_value(
     operation: Operation,
-    value: Result<Value<'_>, SourceFault>,
+    value: Outcome<'_>,
     line: u32,
 ) -> Result<Inst, SourceFault>
     ensures valid { IfOk result IsValid }
-    ensures built { (v : values.Value) → IsOutcome value.entry line v → IsBuilt (operand_faults (mnemonic_of operation) v) (numbered operation (constant_in v)) line result }
+    ensures built { (v : values.Value) → IsOutcome value.entry line v → IsBuilt (else_unplaced (is_some (numbered operation (constant_in v))) (value_faults operation v)) (numbered operation (constant_in v)) line result }
 {
+    if takes_target(&operation) {
+        let code = target_code(operation, value);
+        return Err(SourceFault::At { code, line });
+    }
     let number = constant(value, line)?;
     match with_number(operation, number) {
         Ok(inst) => Ok(inst),
@@ -206,55 +236,58 @@ pub(crate) fn with_value(
     }
 }
 
-/// An instruction at a line where compressed code is on or off; compressed instructions are not built yet.
+/// An instruction at a line where compressed code is on or off; it cannot be placed yet where it is on.
+#[tactic(auto, using(crate::proofs::Unplaced::placed_sound, crate::proofs::Unplaced::unplaced_less))]
 pub(crate) fn as_word(
     compressed: bool,
     built: Result<Inst, SourceFault>,
     line: u32,
 ) -> Result<Inst, SourceFault>
     ensures valid { IfOk built IsValid → IfOk result IsValid }
-    ensures built { (faults : List ℕ) (wanted : Option (List Instruction)) → IsBuilt faults wanted line built → IsBuilt (faulty_if compressed 9 ++ faults) wanted line result }
+    ensures built { (is_placed : Bool) (faults : List ℕ) (wanted : Option (List Instruction)) → IsBuilt (else_unplaced is_placed faults) wanted line built → IsBuilt (else_unplaced (not compressed && is_placed) faults) wanted line result }
 {
-    if !compressed {
-        return built;
-    }
     match built {
-        Err(SourceFault::OutOfMemory) => Err(SourceFault::OutOfMemory),
-        Err(SourceFault::At { code, line }) if code.number() < 9 => {
-            Err(SourceFault::At { code, line })
-        }
-        _ => Err(SourceFault::At {
+        Ok(_) if compressed => Err(SourceFault::At {
             code: SourceCode::UnsupportedHere,
             line,
         }),
+        built => built,
     }
 }
 
 /// What was built, as what a statement has.
 fn found(built: Result<Inst, SourceFault>) -> Result<Option<Inst>, SourceFault>
     ensures valid { IfOk built IsValid → IfOk result (λ f. IfSome f IsValid) }
-    ensures codes { (o : Options) (v : Expression → values.Value) (s : SpecStatement) → IsBuilt (instruction_faults o v s.kind) (instruction_by (λ e. constant_in (v e)) s.kind) s.line built → code_size s.kind ≡ 4 → Codes o v s result }
+    ensures codes { (o : Options) (v : Expression → values.Value) (l : Primary → Bool) (s : SpecStatement) → IsBuilt (instruction_faults o v l s.kind) (instruction_by (λ e. constant_in (v e)) s.kind) s.line built → code_size s.kind ≡ 4 → Codes o v l s result }
 {
     let inst = built?;
     Ok(Some(inst))
 }
 
-/// The instruction of a statement that is one, by the values of expressions, or the lowest code of its faults.
-pub(crate) fn instruction<'a, F: Fn(&Expr<'a>) -> Result<Value<'a>, SourceFault>>(
+/// The instruction of the statement that is next, if it is one, or the lowest code of its faults.
+pub(crate) fn instruction<'a>(
     statement: &Statement<'a>,
     compressed: bool,
-    value: &F,
+    scope: &Scope<'_, 'a>,
+    place: SectionOffset,
 ) -> Result<Option<Inst>, SourceFault>
-    requires { F.IsAlwaysCallable value.now }
     ensures valid { IfOk result (λ f. IfSome f IsValid) }
-    ensures codes { (o : Options) (v : Expression → values.Value) → o.rvc ≡ compressed → Evaluates (F.post value.now) statement.now.line v → Codes o v (statement_of statement.now) result }
+    ensures codes { (o : Options) (index : ℕ) → o.rvc ≡ compressed → IsFilled (scope.now).unit.now → IsScope scope.now index → Codes o (values_at scope.now index place) (labels_at scope.now index) (statement_of statement.now) result }
 {
     let line = statement.line;
     match &statement.kind {
-        StatementKind::Plain(statement) => found(as_word(compressed, Ok(plain(*statement)), line)),
-        StatementKind::With(operation, expression) => {
-            let built = with_value(*operation, value(expression), line);
+        StatementKind::Plain(statement) => {
+            let built = placed(plain(*statement), line);
             found(as_word(compressed, built, line))
+        }
+        StatementKind::With(operation, expression) => {
+            let value = scope.value(place, expression, line);
+            found(as_word(compressed, with_value(*operation, value, line), line))
+        }
+        StatementKind::WithFunction(operation, function, expression) => {
+            let value = scope.value(place, expression, line);
+            let code = function_code(scope, *operation, *function, &value);
+            Err(SourceFault::At { code, line })
         }
         _ => Ok(None),
     }

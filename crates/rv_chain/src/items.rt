@@ -177,6 +177,7 @@ fn size(
     match &statement.kind {
         StatementKind::Plain(_) => Ok(4),
         StatementKind::With(..) => Ok(4),
+        StatementKind::WithFunction(..) => Ok(4),
         StatementKind::Value(width, _) => bytes_of_values(*width, 1, line),
         StatementKind::Values(width, values) => bytes_of_values(*width, values.len(), line),
         StatementKind::Ascii(strings) => bytes_of_strings(false, strings, line),
@@ -225,7 +226,10 @@ fn shown_size(
 fn executed(kind: &StatementKind<'_>) -> bool
     ensures { result ≡ is_executed (statement_kind kind.now) }
 {
-    matches!(kind, StatementKind::Plain(_) | StatementKind::With(..))
+    matches!(
+        kind,
+        StatementKind::Plain(_) | StatementKind::With(..) | StatementKind::WithFunction(..)
+    )
 }
 
 /// Whether the statement that is next, which stands at the place, has a row where its section is loaded.
@@ -239,6 +243,7 @@ fn placed<'a>(scope: &Scope<'_, 'a>, place: SectionOffset, kind: &StatementKind<
         StatementKind::Numbered(_) => true,
         StatementKind::Plain(_) => true,
         StatementKind::With(..) => true,
+        StatementKind::WithFunction(..) => true,
         StatementKind::Value(..) => true,
         StatementKind::Values(..) => true,
         StatementKind::Ascii(_) => true,

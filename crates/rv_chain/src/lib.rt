@@ -25,6 +25,7 @@ mod fault;
 mod instruction;
 mod items;
 mod link;
+mod operand;
 mod options;
 mod pieces;
 mod placed;

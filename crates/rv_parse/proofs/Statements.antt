@@ -1,21 +1,30 @@
 -- Statements read one by one, as the code holds them.
 
-use Rattle.std.proofs.Common.{◌≡◌, ℕ, ◌+◌, true, false, List, [], ◌∷◌, ◌++◌, length, length-append, Ok, refl, sym, ◌∙◌, ap, subst, map, arith}
+use Rattle.std.proofs.Common.{◌≡◌, ℕ, ◌+◌, true, false, List, [], ◌∷◌, ◌++◌, length, length-append, Result, Ok, Err, refl, sym, ◌∙◌, ap, subst, map, arith}
 use Rattle.rv_text_laws.specs.Lexing as lexing
 use Rattle.rv_lexer.specs.Token.{token_of, kind_of}
 use Rattle.rv_statement.specs.Statement.{Statement as SpecStatement}
 use Rattle.rv_parse_laws.specs.Syntax.{Says, is_end, is_source_end}
 use Rattle.rv_parse_laws.specs.Opening.{is_opened}
-use Rattle.rv_parse_laws.specs.Parsing.{checked_at}
+use Rattle.rv_parse_laws.specs.Parsing.{statement_at, part_at, checked_at}
 use Rattle.rv_parse_laws.specs.Reading.{SaysUpTo}
 use Rattle.rv_parse_laws.proofs.Progress.{push_end, push_statement, source_end_is_end}
 use Rattle.rv_statement.specs.declared.statement.Statement.{Statement}
+use Rattle.rv_statement.specs.declared.statement.StatementKind.{StatementKind}
 use Rattle.rv_lexer.specs.declared.cursor.Cursor.{Cursor}
 use Rattle.rv_statement.specs.View.{statement_kind, statement_of}
 use Rattle.rv_lexer.specs.declared.syntax_error.ReadError.{ReadError}
 use Rattle.rv_lexer.specs.declared.syntax_error.ReadError.TheVariants as refusals
-use Rattle.rv_lexer.specs.Cursor.{left}
+use Rattle.rv_lexer.specs.Cursor.{left, Answers}
 use Rattle.rv_parse.specs.Left.{StopsAt, RefusesTokens}
+
+-- a statement that is read behind its first token
+pub said_as : (r : Result StatementKind ReadError) (t : lexing.Token) (us ts new : List lexing.Token) → ts ≡ t ∷ us → is_end t.kind ≡ false
+    → Answers (λ k. (statement_kind k, new)) r (statement_at t us) → Answers (λ k. (Says (statement_kind k), new)) r (part_at ts)
+unfolding part_at
+said_as (Ok k) t us ts new is no_end h = rw is (rw (no_end, h) refl)
+said_as (Err (refusals.At w)) t us ts new is no_end h = rw is (rw (no_end, h) refl)
+said_as (Err refusals.OutOfMemory) t us ts new is no_end h = tt
 
 said_push : (items : List Statement) (s : Statement) → map statement_of (items ++ s ∷ []) ≡ map statement_of items ++ statement_of s ∷ []
 said_push [] s = refl

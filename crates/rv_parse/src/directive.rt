@@ -253,8 +253,8 @@ fn section<'a>(alloc: Global, cursor: &mut Cursor<'a>) -> Result<StatementKind<'
 
 /// No operands: the statement's end.
 #[tactic(auto, unfolding(rv_parse_laws::specs::Parsing::operands_at))]
-fn enters<'a>(cursor: &mut Cursor<'a>, section: Standard) -> Result<StatementKind<'a>, SyntaxError>
-    ensures { Gives (λ k. (statement_kind k, left cursor.new)) result (seen_as (λ os. Directs (directed (Enters section) os)) (operands_at (places (Enters section)) (left cursor.old))) }
+fn enters<'a>(cursor: &mut Cursor<'a>, section: Standard) -> Result<StatementKind<'a>, ReadError>
+    ensures { Answers (λ k. (statement_kind k, left cursor.new)) result (seen_as (λ os. Directs (directed (Enters section) os)) (operands_at (places (Enters section)) (left cursor.old))) }
 {
     slot::end(cursor, Slot::Register)?;
     Ok(StatementKind::Enters(section))
@@ -292,7 +292,7 @@ pub fn directive<'a>(
     ensures { Answers (λ k. (statement_kind k, left cursor.new)) result (seen_as (λ os. Directs (directed word os)) (operands_at (places word) (left cursor.old))) }
 {
     match word {
-        DirectiveWord::Enters(section) => Ok(enters(cursor, section)?),
+        DirectiveWord::Enters(section) => enters(cursor, section),
         DirectiveWord::Section => section(alloc, cursor),
         DirectiveWord::Globl => globl(alloc, cursor),
         DirectiveWord::Local => local(alloc, cursor),

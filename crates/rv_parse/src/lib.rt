@@ -15,9 +15,12 @@
 //! Source: RISC-V Assembly Programmer's Manual; GNU as, "Statements", "Pseudo Ops" and "RISC-V Dependent Features".
 #![tactic(auto)]
 
+mod access;
 mod directive;
 mod instruction;
+mod jump;
 mod opening;
+mod operands;
 mod slot;
 mod source;
 mod statement;

@@ -6,8 +6,7 @@ ghost use Rattle.rv_lexer.specs.Cursor.{left, Answers};
 ghost use Rattle.rv_statement.specs.View.{statement_kind};
 ghost use Rattle.rv_parse_laws.specs.Syntax.{begins, label_of, is_colon, is_end, Says};
 ghost use Rattle.rv_parse_laws.specs.Faults.{wrong_label};
-ghost use Rattle.rv_parse_laws.specs.Parsing.{begun_at, part_at, taken, after_first};
-ghost use Rattle.rv_parse.specs.Left.{Gives};
+ghost use Rattle.rv_parse_laws.specs.Parsing.{begun_at, statement_at, part_at, taken, after_first};
 
 use crate::directive::directive;
 use crate::instruction::instruction;
@@ -18,16 +17,16 @@ use std::alloc::Global;
 
 /// A label, after its name or its digits: the colon comes next.
 #[tactic(auto, using(crate::proofs::Tokens::colon_no_last), unfolding(rv_lexer::specs::Cursor::left))]
-fn label<'a>(cursor: &mut Cursor<'a>, first: Token<'a>) -> Result<StatementKind<'a>, SyntaxError>
+fn label<'a>(cursor: &mut Cursor<'a>, first: Token<'a>) -> Result<StatementKind<'a>, ReadError>
     requires { is_colon (kind_of cursor.old.next.kind) ≡ true }
-    ensures { Gives (λ k. (statement_kind k, left cursor.new)) result (taken (token_of first.entry) (after_first (left cursor.old)) (label_of (kind_of first.entry.kind)) (wrong_label (kind_of first.entry.kind))) }
+    ensures { Answers (λ k. (statement_kind k, left cursor.new)) result (taken (token_of first.entry) (after_first (left cursor.old)) (label_of (kind_of first.entry.kind)) (wrong_label (kind_of first.entry.kind))) }
 {
     match kinds::label_of(first.kind) {
         Some(label) => {
             cursor.advance();
             Ok(label)
         }
-        None => Err(SyntaxError::at(first, fault::at_label(first.kind))),
+        None => Err(ReadError::At(SyntaxError::at(first, fault::at_label(first.kind)))),
     }
 }
 
@@ -50,6 +49,22 @@ fn begun<'a>(
     }
 }
 
+/// A label, or another statement up to its end, after its first token.
+#[tactic(auto, unfolding(rv_lexer::specs::Cursor::left, rv_parse_laws::specs::Parsing::statement_at))]
+fn statement_after<'a>(
+    alloc: Global,
+    cursor: &mut Cursor<'a>,
+    first: Token<'a>,
+) -> Result<StatementKind<'a>, ReadError>
+    ensures { Answers (λ k. (statement_kind k, left cursor.new)) result (statement_at (token_of first.entry) (left cursor.old)) }
+{
+    if kinds::is_colon(cursor.next.kind) {
+        label(cursor, first)
+    } else {
+        begun(alloc, cursor, first)
+    }
+}
+
 /// A label, or another statement up to its end; the next token ends none.
 #[tactic(auto, using(rv_parse_laws::proofs::Parts::last_begins_nothing), unfolding(rv_lexer::specs::Cursor::left, rv_parse_laws::specs::Parsing::part_at, rv_parse_laws::specs::Parsing::statement_at, rv_parse_laws::specs::Parsing::begun_at))]
 pub fn statement<'a>(alloc: Global, cursor: &mut Cursor<'a>) -> Result<StatementKind<'a>, ReadError>
@@ -61,9 +76,5 @@ pub fn statement<'a>(alloc: Global, cursor: &mut Cursor<'a>) -> Result<Statement
         return Err(ReadError::At(cursor.wrong(fault::at_start(first.kind))));
     }
     cursor.advance();
-    if kinds::is_colon(cursor.next.kind) {
-        Ok(label(cursor, first)?)
-    } else {
-        begun(alloc, cursor, first)
-    }
+    statement_after(alloc, cursor, first)
 }

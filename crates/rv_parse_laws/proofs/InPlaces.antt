@@ -6,7 +6,7 @@ use Rattle.rv_text_laws.specs.Grammar.{Kind, Punctuation}
 use Rattle.rv_text_laws.specs.Lexing.{Token, ended}
 use Rattle.rv_text_laws.specs.SyntaxError.{SyntaxError, wrong}
 use Rattle.rv_statement.specs.declared.mnemonic.Mnemonic.{Mnemonic}
-use Rattle.rv_statement.specs.declared.mnemonic.Mnemonic.TheVariants.{Registers, Immediate, Shift, Upper, Load, Store, Jalr, LoadReserved, Atomic, Fence, FenceTso, Ecall, Ebreak, Li}
+use Rattle.rv_statement.specs.declared.mnemonic.Mnemonic.TheVariants.{Registers}
 use Rattle.rv_statement.specs.declared.directive.DirectiveWord.{DirectiveWord}
 use Rattle.rv_statement.specs.declared.directive.DirectiveWord.TheVariants as words
 use Rattle.rv_statement.specs.Statement.{Operand}
@@ -50,34 +50,11 @@ sound_source false = refl
 
 pub slots_sound : (m : Mnemonic) → sound (slots m) ≡ true
 slots_sound (Registers operation) = sound_source (is_some (with_constant operation))
-slots_sound (Immediate operation) = refl
-slots_sound (Shift operation) = refl
-slots_sound (Upper operation) = refl
-slots_sound (Load operation) = refl
-slots_sound (Store operation) = refl
-slots_sound Jalr = refl
-slots_sound (LoadReserved form) = refl
-slots_sound (Atomic operation form) = refl
-slots_sound Fence = refl
-slots_sound FenceTso = refl
-slots_sound Ecall = refl
-slots_sound Ebreak = refl
-slots_sound Li = refl
+slots_sound _ = refl
 
 pub places_sound : (word : DirectiveWord) → sound (places word) ≡ true
 places_sound (words.Enters section) = refl
-places_sound words.Section = refl
-places_sound words.Globl = refl
-places_sound words.Local = refl
-places_sound words.Set = refl
-places_sound words.AlignToPower = refl
-places_sound words.AlignToBytes = refl
-places_sound (words.Value width) = refl
-places_sound words.Ascii = refl
-places_sound words.Asciz = refl
-places_sound words.Zero = refl
-places_sound words.Option = refl
-places_sound words.Ignored = refl
+places_sound _ = refl
 
 and_parts : (a b : Bool) → (a && b) ≡ true → (a ≡ true) × (b ≡ true)
 and_parts true b h = (refl, h)

@@ -5,8 +5,8 @@ use Rattle.std.proofs.Common.{◌≡◌, ℕ, ◌<◌, true, false, List, [], �
 use Rattle.rv_text_laws.specs.Lexing.{Token, ended}
 use Rattle.rv_text_laws.specs.SyntaxError.{SyntaxError, Read}
 use Rattle.rv_text_laws.proofs.ExpressionWrong.{ended_more, ended_behind}
-use Rattle.rv_statement.specs.Statement.{Expression, Operand, Value, Word}
-use Rattle.rv_parse_laws.specs.Syntax.{is_colon, Slot, A_value, An_address, A_section, IsValue, IsOperand, IsTaken, EndsHere}
+use Rattle.rv_statement.specs.Statement.{Expression, Operand, Word}
+use Rattle.rv_parse_laws.specs.Syntax.{is_colon, Slot, A_value, An_address, A_section, valued, IsValue, IsOperand, IsTaken, EndsHere}
 use Rattle.rv_parse_laws.specs.Parsing.{seen_as, value_in, section_at, operand_at, taking}
 use Rattle.rv_parse_laws.proofs.Steps.{bind_ok, seen_ok, bind_err, seen_err}
 use Rattle.rv_parse_laws.proofs.Failing.{Failing, behind, alike, first_of}
@@ -22,7 +22,7 @@ Ready A_section rest = Closes rest
 Ready _ rest = Unit {0}
 
 pub operand_is : (s : Slot) (text : List Token) (os : List Operand) → IsOperand s text os → (rest : List Token) → Ready s rest → operand_at s (text ++ rest) ≡ Ok (os, rest)
-operand_is (A_value role) text os is rest ready = rw is.2 (ap (seen_as (λ e. Value e ∷ [])) (value_in_is role text rest is.0 is.1 ready))
+operand_is (A_value role) text os is rest ready = rw is.2 (ap (seen_as (λ e. valued role e ∷ [])) (value_in_is role text rest is.0 is.1 ready))
 operand_is (An_address role) text os is rest ready = address_is role text os is rest
 operand_is A_section text os is rest ready = rw is.3 (ap (seen_as (λ name. Word name ∷ [])) (section_is text rest is.0 (is.1, is.2) ready))
 operand_is s text os is rest ready = one_is s text os is rest
@@ -36,13 +36,13 @@ pub record Found (s : Slot) (ts : List Token) (os : List Operand) (rest : List T
 
 pub operand_found : (s : Slot) (ts : List Token) (os : List Operand) (rest : List Token) → operand_at s ts ≡ Ok (os, rest) → Found s ts os rest
 operand_found (A_value role) ts os rest e =
-    let s = seen_ok (λ e. Value e ∷ []) (value_in role ts) os rest e in
+    let s = seen_ok (λ e. valued role e ∷ []) (value_in role ts) os rest e in
     let f = value_found role ts s.0 rest s.1 in
     record {
       text = f.text;
       whole = f.whole;
       is = (s.0, f.is, s.2);
-      steady = λ us first. ap (seen_as (λ e. Value e ∷ [])) (f.steady us first) ∙ ap (λ (x : List Operand). Ok (x, us)) (sym s.2);
+      steady = λ us first. ap (seen_as (λ e. valued role e ∷ [])) (f.steady us first) ∙ ap (λ (x : List Operand). Ok (x, us)) (sym s.2);
     }
 operand_found (An_address role) ts os rest e =
     let f = address_found role ts os rest e in
@@ -80,7 +80,7 @@ operand_shorter s ts os rest e =
 -- the last token stands in no place
 pub operand_ended : (s : Slot) (ts : List Token) (os : List Operand) (rest : List Token) → ended ts ≡ true → operand_at s ts ≡ Ok (os, rest) → ended rest ≡ true
 operand_ended (A_value role) ts os rest end e =
-    let s = seen_ok (λ e. Value e ∷ []) (value_in role ts) os rest e in
+    let s = seen_ok (λ e. valued role e ∷ []) (value_in role ts) os rest e in
     let f = value_found role ts s.0 rest s.1 in
     ap ended f.rest_is ∙ sym (ended_behind f.text f.at f.more) ∙ ap (λ us. ended (f.text ++ us)) (sym f.rest_is) ∙ ap ended (sym f.whole) ∙ end
 operand_ended (An_address role) ts os rest end e = address_ended role ts os rest end e
@@ -96,7 +96,7 @@ operand_ended s ts os rest end e = (single_passed s ts os rest end e).3
 
 -- each place has something that stands in it, and does not begin with a colon
 pub operand_live : (s : Slot) → (t : Token) × (us : List Token) × (os : List Operand) × IsOperand s (t ∷ us) os × (is_colon t.kind ≡ false)
-operand_live (A_value role) = (a_literal, [], Value value_goes.1 ∷ [], (value_goes.1, value_goes.2, refl), refl)
+operand_live (A_value role) = (a_literal, [], valued role value_goes.1 ∷ [], (value_goes.1, value_goes.2, refl), refl)
 operand_live (An_address role) = address_live role
 operand_live A_section = (section_token, [], Word some_section.1 ∷ [], (some_section.1, some_section.2.0, some_section.2.1, refl), refl)
 operand_live s = one_goes s refl
@@ -107,8 +107,8 @@ operand_goes s = let o = operand_live s in (o.0 ∷ o.1, o.2, o.3)
 pub operand_wrong : (s : Slot) (ts : List Token) (w : SyntaxError) → ended ts ≡ true → operand_at s ts ≡ Err w → Failing (List Operand) (IsOperand s) (operand_at s) ts w
 operand_wrong (A_value role) ts w end e =
     alike (List Operand) Expression (IsOperand (A_value role)) IsValue (operand_at (A_value role)) (value_in role) ts w
-    (λ us x v. (Value x ∷ [], (x, v, refl))) (λ us first h. ap (seen_as (λ e. Value e ∷ [])) h)
-    (value_wrong role ts w end (seen_err (λ e. Value e ∷ []) (value_in role ts) w e)).0
+    (λ us x v. (valued role x ∷ [], (x, v, refl))) (λ us first h. ap (seen_as (λ e. valued role e ∷ [])) h)
+    (value_wrong role ts w end (seen_err (λ e. valued role e ∷ []) (value_in role ts) w e)).0
 operand_wrong (An_address role) ts w end e = address_wrong role ts w end e
 operand_wrong A_section ts w end e =
     alike (List Operand) (List ℕ) (IsOperand A_section) IsSection (operand_at A_section) section_at ts w

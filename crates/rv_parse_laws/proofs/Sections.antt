@@ -270,8 +270,8 @@ long_at n place (t ∷ ts) fits long = go (joins place t) refl (λ m. long_at m 
           is = (parts.0, bytes, f.bytes, parts.1, refl, f.is);
           fits = omega (arith, f.fits, length-append bytes f.bytes);
           says = λ text. (
-            too_long_step n t (f.front ++ f.at ∷ text) bytes parts.1 ∙ rw within (f.kind text).0,
-            omega (arith, (f.kind text).1, length_behind place t (f.front ++ f.at ∷ text) bytes e),
+            too_long_step n t (f.front ++ f.at ∷ text) bytes parts.1 ∙ rw within (f.says text).0,
+            omega (arith, (f.says text).1, length_behind place t (f.front ++ f.at ∷ text) bytes e),
           );
         }
 
@@ -353,7 +353,7 @@ section_wrong (t ∷ ts) w end e = go (first_name t.kind) refl
         let le : 0 + length first ≤ longest_name = grind (arith, nat_tests, within) in
         let f = long_at (0 + length first) t.stop ts le (omega (arith, over, length-append first (joined_after t.stop ts).0)) in
         let one : (text : List Token) → too_long 0 (t ∷ (f.front ++ f.at ∷ text)) ≡ wrong f.at limit =
-        λ text. too_long_within 0 t (f.front ++ f.at ∷ text) first (wrong f.at limit) (ap bytes_of is) within (f.kind text).0 in
+        λ text. too_long_within 0 t (f.front ++ f.at ∷ text) first (wrong f.at limit) (ap bytes_of is) within (f.says text).0 in
         let is_wrong : w ≡ wrong f.at limit = sym same ∙ ap (λ us. too_long 0 (t ∷ us)) f.whole ∙ one f.more in
         record {
           before = t ∷ f.front;
@@ -363,7 +363,7 @@ section_wrong (t ∷ ts) w end e = go (first_name t.kind) refl
           whole = ap (λ us. t ∷ us) f.whole;
           is_wrong = is_wrong;
           fails = λ text. long_err t (f.front ++ f.at ∷ text) first (joined_after t.stop (f.front ++ f.at ∷ text)).0 (joined_after t.stop (f.front ++ f.at ∷ text)).1 w is refl
-              (omega (arith, (f.kind text).1, length-append first (joined_after t.stop (f.front ++ f.at ∷ text)).0)) (one text ∙ sym is_wrong);
+              (omega (arith, (f.says text).1, length-append first (joined_after t.stop (f.front ++ f.at ∷ text)).0)) (one text ∙ sym is_wrong);
           goes = section_goes t f.front first f.bytes is f.is (omega (arith, f.fits, length-append first f.bytes));
         }
 

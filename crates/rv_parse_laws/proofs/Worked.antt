@@ -13,11 +13,16 @@ use Rattle.rv_text_laws.specs.declared.operator.UnaryOperator.TheVariants.{Negat
 use Rattle.rv_text_laws.specs.declared.operator.BinaryOperator.TheVariants.{Add, Multiply}
 use Rattle.rv_statement.specs.declared.directive.Choice.TheVariants.{Norvc}
 use Rattle.rv_statement.specs.declared.directive.Standard.TheVariants.{Bss}
-use Rattle.rv_statement.specs.declared.mnemonic.Mnemonic.TheVariants.{Registers, Load, Jalr, LoadReserved}
+use Rattle.rv_statement.specs.declared.mnemonic.Mnemonic.TheVariants.{Registers, Load, Branch, Jal, Jalr, LoadReserved, Nop, Unary, Compare, ZeroBranch, SwappedBranch, J, Jr, Ret, La, Call, Tail, Jump}
 use Rattle.rv_isa.specs.declared.operation.RegisterOperation.TheVariants.{And}
+use Rattle.rv_isa.specs.declared.operation.BranchOperation.TheVariants.{Bgeu}
+use Rattle.rv_statement.specs.declared.pseudo.UnaryOperation.TheVariants.{SextW}
+use Rattle.rv_statement.specs.declared.pseudo.CompareOperation.TheVariants.{Sgtu}
+use Rattle.rv_statement.specs.declared.pseudo.ZeroBranchOperation.TheVariants.{Bgtz}
+use Rattle.rv_statement.specs.declared.pseudo.SwappedBranchOperation.TheVariants.{Ble}
 use Rattle.rv_isa.specs.declared.operation.LoadOperation.TheVariants.{Lw}
-use Rattle.rv_statement.specs.Statement.{Register, Value, Enters, Opens, Globl, Local, Sets, Aligns_to_power, Aligns_to_bytes, Values, Strings, Zeros, Chooses as Choosing, Ignored, StatementKind, Label, Numbered, Instruction, Directs, Statement}
-use Rattle.rv_parse_laws.specs.Words.{base_words, atomic_words, atomic_ends, pseudo_words, left_out_directives, is_known, instruction_words, atomic_operations, atomic_forms, form_with, mnemonic_named, directive_words, directive_named, beginning, choices, left_out_options, section_types, names_of, register}
+use Rattle.rv_statement.specs.Statement.{Register, Value, Target, Enters, Opens, Globl, Local, Sets, Aligns_to_power, Aligns_to_bytes, Values, Strings, Zeros, Chooses as Choosing, Ignored, StatementKind, Label, Numbered, Instruction, Directs, Statement}
+use Rattle.rv_parse_laws.specs.Words.{left_out_words, instruction_words, atomic_operations, atomic_forms, form_with, mnemonic_named, directive_words, directive_named, beginning, choices, left_out_options, section_types, names_of, register}
 use Rattle.rv_parse_laws.specs.Syntax.{is_symbol, access_sets, is_section_name, Part, Says}
 use Rattle.rv_parse_laws.specs.Opening.{is_opened}
 use Rattle.rv_parse_laws.specs.Parsing.{items_at, operands_at, begun_at, statement_at, part_at, opening_at, checked_at}
@@ -37,6 +42,24 @@ good_lines =
     (codes "lw a0, (sp)", Instruction (Load Lw) (Register 10 ∷ Register 2 ∷ [])) ∷
     (codes "lw a0, (1+2)*3(sp)", Instruction (Load Lw) (Register 10 ∷ Value (Binary Multiply (Binary Add (Leaf (Literal 1)) (Leaf (Literal 2))) (Leaf (Literal 3))) ∷ Register 2 ∷ [])) ∷
     (codes "jalr x+4(a1)", Instruction Jalr (Value (Binary Add (Leaf (Symbol (codes "x"))) (Leaf (Literal 4))) ∷ Register 11 ∷ [])) ∷
+    (codes "bgeu a0, a1, x+4", Instruction (Branch Bgeu) (Register 10 ∷ Register 11 ∷ Target (Binary Add (Leaf (Symbol (codes "x"))) (Leaf (Literal 4))) ∷ [])) ∷
+    (codes "bgtz a0, 1b", Instruction (ZeroBranch Bgtz) (Register 10 ∷ Target (Leaf (Reference (codes "1") false)) ∷ [])) ∷
+    (codes "ble a0, a1, x", Instruction (SwappedBranch Ble) (Register 10 ∷ Register 11 ∷ Target (Leaf (Symbol (codes "x"))) ∷ [])) ∷
+    (codes "jal x", Instruction Jal (Target (Leaf (Symbol (codes "x"))) ∷ [])) ∷
+    (codes "jal a0, .", Instruction Jal (Register 10 ∷ Target (Leaf Here) ∷ [])) ∷
+    (codes "j (x)", Instruction J (Target (Leaf (Symbol (codes "x"))) ∷ [])) ∷
+    (codes "jr a0", Instruction Jr (Register 10 ∷ [])) ∷
+    (codes "jr (a0)", Instruction Jr (Register 10 ∷ [])) ∷
+    (codes "jr 8(a0)", Instruction Jr (Value (Leaf (Literal 8)) ∷ Register 10 ∷ [])) ∷
+    (codes "nop;", Instruction Nop []) ∷
+    (codes "ret", Instruction Ret []) ∷
+    (codes "sext.w a0, a1", Instruction (Unary SextW) (Register 10 ∷ Register 11 ∷ [])) ∷
+    (codes "sgtu a0, a1, a2", Instruction (Compare Sgtu) (Register 10 ∷ Register 11 ∷ Register 12 ∷ [])) ∷
+    (codes "lla a0, x", Instruction La (Register 10 ∷ Target (Leaf (Symbol (codes "x"))) ∷ [])) ∷
+    (codes "call x", Instruction Call (Target (Leaf (Symbol (codes "x"))) ∷ [])) ∷
+    (codes "call t0, x", Instruction Call (Register 5 ∷ Target (Leaf (Symbol (codes "x"))) ∷ [])) ∷
+    (codes "tail x", Instruction Tail (Target (Leaf (Symbol (codes "x"))) ∷ [])) ∷
+    (codes "jump x, t0", Instruction Jump (Target (Leaf (Symbol (codes "x"))) ∷ Register 5 ∷ [])) ∷
     (codes "and a0, a1, -1", Instruction (Registers And) (Register 10 ∷ Register 11 ∷ Value (Unary Negate (Leaf (Literal 1))) ∷ [])) ∷
     (codes "lr.w a0, '\\0'(a1)", Instruction (LoadReserved (form_with false false false)) (Register 10 ∷ Register 11 ∷ [])) ∷
     (codes ".section .note.GNU-stack,\"awxMS\",@note, 4", Directs (Opens (codes ".note.GNU-stack") (Some (codes "awxMS")) (Some (codes "note")))) ∷
@@ -77,6 +100,29 @@ bad_lines =
     (codes "lw a0, ((((1)", 7, 13) ∷
     (codes "jalr 8", 7, 6) ∷
     (codes "li a0, %lo(x)", 9, 7) ∷
+    (codes "beq a0, a1", 7, 10) ∷
+    (codes "beq a0, 5, x", 7, 8) ∷
+    (codes "beq a0, a1, a2", 7, 12) ∷
+    (codes "beqz a0, a1, x", 7, 9) ∷
+    (codes "mv a0", 7, 5) ∷
+    (codes "mv a0, 5", 7, 7) ∷
+    (codes "nop 5", 7, 4) ∷
+    (codes "ret a0", 7, 4) ∷
+    (codes "sgt a0, a1, 5", 7, 12) ∷
+    (codes "j a0", 7, 2) ∷
+    (codes "j %lo(x)", 7, 2) ∷
+    (codes "j x@plt", 7, 3) ∷
+    (codes "j \"x\"", 9, 2) ∷
+    (codes "jal a0", 7, 6) ∷
+    (codes "jr a0, 8", 7, 5) ∷
+    (codes "jr 8", 7, 4) ∷
+    (codes "la x, a0", 7, 3) ∷
+    (codes "call x@plt", 9, 6) ∷
+    (codes "call x, t0", 7, 6) ∷
+    (codes "tail x@plt", 7, 6) ∷
+    (codes "jump x", 7, 6) ∷
+    (codes "unimp", 9, 0) ∷
+    (codes "csrr a0, x", 6, 0) ∷
     (codes "li a0, x == 1", 9, 9) ∷
     (codes "lr.w a0, 1(a0)", 7, 9) ∷
     (codes "amoadd.w a0, a1, (4)", 7, 18) ∷
@@ -123,9 +169,9 @@ read_line : List ℕ → Read Part
 read_line line = checked_at (is_opened behind_x) (tokens_from 0 1 line)
 
 each_reads : map (λ line. what (read_line line.0)) good_lines ≡ map (λ line. Some (Says line.1)) good_lines
-unfolding what code behind_x read_line opening_at part_at statement_at begun_at operands_at items_at tokens_from lexeme_at reference_in number_in escape_at atom_at cut class digit expression_at tree_of joined_at offset_of is_symbol access_sets is_section_name base_words atomic_words atomic_ends pseudo_words left_out_directives is_known instruction_words atomic_operations atomic_forms mnemonic_named directive_words directive_named beginning choices left_out_options section_types names_of register abi_names
+unfolding what code behind_x read_line opening_at part_at statement_at begun_at operands_at items_at tokens_from lexeme_at reference_in number_in escape_at atom_at cut class digit expression_at tree_of joined_at offset_of is_symbol access_sets is_section_name left_out_words instruction_words atomic_operations atomic_forms mnemonic_named directive_words directive_named beginning choices left_out_options section_types names_of register abi_names
 each_reads = refl
 
 each_fails : map (λ line. code (read_line line.0)) bad_lines ≡ map (λ line. (line.1, line.2)) bad_lines
-unfolding what code behind_x read_line opening_at part_at statement_at begun_at operands_at items_at tokens_from lexeme_at reference_in number_in escape_at atom_at cut class digit expression_at tree_of joined_at offset_of is_symbol access_sets is_section_name base_words atomic_words atomic_ends pseudo_words left_out_directives is_known instruction_words atomic_operations atomic_forms mnemonic_named directive_words directive_named beginning choices left_out_options section_types names_of register abi_names
+unfolding what code behind_x read_line opening_at part_at statement_at begun_at operands_at items_at tokens_from lexeme_at reference_in number_in escape_at atom_at cut class digit expression_at tree_of joined_at offset_of is_symbol access_sets is_section_name left_out_words instruction_words atomic_operations atomic_forms mnemonic_named directive_words directive_named beginning choices left_out_options section_types names_of register abi_names
 each_fails = refl

@@ -8,8 +8,8 @@ use Rattle.rv_text_laws.specs.declared.punct.Punct.TheVariants.{DoubleSlash}
 use Rattle.rv_text_laws.specs.Grammar.{Kind, Punctuation, Name as NameToken, Bad_word, Text, Bad_byte, Bad_token}
 use Rattle.rv_text_laws.specs.Codes.{limit}
 use Rattle.rv_text_laws.specs.SyntaxError.{longest_name, is_long}
-use Rattle.rv_parse_laws.specs.Words.{is_known, is_among, left_out_options}
-use Rattle.rv_parse_laws.specs.Syntax.{Slot, A_value, A_symbol, A_string, Some_flags, At_sign, A_type, An_option, A_comma, An_opening, A_closing, is_comma, is_end, is_flag}
+use Rattle.rv_parse_laws.specs.Words.{is_among, left_out_words, left_out_options}
+use Rattle.rv_parse_laws.specs.Syntax.{Slot, A_value, A_symbol, A_string, Some_flags, At_sign, A_type, An_option, A_comma, An_opening, A_closing, is_comma, is_at, is_end, is_flag}
 use Rattle.rv_parse_laws.specs.declared.role.Role.{Role}
 use Rattle.rv_parse_laws.specs.declared.role.Role.TheVariants as roles
 
@@ -56,11 +56,13 @@ may_call roles.Load = true
 may_call roles.Store = true
 may_call _ = false
 
--- behind a whole expression: a symbol load or store is not built yet; a fill or a limit of an alignment is left out
+-- after a whole expression: a symbol load or store and `@plt` are not built yet; a fill or a limit of an alignment is
+-- left out
 abbrev pub wrong_after_value : Role → Kind → ℕ
 wrong_after_value roles.Load k = if is_end k then unsupported_here else wrong_or k bad_operands
 wrong_after_value roles.Store k = if is_end k || is_comma k then unsupported_here else wrong_or k bad_operands
 wrong_after_value roles.Alignment k = if is_comma k then unsupported_here else wrong_or k bad_operands
+wrong_after_value roles.Call k = if is_at k then unsupported_here else wrong_or k bad_operands
 wrong_after_value _ k = wrong_or k bad_operands
 
 -- behind what stands in a place
@@ -104,10 +106,10 @@ wrong_first _ k = wrong_register k
 abbrev pub wrong_any : Kind → ℕ
 wrong_any k = if is_long k then limit else wrong_or k bad_operands
 
--- a word that begins a statement, and nothing that is built
+-- a word that begins a statement, and is neither a mnemonic nor a directive
 abbrev pub wrong_word : List ℕ → ℕ
 wrong_word word =
-    if is_known word then unsupported_here
+    if is_among left_out_words word then unsupported_here
     else (if bytes_eq (take 1 word) (codes ".") then unknown_directive else unknown_mnemonic)
 
 -- a token that begins a statement, and no label

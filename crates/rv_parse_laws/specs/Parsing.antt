@@ -10,7 +10,7 @@ use Rattle.rv_text_laws.specs.Joined.{bytes_of, joined_at}
 use Rattle.rv_text_laws.specs.Expression.{tree_of}
 use Rattle.rv_text_laws.specs.ExpressionAt.{expression_at}
 use Rattle.rv_statement.specs.Statement.{Expression, Operand, Value, Word, StatementKind, Instruction, Directs}
-use Rattle.rv_parse_laws.specs.Syntax.{is_register, label_of, begins, is_comma, is_percent, is_end, is_opening, is_any, is_section_name, Slot, A_register, A_value, An_address, A_section, Some_flags, At_sign, A_comma, A_closing, An_opening, single, front_begins, Slots, Stops, Takes, Chooses, Lists, Anything, slots, places, directed, colon_next, Part, Ends, Says}
+use Rattle.rv_parse_laws.specs.Syntax.{is_register, label_of, begins, is_comma, is_percent, is_end, is_opening, is_any, is_section_name, valued, Slot, A_register, A_value, An_address, A_section, Some_flags, At_sign, A_comma, A_closing, An_opening, single, front_begins, Slots, Stops, Takes, Chooses, Lists, Anything, slots, places, directed, colon_next, Part, Ends, Says}
 use Rattle.rv_parse_laws.specs.Faults.{may_call, wrong_first, wrong_after, wrong_any, wrong_start, wrong_label, unsupported_here}
 use Rattle.rv_parse_laws.specs.Opening.{flags_fault, type_fault, is_section}
 use Rattle.rv_parse_laws.specs.declared.role.Role.{Role}
@@ -87,7 +87,7 @@ section_at ts = named_or ts (joined_at ts)
 
 -- what stands in a place
 abbrev pub operand_at : Slot → List Token → Read (List Operand)
-operand_at (A_value role) ts = seen_as (λ e. Value e ∷ []) (value_in role ts)
+operand_at (A_value role) ts = seen_as (λ e. valued role e ∷ []) (value_in role ts)
 operand_at (An_address role) ts = if base_next ts then base_at A_register ts else offset_at role ts
 operand_at A_section ts = seen_as (λ name. Word name ∷ []) (section_at ts)
 operand_at s ts = single_at s ts

@@ -12,7 +12,7 @@ use Rattle.rv_text_laws.specs.SyntaxError.{longest_name, is_long}
 use Rattle.rv_text_laws.specs.Joined.{IsJoined}
 use Rattle.rv_text_laws.specs.Expression.{Tree, SpellsTree, IsAt, nesting, deepest, bare}
 use Rattle.rv_statement.specs.declared.mnemonic.Mnemonic.{Mnemonic}
-use Rattle.rv_statement.specs.declared.mnemonic.Mnemonic.TheVariants.{Registers, Immediate, Shift, Upper, Load, Store, Jalr, LoadReserved, Atomic, Fence, FenceTso, Ecall, Ebreak, Li}
+use Rattle.rv_statement.specs.declared.mnemonic.Mnemonic.TheVariants.{Registers, Immediate, Shift, Upper, Load, Store, Branch, Jal, Jalr, LoadReserved, Atomic, Fence, FenceTso, Ecall, Ebreak, Nop, Unary, Compare, ZeroBranch, SwappedBranch, J, Jr, Ret, La, Li, Call, Tail, Jump}
 use Rattle.rv_isa.specs.declared.operation.RegisterOperation.{RegisterOperation}
 use Rattle.rv_isa.specs.declared.operation.RegisterOperation.TheVariants.{Add, Sll, Slt, Sltu, Xor, Srl, Sra, Or, And, Addw, Sllw, Srlw, Sraw}
 use Rattle.rv_isa.specs.declared.operation.ImmediateOperation.TheVariants.{Addi, Slti, Sltiu, Xori, Ori, Andi, Addiw}
@@ -21,7 +21,7 @@ use Rattle.rv_isa.specs.declared.operation.AccessSet.{AccessSet}
 use Rattle.rv_statement.specs.declared.directive.DirectiveWord.{DirectiveWord}
 use Rattle.rv_statement.specs.declared.directive.DirectiveWord.TheVariants as words
 use Rattle.rv_statement.specs.declared.directive.Choice.{Choice}
-use Rattle.rv_statement.specs.Statement.{Expression, Operand, Register, Value, Accesses, Word, Quoted, Directive, Enters, Opens, Globl, Local, Sets, Aligns_to_power, Aligns_to_bytes, Values, Strings, Zeros, Chooses as Choosing, Ignored, StatementKind, Label, Numbered, Instruction, Directs}
+use Rattle.rv_statement.specs.Statement.{Expression, Operand, Register, Value, Target, Accesses, Word, Quoted, Directive, Enters, Opens, Globl, Local, Sets, Aligns_to_power, Aligns_to_bytes, Values, Strings, Zeros, Chooses as Choosing, Ignored, StatementKind, Label, Numbered, Instruction, Directs}
 use Rattle.rv_statement.specs.View.{bytes_of}
 use Rattle.rv_parse_laws.specs.Words.{register, named_in, choices, beginning}
 use Rattle.rv_parse_laws.specs.declared.role.Role.{Role}
@@ -153,7 +153,7 @@ is_flag letter = (letter == 97) || (letter == 119) || (letter == 120) || (letter
 -- what may stand in one slot of a statement
 pub data Slot : Type 0 where
   A_register : Slot
-  -- an expression
+  -- an expression; by its role it is a value or a target
   A_value : (role : Role) → Slot
   -- `(rs)`, or an expression and then `(rs)`
   An_address : (role : Role) → Slot
@@ -232,6 +232,13 @@ source false = last A_register
 abbrev pub jump_target : Slots
 jump_target = Chooses A_register (Chooses (A_comma A_register) (last (A_value roles.Operand)) (Stops A_register)) (last (An_address roles.Operand))
 
+-- where a branch, a jump or a call goes; and a link register before it, if it is given
+abbrev pub A_target : Slot
+A_target = A_value roles.Target
+
+abbrev pub linked : Slot → Slots
+linked target = Chooses A_register (Takes (A_comma A_register) (last target)) (last target)
+
 -- the places of each instruction's operands (ISA, chapter 24; Assembly Programmer's Manual)
 abbrev pub slots : Mnemonic → Slots
 slots (Registers operation) = and_then A_register (and_then A_register (source (is_some (with_constant operation))))
@@ -240,6 +247,8 @@ slots (Shift operation) = and_then A_register (and_then A_register (last (A_valu
 slots (Upper operation) = and_then A_register (last (A_value roles.Operand))
 slots (Load operation) = and_then A_register (last (An_address roles.Load))
 slots (Store operation) = and_then A_register (last (An_address roles.Store))
+slots (Branch operation) = and_then A_register (and_then A_register (last A_target))
+slots Jal = linked A_target
 slots Jalr = Chooses A_register (Chooses (A_comma A_register) jump_target (Stops A_register)) (last (An_address roles.Operand))
 slots (LoadReserved form) = and_then A_register atomic_address
 slots (Atomic operation form) = and_then A_register (and_then A_register atomic_address)
@@ -247,7 +256,19 @@ slots Fence = Chooses Some_accesses (Takes (A_comma Some_accesses) (last Some_ac
 slots FenceTso = Stops A_register
 slots Ecall = Stops A_register
 slots Ebreak = Stops A_register
+slots Nop = Stops A_register
+slots (Unary operation) = and_then A_register (last A_register)
+slots (Compare operation) = and_then A_register (and_then A_register (last A_register))
+slots (ZeroBranch operation) = and_then A_register (last A_target)
+slots (SwappedBranch operation) = and_then A_register (and_then A_register (last A_target))
+slots J = last A_target
+slots Jr = Chooses A_register (Stops A_register) (last (An_address roles.Operand))
+slots Ret = Stops A_register
+slots La = and_then A_register (last A_target)
 slots Li = and_then A_register (last (A_value roles.Operand))
+slots Call = linked (A_value roles.Call)
+slots Tail = last A_target
+slots Jump = and_then A_target (last A_register)
 
 -- `.section name[,"flags"[,@type[,n]]]`
 abbrev pub section_slots : Slots
@@ -289,6 +310,12 @@ single _ k = None
 unfoldable pub is_section_name : List ℕ → Bool
 is_section_name name = nat_le (length name) longest_name && not (bytes_eq name (codes ".rv.rows"))
 
+-- an expression as an operand: a target, or a value
+abbrev pub valued : Role → Expression → Operand
+valued roles.Target e = Target e
+valued roles.Call e = Target e
+valued _ e = Value e
+
 -- the tokens are an expression
 abbrev pub IsValue : List Token → Expression → Type 0
 IsValue ts e = (tree : Tree) × SpellsTree is_register tree ts × IsAt 0 tree × (nesting tree ≤ deepest) × (e ≡ bare tree)
@@ -305,7 +332,7 @@ IsOffset ts os = (one rest : List Token) × (e : Expression) × (base : List Ope
 
 -- the tokens stand in this place, with these operands
 abbrev pub IsOperand : Slot → List Token → List Operand → Type 0
-IsOperand (A_value role) ts os = (e : Expression) × IsValue ts e × (os ≡ Value e ∷ [])
+IsOperand (A_value role) ts os = (e : Expression) × IsValue ts e × (os ≡ valued role e ∷ [])
 IsOperand (An_address role) ts os = IsBase ts os ⊎ IsOffset ts os
 IsOperand A_section ts os = (name : List ℕ) × IsJoined ts name × (is_section_name name ≡ true) × (os ≡ Word name ∷ [])
 IsOperand s ts os = (t : Token) × (ts ≡ t ∷ []) × (single s t.kind ≡ Some os)

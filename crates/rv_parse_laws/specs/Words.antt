@@ -1,17 +1,22 @@
 -- The words that may begin a statement (RISC-V Unprivileged ISA 20191213, chapters 2, 5, 7 and 8; RISC-V Assembly
 -- Programmer's Manual; GNU as).
 
-use Rattle.std.specs.Prelude.{ℕ, zero, suc, List, [], ◌∷◌, ◌++◌, Bool, true, false, ◌&&◌, ◌||◌, ◌==◌, length, take, drop, codes, Option, Some, None, option_map, slice_get, option_to_list, if◌then◌else◌}
+use Rattle.std.specs.Prelude.{ℕ, zero, suc, List, [], ◌∷◌, ◌++◌, Bool, true, false, ◌||◌, ◌==◌, length, take, drop, codes, Option, Some, None, option_map, slice_get, option_to_list, if◌then◌else◌}
 use Rattle.std.specs.Str.{bytes_eq}
 use Rattle.rv_isa.specs.RegisterNames.{abi_names, decimal}
 use Rattle.rv_statement.specs.declared.mnemonic.Mnemonic.{Mnemonic}
-use Rattle.rv_statement.specs.declared.mnemonic.Mnemonic.TheVariants.{Registers, Immediate, Shift, Upper, Load, Store, Jalr, LoadReserved, Atomic, Fence, FenceTso, Ecall, Ebreak, Li}
+use Rattle.rv_statement.specs.declared.mnemonic.Mnemonic.TheVariants.{Registers, Immediate, Shift, Upper, Load, Store, Branch, Jal, Jalr, LoadReserved, Atomic, Fence, FenceTso, Ecall, Ebreak, Nop, Unary, Compare, ZeroBranch, SwappedBranch, J, Jr, Ret, La, Li, Call, Tail, Jump}
 use Rattle.rv_isa.specs.declared.operation.RegisterOperation.TheVariants.{Add, Sub, Sll, Slt, Sltu, Xor, Srl, Sra, Or, And, Addw, Subw, Sllw, Srlw, Sraw, Mul, Mulh, Mulhsu, Mulhu, Div, Divu, Rem, Remu, Mulw, Divw, Divuw, Remw, Remuw}
 use Rattle.rv_isa.specs.declared.operation.ImmediateOperation.TheVariants.{Addi, Slti, Sltiu, Xori, Ori, Andi, Addiw}
 use Rattle.rv_isa.specs.declared.operation.ShiftOperation.TheVariants.{Slli, Srli, Srai, Slliw, Srliw, Sraiw}
 use Rattle.rv_isa.specs.declared.operation.UpperOperation.TheVariants.{Lui, Auipc}
 use Rattle.rv_isa.specs.declared.operation.LoadOperation.TheVariants.{Lb, Lh, Lw, Ld, Lbu, Lhu, Lwu}
 use Rattle.rv_isa.specs.declared.operation.StoreOperation.TheVariants.{Sb, Sh, Sw, Sd}
+use Rattle.rv_isa.specs.declared.operation.BranchOperation.TheVariants.{Beq, Bne, Blt, Bge, Bltu, Bgeu}
+use Rattle.rv_statement.specs.declared.pseudo.UnaryOperation.TheVariants.{Mv, Not, Neg, Negw, SextB, SextH, SextW, ZextB, ZextH, ZextW, Seqz, Snez, Sltz, Sgtz}
+use Rattle.rv_statement.specs.declared.pseudo.CompareOperation.TheVariants.{Sgt, Sgtu}
+use Rattle.rv_statement.specs.declared.pseudo.ZeroBranchOperation.TheVariants.{Beqz, Bnez, Bgez, Bltz, Blez, Bgtz}
+use Rattle.rv_statement.specs.declared.pseudo.SwappedBranchOperation.TheVariants.{Bgt, Ble, Bgtu, Bleu}
 use Rattle.rv_isa.specs.declared.operation.AtomicOperation.{AtomicOperation}
 use Rattle.rv_isa.specs.declared.operation.AtomicOperation.TheVariants.{Sc, Amoswap, Amoadd, Amoxor, Amoand, Amoor, Amomin, Amomax, Amominu, Amomaxu}
 use Rattle.rv_isa.specs.declared.operation.AtomicForm.{AtomicForm}
@@ -29,69 +34,26 @@ abbrev pub is_among : List (List ℕ) → List ℕ → Bool
 is_among [] word = false
 is_among (w ∷ ws) word = bytes_eq w word || is_among ws word
 
--- the base instructions but the atomics (chapters 2, 5 and 7)
-unfoldable pub base_words : List (List ℕ)
-base_words =
-    codes "lui" ∷ codes "auipc" ∷ codes "jal" ∷ codes "jalr" ∷
-    codes "beq" ∷ codes "bne" ∷ codes "blt" ∷ codes "bge" ∷ codes "bltu" ∷ codes "bgeu" ∷
-    codes "lb" ∷ codes "lh" ∷ codes "lw" ∷ codes "ld" ∷ codes "lbu" ∷ codes "lhu" ∷ codes "lwu" ∷
-    codes "sb" ∷ codes "sh" ∷ codes "sw" ∷ codes "sd" ∷
-    codes "addi" ∷ codes "slti" ∷ codes "sltiu" ∷ codes "xori" ∷ codes "ori" ∷ codes "andi" ∷
-    codes "slli" ∷ codes "srli" ∷ codes "srai" ∷
-    codes "add" ∷ codes "sub" ∷ codes "sll" ∷ codes "slt" ∷ codes "sltu" ∷ codes "xor" ∷ codes "srl" ∷
-    codes "sra" ∷ codes "or" ∷ codes "and" ∷
-    codes "addiw" ∷ codes "slliw" ∷ codes "srliw" ∷ codes "sraiw" ∷
-    codes "addw" ∷ codes "subw" ∷ codes "sllw" ∷ codes "srlw" ∷ codes "sraw" ∷
-    codes "fence" ∷ codes "fence.tso" ∷ codes "ecall" ∷ codes "ebreak" ∷
-    codes "mul" ∷ codes "mulh" ∷ codes "mulhsu" ∷ codes "mulhu" ∷
-    codes "div" ∷ codes "divu" ∷ codes "rem" ∷ codes "remu" ∷
-    codes "mulw" ∷ codes "divw" ∷ codes "divuw" ∷ codes "remw" ∷ codes "remuw" ∷ []
-
--- the atomics without width and ordering (chapter 8)
-unfoldable pub atomic_words : List (List ℕ)
-atomic_words =
-    codes "lr" ∷ codes "sc" ∷ codes "amoswap" ∷ codes "amoadd" ∷ codes "amoxor" ∷ codes "amoand" ∷ codes "amoor" ∷
-    codes "amomin" ∷ codes "amomax" ∷ codes "amominu" ∷ codes "amomaxu" ∷ []
-
--- a width and the ordering bits of an atomic
-unfoldable pub atomic_ends : List (List ℕ)
-atomic_ends =
-    codes ".w" ∷ codes ".d" ∷ codes ".w.aq" ∷ codes ".d.aq" ∷ codes ".w.rl" ∷ codes ".d.rl" ∷ codes ".w.aqrl" ∷
-    codes ".d.aqrl" ∷ []
-
--- the pseudo-instructions (Assembly Programmer's Manual, 'pseudoinstructions'), and `unimp`
-unfoldable pub pseudo_words : List (List ℕ)
-pseudo_words =
-    codes "nop" ∷ codes "mv" ∷ codes "not" ∷ codes "neg" ∷ codes "negw" ∷ codes "sext.w" ∷ codes "zext.b" ∷
-    codes "sext.b" ∷ codes "sext.h" ∷ codes "zext.h" ∷ codes "zext.w" ∷
-    codes "seqz" ∷ codes "snez" ∷ codes "sltz" ∷ codes "sgtz" ∷ codes "sgt" ∷ codes "sgtu" ∷
-    codes "beqz" ∷ codes "bnez" ∷ codes "bgez" ∷ codes "bltz" ∷ codes "blez" ∷ codes "bgtz" ∷
-    codes "bgt" ∷ codes "ble" ∷ codes "bgtu" ∷ codes "bleu" ∷
-    codes "j" ∷ codes "jr" ∷ codes "ret" ∷ codes "la" ∷ codes "lla" ∷ codes "call" ∷ codes "tail" ∷ codes "jump" ∷
-    codes "li" ∷ codes "unimp" ∷ []
-
--- the directives that the language leaves out by name
-unfoldable pub left_out_directives : List (List ℕ)
-left_out_directives =
-    codes ".weak" ∷ codes ".comm" ∷ codes ".macro" ∷ codes ".rept" ∷ codes ".if" ∷ codes ".include" ∷
+-- what the language leaves out by name: a mnemonic, and directives
+unfoldable pub left_out_words : List (List ℕ)
+left_out_words =
+    codes "unimp" ∷ codes ".weak" ∷ codes ".comm" ∷ codes ".macro" ∷ codes ".rept" ∷ codes ".if" ∷ codes ".include" ∷
     codes ".pushsection" ∷ codes ".popsection" ∷ codes ".previous" ∷ codes ".insn" ∷ codes ".uleb128" ∷ codes ".loc" ∷ []
 
--- an atomic with its width and ordering
-abbrev pub is_atomic_of : List (List ℕ) → List ℕ → Bool
-is_atomic_of [] word = false
-is_atomic_of (front ∷ fronts) word =
-    (bytes_eq (take (length front) word) front && is_among atomic_ends (drop (length front) word)) || is_atomic_of fronts word
-
--- a mnemonic that the language has, or a mnemonic or directive that it leaves out by name
-unfoldable pub is_known : List ℕ → Bool
-is_known word = is_among base_words word || is_among pseudo_words word || is_among left_out_directives word || is_atomic_of atomic_words word
-
--- the mnemonics that are built but the atomics (ISA, chapter 24; Assembly Programmer's Manual for `li`)
+-- the mnemonics but the atomics: base instructions (ISA, chapter 24), then pseudo-instructions (Assembly Programmer's
+-- Manual, "pseudoinstructions")
 unfoldable pub instruction_words : List (List ℕ × Mnemonic)
 instruction_words =
     (codes "lui", Upper Lui)
     ∷ (codes "auipc", Upper Auipc)
+    ∷ (codes "jal", Jal)
     ∷ (codes "jalr", Jalr)
+    ∷ (codes "beq", Branch Beq)
+    ∷ (codes "bne", Branch Bne)
+    ∷ (codes "blt", Branch Blt)
+    ∷ (codes "bge", Branch Bge)
+    ∷ (codes "bltu", Branch Bltu)
+    ∷ (codes "bgeu", Branch Bgeu)
     ∷ (codes "lb", Load Lb)
     ∷ (codes "lh", Load Lh)
     ∷ (codes "lw", Load Lw)
@@ -148,7 +110,42 @@ instruction_words =
     ∷ (codes "divuw", Registers Divuw)
     ∷ (codes "remw", Registers Remw)
     ∷ (codes "remuw", Registers Remuw)
+    ∷ (codes "nop", Nop)
     ∷ (codes "li", Li)
+    ∷ (codes "mv", Unary Mv)
+    ∷ (codes "not", Unary Not)
+    ∷ (codes "neg", Unary Neg)
+    ∷ (codes "negw", Unary Negw)
+    ∷ (codes "sext.b", Unary SextB)
+    ∷ (codes "sext.h", Unary SextH)
+    ∷ (codes "sext.w", Unary SextW)
+    ∷ (codes "zext.b", Unary ZextB)
+    ∷ (codes "zext.h", Unary ZextH)
+    ∷ (codes "zext.w", Unary ZextW)
+    ∷ (codes "seqz", Unary Seqz)
+    ∷ (codes "snez", Unary Snez)
+    ∷ (codes "sltz", Unary Sltz)
+    ∷ (codes "sgtz", Unary Sgtz)
+    ∷ (codes "sgt", Compare Sgt)
+    ∷ (codes "sgtu", Compare Sgtu)
+    ∷ (codes "beqz", ZeroBranch Beqz)
+    ∷ (codes "bnez", ZeroBranch Bnez)
+    ∷ (codes "bgez", ZeroBranch Bgez)
+    ∷ (codes "bltz", ZeroBranch Bltz)
+    ∷ (codes "blez", ZeroBranch Blez)
+    ∷ (codes "bgtz", ZeroBranch Bgtz)
+    ∷ (codes "bgt", SwappedBranch Bgt)
+    ∷ (codes "ble", SwappedBranch Ble)
+    ∷ (codes "bgtu", SwappedBranch Bgtu)
+    ∷ (codes "bleu", SwappedBranch Bleu)
+    ∷ (codes "j", J)
+    ∷ (codes "jr", Jr)
+    ∷ (codes "ret", Ret)
+    ∷ (codes "la", La)
+    ∷ (codes "lla", La)
+    ∷ (codes "call", Call)
+    ∷ (codes "tail", Tail)
+    ∷ (codes "jump", Jump)
     ∷ []
 
 -- the atomics that have a second source (ISA, chapter 8)
@@ -169,7 +166,7 @@ atomic_operations =
 abbrev pub form_with : Bool → Bool → Bool → AtomicForm
 form_with double acquire release = record { double = double; acquire = acquire; release = release }
 
--- what stands behind an atomic's operation: its width and its ordering (ISA, 8.1)
+-- what stands after an atomic's operation: its width and its ordering (ISA, 8.1)
 unfoldable pub atomic_forms : List (List ℕ × AtomicForm)
 atomic_forms =
     (codes ".w", form_with false false false)

@@ -2,11 +2,11 @@
 
 use rv_statement::{DirectiveWord, Mnemonic};
 
-/// What a word begins that is built.
+/// What a word begins.
 #[derive(Clone, Copy, Debug, PartialEq, Eq, Drop)]
 pub enum Beginning {
     Instruction(Mnemonic),
     Directive(DirectiveWord),
-    /// Nothing that is built.
+    /// Neither an instruction nor a directive.
     Nothing,
 }

@@ -13,4 +13,8 @@ pub enum Role {
     Directive,
     /// As an alignment.
     Alignment,
+    /// As the target of a branch, a jump or `la`.
+    Target,
+    /// As the target of a call.
+    Call,
 }

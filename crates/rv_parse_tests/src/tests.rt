@@ -20,7 +20,24 @@ fn refused(rt: &impl Abort, alloc: Global, rows: &[(&[u8], u8, u32)]) {
 }
 
 /// Every statement in each of its forms: read.
-const FORMS: [(&[u8], u8, u32); 21] = [
+const FORMS: [(&[u8], u8, u32); 26] = [
+    (
+        b"beq a0, a1, x; bgeu t0, zero, . + 8; bgt a0, a1, 1f; bleu a0, a1, (x)",
+        0,
+        0,
+    ),
+    (b"beqz a0, x; bgtz a0, x - 4; la a0, x; lla a0, . - 4", 0, 0),
+    (
+        b"jal x; jal a0, x; call f; call t0, f + 4; tail f; j 1b; jump f, t0",
+        0,
+        0,
+    ),
+    (b"jr a0; jr (a0); jr 4(a0); jr x + 4(a0); ret; nop", 0, 0),
+    (
+        b"mv a0, a1; not a0, a1; sext.w a0, a1; zext.b a0, a1; sgtz a0, a1; sgt a0, a1, a2",
+        0,
+        0,
+    ),
     (
         b"add a0, a1, a2; sraw t0, t1, 3; add a0, a1, -(x - 4)",
         0,
@@ -101,7 +118,42 @@ fn each_form(rt: HostRuntime) {
     refused(&rt, rt.alloc(), &FORMS);
 }
 
-const OPERANDS: [(&[u8], u8, u32); 30] = [
+/// Branches, jumps and pseudo-instructions with operands that are wrong.
+const JUMPS: [(&[u8], u8, u32); 26] = [
+    (b"beq a0, a1", 7, 1),
+    (b"beq a0, 5, x", 7, 1),
+    (b"beq a0, a1, a2", 7, 1),
+    (b"beq a0, a1, %lo(x)", 7, 1),
+    (b"beq a0, a1, x(a0)", 7, 1),
+    (b"beqz a0, a1, x", 7, 1),
+    (b"\nbeqz\n", 7, 2),
+    (b"bgt a0, a1, \"x\"", 9, 1),
+    (b"mv a0", 7, 1),
+    (b"mv a0, 5", 7, 1),
+    (b"sgt a0, a1, 5", 7, 1),
+    (b"nop 5", 7, 1),
+    (b"ret a0", 7, 1),
+    (b"j a0", 7, 1),
+    (b"j x, a0", 7, 1),
+    (b"jal a0", 7, 1),
+    (b"jal a0, a1", 7, 1),
+    (b"jr a0, 4", 7, 1),
+    (b"jr 4", 7, 1),
+    (b"jr", 7, 1),
+    (b"la x, a0", 7, 1),
+    (b"call a0", 7, 1),
+    (b"tail f@plt", 7, 1),
+    (b"jump f", 7, 1),
+    (b"jump f, g", 7, 1),
+    (b"unimp", 9, 1),
+];
+
+#[test]
+fn jumps_that_are_wrong(rt: HostRuntime) {
+    refused(&rt, rt.alloc(), &JUMPS);
+}
+
+const OPERANDS: [(&[u8], u8, u32); 28] = [
     (b"li a0, 1 2", 7, 1),
     (b"li a0, 1 + (2", 7, 1),
     (b"li a0, 1 == 2", 9, 1),
@@ -125,8 +177,6 @@ const OPERANDS: [(&[u8], u8, u32); 30] = [
     (b"amoadd.w.aq.rl a0, a1, (a2)", 6, 1),
     (b"fence wr, r", 7, 1),
     (b"fence.i", 6, 1),
-    (b"jal x", 9, 1),
-    (b"nop", 9, 1),
     (b"ecall // x", 9, 1),
     (b"ecall \x01", 1, 1),
     (b"li a0, 4x", 2, 1),

@@ -6,8 +6,8 @@ ghost use Rattle.rv_lexer.specs.Token.{kind_of};
 ghost use Rattle.rv_parse_laws.specs.Faults.{may_call, wrong_or, wrong_name, wrong_register, wrong_after_value, wrong_after, wrong_symbol, wrong_letters, wrong_option, wrong_any, wrong_word, wrong_start, wrong_label, bad_operands};
 ghost use Rattle.rv_words.specs.View.{slot_of};
 
-use crate::kinds::{is_comma, is_end};
-use crate::words::{are_known_flags, is_known, is_left_out_option};
+use crate::kinds::{is_at, is_comma, is_end};
+use crate::words::{are_known_flags, is_left_out, is_left_out_option};
 use rv_parse_laws::Role;
 use rv_text::{LONGEST_NAME, Punct, SourceCode, TokenKind};
 
@@ -75,11 +75,11 @@ pub fn may_call(role: Role) -> bool
 {
     match role {
         Role::Operand | Role::Load | Role::Store => true,
-        Role::Directive | Role::Alignment => false,
+        Role::Directive | Role::Alignment | Role::Target | Role::Call => false,
     }
 }
 
-/// After a whole expression: a symbol load or store is not built yet; an alignment has one operand alone.
+/// After a whole expression: a symbol load or store and `@plt` are not built yet; an alignment has one operand alone.
 fn after_value(role: Role, kind: TokenKind<'_>) -> SourceCode
     ensures { number_of result ≡ wrong_after_value role (kind_of kind.entry) }
 {
@@ -87,6 +87,7 @@ fn after_value(role: Role, kind: TokenKind<'_>) -> SourceCode
         Role::Load if is_end(kind) => SourceCode::UnsupportedHere,
         Role::Store if is_end(kind) || is_comma(kind) => SourceCode::UnsupportedHere,
         Role::Alignment if is_comma(kind) => SourceCode::UnsupportedHere,
+        Role::Call if is_at(kind) => SourceCode::UnsupportedHere,
         _ => or_slot(kind, SourceCode::BadOperands),
     }
 }
@@ -150,11 +151,11 @@ pub fn at_any(kind: TokenKind<'_>) -> SourceCode
     }
 }
 
-/// A word that begins a statement, and nothing that is built.
+/// A word that begins a statement, and is neither a mnemonic nor a directive.
 fn at_word(word: &[u8]) -> SourceCode
     ensures { number_of result ≡ wrong_word word.now }
 {
-    if is_known(word) {
+    if is_left_out(word) {
         SourceCode::UnsupportedHere
     } else if word.starts_with(b".") {
         SourceCode::UnknownDirective

@@ -2,7 +2,7 @@
 
 ghost use Rattle.std.specs.Prelude.{◌≡◌, map, ◌||◌, ◌&&◌, take, drop, length, option_map, is_some, codes};
 ghost use Rattle.std.specs.Str.{bytes_eq};
-ghost use Rattle.rv_parse_laws.specs.Words.{base_words, pseudo_words, left_out_directives, atomic_words, atomic_ends, left_out_options, section_types, choices, is_among, is_atomic_of, is_known, frame_directive, directive_words, directive_named, beginning, register, named_in, atomic_forms, form_behind, either, atomic_in, atomic_operations, instruction_words, mnemonic_named};
+ghost use Rattle.rv_parse_laws.specs.Words.{left_out_words, left_out_options, section_types, choices, is_among, frame_directive, directive_words, directive_named, beginning, register, named_in, atomic_forms, form_behind, either, atomic_in, atomic_operations, instruction_words, mnemonic_named};
 ghost use Rattle.rv_statement.specs.declared.mnemonic.Mnemonic.TheVariants.{LoadReserved};
 ghost use Rattle.std.specs.List.{list_all};
 ghost use Rattle.rv_parse_laws.specs.Syntax.{access_sets, with_constant, is_flag};
@@ -10,103 +10,18 @@ ghost use Rattle.rv_parse_laws.specs.Faults.{is_known_flag};
 ghost use Rattle.rv_words.specs.View.{named_of};
 
 use rv_isa::{
-    AccessSet, AtomicForm, AtomicOperation, ImmediateOperation, LoadOperation, Reg,
-    RegisterOperation, ShiftOperation, StoreOperation, UpperOperation, reg_named,
+    AccessSet, AtomicForm, AtomicOperation, BranchOperation, ImmediateOperation, LoadOperation,
+    Reg, RegisterOperation, ShiftOperation, StoreOperation, UpperOperation, reg_named,
 };
 use rv_parse_laws::Beginning;
-use rv_statement::{Choice, DirectiveWord, Mnemonic, Standard, Width};
+use rv_statement::{
+    Choice, CompareOperation, DirectiveWord, Mnemonic, Standard, SwappedBranchOperation,
+    UnaryOperation, Width, ZeroBranchOperation,
+};
 
-/// The base instructions but the atomics.
-const BASE_WORDS: [&str; 66] = [
-    "lui",
-    "auipc",
-    "jal",
-    "jalr",
-    "beq",
-    "bne",
-    "blt",
-    "bge",
-    "bltu",
-    "bgeu",
-    "lb",
-    "lh",
-    "lw",
-    "ld",
-    "lbu",
-    "lhu",
-    "lwu",
-    "sb",
-    "sh",
-    "sw",
-    "sd",
-    "addi",
-    "slti",
-    "sltiu",
-    "xori",
-    "ori",
-    "andi",
-    "slli",
-    "srli",
-    "srai",
-    "add",
-    "sub",
-    "sll",
-    "slt",
-    "sltu",
-    "xor",
-    "srl",
-    "sra",
-    "or",
-    "and",
-    "addiw",
-    "slliw",
-    "srliw",
-    "sraiw",
-    "addw",
-    "subw",
-    "sllw",
-    "srlw",
-    "sraw",
-    "fence",
-    "fence.tso",
-    "ecall",
-    "ebreak",
-    "mul",
-    "mulh",
-    "mulhsu",
-    "mulhu",
-    "div",
-    "divu",
-    "rem",
-    "remu",
-    "mulw",
-    "divw",
-    "divuw",
-    "remw",
-    "remuw",
-];
-
-/// The atomics without width and ordering.
-const ATOMIC_WORDS: [&str; 11] = [
-    "lr", "sc", "amoswap", "amoadd", "amoxor", "amoand", "amoor", "amomin", "amomax", "amominu",
-    "amomaxu",
-];
-
-/// A width and the ordering bits of an atomic.
-const ATOMIC_ENDS: [&str; 8] = [
-    ".w", ".d", ".w.aq", ".d.aq", ".w.rl", ".d.rl", ".w.aqrl", ".d.aqrl",
-];
-
-/// The pseudo-instructions, and `unimp`.
-const PSEUDO_WORDS: [&str; 37] = [
-    "nop", "mv", "not", "neg", "negw", "sext.w", "zext.b", "sext.b", "sext.h", "zext.h", "zext.w",
-    "seqz", "snez", "sltz", "sgtz", "sgt", "sgtu", "beqz", "bnez", "bgez", "bltz", "blez", "bgtz",
-    "bgt", "ble", "bgtu", "bleu", "j", "jr", "ret", "la", "lla", "call", "tail", "jump", "li",
+/// What the language leaves out by name: a mnemonic, and directives.
+const LEFT_OUT_WORDS: [&str; 13] = [
     "unimp",
-];
-
-/// The directives that the language leaves out by name.
-const LEFT_OUT_DIRECTIVES: [&str; 12] = [
     ".weak",
     ".comm",
     ".macro",
@@ -136,74 +51,12 @@ fn is_among(words: &[&str], word: &[u8]) -> bool
     false
 }
 
-/// A base instruction, no atomic.
-#[tactic(auto, unfolding(rv_parse_laws::specs::Words::base_words))]
-fn is_base(word: &[u8]) -> bool
-    ensures { result ≡ is_among base_words word.now }
+/// A mnemonic or a directive that the language leaves out by name.
+#[tactic(auto, unfolding(rv_parse_laws::specs::Words::left_out_words))]
+pub fn is_left_out(word: &[u8]) -> bool
+    ensures { result ≡ is_among left_out_words word.now }
 {
-    is_among(&BASE_WORDS, word)
-}
-
-/// A pseudo-instruction, or `unimp`.
-#[tactic(auto, unfolding(rv_parse_laws::specs::Words::pseudo_words))]
-fn is_pseudo(word: &[u8]) -> bool
-    ensures { result ≡ is_among pseudo_words word.now }
-{
-    is_among(&PSEUDO_WORDS, word)
-}
-
-/// A directive that the language leaves out by name.
-#[tactic(auto, unfolding(rv_parse_laws::specs::Words::left_out_directives))]
-fn is_left_out_directive(word: &[u8]) -> bool
-    ensures { result ≡ is_among left_out_directives word.now }
-{
-    is_among(&LEFT_OUT_DIRECTIVES, word)
-}
-
-/// A width and the ordering bits of an atomic.
-#[tactic(auto, unfolding(rv_parse_laws::specs::Words::atomic_ends))]
-fn is_atomic_end(word: &[u8]) -> bool
-    ensures { result ≡ is_among atomic_ends word.now }
-{
-    is_among(&ATOMIC_ENDS, word)
-}
-
-/// The word is this atomic, with a width and an ordering.
-fn begins_atomic(front: &[u8], word: &[u8]) -> bool
-    ensures { result ≡ (bytes_eq (take (length front.now) word.now) front.now && is_among atomic_ends (drop (length front.now) word.now)) }
-{
-    match word.strip_prefix(front) {
-        Some(end) => is_atomic_end(end),
-        None => false,
-    }
-}
-
-/// The word is one of these atomics, with a width and an ordering.
-fn is_atomic_of(fronts: &[&str], word: &[u8]) -> bool
-    ensures { result ≡ is_atomic_of (map (λ w. w.now) fronts.now) word.now }
-{
-    for front in fronts {
-        if begins_atomic(front.as_bytes(), word) {
-            return true;
-        }
-    }
-    false
-}
-
-/// An atomic with its width and ordering.
-#[tactic(auto, unfolding(rv_parse_laws::specs::Words::atomic_words))]
-fn is_atomic(word: &[u8]) -> bool
-    ensures { result ≡ is_atomic_of atomic_words word.now }
-{
-    is_atomic_of(&ATOMIC_WORDS, word)
-}
-
-/// A mnemonic that the language has, or a mnemonic or directive that it leaves out by name.
-#[tactic(auto, unfolding(rv_parse_laws::specs::Words::is_known))]
-pub fn is_known(word: &[u8]) -> bool
-    ensures { result ≡ is_known word.now }
-{
-    is_base(word) || is_pseudo(word) || is_left_out_directive(word) || is_atomic(word)
+    is_among(&LEFT_OUT_WORDS, word)
 }
 
 /// An option that the language leaves out by name.
@@ -270,8 +123,11 @@ pub fn register_named(name: &[u8]) -> Option<Reg>
     reg_named(name)
 }
 
-/// The mnemonics that are built but the atomics, of 2 letters.
-const OF_TWO: [(&str, Mnemonic); 10] = [
+/// The mnemonics but the atomics, of 1 letter.
+const OF_ONE: [(&str, Mnemonic); 1] = [("j", Mnemonic::J)];
+
+/// The mnemonics but the atomics, of 2 letters.
+const OF_TWO: [(&str, Mnemonic); 13] = [
     ("lb", Mnemonic::Load(LoadOperation::Lb)),
     ("lh", Mnemonic::Load(LoadOperation::Lh)),
     ("lw", Mnemonic::Load(LoadOperation::Lw)),
@@ -282,11 +138,19 @@ const OF_TWO: [(&str, Mnemonic); 10] = [
     ("sd", Mnemonic::Store(StoreOperation::Sd)),
     ("or", Mnemonic::Registers(RegisterOperation::Or)),
     ("li", Mnemonic::Li),
+    ("mv", Mnemonic::Unary(UnaryOperation::Mv)),
+    ("jr", Mnemonic::Jr),
+    ("la", Mnemonic::La),
 ];
 
-/// The mnemonics that are built but the atomics, of 3 letters.
-const OF_THREE: [(&str, Mnemonic); 16] = [
+/// The mnemonics but the atomics, of 3 letters.
+const OF_THREE: [(&str, Mnemonic); 29] = [
     ("lui", Mnemonic::Upper(UpperOperation::Lui)),
+    ("jal", Mnemonic::Jal),
+    ("beq", Mnemonic::Branch(BranchOperation::Beq)),
+    ("bne", Mnemonic::Branch(BranchOperation::Bne)),
+    ("blt", Mnemonic::Branch(BranchOperation::Blt)),
+    ("bge", Mnemonic::Branch(BranchOperation::Bge)),
     ("lbu", Mnemonic::Load(LoadOperation::Lbu)),
     ("lhu", Mnemonic::Load(LoadOperation::Lhu)),
     ("lwu", Mnemonic::Load(LoadOperation::Lwu)),
@@ -302,11 +166,21 @@ const OF_THREE: [(&str, Mnemonic); 16] = [
     ("mul", Mnemonic::Registers(RegisterOperation::Mul)),
     ("div", Mnemonic::Registers(RegisterOperation::Div)),
     ("rem", Mnemonic::Registers(RegisterOperation::Rem)),
+    ("nop", Mnemonic::Nop),
+    ("not", Mnemonic::Unary(UnaryOperation::Not)),
+    ("neg", Mnemonic::Unary(UnaryOperation::Neg)),
+    ("sgt", Mnemonic::Compare(CompareOperation::Sgt)),
+    ("bgt", Mnemonic::SwappedBranch(SwappedBranchOperation::Bgt)),
+    ("ble", Mnemonic::SwappedBranch(SwappedBranchOperation::Ble)),
+    ("ret", Mnemonic::Ret),
+    ("lla", Mnemonic::La),
 ];
 
-/// The mnemonics that are built but the atomics, of 4 letters.
-const OF_FOUR: [(&str, Mnemonic); 20] = [
+/// The mnemonics but the atomics, of 4 letters.
+const OF_FOUR: [(&str, Mnemonic); 39] = [
     ("jalr", Mnemonic::Jalr),
+    ("bltu", Mnemonic::Branch(BranchOperation::Bltu)),
+    ("bgeu", Mnemonic::Branch(BranchOperation::Bgeu)),
     ("addi", Mnemonic::Immediate(ImmediateOperation::Addi)),
     ("slti", Mnemonic::Immediate(ImmediateOperation::Slti)),
     ("xori", Mnemonic::Immediate(ImmediateOperation::Xori)),
@@ -326,9 +200,32 @@ const OF_FOUR: [(&str, Mnemonic); 20] = [
     ("mulw", Mnemonic::Registers(RegisterOperation::Mulw)),
     ("divw", Mnemonic::Registers(RegisterOperation::Divw)),
     ("remw", Mnemonic::Registers(RegisterOperation::Remw)),
+    ("negw", Mnemonic::Unary(UnaryOperation::Negw)),
+    ("seqz", Mnemonic::Unary(UnaryOperation::Seqz)),
+    ("snez", Mnemonic::Unary(UnaryOperation::Snez)),
+    ("sltz", Mnemonic::Unary(UnaryOperation::Sltz)),
+    ("sgtz", Mnemonic::Unary(UnaryOperation::Sgtz)),
+    ("sgtu", Mnemonic::Compare(CompareOperation::Sgtu)),
+    ("beqz", Mnemonic::ZeroBranch(ZeroBranchOperation::Beqz)),
+    ("bnez", Mnemonic::ZeroBranch(ZeroBranchOperation::Bnez)),
+    ("bgez", Mnemonic::ZeroBranch(ZeroBranchOperation::Bgez)),
+    ("bltz", Mnemonic::ZeroBranch(ZeroBranchOperation::Bltz)),
+    ("blez", Mnemonic::ZeroBranch(ZeroBranchOperation::Blez)),
+    ("bgtz", Mnemonic::ZeroBranch(ZeroBranchOperation::Bgtz)),
+    (
+        "bgtu",
+        Mnemonic::SwappedBranch(SwappedBranchOperation::Bgtu),
+    ),
+    (
+        "bleu",
+        Mnemonic::SwappedBranch(SwappedBranchOperation::Bleu),
+    ),
+    ("call", Mnemonic::Call),
+    ("tail", Mnemonic::Tail),
+    ("jump", Mnemonic::Jump),
 ];
 
-/// The mnemonics that are built but the atomics, of 5 letters.
+/// The mnemonics but the atomics, of 5 letters.
 const OF_FIVE: [(&str, Mnemonic); 11] = [
     ("auipc", Mnemonic::Upper(UpperOperation::Auipc)),
     ("sltiu", Mnemonic::Immediate(ImmediateOperation::Sltiu)),
@@ -343,13 +240,19 @@ const OF_FIVE: [(&str, Mnemonic); 11] = [
     ("remuw", Mnemonic::Registers(RegisterOperation::Remuw)),
 ];
 
-/// The mnemonics that are built but the atomics, of 6 letters.
-const OF_SIX: [(&str, Mnemonic); 2] = [
+/// The mnemonics but the atomics, of 6 letters.
+const OF_SIX: [(&str, Mnemonic); 8] = [
     ("ebreak", Mnemonic::Ebreak),
     ("mulhsu", Mnemonic::Registers(RegisterOperation::Mulhsu)),
+    ("sext.b", Mnemonic::Unary(UnaryOperation::SextB)),
+    ("sext.h", Mnemonic::Unary(UnaryOperation::SextH)),
+    ("sext.w", Mnemonic::Unary(UnaryOperation::SextW)),
+    ("zext.b", Mnemonic::Unary(UnaryOperation::ZextB)),
+    ("zext.h", Mnemonic::Unary(UnaryOperation::ZextH)),
+    ("zext.w", Mnemonic::Unary(UnaryOperation::ZextW)),
 ];
 
-/// The mnemonics that are built but the atomics, of 9 letters.
+/// The mnemonics but the atomics, of 9 letters.
 const OF_NINE: [(&str, Mnemonic); 1] = [("fence.tso", Mnemonic::FenceTso)];
 
 /// The atomics that have a second source.
@@ -487,11 +390,12 @@ fn atomic_named(word: &[u8]) -> Option<Mnemonic>
     }
 }
 
-/// The base instruction but the atomics, or `li`, that the word is: a look-up among the names of its length.
+/// The mnemonic but the atomics that the word is: a look-up among the names of its length.
 fn instruction_named(word: &[u8]) -> Option<Mnemonic>
     ensures { result ≡ named_in instruction_words word.now }
 {
     match word.len() {
+        1 => named_in(&OF_ONE, word),
         2 => named_in(&OF_TWO, word),
         3 => named_in(&OF_THREE, word),
         4 => named_in(&OF_FOUR, word),
@@ -513,7 +417,7 @@ fn mnemonic_named(word: &[u8]) -> Option<Mnemonic>
     }
 }
 
-/// The directives that are built, but those of call frames.
+/// The directives but those of call frames.
 const DIRECTIVES: [(&str, DirectiveWord); 36] = [
     (".text", DirectiveWord::Enters(Standard::Text)),
     (".data", DirectiveWord::Enters(Standard::Data)),

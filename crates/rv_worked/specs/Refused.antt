@@ -5,14 +5,17 @@ use Rattle.rv_text_laws.specs.declared.operator.UnaryOperator.TheVariants.{Negat
 use Rattle.rv_text_laws.specs.declared.operator.BinaryOperator.TheVariants.{Add, Subtract, Divide}
 use Rattle.rv_text_laws.specs.Expression.{Leaf, Here, Unary, Binary}
 use Rattle.rv_statement.specs.declared.directive.Choice.TheVariants.{Norvc, Push, Pop}
-use Rattle.rv_statement.specs.declared.directive.Standard.TheVariants.{Data, Rodata}
-use Rattle.rv_statement.specs.declared.mnemonic.Mnemonic.TheVariants.{Registers, Immediate, Shift, Upper, Load}
+use Rattle.rv_statement.specs.declared.directive.Standard.TheVariants.{Text, Data, Rodata}
+use Rattle.rv_statement.specs.declared.mnemonic.Mnemonic.TheVariants.{Registers, Immediate, Shift, Upper, Load, Store, J, Jr, La, Li, Call, Jump}
+use Rattle.rv_statement.specs.declared.pseudo.Function.{Function}
+use Rattle.rv_statement.specs.declared.pseudo.Function.TheVariants.{Hi, PcrelHi}
 use Rattle.rv_isa.specs.declared.operation.RegisterOperation.TheVariants.{And, Sllw}
 use Rattle.rv_isa.specs.declared.operation.ImmediateOperation.TheVariants.{Addi}
 use Rattle.rv_isa.specs.declared.operation.ShiftOperation.TheVariants.{Slli}
-use Rattle.rv_isa.specs.declared.operation.UpperOperation.TheVariants.{Lui}
+use Rattle.rv_isa.specs.declared.operation.UpperOperation.TheVariants.{Lui, Auipc}
 use Rattle.rv_isa.specs.declared.operation.LoadOperation.TheVariants.{Ld}
-use Rattle.rv_statement.specs.Statement.{StatementKind, Label, Instruction, Directs, Statement, Expression, Register, Value, Enters, Opens, Values, Chooses}
+use Rattle.rv_isa.specs.declared.operation.StoreOperation.TheVariants.{Sd}
+use Rattle.rv_statement.specs.Statement.{StatementKind, Label, Instruction, Directs, Statement, Expression, Register, Value, Applied, Target, Enters, Opens, Sets, Values, Chooses}
 use Rattle.rv_unit_laws.specs.Faults.{Fault}
 use Rattle.rv_map.specs.Map.{Map}
 use Rattle.rv_worked.specs.Exit7.{said, constant, norvc, globl, row, region, global}
@@ -49,6 +52,80 @@ uppers e = Instruction (Upper Lui) (Register 10 ∷ Value e ∷ [])
 
 abbrev pub loads : Expression → StatementKind
 loads e = Instruction (Load Ld) (Register 10 ∷ Value e ∷ Register 11 ∷ [])
+
+-- `x`, a name
+abbrev pub x : Expression
+x = symbol (codes "x")
+
+-- a distance to `x` that is no constant
+abbrev pub away : Expression
+away = Binary Subtract x (Leaf Here)
+
+-- `j e`, `la rd, e`, `ld rd, e`, `sd a0, e, rt`, `call rd, e` and `jump e, rt`
+abbrev pub jumps : Expression → StatementKind
+jumps e = Instruction J (Target e ∷ [])
+
+abbrev pub loads_address : ℕ → Expression → StatementKind
+loads_address rd e = Instruction La (Register rd ∷ Target e ∷ [])
+
+abbrev pub loads_symbol : ℕ → Expression → StatementKind
+loads_symbol rd e = Instruction (Load Ld) (Register rd ∷ Target e ∷ [])
+
+abbrev pub stores_symbol : ℕ → Expression → StatementKind
+stores_symbol rt e = Instruction (Store Sd) (Register 10 ∷ Target e ∷ Register rt ∷ [])
+
+abbrev pub calls : ℕ → Expression → StatementKind
+calls rd e = Instruction Call (Register rd ∷ Target e ∷ [])
+
+abbrev pub jumps_by : ℕ → Expression → StatementKind
+jumps_by rt e = Instruction Jump (Target e ∷ Register rt ∷ [])
+
+-- `addi a0, a0, f(e)`, `slli a0, a0, f(e)`, `li a0, f(e)`, `lui a0, %hi(e)` and `auipc a0, %pcrel_hi(e)`
+abbrev pub adds_part : Function → Expression → StatementKind
+adds_part f e = Instruction (Immediate Addi) (Register 10 ∷ Register 10 ∷ Applied f e ∷ [])
+
+abbrev pub shifts_part : Function → Expression → StatementKind
+shifts_part f e = Instruction (Shift Slli) (Register 10 ∷ Register 10 ∷ Applied f e ∷ [])
+
+abbrev pub li_part : Function → Expression → StatementKind
+li_part f e = Instruction Li (Register 10 ∷ Applied f e ∷ [])
+
+abbrev pub upper_part : Expression → StatementKind
+upper_part e = Instruction (Upper Lui) (Register 10 ∷ Applied Hi e ∷ [])
+
+abbrev pub upper_distance : Expression → StatementKind
+upper_distance e = Instruction (Upper Auipc) (Register 10 ∷ Applied PcrelHi e ∷ [])
+
+-- `jr k(a0)`
+abbrev pub jumps_back : ℕ → StatementKind
+jumps_back k = Instruction Jr (Value (constant k) ∷ Register 10 ∷ [])
+
+-- the same after `.set x, 8`, before it, and before `x:`
+abbrev pub set_x : StatementKind
+set_x = Directs (Sets (codes "x") (constant 8))
+
+abbrev pub after_set : StatementKind → List Statement
+after_set s = said 1 norvc ∷ said 2 set_x ∷ said 3 s ∷ []
+
+abbrev pub before_set : StatementKind → List Statement
+before_set s = said 1 norvc ∷ said 2 s ∷ said 3 set_x ∷ []
+
+abbrev pub before_label : StatementKind → List Statement
+before_label s = said 1 norvc ∷ said 2 s ∷ said 3 (Label (codes "x")) ∷ []
+
+-- after the location `.set x, .`
+abbrev pub after_location : StatementKind → List Statement
+after_location s =
+    said 1 norvc
+    ∷ said 2 (Directs (Enters Data))
+    ∷ said 3 (Directs (Sets (codes "x") (Leaf Here)))
+    ∷ said 4 (Directs (Enters Text))
+    ∷ said 5 s
+    ∷ []
+
+-- where compressed code is on
+abbrev pub compressed : StatementKind → List Statement
+compressed s = said 1 s ∷ []
 
 -- compressed code is off at line 3, and on again at line 5
 abbrev pub options : List Statement

@@ -19,8 +19,9 @@ mod refused;
 mod worked;
 
 pub use refused::{
-    first_ones_count, names_are_missing, other_ranges_end, places_overflow, ranges_end,
-    wide_is_mapped, worked_are_sound,
+    distances_name_labels, first_ones_count, low_parts_fit, names_are_missing, other_ranges_end,
+    places_overflow, ranges_end, scratch_registers_are_used, targets_are_addresses,
+    unplaced_comes_last, upper_parts_end, wide_is_mapped, worked_are_sound,
 };
 pub use worked::{
     code_is_aligned, differences_fit, differences_spell, exit7_executes, exit7_fits,

@@ -1,10 +1,13 @@
 //! Worked sources that are refused, as contracts that the check computes.
 
 ghost use Rattle.std.specs.Prelude.{◌≡◌, ◌-◌, ◌^◌, [], ◌∷◌, Some, None, true, false, codes};
-ghost use Rattle.rv_text_laws.specs.Codes.{unsupported_here, immediate_range, not_constant, division_by_zero, duplicate_label};
+ghost use Rattle.rv_text_laws.specs.Codes.{unsupported_here, immediate_range, not_constant, division_by_zero, duplicate_label, scratch_register, undefined_local};
+ghost use Rattle.rv_text_laws.specs.declared.operator.BinaryOperator.TheVariants.{Divide};
+ghost use Rattle.rv_text_laws.specs.Expression.{Leaf, Binary, Reference};
+ghost use Rattle.rv_statement.specs.declared.pseudo.Function.TheVariants.{Lo, PcrelLo};
 ghost use Rattle.rv_worked.specs.Exit7.{exit7, load, constant};
 ghost use Rattle.rv_worked.specs.Data.{hello, figures, differences, symbol};
-ghost use Rattle.rv_worked.specs.Refused.{fault, alone, adds, minus, shifts, shifts_word, ands, uppers, loads, options, two_faults, directive_later, unknown_names, unloaded_place, no_entry, wide, wide_map};
+ghost use Rattle.rv_worked.specs.Refused.{fault, alone, adds, minus, shifts, shifts_word, ands, uppers, loads, x, away, jumps, loads_address, loads_symbol, stores_symbol, calls, jumps_by, adds_part, shifts_part, li_part, upper_part, upper_distance, jumps_back, after_set, before_set, before_label, after_location, compressed, options, two_faults, directive_later, unknown_names, unloaded_place, no_entry, wide, wide_map};
 ghost use Rattle.rv_chain_laws.specs.Refusals.{statements_fault, undefined, has_entry, overflows, IsMapOf};
 
 /// The worked programs have no fault; one without `.option norvc` wants compressed code.
@@ -43,6 +46,70 @@ pub fn first_ones_count()
     ensures options { statements_fault options ≡ fault unsupported_here 5 }
     ensures two { statements_fault two_faults ≡ fault division_by_zero 2 }
     ensures later { statements_fault directive_later ≡ fault duplicate_label 4 }
+{}
+
+/// A register on the way to a symbol is not x0, and a store needs its own; `la` into x0 only cannot be placed yet.
+pub fn scratch_registers_are_used()
+    ensures load { statements_fault (alone (loads_symbol 0 x)) ≡ fault scratch_register 2 }
+    ensures store { statements_fault (alone (stores_symbol 0 x)) ≡ fault scratch_register 2 }
+    ensures same { statements_fault (alone (stores_symbol 10 x)) ≡ fault scratch_register 2 }
+    ensures call { statements_fault (alone (calls 0 x)) ≡ fault scratch_register 2 }
+    ensures jump { statements_fault (alone (jumps_by 0 x)) ≡ fault scratch_register 2 }
+    ensures address { statements_fault (alone (loads_address 0 x)) ≡ fault unsupported_here 2 }
+    ensures other { statements_fault (alone (stores_symbol 5 x)) ≡ fault unsupported_here 2 }
+    ensures beside { statements_fault (alone (loads_symbol 0 away)) ≡ fault scratch_register 2 }
+    ensures after { statements_fault (alone (calls 0 (Binary Divide x (constant 0)))) ≡ fault division_by_zero 2 }
+{}
+
+/// A target is a symbol's address, whose number is nowhere yet; a constant is none, nor is a distance.
+pub fn targets_are_addresses()
+    ensures label { statements_fault (before_label (jumps x)) ≡ fault unsupported_here 2 }
+    ensures number { statements_fault (after_set (jumps x)) ≡ fault immediate_range 3 }
+    ensures early { statements_fault (before_set (jumps x)) ≡ fault not_constant 2 }
+    ensures distance { statements_fault (alone (jumps away)) ≡ fault not_constant 2 }
+    ensures missing { statements_fault (alone (jumps (Leaf (Reference (codes "1") false)))) ≡ fault undefined_local 2 }
+    ensures upper { statements_fault (after_set (upper_distance x)) ≡ fault immediate_range 3 }
+{}
+
+/// An upper part has 20 bits, from -2048 to 2^32 - 2049.
+pub fn upper_parts_end()
+    ensures low { statements_fault (alone (upper_part (minus 2048))) ≡ fault unsupported_here 2 }
+    ensures below { statements_fault (alone (upper_part (minus 2049))) ≡ fault immediate_range 2 }
+    ensures high { statements_fault (alone (upper_part (constant 0xfffff7ff))) ≡ fault unsupported_here 2 }
+    ensures above { statements_fault (alone (upper_part (constant 0xfffff800))) ≡ fault immediate_range 2 }
+    ensures symbol { statements_fault (alone (upper_part x)) ≡ fault unsupported_here 2 }
+    ensures distance { statements_fault (alone (upper_part away)) ≡ fault not_constant 2 }
+{}
+
+/// The low part of an address is a number of 12 bits, and neither a shift's nor `li`'s.
+pub fn low_parts_fit()
+    ensures symbol { statements_fault (alone (adds_part Lo x)) ≡ fault unsupported_here 2 }
+    ensures distance { statements_fault (alone (adds_part Lo away)) ≡ fault not_constant 2 }
+    ensures number { statements_fault (alone (adds_part Lo (constant 5000))) ≡ fault unsupported_here 2 }
+    ensures shift { statements_fault (alone (shifts_part Lo x)) ≡ fault not_constant 2 }
+    ensures li { statements_fault (alone (li_part Lo x)) ≡ fault not_constant 2 }
+    ensures amount { statements_fault (alone (shifts_part Lo (constant 4159))) ≡ fault unsupported_here 2 }
+    ensures far { statements_fault (alone (shifts_part Lo (constant 4160))) ≡ fault immediate_range 2 }
+    ensures negative { statements_fault (alone (shifts_part Lo (constant 4095))) ≡ fault immediate_range 2 }
+{}
+
+/// The low part of a distance names a label of the source.
+pub fn distances_name_labels()
+    ensures label { statements_fault (before_label (adds_part PcrelLo x)) ≡ fault unsupported_here 2 }
+    ensures missing { statements_fault (alone (adds_part PcrelLo x)) ≡ fault undefined_local 2 }
+    ensures constant { statements_fault (after_set (adds_part PcrelLo x)) ≡ fault undefined_local 3 }
+    ensures early { statements_fault (before_set (adds_part PcrelLo x)) ≡ fault undefined_local 2 }
+    ensures location { statements_fault (after_location (adds_part PcrelLo x)) ≡ fault undefined_local 5 }
+    ensures shift { statements_fault (before_label (shifts_part PcrelLo x)) ≡ fault not_constant 2 }
+    ensures both { statements_fault (alone (shifts_part PcrelLo x)) ≡ fault undefined_local 2 }
+{}
+
+/// What cannot be placed yet is refused as such where nothing else is wrong.
+pub fn unplaced_comes_last()
+    ensures compressed { statements_fault (compressed (adds (constant 5))) ≡ fault unsupported_here 1 }
+    ensures range { statements_fault (compressed (adds (constant 5000))) ≡ fault immediate_range 1 }
+    ensures offset { statements_fault (alone (jumps_back 2047)) ≡ fault unsupported_here 2 }
+    ensures far { statements_fault (alone (jumps_back 2048)) ≡ fault immediate_range 2 }
 {}
 
 /// The first name without an address is that of the first section; a place that is not loaded has

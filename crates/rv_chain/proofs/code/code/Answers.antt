@@ -8,6 +8,7 @@ use Rattle.rv_tables.specs.declared.section_offset.SectionOffset.{SectionOffset}
 use Rattle.rv_unit.specs.Unit.{said, IsFilled}
 use Rattle.rv_tables.specs.Sections.{extent_section, offset_of}
 use Rattle.rv_unit_laws.specs.Tables.{tables, value as value_of}
+use Rattle.rv_chain_laws.specs.InstructionFaults.{is_label}
 use Rattle.rv_chain.specs.Added.{IsAdded, Adds}
 use Rattle.rv_chain.proofs.Standing.{StandsAt, stands_at, places_count, got_inside, located_at, stated_none}
 use Rattle.rv_chain.proofs.Whole.{code_more, coded_more, code_wrong, code_whole, coded_whole}
@@ -23,8 +24,8 @@ bounds-places-index c =
     let inside' = subst (λ n. i < n) (sym (places_count c.args.unit.now c.requires)) inside in
     subst (λ l. i < length l) (sym c.places-places.ensures) inside'
 
-pub put_code-requires : goal.put_code-requires
-put_code-requires c =
+pub add-requires : goal.add-requires
+add-requires c =
     let u = c.args.unit.now in
     let i = c.loop-index.index in
     let x = c.index-statements-index.result in
@@ -46,20 +47,20 @@ loop-index-preserved c =
     let at : StandsAt u i x p = stands_at u i x x (record { section = 0; offset = 0 }) p c.requires inside is (ap (λ l. get_or l i (record { section = 0; offset = 0 })) c.places-places.ensures) in
     let same = c.loop-index.invariant.0 in
     let filled = subst IsFilled (sym same) c.requires in
-    let added : IsAdded c.loop-index.coder c.put_code.new.coder p.section (λ e. value_of (tables (said u)) true (i + 1) (offset_of p) e) (statement_of x) =
-    subst (λ w. IsAdded c.loop-index.coder c.put_code.new.coder p.section (λ e. value_of (tables (said w)) true (i + 1) (offset_of p) e) (statement_of x)) same
-    (c.in_ok-put_code.ensures i filled c.loop-index.invariant.1) in
+    let added : IsAdded c.loop-index.coder c.add.new.self p.section (λ e. value_of (tables (said u)) true (i + 1) (offset_of p) e) (is_label (tables (said u)) (i + 1)) (statement_of x) =
+    subst (λ w. IsAdded c.loop-index.coder c.add.new.self p.section (λ e. value_of (tables (said w)) true (i + 1) (offset_of p) e) (is_label (tables (said w)) (i + 1)) (statement_of x)) same
+    (c.in_ok-add.ensures i filled c.loop-index.invariant.1) in
     let within = subst (λ n. i < n) (sym (length-map u.statements.items statement_of)) inside in
     let within' = subst (λ w. i < length (said w)) (sym same) within in (
       ap (λ b. b.now) c.pass.ensures.unit ∙ same,
       c.pass.ensures.passes i within' c.loop-index.invariant.1,
-      code_more u i x p c.loop-index.coder c.put_code.new.coder at c.loop-index.invariant.2 added,
+      code_more u i x p c.loop-index.coder c.add.new.self at c.loop-index.invariant.2 added,
       added.grows.0 ∙ c.loop-index.invariant.3,
-      coded_more u i x p c.loop-index.coder c.put_code.new.coder at c.loop-index.invariant.4 added,
+      coded_more u i x p c.loop-index.coder c.add.new.self at c.loop-index.invariant.4 added,
     )
 
-pub returns-in_err-put_code-clause-code : goal.returns-in_err-put_code-clause-code
-returns-in_err-put_code-clause-code c =
+pub returns-in_err-add-clause-code : goal.returns-in_err-add-clause-code
+returns-in_err-add-clause-code c =
     let u = c.args.unit.now in
     let i = c.loop-index.index in
     let x = c.index-statements-index.result in
@@ -69,11 +70,11 @@ returns-in_err-put_code-clause-code c =
     let at : StandsAt u i x p = stands_at u i x x (record { section = 0; offset = 0 }) p c.requires inside is (ap (λ l. get_or l i (record { section = 0; offset = 0 })) c.places-places.ensures) in
     let same = c.loop-index.invariant.0 in
     let filled = subst IsFilled (sym same) c.requires in
-    let wrong = subst (λ w. Adds c.loop-index.coder c.put_code.new.coder p.section (λ e. value_of (tables (said w)) true (i + 1) (offset_of p) e) (statement_of x) (Err c.in_err-put_code.field-0.0)) same
-    (c.in_err-put_code.ensures i filled c.loop-index.invariant.1) in
-    let found = err_from_is_err_and c.from_residual-in_err-put_code.result c.from_residual-in_err-put_code.ensures.1 in
+    let wrong = subst (λ w. Adds c.loop-index.coder c.add.new.self p.section (λ e. value_of (tables (said w)) true (i + 1) (offset_of p) e) (is_label (tables (said w)) (i + 1)) (statement_of x) (Err c.in_err-add.field-0.0)) same
+    (c.in_err-add.ensures i filled c.loop-index.invariant.1) in
+    let found = err_from_is_err_and c.from_residual-in_err-add.result c.from_residual-in_err-add.ensures.1 in
     rw (found.1, found.2)
-    (code_wrong u i x p c.loop-index.coder c.put_code.new.coder c.in_err-put_code.field-0.0 at c.loop-index.invariant.2 wrong)
+    (code_wrong u i x p c.loop-index.coder c.add.new.self c.in_err-add.field-0.0 at c.loop-index.invariant.2 wrong)
 
 pub returns-clause-code : goal.returns-clause-code
 returns-clause-code c =

@@ -1,27 +1,44 @@
-use Rattle.std.proofs.Common.{refl, ap, ◌∙◌}
+use Rattle.std.proofs.Common.{refl, ap, ◌∙◌, [], is_some}
 use Rattle.rv_text.specs.Expr.{tree_of_expr}
-use Rattle.rv_statement.specs.View.{statement_of, statement_kind}
+use Rattle.rv_lexer.specs.Fault.{number_of}
+use Rattle.rv_statement.specs.View.{statement_of, statement_kind, plain_of}
 use Rattle.rv_chain_laws.specs.Refusals.{code_size}
-use Rattle.rv_link_laws.specs.Suits.{constant_in}
-use Rattle.rv_chain.proofs.StatementKinds.{plain_built, plain_size, with_built, with_size}
+use Rattle.rv_source_laws.specs.Fits.{constant_in}
+use Rattle.rv_chain.specs.Code.{instruction_by, numbered, value_faults}
+use Rattle.rv_chain.specs.Scoped.{values_at, labels_at}
+use Rattle.rv_chain.proofs.StatementKinds.{plain_built, plain_size, with_built, with_size, function_wrong}
 use Rattle.rv_chain.proofs.instruction.instruction.Goals as goal
 
 pub returns-in-Plain-clause-codes : goal.returns-in-Plain-clause-codes
-returns-in-Plain-clause-codes g c = λ o v e means.
+returns-in-Plain-clause-codes c = λ o index e filled stands.
+    let v = values_at c.args.scope.now index c.args.place in
+    let l = labels_at c.args.scope.now index in
     let says = ap statement_kind c.in-Plain.is in
-    c.found.ensures.codes o v (statement_of c.args.statement.now)
-    (plain_built c.in-Plain.statement (statement_of c.args.statement.now) o v c.args.compressed c.as_word.result says e
-    (c.as_word.ensures.built _ _ (refl, (c.plain.ensures (λ x. constant_in (v x))).0, (c.plain.ensures (λ x. constant_in (v x))).1)))
+    let wanted = instruction_by (λ x. constant_in (v x)) (plain_of c.in-Plain.statement) in
+    c.found.ensures.codes o v l (statement_of c.args.statement.now)
+    (plain_built c.in-Plain.statement (statement_of c.args.statement.now) o v l c.args.compressed c.as_word.result says e
+    (c.as_word.ensures.built (is_some wanted) [] wanted (c.placed-built.ensures.built c.plain.ensures.valid wanted (c.plain.ensures.is (λ x. constant_in (v x))))))
     (ap code_size says ∙ plain_size c.in-Plain.statement)
 
 pub returns-in-With-clause-codes : goal.returns-in-With-clause-codes
-returns-in-With-clause-codes g c = λ o v e means.
+returns-in-With-clause-codes c = λ o index e filled stands.
+    let v = values_at c.args.scope.now index c.args.place in
+    let l = labels_at c.args.scope.now index in
     let says = ap statement_kind c.in-With.is in
     let x = tree_of_expr c.in-With.expression in
-    c.found-in-With.ensures.codes o v (statement_of c.args.statement.now)
-    (with_built c.in-With.operation x (statement_of c.args.statement.now) o v c.args.compressed c.as_word-in-With.result says e
-    (c.as_word-in-With.ensures.built _ _ (c.with_value-built.ensures.built (v x) (means _ _ c.value.ensures))))
+    let wanted = numbered c.in-With.operation (constant_in (v x)) in
+    c.found-in-With.ensures.codes o v l (statement_of c.args.statement.now)
+    (with_built c.in-With.operation x (statement_of c.args.statement.now) o v l c.args.compressed c.as_word-in-With.result says e
+    (c.as_word-in-With.ensures.built (is_some wanted) (value_faults c.in-With.operation (v x)) wanted (c.with_value.ensures.built (v x) (c.value-value.ensures index filled stands))))
     (ap code_size says ∙ with_size c.in-With.operation x)
 
-pub returns-in-Plain-clause-valid : goal.returns-in-Plain-clause-valid
-returns-in-Plain-clause-valid g c = c.found.ensures.valid (c.as_word.ensures.valid (c.plain.ensures (λ x. 0)).1)
+pub returns-in-WithFunction-clause-codes : goal.returns-in-WithFunction-clause-codes
+returns-in-WithFunction-clause-codes c = λ o index e filled stands.
+    let v = values_at c.args.scope.now index c.args.place in
+    let l = labels_at c.args.scope.now index in
+    let says = ap statement_kind c.in-WithFunction.is in
+    let x = tree_of_expr c.in-WithFunction.expression in (
+      function_wrong c.in-WithFunction.operation c.in-WithFunction.function x (statement_of c.args.statement.now) o v l (number_of c.function_code-code.result) says
+          (c.function_code-code.ensures index filled stands c.args.statement.now.line (v x) (c.value-value-in-WithFunction.ensures index filled stands)),
+      refl,
+    )

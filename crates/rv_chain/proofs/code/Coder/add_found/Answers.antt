@@ -6,9 +6,9 @@ use Rattle.rv_chain.proofs.Adding.{codes_found}
 use Rattle.rv_chain.proofs.code.Coder.add_found.Goals as goal
 
 pub returns : goal.returns
-returns c = λ v codes.
+returns c = λ v l codes.
     let s = statement_of c.args.statement.now in
-    let h = codes_found (options_of c.args.self.now.choices) v s c.args.found codes in
+    let h = codes_found (options_of c.args.self.now.choices) v l s c.args.found codes in
     let same = h.2 in
     record {
       coded = h.3;

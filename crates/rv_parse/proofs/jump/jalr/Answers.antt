@@ -1,7 +1,7 @@
 use Rattle.std.proofs.Common.{◌∙◌, sym}
 use Rattle.rv_parse_laws.specs.Syntax.{A_register}
 use Rattle.rv_parse.proofs.Jumps.{jalr_linked}
-use Rattle.rv_parse.proofs.instruction.jalr.Goals as goal
+use Rattle.rv_parse.proofs.jump.jalr.Goals as goal
 
 pub returns-then-begins_comma : goal.returns-then-begins_comma
 returns-then-begins_comma c =

@@ -1,0 +1,141 @@
+//! The operands of jumps and calls, up to the statement's end.
+
+ghost use Rattle.std.specs.Prelude.{◌≡◌, ◌∷◌, []};
+ghost use Rattle.rv_statement.specs.declared.mnemonic.Mnemonic.TheVariants.{Jal, Jalr, Jr, Call, Jump};
+ghost use Rattle.rv_statement.specs.Statement.{Instruction, Register};
+ghost use Rattle.rv_statement.specs.View.{statement_kind};
+ghost use Rattle.rv_parse_laws.specs.Syntax.{slots, jump_target};
+ghost use Rattle.rv_parse_laws.specs.Parsing.{operands_at, seen_as};
+ghost use Rattle.rv_lexer.specs.Cursor.{left, Answers};
+
+use crate::operands::with;
+use crate::slot;
+use rv_isa::Reg;
+use rv_statement::{Operation, Plain, StatementKind};
+use rv_text::{Cursor, ReadError};
+use rv_words::Role;
+use rv_words::fault::Slot;
+use std::alloc::Global;
+
+/// The operands of `jal`: a target, or a link register and a target.
+#[tactic(auto, unfolding(rv_parse_laws::specs::Parsing::operands_at))]
+pub fn jal<'a>(alloc: Global, cursor: &mut Cursor<'a>) -> Result<StatementKind<'a>, ReadError>
+    ensures { Answers (λ k. (statement_kind k, left cursor.new)) result (seen_as (Instruction Jal) (operands_at (slots Jal) (left cursor.old))) }
+{
+    if slot::begins_register(cursor) {
+        let rd = slot::register(cursor)?;
+        slot::comma(cursor, Slot::Register)?;
+        let target = slot::value(alloc, cursor, Role::Target)?;
+        slot::end(cursor, Slot::Value(Role::Target))?;
+        return Ok(with(Operation::Jal(rd), target));
+    }
+    let target = slot::value(alloc, cursor, Role::Target)?;
+    slot::end(cursor, Slot::Value(Role::Target))?;
+    Ok(with(Operation::JalLinked, target))
+}
+
+/// The operands of `call`: a target, or a link register and a target.
+#[tactic(auto, unfolding(rv_parse_laws::specs::Parsing::operands_at))]
+pub fn call<'a>(alloc: Global, cursor: &mut Cursor<'a>) -> Result<StatementKind<'a>, ReadError>
+    ensures { Answers (λ k. (statement_kind k, left cursor.new)) result (seen_as (Instruction Call) (operands_at (slots Call) (left cursor.old))) }
+{
+    if slot::begins_register(cursor) {
+        let rd = slot::register(cursor)?;
+        slot::comma(cursor, Slot::Register)?;
+        let target = slot::value(alloc, cursor, Role::Call)?;
+        slot::end(cursor, Slot::Value(Role::Call))?;
+        return Ok(with(Operation::Call(rd), target));
+    }
+    let target = slot::value(alloc, cursor, Role::Call)?;
+    slot::end(cursor, Slot::Value(Role::Call))?;
+    Ok(with(Operation::CallLinked, target))
+}
+
+/// The operands of `jump`: a target and a register.
+#[tactic(auto, unfolding(rv_parse_laws::specs::Parsing::operands_at))]
+pub fn jump<'a>(alloc: Global, cursor: &mut Cursor<'a>) -> Result<StatementKind<'a>, ReadError>
+    ensures { Answers (λ k. (statement_kind k, left cursor.new)) result (seen_as (Instruction Jump) (operands_at (slots Jump) (left cursor.old))) }
+{
+    let target = slot::value(alloc, cursor, Role::Target)?;
+    slot::comma(cursor, Slot::Value(Role::Target))?;
+    let rt = slot::register(cursor)?;
+    slot::end(cursor, Slot::Register)?;
+    Ok(with(Operation::Jump(rt), target))
+}
+
+/// The operands of `jr`: a register, or an address.
+#[tactic(auto, unfolding(rv_parse_laws::specs::Parsing::operands_at))]
+pub fn jr<'a>(alloc: Global, cursor: &mut Cursor<'a>) -> Result<StatementKind<'a>, ReadError>
+    ensures { Answers (λ k. (statement_kind k, left cursor.new)) result (seen_as (Instruction Jr) (operands_at (slots Jr) (left cursor.old))) }
+{
+    if slot::begins_register(cursor) {
+        let rs = slot::register(cursor)?;
+        slot::end(cursor, Slot::Register)?;
+        return Ok(StatementKind::Plain(Plain::Jr(rs)));
+    }
+    if slot::begins_base(cursor) {
+        let rs = slot::base(cursor, Slot::Register)?;
+        slot::end(cursor, Slot::Address(Role::Operand))?;
+        return Ok(StatementKind::Plain(Plain::Jr(rs)));
+    }
+    let offset = slot::value(alloc, cursor, Role::Operand)?;
+    let rs = slot::base(cursor, Slot::Value(Role::Operand))?;
+    slot::end(cursor, Slot::Address(Role::Operand))?;
+    Ok(with(Operation::Jr(rs), offset))
+}
+
+/// The operands of `jalr`: an address, or the link register and its target.
+#[tactic(auto, unfolding(rv_parse_laws::specs::Parsing::operands_at))]
+pub fn jalr<'a>(alloc: Global, cursor: &mut Cursor<'a>) -> Result<StatementKind<'a>, ReadError>
+    ensures { Answers (λ k. (statement_kind k, left cursor.new)) result (seen_as (Instruction Jalr) (operands_at (slots Jalr) (left cursor.old))) }
+{
+    if !slot::begins_register(cursor) {
+        if slot::begins_base(cursor) {
+            let rs1 = slot::base(cursor, Slot::Register)?;
+            slot::end(cursor, Slot::Address(Role::Operand))?;
+            return Ok(StatementKind::Plain(Plain::JalrLinked(rs1)));
+        }
+        let offset = slot::value(alloc, cursor, Role::Operand)?;
+        let rs1 = slot::base(cursor, Slot::Value(Role::Operand))?;
+        slot::end(cursor, Slot::Address(Role::Operand))?;
+        return Ok(with(Operation::JalrLinked(rs1), offset));
+    }
+    let first = slot::register(cursor)?;
+    if slot::begins_comma(cursor) {
+        slot::comma(cursor, Slot::Register)?;
+        return jump_target(alloc, cursor, first);
+    }
+    slot::end(cursor, Slot::Register)?;
+    Ok(StatementKind::Plain(Plain::JalrLinked(first)))
+}
+
+/// The target of a `jalr` after its link register and the comma.
+#[tactic(auto, unfolding(rv_parse_laws::specs::Parsing::operands_at))]
+fn jump_target<'a>(
+    alloc: Global,
+    cursor: &mut Cursor<'a>,
+    rd: Reg,
+) -> Result<StatementKind<'a>, ReadError>
+    ensures { Answers (λ k. (statement_kind k, left cursor.new)) result (seen_as (Instruction Jalr) (seen_as (λ os. Register rd ∷ os) (seen_as (λ os. os) (operands_at jump_target (left cursor.old))))) }
+{
+    if !slot::begins_register(cursor) {
+        if slot::begins_base(cursor) {
+            let rs1 = slot::base(cursor, Slot::Register)?;
+            slot::end(cursor, Slot::Address(Role::Operand))?;
+            return Ok(StatementKind::Plain(Plain::Jalr(rd, rs1)));
+        }
+        let offset = slot::value(alloc, cursor, Role::Operand)?;
+        let rs1 = slot::base(cursor, Slot::Value(Role::Operand))?;
+        slot::end(cursor, Slot::Address(Role::Operand))?;
+        return Ok(with(Operation::Jalr(rd, rs1), offset));
+    }
+    let rs1 = slot::register(cursor)?;
+    if slot::begins_comma(cursor) {
+        slot::comma(cursor, Slot::Register)?;
+        let value = slot::value(alloc, cursor, Role::Operand)?;
+        slot::end(cursor, Slot::Value(Role::Operand))?;
+        return Ok(with(Operation::JalrThen(rd, rs1), value));
+    }
+    slot::end(cursor, Slot::Register)?;
+    Ok(StatementKind::Plain(Plain::Jalr(rd, rs1)))
+}

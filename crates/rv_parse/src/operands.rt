@@ -1,0 +1,107 @@
+//! Operands in shapes that several mnemonics share, up to the statement's end.
+
+ghost use Rattle.std.specs.Prelude.{◌≡◌, ◌∷◌, []};
+ghost use Rattle.rv_lexer.specs.Cursor.{left, Answers};
+ghost use Rattle.rv_text.specs.Expr.{tree_of_expr};
+ghost use Rattle.rv_statement.specs.Statement.{Register};
+ghost use Rattle.rv_statement.specs.View.{statement_kind, with_expression};
+ghost use Rattle.rv_parse_laws.specs.Syntax.{A_register, A_value, Stops, and_then, last, valued};
+ghost use Rattle.rv_parse_laws.specs.Parsing.{operands_at};
+ghost use Rattle.rv_parse.specs.Left.{Gives};
+
+use crate::slot;
+use rv_isa::Reg;
+use rv_statement::{Operation, StatementKind};
+use rv_text::{Cursor, Expr, ReadError, SyntaxError};
+use rv_words::Role;
+use rv_words::fault::Slot;
+use std::alloc::Global;
+
+/// An instruction with its expression.
+pub fn with<'a>(operation: Operation, expression: Expr<'a>) -> StatementKind<'a>
+    ensures { statement_kind result ≡ with_expression operation (tree_of_expr expression.entry) }
+{
+    StatementKind::With(operation, expression)
+}
+
+/// None: the statement's end.
+#[tactic(auto, unfolding(rv_parse_laws::specs::Parsing::operands_at))]
+pub fn none(cursor: &Cursor<'_>) -> Result<(), SyntaxError>
+    ensures { Gives (λ _. ([], left cursor.now)) result (operands_at (Stops A_register) (left cursor.now)) }
+{
+    slot::end(cursor, Slot::Register)
+}
+
+/// `rd, rs`
+#[tactic(auto, unfolding(rv_parse_laws::specs::Parsing::operands_at))]
+pub fn two_registers(cursor: &mut Cursor<'_>) -> Result<(Reg, Reg), SyntaxError>
+    ensures { Gives (λ r. (Register r.0 ∷ Register r.1 ∷ [], left cursor.new)) result (operands_at (and_then A_register (last A_register)) (left cursor.old)) }
+{
+    let rd = slot::register(cursor)?;
+    slot::comma(cursor, Slot::Register)?;
+    let rs = slot::register(cursor)?;
+    slot::end(cursor, Slot::Register)?;
+    Ok((rd, rs))
+}
+
+/// `rd, rs1, rs2`
+#[tactic(auto, unfolding(rv_parse_laws::specs::Parsing::operands_at))]
+pub fn three_registers(cursor: &mut Cursor<'_>) -> Result<(Reg, Reg, Reg), SyntaxError>
+    ensures { Gives (λ r. (Register r.0 ∷ Register r.1 ∷ Register r.2 ∷ [], left cursor.new)) result (operands_at (and_then A_register (and_then A_register (last A_register))) (left cursor.old)) }
+{
+    let rd = slot::register(cursor)?;
+    slot::comma(cursor, Slot::Register)?;
+    let rs1 = slot::register(cursor)?;
+    slot::comma(cursor, Slot::Register)?;
+    let rs2 = slot::register(cursor)?;
+    slot::end(cursor, Slot::Register)?;
+    Ok((rd, rs1, rs2))
+}
+
+/// An expression alone.
+#[tactic(auto, unfolding(rv_parse_laws::specs::Parsing::operands_at))]
+pub fn one_value<'a>(
+    alloc: Global,
+    cursor: &mut Cursor<'a>,
+    role: Role,
+) -> Result<Expr<'a>, ReadError>
+    ensures { Answers (λ e. (valued role (tree_of_expr e) ∷ [], left cursor.new)) result (operands_at (last (A_value role)) (left cursor.old)) }
+{
+    let value = slot::value(alloc, cursor, role)?;
+    slot::end(cursor, Slot::Value(role))?;
+    Ok(value)
+}
+
+/// A register and an expression.
+#[tactic(auto, unfolding(rv_parse_laws::specs::Parsing::operands_at))]
+pub fn register_and_value<'a>(
+    alloc: Global,
+    cursor: &mut Cursor<'a>,
+    role: Role,
+) -> Result<(Reg, Expr<'a>), ReadError>
+    ensures { Answers (λ r. (Register r.0 ∷ valued role (tree_of_expr r.1) ∷ [], left cursor.new)) result (operands_at (and_then A_register (last (A_value role))) (left cursor.old)) }
+{
+    let register = slot::register(cursor)?;
+    slot::comma(cursor, Slot::Register)?;
+    let value = slot::value(alloc, cursor, role)?;
+    slot::end(cursor, Slot::Value(role))?;
+    Ok((register, value))
+}
+
+/// Two registers and an expression.
+#[tactic(auto, unfolding(rv_parse_laws::specs::Parsing::operands_at))]
+pub fn registers_and_value<'a>(
+    alloc: Global,
+    cursor: &mut Cursor<'a>,
+    role: Role,
+) -> Result<(Reg, Reg, Expr<'a>), ReadError>
+    ensures { Answers (λ r. (Register r.0 ∷ Register r.1 ∷ valued role (tree_of_expr r.2) ∷ [], left cursor.new)) result (operands_at (and_then A_register (and_then A_register (last (A_value role)))) (left cursor.old)) }
+{
+    let first = slot::register(cursor)?;
+    slot::comma(cursor, Slot::Register)?;
+    let second = slot::register(cursor)?;
+    slot::comma(cursor, Slot::Register)?;
+    let value = slot::value(alloc, cursor, role)?;
+    slot::end(cursor, Slot::Value(role))?;
+    Ok((first, second, value))
+}
