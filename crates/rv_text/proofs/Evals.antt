@@ -6,8 +6,9 @@ use Rattle.std.proofs.lemmas.List.{map-append, reverse-append, at_drop_more, at_
 use Rattle.std.proofs.lemmas.Bool.{and_parts, ltb-true}
 use Rattle.rv_text_laws.specs.declared.operator.UnaryOperator.{UnaryOperator}
 use Rattle.rv_text_laws.specs.declared.operator.BinaryOperator.{BinaryOperator}
-use Rattle.rv_text_laws.specs.Expression.{Primary, tree_of, Node, Primary_node, Unary_node, Binary_node}
-use Rattle.rv_text_laws.specs.Values.{Meaning, Value, alone, both, meant, primary_value, value_of, after_node, after_nodes, node_fits, count_after, nodes_fit}
+use Rattle.rv_text_laws.specs.declared.operator.UnaryOperator.TheVariants.{Negate}
+use Rattle.rv_text_laws.specs.Expression.{Primary, Literal, tree_of, Node, Primary_node, Unary_node, Binary_node}
+use Rattle.rv_text_laws.specs.Values.{Meaning, Value, Constant, alone, both, meant, primary_value, value_of, after_node, after_nodes, node_fits, count_after, nodes_fit}
 use Rattle.rv_text_laws.proofs.Trees.{lone_tree, nodes_value}
 use Rattle.rv_text.specs.declared.evaluation.Part.{Part}
 use Rattle.rv_text.specs.declared.node.Symbol.{Symbol}
@@ -131,3 +132,19 @@ later_fit xs ys i d count after e lt same f =
 
 pub last_fits : (xs ys : List code.Node) (i count : ℕ) → ys ≡ xs → length ys ≤ i → nodes_fit (map node_of (drop i xs)) count ≡ true → 0 < count
 last_fits xs ys i count e le f = some_left count (ap (λ (l : List Node). nodes_fit l count) (sym (no_node xs ys i e le)) ∙ f)
+
+-- the negative of a number, and a primary and a number under their operator
+pub negative_value : (m : Primary → Meaning) (n : ℕ) → value_of m (tree_of (Primary_node (Literal n) ∷ Unary_node Negate ∷ [])) ≡ alone Negate (Constant n)
+unfolding tree_of
+negative_value m n = refl
+
+pub pair_value : (m : Primary → Meaning) (p : Primary) (n : ℕ) (o : BinaryOperator)
+    → value_of m (tree_of (Primary_node p ∷ Primary_node (Literal n) ∷ Binary_node o ∷ [])) ≡ both o (primary_value m p) (Constant n)
+unfolding tree_of
+pair_value m p n o = refl
+
+pub pair_outcome : (m : Primary → Meaning) (p : Primary) (n : ℕ) (o : BinaryOperator) (e : Expr) (result : Result code_value.Value SourceFault) (line : ℕ) (part : Value)
+    → expr_of e ≡ Primary_node p ∷ Primary_node (Literal n) ∷ Binary_node o ∷ [] → part ≡ both o (primary_value m p) (Constant n) → IsOutcome result line part
+    → IsOutcome result line (value_of m (tree_of_expr e))
+pair_outcome m p n o e result line part is same h =
+    subst (IsOutcome result line) (same ∙ sym (pair_value m p n o) ∙ ap (λ (ns : List Node). value_of m (tree_of ns)) (sym is)) h

@@ -11,6 +11,7 @@ ghost use Rattle.rv_text.specs.Eval.{meaning_of, part_of, tops, Means, IsOutcome
 
 use crate::expr::Expr;
 use crate::node::{Node, Nodes, Symbol};
+use crate::pair::Pair;
 use arrayvec::ArrayVec;
 use rv_lexer::{SourceCode, SourceFault};
 use rv_text_laws::{BinaryOperator, UnaryOperator};
@@ -376,6 +377,18 @@ fn short_value<'a, F: Fn(Symbol<'a>) -> Meaning>(nodes: &Nodes<'a>, names: &F) -
     }
 }
 
+/// The value of a symbol and a number under their operator.
+fn pair_value<'a, F: Fn(Symbol<'a>) -> Meaning>(pair: &Pair<'a>, names: &F) -> Part<'a>
+    requires { F.IsAlwaysCallable names.now }
+    ensures { (m : Primary → values.Meaning) → Means (F.post names.now) m → part_of result ≡ values.both pair.now.operator (values.primary_value m (symbol_of pair.now.symbol)) (values.Constant pair.now.number) }
+{
+    both(
+        pair.operator,
+        lone(pair.symbol, names),
+        Part::Constant(pair.number),
+    )
+}
+
 /// The value of the nodes of an expression with operators.
 fn compound_value<'a, F: Fn(Symbol<'a>) -> Meaning>(nodes: &Nodes<'a>, names: &F) -> Part<'a>
     requires callable { F.IsAlwaysCallable names.now }
@@ -403,6 +416,8 @@ pub fn eval<'a, F: Fn(Symbol<'a>) -> Meaning>(
         Expr::Here => outcome(lone(Symbol::Here, names), line),
         Expr::Backward(digits) => outcome(lone(Symbol::Backward(digits), names), line),
         Expr::Forward(digits) => outcome(lone(Symbol::Forward(digits), names), line),
+        Expr::Negative(number) => Ok(Value::Constant(0u64.wrapping_sub(*number))),
+        Expr::Pair(pair) => outcome(pair_value(pair, names), line),
         Expr::Compound(compound) => outcome(compound_value(&compound.nodes, names), line),
     }
 }

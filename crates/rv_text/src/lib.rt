@@ -21,14 +21,18 @@
 mod compound;
 mod evaluation;
 mod expr;
+mod front;
 mod node;
+mod pair;
 mod reading;
 
 pub use compound::Compound;
 pub use evaluation::{Meaning, Value, eval};
 pub use expr::Expr;
+pub use front::expression;
 pub use node::{Node, Symbol};
-pub use reading::{Registers, expression, parse_expr};
+pub use pair::Pair;
+pub use reading::{Registers, parse_expr};
 pub use rv_lexer::{
     Cursor, LONGEST_NAME, Lexer, Punct, ReadError, SourceCode, SourceFault, SyntaxError, Token,
     TokenKind, append_string, string_contains, string_size,

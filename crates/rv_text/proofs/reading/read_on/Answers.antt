@@ -5,18 +5,14 @@ use Rattle.rv_text_laws.specs.Expression.{Node}
 use Rattle.rv_text.specs.Nodes.{nodes_of}
 use Rattle.rv_lexer.specs.Cursor.{left}
 use Rattle.rv_lexer.specs.Fault.{number_of}
-use Rattle.rv_text.specs.Expr.{stack_of, stage_of}
-use Rattle.rv_text.proofs.Exprs.{stack_none}
-use Rattle.rv_text.proofs.ReadingSteps.{begun, ended, failed, read_fits}
-use Rattle.rv_text.proofs.reading.expression.Goals as goal
-
-pub tokens-init : goal.tokens-init
-tokens-init g c = begun _ _ (stack_of c.new-frames.result.items) (ap stack_of c.new-frames.ensures.items ∙ stack_none)
+use Rattle.rv_text.specs.Expr.{stage_of}
+use Rattle.rv_text.proofs.ReadingSteps.{ended, failed, read_fits}
+use Rattle.rv_text.proofs.reading.read_on.Goals as goal
 
 pub new-requires : goal.new-requires
 new-requires g c =
     read_fits _ _ (nodes_of c.in-Ok-Ends.nodes) _
-    (ended _ _ c.tokens.cursor (stage_of c.tokens.frames.items c.tokens.stage) (nodes_of c.in-Ok-Ends.nodes) c.tokens.invariant (rw c.in-Ok-Ends.field-0-is at c.in-Ok-Ends.ensures))
+    (c.requires.1 ∙ ended _ _ c.tokens.cursor (stage_of c.tokens.frames.items c.tokens.stage) (nodes_of c.in-Ok-Ends.nodes) c.tokens.invariant (rw c.in-Ok-Ends.field-0-is at c.in-Ok-Ends.ensures))
 
 pub returns-in-Ok-Ends : goal.returns-in-Ok-Ends
 returns-in-Ok-Ends g c =
