@@ -13,7 +13,7 @@ ghost use Rattle.rv_text.specs.Expr.{stack_of, ends_operand, Reached, expr_of};
 use crate::expr::Expr;
 use crate::node::{Node, Nodes, Symbol};
 use crate::pair::Pair;
-use crate::reading::{Begin, Follow, Registers, Stage, begins, follows, read_on};
+use crate::reading::{Follow, Registers, Stage, follows, read_on};
 use rv_lexer::{Cursor, ReadError, TokenKind};
 use rv_text_laws::{BinaryOperator, Frame, UnaryOperator};
 use std::alloc::{AllocError, Global};
@@ -49,7 +49,7 @@ fn ends(kind: TokenKind<'_>) -> bool
 /// The expression that begins with a number.
 #[inline(always)]
 #[tactic(auto, using(crate::proofs::Exprs::stack_none))]
-fn after_number<'a, R: Registers>(
+pub(crate) fn after_number<'a, R: Registers>(
     alloc: Global,
     cursor: &mut Cursor<'a>,
     number: u64,
@@ -83,7 +83,7 @@ fn after_negative<'a, R: Registers>(
 }
 
 /// The expression that begins with `-`.
-fn after_minus<'a, R: Registers>(
+pub(crate) fn after_minus<'a, R: Registers>(
     alloc: Global,
     cursor: &mut Cursor<'a>,
 ) -> Result<Expr<'a>, ReadError>
@@ -145,7 +145,7 @@ fn after_operator<'a, R: Registers>(
 /// The expression that begins with a symbol.
 #[inline(always)]
 #[tactic(auto, using(crate::proofs::Exprs::stack_none))]
-fn after_symbol<'a, R: Registers>(
+pub(crate) fn after_symbol<'a, R: Registers>(
     alloc: Global,
     cursor: &mut Cursor<'a>,
     symbol: Symbol<'a>,
@@ -165,30 +165,5 @@ fn after_symbol<'a, R: Registers>(
             let nodes = one(alloc, Node::Symbol(symbol));
             read_on::<R>(alloc, cursor, Vec::new(alloc), Stage::Has(nodes))
         }
-    }
-}
-
-/// The expression at the front of a cursor's tokens. An error names the first token that is wrong.
-#[tactic(auto, using(crate::proofs::Exprs::stack_none), unfolding(rv_text_laws::specs::ExpressionAt::expression_at))]
-pub fn expression<'a, R: Registers>(
-    alloc: Global,
-    cursor: &mut Cursor<'a>,
-) -> Result<Expr<'a>, ReadError>
-    ensures { Answers (λ e. (expr_of e, left cursor.new)) result (reading.expression_at R.registers (left cursor.old)) }
-{
-    match begins::<R>(cursor.next.kind) {
-        Begin::Number(number) => {
-            cursor.advance();
-            after_number::<R>(alloc, cursor, number)
-        }
-        Begin::Symbol(symbol) => {
-            cursor.advance();
-            after_symbol::<R>(alloc, cursor, symbol)
-        }
-        Begin::Prefix(UnaryOperator::Negate) => {
-            cursor.advance();
-            after_minus::<R>(alloc, cursor)
-        }
-        _ => read_on::<R>(alloc, cursor, Vec::new(alloc), Stage::Wants(None)),
     }
 }

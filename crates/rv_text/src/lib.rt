@@ -29,10 +29,9 @@ mod reading;
 pub use compound::Compound;
 pub use evaluation::{Meaning, Value, eval};
 pub use expr::Expr;
-pub use front::expression;
 pub use node::{Node, Symbol};
 pub use pair::Pair;
-pub use reading::{Registers, parse_expr};
+pub use reading::{Registers, expression, parse_expr};
 pub use rv_lexer::{
     Cursor, LONGEST_NAME, Lexer, Punct, ReadError, SourceCode, SourceFault, SyntaxError, Token,
     TokenKind, append_string, string_contains, string_size,

@@ -13,7 +13,7 @@ ghost use Rattle.rv_text.specs.Nodes.{node_of, nodes_of, some_nodes};
 ghost use Rattle.rv_text.specs.Expr.{begin_of, follow_of, stack_of, stage_of, Steps, Reached, expr_of, NamesFault, NoReading};
 
 use crate::expr::Expr;
-use crate::front::expression;
+use crate::front::{after_minus, after_number, after_symbol};
 use crate::node::{Node, Nodes, Symbol};
 use rv_lexer::{Cursor, LONGEST_NAME, Lexer, ReadError, SourceCode, SourceFault, TokenKind};
 use rv_text_laws::{BinaryOperator, Frame, Punct, UnaryOperator};
@@ -127,7 +127,7 @@ fn punct_begins<'a>(punct: Punct) -> Begin<'a>
 
 /// What a token is where an operand is wanted.
 #[inline(always)]
-pub(crate) fn begins<R: Registers>(kind: TokenKind<'_>) -> Begin<'_>
+fn begins<R: Registers>(kind: TokenKind<'_>) -> Begin<'_>
     ensures { begin_of result ≡ begins R.registers (kind_of kind.entry) }
 {
     match kind {
@@ -399,6 +399,31 @@ pub(crate) fn read_on<'a, R: Registers>(
             Err(Stop::Fault(code)) => return Err(ReadError::At(cursor.wrong(code))),
             Err(Stop::OutOfMemory) => return Err(ReadError::OutOfMemory),
         }
+    }
+}
+
+/// The expression at the front of a cursor's tokens. An error names the first token that is wrong.
+#[tactic(auto, using(crate::proofs::Exprs::stack_none), unfolding(rv_text_laws::specs::ExpressionAt::expression_at))]
+pub fn expression<'a, R: Registers>(
+    alloc: Global,
+    cursor: &mut Cursor<'a>,
+) -> Result<Expr<'a>, ReadError>
+    ensures { Answers (λ e. (expr_of e, left cursor.new)) result (reading.expression_at R.registers (left cursor.old)) }
+{
+    match begins::<R>(cursor.next.kind) {
+        Begin::Number(number) => {
+            cursor.advance();
+            after_number::<R>(alloc, cursor, number)
+        }
+        Begin::Symbol(symbol) => {
+            cursor.advance();
+            after_symbol::<R>(alloc, cursor, symbol)
+        }
+        Begin::Prefix(UnaryOperator::Negate) => {
+            cursor.advance();
+            after_minus::<R>(alloc, cursor)
+        }
+        _ => read_on::<R>(alloc, cursor, Vec::new(alloc), Stage::Wants(None)),
     }
 }
 

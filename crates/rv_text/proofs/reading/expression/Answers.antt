@@ -7,7 +7,7 @@ use Rattle.rv_text.specs.Nodes.{symbol_of}
 use Rattle.rv_text.specs.Expr.{begin_of, stack_of}
 use Rattle.rv_text.proofs.Exprs.{stack_none}
 use Rattle.rv_text.proofs.Fronts.{started, at_start, primary_step, minus_step}
-use Rattle.rv_text.proofs.front.expression.Goals as goal
+use Rattle.rv_text.proofs.reading.expression.Goals as goal
 
 pub after_number-requires : goal.after_number-requires
 after_number-requires g c =
