@@ -4,4 +4,6 @@ pub mod Scans
 pub mod Inside
 pub mod Steps
 pub mod Feeds
+pub mod Blanks
+pub mod Directions
 pub mod NamesJoined

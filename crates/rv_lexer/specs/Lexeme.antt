@@ -1,6 +1,6 @@
 -- What the lexemes of the code stand for.
 
-use Rattle.std.specs.Prelude.{ℕ, Bool, true, false}
+use Rattle.std.specs.Prelude.{ℕ, Bool, true, false, ◌||◌, ◌==◌}
 use Rattle.rv_text_laws.specs.Grammar as grammar
 use Rattle.rv_lexer.specs.declared.lexeme.Lexeme.{Lexeme}
 use Rattle.rv_lexer.specs.declared.lexeme.LexemeKind.{LexemeKind}
@@ -22,3 +22,7 @@ abbrev pub has_feeds : grammar.Kind → Bool
 has_feeds grammar.Block_comment = true
 has_feeds grammar.Newline = true
 has_feeds _ = false
+
+-- a blank, a tab and a carriage return
+abbrev pub is_blank : ℕ → Bool
+is_blank b = (b == 32) || (b == 9) || (b == 13)

@@ -2,10 +2,23 @@
 
 ghost use Rattle.std.specs.Prelude.{◌≡◌};
 ghost use Rattle.rv_text_laws.specs.Bytes.{class, is_word, digit};
+ghost use Rattle.rv_lexer.specs.Lexeme.{is_blank};
 
 use rv_text_laws::{Class, Punct};
 
+/// For each byte `1` where names and numbers go on with it.
+static WORD_BYTES: [u8; 256] = *b"\
+    00000000000000000000000000000000\
+    00001000000000101111111111000000\
+    01111111111111111111111111100001\
+    01111111111111111111111111100000\
+    00000000000000000000000000000000\
+    00000000000000000000000000000000\
+    00000000000000000000000000000000\
+    00000000000000000000000000000000";
+
 /// What a byte begins.
+#[inline(always)]
 #[tactic(auto, unfolding(rv_text_laws::specs::Bytes::class))]
 pub(crate) fn class(byte: u8) -> Class
     ensures { result ≡ class byte }
@@ -42,11 +55,20 @@ pub(crate) fn class(byte: u8) -> Class
     }
 }
 
+/// Whether the byte is a blank, a tab or a carriage return.
+#[inline(always)]
+pub(crate) fn is_blank(byte: u8) -> bool
+    ensures { result ≡ is_blank byte }
+{
+    matches!(byte, b' ' | b'\t' | b'\r')
+}
+
 /// Whether names and numbers go on with the byte.
+#[inline(always)]
 pub(crate) fn is_word(byte: u8) -> bool
     ensures { result ≡ is_word byte }
 {
-    matches!(byte, b'a'..=b'z' | b'A'..=b'Z' | b'_' | b'.' | b'$' | b'0'..=b'9')
+    WORD_BYTES[usize::from(byte)] == b'1'
 }
 
 /// The value of a digit in the bases up to 16, and 16 for every other byte.

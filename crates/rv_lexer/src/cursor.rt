@@ -64,7 +64,8 @@ impl<'a> Cursor<'a> {
         requires { is_last (kind_of self.old.next.kind) ≡ false }
         ensures { left self.old ≡ token_of self.old.next ∷ left self.new }
     {
-        *self = Cursor::new(self.lexer);
+        self.before = self.lexer;
+        self.next = self.lexer.next();
     }
 
     /// The lexer whose next token is the cursor's.

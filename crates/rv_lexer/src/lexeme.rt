@@ -7,9 +7,9 @@ ghost use Rattle.rv_text_laws.specs.Grammar.{Spells};
 ghost use Rattle.rv_text_laws.specs.Lexing.{newlines, is_gap};
 ghost use Rattle.rv_text_laws.specs.Front.{close_at, lexeme_at, lexeme_by, after_slash, after_less, after_greater, with_equal};
 ghost use Rattle.rv_lexer.specs.Token.{kind_of};
-ghost use Rattle.rv_lexer.specs.Lexeme.{front_of, lexeme_kind_of, has_feeds};
+ghost use Rattle.rv_lexer.specs.Lexeme.{front_of, lexeme_kind_of, has_feeds, is_blank};
 
-use crate::class::class;
+use crate::class::{class, is_blank};
 use crate::strings::{character_at, string_length};
 use crate::token::TokenKind;
 use crate::word::{digits_kind, word_length};
@@ -88,6 +88,15 @@ fn line_feeds(bytes: &[u8]) -> usize
         }
     }
     count
+}
+
+/// How many blanks are at the front.
+#[inline(always)]
+pub(crate) fn blanks(bytes: &[u8]) -> usize
+    ensures count { result ≡ prefix_len is_blank bytes.now }
+    ensures within { result ≤ length bytes.now }
+{
+    bytes.iter().take_while(|byte| is_blank(**byte)).count()
 }
 
 /// How many bytes are left of the line.

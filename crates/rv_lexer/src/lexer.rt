@@ -7,7 +7,7 @@ ghost use Rattle.rv_lexer.specs.Lexeme.{lexeme_kind_of};
 ghost use Rattle.rv_lexer.specs.Token.{kind_of, token_of};
 
 use crate::class::class;
-use crate::lexeme::{Lexeme, lexeme_at, line_feeds_of};
+use crate::lexeme::{Lexeme, blanks, lexeme_at, line_feeds_of};
 use crate::token::{Token, TokenKind};
 use rv_text_laws::Class;
 
@@ -46,6 +46,7 @@ impl<'a> Lexer<'a> {
         ensures first { tokens_left self.old ≡ token_of result ∷ (if is_last (token_of result).kind then [] else tokens_left self.new) }
         ensures stays { is_last (token_of result).kind ≡ true → tokens_left self.new ≡ tokens_left self.old }
     {
+        self.skip_blanks();
         while let Some(lexeme) = lexeme_at(self.rest) {
             let start = self.at;
             let line = self.line;
@@ -77,7 +78,22 @@ impl<'a> Lexer<'a> {
         &self.rest[from..to]
     }
 
+    /// Passes over the blanks at the front.
+    #[inline(always)]
+    fn skip_blanks(&mut self)
+        ensures { tokens_left self.new ≡ tokens_left self.old }
+    {
+        let count = blanks(self.rest);
+        let (_, rest) = self.rest.split_at(count);
+        *self = Lexer {
+            rest,
+            at: self.at + count as u32,
+            line: self.line,
+        };
+    }
+
     /// Passes over the lexeme at the front.
+    #[inline(always)]
     fn skip(&mut self, lexeme: Lexeme<'a>)
         requires within { lexeme.length ≤ length self.old.rest.now }
         requires spelled { Spells (lexeme_kind_of lexeme.kind) (take lexeme.length self.old.rest.now) }

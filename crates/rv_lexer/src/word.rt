@@ -1,6 +1,6 @@
 //! Words: names, numbers and references to numeric labels.
 
-ghost use Rattle.std.specs.Prelude.{◌≡◌, ◌<◌, ◌≤◌, length, option_map};
+ghost use Rattle.std.specs.Prelude.{◌≡◌, ◌==◌, ◌||◌, ◌<◌, ◌≤◌, false, None, length, option_map};
 ghost use Rattle.std.specs.List.{prefix_len};
 ghost use Rattle.rv_text_laws.specs.Bytes.{is_word, is_digit};
 ghost use Rattle.rv_text_laws.specs.Front.{number_by, after_zero, number_in, with_direction, reference_in, digits_kind};
@@ -87,11 +87,31 @@ fn with_direction<'a>(digits: &'a [u8], rest: &[u8]) -> Option<(&'a [u8], bool)>
     }
 }
 
+/// Whether the byte is the letter of a direction.
+fn is_direction(byte: u8) -> bool
+    ensures { result ≡ (byte == 102) || (byte == 98) }
+{
+    matches!(byte, b'f' | b'b')
+}
+
+/// Whether the last byte is the letter of a direction.
+fn directed(word: &[u8]) -> bool
+    ensures { result ≡ false → reference_in word.now ≡ None }
+{
+    match word {
+        [] => false,
+        [.., last] => is_direction(*last),
+    }
+}
+
 /// The numeric label that a word refers to: its digits, and whether it comes after.
 #[tactic(auto, unfolding(rv_text_laws::specs::Front::reference_in))]
 fn reference_in(word: &[u8]) -> Option<(&[u8], bool)>
     ensures { option_map (λ r. (r.0.now, r.1)) result ≡ reference_in word.now }
 {
+    if !directed(word) {
+        return None;
+    }
     let (digits, rest) = word.split_at(decimals(word));
     with_direction(digits, rest)
 }

@@ -6,9 +6,10 @@ use Rattle.std.proofs.lemmas.List.{map-append, reverse-append, at_drop_more, at_
 use Rattle.std.proofs.lemmas.Bool.{and_parts, ltb-true}
 use Rattle.rv_text_laws.specs.declared.operator.UnaryOperator.{UnaryOperator}
 use Rattle.rv_text_laws.specs.declared.operator.BinaryOperator.{BinaryOperator}
-use Rattle.rv_text_laws.specs.Expression.{Primary, tree_of, Node, Primary_node, Unary_node, Binary_node}
-use Rattle.rv_text_laws.specs.Values.{Meaning, Value, alone, both, meant, primary_value, value_of, after_node, after_nodes, node_fits, count_after, nodes_fit}
-use Rattle.rv_text_laws.proofs.Trees.{lone_tree, nodes_value}
+use Rattle.rv_text_laws.specs.declared.operator.UnaryOperator.TheVariants.{Negate}
+use Rattle.rv_text_laws.specs.Expression.{Primary, Literal, tree_of, Node, Primary_node, Unary_node, Binary_node}
+use Rattle.rv_text_laws.specs.Values.{Meaning, Value, Constant, alone, both, meant, primary_value, value_of, after_node, node_fits, count_after, nodes_fit}
+use Rattle.rv_text_laws.proofs.Trees.{lone_tree}
 use Rattle.rv_text.specs.declared.evaluation.Part.{Part}
 use Rattle.rv_text.specs.declared.node.Symbol.{Symbol}
 use Rattle.rv_text.specs.declared.node.Symbol.TheVariants as symbols
@@ -46,31 +47,6 @@ pub last_value : (items front : List Part) (p : Part) (v : Value) (others : List
 last_value items front p v others split is =
     let same : part_of p ∷ tops front ≡ v ∷ others = sym (tops_push front p) ∙ ap tops (sym split) ∙ is in
     cc
-
--- the value of nodes that leave one value
-pub whole_value : (m : Primary → Meaning) (ns ms : List Node) (v : Value) → nodes_fit ns 0 ≡ true → ns ≡ ms → after_nodes m ms [] ≡ v ∷ [] → v ≡ value_of m (tree_of ns)
-whole_value m ns ms v fits same left =
-    let whole = nodes_value m ns fits in
-    let one : v ∷ [] ≡ value_of m (tree_of ns) ∷ whole.0 = sym left ∙ ap (λ (l : List Node). after_nodes m l []) (sym same) ∙ whole.1 in
-    cc
-
--- lists of one node and of two
-pub one_node : (xs ys : List code.Node) (d : code.Node) → ys ≡ xs → 1 ≤ length ys → length ys < 2 → map node_of xs ≡ node_of (get_or ys 0 d) ∷ []
-one_node xs ys d same some few = ap (map node_of) (sym same) ∙ by ys some few
-  where
-    by : (l : List code.Node) → 1 ≤ length l → length l < 2 → map node_of l ≡ node_of (get_or l 0 d) ∷ []
-    by [] s f = absurd (omega (arith, s))
-    by (x ∷ []) s f = refl
-    by (x ∷ y ∷ l) s f = absurd (omega (arith, f))
-
-pub two_nodes : (xs ys : List code.Node) (d : code.Node) → ys ≡ xs → 2 ≤ length ys → length ys < 3 → map node_of xs ≡ node_of (get_or ys 0 d) ∷ node_of (get_or ys 1 d) ∷ []
-two_nodes xs ys d same some few = ap (map node_of) (sym same) ∙ by ys some few
-  where
-    by : (l : List code.Node) → 2 ≤ length l → length l < 3 → map node_of l ≡ node_of (get_or l 0 d) ∷ node_of (get_or l 1 d) ∷ []
-    by [] s f = absurd (omega (arith, s))
-    by (x ∷ []) s f = absurd (omega (arith, s))
-    by (x ∷ y ∷ []) s f = refl
-    by (x ∷ y ∷ z ∷ l) s f = absurd (omega (arith, f))
 
 pub some_more : {X : Type 0} (o : Option X) (P Q : X → Type 0) → ((x : X) → P x → Q x) → IfSome o P → IfSome o Q
 some_more None P Q f h = tt
@@ -131,3 +107,19 @@ later_fit xs ys i d count after e lt same f =
 
 pub last_fits : (xs ys : List code.Node) (i count : ℕ) → ys ≡ xs → length ys ≤ i → nodes_fit (map node_of (drop i xs)) count ≡ true → 0 < count
 last_fits xs ys i count e le f = some_left count (ap (λ (l : List Node). nodes_fit l count) (sym (no_node xs ys i e le)) ∙ f)
+
+-- the negative of a number, and a primary and a number under their operator
+pub negative_value : (m : Primary → Meaning) (n : ℕ) → value_of m (tree_of (Primary_node (Literal n) ∷ Unary_node Negate ∷ [])) ≡ alone Negate (Constant n)
+unfolding tree_of
+negative_value m n = refl
+
+pub pair_value : (m : Primary → Meaning) (p : Primary) (n : ℕ) (o : BinaryOperator)
+    → value_of m (tree_of (Primary_node p ∷ Primary_node (Literal n) ∷ Binary_node o ∷ [])) ≡ both o (primary_value m p) (Constant n)
+unfolding tree_of
+pair_value m p n o = refl
+
+pub pair_outcome : (m : Primary → Meaning) (p : Primary) (n : ℕ) (o : BinaryOperator) (e : Expr) (result : Result code_value.Value SourceFault) (line : ℕ) (part : Value)
+    → expr_of e ≡ Primary_node p ∷ Primary_node (Literal n) ∷ Binary_node o ∷ [] → part ≡ both o (primary_value m p) (Constant n) → IsOutcome result line part
+    → IsOutcome result line (value_of m (tree_of_expr e))
+pair_outcome m p n o e result line part is same h =
+    subst (IsOutcome result line) (same ∙ sym (pair_value m p n o) ∙ ap (λ (ns : List Node). value_of m (tree_of ns)) (sym is)) h

@@ -1,3 +1,4 @@
 pub mod Exprs
 pub mod ReadingSteps
 pub mod Evals
+pub mod Fronts

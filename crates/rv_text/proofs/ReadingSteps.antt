@@ -1,11 +1,10 @@
 -- Reading an expression token by token, as the code holds what is read.
 
 use Rattle.std.proofs.Common.{◌≡◌, ℕ, ◌<◌, Bool, true, cond, List, [], ◌∷◌, length, Ok, Err, sym, ◌∙◌, ap, arith}
-use Rattle.rv_text_laws.specs.declared.operator.Frame.{Frame}
 use Rattle.rv_text_laws.specs.Lexing as lexing
 use Rattle.rv_text_laws.specs.Expression.{Tree, ReadsTree, Node, postfix}
 use Rattle.rv_text_laws.specs.SyntaxError as syntax
-use Rattle.rv_text_laws.specs.ExpressionAt.{Stage, Wants, Goes, Ends, Fails, step, read_from, expression_at}
+use Rattle.rv_text_laws.specs.ExpressionAt.{Stage, Goes, Ends, Fails, step, read_from, expression_at}
 use Rattle.rv_text_laws.specs.SyntaxError.{wrong}
 use Rattle.rv_text_laws.specs.Values.{nodes_fit}
 use Rattle.rv_text_laws.proofs.Expressions.{goes, ends, fails, expression_is}
@@ -16,24 +15,20 @@ use Rattle.rv_lexer.specs.Token.{token_of, kind_of}
 use Rattle.rv_lexer.specs.Left.{tokens_left}
 use Rattle.rv_lexer.specs.Cursor.{left}
 
--- the tokens read from the start, and those read from here, make the same
-pub begun : (r : List ℕ → Bool) (ts : List lexing.Token) (none : List Frame) → none ≡ [] → expression_at r ts ≡ read_from r (Wants none []) ts
-unfolding expression_at
-begun r ts none e = ap (λ (fs : List Frame). read_from r (Wants fs []) ts) (sym e)
+-- a reading that goes on token by token
+pub went_on : (r : List ℕ → Bool) (so_far : syntax.Read (List Node)) (c d : Cursor) (s u : Stage) → so_far ≡ read_from r s (left c) → left c ≡ token_of c.next ∷ left d
+    → step r s (kind_of c.next.kind) ≡ Goes u → so_far ≡ read_from r u (left d)
+went_on r so_far c d s u so one e = so ∙ ap (read_from r s) one ∙ goes r s u (token_of c.next) (left d) e
 
-pub went_on : (r : List ℕ → Bool) (ts : List lexing.Token) (c d : Cursor) (s u : Stage) → expression_at r ts ≡ read_from r s (left c) → left c ≡ token_of c.next ∷ left d
-    → step r s (kind_of c.next.kind) ≡ Goes u → expression_at r ts ≡ read_from r u (left d)
-went_on r ts c d s u so one e = so ∙ ap (read_from r s) one ∙ goes r s u (token_of c.next) (left d) e
-
-pub ended : (r : List ℕ → Bool) (ts : List lexing.Token) (c : Cursor) (s : Stage) (ns : List Node) → expression_at r ts ≡ read_from r s (left c)
-    → step r s (kind_of c.next.kind) ≡ Ends ns → expression_at r ts ≡ Ok (ns, left c)
+pub ended : (r : List ℕ → Bool) (so_far : syntax.Read (List Node)) (c : Cursor) (s : Stage) (ns : List Node) → so_far ≡ read_from r s (left c)
+    → step r s (kind_of c.next.kind) ≡ Ends ns → so_far ≡ Ok (ns, left c)
 unfolding left
-ended r ts c s ns so e = so ∙ ends r s ns (token_of c.next) (cond (lexing.is_last (kind_of c.next.kind)) [] (tokens_left c.lexer)) e
+ended r so_far c s ns so e = so ∙ ends r s ns (token_of c.next) (cond (lexing.is_last (kind_of c.next.kind)) [] (tokens_left c.lexer)) e
 
-pub failed : (r : List ℕ → Bool) (ts : List lexing.Token) (c : Cursor) (s : Stage) (code : ℕ) → expression_at r ts ≡ read_from r s (left c)
-    → step r s (kind_of c.next.kind) ≡ Fails code → expression_at r ts ≡ Err (wrong (token_of c.next) code)
+pub failed : (r : List ℕ → Bool) (so_far : syntax.Read (List Node)) (c : Cursor) (s : Stage) (code : ℕ) → so_far ≡ read_from r s (left c)
+    → step r s (kind_of c.next.kind) ≡ Fails code → so_far ≡ Err (wrong (token_of c.next) code)
 unfolding left
-failed r ts c s code so e = so ∙ fails r s code (token_of c.next) (cond (lexing.is_last (kind_of c.next.kind)) [] (tokens_left c.lexer)) e
+failed r so_far c s code so e = so ∙ fails r s code (token_of c.next) (cond (lexing.is_last (kind_of c.next.kind)) [] (tokens_left c.lexer)) e
 
 -- what is read has room for its values
 pub read_fits : (r : List ℕ → Bool) (ts : List lexing.Token) (ns : List Node) (rest : List lexing.Token) → expression_at r ts ≡ Ok (ns, rest) → nodes_fit ns 0 ≡ true

@@ -2,6 +2,7 @@
 
 use Rattle.std.specs.Prelude.{◌≡◌, ℕ, Bool, true, false, List, [], ◌∷◌, reverse, Result, Ok, Err}
 use Rattle.rv_text_laws.specs.declared.operator.Frame.{Frame}
+use Rattle.rv_text_laws.specs.declared.operator.UnaryOperator.TheVariants.{Negate}
 use Rattle.rv_text_laws.specs.Expression as expression
 use Rattle.rv_text_laws.specs.ExpressionAt as reading
 use Rattle.rv_text_laws.specs.Lexing.{Token}
@@ -52,6 +53,16 @@ Steps frames (Ok (steps.Ends e)) step = step ≡ reading.Ends (nodes_of e)
 Steps frames (Err (stops.Fault code)) step = step ≡ reading.Fails (number_of code)
 Steps frames (Err stops.OutOfMemory) step = Unit {0}
 
+-- what a token is after an operand, where no expression goes on with it and no parenthesis is open
+abbrev pub ends_operand : expression.Follow → Bool
+ends_operand expression.Nothing_more = true
+ends_operand expression.A_closing = true
+ends_operand _ = false
+
+-- some tokens lead to this stage with these tokens left
+abbrev pub Reached : (List ℕ → Bool) → reading.Stage → List Token → Type 0
+Reached is_register stage ts = (all : List Token) × (reading.expression_at is_register all ≡ reading.read_from is_register stage ts)
+
 -- a primary alone
 abbrev pub alone : expression.Primary → List expression.Node
 alone p = expression.Primary_node p ∷ []
@@ -63,6 +74,9 @@ expr_of (exprs.Name name) = alone (expression.Symbol name.now)
 expr_of exprs.Here = alone expression.Here
 expr_of (exprs.Backward digits) = alone (expression.Reference digits.now false)
 expr_of (exprs.Forward digits) = alone (expression.Reference digits.now true)
+expr_of (exprs.Negative number) = expression.Primary_node (expression.Literal number) ∷ expression.Unary_node Negate ∷ []
+expr_of (exprs.Pair pair) =
+    expression.Primary_node (symbol_of pair.value.symbol) ∷ expression.Primary_node (expression.Literal pair.value.number) ∷ expression.Binary_node pair.value.operator ∷ []
 expr_of (exprs.Compound compound) = nodes_of compound.value.nodes
 
 -- the expression, without parentheses

@@ -11,12 +11,16 @@ ghost use Rattle.rv_text.specs.Eval.{meaning_of, part_of, tops, Means, IsOutcome
 
 use crate::expr::Expr;
 use crate::node::{Node, Nodes, Symbol};
+use crate::pair::Pair;
 use arrayvec::ArrayVec;
 use rv_lexer::{SourceCode, SourceFault};
 use rv_text_laws::{BinaryOperator, UnaryOperator};
 
 /// The most values that wait for an operator, in an expression that is read.
 const MOST_VALUES: usize = 200;
+
+/// The most values that wait for an operator in most expressions: there is less room to be cleared.
+const FEW_VALUES: usize = 8;
 
 /// What a name, `.` or a reference means where it stands.
 #[derive(Clone, Copy, Debug, PartialEq, Eq, Drop)]
@@ -316,64 +320,72 @@ fn evaluate<'a, F: Fn(Symbol<'a>) -> Meaning>(nodes: &Nodes<'a>, names: &F) -> P
     pop(&mut stack)
 }
 
-/// The value of a node that stands for a number or a symbol.
-fn operand<'a, F: Fn(Symbol<'a>) -> Meaning>(node: Node<'a>, names: &F) -> Option<Part<'a>>
+/// One value more, where there is room.
+fn push_few<'a>(stack: &mut ArrayVec<Part<'a>, FEW_VALUES>, part: Part<'a>) -> Option<()>
+    ensures { IfSome result (λ _. stack.new.items ≡ stack.old.items ++ part.entry ∷ []) }
+{
+    if stack.is_full() {
+        return None;
+    }
+    stack.push(part);
+    Some(())
+}
+
+/// The last of few values, where there is one.
+fn pop_few<'a>(stack: &mut ArrayVec<Part<'a>, FEW_VALUES>) -> Option<Part<'a>>
+    ensures { IfSome result (λ part. stack.old.items ≡ stack.new.items ++ part ∷ []) }
+{
+    stack.pop()
+}
+
+/// The few values after a node, where there is room for them.
+fn step_few<'a, F: Fn(Symbol<'a>) -> Meaning>(
+    stack: &mut ArrayVec<Part<'a>, FEW_VALUES>,
+    node: Node<'a>,
+    names: &F,
+) -> Option<()>
     requires { F.IsAlwaysCallable names.now }
-    ensures { IfSome result (λ part. (m : Primary → values.Meaning) (vs : List values.Value) → Means (F.post names.now) m → values.after_node m (node_of node.entry) vs ≡ part_of part ∷ vs) }
+    ensures { IfSome result (λ _. (m : Primary → values.Meaning) → Means (F.post names.now) m → tops stack.new.items ≡ values.after_node m (node_of node.entry) (tops stack.old.items)) }
 {
     match node {
-        Node::Number(number) => Some(Part::Constant(number)),
-        Node::Symbol(symbol) => Some(lone(symbol, names)),
-        Node::Unary(_) => None,
-        Node::Binary(_) => None,
+        Node::Number(number) => push_few(stack, Part::Constant(number)),
+        Node::Symbol(symbol) => push_few(stack, lone(symbol, names)),
+        Node::Unary(operator) => {
+            let operand = pop_few(stack)?;
+            push_few(stack, alone(operator, operand))
+        }
+        Node::Binary(operator) => {
+            let right = pop_few(stack)?;
+            let left = pop_few(stack)?;
+            push_few(stack, both(operator, left, right))
+        }
     }
 }
 
-/// The value of an operator after its one operand.
-fn of_one<'a, F: Fn(Symbol<'a>) -> Meaning>(
-    first: Node<'a>,
-    last: Node<'a>,
-    names: &F,
-) -> Option<Part<'a>>
-    requires { F.IsAlwaysCallable names.now }
-    ensures { IfSome result (λ part. (m : Primary → values.Meaning) (vs : List values.Value) → Means (F.post names.now) m → values.after_nodes m (node_of first.entry ∷ node_of last.entry ∷ []) vs ≡ part_of part ∷ vs) }
-{
-    let Node::Unary(operator) = last else {
-        return None;
-    };
-    let part = operand(first, names)?;
-    Some(alone(operator, part))
-}
-
-/// The value of an operator after its two operands.
-fn of_two<'a, F: Fn(Symbol<'a>) -> Meaning>(
-    first: Node<'a>,
-    second: Node<'a>,
-    last: Node<'a>,
-    names: &F,
-) -> Option<Part<'a>>
-    requires { F.IsAlwaysCallable names.now }
-    ensures { IfSome result (λ part. (m : Primary → values.Meaning) (vs : List values.Value) → Means (F.post names.now) m → values.after_nodes m (node_of first.entry ∷ node_of second.entry ∷ node_of last.entry ∷ []) vs ≡ part_of part ∷ vs) }
-{
-    let Node::Binary(operator) = last else {
-        return None;
-    };
-    let left = operand(first, names)?;
-    let right = operand(second, names)?;
-    Some(both(operator, left, right))
-}
-
-/// The value of one operator with its operands, as most expressions are; no stack is made for them.
-fn short_value<'a, F: Fn(Symbol<'a>) -> Meaning>(nodes: &Nodes<'a>, names: &F) -> Option<Part<'a>>
+/// The value of the nodes, where few values wait for an operator, as in most expressions.
+fn value_of_few<'a, F: Fn(Symbol<'a>) -> Meaning>(nodes: &Nodes<'a>, names: &F) -> Option<Part<'a>>
     requires callable { F.IsAlwaysCallable names.now }
     requires fits { values.nodes_fit (nodes_of nodes.now) 0 ≡ true }
     ensures { IfSome result (λ part. (m : Primary → values.Meaning) → Means (F.post names.now) m → part_of part ≡ values.value_of m (tree_of (nodes_of nodes.now))) }
 {
-    match nodes.rest.as_slice() {
-        [last] => of_one(nodes.first, *last, names),
-        [second, last] => of_two(nodes.first, *second, *last, names),
-        _ => None,
+    let mut stack: ArrayVec<Part<'a>, FEW_VALUES> = ArrayVec::new();
+    step_few(&mut stack, nodes.first, names)?;
+    for node in &nodes.rest {
+        step_few(&mut stack, *node, names)?;
     }
+    pop_few(&mut stack)
+}
+
+/// The value of a symbol and a number under their operator.
+fn pair_value<'a, F: Fn(Symbol<'a>) -> Meaning>(pair: &Pair<'a>, names: &F) -> Part<'a>
+    requires { F.IsAlwaysCallable names.now }
+    ensures { (m : Primary → values.Meaning) → Means (F.post names.now) m → part_of result ≡ values.both pair.now.operator (values.primary_value m (symbol_of pair.now.symbol)) (values.Constant pair.now.number) }
+{
+    both(
+        pair.operator,
+        lone(pair.symbol, names),
+        Part::Constant(pair.number),
+    )
 }
 
 /// The value of the nodes of an expression with operators.
@@ -382,7 +394,7 @@ fn compound_value<'a, F: Fn(Symbol<'a>) -> Meaning>(nodes: &Nodes<'a>, names: &F
     requires fits { values.nodes_fit (nodes_of nodes.now) 0 ≡ true }
     ensures { (m : Primary → values.Meaning) → Means (F.post names.now) m → part_of result ≡ values.value_of m (tree_of (nodes_of nodes.now)) }
 {
-    match short_value(nodes, names) {
+    match value_of_few(nodes, names) {
         Some(part) => part,
         None => evaluate(nodes, names),
     }
@@ -403,6 +415,8 @@ pub fn eval<'a, F: Fn(Symbol<'a>) -> Meaning>(
         Expr::Here => outcome(lone(Symbol::Here, names), line),
         Expr::Backward(digits) => outcome(lone(Symbol::Backward(digits), names), line),
         Expr::Forward(digits) => outcome(lone(Symbol::Forward(digits), names), line),
+        Expr::Negative(number) => Ok(Value::Constant(0u64.wrapping_sub(*number))),
+        Expr::Pair(pair) => outcome(pair_value(pair, names), line),
         Expr::Compound(compound) => outcome(compound_value(&compound.nodes, names), line),
     }
 }

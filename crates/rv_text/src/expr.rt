@@ -8,9 +8,10 @@ ghost use Rattle.rv_text.specs.Expr.{expr_of};
 
 use crate::compound::Compound;
 use crate::node::{Node, Nodes, Symbol};
+use crate::pair::Pair;
 use std::alloc::{AllocError, Global};
 
-/// An expression that was read. Texts are parts of the source; a number or a symbol alone takes no heap.
+/// An expression that was read. Texts are parts of the source; a number, its negative or a symbol alone takes no heap.
 #[derive(Debug, Drop)]
 pub enum Expr<'a> {
     /// A number or a character.
@@ -23,7 +24,11 @@ pub enum Expr<'a> {
     Backward(&'a [u8]),
     /// `1f`, by its digits.
     Forward(&'a [u8]),
-    /// An expression with operators.
+    /// `-` and a number.
+    Negative(u64),
+    /// A symbol, an operator and a number.
+    Pair(Box<Pair<'a>>),
+    /// Another expression with operators.
     Compound(Box<Compound<'a>>),
 }
 
@@ -31,7 +36,7 @@ const _: () = prove!(size_of::<Expr<'static>>() <= 24);
 
 impl<'a> Expr<'a> {
     /// A symbol alone.
-    fn of_symbol(symbol: Symbol<'a>) -> Self
+    pub(crate) fn of_symbol(symbol: Symbol<'a>) -> Self
         ensures { expr_of result ≡ Primary_node (symbol_of symbol.entry) ∷ [] }
     {
         match symbol {

@@ -21,13 +21,16 @@
 mod compound;
 mod evaluation;
 mod expr;
+mod front;
 mod node;
+mod pair;
 mod reading;
 
 pub use compound::Compound;
 pub use evaluation::{Meaning, Value, eval};
 pub use expr::Expr;
 pub use node::{Node, Symbol};
+pub use pair::Pair;
 pub use reading::{Registers, expression, parse_expr};
 pub use rv_lexer::{
     Cursor, LONGEST_NAME, Lexer, Punct, ReadError, SourceCode, SourceFault, SyntaxError, Token,

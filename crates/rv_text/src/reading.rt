@@ -10,9 +10,10 @@ ghost use Rattle.rv_lexer.specs.Token.{kind_of};
 ghost use Rattle.rv_lexer.specs.Left.{tokens_left};
 ghost use Rattle.rv_lexer.specs.Cursor.{left, Answers};
 ghost use Rattle.rv_text.specs.Nodes.{node_of, nodes_of, some_nodes};
-ghost use Rattle.rv_text.specs.Expr.{begin_of, follow_of, stack_of, stage_of, Steps, expr_of, NamesFault, NoReading};
+ghost use Rattle.rv_text.specs.Expr.{begin_of, follow_of, stack_of, stage_of, Steps, Reached, expr_of, NamesFault, NoReading};
 
 use crate::expr::Expr;
+use crate::front::{after_minus, after_number, after_symbol};
 use crate::node::{Node, Nodes, Symbol};
 use rv_lexer::{Cursor, LONGEST_NAME, Lexer, ReadError, SourceCode, SourceFault, TokenKind};
 use rv_text_laws::{BinaryOperator, Frame, Punct, UnaryOperator};
@@ -125,6 +126,7 @@ fn punct_begins<'a>(punct: Punct) -> Begin<'a>
 }
 
 /// What a token is where an operand is wanted.
+#[inline(always)]
 fn begins<R: Registers>(kind: TokenKind<'_>) -> Begin<'_>
     ensures { begin_of result ≡ begins R.registers (kind_of kind.entry) }
 {
@@ -143,7 +145,8 @@ fn begins<R: Registers>(kind: TokenKind<'_>) -> Begin<'_>
 }
 
 /// What a token is after an operand.
-fn follows(kind: TokenKind<'_>) -> Follow
+#[inline(always)]
+pub(crate) fn follows(kind: TokenKind<'_>) -> Follow
     ensures { follow_of result ≡ follows (kind_of kind.entry) }
 {
     let TokenKind::Punct(punct) = kind else {
@@ -373,15 +376,19 @@ fn taken<'a, R: Registers>(
     }
 }
 
-/// The expression at the front of a cursor's tokens. An error names the first token that is wrong.
-pub fn expression<'a, R: Registers>(
+/// Reads on from a stage: what is read of the expression at the front of a cursor's tokens.
+#[inline(never)]
+pub(crate) fn read_on<'a, R: Registers>(
     alloc: Global,
     cursor: &mut Cursor<'a>,
+    frames: Vec<Frame>,
+    stage: Stage<'a>,
 ) -> Result<Expr<'a>, ReadError>
-    ensures { Answers (λ e. (expr_of e, left cursor.new)) result (reading.expression_at R.registers (left cursor.old)) }
+    requires { Reached R.registers (stage_of frames.items stage) (left cursor.old) }
+    ensures { Answers (λ e. (expr_of e, left cursor.new)) result (reading.read_from R.registers (stage_of frames.items stage.entry) (left cursor.old)) }
 {
-    let mut frames = Vec::new(alloc);
-    let mut stage = Stage::Wants(None);
+    let mut frames = frames;
+    let mut stage = stage;
     'tokens: loop {
         match taken::<R>(alloc, &mut frames, stage, cursor.next.kind) {
             Ok(Step::Goes(next)) => {
@@ -392,6 +399,31 @@ pub fn expression<'a, R: Registers>(
             Err(Stop::Fault(code)) => return Err(ReadError::At(cursor.wrong(code))),
             Err(Stop::OutOfMemory) => return Err(ReadError::OutOfMemory),
         }
+    }
+}
+
+/// The expression at the front of a cursor's tokens. An error names the first token that is wrong.
+#[tactic(auto, using(crate::proofs::Exprs::stack_none), unfolding(rv_text_laws::specs::ExpressionAt::expression_at))]
+pub fn expression<'a, R: Registers>(
+    alloc: Global,
+    cursor: &mut Cursor<'a>,
+) -> Result<Expr<'a>, ReadError>
+    ensures { Answers (λ e. (expr_of e, left cursor.new)) result (reading.expression_at R.registers (left cursor.old)) }
+{
+    match begins::<R>(cursor.next.kind) {
+        Begin::Number(number) => {
+            cursor.advance();
+            after_number::<R>(alloc, cursor, number)
+        }
+        Begin::Symbol(symbol) => {
+            cursor.advance();
+            after_symbol::<R>(alloc, cursor, symbol)
+        }
+        Begin::Prefix(UnaryOperator::Negate) => {
+            cursor.advance();
+            after_minus::<R>(alloc, cursor)
+        }
+        _ => read_on::<R>(alloc, cursor, Vec::new(alloc), Stage::Wants(None)),
     }
 }
 

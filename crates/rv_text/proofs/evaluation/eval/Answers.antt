@@ -1,9 +1,11 @@
--- A number or a symbol alone.
+-- A number or a symbol alone, and those with one operator.
 use Rattle.std.proofs.Common.{◌∙◌, ap}
 use Rattle.rv_text_laws.specs.Expression.{Literal}
 use Rattle.rv_text_laws.specs.Values as values
+use Rattle.rv_text.specs.declared.pair.Pair.{Pair}
+use Rattle.rv_text.specs.Nodes.{symbol_of}
 use Rattle.rv_text.specs.Expr.{expr_of, tree_of_expr}
-use Rattle.rv_text.proofs.Evals.{lone_value, lone_outcome}
+use Rattle.rv_text.proofs.Evals.{lone_value, lone_outcome, negative_value, pair_outcome}
 use Rattle.rv_text.proofs.evaluation.eval.Goals as goal
 
 pub returns-in-Number : goal.returns-in-Number
@@ -20,3 +22,11 @@ returns-in-Backward g c = λ m means. lone_outcome m _ c.args.expr.now c.outcome
 
 pub returns-in-Forward : goal.returns-in-Forward
 returns-in-Forward g c = λ m means. lone_outcome m _ c.args.expr.now c.outcome-in-Forward.result c.args.line _ (ap expr_of c.in-Forward.is) (c.lone-in-Forward.ensures m means) c.outcome-in-Forward.ensures
+
+pub returns-in-Negative : goal.returns-in-Negative
+returns-in-Negative g c = λ m means. ap (λ e. values.value_of m (tree_of_expr e)) c.in-Negative.is ∙ negative_value m c.in-Negative.number
+
+pub returns-in-Pair : goal.returns-in-Pair
+returns-in-Pair g c = λ m means.
+    pair_outcome m _ _ _ c.args.expr.now c.outcome-in-Pair.result c.args.line _ (ap expr_of c.in-Pair.is)
+    (c.pair_value.ensures m means ∙ ap (λ (p : Pair). values.both p.operator (values.primary_value m (symbol_of p.symbol)) (values.Constant p.number)) c.deref.ensures) c.outcome-in-Pair.ensures

@@ -1,29 +1,29 @@
--- Token by token.
-use Rattle.std.proofs.Common.{◌∙◌, sym, ap, List, Ok, Err}
-use Rattle.rv_text_laws.specs.SyntaxError.{SyntaxError}
-use Rattle.rv_text_laws.specs.Expression.{Node}
-use Rattle.rv_text.specs.Nodes.{nodes_of}
+-- The first token.
+use Rattle.std.proofs.Common.{[], sym, ◌∙◌, ap}
+use Rattle.rv_text_laws.specs.Expression.{Literal, A_prefix}
+use Rattle.rv_lexer.specs.Token.{kind_of}
 use Rattle.rv_lexer.specs.Cursor.{left}
-use Rattle.rv_lexer.specs.Fault.{number_of}
-use Rattle.rv_text.specs.Expr.{stack_of, stage_of}
+use Rattle.rv_text.specs.Nodes.{symbol_of}
+use Rattle.rv_text.specs.Expr.{begin_of, stack_of}
 use Rattle.rv_text.proofs.Exprs.{stack_none}
-use Rattle.rv_text.proofs.ReadingSteps.{begun, ended, failed, read_fits}
+use Rattle.rv_text.proofs.Fronts.{started, at_start, primary_step, minus_step}
 use Rattle.rv_text.proofs.reading.expression.Goals as goal
 
-pub tokens-init : goal.tokens-init
-tokens-init g c = begun _ _ (stack_of c.new-frames.result.items) (ap stack_of c.new-frames.ensures.items ∙ stack_none)
+pub after_number-requires : goal.after_number-requires
+after_number-requires g c =
+    started g.R.Registers.registers c.args.cursor.now c.advance.new.self _ c.advance.ensures
+    (primary_step g.R.Registers.registers [] [] (kind_of c.args.cursor.now.next.kind) (begin_of c.begins.result) (Literal c.in-Number.number) c.begins.ensures (sym (ap begin_of c.in-Number.is)))
 
-pub new-requires : goal.new-requires
-new-requires g c =
-    read_fits _ _ (nodes_of c.in-Ok-Ends.nodes) _
-    (ended _ _ c.tokens.cursor (stage_of c.tokens.frames.items c.tokens.stage) (nodes_of c.in-Ok-Ends.nodes) c.tokens.invariant (rw c.in-Ok-Ends.field-0-is at c.in-Ok-Ends.ensures))
+pub after_symbol-requires : goal.after_symbol-requires
+after_symbol-requires g c =
+    started g.R.Registers.registers c.args.cursor.now c.advance-in-Symbol.new.self _ c.advance-in-Symbol.ensures
+    (primary_step g.R.Registers.registers [] [] (kind_of c.args.cursor.now.next.kind) (begin_of c.begins.result) (symbol_of c.in-Symbol.symbol) c.begins.ensures (sym (ap begin_of c.in-Symbol.is)))
 
-pub returns-in-Ok-Ends : goal.returns-in-Ok-Ends
-returns-in-Ok-Ends g c =
-    ended _ _ c.tokens.cursor (stage_of c.tokens.frames.items c.tokens.stage) (nodes_of c.in-Ok-Ends.nodes) c.tokens.invariant (rw c.in-Ok-Ends.field-0-is at c.in-Ok-Ends.ensures)
-    ∙ ap (λ (ns : List Node). Ok (ns, left c.tokens.cursor)) (sym c.in_ok-new-in-Ok-Ends.ensures)
+pub after_minus-requires : goal.after_minus-requires
+after_minus-requires g c =
+    started g.R.Registers.registers c.args.cursor.now c.advance-in-Prefix-Negate.new.self _ c.advance-in-Prefix-Negate.ensures
+    (minus_step g.R.Registers.registers (kind_of c.args.cursor.now.next.kind) (begin_of c.begins.result) c.begins.ensures
+    (sym (ap begin_of c.in-Prefix-Negate.is ∙ ap (λ o. A_prefix o) c.in-Prefix-Negate.field-0-is)))
 
-pub returns-in-Err-Fault : goal.returns-in-Err-Fault
-returns-in-Err-Fault g c =
-    failed _ _ c.tokens.cursor (stage_of c.tokens.frames.items c.tokens.stage) (number_of c.in-Err-Fault.code) c.tokens.invariant (rw c.in-Err-Fault.field-0-is at c.in-Err-Fault.ensures)
-    ∙ ap (λ (w : SyntaxError). Err w) (sym (rw c.in-Err-Fault.field-0-is at c.wrong.ensures))
+pub read_on-requires : goal.read_on-requires
+read_on-requires g c = at_start g.R.Registers.registers (left c.args.cursor.now) c.new.result.items (ap stack_of c.new.ensures.items ∙ stack_none)

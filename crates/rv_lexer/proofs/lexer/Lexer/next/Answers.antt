@@ -1,5 +1,5 @@
 -- A blank or a comment, a token, and the last token.
-use Rattle.std.proofs.Common.{◌≡◌, false, ◌∙◌, ap, arith, length, length-drop}
+use Rattle.std.proofs.Common.{◌≡◌, false, sym, ◌∙◌, ap, arith, length, length-drop}
 use Rattle.rv_text_laws.specs.Lexing.{is_last}
 use Rattle.rv_lexer.specs.Token.{kind_of}
 use Rattle.rv_lexer.specs.Lexeme.{lexeme_kind_of}
@@ -15,7 +15,8 @@ skip-requires c = record {
 
 pub returns-in-Some-token-clause-first : goal.returns-in-Some-token-clause-first
 returns-in-Some-token-clause-first c =
-    c.loop-lexeme.invariant
+    sym c.skip_blanks.ensures
+    ∙ c.loop-lexeme.invariant
     ∙ token_step c.loop-lexeme.self c.skip.new.self (lexeme_kind_of c.in-Some.lexeme.kind) c.in-Some.lexeme.length c.in-Some-token.kind c.in-Some.ensures
     c.skip.ensures.rest c.skip.ensures.at c.skip.ensures.line c.in-Some-token.ensures.0 c.in-Some-token.ensures.1
 
@@ -37,4 +38,4 @@ loop-lexeme-preserved c =
     c.skip.ensures.rest c.skip.ensures.at c.skip.ensures.line c.in_default-token.ensures
 
 pub returns-clause-first : goal.returns-clause-first
-returns-clause-first c = c.loop-lexeme.invariant ∙ stop_step c.loop-lexeme.self c.last_kind.result c.in_default.ensures c.last_kind.ensures
+returns-clause-first c = sym c.skip_blanks.ensures ∙ c.loop-lexeme.invariant ∙ stop_step c.loop-lexeme.self c.last_kind.result c.in_default.ensures c.last_kind.ensures

@@ -1,0 +1,7 @@
+-- The number is the expression.
+use Rattle.std.proofs.Common.{refl, sym, ◌∙◌}
+use Rattle.rv_text.proofs.Fronts.{ended_at}
+use Rattle.rv_text.proofs.front.after_number.Goals as goal
+
+pub returns-then-ends : goal.returns-then-ends
+returns-then-ends g c = ended_at _ c.args.cursor.now _ _ _ (sym c.ends.ensures ∙ c.if-ends.true) refl

@@ -1,0 +1,11 @@
+-- The symbol is the expression.
+use Rattle.std.proofs.Common.{Ok, refl, sym, ◌∙◌, ap, List}
+use Rattle.rv_text_laws.specs.Expression.{Node}
+use Rattle.rv_lexer.specs.Cursor.{left}
+use Rattle.rv_text.proofs.Fronts.{ended_at}
+use Rattle.rv_text.proofs.front.after_symbol.Goals as goal
+
+pub returns-then-ends : goal.returns-then-ends
+returns-then-ends g c =
+    ended_at _ c.args.cursor.now _ _ _ (sym c.ends.ensures ∙ c.if-ends.true) refl
+    ∙ ap (λ (ns : List Node). Ok (ns, left c.args.cursor.now)) (sym c.of_symbol.ensures)

@@ -1,0 +1,169 @@
+//! An expression by its first tokens: most have no operator, or one that a number follows.
+
+ghost use Rattle.std.specs.Prelude.{◌≡◌, [], ◌∷◌, IfOk};
+ghost use Rattle.rv_text_laws.specs.Expression.{Primary_node, Literal, follows};
+ghost use Rattle.rv_text_laws.specs.ExpressionAt as reading;
+ghost use Rattle.rv_text_laws.specs.declared.operator.UnaryOperator.TheVariants.{Negate};
+ghost use Rattle.rv_text_laws.specs.declared.operator.Frame.TheVariants.{Prefix, Infix};
+ghost use Rattle.rv_lexer.specs.Cursor.{left, Answers};
+ghost use Rattle.rv_lexer.specs.Token.{kind_of};
+ghost use Rattle.rv_text.specs.Nodes.{symbol_of, node_of, nodes_of};
+ghost use Rattle.rv_text.specs.Expr.{stack_of, ends_operand, Reached, expr_of};
+
+use crate::expr::Expr;
+use crate::node::{Node, Nodes, Symbol};
+use crate::pair::Pair;
+use crate::reading::{Follow, Registers, Stage, follows, read_on};
+use rv_lexer::{Cursor, ReadError, TokenKind};
+use rv_text_laws::{BinaryOperator, Frame, UnaryOperator};
+use std::alloc::{AllocError, Global};
+
+/// An operator that waits for its operand.
+#[tactic(auto, using(crate::proofs::Exprs::stack_push, crate::proofs::Exprs::stack_none))]
+fn waiting(alloc: Global, frame: Frame) -> Result<Vec<Frame>, AllocError>
+    ensures { IfOk result (λ frames. stack_of frames.items ≡ frame ∷ []) }
+{
+    let mut frames = Vec::new(alloc);
+    frames.push(frame)?;
+    Ok(frames)
+}
+
+/// One node.
+fn one<'a>(alloc: Global, node: Node<'a>) -> Nodes<'a>
+    ensures { nodes_of result ≡ node_of node.entry ∷ [] }
+{
+    Nodes {
+        first: node,
+        rest: Vec::new(alloc),
+    }
+}
+
+/// Whether no expression goes on with a token, where no parenthesis is open.
+#[inline(always)]
+fn ends(kind: TokenKind<'_>) -> bool
+    ensures { result ≡ ends_operand (follows (kind_of kind.entry)) }
+{
+    matches!(follows(kind), Follow::Nothing | Follow::Closing)
+}
+
+/// The expression that begins with a number.
+#[inline(always)]
+#[tactic(auto, using(crate::proofs::Exprs::stack_none))]
+pub(crate) fn after_number<'a, R: Registers>(
+    alloc: Global,
+    cursor: &mut Cursor<'a>,
+    number: u64,
+) -> Result<Expr<'a>, ReadError>
+    requires { Reached R.registers (reading.Has [] (Primary_node (Literal number) ∷ [])) (left cursor.old) }
+    ensures { Answers (λ e. (expr_of e, left cursor.new)) result (reading.read_from R.registers (reading.Has [] (Primary_node (Literal number) ∷ [])) (left cursor.old)) }
+{
+    if ends(cursor.next.kind) {
+        return Ok(Expr::Number(number));
+    }
+    let nodes = one(alloc, Node::Number(number));
+    read_on::<R>(alloc, cursor, Vec::new(alloc), Stage::Has(nodes))
+}
+
+/// The expression that begins with `-` and a number.
+#[inline(always)]
+fn after_negative<'a, R: Registers>(
+    alloc: Global,
+    cursor: &mut Cursor<'a>,
+    number: u64,
+) -> Result<Expr<'a>, ReadError>
+    requires { Reached R.registers (reading.Has (Prefix Negate ∷ []) (Primary_node (Literal number) ∷ [])) (left cursor.old) }
+    ensures { Answers (λ e. (expr_of e, left cursor.new)) result (reading.read_from R.registers (reading.Has (Prefix Negate ∷ []) (Primary_node (Literal number) ∷ [])) (left cursor.old)) }
+{
+    if ends(cursor.next.kind) {
+        return Ok(Expr::Negative(number));
+    }
+    let frames = waiting(alloc, Frame::Prefix(UnaryOperator::Negate))?;
+    let nodes = one(alloc, Node::Number(number));
+    read_on::<R>(alloc, cursor, frames, Stage::Has(nodes))
+}
+
+/// The expression that begins with `-`.
+pub(crate) fn after_minus<'a, R: Registers>(
+    alloc: Global,
+    cursor: &mut Cursor<'a>,
+) -> Result<Expr<'a>, ReadError>
+    requires { Reached R.registers (reading.Wants (Prefix Negate ∷ []) []) (left cursor.old) }
+    ensures { Answers (λ e. (expr_of e, left cursor.new)) result (reading.read_from R.registers (reading.Wants (Prefix Negate ∷ []) []) (left cursor.old)) }
+{
+    if let TokenKind::Number(_, number) = cursor.next.kind {
+        cursor.advance();
+        return after_negative::<R>(alloc, cursor, number);
+    }
+    let frames = waiting(alloc, Frame::Prefix(UnaryOperator::Negate))?;
+    read_on::<R>(alloc, cursor, frames, Stage::Wants(None))
+}
+
+/// The expression that begins with a symbol, an operator and a number.
+#[inline(always)]
+fn after_pair<'a, R: Registers>(
+    alloc: Global,
+    cursor: &mut Cursor<'a>,
+    pair: Pair<'a>,
+) -> Result<Expr<'a>, ReadError>
+    requires { Reached R.registers (reading.Has (Infix pair.operator ∷ []) (Primary_node (symbol_of pair.symbol) ∷ Primary_node (Literal pair.number) ∷ [])) (left cursor.old) }
+    ensures { Answers (λ e. (expr_of e, left cursor.new)) result (reading.read_from R.registers (reading.Has (Infix pair.entry.operator ∷ []) (Primary_node (symbol_of pair.entry.symbol) ∷ Primary_node (Literal pair.entry.number) ∷ [])) (left cursor.old)) }
+{
+    if ends(cursor.next.kind) {
+        let pair = Box::new(alloc, pair)?;
+        return Ok(Expr::Pair(pair));
+    }
+    let frames = waiting(alloc, Frame::Infix(pair.operator))?;
+    let mut nodes = one(alloc, Node::Symbol(pair.symbol));
+    nodes.push(Node::Number(pair.number))?;
+    read_on::<R>(alloc, cursor, frames, Stage::Has(nodes))
+}
+
+/// The expression that begins with a symbol and an operator.
+fn after_operator<'a, R: Registers>(
+    alloc: Global,
+    cursor: &mut Cursor<'a>,
+    symbol: Symbol<'a>,
+    operator: BinaryOperator,
+) -> Result<Expr<'a>, ReadError>
+    requires { Reached R.registers (reading.Wants (Infix operator ∷ []) (Primary_node (symbol_of symbol) ∷ [])) (left cursor.old) }
+    ensures { Answers (λ e. (expr_of e, left cursor.new)) result (reading.read_from R.registers (reading.Wants (Infix operator ∷ []) (Primary_node (symbol_of symbol.entry) ∷ [])) (left cursor.old)) }
+{
+    if let TokenKind::Number(_, number) = cursor.next.kind {
+        cursor.advance();
+        let pair = Pair {
+            symbol,
+            operator,
+            number,
+        };
+        return after_pair::<R>(alloc, cursor, pair);
+    }
+    let frames = waiting(alloc, Frame::Infix(operator))?;
+    let nodes = one(alloc, Node::Symbol(symbol));
+    read_on::<R>(alloc, cursor, frames, Stage::Wants(Some(nodes)))
+}
+
+/// The expression that begins with a symbol.
+#[inline(always)]
+#[tactic(auto, using(crate::proofs::Exprs::stack_none))]
+pub(crate) fn after_symbol<'a, R: Registers>(
+    alloc: Global,
+    cursor: &mut Cursor<'a>,
+    symbol: Symbol<'a>,
+) -> Result<Expr<'a>, ReadError>
+    requires { Reached R.registers (reading.Has [] (Primary_node (symbol_of symbol) ∷ [])) (left cursor.old) }
+    ensures { Answers (λ e. (expr_of e, left cursor.new)) result (reading.read_from R.registers (reading.Has [] (Primary_node (symbol_of symbol.entry) ∷ [])) (left cursor.old)) }
+{
+    if ends(cursor.next.kind) {
+        return Ok(Expr::of_symbol(symbol));
+    }
+    match follows(cursor.next.kind) {
+        Follow::Operator(operator) => {
+            cursor.advance();
+            after_operator::<R>(alloc, cursor, symbol, operator)
+        }
+        _ => {
+            let nodes = one(alloc, Node::Symbol(symbol));
+            read_on::<R>(alloc, cursor, Vec::new(alloc), Stage::Has(nodes))
+        }
+    }
+}

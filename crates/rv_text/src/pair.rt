@@ -1,0 +1,12 @@
+//! The most frequent expressions with an operator.
+
+use crate::node::Symbol;
+use rv_text_laws::BinaryOperator;
+
+/// A symbol, an operator and a number, as `name + 4`.
+#[derive(Clone, Copy, Debug, Drop)]
+pub struct Pair<'a> {
+    pub(crate) symbol: Symbol<'a>,
+    pub(crate) operator: BinaryOperator,
+    pub(crate) number: u64,
+}
