@@ -10,7 +10,6 @@ use Rattle.std.specs.Str.{bytes_eq}
 use Rattle.rv_text_laws.specs.Expression.{Literal, Symbol, Here, Reference}
 use Rattle.rv_text_laws.specs.Values.{Known, InSection, Open, Refused, Value, Constant, Symbolic, Difference, Faulty, add}
 use Rattle.rv_statement.specs.declared.directive.Choice.{Choice}
-use Rattle.rv_statement.specs.declared.directive.Choice.TheVariants.{Push, Pop}
 use Rattle.rv_statement.specs.Statement.{StatementKind, Expression, Label, Numbered, Instruction, Directs, Statement, Directive, Enters, Opens, Sets, Chooses}
 use Rattle.rv_unit_laws.specs.Contributions.{Contribution, Nothing, contribution}
 use Rattle.rv_unit_laws.specs.Sections.{Section, entered, current_section}
@@ -118,9 +117,7 @@ module _ (t : Tables) (k : ℕ) where
   contribution_grows v _ = same_grows k t _ refl refl
 
   choice_grows : (choice : Choice) → Grows k t (with_choice t choice)
-  choice_grows Push = same_grows k t _ refl refl
-  choice_grows Pop = same_grows k t _ refl refl
-  choice_grows _ = stays
+  choice_grows choice = same_grows k t _ refl refl
 
   section_grows : (section : Section) → Grows k t (with_section t (Some section))
   section_grows section =

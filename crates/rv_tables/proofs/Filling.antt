@@ -4,7 +4,8 @@ use Rattle.std.proofs.Common.{◌≡◌, ℕ, suc, ◌+◌, ◌<◌, List, [], �
 use Rattle.std.specs.List.{drop-map}
 use Rattle.std.proofs.Math.Seq.{drop-cons}
 use Rattle.rv_statement.specs.Statement.{Statement}
-use Rattle.rv_unit_laws.specs.Tables.{Tables, SectionOffset, at_start, after, after_all, tables, stood, places, places_from}
+use Rattle.rv_unit_laws.specs.Options.{Options}
+use Rattle.rv_unit_laws.specs.Tables.{Tables, SectionOffset, at_start, after, after_all, tables, stood, places, places_from, options_from, all_options}
 use Rattle.rv_unit_laws.proofs.Before.{IsBefore, before_after, before_start}
 
 -- `done` statements are done, and with what the rest changes the tables and the offsets are those of all
@@ -36,6 +37,18 @@ fills_tables t done rest all so_far f is = sym (ap (after_all t (done + 1)) is) 
 
 pub fills_places : (t : Tables) (done : ℕ) (rest all : List Statement) (so_far : List SectionOffset) → FillsTo t done rest all so_far → rest ≡ [] → so_far ≡ places all
 fills_places t done rest all so_far f is = sym (append-nil so_far) ∙ sym (ap (λ r. so_far ++ places_from t (done + 1) r) is) ∙ f.stand
+
+-- the options so far and those of the rest
+pub options_more : (t u : Tables) (done : ℕ) (s : Statement) (rest more all : List Statement) (so_far new : List Options) → so_far ++ options_from t (done + 1) rest ≡ all_options all → rest ≡ s ∷ more → u ≡ after t (done + 1) s.kind
+    → new ≡ so_far ++ t.options ∷ [] → new ++ options_from u (done + 1 + 1) more ≡ all_options all
+options_more t u done s rest more all so_far new whole is changed added =
+    ap (λ l. l ++ options_from u (done + 1 + 1) more) added ∙ append_assoc so_far (t.options ∷ []) (options_from u (done + 1 + 1) more)
+    ∙ ap (λ v. so_far ++ t.options ∷ options_from v (done + 1 + 1) more) changed
+    ∙ ap (λ n. so_far ++ t.options ∷ options_from (after t (done + 1) s.kind) n more) (let e : done + 1 + 1 ≡ suc (done + 1) = omega arith in e)
+    ∙ sym (ap (λ l. so_far ++ options_from t (done + 1) l) is) ∙ whole
+
+pub options_whole : (t : Tables) (done : ℕ) (rest all : List Statement) (so_far : List Options) → so_far ++ options_from t (done + 1) rest ≡ all_options all → rest ≡ [] → so_far ≡ all_options all
+options_whole t done rest all so_far whole is = sym (append-nil so_far) ∙ sym (ap (λ r. so_far ++ options_from t (done + 1) r) is) ∙ whole
 
 -- the next of a list that was mapped
 pub drop_next : {A B : Type 0} (f : A → B) (d : A) (xs : List A) (i : ℕ) → i < length xs → drop i (map f xs) ≡ f (get_or xs i d) ∷ drop (i + 1) (map f xs)

@@ -1,3 +1,4 @@
 pub mod Sections
+pub mod Options
 pub mod Tables
 pub mod Mixed

@@ -16,6 +16,7 @@ use Rattle.rv_tables.specs.declared.number.Number.{Number}
 use Rattle.rv_tables.specs.declared.tables.NumericLabel.{NumericLabel}
 use Rattle.rv_tables.specs.declared.tables.Tables.{Tables}
 use Rattle.rv_tables.specs.declared.section.Extent.{Extent}
+use Rattle.rv_tables.specs.Options.{options_of}
 use Rattle.rv_tables.specs.Sections.{offset_of, extent_section}
 
 abbrev pub labelled_of : Bor (List ℕ) × Label → laws.Labelled
@@ -33,7 +34,7 @@ assignment_of s = record { name = s.name.now; ordinal = s.ordinal; meaning = mea
 abbrev pub opened_by : List Extent → ℕ → sections.Opened
 opened_by extents current = record { sections = map extent_section extents; current = current }
 
--- the tables, of which the code has assignments and numeric labels with the latest last
+-- the tables, of which the code has assignments, numeric labels and kept options with the latest last
 abbrev pub tables_of : Tables → laws.Tables
 tables_of b = record {
   opened = opened_by b.extents.items b.current;
@@ -42,7 +43,8 @@ tables_of b = record {
   labels = map labelled_of b.labels.entries;
   numeric_labels = reverse (map numeric_label_of b.numeric_labels.items);
   assignments = reverse (map assignment_of b.assignments.items);
-  option_depth = b.option_depth;
+  options = options_of b.options;
+  kept = reverse (map options_of b.kept.items);
 }
 
 -- the numeric labels of a number

@@ -12,12 +12,14 @@ ghost use Rattle.rv_statement.specs.View.{statement_kind, opening_of, statement_
 ghost use Rattle.rv_unit_laws.specs.Sections.{entered_by};
 ghost use Rattle.rv_unit_laws.specs.Tables as laws;
 ghost use Rattle.rv_unit_laws.proofs.Before.{IsBefore};
+ghost use Rattle.rv_tables.specs.Options.{options_of};
 ghost use Rattle.rv_tables.specs.Sections.{offset_of};
 ghost use Rattle.rv_tables.specs.Tables.{tables_of, assignment_of, IsIndexed};
 
 use crate::align::{
     byte_alignment, counted, fitting, fitting_padding, power_alignment, strings_size, values_size,
 };
+use crate::options::Options;
 use crate::section::Section;
 use crate::section_offset::SectionOffset;
 use crate::tables::{Assignment, Tables};
@@ -98,6 +100,13 @@ pub fn assigned<'a>(
         Ok(value) => assigned_value(here, ordinal, name, value),
         Err(_) => None,
     }
+}
+
+/// Where each statement stands, and in which options.
+#[derive(Drop)]
+pub struct Filled {
+    pub places: Vec<SectionOffset>,
+    pub options: Vec<Options>,
 }
 
 impl<'a> Tables<'a> {
@@ -196,23 +205,26 @@ impl<'a> Tables<'a> {
         Ok(before)
     }
 
-    /// What all statements change from the start on, and where each stands.
+    /// What all statements change from the start on, and where each stands, in which options.
     pub fn fill(
         &mut self,
         alloc: Global,
         statements: &[Statement<'a>],
-    ) -> Result<Vec<SectionOffset>, AllocError>
+    ) -> Result<Filled, AllocError>
         ensures tables { OnOk result (tables_of self.old ≡ laws.at_start → IsIndexed self.old → tables_of self.new ≡ laws.tables (map statement_of statements.now)) }
         ensures indexed { OnOk result (tables_of self.old ≡ laws.at_start → IsIndexed self.old → IsIndexed self.new) }
-        ensures places { IfOk result (λ places. tables_of self.old ≡ laws.at_start → IsIndexed self.old → map offset_of places.items ≡ laws.places (map statement_of statements.now)) }
+        ensures places { IfOk result (λ filled. tables_of self.old ≡ laws.at_start → IsIndexed self.old → map offset_of filled.places.items ≡ laws.places (map statement_of statements.now)) }
+        ensures options { IfOk result (λ filled. tables_of self.old ≡ laws.at_start → IsIndexed self.old → map options_of filled.options.items ≡ laws.all_options (map statement_of statements.now)) }
     {
         let mut places = Vec::new(alloc);
+        let mut options = Vec::new(alloc);
         let mut ordinal: usize = 0;
         for statement in statements {
             ordinal += 1;
+            options.push(self.options)?;
             let place = self.stand(ordinal, &statement.kind)?;
             places.push(place)?;
         }
-        Ok(places)
+        Ok(Filled { places, options })
     }
 }

@@ -1,17 +1,18 @@
 //! What the statements of one source define: its sections with the bytes of their data, and its names.
 //!
 //! It takes the statements of a source one after the other (`Tables::fill`), and gives the tables that they fill and the
-//! offset of each statement. The main contract is that of `Tables::fill`, clause `tables`: the tables are those that
-//! `rv_unit_laws` defines (`specs/Tables`), and clause `offsets`: each statement stands where that says. What a name means
+//! offset and the options of each statement. The main contract is that of `Tables::fill`, clause `tables`: the tables are those that
+//! `rv_unit_laws` defines (`specs/Tables`), and clauses `places` and
+//! `options`: each statement stands where that says, in the options that it says. What a name means
 //! in a statement, and whether a statement is faulty, is `rv_unit`'s, which stands above.
 //!
 //! It knows no text, no instruction, no address and no other source.
 //!
 //! ```text
 //! let mut tables = Tables::new(alloc)?;
-//! let offsets = tables.fill(alloc, &statements)?;
+//! let filled = tables.fill(alloc, &statements)?;
 //! let label = tables.label(b"loop");
-//! let bytes = tables.extents[offsets[0].section as usize].bytes;
+//! let bytes = tables.extents[filled.places[0].section as usize].bytes;
 //! ```
 //!
 //! Source: GNU as, "Sections", "Symbols", "Expressions" and "Pseudo Ops".
@@ -22,6 +23,7 @@ mod assignments;
 mod fill;
 mod number;
 mod numeric_labels;
+mod options;
 mod ordinal;
 mod section;
 mod section_offset;
@@ -31,7 +33,8 @@ pub use align::{
     GREATEST_ALIGNMENT, LONGEST_SECTION, byte_alignment, is_power_below, padding, power_alignment,
     strings_size, values_size, width_in_bytes,
 };
-pub use fill::assigned;
+pub use fill::{Filled, assigned};
+pub use options::Options;
 pub use section::{Extent, Section};
 pub use section_offset::{Definition, SectionOffset};
 pub use tables::{Assignment, Label, NumericLabel, Tables};

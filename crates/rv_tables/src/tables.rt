@@ -7,6 +7,7 @@ ghost use Rattle.rv_text_laws.specs.Values.{Open};
 ghost use Rattle.rv_text.specs.Nodes.{symbol_of};
 ghost use Rattle.rv_text.specs.Expr.{tree_of_expr};
 ghost use Rattle.rv_text.specs.Eval.{meaning_of, IsOutcome};
+ghost use Rattle.rv_statement.specs.declared.directive.Choice.TheVariants.{Pop};
 ghost use Rattle.rv_statement.specs.View.{statement_kind};
 ghost use Rattle.rv_unit_laws.specs.Sections as sections;
 ghost use Rattle.rv_unit_laws.specs.Tables as laws;
@@ -17,6 +18,7 @@ ghost use Rattle.rv_tables.specs.Tables.{tables_of, label_at, numeric_label_of, 
 use crate::assignments::add_assigned;
 use crate::number::Number;
 use crate::numeric_labels::{add_numbered, first_after};
+use crate::options::Options;
 use crate::ordinal::{HasOrdinal, last_before};
 use crate::section::{Extent, Section};
 use crate::section_offset::SectionOffset;
@@ -96,8 +98,9 @@ pub struct Tables<'a> {
     /// The assignments in their order, and those of each name.
     pub assignments: Vec<Assignment<'a>>,
     pub(crate) by_name: IndexMap<&'a [u8], Vec<Assignment<'a>>>,
-    /// The depth of the option stack: pushes without their pop.
-    pub(crate) option_depth: usize,
+    /// The options that are set, and those that were kept, in their order.
+    pub(crate) options: Options,
+    pub(crate) kept: Vec<Options>,
 }
 
 impl<'a> Tables<'a> {
@@ -124,7 +127,8 @@ impl<'a> Tables<'a> {
             numbered: IndexMap::new(alloc),
             assignments: Vec::new(alloc),
             by_name: IndexMap::new(alloc),
-            option_depth: 0,
+            options: Options::Both,
+            kept: Vec::new(alloc),
         })
     }
 
@@ -431,19 +435,30 @@ impl<'a> Tables<'a> {
         self.extend(size, None)
     }
 
-    /// Keeps options, or takes them back.
+    /// Sets an option, keeps the options, or takes them back.
     pub(crate) fn choose(&mut self, choice: Choice) -> Result<(), AllocError>
         ensures tables { OnOk result (tables_of self.new ≡ laws.with_choice (tables_of self.old) choice) }
         ensures indexed { OnOk result (IsIndexed self.old → IsIndexed self.new) }
     {
         match choice {
-            Choice::Push => match self.option_depth.checked_add(1) {
-                Some(kept) => self.option_depth = kept,
-                None => return Err(AllocError),
-            },
-            Choice::Pop => self.option_depth = self.option_depth.saturating_sub(1),
-            _ => (),
+            Choice::Rvc => self.options = Options::new(true, self.options.relax()),
+            Choice::Norvc => self.options = Options::new(false, self.options.relax()),
+            Choice::Relax => self.options = Options::new(self.options.rvc(), true),
+            Choice::Norelax => self.options = Options::new(self.options.rvc(), false),
+            Choice::Push => self.kept.push(self.options)?,
+            Choice::Pop => self.take_back(),
+            Choice::Nopic => (),
         }
         Ok(())
+    }
+
+    /// The options that were kept last are set again, if there are any.
+    fn take_back(&mut self)
+        ensures tables { tables_of self.new ≡ laws.with_choice (tables_of self.old) Pop }
+        ensures indexed { IsIndexed self.old → IsIndexed self.new }
+    {
+        if let Some(options) = self.kept.pop() {
+            self.options = options;
+        }
     }
 }

@@ -9,8 +9,10 @@ use Rattle.rv_statement.specs.View.{statement_of}
 use Rattle.rv_unit_laws.specs.Sections.{Section, place_of_name, most_sections, entered, section_at, current_section}
 use Rattle.rv_unit_laws.specs.Tables as laws
 use Rattle.rv_unit_laws.proofs.Before.{placed_latest}
-use Rattle.rv_unit_laws.proofs.Asked.{defined_kept, location_kept, home_same, too_many, places_length, place_at, after_depth, depth_after}
+use Rattle.rv_unit_laws.proofs.Asked.{defined_kept, location_kept, home_same, too_many, places_length, place_at, options_at, options_length, after_depth, depth_after}
 use Rattle.rv_tables.specs.declared.section_offset.SectionOffset.{SectionOffset}
+use Rattle.rv_tables.specs.declared.options.Options.{Options}
+use Rattle.rv_tables.specs.Options.{options_of}
 use Rattle.rv_tables.specs.Sections.{offset_of}
 use Rattle.rv_tables.specs.Tables.{tables_of}
 use Rattle.rv_unit.specs.declared.unit.Unit.{Unit as SourceUnit}
@@ -97,7 +99,20 @@ is_at u i x p d f inside is at = record {
     here = said_at u.statements.items i i x below refl is
 
 -- the depth of the option stack before the next statement
-pub depth_next : (u : SourceUnit) (i o : ℕ) (p : SectionOffset) (kind : StatementKind) (depth next : ℕ) → IsAt u i o p kind → depth ≡ (passed (said u) i).option_depth → next ≡ depth_after depth kind
-    → next ≡ (passed (said u) (i + 1)).option_depth
+pub depth_next : (u : SourceUnit) (i o : ℕ) (p : SectionOffset) (kind : StatementKind) (depth next : ℕ) → IsAt u i o p kind → depth ≡ length (passed (said u) i).kept → next ≡ depth_after depth kind
+    → next ≡ length (passed (said u) (i + 1)).kept
 depth_next u i o p kind depth next at is more =
-    more ∙ ap (λ n. depth_after n kind) is ∙ sym (ap (λ (t : laws.Tables). t.option_depth) at.more ∙ after_depth (passed (said u) i) (i + 1) kind)
+    more ∙ ap (λ n. depth_after n kind) is ∙ sym (ap (λ (t : laws.Tables). length t.kept) at.more ∙ after_depth (passed (said u) i) (i + 1) kind)
+
+-- each statement has options
+pub options_count : (u : SourceUnit) → IsFilled u → length u.options.items ≡ length (said u)
+options_count u f = sym (length-map u.options.items options_of) ∙ ap length f.options ∙ options_length laws.at_start 1 (said u)
+
+-- the options in which it stands
+pub options_found : (u : SourceUnit) (i : ℕ) (o d : Options) → IsFilled u → i < length (said u) → o ≡ get_or u.options.items i d → options_of o ≡ (passed (said u) i).options
+options_found u i o d f inside at =
+    ap options_of at ∙ sym (get_or-map options_of u.options.items i d (options_of d) seated) ∙ ap (λ l. get_or l i (options_of d)) f.options
+    ∙ options_at laws.at_start 1 (said u) i (options_of d) inside
+  where
+    seated : i < length u.options.items
+    seated = subst (λ n. i < n) (sym (options_count u f)) inside

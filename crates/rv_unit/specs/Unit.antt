@@ -13,6 +13,7 @@ use Rattle.rv_tables.specs.declared.section_offset.Definition.{Definition}
 use Rattle.rv_tables.specs.declared.section_offset.SectionOffset.{SectionOffset}
 use Rattle.rv_unit.specs.declared.unit.Unit.{Unit as SourceUnit}
 use Rattle.rv_unit.specs.declared.scope.Scope.{Scope}
+use Rattle.rv_tables.specs.Options.{options_of}
 use Rattle.rv_tables.specs.Sections.{offset_of}
 use Rattle.rv_tables.specs.Tables.{tables_of, IsIndexed}
 
@@ -23,9 +24,10 @@ definition_of h = record { ordinal = h.ordinal; plus = h.plus }
 abbrev pub said : SourceUnit → List Statement
 said u = map statement_of u.statements.items
 
--- a unit with the offsets of its statements and their tables
+-- a unit with the offsets and the options of its statements and their tables
 pub record IsFilled (u : SourceUnit) : Type 0 where
   pub stand : map offset_of u.places.items ≡ laws.places (said u)
+  pub options : map options_of u.options.items ≡ laws.all_options (said u)
   pub tables : tables_of u.tables ≡ laws.tables (said u)
   pub indexed : IsIndexed u.tables
 

@@ -208,7 +208,7 @@ impl<'a> Unit<'a> {
         depth: usize,
         kind: &StatementKind<'a>,
     ) -> Option<SourceCode>
-        ensures { (index : ℕ) → IsAt self.now index ordinal place (statement_kind kind.now) → depth ≡ (passed (said self.now) index).option_depth
+        ensures { (index : ℕ) → IsAt self.now index ordinal place (statement_kind kind.now) → depth ≡ length (passed (said self.now) index).kept
             → IsLowest result (faults.faults (laws.tables (said self.now)) (passed (said self.now) index) (index + 1) (statement_kind kind.now)) }
     {
         match kind {

@@ -25,8 +25,8 @@ mod scope;
 mod unit;
 
 pub use rv_tables::{
-    Assignment, Definition, Extent, LONGEST_SECTION, Section, SectionOffset, byte_alignment,
-    padding, power_alignment, strings_size, values_size,
+    Assignment, Definition, Extent, LONGEST_SECTION, Options, Section, SectionOffset,
+    byte_alignment, padding, power_alignment, strings_size, values_size,
 };
 pub use scope::Scope;
 pub use unit::Unit;

@@ -1,22 +1,24 @@
 //! A source's statements with what they define.
 
-ghost use Rattle.std.specs.Prelude.{◌≡◌, None, map, option_map, IfOk, IfErr};
+ghost use Rattle.std.specs.Prelude.{◌≡◌, ◌<◌, None, length, map, option_map, IfOk, IfErr};
 ghost use Rattle.rv_statement.specs.View.{statement_of};
 ghost use Rattle.rv_unit_laws.specs.Faults.{first_fault};
 ghost use Rattle.rv_unit_laws.specs.Tables.{assigned_ever};
+ghost use Rattle.rv_tables.specs.Options.{options_of};
 ghost use Rattle.rv_tables.specs.Tables.{tables_of, assignment_of};
-ghost use Rattle.rv_unit.specs.Unit.{said, IsFilled, NamesFirst};
+ghost use Rattle.rv_unit.specs.Unit.{said, passed, IsFilled, NamesFirst};
 
 use rv_statement::Statement;
-use rv_tables::{Assignment, Extent, SectionOffset, Tables};
+use rv_tables::{Assignment, Extent, Options, SectionOffset, Tables};
 use rv_text::SourceFault;
 use std::alloc::{AllocError, Global};
 
-/// A source's statements, where they stand, its sections and its names.
+/// A source's statements, where and in which options they stand, its sections and its names.
 #[derive(Drop)]
 pub struct Unit<'a> {
     pub(crate) statements: Vec<Statement<'a>>,
     pub(crate) places: Vec<SectionOffset>,
+    pub(crate) options: Vec<Options>,
     pub(crate) tables: Tables<'a>,
 }
 
@@ -42,10 +44,11 @@ impl<'a> Unit<'a> {
         ensures same { IfOk result (λ u. u.statements ≡ statements.entry) }
     {
         let mut tables = Tables::new(alloc)?;
-        let places = tables.fill(alloc, &statements)?;
+        let filled = tables.fill(alloc, &statements)?;
         Ok(Unit {
             statements,
-            places,
+            places: filled.places,
+            options: filled.options,
             tables,
         })
     }
@@ -64,12 +67,23 @@ impl<'a> Unit<'a> {
         self.places.as_slice()
     }
 
+    /// The options in which the statement at this index, from 0, stands.
+    pub fn options_at(&self, index: usize) -> Options
+        ensures { IsFilled self.now → index < length (said self.now) → options_of result ≡ (passed (said self.now) index).options }
+    {
+        match self.options.get(index) {
+            Some(options) => *options,
+            None => Options::Both,
+        }
+    }
+
     /// The sections, in the order in which they are opened first.
     pub fn sections(&self) -> &[Extent<'a>]
         ensures { result.now ≡ (self.now).tables.extents.items }
     {
         self.tables.extents.as_slice()
     }
+
     /// What the `.set`s give, in their order.
     pub fn assignments(&self) -> &[Assignment<'a>]
         ensures { result.now ≡ (self.now).tables.assignments.items }

@@ -1,15 +1,16 @@
 -- What the tables before a statement answer, asked of the tables of the whole source.
 
-use Rattle.std.proofs.Common.{◌≡◌, ℕ, zero, suc, ◌+◌, ◌-◌, ◌<◌, Bool, true, false, ◌&&◌, ◌||◌, ◌==◌, nat_lt, List, [], ◌∷◌, ◌++◌, length, take, get_or, refl, sym, ap, ◌∙◌, arith, Option, Some, None}
+use Rattle.std.proofs.Common.{◌≡◌, ℕ, zero, suc, ◌+◌, ◌-◌, ◌<◌, Bool, true, false, ◌&&◌, ◌||◌, ◌==◌, nat_lt, List, [], ◌∷◌, ◌++◌, length, take, drop, get_or, refl, sym, ap, ◌∙◌, arith, Option, Some, None}
 use Rattle.std.specs.Prelude.{not, is_some, if◌then◌else◌}
 use Rattle.std.specs.Str.{bytes_eq}
 use Rattle.rv_text_laws.specs.Values.{Value}
 use Rattle.rv_statement.specs.Statement.{StatementKind, Label, Numbered, Instruction, Directs, Statement, Expression, Directive}
 use Rattle.rv_statement.specs.declared.directive.Choice.{Choice}
-use Rattle.rv_statement.specs.declared.directive.Choice.TheVariants.{Push, Pop}
+use Rattle.rv_statement.specs.declared.directive.Choice.TheVariants.{Rvc, Norvc, Relax, Norelax, Push, Pop, Nopic}
 use Rattle.rv_unit_laws.specs.Sections.{Section, Opened, place_of_name, most_sections, text_section, entered_at, entered, entered_by, section_at, current_section}
+use Rattle.rv_unit_laws.specs.Options.{Options, options_then, kept_then}
 use Rattle.rv_unit_laws.specs.Contributions.{Contribution, Nothing, contribution}
-use Rattle.rv_unit_laws.specs.Tables.{Tables, SectionOffset, Assignment, here, stood, places_from, value, assigned_by, chosen, label_of, assigned_before, is_defined, has_location, may_set, with_assignment, with_section, with_contribution, with_choice, with_chosen, after_directive, after, after_all}
+use Rattle.rv_unit_laws.specs.Tables.{Tables, SectionOffset, Assignment, here, stood, places_from, options_from, value, assigned_by, chosen, label_of, assigned_before, is_defined, has_location, may_set, with_assignment, with_section, with_contribution, with_choice, with_chosen, after_directive, after, after_all}
 use Rattle.rv_unit_laws.proofs.Before.{IsBefore, label_before, set_now, has_place_now, placed_latest}
 use Rattle.rv_unit_laws.proofs.Entering.{place_more, or_last}
 use Rattle.rv_unit_laws.proofs.Found.{bytes_same}
@@ -132,7 +133,17 @@ place_at t k (s ∷ ss) (suc i) d x inside =
 
 -- ---- options
 
--- the depth of the option stack after a choice
+-- the options in which the statement at an index stands
+pub options_at : (t : Tables) (k : ℕ) (ss : List Statement) (i : ℕ) (d : Options) → i < length ss → get_or (options_from t k ss) i d ≡ (after_all t k (take i ss)).options
+options_at t k [] i d inside = absurd (omega arith)
+options_at t k (s ∷ ss) zero d inside = refl
+options_at t k (s ∷ ss) (suc i) d inside = options_at (after t k s.kind) (suc k) ss i d (omega arith)
+
+pub options_length : (t : Tables) (k : ℕ) (ss : List Statement) → length (options_from t k ss) ≡ length ss
+options_length t k [] = refl
+options_length t k (s ∷ ss) = ap suc (options_length (after t k s.kind) (suc k) ss)
+
+-- how many options are kept after a choice: pushes without their pop
 abbrev pub depth_chosen : ℕ → Choice → ℕ
 depth_chosen depth Push = suc depth
 depth_chosen depth Pop = depth - 1
@@ -147,42 +158,50 @@ abbrev pub depth_after : ℕ → StatementKind → ℕ
 depth_after depth (Directs directive) = depth_by depth (chosen directive)
 depth_after depth _ = depth
 
-if_depth : (b : Bool) (t u : Tables) (n : ℕ) → t.option_depth ≡ n → u.option_depth ≡ n → (if b then t else u).option_depth ≡ n
-if_depth true t u n e f = e
-if_depth false t u n e f = f
+if_kept : (b : Bool) (t u : Tables) (kept : List Options) → t.kept ≡ kept → u.kept ≡ kept → (if b then t else u).kept ≡ kept
+if_kept true t u kept e f = e
+if_kept false t u kept e f = f
 
-set_depth : (t : Tables) (found : Option Assignment) → (with_assignment t found).option_depth ≡ t.option_depth
-set_depth t None = refl
-set_depth t (Some s) = if_depth (may_set t s.ordinal s.name s.meaning) _ t t.option_depth refl refl
+set_kept : (t : Tables) (found : Option Assignment) → (with_assignment t found).kept ≡ t.kept
+set_kept t None = refl
+set_kept t (Some s) = if_kept (may_set t s.ordinal s.name s.meaning) _ t t.kept refl refl
 
-section_depth : (t : Tables) (found : Option Section) → (with_section t found).option_depth ≡ t.option_depth
-section_depth t None = refl
-section_depth t (Some section) = if_depth (length (entered t.opened section).sections == length t.opened.sections) _ _ t.option_depth refl refl
+section_kept : (t : Tables) (found : Option Section) → (with_section t found).kept ≡ t.kept
+section_kept t None = refl
+section_kept t (Some section) = if_kept (length (entered t.opened section).sections == length t.opened.sections) _ _ t.kept refl refl
 
-choice_depth : (t : Tables) (choice : Choice) → (with_choice t choice).option_depth ≡ depth_chosen t.option_depth choice
+dropped : (kept : List Options) → length (drop 1 kept) ≡ length kept - 1
+dropped [] = refl
+dropped (o ∷ kept) = omega arith
+
+choice_depth : (t : Tables) (choice : Choice) → length (with_choice t choice).kept ≡ depth_chosen (length t.kept) choice
 choice_depth t Push = refl
-choice_depth t Pop = refl
-choice_depth t _ = refl
+choice_depth t Pop = dropped t.kept
+choice_depth t Rvc = refl
+choice_depth t Norvc = refl
+choice_depth t Relax = refl
+choice_depth t Norelax = refl
+choice_depth t Nopic = refl
 
-chosen_depth : (t : Tables) (found : Option Choice) → (with_chosen t found).option_depth ≡ depth_by t.option_depth found
+chosen_depth : (t : Tables) (found : Option Choice) → length (with_chosen t found).kept ≡ depth_by (length t.kept) found
 chosen_depth t None = refl
 chosen_depth t (Some choice) = choice_depth t choice
 
-contribution_depth : (t : Tables) (v : Expression → Value) (c : Contribution) → (with_contribution t v c).option_depth ≡ t.option_depth
-contribution_depth t v Nothing = refl
-contribution_depth t v _ = refl
+contribution_kept : (t : Tables) (v : Expression → Value) (c : Contribution) → (with_contribution t v c).kept ≡ t.kept
+contribution_kept t v Nothing = refl
+contribution_kept t v _ = refl
 
-directive_depth : (t : Tables) (o : ℕ) (d : Directive) → (after_directive t o d).option_depth ≡ depth_by t.option_depth (chosen d)
+directive_depth : (t : Tables) (o : ℕ) (d : Directive) → length (after_directive t o d).kept ≡ depth_by (length t.kept) (chosen d)
 directive_depth t o d =
     let v : Expression → Value = value t false o (here t) in
     let entered = with_section t (entered_by d) in
     let named = with_assignment entered (assigned_by v o d) in
-    contribution_depth (with_chosen named (chosen d)) v (contribution d)
+    ap (λ l. length l) (contribution_kept (with_chosen named (chosen d)) v (contribution d))
     ∙ chosen_depth named (chosen d)
-    ∙ ap (λ n. depth_by n (chosen d)) (set_depth entered (assigned_by v o d) ∙ section_depth t (entered_by d))
+    ∙ ap (λ l. depth_by (length l) (chosen d)) (set_kept entered (assigned_by v o d) ∙ section_kept t (entered_by d))
 
-pub after_depth : (t : Tables) (o : ℕ) (s : StatementKind) → (after t o s).option_depth ≡ depth_after t.option_depth s
-after_depth t o (Label name) = if_depth (is_defined t o name) t _ t.option_depth refl refl
+pub after_depth : (t : Tables) (o : ℕ) (s : StatementKind) → length (after t o s).kept ≡ depth_after (length t.kept) s
+after_depth t o (Label name) = ap (λ l. length l) (if_kept (is_defined t o name) t _ t.kept refl refl)
 after_depth t o (Numbered number) = refl
 after_depth t o (Instruction mnemonic operands) = refl
 after_depth t o (Directs d) = directive_depth t o d

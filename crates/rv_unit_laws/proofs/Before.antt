@@ -10,7 +10,6 @@ use Rattle.rv_text_laws.specs.Values.{Meaning, Known, InSection, Open, Refused, 
 use Rattle.rv_text_laws.specs.Expression.{Literal, Symbol, Here, Reference}
 use Rattle.rv_statement.specs.Statement.{StatementKind, Label, Numbered, Instruction, Directs, Statement, Expression, Directive, Sets}
 use Rattle.rv_statement.specs.declared.directive.Choice.{Choice}
-use Rattle.rv_statement.specs.declared.directive.Choice.TheVariants.{Push, Pop}
 use Rattle.rv_unit_laws.specs.Sections.{Section, entered, entered_by}
 use Rattle.rv_unit_laws.specs.Contributions.{Contribution, Nothing, Bytes, Zero_bytes, Alignment, contribution}
 use Rattle.rv_unit_laws.specs.Tables.{Tables, Labelled, NumericLabel, Assignment, at_start, here, after, after_directive, after_all, value, assigned, assigned_by, chosen, with_label, with_numeric_label, with_assignment, with_section, with_contribution, with_choice, with_chosen, label_of, assigned_before, assigned_ever, has_location, is_defined, may_set, is_location}
@@ -280,9 +279,7 @@ before_section t (Some section) o h = by (length (entered t.opened section).sect
     by false = before_sections t (record t { opened = entered t.opened section; ends = t.ends ++ 0 ∷ []; alignments = t.alignments ++ 1 ∷ [] }) o refl refl refl h
 
 before_choice : (t : Tables) (choice : Choice) (o : ℕ) → IsBefore t o → IsBefore (with_choice t choice) o
-before_choice t Push o h = before_sections t (with_choice t Push) o refl refl refl h
-before_choice t Pop o h = before_sections t (with_choice t Pop) o refl refl refl h
-before_choice t _ o h = h
+before_choice t choice o h = before_sections t (with_choice t choice) o refl refl refl h
 
 before_chosen : (t : Tables) (found : Option Choice) (o : ℕ) → IsBefore t o → IsBefore (with_chosen t found) o
 before_chosen t None o h = h

@@ -10,7 +10,6 @@ use Rattle.std.specs.Prelude.{⊤, if◌then◌else◌, slice_index_or}
 use Rattle.rv_text_laws.specs.Values.{Value, Constant, Symbolic, Difference, Faulty}
 use Rattle.rv_statement.specs.Statement.{StatementKind, Label, Numbered, Instruction, Directs, Statement, Expression, Directive, Aligns_to_power, Aligns_to_bytes, Values, Strings, Zeros}
 use Rattle.rv_statement.specs.declared.directive.Choice.{Choice}
-use Rattle.rv_statement.specs.declared.directive.Choice.TheVariants.{Push, Pop}
 use Rattle.rv_unit_laws.specs.Sections.{Section, Opened, current_section, entered, entered_at, entered_by, place_of_name, most_sections}
 use Rattle.rv_unit_laws.specs.Contributions.{AlignmentForm, As_power, As_bytes, Contribution, Nothing, Bytes, Zero_bytes, Alignment, contribution}
 use Rattle.rv_unit_laws.specs.Tables.{Tables, Assignment, at_start, here, value, is_power, is_power_below, greatest_alignment, alignment_of, power_alignment, byte_alignment, alignment_as, contribution_alignment, or_none, data_bytes, contributed, counted_in, changed_at, is_defined, may_set, with_assignment, with_section, with_data, with_contribution, with_choice, with_chosen, with_numeric_label, assigned_by, chosen, after, after_directive, after_all}
@@ -239,9 +238,7 @@ grows_contribution t v (Alignment form number) =
     grows_data t (contributed v (here t).offset (Alignment form number)) (alignment_as form (v number)) (form_aligned form (v number))
 
 grows_choice : (t : Tables) (choice : Choice) → Grows t (with_choice t choice)
-grows_choice t Push = grows_same t (with_choice t Push) refl refl refl
-grows_choice t Pop = grows_same t (with_choice t Pop) refl refl refl
-grows_choice t _ = grows_same t t refl refl refl
+grows_choice t choice = grows_same t (with_choice t choice) refl refl refl
 
 grows_chosen : (t : Tables) (found : Option Choice) → Grows t (with_chosen t found)
 grows_chosen t None = grows_same t t refl refl refl

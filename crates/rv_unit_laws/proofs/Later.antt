@@ -8,7 +8,6 @@ use Rattle.rv_text_laws.specs.Values.{Known, InSection, Open, Refused, Value, Co
 use Rattle.rv_text_laws.specs.Expression.{Literal, Symbol, Here, Reference}
 use Rattle.rv_statement.specs.Statement.{StatementKind, Label, Numbered, Instruction, Directs, Statement, Expression, Directive, Sets}
 use Rattle.rv_statement.specs.declared.directive.Choice.{Choice}
-use Rattle.rv_statement.specs.declared.directive.Choice.TheVariants.{Push, Pop}
 use Rattle.rv_unit_laws.specs.Sections.{Section, entered, entered_by}
 use Rattle.rv_unit_laws.specs.Contributions.{Contribution, Nothing, Bytes, Zero_bytes, Alignment, contribution}
 use Rattle.rv_unit_laws.specs.Tables.{Tables, Labelled, NumericLabel, Assignment, here, after, after_directive, after_all, value, assigned, assigned_by, chosen, with_label, with_numeric_label, with_assignment, with_section, with_contribution, with_choice, with_chosen, is_defined, may_set}
@@ -134,9 +133,7 @@ keeps_named t o v (Sets name e) = keeps_assignment t o name (v e)
 keeps_named t o v _ = keeps_same t t o refl refl refl
 
 keeps_choice : (t : Tables) (choice : Choice) (o : ℕ) → Keeps t (with_choice t choice) o
-keeps_choice t Push o = keeps_same t (with_choice t Push) o refl refl refl
-keeps_choice t Pop o = keeps_same t (with_choice t Pop) o refl refl refl
-keeps_choice t _ o = keeps_same t t o refl refl refl
+keeps_choice t choice o = keeps_same t (with_choice t choice) o refl refl refl
 
 keeps_chosen : (t : Tables) (found : Option Choice) (o : ℕ) → Keeps t (with_chosen t found) o
 keeps_chosen t None o = keeps_same t t o refl refl refl

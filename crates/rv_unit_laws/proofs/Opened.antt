@@ -7,7 +7,6 @@ use Rattle.std.proofs.lemmas.Bool.{ltb-true, lt-ltb}
 use Rattle.std.proofs.lemmas.List.Folds.{list_all-append}
 use Rattle.rv_statement.specs.Statement.{StatementKind, Expression, Label, Numbered, Instruction, Directs, Statement, Directive}
 use Rattle.rv_statement.specs.declared.directive.Choice.{Choice}
-use Rattle.rv_statement.specs.declared.directive.Choice.TheVariants.{Push, Pop}
 use Rattle.rv_text_laws.specs.Values.{Open, InSection, Value}
 use Rattle.rv_unit_laws.specs.Sections.{Section, Opened, place_of_name, most_sections, text_section, entered_at, entered, entered_by, section_at}
 use Rattle.rv_unit_laws.specs.Contributions.{Contribution, Nothing, contribution}
@@ -82,9 +81,7 @@ set_opened t None = refl
 set_opened t (Some s) = if_opened (may_set t s.ordinal s.name s.meaning) _ t t.opened refl refl
 
 choice_opened : (t : Tables) (choice : Choice) → (with_choice t choice).opened ≡ t.opened
-choice_opened t Push = refl
-choice_opened t Pop = refl
-choice_opened t _ = refl
+choice_opened t choice = refl
 
 chosen_opened : (t : Tables) (found : Option Choice) → (with_chosen t found).opened ≡ t.opened
 chosen_opened t None = refl
@@ -185,9 +182,7 @@ in_section t None n h = h
 in_section t (Some section) n h = in_if (length (entered t.opened section).sections == length t.opened.sections) _ _ n (record { labels = h.labels; numeric_labels = h.numeric_labels }) (record { labels = h.labels; numeric_labels = h.numeric_labels })
 
 in_choice : (t : Tables) (choice : Choice) (n : ℕ) → AreIn t n → AreIn (with_choice t choice) n
-in_choice t Push n h = record { labels = h.labels; numeric_labels = h.numeric_labels }
-in_choice t Pop n h = record { labels = h.labels; numeric_labels = h.numeric_labels }
-in_choice t _ n h = h
+in_choice t choice n h = record { labels = h.labels; numeric_labels = h.numeric_labels }
 
 in_chosen : (t : Tables) (found : Option Choice) (n : ℕ) → AreIn t n → AreIn (with_chosen t found) n
 in_chosen t None n h = h

@@ -83,6 +83,7 @@ section_faults sections None = []
 section_faults sections (Some section) =
     faulty_if (not (is_some (place_of_name sections section.name)) && not (nat_lt (length sections) most_sections)) limit
 
+-- a pop without its push
 abbrev pub choice_faults : ℕ → Choice → List ℕ
 choice_faults depth Pop = faulty_if (depth == 0) option_stack
 choice_faults depth _ = []
@@ -114,7 +115,7 @@ directive_faults all t ordinal (Enters standard) = section_faults t.opened.secti
 directive_faults all t ordinal (Opens name flags kind) = section_faults t.opened.sections (entered_by (Opens name flags kind))
 directive_faults all t ordinal (Sets name e) =
     set_faults t ordinal (current_section t.opened) name (value all false ordinal (here t) e)
-directive_faults all t ordinal (Chooses choice) = choice_faults t.option_depth choice
+directive_faults all t ordinal (Chooses choice) = choice_faults (length t.kept) choice
 directive_faults all t ordinal d = contribution_faults all t ordinal (contribution d)
 
 -- an instruction stands in a section of code that has its bytes in the file

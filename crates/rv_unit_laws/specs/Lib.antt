@@ -1,4 +1,5 @@
 pub mod Sections
 pub mod Contributions
+pub mod Options
 pub mod Tables
 pub mod Faults

@@ -10,8 +10,8 @@ use Rattle.rv_text_laws.specs.Codes.{undefined_local, not_constant}
 use Rattle.rv_text_laws.specs.Values.{Meaning, Known, InSection, Open, Refused, Value, Constant, Symbolic, add, value_of}
 use Rattle.rv_statement.specs.Statement.{StatementKind, Label, Numbered, Instruction, Directs, Statement, Expression, Directive, Sets, Chooses}
 use Rattle.rv_statement.specs.declared.directive.Choice.{Choice}
-use Rattle.rv_statement.specs.declared.directive.Choice.TheVariants.{Push, Pop}
 use Rattle.rv_unit_laws.specs.Sections.{Section, Opened, at_first, entered, entered_by, section_at, current_section}
+use Rattle.rv_unit_laws.specs.Options.{Options, first_options, options_then, kept_then}
 use Rattle.rv_unit_laws.specs.Contributions.{Contents, Numbers, Texts, AlignmentForm, As_power, As_bytes, Contribution, Nothing, Bytes, Zero_bytes, Alignment, contribution}
 
 -- where something stands: the index of its section in the source, and the bytes of data before it there
@@ -47,11 +47,12 @@ pub record Tables : Type 0 where
   pub labels : List Labelled
   pub numeric_labels : List NumericLabel
   pub assignments : List Assignment
-  -- the depth of the option stack: pushes without their pop
-  pub option_depth : ℕ
+  -- the options that are set, and those that were kept, the latest first
+  pub options : Options
+  pub kept : List Options
 
 abbrev pub at_start : Tables
-at_start = record { opened = at_first; ends = 0 ∷ []; alignments = 1 ∷ []; labels = []; numeric_labels = []; assignments = []; option_depth = 0 }
+at_start = record { opened = at_first; ends = 0 ∷ []; alignments = 1 ∷ []; labels = []; numeric_labels = []; assignments = []; options = first_options; kept = [] }
 
 -- where the next statement stands
 abbrev pub here : Tables → SectionOffset
@@ -329,9 +330,7 @@ with_contribution t v Nothing = t
 with_contribution t v c = with_data t (contributed v (here t).offset c) (contribution_alignment v c)
 
 abbrev pub with_choice : Tables → Choice → Tables
-with_choice t Push = record t { option_depth = suc t.option_depth }
-with_choice t Pop = record t { option_depth = t.option_depth - 1 }
-with_choice t _ = t
+with_choice t choice = record t { options = options_then t.options t.kept choice; kept = kept_then t.options t.kept choice }
 
 -- the option that a directive chooses
 abbrev pub chosen : Directive → Option Choice
@@ -385,3 +384,11 @@ places_from t ordinal (s ∷ ss) = stood t ordinal s.kind ∷ places_from (after
 
 abbrev pub places : List Statement → List SectionOffset
 places ss = places_from at_start 1 ss
+
+-- the options in which each statement stands: those that the statements before it set
+abbrev pub options_from : Tables → ℕ → List Statement → List Options
+options_from t ordinal [] = []
+options_from t ordinal (s ∷ ss) = t.options ∷ options_from (after t ordinal s.kind) (suc ordinal) ss
+
+abbrev pub all_options : List Statement → List Options
+all_options ss = options_from at_start 1 ss

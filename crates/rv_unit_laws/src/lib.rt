@@ -2,9 +2,10 @@
 //! runs: `rv_tables` and `rv_unit` are the code.
 //!
 //! It takes statements as `rv_statement` has them (`specs/Statement`), and defines, each in a module of `specs/`: the
-//! sections of a source (`Sections`), what a directive contributes to its section (`Contributions`), the tables that the
-//! statements fill one after the other and what a name means in each of them (`Tables`: `after`, `tables`, `meaning`,
-//! `definition`), and the faults (`Faults`: `first_fault`).
+//! sections of a source (`Sections`), what a directive contributes to its section (`Contributions`), what `.option` sets
+//! (`Options`), the tables that the statements fill one after the other, what a name means in each of them and in which
+//! options each stands (`Tables`: `after`, `tables`, `meaning`, `definition`, `all_options`), and the faults (`Faults`:
+//! `first_fault`).
 //!
 //! It knows no text, no instruction, no address and no other source.
 //!
