@@ -23,9 +23,14 @@ static WORD_BYTES: [u8; 256] = *b"\
 pub(crate) fn class(byte: u8) -> Class
     ensures { result ≡ class byte }
 {
+    if is_word(byte) {
+        return if matches!(byte, b'0'..=b'9') {
+            Class::Digit
+        } else {
+            Class::Letter
+        };
+    }
     match byte {
-        b'a'..=b'z' | b'A'..=b'Z' | b'_' | b'.' | b'$' => Class::Letter,
-        b'0'..=b'9' => Class::Digit,
         b' ' | b'\t' | b'\r' => Class::Blank,
         b'\n' => Class::LineEnd,
         b',' => Class::Single(Punct::Comma),

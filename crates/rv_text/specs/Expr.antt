@@ -2,6 +2,7 @@
 
 use Rattle.std.specs.Prelude.{◌≡◌, ℕ, Bool, true, false, List, [], ◌∷◌, reverse, Result, Ok, Err}
 use Rattle.rv_text_laws.specs.declared.operator.Frame.{Frame}
+use Rattle.rv_text_laws.specs.declared.operator.Frame.TheVariants.{Prefix, Infix}
 use Rattle.rv_text_laws.specs.declared.operator.UnaryOperator.TheVariants.{Negate}
 use Rattle.rv_text_laws.specs.Expression as expression
 use Rattle.rv_text_laws.specs.ExpressionAt as reading
@@ -9,6 +10,7 @@ use Rattle.rv_text_laws.specs.Lexing.{Token}
 use Rattle.rv_text_laws.specs.SyntaxError as syntax
 use Rattle.rv_text.specs.declared.expr.Expr.{Expr}
 use Rattle.rv_text.specs.declared.expr.Expr.TheVariants as exprs
+use Rattle.rv_text.specs.declared.pair.Pair.{Pair}
 use Rattle.rv_text.specs.declared.reading.Stage.{Stage}
 use Rattle.rv_text.specs.declared.reading.Stage.TheVariants as stages
 use Rattle.rv_text.specs.declared.reading.Step.{Step}
@@ -21,7 +23,10 @@ use Rattle.rv_text.specs.declared.reading.Begin.{Begin}
 use Rattle.rv_text.specs.declared.reading.Begin.TheVariants as begins
 use Rattle.rv_text.specs.declared.reading.Follow.{Follow}
 use Rattle.rv_text.specs.declared.reading.Follow.TheVariants as follows
+use Rattle.rv_lexer.specs.declared.cursor.Cursor.{Cursor}
+use Rattle.rv_lexer.specs.declared.syntax_error.ReadError.{ReadError}
 use Rattle.rv_lexer.specs.Fault.{number_of}
+use Rattle.rv_lexer.specs.Cursor.{left, Answers}
 use Rattle.rv_text.specs.Nodes.{symbol_of, nodes_of, some_nodes}
 
 abbrev pub begin_of : Begin → expression.Begin
@@ -59,6 +64,18 @@ ends_operand expression.Nothing_more = true
 ends_operand expression.A_closing = true
 ends_operand _ = false
 
+-- the stages after an operand alone, after `-` and a number, and after a symbol, an operator and a number
+abbrev pub after_operand : expression.Primary → reading.Stage
+after_operand p = reading.Has [] (expression.Primary_node p ∷ [])
+
+abbrev pub after_negative : ℕ → reading.Stage
+after_negative number = reading.Has (Prefix Negate ∷ []) (expression.Primary_node (expression.Literal number) ∷ [])
+
+abbrev pub after_pair : Pair → reading.Stage
+after_pair pair =
+    reading.Has (Infix pair.operator ∷ [])
+    (expression.Primary_node (symbol_of pair.symbol) ∷ expression.Primary_node (expression.Literal pair.number) ∷ [])
+
 -- some tokens lead to this stage with these tokens left
 abbrev pub Reached : (List ℕ → Bool) → reading.Stage → List Token → Type 0
 Reached is_register stage ts = (all : List Token) × (reading.expression_at is_register all ≡ reading.read_from is_register stage ts)
@@ -78,6 +95,11 @@ expr_of (exprs.Negative number) = expression.Primary_node (expression.Literal nu
 expr_of (exprs.Pair pair) =
     expression.Primary_node (symbol_of pair.value.symbol) ∷ expression.Primary_node (expression.Literal pair.value.number) ∷ expression.Binary_node pair.value.operator ∷ []
 expr_of (exprs.Compound compound) = nodes_of compound.value.nodes
+
+-- what is read from a stage on, with the tokens that are left
+abbrev pub ReadOn : (List ℕ → Bool) → reading.Stage → Cursor → Cursor → Result Expr ReadError → Type 0
+ReadOn is_register stage old new result =
+    Answers (λ e. (expr_of e, left new)) result (reading.read_from is_register stage (left old))
 
 -- the expression, without parentheses
 abbrev pub tree_of_expr : Expr → expression.Tree

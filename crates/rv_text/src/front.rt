@@ -2,13 +2,13 @@
 
 ghost use Rattle.std.specs.Prelude.{◌≡◌, [], ◌∷◌, IfOk};
 ghost use Rattle.rv_text_laws.specs.Expression.{Primary_node, Literal, follows};
-ghost use Rattle.rv_text_laws.specs.ExpressionAt as reading;
+ghost use Rattle.rv_text_laws.specs.ExpressionAt.{Wants};
 ghost use Rattle.rv_text_laws.specs.declared.operator.UnaryOperator.TheVariants.{Negate};
 ghost use Rattle.rv_text_laws.specs.declared.operator.Frame.TheVariants.{Prefix, Infix};
-ghost use Rattle.rv_lexer.specs.Cursor.{left, Answers};
+ghost use Rattle.rv_lexer.specs.Cursor.{left};
 ghost use Rattle.rv_lexer.specs.Token.{kind_of};
 ghost use Rattle.rv_text.specs.Nodes.{symbol_of, node_of, nodes_of};
-ghost use Rattle.rv_text.specs.Expr.{stack_of, ends_operand, Reached, expr_of};
+ghost use Rattle.rv_text.specs.Expr.{stack_of, ends_operand, after_operand, after_negative, after_pair, Reached, ReadOn};
 
 use crate::expr::Expr;
 use crate::node::{Node, Nodes, Symbol};
@@ -54,8 +54,8 @@ pub(crate) fn after_number<'a, R: Registers>(
     cursor: &mut Cursor<'a>,
     number: u64,
 ) -> Result<Expr<'a>, ReadError>
-    requires { Reached R.registers (reading.Has [] (Primary_node (Literal number) ∷ [])) (left cursor.old) }
-    ensures { Answers (λ e. (expr_of e, left cursor.new)) result (reading.read_from R.registers (reading.Has [] (Primary_node (Literal number) ∷ [])) (left cursor.old)) }
+    requires { Reached R.registers (after_operand (Literal number)) (left cursor.old) }
+    ensures { ReadOn R.registers (after_operand (Literal number)) cursor.old cursor.new result }
 {
     if ends(cursor.next.kind) {
         return Ok(Expr::Number(number));
@@ -71,8 +71,8 @@ fn after_negative<'a, R: Registers>(
     cursor: &mut Cursor<'a>,
     number: u64,
 ) -> Result<Expr<'a>, ReadError>
-    requires { Reached R.registers (reading.Has (Prefix Negate ∷ []) (Primary_node (Literal number) ∷ [])) (left cursor.old) }
-    ensures { Answers (λ e. (expr_of e, left cursor.new)) result (reading.read_from R.registers (reading.Has (Prefix Negate ∷ []) (Primary_node (Literal number) ∷ [])) (left cursor.old)) }
+    requires { Reached R.registers (after_negative number) (left cursor.old) }
+    ensures { ReadOn R.registers (after_negative number) cursor.old cursor.new result }
 {
     if ends(cursor.next.kind) {
         return Ok(Expr::Negative(number));
@@ -87,8 +87,8 @@ pub(crate) fn after_minus<'a, R: Registers>(
     alloc: Global,
     cursor: &mut Cursor<'a>,
 ) -> Result<Expr<'a>, ReadError>
-    requires { Reached R.registers (reading.Wants (Prefix Negate ∷ []) []) (left cursor.old) }
-    ensures { Answers (λ e. (expr_of e, left cursor.new)) result (reading.read_from R.registers (reading.Wants (Prefix Negate ∷ []) []) (left cursor.old)) }
+    requires { Reached R.registers (Wants (Prefix Negate ∷ []) []) (left cursor.old) }
+    ensures { ReadOn R.registers (Wants (Prefix Negate ∷ []) []) cursor.old cursor.new result }
 {
     if let TokenKind::Number(_, number) = cursor.next.kind {
         cursor.advance();
@@ -105,8 +105,8 @@ fn after_pair<'a, R: Registers>(
     cursor: &mut Cursor<'a>,
     pair: Pair<'a>,
 ) -> Result<Expr<'a>, ReadError>
-    requires { Reached R.registers (reading.Has (Infix pair.operator ∷ []) (Primary_node (symbol_of pair.symbol) ∷ Primary_node (Literal pair.number) ∷ [])) (left cursor.old) }
-    ensures { Answers (λ e. (expr_of e, left cursor.new)) result (reading.read_from R.registers (reading.Has (Infix pair.entry.operator ∷ []) (Primary_node (symbol_of pair.entry.symbol) ∷ Primary_node (Literal pair.entry.number) ∷ [])) (left cursor.old)) }
+    requires { Reached R.registers (after_pair pair) (left cursor.old) }
+    ensures { ReadOn R.registers (after_pair pair.entry) cursor.old cursor.new result }
 {
     if ends(cursor.next.kind) {
         let pair = Box::new(alloc, pair)?;
@@ -125,8 +125,8 @@ fn after_operator<'a, R: Registers>(
     symbol: Symbol<'a>,
     operator: BinaryOperator,
 ) -> Result<Expr<'a>, ReadError>
-    requires { Reached R.registers (reading.Wants (Infix operator ∷ []) (Primary_node (symbol_of symbol) ∷ [])) (left cursor.old) }
-    ensures { Answers (λ e. (expr_of e, left cursor.new)) result (reading.read_from R.registers (reading.Wants (Infix operator ∷ []) (Primary_node (symbol_of symbol.entry) ∷ [])) (left cursor.old)) }
+    requires { Reached R.registers (Wants (Infix operator ∷ []) (Primary_node (symbol_of symbol) ∷ [])) (left cursor.old) }
+    ensures { ReadOn R.registers (Wants (Infix operator ∷ []) (Primary_node (symbol_of symbol.entry) ∷ [])) cursor.old cursor.new result }
 {
     if let TokenKind::Number(_, number) = cursor.next.kind {
         cursor.advance();
@@ -150,8 +150,8 @@ pub(crate) fn after_symbol<'a, R: Registers>(
     cursor: &mut Cursor<'a>,
     symbol: Symbol<'a>,
 ) -> Result<Expr<'a>, ReadError>
-    requires { Reached R.registers (reading.Has [] (Primary_node (symbol_of symbol) ∷ [])) (left cursor.old) }
-    ensures { Answers (λ e. (expr_of e, left cursor.new)) result (reading.read_from R.registers (reading.Has [] (Primary_node (symbol_of symbol.entry) ∷ [])) (left cursor.old)) }
+    requires { Reached R.registers (after_operand (symbol_of symbol)) (left cursor.old) }
+    ensures { ReadOn R.registers (after_operand (symbol_of symbol.entry)) cursor.old cursor.new result }
 {
     if ends(cursor.next.kind) {
         return Ok(Expr::of_symbol(symbol));

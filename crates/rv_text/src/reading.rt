@@ -10,7 +10,7 @@ ghost use Rattle.rv_lexer.specs.Token.{kind_of};
 ghost use Rattle.rv_lexer.specs.Left.{tokens_left};
 ghost use Rattle.rv_lexer.specs.Cursor.{left, Answers};
 ghost use Rattle.rv_text.specs.Nodes.{node_of, nodes_of, some_nodes};
-ghost use Rattle.rv_text.specs.Expr.{begin_of, follow_of, stack_of, stage_of, Steps, Reached, expr_of, NamesFault, NoReading};
+ghost use Rattle.rv_text.specs.Expr.{begin_of, follow_of, stack_of, stage_of, Steps, Reached, ReadOn, expr_of, NamesFault, NoReading};
 
 use crate::expr::Expr;
 use crate::front::{after_minus, after_number, after_symbol};
@@ -385,7 +385,7 @@ pub(crate) fn read_on<'a, R: Registers>(
     stage: Stage<'a>,
 ) -> Result<Expr<'a>, ReadError>
     requires { Reached R.registers (stage_of frames.items stage) (left cursor.old) }
-    ensures { Answers (λ e. (expr_of e, left cursor.new)) result (reading.read_from R.registers (stage_of frames.items stage.entry) (left cursor.old)) }
+    ensures { ReadOn R.registers (stage_of frames.items stage.entry) cursor.old cursor.new result }
 {
     let mut frames = frames;
     let mut stage = stage;
