@@ -249,6 +249,71 @@ const RANGES: [(&[u8], u8, u32); 18] = [
     ),
 ];
 
+/// Registers on the way to a symbol, targets, and parts of addresses.
+const ADDRESSES: [(&[u8], u8, u32); 52] = [
+    // x0, and the register that a store needs itself
+    (b"lw zero, x\nx:", 10, 1),
+    (b"ld x0, x + 8", 10, 1),
+    (b"sd a0, x, zero", 10, 1),
+    (b"sb a0, x, a0", 10, 1),
+    (b"sw zero, x, zero", 10, 1),
+    (b"call zero, x", 10, 1),
+    (b"jump x, zero", 10, 1),
+    // labels that are nowhere
+    (b"j 1b", 12, 1),
+    (b"j 1b\n1:", 12, 1),
+    (b"1: beqz a0, 1f", 12, 1),
+    (b"la a0, 1f", 12, 1),
+    (b"lui a0, %hi(1b)", 12, 1),
+    (b"addi a0, a0, %lo(1b)", 12, 1),
+    (b"addi a0, a0, %pcrel_lo(x)", 12, 1),
+    (b"sd a0, %pcrel_lo(x)(a1)", 12, 1),
+    (b"lw a0, %pcrel_lo(1b)(a1)\n1:", 12, 1),
+    (b"jalr a0, %pcrel_lo(1f)(a1)", 12, 1),
+    // a name that is set is no label
+    (b".set x, 8\nlw a0, %pcrel_lo(x)(a1)", 12, 2),
+    (b"lw a0, %pcrel_lo(x)(a1)\n.set x, 8", 12, 1),
+    (
+        b".data; .set x, . + 4; .text\naddi a0, a0, %pcrel_lo(x)",
+        12,
+        2,
+    ),
+    (b"addi a0, a0, %pcrel_lo(_etext)", 12, 1),
+    // no constant where one is wanted, and no symbol plus a constant
+    (b"j x\n.set x, 8", 13, 1),
+    (b"j x - .", 13, 1),
+    (b"beq a0, a1, x * 2", 13, 1),
+    (b"jal x - y", 13, 1),
+    (b"la a0, x - y", 13, 1),
+    (b"call x - x", 13, 1),
+    (b"lw a0, x - y", 13, 1),
+    (b"sd a0, -x, t0", 13, 1),
+    (b"auipc a0, %pcrel_hi(x - y)", 13, 1),
+    (b"lui a0, %hi(x - y)", 13, 1),
+    (b"lw a0, %lo(x - y)(a0)", 13, 1),
+    (b"slli a0, a0, %lo(x)", 13, 1),
+    (b"sraw a0, a0, %lo(x)", 13, 1),
+    (b"li a0, %lo(x)", 13, 1),
+    (b"srli a0, a0, %pcrel_lo(x)\nx:", 13, 1),
+    (b"1: li a0, %pcrel_lo(1b)", 13, 1),
+    (b"jr x(a0)", 13, 1),
+    // constants
+    (b".set x, 8\nj x", 14, 2),
+    (b".set x, 8\nbgt a0, a1, x - 8", 14, 2),
+    (b".set x, 8\nlla a0, x", 14, 2),
+    (b".set x, 8\nlw a0, x", 14, 2),
+    (b".set x, 8\nauipc a0, %pcrel_hi(x)", 14, 2),
+    (b".data; a: .word 1; b: .text\ntail b - a", 14, 2),
+    (b"lui a0, %hi(-2049)", 14, 1),
+    (b"lui a0, %hi(0xfffff800)", 14, 1),
+    (b"lui a0, %hi(1 << 63)", 14, 1),
+    (b"slli a0, a0, %lo(64)", 14, 1),
+    (b"slliw a0, a0, %lo(4096 + 32)", 14, 1),
+    (b"srl a0, a0, %lo(4095)", 14, 1),
+    (b"jr 2048(a0)", 14, 1),
+    (b"jr -2049(a0)", 14, 1),
+];
+
 /// Names, sections, options and limits.
 const PLACES: [(&[u8], u8, u32); 36] = [
     (b"x:\nx:", 11, 2),
@@ -312,6 +377,11 @@ fn values(rt: HostRuntime) -> Result<(), Fail> {
 #[test]
 fn ranges(rt: HostRuntime) -> Result<(), Fail> {
     Ok(refused(&rt, rt.alloc(), &RANGES)?)
+}
+
+#[test]
+fn addresses(rt: HostRuntime) -> Result<(), Fail> {
+    Ok(refused(&rt, rt.alloc(), &ADDRESSES)?)
 }
 
 #[test]

@@ -4,7 +4,7 @@ use crate::sources::{Answer, answers, refused};
 use std::test::Fail;
 
 /// Each is refused as unsupported, at its line.
-const NOT_BUILT: [(&[u8], u8, u32); 67] = [
+const NOT_BUILT: [(&[u8], u8, u32); 74] = [
     (b"nop", 9, 1),
     (b"mv a0, a1", 9, 1),
     (b"not a0, a1", 9, 1),
@@ -62,6 +62,13 @@ const NOT_BUILT: [(&[u8], u8, u32); 67] = [
     (b"lw a0, %lo(x)(a0)\nx:", 9, 1),
     (b"sd a0, %pcrel_lo(x)(a1)\nx:", 9, 1),
     (b"add a0, a0, %lo(5)", 9, 1),
+    (b"la zero, x", 9, 1),
+    (b"lui a0, %hi(-2048)", 9, 1),
+    (b"lui a0, %hi(0xfffff7ff)", 9, 1),
+    (b"slli a0, a0, %lo(4096 + 63)", 9, 1),
+    (b"1: lw a0, %pcrel_lo(1b)(a0)", 9, 1),
+    (b"li a0, %lo(5000)", 9, 1),
+    (b"jr 2047(a0)", 9, 1),
     // constants of more instructions
     (b"li a0, 2048", 9, 1),
     (b"li a0, -2049", 9, 1),

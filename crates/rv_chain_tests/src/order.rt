@@ -6,7 +6,7 @@ use std::test::Fail;
 
 /// Faulty lines, their code and the pass over the source that finds them. Each leaves `.text` the section and
 /// has names of its own.
-const FAULTY: [(&[u8], u8, u8); 28] = [
+const FAULTY: [(&[u8], u8, u8); 33] = [
     // while the source is read
     (b"\x01", 1, 1),
     (b"\"abc", 2, 1),
@@ -35,9 +35,14 @@ const FAULTY: [(&[u8], u8, u8); 28] = [
     (b"addi a0, a0, 1 / 0", 4, 3),
     (b"addi a0, a0, 1 << 64", 5, 3),
     (b"li a0, 2048", 9, 3),
+    (b"j nowhere", 9, 3),
+    (b"call zero, nowhere", 10, 3),
     (b"addi a0, a0, 78f", 12, 3),
+    (b"addi a0, a0, %pcrel_lo(nowhere)", 12, 3),
     (b"lw a0, nowhere(sp)", 13, 3),
+    (b"slli a0, a0, %lo(nowhere)", 13, 3),
     (b"slli a0, a0, 64", 14, 3),
+    (b"lui a0, %hi(-4096)", 14, 3),
 ];
 
 /// Two lines after the program.
@@ -68,7 +73,7 @@ fn two_faults(rt: HostRuntime) -> Result<(), Fail> {
 }
 
 /// Statements with several faults: the lowest code counts.
-const LOWEST: [(&[u8], u8, u32); 25] = [
+const LOWEST: [(&[u8], u8, u32); 33] = [
     (b".word 1 / 0", 4, 1),
     (b".word 1 << 64", 5, 1),
     (b".word 1b", 12, 1),
@@ -93,7 +98,17 @@ const LOWEST: [(&[u8], u8, u32); 25] = [
     (b"addi a0, a0, 1 / 0 + (1 << 64)", 4, 1),
     (b"sd a0, y / 0(sp)", 4, 1),
     (b".option rvc\naddi a0, a0, 1 / 0", 4, 2),
-    (b".option rvc\naddi a0, a0, 2048", 9, 2),
+    // what cannot be placed yet is refused as such where nothing else is wrong
+    (b".option rvc\naddi a0, a0, 2048", 14, 2),
+    (b".option rvc\nlw zero, x", 10, 2),
+    (b"li a0, 5000 / 0", 4, 1),
+    // a scratch register comes before labels, constants and ranges, and after values
+    (b"lw zero, 1b", 10, 1),
+    (b"sd a0, x - ., a0", 10, 1),
+    (b".set x, 8\ncall zero, x", 10, 2),
+    (b"jump x / 0, zero", 4, 1),
+    (b"jump x << 64, zero", 5, 1),
+    (b"slli a0, a0, %pcrel_lo(x)", 12, 1),
 ];
 
 #[test]

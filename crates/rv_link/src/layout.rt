@@ -1,6 +1,7 @@
 //! Where the sections of a program start.
 
 ghost use Rattle.std.specs.Prelude.{◌≡◌, ◌+◌, ◌-◌, ◌^◌, ◌<◌, ◌≤◌, length, IfOk, IfErr, IfSome, IfNone};
+ghost use Rattle.rv_isa_laws.specs.Platform.{stack_start};
 ghost use Rattle.rv_unit_laws.specs.Tables.{aligned};
 ghost use Rattle.rv_link_laws.specs.Layout.{goes, started, end_of, end_behind, greatest, IsLayout};
 ghost use Rattle.rv_link.specs.TooLarge.{IsRefused};
@@ -59,9 +60,9 @@ pub(crate) fn goes_to(destination: Destination, piece: Piece) -> bool
 
 /// Where a section begins and ends that comes after an end; `None` where it passes the end of memory.
 fn behind(piece: Piece, stop: u64) -> Option<(u32, u64)>
-    requires { stop ≤ 0x3ff0_0000 }
-    ensures found { IfSome result (λ found. (found.0 ≡ aligned piece.alignment stop) × (found.1 ≡ aligned piece.alignment stop + piece.bytes) × (found.1 ≤ 0x3ff0_0000)) }
-    ensures far { IfNone result (0x3ff0_0000 < end_behind piece stop) }
+    requires { stop ≤ stack_start }
+    ensures found { IfSome result (λ found. (found.0 ≡ aligned piece.alignment stop) × (found.1 ≡ aligned piece.alignment stop + piece.bytes) × (found.1 ≤ stack_start)) }
+    ensures far { IfNone result (stack_start < end_behind piece stop) }
 {
     let start = next_multiple(piece.alignment, stop);
     if start > STACK_START {
@@ -78,9 +79,9 @@ fn behind(piece: Piece, stop: u64) -> Option<(u32, u64)>
 /// memory.
 fn spread(starts: &mut [u32], pieces: &[Piece], destination: Destination, place: u64) -> Option<u64>
     requires each { length starts.old ≡ length pieces.now }
-    requires low { place ≤ 0x3ff0_0000 }
-    ensures placed { IfSome result (λ end. (starts.new ≡ started destination place starts.old pieces.now) × (end ≡ end_of destination place pieces.now) × (end ≤ 0x3ff0_0000)) }
-    ensures far { IfNone result (0x3ff0_0000 < end_of destination place pieces.now) }
+    requires low { place ≤ stack_start }
+    ensures placed { IfSome result (λ end. (starts.new ≡ started destination place starts.old pieces.now) × (end ≡ end_of destination place pieces.now) × (end ≤ stack_start)) }
+    ensures far { IfNone result (stack_start < end_of destination place pieces.now) }
 {
     let mut stop = place;
     for i in 0..pieces.len() {
@@ -117,8 +118,8 @@ fn region(
     start: u64,
 ) -> Result<Region, LayoutFault>
     requires { length starts.old ≡ length pieces.now }
-    ensures placed { IfOk result (λ r. (r.start ≡ start) × (starts.new ≡ started destination start starts.old pieces.now) × (r.end ≡ end_of destination start pieces.now) × (r.end ≤ 0x3ff0_0000)) }
-    ensures far { IfErr result (λ _. 0x3ff0_0000 < end_of destination start pieces.now) }
+    ensures placed { IfOk result (λ r. (r.start ≡ start) × (starts.new ≡ started destination start starts.old pieces.now) × (r.end ≡ end_of destination start pieces.now) × (r.end ≤ stack_start)) }
+    ensures far { IfErr result (λ _. stack_start < end_of destination start pieces.now) }
 {
     if start > STACK_START {
         return Err(LayoutFault::TooLarge);
@@ -159,7 +160,7 @@ pub fn lay_out(alloc: Global, pieces: &[Piece], text_start: u64) -> Result<Layou
 
 /// The bytes of memory that the regions need.
 fn memory_of(text: Region, rodata: Region, variables: Region, bss: Region) -> u64
-    requires { (text.end ≤ 0x3ff0_0000) × (rodata.end ≤ 0x3ff0_0000) × (bss.end ≤ 0x3ff0_0000) }
+    requires { (text.end ≤ stack_start) × (rodata.end ≤ stack_start) × (bss.end ≤ stack_start) }
     ensures { result ≡ (text.end - text.start) + (rodata.end - rodata.start) + (bss.end - variables.start) }
 {
     text.end.saturating_sub(text.start)

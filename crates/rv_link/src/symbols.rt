@@ -2,6 +2,7 @@
 
 ghost use Rattle.std.specs.Prelude.{◌≡◌, ◌+◌, ◌++◌, ◌%◌, ◌<◌, ◌≤◌, ◌^◌, ℕ, List, [], ◌∷◌, Bool, not, true, length, map, filter, codes, Some, None, IfOk, IfErr, OnOk, IfSome, IfNone};
 ghost use Rattle.rv_statement.specs.View.{statement_of};
+ghost use Rattle.rv_isa_laws.specs.Platform.{stack_start};
 ghost use Rattle.rv_unit_laws.specs.Tables.{Tables};
 ghost use Rattle.rv_map.specs.Map.{global_of as shown_global};
 ghost use Rattle.rv_source_laws.specs.Resolves.{is_one_of, is_start, symbol};
@@ -114,7 +115,7 @@ pub fn put_symbols(
     statements: &[Statement<'_>],
     layout: &Layout,
 ) -> Result<(), NameFault>
-    requires { (layout.now).data.start ≤ 0x3ff0_0000 }
+    requires { (layout.now).data.start ≤ stack_start }
     ensures names { OnOk result ((test : List ℕ → Bool) (t : Tables) → Has (names.now).globals.now.set test → AreFirsts (names.now).firsts.ordinals t.assignments → map shown_global symbols.new.items ≡ map shown_global symbols.old.items
         ++ filter (λ g. not (is_one_of (names_from test t 1 (map statement_of statements.now)) g.name))
         (symbol (codes "_etext") (layout.now).text.end ∷ symbol (codes "__bss_start") (layout.now).bss.start ∷ symbol (codes "_edata") (layout.now).data.end

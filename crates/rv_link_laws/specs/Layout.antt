@@ -1,6 +1,7 @@
 -- Sections one after the other: each at the least aligned place that is not below the end before.
 
 use Rattle.std.specs.Prelude.{◌≡◌, ℕ, ◌+◌, ◌-◌, ◌≤◌, ◌^◌, Bool, max, List, [], ◌∷◌, length, replicate, if◌then◌else◌}
+use Rattle.rv_isa_laws.specs.Platform.{stack_start}
 use Rattle.rv_unit_laws.specs.Tables.{aligned}
 use Rattle.rv_link_laws.specs.declared.piece.Destination.{Destination}
 use Rattle.rv_link_laws.specs.declared.piece.Destination.TheVariants.{Text, Rodata, Data, Bss}
@@ -47,5 +48,5 @@ pub record IsLayout (text_start : ℕ) (pieces : List Piece) (l : Layout) : Type
   pub rodata_end : l.rodata.end ≡ end_of Rodata l.rodata.start pieces
   pub data_end : l.data.end ≡ end_of Data l.data.start pieces
   pub bss_end : l.bss.end ≡ end_of Bss l.bss.start pieces
-  pub below : l.bss.end ≤ 0x3ff0_0000
+  pub below : l.bss.end ≤ stack_start
   pub memory : (l.text.end - l.text.start) + (l.rodata.end - l.rodata.start) + (l.bss.end - l.data.start) ≤ 2 ^ 28
