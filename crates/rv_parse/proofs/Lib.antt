@@ -1,4 +1,5 @@
 pub mod Tokens
+pub mod Targets
 pub mod Items
 pub mod Lists
 pub mod Jumps

@@ -9,7 +9,7 @@ use Rattle.rv_text_laws.specs.Joined.{joined_at}
 use Rattle.rv_statement.specs.declared.directive.DirectiveWord.TheVariants as words
 use Rattle.rv_statement.specs.Statement.{Operand, Word, Quoted, StatementKind, Directs}
 use Rattle.rv_parse_laws.specs.Syntax.{is_section_name, A_section, Some_flags, At_sign, A_comma, front_begins, places, directed}
-use Rattle.rv_parse_laws.specs.Parsing.{operand_at, operands_at, seen_as, section_at, too_long, wrong_next}
+use Rattle.rv_parse_laws.specs.Parsing.{operand_at, operands_at, seen_as, section_at, too_long, wrong_front}
 use Rattle.rv_parse_laws.specs.Faults.{unsupported_here}
 use Rattle.rv_parse.specs.Slots.{flags_slots, type_slots}
 
@@ -47,5 +47,5 @@ pub name_too_long : (ts rest : List Token) (name : List ℕ) → Some (name, res
 name_too_long ts rest name e bad lt = let long : nat_lt longest_name (length name) ≡ true = grind (arith, nat_tests, lt) in rw (← e, bad, long) refl
 
 pub name_left_out : (ts rest : List Token) (name : List ℕ) → Some (name, rest) ≡ joined_at ts → is_section_name name ≡ false → length name ≤ longest_name
-    → seen_as (λ n. Word n ∷ []) (section_at ts) ≡ Err (wrong_next rest unsupported_here)
+    → seen_as (λ n. Word n ∷ []) (section_at ts) ≡ Err (wrong_front ts unsupported_here)
 name_left_out ts rest name e bad le = let fits : nat_lt longest_name (length name) ≡ false = grind (arith, nat_tests, le) in rw (← e, bad, fits) refl

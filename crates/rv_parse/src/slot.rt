@@ -1,10 +1,11 @@
 //! What stands in one slot of a statement, at the front of a cursor's tokens.
 
-ghost use Rattle.std.specs.Prelude.{◌≡◌, ◌∷◌, []};
+ghost use Rattle.std.specs.Prelude.{◌≡◌, ◌∷◌, [], IfOk};
 ghost use Rattle.rv_lexer.specs.Cursor.{left, syntax_error_of, Answers};
-ghost use Rattle.rv_text.specs.Expr.{tree_of_expr};
+ghost use Rattle.rv_text.specs.Expr.{expr_of, tree_of_expr};
+ghost use Rattle.rv_text.specs.Nodes.{are_numbers};
 ghost use Rattle.rv_statement.specs.Statement.{Register, Accesses};
-ghost use Rattle.rv_parse_laws.specs.Syntax.{A_register, A_zero, Some_accesses, A_symbol, A_string, A_section, Some_flags, At_sign, A_type, A_comma, An_opening, A_closing, Slot as AnySlot, front_begins};
+ghost use Rattle.rv_parse_laws.specs.Syntax.{A_register, A_zero, Some_accesses, A_symbol, A_string, A_section, Some_flags, At_sign, A_type, A_comma, An_opening, A_closing, Slot as AnySlot, front_begins, is_number};
 ghost use Rattle.rv_parse_laws.specs.Parsing.{operand_at, end_at, value_at, value_in, base_at, base_next, too_long};
 ghost use Rattle.rv_words.specs.View.{slot_of, word_of, string_of};
 ghost use Rattle.rv_parse.specs.Left.{Gives};
@@ -207,21 +208,28 @@ impl Registers for RegisterNames {
 }
 
 /// An expression.
+#[tactic(auto, using(crate::proofs::Targets::read_numbers))]
 fn expression<'a>(alloc: Global, cursor: &mut Cursor<'a>) -> Result<Expr<'a>, ReadError>
-    ensures { Answers (λ e. (tree_of_expr e, left cursor.new)) result (value_at (left cursor.old)) }
+    ensures read { Answers (λ e. (tree_of_expr e, left cursor.new)) result (value_at (left cursor.old)) }
+    ensures number { IfOk result (λ e. are_numbers (expr_of e) ≡ is_number (tree_of_expr e)) }
 {
     rv_text::expression::<RegisterNames>(alloc, cursor)
 }
 
-/// An expression that stands so.
+/// An expression that may stand so; a number alone as a target is refused at its first token.
 #[tactic(auto, unfolding(rv_lexer::specs::Cursor::left))]
 pub fn value<'a>(alloc: Global, cursor: &mut Cursor<'a>, role: Role) -> Result<Expr<'a>, ReadError>
     ensures { Answers (λ e. (tree_of_expr e, left cursor.new)) result (value_in role (left cursor.old)) }
 {
-    if fault::may_call(role) && kinds::is_percent(cursor.next.kind) {
+    let first = cursor.next;
+    if fault::may_call(role) && kinds::is_percent(first.kind) {
         return Err(ReadError::At(cursor.wrong(SourceCode::UnsupportedHere)));
     }
-    expression(alloc, cursor)
+    let value = expression(alloc, cursor)?;
+    if fault::targets(role) && value.is_number() {
+        return Err(ReadError::At(SyntaxError::at(first, SourceCode::UnsupportedHere)));
+    }
+    Ok(value)
 }
 
 /// A comma, after an operand in this slot.
@@ -283,7 +291,7 @@ pub fn section_name<'a>(cursor: &mut Cursor<'a>) -> Result<&'a [u8], SyntaxError
             } else if LONGEST_NAME < name.len() {
                 Err(too_long(before))
             } else {
-                Err(cursor.wrong(SourceCode::UnsupportedHere))
+                Err(before.wrong(SourceCode::UnsupportedHere))
             }
         }
         None => Err(before.wrong(fault::at_register(before.next.kind))),

@@ -11,11 +11,11 @@ use Rattle.rv_text_laws.specs.declared.operator.Frame.TheVariants.{Parenthesis}
 use Rattle.rv_text_laws.proofs.Expressions.{fails, goes}
 use Rattle.rv_text_laws.proofs.ExpressionWrong.{ended_more, ended_behind}
 use Rattle.rv_statement.specs.Statement.{Expression, Operand, Register, Value}
-use Rattle.rv_parse_laws.specs.Syntax.{is_register, register_of, is_opening, is_closing, is_colon, Slot, A_register, A_value, An_address, A_closing, An_opening, single, front_begins, IsValue, IsBase, IsOperand}
+use Rattle.rv_parse_laws.specs.Syntax.{is_register, register_of, is_opening, is_closing, is_colon, Slot, A_register, A_value, An_address, A_closing, An_opening, single, front_begins, IsValueIn, IsBase, IsOperand}
 use Rattle.rv_parse_laws.specs.Faults.{wrong_first}
 use Rattle.rv_parse_laws.specs.Parsing.{◌>>=◌, seen_as, value_at, value_in, single_at, base_at, base_next, offset_at, operand_at}
 use Rattle.rv_parse_laws.proofs.Steps.{bind_ok, seen_ok, bind_err, seen_err}
-use Rattle.rv_parse_laws.proofs.Failing.{Failing, behind, first_of, first_same, never}
+use Rattle.rv_parse_laws.proofs.Failing.{Failing, at_once, behind, first_of, first_same, never}
 use Rattle.rv_parse_laws.proofs.Singles.{single_found, single_fault, single_passed, register_no_last, opening_no_last, closing_no_last, some_token, a_register, a_register_is}
 use Rattle.rv_parse_laws.proofs.Values.{Closes, closes, value_is, value_in_is, value_some, ValueFound, value_found, ValueWrong, value_wrong}
 use Rattle.rv_parse_laws.specs.declared.role.Role.{Role}
@@ -92,9 +92,8 @@ base_wrong slot ts w end e = elim (bind_err (single_at (An_opening slot) ts) (λ
     before = [];
     at = k.0;
     more = k.1;
-    code = wrong_first (An_opening slot) k.0.kind;
     whole = k.2;
-    is_wrong = k.4;
+    is_wrong = at_once [] k.0 _ w k.4;
     fails = λ text. opening_err slot k.0 text w k.3 k.4;
     goes = base_goes;
   })
@@ -109,9 +108,8 @@ base_wrong slot ts w end e = elim (bind_err (single_at (An_opening slot) ts) (λ
         before = o ∷ [];
         at = k.0;
         more = k.1;
-        code = wrong_first A_register k.0.kind;
         whole = whole ∙ ap (λ xs. o ∷ xs) k.2;
-        is_wrong = k.4;
+        is_wrong = at_once (o ∷ []) k.0 _ w k.4;
         fails = λ text. register_err slot o k.0 text w opens k.3 k.4;
         goes = register_goes o opens;
       })
@@ -121,9 +119,8 @@ base_wrong slot ts w end e = elim (bind_err (single_at (An_opening slot) ts) (λ
             before = o ∷ r.0 ∷ [];
             at = k.0;
             more = k.1;
-            code = wrong_first A_closing k.0.kind;
             whole = whole ∙ ap (λ xs. o ∷ xs) (r.1 ∙ ap (λ xs. r.0 ∷ xs) k.2);
-            is_wrong = k.4;
+            is_wrong = at_once (o ∷ r.0 ∷ []) k.0 _ w k.4;
             fails = λ text. closing_err slot o r.0 k.0 number.0 text w opens number.1 k.3 k.4;
             goes = closing_goes o r.0 number.0 opens number.1;
           })
@@ -192,7 +189,7 @@ address_is role text os (inl base) rest = rw (base_begins text os rest base) (ba
 address_is role text os (inr (one, more, e, base, w, v, b, is)) rest =
     let closed = base_closes more base rest b in
     let value : value_in role (one ++ (more ++ rest)) ≡ Ok (e, more ++ rest) = value_in_is role one (more ++ rest) e v closed in
-    let none : base_next (one ++ (more ++ rest)) ≡ false = no_base (one ++ (more ++ rest)) e (more ++ rest) (value_is one (more ++ rest) e v closed) in
+    let none : base_next (one ++ (more ++ rest)) ≡ false = no_base (one ++ (more ++ rest)) e (more ++ rest) (value_is one (more ++ rest) e v.0 closed) in
     rw (w, is) (rw (append_assoc one more rest, none, value, base_is (A_value role) more base b rest) refl)
 
 -- the front decides by two tokens
@@ -237,9 +234,8 @@ based_wrong role ts w end next e =
       before = o ∷ r ∷ [];
       at = k.0;
       more = k.1;
-      code = wrong_first A_closing k.0.kind;
       whole = p.4 ∙ ap (λ xs. o ∷ r ∷ xs) k.2;
-      is_wrong = k.4;
+      is_wrong = at_once (o ∷ r ∷ []) k.0 _ w k.4;
       fails = λ text. rw (begins o r (k.0 ∷ text) p.3 p.5 p.6) (closing_err A_register o r k.0 p.3 text w p.5 p.6 k.3 k.4);
       goes = goes (o ∷ r ∷ []) (closing_goes o r p.3 p.5 p.6);
     }
@@ -255,7 +251,7 @@ based_wrong role ts w end next e =
     goes before (text, os, base) = (text, os, inl base)
 
 -- a value and a base, whatever they are
-abbrev to_offset : (role : Role) (one : List Token) (e : Expression) → IsValue one e → (us : List Token) (os : List Operand) → IsBase us os → (all : List Operand) × IsOperand (An_address role) (one ++ us) all
+abbrev to_offset : (role : Role) (one : List Token) (e : Expression) → IsValueIn role one e → (us : List Token) (os : List Operand) → IsBase us os → (all : List Operand) × IsOperand (An_address role) (one ++ us) all
 to_offset role one e v us os base = (Value e ∷ os, inr (one, us, e, os, refl, v, base, refl))
 
 offset_wrong : (role : Role) (ts : List Token) (w : SyntaxError) → ended ts ≡ true → base_next ts ≡ false → offset_at role ts ≡ Err w
@@ -273,7 +269,6 @@ offset_wrong role ts w end next e = elim (bind_err (value_in role ts) (λ v. see
       before = x.before;
       at = x.at;
       more = x.more;
-      code = x.code;
       whole = x.whole;
       is_wrong = x.is_wrong;
       fails = λ text. value_err (x.before ++ x.at ∷ text) (next_at x.before x.at x.more text (ap base_next (sym x.whole) ∙ next) closed) (x.fails text);
@@ -296,7 +291,7 @@ offset_wrong role ts w end next e = elim (bind_err (value_in role ts) (λ v. see
         subst (λ us. Failing (List Operand) (IsOperand (An_address role)) (operand_at (An_address role)) us w) (sym v.whole)
         (behind (List Operand) (List Operand) (IsOperand (An_address role)) IsBase (operand_at (An_address role)) (base_at (A_value role)) v.text rest w
         (λ us os base. to_offset role v.text e v.is us os base)
-        (λ us first fails. base_err (v.text ++ us) e us (next_behind v.text us rest (value_some v.text e v.is) first ∙ ap base_next (sym v.whole) ∙ next) (v.steady us first) fails)
+        (λ us first fails. base_err (v.text ++ us) e us (next_behind v.text us rest (value_some v.text e v.is.0) first ∙ ap base_next (sym v.whole) ∙ next) (v.steady us first) fails)
         (base_wrong (A_value role) rest w last fails))
 
 pub address_wrong : (role : Role) (ts : List Token) (w : SyntaxError) → ended ts ≡ true → operand_at (An_address role) ts ≡ Err w
@@ -310,7 +305,7 @@ address_wrong role ts w end e = go (base_next ts) refl e
 
 pub address_some : (role : Role) (text : List Token) (os : List Operand) → IsOperand (An_address role) text os → 0 < length text
 address_some role text os (inl (o, r, c, number, w, opens, named, closed, is)) = rw w (omega arith)
-address_some role text os (inr (one, rest, e, base, w, v, b, is)) = rw w (omega (arith, value_some one e v, length-append one rest))
+address_some role text os (inr (one, rest, e, base, w, v, b, is)) = rw w (omega (arith, value_some one e v.0, length-append one rest))
 
 base_ended : (text : List Token) (os : List Operand) (rest : List Token) → IsBase text os → ended (text ++ rest) ≡ true → ended rest ≡ true
 base_ended text os rest (o, r, c, number, w, opens, named, closed, is) end =

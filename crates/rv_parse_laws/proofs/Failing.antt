@@ -33,21 +33,42 @@ pub first_is : (t : Token) (ts us : List Token) → first_of us ≡ first_of (t 
 first_is t ts [] e = absurd (cc)
 first_is t ts (u ∷ us) e = let same : u ≡ t = cc in (us, ap (λ (x : Token). x ∷ us) same)
 
+-- the fault stands at a token: at the wrong one, or at one before it
+abbrev pub Shown : List Token → Token → SyntaxError → Type 0
+Shown before at w = (front back : List Token) × (shown : Token) × (code : ℕ) × (before ++ at ∷ [] ≡ front ++ shown ∷ back) × (w ≡ wrong shown code)
+
+pub at_once : (before : List Token) (at : Token) (code : ℕ) (w : SyntaxError) → w ≡ wrong at code → Shown before at w
+at_once before at code w e = (before, [], at, code, refl, e)
+
+pub shown_behind : (text before : List Token) (at : Token) (w : SyntaxError) → Shown before at w → Shown (text ++ before) at w
+shown_behind text before at w (front, back, shown, code, within, is) = (
+  text ++ front,
+  back,
+  shown,
+  code,
+  append_assoc text before (at ∷ []) ∙ ap (λ us. text ++ us) within ∙ sym (append_assoc text front (shown ∷ back)),
+  is,
+)
+
+-- where it stands among all tokens
+pub shown_whole : (ts before : List Token) (at : Token) (more : List Token) (w : SyntaxError) → ts ≡ before ++ at ∷ more → (s : Shown before at w) → ts ≡ s.0 ++ s.2 ∷ (s.1 ++ more)
+shown_whole ts before at more w whole (front, back, shown, code, within, is) =
+    whole ∙ sym (append_assoc before (at ∷ []) more) ∙ ap (λ us. us ++ more) within ∙ append_assoc front (shown ∷ back) more
+
 -- R is wrong at the token `at`, whatever follows it; with the tokens before it, what P says can go on
 pub record Failing (X : Type 0) (P : List Token → X → Type 0) (R : List Token → Read X) (ts : List Token) (w : SyntaxError) : Type 0 where
   pub before : List Token
   pub at : Token
   pub more : List Token
-  pub code : ℕ
   pub whole : ts ≡ before ++ at ∷ more
-  pub is_wrong : w ≡ wrong at code
+  pub is_wrong : Shown before at w
   pub fails : (text : List Token) → R (before ++ at ∷ text) ≡ Err w
   pub goes : (text : List Token) × (x : X) × P (before ++ text) x
 
 -- at the first token
 pub at_first : (X : Type 0) (P : List Token → X → Type 0) (R : List Token → Read X) (t : Token) (ts : List Token) (w : SyntaxError) (code : ℕ) → w ≡ wrong t code
     → ((text : List Token) → R (t ∷ text) ≡ Err w) → (text : List Token) × (x : X) × P text x → Failing X P R (t ∷ ts) w
-at_first X P R t ts w code is fails goes = record { before = []; at = t; more = ts; code = code; whole = refl; is_wrong = is; fails = fails; goes = goes }
+at_first X P R t ts w code is fails goes = record { before = []; at = t; more = ts; whole = refl; is_wrong = at_once [] t _ w is; fails = fails; goes = goes }
 
 -- behind tokens that are passed
 pub behind : (X Y : Type 0) (P : List Token → X → Type 0) (Q : List Token → Y → Type 0) (R : List Token → Read X) (S : List Token → Read Y) (text ts : List Token) (w : SyntaxError)
@@ -58,9 +79,8 @@ behind X Y P Q R S text ts w to on f = record {
   before = text ++ f.before;
   at = f.at;
   more = f.more;
-  code = f.code;
   whole = ap (λ us. text ++ us) f.whole ∙ sym (append_assoc text f.before (f.at ∷ f.more));
-  is_wrong = f.is_wrong;
+  is_wrong = shown_behind text f.before f.at w f.is_wrong;
   fails = λ us. ap R (append_assoc text f.before (f.at ∷ us))
       ∙ on (f.before ++ f.at ∷ us) (same_first f.before f.at us f.more ∙ ap first_of (sym f.whole)) (f.fails us);
   goes = goes (to (f.before ++ f.goes.0) f.goes.1 f.goes.2);

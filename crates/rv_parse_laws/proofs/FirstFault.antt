@@ -1,6 +1,6 @@
 -- The first fault of a source: there is at most one, and a source that is read has none.
 
-use Rattle.std.proofs.Common.{◌≡◌, ℕ, suc, ◌+◌, ◌<◌, ◌≤◌, false, List, [], ◌∷◌, ◌++◌, append_assoc, length, take, Some, Err, refl, sym, ◌∙◌, ap, subst, arith, ◌⊎◌, inl, inr}
+use Rattle.std.proofs.Common.{◌≡◌, ℕ, suc, ◌+◌, ◌<◌, ◌≤◌, false, List, [], ◌∷◌, ◌++◌, append_assoc, length, take, Some, Result, Err, refl, sym, ◌∙◌, ap, subst, arith, ◌⊎◌, inl, inr}
 use Rattle.std.proofs.lemmas.Option.{same_Some}
 use Rattle.rv_text_laws.specs.Cut.{Piece, texts, NothingReads, cut}
 use Rattle.rv_text_laws.specs.Lexing.{Token, Lexes, newlines}
@@ -12,8 +12,8 @@ use Rattle.rv_parse_laws.specs.Opening.{is_opened, IsWrongOpening}
 use Rattle.rv_parse_laws.specs.Parsing.{part_at, opening_at, checked_at}
 use Rattle.rv_text_laws.specs.Codes.{limit}
 use Rattle.rv_text_laws.specs.SyntaxError.{SyntaxError, wrong, offset_of}
-use Rattle.rv_parse_laws.specs.Reading.{AreParts, Reads, said, past_line, longest_source, most_statements, CanGoOn, code_of, code_at, OpensWell, AllOpenWell, WrongToken, WrongOpening, PastStatements, Stands, Fault, Refuses}
-use Rattle.rv_parse_laws.proofs.Failing.{heads, tails}
+use Rattle.rv_parse_laws.specs.Reading.{AreParts, Reads, said, past_line, longest_source, most_statements, CanGoOn, OpensWell, AllOpenWell, WrongToken, WrongOpening, PastStatements, Stands, Fault, Refuses}
+use Rattle.rv_parse_laws.proofs.Failing.{shown_whole, heads, tails}
 use Rattle.rv_parse_laws.proofs.Parts.{part_wrong, stops_there}
 use Rattle.rv_parse_laws.proofs.Openings.{OpeningThere, opening_found, front_opens, checked_err, checked_wrong, opening_goes, opening_behind, said_none, opens_on}
 use Rattle.rv_parse_laws.proofs.Whole.{find_part, finds_parts}
@@ -45,12 +45,14 @@ wrong_read : (bytes : List ℕ) (ts : List Token) (parts : List (Piece Part Toke
     → AllOpenWell [] parts (t ∷ us) → part_at (t ∷ us) ≡ Err w → OpensWell (said parts) (t ∷ us) → WrongPart bytes t w
 wrong_read bytes ts parts t us w lexes cut opens e well =
     let s = part_wrong (t ∷ us) w (ended_rest bytes ts (texts parts) t us lexes cut.whole) e in
-    let code : w.code ≡ code_at s.before s.at s.more = sym (ap code_of (ap part_at (sym s.whole) ∙ e)) in
-    let place : w.offset ≡ offset_of s.at w.code = ap (λ (x : SyntaxError). x.offset) s.is_wrong ∙ ap (offset_of s.at) (sym (ap (λ (x : SyntaxError). x.code) s.is_wrong)) in
-    let whole : ts ≡ (texts parts ++ s.before) ++ s.at ∷ s.more = cut.whole ∙ ap (λ xs. texts parts ++ xs) s.whole ∙ sym (append_assoc (texts parts) s.before (s.at ∷ s.more)) in
-    let line : s.at.line ≡ 1 + newlines (take (offset_of s.at w.code) bytes) = token_line bytes ts (texts parts ++ s.before) s.at s.more lexes whole w.code in
-    let from = (standing_at bytes t.start s.before s.at s.more (subst (Standing bytes t.start) s.whole (standing_from bytes ts (texts parts) t us lexes cut.whole))).0 in
-    let least : s.at.start ≤ offset_of s.at w.code = place_at_least s.at w.code in
+    let shown = s.is_wrong in
+    let code : w.code ≡ shown.3 = ap (λ (x : SyntaxError). x.code) shown.5 in
+    let place : w.offset ≡ offset_of shown.2 w.code = ap (λ (x : SyntaxError). x.offset) shown.5 ∙ ap (offset_of shown.2) (sym code) in
+    let there : t ∷ us ≡ shown.0 ++ shown.2 ∷ (shown.1 ++ s.more) = shown_whole (t ∷ us) s.before s.at s.more w s.whole shown in
+    let whole : ts ≡ (texts parts ++ shown.0) ++ shown.2 ∷ (shown.1 ++ s.more) = cut.whole ∙ ap (λ xs. texts parts ++ xs) there ∙ sym (append_assoc (texts parts) shown.0 (shown.2 ∷ (shown.1 ++ s.more))) in
+    let line : shown.2.line ≡ 1 + newlines (take (offset_of shown.2 w.code) bytes) = token_line bytes ts (texts parts ++ shown.0) shown.2 (shown.1 ++ s.more) lexes whole w.code in
+    let from = (standing_at bytes t.start shown.0 shown.2 (shown.1 ++ s.more) (subst (Standing bytes t.start) there (standing_from bytes ts (texts parts) t us lexes cut.whole))).0 in
+    let least : shown.2.start ≤ offset_of shown.2 w.code = place_at_least shown.2 w.code in
     record {
       stands = inl (record {
         tokens = ts;
@@ -67,10 +69,14 @@ wrong_read bytes ts parts t us w lexes cut opens e well =
         goes = (s.goes.1, s.goes.0, s.goes.2.0, s.goes.2.1);
         stops = λ h. stops_there (t ∷ us) w s h.0 h.1 (h.2, subst (IsPart h.0) (append_assoc s.before (s.at ∷ []) h.1) h.3);
         opens_well = front_opens (said parts) (s.before ++ s.at ∷ []) (t ∷ us) s.more (s.whole ∙ sym (append_assoc s.before (s.at ∷ []) s.more)) well;
-        code_is = code;
+        front = shown.0;
+        shown = shown.2;
+        back = shown.1;
+        shown_is = shown.4;
+        fault_is = e ∙ ap (λ (x : SyntaxError). Err x) (shown.5 ∙ ap (wrong shown.2) (sym code));
         place_is = place;
       });
-      line = ap (λ (x : SyntaxError). x.line) s.is_wrong ∙ line ∙ ap (λ n. 1 + newlines (take n bytes)) (sym place);
+      line = ap (λ (x : SyntaxError). x.line) shown.5 ∙ line ∙ ap (λ n. 1 + newlines (take n bytes)) (sym place);
       behind = omega (arith, from, least, place);
     }
 
@@ -127,17 +133,10 @@ goes_on_front : (rest before : List Token) (at : Token) (more all : List Token) 
 goes_on_front rest before at more all is (p, after, label, spelled) =
     (p, more ++ after, label, subst (IsPart p) (ap (λ us. us ++ after) is ∙ append_assoc before (at ∷ more) after ∙ sym (append_assoc before (at ∷ []) (more ++ after))) spelled)
 
--- the fault at a token, by the token and what stands before and behind it
-same_fault : (rest : List Token) (b : List Token) (t : Token) (more : List Token) (d : List Token) (u : Token) (others : List Token) (p c q e : ℕ)
-    → b ++ t ∷ more ≡ d ++ u ∷ others
-    → CanGoOn rest b → (CanGoOn rest (b ++ t ∷ []) → ⊥) → CanGoOn rest d → (CanGoOn rest (d ++ u ∷ []) → ⊥)
-    → c ≡ code_at b t more → e ≡ code_at d u others → p ≡ offset_of t c → q ≡ offset_of u e → (p ≡ q) × (c ≡ e)
-same_fault rest b t more d u others p c q e whole goes stops goes' stops' code code' place place' =
-    elim (fronts b d t u more others whole) [
-      | inl (fronts, tokens, behind) ↦ (let codes : c ≡ e = cc in (cc, codes))
-      | inr (inl (zs, is)) ↦ absurd (stops (goes_on_front rest b t zs d is goes'))
-      | inr (inr (zs, is)) ↦ absurd (stops' (goes_on_front rest d u zs b is goes))
-    ]
+same_errors : (t u : Token) (c d : ℕ) → ◌≡◌ {A = Result (Part × List Token) SyntaxError} (Err (wrong t c)) (Err (wrong u d)) → (offset_of t c ≡ offset_of u d) × (c ≡ d)
+same_errors t u c d e =
+    let same : wrong t c ≡ wrong u d = cc in
+    (ap (λ (x : SyntaxError). x.offset) same, ap (λ (x : SyntaxError). x.code) same)
 
 -- at most one token is wrong
 pub one_wrong : (bytes : List ℕ) (p c q d : ℕ) → WrongToken bytes p c → WrongToken bytes q d → (p ≡ q) × (c ≡ d)
@@ -146,9 +145,8 @@ one_wrong bytes p c q d x y =
     let one : cut find_part x.tokens ≡ (x.parts, x.rest) = unique finds_parts x.tokens x.parts x.rest x.cut (nothing_none finds_parts x.rest x.nothing) in
     let two : cut find_part y.tokens ≡ (y.parts, y.rest) = unique finds_parts y.tokens y.parts y.rest y.cut (nothing_none finds_parts y.rest y.nothing) in
     let rests : y.rest ≡ x.rest = ap (λ (z : List (Piece Part Token) × List Token). z.1) (sym two ∙ ap (cut find_part) (sym tokens) ∙ one) in
-    same_fault x.rest x.before x.at x.more y.before y.at y.more p c q d (sym x.whole ∙ sym rests ∙ y.whole)
-    x.goes x.stops (subst (λ r. CanGoOn r y.before) rests y.goes) (λ h. y.stops (subst (λ r. CanGoOn r (y.before ++ y.at ∷ [])) (sym rests) h))
-    x.code_is y.code_is x.place_is y.place_is
+    let k = same_errors x.shown y.shown c d (sym x.fault_is ∙ ap part_at (sym rests) ∙ y.fault_is) in
+    (x.place_is ∙ k.0 ∙ sym y.place_is, k.1)
 
 same_wrongs : (t u : Token) (c d : ℕ) → Some (wrong t c) ≡ Some (wrong u d) → (offset_of t c ≡ offset_of u d) × (c ≡ d)
 same_wrongs t u c d e =
@@ -241,7 +239,9 @@ wrong_behind bytes ts ps t us p c lexes cut opens not (inl x) =
 
     go : GoesOn ps (t ∷ us) x.parts x.rest ⊎ GoesOn x.parts x.rest ps (t ∷ us) → t.start < p
     go (inl ([], is, c)) = here (sym c.whole)
-    go (inl (m ∷ more, is, c)) = behind_good bytes t us m more x.rest x.before x.at x.more p _ (standing_from bytes ts (texts ps) t us lexes cut.whole) c x.whole x.place_is
+    go (inl (m ∷ more, is, d)) =
+        behind_good bytes t us m more x.rest x.front x.shown (x.back ++ x.more) p c (standing_from bytes ts (texts ps) t us lexes cut.whole) d
+        (x.whole ∙ sym (append_assoc x.before (x.at ∷ []) x.more) ∙ ap (λ xs. xs ++ x.more) x.shown_is ∙ append_assoc x.front (x.shown ∷ x.back) x.more) x.place_is
     go (inr ([], is, c)) = here c.whole
     go (inr (m ∷ more, is, c)) = absurd (no_further x.rest m more (t ∷ us) x.nothing c)
 wrong_behind bytes ts ps t us p c lexes cut opens not (inr x) =

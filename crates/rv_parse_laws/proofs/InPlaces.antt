@@ -13,7 +13,7 @@ use Rattle.rv_statement.specs.Statement.{Operand}
 use Rattle.rv_parse_laws.specs.Syntax.{is_comma, is_end, is_opening, with_constant, source, Slot, A_value, An_address, A_section, A_comma, An_opening, single, front_begins, Slots, Stops, Takes, Chooses, Lists, Anything, slots, places, IsOperand, IsTaken, AreOperands, colon_next, EndsHere}
 use Rattle.rv_parse_laws.specs.Faults.{wrong_after}
 use Rattle.rv_parse_laws.specs.Parsing.{taking, operands_at}
-use Rattle.rv_parse_laws.proofs.Failing.{Failing, alike, first_of, same_first}
+use Rattle.rv_parse_laws.proofs.Failing.{Failing, at_once, alike, first_of, same_first}
 use Rattle.rv_parse_laws.proofs.Singles.{IsSingle, is_single, end_none}
 use Rattle.rv_parse_laws.proofs.Values.{closes, Closes}
 use Rattle.rv_parse_laws.proofs.Operands.{Ready, operand_live, operand_goes, taken_is, FoundTo, taken_found, taken_wrong}
@@ -216,7 +216,6 @@ other_wrong s more others ts w unbegun x = record {
   before = x.before;
   at = x.at;
   more = x.more;
-  code = x.code;
   whole = x.whole;
   is_wrong = x.is_wrong;
   fails = λ text. rw (front_same s (x.before ++ x.at ∷ text) ts (same_first x.before x.at text x.more ∙ ap first_of (sym x.whole)) ∙ unbegun) (x.fails text);
@@ -235,9 +234,8 @@ stop_wrong s ts w (t, us, whole, no_end, is) = record {
   before = [];
   at = t;
   more = us;
-  code = wrong_after s t.kind;
   whole = whole;
-  is_wrong = is;
+  is_wrong = at_once [] t _ w is;
   fails = λ text. rw (no_end, is) refl;
   goes = ([], [], (refl, refl));
 }

@@ -14,7 +14,7 @@ use Rattle.rv_parse_laws.specs.Syntax.{is_comma, is_end, is_wrong, is_any, Slot,
 use Rattle.rv_parse_laws.specs.Faults.{wrong_after, wrong_any}
 use Rattle.rv_parse_laws.specs.Parsing.{◌>>=◌, seen_as, operand_at, end_at, ended_at, taking, further, items_in, items_at, any_at}
 use Rattle.rv_parse_laws.proofs.Steps.{bind_ok, tested_ok, pair_parts, bind_err, tested_err}
-use Rattle.rv_parse_laws.proofs.Failing.{Failing, behind, alike, heads, never, wrongs}
+use Rattle.rv_parse_laws.proofs.Failing.{Failing, at_once, behind, alike, heads, never, wrongs}
 use Rattle.rv_parse_laws.proofs.Singles.{comma_no_last}
 use Rattle.rv_parse_laws.proofs.Values.{closes, Closes}
 use Rattle.rv_parse_laws.proofs.Operands.{Ready, operand_is, operand_shorter, taken_is, FoundTo, taken_found, taken_wrong}
@@ -206,9 +206,8 @@ items_wrong_in (suc room) s ts w le end e =
               before = [];
               at = t;
               more = us;
-              code = wrong_after s t.kind;
               whole = refl;
-              is_wrong = is;
+              is_wrong = at_once [] t _ w is;
               fails = λ text. rw (comma, no_end, is) refl;
               goes = ([], [], inl (refl, refl));
             }
@@ -278,9 +277,8 @@ any_wrong (t ∷ ts) w end e = go (is_end t.kind) refl e (any_wrong ts w)
           before = [];
           at = t;
           more = ts;
-          code = wrong_any t.kind;
           whole = refl;
-          is_wrong = sym (wrongs _ w e);
+          is_wrong = at_once [] t _ w (sym (wrongs _ w e));
           fails = λ text. rw (any, h) (ap (λ (x : SyntaxError). Err x) (wrongs _ w e));
           goes = ([], [], (refl, refl));
         }

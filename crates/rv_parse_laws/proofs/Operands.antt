@@ -6,11 +6,11 @@ use Rattle.rv_text_laws.specs.Lexing.{Token, ended}
 use Rattle.rv_text_laws.specs.SyntaxError.{SyntaxError, Read}
 use Rattle.rv_text_laws.proofs.ExpressionWrong.{ended_more, ended_behind}
 use Rattle.rv_statement.specs.Statement.{Expression, Operand, Word}
-use Rattle.rv_parse_laws.specs.Syntax.{is_colon, Slot, A_value, An_address, A_section, valued, IsValue, IsOperand, IsTaken, EndsHere}
+use Rattle.rv_parse_laws.specs.Syntax.{is_colon, Slot, A_value, An_address, A_section, valued, IsValueIn, IsOperand, IsTaken, EndsHere}
 use Rattle.rv_parse_laws.specs.Parsing.{seen_as, value_in, section_at, operand_at, taking}
 use Rattle.rv_parse_laws.proofs.Steps.{bind_ok, seen_ok, bind_err, seen_err}
 use Rattle.rv_parse_laws.proofs.Failing.{Failing, behind, alike, first_of}
-use Rattle.rv_parse_laws.proofs.Singles.{a_literal, single_is, single_found, single_passed, single_wrong, one_is, one_some, one_goes}
+use Rattle.rv_parse_laws.proofs.Singles.{a_symbol, single_is, single_found, single_passed, single_wrong, one_is, one_some, one_goes}
 use Rattle.rv_parse_laws.proofs.Values.{Closes, value_in_is, value_some, value_found, value_wrong, value_goes}
 use Rattle.rv_parse_laws.proofs.Addresses.{address_is, address_found, address_wrong, address_some, address_ended, address_live}
 use Rattle.rv_parse_laws.proofs.Sections.{IsSection, section_is, section_found, section_wrong, behind_ended, section_token, some_section, name_no_last}
@@ -66,7 +66,7 @@ section_some (t ∷ text) os is = omega arith
 
 -- one token or more
 pub operand_some : (s : Slot) (text : List Token) (os : List Operand) → IsOperand s text os → 0 < length text
-operand_some (A_value role) text os is = value_some text is.0 is.1
+operand_some (A_value role) text os is = value_some text is.0 is.1.0
 operand_some (An_address role) text os is = address_some role text os is
 operand_some A_section text os is = section_some text os is
 operand_some s text os is = one_some s text os is
@@ -96,7 +96,7 @@ operand_ended s ts os rest end e = (single_passed s ts os rest end e).3
 
 -- each place has something that stands in it, and does not begin with a colon
 pub operand_live : (s : Slot) → (t : Token) × (us : List Token) × (os : List Operand) × IsOperand s (t ∷ us) os × (is_colon t.kind ≡ false)
-operand_live (A_value role) = (a_literal, [], valued role value_goes.1 ∷ [], (value_goes.1, value_goes.2, refl), refl)
+operand_live (A_value role) = (a_symbol, [], valued role (value_goes role).0 ∷ [], ((value_goes role).0, (value_goes role).1, refl), refl)
 operand_live (An_address role) = address_live role
 operand_live A_section = (section_token, [], Word some_section.1 ∷ [], (some_section.1, some_section.2.0, some_section.2.1, refl), refl)
 operand_live s = one_goes s refl
@@ -106,7 +106,7 @@ operand_goes s = let o = operand_live s in (o.0 ∷ o.1, o.2, o.3)
 
 pub operand_wrong : (s : Slot) (ts : List Token) (w : SyntaxError) → ended ts ≡ true → operand_at s ts ≡ Err w → Failing (List Operand) (IsOperand s) (operand_at s) ts w
 operand_wrong (A_value role) ts w end e =
-    alike (List Operand) Expression (IsOperand (A_value role)) IsValue (operand_at (A_value role)) (value_in role) ts w
+    alike (List Operand) Expression (IsOperand (A_value role)) (IsValueIn role) (operand_at (A_value role)) (value_in role) ts w
     (λ us x v. (valued role x ∷ [], (x, v, refl))) (λ us first h. ap (seen_as (λ e. valued role e ∷ [])) h)
     (value_wrong role ts w end (seen_err (λ e. valued role e ∷ []) (value_in role ts) w e)).0
 operand_wrong (An_address role) ts w end e = address_wrong role ts w end e
@@ -165,7 +165,6 @@ taken_wrong s R N ts w (text, later, n) end e ih = elim (bind_err (operand_at s 
       before = x.before;
       at = x.at;
       more = x.more;
-      code = x.code;
       whole = x.whole;
       is_wrong = x.is_wrong;
       fails = λ us. operand_err s R (x.before ++ x.at ∷ us) w (x.fails us);

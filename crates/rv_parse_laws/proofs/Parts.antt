@@ -16,7 +16,7 @@ use Rattle.rv_parse_laws.specs.Faults.{wrong_start, wrong_label}
 use Rattle.rv_parse_laws.specs.Parsing.{seen_as, taken, operands_at, begun_at, after_first, statement_at, part_at}
 use Rattle.rv_parse_laws.specs.Reading.{is_label, begins_label}
 use Rattle.rv_parse_laws.proofs.Steps.{seen_ok, taken_ok, pair_parts, seen_err, taken_err}
-use Rattle.rv_parse_laws.proofs.Failing.{Failing, first_of, never, wrongs}
+use Rattle.rv_parse_laws.proofs.Failing.{Failing, Shown, at_once, shown_behind, first_of, never, wrongs}
 use Rattle.rv_parse_laws.proofs.Singles.{some_token, a_symbol}
 use Rattle.rv_parse_laws.proofs.InPlaces.{slots_sound, places_sound, operands_is, operands_found, operands_wrong, operands_live}
 use Rattle.rv_parse_laws.specs.declared.beginning.Beginning.{Beginning}
@@ -171,9 +171,8 @@ pub record WrongAt (ts : List Token) (w : SyntaxError) : Type 0 where
   pub before : List Token
   pub at : Token
   pub more : List Token
-  pub code : ℕ
   pub whole : ts ≡ before ++ at ∷ more
-  pub is_wrong : w ≡ wrong at code
+  pub is_wrong : Shown before at w
   pub fails : (text : List Token) → begins_label (before ++ at ∷ text) ≡ begins_label ts → part_at (before ++ at ∷ text) ≡ Err w
   pub goes : (text : List Token) × (p : Part) × PartOf ts (before ++ text) p
 
@@ -204,9 +203,8 @@ begun_behind t ts w b ss view no_end is colon on to x =
       before = t ∷ x.before;
       at = x.at;
       more = x.more;
-      code = x.code;
       whole = ap (λ us. t ∷ us) x.whole;
-      is_wrong = x.is_wrong;
+      is_wrong = shown_behind (t ∷ []) x.before x.at w x.is_wrong;
       fails = λ text label. begun_err b t (x.before ++ x.at ∷ text) w no_end is (label ∙ colon) (on (x.before ++ x.at ∷ text) (x.fails text));
       goes = (g.0, Says (view g.1), to (x.before ++ g.0) g.1 g.3 g.2);
     }
@@ -229,9 +227,8 @@ begun_wrong beginnings.Nothing t ts w end is no_end colon e =
       before = [];
       at = t;
       more = ts;
-      code = wrong_start t.kind;
       whole = refl;
-      is_wrong = sym v;
+      is_wrong = at_once [] t _ w (sym v);
       fails = λ text label. begun_err beginnings.Nothing t text w no_end is (label ∙ colon) e;
       goes = (a_newline ∷ [], Ends, (sym colon, (a_newline, refl, refl)));
     }
@@ -257,9 +254,8 @@ part_wrong (t ∷ ts) w end e = go (is_end t.kind) refl e
           before = [];
           at = t;
           more = ts;
-          code = wrong_label t.kind;
           whole = refl;
-          is_wrong = k.1;
+          is_wrong = at_once [] t _ w k.1;
           fails = λ text label. label_err t text w no_end k.0 k.1 (label ∙ colon);
           goes = (a_symbol ∷ a_colon ∷ [], Says (Label (codes "f")), (sym colon, (a_symbol, a_colon, refl, some_label, refl)));
         }

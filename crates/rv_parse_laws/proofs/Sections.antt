@@ -14,8 +14,8 @@ use Rattle.rv_text_laws.specs.Joined.{bytes_of, AreAfter, IsJoined, joins, joine
 use Rattle.rv_text_laws.proofs.ExpressionWrong.{ended_more}
 use Rattle.rv_parse_laws.specs.Syntax.{is_section_name, A_section}
 use Rattle.rv_parse_laws.specs.Faults.{wrong_first, unsupported_here}
-use Rattle.rv_parse_laws.specs.Parsing.{too_long, wrong_next, named_or, section_at}
-use Rattle.rv_parse_laws.proofs.Failing.{Failing, first_of, first_is, never, wrongs}
+use Rattle.rv_parse_laws.specs.Parsing.{too_long, named_or, section_at}
+use Rattle.rv_parse_laws.proofs.Failing.{Failing, at_once, first_of, first_is, never, wrongs}
 use Rattle.rv_parse_laws.proofs.Values.{closes, Closes}
 
 -- the tokens are a name that a section may have
@@ -168,7 +168,7 @@ first_name_is _ first h = absurd (cc)
 
 -- what a name and the tokens behind it say
 abbrev outcome : Token → List Token → List ℕ → List Token → Read (List ℕ)
-outcome t ts name rest = cond (is_section_name name) (Ok (name, rest)) (cond (nat_lt longest_name (length name)) (Err (too_long 0 (t ∷ ts))) (Err (wrong_next rest unsupported_here)))
+outcome t ts name rest = cond (is_section_name name) (Ok (name, rest)) (cond (nat_lt longest_name (length name)) (Err (too_long 0 (t ∷ ts))) (Err (wrong t unsupported_here)))
 
 section_by : (t : Token) (ts : List Token) (first later : List ℕ) (rest : List Token) → t.kind ≡ Name first → joined_after t.stop ts ≡ (later, rest)
     → section_at (t ∷ ts) ≡ outcome t ts (first ++ later) rest
@@ -195,7 +195,7 @@ section_found (t ∷ ts) name rest e = go (first_name t.kind) refl
     named : (first : List ℕ) → t.kind ≡ Name first → (b : Bool) → is_section_name (first ++ (joined_after t.stop ts).0) ≡ b → SectionFound (t ∷ ts) name rest
     named first is false bad = absurd (go (nat_lt longest_name (length (first ++ (joined_after t.stop ts).0))) (sym (section_by t ts first (joined_after t.stop ts).0 (joined_after t.stop ts).1 is refl ∙ rw bad refl) ∙ e))
       where
-        go : (c : Bool) → cond {A = Read (List ℕ)} c (Err (too_long 0 (t ∷ ts))) (Err (wrong_next (joined_after t.stop ts).1 unsupported_here)) ≡ Ok (name, rest) → ⊥
+        go : (c : Bool) → cond {A = Read (List ℕ)} c (Err (too_long 0 (t ∷ ts))) (Err (wrong t unsupported_here)) ≡ Ok (name, rest) → ⊥
         go true h = cc
         go false h = cc
     named first is true good =
@@ -333,9 +333,8 @@ section_wrong (t ∷ ts) w end e = go (first_name t.kind) refl
       before = [];
       at = t;
       more = ts;
-      code = limit;
       whole = refl;
-      is_wrong = sym same ∙ one ts;
+      is_wrong = at_once [] t _ w (sym same ∙ one ts);
       fails = λ text. long_err t text first (joined_after t.stop text).0 (joined_after t.stop text).1 w is refl (omega (arith, lt, length-append first (joined_after t.stop text).0))
           (one text ∙ sym (one ts) ∙ same);
       goes = some_section;
@@ -359,16 +358,15 @@ section_wrong (t ∷ ts) w end e = go (first_name t.kind) refl
           before = t ∷ f.front;
           at = f.at;
           more = f.more;
-          code = limit;
           whole = ap (λ us. t ∷ us) f.whole;
-          is_wrong = is_wrong;
+          is_wrong = at_once (t ∷ f.front) f.at _ w is_wrong;
           fails = λ text. long_err t (f.front ++ f.at ∷ text) first (joined_after t.stop (f.front ++ f.at ∷ text)).0 (joined_after t.stop (f.front ++ f.at ∷ text)).1 w is refl
               (omega (arith, (f.says text).1, length-append first (joined_after t.stop (f.front ++ f.at ∷ text)).0)) (one text ∙ sym is_wrong);
           goes = section_goes t f.front first f.bytes is f.is (omega (arith, f.fits, length-append first f.bytes));
         }
 
     rows : (first : List ℕ) → t.kind ≡ Name first → is_section_name (first ++ (joined_after t.stop ts).0) ≡ false → nat_lt longest_name (length (first ++ (joined_after t.stop ts).0)) ≡ false
-        → (us : List Token) → (joined_after t.stop ts).1 ≡ us → wrong_next us unsupported_here ≡ w → Failing (List ℕ) IsSection section_at (t ∷ ts) w
+        → (us : List Token) → (joined_after t.stop ts).1 ≡ us → wrong t unsupported_here ≡ w → Failing (List ℕ) IsSection section_at (t ∷ ts) w
     rows first is bad within [] none same =
         let f = joined_found t.stop ts in
         let last : ended (f.text ++ []) ≡ true = ap (λ us. ended (f.text ++ us)) (sym none) ∙ ap ended (sym f.whole) ∙ ended_more t ts (name_no_last t.kind first is) end in
@@ -379,15 +377,14 @@ section_wrong (t ∷ ts) w end e = go (first_name t.kind) refl
           before = t ∷ f.text;
           at = at;
           more = more;
-          code = unsupported_here;
           whole = ap (λ us. t ∷ us) (f.whole ∙ ap (λ us. f.text ++ us) next);
-          is_wrong = sym same;
+          is_wrong = ([], f.text ++ at ∷ [], t, unsupported_here, refl, sym same);
           fails = λ text. section_by t (f.text ++ at ∷ text) first (joined_after t.stop ts).0 (at ∷ text) is (f.steady (at ∷ text) (ap first_of (sym next))) ∙ rw (bad, within) (ap (λ (x : SyntaxError). Err x) same);
           goes = section_goes t f.text first (joined_after t.stop ts).0 is f.is (grind (arith, nat_tests, within));
         }
 
     over : (first : List ℕ) → t.kind ≡ Name first → is_section_name (first ++ (joined_after t.stop ts).0) ≡ false → (b : Bool) → nat_lt longest_name (length (first ++ (joined_after t.stop ts).0)) ≡ b
-        → cond {A = Read (List ℕ)} b (Err (too_long 0 (t ∷ ts))) (Err (wrong_next (joined_after t.stop ts).1 unsupported_here)) ≡ Err w → Failing (List ℕ) IsSection section_at (t ∷ ts) w
+        → cond {A = Read (List ℕ)} b (Err (too_long 0 (t ∷ ts))) (Err (wrong t unsupported_here)) ≡ Err w → Failing (List ℕ) IsSection section_at (t ∷ ts) w
     over first is bad true long h = first_or (nat_lt longest_name (0 + length first)) refl
       where
         first_or : (b : Bool) → nat_lt longest_name (0 + length first) ≡ b → Failing (List ℕ) IsSection section_at (t ∷ ts) w
@@ -409,9 +406,8 @@ section_wrong (t ∷ ts) w end e = go (first_name t.kind) refl
           before = [];
           at = t;
           more = ts;
-          code = wrong_first A_section t.kind;
           whole = refl;
-          is_wrong = sym same;
+          is_wrong = at_once [] t _ w (sym same);
           fails = λ text. ap (named_or (t ∷ text)) (none_at t text h) ∙ ap (λ (x : SyntaxError). Err x) same;
           goes = some_section;
         }

@@ -141,7 +141,13 @@ bad_lines =
     (codes ".text 1", 7, 6) ∷
     (codes ".section", 7, 8) ∷
     (codes ".section \"x\"", 9, 9) ∷
-    (codes ".section .rv.rows", 9, 17) ∷
+    (codes ".section .rv.rows", 9, 9) ∷
+    (codes ".section .rv.rows 5", 9, 9) ∷
+    (codes "j 8", 9, 2) ∷
+    (codes "j 1/0 foo", 9, 2) ∷
+    (codes "beq a0, a1, -(4) foo", 9, 12) ∷
+    (codes "call 8@plt", 9, 5) ∷
+    (codes "la a0, 8 == 4", 9, 9) ∷
     (codes ".section y,\"aG\"", 9, 11) ∷
     (codes ".section y,\"aGq\" 5", 7, 11) ∷
     (codes ".section y,\"a\",%progbits", 7, 15) ∷

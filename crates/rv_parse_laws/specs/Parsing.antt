@@ -10,7 +10,7 @@ use Rattle.rv_text_laws.specs.Joined.{bytes_of, joined_at}
 use Rattle.rv_text_laws.specs.Expression.{tree_of}
 use Rattle.rv_text_laws.specs.ExpressionAt.{expression_at}
 use Rattle.rv_statement.specs.Statement.{Expression, Operand, Value, Word, StatementKind, Instruction, Directs}
-use Rattle.rv_parse_laws.specs.Syntax.{is_register, label_of, begins, is_comma, is_percent, is_end, is_opening, is_any, is_section_name, valued, Slot, A_register, A_value, An_address, A_section, Some_flags, At_sign, A_comma, A_closing, An_opening, single, front_begins, Slots, Stops, Takes, Chooses, Lists, Anything, slots, places, directed, colon_next, Part, Ends, Says}
+use Rattle.rv_parse_laws.specs.Syntax.{is_register, label_of, begins, is_comma, is_percent, is_end, is_opening, is_any, is_section_name, valued, is_refused, Slot, A_register, A_value, An_address, A_section, Some_flags, At_sign, A_comma, A_closing, An_opening, single, front_begins, Slots, Stops, Takes, Chooses, Lists, Anything, slots, places, directed, colon_next, Part, Ends, Says}
 use Rattle.rv_parse_laws.specs.Faults.{may_call, wrong_first, wrong_after, wrong_any, wrong_start, wrong_label, unsupported_here}
 use Rattle.rv_parse_laws.specs.Opening.{flags_fault, type_fault, is_section}
 use Rattle.rv_parse_laws.specs.declared.role.Role.{Role}
@@ -36,10 +36,16 @@ taken t ts None code = Err (wrong t code)
 abbrev pub value_at : List Token → Read Expression
 value_at ts = seen_as tree_of (expression_at is_register ts)
 
+-- what is read, unless it is refused where it stands: the fault stands at its first token
+abbrev pub allowed : Role → Token → Read Expression → Read Expression
+allowed role t (Ok x) = if is_refused role x.0 then Err (wrong t unsupported_here) else Ok x
+allowed role t (Err w) = Err w
+
 -- an expression where it stands so: no function call
 abbrev pub value_in : Role → List Token → Read Expression
 value_in role [] = Err nowhere
-value_in role (t ∷ ts) = if may_call role && is_percent t.kind then Err (wrong t unsupported_here) else value_at (t ∷ ts)
+value_in role (t ∷ ts) =
+    if may_call role && is_percent t.kind then Err (wrong t unsupported_here) else allowed role t (value_at (t ∷ ts))
 
 abbrev pub single_at : Slot → List Token → Read (List Operand)
 single_at s [] = Err nowhere
@@ -68,10 +74,10 @@ abbrev pub too_long : ℕ → List Token → SyntaxError
 too_long before [] = nowhere
 too_long before (t ∷ ts) = let bytes = before + width t.kind in if nat_lt longest_name bytes then wrong t limit else too_long bytes ts
 
--- the token behind, where what stands before it is wrong there
-abbrev pub wrong_next : List Token → ℕ → SyntaxError
-wrong_next [] code = nowhere
-wrong_next (t ∷ ts) code = wrong t code
+-- a fault at the first of these tokens
+abbrev pub wrong_front : List Token → ℕ → SyntaxError
+wrong_front [] code = nowhere
+wrong_front (t ∷ ts) code = wrong t code
 
 -- the name that is joined at the front of tokens, where a section may have it
 abbrev pub named_or : List Token → Option (List ℕ × List Token) → Read (List ℕ)
@@ -79,7 +85,7 @@ named_or [] None = Err nowhere
 named_or (t ∷ ts) None = Err (wrong t (wrong_first A_section t.kind))
 named_or ts (Some read) =
     if is_section_name read.0 then Ok read
-    else (if nat_lt longest_name (length read.0) then Err (too_long 0 ts) else Err (wrong_next read.1 unsupported_here))
+    else (if nat_lt longest_name (length read.0) then Err (too_long 0 ts) else Err (wrong_front ts unsupported_here))
 
 -- the name of a section
 abbrev pub section_at : List Token → Read (List ℕ)

@@ -4,7 +4,7 @@ use Rattle.std.specs.Prelude.{◌≡◌, ℕ, ◌+◌, ◌^◌, ◌<◌, ◌≤�
 use Rattle.rv_text_laws.specs.Cut.{Piece, texts, Cuts, NothingReads}
 use Rattle.rv_text_laws.specs.Lexing.{Token, Lexes, newlines}
 use Rattle.rv_text_laws.specs.Codes.{limit}
-use Rattle.rv_text_laws.specs.SyntaxError.{offset_of, Read}
+use Rattle.rv_text_laws.specs.SyntaxError.{wrong, offset_of}
 use Rattle.rv_statement.specs.Statement.{Label, Numbered, Statement}
 use Rattle.rv_parse_laws.specs.Syntax.{Part, Ends, Says, IsPart, StopsPart, is_end, colon_next}
 use Rattle.rv_parse_laws.specs.Opening.{IsWrongOpening}
@@ -73,16 +73,8 @@ begins_label (t ∷ ts) = colon_next ts
 abbrev pub CanGoOn : List Token → List Token → Type 0
 CanGoOn rest before = (p : Part) × (more : List Token) × (is_label p ≡ begins_label rest) × IsPart p (before ++ more)
 
--- the code of a wrong reading
-abbrev pub code_of : {X : Type 0} → Read X → ℕ
-code_of (Ok x) = 0
-code_of (Err w) = w.code
-
--- the code of the token `at`, between the tokens `before` of its part and the tokens `more`, as their reading says
-abbrev pub code_at : List Token → Token → List Token → ℕ
-code_at before at more = code_of (part_at (before ++ at ∷ more))
-
--- a token with which nothing can go on, behind good parts and no wrong opening
+-- a token with which nothing can go on, after good parts and no wrong opening; the fault stands at that token, or at the
+-- first token of an operand that it ends, which is spelled right and is refused, as the reading says
 pub record WrongToken (bytes : List ℕ) (place code : ℕ) : Type 0 where
   pub tokens : List Token
   pub lexes : Lexes bytes tokens
@@ -98,8 +90,12 @@ pub record WrongToken (bytes : List ℕ) (place code : ℕ) : Type 0 where
   pub goes : CanGoOn rest before
   pub stops : CanGoOn rest (before ++ at ∷ []) → ⊥
   pub opens_well : OpensWell (said parts) (before ++ at ∷ [])
-  pub code_is : code ≡ code_at before at more
-  pub place_is : place ≡ offset_of at code
+  pub front : List Token
+  pub shown : Token
+  pub back : List Token
+  pub shown_is : before ++ at ∷ [] ≡ front ++ shown ∷ back
+  pub fault_is : part_at rest ≡ Err (wrong shown code)
+  pub place_is : place ≡ offset_of shown code
 
 -- a token with which the opening of a section is wrong, behind good parts
 pub record WrongOpening (bytes : List ℕ) (place code : ℕ) : Type 0 where

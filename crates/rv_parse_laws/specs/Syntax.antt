@@ -10,9 +10,9 @@ use Rattle.rv_text_laws.specs.Grammar.{Kind, Newline, Punctuation, Name as NameT
 use Rattle.rv_text_laws.specs.Lexing.{Token}
 use Rattle.rv_text_laws.specs.SyntaxError.{longest_name, is_long}
 use Rattle.rv_text_laws.specs.Joined.{IsJoined}
-use Rattle.rv_text_laws.specs.Expression.{Tree, SpellsTree, IsAt, nesting, deepest, bare}
+use Rattle.rv_text_laws.specs.Expression.{Literal, Tree, Leaf, Unary, Paren, Binary, SpellsTree, IsAt, nesting, deepest, bare}
 use Rattle.rv_statement.specs.declared.mnemonic.Mnemonic.{Mnemonic}
-use Rattle.rv_statement.specs.declared.mnemonic.Mnemonic.TheVariants.{Registers, Immediate, Shift, Upper, Load, Store, Branch, Jal, Jalr, LoadReserved, Atomic, Fence, FenceTso, Ecall, Ebreak, Nop, Unary, Compare, ZeroBranch, SwappedBranch, J, Jr, Ret, La, Li, Call, Tail, Jump}
+use Rattle.rv_statement.specs.declared.mnemonic.Mnemonic.TheVariants.{Registers, Immediate, Shift, Upper, Load, Store, Branch, Jal, Jalr, LoadReserved, Atomic, Fence, FenceTso, Ecall, Ebreak, Nop, Unary as Of_one, Compare, ZeroBranch, SwappedBranch, J, Jr, Ret, La, Li, Call, Tail, Jump}
 use Rattle.rv_isa.specs.declared.operation.RegisterOperation.{RegisterOperation}
 use Rattle.rv_isa.specs.declared.operation.RegisterOperation.TheVariants.{Add, Sll, Slt, Sltu, Xor, Srl, Sra, Or, And, Addw, Sllw, Srlw, Sraw}
 use Rattle.rv_isa.specs.declared.operation.ImmediateOperation.TheVariants.{Addi, Slti, Sltiu, Xori, Ori, Andi, Addiw}
@@ -257,7 +257,7 @@ slots FenceTso = Stops A_register
 slots Ecall = Stops A_register
 slots Ebreak = Stops A_register
 slots Nop = Stops A_register
-slots (Unary operation) = and_then A_register (last A_register)
+slots (Of_one operation) = and_then A_register (last A_register)
 slots (Compare operation) = and_then A_register (and_then A_register (last A_register))
 slots (ZeroBranch operation) = and_then A_register (last A_target)
 slots (SwappedBranch operation) = and_then A_register (and_then A_register (last A_target))
@@ -310,15 +310,35 @@ single _ k = None
 unfoldable pub is_section_name : List ℕ → Bool
 is_section_name name = nat_le (length name) longest_name && not (bytes_eq name (codes ".rv.rows"))
 
+-- where an expression says where something goes
+abbrev pub targets : Role → Bool
+targets roles.Target = true
+targets roles.Call = true
+targets _ = false
+
 -- an expression as an operand: a target, or a value
 abbrev pub valued : Role → Expression → Operand
-valued roles.Target e = Target e
-valued roles.Call e = Target e
-valued _ e = Value e
+valued role e = if targets role then Target e else Value e
+
+-- an expression of numbers alone: it has no name, no numeric reference and no `.`
+abbrev pub is_number : Expression → Bool
+is_number (Leaf (Literal number)) = true
+is_number (Leaf _) = false
+is_number (Unary o x) = is_number x
+is_number (Paren x) = is_number x
+is_number (Binary o x y) = is_number x && is_number y
+
+-- an expression that is spelled right, and is refused where it stands: a number as a target
+abbrev pub is_refused : Role → Expression → Bool
+is_refused role e = targets role && is_number e
 
 -- the tokens are an expression
 abbrev pub IsValue : List Token → Expression → Type 0
 IsValue ts e = (tree : Tree) × SpellsTree is_register tree ts × IsAt 0 tree × (nesting tree ≤ deepest) × (e ≡ bare tree)
+
+-- the tokens are an expression that may stand so
+abbrev pub IsValueIn : Role → List Token → Expression → Type 0
+IsValueIn role ts e = IsValue ts e × (is_refused role e ≡ false)
 
 -- the tokens are a register in parentheses
 abbrev pub IsBase : List Token → List Operand → Type 0
@@ -327,13 +347,13 @@ IsBase ts os =
     × (os ≡ Register number ∷ [])
 
 -- the tokens are an expression and then a register in parentheses
-abbrev pub IsOffset : List Token → List Operand → Type 0
-IsOffset ts os = (one rest : List Token) × (e : Expression) × (base : List Operand) × (ts ≡ one ++ rest) × IsValue one e × IsBase rest base × (os ≡ Value e ∷ base)
+abbrev pub IsOffset : Role → List Token → List Operand → Type 0
+IsOffset role ts os = (one rest : List Token) × (e : Expression) × (base : List Operand) × (ts ≡ one ++ rest) × IsValueIn role one e × IsBase rest base × (os ≡ Value e ∷ base)
 
 -- the tokens stand in this place, with these operands
 abbrev pub IsOperand : Slot → List Token → List Operand → Type 0
-IsOperand (A_value role) ts os = (e : Expression) × IsValue ts e × (os ≡ valued role e ∷ [])
-IsOperand (An_address role) ts os = IsBase ts os ⊎ IsOffset ts os
+IsOperand (A_value role) ts os = (e : Expression) × IsValueIn role ts e × (os ≡ valued role e ∷ [])
+IsOperand (An_address role) ts os = IsBase ts os ⊎ IsOffset role ts os
 IsOperand A_section ts os = (name : List ℕ) × IsJoined ts name × (is_section_name name ≡ true) × (os ≡ Word name ∷ [])
 IsOperand s ts os = (t : Token) × (ts ≡ t ∷ []) × (single s t.kind ≡ Some os)
 

@@ -32,7 +32,11 @@ const FORMS: [(&[u8], u8, u32); 26] = [
         0,
         0,
     ),
-    (b"jr a0; jr (a0); jr 4(a0); jr x + 4(a0); ret; nop", 0, 0),
+    (
+        b"jr a0; jr (a0); jr 4(a0); jr x + 4(a0); ret; nop; j 4 + 1b; j 8 + .",
+        0,
+        0,
+    ),
     (
         b"mv a0, a1; not a0, a1; sext.w a0, a1; zext.b a0, a1; sgtz a0, a1; sgt a0, a1, a2",
         0,
@@ -119,7 +123,7 @@ fn each_form(rt: HostRuntime) {
 }
 
 /// Branches, jumps and pseudo-instructions with operands that are wrong.
-const JUMPS: [(&[u8], u8, u32); 26] = [
+const JUMPS: [(&[u8], u8, u32); 33] = [
     (b"beq a0, a1", 7, 1),
     (b"beq a0, 5, x", 7, 1),
     (b"beq a0, a1, a2", 7, 1),
@@ -146,6 +150,13 @@ const JUMPS: [(&[u8], u8, u32); 26] = [
     (b"jump f", 7, 1),
     (b"jump f, g", 7, 1),
     (b"unimp", 9, 1),
+    (b"j 8", 9, 1),
+    (b"j /*\n*/ 1/0 /*\n*/ foo", 9, 2),
+    (b"beq a0, a1, -(4) 1x", 9, 1),
+    (b"la a0, 'x'\n", 9, 1),
+    (b"call 8@plt", 9, 1),
+    (b"jump 4 /*\n*/ , 5", 9, 1),
+    (b"j (8", 7, 1),
 ];
 
 #[test]
@@ -189,12 +200,13 @@ fn operands_that_are_wrong(rt: HostRuntime) {
     refused(&rt, rt.alloc(), &OPERANDS);
 }
 
-const DIRECTIVES: [(&[u8], u8, u32); 39] = [
+const DIRECTIVES: [(&[u8], u8, u32); 40] = [
     (b".text 1", 7, 1),
     (b".section", 7, 1),
     (b".section \"x\"", 9, 1),
     (b".section .x -y", 7, 1),
     (b".section .rv.rows", 9, 1),
+    (b".section .rv.rows /*\n*/ x", 9, 1),
     (b".section .x,\"aG\"", 9, 1),
     (b".section .x,\"aq\"", 7, 1),
     (b".section .x,\"aGq\"", 7, 1),

@@ -1,6 +1,7 @@
 -- What the nodes of the code stand for.
 
-use Rattle.std.specs.Prelude.{Bool, List, [], ◌∷◌, map, Option, Some, None}
+use Rattle.std.specs.Prelude.{Bool, true, false, List, [], ◌∷◌, map, Option, Some, None}
+use Rattle.std.specs.List.{list_all}
 use Rattle.rv_text_laws.specs.Expression as expression
 use Rattle.rv_text.specs.declared.node.Symbol.{Symbol}
 use Rattle.rv_text.specs.declared.node.Symbol.TheVariants as symbols
@@ -22,6 +23,16 @@ node_of (nodes.Binary operator) = expression.Binary_node operator
 
 abbrev pub nodes_of : Nodes → List expression.Node
 nodes_of e = node_of e.first ∷ map node_of e.rest.items
+
+-- a node that is no symbol
+abbrev pub is_number_node : expression.Node → Bool
+is_number_node (expression.Primary_node (expression.Literal number)) = true
+is_number_node (expression.Primary_node _) = false
+is_number_node _ = true
+
+-- nodes without a symbol
+abbrev pub are_numbers : List expression.Node → Bool
+are_numbers ns = list_all is_number_node ns
 
 -- the nodes so far, if there are any
 abbrev pub some_nodes : Option Nodes → List expression.Node

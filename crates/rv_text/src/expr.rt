@@ -3,7 +3,7 @@
 ghost use Rattle.std.specs.Prelude.{◌≡◌, true, [], ◌∷◌, IfOk};
 ghost use Rattle.rv_text_laws.specs.Expression.{Primary_node};
 ghost use Rattle.rv_text_laws.specs.Values.{nodes_fit};
-ghost use Rattle.rv_text.specs.Nodes.{symbol_of, nodes_of};
+ghost use Rattle.rv_text.specs.Nodes.{symbol_of, nodes_of, are_numbers};
 ghost use Rattle.rv_text.specs.Expr.{expr_of};
 
 use crate::compound::Compound;
@@ -44,6 +44,17 @@ impl<'a> Expr<'a> {
             Symbol::Here => Expr::Here,
             Symbol::Backward(digits) => Expr::Backward(digits),
             Symbol::Forward(digits) => Expr::Forward(digits),
+        }
+    }
+
+    /// A number, or operators on numbers alone: without a name, a reference and `.`.
+    pub fn is_number(&self) -> bool
+        ensures { result ≡ are_numbers (expr_of self.now) }
+    {
+        match self {
+            Expr::Number(_) => true,
+            Expr::Name(_) | Expr::Here | Expr::Backward(_) | Expr::Forward(_) => false,
+            Expr::Compound(compound) => compound.nodes.are_numbers(),
         }
     }
 

@@ -1,8 +1,8 @@
 //! Expressions as the code holds them: nodes in postfix form.
 
-ghost use Rattle.std.specs.Prelude.{◌≡◌, [], ◌∷◌, ◌++◌, IfOk};
+ghost use Rattle.std.specs.Prelude.{◌≡◌, [], ◌∷◌, ◌++◌, map, not, IfOk};
 ghost use Rattle.rv_text_laws.specs.ExpressionAt as reading;
-ghost use Rattle.rv_text.specs.Nodes.{node_of, nodes_of};
+ghost use Rattle.rv_text.specs.Nodes.{node_of, nodes_of, is_number_node, are_numbers};
 
 use rv_text_laws::{BinaryOperator, Frame, UnaryOperator};
 use std::alloc::AllocError;
@@ -40,7 +40,35 @@ pub(crate) struct Nodes<'a> {
     pub(crate) rest: Vec<Node<'a>>,
 }
 
+impl Node<'_> {
+    /// A name, `.` or a reference.
+    fn is_symbol(self) -> bool
+        ensures { result ≡ not (is_number_node (node_of self.entry)) }
+    {
+        matches!(self, Node::Symbol(_))
+    }
+}
+
+/// None of the nodes is a symbol.
+fn are_numbers(nodes: &[Node<'_>]) -> bool
+    ensures { result ≡ are_numbers (map node_of nodes.now) }
+{
+    for node in nodes {
+        if node.is_symbol() {
+            return false;
+        }
+    }
+    true
+}
+
 impl<'a> Nodes<'a> {
+    /// None of them is a symbol.
+    pub(crate) fn are_numbers(&self) -> bool
+        ensures { result ≡ are_numbers (nodes_of self.now) }
+    {
+        !self.first.is_symbol() && are_numbers(self.rest.as_slice())
+    }
+
     /// One more node.
     #[tactic(auto, using(crate::proofs::Exprs::nodes_push))]
     pub(crate) fn push(&mut self, node: Node<'a>) -> Result<(), AllocError>

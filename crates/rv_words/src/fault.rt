@@ -5,6 +5,7 @@ ghost use Rattle.rv_lexer.specs.Fault.{number_of};
 ghost use Rattle.rv_lexer.specs.Token.{kind_of};
 ghost use Rattle.rv_parse_laws.specs.Faults.{may_call, wrong_or, wrong_name, wrong_register, wrong_after_value, wrong_after, wrong_symbol, wrong_letters, wrong_option, wrong_any, wrong_word, wrong_start, wrong_label, bad_operands};
 ghost use Rattle.rv_words.specs.View.{slot_of};
+ghost use Rattle.rv_parse_laws.specs.Syntax.{targets};
 
 use crate::kinds::{is_at, is_comma, is_end};
 use crate::words::{are_known_flags, is_left_out, is_left_out_option};
@@ -76,6 +77,16 @@ pub fn may_call(role: Role) -> bool
     match role {
         Role::Operand | Role::Load | Role::Store => true,
         Role::Directive | Role::Alignment | Role::Target | Role::Call => false,
+    }
+}
+
+/// An expression that says where something goes.
+pub fn targets(role: Role) -> bool
+    ensures { result ≡ targets role }
+{
+    match role {
+        Role::Target | Role::Call => true,
+        Role::Operand | Role::Load | Role::Store | Role::Directive | Role::Alignment => false,
     }
 }
 
