@@ -12,7 +12,8 @@ use Rattle.rv_text_laws.proofs.ExpressionWrong.{can_go_on, fails_there, wrong_at
 use Rattle.rv_text_laws.proofs.Trees.{postfix_tree}
 use Rattle.rv_statement.specs.Statement.{Expression}
 use Rattle.rv_parse_laws.specs.Syntax.{is_register, is_comma, is_opening, is_end, is_percent, IsValue}
-use Rattle.rv_parse_laws.specs.Faults.{may_call, unsupported_here}
+use Rattle.rv_text_laws.specs.Codes.{unsupported_here}
+use Rattle.rv_parse_laws.specs.Faults.{may_call}
 use Rattle.rv_parse_laws.specs.Parsing.{seen_as, value_at, value_in}
 use Rattle.rv_parse_laws.proofs.Steps.{seen_ok, seen_err}
 use Rattle.rv_parse_laws.proofs.Failing.{Failing, first_of, same_first, first_is, never, wrongs}
