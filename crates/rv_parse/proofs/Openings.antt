@@ -10,7 +10,7 @@ use Rattle.rv_statement.specs.declared.directive.DirectiveWord.TheVariants as wo
 use Rattle.rv_statement.specs.Statement.{Operand, Word, Quoted, StatementKind, Directs}
 use Rattle.rv_parse_laws.specs.Syntax.{is_section_name, A_section, Some_flags, At_sign, A_comma, front_begins, places, directed}
 use Rattle.rv_parse_laws.specs.Parsing.{operand_at, operands_at, seen_as, section_at, too_long, wrong_front}
-use Rattle.rv_parse_laws.specs.Faults.{unsupported_here}
+use Rattle.rv_text_laws.specs.Codes.{unsupported_here}
 use Rattle.rv_parse.specs.Slots.{flags_slots, type_slots}
 
 at_once : (view : List Operand → StatementKind) (now : List Operand) (r : Read (List Operand))

@@ -27,7 +27,7 @@ pub fn register(cursor: &mut Cursor<'_>) -> Result<Reg, SyntaxError>
             cursor.advance();
             Ok(register)
         }
-        None => Err(cursor.wrong(fault::at_register(cursor.next.kind))),
+        None => Err(cursor.wrong(fault::at_other(cursor.next.kind))),
     }
 }
 
@@ -86,7 +86,7 @@ pub fn accesses(cursor: &mut Cursor<'_>) -> Result<AccessSet, SyntaxError>
             cursor.advance();
             Ok(set)
         }
-        None => Err(cursor.wrong(fault::at_register(cursor.next.kind))),
+        None => Err(cursor.wrong(fault::at_other(cursor.next.kind))),
     }
 }
 
@@ -99,7 +99,7 @@ pub fn zero(cursor: &mut Cursor<'_>) -> Result<(), SyntaxError>
         cursor.advance();
         Ok(())
     } else {
-        Err(cursor.wrong(fault::at_register(cursor.next.kind)))
+        Err(cursor.wrong(fault::at_other(cursor.next.kind)))
     }
 }
 
@@ -294,7 +294,7 @@ pub fn section_name<'a>(cursor: &mut Cursor<'a>) -> Result<&'a [u8], SyntaxError
                 Err(before.wrong(SourceCode::UnsupportedHere))
             }
         }
-        None => Err(before.wrong(fault::at_register(before.next.kind))),
+        None => Err(before.wrong(fault::at_section_name(before.next.kind))),
     }
 }
 

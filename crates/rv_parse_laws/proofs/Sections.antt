@@ -8,12 +8,12 @@ use Rattle.std.proofs.lemmas.Slice.Eq.{bytes_eq-Decides}
 use Rattle.rv_text_laws.specs.declared.punct.Punct.TheVariants.{Comma, Semicolon, Open, Minus}
 use Rattle.rv_text_laws.specs.Grammar.{Kind, Newline, Punctuation, Name, Bad_byte, Bad_token, End}
 use Rattle.rv_text_laws.specs.Lexing.{Token, is_last, ended}
-use Rattle.rv_text_laws.specs.Codes.{limit}
+use Rattle.rv_text_laws.specs.Codes.{unsupported_here, limit}
 use Rattle.rv_text_laws.specs.SyntaxError.{SyntaxError, wrong, Read, longest_name}
 use Rattle.rv_text_laws.specs.Joined.{bytes_of, AreAfter, IsJoined, joins, joined_after, first_name, joined_at}
 use Rattle.rv_text_laws.proofs.ExpressionWrong.{ended_more}
 use Rattle.rv_parse_laws.specs.Syntax.{is_section_name, A_section}
-use Rattle.rv_parse_laws.specs.Faults.{wrong_first, unsupported_here}
+use Rattle.rv_parse_laws.specs.Faults.{wrong_first}
 use Rattle.rv_parse_laws.specs.Parsing.{too_long, named_or, section_at}
 use Rattle.rv_parse_laws.proofs.Failing.{Failing, at_once, first_of, first_is, never, wrongs}
 use Rattle.rv_parse_laws.proofs.Values.{closes, Closes}

@@ -13,7 +13,8 @@ use Rattle.rv_text_laws.proofs.ExpressionWrong.{can_go_on, fails_there, wrong_at
 use Rattle.rv_text_laws.proofs.Trees.{postfix_tree}
 use Rattle.rv_statement.specs.Statement.{Expression}
 use Rattle.rv_parse_laws.specs.Syntax.{is_register, is_comma, is_opening, is_end, is_percent, targets, is_number, is_refused, IsValue, IsValueIn}
-use Rattle.rv_parse_laws.specs.Faults.{may_call, unsupported_here}
+use Rattle.rv_text_laws.specs.Codes.{unsupported_here}
+use Rattle.rv_parse_laws.specs.Faults.{may_call}
 use Rattle.rv_parse_laws.specs.Parsing.{seen_as, value_at, allowed, value_in}
 use Rattle.rv_isa.specs.RegisterNames.{abi_names}
 use Rattle.rv_parse_laws.specs.Words.{names_of, register}

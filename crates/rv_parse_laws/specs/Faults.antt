@@ -6,31 +6,12 @@ use Rattle.std.specs.List.{list_all}
 use Rattle.std.specs.Str.{bytes_eq}
 use Rattle.rv_text_laws.specs.declared.punct.Punct.TheVariants.{DoubleSlash}
 use Rattle.rv_text_laws.specs.Grammar.{Kind, Punctuation, Name as NameToken, Bad_word, Text, Bad_byte, Bad_token}
-use Rattle.rv_text_laws.specs.Codes.{limit}
+use Rattle.rv_text_laws.specs.Codes.{bad_byte, bad_token, unknown_mnemonic, bad_operands, unknown_directive, unsupported_here, limit}
 use Rattle.rv_text_laws.specs.SyntaxError.{longest_name, is_long}
 use Rattle.rv_parse_laws.specs.Words.{is_among, left_out_words, left_out_options}
-use Rattle.rv_parse_laws.specs.Syntax.{Slot, A_value, A_symbol, A_string, Some_flags, At_sign, A_type, An_option, A_comma, An_opening, A_closing, is_comma, is_at, is_end, is_flag}
+use Rattle.rv_parse_laws.specs.Syntax.{Slot, A_value, A_symbol, A_section, An_option, A_comma, An_opening, is_comma, is_at, is_end, is_flag}
 use Rattle.rv_parse_laws.specs.declared.role.Role.{Role}
 use Rattle.rv_parse_laws.specs.declared.role.Role.TheVariants as roles
-
--- the codes, by their numbers
-abbrev pub bad_byte : ℕ
-bad_byte = 1
-
-abbrev pub bad_token : ℕ
-bad_token = 2
-
-abbrev pub unknown_mnemonic : ℕ
-unknown_mnemonic = 6
-
-abbrev pub bad_operands : ℕ
-bad_operands = 7
-
-abbrev pub unknown_directive : ℕ
-unknown_directive = 8
-
-abbrev pub unsupported_here : ℕ
-unsupported_here = 9
 
 -- a token that is wrong wherever it stands has a code of its own; every other has the code of its place
 abbrev pub wrong_or : Kind → ℕ → ℕ
@@ -44,10 +25,10 @@ wrong_or _ code = code
 abbrev pub wrong_name : List ℕ → ℕ
 wrong_name name = if nat_lt longest_name (length name) then limit else bad_operands
 
--- where a register is wanted, a literal 0, or what a fence orders; a string would be a quoted name
-abbrev pub wrong_register : Kind → ℕ
-wrong_register (Text bytes) = unsupported_here
-wrong_register k = wrong_or k bad_operands
+-- where the name of a section begins; a string would be a quoted name
+abbrev pub wrong_section_name : Kind → ℕ
+wrong_section_name (Text bytes) = unsupported_here
+wrong_section_name k = wrong_or k bad_operands
 
 -- a function call with `%`, which instructions may have for a value, is not built yet
 abbrev pub may_call : Role → Bool
@@ -92,15 +73,11 @@ wrong_option k = wrong_or k bad_operands
 -- where what stands in a place begins
 abbrev pub wrong_first : Slot → Kind → ℕ
 wrong_first A_symbol k = wrong_symbol k
-wrong_first Some_flags k = wrong_or k bad_operands
-wrong_first A_type k = wrong_or k bad_operands
+wrong_first A_section k = wrong_section_name k
 wrong_first An_option k = wrong_option k
 wrong_first (A_comma behind) k = wrong_after behind k
 wrong_first (An_opening behind) k = wrong_after behind k
-wrong_first A_string k = wrong_or k bad_operands
-wrong_first At_sign k = wrong_or k bad_operands
-wrong_first A_closing k = wrong_or k bad_operands
-wrong_first _ k = wrong_register k
+wrong_first _ k = wrong_or k bad_operands
 
 -- where operands are not looked at
 abbrev pub wrong_any : Kind → ℕ

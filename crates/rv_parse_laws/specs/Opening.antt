@@ -6,14 +6,14 @@ use Rattle.std.specs.List.{list_all, list_any}
 use Rattle.std.specs.Str.{bytes_eq}
 use Rattle.rv_text_laws.specs.Grammar.{Kind, Name as NameToken, Text}
 use Rattle.rv_text_laws.specs.Lexing.{Token}
-use Rattle.rv_text_laws.specs.Codes.{limit}
+use Rattle.rv_text_laws.specs.Codes.{unsupported_here, limit}
 use Rattle.rv_text_laws.specs.SyntaxError.{longest_name}
 use Rattle.rv_text_laws.specs.Joined.{IsJoined}
 use Rattle.rv_statement.specs.Sections.{standard_name}
 use Rattle.rv_statement.specs.Statement.{Enters, Opens, StatementKind, Directs, Statement}
 use Rattle.rv_parse_laws.specs.Words.{is_among, section_types}
 use Rattle.rv_parse_laws.specs.Syntax.{is_comma, is_at, is_flag, is_section_name}
-use Rattle.rv_parse_laws.specs.Faults.{unsupported_here, wrong_letters}
+use Rattle.rv_parse_laws.specs.Faults.{wrong_letters}
 
 -- a statement opens, or enters, the section of this name
 abbrev pub opens : List ℕ → StatementKind → Bool

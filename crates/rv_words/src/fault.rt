@@ -3,7 +3,8 @@
 ghost use Rattle.std.specs.Prelude.{◌≡◌};
 ghost use Rattle.rv_lexer.specs.Fault.{number_of};
 ghost use Rattle.rv_lexer.specs.Token.{kind_of};
-ghost use Rattle.rv_parse_laws.specs.Faults.{may_call, wrong_or, wrong_name, wrong_register, wrong_after_value, wrong_after, wrong_symbol, wrong_letters, wrong_option, wrong_any, wrong_word, wrong_start, wrong_label, bad_operands};
+ghost use Rattle.rv_text_laws.specs.Codes.{bad_operands};
+ghost use Rattle.rv_parse_laws.specs.Faults.{may_call, wrong_or, wrong_name, wrong_section_name, wrong_after_value, wrong_after, wrong_symbol, wrong_letters, wrong_option, wrong_any, wrong_word, wrong_start, wrong_label};
 ghost use Rattle.rv_words.specs.View.{slot_of};
 ghost use Rattle.rv_parse_laws.specs.Syntax.{targets};
 
@@ -60,9 +61,9 @@ fn at_name(name: &[u8]) -> SourceCode
     }
 }
 
-/// Where a register is wanted.
-pub fn at_register(kind: TokenKind<'_>) -> SourceCode
-    ensures { number_of result ≡ wrong_register (kind_of kind.entry) }
+/// Where the name of a section begins; a string would be a quoted name.
+pub fn at_section_name(kind: TokenKind<'_>) -> SourceCode
+    ensures { number_of result ≡ wrong_section_name (kind_of kind.entry) }
 {
     match kind {
         TokenKind::Text(_) => SourceCode::UnsupportedHere,
@@ -113,7 +114,7 @@ pub fn after(slot: Slot, kind: TokenKind<'_>) -> SourceCode
     }
 }
 
-/// Where one token alone is good: a string, or a sign.
+/// Where one token alone is good: a register, a string, or a sign.
 pub fn at_other(kind: TokenKind<'_>) -> SourceCode
     ensures { number_of result ≡ wrong_or (kind_of kind.entry) bad_operands }
 {
