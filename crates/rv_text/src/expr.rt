@@ -52,8 +52,9 @@ impl<'a> Expr<'a> {
         ensures { result ≡ are_numbers (expr_of self.now) }
     {
         match self {
-            Expr::Number(_) => true,
-            Expr::Name(_) | Expr::Here | Expr::Backward(_) | Expr::Forward(_) => false,
+            Expr::Number(_) | Expr::Negative(_) => true,
+            Expr::Name(_) | Expr::Here | Expr::Backward(_) | Expr::Forward(_) | Expr::Pair(_) =>
+                false,
             Expr::Compound(compound) => compound.nodes.are_numbers(),
         }
     }
