@@ -5,6 +5,7 @@ use Rattle.std.proofs.lemmas.Bool.{and_parts, eqb-true, ltb-false}
 use Rattle.std.specs.Prelude.{slice_index_or, if◌then◌else◌}
 use Rattle.rv_statement.specs.Statement.{StatementKind, Label, Numbered, Instruction, Directs, Statement, Expression, Directive, Sets, Aligns_to_power, Aligns_to_bytes, Values, Strings, Zeros}
 use Rattle.rv_text_laws.specs.Values.{Value}
+use Rattle.rv_text_laws.specs.Codes.{limit}
 use Rattle.rv_unit_laws.specs.Sections.{Section, Opened, text_section, section_at, current_section}
 use Rattle.rv_unit_laws.specs.Tables.{Tables, SectionOffset, at_start, here, value, alignment_of, stood, after, after_all, tables, longest_section}
 use Rattle.rv_unit_laws.specs.Faults.{first_fault}
@@ -154,7 +155,7 @@ module _ (ss : List Statement) (i : ℕ) (s : Statement) (here_is : drop i ss �
   module _ (ends : ℕ → ℕ) (low : (j : ℕ) → ends j ≤ longest_section) (left : HasRoomLeft ss i ends) where
     -- whether the section of the statement is too long after it
     abbrev full : Option ℕ
-    full = if nat_lt longest_section (left.sizes st.section + code_size s.kind) then Some 17 else None
+    full = if nat_lt longest_section (left.sizes st.section + code_size s.kind) then Some limit else None
 
     parts : (full ≡ None) × (size_fault_from (grown_by left.sizes st.section (code_size s.kind)) (drop (i + 1) (located_from 1 1 at_start ss)) ≡ None)
     parts =

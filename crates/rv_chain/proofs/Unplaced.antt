@@ -2,6 +2,7 @@
 
 use Rattle.std.proofs.Common.{◌≡◌, ℕ, Bool, true, false, List, [], ◌∷◌, Option, Some, None, refl, sym, ap}
 use Rattle.std.specs.Prelude.{◌&&◌, min, is_some, option_map}
+use Rattle.rv_text_laws.specs.Codes.{unsupported_here}
 use Rattle.rv_unit_laws.specs.Faults.{lowest}
 use Rattle.rv_chain_laws.specs.InstructionFaults.{else_unplaced}
 use Rattle.rv_chain_laws.proofs.Held.{no_lowest}
@@ -20,7 +21,7 @@ with_code c found = elim found [
 pub first_lowest : (c : ℕ) (cs : List ℕ) (found : Option ℕ) → found ≡ lowest cs → with_code c found ≡ lowest (c ∷ cs)
 first_lowest c cs found e = ap (with_code c) e
 
-pub unplaced_none : (cs : List ℕ) → None ≡ lowest cs → lowest (else_unplaced false cs) ≡ Some 9
+pub unplaced_none : (cs : List ℕ) → None ≡ lowest cs → lowest (else_unplaced false cs) ≡ Some unsupported_here
 unplaced_none cs e = ap (λ l. lowest (else_unplaced false l)) (no_lowest cs (sym e))
 
 pub unplaced_some : (cs : List ℕ) (c : ℕ) → Some c ≡ lowest cs → lowest (else_unplaced false cs) ≡ Some c

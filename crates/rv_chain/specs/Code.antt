@@ -104,7 +104,8 @@ numbered _ k = None
 -- those of a register on the way to a symbol
 abbrev pub scratch_of : Operation → List ℕ
 scratch_of (operations.LoadSymbol operation rd) = faulty_if (rd == 0) scratch_register
-scratch_of (operations.StoreSymbol operation rs2 rt) = faulty_if ((rt == 0) || (rt == rs2)) scratch_register
+scratch_of (operations.StoreSymbol operation rs2 rt) =
+    faulty_if ((rt == 0) || (rt == rs2)) scratch_register
 scratch_of (operations.Call rd) = faulty_if (rd == 0) scratch_register
 scratch_of (operations.Jump rt) = faulty_if (rt == 0) scratch_register
 scratch_of _ = []
@@ -112,7 +113,9 @@ scratch_of _ = []
 -- those of an operation with an expression of this value
 abbrev pub value_faults : Operation → values.Value → List ℕ
 value_faults operation v =
-    if takes_target operation then scratch_of operation ++ target_faults v else number_faults (mnemonic_of operation) v
+    if takes_target operation
+    then scratch_of operation ++ target_faults v
+    else number_faults (mnemonic_of operation) v
 
 -- those of an operation with a function of a value, where l says which symbols are labels of the file
 abbrev pub function_faults : (Primary → Bool) → Operation → Function → values.Value → List ℕ
@@ -128,9 +131,11 @@ InRange fits wanted (Err code) = (fits ≡ false) × (code ≡ ImmediateRange)
 
 -- the instruction of an operation with a number, or the code of the number's fault, or of what cannot be placed
 abbrev pub OfNumber : Operation → ℕ → Result Inst SourceCode → Type 0
-OfNumber operation k (Ok i) = (range_faults (mnemonic_of operation) k ≡ []) × (numbered operation k ≡ Some (i ∷ [])) × IsValid i
+OfNumber operation k (Ok i) =
+    (range_faults (mnemonic_of operation) k ≡ []) × (numbered operation k ≡ Some (i ∷ [])) × IsValid i
 OfNumber operation k (Err code) =
-    else_unplaced (is_some (numbered operation k)) (range_faults (mnemonic_of operation) k) ≡ number_of code ∷ []
+    else_unplaced (is_some (numbered operation k)) (range_faults (mnemonic_of operation) k)
+    ≡ number_of code ∷ []
 
 -- the constant that a value is, or its fault at a line
 abbrev pub IsNumber : values.Value → ℕ → Result ℕ SourceFault → Type 0
@@ -147,12 +152,17 @@ IsBuilt faults wanted line (Err OutOfMemory) = ⊥
 -- ---- one statement
 
 -- what is told of an instruction, if a statement is one: where l says which symbols are labels of the file
-abbrev pub Codes : Options → (Expression → values.Value) → (Primary → Bool) → Statement → Result (Option Inst) SourceFault → Type 0
-Codes o v l s (Ok None) = (instruction_faults o v l s.kind ≡ []) × (code_said v s.kind ≡ []) × (code_size s.kind ≡ 0)
+abbrev pub Codes :
+    Options → (Expression → values.Value) → (Primary → Bool) → Statement
+    → Result (Option Inst) SourceFault → Type 0
+Codes o v l s (Ok None) =
+    (instruction_faults o v l s.kind ≡ []) × (code_said v s.kind ≡ []) × (code_size s.kind ≡ 0)
 Codes o v l s (Ok (Some i)) =
-    (instruction_faults o v l s.kind ≡ []) × (instruction_by (λ e. constant_in (v e)) s.kind ≡ Some (i ∷ [])) × IsValid i
+    (instruction_faults o v l s.kind ≡ [])
+    × (instruction_by (λ e. constant_in (v e)) s.kind ≡ Some (i ∷ [])) × IsValid i
     × (code_size s.kind ≡ 4)
-Codes o v l s (Err (At code at)) = (lowest (instruction_faults o v l s.kind) ≡ Some (number_of code)) × (at ≡ s.line)
+Codes o v l s (Err (At code at)) =
+    (lowest (instruction_faults o v l s.kind) ≡ Some (number_of code)) × (at ≡ s.line)
 Codes o v l s (Err OutOfMemory) = ⊥
 
 -- ---- the code of sections

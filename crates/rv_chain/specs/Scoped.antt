@@ -13,7 +13,8 @@ use Rattle.rv_chain_laws.specs.InstructionFaults.{is_label}
 
 -- the values of expressions in the statement at this index from 0, which stands at this offset
 abbrev pub values_at : Scope → ℕ → SectionOffset → Expression → values.Value
-values_at scope index place e = value (tables (said scope.unit.now)) true (index + 1) (offset_of place) e
+values_at scope index place e =
+    value (tables (said scope.unit.now)) true (index + 1) (offset_of place) e
 
 -- which symbols are labels of the source
 abbrev pub labels_at : Scope → ℕ → Primary → Bool

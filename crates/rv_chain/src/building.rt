@@ -1,6 +1,7 @@
 //! From sources to an executable and its map.
 
 ghost use Rattle.std.specs.Prelude.{◌≡◌, ◌<◌, ◌%◌, ◌∷◌, [], IfOk, IsTrue, map, ◌↔◌};
+ghost use Rattle.rv_isa_laws.specs.Platform.{stack_start};
 ghost use Rattle.rv_statement.specs.View.{now_of};
 ghost use Rattle.rv_image.specs.Linked.{linked_of};
 ghost use Rattle.rv_chain_laws.specs.Headline.{TheHeadline};
@@ -60,7 +61,7 @@ fn linked(alloc: Global, sources: &[&[u8]], start: u64) -> Result<Linked, Fault>
 
 /// Whether a text can start at an address: a multiple of 4096 below the stack.
 fn is_text_start(address: u64) -> bool
-    ensures { IsTrue result ↔ ((address % 4096 ≡ 0) × (address < 0x3ff0_0000)) }
+    ensures { IsTrue result ↔ ((address % 4096 ≡ 0) × (address < stack_start)) }
 {
     address % 4096 == 0 && address < STACK_START
 }
@@ -68,7 +69,7 @@ fn is_text_start(address: u64) -> bool
 /// The linked program of one source. Its statements are gone when the program is written.
 fn linked_one(alloc: Global, source: &[u8], start: u64) -> Result<Linked, Fault>
     requires page { start % 4096 ≡ 0 }
-    requires low { start < 0x3ff0_0000 }
+    requires low { start < stack_start }
     ensures { IfOk result (λ l. IsProgramOf (source.now ∷ []) start (linked_of l)) }
 {
     let statements = parse(alloc, source)?;

@@ -128,7 +128,9 @@ impl Coder {
         place: SectionOffset,
     ) -> Result<(), SourceFault>
         requires { place.section < length self.old.sections.items }
-        ensures { (index : ℕ) → IsFilled (scope.now).unit.now → IsScope scope.now index → Adds self.old self.new place.section (values_at scope.now index place) (labels_at scope.now index) (statement_of statement.now) result }
+        ensures { (index : ℕ) → IsFilled (scope.now).unit.now → IsScope scope.now index
+            → Adds self.old self.new place.section (values_at scope.now index place)
+            (labels_at scope.now index) (statement_of statement.now) result }
     {
         match instruction(statement, self.choices.rvc, scope, place) {
             Ok(found) => self.add_found(statement, place.section, found),
@@ -145,7 +147,9 @@ impl Coder {
     ) -> Result<(), SourceFault>
         requires valid { IfSome found IsValid }
         requires section { section < length self.old.sections.items }
-        ensures { (v : Expression → values.Value) (l : Primary → Bool) → Codes (options_of self.old.choices) v l (statement_of statement.now) (Ok found) → Adds self.old self.new section v l (statement_of statement.now) result }
+        ensures { (v : Expression → values.Value) (l : Primary → Bool)
+            → Codes (options_of self.old.choices) v l (statement_of statement.now) (Ok found)
+            → Adds self.old self.new section v l (statement_of statement.now) result }
     {
         put_found(self.sections.as_mut_slice(), section, found)?;
         let bytes = bytes_in(self.sections.as_slice(), section);

@@ -49,7 +49,8 @@ fn immediate(number: u64) -> Result<i32, SourceCode>
 /// The instruction of a statement without an expression, if it can be placed.
 pub(crate) fn plain(statement: Plain) -> Option<Inst>
     ensures valid { IfSome result IsValid }
-    ensures is { (v : Expression → ℕ) → instruction_by v (plain_of statement) ≡ option_map (λ i. i ∷ []) result }
+    ensures is { (v : Expression → ℕ)
+        → instruction_by v (plain_of statement) ≡ option_map (λ i. i ∷ []) result }
 {
     let ra = Reg::from_low_bits(1);
     let immediate = 0;
@@ -84,7 +85,9 @@ pub(crate) fn plain(statement: Plain) -> Option<Inst>
 /// The instruction at a line, where it can be placed.
 fn placed(inst: Option<Inst>, line: u32) -> Result<Inst, SourceFault>
     ensures valid { IfSome inst IsValid → IfOk result IsValid }
-    ensures built { IfSome inst IsValid → (wanted : Option (List Instruction)) → wanted ≡ option_map (λ i. i ∷ []) inst → IsBuilt (else_unplaced (is_some wanted) []) wanted line result }
+    ensures built { IfSome inst IsValid → (wanted : Option (List Instruction))
+        → wanted ≡ option_map (λ i. i ∷ []) inst
+        → IsBuilt (else_unplaced (is_some wanted) []) wanted line result }
 {
     match inst {
         Some(inst) => Ok(inst),
@@ -177,7 +180,8 @@ fn li(rd: Reg, number: u64) -> Result<Inst, SourceCode>
 
 /// The code of an immediate of 12 bits in an instruction that cannot be placed yet.
 fn unplaced(number: u64) -> SourceCode
-    ensures { else_unplaced false (faulty_if (not (is_some (fits_12 number))) immediate_range) ≡ number_of result ∷ [] }
+    ensures { else_unplaced false (faulty_if (not (is_some (fits_12 number))) immediate_range)
+        ≡ number_of result ∷ [] }
 {
     match immediate(number) {
         Ok(_) => SourceCode::UnsupportedHere,
@@ -223,7 +227,10 @@ pub(crate) fn with_value(
     line: u32,
 ) -> Result<Inst, SourceFault>
     ensures valid { IfOk result IsValid }
-    ensures built { (v : values.Value) → IsOutcome value.entry line v → IsBuilt (else_unplaced (is_some (numbered operation (constant_in v))) (value_faults operation v)) (numbered operation (constant_in v)) line result }
+    ensures built { (v : values.Value) → IsOutcome value.entry line v
+        → IsBuilt
+        (else_unplaced (is_some (numbered operation (constant_in v))) (value_faults operation v))
+        (numbered operation (constant_in v)) line result }
 {
     if takes_target(&operation) {
         let code = target_code(operation, value);
@@ -244,7 +251,9 @@ pub(crate) fn as_word(
     line: u32,
 ) -> Result<Inst, SourceFault>
     ensures valid { IfOk built IsValid → IfOk result IsValid }
-    ensures built { (is_placed : Bool) (faults : List ℕ) (wanted : Option (List Instruction)) → IsBuilt (else_unplaced is_placed faults) wanted line built → IsBuilt (else_unplaced (not compressed && is_placed) faults) wanted line result }
+    ensures built { (is_placed : Bool) (faults : List ℕ) (wanted : Option (List Instruction))
+        → IsBuilt (else_unplaced is_placed faults) wanted line built
+        → IsBuilt (else_unplaced (not compressed && is_placed) faults) wanted line result }
 {
     match built {
         Ok(_) if compressed => Err(SourceFault::At {
@@ -258,7 +267,11 @@ pub(crate) fn as_word(
 /// What was built, as what a statement has.
 fn found(built: Result<Inst, SourceFault>) -> Result<Option<Inst>, SourceFault>
     ensures valid { IfOk built IsValid → IfOk result (λ f. IfSome f IsValid) }
-    ensures codes { (o : Options) (v : Expression → values.Value) (l : Primary → Bool) (s : SpecStatement) → IsBuilt (instruction_faults o v l s.kind) (instruction_by (λ e. constant_in (v e)) s.kind) s.line built → code_size s.kind ≡ 4 → Codes o v l s result }
+    ensures codes { (o : Options) (v : Expression → values.Value) (l : Primary → Bool)
+        (s : SpecStatement)
+        → IsBuilt (instruction_faults o v l s.kind)
+        (instruction_by (λ e. constant_in (v e)) s.kind) s.line built
+        → code_size s.kind ≡ 4 → Codes o v l s result }
 {
     let inst = built?;
     Ok(Some(inst))
@@ -272,7 +285,10 @@ pub(crate) fn instruction<'a>(
     place: SectionOffset,
 ) -> Result<Option<Inst>, SourceFault>
     ensures valid { IfOk result (λ f. IfSome f IsValid) }
-    ensures codes { (o : Options) (index : ℕ) → o.rvc ≡ compressed → IsFilled (scope.now).unit.now → IsScope scope.now index → Codes o (values_at scope.now index place) (labels_at scope.now index) (statement_of statement.now) result }
+    ensures codes { (o : Options) (index : ℕ) → o.rvc ≡ compressed → IsFilled (scope.now).unit.now
+        → IsScope scope.now index
+        → Codes o (values_at scope.now index place) (labels_at scope.now index)
+        (statement_of statement.now) result }
 {
     let line = statement.line;
     match &statement.kind {

@@ -1,7 +1,7 @@
 //! The statements of a source as items: their bytes, one after the other in each section, and which have a row in the
 //! map.
 
-ghost use Rattle.std.specs.Prelude.{◌≡◌, ◌&&◌, ◌+◌, ◌*◌, ◌<◌, ◌≤◌, ◌^◌, ℕ, true, false, length, map, slice_index, slice_set, None, IfOk, IfErr};
+ghost use Rattle.std.specs.Prelude.{◌≡◌, ◌&&◌, ◌+◌, ◌*◌, ◌<◌, ◌≤◌, ℕ, true, false, length, map, slice_index, slice_set, None, IfOk, IfErr};
 ghost use Rattle.rv_text_laws.specs.Values as values;
 ghost use Rattle.rv_text.specs.Eval.{IsOutcome};
 ghost use Rattle.rv_lexer.specs.declared.fault.SourceFault.TheVariants.{OutOfMemory};
@@ -32,8 +32,8 @@ use std::alloc::{AllocError, Global};
 /// So many bytes, where a section can have them.
 fn fitting(bytes: u64, line: u32) -> Result<u32, SourceFault>
     ensures same { IfOk result (λ n. n ≡ bytes) }
-    ensures fits { IfOk result (λ n. n ≤ 2 ^ 28) }
-    ensures refuses { IfErr result (λ _. 2 ^ 28 < bytes) }
+    ensures fits { IfOk result (λ n. n ≤ laws.longest_section) }
+    ensures refuses { IfErr result (λ _. laws.longest_section < bytes) }
 {
     if bytes > LONGEST_SECTION {
         return Err(SourceFault::At {
@@ -47,7 +47,7 @@ fn fitting(bytes: u64, line: u32) -> Result<u32, SourceFault>
 /// The bytes of values of data.
 fn bytes_of_values(width: Width, count: usize, line: u32) -> Result<u32, SourceFault>
     ensures size { IfOk result (λ n. n ≡ bytes_of width * count) }
-    ensures refuses { IfErr result (λ _. bytes_of width * count ≤ 2 ^ 28 → ⊥) }
+    ensures refuses { IfErr result (λ _. bytes_of width * count ≤ laws.longest_section → ⊥) }
 {
     fitting(values_size(width, count), line)
 }
@@ -55,7 +55,7 @@ fn bytes_of_values(width: Width, count: usize, line: u32) -> Result<u32, SourceF
 /// The bytes of strings, where asked with a zero byte after each.
 fn bytes_of_strings(ended: bool, strings: &[&[u8]], line: u32) -> Result<u32, SourceFault>
     ensures size { IfOk result (λ n. n ≡ length (laws.string_bytes ended (map quoted strings.now))) }
-    ensures refuses { IfErr result (λ _. length (laws.string_bytes ended (map quoted strings.now)) ≤ 2 ^ 28 → ⊥) }
+    ensures refuses { IfErr result (λ _. length (laws.string_bytes ended (map quoted strings.now)) ≤ laws.longest_section → ⊥) }
 {
     fitting(strings_size(ended, strings), line)
 }
@@ -103,7 +103,7 @@ fn padding_in_data(
     line: u32,
 ) -> Result<u32, SourceFault>
     ensures size { IfOk result (λ n. (n ≡ laws.padding alignment offset) × IsMultiple alignment begins) }
-    ensures refuses { IfErr result (λ _. IsMultiple alignment begins → laws.padding alignment offset ≤ 2 ^ 28 → ⊥) }
+    ensures refuses { IfErr result (λ _. IsMultiple alignment begins → laws.padding alignment offset ≤ laws.longest_section → ⊥) }
 {
     if !is_multiple(begins, alignment) {
         return Err(SourceFault::At {
@@ -300,7 +300,7 @@ fn next_item<'a>(
     extent: &Extent<'_>,
     offset: u32,
 ) -> Result<Item, SourceFault>
-    requires { offset ≤ 2 ^ 28 }
+    requires { offset ≤ laws.longest_section }
     ensures section { IfOk result (λ x. x.section ≡ place.section) }
     ensures offset { IfOk result (λ x. x.offset ≡ offset) }
     ensures line { IfOk result (λ x. x.line ≡ (statement.now).line) }
@@ -310,7 +310,7 @@ fn next_item<'a>(
     ensures absent { IfOk result (λ x. x.shown ≡ false → x.bytes ≡ 0) }
     ensures sized { IfOk result (λ x. (index : ℕ) → IsFilled (scope.now).unit.now → IsScope scope.now index → x.shown ≡ true
         → IsSized (λ e. laws.value (laws.tables (said (scope.now).unit.now)) true (index + 1) (offset_of place) e) (extent.now).section.executable x (extent.now).alignment (statement_kind (statement.now).kind)) }
-    ensures fits { IfOk result (λ x. x.offset + x.bytes ≤ 2 ^ 28) }
+    ensures fits { IfOk result (λ x. x.offset + x.bytes ≤ laws.longest_section) }
     ensures refuses { IfErr result (λ _. (index : ℕ) → IsFilled (scope.now).unit.now → IsScope scope.now index
         → offset_of place ≡ laws.stood (passed (said (scope.now).unit.now) index) (index + 1) (statement_kind (statement.now).kind)
         → (is_placed (passed (said (scope.now).unit.now) index) (index + 1) (statement_kind (statement.now).kind) ≡ true → (extent.now).section.loaded ≡ true
@@ -334,7 +334,7 @@ fn next_item<'a>(
 /// Adds the bytes of an item to its section, which has those before it.
 fn grow(ends: &mut Vec<u32>, item: Item)
     requires section { item.section < length ends.old.items }
-    requires fits { item.offset + item.bytes ≤ 2 ^ 28 }
+    requires fits { item.offset + item.bytes ≤ laws.longest_section }
     ensures { ends.new.items ≡ slice_set ends.old.items item.section (item.offset + item.bytes) }
 {
     ends[item.section as usize] = item.offset + item.bytes;

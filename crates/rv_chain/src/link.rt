@@ -2,6 +2,7 @@
 //! regions with their bytes.
 
 ghost use Rattle.std.specs.Prelude.{◌≡◌, ◌<◌, ◌%◌, [], ◌∷◌, None, IfErr, IfOk, map, length};
+ghost use Rattle.rv_isa_laws.specs.Platform.{stack_start};
 ghost use Rattle.rv_unit_laws.specs.Faults.{first_fault};
 ghost use Rattle.rv_unit.specs.Unit.{said, IsFilled};
 ghost use Rattle.rv_map.specs.Map.{global_of, map_of as shown_map};
@@ -40,7 +41,7 @@ pub(crate) fn link(alloc: Global, unit: &Unit<'_>, start: u64) -> Result<Linked,
     requires filled { IsFilled unit.now }
     requires good { first_fault (said unit.now) ≡ None }
     requires page { start % 4096 ≡ 0 }
-    requires low { start < 0x3ff0_0000 }
+    requires low { start < stack_start }
     ensures linked { IfOk result (λ l. IsLinked (said unit.now ∷ []) start (linked_of l)) }
     // It is flagged where the source has compressed code.
     ensures flag { IfOk result (λ l. l.rvc ≡ is_compressed (said unit.now ∷ [])) }

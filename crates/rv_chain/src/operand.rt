@@ -104,7 +104,8 @@ fn faulty_if(test: bool, code: SourceCode) -> Option<SourceCode>
 /// The fault of a statement that also has that of a scratch register, if it has: the lower one.
 #[tactic(auto, using(crate::proofs::Unplaced::first_lowest))]
 fn beside_scratch(is_bad: bool, fault: Option<SourceCode>) -> Option<SourceCode>
-    ensures { (cs : List ℕ) → IsLowest fault cs → IsLowest result (faults.faulty_if is_bad scratch_register ++ cs) }
+    ensures { (cs : List ℕ) → IsLowest fault cs
+        → IsLowest result (faults.faulty_if is_bad scratch_register ++ cs) }
 {
     if !is_bad {
         return fault;
@@ -122,7 +123,8 @@ fn beside_scratch(is_bad: bool, fault: Option<SourceCode>) -> Option<SourceCode>
 /// The code of a fault, or of what cannot be placed yet.
 #[tactic(auto, using(crate::proofs::Unplaced::unplaced_none, crate::proofs::Unplaced::unplaced_some))]
 fn else_unplaced(found: Option<SourceCode>) -> SourceCode
-    ensures { (cs : List ℕ) → IsLowest found cs → faults.lowest (laws.else_unplaced false cs) ≡ Some (number_of result) }
+    ensures { (cs : List ℕ) → IsLowest found cs
+        → faults.lowest (laws.else_unplaced false cs) ≡ Some (number_of result) }
 {
     match found {
         Some(code) => code,
@@ -134,7 +136,8 @@ fn else_unplaced(found: Option<SourceCode>) -> SourceCode
 
 /// The immediate of 12 bits that a number is, taken as signed.
 pub(crate) fn immediate_of(number: u64) -> Option<i32>
-    ensures { MatchOption result (fits_12 number ≡ None) (λ i. (fits_12 number ≡ Some number) × (i ≡ signed number) × IsSigned12 i) }
+    ensures { MatchOption result (fits_12 number ≡ None)
+        (λ i. (fits_12 number ≡ Some number) × (i ≡ signed number) × IsSigned12 i) }
 {
     let above = number.wrapping_add(2048);
     if above < 4096 {
@@ -171,7 +174,8 @@ fn form_takes(operation: RegisterOperation, number: u64) -> bool
 
 /// Whether a number is in the range of an operation's.
 fn takes(operation: Operation, number: u64) -> bool
-    ensures { faults.faulty_if (not result) immediate_range ≡ laws.range_faults (mnemonic_of operation) number }
+    ensures { faults.faulty_if (not result) immediate_range
+        ≡ laws.range_faults (mnemonic_of operation) number }
 {
     match operation {
         Operation::Registers(operation, ..) => form_takes(operation, number),
@@ -230,7 +234,8 @@ fn upper_fault(value: &Outcome<'_>) -> Option<SourceCode>
 
 /// The fault of a value whose low part is an operation's number.
 fn low_fault(operation: Operation, value: &Outcome<'_>) -> Option<SourceCode>
-    ensures { ForValue value.now (λ v. IsLowest result (laws.low_faults (mnemonic_of operation) v)) }
+    ensures { ForValue value.now
+        (λ v. IsLowest result (laws.low_faults (mnemonic_of operation) v)) }
 {
     match value {
         Ok(Value::Constant(number)) => faulty_if(
@@ -245,14 +250,17 @@ fn low_fault(operation: Operation, value: &Outcome<'_>) -> Option<SourceCode>
 /// Whether a symbol of the next statement stands somewhere in its source.
 #[tactic(auto, using(crate::proofs::Unplaced::some_mapped))]
 fn is_defined<'a>(scope: &Scope<'_, 'a>, symbol: Symbol<'a>) -> bool
-    ensures { (index : ℕ) → IsFilled (scope.now).unit.now → IsScope scope.now index → result ≡ is_some (definition (tables (said (scope.now).unit.now)) (index + 1) (symbol_of symbol.entry)) }
+    ensures { (index : ℕ) → IsFilled (scope.now).unit.now → IsScope scope.now index
+        → result ≡ is_some
+        (definition (tables (said (scope.now).unit.now)) (index + 1) (symbol_of symbol.entry)) }
 {
     scope.definition(symbol).is_some()
 }
 
 /// Whether a symbol of the next statement is a label of its source.
 fn is_label<'a>(scope: &Scope<'_, 'a>, symbol: Symbol<'a>) -> bool
-    ensures { (index : ℕ) → IsFilled (scope.now).unit.now → IsScope scope.now index → result ≡ labels_at scope.now index (symbol_of symbol.entry) }
+    ensures { (index : ℕ) → IsFilled (scope.now).unit.now → IsScope scope.now index
+        → result ≡ labels_at scope.now index (symbol_of symbol.entry) }
 {
     match symbol {
         Symbol::Name(name) => scope.is_label(name),
@@ -264,7 +272,8 @@ fn is_label<'a>(scope: &Scope<'_, 'a>, symbol: Symbol<'a>) -> bool
 
 /// Whether a value in the next statement is a label of its source.
 fn is_labelled<'a>(scope: &Scope<'_, 'a>, value: &Outcome<'a>) -> bool
-    ensures { (index : ℕ) → IsFilled (scope.now).unit.now → IsScope scope.now index → ForValue value.now (λ v. result ≡ laws.is_labelled (labels_at scope.now index) v) }
+    ensures { (index : ℕ) → IsFilled (scope.now).unit.now → IsScope scope.now index
+        → ForValue value.now (λ v. result ≡ laws.is_labelled (labels_at scope.now index) v) }
 {
     match value {
         Ok(Value::Symbolic(symbol, _)) => is_label(scope, *symbol),
@@ -274,7 +283,8 @@ fn is_labelled<'a>(scope: &Scope<'_, 'a>, value: &Outcome<'a>) -> bool
 
 /// The fault of a value that names where the upper part of a distance stands, whose low part is an operation's number.
 fn distance_fault(operation: Operation, is_labelled: bool) -> Option<SourceCode>
-    ensures { (l : Primary → Bool) (v : values.Value) → is_labelled ≡ laws.is_labelled l v → IsLowest result (laws.distance_faults l (mnemonic_of operation) v) }
+    ensures { (l : Primary → Bool) (v : values.Value) → is_labelled ≡ laws.is_labelled l v
+        → IsLowest result (laws.distance_faults l (mnemonic_of operation) v) }
 {
     if !is_labelled {
         return Some(SourceCode::UndefinedLocal);
@@ -286,7 +296,9 @@ fn distance_fault(operation: Operation, is_labelled: bool) -> Option<SourceCode>
 
 /// The lowest code of an operation with a target.
 pub(crate) fn target_code(operation: Operation, value: Outcome<'_>) -> SourceCode
-    ensures { ForValue value.entry (λ v. faults.lowest (laws.else_unplaced false (scratch_of operation ++ laws.target_faults v)) ≡ Some (number_of result)) }
+    ensures { ForValue value.entry (λ v.
+        faults.lowest (laws.else_unplaced false (scratch_of operation ++ laws.target_faults v))
+        ≡ Some (number_of result)) }
 {
     else_unplaced(beside_scratch(is_bad_scratch(operation), target_fault(&value)))
 }
@@ -298,7 +310,9 @@ fn function_fault<'a>(
     function: Function,
     value: &Outcome<'a>,
 ) -> Option<SourceCode>
-    ensures { (index : ℕ) → IsFilled (scope.now).unit.now → IsScope scope.now index → ForValue value.now (λ v. IsLowest result (function_faults (labels_at scope.now index) operation function v)) }
+    ensures { (index : ℕ) → IsFilled (scope.now).unit.now → IsScope scope.now index
+        → ForValue value.now (λ v.
+        IsLowest result (function_faults (labels_at scope.now index) operation function v)) }
 {
     match function {
         Function::Hi => upper_fault(value),
@@ -315,7 +329,11 @@ pub(crate) fn function_code<'a>(
     function: Function,
     value: &Outcome<'a>,
 ) -> SourceCode
-    ensures { (index : ℕ) → IsFilled (scope.now).unit.now → IsScope scope.now index → ForValue value.now (λ v. faults.lowest (laws.else_unplaced false (function_faults (labels_at scope.now index) operation function v)) ≡ Some (number_of result)) }
+    ensures { (index : ℕ) → IsFilled (scope.now).unit.now → IsScope scope.now index
+        → ForValue value.now (λ v.
+        faults.lowest (laws.else_unplaced false
+        (function_faults (labels_at scope.now index) operation function v))
+        ≡ Some (number_of result)) }
 {
     else_unplaced(function_fault(scope, operation, function, value))
 }

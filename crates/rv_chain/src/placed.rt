@@ -1,6 +1,7 @@
 //! Where a source stands in a program.
 
 ghost use Rattle.std.specs.Prelude.{◌≡◌, ◌≤◌, length};
+ghost use Rattle.rv_isa_laws.specs.Platform.{stack_start};
 
 use rv_link::{Item, Layout, Piece};
 
@@ -11,5 +12,5 @@ pub(crate) struct Placed {
     pub(crate) pieces: Vec<Piece>,
     pub(crate) layout: Layout,
     pub(crate) ghost each: { length layout.starts.items ≡ length pieces.items },
-    pub(crate) ghost low: { layout.data.start ≤ 0x3ff0_0000 },
+    pub(crate) ghost low: { layout.data.start ≤ stack_start },
 }

@@ -34,7 +34,8 @@ form_takes None n = false
 form_takes (Some mnemonic) n = takes mnemonic n
 
 abbrev pub range_faults : Mnemonic → ℕ → List ℕ
-range_faults (Registers operation) n = faulty_if (not (form_takes (with_constant operation) n)) immediate_range
+range_faults (Registers operation) n =
+    faulty_if (not (form_takes (with_constant operation) n)) immediate_range
 range_faults mnemonic n = faulty_if (not (takes mnemonic n)) immediate_range
 
 -- a number has to be a constant in its range
@@ -79,14 +80,16 @@ takes_address mnemonic = true
 
 abbrev pub low_faults : Mnemonic → Value → List ℕ
 low_faults mnemonic (Constant n) = range_faults mnemonic (low_part n)
-low_faults mnemonic (Symbolic symbol at plus) = faulty_if (not (takes_address mnemonic)) not_constant
+low_faults mnemonic (Symbolic symbol at plus) =
+    faulty_if (not (takes_address mnemonic)) not_constant
 low_faults mnemonic (Difference symbol minus plus) = not_constant ∷ []
 low_faults mnemonic (Faulty code) = code ∷ []
 
 -- whether a symbol is a label of the file, at the statement of this ordinal
 abbrev pub is_label : Tables → ℕ → Primary → Bool
 is_label t ordinal (Symbol name) = is_some (label_of t.labels true 0 name)
-is_label t ordinal (Reference digits forward) = is_some (definition t ordinal (Reference digits forward))
+is_label t ordinal (Reference digits forward) =
+    is_some (definition t ordinal (Reference digits forward))
 is_label t ordinal _ = false
 
 -- whether a value is such a label
@@ -97,7 +100,8 @@ is_labelled l _ = false
 -- the low part of a distance is that of the upper part at a label of the file
 abbrev pub distance_faults : (Primary → Bool) → Mnemonic → Value → List ℕ
 distance_faults l mnemonic v =
-    faulty_if (not (is_labelled l v)) undefined_local ++ faulty_if (not (takes_address mnemonic)) not_constant
+    faulty_if (not (is_labelled l v)) undefined_local
+    ++ faulty_if (not (takes_address mnemonic)) not_constant
 
 -- ---- operands
 
@@ -114,13 +118,15 @@ operand_faults v l mnemonic _ = []
 -- a register that holds an address on the way to a symbol is not x0, and not the one that is stored
 abbrev pub scratch_faults : Mnemonic → List Operand → List ℕ
 scratch_faults (Load operation) (Register rd ∷ Target e ∷ []) = faulty_if (rd == 0) scratch_register
-scratch_faults (Store operation) (Register rs2 ∷ Target e ∷ Register rt ∷ []) = faulty_if ((rt == 0) || (rt == rs2)) scratch_register
+scratch_faults (Store operation) (Register rs2 ∷ Target e ∷ Register rt ∷ []) =
+    faulty_if ((rt == 0) || (rt == rs2)) scratch_register
 scratch_faults Call (Register rd ∷ Target e ∷ []) = faulty_if (rd == 0) scratch_register
 scratch_faults Jump (Target e ∷ Register rt ∷ []) = faulty_if (rt == 0) scratch_register
 scratch_faults mnemonic operands = []
 
 abbrev pub own_faults : (Expression → Value) → (Primary → Bool) → Mnemonic → List Operand → List ℕ
-own_faults v l mnemonic operands = scratch_faults mnemonic operands ++ flat_map (operand_faults v l mnemonic) operands
+own_faults v l mnemonic operands =
+    scratch_faults mnemonic operands ++ flat_map (operand_faults v l mnemonic) operands
 
 -- ---- what can be placed
 
@@ -131,7 +137,8 @@ is_simple _ = true
 
 -- the addresses of symbols, their parts, most pseudo-instructions and longer numbers of `li` cannot be placed yet
 abbrev pub is_built : (Expression → Value) → Mnemonic → List Operand → Bool
-is_built v mnemonic operands = list_all is_simple operands && is_some (expanded (λ e. constant_in (v e)) mnemonic operands)
+is_built v mnemonic operands =
+    list_all is_simple operands && is_some (expanded (λ e. constant_in (v e)) mnemonic operands)
 
 -- what has no fault and cannot be placed has that one
 abbrev pub else_unplaced : Bool → List ℕ → List ℕ
@@ -139,7 +146,8 @@ else_unplaced placed [] = faulty_if (not placed) unsupported_here
 else_unplaced placed (code ∷ codes) = code ∷ codes
 
 -- the codes of an instruction's faults; compressed code cannot be placed yet
-abbrev pub instruction_faults : Options → (Expression → Value) → (Primary → Bool) → StatementKind → List ℕ
+abbrev pub instruction_faults :
+    Options → (Expression → Value) → (Primary → Bool) → StatementKind → List ℕ
 instruction_faults o v l (Instruction mnemonic operands) =
     else_unplaced (not o.rvc && is_built v mnemonic operands) (own_faults v l mnemonic operands)
 instruction_faults o v l _ = []

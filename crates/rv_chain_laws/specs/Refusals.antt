@@ -24,7 +24,8 @@ use Rattle.rv_chain_laws.specs.InstructionFaults.{instruction_faults, is_label}
 abbrev pub instruction_fault_from : Tables → Options → List Located → Option Fault
 instruction_fault_from t o [] = None
 instruction_fault_from t o (s ∷ ss) =
-    at_line s.line (lowest (instruction_faults o (λ e. value t true s.ordinal (place_of s) e) (is_label t s.ordinal) s.kind))
+    at_line s.line
+    (lowest (instruction_faults o (λ e. value t true s.ordinal (place_of s) e) (is_label t s.ordinal) s.kind))
     (instruction_fault_from t (options_after o s.kind) ss)
 
 -- the first faulty instruction, with the lowest code of its faults

@@ -114,7 +114,9 @@ impl<'u, 'a> Scope<'u, 'a> {
 
     /// Whether a name is that of a label of this source, before the statement that is next or after it.
     pub fn is_label(&self, name: &[u8]) -> bool
-        ensures { IsFilled (self.now).unit.now → result ≡ is_some (laws.label_of (laws.tables (said (self.now).unit.now)).labels true 0 name.now) }
+        ensures { IsFilled (self.now).unit.now
+            → result ≡ is_some
+            (laws.label_of (laws.tables (said (self.now).unit.now)).labels true 0 name.now) }
     {
         self.unit.tables.label(name).is_some()
     }
