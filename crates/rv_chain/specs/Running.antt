@@ -1,6 +1,6 @@
 -- What running a file's bytes means, and why a file is not run.
 
-use Rattle.std.specs.Prelude.{◌≡◌, ℕ, List, Some}
+use Rattle.std.specs.Prelude.{◌≡◌, ℕ, List, None, Some}
 use Rattle.rv_encode.specs.Word.{Spells}
 use Rattle.rv_compress.specs.Parcel.{StandsFor}
 use Rattle.rv_isa_laws.specs.Hart.{Outcome}
@@ -13,8 +13,9 @@ use Rattle.rv_isa_laws.specs.Run.{machine_run}
 use Rattle.rv_chain.specs.declared.fault.Fault.{Fault}
 use Rattle.rv_chain.specs.declared.fault.Fault.TheVariants.{Source, File, Link, Memory}
 
--- the outcome is that of the machine's run over the image of the file
+-- the file has no fault, and the outcome is that of the machine's run over its image
 pub record RunsFile (reader : Reader Spells StandsFor) (file input : List ℕ) (limit : ℕ) (outcome : Outcome) : Type 0 where
+  pub accepted : first_fault file ≡ None
   pub image : Image
   pub loads : ImageOf file image
   pub runs : outcome ≡ machine_run reader (mem_of image) image.entry input limit
