@@ -214,7 +214,8 @@ impl<'a> Tables<'a> {
         ensures tables { OnOk result (tables_of self.old ≡ laws.at_start → IsIndexed self.old → tables_of self.new ≡ laws.tables (map statement_of statements.now)) }
         ensures indexed { OnOk result (tables_of self.old ≡ laws.at_start → IsIndexed self.old → IsIndexed self.new) }
         ensures places { IfOk result (λ filled. tables_of self.old ≡ laws.at_start → IsIndexed self.old → map offset_of filled.places.items ≡ laws.places (map statement_of statements.now)) }
-        ensures options { IfOk result (λ filled. tables_of self.old ≡ laws.at_start → IsIndexed self.old → map options_of filled.options.items ≡ laws.all_options (map statement_of statements.now)) }
+        ensures options { IfOk result (λ filled. tables_of self.old ≡ laws.at_start → IsIndexed self.old
+            → map options_of filled.options.items ≡ laws.all_options (map statement_of statements.now)) }
     {
         let mut places = Vec::new(alloc);
         let mut options = Vec::new(alloc);

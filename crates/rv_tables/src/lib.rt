@@ -1,10 +1,10 @@
 //! What the statements of one source define: its sections with the bytes of their data, and its names.
 //!
 //! It takes the statements of a source one after the other (`Tables::fill`), and gives the tables that they fill and the
-//! offset and the options of each statement. The main contract is that of `Tables::fill`, clause `tables`: the tables are those that
-//! `rv_unit_laws` defines (`specs/Tables`), and clauses `places` and
-//! `options`: each statement stands where that says, in the options that it says. What a name means
-//! in a statement, and whether a statement is faulty, is `rv_unit`'s, which stands above.
+//! offset and the options of each statement. The main contract is that of `Tables::fill`, clause `tables`: the tables are
+//! those that `rv_unit_laws` defines (`specs/Tables`), and clauses `places` and `options`: each statement stands where that
+//! says, in the options that it says. What a name means in a statement, and whether a statement is faulty, is `rv_unit`'s,
+//! which stands above.
 //!
 //! It knows no text, no instruction, no address and no other source.
 //!

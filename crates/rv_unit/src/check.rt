@@ -3,18 +3,19 @@
 //! The tables of the whole source answer all but one question: names and sections by the ordinal of the statement and by
 //! where it stands. The depth of the option stack is counted on the way.
 
-ghost use Rattle.std.specs.Prelude.{◌≡◌, ℕ, ◌+◌, ◌*◌, ◌<◌, ◌≤◌, ◌^◌, ◌-◌, Some, None, flat_map, map, not, ◌||◌, true, false, length, option_map};
-ghost use Rattle.rv_text_laws.specs.Codes.{duplicate_label, wrong_section};
+ghost use Rattle.std.specs.Prelude.{◌≡◌, ℕ, ◌+◌, ◌<◌, ◌≤◌, ◌^◌, ◌-◌, List, Some, flat_map, map, true, length, option_map};
 ghost use Rattle.rv_text.specs.Expr.{tree_of_expr};
-ghost use Rattle.rv_statement.specs.Statement.{StatementKind as SpecKind, Label, Directs, Zeros, Aligns_to_power, Aligns_to_bytes, Values, Strings};
+ghost use Rattle.rv_statement.specs.Statement.{Operand as SpecOperand, Instruction, Label, Directs, Zeros, Aligns_to_power, Aligns_to_bytes, Values, Strings};
+ghost use Rattle.rv_statement.specs.declared.mnemonic.Mnemonic.{Mnemonic as SpecMnemonic};
 ghost use Rattle.rv_statement.specs.View.{bytes_of, quoted, setting_of, statement_kind};
 ghost use Rattle.rv_unit_laws.specs.Faults as faults;
-ghost use Rattle.rv_unit_laws.specs.Sections as sections;
+ghost use Rattle.rv_unit_laws.specs.Sections.{entered};
 ghost use Rattle.rv_unit_laws.specs.Tables as laws;
 ghost use Rattle.rv_unit_laws.proofs.Asked.{depth_after as depth_then};
 ghost use Rattle.rv_tables.specs.Sections.{section_of, offset_of};
 ghost use Rattle.rv_tables.specs.declared.section_offset.SectionOffset.{SectionOffset as SectionOffsetOf};
 ghost use Rattle.rv_unit.specs.Faults.{IsLowest};
+ghost use Rattle.rv_unit.specs.FaultsAt.{faults_at, directive_faults_at};
 ghost use Rattle.rv_unit.specs.Unit.{said, passed, fault_of, IsAt, IsFilled};
 
 use crate::faults::{
@@ -51,7 +52,7 @@ impl<'a> Unit<'a> {
         assignment: &Setting<'a>,
     ) -> Option<SourceCode>
         ensures { (index : ℕ) → IsAt self.now index ordinal place (Directs (setting_of assignment.now))
-            → IsLowest result (faults.directive_faults (laws.tables (said self.now)) (passed (said self.now) index) (index + 1) (setting_of assignment.now)) }
+            → IsLowest result (directive_faults_at self.now index (setting_of assignment.now)) }
     {
         let value = self.early_value(ordinal, place, &assignment.expression);
         set_fault(
@@ -70,7 +71,7 @@ impl<'a> Unit<'a> {
         count: &Expr<'a>,
     ) -> Option<SourceCode>
         ensures { (index : ℕ) → IsAt self.now index ordinal place (Directs (Zeros (tree_of_expr count.now)))
-            → IsLowest result (faults.directive_faults (laws.tables (said self.now)) (passed (said self.now) index) (index + 1) (Zeros (tree_of_expr count.now))) }
+            → IsLowest result (directive_faults_at self.now index (Zeros (tree_of_expr count.now))) }
     {
         let value = self.early_value(ordinal, place, count);
         zero_fault(self.tables.section_at(place.section), place.offset, &value)
@@ -84,7 +85,7 @@ impl<'a> Unit<'a> {
         exponent: &Expr<'a>,
     ) -> Option<SourceCode>
         ensures { (index : ℕ) → IsAt self.now index ordinal place (Directs (Aligns_to_power (tree_of_expr exponent.now)))
-            → IsLowest result (faults.directive_faults (laws.tables (said self.now)) (passed (said self.now) index) (index + 1) (Aligns_to_power (tree_of_expr exponent.now))) }
+            → IsLowest result (directive_faults_at self.now index (Aligns_to_power (tree_of_expr exponent.now))) }
     {
         let value = self.early_value(ordinal, place, exponent);
         let found = power_fault(&value);
@@ -106,7 +107,7 @@ impl<'a> Unit<'a> {
         bytes: &Expr<'a>,
     ) -> Option<SourceCode>
         ensures { (index : ℕ) → IsAt self.now index ordinal place (Directs (Aligns_to_bytes (tree_of_expr bytes.now)))
-            → IsLowest result (faults.directive_faults (laws.tables (said self.now)) (passed (said self.now) index) (index + 1) (Aligns_to_bytes (tree_of_expr bytes.now))) }
+            → IsLowest result (directive_faults_at self.now index (Aligns_to_bytes (tree_of_expr bytes.now))) }
     {
         let value = self.early_value(ordinal, place, bytes);
         let found = bytes_fault(&value);
@@ -129,7 +130,9 @@ impl<'a> Unit<'a> {
         values: &[Expr<'a>],
     ) -> Option<SourceCode>
         ensures { (o : ℕ) → IsFilled self.now → ordinal ≡ o
-            → IsLowest result (flat_map (λ e. faults.value_faults (bytes_of width) (laws.value (laws.tables (said self.now)) true o (offset_of place) e)) (map tree_of_expr values.now)) }
+            → IsLowest result (flat_map
+            (λ e. faults.value_faults (bytes_of width) (laws.value (laws.tables (said self.now)) true o (offset_of place) e))
+            (map tree_of_expr values.now)) }
     {
         let mut found = None;
         for value in values {
@@ -148,7 +151,7 @@ impl<'a> Unit<'a> {
         values: &[Expr<'a>],
     ) -> Option<SourceCode>
         ensures { (index : ℕ) → IsAt self.now index ordinal place (Directs (Values (bytes_of width) (map tree_of_expr values.now)))
-            → IsLowest result (faults.directive_faults (laws.tables (said self.now)) (passed (said self.now) index) (index + 1) (Values (bytes_of width) (map tree_of_expr values.now))) }
+            → IsLowest result (directive_faults_at self.now index (Values (bytes_of width) (map tree_of_expr values.now))) }
     {
         let each = self.fault_of_each(ordinal, place, width, values);
         let bytes = values_size(width, values.len());
@@ -166,7 +169,7 @@ impl<'a> Unit<'a> {
         strings: &[&[u8]],
     ) -> Option<SourceCode>
         ensures { (index o : ℕ) → IsAt self.now index o place (Directs (Strings ended (map quoted strings.now)))
-            → IsLowest result (faults.directive_faults (laws.tables (said self.now)) (passed (said self.now) index) (index + 1) (Strings ended (map quoted strings.now))) }
+            → IsLowest result (directive_faults_at self.now index (Strings ended (map quoted strings.now))) }
     {
         let bytes = strings_size(ended, strings);
         data_fault(self.tables.section_at(place.section), place.offset, bytes)
@@ -175,7 +178,7 @@ impl<'a> Unit<'a> {
     /// The fault of a label: its name is defined before.
     fn fault_of_label(&self, ordinal: usize, name: &[u8]) -> Option<SourceCode>
         ensures { (index : ℕ) (p : SectionOffsetOf) → IsAt self.now index ordinal p (Label name.now)
-            → IsLowest result (faults.faulty_if (laws.is_defined (passed (said self.now) index) (index + 1) name.now) duplicate_label) }
+            → IsLowest result (faults_at self.now index (Label name.now)) }
     {
         faulty_if(
             self.is_defined_before(ordinal, name),
@@ -185,8 +188,9 @@ impl<'a> Unit<'a> {
 
     /// The fault of an instruction: it stands in no section of code, or in one without bytes.
     fn fault_of_instruction(&self, place: SectionOffset) -> Option<SourceCode>
-        ensures { (index o : ℕ) (kind : SpecKind) → laws.enters kind ≡ false → IsAt self.now index o place kind
-            → IsLowest result (faults.faulty_if (not (sections.current_section (passed (said self.now) index).opened).executable || (sections.current_section (passed (said self.now) index).opened).nobits) wrong_section) }
+        ensures { (index o : ℕ) (mnemonic : SpecMnemonic) (operands : List SpecOperand)
+            → IsAt self.now index o place (Instruction mnemonic operands)
+            → IsLowest result (faults_at self.now index (Instruction mnemonic operands)) }
     {
         instruction_fault(self.tables.section_at(place.section))
     }
@@ -194,7 +198,8 @@ impl<'a> Unit<'a> {
     /// The fault of a section that is entered: it is one more than there may be, so that the source has none of its name.
     fn fault_of_section(&self, section: Section<'_>) -> Option<SourceCode>
         ensures { (index : ℕ) → IsFilled self.now → index < length (said self.now)
-            → (passed (said self.now) (index + 1)).opened ≡ sections.entered (passed (said self.now) index).opened (section_of section.entry)
+            → (passed (said self.now) (index + 1)).opened
+            ≡ entered (passed (said self.now) index).opened (section_of section.entry)
             → IsLowest result (faults.section_faults (passed (said self.now) index).opened.sections (Some (section_of section.entry))) }
     {
         faulty_if(!self.tables.knows(section.name), SourceCode::Limit)
@@ -208,8 +213,9 @@ impl<'a> Unit<'a> {
         depth: usize,
         kind: &StatementKind<'a>,
     ) -> Option<SourceCode>
-        ensures { (index : ℕ) → IsAt self.now index ordinal place (statement_kind kind.now) → depth ≡ length (passed (said self.now) index).kept
-            → IsLowest result (faults.faults (laws.tables (said self.now)) (passed (said self.now) index) (index + 1) (statement_kind kind.now)) }
+        ensures { (index : ℕ) → IsAt self.now index ordinal place (statement_kind kind.now)
+            → depth ≡ length (passed (said self.now) index).kept
+            → IsLowest result (faults_at self.now index (statement_kind kind.now)) }
     {
         match kind {
             StatementKind::Label(name) => self.fault_of_label(ordinal, *name),

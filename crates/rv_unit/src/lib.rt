@@ -3,7 +3,8 @@
 //! `Unit::build` takes the statements of a source and gives them with the tables that `rv_tables` fills, or the first
 //! faulty label, directive or misplaced instruction: clauses `good` and `refuses` of its contract say that it refuses
 //! exactly the sources for which `rv_unit_laws`'s `first_fault` finds one, and names that. `Scope` goes over the
-//! statements one by one and tells what a name means in each (`meaning`, `value`) and where it is defined (`definition`).
+//! statements one by one and tells what a name means in each (`meaning`, `value`) and where it is defined (`definition`);
+//! `Unit::options_at` gives the options of `.option` in which each stands.
 //!
 //! It knows no text, no instruction, no address and no other source.
 //!

@@ -169,7 +169,8 @@ impl<'a> Unit<'a> {
 
     /// Whether a label or an assignment has the name before an ordinal.
     pub(crate) fn is_defined_before(&self, ordinal: usize, name: &[u8]) -> bool
-        ensures { IsIndexed (self.now).tables → (o : ℕ) → IsBefore (tables_of (self.now).tables) o → result ≡ laws.is_defined (tables_of (self.now).tables) ordinal name.now }
+        ensures { IsIndexed (self.now).tables → (o : ℕ) → IsBefore (tables_of (self.now).tables) o
+            → result ≡ laws.is_defined (tables_of (self.now).tables) ordinal name.now }
     {
         self.tables.label_before(ordinal, name).is_some()
             || self.tables.assignment_before(ordinal, name).is_some()
@@ -178,7 +179,8 @@ impl<'a> Unit<'a> {
     /// Whether a label or a location has the name before an ordinal.
     pub(crate) fn has_location_before(&self, ordinal: usize, name: &[u8]) -> bool
         ensures { IsIndexed (self.now).tables → (o : ℕ) → IsBefore (tables_of (self.now).tables) o
-            → result ≡ (is_some (laws.label_of (tables_of (self.now).tables).labels false ordinal name.now) || placed_latest (laws.assigned_before (tables_of (self.now).tables).assignments ordinal name.now)) }
+            → result ≡ (is_some (laws.label_of (tables_of (self.now).tables).labels false ordinal name.now)
+            || placed_latest (laws.assigned_before (tables_of (self.now).tables).assignments ordinal name.now)) }
     {
         if self.tables.label_before(ordinal, name).is_some() {
             return true;

@@ -69,7 +69,8 @@ impl<'a> Unit<'a> {
 
     /// The options in which the statement at this index, from 0, stands.
     pub fn options_at(&self, index: usize) -> Options
-        ensures { IsFilled self.now → index < length (said self.now) → options_of result ≡ (passed (said self.now) index).options }
+        ensures { IsFilled self.now → index < length (said self.now)
+            → options_of result ≡ (passed (said self.now) index).options }
     {
         match self.options.get(index) {
             Some(options) => *options,

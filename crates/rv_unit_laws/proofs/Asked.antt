@@ -8,7 +8,7 @@ use Rattle.rv_statement.specs.Statement.{StatementKind, Label, Numbered, Instruc
 use Rattle.rv_statement.specs.declared.directive.Choice.{Choice}
 use Rattle.rv_statement.specs.declared.directive.Choice.TheVariants.{Rvc, Norvc, Relax, Norelax, Push, Pop, Nopic}
 use Rattle.rv_unit_laws.specs.Sections.{Section, Opened, place_of_name, most_sections, text_section, entered_at, entered, entered_by, section_at, current_section}
-use Rattle.rv_unit_laws.specs.Options.{Options, options_then, kept_then}
+use Rattle.rv_unit_laws.specs.Options.{Options}
 use Rattle.rv_unit_laws.specs.Contributions.{Contribution, Nothing, contribution}
 use Rattle.rv_unit_laws.specs.Tables.{Tables, SectionOffset, Assignment, here, stood, places_from, options_from, value, assigned_by, chosen, label_of, assigned_before, is_defined, has_location, may_set, with_assignment, with_section, with_contribution, with_choice, with_chosen, after_directive, after, after_all}
 use Rattle.rv_unit_laws.proofs.Before.{IsBefore, label_before, set_now, has_place_now, placed_latest}

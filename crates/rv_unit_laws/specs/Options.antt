@@ -1,6 +1,6 @@
 -- What `.option` sets, and what it keeps (GNU as, "RISC-V-Directives", `.option`).
 
-use Rattle.std.specs.Prelude.{Bool, true, false, List, [], ◌∷◌, drop, slice_index_or}
+use Rattle.std.specs.Prelude.{Bool, true, false, List, ◌∷◌, drop, slice_index_or}
 use Rattle.rv_statement.specs.declared.directive.Choice.{Choice}
 use Rattle.rv_statement.specs.declared.directive.Choice.TheVariants.{Rvc, Norvc, Relax, Norelax, Push, Pop}
 
@@ -13,7 +13,8 @@ pub record Options : Type 0 where
 abbrev pub first_options : Options
 first_options = record { rvc = true; relax = true }
 
--- the options after a choice, where these were kept, the latest first; a pop without its push changes nothing
+-- the options after a choice, where these were kept, the latest first; a pop without its push
+-- changes nothing
 abbrev pub options_then : Options → List Options → Choice → Options
 options_then o kept Rvc = record { rvc = true; relax = o.relax }
 options_then o kept Norvc = record { rvc = false; relax = o.relax }

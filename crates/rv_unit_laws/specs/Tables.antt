@@ -52,7 +52,16 @@ pub record Tables : Type 0 where
   pub kept : List Options
 
 abbrev pub at_start : Tables
-at_start = record { opened = at_first; ends = 0 ∷ []; alignments = 1 ∷ []; labels = []; numeric_labels = []; assignments = []; options = first_options; kept = [] }
+at_start = record {
+  opened = at_first;
+  ends = 0 ∷ [];
+  alignments = 1 ∷ [];
+  labels = [];
+  numeric_labels = [];
+  assignments = [];
+  options = first_options;
+  kept = [];
+}
 
 -- where the next statement stands
 abbrev pub here : Tables → SectionOffset
@@ -330,7 +339,10 @@ with_contribution t v Nothing = t
 with_contribution t v c = with_data t (contributed v (here t).offset c) (contribution_alignment v c)
 
 abbrev pub with_choice : Tables → Choice → Tables
-with_choice t choice = record t { options = options_then t.options t.kept choice; kept = kept_then t.options t.kept choice }
+with_choice t choice = record t {
+  options = options_then t.options t.kept choice;
+  kept = kept_then t.options t.kept choice;
+}
 
 -- the option that a directive chooses
 abbrev pub chosen : Directive → Option Choice

@@ -1,7 +1,7 @@
-use Rattle.std.proofs.Common.{◌≡◌, ◌∙◌, ◌+◌, ap, sym, subst, map, refl, true, false, Some, option_map}
+use Rattle.std.proofs.Common.{◌≡◌, ◌∙◌, ◌+◌, ap, sym, subst, map, true, false, Some, option_map}
 use Rattle.std.specs.Prelude.{box_value}
 use Rattle.rv_text.specs.Expr.{tree_of_expr}
-use Rattle.rv_statement.specs.Statement.{Instruction, Strings}
+use Rattle.rv_statement.specs.Statement.{Strings}
 use Rattle.rv_statement.specs.declared.statement.Opening.{Opening}
 use Rattle.rv_statement.specs.View.{now_of, quoted, opening_of, statement_kind, operand_in}
 use Rattle.rv_statement.specs.Statement.{Applied, Directs, Enters}
@@ -33,7 +33,7 @@ returns-in-Plain c = λ i at depth.
     let is = plain_is c.in-Plain.field-0 in
     subst (λ k. IsLowest c.fault_of_instruction.result (faults.faults all t (i + 1) (statement_kind k))) (sym k)
     (subst (λ s. IsLowest c.fault_of_instruction.result (faults.faults all t (i + 1) s)) (sym is.2)
-    (c.fault_of_instruction.ensures i c.args.ordinal (Instruction is.0 is.1) refl (subst (λ s. IsAt u i c.args.ordinal c.args.place s) is.2 now)))
+    (c.fault_of_instruction.ensures i c.args.ordinal is.0 is.1 (subst (λ s. IsAt u i c.args.ordinal c.args.place s) is.2 now)))
 
 pub returns-in-With : goal.returns-in-With
 returns-in-With c = λ i at depth.
@@ -45,7 +45,7 @@ returns-in-With c = λ i at depth.
     let is = with_is c.in-With.field-0 (operand_in c.in-With.field-0 (tree_of_expr c.in-With.field-1)) in
     subst (λ k. IsLowest c.fault_of_instruction-in-With.result (faults.faults all t (i + 1) (statement_kind k))) (sym k)
     (subst (λ s. IsLowest c.fault_of_instruction-in-With.result (faults.faults all t (i + 1) s)) (sym is.2)
-    (c.fault_of_instruction-in-With.ensures i c.args.ordinal (Instruction is.0 is.1) refl (subst (λ s. IsAt u i c.args.ordinal c.args.place s) is.2 now)))
+    (c.fault_of_instruction-in-With.ensures i c.args.ordinal is.0 is.1 (subst (λ s. IsAt u i c.args.ordinal c.args.place s) is.2 now)))
 
 pub returns-in-WithFunction : goal.returns-in-WithFunction
 returns-in-WithFunction c = λ i at depth.
@@ -57,7 +57,7 @@ returns-in-WithFunction c = λ i at depth.
     let is = with_is c.in-WithFunction.field-0 (Applied c.in-WithFunction.field-1 (tree_of_expr c.in-WithFunction.field-2)) in
     subst (λ k. IsLowest c.fault_of_instruction-in-WithFunction.result (faults.faults all t (i + 1) (statement_kind k))) (sym k)
     (subst (λ s. IsLowest c.fault_of_instruction-in-WithFunction.result (faults.faults all t (i + 1) s)) (sym is.2)
-    (c.fault_of_instruction-in-WithFunction.ensures i c.args.ordinal (Instruction is.0 is.1) refl (subst (λ s. IsAt u i c.args.ordinal c.args.place s) is.2 now)))
+    (c.fault_of_instruction-in-WithFunction.ensures i c.args.ordinal is.0 is.1 (subst (λ s. IsAt u i c.args.ordinal c.args.place s) is.2 now)))
 
 pub returns-in-Ascii : goal.returns-in-Ascii
 returns-in-Ascii c = λ i at depth.
