@@ -58,7 +58,8 @@ pub fn scratch_registers_are_used()
     ensures address { statements_fault (alone (loads_address 0 x)) ≡ fault unsupported_here 2 }
     ensures other { statements_fault (alone (stores_symbol 5 x)) ≡ fault unsupported_here 2 }
     ensures beside { statements_fault (alone (loads_symbol 0 away)) ≡ fault scratch_register 2 }
-    ensures after { statements_fault (alone (calls 0 (Binary Divide x (constant 0)))) ≡ fault division_by_zero 2 }
+    ensures after { statements_fault (alone (calls 0 (Binary Divide x (constant 0))))
+        ≡ fault division_by_zero 2 }
 {}
 
 /// A target is a symbol's address, whose number is nowhere yet; a constant is none, nor is a distance.
@@ -67,7 +68,8 @@ pub fn targets_are_addresses()
     ensures number { statements_fault (after_set (jumps x)) ≡ fault immediate_range 3 }
     ensures early { statements_fault (before_set (jumps x)) ≡ fault not_constant 2 }
     ensures distance { statements_fault (alone (jumps away)) ≡ fault not_constant 2 }
-    ensures missing { statements_fault (alone (jumps (Leaf (Reference (codes "1") false)))) ≡ fault undefined_local 2 }
+    ensures missing { statements_fault (alone (jumps (Leaf (Reference (codes "1") false))))
+        ≡ fault undefined_local 2 }
     ensures upper { statements_fault (after_set (upper_distance x)) ≡ fault immediate_range 3 }
 {}
 
@@ -75,8 +77,10 @@ pub fn targets_are_addresses()
 pub fn upper_parts_end()
     ensures low { statements_fault (alone (upper_part (minus 2048))) ≡ fault unsupported_here 2 }
     ensures below { statements_fault (alone (upper_part (minus 2049))) ≡ fault immediate_range 2 }
-    ensures high { statements_fault (alone (upper_part (constant 0xfffff7ff))) ≡ fault unsupported_here 2 }
-    ensures above { statements_fault (alone (upper_part (constant 0xfffff800))) ≡ fault immediate_range 2 }
+    ensures high { statements_fault (alone (upper_part (constant 0xfffff7ff)))
+        ≡ fault unsupported_here 2 }
+    ensures above { statements_fault (alone (upper_part (constant 0xfffff800)))
+        ≡ fault immediate_range 2 }
     ensures symbol { statements_fault (alone (upper_part x)) ≡ fault unsupported_here 2 }
     ensures distance { statements_fault (alone (upper_part away)) ≡ fault not_constant 2 }
 {}
@@ -85,28 +89,36 @@ pub fn upper_parts_end()
 pub fn low_parts_fit()
     ensures symbol { statements_fault (alone (adds_part Lo x)) ≡ fault unsupported_here 2 }
     ensures distance { statements_fault (alone (adds_part Lo away)) ≡ fault not_constant 2 }
-    ensures number { statements_fault (alone (adds_part Lo (constant 5000))) ≡ fault unsupported_here 2 }
+    ensures number { statements_fault (alone (adds_part Lo (constant 5000)))
+        ≡ fault unsupported_here 2 }
     ensures shift { statements_fault (alone (shifts_part Lo x)) ≡ fault not_constant 2 }
     ensures li { statements_fault (alone (li_part Lo x)) ≡ fault not_constant 2 }
-    ensures amount { statements_fault (alone (shifts_part Lo (constant 4159))) ≡ fault unsupported_here 2 }
-    ensures far { statements_fault (alone (shifts_part Lo (constant 4160))) ≡ fault immediate_range 2 }
-    ensures negative { statements_fault (alone (shifts_part Lo (constant 4095))) ≡ fault immediate_range 2 }
+    ensures amount { statements_fault (alone (shifts_part Lo (constant 4159)))
+        ≡ fault unsupported_here 2 }
+    ensures far { statements_fault (alone (shifts_part Lo (constant 4160)))
+        ≡ fault immediate_range 2 }
+    ensures negative { statements_fault (alone (shifts_part Lo (constant 4095)))
+        ≡ fault immediate_range 2 }
 {}
 
 /// The low part of a distance names a label of the source.
 pub fn distances_name_labels()
-    ensures label { statements_fault (before_label (adds_part PcrelLo x)) ≡ fault unsupported_here 2 }
+    ensures label { statements_fault (before_label (adds_part PcrelLo x))
+        ≡ fault unsupported_here 2 }
     ensures missing { statements_fault (alone (adds_part PcrelLo x)) ≡ fault undefined_local 2 }
-    ensures constant { statements_fault (after_set (adds_part PcrelLo x)) ≡ fault undefined_local 3 }
+    ensures constant { statements_fault (after_set (adds_part PcrelLo x))
+        ≡ fault undefined_local 3 }
     ensures early { statements_fault (before_set (adds_part PcrelLo x)) ≡ fault undefined_local 2 }
-    ensures location { statements_fault (after_location (adds_part PcrelLo x)) ≡ fault undefined_local 5 }
+    ensures location { statements_fault (after_location (adds_part PcrelLo x))
+        ≡ fault undefined_local 5 }
     ensures shift { statements_fault (before_label (shifts_part PcrelLo x)) ≡ fault not_constant 2 }
     ensures both { statements_fault (alone (shifts_part PcrelLo x)) ≡ fault undefined_local 2 }
 {}
 
 /// What cannot be placed yet is refused as such where nothing else is wrong.
 pub fn unplaced_comes_last()
-    ensures compressed { statements_fault (compressed (adds (constant 5))) ≡ fault unsupported_here 1 }
+    ensures compressed { statements_fault (compressed (adds (constant 5)))
+        ≡ fault unsupported_here 1 }
     ensures range { statements_fault (compressed (adds (constant 5000))) ≡ fault immediate_range 1 }
     ensures offset { statements_fault (alone (jumps_back 2047)) ≡ fault unsupported_here 2 }
     ensures far { statements_fault (alone (jumps_back 2048)) ≡ fault immediate_range 2 }
