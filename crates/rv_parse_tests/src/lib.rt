@@ -3,4 +3,10 @@
 #![tactic(auto)]
 
 #[cfg(test)]
+mod forms;
+#[cfg(test)]
+mod malformed;
+#[cfg(test)]
+mod rows;
+#[cfg(test)]
 mod tests;
