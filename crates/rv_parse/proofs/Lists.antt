@@ -74,13 +74,13 @@ strings_undone = items_undone string_of A_string
 abbrev pub values : Slot
 values = A_value roles.Directive
 
-value_operand : (ts : List Token) (x : Expr) (rest : List Token) → value_in roles.Directive ts ≡ Ok (tree_of_expr x, rest) → operand_at values ts ≡ Ok (value_of x ∷ [], rest)
+value_operand : (ts : List Token) (x : Expr) (rest : List Token) → value_in roles.Directive ts ≡ Ok (value_of x, rest) → operand_at values ts ≡ Ok (value_of x ∷ [], rest)
 value_operand ts x rest e = rw e refl
 
 no_operand : (ts : List Token) (w : SyntaxError) → value_in roles.Directive ts ≡ Err w → operand_at values ts ≡ Err w
 no_operand ts w e = rw e refl
 
-pub values_begin : (ts : List Token) (x : Expr) (rest : List Token) → value_in roles.Directive ts ≡ Ok (tree_of_expr x, rest)
+pub values_begin : (ts : List Token) (x : Expr) (rest : List Token) → value_in roles.Directive ts ≡ Ok (value_of x, rest)
     → items_at values ts ≡ prepended (value_of x ∷ []) (further_items values rest)
 values_begin ts x rest e = items_begin value_of values ts x rest (x ∷ []) (value_operand ts x rest e) refl
 
@@ -88,14 +88,14 @@ values_begin ts x rest e = items_begin value_of values ts x rest (x ∷ []) (val
 pub values_start : (x : Expr) (r : Read (List Operand)) (new : List Expr) → new ≡ x ∷ [] → prepended (value_of x ∷ []) r ≡ prepended (map value_of new) r
 values_start x r new is = rw is refl
 
-pub value_shorter : (ts : List Token) (e : Tree) (rest : List Token) → value_in roles.Directive ts ≡ Ok (e, rest) → length rest < length ts
+pub value_shorter : (ts : List Token) (e : Tree) (rest : List Token) → value_in roles.Directive ts ≡ Ok (Value e, rest) → length rest < length ts
 value_shorter ts e rest h = operand_shorter values ts (Value e ∷ []) rest (rw h refl)
 
 pub values_first_wrong : (ts : List Token) (w : SyntaxError) → value_in roles.Directive ts ≡ Err w → items_at values ts ≡ Err w
 values_first_wrong ts w e = items_first_wrong values ts w (no_operand ts w e)
 
 pub values_go_on : (all : Read (List Operand)) (items new : List Expr) (x : Expr) (t : Token) (before ts rest : List Token)
-    → all ≡ prepended (map value_of items) (further_items values before) → before ≡ t ∷ ts → is_comma t.kind ≡ true → value_in roles.Directive ts ≡ Ok (tree_of_expr x, rest)
+    → all ≡ prepended (map value_of items) (further_items values before) → before ≡ t ∷ ts → is_comma t.kind ≡ true → value_in roles.Directive ts ≡ Ok (value_of x, rest)
     → new ≡ items ++ x ∷ [] → all ≡ prepended (map value_of new) (further_items values rest)
 values_go_on all items new x t before ts rest so is comma e pushed =
     items_go_on value_of values all items new x t before ts rest so is comma (value_operand ts x rest e) pushed
@@ -138,7 +138,7 @@ data_said width os = Directs (directed (words.Value width) os)
 abbrev pub data_at : Width → List Token → Read StatementKind
 data_at width ts = seen_as (data_said width) (operands_at (places (words.Value width)) ts)
 
-data_is : (width : Width) (ts us : List Token) (x : Expr) → value_in roles.Directive ts ≡ Ok (tree_of_expr x, us)
+data_is : (width : Width) (ts us : List Token) (x : Expr) → value_in roles.Directive ts ≡ Ok (value_of x, us)
     → data_at width ts ≡ seen_as (data_said width) (prepended (value_of x ∷ []) (further_items values us))
 unfolding operands_at
 data_is width ts us x e = ap (seen_as (data_said width)) (values_begin ts x us e)
@@ -151,12 +151,12 @@ pub data_fail : (width : Width) (ts : List Token) (e : ReadError) → Fails e (v
 data_fail width ts (refusals.At w) h = data_wrong width ts (syntax_error_of w) h
 data_fail width ts refusals.OutOfMemory h = tt
 
-pub several_fail : (width : Width) (ts us : List Token) (x : Expr) (e : ReadError) → value_in roles.Directive ts ≡ Ok (tree_of_expr x, us)
+pub several_fail : (width : Width) (ts us : List Token) (x : Expr) (e : ReadError) → value_in roles.Directive ts ≡ Ok (value_of x, us)
     → Fails e (prepended (value_of x ∷ []) (further_items values us)) → Fails e (data_at width ts)
 several_fail width ts us x (refusals.At w) first h = data_is width ts us x first ∙ ap (seen_as (data_said width)) h
 several_fail width ts us x refusals.OutOfMemory first h = tt
 
-pub several_said : (width : Width) (ts us rest : List Token) (x : Expr) (xs : List Expr) → value_in roles.Directive ts ≡ Ok (tree_of_expr x, us)
+pub several_said : (width : Width) (ts us rest : List Token) (x : Expr) (xs : List Expr) → value_in roles.Directive ts ≡ Ok (value_of x, us)
     → prepended (value_of x ∷ []) (further_items values us) ≡ Ok (map value_of xs, rest) → data_at width ts ≡ Ok (Directs (Values (bytes_of width) (map tree_of_expr xs)), rest)
 several_said width ts us rest x xs first h =
     data_is width ts us x first ∙ ap (seen_as (data_said width)) h ∙ ap (λ (es : List Tree). Ok (Directs (Values (bytes_of width) es), rest)) (all_values xs)
@@ -169,10 +169,10 @@ single_end (t ∷ us) h = go (is_comma t.kind) refl
     go false e = rw e refl
     go true e = let begins : front_begins (A_comma values) (t ∷ us) ≡ true = rw e refl in absurd (cc)
 
-pub one_wrong : (width : Width) (ts us : List Token) (x : Expr) (w : SyntaxError) → value_in roles.Directive ts ≡ Ok (tree_of_expr x, us) → front_begins (A_comma values) us ≡ false
+pub one_wrong : (width : Width) (ts us : List Token) (x : Expr) (w : SyntaxError) → value_in roles.Directive ts ≡ Ok (value_of x, us) → front_begins (A_comma values) us ≡ false
     → end_at values us ≡ Err w → data_at width ts ≡ Err w
 one_wrong width ts us x w first single h = data_is width ts us x first ∙ rw (single_end us single, h) refl
 
-pub one_said : (width : Width) (ts us rest : List Token) (x : Expr) → value_in roles.Directive ts ≡ Ok (tree_of_expr x, us) → front_begins (A_comma values) us ≡ false
+pub one_said : (width : Width) (ts us rest : List Token) (x : Expr) → value_in roles.Directive ts ≡ Ok (value_of x, us) → front_begins (A_comma values) us ≡ false
     → end_at values us ≡ Ok rest → data_at width ts ≡ Ok (Directs (Values (bytes_of width) (tree_of_expr x ∷ [])), rest)
 one_said width ts us rest x first single h = data_is width ts us x first ∙ rw (single_end us single, h) refl

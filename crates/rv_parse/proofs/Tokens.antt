@@ -1,18 +1,33 @@
 -- A token that is taken somewhere is not the last of its source.
 
 use Rattle.std.proofs.Common.{◌≡◌, ℕ, true, false, List, Some, refl}
-use Rattle.rv_text_laws.specs.Grammar.{Kind, Punctuation, Name as NameToken, Number, Character, Text, Bad_byte, Bad_token, End}
+use Rattle.rv_text_laws.specs.Grammar.{Kind, Punctuation, Name as NameToken, Number, Reference, Character, Text, Bad_byte, Bad_token, End}
 use Rattle.rv_text_laws.specs.Lexing.{is_last}
 use Rattle.rv_isa.specs.declared.operation.AccessSet.{AccessSet}
 use Rattle.rv_statement.specs.declared.directive.Choice.{Choice}
-use Rattle.rv_statement.specs.Statement.{Operand}
-use Rattle.rv_parse_laws.specs.Syntax.{register_of, symbol_of, accesses_of, is_comma, is_colon, is_opening, is_closing, is_at, is_zero, is_any, A_string, A_type, single}
+use Rattle.rv_statement.specs.Statement.{Operand, Expression}
+use Rattle.rv_parse_laws.specs.Syntax.{register_of, symbol_of, accesses_of, is_comma, is_colon, is_opening, is_closing, is_at, is_zero, is_any, is_percent, function_in, label_named, A_string, A_type, single}
+use Rattle.rv_statement.specs.declared.pseudo.Function.{Function}
+use Rattle.rv_parse_laws.specs.declared.role.Role.{Role}
 use Rattle.rv_parse_laws.specs.Parsing.{width}
 use Rattle.rv_words.specs.View.{choice_of}
 
 pub register_no_last : (k : Kind) (r : ℕ) → register_of k ≡ Some r → is_last k ≡ false
 register_no_last (NameToken name) r h = refl
 register_no_last _ r h = absurd (cc)
+
+pub percent_no_last : (k : Kind) → is_percent k ≡ true → is_last k ≡ false
+percent_no_last (Punctuation sign) h = refl
+percent_no_last _ h = absurd (cc)
+
+pub function_no_last : (role : Role) (k : Kind) (f : Function) → function_in role k ≡ Some f → is_last k ≡ false
+function_no_last role (NameToken name) f h = refl
+function_no_last role _ f h = absurd (cc)
+
+pub label_no_last : (k : Kind) (e : Expression) → label_named k ≡ Some e → is_last k ≡ false
+label_no_last (NameToken name) e h = refl
+label_no_last (Reference digits forward) e h = refl
+label_no_last _ e h = absurd (cc)
 
 pub accesses_no_last : (k : Kind) (set : AccessSet) → accesses_of k ≡ Some set → is_last k ≡ false
 accesses_no_last (NameToken name) set h = refl

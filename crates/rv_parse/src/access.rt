@@ -9,7 +9,7 @@ ghost use Rattle.rv_parse_laws.specs.Parsing.{operands_at, seen_as};
 ghost use Rattle.rv_lexer.specs.Cursor.{left, Answers};
 ghost use Rattle.rv_parse.specs.Left.{Gives};
 
-use crate::operands::with;
+use crate::operands::given;
 use crate::slot;
 use rv_isa::{AtomicForm, AtomicOperation, LoadOperation, Reg, StoreOperation};
 use rv_statement::{Operation, Plain, StatementKind};
@@ -34,10 +34,10 @@ pub fn load<'a>(
         slot::end(cursor, Slot::Address(Role::Load))?;
         return Ok(StatementKind::Plain(Plain::Load(operation, rd, rs1)));
     }
-    let offset = slot::value(alloc, cursor, Role::Load)?;
-    let rs1 = slot::base(cursor, Slot::Value(Role::Load))?;
+    let offset = slot::value_or_function(alloc, cursor, Role::Load)?;
+    let rs1 = slot::base(cursor, offset.slot(Role::Load))?;
     slot::end(cursor, Slot::Address(Role::Load))?;
-    Ok(with(Operation::Load(operation, rd, rs1), offset))
+    Ok(given(Operation::Load(operation, rd, rs1), offset))
 }
 
 /// `rs2, offset(rs1)`
@@ -56,10 +56,10 @@ pub fn store<'a>(
         slot::end(cursor, Slot::Address(Role::Store))?;
         return Ok(StatementKind::Plain(Plain::Store(operation, rs2, rs1)));
     }
-    let offset = slot::value(alloc, cursor, Role::Store)?;
-    let rs1 = slot::base(cursor, Slot::Value(Role::Store))?;
+    let offset = slot::value_or_function(alloc, cursor, Role::Store)?;
+    let rs1 = slot::base(cursor, offset.slot(Role::Store))?;
     slot::end(cursor, Slot::Address(Role::Store))?;
-    Ok(with(Operation::Store(operation, rs2, rs1), offset))
+    Ok(given(Operation::Store(operation, rs2, rs1), offset))
 }
 
 /// A register in parentheses, after the opening one.

@@ -1,16 +1,16 @@
 //! The operands of instructions, up to the statement's end.
 
-ghost use Rattle.std.specs.Prelude.{◌≡◌};
+ghost use Rattle.std.specs.Prelude.{◌≡◌, false};
 ghost use Rattle.rv_statement.specs.declared.mnemonic.Mnemonic.TheVariants.{Registers};
 ghost use Rattle.rv_statement.specs.Statement.{Instruction};
 ghost use Rattle.rv_statement.specs.View.{statement_kind};
-ghost use Rattle.rv_parse_laws.specs.Syntax.{slots};
+ghost use Rattle.rv_parse_laws.specs.Syntax.{slots, upper_role, targets};
 ghost use Rattle.rv_parse_laws.specs.Parsing.{operands_at, seen_as};
 ghost use Rattle.rv_lexer.specs.Cursor.{left, Answers};
 
-use crate::operands::{self, with};
+use crate::operands::{self, given, with};
 use crate::{access, jump, slot};
-use rv_isa::RegisterOperation;
+use rv_isa::{RegisterOperation, UpperOperation};
 use rv_statement::{Mnemonic, Operation, Plain, StatementKind};
 use rv_text::{Cursor, ReadError};
 use rv_words::Role;
@@ -32,13 +32,24 @@ fn registers<'a>(
     let rs1 = slot::register(cursor)?;
     slot::comma(cursor, Slot::Register)?;
     if has_constant(operation) && !slot::begins_register(cursor) {
-        let value = slot::value(alloc, cursor, Role::Operand)?;
-        slot::end(cursor, Slot::Value(Role::Operand))?;
-        return Ok(with(Operation::Registers(operation, rd, rs1), value));
+        let value = slot::value_or_function(alloc, cursor, Role::Source)?;
+        slot::end(cursor, Slot::Value(Role::Source))?;
+        return Ok(given(Operation::Registers(operation, rd, rs1), value));
     }
     let rs2 = slot::register(cursor)?;
     slot::end(cursor, Slot::Register)?;
     Ok(StatementKind::Plain(Plain::Registers(operation, rd, rs1, rs2)))
+}
+
+/// Where the operand of `lui` or of `auipc` stands.
+fn upper_role(operation: UpperOperation) -> Role
+    ensures role { result ≡ upper_role operation }
+    ensures value { targets result ≡ false }
+{
+    match operation {
+        UpperOperation::Lui => Role::Upper,
+        UpperOperation::Auipc => Role::PcrelUpper,
+    }
 }
 
 /// The operands of a mnemonic, up to the statement's end.
@@ -52,16 +63,17 @@ pub fn instruction<'a>(
     match mnemonic {
         Mnemonic::Registers(operation) => registers(alloc, cursor, operation),
         Mnemonic::Immediate(operation) => {
-            let (rd, rs1, value) = operands::registers_and_value(alloc, cursor, Role::Operand)?;
-            Ok(with(Operation::Immediate(operation, rd, rs1), value))
+            let (rd, rs1, value) = operands::registers_and_argument(alloc, cursor, Role::Operand)?;
+            Ok(given(Operation::Immediate(operation, rd, rs1), value))
         }
         Mnemonic::Shift(operation) => {
-            let (rd, rs1, amount) = operands::registers_and_value(alloc, cursor, Role::Operand)?;
-            Ok(with(Operation::Shift(operation, rd, rs1), amount))
+            let (rd, rs1, amount) = operands::registers_and_argument(alloc, cursor, Role::Operand)?;
+            Ok(given(Operation::Shift(operation, rd, rs1), amount))
         }
         Mnemonic::Upper(operation) => {
-            let (rd, value) = operands::register_and_value(alloc, cursor, Role::Operand)?;
-            Ok(with(Operation::Upper(operation, rd), value))
+            let role = upper_role(operation);
+            let (rd, value) = operands::register_and_argument(alloc, cursor, role)?;
+            Ok(given(Operation::Upper(operation, rd), value))
         }
         Mnemonic::Load(operation) => access::load(alloc, cursor, operation),
         Mnemonic::Store(operation) => access::store(alloc, cursor, operation),
@@ -120,8 +132,8 @@ pub fn instruction<'a>(
             Ok(with(Operation::La(rd), target))
         }
         Mnemonic::Li => {
-            let (rd, value) = operands::register_and_value(alloc, cursor, Role::Operand)?;
-            Ok(with(Operation::Li(rd), value))
+            let (rd, value) = operands::register_and_argument(alloc, cursor, Role::Operand)?;
+            Ok(given(Operation::Li(rd), value))
         }
         Mnemonic::Call => jump::call(alloc, cursor),
         Mnemonic::Tail => {

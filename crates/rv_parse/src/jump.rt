@@ -8,7 +8,7 @@ ghost use Rattle.rv_parse_laws.specs.Syntax.{slots, jump_target};
 ghost use Rattle.rv_parse_laws.specs.Parsing.{operands_at, seen_as};
 ghost use Rattle.rv_lexer.specs.Cursor.{left, Answers};
 
-use crate::operands::with;
+use crate::operands::{given, with};
 use crate::slot;
 use rv_isa::Reg;
 use rv_statement::{Operation, Plain, StatementKind};
@@ -78,10 +78,10 @@ pub fn jr<'a>(alloc: Global, cursor: &mut Cursor<'a>) -> Result<StatementKind<'a
         slot::end(cursor, Slot::Address(Role::Operand))?;
         return Ok(StatementKind::Plain(Plain::Jr(rs)));
     }
-    let offset = slot::value(alloc, cursor, Role::Operand)?;
-    let rs = slot::base(cursor, Slot::Value(Role::Operand))?;
+    let offset = slot::value_or_function(alloc, cursor, Role::Operand)?;
+    let rs = slot::base(cursor, offset.slot(Role::Operand))?;
     slot::end(cursor, Slot::Address(Role::Operand))?;
-    Ok(with(Operation::Jr(rs), offset))
+    Ok(given(Operation::Jr(rs), offset))
 }
 
 /// The operands of `jalr`: an address, or the link register and its target.
@@ -95,10 +95,10 @@ pub fn jalr<'a>(alloc: Global, cursor: &mut Cursor<'a>) -> Result<StatementKind<
             slot::end(cursor, Slot::Address(Role::Operand))?;
             return Ok(StatementKind::Plain(Plain::JalrLinked(rs1)));
         }
-        let offset = slot::value(alloc, cursor, Role::Operand)?;
-        let rs1 = slot::base(cursor, Slot::Value(Role::Operand))?;
+        let offset = slot::value_or_function(alloc, cursor, Role::Operand)?;
+        let rs1 = slot::base(cursor, offset.slot(Role::Operand))?;
         slot::end(cursor, Slot::Address(Role::Operand))?;
-        return Ok(with(Operation::JalrLinked(rs1), offset));
+        return Ok(given(Operation::JalrLinked(rs1), offset));
     }
     let first = slot::register(cursor)?;
     if slot::begins_comma(cursor) {
@@ -124,17 +124,17 @@ fn jump_target<'a>(
             slot::end(cursor, Slot::Address(Role::Operand))?;
             return Ok(StatementKind::Plain(Plain::Jalr(rd, rs1)));
         }
-        let offset = slot::value(alloc, cursor, Role::Operand)?;
-        let rs1 = slot::base(cursor, Slot::Value(Role::Operand))?;
+        let offset = slot::value_or_function(alloc, cursor, Role::Operand)?;
+        let rs1 = slot::base(cursor, offset.slot(Role::Operand))?;
         slot::end(cursor, Slot::Address(Role::Operand))?;
-        return Ok(with(Operation::Jalr(rd, rs1), offset));
+        return Ok(given(Operation::Jalr(rd, rs1), offset));
     }
     let rs1 = slot::register(cursor)?;
     if slot::begins_comma(cursor) {
         slot::comma(cursor, Slot::Register)?;
-        let value = slot::value(alloc, cursor, Role::Operand)?;
+        let value = slot::value_or_function(alloc, cursor, Role::Operand)?;
         slot::end(cursor, Slot::Value(Role::Operand))?;
-        return Ok(with(Operation::JalrThen(rd, rs1), value));
+        return Ok(given(Operation::JalrThen(rd, rs1), value));
     }
     slot::end(cursor, Slot::Register)?;
     Ok(StatementKind::Plain(Plain::Jalr(rd, rs1)))

@@ -1,15 +1,18 @@
 //! Operands in shapes that several mnemonics share, up to the statement's end.
 
-ghost use Rattle.std.specs.Prelude.{◌≡◌, ◌∷◌, []};
+ghost use Rattle.std.specs.Prelude.{◌≡◌, ◌∷◌, [], false};
 ghost use Rattle.rv_lexer.specs.Cursor.{left, Answers};
 ghost use Rattle.rv_text.specs.Expr.{tree_of_expr};
-ghost use Rattle.rv_statement.specs.Statement.{Register};
-ghost use Rattle.rv_statement.specs.View.{statement_kind, with_expression};
-ghost use Rattle.rv_parse_laws.specs.Syntax.{A_register, A_value, Stops, and_then, last, valued};
+ghost use Rattle.rv_statement.specs.Statement.{Register, Value};
+ghost use Rattle.rv_statement.specs.View.{statement_kind, with_expression, with_operand, operand_in};
+ghost use Rattle.rv_text_laws.specs.Expression.{Tree};
+ghost use Rattle.rv_parse_laws.specs.Faults.{may_call};
+ghost use Rattle.rv_parse.specs.View.{operand_of};
+ghost use Rattle.rv_parse_laws.specs.Syntax.{A_register, A_value, Stops, and_then, last, valued, targets};
 ghost use Rattle.rv_parse_laws.specs.Parsing.{operands_at};
 ghost use Rattle.rv_parse.specs.Left.{Gives};
 
-use crate::slot;
+use crate::slot::{self, Argument};
 use rv_isa::Reg;
 use rv_statement::{Operation, StatementKind};
 use rv_text::{Cursor, Expr, ReadError, SyntaxError};
@@ -58,6 +61,53 @@ pub fn three_registers(cursor: &mut Cursor<'_>) -> Result<(Reg, Reg, Reg), Synta
     Ok((rd, rs1, rs2))
 }
 
+/// An instruction with a value that is no target.
+pub fn given<'a>(operation: Operation, argument: Argument<'a>) -> StatementKind<'a>
+    requires { (e : Tree) → operand_in operation e ≡ Value e }
+    ensures { statement_kind result ≡ with_operand operation (operand_of argument.entry) }
+{
+    match argument.function {
+        Some(function) => StatementKind::WithFunction(operation, function, argument.expression),
+        None => StatementKind::With(operation, argument.expression),
+    }
+}
+
+/// A register and a value.
+#[tactic(auto, unfolding(rv_parse_laws::specs::Parsing::operands_at))]
+pub fn register_and_argument<'a>(
+    alloc: Global,
+    cursor: &mut Cursor<'a>,
+    role: Role,
+) -> Result<(Reg, Argument<'a>), ReadError>
+    requires { targets role ≡ false }
+    ensures { Answers (λ r. (Register r.0 ∷ operand_of r.1 ∷ [], left cursor.new)) result (operands_at (and_then A_register (last (A_value role))) (left cursor.old)) }
+{
+    let register = slot::register(cursor)?;
+    slot::comma(cursor, Slot::Register)?;
+    let value = slot::value_or_function(alloc, cursor, role)?;
+    slot::end(cursor, Slot::Value(role))?;
+    Ok((register, value))
+}
+
+/// Two registers and a value.
+#[tactic(auto, unfolding(rv_parse_laws::specs::Parsing::operands_at))]
+pub fn registers_and_argument<'a>(
+    alloc: Global,
+    cursor: &mut Cursor<'a>,
+    role: Role,
+) -> Result<(Reg, Reg, Argument<'a>), ReadError>
+    requires { targets role ≡ false }
+    ensures { Answers (λ r. (Register r.0 ∷ Register r.1 ∷ operand_of r.2 ∷ [], left cursor.new)) result (operands_at (and_then A_register (and_then A_register (last (A_value role)))) (left cursor.old)) }
+{
+    let first = slot::register(cursor)?;
+    slot::comma(cursor, Slot::Register)?;
+    let second = slot::register(cursor)?;
+    slot::comma(cursor, Slot::Register)?;
+    let value = slot::value_or_function(alloc, cursor, role)?;
+    slot::end(cursor, Slot::Value(role))?;
+    Ok((first, second, value))
+}
+
 /// An expression alone.
 #[tactic(auto, unfolding(rv_parse_laws::specs::Parsing::operands_at))]
 pub fn one_value<'a>(
@@ -65,6 +115,7 @@ pub fn one_value<'a>(
     cursor: &mut Cursor<'a>,
     role: Role,
 ) -> Result<Expr<'a>, ReadError>
+    requires { may_call role ≡ false }
     ensures { Answers (λ e. (valued role (tree_of_expr e) ∷ [], left cursor.new)) result (operands_at (last (A_value role)) (left cursor.old)) }
 {
     let value = slot::value(alloc, cursor, role)?;
@@ -79,6 +130,7 @@ pub fn register_and_value<'a>(
     cursor: &mut Cursor<'a>,
     role: Role,
 ) -> Result<(Reg, Expr<'a>), ReadError>
+    requires { may_call role ≡ false }
     ensures { Answers (λ r. (Register r.0 ∷ valued role (tree_of_expr r.1) ∷ [], left cursor.new)) result (operands_at (and_then A_register (last (A_value role))) (left cursor.old)) }
 {
     let register = slot::register(cursor)?;
@@ -95,6 +147,7 @@ pub fn registers_and_value<'a>(
     cursor: &mut Cursor<'a>,
     role: Role,
 ) -> Result<(Reg, Reg, Expr<'a>), ReadError>
+    requires { may_call role ≡ false }
     ensures { Answers (λ r. (Register r.0 ∷ Register r.1 ∷ valued role (tree_of_expr r.2) ∷ [], left cursor.new)) result (operands_at (and_then A_register (and_then A_register (last (A_value role)))) (left cursor.old)) }
 {
     let first = slot::register(cursor)?;

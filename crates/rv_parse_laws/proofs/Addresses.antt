@@ -1,7 +1,7 @@
 -- Addresses: a register in parentheses, with or without an expression before it.
 
 use Rattle.std.proofs.Common.{◌≡◌, ℕ, ◌<◌, Bool, true, false, cond, ◌&&◌, List, [], ◌∷◌, ◌++◌, append_assoc, length, length-append, Option, Some, None, option_map, is_some, Ok, Err, refl, sym, ◌∙◌, ap, subst, arith, inl, inr}
-use Rattle.rv_text_laws.specs.declared.punct.Punct.TheVariants.{Open, Close}
+use Rattle.rv_text_laws.specs.declared.punct.Punct.TheVariants.{Open, Close, Percent}
 use Rattle.rv_text_laws.specs.Grammar.{Kind, Punctuation, Name as NameToken}
 use Rattle.rv_text_laws.specs.Lexing.{Token, ended}
 use Rattle.rv_text_laws.specs.SyntaxError.{SyntaxError, wrong}
@@ -10,14 +10,15 @@ use Rattle.rv_text_laws.specs.ExpressionAt.{Wants, read_from, expression_at}
 use Rattle.rv_text_laws.specs.declared.operator.Frame.TheVariants.{Parenthesis}
 use Rattle.rv_text_laws.proofs.Expressions.{fails, goes}
 use Rattle.rv_text_laws.proofs.ExpressionWrong.{ended_more, ended_behind}
-use Rattle.rv_statement.specs.Statement.{Expression, Operand, Register, Value}
-use Rattle.rv_parse_laws.specs.Syntax.{is_register, register_of, is_opening, is_closing, is_colon, Slot, A_register, A_value, An_address, A_closing, An_opening, single, front_begins, IsValueIn, IsBase, IsOperand}
+use Rattle.rv_statement.specs.Statement.{Expression, Operand, Register}
+use Rattle.rv_parse_laws.specs.Syntax.{is_register, register_of, is_percent, is_opening, is_closing, is_colon, Slot, A_register, A_value, An_address, A_closing, An_opening, single, front_begins, IsValueIn, IsBase, IsOperand}
 use Rattle.rv_parse_laws.specs.Faults.{wrong_first}
-use Rattle.rv_parse_laws.specs.Parsing.{◌>>=◌, seen_as, value_at, value_in, single_at, base_at, base_next, offset_at, operand_at}
+use Rattle.rv_parse_laws.specs.Parsing.{◌>>=◌, seen_as, value_at, value_in, single_at, base_at, base_next, behind_value, offset_at, operand_at}
 use Rattle.rv_parse_laws.proofs.Steps.{bind_ok, seen_ok, bind_err, seen_err}
 use Rattle.rv_parse_laws.proofs.Failing.{Failing, at_once, behind, first_of, first_same, never}
 use Rattle.rv_parse_laws.proofs.Singles.{single_found, single_fault, single_passed, register_no_last, opening_no_last, closing_no_last, some_token, a_register, a_register_is}
-use Rattle.rv_parse_laws.proofs.Values.{Closes, closes, value_is, value_in_is, value_some, ValueFound, value_found, ValueWrong, value_wrong}
+use Rattle.rv_parse_laws.proofs.Values.{Closes, closes, value_is}
+use Rattle.rv_parse_laws.proofs.Arguments.{value_in_is, value_in_some, ValueFound, value_found, ValueWrong, value_wrong}
 use Rattle.rv_parse_laws.specs.declared.role.Role.{Role}
 
 opening_is : (s : Slot) (k : Kind) (os : List Operand) → single (An_opening s) k ≡ Some os → (is_opening k ≡ true) × (os ≡ [])
@@ -173,6 +174,16 @@ no_base ts e rest read = go (base_next ts) refl
     go false h = refl
     go true h = absurd (base_no_value ts e rest h read)
 
+-- nor where a value does
+percent_no_base : (k : Kind) → is_percent k ≡ true → is_opening k ≡ false
+percent_no_base (Punctuation Percent) h = refl
+percent_no_base (Punctuation _) h = absurd (cc)
+percent_no_base _ h = absurd (cc)
+
+no_base_in : (role : Role) (one rest : List Token) (o : Operand) → IsValueIn role one o → Closes rest → base_next (one ++ rest) ≡ false
+no_base_in role one rest o (inl (e, v, good, is)) closes = no_base (one ++ rest) e rest (value_is one rest e v closes)
+no_base_in role one rest o (inr (p, n, q, argument, c, f, e, w, percent, is, opens, arg, close, v)) closes = rw w (rw (percent_no_base p.kind percent) refl)
+
 base_closes : (rest : List Token) (os : List Operand) (more : List Token) → IsBase rest os → Closes (rest ++ more)
 base_closes rest os more (o, r, c, number, w, opens, named, closed, is) = (o, r ∷ c ∷ more, ap (λ xs. xs ++ more) w, closes_open o.kind opens)
   where
@@ -189,8 +200,8 @@ address_is role text os (inl base) rest = rw (base_begins text os rest base) (ba
 address_is role text os (inr (one, more, e, base, w, v, b, is)) rest =
     let closed = base_closes more base rest b in
     let value : value_in role (one ++ (more ++ rest)) ≡ Ok (e, more ++ rest) = value_in_is role one (more ++ rest) e v closed in
-    let none : base_next (one ++ (more ++ rest)) ≡ false = no_base (one ++ (more ++ rest)) e (more ++ rest) (value_is one (more ++ rest) e v.0 closed) in
-    rw (w, is) (rw (append_assoc one more rest, none, value, base_is (A_value role) more base b rest) refl)
+    let none : base_next (one ++ (more ++ rest)) ≡ false = no_base_in role one (more ++ rest) e v closed in
+    rw (w, is) (rw (append_assoc one more rest, none, value, base_is (behind_value role e) more base b rest) refl)
 
 -- the front decides by two tokens
 next_alike : (t : Token) (us vs : List Token) → first_of us ≡ first_of vs → base_next (t ∷ us) ≡ base_next (t ∷ vs)
@@ -210,10 +221,10 @@ address_found role ts os rest e = go (base_next ts) e
     go : (b : Bool) → cond b (base_at A_register ts) (offset_at role ts) ≡ Ok (os, rest) → (text : List Token) × (ts ≡ text ++ rest) × IsOperand (An_address role) text os
     go true e = let f = base_found A_register ts os rest e in (f.0, f.1, inl f.2)
     go false e =
-        let a = bind_ok (value_in role ts) (λ v. seen_as (λ os. Value v.0 ∷ os) (base_at (A_value role) v.1)) (os, rest) e in
-        let b = seen_ok (λ os. Value a.0.0 ∷ os) (base_at (A_value role) a.0.1) os rest a.2 in
+        let a = bind_ok (value_in role ts) (λ v. seen_as (λ os. v.0 ∷ os) (base_at (behind_value role v.0) v.1)) (os, rest) e in
+        let b = seen_ok (λ os. a.0.0 ∷ os) (base_at (behind_value role a.0.0) a.0.1) os rest a.2 in
         let v = value_found role ts a.0.0 a.0.1 a.1 in
-        let f = base_found (A_value role) a.0.1 b.0 rest b.1 in
+        let f = base_found (behind_value role a.0.0) a.0.1 b.0 rest b.1 in
         (v.text ++ f.0, v.whole ∙ ap (λ us. v.text ++ us) f.1 ∙ sym (append_assoc v.text f.0 rest), inr (v.text, f.0, a.0.0, b.0, refl, v.is, f.2, b.2))
 
 next_at : (before : List Token) (at : Token) (more text : List Token) → base_next (before ++ at ∷ more) ≡ false → (before ≡ [] → is_opening at.kind ≡ false) → base_next (before ++ at ∷ text) ≡ false
@@ -251,14 +262,14 @@ based_wrong role ts w end next e =
     goes before (text, os, base) = (text, os, inl base)
 
 -- a value and a base, whatever they are
-abbrev to_offset : (role : Role) (one : List Token) (e : Expression) → IsValueIn role one e → (us : List Token) (os : List Operand) → IsBase us os → (all : List Operand) × IsOperand (An_address role) (one ++ us) all
-to_offset role one e v us os base = (Value e ∷ os, inr (one, us, e, os, refl, v, base, refl))
+abbrev to_offset : (role : Role) (one : List Token) (e : Operand) → IsValueIn role one e → (us : List Token) (os : List Operand) → IsBase us os → (all : List Operand) × IsOperand (An_address role) (one ++ us) all
+to_offset role one e v us os base = (e ∷ os, inr (one, us, e, os, refl, v, base, refl))
 
 offset_wrong : (role : Role) (ts : List Token) (w : SyntaxError) → ended ts ≡ true → base_next ts ≡ false → offset_at role ts ≡ Err w
     → Failing (List Operand) (IsOperand (An_address role)) (operand_at (An_address role)) ts w
-offset_wrong role ts w end next e = elim (bind_err (value_in role ts) (λ v. seen_as (λ os. Value v.0 ∷ os) (base_at (A_value role) v.1)) w e) [
+offset_wrong role ts w end next e = elim (bind_err (value_in role ts) (λ v. seen_as (λ os. v.0 ∷ os) (base_at (behind_value role v.0) v.1)) w e) [
   | inl f ↦ valued (value_wrong role ts w end f)
-  | inr good ↦ based good.0.0 good.0.1 (value_found role ts good.0.0 good.0.1 good.1) (seen_err (λ os. Value good.0.0 ∷ os) (base_at (A_value role) good.0.1) w good.2)
+  | inr good ↦ based good.0.0 good.0.1 (value_found role ts good.0.0 good.0.1 good.1) (seen_err (λ os. good.0.0 ∷ os) (base_at (behind_value role good.0.0) good.0.1) w good.2)
 ]
   where
     value_err : (us : List Token) → base_next us ≡ false → value_in role us ≡ Err w → operand_at (An_address role) us ≡ Err w
@@ -280,19 +291,19 @@ offset_wrong role ts w end next e = elim (bind_err (value_in role ts) (λ v. see
             let all = to_offset role (x.before ++ x.goes.0) x.goes.1 x.goes.2 text os base in
             (x.goes.0 ++ text, all.0, subst (λ us. IsOperand (An_address role) us all.0) (append_assoc x.before x.goes.0 text) all.1)
 
-    base_err : (us : List Token) (e : Expression) (rest : List Token) → base_next us ≡ false → value_in role us ≡ Ok (e, rest) → base_at (A_value role) rest ≡ Err w
+    base_err : (us : List Token) (e : Operand) (rest : List Token) → base_next us ≡ false → value_in role us ≡ Ok (e, rest) → base_at (behind_value role e) rest ≡ Err w
         → operand_at (An_address role) us ≡ Err w
     base_err us e rest none read fails = rw (none, read, fails) refl
 
-    based : (e : Expression) (rest : List Token) → ValueFound role ts e rest → base_at (A_value role) rest ≡ Err w
+    based : (e : Operand) (rest : List Token) → ValueFound role ts e rest → base_at (behind_value role e) rest ≡ Err w
         → Failing (List Operand) (IsOperand (An_address role)) (operand_at (An_address role)) ts w
     based e rest v fails =
-        let last : ended rest ≡ true = ap ended v.rest_is ∙ sym (ended_behind v.text v.at v.more) ∙ ap (λ us. ended (v.text ++ us)) (sym v.rest_is) ∙ ap ended (sym v.whole) ∙ end in
+        let last : ended rest ≡ true = v.ended_rest end in
         subst (λ us. Failing (List Operand) (IsOperand (An_address role)) (operand_at (An_address role)) us w) (sym v.whole)
-        (behind (List Operand) (List Operand) (IsOperand (An_address role)) IsBase (operand_at (An_address role)) (base_at (A_value role)) v.text rest w
+        (behind (List Operand) (List Operand) (IsOperand (An_address role)) IsBase (operand_at (An_address role)) (base_at (behind_value role e)) v.text rest w
         (λ us os base. to_offset role v.text e v.is us os base)
-        (λ us first fails. base_err (v.text ++ us) e us (next_behind v.text us rest (value_some v.text e v.is.0) first ∙ ap base_next (sym v.whole) ∙ next) (v.steady us first) fails)
-        (base_wrong (A_value role) rest w last fails))
+        (λ us first fails. base_err (v.text ++ us) e us (next_behind v.text us rest (value_in_some role v.text e v.is) first ∙ ap base_next (sym v.whole) ∙ next) (v.steady us first) fails)
+        (base_wrong (behind_value role e) rest w last fails))
 
 pub address_wrong : (role : Role) (ts : List Token) (w : SyntaxError) → ended ts ≡ true → operand_at (An_address role) ts ≡ Err w
     → Failing (List Operand) (IsOperand (An_address role)) (operand_at (An_address role)) ts w
@@ -305,7 +316,7 @@ address_wrong role ts w end e = go (base_next ts) refl e
 
 pub address_some : (role : Role) (text : List Token) (os : List Operand) → IsOperand (An_address role) text os → 0 < length text
 address_some role text os (inl (o, r, c, number, w, opens, named, closed, is)) = rw w (omega arith)
-address_some role text os (inr (one, rest, e, base, w, v, b, is)) = rw w (omega (arith, value_some one e v.0, length-append one rest))
+address_some role text os (inr (one, rest, e, base, w, v, b, is)) = rw w (omega (arith, value_in_some role one e v, length-append one rest))
 
 base_ended : (text : List Token) (os : List Operand) (rest : List Token) → IsBase text os → ended (text ++ rest) ≡ true → ended rest ≡ true
 base_ended text os rest (o, r, c, number, w, opens, named, closed, is) end =
@@ -317,14 +328,11 @@ address_ended role ts os rest end e = go (base_next ts) e
     go : (b : Bool) → cond b (base_at A_register ts) (offset_at role ts) ≡ Ok (os, rest) → ended rest ≡ true
     go true e = let f = base_found A_register ts os rest e in base_ended f.0 os rest f.2 (ap ended (sym f.1) ∙ end)
     go false e =
-        let a = bind_ok (value_in role ts) (λ v. seen_as (λ os. Value v.0 ∷ os) (base_at (A_value role) v.1)) (os, rest) e in
-        let b = seen_ok (λ os. Value a.0.0 ∷ os) (base_at (A_value role) a.0.1) os rest a.2 in
+        let a = bind_ok (value_in role ts) (λ v. seen_as (λ os. v.0 ∷ os) (base_at (behind_value role v.0) v.1)) (os, rest) e in
+        let b = seen_ok (λ os. a.0.0 ∷ os) (base_at (behind_value role a.0.0) a.0.1) os rest a.2 in
         let v = value_found role ts a.0.0 a.0.1 a.1 in
-        let f = base_found (A_value role) a.0.1 b.0 rest b.1 in
-        base_ended f.0 b.0 rest f.2 (ap ended (sym f.1) ∙ behind_value v.text v.at v.more a.0.1 v.whole v.rest_is)
-      where
-        behind_value : (text : List Token) (at : Token) (more next : List Token) → ts ≡ text ++ next → next ≡ at ∷ more → ended next ≡ true
-        behind_value text at more next whole is = ap ended is ∙ sym (ended_behind text at more) ∙ ap (λ us. ended (text ++ us)) (sym is) ∙ ap ended (sym whole) ∙ end
+        let f = base_found (behind_value role a.0.0) a.0.1 b.0 rest b.1 in
+        base_ended f.0 b.0 rest f.2 (ap ended (sym f.1) ∙ v.ended_rest end)
 
 pub address_live : (role : Role) → (t : Token) × (us : List Token) × (os : List Operand) × IsOperand (An_address role) (t ∷ us) os × (is_colon t.kind ≡ false)
 address_live role = (an_opening, a_register ∷ a_closing ∷ [], base_goes.1, inl base_goes.2, refl)

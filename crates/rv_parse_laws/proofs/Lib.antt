@@ -2,6 +2,7 @@ pub mod Steps
 pub mod Failing
 pub mod Singles
 pub mod Values
+pub mod Arguments
 pub mod Addresses
 pub mod Sections
 pub mod Operands

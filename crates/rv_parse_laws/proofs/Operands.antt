@@ -11,7 +11,8 @@ use Rattle.rv_parse_laws.specs.Parsing.{seen_as, value_in, section_at, operand_a
 use Rattle.rv_parse_laws.proofs.Steps.{bind_ok, seen_ok, bind_err, seen_err}
 use Rattle.rv_parse_laws.proofs.Failing.{Failing, behind, alike, first_of}
 use Rattle.rv_parse_laws.proofs.Singles.{a_symbol, single_is, single_found, single_passed, single_wrong, one_is, one_some, one_goes}
-use Rattle.rv_parse_laws.proofs.Values.{Closes, value_in_is, value_some, value_found, value_wrong, value_goes}
+use Rattle.rv_parse_laws.proofs.Values.{Closes}
+use Rattle.rv_parse_laws.proofs.Arguments.{value_in_is, value_in_some, value_found, value_wrong, value_goes}
 use Rattle.rv_parse_laws.proofs.Addresses.{address_is, address_found, address_wrong, address_some, address_ended, address_live}
 use Rattle.rv_parse_laws.proofs.Sections.{IsSection, section_is, section_found, section_wrong, behind_ended, section_token, some_section, name_no_last}
 
@@ -22,7 +23,7 @@ Ready A_section rest = Closes rest
 Ready _ rest = Unit {0}
 
 pub operand_is : (s : Slot) (text : List Token) (os : List Operand) → IsOperand s text os → (rest : List Token) → Ready s rest → operand_at s (text ++ rest) ≡ Ok (os, rest)
-operand_is (A_value role) text os is rest ready = rw is.2 (ap (seen_as (λ e. valued role e ∷ [])) (value_in_is role text rest is.0 is.1 ready))
+operand_is (A_value role) text os is rest ready = rw is.2 (ap (seen_as (λ o. o ∷ [])) (value_in_is role text rest is.0 is.1 ready))
 operand_is (An_address role) text os is rest ready = address_is role text os is rest
 operand_is A_section text os is rest ready = rw is.3 (ap (seen_as (λ name. Word name ∷ [])) (section_is text rest is.0 (is.1, is.2) ready))
 operand_is s text os is rest ready = one_is s text os is rest
@@ -36,13 +37,13 @@ pub record Found (s : Slot) (ts : List Token) (os : List Operand) (rest : List T
 
 pub operand_found : (s : Slot) (ts : List Token) (os : List Operand) (rest : List Token) → operand_at s ts ≡ Ok (os, rest) → Found s ts os rest
 operand_found (A_value role) ts os rest e =
-    let s = seen_ok (λ e. valued role e ∷ []) (value_in role ts) os rest e in
+    let s = seen_ok (λ o. o ∷ []) (value_in role ts) os rest e in
     let f = value_found role ts s.0 rest s.1 in
     record {
       text = f.text;
       whole = f.whole;
       is = (s.0, f.is, s.2);
-      steady = λ us first. ap (seen_as (λ e. valued role e ∷ [])) (f.steady us first) ∙ ap (λ (x : List Operand). Ok (x, us)) (sym s.2);
+      steady = λ us first. ap (seen_as (λ o. o ∷ [])) (f.steady us first) ∙ ap (λ (x : List Operand). Ok (x, us)) (sym s.2);
     }
 operand_found (An_address role) ts os rest e =
     let f = address_found role ts os rest e in
@@ -66,7 +67,7 @@ section_some (t ∷ text) os is = omega arith
 
 -- one token or more
 pub operand_some : (s : Slot) (text : List Token) (os : List Operand) → IsOperand s text os → 0 < length text
-operand_some (A_value role) text os is = value_some text is.0 is.1.0
+operand_some (A_value role) text os is = value_in_some role text is.0 is.1
 operand_some (An_address role) text os is = address_some role text os is
 operand_some A_section text os is = section_some text os is
 operand_some s text os is = one_some s text os is
@@ -80,9 +81,9 @@ operand_shorter s ts os rest e =
 -- the last token stands in no place
 pub operand_ended : (s : Slot) (ts : List Token) (os : List Operand) (rest : List Token) → ended ts ≡ true → operand_at s ts ≡ Ok (os, rest) → ended rest ≡ true
 operand_ended (A_value role) ts os rest end e =
-    let s = seen_ok (λ e. valued role e ∷ []) (value_in role ts) os rest e in
+    let s = seen_ok (λ o. o ∷ []) (value_in role ts) os rest e in
     let f = value_found role ts s.0 rest s.1 in
-    ap ended f.rest_is ∙ sym (ended_behind f.text f.at f.more) ∙ ap (λ us. ended (f.text ++ us)) (sym f.rest_is) ∙ ap ended (sym f.whole) ∙ end
+    f.ended_rest end
 operand_ended (An_address role) ts os rest end e = address_ended role ts os rest end e
 operand_ended A_section ts os rest end e =
     let s = seen_ok (λ name. Word name ∷ []) (section_at ts) os rest e in
@@ -96,7 +97,7 @@ operand_ended s ts os rest end e = (single_passed s ts os rest end e).3
 
 -- each place has something that stands in it, and does not begin with a colon
 pub operand_live : (s : Slot) → (t : Token) × (us : List Token) × (os : List Operand) × IsOperand s (t ∷ us) os × (is_colon t.kind ≡ false)
-operand_live (A_value role) = (a_symbol, [], valued role (value_goes role).0 ∷ [], ((value_goes role).0, (value_goes role).1, refl), refl)
+operand_live (A_value role) = (a_symbol, [], (value_goes role).0 ∷ [], ((value_goes role).0, (value_goes role).1, refl), refl)
 operand_live (An_address role) = address_live role
 operand_live A_section = (section_token, [], Word some_section.1 ∷ [], (some_section.1, some_section.2.0, some_section.2.1, refl), refl)
 operand_live s = one_goes s refl
@@ -106,9 +107,9 @@ operand_goes s = let o = operand_live s in (o.0 ∷ o.1, o.2, o.3)
 
 pub operand_wrong : (s : Slot) (ts : List Token) (w : SyntaxError) → ended ts ≡ true → operand_at s ts ≡ Err w → Failing (List Operand) (IsOperand s) (operand_at s) ts w
 operand_wrong (A_value role) ts w end e =
-    alike (List Operand) Expression (IsOperand (A_value role)) (IsValueIn role) (operand_at (A_value role)) (value_in role) ts w
-    (λ us x v. (valued role x ∷ [], (x, v, refl))) (λ us first h. ap (seen_as (λ e. valued role e ∷ [])) h)
-    (value_wrong role ts w end (seen_err (λ e. valued role e ∷ []) (value_in role ts) w e)).0
+    alike (List Operand) Operand (IsOperand (A_value role)) (IsValueIn role) (operand_at (A_value role)) (value_in role) ts w
+    (λ us x v. (x ∷ [], (x, v, refl))) (λ us first h. ap (seen_as (λ o. o ∷ [])) h)
+    (value_wrong role ts w end (seen_err (λ o. o ∷ []) (value_in role ts) w e)).0
 operand_wrong (An_address role) ts w end e = address_wrong role ts w end e
 operand_wrong A_section ts w end e =
     alike (List Operand) (List ℕ) (IsOperand A_section) IsSection (operand_at A_section) section_at ts w

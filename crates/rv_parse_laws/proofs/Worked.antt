@@ -13,16 +13,18 @@ use Rattle.rv_text_laws.specs.declared.operator.UnaryOperator.TheVariants.{Negat
 use Rattle.rv_text_laws.specs.declared.operator.BinaryOperator.TheVariants.{Add, Multiply}
 use Rattle.rv_statement.specs.declared.directive.Choice.TheVariants.{Norvc}
 use Rattle.rv_statement.specs.declared.directive.Standard.TheVariants.{Bss}
-use Rattle.rv_statement.specs.declared.mnemonic.Mnemonic.TheVariants.{Registers, Load, Branch, Jal, Jalr, LoadReserved, Nop, Unary, Compare, ZeroBranch, SwappedBranch, J, Jr, Ret, La, Call, Tail, Jump}
+use Rattle.rv_statement.specs.declared.mnemonic.Mnemonic.TheVariants.{Registers, Upper, Load, Branch, Jal, Jalr, LoadReserved, Nop, Unary, Compare, ZeroBranch, SwappedBranch, J, Jr, Ret, La, Call, Tail, Jump}
 use Rattle.rv_isa.specs.declared.operation.RegisterOperation.TheVariants.{And}
 use Rattle.rv_isa.specs.declared.operation.BranchOperation.TheVariants.{Bgeu}
+use Rattle.rv_isa.specs.declared.operation.UpperOperation.TheVariants.{Lui, Auipc}
+use Rattle.rv_statement.specs.declared.pseudo.Function.TheVariants.{Hi, Lo, PcrelHi, PcrelLo}
 use Rattle.rv_statement.specs.declared.pseudo.UnaryOperation.TheVariants.{SextW}
 use Rattle.rv_statement.specs.declared.pseudo.CompareOperation.TheVariants.{Sgtu}
 use Rattle.rv_statement.specs.declared.pseudo.ZeroBranchOperation.TheVariants.{Bgtz}
 use Rattle.rv_statement.specs.declared.pseudo.SwappedBranchOperation.TheVariants.{Ble}
 use Rattle.rv_isa.specs.declared.operation.LoadOperation.TheVariants.{Lw}
-use Rattle.rv_statement.specs.Statement.{Register, Value, Target, Enters, Opens, Globl, Local, Sets, Aligns_to_power, Aligns_to_bytes, Values, Strings, Zeros, Chooses as Choosing, Ignored, StatementKind, Label, Numbered, Instruction, Directs, Statement}
-use Rattle.rv_parse_laws.specs.Words.{left_out_words, instruction_words, atomic_operations, atomic_forms, form_with, mnemonic_named, directive_words, directive_named, beginning, choices, left_out_options, section_types, names_of, register}
+use Rattle.rv_statement.specs.Statement.{Register, Value, Applied, Target, Enters, Opens, Globl, Local, Sets, Aligns_to_power, Aligns_to_bytes, Values, Strings, Zeros, Chooses as Choosing, Ignored, StatementKind, Label, Numbered, Instruction, Directs, Statement}
+use Rattle.rv_parse_laws.specs.Words.{function_words, left_out_words, instruction_words, atomic_operations, atomic_forms, form_with, mnemonic_named, directive_words, directive_named, beginning, choices, left_out_options, section_types, names_of, register}
 use Rattle.rv_parse_laws.specs.Syntax.{is_symbol, access_sets, is_section_name, Part, Says}
 use Rattle.rv_parse_laws.specs.Opening.{is_opened}
 use Rattle.rv_parse_laws.specs.Parsing.{items_at, operands_at, begun_at, statement_at, part_at, opening_at, checked_at}
@@ -60,6 +62,10 @@ good_lines =
     (codes "call t0, x", Instruction Call (Register 5 ∷ Target (Leaf (Symbol (codes "x"))) ∷ [])) ∷
     (codes "tail x", Instruction Tail (Target (Leaf (Symbol (codes "x"))) ∷ [])) ∷
     (codes "jump x, t0", Instruction Jump (Target (Leaf (Symbol (codes "x"))) ∷ Register 5 ∷ [])) ∷
+    (codes "lui a0, %hi(x+4)", Instruction (Upper Lui) (Register 10 ∷ Applied Hi (Binary Add (Leaf (Symbol (codes "x"))) (Leaf (Literal 4))) ∷ [])) ∷
+    (codes "auipc a0, %pcrel_hi(x)", Instruction (Upper Auipc) (Register 10 ∷ Applied PcrelHi (Leaf (Symbol (codes "x"))) ∷ [])) ∷
+    (codes "lw a0, %pcrel_lo(1b)(a1)", Instruction (Load Lw) (Register 10 ∷ Applied PcrelLo (Leaf (Reference (codes "1") false)) ∷ Register 11 ∷ [])) ∷
+    (codes "and a0, a1, %lo((5))", Instruction (Registers And) (Register 10 ∷ Register 11 ∷ Applied Lo (Leaf (Literal 5)) ∷ [])) ∷
     (codes "and a0, a1, -1", Instruction (Registers And) (Register 10 ∷ Register 11 ∷ Value (Unary Negate (Leaf (Literal 1))) ∷ [])) ∷
     (codes "lr.w a0, '\\0'(a1)", Instruction (LoadReserved (form_with false false false)) (Register 10 ∷ Register 11 ∷ [])) ∷
     (codes ".section .note.GNU-stack,\"awxMS\",@note, 4", Directs (Opens (codes ".note.GNU-stack") (Some (codes "awxMS")) (Some (codes "note")))) ∷
@@ -99,7 +105,6 @@ bad_lines =
     (codes "lw a0, (a0+1)", 7, 10) ∷
     (codes "lw a0, ((((1)", 7, 13) ∷
     (codes "jalr 8", 7, 6) ∷
-    (codes "li a0, %lo(x)", 9, 7) ∷
     (codes "beq a0, a1", 7, 10) ∷
     (codes "beq a0, 5, x", 7, 8) ∷
     (codes "beq a0, a1, a2", 7, 12) ∷
@@ -167,6 +172,20 @@ bad_lines =
     (codes "a0:", 7, 0) ∷
     []
 
+abbrev bad_functions : List (List ℕ × ℕ × ℕ)
+bad_functions =
+    (codes "li a0, %hi(x)", 7, 7) ∷
+    (codes "lui a0, %foo(x)", 7, 8) ∷
+    (codes "add a0, a1, %pcrel_lo(x)", 7, 12) ∷
+    (codes "auipc a0, %pcrel_hi(8)", 9, 10) ∷
+    (codes "auipc a0, %pcrel_hi(8", 9, 10) ∷
+    (codes "addi a0, a0, %pcrel_lo(a+1)", 7, 24) ∷
+    (codes "addi a0, a0, %pcrel_lo(5)", 7, 23) ∷
+    (codes "addi a0, a0, % 5", 7, 15) ∷
+    (codes "addi a0, a0, %lo x", 7, 17) ∷
+    (codes "lw a0, %lo(x)", 7, 13) ∷
+    []
+
 -- as they are read behind `.text` and `.section x`
 behind_x : List Statement
 behind_x = record { line = 1; kind = Directs (Opens (codes "x") None None) } ∷ []
@@ -175,9 +194,13 @@ read_line : List ℕ → Read Part
 read_line line = checked_at (is_opened behind_x) (tokens_from 0 1 line)
 
 each_reads : map (λ line. what (read_line line.0)) good_lines ≡ map (λ line. Some (Says line.1)) good_lines
-unfolding what code behind_x read_line opening_at part_at statement_at begun_at operands_at items_at tokens_from lexeme_at reference_in number_in escape_at atom_at cut class digit expression_at tree_of joined_at offset_of is_symbol access_sets is_section_name left_out_words instruction_words atomic_operations atomic_forms mnemonic_named directive_words directive_named beginning choices left_out_options section_types names_of register abi_names
+unfolding what code behind_x read_line opening_at part_at statement_at begun_at operands_at items_at tokens_from lexeme_at reference_in number_in escape_at atom_at cut class digit expression_at tree_of joined_at offset_of is_symbol access_sets is_section_name function_words left_out_words instruction_words atomic_operations atomic_forms mnemonic_named directive_words directive_named beginning choices left_out_options section_types names_of register abi_names
 each_reads = refl
 
 each_fails : map (λ line. code (read_line line.0)) bad_lines ≡ map (λ line. (line.1, line.2)) bad_lines
-unfolding what code behind_x read_line opening_at part_at statement_at begun_at operands_at items_at tokens_from lexeme_at reference_in number_in escape_at atom_at cut class digit expression_at tree_of joined_at offset_of is_symbol access_sets is_section_name left_out_words instruction_words atomic_operations atomic_forms mnemonic_named directive_words directive_named beginning choices left_out_options section_types names_of register abi_names
+unfolding what code behind_x read_line opening_at part_at statement_at begun_at operands_at items_at tokens_from lexeme_at reference_in number_in escape_at atom_at cut class digit expression_at tree_of joined_at offset_of is_symbol access_sets is_section_name function_words left_out_words instruction_words atomic_operations atomic_forms mnemonic_named directive_words directive_named beginning choices left_out_options section_types names_of register abi_names
 each_fails = refl
+
+functions_fail : map (λ line. code (read_line line.0)) bad_functions ≡ map (λ line. (line.1, line.2)) bad_functions
+unfolding what code behind_x read_line opening_at part_at statement_at begun_at operands_at items_at tokens_from lexeme_at reference_in number_in escape_at atom_at cut class digit expression_at tree_of joined_at offset_of is_symbol access_sets is_section_name function_words left_out_words instruction_words atomic_operations atomic_forms mnemonic_named directive_words directive_named beginning choices left_out_options section_types names_of register abi_names
+functions_fail = refl

@@ -7,7 +7,8 @@ use Rattle.std.specs.Str.{bytes_eq}
 use Rattle.rv_text_laws.specs.declared.punct.Punct.TheVariants.{DoubleSlash}
 use Rattle.rv_text_laws.specs.Grammar.{Kind, Punctuation, Name as NameToken, Bad_word, Text, Bad_byte, Bad_token}
 use Rattle.rv_text_laws.specs.Codes.{bad_byte, bad_token, unknown_mnemonic, bad_operands, unknown_directive, unsupported_here, limit}
-use Rattle.rv_text_laws.specs.SyntaxError.{longest_name, is_long}
+use Rattle.rv_text_laws.specs.SyntaxError.{SyntaxError, wrong, longest_name, is_long}
+use Rattle.rv_text_laws.specs.Lexing.{Token}
 use Rattle.rv_parse_laws.specs.Words.{is_among, left_out_words, left_out_options}
 use Rattle.rv_parse_laws.specs.Syntax.{Slot, A_value, A_symbol, A_section, An_option, A_comma, An_opening, is_comma, is_at, is_end, is_flag}
 use Rattle.rv_parse_laws.specs.declared.role.Role.{Role}
@@ -30,9 +31,12 @@ abbrev pub wrong_section_name : Kind → ℕ
 wrong_section_name (Text bytes) = unsupported_here
 wrong_section_name k = wrong_or k bad_operands
 
--- a function call with `%`, which instructions may have for a value, is not built yet
+-- a function may stand in place of a value
 abbrev pub may_call : Role → Bool
 may_call roles.Operand = true
+may_call roles.Source = true
+may_call roles.Upper = true
+may_call roles.PcrelUpper = true
 may_call roles.Load = true
 may_call roles.Store = true
 may_call _ = false
@@ -51,11 +55,20 @@ abbrev pub wrong_after : Slot → Kind → ℕ
 wrong_after (A_value role) k = wrong_after_value role k
 wrong_after _ k = wrong_or k bad_operands
 
--- where a symbol is wanted in a directive
+abbrev pub is_name : Kind → Bool
+is_name (NameToken name) = true
+is_name _ = false
+
+-- where a symbol is wanted in a directive, or a label
 abbrev pub wrong_symbol : Kind → ℕ
 wrong_symbol (NameToken name) = wrong_name name
 wrong_symbol (Text bytes) = unsupported_here
 wrong_symbol k = wrong_or k bad_operands
+
+-- after `%`: a word that is no function that may stand there is refused at the `%`
+abbrev pub wrong_function : Token → Token → SyntaxError
+wrong_function percent name =
+    if is_name name.kind then wrong percent bad_operands else wrong name (wrong_or name.kind bad_operands)
 
 -- a letter of flags that the language leaves out: G and T
 abbrev pub is_known_flag : ℕ → Bool

@@ -9,10 +9,12 @@ use Rattle.rv_text_laws.specs.SyntaxError.{SyntaxError, wrong, Read, nowhere, lo
 use Rattle.rv_text_laws.specs.Joined.{bytes_of, joined_at}
 use Rattle.rv_text_laws.specs.Expression.{tree_of}
 use Rattle.rv_text_laws.specs.ExpressionAt.{expression_at}
-use Rattle.rv_statement.specs.Statement.{Expression, Operand, Value, Word, StatementKind, Instruction, Directs}
-use Rattle.rv_parse_laws.specs.Syntax.{is_register, label_of, begins, is_comma, is_percent, is_end, is_opening, is_any, is_section_name, valued, is_refused, Slot, A_register, A_value, An_address, A_section, Some_flags, At_sign, A_comma, A_closing, An_opening, single, front_begins, Slots, Stops, Takes, Chooses, Lists, Anything, slots, places, directed, colon_next, Part, Ends, Says}
-use Rattle.rv_parse_laws.specs.Faults.{may_call, wrong_first, wrong_after, wrong_any, wrong_start, wrong_label}
+use Rattle.rv_statement.specs.Statement.{Expression, Operand, Applied, Word, StatementKind, Instruction, Directs}
+use Rattle.rv_parse_laws.specs.Syntax.{is_register, label_of, begins, is_comma, is_percent, is_end, is_opening, is_any, is_section_name, valued, is_refused, function_in, label_named, is_refused_by, Slot, A_register, A_value, An_address, A_section, Some_flags, At_sign, A_comma, A_closing, An_opening, single, front_begins, Slots, Stops, Takes, Chooses, Lists, Anything, slots, places, directed, colon_next, Part, Ends, Says}
+use Rattle.rv_parse_laws.specs.Faults.{may_call, wrong_function, wrong_symbol, wrong_first, wrong_after, wrong_any, wrong_start, wrong_label}
 use Rattle.rv_parse_laws.specs.Opening.{flags_fault, type_fault, is_section}
+use Rattle.rv_statement.specs.declared.pseudo.Function.{Function}
+use Rattle.rv_statement.specs.declared.pseudo.Function.TheVariants.{PcrelLo, Hi}
 use Rattle.rv_parse_laws.specs.declared.role.Role.{Role}
 use Rattle.rv_parse_laws.specs.declared.beginning.Beginning.{Beginning}
 use Rattle.rv_parse_laws.specs.declared.beginning.Beginning.TheVariants as beginnings
@@ -36,20 +38,45 @@ taken t ts None code = Err (wrong t code)
 abbrev pub value_at : List Token → Read Expression
 value_at ts = seen_as tree_of (expression_at is_register ts)
 
--- what is read, unless it is refused where it stands: the fault stands at its first token
-abbrev pub allowed : Role → Token → Read Expression → Read Expression
-allowed role t (Ok x) = if is_refused role x.0 then Err (wrong t unsupported_here) else Ok x
-allowed role t (Err w) = Err w
-
--- an expression where it stands so: no function call
-abbrev pub value_in : Role → List Token → Read Expression
-value_in role [] = Err nowhere
-value_in role (t ∷ ts) =
-    if may_call role && is_percent t.kind then Err (wrong t unsupported_here) else allowed role t (value_at (t ∷ ts))
+-- what is read, unless it is refused: the fault stands at the token t
+abbrev pub allowed : (Expression → Bool) → Token → Read Expression → Read Expression
+allowed refused t (Ok x) = if refused x.0 then Err (wrong t unsupported_here) else Ok x
+allowed refused t (Err w) = Err w
 
 abbrev pub single_at : Slot → List Token → Read (List Operand)
 single_at s [] = Err nowhere
 single_at s (t ∷ ts) = taken t ts (single s t.kind) (wrong_first s t.kind)
+
+-- a label as an argument
+abbrev pub label_at : List Token → Read Expression
+label_at [] = Err nowhere
+label_at (t ∷ ts) = taken t ts (label_named t.kind) (wrong_symbol t.kind)
+
+-- the argument of a function whose `%` is the token p
+abbrev pub argument_at : Function → Token → List Token → Read Expression
+argument_at PcrelLo p ts = label_at ts
+argument_at f p ts = allowed (λ e. is_refused_by f e) p (value_at ts)
+
+-- what is after the word of a function
+abbrev pub called_at : Function → Token → List Token → Read Operand
+called_at f p ts =
+    single_at (An_opening A_register) ts >>= λ q. argument_at f p q.1 >>= λ a. seen_as (λ none. Applied f a.0) (single_at A_closing a.1)
+
+abbrev pub named_at : Token → Token → List Token → Option Function → Read Operand
+named_at p n ts (Some f) = called_at f p ts
+named_at p n ts None = Err (wrong_function p n)
+
+-- a function of a value, after its `%`
+abbrev pub applied_at : Role → Token → List Token → Read Operand
+applied_at role p [] = Err nowhere
+applied_at role p (n ∷ ts) = named_at p n ts (function_in role n.kind)
+
+-- an expression, or a function of one, where it stands so
+abbrev pub value_in : Role → List Token → Read Operand
+value_in role [] = Err nowhere
+value_in role (t ∷ ts) =
+    if may_call role && is_percent t.kind then applied_at role t ts
+    else seen_as (valued role) (allowed (λ e. is_refused role e) t (value_at (t ∷ ts)))
 
 -- a register in parentheses, behind what stands in a place
 abbrev pub base_at : Slot → List Token → Read (List Operand)
@@ -61,9 +88,14 @@ abbrev pub base_next : List Token → Bool
 base_next [] = false
 base_next (t ∷ ts) = is_opening t.kind && front_begins A_register ts
 
+-- what a register in parentheses stands behind: a function of a value has no form without it
+abbrev pub behind_value : Role → Operand → Slot
+behind_value role (Applied f e) = A_register
+behind_value role _ = A_value role
+
 -- an expression, and then a register in parentheses
 abbrev pub offset_at : Role → List Token → Read (List Operand)
-offset_at role ts = value_in role ts >>= λ v. seen_as (λ os. Value v.0 ∷ os) (base_at (A_value role) v.1)
+offset_at role ts = value_in role ts >>= λ v. seen_as (λ os. v.0 ∷ os) (base_at (behind_value role v.0) v.1)
 
 -- how many bytes a token gives to a section's name
 abbrev pub width : Kind → ℕ
@@ -93,7 +125,7 @@ section_at ts = named_or ts (joined_at ts)
 
 -- what stands in a place
 abbrev pub operand_at : Slot → List Token → Read (List Operand)
-operand_at (A_value role) ts = seen_as (λ e. valued role e ∷ []) (value_in role ts)
+operand_at (A_value role) ts = seen_as (λ o. o ∷ []) (value_in role ts)
 operand_at (An_address role) ts = if base_next ts then base_at A_register ts else offset_at role ts
 operand_at A_section ts = seen_as (λ name. Word name ∷ []) (section_at ts)
 operand_at s ts = single_at s ts

@@ -6,24 +6,28 @@ use Rattle.std.specs.List.{list_all}
 use Rattle.std.specs.Str.{bytes_eq}
 use Rattle.rv_text_laws.specs.declared.punct.Punct.TheVariants.{Comma, Colon, Semicolon, Open, Close, Percent, At, DoubleSlash}
 use Rattle.rv_text_laws.specs.Bytes.{value, is_decimal}
-use Rattle.rv_text_laws.specs.Grammar.{Kind, Newline, Punctuation, Name as NameToken, Number, Bad_word, Text, Character, Bad_byte, Bad_token, End}
+use Rattle.rv_text_laws.specs.Grammar.{Kind, Newline, Punctuation, Name as NameToken, Number, Reference as ReferenceToken, Bad_word, Text, Character, Bad_byte, Bad_token, End}
 use Rattle.rv_text_laws.specs.Lexing.{Token}
 use Rattle.rv_text_laws.specs.SyntaxError.{longest_name, is_long}
 use Rattle.rv_text_laws.specs.Joined.{IsJoined}
-use Rattle.rv_text_laws.specs.Expression.{Literal, Tree, Leaf, Unary, Paren, Binary, SpellsTree, IsAt, nesting, deepest, bare}
+use Rattle.rv_text_laws.specs.Expression.{Literal, Symbol, Reference, Tree, Leaf, Unary, Paren, Binary, SpellsTree, IsAt, nesting, deepest, bare}
 use Rattle.rv_statement.specs.declared.mnemonic.Mnemonic.{Mnemonic}
 use Rattle.rv_statement.specs.declared.mnemonic.Mnemonic.TheVariants.{Registers, Immediate, Shift, Upper, Load, Store, Branch, Jal, Jalr, LoadReserved, Atomic, Fence, FenceTso, Ecall, Ebreak, Nop, Unary as Of_one, Compare, ZeroBranch, SwappedBranch, J, Jr, Ret, La, Li, Call, Tail, Jump}
 use Rattle.rv_isa.specs.declared.operation.RegisterOperation.{RegisterOperation}
 use Rattle.rv_isa.specs.declared.operation.RegisterOperation.TheVariants.{Add, Sll, Slt, Sltu, Xor, Srl, Sra, Or, And, Addw, Sllw, Srlw, Sraw}
 use Rattle.rv_isa.specs.declared.operation.ImmediateOperation.TheVariants.{Addi, Slti, Sltiu, Xori, Ori, Andi, Addiw}
 use Rattle.rv_isa.specs.declared.operation.ShiftOperation.TheVariants.{Slli, Srli, Srai, Slliw, Srliw, Sraiw}
+use Rattle.rv_isa.specs.declared.operation.UpperOperation.{UpperOperation}
+use Rattle.rv_isa.specs.declared.operation.UpperOperation.TheVariants.{Lui, Auipc}
+use Rattle.rv_statement.specs.declared.pseudo.Function.{Function}
+use Rattle.rv_statement.specs.declared.pseudo.Function.TheVariants.{Hi, Lo, PcrelHi, PcrelLo}
 use Rattle.rv_isa.specs.declared.operation.AccessSet.{AccessSet}
 use Rattle.rv_statement.specs.declared.directive.DirectiveWord.{DirectiveWord}
 use Rattle.rv_statement.specs.declared.directive.DirectiveWord.TheVariants as words
 use Rattle.rv_statement.specs.declared.directive.Choice.{Choice}
-use Rattle.rv_statement.specs.Statement.{Expression, Operand, Register, Value, Target, Accesses, Word, Quoted, Directive, Enters, Opens, Globl, Local, Sets, Aligns_to_power, Aligns_to_bytes, Values, Strings, Zeros, Chooses as Choosing, Ignored, StatementKind, Label, Numbered, Instruction, Directs}
+use Rattle.rv_statement.specs.Statement.{Expression, Operand, Register, Value, Applied, Target, Accesses, Word, Quoted, Directive, Enters, Opens, Globl, Local, Sets, Aligns_to_power, Aligns_to_bytes, Values, Strings, Zeros, Chooses as Choosing, Ignored, StatementKind, Label, Numbered, Instruction, Directs}
 use Rattle.rv_statement.specs.View.{bytes_of}
-use Rattle.rv_parse_laws.specs.Words.{register, named_in, choices, beginning}
+use Rattle.rv_parse_laws.specs.Words.{register, function_words, named_in, choices, beginning}
 use Rattle.rv_parse_laws.specs.declared.role.Role.{Role}
 use Rattle.rv_parse_laws.specs.declared.role.Role.TheVariants as roles
 use Rattle.rv_parse_laws.specs.declared.beginning.Beginning.{Beginning}
@@ -225,12 +229,17 @@ with_constant _ = None
 
 -- the second source of an operation: a register, or a constant where it has that form
 abbrev pub source : Bool → Slots
-source true = Chooses A_register (Stops A_register) (last (A_value roles.Operand))
+source true = Chooses A_register (Stops A_register) (last (A_value roles.Source))
 source false = last A_register
 
 -- the target of `jalr` behind its link register: `rs`, `rs, k`, `k(rs)`, `(rs)`
 abbrev pub jump_target : Slots
 jump_target = Chooses A_register (Chooses (A_comma A_register) (last (A_value roles.Operand)) (Stops A_register)) (last (An_address roles.Operand))
+
+-- the operand of `lui` and of `auipc`
+abbrev pub upper_role : UpperOperation → Role
+upper_role Lui = roles.Upper
+upper_role Auipc = roles.PcrelUpper
 
 -- where a branch, a jump or a call goes; and a link register before it, if it is given
 abbrev pub A_target : Slot
@@ -244,7 +253,7 @@ abbrev pub slots : Mnemonic → Slots
 slots (Registers operation) = and_then A_register (and_then A_register (source (is_some (with_constant operation))))
 slots (Immediate operation) = and_then A_register (and_then A_register (last (A_value roles.Operand)))
 slots (Shift operation) = and_then A_register (and_then A_register (last (A_value roles.Operand)))
-slots (Upper operation) = and_then A_register (last (A_value roles.Operand))
+slots (Upper operation) = and_then A_register (last (A_value (upper_role operation)))
 slots (Load operation) = and_then A_register (last (An_address roles.Load))
 slots (Store operation) = and_then A_register (last (An_address roles.Store))
 slots (Branch operation) = and_then A_register (and_then A_register (last A_target))
@@ -336,9 +345,53 @@ is_refused role e = targets role && is_number e
 abbrev pub IsValue : List Token → Expression → Type 0
 IsValue ts e = (tree : Tree) × SpellsTree is_register tree ts × IsAt 0 tree × (nesting tree ≤ deepest) × (e ≡ bare tree)
 
--- the tokens are an expression that may stand so
-abbrev pub IsValueIn : Role → List Token → Expression → Type 0
-IsValueIn role ts e = IsValue ts e × (is_refused role e ≡ false)
+-- the functions that may stand in place of a value
+abbrev pub may_stand : Role → Function → Bool
+may_stand roles.Upper Hi = true
+may_stand roles.PcrelUpper PcrelHi = true
+may_stand roles.Source Lo = true
+may_stand roles.Operand Lo = true
+may_stand roles.Operand PcrelLo = true
+may_stand roles.Load Lo = true
+may_stand roles.Load PcrelLo = true
+may_stand roles.Store Lo = true
+may_stand roles.Store PcrelLo = true
+may_stand _ _ = false
+
+abbrev pub standing : Role → Option Function → Option Function
+standing role (Some f) = if may_stand role f then Some f else None
+standing role None = None
+
+-- the function that a token names, where it may stand
+abbrev pub function_in : Role → Kind → Option Function
+function_in role (NameToken name) = standing role (named_in function_words name)
+function_in role _ = None
+
+-- the label that a token names
+abbrev pub label_named : Kind → Option Expression
+label_named (NameToken name) = if is_symbol name then Some (Leaf (Symbol name)) else None
+label_named (ReferenceToken digits forward) = Some (Leaf (Reference digits forward))
+label_named _ = None
+
+-- an argument that is spelled right, and is refused: a number as the target of `%pcrel_hi`
+abbrev pub is_refused_by : Function → Expression → Bool
+is_refused_by PcrelHi e = is_number e
+is_refused_by _ e = false
+
+-- the tokens are the argument of a function: a label, or an expression
+abbrev pub IsArgument : Function → List Token → Expression → Type 0
+IsArgument PcrelLo ts e = (t : Token) × (ts ≡ t ∷ []) × (label_named t.kind ≡ Some e)
+IsArgument f ts e = IsValue ts e × (is_refused_by f e ≡ false)
+
+-- the tokens are a function of a value that may stand so
+abbrev pub IsApplied : Role → List Token → Operand → Type 0
+IsApplied role ts o =
+    (p n q : Token) × (argument : List Token) × (c : Token) × (f : Function) × (e : Expression) × (ts ≡ p ∷ n ∷ q ∷ (argument ++ c ∷ [])) × (is_percent p.kind ≡ true)
+    × (function_in role n.kind ≡ Some f) × (is_opening q.kind ≡ true) × IsArgument f argument e × (is_closing c.kind ≡ true) × (o ≡ Applied f e)
+
+-- the tokens are an expression that may stand so, or a function of one
+abbrev pub IsValueIn : Role → List Token → Operand → Type 0
+IsValueIn role ts o = ((e : Expression) × IsValue ts e × (is_refused role e ≡ false) × (o ≡ valued role e)) ⊎ IsApplied role ts o
 
 -- the tokens are a register in parentheses
 abbrev pub IsBase : List Token → List Operand → Type 0
@@ -348,11 +401,11 @@ IsBase ts os =
 
 -- the tokens are an expression and then a register in parentheses
 abbrev pub IsOffset : Role → List Token → List Operand → Type 0
-IsOffset role ts os = (one rest : List Token) × (e : Expression) × (base : List Operand) × (ts ≡ one ++ rest) × IsValueIn role one e × IsBase rest base × (os ≡ Value e ∷ base)
+IsOffset role ts os = (one rest : List Token) × (o : Operand) × (base : List Operand) × (ts ≡ one ++ rest) × IsValueIn role one o × IsBase rest base × (os ≡ o ∷ base)
 
 -- the tokens stand in this place, with these operands
 abbrev pub IsOperand : Slot → List Token → List Operand → Type 0
-IsOperand (A_value role) ts os = (e : Expression) × IsValueIn role ts e × (os ≡ valued role e ∷ [])
+IsOperand (A_value role) ts os = (o : Operand) × IsValueIn role ts o × (os ≡ o ∷ [])
 IsOperand (An_address role) ts os = IsBase ts os ⊎ IsOffset role ts os
 IsOperand A_section ts os = (name : List ℕ) × IsJoined ts name × (is_section_name name ≡ true) × (os ≡ Word name ∷ [])
 IsOperand s ts os = (t : Token) × (ts ≡ t ∷ []) × (single s t.kind ≡ Some os)

@@ -18,6 +18,8 @@ use Rattle.rv_statement.specs.declared.pseudo.CompareOperation.TheVariants.{Sgt,
 use Rattle.rv_statement.specs.declared.pseudo.ZeroBranchOperation.TheVariants.{Beqz, Bnez, Bgez, Bltz, Blez, Bgtz}
 use Rattle.rv_statement.specs.declared.pseudo.SwappedBranchOperation.TheVariants.{Bgt, Ble, Bgtu, Bleu}
 use Rattle.rv_isa.specs.declared.operation.AtomicOperation.{AtomicOperation}
+use Rattle.rv_statement.specs.declared.pseudo.Function.{Function}
+use Rattle.rv_statement.specs.declared.pseudo.Function.TheVariants.{Hi, Lo, PcrelHi, PcrelLo}
 use Rattle.rv_isa.specs.declared.operation.AtomicOperation.TheVariants.{Sc, Amoswap, Amoadd, Amoxor, Amoand, Amoor, Amomin, Amomax, Amominu, Amomaxu}
 use Rattle.rv_isa.specs.declared.operation.AtomicForm.{AtomicForm}
 use Rattle.rv_statement.specs.declared.directive.Standard.TheVariants.{Text, Data, Rodata, Bss}
@@ -201,6 +203,15 @@ unfoldable pub mnemonic_named : List ℕ → Option Mnemonic
 mnemonic_named word =
     either (named_in instruction_words word)
     (either (option_map LoadReserved (form_behind (codes "lr") word)) (atomic_in atomic_operations word))
+
+-- the functions of a value, after `%` (GNU as, "RISC-V-Modifiers")
+unfoldable pub function_words : List (List ℕ × Function)
+function_words =
+    (codes "hi", Hi)
+    ∷ (codes "lo", Lo)
+    ∷ (codes "pcrel_hi", PcrelHi)
+    ∷ (codes "pcrel_lo", PcrelLo)
+    ∷ []
 
 -- the directives by their words (GNU as, "Pseudo Ops" and "RISC-V-Directives")
 unfoldable pub directive_words : List (List ℕ × DirectiveWord)

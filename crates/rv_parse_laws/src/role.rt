@@ -3,8 +3,14 @@
 /// Where an expression stands, which decides what is wrong around it.
 #[derive(Clone, Copy, Debug, PartialEq, Eq, Drop)]
 pub enum Role {
-    /// As an operand of an instruction.
+    /// As an operand of an instruction, or before the register of a jump's address.
     Operand,
+    /// In place of a register.
+    Source,
+    /// As the operand of `lui`.
+    Upper,
+    /// As the operand of `auipc`.
+    PcrelUpper,
     /// Before the register of a load's address.
     Load,
     /// Before the register of a store's address.

@@ -3,7 +3,17 @@ use std::alloc::Global;
 use std::test::Fail;
 
 /// Every statement in each of its forms: read.
-const FORMS: [(&[u8], u8, u32); 26] = [
+const FORMS: [(&[u8], u8, u32); 28] = [
+    (
+        b"lui a0, %hi(x + 4); auipc a0, %pcrel_hi(x); add a0, a0, %lo(x); li a0, %lo(5)",
+        0,
+        0,
+    ),
+    (
+        b"addi a0, a0, %pcrel_lo(1b); lw a0, %lo(x)(a1); sd a0, %pcrel_lo(y)(a1); jalr a0, %lo(x)(a0)",
+        0,
+        0,
+    ),
     (
         b"beq a0, a1, x; bgeu t0, zero, . + 8; bgt a0, a1, 1f; bleu a0, a1, (x)",
         0,
@@ -147,12 +157,22 @@ fn jumps_that_are_wrong(rt: HostRuntime) {
     refused(&rt, rt.alloc(), &JUMPS);
 }
 
-const OPERANDS: [(&[u8], u8, u32); 28] = [
+const OPERANDS: [(&[u8], u8, u32); 38] = [
     (b"li a0, 1 2", 7, 1),
     (b"li a0, 1 + (2", 7, 1),
     (b"li a0, 1 == 2", 9, 1),
-    (b"li a0, %lo(x)", 9, 1),
-    (b"lw a0, %lo(x)(a1)", 9, 1),
+    (b"li a0, %hi(x)", 7, 1),
+    (b"li a0, /*\n*/ % /*\n*/ foo(x)", 7, 2),
+    (b"lui a0, %lo(x)", 7, 1),
+    (b"add a0, a1, %pcrel_lo(x)", 7, 1),
+    (b"auipc a0, % /*\n*/ pcrel_hi(8)", 9, 1),
+    (b"addi a0, a0, %pcrel_lo(/*\n*/ 5)", 7, 2),
+    (b"addi a0, a0, %pcrel_lo(x + 4)", 7, 1),
+    (b"addi a0, a0, %lo x", 7, 1),
+    (b"addi a0, a0, % /*\n*/ 5", 7, 2),
+    (b"addi a0, a0, %lo(x", 7, 1),
+    (b"lw a0, %lo(x)", 7, 1),
+    (b"jr %lo(x)", 7, 1),
     (b"\naddi a0\n", 7, 2),
     (b"addi a0, /*\n\n*/\n", 7, 3),
     (b"a0:", 7, 1),

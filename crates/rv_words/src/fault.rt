@@ -71,12 +71,13 @@ pub fn at_section_name(kind: TokenKind<'_>) -> SourceCode
     }
 }
 
-/// Where an expression may stand, a function call may too.
+/// Where an expression may stand, a function of one may too.
 pub fn may_call(role: Role) -> bool
     ensures { result ≡ may_call role }
 {
     match role {
-        Role::Operand | Role::Load | Role::Store => true,
+        Role::Operand | Role::Source | Role::Upper | Role::PcrelUpper | Role::Load | Role::Store =>
+            true,
         Role::Directive | Role::Alignment | Role::Target | Role::Call => false,
     }
 }
@@ -87,7 +88,7 @@ pub fn targets(role: Role) -> bool
 {
     match role {
         Role::Target | Role::Call => true,
-        Role::Operand | Role::Load | Role::Store | Role::Directive | Role::Alignment => false,
+        _ => false,
     }
 }
 

@@ -6,16 +6,18 @@ ghost use Rattle.rv_text_laws.specs.Bytes.{is_decimal};
 ghost use Rattle.rv_text_laws.specs.Lexing.{is_last};
 ghost use Rattle.rv_lexer.specs.Token.{kind_of};
 ghost use Rattle.rv_statement.specs.View.{now_of, statement_kind};
-ghost use Rattle.rv_parse_laws.specs.Syntax.{is_symbol, is_section_name, register_of, symbol_of, label_of, begins, is_comma, is_colon, is_percent, is_at, is_end, is_source_end, is_opening, is_closing, is_zero, is_any, is_wrong, accesses_of, single, A_string, A_type};
+ghost use Rattle.rv_parse_laws.specs.Syntax.{is_symbol, is_section_name, register_of, symbol_of, label_of, begins, is_comma, is_colon, is_percent, is_at, is_end, is_source_end, is_opening, is_closing, is_zero, is_any, is_wrong, accesses_of, single, A_string, A_type, may_stand, function_in, label_named};
+ghost use Rattle.rv_parse_laws.specs.Faults.{is_name};
+ghost use Rattle.rv_text.specs.Expr.{tree_of_expr};
 ghost use Rattle.rv_parse_laws.specs.Opening.{is_section};
 ghost use Rattle.rv_parse_laws.specs.Parsing.{width};
 ghost use Rattle.rv_words.specs.View.{choice_of, word_of, string_of};
 
-use crate::words::{accesses_named, beginning_with, choice_named, register_named};
+use crate::words::{accesses_named, beginning_with, choice_named, function_named, register_named};
 use rv_isa::{AccessSet, Reg};
-use rv_parse_laws::Beginning;
-use rv_statement::{Choice, StatementKind};
-use rv_text::{LONGEST_NAME, Punct, TokenKind};
+use rv_parse_laws::{Beginning, Role};
+use rv_statement::{Choice, Function, StatementKind};
+use rv_text::{Expr, LONGEST_NAME, Punct, TokenKind};
 
 /// A name that a symbol may have.
 #[tactic(auto, unfolding(rv_parse_laws::specs::Syntax::is_symbol))]
@@ -160,6 +162,54 @@ pub fn is_percent(kind: TokenKind<'_>) -> bool
     ensures { result ≡ is_percent (kind_of kind.entry) }
 {
     matches!(kind, TokenKind::Punct(Punct::Percent))
+}
+
+/// A function that may stand here.
+fn may_stand(role: Role, function: Function) -> bool
+    ensures { result ≡ may_stand role function }
+{
+    match function {
+        Function::Hi => role == Role::Upper,
+        Function::PcrelHi => role == Role::PcrelUpper,
+        Function::Lo => matches!(
+            role,
+            Role::Operand | Role::Source | Role::Load | Role::Store
+        ),
+        Function::PcrelLo => matches!(role, Role::Operand | Role::Load | Role::Store),
+    }
+}
+
+/// The function that the token names, where it may stand.
+pub fn function_in(role: Role, kind: TokenKind<'_>) -> Option<Function>
+    ensures { result ≡ function_in role (kind_of kind.entry) }
+{
+    match kind {
+        TokenKind::Name(name) => match function_named(name) {
+            Some(function) if may_stand(role, function) => Some(function),
+            _ => None,
+        },
+        _ => None,
+    }
+}
+
+/// A name.
+pub fn is_name(kind: TokenKind<'_>) -> bool
+    ensures { result ≡ is_name (kind_of kind.entry) }
+{
+    matches!(kind, TokenKind::Name(_))
+}
+
+/// The label that the token names, as an expression.
+#[tactic(auto, unfolding(rv_text_laws::specs::Expression::tree_of))]
+pub fn label_named(kind: TokenKind<'_>) -> Option<Expr<'_>>
+    ensures { option_map tree_of_expr result ≡ label_named (kind_of kind.entry) }
+{
+    match kind {
+        TokenKind::Name(name) if is_symbol(name) => Some(Expr::Name(name)),
+        TokenKind::Reference(digits, true) => Some(Expr::Forward(digits)),
+        TokenKind::Reference(digits, false) => Some(Expr::Backward(digits)),
+        _ => None,
+    }
 }
 
 /// What the token begins, as the first of a statement.

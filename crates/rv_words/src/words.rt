@@ -2,7 +2,7 @@
 
 ghost use Rattle.std.specs.Prelude.{◌≡◌, map, ◌||◌, ◌&&◌, take, drop, length, option_map, is_some, codes};
 ghost use Rattle.std.specs.Str.{bytes_eq};
-ghost use Rattle.rv_parse_laws.specs.Words.{left_out_words, left_out_options, section_types, choices, is_among, frame_directive, directive_words, directive_named, beginning, register, named_in, atomic_forms, form_behind, either, atomic_in, atomic_operations, instruction_words, mnemonic_named};
+ghost use Rattle.rv_parse_laws.specs.Words.{function_words, left_out_words, left_out_options, section_types, choices, is_among, frame_directive, directive_words, directive_named, beginning, register, named_in, atomic_forms, form_behind, either, atomic_in, atomic_operations, instruction_words, mnemonic_named};
 ghost use Rattle.rv_statement.specs.declared.mnemonic.Mnemonic.TheVariants.{LoadReserved};
 ghost use Rattle.std.specs.List.{list_all};
 ghost use Rattle.rv_parse_laws.specs.Syntax.{access_sets, with_constant, is_flag};
@@ -15,7 +15,7 @@ use rv_isa::{
 };
 use rv_parse_laws::Beginning;
 use rv_statement::{
-    Choice, CompareOperation, DirectiveWord, Mnemonic, Standard, SwappedBranchOperation,
+    Choice, CompareOperation, DirectiveWord, Function, Mnemonic, Standard, SwappedBranchOperation,
     UnaryOperation, Width, ZeroBranchOperation,
 };
 
@@ -415,6 +415,22 @@ fn mnemonic_named(word: &[u8]) -> Option<Mnemonic>
         Some(mnemonic) => Some(mnemonic),
         None => atomic_named(word),
     }
+}
+
+/// The functions of a value.
+const FUNCTIONS: [(&str, Function); 4] = [
+    ("hi", Function::Hi),
+    ("lo", Function::Lo),
+    ("pcrel_hi", Function::PcrelHi),
+    ("pcrel_lo", Function::PcrelLo),
+];
+
+/// The function of this name.
+#[tactic(auto, unfolding(rv_parse_laws::specs::Words::function_words))]
+pub fn function_named(word: &[u8]) -> Option<Function>
+    ensures { result ≡ named_in function_words word.now }
+{
+    named_in(&FUNCTIONS, word)
 }
 
 /// The directives but those of call frames.
