@@ -843,6 +843,60 @@ fn the_first_fault(rt: HostRuntime) {
     refused(&rt, rt.alloc(), &FIRST);
 }
 
+/// Literals, strings and signs at their edges; 0 and 0 where the source is read.
+const TOKENS: [(&[u8], u8, u32); 45] = [
+    (b"li a0, 1 <<< 2", 7, 1),
+    (b"li a0, 1 >>> 2", 7, 1),
+    (b"li a0, 1 === 2", 9, 1),
+    (b"li a0, 1 !== 2", 9, 1),
+    (b"li a0, 1 << = 2", 2, 1),
+    (b"li a0, 1 <= = 2", 9, 1),
+    (b"li a0, 1 =< 2", 2, 1),
+    (b"li a0, 1 =! 2", 2, 1),
+    (b"li a0, 1 <> > 2", 9, 1),
+    (b"li a0, '\\1234'", 2, 1),
+    (b"li a0, '\\x123'", 2, 1),
+    (b"li a0, '\\08'", 2, 1),
+    (b"li a0, '\\v'", 2, 1),
+    (b"li a0, '\\a'", 2, 1),
+    (b"li a0, '\\X1'", 2, 1),
+    (b"li a0, '\\xg'", 2, 1),
+    (b"li a0, '\x01'", 2, 1),
+    (b"li a0, '\r'", 2, 1),
+    (b"li a0, '\\' '", 2, 1),
+    (b"li a0, ' ", 2, 1),
+    (b"li a0, '", 2, 1),
+    (b".ascii \"a\\\n\"", 2, 1),
+    (b"nop\n.ascii \"\\\"\nfoo", 2, 2),
+    (b".ascii \"\\x123\\0419\"; foo", 6, 1),
+    (b".ascii \"'\"; foo", 6, 1),
+    (b"li a0, '\"'; foo", 6, 1),
+    (b"li a0, '\t'; foo", 6, 1),
+    (b"li a0, '#' # '\nfoo", 6, 2),
+    (b"0f: nop", 6, 1),
+    (b"1bf: nop", 2, 1),
+    (b".8byte 0b2", 2, 1),
+    (b".8byte 1f2", 2, 1),
+    (b".8byte 00b; foo", 6, 1),
+    (b".8byte 0b1; foo", 6, 1),
+    (b".8byte 0x1F; foo", 6, 1),
+    (b"lw a0, 4( /*\n*/", 7, 2),
+    (b"\"x", 2, 1),
+    (b".section \"x", 2, 1),
+    (b"j 8 /*\n*/ +", 7, 2),
+    (b".type x, ==", 0, 0),
+    (b".cfi_", 0, 0),
+    (b".globl \"x", 2, 1),
+    (b"add a0, a1, \"x", 2, 1),
+    (b"nop ; /*\n*/ \x01 /*\n", 1, 2),
+    (b"1: /*\n*/ x\n*/", 6, 2),
+];
+
+#[test]
+fn tokens(rt: HostRuntime) {
+    refused(&rt, rt.alloc(), &TOKENS);
+}
+
 /// Sixty-four parentheses and operators of one operand may stand in each other; the 65th is wrong.
 const NESTING: [(&[u8], u8, u32); 20] = [
     (
