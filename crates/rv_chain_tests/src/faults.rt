@@ -53,7 +53,7 @@ const TOKENS: [(&[u8], u8, u32); 48] = [
 ];
 
 /// Operands that a statement does not take.
-const OPERANDS: [(&[u8], u8, u32); 62] = [
+const OPERANDS: [(&[u8], u8, u32); 65] = [
     (b"addi a0", 7, 1),
     (b"addi a0, a1, 1, 2", 7, 1),
     (b"addi a0, /*\n\n*/\n", 7, 3),
