@@ -4,7 +4,7 @@ use crate::sources::{Answer, EXIT, answers, refused};
 use std::test::Fail;
 
 /// Bad bytes, bad tokens, words that nothing knows.
-const TOKENS: [(&[u8], u8, u32); 48] = [
+const TOKENS: [(&[u8], u8, u32); 45] = [
     (b"\x80", 1, 1),
     (b"li a0, 1\nli a0, \x0b2", 1, 2),
     (b".ident \x7f", 1, 1),
