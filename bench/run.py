@@ -201,46 +201,50 @@ def row(name, seconds, length, memory, note):
     print(f"{name:24} {seconds:6.2f} s {length / seconds / 1e6:7.1f} million bytes per second, {memory / 2**20:5.0f} MiB{note}")
 
 
-def reading(folder):
-    """Reading a source of instructions, data and labels: bytes a second, and the memory that it takes."""
-    source, faulty = folder / "source.s", folder / "faulty.s"
-    count = write_source(source)
-    length = source.stat().st_size
-    print(f"Building a source of {length} bytes, {count} lines")
-    for name, command in builders(folder, source).items():
-        memory, good = peak(command)
-        seconds, _ = best(command, b"")
-        row(name, seconds, length, memory, "" if good else ", BUT REFUSES IT")
-    # a fault in the last line is found when all is read, and before anything is built
+def measured(name, command, length):
+    """A line of the table for a command that takes its source."""
+    memory, good = peak(command)
+    seconds, _ = best(command, b"")
+    row(name, seconds, length, memory, "" if good else ", BUT REFUSES IT")
+
+
+def reading_alone(folder, source, count, length):
+    """A line of the table for a source of so many lines that is read whole: a fault in one line more is found then, and
+    before anything is built."""
+    faulty = folder / "faulty.s"
     shutil.copy(source, faulty)
     with faulty.open("a") as file:
         file.write(FAULT)
     command = [RV, "build", "-o", folder / "executable", faulty]
-    memory, good = peak(command, status=1)
+    memory, _ = peak(command, status=1)
+    said = subprocess.run(command, capture_output=True, text=True).stderr
     seconds, _ = best(command, b"")
-    row("rv, reading alone", seconds, length, memory, "" if good else ", BUT TAKES ITS FAULT")
+    note = "" if f":{count + 1}: " in said else f", BUT ENDS WITH {said.strip()}"
+    row("rv, reading alone", seconds, length, memory, note)
+
+
+def reading(folder):
+    """Reading a source of instructions, data and labels: bytes a second, and the memory that it takes."""
+    source = folder / "source.s"
+    count = write_source(source)
+    length = source.stat().st_size
+    print(f"Building a source of {length} bytes, {count} lines")
+    for name, command in builders(folder, source).items():
+        measured(name, command, length)
+    reading_alone(folder, source, count, length)
 
 
 def compiler(folder):
     """Reading what a compiler writes: labels, branches, pseudo-instructions and directives."""
     if missing(GCC):
         return
-    source, faulty = folder / "compiled_all.s", folder / "compiled_faulty.s"
+    source = folder / "compiled_all.s"
     count = write_compiled(folder, source)
     length = source.stat().st_size
     print(f"Reading the output of {GCC} -O2, {length} bytes, {count} lines")
     if not missing(AS):
-        command = [AS, "-march=rv64imac", "-mabi=lp64", "-o", folder / "object", source]
-        memory, good = peak(command)
-        seconds, _ = best(command, b"")
-        row("as", seconds, length, memory, "" if good else ", BUT REFUSES IT")
-    shutil.copy(source, faulty)
-    with faulty.open("a") as file:
-        file.write(FAULT)
-    command = [RV, "build", "-o", folder / "executable", faulty]
-    memory, good = peak(command, status=1)
-    seconds, _ = best(command, b"")
-    row("rv, reading alone", seconds, length, memory, "" if good else ", BUT TAKES ITS FAULT")
+        measured("as", [AS, "-march=rv64imac", "-mabi=lp64", "-o", folder / "object", source], length)
+    reading_alone(folder, source, count, length)
 
 
 def statements(folder):
