@@ -15,7 +15,8 @@ memory_of segments = record {
 -- no address lies in two segments
 abbrev pub AreDisjoint : List Segment → Type 0
 AreDisjoint segments =
-    (i j x : ℕ) (s t : Segment) → slice_get segments i ≡ Some s → slice_get segments j ≡ Some t → lies_in s x ≡ true → lies_in t x ≡ true → i ≡ j
+    (i j x : ℕ) (s t : Segment) → slice_get segments i ≡ Some s → slice_get segments j ≡ Some t →
+    lies_in s x ≡ true → lies_in t x ≡ true → i ≡ j
 
 -- the little-endian number of bytes
 abbrev pub number_of : List ℕ → ℕ
@@ -33,4 +34,9 @@ no_segment = record { address = 0; bytes = []; flags = 0 }
 
 -- a segment whose bytes are replaced from its kth on
 abbrev pub with_part : Segment → ℕ → List ℕ → Segment
-with_part s k bs = record { address = s.address; bytes = take k s.bytes ++ (bs ++ drop (k + length bs) s.bytes); flags = s.flags }
+with_part s k bs =
+    record {
+      address = s.address;
+      bytes = take k s.bytes ++ (bs ++ drop (k + length bs) s.bytes);
+      flags = s.flags;
+    }

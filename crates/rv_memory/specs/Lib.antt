@@ -1,2 +1,3 @@
 pub mod Rights
 pub mod Flat
+pub mod Held

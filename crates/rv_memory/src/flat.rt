@@ -123,9 +123,11 @@ fn overwrite(bytes: &mut [u8], at: usize, by: &[u8])
 }
 
 impl Flat {
+    ghost use Rattle.rv_memory.specs.Held.{held, pieces};
+
     /// The memory of an image, with the stack.
     pub fn new(alloc: Global, image: Image) -> Result<Self, AllocError>
-        ensures { IfOk result (λ flat. memory_of (map segment_of flat.segments.items) ≡ mem_of (image_of image)) }
+        ensures { IfOk result (λ flat. held flat ≡ mem_of (image_of image)) }
     {
         let stack = Segment {
             address: STACK_START,
@@ -147,8 +149,8 @@ impl Flat {
     #[inline(always)]
     fn position(&self, address: u64) -> Option<usize>
         ensures within { IfSome result (λ i. i < length self.now.segments.items) }
-        ensures found { MatchOption result (segment_at (map segment_of self.now.segments.items) address ≡ None)
-            (λ i. segment_at (map segment_of self.now.segments.items) address ≡ slice_get (map segment_of self.now.segments.items) i) }
+        ensures found { MatchOption result (segment_at (pieces self.now) address ≡ None)
+            (λ i. segment_at (pieces self.now) address ≡ slice_get (pieces self.now) i) }
     {
         for (i, segment) in self.segments.iter().enumerate() {
             if is_held(segment, address) {
@@ -183,9 +185,10 @@ impl Flat {
     /// The bytes from an address on, where the segment at the index holds them and gives the right.
     #[inline(always)]
     fn part(&self, i: usize, address: u64, bytes: u64, right: Right) -> Option<&[u8]>
-        ensures right { IfSome result (λ _. may (memory_of (map segment_of self.now.segments.items)) address bytes (right_of right) ≡ true) }
+        ensures right { IfSome result
+            (λ _. may (held self.now) address bytes (right_of right) ≡ true) }
         ensures length { IfSome result (λ part. length part.now ≡ bytes) }
-        ensures bytes { IfSome result (λ part. bytes_at (memory_of (map segment_of self.now.segments.items)) address bytes ≡ part.now) }
+        ensures bytes { IfSome result (λ part. bytes_at (held self.now) address bytes ≡ part.now) }
         ensures small { IfSome result (λ part. (k : ℕ) → slice_index part.now k < 256) }
     {
         if i >= self.segments.len() {
@@ -203,7 +206,7 @@ impl Flat {
     /// Whether bytes have the right, by a search; the next accesses look first where it ended.
     #[inline(never)]
     fn search(&self, address: u64, bytes: u64, right: Right) -> bool
-        ensures { result ≡ may (memory_of (map segment_of self.now.segments.items)) address bytes (right_of right) }
+        ensures { result ≡ may (held self.now) address bytes (right_of right) }
     {
         self.remember(address, right);
         self.may(address, bytes, right)
@@ -213,9 +216,9 @@ impl Flat {
     #[inline(never)]
     fn load_found(&self, address: u64, bytes: u64) -> u64
         requires width { IsWidth bytes }
-        requires may { MayLoad (memory_of (map segment_of self.now.segments.items)) address bytes }
-        ensures number { result ≡ number_at (memory_of (map segment_of self.now.segments.items)) address bytes }
-        ensures bytes { (k : ℕ) → k < bytes → (memory_of (map segment_of self.now.segments.items)).byte ((address + k) % 2 ^ 64) < 256 }
+        requires may { MayLoad (held self.now) address bytes }
+        ensures number { result ≡ number_at (held self.now) address bytes }
+        ensures bytes { (k : ℕ) → k < bytes → (held self.now).byte ((address + k) % 2 ^ 64) < 256 }
     {
         self.load(address, bytes)
     }
@@ -224,9 +227,9 @@ impl Flat {
     #[inline(always)]
     fn put_part(&mut self, i: usize, address: u64, bytes: &[u8]) -> bool
         ensures { MatchBool result
-            ((may (memory_of (map segment_of self.old.segments.items)) address (length bytes.now) ToWrite ≡ true)
-            × (memory_of (map segment_of self.new.segments.items) ≡ with_bytes (memory_of (map segment_of self.old.segments.items)) address bytes.now))
-            (map segment_of self.new.segments.items ≡ map segment_of self.old.segments.items) }
+            ((may (held self.old) address (length bytes.now) ToWrite ≡ true)
+            × (held self.new ≡ with_bytes (held self.old) address bytes.now))
+            (pieces self.new ≡ pieces self.old) }
     {
         if i >= self.segments.len() {
             return false;
@@ -245,8 +248,8 @@ impl Flat {
     #[inline(never)]
     fn store_found(&mut self, address: u64, bytes: u64, value: u64)
         requires width { IsWidth bytes }
-        requires may { may (memory_of (map segment_of self.old.segments.items)) address bytes ToWrite ≡ true }
-        ensures { memory_of (map segment_of self.new.segments.items) ≡ with_number (memory_of (map segment_of self.old.segments.items)) address bytes value }
+        requires may { may (held self.old) address bytes ToWrite ≡ true }
+        ensures { held self.new ≡ with_number (held self.old) address bytes value }
     {
         self.store(address, bytes, value);
     }
@@ -254,8 +257,8 @@ impl Flat {
     /// How many bytes from an address on, up to its segment's end, have the right.
     #[inline(always)]
     fn run(&self, address: u64, right: Right) -> u64
-        ensures all { may (memory_of (map segment_of self.now.segments.items)) address result (right_of right) ≡ true }
-        ensures none { result ≡ 0 → (memory_of (map segment_of self.now.segments.items)).has address (right_of right) ≡ false }
+        ensures all { may (held self.now) address result (right_of right) ≡ true }
+        ensures none { result ≡ 0 → (held self.now).has address (right_of right) ≡ false }
     {
         match self.position(address) {
             Some(i) => {
@@ -273,9 +276,9 @@ impl Flat {
     /// The bytes from an address on, up to its segment's end.
     #[inline(always)]
     fn rest(&self, address: u64) -> &[u8]
-        ensures bytes { bytes_at (memory_of (map segment_of self.now.segments.items)) address (length result.now) ≡ result.now }
+        ensures bytes { bytes_at (held self.now) address (length result.now) ≡ result.now }
         ensures small { (k : ℕ) → slice_index result.now k < 256 }
-        ensures none { result.now ≡ [] → segment_at (map segment_of self.now.segments.items) address ≡ None }
+        ensures none { result.now ≡ [] → segment_at (pieces self.now) address ≡ None }
     {
         match self.position(address) {
             Some(i) => {
@@ -289,8 +292,8 @@ impl Flat {
 
     /// The byte of an address that may be read or executed.
     fn byte(&self, address: u64) -> u8
-        requires { MayLoad (memory_of (map segment_of self.now.segments.items)) address 1 }
-        ensures { result ≡ (memory_of (map segment_of self.now.segments.items)).byte address }
+        requires { MayLoad (held self.now) address 1 }
+        ensures { result ≡ (held self.now).byte address }
     {
         match self.rest(address) {
             [byte, ..] => *byte,
@@ -302,9 +305,9 @@ impl Flat {
     #[inline(never)]
     fn load_across(&self, address: u64, bytes: usize) -> u64
         requires width { IsWidth bytes }
-        requires may { MayLoad (memory_of (map segment_of self.now.segments.items)) address bytes }
-        ensures number { result ≡ number_at (memory_of (map segment_of self.now.segments.items)) address bytes }
-        ensures bytes { (k : ℕ) → k < bytes → (memory_of (map segment_of self.now.segments.items)).byte ((address + k) % 2 ^ 64) < 256 }
+        requires may { MayLoad (held self.now) address bytes }
+        ensures number { result ≡ number_at (held self.now) address bytes }
+        ensures bytes { (k : ℕ) → k < bytes → (held self.now).byte ((address + k) % 2 ^ 64) < 256 }
     {
         let mut gathered = [0; 8];
         for k in 0..bytes {
@@ -317,9 +320,11 @@ impl Flat {
     #[inline(always)]
     fn write(&mut self, i: usize, at: usize, bytes: &[u8])
         requires index { i < length self.old.segments.items }
-        requires within { at + length bytes.now ≤ length (slice_index_or (map segment_of self.old.segments.items) i no_segment).bytes }
-        ensures { map segment_of self.new.segments.items
-            ≡ set (map segment_of self.old.segments.items) i (with_part (slice_index_or (map segment_of self.old.segments.items) i no_segment) at bytes.now) }
+        requires within { at + length bytes.now
+            ≤ length (slice_index_or (pieces self.old) i no_segment).bytes }
+        ensures { pieces self.new
+            ≡ set (pieces self.old) i
+            (with_part (slice_index_or (pieces self.old) i no_segment) at bytes.now) }
     {
         let segment = &mut self.segments[i];
         overwrite(&mut segment.bytes, at, bytes);
@@ -329,9 +334,10 @@ impl Flat {
     #[inline(always)]
     fn put_within(&mut self, address: u64, bytes: &[u8]) -> bool
         ensures put { MatchBool result
-            (memory_of (map segment_of self.new.segments.items) ≡ with_bytes (memory_of (map segment_of self.old.segments.items)) address bytes.now)
-            (map segment_of self.new.segments.items ≡ map segment_of self.old.segments.items) }
-        ensures one { length bytes.now ≡ 1 → may (memory_of (map segment_of self.old.segments.items)) address 1 ToWrite ≡ true → result ≡ true }
+            (held self.new ≡ with_bytes (held self.old) address bytes.now)
+            (pieces self.new ≡ pieces self.old) }
+        ensures one { length bytes.now ≡ 1 → may (held self.old) address 1 ToWrite ≡ true →
+            result ≡ true }
     {
         match self.position(address) {
             Some(i) => {
@@ -351,8 +357,8 @@ impl Flat {
     /// Puts bytes one by one, where they do not lie in one segment.
     #[inline(never)]
     fn put_across(&mut self, address: u64, bytes: &[u8])
-        requires { may (memory_of (map segment_of self.old.segments.items)) address (length bytes.now) ToWrite ≡ true }
-        ensures { memory_of (map segment_of self.new.segments.items) ≡ with_bytes (memory_of (map segment_of self.old.segments.items)) address bytes.now }
+        requires { may (held self.old) address (length bytes.now) ToWrite ≡ true }
+        ensures { held self.new ≡ with_bytes (held self.old) address bytes.now }
     {
         for k in 0..bytes.len() {
             self.put_within(address.wrapping_add(k as u64), &bytes[k..k + 1]);
@@ -361,7 +367,9 @@ impl Flat {
 }
 
 impl Memory for Flat {
-    ghost mem = { λ flat. memory_of (map segment_of flat.segments.items) };
+    ghost use Rattle.rv_memory.specs.Held.{held};
+
+    ghost mem = { λ flat. held flat };
 
     #[inline]
     fn may(&self, address: u64, bytes: u64, right: Right) -> bool {

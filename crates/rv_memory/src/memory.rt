@@ -63,10 +63,12 @@ pub trait Memory {
     fn try_load(&self, address: u64, bytes: u64, right: Right) -> Option<u64>
         requires width { IsWidth bytes }
         requires right { IsToLoad right }
-        ensures right { MatchOption result (may (mem self.now) address bytes (right_of right) ≡ false)
+        ensures right { MatchOption result
+            (may (mem self.now) address bytes (right_of right) ≡ false)
             (λ _. may (mem self.now) address bytes (right_of right) ≡ true) }
         ensures number { IfSome result (λ number. number ≡ number_at (mem self.now) address bytes) }
-        ensures bytes { IfSome result (λ _. (k : ℕ) → k < bytes → (mem self.now).byte ((address + k) % 2 ^ 64) < 256) }
+        ensures bytes { IfSome result
+            (λ _. (k : ℕ) → k < bytes → (mem self.now).byte ((address + k) % 2 ^ 64) < 256) }
     {
         if self.may(address, bytes, right) {
             Some(self.load(address, bytes))
@@ -81,7 +83,9 @@ pub trait Memory {
     fn try_store(&mut self, address: u64, bytes: u64, value: u64) -> bool
         requires { IsWidth bytes }
         ensures right { result ≡ may (mem self.old) address bytes ToWrite }
-        ensures put { MatchBool result (mem self.new ≡ with_number (mem self.old) address bytes value) (mem self.new ≡ mem self.old) }
+        ensures put { MatchBool result
+            (mem self.new ≡ with_number (mem self.old) address bytes value)
+            (mem self.new ≡ mem self.old) }
     {
         let may = self.may(address, bytes, Right::Write);
         if may {
@@ -102,7 +106,8 @@ pub trait Memory {
     /// Puts bytes that lie in one piece of memory at once; where it does not, nothing changes.
     #[inline]
     fn put_piece(&mut self, address: u64, bytes: &[u8]) -> bool
-        ensures { MatchBool result (mem self.new ≡ with_bytes (mem self.old) address bytes.now) (mem self.new ≡ mem self.old) }
+        ensures { MatchBool result (mem self.new ≡ with_bytes (mem self.old) address bytes.now)
+            (mem self.new ≡ mem self.old) }
     {
         false
     }
