@@ -52,7 +52,8 @@ stack_address u = bits_at u 4 2 11 + bits_at u 6 4 7 + bits_at u 2 1 6 + bits_at
 
 -- nzimm[9] at 12, nzimm[4|6|8:7|5] at 6:2
 abbrev pub stack_step : ℕ → ℕ
-stack_step u = bits_at u 9 1 12 + bits_at u 4 1 6 + bits_at u 6 1 5 + bits_at u 7 2 3 + bits_at u 5 1 2
+stack_step u =
+    bits_at u 9 1 12 + bits_at u 4 1 6 + bits_at u 6 1 5 + bits_at u 7 2 3 + bits_at u 5 1 2
 
 -- imm[11|4|9:8|10|6|7|3:1|5] at 12:2
 abbrev pub jump_offset : ℕ → ℕ
@@ -61,7 +62,8 @@ jump_offset u =
 
 -- imm[8|4:3] at 12:10, imm[7:6|2:1|5] at 6:2
 abbrev pub branch_offset : ℕ → ℕ
-branch_offset u = bits_at u 8 1 12 + bits_at u 3 2 10 + bits_at u 6 2 5 + bits_at u 1 2 3 + bits_at u 5 1 2
+branch_offset u =
+    bits_at u 8 1 12 + bits_at u 3 2 10 + bits_at u 6 2 5 + bits_at u 1 2 3 + bits_at u 5 1 2
 
 -- uimm[5] at 12, uimm[4:2|7:6] at 6:2
 abbrev pub word_load : ℕ → ℕ
@@ -81,7 +83,8 @@ double_store u = bits_at u 3 3 10 + bits_at u 6 3 7
 
 -- an arithmetic form (CA): funct6 100011 or 100111, funct2 at 6:5
 abbrev pub arithmetic : (bit_12 funct2 rd rs2 : ℕ) → ℕ
-arithmetic bit_12 funct2 rd rs2 = opcode 1 4 + bit_12 * 2 ^ 12 + 3 * 2 ^ 10 + short_7 rd + funct2 * 2 ^ 5 + short_2 rs2
+arithmetic bit_12 funct2 rd rs2 =
+    opcode 1 4 + bit_12 * 2 ^ 12 + 3 * 2 ^ 10 + short_7 rd + funct2 * 2 ^ 5 + short_2 rs2
 
 -- the number whose bits a form's parcel has: tables 16.5 to 16.7, line by line
 abbrev pub parcel : Compressed → ℕ
@@ -265,4 +268,5 @@ IsForm found p = (form : Compressed) → found ≡ form ↔ SpellsForm p form
 
 -- what is found is the form chosen for an instruction: none exactly where there is none
 abbrev pub IsFormOf : Option Compressed → Inst → Type 0
-IsFormOf found i = (form : Compressed) → found ≡ Some form ↔ (IsLine form × IsChosen form × (expansion form ≡ i))
+IsFormOf found i =
+    (form : Compressed) → found ≡ Some form ↔ (IsLine form × IsChosen form × (expansion form ≡ i))

@@ -51,7 +51,8 @@ fn word_inst(bytes: &[u8]) -> Option<Inst>
 /// Unprivileged ISA 20191213, section 1.5.
 #[inline(always)]
 pub fn next_inst(bytes: &[u8]) -> Option<(Inst, usize)>
-    ensures exact { (inst : Inst) (count : ℕ) → result ≡ Some (inst, count) ↔ FrontSpells bytes.now inst count }
+    ensures exact { (inst : Inst) (count : ℕ) →
+        result ≡ Some (inst, count) ↔ FrontSpells bytes.now inst count }
     ensures valid { IfSome result (λ found. IsValid found.0) }
 {
     if bytes.is_empty() {

@@ -33,7 +33,8 @@ pub fn six(bits: u32) -> u32
 /// nzuimm[5:4|9:6|2|3] at 12:5.
 #[inline]
 pub fn stack_address(bits: u32) -> u32
-    ensures { result ≡ bits_at bits 6 1 2 + bits_at bits 5 1 3 + bits_at bits 11 2 4 + bits_at bits 7 4 6 }
+    ensures { result
+        ≡ bits_at bits 6 1 2 + bits_at bits 5 1 3 + bits_at bits 11 2 4 + bits_at bits 7 4 6 }
 {
     (bits >> 6 & 1) << 2 | (bits >> 5 & 1) << 3 | (bits >> 11 & 3) << 4 | (bits >> 7 & 0xf) << 6
 }

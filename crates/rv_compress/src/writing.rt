@@ -64,7 +64,8 @@ fn short_format(quadrant: u32, low: u32, two: u32, middle: u32, high: u32, funct
     requires middle { middle < 2 ^ 3 }
     requires high { high < 2 ^ 3 }
     requires funct3 { funct3 < 2 ^ 3 }
-    ensures { result ≡ quadrant + low * 2 ^ 2 + two * 2 ^ 5 + middle * 2 ^ 7 + high * 2 ^ 10 + funct3 * 2 ^ 13 }
+    ensures { result
+        ≡ quadrant + low * 2 ^ 2 + two * 2 ^ 5 + middle * 2 ^ 7 + high * 2 ^ 10 + funct3 * 2 ^ 13 }
 {
     (quadrant | low << 2 | two << 5 | middle << 7 | high << 10 | funct3 << 13) as u16
 }
@@ -143,7 +144,8 @@ fn word_format(rs1: Reg, other: Reg, offset: u32, funct3: u32) -> u16
 /// `c.ld` and `c.sd`; `other` is the register at 4:2.
 fn double_format(rs1: Reg, other: Reg, offset: u32, funct3: u32) -> u16
     requires { funct3 < 2 ^ 3 }
-    ensures { result ≡ opcode 0 funct3 + double_offset offset + rs1 % 8 * 2 ^ 7 + other % 8 * 2 ^ 2 }
+    ensures { result
+        ≡ opcode 0 funct3 + double_offset offset + rs1 % 8 * 2 ^ 7 + other % 8 * 2 ^ 2 }
 {
     short_format(
         0,

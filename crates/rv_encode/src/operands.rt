@@ -152,7 +152,8 @@ pub(crate) fn store(bits: u32) -> SType
 /// A branch's offset: bit 11 at 7, bits 4:1 from 8, bits 10:5 from 25 and bit 12 at 31.
 #[inline]
 fn branch_offset(bits: u32) -> u32
-    ensures sum { result ≡ bits / 2 ^ 8 % 2 ^ 4 * 2 + bits / 2 ^ 25 % 2 ^ 6 * 2 ^ 5 + bits / 2 ^ 7 % 2 * 2 ^ 11
+    ensures sum { result
+        ≡ bits / 2 ^ 8 % 2 ^ 4 * 2 + bits / 2 ^ 25 % 2 ^ 6 * 2 ^ 5 + bits / 2 ^ 7 % 2 * 2 ^ 11
         + bits / 2 ^ 31 * 2 ^ 12 }
     ensures below { result < 2 ^ 13 }
     ensures even { result % 2 ≡ 0 }
@@ -186,7 +187,8 @@ pub(crate) fn upper(bits: u32) -> UType
 /// A jump's offset: bits 19:12 from 12, bit 11 at 20, bits 10:1 from 21 and bit 20 at 31.
 #[inline]
 fn jump_offset(bits: u32) -> u32
-    ensures sum { result ≡ bits / 2 ^ 21 % 2 ^ 10 * 2 + bits / 2 ^ 20 % 2 * 2 ^ 11 + bits / 2 ^ 12 % 2 ^ 8 * 2 ^ 12
+    ensures sum { result
+        ≡ bits / 2 ^ 21 % 2 ^ 10 * 2 + bits / 2 ^ 20 % 2 * 2 ^ 11 + bits / 2 ^ 12 % 2 ^ 8 * 2 ^ 12
         + bits / 2 ^ 31 * 2 ^ 20 }
     ensures below { result < 2 ^ 21 }
     ensures even { result % 2 ≡ 0 }
@@ -226,7 +228,8 @@ pub(crate) fn memory(bits: u32) -> Atomic
 pub(crate) fn load_reserved(bits: u32) -> Reserve
     requires { bits / 2 ^ 20 % 32 ≡ 0 }
     ensures valid { IsReserve result }
-    ensures sum { word (LoadReserved (bits % 128) (bits / 2 ^ 12 % 8) (bits / 2 ^ 27) result) ≡ bits }
+    ensures sum { word (LoadReserved (bits % 128) (bits / 2 ^ 12 % 8) (bits / 2 ^ 27) result)
+        ≡ bits }
 {
     Reserve {
         rd: rd(bits),

@@ -15,7 +15,13 @@ pub record Part : Type 0 where
   pub flags : ℕ
 
 abbrev pub part_of : DeclaredPart → Part
-part_of part = record { address = part.address; stored = part.stored.now; zeros = part.zeros; flags = part.flags }
+part_of part =
+    record {
+      address = part.address;
+      stored = part.stored.now;
+      zeros = part.zeros;
+      flags = part.flags;
+    }
 
 abbrev pub memory_size_of : Part → ℕ
 memory_size_of part = length part.stored + part.zeros
@@ -24,7 +30,12 @@ memory_size_of part = length part.stored + part.zeros
 abbrev pub all_parts : Linked → List Part
 all_parts l = record { address = l.map.text.start; stored = l.text; zeros = 0; flags = 1 }
     ∷ record { address = l.map.rodata.start; stored = l.rodata; zeros = 0; flags = 4 }
-    ∷ record { address = l.map.data.start; stored = l.data; zeros = l.map.bss.end - l.map.data.end; flags = 6 }
+    ∷ record {
+      address = l.map.data.start;
+      stored = l.data;
+      zeros = l.map.bss.end - l.map.data.end;
+      flags = 6;
+    }
     ∷ []
 
 abbrev pub has_memory : Part → Bool
@@ -50,30 +61,45 @@ header_bytes l = (0x7F ∷ 0x45 ∷ 0x4C ∷ 0x46 ∷ 2 ∷ 1 ∷ 1 ∷ 0 ∷ 0 
 
 -- PT_LOAD, flags, offset, address twice, size in the file and in memory, alignment to a page
 unfoldable pub program_bytes : ℕ → Part → List ℕ
-program_bytes start part = little_bytes 4 1 ++ (little_bytes 4 part.flags ++ (little_bytes 8 (offset_of start part)
+program_bytes start part =
+    little_bytes 4 1 ++ (little_bytes 4 part.flags ++ (little_bytes 8 (offset_of start part)
     ++ (little_bytes 8 part.address ++ (little_bytes 8 part.address
     ++ (little_bytes 8 (length part.stored) ++ (little_bytes 8 (memory_size_of part) ++ little_bytes 8 0x1000))))))
 
 -- a file with these bytes at a place after its end, zeros between; nothing for no bytes
 abbrev pub with_contents : List ℕ → ℕ → List ℕ → List ℕ
 with_contents file place [] = file
-with_contents file place (byte ∷ bytes) = file ++ (replicate (place - length file) 0 ++ (byte ∷ bytes))
+with_contents file place (byte ∷ bytes) =
+    file ++ (replicate (place - length file) 0 ++ (byte ∷ bytes))
 
 -- the contents of the parts, each at its place (a part without memory has none)
 abbrev pub with_parts : ℕ → List ℕ → List Part → List ℕ
 with_parts start file [] = file
-with_parts start file (part ∷ rest) = with_parts start (with_contents file (offset_of start part) part.stored) rest
+with_parts start file (part ∷ rest) =
+    with_parts start (with_contents file (offset_of start part) part.stored) rest
 
 -- the file: header, program headers, contents
 abbrev pub exe_of : Linked → List ℕ
-exe_of l = with_parts l.map.text.start (header_bytes l ++ flat_map (program_bytes l.map.text.start) (parts l)) (all_parts l)
+exe_of l =
+    with_parts l.map.text.start
+    (header_bytes l ++ flat_map (program_bytes l.map.text.start) (parts l)) (all_parts l)
 
 abbrev pub segment_of_part : Part → Segment
-segment_of_part part = record { address = part.address; bytes = part.stored ++ replicate part.zeros 0; flags = part.flags }
+segment_of_part part =
+    record {
+      address = part.address;
+      bytes = part.stored ++ replicate part.zeros 0;
+      flags = part.flags;
+    }
 
 -- the image that the linker meant
 abbrev pub linked_image : Linked → Image
 linked_image l = record {
   entry = l.map.entry;
-  segments = map (λ part. record { address = part.address; bytes = part.stored ++ replicate part.zeros 0; flags = part.flags }) (parts l);
+  segments = map
+      (λ part. record {
+        address = part.address;
+        bytes = part.stored ++ replicate part.zeros 0;
+        flags = part.flags;
+      }) (parts l);
 }

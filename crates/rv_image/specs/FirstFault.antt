@@ -68,7 +68,8 @@ program_tests file before p = (is_past file p.offset p.file_size, Truncated)
 -- one program header after the other
 abbrev pub programs_tests : List ℕ → List Program → List Program → List (Bool × FileFault)
 programs_tests file before [] = []
-programs_tests file before (p ∷ ps) = program_tests file before p ++ programs_tests file (before ++ p ∷ []) ps
+programs_tests file before (p ∷ ps) =
+    program_tests file before p ++ programs_tests file (before ++ p ∷ []) ps
 
 -- what all segments have in memory
 abbrev pub loaded_size : List Program → ℕ
@@ -82,11 +83,14 @@ whole_tests file = (not (entry_point file % 2 == 0), BadTable)
 
 -- all that an executable is tested for, in order
 unfoldable pub load_tests : List ℕ → List (Bool × FileFault)
-load_tests file = header_tests file ++ (table_tests file ++ (programs_tests file [] (programs file) ++ whole_tests file))
+load_tests file =
+    header_tests file
+    ++ (table_tests file ++ (programs_tests file [] (programs file) ++ whole_tests file))
 
 -- a check that looks for the first of these faults
 abbrev pub Finds : {X : Type 0} → List (Bool × FileFault) → Result X FileFault → Type 0
-Finds tests result = MatchResult result (λ _. first_true tests ≡ None) (λ fault. first_true tests ≡ Some fault)
+Finds tests result =
+    MatchResult result (λ _. first_true tests ≡ None) (λ fault. first_true tests ≡ Some fault)
 
 -- why the file is refused; none where it is an executable of this machine
 abbrev pub first_fault : List ℕ → Option FileFault

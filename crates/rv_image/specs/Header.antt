@@ -78,4 +78,5 @@ is_load p = p.kind == 1
 
 -- the program headers lie in the file
 abbrev pub HasPrograms : List ℕ → Type 0
-HasPrograms file = 0 < program_count file → program_table file + 56 * program_count file ≤ length file
+HasPrograms file =
+    0 < program_count file → program_table file + 56 * program_count file ≤ length file

@@ -14,7 +14,14 @@ pub record Linked : Type 0 where
   pub rvc : Bool
 
 abbrev pub linked_of : DeclaredLinked → Linked
-linked_of l = record { text = l.text.items; rodata = l.rodata.items; «data» = l.data.items; map = map_of l.map; rvc = l.rvc }
+linked_of l =
+    record {
+      text = l.text.items;
+      rodata = l.rodata.items;
+      «data» = l.data.items;
+      map = map_of l.map;
+      rvc = l.rvc;
+    }
 
 -- how the linker lays a program out: each region has its bytes, one after the other, bss after the data, all below the
 -- stack, 256 MiB at most; the entry is even

@@ -27,7 +27,8 @@ meets_stack s = do_meet s.address (length s.bytes) stack_start (stack_end - stac
 -- no address lies in two segments, or in one and the stack
 abbrev pub are_apart : List Segment → Bool
 are_apart [] = true
-are_apart (s ∷ ss) = not (meets_stack s) && list_all (λ t. not (meets_segment s t)) ss && are_apart ss
+are_apart (s ∷ ss) =
+    not (meets_stack s) && list_all (λ t. not (meets_segment s t)) ss && are_apart ss
 
 -- how many bytes of memory the segments have
 abbrev pub memory_size : List Segment → ℕ

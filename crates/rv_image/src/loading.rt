@@ -50,9 +50,11 @@ fn check(file: &[u8]) -> Result<(), FileFault>
 fn segments(alloc: Global, file: &[u8]) -> Result<Vec<Segment>, FileFault>
     requires header { 64 ≤ length file.now }
     requires within { HasPrograms file.now }
-    requires sound { (i : ℕ) → i < program_count file.now → IsLoadable file.now (program_at (program_table file.now + 56 * i) file.now) }
+    requires sound { (i : ℕ) → i < program_count file.now →
+        IsLoadable file.now (program_at (program_table file.now + 56 * i) file.now) }
     ensures { MatchResult result
-        (λ segments. map segment_of segments.items ≡ map (segment_in file.now) (filter is_load (programs file.now)))
+        (λ segments. map segment_of segments.items
+        ≡ map (segment_in file.now) (filter is_load (programs file.now)))
         (λ fault. fault ≡ OutOfMemory) }
 {
     let table = double(file, 32) as usize;
@@ -74,7 +76,8 @@ fn add_segment(
 ) -> Result<(), FileFault>
     requires { IsLoadable file.now program }
     ensures { MatchResult result
-        (λ _. map segment_of segments.new.items ≡ map segment_of segments.old.items ++ map (segment_in file.now) (filter is_load (program ∷ [])))
+        (λ _. map segment_of segments.new.items ≡ map segment_of segments.old.items
+        ++ map (segment_in file.now) (filter is_load (program ∷ [])))
         (λ fault. fault ≡ OutOfMemory) }
 {
     if program.kind != 1 {

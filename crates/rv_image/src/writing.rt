@@ -31,7 +31,8 @@ pub fn write_exec(alloc: Global, linked: &Linked) -> Result<Vec<u8>, AllocError>
 /// The header: what the file is.
 #[tactic(auto, unfolding(crate::specs::Executable::header_bytes))]
 fn put_header(file: &mut Vec<u8>, linked: &Linked) -> Result<(), AllocError>
-    ensures bytes { OnOk result (file.new.items ≡ file.old.items ++ header_bytes (linked_of linked.now)) }
+    ensures bytes { OnOk result
+        (file.new.items ≡ file.old.items ++ header_bytes (linked_of linked.now)) }
     ensures length { OnOk result (vec_len file.new ≡ vec_len file.old + 64) }
 {
     file.extend_from_slice(b"\x7fELF\x02\x01\x01\0\0\0\0\0\0\0\0\0\x02\0\xf3\0\x01\0\0\0")?;
@@ -66,7 +67,9 @@ fn count(linked: &Linked) -> u16
 
 /// The program headers.
 fn put_programs(file: &mut Vec<u8>, linked: &Linked) -> Result<(), AllocError>
-    ensures bytes { OnOk result (file.new.items ≡ file.old.items ++ flat_map (program_bytes linked.now.map.text.start) (parts (linked_of linked.now))) }
+    ensures bytes { OnOk result
+        (file.new.items ≡ file.old.items
+        ++ flat_map (program_bytes linked.now.map.text.start) (parts (linked_of linked.now))) }
     ensures length { OnOk result (vec_len file.new ≤ vec_len file.old + 168) }
 {
     let start = linked.map.text.start;
@@ -79,7 +82,9 @@ fn put_programs(file: &mut Vec<u8>, linked: &Linked) -> Result<(), AllocError>
 /// The contents of the segments.
 fn put_parts(file: &mut Vec<u8>, linked: &Linked) -> Result<(), AllocError>
     requires { vec_len file.old ≤ 0x1000 }
-    ensures { OnOk result (file.new.items ≡ with_parts linked.now.map.text.start file.old.items (all_parts (linked_of linked.now))) }
+    ensures { OnOk result
+        (file.new.items
+        ≡ with_parts linked.now.map.text.start file.old.items (all_parts (linked_of linked.now))) }
 {
     let start = linked.map.text.start;
     put_part(file, start, text(linked))?;
@@ -89,7 +94,13 @@ fn put_parts(file: &mut Vec<u8>, linked: &Linked) -> Result<(), AllocError>
 }
 
 fn text(linked: &Linked) -> Part<'_>
-    ensures { part_of result ≡ record { address = linked.now.map.text.start; stored = linked.now.text.items; zeros = 0; flags = 1 } }
+    ensures { part_of result
+        ≡ record {
+          address = linked.now.map.text.start;
+          stored = linked.now.text.items;
+          zeros = 0;
+          flags = 1;
+        } }
 {
     Part {
         address: linked.map.text.start,
@@ -100,7 +111,13 @@ fn text(linked: &Linked) -> Part<'_>
 }
 
 fn rodata(linked: &Linked) -> Part<'_>
-    ensures { part_of result ≡ record { address = linked.now.map.rodata.start; stored = linked.now.rodata.items; zeros = 0; flags = 4 } }
+    ensures { part_of result
+        ≡ record {
+          address = linked.now.map.rodata.start;
+          stored = linked.now.rodata.items;
+          zeros = 0;
+          flags = 4;
+        } }
 {
     Part {
         address: linked.map.rodata.start,
@@ -111,7 +128,13 @@ fn rodata(linked: &Linked) -> Part<'_>
 }
 
 fn data(linked: &Linked) -> Part<'_>
-    ensures { part_of result ≡ record { address = linked.now.map.data.start; stored = linked.now.data.items; zeros = linked.now.map.bss.end - linked.now.map.data.end; flags = 6 } }
+    ensures { part_of result
+        ≡ record {
+          address = linked.now.map.data.start;
+          stored = linked.now.data.items;
+          zeros = linked.now.map.bss.end - linked.now.map.data.end;
+          flags = 6;
+        } }
 {
     let zeros = linked.map.bss.end - linked.map.data.end;
     Part {
@@ -143,7 +166,9 @@ fn put_program(file: &mut Vec<u8>, start: u64, part: Part) -> Result<(), AllocEr
     requires below { memory_size_of (part_of part) < 2 ^ 64 }
     requires after { start ≤ part.address }
     requires far { part.address < 2 ^ 63 }
-    ensures bytes { OnOk result (file.new.items ≡ file.old.items ++ flat_map (program_bytes start) (filter has_memory (part_of part.entry ∷ []))) }
+    ensures bytes { OnOk result
+        (file.new.items ≡ file.old.items
+        ++ flat_map (program_bytes start) (filter has_memory (part_of part.entry ∷ []))) }
     ensures length { OnOk result (vec_len file.new ≤ vec_len file.old + 56) }
 {
     if !part.has_memory() {
@@ -177,8 +202,12 @@ fn put_part(file: &mut Vec<u8>, start: u64, part: Part) -> Result<(), AllocError
     requires after { start ≤ part.address }
     requires far { part.address < 2 ^ 63 }
     requires room { vec_len file.old ≤ offset_of start (part_of part) }
-    ensures bytes { OnOk result (file.new.items ≡ with_contents file.old.items (offset_of start (part_of part.entry)) part.entry.stored.now) }
-    ensures length { OnOk result (vec_len file.new ≤ offset_of start (part_of part.entry) + length part.entry.stored.now) }
+    ensures bytes { OnOk result
+        (file.new.items
+        ≡ with_contents file.old.items
+        (offset_of start (part_of part.entry)) part.entry.stored.now) }
+    ensures length { OnOk result
+        (vec_len file.new ≤ offset_of start (part_of part.entry) + length part.entry.stored.now) }
 {
     if part.stored.is_empty() {
         return Ok(());

@@ -138,10 +138,12 @@ of_atomic Amomaxu true x = inst.AmomaxuD x
 
 -- the bits of a set of accesses (ISA, 2.7)
 abbrev pub access_bits : AccessSet → ℕ
-access_bits s = 8 * from_bool s.input + 4 * from_bool s.output + 2 * from_bool s.reads + from_bool s.writes
+access_bits s =
+    8 * from_bool s.input + 4 * from_bool s.output + 2 * from_bool s.reads + from_bool s.writes
 
 abbrev pub fence : ℕ → ℕ → ℕ → Inst
-fence mode before after = inst.Fence (record { fm = mode; pred = before; succ = after; rs1 = 0; rd = 0 })
+fence mode before after =
+    inst.Fence (record { fm = mode; pred = before; succ = after; rs1 = 0; rd = 0 })
 
 -- ---- the format of each instruction, with its operation
 

@@ -111,7 +111,8 @@ word_remainder a b =
     else wrapped (int_rem (signed 32 (low a)) (signed 32 (low b)))
 
 abbrev pub word_remainder_unsigned : ℕ → ℕ → ℕ
-word_remainder_unsigned a b = if low b == 0 then extended 32 (low a) else extended 32 (low a % low b)
+word_remainder_unsigned a b =
+    if low b == 0 then extended 32 (low a) else extended 32 (low a % low b)
 
 -- ---- the lesser and the greater of two signed numbers of `bits` bits (ISA, 8.4)
 

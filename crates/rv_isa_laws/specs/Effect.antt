@@ -47,7 +47,8 @@ reads h m =
     let moved = min a2 (length h.input) in
     if register h 10 == 0
     then (if may m a1 a2 Write
-    then On (answer (record h { input = drop moved h.input }) moved) (with_bytes m a1 (take moved h.input))
+    then On (answer (record h { input = drop moved h.input }) moved)
+    (with_bytes m a1 (take moved h.input))
     else On (answer h bad_address) m)
     else On (answer h bad_file) m
 
@@ -81,8 +82,10 @@ store_refusal m a n = if some_has m a n Execute then StoreText a else StoreOutsi
 -- what comes of an effect on this memory; an end changes nothing
 abbrev pub apply : Effect → Mem → Next
 apply (Goes next) m = On next m
-apply (Loads a n next) m = if may m a n Read then On (next (number_at m a n)) m else Over (load_refusal m a n)
-apply (Stores a n v next) m = if may m a n Write then On next (with_number m a n v) else Over (store_refusal m a n)
+apply (Loads a n next) m =
+    if may m a n Read then On (next (number_at m a n)) m else Over (load_refusal m a n)
+apply (Stores a n v next) m =
+    if may m a n Write then On next (with_number m a n v) else Over (store_refusal m a n)
 apply (Reserves a n next) m =
     if a % n == 0
     then (if may m a n Read then On (next (number_at m a n)) m else Over (load_refusal m a n))

@@ -42,7 +42,8 @@ register h r = if r == 0 then 0 else slice_index h.registers r
 
 -- register r set; x0 takes no value (ISA, 2.1)
 abbrev pub with_register : Hart → ℕ → ℕ → Hart
-with_register h r value = record h { registers = if r == 0 then h.registers else set h.registers r value }
+with_register h r value =
+    record h { registers = if r == 0 then h.registers else set h.registers r value }
 
 -- the hart where the next instruction stands: this many bytes on
 abbrev pub advanced : Hart → ℕ → Hart
@@ -51,7 +52,13 @@ advanced h bytes = record h { pc = (h.pc + bytes) % 2 ^ 64 }
 -- the hart at the start: registers 0 but sp, which is the stack's end
 abbrev pub start : ℕ → List ℕ → Hart
 start entry input =
-    record { registers = set (replicate 32 0) 2 stack_end; pc = entry; reservation = None; input = input; console = [] }
+    record {
+      registers = set (replicate 32 0) 2 stack_end;
+      pc = entry;
+      reservation = None;
+      input = input;
+      console = [];
+    }
 
 abbrev pub stop : Hart → End → Outcome
 stop h e = record { console = h.console; «end» = e }

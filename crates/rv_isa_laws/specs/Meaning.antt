@@ -41,21 +41,25 @@ sets bytes h rd value = Goes (with_result bytes h rd value)
 
 -- rd gets what an operation makes of rs1 and rs2, of rs1 and the immediate, of rs1 and the amount
 abbrev pub by_registers : ℕ → Hart → RType → (ℕ → ℕ → ℕ) → Effect
-by_registers bytes h x operation = sets bytes h x.rd (operation (register h x.rs1) (register h x.rs2))
+by_registers bytes h x operation =
+    sets bytes h x.rd (operation (register h x.rs1) (register h x.rs2))
 
 abbrev pub by_immediate : ℕ → Hart → IType → (ℕ → ℕ → ℕ) → Effect
-by_immediate bytes h x operation = sets bytes h x.rd (operation (register h x.rs1) (wrapped x.immediate))
+by_immediate bytes h x operation =
+    sets bytes h x.rd (operation (register h x.rs1) (wrapped x.immediate))
 
 abbrev pub by_amount : ℕ → Hart → ShiftOperands → (ℕ → ℕ → ℕ) → Effect
 by_amount bytes h x operation = sets bytes h x.rd (operation (register h x.rs1) x.amount)
 
 -- rd gets the address where the jump ends, and the hart goes to the target (ISA, 2.5)
 abbrev pub jumps : ℕ → Hart → ℕ → ℕ → Effect
-jumps bytes h rd target = Goes (record (with_register h rd ((h.pc + bytes) % 2 ^ 64)) { pc = target % 2 ^ 64 })
+jumps bytes h rd target =
+    Goes (record (with_register h rd ((h.pc + bytes) % 2 ^ 64)) { pc = target % 2 ^ 64 })
 
 -- where the test holds the hart goes so far from the branch, else to the next instruction (ISA, 2.5)
 abbrev pub branches : ℕ → Hart → BType → Bool → Effect
-branches bytes h x taken = Goes (record h { pc = (h.pc + (if taken then wrapped x.offset else bytes)) % 2 ^ 64 })
+branches bytes h x taken =
+    Goes (record h { pc = (h.pc + (if taken then wrapped x.offset else bytes)) % 2 ^ 64 })
 
 -- the address of a load or store, modulo 2 ^ 64 (ISA, 2.6)
 abbrev pub address_of : Hart → ℕ → ℤ → ℕ
@@ -239,14 +243,19 @@ abbrev pub format_effect : Format → ℕ → Hart → Effect
 format_effect (Registers operation x) bytes h = by_registers bytes h x (register_result operation)
 format_effect (Immediate operation x) bytes h = by_immediate bytes h x (immediate_result operation)
 format_effect (Shift operation x) bytes h = by_amount bytes h x (shift_result operation)
-format_effect (Upper operation x) bytes h = sets bytes h x.rd (upper_result operation h.pc (upper x.immediate))
-format_effect (Load operation x) bytes h = loads bytes h x (load_width operation) (load_result operation)
+format_effect (Upper operation x) bytes h =
+    sets bytes h x.rd (upper_result operation h.pc (upper x.immediate))
+format_effect (Load operation x) bytes h =
+    loads bytes h x (load_width operation) (load_result operation)
 format_effect (Store operation x) bytes h = stores bytes h x (store_width operation)
-format_effect (Branch operation x) bytes h = branches bytes h x (is_taken operation (register h x.rs1) (register h x.rs2))
+format_effect (Branch operation x) bytes h =
+    branches bytes h x (is_taken operation (register h x.rs1) (register h x.rs2))
 -- jumps (ISA, 2.5)
 format_effect (Jal x) bytes h = jumps bytes h x.rd (h.pc + wrapped x.offset)
-format_effect (Jalr x) bytes h = jumps bytes h x.rd (sum_of (register h x.rs1) (wrapped x.immediate) / 2 * 2)
-format_effect (LoadReserved double x) bytes h = reserves bytes h x (atomic_width double) (reserve_result double)
+format_effect (Jalr x) bytes h =
+    jumps bytes h x.rd (sum_of (register h x.rs1) (wrapped x.immediate) / 2 * 2)
+format_effect (LoadReserved double x) bytes h =
+    reserves bytes h x (atomic_width double) (reserve_result double)
 format_effect (Atomic operation double x) bytes h = atomic_effect operation double x bytes h
 -- memory ordering, environment call and breakpoint (ISA, 2.7 and 2.8); one hart needs no order
 format_effect (Fence x) bytes h = Goes (advanced h bytes)

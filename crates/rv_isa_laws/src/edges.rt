@@ -12,7 +12,8 @@ pub fn division_by_zero()
     ensures word_quotient { (a : ℕ) → is.word_quotient a (2 ^ 32) ≡ 2 ^ 64 - 1 }
     ensures word_quotient_unsigned { (a : ℕ) → is.word_quotient_unsigned a (2 ^ 32) ≡ 2 ^ 64 - 1 }
     ensures word_remainder { (a : ℕ) → is.word_remainder a (2 ^ 32) ≡ is.extended 32 (a % 2 ^ 32) }
-    ensures word_remainder_unsigned { (a : ℕ) → is.word_remainder_unsigned a (2 ^ 32) ≡ is.extended 32 (a % 2 ^ 32) }
+    ensures word_remainder_unsigned { (a : ℕ) →
+        is.word_remainder_unsigned a (2 ^ 32) ≡ is.extended 32 (a % 2 ^ 32) }
 {}
 
 /// The least number by -1 is the least number, and leaves 0 (ISA, table 7.1); the signs of quotient

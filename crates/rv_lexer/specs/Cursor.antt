@@ -13,7 +13,8 @@ use Rattle.rv_lexer.specs.Left.{tokens_left}
 
 -- the next token, and unless it is the last those of the lexer
 unfoldable pub left : Cursor → List lexing.Token
-left c = token_of c.next ∷ (if lexing.is_last (kind_of c.next.kind) then [] else tokens_left c.lexer)
+left c =
+    token_of c.next ∷ (if lexing.is_last (kind_of c.next.kind) then [] else tokens_left c.lexer)
 
 -- what an error of the code stands for
 abbrev pub syntax_error_of : SyntaxError → laws.SyntaxError
@@ -25,6 +26,7 @@ Fails (errors.At w) read = read ≡ Err (syntax_error_of w)
 Fails errors.OutOfMemory read = Unit {0}
 
 -- a call's result, as `view` sees it, is what the reading at the front of the tokens gives, unless memory ran out
-abbrev pub Answers : {X Y : Type 0} → (X → Y) → Result X ReadError → Result Y laws.SyntaxError → Type 0
+abbrev pub Answers : {X Y : Type 0} → (X → Y) → Result X ReadError → Result Y laws.SyntaxError →
+    Type 0
 Answers view (Ok x) read = read ≡ Ok (view x)
 Answers view (Err e) read = Fails e read

@@ -78,7 +78,8 @@ impl<'a> Cursor<'a> {
 
     /// The name at the front, in which minus signs may stand after the first byte; the cursor stays where none is.
     pub fn joined(&mut self) -> Option<&'a [u8]>
-        ensures { option_map (λ name. (name.now, left self.new)) result ≡ joined_at (left self.old) }
+        ensures { option_map (λ name. (name.now, left self.new)) result
+            ≡ joined_at (left self.old) }
     {
         let TokenKind::Name(_) = self.next.kind else {
             return None;

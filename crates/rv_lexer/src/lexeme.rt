@@ -33,7 +33,8 @@ impl<'a> LexemeKind<'a> {
     #[tactic(auto, using(crate::proofs::Steps::no_gap))]
     pub(crate) fn token(self) -> Option<TokenKind<'a>>
         ensures { MatchOption result (is_gap (lexeme_kind_of self.entry) ≡ true)
-            (λ kind. (lexeme_kind_of self.entry ≡ kind_of kind) × (is_gap (lexeme_kind_of self.entry) ≡ false)) }
+            (λ kind. (lexeme_kind_of self.entry ≡ kind_of kind)
+            × (is_gap (lexeme_kind_of self.entry) ≡ false)) }
     {
         match self {
             LexemeKind::Token(kind) => Some(kind),

@@ -43,8 +43,11 @@ impl<'a> Lexer<'a> {
 
     /// The next token. After the last one (the end, a bad byte or a bad token) it comes again.
     pub fn next(&mut self) -> Token<'a>
-        ensures first { tokens_left self.old ≡ token_of result ∷ (if is_last (token_of result).kind then [] else tokens_left self.new) }
-        ensures stays { is_last (token_of result).kind ≡ true → tokens_left self.new ≡ tokens_left self.old }
+        ensures first { tokens_left self.old
+            ≡ token_of result ∷
+            (if is_last (token_of result).kind then [] else tokens_left self.new) }
+        ensures stays { is_last (token_of result).kind ≡ true →
+            tokens_left self.new ≡ tokens_left self.old }
     {
         self.skip_blanks();
         while let Some(lexeme) = lexeme_at(self.rest) {
@@ -70,7 +73,8 @@ impl<'a> Lexer<'a> {
 
     /// The bytes between two offsets in the source.
     pub(crate) fn between(&self, start: u32, stop: u32) -> &'a [u8]
-        requires within { (self.now.at ≤ start) × (start ≤ stop) × (stop ≤ self.now.at + length self.now.rest.now) }
+        requires within { (self.now.at ≤ start) × (start ≤ stop)
+            × (stop ≤ self.now.at + length self.now.rest.now) }
         ensures { result.now ≡ take (stop - start) (drop (start - self.now.at) self.now.rest.now) }
     {
         let from = (start - self.at) as usize;
@@ -96,10 +100,12 @@ impl<'a> Lexer<'a> {
     #[inline(always)]
     fn skip(&mut self, lexeme: Lexeme<'a>)
         requires within { lexeme.length ≤ length self.old.rest.now }
-        requires spelled { Spells (lexeme_kind_of lexeme.kind) (take lexeme.length self.old.rest.now) }
+        requires spelled { Spells (lexeme_kind_of lexeme.kind)
+            (take lexeme.length self.old.rest.now) }
         ensures rest { self.new.rest.now ≡ drop lexeme.entry.length self.old.rest.now }
         ensures at { self.new.at ≡ self.old.at + lexeme.entry.length }
-        ensures line { self.new.line ≡ self.old.line + newlines (take lexeme.entry.length self.old.rest.now) }
+        ensures line { self.new.line
+            ≡ self.old.line + newlines (take lexeme.entry.length self.old.rest.now) }
     {
         let (text, rest) = self.rest.split_at(lexeme.length);
         let feeds = line_feeds_of(lexeme.kind, text);

@@ -128,7 +128,8 @@ fn atom_at(bytes: &[u8]) -> Option<(u8, usize)>
 
 /// The length of a string's inside, where a quote closes it.
 pub(crate) fn string_length(bytes: &[u8]) -> Option<usize>
-    ensures { option_map (λ n. (grammar.Text (string_bytes (take n bytes.now)), n + 2)) result ≡ closed_string (cut atom_at bytes.now) }
+    ensures { option_map (λ n. (grammar.Text (string_bytes (take n bytes.now)), n + 2)) result
+        ≡ closed_string (cut atom_at bytes.now) }
 {
     let mut rest = bytes;
     while let Some((_, length)) = atom_at(rest) {

@@ -19,9 +19,11 @@ Comes None next h m h' m' = next ≡ On h' m'
 Comes (Some e) next h m h' m' = (next ≡ Over (end_of e)) × ((h' ≡ h) × (m' ≡ m))
 
 -- the same of a machine, which keeps its end: after an end, and where memory runs out, nothing changes
-abbrev pub Steps : {E : Type 0} → Result (Option End) E → Option End → Option End → Next → laws.Hart → Mem → laws.Hart → Mem → Type 0
+abbrev pub Steps : {E : Type 0} → Result (Option End) E → Option End → Option End → Next →
+    laws.Hart → Mem → laws.Hart → Mem → Type 0
 Steps (Ok ended) None after next h m h' m' = (after ≡ ended) × Comes ended next h m h' m'
-Steps (Ok ended) (Some e) after next h m h' m' = (ended ≡ Some e) × ((after ≡ Some e) × ((h' ≡ h) × (m' ≡ m)))
+Steps (Ok ended) (Some e) after next h m h' m' =
+    (ended ≡ Some e) × ((after ≡ Some e) × ((h' ≡ h) × (m' ≡ m)))
 Steps (Err _) before after next h m h' m' = (after ≡ before) × ((h' ≡ h) × (m' ≡ m))
 
 -- what a run came to, at this state by this end

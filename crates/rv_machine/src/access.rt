@@ -24,7 +24,9 @@ use rv_memory::{Memory, Right};
 /// A register set, and the hart at the next instruction.
 #[inline(always)]
 pub fn set(hart: &mut Hart, rd: Reg, value: u64, bytes: u64)
-    ensures { (input console : List ℕ) → hart_of hart.new input console ≡ with_result bytes (hart_of hart.old input console) rd value }
+    ensures { (input console : List ℕ) →
+        hart_of hart.new input console
+        ≡ with_result bytes (hart_of hart.old input console) rd value }
 {
     hart.registers.set(rd, value);
     hart.pc = hart.pc.wrapping_add(bytes);
@@ -71,7 +73,8 @@ fn store_end<M: Memory>(memory: &M, address: u64, bytes: u64) -> End
 fn read_bytes<M: Memory>(memory: &M, address: u64, bytes: u64, signed: bool) -> Option<u64>
     requires { IsWidth bytes }
     ensures { MatchOption result (may (M.mem memory.now) address bytes ToRead ≡ false)
-        (λ value. (may (M.mem memory.now) address bytes ToRead ≡ true) × (value ≡ made signed bytes (number_at (M.mem memory.now) address bytes))) }
+        (λ value. (may (M.mem memory.now) address bytes ToRead ≡ true)
+        × (value ≡ made signed bytes (number_at (M.mem memory.now) address bytes))) }
 {
     let number = memory.try_load(address, bytes, Right::Read)?;
     if !signed {
@@ -90,7 +93,8 @@ fn read_bytes<M: Memory>(memory: &M, address: u64, bytes: u64, signed: bool) -> 
 fn read<M: Memory>(memory: &M, address: u64, bytes: u64, signed: bool) -> Option<u64>
     requires { IsWidth bytes }
     ensures { MatchOption result (may (M.mem memory.now) address bytes ToRead ≡ false)
-        (λ value. (may (M.mem memory.now) address bytes ToRead ≡ true) × (value ≡ made signed bytes (number_at (M.mem memory.now) address bytes))) }
+        (λ value. (may (M.mem memory.now) address bytes ToRead ≡ true)
+        × (value ≡ made signed bytes (number_at (M.mem memory.now) address bytes))) }
 {
     match bytes {
         1 => read_bytes(memory, address, 1, signed),
@@ -106,7 +110,9 @@ fn read<M: Memory>(memory: &M, address: u64, bytes: u64, signed: bool) -> Option
 fn write<M: Memory>(memory: &mut M, address: u64, bytes: u64, value: u64) -> bool
     requires { IsWidth bytes }
     ensures right { result ≡ may (M.mem memory.old) address bytes ToWrite }
-    ensures put { MatchBool result (M.mem memory.new ≡ with_number (M.mem memory.old) address bytes value) (M.mem memory.new ≡ M.mem memory.old) }
+    ensures put { MatchBool result
+        (M.mem memory.new ≡ with_number (M.mem memory.old) address bytes value)
+        (M.mem memory.new ≡ M.mem memory.old) }
 {
     match bytes {
         1 => memory.try_store(address, 1, value),
@@ -277,7 +283,9 @@ pub fn update_double<M: Memory>(
 /// The address after the instruction set in a register, and the hart at a target.
 #[inline(always)]
 pub fn jump(hart: &mut Hart, rd: Reg, target: u64, bytes: u64)
-    ensures { (input console : List ℕ) → jumps bytes (hart_of hart.old input console) rd target ≡ Goes (hart_of hart.new input console) }
+    ensures { (input console : List ℕ) →
+        jumps bytes (hart_of hart.old input console) rd target
+        ≡ Goes (hart_of hart.new input console) }
 {
     let link = hart.pc.wrapping_add(bytes);
     hart.registers.set(rd, link);

@@ -142,7 +142,9 @@ impl Operation {
 /// What an instruction of this length in bytes asks.
 #[inline(always)]
 pub fn asked(inst: Inst, bytes: u64, hart: &Hart) -> Action
-    ensures meaning { (input console : List ℕ) → effect_of result bytes (hart_of hart.now input console) ≡ effect inst bytes (hart_of hart.now input console) }
+    ensures meaning { (input console : List ℕ) →
+        effect_of result bytes (hart_of hart.now input console)
+        ≡ effect inst bytes (hart_of hart.now input console) }
     ensures width { HasWidth result }
 {
     let r = &hart.registers;
@@ -301,7 +303,13 @@ fn branch(pc: u64, bytes: u64, offset: i32, taken: bool) -> Action
 
 #[inline]
 fn loading(registers: &Registers, x: IType, bytes: u64, signed: bool) -> Load
-    ensures { result ≡ record { address = (value_of registers.now x.rs1 + wrapped x.immediate) % 2 ^ 64; bytes = bytes; rd = x.rd; signed = signed } }
+    ensures { result
+        ≡ record {
+          address = (value_of registers.now x.rs1 + wrapped x.immediate) % 2 ^ 64;
+          bytes = bytes;
+          rd = x.rd;
+          signed = signed;
+        } }
 {
     Load {
         address: address(registers, x.rs1, x.immediate),
@@ -313,7 +321,12 @@ fn loading(registers: &Registers, x: IType, bytes: u64, signed: bool) -> Load
 
 #[inline]
 fn storing(registers: &Registers, x: SType, bytes: u64) -> Store
-    ensures { result ≡ record { address = (value_of registers.now x.rs1 + wrapped x.immediate) % 2 ^ 64; bytes = bytes; value = value_of registers.now x.rs2 } }
+    ensures { result
+        ≡ record {
+          address = (value_of registers.now x.rs1 + wrapped x.immediate) % 2 ^ 64;
+          bytes = bytes;
+          value = value_of registers.now x.rs2;
+        } }
 {
     Store {
         address: address(registers, x.rs1, x.immediate),
@@ -324,7 +337,13 @@ fn storing(registers: &Registers, x: SType, bytes: u64) -> Store
 
 #[inline]
 fn reserving(registers: &Registers, x: Reserve, bytes: u64, signed: bool) -> ReservingLoad
-    ensures { result ≡ record { address = value_of registers.now x.rs1; bytes = bytes; rd = x.rd; signed = signed } }
+    ensures { result
+        ≡ record {
+          address = value_of registers.now x.rs1;
+          bytes = bytes;
+          rd = x.rd;
+          signed = signed;
+        } }
 {
     ReservingLoad {
         address: registers.get(x.rs1),
@@ -336,7 +355,14 @@ fn reserving(registers: &Registers, x: Reserve, bytes: u64, signed: bool) -> Res
 
 #[inline]
 fn storing_if_reserved(hart: &Hart, x: Atomic, bytes: u64) -> ConditionalStore
-    ensures { let address = value_of hart.now.registers x.rs1 in result ≡ record { address = address; bytes = bytes; value = value_of hart.now.registers x.rs2; rd = x.rd; reserved = is_reserved (reservation_of hart.now.reservation) address bytes } }
+    ensures { let address = value_of hart.now.registers x.rs1 in result
+        ≡ record {
+          address = address;
+          bytes = bytes;
+          value = value_of hart.now.registers x.rs2;
+          rd = x.rd;
+          reserved = is_reserved (reservation_of hart.now.reservation) address bytes;
+        } }
 {
     let address = hart.registers.get(x.rs1);
     let reserved = hart.is_reserved(address, bytes);
@@ -351,7 +377,13 @@ fn storing_if_reserved(hart: &Hart, x: Atomic, bytes: u64) -> ConditionalStore
 
 #[inline]
 fn updating(registers: &Registers, x: Atomic, operation: Operation) -> Update
-    ensures { result ≡ record { address = value_of registers.now x.rs1; value = value_of registers.now x.rs2; rd = x.rd; operation = operation } }
+    ensures { result
+        ≡ record {
+          address = value_of registers.now x.rs1;
+          value = value_of registers.now x.rs2;
+          rd = x.rd;
+          operation = operation;
+        } }
 {
     Update {
         address: registers.get(x.rs1),

@@ -46,7 +46,9 @@ fn argument(state: &State, number: u32) -> u64
 
 /// Answers in a0, with the hart at the next instruction.
 fn answer(hart: &mut Hart, value: u64, bytes: u64)
-    ensures { (input console : List ℕ) → hart_of hart.new input console ≡ answer_of (advanced (hart_of hart.old input console) bytes) value }
+    ensures { (input console : List ℕ) →
+        hart_of hart.new input console
+        ≡ answer_of (advanced (hart_of hart.old input console) bytes) value }
 {
     access::set(hart, Reg::from_low_bits(A0), value, bytes);
 }
@@ -54,7 +56,8 @@ fn answer(hart: &mut Hart, value: u64, bytes: u64)
 /// Reads input into memory.
 #[inline(never)]
 fn read<M: Memory>(state: &mut State, memory: &mut M, bytes: u64)
-    ensures { reads (advanced (state_of state.old) bytes) (M.mem memory.old) ≡ On (state_of state.new) (M.mem memory.new) }
+    ensures { reads (advanced (state_of state.old) bytes) (M.mem memory.old)
+        ≡ On (state_of state.new) (M.mem memory.new) }
 {
     if argument(state, A0) != 0 {
         answer(&mut state.hart, BAD_FILE, bytes);
@@ -77,7 +80,8 @@ fn read<M: Memory>(state: &mut State, memory: &mut M, bytes: u64)
 #[inline(never)]
 fn write<M: Memory>(state: &mut State, memory: &M, bytes: u64) -> Result<(), AllocError>
     ensures { MatchResult result
-        (λ _. writes (advanced (state_of state.old) bytes) (M.mem memory.now) ≡ On (state_of state.new) (M.mem memory.now))
+        (λ _. writes (advanced (state_of state.old) bytes) (M.mem memory.now)
+        ≡ On (state_of state.new) (M.mem memory.now))
         (λ _. state_of state.new ≡ state_of state.old) }
 {
     let file = argument(state, A0);
@@ -104,7 +108,8 @@ pub fn call<M: Memory>(
 ) -> Result<Option<End>, AllocError>
     ensures { let before = state_of state.old in
         MatchResult result
-        (λ e. Comes e (apply (effect_of is.Call bytes before) (M.mem memory.old)) before (M.mem memory.old) (state_of state.new) (M.mem memory.new))
+        (λ e. Comes e (apply (effect_of is.Call bytes before) (M.mem memory.old)) before
+        (M.mem memory.old) (state_of state.new) (M.mem memory.new))
         (λ _. (state_of state.new ≡ before) × (M.mem memory.new ≡ M.mem memory.old)) }
 {
     match argument(state, A7) {

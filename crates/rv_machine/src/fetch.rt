@@ -28,7 +28,8 @@ pub enum Fetched {
 
 #[inline(always)]
 fn by_word(bits: u32) -> Fetched
-    ensures { (reader : Reader Spells StandsFor) → fetched_of result ≡ laws.spelled 4 (reader.word bits) }
+    ensures { (reader : Reader Spells StandsFor) →
+        fetched_of result ≡ laws.spelled 4 (reader.word bits) }
 {
     match decode(bits) {
         Some(inst) => Fetched::Got(inst, 4),
@@ -38,7 +39,8 @@ fn by_word(bits: u32) -> Fetched
 
 #[inline(always)]
 fn by_parcel(bits: u16) -> Fetched
-    ensures { (reader : Reader Spells StandsFor) → fetched_of result ≡ laws.spelled 2 (reader.parcel bits) }
+    ensures { (reader : Reader Spells StandsFor) →
+        fetched_of result ≡ laws.spelled 2 (reader.parcel bits) }
 {
     match expand(bits) {
         Some(inst) => Fetched::Got(inst, 2),
@@ -83,7 +85,8 @@ fn bits_at<M: Memory>(memory: &M, pc: u64) -> Option<u32>
 /// What stands at an address: low bits 11 begin a word, others a parcel.
 #[inline(always)]
 pub fn fetch<M: Memory>(memory: &M, pc: u64) -> Fetched
-    ensures { (reader : Reader Spells StandsFor) → fetched_of result ≡ laws.fetch reader (M.mem memory.now) pc }
+    ensures { (reader : Reader Spells StandsFor) →
+        fetched_of result ≡ laws.fetch reader (M.mem memory.now) pc }
 {
     match bits_at(memory, pc) {
         Some(bits) => {

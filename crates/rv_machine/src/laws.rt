@@ -10,5 +10,6 @@ ghost use Rattle.rv_isa_laws.specs.Run.{run};
 
 /// A run is the same by whatever reading, so long as it answers exactly what is spelled.
 pub fn runs_agree()
-    ensures { (r s : Reader Spells StandsFor) (n : ℕ) (h : Hart) (m : Mem) → run r n h m ≡ run s n h m }
+    ensures { (r s : Reader Spells StandsFor) (n : ℕ) (h : Hart) (m : Mem) →
+        run r n h m ≡ run s n h m }
 {}

@@ -42,7 +42,8 @@ fn act<M: Memory>(
     requires { HasWidth action }
     ensures { let before = state_of state.old in
         MatchResult result
-        (λ e. Comes e (apply (effect_of action bytes before) (M.mem memory.old)) before (M.mem memory.old) (state_of state.new) (M.mem memory.new))
+        (λ e. Comes e (apply (effect_of action bytes before) (M.mem memory.old)) before
+        (M.mem memory.old) (state_of state.new) (M.mem memory.new))
         (λ _. (state_of state.new ≡ before) × (M.mem memory.new ≡ M.mem memory.old)) }
 {
     let hart = &mut state.hart;
@@ -76,7 +77,8 @@ fn advance<M: Memory>(state: &mut State, memory: &mut M) -> Result<Option<End>, 
     ensures { (reader : Reader Spells StandsFor) →
         let before = state_of state.old in
         MatchResult result
-        (λ e. Comes e (step_of reader before (M.mem memory.old)) before (M.mem memory.old) (state_of state.new) (M.mem memory.new))
+        (λ e. Comes e (step_of reader before (M.mem memory.old)) before (M.mem memory.old)
+        (state_of state.new) (M.mem memory.new))
         (λ _. (state_of state.new ≡ before) × (M.mem memory.new ≡ M.mem memory.old)) }
 {
     let pc = state.hart.pc;
@@ -122,8 +124,10 @@ impl<M: Memory + Drop> Machine<M> {
     pub fn step(&mut self) -> Result<Option<End>, AllocError>
         ensures kept { IfOk result (λ ended. self.old.end ≡ None → self.new.end ≡ ended) }
         ensures reader { (reader : Reader Spells StandsFor) →
-            Steps result self.old.end self.new.end (step_of reader (state_of self.old.state) (M.mem self.old.memory))
-            (state_of self.old.state) (M.mem self.old.memory) (state_of self.new.state) (M.mem self.new.memory) }
+            Steps result self.old.end self.new.end
+            (step_of reader (state_of self.old.state) (M.mem self.old.memory))
+            (state_of self.old.state) (M.mem self.old.memory) (state_of self.new.state)
+            (M.mem self.new.memory) }
     {
         if let Some(end) = self.end {
             return Ok(Some(end));
@@ -142,7 +146,9 @@ impl<M: Memory + Drop> Machine<M> {
     pub(crate) fn run_to(&mut self, limit: u64) -> Result<End, AllocError>
         requires { self.old.end ≡ None }
         ensures { (reader : Reader Spells StandsFor) →
-            IfOk result (λ e. outcome_at self.new.state e ≡ run_of reader limit (state_of self.old.state) (M.mem self.old.memory)) }
+            IfOk result
+            (λ e. outcome_at self.new.state e
+            ≡ run_of reader limit (state_of self.old.state) (M.mem self.old.memory)) }
     {
         for done in 0..limit {
             if let Some(end) = self.step()? {

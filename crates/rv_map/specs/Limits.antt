@@ -17,7 +17,9 @@ abbrev pub IsGlobal : Global → Type 0
 IsGlobal g = IsTrue (is_name g.name) × IsNumber g.address
 
 abbrev pub IsRow : Row → Type 0
-IsRow r = IsNumber r.file × IsNumber r.line × IsNumber r.ordinal × IsNumber r.address × IsNumber r.bytes × IsNumber r.instructions
+IsRow r =
+    IsNumber r.file × IsNumber r.line × IsNumber r.ordinal × IsNumber r.address × IsNumber r.bytes
+    × IsNumber r.instructions
 
 -- numbers below 2 ^ 64, names of one byte or more, each 21h to 7Eh; no order is asked for
 pub record IsMap (m : Map) : Type 0 where

@@ -16,7 +16,8 @@ is_digit base byte = nat_lt (digit_value byte) base && byte == digit_glyph false
 
 -- a byte or more, and no zero before others
 abbrev pub begins_numeral : List ℕ → Bool
-begins_numeral bytes = nat_lt 0 (length bytes) && not (nat_lt 1 (length bytes) && slice_index bytes 0 == 48)
+begins_numeral bytes =
+    nat_lt 0 (length bytes) && not (nat_lt 1 (length bytes) && slice_index bytes 0 == 48)
 
 -- digits of the base, one or more, without leading zeros
 abbrev pub is_numeral : ℕ → List ℕ → Bool
@@ -24,4 +25,6 @@ is_numeral base bytes = begins_numeral bytes && list_all (is_digit base) bytes
 
 -- the number below 2 ^ 64 that is written so
 unfoldable pub number_of : ℕ → List ℕ → Option ℕ
-number_of base bytes = if is_numeral base bytes && nat_lt (digits_value base bytes) (2 ^ 64) then Some (digits_value base bytes) else None
+number_of base bytes =
+    if is_numeral base bytes && nat_lt (digits_value base bytes) (2 ^ 64)
+    then Some (digits_value base bytes) else None

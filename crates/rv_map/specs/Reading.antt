@@ -21,11 +21,16 @@ Gives view (Some x) read = read ≡ Some (view x)
 
 -- what stands before the first such byte, and what after it
 unfoldable pub cut_at : ℕ → List ℕ → Option (List ℕ × List ℕ)
-cut_at end bytes = if nat_lt (position_or_len (λ byte. byte == end) bytes) (length bytes) then Some (before_first (λ byte. byte == end) bytes, after_first (λ byte. byte == end) bytes) else None
+cut_at end bytes =
+    if nat_lt (position_or_len (λ byte. byte == end) bytes) (length bytes)
+    then Some
+    (before_first (λ byte. byte == end) bytes, after_first (λ byte. byte == end) bytes)
+    else None
 
 -- what stands after this front
 unfoldable pub behind : List ℕ → List ℕ → Option (List ℕ)
-behind front bytes = if bytes_eq (take (length front) bytes) front then Some (drop (length front) bytes) else None
+behind front bytes =
+    if bytes_eq (take (length front) bytes) front then Some (drop (length front) bytes) else None
 
 unfoldable pub number_at : ℕ → ℕ → List ℕ → Option (ℕ × List ℕ)
 number_at base end bytes = do

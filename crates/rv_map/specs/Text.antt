@@ -26,7 +26,9 @@ abbrev pub global_line : Global → List (List ℕ)
 global_line g = codes "global" ∷ g.name ∷ hexadecimal g.address ∷ []
 
 abbrev pub row_line : Row → List (List ℕ)
-row_line r = codes "row" ∷ decimal r.file ∷ decimal r.line ∷ decimal r.ordinal ∷ hexadecimal r.address ∷ decimal r.bytes ∷ decimal r.instructions ∷ []
+row_line r =
+    codes "row" ∷ decimal r.file ∷ decimal r.line ∷ decimal r.ordinal ∷ hexadecimal r.address ∷
+    decimal r.bytes ∷ decimal r.instructions ∷ []
 
 -- the lines of the regions
 abbrev pub region_lines : Map → List (List (List ℕ))
@@ -38,11 +40,14 @@ region_lines m = region_line (codes "text") m.text
 
 -- the lines that every map has
 unfoldable pub head_lines : Map → List (List (List ℕ))
-head_lines m = (codes "rvmap" ∷ codes "1" ∷ []) ∷ region_lines m ++ (codes "entry" ∷ hexadecimal m.entry ∷ []) ∷ []
+head_lines m =
+    (codes "rvmap" ∷ codes "1" ∷ []) ∷ region_lines m
+    ++ (codes "entry" ∷ hexadecimal m.entry ∷ []) ∷ []
 
 -- the lines of a map, kind after kind
 abbrev pub map_lines : Map → List (List (List ℕ))
-map_lines m = head_lines m ++ map gap_line m.gaps ++ map global_line m.globals ++ map row_line m.rows
+map_lines m =
+    head_lines m ++ map gap_line m.gaps ++ map global_line m.globals ++ map row_line m.rows
 
 abbrev pub map_text : Map → List ℕ
 map_text m = flat_map line_text (map_lines m)

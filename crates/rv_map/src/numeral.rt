@@ -14,7 +14,8 @@ use memchr::memchr;
 pub(crate) fn number_before(base: u64, end: u8, bytes: &[u8]) -> Option<(u64, &[u8])>
     requires { IsBase base }
     ensures exact { Gives (λ found. (found.0, found.1.now)) result (number_at base end bytes.now) }
-    ensures found { IfSome result (λ found. bytes.now ≡ digits base false found.0 ++ end ∷ found.1.now) }
+    ensures found { IfSome result
+        (λ found. bytes.now ≡ digits base false found.0 ++ end ∷ found.1.now) }
     ensures fits { IfSome result (λ found. IsNumber found.0) }
 {
     let (field, rest) = cut(end, bytes)?;
@@ -62,7 +63,8 @@ fn begins_numeral(field: &[u8]) -> bool
 /// The value of a digit.
 fn digit_of(base: u64, byte: u8) -> Option<u64>
     requires { IsBase base }
-    ensures { MatchOption result (is_digit base byte ≡ false) (λ digit. (is_digit base byte ≡ true) × (digit ≡ digit_value byte)) }
+    ensures { MatchOption result (is_digit base byte ≡ false)
+        (λ digit. (is_digit base byte ≡ true) × (digit ≡ digit_value byte)) }
 {
     let digit = match byte {
         b'0'..=b'9' => byte - b'0',

@@ -21,7 +21,8 @@ pub fn read(alloc: Allocator, bytes: &[u8]) -> Result<Option<Map>, AllocError>
     // What is read has this text.
     ensures found { IfOk result (λ read. IfSome read (λ map. bytes.now ≡ map_text (map_of map))) }
     // The text of a map is read, and as that map.
-    ensures only { (m : PlainMap) → IsMap m → bytes.now ≡ map_text m → IfOk result (λ read. option_map map_of read ≡ Some m) }
+    ensures only { (m : PlainMap) → IsMap m → bytes.now ≡ map_text m →
+        IfOk result (λ read. option_map map_of read ≡ Some m) }
 {
     let Some((mut map, rest)) = head_of(alloc, bytes) else {
         return Ok(None);
@@ -42,7 +43,8 @@ pub fn read(alloc: Allocator, bytes: &[u8]) -> Result<Option<Map>, AllocError>
 #[tactic(auto, unfolding(crate::specs::Reading::head_at))]
 fn head_of(alloc: Allocator, bytes: &[u8]) -> Option<(Map, &[u8])>
     ensures exact { Gives (λ found. (map_of found.0, found.1.now)) result (head_at bytes.now) }
-    ensures found { IfSome result (λ found. bytes.now ≡ flat_map line_text (head_lines (map_of found.0)) ++ found.1.now) }
+    ensures found { IfSome result
+        (λ found. bytes.now ≡ flat_map line_text (head_lines (map_of found.0)) ++ found.1.now) }
 {
     let rest = behind(b"rvmap 1\n", bytes)?;
     let (text, rest) = region_of(b"text ", rest)?;
@@ -66,7 +68,8 @@ fn head_of(alloc: Allocator, bytes: &[u8]) -> Option<(Map, &[u8])>
 
 /// The gaps whose lines stand at the front, up to the first other line.
 fn gaps_of(alloc: Allocator, bytes: &[u8]) -> Result<(Vec<Region>, &[u8]), AllocError>
-    ensures found { IfOk result (λ found. bytes.now ≡ flat_map line_text (map gap_line found.0.items) ++ found.1.now) }
+    ensures found { IfOk result
+        (λ found. bytes.now ≡ flat_map line_text (map gap_line found.0.items) ++ found.1.now) }
     ensures all { IfOk result (λ found. region_at (codes "gap ") found.1.now ≡ None) }
     ensures fit { IfOk result (λ found. AllByRecursion IsRegion found.0.items) }
 {
@@ -81,7 +84,9 @@ fn gaps_of(alloc: Allocator, bytes: &[u8]) -> Result<(Vec<Region>, &[u8]), Alloc
 
 /// The globals whose lines stand at the front, up to the first other line.
 fn globals_of(alloc: Allocator, bytes: &[u8]) -> Result<(Vec<Global>, &[u8]), AllocError>
-    ensures found { IfOk result (λ found. bytes.now ≡ flat_map line_text (map global_line (map global_of found.0.items)) ++ found.1.now) }
+    ensures found { IfOk result
+        (λ found. bytes.now ≡ flat_map line_text (map global_line (map global_of found.0.items))
+        ++ found.1.now) }
     ensures all { IfOk result (λ found. global_at found.1.now ≡ None) }
     ensures fit { IfOk result (λ found. AllByRecursion IsGlobal (map global_of found.0.items)) }
 {
@@ -97,7 +102,8 @@ fn globals_of(alloc: Allocator, bytes: &[u8]) -> Result<(Vec<Global>, &[u8]), Al
 
 /// The rows whose lines stand at the front, up to the first other line.
 fn rows_of(alloc: Allocator, bytes: &[u8]) -> Result<(Vec<Row>, &[u8]), AllocError>
-    ensures found { IfOk result (λ found. bytes.now ≡ flat_map line_text (map row_line found.0.items) ++ found.1.now) }
+    ensures found { IfOk result
+        (λ found. bytes.now ≡ flat_map line_text (map row_line found.0.items) ++ found.1.now) }
     ensures all { IfOk result (λ found. row_at found.1.now ≡ None) }
     ensures fit { IfOk result (λ found. AllByRecursion IsRow found.0.items) }
 {
@@ -114,7 +120,9 @@ fn rows_of(alloc: Allocator, bytes: &[u8]) -> Result<(Vec<Row>, &[u8]), AllocErr
 #[tactic(auto, unfolding(crate::specs::Reading::region_at))]
 fn region_of<'a>(front: &[u8], bytes: &'a [u8]) -> Option<(Region, &'a [u8])>
     ensures exact { Gives (λ found. (found.0, found.1.now)) result (region_at front.now bytes.now) }
-    ensures found { IfSome result (λ found. bytes.now ≡ front.now ++ (line_text (hexadecimal found.0.start ∷ hexadecimal found.0.end ∷ []) ++ found.1.now)) }
+    ensures found { IfSome result
+        (λ found. bytes.now ≡ front.now
+        ++ (line_text (hexadecimal found.0.start ∷ hexadecimal found.0.end ∷ []) ++ found.1.now)) }
     ensures fits { IfSome result (λ found. IsRegion found.0) }
 {
     let rest = behind(front, bytes)?;
@@ -126,8 +134,13 @@ fn region_of<'a>(front: &[u8], bytes: &'a [u8]) -> Option<(Region, &'a [u8])>
 /// The name and the address of the global whose line stands at the front.
 #[tactic(auto, unfolding(crate::specs::Reading::global_at))]
 fn global_of(bytes: &[u8]) -> Option<(&[u8], u64, &[u8])>
-    ensures exact { Gives (λ found. (record { name = found.0.now; address = found.1 }, found.2.now)) result (global_at bytes.now) }
-    ensures found { IfSome result (λ found. bytes.now ≡ line_text (global_line (record { name = found.0.now; address = found.1 })) ++ found.2.now) }
+    ensures exact { Gives
+        (λ found. (record { name = found.0.now; address = found.1 }, found.2.now)) result
+        (global_at bytes.now) }
+    ensures found { IfSome result
+        (λ found. bytes.now
+        ≡ line_text (global_line (record { name = found.0.now; address = found.1 }))
+        ++ found.2.now) }
     ensures named { IfSome result (λ found. IsTrue (is_name found.0.now)) }
     ensures fits { IfSome result (λ found. IsNumber found.1) }
 {
@@ -145,7 +158,8 @@ fn global_of(bytes: &[u8]) -> Option<(&[u8], u64, &[u8])>
 #[tactic(auto, unfolding(crate::specs::Reading::row_at))]
 fn row_of(bytes: &[u8]) -> Option<(Row, &[u8])>
     ensures exact { Gives (λ found. (found.0, found.1.now)) result (row_at bytes.now) }
-    ensures found { IfSome result (λ found. bytes.now ≡ line_text (row_line found.0) ++ found.1.now) }
+    ensures found { IfSome result
+        (λ found. bytes.now ≡ line_text (row_line found.0) ++ found.1.now) }
     ensures fits { IfSome result (λ found. IsRow found.0) }
 {
     let rest = behind(b"row ", bytes)?;

@@ -28,7 +28,8 @@ pub fn write(alloc: Allocator, map: &Map) -> Result<Vec<u8>, AllocError>
 
 #[tactic(auto, unfolding(crate::specs::Text::line_text, crate::specs::Text::head_lines))]
 fn put_head(text: &mut Vec<u8>, map: &Map) -> Result<(), AllocError>
-    ensures { OnOk result (text.new.items ≡ text.old.items ++ flat_map line_text (head_lines (map_of map.now))) }
+    ensures { OnOk result
+        (text.new.items ≡ text.old.items ++ flat_map line_text (head_lines (map_of map.now))) }
 {
     text.extend_from_slice(b"rvmap 1\n")?;
     put_regions(text, map)?;
@@ -37,7 +38,8 @@ fn put_head(text: &mut Vec<u8>, map: &Map) -> Result<(), AllocError>
 }
 
 fn put_regions(text: &mut Vec<u8>, map: &Map) -> Result<(), AllocError>
-    ensures { OnOk result (text.new.items ≡ text.old.items ++ flat_map line_text (region_lines (map_of map.now))) }
+    ensures { OnOk result
+        (text.new.items ≡ text.old.items ++ flat_map line_text (region_lines (map_of map.now))) }
 {
     put_region(text, b"text", map.text)?;
     put_region(text, b"rodata", map.rodata)?;
@@ -48,7 +50,8 @@ fn put_regions(text: &mut Vec<u8>, map: &Map) -> Result<(), AllocError>
 
 #[tactic(auto, unfolding(crate::specs::Text::line_text))]
 fn put_entry(text: &mut Vec<u8>, entry: u64) -> Result<(), AllocError>
-    ensures { OnOk result (text.new.items ≡ text.old.items ++ line_text (codes "entry" ∷ hexadecimal entry ∷ [])) }
+    ensures { OnOk result
+        (text.new.items ≡ text.old.items ++ line_text (codes "entry" ∷ hexadecimal entry ∷ [])) }
 {
     text.extend_from_slice(b"entry ")?;
     put_hexadecimal(text, entry, b'\n')?;
@@ -56,7 +59,8 @@ fn put_entry(text: &mut Vec<u8>, entry: u64) -> Result<(), AllocError>
 }
 
 fn put_gaps(text: &mut Vec<u8>, gaps: &[Region]) -> Result<(), AllocError>
-    ensures { OnOk result (text.new.items ≡ text.old.items ++ flat_map line_text (map gap_line gaps.now)) }
+    ensures { OnOk result
+        (text.new.items ≡ text.old.items ++ flat_map line_text (map gap_line gaps.now)) }
 {
     for gap in gaps {
         put_region(text, b"gap", *gap)?;
@@ -65,7 +69,9 @@ fn put_gaps(text: &mut Vec<u8>, gaps: &[Region]) -> Result<(), AllocError>
 }
 
 fn put_globals(text: &mut Vec<u8>, globals: &[Global]) -> Result<(), AllocError>
-    ensures { OnOk result (text.new.items ≡ text.old.items ++ flat_map line_text (map global_line (map global_of globals.now))) }
+    ensures { OnOk result
+        (text.new.items ≡ text.old.items
+        ++ flat_map line_text (map global_line (map global_of globals.now))) }
 {
     for global in globals {
         put_global(text, global)?;
@@ -74,7 +80,8 @@ fn put_globals(text: &mut Vec<u8>, globals: &[Global]) -> Result<(), AllocError>
 }
 
 fn put_rows(text: &mut Vec<u8>, rows: &[Row]) -> Result<(), AllocError>
-    ensures { OnOk result (text.new.items ≡ text.old.items ++ flat_map line_text (map row_line rows.now)) }
+    ensures { OnOk result
+        (text.new.items ≡ text.old.items ++ flat_map line_text (map row_line rows.now)) }
 {
     for row in rows {
         put_row(text, *row)?;
@@ -84,7 +91,8 @@ fn put_rows(text: &mut Vec<u8>, rows: &[Row]) -> Result<(), AllocError>
 
 #[tactic(auto, unfolding(crate::specs::Text::line_text))]
 fn put_region(text: &mut Vec<u8>, name: &[u8], region: Region) -> Result<(), AllocError>
-    ensures { OnOk result (text.new.items ≡ text.old.items ++ line_text (region_line name.now region)) }
+    ensures { OnOk result
+        (text.new.items ≡ text.old.items ++ line_text (region_line name.now region)) }
 {
     text.extend_from_slice(name)?;
     text.push(b' ')?;
@@ -95,7 +103,8 @@ fn put_region(text: &mut Vec<u8>, name: &[u8], region: Region) -> Result<(), All
 
 #[tactic(auto, unfolding(crate::specs::Text::line_text))]
 fn put_global(text: &mut Vec<u8>, global: &Global) -> Result<(), AllocError>
-    ensures { OnOk result (text.new.items ≡ text.old.items ++ line_text (global_line (global_of global.now))) }
+    ensures { OnOk result
+        (text.new.items ≡ text.old.items ++ line_text (global_line (global_of global.now))) }
 {
     text.extend_from_slice(b"global ")?;
     text.extend_from_slice(&global.name)?;

@@ -26,7 +26,8 @@ meaning_of meanings.UndefinedLocal = values.Refused undefined_local
 abbrev pub part_of : Part → values.Value
 part_of (parts.Constant number) = values.Constant number
 part_of (parts.Symbolic symbol at plus) = values.Symbolic (symbol_of symbol) (meaning_of at) plus
-part_of (parts.Difference symbol minus plus) = values.Difference (symbol_of symbol) (symbol_of minus) plus
+part_of (parts.Difference symbol minus plus) =
+    values.Difference (symbol_of symbol) (symbol_of minus) plus
 part_of (parts.Faulty code) = values.Faulty (number_of code)
 
 -- the values on a stack, the last one first
@@ -35,13 +36,17 @@ tops items = reverse (map part_of items)
 
 -- the function gives these meanings
 abbrev pub Means : (Symbol → Meaning → Type 0) → (expression.Primary → values.Meaning) → Type 0
-Means gives m = (symbol : Symbol) (meaning : Meaning) → gives symbol meaning → meaning_of meaning ≡ m (symbol_of symbol)
+Means gives m =
+    (symbol : Symbol) (meaning : Meaning) → gives symbol meaning →
+    meaning_of meaning ≡ m (symbol_of symbol)
 
 -- what a symbol means where it is part of a value is not told
 abbrev pub value_told : Value → values.Value → Type 0
 value_told (results.Constant number) v = v ≡ values.Constant number
-value_told (results.Symbolic symbol plus) v = (at : values.Meaning) × (v ≡ values.Symbolic (symbol_of symbol) at plus)
-value_told (results.Difference symbol minus plus) v = v ≡ values.Difference (symbol_of symbol) (symbol_of minus) plus
+value_told (results.Symbolic symbol plus) v =
+    (at : values.Meaning) × (v ≡ values.Symbolic (symbol_of symbol) at plus)
+value_told (results.Difference symbol minus plus) v =
+    v ≡ values.Difference (symbol_of symbol) (symbol_of minus) plus
 
 -- an expression's value, or the fault at the line
 abbrev pub IsOutcome : Result Value SourceFault → ℕ → values.Value → Type 0

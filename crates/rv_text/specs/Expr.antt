@@ -69,16 +69,20 @@ abbrev pub after_operand : expression.Primary → reading.Stage
 after_operand p = reading.Has [] (expression.Primary_node p ∷ [])
 
 abbrev pub after_negative : ℕ → reading.Stage
-after_negative number = reading.Has (Prefix Negate ∷ []) (expression.Primary_node (expression.Literal number) ∷ [])
+after_negative number =
+    reading.Has (Prefix Negate ∷ []) (expression.Primary_node (expression.Literal number) ∷ [])
 
 abbrev pub after_pair : Pair → reading.Stage
 after_pair pair =
     reading.Has (Infix pair.operator ∷ [])
-    (expression.Primary_node (symbol_of pair.symbol) ∷ expression.Primary_node (expression.Literal pair.number) ∷ [])
+    (expression.Primary_node (symbol_of pair.symbol) ∷
+    expression.Primary_node (expression.Literal pair.number) ∷ [])
 
 -- some tokens lead to this stage with these tokens left
 abbrev pub Reached : (List ℕ → Bool) → reading.Stage → List Token → Type 0
-Reached is_register stage ts = (all : List Token) × (reading.expression_at is_register all ≡ reading.read_from is_register stage ts)
+Reached is_register stage ts =
+    (all : List Token)
+    × (reading.expression_at is_register all ≡ reading.read_from is_register stage ts)
 
 -- a primary alone
 abbrev pub alone : expression.Primary → List expression.Node
@@ -91,13 +95,17 @@ expr_of (exprs.Name name) = alone (expression.Symbol name.now)
 expr_of exprs.Here = alone expression.Here
 expr_of (exprs.Backward digits) = alone (expression.Reference digits.now false)
 expr_of (exprs.Forward digits) = alone (expression.Reference digits.now true)
-expr_of (exprs.Negative number) = expression.Primary_node (expression.Literal number) ∷ expression.Unary_node Negate ∷ []
+expr_of (exprs.Negative number) =
+    expression.Primary_node (expression.Literal number) ∷ expression.Unary_node Negate ∷ []
 expr_of (exprs.Pair pair) =
-    expression.Primary_node (symbol_of pair.value.symbol) ∷ expression.Primary_node (expression.Literal pair.value.number) ∷ expression.Binary_node pair.value.operator ∷ []
+    expression.Primary_node (symbol_of pair.value.symbol) ∷
+    expression.Primary_node (expression.Literal pair.value.number) ∷
+    expression.Binary_node pair.value.operator ∷ []
 expr_of (exprs.Compound compound) = nodes_of compound.value.nodes
 
 -- what is read from a stage on, with the tokens that are left
-abbrev pub ReadOn : (List ℕ → Bool) → reading.Stage → Cursor → Cursor → Result Expr ReadError → Type 0
+abbrev pub ReadOn : (List ℕ → Bool) → reading.Stage → Cursor → Cursor → Result Expr ReadError →
+    Type 0
 ReadOn is_register stage old new result =
     Answers (λ e. (expr_of e, left new)) result (reading.read_from is_register stage (left old))
 
@@ -107,10 +115,12 @@ tree_of_expr e = expression.tree_of (expr_of e)
 
 -- the fault of a reading: the code and the line of its wrong token
 abbrev pub NamesFault : {Y : Type 0} → SourceFault → Result Y syntax.SyntaxError → Type 0
-NamesFault (faults.At code line) read = (w : syntax.SyntaxError) × (read ≡ Err w) × (w.code ≡ number_of code) × (w.line ≡ line)
+NamesFault (faults.At code line) read =
+    (w : syntax.SyntaxError) × (read ≡ Err w) × (w.code ≡ number_of code) × (w.line ≡ line)
 NamesFault faults.OutOfMemory read = Unit {0}
 
 -- a fault stands only where the tokens begin with no expression
 abbrev pub NoReading : SourceFault → (List ℕ → Bool) → List Token → Type 0
-NoReading (faults.At code line) is_register ts = (tree : expression.Tree) (rest : List Token) → expression.ReadsTree is_register ts tree rest → ⊥
+NoReading (faults.At code line) is_register ts =
+    (tree : expression.Tree) (rest : List Token) → expression.ReadsTree is_register ts tree rest → ⊥
 NoReading faults.OutOfMemory is_register ts = Unit {0}

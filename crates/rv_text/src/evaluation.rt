@@ -157,7 +157,9 @@ fn refused<'a>(operator: BinaryOperator, left: Part<'a>, right: Part<'a>) -> Par
 
 /// The difference of two symbols: in one section a constant.
 fn apart<'a>(left: (Symbol<'a>, Meaning), right: (Symbol<'a>, Meaning), plus: u64) -> Part<'a>
-    ensures { part_of result ≡ values.apart (meaning_of left.entry.1) (meaning_of right.entry.1) (symbol_of left.entry.0) (symbol_of right.entry.0) plus }
+    ensures { part_of result
+        ≡ values.apart (meaning_of left.entry.1) (meaning_of right.entry.1)
+        (symbol_of left.entry.0) (symbol_of right.entry.0) plus }
 {
     match (left, right) {
         ((_, Meaning::InSection(section, a)), (_, Meaning::InSection(other, b)))
@@ -205,7 +207,8 @@ fn difference<'a>(left: Part<'a>, right: Part<'a>) -> Part<'a>
 
 /// An operator that takes constants alone.
 fn constants<'a>(operator: BinaryOperator, left: Part<'a>, right: Part<'a>) -> Part<'a>
-    ensures { part_of result ≡ values.constants operator (part_of left.entry) (part_of right.entry) }
+    ensures { part_of result
+        ≡ values.constants operator (part_of left.entry) (part_of right.entry) }
 {
     match (left, right) {
         (Part::Constant(a), Part::Constant(b)) => arithmetic(operator, a, b),
@@ -279,8 +282,10 @@ fn step<'a, F: Fn(Symbol<'a>) -> Meaning>(
     requires callable { F.IsAlwaysCallable names.now }
     requires fits { values.node_fits (node_of node) (length stack.old.items) ≡ true }
     requires room { length stack.old.items ≤ values.most_values }
-    ensures values { (m : Primary → values.Meaning) → Means (F.post names.now) m → tops stack.new.items ≡ values.after_node m (node_of node.entry) (tops stack.old.items) }
-    ensures count { length stack.new.items ≡ values.count_after (node_of node.entry) (length stack.old.items) }
+    ensures values { (m : Primary → values.Meaning) → Means (F.post names.now) m →
+        tops stack.new.items ≡ values.after_node m (node_of node.entry) (tops stack.old.items) }
+    ensures count { length stack.new.items
+        ≡ values.count_after (node_of node.entry) (length stack.old.items) }
     ensures room { length stack.new.items ≤ values.most_values }
 {
     match node {
@@ -301,7 +306,8 @@ fn step<'a, F: Fn(Symbol<'a>) -> Meaning>(
 /// The value of a symbol that stands alone.
 fn lone<'a, F: Fn(Symbol<'a>) -> Meaning>(symbol: Symbol<'a>, names: &F) -> Part<'a>
     requires { F.IsAlwaysCallable names.now }
-    ensures { (m : Primary → values.Meaning) → Means (F.post names.now) m → part_of result ≡ values.primary_value m (symbol_of symbol.entry) }
+    ensures { (m : Primary → values.Meaning) → Means (F.post names.now) m →
+        part_of result ≡ values.primary_value m (symbol_of symbol.entry) }
 {
     meant(symbol, names(symbol))
 }
@@ -310,7 +316,8 @@ fn lone<'a, F: Fn(Symbol<'a>) -> Meaning>(symbol: Symbol<'a>, names: &F) -> Part
 fn evaluate<'a, F: Fn(Symbol<'a>) -> Meaning>(nodes: &Nodes<'a>, names: &F) -> Part<'a>
     requires callable { F.IsAlwaysCallable names.now }
     requires fits { values.nodes_fit (nodes_of nodes.now) 0 ≡ true }
-    ensures { (m : Primary → values.Meaning) → Means (F.post names.now) m → part_of result ≡ values.value_of m (tree_of (nodes_of nodes.now)) }
+    ensures { (m : Primary → values.Meaning) → Means (F.post names.now) m →
+        part_of result ≡ values.value_of m (tree_of (nodes_of nodes.now)) }
 {
     let mut stack: ArrayVec<Part<'a>, MOST_VALUES> = ArrayVec::new();
     step(&mut stack, nodes.first, names);
@@ -345,7 +352,9 @@ fn step_few<'a, F: Fn(Symbol<'a>) -> Meaning>(
     names: &F,
 ) -> Option<()>
     requires { F.IsAlwaysCallable names.now }
-    ensures { IfSome result (λ _. (m : Primary → values.Meaning) → Means (F.post names.now) m → tops stack.new.items ≡ values.after_node m (node_of node.entry) (tops stack.old.items)) }
+    ensures { IfSome result
+        (λ _. (m : Primary → values.Meaning) → Means (F.post names.now) m →
+        tops stack.new.items ≡ values.after_node m (node_of node.entry) (tops stack.old.items)) }
 {
     match node {
         Node::Number(number) => push_few(stack, Part::Constant(number)),
@@ -366,7 +375,9 @@ fn step_few<'a, F: Fn(Symbol<'a>) -> Meaning>(
 fn value_of_few<'a, F: Fn(Symbol<'a>) -> Meaning>(nodes: &Nodes<'a>, names: &F) -> Option<Part<'a>>
     requires callable { F.IsAlwaysCallable names.now }
     requires fits { values.nodes_fit (nodes_of nodes.now) 0 ≡ true }
-    ensures { IfSome result (λ part. (m : Primary → values.Meaning) → Means (F.post names.now) m → part_of part ≡ values.value_of m (tree_of (nodes_of nodes.now))) }
+    ensures { IfSome result
+        (λ part. (m : Primary → values.Meaning) → Means (F.post names.now) m →
+        part_of part ≡ values.value_of m (tree_of (nodes_of nodes.now))) }
 {
     let mut stack: ArrayVec<Part<'a>, FEW_VALUES> = ArrayVec::new();
     step_few(&mut stack, nodes.first, names)?;
@@ -379,7 +390,10 @@ fn value_of_few<'a, F: Fn(Symbol<'a>) -> Meaning>(nodes: &Nodes<'a>, names: &F) 
 /// The value of a symbol and a number under their operator.
 fn pair_value<'a, F: Fn(Symbol<'a>) -> Meaning>(pair: &Pair<'a>, names: &F) -> Part<'a>
     requires { F.IsAlwaysCallable names.now }
-    ensures { (m : Primary → values.Meaning) → Means (F.post names.now) m → part_of result ≡ values.both pair.now.operator (values.primary_value m (symbol_of pair.now.symbol)) (values.Constant pair.now.number) }
+    ensures { (m : Primary → values.Meaning) → Means (F.post names.now) m →
+        part_of result
+        ≡ values.both pair.now.operator (values.primary_value m (symbol_of pair.now.symbol))
+        (values.Constant pair.now.number) }
 {
     both(
         pair.operator,
@@ -392,7 +406,8 @@ fn pair_value<'a, F: Fn(Symbol<'a>) -> Meaning>(pair: &Pair<'a>, names: &F) -> P
 fn compound_value<'a, F: Fn(Symbol<'a>) -> Meaning>(nodes: &Nodes<'a>, names: &F) -> Part<'a>
     requires callable { F.IsAlwaysCallable names.now }
     requires fits { values.nodes_fit (nodes_of nodes.now) 0 ≡ true }
-    ensures { (m : Primary → values.Meaning) → Means (F.post names.now) m → part_of result ≡ values.value_of m (tree_of (nodes_of nodes.now)) }
+    ensures { (m : Primary → values.Meaning) → Means (F.post names.now) m →
+        part_of result ≡ values.value_of m (tree_of (nodes_of nodes.now)) }
 {
     match value_of_few(nodes, names) {
         Some(part) => part,
@@ -407,7 +422,8 @@ pub fn eval<'a, F: Fn(Symbol<'a>) -> Meaning>(
     names: &F,
 ) -> Result<Value<'a>, SourceFault>
     requires { F.IsAlwaysCallable names.now }
-    ensures { (m : Primary → values.Meaning) → Means (F.post names.now) m → IsOutcome result line (values.value_of m (tree_of_expr expr.now)) }
+    ensures { (m : Primary → values.Meaning) → Means (F.post names.now) m →
+        IsOutcome result line (values.value_of m (tree_of_expr expr.now)) }
 {
     match expr {
         Expr::Number(number) => Ok(Value::Constant(*number)),

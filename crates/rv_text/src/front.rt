@@ -125,8 +125,11 @@ fn after_operator<'a, R: Registers>(
     symbol: Symbol<'a>,
     operator: BinaryOperator,
 ) -> Result<Expr<'a>, ReadError>
-    requires { Reached R.registers (Wants (Infix operator ∷ []) (Primary_node (symbol_of symbol) ∷ [])) (left cursor.old) }
-    ensures { ReadOn R.registers (Wants (Infix operator ∷ []) (Primary_node (symbol_of symbol.entry) ∷ [])) cursor.old cursor.new result }
+    requires { Reached R.registers
+        (Wants (Infix operator ∷ []) (Primary_node (symbol_of symbol) ∷ [])) (left cursor.old) }
+    ensures { ReadOn R.registers
+        (Wants (Infix operator ∷ [])
+        (Primary_node (symbol_of symbol.entry) ∷ [])) cursor.old cursor.new result }
 {
     if let TokenKind::Number(_, number) = cursor.next.kind {
         cursor.advance();
@@ -151,7 +154,8 @@ pub(crate) fn after_symbol<'a, R: Registers>(
     symbol: Symbol<'a>,
 ) -> Result<Expr<'a>, ReadError>
     requires { Reached R.registers (after_operand (symbol_of symbol)) (left cursor.old) }
-    ensures { ReadOn R.registers (after_operand (symbol_of symbol.entry)) cursor.old cursor.new result }
+    ensures { ReadOn R.registers
+        (after_operand (symbol_of symbol.entry)) cursor.old cursor.new result }
 {
     if ends(cursor.next.kind) {
         return Ok(Expr::of_symbol(symbol));

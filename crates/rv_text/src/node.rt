@@ -72,7 +72,8 @@ impl<'a> Nodes<'a> {
     /// One more node.
     #[tactic(auto, using(crate::proofs::Exprs::nodes_push))]
     pub(crate) fn push(&mut self, node: Node<'a>) -> Result<(), AllocError>
-        ensures { IfOk result (λ _. nodes_of self.new ≡ nodes_of self.old ++ node_of node.entry ∷ []) }
+        ensures { IfOk result
+            (λ _. nodes_of self.new ≡ nodes_of self.old ++ node_of node.entry ∷ []) }
     {
         self.rest.push(node)?;
         Ok(())
@@ -80,7 +81,8 @@ impl<'a> Nodes<'a> {
 
     /// The operator that waited for an operand has it.
     pub(crate) fn settle(&mut self, frame: Frame) -> Result<(), AllocError>
-        ensures { IfOk result (λ _. nodes_of self.new ≡ nodes_of self.old ++ reading.node_of frame) }
+        ensures { IfOk result
+            (λ _. nodes_of self.new ≡ nodes_of self.old ++ reading.node_of frame) }
     {
         match frame {
             Frame::Parenthesis => Ok(()),

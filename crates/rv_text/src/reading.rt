@@ -231,7 +231,9 @@ fn depth(frames: &[Frame]) -> usize
 /// The operators that take the operand after them before one of this level does.
 #[tactic(auto, using(crate::proofs::Exprs::stack_push, crate::proofs::Exprs::stack_none))]
 fn settle<'a>(frames: &mut Vec<Frame>, nodes: &mut Nodes<'a>, level: u8) -> Result<(), AllocError>
-    ensures { IfOk result (λ _. reading.settle level (stack_of frames.old.items) (nodes_of nodes.old) ≡ (stack_of frames.new.items, nodes_of nodes.new)) }
+    ensures { IfOk result
+        (λ _. reading.settle level (stack_of frames.old.items) (nodes_of nodes.old)
+        ≡ (stack_of frames.new.items, nodes_of nodes.new)) }
 {
     while let Some(frame) = frames.pop() {
         if !binds(level, frame) {
@@ -250,7 +252,8 @@ fn deeper<'a>(
     frame: Frame,
     nodes: Option<Nodes<'a>>,
 ) -> Result<Step<'a>, Stop>
-    ensures { Steps frames.new.items result (reading.deeper frame (stack_of frames.old.items) (some_nodes nodes.entry)) }
+    ensures { Steps frames.new.items result
+        (reading.deeper frame (stack_of frames.old.items) (some_nodes nodes.entry)) }
 {
     if depth(frames) < DEEPEST {
         frames.push(frame)?;
@@ -287,7 +290,9 @@ fn wants<'a, R: Registers>(
     nodes: Option<Nodes<'a>>,
     kind: TokenKind<'a>,
 ) -> Result<Step<'a>, Stop>
-    ensures { Steps frames.new.items result (reading.step_wants (stack_of frames.old.items) (some_nodes nodes.entry) (begins R.registers (kind_of kind.entry))) }
+    ensures { Steps frames.new.items result
+        (reading.step_wants (stack_of frames.old.items) (some_nodes nodes.entry)
+        (begins R.registers (kind_of kind.entry))) }
 {
     match begins::<R>(kind) {
         Begin::Number(number) => {
@@ -307,7 +312,8 @@ fn wants<'a, R: Registers>(
 /// A `)`, where all that binds has its operand.
 #[tactic(auto, using(crate::proofs::Exprs::stack_push, crate::proofs::Exprs::stack_none))]
 fn close<'a>(frames: &mut Vec<Frame>, nodes: Nodes<'a>) -> Result<Step<'a>, Stop>
-    ensures { Steps frames.new.items result (reading.close (stack_of frames.old.items) (nodes_of nodes.entry)) }
+    ensures { Steps frames.new.items result
+        (reading.close (stack_of frames.old.items) (nodes_of nodes.entry)) }
 {
     match frames.pop() {
         Some(_) => Ok(Step::Goes(Stage::Has(nodes))),
@@ -318,7 +324,8 @@ fn close<'a>(frames: &mut Vec<Frame>, nodes: Nodes<'a>) -> Result<Step<'a>, Stop
 /// A token that no expression goes on with, where all that binds has its operand; `code` is its fault in a parenthesis.
 #[tactic(auto, using(crate::proofs::Exprs::end_none, crate::proofs::Exprs::end_open))]
 fn end<'a>(frames: &[Frame], nodes: Nodes<'a>, code: SourceCode) -> Result<Step<'a>, Stop>
-    ensures { Steps frames.now result (reading.end (number_of code) (stack_of frames.now) (nodes_of nodes.entry)) }
+    ensures { Steps frames.now result
+        (reading.end (number_of code) (stack_of frames.now) (nodes_of nodes.entry)) }
 {
     if frames.is_empty() {
         Ok(Step::Ends(nodes))
@@ -334,7 +341,9 @@ fn operator<'a>(
     nodes: Nodes<'a>,
     operator: BinaryOperator,
 ) -> Result<Step<'a>, Stop>
-    ensures { let s = reading.settle (level_of operator) (stack_of frames.old.items) (nodes_of nodes.entry) in Steps frames.new.items result (reading.Goes (reading.Wants (Infix operator ∷ s.0) s.1)) }
+    ensures { let s = reading.settle (level_of operator) (stack_of frames.old.items)
+        (nodes_of nodes.entry) in
+        Steps frames.new.items result (reading.Goes (reading.Wants (Infix operator ∷ s.0) s.1)) }
 {
     let mut nodes = nodes;
     settle(frames, &mut nodes, level_of(operator))?;
@@ -344,7 +353,9 @@ fn operator<'a>(
 
 /// A token after an operand.
 fn has<'a>(frames: &mut Vec<Frame>, nodes: Nodes<'a>, kind: TokenKind<'a>) -> Result<Step<'a>, Stop>
-    ensures { Steps frames.new.items result (reading.step_has (kind_of kind.entry) (stack_of frames.old.items) (nodes_of nodes.entry) (follows (kind_of kind.entry))) }
+    ensures { Steps frames.new.items result
+        (reading.step_has (kind_of kind.entry) (stack_of frames.old.items) (nodes_of nodes.entry)
+        (follows (kind_of kind.entry))) }
 {
     let mut nodes = nodes;
     match follows(kind) {
@@ -368,7 +379,8 @@ fn taken<'a, R: Registers>(
     stage: Stage<'a>,
     kind: TokenKind<'a>,
 ) -> Result<Step<'a>, Stop>
-    ensures { Steps frames.new.items result (reading.step R.registers (stage_of frames.old.items stage.entry) (kind_of kind.entry)) }
+    ensures { Steps frames.new.items result
+        (reading.step R.registers (stage_of frames.old.items stage.entry) (kind_of kind.entry)) }
 {
     match stage {
         Stage::Wants(nodes) => wants::<R>(alloc, frames, nodes, kind),
@@ -408,7 +420,8 @@ pub fn expression<'a, R: Registers>(
     alloc: Global,
     cursor: &mut Cursor<'a>,
 ) -> Result<Expr<'a>, ReadError>
-    ensures { Answers (λ e. (expr_of e, left cursor.new)) result (reading.expression_at R.registers (left cursor.old)) }
+    ensures { Answers (λ e. (expr_of e, left cursor.new)) result
+        (reading.expression_at R.registers (left cursor.old)) }
 {
     match begins::<R>(cursor.next.kind) {
         Begin::Number(number) => {
@@ -433,9 +446,16 @@ pub fn parse_expr<'a, R: Registers>(
     alloc: Global,
     lexer: &mut Lexer<'a>,
 ) -> Result<Expr<'a>, SourceFault>
-    ensures reads { IfOk result (λ e. (tree : Tree) × ReadsTree R.registers (tokens_left lexer.old) tree (tokens_left lexer.new) × (expr_of e ≡ postfix tree)) }
-    ensures only { IfOk result (λ e. (tree : Tree) (rest : List Token) → ReadsTree R.registers (tokens_left lexer.old) tree rest → (expr_of e ≡ postfix tree) × (tokens_left lexer.new ≡ rest)) }
-    ensures refuses { IfErr result (λ e. NamesFault e (reading.expression_at R.registers (tokens_left lexer.old))) }
+    ensures reads { IfOk result
+        (λ e. (tree : Tree)
+        × ReadsTree R.registers (tokens_left lexer.old) tree (tokens_left lexer.new)
+        × (expr_of e ≡ postfix tree)) }
+    ensures only { IfOk result
+        (λ e. (tree : Tree) (rest : List Token) →
+        ReadsTree R.registers (tokens_left lexer.old) tree rest → (expr_of e ≡ postfix tree)
+        × (tokens_left lexer.new ≡ rest)) }
+    ensures refuses { IfErr result
+        (λ e. NamesFault e (reading.expression_at R.registers (tokens_left lexer.old))) }
     ensures unread { IfErr result (λ e. NoReading e R.registers (tokens_left lexer.old)) }
     ensures stays { IfErr result (λ _. tokens_left lexer.new ≡ tokens_left lexer.old) }
 {
