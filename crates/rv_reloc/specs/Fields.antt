@@ -1,7 +1,7 @@
 -- What each kind of relocation makes of its field (RISC-V ELF psABI, "Relocations", the column "Field"; ISA, 2.3 and
 -- chapter 16 for the immediates). A field is a number: that of its bytes, the lowest first.
 
-use Rattle.std.specs.Prelude.{ℕ, ◌+◌, ◌-◌, ◌*◌, ◌/◌, ◌%◌, ◌^◌, ℤ, pos, ◌+ℤ◌, ◌-ℤ◌, List, [], ◌∷◌, unsigned_abs}
+use Rattle.std.specs.Prelude.{◌≡◌, ◌⊎◌, ℕ, ◌+◌, ◌-◌, ◌*◌, ◌/◌, ◌%◌, ◌^◌, ℤ, pos, ◌+ℤ◌, ◌-ℤ◌, List, [], ◌∷◌, unsigned_abs}
 use Rattle.std.specs.Int.{int_rem_euclid}
 use Rattle.rv_isa.specs.declared.kind.Kind.{Kind}
 use Rattle.rv_isa.specs.declared.kind.Kind.TheVariants as kind
@@ -107,6 +107,10 @@ written kind.Set8 v field = modulo 8 v
 written kind.Set16 v field = modulo 16 v
 written kind.Set32 v field = modulo 32 v
 written kind.Pcrel32 v field = modulo 32 v
+
+-- the widths of fields
+abbrev pub IsWidth : ℕ → Type 0
+IsWidth n = (n ≡ 0) ⊎ (n ≡ 1) ⊎ (n ≡ 2) ⊎ (n ≡ 4) ⊎ (n ≡ 8)
 
 -- the bytes of the field after a value is written to them
 abbrev pub patched : Kind → (value : ℤ) (bytes : List ℕ) → List ℕ

@@ -1,7 +1,7 @@
 -- Which values the field of each kind of relocation can hold (RISC-V ELF psABI, "Relocations"; ISA, 2.3 and chapter 16
 -- for the immediates).
 
-use Rattle.std.specs.Prelude.{◌≡◌, ℕ, ◌-◌, ◌^◌, ◌%◌, ℤ, pos, negsuc, ◌≤ℤ◌, unsigned_abs, Bool, true, false}
+use Rattle.std.specs.Prelude.{◌≡◌, ◌-◌, ◌^◌, ◌%◌, ℤ, pos, negsuc, ◌≤ℤ◌, unsigned_abs, Bool, true, false}
 use Rattle.rv_isa.specs.declared.kind.Kind.{Kind}
 use Rattle.rv_isa.specs.declared.kind.Kind.TheVariants as kind
 use Rattle.rv_isa_laws.specs.Halves.{hi}
