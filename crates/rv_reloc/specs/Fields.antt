@@ -1,7 +1,7 @@
 -- What each kind of relocation makes of its field (RISC-V ELF psABI, "Relocations", the column "Field"; ISA, 2.3 and
 -- chapter 16 for the immediates). A field is a number: that of its bytes, the lowest first.
 
-use Rattle.std.specs.Prelude.{◌≡◌, ◌⊎◌, ℕ, ◌+◌, ◌-◌, ◌*◌, ◌/◌, ◌%◌, ◌^◌, ℤ, pos, ◌+ℤ◌, ◌-ℤ◌, List, [], ◌∷◌, unsigned_abs}
+use Rattle.std.specs.Prelude.{◌≡◌, ◌⊎◌, ℕ, ◌+◌, ◌-◌, ◌*◌, ◌/◌, ◌%◌, ◌^◌, ◌<◌, ℤ, pos, ◌+ℤ◌, ◌-ℤ◌, List, [], ◌∷◌, unsigned_abs}
 use Rattle.std.specs.Int.{int_rem_euclid}
 use Rattle.rv_isa.specs.declared.kind.Kind.{Kind}
 use Rattle.rv_isa.specs.declared.kind.Kind.TheVariants as kind
@@ -64,6 +64,21 @@ abbrev pub immediate_at : List Piece → (field : ℕ) → ℕ
 immediate_at [] field = 0
 immediate_at (bits low count place ∷ pieces) field =
     field / 2 ^ place % 2 ^ count * 2 ^ low + immediate_at pieces field
+
+-- the field's other bits: zeros stand at the pieces
+abbrev pub rest_of : List Piece → (field : ℕ) → ℕ
+rest_of pieces field = with_immediate pieces 0 field
+
+-- of two fields: the second has this immediate, and every other bit of the first
+pub record IsSetTo (pieces : List Piece) (number old new : ℕ) : Type 0 where
+  pub immediate : immediate_at pieces new ≡ number
+  pub rest : rest_of pieces new ≡ rest_of pieces old
+
+-- the law of a format whose immediate has `count` bits, of which the lowest are zeros up to a multiple of `unit`
+abbrev pub IsHeld : List Piece → (count unit : ℕ) → Type 0
+IsHeld pieces count unit =
+    (number field : ℕ) → number < 2 ^ count → number % unit ≡ 0
+    → IsSetTo pieces number field (with_immediate pieces number field)
 
 -- a word of four bytes and the word after it
 abbrev pub pair : (first second : ℕ) → ℕ

@@ -41,10 +41,11 @@ pub(crate) fn with_b(word: u64, offset: u64) -> u64
     requires offset { offset < 2 ^ 13 }
     ensures { result ≡ with_immediate b_type offset word }
 {
+    let registers = word >> 12 & 0x1fff;
     word & 0x7f
         | (offset >> 11 & 1) << 7
         | (offset >> 1 & 0xf) << 8
-        | (word >> 12 & 0x1fff) << 12
+        | registers << 12
         | (offset >> 5 & 0x3f) << 25
         | offset >> 12 << 31
 }
