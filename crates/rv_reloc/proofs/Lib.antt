@@ -1,0 +1,3 @@
+mod Halves
+mod Immediates
+mod Wrapping
