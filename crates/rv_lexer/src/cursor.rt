@@ -58,7 +58,8 @@ impl<'a> Cursor<'a> {
         }
     }
 
-    /// Takes the next token, which is not the last.
+    /// Takes the next token, which is not the last. It stands alone, so that the token is made in its place.
+    #[inline(never)]
     #[tactic(auto, unfolding(crate::specs::Cursor::left))]
     pub fn advance(&mut self)
         requires { is_last (kind_of self.old.next.kind) ≡ false }

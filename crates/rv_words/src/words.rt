@@ -406,11 +406,14 @@ fn instruction_named(word: &[u8]) -> Option<Mnemonic>
     }
 }
 
-/// The mnemonic that the word is.
-#[tactic(auto, unfolding(rv_parse_laws::specs::Words::mnemonic_named))]
+/// The mnemonic that the word is; none begins as directives do.
+#[tactic(auto, unfolding(rv_parse_laws::specs::Words::mnemonic_named, rv_parse_laws::specs::Words::instruction_words, rv_parse_laws::specs::Words::atomic_operations))]
 fn mnemonic_named(word: &[u8]) -> Option<Mnemonic>
     ensures { result ≡ mnemonic_named word.now }
 {
+    if let [b'.', ..] = word {
+        return None;
+    }
     match instruction_named(word) {
         Some(mnemonic) => Some(mnemonic),
         None => atomic_named(word),
