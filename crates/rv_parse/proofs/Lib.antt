@@ -8,3 +8,4 @@ pub mod Opened
 pub mod Statements
 pub mod Refusals
 pub mod Lines
+pub mod PastLine

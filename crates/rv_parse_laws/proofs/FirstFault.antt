@@ -1,7 +1,6 @@
 -- The first fault of a source: there is at most one, and a source that is read has none.
 
 use Rattle.std.proofs.Common.{◌≡◌, ℕ, suc, ◌+◌, ◌<◌, ◌≤◌, false, List, [], ◌∷◌, ◌++◌, append_assoc, length, take, Some, Result, Err, refl, sym, ◌∙◌, ap, subst, arith, ◌⊎◌, inl, inr}
-use Rattle.std.proofs.lemmas.Option.{same_Some}
 use Rattle.rv_text_laws.specs.Cut.{Piece, texts, NothingReads, cut}
 use Rattle.rv_text_laws.specs.Lexing.{Token, Lexes, newlines}
 use Rattle.rv_text_laws.proofs.Cut.{unique, nothing_none}
@@ -12,7 +11,8 @@ use Rattle.rv_parse_laws.specs.Opening.{is_opened, IsWrongOpening}
 use Rattle.rv_parse_laws.specs.Parsing.{part_at, opening_at, checked_at}
 use Rattle.rv_text_laws.specs.Codes.{limit}
 use Rattle.rv_text_laws.specs.SyntaxError.{SyntaxError, wrong, offset_of}
-use Rattle.rv_parse_laws.specs.Reading.{AreParts, Reads, said, past_line, longest_source, most_statements, CanGoOn, OpensWell, AllOpenWell, WrongToken, WrongOpening, PastStatements, Stands, Fault, Refuses}
+use Rattle.rv_parse_laws.specs.Reading.{AreParts, Reads, said, IsPastLine, longest_source, most_statements, OpensWell, AllOpenWell}
+use Rattle.rv_parse_laws.specs.Refusals.{CanGoOn, WrongToken, WrongOpening, PastStatements, Stands, Fault, Refuses}
 use Rattle.rv_parse_laws.proofs.Failing.{shown_whole, heads, tails}
 use Rattle.rv_parse_laws.proofs.Parts.{part_wrong, stops_there}
 use Rattle.rv_parse_laws.proofs.Openings.{OpeningThere, opening_found, front_opens, checked_err, checked_wrong, opening_goes, opening_behind, said_none, opens_on}
@@ -390,14 +390,10 @@ all_good bytes ts ps lexes parts opens few p c fault = go fault
       | inr more ↦ omega (arith, few, more)
     ]
 
--- the place of a line that is too long is one
-one_place : (bytes : List ℕ) (p q : ℕ) → past_line 0 0 bytes ≡ Some p → past_line 0 0 bytes ≡ Some q → p ≡ q
-one_place bytes p q e f = same_Some p q (sym e ∙ f)
-
 -- a line that is too long comes first
-pub line_refused : (bytes : List ℕ) (place line : ℕ) → length bytes ≤ longest_source → past_line 0 0 bytes ≡ Some place
-    → ((p c : ℕ) → InTokens bytes p c → place < p) → line ≡ 1 + newlines (take place bytes) → Refuses bytes (record { code = limit; line = line })
-line_refused bytes place line short past before is = inr (
+pub line_refused : (bytes : List ℕ) (place line : ℕ) → length bytes ≤ longest_source → IsPastLine bytes place
+    → ((q : ℕ) → IsPastLine bytes q → place ≤ q) → ((p c : ℕ) → InTokens bytes p c → place < p) → line ≡ 1 + newlines (take place bytes) → Refuses bytes (record { code = limit; line = line })
+line_refused bytes place line short past least before is = inr (
   short,
   record {
     place = place;
@@ -407,10 +403,13 @@ line_refused bytes place line short past before is = inr (
   },
 )
   where
+    within : (p c : ℕ) → place ≤ p → limit ≤ c → (place < p) ⊎ ((place ≡ p) × (limit ≤ c))
+    within p c le code = grind arith
+
     first : (p c : ℕ) → Stands bytes p c → (place < p) ⊎ ((place ≡ p) × (limit ≤ c))
     first p c (inl x) = inl (before p c (inl (inl x)))
     first p c (inr (inl x)) = inl (before p c (inl (inr x)))
-    first p c (inr (inr (inl (code, at)))) = inr (one_place bytes place p past at, subst (λ n. limit ≤ n) (sym code) (omega arith))
+    first p c (inr (inr (inl (code, at)))) = within p c (least p at) (subst (λ n. limit ≤ n) (sym code) (omega arith))
     first p c (inr (inr (inr x))) = inl (before p c (inr x))
 
 pub before_tokens : (bytes : List ℕ) (w : SyntaxError) (place p c : ℕ) → FirstInTokens bytes w → place < w.offset → InTokens bytes p c → place < p
@@ -421,7 +420,7 @@ before_tokens bytes w place p c first before fault = elim (first.first p c fault
 
 -- a token's fault comes first
 pub token_refused : (bytes : List ℕ) (w : SyntaxError) → length bytes ≤ longest_source → FirstInTokens bytes w → w.code ≤ limit
-    → ((place : ℕ) → past_line 0 0 bytes ≡ Some place → w.offset ≤ place) → Refuses bytes (record { code = w.code; line = w.line })
+    → ((place : ℕ) → IsPastLine bytes place → w.offset ≤ place) → Refuses bytes (record { code = w.code; line = w.line })
 token_refused bytes w short tokens low lines = inr (
   short,
   record {
@@ -476,5 +475,5 @@ not_both bytes ss f (short, lines, few, ts, ps, lexes, cut, opens, is) (inr (sho
     go : Stands bytes x.place f.code → ⊥
     go (inl y) = good x.place f.code (inl (inl y))
     go (inr (inl y)) = good x.place f.code (inl (inr y))
-    go (inr (inr (inl (code, at)))) = cc
+    go (inr (inr (inl (code, at)))) = lines x.place at
     go (inr (inr (inr y))) = good x.place f.code (inr y)

@@ -4,3 +4,4 @@ pub mod Faults
 pub mod Opening
 pub mod Parsing
 pub mod Reading
+pub mod Refusals
