@@ -96,7 +96,7 @@ in_long (b ∷ bs) byte more place before is inside long fits =
 behind_lines : (front line : List ℕ) (byte : ℕ) (more : List ℕ) (place before : ℕ) → list_all in_line line ≡ true → in_line byte ≡ true → length line ≡ longest_line → before ≤ longest_line
     → Finds (past_line place before (front ++ (line ++ byte ∷ more))) (place + length front + longest_line)
 behind_lines [] line byte more place before is inside long fits =
-    let f = in_long line byte more place before is in (omega (arith, long)) fits in
+    let f = in_long line byte more place before is inside (omega (arith, long)) fits in
     (f.0, f.1, omega (arith, f.2, long))
 behind_lines (b ∷ bs) line byte more place before is inside long fits = go (b == 10) refl
   where

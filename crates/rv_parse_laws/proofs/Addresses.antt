@@ -21,7 +21,7 @@ use Rattle.rv_parse_laws.proofs.Values.{Closes, closes, value_is}
 use Rattle.rv_parse_laws.proofs.Arguments.{value_in_is, value_in_some, ValueFound, value_found, ValueWrong, value_wrong}
 use Rattle.rv_parse_laws.specs.declared.role.Role.{Role}
 
-opening_is : (s : Slot) (k : Kind) (os : List Operand) → single (An_opening s) k ≡ Some os → (is_opening k ≡ true) × (os ≡ [])
+pub opening_is : (s : Slot) (k : Kind) (os : List Operand) → single (An_opening s) k ≡ Some os → (is_opening k ≡ true) × (os ≡ [])
 opening_is s (Punctuation Open) os h = (refl, cc)
 opening_is s (Punctuation _) os h = absurd (cc)
 opening_is s _ os h = absurd (cc)
@@ -31,7 +31,7 @@ closing_is (Punctuation Close) os h = (refl, cc)
 closing_is (Punctuation _) os h = absurd (cc)
 closing_is _ os h = absurd (cc)
 
-register_is : (k : Kind) (os : List Operand) → single A_register k ≡ Some os → (number : ℕ) × (register_of k ≡ Some number) × (os ≡ Register number ∷ [])
+pub register_is : (k : Kind) (os : List Operand) → single A_register k ≡ Some os → (number : ℕ) × (register_of k ≡ Some number) × (os ≡ Register number ∷ [])
 register_is k os h = go (register_of k) refl h
   where
     go : (o : Option ℕ) → register_of k ≡ o → option_map (λ r. Register r ∷ []) o ≡ Some os → (number : ℕ) × (register_of k ≡ Some number) × (os ≡ Register number ∷ [])

@@ -23,7 +23,7 @@ use Rattle.rv_parse_laws.proofs.Failing.{Failing, Shown, at_once, shown_behind, 
 use Rattle.rv_parse_laws.proofs.Singles.{some_token, a_symbol, a_symbol_is, single_found, single_fault, single_passed, opening_no_last}
 use Rattle.rv_parse_laws.proofs.Values.{Closes, value_is, value_before, value_some, is_allowed, allowed_ok, allowed_err, Ended, value_ended, a_name, name_goes, and_false, sum_goes, Unread, value_unread, no_percent}
 
-opening_single : (k : Kind) (os : List Operand) → single (An_opening A_register) k ≡ Some os → (is_opening k ≡ true) × (os ≡ [])
+pub opening_single : (k : Kind) (os : List Operand) → single (An_opening A_register) k ≡ Some os → (is_opening k ≡ true) × (os ≡ [])
 opening_single (Punctuation Open) os h = (refl, cc)
 opening_single (Punctuation _) os h = absurd (cc)
 opening_single _ os h = absurd (cc)
@@ -219,11 +219,11 @@ function_may : (role : Role) (k : Kind) (f : Function) → function_in role k �
 function_may role (NameToken name) f h = standing_may role (named_in function_words name) f h
 function_may role _ f h = absurd (cc)
 
-function_no_last : (role : Role) (k : Kind) (f : Function) → function_in role k ≡ Some f → is_last k ≡ false
+pub function_no_last : (role : Role) (k : Kind) (f : Function) → function_in role k ≡ Some f → is_last k ≡ false
 function_no_last role (NameToken name) f h = refl
 function_no_last role _ f h = absurd (cc)
 
-percent_no_last : (k : Kind) → is_percent k ≡ true → is_last k ≡ false
+pub percent_no_last : (k : Kind) → is_percent k ≡ true → is_last k ≡ false
 percent_no_last (Punctuation Percent) h = refl
 percent_no_last (Punctuation _) h = absurd (cc)
 percent_no_last _ h = absurd (cc)

@@ -15,5 +15,6 @@ pub mod Whole
 pub mod Progress
 pub mod Cutting
 pub mod Places
+pub mod Wrongs
 pub mod FirstFault
 pub mod Worked

@@ -4,4 +4,5 @@ pub mod Faults
 pub mod Opening
 pub mod Parsing
 pub mod Reading
+pub mod Wrong
 pub mod Refusals

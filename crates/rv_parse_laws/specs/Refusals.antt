@@ -8,7 +8,7 @@ use Rattle.rv_text_laws.specs.SyntaxError.{wrong, offset_of}
 use Rattle.rv_statement.specs.Statement.{Label, Numbered}
 use Rattle.rv_parse_laws.specs.Syntax.{Part, Says, IsPart, StopsPart, is_end, colon_next}
 use Rattle.rv_parse_laws.specs.Opening.{IsWrongOpening}
-use Rattle.rv_parse_laws.specs.Parsing.{part_at}
+use Rattle.rv_parse_laws.specs.Wrong.{IsWrongStatement}
 use Rattle.rv_parse_laws.specs.Reading.{longest_source, most_statements, IsPastLine, said, AreParts, OpensWell, AllOpenWell}
 
 -- a part with these first tokens can still stand at the front of the rest: a colon after the rest's first token makes it a
@@ -46,7 +46,7 @@ pub record WrongToken (bytes : List ℕ) (place code : ℕ) : Type 0 where
   pub shown : Token
   pub back : List Token
   pub shown_is : before ++ at ∷ [] ≡ front ++ shown ∷ back
-  pub fault_is : part_at rest ≡ Err (wrong shown code)
+  pub fault_is : IsWrongStatement rest shown code
   pub place_is : place ≡ offset_of shown code
 
 -- a token with which the opening of a section is wrong, behind good parts

@@ -1,0 +1,181 @@
+-- The token that is wrong at the front of tokens, and its code, by the slots that a statement awaits: tokens before it fill
+-- the slots before, this slot is next, and the token cannot stand there. The code is by slot and token. What is spelled
+-- right and refused is wrong at its first token.
+
+use Rattle.std.specs.Prelude.{◌≡◌, ℕ, zero, suc, ◌<◌, ◌≤◌, Bool, true, false, ◌&&◌, List, [], ◌∷◌, ◌++◌, length, Some, None, ◌⊎◌}
+use Rattle.std.specs.List.{list_all}
+use Rattle.rv_text_laws.specs.Lexing.{Token}
+use Rattle.rv_text_laws.specs.Codes.{bad_operands, unsupported_here, limit}
+use Rattle.rv_text_laws.specs.SyntaxError.{longest_name}
+use Rattle.rv_text_laws.specs.Joined.{IsJoined, ReadsJoined, first_name}
+use Rattle.rv_text_laws.specs.Expression.{EndsBefore}
+use Rattle.rv_text_laws.specs.ExpressionAt.{FailsAt}
+use Rattle.rv_statement.specs.Statement.{Expression, Operand, Applied}
+use Rattle.rv_statement.specs.declared.pseudo.Function.{Function}
+use Rattle.rv_statement.specs.declared.pseudo.Function.TheVariants.{PcrelLo}
+use Rattle.rv_parse_laws.specs.declared.role.Role.{Role}
+use Rattle.rv_parse_laws.specs.declared.beginning.Beginning.{Beginning}
+use Rattle.rv_parse_laws.specs.declared.beginning.Beginning.TheVariants as beginnings
+use Rattle.rv_parse_laws.specs.Syntax.{is_register, register_of, label_of, begins, is_comma, is_percent, is_end, is_opening, is_any, is_section_name, is_refused, function_in, label_named, is_refused_by, IsValue, IsArgument, IsValueIn, IsOperand, Slot, A_register, A_value, An_address, A_section, A_comma, A_closing, An_opening, single, front_begins, Slots, Stops, Takes, Chooses, Lists, Anything, slots, places, colon_next}
+use Rattle.rv_parse_laws.specs.Parsing.{base_next, behind_value}
+use Rattle.rv_parse_laws.specs.Faults.{may_call, is_name, wrong_or, wrong_symbol, wrong_first, wrong_after, wrong_any, wrong_start, wrong_label}
+
+-- the token at the front cannot stand in this slot
+abbrev pub IsWrongFirst : Slot → List Token → Token → ℕ → Type 0
+IsWrongFirst s ts t code = (us : List Token) × (ts ≡ t ∷ us) × (single s t.kind ≡ None) × (code ≡ wrong_first s t.kind)
+
+-- after an expression's first tokens none goes on with this one
+abbrev pub IsWrongInside : List Token → Token → ℕ → Type 0
+IsWrongInside ts t code = (front more : List Token) × (ts ≡ front ++ t ∷ more) × FailsAt is_register front t code
+
+-- a whole expression stands at the front, and is refused
+abbrev pub IsRefused : (Expression → Bool) → List Token → ℕ → Type 0
+IsRefused refused ts code =
+    (one rest : List Token) × (e : Expression) × (ts ≡ one ++ rest) × IsValue one e × EndsBefore rest × (refused e ≡ true)
+    × (code ≡ unsupported_here)
+
+-- after the `%` p no function stands that may stand there; if it is a name, it is wrong at the `%`
+abbrev pub IsWrongFunction : Role → Token → List Token → Token → ℕ → Type 0
+IsWrongFunction role p ts t code =
+    (n : Token) × (us : List Token) × (ts ≡ n ∷ us) × (function_in role n.kind ≡ None)
+    × (((is_name n.kind ≡ true) × (t ≡ p) × (code ≡ bad_operands)) ⊎ ((is_name n.kind ≡ false) × (t ≡ n) × (code ≡ wrong_or n.kind bad_operands)))
+
+-- the argument of a function after the `%` p
+abbrev pub IsWrongArgument : Function → Token → List Token → Token → ℕ → Type 0
+IsWrongArgument PcrelLo p ts t code = (us : List Token) × (ts ≡ t ∷ us) × (label_named t.kind ≡ None) × (code ≡ wrong_symbol t.kind)
+IsWrongArgument f p ts t code = IsWrongInside ts t code ⊎ ((t ≡ p) × IsRefused (λ e. is_refused_by f e) ts code)
+
+-- these tokens do not go on with an argument before them
+abbrev pub EndsArgument : Function → List Token → Type 0
+EndsArgument PcrelLo rest = Unit {0}
+EndsArgument f rest = EndsBefore rest
+
+-- behind the word of a function: an argument in parentheses
+abbrev pub IsWrongCall : Function → Token → List Token → Token → ℕ → Type 0
+IsWrongCall f p ts t code =
+    IsWrongFirst (An_opening A_register) ts t code
+    ⊎ ((q : Token) × (us : List Token) × (ts ≡ q ∷ us) × (is_opening q.kind ≡ true)
+    × (IsWrongArgument f p us t code
+    ⊎ ((one rest : List Token) × (e : Expression) × (us ≡ one ++ rest) × IsArgument f one e × EndsArgument f rest × IsWrongFirst A_closing rest t code)))
+
+-- a function comes next, where one may stand
+abbrev pub function_next : Role → List Token → Bool
+function_next role [] = false
+function_next role (t ∷ ts) = may_call role && is_percent t.kind
+
+-- a function of a value, behind its `%` p
+abbrev pub IsWrongApplied : Role → Token → List Token → Token → ℕ → Type 0
+IsWrongApplied role p ts t code =
+    IsWrongFunction role p ts t code
+    ⊎ ((n : Token) × (us : List Token) × (f : Function) × (ts ≡ n ∷ us) × (function_in role n.kind ≡ Some f) × IsWrongCall f p us t code)
+
+-- an expression in its place
+abbrev pub IsWrongPlain : Role → List Token → Token → ℕ → Type 0
+IsWrongPlain role ts t code =
+    IsWrongInside ts t code ⊎ ((us : List Token) × (ts ≡ t ∷ us) × IsRefused (λ e. is_refused role e) ts code)
+
+abbrev pub IsWrongValue : Role → List Token → Token → ℕ → Type 0
+IsWrongValue role ts t code =
+    ((function_next role ts ≡ true) × ((p : Token) × (us : List Token) × (ts ≡ p ∷ us) × IsWrongApplied role p us t code))
+    ⊎ ((function_next role ts ≡ false) × IsWrongPlain role ts t code)
+
+-- these tokens do not go on with a value before them
+abbrev pub EndsValue : Operand → List Token → Type 0
+EndsValue (Applied f e) rest = Unit {0}
+EndsValue _ rest = EndsBefore rest
+
+-- a register in parentheses, behind what stands in a slot
+abbrev pub IsWrongBase : Slot → List Token → Token → ℕ → Type 0
+IsWrongBase behind ts t code =
+    IsWrongFirst (An_opening behind) ts t code
+    ⊎ ((o : Token) × (us : List Token) × (ts ≡ o ∷ us) × (is_opening o.kind ≡ true)
+    × (IsWrongFirst A_register us t code
+    ⊎ ((r : Token) × (vs : List Token) × (number : ℕ) × (us ≡ r ∷ vs) × (register_of r.kind ≡ Some number) × IsWrongFirst A_closing vs t code)))
+
+-- an expression, or a function of one, and then a register in parentheses
+abbrev pub IsWrongOffset : Role → List Token → Token → ℕ → Type 0
+IsWrongOffset role ts t code =
+    IsWrongValue role ts t code
+    ⊎ ((one rest : List Token) × (o : Operand) × (ts ≡ one ++ rest) × IsValueIn role one o × EndsValue o rest × IsWrongBase (behind_value role o) rest t code)
+
+-- an address: a register in parentheses, where the first two tokens are `(` and a register; else with an offset
+abbrev pub IsWrongAddress : Role → List Token → Token → ℕ → Type 0
+IsWrongAddress role ts t code =
+    ((base_next ts ≡ true) × IsWrongBase A_register ts t code) ⊎ ((base_next ts ≡ false) × IsWrongOffset role ts t code)
+
+-- the token with which the name of a section becomes too long
+abbrev pub IsLongName : List Token → Token → Type 0
+IsLongName ts t =
+    (front more : List Token) × (name longer : List ℕ) × (ts ≡ front ++ t ∷ more) × ((front ≡ []) ⊎ IsJoined front name)
+    × (length name ≤ longest_name) × IsJoined (front ++ t ∷ []) longer × (longest_name < length longer)
+
+-- a section's name: none, one that is too long, or one that is refused
+abbrev pub IsWrongSection : List Token → Token → ℕ → Type 0
+IsWrongSection ts t code =
+    ((us : List Token) × (ts ≡ t ∷ us) × (first_name t.kind ≡ None) × (code ≡ wrong_first A_section t.kind))
+    ⊎ (IsLongName ts t × (code ≡ limit))
+    ⊎ ((us : List Token) × (name : List ℕ) × (rest : List Token) × (ts ≡ t ∷ us) × ReadsJoined ts name rest × (length name ≤ longest_name)
+    × (is_section_name name ≡ false) × (code ≡ unsupported_here))
+
+-- what stands in a slot
+abbrev pub IsWrongOperand : Slot → List Token → Token → ℕ → Type 0
+IsWrongOperand (A_value role) ts t code = IsWrongValue role ts t code
+IsWrongOperand (An_address role) ts t code = IsWrongAddress role ts t code
+IsWrongOperand A_section ts t code = IsWrongSection ts t code
+IsWrongOperand s ts t code = IsWrongFirst s ts t code
+
+-- these tokens, before the rest, are what stands in a slot, as long as it can be
+abbrev pub Passes : Slot → List Token → List Token → Type 0
+Passes (A_value role) one rest = (o : Operand) × IsValueIn role one o × EndsValue o rest
+Passes A_section one rest =
+    (name : List ℕ) × IsJoined one name × (is_section_name name ≡ true)
+    × ((t : Token) (us : List Token) (longer : List ℕ) → rest ≡ t ∷ us → IsJoined (one ++ t ∷ []) longer → ⊥)
+Passes s one rest = (os : List Operand) × IsOperand s one os
+
+-- what stands in a slot is wrong, or what W says behind it
+abbrev pub IsWrongTaken : Slot → (List Token → Token → ℕ → Type 0) → List Token → Token → ℕ → Type 0
+IsWrongTaken s W ts t code =
+    IsWrongOperand s ts t code ⊎ ((one rest : List Token) × (ts ≡ one ++ rest) × Passes s one rest × W rest t code)
+
+-- behind what stands in a slot the statement does not end
+abbrev pub IsNoEnd : Slot → List Token → Token → ℕ → Type 0
+IsNoEnd s ts t code = (us : List Token) × (ts ≡ t ∷ us) × (is_end t.kind ≡ false) × (code ≡ wrong_after s t.kind)
+
+-- behind an item neither a comma nor the end stands, or behind a comma what W says
+abbrev pub IsWrongNext : Slot → (List Token → Token → ℕ → Type 0) → List Token → Token → ℕ → Type 0
+IsWrongNext s W ts t code =
+    ((c : Token) × (us : List Token) × (ts ≡ c ∷ us) × (is_comma c.kind ≡ true) × W us t code) ⊎ ((is_comma t.kind ≡ false) × IsNoEnd s ts t code)
+
+-- of items, the one after so many others
+abbrev pub IsWrongItem : ℕ → Slot → List Token → Token → ℕ → Type 0
+IsWrongItem zero s ts t code = ⊥
+IsWrongItem (suc n) s ts t code = IsWrongTaken s (IsWrongNext s (λ us u d. IsWrongItem n s us u d)) ts t code
+
+-- a token, where operands are not looked at
+abbrev pub IsWrongAny : List Token → Token → ℕ → Type 0
+IsWrongAny ts t code =
+    (front more : List Token) × (ts ≡ front ++ t ∷ more) × (list_all (λ (u : Token). is_any u.kind) front ≡ true) × (is_end t.kind ≡ false)
+    × (is_any t.kind ≡ false) × (code ≡ wrong_any t.kind)
+
+-- the operands of a statement
+abbrev pub IsWrongIn : Slots → List Token → Token → ℕ → Type 0
+IsWrongIn (Stops behind) ts t code = IsNoEnd behind ts t code
+IsWrongIn (Takes s rest) ts t code = IsWrongTaken s (λ us u d. IsWrongIn rest us u d) ts t code
+IsWrongIn (Chooses s rest others) ts t code =
+    ((front_begins s ts ≡ true) × IsWrongTaken s (λ us u d. IsWrongIn rest us u d) ts t code)
+    ⊎ ((front_begins s ts ≡ false) × IsWrongIn others ts t code)
+IsWrongIn (Lists item) ts t code = (n : ℕ) × IsWrongItem n item ts t code
+IsWrongIn Anything ts t code = IsWrongAny ts t code
+
+-- a statement behind its first token
+abbrev pub IsWrongBehind : Beginning → Token → List Token → Token → ℕ → Type 0
+IsWrongBehind (beginnings.Instruction mnemonic) first ts t code = IsWrongIn (slots mnemonic) ts t code
+IsWrongBehind (beginnings.Directive word) first ts t code = IsWrongIn (places word) ts t code
+IsWrongBehind beginnings.Nothing first ts t code = (t ≡ first) × (code ≡ wrong_start first.kind)
+
+-- a statement: a label, where a colon stands behind the first token; else a word and its operands
+abbrev pub IsWrongStatement : List Token → Token → ℕ → Type 0
+IsWrongStatement ts t code =
+    (first : Token) × (us : List Token) × (ts ≡ first ∷ us) × (is_end first.kind ≡ false)
+    × (((colon_next us ≡ true) × (label_of first.kind ≡ None) × (t ≡ first) × (code ≡ wrong_label first.kind))
+    ⊎ ((colon_next us ≡ false) × IsWrongBehind (begins first.kind) first us t code))
