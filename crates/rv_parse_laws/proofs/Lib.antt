@@ -4,9 +4,11 @@ pub mod Singles
 pub mod Values
 pub mod Arguments
 pub mod Addresses
+pub mod Callees
 pub mod Sections
 pub mod Operands
 pub mod Items
+pub mod Located
 pub mod InPlaces
 pub mod Parts
 pub mod Registers
