@@ -28,7 +28,7 @@ opening_single (Punctuation Open) os h = (refl, cc)
 opening_single (Punctuation _) os h = absurd (cc)
 opening_single _ os h = absurd (cc)
 
-closing_single : (k : Kind) (os : List Operand) → single A_closing k ≡ Some os → (is_closing k ≡ true) × (os ≡ [])
+pub closing_single : (k : Kind) (os : List Operand) → single A_closing k ≡ Some os → (is_closing k ≡ true) × (os ≡ [])
 closing_single (Punctuation Close) os h = (refl, cc)
 closing_single (Punctuation _) os h = absurd (cc)
 closing_single _ os h = absurd (cc)
@@ -213,7 +213,7 @@ goes_on Lo text e is = ([], e, subst (λ us. IsArgument Lo us e) (sym (append-ni
 goes_on PcrelHi text e is = sum_goes text e is
 
 -- what is behind the word of a function
-enclosed_is : (f : Function) (q : Token) (text : List Token) (e : Expression) (c : Token) (rest : List Token) → is_opening q.kind ≡ true → IsArgument f text e → is_closing c.kind ≡ true
+pub enclosed_is : (f : Function) (q : Token) (text : List Token) (e : Expression) (c : Token) (rest : List Token) → is_opening q.kind ≡ true → IsArgument f text e → is_closing c.kind ≡ true
     → enclosed_at f (q ∷ (text ++ c ∷ rest)) ≡ Ok (e, rest)
 enclosed_is f q text e c rest opens is closes = rw (opens, argument_is f text e c rest is closes, closes) refl
 

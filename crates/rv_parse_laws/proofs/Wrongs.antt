@@ -12,15 +12,16 @@ use Rattle.rv_statement.specs.Statement.{Expression, Operand, Register, Applied,
 use Rattle.rv_statement.specs.declared.pseudo.Function.{Function}
 use Rattle.rv_statement.specs.declared.pseudo.Function.TheVariants.{Hi, Lo, PcrelHi, PcrelLo}
 use Rattle.rv_parse_laws.specs.declared.role.Role.{Role}
+use Rattle.rv_parse_laws.specs.declared.role.Role.TheVariants as roles
 use Rattle.rv_parse_laws.specs.Syntax.{is_register, register_of, is_percent, is_opening, targets, valued, is_refused, function_in, label_named, is_refused_by, IsValue, IsArgument, IsValueIn, Slot, A_register, A_value, An_address, A_closing, An_opening, single}
 use Rattle.rv_parse_laws.specs.Faults.{may_call, is_name, wrong_or, wrong_symbol, wrong_function, wrong_first}
-use Rattle.rv_parse_laws.specs.Wrong.{IsWrongFirst, IsWrongInside, IsRefused, IsWrongFunction, IsWrongArgument, EndsArgument, IsWrongCall, function_next, IsWrongApplied, IsWrongPlain, IsWrongValue, EndsValue, IsWrongBase, IsWrongOffset, IsWrongAddress}
-use Rattle.rv_parse_laws.specs.Parsing.{◌>>=◌, seen_as, taken, value_at, allowed, single_at, label_at, argument_at, called_at, named_at, applied_at, value_in, base_at, base_next, behind_value, offset_at, operand_at}
+use Rattle.rv_parse_laws.specs.Wrong.{IsWrongFirst, IsWrongInside, IsRefused, IsRefusedCall, IsWrongFunction, IsWrongArgument, EndsArgument, IsWrongCall, function_next, IsWrongApplied, IsWrongPlain, IsWrongValue, EndsValue, IsWrongBase, IsWrongOffset, IsWrongAddress}
+use Rattle.rv_parse_laws.specs.Parsing.{◌>>=◌, seen_as, taken, value_at, allowed, single_at, label_at, argument_at, enclosed_at, called_at, named_at, applied_at, value_in, base_at, base_next, offset_at, operand_at}
 use Rattle.rv_parse_laws.proofs.Steps.{bind_ok, seen_ok, taken_ok, bind_err, seen_err, taken_err}
 use Rattle.rv_parse_laws.proofs.Failing.{heads, tails, never, wrongs}
 use Rattle.rv_parse_laws.proofs.Singles.{single_err, single_fault, single_found, single_passed}
 use Rattle.rv_parse_laws.proofs.Values.{value_before, value_some, is_allowed, allowed_ok, allowed_err, value_ended, and_false, no_percent}
-use Rattle.rv_parse_laws.proofs.Arguments.{applied_is, argument_found, value_found, opening_single, function_no_last, percent_no_last}
+use Rattle.rv_parse_laws.proofs.Arguments.{applied_is, argument_found, value_found, enclosed_is, opening_single, closing_single, function_no_last, percent_no_last}
 use Rattle.rv_parse_laws.proofs.Addresses.{opening_is, register_is}
 
 -- the fault w is what W says
@@ -63,72 +64,88 @@ tested_said T p ts w end e = elim (allowed_err T p (value_at ts) w e) [
 ]
 
 -- arguments
-argument_is : (f : Function) (p : Token) (ts : List Token) (t : Token) (code : ℕ) → IsWrongArgument f p ts t code → argument_at f p ts ≡ Err (wrong t code)
-argument_is PcrelLo p ts t code (us, w, none, is) = ap label_at w ∙ rw (none, is) refl
-argument_is Hi p ts t code x = tested_is (λ e. is_refused_by Hi e) p ts t code x
-argument_is Lo p ts t code x = tested_is (λ e. is_refused_by Lo e) p ts t code x
-argument_is PcrelHi p ts t code x = tested_is (λ e. is_refused_by PcrelHi e) p ts t code x
+argument_is : (f : Function) (ts : List Token) (t : Token) (code : ℕ) → IsWrongArgument f ts t code → argument_at f ts ≡ Err (wrong t code)
+argument_is PcrelLo ts t code (us, w, none, is) = ap label_at w ∙ rw (none, is) refl
+argument_is Hi ts t code x = inside_is ts t code x
+argument_is Lo ts t code x = inside_is ts t code x
+argument_is PcrelHi ts t code x = inside_is ts t code x
 
-label_said : (p : Token) (ts : List Token) (w : SyntaxError) → ended ts ≡ true → label_at ts ≡ Err w → SaidBy (IsWrongArgument PcrelLo p) ts w
-label_said p [] w end e = absurd (cc)
-label_said p (t ∷ ts) w end e =
+label_said : (ts : List Token) (w : SyntaxError) → ended ts ≡ true → label_at ts ≡ Err w → SaidBy (IsWrongArgument PcrelLo) ts w
+label_said [] w end e = absurd (cc)
+label_said (t ∷ ts) w end e =
     let k = taken_err t ts (label_named t.kind) (wrong_symbol t.kind) w e in
     (t, wrong_symbol t.kind, (ts, refl, k.0, refl), k.1)
 
-argument_said : (f : Function) (p : Token) (ts : List Token) (w : SyntaxError) → ended ts ≡ true → argument_at f p ts ≡ Err w → SaidBy (IsWrongArgument f p) ts w
-argument_said PcrelLo p ts w end e = label_said p ts w end e
-argument_said Hi p ts w end e = tested_said (λ e. is_refused_by Hi e) p ts w end e
-argument_said Lo p ts w end e = tested_said (λ e. is_refused_by Lo e) p ts w end e
-argument_said PcrelHi p ts w end e = tested_said (λ e. is_refused_by PcrelHi e) p ts w end e
+argument_said : (f : Function) (ts : List Token) (w : SyntaxError) → ended ts ≡ true → argument_at f ts ≡ Err w → SaidBy (IsWrongArgument f) ts w
+argument_said PcrelLo ts w end e = label_said ts w end e
+argument_said Hi ts w end e = inside_said ts w end e
+argument_said Lo ts w end e = inside_said ts w end e
+argument_said PcrelHi ts w end e = inside_said ts w end e
 
-passed_test : (T : Expression → Bool) (p : Token) (one rest : List Token) (e : Expression) → IsValue one e → EndsBefore rest → T e ≡ false → allowed T p (value_at (one ++ rest)) ≡ Ok (e, rest)
-passed_test T p one rest e v ends good = ap (allowed T p) (value_before one rest e v ends) ∙ is_allowed T p e rest good
+argument_passed : (f : Function) (one rest : List Token) (e : Expression) → IsArgument f one e → EndsArgument f rest → argument_at f (one ++ rest) ≡ Ok (e, rest)
+argument_passed PcrelLo one rest e (t, w, is) ends = rw w (rw is refl)
+argument_passed Hi one rest e v ends = value_before one rest e v ends
+argument_passed Lo one rest e v ends = value_before one rest e v ends
+argument_passed PcrelHi one rest e v ends = value_before one rest e v ends
 
-argument_passed : (f : Function) (p : Token) (one rest : List Token) (e : Expression) → IsArgument f one e → EndsArgument f rest → argument_at f p (one ++ rest) ≡ Ok (e, rest)
-argument_passed PcrelLo p one rest e (t, w, is) ends = rw w (rw is refl)
-argument_passed Hi p one rest e v ends = passed_test (λ x. is_refused_by Hi x) p one rest e v.0 ends v.1
-argument_passed Lo p one rest e v ends = passed_test (λ x. is_refused_by Lo x) p one rest e v.0 ends v.1
-argument_passed PcrelHi p one rest e v ends = passed_test (λ x. is_refused_by PcrelHi x) p one rest e v.0 ends v.1
-
-argument_ends : (f : Function) (p : Token) (ts : List Token) (e : Expression) (rest : List Token) → argument_at f p ts ≡ Ok (e, rest) → EndsArgument f rest
-argument_ends PcrelLo p ts e rest h = tt
-argument_ends Hi p ts e rest h = ends_before ts e rest (allowed_ok (λ x. is_refused_by Hi x) p (value_at ts) e rest h).0
-argument_ends Lo p ts e rest h = ends_before ts e rest (allowed_ok (λ x. is_refused_by Lo x) p (value_at ts) e rest h).0
-argument_ends PcrelHi p ts e rest h = ends_before ts e rest (allowed_ok (λ x. is_refused_by PcrelHi x) p (value_at ts) e rest h).0
+argument_ends : (f : Function) (ts : List Token) (e : Expression) (rest : List Token) → argument_at f ts ≡ Ok (e, rest) → EndsArgument f rest
+argument_ends PcrelLo ts e rest h = tt
+argument_ends Hi ts e rest h = ends_before ts e rest h
+argument_ends Lo ts e rest h = ends_before ts e rest h
+argument_ends PcrelHi ts e rest h = ends_before ts e rest h
 
 -- what is behind the word of a function
-call_first : (f : Function) (p : Token) (ts : List Token) (w : SyntaxError) → single_at (An_opening A_register) ts ≡ Err w → called_at f p ts ≡ Err w
-call_first f p ts w h = rw h refl
+call_first : (f : Function) (ts : List Token) (w : SyntaxError) → single_at (An_opening A_register) ts ≡ Err w → enclosed_at f ts ≡ Err w
+call_first f ts w h = rw h refl
 
-call_argued : (f : Function) (p q : Token) (ts : List Token) (w : SyntaxError) → is_opening q.kind ≡ true → argument_at f p ts ≡ Err w → called_at f p (q ∷ ts) ≡ Err w
-call_argued f p q ts w opens h = rw (opens, h) refl
+call_argued : (f : Function) (q : Token) (ts : List Token) (w : SyntaxError) → is_opening q.kind ≡ true → argument_at f ts ≡ Err w → enclosed_at f (q ∷ ts) ≡ Err w
+call_argued f q ts w opens h = rw (opens, h) refl
 
-call_closed : (f : Function) (p q : Token) (ts us : List Token) (e : Expression) (w : SyntaxError) → is_opening q.kind ≡ true → argument_at f p ts ≡ Ok (e, us) → single_at A_closing us ≡ Err w
-    → called_at f p (q ∷ ts) ≡ Err w
-call_closed f p q ts us e w opens h g = rw (opens, h, g) refl
+call_closed : (f : Function) (q : Token) (ts us : List Token) (e : Expression) (w : SyntaxError) → is_opening q.kind ≡ true → argument_at f ts ≡ Ok (e, us) → single_at A_closing us ≡ Err w
+    → enclosed_at f (q ∷ ts) ≡ Err w
+call_closed f q ts us e w opens h g = rw (opens, h, g) refl
 
-call_is : (f : Function) (p : Token) (ts : List Token) (t : Token) (code : ℕ) → IsWrongCall f p ts t code → called_at f p ts ≡ Err (wrong t code)
-call_is f p ts t code (inl x) = call_first f p ts (wrong t code) (first_is (An_opening A_register) ts t code x)
-call_is f p ts t code (inr (q, us, w, opens, inl x)) = ap (called_at f p) w ∙ call_argued f p q us (wrong t code) opens (argument_is f p us t code x)
-call_is f p ts t code (inr (q, us, w, opens, inr (one, rest, e, v, is, ends, x))) =
-    ap (called_at f p) w
-    ∙ call_closed f p q us rest e (wrong t code) opens (ap (argument_at f p) v ∙ argument_passed f p one rest e is ends) (first_is A_closing rest t code x)
+call_is : (f : Function) (ts : List Token) (t : Token) (code : ℕ) → IsWrongCall f ts t code → enclosed_at f ts ≡ Err (wrong t code)
+call_is f ts t code (inl x) = call_first f ts (wrong t code) (first_is (An_opening A_register) ts t code x)
+call_is f ts t code (inr (q, us, w, opens, inl x)) = ap (enclosed_at f) w ∙ call_argued f q us (wrong t code) opens (argument_is f us t code x)
+call_is f ts t code (inr (q, us, w, opens, inr (one, rest, e, v, is, ends, x))) =
+    ap (enclosed_at f) w
+    ∙ call_closed f q us rest e (wrong t code) opens (ap (argument_at f) v ∙ argument_passed f one rest e is ends) (first_is A_closing rest t code x)
 
-call_said : (f : Function) (p : Token) (ts : List Token) (w : SyntaxError) → ended ts ≡ true → called_at f p ts ≡ Err w → SaidBy (IsWrongCall f p) ts w
-call_said f p ts w end e = elim (bind_err (single_at (An_opening A_register) ts) (λ q. argument_at f p q.1 >>= λ a. seen_as (λ none. Applied f a.0) (single_at A_closing a.1)) w e) [
+call_said : (f : Function) (ts : List Token) (w : SyntaxError) → ended ts ≡ true → enclosed_at f ts ≡ Err w → SaidBy (IsWrongCall f) ts w
+call_said f ts w end e = elim (bind_err (single_at (An_opening A_register) ts) (λ q. argument_at f q.1 >>= λ a. seen_as (λ none. a.0) (single_at A_closing a.1)) w e) [
   | inl h ↦ (let k = first_said (An_opening A_register) ts w end h in (k.0, k.1, inl k.2, k.3))
   | inr a ↦ (let q = single_passed (An_opening A_register) ts a.0.0 a.0.1 end a.1 in
       opened q.0 a.0.1 q.1 (opening_single q.0.kind a.0.0 q.2).0 q.3 a.2)
 ]
   where
-    opened : (q : Token) (us : List Token) → ts ≡ q ∷ us → is_opening q.kind ≡ true → ended us ≡ true → (argument_at f p us >>= λ a. seen_as (λ none. Applied f a.0) (single_at A_closing a.1)) ≡ Err w
-        → SaidBy (IsWrongCall f p) ts w
-    opened q us whole opens last e = elim (bind_err (argument_at f p us) (λ a. seen_as (λ none. Applied f a.0) (single_at A_closing a.1)) w e) [
-      | inl h ↦ (let k = argument_said f p us w last h in (k.0, k.1, inr (q, us, whole, opens, inl k.2), k.3))
-      | inr b ↦ (let x = argument_found f p us b.0.0 b.0.1 b.1 in
-          let k = first_said A_closing b.0.1 w (x.ended_rest last) (seen_err (λ none. Applied f b.0.0) (single_at A_closing b.0.1) w b.2) in
-          (k.0, k.1, inr (q, us, whole, opens, inr (x.text, b.0.1, b.0.0, x.whole, x.is, argument_ends f p us b.0.0 b.0.1 b.1, k.2)), k.3))
+    opened : (q : Token) (us : List Token) → ts ≡ q ∷ us → is_opening q.kind ≡ true → ended us ≡ true → (argument_at f us >>= λ a. seen_as (λ none. a.0) (single_at A_closing a.1)) ≡ Err w
+        → SaidBy (IsWrongCall f) ts w
+    opened q us whole opens last e = elim (bind_err (argument_at f us) (λ a. seen_as (λ none. a.0) (single_at A_closing a.1)) w e) [
+      | inl h ↦ (let k = argument_said f us w last h in (k.0, k.1, inr (q, us, whole, opens, inl k.2), k.3))
+      | inr b ↦ (let x = argument_found f us b.0.0 b.0.1 b.1 in
+          let k = first_said A_closing b.0.1 w (x.ended_rest last) (seen_err (λ none. b.0.0) (single_at A_closing b.0.1) w b.2) in
+          (k.0, k.1, inr (q, us, whole, opens, inr (x.text, b.0.1, b.0.0, x.whole, x.is, argument_ends f us b.0.0 b.0.1 b.1, k.2)), k.3))
     ]
+
+-- an argument that is refused
+refused_call : (f : Function) (p t : Token) (ts : List Token) (code : ℕ) → t ≡ p → IsRefusedCall f ts code → called_at f p ts ≡ Err (wrong t code)
+refused_call f p t ts code same (q, one, c, rest, e, w, opens, is, shut, bad, code_is) =
+    ap (called_at f p) w ∙ ap (λ r. seen_as (Applied f) (allowed (λ x. is_refused_by f x) p r)) (enclosed_is f q one e c rest opens is shut) ∙ rw (bad, code_is, same) refl
+
+refused_said : (f : Function) (p : Token) (ts : List Token) (e : Expression) (rest : List Token) → enclosed_at f ts ≡ Ok (e, rest) → is_refused_by f e ≡ true → IsRefusedCall f ts unsupported_here
+refused_said f p ts e rest read bad =
+    let a = bind_ok (single_at (An_opening A_register) ts) (λ q. argument_at f q.1 >>= λ a. seen_as (λ none. a.0) (single_at A_closing a.1)) (e, rest) read in
+    let b = bind_ok (argument_at f a.0.1) (λ a. seen_as (λ none. a.0) (single_at A_closing a.1)) (e, rest) a.2 in
+    let c = seen_ok (λ none. b.0.0) (single_at A_closing b.0.1) e rest b.2 in
+    let q = single_found (An_opening A_register) ts a.0.0 a.0.1 a.1 in
+    let x = argument_found f a.0.1 b.0.0 b.0.1 b.1 in
+    let d = single_found A_closing b.0.1 c.0 rest c.1 in
+    (
+      q.0, x.text, d.0, rest, b.0.0,
+      q.1 ∙ ap (λ us. q.0 ∷ us) (x.whole ∙ ap (λ us. x.text ++ us) d.1),
+      (opening_single q.0.kind a.0.0 q.2).0, x.is, (closing_single d.0.kind c.0 d.2).0, ap (is_refused_by f) (sym c.2) ∙ bad, refl,
+    )
 
 -- a function of a value
 function_is : (p n : Token) (t : Token) (code : ℕ)
@@ -139,7 +156,9 @@ function_is p n t code (inr (name, same, is)) = rw (name, same, is) refl
 applied_wrong : (role : Role) (p : Token) (us : List Token) (t : Token) (code : ℕ) → IsWrongApplied role p us t code → applied_at role p us ≡ Err (wrong t code)
 applied_wrong role p us t code (inl (n, vs, w, none, k)) =
     ap (applied_at role p) w ∙ ap (named_at p n vs) none ∙ ap (λ (x : SyntaxError). Err x) (function_is p n t code k)
-applied_wrong role p us t code (inr (n, vs, f, w, is, x)) = ap (applied_at role p) w ∙ ap (named_at p n vs) is ∙ call_is f p vs t code x
+applied_wrong role p us t code (inr (n, vs, f, w, is, inl x)) =
+    ap (applied_at role p) w ∙ ap (named_at p n vs) is ∙ ap (λ r. seen_as (Applied f) (allowed (λ e. is_refused_by f e) p r)) (call_is f vs t code x)
+applied_wrong role p us t code (inr (n, vs, f, w, is, inr (same, r))) = ap (applied_at role p) w ∙ ap (named_at p n vs) is ∙ refused_call f p t vs code same r
 
 plain_wrong : (role : Role) (u : Token) (us : List Token) (t : Token) (code : ℕ) → IsWrongPlain role (u ∷ us) t code
     → seen_as (valued role) (allowed (λ e. is_refused role e) u (value_at (u ∷ us))) ≡ Err (wrong t code)
@@ -167,9 +186,10 @@ applied_said role p (n ∷ ts) w end e = go (function_in role n.kind) refl e
     unnamed none false name is = (n, wrong_or n.kind bad_operands, inl (n, ts, refl, none, inr (name, refl, refl)), sym is)
 
     go : (x : Option Function) → function_in role n.kind ≡ x → named_at p n ts x ≡ Err w → SaidBy (IsWrongApplied role p) (n ∷ ts) w
-    go (Some f) is e =
-        let k = call_said f p ts w (ended_more n ts (function_no_last role n.kind f is) end) e in
-        (k.0, k.1, inr (n, ts, f, refl, is, k.2), k.3)
+    go (Some f) is e = elim (allowed_err (λ x. is_refused_by f x) p (enclosed_at f ts) w (seen_err (Applied f) (allowed (λ x. is_refused_by f x) p (enclosed_at f ts)) w e)) [
+      | inl h ↦ (let k = call_said f ts w (ended_more n ts (function_no_last role n.kind f is) end) h in (k.0, k.1, inr (n, ts, f, refl, is, inl k.2), k.3))
+      | inr g ↦ (p, unsupported_here, inr (n, ts, f, refl, is, inr (refl, refused_said f p ts g.0 g.1 g.2 g.3)), g.4)
+    ]
     go None none e = unnamed none (is_name n.kind) refl (wrongs _ w e)
 
 and_parts : (a b : Bool) → (a && b) ≡ true → (a ≡ true) × (b ≡ true)
@@ -222,10 +242,8 @@ value_ends role (t ∷ ts) o rest e = go (may_call role && is_percent t.kind) re
   where
     called : (f : Function) (us : List Token) → called_at f t us ≡ Ok (o, rest) → EndsValue o rest
     called f us e =
-        let a = bind_ok (single_at (An_opening A_register) us) (λ q. argument_at f t q.1 >>= λ a. seen_as (λ none. Applied f a.0) (single_at A_closing a.1)) (o, rest) e in
-        let b = bind_ok (argument_at f t a.0.1) (λ a. seen_as (λ none. Applied f a.0) (single_at A_closing a.1)) (o, rest) a.2 in
-        let c = seen_ok (λ none. Applied f b.0.0) (single_at A_closing b.0.1) o rest b.2 in
-        subst (λ x. EndsValue x rest) (sym c.2) tt
+        let s = seen_ok (Applied f) (allowed (λ x. is_refused_by f x) t (enclosed_at f us)) o rest e in
+        subst (λ x. EndsValue x rest) (sym s.2) tt
 
     named : (n : Token) (us : List Token) (x : Option Function) → named_at t n us x ≡ Ok (o, rest) → EndsValue o rest
     named n us (Some f) e = called f us e
@@ -244,31 +262,31 @@ value_ends role (t ∷ ts) o rest e = go (may_call role && is_percent t.kind) re
         subst (λ x. EndsValue x rest) (sym s.2) (ends_valued role s.0 rest (ends_before (t ∷ ts) s.0 rest a.0))
 
 -- a register in parentheses
-base_first : (slot : Slot) (ts : List Token) (w : SyntaxError) → single_at (An_opening slot) ts ≡ Err w → base_at slot ts ≡ Err w
-base_first slot ts w h = rw h refl
+base_first : (ts : List Token) (w : SyntaxError) → single_at (An_opening A_register) ts ≡ Err w → base_at ts ≡ Err w
+base_first ts w h = rw h refl
 
-base_second : (slot : Slot) (o : Token) (us : List Token) (w : SyntaxError) → is_opening o.kind ≡ true → single_at A_register us ≡ Err w → base_at slot (o ∷ us) ≡ Err w
-base_second slot o us w opens h = rw (opens, h) refl
+base_second : (o : Token) (us : List Token) (w : SyntaxError) → is_opening o.kind ≡ true → single_at A_register us ≡ Err w → base_at (o ∷ us) ≡ Err w
+base_second o us w opens h = rw (opens, h) refl
 
-base_third : (slot : Slot) (o r : Token) (vs : List Token) (number : ℕ) (w : SyntaxError) → is_opening o.kind ≡ true → register_of r.kind ≡ Some number → single_at A_closing vs ≡ Err w
-    → base_at slot (o ∷ r ∷ vs) ≡ Err w
-base_third slot o r vs number w opens named h = rw (opens, named, h) refl
+base_third : (o r : Token) (vs : List Token) (number : ℕ) (w : SyntaxError) → is_opening o.kind ≡ true → register_of r.kind ≡ Some number → single_at A_closing vs ≡ Err w
+    → base_at (o ∷ r ∷ vs) ≡ Err w
+base_third o r vs number w opens named h = rw (opens, named, h) refl
 
-base_wrongs : (slot : Slot) (ts : List Token) (t : Token) (code : ℕ) → IsWrongBase slot ts t code → base_at slot ts ≡ Err (wrong t code)
-base_wrongs slot ts t code (inl x) = base_first slot ts (wrong t code) (first_is (An_opening slot) ts t code x)
-base_wrongs slot ts t code (inr (o, us, w, opens, inl x)) = ap (base_at slot) w ∙ base_second slot o us (wrong t code) opens (first_is A_register us t code x)
-base_wrongs slot ts t code (inr (o, us, w, opens, inr (r, vs, number, v, named, x))) =
-    ap (base_at slot) (w ∙ ap (λ xs. o ∷ xs) v) ∙ base_third slot o r vs number (wrong t code) opens named (first_is A_closing vs t code x)
+base_wrongs : (ts : List Token) (t : Token) (code : ℕ) → IsWrongBase ts t code → base_at ts ≡ Err (wrong t code)
+base_wrongs ts t code (inl x) = base_first ts (wrong t code) (first_is (An_opening A_register) ts t code x)
+base_wrongs ts t code (inr (o, us, w, opens, inl x)) = ap (base_at) w ∙ base_second o us (wrong t code) opens (first_is A_register us t code x)
+base_wrongs ts t code (inr (o, us, w, opens, inr (r, vs, number, v, named, x))) =
+    ap (base_at) (w ∙ ap (λ xs. o ∷ xs) v) ∙ base_third o r vs number (wrong t code) opens named (first_is A_closing vs t code x)
 
-base_said : (slot : Slot) (ts : List Token) (w : SyntaxError) → ended ts ≡ true → base_at slot ts ≡ Err w → SaidBy (IsWrongBase slot) ts w
-base_said slot ts w end e = elim (bind_err (single_at (An_opening slot) ts) (λ o. single_at A_register o.1 >>= λ r. seen_as (λ none. r.0) (single_at A_closing r.1)) w e) [
-  | inl f ↦ (let k = first_said (An_opening slot) ts w end f in (k.0, k.1, inl k.2, k.3))
-  | inr a ↦ (let o = single_passed (An_opening slot) ts a.0.0 a.0.1 end a.1 in
-      second o.0 a.0.1 o.1 (opening_is slot o.0.kind a.0.0 o.2).0 o.3 a.2)
+base_said : (ts : List Token) (w : SyntaxError) → ended ts ≡ true → base_at ts ≡ Err w → SaidBy (IsWrongBase) ts w
+base_said ts w end e = elim (bind_err (single_at (An_opening A_register) ts) (λ o. single_at A_register o.1 >>= λ r. seen_as (λ none. r.0) (single_at A_closing r.1)) w e) [
+  | inl f ↦ (let k = first_said (An_opening A_register) ts w end f in (k.0, k.1, inl k.2, k.3))
+  | inr a ↦ (let o = single_passed (An_opening A_register) ts a.0.0 a.0.1 end a.1 in
+      second o.0 a.0.1 o.1 (opening_is A_register o.0.kind a.0.0 o.2).0 o.3 a.2)
 ]
   where
     second : (o : Token) (us : List Token) → ts ≡ o ∷ us → is_opening o.kind ≡ true → ended us ≡ true → (single_at A_register us >>= λ r. seen_as (λ none. r.0) (single_at A_closing r.1)) ≡ Err w
-        → SaidBy (IsWrongBase slot) ts w
+        → SaidBy (IsWrongBase) ts w
     second o us whole opens end e = elim (bind_err (single_at A_register us) (λ r. seen_as (λ none. r.0) (single_at A_closing r.1)) w e) [
       | inl f ↦ (let k = first_said A_register us w end f in (k.0, k.1, inr (o, us, whole, opens, inl k.2), k.3))
       | inr b ↦ (let r = single_passed A_register us b.0.0 b.0.1 end b.1 in
@@ -278,26 +296,26 @@ base_said slot ts w end e = elim (bind_err (single_at (An_opening slot) ts) (λ 
     ]
 
 -- an address
-offset_first : (role : Role) (ts : List Token) (w : SyntaxError) → value_in role ts ≡ Err w → offset_at role ts ≡ Err w
-offset_first role ts w h = rw h refl
+offset_first : (ts : List Token) (w : SyntaxError) → value_in roles.Operand ts ≡ Err w → offset_at ts ≡ Err w
+offset_first ts w h = rw h refl
 
-offset_base : (role : Role) (ts rest : List Token) (o : Operand) (w : SyntaxError) → value_in role ts ≡ Ok (o, rest) → base_at (behind_value role o) rest ≡ Err w → offset_at role ts ≡ Err w
-offset_base role ts rest o w h g = rw (h, g) refl
+offset_base : (ts rest : List Token) (o : Operand) (w : SyntaxError) → value_in roles.Operand ts ≡ Ok (o, rest) → base_at rest ≡ Err w → offset_at ts ≡ Err w
+offset_base ts rest o w h g = rw (h, g) refl
 
-pub address_wrongs : (role : Role) (ts : List Token) (t : Token) (code : ℕ) → IsWrongAddress role ts t code → operand_at (An_address role) ts ≡ Err (wrong t code)
-address_wrongs role ts t code (inl (next, x)) = rw next (base_wrongs A_register ts t code x)
-address_wrongs role ts t code (inr (next, inl x)) = rw next (offset_first role ts (wrong t code) (value_is role ts t code x))
-address_wrongs role ts t code (inr (next, inr (one, rest, o, w, is, ends, x))) =
-    rw next (offset_base role ts rest o (wrong t code) (ap (value_in role) w ∙ value_passed role one rest o is ends) (base_wrongs (behind_value role o) rest t code x))
+pub address_wrongs : (ts : List Token) (t : Token) (code : ℕ) → IsWrongAddress ts t code → operand_at An_address ts ≡ Err (wrong t code)
+address_wrongs ts t code (inl (next, x)) = rw next (base_wrongs ts t code x)
+address_wrongs ts t code (inr (next, inl x)) = rw next (offset_first ts (wrong t code) (value_is roles.Operand ts t code x))
+address_wrongs ts t code (inr (next, inr (one, rest, o, w, is, ends, x))) =
+    rw next (offset_base ts rest o (wrong t code) (ap (value_in roles.Operand) w ∙ value_passed roles.Operand one rest o is ends) (base_wrongs rest t code x))
 
-pub address_said : (role : Role) (ts : List Token) (w : SyntaxError) → ended ts ≡ true → operand_at (An_address role) ts ≡ Err w → SaidBy (IsWrongAddress role) ts w
-address_said role ts w end e = go (base_next ts) refl e
+pub address_said : (ts : List Token) (w : SyntaxError) → ended ts ≡ true → operand_at An_address ts ≡ Err w → SaidBy (IsWrongAddress) ts w
+address_said ts w end e = go (base_next ts) refl e
   where
-    go : (b : Bool) → base_next ts ≡ b → cond b (base_at A_register ts) (offset_at role ts) ≡ Err w → SaidBy (IsWrongAddress role) ts w
-    go true next e = let k = base_said A_register ts w end e in (k.0, k.1, inl (next, k.2), k.3)
-    go false next e = elim (bind_err (value_in role ts) (λ v. seen_as (λ os. v.0 ∷ os) (base_at (behind_value role v.0) v.1)) w e) [
-      | inl f ↦ (let k = value_said role ts w end f in (k.0, k.1, inr (next, inl k.2), k.3))
-      | inr a ↦ (let x = value_found role ts a.0.0 a.0.1 a.1 in
-          let k = base_said (behind_value role a.0.0) a.0.1 w (x.ended_rest end) (seen_err (λ os. a.0.0 ∷ os) (base_at (behind_value role a.0.0) a.0.1) w a.2) in
-          (k.0, k.1, inr (next, inr (x.text, a.0.1, a.0.0, x.whole, x.is, value_ends role ts a.0.0 a.0.1 a.1, k.2)), k.3))
+    go : (b : Bool) → base_next ts ≡ b → cond b (base_at ts) (offset_at ts) ≡ Err w → SaidBy (IsWrongAddress) ts w
+    go true next e = let k = base_said ts w end e in (k.0, k.1, inl (next, k.2), k.3)
+    go false next e = elim (bind_err (value_in roles.Operand ts) (λ v. seen_as (λ os. v.0 ∷ os) (base_at v.1)) w e) [
+      | inl f ↦ (let k = value_said roles.Operand ts w end f in (k.0, k.1, inr (next, inl k.2), k.3))
+      | inr a ↦ (let x = value_found roles.Operand ts a.0.0 a.0.1 a.1 in
+          let k = base_said a.0.1 w (x.ended_rest end) (seen_err (λ os. a.0.0 ∷ os) (base_at a.0.1) w a.2) in
+          (k.0, k.1, inr (next, inr (x.text, a.0.1, a.0.0, x.whole, x.is, value_ends roles.Operand ts a.0.0 a.0.1 a.1, k.2)), k.3))
     ]

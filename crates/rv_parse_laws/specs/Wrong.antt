@@ -14,10 +14,11 @@ use Rattle.rv_statement.specs.Statement.{Expression, Operand, Applied}
 use Rattle.rv_statement.specs.declared.pseudo.Function.{Function}
 use Rattle.rv_statement.specs.declared.pseudo.Function.TheVariants.{PcrelLo}
 use Rattle.rv_parse_laws.specs.declared.role.Role.{Role}
+use Rattle.rv_parse_laws.specs.declared.role.Role.TheVariants as roles
 use Rattle.rv_parse_laws.specs.declared.beginning.Beginning.{Beginning}
 use Rattle.rv_parse_laws.specs.declared.beginning.Beginning.TheVariants as beginnings
-use Rattle.rv_parse_laws.specs.Syntax.{is_register, register_of, label_of, begins, is_comma, is_percent, is_end, is_opening, is_any, is_section_name, is_refused, function_in, label_named, is_refused_by, IsValue, IsArgument, IsValueIn, IsOperand, Slot, A_register, A_value, An_address, A_section, A_comma, A_closing, An_opening, single, front_begins, Slots, Stops, Takes, Chooses, Lists, Anything, slots, places, colon_next}
-use Rattle.rv_parse_laws.specs.Parsing.{base_next, behind_value}
+use Rattle.rv_parse_laws.specs.Syntax.{is_register, register_of, label_of, begins, is_comma, is_percent, is_end, is_opening, is_closing, is_any, is_section_name, is_refused, function_in, label_named, is_refused_by, IsValue, IsArgument, IsValueIn, IsLinked, IsOperand, Slot, A_register, A_value, A_target, An_address, A_callee, A_section, A_plt, A_comma, A_closing, An_opening, single, front_begins, Slots, Stops, Takes, Chooses, Locates, Lists, Anything, slots, places, colon_next}
+use Rattle.rv_parse_laws.specs.Parsing.{base_next, plt_next}
 use Rattle.rv_parse_laws.specs.Faults.{may_call, is_name, wrong_or, wrong_symbol, wrong_first, wrong_after, wrong_any, wrong_start, wrong_label}
 
 -- the token at the front cannot stand in this slot
@@ -40,10 +41,10 @@ IsWrongFunction role p ts t code =
     (n : Token) × (us : List Token) × (ts ≡ n ∷ us) × (function_in role n.kind ≡ None)
     × (((is_name n.kind ≡ true) × (t ≡ p) × (code ≡ bad_operands)) ⊎ ((is_name n.kind ≡ false) × (t ≡ n) × (code ≡ wrong_or n.kind bad_operands)))
 
--- the argument of a function after the `%` p
-abbrev pub IsWrongArgument : Function → Token → List Token → Token → ℕ → Type 0
-IsWrongArgument PcrelLo p ts t code = (us : List Token) × (ts ≡ t ∷ us) × (label_named t.kind ≡ None) × (code ≡ wrong_symbol t.kind)
-IsWrongArgument f p ts t code = IsWrongInside ts t code ⊎ ((t ≡ p) × IsRefused (λ e. is_refused_by f e) ts code)
+-- the argument of a function
+abbrev pub IsWrongArgument : Function → List Token → Token → ℕ → Type 0
+IsWrongArgument PcrelLo ts t code = (us : List Token) × (ts ≡ t ∷ us) × (label_named t.kind ≡ None) × (code ≡ wrong_symbol t.kind)
+IsWrongArgument f ts t code = IsWrongInside ts t code
 
 -- these tokens do not go on with an argument before them
 abbrev pub EndsArgument : Function → List Token → Type 0
@@ -51,12 +52,18 @@ EndsArgument PcrelLo rest = Unit {0}
 EndsArgument f rest = EndsBefore rest
 
 -- behind the word of a function: an argument in parentheses
-abbrev pub IsWrongCall : Function → Token → List Token → Token → ℕ → Type 0
-IsWrongCall f p ts t code =
+abbrev pub IsWrongCall : Function → List Token → Token → ℕ → Type 0
+IsWrongCall f ts t code =
     IsWrongFirst (An_opening A_register) ts t code
     ⊎ ((q : Token) × (us : List Token) × (ts ≡ q ∷ us) × (is_opening q.kind ≡ true)
-    × (IsWrongArgument f p us t code
+    × (IsWrongArgument f us t code
     ⊎ ((one rest : List Token) × (e : Expression) × (us ≡ one ++ rest) × IsArgument f one e × EndsArgument f rest × IsWrongFirst A_closing rest t code)))
+
+-- a whole argument in parentheses, which is refused
+abbrev pub IsRefusedCall : Function → List Token → ℕ → Type 0
+IsRefusedCall f ts code =
+    (q : Token) × (one : List Token) × (c : Token) × (rest : List Token) × (e : Expression) × (ts ≡ q ∷ (one ++ c ∷ rest)) × (is_opening q.kind ≡ true)
+    × IsArgument f one e × (is_closing c.kind ≡ true) × (is_refused_by f e ≡ true) × (code ≡ unsupported_here)
 
 -- a function comes next, where one may stand
 abbrev pub function_next : Role → List Token → Bool
@@ -67,7 +74,8 @@ function_next role (t ∷ ts) = may_call role && is_percent t.kind
 abbrev pub IsWrongApplied : Role → Token → List Token → Token → ℕ → Type 0
 IsWrongApplied role p ts t code =
     IsWrongFunction role p ts t code
-    ⊎ ((n : Token) × (us : List Token) × (f : Function) × (ts ≡ n ∷ us) × (function_in role n.kind ≡ Some f) × IsWrongCall f p us t code)
+    ⊎ ((n : Token) × (us : List Token) × (f : Function) × (ts ≡ n ∷ us) × (function_in role n.kind ≡ Some f)
+    × (IsWrongCall f us t code ⊎ ((t ≡ p) × IsRefusedCall f us code)))
 
 -- an expression in its place
 abbrev pub IsWrongPlain : Role → List Token → Token → ℕ → Type 0
@@ -84,24 +92,34 @@ abbrev pub EndsValue : Operand → List Token → Type 0
 EndsValue (Applied f e) rest = Unit {0}
 EndsValue _ rest = EndsBefore rest
 
--- a register in parentheses, behind what stands in a slot
-abbrev pub IsWrongBase : Slot → List Token → Token → ℕ → Type 0
-IsWrongBase behind ts t code =
-    IsWrongFirst (An_opening behind) ts t code
+-- a register in parentheses
+abbrev pub IsWrongBase : List Token → Token → ℕ → Type 0
+IsWrongBase ts t code =
+    IsWrongFirst (An_opening A_register) ts t code
     ⊎ ((o : Token) × (us : List Token) × (ts ≡ o ∷ us) × (is_opening o.kind ≡ true)
     × (IsWrongFirst A_register us t code
     ⊎ ((r : Token) × (vs : List Token) × (number : ℕ) × (us ≡ r ∷ vs) × (register_of r.kind ≡ Some number) × IsWrongFirst A_closing vs t code)))
 
 -- an expression, or a function of one, and then a register in parentheses
-abbrev pub IsWrongOffset : Role → List Token → Token → ℕ → Type 0
-IsWrongOffset role ts t code =
-    IsWrongValue role ts t code
-    ⊎ ((one rest : List Token) × (o : Operand) × (ts ≡ one ++ rest) × IsValueIn role one o × EndsValue o rest × IsWrongBase (behind_value role o) rest t code)
+abbrev pub IsWrongOffset : List Token → Token → ℕ → Type 0
+IsWrongOffset ts t code =
+    IsWrongValue roles.Operand ts t code
+    ⊎ ((one rest : List Token) × (o : Operand) × (ts ≡ one ++ rest) × IsValueIn roles.Operand one o × EndsValue o rest × IsWrongBase rest t code)
 
 -- an address: a register in parentheses, where the first two tokens are `(` and a register; else with an offset
-abbrev pub IsWrongAddress : Role → List Token → Token → ℕ → Type 0
-IsWrongAddress role ts t code =
-    ((base_next ts ≡ true) × IsWrongBase A_register ts t code) ⊎ ((base_next ts ≡ false) × IsWrongOffset role ts t code)
+abbrev pub IsWrongAddress : List Token → Token → ℕ → Type 0
+IsWrongAddress ts t code = ((base_next ts ≡ true) × IsWrongBase ts t code) ⊎ ((base_next ts ≡ false) × IsWrongOffset ts t code)
+
+-- what a call calls: a symbol and `@plt`, where the first two tokens are a symbol and `@`; else a target
+abbrev pub IsWrongCallee : List Token → Token → ℕ → Type 0
+IsWrongCallee ts t code =
+    ((plt_next ts ≡ true) × ((f a : Token) × (us : List Token) × (ts ≡ f ∷ a ∷ us) × IsWrongFirst A_plt us t code))
+    ⊎ ((plt_next ts ≡ false) × IsWrongValue roles.Target ts t code)
+
+-- a target comes next: an expression that no `(` stands behind
+abbrev pub IsTargetNext : List Token → Type 0
+IsTargetNext ts =
+    (one rest : List Token) × (e : Expression) × (ts ≡ one ++ rest) × IsValue one e × EndsBefore rest × (front_begins (An_opening A_register) rest ≡ false)
 
 -- the token with which the name of a section becomes too long
 abbrev pub IsLongName : List Token → Token → Type 0
@@ -120,13 +138,16 @@ IsWrongSection ts t code =
 -- what stands in a slot
 abbrev pub IsWrongOperand : Slot → List Token → Token → ℕ → Type 0
 IsWrongOperand (A_value role) ts t code = IsWrongValue role ts t code
-IsWrongOperand (An_address role) ts t code = IsWrongAddress role ts t code
+IsWrongOperand An_address ts t code = IsWrongAddress ts t code
+IsWrongOperand A_callee ts t code = IsWrongCallee ts t code
 IsWrongOperand A_section ts t code = IsWrongSection ts t code
 IsWrongOperand s ts t code = IsWrongFirst s ts t code
 
 -- these tokens, before the rest, are what stands in a slot, as long as it can be
 abbrev pub Passes : Slot → List Token → List Token → Type 0
 Passes (A_value role) one rest = (o : Operand) × IsValueIn role one o × EndsValue o rest
+Passes A_callee one rest =
+    ((o : Operand) × IsValueIn roles.Target one o × EndsValue o rest × (plt_next (one ++ rest) ≡ false)) ⊎ ((os : List Operand) × IsLinked one os)
 Passes A_section one rest =
     (name : List ℕ) × IsJoined one name × (is_section_name name ≡ true)
     × ((t : Token) (us : List Token) (longer : List ℕ) → rest ≡ t ∷ us → IsJoined (one ++ t ∷ []) longer → ⊥)
@@ -164,6 +185,9 @@ IsWrongIn (Takes s rest) ts t code = IsWrongTaken s (λ us u d. IsWrongIn rest u
 IsWrongIn (Chooses s rest others) ts t code =
     ((front_begins s ts ≡ true) × IsWrongTaken s (λ us u d. IsWrongIn rest us u d) ts t code)
     ⊎ ((front_begins s ts ≡ false) × IsWrongIn others ts t code)
+IsWrongIn (Locates rest) ts t code =
+    (IsTargetNext ts × IsWrongTaken A_target (λ us u d. IsWrongIn rest us u d) ts t code)
+    ⊎ ((IsTargetNext ts → ⊥) × IsWrongTaken An_address (λ us u d. IsNoEnd An_address us u d) ts t code)
 IsWrongIn (Lists item) ts t code = (n : ℕ) × IsWrongItem n item ts t code
 IsWrongIn Anything ts t code = IsWrongAny ts t code
 
