@@ -18,5 +18,6 @@ pub mod Progress
 pub mod Cutting
 pub mod Places
 pub mod Wrongs
+pub mod WrongSections
 pub mod FirstFault
 pub mod Worked
