@@ -55,7 +55,7 @@ at_no_closes (Punctuation At) h c = cc
 at_no_closes (Punctuation _) h c = cc
 at_no_closes _ h c = cc
 
-symbol_is : (k : Kind) (name : List ℕ) → symbol_of k ≡ Some name → symbol_target k ≡ Target (named name) ∷ []
+pub symbol_is : (k : Kind) (name : List ℕ) → symbol_of k ≡ Some name → symbol_target k ≡ Target (named name) ∷ []
 symbol_is (NameToken n) name h = go (is_symbol n) h
   where
     go : (b : Bool) → cond b (Some n) None ≡ Some name → ◌≡◌ {A = List Operand} (Target (named n) ∷ []) (Target (named name) ∷ [])
@@ -78,7 +78,7 @@ at_is k h = go (is_at k) h
     go true h = refl
     go false h = absurd (cc)
 
-plt_is : (k : Kind) (os : List Operand) → single A_plt k ≡ Some os → is_plt k ≡ true
+pub plt_is : (k : Kind) (os : List Operand) → single A_plt k ≡ Some os → is_plt k ≡ true
 plt_is k os h = go (is_plt k) h
   where
     go : (b : Bool) → cond {A = Option (List Operand)} b (Some []) None ≡ Some os → b ≡ true
@@ -90,7 +90,7 @@ plt_no_last (NameToken name) h = refl
 plt_no_last _ h = absurd (cc)
 
 -- a symbol and `@` come next
-plt_parts : (ts : List Token) → plt_next ts ≡ true → (f a : Token) × (us : List Token) × (name : List ℕ) × (ts ≡ f ∷ a ∷ us) × (symbol_of f.kind ≡ Some name) × (is_at a.kind ≡ true)
+pub plt_parts : (ts : List Token) → plt_next ts ≡ true → (f a : Token) × (us : List Token) × (name : List ℕ) × (ts ≡ f ∷ a ∷ us) × (symbol_of f.kind ≡ Some name) × (is_at a.kind ≡ true)
 plt_parts [] h = absurd (cc)
 plt_parts (f ∷ []) h = let p = and_parts (is_some (symbol_of f.kind)) (front_begins At_sign []) h in absurd (cc p.1)
 plt_parts (f ∷ a ∷ us) h =
@@ -101,7 +101,7 @@ plt_parts (f ∷ a ∷ us) h =
 plt_there : (f a : Token) (us : List Token) (name : List ℕ) → symbol_of f.kind ≡ Some name → is_at a.kind ≡ true → plt_next (f ∷ a ∷ us) ≡ true
 plt_there f a us name named at = rw (named, at) refl
 
-linked_is : (text : List Token) (os : List Operand) → IsLinked text os → (rest : List Token) → operand_at A_callee (text ++ rest) ≡ Ok (os, rest)
+pub linked_is : (text : List Token) (os : List Operand) → IsLinked text os → (rest : List Token) → operand_at A_callee (text ++ rest) ≡ Ok (os, rest)
 linked_is text os (f, a, p, name, w, symbol, at, plt, is) rest =
     rw (w, is) (rw (plt_there f a (p ∷ rest) name symbol at, plt) (ap (λ (x : List Operand). Ok (x, rest)) (symbol_is f.kind name symbol)))
 
@@ -110,7 +110,7 @@ plt_reads : (ts : List Token) (o : Operand) (rest : List Token) → plt_next ts 
 plt_reads ts o rest next read =
     let p = plt_parts ts next in
     let same = pair_parts (Target (named p.3)) o (p.1 ∷ p.2) rest (value_in roles.Target ts)
-        (ap (value_in roles.Target) p.4 ∙ symbol_read p.0 p.1 p.2 p.3 p.5 (at_follows p.1.kind p.6)) read in
+    (ap (value_in roles.Target) p.4 ∙ symbol_read p.0 p.1 p.2 p.3 p.5 (at_follows p.1.kind p.6)) read in
     (p.1, p.2, sym same.1, p.6)
 
 no_plt : (ts : List Token) (o : Operand) (rest : List Token) → value_in roles.Target ts ≡ Ok (o, rest) → Closes rest → plt_next ts ≡ false

@@ -229,14 +229,14 @@ and_both : (a b : Bool) → a ≡ true → b ≡ true → (a && b) ≡ true
 and_both true b h i = i
 and_both false b h i = absurd (cc)
 
-any_no_end : (k : Kind) → is_any k ≡ true → is_end k ≡ false
+pub any_no_end : (k : Kind) → is_any k ≡ true → is_end k ≡ false
 any_no_end k h = go (is_end k) h
   where
     go : (b : Bool) → not (b || is_wrong k || is_long k) ≡ true → b ≡ false
     go true h = absurd (cc)
     go false h = refl
 
-any_no_last : (k : Kind) → is_any k ≡ true → is_last k ≡ false
+pub any_no_last : (k : Kind) → is_any k ≡ true → is_last k ≡ false
 any_no_last Bad_byte h = absurd (cc)
 any_no_last Bad_token h = absurd (cc)
 any_no_last End h = absurd (cc)

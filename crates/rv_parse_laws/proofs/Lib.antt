@@ -19,5 +19,7 @@ pub mod Cutting
 pub mod Places
 pub mod Wrongs
 pub mod WrongSections
+pub mod WrongStatements
+pub mod WrongPlaces
 pub mod FirstFault
 pub mod Worked

@@ -123,7 +123,7 @@ target_wrong R N (t ∷ front) at more w x (text, later, n) v shut read e ih = g
         (ih (seen_err (λ os. Target x ∷ os) (R (at ∷ more)) w (sym (behind_target other more) ∙ e)))
 
 -- where a target comes next, an expression is read
-target_parts : (ts : List Token) → target_next ts ≡ true → (x : Expression) × (rest : List Token) × (value_at ts ≡ Ok (x, rest)) × (front_begins (An_opening A_register) rest ≡ false)
+pub target_parts : (ts : List Token) → target_next ts ≡ true → (x : Expression) × (rest : List Token) × (value_at ts ≡ Ok (x, rest)) × (front_begins (An_opening A_register) rest ≡ false)
 target_parts ts next = go (value_at ts) refl next
   where
     shut : (b : Bool) → not b ≡ true → b ≡ false

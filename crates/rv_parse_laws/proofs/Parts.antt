@@ -64,7 +64,7 @@ begins_no_end : (k : Kind) (b : Beginning) → begins k ≡ b → (b ≡ beginni
 begins_no_end (NameToken word) b h some = refl
 begins_no_end _ b h some = absurd (some (sym h))
 
-begins_no_last : (k : Kind) (b : Beginning) → begins k ≡ b → (b ≡ beginnings.Nothing → ⊥) → is_last k ≡ false
+pub begins_no_last : (k : Kind) (b : Beginning) → begins k ≡ b → (b ≡ beginnings.Nothing → ⊥) → is_last k ≡ false
 begins_no_last (NameToken word) b h some = refl
 begins_no_last _ b h some = absurd (some (sym h))
 

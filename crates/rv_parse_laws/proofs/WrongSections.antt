@@ -26,8 +26,7 @@ long_after : (n place : ℕ) (front : List Token) (t : Token) (more : List Token
 long_after n place [] t more bytes longer is fits (here, first, rest, b, w, none) past =
     let sizes : length longer ≡ length (first ++ rest) = ap (λ (x : List ℕ). length x) w in
     let zero : length rest ≡ 0 = ap (λ (x : List ℕ). length x) none in
-    let lt : longest_name < n + length first = omega (arith, past, sizes, zero, length-append first rest) in
-    (
+    let lt : longest_name < n + length first = omega (arith, past, sizes, zero, length-append first rest) in (
       too_long_step n t more first b ∙ rw (over_test (n + length first) lt) refl,
       omega (arith, lt, length_behind place t more first (to_joins place t first here b)),
     )
@@ -38,8 +37,7 @@ long_after n place (u ∷ us) t more bytes longer (here, first, rest, b, w, afte
     let one : length first ≡ length first' = ap (λ (x : List ℕ). length x) same in
     let within : n + length first ≤ longest_name = omega (arith, fits, sizes, length-append first rest) in
     let h = long_after (n + length first) u.stop us t more rest rest' after (omega (arith, fits, sizes, length-append first rest)) after'
-        (omega (arith, past, sizes', one, length-append first' rest')) in
-    (
+    (omega (arith, past, sizes', one, length-append first' rest')) in (
       too_long_within n u (us ++ t ∷ more) first (wrong t limit) b (within_test (n + length first) within) h.0,
       omega (arith, h.1, length_behind place u (us ++ t ∷ more) first (to_joins place u first here b)),
     )
@@ -51,7 +49,7 @@ long_is ts t ([], more, name, longer, w, start, fits, (first, rest, is, v, none)
     let lt : longest_name < 0 + length first = omega (arith, past, sizes, zero, length-append first rest) in
     let over : longest_name < length (first ++ (joined_after t.stop more).0) = omega (arith, lt, length-append first (joined_after t.stop more).0) in
     ap section_at w ∙ long_err t more first (joined_after t.stop more).0 (joined_after t.stop more).1 (wrong t limit) is refl over
-        (too_long_step 0 t more first (ap bytes_of is) ∙ rw (over_test (0 + length first) lt) refl)
+    (too_long_step 0 t more first (ap bytes_of is) ∙ rw (over_test (0 + length first) lt) refl)
 long_is ts t (u ∷ us, more, name, longer, w, inl none, fits, joined, past) = absurd (cc none)
 long_is ts t (u ∷ us, more, name, longer, w, inr (first, rest, is, v, after), fits, (first', rest', is', v', after'), past) =
     let kinds : Name first ≡ Name first' = sym is ∙ is' in
@@ -61,10 +59,10 @@ long_is ts t (u ∷ us, more, name, longer, w, inr (first, rest, is, v, after), 
     let one : length first ≡ length first' = ap (λ (x : List ℕ). length x) same in
     let within : 0 + length first ≤ longest_name = omega (arith, fits, sizes, length-append first rest) in
     let h = long_after (0 + length first) u.stop us t more rest rest' after (omega (arith, fits, sizes, length-append first rest)) after'
-        (omega (arith, past, sizes', one, length-append first' rest')) in
+    (omega (arith, past, sizes', one, length-append first' rest')) in
     let over : longest_name < length (first ++ (joined_after u.stop (us ++ t ∷ more)).0) = omega (arith, h.1, length-append first (joined_after u.stop (us ++ t ∷ more)).0) in
     ap section_at w ∙ long_err u (us ++ t ∷ more) first (joined_after u.stop (us ++ t ∷ more)).0 (joined_after u.stop (us ++ t ∷ more)).1 (wrong t limit) is refl over
-        (too_long_within 0 u (us ++ t ∷ more) first (wrong t limit) (ap bytes_of is) (within_test (0 + length first) within) h.0)
+    (too_long_within 0 u (us ++ t ∷ more) first (wrong t limit) (ap bytes_of is) (within_test (0 + length first) within) h.0)
 
 pub section_wrongs : (ts : List Token) (t : Token) (code : ℕ) → IsWrongSection ts t code → section_at ts ≡ Err (wrong t code)
 section_wrongs ts t code (inl (us, w, none, is)) = ap section_at w ∙ ap (named_or (t ∷ us)) (none_at t us none) ∙ ap (λ n. Err (wrong t n)) (sym is)
@@ -103,9 +101,13 @@ section_said (t ∷ ts) w e end = go (first_name t.kind) refl
         let fits : length (first ++ f.bytes) ≤ longest_name = omega (arith, f.fits, length-append first f.bytes) in
         let lt : longest_name < length (first ++ f.longer) = omega (arith, f.past, length-append first f.longer) in
         let is_long : IsLongName (t ∷ ts) f.at =
-        (t ∷ f.front, f.more, first ++ f.bytes, first ++ f.longer, all, inr (first, f.bytes, is, refl, f.is), fits, (first, f.longer, is, refl, f.longer_is), lt) in
-        (f.at, limit, inr (inl (is_long, refl)), sym same ∙ ap (λ us. too_long 0 (t ∷ us)) f.whole
-            ∙ too_long_within 0 t (f.front ++ f.at ∷ f.more) first (wrong f.at limit) (ap bytes_of is) past (f.says f.more).0)
+        (t ∷ f.front, f.more, first ++ f.bytes, first ++ f.longer, all, inr (first, f.bytes, is, refl, f.is), fits, (first, f.longer, is, refl, f.longer_is), lt) in (
+          f.at,
+          limit,
+          inr (inl (is_long, refl)),
+          sym same ∙ ap (λ us. too_long 0 (t ∷ us)) f.whole
+              ∙ too_long_within 0 t (f.front ++ f.at ∷ f.more) first (wrong f.at limit) (ap bytes_of is) past (f.says f.more).0,
+        )
 
     read : (first : List ℕ) → t.kind ≡ Name first → section_at (t ∷ ts) ≡ cond (is_section_name (first ++ (joined_after t.stop ts).0)) (Ok (first ++ (joined_after t.stop ts).0, (joined_after t.stop ts).1))
         (cond (nat_lt longest_name (length (first ++ (joined_after t.stop ts).0))) (Err (too_long 0 (t ∷ ts))) (Err (wrong t unsupported_here)))
@@ -115,9 +117,21 @@ section_said (t ∷ ts) w e end = go (first_name t.kind) refl
         → cond {A = Read (List ℕ)} b (Err (too_long 0 (t ∷ ts))) (Err (wrong t unsupported_here)) ≡ Err w → SaidBy IsWrongSection (t ∷ ts) w
     refused first is bad true over h = long first is (grind (arith, nat_tests, over)) (nat_lt longest_name (0 + length first)) refl (wrongs _ w h)
     refused first is bad false over h =
-        let le : length (first ++ (joined_after t.stop ts).0) ≤ longest_name = grind (arith, nat_tests, over) in
-        (t, unsupported_here, inr (inr (ts, first ++ (joined_after t.stop ts).0, (joined_after t.stop ts).1, refl,
-            joined_name_found (t ∷ ts) (first ++ (joined_after t.stop ts).0) (joined_after t.stop ts).1 (name_at t ts first is), le, bad, refl)), sym (wrongs _ w h))
+        let le : length (first ++ (joined_after t.stop ts).0) ≤ longest_name = grind (arith, nat_tests, over) in (
+          t,
+          unsupported_here,
+          inr (inr (
+            ts,
+            first ++ (joined_after t.stop ts).0,
+            (joined_after t.stop ts).1,
+            refl,
+            joined_name_found (t ∷ ts) (first ++ (joined_after t.stop ts).0) (joined_after t.stop ts).1 (name_at t ts first is),
+            le,
+            bad,
+            refl,
+          )),
+          sym (wrongs _ w h),
+        )
 
     named : (first : List ℕ) → t.kind ≡ Name first → (b : Bool) → is_section_name (first ++ (joined_after t.stop ts).0) ≡ b → SaidBy IsWrongSection (t ∷ ts) w
     named first is true good = absurd (never (first ++ (joined_after t.stop ts).0, (joined_after t.stop ts).1) w (sym (read first is ∙ rw good refl) ∙ e))

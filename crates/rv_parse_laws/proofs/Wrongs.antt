@@ -42,7 +42,7 @@ inside_said ts w end e =
     let f = wrong_at is_register ts w end (seen_err tree_of (expression_at is_register ts) w e) in
     (f.1, f.3, (f.0, f.2, f.4, f.5), f.6)
 
-ends_before : (ts : List Token) (e : Expression) (rest : List Token) → value_at ts ≡ Ok (e, rest) → EndsBefore rest
+pub ends_before : (ts : List Token) (e : Expression) (rest : List Token) → value_at ts ≡ Ok (e, rest) → EndsBefore rest
 ends_before ts e rest read =
     let s = seen_ok tree_of (expression_at is_register ts) e rest read in
     (expression_found is_register ts s.0 rest s.1).1.ends
@@ -140,11 +140,18 @@ refused_said f p ts e rest read bad =
     let c = seen_ok (λ none. b.0.0) (single_at A_closing b.0.1) e rest b.2 in
     let q = single_found (An_opening A_register) ts a.0.0 a.0.1 a.1 in
     let x = argument_found f a.0.1 b.0.0 b.0.1 b.1 in
-    let d = single_found A_closing b.0.1 c.0 rest c.1 in
-    (
-      q.0, x.text, d.0, rest, b.0.0,
+    let d = single_found A_closing b.0.1 c.0 rest c.1 in (
+      q.0,
+      x.text,
+      d.0,
+      rest,
+      b.0.0,
       q.1 ∙ ap (λ us. q.0 ∷ us) (x.whole ∙ ap (λ us. x.text ++ us) d.1),
-      (opening_single q.0.kind a.0.0 q.2).0, x.is, (closing_single d.0.kind c.0 d.2).0, ap (is_refused_by f) (sym c.2) ∙ bad, refl,
+      (opening_single q.0.kind a.0.0 q.2).0,
+      x.is,
+      (closing_single d.0.kind c.0 d.2).0,
+      ap (is_refused_by f) (sym c.2) ∙ bad,
+      refl,
     )
 
 -- a function of a value
