@@ -65,7 +65,7 @@ callee ts t code (inr (next, x)) = value roles.Target ts t code x
 section : (ts : List Token) (t : Token) (code : ℕ) → IsWrongSection ts t code → Occurs t ts
 section ts t code (inl (us, w, none, is)) = first t ts us w
 section ts t code (inr (inl ((front, more, name, longer, w, start, fits, joined, past), is))) = (front, more, w)
-section ts t code (inr (inr (us, name, rest, w, reads, fits, bad, is))) = first t ts us w
+section ts t code (inr (inr (us, name, rest, w, reads, bad))) = first t ts us w
 
 operand : (s : Slot) (ts : List Token) (t : Token) (code : ℕ) → IsWrongOperand s ts t code → Occurs t ts
 operand (A_value role) ts t code x = value role ts t code x

@@ -1,7 +1,9 @@
 -- The name of a section is wrong at the token, and with the code, that specs/Wrong says.
 
-use Rattle.std.proofs.Common.{◌≡◌, ℕ, ◌+◌, ◌<◌, ◌≤◌, Bool, true, false, cond, nat_lt, List, [], ◌∷◌, ◌++◌, Option, Some, None, Ok, Err, refl, sym, ◌∙◌, ap, subst, ◌⊎◌, inl, inr, length, length-append, arith}
+use Rattle.std.proofs.Common.{◌≡◌, ℕ, ◌+◌, ◌<◌, ◌≤◌, Bool, true, false, cond, ◌&&◌, not, nat_le, nat_lt, List, [], ◌∷◌, ◌++◌, Option, Some, None, Ok, Err, refl, sym, ◌∙◌, ap, subst, ◌⊎◌, inl, inr, length, length-append, codes, arith}
+use Rattle.std.specs.Str.{bytes_eq}
 use Rattle.std.proofs.lemmas.Bool.Decides.{nat_tests}
+use Rattle.std.proofs.lemmas.Slice.Eq.{bytes_eq-Decides}
 use Rattle.rv_text_laws.specs.Grammar.{Kind, Name}
 use Rattle.rv_text_laws.specs.Lexing.{Token, ended}
 use Rattle.rv_text_laws.specs.Codes.{unsupported_here, limit}
@@ -9,12 +11,14 @@ use Rattle.rv_text_laws.specs.SyntaxError.{SyntaxError, wrong, Read, longest_nam
 use Rattle.rv_text_laws.specs.Joined.{bytes_of, AreAfter, IsJoined, ReadsJoined, joined_after, first_name, joined_at}
 use Rattle.rv_text_laws.proofs.Joins.{joined_is as joined_name_is, joined_found as joined_name_found}
 use Rattle.rv_parse_laws.specs.Syntax.{is_section_name, A_section}
+use Rattle.rv_statement.specs.Statement.{Word}
+use Rattle.rv_parse_laws.specs.Content.{left_out, content_fault}
 use Rattle.rv_parse_laws.specs.Faults.{wrong_first}
 use Rattle.rv_parse_laws.specs.Wrong.{IsLongName, IsWrongSection, Passes}
 use Rattle.rv_parse_laws.specs.Parsing.{too_long, wrong_front, named_or, section_at}
 use Rattle.rv_parse_laws.proofs.Failing.{never, wrongs}
 use Rattle.rv_parse_laws.proofs.Sections.{joins_parts, to_joins, none_at, name_at, section_by, first_name_is, LongAt, too_long_step, too_long_within, length_behind, long_at, long_err, over_test}
-use Rattle.rv_parse_laws.proofs.Wrongs.{SaidBy}
+use Rattle.rv_parse_laws.proofs.Wrongs.{SaidBy, left_out_is}
 
 within_test : (n : ℕ) → n ≤ longest_name → nat_lt longest_name n ≡ false
 within_test n fits = grind (arith, nat_tests, fits)
@@ -64,11 +68,32 @@ long_is ts t (u ∷ us, more, name, longer, w, inr (first, rest, is, v, after), 
     ap section_at w ∙ long_err u (us ++ t ∷ more) first (joined_after u.stop (us ++ t ∷ more)).0 (joined_after u.stop (us ++ t ∷ more)).1 (wrong t limit) is refl over
     (too_long_within 0 u (us ++ t ∷ more) first (wrong t limit) (ap bytes_of is) (within_test (0 + length first) within) h.0)
 
+-- the name of the rows is refused
+rows_content : (name : List ℕ) (code : ℕ) → content_fault true A_section (Word name) ≡ Some code
+    → (is_section_name name ≡ false) × (nat_lt longest_name (length name) ≡ false) × (code ≡ unsupported_here)
+unfolding is_section_name
+rows_content name code h =
+    let r = left_out_is (bytes_eq name (codes ".rv.rows")) code h in
+    let same : name ≡ codes ".rv.rows" = (bytes_eq-Decides name (codes ".rv.rows")).0 r.0 in
+    (rw same refl, rw same refl, r.1)
+
+content_rows : (name : List ℕ) → is_section_name name ≡ false → length name ≤ longest_name → content_fault true A_section (Word name) ≡ Some unsupported_here
+unfolding is_section_name
+content_rows name bad fits = go (bytes_eq name (codes ".rv.rows")) bad
+  where
+    fit : nat_le (length name) longest_name ≡ true
+    fit = grind (arith, nat_tests, fits)
+
+    go : (b : Bool) → (nat_le (length name) longest_name && not b) ≡ false → left_out b ≡ Some unsupported_here
+    go true h = refl
+    go false h = absurd (let no : (true && true) ≡ false = sym (ap (λ c. c && true) fit) ∙ h in cc)
+
 pub section_wrongs : (ts : List Token) (t : Token) (code : ℕ) → IsWrongSection ts t code → section_at ts ≡ Err (wrong t code)
 section_wrongs ts t code (inl (us, w, none, is)) = ap section_at w ∙ ap (named_or (t ∷ us)) (none_at t us none) ∙ ap (λ n. Err (wrong t n)) (sym is)
 section_wrongs ts t code (inr (inl (long, is))) = long_is ts t long ∙ ap (λ n. Err (wrong t n)) (sym is)
-section_wrongs ts t code (inr (inr (us, name, rest, w, reads, fits, bad, is))) =
-    ap (named_or ts) (joined_name_is ts name rest reads) ∙ ap (λ xs. named_or xs (Some (name, rest))) w ∙ rw (bad, within_test (length name) fits, is) refl
+section_wrongs ts t code (inr (inr (us, name, rest, w, reads, bad))) =
+    let r = rows_content name code bad in
+    ap (named_or ts) (joined_name_is ts name rest reads) ∙ ap (λ xs. named_or xs (Some (name, rest))) w ∙ rw (r.0, r.1, r.2) refl
 
 pub section_passed : (one rest : List Token) (name : List ℕ) → IsJoined one name → is_section_name name ≡ true
     → ((t : Token) (us : List Token) (longer : List ℕ) → rest ≡ t ∷ us → IsJoined (one ++ t ∷ []) longer → ⊥) → section_at (one ++ rest) ≡ Ok (name, rest)
@@ -126,9 +151,7 @@ section_said (t ∷ ts) w e end = go (first_name t.kind) refl
             (joined_after t.stop ts).1,
             refl,
             joined_name_found (t ∷ ts) (first ++ (joined_after t.stop ts).0) (joined_after t.stop ts).1 (name_at t ts first is),
-            le,
-            bad,
-            refl,
+            content_rows (first ++ (joined_after t.stop ts).0) bad le,
           )),
           sym (wrongs _ w h),
         )

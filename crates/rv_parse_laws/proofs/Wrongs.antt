@@ -13,7 +13,8 @@ use Rattle.rv_statement.specs.declared.pseudo.Function.{Function}
 use Rattle.rv_statement.specs.declared.pseudo.Function.TheVariants.{Hi, Lo, PcrelHi, PcrelLo}
 use Rattle.rv_parse_laws.specs.declared.role.Role.{Role}
 use Rattle.rv_parse_laws.specs.declared.role.Role.TheVariants as roles
-use Rattle.rv_parse_laws.specs.Syntax.{is_register, register_of, is_percent, is_opening, targets, valued, is_refused, function_in, label_named, is_refused_by, IsValue, IsArgument, IsValueIn, Slot, A_register, A_value, An_address, A_closing, An_opening, single}
+use Rattle.rv_parse_laws.specs.Syntax.{is_register, register_of, is_percent, is_opening, targets, valued, is_number, is_refused, function_in, label_named, is_refused_by, IsValue, IsArgument, IsValueIn, Slot, A_register, A_value, An_address, A_closing, An_opening, single}
+use Rattle.rv_parse_laws.specs.Content.{left_out, content_fault}
 use Rattle.rv_parse_laws.specs.Faults.{may_call, is_name, wrong_or, wrong_symbol, wrong_function, wrong_first}
 use Rattle.rv_parse_laws.specs.Wrong.{IsWrongFirst, IsWrongInside, IsRefused, IsRefusedCall, IsWrongFunction, IsWrongArgument, EndsArgument, IsWrongCall, function_next, IsWrongApplied, IsWrongPlain, IsWrongValue, EndsValue, IsWrongBase, IsWrongOffset, IsWrongAddress}
 use Rattle.rv_parse_laws.specs.Parsing.{◌>>=◌, seen_as, taken, value_at, allowed, single_at, label_at, argument_at, enclosed_at, called_at, named_at, applied_at, value_in, base_at, base_next, offset_at, operand_at}
@@ -47,20 +48,44 @@ ends_before ts e rest read =
     let s = seen_ok tree_of (expression_at is_register ts) e rest read in
     (expression_found is_register ts s.0 rest s.1).1.ends
 
+-- what is left out, and what is not
+pub left_out_is : (b : Bool) (code : ℕ) → left_out b ≡ Some code → (b ≡ true) × (code ≡ unsupported_here)
+left_out_is true code h = let same : unsupported_here ≡ code = cc in (refl, sym same)
+left_out_is false code h = absurd (cc)
+
+-- a number as a target is refused
+refused_content : (role : Role) (e : Expression) (code : ℕ) → content_fault true (A_value role) (valued role e) ≡ Some code → (is_refused role e ≡ true) × (code ≡ unsupported_here)
+refused_content role e code h = go (targets role) h
+  where
+    go : (b : Bool) → content_fault true (A_value role) (cond b (Target e) (Value e)) ≡ Some code → ((b && is_number e) ≡ true) × (code ≡ unsupported_here)
+    go true h = left_out_is (is_number e) code h
+    go false h = absurd (cc)
+
+content_refused : (role : Role) (e : Expression) → is_refused role e ≡ true → content_fault true (A_value role) (valued role e) ≡ Some unsupported_here
+content_refused role e h = go (targets role) h
+  where
+    go : (b : Bool) → (b && is_number e) ≡ true → content_fault true (A_value role) (cond b (Target e) (Value e)) ≡ Some unsupported_here
+    go true h = rw h refl
+    go false h = absurd (cc)
+
 -- an expression that is wrong, or refused at the token p
-abbrev Tested : (Expression → Bool) → Token → List Token → Token → ℕ → Type 0
-Tested T p ts t code = IsWrongInside ts t code ⊎ ((t ≡ p) × IsRefused T ts code)
+abbrev Tested : Role → Token → List Token → Token → ℕ → Type 0
+Tested role p ts t code = IsWrongInside ts t code ⊎ ((t ≡ p) × IsRefused role ts code)
 
-tested_is : (T : Expression → Bool) (p : Token) (ts : List Token) (t : Token) (code : ℕ) → Tested T p ts t code → allowed T p (value_at ts) ≡ Err (wrong t code)
-tested_is T p ts t code (inl x) = ap (allowed T p) (inside_is ts t code x)
-tested_is T p ts t code (inr (same, (one, rest, e, w, v, ends, bad, is))) =
-    ap (λ us. allowed T p (value_at us)) w ∙ ap (allowed T p) (value_before one rest e v ends) ∙ rw (bad, is, same) refl
+tested_is : (role : Role) (p : Token) (ts : List Token) (t : Token) (code : ℕ) → Tested role p ts t code → allowed (λ e. is_refused role e) p (value_at ts) ≡ Err (wrong t code)
+tested_is role p ts t code (inl x) = ap (allowed (λ e. is_refused role e) p) (inside_is ts t code x)
+tested_is role p ts t code (inr (same, (one, rest, e, w, v, ends, bad))) =
+    let r = refused_content role e code bad in
+    ap (λ us. allowed (λ x. is_refused role x) p (value_at us)) w ∙ ap (allowed (λ x. is_refused role x) p) (value_before one rest e v ends) ∙ refused_at e r.0 r.1
+  where
+    refused_at : (e : Expression) → is_refused role e ≡ true → code ≡ unsupported_here → allowed (λ x. is_refused role x) p (Ok (e, rest)) ≡ Err (wrong t code)
+    refused_at e bad is = rw (bad, is, same) refl
 
-tested_said : (T : Expression → Bool) (p : Token) (ts : List Token) (w : SyntaxError) → ended ts ≡ true → allowed T p (value_at ts) ≡ Err w → SaidBy (Tested T p) ts w
-tested_said T p ts w end e = elim (allowed_err T p (value_at ts) w e) [
+tested_said : (role : Role) (p : Token) (ts : List Token) (w : SyntaxError) → ended ts ≡ true → allowed (λ e. is_refused role e) p (value_at ts) ≡ Err w → SaidBy (Tested role p) ts w
+tested_said role p ts w end e = elim (allowed_err (λ x. is_refused role x) p (value_at ts) w e) [
   | inl f ↦ (let k = inside_said ts w end f in (k.0, k.1, inl k.2, k.3))
   | inr g ↦ (let x = value_ended ts g.0 g.1 g.2 in
-      (p, unsupported_here, inr (refl, (x.text, g.1, g.0, x.whole, x.is, ends_before ts g.0 g.1 g.2, g.3, refl)), g.4))
+      (p, unsupported_here, inr (refl, (x.text, g.1, g.0, x.whole, x.is, ends_before ts g.0 g.1 g.2, content_refused role g.0 g.3)), g.4))
 ]
 
 -- arguments
@@ -129,12 +154,13 @@ call_said f ts w end e = elim (bind_err (single_at (An_opening A_register) ts) (
     ]
 
 -- an argument that is refused
-refused_call : (f : Function) (p t : Token) (ts : List Token) (code : ℕ) → t ≡ p → IsRefusedCall f ts code → called_at f p ts ≡ Err (wrong t code)
-refused_call f p t ts code same (q, one, c, rest, e, w, opens, is, shut, bad, code_is) =
-    ap (called_at f p) w ∙ ap (λ r. seen_as (Applied f) (allowed (λ x. is_refused_by f x) p r)) (enclosed_is f q one e c rest opens is shut) ∙ rw (bad, code_is, same) refl
+refused_call : (role : Role) (f : Function) (p t : Token) (ts : List Token) (code : ℕ) → t ≡ p → IsRefusedCall role f ts code → called_at f p ts ≡ Err (wrong t code)
+refused_call role f p t ts code same (q, one, c, rest, e, w, opens, is, shut, bad) =
+    let r = left_out_is (is_refused_by f e) code bad in
+    ap (called_at f p) w ∙ ap (λ r. seen_as (Applied f) (allowed (λ x. is_refused_by f x) p r)) (enclosed_is f q one e c rest opens is shut) ∙ rw (r.0, r.1, same) refl
 
-refused_said : (f : Function) (p : Token) (ts : List Token) (e : Expression) (rest : List Token) → enclosed_at f ts ≡ Ok (e, rest) → is_refused_by f e ≡ true → IsRefusedCall f ts unsupported_here
-refused_said f p ts e rest read bad =
+refused_said : (role : Role) (f : Function) (p : Token) (ts : List Token) (e : Expression) (rest : List Token) → enclosed_at f ts ≡ Ok (e, rest) → is_refused_by f e ≡ true → IsRefusedCall role f ts unsupported_here
+refused_said role f p ts e rest read bad =
     let a = bind_ok (single_at (An_opening A_register) ts) (λ q. argument_at f q.1 >>= λ a. seen_as (λ none. a.0) (single_at A_closing a.1)) (e, rest) read in
     let b = bind_ok (argument_at f a.0.1) (λ a. seen_as (λ none. a.0) (single_at A_closing a.1)) (e, rest) a.2 in
     let c = seen_ok (λ none. b.0.0) (single_at A_closing b.0.1) e rest b.2 in
@@ -150,8 +176,7 @@ refused_said f p ts e rest read bad =
       (opening_single q.0.kind a.0.0 q.2).0,
       x.is,
       (closing_single d.0.kind c.0 d.2).0,
-      ap (is_refused_by f) (sym c.2) ∙ bad,
-      refl,
+      ap left_out (ap (is_refused_by f) (sym c.2) ∙ bad),
     )
 
 -- a function of a value
@@ -165,12 +190,12 @@ applied_wrong role p us t code (inl (n, vs, w, none, k)) =
     ap (applied_at role p) w ∙ ap (named_at p n vs) none ∙ ap (λ (x : SyntaxError). Err x) (function_is p n t code k)
 applied_wrong role p us t code (inr (n, vs, f, w, is, inl x)) =
     ap (applied_at role p) w ∙ ap (named_at p n vs) is ∙ ap (λ r. seen_as (Applied f) (allowed (λ e. is_refused_by f e) p r)) (call_is f vs t code x)
-applied_wrong role p us t code (inr (n, vs, f, w, is, inr (same, r))) = ap (applied_at role p) w ∙ ap (named_at p n vs) is ∙ refused_call f p t vs code same r
+applied_wrong role p us t code (inr (n, vs, f, w, is, inr (same, r))) = ap (applied_at role p) w ∙ ap (named_at p n vs) is ∙ refused_call role f p t vs code same r
 
 plain_wrong : (role : Role) (u : Token) (us : List Token) (t : Token) (code : ℕ) → IsWrongPlain role (u ∷ us) t code
     → seen_as (valued role) (allowed (λ e. is_refused role e) u (value_at (u ∷ us))) ≡ Err (wrong t code)
-plain_wrong role u us t code (inl x) = ap (seen_as (valued role)) (tested_is (λ e. is_refused role e) u (u ∷ us) t code (inl x))
-plain_wrong role u us t code (inr (vs, w, r)) = ap (seen_as (valued role)) (tested_is (λ e. is_refused role e) u (u ∷ us) t code (inr (sym (heads w), r)))
+plain_wrong role u us t code (inl x) = ap (seen_as (valued role)) (tested_is role u (u ∷ us) t code (inl x))
+plain_wrong role u us t code (inr (vs, w, r)) = ap (seen_as (valued role)) (tested_is role u (u ∷ us) t code (inr (sym (heads w), r)))
 
 empty : (front : List Token) (t : Token) (more : List Token) → [] ≡ front ++ t ∷ more → ⊥
 empty [] t more e = cc
@@ -195,7 +220,7 @@ applied_said role p (n ∷ ts) w end e = go (function_in role n.kind) refl e
     go : (x : Option Function) → function_in role n.kind ≡ x → named_at p n ts x ≡ Err w → SaidBy (IsWrongApplied role p) (n ∷ ts) w
     go (Some f) is e = elim (allowed_err (λ x. is_refused_by f x) p (enclosed_at f ts) w (seen_err (Applied f) (allowed (λ x. is_refused_by f x) p (enclosed_at f ts)) w e)) [
       | inl h ↦ (let k = call_said f ts w (ended_more n ts (function_no_last role n.kind f is) end) h in (k.0, k.1, inr (n, ts, f, refl, is, inl k.2), k.3))
-      | inr g ↦ (p, unsupported_here, inr (n, ts, f, refl, is, inr (refl, refused_said f p ts g.0 g.1 g.2 g.3)), g.4)
+      | inr g ↦ (p, unsupported_here, inr (n, ts, f, refl, is, inr (refl, refused_said role f p ts g.0 g.1 g.2 g.3)), g.4)
     ]
     go None none e = unnamed none (is_name n.kind) refl (wrongs _ w e)
 
@@ -213,7 +238,7 @@ value_said role (t ∷ ts) w end e = go (may_call role && is_percent t.kind) ref
         let k = applied_said role t ts w (ended_more t ts (percent_no_last t.kind (and_parts (may_call role) (is_percent t.kind) h).1) end) e in
         (k.0, k.1, inl (h, (t, ts, refl, k.2)), k.3)
     go false h e =
-        let k = tested_said (λ x. is_refused role x) t (t ∷ ts) w end (seen_err (valued role) (allowed (λ x. is_refused role x) t (value_at (t ∷ ts))) w e) in
+        let k = tested_said role t (t ∷ ts) w end (seen_err (valued role) (allowed (λ x. is_refused role x) t (value_at (t ∷ ts))) w e) in
         elim k.2 [
           | inl x ↦ (k.0, k.1, inr (h, inl x), k.3)
           | inr x ↦ (k.0, k.1, inr (h, inr (ts, ap (λ (u : Token). u ∷ ts) (sym x.0), x.1)), k.3)

@@ -1,6 +1,7 @@
 pub mod Words
 pub mod Syntax
 pub mod Faults
+pub mod Content
 pub mod Opening
 pub mod Parsing
 pub mod Reading

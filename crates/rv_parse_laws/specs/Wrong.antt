@@ -5,20 +5,21 @@
 use Rattle.std.specs.Prelude.{◌≡◌, ℕ, zero, suc, ◌<◌, ◌≤◌, Bool, true, false, ◌&&◌, List, [], ◌∷◌, ◌++◌, length, Some, None, ◌⊎◌}
 use Rattle.std.specs.List.{list_all}
 use Rattle.rv_text_laws.specs.Lexing.{Token}
-use Rattle.rv_text_laws.specs.Codes.{bad_operands, unsupported_here, limit}
+use Rattle.rv_text_laws.specs.Codes.{bad_operands, limit}
 use Rattle.rv_text_laws.specs.SyntaxError.{longest_name}
 use Rattle.rv_text_laws.specs.Joined.{IsJoined, ReadsJoined, first_name}
 use Rattle.rv_text_laws.specs.Expression.{EndsBefore}
 use Rattle.rv_text_laws.specs.ExpressionAt.{FailsAt}
-use Rattle.rv_statement.specs.Statement.{Expression, Operand, Applied}
+use Rattle.rv_statement.specs.Statement.{Expression, Operand, Applied, Word}
 use Rattle.rv_statement.specs.declared.pseudo.Function.{Function}
 use Rattle.rv_statement.specs.declared.pseudo.Function.TheVariants.{PcrelLo}
 use Rattle.rv_parse_laws.specs.declared.role.Role.{Role}
 use Rattle.rv_parse_laws.specs.declared.role.Role.TheVariants as roles
 use Rattle.rv_parse_laws.specs.declared.beginning.Beginning.{Beginning}
 use Rattle.rv_parse_laws.specs.declared.beginning.Beginning.TheVariants as beginnings
-use Rattle.rv_parse_laws.specs.Syntax.{is_register, register_of, label_of, begins, is_comma, is_percent, is_end, is_opening, is_closing, is_any, is_section_name, is_refused, function_in, label_named, is_refused_by, IsValue, IsArgument, IsValueIn, IsLinked, IsOperand, Slot, A_register, A_value, A_target, An_address, A_callee, A_section, A_plt, A_comma, A_closing, An_opening, single, front_begins, Slots, Stops, Takes, Chooses, Locates, Lists, Anything, slots, places, colon_next}
+use Rattle.rv_parse_laws.specs.Syntax.{is_register, register_of, label_of, begins, is_comma, is_percent, is_end, is_opening, is_closing, is_any, is_section_name, valued, function_in, label_named, IsValue, IsArgument, IsValueIn, IsLinked, IsOperand, Slot, A_register, A_value, A_target, An_address, A_callee, A_section, A_plt, A_comma, A_closing, An_opening, single, front_begins, Slots, Stops, Takes, Chooses, Locates, Lists, Anything, slots, places, colon_next}
 use Rattle.rv_parse_laws.specs.Parsing.{base_next, plt_next}
+use Rattle.rv_parse_laws.specs.Content.{content_fault}
 use Rattle.rv_parse_laws.specs.Faults.{may_call, is_name, wrong_or, wrong_symbol, wrong_first, wrong_after, wrong_any, wrong_start, wrong_label}
 
 -- the token at the front cannot stand in this slot
@@ -29,11 +30,11 @@ IsWrongFirst s ts t code = (us : List Token) × (ts ≡ t ∷ us) × (single s t
 abbrev pub IsWrongInside : List Token → Token → ℕ → Type 0
 IsWrongInside ts t code = (front more : List Token) × (ts ≡ front ++ t ∷ more) × FailsAt is_register front t code
 
--- a whole expression stands at the front, and is refused
-abbrev pub IsRefused : (Expression → Bool) → List Token → ℕ → Type 0
-IsRefused refused ts code =
-    (one rest : List Token) × (e : Expression) × (ts ≡ one ++ rest) × IsValue one e × EndsBefore rest × (refused e ≡ true)
-    × (code ≡ unsupported_here)
+-- a whole expression stands at the front, and is refused for what it says
+abbrev pub IsRefused : Role → List Token → ℕ → Type 0
+IsRefused role ts code =
+    (one rest : List Token) × (e : Expression) × (ts ≡ one ++ rest) × IsValue one e × EndsBefore rest
+    × (content_fault true (A_value role) (valued role e) ≡ Some code)
 
 -- after the `%` p no function stands that may stand there; if it is a name, it is wrong at the `%`
 abbrev pub IsWrongFunction : Role → Token → List Token → Token → ℕ → Type 0
@@ -59,11 +60,11 @@ IsWrongCall f ts t code =
     × (IsWrongArgument f us t code
     ⊎ ((one rest : List Token) × (e : Expression) × (us ≡ one ++ rest) × IsArgument f one e × EndsArgument f rest × IsWrongFirst A_closing rest t code)))
 
--- a whole argument in parentheses, which is refused
-abbrev pub IsRefusedCall : Function → List Token → ℕ → Type 0
-IsRefusedCall f ts code =
+-- a whole argument in parentheses, which is refused for what it says
+abbrev pub IsRefusedCall : Role → Function → List Token → ℕ → Type 0
+IsRefusedCall role f ts code =
     (q : Token) × (one : List Token) × (c : Token) × (rest : List Token) × (e : Expression) × (ts ≡ q ∷ (one ++ c ∷ rest)) × (is_opening q.kind ≡ true)
-    × IsArgument f one e × (is_closing c.kind ≡ true) × (is_refused_by f e ≡ true) × (code ≡ unsupported_here)
+    × IsArgument f one e × (is_closing c.kind ≡ true) × (content_fault true (A_value role) (Applied f e) ≡ Some code)
 
 -- a function comes next, where one may stand
 abbrev pub function_next : Role → List Token → Bool
@@ -75,12 +76,12 @@ abbrev pub IsWrongApplied : Role → Token → List Token → Token → ℕ → 
 IsWrongApplied role p ts t code =
     IsWrongFunction role p ts t code
     ⊎ ((n : Token) × (us : List Token) × (f : Function) × (ts ≡ n ∷ us) × (function_in role n.kind ≡ Some f)
-    × (IsWrongCall f us t code ⊎ ((t ≡ p) × IsRefusedCall f us code)))
+    × (IsWrongCall f us t code ⊎ ((t ≡ p) × IsRefusedCall role f us code)))
 
 -- an expression in its place
 abbrev pub IsWrongPlain : Role → List Token → Token → ℕ → Type 0
 IsWrongPlain role ts t code =
-    IsWrongInside ts t code ⊎ ((us : List Token) × (ts ≡ t ∷ us) × IsRefused (λ e. is_refused role e) ts code)
+    IsWrongInside ts t code ⊎ ((us : List Token) × (ts ≡ t ∷ us) × IsRefused role ts code)
 
 abbrev pub IsWrongValue : Role → List Token → Token → ℕ → Type 0
 IsWrongValue role ts t code =
@@ -132,8 +133,8 @@ abbrev pub IsWrongSection : List Token → Token → ℕ → Type 0
 IsWrongSection ts t code =
     ((us : List Token) × (ts ≡ t ∷ us) × (first_name t.kind ≡ None) × (code ≡ wrong_first A_section t.kind))
     ⊎ (IsLongName ts t × (code ≡ limit))
-    ⊎ ((us : List Token) × (name : List ℕ) × (rest : List Token) × (ts ≡ t ∷ us) × ReadsJoined ts name rest × (length name ≤ longest_name)
-    × (is_section_name name ≡ false) × (code ≡ unsupported_here))
+    ⊎ ((us : List Token) × (name : List ℕ) × (rest : List Token) × (ts ≡ t ∷ us) × ReadsJoined ts name rest
+    × (content_fault true A_section (Word name) ≡ Some code))
 
 -- what stands in a slot
 abbrev pub IsWrongOperand : Slot → List Token → Token → ℕ → Type 0
