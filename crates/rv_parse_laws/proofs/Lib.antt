@@ -18,6 +18,7 @@ pub mod Progress
 pub mod Cutting
 pub mod Places
 pub mod Wrongs
+pub mod Contents
 pub mod WrongSections
 pub mod WrongStatements
 pub mod WrongPlaces

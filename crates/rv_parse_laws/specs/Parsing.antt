@@ -11,6 +11,7 @@ use Rattle.rv_text_laws.specs.Expression.{Leaf, Symbol, tree_of}
 use Rattle.rv_text_laws.specs.ExpressionAt.{expression_at}
 use Rattle.rv_statement.specs.Statement.{Expression, Operand, Applied, Target, Word, StatementKind, Instruction, Directs}
 use Rattle.rv_parse_laws.specs.Syntax.{is_register, symbol_of, label_of, begins, is_comma, is_percent, is_end, is_opening, is_any, is_section_name, valued, is_refused, function_in, label_named, is_refused_by, Slot, A_register, A_value, A_target, An_address, A_callee, A_section, Some_flags, At_sign, A_plt, A_comma, A_closing, An_opening, single, front_begins, Slots, Stops, Takes, Chooses, Locates, Lists, Anything, slots, places, directed, colon_next, Part, Ends, Says}
+pub use Rattle.rv_parse_laws.specs.Syntax.{base_next, plt_next}
 use Rattle.rv_parse_laws.specs.Faults.{may_call, wrong_function, wrong_symbol, wrong_first, wrong_after, wrong_any, wrong_start, wrong_label}
 use Rattle.rv_parse_laws.specs.Opening.{flags_fault, type_fault, is_section}
 use Rattle.rv_statement.specs.declared.pseudo.Function.{Function}
@@ -88,11 +89,6 @@ abbrev pub base_at : List Token → Read (List Operand)
 base_at ts =
     single_at (An_opening A_register) ts >>= λ o. single_at A_register o.1 >>= λ r. seen_as (λ none. r.0) (single_at A_closing r.1)
 
--- a register in parentheses comes next: a register's name stands behind the first
-abbrev pub base_next : List Token → Bool
-base_next [] = false
-base_next (t ∷ ts) = is_opening t.kind && front_begins A_register ts
-
 -- an expression, and then a register in parentheses
 abbrev pub offset_at : List Token → Read (List Operand)
 offset_at ts = value_in roles.Operand ts >>= λ v. seen_as (λ os. v.0 ∷ os) (base_at v.1)
@@ -104,11 +100,6 @@ is_target (Err w) = false
 
 abbrev pub target_next : List Token → Bool
 target_next ts = is_target (value_at ts)
-
--- a symbol and `@` come next
-abbrev pub plt_next : List Token → Bool
-plt_next [] = false
-plt_next (t ∷ ts) = is_some (symbol_of t.kind) && front_begins At_sign ts
 
 -- a symbol as a target
 abbrev pub symbol_target : Kind → List Operand

@@ -434,6 +434,16 @@ abbrev pub front_begins : Slot → List Token → Bool
 front_begins s [] = false
 front_begins s (t ∷ ts) = is_some (single s t.kind)
 
+-- a register in parentheses comes next: a register's name stands behind the first
+abbrev pub base_next : List Token → Bool
+base_next [] = false
+base_next (t ∷ ts) = is_opening t.kind && front_begins A_register ts
+
+-- a symbol and `@` come next
+abbrev pub plt_next : List Token → Bool
+plt_next [] = false
+plt_next (t ∷ ts) = is_some (symbol_of t.kind) && front_begins At_sign ts
+
 -- what stands in a place, and then what N says
 abbrev pub IsTaken : Slot → (List Token → List Operand → Type 0) → List Token → List Operand → Type 0
 IsTaken s N ts os =
