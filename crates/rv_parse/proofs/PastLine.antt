@@ -34,10 +34,13 @@ and_parts true b h = (refl, h)
 and_parts false b h = absurd (cc)
 
 -- what is found, behind lines and the bytes of this line
-found_from : (bytes front line : List ℕ) (place before p : ℕ) (all : List ℕ) → all ≡ front ++ (line ++ bytes) → place ≡ length front + length line → before ≡ length line
+abbrev Found_from : List ℕ → ℕ → List ℕ → Type 0
+Found_from bytes p all =
+    (front line : List ℕ) (place before : ℕ) → all ≡ front ++ (line ++ bytes) → place ≡ length front + length line → before ≡ length line
     → list_all in_line line ≡ true → past_line place before bytes ≡ Some p → IsPastLine all p
-found_from [] front line place before p all whole here count is e = absurd (cc)
-found_from (b ∷ bs) front line place before p all whole here count is e = go (b == 10) refl e
+
+found_step : (b : ℕ) (bs : List ℕ) (p : ℕ) (all : List ℕ) → Found_from bs p all → Found_from (b ∷ bs) p all
+found_step b bs p all further front line place before whole here count is e = go (b == 10) refl e
   where
     moved : all ≡ front ++ ((line ++ b ∷ []) ++ bs)
     moved = whole ∙ ap (λ us. front ++ us) (sym (append_assoc line (b ∷ []) bs))
@@ -45,32 +48,35 @@ found_from (b ∷ bs) front line place before p all whole here count is e = go (
     one : length (line ++ b ∷ []) ≡ length line + 1
     one = length-append line (b ∷ [])
 
+    limited : (b == 10) ≡ false → (t : Bool) → (before == longest_line) ≡ t → cond t (Some place) (past_line (place + 1) (before + 1) bs) ≡ Some p → IsPastLine all p
+    limited same true full e =
+        let size : before ≡ longest_line = eqb-true before longest_line full in
+        let at : place ≡ p = same_Some place p e in
+        record {
+          front = front;
+          line = line;
+          byte = b;
+          more = bs;
+          whole = whole;
+          longest = sym count ∙ size;
+          line_is = is;
+          byte_is = no_feed b same;
+          place_is = sym at ∙ here ∙ ap (λ n. length front + n) (sym count ∙ size);
+        }
+    limited same false less e = further front (line ++ b ∷ []) (place + 1) (before + 1) moved (omega (arith, here, one)) (omega (arith, count, one)) (all_more line b is (no_feed b same)) e
+
     go : (t : Bool) → (b == 10) ≡ t → cond t (past_line (place + 1) 0 bs) (cond (before == longest_line) (Some place) (past_line (place + 1) (before + 1) bs)) ≡ Some p → IsPastLine all p
     go true ends e =
-        found_from bs (front ++ (line ++ b ∷ [])) [] (place + 1) 0 p all (moved ∙ sym (append_assoc front (line ++ b ∷ []) bs))
+        further (front ++ (line ++ b ∷ [])) [] (place + 1) 0 (moved ∙ sym (append_assoc front (line ++ b ∷ []) bs))
         (omega (arith, here, one, length-append front (line ++ b ∷ []))) refl refl e
-    go false same e = limited (before == longest_line) refl e
-      where
-        limited : (t : Bool) → (before == longest_line) ≡ t → cond t (Some place) (past_line (place + 1) (before + 1) bs) ≡ Some p → IsPastLine all p
-        limited true full e =
-            let size : before ≡ longest_line = eqb-true before longest_line full in
-            let at : place ≡ p = same_Some place p e in
-            record {
-              front = front;
-              line = line;
-              byte = b;
-              more = bs;
-              whole = whole;
-              longest = sym count ∙ size;
-              line_is = is;
-              byte_is = no_feed b same;
-              place_is = sym at ∙ here ∙ ap (λ n. length front + n) (sym count ∙ size);
-            }
-        limited false less e =
-            found_from bs front (line ++ b ∷ []) (place + 1) (before + 1) p all moved (omega (arith, here, one)) (omega (arith, count, one)) (all_more line b is (no_feed b same)) e
+    go false same e = limited same (before == longest_line) refl e
+
+found_from : (bytes : List ℕ) (p : ℕ) (all : List ℕ) → Found_from bytes p all
+found_from [] p all front line place before whole here count is e = absurd (cc)
+found_from (b ∷ bs) p all front line place before whole here count is e = found_step b bs p all (found_from bs p all) front line place before whole here count is e
 
 pub past_found : (bytes : List ℕ) (p : ℕ) → past_line 0 0 bytes ≡ Some p → IsPastLine bytes p
-past_found bytes p e = found_from bytes [] [] 0 0 p bytes refl refl refl refl e
+past_found bytes p e = found_from bytes p bytes [] [] 0 0 refl refl refl refl e
 
 -- the function finds a place, and no later one
 abbrev Finds : Option ℕ → ℕ → Type 0
@@ -84,34 +90,35 @@ in_long [] byte more place before is inside long fits =
     (place, rw (feed byte inside, test) refl, omega arith)
 in_long (b ∷ bs) byte more place before is inside long fits =
     let p = and_parts (in_line b) (list_all in_line bs) is in
-    go p.1 (before == longest_line) refl (feed b p.0)
+    go (λ fewer. in_long bs byte more (place + 1) (before + 1) p.1 inside (omega (arith, long)) fewer) (before == longest_line) refl (feed b p.0)
   where
-    go : list_all in_line bs ≡ true → (t : Bool) → (before == longest_line) ≡ t → (b == 10) ≡ false → Finds (past_line place before (b ∷ (bs ++ byte ∷ more))) (place + suc (length bs))
-    go later true full no = (place, rw (no, full) refl, omega arith)
-    go later false less no =
-        let fewer : before + 1 ≤ longest_line = grind (arith, nat_tests, fits, less) in
-        let f = in_long bs byte more (place + 1) (before + 1) later inside (omega (arith, long)) fewer in
-        (f.0, rw (no, less) f.1, omega (arith, f.2))
+    go : (before + 1 ≤ longest_line → Finds (past_line (place + 1) (before + 1) (bs ++ byte ∷ more)) (place + 1 + length bs)) → (t : Bool) → (before == longest_line) ≡ t → (b == 10) ≡ false
+        → Finds (past_line place before (b ∷ (bs ++ byte ∷ more))) (place + suc (length bs))
+    go further true full no_line = (place, rw (no_line, full) refl, omega arith)
+    go further false less no_line =
+        let f = further (grind (arith, nat_tests, fits, less)) in
+        (f.0, rw (no_line, less) f.1, omega (arith, f.2))
 
 behind_lines : (front line : List ℕ) (byte : ℕ) (more : List ℕ) (place before : ℕ) → list_all in_line line ≡ true → in_line byte ≡ true → length line ≡ longest_line → before ≤ longest_line
     → Finds (past_line place before (front ++ (line ++ byte ∷ more))) (place + length front + longest_line)
 behind_lines [] line byte more place before is inside long fits =
     let f = in_long line byte more place before is inside (omega (arith, long)) fits in
     (f.0, f.1, omega (arith, f.2, long))
-behind_lines (b ∷ bs) line byte more place before is inside long fits = go (b == 10) refl
+behind_lines (b ∷ bs) line byte more place before is inside long fits =
+    go (b == 10) refl (behind_lines bs line byte more (place + 1) 0 is inside long (omega arith)) (λ fewer. behind_lines bs line byte more (place + 1) (before + 1) is inside long fewer)
   where
-    go : (t : Bool) → (b == 10) ≡ t → Finds (past_line place before (b ∷ (bs ++ (line ++ byte ∷ more)))) (place + suc (length bs) + longest_line)
-    go true ends =
-        let f = behind_lines bs line byte more (place + 1) 0 is inside long (omega arith) in
-        (f.0, rw ends f.1, omega (arith, f.2))
-    go false no = limited (before == longest_line) refl
-      where
-        limited : (t : Bool) → (before == longest_line) ≡ t → Finds (past_line place before (b ∷ (bs ++ (line ++ byte ∷ more)))) (place + suc (length bs) + longest_line)
-        limited true full = (place, rw (no, full) refl, omega arith)
-        limited false less =
-            let fewer : before + 1 ≤ longest_line = grind (arith, nat_tests, fits, less) in
-            let f = behind_lines bs line byte more (place + 1) (before + 1) is inside long fewer in
-            (f.0, rw (no, less) f.1, omega (arith, f.2))
+    limited : (b == 10) ≡ false → (before + 1 ≤ longest_line → Finds (past_line (place + 1) (before + 1) (bs ++ (line ++ byte ∷ more))) (place + 1 + length bs + longest_line))
+        → (t : Bool) → (before == longest_line) ≡ t → Finds (past_line place before (b ∷ (bs ++ (line ++ byte ∷ more)))) (place + suc (length bs) + longest_line)
+    limited other further true full = (place, rw (other, full) refl, omega arith)
+    limited other further false less =
+        let f = further (grind (arith, nat_tests, fits, less)) in
+        (f.0, rw (other, less) f.1, omega (arith, f.2))
+
+    go : (t : Bool) → (b == 10) ≡ t → Finds (past_line (place + 1) 0 (bs ++ (line ++ byte ∷ more))) (place + 1 + length bs + longest_line)
+        → (before + 1 ≤ longest_line → Finds (past_line (place + 1) (before + 1) (bs ++ (line ++ byte ∷ more))) (place + 1 + length bs + longest_line))
+        → Finds (past_line place before (b ∷ (bs ++ (line ++ byte ∷ more)))) (place + suc (length bs) + longest_line)
+    go true ends new further = (new.0, rw ends new.1, omega (arith, new.2))
+    go false other new further = limited other further (before == longest_line) refl
 
 past_finds : (bytes : List ℕ) (p : ℕ) → IsPastLine bytes p → Finds (past_line 0 0 bytes) p
 past_finds bytes p x =

@@ -26,7 +26,7 @@ abbrev pub CanGoOn : List Token → List Token → Type 0
 CanGoOn rest before = (p : Part) × (more : List Token) × (is_label p ≡ begins_label rest) × IsPart p (before ++ more)
 
 -- a token with which nothing can go on, after good parts and no wrong opening; the fault stands at that token, or at the
--- first token of an operand that it ends, which is spelled right and is refused, as the reading says
+-- first token of an operand that it ends, which is spelled right and is refused for what it says
 pub record WrongToken (bytes : List ℕ) (place code : ℕ) : Type 0 where
   pub tokens : List Token
   pub lexes : Lexes bytes tokens
