@@ -68,7 +68,7 @@ located_found R N ts os rest ih e = go (target_next ts) e
             (text, w, inl (subst (λ us. IsOperand An_address us os) same (subst (IsOperand An_address one) all is)), ends)
 
 -- a target, where the expression is read
-target_at : (t : Token) (ts : List Token) (e : Expression) (rest : List Token) → value_at (t ∷ ts) ≡ Ok (e, rest)
+pub target_at : (t : Token) (ts : List Token) (e : Expression) (rest : List Token) → value_at (t ∷ ts) ≡ Ok (e, rest)
     → operand_at A_target (t ∷ ts) ≡ cond (is_number e) (Err (wrong t unsupported_here)) (Ok (Target e ∷ [], rest))
 target_at t ts e rest read = rw read (go (is_number e))
   where
@@ -123,7 +123,7 @@ target_wrong R N (t ∷ front) at more w x (text, later, n) v shut read e ih = g
         (ih (seen_err (λ os. Target x ∷ os) (R (at ∷ more)) w (sym (behind_target other more) ∙ e)))
 
 -- where a target comes next, an expression is read
-target_parts : (ts : List Token) → target_next ts ≡ true → (x : Expression) × (rest : List Token) × (value_at ts ≡ Ok (x, rest)) × (front_begins (An_opening A_register) rest ≡ false)
+pub target_parts : (ts : List Token) → target_next ts ≡ true → (x : Expression) × (rest : List Token) × (value_at ts ≡ Ok (x, rest)) × (front_begins (An_opening A_register) rest ≡ false)
 target_parts ts next = go (value_at ts) refl next
   where
     shut : (b : Bool) → not b ≡ true → b ≡ false
