@@ -1,5 +1,6 @@
 pub mod Tokens
 pub mod Targets
+pub mod Located
 pub mod Items
 pub mod Lists
 pub mod Jumps

@@ -13,7 +13,7 @@ use Rattle.rv_text_laws.proofs.ExpressionWrong.{ended_more, ended_behind}
 use Rattle.rv_statement.specs.Statement.{Expression, Operand, Register, Value, Applied}
 use Rattle.rv_parse_laws.specs.Syntax.{is_register, register_of, valued, is_refused, is_refused_by, function_in, is_percent, is_opening, is_closing, is_colon, Slot, A_register, A_value, An_address, A_closing, An_opening, single, front_begins, IsValueIn, IsBase, IsOperand}
 use Rattle.rv_parse_laws.specs.Faults.{wrong_first}
-use Rattle.rv_parse_laws.specs.Parsing.{◌>>=◌, seen_as, allowed, value_at, enclosed_at, named_at, applied_at, value_in, single_at, base_at, base_next, offset_at, is_target, target_next, operand_at}
+use Rattle.rv_parse_laws.specs.Parsing.{◌>>=◌, seen_as, allowed, value_at, enclosed_at, named_at, applied_at, value_in, single_at, base_at, base_next, offset_at, is_target, target_behind, target_next, operand_at}
 use Rattle.rv_parse_laws.proofs.Steps.{bind_ok, seen_ok, pair_parts, bind_err, seen_err}
 use Rattle.rv_parse_laws.proofs.Failing.{Failing, at_once, behind, first_of, first_same, same_first, never}
 use Rattle.rv_parse_laws.proofs.Singles.{single_found, single_fault, single_passed, register_no_last, opening_no_last, closing_no_last, some_token, a_register, a_register_is}
@@ -203,11 +203,6 @@ unfolding expression_at
 value_read [] e rest read = absurd (cc)
 value_read (t ∷ ts) e rest read = rw (no_percent t ts e rest read, read) refl
 
--- what is read as a value is a target where it is no function and has no `(` behind it
-abbrev pub target_behind : Operand → List Token → Bool
-target_behind (Value e) rest = not (front_begins (An_opening A_register) rest)
-target_behind _ rest = false
-
 applied_is_none : (t : Token) (us : List Token) (o : Operand) (rest : List Token) → applied_at roles.Operand t us ≡ Ok (o, rest) → target_behind o rest ≡ false
 applied_is_none t [] o rest e = absurd (cc)
 applied_is_none t (n ∷ us) o rest e = go (function_in roles.Operand n.kind) e
@@ -234,7 +229,7 @@ target_read (t ∷ ts) o rest e = go (value_at (t ∷ ts)) refl
     go (Err v) none = plain (is_percent t.kind) v none e
 
 -- where no value is read no target comes next, nor where a register in parentheses does
-unread_no_target : (ts : List Token) (w : SyntaxError) → value_in roles.Operand ts ≡ Err w → target_next ts ≡ false
+pub unread_no_target : (ts : List Token) (w : SyntaxError) → value_in roles.Operand ts ≡ Err w → target_next ts ≡ false
 unread_no_target ts w e = go (value_at ts) refl
   where
     go : (r : Read Expression) → value_at ts ≡ r → is_target r ≡ false

@@ -12,9 +12,9 @@ use Rattle.rv_text_laws.proofs.ExpressionWrong.{ended_more}
 use Rattle.rv_statement.specs.Statement.{Expression, Operand, Target}
 use Rattle.rv_parse_laws.specs.declared.role.Role.TheVariants as roles
 use Rattle.rv_parse_laws.specs.Words.{register}
-use Rattle.rv_parse_laws.specs.Syntax.{is_symbol, is_register, symbol_of, is_at, is_plt, is_colon, A_callee, A_plt, At_sign, single, front_begins, IsValue, IsValueIn, IsLinked, IsOperand}
+use Rattle.rv_parse_laws.specs.Syntax.{is_symbol, is_register, symbol_of, is_at, is_plt, label_named, is_colon, A_callee, A_plt, At_sign, single, front_begins, IsValue, IsValueIn, IsLinked, IsOperand}
 use Rattle.rv_parse_laws.specs.Faults.{wrong_first}
-use Rattle.rv_parse_laws.specs.Parsing.{seen_as, value_at, value_in, single_at, plt_next, symbol_target, plt_at, operand_at}
+use Rattle.rv_parse_laws.specs.Parsing.{seen_as, value_at, value_in, single_at, plt_next, plt_at, operand_at}
 use Rattle.rv_parse_laws.proofs.Steps.{seen_ok, seen_err, pair_parts}
 use Rattle.rv_parse_laws.proofs.Failing.{Failing, at_once, first_of, same_first, never}
 use Rattle.rv_parse_laws.proofs.Singles.{some_token, a_symbol, single_found, single_fault, symbol_no_last, at_no_last}
@@ -55,13 +55,18 @@ at_no_closes (Punctuation At) h c = cc
 at_no_closes (Punctuation _) h c = cc
 at_no_closes _ h c = cc
 
-pub symbol_is : (k : Kind) (name : List ℕ) → symbol_of k ≡ Some name → symbol_target k ≡ Target (named name) ∷ []
+symbol_is : (k : Kind) (name : List ℕ) → symbol_of k ≡ Some name → label_named k ≡ Some (named name)
 symbol_is (NameToken n) name h = go (is_symbol n) h
   where
-    go : (b : Bool) → cond b (Some n) None ≡ Some name → ◌≡◌ {A = List Operand} (Target (named n) ∷ []) (Target (named name) ∷ [])
-    go true h = let same : n ≡ name = cc in ap (λ (m : List ℕ). Target (named m) ∷ []) same
+    go : (b : Bool) → cond b (Some n) None ≡ Some name → cond {A = Option Expression} b (Some (named n)) None ≡ Some (named name)
+    go true h = let same : n ≡ name = cc in ap (λ (m : List ℕ). Some (named m)) same
     go false h = absurd (cc)
 symbol_is _ name h = absurd (cc)
+
+-- behind a symbol and `@`
+pub plt_step : (f a : Token) (us : List Token) (name : List ℕ) → symbol_of f.kind ≡ Some name → is_at a.kind ≡ true
+    → plt_at (f ∷ a ∷ us) ≡ seen_as (λ none. Target (named name) ∷ []) (single_at A_plt us)
+plt_step f a us name symbol at = rw (symbol_is f.kind name symbol, at) refl
 
 and_parts : (a b : Bool) → (a && b) ≡ true → (a ≡ true) × (b ≡ true)
 and_parts true b h = (refl, h)
@@ -103,7 +108,7 @@ plt_there f a us name named at = rw (named, at) refl
 
 pub linked_is : (text : List Token) (os : List Operand) → IsLinked text os → (rest : List Token) → operand_at A_callee (text ++ rest) ≡ Ok (os, rest)
 linked_is text os (f, a, p, name, w, symbol, at, plt, is) rest =
-    rw (w, is) (rw (plt_there f a (p ∷ rest) name symbol at, plt) (ap (λ (x : List Operand). Ok (x, rest)) (symbol_is f.kind name symbol)))
+    rw (w, is) (rw (plt_there f a (p ∷ rest) name symbol at) (plt_step f a (p ∷ rest) name symbol at ∙ rw plt refl))
 
 -- what is read as a target before `@` ends there
 plt_reads : (ts : List Token) (o : Operand) (rest : List Token) → plt_next ts ≡ true → value_in roles.Target ts ≡ Ok (o, rest) → (a : Token) × (us : List Token) × (rest ≡ a ∷ us) × (is_at a.kind ≡ true)
@@ -158,10 +163,10 @@ linked_found ts os rest next e = go p.0 p.1 p.2 p.4 p.5 p.6 (sym (ap plt_at p.4)
 
     go : (f a : Token) (us : List Token) → ts ≡ f ∷ a ∷ us → symbol_of f.kind ≡ Some p.3 → is_at a.kind ≡ true → plt_at (f ∷ a ∷ us) ≡ Ok (os, rest) → CalleeFound ts os rest
     go f a us whole symbol at e =
-        let s = seen_ok (λ none. symbol_target f.kind) (single_at A_plt us) os rest e in
+        let s = seen_ok (λ none. Target (named p.3) ∷ []) (single_at A_plt us) os rest (sym (plt_step f a us p.3 symbol at) ∙ e) in
         let k = single_found A_plt us s.0 rest s.1 in
         let plt : is_plt k.0.kind ≡ true = plt_is k.0.kind s.0 k.2 in
-        let linked : IsLinked (f ∷ a ∷ k.0 ∷ []) os = (f, a, k.0, p.3, refl, symbol, at, plt, s.2 ∙ symbol_is f.kind p.3 symbol) in
+        let linked : IsLinked (f ∷ a ∷ k.0 ∷ []) os = (f, a, k.0, p.3, refl, symbol, at, plt, s.2) in
         record {
           text = f ∷ a ∷ k.0 ∷ [];
           whole = whole ∙ ap (λ xs. f ∷ a ∷ xs) k.1;
@@ -209,7 +214,7 @@ a_newline = some_token Newline
 -- where a callee is wrong
 plt_err : (f a p : Token) (text : List Token) (name : List ℕ) (w : SyntaxError) → symbol_of f.kind ≡ Some name → is_at a.kind ≡ true → single A_plt p.kind ≡ None
     → w ≡ wrong p (wrong_first A_plt p.kind) → operand_at A_callee (f ∷ a ∷ p ∷ text) ≡ Err w
-plt_err f a p text name w symbol at none is = rw (plt_there f a (p ∷ text) name symbol at) (rw (none, is) refl)
+plt_err f a p text name w symbol at none is = rw (plt_there f a (p ∷ text) name symbol at) (plt_step f a (p ∷ text) name symbol at ∙ rw (none, is) refl)
 
 linked_wrong : (ts : List Token) (w : SyntaxError) → ended ts ≡ true → plt_next ts ≡ true → plt_at ts ≡ Err w → Failing (List Operand) (IsOperand A_callee) (operand_at A_callee) ts w
 linked_wrong ts w end next e = let p = plt_parts ts next in go p.0 p.1 p.2 p.3 p.4 p.5 p.6 (sym (ap plt_at p.4) ∙ e)
@@ -218,7 +223,7 @@ linked_wrong ts w end next e = let p = plt_parts ts next in go p.0 p.1 p.2 p.3 p
         → Failing (List Operand) (IsOperand A_callee) (operand_at A_callee) ts w
     go f a us name whole symbol at e =
         let last : ended us ≡ true = ended_more a us (at_no_last a.kind at) (ended_more f (a ∷ us) (symbol_no_last f.kind name symbol) (ap ended (sym whole) ∙ end)) in
-        let k = single_fault A_plt us w last (seen_err (λ none. symbol_target f.kind) (single_at A_plt us) w e) in
+        let k = single_fault A_plt us w last (seen_err (λ none. Target (named name) ∷ []) (single_at A_plt us) w (sym (plt_step f a us name symbol at) ∙ e)) in
         record {
           before = f ∷ a ∷ [];
           at = k.0;

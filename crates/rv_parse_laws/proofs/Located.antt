@@ -68,7 +68,7 @@ located_found R N ts os rest ih e = go (target_next ts) e
             (text, w, inl (subst (λ us. IsOperand An_address us os) same (subst (IsOperand An_address one) all is)), ends)
 
 -- a target, where the expression is read
-target_at : (t : Token) (ts : List Token) (e : Expression) (rest : List Token) → value_at (t ∷ ts) ≡ Ok (e, rest)
+pub target_at : (t : Token) (ts : List Token) (e : Expression) (rest : List Token) → value_at (t ∷ ts) ≡ Ok (e, rest)
     → operand_at A_target (t ∷ ts) ≡ cond (is_number e) (Err (wrong t unsupported_here)) (Ok (Target e ∷ [], rest))
 target_at t ts e rest read = rw read (go (is_number e))
   where

@@ -4,9 +4,9 @@ use Rattle.std.proofs.Common.{◌≡◌, ℕ, zero, suc, ◌+◌, ◌<◌, ◌�
 use Rattle.std.specs.List.{list_all}
 use Rattle.rv_text_laws.specs.Lexing.{Token, ended}
 use Rattle.rv_text_laws.specs.SyntaxError.{SyntaxError, wrong, Read}
-use Rattle.rv_text_laws.specs.Expression.{EndsBefore}
+use Rattle.rv_text_laws.specs.Expression.{Leaf, Symbol, EndsBefore}
 use Rattle.rv_text_laws.proofs.ExpressionWrong.{ended_more}
-use Rattle.rv_statement.specs.Statement.{Expression, Operand, Word, StatementKind, Instruction, Directs}
+use Rattle.rv_statement.specs.Statement.{Expression, Operand, Target, Word, StatementKind, Instruction, Directs}
 use Rattle.rv_parse_laws.specs.declared.role.Role.{Role}
 use Rattle.rv_parse_laws.specs.declared.role.Role.TheVariants as roles
 use Rattle.rv_parse_laws.specs.declared.beginning.Beginning.{Beginning}
@@ -14,13 +14,13 @@ use Rattle.rv_parse_laws.specs.declared.beginning.Beginning.TheVariants as begin
 use Rattle.rv_parse_laws.specs.Syntax.{symbol_of, is_at, label_of, begins, is_comma, is_end, is_any, Slot, A_register, A_value, A_target, An_address, A_callee, A_section, A_plt, A_comma, An_opening, single, front_begins, IsOperand, Slots, Stops, Takes, Chooses, Locates, Lists, Anything, slots, places, directed, colon_next, Part, Ends, Says}
 use Rattle.rv_parse_laws.specs.Faults.{wrong_first, wrong_after, wrong_any, wrong_start, wrong_label}
 use Rattle.rv_parse_laws.specs.Wrong.{IsWrongFirst, EndsValue, IsWrongCallee, IsTargetNext, IsWrongOperand, Passes, IsWrongTaken, IsNoEnd, IsWrongNext, IsWrongItem, IsWrongAny, IsWrongIn, IsWrongBehind, IsWrongStatement}
-use Rattle.rv_parse_laws.specs.Parsing.{◌>>=◌, seen_as, taken, single_at, value_at, value_in, is_target, target_next, plt_next, symbol_target, plt_at, section_at, operand_at, end_at, ended_at, taking, further, items_at, any_at, operands_at, begun_at, after_first, statement_at, part_at}
+use Rattle.rv_parse_laws.specs.Parsing.{◌>>=◌, seen_as, taken, single_at, value_at, value_in, is_target, target_next, plt_next, plt_at, section_at, operand_at, end_at, ended_at, taking, further, items_at, any_at, operands_at, begun_at, after_first, statement_at, part_at}
 use Rattle.rv_parse_laws.proofs.Steps.{bind_ok, seen_ok, bind_err, seen_err, taken_err}
 use Rattle.rv_parse_laws.proofs.Failing.{heads, tails, never, wrongs}
 use Rattle.rv_parse_laws.proofs.Singles.{single_found, comma_no_last, symbol_no_last, at_no_last}
 use Rattle.rv_parse_laws.proofs.Values.{value_before, value_ended}
 use Rattle.rv_parse_laws.proofs.Arguments.{value_found}
-use Rattle.rv_parse_laws.proofs.Callees.{linked_is, plt_parts, plt_is, symbol_is}
+use Rattle.rv_parse_laws.proofs.Callees.{linked_is, plt_parts, plt_is, plt_step}
 use Rattle.rv_parse_laws.proofs.Located.{target_parts}
 use Rattle.rv_parse_laws.proofs.Operands.{operand_is, operand_found, operand_shorter, operand_ended}
 use Rattle.rv_parse_laws.proofs.Items.{items_step, ended_err, any_no_last, any_no_end}
@@ -29,11 +29,12 @@ use Rattle.rv_parse_laws.proofs.Wrongs.{SaidBy, first_is, first_said, ends_befor
 use Rattle.rv_parse_laws.proofs.WrongSections.{section_wrongs, section_said, section_passed, section_ends}
 
 -- what a call calls
-plt_wrongs : (f a : Token) (us : List Token) (w : SyntaxError) → single_at A_plt us ≡ Err w → plt_at (f ∷ a ∷ us) ≡ Err w
-plt_wrongs f a us w h = ap (seen_as (λ none. symbol_target f.kind)) h
-
 callee_wrongs : (ts : List Token) (t : Token) (code : ℕ) → IsWrongCallee ts t code → operand_at A_callee ts ≡ Err (wrong t code)
-callee_wrongs ts t code (inl (next, (f, a, us, w, x))) = rw next (ap plt_at w ∙ plt_wrongs f a us (wrong t code) (first_is A_plt us t code x))
+callee_wrongs ts t code (inl (next, (f, a, us, w, x))) =
+    let p = plt_parts ts next in
+    let same : us ≡ p.2 = tails (tails (sym w ∙ p.4)) in
+    rw next (ap plt_at p.4 ∙ plt_step p.0 p.1 p.2 p.3 p.5 p.6
+    ∙ ap (seen_as (λ none. Target (Leaf (Symbol p.3)) ∷ [])) (first_is A_plt p.2 t code (subst (λ vs. IsWrongFirst A_plt vs t code) same x)))
 callee_wrongs ts t code (inr (next, x)) = rw next (ap (seen_as (λ o. o ∷ [])) (value_is roles.Target ts t code x))
 
 callee_said : (ts : List Token) (w : SyntaxError) → ended ts ≡ true → operand_at A_callee ts ≡ Err w → SaidBy IsWrongCallee ts w
@@ -43,7 +44,7 @@ callee_said ts w end e = go (plt_next ts) refl e
     linked next e =
         let p = plt_parts ts next in
         let last : ended p.2 ≡ true = ended_more p.1 p.2 (at_no_last p.1.kind p.6) (ended_more p.0 (p.1 ∷ p.2) (symbol_no_last p.0.kind p.3 p.5) (ap ended (sym p.4) ∙ end)) in
-        let k = first_said A_plt p.2 w last (seen_err (λ none. symbol_target p.0.kind) (single_at A_plt p.2) w (ap plt_at (sym p.4) ∙ e)) in
+        let k = first_said A_plt p.2 w last (seen_err (λ none. Target (Leaf (Symbol p.3)) ∷ []) (single_at A_plt p.2) w (sym (ap plt_at p.4 ∙ plt_step p.0 p.1 p.2 p.3 p.5 p.6) ∙ e)) in
         (k.0, k.1, inl (next, (p.0, p.1, p.2, p.4, k.2)), k.3)
 
     go : (b : Bool) → plt_next ts ≡ b → cond b (plt_at ts) (seen_as (λ o. o ∷ []) (value_in roles.Target ts)) ≡ Err w → SaidBy IsWrongCallee ts w
@@ -88,11 +89,11 @@ linked_ends ts os rest next e = let p = plt_parts ts next in go p.0 p.1 p.2 p.3 
   where
     go : (f a : Token) (us : List Token) (name : List ℕ) → ts ≡ f ∷ a ∷ us → symbol_of f.kind ≡ Some name → is_at a.kind ≡ true → plt_at (f ∷ a ∷ us) ≡ Ok (os, rest) → Passing A_callee ts rest
     go f a us name whole symbol at e =
-        let s = seen_ok (λ none. symbol_target f.kind) (single_at A_plt us) os rest e in
+        let s = seen_ok (λ none. Target (Leaf (Symbol name)) ∷ []) (single_at A_plt us) os rest (sym (plt_step f a us name symbol at) ∙ e) in
         let k = single_found A_plt us s.0 rest s.1 in (
           f ∷ a ∷ k.0 ∷ [],
           whole ∙ ap (λ xs. f ∷ a ∷ xs) k.1,
-          inr (os, (f, a, k.0, name, refl, symbol, at, plt_is k.0.kind s.0 k.2, s.2 ∙ symbol_is f.kind name symbol)),
+          inr (os, (f, a, k.0, name, refl, symbol, at, plt_is k.0.kind s.0 k.2, s.2)),
         )
 
 target_ends : (ts : List Token) (os : List Operand) (rest : List Token) → plt_next ts ≡ false → seen_as (λ o. o ∷ []) (value_in roles.Target ts) ≡ Ok (os, rest) → Passing A_callee ts rest

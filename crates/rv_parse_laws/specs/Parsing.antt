@@ -2,14 +2,14 @@
 -- first token that is wrong there, with its code.
 
 use Rattle.std.specs.Prelude.{ℕ, zero, suc, ◌+◌, Bool, false, ◌&&◌, not, nat_lt, List, [], ◌∷◌, ◌++◌, length, Option, Some, None, is_some, option_map, unwrap_or, Result, Ok, Err, if◌then◌else◌}
-use Rattle.rv_text_laws.specs.Grammar.{Kind, Name as NameToken}
+use Rattle.rv_text_laws.specs.Grammar.{Kind}
 use Rattle.rv_text_laws.specs.Lexing.{Token}
 use Rattle.rv_text_laws.specs.Codes.{unsupported_here, limit}
 use Rattle.rv_text_laws.specs.SyntaxError.{SyntaxError, wrong, Read, nowhere, longest_name}
 use Rattle.rv_text_laws.specs.Joined.{bytes_of, joined_at}
-use Rattle.rv_text_laws.specs.Expression.{Leaf, Symbol, tree_of}
+use Rattle.rv_text_laws.specs.Expression.{tree_of}
 use Rattle.rv_text_laws.specs.ExpressionAt.{expression_at}
-use Rattle.rv_statement.specs.Statement.{Expression, Operand, Applied, Target, Word, StatementKind, Instruction, Directs}
+use Rattle.rv_statement.specs.Statement.{Expression, Operand, Value, Applied, Target, Word, StatementKind, Instruction, Directs}
 use Rattle.rv_parse_laws.specs.Syntax.{is_register, symbol_of, label_of, begins, is_comma, is_percent, is_end, is_opening, is_any, is_section_name, valued, is_refused, function_in, label_named, is_refused_by, Slot, A_register, A_value, A_target, An_address, A_callee, A_section, Some_flags, At_sign, A_plt, A_comma, A_closing, An_opening, single, front_begins, Slots, Stops, Takes, Chooses, Locates, Lists, Anything, slots, places, directed, colon_next, Part, Ends, Says}
 pub use Rattle.rv_parse_laws.specs.Syntax.{base_next, plt_next}
 use Rattle.rv_parse_laws.specs.Faults.{may_call, wrong_function, wrong_symbol, wrong_first, wrong_after, wrong_any, wrong_start, wrong_label}
@@ -98,18 +98,17 @@ abbrev pub is_target : Read Expression → Bool
 is_target (Ok read) = not (front_begins (An_opening A_register) read.1)
 is_target (Err w) = false
 
+-- what is read as a value is a target where it is no function and has no `(` behind it
+abbrev pub target_behind : Operand → List Token → Bool
+target_behind (Value e) rest = not (front_begins (An_opening A_register) rest)
+target_behind _ rest = false
+
 abbrev pub target_next : List Token → Bool
 target_next ts = is_target (value_at ts)
 
--- a symbol as a target
-abbrev pub symbol_target : Kind → List Operand
-symbol_target (NameToken name) = Target (Leaf (Symbol name)) ∷ []
-symbol_target _ = []
-
--- a symbol, `@` and `plt`, where the first two of them stand
+-- a symbol, `@` and `plt`
 abbrev pub plt_at : List Token → Read (List Operand)
-plt_at (f ∷ a ∷ ts) = seen_as (λ none. symbol_target f.kind) (single_at A_plt ts)
-plt_at ts = Err nowhere
+plt_at ts = label_at ts >>= λ f. single_at At_sign f.1 >>= λ a. seen_as (λ none. Target f.0 ∷ []) (single_at A_plt a.1)
 
 -- how many bytes a token gives to a section's name
 abbrev pub width : Kind → ℕ
