@@ -253,8 +253,13 @@ const RANGES: [(&[u8], u8, u32); 18] = [
 ];
 
 /// Registers on the way to a symbol, targets, and parts of addresses.
-const ADDRESSES: [(&[u8], u8, u32); 44] = [
-    // x0 on the way to a symbol
+const ADDRESSES: [(&[u8], u8, u32); 52] = [
+    // x0, and the register that a store needs itself
+    (b"lw zero, x\nx:", 10, 1),
+    (b"ld x0, x + 8", 10, 1),
+    (b"sd a0, x, zero", 10, 1),
+    (b"sb a0, x, a0", 10, 1),
+    (b"sw zero, x, zero", 10, 1),
     (b"call zero, x", 10, 1),
     (b"jump x, zero", 10, 1),
     // labels that are nowhere
@@ -284,6 +289,8 @@ const ADDRESSES: [(&[u8], u8, u32); 44] = [
     (b"jal x - y", 13, 1),
     (b"la a0, x - y", 13, 1),
     (b"call x - x", 13, 1),
+    (b"lw a0, x - y", 13, 1),
+    (b"sd a0, -x, t0", 13, 1),
     (b"auipc a0, %pcrel_hi(x - y)", 13, 1),
     (b"lui a0, %hi(x - y)", 13, 1),
     (b"lw a0, %lo(x - y)(a0)", 13, 1),
@@ -297,6 +304,7 @@ const ADDRESSES: [(&[u8], u8, u32); 44] = [
     (b".set x, 8\nj x", 14, 2),
     (b".set x, 8\nbgt a0, a1, x - 8", 14, 2),
     (b".set x, 8\nlla a0, x", 14, 2),
+    (b".set x, 8\nlw a0, x", 14, 2),
     (b".set x, 8\nauipc a0, %pcrel_hi(x)", 14, 2),
     (b".data; a: .word 1; b: .text\ntail b - a", 14, 2),
     (b"lui a0, %hi(-2049)", 14, 1),

@@ -73,7 +73,7 @@ fn two_faults(rt: HostRuntime) -> Result<(), Fail> {
 }
 
 /// Statements with several faults: the lowest code counts.
-const LOWEST: [(&[u8], u8, u32); 30] = [
+const LOWEST: [(&[u8], u8, u32); 33] = [
     (b".word 1 / 0", 4, 1),
     (b".word 1 << 64", 5, 1),
     (b".word 1b", 12, 1),
@@ -100,8 +100,11 @@ const LOWEST: [(&[u8], u8, u32); 30] = [
     (b".option rvc\naddi a0, a0, 1 / 0", 4, 2),
     // what cannot be placed yet is refused as such where nothing else is wrong
     (b".option rvc\naddi a0, a0, 2048", 14, 2),
+    (b".option rvc\nlw zero, x", 10, 2),
     (b"li a0, 5000 / 0", 4, 1),
     // a scratch register comes before labels, constants and ranges, and after values
+    (b"lw zero, 1b", 10, 1),
+    (b"sd a0, x - ., a0", 10, 1),
     (b".set x, 8\ncall zero, x", 10, 2),
     (b"jump x / 0, zero", 4, 1),
     (b"jump x << 64, zero", 5, 1),

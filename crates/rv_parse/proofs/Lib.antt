@@ -1,5 +1,6 @@
 pub mod Tokens
 pub mod Targets
+pub mod Located
 pub mod Items
 pub mod Lists
 pub mod Jumps
@@ -8,3 +9,4 @@ pub mod Opened
 pub mod Statements
 pub mod Refusals
 pub mod Lines
+pub mod PastLine

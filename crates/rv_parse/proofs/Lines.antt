@@ -3,7 +3,8 @@
 use Rattle.std.proofs.Common.{◌≡◌, ℕ, zero, suc, ◌+◌, ◌-◌, ◌<◌, ◌≤◌, Bool, true, false, cond, ◌==◌, List, [], ◌∷◌, length, take, drop, get_or, Some, None, refl, sym, ◌∙◌, ap, arith, length-drop}
 use Rattle.std.proofs.lemmas.Bool.{eqb-true}
 use Rattle.std.proofs.lemmas.List.{get_or-take, drop-drop, length-take-le}
-use Rattle.rv_parse_laws.specs.Reading.{past_line, longest_line}
+use Rattle.rv_parse_laws.specs.Reading.{longest_line}
+use Rattle.rv_parse.specs.Lines.{past_line}
 
 -- a byte that is not the limit's first
 below : (before : ℕ) → before < longest_line → (before == longest_line) ≡ false

@@ -1,7 +1,6 @@
 -- What the parser's refusals say of the source.
 
 use Rattle.std.proofs.Common.{◌≡◌, ℕ, ◌+◌, ◌<◌, ◌≤◌, List, [], ◌∷◌, length, take, Some, None, Err, sym, ◌∙◌, ap, subst, arith, ◌⊎◌, inl, inr}
-use Rattle.std.proofs.lemmas.Option.{same_Some}
 use Rattle.rv_text_laws.specs.Lexing as lexing
 use Rattle.rv_text_laws.specs.Front.{tokens_from}
 use Rattle.rv_text_laws.proofs.Tokens.{given}
@@ -13,12 +12,15 @@ use Rattle.rv_text_laws.specs.Codes.{limit}
 use Rattle.rv_parse_laws.specs.Opening.{is_opened}
 use Rattle.rv_parse_laws.specs.Parsing as parsing
 use Rattle.rv_text_laws.specs.SyntaxError as wrongs
-use Rattle.rv_parse_laws.specs.Reading.{SaysUpTo, said, past_line, longest_source, most_statements, Refuses}
+use Rattle.rv_parse_laws.specs.Reading.{SaysUpTo, said, longest_source, most_statements}
+use Rattle.rv_parse_laws.specs.Refusals.{Refuses}
 use Rattle.rv_parse_laws.proofs.FirstFault.{FirstInTokens, wrong_first, past_first, all_good, line_refused, before_tokens, token_refused}
 use Rattle.rv_lexer.specs.declared.syntax_error.SyntaxError.{SyntaxError}
 use Rattle.rv_lexer.specs.declared.syntax_error.ReadError.TheVariants as refusals
 use Rattle.rv_lexer.specs.Cursor.{syntax_error_of}
 use Rattle.rv_parse.specs.Left.{RefusesTokens}
+use Rattle.rv_parse.specs.Lines.{past_line}
+use Rattle.rv_parse.proofs.PastLine.{past_found, past_least, past_none}
 
 -- no code is above the limit's
 pub code_within : (code : SourceCode) → number_of code ≤ limit
@@ -50,13 +52,14 @@ first_in_tokens bytes ts w is (t, us, ss, (ps, cut, opens, said_is), no_end, sto
 pub line_first : (bytes : List ℕ) (ts : List lexing.Token) (w : SyntaxError) (place line : ℕ) → length bytes ≤ longest_source → ts ≡ tokens_from 0 1 bytes → RefusesTokens ts (refusals.At w)
     → past_line 0 0 bytes ≡ Some place → place < w.offset → line ≡ 1 + lexing.newlines (take place bytes) → Refuses bytes (record { code = limit; line = line })
 line_first bytes ts w place line short is refuses past before line_is =
-    line_refused bytes place line short past (λ p c fault. before_tokens bytes (syntax_error_of w) place p c (first_in_tokens bytes ts w is refuses) before fault) line_is
+    line_refused bytes place line short (past_found bytes place past) (λ q at. past_least bytes place q past at)
+    (λ p c fault. before_tokens bytes (syntax_error_of w) place p c (first_in_tokens bytes ts w is refuses) before fault) line_is
 
 -- a line that is too long behind good statements
 pub line_alone : (bytes : List ℕ) (ts : List lexing.Token) (ss : List Statement) (place line : ℕ) → length bytes ≤ longest_source → ts ≡ tokens_from 0 1 bytes → SaysUpTo ts [] ss
     → length ss ≤ most_statements → past_line 0 0 bytes ≡ Some place → line ≡ 1 + lexing.newlines (take place bytes) → Refuses bytes (record { code = limit; line = line })
 line_alone bytes ts ss place line short is (ps, cut, opens, said_is) few past line_is =
-    line_refused bytes place line short past
+    line_refused bytes place line short (past_found bytes place past) (λ q at. past_least bytes place q past at)
     (λ p c fault. absurd (all_good bytes ts ps (subst (lexing.Lexes bytes) (sym is) (given bytes)) cut opens (subst (λ (xs : List Statement). length xs ≤ most_statements) said_is few) p c fault)) line_is
 
 -- the tokens' first fault before a line that is too long, or where there is none
@@ -64,9 +67,12 @@ pub token_before : (bytes : List ℕ) (ts : List lexing.Token) (w : SyntaxError)
     → past_line 0 0 bytes ≡ Some place → w.offset ≤ place → Refuses bytes (record { code = number_of w.code; line = w.line })
 token_before bytes ts w place short is refuses past before =
     token_refused bytes (syntax_error_of w) short (first_in_tokens bytes ts w is refuses) (code_within w.code)
-    (λ q at. subst (λ n. w.offset ≤ n) (same_Some place q (sym past ∙ at)) before)
+    (λ q at. within q (past_least bytes place q past at))
+  where
+    within : (q : ℕ) → place ≤ q → w.offset ≤ q
+    within q le = omega (arith, before, le)
 
 pub token_alone : (bytes : List ℕ) (ts : List lexing.Token) (w : SyntaxError) → length bytes ≤ longest_source → ts ≡ tokens_from 0 1 bytes → RefusesTokens ts (refusals.At w)
     → past_line 0 0 bytes ≡ None → Refuses bytes (record { code = number_of w.code; line = w.line })
 token_alone bytes ts w short is refuses none =
-    token_refused bytes (syntax_error_of w) short (first_in_tokens bytes ts w is refuses) (code_within w.code) (λ q at. absurd (cc))
+    token_refused bytes (syntax_error_of w) short (first_in_tokens bytes ts w is refuses) (code_within w.code) (λ q at. absurd (past_none bytes none q at))

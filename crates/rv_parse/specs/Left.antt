@@ -4,7 +4,8 @@ use Rattle.std.specs.Prelude.{◌≡◌, ◌<◌, ℕ, Bool, false, List, ◌∷
 use Rattle.rv_statement.specs.Statement.{Statement}
 use Rattle.rv_parse_laws.specs.Syntax.{is_end}
 use Rattle.rv_text_laws.specs.Codes.{limit}
-use Rattle.rv_parse_laws.specs.Reading.{most_statements, SaysUpTo, Refuses}
+use Rattle.rv_parse_laws.specs.Reading.{most_statements, SaysUpTo}
+use Rattle.rv_parse_laws.specs.Refusals.{Refuses}
 use Rattle.rv_lexer.specs.declared.fault.SourceFault.{SourceFault}
 use Rattle.rv_lexer.specs.declared.fault.SourceFault.TheVariants as faults
 use Rattle.rv_text_laws.specs.Lexing as lexing

@@ -2,3 +2,4 @@ pub mod View
 pub mod Left
 pub mod Slots
 pub mod Opened
+pub mod Lines

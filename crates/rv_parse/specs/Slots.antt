@@ -1,11 +1,11 @@
 -- The places of a statement from one of them on.
 
-use Rattle.std.specs.Prelude.{List, ◌++◌}
+use Rattle.std.specs.Prelude.{Bool, true, false, List, ◌++◌, if◌then◌else◌}
 use Rattle.rv_text_laws.specs.Lexing.{Token}
 use Rattle.rv_text_laws.specs.SyntaxError.{Read}
 use Rattle.rv_statement.specs.Statement.{Operand}
-use Rattle.rv_parse_laws.specs.Syntax.{Slot, A_value, Some_flags, At_sign, A_type, Slots, Takes, last, and_maybe}
-use Rattle.rv_parse_laws.specs.Parsing.{seen_as, further, items_at}
+use Rattle.rv_parse_laws.specs.Syntax.{Slot, A_value, A_target, An_address, Some_flags, At_sign, A_type, Slots, Takes, last, and_maybe}
+use Rattle.rv_parse_laws.specs.Parsing.{◌>>=◌, seen_as, operand_at, operands_at, ended_at, target_next, further, items_at}
 use Rattle.rv_parse_laws.specs.declared.role.Role.TheVariants as roles
 
 -- what `.section` takes behind its name, and behind `@`
@@ -22,3 +22,13 @@ further_items s ts = further s (λ us. items_at s us) ts
 -- operands before those that are read
 abbrev pub prepended : List Operand → Read (List Operand) → Read (List Operand)
 prepended os r = seen_as (λ ps. os ++ ps) r
+
+-- what stands where a load or a store goes, and whether it is a target
+abbrev pub location_at : List Token → Read (Bool × List Operand)
+location_at ts =
+    if target_next ts then seen_as (λ os. (true, os)) (operand_at A_target ts) else seen_as (λ os. (false, os)) (operand_at An_address ts)
+
+-- and what is behind it: these places behind a target, the end behind an address
+abbrev pub placed_at : Slots → List Token → Read (List Operand)
+placed_at rest ts =
+    location_at ts >>= λ l. seen_as (λ os. l.0.1 ++ os) (if l.0.0 then operands_at rest l.1 else ended_at An_address l.1)

@@ -4,21 +4,82 @@ ghost use Rattle.std.specs.Prelude.{◌≡◌, ◌∷◌, []};
 ghost use Rattle.rv_statement.specs.declared.mnemonic.Mnemonic.TheVariants.{Load, Store, LoadReserved, Atomic, Fence};
 ghost use Rattle.rv_statement.specs.Statement.{Instruction, Register};
 ghost use Rattle.rv_statement.specs.View.{statement_kind};
-ghost use Rattle.rv_parse_laws.specs.Syntax.{slots, closed, atomic_address};
+ghost use Rattle.rv_parse_laws.specs.Syntax.{A_register, A_target, A_comma, Stops, Takes, last, slots, closed, atomic_address};
+ghost use Rattle.rv_parse.specs.Slots.{location_at, placed_at};
+ghost use Rattle.rv_parse.specs.View.{location_of};
 ghost use Rattle.rv_parse_laws.specs.Parsing.{operands_at, seen_as};
 ghost use Rattle.rv_lexer.specs.Cursor.{left, Answers};
 ghost use Rattle.rv_parse.specs.Left.{Gives};
 
-use crate::operands::given;
-use crate::slot;
+use crate::operands::{given, with};
+use crate::value::Argument;
+use crate::{slot, value};
 use rv_isa::{AtomicForm, AtomicOperation, LoadOperation, Reg, StoreOperation};
 use rv_statement::{Operation, Plain, StatementKind};
-use rv_text::{Cursor, ReadError, SyntaxError};
+use rv_text::{Cursor, Expr, ReadError, SourceCode, SyntaxError};
 use rv_words::Role;
 use rv_words::fault::Slot;
 use std::alloc::Global;
 
-/// `rd, offset(rs1)`
+/// What a load reads and a store writes.
+#[derive(Debug, Drop)]
+pub enum Location<'a> {
+    /// `(rs)`
+    Register(Reg),
+    /// `offset(rs)`
+    Offset(Argument<'a>, Reg),
+    /// A symbol in place of an address.
+    Target(Expr<'a>),
+}
+
+/// The address that a register and what stands before its parentheses give, or a target.
+#[tactic(auto, using(crate::proofs::Located::number_err, crate::proofs::Located::target_ok), unfolding(rv_lexer::specs::Cursor::left))]
+fn located<'a>(alloc: Global, cursor: &mut Cursor<'a>) -> Result<Location<'a>, ReadError>
+    ensures { Answers (λ l. (location_of l, left cursor.new)) result (location_at (left cursor.old)) }
+{
+    if slot::begins_base(cursor) {
+        let rs = slot::base(cursor)?;
+        return Ok(Location::Register(rs));
+    }
+    let first = cursor.next;
+    let offset = value::value_or_function(alloc, cursor, Role::Operand)?;
+    if !offset.is_target(cursor) {
+        let rs = slot::base(cursor)?;
+        return Ok(Location::Offset(offset, rs));
+    }
+    if offset.expression.is_number() {
+        return Err(ReadError::At(SyntaxError::at(first, SourceCode::UnsupportedHere)));
+    }
+    Ok(Location::Target(offset.expression))
+}
+
+/// The operands of a load after its register: an address or a target.
+#[tactic(auto, unfolding(rv_parse_laws::specs::Parsing::operands_at))]
+fn loaded<'a>(
+    alloc: Global,
+    cursor: &mut Cursor<'a>,
+    operation: LoadOperation,
+    rd: Reg,
+) -> Result<StatementKind<'a>, ReadError>
+    ensures { Answers (λ k. (statement_kind k, left cursor.new)) result (seen_as (λ os. Instruction (Load operation) (Register rd ∷ os)) (placed_at (Stops A_target) (left cursor.old))) }
+{
+    match located(alloc, cursor)? {
+        Location::Register(rs1) => {
+            slot::end(cursor, Slot::Address)?;
+            Ok(StatementKind::Plain(Plain::Load(operation, rd, rs1)))
+        }
+        Location::Offset(offset, rs1) => {
+            slot::end(cursor, Slot::Address)?;
+            Ok(given(Operation::Load(operation, rd, rs1), offset))
+        }
+        Location::Target(target) => {
+            slot::end(cursor, Slot::Value(Role::Target))?;
+            Ok(with(Operation::LoadSymbol(operation, rd), target))
+        }
+    }
+}
+
+/// `rd, offset(rs1)` or `rd, target`
 #[tactic(auto, unfolding(rv_parse_laws::specs::Parsing::operands_at))]
 pub fn load<'a>(
     alloc: Global,
@@ -29,18 +90,38 @@ pub fn load<'a>(
 {
     let rd = slot::register(cursor)?;
     slot::comma(cursor, Slot::Register)?;
-    if slot::begins_base(cursor) {
-        let rs1 = slot::base(cursor, Slot::Register)?;
-        slot::end(cursor, Slot::Address(Role::Load))?;
-        return Ok(StatementKind::Plain(Plain::Load(operation, rd, rs1)));
-    }
-    let offset = slot::value_or_function(alloc, cursor, Role::Load)?;
-    let rs1 = slot::base(cursor, offset.slot(Role::Load))?;
-    slot::end(cursor, Slot::Address(Role::Load))?;
-    Ok(given(Operation::Load(operation, rd, rs1), offset))
+    loaded(alloc, cursor, operation, rd)
 }
 
-/// `rs2, offset(rs1)`
+/// The operands of a store after its register: an address, or a target and a register on the way.
+#[tactic(auto, unfolding(rv_parse_laws::specs::Parsing::operands_at))]
+fn stored<'a>(
+    alloc: Global,
+    cursor: &mut Cursor<'a>,
+    operation: StoreOperation,
+    rs2: Reg,
+) -> Result<StatementKind<'a>, ReadError>
+    ensures { Answers (λ k. (statement_kind k, left cursor.new)) result (seen_as (λ os. Instruction (Store operation) (Register rs2 ∷ os)) (placed_at (Takes (A_comma A_target) (last A_register)) (left cursor.old))) }
+{
+    match located(alloc, cursor)? {
+        Location::Register(rs1) => {
+            slot::end(cursor, Slot::Address)?;
+            Ok(StatementKind::Plain(Plain::Store(operation, rs2, rs1)))
+        }
+        Location::Offset(offset, rs1) => {
+            slot::end(cursor, Slot::Address)?;
+            Ok(given(Operation::Store(operation, rs2, rs1), offset))
+        }
+        Location::Target(target) => {
+            slot::comma(cursor, Slot::Value(Role::Target))?;
+            let rt = slot::register(cursor)?;
+            slot::end(cursor, Slot::Register)?;
+            Ok(with(Operation::StoreSymbol(operation, rs2, rt), target))
+        }
+    }
+}
+
+/// `rs2, offset(rs1)` or `rs2, target, rt`
 #[tactic(auto, unfolding(rv_parse_laws::specs::Parsing::operands_at))]
 pub fn store<'a>(
     alloc: Global,
@@ -51,15 +132,7 @@ pub fn store<'a>(
 {
     let rs2 = slot::register(cursor)?;
     slot::comma(cursor, Slot::Register)?;
-    if slot::begins_base(cursor) {
-        let rs1 = slot::base(cursor, Slot::Register)?;
-        slot::end(cursor, Slot::Address(Role::Store))?;
-        return Ok(StatementKind::Plain(Plain::Store(operation, rs2, rs1)));
-    }
-    let offset = slot::value_or_function(alloc, cursor, Role::Store)?;
-    let rs1 = slot::base(cursor, offset.slot(Role::Store))?;
-    slot::end(cursor, Slot::Address(Role::Store))?;
-    Ok(given(Operation::Store(operation, rs2, rs1), offset))
+    stored(alloc, cursor, operation, rs2)
 }
 
 /// A register in parentheses, after the opening one.

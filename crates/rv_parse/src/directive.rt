@@ -14,7 +14,7 @@ ghost use Rattle.rv_words.specs.View.{word_of, string_of};
 ghost use Rattle.rv_parse.specs.Slots.{flags_slots, type_slots, further_items, prepended};
 ghost use Rattle.rv_parse.specs.Left.{Gives};
 
-use crate::slot;
+use crate::{slot, value};
 use rv_statement::{DirectiveWord, Opening, Setting, Standard, StatementKind, Width};
 use rv_text::{Cursor, Expr, ReadError, SyntaxError};
 use rv_words::fault::{self, Slot};
@@ -64,7 +64,7 @@ fn several<'a>(
     values.push(first)?;
     while kinds::is_comma(cursor.next.kind) {
         cursor.advance();
-        values.push(slot::value(alloc, cursor, Role::Directive)?)?;
+        values.push(value::value(alloc, cursor, Role::Directive)?)?;
     }
     slot::end(cursor, Slot::Value(Role::Directive))?;
     Ok(values)
@@ -78,7 +78,7 @@ fn values<'a>(
 ) -> Result<StatementKind<'a>, ReadError>
     ensures { Answers (λ k. (statement_kind k, left cursor.new)) result (seen_as (λ os. Directs (directed (Value width) os)) (operands_at (places (Value width)) (left cursor.old))) }
 {
-    let first = slot::value(alloc, cursor, Role::Directive)?;
+    let first = value::value(alloc, cursor, Role::Directive)?;
     if slot::begins_comma(cursor) {
         return Ok(StatementKind::Values(width, several(alloc, cursor, first)?));
     }
@@ -123,7 +123,7 @@ fn asciz<'a>(alloc: Global, cursor: &mut Cursor<'a>) -> Result<StatementKind<'a>
 fn zero<'a>(alloc: Global, cursor: &mut Cursor<'a>) -> Result<StatementKind<'a>, ReadError>
     ensures { Answers (λ k. (statement_kind k, left cursor.new)) result (seen_as (λ os. Directs (directed Zero os)) (operands_at (places Zero) (left cursor.old))) }
 {
-    let count = slot::value(alloc, cursor, Role::Directive)?;
+    let count = value::value(alloc, cursor, Role::Directive)?;
     slot::end(cursor, Slot::Value(Role::Directive))?;
     Ok(StatementKind::Zeros(count))
 }
@@ -136,7 +136,7 @@ fn align_to_power<'a>(
 ) -> Result<StatementKind<'a>, ReadError>
     ensures { Answers (λ k. (statement_kind k, left cursor.new)) result (seen_as (λ os. Directs (directed AlignToPower os)) (operands_at (places AlignToPower) (left cursor.old))) }
 {
-    let exponent = slot::value(alloc, cursor, Role::Alignment)?;
+    let exponent = value::value(alloc, cursor, Role::Alignment)?;
     slot::end(cursor, Slot::Value(Role::Alignment))?;
     Ok(StatementKind::AlignsToPower(exponent))
 }
@@ -149,7 +149,7 @@ fn align_to_bytes<'a>(
 ) -> Result<StatementKind<'a>, ReadError>
     ensures { Answers (λ k. (statement_kind k, left cursor.new)) result (seen_as (λ os. Directs (directed AlignToBytes os)) (operands_at (places AlignToBytes) (left cursor.old))) }
 {
-    let bytes = slot::value(alloc, cursor, Role::Alignment)?;
+    let bytes = value::value(alloc, cursor, Role::Alignment)?;
     slot::end(cursor, Slot::Value(Role::Alignment))?;
     Ok(StatementKind::AlignsToBytes(bytes))
 }
@@ -161,7 +161,7 @@ fn set<'a>(alloc: Global, cursor: &mut Cursor<'a>) -> Result<StatementKind<'a>, 
 {
     let name = slot::symbol(cursor)?;
     slot::comma(cursor, Slot::Symbol)?;
-    let expression = slot::value(alloc, cursor, Role::Directive)?;
+    let expression = value::value(alloc, cursor, Role::Directive)?;
     slot::end(cursor, Slot::Value(Role::Directive))?;
     let setting = Box::new(alloc, Setting { name, expression })?;
     Ok(StatementKind::Sets(setting))
@@ -195,7 +195,7 @@ fn section_type<'a>(
     let kind = slot::section_type(cursor)?;
     if slot::begins_comma(cursor) {
         slot::comma(cursor, Slot::Type)?;
-        let _size = slot::value(alloc, cursor, Role::Directive)?;
+        let _size = value::value(alloc, cursor, Role::Directive)?;
         slot::end(cursor, Slot::Value(Role::Directive))?;
     } else {
         slot::end(cursor, Slot::Type)?;

@@ -9,7 +9,7 @@ ghost use Rattle.rv_parse_laws.specs.Parsing.{operands_at, seen_as};
 ghost use Rattle.rv_lexer.specs.Cursor.{left, Answers};
 
 use crate::operands::{self, given, with};
-use crate::{access, jump, slot};
+use crate::{access, jump, slot, value};
 use rv_isa::{RegisterOperation, UpperOperation};
 use rv_statement::{Mnemonic, Operation, Plain, StatementKind};
 use rv_text::{Cursor, ReadError};
@@ -32,7 +32,7 @@ fn registers<'a>(
     let rs1 = slot::register(cursor)?;
     slot::comma(cursor, Slot::Register)?;
     if has_constant(operation) && !slot::begins_register(cursor) {
-        let value = slot::value_or_function(alloc, cursor, Role::Source)?;
+        let value = value::value_or_function(alloc, cursor, Role::Source)?;
         slot::end(cursor, Slot::Value(Role::Source))?;
         return Ok(given(Operation::Registers(operation, rd, rs1), value));
     }

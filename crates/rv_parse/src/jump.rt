@@ -9,7 +9,7 @@ ghost use Rattle.rv_parse_laws.specs.Parsing.{operands_at, seen_as};
 ghost use Rattle.rv_lexer.specs.Cursor.{left, Answers};
 
 use crate::operands::{given, with};
-use crate::slot;
+use crate::{slot, value};
 use rv_isa::Reg;
 use rv_statement::{Operation, Plain, StatementKind};
 use rv_text::{Cursor, ReadError};
@@ -25,11 +25,11 @@ pub fn jal<'a>(alloc: Global, cursor: &mut Cursor<'a>) -> Result<StatementKind<'
     if slot::begins_register(cursor) {
         let rd = slot::register(cursor)?;
         slot::comma(cursor, Slot::Register)?;
-        let target = slot::value(alloc, cursor, Role::Target)?;
+        let target = value::value(alloc, cursor, Role::Target)?;
         slot::end(cursor, Slot::Value(Role::Target))?;
         return Ok(with(Operation::Jal(rd), target));
     }
-    let target = slot::value(alloc, cursor, Role::Target)?;
+    let target = value::value(alloc, cursor, Role::Target)?;
     slot::end(cursor, Slot::Value(Role::Target))?;
     Ok(with(Operation::JalLinked, target))
 }
@@ -42,12 +42,12 @@ pub fn call<'a>(alloc: Global, cursor: &mut Cursor<'a>) -> Result<StatementKind<
     if slot::begins_register(cursor) {
         let rd = slot::register(cursor)?;
         slot::comma(cursor, Slot::Register)?;
-        let target = slot::value(alloc, cursor, Role::Call)?;
-        slot::end(cursor, Slot::Value(Role::Call))?;
+        let target = value::callee(alloc, cursor)?;
+        slot::end(cursor, Slot::Callee)?;
         return Ok(with(Operation::Call(rd), target));
     }
-    let target = slot::value(alloc, cursor, Role::Call)?;
-    slot::end(cursor, Slot::Value(Role::Call))?;
+    let target = value::callee(alloc, cursor)?;
+    slot::end(cursor, Slot::Callee)?;
     Ok(with(Operation::CallLinked, target))
 }
 
@@ -56,7 +56,7 @@ pub fn call<'a>(alloc: Global, cursor: &mut Cursor<'a>) -> Result<StatementKind<
 pub fn jump<'a>(alloc: Global, cursor: &mut Cursor<'a>) -> Result<StatementKind<'a>, ReadError>
     ensures { Answers (λ k. (statement_kind k, left cursor.new)) result (seen_as (Instruction Jump) (operands_at (slots Jump) (left cursor.old))) }
 {
-    let target = slot::value(alloc, cursor, Role::Target)?;
+    let target = value::value(alloc, cursor, Role::Target)?;
     slot::comma(cursor, Slot::Value(Role::Target))?;
     let rt = slot::register(cursor)?;
     slot::end(cursor, Slot::Register)?;
@@ -74,13 +74,13 @@ pub fn jr<'a>(alloc: Global, cursor: &mut Cursor<'a>) -> Result<StatementKind<'a
         return Ok(StatementKind::Plain(Plain::Jr(rs)));
     }
     if slot::begins_base(cursor) {
-        let rs = slot::base(cursor, Slot::Register)?;
-        slot::end(cursor, Slot::Address(Role::Operand))?;
+        let rs = slot::base(cursor)?;
+        slot::end(cursor, Slot::Address)?;
         return Ok(StatementKind::Plain(Plain::Jr(rs)));
     }
-    let offset = slot::value_or_function(alloc, cursor, Role::Operand)?;
-    let rs = slot::base(cursor, offset.slot(Role::Operand))?;
-    slot::end(cursor, Slot::Address(Role::Operand))?;
+    let offset = value::value_or_function(alloc, cursor, Role::Operand)?;
+    let rs = slot::base(cursor)?;
+    slot::end(cursor, Slot::Address)?;
     Ok(given(Operation::Jr(rs), offset))
 }
 
@@ -91,13 +91,13 @@ pub fn jalr<'a>(alloc: Global, cursor: &mut Cursor<'a>) -> Result<StatementKind<
 {
     if !slot::begins_register(cursor) {
         if slot::begins_base(cursor) {
-            let rs1 = slot::base(cursor, Slot::Register)?;
-            slot::end(cursor, Slot::Address(Role::Operand))?;
+            let rs1 = slot::base(cursor)?;
+            slot::end(cursor, Slot::Address)?;
             return Ok(StatementKind::Plain(Plain::JalrLinked(rs1)));
         }
-        let offset = slot::value_or_function(alloc, cursor, Role::Operand)?;
-        let rs1 = slot::base(cursor, offset.slot(Role::Operand))?;
-        slot::end(cursor, Slot::Address(Role::Operand))?;
+        let offset = value::value_or_function(alloc, cursor, Role::Operand)?;
+        let rs1 = slot::base(cursor)?;
+        slot::end(cursor, Slot::Address)?;
         return Ok(given(Operation::JalrLinked(rs1), offset));
     }
     let first = slot::register(cursor)?;
@@ -120,19 +120,19 @@ fn jump_target<'a>(
 {
     if !slot::begins_register(cursor) {
         if slot::begins_base(cursor) {
-            let rs1 = slot::base(cursor, Slot::Register)?;
-            slot::end(cursor, Slot::Address(Role::Operand))?;
+            let rs1 = slot::base(cursor)?;
+            slot::end(cursor, Slot::Address)?;
             return Ok(StatementKind::Plain(Plain::Jalr(rd, rs1)));
         }
-        let offset = slot::value_or_function(alloc, cursor, Role::Operand)?;
-        let rs1 = slot::base(cursor, offset.slot(Role::Operand))?;
-        slot::end(cursor, Slot::Address(Role::Operand))?;
+        let offset = value::value_or_function(alloc, cursor, Role::Operand)?;
+        let rs1 = slot::base(cursor)?;
+        slot::end(cursor, Slot::Address)?;
         return Ok(given(Operation::Jalr(rd, rs1), offset));
     }
     let rs1 = slot::register(cursor)?;
     if slot::begins_comma(cursor) {
         slot::comma(cursor, Slot::Register)?;
-        let value = slot::value_or_function(alloc, cursor, Role::Operand)?;
+        let value = value::value_or_function(alloc, cursor, Role::Operand)?;
         slot::end(cursor, Slot::Value(Role::Operand))?;
         return Ok(given(Operation::JalrThen(rd, rs1), value));
     }

@@ -24,6 +24,7 @@ mod operands;
 mod slot;
 mod source;
 mod statement;
+mod value;
 
 pub use rv_text::{SourceCode, SourceFault};
 pub use source::parse;

@@ -12,7 +12,8 @@ ghost use Rattle.rv_parse_laws.specs.Syntax.{A_register, A_value, Stops, and_the
 ghost use Rattle.rv_parse_laws.specs.Parsing.{operands_at};
 ghost use Rattle.rv_parse.specs.Left.{Gives};
 
-use crate::slot::{self, Argument};
+use crate::slot;
+use crate::value::{self, Argument};
 use rv_isa::Reg;
 use rv_statement::{Operation, StatementKind};
 use rv_text::{Cursor, Expr, ReadError, SyntaxError};
@@ -84,7 +85,7 @@ pub fn register_and_argument<'a>(
 {
     let register = slot::register(cursor)?;
     slot::comma(cursor, Slot::Register)?;
-    let value = slot::value_or_function(alloc, cursor, role)?;
+    let value = value::value_or_function(alloc, cursor, role)?;
     slot::end(cursor, Slot::Value(role))?;
     Ok((register, value))
 }
@@ -103,7 +104,7 @@ pub fn registers_and_argument<'a>(
     slot::comma(cursor, Slot::Register)?;
     let second = slot::register(cursor)?;
     slot::comma(cursor, Slot::Register)?;
-    let value = slot::value_or_function(alloc, cursor, role)?;
+    let value = value::value_or_function(alloc, cursor, role)?;
     slot::end(cursor, Slot::Value(role))?;
     Ok((first, second, value))
 }
@@ -118,7 +119,7 @@ pub fn one_value<'a>(
     requires { may_call role ≡ false }
     ensures { Answers (λ e. (valued role (tree_of_expr e) ∷ [], left cursor.new)) result (operands_at (last (A_value role)) (left cursor.old)) }
 {
-    let value = slot::value(alloc, cursor, role)?;
+    let value = value::value(alloc, cursor, role)?;
     slot::end(cursor, Slot::Value(role))?;
     Ok(value)
 }
@@ -135,7 +136,7 @@ pub fn register_and_value<'a>(
 {
     let register = slot::register(cursor)?;
     slot::comma(cursor, Slot::Register)?;
-    let value = slot::value(alloc, cursor, role)?;
+    let value = value::value(alloc, cursor, role)?;
     slot::end(cursor, Slot::Value(role))?;
     Ok((register, value))
 }
@@ -154,7 +155,7 @@ pub fn registers_and_value<'a>(
     slot::comma(cursor, Slot::Register)?;
     let second = slot::register(cursor)?;
     slot::comma(cursor, Slot::Register)?;
-    let value = slot::value(alloc, cursor, role)?;
+    let value = value::value(alloc, cursor, role)?;
     slot::end(cursor, Slot::Value(role))?;
     Ok((first, second, value))
 }

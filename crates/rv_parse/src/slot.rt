@@ -1,26 +1,17 @@
 //! What stands in one slot of a statement, at the front of a cursor's tokens.
 
-ghost use Rattle.std.specs.Prelude.{◌≡◌, ◌∷◌, [], false, IfOk};
-ghost use Rattle.rv_lexer.specs.Cursor.{left, syntax_error_of, Answers};
-ghost use Rattle.rv_text.specs.Expr.{expr_of, tree_of_expr};
-ghost use Rattle.rv_text.specs.Nodes.{are_numbers};
-ghost use Rattle.rv_statement.specs.Statement.{Register, Accesses, Applied};
-ghost use Rattle.rv_statement.specs.declared.pseudo.Function.TheVariants.{Hi, Lo, PcrelHi};
-ghost use Rattle.rv_parse_laws.specs.Faults.{may_call, wrong_function};
-ghost use Rattle.rv_lexer.specs.Token.{token_of};
-ghost use Rattle.rv_parse.specs.View.{operand_of};
-ghost use Rattle.rv_parse_laws.specs.Syntax.{A_register, A_zero, Some_accesses, A_symbol, A_string, A_section, Some_flags, At_sign, A_type, A_comma, An_opening, A_closing, Slot as AnySlot, front_begins, is_number, targets, valued};
-ghost use Rattle.rv_parse_laws.specs.Parsing.{operand_at, end_at, value_at, value_in, base_at, base_next, behind_value, label_at, argument_at, called_at, applied_at, too_long};
+ghost use Rattle.std.specs.Prelude.{◌≡◌, ◌∷◌, []};
+ghost use Rattle.rv_lexer.specs.Cursor.{left, syntax_error_of};
+ghost use Rattle.rv_statement.specs.Statement.{Register, Accesses};
+ghost use Rattle.rv_parse_laws.specs.Syntax.{A_register, A_zero, Some_accesses, A_symbol, A_string, A_section, Some_flags, At_sign, A_type, A_plt, A_comma, An_opening, A_closing, Slot as AnySlot, front_begins};
+ghost use Rattle.rv_parse_laws.specs.Parsing.{operand_at, end_at, base_at, base_next, plt_next, too_long};
 ghost use Rattle.rv_words.specs.View.{slot_of, word_of, string_of};
 ghost use Rattle.rv_parse.specs.Left.{Gives};
 
 use rv_isa::{AccessSet, Reg};
-use rv_statement::Function;
-use rv_text::{Cursor, Expr, LONGEST_NAME, ReadError, Registers, SourceCode, SyntaxError, Token};
+use rv_text::{Cursor, LONGEST_NAME, SourceCode, SyntaxError};
 use rv_words::fault::{self, Slot};
-use rv_words::words::register_named;
-use rv_words::{Role, kinds};
-use std::alloc::Global;
+use rv_words::kinds;
 
 /// A register.
 #[tactic(auto, using(crate::proofs::Tokens::register_no_last), unfolding(rv_lexer::specs::Cursor::left))]
@@ -71,6 +62,19 @@ pub fn begins_opening(cursor: &Cursor<'_>) -> bool
     ensures { (s : AnySlot) → result ≡ front_begins (An_opening s) (left cursor.now) }
 {
     kinds::is_opening(cursor.next.kind)
+}
+
+/// A symbol and `@` come next.
+#[tactic(auto, unfolding(rv_lexer::specs::Cursor::left))]
+pub fn begins_plt(cursor: &Cursor<'_>) -> bool
+    ensures { result ≡ plt_next (left cursor.now) }
+{
+    if kinds::symbol_of(cursor.next.kind).is_none() {
+        return false;
+    }
+    let mut behind = *cursor;
+    behind.advance();
+    kinds::is_at(behind.next.kind)
 }
 
 /// A set of accesses comes next.
@@ -134,11 +138,11 @@ pub fn closing(cursor: &mut Cursor<'_>) -> Result<(), SyntaxError>
     }
 }
 
-/// A register in parentheses, after what stands in this slot.
-pub fn base(cursor: &mut Cursor<'_>, behind: Slot) -> Result<Reg, SyntaxError>
-    ensures { Gives (λ r. (Register r ∷ [], left cursor.new)) result (base_at (slot_of behind) (left cursor.old)) }
+/// A register in parentheses.
+pub fn base(cursor: &mut Cursor<'_>) -> Result<Reg, SyntaxError>
+    ensures { Gives (λ r. (Register r ∷ [], left cursor.new)) result (base_at (left cursor.old)) }
 {
-    opening(cursor, behind)?;
+    opening(cursor, Slot::Register)?;
     let register = register(cursor)?;
     closing(cursor)?;
     Ok(register)
@@ -185,6 +189,19 @@ pub fn at_sign(cursor: &mut Cursor<'_>) -> Result<(), SyntaxError>
     }
 }
 
+/// The `plt` after `@` in a call.
+#[tactic(auto, using(crate::proofs::Tokens::plt_no_last), unfolding(rv_lexer::specs::Cursor::left))]
+pub fn plt(cursor: &mut Cursor<'_>) -> Result<(), SyntaxError>
+    ensures { Gives (λ _. ([], left cursor.new)) result (operand_at A_plt (left cursor.old)) }
+{
+    if kinds::is_plt(cursor.next.kind) {
+        cursor.advance();
+        Ok(())
+    } else {
+        Err(cursor.wrong(fault::at_other(cursor.next.kind)))
+    }
+}
+
 /// A section's type.
 #[tactic(auto, using(crate::proofs::Tokens::type_no_last), unfolding(rv_lexer::specs::Cursor::left))]
 pub fn section_type<'a>(cursor: &mut Cursor<'a>) -> Result<&'a [u8], SyntaxError>
@@ -197,190 +214,6 @@ pub fn section_type<'a>(cursor: &mut Cursor<'a>) -> Result<&'a [u8], SyntaxError
         }
         None => Err(cursor.wrong(fault::at_other(cursor.next.kind))),
     }
-}
-
-/// Which names spell registers, in expressions.
-struct RegisterNames;
-
-impl Registers for RegisterNames {
-    ghost use Rattle.rv_parse_laws.specs.Syntax.{is_register};
-
-    ghost registers = { is_register };
-
-    fn is_register(name: &[u8]) -> bool {
-        register_named(name).is_some()
-    }
-}
-
-/// An expression.
-#[tactic(auto, using(crate::proofs::Targets::read_numbers))]
-fn expression<'a>(alloc: Global, cursor: &mut Cursor<'a>) -> Result<Expr<'a>, ReadError>
-    ensures read { Answers (λ e. (tree_of_expr e, left cursor.new)) result (value_at (left cursor.old)) }
-    ensures number { IfOk result (λ e. are_numbers (expr_of e) ≡ is_number (tree_of_expr e)) }
-{
-    rv_text::expression::<RegisterNames>(alloc, cursor)
-}
-
-/// An expression where no function of one may stand; a number alone as a target is refused at its first token.
-#[tactic(auto, unfolding(rv_lexer::specs::Cursor::left))]
-pub fn value<'a>(alloc: Global, cursor: &mut Cursor<'a>, role: Role) -> Result<Expr<'a>, ReadError>
-    requires { may_call role ≡ false }
-    ensures { Answers (λ e. (valued role (tree_of_expr e), left cursor.new)) result (value_in role (left cursor.old)) }
-{
-    let first = cursor.next;
-    let value = expression(alloc, cursor)?;
-    if fault::targets(role) && value.is_number() {
-        return Err(ReadError::At(SyntaxError::at(first, SourceCode::UnsupportedHere)));
-    }
-    Ok(value)
-}
-
-/// A value of an instruction: an expression, or a function of one.
-#[derive(Debug, Drop)]
-pub struct Argument<'a> {
-    pub function: Option<Function>,
-    pub expression: Expr<'a>,
-}
-
-impl Argument<'_> {
-    /// The slot that a register in parentheses stands after.
-    pub fn slot(&self, role: Role) -> Slot
-        ensures { slot_of result ≡ behind_value role (operand_of self.now) }
-    {
-        match self.function {
-            Some(_) => Slot::Register,
-            None => Slot::Value(role),
-        }
-    }
-}
-
-/// A label.
-#[tactic(auto, using(crate::proofs::Tokens::label_no_last), unfolding(rv_lexer::specs::Cursor::left))]
-fn label<'a>(cursor: &mut Cursor<'a>) -> Result<Expr<'a>, SyntaxError>
-    ensures { Gives (λ e. (tree_of_expr e, left cursor.new)) result (label_at (left cursor.old)) }
-{
-    match kinds::label_named(cursor.next.kind) {
-        Some(label) => {
-            cursor.advance();
-            Ok(label)
-        }
-        None => Err(cursor.wrong(fault::at_symbol(cursor.next.kind))),
-    }
-}
-
-/// The target of `%pcrel_hi`: a number alone is refused at the `%`.
-fn distance<'a>(
-    alloc: Global,
-    cursor: &mut Cursor<'a>,
-    percent: Token<'a>,
-) -> Result<Expr<'a>, ReadError>
-    ensures { Answers (λ e. (tree_of_expr e, left cursor.new)) result (argument_at PcrelHi (token_of percent.entry) (left cursor.old)) }
-{
-    let value = expression(alloc, cursor)?;
-    if value.is_number() {
-        return Err(ReadError::At(SyntaxError::at(percent, SourceCode::UnsupportedHere)));
-    }
-    Ok(value)
-}
-
-/// The part of an address that `%hi` and `%lo` give: any expression.
-fn address<'a>(
-    alloc: Global,
-    cursor: &mut Cursor<'a>,
-    percent: Token<'a>,
-) -> Result<Expr<'a>, ReadError>
-    ensures hi { Answers (λ e. (tree_of_expr e, left cursor.new)) result (argument_at Hi (token_of percent.entry) (left cursor.old)) }
-    ensures lo { Answers (λ e. (tree_of_expr e, left cursor.new)) result (argument_at Lo (token_of percent.entry) (left cursor.old)) }
-{
-    expression(alloc, cursor)
-}
-
-/// The argument of a function.
-fn argument_of<'a>(
-    alloc: Global,
-    cursor: &mut Cursor<'a>,
-    function: Function,
-    percent: Token<'a>,
-) -> Result<Expr<'a>, ReadError>
-    ensures { Answers (λ e. (tree_of_expr e, left cursor.new)) result (argument_at function (token_of percent.entry) (left cursor.old)) }
-{
-    match function {
-        Function::PcrelLo => Ok(label(cursor)?),
-        Function::PcrelHi => distance(alloc, cursor, percent),
-        Function::Hi | Function::Lo => address(alloc, cursor, percent),
-    }
-}
-
-/// What is after the word of a function.
-fn called<'a>(
-    alloc: Global,
-    cursor: &mut Cursor<'a>,
-    function: Function,
-    percent: Token<'a>,
-) -> Result<Expr<'a>, ReadError>
-    ensures { Answers (λ e. (Applied function (tree_of_expr e), left cursor.new)) result (called_at function (token_of percent.entry) (left cursor.old)) }
-{
-    opening(cursor, Slot::Register)?;
-    let argument = argument_of(alloc, cursor, function, percent)?;
-    closing(cursor)?;
-    Ok(argument)
-}
-
-/// A word that is no function that may stand after this `%`.
-#[tactic(auto, unfolding(rv_lexer::specs::Cursor::left))]
-fn wrong_function(cursor: &Cursor<'_>, percent: Token<'_>) -> SyntaxError
-    ensures { syntax_error_of result ≡ wrong_function (token_of percent.entry) (token_of cursor.now.next) }
-{
-    if kinds::is_name(cursor.next.kind) {
-        SyntaxError::at(percent, SourceCode::BadOperands)
-    } else {
-        cursor.wrong(fault::at_other(cursor.next.kind))
-    }
-}
-
-/// A function of an expression, after its `%`.
-#[tactic(auto, using(crate::proofs::Tokens::function_no_last), unfolding(rv_lexer::specs::Cursor::left))]
-fn applied<'a>(
-    alloc: Global,
-    cursor: &mut Cursor<'a>,
-    role: Role,
-    percent: Token<'a>,
-) -> Result<Argument<'a>, ReadError>
-    ensures { Answers (λ a. (operand_of a, left cursor.new)) result (applied_at role (token_of percent.entry) (left cursor.old)) }
-{
-    match kinds::function_in(role, cursor.next.kind) {
-        Some(function) => {
-            cursor.advance();
-            let expression = called(alloc, cursor, function, percent)?;
-            Ok(Argument {
-                function: Some(function),
-                expression,
-            })
-        }
-        None => Err(ReadError::At(wrong_function(cursor, percent))),
-    }
-}
-
-/// An expression, or a function of one, of an instruction that goes nowhere by it.
-#[tactic(auto, using(crate::proofs::Tokens::percent_no_last), unfolding(rv_lexer::specs::Cursor::left))]
-pub fn value_or_function<'a>(
-    alloc: Global,
-    cursor: &mut Cursor<'a>,
-    role: Role,
-) -> Result<Argument<'a>, ReadError>
-    requires { targets role ≡ false }
-    ensures { Answers (λ a. (operand_of a, left cursor.new)) result (value_in role (left cursor.old)) }
-{
-    let first = cursor.next;
-    if fault::may_call(role) && kinds::is_percent(first.kind) {
-        cursor.advance();
-        return applied(alloc, cursor, role, first);
-    }
-    let expression = expression(alloc, cursor)?;
-    Ok(Argument {
-        function: None,
-        expression,
-    })
 }
 
 /// A comma, after an operand in this slot.

@@ -17,18 +17,18 @@ use Rattle.rv_parse_laws.specs.Words.{named_in, function_words}
 use Rattle.rv_parse_laws.specs.Syntax.{is_symbol, is_percent, is_opening, is_closing, targets, valued, is_number, is_refused, is_refused_by, may_stand, standing, function_in, label_named, A_register, A_closing, An_opening, single, IsValue, IsArgument, IsApplied, IsValueIn}
 use Rattle.rv_text_laws.specs.Codes.{bad_operands, unsupported_here}
 use Rattle.rv_parse_laws.specs.Faults.{may_call, is_name, wrong_or, wrong_symbol, wrong_function, wrong_first}
-use Rattle.rv_parse_laws.specs.Parsing.{◌>>=◌, seen_as, taken, value_at, allowed, single_at, label_at, argument_at, called_at, named_at, applied_at, value_in}
+use Rattle.rv_parse_laws.specs.Parsing.{◌>>=◌, seen_as, taken, value_at, allowed, single_at, label_at, argument_at, enclosed_at, called_at, named_at, applied_at, value_in}
 use Rattle.rv_parse_laws.proofs.Steps.{bind_ok, seen_ok, taken_ok, bind_err, seen_err, taken_err}
 use Rattle.rv_parse_laws.proofs.Failing.{Failing, Shown, at_once, shown_behind, heads, first_of, same_first, first_is, never, wrongs}
 use Rattle.rv_parse_laws.proofs.Singles.{some_token, a_symbol, a_symbol_is, single_found, single_fault, single_passed, opening_no_last}
 use Rattle.rv_parse_laws.proofs.Values.{Closes, value_is, value_before, value_some, is_allowed, allowed_ok, allowed_err, Ended, value_ended, a_name, name_goes, and_false, sum_goes, Unread, value_unread, no_percent}
 
-opening_single : (k : Kind) (os : List Operand) → single (An_opening A_register) k ≡ Some os → (is_opening k ≡ true) × (os ≡ [])
+pub opening_single : (k : Kind) (os : List Operand) → single (An_opening A_register) k ≡ Some os → (is_opening k ≡ true) × (os ≡ [])
 opening_single (Punctuation Open) os h = (refl, cc)
 opening_single (Punctuation _) os h = absurd (cc)
 opening_single _ os h = absurd (cc)
 
-closing_single : (k : Kind) (os : List Operand) → single A_closing k ≡ Some os → (is_closing k ≡ true) × (os ≡ [])
+pub closing_single : (k : Kind) (os : List Operand) → single A_closing k ≡ Some os → (is_closing k ≡ true) × (os ≡ [])
 closing_single (Punctuation Close) os h = (refl, cc)
 closing_single (Punctuation _) os h = absurd (cc)
 closing_single _ os h = absurd (cc)
@@ -42,20 +42,19 @@ before_closing : (c : Token) (rest : List Token) → is_closing c.kind ≡ true 
 before_closing c rest h = (c, rest, refl, inr (closing_follows c.kind h))
 
 -- arguments
-pub argument_is : (f : Function) (p : Token) (text : List Token) (e : Expression) (c : Token) (rest : List Token) → IsArgument f text e → is_closing c.kind ≡ true
-    → argument_at f p (text ++ c ∷ rest) ≡ Ok (e, c ∷ rest)
-argument_is PcrelLo p text e c rest (t, w, is) close = rw w (rw is refl)
-argument_is Hi p text e c rest v close = ap (allowed (λ x. is_refused_by Hi x) p) (value_before text (c ∷ rest) e v.0 (before_closing c rest close)) ∙ is_allowed (λ x. is_refused_by Hi x) p e (c ∷ rest) v.1
-argument_is Lo p text e c rest v close = ap (allowed (λ x. is_refused_by Lo x) p) (value_before text (c ∷ rest) e v.0 (before_closing c rest close)) ∙ is_allowed (λ x. is_refused_by Lo x) p e (c ∷ rest) v.1
-argument_is PcrelHi p text e c rest v close =
-    ap (allowed (λ x. is_refused_by PcrelHi x) p) (value_before text (c ∷ rest) e v.0 (before_closing c rest close)) ∙ is_allowed (λ x. is_refused_by PcrelHi x) p e (c ∷ rest) v.1
+pub argument_is : (f : Function) (text : List Token) (e : Expression) (c : Token) (rest : List Token) → IsArgument f text e → is_closing c.kind ≡ true
+    → argument_at f (text ++ c ∷ rest) ≡ Ok (e, c ∷ rest)
+argument_is PcrelLo text e c rest (t, w, is) close = rw w (rw is refl)
+argument_is Hi text e c rest v close = value_before text (c ∷ rest) e v (before_closing c rest close)
+argument_is Lo text e c rest v close = value_before text (c ∷ rest) e v (before_closing c rest close)
+argument_is PcrelHi text e c rest v close = value_before text (c ∷ rest) e v (before_closing c rest close)
 
 -- what is read as an argument, which stays so while the token behind it does
-pub record ArgumentFound (f : Function) (p : Token) (ts : List Token) (e : Expression) (rest : List Token) : Type 0 where
+pub record ArgumentFound (f : Function) (ts : List Token) (e : Expression) (rest : List Token) : Type 0 where
   pub text : List Token
   pub whole : ts ≡ text ++ rest
   pub is : IsArgument f text e
-  pub steady : (us : List Token) → first_of us ≡ first_of rest → argument_at f p (text ++ us) ≡ Ok (e, us)
+  pub steady : (us : List Token) → first_of us ≡ first_of rest → argument_at f (text ++ us) ≡ Ok (e, us)
   pub ended_rest : ended ts ≡ true → ended rest ≡ true
 
 ended_after : (ts text rest : List Token) (at : Token) (more : List Token) → ts ≡ text ++ rest → rest ≡ at ∷ more → ended ts ≡ true → ended rest ≡ true
@@ -67,9 +66,9 @@ label_no_last (NameToken name) e h = refl
 label_no_last (ReferenceToken digits forward) e h = refl
 label_no_last _ e h = absurd (cc)
 
-label_found : (p : Token) (ts : List Token) (e : Expression) (rest : List Token) → label_at ts ≡ Ok (e, rest) → ArgumentFound PcrelLo p ts e rest
-label_found p [] e rest h = absurd (cc)
-label_found p (t ∷ ts) e rest h =
+label_found : (ts : List Token) (e : Expression) (rest : List Token) → label_at ts ≡ Ok (e, rest) → ArgumentFound PcrelLo ts e rest
+label_found [] e rest h = absurd (cc)
+label_found (t ∷ ts) e rest h =
     let k = taken_ok t ts (label_named t.kind) (wrong_symbol t.kind) e rest h in
     record {
       text = t ∷ [];
@@ -86,27 +85,33 @@ tested_found T p ts e rest h =
     let x = value_ended ts e rest a.0 in
     (x, a.1, λ us first. ap (allowed T p) (x.steady us first) ∙ is_allowed T p e us a.1)
 
-pub argument_found : (f : Function) (p : Token) (ts : List Token) (e : Expression) (rest : List Token) → argument_at f p ts ≡ Ok (e, rest) → ArgumentFound f p ts e rest
-argument_found PcrelLo p ts e rest h = label_found p ts e rest h
-argument_found Hi p ts e rest h =
-    let x = tested_found (λ x. is_refused_by Hi x) p ts e rest h in
-    record { text = x.0.text; whole = x.0.whole; is = (x.0.is, x.1); steady = x.2; ended_rest = ended_after ts x.0.text rest x.0.at x.0.more x.0.whole x.0.rest_is }
-argument_found Lo p ts e rest h =
-    let x = tested_found (λ x. is_refused_by Lo x) p ts e rest h in
-    record { text = x.0.text; whole = x.0.whole; is = (x.0.is, x.1); steady = x.2; ended_rest = ended_after ts x.0.text rest x.0.at x.0.more x.0.whole x.0.rest_is }
-argument_found PcrelHi p ts e rest h =
-    let x = tested_found (λ x. is_refused_by PcrelHi x) p ts e rest h in
-    record { text = x.0.text; whole = x.0.whole; is = (x.0.is, x.1); steady = x.2; ended_rest = ended_after ts x.0.text rest x.0.at x.0.more x.0.whole x.0.rest_is }
+-- an expression as an argument
+by_ended : (f : Function) (ts : List Token) (e : Expression) (rest : List Token) → ((us : List Token) → argument_at f us ≡ value_at us)
+    → ((us : List Token) → IsValue us e → IsArgument f us e) → Ended ts e rest → ArgumentFound f ts e rest
+by_ended f ts e rest same to x = record {
+  text = x.text;
+  whole = x.whole;
+  is = to x.text x.is;
+  steady = λ us first. same (x.text ++ us) ∙ x.steady us first;
+  ended_rest = ended_after ts x.text rest x.at x.more x.whole x.rest_is;
+}
 
--- where an argument is wrong: at a token of it, or behind it where it is refused at the token p
-pub record ArgumentWrong (f : Function) (p : Token) (ts : List Token) (w : SyntaxError) : Type 0 where
+pub argument_found : (f : Function) (ts : List Token) (e : Expression) (rest : List Token) → argument_at f ts ≡ Ok (e, rest) → ArgumentFound f ts e rest
+argument_found PcrelLo ts e rest h = label_found ts e rest h
+argument_found Hi ts e rest h = by_ended Hi ts e rest (λ us. refl) (λ us v. v) (value_ended ts e rest h)
+argument_found Lo ts e rest h = by_ended Lo ts e rest (λ us. refl) (λ us v. v) (value_ended ts e rest h)
+argument_found PcrelHi ts e rest h = by_ended PcrelHi ts e rest (λ us. refl) (λ us v. v) (value_ended ts e rest h)
+
+-- where an argument is wrong
+pub record ArgumentWrong (f : Function) (ts : List Token) (w : SyntaxError) : Type 0 where
   pub before : List Token
   pub at : Token
   pub more : List Token
   pub whole : ts ≡ before ++ at ∷ more
-  pub shown : (w ≡ wrong p unsupported_here) ⊎ ((code : ℕ) × (w ≡ wrong at code))
-  pub fails : (text : List Token) → argument_at f p (before ++ at ∷ text) ≡ Err w
-  pub goes : (us : List Token) × (e : Expression) × IsArgument f (before ++ us) e
+  pub code : ℕ
+  pub is_wrong : w ≡ wrong at code
+  pub fails : (text : List Token) → argument_at f (before ++ at ∷ text) ≡ Err w
+  pub goes : (us : List Token) × (e : Expression) × IsArgument f (before ++ us) e × (is_refused_by f e ≡ false)
 
 -- of a tested expression
 pub record TestedWrong (T : Expression → Bool) (p : Token) (ts : List Token) (w : SyntaxError) : Type 0 where
@@ -153,17 +158,20 @@ tested_wrong T p ts w end e = elim (allowed_err T p (value_at ts) w e) [
       some = λ h. inl (no_front x.text (value_some x.text e x.is));
     }
 
-by_tested : (f : Function) (p : Token) (ts : List Token) (w : SyntaxError) (x : TestedWrong (λ e. is_refused_by f e) p ts w)
-    → ((us : List Token) → argument_at f p us ≡ allowed (λ e. is_refused_by f e) p (value_at us)) → ((us : List Token) (e : Expression) → IsValue us e → is_number e ≡ false → IsArgument f us e) → ArgumentWrong f p ts w
-by_tested f p ts w x same to = record {
-  before = x.before;
-  at = x.at;
-  more = x.more;
-  whole = x.whole;
-  shown = x.shown;
-  fails = λ text. same (x.before ++ x.at ∷ text) ∙ x.fails text;
-  goes = (x.goes.0, x.goes.1, to (x.before ++ x.goes.0) x.goes.1 x.goes.2 x.goes.3);
-}
+by_unread : (f : Function) (ts : List Token) (w : SyntaxError) → ((us : List Token) → argument_at f us ≡ value_at us)
+    → ((us : List Token) (e : Expression) → IsValue us e → is_number e ≡ false → IsArgument f us e × (is_refused_by f e ≡ false)) → Unread ts w → ArgumentWrong f ts w
+by_unread f ts w same to x =
+    let g = to (x.before ++ x.goes.0) x.goes.1 x.goes.2 x.goes.3 in
+    record {
+      before = x.before;
+      at = x.at;
+      more = x.more;
+      whole = x.whole;
+      code = x.code;
+      is_wrong = x.is_wrong;
+      fails = λ text. same (x.before ++ x.at ∷ text) ∙ x.fails text;
+      goes = (x.goes.0, x.goes.1, g.0, g.1);
+    }
 
 some_label : label_named a_symbol.kind ≡ Some a_name
 some_label = rw_symbol a_symbol_is
@@ -175,36 +183,53 @@ some_label = rw_symbol a_symbol_is
         go true h = refl
         go false h = absurd (cc)
 
-label_wrong : (p : Token) (ts : List Token) (w : SyntaxError) → ended ts ≡ true → label_at ts ≡ Err w → ArgumentWrong PcrelLo p ts w
-label_wrong p [] w end e = absurd (cc)
-label_wrong p (t ∷ ts) w end e =
+label_wrong : (ts : List Token) (w : SyntaxError) → ended ts ≡ true → label_at ts ≡ Err w → ArgumentWrong PcrelLo ts w
+label_wrong [] w end e = absurd (cc)
+label_wrong (t ∷ ts) w end e =
     let k = taken_err t ts (label_named t.kind) (wrong_symbol t.kind) w e in
     record {
       before = [];
       at = t;
       more = ts;
       whole = refl;
-      shown = inr (wrong_symbol t.kind, k.1);
+      code = wrong_symbol t.kind;
+      is_wrong = k.1;
       fails = λ text. rw (k.0, k.1) refl;
-      goes = (a_symbol ∷ [], a_name, (a_symbol, refl, some_label));
+      goes = (a_symbol ∷ [], a_name, (a_symbol, refl, some_label), refl);
     }
 
-pub argument_wrong : (f : Function) (p : Token) (ts : List Token) (w : SyntaxError) → ended ts ≡ true → argument_at f p ts ≡ Err w → ArgumentWrong f p ts w
-argument_wrong PcrelLo p ts w end e = label_wrong p ts w end e
-argument_wrong Hi p ts w end e = by_tested Hi p ts w (tested_wrong (λ e. is_refused_by Hi e) p ts w end e) (λ us. refl) (λ us x v n. (v, refl))
-argument_wrong Lo p ts w end e = by_tested Lo p ts w (tested_wrong (λ e. is_refused_by Lo e) p ts w end e) (λ us. refl) (λ us x v n. (v, refl))
-argument_wrong PcrelHi p ts w end e = by_tested PcrelHi p ts w (tested_wrong (λ e. is_refused_by PcrelHi e) p ts w end e) (λ us. refl) (λ us x v n. (v, n))
+pub argument_wrong : (f : Function) (ts : List Token) (w : SyntaxError) → ended ts ≡ true → argument_at f ts ≡ Err w → ArgumentWrong f ts w
+argument_wrong PcrelLo ts w end e = label_wrong ts w end e
+argument_wrong Hi ts w end e = by_unread Hi ts w (λ us. refl) (λ us x v n. (v, refl)) (value_unread ts w end e)
+argument_wrong Lo ts w end e = by_unread Lo ts w (λ us. refl) (λ us x v n. (v, refl)) (value_unread ts w end e)
+argument_wrong PcrelHi ts w end e = by_unread PcrelHi ts w (λ us. refl) (λ us x v n. (v, n)) (value_unread ts w end e)
+
+-- an argument, or what it goes on with, is not refused
+goes_on : (f : Function) (text : List Token) (e : Expression) → IsArgument f text e
+    → (us : List Token) × (y : Expression) × IsArgument f (text ++ us) y × (is_refused_by f y ≡ false)
+goes_on PcrelLo text e is = ([], e, subst (λ us. IsArgument PcrelLo us e) (sym (append-nil text)) is, refl)
+goes_on Hi text e is = ([], e, subst (λ us. IsArgument Hi us e) (sym (append-nil text)) is, refl)
+goes_on Lo text e is = ([], e, subst (λ us. IsArgument Lo us e) (sym (append-nil text)) is, refl)
+goes_on PcrelHi text e is = sum_goes text e is
 
 -- what is behind the word of a function
+pub enclosed_is : (f : Function) (q : Token) (text : List Token) (e : Expression) (c : Token) (rest : List Token) → is_opening q.kind ≡ true → IsArgument f text e → is_closing c.kind ≡ true
+    → enclosed_at f (q ∷ (text ++ c ∷ rest)) ≡ Ok (e, rest)
+enclosed_is f q text e c rest opens is closes = rw (opens, argument_is f text e c rest is closes, closes) refl
+
+-- what is read in the parentheses is looked at behind them
+abbrev looked_at : Function → Token → Read Expression → Read Operand
+looked_at f p r = seen_as (Applied f) (allowed (λ x. is_refused_by f x) p r)
+
 called_is : (f : Function) (p q : Token) (text : List Token) (e : Expression) (c : Token) (rest : List Token) → is_opening q.kind ≡ true → IsArgument f text e → is_closing c.kind ≡ true
-    → called_at f p (q ∷ (text ++ c ∷ rest)) ≡ Ok (Applied f e, rest)
-called_is f p q text e c rest opens is closes = rw (opens, argument_is f p text e c rest is closes, closes) refl
+    → is_refused_by f e ≡ false → called_at f p (q ∷ (text ++ c ∷ rest)) ≡ Ok (Applied f e, rest)
+called_is f p q text e c rest opens is closes good =
+    ap (looked_at f p) (enclosed_is f q text e c rest opens is closes) ∙ ap (seen_as (Applied f)) (is_allowed (λ x. is_refused_by f x) p e rest good)
 
 may_call_there : (role : Role) (f : Function) → may_stand role f ≡ true → may_call role ≡ true
 may_call_there roles.Directive f h = absurd (cc)
 may_call_there roles.Alignment f h = absurd (cc)
 may_call_there roles.Target f h = absurd (cc)
-may_call_there roles.Call f h = absurd (cc)
 may_call_there _ f h = refl
 
 standing_may : (role : Role) (o : Option Function) (f : Function) → standing role o ≡ Some f → may_call role ≡ true
@@ -215,15 +240,15 @@ standing_may role (Some g) f h = go (may_stand role g) refl h
     go true is h = may_call_there role g is
     go false is h = absurd (cc)
 
-function_may : (role : Role) (k : Kind) (f : Function) → function_in role k ≡ Some f → may_call role ≡ true
+pub function_may : (role : Role) (k : Kind) (f : Function) → function_in role k ≡ Some f → may_call role ≡ true
 function_may role (NameToken name) f h = standing_may role (named_in function_words name) f h
 function_may role _ f h = absurd (cc)
 
-function_no_last : (role : Role) (k : Kind) (f : Function) → function_in role k ≡ Some f → is_last k ≡ false
+pub function_no_last : (role : Role) (k : Kind) (f : Function) → function_in role k ≡ Some f → is_last k ≡ false
 function_no_last role (NameToken name) f h = refl
 function_no_last role _ f h = absurd (cc)
 
-percent_no_last : (k : Kind) → is_percent k ≡ true → is_last k ≡ false
+pub percent_no_last : (k : Kind) → is_percent k ≡ true → is_last k ≡ false
 percent_no_last (Punctuation Percent) h = refl
 percent_no_last (Punctuation _) h = absurd (cc)
 percent_no_last _ h = absurd (cc)
@@ -239,8 +264,8 @@ applied_in : (role : Role) (p n : Token) (f : Function) (us : List Token) → is
 applied_in role p n f us percent is = rw (function_may role n.kind f is, percent, is) refl
 
 pub applied_is : (role : Role) (text rest : List Token) (o : Operand) → IsApplied role text o → value_in role (text ++ rest) ≡ Ok (o, rest)
-applied_is role text rest o (p, n, q, argument, c, f, e, w, percent, is, opens, arg, closes, v) =
-    rw (w, v) (ap (value_in role) (applied_text p n q c argument rest) ∙ applied_in role p n f (q ∷ (argument ++ c ∷ rest)) percent is ∙ called_is f p q argument e c rest opens arg closes)
+applied_is role text rest o (p, n, q, argument, c, f, e, w, percent, is, opens, arg, closes, good, v) =
+    rw (w, v) (ap (value_in role) (applied_text p n q c argument rest) ∙ applied_in role p n f (q ∷ (argument ++ c ∷ rest)) percent is ∙ called_is f p q argument e c rest opens arg closes good)
 
 -- a value, or a function of one
 pub value_in_is : (role : Role) (text rest : List Token) (o : Operand) → IsValueIn role text o → Closes rest → value_in role (text ++ rest) ≡ Ok (o, rest)
@@ -257,7 +282,7 @@ value_in_is role (t ∷ ts) rest o (inl (e, v, good, is)) closes =
 
 pub value_in_some : (role : Role) (text : List Token) (o : Operand) → IsValueIn role text o → 0 < length text
 value_in_some role text o (inl (e, v, good, is)) = value_some text e v
-value_in_some role text o (inr (p, n, q, argument, c, f, e, w, percent, is, opens, arg, closes, v)) = rw w (omega arith)
+value_in_some role text o (inr (p, n, q, argument, c, f, e, w, percent, is, opens, arg, closes, good, v)) = rw w (omega arith)
 
 -- a value and what stands behind it, of which the first token alone is looked at
 pub record ValueFound (role : Role) (ts : List Token) (o : Operand) (rest : List Token) : Type 0 where
@@ -300,15 +325,19 @@ applied_found role p (n ∷ ts) o rest percent e = go (function_in role n.kind) 
   where
     called : (f : Function) → function_in role n.kind ≡ Some f → called_at f p ts ≡ Ok (o, rest) → ValueFound role (p ∷ n ∷ ts) o rest
     called f is e =
-        let a = bind_ok (single_at (An_opening A_register) ts) (λ q. argument_at f p q.1 >>= λ a. seen_as (λ none. Applied f a.0) (single_at A_closing a.1)) (o, rest) e in
-        let b = bind_ok (argument_at f p a.0.1) (λ a. seen_as (λ none. Applied f a.0) (single_at A_closing a.1)) (o, rest) a.2 in
-        let c = seen_ok (λ none. Applied f b.0.0) (single_at A_closing b.0.1) o rest b.2 in
+        let s = seen_ok (Applied f) (allowed (λ x. is_refused_by f x) p (enclosed_at f ts)) o rest e in
+        let k = allowed_ok (λ x. is_refused_by f x) p (enclosed_at f ts) s.0 rest s.1 in
+        let a = bind_ok (single_at (An_opening A_register) ts) (λ q. argument_at f q.1 >>= λ a. seen_as (λ none. a.0) (single_at A_closing a.1)) (s.0, rest) k.0 in
+        let b = bind_ok (argument_at f a.0.1) (λ a. seen_as (λ none. a.0) (single_at A_closing a.1)) (s.0, rest) a.2 in
+        let c = seen_ok (λ none. b.0.0) (single_at A_closing b.0.1) s.0 rest b.2 in
         let q = single_found (An_opening A_register) ts a.0.0 a.0.1 a.1 in
-        let x = argument_found f p a.0.1 b.0.0 b.0.1 b.1 in
+        let x = argument_found f a.0.1 b.0.0 b.0.1 b.1 in
         let d = single_found A_closing b.0.1 c.0 rest c.1 in
         let opens = (opening_single q.0.kind a.0.0 q.2).0 in
         let closes = (closing_single d.0.kind c.0 d.2).0 in
-        let spelled : IsApplied role (p ∷ n ∷ q.0 ∷ (x.text ++ d.0 ∷ [])) o = (p, n, q.0, x.text, d.0, f, b.0.0, refl, percent, is, opens, x.is, closes, c.2) in
+        let good : is_refused_by f b.0.0 ≡ false = ap (is_refused_by f) (sym c.2) ∙ k.1 in
+        let spelled : IsApplied role (p ∷ n ∷ q.0 ∷ (x.text ++ d.0 ∷ [])) o =
+        (p, n, q.0, x.text, d.0, f, b.0.0, refl, percent, is, opens, x.is, closes, good, s.2 ∙ ap (Applied f) c.2) in
         record {
           text = p ∷ n ∷ q.0 ∷ (x.text ++ d.0 ∷ []);
           whole = ap (λ us. p ∷ n ∷ us) (q.1 ∙ ap (λ us. q.0 ∷ us) (x.whole ∙ ap (λ us. x.text ++ us) d.1 ∙ sym (append_assoc x.text (d.0 ∷ []) rest)));
@@ -387,46 +416,53 @@ some_function roles.Operand h = (word_of (codes "lo"), Lo, refl)
 some_function roles.Source h = (word_of (codes "lo"), Lo, refl)
 some_function roles.Upper h = (word_of (codes "hi"), Hi, refl)
 some_function roles.PcrelUpper h = (word_of (codes "pcrel_hi"), PcrelHi, refl)
-some_function roles.Load h = (word_of (codes "lo"), Lo, refl)
-some_function roles.Store h = (word_of (codes "lo"), Lo, refl)
 some_function roles.Directive h = absurd (cc)
 some_function roles.Alignment h = absurd (cc)
 some_function roles.Target h = absurd (cc)
-some_function roles.Call h = absurd (cc)
 
-argument_goes : (f : Function) → (e : Expression) × IsArgument f (a_symbol ∷ []) e
-argument_goes PcrelLo = (a_name, (a_symbol, refl, some_label))
-argument_goes Hi = (a_name, (name_goes, refl))
-argument_goes Lo = (a_name, (name_goes, refl))
-argument_goes PcrelHi = (a_name, (name_goes, refl))
+argument_goes : (f : Function) → (e : Expression) × IsArgument f (a_symbol ∷ []) e × (is_refused_by f e ≡ false)
+argument_goes PcrelLo = (a_name, (a_symbol, refl, some_label), refl)
+argument_goes Hi = (a_name, name_goes, refl)
+argument_goes Lo = (a_name, name_goes, refl)
+argument_goes PcrelHi = (a_name, name_goes, refl)
 
 -- what goes on behind the `%`, the word and the parenthesis
 name_on : (role : Role) (p : Token) → is_percent p.kind ≡ true → may_call role ≡ true → (us : List Token) × (o : Operand) × IsValueIn role ((p ∷ []) ++ us) o
 name_on role p percent may =
     let n = some_function role may in
     let a = argument_goes n.1 in
-    (n.0 ∷ an_opening ∷ a_symbol ∷ a_closing ∷ [], Applied n.1 a.0, inr (p, n.0, an_opening, a_symbol ∷ [], a_closing, n.1, a.0, refl, percent, n.2, refl, a.1, refl, refl))
+    (n.0 ∷ an_opening ∷ a_symbol ∷ a_closing ∷ [], Applied n.1 a.0, inr (p, n.0, an_opening, a_symbol ∷ [], a_closing, n.1, a.0, refl, percent, n.2, refl, a.1, refl, a.2, refl))
 
 opening_on : (role : Role) (p n : Token) (f : Function) → is_percent p.kind ≡ true → function_in role n.kind ≡ Some f → (us : List Token) × (o : Operand) × IsValueIn role ((p ∷ n ∷ []) ++ us) o
 opening_on role p n f percent is =
     let a = argument_goes f in
-    (an_opening ∷ a_symbol ∷ a_closing ∷ [], Applied f a.0, inr (p, n, an_opening, a_symbol ∷ [], a_closing, f, a.0, refl, percent, is, refl, a.1, refl, refl))
+    (an_opening ∷ a_symbol ∷ a_closing ∷ [], Applied f a.0, inr (p, n, an_opening, a_symbol ∷ [], a_closing, f, a.0, refl, percent, is, refl, a.1, refl, a.2, refl))
 
 argument_on : (role : Role) (p n q : Token) (f : Function) (before us : List Token) (e : Expression) → is_percent p.kind ≡ true → function_in role n.kind ≡ Some f → is_opening q.kind ≡ true
-    → IsArgument f (before ++ us) e → (vs : List Token) × (o : Operand) × IsValueIn role ((p ∷ n ∷ q ∷ before) ++ vs) o
-argument_on role p n q f before us e percent is opens arg =
-    (us ++ a_closing ∷ [], Applied f e, inr (p, n, q, before ++ us, a_closing, f, e, ap (λ vs. p ∷ n ∷ q ∷ vs) (sym (append_assoc before us (a_closing ∷ []))), percent, is, opens, arg, refl, refl))
+    → IsArgument f (before ++ us) e → is_refused_by f e ≡ false → (vs : List Token) × (o : Operand) × IsValueIn role ((p ∷ n ∷ q ∷ before) ++ vs) o
+argument_on role p n q f before us e percent is opens arg good = (
+  us ++ a_closing ∷ [],
+  Applied f e,
+  inr (p, n, q, before ++ us, a_closing, f, e, ap (λ vs. p ∷ n ∷ q ∷ vs) (sym (append_assoc before us (a_closing ∷ []))), percent, is, opens, arg, refl, good, refl),
+)
 
 -- where a function of a value is wrong
-called_err : (f : Function) (p : Token) (ts : List Token) (w : SyntaxError) → single_at (An_opening A_register) ts ≡ Err w → called_at f p ts ≡ Err w
-called_err f p ts w h = rw h refl
+called_err : (f : Function) (p : Token) (ts : List Token) (w : SyntaxError) → enclosed_at f ts ≡ Err w → called_at f p ts ≡ Err w
+called_err f p ts w h = ap (looked_at f p) h
 
-argued_err : (f : Function) (p q : Token) (ts : List Token) (w : SyntaxError) → is_opening q.kind ≡ true → argument_at f p ts ≡ Err w → called_at f p (q ∷ ts) ≡ Err w
-argued_err f p q ts w opens h = rw (opens, h) refl
+unopened_err : (f : Function) (ts : List Token) (w : SyntaxError) → single_at (An_opening A_register) ts ≡ Err w → enclosed_at f ts ≡ Err w
+unopened_err f ts w h = rw h refl
 
-closed_err : (f : Function) (p q : Token) (ts us : List Token) (e : Expression) (w : SyntaxError) → is_opening q.kind ≡ true → argument_at f p ts ≡ Ok (e, us) → single_at A_closing us ≡ Err w
-    → called_at f p (q ∷ ts) ≡ Err w
-closed_err f p q ts us e w opens h g = rw (opens, h, g) refl
+argued_err : (f : Function) (q : Token) (ts : List Token) (w : SyntaxError) → is_opening q.kind ≡ true → argument_at f ts ≡ Err w → enclosed_at f (q ∷ ts) ≡ Err w
+argued_err f q ts w opens h = rw (opens, h) refl
+
+unclosed_err : (f : Function) (q : Token) (ts us : List Token) (e : Expression) (w : SyntaxError) → is_opening q.kind ≡ true → argument_at f ts ≡ Ok (e, us) → single_at A_closing us ≡ Err w
+    → enclosed_at f (q ∷ ts) ≡ Err w
+unclosed_err f q ts us e w opens h g = rw (opens, h, g) refl
+
+refused_err : (f : Function) (p : Token) (e : Expression) (rest : List Token) (w : SyntaxError) → is_refused_by f e ≡ true → w ≡ wrong p unsupported_here
+    → looked_at f p (Ok (e, rest)) ≡ Err w
+refused_err f p e rest w bad is = rw bad (ap (λ (v : SyntaxError). Err v) (sym is))
 
 single_fails : (t : Token) (text : List Token) (w : SyntaxError) → single (An_opening A_register) t.kind ≡ None → w ≡ wrong t (wrong_first (An_opening A_register) t.kind)
     → single_at (An_opening A_register) (t ∷ text) ≡ Err w
@@ -434,10 +470,6 @@ single_fails t text w none is = rw (none, is) refl
 
 closing_fails : (t : Token) (text : List Token) (w : SyntaxError) → single A_closing t.kind ≡ None → w ≡ wrong t (wrong_first A_closing t.kind) → single_at A_closing (t ∷ text) ≡ Err w
 closing_fails t text w none is = rw (none, is) refl
-
-shown_there : (p n q : Token) (before : List Token) (at : Token) (w : SyntaxError) → (w ≡ wrong p unsupported_here) ⊎ ((code : ℕ) × (w ≡ wrong at code)) → Shown (p ∷ n ∷ q ∷ before) at w
-shown_there p n q before at w (inl is) = ([], n ∷ q ∷ (before ++ at ∷ []), p, unsupported_here, refl, is)
-shown_there p n q before at w (inr (code, is)) = at_once (p ∷ n ∷ q ∷ before) at code w is
 
 named_shown : (p n : Token) (w : SyntaxError) → wrong_function p n ≡ w → Shown (p ∷ []) n w
 named_shown p n w e = go (is_name n.kind) e
@@ -466,40 +498,30 @@ applied_wrong role p (n ∷ ts) w end percent may e = go (function_in role n.kin
     )
 
     called : (f : Function) → function_in role n.kind ≡ Some f → ended ts ≡ true → called_at f p ts ≡ Err w → ValueWrong role (p ∷ n ∷ ts) w
-    called f is last e = elim (bind_err (single_at (An_opening A_register) ts) (λ q. argument_at f p q.1 >>= λ a. seen_as (λ none. Applied f a.0) (single_at A_closing a.1)) w e) [
-      | inl h ↦ (let k = single_fault (An_opening A_register) ts w last h in (
-        record {
-          before = p ∷ n ∷ [];
-          at = k.0;
-          more = k.1;
-          whole = ap (λ us. p ∷ n ∷ us) k.2;
-          is_wrong = at_once (p ∷ n ∷ []) k.0 (wrong_first (An_opening A_register) k.0.kind) w k.4;
-          fails = λ text. applied_in role p n f (k.0 ∷ text) percent is ∙ called_err f p (k.0 ∷ text) w (single_fails k.0 text w k.3 k.4);
-          goes = opening_on role p n f percent is;
-        },
-        λ none. absurd (cc),
-      ))
-      | inr a ↦ (let q = single_passed (An_opening A_register) ts a.0.0 a.0.1 last a.1 in
-          opened q.0 a.0.1 q.1 (opening_single q.0.kind a.0.0 q.2).0 q.3 a.2)
+    called f is last e = elim (allowed_err (λ x. is_refused_by f x) p (enclosed_at f ts) w (seen_err (Applied f) (allowed (λ x. is_refused_by f x) p (enclosed_at f ts)) w e)) [
+      | inl h ↦ unenclosed h
+      | inr r ↦ enclosed r.0 r.1 r.2 r.3 r.4
     ]
       where
-        opened : (q : Token) (us : List Token) → ts ≡ q ∷ us → is_opening q.kind ≡ true → ended us ≡ true → (argument_at f p us >>= λ a. seen_as (λ none. Applied f a.0) (single_at A_closing a.1)) ≡ Err w
+        opened : (q : Token) (us : List Token) → ts ≡ q ∷ us → is_opening q.kind ≡ true → ended us ≡ true → (argument_at f us >>= λ a. seen_as (λ none. a.0) (single_at A_closing a.1)) ≡ Err w
             → ValueWrong role (p ∷ n ∷ ts) w
-        opened q us whole opens last e = elim (bind_err (argument_at f p us) (λ a. seen_as (λ none. Applied f a.0) (single_at A_closing a.1)) w e) [
-          | inl h ↦ (let x = argument_wrong f p us w last h in (
+        opened q us whole opens last e = elim (bind_err (argument_at f us) (λ a. seen_as (λ none. a.0) (single_at A_closing a.1)) w e) [
+          | inl h ↦ (let x = argument_wrong f us w last h in (
             record {
               before = p ∷ n ∷ q ∷ x.before;
               at = x.at;
               more = x.more;
               whole = ap (λ vs. p ∷ n ∷ vs) (whole ∙ ap (λ vs. q ∷ vs) x.whole);
-              is_wrong = shown_there p n q x.before x.at w x.shown;
-              fails = λ text. applied_in role p n f (q ∷ (x.before ++ x.at ∷ text)) percent is ∙ argued_err f p q (x.before ++ x.at ∷ text) w opens (x.fails text);
-              goes = argument_on role p n q f x.before x.goes.0 x.goes.1 percent is opens x.goes.2;
+              is_wrong = at_once (p ∷ n ∷ q ∷ x.before) x.at x.code w x.is_wrong;
+              fails = λ text. applied_in role p n f (q ∷ (x.before ++ x.at ∷ text)) percent is
+                  ∙ called_err f p (q ∷ (x.before ++ x.at ∷ text)) w (argued_err f q (x.before ++ x.at ∷ text) w opens (x.fails text));
+              goes = argument_on role p n q f x.before x.goes.0 x.goes.1 percent is opens x.goes.2 x.goes.3;
             },
             λ none. absurd (cc),
           ))
-          | inr b ↦ (let x = argument_found f p us b.0.0 b.0.1 b.1 in
-              let k = single_fault A_closing b.0.1 w (x.ended_rest last) (seen_err (λ none. Applied f b.0.0) (single_at A_closing b.0.1) w b.2) in (
+          | inr b ↦ (let x = argument_found f us b.0.0 b.0.1 b.1 in
+              let k = single_fault A_closing b.0.1 w (x.ended_rest last) (seen_err (λ none. b.0.0) (single_at A_closing b.0.1) w b.2) in
+              let g = goes_on f x.text b.0.0 x.is in (
                 record {
                   before = p ∷ n ∷ q ∷ x.text;
                   at = k.0;
@@ -507,12 +529,57 @@ applied_wrong role p (n ∷ ts) w end percent may e = go (function_in role n.kin
                   whole = ap (λ vs. p ∷ n ∷ vs) (whole ∙ ap (λ vs. q ∷ vs) (x.whole ∙ ap (λ vs. x.text ++ vs) k.2));
                   is_wrong = at_once (p ∷ n ∷ q ∷ x.text) k.0 (wrong_first A_closing k.0.kind) w k.4;
                   fails = λ text. applied_in role p n f (q ∷ (x.text ++ k.0 ∷ text)) percent is
-                      ∙ closed_err f p q (x.text ++ k.0 ∷ text) (k.0 ∷ text) b.0.0 w opens (x.steady (k.0 ∷ text) (sym (ap first_of k.2))) (closing_fails k.0 text w k.3 k.4);
-                  goes = argument_on role p n q f x.text [] b.0.0 percent is opens (subst (λ vs. IsArgument f vs b.0.0) (sym (append-nil x.text)) x.is);
+                      ∙ called_err f p (q ∷ (x.text ++ k.0 ∷ text)) w
+                      (unclosed_err f q (x.text ++ k.0 ∷ text) (k.0 ∷ text) b.0.0 w opens (x.steady (k.0 ∷ text) (sym (ap first_of k.2))) (closing_fails k.0 text w k.3 k.4));
+                  goes = argument_on role p n q f x.text g.0 g.1 percent is opens g.2 g.3;
                 },
                 λ none. absurd (cc),
               ))
         ]
+
+        unenclosed : enclosed_at f ts ≡ Err w → ValueWrong role (p ∷ n ∷ ts) w
+        unenclosed e = elim (bind_err (single_at (An_opening A_register) ts) (λ q. argument_at f q.1 >>= λ a. seen_as (λ none. a.0) (single_at A_closing a.1)) w e) [
+          | inl h ↦ (let k = single_fault (An_opening A_register) ts w last h in (
+            record {
+              before = p ∷ n ∷ [];
+              at = k.0;
+              more = k.1;
+              whole = ap (λ us. p ∷ n ∷ us) k.2;
+              is_wrong = at_once (p ∷ n ∷ []) k.0 (wrong_first (An_opening A_register) k.0.kind) w k.4;
+              fails = λ text. applied_in role p n f (k.0 ∷ text) percent is ∙ called_err f p (k.0 ∷ text) w (unopened_err f (k.0 ∷ text) w (single_fails k.0 text w k.3 k.4));
+              goes = opening_on role p n f percent is;
+            },
+            λ none. absurd (cc),
+          ))
+          | inr a ↦ (let q = single_passed (An_opening A_register) ts a.0.0 a.0.1 last a.1 in
+              opened q.0 a.0.1 q.1 (opening_single q.0.kind a.0.0 q.2).0 q.3 a.2)
+        ]
+
+        -- what is spelled right, and is refused behind its closing parenthesis
+        enclosed : (x : Expression) (rest : List Token) → enclosed_at f ts ≡ Ok (x, rest) → is_refused_by f x ≡ true → w ≡ wrong p unsupported_here → ValueWrong role (p ∷ n ∷ ts) w
+        enclosed y rest read bad shown =
+            let a = bind_ok (single_at (An_opening A_register) ts) (λ q. argument_at f q.1 >>= λ a. seen_as (λ none. a.0) (single_at A_closing a.1)) (y, rest) read in
+            let b = bind_ok (argument_at f a.0.1) (λ a. seen_as (λ none. a.0) (single_at A_closing a.1)) (y, rest) a.2 in
+            let c = seen_ok (λ none. b.0.0) (single_at A_closing b.0.1) y rest b.2 in
+            let q = single_found (An_opening A_register) ts a.0.0 a.0.1 a.1 in
+            let x = argument_found f a.0.1 b.0.0 b.0.1 b.1 in
+            let d = single_found A_closing b.0.1 c.0 rest c.1 in
+            let opens = (opening_single q.0.kind a.0.0 q.2).0 in
+            let closes = (closing_single d.0.kind c.0 d.2).0 in
+            let g = goes_on f x.text b.0.0 x.is in (
+              record {
+                before = p ∷ n ∷ q.0 ∷ x.text;
+                at = d.0;
+                more = rest;
+                whole = ap (λ us. p ∷ n ∷ us) (q.1 ∙ ap (λ us. q.0 ∷ us) (x.whole ∙ ap (λ us. x.text ++ us) d.1));
+                is_wrong = ([], n ∷ q.0 ∷ (x.text ++ d.0 ∷ []), p, unsupported_here, refl, shown);
+                fails = λ text. applied_in role p n f (q.0 ∷ (x.text ++ d.0 ∷ text)) percent is
+                    ∙ ap (looked_at f p) (enclosed_is f q.0 x.text b.0.0 d.0 text opens x.is closes)
+                    ∙ refused_err f p b.0.0 text w (ap (is_refused_by f) (sym c.2) ∙ bad) shown;
+                goes = argument_on role p n q.0 f x.text g.0 g.1 percent is opens g.2 g.3;
+              },
+              λ none. absurd (cc),
+            )
 
     go : (x : Option Function) → function_in role n.kind ≡ x → named_at p n ts x ≡ Err w → ValueWrong role (p ∷ n ∷ ts) w
     go (Some f) is e = called f is (ended_more n ts (function_no_last role n.kind f is) (ended_more p (n ∷ ts) (percent_no_last p.kind percent) end)) e

@@ -71,7 +71,7 @@ pub at_first : (X : Type 0) (P : List Token → X → Type 0) (R : List Token �
 at_first X P R t ts w code is fails goes = record { before = []; at = t; more = ts; whole = refl; is_wrong = at_once [] t _ w is; fails = fails; goes = goes }
 
 -- behind tokens that are passed
-pub behind : (X Y : Type 0) (P : List Token → X → Type 0) (Q : List Token → Y → Type 0) (R : List Token → Read X) (S : List Token → Read Y) (text ts : List Token) (w : SyntaxError)
+unfoldable pub behind : (X Y : Type 0) (P : List Token → X → Type 0) (Q : List Token → Y → Type 0) (R : List Token → Read X) (S : List Token → Read Y) (text ts : List Token) (w : SyntaxError)
     → ((us : List Token) (y : Y) → Q us y → (x : X) × P (text ++ us) x)
     → ((us : List Token) → first_of us ≡ first_of ts → S us ≡ Err w → R (text ++ us) ≡ Err w)
     → Failing Y Q S ts w → Failing X P R (text ++ ts) w

@@ -1,7 +1,6 @@
 -- The first fault of a source: there is at most one, and a source that is read has none.
 
 use Rattle.std.proofs.Common.{◌≡◌, ℕ, suc, ◌+◌, ◌<◌, ◌≤◌, false, List, [], ◌∷◌, ◌++◌, append_assoc, length, take, Some, Result, Err, refl, sym, ◌∙◌, ap, subst, arith, ◌⊎◌, inl, inr}
-use Rattle.std.proofs.lemmas.Option.{same_Some}
 use Rattle.rv_text_laws.specs.Cut.{Piece, texts, NothingReads, cut}
 use Rattle.rv_text_laws.specs.Lexing.{Token, Lexes, newlines}
 use Rattle.rv_text_laws.proofs.Cut.{unique, nothing_none}
@@ -12,13 +11,17 @@ use Rattle.rv_parse_laws.specs.Opening.{is_opened, IsWrongOpening}
 use Rattle.rv_parse_laws.specs.Parsing.{part_at, opening_at, checked_at}
 use Rattle.rv_text_laws.specs.Codes.{limit}
 use Rattle.rv_text_laws.specs.SyntaxError.{SyntaxError, wrong, offset_of}
-use Rattle.rv_parse_laws.specs.Reading.{AreParts, Reads, said, past_line, longest_source, most_statements, CanGoOn, OpensWell, AllOpenWell, WrongToken, WrongOpening, PastStatements, Stands, Fault, Refuses}
+use Rattle.rv_parse_laws.specs.Reading.{AreParts, Reads, said, IsPastLine, longest_source, most_statements, OpensWell, AllOpenWell}
+use Rattle.rv_parse_laws.specs.Refusals.{CanGoOn, WrongToken, WrongOpening, PastStatements, Stands, Fault, Refuses}
+use Rattle.rv_parse_laws.specs.Wrong.{IsWrongStatement}
+use Rattle.rv_parse_laws.proofs.WrongStatements.{statement_wrongs, statement_said}
+use Rattle.rv_parse_laws.proofs.WrongPlaces.{statement_occurs}
 use Rattle.rv_parse_laws.proofs.Failing.{shown_whole, heads, tails}
 use Rattle.rv_parse_laws.proofs.Parts.{part_wrong, stops_there}
 use Rattle.rv_parse_laws.proofs.Openings.{OpeningThere, opening_found, front_opens, checked_err, checked_wrong, opening_goes, opening_behind, said_none, opens_on}
 use Rattle.rv_parse_laws.proofs.Whole.{find_part, finds_parts}
 use Rattle.rv_parse_laws.proofs.Cutting.{GoesOn, comparable, no_part, wrong_there, no_further, same_or_more, nothing_more_said, none_at_end}
-use Rattle.rv_parse_laws.proofs.Places.{LineIs, Standing, stand, standing_at, standing_behind, place_at_least, place_of_none, ended_rest}
+use Rattle.rv_parse_laws.proofs.Places.{LineIs, Standing, stand, standing_at, standing_behind, place_at_least, faults_apart, place_of_none, ended_rest}
 
 -- the line of a token's faults, behind parts and further tokens
 token_line : (bytes : List ℕ) (ts before : List Token) (t : Token) (more : List Token) → Lexes bytes ts → ts ≡ before ++ t ∷ more → LineIs bytes t
@@ -39,6 +42,20 @@ pub record WrongPart (bytes : List ℕ) (t : Token) (w : SyntaxError) : Type 0 w
   pub stands : IsFaulty bytes w.offset w.code
   pub line : w.line ≡ 1 + newlines (take w.offset bytes)
   pub behind : t.start ≤ w.offset
+
+-- of two places in a list the one comes first, or they are the same
+fronts : (xs ys : List Token) (x y : Token) (us vs : List Token) → xs ++ x ∷ us ≡ ys ++ y ∷ vs
+    → ((xs ≡ ys) × (x ≡ y) × (us ≡ vs)) ⊎ (((zs : List Token) × (ys ≡ xs ++ x ∷ zs)) ⊎ ((zs : List Token) × (xs ≡ ys ++ y ∷ zs)))
+fronts [] [] x y us vs e = inl (refl, heads e, tails e)
+fronts [] (b ∷ ys) x y us vs e = inr (inl (ys, ap (λ (t : Token). t ∷ ys) (sym (heads e))))
+fronts (a ∷ xs) [] x y us vs e = inr (inr (xs, ap (λ (t : Token). t ∷ xs) (heads e)))
+fronts (a ∷ xs) (b ∷ ys) x y us vs e =
+    let first : a ≡ b = heads e in
+    elim (fronts xs ys x y us vs (tails e)) [
+      | inl s ↦ inl (ap (λ (t : Token). t ∷ xs) first ∙ ap (λ (zs : List Token). b ∷ zs) s.0, s.1, s.2)
+      | inr (inl z) ↦ inr (inl (z.0, ap (λ (t : Token). t ∷ ys) (sym first) ∙ ap (λ (zs : List Token). a ∷ zs) z.1))
+      | inr (inr z) ↦ inr (inr (z.0, ap (λ (t : Token). t ∷ xs) first ∙ ap (λ (zs : List Token). b ∷ zs) z.1))
+    ]
 
 -- a token with which nothing goes on
 wrong_read : (bytes : List ℕ) (ts : List Token) (parts : List (Piece Part Token)) (t : Token) (us : List Token) (w : SyntaxError) → Lexes bytes ts → AreParts ts parts (t ∷ us)
@@ -73,12 +90,29 @@ wrong_read bytes ts parts t us w lexes cut opens e well =
         shown = shown.2;
         back = shown.1;
         shown_is = shown.4;
-        fault_is = e ∙ ap (λ (x : SyntaxError). Err x) (shown.5 ∙ ap (wrong shown.2) (sym code));
+        fault_is = as_said shown.2 w.code shown.0 (shown.1 ++ s.more) there (shown.5 ∙ ap (wrong shown.2) (sym code));
         place_is = place;
       });
       line = ap (λ (x : SyntaxError). x.line) shown.5 ∙ line ∙ ap (λ n. 1 + newlines (take n bytes)) (sym place);
       behind = omega (arith, from, least, place);
     }
+  where
+    -- what the relation says is wrong is the token at which the reading is
+    as_said : (u : Token) (code : ℕ) (front back : List Token) → t ∷ us ≡ front ++ u ∷ back → w ≡ wrong u code → IsWrongStatement (t ∷ us) u code
+    as_said u code front back there is =
+        let k = statement_said (t ∷ us) w (ended_rest bytes ts (texts parts) t us lexes cut.whole) e in
+        let o = statement_occurs (t ∷ us) k.0 k.1 k.2 in
+        let same : wrong k.0 k.1 ≡ wrong u code = sym k.3 ∙ is in
+        let codes : k.1 ≡ code = ap (λ (x : SyntaxError). x.code) same in
+        let offsets : offset_of k.0 k.1 ≡ offset_of u code = ap (λ (x : SyntaxError). x.offset) same in
+        let standing : Standing bytes t.start (t ∷ us) = standing_from bytes ts (texts parts) t us lexes cut.whole in
+        elim (fronts o.0 front k.0 u o.1 back (sym o.2 ∙ there)) [
+          | inl x ↦ subst (λ v. IsWrongStatement (t ∷ us) v code) x.1 (subst (IsWrongStatement (t ∷ us) k.0) codes k.2)
+          | inr (inl x) ↦ (let lt = faults_apart bytes t.start o.0 k.0 x.0 u back k.1 code
+              (subst (Standing bytes t.start) (there ∙ ap (λ vs. vs ++ u ∷ back) x.1 ∙ append_assoc o.0 (k.0 ∷ x.0) (u ∷ back)) standing) in absurd (omega (arith, lt, offsets)))
+          | inr (inr x) ↦ (let lt = faults_apart bytes t.start front u x.0 k.0 o.1 code k.1
+              (subst (Standing bytes t.start) (o.2 ∙ ap (λ vs. vs ++ k.0 ∷ o.1) x.1 ∙ append_assoc front (u ∷ x.0) (k.0 ∷ o.1)) standing) in absurd (omega (arith, lt, offsets)))
+        ]
 
 -- an opening that is wrong
 wrong_opened : (bytes : List ℕ) (ts : List Token) (parts : List (Piece Part Token)) (t : Token) (us : List Token) (w : SyntaxError) → Lexes bytes ts → AreParts ts parts (t ∷ us)
@@ -114,20 +148,6 @@ wrong_part bytes ts parts t us w lexes cut opens e = elim (checked_err (said par
   | inr x ↦ wrong_read bytes ts parts t us w lexes cut opens x.0 x.1
 ]
 
--- of two places in a list the one comes first, or they are the same
-fronts : (xs ys : List Token) (x y : Token) (us vs : List Token) → xs ++ x ∷ us ≡ ys ++ y ∷ vs
-    → ((xs ≡ ys) × (x ≡ y) × (us ≡ vs)) ⊎ (((zs : List Token) × (ys ≡ xs ++ x ∷ zs)) ⊎ ((zs : List Token) × (xs ≡ ys ++ y ∷ zs)))
-fronts [] [] x y us vs e = inl (refl, heads e, tails e)
-fronts [] (b ∷ ys) x y us vs e = inr (inl (ys, ap (λ (t : Token). t ∷ ys) (sym (heads e))))
-fronts (a ∷ xs) [] x y us vs e = inr (inr (xs, ap (λ (t : Token). t ∷ xs) (heads e)))
-fronts (a ∷ xs) (b ∷ ys) x y us vs e =
-    let first : a ≡ b = heads e in
-    elim (fronts xs ys x y us vs (tails e)) [
-      | inl s ↦ inl (ap (λ (t : Token). t ∷ xs) first ∙ ap (λ (zs : List Token). b ∷ zs) s.0, s.1, s.2)
-      | inr (inl z) ↦ inr (inl (z.0, ap (λ (t : Token). t ∷ ys) (sym first) ∙ ap (λ (zs : List Token). a ∷ zs) z.1))
-      | inr (inr z) ↦ inr (inr (z.0, ap (λ (t : Token). t ∷ xs) first ∙ ap (λ (zs : List Token). b ∷ zs) z.1))
-    ]
-
 -- what goes on goes on from its fronts
 goes_on_front : (rest before : List Token) (at : Token) (more all : List Token) → all ≡ before ++ at ∷ more → CanGoOn rest all → CanGoOn rest (before ++ at ∷ [])
 goes_on_front rest before at more all is (p, after, label, spelled) =
@@ -145,7 +165,9 @@ one_wrong bytes p c q d x y =
     let one : cut find_part x.tokens ≡ (x.parts, x.rest) = unique finds_parts x.tokens x.parts x.rest x.cut (nothing_none finds_parts x.rest x.nothing) in
     let two : cut find_part y.tokens ≡ (y.parts, y.rest) = unique finds_parts y.tokens y.parts y.rest y.cut (nothing_none finds_parts y.rest y.nothing) in
     let rests : y.rest ≡ x.rest = ap (λ (z : List (Piece Part Token) × List Token). z.1) (sym two ∙ ap (cut find_part) (sym tokens) ∙ one) in
-    let k = same_errors x.shown y.shown c d (sym x.fault_is ∙ ap part_at (sym rests) ∙ y.fault_is) in
+    let one : part_at x.rest ≡ Err (wrong x.shown c) = statement_wrongs x.rest x.shown c x.fault_is in
+    let two : part_at y.rest ≡ Err (wrong y.shown d) = statement_wrongs y.rest y.shown d y.fault_is in
+    let k = same_errors x.shown y.shown c d (sym one ∙ ap part_at (sym rests) ∙ two) in
     (x.place_is ∙ k.0 ∙ sym y.place_is, k.1)
 
 same_wrongs : (t u : Token) (c d : ℕ) → Some (wrong t c) ≡ Some (wrong u d) → (offset_of t c ≡ offset_of u d) × (c ≡ d)
@@ -214,9 +236,9 @@ behind_good bytes t us m more rest before at others p code standing cut whole pl
     let is : us ≡ (f.0 ++ (texts more ++ before)) ++ at ∷ others =
     f.1 ∙ ap (λ xs. f.0 ++ (texts more ++ xs)) whole ∙ ap (λ xs. f.0 ++ xs) (sym (append_assoc (texts more) before (at ∷ others)))
     ∙ sym (append_assoc f.0 (texts more ++ before) (at ∷ others)) in
-    let h = (standing_at bytes (suc t.start) (f.0 ++ (texts more ++ before)) at others (subst (Standing bytes (suc t.start)) is standing.2)).0 in
+    let h = (standing_at bytes (suc (offset_of t limit)) (f.0 ++ (texts more ++ before)) at others (subst (Standing bytes (suc (offset_of t limit))) is standing.2)).0 in
     let least : at.start ≤ offset_of at code = place_at_least at code in
-    omega (arith, h, least, place)
+    omega (arith, h, place_at_least t limit, least, place)
 
 apart : (a b : ℕ) → a ≤ b → (a ≡ b → ⊥) → a < b
 apart a b le other = grind arith
@@ -390,14 +412,10 @@ all_good bytes ts ps lexes parts opens few p c fault = go fault
       | inr more ↦ omega (arith, few, more)
     ]
 
--- the place of a line that is too long is one
-one_place : (bytes : List ℕ) (p q : ℕ) → past_line 0 0 bytes ≡ Some p → past_line 0 0 bytes ≡ Some q → p ≡ q
-one_place bytes p q e f = same_Some p q (sym e ∙ f)
-
 -- a line that is too long comes first
-pub line_refused : (bytes : List ℕ) (place line : ℕ) → length bytes ≤ longest_source → past_line 0 0 bytes ≡ Some place
-    → ((p c : ℕ) → InTokens bytes p c → place < p) → line ≡ 1 + newlines (take place bytes) → Refuses bytes (record { code = limit; line = line })
-line_refused bytes place line short past before is = inr (
+pub line_refused : (bytes : List ℕ) (place line : ℕ) → length bytes ≤ longest_source → IsPastLine bytes place
+    → ((q : ℕ) → IsPastLine bytes q → place ≤ q) → ((p c : ℕ) → InTokens bytes p c → place < p) → line ≡ 1 + newlines (take place bytes) → Refuses bytes (record { code = limit; line = line })
+line_refused bytes place line short past least before is = inr (
   short,
   record {
     place = place;
@@ -407,10 +425,13 @@ line_refused bytes place line short past before is = inr (
   },
 )
   where
+    within : (p c : ℕ) → place ≤ p → limit ≤ c → (place < p) ⊎ ((place ≡ p) × (limit ≤ c))
+    within p c le code = grind arith
+
     first : (p c : ℕ) → Stands bytes p c → (place < p) ⊎ ((place ≡ p) × (limit ≤ c))
     first p c (inl x) = inl (before p c (inl (inl x)))
     first p c (inr (inl x)) = inl (before p c (inl (inr x)))
-    first p c (inr (inr (inl (code, at)))) = inr (one_place bytes place p past at, subst (λ n. limit ≤ n) (sym code) (omega arith))
+    first p c (inr (inr (inl (code, at)))) = within p c (least p at) (subst (λ n. limit ≤ n) (sym code) (omega arith))
     first p c (inr (inr (inr x))) = inl (before p c (inr x))
 
 pub before_tokens : (bytes : List ℕ) (w : SyntaxError) (place p c : ℕ) → FirstInTokens bytes w → place < w.offset → InTokens bytes p c → place < p
@@ -421,7 +442,7 @@ before_tokens bytes w place p c first before fault = elim (first.first p c fault
 
 -- a token's fault comes first
 pub token_refused : (bytes : List ℕ) (w : SyntaxError) → length bytes ≤ longest_source → FirstInTokens bytes w → w.code ≤ limit
-    → ((place : ℕ) → past_line 0 0 bytes ≡ Some place → w.offset ≤ place) → Refuses bytes (record { code = w.code; line = w.line })
+    → ((place : ℕ) → IsPastLine bytes place → w.offset ≤ place) → Refuses bytes (record { code = w.code; line = w.line })
 token_refused bytes w short tokens low lines = inr (
   short,
   record {
@@ -476,5 +497,5 @@ not_both bytes ss f (short, lines, few, ts, ps, lexes, cut, opens, is) (inr (sho
     go : Stands bytes x.place f.code → ⊥
     go (inl y) = good x.place f.code (inl (inl y))
     go (inr (inl y)) = good x.place f.code (inl (inr y))
-    go (inr (inr (inl (code, at)))) = cc
+    go (inr (inr (inl (code, at)))) = lines x.place at
     go (inr (inr (inr y))) = good x.place f.code (inr y)

@@ -10,14 +10,16 @@ use Rattle.rv_statement.specs.declared.mnemonic.Mnemonic.TheVariants.{Registers}
 use Rattle.rv_statement.specs.declared.directive.DirectiveWord.{DirectiveWord}
 use Rattle.rv_statement.specs.declared.directive.DirectiveWord.TheVariants as words
 use Rattle.rv_statement.specs.Statement.{Operand}
-use Rattle.rv_parse_laws.specs.Syntax.{is_comma, is_end, is_opening, with_constant, source, Slot, A_value, An_address, A_section, A_comma, An_opening, single, front_begins, Slots, Stops, Takes, Chooses, Lists, Anything, slots, places, IsOperand, IsTaken, AreOperands, colon_next, EndsHere}
+use Rattle.rv_parse_laws.specs.Syntax.{is_comma, is_end, is_opening, with_constant, source, Slot, A_value, An_address, A_callee, A_section, A_comma, An_opening, single, front_begins, Slots, Stops, Takes, Chooses, Locates, Lists, Anything, slots, places, IsOperand, IsTaken, AreOperands, colon_next, EndsHere}
 use Rattle.rv_parse_laws.specs.Faults.{wrong_after}
 use Rattle.rv_parse_laws.specs.Parsing.{taking, operands_at}
 use Rattle.rv_parse_laws.proofs.Failing.{Failing, at_once, alike, first_of, same_first}
 use Rattle.rv_parse_laws.proofs.Singles.{IsSingle, is_single, end_none}
 use Rattle.rv_parse_laws.proofs.Values.{closes, Closes}
 use Rattle.rv_parse_laws.proofs.Operands.{Ready, operand_live, operand_goes, taken_is, FoundTo, taken_found, taken_wrong}
-use Rattle.rv_parse_laws.proofs.Items.{ended_closes, ready, end_is, ended_found, ended_err, items_is, items_found, items_wrong, any_is, any_found, any_wrong}
+use Rattle.rv_parse_laws.proofs.Addresses.{address_live}
+use Rattle.rv_parse_laws.proofs.Located.{Parted, address_there, target_there, located_found, located_wrong}
+use Rattle.rv_parse_laws.proofs.Items.{end_closes, ended_closes, ready, end_is, ended_found, ended_err, items_is, items_found, items_wrong, any_is, any_found, any_wrong}
 
 -- what stands here first is a comma, an opening parenthesis or the end
 abbrev pub is_sign : Slot → Bool
@@ -31,16 +33,30 @@ starts (Takes s rest) = is_sign s
 starts (Chooses s rest others) = is_sign s && starts others
 starts _ = false
 
+-- what stands here first is a comma or the end
+abbrev pub parts : Slots → Bool
+parts (Stops behind) = true
+parts (Takes (A_comma behind) rest) = true
+parts _ = false
+
+parts_starts : (ss : Slots) → parts ss ≡ true → starts ss ≡ true
+parts_starts (Stops behind) h = refl
+parts_starts (Takes (A_comma behind) rest) h = refl
+parts_starts (Takes _ rest) h = absurd (cc)
+parts_starts _ h = absurd (cc)
+
 -- an expression and a section's name have such a thing behind them; what is chosen is one token
 abbrev pub needs : Slot → Bool
 needs (A_value role) = true
 needs A_section = true
+needs A_callee = true
 needs _ = false
 
 abbrev pub sound : Slots → Bool
 sound (Stops behind) = true
 sound (Takes s rest) = (not (needs s) || starts rest) && sound rest
 sound (Chooses s rest others) = is_single s && (sound rest && sound others)
+sound (Locates rest) = parts rest && sound rest
 sound (Lists s) = true
 sound Anything = true
 
@@ -66,7 +82,8 @@ one_begins s text more os (t, w, is) = rw w (rw is refl)
 
 pub operand_begins : (s : Slot) (text more : List Token) (os : List Operand) → is_single s ≡ true → IsOperand s text os → front_begins s (text ++ more) ≡ true
 operand_begins (A_value role) text more os one is = absurd (cc)
-operand_begins (An_address role) text more os one is = absurd (cc)
+operand_begins An_address text more os one is = absurd (cc)
+operand_begins A_callee text more os one is = absurd (cc)
 operand_begins A_section text more os one is = absurd (cc)
 operand_begins s text more os one is = one_begins s text more os is
 
@@ -111,18 +128,44 @@ starts_closes (Takes s more) text os rest h (one, others, now, later, w, is, are
 starts_closes (Chooses s more others) text os rest h (inl (one, after, now, later, w, is, are, v)) ends =
     subst (λ us. Closes (us ++ rest)) (sym w) (subst Closes (sym (append_assoc one after rest)) (closes_more one (after ++ rest) (sign_closes s one now (and_parts (is_sign s) (starts others) h).0 is)))
 starts_closes (Chooses s more others) text os rest h (inr (front, are)) ends = starts_closes others text os rest (and_parts (is_sign s) (starts others) h).1 are ends
+starts_closes (Locates more) text os rest h are ends = absurd (cc)
 starts_closes (Lists s) text os rest h are ends = absurd (cc)
 starts_closes Anything text os rest h are ends = absurd (cc)
+
+comma_is : (s : Slot) (text : List Token) (os : List Operand) (more : List Token) → IsOperand (A_comma s) text os → Parted (text ++ more)
+comma_is s text os more (t, w, is) = (t, more, ap (λ us. us ++ more) w, comma_some t.kind os is, comma_shut t.kind os is)
+  where
+    comma_shut : (k : Kind) (os : List Operand) → cond {A = Option (List Operand)} (is_comma k) (Some []) None ≡ Some os → is_opening k ≡ false
+    comma_shut (Punctuation Comma) os h = refl
+    comma_shut (Punctuation _) os h = absurd (cc)
+    comma_shut _ os h = absurd (cc)
+
+end_parted : (rest : List Token) → EndsHere rest → Parted rest
+end_parted rest (t, us, e, is) = (t, us, e, end_closes t.kind is, end_shut t.kind is)
+  where
+    end_shut : (k : Kind) → is_end k ≡ true → is_opening k ≡ false
+    end_shut (Punctuation Open) h = absurd (cc)
+    end_shut (Punctuation _) h = refl
+    end_shut _ h = refl
+
+parts_parted : (ss : Slots) (text : List Token) (os : List Operand) (rest : List Token) → parts ss ≡ true → AreOperands ss text os → EndsHere rest → Parted (text ++ rest)
+parts_parted (Stops behind) text os rest h (none, nil) ends = subst (λ us. Parted (us ++ rest)) (sym none) (end_parted rest ends)
+parts_parted (Takes (A_comma s) more) text os rest h (one, others, now, later, w, is, are, v) ends =
+    subst (λ us. Parted (us ++ rest)) (sym w) (subst Parted (sym (append_assoc one others rest)) (comma_is s one now (others ++ rest) is))
+parts_parted (Takes _ more) text os rest h are ends = absurd (cc)
+parts_parted _ text os rest h are ends = absurd (cc)
 
 -- what stands behind a place that needs it
 ready_for : (s : Slot) (rest : List Token) → needs s ≡ false → Ready s rest
 ready_for (A_value role) rest h = absurd (cc)
 ready_for A_section rest h = absurd (cc)
+ready_for A_callee rest h = absurd (cc)
 ready_for _ rest h = tt
 
 ready_one : (s : Slot) (rest : List Token) → is_single s ≡ true → Ready s rest
 ready_one (A_value role) rest h = absurd (cc)
 ready_one A_section rest h = absurd (cc)
+ready_one A_callee rest h = absurd (cc)
 ready_one _ rest h = tt
 
 ready_behind : (s : Slot) (ss : Slots) (text : List Token) (os : List Operand) (rest : List Token) → (not (needs s) || starts ss) ≡ true → AreOperands ss text os → EndsHere rest → Ready s (text ++ rest)
@@ -147,6 +190,10 @@ operands_is (Chooses s more other) text os good (inr (front, are)) rest ends =
     let p = and_parts (is_single s) (sound more && sound other) good in
     let r = and_parts (sound more) (sound other) p.1 in
     rw (front_ended s text rest front ends) (operands_is other text os r.1 are rest ends)
+operands_is (Locates more) text os good (inl address) rest ends = address_there (λ us. operands_at more us) text os rest address ends
+operands_is (Locates more) text os good (inr (one, others, now, later, w, is, are, v)) rest ends =
+    let p = and_parts (parts more) (sound more) good in
+    rw (w, v) (target_there (λ us. operands_at more us) one others rest now later is (parts_parted more others later rest p.0 are ends) (operands_is more others later p.1 are rest ends))
 operands_is (Lists s) text os good (n, items) rest ends = items_is n s text os items rest ends
 operands_is Anything text os good any rest ends = any_is text os any rest ends
 
@@ -168,6 +215,8 @@ operands_found (Chooses s more others) ts os rest e =
     go false begins e ih other =
         let f = other e in
         (f.0, f.1, inr (front_of_part s f.0 rest (ap (front_begins s) (sym f.1) ∙ begins), f.2), f.3)
+operands_found (Locates more) ts os rest e =
+    located_found (λ us. operands_at more us) (λ us ps. AreOperands more us ps) ts os rest (λ us ps f. operands_found more us ps rest f) e
 operands_found (Lists s) ts os rest e = items_found s ts os rest e
 operands_found Anything ts os rest e = any_found ts os rest e
 
@@ -181,6 +230,7 @@ operands_go (Chooses s more others) =
     let o = operand_goes s in
     let m = operands_go more in
     (o.0 ++ m.0, o.1 ++ m.1, inl (o.0, m.0, o.1, m.1, refl, o.2, m.2, refl))
+operands_go (Locates more) = let a = address_live in (a.0 ∷ a.1, a.2, inl a.3)
 operands_go (Lists s) = let o = operand_goes s in (o.0, o.1, (1, o.2))
 operands_go Anything = ([], [], (refl, refl))
 
@@ -195,6 +245,7 @@ operands_live (Chooses s more others) =
     let o = operand_live s in
     let m = operands_go more in
     (o.0 ∷ (o.1 ++ m.0), o.2 ++ m.1, inl (o.0 ∷ o.1, m.0, o.2, m.1, refl, o.3, m.2, refl), o.4)
+operands_live (Locates more) = let a = address_live in (a.0 ∷ a.1, a.2, inl a.3, a.4)
 operands_live (Lists s) = let o = operand_live s in (o.0 ∷ o.1, o.2, (1, o.3), o.4)
 operands_live Anything = ([], [], (refl, refl), refl)
 
@@ -259,5 +310,7 @@ operands_wrong (Chooses s more others) ts w end e =
         chosen_wrong s more others ts w begins
         (taken_wrong s (λ us. operands_at more us) (λ us ps. AreOperands more us ps) ts w (operands_go more) end e (λ os rest h last f. ih rest last f))
     go false begins e ih other = other_wrong s more others ts w begins (other e)
+operands_wrong (Locates more) ts w end e =
+    located_wrong (λ us. operands_at more us) (λ us ps. AreOperands more us ps) ts w (operands_go more) end e (λ rest last f. operands_wrong more rest w last f)
 operands_wrong (Lists s) ts w end e = items_wrong s ts w end e
 operands_wrong Anything ts w end e = any_wrong ts w end e

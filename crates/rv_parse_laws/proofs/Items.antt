@@ -10,7 +10,7 @@ use Rattle.rv_text_laws.specs.SyntaxError.{SyntaxError, wrong, Read, nowhere, is
 use Rattle.rv_text_laws.specs.Joined.{joined_at}
 use Rattle.rv_text_laws.proofs.ExpressionWrong.{ended_more}
 use Rattle.rv_statement.specs.Statement.{Operand}
-use Rattle.rv_parse_laws.specs.Syntax.{is_comma, is_end, is_wrong, is_any, Slot, A_value, An_address, A_section, IsOperand, IsTaken, IsFurther, AreItems, EndsHere}
+use Rattle.rv_parse_laws.specs.Syntax.{is_comma, is_end, is_wrong, is_any, Slot, A_value, An_address, A_callee, A_section, IsOperand, IsTaken, IsFurther, AreItems, EndsHere}
 use Rattle.rv_parse_laws.specs.Faults.{wrong_after, wrong_any}
 use Rattle.rv_parse_laws.specs.Parsing.{◌>>=◌, seen_as, operand_at, end_at, ended_at, taking, further, items_in, items_at, any_at}
 use Rattle.rv_parse_laws.proofs.Steps.{bind_ok, tested_ok, pair_parts, bind_err, tested_err}
@@ -24,7 +24,7 @@ end_no_comma (Punctuation Comma) h = absurd (cc)
 end_no_comma (Punctuation _) h = refl
 end_no_comma _ h = refl
 
-end_closes : (k : Kind) → is_end k ≡ true → closes k ≡ true
+pub end_closes : (k : Kind) → is_end k ≡ true → closes k ≡ true
 end_closes Newline h = refl
 end_closes (Punctuation Semicolon) h = refl
 end_closes End h = refl
@@ -42,6 +42,7 @@ ended_closes rest (t, us, e, h) = (t, us, e, end_closes t.kind h)
 pub ready : (s : Slot) (rest : List Token) → Closes rest → Ready s rest
 ready (A_value role) rest h = h
 ready A_section rest h = h
+ready A_callee rest h = h
 ready _ rest h = tt
 
 -- the end
@@ -85,7 +86,8 @@ further_same s (t ∷ us) R Q h = ap (λ x. cond (is_comma t.kind) x (ended_at s
 operand_none : (s : Slot) → operand_at s [] ≡ Err nowhere
 unfolding joined_at
 operand_none (A_value role) = refl
-operand_none (An_address role) = refl
+operand_none An_address = refl
+operand_none A_callee = refl
 operand_none A_section = refl
 operand_none _ = refl
 
@@ -227,14 +229,14 @@ and_both : (a b : Bool) → a ≡ true → b ≡ true → (a && b) ≡ true
 and_both true b h i = i
 and_both false b h i = absurd (cc)
 
-any_no_end : (k : Kind) → is_any k ≡ true → is_end k ≡ false
+pub any_no_end : (k : Kind) → is_any k ≡ true → is_end k ≡ false
 any_no_end k h = go (is_end k) h
   where
     go : (b : Bool) → not (b || is_wrong k || is_long k) ≡ true → b ≡ false
     go true h = absurd (cc)
     go false h = refl
 
-any_no_last : (k : Kind) → is_any k ≡ true → is_last k ≡ false
+pub any_no_last : (k : Kind) → is_any k ≡ true → is_last k ≡ false
 any_no_last Bad_byte h = absurd (cc)
 any_no_last Bad_token h = absurd (cc)
 any_no_last End h = absurd (cc)

@@ -4,9 +4,11 @@ pub mod Singles
 pub mod Values
 pub mod Arguments
 pub mod Addresses
+pub mod Callees
 pub mod Sections
 pub mod Operands
 pub mod Items
+pub mod Located
 pub mod InPlaces
 pub mod Parts
 pub mod Registers
@@ -15,5 +17,10 @@ pub mod Whole
 pub mod Progress
 pub mod Cutting
 pub mod Places
+pub mod Wrongs
+pub mod Contents
+pub mod WrongSections
+pub mod WrongStatements
+pub mod WrongPlaces
 pub mod FirstFault
 pub mod Worked

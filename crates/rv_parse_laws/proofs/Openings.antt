@@ -14,7 +14,8 @@ use Rattle.rv_parse_laws.specs.Words.{beginning, mnemonic_named, directive_named
 use Rattle.rv_parse_laws.specs.Syntax.{begins, is_comma, is_at, is_end, is_section_name, A_section, Some_flags, At_sign, A_comma, single, places, directed, colon_next, AreOperands, Part, Says, IsPart}
 use Rattle.rv_parse_laws.specs.Opening.{flags_fault, type_fault, is_text, is_section, is_opened, IsNamed, WrongFlags, WrongType, IsWrongOpening}
 use Rattle.rv_parse_laws.specs.Parsing.{part_at, section_at, single_at, front_fault, behind_read, or_else, type_wrong, flags_wrong, named_wrong, opening_at, unless, checked_at}
-use Rattle.rv_parse_laws.specs.Reading.{AreParts, told, said, OpensWell, AllOpenWell, CanGoOn}
+use Rattle.rv_parse_laws.specs.Reading.{AreParts, told, said, OpensWell, AllOpenWell}
+use Rattle.rv_parse_laws.specs.Refusals.{CanGoOn}
 use Rattle.rv_parse_laws.proofs.Singles.{some_token, single_found}
 use Rattle.rv_parse_laws.proofs.Sections.{section_is, section_found}
 use Rattle.rv_parse_laws.specs.declared.beginning.Beginning.TheVariants as beginnings

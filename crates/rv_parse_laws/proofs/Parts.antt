@@ -14,7 +14,7 @@ use Rattle.rv_parse_laws.specs.Words.{names_of, register}
 use Rattle.rv_parse_laws.specs.Syntax.{is_symbol, label_of, begins, is_colon, is_end, Slots, slots, places, directed, AreOperands, colon_next, IsLabel, IsStatement, Part, Ends, Says, IsPart, EndsHere, StopsPart}
 use Rattle.rv_parse_laws.specs.Faults.{wrong_start, wrong_label}
 use Rattle.rv_parse_laws.specs.Parsing.{seen_as, taken, operands_at, begun_at, after_first, statement_at, part_at}
-use Rattle.rv_parse_laws.specs.Reading.{is_label, begins_label}
+use Rattle.rv_parse_laws.specs.Refusals.{is_label, begins_label}
 use Rattle.rv_parse_laws.proofs.Steps.{seen_ok, taken_ok, pair_parts, seen_err, taken_err}
 use Rattle.rv_parse_laws.proofs.Failing.{Failing, Shown, at_once, shown_behind, first_of, never, wrongs}
 use Rattle.rv_parse_laws.proofs.Singles.{some_token, a_symbol}
@@ -64,7 +64,7 @@ begins_no_end : (k : Kind) (b : Beginning) → begins k ≡ b → (b ≡ beginni
 begins_no_end (NameToken word) b h some = refl
 begins_no_end _ b h some = absurd (some (sym h))
 
-begins_no_last : (k : Kind) (b : Beginning) → begins k ≡ b → (b ≡ beginnings.Nothing → ⊥) → is_last k ≡ false
+pub begins_no_last : (k : Kind) (b : Beginning) → begins k ≡ b → (b ≡ beginnings.Nothing → ⊥) → is_last k ≡ false
 begins_no_last (NameToken word) b h some = refl
 begins_no_last _ b h some = absurd (some (sym h))
 

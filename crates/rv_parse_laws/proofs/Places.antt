@@ -21,10 +21,10 @@ use Rattle.rv_text_laws.specs.SyntaxError.{longest_name, is_long, offset_of}
 abbrev pub LineIs : List ℕ → Token → Type 0
 LineIs bytes t = (code : ℕ) → t.line ≡ 1 + newlines (take (offset_of t code) bytes)
 
--- from a place on, each token stands behind the one before it
+-- from a place on, each token stands behind the one before it, and behind all faults of that
 abbrev pub Standing : List ℕ → ℕ → List Token → Type 0
 Standing bytes low [] = Unit {0}
-Standing bytes low (t ∷ ts) = (low ≤ t.start) × LineIs bytes t × Standing bytes (suc t.start) ts
+Standing bytes low (t ∷ ts) = (low ≤ t.start) × LineIs bytes t × Standing bytes (suc (offset_of t limit)) ts
 
 pub lower : (bytes : List ℕ) (low high : ℕ) (ts : List Token) → low ≤ high → Standing bytes high ts → Standing bytes low ts
 lower bytes low high [] le h = tt
@@ -74,7 +74,7 @@ line_inside before text after n none le =
     ∙ omega (arith, newlines-append before (take n text), none n)
 
 -- what is long is a name
-long_name : (k : Kind) (text : List ℕ) → is_long k ≡ true → Spells k text → NoFeeds text × (longest_name ≤ length text)
+long_name : (k : Kind) (text : List ℕ) → is_long k ≡ true → Spells k text → NoFeeds text × (longest_name < length text)
 long_name (Name name) text long (is, (b, bs, w, letter, all)) =
     let fits : longest_name < length name = grind (arith, nat_tests) in
     (subst NoFeeds (sym w) (name_no_feeds b bs letter all), rw is (omega (arith, fits)))
@@ -86,7 +86,7 @@ line_of_piece bytes before after p whole spelled code = rw whole (go ((code == l
   where
     go : (t : Bool) → ((code == limit) && is_long p.kind) ≡ t
         → 1 + newlines before ≡ 1 + newlines (take (cond t (length before + longest_name) (length before)) (before ++ (p.text ++ after)))
-    go true long = let n = long_name p.kind p.text (and_parts (code == limit) (is_long p.kind) long).1 spelled in sym (line_inside before p.text after longest_name n.0 n.1)
+    go true long = let n = long_name p.kind p.text (and_parts (code == limit) (is_long p.kind) long).1 spelled in sym (line_inside before p.text after longest_name n.0 (omega (arith, n.1)))
     go false short = sym (line_before before p.text after)
 
 bad_short : (c : Class) → is_long (bad c) ≡ false
@@ -106,6 +106,15 @@ unfolding offset_of
 line_of_last bytes before rest whole code =
     rw (whole, and_false (code == limit) (is_long (last_kind rest)) (last_short rest)) (sym (line_before before [] rest))
 
+-- all faults of a lexeme's token stand in it
+placed_within : (before : List ℕ) (p : Piece Kind ℕ) → 0 < length p.text → Spells p.kind p.text → suc (offset_of (placed before p) limit) ≤ length (before ++ p.text)
+unfolding offset_of
+placed_within before p some spelled = go (is_long p.kind) refl
+  where
+    go : (t : Bool) → is_long p.kind ≡ t → suc (cond t (length before + longest_name) (length before)) ≤ length (before ++ p.text)
+    go true long = let n = long_name p.kind p.text long spelled in omega (arith, n.1, length-append before p.text)
+    go false short = omega (arith, some, length-append before p.text)
+
 standing_of : (bytes before : List ℕ) (ps : List (Piece Kind ℕ)) (rest : List ℕ) → bytes ≡ before ++ (texts ps ++ rest) → Each Spells Stops ps rest
     → Standing bytes (length before) (tokens_of before ps ++ last (before ++ texts ps) rest ∷ [])
 standing_of bytes before [] rest whole each = rw (append-nil before) (omega arith, line_of_last bytes before rest whole, tt)
@@ -114,32 +123,19 @@ standing_of bytes before (p ∷ ps) rest whole each =
     whole ∙ ap (λ xs. before ++ xs) (append_assoc p.text (texts ps) rest) ∙ sym (append_assoc before p.text (texts ps ++ rest)) in
     let more = standing_of bytes (before ++ p.text) ps rest behind each.2 in
     let some : 0 < length p.text = lexemes.some p.kind p.text each.0 in
-    let fits : suc (length before) ≤ length (before ++ p.text) = omega (arith, some, length-append before p.text) in
+    let fits : suc (offset_of (placed before p) limit) ≤ length (before ++ p.text) = placed_within before p some each.0 in
     go (is_gap p.kind) fits (line_of_piece bytes before (texts ps ++ rest) p (whole ∙ ap (λ xs. before ++ xs) (append_assoc p.text (texts ps) rest)) each.0)
     (subst (λ xs. Standing bytes (length (before ++ p.text)) (tokens_of (before ++ p.text) ps ++ last xs rest ∷ [])) (append_assoc before p.text (texts ps)) more)
   where
-    go : (t : Bool) → suc (length before) ≤ length (before ++ p.text) → LineIs bytes (placed before p)
+    go : (t : Bool) → suc (offset_of (placed before p) limit) ≤ length (before ++ p.text) → LineIs bytes (placed before p)
         → Standing bytes (length (before ++ p.text)) (tokens_of (before ++ p.text) ps ++ last (before ++ (p.text ++ texts ps)) rest ∷ [])
         → Standing bytes (length before) (cond t (tokens_of (before ++ p.text) ps) (placed before p ∷ tokens_of (before ++ p.text) ps) ++ last (before ++ (p.text ++ texts ps)) rest ∷ [])
-    go true fits line more = lower bytes (length before) (length (before ++ p.text)) _ (omega (arith, fits)) more
-    go false fits line more = (omega arith, line, lower bytes (suc (length before)) (length (before ++ p.text)) _ fits more)
+    go true fits line more = lower bytes (length before) (length (before ++ p.text)) _ (omega (arith, length-append before p.text)) more
+    go false fits line more = (omega arith, line, lower bytes (suc (offset_of (placed before p) limit)) (length (before ++ p.text)) _ fits more)
 
 -- the tokens of a source stand so
 pub stand : (bytes : List ℕ) (ts : List Token) → Lexes bytes ts → Standing bytes 0 ts
 stand bytes ts (ps, rest, (cut, nothing), is) = subst (Standing bytes 0) (sym is) (standing_of bytes [] ps rest cut.whole cut.each)
-
--- a token behind others
-pub standing_at : (bytes : List ℕ) (low : ℕ) (before : List Token) (t : Token) (more : List Token) → Standing bytes low (before ++ t ∷ more) → (low + length before ≤ t.start) × LineIs bytes t
-standing_at bytes low [] t more (above, line, others) = (omega (arith, above), line)
-standing_at bytes low (b ∷ before) t more (above, line, others) =
-    let h = standing_at bytes (suc b.start) before t more others in
-    (omega (arith, above, h.0), h.1)
-
--- the tokens behind others
-pub standing_behind : (bytes : List ℕ) (low : ℕ) (before ts : List Token) → Standing bytes low (before ++ ts) → Standing bytes low ts
-standing_behind bytes low [] ts h = h
-standing_behind bytes low (b ∷ before) ts (above, line, others) =
-    lower bytes low (suc b.start) ts (omega (arith, above)) (standing_behind bytes (suc b.start) before ts others)
 
 pub place_at_least : (t : Token) (code : ℕ) → t.start ≤ offset_of t code
 unfolding offset_of
@@ -149,10 +145,41 @@ place_at_least t code = go ((code == limit) && is_long t.kind)
     go true = omega arith
     go false = omega arith
 
+pub place_at_most : (t : Token) (code : ℕ) → offset_of t code ≤ offset_of t limit
+unfolding offset_of
+place_at_most t code = go (code == limit) (is_long t.kind)
+  where
+    go : (b c : Bool) → cond (b && c) (t.start + longest_name) t.start ≤ cond c (t.start + longest_name) t.start
+    go true true = omega arith
+    go true false = omega arith
+    go false true = omega arith
+    go false false = omega arith
+
+-- a token behind others
+pub standing_at : (bytes : List ℕ) (low : ℕ) (before : List Token) (t : Token) (more : List Token) → Standing bytes low (before ++ t ∷ more) → (low + length before ≤ t.start) × LineIs bytes t
+standing_at bytes low [] t more (above, line, others) = (omega (arith, above), line)
+standing_at bytes low (b ∷ before) t more (above, line, others) =
+    let h = standing_at bytes (suc (offset_of b limit)) before t more others in
+    (omega (arith, above, place_at_least b limit, h.0), h.1)
+
+-- the tokens behind others
+pub standing_behind : (bytes : List ℕ) (low : ℕ) (before ts : List Token) → Standing bytes low (before ++ ts) → Standing bytes low ts
+standing_behind bytes low [] ts h = h
+standing_behind bytes low (b ∷ before) ts (above, line, others) =
+    lower bytes low (suc (offset_of b limit)) ts (omega (arith, above, place_at_least b limit)) (standing_behind bytes (suc (offset_of b limit)) before ts others)
+
 -- no token's own place is that of a limit
 pub place_of_none : (t : Token) → offset_of t 0 ≡ t.start
 unfolding offset_of
 place_of_none t = refl
+
+-- a fault of one token stands before each of a later one
+pub faults_apart : (bytes : List ℕ) (low : ℕ) (front : List Token) (t : Token) (back : List Token) (u : Token) (more : List Token) (c d : ℕ) → Standing bytes low (front ++ t ∷ (back ++ u ∷ more))
+    → offset_of t c < offset_of u d
+faults_apart bytes low front t back u more c d h =
+    let s = standing_behind bytes low front (t ∷ (back ++ u ∷ more)) h in
+    let k = (standing_at bytes (suc (offset_of t limit)) back u more s.2).0 in
+    omega (arith, place_at_most t c, k, place_at_least u d)
 
 -- the last token of a source is a last one
 bad_is_last : (c : Class) → is_last (bad c) ≡ true

@@ -27,14 +27,14 @@ tested : (a b : Bool) (bytes : List ℕ) → cond (a) (Some bytes) None ≡ Some
 tested true b bytes h = refl
 tested false b bytes h = absurd (cc)
 
-joins_parts : (place : ℕ) (t : Token) (bytes : List ℕ) → joins place t ≡ Some bytes → (t.start ≡ place) × (bytes_of t.kind ≡ Some bytes)
+pub joins_parts : (place : ℕ) (t : Token) (bytes : List ℕ) → joins place t ≡ Some bytes → (t.start ≡ place) × (bytes_of t.kind ≡ Some bytes)
 joins_parts place t bytes h = go (t.start == place) refl h
   where
     go : (b : Bool) → (t.start == place) ≡ b → cond b (bytes_of t.kind) None ≡ Some bytes → (t.start ≡ place) × (bytes_of t.kind ≡ Some bytes)
     go true e h = (grind (arith, nat_tests), h)
     go false e h = absurd (cc)
 
-to_joins : (place : ℕ) (t : Token) (bytes : List ℕ) → t.start ≡ place → bytes_of t.kind ≡ Some bytes → joins place t ≡ Some bytes
+pub to_joins : (place : ℕ) (t : Token) (bytes : List ℕ) → t.start ≡ place → bytes_of t.kind ≡ Some bytes → joins place t ≡ Some bytes
 to_joins place t bytes here is = go (t.start == place) refl
   where
     go : (b : Bool) → (t.start == place) ≡ b → cond b (bytes_of t.kind) None ≡ Some bytes
@@ -154,15 +154,15 @@ section_goes t text first later is behind fits = go (allowed (first ++ later) fi
       ),
     )
 
-name_at : (t : Token) (ts : List Token) (first : List ℕ) → t.kind ≡ Name first → joined_at (t ∷ ts) ≡ Some (first ++ (joined_after t.stop ts).0, (joined_after t.stop ts).1)
+pub name_at : (t : Token) (ts : List Token) (first : List ℕ) → t.kind ≡ Name first → joined_at (t ∷ ts) ≡ Some (first ++ (joined_after t.stop ts).0, (joined_after t.stop ts).1)
 unfolding joined_at
 name_at t ts first is = rw is refl
 
-none_at : (t : Token) (ts : List Token) → first_name t.kind ≡ None → joined_at (t ∷ ts) ≡ None
+pub none_at : (t : Token) (ts : List Token) → first_name t.kind ≡ None → joined_at (t ∷ ts) ≡ None
 unfolding joined_at
 none_at t ts none = rw none refl
 
-first_name_is : (k : Kind) (first : List ℕ) → first_name k ≡ Some first → k ≡ Name first
+pub first_name_is : (k : Kind) (first : List ℕ) → first_name k ≡ Some first → k ≡ Name first
 first_name_is (Name name) first h = let same : name ≡ first = cc in ap (λ (x : List ℕ). Name x) same
 first_name_is _ first h = absurd (cc)
 
@@ -170,7 +170,7 @@ first_name_is _ first h = absurd (cc)
 abbrev outcome : Token → List Token → List ℕ → List Token → Read (List ℕ)
 outcome t ts name rest = cond (is_section_name name) (Ok (name, rest)) (cond (nat_lt longest_name (length name)) (Err (too_long 0 (t ∷ ts))) (Err (wrong t unsupported_here)))
 
-section_by : (t : Token) (ts : List Token) (first later : List ℕ) (rest : List Token) → t.kind ≡ Name first → joined_after t.stop ts ≡ (later, rest)
+pub section_by : (t : Token) (ts : List Token) (first later : List ℕ) (rest : List Token) → t.kind ≡ Name first → joined_after t.stop ts ≡ (later, rest)
     → section_at (t ∷ ts) ≡ outcome t ts (first ++ later) rest
 section_by t ts first later rest is behind =
     ap (named_or (t ∷ ts)) (name_at t ts first is) ∙ ap (λ (x : List ℕ × List Token). outcome t ts (first ++ x.0) x.1) behind
@@ -218,7 +218,7 @@ section_found (t ∷ ts) name rest e = go (first_name t.kind) refl
     go (Some first) is = named first (first_name_is t.kind first is) (is_section_name (first ++ (joined_after t.stop ts).0)) refl
 
 -- the first token with which a name is too long
-record LongAt (n place : ℕ) (ts : List Token) : Type 0 where
+pub record LongAt (n place : ℕ) (ts : List Token) : Type 0 where
   pub front : List Token
   pub at : Token
   pub more : List Token
@@ -226,22 +226,25 @@ record LongAt (n place : ℕ) (ts : List Token) : Type 0 where
   pub whole : ts ≡ front ++ at ∷ more
   pub is : AreAfter place front bytes
   pub fits : n + length bytes ≤ longest_name
+  pub longer : List ℕ
+  pub longer_is : AreAfter place (front ++ at ∷ []) longer
+  pub past : longest_name < n + length longer
   pub says : (text : List Token) → (too_long n (front ++ at ∷ text) ≡ wrong at limit) × (longest_name < n + length (joined_after place (front ++ at ∷ text)).0)
 
-too_long_step : (n : ℕ) (t : Token) (ts : List Token) (bytes : List ℕ) → bytes_of t.kind ≡ Some bytes
+pub too_long_step : (n : ℕ) (t : Token) (ts : List Token) (bytes : List ℕ) → bytes_of t.kind ≡ Some bytes
     → too_long n (t ∷ ts) ≡ cond (nat_lt longest_name (n + length bytes)) (wrong t limit) (too_long (n + length bytes) ts)
 too_long_step n t ts bytes is = rw is refl
 
-too_long_within : (n : ℕ) (t : Token) (ts : List Token) (bytes : List ℕ) (w : SyntaxError) → bytes_of t.kind ≡ Some bytes → nat_lt longest_name (n + length bytes) ≡ false
+pub too_long_within : (n : ℕ) (t : Token) (ts : List Token) (bytes : List ℕ) (w : SyntaxError) → bytes_of t.kind ≡ Some bytes → nat_lt longest_name (n + length bytes) ≡ false
     → too_long (n + length bytes) ts ≡ w → too_long n (t ∷ ts) ≡ w
 too_long_within n t ts bytes w is within h = too_long_step n t ts bytes is ∙ rw within h
 
-length_behind : (place : ℕ) (t : Token) (ts : List Token) (bytes : List ℕ) → joins place t ≡ Some bytes
+pub length_behind : (place : ℕ) (t : Token) (ts : List Token) (bytes : List ℕ) → joins place t ≡ Some bytes
     → length (joined_after place (t ∷ ts)).0 ≡ length bytes + length (joined_after t.stop ts).0
 length_behind place t ts bytes e =
     ap (λ (x : List ℕ × List Token). length x.0) (behind_some place t ts bytes e) ∙ length-append bytes (joined_after t.stop ts).0
 
-long_at : (n place : ℕ) (ts : List Token) → n ≤ longest_name → longest_name < n + length (joined_after place ts).0 → LongAt n place ts
+pub long_at : (n place : ℕ) (ts : List Token) → n ≤ longest_name → longest_name < n + length (joined_after place ts).0 → LongAt n place ts
 long_at n place [] fits long = absurd (omega (arith, fits, long))
 long_at n place (t ∷ ts) fits long = go (joins place t) refl (λ m. long_at m t.stop ts)
   where
@@ -256,6 +259,9 @@ long_at n place (t ∷ ts) fits long = go (joins place t) refl (λ m. long_at m 
           whole = refl;
           is = refl;
           fits = omega (arith, fits);
+          longer = bytes;
+          longer_is = ((joins_parts place t bytes e).0, bytes, [], (joins_parts place t bytes e).1, sym (append-nil bytes), refl);
+          past = lt;
           says = λ text. (too_long_step n t text bytes (joins_parts place t bytes e).1 ∙ rw over refl, omega (arith, lt, length_behind place t text bytes e));
         }
     some bytes e false within further =
@@ -269,6 +275,9 @@ long_at n place (t ∷ ts) fits long = go (joins place t) refl (λ m. long_at m 
           whole = ap (λ us. t ∷ us) f.whole;
           is = (parts.0, bytes, f.bytes, parts.1, refl, f.is);
           fits = omega (arith, f.fits, length-append bytes f.bytes);
+          longer = bytes ++ f.longer;
+          longer_is = (parts.0, bytes, f.longer, parts.1, refl, f.longer_is);
+          past = omega (arith, f.past, length-append bytes f.longer);
           says = λ text. (
             too_long_step n t (f.front ++ f.at ∷ text) bytes parts.1 ∙ rw within (f.says text).0,
             omega (arith, (f.says text).1, length_behind place t (f.front ++ f.at ∷ text) bytes e),
@@ -283,11 +292,11 @@ over_bad : (name : List ℕ) → longest_name < length name → is_section_name 
 unfolding is_section_name
 over_bad name over = let le : nat_le (length name) longest_name ≡ false = grind (arith, nat_tests, over) in rw le refl
 
-over_test : (n : ℕ) → longest_name < n → nat_lt longest_name n ≡ true
+pub over_test : (n : ℕ) → longest_name < n → nat_lt longest_name n ≡ true
 over_test n over = grind (arith, nat_tests, over)
 
 -- a name that is too long
-long_err : (t : Token) (ts : List Token) (first later : List ℕ) (rest : List Token) (w : SyntaxError) → t.kind ≡ Name first → joined_after t.stop ts ≡ (later, rest)
+pub long_err : (t : Token) (ts : List Token) (first later : List ℕ) (rest : List Token) (w : SyntaxError) → t.kind ≡ Name first → joined_after t.stop ts ≡ (later, rest)
     → longest_name < length (first ++ later) → too_long 0 (t ∷ ts) ≡ w → section_at (t ∷ ts) ≡ Err w
 long_err t ts first later rest w is behind over same =
     section_by t ts first later rest is behind ∙ rw (over_bad (first ++ later) over, over_test (length (first ++ later)) over) (ap (λ (x : SyntaxError). Err x) same)

@@ -10,7 +10,7 @@ use Rattle.rv_isa.specs.RegisterNames.{abi_names}
 use Rattle.rv_isa.specs.declared.operation.AccessSet.{AccessSet}
 use Rattle.rv_statement.specs.Statement.{Operand, Register, Accesses, Word, Quoted}
 use Rattle.rv_parse_laws.specs.Words.{names_of, register, choices}
-use Rattle.rv_parse_laws.specs.Syntax.{is_symbol, register_of, symbol_of, is_comma, is_colon, is_opening, is_closing, is_end, is_zero, is_at, accesses_of, access_sets, accesses, Slot, A_register, A_value, An_address, A_zero, Some_accesses, A_symbol, A_string, A_section, Some_flags, At_sign, A_type, An_option, A_comma, An_opening, A_closing, single}
+use Rattle.rv_parse_laws.specs.Syntax.{is_symbol, register_of, symbol_of, is_comma, is_colon, is_opening, is_closing, is_end, is_zero, is_at, accesses_of, access_sets, accesses, Slot, A_register, A_value, An_address, A_callee, A_zero, Some_accesses, A_symbol, A_string, A_section, Some_flags, At_sign, A_type, An_option, A_plt, A_comma, An_opening, A_closing, single}
 use Rattle.rv_parse_laws.specs.Faults.{wrong_first}
 use Rattle.rv_parse_laws.specs.Parsing.{single_at}
 use Rattle.rv_parse_laws.proofs.Steps.{taken_ok, taken_err}
@@ -132,14 +132,16 @@ option_goes = (some_token (NameToken (codes "rvc")), Word (codes "rvc") ∷ [], 
 -- a place that one token stands in
 abbrev pub is_single : Slot → Bool
 is_single (A_value role) = false
-is_single (An_address role) = false
+is_single An_address = false
+is_single A_callee = false
 is_single A_section = false
 is_single _ = true
 
 pub single_goes : (s : Slot) → is_single s ≡ true → Goes s
 single_goes A_register h = register_goes
 single_goes (A_value role) h = absurd (cc)
-single_goes (An_address role) h = absurd (cc)
+single_goes An_address h = absurd (cc)
+single_goes A_callee h = absurd (cc)
 single_goes A_zero h = (a_literal, [], refl)
 single_goes Some_accesses h = accesses_go
 single_goes A_symbol h = symbol_goes
@@ -149,6 +151,7 @@ single_goes Some_flags h = (some_token (Text []), Quoted [] ∷ [], refl)
 single_goes At_sign h = (some_token (Punctuation At), [], refl)
 single_goes A_type h = type_goes
 single_goes An_option h = option_goes
+single_goes A_plt h = (some_token (NameToken (codes "plt")), [], refl)
 single_goes (A_comma behind) h = (some_token (Punctuation Comma), [], refl)
 single_goes (An_opening behind) h = (some_token (Punctuation Open), [], refl)
 single_goes A_closing h = (some_token (Punctuation Close), [], refl)

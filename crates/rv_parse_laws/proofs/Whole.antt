@@ -9,7 +9,7 @@ use Rattle.rv_parse_laws.specs.Syntax.{Part, IsPart, StopsPart}
 use Rattle.rv_parse_laws.specs.Parsing.{part_at}
 use Rattle.rv_text_laws.specs.SyntaxError.{SyntaxError, Read}
 use Rattle.rv_text_laws.proofs.Tokens.{one_list, given}
-use Rattle.rv_parse_laws.specs.Reading.{AreParts, Reads, said, SaysUpTo, past_line, longest_source, most_statements}
+use Rattle.rv_parse_laws.specs.Reading.{AreParts, Reads, said, SaysUpTo, IsPastLine, longest_source, most_statements}
 use Rattle.rv_text_laws.specs.Front.{tokens_from}
 use Rattle.rv_parse_laws.proofs.Parts.{part_is, part_found, part_nonempty}
 
@@ -69,6 +69,6 @@ one_reading bytes ss others (a, b, c, ts, ps, lexes, cuts, opens, says) (d, e, f
     says ∙ ap said (one_cut us ps qs (subst (λ xs. AreParts xs ps []) same cuts) cuts') ∙ sym says'
 
 -- what the tokens of bytes say within the limits is their reading
-pub reads_as : (bytes : List ℕ) (ts : List Token) (ss : List Statement) → length bytes ≤ longest_source → past_line 0 0 bytes ≡ None → length ss ≤ most_statements
+pub reads_as : (bytes : List ℕ) (ts : List Token) (ss : List Statement) → length bytes ≤ longest_source → ((place : ℕ) → IsPastLine bytes place → ⊥) → length ss ≤ most_statements
     → ts ≡ tokens_from 0 1 bytes → SaysUpTo ts [] ss → Reads bytes ss
 reads_as bytes ts ss short lines few is (ps, cuts, opens, says) = (short, lines, few, ts, ps, subst (Lexes bytes) (sym is) (given bytes), cuts, opens, says)

@@ -13,7 +13,7 @@ use Rattle.rv_text_laws.specs.declared.operator.UnaryOperator.TheVariants.{Negat
 use Rattle.rv_text_laws.specs.declared.operator.BinaryOperator.TheVariants.{Add, Multiply}
 use Rattle.rv_statement.specs.declared.directive.Choice.TheVariants.{Norvc}
 use Rattle.rv_statement.specs.declared.directive.Standard.TheVariants.{Bss}
-use Rattle.rv_statement.specs.declared.mnemonic.Mnemonic.TheVariants.{Registers, Upper, Load, Branch, Jal, Jalr, LoadReserved, Nop, Unary, Compare, ZeroBranch, SwappedBranch, J, Jr, Ret, La, Call, Tail, Jump}
+use Rattle.rv_statement.specs.declared.mnemonic.Mnemonic.TheVariants.{Registers, Upper, Load, Store, Branch, Jal, Jalr, LoadReserved, Nop, Unary, Compare, ZeroBranch, SwappedBranch, J, Jr, Ret, La, Call, Tail, Jump}
 use Rattle.rv_isa.specs.declared.operation.RegisterOperation.TheVariants.{And}
 use Rattle.rv_isa.specs.declared.operation.BranchOperation.TheVariants.{Bgeu}
 use Rattle.rv_isa.specs.declared.operation.UpperOperation.TheVariants.{Lui, Auipc}
@@ -23,6 +23,7 @@ use Rattle.rv_statement.specs.declared.pseudo.CompareOperation.TheVariants.{Sgtu
 use Rattle.rv_statement.specs.declared.pseudo.ZeroBranchOperation.TheVariants.{Bgtz}
 use Rattle.rv_statement.specs.declared.pseudo.SwappedBranchOperation.TheVariants.{Ble}
 use Rattle.rv_isa.specs.declared.operation.LoadOperation.TheVariants.{Lw}
+use Rattle.rv_isa.specs.declared.operation.StoreOperation.TheVariants.{Sd}
 use Rattle.rv_statement.specs.Statement.{Register, Value, Applied, Target, Enters, Opens, Globl, Local, Sets, Aligns_to_power, Aligns_to_bytes, Values, Strings, Zeros, Chooses as Choosing, Ignored, StatementKind, Label, Numbered, Instruction, Directs, Statement}
 use Rattle.rv_parse_laws.specs.Words.{function_words, left_out_words, instruction_words, atomic_operations, atomic_forms, form_with, mnemonic_named, directive_words, directive_named, beginning, choices, left_out_options, section_types, names_of, register}
 use Rattle.rv_parse_laws.specs.Syntax.{is_symbol, access_sets, is_section_name, Part, Says}
@@ -43,6 +44,14 @@ good_lines =
     (codes "lw a0, (4)(sp)", Instruction (Load Lw) (Register 10 ∷ Value (Leaf (Literal 4)) ∷ Register 2 ∷ [])) ∷
     (codes "lw a0, (sp)", Instruction (Load Lw) (Register 10 ∷ Register 2 ∷ [])) ∷
     (codes "lw a0, (1+2)*3(sp)", Instruction (Load Lw) (Register 10 ∷ Value (Binary Multiply (Binary Add (Leaf (Literal 1)) (Leaf (Literal 2))) (Leaf (Literal 3))) ∷ Register 2 ∷ [])) ∷
+    (codes "lw a0, x+4", Instruction (Load Lw) (Register 10 ∷ Target (Binary Add (Leaf (Symbol (codes "x"))) (Leaf (Literal 4))) ∷ [])) ∷
+    (codes "lw a0, (x)", Instruction (Load Lw) (Register 10 ∷ Target (Leaf (Symbol (codes "x"))) ∷ [])) ∷
+    (codes "lw a0, 1f;", Instruction (Load Lw) (Register 10 ∷ Target (Leaf (Reference (codes "1") true)) ∷ [])) ∷
+    (codes "lw a0, x(sp)", Instruction (Load Lw) (Register 10 ∷ Value (Leaf (Symbol (codes "x"))) ∷ Register 2 ∷ [])) ∷
+    (codes "sd a0, x, t0", Instruction (Store Sd) (Register 10 ∷ Target (Leaf (Symbol (codes "x"))) ∷ Register 5 ∷ [])) ∷
+    (codes "sd a0, ., t0", Instruction (Store Sd) (Register 10 ∷ Target (Leaf Here) ∷ Register 5 ∷ [])) ∷
+    (codes "sd a0, 8(t0)", Instruction (Store Sd) (Register 10 ∷ Value (Leaf (Literal 8)) ∷ Register 5 ∷ [])) ∷
+    (codes "sd a0, (t0)", Instruction (Store Sd) (Register 10 ∷ Register 5 ∷ [])) ∷
     (codes "jalr x+4(a1)", Instruction Jalr (Value (Binary Add (Leaf (Symbol (codes "x"))) (Leaf (Literal 4))) ∷ Register 11 ∷ [])) ∷
     (codes "bgeu a0, a1, x+4", Instruction (Branch Bgeu) (Register 10 ∷ Register 11 ∷ Target (Binary Add (Leaf (Symbol (codes "x"))) (Leaf (Literal 4))) ∷ [])) ∷
     (codes "bgtz a0, 1b", Instruction (ZeroBranch Bgtz) (Register 10 ∷ Target (Leaf (Reference (codes "1") false)) ∷ [])) ∷
@@ -60,6 +69,8 @@ good_lines =
     (codes "lla a0, x", Instruction La (Register 10 ∷ Target (Leaf (Symbol (codes "x"))) ∷ [])) ∷
     (codes "call x", Instruction Call (Target (Leaf (Symbol (codes "x"))) ∷ [])) ∷
     (codes "call t0, x", Instruction Call (Register 5 ∷ Target (Leaf (Symbol (codes "x"))) ∷ [])) ∷
+    (codes "call x@plt", Instruction Call (Target (Leaf (Symbol (codes "x"))) ∷ [])) ∷
+    (codes "call t0, x @ plt", Instruction Call (Register 5 ∷ Target (Leaf (Symbol (codes "x"))) ∷ [])) ∷
     (codes "tail x", Instruction Tail (Target (Leaf (Symbol (codes "x"))) ∷ [])) ∷
     (codes "jump x, t0", Instruction Jump (Target (Leaf (Symbol (codes "x"))) ∷ Register 5 ∷ [])) ∷
     (codes "lui a0, %hi(x+4)", Instruction (Upper Lui) (Register 10 ∷ Applied Hi (Binary Add (Leaf (Symbol (codes "x"))) (Leaf (Literal 4))) ∷ [])) ∷
@@ -97,11 +108,23 @@ good_lines =
 
 abbrev bad_lines : List (List ℕ × ℕ × ℕ)
 bad_lines =
-    (codes "lw a0, 8", 9, 8) ∷
-    (codes "sw a0, 8, t0", 9, 8) ∷
-    (codes "lw a0, 8, t0", 7, 8) ∷
+    (codes "lw a0, 8", 9, 7) ∷
+    (codes "lw a0, -(8) foo", 9, 7) ∷
+    (codes "lw a0, 8, a1", 9, 7) ∷
+    (codes "lw a0, x, a1", 7, 8) ∷
+    (codes "lw a0, x)", 7, 8) ∷
+    (codes "lw a0, x@plt", 7, 8) ∷
+    (codes "lw a0, a1", 7, 7) ∷
+    (codes "lw a0, x(a1), a2", 7, 12) ∷
+    (codes "lw a0, %lo(x), t0", 7, 13) ∷
+    (codes "sd a0, 8", 9, 7) ∷
+    (codes "sw a0, 8, t0", 9, 7) ∷
+    (codes "sw a0, x", 7, 8) ∷
+    (codes "sw a0, x, 5", 7, 10) ∷
+    (codes "sw a0, x, t0, t1", 7, 12) ∷
+    (codes "sw a0, x(t0), t1", 7, 12) ∷
+    (codes "sw a0, %lo(x), t0", 7, 13) ∷
     (codes "lw a0, 8(foo)", 7, 9) ∷
-    (codes "lw a0, (foo)", 9, 12) ∷
     (codes "lw a0, (a0+1)", 7, 10) ∷
     (codes "lw a0, ((((1)", 7, 13) ∷
     (codes "jalr 8", 7, 6) ∷
@@ -122,7 +145,14 @@ bad_lines =
     (codes "jr a0, 8", 7, 5) ∷
     (codes "jr 8", 7, 4) ∷
     (codes "la x, a0", 7, 3) ∷
-    (codes "call x@plt", 9, 6) ∷
+    (codes "call x@got", 7, 7) ∷
+    (codes "call x@", 7, 7) ∷
+    (codes "call x@plt@", 7, 10) ∷
+    (codes "call x+4@plt", 7, 8) ∷
+    (codes "call 1f@plt", 7, 7) ∷
+    (codes "call (x)@plt", 7, 8) ∷
+    (codes "call a0@plt", 7, 7) ∷
+    (codes "call t0, x@got", 7, 11) ∷
     (codes "call x, t0", 7, 6) ∷
     (codes "tail x@plt", 7, 6) ∷
     (codes "jump x", 7, 6) ∷
@@ -178,7 +208,9 @@ bad_functions =
     (codes "lui a0, %foo(x)", 7, 8) ∷
     (codes "add a0, a1, %pcrel_lo(x)", 7, 12) ∷
     (codes "auipc a0, %pcrel_hi(8)", 9, 10) ∷
-    (codes "auipc a0, %pcrel_hi(8", 9, 10) ∷
+    (codes "auipc a0, %pcrel_hi(8) foo", 9, 10) ∷
+    (codes "auipc a0, %pcrel_hi(8", 7, 21) ∷
+    (codes "auipc a0, %pcrel_hi(8(", 7, 21) ∷
     (codes "addi a0, a0, %pcrel_lo(a+1)", 7, 24) ∷
     (codes "addi a0, a0, %pcrel_lo(5)", 7, 23) ∷
     (codes "addi a0, a0, % 5", 7, 15) ∷

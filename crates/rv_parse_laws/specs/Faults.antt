@@ -9,8 +9,8 @@ use Rattle.rv_text_laws.specs.Grammar.{Kind, Punctuation, Name as NameToken, Bad
 use Rattle.rv_text_laws.specs.Codes.{bad_byte, bad_token, unknown_mnemonic, bad_operands, unknown_directive, unsupported_here, limit}
 use Rattle.rv_text_laws.specs.SyntaxError.{SyntaxError, wrong, longest_name, is_long}
 use Rattle.rv_text_laws.specs.Lexing.{Token}
-use Rattle.rv_parse_laws.specs.Words.{is_among, left_out_words, left_out_options}
-use Rattle.rv_parse_laws.specs.Syntax.{Slot, A_value, A_symbol, A_section, An_option, A_comma, An_opening, is_comma, is_at, is_end, is_flag}
+use Rattle.rv_parse_laws.specs.Words.{is_among, left_out_words, left_out_options, is_frame}
+use Rattle.rv_parse_laws.specs.Syntax.{Slot, A_value, A_symbol, A_section, An_option, A_comma, An_opening, is_comma, is_flag}
 use Rattle.rv_parse_laws.specs.declared.role.Role.{Role}
 use Rattle.rv_parse_laws.specs.declared.role.Role.TheVariants as roles
 
@@ -37,17 +37,11 @@ may_call roles.Operand = true
 may_call roles.Source = true
 may_call roles.Upper = true
 may_call roles.PcrelUpper = true
-may_call roles.Load = true
-may_call roles.Store = true
 may_call _ = false
 
--- after a whole expression: a symbol load or store and `@plt` are not built yet; a fill or a limit of an alignment is
--- left out
+-- after a whole expression: a fill or a limit of an alignment is left out
 abbrev pub wrong_after_value : Role → Kind → ℕ
-wrong_after_value roles.Load k = if is_end k then unsupported_here else wrong_or k bad_operands
-wrong_after_value roles.Store k = if is_end k || is_comma k then unsupported_here else wrong_or k bad_operands
 wrong_after_value roles.Alignment k = if is_comma k then unsupported_here else wrong_or k bad_operands
-wrong_after_value roles.Call k = if is_at k then unsupported_here else wrong_or k bad_operands
 wrong_after_value _ k = wrong_or k bad_operands
 
 -- behind what stands in a place
@@ -96,10 +90,12 @@ wrong_first _ k = wrong_or k bad_operands
 abbrev pub wrong_any : Kind → ℕ
 wrong_any k = if is_long k then limit else wrong_or k bad_operands
 
--- a word that begins a statement, and is neither a mnemonic nor a directive
+-- a word that begins a statement, and is neither a mnemonic nor a directive; call frame information is none where its
+-- word is too long
 abbrev pub wrong_word : List ℕ → ℕ
 wrong_word word =
     if is_among left_out_words word then unsupported_here
+    else if is_frame word then limit
     else (if bytes_eq (take 1 word) (codes ".") then unknown_directive else unknown_mnemonic)
 
 -- a token that begins a statement, and no label

@@ -6,14 +6,11 @@ use Rattle.std.specs.List.{list_all, list_any}
 use Rattle.std.specs.Str.{bytes_eq}
 use Rattle.rv_text_laws.specs.Grammar.{Kind, Name as NameToken, Text}
 use Rattle.rv_text_laws.specs.Lexing.{Token}
-use Rattle.rv_text_laws.specs.Codes.{unsupported_here, limit}
-use Rattle.rv_text_laws.specs.SyntaxError.{longest_name}
 use Rattle.rv_text_laws.specs.Joined.{IsJoined}
 use Rattle.rv_statement.specs.Sections.{standard_name}
-use Rattle.rv_statement.specs.Statement.{Enters, Opens, StatementKind, Directs, Statement}
-use Rattle.rv_parse_laws.specs.Words.{is_among, section_types}
-use Rattle.rv_parse_laws.specs.Syntax.{is_comma, is_at, is_flag, is_section_name}
-use Rattle.rv_parse_laws.specs.Faults.{wrong_letters}
+use Rattle.rv_statement.specs.Statement.{Word, Quoted, Enters, Opens, StatementKind, Directs, Statement}
+use Rattle.rv_parse_laws.specs.Syntax.{is_comma, is_at, is_section_name, Some_flags, A_type}
+use Rattle.rv_parse_laws.specs.Content.{content_fault}
 
 -- a statement opens, or enters, the section of this name
 abbrev pub opens : List ℕ → StatementKind → Bool
@@ -27,13 +24,13 @@ is_opened ss name = bytes_eq name (codes ".text") || list_any (λ (s : Statement
 
 -- the code of a string as the flags of a name that is known, or new
 abbrev pub flags_fault : Bool → Kind → Option ℕ
-flags_fault false (Text letters) = if list_all is_flag letters then None else Some (wrong_letters letters)
+flags_fault false (Text letters) = content_fault false Some_flags (Quoted letters)
 flags_fault _ k = None
 
 -- the code of a word as the type of a name that is known, or new
 abbrev pub type_fault : Bool → Kind → Option ℕ
-type_fault true (NameToken word) = if nat_lt longest_name (length word) then Some limit else None
-type_fault false (NameToken word) = if is_among section_types word then None else Some unsupported_here
+type_fault true (NameToken word) = content_fault true A_type (Word word)
+type_fault false (NameToken word) = content_fault false A_type (Word word)
 type_fault _ k = None
 
 abbrev pub is_text : Kind → Bool

@@ -1,7 +1,7 @@
 -- Parts of statements at the front of a list of tokens, as functions: what stands there and the tokens after it, or the
 -- first token that is wrong there, with its code.
 
-use Rattle.std.specs.Prelude.{ℕ, zero, suc, ◌+◌, Bool, false, ◌&&◌, nat_lt, List, [], ◌∷◌, ◌++◌, length, Option, Some, None, option_map, unwrap_or, Result, Ok, Err, if◌then◌else◌}
+use Rattle.std.specs.Prelude.{ℕ, zero, suc, ◌+◌, Bool, false, ◌&&◌, not, nat_lt, List, [], ◌∷◌, ◌++◌, length, Option, Some, None, is_some, option_map, unwrap_or, Result, Ok, Err, if◌then◌else◌}
 use Rattle.rv_text_laws.specs.Grammar.{Kind}
 use Rattle.rv_text_laws.specs.Lexing.{Token}
 use Rattle.rv_text_laws.specs.Codes.{unsupported_here, limit}
@@ -9,13 +9,15 @@ use Rattle.rv_text_laws.specs.SyntaxError.{SyntaxError, wrong, Read, nowhere, lo
 use Rattle.rv_text_laws.specs.Joined.{bytes_of, joined_at}
 use Rattle.rv_text_laws.specs.Expression.{tree_of}
 use Rattle.rv_text_laws.specs.ExpressionAt.{expression_at}
-use Rattle.rv_statement.specs.Statement.{Expression, Operand, Applied, Word, StatementKind, Instruction, Directs}
-use Rattle.rv_parse_laws.specs.Syntax.{is_register, label_of, begins, is_comma, is_percent, is_end, is_opening, is_any, is_section_name, valued, is_refused, function_in, label_named, is_refused_by, Slot, A_register, A_value, An_address, A_section, Some_flags, At_sign, A_comma, A_closing, An_opening, single, front_begins, Slots, Stops, Takes, Chooses, Lists, Anything, slots, places, directed, colon_next, Part, Ends, Says}
+use Rattle.rv_statement.specs.Statement.{Expression, Operand, Value, Applied, Target, Word, StatementKind, Instruction, Directs}
+use Rattle.rv_parse_laws.specs.Syntax.{is_register, symbol_of, label_of, begins, is_comma, is_percent, is_end, is_opening, is_any, is_section_name, valued, is_refused, function_in, label_named, is_refused_by, Slot, A_register, A_value, A_target, An_address, A_callee, A_section, Some_flags, At_sign, A_plt, A_comma, A_closing, An_opening, single, front_begins, Slots, Stops, Takes, Chooses, Locates, Lists, Anything, slots, places, directed, colon_next, Part, Ends, Says}
+pub use Rattle.rv_parse_laws.specs.Syntax.{base_next, plt_next}
 use Rattle.rv_parse_laws.specs.Faults.{may_call, wrong_function, wrong_symbol, wrong_first, wrong_after, wrong_any, wrong_start, wrong_label}
 use Rattle.rv_parse_laws.specs.Opening.{flags_fault, type_fault, is_section}
 use Rattle.rv_statement.specs.declared.pseudo.Function.{Function}
 use Rattle.rv_statement.specs.declared.pseudo.Function.TheVariants.{PcrelLo, Hi}
 use Rattle.rv_parse_laws.specs.declared.role.Role.{Role}
+use Rattle.rv_parse_laws.specs.declared.role.Role.TheVariants as roles
 use Rattle.rv_parse_laws.specs.declared.beginning.Beginning.{Beginning}
 use Rattle.rv_parse_laws.specs.declared.beginning.Beginning.TheVariants as beginnings
 
@@ -52,15 +54,19 @@ abbrev pub label_at : List Token → Read Expression
 label_at [] = Err nowhere
 label_at (t ∷ ts) = taken t ts (label_named t.kind) (wrong_symbol t.kind)
 
--- the argument of a function whose `%` is the token p
-abbrev pub argument_at : Function → Token → List Token → Read Expression
-argument_at PcrelLo p ts = label_at ts
-argument_at f p ts = allowed (λ e. is_refused_by f e) p (value_at ts)
+-- the argument of a function
+abbrev pub argument_at : Function → List Token → Read Expression
+argument_at PcrelLo ts = label_at ts
+argument_at f ts = value_at ts
 
--- what is after the word of a function
+-- an argument in parentheses
+abbrev pub enclosed_at : Function → List Token → Read Expression
+enclosed_at f ts =
+    single_at (An_opening A_register) ts >>= λ q. argument_at f q.1 >>= λ a. seen_as (λ none. a.0) (single_at A_closing a.1)
+
+-- what is after the word of a function whose `%` is the token p
 abbrev pub called_at : Function → Token → List Token → Read Operand
-called_at f p ts =
-    single_at (An_opening A_register) ts >>= λ q. argument_at f p q.1 >>= λ a. seen_as (λ none. Applied f a.0) (single_at A_closing a.1)
+called_at f p ts = seen_as (Applied f) (allowed (λ e. is_refused_by f e) p (enclosed_at f ts))
 
 abbrev pub named_at : Token → Token → List Token → Option Function → Read Operand
 named_at p n ts (Some f) = called_at f p ts
@@ -78,24 +84,31 @@ value_in role (t ∷ ts) =
     if may_call role && is_percent t.kind then applied_at role t ts
     else seen_as (valued role) (allowed (λ e. is_refused role e) t (value_at (t ∷ ts)))
 
--- a register in parentheses, behind what stands in a place
-abbrev pub base_at : Slot → List Token → Read (List Operand)
-base_at behind ts =
-    single_at (An_opening behind) ts >>= λ o. single_at A_register o.1 >>= λ r. seen_as (λ none. r.0) (single_at A_closing r.1)
-
--- a register in parentheses comes next: a register's name stands behind the first
-abbrev pub base_next : List Token → Bool
-base_next [] = false
-base_next (t ∷ ts) = is_opening t.kind && front_begins A_register ts
-
--- what a register in parentheses stands behind: a function of a value has no form without it
-abbrev pub behind_value : Role → Operand → Slot
-behind_value role (Applied f e) = A_register
-behind_value role _ = A_value role
+-- a register in parentheses
+abbrev pub base_at : List Token → Read (List Operand)
+base_at ts =
+    single_at (An_opening A_register) ts >>= λ o. single_at A_register o.1 >>= λ r. seen_as (λ none. r.0) (single_at A_closing r.1)
 
 -- an expression, and then a register in parentheses
-abbrev pub offset_at : Role → List Token → Read (List Operand)
-offset_at role ts = value_in role ts >>= λ v. seen_as (λ os. v.0 ∷ os) (base_at (behind_value role v.0) v.1)
+abbrev pub offset_at : List Token → Read (List Operand)
+offset_at ts = value_in roles.Operand ts >>= λ v. seen_as (λ os. v.0 ∷ os) (base_at v.1)
+
+-- a target comes next: an expression that no `(` stands behind
+abbrev pub is_target : Read Expression → Bool
+is_target (Ok read) = not (front_begins (An_opening A_register) read.1)
+is_target (Err w) = false
+
+-- what is read as a value is a target where it is no function and has no `(` behind it
+abbrev pub target_behind : Operand → List Token → Bool
+target_behind (Value e) rest = not (front_begins (An_opening A_register) rest)
+target_behind _ rest = false
+
+abbrev pub target_next : List Token → Bool
+target_next ts = is_target (value_at ts)
+
+-- a symbol, `@` and `plt`
+abbrev pub plt_at : List Token → Read (List Operand)
+plt_at ts = label_at ts >>= λ f. single_at At_sign f.1 >>= λ a. seen_as (λ none. Target f.0 ∷ []) (single_at A_plt a.1)
 
 -- how many bytes a token gives to a section's name
 abbrev pub width : Kind → ℕ
@@ -126,7 +139,8 @@ section_at ts = named_or ts (joined_at ts)
 -- what stands in a place
 abbrev pub operand_at : Slot → List Token → Read (List Operand)
 operand_at (A_value role) ts = seen_as (λ o. o ∷ []) (value_in role ts)
-operand_at (An_address role) ts = if base_next ts then base_at A_register ts else offset_at role ts
+operand_at An_address ts = if base_next ts then base_at ts else offset_at ts
+operand_at A_callee ts = if plt_next ts then plt_at ts else seen_as (λ o. o ∷ []) (value_in roles.Target ts)
 operand_at A_section ts = seen_as (λ name. Word name ∷ []) (section_at ts)
 operand_at s ts = single_at s ts
 
@@ -167,6 +181,8 @@ operands_at (Stops s) ts = ended_at s ts
 operands_at (Takes s rest) ts = taking s (λ us. operands_at rest us) ts
 operands_at (Chooses s rest others) ts =
     if front_begins s ts then taking s (λ us. operands_at rest us) ts else operands_at others ts
+operands_at (Locates rest) ts =
+    if target_next ts then taking A_target (λ us. operands_at rest us) ts else taking An_address (ended_at An_address) ts
 operands_at (Lists s) ts = items_at s ts
 operands_at Anything ts = any_at ts
 

@@ -83,6 +83,10 @@ abbrev pub is_at : Kind → Bool
 is_at (Punctuation At) = true
 is_at _ = false
 
+abbrev pub is_plt : Kind → Bool
+is_plt (NameToken name) = bytes_eq name (codes "plt")
+is_plt _ = false
+
 -- a statement ends at its line's end, at `;` and at the source's end
 abbrev pub is_end : Kind → Bool
 is_end Newline = true
@@ -160,7 +164,9 @@ pub data Slot : Type 0 where
   -- an expression; by its role it is a value or a target
   A_value : (role : Role) → Slot
   -- `(rs)`, or an expression and then `(rs)`
-  An_address : (role : Role) → Slot
+  An_address : Slot
+  -- what `call` calls: a target, or a symbol and then `@plt`
+  A_callee : Slot
   -- the 0 before an atomic's address
   A_zero : Slot
   -- the accesses that a fence orders
@@ -175,6 +181,8 @@ pub data Slot : Type 0 where
   A_type : Slot
   -- what `.option` takes
   An_option : Slot
+  -- the word behind `@` in a call
+  A_plt : Slot
   -- signs, behind what stands in another place
   A_comma : (behind : Slot) → Slot
   An_opening : (behind : Slot) → Slot
@@ -188,6 +196,8 @@ pub data Slots : Type 0 where
   Takes : (slot : Slot) (rest : Slots) → Slots
   -- where what stands in a place can begin, that and then the rest; else the others
   Chooses : (slot : Slot) (rest others : Slots) → Slots
+  -- an address and then the statement's end; or a target, and then the rest
+  Locates : (rest : Slots) → Slots
   -- one or more of a kind, with commas between, and then the statement's end
   Lists : (item : Slot) → Slots
   -- any tokens, up to the statement's end
@@ -234,7 +244,7 @@ source false = last A_register
 
 -- the target of `jalr` behind its link register: `rs`, `rs, k`, `k(rs)`, `(rs)`
 abbrev pub jump_target : Slots
-jump_target = Chooses A_register (Chooses (A_comma A_register) (last (A_value roles.Operand)) (Stops A_register)) (last (An_address roles.Operand))
+jump_target = Chooses A_register (Chooses (A_comma A_register) (last (A_value roles.Operand)) (Stops A_register)) (last An_address)
 
 -- the operand of `lui` and of `auipc`
 abbrev pub upper_role : UpperOperation → Role
@@ -254,11 +264,11 @@ slots (Registers operation) = and_then A_register (and_then A_register (source (
 slots (Immediate operation) = and_then A_register (and_then A_register (last (A_value roles.Operand)))
 slots (Shift operation) = and_then A_register (and_then A_register (last (A_value roles.Operand)))
 slots (Upper operation) = and_then A_register (last (A_value (upper_role operation)))
-slots (Load operation) = and_then A_register (last (An_address roles.Load))
-slots (Store operation) = and_then A_register (last (An_address roles.Store))
+slots (Load operation) = and_then A_register (Locates (Stops A_target))
+slots (Store operation) = and_then A_register (Locates (Takes (A_comma A_target) (last A_register)))
 slots (Branch operation) = and_then A_register (and_then A_register (last A_target))
 slots Jal = linked A_target
-slots Jalr = Chooses A_register (Chooses (A_comma A_register) jump_target (Stops A_register)) (last (An_address roles.Operand))
+slots Jalr = Chooses A_register (Chooses (A_comma A_register) jump_target (Stops A_register)) (last An_address)
 slots (LoadReserved form) = and_then A_register atomic_address
 slots (Atomic operation form) = and_then A_register (and_then A_register atomic_address)
 slots Fence = Chooses Some_accesses (Takes (A_comma Some_accesses) (last Some_accesses)) (Stops A_register)
@@ -271,11 +281,11 @@ slots (Compare operation) = and_then A_register (and_then A_register (last A_reg
 slots (ZeroBranch operation) = and_then A_register (last A_target)
 slots (SwappedBranch operation) = and_then A_register (and_then A_register (last A_target))
 slots J = last A_target
-slots Jr = Chooses A_register (Stops A_register) (last (An_address roles.Operand))
+slots Jr = Chooses A_register (Stops A_register) (last An_address)
 slots Ret = Stops A_register
 slots La = and_then A_register (last A_target)
 slots Li = and_then A_register (last (A_value roles.Operand))
-slots Call = linked (A_value roles.Call)
+slots Call = linked A_callee
 slots Tail = last A_target
 slots Jump = and_then A_target (last A_register)
 
@@ -310,6 +320,7 @@ single Some_flags (Text letters) = Some (Quoted letters ∷ [])
 single At_sign k = if is_at k then Some [] else None
 single A_type (NameToken name) = Some (Word name ∷ [])
 single An_option (NameToken name) = if is_some (named_in choices name) then Some (Word name ∷ []) else None
+single A_plt k = if is_plt k then Some [] else None
 single (A_comma behind) k = if is_comma k then Some [] else None
 single (An_opening behind) k = if is_opening k then Some [] else None
 single A_closing k = if is_closing k then Some [] else None
@@ -322,7 +333,6 @@ is_section_name name = nat_le (length name) longest_name && not (bytes_eq name (
 -- where an expression says where something goes
 abbrev pub targets : Role → Bool
 targets roles.Target = true
-targets roles.Call = true
 targets _ = false
 
 -- an expression as an operand: a target, or a value
@@ -352,10 +362,6 @@ may_stand roles.PcrelUpper PcrelHi = true
 may_stand roles.Source Lo = true
 may_stand roles.Operand Lo = true
 may_stand roles.Operand PcrelLo = true
-may_stand roles.Load Lo = true
-may_stand roles.Load PcrelLo = true
-may_stand roles.Store Lo = true
-may_stand roles.Store PcrelLo = true
 may_stand _ _ = false
 
 abbrev pub standing : Role → Option Function → Option Function
@@ -373,21 +379,21 @@ label_named (NameToken name) = if is_symbol name then Some (Leaf (Symbol name)) 
 label_named (ReferenceToken digits forward) = Some (Leaf (Reference digits forward))
 label_named _ = None
 
--- an argument that is spelled right, and is refused: a number as the target of `%pcrel_hi`
-abbrev pub is_refused_by : Function → Expression → Bool
-is_refused_by PcrelHi e = is_number e
-is_refused_by _ e = false
-
 -- the tokens are the argument of a function: a label, or an expression
 abbrev pub IsArgument : Function → List Token → Expression → Type 0
 IsArgument PcrelLo ts e = (t : Token) × (ts ≡ t ∷ []) × (label_named t.kind ≡ Some e)
-IsArgument f ts e = IsValue ts e × (is_refused_by f e ≡ false)
+IsArgument f ts e = IsValue ts e
+
+-- a function of a value that is spelled right, and is refused: `%pcrel_hi` of a number
+abbrev pub is_refused_by : Function → Expression → Bool
+is_refused_by PcrelHi e = is_number e
+is_refused_by _ e = false
 
 -- the tokens are a function of a value that may stand so
 abbrev pub IsApplied : Role → List Token → Operand → Type 0
 IsApplied role ts o =
     (p n q : Token) × (argument : List Token) × (c : Token) × (f : Function) × (e : Expression) × (ts ≡ p ∷ n ∷ q ∷ (argument ++ c ∷ [])) × (is_percent p.kind ≡ true)
-    × (function_in role n.kind ≡ Some f) × (is_opening q.kind ≡ true) × IsArgument f argument e × (is_closing c.kind ≡ true) × (o ≡ Applied f e)
+    × (function_in role n.kind ≡ Some f) × (is_opening q.kind ≡ true) × IsArgument f argument e × (is_closing c.kind ≡ true) × (is_refused_by f e ≡ false) × (o ≡ Applied f e)
 
 -- the tokens are an expression that may stand so, or a function of one
 abbrev pub IsValueIn : Role → List Token → Operand → Type 0
@@ -400,13 +406,26 @@ IsBase ts os =
     × (os ≡ Register number ∷ [])
 
 -- the tokens are an expression and then a register in parentheses
-abbrev pub IsOffset : Role → List Token → List Operand → Type 0
-IsOffset role ts os = (one rest : List Token) × (o : Operand) × (base : List Operand) × (ts ≡ one ++ rest) × IsValueIn role one o × IsBase rest base × (os ≡ o ∷ base)
+abbrev pub IsOffset : List Token → List Operand → Type 0
+IsOffset ts os =
+    (one rest : List Token) × (o : Operand) × (base : List Operand) × (ts ≡ one ++ rest)
+    × IsValueIn roles.Operand one o × IsBase rest base × (os ≡ o ∷ base)
+
+-- the tokens are a symbol and `@plt`
+abbrev pub IsLinked : List Token → List Operand → Type 0
+IsLinked ts os =
+    (f a p : Token) × (name : List ℕ) × (ts ≡ f ∷ a ∷ p ∷ []) × (symbol_of f.kind ≡ Some name) × (is_at a.kind ≡ true)
+    × (is_plt p.kind ≡ true) × (os ≡ Target (Leaf (Symbol name)) ∷ [])
+
+-- the tokens are an expression that may stand so, or a function of one, as an operand
+abbrev pub IsOneIn : Role → List Token → List Operand → Type 0
+IsOneIn role ts os = (o : Operand) × IsValueIn role ts o × (os ≡ o ∷ [])
 
 -- the tokens stand in this place, with these operands
 abbrev pub IsOperand : Slot → List Token → List Operand → Type 0
-IsOperand (A_value role) ts os = (o : Operand) × IsValueIn role ts o × (os ≡ o ∷ [])
-IsOperand (An_address role) ts os = IsBase ts os ⊎ IsOffset role ts os
+IsOperand (A_value role) ts os = IsOneIn role ts os
+IsOperand An_address ts os = IsBase ts os ⊎ IsOffset ts os
+IsOperand A_callee ts os = IsOneIn roles.Target ts os ⊎ IsLinked ts os
 IsOperand A_section ts os = (name : List ℕ) × IsJoined ts name × (is_section_name name ≡ true) × (os ≡ Word name ∷ [])
 IsOperand s ts os = (t : Token) × (ts ≡ t ∷ []) × (single s t.kind ≡ Some os)
 
@@ -414,6 +433,16 @@ IsOperand s ts os = (t : Token) × (ts ≡ t ∷ []) × (single s t.kind ≡ Som
 abbrev pub front_begins : Slot → List Token → Bool
 front_begins s [] = false
 front_begins s (t ∷ ts) = is_some (single s t.kind)
+
+-- a register in parentheses comes next: a register's name stands behind the first
+abbrev pub base_next : List Token → Bool
+base_next [] = false
+base_next (t ∷ ts) = is_opening t.kind && front_begins A_register ts
+
+-- a symbol and `@` come next
+abbrev pub plt_next : List Token → Bool
+plt_next [] = false
+plt_next (t ∷ ts) = is_some (symbol_of t.kind) && front_begins At_sign ts
 
 -- what stands in a place, and then what N says
 abbrev pub IsTaken : Slot → (List Token → List Operand → Type 0) → List Token → List Operand → Type 0
@@ -436,6 +465,7 @@ AreOperands (Stops behind) ts os = (ts ≡ []) × (os ≡ [])
 AreOperands (Takes s rest) ts os = IsTaken s (λ us ps. AreOperands rest us ps) ts os
 AreOperands (Chooses s rest others) ts os =
     IsTaken s (λ us ps. AreOperands rest us ps) ts os ⊎ ((front_begins s ts ≡ false) × AreOperands others ts os)
+AreOperands (Locates rest) ts os = IsOperand An_address ts os ⊎ IsTaken A_target (λ us ps. AreOperands rest us ps) ts os
 AreOperands (Lists s) ts os = (n : ℕ) × AreItems n s ts os
 AreOperands Anything ts os = (list_all (λ (t : Token). is_any t.kind) ts ≡ true) × (os ≡ [])
 

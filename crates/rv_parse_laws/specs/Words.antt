@@ -1,8 +1,9 @@
 -- The words that may begin a statement (RISC-V Unprivileged ISA 20191213, chapters 2, 5, 7 and 8; RISC-V Assembly
 -- Programmer's Manual; GNU as).
 
-use Rattle.std.specs.Prelude.{ℕ, zero, suc, List, [], ◌∷◌, ◌++◌, Bool, true, false, ◌||◌, ◌==◌, length, take, drop, codes, Option, Some, None, option_map, slice_get, option_to_list, if◌then◌else◌}
+use Rattle.std.specs.Prelude.{ℕ, zero, suc, List, [], ◌∷◌, ◌++◌, Bool, true, false, ◌||◌, ◌&&◌, ◌==◌, nat_le, length, take, drop, codes, Option, Some, None, option_map, slice_get, option_to_list, if◌then◌else◌}
 use Rattle.std.specs.Str.{bytes_eq}
+use Rattle.rv_text_laws.specs.SyntaxError.{longest_name}
 use Rattle.rv_isa.specs.RegisterNames.{abi_names, decimal}
 use Rattle.rv_statement.specs.declared.mnemonic.Mnemonic.{Mnemonic}
 use Rattle.rv_statement.specs.declared.mnemonic.Mnemonic.TheVariants.{Registers, Immediate, Shift, Upper, Load, Store, Branch, Jal, Jalr, LoadReserved, Atomic, Fence, FenceTso, Ecall, Ebreak, Nop, Unary, Compare, ZeroBranch, SwappedBranch, J, Jr, Ret, La, Li, Call, Tail, Jump}
@@ -254,9 +255,12 @@ directive_words =
     ∷ (codes ".internal", words.Ignored)
     ∷ []
 
--- call frame information, whatever follows the common front
+-- call frame information, whatever follows the common front, but for the limit of names
+abbrev pub is_frame : List ℕ → Bool
+is_frame word = bytes_eq (take 5 word) (codes ".cfi_")
+
 abbrev pub frame_directive : List ℕ → Option DirectiveWord
-frame_directive word = if bytes_eq (take 5 word) (codes ".cfi_") then Some words.Ignored else None
+frame_directive word = if is_frame word && nat_le (length word) longest_name then Some words.Ignored else None
 
 -- the directive that a word is
 unfoldable pub directive_named : List ℕ → Option DirectiveWord

@@ -2,7 +2,8 @@
 
 ghost use Rattle.std.specs.Prelude.{◌≡◌, ℕ, List};
 ghost use Rattle.rv_statement.specs.Statement.{Statement};
-ghost use Rattle.rv_parse_laws.specs.Reading.{Reads, Fault, Refuses};
+ghost use Rattle.rv_parse_laws.specs.Reading.{Reads};
+ghost use Rattle.rv_parse_laws.specs.Refusals.{Fault, Refuses};
 
 /// Bytes have at most one reading.
 pub fn one_reading()

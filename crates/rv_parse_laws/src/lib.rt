@@ -1,14 +1,17 @@
 //! What it is to read a source: words, the syntax of statements, the first fault; and the laws of that reading.
 //!
-//! Takes bytes and gives statements, as relations: `Reads bytes statements` and `Refuses bytes fault` of `specs/Reading`.
+//! Takes bytes and gives statements, as relations: `Reads bytes statements` of `specs/Reading`, `Refuses bytes fault` of
+//! `specs/Refusals`.
 //! Main contracts: `one_reading`, `one_fault` and `not_both`: bytes have at most one reading or first fault, never both.
 //! Of code there are `Role` and `Beginning` alone, which definitions and code share.
 //! Must not know how the code goes over tokens, or what a statement means.
 //!
 //! ```text
-//! specs/Words     the words that begin statements      specs/Opening  openings of sections
-//! specs/Syntax    operands in slots, statements        specs/Parsing  the reading as a function on tokens
-//! specs/Faults    the code of a wrong token            specs/Reading  Reads and Refuses: read this last
+//! specs/Words     the words that begin statements      specs/Reading   Reads: for this, read no more
+//! specs/Syntax    operands in slots, statements        specs/Faults    the code of a token in a slot
+//! specs/Opening   openings of sections                 specs/Wrong     the wrong token of a statement
+//! specs/Content   what is refused for what it says     specs/Refusals  Refuses: read this last
+//! specs/Parsing   the reading as a function on tokens, a tool of proofs
 //! ```
 //!
 //! Source: RISC-V Assembly Programmer's Manual; GNU as, "Statements" and "Pseudo Ops".

@@ -3,7 +3,7 @@
 /// Where an expression stands, which decides what is wrong around it.
 #[derive(Clone, Copy, Debug, PartialEq, Eq, Drop)]
 pub enum Role {
-    /// As an operand of an instruction, or before the register of a jump's address.
+    /// As an operand of an instruction, or before the register of an address.
     Operand,
     /// In place of a register.
     Source,
@@ -11,16 +11,10 @@ pub enum Role {
     Upper,
     /// As the operand of `auipc`.
     PcrelUpper,
-    /// Before the register of a load's address.
-    Load,
-    /// Before the register of a store's address.
-    Store,
     /// In a directive.
     Directive,
     /// As an alignment.
     Alignment,
-    /// As the target of a branch, a jump or `la`.
+    /// As the target of a branch, a jump, a call or `la`, or as the address of a load or a store.
     Target,
-    /// As the target of a call.
-    Call,
 }

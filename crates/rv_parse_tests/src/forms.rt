@@ -167,8 +167,9 @@ fn base_instructions(rt: HostRuntime) {
     all_read(&rt, rt.alloc(), &BASE);
 }
 
-/// Loads and stores, with and without an offset (ISA, 2.6).
-const ACCESSES: [(&[u8], &[u8], u32); 11] = [
+/// Loads and stores, with and without an offset (ISA, 2.6), and with a symbol in place of an address (Assembly
+/// Programmer's Manual, "pseudoinstructions").
+const ACCESSES: [(&[u8], &[u8], u32); 22] = [
     (b"lb a0, (a1); lb x10, 0(x11); lb a0, -1(sp)", b"lLL", 1),
     (b"lh a0, 2 + 4(a1); lh t0, (t1)", b"Ll", 1),
     (b"lw a0, 8(sp)\nlw a0, (8)(sp)\nlw a0, ( sp )", b"LLl", 3),
@@ -184,6 +185,17 @@ const ACCESSES: [(&[u8], &[u8], u32); 11] = [
     (b"sh a0, -2(a1); sh x10, (x11)", b"Ss", 1),
     (b"sw a0, 1 << 3(sp); sw a0, ( a1 ) # c", b"Ss", 1),
     (b"sd ra, 8(sp); sd x1, 0b1000(x2); sd s11, (t6)", b"SSs", 1),
+    (b"lb a0, x; lb x10, x + 4", b"YY", 1),
+    (b"lh a0, (x); lh t0, .", b"YY", 1),
+    (b"lw a0, x\nlw a0, 1f; lw a0, x - 8 # c\n1:", b"YYY1", 3),
+    (b"ld s0, . + 8; ld x8, 4 + x", b"YY", 1),
+    (b"lbu a0, _x; lbu a0, .Lx", b"YY", 1),
+    (b"lhu gp, $x.1; lhu x3, ((x) + 1)", b"YY", 1),
+    (b"1: lwu a5, 1b; lwu a5, 1b + 4", b"1YY", 1),
+    (b"sb a0, x, t0; sb zero, x + 4, x31", b"ZZ", 1),
+    (b"sh a0, (x), t0; sh a0, . , a1", b"ZZ", 1),
+    (b"sw a0, x, t0\nsw a0, 1f, t0; 1: sw a0, x - 8, fp", b"ZZ1Z", 2),
+    (b"sd ra, . + 8, sp; sd x1, 4 + x, x2; sd s11, 8(t6)", b"ZZS", 1),
 ];
 
 #[test]
@@ -192,7 +204,7 @@ fn loads_and_stores(rt: HostRuntime) {
 }
 
 /// Branches, jumps and calls, with targets of every form.
-const GOES: [(&[u8], &[u8], u32); 31] = [
+const GOES: [(&[u8], &[u8], u32); 33] = [
     (b"x: beq a0, a1, x; beq x0, x1, . + 8", b":BB", 1),
     (
         b"1: bne a0, a1, 1b; bne zero, t6, 1f\n1: ecall",
@@ -241,6 +253,12 @@ const GOES: [(&[u8], &[u8], u32); 31] = [
         b"call f; call t0, f; call f + 4; call x5, f - 8",
         b"DCDC",
         1,
+    ),
+    (b"call f@plt; call t0, f@plt; call f @ plt # c", b"DCD", 1),
+    (
+        b"call plt@plt\ncall x5, .Lf@plt; call t0, $f.1@plt",
+        b"DCC",
+        2,
     ),
     (b"tail f; tail f + 4; tail .", b"FFF", 1),
     (b"jump f, t0; jump f + 4, x5; jump . + 8, s0", b"OOO", 1),

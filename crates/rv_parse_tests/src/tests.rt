@@ -3,7 +3,7 @@ use std::alloc::Global;
 use std::test::Fail;
 
 /// Every statement in each of its forms: read.
-const FORMS: [(&[u8], u8, u32); 28] = [
+const FORMS: [(&[u8], u8, u32); 29] = [
     (
         b"lui a0, %hi(x + 4); auipc a0, %pcrel_hi(x); add a0, a0, %lo(x); li a0, %lo(5)",
         0,
@@ -21,7 +21,7 @@ const FORMS: [(&[u8], u8, u32); 28] = [
     ),
     (b"beqz a0, x; bgtz a0, x - 4; la a0, x; lla a0, . - 4", 0, 0),
     (
-        b"jal x; jal a0, x; call f; call t0, f + 4; tail f; j 1b; jump f, t0",
+        b"jal x; jal a0, x; call f; call t0, f + 4; call f@plt; call t0, f@plt; tail f; j 1b; jump f, t0",
         0,
         0,
     ),
@@ -47,6 +47,11 @@ const FORMS: [(&[u8], u8, u32); 28] = [
     ),
     (
         b"lw a0, 8(sp); sd a1, (a0); lui a0, 1; lw a0, (8)(sp); sw a0, x + 4 * 2(sp)",
+        0,
+        0,
+    ),
+    (
+        b"lw a0, x; lbu a0, x + 4; sd a0, x, t0; lw zero, x; sw a0, x, a0; ld t0, 1f; 1: lh a0, (x)",
         0,
         0,
     ),
@@ -157,7 +162,7 @@ fn jumps_that_are_wrong(rt: HostRuntime) {
     refused(&rt, rt.alloc(), &JUMPS);
 }
 
-const OPERANDS: [(&[u8], u8, u32); 38] = [
+const OPERANDS: [(&[u8], u8, u32); 41] = [
     (b"li a0, 1 2", 7, 1),
     (b"li a0, 1 + (2", 7, 1),
     (b"li a0, 1 == 2", 9, 1),
@@ -183,9 +188,12 @@ const OPERANDS: [(&[u8], u8, u32); 38] = [
     (b"sub a0, a1, 3", 7, 1),
     (b"lw a0, a1", 7, 1),
     (b"lw a0, 8", 9, 1),
-    (b"lw a0, (x)", 9, 1),
     (b"lw a0, x, t0", 7, 1),
-    (b"sw a0, x, t0", 9, 1),
+    (b"sw a0, x", 7, 1),
+    (b"auipc a0, %pcrel_hi(8) foo", 9, 1),
+    (b"auipc a0, %pcrel_hi(8", 7, 1),
+    (b"auipc a0, % /*\n*/ pcrel_hi(8 /*\n*/ foo", 7, 3),
+    (b"auipc a0, %pcrel_hi(8, 9)", 7, 1),
     (b"lw a0, 8(foo)", 7, 1),
     (b"amoadd.w a0, a1, 4(a2)", 7, 1),
     (b"amoadd.w.aq.rl a0, a1, (a2)", 6, 1),
@@ -277,7 +285,7 @@ fn the_first_of_two(rt: HostRuntime) {
 }
 
 /// A text, a byte and its count, a text after them; the code and the line of the refusal.
-const LENGTHS: [(&[u8], u8, usize, &[u8], u8, u32); 21] = [
+const LENGTHS: [(&[u8], u8, usize, &[u8], u8, u32); 31] = [
     (b"", b' ', 65_535, b"\nfoo", 6, 2),
     (b"", b' ', 65_536, b"\nfoo", 17, 1),
     (b"foo", b' ', 65_540, b"", 6, 1),
@@ -299,6 +307,16 @@ const LENGTHS: [(&[u8], u8, usize, &[u8], u8, u32); 21] = [
     (b".section .text,\"\",@", b'a', 4_096, b" 1x", 17, 1),
     (b".section x,\"\",@", b'a', 4_096, b"", 9, 1),
     (b".ident ", b'a', 4_096, b"", 17, 1),
+    (b".cfi_", b'a', 4_090, b" 5", 0, 0),
+    (b".cfi_", b'a', 4_091, b" 5", 17, 1),
+    (b"\n.cfi_", b'a', 4_091, b" \x01", 17, 2),
+    (b".cfi_", b'a', 4_091, b": nop", 17, 1),
+    (b".cfi", b'a', 4_096, b"", 8, 1),
+    (b"lw a0, ", b'a', 4_095, b"", 0, 0),
+    (b"lw a0, ", b'a', 4_096, b"", 17, 1),
+    (b"call ", b'a', 4_095, b"@plt", 0, 0),
+    (b"call ", b'a', 4_096, b"@plt", 17, 1),
+    (b"call f@", b'a', 4_096, b"", 7, 1),
 ];
 
 #[test]

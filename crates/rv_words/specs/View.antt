@@ -14,7 +14,8 @@ use Rattle.rv_words.specs.declared.fault.Slot.TheVariants as slots
 abbrev pub slot_of : Slot → syntax.Slot
 slot_of slots.Register = syntax.A_register
 slot_of (slots.Value role) = syntax.A_value role
-slot_of (slots.Address role) = syntax.An_address role
+slot_of slots.Address = syntax.An_address
+slot_of slots.Callee = syntax.A_callee
 slot_of slots.Zero = syntax.A_zero
 slot_of slots.Accesses = syntax.Some_accesses
 slot_of slots.Symbol = syntax.A_symbol

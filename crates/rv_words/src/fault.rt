@@ -8,8 +8,8 @@ ghost use Rattle.rv_parse_laws.specs.Faults.{may_call, wrong_or, wrong_name, wro
 ghost use Rattle.rv_words.specs.View.{slot_of};
 ghost use Rattle.rv_parse_laws.specs.Syntax.{targets};
 
-use crate::kinds::{is_at, is_comma, is_end};
-use crate::words::{are_known_flags, is_left_out, is_left_out_option};
+use crate::kinds::is_comma;
+use crate::words::{are_known_flags, is_frame, is_left_out, is_left_out_option};
 use rv_parse_laws::Role;
 use rv_text::{LONGEST_NAME, Punct, SourceCode, TokenKind};
 
@@ -20,7 +20,9 @@ pub enum Slot {
     /// An expression.
     Value(Role),
     /// A register in parentheses, with or without an expression before it.
-    Address(Role),
+    Address,
+    /// What a call calls.
+    Callee,
     /// The 0 before an atomic's address.
     Zero,
     /// The accesses that a fence orders.
@@ -76,9 +78,8 @@ pub fn may_call(role: Role) -> bool
     ensures { result ≡ may_call role }
 {
     match role {
-        Role::Operand | Role::Source | Role::Upper | Role::PcrelUpper | Role::Load | Role::Store =>
-            true,
-        Role::Directive | Role::Alignment | Role::Target | Role::Call => false,
+        Role::Operand | Role::Source | Role::Upper | Role::PcrelUpper => true,
+        Role::Directive | Role::Alignment | Role::Target => false,
     }
 }
 
@@ -86,21 +87,15 @@ pub fn may_call(role: Role) -> bool
 pub fn targets(role: Role) -> bool
     ensures { result ≡ targets role }
 {
-    match role {
-        Role::Target | Role::Call => true,
-        _ => false,
-    }
+    role == Role::Target
 }
 
-/// After a whole expression: a symbol load or store and `@plt` are not built yet; an alignment has one operand alone.
+/// After a whole expression: an alignment has one operand alone.
 fn after_value(role: Role, kind: TokenKind<'_>) -> SourceCode
     ensures { number_of result ≡ wrong_after_value role (kind_of kind.entry) }
 {
     match role {
-        Role::Load if is_end(kind) => SourceCode::UnsupportedHere,
-        Role::Store if is_end(kind) || is_comma(kind) => SourceCode::UnsupportedHere,
         Role::Alignment if is_comma(kind) => SourceCode::UnsupportedHere,
-        Role::Call if is_at(kind) => SourceCode::UnsupportedHere,
         _ => or_slot(kind, SourceCode::BadOperands),
     }
 }
@@ -164,12 +159,14 @@ pub fn at_any(kind: TokenKind<'_>) -> SourceCode
     }
 }
 
-/// A word that begins a statement, and is neither a mnemonic nor a directive.
+/// A word that begins a statement, and is neither a mnemonic nor a directive: call frame information where it is too long.
 fn at_word(word: &[u8]) -> SourceCode
     ensures { number_of result ≡ wrong_word word.now }
 {
     if is_left_out(word) {
         SourceCode::UnsupportedHere
+    } else if is_frame(word) {
+        SourceCode::Limit
     } else if word.starts_with(b".") {
         SourceCode::UnknownDirective
     } else {

@@ -6,7 +6,7 @@ ghost use Rattle.rv_text_laws.specs.Bytes.{is_decimal};
 ghost use Rattle.rv_text_laws.specs.Lexing.{is_last};
 ghost use Rattle.rv_lexer.specs.Token.{kind_of};
 ghost use Rattle.rv_statement.specs.View.{now_of, statement_kind};
-ghost use Rattle.rv_parse_laws.specs.Syntax.{is_symbol, is_section_name, register_of, symbol_of, label_of, begins, is_comma, is_colon, is_percent, is_at, is_end, is_source_end, is_opening, is_closing, is_zero, is_any, is_wrong, accesses_of, single, A_string, A_type, may_stand, function_in, label_named};
+ghost use Rattle.rv_parse_laws.specs.Syntax.{is_symbol, is_section_name, register_of, symbol_of, label_of, begins, is_comma, is_colon, is_percent, is_at, is_plt, is_end, is_source_end, is_opening, is_closing, is_zero, is_any, is_wrong, accesses_of, single, A_string, A_type, may_stand, function_in, label_named};
 ghost use Rattle.rv_parse_laws.specs.Faults.{is_name};
 ghost use Rattle.rv_text.specs.Expr.{tree_of_expr};
 ghost use Rattle.rv_parse_laws.specs.Opening.{is_section};
@@ -157,6 +157,16 @@ pub fn is_at(kind: TokenKind<'_>) -> bool
     matches!(kind, TokenKind::Punct(Punct::At))
 }
 
+/// The word `plt`.
+pub fn is_plt(kind: TokenKind<'_>) -> bool
+    ensures { result ≡ is_plt (kind_of kind.entry) }
+{
+    match kind {
+        TokenKind::Name(word) => word == b"plt".as_slice(),
+        _ => false,
+    }
+}
+
 /// `%`
 pub fn is_percent(kind: TokenKind<'_>) -> bool
     ensures { result ≡ is_percent (kind_of kind.entry) }
@@ -171,11 +181,8 @@ fn may_stand(role: Role, function: Function) -> bool
     match function {
         Function::Hi => role == Role::Upper,
         Function::PcrelHi => role == Role::PcrelUpper,
-        Function::Lo => matches!(
-            role,
-            Role::Operand | Role::Source | Role::Load | Role::Store
-        ),
-        Function::PcrelLo => matches!(role, Role::Operand | Role::Load | Role::Store),
+        Function::Lo => matches!(role, Role::Operand | Role::Source),
+        Function::PcrelLo => role == Role::Operand,
     }
 }
 

@@ -2,7 +2,7 @@
 
 ghost use Rattle.std.specs.Prelude.{◌≡◌, map, ◌||◌, ◌&&◌, take, drop, length, option_map, is_some, codes};
 ghost use Rattle.std.specs.Str.{bytes_eq};
-ghost use Rattle.rv_parse_laws.specs.Words.{function_words, left_out_words, left_out_options, section_types, choices, is_among, frame_directive, directive_words, directive_named, beginning, register, named_in, atomic_forms, form_behind, either, atomic_in, atomic_operations, instruction_words, mnemonic_named};
+ghost use Rattle.rv_parse_laws.specs.Words.{function_words, left_out_words, left_out_options, section_types, choices, is_among, is_frame, frame_directive, directive_words, directive_named, beginning, register, named_in, atomic_forms, form_behind, either, atomic_in, atomic_operations, instruction_words, mnemonic_named};
 ghost use Rattle.rv_statement.specs.declared.mnemonic.Mnemonic.TheVariants.{LoadReserved};
 ghost use Rattle.std.specs.List.{list_all};
 ghost use Rattle.rv_parse_laws.specs.Syntax.{access_sets, with_constant, is_flag};
@@ -18,6 +18,7 @@ use rv_statement::{
     Choice, CompareOperation, DirectiveWord, Function, Mnemonic, Standard, SwappedBranchOperation,
     UnaryOperation, Width, ZeroBranchOperation,
 };
+use rv_text::LONGEST_NAME;
 
 /// What the language leaves out by name: a mnemonic, and directives.
 const LEFT_OUT_WORDS: [&str; 13] = [
@@ -477,10 +478,17 @@ const DIRECTIVES: [(&str, DirectiveWord); 36] = [
 ];
 
 /// Call frame information, whatever follows the common front.
+pub fn is_frame(word: &[u8]) -> bool
+    ensures { result ≡ is_frame word.now }
+{
+    word.starts_with(b".cfi_")
+}
+
+/// The directive of call frame information, which has a name's length at most.
 fn frame_directive(word: &[u8]) -> Option<DirectiveWord>
     ensures { result ≡ frame_directive word.now }
 {
-    if word.starts_with(b".cfi_") {
+    if is_frame(word) && word.len() <= LONGEST_NAME {
         Some(DirectiveWord::Ignored)
     } else {
         None

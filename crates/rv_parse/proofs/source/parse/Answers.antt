@@ -1,11 +1,12 @@
 use Rattle.std.proofs.Common.{sym}
 use Rattle.rv_parse_laws.proofs.Whole.{reads_as}
+use Rattle.rv_parse.proofs.PastLine.{past_none}
 use Rattle.rv_parse.proofs.Refusals.{line_first, line_alone, token_before, token_alone}
 use Rattle.rv_parse.proofs.source.parse.Goals.{in_default-via-in-Some+else-place-wrong, in_default-via-in_default}
 use Rattle.rv_parse.proofs.source.parse.Goals as goal
 
 pub returns-clause-reads : goal.returns-clause-reads
-returns-clause-reads c = reads_as c.args.source.now _ _ c.if-source-gt-LONGEST_SOURCE.false (sym c.in-None.ensures.place) c.in-Ok.ensures.within c.new.ensures c.in-Ok.ensures.says
+returns-clause-reads c = reads_as c.args.source.now _ _ c.if-source-gt-LONGEST_SOURCE.false (past_none c.args.source.now (sym c.in-None.ensures.place)) c.in-Ok.ensures.within c.new.ensures c.in-Ok.ensures.says
 
 pub returns-in-Some-clause-refuses : goal.returns-in-Some-clause-refuses
 returns-in-Some-clause-refuses c =

@@ -1,5 +1,5 @@
 use Rattle.std.proofs.Common.{◌≡◌, ◌≤◌, ◌-◌, drop, length}
-use Rattle.rv_parse_laws.specs.Reading.{past_line}
+use Rattle.rv_parse.specs.Lines.{past_line}
 use Rattle.rv_parse.proofs.source.past_line.Given as goal
 
 -- what is left begins a line, and has the place where the source has it

@@ -1,0 +1,7 @@
+use Rattle.std.proofs.Common.{refl}
+use Rattle.rv_statement.specs.declared.mnemonic.Mnemonic.TheVariants.{Store}
+use Rattle.rv_parse.proofs.Located.{accesses}
+use Rattle.rv_parse.proofs.access.store.Goals as goal
+
+pub returns : goal.returns
+returns c = rw (accesses _ _ _ (Store c.args.operation) _ _ refl c.in_ok-rs2.ensures c.in_ok-comma.ensures) c.stored.ensures
