@@ -11,7 +11,7 @@ use Rattle.rv_statement.specs.declared.directive.Choice.TheVariants.{Push, Pop}
 use Rattle.rv_statement.specs.Statement.{StatementKind, Label, Numbered, Instruction, Directs, Statement, Expression, Directive, Enters, Opens, Globl, Local, Sets, Aligns_to_power, Aligns_to_bytes, Values, Strings, Zeros, Chooses, Ignored}
 use Rattle.rv_unit_laws.specs.Contributions.{AlignmentForm, As_power, As_bytes, Contribution, Nothing, Bytes, Zero_bytes, Alignment, contribution}
 use Rattle.rv_unit_laws.specs.Faults.{first_fault, faults, directive_faults, contribution_faults, number_faults, alignment_faults, code_alignment_faults, past_section}
-use Rattle.rv_unit_laws.specs.Sections.{Section, Opened, text_section, section_at, current_section, entered, entered_at, entered_by, place_of_name, most_sections, goes_to_text}
+use Rattle.rv_unit_laws.specs.Sections.{Section, is_nobits, Opened, text_section, section_at, current_section, entered, entered_at, entered_by, place_of_name, most_sections, goes_to_text}
 use Rattle.rv_unit_laws.specs.Tables.{Tables, Assignment, at_start, here, value, alignment_of, alignment_as, contribution_alignment, contributed, padding, changed_at, is_defined, may_set, or_none, assigned_by, chosen, with_label, with_assignment, with_section, with_data, with_choice, with_chosen, with_contribution, opened_more, after, after_directive, after_all, tables}
 use Rattle.rv_unit_laws.proofs.Opened.{open_inside, stood_all, stood_start}
 use Rattle.rv_unit.specs.Unit.{passed}
@@ -167,7 +167,7 @@ asks_low all t k (Alignment form number) past none code =
     let parts = none_left (number_faults form w) (alignment_faults home (here t).offset a) none in
     let (n, is) = a_number form w parts.0 in
     let low : is_low a ≡ true =
-    low_code home.nobits a (sym (ap (λ c. if c then code_alignment_faults home.nobits a else past_section false (here t).offset (padding a (here t).offset)) code) ∙ parts.1) in
+    low_code (is_nobits home) a (sym (ap (λ c. if c then code_alignment_faults (is_nobits home) a else past_section false (here t).offset (padding a (here t).offset)) code) ∙ parts.1) in
     subst (λ v. or_none (alignment_as form v) ≤ 2) (is ∙ sym (past number n is)) (is_low_or_none a low)
 
 directive_low : (all t : Tables) (k : ℕ) (d : Directive) → ((e : Expression) (n : ℕ) → value all false k (here t) e ≡ Constant n → value t false k (here t) e ≡ Constant n)
