@@ -23,6 +23,7 @@ use Rattle.rv_statement.specs.declared.statement.Operation.TheVariants as operat
 use Rattle.rv_statement.specs.Statement.{StatementKind, Instruction, Expression, Statement}
 use Rattle.rv_parse_laws.specs.Syntax.{with_constant}
 use Rattle.rv_unit_laws.specs.Faults.{Fault, faulty_if, lowest, at_line, constant_faults}
+use Rattle.rv_unit_laws.specs.Options.{Options}
 use Rattle.rv_unit_laws.specs.Tables.{Tables, value, longest_section}
 use Rattle.rv_source_laws.specs.Fits.{constant_in}
 use Rattle.rv_source_laws.specs.Written.{i_type, s_type, u_type, shift_by, by_constant}
@@ -30,9 +31,8 @@ use Rattle.rv_source_laws.specs.Meaning.{add_zero, alone, fits_12, expanded}
 use Rattle.rv_source_laws.specs.Located.{Located}
 use Rattle.rv_source_laws.specs.Program.{place_of}
 use Rattle.rv_chain_laws.specs.Contents.{words}
-use Rattle.rv_chain_laws.specs.InstructionFaults.{range_faults, number_faults, target_faults, upper_faults, low_faults, distance_faults, else_unplaced, instruction_faults}
-use Rattle.rv_chain_laws.specs.Refusals.{code_size}
-use Rattle.rv_source_laws.specs.Options.{Options}
+use Rattle.rv_chain_laws.specs.InstructionFaults.{range_faults, number_faults, target_faults, upper_faults, low_faults, distance_faults, else_unplaced}
+use Rattle.rv_chain_laws.specs.Refusals.{code_faults, code_size}
 use Rattle.rv_link_laws.specs.Suits.{code_said}
 
 -- ---- one instruction
@@ -151,19 +151,20 @@ IsBuilt faults wanted line (Err OutOfMemory) = ⊥
 
 -- ---- one statement
 
--- what is told of an instruction, if a statement is one: where l says which symbols are labels of the file
+-- the instruction of a statement in a section of code or not, if it is one, or the lowest code of its
+-- faults: where l says which symbols are labels of the file
 abbrev pub Codes :
-    Options → (Expression → values.Value) → (Primary → Bool) → Statement
+    Options → Bool → (Expression → values.Value) → (Primary → Bool) → Statement
     → Result (Option Inst) SourceFault → Type 0
-Codes o v l s (Ok None) =
-    (instruction_faults o v l s.kind ≡ []) × (code_said v s.kind ≡ []) × (code_size s.kind ≡ 0)
-Codes o v l s (Ok (Some i)) =
-    (instruction_faults o v l s.kind ≡ [])
+Codes o executable v l s (Ok None) =
+    (code_faults o executable v l s.kind ≡ []) × (code_said v s.kind ≡ []) × (code_size s.kind ≡ 0)
+Codes o executable v l s (Ok (Some i)) =
+    (code_faults o executable v l s.kind ≡ [])
     × (instruction_by (λ e. constant_in (v e)) s.kind ≡ Some (i ∷ [])) × IsValid i
     × (code_size s.kind ≡ 4)
-Codes o v l s (Err (At code at)) =
-    (lowest (instruction_faults o v l s.kind) ≡ Some (number_of code)) × (at ≡ s.line)
-Codes o v l s (Err OutOfMemory) = ⊥
+Codes o executable v l s (Err (At code at)) =
+    (lowest (code_faults o executable v l s.kind) ≡ Some (number_of code)) × (at ≡ s.line)
+Codes o executable v l s (Err OutOfMemory) = ⊥
 
 -- ---- the code of sections
 

@@ -13,7 +13,7 @@ ghost use Rattle.rv_tables.specs.Sections.{offset_of, section_of};
 ghost use Rattle.rv_unit.specs.Unit.{said, passed, IsFilled, IsScope};
 ghost use Rattle.rv_source_laws.specs.Located.{is_placed};
 ghost use Rattle.rv_source_laws.specs.Fits.{is_low};
-ghost use Rattle.rv_chain_laws.specs.Refusals.{size_fault};
+ghost use Rattle.rv_chain_laws.specs.Refusals.{code_fault, size_fault};
 ghost use Rattle.rv_link_laws.specs.Items.{AreItems};
 ghost use Rattle.rv_link_laws.specs.Suits.{IsMultiple};
 ghost use Rattle.rv_chain.specs.Sized.{AreSized, IsAligned, IsPadded, IsSized};
@@ -347,7 +347,9 @@ pub(crate) fn items(alloc: Global, unit: &Unit<'_>) -> Result<(Vec<Item>, Vec<u3
     ensures sections { IfOk result (λ r. length r.1.items ≡ length (unit.now).tables.extents.items) }
     ensures items { IfOk result (λ r. AreItems 1 laws.at_start (λ j. 0) (said unit.now) r.0.items (λ j. slice_index r.1.items j)) }
     ensures sized { IfOk result (λ r. AreSized (laws.tables (said unit.now)) 1 laws.at_start (said unit.now) r.0.items) }
-    ensures refuses { IfErr result (λ e. first_fault (said unit.now) ≡ None → size_fault (said unit.now) ≡ None → e ≡ OutOfMemory) }
+    ensures refuses { IfErr result (λ e. first_fault (said unit.now) ≡ None
+        → code_fault (said unit.now) ≡ None → size_fault (said unit.now) ≡ None
+        → e ≡ OutOfMemory) }
 {
     let mut scope = Scope::new(unit);
     let statements = unit.statements();

@@ -8,8 +8,8 @@ ghost use Rattle.rv_unit.specs.Unit.{said, IsFilled};
 ghost use Rattle.rv_map.specs.Map.{global_of, map_of as shown_map};
 ghost use Rattle.rv_image.specs.Linked.{linked_of};
 ghost use Rattle.rv_chain_laws.specs.Contents.{IsLinked};
-ghost use Rattle.rv_chain_laws.specs.Refusals.{size_fault};
-ghost use Rattle.rv_source_laws.specs.Options.{is_compressed};
+ghost use Rattle.rv_chain_laws.specs.Refusals.{code_fault, size_fault};
+ghost use Rattle.rv_source_laws.specs.Compressed.{is_compressed};
 ghost use Rattle.rv_link_laws.specs.Contents.{contents_of};
 ghost use Rattle.rv_link.specs.Globals.{AreGlobals};
 ghost use Rattle.rv_link_laws.specs.Laws.{map_of};
@@ -59,7 +59,7 @@ pub(crate) fn link(alloc: Global, unit: &Unit<'_>, start: u64) -> Result<Linked,
     let names = names(alloc, unit, &globals, &placed)?;
     let figures = figures(alloc, unit, &placed, names.as_slice())?;
     let rows = statement_rows(alloc, 1, starts, items)?;
-    let rvc = has_compressed(alloc, unit)?;
+    let rvc = has_compressed(unit);
     // what stands so is a linked program
     placed_links();
     placed_names();
@@ -94,7 +94,9 @@ fn place(alloc: Global, unit: &Unit<'_>, globals: &Globals<'_>, start: u64) -> R
     ensures stands { IfOk result (StandsFrom (said unit.now) start) }
     ensures items { IfOk result (λ x. length x.items.items ≡ length (unit.now).statements.items) }
     ensures pieces { IfOk result (λ x. length x.pieces.items ≡ length (unit.now).tables.extents.items) }
-    ensures refuses { IfErr result (λ fault. first_fault (said unit.now) ≡ None → size_fault (said unit.now) ≡ None → IsOfLink fault) }
+    ensures refuses { IfErr result (λ fault. first_fault (said unit.now) ≡ None
+        → code_fault (said unit.now) ≡ None → size_fault (said unit.now) ≡ None
+        → IsOfLink fault) }
 {
     let (items, ends) = items(alloc, unit)?;
     if let Some(name) = undefined(alloc, unit, items.as_slice())? {

@@ -15,8 +15,8 @@ returns-in-Plain-clause-codes c = λ o index e filled stands.
     let l = labels_at c.args.scope.now index in
     let says = ap statement_kind c.in-Plain.is in
     let wanted = instruction_by (λ x. constant_in (v x)) (plain_of c.in-Plain.statement) in
-    c.found.ensures.codes o v l (statement_of c.args.statement.now)
-    (plain_built c.in-Plain.statement (statement_of c.args.statement.now) o v l c.args.compressed c.as_word.result says e
+    c.found.ensures.codes o c.args.executable v l (statement_of c.args.statement.now)
+    (plain_built c.in-Plain.statement (statement_of c.args.statement.now) o c.args.executable v l c.args.compressed c.as_word.result says e
     (c.as_word.ensures.built (is_some wanted) [] wanted (c.placed-built.ensures.built c.plain.ensures.valid wanted (c.plain.ensures.is (λ x. constant_in (v x))))))
     (ap code_size says ∙ plain_size c.in-Plain.statement)
 
@@ -27,8 +27,8 @@ returns-in-With-clause-codes c = λ o index e filled stands.
     let says = ap statement_kind c.in-With.is in
     let x = tree_of_expr c.in-With.expression in
     let wanted = numbered c.in-With.operation (constant_in (v x)) in
-    c.found-in-With.ensures.codes o v l (statement_of c.args.statement.now)
-    (with_built c.in-With.operation x (statement_of c.args.statement.now) o v l c.args.compressed c.as_word-in-With.result says e
+    c.found-in-With.ensures.codes o c.args.executable v l (statement_of c.args.statement.now)
+    (with_built c.in-With.operation x (statement_of c.args.statement.now) o c.args.executable v l c.args.compressed c.as_word-in-With.result says e
     (c.as_word-in-With.ensures.built (is_some wanted) (value_faults c.in-With.operation (v x)) wanted (c.with_value.ensures.built (v x) (c.value-value.ensures index filled stands))))
     (ap code_size says ∙ with_size c.in-With.operation x)
 
@@ -38,7 +38,7 @@ returns-in-WithFunction-clause-codes c = λ o index e filled stands.
     let l = labels_at c.args.scope.now index in
     let says = ap statement_kind c.in-WithFunction.is in
     let x = tree_of_expr c.in-WithFunction.expression in (
-      function_wrong c.in-WithFunction.operation c.in-WithFunction.function x (statement_of c.args.statement.now) o v l (number_of c.function_code-code.result) says
+      function_wrong c.in-WithFunction.operation c.in-WithFunction.function x (statement_of c.args.statement.now) o c.args.executable v l (number_of c.function_code-code.result) says
           (c.function_code-code.ensures index filled stands c.args.statement.now.line (v x) (c.value-value-in-WithFunction.ensures index filled stands)),
       refl,
     )
