@@ -6,13 +6,11 @@ ghost use Rattle.rv_unit_laws.specs.Tables.{aligned};
 ghost use Rattle.rv_link_laws.specs.Layout.{goes, started, end_of, end_behind, greatest, IsLayout};
 ghost use Rattle.rv_link.specs.TooLarge.{IsRefused};
 
-use rv_image::STACK_START;
+use rv_image::{MEMORY_LIMIT, STACK_START};
 use rv_link_laws::{Destination, Layout, Piece};
 use rv_map::Region;
 use std::alloc::{AllocError, Global};
 
-/// The most bytes of memory that a program has.
-const MEMORY_LIMIT: u64 = 1 << 28;
 /// Regions with different rights begin at multiples of this.
 const PAGE: u32 = 4096;
 

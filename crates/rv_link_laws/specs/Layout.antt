@@ -1,7 +1,7 @@
 -- Sections one after the other: each at the least aligned place that is not below the end before.
 
-use Rattle.std.specs.Prelude.{◌≡◌, ℕ, ◌+◌, ◌-◌, ◌≤◌, ◌^◌, Bool, max, List, [], ◌∷◌, length, replicate, if◌then◌else◌}
-use Rattle.rv_isa_laws.specs.Platform.{stack_start}
+use Rattle.std.specs.Prelude.{◌≡◌, ℕ, ◌+◌, ◌-◌, ◌≤◌, Bool, max, List, [], ◌∷◌, length, replicate, if◌then◌else◌}
+use Rattle.rv_isa_laws.specs.Platform.{stack_start, memory_limit}
 use Rattle.rv_unit_laws.specs.Tables.{aligned}
 use Rattle.rv_link_laws.specs.declared.piece.Destination.{Destination}
 use Rattle.rv_link_laws.specs.declared.piece.Destination.TheVariants.{Text, Rodata, Data, Bss}
@@ -37,7 +37,7 @@ starts_of pieces text rodata variables bss =
     started Bss bss (started Data variables (started Rodata rodata (started Text text (replicate (length pieces) 0) pieces) pieces) pieces) pieces
 
 -- text from its start; rodata and data at the next pages, bss after data at its greatest alignment; all of it below the
--- stack, 256 MiB at most
+-- stack, within the limit of memory
 pub record IsLayout (text_start : ℕ) (pieces : List Piece) (l : Layout) : Type 0 where
   pub starts : l.starts.items ≡ starts_of pieces text_start l.rodata.start l.data.start l.bss.start
   pub text : l.text.start ≡ text_start
@@ -49,4 +49,4 @@ pub record IsLayout (text_start : ℕ) (pieces : List Piece) (l : Layout) : Type
   pub data_end : l.data.end ≡ end_of Data l.data.start pieces
   pub bss_end : l.bss.end ≡ end_of Bss l.bss.start pieces
   pub below : l.bss.end ≤ stack_start
-  pub memory : (l.text.end - l.text.start) + (l.rodata.end - l.rodata.start) + (l.bss.end - l.data.start) ≤ 2 ^ 28
+  pub memory : (l.text.end - l.text.start) + (l.rodata.end - l.rodata.start) + (l.bss.end - l.data.start) ≤ memory_limit

@@ -50,4 +50,3 @@ returns-clause-linked c =
     c.in_ok-globals.ensures c.in_ok-names.ensures c.in-Some.ensures.global c.in-Some.ensures.start c.in-Some.ensures.even
     c.in_ok-figures.ensures c.in_ok-rows.ensures c.in_ok-text.ensures c.in_ok-rodata.ensures c.in_ok-variables.ensures c.map_with.ensures in
     w.linked
-
