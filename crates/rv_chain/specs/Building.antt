@@ -16,4 +16,5 @@ pub record IsProgramOf (texts : List (List ℕ)) (start : ℕ) (l : Linked) : Ty
 
 -- the bytes of an executable with the promise of `build`: some text shows its map
 abbrev pub IsExecutableOf : List (List ℕ) → ℕ → List ℕ → Type 0
-IsExecutableOf texts start executable = (map_bytes : List ℕ) × TheHeadline texts start executable map_bytes
+IsExecutableOf texts start executable =
+    (map_bytes : List ℕ) × TheHeadline texts start executable map_bytes

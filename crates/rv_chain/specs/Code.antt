@@ -87,8 +87,10 @@ takes_target _ = false
 
 -- the instruction of an operation with a number, where one can be placed
 abbrev pub numbered : Operation → ℕ → Option (List Inst)
-numbered (operations.Registers operation rd rs1) k = alone (by_constant (with_constant operation) rd rs1 k)
-numbered (operations.Immediate operation rd rs1) k = Some (of_immediate operation (i_type rd rs1 k) ∷ [])
+numbered (operations.Registers operation rd rs1) k =
+    alone (by_constant (with_constant operation) rd rs1 k)
+numbered (operations.Immediate operation rd rs1) k =
+    Some (of_immediate operation (i_type rd rs1 k) ∷ [])
 numbered (operations.Shift operation rd rs1) k = Some (of_shift operation (shift_by rd rs1 k) ∷ [])
 numbered (operations.Upper operation rd) k = Some (of_upper operation (u_type rd k) ∷ [])
 numbered (operations.Load operation rd rs1) k = Some (of_load operation (i_type rd rs1 k) ∷ [])
@@ -132,7 +134,8 @@ InRange fits wanted (Err code) = (fits ≡ false) × (code ≡ ImmediateRange)
 -- the instruction of an operation with a number, or the code of the number's fault, or of what cannot be placed
 abbrev pub OfNumber : Operation → ℕ → Result Inst SourceCode → Type 0
 OfNumber operation k (Ok i) =
-    (range_faults (mnemonic_of operation) k ≡ []) × (numbered operation k ≡ Some (i ∷ [])) × IsValid i
+    (range_faults (mnemonic_of operation) k ≡ []) × (numbered operation k ≡ Some (i ∷ []))
+    × IsValid i
 OfNumber operation k (Err code) =
     else_unplaced (is_some (numbered operation k)) (range_faults (mnemonic_of operation) k)
     ≡ number_of code ∷ []
@@ -146,7 +149,8 @@ IsNumber v line (Err OutOfMemory) = ⊥
 -- an instruction without faults, or the lowest code of those that it has, at its line
 abbrev pub IsBuilt : List ℕ → Option (List Inst) → ℕ → Result Inst SourceFault → Type 0
 IsBuilt faults wanted line (Ok i) = (faults ≡ []) × (wanted ≡ Some (i ∷ [])) × IsValid i
-IsBuilt faults wanted line (Err (At code at)) = (lowest faults ≡ Some (number_of code)) × (at ≡ line)
+IsBuilt faults wanted line (Err (At code at)) =
+    (lowest faults ≡ Some (number_of code)) × (at ≡ line)
 IsBuilt faults wanted line (Err OutOfMemory) = ⊥
 
 -- ---- one statement
@@ -179,7 +183,9 @@ bytes_in sections j = bytes_of_some (slice_get sections j)
 -- one section has more bytes, the others have their own
 abbrev pub GrowsBy : List (Vec ℕ) → List (Vec ℕ) → ℕ → List ℕ → Type 0
 GrowsBy old new section more =
-    (length new ≡ length old) × ((j : ℕ) → bytes_in new j ≡ (if j == section then bytes_in old j ++ more else bytes_in old j))
+    (length new ≡ length old)
+    × ((j : ℕ) → bytes_in new j
+    ≡ (if j == section then bytes_in old j ++ more else bytes_in old j))
 
 -- the word of an instruction, if there is one
 abbrev pub word_of : Option Inst → List ℕ
@@ -191,7 +197,8 @@ abbrev pub value_at : Tables → Located → Expression → values.Value
 value_at t s e = value t true s.ordinal (place_of s) e
 
 abbrev pub section_code : Tables → ℕ → List Located → List ℕ
-section_code t section ss = flat_map (λ s. code_said (value_at t s) s.kind) (filter (λ s. section == s.section) ss)
+section_code t section ss =
+    flat_map (λ s. code_said (value_at t s) s.kind) (filter (λ s. section == s.section) ss)
 
 -- a section of code that is too long, at a line
 abbrev pub full_fault : Option ℕ → Option Fault

@@ -1,15 +1,19 @@
 -- What a scope gives the statement that is next.
 
-use Rattle.std.specs.Prelude.{ℕ, ◌+◌, Bool, true, List}
+use Rattle.std.specs.Prelude.{◌≡◌, ℕ, ◌+◌, Bool, true, List, Result}
 use Rattle.rv_text_laws.specs.Expression.{Primary}
 use Rattle.rv_text_laws.specs.Values as values
+use Rattle.rv_lexer.specs.declared.fault.SourceFault.{SourceFault}
+use Rattle.rv_text.specs.declared.evaluation.Value.{Value}
+use Rattle.rv_text.specs.Eval.{IsOutcome}
 use Rattle.rv_statement.specs.Statement.{StatementKind, Expression}
 use Rattle.rv_unit_laws.specs.Options.{Options}
-use Rattle.rv_unit_laws.specs.Tables.{tables, value}
+use Rattle.rv_unit_laws.specs.Tables.{tables, value, stood}
 use Rattle.rv_tables.specs.declared.section_offset.SectionOffset.{SectionOffset}
 use Rattle.rv_tables.specs.Sections.{offset_of}
 use Rattle.rv_unit.specs.declared.scope.Scope.{Scope}
-use Rattle.rv_unit.specs.Unit.{said}
+use Rattle.rv_unit.specs.Unit.{said, passed, IsFilled, IsScope}
+use Rattle.rv_source_laws.specs.Located.{is_placed}
 use Rattle.rv_chain_laws.specs.InstructionFaults.{is_label}
 use Rattle.rv_chain_laws.specs.Refusals.{code_faults}
 
@@ -26,3 +30,22 @@ labels_at scope index q = is_label (tables (said scope.unit.now)) (index + 1) q
 abbrev pub faults_at : Scope → ℕ → SectionOffset → Options → Bool → StatementKind → List ℕ
 faults_at scope index place options executable kind =
     code_faults options executable (values_at scope index place) (labels_at scope index) kind
+
+-- ---- what is said of that statement, and of a value
+
+-- of the index from 0 of the statement that is next
+abbrev pub AtNext : Scope → (ℕ → Type 0) → Type 0
+AtNext scope P = (index : ℕ) → IsFilled scope.unit.now → IsScope scope index → P index
+
+-- the statement at this index, which says this, stands at this offset
+abbrev pub StandsHere : Scope → ℕ → SectionOffset → StatementKind → Type 0
+StandsHere scope index place kind =
+    offset_of place ≡ stood (passed (said scope.unit.now) index) (index + 1) kind
+
+-- whether it has a row where its section is loaded
+abbrev pub is_placed_at : Scope → ℕ → StatementKind → Bool
+is_placed_at scope index kind = is_placed (passed (said scope.unit.now) index) (index + 1) kind
+
+-- of each value that a result at a line stands for
+abbrev pub ForValue : Result Value SourceFault → ℕ → (values.Value → Type 0) → Type 0
+ForValue result line P = (v : values.Value) → IsOutcome result line v → P v

@@ -31,7 +31,8 @@ use std::alloc::{AllocError, Global};
 fn put(sections: &mut [Vec<u8>], section: u32, inst: Inst) -> Result<(), AllocError>
     requires valid { IsValid inst }
     requires section { section < length sections.old }
-    ensures { IfOk result (λ _. GrowsBy sections.old sections.new section (words (Some (inst ∷ [])))) }
+    ensures { IfOk result
+        (λ _. GrowsBy sections.old sections.new section (words (Some (inst ∷ [])))) }
 {
     let word = encode(inst).to_le_bytes();
     sections[section as usize].extend_from_slice(word.as_slice())
@@ -95,7 +96,8 @@ impl Coder {
     #[tactic(auto, using(crate::proofs::SoFar::begun))]
     pub(crate) fn new(alloc: Global, sections: usize) -> Result<Self, AllocError>
         ensures count { IfOk result (λ c. length c.sections.items ≡ sections) }
-        ensures begun { IfOk result (λ c. (t : Tables) (all : List Located) → IsCodeSoFar t all all c) }
+        ensures begun { IfOk result (λ c. (t : Tables) (all : List Located)
+            → IsCodeSoFar t all all c) }
     {
         Ok(Coder {
             sections: empty_sections(alloc, sections)?,
@@ -106,8 +108,10 @@ impl Coder {
     /// The bytes of each section after the last statement, where none is too long.
     #[tactic(auto, using(crate::proofs::SoFar::whole_code, crate::proofs::SoFar::whole_sizes))]
     pub(crate) fn finish(self) -> Result<Vec<Vec<u8>>, SourceFault>
-        ensures count { IfOk result (λ sections. length sections.items ≡ length self.sections.items) }
-        ensures code { (t : Tables) (all : List Located) → IsCodeSoFar t all [] self → IsCode t all result }
+        ensures count { IfOk result
+            (λ sections. length sections.items ≡ length self.sections.items) }
+        ensures code { (t : Tables) (all : List Located) → IsCodeSoFar t all [] self
+            → IsCode t all result }
     {
         match self.full {
             Some(line) => Err(SourceFault::At {
@@ -166,7 +170,8 @@ impl Coder {
 /// The code of each section of a unit.
 pub(crate) fn code(alloc: Global, unit: &Unit<'_>) -> Result<Vec<Vec<u8>>, SourceFault>
     requires { IsFilled unit.now }
-    ensures count { IfOk result (λ sections. length sections.items ≡ length (unit.now).tables.extents.items) }
+    ensures count { IfOk result
+        (λ sections. length sections.items ≡ length (unit.now).tables.extents.items) }
     ensures code { IsSourceCode (said unit.now) result }
     ensures coded { IfOk result (λ _. AreCoded (said unit.now)) }
 {

@@ -39,7 +39,8 @@ use rv_unit::{Scope, SectionOffset, byte_alignment, power_alignment};
 
 /// The immediate of 12 bits that a number is, or why it is none.
 fn immediate(number: u64) -> Result<i32, SourceCode>
-    ensures { MatchResult result (λ i. (is_some (fits_12 number) ≡ true) × (i ≡ laws.signed number) × IsSigned12 i) (λ code. (is_some (fits_12 number) ≡ false) × (code ≡ ImmediateRange)) }
+    ensures { MatchResult result (λ i. (is_some (fits_12 number) ≡ true) × (i ≡ laws.signed number)
+        × IsSigned12 i) (λ code. (is_some (fits_12 number) ≡ false) × (code ≡ ImmediateRange)) }
 {
     match immediate_of(number) {
         Some(immediate) => Ok(immediate),
@@ -106,7 +107,8 @@ fn with_immediate(
     rs1: Reg,
     number: u64,
 ) -> Result<Inst, SourceCode>
-    ensures { InRange (is_some (fits_12 number)) (Some (of_immediate operation (laws.i_type rd rs1 number))) result }
+    ensures { InRange (is_some (fits_12 number))
+        (Some (of_immediate operation (laws.i_type rd rs1 number))) result }
 {
     let immediate = immediate(number)?;
     Ok(operation.instruction(IType { immediate, rd, rs1 }))
@@ -119,7 +121,8 @@ fn with_constant(
     rs1: Reg,
     number: u64,
 ) -> Result<Inst, SourceCode>
-    ensures { InRange (form_takes (syntax.with_constant operation) number) (laws.by_constant (syntax.with_constant operation) rd rs1 number) result }
+    ensures { InRange (form_takes (syntax.with_constant operation) number)
+        (laws.by_constant (syntax.with_constant operation) rd rs1 number) result }
 {
     match operation {
         RegisterOperation::Add => with_immediate(ImmediateOperation::Addi, rd, rs1, number),
@@ -142,7 +145,8 @@ fn with_constant(
 
 /// A load at a number from a register.
 fn load(operation: LoadOperation, rd: Reg, rs1: Reg, number: u64) -> Result<Inst, SourceCode>
-    ensures { InRange (is_some (fits_12 number)) (Some (of_load operation (laws.i_type rd rs1 number))) result }
+    ensures { InRange (is_some (fits_12 number))
+        (Some (of_load operation (laws.i_type rd rs1 number))) result }
 {
     let immediate = immediate(number)?;
     Ok(operation.instruction(IType { immediate, rd, rs1 }))
@@ -150,7 +154,8 @@ fn load(operation: LoadOperation, rd: Reg, rs1: Reg, number: u64) -> Result<Inst
 
 /// A store at a number from a register.
 fn store(operation: StoreOperation, rs2: Reg, rs1: Reg, number: u64) -> Result<Inst, SourceCode>
-    ensures { InRange (is_some (fits_12 number)) (Some (of_store operation (laws.s_type rs2 rs1 number))) result }
+    ensures { InRange (is_some (fits_12 number))
+        (Some (of_store operation (laws.s_type rs2 rs1 number))) result }
 {
     let immediate = immediate(number)?;
     Ok(operation.instruction(SType {
