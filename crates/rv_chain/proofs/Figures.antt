@@ -17,7 +17,7 @@ use Rattle.rv_statement.specs.declared.statement.Plain.{Plain}
 use Rattle.rv_statement.specs.declared.statement.Plain.TheVariants as plains
 use Rattle.rv_statement.specs.declared.statement.StatementKind.{StatementKind}
 use Rattle.rv_statement.specs.declared.statement.StatementKind.TheVariants as kinds
-use Rattle.rv_unit_laws.specs.Sections.{Section}
+use Rattle.rv_unit_laws.specs.Sections.{Section, is_nobits}
 use Rattle.rv_source_laws.specs.Program.{resolved, expressions}
 use Rattle.rv_source_laws.specs.Fits.{is_constant}
 use Rattle.rv_source_laws.specs.Start.{little_endian}
@@ -84,7 +84,7 @@ module _ (a : Primary → Option ℕ) (f : Expression → Value) (home : Section
 
   -- the values of a section that has its bytes in the file
   abbrev pub HasNumbers : SpecKind → Type 0
-  HasNumbers says = home.nobits ≡ false → (w : ℕ) (vs : List Expression) → says ≡ Directs (Values w vs) → list_all (λ e. is_some (resolved a (f e))) vs ≡ true
+  HasNumbers says = is_nobits home ≡ false → (w : ℕ) (vs : List Expression) → says ≡ Directs (Values w vs) → list_all (λ e. is_some (resolved a (f e))) vs ≡ true
 
   directive_valued : (d : Directive) → DirectiveHeld home d → IsSizedDirective f false x begins d → HasNumbers (Directs d)
       → list_all (λ e. is_some (resolved a (f e))) (expressions (Directs d)) ≡ true

@@ -8,7 +8,8 @@ use Rattle.rv_statement.specs.declared.statement.Statement.{Statement}
 use Rattle.rv_statement.specs.Statement.{Statement as SpecStatement}
 use Rattle.rv_statement.specs.View.{statement_of}
 use Rattle.rv_unit_laws.specs.Sections.{Section, goes_to_text}
-use Rattle.rv_unit_laws.specs.Tables.{Tables, tables, aligned}
+use Rattle.rv_unit_laws.specs.Bindings.{is_global}
+use Rattle.rv_unit_laws.specs.Tables.{Tables, tables, aligned, binding_of}
 use Rattle.rv_unit_laws.specs.Faults.{first_fault}
 use Rattle.rv_unit.specs.declared.unit.Unit.{Unit as SourceUnit}
 use Rattle.rv_tables.specs.Sections.{extent_section}
@@ -18,7 +19,6 @@ use Rattle.rv_map.specs.declared.map.Row.{Row}
 use Rattle.rv_image.specs.Linked.{Linked}
 use Rattle.rv_chain_laws.specs.Contents.{IsLinked}
 use Rattle.rv_chain_laws.specs.Refusals.{code_fault}
-use Rattle.rv_source_laws.specs.Resolves.{is_global_after}
 use Rattle.rv_source_laws.specs.Program.{program}
 use Rattle.rv_source_laws.specs.Located.{located}
 use Rattle.rv_chain_laws.proofs.LaidOut.{AreRegions}
@@ -32,7 +32,6 @@ use Rattle.rv_link_laws.specs.Layout.{IsLayout, goes, end_behind, end_of, starte
 use Rattle.rv_link_laws.specs.declared.item.Item.{Item}
 use Rattle.rv_link_laws.specs.Contents.{contents_of}
 use Rattle.rv_link_laws.specs.Definitions.{entry_from}
-use Rattle.rv_link.specs.Globals.{NameSet, Has, AreGlobals}
 use Rattle.rv_link_laws.specs.Rows.{rows_from}
 use Rattle.rv_link.proofs.Placed.{one_or_more}
 use Rattle.rv_link_laws.specs.Bytes.{AreEach}
@@ -192,13 +191,13 @@ whole ss start entry x globals texts figures text rodata variables m rvc text_is
           (subst (λ n. (n.text.end - n.text.start) + (n.rodata.end - n.rodata.start) + (n.bss.end - n.data.start) ≤ 2 ^ 28) (sym map_is) lies.memory);
     }
 
-pub made : PlacedLinks → PlacedNames → (u : SourceUnit) (start entry : ℕ) (x : Placed) (globals globals_now : List Global) (set : NameSet) (texts texts_now figures figures_now : List (Vec ℕ))
-    (statements : List Statement) (starts : List ℕ) (items : List Item) (rows : List Row) (text rodata variables : List ℕ) (m : Map) (rvc : Bool)
+pub made : PlacedLinks → PlacedNames → (u : SourceUnit) (start entry : ℕ) (x : Placed) (globals globals_now : List Global) (texts texts_now figures figures_now : List (Vec ℕ))
+    (starts : List ℕ) (items : List Item) (rows : List Row) (text rodata variables : List ℕ) (m : Map) (rvc : Bool)
     → IsFilled u → first_fault (said u) ≡ None → code_fault (said u) ≡ None → start % 4096 ≡ 0 → StandsFrom (said u) start x → AreCoded (said u)
     → ((j : ℕ) → bytes_in texts j ≡ section_code (tables (said u)) j (located (said u ∷ []))) → length texts ≡ length u.tables.extents.items
-    → statements ≡ u.statements.items → starts ≡ x.layout.starts.items → items ≡ x.items.items → texts_now ≡ texts → figures_now ≡ figures → globals_now ≡ globals
-    → AreGlobals set (map statement_of statements) → AreNamed (said u) x globals
-    → ((test : List ℕ → Bool) → Has set test → test (codes "_start") ≡ true) → entry_from starts (map statement_of statements) items ≡ Some entry → entry % 2 ≡ 0
+    → starts ≡ x.layout.starts.items → items ≡ x.items.items → texts_now ≡ texts → figures_now ≡ figures → globals_now ≡ globals
+    → AreNamed (said u) x globals
+    → is_global (binding_of (said u) (codes "_start")) ≡ true → entry_from starts (said u) items ≡ Some entry → entry % 2 ≡ 0
     → GivesData (said u) x.layout.starts.items x.items.items globals_now (map (λ b. b.items) figures)
     → rows ≡ rows_from 1 starts 1 items
     → text ≡ contents_of Text x.layout.text.start x.pieces.items x.layout.starts.items (map (λ b. b.items) texts_now)
@@ -206,15 +205,12 @@ pub made : PlacedLinks → PlacedNames → (u : SourceUnit) (start entry : ℕ) 
     → variables ≡ contents_of Data x.layout.data.start x.pieces.items x.layout.starts.items (map (λ b. b.items) figures_now)
     → m ≡ map_of x.layout entry globals rows
     → IsWhole (said u) start (record { text = text; rodata = rodata; «data» = variables; map = m; rvc = rvc })
-made links resolves u start entry x globals globals_now set texts texts_now figures figures_now statements starts items rows text rodata variables m rvc
-    filled good placed page stands coded code count statements_are starts_are items_are texts_are figures_are globals_are
-    has named global begins even gives rows_are text_is rodata_is variables_is map_is =
+made links resolves u start entry x globals globals_now texts texts_now figures figures_now starts items rows text rodata variables m rvc
+    filled good placed page stands coded code count starts_are items_are texts_are figures_are globals_are
+    named global begins even gives rows_are text_is rodata_is variables_is map_is =
     let ss = said u in
-    let said_are : map statement_of statements ≡ ss = ap (λ l. map statement_of l) statements_are in
-    let test : List ℕ → Bool = λ name. is_global_after false ss name in
-    let starts_global : test (codes "_start") ≡ true = global test (subst (λ l. AreGlobals set l) said_are has) in
     let entered : entry_from x.layout.starts.items ss x.items.items ≡ Some entry =
-    sym (ap (λ s. entry_from s (map statement_of statements) items) starts_are ∙ ap (λ l. entry_from x.layout.starts.items l items) said_are ∙ ap (λ i. entry_from x.layout.starts.items ss i) items_are) ∙ begins in
+    sym (ap (λ s. entry_from s ss items) starts_are ∙ ap (λ i. entry_from x.layout.starts.items ss i) items_are) ∙ begins in
     let rows_from_items : rows ≡ rows_from 1 x.layout.starts.items 1 x.items.items =
     rows_are ∙ ap (λ s. rows_from 1 s 1 items) starts_are ∙ ap (λ i. rows_from 1 x.layout.starts.items 1 i) items_are in
     let figures_hold : GivesData ss x.layout.starts.items x.items.items globals (map (λ b. b.items) figures) =
@@ -224,5 +220,5 @@ made links resolves u start entry x globals globals_now set texts texts_now figu
     (rodata_is ∙ ap (λ (l : List (Vec ℕ)). contents_of Rodata x.layout.rodata.start x.pieces.items x.layout.starts.items (map (λ b. b.items) l)) figures_are)
     (variables_is ∙ ap (λ (l : List (Vec ℕ)). contents_of Data x.layout.data.start x.pieces.items x.layout.starts.items (map (λ b. b.items) l)) figures_are)
     (map_is ∙ ap (λ r. map_of x.layout entry globals r) rows_from_items) stands.lies
-    (linked_from links resolves ss start entry x globals texts figures rvc good placed page stands coded code (count ∙ sym (sections_count u filled)) named (starts_global, entered, even)
+    (linked_from links resolves ss start entry x globals texts figures rvc good placed page stands coded code (count ∙ sym (sections_count u filled)) named (global, entered, even)
     (figures_hold stands.last (map_from x entry globals) stands.items stands.sized refl refl))

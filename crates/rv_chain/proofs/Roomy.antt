@@ -7,7 +7,7 @@ use Rattle.std.proofs.lemmas.Nat.{le-div}
 use Rattle.std.specs.Prelude.{IfErr, Result, Ok, Err, not, flat_map, slice_index_or, if◌then◌else◌}
 use Rattle.rv_text_laws.specs.Values.{Value, Constant, Symbolic, Difference, Faulty}
 use Rattle.rv_statement.specs.Statement.{StatementKind, Label, Numbered, Instruction, Directs, Expression, Directive, Sets, Aligns_to_power, Aligns_to_bytes, Values, Strings, Zeros}
-use Rattle.rv_unit_laws.specs.Sections.{Section, current_section}
+use Rattle.rv_unit_laws.specs.Sections.{Section, is_nobits, current_section}
 use Rattle.rv_unit_laws.specs.Tables.{Tables, here, value, aligned, alignment_of, power_alignment, byte_alignment, counted, or_none, within, padding, data_bytes, string_bytes, longest_section, after}
 use Rattle.rv_unit_laws.specs.Faults.{faulty_if, size_faults, power_faults, bytes_faults, value_faults, code_alignment_faults, past_section, alignment_faults, directive_faults, faults}
 use Rattle.rv_unit_laws.proofs.Grown.{BeginsAt, IsGrown, puts, end_behind}
@@ -156,13 +156,13 @@ module _ (all t : Tables) (k begins offset : ℕ) (low : offset ≤ longest_sect
   padding_fits : (alignment : Option ℕ) → home.executable ≡ false → alignment_faults home (here t).offset alignment ≡ [] → (here t).offset + padding alignment (here t).offset ≤ longest_section
   padding_fits alignment other none =
       past_fits false (here t).offset (padding alignment (here t).offset) refl
-      (sym (ap (λ c. if c then code_alignment_faults home.nobits alignment else past_section false (here t).offset (padding alignment (here t).offset)) other) ∙ none)
+      (sym (ap (λ c. if c then code_alignment_faults (is_nobits home) alignment else past_section false (here t).offset (padding alignment (here t).offset)) other) ∙ none)
 
   values_here : (width : ℕ) (values : List Expression) → directive_faults all t k (Values width values) ≡ [] → Here (Directs (Values width values))
   values_here width values none =
-      let later = none_left (flat_map (λ e. value_faults width (value all true k (here t) e)) values) (faulty_if (home.executable || home.nobits) 15 ++ past_section home.executable (here t).offset (width * length values)) none in
-      let last = none_left (faulty_if (home.executable || home.nobits) 15) (past_section home.executable (here t).offset (width * length values)) later.1 in
-      let other = first_false home.executable home.nobits (no_test (home.executable || home.nobits) 15 last.0) in
+      let later = none_left (flat_map (λ e. value_faults width (value all true k (here t) e)) values) (faulty_if (home.executable || is_nobits home) 15 ++ past_section home.executable (here t).offset (width * length values)) none in
+      let last = none_left (faulty_if (home.executable || is_nobits home) 15) (past_section home.executable (here t).offset (width * length values)) later.1 in
+      let other = first_false home.executable (is_nobits home) (no_test (home.executable || is_nobits home) 15 last.0) in
       let fits = past_fits home.executable (here t).offset (width * length values) other last.1 in
       let less = before other in
       put_here (Values width values) other refl (omega (arith, fits)) fits (λ n h. omega (arith, h, less))
@@ -170,8 +170,8 @@ module _ (all t : Tables) (k begins offset : ℕ) (low : offset ≤ longest_sect
   strings_here : (ended : Bool) (strings : List (List ℕ)) → directive_faults all t k (Strings ended strings) ≡ [] → Here (Directs (Strings ended strings))
   strings_here ended strings none =
       let count = length (string_bytes ended strings) in
-      let last = none_left (faulty_if (home.executable || home.nobits) 15) (past_section home.executable (here t).offset count) none in
-      let other = first_false home.executable home.nobits (no_test (home.executable || home.nobits) 15 last.0) in
+      let last = none_left (faulty_if (home.executable || is_nobits home) 15) (past_section home.executable (here t).offset count) none in
+      let other = first_false home.executable (is_nobits home) (no_test (home.executable || is_nobits home) 15 last.0) in
       let fits = past_fits home.executable (here t).offset count other last.1 in
       let less = before other in
       put_here (Strings ended strings) other refl (omega (arith, fits)) fits (λ n h. omega (arith, h, less))
@@ -281,6 +281,6 @@ module _ (all t : Tables) (k begins offset : ℕ) (low : offset ≤ longest_sect
   statement_here (Label name) placed multiples more fits none lows = none_here (Label name) tt (λ n h. h) more
   statement_here (Numbered number) placed multiples more fits none lows = none_here (Numbered number) tt (λ n h. h) more
   statement_here (Instruction mnemonic operands) placed multiples more fits none lows =
-      let code = not_false home.executable (first_false (not home.executable) home.nobits (no_test (not home.executable || home.nobits) 15 none)) in
+      let code = not_false home.executable (first_false (not home.executable) (is_nobits home) (no_test (not home.executable || is_nobits home) 15 none)) in
       instruction_here (Instruction mnemonic operands) tt (λ n h. h) code (fits code)
   statement_here (Directs d) placed multiples more fits none lows = directive_here d placed (multiples d refl) more none (lows d refl)

@@ -9,7 +9,7 @@ use Rattle.std.proofs.lemmas.List.{append_cancel_left}
 use Rattle.rv_map.specs.Map.{Map, Global}
 use Rattle.rv_text_laws.specs.Values.{Value}
 use Rattle.rv_statement.specs.Statement.{Directs, Zeros, Values, Statement, Expression}
-use Rattle.rv_unit_laws.specs.Sections.{Section, text_section, section_at, goes_to_rodata, goes_to_data}
+use Rattle.rv_unit_laws.specs.Sections.{Section, is_nobits, text_section, section_at, goes_to_rodata, goes_to_data}
 use Rattle.rv_unit_laws.specs.Tables.{Tables, SectionOffset as Standing, at_start, after, after_all, tables, stood, definition as home_in, value as value_in_file}
 use Rattle.rv_unit_laws.specs.Faults.{first_fault}
 use Rattle.rv_tables.specs.Sections.{offset_of}
@@ -255,7 +255,7 @@ module _ (ss : List Statement) (starts : List ℕ) (is : List Item) (globals : L
       valued_says (λ a. address q st a) form_of st.home x (slice_index_or (tables ss).alignments x.section 1) s.kind e (held_left ss i s good h.here)
       (subst (λ b. IsSized form_of b x (slice_index_or (tables ss).alignments x.section 1) s.kind) e (sized_here shown))
       (λ nobits w vs same.
-      let filled : is_filled st.home ≡ true = ap (λ b. not b && not st.home.nobits) e ∙ ap not nobits in
+      let filled : is_filled st.home ≡ true = ap (λ b. not b && not (is_nobits st.home)) e ∙ ap not nobits in
       let figure : is_figure x st.home ≡ true = ap (λ b. b && is_filled st.home) shown ∙ filled in
       all_told w (λ a. value q site a) vs (h.wide w vs same)
       (subst (λ t. spelled_said (or_else 0) t x.bytes ≡ spelled_said (or_else 1) t x.bytes) same (spelled_same figure)))
@@ -292,7 +292,7 @@ each_of (h ∷ hs) [] e = absurd (omega (arith, e))
 each_of (h ∷ hs) (x ∷ xs) e = let rest : length xs ≡ length hs = omega (arith, e) in each_of hs xs rest
 
 filled_constant : (home : Section) → goes_to_rodata home ≡ true → is_filled home ≡ true
-filled_constant home e = go home.loaded home.executable home.nobits home.writable e
+filled_constant home e = go home.loaded home.executable (is_nobits home) home.writable e
   where
     go : (l x n w : Bool) → (l && not x && not n && not w) ≡ true → (not x && not n) ≡ true
     go true false false w e = refl
@@ -301,7 +301,7 @@ filled_constant home e = go home.loaded home.executable home.nobits home.writabl
     go true false true w e = absurd (cc)
 
 filled_variable : (home : Section) → goes_to_data home ≡ true → is_filled home ≡ true
-filled_variable home e = go home.loaded home.executable home.nobits home.writable e
+filled_variable home e = go home.loaded home.executable (is_nobits home) home.writable e
   where
     go : (l x n w : Bool) → (l && not x && not n && w) ≡ true → (not x && not n) ≡ true
     go true false false w e = refl

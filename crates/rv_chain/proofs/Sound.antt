@@ -5,7 +5,7 @@ use Rattle.std.specs.Prelude.{⊤, ◌&&◌, not, flat_map}
 use Rattle.std.specs.List.{AllByRecursion}
 use Rattle.rv_text_laws.specs.Values.{Value, Constant, Symbolic, Difference, Faulty}
 use Rattle.rv_statement.specs.Statement.{StatementKind, Label, Numbered, Instruction, Directs, Statement, Expression, Directive, Values}
-use Rattle.rv_unit_laws.specs.Sections.{current_section}
+use Rattle.rv_unit_laws.specs.Sections.{is_nobits, current_section}
 use Rattle.rv_unit_laws.specs.Tables.{Tables, at_start, here, value, alignment_of, after, after_all, tables, stood}
 use Rattle.rv_unit_laws.specs.Faults.{faulty_if, value_faults, past_section, directive_faults, faults, lowest, first_fault_from, first_fault}
 use Rattle.rv_unit.specs.Unit.{passed}
@@ -65,7 +65,7 @@ directive_values : (all t : Tables) (k : ℕ) (d : Directive) → directive_faul
 directive_values all t k (Values width values) e =
     all_values width (λ x. value all true k (here t) x) values
     (none_left (flat_map (λ x. value_faults width (value all true k (here t) x)) values)
-    (faulty_if ((current_section t.opened).executable || (current_section t.opened).nobits) 15 ++ past_section (current_section t.opened).executable (here t).offset (width * length values)) e).0
+    (faulty_if ((current_section t.opened).executable || is_nobits (current_section t.opened)) 15 ++ past_section (current_section t.opened).executable (here t).offset (width * length values)) e).0
 directive_values all t k _ e = tt
 
 statement_values : (all t : Tables) (k : ℕ) (says : StatementKind) → faults all t k says ≡ [] → AllByRecursion (λ e. HasValue (value all true k (stood t k says) e)) (data_values says)

@@ -5,7 +5,7 @@ use Rattle.std.proofs.Math.Nat.{mul-mod_left, mul_assoc}
 use Rattle.std.proofs.lemmas.Nat.{div-add-mod', pow_pos}
 use Rattle.std.specs.Prelude.{◌&&◌, if◌then◌else◌, slice_index, slice_index_or, slice_get}
 use Rattle.rv_statement.specs.Statement.{Statement}
-use Rattle.rv_unit_laws.specs.Sections.{Section}
+use Rattle.rv_unit_laws.specs.Sections.{Section, is_nobits}
 use Rattle.rv_unit_laws.specs.Tables.{Tables, tables, aligned}
 use Rattle.rv_unit_laws.proofs.Grown.{grown_all}
 use Rattle.rv_source_laws.specs.Fits.{begins_at}
@@ -63,15 +63,13 @@ multiple_behind (Some b) a stop (some, h) = (some, multiple_of b a ((stop + (a -
 abbrev Region : Section → Type 0
 Region home = (to : Destination) × (is_bound_for to NotLoaded ≡ false) × (goes_to to home ≡ true)
 
-region_by : (l x n w : Bool) (name : List ℕ) → l ≡ true → x ≡ false → Region (record { name = name; loaded = l; executable = x; writable = w; nobits = n })
-region_by true true n w name e f = absurd (cc)
-region_by true false true w name e f = (Bss, refl, refl)
-region_by true false false true name e f = (Data, refl, refl)
-region_by true false false false name e f = (Rodata, refl, refl)
-region_by false x n w name e f = absurd (cc)
+region_by : (home : Section) (n w : Bool) → home.loaded ≡ true → home.executable ≡ false → is_nobits home ≡ n → home.writable ≡ w → Region home
+region_by home true w l x n e = (Bss, refl, rw (l, x, n) refl)
+region_by home false true l x n w = (Data, refl, rw (l, x, n, w) refl)
+region_by home false false l x n w = (Rodata, refl, rw (l, x, n, w) refl)
 
 region : (home : Section) → home.loaded ≡ true → home.executable ≡ false → Region home
-region home e f = region_by home.loaded home.executable home.nobits home.writable home.name e f
+region home e f = region_by home (is_nobits home) home.writable e f refl refl
 
 no_code : (l x : Bool) → x ≡ false → (l && x) ≡ false
 no_code true x e = e

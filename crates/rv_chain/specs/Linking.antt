@@ -3,10 +3,11 @@
 use Rattle.std.specs.Prelude.{◌≡◌, ℕ, ◌%◌, Bool, true, false, List, [], ◌++◌, filter, map, not, Some, codes}
 use Rattle.std.specs.Global.{Vec}
 use Rattle.rv_statement.specs.Statement.{Statement}
-use Rattle.rv_unit_laws.specs.Tables.{tables, at_start}
+use Rattle.rv_unit_laws.specs.Bindings.{is_global}
+use Rattle.rv_unit_laws.specs.Tables.{tables, at_start, binding_of}
 use Rattle.rv_map.specs.Map.{Map, Global}
 use Rattle.rv_image.specs.Linked.{Linked}
-use Rattle.rv_source_laws.specs.Resolves.{is_one_of, is_global_after, linker_symbols}
+use Rattle.rv_source_laws.specs.Resolves.{is_one_of, linker_symbols}
 use Rattle.rv_link_laws.specs.declared.piece.Destination.TheVariants.{Text, Rodata, Data}
 use Rattle.rv_link_laws.specs.Contents.{contents_of}
 use Rattle.rv_link_laws.specs.Definitions.{names_from, definitions_from, entry_from}
@@ -33,9 +34,8 @@ map_from x entry globals = map_of x.layout entry globals (rows_from 1 x.layout.s
 -- the names that the map shows: those that the source makes global, and the linker's that it leaves
 abbrev pub shown_names : List Statement → Placed → List Global
 shown_names ss x =
-    let is_global = λ (name : List ℕ). is_global_after false ss name in
-    definitions_from is_global (tables ss) x.layout.starts.items x.items.items 1 ss x.items.items
-    ++ filter (λ g. not (is_one_of (names_from is_global (tables ss) 1 ss) g.name)) (linker_symbols (map_from x 0 []))
+    definitions_from (tables ss) x.layout.starts.items x.items.items 1 ss x.items.items
+    ++ filter (λ g. not (is_one_of (names_from (tables ss) 1 ss) g.name)) (linker_symbols (map_from x 0 []))
 
 abbrev pub AreNamed : List Statement → Placed → List Global → Type 0
 AreNamed ss x globals = globals ≡ shown_names ss x
@@ -43,7 +43,7 @@ AreNamed ss x globals = globals ≡ shown_names ss x
 -- a run begins at the global label `_start`, at an even place
 abbrev pub Begins : List Statement → Placed → ℕ → Type 0
 Begins ss x entry =
-    (is_global_after false ss (codes "_start") ≡ true) × (entry_from x.layout.starts.items ss x.items.items ≡ Some entry) × (entry % 2 ≡ 0)
+    (is_global (binding_of ss (codes "_start")) ≡ true) × (entry_from x.layout.starts.items ss x.items.items ≡ Some entry) × (entry % 2 ≡ 0)
 
 -- the program: each region has the bytes of its sections, which are code or data
 abbrev pub program_from : Placed → ℕ → List Global → List (Vec ℕ) → List (Vec ℕ) → Bool → Linked

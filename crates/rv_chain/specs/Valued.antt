@@ -4,7 +4,7 @@ use Rattle.std.specs.Prelude.{◌≡◌, ℕ, suc, Bool, true, false, not, ◌&&
 use Rattle.std.specs.Global.{Vec}
 use Rattle.rv_map.specs.Map.{Map, Global}
 use Rattle.rv_statement.specs.Statement.{StatementKind, Expression, Statement}
-use Rattle.rv_unit_laws.specs.Sections.{Section, goes_to_rodata, goes_to_data}
+use Rattle.rv_unit_laws.specs.Sections.{Section, is_nobits, goes_to_rodata, goes_to_data}
 use Rattle.rv_unit_laws.specs.Tables.{Tables, at_start, after, tables}
 use Rattle.rv_source_laws.specs.Located.{located_now}
 use Rattle.rv_source_laws.specs.Program.{Program, program, has_values}
@@ -43,7 +43,7 @@ GivesData ss starts is globals figures =
 
 -- a section of data has its bytes in the file, or begins as zero
 abbrev pub is_filled : Section → Bool
-is_filled home = not home.executable && not home.nobits
+is_filled home = not home.executable && not (is_nobits home)
 
 -- a statement has a row in a section of data that has its bytes in the file
 abbrev pub is_figure : Item → Section → Bool

@@ -49,7 +49,7 @@ fn put_figure<'a>(
     ensures left { OnOk result (is_figure item (section_of section.entry) ≡ false → sections.new ≡ sections.old) }
     ensures count { length sections.new ≡ length sections.old }
 {
-    if !item.shown || section.executable || section.nobits {
+    if !item.shown || section.executable || section.is_nobits() {
         return Ok(());
     }
     put_bytes(sections, numbers.place.section, kind, item.bytes, numbers)

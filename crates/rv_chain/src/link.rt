@@ -11,7 +11,6 @@ ghost use Rattle.rv_chain_laws.specs.Contents.{IsLinked};
 ghost use Rattle.rv_chain_laws.specs.Refusals.{code_fault, size_fault};
 ghost use Rattle.rv_source_laws.specs.Compressed.{is_compressed};
 ghost use Rattle.rv_link_laws.specs.Contents.{contents_of};
-ghost use Rattle.rv_link.specs.Globals.{AreGlobals};
 ghost use Rattle.rv_link_laws.specs.Laws.{map_of};
 ghost use Rattle.rv_chain.specs.Fault.{IsOfLink};
 ghost use Rattle.rv_chain.specs.Valued.{GivesData};
@@ -27,8 +26,8 @@ use crate::placed::Placed;
 use crate::undefined::undefined;
 use rv_image::Linked;
 use rv_link::{
-    DataFault, Destination, Globals, Item, Layout, LayoutFault, Names, entry, global_definitions,
-    lay_out, put_symbols, region_bytes, statement_rows,
+    DataFault, Destination, Item, Layout, LayoutFault, Names, entry, global_definitions, lay_out,
+    put_symbols, region_bytes, statement_rows,
 };
 use rv_link_laws::{placed_links, placed_names};
 use rv_map::{Global as Defined, Map, Row};
@@ -47,16 +46,14 @@ pub(crate) fn link(alloc: Global, unit: &Unit<'_>, start: u64) -> Result<Linked,
     ensures flag { IfOk result (λ l. l.rvc ≡ is_compressed (said unit.now ∷ [])) }
 {
     let texts = code(alloc, unit)?;
-    let statements = unit.statements();
-    let globals = Globals::of(alloc, statements)?;
-    let placed = place(alloc, unit, &globals, start)?;
+    let placed = place(alloc, unit, start)?;
     let layout = &placed.layout;
     let starts = layout.starts.as_slice();
     let items = placed.items.as_slice();
-    let Some(entry) = entry(&globals, starts, statements, items) else {
+    let Some(entry) = entry(unit, starts, items) else {
         return Err(Fault::Link(LinkFault::EntryMissing));
     };
-    let names = names(alloc, unit, &globals, &placed)?;
+    let names = names(alloc, unit, &placed)?;
     let figures = figures(alloc, unit, &placed, names.as_slice())?;
     let rows = statement_rows(alloc, 1, starts, items)?;
     let rvc = has_compressed(unit);
@@ -89,7 +86,7 @@ pub(crate) fn link(alloc: Global, unit: &Unit<'_>, start: u64) -> Result<Linked,
 }
 
 /// Places a source's statements, and the sections that they fill, from an address on.
-fn place(alloc: Global, unit: &Unit<'_>, globals: &Globals<'_>, start: u64) -> Result<Placed, Fault>
+fn place(alloc: Global, unit: &Unit<'_>, start: u64) -> Result<Placed, Fault>
     requires { IsFilled unit.now }
     ensures stands { IfOk result (StandsFrom (said unit.now) start) }
     ensures items { IfOk result (λ x. length x.items.items ≡ length (unit.now).statements.items) }
@@ -108,7 +105,7 @@ fn place(alloc: Global, unit: &Unit<'_>, globals: &Globals<'_>, start: u64) -> R
         Ok(layout) => layout,
         Err(LayoutFault::OutOfMemory) => return Err(Fault::Memory),
         Err(LayoutFault::TooLarge) => {
-            return Err(Fault::Link(too_large(unit, globals, items.as_slice())));
+            return Err(Fault::Link(too_large(unit, items.as_slice())));
         }
     };
     Ok(Placed {
@@ -119,29 +116,23 @@ fn place(alloc: Global, unit: &Unit<'_>, globals: &Globals<'_>, start: u64) -> R
 }
 
 /// Why a program that is too large is refused: for its entry, where that is missing as well.
-fn too_large(unit: &Unit<'_>, globals: &Globals<'_>, items: &[Item]) -> LinkFault
+fn too_large(unit: &Unit<'_>, items: &[Item]) -> LinkFault
     requires { length items.now ≡ length (unit.now).statements.items }
 {
     // sections that start at 0 serve as well: all starts of code are even
-    match entry(globals, &[], unit.statements(), items) {
+    match entry(unit, &[], items) {
         Some(_) => LinkFault::ImageTooLarge,
         None => LinkFault::EntryMissing,
     }
 }
 
 /// The names of the program: those that the source makes global, and the linker's.
-fn names<'a>(
-    alloc: Global,
-    unit: &Unit<'a>,
-    globals: &Globals<'a>,
-    placed: &Placed,
-) -> Result<Vec<Defined>, Fault>
+fn names(alloc: Global, unit: &Unit<'_>, placed: &Placed) -> Result<Vec<Defined>, Fault>
     requires filled { IsFilled unit.now }
-    requires globals { AreGlobals (globals.now).set (said unit.now) }
     requires items { length (placed.now).items.items ≡ length (unit.now).statements.items }
     ensures { IfOk result (λ names. AreNamed (said unit.now) placed.now (map global_of names.items)) }
 {
-    let defined = Names::of(alloc, globals, unit)?;
+    let defined = Names::of(alloc, unit)?;
     let starts = placed.layout.starts.as_slice();
     let items = placed.items.as_slice();
     let mut names = global_definitions(alloc, &defined, starts, unit, items)?;

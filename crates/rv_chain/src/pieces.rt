@@ -19,7 +19,7 @@ fn destination(section: Section<'_>) -> Destination
         Destination::NotLoaded
     } else if section.executable {
         Destination::Text
-    } else if section.nobits {
+    } else if section.is_nobits() {
         Destination::Bss
     } else if section.writable {
         Destination::Data

@@ -17,7 +17,7 @@ use Rattle.rv_isa_laws.specs.Run.{fetch, Got}
 use Rattle.rv_statement.specs.Statement.{StatementKind, Label, Numbered, Instruction, Directs, Statement, Expression, Directive, Sets}
 use Rattle.rv_unit_laws.specs.Contributions.{Contribution, Nothing, Bytes, Zero_bytes, Alignment, contribution}
 use Rattle.rv_unit_laws.specs.Options.{Options}
-use Rattle.rv_unit_laws.specs.Sections.{Section, goes_to_text, goes_to_rodata, goes_to_data, goes_to_bss}
+use Rattle.rv_unit_laws.specs.Sections.{Section, is_nobits, goes_to_text, goes_to_rodata, goes_to_data, goes_to_bss}
 use Rattle.rv_unit_laws.specs.Tables.{Tables, tables, aligned}
 use Rattle.rv_map.specs.Map.{Map}
 use Rattle.rv_map.specs.declared.map.Row.{Row}
@@ -148,13 +148,13 @@ module _ (p : Program) (file ordinal section offset line : ℕ) (home : Section)
   statement_code (Directs directive) fits held e = directive_code directive fits held e
 
   -- a row without bytes in the file has zeros
-  contribution_zeros : (v : Expression → ℕ) (c : Contribution) → ContributionHeld home c → home.nobits ≡ true → (n : ℕ) → slice_index (spelled_contribution v c row.bytes) n ≡ 0
+  contribution_zeros : (v : Expression → ℕ) (c : Contribution) → ContributionHeld home c → is_nobits home ≡ true → (n : ℕ) → slice_index (spelled_contribution v c row.bytes) n ≡ 0
   contribution_zeros v Nothing held e n = refl
-  contribution_zeros v (Bytes contents) held e n = true_false home.nobits e held.1
+  contribution_zeros v (Bytes contents) held e n = true_false (is_nobits home) e held.1
   contribution_zeros v (Zero_bytes count) held e n = zero_index (v count) n
   contribution_zeros v (Alignment form value) held e n = zero_index row.bytes n
 
-  statement_zeros : (says : StatementKind) → IsHeld home says → home.nobits ≡ true → (n : ℕ) → slice_index (spelled p (at says)) n ≡ 0
+  statement_zeros : (says : StatementKind) → IsHeld home says → is_nobits home ≡ true → (n : ℕ) → slice_index (spelled p (at says)) n ≡ 0
   statement_zeros (Label name) held e n = refl
   statement_zeros (Numbered number) held e n = refl
   statement_zeros (Instruction mnemonic operands) held e n = refl
@@ -315,10 +315,10 @@ module _ (sources : List (List Statement)) (a : ℕ) (l : Linked) (h : IsLinked 
       (λ s fits good. statement_data p s.located.file s.located.ordinal s.located.section s.located.offset s.located.line s.located.home s.located.options s.located.placed s.row s.located.kind fits.0 fits.1 (none s.located.home good)) fitting)
 
   not_rodata : (s : Section) → goes_to_rodata s ≡ true → s.executable ≡ false
-  not_rodata s e = no_code_more s.loaded s.executable s.nobits (not s.writable) e
+  not_rodata s e = no_code_more s.loaded s.executable (is_nobits s) (not s.writable) e
 
   not_data : (s : Section) → goes_to_data s ≡ true → s.executable ≡ false
-  not_data s e = no_code_more s.loaded s.executable s.nobits s.writable e
+  not_data s e = no_code_more s.loaded s.executable (is_nobits s) s.writable e
 
   written_sized : (s : Mapped) → IsWritten p s → Sized (code_bytes p) s
   written_sized s (is, e, size) = ap (λ o. length (words o)) e ∙ words_length is ∙ sym size
@@ -447,7 +447,7 @@ module _ (sources : List (List Statement)) (a : ℕ) (l : Linked) (h : IsLinked 
     -- a row of the text holds its lines
     row_holds : (s : Mapped) → Whole s → is_in map_of.text s.row.address ≡ true → HoldsLines reader m p s
     row_holds s (home, (fits, (written, (tl, (th, (rl, (rh, (dl, (dh, bl))))))))) inside =
-        elim (all_goes s.located.home.loaded s.located.home.executable s.located.home.nobits s.located.home.writable home.1) [
+        elim (all_goes s.located.home.loaded s.located.home.executable (is_nobits s.located.home) s.located.home.writable home.1) [
           | inl good ↦
               let x = (and_parts s.located.home.loaded s.located.home.executable good).1 in
               let lie = tl good in
@@ -507,7 +507,7 @@ module _ (sources : List (List Statement)) (a : ℕ) (l : Linked) (h : IsLinked 
     row_spells : (s : Mapped) (x : ℕ) → Whole s → right_at map_of x Read ≡ true → is_within s.row.address (s.row.address + s.row.bytes) x ≡ true → m.byte x ≡ slice_index (spelled p s) (x - s.row.address)
     row_spells s x (home, (fits, (written, (tl, (th, (rl, (rh, (dl, (dh, bl))))))))) readable inside =
         let st = s.located in
-        elim (all_goes s.located.home.loaded s.located.home.executable s.located.home.nobits s.located.home.writable home.1) [
+        elim (all_goes s.located.home.loaded s.located.home.executable (is_nobits s.located.home) s.located.home.writable home.1) [
           | inl good ↦ true_false (right_at map_of x Read) readable (unreadable x (wider map_of.text.start map_of.text.end s.row.address (s.row.address + s.row.bytes) x (tl good).0 (tl good).1 inside))
           | inr other ↦ elim other [
             | inl good ↦ spelled_at s x (statement_data p s.located.file s.located.ordinal s.located.section s.located.offset s.located.line s.located.home s.located.options s.located.placed s.row s.located.kind fits.0 fits.1 (not_rodata s.located.home good)) (rh good) inside
@@ -517,7 +517,7 @@ module _ (sources : List (List Statement)) (a : ℕ) (l : Linked) (h : IsLinked 
                   let parts = within_parts map_of.bss.start map_of.bss.end x (wider map_of.bss.start map_of.bss.end s.row.address (s.row.address + s.row.bytes) x (bl good).0 (bl good).1 inside) in
                   let e1 = are_regions.bss_after in
                   bss_zero x (omega arith) parts.1
-                  ∙ sym (statement_zeros p s.located.file s.located.ordinal s.located.section s.located.offset s.located.line s.located.home s.located.options s.located.placed s.row s.located.kind fits.1 (no_stored s.located.home.loaded s.located.home.executable s.located.home.nobits good) (x - s.row.address))
+                  ∙ sym (statement_zeros p s.located.file s.located.ordinal s.located.section s.located.offset s.located.line s.located.home s.located.options s.located.placed s.row s.located.kind fits.1 (no_stored s.located.home.loaded s.located.home.executable (is_nobits s.located.home) good) (x - s.row.address))
             ]
           ]
         ]

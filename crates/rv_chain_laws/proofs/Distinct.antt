@@ -10,16 +10,17 @@ use Rattle.std.specs.Str.{bytes_eq}
 use Rattle.rv_text_laws.specs.Expression.{Literal, Symbol, Here, Reference}
 use Rattle.rv_text_laws.specs.Values.{Known, InSection, Open, Refused, Value, Constant, Symbolic, Difference, Faulty, add}
 use Rattle.rv_statement.specs.declared.directive.Choice.{Choice}
-use Rattle.rv_statement.specs.Statement.{StatementKind, Expression, Label, Numbered, Instruction, Directs, Statement, Directive, Enters, Opens, Sets, Chooses}
+use Rattle.rv_statement.specs.Statement.{StatementKind, Expression, Label, Numbered, Instruction, Directs, Statement, Directive, Enters, Opens, Globl, Local, Sets, Chooses}
 use Rattle.rv_unit_laws.specs.Contributions.{Contribution, Nothing, contribution}
 use Rattle.rv_unit_laws.specs.Sections.{Section, entered, current_section}
+use Rattle.rv_unit_laws.specs.Bindings.{is_global}
 use Rattle.rv_unit_laws.specs.Tables.{Tables, Labelled, Assignment, at_start, here, value, label_of, assigned_before, is_defined, has_location, may_set, assigned, with_assignment, with_section, with_contribution, with_choice, after_directive, after, after_all, tables}
 use Rattle.rv_unit_laws.specs.Faults.{faulty_if, lowest, constant_faults, set_faults, faults, first_fault_from, first_fault}
 use Rattle.rv_map.specs.Map.{Map}
 use Rattle.rv_map.specs.declared.map.Row.{Row}
 use Rattle.rv_source_laws.specs.Located.{Located, located_now, located_from, has_row}
 use Rattle.rv_source_laws.specs.Program.{MaybeMapped, Program, program, tables_in, first_of, statements_of}
-use Rattle.rv_source_laws.specs.Resolves.{is_one_of, AreDistinct, is_global_in, sets_first, defined_name, global_names_of, global_names}
+use Rattle.rv_source_laws.specs.Resolves.{is_one_of, AreDistinct, sets_first, defined_name, global_names_of, global_names}
 use Rattle.rv_chain_laws.proofs.Homes.{all_filter, all_map, all_join}
 use Rattle.rv_chain_laws.proofs.Held.{none_left, no_test, no_lowest, no_fault}
 
@@ -128,6 +129,8 @@ module _ (t : Tables) (k : ℕ) where
   directive_grows (Opens name flags kind) = section_grows _
   directive_grows (Sets name e) = given_grows name (value t false k (here t) e)
   directive_grows (Chooses choice) = choice_grows choice
+  directive_grows (Globl names) = same_grows k t _ refl refl
+  directive_grows (Local names) = same_grows k t _ refl refl
   directive_grows d = contribution_grows (value t false k (here t)) (contribution d)
 
   abbrev new_label : List ℕ → Labelled
@@ -325,13 +328,13 @@ module _ (ss : List Statement) (m : Map) where
   all = tables ss
 
   abbrev names_at : Located → List (List ℕ)
-  names_at s = global_names_of sources (tables_in p s.file) s
+  names_at s = global_names_of (tables_in p s.file) s
 
   abbrev names : ℕ → Tables → List Statement → List (List ℕ)
   names k t rest = flat_map names_at (located_from 1 k t rest)
 
-  abbrev is_global : List ℕ → Bool
-  is_global name = is_global_in sources 1 name
+  abbrev global : List ℕ → Bool
+  global name = is_global (all.bindings name)
 
   new_before : (k : ℕ) (t u : Tables) (n : List ℕ) → Grows k t u → IsNew (suc k) u n → IsNew k t n
   new_before k t u n g new = is_false (is_defined t k n) (λ old. not_both (is_defined u (suc k) n) (defined_more k t u n g old) new)
@@ -343,7 +346,7 @@ module _ (ss : List Statement) (m : Map) where
       let parts = no_fault s.line (lowest (faults all t k s.kind)) (first_fault_from all u (suc k) rest) e in
       let free : faults all t k s.kind ≡ [] = no_lowest (faults all t k s.kind) parts.0 in
       let here = is_new all t k s.kind free (subst (λ x. Since k t x) same (since t k (s ∷ rest))) in
-      all_join (IsNew k t) (names_at (located_now 1 k t s)) (names (suc k) u rest) (all_filter (IsNew k t) is_global (defined_name all k s.kind) here)
+      all_join (IsNew k t) (names_at (located_now 1 k t s)) (names (suc k) u rest) (all_filter (IsNew k t) global (defined_name all k s.kind) here)
       (all_map (IsNew (suc k) u) (IsNew k t) (names (suc k) u rest) (λ n new. new_before k t u n (after_grows t k s.kind) new) (all_new (suc k) u rest parts.1 same))
 
   all_distinct : (k : ℕ) (t : Tables) (rest : List Statement) → first_fault_from all t k rest ≡ None → after_all t k rest ≡ all → AreDistinct (names k t rest)
@@ -354,9 +357,9 @@ module _ (ss : List Statement) (m : Map) where
       let free : faults all t k s.kind ≡ [] = no_lowest (faults all t k s.kind) parts.0 in
       let here = is_old all t k s.kind free (subst (λ x. Since (suc k) u x) same (since u (suc k) rest)) in
       let later : AllByRecursion (IsNew (suc k) u) (names (suc k) u rest) = all_new (suc k) u rest parts.1 same in
-      distinct_join (names_at (located_now 1 k t s)) (names (suc k) u rest) (one_name is_global all k s.kind) (all_distinct (suc k) u rest parts.1 same)
+      distinct_join (names_at (located_now 1 k t s)) (names (suc k) u rest) (one_name global all k s.kind) (all_distinct (suc k) u rest parts.1 same)
       (all_map (IsOld (suc k) u) (λ n. is_one_of (names (suc k) u rest) n ≡ false) (names_at (located_now 1 k t s))
-      (λ n old. old_is_none (suc k) u n (names (suc k) u rest) old later) (all_filter (IsOld (suc k) u) is_global (defined_name all k s.kind) here))
+      (λ n old. old_is_none (suc k) u n (names (suc k) u rest) old later) (all_filter (IsOld (suc k) u) global (defined_name all k s.kind) here))
 
   entries_names : (ts : List Located) (rows : List Row) → flat_map (λ e. names_at e.located) (statements_of ts rows) ≡ flat_map names_at ts
   entries_names [] rows = refl

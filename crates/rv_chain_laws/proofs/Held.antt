@@ -5,7 +5,7 @@ use Rattle.std.specs.Prelude.{not, ◌||◌, min, ⊤}
 use Rattle.std.specs.List.{AllByRecursion}
 use Rattle.rv_statement.specs.Statement.{StatementKind, Label, Numbered, Instruction, Directs, Statement, Directive, Enters, Opens, Sets, Chooses}
 use Rattle.rv_unit_laws.specs.Contributions.{Contribution, Bytes, Zero_bytes, contribution}
-use Rattle.rv_unit_laws.specs.Sections.{Section, section_at, current_section}
+use Rattle.rv_unit_laws.specs.Sections.{Section, is_nobits, section_at, current_section}
 use Rattle.rv_unit_laws.specs.Tables.{Tables, at_start, here, value, counted, contents_size, after, tables, stood}
 use Rattle.rv_unit_laws.specs.Faults.{Fault, faulty_if, lowest, at_line, size_faults, contents_faults, past_section, contribution_faults, directive_faults, faults, first_fault_from, first_fault}
 use Rattle.rv_source_laws.specs.Located.{Located, located_from, located_of}
@@ -14,7 +14,7 @@ use Rattle.rv_unit_laws.proofs.Opened.{after_opened}
 
 -- instructions stand in sections of code, data in others, and those with bytes in the file in sections that have some
 abbrev pub ContributionHeld : Section → Contribution → Type 0
-ContributionHeld home (Bytes contents) = (home.executable ≡ false) × (home.nobits ≡ false)
+ContributionHeld home (Bytes contents) = (home.executable ≡ false) × (is_nobits home ≡ false)
 ContributionHeld home (Zero_bytes count) = home.executable ≡ false
 ContributionHeld home _ = ⊤
 
@@ -69,11 +69,11 @@ module _ (all t : Tables) (k : ℕ) where
   abbrev Good : Directive → Type 0
   Good d = directive_faults all t k d ≡ []
 
-  stored : (before after : List ℕ) → before ++ (faulty_if (home.executable || home.nobits) 15 ++ after) ≡ [] → (home.executable ≡ false) × (home.nobits ≡ false)
+  stored : (before after : List ℕ) → before ++ (faulty_if (home.executable || is_nobits home) 15 ++ after) ≡ [] → (home.executable ≡ false) × (is_nobits home ≡ false)
   stored before after e =
-      let next = none_left before (faulty_if (home.executable || home.nobits) 15 ++ after) e in
-      let test = none_left (faulty_if (home.executable || home.nobits) 15) after next.1 in
-      no_either home.executable home.nobits (no_test (home.executable || home.nobits) 15 test.0)
+      let next = none_left before (faulty_if (home.executable || is_nobits home) 15 ++ after) e in
+      let test = none_left (faulty_if (home.executable || is_nobits home) 15) after next.1 in
+      no_either home.executable (is_nobits home) (no_test (home.executable || is_nobits home) 15 test.0)
 
   zeroed : (before after : List ℕ) → before ++ (faulty_if home.executable 15 ++ after) ≡ [] → home.executable ≡ false
   zeroed before after e =
@@ -95,8 +95,8 @@ module _ (all t : Tables) (k : ℕ) where
   directive_held (Chooses choice) e = tt
   directive_held d e = contribution_held (contribution d) e
 
-  code : faulty_if (not home.executable || home.nobits) 15 ≡ [] → home.executable ≡ true
-  code e = no_not home.executable (no_either (not home.executable) home.nobits (no_test (not home.executable || home.nobits) 15 e)).0
+  code : faulty_if (not home.executable || is_nobits home) 15 ≡ [] → home.executable ≡ true
+  code e = no_not home.executable (no_either (not home.executable) (is_nobits home) (no_test (not home.executable || is_nobits home) 15 e)).0
 
   held : (says : StatementKind) → faults all t k says ≡ [] → IsHeld home says
   held (Label name) e = tt

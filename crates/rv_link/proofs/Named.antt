@@ -1,74 +1,32 @@
--- One name, or one statement, more.
+-- One statement more, and the names that are global.
 
-use Rattle.std.proofs.Common.{append_assoc, ◌≡◌, ℕ, suc, ◌+◌, ◌<◌, Bool, true, false, List, [], ◌∷◌, ◌++◌, length, map, take, get_or, refl, sym, ap, ◌∙◌, subst}
-use Rattle.std.specs.Prelude.{◌||◌, ◌&&◌, not}
+use Rattle.std.proofs.Common.{append_assoc, ◌≡◌, ℕ, suc, Bool, true, false, List, [], ◌∷◌, ◌++◌, refl, sym, ap, ◌∙◌}
+use Rattle.std.specs.Prelude.{◌||◌, ◌&&◌}
 use Rattle.std.specs.Str.{bytes_eq}
-use Rattle.std.specs.Borrow.{Bor}
-use Rattle.std.proofs.lemmas.List.{take_more, get_or-map, length-map, map-append}
 use Rattle.std.proofs.lemmas.List.Folds.{list_any-append}
 use Rattle.rv_statement.specs.Statement.{Statement}
-use Rattle.rv_statement.specs.View.{now_of}
 use Rattle.rv_map.specs.Map.{Global}
-use Rattle.rv_source_laws.specs.Resolves.{is_one_of, made_global, is_global_after}
+use Rattle.rv_source_laws.specs.Resolves.{is_one_of}
 use Rattle.rv_link_laws.specs.declared.item.Item.{Item}
 use Rattle.std.specs.Prelude.{if◌then◌else◌, Some, filter}
 use Rattle.std.proofs.lemmas.List.Elements.{filter-append}
 use Rattle.std.proofs.lemmas.Slice.Eq.{bytes_eq-Decides}
+use Rattle.rv_unit_laws.specs.Bindings.{is_global}
 use Rattle.rv_unit_laws.specs.Tables.{Tables}
 use Rattle.rv_source_laws.specs.Resolves.{is_start, defined_name}
 use Rattle.rv_link_laws.specs.Rows.{address_of}
 use Rattle.rv_link_laws.specs.Definitions.{named_by, names_from, entry_from, defined_by, definitions_from}
 
-or_moves : (a b c : Bool) → (a || (b || c)) ≡ ((b || (a || false)) || c)
-or_moves true true c = refl
-or_moves true false c = refl
-or_moves false true c = refl
-or_moves false false c = refl
-
-not_moves : (a b c : Bool) → (not a && (not b && c)) ≡ (not (b || (a || false)) && c)
-not_moves true true c = refl
-not_moves true false c = refl
-not_moves false true c = refl
-not_moves false false c = refl
-
-one_of_more : (xs : List (Bor (List ℕ))) (i : ℕ) (d : Bor (List ℕ)) (name : List ℕ) → i < length xs
-    → is_one_of (map now_of (take (i + 1) xs)) name ≡ (is_one_of (map now_of (take i xs)) name || (bytes_eq (get_or xs i d).now name || false))
-one_of_more xs i d name inside =
-    ap (λ l. is_one_of (map now_of l) name) (take_more xs i d inside)
-    ∙ ap (λ l. is_one_of l name) (map-append now_of (take i xs) (get_or xs i d ∷ []))
-    ∙ list_any-append (λ n. bytes_eq n name) (map now_of (take i xs)) ((get_or xs i d).now ∷ [])
-
-pub added : (xs : List (Bor (List ℕ))) (i : ℕ) (d : Bor (List ℕ)) (name : List ℕ) (before : Bool) → i < length xs
-    → (bytes_eq (get_or xs i d).now name || (is_one_of (map now_of (take i xs)) name || before)) ≡ (is_one_of (map now_of (take (i + 1) xs)) name || before)
-added xs i d name before inside =
-    or_moves (bytes_eq (get_or xs i d).now name) (is_one_of (map now_of (take i xs)) name) before ∙ ap (λ b. b || before) (sym (one_of_more xs i d name inside))
-
-pub taken_away : (xs : List (Bor (List ℕ))) (i : ℕ) (d : Bor (List ℕ)) (name : List ℕ) (before : Bool) → i < length xs
-    → (not (bytes_eq (get_or xs i d).now name) && (not (is_one_of (map now_of (take i xs)) name) && before)) ≡ (not (is_one_of (map now_of (take (i + 1) xs)) name) && before)
-taken_away xs i d name before inside =
-    not_moves (bytes_eq (get_or xs i d).now name) (is_one_of (map now_of (take i xs)) name) before ∙ ap (λ b. not b && before) (sym (one_of_more xs i d name inside))
-
-global_snoc : (before : Bool) (ss : List Statement) (s : Statement) (name : List ℕ) → is_global_after before (ss ++ s ∷ []) name ≡ made_global s.kind name (is_global_after before ss name)
-global_snoc before [] s name = refl
-global_snoc before (r ∷ ss) s name = global_snoc (made_global r.kind name before) ss s name
-
-pub global_more : {X : Type 0} (f : X → Statement) (xs : List X) (i : ℕ) (x : X) (name : List ℕ) → i < length xs → x ≡ get_or xs i x
-    → made_global (f x).kind name (is_global_after false (take i (map f xs)) name) ≡ is_global_after false (take (i + 1) (map f xs)) name
-global_more f xs i x name inside same =
-    let long : i < length (map f xs) = subst (λ n. i < n) (sym (length-map xs f)) inside in
-    let at : get_or (map f xs) i (f x) ≡ f x = get_or-map f xs i x (f x) inside ∙ ap f (sym same) in
-    sym (ap (λ l. is_global_after false l name) (take_more (map f xs) i (f x) long ∙ ap (λ y. take i (map f xs) ++ y ∷ []) at) ∙ global_snoc false (take i (map f xs)) (f x) name)
-
 -- ---- definitions
 
 -- one statement's definition more
-pub defined_more : (test : List ℕ → Bool) (t : Tables) (starts : List ℕ) (all_items : List Item) (k m : ℕ) (rest next : List Statement) (items behind : List Item) (s : Statement) (i : Item) (old new all : List Global)
-    → m ≡ suc k → rest ≡ s ∷ next → items ≡ i ∷ behind → new ≡ old ++ defined_by test t starts all_items k s.kind i
-    → old ++ definitions_from test t starts all_items k rest items ≡ all → new ++ definitions_from test t starts all_items m next behind ≡ all
-defined_more test t starts all_items k m rest next items behind s i old new all after here at more h =
-    let later = definitions_from test t starts all_items (suc k) next behind in
-    ap (λ n. new ++ definitions_from test t starts all_items n next behind) after ∙ ap (λ l. l ++ later) more ∙ append_assoc old (defined_by test t starts all_items k s.kind i) later
-    ∙ ap (λ l. old ++ definitions_from test t starts all_items k (s ∷ next) l) (sym at) ∙ ap (λ l. old ++ definitions_from test t starts all_items k l items) (sym here) ∙ h
+pub defined_more : (t : Tables) (starts : List ℕ) (all_items : List Item) (k m : ℕ) (rest next : List Statement) (items behind : List Item) (s : Statement) (i : Item) (old new all : List Global)
+    → m ≡ suc k → rest ≡ s ∷ next → items ≡ i ∷ behind → new ≡ old ++ defined_by t starts all_items k s.kind i
+    → old ++ definitions_from t starts all_items k rest items ≡ all → new ++ definitions_from t starts all_items m next behind ≡ all
+defined_more t starts all_items k m rest next items behind s i old new all after here at more h =
+    let later = definitions_from t starts all_items (suc k) next behind in
+    ap (λ n. new ++ definitions_from t starts all_items n next behind) after ∙ ap (λ l. l ++ later) more ∙ append_assoc old (defined_by t starts all_items k s.kind i) later
+    ∙ ap (λ l. old ++ definitions_from t starts all_items k (s ∷ next) l) (sym at) ∙ ap (λ l. old ++ definitions_from t starts all_items k l items) (sym here) ∙ h
 
 -- ---- names that are defined
 
@@ -79,6 +37,10 @@ is_no : (b : Bool) → (b ≡ true → ⊥) → b ≡ false
 is_no true f = absurd (f refl)
 is_no false f = refl
 
+-- whether tables make a name global
+abbrev makes_global : Tables → List ℕ → Bool
+makes_global t name = is_global (t.bindings name)
+
 -- a name that does not pass the test is none of those that do
 none_passes : (test : List ℕ → Bool) (name : List ℕ) (names : List (List ℕ)) → test name ≡ false → is_one_of (filter test names) name ≡ false
 none_passes test name [] e = refl
@@ -88,18 +50,18 @@ none_passes test name (own ∷ names) e = go (test own) refl (none_passes test n
     go true f ih = ap (λ b. b || is_one_of (filter test names) name) (is_no (bytes_eq own name) (λ g. let h : test name ≡ true = ap test (sym (bytes_same own name g)) ∙ f in cc)) ∙ ih
     go false f ih = ih
 
-pub no_name : (test : List ℕ → Bool) (t : Tables) (name : List ℕ) (k : ℕ) (ss : List Statement) → test name ≡ false → is_one_of (names_from test t k ss) name ≡ false
-no_name test t name k [] e = refl
-no_name test t name k (s ∷ ss) e =
-    list_any-append (λ n. bytes_eq n name) (named_by test t k s.kind) (names_from test t (suc k) ss)
-    ∙ ap (λ b. b || is_one_of (names_from test t (suc k) ss) name) (none_passes test name (defined_name t k s.kind) e) ∙ no_name test t name (suc k) ss e
+pub no_name : (t : Tables) (name : List ℕ) (k : ℕ) (ss : List Statement) → is_global (t.bindings name) ≡ false → is_one_of (names_from t k ss) name ≡ false
+no_name t name k [] e = refl
+no_name t name k (s ∷ ss) e =
+    list_any-append (λ n. bytes_eq n name) (named_by t k s.kind) (names_from t (suc k) ss)
+    ∙ ap (λ b. b || is_one_of (names_from t (suc k) ss) name) (none_passes (makes_global t) name (defined_name t k s.kind) e) ∙ no_name t name (suc k) ss e
 
 -- whether the first statement, or one of the others, defines this name
-pub first_or : (test : List ℕ → Bool) (t : Tables) (name : List ℕ) (k m : ℕ) (rest next : List Statement) (s : Statement) (b : Bool) → m ≡ suc k → rest ≡ s ∷ next → b ≡ is_one_of (named_by test t k s.kind) name
-    → is_one_of (names_from test t k rest) name ≡ (b || is_one_of (names_from test t m next) name)
-first_or test t name k m rest next s b after here e =
-    ap (λ l. is_one_of (names_from test t k l) name) here ∙ list_any-append (λ n. bytes_eq n name) (named_by test t k s.kind) (names_from test t (suc k) next)
-    ∙ ap (λ c. c || is_one_of (names_from test t (suc k) next) name) (sym e) ∙ ap (λ n. b || is_one_of (names_from test t n next) name) (sym after)
+pub first_or : (t : Tables) (name : List ℕ) (k m : ℕ) (rest next : List Statement) (s : Statement) (b : Bool) → m ≡ suc k → rest ≡ s ∷ next → b ≡ is_one_of (named_by t k s.kind) name
+    → is_one_of (names_from t k rest) name ≡ (b || is_one_of (names_from t m next) name)
+first_or t name k m rest next s b after here e =
+    ap (λ l. is_one_of (names_from t k l) name) here ∙ list_any-append (λ n. bytes_eq n name) (named_by t k s.kind) (names_from t (suc k) next)
+    ∙ ap (λ c. c || is_one_of (names_from t (suc k) next) name) (sym e) ∙ ap (λ n. b || is_one_of (names_from t n next) name) (sym after)
 
 -- ---- the entry
 

@@ -26,17 +26,17 @@ stops b line later OutOfMemory h = tt
 stops true line later (Name at) h = absurd (cc)
 stops false line later (Name at) h = h
 
-module _ (test : List ℕ → Bool) (t : Tables) (starts : List ℕ) (all : List Item) (k m : ℕ) (rest next : List Statement) (items behind : List Item) (s : Statement) (i : Item) (after : m ≡ suc k) (here : rest ≡ s ∷ next) (at : items ≡ i ∷ behind) where
-  unfolded : first_unshown test t starts all k rest items
-      ≡ (if list_all (λ g. is_name g.name) (defined_by test t starts all k s.kind i) then first_unshown test t starts all m next behind else Some s.line)
+module _ (t : Tables) (starts : List ℕ) (all : List Item) (k m : ℕ) (rest next : List Statement) (items behind : List Item) (s : Statement) (i : Item) (after : m ≡ suc k) (here : rest ≡ s ∷ next) (at : items ≡ i ∷ behind) where
+  unfolded : first_unshown t starts all k rest items
+      ≡ (if list_all (λ g. is_name g.name) (defined_by t starts all k s.kind i) then first_unshown t starts all m next behind else Some s.line)
   unfolded =
-      ap (λ l. first_unshown test t starts all k l items) here ∙ ap (λ l. first_unshown test t starts all k (s ∷ next) l) at
-      ∙ ap (λ n. if list_all (λ g. is_name g.name) (defined_by test t starts all k s.kind i) then first_unshown test t starts all n next behind else Some s.line) (sym after)
+      ap (λ l. first_unshown t starts all k l items) here ∙ ap (λ l. first_unshown t starts all k (s ∷ next) l) at
+      ∙ ap (λ n. if list_all (λ g. is_name g.name) (defined_by t starts all k s.kind i) then first_unshown t starts all n next behind else Some s.line) (sym after)
 
   -- a statement whose names are shown leaves it to the others
-  pub shown_more : unshown (defined_by test t starts all k s.kind i) s.line ≡ None → first_unshown test t starts all m next behind ≡ first_unshown test t starts all k rest items
-  shown_more h = sym (unfolded ∙ goes_on (list_all (λ g. is_name g.name) (defined_by test t starts all k s.kind i)) s.line (first_unshown test t starts all m next behind) h)
+  pub shown_more : unshown (defined_by t starts all k s.kind i) s.line ≡ None → first_unshown t starts all m next behind ≡ first_unshown t starts all k rest items
+  shown_more h = sym (unfolded ∙ goes_on (list_all (λ g. is_name g.name) (defined_by t starts all k s.kind i)) s.line (first_unshown t starts all m next behind) h)
 
   -- one whose name is not is the first
-  pub unshown_here : (e : NameFault) → NamesLine e (unshown (defined_by test t starts all k s.kind i) s.line) → NamesLine e (first_unshown test t starts all k rest items)
-  unshown_here e h = rw unfolded (stops (list_all (λ g. is_name g.name) (defined_by test t starts all k s.kind i)) s.line (first_unshown test t starts all m next behind) e h)
+  pub unshown_here : (e : NameFault) → NamesLine e (unshown (defined_by t starts all k s.kind i) s.line) → NamesLine e (first_unshown t starts all k rest items)
+  unshown_here e h = rw unfolded (stops (list_all (λ g. is_name g.name) (defined_by t starts all k s.kind i)) s.line (first_unshown t starts all m next behind) e h)

@@ -2,15 +2,24 @@
 
 use Rattle.std.specs.Borrow.{Bor}
 use Rattle.std.specs.List.{list_all}
-use Rattle.std.specs.Prelude.{◌≡◌, ℕ, suc, ⊤, Bool, Option, Some, None, List, [], ◌∷◌, if◌then◌else◌}
+use Rattle.std.specs.Prelude.{◌≡◌, ℕ, suc, ⊤, Option, Some, None, List, [], ◌∷◌, if◌then◌else◌}
 use Rattle.rv_statement.specs.Statement.{Statement}
-use Rattle.rv_unit_laws.specs.Tables.{Tables}
+use Rattle.rv_unit_laws.specs.Tables.{Tables, tables}
+use Rattle.rv_unit.specs.Unit.{said, IsFilled}
 use Rattle.rv_map.specs.Map.{Global}
 use Rattle.rv_map.specs.Name.{is_name}
 use Rattle.rv_link_laws.specs.declared.item.Item.{Item}
 use Rattle.rv_link_laws.specs.Definitions.{defined_by}
+use Rattle.rv_link.specs.Settings.{AreFirsts}
+use Rattle.rv_link.specs.declared.names.Names.{Names}
 use Rattle.rv_link.specs.declared.definitions.NameFault.{NameFault}
 use Rattle.rv_link.specs.declared.definitions.NameFault.TheVariants.{Name, OutOfMemory}
+
+-- the names are those of a source with these tables: its unit, and where `.set` gives names first
+pub record AreNames (names : Names) (t : Tables) : Type 0 where
+  pub filled : IsFilled names.unit.now
+  pub tables_are : tables (said names.unit.now) ≡ t
+  pub firsts : AreFirsts names.firsts.ordinals t.assignments
 
 -- a name, or none
 abbrev pub name_in : Option (Bor (List ℕ)) → List (List ℕ)
@@ -22,10 +31,12 @@ abbrev pub unshown : List Global → ℕ → Option ℕ
 unshown globals line = if list_all (λ g. is_name g.name) globals then None else Some line
 
 -- that of the first statement from an ordinal on which defines one
-abbrev pub first_unshown : (List ℕ → Bool) → Tables → List ℕ → List Item → ℕ → List Statement → List Item → Option ℕ
-first_unshown is_global t starts items ordinal (s ∷ ss) (i ∷ is) =
-    if list_all (λ g. is_name g.name) (defined_by is_global t starts items ordinal s.kind i) then first_unshown is_global t starts items (suc ordinal) ss is else Some s.line
-first_unshown is_global t starts items ordinal ss is = None
+abbrev pub first_unshown : Tables → List ℕ → List Item → ℕ → List Statement → List Item → Option ℕ
+first_unshown t starts items ordinal (s ∷ ss) (i ∷ is) =
+    if list_all (λ g. is_name g.name) (defined_by t starts items ordinal s.kind i)
+    then first_unshown t starts items (suc ordinal) ss is
+    else Some s.line
+first_unshown t starts items ordinal ss is = None
 
 -- a refusal is at this line; memory may run out whatever the names are
 abbrev pub NamesLine : NameFault → Option ℕ → Type 0

@@ -1,6 +1,6 @@
 -- What the numbers of expressions are, where statements stand so and names have these addresses.
 
-use Rattle.std.specs.Prelude.{◌≡◌, ℕ, ◌+◌, ◌-◌, ◌^◌, Bool, true, false, not, ◌||◌, nat_lt, nat_le, ⊤, ◌⊎◌, List, [], ◌∷◌, Option, None, Some, is_some, option_map, Err, if◌then◌else◌}
+use Rattle.std.specs.Prelude.{◌≡◌, ℕ, ◌+◌, true, false, ⊤, ◌⊎◌, List, [], ◌∷◌, Option, None, Some, is_some, option_map, Err, if◌then◌else◌}
 use Rattle.std.specs.List.{slice_get, AllByRecursion}
 use Rattle.std.specs.Str.{bytes_eq}
 use Rattle.std.specs.Borrow.{Bor}

@@ -8,10 +8,8 @@ ghost use Rattle.rv_unit.specs.Unit.{said, IsFilled};
 ghost use Rattle.rv_map.specs.Map.{global_of};
 ghost use Rattle.rv_map.specs.Name.{is_name};
 ghost use Rattle.rv_source_laws.specs.Resolves.{symbol};
-ghost use Rattle.rv_link.specs.Globals.{Has};
-ghost use Rattle.rv_link.specs.Settings.{AreFirsts};
 ghost use Rattle.rv_link_laws.specs.Definitions.{set_address, defined_address, defined_by, definitions_from};
-ghost use Rattle.rv_link.specs.Names.{unshown, first_unshown, NamesLine};
+ghost use Rattle.rv_link.specs.Names.{unshown, first_unshown, AreNames, NamesLine};
 
 use crate::names::Names;
 use crate::rows::{address_of_ordinal, row_address};
@@ -67,10 +65,13 @@ pub fn global_definitions(
     items: &[Item],
 ) -> Result<Vec<Global>, NameFault>
     requires { length items.now ≡ length (unit.now).statements.items }
-    ensures defines { IfOk result (λ defined. (test : List ℕ → Bool) → IsFilled unit.now → Has (names.now).globals.now.set test → AreFirsts (names.now).firsts.ordinals (tables (said unit.now)).assignments →
-        map global_of defined.items ≡ definitions_from test (tables (said unit.now)) starts.now items.now 1 (said unit.now) items.now) }
-    ensures shown { IfOk result (λ _. (test : List ℕ → Bool) → IsFilled unit.now → Has (names.now).globals.now.set test → AreFirsts (names.now).firsts.ordinals (tables (said unit.now)).assignments → first_unshown test (tables (said unit.now)) starts.now items.now 1 (said unit.now) items.now ≡ None) }
-    ensures refused { IfErr result (λ e. (test : List ℕ → Bool) → IsFilled unit.now → Has (names.now).globals.now.set test → AreFirsts (names.now).firsts.ordinals (tables (said unit.now)).assignments → NamesLine e (first_unshown test (tables (said unit.now)) starts.now items.now 1 (said unit.now) items.now)) }
+    ensures defines { IfOk result (λ defined. IsFilled unit.now → AreNames names.now (tables (said unit.now))
+        → map global_of defined.items
+        ≡ definitions_from (tables (said unit.now)) starts.now items.now 1 (said unit.now) items.now) }
+    ensures shown { IfOk result (λ _. IsFilled unit.now → AreNames names.now (tables (said unit.now))
+        → first_unshown (tables (said unit.now)) starts.now items.now 1 (said unit.now) items.now ≡ None) }
+    ensures refused { IfErr result (λ e. IsFilled unit.now → AreNames names.now (tables (said unit.now))
+        → NamesLine e (first_unshown (tables (said unit.now)) starts.now items.now 1 (said unit.now) items.now)) }
 {
     let placed = Placed {
         unit,
@@ -103,10 +104,21 @@ fn put_definition(
     statement: &Statement<'_>,
     item: Item,
 ) -> Result<(), NameFault>
-    ensures defines { OnOk result ((test : List ℕ → Bool) → IsFilled (placed.now).unit.now → Has (names.now).globals.now.set test → AreFirsts (names.now).firsts.ordinals (tables (said (placed.now).unit.now)).assignments →
-        map global_of defined.new.items ≡ map global_of defined.old.items ++ defined_by test (tables (said (placed.now).unit.now)) (placed.now).starts.now (placed.now).items.now ordinal (statement_of statement.now).kind item) }
-    ensures shown { OnOk result ((test : List ℕ → Bool) → IsFilled (placed.now).unit.now → Has (names.now).globals.now.set test → AreFirsts (names.now).firsts.ordinals (tables (said (placed.now).unit.now)).assignments → unshown (defined_by test (tables (said (placed.now).unit.now)) (placed.now).starts.now (placed.now).items.now ordinal (statement_of statement.now).kind item) (statement.now).line ≡ None) }
-    ensures refused { IfErr result (λ e. (test : List ℕ → Bool) → IsFilled (placed.now).unit.now → Has (names.now).globals.now.set test → AreFirsts (names.now).firsts.ordinals (tables (said (placed.now).unit.now)).assignments → NamesLine e (unshown (defined_by test (tables (said (placed.now).unit.now)) (placed.now).starts.now (placed.now).items.now ordinal (statement_of statement.now).kind item) (statement.now).line)) }
+    ensures defines { OnOk result (IsFilled (placed.now).unit.now
+        → AreNames names.now (tables (said (placed.now).unit.now))
+        → map global_of defined.new.items ≡ map global_of defined.old.items
+        ++ defined_by (tables (said (placed.now).unit.now)) (placed.now).starts.now (placed.now).items.now ordinal
+        (statement_of statement.now).kind item) }
+    ensures shown { OnOk result (IsFilled (placed.now).unit.now
+        → AreNames names.now (tables (said (placed.now).unit.now))
+        → unshown
+        (defined_by (tables (said (placed.now).unit.now)) (placed.now).starts.now (placed.now).items.now ordinal
+        (statement_of statement.now).kind item) (statement.now).line ≡ None) }
+    ensures refused { IfErr result (λ e. IsFilled (placed.now).unit.now
+        → AreNames names.now (tables (said (placed.now).unit.now))
+        → NamesLine e (unshown
+        (defined_by (tables (said (placed.now).unit.now)) (placed.now).starts.now (placed.now).items.now ordinal
+        (statement_of statement.now).kind item) (statement.now).line)) }
 {
     let Some(name) = names.defined(ordinal, statement) else {
         return Ok(());

@@ -1,7 +1,7 @@
 //! Sections one after another in memory: where each starts, where their statements stand, what the regions of a program
 //! hold, and the addresses of names and expressions.
 //!
-//! Takes the sections of a source as pieces, its statements as items, and the names that it makes global. Gives the
+//! Takes the sections of a source as pieces, its statements as items, and its unit, which knows its names. Gives the
 //! layout, the rows and names of the map, the entry, the bytes of data and those of each region.
 //!
 //! The main contracts: `lay_out` gives a layout that `IsLayout`, or says that the pieces are too large;
@@ -21,7 +21,6 @@
 mod contents;
 mod data;
 mod definitions;
-mod globals;
 mod layout;
 mod names;
 mod numbers;
@@ -32,7 +31,6 @@ mod symbols;
 pub use contents::region_bytes;
 pub use data::put_data;
 pub use definitions::{NameFault, global_definitions};
-pub use globals::Globals;
 pub use layout::{LayoutFault, lay_out};
 pub use names::Names;
 pub use numbers::{Addresses, DataFault, Numbers};

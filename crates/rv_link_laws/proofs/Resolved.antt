@@ -8,7 +8,8 @@ use Rattle.rv_map.specs.Map.{Map}
 use Rattle.rv_text_laws.specs.Values.{Meaning, Known, InSection, Open, Refused, add}
 use Rattle.rv_statement.specs.Statement.{StatementKind, Label, Numbered, Instruction, Directs, Statement, Sets}
 use Rattle.rv_unit_laws.specs.Sections.{goes_to_text}
-use Rattle.rv_unit_laws.specs.Tables.{Tables, Assignment, at_start, after, tables, assigned_ever}
+use Rattle.rv_unit_laws.specs.Bindings.{is_global}
+use Rattle.rv_unit_laws.specs.Tables.{Tables, Assignment, at_start, after, tables, assigned_ever, binding_of}
 use Rattle.rv_source_laws.specs.Located.{Located, located_now, has_row}
 use Rattle.rv_source_laws.specs.Program.{MaybeMapped, Program, program, tables_in, address_at, address_of}
 use Rattle.rv_source_laws.specs.Resolves as laws
@@ -42,17 +43,17 @@ module _ (all : List Statement) (m : Map) (starts : List ℕ) where
   p = program (all ∷ []) m
 
   abbrev test : List ℕ → Bool
-  test name = laws.is_global_after false all name
+  test name = is_global (binding_of all name)
 
   -- ---- names and their addresses
 
   pub names_are : (k : ℕ) (u : Tables) (ss : List Statement) (is : List Item) (before last : ℕ → ℕ) → AreItems k u before ss is last
-      → flat_map (λ e. laws.global_names_of (all ∷ []) (tables_in p e.located.file) e.located) (entries_by starts k u ss is) ≡ names_from test (tables all) k ss
+      → flat_map (λ e. laws.global_names_of (tables_in p e.located.file) e.located) (entries_by starts k u ss is) ≡ names_from (tables all) k ss
   names_are k u [] [] before last h = refl
   names_are k u [] (i ∷ is) before last h = absurd h
   names_are k u (s ∷ ss) [] before last h = absurd h
   names_are k u (s ∷ ss) (i ∷ is) before last (item, items) =
-      ap (λ l. named_by test (tables all) k s.kind ++ l) (names_are (suc k) (after u k s.kind) ss is (grown before i) last items)
+      ap (λ l. named_by (tables all) k s.kind ++ l) (names_are (suc k) (after u k s.kind) ss is (grown before i) last items)
 
   module _ (items : List Item) (last : ℕ → ℕ) (are : AreItems 1 at_start (λ j. 0) all items last) (statements : p.statements ≡ entries_by starts 1 at_start all items) where
     place_is : (n : ℕ) → address_at p.statements 1 n ≡ place_address starts items n
@@ -78,14 +79,14 @@ module _ (all : List Statement) (m : Map) (starts : List ℕ) where
     address_is k u line _ i = row_shown starts k i i.shown
 
     pub definitions_are : (k : ℕ) (u : Tables) (ss : List Statement) (is : List Item) (before last : ℕ → ℕ) → AreItems k u before ss is last
-        → flat_map (laws.defined_by (all ∷ []) p) (entries_by starts k u ss is) ≡ definitions_from test (tables all) starts items k ss is
+        → flat_map (laws.defined_by p) (entries_by starts k u ss is) ≡ definitions_from (tables all) starts items k ss is
     definitions_are k u [] [] before last h = refl
     definitions_are k u [] (i ∷ is) before last h = absurd h
     definitions_are k u (s ∷ ss) [] before last h = absurd h
     definitions_are k u (s ∷ ss) (i ∷ is) before last (one, others) =
-        ap (λ a. flat_map (λ name. laws.shown name a) (named_by test (tables all) k s.kind) ++ flat_map (laws.defined_by (all ∷ []) p) (entries_by starts (suc k) (after u k s.kind) ss is))
+        ap (λ a. flat_map (λ name. laws.shown name a) (named_by (tables all) k s.kind) ++ flat_map (laws.defined_by p) (entries_by starts (suc k) (after u k s.kind) ss is))
         (address_is k u s.line s.kind i)
-        ∙ ap (λ l. defined_by test (tables all) starts items k s.kind i ++ l) (definitions_are (suc k) (after u k s.kind) ss is (grown before i) last others)
+        ∙ ap (λ l. defined_by (tables all) starts items k s.kind i ++ l) (definitions_are (suc k) (after u k s.kind) ss is (grown before i) last others)
 
   -- ---- the entry
 

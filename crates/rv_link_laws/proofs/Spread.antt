@@ -1,8 +1,8 @@
 -- The sections of a region stand one after the other.
 
 use Rattle.std.proofs.Common.{◌≡◌, ℕ, suc, ◌+◌, Bool, true, false, List, [], ◌∷◌, length, refl, sym, ap, ◌∙◌, subst, arith}
-use Rattle.std.specs.Prelude.{slice_index, if◌then◌else◌, replicate, ⊤}
-use Rattle.rv_unit_laws.specs.Sections.{Section}
+use Rattle.std.specs.Prelude.{slice_index, if◌then◌else◌, replicate, ⊤, not, ◌&&◌}
+use Rattle.rv_unit_laws.specs.Sections.{Section, is_nobits}
 use Rattle.rv_unit_laws.specs.Tables.{Tables, aligned}
 use Rattle.rv_source_laws.specs.Fits.{begins_at}
 use Rattle.rv_source_laws.specs.Placement.{Joins, Spread}
@@ -17,36 +17,50 @@ use Rattle.rv_link_laws.specs.Laws.{start_of}
 
 -- ---- where sections go
 
-bound : (to : Destination) (l x n w : Bool) (name : List ℕ)
-    → goes_to to (record { name = name; loaded = l; executable = x; writable = w; nobits = n }) ≡ is_bound_for to (destination_of (record { name = name; loaded = l; executable = x; writable = w; nobits = n }))
-bound Text true true n w name = refl
-bound Text true false true w name = refl
-bound Text true false false true name = refl
-bound Text true false false false name = refl
-bound Text false x n w name = refl
-bound Rodata true true n w name = refl
-bound Rodata true false true w name = refl
-bound Rodata true false false true name = refl
-bound Rodata true false false false name = refl
-bound Rodata false x n w name = refl
-bound Data true true n w name = refl
-bound Data true false true w name = refl
-bound Data true false false true name = refl
-bound Data true false false false name = refl
-bound Data false x n w name = refl
-bound Bss true true n w name = refl
-bound Bss true false true w name = refl
-bound Bss true false false true name = refl
-bound Bss true false false false name = refl
-bound Bss false x n w name = refl
-bound NotLoaded true true n w name = refl
-bound NotLoaded true false true w name = refl
-bound NotLoaded true false false true name = refl
-bound NotLoaded true false false false name = refl
-bound NotLoaded false x n w name = refl
+-- where a section goes, by whether it is loaded, executable, without bits and writable
+abbrev destination_by : Bool → Bool → Bool → Bool → Destination
+destination_by l x n w = if l then (if x then Text else (if n then Bss else (if w then Data else Rodata))) else NotLoaded
+
+abbrev goes_by : Destination → Bool → Bool → Bool → Bool → Bool
+goes_by Text l x n w = l && x
+goes_by Rodata l x n w = l && not x && not n && not w
+goes_by Data l x n w = l && not x && not n && w
+goes_by Bss l x n w = l && not x && n
+goes_by NotLoaded l x n w = not l
+
+bound : (to : Destination) (l x n w : Bool) → goes_by to l x n w ≡ is_bound_for to (destination_by l x n w)
+bound Text true true n w = refl
+bound Text true false true w = refl
+bound Text true false false true = refl
+bound Text true false false false = refl
+bound Text false x n w = refl
+bound Rodata true true n w = refl
+bound Rodata true false true w = refl
+bound Rodata true false false true = refl
+bound Rodata true false false false = refl
+bound Rodata false x n w = refl
+bound Data true true n w = refl
+bound Data true false true w = refl
+bound Data true false false true = refl
+bound Data true false false false = refl
+bound Data false x n w = refl
+bound Bss true true n w = refl
+bound Bss true false true w = refl
+bound Bss true false false true = refl
+bound Bss true false false false = refl
+bound Bss false x n w = refl
+bound NotLoaded true true n w = refl
+bound NotLoaded true false true w = refl
+bound NotLoaded true false false true = refl
+bound NotLoaded true false false false = refl
+bound NotLoaded false x n w = refl
 
 pub bound_for : (to : Destination) (s : Section) → goes_to to s ≡ is_bound_for to (destination_of s)
-bound_for to s = bound to s.loaded s.executable s.nobits s.writable s.name
+bound_for Text s = bound Text s.loaded s.executable (is_nobits s) s.writable
+bound_for Rodata s = bound Rodata s.loaded s.executable (is_nobits s) s.writable
+bound_for Data s = bound Data s.loaded s.executable (is_nobits s) s.writable
+bound_for Bss s = bound Bss s.loaded s.executable (is_nobits s) s.writable
+bound_for NotLoaded s = bound NotLoaded s.loaded s.executable (is_nobits s) s.writable
 
 -- ---- starts one after the other
 

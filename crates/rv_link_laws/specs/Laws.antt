@@ -14,7 +14,7 @@ use Rattle.rv_link_laws.specs.declared.layout.Layout.{Layout}
 use Rattle.rv_link_laws.specs.Layout.{IsLayout}
 use Rattle.rv_link_laws.specs.Contents.{contents_of}
 use Rattle.std.specs.Prelude.{◌++◌, true, Some, not, filter, codes}
-use Rattle.rv_source_laws.specs.Resolves.{is_one_of, is_global_after, linker_symbols}
+use Rattle.rv_source_laws.specs.Resolves.{is_one_of, linker_symbols}
 use Rattle.rv_link_laws.specs.Definitions.{names_from, definitions_from, entry_from}
 use Rattle.std.specs.Prelude.{flat_map, ◌==◌, ◌+◌}
 use Rattle.std.specs.List.{AllByRecursion}
@@ -24,7 +24,8 @@ use Rattle.rv_link_laws.specs.Suits.{code_said}
 use Rattle.rv_link_laws.specs.Items.{AllSuit}
 use Rattle.rv_link_laws.specs.Bytes.{HoldBytes, AreEach, AreEven}
 use Rattle.rv_statement.specs.Statement.{Statement}
-use Rattle.rv_unit_laws.specs.Tables.{at_start, tables}
+use Rattle.rv_unit_laws.specs.Bindings.{is_global}
+use Rattle.rv_unit_laws.specs.Tables.{at_start, tables, binding_of}
 use Rattle.rv_source_laws.specs.Placement.{RowsOf, SpreadOf}
 use Rattle.rv_link_laws.specs.declared.item.Item.{Item}
 use Rattle.rv_link_laws.specs.declared.piece.Destination.{Destination}
@@ -106,11 +107,10 @@ abbrev pub PlacedNames : Type 0
 PlacedNames =
     (ss : List Statement) (is : List Item) (last : ℕ → ℕ) (l : Layout) (entry : ℕ) (globals : List Global)
     → let m = map_of l entry globals (rows_from 1 l.starts.items 1 is) in
-    let is_global = λ (name : List ℕ). is_global_after false ss name in
     first_fault ss ≡ None → AreItems 1 at_start (λ j. 0) ss is last
-    → globals ≡ definitions_from is_global (tables ss) l.starts.items is 1 ss is
-    ++ filter (λ g. not (is_one_of (names_from is_global (tables ss) 1 ss) g.name)) (linker_symbols m)
-    → is_global (codes "_start") ≡ true → entry_from l.starts.items ss is ≡ Some entry → entry % 2 ≡ 0
+    → globals ≡ definitions_from (tables ss) l.starts.items is 1 ss is
+    ++ filter (λ g. not (is_one_of (names_from (tables ss) 1 ss) g.name)) (linker_symbols m)
+    → is_global (binding_of ss (codes "_start")) ≡ true → entry_from l.starts.items ss is ≡ Some entry → entry % 2 ≡ 0
     → Resolves (ss ∷ []) m
 
 -- the bytes of a section of code, by its place in the source, are those of its statements

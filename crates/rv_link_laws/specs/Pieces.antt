@@ -1,7 +1,7 @@
 -- The sections of the one source as pieces.
 
 use Rattle.std.specs.Prelude.{◌≡◌, ℕ, suc, Bool, not, ⊤, List, [], ◌∷◌, if◌then◌else◌}
-use Rattle.rv_unit_laws.specs.Sections.{Section, goes_to_text, goes_to_rodata, goes_to_data, goes_to_bss}
+use Rattle.rv_unit_laws.specs.Sections.{Section, is_nobits, goes_to_text, goes_to_rodata, goes_to_data, goes_to_bss}
 use Rattle.rv_unit_laws.specs.Tables.{Tables}
 use Rattle.rv_source_laws.specs.Fits.{begins_at}
 use Rattle.rv_link_laws.specs.declared.piece.Destination.{Destination}
@@ -11,7 +11,7 @@ use Rattle.rv_link_laws.specs.declared.piece.Piece.{Piece}
 -- where a section goes by its flags
 abbrev pub destination_of : Section → Destination
 destination_of s =
-    if s.loaded then (if s.executable then Text else (if s.nobits then Bss else (if s.writable then Data else Rodata))) else NotLoaded
+    if s.loaded then (if s.executable then Text else (if is_nobits s then Bss else (if s.writable then Data else Rodata))) else NotLoaded
 
 abbrev pub goes_to : Destination → Section → Bool
 goes_to Text s = goes_to_text s

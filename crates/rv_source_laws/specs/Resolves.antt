@@ -1,11 +1,12 @@
 -- The names of a map: which globals it shows, and where a run begins (gABI, "Symbol Table"; GNU as, ".global").
 
-use Rattle.std.specs.Prelude.{◌≡◌, ℕ, ◌+◌, ◌-◌, ◌%◌, Bool, false, not, ◌&&◌, ◌||◌, ◌==◌, ⊤, List, [], ◌∷◌, ◌++◌, filter, flat_map, Option, Some, None, is_some, option_and_then, slice_index_or, codes, bytes_eq, if◌then◌else◌}
+use Rattle.std.specs.Prelude.{◌≡◌, ℕ, ◌+◌, ◌-◌, ◌%◌, Bool, false, not, ◌&&◌, ◌==◌, ⊤, List, [], ◌∷◌, ◌++◌, filter, flat_map, Option, Some, None, is_some, option_and_then, slice_index_or, codes, bytes_eq, if◌then◌else◌}
 use Rattle.std.specs.List.{find, list_any}
 use Rattle.rv_text_laws.specs.Values.{Known, InSection, Open, Refused}
-use Rattle.rv_statement.specs.Statement.{StatementKind, Label, Directs, Statement, Globl, Local, Sets}
+use Rattle.rv_statement.specs.Statement.{StatementKind, Label, Directs, Statement, Sets}
 use Rattle.rv_unit_laws.specs.Sections.{goes_to_text}
-use Rattle.rv_unit_laws.specs.Tables.{Tables, Assignment, assigned_before, assigned_ever}
+use Rattle.rv_unit_laws.specs.Bindings.{is_global}
+use Rattle.rv_unit_laws.specs.Tables.{Tables, Assignment, assigned_before, assigned_ever, binding_of}
 use Rattle.rv_map.specs.Map.{Map, Global}
 use Rattle.rv_source_laws.specs.Located.{Located}
 use Rattle.rv_source_laws.specs.Program.{MaybeMapped, Program, program, tables_in, address_of, home_address}
@@ -18,20 +19,9 @@ abbrev pub AreDistinct : List (List ℕ) → Type 0
 AreDistinct [] = ⊤
 AreDistinct (name ∷ names) = (is_one_of names name ≡ false) × AreDistinct names
 
--- whether a name is global after a statement, where it was or wasn't before
-abbrev pub made_global : StatementKind → List ℕ → Bool → Bool
-made_global (Directs (Globl names)) name before = is_one_of names name || before
-made_global (Directs (Local names)) name before = not (is_one_of names name) && before
-made_global _ name before = before
-
--- the last of a file's statements that make a name global or local holds
-abbrev pub is_global_after : Bool → List Statement → List ℕ → Bool
-is_global_after before [] name = before
-is_global_after before (s ∷ ss) name = is_global_after (made_global s.kind name before) ss name
-
--- whether a file, numbered from 1, makes a name global
+-- whether a file, numbered from 1, makes a name global: the last of its statements that say a binding of it does
 abbrev pub is_global_in : List (List Statement) → ℕ → List ℕ → Bool
-is_global_in sources file name = is_global_after false (slice_index_or sources (file - 1) []) name
+is_global_in sources file name = is_global (binding_of (slice_index_or sources (file - 1) []) name)
 
 abbrev pub symbol : List ℕ → ℕ → Global
 symbol name address = record { name = name; address = address }
@@ -69,27 +59,27 @@ abbrev pub defined_address : Tables → List MaybeMapped → MaybeMapped → Sta
 defined_address t statements e (Directs (Sets name expression)) = set_address statements e.located.file (assigned_ever t.assignments name)
 defined_address t statements e _ = address_of e
 
--- the name that a statement of a file defines for all files
-abbrev pub global_names_of : List (List Statement) → Tables → Located → List (List ℕ)
-global_names_of sources t s = filter (λ name. is_global_in sources s.file name) (defined_name t s.ordinal s.kind)
+-- the name that a statement of a file defines for all files, by the tables of the file
+abbrev pub global_names_of : Tables → Located → List (List ℕ)
+global_names_of t s = filter (λ name. is_global (t.bindings name)) (defined_name t s.ordinal s.kind)
 
 -- that name with its address; one in a section that isn't loaded has none
-abbrev pub defined_by : List (List Statement) → Program → MaybeMapped → List Global
-defined_by sources p e =
+abbrev pub defined_by : Program → MaybeMapped → List Global
+defined_by p e =
     let t = tables_in p e.located.file in
-    flat_map (λ name. shown name (defined_address t p.statements e e.located.kind)) (global_names_of sources t e.located)
+    flat_map (λ name. shown name (defined_address t p.statements e e.located.kind)) (global_names_of t e.located)
 
 -- the names that are defined for all files, by file and then in the order of definition
 abbrev pub global_names : List (List Statement) → Map → List (List ℕ)
 global_names sources m =
     let p = program sources m in
-    flat_map (λ e. global_names_of sources (tables_in p e.located.file) e.located) p.statements
+    flat_map (λ e. global_names_of (tables_in p e.located.file) e.located) p.statements
 
 -- the global definitions of a list of sources, by file and then in the order of definition
 abbrev pub definitions : List (List Statement) → Map → List Global
 definitions sources m =
     let p = program sources m in
-    flat_map (defined_by sources p) p.statements
+    flat_map (defined_by p) p.statements
 
 -- the names that the linker gives
 abbrev pub linker_symbols : Map → List Global

@@ -1,3 +1,4 @@
+mod Bound
 mod Digits
 mod Gives
 pub mod Lookups

@@ -12,6 +12,7 @@ use Rattle.rv_text_laws.specs.Values.{Meaning, Known, InSection, Open, Refused}
 use Rattle.std.proofs.lemmas.List.Folds.{list_all-append}
 use Rattle.rv_unit_laws.specs.Sections.{Section, place_of_name, current_section, text_section}
 use Rattle.rv_unit_laws.specs.Options.{Options}
+use Rattle.rv_unit_laws.specs.Bindings.{Bindings}
 use Rattle.rv_unit_laws.specs.Tables as laws
 use Rattle.rv_unit_laws.proofs.Found.{bytes_swap, same_bytes, find_all, and_both}
 use Rattle.rv_unit_laws.proofs.Before.{IsBefore, label_before, set_now, none_later, defined_now, has_place_now, placed_latest}
@@ -149,8 +150,8 @@ index_map g [] n e d inside at = absurd (omega arith)
 index_map g (x ∷ xs) zero e d inside at = ap g (sym at)
 index_map g (x ∷ xs) (suc n) e d inside at = index_map g xs n e d (omega arith) at
 
-abbrev pub shown : List Section → List ℕ → List ℕ → ℕ → List laws.Labelled → List laws.NumericLabel → List laws.Assignment → Options → List Options → laws.Tables
-shown sections ends alignments current labels numeric_labels assignments options kept = record {
+abbrev pub shown : List Section → List ℕ → List ℕ → ℕ → List laws.Labelled → List laws.NumericLabel → List laws.Assignment → Options → List Options → Bindings → laws.Tables
+shown sections ends alignments current labels numeric_labels assignments options kept bindings = record {
   opened = record { sections = sections; current = current };
   ends = ends;
   alignments = alignments;
@@ -159,20 +160,21 @@ shown sections ends alignments current labels numeric_labels assignments options
   assignments = assignments;
   options = options;
   kept = kept;
+  bindings = bindings;
 }
 
 -- data at the end of the current section
-pub extend_is : (es : List Extent) (n : ℕ) (e w : Extent) (bytes : ℕ) (a : Option ℕ) (ls : List laws.Labelled) (ms : List laws.NumericLabel) (ss : List laws.Assignment) (options : Options) (kept : List Options)
+pub extend_is : (es : List Extent) (n : ℕ) (e w : Extent) (bytes : ℕ) (a : Option ℕ) (ls : List laws.Labelled) (ms : List laws.NumericLabel) (ss : List laws.Assignment) (options : Options) (kept : List Options) (bindings : Bindings)
     → n < length es → e ≡ get_or es n e → section_of w.section ≡ section_of e.section → w.bytes ≡ e.bytes + laws.counted_in (section_of e.section) bytes → w.alignment ≡ max e.alignment (max 1 (laws.or_none a))
-    → let t = shown (map extent_section es) (map (λ (x : Extent). x.bytes) es) (map (λ (x : Extent). x.alignment) es) n ls ms ss options kept in
-    shown (map extent_section (set es n w)) (map (λ (x : Extent). x.bytes) (set es n w)) (map (λ (x : Extent). x.alignment) (set es n w)) n ls ms ss options kept ≡ laws.with_data t bytes a
-extend_is es n e w bytes a ls ms ss options kept inside at section size alignment =
-    let t = shown (map extent_section es) (map (λ (x : Extent). x.bytes) es) (map (λ (x : Extent). x.alignment) es) n ls ms ss options kept in
+    → let t = shown (map extent_section es) (map (λ (x : Extent). x.bytes) es) (map (λ (x : Extent). x.alignment) es) n ls ms ss options kept bindings in
+    shown (map extent_section (set es n w)) (map (λ (x : Extent). x.bytes) (set es n w)) (map (λ (x : Extent). x.alignment) (set es n w)) n ls ms ss options kept bindings ≡ laws.with_data t bytes a
+extend_is es n e w bytes a ls ms ss options kept bindings inside at section size alignment =
+    let t = shown (map extent_section es) (map (λ (x : Extent). x.bytes) es) (map (λ (x : Extent). x.alignment) es) n ls ms ss options kept bindings in
     let more : Section → ℕ → ℕ = λ s k. k + laws.counted_in s bytes in
     let current : current_section t.opened ≡ section_of e.section = index_map extent_section es n e text_section inside at in
-    ap (λ x. shown x (map (λ (x : Extent). x.bytes) (set es n w)) (map (λ (x : Extent). x.alignment) (set es n w)) n ls ms ss options kept) (same_map extent_section es n e w inside at section)
-    ∙ ap (λ x. shown (map extent_section es) x (map (λ (x : Extent). x.alignment) (set es n w)) n ls ms ss options kept) (changed_map (λ (x : Extent). x.bytes) (more (section_of e.section)) es n e w inside at size)
-    ∙ ap (λ x. shown (map extent_section es) (laws.changed_at n (more (section_of e.section)) (map (λ (x : Extent). x.bytes) es)) x n ls ms ss options kept) (changed_map (λ (x : Extent). x.alignment) (λ k. max k (max 1 (laws.or_none a))) es n e w inside at alignment)
+    ap (λ x. shown x (map (λ (x : Extent). x.bytes) (set es n w)) (map (λ (x : Extent). x.alignment) (set es n w)) n ls ms ss options kept bindings) (same_map extent_section es n e w inside at section)
+    ∙ ap (λ x. shown (map extent_section es) x (map (λ (x : Extent). x.alignment) (set es n w)) n ls ms ss options kept bindings) (changed_map (λ (x : Extent). x.bytes) (more (section_of e.section)) es n e w inside at size)
+    ∙ ap (λ x. shown (map extent_section es) (laws.changed_at n (more (section_of e.section)) (map (λ (x : Extent). x.bytes) es)) x n ls ms ss options kept bindings) (changed_map (λ (x : Extent). x.alignment) (λ k. max k (max 1 (laws.or_none a))) es n e w inside at alignment)
     ∙ ap (λ s. record t {
       ends = laws.changed_at n (more s) t.ends;
       alignments = laws.changed_at n (λ k. max k (max 1 (laws.or_none a))) t.alignments;
@@ -184,11 +186,11 @@ changed_past n change [] past = refl
 changed_past zero change (x ∷ xs) past = absurd (omega arith)
 changed_past (suc n) change (x ∷ xs) past = ap (λ r. x ∷ r) (changed_past n change xs (omega arith))
 
-pub extend_past : (es : List Extent) (n bytes : ℕ) (a : Option ℕ) (ls : List laws.Labelled) (ms : List laws.NumericLabel) (ss : List laws.Assignment) (options : Options) (kept : List Options) → length es ≤ n
-    → let t = shown (map extent_section es) (map (λ (x : Extent). x.bytes) es) (map (λ (x : Extent). x.alignment) es) n ls ms ss options kept in
+pub extend_past : (es : List Extent) (n bytes : ℕ) (a : Option ℕ) (ls : List laws.Labelled) (ms : List laws.NumericLabel) (ss : List laws.Assignment) (options : Options) (kept : List Options) (bindings : Bindings) → length es ≤ n
+    → let t = shown (map extent_section es) (map (λ (x : Extent). x.bytes) es) (map (λ (x : Extent). x.alignment) es) n ls ms ss options kept bindings in
     t ≡ laws.with_data t bytes a
-extend_past es n bytes a ls ms ss options kept past =
-    let t = shown (map extent_section es) (map (λ (x : Extent). x.bytes) es) (map (λ (x : Extent). x.alignment) es) n ls ms ss options kept in
+extend_past es n bytes a ls ms ss options kept bindings past =
+    let t = shown (map extent_section es) (map (λ (x : Extent). x.bytes) es) (map (λ (x : Extent). x.alignment) es) n ls ms ss options kept bindings in
     let more : ℕ → ℕ = λ k. k + laws.counted_in (current_section t.opened) bytes in
     let up : ℕ → ℕ = λ k. max k (max 1 (laws.or_none a)) in
     ap (λ x. record t { ends = x }) (sym (changed_past n more t.ends (omega (arith, past, length-map es (λ (x : Extent). x.bytes)))))

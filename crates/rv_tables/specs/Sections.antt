@@ -7,7 +7,13 @@ use Rattle.rv_tables.specs.declared.section.Extent.{Extent}
 use Rattle.rv_tables.specs.declared.section_offset.SectionOffset.{SectionOffset}
 
 abbrev pub section_of : Section → laws.Section
-section_of s = record { name = s.name.now; loaded = s.loaded; executable = s.executable; writable = s.writable; nobits = s.nobits }
+section_of s = record {
+  name = s.name.now;
+  loaded = s.loaded;
+  executable = s.executable;
+  writable = s.writable;
+  section_type = s.section_type;
+}
 
 abbrev pub extent_section : Extent → laws.Section
 extent_section e = section_of e.section

@@ -1,6 +1,6 @@
 -- What the tables of the code stand for.
 
-use Rattle.std.specs.Prelude.{◌≡◌, ◌==◌, ℕ, List, [], map, filter, reverse}
+use Rattle.std.specs.Prelude.{◌≡◌, ◌==◌, ℕ, List, [], map, filter, reverse, unwrap_or}
 use Rattle.std.specs.Option.{option_map_or}
 use Rattle.std.specs.declared.vec.Vec.{Vec}
 use Rattle.std.specs.Borrow.{Bor}
@@ -10,6 +10,8 @@ use Rattle.rv_text_laws.specs.Bytes.{value}
 use Rattle.rv_text.specs.Eval.{meaning_of}
 use Rattle.rv_unit_laws.specs.Sections as sections
 use Rattle.rv_unit_laws.specs.Tables as laws
+use Rattle.rv_unit_laws.specs.declared.binding.Binding.{Binding}
+use Rattle.rv_unit_laws.specs.declared.binding.Binding.TheVariants.{Local}
 use Rattle.rv_tables.specs.declared.tables.Assignment.{Assignment}
 use Rattle.rv_tables.specs.declared.tables.Label.{Label}
 use Rattle.rv_tables.specs.declared.number.Number.{Number}
@@ -34,6 +36,10 @@ assignment_of s = record { name = s.name.now; ordinal = s.ordinal; meaning = mea
 abbrev pub opened_by : List Extent → ℕ → sections.Opened
 opened_by extents current = record { sections = map extent_section extents; current = current }
 
+-- the binding that was said last of a name; else it is local
+abbrev pub binding_in : {S : Type 0} → IndexMap (Bor (List ℕ)) Binding S → List ℕ → Binding
+binding_in bindings name = unwrap_or (get_by (λ (k : Bor (List ℕ)). bytes_eq name k.now) bindings) Local
+
 -- the tables, of which the code has assignments, numeric labels and kept options with the latest last
 abbrev pub tables_of : Tables → laws.Tables
 tables_of b = record {
@@ -45,6 +51,7 @@ tables_of b = record {
   assignments = reverse (map assignment_of b.assignments.items);
   options = options_of b.options;
   kept = reverse (map options_of b.kept.items);
+  bindings = λ name. binding_in b.bindings name;
 }
 
 -- the numeric labels of a number

@@ -25,6 +25,7 @@ use crate::section_offset::SectionOffset;
 use crate::tables::{Assignment, Tables};
 use rv_statement::{Opening, Setting, Statement, StatementKind};
 use rv_text::{Expr, Meaning, SourceFault, Symbol, Value};
+use rv_unit_laws::Binding;
 use std::alloc::{AllocError, Global};
 
 /// Whether a statement enters a section.
@@ -181,8 +182,8 @@ impl<'a> Tables<'a> {
             StatementKind::Plain(_) => Ok(()),
             StatementKind::With(..) => Ok(()),
             StatementKind::WithFunction(..) => Ok(()),
-            StatementKind::Globl(_) => Ok(()),
-            StatementKind::Local(_) => Ok(()),
+            StatementKind::Globl(names) => self.bind(Binding::Global, names.as_slice()),
+            StatementKind::Local(names) => self.bind(Binding::Local, names.as_slice()),
             StatementKind::Ignored => Ok(()),
         }
     }

@@ -1,4 +1,4 @@
-//! What the statements of one source define: its sections with the bytes of their data, and its names.
+//! What the statements of one source define: its sections with the bytes of their data, and its names with their bindings.
 //!
 //! It takes the statements of a source one after the other (`Tables::fill`), and gives the tables that they fill and the
 //! offset and the options of each statement. The main contract is that of `Tables::fill`, clause `tables`: the tables are
@@ -20,6 +20,7 @@
 
 mod align;
 mod assignments;
+mod bindings;
 mod fill;
 mod number;
 mod numeric_labels;
@@ -35,6 +36,7 @@ pub use align::{
 };
 pub use fill::{Filled, assigned};
 pub use options::Options;
+pub use rv_unit_laws::{Binding, SectionType};
 pub use section::{Extent, Section};
 pub use section_offset::{Definition, SectionOffset};
 pub use tables::{Assignment, Label, NumericLabel, Tables};

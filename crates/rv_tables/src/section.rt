@@ -9,6 +9,7 @@ ghost use Rattle.rv_tables.specs.Sections.{section_of};
 
 use rv_statement::Standard;
 use rv_text::string_contains;
+use rv_unit_laws::SectionType;
 
 /// A section with its flags.
 #[derive(Clone, Copy, Debug, PartialEq, Eq, Drop)]
@@ -20,8 +21,7 @@ pub struct Section<'a> {
     pub executable: bool,
     /// The flag `w`.
     pub writable: bool,
-    /// It begins as zero, and has no bytes in files.
-    pub nobits: bool,
+    pub section_type: SectionType,
 }
 
 /// A section as a source fills it.
@@ -95,17 +95,41 @@ fn has_flag(letter: u8, flags: Option<&[u8]>, by_name: bool) -> bool
     }
 }
 
-/// Whether the type says that the section has no bytes; where none is given, what the name's front says.
-fn is_nobits(kind: Option<&[u8]>, by_name: bool) -> bool
-    ensures { result ≡ laws.is_nobits (option_map now_of kind.entry) by_name }
+/// The type of a word: `progbits`, `nobits` or `note`.
+fn type_named(word: &[u8]) -> SectionType
+    ensures { result ≡ laws.type_named word.now }
 {
-    match kind {
-        None => by_name,
-        Some(kind) => kind == b"nobits".as_slice(),
+    if word == b"nobits".as_slice() {
+        SectionType::Nobits
+    } else if word == b"note".as_slice() {
+        SectionType::Note
+    } else {
+        SectionType::Progbits
+    }
+}
+
+/// The type that is given; where none is, what the name's front says.
+fn type_given(word: Option<&[u8]>, zeroed: bool) -> SectionType
+    ensures { result ≡ laws.type_given (option_map now_of word.entry) zeroed }
+{
+    match word {
+        None => if zeroed {
+            SectionType::Nobits
+        } else {
+            SectionType::Progbits
+        },
+        Some(word) => type_named(word),
     }
 }
 
 impl<'a> Section<'a> {
+    /// Whether it begins as zero, and has no bytes in files.
+    pub fn is_nobits(&self) -> bool
+        ensures { result ≡ laws.is_nobits (section_of self.now) }
+    {
+        matches!(self.section_type, SectionType::Nobits)
+    }
+
     /// The section in which a source begins.
     pub(crate) fn text() -> Self
         ensures { section_of result ≡ laws.text_section }
@@ -115,7 +139,7 @@ impl<'a> Section<'a> {
             loaded: true,
             executable: true,
             writable: false,
-            nobits: false,
+            section_type: SectionType::Progbits,
         }
     }
 
@@ -132,7 +156,7 @@ impl<'a> Section<'a> {
             loaded: has_flag(b'a', flags, code || variable || zeroed || constant),
             executable: has_flag(b'x', flags, code),
             writable: has_flag(b'w', flags, variable || zeroed),
-            nobits: is_nobits(kind, zeroed),
+            section_type: type_given(kind, zeroed),
         }
     }
 

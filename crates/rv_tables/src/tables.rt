@@ -8,7 +8,8 @@ ghost use Rattle.rv_text.specs.Nodes.{symbol_of};
 ghost use Rattle.rv_text.specs.Expr.{tree_of_expr};
 ghost use Rattle.rv_text.specs.Eval.{meaning_of, IsOutcome};
 ghost use Rattle.rv_statement.specs.declared.directive.Choice.TheVariants.{Pop};
-ghost use Rattle.rv_statement.specs.View.{statement_kind};
+ghost use Rattle.rv_statement.specs.View.{statement_kind, now_of};
+ghost use Rattle.rv_unit_laws.specs.Bindings.{bound};
 ghost use Rattle.rv_unit_laws.specs.Sections as sections;
 ghost use Rattle.rv_unit_laws.specs.Tables as laws;
 ghost use Rattle.rv_unit_laws.proofs.Before.{IsBefore, placed_latest};
@@ -16,6 +17,7 @@ ghost use Rattle.rv_tables.specs.Sections.{section_of, offset_of};
 ghost use Rattle.rv_tables.specs.Tables.{tables_of, label_at, numeric_label_of, assignment_of, IsIndexed};
 
 use crate::assignments::add_assigned;
+use crate::bindings::bind_all;
 use crate::number::Number;
 use crate::numeric_labels::{add_numbered, first_after};
 use crate::options::Options;
@@ -25,6 +27,7 @@ use crate::section_offset::SectionOffset;
 use indexmap::IndexMap;
 use rv_statement::Choice;
 use rv_text::{Expr, Meaning, SourceFault, Symbol, Value, eval};
+use rv_unit_laws::Binding;
 use std::alloc::{AllocError, Global};
 
 /// The most sections of a source.
@@ -101,6 +104,8 @@ pub struct Tables<'a> {
     /// The options that are set, and those that were kept, in their order.
     pub(crate) options: Options,
     pub(crate) kept: Vec<Options>,
+    /// What was said last of each name of which a binding was said.
+    pub(crate) bindings: IndexMap<&'a [u8], Binding>,
 }
 
 impl<'a> Tables<'a> {
@@ -129,6 +134,7 @@ impl<'a> Tables<'a> {
             by_name: IndexMap::new(alloc),
             options: Options::Both,
             kept: Vec::new(alloc),
+            bindings: IndexMap::new(alloc),
         })
     }
 
@@ -450,6 +456,22 @@ impl<'a> Tables<'a> {
             Choice::Nopic => (),
         }
         Ok(())
+    }
+
+    /// Gives names a binding.
+    pub(crate) fn bind(&mut self, binding: Binding, names: &[&'a [u8]]) -> Result<(), AllocError>
+        ensures tables { OnOk result (tables_of self.new
+            ≡ record (tables_of self.old) { bindings = bound binding (map now_of names.now) (tables_of self.old).bindings }) }
+        ensures indexed { OnOk result (IsIndexed self.old → IsIndexed self.new) }
+    {
+        bind_all(&mut self.bindings, binding, names)
+    }
+
+    /// The binding of a name: what was said last of it.
+    pub fn binding(&self, name: &[u8]) -> Binding
+        ensures { result ≡ (tables_of self.now).bindings name.now }
+    {
+        self.bindings.get(&name).copied().unwrap_or(Binding::Local)
     }
 
     /// The options that were kept last are set again, if there are any.

@@ -3,7 +3,7 @@
 use Rattle.std.proofs.Common.{◌≡◌, ℕ, ◌+◌, ◌-◌, ◌^◌, ◌≤◌, Bool, true, false, nat_le, List, ◌++◌, refl, ap, arith}
 use Rattle.std.proofs.lemmas.Bool.{leb-true, le-leb}
 use Rattle.std.specs.Prelude.{min, not, ◌&&◌, ◌||◌}
-use Rattle.rv_unit_laws.specs.Sections.{Section}
+use Rattle.rv_unit_laws.specs.Sections.{Section, is_nobits}
 use Rattle.rv_unit_laws.specs.Faults.{faulty_if, past_section}
 
 shown : (offset n : ℕ) → nat_le (offset + min n (2 ^ 64 - 1)) (2 ^ 28) ≡ nat_le (offset + n) (2 ^ 28)
@@ -22,7 +22,7 @@ shown offset n = by (nat_le (offset + n) (2 ^ 28)) refl
 
 -- the faults of data, but for those of its values
 abbrev pub data_faults : Section → ℕ → ℕ → List ℕ
-data_faults section offset bytes = faulty_if (section.executable || section.nobits) 15 ++ past_section section.executable offset bytes
+data_faults section offset bytes = faulty_if (section.executable || is_nobits section) 15 ++ past_section section.executable offset bytes
 
 pub data_shown : (section : Section) (offset n : ℕ) → data_faults section offset (min n (2 ^ 64 - 1)) ≡ data_faults section offset n
-data_shown section offset n = ap (λ b. faulty_if (section.executable || section.nobits) 15 ++ faulty_if (not section.executable && not b) 17) (shown offset n)
+data_shown section offset n = ap (λ b. faulty_if (section.executable || is_nobits section) 15 ++ faulty_if (not section.executable && not b) 17) (shown offset n)

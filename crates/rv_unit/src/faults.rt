@@ -3,6 +3,7 @@
 ghost use Rattle.std.specs.Prelude.{◌≡◌, ◌≤◌, ◌<◌, ◌+◌, ◌^◌, ℕ, List, [], ◌∷◌, ◌++◌, Option, Some, None, not, ◌&&◌, ◌||◌, ◌==◌, nat_le, is_some};
 ghost use Rattle.rv_text_laws.specs.Codes.{duplicate_label, wrong_section};
 ghost use Rattle.rv_lexer.specs.Fault.{number_of};
+ghost use Rattle.rv_unit_laws.specs.Sections.{is_nobits};
 ghost use Rattle.rv_unit_laws.specs.Faults as laws;
 ghost use Rattle.rv_unit_laws.specs.Tables as tables;
 ghost use Rattle.rv_unit.specs.Faults.{IsLowest, ForValue};
@@ -113,10 +114,12 @@ pub(crate) fn past_section(executable: bool, offset: u64, bytes: u64) -> Option<
 
 /// The fault of data at an offset, but for the faults of its values.
 pub(crate) fn data_fault(section: Section<'_>, offset: u64, bytes: u64) -> Option<SourceCode>
-    ensures { IsLowest result (laws.faulty_if (section.entry.executable || section.entry.nobits) wrong_section ++ laws.past_section section.entry.executable offset bytes) }
+    ensures { IsLowest result
+        (laws.faulty_if (section.entry.executable || is_nobits (section_of section.entry)) wrong_section
+        ++ laws.past_section section.entry.executable offset bytes) }
 {
     let misplaced = faulty_if(
-        section.executable || section.nobits,
+        section.executable || section.is_nobits(),
         SourceCode::WrongSection,
     );
     lower(misplaced, past_section(section.executable, offset, bytes))
@@ -159,7 +162,7 @@ pub(crate) fn alignment_fault(
     ensures { IsLowest result (laws.alignment_faults (section_of section.entry) offset alignment) }
 {
     if section.executable {
-        return code_alignment_fault(section.nobits, alignment);
+        return code_alignment_fault(section.is_nobits(), alignment);
     }
     if offset > LONGEST_SECTION {
         return Some(SourceCode::Limit);
@@ -219,10 +222,11 @@ pub(crate) fn choice_fault(depth: usize, choice: Choice) -> Option<SourceCode>
 
 /// The fault of an instruction in a section: it is none of code, or one without bytes.
 pub(crate) fn instruction_fault(section: Section<'_>) -> Option<SourceCode>
-    ensures { IsLowest result (laws.faulty_if (not section.entry.executable || section.entry.nobits) wrong_section) }
+    ensures { IsLowest result
+        (laws.faulty_if (not section.entry.executable || is_nobits (section_of section.entry)) wrong_section) }
 {
     faulty_if(
-        !section.executable || section.nobits,
+        !section.executable || section.is_nobits(),
         SourceCode::WrongSection,
     )
 }

@@ -26,8 +26,8 @@ mod scope;
 mod unit;
 
 pub use rv_tables::{
-    Assignment, Definition, Extent, LONGEST_SECTION, Options, Section, SectionOffset,
-    byte_alignment, padding, power_alignment, strings_size, values_size,
+    Assignment, Binding, Definition, Extent, LONGEST_SECTION, Options, Section, SectionOffset,
+    SectionType, byte_alignment, padding, power_alignment, strings_size, values_size,
 };
 pub use scope::Scope;
 pub use unit::Unit;

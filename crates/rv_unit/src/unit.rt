@@ -3,13 +3,13 @@
 ghost use Rattle.std.specs.Prelude.{◌≡◌, ◌<◌, None, length, map, option_map, IfOk, IfErr};
 ghost use Rattle.rv_statement.specs.View.{statement_of};
 ghost use Rattle.rv_unit_laws.specs.Faults.{first_fault};
-ghost use Rattle.rv_unit_laws.specs.Tables.{assigned_ever};
+ghost use Rattle.rv_unit_laws.specs.Tables.{assigned_ever, binding_of};
 ghost use Rattle.rv_tables.specs.Options.{options_of};
 ghost use Rattle.rv_tables.specs.Tables.{tables_of, assignment_of};
 ghost use Rattle.rv_unit.specs.Unit.{said, passed, IsFilled, NamesFirst};
 
 use rv_statement::Statement;
-use rv_tables::{Assignment, Extent, Options, SectionOffset, Tables};
+use rv_tables::{Assignment, Binding, Extent, Options, SectionOffset, Tables};
 use rv_text::SourceFault;
 use std::alloc::{AllocError, Global};
 
@@ -83,6 +83,13 @@ impl<'a> Unit<'a> {
         ensures { result.now ≡ (self.now).tables.extents.items }
     {
         self.tables.extents.as_slice()
+    }
+
+    /// The binding of a name: what the last `.globl` or `.local` that lists it says.
+    pub fn binding(&self, name: &[u8]) -> Binding
+        ensures { IsFilled self.now → result ≡ binding_of (said self.now) name.now }
+    {
+        self.tables.binding(name)
     }
 
     /// What the `.set`s give, in their order.

@@ -12,7 +12,7 @@ use Rattle.rv_statement.specs.Statement.{StatementKind, Label, Numbered, Instruc
 use Rattle.rv_statement.specs.declared.directive.Choice.{Choice}
 use Rattle.rv_unit_laws.specs.Sections.{Section, Opened, current_section, entered, entered_at, entered_by, place_of_name, most_sections}
 use Rattle.rv_unit_laws.specs.Contributions.{AlignmentForm, As_power, As_bytes, Contribution, Nothing, Bytes, Zero_bytes, Alignment, contribution}
-use Rattle.rv_unit_laws.specs.Tables.{Tables, Assignment, at_start, here, value, is_power, is_power_below, greatest_alignment, alignment_of, power_alignment, byte_alignment, alignment_as, contribution_alignment, or_none, data_bytes, contributed, counted_in, changed_at, is_defined, may_set, with_assignment, with_section, with_data, with_contribution, with_choice, with_chosen, with_numeric_label, assigned_by, chosen, after, after_directive, after_all}
+use Rattle.rv_unit_laws.specs.Tables.{Tables, Assignment, at_start, here, value, is_power, is_power_below, greatest_alignment, alignment_of, power_alignment, byte_alignment, alignment_as, contribution_alignment, or_none, data_bytes, contributed, counted_in, changed_at, is_defined, may_set, with_assignment, with_section, with_data, with_contribution, with_choice, with_chosen, with_bindings, with_numeric_label, assigned_by, chosen, after, after_directive, after_all}
 use Rattle.rv_unit_laws.proofs.Found.{and_both}
 
 -- ---- powers of two
@@ -250,9 +250,12 @@ grows_directive t o d =
     let entered = with_section t (entered_by d) in
     let named = with_assignment entered (assigned_by v o d) in
     let chose = with_chosen named (chosen d) in
-    grows_then t chose (with_contribution chose v (contribution d))
+    let contributed = with_contribution chose v (contribution d) in
+    grows_then t contributed (with_bindings contributed d)
+    (grows_then t chose contributed
     (grows_then t named chose (grows_then t entered named (grows_section t (entered_by d)) (grows_set entered (assigned_by v o d))) (grows_chosen named (chosen d)))
-    (grows_contribution chose v (contribution d))
+    (grows_contribution chose v (contribution d)))
+    (grows_same contributed (with_bindings contributed d) refl refl refl)
 
 pub grows_after : (t : Tables) (o : ℕ) (says : StatementKind) → Grows t (after t o says)
 grows_after t o (Label name) =

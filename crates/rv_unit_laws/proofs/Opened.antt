@@ -197,8 +197,9 @@ in_directive t o d n h =
     let v : Expression → Value = value t false o (here t) in
     let entered = with_section t (entered_by d) in
     let named = with_assignment entered (assigned_by v o d) in
-    in_contribution (with_chosen named (chosen d)) v (contribution d) n
-    (in_chosen named (chosen d) n (in_set entered (assigned_by v o d) n (in_section t (entered_by d) n h)))
+    let parts = in_contribution (with_chosen named (chosen d)) v (contribution d) n
+    (in_chosen named (chosen d) n (in_set entered (assigned_by v o d) n (in_section t (entered_by d) n h))) in
+    record { labels = parts.labels; numeric_labels = parts.numeric_labels }
 
 in_after : (t : Tables) (o : ℕ) (says : StatementKind) (n : ℕ) → t.opened.current < n → AreIn t n → AreIn (after t o says) n
 in_after t o (Label name) n inside h = in_label t o name n inside h

@@ -8,7 +8,7 @@ use Rattle.rv_statement.specs.Statement.{StatementKind, Label, Numbered, Instruc
 use Rattle.rv_statement.specs.declared.directive.Choice.{Choice}
 use Rattle.rv_statement.specs.declared.directive.Choice.TheVariants.{Pop}
 use Rattle.rv_text_laws.specs.Expression.{Here}
-use Rattle.rv_unit_laws.specs.Sections.{Section, current_section, place_of_name, most_sections, entered_by}
+use Rattle.rv_unit_laws.specs.Sections.{Section, is_nobits, current_section, place_of_name, most_sections, entered_by}
 use Rattle.rv_unit_laws.specs.Contributions.{Contents, Numbers, Texts, AlignmentForm, As_power, As_bytes, Contribution, Nothing, Bytes, Zero_bytes, Alignment, contribution}
 use Rattle.rv_unit_laws.specs.Tables.{Tables, at_start, after, tables, here, value, has_location, is_defined, is_power, greatest_alignment, longest_section, alignment_as, contents_size, counted, padding}
 
@@ -71,7 +71,7 @@ zero_faults section offset v =
 
 abbrev pub alignment_faults : Section → ℕ → Option ℕ → List ℕ
 alignment_faults section offset alignment =
-    if section.executable then code_alignment_faults section.nobits alignment else past_section false offset (padding alignment offset)
+    if section.executable then code_alignment_faults (is_nobits section) alignment else past_section false offset (padding alignment offset)
 
 -- a second definition of a name of which either is a label or a location; a location stands in no code
 abbrev pub set_faults : Tables → ℕ → Section → List ℕ → Value → List ℕ
@@ -103,7 +103,7 @@ contribution_faults all t ordinal Nothing = []
 contribution_faults all t ordinal (Bytes contents) =
     let section = current_section t.opened in
     contents_faults (λ e. value all true ordinal (here t) e) contents
-    ++ (faulty_if (section.executable || section.nobits) wrong_section ++ past_section section.executable (here t).offset (contents_size contents))
+    ++ (faulty_if (section.executable || is_nobits section) wrong_section ++ past_section section.executable (here t).offset (contents_size contents))
 contribution_faults all t ordinal (Zero_bytes count) =
     zero_faults (current_section t.opened) (here t).offset (value all false ordinal (here t) count)
 contribution_faults all t ordinal (Alignment form number) =
@@ -123,7 +123,7 @@ directive_faults all t ordinal d = contribution_faults all t ordinal (contributi
 abbrev pub faults : Tables → Tables → ℕ → StatementKind → List ℕ
 faults all t ordinal (Label name) = faulty_if (is_defined t ordinal name) duplicate_label
 faults all t ordinal (Numbered number) = []
-faults all t ordinal (Instruction mnemonic operands) = faulty_if (not (current_section t.opened).executable || (current_section t.opened).nobits) wrong_section
+faults all t ordinal (Instruction mnemonic operands) = faulty_if (not (current_section t.opened).executable || is_nobits (current_section t.opened)) wrong_section
 faults all t ordinal (Directs directive) = directive_faults all t ordinal directive
 
 -- a fault: its code and its line

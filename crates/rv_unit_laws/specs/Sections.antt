@@ -5,27 +5,38 @@ use Rattle.std.specs.List.{list_any}
 use Rattle.std.specs.Str.{bytes_eq}
 use Rattle.rv_statement.specs.Statement.{Directive, Enters, Opens}
 use Rattle.rv_statement.specs.Sections.{standard_name}
+use Rattle.rv_unit_laws.specs.declared.section_type.SectionType.{SectionType}
+use Rattle.rv_unit_laws.specs.declared.section_type.SectionType.TheVariants.{Progbits, Nobits, Note}
 
--- a section by its flags: ALLOC, EXECINSTR and WRITE, and the type NOBITS
+-- a section by its flags, ALLOC, EXECINSTR and WRITE, and its type
 pub record Section : Type 0 where
   pub name : List ℕ
   pub loaded : Bool
   pub executable : Bool
   pub writable : Bool
-  pub nobits : Bool
+  pub section_type : SectionType
+
+abbrev pub is_nobits_type : SectionType → Bool
+is_nobits_type Progbits = false
+is_nobits_type Nobits = true
+is_nobits_type Note = false
+
+-- it has no bytes in files
+abbrev pub is_nobits : Section → Bool
+is_nobits s = is_nobits_type s.section_type
 
 -- the region of memory to which a section goes
 abbrev pub goes_to_text : Section → Bool
 goes_to_text s = s.loaded && s.executable
 
 abbrev pub goes_to_bss : Section → Bool
-goes_to_bss s = s.loaded && not s.executable && s.nobits
+goes_to_bss s = s.loaded && not s.executable && is_nobits s
 
 abbrev pub goes_to_data : Section → Bool
-goes_to_data s = s.loaded && not s.executable && not s.nobits && s.writable
+goes_to_data s = s.loaded && not s.executable && not (is_nobits s) && s.writable
 
 abbrev pub goes_to_rodata : Section → Bool
-goes_to_rodata s = s.loaded && not s.executable && not s.nobits && not s.writable
+goes_to_rodata s = s.loaded && not s.executable && not (is_nobits s) && not s.writable
 
 abbrev pub begins_with : List ℕ → List ℕ → Bool
 begins_with front name = bytes_eq (take (length front) name) front
@@ -48,9 +59,15 @@ abbrev pub has_flag : ℕ → Option (List ℕ) → Bool → Bool
 has_flag letter None by_name = by_name
 has_flag letter (Some letters) by_name = list_any (λ l. l == letter) letters
 
-abbrev pub is_nobits : Option (List ℕ) → Bool → Bool
-is_nobits None by_name = by_name
-is_nobits (Some kind) by_name = bytes_eq kind (codes "nobits")
+-- the type of a word: progbits, nobits or note
+abbrev pub type_named : List ℕ → SectionType
+type_named word =
+    if bytes_eq word (codes "nobits") then Nobits else (if bytes_eq word (codes "note") then Note else Progbits)
+
+-- the type that is given; where none is, what the name's front says
+abbrev pub type_given : Option (List ℕ) → Bool → SectionType
+type_given None zeroed = if zeroed then Nobits else Progbits
+type_given (Some word) zeroed = type_named word
 
 -- a section with the flags a (97), x (120) and w (119) and the type that are given, or that its name's front says
 abbrev pub section_of : List ℕ → Option (List ℕ) → Option (List ℕ) → Section
@@ -59,11 +76,11 @@ section_of name flags kind = record {
   loaded = has_flag 97 flags (is_code name || is_variable name || is_zeroed name || is_constant name);
   executable = has_flag 120 flags (is_code name);
   writable = has_flag 119 flags (is_variable name || is_zeroed name);
-  nobits = is_nobits kind (is_zeroed name);
+  section_type = type_given kind (is_zeroed name);
 }
 
 abbrev pub text_section : Section
-text_section = record { name = codes ".text"; loaded = true; executable = true; writable = false; nobits = false }
+text_section = record { name = codes ".text"; loaded = true; executable = true; writable = false; section_type = Progbits }
 
 -- the sections that a source has opened so far, in their order, and the current one's index among them, from 0
 pub record Opened : Type 0 where

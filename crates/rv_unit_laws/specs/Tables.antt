@@ -12,6 +12,8 @@ use Rattle.rv_statement.specs.Statement.{StatementKind, Label, Numbered, Instruc
 use Rattle.rv_statement.specs.declared.directive.Choice.{Choice}
 use Rattle.rv_unit_laws.specs.Sections.{Section, Opened, at_first, entered, entered_by, section_at, current_section}
 use Rattle.rv_unit_laws.specs.Options.{Options, first_options, options_then, kept_then}
+use Rattle.rv_unit_laws.specs.declared.binding.Binding.{Binding}
+use Rattle.rv_unit_laws.specs.Bindings.{Bindings, all_local, bindings_then}
 use Rattle.rv_unit_laws.specs.Contributions.{Contents, Numbers, Texts, AlignmentForm, As_power, As_bytes, Contribution, Nothing, Bytes, Zero_bytes, Alignment, contribution}
 
 -- where something stands: the index of its section in the source, and the bytes of data before it there
@@ -50,6 +52,7 @@ pub record Tables : Type 0 where
   -- the options that are set, and those that were kept, the latest first
   pub options : Options
   pub kept : List Options
+  pub bindings : Bindings
 
 abbrev pub at_start : Tables
 at_start = record {
@@ -61,6 +64,7 @@ at_start = record {
   assignments = [];
   options = first_options;
   kept = [];
+  bindings = all_local;
 }
 
 -- where the next statement stands
@@ -358,12 +362,15 @@ abbrev pub assigned_by : (Expression → Value) → ℕ → Directive → Option
 assigned_by v ordinal (Sets name e) = assigned name ordinal (v e)
 assigned_by v ordinal _ = None
 
--- a directive enters a section, gives a name its value, chooses an option or contributes to its section
+abbrev pub with_bindings : Tables → Directive → Tables
+with_bindings t d = record t { bindings = bindings_then d t.bindings }
+
+-- a directive enters a section, gives a name its value, chooses an option, contributes to its section or binds names
 abbrev pub after_directive : Tables → ℕ → Directive → Tables
 after_directive t ordinal d =
     let v = value t false ordinal (here t) in
     let named = with_assignment (with_section t (entered_by d)) (assigned_by v ordinal d) in
-    with_contribution (with_chosen named (chosen d)) v (contribution d)
+    with_bindings (with_contribution (with_chosen named (chosen d)) v (contribution d)) d
 
 -- the tables after a statement of this ordinal; a faulty one defines nothing
 abbrev pub after : Tables → ℕ → StatementKind → Tables
@@ -380,6 +387,10 @@ after_all t ordinal (s ∷ ss) = after_all (after t ordinal s.kind) (suc ordinal
 -- the tables of a source
 abbrev pub tables : List Statement → Tables
 tables ss = after_all at_start 1 ss
+
+-- the binding of a name in a source: what the last `.globl` or `.local` that lists it says
+abbrev pub binding_of : List Statement → List ℕ → Binding
+binding_of ss name = (tables ss).bindings name
 
 -- whether a statement enters a section
 abbrev pub enters : StatementKind → Bool

@@ -1,9 +1,9 @@
 //! What the statements of one source define, and which of them is the first to be wrong beyond its syntax. Nothing here
-//! runs: `rv_tables` and `rv_unit` are the code.
+//! runs: `rv_tables` and `rv_unit` are the code. The two enums stand in definitions and in code alike.
 //!
 //! It takes statements as `rv_statement` has them (`specs/Statement`), and defines, each in a module of `specs/`: the
 //! sections of a source (`Sections`), what a directive contributes to its section (`Contributions`), what `.option` sets
-//! (`Options`), the tables that the statements fill one after the other, what a name means in each of them and in which
+//! (`Options`), which names are global (`Bindings`), the tables that the statements fill one after the other, what a name means in each of them and in which
 //! options each stands (`Tables`: `after`, `tables`, `meaning`, `definition`, `all_options`), and the faults (`Faults`:
 //! `first_fault`).
 //!
@@ -16,3 +16,9 @@
 //!
 //! Source: GNU as, "Sections", "Symbols", "Expressions" and "Pseudo Ops".
 #![tactic(auto)]
+
+mod binding;
+mod section_type;
+
+pub use binding::Binding;
+pub use section_type::SectionType;

@@ -1,6 +1,6 @@
 //! Worked programs, as contracts that the check computes.
 
-ghost use Rattle.std.specs.Prelude.{◌≡◌, [], ◌∷◌, None, length, map, codes};
+ghost use Rattle.std.specs.Prelude.{◌≡◌, [], ◌∷◌, Some, None, length, map, codes};
 ghost use Rattle.rv_isa_laws.specs.Hart.{Limit};
 ghost use Rattle.rv_worked.specs.Exit7.{exit7, exit7_map, exit7_text, exit255, exit255_map, first_file, second_file, two_files_map, exits};
 ghost use Rattle.rv_worked.specs.Exit7Executable.{exit7_file, exit7_image, exit7_linked};
@@ -17,6 +17,10 @@ ghost use Rattle.rv_chain_laws.specs.Contents.{IsLinked};
 ghost use Rattle.rv_worked.specs.Data.{hello, hello_map, says_hello, hello_text, figures, figures_map, figures_data, differences, differences_map, differences_data};
 ghost use Rattle.rv_worked.specs.CodeAlignment.{two_sections, with_gap, without_gap};
 ghost use Rattle.rv_worked.specs.Regions.{text_sections, text_bytes, rodata_bytes, data_bytes};
+ghost use Rattle.rv_unit_laws.specs.declared.binding.Binding.TheVariants.{Local, Global};
+ghost use Rattle.rv_unit_laws.specs.declared.section_type.SectionType.TheVariants.{Progbits, Nobits, Note};
+ghost use Rattle.rv_unit_laws.specs.Sections.{section_of};
+ghost use Rattle.rv_unit_laws.specs.Tables.{binding_of};
 ghost use Rattle.rv_source_laws.specs.Fits.{Fits, Holds, gaps_of};
 ghost use Rattle.rv_source_laws.specs.Resolves.{Resolves};
 ghost use Rattle.rv_source_laws.specs.SourceRun.{source_run};
@@ -111,6 +115,22 @@ pub fn figures_fit()
 /// That map resolves its names: a constant has its last value, and the last of `.globl` and `.local` holds.
 pub fn figures_resolve()
     ensures { Resolves (figures ∷ []) figures_map }
+{}
+
+/// The bindings of its names: what is said last holds, and a name of which nothing is said is local.
+pub fn figures_bind()
+    ensures said { map (λ n. binding_of figures n) (codes "_start" ∷ codes "limit" ∷ []) ≡ Global ∷ Global ∷ [] }
+    ensures last { binding_of figures (codes "table") ≡ Local }
+    ensures nothing { binding_of figures (codes "room") ≡ Local }
+{}
+
+/// The types of sections: what is given, else what the front of the name says.
+pub fn sections_have_types()
+    ensures note { (section_of (codes ".n") None (Some (codes "note"))).section_type ≡ Note }
+    ensures nobits { (section_of (codes ".n") None (Some (codes "nobits"))).section_type ≡ Nobits }
+    ensures given { (section_of (codes ".bss") None (Some (codes "progbits"))).section_type ≡ Progbits }
+    ensures zeroed { (section_of (codes ".sbss.x") None None).section_type ≡ Nobits }
+    ensures other { (section_of (codes ".note.x") None None).section_type ≡ Progbits }
 {}
 
 /// The bytes of its data: a constant has its latest earlier value.

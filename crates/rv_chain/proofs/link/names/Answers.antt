@@ -1,12 +1,10 @@
-use Rattle.std.proofs.Common.{◌≡◌, ℕ, List, [], ◌++◌, Bool, false, map, ap, sym, subst, ◌∙◌}
+use Rattle.std.proofs.Common.{◌≡◌, [], ◌++◌, map, ap, ◌∙◌}
 use Rattle.std.specs.Prelude.{filter, not}
 use Rattle.rv_statement.specs.View.{statement_of}
 use Rattle.rv_unit_laws.specs.Tables.{tables}
 use Rattle.rv_unit.specs.Unit.{said}
 use Rattle.rv_map.specs.Map.{global_of}
-use Rattle.rv_source_laws.specs.Resolves.{is_one_of, is_global_after, linker_symbols}
-use Rattle.rv_link.specs.Globals.{Has}
-use Rattle.rv_link.specs.Settings.{AreFirsts}
+use Rattle.rv_source_laws.specs.Resolves.{is_one_of, linker_symbols}
 use Rattle.rv_link_laws.specs.Definitions.{names_from, definitions_from}
 use Rattle.rv_chain.specs.Linking.{map_from}
 use Rattle.rv_chain.proofs.link.names.Goals as goal
@@ -16,18 +14,15 @@ returns c =
     let ss = said c.args.unit.now in
     let t = tables ss in
     let x = c.args.placed.now in
-    let test : List ℕ → Bool = λ name. is_global_after false ss name in
-    let set : Has c.in_ok-defined.defined.globals.now.set test = subst (λ g. Has g.set test) (sym c.in_ok-defined.ensures.globals) c.requires.globals in
-    let firsts : AreFirsts c.in_ok-defined.defined.firsts.ordinals t.assignments =
-    subst (λ u. AreFirsts c.in_ok-defined.defined.firsts.ordinals u.assignments) c.requires.filled.tables c.in_ok-defined.ensures.firsts in
+    let defined = c.in_ok-defined.ensures c.requires.filled in
     let said_are = ap (λ l. map statement_of l) c.statements.ensures in
-    let found = c.in_ok-names.ensures.defines test c.requires.filled set firsts in
-    let names = c.in_ok-put_symbols.ensures.names test t set firsts in
+    let found = c.in_ok-names.ensures.defines c.requires.filled defined in
+    let names = c.in_ok-put_symbols.ensures.names t defined in
     let starts = c.as_slice-starts.ensures.value in
     let items = c.as_slice-items.ensures.value in
-    let definitions : map global_of c.in_ok-names.names.items ≡ definitions_from test t x.layout.starts.items x.items.items 1 ss x.items.items =
-    found ∙ ap (λ s. definitions_from test t s c.as_slice-items.result.now 1 ss c.as_slice-items.result.now) starts
-    ∙ ap (λ i. definitions_from test t x.layout.starts.items i 1 ss i) items in
+    let definitions : map global_of c.in_ok-names.names.items ≡ definitions_from t x.layout.starts.items x.items.items 1 ss x.items.items =
+    found ∙ ap (λ s. definitions_from t s c.as_slice-items.result.now 1 ss c.as_slice-items.result.now) starts
+    ∙ ap (λ i. definitions_from t x.layout.starts.items i 1 ss i) items in
     names
-    ∙ ap (λ d. d ++ filter (λ g. not (is_one_of (names_from test t 1 (map statement_of c.statements.result.now)) g.name)) (linker_symbols (map_from x 0 []))) definitions
-    ∙ ap (λ l. definitions_from test t x.layout.starts.items x.items.items 1 ss x.items.items ++ filter (λ g. not (is_one_of (names_from test t 1 l) g.name)) (linker_symbols (map_from x 0 []))) said_are
+    ∙ ap (λ d. d ++ filter (λ g. not (is_one_of (names_from t 1 (map statement_of c.statements.result.now)) g.name)) (linker_symbols (map_from x 0 []))) definitions
+    ∙ ap (λ l. definitions_from t x.layout.starts.items x.items.items 1 ss x.items.items ++ filter (λ g. not (is_one_of (names_from t 1 l) g.name)) (linker_symbols (map_from x 0 []))) said_are

@@ -32,12 +32,12 @@ loop-i-preserved c =
     let at = drop_more items i no_item inside' in
     let next : i + 1 + 1 ≡ suc (i + 1) = omega arith in
     record {
-      defines = λ test filled set firsts.
-          defined_more test (tables all) starts items (i + 1) (i + 1 + 1) (drop i all) (drop (i + 1) all) (drop i items) (drop (i + 1) items) (statement_of x) _
-          (map global_of c.loop-i.defined.items) (map global_of c.put_definition.new.defined.items) _ next here at (c.in_ok-put_definition.ensures.defines test filled set firsts) (c.loop-i.invariant.defines test filled set firsts);
-      shown = λ test filled set firsts.
-          shown_more test (tables all) starts items (i + 1) (i + 1 + 1) (drop i all) (drop (i + 1) all) (drop i items) (drop (i + 1) items) (statement_of x) _ next here at (c.in_ok-put_definition.ensures.shown test filled set firsts)
-          ∙ c.loop-i.invariant.shown test filled set firsts;
+      defines = λ filled names.
+          defined_more (tables all) starts items (i + 1) (i + 1 + 1) (drop i all) (drop (i + 1) all) (drop i items) (drop (i + 1) items) (statement_of x) _
+          (map global_of c.loop-i.defined.items) (map global_of c.put_definition.new.defined.items) _ next here at (c.in_ok-put_definition.ensures.defines filled names) (c.loop-i.invariant.defines filled names);
+      shown = λ filled names.
+          shown_more (tables all) starts items (i + 1) (i + 1 + 1) (drop i all) (drop (i + 1) all) (drop i items) (drop (i + 1) items) (statement_of x) _ next here at (c.in_ok-put_definition.ensures.shown filled names)
+          ∙ c.loop-i.invariant.shown filled names;
     }
 
 pub returns-in_err-put_definition-clause-refused : goal.returns-in_err-put_definition-clause-refused
@@ -57,26 +57,26 @@ returns-in_err-put_definition-clause-refused c =
     let next : i + 1 + 1 ≡ suc (i + 1) = omega arith in
     let found = err_from_is_err_and c.from_residual.result c.from_residual.ensures.1 in
     let e = c.in_err-put_definition.field-0.0 in
-    rw (found.1, found.2) (λ test filled set firsts.
-    subst (λ line. NamesLine e line) (c.loop-i.invariant.shown test filled set firsts)
-    (unshown_here test (tables all) starts items (i + 1) (i + 1 + 1) (drop i all) (drop (i + 1) all) (drop i items) (drop (i + 1) items) (statement_of x) _ next here at e (c.in_err-put_definition.ensures.refused test filled set firsts)))
+    rw (found.1, found.2) (λ filled names.
+    subst (λ line. NamesLine e line) (c.loop-i.invariant.shown filled names)
+    (unshown_here (tables all) starts items (i + 1) (i + 1 + 1) (drop i all) (drop (i + 1) all) (drop i items) (drop (i + 1) items) (statement_of x) _ next here at e (c.in_err-put_definition.ensures.refused filled names)))
 
 pub returns-clause-defines : goal.returns-clause-defines
-returns-clause-defines c = λ test filled set firsts.
+returns-clause-defines c = λ filled names.
     let n = c.loop-i.i in
     let u = c.args.unit.now in
     let all = said u in
     let past : length all ≤ n = subst (λ k. k ≤ n) (ap length c.statements-statements.ensures ∙ sym (length-map u.statements.items statement_of)) c.loop-i-test.false in
     let none : drop n all ≡ [] = at_drop_all (λ l. l) all n past in
     sym (append-nil (map global_of c.loop-i.defined.items))
-    ∙ ap (λ l. map global_of c.loop-i.defined.items ++ definitions_from test (tables all) c.args.starts.now c.args.items.now (n + 1) l (drop n c.args.items.now)) (sym none)
-    ∙ c.loop-i.invariant.defines test filled set firsts
+    ∙ ap (λ l. map global_of c.loop-i.defined.items ++ definitions_from (tables all) c.args.starts.now c.args.items.now (n + 1) l (drop n c.args.items.now)) (sym none)
+    ∙ c.loop-i.invariant.defines filled names
 
 pub returns-clause-shown : goal.returns-clause-shown
-returns-clause-shown c = λ test filled set firsts.
+returns-clause-shown c = λ filled names.
     let n = c.loop-i.i in
     let u = c.args.unit.now in
     let all = said u in
     let past : length all ≤ n = subst (λ k. k ≤ n) (ap length c.statements-statements.ensures ∙ sym (length-map u.statements.items statement_of)) c.loop-i-test.false in
     let none : drop n all ≡ [] = at_drop_all (λ l. l) all n past in
-    sym (c.loop-i.invariant.shown test filled set firsts) ∙ ap (λ l. first_unshown test (tables all) c.args.starts.now c.args.items.now (n + 1) l (drop n c.args.items.now)) none
+    sym (c.loop-i.invariant.shown filled names) ∙ ap (λ l. first_unshown (tables all) c.args.starts.now c.args.items.now (n + 1) l (drop n c.args.items.now)) none

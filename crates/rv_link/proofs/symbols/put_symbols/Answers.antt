@@ -10,8 +10,8 @@ use Rattle.rv_link.proofs.Named.{filtered_more}
 use Rattle.rv_link.proofs.symbols.put_symbols.Goals as goal
 
 pub returns-clause-names : goal.returns-clause-names
-returns-clause-names c = λ test t set firsts.
-    let p : Global → Bool = λ g. not (is_one_of (names_from test t 1 (map statement_of c.args.statements.now)) g.name) in
+returns-clause-names c = λ t names.
+    let p : Global → Bool = λ g. not (is_one_of (names_from t 1 (map statement_of c.args.statements.now)) g.name) in
     let l = c.args.layout.now in
     let old = map shown_global c.args.symbols.now.items in
     let a = symbol (codes "_etext") l.text.end in
@@ -19,11 +19,11 @@ returns-clause-names c = λ test t set firsts.
     let d = symbol (codes "_edata") l.data.end in
     let e = symbol (codes "_end") l.bss.end in
     let f = symbol (codes "__global_pointer$") (l.data.start + 0x800) in
-    let first = c.in_ok-put_symbol.ensures.names test t set firsts in
-    let second = filtered_more p old _ (map shown_global c.put_symbol-2.new.symbols.items) (a ∷ []) b first (c.in_ok-put_symbol-2.ensures.names test t set firsts) in
-    let third = filtered_more p old _ (map shown_global c.put_symbol-3.new.symbols.items) (a ∷ b ∷ []) d second (c.in_ok-put_symbol-3.ensures.names test t set firsts) in
-    let fourth = filtered_more p old _ (map shown_global c.put_symbol-4.new.symbols.items) (a ∷ b ∷ d ∷ []) e third (c.in_ok-put_symbol-4.ensures.names test t set firsts) in
-    filtered_more p old _ (map shown_global c.put_symbol-5.new.symbols.items) (a ∷ b ∷ d ∷ e ∷ []) f fourth (c.in_ok-put_symbol-5.ensures.names test t set firsts)
+    let first = c.in_ok-put_symbol.ensures.names t names in
+    let second = filtered_more p old _ (map shown_global c.put_symbol-2.new.symbols.items) (a ∷ []) b first (c.in_ok-put_symbol-2.ensures.names t names) in
+    let third = filtered_more p old _ (map shown_global c.put_symbol-3.new.symbols.items) (a ∷ b ∷ []) d second (c.in_ok-put_symbol-3.ensures.names t names) in
+    let fourth = filtered_more p old _ (map shown_global c.put_symbol-4.new.symbols.items) (a ∷ b ∷ d ∷ []) e third (c.in_ok-put_symbol-4.ensures.names t names) in
+    filtered_more p old _ (map shown_global c.put_symbol-5.new.symbols.items) (a ∷ b ∷ d ∷ e ∷ []) f fourth (c.in_ok-put_symbol-5.ensures.names t names)
 
 pub returns-in_err-put_symbol-clause-refused : goal.returns-in_err-put_symbol-clause-refused
 returns-in_err-put_symbol-clause-refused c =

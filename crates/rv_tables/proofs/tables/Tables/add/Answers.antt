@@ -10,3 +10,15 @@ returns-in-AlignsToBytes-clause-tables c =
     on_ok c.align_to_bytes.result _ _
     (λ f i h. f i c.args.ordinal h ∙ sym (ap (λ k. after (tables_of c.args.self.now) c.args.ordinal (statement_kind k)) c.in-AlignsToBytes.is))
     c.align_to_bytes.ensures.tables
+
+pub returns-in-AlignsToPower-clause-tables : goal.returns-in-AlignsToPower-clause-tables
+returns-in-AlignsToPower-clause-tables c =
+    on_ok c.align_to_power.result _ _
+    (λ f i h. f i c.args.ordinal h ∙ sym (ap (λ k. after (tables_of c.args.self.now) c.args.ordinal (statement_kind k)) c.in-AlignsToPower.is))
+    c.align_to_power.ensures.tables
+
+pub returns-in-Zeros-clause-tables : goal.returns-in-Zeros-clause-tables
+returns-in-Zeros-clause-tables c =
+    on_ok c.add_zeros.result _ _
+    (λ f i h. f i c.args.ordinal h ∙ sym (ap (λ k. after (tables_of c.args.self.now) c.args.ordinal (statement_kind k)) c.in-Zeros.is))
+    c.add_zeros.ensures.tables

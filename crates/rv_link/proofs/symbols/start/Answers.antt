@@ -9,8 +9,8 @@ use Rattle.rv_link_laws.specs.Rows.{address_of}
 use Rattle.rv_link_laws.specs.Definitions.{entry_from}
 use Rattle.rv_link.proofs.Placed.{left_map}
 use Rattle.rv_link.proofs.Named.{entry_here}
-use Rattle.rv_link.proofs.symbols.entry.Goals as goal
-use Rattle.rv_link.proofs.symbols.entry.Goals.{then-not-is_entry-via-then-not-is_entry, then-not-is_entry-via-else-not-is_entry+then-not-items-i, then-address-eq0, else-address-eq0}
+use Rattle.rv_link.proofs.symbols.start.Goals as goal
+use Rattle.rv_link.proofs.symbols.start.Goals.{then-not-is_entry-via-then-not-is_entry, then-not-is_entry-via-else-not-is_entry+then-not-items-i, then-address-eq0, else-address-eq0}
 
 abbrev no_item : Item
 no_item = record { section = 0; offset = 0; bytes = 0; line = 0; shown = false; executed = false; text = false }
@@ -78,5 +78,5 @@ returns-in-loop-i-clause-none c =
     (sym c.is_entry.ensures ∙ c.if-not-is_entry.false) c.if-not-items-i.false c.address-address.ensures.value c.loop-i.invariant in
     elim c.if-address-eq0.branch [
       | then-address-eq0 w ↦ (rw w.result-is tt)
-      | else-address-eq0 w ↦ (rw w.result-is (λ test has global. odd _ _ found w.if-address-eq0.false))
+      | else-address-eq0 w ↦ (rw w.result-is (odd _ _ found w.if-address-eq0.false))
     ]

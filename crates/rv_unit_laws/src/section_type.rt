@@ -1,0 +1,12 @@
+//! What a section holds.
+
+/// The type of a section (gABI, "Sections", `sh_type`).
+#[derive(Clone, Copy, Debug, PartialEq, Eq, Drop)]
+pub enum SectionType {
+    /// Bytes of the program.
+    Progbits,
+    /// Zeros, of which files have no bytes.
+    Nobits,
+    /// Notes for other programs.
+    Note,
+}
