@@ -90,7 +90,8 @@ fn place(alloc: Global, unit: &Unit<'_>, start: u64) -> Result<Placed, Fault>
     requires { IsFilled unit.now }
     ensures stands { IfOk result (StandsFrom (said unit.now) start) }
     ensures items { IfOk result (λ x. length x.items.items ≡ length (unit.now).statements.items) }
-    ensures pieces { IfOk result (λ x. length x.pieces.items ≡ length (unit.now).tables.extents.items) }
+    ensures pieces { IfOk result
+        (λ x. length x.pieces.items ≡ length (unit.now).tables.extents.items) }
     ensures refuses { IfErr result (λ fault. first_fault (said unit.now) ≡ None
         → code_fault (said unit.now) ≡ None → size_fault (said unit.now) ≡ None
         → IsOfLink fault) }
@@ -130,7 +131,8 @@ fn too_large(unit: &Unit<'_>, items: &[Item]) -> LinkFault
 fn names(alloc: Global, unit: &Unit<'_>, placed: &Placed) -> Result<Vec<Defined>, Fault>
     requires filled { IsFilled unit.now }
     requires items { length (placed.now).items.items ≡ length (unit.now).statements.items }
-    ensures { IfOk result (λ names. AreNamed (said unit.now) placed.now (map global_of names.items)) }
+    ensures { IfOk result
+        (λ names. AreNamed (said unit.now) placed.now (map global_of names.items)) }
 {
     let defined = Names::of(alloc, unit)?;
     let starts = placed.layout.starts.as_slice();
@@ -156,7 +158,9 @@ fn figures(
     requires filled { IsFilled unit.now }
     requires good { first_fault (said unit.now) ≡ None }
     requires items { length (placed.now).items.items ≡ length (unit.now).statements.items }
-    ensures { IfOk result (λ r. GivesData (said unit.now) (placed.now).layout.starts.items (placed.now).items.items (map global_of names.now) (map (λ b. b.items) r.items)) }
+    ensures { IfOk result
+        (λ r. GivesData (said unit.now) (placed.now).layout.starts.items (placed.now).items.items
+        (map global_of names.now) (map (λ b. b.items) r.items)) }
 {
     let starts = placed.layout.starts.as_slice();
     match data(alloc, unit, placed.items.as_slice(), starts, names) {
@@ -188,7 +192,9 @@ fn region(
     place: u64,
 ) -> Result<Vec<u8>, AllocError>
     requires { length sections.now ≡ length (placed.now).pieces.items }
-    ensures { IfOk result (λ bytes. bytes.items ≡ contents_of destination place (placed.now).pieces.items (placed.now).layout.starts.items (map (λ s. s.items) sections.now)) }
+    ensures { IfOk result
+        (λ bytes. bytes.items ≡ contents_of destination place (placed.now).pieces.items
+        (placed.now).layout.starts.items (map (λ s. s.items) sections.now)) }
 {
     let pieces = placed.pieces.as_slice();
     let starts = placed.layout.starts.as_slice();

@@ -23,7 +23,8 @@ end_of to stop (x ∷ xs) = if goes to x then end_of to (end_behind x stop) xs e
 -- where sections start: those that go to a region after one another, the others where they did
 abbrev pub started : Destination → ℕ → List ℕ → List Piece → List ℕ
 started to stop (s ∷ ss) (x ∷ xs) =
-    if goes to x then aligned x.alignment stop ∷ started to (end_behind x stop) ss xs else s ∷ started to stop ss xs
+    if goes to x then aligned x.alignment stop ∷ started to
+    (end_behind x stop) ss xs else s ∷ started to stop ss xs
 started to stop ss xs = ss
 
 -- the greatest alignment of the sections that go to a region
@@ -34,7 +35,9 @@ greatest to (x ∷ xs) = if goes to x then max x.alignment (greatest to xs) else
 -- where sections start in a program whose regions start here
 abbrev pub starts_of : List Piece → ℕ → ℕ → ℕ → ℕ → List ℕ
 starts_of pieces text rodata variables bss =
-    started Bss bss (started Data variables (started Rodata rodata (started Text text (replicate (length pieces) 0) pieces) pieces) pieces) pieces
+    started Bss bss (started Data variables
+    (started Rodata rodata
+    (started Text text (replicate (length pieces) 0) pieces) pieces) pieces) pieces
 
 -- text from its start; rodata and data at the next pages, bss after data at its greatest alignment; all of it below the
 -- stack, within the limit of memory
@@ -49,4 +52,5 @@ pub record IsLayout (text_start : ℕ) (pieces : List Piece) (l : Layout) : Type
   pub data_end : l.data.end ≡ end_of Data l.data.start pieces
   pub bss_end : l.bss.end ≡ end_of Bss l.bss.start pieces
   pub below : l.bss.end ≤ stack_start
-  pub memory : (l.text.end - l.text.start) + (l.rodata.end - l.rodata.start) + (l.bss.end - l.data.start) ≤ memory_limit
+  pub memory : (l.text.end - l.text.start) + (l.rodata.end - l.rodata.start) +
+      (l.bss.end - l.data.start) ≤ memory_limit
