@@ -9,7 +9,7 @@ use Rattle.rv_tables.specs.Sections.{extent_section}
 use Rattle.rv_source_laws.specs.Fits.{is_constant, is_low}
 use Rattle.rv_link_laws.specs.declared.item.Item.{Item}
 use Rattle.rv_link_laws.specs.Suits.{IsMultiple}
-use Rattle.rv_chain.specs.Sized.{IsPadded, IsSized, IsSizedDirective}
+use Rattle.rv_chain.specs.Sized.{IsPadded, IsAligned, IsSized, IsSizedDirective}
 
 -- `bytes` bytes of data after `offset` others
 abbrev pub stretch : ℕ → ℕ → Item
@@ -93,10 +93,12 @@ abbrev pub CanPadIn : Extent → ℕ → Option ℕ → Type 0
 CanPadIn e offset alignment = CanPad e.section.executable e.alignment offset alignment
 
 abbrev pub AlignsIn : Extent → Value → ℕ → ℕ → Option ℕ → Type 0
-AlignsIn e v offset bytes alignment = (is_constant v ≡ true) × PadsIn e offset bytes alignment
+AlignsIn e v offset bytes alignment =
+    IsAligned v e.section.executable (stretch offset bytes) e.alignment alignment
 
 abbrev pub CanAlignIn : Extent → Value → ℕ → Option ℕ → Type 0
-CanAlignIn e v offset alignment = (is_constant v ≡ true) × CanPadIn e offset alignment
+CanAlignIn e v offset alignment =
+    CanAlign v e.section.executable e.alignment offset alignment
 
 abbrev pub IsSizeIn : Extent → (Expression → Value) → ℕ → StatementKind → ℕ → Type 0
 IsSizeIn e v offset kind bytes = IsSize v e.section.executable e.alignment offset kind bytes

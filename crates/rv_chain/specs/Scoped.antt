@@ -47,5 +47,5 @@ abbrev pub is_placed_at : Scope → ℕ → StatementKind → Bool
 is_placed_at scope index kind = is_placed (passed (said scope.unit.now) index) (index + 1) kind
 
 -- of each value that a result at a line stands for
-abbrev pub ForValue : Result Value SourceFault → ℕ → (values.Value → Type 0) → Type 0
-ForValue result line P = (v : values.Value) → IsOutcome result line v → P v
+abbrev pub ForOutcome : Result Value SourceFault → ℕ → (values.Value → Type 0) → Type 0
+ForOutcome result line P = (v : values.Value) → IsOutcome result line v → P v

@@ -14,7 +14,7 @@ ghost use Rattle.rv_source_laws.specs.Fits.{is_low};
 ghost use Rattle.rv_chain_laws.specs.Refusals.{code_fault, size_fault};
 ghost use Rattle.rv_link_laws.specs.Items.{AreItems};
 ghost use Rattle.rv_link_laws.specs.Suits.{IsMultiple};
-ghost use Rattle.rv_chain.specs.Scoped.{values_at, is_placed_at, AtNext, StandsHere, ForValue};
+ghost use Rattle.rv_chain.specs.Scoped.{values_at, is_placed_at, AtNext, StandsHere, ForOutcome};
 ghost use Rattle.rv_chain.specs.Sized.{AreSized};
 ghost use Rattle.rv_chain.specs.Measured.{is_executed, IsExtentAt, CanCount, PadsIn, CanPadIn, AlignsIn, CanAlignIn, IsSizeIn, HasSizeIn, HasRoomIn, IsSizedIn};
 
@@ -63,8 +63,8 @@ fn bytes_of_strings(ended: bool, strings: &[&[u8]], line: u32) -> Result<u32, So
 
 /// As many bytes as a value says.
 fn bytes_of_zeros(value: Result<Value<'_>, SourceFault>, line: u32) -> Result<u32, SourceFault>
-    ensures size { IfOk result (λ n. ForValue value.entry line (λ v. v ≡ values.Constant n)) }
-    ensures refuses { IfErr result (λ _. ForValue value.entry line (λ v. CanCount v → ⊥)) }
+    ensures size { IfOk result (λ n. ForOutcome value.entry line (λ v. v ≡ values.Constant n)) }
+    ensures refuses { IfErr result (λ _. ForOutcome value.entry line (λ v. CanCount v → ⊥)) }
 {
     let count = constant(value, line)?;
     fitting(count, line)
@@ -140,9 +140,9 @@ fn padding_to_power(
     offset: u32,
     line: u32,
 ) -> Result<u32, SourceFault>
-    ensures size { IfOk result (λ n. ForValue value.entry line
+    ensures size { IfOk result (λ n. ForOutcome value.entry line
         (λ v. AlignsIn extent.entry v offset n (laws.power_alignment v))) }
-    ensures refuses { IfErr result (λ _. ForValue value.entry line
+    ensures refuses { IfErr result (λ _. ForOutcome value.entry line
         (λ v. CanAlignIn extent.entry v offset (laws.power_alignment v) → ⊥)) }
 {
     let power = constant(value, line)?;
@@ -157,9 +157,9 @@ fn padding_to_bytes(
     offset: u32,
     line: u32,
 ) -> Result<u32, SourceFault>
-    ensures size { IfOk result (λ n. ForValue value.entry line
+    ensures size { IfOk result (λ n. ForOutcome value.entry line
         (λ v. AlignsIn extent.entry v offset n (laws.byte_alignment v))) }
-    ensures refuses { IfErr result (λ _. ForValue value.entry line
+    ensures refuses { IfErr result (λ _. ForOutcome value.entry line
         (λ v. CanAlignIn extent.entry v offset (laws.byte_alignment v) → ⊥)) }
 {
     let bytes = constant(value, line)?;
