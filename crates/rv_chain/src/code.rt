@@ -50,7 +50,7 @@ fn put_found(sections: &mut [Vec<u8>], section: u32, found: Option<Inst>) -> Res
     }
 }
 
-/// So many sections without code.
+/// `count` sections without code.
 #[tactic(auto, using(crate::proofs::SoFar::empty_behind))]
 pub(crate) fn empty_sections(alloc: Global, count: usize) -> Result<Vec<Vec<u8>>, AllocError>
     ensures count { IfOk result (λ sections. length sections.items ≡ count) }

@@ -28,7 +28,7 @@ use rv_unit::{
 };
 use std::alloc::{AllocError, Global};
 
-/// So many bytes, where a section can have them.
+/// `bytes` as the size of a statement, where a section can have them.
 fn fitting(bytes: u64, line: u32) -> Result<u32, SourceFault>
     ensures same { IfOk result (λ n. n ≡ bytes) }
     ensures fits { IfOk result (λ n. n ≤ laws.longest_section) }
@@ -286,7 +286,7 @@ fn end(ends: &[u32], section: u32) -> u32
     ends[section as usize]
 }
 
-/// So many sections without a byte.
+/// `count` sections without a byte.
 fn no_bytes(alloc: Global, count: usize) -> Result<Vec<u32>, AllocError>
     ensures count { IfOk result (λ ends. length ends.items ≡ count) }
     ensures none { IfOk result (λ ends. (j : ℕ) → slice_index ends.items j ≡ 0) }

@@ -196,7 +196,7 @@ fn keep<'a>(
     Ok(())
 }
 
-/// So many sections of which nothing was found.
+/// `count` sections of which nothing was found.
 fn no_names<'a>(alloc: Global, count: usize) -> Result<Vec<Option<&'a [u8]>>, AllocError>
     ensures count { IfOk result (λ found. length found.items ≡ count) }
     ensures none { IfOk result (λ found. (j : ℕ) → found_in found.items j ≡ None) }
