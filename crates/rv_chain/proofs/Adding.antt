@@ -14,14 +14,13 @@ use Rattle.rv_statement.specs.declared.mnemonic.Mnemonic.{Mnemonic}
 use Rattle.rv_statement.specs.Statement.{StatementKind, Label, Numbered, Instruction, Directs, Expression, Statement, Operand, Register, Value as Of_value, Applied, Target, Accesses, Word, Quoted}
 use Rattle.rv_chain_laws.specs.Contents.{words}
 use Rattle.rv_source_laws.specs.Fits.{constant_in, is_constant}
-use Rattle.rv_chain_laws.specs.InstructionFaults.{number_faults, operand_faults, scratch_faults, own_faults, is_simple, is_built, instruction_faults}
-use Rattle.rv_chain_laws.specs.Refusals.{code_size}
-use Rattle.rv_source_laws.specs.Options.{Options}
+use Rattle.rv_chain_laws.specs.InstructionFaults.{number_faults, operand_faults, scratch_faults, own_faults, is_simple, is_built}
+use Rattle.rv_chain_laws.specs.Refusals.{code_faults, code_size}
+use Rattle.rv_unit_laws.specs.Options.{Options}
 use Rattle.rv_source_laws.specs.Meaning.{expanded}
 use Rattle.rv_source_laws.specs.Program.{in_operand}
 use Rattle.rv_chain_laws.proofs.Held.{none_left}
 use Rattle.rv_link_laws.specs.Suits.{code_said}
-use Rattle.rv_chain.specs.Choices.{options_of}
 use Rattle.rv_chain.specs.Code.{Codes, instruction_by, word_of}
 use Rattle.rv_chain.specs.Coded.{IsCoded}
 use Rattle.rv_chain.specs.Added.{Adds}
@@ -63,16 +62,17 @@ constants_all m v l (Accesses set ∷ os) simple h = constants_all m v l os simp
 constants_all m v l (Word name ∷ os) simple h = constants_all m v l os simple h
 constants_all m v l (Quoted bytes ∷ os) simple h = constants_all m v l os simple h
 
-one_coded : (o : Options) (v : Expression → values.Value) (l : Primary → Bool) (says : StatementKind) (i : Inst) → instruction_faults o v l says ≡ [] → instruction_by (λ e. constant_in (v e)) says ≡ Some (i ∷ []) → IsValid i → IsCoded v says
-one_coded o v l (Label name) i sound is valid = tt
-one_coded o v l (Numbered number) i sound is valid = tt
-one_coded o v l (Instruction m os) i sound is valid =
+one_coded : (o : Options) (b : Bool) (v : Expression → values.Value) (l : Primary → Bool) (says : StatementKind) (i : Inst) → code_faults o b v l says ≡ []
+    → instruction_by (λ e. constant_in (v e)) says ≡ Some (i ∷ []) → IsValid i → IsCoded v says
+one_coded o b v l (Label name) i sound is valid = tt
+one_coded o b v l (Numbered number) i sound is valid = tt
+one_coded o b v l (Instruction m os) i sound is valid =
     let placed = placed_sound (not o.rvc && is_built v m os) (own_faults v l m os) sound in
     let own = none_left (scratch_faults m os) (flat_map (operand_faults v l m) os) placed.0 in
     let built = and_parts (not o.rvc) (is_built v m os) placed.1 in
     let simple = and_parts (list_all is_simple os) (is_some (expanded (λ e. constant_in (v e)) m os)) built.1 in
     (i, (constants_all m v l os simple.0 own.1, is, valid))
-one_coded o v l (Directs directive) i sound is valid = tt
+one_coded o b v l (Directs directive) i sound is valid = tt
 
 no_code : (v : Expression → values.Value) (says : StatementKind) → code_size says ≡ 0 → IsCoded v says
 no_code v (Label name) e = tt
@@ -81,13 +81,14 @@ no_code v (Instruction m os) e = absurd (cc)
 no_code v (Directs directive) e = tt
 
 -- what is told of a statement by its instruction
-pub codes_found : (o : Options) (v : Expression → values.Value) (l : Primary → Bool) (s : Statement) (found : Option Inst) → Codes o v l s (Ok found)
-    → (instruction_faults o v l s.kind ≡ []) × (length (code_said v s.kind) ≡ code_size s.kind) × (word_of found ≡ code_said v s.kind) × IsCoded v s.kind
-codes_found o v l s None h = (h.0, ap length h.1 ∙ sym h.2, sym h.1, no_code v s.kind h.2)
-codes_found o v l s (Some i) h =
+pub codes_found : (o : Options) (b : Bool) (v : Expression → values.Value) (l : Primary → Bool) (s : Statement) (found : Option Inst) → Codes o b v l s (Ok found)
+    → (code_faults o b v l s.kind ≡ []) × (length (code_said v s.kind) ≡ code_size s.kind) × (word_of found ≡ code_said v s.kind) × IsCoded v s.kind
+codes_found o b v l s None h = (h.0, ap length h.1 ∙ sym h.2, sym h.1, no_code v s.kind h.2)
+codes_found o b v l s (Some i) h =
     let code = code_words v s.kind ∙ ap words h.1 in
-    (h.0, ap length code ∙ words_length i ∙ sym h.3, sym code, one_coded o v l s.kind i h.0 h.1 h.2)
+    (h.0, ap length code ∙ words_length i ∙ sym h.3, sym code, one_coded o b v l s.kind i h.0 h.1 h.2)
 
-pub adds_fault : (old new : Coder) (section : ℕ) (v : Expression → values.Value) (l : Primary → Bool) (s : Statement) (fault : SourceFault) → Codes (options_of old.choices) v l s (Err fault) → Adds old new section v l s (Err fault)
-adds_fault old new section v l s (At code line) h = h
-adds_fault old new section v l s OutOfMemory h = absurd h
+pub adds_fault : (old new : Coder) (section : ℕ) (o : Options) (b : Bool) (v : Expression → values.Value) (l : Primary → Bool) (s : Statement) (fault : SourceFault) → Codes o b v l s (Err fault)
+    → Adds old new section (code_faults o b v l s.kind) v s (Err fault)
+adds_fault old new section o b v l s (At code line) h = h
+adds_fault old new section o b v l s OutOfMemory h = absurd h

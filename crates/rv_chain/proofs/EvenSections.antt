@@ -10,14 +10,15 @@ use Rattle.rv_statement.specs.declared.directive.Choice.{Choice}
 use Rattle.rv_statement.specs.declared.directive.Choice.TheVariants.{Push, Pop}
 use Rattle.rv_statement.specs.Statement.{StatementKind, Label, Numbered, Instruction, Directs, Statement, Expression, Directive, Enters, Opens, Globl, Local, Sets, Aligns_to_power, Aligns_to_bytes, Values, Strings, Zeros, Chooses, Ignored}
 use Rattle.rv_unit_laws.specs.Contributions.{AlignmentForm, As_power, As_bytes, Contribution, Nothing, Bytes, Zero_bytes, Alignment, contribution}
-use Rattle.rv_unit_laws.specs.Faults.{first_fault, faults, directive_faults, contribution_faults, number_faults, alignment_faults, code_alignment_faults, past_section}
-use Rattle.rv_unit_laws.specs.Sections.{Section, is_nobits, Opened, text_section, section_at, current_section, entered, entered_at, entered_by, place_of_name, most_sections, goes_to_text}
+use Rattle.rv_unit_laws.specs.Faults.{first_fault, faults, directive_faults, contribution_faults, number_faults, alignment_faults}
+use Rattle.rv_unit_laws.specs.Sections.{Section, Opened, text_section, section_at, current_section, entered, entered_at, entered_by, place_of_name, most_sections, goes_to_text}
 use Rattle.rv_unit_laws.specs.Tables.{Tables, Assignment, at_start, here, value, alignment_of, alignment_as, contribution_alignment, contributed, padding, changed_at, is_defined, may_set, or_none, assigned_by, chosen, with_label, with_assignment, with_section, with_data, with_choice, with_chosen, with_contribution, opened_more, after, after_directive, after_all, tables}
 use Rattle.rv_unit_laws.proofs.Opened.{open_inside, stood_all, stood_start}
 use Rattle.rv_unit.specs.Unit.{passed}
-use Rattle.rv_unit.proofs.Constants.{constant_past}
+use Rattle.rv_unit.proofs.Constants.{constant_past, constant_whole}
 use Rattle.rv_source_laws.specs.Fits.{begins_at, is_low}
 use Rattle.rv_source_laws.specs.Located.{Located, located_now, located_from, is_placed, is_placed_directive}
+use Rattle.rv_chain_laws.specs.Refusals.{code_fault}
 use Rattle.rv_chain_laws.proofs.Held.{Held, IsHeld, DirectiveHeld, held_of, none_left}
 use Rattle.rv_link_laws.specs.declared.item.Item.{Item}
 use Rattle.rv_link_laws.specs.Bytes.{AreEven}
@@ -25,8 +26,8 @@ use Rattle.rv_link_laws.specs.Items.{AreItems, grown}
 use Rattle.rv_chain.specs.Code.{value_at}
 use Rattle.rv_chain.specs.Sized.{AreSized, IsSized, IsSizedDirective, IsPadded}
 use Rattle.rv_chain.proofs.HeldCode.{all_in_text}
-use Rattle.rv_chain.proofs.Roomy.{a_power, a_multiple, low_code}
-use Rattle.rv_chain.proofs.Rooms.{drop_none}
+use Rattle.rv_chain.proofs.Roomy.{a_power, a_multiple}
+use Rattle.rv_chain.proofs.Rooms.{drop_none, low_here}
 use Rattle.rv_chain.proofs.SoFarItems.{passed_next}
 use Rattle.rv_chain.proofs.Sound.{sound_at}
 use Rattle.rv_chain.proofs.Standing.{drop_tail, left_of}
@@ -155,38 +156,34 @@ a_number As_power v none = a_power v none
 a_number As_bytes v none = a_multiple v none
 
 -- an alignment without faults in a section of code
-asks_low : (all t : Tables) (k : ℕ) (c : Contribution) → ((e : Expression) (n : ℕ) → value all false k (here t) e ≡ Constant n → value t false k (here t) e ≡ Constant n)
-    → contribution_faults all t k c ≡ [] → (current_section t.opened).executable ≡ true → or_none (contribution_alignment (value t false k (here t)) c) ≤ 2
-asks_low all t k Nothing past none code = none_low
-asks_low all t k (Bytes contents) past none code = none_low
-asks_low all t k (Zero_bytes count) past none code = none_low
-asks_low all t k (Alignment form number) past none code =
-    let home = current_section t.opened in
-    let w = value all false k (here t) number in
-    let a = alignment_as form w in
-    let parts = none_left (number_faults form w) (alignment_faults home (here t).offset a) none in
-    let (n, is) = a_number form w parts.0 in
-    let low : is_low a ≡ true =
-    low_code (is_nobits home) a (sym (ap (λ c. if c then code_alignment_faults (is_nobits home) a else past_section false (here t).offset (padding a (here t).offset)) code) ∙ parts.1) in
-    subst (λ v. or_none (alignment_as form v) ≤ 2) (is ∙ sym (past number n is)) (is_low_or_none a low)
+module _ (all t : Tables) (k : ℕ) (whole : (e : Expression) (n : ℕ) → value all false k (here t) e ≡ Constant n → value all true k (here t) e ≡ Constant n)
+    (past : (e : Expression) (n : ℕ) → value all false k (here t) e ≡ Constant n → value t false k (here t) e ≡ Constant n) where
+  asks_low : (form : AlignmentForm) (number : Expression) → contribution_faults all t k (Alignment form number) ≡ [] → is_low (alignment_as form (value all true k (here t) number)) ≡ true
+      → or_none (alignment_as form (value t false k (here t) number)) ≤ 2
+  asks_low form number none low =
+      let w = value all false k (here t) number in
+      let parts = none_left (number_faults form w) (alignment_faults (current_section t.opened) (here t).offset (alignment_as form w)) none in
+      let (n, is) = a_number form w parts.0 in
+      subst (λ v. or_none (alignment_as form v) ≤ 2) (whole number n is ∙ sym (past number n is)) (is_low_or_none (alignment_as form (value all true k (here t) number)) low)
 
-directive_low : (all t : Tables) (k : ℕ) (d : Directive) → ((e : Expression) (n : ℕ) → value all false k (here t) e ≡ Constant n → value t false k (here t) e ≡ Constant n)
-    → directive_faults all t k d ≡ [] → AsksLow t k d
-directive_low all t k (Aligns_to_power e) past none = asks_low all t k (Alignment As_power e) past none
-directive_low all t k (Aligns_to_bytes e) past none = asks_low all t k (Alignment As_bytes e) past none
-directive_low all t k _ past none = λ code. none_low
+  directive_low : (d : Directive) → directive_faults all t k d ≡ []
+      → (is_placed_directive t k d ≡ true → (current_section t.opened).executable ≡ true → is_low (alignment_of (λ e. value all true k (here t) e) d) ≡ true) → AsksLow t k d
+  directive_low (Aligns_to_power e) none low code = asks_low As_power e none (low refl code)
+  directive_low (Aligns_to_bytes e) none low code = asks_low As_bytes e none (low refl code)
+  directive_low _ none low code = none_low
 
 take_none : {A : Type 0} (xs : List A) → take 0 xs ≡ []
 take_none [] = refl
 take_none (x ∷ xs) = refl
 
-module _ (ss : List Statement) (good : first_fault ss ≡ None) where
+module _ (ss : List Statement) (good : first_fault ss ≡ None) (coded : code_fault ss ≡ None) where
   low_at : (i : ℕ) (s : Statement) (d : Directive) → drop i ss ≡ s ∷ drop (i + 1) ss → i ≤ length ss → s.kind ≡ Directs d → AsksLow (passed ss i) (i + 1) d
   low_at i s d here_is within is =
       let t = passed ss i in
       let inside = open_inside t.opened (stood_all at_start 1 (take i ss) stood_start).opened in
-      directive_low (tables ss) t (i + 1) d (constant_past ss i (here t) within inside)
+      directive_low (tables ss) t (i + 1) (constant_whole ss (i + 1) (here t)) (constant_past ss i (here t) within inside) d
       (subst (λ says. faults (tables ss) t (i + 1) says ≡ []) is (sound_at ss i s (drop (i + 1) ss) here_is good))
+      (λ placed code. low_here ss i s here_is good coded d is (subst (λ says. is_placed t (i + 1) says ≡ true) (sym is) placed) code)
 
   low_left : (i : ℕ) (rest : List Statement) → drop i ss ≡ rest → i + length rest ≡ length ss → IsLow (passed ss i) → IsLow (passed ss (length ss))
   low_left i [] e count h = subst (λ n. IsLow (passed ss n)) (let c : i + 0 ≡ length ss = count in let f : i ≡ length ss = omega (arith, c) in f) h
@@ -282,12 +279,12 @@ two_at_most n low = omega (arith, low)
 begins_even : (t : Tables) (j : ℕ) (section : Section) → goes_to_text section ≡ true → slice_index_or t.alignments j 1 ≤ 2 → begins_at t j section ≡ 2
 begins_even t j section text low = ap (λ b. max (if b then 2 else 1) (slice_index_or t.alignments j 1)) text ∙ two_at_most (slice_index_or t.alignments j 1) low
 
-pub even_sections : (ss : List Statement) (is : List Item) (last : ℕ → ℕ) → first_fault ss ≡ None → AreItems 1 at_start (λ j. 0) ss is last → AreSized (tables ss) 1 at_start ss is
+pub even_sections : (ss : List Statement) (is : List Item) (last : ℕ → ℕ) → first_fault ss ≡ None → code_fault ss ≡ None → AreItems 1 at_start (λ j. 0) ss is last → AreSized (tables ss) 1 at_start ss is
     → AreEven (tables ss) last 0 (tables ss).opened.sections
-even_sections ss is last sound items sized j good =
+even_sections ss is last sound coded items sized j good =
     let section = slice_index_or (tables ss).opened.sections j text_section in
     let code = (and_parts section.loaded section.executable good).1 in
-    let low = low_all ss sound j code in
+    let low = low_all ss sound coded j code in
     let place : j ≡ 0 + j = omega arith in (
       ap (λ n. begins_at (tables ss) n section) (sym place) ∙ begins_even (tables ss) j section good low,
       ap (λ n. last n % 2) (sym place) ∙ ends_even (tables ss) j 1 at_start (λ j. 0) last ss is items sized (held_of 1 (ss ∷ []) (sound, tt)) (all_in_text ss j good) refl,

@@ -1,9 +1,11 @@
 -- The first compressed code of a source.
 
 use Rattle.std.proofs.Common.{◌≡◌, ℕ, ◌+◌, Bool, true, false, List, [], ◌∷◌, drop, refl, sym, ap, ◌∙◌}
+use Rattle.std.specs.List.{list_any}
 use Rattle.std.specs.Prelude.{◌&&◌, ◌||◌}
 use Rattle.rv_statement.specs.Statement.{Statement, Expression}
-use Rattle.rv_statement.specs.View.{statement_kind, plain_of, with_expression, with_function}
+use Rattle.rv_statement.specs.View.{statement_of, statement_kind, plain_of, with_expression, with_function}
+use Rattle.rv_statement.specs.declared.statement.Statement.{Statement as SourceStatement}
 use Rattle.rv_statement.specs.declared.pseudo.Function.{Function}
 use Rattle.rv_statement.specs.declared.statement.Operation.{Operation}
 use Rattle.rv_statement.specs.declared.statement.Operation.TheVariants as operations
@@ -11,16 +13,19 @@ use Rattle.rv_statement.specs.declared.statement.Plain.{Plain}
 use Rattle.rv_statement.specs.declared.statement.Plain.TheVariants as plains
 use Rattle.rv_statement.specs.declared.statement.StatementKind.{StatementKind}
 use Rattle.rv_statement.specs.declared.statement.StatementKind.TheVariants as kinds
+use Rattle.rv_unit_laws.specs.Sections.{Section}
 use Rattle.rv_unit_laws.specs.Tables.{at_start}
+use Rattle.rv_tables.specs.declared.section_offset.SectionOffset.{SectionOffset}
+use Rattle.rv_tables.specs.declared.section.Extent.{Extent}
+use Rattle.rv_unit.specs.declared.unit.Unit.{Unit as SourceUnit}
+use Rattle.rv_unit.specs.Unit.{said}
 use Rattle.rv_source_laws.specs.Located.{Located, located_from}
-use Rattle.rv_source_laws.specs.Options.{Options, first_options, options_after, is_code, has_compressed_from, has_compressed}
-use Rattle.rv_chain.specs.Choices.{is_code_kind}
+use Rattle.rv_source_laws.specs.Compressed.{is_code, is_compressed_code, is_compressed}
+use Rattle.rv_chain.specs.Compressed.{is_code_kind}
+use Rattle.rv_chain.specs.Measured.{IsExtentAt}
+use Rattle.rv_chain.proofs.Itemized.{home_at}
+use Rattle.rv_chain.proofs.Standing.{StandsAt, located_at}
 use Rattle.rv_chain.proofs.Whole.{one_file}
-
--- of one source
-pub one_source : (b : Bool) → b ≡ (b || false)
-one_source true = refl
-one_source false = refl
 
 -- ---- what is code
 
@@ -54,30 +59,36 @@ code_as executable (kinds.Label name) = refl
 code_as executable (kinds.Numbered number) = refl
 code_as executable _ = and_false executable
 
+-- the test of a statement of a unit where it stands
+pub compressed_as : (u : SourceUnit) (i : ℕ) (x : SourceStatement) (p : SectionOffset) (e : Extent) (on : Bool) → StandsAt u i x p → IsExtentAt u.tables.extents.items p.section e
+    → on ≡ (located_at (said u) i (statement_of x)).options.rvc
+    → (on && is_code_kind e.section.executable x.kind) ≡ is_compressed_code (located_at (said u) i (statement_of x))
+compressed_as u i x p e on at there is =
+    ap (λ b. on && b) (code_as e.section.executable x.kind)
+    ∙ ap (λ (h : Section). on && is_code h.executable (statement_kind x.kind)) (home_at u i x p e at there)
+    ∙ ap (λ b. b && is_code (located_at (said u) i (statement_of x)).home.executable (statement_kind x.kind)) is
+
 -- ---- the first code
 
--- the statements of a source from an index on decide, where these options are on
-abbrev pub Decides : List Statement → ℕ → Options → Type 0
-Decides ss i o = has_compressed_from o (drop i (located_from 1 1 at_start ss)) ≡ has_compressed ss
+-- the statements of a source from an index on decide
+abbrev pub Decides : List Statement → ℕ → Type 0
+Decides ss i = list_any is_compressed_code (drop i (located_from 1 1 at_start ss)) ≡ is_compressed (ss ∷ [])
 
-pub all_decide : (ss : List Statement) (o : Options) → o ≡ first_options → Decides ss 0 o
-all_decide ss o is =
-    ap (λ (p : Options). has_compressed_from p (located_from 1 1 at_start ss)) is ∙ ap (has_compressed_from first_options) (sym (one_file ss))
+pub all_decide : (ss : List Statement) → Decides ss 0
+all_decide ss = ap (list_any is_compressed_code) (sym (one_file ss))
 
-module _ (ss : List Statement) (i : ℕ) (s : Located) (o : Options) (next : drop i (located_from 1 1 at_start ss) ≡ s ∷ drop (i + 1) (located_from 1 1 at_start ss)) (h : Decides ss i o) where
-  here : ((o.rvc && is_code s.home.executable s.kind) || has_compressed_from (options_after o s.kind) (drop (i + 1) (located_from 1 1 at_start ss))) ≡ has_compressed ss
-  here = ap (has_compressed_from o) (sym next) ∙ h
+module _ (ss : List Statement) (i : ℕ) (s : Located) (next : drop i (located_from 1 1 at_start ss) ≡ s ∷ drop (i + 1) (located_from 1 1 at_start ss)) (h : Decides ss i) where
+  here : (is_compressed_code s || list_any is_compressed_code (drop (i + 1) (located_from 1 1 at_start ss))) ≡ is_compressed (ss ∷ [])
+  here = ap (list_any is_compressed_code) (sym next) ∙ h
 
   -- a statement of compressed code decides
-  pub decided : true ≡ (o.rvc && is_code s.home.executable s.kind) → true ≡ has_compressed ss
-  decided found = ap (λ b. b || has_compressed_from (options_after o s.kind) (drop (i + 1) (located_from 1 1 at_start ss))) found ∙ here
+  pub decided : true ≡ is_compressed_code s → true ≡ is_compressed (ss ∷ [])
+  decided found = ap (λ b. b || list_any is_compressed_code (drop (i + 1) (located_from 1 1 at_start ss))) found ∙ here
 
   -- another leaves it to those after it
-  pub left_to_others : (new : Options) → new ≡ options_after o s.kind → false ≡ (o.rvc && is_code s.home.executable s.kind) → Decides ss (i + 1) new
-  left_to_others new is none =
-      ap (λ (p : Options). has_compressed_from p (drop (i + 1) (located_from 1 1 at_start ss))) is
-      ∙ ap (λ b. b || has_compressed_from (options_after o s.kind) (drop (i + 1) (located_from 1 1 at_start ss))) none ∙ here
+  pub left_to_others : false ≡ is_compressed_code s → Decides ss (i + 1)
+  left_to_others none = ap (λ b. b || list_any is_compressed_code (drop (i + 1) (located_from 1 1 at_start ss))) none ∙ here
 
 -- none is left
-pub none_decides : (ss : List Statement) (i : ℕ) (o : Options) → drop i (located_from 1 1 at_start ss) ≡ [] → Decides ss i o → false ≡ has_compressed ss
-none_decides ss i o none h = ap (has_compressed_from o) (sym none) ∙ h
+pub none_decides : (ss : List Statement) (i : ℕ) → drop i (located_from 1 1 at_start ss) ≡ [] → Decides ss i → false ≡ is_compressed (ss ∷ [])
+none_decides ss i none h = ap (list_any is_compressed_code) (sym none) ∙ h

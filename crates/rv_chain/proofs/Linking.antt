@@ -18,6 +18,7 @@ use Rattle.rv_map.specs.Map.{Map, Global}
 use Rattle.rv_map.specs.declared.map.Row.{Row}
 use Rattle.rv_image.specs.Linked.{Linked}
 use Rattle.rv_chain_laws.specs.Contents.{IsLinked}
+use Rattle.rv_chain_laws.specs.Refusals.{code_fault}
 use Rattle.rv_source_laws.specs.Program.{program}
 use Rattle.rv_source_laws.specs.Located.{located}
 use Rattle.rv_chain_laws.proofs.LaidOut.{AreRegions}
@@ -127,12 +128,12 @@ figures_count u start entry x globals figures figures_now filled stands count sa
 -- ---- the program
 
 pub linked_from : PlacedLinks → PlacedNames → (ss : List SpecStatement) (start entry : ℕ) (x : Placed) (globals : List Global) (texts figures : List (Vec ℕ)) (rvc : Bool)
-    → first_fault ss ≡ None → start % 4096 ≡ 0 → StandsFrom ss start x → AreCoded ss
+    → first_fault ss ≡ None → code_fault ss ≡ None → start % 4096 ≡ 0 → StandsFrom ss start x → AreCoded ss
     → ((j : ℕ) → bytes_in texts j ≡ section_code (tables ss) j (located (ss ∷ []))) → length texts ≡ length (tables ss).opened.sections
     → AreNamed ss x globals → Begins ss x entry
     → IsData (program (ss ∷ []) (map_from x entry globals)) x.layout.starts.items ss x.items.items (map (λ b. b.items) figures)
     → IsLinked (ss ∷ []) start (program_from x entry globals texts figures rvc)
-linked_from links names ss start entry x globals texts figures rvc good page stands coded code count named begins are =
+linked_from links names ss start entry x globals texts figures rvc good placed page stands coded code count named begins are =
     let m = map_from x entry globals in
     let starts = x.layout.starts.items in
     let is = x.items.items in
@@ -143,7 +144,7 @@ linked_from links names ss start entry x globals texts figures rvc good page sta
       page = (let e : start % 2 ≡ 0 = omega arith in e);
       items = stands.items;
       sections = stands.sections;
-      even = even_sections ss is stands.last good stands.items stands.sized;
+      even = even_sections ss is stands.last good placed stands.items stands.sized;
       lies = stands.lies;
       suits = suits;
       resolves = names ss is stands.last x.layout entry globals good stands.items named begins.0 begins.1 begins.2;
@@ -192,7 +193,7 @@ whole ss start entry x globals texts figures text rodata variables m rvc text_is
 
 pub made : PlacedLinks → PlacedNames → (u : SourceUnit) (start entry : ℕ) (x : Placed) (globals globals_now : List Global) (texts texts_now figures figures_now : List (Vec ℕ))
     (starts : List ℕ) (items : List Item) (rows : List Row) (text rodata variables : List ℕ) (m : Map) (rvc : Bool)
-    → IsFilled u → first_fault (said u) ≡ None → start % 4096 ≡ 0 → StandsFrom (said u) start x → AreCoded (said u)
+    → IsFilled u → first_fault (said u) ≡ None → code_fault (said u) ≡ None → start % 4096 ≡ 0 → StandsFrom (said u) start x → AreCoded (said u)
     → ((j : ℕ) → bytes_in texts j ≡ section_code (tables (said u)) j (located (said u ∷ []))) → length texts ≡ length u.tables.extents.items
     → starts ≡ x.layout.starts.items → items ≡ x.items.items → texts_now ≡ texts → figures_now ≡ figures → globals_now ≡ globals
     → AreNamed (said u) x globals
@@ -205,7 +206,7 @@ pub made : PlacedLinks → PlacedNames → (u : SourceUnit) (start entry : ℕ) 
     → m ≡ map_of x.layout entry globals rows
     → IsWhole (said u) start (record { text = text; rodata = rodata; «data» = variables; map = m; rvc = rvc })
 made links resolves u start entry x globals globals_now texts texts_now figures figures_now starts items rows text rodata variables m rvc
-    filled good page stands coded code count starts_are items_are texts_are figures_are globals_are
+    filled good placed page stands coded code count starts_are items_are texts_are figures_are globals_are
     named global begins even gives rows_are text_is rodata_is variables_is map_is =
     let ss = said u in
     let entered : entry_from x.layout.starts.items ss x.items.items ≡ Some entry =
@@ -219,5 +220,5 @@ made links resolves u start entry x globals globals_now texts texts_now figures 
     (rodata_is ∙ ap (λ (l : List (Vec ℕ)). contents_of Rodata x.layout.rodata.start x.pieces.items x.layout.starts.items (map (λ b. b.items) l)) figures_are)
     (variables_is ∙ ap (λ (l : List (Vec ℕ)). contents_of Data x.layout.data.start x.pieces.items x.layout.starts.items (map (λ b. b.items) l)) figures_are)
     (map_is ∙ ap (λ r. map_of x.layout entry globals r) rows_from_items) stands.lies
-    (linked_from links resolves ss start entry x globals texts figures rvc good page stands coded code (count ∙ sym (sections_count u filled)) named (global, entered, even)
+    (linked_from links resolves ss start entry x globals texts figures rvc good placed page stands coded code (count ∙ sym (sections_count u filled)) named (global, entered, even)
     (figures_hold stands.last (map_from x entry globals) stands.items stands.sized refl refl))

@@ -13,8 +13,9 @@ use Rattle.rv_unit_laws.proofs.Grown.{BeginsAt, puts, grows_after, grown_all, be
 use Rattle.rv_unit_laws.proofs.Opened.{after_opened, open_inside, stood_all, stood_start}
 use Rattle.rv_unit.specs.Unit.{passed}
 use Rattle.rv_unit.proofs.Constants.{constant_past, constant_whole, whole_rest}
+use Rattle.rv_source_laws.specs.Fits.{is_low}
 use Rattle.rv_source_laws.specs.Located.{Located, located_from, is_placed, is_placed_directive}
-use Rattle.rv_chain_laws.specs.Refusals.{code_size, grown as grown_by, size_fault_from, size_fault}
+use Rattle.rv_chain_laws.specs.Refusals.{code_fault, code_size, grown as grown_by, size_fault_from, size_fault}
 use Rattle.rv_chain_laws.proofs.Held.{no_fault}
 use Rattle.rv_chain_laws.proofs.Homes.{IsHomeIn, homes_from}
 use Rattle.rv_link_laws.specs.declared.item.Item.{Item}
@@ -25,7 +26,7 @@ use Rattle.rv_chain.specs.Measured.{stretch, IsSize}
 use Rattle.rv_chain.proofs.Standing.{all_at, got_or, located_at, stated_next}
 use Rattle.rv_chain.proofs.SoFarItems.{passed_next}
 use Rattle.rv_chain.proofs.SoFarSized.{IsSizedAt}
-use Rattle.rv_chain.proofs.Sound.{sound_at}
+use Rattle.rv_chain.proofs.Sound.{sound_at, low_code, code_sound_at}
 use Rattle.rv_chain.proofs.Roomy.{IsRoomy, statement_here}
 
 -- the bytes of each section before the statement at an index: those of code are no more than what the sizes of
@@ -98,7 +99,7 @@ if_some : (b : Bool) (code : ℕ) → (if b then Some code else None) ≡ None �
 if_some true code e = absurd (cc)
 if_some false code e = refl
 
-module _ (ss : List Statement) (i : ℕ) (s : Statement) (here_is : drop i ss ≡ s ∷ drop (i + 1) ss) (good : first_fault ss ≡ None) where
+module _ (ss : List Statement) (i : ℕ) (s : Statement) (here_is : drop i ss ≡ s ∷ drop (i + 1) ss) (good : first_fault ss ≡ None) (coded : code_fault ss ≡ None) where
   abbrev t : Tables
   t = passed ss i
 
@@ -133,6 +134,20 @@ module _ (ss : List Statement) (i : ℕ) (s : Statement) (here_is : drop i ss �
       (sym (whole_rest ss i within ∙ ap (after_all t k) here_is ∙ ap (λ y. after_all (after t k y) (suc k) (drop (i + 1) ss)) is))
       (begins_multiple t k (suc k) d (drop (i + 1) ss) h (grown_all 1 (take i ss)) inside)
 
+  -- the section where a statement that has a row stands is the current one
+  home_here : is_placed t k s.kind ≡ true → st.home ≡ current_section t.opened
+  home_here placed =
+      let (place, opened) = stood_here t k s.kind placed in
+      ap (λ o. section_at o st.section) opened ∙ ap (λ (p : SectionOffset). section_at t.opened p.section) place
+
+  -- an alignment in code is low
+  pub low_here : (d : Directive) → s.kind ≡ Directs d → is_placed t k s.kind ≡ true → (current_section t.opened).executable ≡ true
+      → is_low (alignment_of (λ e. value all true k (here t) e) d) ≡ true
+  low_here d is placed code =
+      let (place, opened) = stood_here t k s.kind placed in
+      subst (λ (p : SectionOffset). is_low (alignment_of (λ e. value all true k p e) d) ≡ true) place
+      (low_code all st d is (code_sound_at ss i s (drop (i + 1) ss) here_is coded) (ap (λ (h : Section). h.executable) (home_here placed) ∙ code))
+
   -- what a place with its section says
   abbrev RoomyIn : ℕ → SectionOffset → Opened → Type 0
   RoomyIn offset p o =
@@ -143,14 +158,15 @@ module _ (ss : List Statement) (i : ℕ) (s : Statement) (here_is : drop i ss �
       → IsRoomy (λ e. value_at all st e) st.home.executable (slice_index_or all.alignments st.section 1) offset (slice_index_or (after t k s.kind).ends st.section 0) s.kind
   roomy_at offset low placed fits before =
       let (place, opened) = stood_here t k s.kind placed in
-      let home : st.home ≡ current_section t.opened = ap (λ o. section_at o st.section) opened ∙ ap (λ (p : SectionOffset). section_at t.opened p.section) place in
+      let home = home_here placed in
       let before' : (current_section t.opened).executable ≡ false → offset ≤ (here t).offset =
       λ e. subst (λ (p : SectionOffset). offset ≤ slice_index_or t.ends p.section 0) place (before (ap (λ (h : Section). h.executable) home ∙ e)) in
       let fits' : (current_section t.opened).executable ≡ true → offset + code_size s.kind ≤ longest_section = λ e. fits (ap (λ (h : Section). h.executable) home ∙ e) in
       subst (λ p. RoomyIn offset p (after t k s.kind).opened) (sym place)
       (subst (λ o. RoomyIn offset (here t) o) (sym opened)
       (statement_here all t k (slice_index_or all.alignments t.opened.current 1) offset low inside (grown_all 1 (take i ss)) (constant_whole ss k (here t)) (constant_past ss i (here t) within inside) before' s.kind placed
-      multiples ((grows_after t k s.kind).ends t.opened.current) fits' (sound_at ss i s (drop (i + 1) ss) here_is good)))
+      multiples ((grows_after t k s.kind).ends t.opened.current) fits' (sound_at ss i s (drop (i + 1) ss) here_is good)
+      (λ d is code. low_here d is placed code)))
 
   module _ (ends : ℕ → ℕ) (low : (j : ℕ) → ends j ≤ longest_section) (left : HasRoomLeft ss i ends) where
     -- whether the section of the statement is too long after it

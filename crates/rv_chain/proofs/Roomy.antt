@@ -83,10 +83,6 @@ a_multiple (Symbolic p at k) e = absurd (cc)
 a_multiple (Difference p q k) e = absurd (cc)
 a_multiple (Faulty c) e = absurd (cc)
 
-pub low_code : (nobits : Bool) (alignment : Option ℕ) → code_alignment_faults nobits alignment ≡ [] → is_low alignment ≡ true
-low_code nobits None e = refl
-low_code nobits (Some n) e = not_false (nat_le n 2) (no_test (not (nat_le n 2)) (if nobits then 15 else 9) e)
-
 -- ---- padding
 
 aligned_more : (n x y : ℕ) → 0 < n → x ≤ y → aligned n x ≤ aligned n y
@@ -200,9 +196,10 @@ module _ (all t : Tables) (k begins offset : ℕ) (low : offset ≤ longest_sect
       constant_is m n e = cc
 
   -- the padding of an alignment, by whether its section is one of code
-  padding_here : (b : Bool) → home.executable ≡ b → (alignment : Option ℕ) → BeginsAt alignment begins → alignment_faults home (here t).offset alignment ≡ [] → CanPad b begins offset alignment
-  padding_here true code alignment multiples none = low_code (is_nobits home) alignment (sym (ap (λ c. if c then code_alignment_faults (is_nobits home) alignment else past_section false (here t).offset (padding alignment (here t).offset)) code) ∙ none)
-  padding_here false other alignment multiples none =
+  padding_here : (b : Bool) → home.executable ≡ b → (alignment : Option ℕ) → BeginsAt alignment begins → alignment_faults home (here t).offset alignment ≡ [] → (home.executable ≡ true → is_low alignment ≡ true)
+      → CanPad b begins offset alignment
+  padding_here true code alignment multiples none lows = lows code
+  padding_here false other alignment multiples none lows =
       let fits = padding_fits alignment other none in
       let less = padding_more alignment begins offset (here t).offset multiples (before other) in
       (multiple alignment begins multiples, omega (arith, fits, less))
@@ -230,8 +227,12 @@ module _ (all t : Tables) (k begins offset : ℕ) (low : offset ≤ longest_sect
           let same = bytes ∙ within_fits (here t).offset (padding alignment (here t).offset) fits in
           put_here d other puts size (omega (arith, same, fits)) (λ n h. let f = data_size home.executable n other (padded n h) in omega (arith, f, less, same))
 
-  power_here : (e : Expression) → BeginsAt (alignment_of first (Aligns_to_power e)) begins → directive_faults all t k (Aligns_to_power e) ≡ [] → Here (Directs (Aligns_to_power e))
-  power_here e multiples none =
+  -- in code an alignment is low
+  abbrev AsksLow : Directive → Type 0
+  AsksLow d = home.executable ≡ true → is_low (alignment_of v d) ≡ true
+
+  power_here : (e : Expression) → BeginsAt (alignment_of first (Aligns_to_power e)) begins → directive_faults all t k (Aligns_to_power e) ≡ [] → AsksLow (Aligns_to_power e) → Here (Directs (Aligns_to_power e))
+  power_here e multiples none lows =
       let w = value all false k (here t) e in
       let parts = none_left (power_faults w) (alignment_faults home (here t).offset (power_alignment w)) none in
       let (n, is) = a_power w parts.0 in
@@ -240,10 +241,10 @@ module _ (all t : Tables) (k begins offset : ℕ) (low : offset ≤ longest_sect
       let multiples' : BeginsAt (power_alignment (v e)) begins = subst (λ a. BeginsAt a begins) (sooner ∙ sym now) multiples in
       let none' : alignment_faults home (here t).offset (power_alignment (v e)) ≡ [] = ap (alignment_faults home (here t).offset) now ∙ parts.1 in
       aligned_here (Aligns_to_power e) (power_alignment (v e)) refl multiples' none' (ap (λ a. within (here t).offset (padding a (here t).offset)) (sooner ∙ sym now))
-      (ap is_constant (whole e n is), padding_here home.executable refl (power_alignment (v e)) multiples' none') (λ m h. h.1)
+      (ap is_constant (whole e n is), padding_here home.executable refl (power_alignment (v e)) multiples' none' lows) (λ m h. h.1)
 
-  bytes_here : (e : Expression) → BeginsAt (alignment_of first (Aligns_to_bytes e)) begins → directive_faults all t k (Aligns_to_bytes e) ≡ [] → Here (Directs (Aligns_to_bytes e))
-  bytes_here e multiples none =
+  bytes_here : (e : Expression) → BeginsAt (alignment_of first (Aligns_to_bytes e)) begins → directive_faults all t k (Aligns_to_bytes e) ≡ [] → AsksLow (Aligns_to_bytes e) → Here (Directs (Aligns_to_bytes e))
+  bytes_here e multiples none lows =
       let w = value all false k (here t) e in
       let parts = none_left (bytes_faults w) (alignment_faults home (here t).offset (byte_alignment w)) none in
       let (n, is) = a_multiple w parts.0 in
@@ -252,17 +253,17 @@ module _ (all t : Tables) (k begins offset : ℕ) (low : offset ≤ longest_sect
       let multiples' : BeginsAt (byte_alignment (v e)) begins = subst (λ a. BeginsAt a begins) (sooner ∙ sym now) multiples in
       let none' : alignment_faults home (here t).offset (byte_alignment (v e)) ≡ [] = ap (alignment_faults home (here t).offset) now ∙ parts.1 in
       aligned_here (Aligns_to_bytes e) (byte_alignment (v e)) refl multiples' none' (ap (λ a. within (here t).offset (padding a (here t).offset)) (sooner ∙ sym now))
-      (ap is_constant (whole e n is), padding_here home.executable refl (byte_alignment (v e)) multiples' none') (λ m h. h.1)
+      (ap is_constant (whole e n is), padding_here home.executable refl (byte_alignment (v e)) multiples' none' lows) (λ m h. h.1)
 
   directive_here : (d : Directive) → is_placed_directive t k d ≡ true → (puts d ≡ true → BeginsAt (alignment_of first d) begins) → (here t).offset ≤ stop (Directs d)
-      → directive_faults all t k d ≡ [] → Here (Directs d)
-  directive_here (Sets name e) placed multiples more none = none_here (Directs (Sets name e)) tt (λ n h. h) more
-  directive_here (Values width values) placed multiples more none = values_here width values none
-  directive_here (Strings ended strings) placed multiples more none = strings_here ended strings none
-  directive_here (Zeros count) placed multiples more none = zeros_here count none
-  directive_here (Aligns_to_power e) placed multiples more none = power_here e (multiples refl) none
-  directive_here (Aligns_to_bytes e) placed multiples more none = bytes_here e (multiples refl) none
-  directive_here _ placed multiples more none = absurd (cc)
+      → directive_faults all t k d ≡ [] → AsksLow d → Here (Directs d)
+  directive_here (Sets name e) placed multiples more none lows = none_here (Directs (Sets name e)) tt (λ n h. h) more
+  directive_here (Values width values) placed multiples more none lows = values_here width values none
+  directive_here (Strings ended strings) placed multiples more none lows = strings_here ended strings none
+  directive_here (Zeros count) placed multiples more none lows = zeros_here count none
+  directive_here (Aligns_to_power e) placed multiples more none lows = power_here e (multiples refl) none lows
+  directive_here (Aligns_to_bytes e) placed multiples more none lows = bytes_here e (multiples refl) none lows
+  directive_here _ placed multiples more none lows = absurd (cc)
 
   -- an instruction, where its section has room for it
   instruction_here : (says : StatementKind) → HasSize v home.executable begins offset says → ((n : ℕ) → IsSize v home.executable begins offset says n → n ≡ code_size says)
@@ -275,10 +276,11 @@ module _ (all t : Tables) (k begins offset : ℕ) (low : offset ≤ longest_sect
   }
 
   pub statement_here : (says : StatementKind) → is_placed t k says ≡ true → ((d : Directive) → says ≡ Directs d → puts d ≡ true → BeginsAt (alignment_of first d) begins)
-      → (here t).offset ≤ stop says → (home.executable ≡ true → offset + code_size says ≤ longest_section) → faults all t k says ≡ [] → Here says
-  statement_here (Label name) placed multiples more fits none = none_here (Label name) tt (λ n h. h) more
-  statement_here (Numbered number) placed multiples more fits none = none_here (Numbered number) tt (λ n h. h) more
-  statement_here (Instruction mnemonic operands) placed multiples more fits none =
+      → (here t).offset ≤ stop says → (home.executable ≡ true → offset + code_size says ≤ longest_section) → faults all t k says ≡ []
+      → ((d : Directive) → says ≡ Directs d → AsksLow d) → Here says
+  statement_here (Label name) placed multiples more fits none lows = none_here (Label name) tt (λ n h. h) more
+  statement_here (Numbered number) placed multiples more fits none lows = none_here (Numbered number) tt (λ n h. h) more
+  statement_here (Instruction mnemonic operands) placed multiples more fits none lows =
       let code = not_false home.executable (first_false (not home.executable) (is_nobits home) (no_test (not home.executable || is_nobits home) 15 none)) in
       instruction_here (Instruction mnemonic operands) tt (λ n h. h) code (fits code)
-  statement_here (Directs d) placed multiples more fits none = directive_here d placed (multiples d refl) more none
+  statement_here (Directs d) placed multiples more fits none lows = directive_here d placed (multiples d refl) more none (lows d refl)

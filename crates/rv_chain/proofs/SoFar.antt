@@ -6,11 +6,8 @@ use Rattle.rv_text_laws.specs.Codes.{limit}
 use Rattle.rv_unit_laws.specs.Faults.{Fault, lowest, at_line}
 use Rattle.rv_unit_laws.specs.Tables.{Tables, longest_section}
 use Rattle.rv_source_laws.specs.Located.{Located}
-use Rattle.rv_chain_laws.specs.InstructionFaults.{is_label, instruction_faults}
-use Rattle.rv_chain_laws.specs.Refusals.{instruction_fault_from, size_fault_from, else_fault, grown, code_size}
-use Rattle.rv_source_laws.specs.Options.{first_options, options_after}
+use Rattle.rv_chain_laws.specs.Refusals.{code_faults_at, code_fault_from, size_fault_from, else_fault, grown, code_size}
 use Rattle.rv_link_laws.specs.Suits.{code_said}
-use Rattle.rv_chain.specs.Choices.{options_of}
 use Rattle.rv_chain.specs.Code.{bytes_in, value_at, section_code, full_fault, full_at}
 use Rattle.rv_chain.specs.Added.{IsAdded, IsCodeSoFar}
 use Rattle.rv_chain.specs.declared.code.Coder.{Coder}
@@ -43,7 +40,7 @@ joined : (b : Bool) (old : List ℕ) (code : Located → List ℕ) (s : Located)
 joined true old code s rest = append_assoc old (code s) (flat_map code rest)
 joined false old code s rest = refl
 
-pub next_code : (t : Tables) (all : List Located) (s : Located) (next : List Located) (old new : Coder) → IsCodeSoFar t all (s ∷ next) old → IsAdded old new s.section (value_at t s) (is_label t s.ordinal) (record { line = s.line; kind = s.kind }) → IsCodeSoFar t all next new
+pub next_code : (t : Tables) (all : List Located) (s : Located) (next : List Located) (old new : Coder) → IsCodeSoFar t all (s ∷ next) old → IsAdded old new s.section (code_faults_at t s) (value_at t s) (record { line = s.line; kind = s.kind }) → IsCodeSoFar t all next new
 next_code t all s next old new h a =
     let f = λ (j : ℕ). length (bytes_in old.sections.items j) in
     let g = λ (j : ℕ). length (bytes_in new.sections.items j) in
@@ -51,10 +48,9 @@ next_code t all s next old new h a =
     let alike = λ (j : ℕ). ap length (a.grows.1 j) ∙ grown_length (j == s.section) (bytes_in old.sections.items j) (code_said (value_at t s) s.kind) size a.size in
     let here : g s.section ≡ f s.section + size = alike s.section ∙ ap (λ b. if b then f s.section + size else f s.section) (same s.section) in
     record {
-      instructions =
-          ap (λ o. instruction_fault_from t o next) a.options
-          ∙ sym (ap (λ fs. at_line s.line (lowest fs) (instruction_fault_from t (options_after (options_of old.choices) s.kind) next)) a.sound)
-          ∙ h.instructions;
+      faults =
+          sym (ap (λ fs. at_line s.line (lowest fs) (code_fault_from t next)) a.sound)
+          ∙ h.faults;
       sizes =
           ap (λ x. else_fault x (size_fault_from g next)) a.full
           ∙ else_assoc (full_fault old.full) (full_at s.line (g s.section)) (size_fault_from g next)
@@ -69,10 +65,10 @@ next_code t all s next old new h a =
           ∙ h.bytes j;
     }
 
--- the first faulty instruction is the next one
-pub wrong_code : (t : Tables) (all : List Located) (s : Located) (next : List Located) (old : Coder) (code : ℕ) → IsCodeSoFar t all (s ∷ next) old → lowest (instruction_faults (options_of old.choices) (value_at t s) (is_label t s.ordinal) s.kind) ≡ Some code → instruction_fault_from t first_options all ≡ Some (record { code = code; line = s.line })
-wrong_code t all s next old code h e =
-    sym h.instructions ∙ ap (λ c. at_line s.line c (instruction_fault_from t (options_after (options_of old.choices) s.kind) next)) e
+-- the first statement that is faulty as code is the next one
+pub wrong_code : (t : Tables) (all : List Located) (s : Located) (next : List Located) (old : Coder) (code : ℕ) → IsCodeSoFar t all (s ∷ next) old → lowest (code_faults_at t s) ≡ Some code
+    → code_fault_from t all ≡ Some (record { code = code; line = s.line })
+wrong_code t all s next old code h e = sym h.faults ∙ ap (λ c. at_line s.line c (code_fault_from t next)) e
 
 -- after the last statement the code is whole
 pub whole_code : (t : Tables) (all : List Located) (c : Coder) → IsCodeSoFar t all [] c → (j : ℕ) → bytes_in c.sections.items j ≡ section_code t j all
@@ -86,9 +82,9 @@ pub whole_sizes : (t : Tables) (all : List Located) (c : Coder) → IsCodeSoFar 
 whole_sizes t all c h = sym h.sizes ∙ else_none (full_fault c.full)
 
 -- before the first statement there is none
-pub begun : (t : Tables) (all : List Located) (c : Coder) → options_of c.choices ≡ first_options → full_fault c.full ≡ None → ((j : ℕ) → bytes_in c.sections.items j ≡ []) → IsCodeSoFar t all all c
-begun t all c o f e = record {
-  instructions = ap (λ x. instruction_fault_from t x all) o;
+pub begun : (t : Tables) (all : List Located) (c : Coder) → full_fault c.full ≡ None → ((j : ℕ) → bytes_in c.sections.items j ≡ []) → IsCodeSoFar t all all c
+begun t all c f e = record {
+  faults = refl;
   sizes =
       ap (λ x. else_fault x (size_fault_from (λ j. length (bytes_in c.sections.items j)) all)) f
       ∙ sizes_alike (λ j. length (bytes_in c.sections.items j)) (λ j. 0) all (λ j. ap length (e j));

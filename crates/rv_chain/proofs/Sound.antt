@@ -1,17 +1,22 @@
 -- In a source without faults no statement has one.
 
-use Rattle.std.proofs.Common.{◌≡◌, ℕ, zero, suc, ◌+◌, ◌*◌, true, ◌||◌, List, [], ◌∷◌, ◌++◌, length, take, drop, None, subst, arith}
-use Rattle.std.specs.Prelude.{⊤, flat_map}
+use Rattle.std.proofs.Common.{◌≡◌, ℕ, zero, suc, ◌+◌, ◌*◌, Bool, true, false, ◌||◌, List, [], ◌∷◌, ◌++◌, length, take, drop, None, refl, sym, ap, ◌∙◌, subst, append-nil, arith}
+use Rattle.std.specs.Prelude.{⊤, ◌&&◌, not, flat_map}
 use Rattle.std.specs.List.{AllByRecursion}
 use Rattle.rv_text_laws.specs.Values.{Value, Constant, Symbolic, Difference, Faulty}
 use Rattle.rv_statement.specs.Statement.{StatementKind, Label, Numbered, Instruction, Directs, Statement, Expression, Directive, Values}
 use Rattle.rv_unit_laws.specs.Sections.{is_nobits, current_section}
-use Rattle.rv_unit_laws.specs.Tables.{Tables, at_start, here, value, after, after_all, tables, stood}
+use Rattle.rv_unit_laws.specs.Tables.{Tables, at_start, here, value, alignment_of, after, after_all, tables, stood}
 use Rattle.rv_unit_laws.specs.Faults.{faulty_if, value_faults, past_section, directive_faults, faults, lowest, first_fault_from, first_fault}
 use Rattle.rv_unit.specs.Unit.{passed}
-use Rattle.rv_chain_laws.specs.Refusals.{data_values}
+use Rattle.rv_source_laws.specs.Fits.{is_low}
+use Rattle.rv_source_laws.specs.Located.{Located, located_from}
+use Rattle.rv_chain_laws.specs.InstructionFaults.{is_label}
+use Rattle.rv_chain_laws.specs.Refusals.{code_faults, code_faults_at, code_fault_from, code_fault, data_values}
 use Rattle.rv_chain_laws.proofs.Held.{none_left, no_lowest, no_fault}
+use Rattle.rv_chain.specs.Code.{value_at}
 use Rattle.rv_chain.specs.Undefined.{HasValue, HaveValues}
+use Rattle.rv_chain.proofs.Standing.{all_at, located_at, stated_next}
 
 -- no statement from an ordinal on has a fault
 abbrev pub AreSound : Tables → ℕ → Tables → List Statement → Type 0
@@ -72,3 +77,29 @@ statement_values all t k (Directs d) e = directive_values all t k d e
 -- those of the statement at an index are no faults
 pub values_at : (ss : List Statement) (i : ℕ) (s : Statement) (rest : List Statement) → drop i ss ≡ s ∷ rest → first_fault ss ≡ None → HaveValues ss i (stood (passed ss i) (i + 1) s.kind) (data_values s.kind)
 values_at ss i s rest e good = statement_values (tables ss) (passed ss i) (i + 1) s.kind (sound_at ss i s rest e good)
+
+-- ---- code
+
+code_sound : (t : Tables) (ss : List Located) → code_fault_from t ss ≡ None → AllByRecursion (λ s. code_faults_at t s ≡ []) ss
+code_sound t [] e = tt
+code_sound t (s ∷ ss) e =
+    let parts = no_fault s.line (lowest (code_faults_at t s)) (code_fault_from t ss) e in
+    (no_lowest (code_faults_at t s) parts.0, code_sound t ss parts.1)
+
+-- the statement at an index has no fault as code
+pub code_sound_at : (ss : List Statement) (i : ℕ) (s : Statement) (rest : List Statement) → drop i ss ≡ s ∷ rest → code_fault ss ≡ None → code_faults_at (tables ss) (located_at ss i s) ≡ []
+code_sound_at ss i s rest e good =
+    let all = located_from 1 1 at_start ss in
+    all_at (λ u. code_faults_at (tables ss) u ≡ []) all i (located_at ss i s) (drop (i + 1) all) (stated_next ss i s rest e)
+    (code_sound (tables ss) all (sym (ap (code_fault_from (tables ss)) (append-nil all)) ∙ good))
+
+low_by : (low executable : Bool) → faulty_if (not low && executable) 9 ≡ [] → executable ≡ true → low ≡ true
+low_by true executable none e = refl
+low_by false true none e = absurd (cc)
+low_by false false none e = absurd (cc)
+
+-- so an alignment in code is low
+pub low_code : (t : Tables) (s : Located) (d : Directive) → s.kind ≡ Directs d → code_faults_at t s ≡ [] → s.home.executable ≡ true → is_low (alignment_of (λ e. value_at t s e) d) ≡ true
+low_code t s d is none code =
+    low_by (is_low (alignment_of (λ e. value_at t s e) d)) s.home.executable
+    (sym (ap (λ says. code_faults s.options s.home.executable (λ e. value_at t s e) (is_label t s.ordinal) says) is) ∙ none) code

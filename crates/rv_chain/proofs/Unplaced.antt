@@ -1,10 +1,12 @@
 -- The lowest code of an instruction that cannot be placed.
 
-use Rattle.std.proofs.Common.{◌≡◌, ℕ, Bool, true, false, List, [], ◌∷◌, Option, Some, None, refl, sym, ap}
-use Rattle.std.specs.Prelude.{◌&&◌, min, is_some, option_map}
+use Rattle.std.proofs.Common.{◌≡◌, ℕ, Bool, true, false, List, [], ◌∷◌, Option, Some, None, refl, sym, ap, ◌∙◌}
+use Rattle.std.specs.Prelude.{◌&&◌, not, min, is_some, option_map}
 use Rattle.rv_text_laws.specs.Codes.{unsupported_here}
-use Rattle.rv_unit_laws.specs.Faults.{lowest}
+use Rattle.rv_unit_laws.specs.Faults.{faulty_if, lowest}
+use Rattle.rv_source_laws.specs.Fits.{is_low}
 use Rattle.rv_chain_laws.specs.InstructionFaults.{else_unplaced}
+use Rattle.rv_chain_laws.specs.Refusals.{padding_faults}
 use Rattle.rv_chain_laws.proofs.Held.{no_lowest}
 
 pub some_mapped : {X Y : Type 0} (f : X → Y) (o : Option X) (p : Option Y) → option_map f o ≡ p → is_some o ≡ is_some p
@@ -43,3 +45,12 @@ placed_sound placed (d ∷ ds) e = absurd (cc)
 pub nowhere : (b : Bool) → (b && false) ≡ false
 nowhere true = refl
 nowhere false = refl
+
+-- an alignment without padding in code has no fault, one with padding cannot be placed
+pub padded_low : (faults : List ℕ) (executable : Bool) (alignment : Option ℕ) → faults ≡ padding_faults executable alignment
+    → (not (is_low alignment) && executable) ≡ false → faults ≡ []
+padded_low faults executable alignment e none = e ∙ ap (λ b. faulty_if b unsupported_here) none
+
+pub padded_high : (faults : List ℕ) (executable : Bool) (alignment : Option ℕ) → faults ≡ padding_faults executable alignment
+    → (not (is_low alignment) && executable) ≡ true → lowest faults ≡ Some unsupported_here
+padded_high faults executable alignment e some = ap lowest (e ∙ ap (λ b. faulty_if b unsupported_here) some)

@@ -1,8 +1,7 @@
 -- The code of a source as its statements add to it, one after the other.
 
-use Rattle.std.specs.Prelude.{◌≡◌, ℕ, Bool, List, [], ◌∷◌, ◌++◌, length, Result, Ok, Err, Some, None, ⊤}
+use Rattle.std.specs.Prelude.{◌≡◌, ℕ, List, [], ◌∷◌, ◌++◌, length, Result, Ok, Err, Some, None, ⊤}
 use Rattle.std.specs.Global.{Vec}
-use Rattle.rv_text_laws.specs.Expression.{Primary}
 use Rattle.rv_text_laws.specs.Values as values
 use Rattle.rv_lexer.specs.declared.fault.SourceFault.{SourceFault}
 use Rattle.rv_lexer.specs.declared.fault.SourceFault.TheVariants.{At, OutOfMemory}
@@ -11,47 +10,57 @@ use Rattle.rv_statement.specs.Statement.{Expression, Statement}
 use Rattle.rv_unit_laws.specs.Faults.{lowest}
 use Rattle.rv_unit_laws.specs.Tables.{Tables, tables}
 use Rattle.rv_source_laws.specs.Located.{Located, located}
-use Rattle.rv_chain_laws.specs.InstructionFaults.{instruction_faults}
-use Rattle.rv_chain_laws.specs.Refusals.{instruction_fault_from, size_fault_from, instruction_fault, size_fault, else_fault, code_size}
-use Rattle.rv_source_laws.specs.Options.{options_after, first_options}
+use Rattle.rv_chain_laws.specs.Refusals.{code_fault_from, size_fault_from, code_fault, size_fault, else_fault, code_size}
 use Rattle.rv_link_laws.specs.Suits.{code_said}
-use Rattle.rv_chain.specs.Choices.{options_of}
 use Rattle.rv_chain.specs.Code.{GrowsBy, bytes_in, section_code, full_fault, full_at}
 use Rattle.rv_chain.specs.Coded.{IsCoded}
 use Rattle.rv_chain.specs.declared.code.Coder.{Coder}
 
--- a statement without faults, in a section, by the values of its expressions, where l says which symbols are labels
-pub record IsAdded (old new : Coder) (section : ℕ) (v : Expression → values.Value) (l : Primary → Bool) (s : Statement) : Type 0 where
+-- a statement without faults as code, in a section, by the values of its expressions
+pub record IsAdded (old new : Coder) (section : ℕ) (faults : List ℕ) (v : Expression → values.Value)
+    (s : Statement) : Type 0 where
   pub coded : IsCoded v s.kind
-  pub sound : instruction_faults (options_of old.choices) v l s.kind ≡ []
+  pub sound : faults ≡ []
   pub size : length (code_said v s.kind) ≡ code_size s.kind
-  pub options : options_of new.choices ≡ options_after (options_of old.choices) s.kind
   pub grows : GrowsBy old.sections.items new.sections.items section (code_said v s.kind)
-  pub full : full_fault new.full ≡ else_fault (full_fault old.full) (full_at s.line (length (bytes_in new.sections.items section)))
+  pub full : full_fault new.full
+      ≡ else_fault (full_fault old.full)
+      (full_at s.line (length (bytes_in new.sections.items section)))
 
--- a statement is added, or has a fault
-abbrev pub Adds : Coder → Coder → ℕ → (Expression → values.Value) → (Primary → Bool) → Statement → Result ⊤ SourceFault → Type 0
-Adds old new section v l s (Ok done) = IsAdded old new section v l s
-Adds old new section v l s (Err (At code at)) = (lowest (instruction_faults (options_of old.choices) v l s.kind) ≡ Some (number_of code)) × (at ≡ s.line)
-Adds old new section v l s (Err OutOfMemory) = Unit {0}
+-- a statement with these faults is added, where it has none, or refused by the lowest code of them
+abbrev pub Adds :
+    Coder → Coder → ℕ → List ℕ → (Expression → values.Value) → Statement
+    → Result ⊤ SourceFault → Type 0
+Adds old new section faults v s (Ok done) = IsAdded old new section faults v s
+Adds old new section faults v s (Err (At code at)) =
+    (lowest faults ≡ Some (number_of code)) × (at ≡ s.line)
+Adds old new section faults v s (Err OutOfMemory) = Unit {0}
 
 -- what is there so far and what the rest gives make up the whole
 pub record IsCodeSoFar (t : Tables) (all rest : List Located) (c : Coder) : Type 0 where
-  pub instructions : instruction_fault_from t (options_of c.choices) rest ≡ instruction_fault_from t first_options all
-  pub sizes : else_fault (full_fault c.full) (size_fault_from (λ j. length (bytes_in c.sections.items j)) rest) ≡ size_fault_from (λ j. 0) all
+  pub faults : code_fault_from t rest ≡ code_fault_from t all
+  pub sizes :
+      else_fault (full_fault c.full)
+      (size_fault_from (λ j. length (bytes_in c.sections.items j)) rest)
+      ≡ size_fault_from (λ j. 0) all
   pub bytes : (j : ℕ) → bytes_in c.sections.items j ++ section_code t j rest ≡ section_code t j all
 
 -- the code of each section, or the first statement whose end passes the longest section
 abbrev pub IsCode : Tables → List Located → Result (Vec (Vec ℕ)) SourceFault → Type 0
 IsCode t all (Ok sections) =
-    (instruction_fault_from t first_options all ≡ None) × (size_fault_from (λ j. 0) all ≡ None) × ((j : ℕ) → bytes_in sections.items j ≡ section_code t j all)
+    (code_fault_from t all ≡ None) × (size_fault_from (λ j. 0) all ≡ None)
+    × ((j : ℕ) → bytes_in sections.items j ≡ section_code t j all)
 IsCode t all (Err (At code line)) =
-    (instruction_fault_from t first_options all ≡ None) × (size_fault_from (λ j. 0) all ≡ Some (record { code = number_of code; line = line }))
+    (code_fault_from t all ≡ None)
+    × (size_fault_from (λ j. 0) all ≡ Some (record { code = number_of code; line = line }))
 IsCode t all (Err OutOfMemory) = ⊥
 
--- the code of each section of a source, or the first fault of its instructions and their sizes; memory may run out
+-- the code of each section of a source, or the first fault of its code and of the sizes of code; memory may run out
 abbrev pub IsSourceCode : List Statement → Result (Vec (Vec ℕ)) SourceFault → Type 0
 IsSourceCode ss (Ok sections) =
-    (instruction_fault ss ≡ None) × (size_fault ss ≡ None) × ((j : ℕ) → bytes_in sections.items j ≡ section_code (tables ss) j (located (ss ∷ [])))
-IsSourceCode ss (Err (At code line)) = else_fault (instruction_fault ss) (size_fault ss) ≡ Some (record { code = number_of code; line = line })
+    (code_fault ss ≡ None) × (size_fault ss ≡ None)
+    × ((j : ℕ) → bytes_in sections.items j ≡ section_code (tables ss) j (located (ss ∷ [])))
+IsSourceCode ss (Err (At code line)) =
+    else_fault (code_fault ss) (size_fault ss)
+    ≡ Some (record { code = number_of code; line = line })
 IsSourceCode ss (Err OutOfMemory) = Unit {0}

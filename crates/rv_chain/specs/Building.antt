@@ -3,7 +3,7 @@
 use Rattle.std.specs.Prelude.{◌≡◌, ℕ, List}
 use Rattle.rv_statement.specs.Statement.{Statement}
 use Rattle.rv_image.specs.Linked.{Linked}
-use Rattle.rv_source_laws.specs.Options.{is_compressed}
+use Rattle.rv_source_laws.specs.Compressed.{is_compressed}
 use Rattle.rv_chain_laws.specs.Contents.{IsLinked}
 use Rattle.rv_chain_laws.specs.Headline.{AllRead, TheHeadline}
 
@@ -16,4 +16,5 @@ pub record IsProgramOf (texts : List (List ℕ)) (start : ℕ) (l : Linked) : Ty
 
 -- the bytes of an executable with the promise of `build`: some text shows its map
 abbrev pub IsExecutableOf : List (List ℕ) → ℕ → List ℕ → Type 0
-IsExecutableOf texts start executable = (map_bytes : List ℕ) × TheHeadline texts start executable map_bytes
+IsExecutableOf texts start executable =
+    (map_bytes : List ℕ) × TheHeadline texts start executable map_bytes

@@ -23,6 +23,7 @@ use Rattle.rv_statement.specs.declared.statement.Operation.TheVariants as operat
 use Rattle.rv_statement.specs.Statement.{StatementKind, Instruction, Expression, Statement}
 use Rattle.rv_parse_laws.specs.Syntax.{with_constant}
 use Rattle.rv_unit_laws.specs.Faults.{Fault, faulty_if, lowest, at_line, constant_faults}
+use Rattle.rv_unit_laws.specs.Options.{Options}
 use Rattle.rv_unit_laws.specs.Tables.{Tables, value, longest_section}
 use Rattle.rv_source_laws.specs.Fits.{constant_in}
 use Rattle.rv_source_laws.specs.Written.{i_type, s_type, u_type, shift_by, by_constant}
@@ -30,9 +31,8 @@ use Rattle.rv_source_laws.specs.Meaning.{add_zero, alone, fits_12, expanded}
 use Rattle.rv_source_laws.specs.Located.{Located}
 use Rattle.rv_source_laws.specs.Program.{place_of}
 use Rattle.rv_chain_laws.specs.Contents.{words}
-use Rattle.rv_chain_laws.specs.InstructionFaults.{range_faults, number_faults, target_faults, upper_faults, low_faults, distance_faults, else_unplaced, instruction_faults}
-use Rattle.rv_chain_laws.specs.Refusals.{code_size}
-use Rattle.rv_source_laws.specs.Options.{Options}
+use Rattle.rv_chain_laws.specs.InstructionFaults.{range_faults, number_faults, target_faults, upper_faults, low_faults, distance_faults, else_unplaced}
+use Rattle.rv_chain_laws.specs.Refusals.{code_faults, code_size}
 use Rattle.rv_link_laws.specs.Suits.{code_said}
 
 -- ---- one instruction
@@ -87,8 +87,10 @@ takes_target _ = false
 
 -- the instruction of an operation with a number, where one can be placed
 abbrev pub numbered : Operation → ℕ → Option (List Inst)
-numbered (operations.Registers operation rd rs1) k = alone (by_constant (with_constant operation) rd rs1 k)
-numbered (operations.Immediate operation rd rs1) k = Some (of_immediate operation (i_type rd rs1 k) ∷ [])
+numbered (operations.Registers operation rd rs1) k =
+    alone (by_constant (with_constant operation) rd rs1 k)
+numbered (operations.Immediate operation rd rs1) k =
+    Some (of_immediate operation (i_type rd rs1 k) ∷ [])
 numbered (operations.Shift operation rd rs1) k = Some (of_shift operation (shift_by rd rs1 k) ∷ [])
 numbered (operations.Upper operation rd) k = Some (of_upper operation (u_type rd k) ∷ [])
 numbered (operations.Load operation rd rs1) k = Some (of_load operation (i_type rd rs1 k) ∷ [])
@@ -132,7 +134,8 @@ InRange fits wanted (Err code) = (fits ≡ false) × (code ≡ ImmediateRange)
 -- the instruction of an operation with a number, or the code of the number's fault, or of what cannot be placed
 abbrev pub OfNumber : Operation → ℕ → Result Inst SourceCode → Type 0
 OfNumber operation k (Ok i) =
-    (range_faults (mnemonic_of operation) k ≡ []) × (numbered operation k ≡ Some (i ∷ [])) × IsValid i
+    (range_faults (mnemonic_of operation) k ≡ []) × (numbered operation k ≡ Some (i ∷ []))
+    × IsValid i
 OfNumber operation k (Err code) =
     else_unplaced (is_some (numbered operation k)) (range_faults (mnemonic_of operation) k)
     ≡ number_of code ∷ []
@@ -146,24 +149,26 @@ IsNumber v line (Err OutOfMemory) = ⊥
 -- an instruction without faults, or the lowest code of those that it has, at its line
 abbrev pub IsBuilt : List ℕ → Option (List Inst) → ℕ → Result Inst SourceFault → Type 0
 IsBuilt faults wanted line (Ok i) = (faults ≡ []) × (wanted ≡ Some (i ∷ [])) × IsValid i
-IsBuilt faults wanted line (Err (At code at)) = (lowest faults ≡ Some (number_of code)) × (at ≡ line)
+IsBuilt faults wanted line (Err (At code at)) =
+    (lowest faults ≡ Some (number_of code)) × (at ≡ line)
 IsBuilt faults wanted line (Err OutOfMemory) = ⊥
 
 -- ---- one statement
 
--- what is told of an instruction, if a statement is one: where l says which symbols are labels of the file
+-- the instruction of a statement in a section of code or not, if it is one, or the lowest code of its
+-- faults: where l says which symbols are labels of the file
 abbrev pub Codes :
-    Options → (Expression → values.Value) → (Primary → Bool) → Statement
+    Options → Bool → (Expression → values.Value) → (Primary → Bool) → Statement
     → Result (Option Inst) SourceFault → Type 0
-Codes o v l s (Ok None) =
-    (instruction_faults o v l s.kind ≡ []) × (code_said v s.kind ≡ []) × (code_size s.kind ≡ 0)
-Codes o v l s (Ok (Some i)) =
-    (instruction_faults o v l s.kind ≡ [])
+Codes o executable v l s (Ok None) =
+    (code_faults o executable v l s.kind ≡ []) × (code_said v s.kind ≡ []) × (code_size s.kind ≡ 0)
+Codes o executable v l s (Ok (Some i)) =
+    (code_faults o executable v l s.kind ≡ [])
     × (instruction_by (λ e. constant_in (v e)) s.kind ≡ Some (i ∷ [])) × IsValid i
     × (code_size s.kind ≡ 4)
-Codes o v l s (Err (At code at)) =
-    (lowest (instruction_faults o v l s.kind) ≡ Some (number_of code)) × (at ≡ s.line)
-Codes o v l s (Err OutOfMemory) = ⊥
+Codes o executable v l s (Err (At code at)) =
+    (lowest (code_faults o executable v l s.kind) ≡ Some (number_of code)) × (at ≡ s.line)
+Codes o executable v l s (Err OutOfMemory) = ⊥
 
 -- ---- the code of sections
 
@@ -178,7 +183,9 @@ bytes_in sections j = bytes_of_some (slice_get sections j)
 -- one section has more bytes, the others have their own
 abbrev pub GrowsBy : List (Vec ℕ) → List (Vec ℕ) → ℕ → List ℕ → Type 0
 GrowsBy old new section more =
-    (length new ≡ length old) × ((j : ℕ) → bytes_in new j ≡ (if j == section then bytes_in old j ++ more else bytes_in old j))
+    (length new ≡ length old)
+    × ((j : ℕ) → bytes_in new j
+    ≡ (if j == section then bytes_in old j ++ more else bytes_in old j))
 
 -- the word of an instruction, if there is one
 abbrev pub word_of : Option Inst → List ℕ
@@ -190,7 +197,8 @@ abbrev pub value_at : Tables → Located → Expression → values.Value
 value_at t s e = value t true s.ordinal (place_of s) e
 
 abbrev pub section_code : Tables → ℕ → List Located → List ℕ
-section_code t section ss = flat_map (λ s. code_said (value_at t s) s.kind) (filter (λ s. section == s.section) ss)
+section_code t section ss =
+    flat_map (λ s. code_said (value_at t s) s.kind) (filter (λ s. section == s.section) ss)
 
 -- a section of code that is too long, at a line
 abbrev pub full_fault : Option ℕ → Option Fault

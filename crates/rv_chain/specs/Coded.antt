@@ -12,8 +12,10 @@ use Rattle.rv_chain.specs.Code.{value_at}
 
 -- an instruction of a statement is one that is valid, by constants
 abbrev pub IsCoded : (Expression → Value) → StatementKind → Type 0
-IsCoded v (Instruction mnemonic operands) = (i : Inst) × IsInstruction v (Instruction mnemonic operands) i
+IsCoded v (Instruction mnemonic operands) =
+    (i : Inst) × IsInstruction v (Instruction mnemonic operands) i
 IsCoded v _ = ⊤
 
 abbrev pub AreCoded : List Statement → Type 0
-AreCoded ss = AllByRecursion (λ s. IsCoded (λ e. value_at (tables ss) s e) s.kind) (located (ss ∷ []))
+AreCoded ss =
+    AllByRecursion (λ s. IsCoded (λ e. value_at (tables ss) s e) s.kind) (located (ss ∷ []))

@@ -1,6 +1,6 @@
 pub mod Added
 pub mod Building
-pub mod Choices
+pub mod Compressed
 pub mod Code
 pub mod Coded
 pub mod DataSoFar

@@ -29,13 +29,15 @@ pub record StandsFrom (ss : List Statement) (start : ℕ) (x : Placed) : Type 0 
 
 -- the map: it shows the layout, and one row for each statement that has a place
 abbrev pub map_from : Placed → ℕ → List Global → Map
-map_from x entry globals = map_of x.layout entry globals (rows_from 1 x.layout.starts.items 1 x.items.items)
+map_from x entry globals =
+    map_of x.layout entry globals (rows_from 1 x.layout.starts.items 1 x.items.items)
 
 -- the names that the map shows: those that the source makes global, and the linker's that it leaves
 abbrev pub shown_names : List Statement → Placed → List Global
 shown_names ss x =
     definitions_from (tables ss) x.layout.starts.items x.items.items 1 ss x.items.items
-    ++ filter (λ g. not (is_one_of (names_from (tables ss) 1 ss) g.name)) (linker_symbols (map_from x 0 []))
+    ++ filter (λ g. not (is_one_of (names_from (tables ss) 1 ss) g.name))
+    (linker_symbols (map_from x 0 []))
 
 abbrev pub AreNamed : List Statement → Placed → List Global → Type 0
 AreNamed ss x globals = globals ≡ shown_names ss x
@@ -43,14 +45,18 @@ AreNamed ss x globals = globals ≡ shown_names ss x
 -- a run begins at the global label `_start`, at an even place
 abbrev pub Begins : List Statement → Placed → ℕ → Type 0
 Begins ss x entry =
-    (is_global (binding_of ss (codes "_start")) ≡ true) × (entry_from x.layout.starts.items ss x.items.items ≡ Some entry) × (entry % 2 ≡ 0)
+    (is_global (binding_of ss (codes "_start")) ≡ true)
+    × (entry_from x.layout.starts.items ss x.items.items ≡ Some entry) × (entry % 2 ≡ 0)
 
 -- the program: each region has the bytes of its sections, which are code or data
 abbrev pub program_from : Placed → ℕ → List Global → List (Vec ℕ) → List (Vec ℕ) → Bool → Linked
 program_from x entry globals texts figures rvc = record {
-  text = contents_of Text x.layout.text.start x.pieces.items x.layout.starts.items (map (λ b. b.items) texts);
-  rodata = contents_of Rodata x.layout.rodata.start x.pieces.items x.layout.starts.items (map (λ b. b.items) figures);
-  «data» = contents_of Data x.layout.data.start x.pieces.items x.layout.starts.items (map (λ b. b.items) figures);
+  text = contents_of Text x.layout.text.start x.pieces.items x.layout.starts.items
+      (map (λ b. b.items) texts);
+  rodata = contents_of Rodata x.layout.rodata.start x.pieces.items x.layout.starts.items
+      (map (λ b. b.items) figures);
+  «data» = contents_of Data x.layout.data.start x.pieces.items x.layout.starts.items
+      (map (λ b. b.items) figures);
   map = map_from x entry globals;
   rvc = rvc;
 }

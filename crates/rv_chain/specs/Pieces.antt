@@ -15,4 +15,5 @@ fewest section = if goes_to_text section then 2 else 1
 -- the pieces of all sections, in any tables where they ask for these alignments
 abbrev pub AreAllPieces : List Extent → List ℕ → List Piece → Type 0
 AreAllPieces extents ends pieces =
-    (t : Tables) → t.alignments ≡ map (λ (e : Extent). e.alignment) extents → ArePieces t (λ j. slice_index ends j) 0 (map extent_section extents) pieces
+    (t : Tables) → t.alignments ≡ map (λ (e : Extent). e.alignment) extents
+    → ArePieces t (λ j. slice_index ends j) 0 (map extent_section extents) pieces

@@ -14,7 +14,8 @@ use Rattle.rv_chain.specs.declared.fault.Fault.{Fault}
 use Rattle.rv_chain.specs.declared.fault.Fault.TheVariants.{Source, File, Link, Memory}
 
 -- the file has no fault, and the outcome is that of the machine's run over its image
-pub record RunsFile (reader : Reader Spells StandsFor) (file input : List ℕ) (limit : ℕ) (outcome : Outcome) : Type 0 where
+pub record RunsFile (reader : Reader Spells StandsFor) (file input : List ℕ) (limit : ℕ)
+    (outcome : Outcome) : Type 0 where
   pub accepted : first_fault file ≡ None
   pub image : Image
   pub loads : ImageOf file image

@@ -10,10 +10,13 @@ use Rattle.rv_statement.specs.View.{now_of}
 use Rattle.rv_unit_laws.specs.Tables.{SectionOffset, tables, at_start, definition, value}
 use Rattle.rv_unit.specs.Unit.{said, IsFilled, IsScope}
 use Rattle.rv_unit.specs.declared.scope.Scope.{Scope}
+use Rattle.rv_tables.specs.declared.section_offset.SectionOffset.{SectionOffset as CodeOffset}
+use Rattle.rv_tables.specs.Sections.{offset_of}
 use Rattle.rv_source_laws.specs.Located.{located}
 use Rattle.rv_chain_laws.specs.Refusals.{has_address_by, missing_in, missing_by, first_name}
 use Rattle.rv_link_laws.specs.declared.item.Item.{Item}
 use Rattle.rv_link_laws.specs.Items.{AreItems}
+use Rattle.rv_chain.specs.Scoped.{AtNext}
 
 -- whether the statement of an ordinal has a row; those of the items count on from another
 abbrev pub shown_by : ℕ → List Item → ℕ → Bool
@@ -26,7 +29,8 @@ addressed ss index q = has_address_by (located (ss ∷ [])) q (definition (table
 
 -- what expressions of the statement at an index refer to without an address
 abbrev pub missing_at : List Statement → ℕ → SectionOffset → List Expression → List (List ℕ)
-missing_at ss index place es = flat_map (λ e. missing_in (addressed ss index) (value (tables ss) true (index + 1) place e)) es
+missing_at ss index place es =
+    flat_map (λ e. missing_in (addressed ss index) (value (tables ss) true (index + 1) place e)) es
 
 -- the statement at an index is next, and the statements have these items
 pub record Sees (s : Scope) (is : List Item) (index : ℕ) : Type 0 where
@@ -42,7 +46,8 @@ HasValue _ = ⊤
 
 -- expressions of the statement at an index
 abbrev pub HaveValues : List Statement → ℕ → SectionOffset → List Expression → Type 0
-HaveValues ss index place es = AllByRecursion (λ e. HasValue (value (tables ss) true (index + 1) place e)) es
+HaveValues ss index place es =
+    AllByRecursion (λ e. HasValue (value (tables ss) true (index + 1) place e)) es
 
 -- what is found is the first of the names
 abbrev pub IsFirst : Option (Bor (List ℕ)) → List (List ℕ) → Type 0
@@ -58,9 +63,35 @@ else_name (Some name) other = Some name
 
 -- the first name of the statements of a section
 abbrev pub first_in : List Statement → ℕ → Option (List ℕ)
-first_in ss j = first_name (flat_map (missing_by ss) (filter (λ s. s.section == j) (located (ss ∷ []))))
+first_in ss j =
+    first_name (flat_map (missing_by ss) (filter (λ s. s.section == j) (located (ss ∷ []))))
 
 -- the first that was found
 abbrev pub first_some : List (Option (Bor (List ℕ))) → Option (List ℕ)
 first_some [] = None
 first_some (o ∷ os) = else_name (option_map now_of o) (first_some os)
+
+-- ---- of the statement that is next
+
+-- what it names
+abbrev pub Seen : Scope → List Item → (ℕ → Type 0) → Type 0
+Seen scope is P = (index : ℕ) → Sees scope is index → P index
+
+-- whether that has an address
+abbrev pub addressed_in : Scope → ℕ → Primary → Bool
+addressed_in scope index q = addressed (said scope.unit.now) index q
+
+-- what its expressions refer to without an address, where it stands at this offset
+abbrev pub missing_in_next : Scope → ℕ → CodeOffset → List Expression → List (List ℕ)
+missing_in_next scope index place es = missing_at (said scope.unit.now) index (offset_of place) es
+
+-- the first of these names is found
+abbrev pub FindsFirst :
+    Scope → List Item → CodeOffset → List Expression → Option (Bor (List ℕ)) → Type 0
+FindsFirst scope is place es found =
+    Seen scope is (λ index. IsFirst found (missing_in_next scope index place es))
+
+-- its expressions do not all have values
+abbrev pub LackValues : Scope → CodeOffset → List Expression → Type 0
+LackValues scope place es =
+    AtNext scope (λ index. HaveValues (said scope.unit.now) index (offset_of place) es → ⊥)

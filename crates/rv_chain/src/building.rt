@@ -22,7 +22,9 @@ use std::alloc::Global;
 /// console and the end that the statements of the sources give, each executed in one step at the
 /// addresses of the map; only a jump to the inside of a statement ends the promise.
 pub fn build(alloc: Global, sources: &[&[u8]], options: LinkOptions) -> Result<Built, Fault>
-    ensures { IfOk result (λ built. TheHeadline (map now_of sources.now) options.text_start built.exe.items built.map.items) }
+    ensures { IfOk result
+        (λ built. TheHeadline
+        (map now_of sources.now) options.text_start built.exe.items built.map.items) }
 {
     let linked = linked(alloc, sources, options.text_start)?;
     // what the types of a map keep
@@ -34,7 +36,8 @@ pub fn build(alloc: Global, sources: &[&[u8]], options: LinkOptions) -> Result<B
 
 /// Assembles and links as `build`, without the text of the map: the same executable.
 pub fn build_exe(alloc: Global, sources: &[&[u8]], options: LinkOptions) -> Result<Vec<u8>, Fault>
-    ensures { IfOk result (λ exe. IsExecutableOf (map now_of sources.now) options.text_start exe.items) }
+    ensures { IfOk result
+        (λ exe. IsExecutableOf (map now_of sources.now) options.text_start exe.items) }
 {
     let linked = linked(alloc, sources, options.text_start)?;
     // what the types of a map keep

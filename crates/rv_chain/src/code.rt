@@ -6,20 +6,20 @@ ghost use Rattle.rv_text_laws.specs.Expression.{Primary};
 ghost use Rattle.rv_text_laws.specs.Values as values;
 ghost use Rattle.rv_statement.specs.Statement.{Expression};
 ghost use Rattle.rv_statement.specs.View.{statement_of};
+ghost use Rattle.rv_unit_laws.specs.Options.{Options};
 ghost use Rattle.rv_unit_laws.specs.Tables.{Tables};
 ghost use Rattle.rv_unit.specs.Unit.{said, IsFilled, IsScope};
 ghost use Rattle.rv_chain_laws.specs.Contents.{words};
 ghost use Rattle.rv_source_laws.specs.Located.{Located};
-ghost use Rattle.rv_chain_laws.specs.Refusals.{else_fault};
+ghost use Rattle.rv_chain_laws.specs.Refusals.{code_faults, else_fault};
 ghost use Rattle.rv_chain.specs.Added.{Adds, IsCode, IsCodeSoFar, IsSourceCode};
-ghost use Rattle.rv_chain.specs.Choices.{options_of};
 ghost use Rattle.rv_chain.specs.Coded.{AreCoded};
 ghost use Rattle.rv_chain.specs.Code as laws;
 ghost use Rattle.rv_chain.specs.Code.{GrowsBy, Codes, word_of, full_fault, full_at};
-ghost use Rattle.rv_chain.specs.Scoped.{values_at, labels_at};
+ghost use Rattle.rv_chain.specs.Scoped.{values_at, faults_at};
 
-use crate::choices::Choices;
 use crate::instruction::instruction;
+use crate::items::extent_at;
 use rv_encode::encode;
 use rv_isa::Inst;
 use rv_statement::Statement;
@@ -31,7 +31,8 @@ use std::alloc::{AllocError, Global};
 fn put(sections: &mut [Vec<u8>], section: u32, inst: Inst) -> Result<(), AllocError>
     requires valid { IsValid inst }
     requires section { section < length sections.old }
-    ensures { IfOk result (λ _. GrowsBy sections.old sections.new section (words (Some (inst ∷ [])))) }
+    ensures { IfOk result
+        (λ _. GrowsBy sections.old sections.new section (words (Some (inst ∷ [])))) }
 {
     let word = encode(inst).to_le_bytes();
     sections[section as usize].extend_from_slice(word.as_slice())
@@ -49,7 +50,7 @@ fn put_found(sections: &mut [Vec<u8>], section: u32, found: Option<Inst>) -> Res
     }
 }
 
-/// So many sections without code.
+/// `count` sections without code.
 #[tactic(auto, using(crate::proofs::SoFar::empty_behind))]
 pub(crate) fn empty_sections(alloc: Global, count: usize) -> Result<Vec<Vec<u8>>, AllocError>
     ensures count { IfOk result (λ sections. length sections.items ≡ count) }
@@ -84,7 +85,6 @@ fn full_behind(full: Option<u32>, bytes: usize, line: u32) -> Option<u32>
 /// The code so far of a source's statements.
 #[derive(Debug, Drop)]
 pub(crate) struct Coder {
-    choices: Choices,
     /// The bytes of each section.
     pub(crate) sections: Vec<Vec<u8>>,
     /// The line of the first statement after which its section is too long.
@@ -96,10 +96,10 @@ impl Coder {
     #[tactic(auto, using(crate::proofs::SoFar::begun))]
     pub(crate) fn new(alloc: Global, sections: usize) -> Result<Self, AllocError>
         ensures count { IfOk result (λ c. length c.sections.items ≡ sections) }
-        ensures begun { IfOk result (λ c. (t : Tables) (all : List Located) → IsCodeSoFar t all all c) }
+        ensures begun { IfOk result (λ c. (t : Tables) (all : List Located)
+            → IsCodeSoFar t all all c) }
     {
         Ok(Coder {
-            choices: Choices::new(alloc),
             sections: empty_sections(alloc, sections)?,
             full: None,
         })
@@ -108,8 +108,10 @@ impl Coder {
     /// The bytes of each section after the last statement, where none is too long.
     #[tactic(auto, using(crate::proofs::SoFar::whole_code, crate::proofs::SoFar::whole_sizes))]
     pub(crate) fn finish(self) -> Result<Vec<Vec<u8>>, SourceFault>
-        ensures count { IfOk result (λ sections. length sections.items ≡ length self.sections.items) }
-        ensures code { (t : Tables) (all : List Located) → IsCodeSoFar t all [] self → IsCode t all result }
+        ensures count { IfOk result
+            (λ sections. length sections.items ≡ length self.sections.items) }
+        ensures code { (t : Tables) (all : List Located) → IsCodeSoFar t all [] self
+            → IsCode t all result }
     {
         match self.full {
             Some(line) => Err(SourceFault::At {
@@ -120,19 +122,24 @@ impl Coder {
         }
     }
 
-    /// Adds a unit's next statement, which stands at the place, or gives the lowest code of its faults.
+    /// Adds a unit's next statement, which stands at the place, in a section of code (`executable`)
+    /// or not, where compressed code is on or off; or gives the lowest code of its faults.
     pub(crate) fn add<'a>(
         &mut self,
         statement: &Statement<'a>,
         scope: &Scope<'_, 'a>,
         place: SectionOffset,
+        executable: bool,
+        compressed: bool,
     ) -> Result<(), SourceFault>
         requires { place.section < length self.old.sections.items }
-        ensures { (index : ℕ) → IsFilled (scope.now).unit.now → IsScope scope.now index
-            → Adds self.old self.new place.section (values_at scope.now index place)
-            (labels_at scope.now index) (statement_of statement.now) result }
+        ensures { (o : Options) (index : ℕ) → o.rvc ≡ compressed → IsFilled (scope.now).unit.now
+            → IsScope scope.now index
+            → Adds self.old self.new place.section
+            (faults_at scope.now index place o executable (statement_of statement.now).kind)
+            (values_at scope.now index place) (statement_of statement.now) result }
     {
-        match instruction(statement, self.choices.rvc, scope, place) {
+        match instruction(statement, scope, place, executable, compressed) {
             Ok(found) => self.add_found(statement, place.section, found),
             Err(fault) => Err(fault),
         }
@@ -147,14 +154,15 @@ impl Coder {
     ) -> Result<(), SourceFault>
         requires valid { IfSome found IsValid }
         requires section { section < length self.old.sections.items }
-        ensures { (v : Expression → values.Value) (l : Primary → Bool)
-            → Codes (options_of self.old.choices) v l (statement_of statement.now) (Ok found)
-            → Adds self.old self.new section v l (statement_of statement.now) result }
+        ensures { (o : Options) (executable : Bool) (v : Expression → values.Value)
+            (l : Primary → Bool) → Codes o executable v l (statement_of statement.now) (Ok found)
+            → Adds self.old self.new section
+            (code_faults o executable v l (statement_of statement.now).kind) v
+            (statement_of statement.now) result }
     {
         put_found(self.sections.as_mut_slice(), section, found)?;
         let bytes = bytes_in(self.sections.as_slice(), section);
         self.full = full_behind(self.full, bytes, statement.line);
-        self.choices.follow(&statement.kind)?;
         Ok(())
     }
 }
@@ -162,7 +170,8 @@ impl Coder {
 /// The code of each section of a unit.
 pub(crate) fn code(alloc: Global, unit: &Unit<'_>) -> Result<Vec<Vec<u8>>, SourceFault>
     requires { IsFilled unit.now }
-    ensures count { IfOk result (λ sections. length sections.items ≡ length (unit.now).tables.extents.items) }
+    ensures count { IfOk result
+        (λ sections. length sections.items ≡ length (unit.now).tables.extents.items) }
     ensures code { IsSourceCode (said unit.now) result }
     ensures coded { IfOk result (λ _. AreCoded (said unit.now)) }
 {
@@ -170,9 +179,13 @@ pub(crate) fn code(alloc: Global, unit: &Unit<'_>) -> Result<Vec<Vec<u8>>, Sourc
     let mut scope = Scope::new(unit);
     let statements = unit.statements();
     let places = unit.places();
+    let extents = unit.sections();
     for index in 0..statements.len() {
         let place = places[index];
-        coder.add(&statements[index], &scope, place)?;
+        let extent = extent_at(extents, place.section);
+        let compressed = unit.options_at(index).rvc();
+        let executable = extent.section.executable;
+        coder.add(&statements[index], &scope, place, executable, compressed)?;
         scope.pass();
     }
     coder.finish()

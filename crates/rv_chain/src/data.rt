@@ -25,7 +25,8 @@ fn put_bytes<'a>(
     numbers: &Numbers<'_, '_, 'a>,
 ) -> Result<(), DataFault<'a>>
     requires section { section < length sections.old }
-    ensures spells { OnOk result (Spells numbers.now (statement_kind kind.now) count sections.old sections.new section) }
+    ensures spells { OnOk result
+        (Spells numbers.now (statement_kind kind.now) count sections.old sections.new section) }
     ensures count { length sections.new ≡ length sections.old }
 {
     put_data(
@@ -45,8 +46,11 @@ fn put_figure<'a>(
     numbers: &Numbers<'_, '_, 'a>,
 ) -> Result<(), DataFault<'a>>
     requires section { (numbers.now).place.section < length sections.old }
-    ensures put { OnOk result (is_figure item (section_of section.entry) ≡ true → Spells numbers.now (statement_kind kind.now) item.bytes sections.old sections.new (numbers.now).place.section) }
-    ensures left { OnOk result (is_figure item (section_of section.entry) ≡ false → sections.new ≡ sections.old) }
+    ensures put { OnOk result (is_figure item (section_of section.entry) ≡ true
+        → Spells numbers.now (statement_kind kind.now) item.bytes sections.old sections.new
+        (numbers.now).place.section) }
+    ensures left { OnOk result (is_figure item (section_of section.entry) ≡ false
+        → sections.new ≡ sections.old) }
     ensures count { length sections.new ≡ length sections.old }
 {
     if !item.shown || section.executable || section.is_nobits() {
@@ -69,8 +73,11 @@ fn put_next<'a>(
     requires within { index < length (unit.now).statements.items }
     requires item { index < length items.now }
     requires each { length sections.old ≡ length (unit.now).tables.extents.items }
-    ensures data { OnOk result ((globals : List Global) → (scope.now).unit.now ≡ unit.now → IsScope scope.now index → first_fault (said unit.now) ≡ None → AreAddresses addresses.now.names globals
-        → DataTo (said unit.now) starts.now items.now globals index sections.old → DataTo (said unit.now) starts.now items.now globals (index + 1) sections.new) }
+    ensures data { OnOk result ((globals : List Global) → (scope.now).unit.now ≡ unit.now
+        → IsScope scope.now index → first_fault (said unit.now) ≡ None
+        → AreAddresses addresses.now.names globals
+        → DataTo (said unit.now) starts.now items.now globals index sections.old
+        → DataTo (said unit.now) starts.now items.now globals (index + 1) sections.new) }
     ensures count { length sections.new ≡ length sections.old }
 {
     let statement = &unit.statements()[index];
@@ -104,7 +111,10 @@ fn all_data<'a>(
     requires filled { IsFilled unit.now }
     requires good { first_fault (said unit.now) ≡ None }
     requires each { length items.now ≡ length (unit.now).statements.items }
-    ensures { IfOk result (λ sections. (globals : List Global) → AreAddresses addresses.now.names globals → GivesData (said unit.now) starts.now items.now globals (map (λ b. b.items) sections.items)) }
+    ensures { IfOk result (λ sections. (globals : List Global)
+        → AreAddresses addresses.now.names globals
+        → GivesData (said unit.now) starts.now items.now globals
+        (map (λ b. b.items) sections.items)) }
 {
     let mut sections = empty_sections(alloc, unit.sections().len())?;
     let mut scope = Scope::new(unit);
@@ -134,7 +144,9 @@ pub(crate) fn data<'a>(
     requires filled { IsFilled unit.now }
     requires good { first_fault (said unit.now) ≡ None }
     requires each { length items.now ≡ length (unit.now).statements.items }
-    ensures { IfOk result (λ sections. GivesData (said unit.now) starts.now items.now (map global_of globals.now) (map (λ b. b.items) sections.items)) }
+    ensures { IfOk result
+        (λ sections. GivesData (said unit.now) starts.now items.now (map global_of globals.now)
+        (map (λ b. b.items) sections.items)) }
 {
     let addresses = Addresses::of(alloc, globals)?;
     all_data(alloc, unit, starts, items, &addresses)

@@ -16,13 +16,14 @@ ghost use Rattle.rv_statement.specs.declared.statement.Operation.TheVariants.{Li
 ghost use Rattle.rv_statement.specs.View.{plain_of, statement_of};
 ghost use Rattle.rv_parse_laws.specs.Syntax as syntax;
 ghost use Rattle.rv_unit_laws.specs.Faults.{faulty_if};
+ghost use Rattle.rv_unit_laws.specs.Options.{Options};
 ghost use Rattle.rv_unit.specs.Unit.{IsFilled, IsScope};
-ghost use Rattle.rv_source_laws.specs.Fits.{constant_in};
+ghost use Rattle.rv_source_laws.specs.Fits.{constant_in, is_low};
 ghost use Rattle.rv_source_laws.specs.Written as laws;
 ghost use Rattle.rv_source_laws.specs.Meaning.{fits_12};
-ghost use Rattle.rv_source_laws.specs.Options.{Options};
-ghost use Rattle.rv_chain_laws.specs.InstructionFaults.{form_takes, else_unplaced, instruction_faults};
-ghost use Rattle.rv_chain_laws.specs.Refusals.{code_size};
+ghost use Rattle.rv_chain_laws.specs.InstructionFaults.{form_takes, else_unplaced};
+ghost use Rattle.rv_chain_laws.specs.Refusals.{padding_faults, code_faults, code_size};
+ghost use Rattle.rv_link_laws.specs.Suits.{code_said};
 ghost use Rattle.rv_chain.specs.Code.{instruction_by, numbered, value_faults, InRange, OfNumber, IsNumber, IsBuilt, Codes};
 ghost use Rattle.rv_chain.specs.Scoped.{values_at, labels_at};
 
@@ -34,11 +35,12 @@ use rv_isa::{
 };
 use rv_statement::{Operation, Plain, Statement, StatementKind};
 use rv_text::{SourceCode, SourceFault, Value};
-use rv_unit::{Scope, SectionOffset};
+use rv_unit::{Scope, SectionOffset, byte_alignment, power_alignment};
 
 /// The immediate of 12 bits that a number is, or why it is none.
 fn immediate(number: u64) -> Result<i32, SourceCode>
-    ensures { MatchResult result (λ i. (is_some (fits_12 number) ≡ true) × (i ≡ laws.signed number) × IsSigned12 i) (λ code. (is_some (fits_12 number) ≡ false) × (code ≡ ImmediateRange)) }
+    ensures { MatchResult result (λ i. (is_some (fits_12 number) ≡ true) × (i ≡ laws.signed number)
+        × IsSigned12 i) (λ code. (is_some (fits_12 number) ≡ false) × (code ≡ ImmediateRange)) }
 {
     match immediate_of(number) {
         Some(immediate) => Ok(immediate),
@@ -105,7 +107,8 @@ fn with_immediate(
     rs1: Reg,
     number: u64,
 ) -> Result<Inst, SourceCode>
-    ensures { InRange (is_some (fits_12 number)) (Some (of_immediate operation (laws.i_type rd rs1 number))) result }
+    ensures { InRange (is_some (fits_12 number))
+        (Some (of_immediate operation (laws.i_type rd rs1 number))) result }
 {
     let immediate = immediate(number)?;
     Ok(operation.instruction(IType { immediate, rd, rs1 }))
@@ -118,7 +121,8 @@ fn with_constant(
     rs1: Reg,
     number: u64,
 ) -> Result<Inst, SourceCode>
-    ensures { InRange (form_takes (syntax.with_constant operation) number) (laws.by_constant (syntax.with_constant operation) rd rs1 number) result }
+    ensures { InRange (form_takes (syntax.with_constant operation) number)
+        (laws.by_constant (syntax.with_constant operation) rd rs1 number) result }
 {
     match operation {
         RegisterOperation::Add => with_immediate(ImmediateOperation::Addi, rd, rs1, number),
@@ -141,7 +145,8 @@ fn with_constant(
 
 /// A load at a number from a register.
 fn load(operation: LoadOperation, rd: Reg, rs1: Reg, number: u64) -> Result<Inst, SourceCode>
-    ensures { InRange (is_some (fits_12 number)) (Some (of_load operation (laws.i_type rd rs1 number))) result }
+    ensures { InRange (is_some (fits_12 number))
+        (Some (of_load operation (laws.i_type rd rs1 number))) result }
 {
     let immediate = immediate(number)?;
     Ok(operation.instruction(IType { immediate, rd, rs1 }))
@@ -149,7 +154,8 @@ fn load(operation: LoadOperation, rd: Reg, rs1: Reg, number: u64) -> Result<Inst
 
 /// A store at a number from a register.
 fn store(operation: StoreOperation, rs2: Reg, rs1: Reg, number: u64) -> Result<Inst, SourceCode>
-    ensures { InRange (is_some (fits_12 number)) (Some (of_store operation (laws.s_type rs2 rs1 number))) result }
+    ensures { InRange (is_some (fits_12 number))
+        (Some (of_store operation (laws.s_type rs2 rs1 number))) result }
 {
     let immediate = immediate(number)?;
     Ok(operation.instruction(SType {
@@ -267,27 +273,62 @@ pub(crate) fn as_word(
 /// What was built, as what a statement has.
 fn found(built: Result<Inst, SourceFault>) -> Result<Option<Inst>, SourceFault>
     ensures valid { IfOk built IsValid → IfOk result (λ f. IfSome f IsValid) }
-    ensures codes { (o : Options) (v : Expression → values.Value) (l : Primary → Bool)
-        (s : SpecStatement)
-        → IsBuilt (instruction_faults o v l s.kind)
+    ensures codes { (o : Options) (executable : Bool) (v : Expression → values.Value)
+        (l : Primary → Bool) (s : SpecStatement)
+        → IsBuilt (code_faults o executable v l s.kind)
         (instruction_by (λ e. constant_in (v e)) s.kind) s.line built
-        → code_size s.kind ≡ 4 → Codes o v l s result }
+        → code_size s.kind ≡ 4 → Codes o executable v l s result }
 {
     let inst = built?;
     Ok(Some(inst))
 }
 
-/// The instruction of the statement that is next, if it is one, or the lowest code of its faults.
+/// Whether an alignment has padding in code: above 2, in a section of code.
+fn is_padded(executable: bool, alignment: Option<u32>) -> bool
+    ensures { result ≡ (not (is_low alignment) && executable) }
+{
+    match alignment {
+        Some(alignment) => alignment > 2 && executable,
+        None => false,
+    }
+}
+
+/// What an alignment has: no instruction, and in code no padding, which cannot be placed yet.
+#[tactic(auto, using(crate::proofs::Unplaced::padded_low, crate::proofs::Unplaced::padded_high))]
+fn unpadded(
+    executable: bool,
+    alignment: Option<u32>,
+    line: u32,
+) -> Result<Option<Inst>, SourceFault>
+    ensures valid { IfOk result (λ f. IfSome f IsValid) }
+    ensures codes { (o : Options) (v : Expression → values.Value) (l : Primary → Bool)
+        (s : SpecStatement)
+        → code_faults o executable v l s.kind ≡ padding_faults executable alignment
+        → code_said v s.kind ≡ [] → code_size s.kind ≡ 0 → s.line ≡ line
+        → Codes o executable v l s result }
+{
+    if is_padded(executable, alignment) {
+        return Err(SourceFault::At {
+            code: SourceCode::UnsupportedHere,
+            line,
+        });
+    }
+    Ok(None)
+}
+
+/// The instruction of the statement that is next, if it is one, or the lowest code of its faults as
+/// code: in a section of code or not, where compressed code is on or off.
 pub(crate) fn instruction<'a>(
     statement: &Statement<'a>,
-    compressed: bool,
     scope: &Scope<'_, 'a>,
     place: SectionOffset,
+    executable: bool,
+    compressed: bool,
 ) -> Result<Option<Inst>, SourceFault>
     ensures valid { IfOk result (λ f. IfSome f IsValid) }
     ensures codes { (o : Options) (index : ℕ) → o.rvc ≡ compressed → IsFilled (scope.now).unit.now
         → IsScope scope.now index
-        → Codes o (values_at scope.now index place) (labels_at scope.now index)
+        → Codes o executable (values_at scope.now index place) (labels_at scope.now index)
         (statement_of statement.now) result }
 {
     let line = statement.line;
@@ -304,6 +345,14 @@ pub(crate) fn instruction<'a>(
             let value = scope.value(place, expression, line);
             let code = function_code(scope, *operation, *function, &value);
             Err(SourceFault::At { code, line })
+        }
+        StatementKind::AlignsToPower(exponent) => {
+            let alignment = power_alignment(scope.value(place, exponent, 0));
+            unpadded(executable, alignment, line)
+        }
+        StatementKind::AlignsToBytes(bytes) => {
+            let alignment = byte_alignment(scope.value(place, bytes, 0));
+            unpadded(executable, alignment, line)
         }
         _ => Ok(None),
     }

@@ -3,21 +3,20 @@
 
 ghost use Rattle.std.specs.Prelude.{◌≡◌, ◌&&◌, ◌+◌, ◌*◌, ◌<◌, ◌≤◌, ℕ, true, false, length, map, slice_index, slice_set, None, IfOk, IfErr};
 ghost use Rattle.rv_text_laws.specs.Values as values;
-ghost use Rattle.rv_text.specs.Eval.{IsOutcome};
 ghost use Rattle.rv_lexer.specs.declared.fault.SourceFault.TheVariants.{OutOfMemory};
 ghost use Rattle.rv_statement.specs.View.{bytes_of, quoted, statement_kind};
 ghost use Rattle.rv_unit_laws.specs.Faults.{first_fault};
 ghost use Rattle.rv_unit_laws.specs.Sections.{goes_to_text};
 ghost use Rattle.rv_unit_laws.specs.Tables as laws;
-ghost use Rattle.rv_tables.specs.Sections.{offset_of, section_of};
-ghost use Rattle.rv_unit.specs.Unit.{said, passed, IsFilled, IsScope};
-ghost use Rattle.rv_source_laws.specs.Located.{is_placed};
+ghost use Rattle.rv_tables.specs.Sections.{section_of};
+ghost use Rattle.rv_unit.specs.Unit.{said, IsFilled};
 ghost use Rattle.rv_source_laws.specs.Fits.{is_low};
-ghost use Rattle.rv_chain_laws.specs.Refusals.{size_fault};
+ghost use Rattle.rv_chain_laws.specs.Refusals.{code_fault, size_fault};
 ghost use Rattle.rv_link_laws.specs.Items.{AreItems};
 ghost use Rattle.rv_link_laws.specs.Suits.{IsMultiple};
-ghost use Rattle.rv_chain.specs.Sized.{AreSized, IsAligned, IsPadded, IsSized};
-ghost use Rattle.rv_chain.specs.Measured.{stretch, is_executed, IsSize, IsExtentAt, CanAlign, CanCount, CanPad, HasSize, HasRoom};
+ghost use Rattle.rv_chain.specs.Scoped.{values_at, is_placed_at, AtNext, StandsHere, ForOutcome};
+ghost use Rattle.rv_chain.specs.Sized.{AreSized};
+ghost use Rattle.rv_chain.specs.Measured.{is_executed, IsExtentAt, CanCount, PadsIn, CanPadIn, AlignsIn, CanAlignIn, IsSizeIn, HasSizeIn, HasRoomIn, IsSizedIn};
 
 use crate::instruction::constant;
 use rv_link::Item;
@@ -29,7 +28,7 @@ use rv_unit::{
 };
 use std::alloc::{AllocError, Global};
 
-/// So many bytes, where a section can have them.
+/// `bytes` as the size of a statement, where a section can have them.
 fn fitting(bytes: u64, line: u32) -> Result<u32, SourceFault>
     ensures same { IfOk result (λ n. n ≡ bytes) }
     ensures fits { IfOk result (λ n. n ≤ laws.longest_section) }
@@ -54,16 +53,18 @@ fn bytes_of_values(width: Width, count: usize, line: u32) -> Result<u32, SourceF
 
 /// The bytes of strings, where asked with a zero byte after each.
 fn bytes_of_strings(ended: bool, strings: &[&[u8]], line: u32) -> Result<u32, SourceFault>
-    ensures size { IfOk result (λ n. n ≡ length (laws.string_bytes ended (map quoted strings.now))) }
-    ensures refuses { IfErr result (λ _. length (laws.string_bytes ended (map quoted strings.now)) ≤ laws.longest_section → ⊥) }
+    ensures size { IfOk result
+        (λ n. n ≡ length (laws.string_bytes ended (map quoted strings.now))) }
+    ensures refuses { IfErr result (λ _.
+        length (laws.string_bytes ended (map quoted strings.now)) ≤ laws.longest_section → ⊥) }
 {
     fitting(strings_size(ended, strings), line)
 }
 
 /// As many bytes as a value says.
 fn bytes_of_zeros(value: Result<Value<'_>, SourceFault>, line: u32) -> Result<u32, SourceFault>
-    ensures size { IfOk result (λ n. (v : values.Value) → IsOutcome value.entry line v → v ≡ values.Constant n) }
-    ensures refuses { IfErr result (λ _. (v : values.Value) → IsOutcome value.entry line v → CanCount v → ⊥) }
+    ensures size { IfOk result (λ n. ForOutcome value.entry line (λ v. v ≡ values.Constant n)) }
+    ensures refuses { IfErr result (λ _. ForOutcome value.entry line (λ v. CanCount v → ⊥)) }
 {
     let count = constant(value, line)?;
     fitting(count, line)
@@ -102,8 +103,10 @@ fn padding_in_data(
     offset: u32,
     line: u32,
 ) -> Result<u32, SourceFault>
-    ensures size { IfOk result (λ n. (n ≡ laws.padding alignment offset) × IsMultiple alignment begins) }
-    ensures refuses { IfErr result (λ _. IsMultiple alignment begins → laws.padding alignment offset ≤ laws.longest_section → ⊥) }
+    ensures size { IfOk result
+        (λ n. (n ≡ laws.padding alignment offset) × IsMultiple alignment begins) }
+    ensures refuses { IfErr result (λ _. IsMultiple alignment begins
+        → laws.padding alignment offset ≤ laws.longest_section → ⊥) }
 {
     if !is_multiple(begins, alignment) {
         return Err(SourceFault::At {
@@ -121,8 +124,8 @@ fn bytes_of_padding(
     offset: u32,
     line: u32,
 ) -> Result<u32, SourceFault>
-    ensures size { IfOk result (λ n. IsPadded (extent.entry).section.executable (stretch offset n) (extent.entry).alignment alignment) }
-    ensures refuses { IfErr result (λ _. CanPad (extent.entry).section.executable (extent.entry).alignment offset alignment → ⊥) }
+    ensures size { IfOk result (λ n. PadsIn extent.entry offset n alignment) }
+    ensures refuses { IfErr result (λ _. CanPadIn extent.entry offset alignment → ⊥) }
 {
     if extent.section.executable {
         return padding_in_code(alignment, line);
@@ -137,8 +140,10 @@ fn padding_to_power(
     offset: u32,
     line: u32,
 ) -> Result<u32, SourceFault>
-    ensures size { IfOk result (λ n. (v : values.Value) → IsOutcome value.entry line v → IsAligned v (extent.entry).section.executable (stretch offset n) (extent.entry).alignment (laws.power_alignment v)) }
-    ensures refuses { IfErr result (λ _. (v : values.Value) → IsOutcome value.entry line v → CanAlign v (extent.entry).section.executable (extent.entry).alignment offset (laws.power_alignment v) → ⊥) }
+    ensures size { IfOk result (λ n. ForOutcome value.entry line
+        (λ v. AlignsIn extent.entry v offset n (laws.power_alignment v))) }
+    ensures refuses { IfErr result (λ _. ForOutcome value.entry line
+        (λ v. CanAlignIn extent.entry v offset (laws.power_alignment v) → ⊥)) }
 {
     let power = constant(value, line)?;
     let alignment = power_alignment(Ok(Value::Constant(power)));
@@ -152,8 +157,10 @@ fn padding_to_bytes(
     offset: u32,
     line: u32,
 ) -> Result<u32, SourceFault>
-    ensures size { IfOk result (λ n. (v : values.Value) → IsOutcome value.entry line v → IsAligned v (extent.entry).section.executable (stretch offset n) (extent.entry).alignment (laws.byte_alignment v)) }
-    ensures refuses { IfErr result (λ _. (v : values.Value) → IsOutcome value.entry line v → CanAlign v (extent.entry).section.executable (extent.entry).alignment offset (laws.byte_alignment v) → ⊥) }
+    ensures size { IfOk result (λ n. ForOutcome value.entry line
+        (λ v. AlignsIn extent.entry v offset n (laws.byte_alignment v))) }
+    ensures refuses { IfErr result (λ _. ForOutcome value.entry line
+        (λ v. CanAlignIn extent.entry v offset (laws.byte_alignment v) → ⊥)) }
 {
     let bytes = constant(value, line)?;
     let alignment = byte_alignment(Ok(Value::Constant(bytes)));
@@ -168,10 +175,12 @@ fn size(
     extent: Extent<'_>,
     offset: u32,
 ) -> Result<u32, SourceFault>
-    ensures size { IfOk result (λ n. (index : ℕ) → IsFilled (scope.now).unit.now → IsScope scope.now index
-        → IsSize (λ e. laws.value (laws.tables (said (scope.now).unit.now)) true (index + 1) (offset_of place) e) (extent.entry).section.executable (extent.entry).alignment offset (statement_kind (statement.now).kind) n) }
-    ensures refuses { IfErr result (λ _. (index : ℕ) → IsFilled (scope.now).unit.now → IsScope scope.now index
-        → HasSize (λ e. laws.value (laws.tables (said (scope.now).unit.now)) true (index + 1) (offset_of place) e) (extent.entry).section.executable (extent.entry).alignment offset (statement_kind (statement.now).kind) → ⊥) }
+    ensures size { IfOk result (λ n. AtNext scope.now (λ index.
+        IsSizeIn extent.entry (values_at scope.now index place) offset
+        (statement_kind (statement.now).kind) n)) }
+    ensures refuses { IfErr result (λ _. AtNext scope.now (λ index.
+        HasSizeIn extent.entry (values_at scope.now index place) offset
+        (statement_kind (statement.now).kind) → ⊥)) }
 {
     let line = statement.line;
     match &statement.kind {
@@ -211,10 +220,12 @@ fn shown_size(
     offset: u32,
 ) -> Result<u32, SourceFault>
     ensures absent { IfOk result (λ n. shown ≡ false → n ≡ 0) }
-    ensures size { IfOk result (λ n. (index : ℕ) → IsFilled (scope.now).unit.now → IsScope scope.now index → shown ≡ true
-        → IsSize (λ e. laws.value (laws.tables (said (scope.now).unit.now)) true (index + 1) (offset_of place) e) (extent.entry).section.executable (extent.entry).alignment offset (statement_kind (statement.now).kind) n) }
-    ensures refuses { IfErr result (λ _. (index : ℕ) → IsFilled (scope.now).unit.now → IsScope scope.now index
-        → (shown ≡ true → HasSize (λ e. laws.value (laws.tables (said (scope.now).unit.now)) true (index + 1) (offset_of place) e) (extent.entry).section.executable (extent.entry).alignment offset (statement_kind (statement.now).kind)) → ⊥) }
+    ensures size { IfOk result (λ n. AtNext scope.now (λ index. shown ≡ true
+        → IsSizeIn extent.entry (values_at scope.now index place) offset
+        (statement_kind (statement.now).kind) n)) }
+    ensures refuses { IfErr result (λ _. AtNext scope.now (λ index.
+        (shown ≡ true → HasSizeIn extent.entry (values_at scope.now index place) offset
+        (statement_kind (statement.now).kind)) → ⊥)) }
 {
     if !shown {
         return Ok(0);
@@ -234,8 +245,8 @@ fn executed(kind: &StatementKind<'_>) -> bool
 
 /// Whether the statement that is next, which stands at the place, has a row where its section is loaded.
 fn placed<'a>(scope: &Scope<'_, 'a>, place: SectionOffset, kind: &StatementKind<'a>) -> bool
-    ensures { (index : ℕ) → IsFilled (scope.now).unit.now → IsScope scope.now index → offset_of place ≡ laws.stood (passed (said (scope.now).unit.now) index) (index + 1) (statement_kind kind.now)
-        → result ≡ is_placed (passed (said (scope.now).unit.now) index) (index + 1) (statement_kind kind.now) }
+    ensures { AtNext scope.now (λ index. StandsHere scope.now index place (statement_kind kind.now)
+        → result ≡ is_placed_at scope.now index (statement_kind kind.now)) }
 {
     match kind {
         StatementKind::Sets(setting) => scope.gives_location(place, setting),
@@ -275,7 +286,7 @@ fn end(ends: &[u32], section: u32) -> u32
     ends[section as usize]
 }
 
-/// So many sections without a byte.
+/// `count` sections without a byte.
 fn no_bytes(alloc: Global, count: usize) -> Result<Vec<u32>, AllocError>
     ensures count { IfOk result (λ ends. length ends.items ≡ count) }
     ensures none { IfOk result (λ ends. (j : ℕ) → slice_index ends.items j ≡ 0) }
@@ -305,16 +316,21 @@ fn next_item<'a>(
     ensures offset { IfOk result (λ x. x.offset ≡ offset) }
     ensures line { IfOk result (λ x. x.line ≡ (statement.now).line) }
     ensures text { IfOk result (λ x. x.text ≡ goes_to_text (section_of (extent.now).section)) }
-    ensures shown { IfOk result (λ x. (index : ℕ) → IsFilled (scope.now).unit.now → IsScope scope.now index → offset_of place ≡ laws.stood (passed (said (scope.now).unit.now) index) (index + 1) (statement_kind (statement.now).kind)
-        → x.shown ≡ (is_placed (passed (said (scope.now).unit.now) index) (index + 1) (statement_kind (statement.now).kind) && (extent.now).section.loaded)) }
+    ensures shown { IfOk result (λ x. AtNext scope.now (λ index.
+        StandsHere scope.now index place (statement_kind (statement.now).kind)
+        → x.shown ≡ (is_placed_at scope.now index (statement_kind (statement.now).kind)
+        && (extent.now).section.loaded))) }
     ensures absent { IfOk result (λ x. x.shown ≡ false → x.bytes ≡ 0) }
-    ensures sized { IfOk result (λ x. (index : ℕ) → IsFilled (scope.now).unit.now → IsScope scope.now index → x.shown ≡ true
-        → IsSized (λ e. laws.value (laws.tables (said (scope.now).unit.now)) true (index + 1) (offset_of place) e) (extent.now).section.executable x (extent.now).alignment (statement_kind (statement.now).kind)) }
+    ensures sized { IfOk result (λ x. AtNext scope.now (λ index. x.shown ≡ true
+        → IsSizedIn extent.now (values_at scope.now index place) x
+        (statement_kind (statement.now).kind))) }
     ensures fits { IfOk result (λ x. x.offset + x.bytes ≤ laws.longest_section) }
-    ensures refuses { IfErr result (λ _. (index : ℕ) → IsFilled (scope.now).unit.now → IsScope scope.now index
-        → offset_of place ≡ laws.stood (passed (said (scope.now).unit.now) index) (index + 1) (statement_kind (statement.now).kind)
-        → (is_placed (passed (said (scope.now).unit.now) index) (index + 1) (statement_kind (statement.now).kind) ≡ true → (extent.now).section.loaded ≡ true
-        → HasRoom (λ e. laws.value (laws.tables (said (scope.now).unit.now)) true (index + 1) (offset_of place) e) (extent.now).section.executable (extent.now).alignment offset (statement_kind (statement.now).kind)) → ⊥) }
+    ensures refuses { IfErr result (λ _. AtNext scope.now (λ index.
+        StandsHere scope.now index place (statement_kind (statement.now).kind)
+        → (is_placed_at scope.now index (statement_kind (statement.now).kind) ≡ true
+        → (extent.now).section.loaded ≡ true
+        → HasRoomIn extent.now (values_at scope.now index place) offset
+        (statement_kind (statement.now).kind)) → ⊥)) }
 {
     let line = statement.line;
     let shown = placed(scope, place, &statement.kind) && extent.section.loaded;
@@ -344,10 +360,15 @@ fn grow(ends: &mut Vec<u32>, item: Item)
 pub(crate) fn items(alloc: Global, unit: &Unit<'_>) -> Result<(Vec<Item>, Vec<u32>), SourceFault>
     requires { IsFilled unit.now }
     ensures count { IfOk result (λ r. length r.0.items ≡ length (unit.now).statements.items) }
-    ensures sections { IfOk result (λ r. length r.1.items ≡ length (unit.now).tables.extents.items) }
-    ensures items { IfOk result (λ r. AreItems 1 laws.at_start (λ j. 0) (said unit.now) r.0.items (λ j. slice_index r.1.items j)) }
-    ensures sized { IfOk result (λ r. AreSized (laws.tables (said unit.now)) 1 laws.at_start (said unit.now) r.0.items) }
-    ensures refuses { IfErr result (λ e. first_fault (said unit.now) ≡ None → size_fault (said unit.now) ≡ None → e ≡ OutOfMemory) }
+    ensures sections { IfOk result
+        (λ r. length r.1.items ≡ length (unit.now).tables.extents.items) }
+    ensures items { IfOk result (λ r. AreItems 1 laws.at_start (λ j. 0) (said unit.now) r.0.items
+        (λ j. slice_index r.1.items j)) }
+    ensures sized { IfOk result (λ r.
+        AreSized (laws.tables (said unit.now)) 1 laws.at_start (said unit.now) r.0.items) }
+    ensures refuses { IfErr result (λ e. first_fault (said unit.now) ≡ None
+        → code_fault (said unit.now) ≡ None → size_fault (said unit.now) ≡ None
+        → e ≡ OutOfMemory) }
 {
     let mut scope = Scope::new(unit);
     let statements = unit.statements();

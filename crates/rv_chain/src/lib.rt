@@ -17,7 +17,6 @@
 #![tactic(auto)]
 
 mod building;
-mod choices;
 mod code;
 mod compressed;
 mod data;

@@ -8,8 +8,8 @@ ghost use Rattle.rv_unit.specs.Unit.{said, IsFilled};
 ghost use Rattle.rv_map.specs.Map.{global_of, map_of as shown_map};
 ghost use Rattle.rv_image.specs.Linked.{linked_of};
 ghost use Rattle.rv_chain_laws.specs.Contents.{IsLinked};
-ghost use Rattle.rv_chain_laws.specs.Refusals.{size_fault};
-ghost use Rattle.rv_source_laws.specs.Options.{is_compressed};
+ghost use Rattle.rv_chain_laws.specs.Refusals.{code_fault, size_fault};
+ghost use Rattle.rv_source_laws.specs.Compressed.{is_compressed};
 ghost use Rattle.rv_link_laws.specs.Contents.{contents_of};
 ghost use Rattle.rv_link_laws.specs.Laws.{map_of};
 ghost use Rattle.rv_chain.specs.Fault.{IsOfLink};
@@ -56,7 +56,7 @@ pub(crate) fn link(alloc: Global, unit: &Unit<'_>, start: u64) -> Result<Linked,
     let names = names(alloc, unit, &placed)?;
     let figures = figures(alloc, unit, &placed, names.as_slice())?;
     let rows = statement_rows(alloc, 1, starts, items)?;
-    let rvc = has_compressed(alloc, unit)?;
+    let rvc = has_compressed(unit);
     // what stands so is a linked program
     placed_links();
     placed_names();
@@ -90,8 +90,11 @@ fn place(alloc: Global, unit: &Unit<'_>, start: u64) -> Result<Placed, Fault>
     requires { IsFilled unit.now }
     ensures stands { IfOk result (StandsFrom (said unit.now) start) }
     ensures items { IfOk result (λ x. length x.items.items ≡ length (unit.now).statements.items) }
-    ensures pieces { IfOk result (λ x. length x.pieces.items ≡ length (unit.now).tables.extents.items) }
-    ensures refuses { IfErr result (λ fault. first_fault (said unit.now) ≡ None → size_fault (said unit.now) ≡ None → IsOfLink fault) }
+    ensures pieces { IfOk result
+        (λ x. length x.pieces.items ≡ length (unit.now).tables.extents.items) }
+    ensures refuses { IfErr result (λ fault. first_fault (said unit.now) ≡ None
+        → code_fault (said unit.now) ≡ None → size_fault (said unit.now) ≡ None
+        → IsOfLink fault) }
 {
     let (items, ends) = items(alloc, unit)?;
     if let Some(name) = undefined(alloc, unit, items.as_slice())? {
@@ -128,7 +131,8 @@ fn too_large(unit: &Unit<'_>, items: &[Item]) -> LinkFault
 fn names(alloc: Global, unit: &Unit<'_>, placed: &Placed) -> Result<Vec<Defined>, Fault>
     requires filled { IsFilled unit.now }
     requires items { length (placed.now).items.items ≡ length (unit.now).statements.items }
-    ensures { IfOk result (λ names. AreNamed (said unit.now) placed.now (map global_of names.items)) }
+    ensures { IfOk result
+        (λ names. AreNamed (said unit.now) placed.now (map global_of names.items)) }
 {
     let defined = Names::of(alloc, unit)?;
     let starts = placed.layout.starts.as_slice();
@@ -154,7 +158,9 @@ fn figures(
     requires filled { IsFilled unit.now }
     requires good { first_fault (said unit.now) ≡ None }
     requires items { length (placed.now).items.items ≡ length (unit.now).statements.items }
-    ensures { IfOk result (λ r. GivesData (said unit.now) (placed.now).layout.starts.items (placed.now).items.items (map global_of names.now) (map (λ b. b.items) r.items)) }
+    ensures { IfOk result
+        (λ r. GivesData (said unit.now) (placed.now).layout.starts.items (placed.now).items.items
+        (map global_of names.now) (map (λ b. b.items) r.items)) }
 {
     let starts = placed.layout.starts.as_slice();
     match data(alloc, unit, placed.items.as_slice(), starts, names) {
@@ -186,7 +192,9 @@ fn region(
     place: u64,
 ) -> Result<Vec<u8>, AllocError>
     requires { length sections.now ≡ length (placed.now).pieces.items }
-    ensures { IfOk result (λ bytes. bytes.items ≡ contents_of destination place (placed.now).pieces.items (placed.now).layout.starts.items (map (λ s. s.items) sections.now)) }
+    ensures { IfOk result
+        (λ bytes. bytes.items ≡ contents_of destination place (placed.now).pieces.items
+        (placed.now).layout.starts.items (map (λ s. s.items) sections.now)) }
 {
     let pieces = placed.pieces.as_slice();
     let starts = placed.layout.starts.as_slice();

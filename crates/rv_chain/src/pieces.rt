@@ -44,7 +44,8 @@ fn fewest_of(section: Section<'_>) -> u32
 fn piece(extent: Extent<'_>, bytes: u32) -> Piece
     ensures destination { result.destination ≡ destination_of (section_of (extent.entry).section) }
     ensures bytes { result.bytes ≡ bytes }
-    ensures alignment { result.alignment ≡ max (fewest (section_of (extent.entry).section)) (extent.entry).alignment }
+    ensures alignment { result.alignment ≡ max (fewest (section_of (extent.entry).section))
+        (extent.entry).alignment }
 {
     Piece {
         destination: destination(extent.section),

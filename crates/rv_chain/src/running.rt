@@ -14,7 +14,8 @@ use std::alloc::Global;
 
 /// Loads an executable and runs it with an input, for `limit` instructions at most. A refused file is file 1.
 pub fn run_exec(alloc: Global, file: &[u8], input: &[u8], limit: u64) -> Result<Outcome, Fault>
-    ensures runs { (reader : Reader Spells StandsFor) → IfOk result (λ o. RunsFile reader file.now input.now limit (outcome_of o)) }
+    ensures runs { (reader : Reader Spells StandsFor)
+        → IfOk result (λ o. RunsFile reader file.now input.now limit (outcome_of o)) }
     ensures refuses { IfErr result (RefusesFile file.now) }
 {
     let image = match load(alloc, file) {

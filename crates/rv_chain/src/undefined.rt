@@ -10,12 +10,12 @@ ghost use Rattle.rv_statement.specs.View.{statement_of, now_of};
 ghost use Rattle.rv_unit_laws.specs.Faults.{first_fault};
 ghost use Rattle.rv_unit_laws.specs.Sections.{Section as Home};
 ghost use Rattle.rv_unit_laws.specs.Tables.{at_start};
-ghost use Rattle.rv_tables.specs.Sections.{offset_of, extent_section};
-ghost use Rattle.rv_unit.specs.Unit.{said, IsFilled, IsScope};
+ghost use Rattle.rv_tables.specs.Sections.{extent_section};
+ghost use Rattle.rv_unit.specs.Unit.{said, IsFilled};
 ghost use Rattle.rv_chain_laws.specs.Refusals as laws;
 ghost use Rattle.rv_chain_laws.specs.Refusals.{data_values, first_name};
 ghost use Rattle.rv_link_laws.specs.Items.{AreItems};
-ghost use Rattle.rv_chain.specs.Undefined.{shown_by, addressed, missing_at, HaveValues, Sees, IsFirst, found_in, else_name, first_in, first_some};
+ghost use Rattle.rv_chain.specs.Undefined.{shown_by, addressed_in, missing_in_next, FindsFirst, LackValues, Seen, Sees, IsFirst, found_in, else_name, first_in, first_some};
 
 use rv_link::Item;
 use rv_statement::{Statement, StatementKind};
@@ -63,7 +63,8 @@ fn is_shown(items: &[Item], ordinal: usize) -> bool
 
 /// Whether what the next statement names has an address.
 fn has_address<'a>(scope: &Scope<'_, 'a>, items: &[Item], symbol: Symbol<'a>) -> bool
-    ensures { (index : ℕ) → Sees scope.now items.now index → result ≡ addressed (said (scope.now).unit.now) index (symbol_of symbol.entry) }
+    ensures { Seen scope.now items.now (λ index.
+        result ≡ addressed_in scope.now index (symbol_of symbol.entry)) }
 {
     match scope.definition(symbol) {
         Some(home) => is_shown(items, home.ordinal),
@@ -73,7 +74,8 @@ fn has_address<'a>(scope: &Scope<'_, 'a>, items: &[Item], symbol: Symbol<'a>) ->
 
 /// The name of what has no address; only names have one that is not empty.
 fn missing<'a>(scope: &Scope<'_, 'a>, items: &[Item], symbol: Symbol<'a>) -> Option<&'a [u8]>
-    ensures { (index : ℕ) → Sees scope.now items.now index → IsFirst result (laws.missing (addressed (said (scope.now).unit.now) index) (symbol_of symbol.entry)) }
+    ensures { Seen scope.now items.now (λ index.
+        IsFirst result (laws.missing (addressed_in scope.now index) (symbol_of symbol.entry))) }
 {
     if has_address(scope, items, symbol) {
         return None;
@@ -86,7 +88,9 @@ fn missing<'a>(scope: &Scope<'_, 'a>, items: &[Item], symbol: Symbol<'a>) -> Opt
 
 /// The first name without an address that a value refers to: of a difference first what is added.
 fn missing_in<'a>(scope: &Scope<'_, 'a>, items: &[Item], value: Value<'a>) -> Option<&'a [u8]>
-    ensures { (index : ℕ) (v : values.Value) → Sees scope.now items.now index → value_told value.entry v → IsFirst result (laws.missing_in (addressed (said (scope.now).unit.now) index) v) }
+    ensures { (index : ℕ) (v : values.Value) → Sees scope.now items.now index
+        → value_told value.entry v
+        → IsFirst result (laws.missing_in (addressed_in scope.now index) v) }
 {
     match value {
         Value::Constant(_) => None,
@@ -106,8 +110,10 @@ fn missing_of<'a>(
     place: SectionOffset,
     line: u32,
 ) -> Result<Option<&'a [u8]>, SourceFault>
-    ensures first { IfOk result (λ found. (index : ℕ) → Sees scope.now items.now index → IsFirst found (missing_at (said (scope.now).unit.now) index (offset_of place) (tree_of_expr value.now ∷ []))) }
-    ensures refuses { IfErr result (λ _. (index : ℕ) → IsFilled (scope.now).unit.now → IsScope scope.now index → HaveValues (said (scope.now).unit.now) index (offset_of place) (tree_of_expr value.now ∷ []) → ⊥) }
+    ensures first { IfOk result (λ found.
+        FindsFirst scope.now items.now place (tree_of_expr value.now ∷ []) found) }
+    ensures refuses { IfErr result (λ _.
+        LackValues scope.now place (tree_of_expr value.now ∷ [])) }
 {
     let value = scope.value(place, value, line)?;
     Ok(missing_in(scope, items, value))
@@ -121,8 +127,10 @@ fn missing_among<'a>(
     place: SectionOffset,
     line: u32,
 ) -> Result<Option<&'a [u8]>, SourceFault>
-    ensures first { IfOk result (λ found. (index : ℕ) → Sees scope.now items.now index → IsFirst found (missing_at (said (scope.now).unit.now) index (offset_of place) (map tree_of_expr values.now))) }
-    ensures refuses { IfErr result (λ _. (index : ℕ) → IsFilled (scope.now).unit.now → IsScope scope.now index → HaveValues (said (scope.now).unit.now) index (offset_of place) (map tree_of_expr values.now) → ⊥) }
+    ensures first { IfOk result (λ found.
+        FindsFirst scope.now items.now place (map tree_of_expr values.now) found) }
+    ensures refuses { IfErr result (λ _.
+        LackValues scope.now place (map tree_of_expr values.now)) }
 {
     for value in values {
         match missing_of(scope, items, value, place, line)? {
@@ -140,8 +148,11 @@ fn missing_by<'a>(
     statement: &Statement<'a>,
     place: SectionOffset,
 ) -> Result<Option<&'a [u8]>, SourceFault>
-    ensures first { IfOk result (λ found. (index : ℕ) → Sees scope.now items.now index → IsFirst found (missing_at (said (scope.now).unit.now) index (offset_of place) (data_values (statement_of statement.now).kind))) }
-    ensures refuses { IfErr result (λ _. (index : ℕ) → IsFilled (scope.now).unit.now → IsScope scope.now index → HaveValues (said (scope.now).unit.now) index (offset_of place) (data_values (statement_of statement.now).kind) → ⊥) }
+    ensures first { IfOk result (λ found.
+        FindsFirst scope.now items.now place
+        (data_values (statement_of statement.now).kind) found) }
+    ensures refuses { IfErr result (λ _.
+        LackValues scope.now place (data_values (statement_of statement.now).kind)) }
 {
     let line = statement.line;
     match &statement.kind {
@@ -164,10 +175,14 @@ fn keep<'a>(
     loaded: bool,
 ) -> Result<(), SourceFault>
     requires { place.section < length found.old }
-    ensures first { OnOk result ((index j : ℕ) → Sees scope.now items.now index → found_in found.new j ≡ (if place.section == j
-        then else_name (found_in found.old j) (if loaded then first_name (missing_at (said (scope.now).unit.now) index (offset_of place) (data_values (statement_of statement.now).kind)) else None)
+    ensures first { OnOk result ((index j : ℕ) → Sees scope.now items.now index
+        → found_in found.new j ≡ (if place.section == j
+        then else_name (found_in found.old j) (if loaded
+        then first_name (missing_in_next scope.now index place
+        (data_values (statement_of statement.now).kind)) else None)
         else found_in found.old j)) }
-    ensures refuses { IfErr result (λ _. (index : ℕ) → IsFilled (scope.now).unit.now → IsScope scope.now index → HaveValues (said (scope.now).unit.now) index (offset_of place) (data_values (statement_of statement.now).kind) → ⊥) }
+    ensures refuses { IfErr result (λ _.
+        LackValues scope.now place (data_values (statement_of statement.now).kind)) }
 {
     let section = place.section as usize;
     if !loaded {
@@ -181,7 +196,7 @@ fn keep<'a>(
     Ok(())
 }
 
-/// So many sections of which nothing was found.
+/// `count` sections of which nothing was found.
 fn no_names<'a>(alloc: Global, count: usize) -> Result<Vec<Option<&'a [u8]>>, AllocError>
     ensures count { IfOk result (λ found. length found.items ≡ count) }
     ensures none { IfOk result (λ found. (j : ℕ) → found_in found.items j ≡ None) }
@@ -192,7 +207,8 @@ fn no_names<'a>(alloc: Global, count: usize) -> Result<Vec<Option<&'a [u8]>>, Al
 /// Whether a section is loaded.
 fn is_loaded(extents: &[Extent<'_>], section: u32) -> bool
     requires { section < length extents.now }
-    ensures { (home : Home) → slice_get (map extent_section extents.now) section ≡ Some home → result ≡ home.loaded }
+    ensures { (home : Home) → slice_get (map extent_section extents.now) section ≡ Some home
+        → result ≡ home.loaded }
 {
     extents[section as usize].section.loaded
 }
@@ -204,8 +220,11 @@ fn missing_names<'a>(
     items: &[Item],
 ) -> Result<Vec<Option<&'a [u8]>>, SourceFault>
     requires { IsFilled unit.now }
-    ensures count { IfOk result (λ found. length found.items ≡ length (unit.now).tables.extents.items) }
-    ensures first { IfOk result (λ found. (last : ℕ → ℕ) (j : ℕ) → AreItems 1 at_start (λ j. 0) (said unit.now) items.now last → found_in found.items j ≡ first_in (said unit.now) j) }
+    ensures count { IfOk result
+        (λ found. length found.items ≡ length (unit.now).tables.extents.items) }
+    ensures first { IfOk result (λ found. (last : ℕ → ℕ) (j : ℕ)
+        → AreItems 1 at_start (λ j. 0) (said unit.now) items.now last
+        → found_in found.items j ≡ first_in (said unit.now) j) }
     ensures refuses { IfErr result (λ e. first_fault (said unit.now) ≡ None → e ≡ OutOfMemory) }
 {
     let sections = unit.sections();
@@ -243,7 +262,9 @@ pub(crate) fn undefined<'a>(
     items: &[Item],
 ) -> Result<Option<&'a [u8]>, SourceFault>
     requires { IsFilled unit.now }
-    ensures first { IfOk result (λ found. (last : ℕ → ℕ) → AreItems 1 at_start (λ j. 0) (said unit.now) items.now last → option_map now_of found ≡ laws.undefined (said unit.now)) }
+    ensures first { IfOk result (λ found. (last : ℕ → ℕ)
+        → AreItems 1 at_start (λ j. 0) (said unit.now) items.now last
+        → option_map now_of found ≡ laws.undefined (said unit.now)) }
     ensures refuses { IfErr result (λ e. first_fault (said unit.now) ≡ None → e ≡ OutOfMemory) }
 {
     let names = missing_names(alloc, unit, items)?;

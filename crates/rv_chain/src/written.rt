@@ -19,7 +19,8 @@ pub(crate) fn shift(
     rs1: Reg,
     number: u64,
 ) -> Result<Inst, SourceCode>
-    ensures { InRange (nat_lt number (shift_limit operation)) (Some (of_shift operation (laws.shift_by rd rs1 number))) result }
+    ensures { InRange (nat_lt number (shift_limit operation))
+        (Some (of_shift operation (laws.shift_by rd rs1 number))) result }
 {
     if number >= u64::from(operation.limit()) {
         return Err(SourceCode::ImmediateRange);
@@ -30,7 +31,8 @@ pub(crate) fn shift(
 
 /// An upper immediate of 20 bits, 0 to 1048575.
 pub(crate) fn upper(operation: UpperOperation, rd: Reg, number: u64) -> Result<Inst, SourceCode>
-    ensures { InRange (nat_lt number (2 ^ 20)) (Some (of_upper operation (laws.u_type rd number))) result }
+    ensures { InRange (nat_lt number (2 ^ 20))
+        (Some (of_upper operation (laws.u_type rd number))) result }
 {
     if 1 << 20 <= number {
         return Err(SourceCode::ImmediateRange);
@@ -65,7 +67,8 @@ pub(crate) fn atomic(
     rs2: Reg,
     rs1: Reg,
 ) -> Inst
-    ensures { (result ≡ of_atomic operation form.double (laws.atomic_type form rd rs2 rs1)) × IsValid result }
+    ensures { (result ≡ of_atomic operation form.double (laws.atomic_type form rd rs2 rs1))
+        × IsValid result }
 {
     let AtomicForm {
         double,

@@ -16,6 +16,7 @@ use Rattle.rv_isa_laws.specs.Reader.{Reader}
 use Rattle.rv_isa_laws.specs.Run.{fetch, Got}
 use Rattle.rv_statement.specs.Statement.{StatementKind, Label, Numbered, Instruction, Directs, Statement, Expression, Directive, Sets}
 use Rattle.rv_unit_laws.specs.Contributions.{Contribution, Nothing, Bytes, Zero_bytes, Alignment, contribution}
+use Rattle.rv_unit_laws.specs.Options.{Options}
 use Rattle.rv_unit_laws.specs.Sections.{Section, is_nobits, goes_to_text, goes_to_rodata, goes_to_data, goes_to_bss}
 use Rattle.rv_unit_laws.specs.Tables.{Tables, tables, aligned}
 use Rattle.rv_map.specs.Map.{Map}
@@ -106,9 +107,9 @@ padding_code : (b : Bool) (p : Program) (s : Mapped) (d : Directive) → b ≡ t
 padding_code true p s d e h = h.0
 padding_code false p s d e h = absurd (cc)
 
-module _ (p : Program) (file ordinal section offset line : ℕ) (home : Section) (placed : Bool) (row : Row) where
+module _ (p : Program) (file ordinal section offset line : ℕ) (home : Section) (options : Options) (placed : Bool) (row : Row) where
   abbrev at : StatementKind → Mapped
-  at says = record { located = record { file = file; ordinal = ordinal; section = section; offset = offset; home = home; line = line; kind = says; placed = placed }; row = row }
+  at says = record { located = record { file = file; ordinal = ordinal; section = section; offset = offset; home = home; options = options; line = line; kind = says; placed = placed }; row = row }
 
   -- a row outside of executable sections has the bytes that its statement spells
   contribution_data : (d : Directive) (c : Contribution) → contribution d ≡ c → ContributionFits p (at (Directs d)) d c → Sized (spelled p) (at (Directs d))
@@ -311,7 +312,7 @@ module _ (sources : List (List Statement)) (a : ℕ) (l : Linked) (h : IsLinked 
   data_sized : (goes : Section → Bool) → ((s : Section) → goes s ≡ true → s.executable ≡ false) → AllIn (Sized (spelled p)) (region goes)
   data_sized goes none = to_blocks p.mapped sources goes (Sized (spelled p)) at_home
       (all_map Fitting (λ s. goes s.located.home ≡ true → Sized (spelled p) s) p.mapped
-      (λ s fits good. statement_data p s.located.file s.located.ordinal s.located.section s.located.offset s.located.line s.located.home s.located.placed s.row s.located.kind fits.0 fits.1 (none s.located.home good)) fitting)
+      (λ s fits good. statement_data p s.located.file s.located.ordinal s.located.section s.located.offset s.located.line s.located.home s.located.options s.located.placed s.row s.located.kind fits.0 fits.1 (none s.located.home good)) fitting)
 
   not_rodata : (s : Section) → goes_to_rodata s ≡ true → s.executable ≡ false
   not_rodata s e = no_code_more s.loaded s.executable (is_nobits s) (not s.writable) e
@@ -451,7 +452,7 @@ module _ (sources : List (List Statement)) (a : ℕ) (l : Linked) (h : IsLinked 
               let x = (and_parts s.located.home.loaded s.located.home.executable good).1 in
               let lie = tl good in
               holds_written reader m map_of.text.end (let e = text_room in omega arith) p s (written x) (th good) (text_runs s.row.address lie.0) lie.1
-              (statement_code p s.located.file s.located.ordinal s.located.section s.located.offset s.located.line s.located.home s.located.placed s.row s.located.kind fits.0 fits.1 x)
+              (statement_code p s.located.file s.located.ordinal s.located.section s.located.offset s.located.line s.located.home s.located.options s.located.placed s.row s.located.kind fits.0 fits.1 x)
           | inr other ↦ elim other [
             | inl good ↦ past map_of.text.start map_of.text.end map_of.rodata.start s.row.address inside rodata_past (rl good).0
             | inr other ↦ elim other [
@@ -509,14 +510,14 @@ module _ (sources : List (List Statement)) (a : ℕ) (l : Linked) (h : IsLinked 
         elim (all_goes s.located.home.loaded s.located.home.executable (is_nobits s.located.home) s.located.home.writable home.1) [
           | inl good ↦ true_false (right_at map_of x Read) readable (unreadable x (wider map_of.text.start map_of.text.end s.row.address (s.row.address + s.row.bytes) x (tl good).0 (tl good).1 inside))
           | inr other ↦ elim other [
-            | inl good ↦ spelled_at s x (statement_data p s.located.file s.located.ordinal s.located.section s.located.offset s.located.line s.located.home s.located.placed s.row s.located.kind fits.0 fits.1 (not_rodata s.located.home good)) (rh good) inside
+            | inl good ↦ spelled_at s x (statement_data p s.located.file s.located.ordinal s.located.section s.located.offset s.located.line s.located.home s.located.options s.located.placed s.row s.located.kind fits.0 fits.1 (not_rodata s.located.home good)) (rh good) inside
             | inr other ↦ elim other [
-              | inl good ↦ spelled_at s x (statement_data p s.located.file s.located.ordinal s.located.section s.located.offset s.located.line s.located.home s.located.placed s.row s.located.kind fits.0 fits.1 (not_data s.located.home good)) (dh good) inside
+              | inl good ↦ spelled_at s x (statement_data p s.located.file s.located.ordinal s.located.section s.located.offset s.located.line s.located.home s.located.options s.located.placed s.row s.located.kind fits.0 fits.1 (not_data s.located.home good)) (dh good) inside
               | inr good ↦
                   let parts = within_parts map_of.bss.start map_of.bss.end x (wider map_of.bss.start map_of.bss.end s.row.address (s.row.address + s.row.bytes) x (bl good).0 (bl good).1 inside) in
                   let e1 = are_regions.bss_after in
                   bss_zero x (omega arith) parts.1
-                  ∙ sym (statement_zeros p s.located.file s.located.ordinal s.located.section s.located.offset s.located.line s.located.home s.located.placed s.row s.located.kind fits.1 (no_stored s.located.home.loaded s.located.home.executable (is_nobits s.located.home) good) (x - s.row.address))
+                  ∙ sym (statement_zeros p s.located.file s.located.ordinal s.located.section s.located.offset s.located.line s.located.home s.located.options s.located.placed s.row s.located.kind fits.1 (no_stored s.located.home.loaded s.located.home.executable (is_nobits s.located.home) good) (x - s.row.address))
             ]
           ]
         ]

@@ -17,7 +17,7 @@ use Rattle.rv_compress.specs.Parcel.{StandsFor}
 use Rattle.rv_isa_laws.specs.Reader.{Reader}
 use Rattle.rv_isa_laws.specs.Run.{machine_run}
 use Rattle.rv_image.specs.Memory.{mem_of}
-use Rattle.rv_source_laws.specs.Options.{is_compressed}
+use Rattle.rv_source_laws.specs.Compressed.{is_compressed}
 use Rattle.rv_source_laws.specs.SourceRun.{source_run}
 use Rattle.rv_source_laws.specs.Fits.{Fits}
 use Rattle.rv_source_laws.specs.Resolves.{Resolves}

@@ -14,11 +14,11 @@ use Rattle.rv_statement.specs.declared.pseudo.Function.{Function}
 use Rattle.rv_statement.specs.declared.pseudo.Function.TheVariants.{Hi, Lo, PcrelHi, PcrelLo}
 use Rattle.rv_statement.specs.Statement.{StatementKind, Instruction, Expression, Operand, Register, Value as Of_value, Applied, Target}
 use Rattle.rv_parse_laws.specs.Syntax.{with_constant}
+use Rattle.rv_unit_laws.specs.Options.{Options}
 use Rattle.rv_unit_laws.specs.Tables.{Tables, label_of, definition}
 use Rattle.rv_unit_laws.specs.Faults.{faulty_if}
 use Rattle.rv_source_laws.specs.Fits.{constant_in}
 use Rattle.rv_source_laws.specs.Meaning.{fits_12, expanded}
-use Rattle.rv_source_laws.specs.Options.{Options}
 
 -- ---- numbers
 

@@ -1,36 +1,52 @@
--- Why one source is refused that reads well: after the faults of its labels and directives those of its instructions and of
--- the sizes of code, and then those of the link.
+-- Why one source is refused that reads well: after the faults of its labels and directives those of its code and of the
+-- sizes of code, and then those of the link.
 
-use Rattle.std.specs.Prelude.{ℕ, suc, ◌+◌, Bool, true, false, ◌&&◌, ◌==◌, nat_lt, List, [], ◌∷◌, ◌++◌, filter, flat_map, Option, Some, None, codes, if◌then◌else◌}
+use Rattle.std.specs.Prelude.{ℕ, suc, ◌+◌, Bool, true, false, not, ◌&&◌, ◌==◌, nat_lt, List, [], ◌∷◌, ◌++◌, filter, flat_map, Option, Some, None, codes, if◌then◌else◌}
 use Rattle.std.specs.List.{list_any}
 use Rattle.rv_text_laws.specs.Expression.{Primary, Symbol}
-use Rattle.rv_text_laws.specs.Codes.{limit}
+use Rattle.rv_text_laws.specs.Codes.{unsupported_here, limit}
 use Rattle.rv_text_laws.specs.Values.{Value, Constant, Symbolic, Difference, Faulty}
 use Rattle.rv_statement.specs.Statement.{StatementKind, Instruction, Directs, Statement, Expression, Directive, Values}
+use Rattle.rv_unit_laws.specs.Options.{Options}
 use Rattle.rv_unit_laws.specs.Sections.{Section}
-use Rattle.rv_unit_laws.specs.Tables.{Tables, Definition, tables, definition as home, value, longest_section}
-use Rattle.rv_unit_laws.specs.Faults.{Fault, lowest, at_line, first_fault}
+use Rattle.rv_unit_laws.specs.Tables.{Tables, Definition, tables, definition as home, value, longest_section, alignment_of}
+use Rattle.rv_unit_laws.specs.Faults.{Fault, faulty_if, lowest, at_line, first_fault}
 use Rattle.rv_map.specs.Map.{Map}
 use Rattle.rv_source_laws.specs.Located.{Located, located, has_row}
-use Rattle.rv_source_laws.specs.Options.{Options, first_options, options_after}
 use Rattle.rv_source_laws.specs.Program.{Mapped, Program, program, form, place_of, number, is_symbolic, is_far}
-use Rattle.rv_source_laws.specs.Fits.{Fits}
+use Rattle.rv_source_laws.specs.Fits.{Fits, is_low}
 use Rattle.rv_source_laws.specs.Resolves.{Resolves, is_one_of, begins_run}
 use Rattle.rv_chain_laws.specs.Contents.{IsCodeWritten}
 use Rattle.rv_chain_laws.specs.InstructionFaults.{instruction_faults, is_label}
 
--- ---- instructions
+-- ---- code
 
-abbrev pub instruction_fault_from : Tables → Options → List Located → Option Fault
-instruction_fault_from t o [] = None
-instruction_fault_from t o (s ∷ ss) =
-    at_line s.line
-    (lowest (instruction_faults o (λ e. value t true s.ordinal (place_of s) e) (is_label t s.ordinal) s.kind))
-    (instruction_fault_from t (options_after o s.kind) ss)
+-- an alignment above 2 in code has padding, which cannot be placed yet
+abbrev pub padding_faults : Bool → Option ℕ → List ℕ
+padding_faults executable alignment =
+    faulty_if (not (is_low alignment) && executable) unsupported_here
 
--- the first faulty instruction, with the lowest code of its faults
-abbrev pub instruction_fault : List Statement → Option Fault
-instruction_fault ss = instruction_fault_from (tables ss) first_options (located (ss ∷ []))
+-- the faults of a statement as code: those of an instruction, or of an alignment in a section of code;
+-- v gives values, and l says which symbols are labels of the file
+abbrev pub code_faults :
+    Options → Bool → (Expression → Value) → (Primary → Bool) → StatementKind → List ℕ
+code_faults o executable v l (Directs directive) =
+    padding_faults executable (alignment_of v directive)
+code_faults o executable v l kind = instruction_faults o v l kind
+
+abbrev pub code_faults_at : Tables → Located → List ℕ
+code_faults_at t s =
+    code_faults s.options s.home.executable (λ e. value t true s.ordinal (place_of s) e)
+    (is_label t s.ordinal) s.kind
+
+abbrev pub code_fault_from : Tables → List Located → Option Fault
+code_fault_from t [] = None
+code_fault_from t (s ∷ ss) =
+    at_line s.line (lowest (code_faults_at t s)) (code_fault_from t ss)
+
+-- the first statement that is faulty as code, with the lowest code of its faults
+abbrev pub code_fault : List Statement → Option Fault
+code_fault ss = code_fault_from (tables ss) (located (ss ∷ []))
 
 -- ---- the sizes of code
 
@@ -59,9 +75,9 @@ abbrev pub else_fault : Option Fault → Option Fault → Option Fault
 else_fault (Some f) other = Some f
 else_fault None other = other
 
--- labels and directives come first, then instructions, then sizes
+-- labels and directives come first, then code, then sizes
 abbrev pub statements_fault : List Statement → Option Fault
-statements_fault ss = else_fault (first_fault ss) (else_fault (instruction_fault ss) (size_fault ss))
+statements_fault ss = else_fault (first_fault ss) (else_fault (code_fault ss) (size_fault ss))
 
 -- ---- the link of one source
 

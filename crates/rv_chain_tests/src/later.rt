@@ -95,6 +95,26 @@ fn not_built(rt: HostRuntime) -> Result<(), Fail> {
     Ok(refused(&rt, rt.alloc(), &NOT_BUILT)?)
 }
 
+/// Padding in code is refused after the faults of labels and directives, beside those of instructions.
+const PADDING: [(&[u8], u8, u32); 9] = [
+    (b".align 3\n.word 1", 15, 2),
+    (b".align 2\nx: x:", 11, 2),
+    (b".align 2\n.balign 12", 14, 2),
+    (b".align 3\naddi a0, a0, 5000", 9, 1),
+    (b"addi a0, a0, 5000\n.align 3", 14, 1),
+    (b".data\n.align 3\n.text\n.align 3", 9, 4),
+    // by the value that its number has there
+    (b".set n, 3\n.align n\n.set n, 1", 9, 2),
+    (b".set n, 1\n.align n\n.set n, 3\n.balign n + 1", 9, 4),
+    // a section of code without bytes cannot have it
+    (b".section .x, \"ax\", @nobits\n.align 1\n.align 2", 15, 3),
+];
+
+#[test]
+fn padding_in_code(rt: HostRuntime) -> Result<(), Fail> {
+    Ok(refused(&rt, rt.alloc(), &PADDING)?)
+}
+
 /// A source begins with compressed code on; only instructions need it off.
 const COMPRESSED: [(&[u8], Answer); 6] = [
     (b"li a0, 1", Answer::Source(9, 1)),

@@ -30,8 +30,8 @@ const FAULTY: [(&[u8], u8, u8); 33] = [
     (b".data; ecall; .text", 15, 2),
     (b".option pop", 16, 2),
     (b".data; .align 13; .text", 17, 2),
-    (b".align 2", 9, 2),
-    // instructions
+    // instructions, and padding in code
+    (b".align 2", 9, 3),
     (b"addi a0, a0, 1 / 0", 4, 3),
     (b"addi a0, a0, 1 << 64", 5, 3),
     (b"li a0, 2048", 9, 3),

@@ -8,7 +8,7 @@ use Rattle.rv_image.specs.declared.fault.FileFault.TheVariants.{Truncated, BadMa
 use Rattle.rv_image.specs.declared.linked.Linked.{Linked as DeclaredLinked}
 use Rattle.rv_image.specs.Linked.{Linked, IsLaidOut, linked_of}
 use Rattle.rv_image.specs.Header.{field, file_type, machine, machine_flags, entry_point, program_table, program_count, program_header_size, section_table, section_count, section_header_size, names_section, programs, programs_from, is_load}
-use Rattle.rv_isa_laws.specs.Platform.{stack_start}
+use Rattle.rv_isa_laws.specs.Platform.{stack_start, memory_limit}
 use Rattle.rv_image.specs.Image.{Image}
 use Rattle.rv_image.specs.ImageOf.{ImageOf, segment_in}
 use Rattle.rv_image.specs.FirstFault.{first_true, first_fault, load_tests, header_tests, table_tests, programs_tests, whole_tests, is_past, loaded_size}
@@ -52,11 +52,11 @@ table_sound l file reads few long =
     (λ i. first_true ((sections i, BadTable) ∷ (programs_few i, BadTable) ∷ (program_size i, BadTable) ∷ (section_size i, BadTable) ∷ (names i, BadTable)
     ∷ (program_end i, Truncated) ∷ (section_end i, Truncated) ∷ []))
 
-whole_sound : (l : Linked) (file : List ℕ) → HeaderReads l file → l.map.entry % 2 ≡ 0 → loaded_size (programs file) ≤ 2 ^ 28 → first_true (whole_tests file) ≡ None
+whole_sound : (l : Linked) (file : List ℕ) → HeaderReads l file → l.map.entry % 2 ≡ 0 → loaded_size (programs file) ≤ memory_limit → first_true (whole_tests file) ≡ None
 unfolding whole_tests
 whole_sound l file reads even limit =
     let entry : not (entry_point file % 2 == 0) ≡ false = ap (λ n. not (n % 2 == 0)) reads.entry ∙ ap (λ n. not (n == 0)) even in
-    let memory : nat_lt (2 ^ 28) (loaded_size (programs file)) ≡ false = le-ltb (2 ^ 28) (loaded_size (programs file)) limit in
+    let memory : nat_lt memory_limit (loaded_size (programs file)) ≡ false = le-ltb memory_limit (loaded_size (programs file)) limit in
     (λ i. first_true ((entry i, BadTable) ∷ (memory i, MemoryLimit) ∷ []))
 
 -- a list without some of its elements is no longer
@@ -157,7 +157,7 @@ module _ (l : Linked) (laid : IsLaidOut l) where
       omega (arith, length-append (header_bytes l) table, length-header l, length-programs start (parts l), few_parts l) in
       filter_stand start (exe_of l) (all_parts l) (all_stand start (header_bytes l ++ table) (all_parts l) start stack_start (omega arith) (ascend l laid) short)
 
-  pub memory_fits : loaded_size (programs (exe_of l)) ≤ 2 ^ 28
+  pub memory_fits : loaded_size (programs (exe_of l)) ≤ memory_limit
   memory_fits =
       let sizes : loaded_size (programs (exe_of l)) ≡ sum_by memory_size_of (all_parts l) =
       ap loaded_size programs_are ∙ loaded_parts l.map.text.start (parts l) ∙ filter_memory (all_parts l) in

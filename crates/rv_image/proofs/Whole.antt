@@ -1,7 +1,8 @@
 -- What the tests of a whole file say.
 
-use Rattle.std.proofs.Common.{◌≡◌, ℕ, ◌%◌, ◌≤◌, ◌^◌, List, [], None, arith}
+use Rattle.std.proofs.Common.{◌≡◌, ℕ, ◌%◌, ◌≤◌, List, [], None, arith}
 use Rattle.std.proofs.lemmas.Bool.Decides.{nat_tests}
+use Rattle.rv_isa_laws.specs.Platform.{memory_limit}
 use Rattle.rv_image.specs.Header.{field, file_type, machine, entry_point, programs}
 use Rattle.rv_image.specs.FirstFault.{first_true, load_tests, header_tests, table_tests, programs_tests, whole_tests, loaded_size}
 use Rattle.rv_image.proofs.FirstTrue.{no_fault_parts}
@@ -25,7 +26,7 @@ header_says file h = record {
   riscv = grind (arith, nat_tests);
 }
 
-pub whole_says : (file : List ℕ) → first_true (whole_tests file) ≡ None → (entry_point file % 2 ≡ 0) × (loaded_size (programs file) ≤ 2 ^ 28)
+pub whole_says : (file : List ℕ) → first_true (whole_tests file) ≡ None → (entry_point file % 2 ≡ 0) × (loaded_size (programs file) ≤ memory_limit)
 unfolding whole_tests
 whole_says file h = (grind (arith, nat_tests), grind (arith, nat_tests))
 

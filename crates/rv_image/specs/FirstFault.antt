@@ -7,7 +7,7 @@ use Rattle.rv_image.specs.declared.fault.FileFault.{FileFault}
 use Rattle.rv_image.specs.declared.fault.FileFault.TheVariants.{Truncated, BadMagic, WrongClass, WrongMachine, BadTable, NotExecutable, Dynamic, Overlap, MemoryLimit}
 use Rattle.rv_image.specs.Header.{field, file_type, machine, entry_point, program_table, section_table, machine_flags, program_header_size, program_count, section_header_size, section_count, names_section, programs, is_load}
 use Rattle.rv_image.specs.Segment.{do_meet}
-use Rattle.rv_isa_laws.specs.Platform.{stack_start, stack_end}
+use Rattle.rv_isa_laws.specs.Platform.{stack_start, stack_end, memory_limit}
 
 abbrev pub first_true : List (Bool × FileFault) → Option FileFault
 first_true [] = None
@@ -78,7 +78,7 @@ loaded_size ps = sum_by (λ p. p.memory_size) (filter is_load ps)
 -- the entry and the size of all
 unfoldable pub whole_tests : List ℕ → List (Bool × FileFault)
 whole_tests file = (not (entry_point file % 2 == 0), BadTable)
-    ∷ (nat_lt (2 ^ 28) (loaded_size (programs file)), MemoryLimit)
+    ∷ (nat_lt memory_limit (loaded_size (programs file)), MemoryLimit)
     ∷ []
 
 -- all that an executable is tested for, in order

@@ -1,7 +1,7 @@
 -- What the linker makes, as a plain value.
 
 use Rattle.std.specs.Prelude.{◌≡◌, ℕ, ◌+◌, ◌-◌, ◌%◌, ◌^◌, ◌≤◌, ◌<◌, Bool, List, length}
-use Rattle.rv_isa_laws.specs.Platform.{stack_start}
+use Rattle.rv_isa_laws.specs.Platform.{stack_start, memory_limit}
 use Rattle.rv_map.specs.Map.{Map, map_of}
 use Rattle.rv_image.specs.declared.linked.Linked.{Linked as DeclaredLinked}
 
@@ -34,6 +34,6 @@ pub record IsLaidOut (l : Linked) : Type 0 where
   pub bss_after_data : l.map.data.end ≤ l.map.bss.start
   pub bss_ends : l.map.bss.start ≤ l.map.bss.end
   pub below_stack : l.map.bss.end ≤ stack_start
-  pub limit : length l.text + length l.rodata + (l.map.bss.end - l.map.data.start) ≤ 2 ^ 28
+  pub limit : length l.text + length l.rodata + (l.map.bss.end - l.map.data.start) ≤ memory_limit
   pub even : l.map.entry % 2 ≡ 0
   pub entry : l.map.entry < 2 ^ 64

@@ -1,6 +1,7 @@
 //! What a program's memory holds before its first step.
 
-ghost use Rattle.std.specs.Prelude.{◌≡◌, ◌%◌, ◌^◌, ◌≤◌, IsTrue, map};
+ghost use Rattle.std.specs.Prelude.{◌≡◌, ◌%◌, ◌≤◌, IsTrue, map};
+ghost use Rattle.rv_isa_laws.specs.Platform.{memory_limit};
 ghost use Rattle.rv_image.specs.Segment.{segment_of, are_apart, memory_size};
 
 use crate::segment::Segment;
@@ -17,5 +18,5 @@ pub struct Image {
     /// No address lies in two segments, or in one and the stack.
     pub ghost apart: { IsTrue (are_apart (map segment_of segments.items)) },
     /// The segments have 256 MiB at most.
-    pub ghost limit: { memory_size (map segment_of segments.items) ≤ 2 ^ 28 },
+    pub ghost limit: { memory_size (map segment_of segments.items) ≤ memory_limit },
 }

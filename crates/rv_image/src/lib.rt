@@ -36,5 +36,5 @@ pub use linked::Linked;
 pub use loading::load;
 pub use round_trip::reload;
 pub use rv_map::{Global, Map, Region, Row};
-pub use segment::{STACK_BYTES, STACK_START, Segment};
+pub use segment::{MEMORY_LIMIT, STACK_BYTES, STACK_START, Segment};
 pub use writing::write_exec;

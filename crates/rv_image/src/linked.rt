@@ -1,7 +1,7 @@
 //! What the linker makes.
 
 ghost use Rattle.std.specs.Prelude.{◌≡◌, ◌+◌, ◌-◌, ◌%◌, ◌^◌, ◌<◌, ◌≤◌, length};
-ghost use Rattle.rv_isa_laws.specs.Platform.{stack_start};
+ghost use Rattle.rv_isa_laws.specs.Platform.{stack_start, memory_limit};
 
 use rv_map::Map;
 
@@ -28,7 +28,7 @@ pub struct Linked {
     /// The stack lies above.
     pub ghost below_stack: { map.bss.end ≤ stack_start },
     /// The memory has 256 MiB at most.
-    pub ghost limit: { length text.items + length rodata.items + (map.bss.end - map.data.start) ≤ 2 ^ 28 },
+    pub ghost limit: { length text.items + length rodata.items + (map.bss.end - map.data.start) ≤ memory_limit },
     /// Instructions begin at even addresses.
     pub ghost even: { map.entry % 2 ≡ 0 },
 }

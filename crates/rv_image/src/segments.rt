@@ -2,6 +2,7 @@
 
 ghost use Rattle.std.specs.Prelude.{◌≡◌, ◌<◌, ◌≤◌, ◌+◌, ◌*◌, ◌^◌, true, not, nat_lt, length, [], ◌∷◌};
 ghost use Rattle.std.specs.List.{list_any, list_all};
+ghost use Rattle.rv_isa_laws.specs.Platform.{memory_limit};
 ghost use Rattle.rv_image.specs.FirstFault.{Finds, programs_tests, program_tests, segment_tests, do_overlap, ends_by, whole_tests, loaded_size};
 ghost use Rattle.rv_image.specs.Header.{HasPrograms, programs_from, programs};
 
@@ -9,7 +10,7 @@ use crate::checks::{lies_past, meet};
 use crate::fault::FileFault;
 use crate::header::{self, double, half};
 use crate::program::Program;
-use crate::segment::{STACK_BYTES, STACK_START};
+use crate::segment::{MEMORY_LIMIT, STACK_BYTES, STACK_START};
 
 /// The bytes of a program header.
 pub(crate) const PROGRAM_SIZE: usize = 56;
@@ -132,9 +133,6 @@ fn overlap(program: Program, other: Program) -> bool
         )
 }
 
-/// The bytes of memory that the segments may have in sum.
-const MEMORY_LIMIT: u64 = 0x1000_0000;
-
 /// Looks at the entry and at the memory of all segments.
 #[tactic(auto, unfolding(crate::specs::FirstFault::whole_tests))]
 pub(crate) fn check_whole(file: &[u8]) -> Result<(), FileFault>
@@ -155,7 +153,7 @@ pub(crate) fn check_whole(file: &[u8]) -> Result<(), FileFault>
 fn fit_memory(file: &[u8]) -> bool
     requires header { 64 ≤ length file.now }
     requires within { HasPrograms file.now }
-    ensures { result ≡ not (nat_lt (2 ^ 28) (loaded_size (programs file.now))) }
+    ensures { result ≡ not (nat_lt memory_limit (loaded_size (programs file.now))) }
 {
     let table = double(file, 32) as usize;
     let count = half(file, 56) as usize;

@@ -2,12 +2,14 @@
 
 use Rattle.std.specs.Borrow.{Bor}
 use Rattle.std.specs.List.{list_all}
-use Rattle.std.specs.Prelude.{◌≡◌, ℕ, suc, ⊤, Option, Some, None, List, [], ◌∷◌, if◌then◌else◌}
+use Rattle.std.specs.Prelude.{◌≡◌, ℕ, suc, ◌+◌, codes, ⊤, Option, Some, None, List, [], ◌∷◌, if◌then◌else◌}
 use Rattle.rv_statement.specs.Statement.{Statement}
 use Rattle.rv_unit_laws.specs.Tables.{Tables, tables}
 use Rattle.rv_unit.specs.Unit.{said, IsFilled}
 use Rattle.rv_map.specs.Map.{Global}
 use Rattle.rv_map.specs.Name.{is_name}
+use Rattle.rv_source_laws.specs.Resolves.{symbol}
+use Rattle.rv_link_laws.specs.declared.layout.Layout.{Layout}
 use Rattle.rv_link_laws.specs.declared.item.Item.{Item}
 use Rattle.rv_link_laws.specs.Definitions.{defined_by}
 use Rattle.rv_link.specs.Settings.{AreFirsts}
@@ -37,6 +39,16 @@ first_unshown t starts items ordinal (s ∷ ss) (i ∷ is) =
     then first_unshown t starts items (suc ordinal) ss is
     else Some s.line
 first_unshown t starts items ordinal ss is = None
+
+-- the names that the linker gives, with their addresses in a layout
+abbrev pub linker_names_in : Layout → List Global
+linker_names_in l =
+    symbol (codes "_etext") l.text.end
+    ∷ symbol (codes "__bss_start") l.bss.start
+    ∷ symbol (codes "_edata") l.data.end
+    ∷ symbol (codes "_end") l.bss.end
+    ∷ symbol (codes "__global_pointer$") (l.data.start + 0x800)
+    ∷ []
 
 -- a refusal is at this line; memory may run out whatever the names are
 abbrev pub NamesLine : NameFault → Option ℕ → Type 0

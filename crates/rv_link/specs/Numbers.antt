@@ -29,14 +29,18 @@ NameMap = HashMap (Bor (List ℕ)) ℕ (BuildHasherDefault FoldHasher)
 
 -- the names have these addresses
 abbrev pub AreAddresses : NameMap → List Global → Type 0
-AreAddresses names globals = (q : Bor (List ℕ)) → get_by (λ k. bytes_eq q.now k.now) names ≡ global_address globals q.now
+AreAddresses names globals =
+    (q : Bor (List ℕ)) → get_by (λ k. bytes_eq q.now k.now) names ≡ global_address globals q.now
 
 -- the file's statements stand where their items do, in sections that start here
 abbrev pub StandAt : List ℕ → List Item → List MaybeMapped → ℕ → Type 0
-StandAt starts items statements file = (index : ℕ) (i : Item) → slice_get items index ≡ Some i → i.shown ≡ true → address_at statements file (index + 1) ≡ Some (address_of starts i)
+StandAt starts items statements file =
+    (index : ℕ) (i : Item) → slice_get items index ≡ Some i → i.shown ≡ true
+    → address_at statements file (index + 1) ≡ Some (address_of starts i)
 
 -- the numbers are those of the statement at an index from 0 of a file whose statements, and names, stand so
-pub record AreOf (n : Numbers) (index : ℕ) (statements : List MaybeMapped) (globals : List Global) (file : ℕ) : Type 0 where
+pub record AreOf (n : Numbers) (index : ℕ) (statements : List MaybeMapped) (globals : List Global)
+    (file : ℕ) : Type 0 where
   pub filled : IsFilled n.scope.now.unit.now
   pub scope : IsScope n.scope.now index
   pub own : StandAt n.starts.now n.items.now statements file
@@ -45,18 +49,23 @@ pub record AreOf (n : Numbers) (index : ℕ) (statements : List MaybeMapped) (gl
 -- the address of a name, a reference or `.`
 abbrev pub IsAddress : Numbers → Primary → ℕ → Type 0
 IsAddress n q a =
-    (index : ℕ) (statements : List MaybeMapped) (globals : List Global) (file : ℕ) → AreOf n index statements globals file
-    → address_by statements globals file q (definition (tables (said n.scope.now.unit.now)) (index + 1) q) ≡ Some a
+    (index : ℕ) (statements : List MaybeMapped) (globals : List Global) (file : ℕ)
+    → AreOf n index statements globals file
+    → address_by statements globals file q
+    (definition (tables (said n.scope.now.unit.now)) (index + 1) q) ≡ Some a
 
 -- the value of an expression in its file
 abbrev pub value_at : Numbers → ℕ → Tree → Value
-value_at n index e = value_in_file (tables (said n.scope.now.unit.now)) true (index + 1) (offset_of n.place) e
+value_at n index e =
+    value_in_file (tables (said n.scope.now.unit.now)) true (index + 1) (offset_of n.place) e
 
 -- the number of an expression
 abbrev pub IsNumber : Numbers → Tree → ℕ → Type 0
 IsNumber n e k =
-    (index : ℕ) (statements : List MaybeMapped) (globals : List Global) (file : ℕ) → AreOf n index statements globals file
-    → resolved (λ q. address_by statements globals file q (definition (tables (said n.scope.now.unit.now)) (index + 1) q)) (value_at n index e) ≡ Some k
+    (index : ℕ) (statements : List MaybeMapped) (globals : List Global) (file : ℕ)
+    → AreOf n index statements globals file
+    → resolved (λ q. address_by statements globals file q
+    (definition (tables (said n.scope.now.unit.now)) (index + 1) q)) (value_at n index e) ≡ Some k
 
 -- the function gives the numbers of expressions
 abbrev pub Gives : Numbers → (Tree → ℕ) → Type 0
@@ -93,24 +102,30 @@ address_in n index q = found_by n q (definition (tables (said n.scope.now.unit.n
 -- what a value refers to and has no address; of a difference first what is added
 abbrev pub missing : (Primary → Option ℕ) → Value → Option Primary
 missing a (Symbolic q at k) = if is_some (a q) then None else Some q
-missing a (Difference q r k) = if is_some (a q) then (if is_some (a r) then None else Some r) else Some q
+missing a (Difference q r k) =
+    if is_some (a q) then (if is_some (a r) then None else Some r) else Some q
 missing a _ = None
 
 -- the expression has this number, and if that is an address, `width` bytes can hold it
 abbrev pub IsKept : Numbers → ℕ → Tree → ℕ → Type 0
 IsKept n width e k =
     (index : ℕ) → AreAt n index
-    → (resolved (address_in n index) (value_at n index e) ≡ Some k) × (width ≡ 4 → is_symbolic (value_at n index e) ≡ true → is_far k ≡ false)
+    → (resolved (address_in n index) (value_at n index e) ≡ Some k)
+    × (width ≡ 4 → is_symbolic (value_at n index e) ≡ true → is_far k ≡ false)
 
 -- an expression has no number for `width` bytes: what it refers to has no address, its address is too far for
 -- 4 bytes, or it has no value; the last two at the statement's line. It takes no memory
 abbrev pub IsRefused : Numbers → ℕ → Tree → DataFault → Type 0
-IsRefused n width e (faults.Undefined symbol) = (index : ℕ) → AreAt n index → missing (address_in n index) (value_at n index e) ≡ Some (symbol_of symbol)
+IsRefused n width e (faults.Undefined symbol) =
+    (index : ℕ) → AreAt n index
+    → missing (address_in n index) (value_at n index e) ≡ Some (symbol_of symbol)
 IsRefused n width e (faults.Overflow line) =
     (line ≡ n.line) × (width ≡ 4)
     × ((k : ℕ) × IsNumber n e k × (is_far k ≡ true)
-    × ((index : ℕ) → AreAt n index → (is_symbolic (value_at n index e) ≡ true) × (resolved (address_in n index) (value_at n index e) ≡ Some k)))
-IsRefused n width e (faults.Source fault) = (index : ℕ) → AreAt n index → IsOutcome (Err fault) n.line (value_at n index e)
+    × ((index : ℕ) → AreAt n index → (is_symbolic (value_at n index e) ≡ true)
+    × (resolved (address_in n index) (value_at n index e) ≡ Some k)))
+IsRefused n width e (faults.Source fault) =
+    (index : ℕ) → AreAt n index → IsOutcome (Err fault) n.line (value_at n index e)
 IsRefused n width e faults.OutOfMemory = ⊥
 
 -- each of the expressions has a number that its place holds
@@ -125,7 +140,8 @@ KeepsData n says = ⊤
 -- the first of the expressions that has no number is refused so
 abbrev pub RefusesFirst : Numbers → ℕ → List Tree → DataFault → Type 0
 RefusesFirst n width [] f = ⊥
-RefusesFirst n width (e ∷ es) f = IsRefused n width e f ⊎ (((k : ℕ) × IsKept n width e k) × RefusesFirst n width es f)
+RefusesFirst n width (e ∷ es) f =
+    IsRefused n width e f ⊎ (((k : ℕ) × IsKept n width e k) × RefusesFirst n width es f)
 
 -- a statement of data has no bytes: memory has run out, or one of its values has no number
 abbrev pub RefusesData : Numbers → StatementKind → DataFault → Type 0

@@ -18,8 +18,12 @@ least n (Some m) = min n m
 -- the lowest ordinal of a statement that gives a name
 abbrev pub first_ordinal : List Assignment → List ℕ → Option ℕ
 first_ordinal [] name = None
-first_ordinal (s ∷ ss) name = if bytes_eq s.name name then Some (least s.ordinal (first_ordinal ss name)) else first_ordinal ss name
+first_ordinal (s ∷ ss) name =
+    if bytes_eq s.name name
+    then Some (least s.ordinal (first_ordinal ss name))
+    else first_ordinal ss name
 
 -- the map has it for each name
 abbrev pub AreFirsts : OrdinalMap → List Assignment → Type 0
-AreFirsts map assignments = (q : Bor (List ℕ)) → get_by (λ k. bytes_eq q.now k.now) map ≡ first_ordinal assignments q.now
+AreFirsts map assignments =
+    (q : Bor (List ℕ)) → get_by (λ k. bytes_eq q.now k.now) map ≡ first_ordinal assignments q.now

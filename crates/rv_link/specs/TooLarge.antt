@@ -1,7 +1,7 @@
 -- Sections that are too large for a program.
 
-use Rattle.std.specs.Prelude.{ℕ, ◌+◌, ◌-◌, ◌<◌, ◌^◌, ◌⊎◌, ⊤, List}
-use Rattle.rv_isa_laws.specs.Platform.{stack_start}
+use Rattle.std.specs.Prelude.{ℕ, ◌+◌, ◌-◌, ◌<◌, ◌⊎◌, ⊤, List}
+use Rattle.rv_isa_laws.specs.Platform.{stack_start, memory_limit}
 use Rattle.rv_unit_laws.specs.Tables.{aligned}
 use Rattle.rv_link_laws.specs.declared.piece.Destination.TheVariants.{Text, Rodata, Data, Bss}
 use Rattle.rv_link_laws.specs.declared.piece.Piece.{Piece}
@@ -34,12 +34,14 @@ bss_end text_start pieces = end_of Bss (bss_start text_start pieces) pieces
 -- the bytes from the start of the text to its end, of the constants, and from the variables to the end of the zeros
 abbrev pub memory : ℕ → List Piece → ℕ
 memory text_start pieces =
-    (text_end text_start pieces - text_start) + (rodata_end text_start pieces - rodata_start text_start pieces)
+    (text_end text_start pieces - text_start)
+    + (rodata_end text_start pieces - rodata_start text_start pieces)
     + (bss_end text_start pieces - data_start text_start pieces)
 
--- pieces are too large where they end above the stack's start, or need more than 256 MiB
+-- pieces are too large where they end above the stack's start, or need more memory than there is
 abbrev pub IsTooLarge : ℕ → List Piece → Type 0
-IsTooLarge text_start pieces = (stack_start < bss_end text_start pieces) ⊎ (2 ^ 28 < memory text_start pieces)
+IsTooLarge text_start pieces =
+    (stack_start < bss_end text_start pieces) ⊎ (memory_limit < memory text_start pieces)
 
 -- what a refusal says of pieces; memory may run out whatever they are
 abbrev pub IsRefused : ℕ → List Piece → LayoutFault → Type 0

@@ -19,7 +19,9 @@ pub fn region_bytes(
 ) -> Result<Vec<u8>, AllocError>
     requires starts { length starts.now ≡ length pieces.now }
     requires sections { length sections.now ≡ length pieces.now }
-    ensures { IfOk result (λ bytes. bytes.items ≡ contents_of destination place pieces.now starts.now (map (λ s. s.items) sections.now)) }
+    ensures { IfOk result
+        (λ bytes. bytes.items ≡ contents_of destination place pieces.now starts.now
+        (map (λ s. s.items) sections.now)) }
 {
     let mut bytes = Vec::new(alloc);
     let mut stop = place;

@@ -16,7 +16,8 @@ use std::alloc::AllocError;
 
 /// Adds a number in the bytes of its width, the lowest first.
 fn put_number(bytes: &mut Vec<u8>, width: Width, number: u64) -> Result<(), AllocError>
-    ensures { OnOk result (bytes.new.items ≡ bytes.old.items ++ little_endian (bytes_of width) number) }
+    ensures { OnOk result
+        (bytes.new.items ≡ bytes.old.items ++ little_endian (bytes_of width) number) }
 {
     let all = number.to_le_bytes();
     match width {
@@ -39,7 +40,8 @@ fn put_zeros(bytes: &mut Vec<u8>, count: u64) -> Result<(), AllocError>
 
 /// Adds a string, where asked with a zero byte after it.
 fn put_string(bytes: &mut Vec<u8>, ended: bool, text: &[u8]) -> Result<(), AllocError>
-    ensures { OnOk result (bytes.new.items ≡ bytes.old.items ++ string_bytes ended (quoted text.entry ∷ [])) }
+    ensures { OnOk result
+        (bytes.new.items ≡ bytes.old.items ++ string_bytes ended (quoted text.entry ∷ [])) }
 {
     append_string(text, bytes)?;
     if !ended {
@@ -51,7 +53,8 @@ fn put_string(bytes: &mut Vec<u8>, ended: bool, text: &[u8]) -> Result<(), Alloc
 
 /// Adds strings, where asked with a zero byte after each.
 fn put_strings(bytes: &mut Vec<u8>, ended: bool, strings: &[&[u8]]) -> Result<(), AllocError>
-    ensures { OnOk result (bytes.new.items ≡ bytes.old.items ++ string_bytes ended (map quoted strings.now)) }
+    ensures { OnOk result
+        (bytes.new.items ≡ bytes.old.items ++ string_bytes ended (map quoted strings.now)) }
 {
     for text in strings {
         put_string(bytes, ended, *text)?;
@@ -66,9 +69,14 @@ fn put_value<'a>(
     value: &Expr<'a>,
     numbers: &Numbers<'_, '_, 'a>,
 ) -> Result<(), DataFault<'a>>
-    ensures spells { OnOk result ((v : Tree → ℕ) → Gives numbers.now v → bytes.new.items ≡ bytes.old.items ++ flat_map (λ e. little_endian (bytes_of width) (v e)) (tree_of_expr value.now ∷ [])) }
-    ensures kept { OnOk result (AreKept numbers.now (bytes_of width) (tree_of_expr value.now ∷ [])) }
-    ensures refused { IfErr result (RefusesData numbers.now (Directs (Values (bytes_of width) (tree_of_expr value.now ∷ [])))) }
+    ensures spells { OnOk result ((v : Tree → ℕ) → Gives numbers.now v
+        → bytes.new.items ≡ bytes.old.items ++ flat_map (λ e. little_endian (bytes_of width) (v e))
+        (tree_of_expr value.now ∷ [])) }
+    ensures kept { OnOk result
+        (AreKept numbers.now (bytes_of width) (tree_of_expr value.now ∷ [])) }
+    ensures refused { IfErr result
+        (RefusesData numbers.now
+        (Directs (Values (bytes_of width) (tree_of_expr value.now ∷ [])))) }
 {
     let number = numbers.number(width, value)?;
     put_number(bytes, width, number)?;
@@ -82,9 +90,14 @@ fn put_values<'a>(
     values: &[Expr<'a>],
     numbers: &Numbers<'_, '_, 'a>,
 ) -> Result<(), DataFault<'a>>
-    ensures spells { OnOk result ((v : Tree → ℕ) → Gives numbers.now v → bytes.new.items ≡ bytes.old.items ++ flat_map (λ e. little_endian (bytes_of width) (v e)) (map tree_of_expr values.now)) }
-    ensures kept { OnOk result (AreKept numbers.now (bytes_of width) (map tree_of_expr values.now)) }
-    ensures refused { IfErr result (RefusesData numbers.now (Directs (Values (bytes_of width) (map tree_of_expr values.now)))) }
+    ensures spells { OnOk result ((v : Tree → ℕ) → Gives numbers.now v
+        → bytes.new.items ≡ bytes.old.items ++ flat_map (λ e. little_endian (bytes_of width) (v e))
+        (map tree_of_expr values.now)) }
+    ensures kept { OnOk result
+        (AreKept numbers.now (bytes_of width) (map tree_of_expr values.now)) }
+    ensures refused { IfErr result
+        (RefusesData numbers.now
+        (Directs (Values (bytes_of width) (map tree_of_expr values.now)))) }
 {
     for value in values {
         put_value(bytes, width, value, numbers)?;
@@ -99,8 +112,10 @@ pub fn put_data<'a>(
     count: u64,
     numbers: &Numbers<'_, '_, 'a>,
 ) -> Result<(), DataFault<'a>>
-    ensures spells { OnOk result ((v : Tree → ℕ) → Gives numbers.now v → Counts v (statement_kind kind.now) count
-        → bytes.new.items ≡ bytes.old.items ++ spelled_said (λ e. v e) (statement_kind kind.now) count) }
+    ensures spells { OnOk result ((v : Tree → ℕ) → Gives numbers.now v
+        → Counts v (statement_kind kind.now) count
+        → bytes.new.items ≡ bytes.old.items
+        ++ spelled_said (λ e. v e) (statement_kind kind.now) count) }
     ensures kept { OnOk result (KeepsData numbers.now (statement_kind kind.now)) }
     ensures refused { IfErr result (RefusesData numbers.now (statement_kind kind.now)) }
 {

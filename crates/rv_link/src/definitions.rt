@@ -65,13 +65,19 @@ pub fn global_definitions(
     items: &[Item],
 ) -> Result<Vec<Global>, NameFault>
     requires { length items.now ≡ length (unit.now).statements.items }
-    ensures defines { IfOk result (λ defined. IsFilled unit.now → AreNames names.now (tables (said unit.now))
+    ensures defines { IfOk result (λ defined. IsFilled unit.now
+        → AreNames names.now (tables (said unit.now))
         → map global_of defined.items
-        ≡ definitions_from (tables (said unit.now)) starts.now items.now 1 (said unit.now) items.now) }
-    ensures shown { IfOk result (λ _. IsFilled unit.now → AreNames names.now (tables (said unit.now))
-        → first_unshown (tables (said unit.now)) starts.now items.now 1 (said unit.now) items.now ≡ None) }
-    ensures refused { IfErr result (λ e. IsFilled unit.now → AreNames names.now (tables (said unit.now))
-        → NamesLine e (first_unshown (tables (said unit.now)) starts.now items.now 1 (said unit.now) items.now)) }
+        ≡ definitions_from (tables (said unit.now)) starts.now items.now 1
+        (said unit.now) items.now) }
+    ensures shown { IfOk result (λ _. IsFilled unit.now
+        → AreNames names.now (tables (said unit.now))
+        → first_unshown (tables (said unit.now)) starts.now items.now 1 (said unit.now) items.now
+        ≡ None) }
+    ensures refused { IfErr result (λ e. IsFilled unit.now
+        → AreNames names.now (tables (said unit.now))
+        → NamesLine e (first_unshown (tables (said unit.now)) starts.now items.now 1
+        (said unit.now) items.now)) }
 {
     let placed = Placed {
         unit,
@@ -107,17 +113,20 @@ fn put_definition(
     ensures defines { OnOk result (IsFilled (placed.now).unit.now
         → AreNames names.now (tables (said (placed.now).unit.now))
         → map global_of defined.new.items ≡ map global_of defined.old.items
-        ++ defined_by (tables (said (placed.now).unit.now)) (placed.now).starts.now (placed.now).items.now ordinal
+        ++ defined_by (tables (said (placed.now).unit.now)) (placed.now).starts.now
+        (placed.now).items.now ordinal
         (statement_of statement.now).kind item) }
     ensures shown { OnOk result (IsFilled (placed.now).unit.now
         → AreNames names.now (tables (said (placed.now).unit.now))
         → unshown
-        (defined_by (tables (said (placed.now).unit.now)) (placed.now).starts.now (placed.now).items.now ordinal
+        (defined_by (tables (said (placed.now).unit.now)) (placed.now).starts.now
+        (placed.now).items.now ordinal
         (statement_of statement.now).kind item) (statement.now).line ≡ None) }
     ensures refused { IfErr result (λ e. IsFilled (placed.now).unit.now
         → AreNames names.now (tables (said (placed.now).unit.now))
         → NamesLine e (unshown
-        (defined_by (tables (said (placed.now).unit.now)) (placed.now).starts.now (placed.now).items.now ordinal
+        (defined_by (tables (said (placed.now).unit.now)) (placed.now).starts.now
+        (placed.now).items.now ordinal
         (statement_of statement.now).kind item) (statement.now).line)) }
 {
     let Some(name) = names.defined(ordinal, statement) else {
@@ -134,7 +143,9 @@ fn put_definition(
 impl Placed<'_, '_> {
     /// The address or the number of what a statement defines.
     fn defined_address(&self, statement: &Statement<'_>, item: Item) -> Option<u64>
-        ensures { IsFilled (self.now).unit.now → result ≡ defined_address (tables (said (self.now).unit.now)) (self.now).starts.now (self.now).items.now item (statement_of statement.now).kind }
+        ensures { IsFilled (self.now).unit.now
+            → result ≡ defined_address (tables (said (self.now).unit.now)) (self.now).starts.now
+            (self.now).items.now item (statement_of statement.now).kind }
     {
         match &statement.kind {
             StatementKind::Sets(setting) => match self.unit.assignment(setting.name) {
@@ -147,7 +158,8 @@ impl Placed<'_, '_> {
 
     /// The number that `.set` gives, or the address of the place.
     fn set_address(&self, given: Assignment<'_>) -> Option<u64>
-        ensures { result ≡ set_address (self.now).starts.now (self.now).items.now (Some (assignment_of given.entry)) }
+        ensures { result ≡ set_address (self.now).starts.now (self.now).items.now
+            (Some (assignment_of given.entry)) }
     {
         match given.meaning {
             Meaning::Constant(number) => Some(number),
@@ -169,7 +181,8 @@ pub(crate) fn named(
 ) -> Result<Global, NameFault>
     ensures names { IfOk result (λ g. (g.name.items ≡ name.now) × (g.address ≡ address)) }
     ensures shown { IfOk result (λ _. is_name name.now ≡ true) }
-    ensures refused { IfErr result (λ e. NamesLine e (unshown (symbol name.now address ∷ []) line)) }
+    ensures refused { IfErr result
+        (λ e. NamesLine e (unshown (symbol name.now address ∷ []) line)) }
 {
     if !is_shown(name) {
         return Err(NameFault::Name(line));

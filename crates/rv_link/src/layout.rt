@@ -6,13 +6,11 @@ ghost use Rattle.rv_unit_laws.specs.Tables.{aligned};
 ghost use Rattle.rv_link_laws.specs.Layout.{goes, started, end_of, end_behind, greatest, IsLayout};
 ghost use Rattle.rv_link.specs.TooLarge.{IsRefused};
 
-use rv_image::STACK_START;
+use rv_image::{MEMORY_LIMIT, STACK_START};
 use rv_link_laws::{Destination, Layout, Piece};
 use rv_map::Region;
 use std::alloc::{AllocError, Global};
 
-/// The most bytes of memory that a program has.
-const MEMORY_LIMIT: u64 = 1 << 28;
 /// Regions with different rights begin at multiples of this.
 const PAGE: u32 = 4096;
 
@@ -61,7 +59,8 @@ pub(crate) fn goes_to(destination: Destination, piece: Piece) -> bool
 /// Where a section begins and ends that comes after an end; `None` where it passes the end of memory.
 fn behind(piece: Piece, stop: u64) -> Option<(u32, u64)>
     requires { stop ≤ stack_start }
-    ensures found { IfSome result (λ found. (found.0 ≡ aligned piece.alignment stop) × (found.1 ≡ aligned piece.alignment stop + piece.bytes) × (found.1 ≤ stack_start)) }
+    ensures found { IfSome result (λ found. (found.0 ≡ aligned piece.alignment stop)
+        × (found.1 ≡ aligned piece.alignment stop + piece.bytes) × (found.1 ≤ stack_start)) }
     ensures far { IfNone result (stack_start < end_behind piece stop) }
 {
     let start = next_multiple(piece.alignment, stop);
@@ -80,7 +79,9 @@ fn behind(piece: Piece, stop: u64) -> Option<(u32, u64)>
 fn spread(starts: &mut [u32], pieces: &[Piece], destination: Destination, place: u64) -> Option<u64>
     requires each { length starts.old ≡ length pieces.now }
     requires low { place ≤ stack_start }
-    ensures placed { IfSome result (λ end. (starts.new ≡ started destination place starts.old pieces.now) × (end ≡ end_of destination place pieces.now) × (end ≤ stack_start)) }
+    ensures placed { IfSome result
+        (λ end. (starts.new ≡ started destination place starts.old pieces.now)
+        × (end ≡ end_of destination place pieces.now) × (end ≤ stack_start)) }
     ensures far { IfNone result (stack_start < end_of destination place pieces.now) }
 {
     let mut stop = place;
@@ -118,7 +119,9 @@ fn region(
     start: u64,
 ) -> Result<Region, LayoutFault>
     requires { length starts.old ≡ length pieces.now }
-    ensures placed { IfOk result (λ r. (r.start ≡ start) × (starts.new ≡ started destination start starts.old pieces.now) × (r.end ≡ end_of destination start pieces.now) × (r.end ≤ stack_start)) }
+    ensures placed { IfOk result (λ r. (r.start ≡ start)
+        × (starts.new ≡ started destination start starts.old pieces.now)
+        × (r.end ≡ end_of destination start pieces.now) × (r.end ≤ stack_start)) }
     ensures far { IfErr result (λ _. stack_start < end_of destination start pieces.now) }
 {
     if start > STACK_START {
@@ -161,7 +164,8 @@ pub fn lay_out(alloc: Global, pieces: &[Piece], text_start: u64) -> Result<Layou
 /// The bytes of memory that the regions need.
 fn memory_of(text: Region, rodata: Region, variables: Region, bss: Region) -> u64
     requires { (text.end ≤ stack_start) × (rodata.end ≤ stack_start) × (bss.end ≤ stack_start) }
-    ensures { result ≡ (text.end - text.start) + (rodata.end - rodata.start) + (bss.end - variables.start) }
+    ensures { result
+        ≡ (text.end - text.start) + (rodata.end - rodata.start) + (bss.end - variables.start) }
 {
     text.end.saturating_sub(text.start)
         + rodata.end.saturating_sub(rodata.start)

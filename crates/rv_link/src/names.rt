@@ -23,7 +23,8 @@ pub struct Names<'u, 'a> {
 impl<'u, 'a> Names<'u, 'a> {
     /// Those of a source.
     pub fn of(alloc: Global, unit: &'u Unit<'a>) -> Result<Self, AllocError>
-        ensures { IfOk result (λ names. IsFilled unit.now → AreNames names (tables (said unit.now))) }
+        ensures { IfOk result (λ names. IsFilled unit.now
+            → AreNames names (tables (said unit.now))) }
     {
         let firsts = FirstSettings::of(alloc, unit.assignments())?;
         Ok(Names { unit, firsts })

@@ -78,7 +78,8 @@ impl<'g> Addresses<'g> {
 
     /// Adds a name, which stands before the others.
     fn put(&mut self, name: &'g [u8], address: u64) -> Result<(), AllocError>
-        ensures { OnOk result ((globals : List Global) → AreAddresses (self.old).names globals → AreAddresses (self.new).names (symbol name.now address ∷ globals)) }
+        ensures { OnOk result ((globals : List Global) → AreAddresses (self.old).names globals
+            → AreAddresses (self.new).names (symbol name.now address ∷ globals)) }
     {
         self.names.insert(name, address)?;
         Ok(())
@@ -126,8 +127,11 @@ impl<'s, 'u, 'a> Numbers<'s, 'u, 'a> {
 
     /// The address of a place of this file; none where its statement has no row.
     fn own_address(&self, home: Definition) -> Option<u64>
-        ensures value { result ≡ own_by (self.now).starts.now (self.now).items.now (definition_of home) }
-        ensures stands { IfSome result (λ a. (statements : List MaybeMapped) (file : ℕ) → StandAt (self.now).starts.now (self.now).items.now statements file → home_address statements file (definition_of home) ≡ Some a) }
+        ensures value { result ≡ own_by (self.now).starts.now (self.now).items.now
+            (definition_of home) }
+        ensures stands { IfSome result (λ a. (statements : List MaybeMapped) (file : ℕ)
+            → StandAt (self.now).starts.now (self.now).items.now statements file
+            → home_address statements file (definition_of home) ≡ Some a) }
     {
         let index = home.ordinal.checked_sub(1)?;
         let item = *self.items.get(index)?;
@@ -140,7 +144,9 @@ impl<'s, 'u, 'a> Numbers<'s, 'u, 'a> {
     /// The address of what is no place of this file.
     fn other_address(&self, symbol: Symbol<'a>) -> Option<u64>
         ensures value { result ≡ outer_by (self.now).addresses.now.names (symbol_of symbol.entry) }
-        ensures known { IfSome result (λ a. (globals : List Global) → AreAddresses (self.now).addresses.now.names globals → outer_address globals (symbol_of symbol.entry) ≡ Some a) }
+        ensures known { IfSome result (λ a. (globals : List Global)
+            → AreAddresses (self.now).addresses.now.names globals
+            → outer_address globals (symbol_of symbol.entry) ≡ Some a) }
     {
         match symbol {
             Symbol::Name(name) => self.addresses.names.get(&name).copied(),
@@ -150,7 +156,8 @@ impl<'s, 'u, 'a> Numbers<'s, 'u, 'a> {
 
     /// The address of a name, a reference or `.` in the statement.
     fn address(&self, symbol: Symbol<'a>) -> Option<u64>
-        ensures value { (index : ℕ) → AreAt self.now index → result ≡ address_in self.now index (symbol_of symbol.entry) }
+        ensures value { (index : ℕ) → AreAt self.now index
+            → result ≡ address_in self.now index (symbol_of symbol.entry) }
         ensures stands { IfSome result (IsAddress self.now (symbol_of symbol.entry)) }
     {
         match self.scope.definition(symbol) {
@@ -162,8 +169,10 @@ impl<'s, 'u, 'a> Numbers<'s, 'u, 'a> {
     /// The number of an expression of the statement, for a place of this width.
     pub fn number(&self, width: Width, expression: &Expr<'a>) -> Result<u64, DataFault<'a>>
         ensures number { IfOk result (IsNumber self.now (tree_of_expr expression.now)) }
-        ensures kept { IfOk result (IsKept self.now (bytes_of width) (tree_of_expr expression.now)) }
-        ensures refused { IfErr result (IsRefused self.now (bytes_of width) (tree_of_expr expression.now)) }
+        ensures kept { IfOk result
+            (IsKept self.now (bytes_of width) (tree_of_expr expression.now)) }
+        ensures refused { IfErr result
+            (IsRefused self.now (bytes_of width) (tree_of_expr expression.now)) }
     {
         match self.scope.value(self.place, expression, self.line)? {
             Value::Constant(number) => Ok(number),

@@ -60,7 +60,8 @@ fn put_row(
     ordinal: u64,
     item: Item,
 ) -> Result<(), AllocError>
-    ensures { OnOk result (rows.new.items ≡ rows.old.items ++ rows_of file starts.now ordinal item) }
+    ensures { OnOk result
+        (rows.new.items ≡ rows.old.items ++ rows_of file starts.now ordinal item) }
 {
     if !item.shown {
         return Ok(());

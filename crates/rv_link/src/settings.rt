@@ -31,7 +31,8 @@ impl<'a> FirstSettings<'a> {
 
     /// Those of what `.set`s give, in their order.
     pub fn of(alloc: Global, assignments: &[Assignment<'a>]) -> Result<Self, AllocError>
-        ensures { IfOk result (λ firsts. AreFirsts firsts.ordinals (reverse (map assignment_of assignments.now))) }
+        ensures { IfOk result
+            (λ firsts. AreFirsts firsts.ordinals (reverse (map assignment_of assignments.now))) }
     {
         let mut firsts = FirstSettings {
             ordinals: HashMap::new(alloc),
@@ -44,7 +45,9 @@ impl<'a> FirstSettings<'a> {
 
     /// Adds a setting.
     fn put(&mut self, setting: &Assignment<'a>) -> Result<(), AllocError>
-        ensures { OnOk result ((assignments : List SaidSetting) → AreFirsts (self.old).ordinals assignments → AreFirsts (self.new).ordinals (assignment_of setting.now ∷ assignments)) }
+        ensures { OnOk result ((assignments : List SaidSetting)
+            → AreFirsts (self.old).ordinals assignments
+            → AreFirsts (self.new).ordinals (assignment_of setting.now ∷ assignments)) }
     {
         let other = self.ordinals.get(&setting.name).copied();
         let first = least(setting.ordinal, other);
@@ -54,7 +57,8 @@ impl<'a> FirstSettings<'a> {
 
     /// Whether the statement of an ordinal is the first that gives the name.
     pub fn is_first(&self, ordinal: usize, name: &[u8]) -> bool
-        ensures { (assignments : List SaidSetting) → AreFirsts (self.now).ordinals assignments → result ≡ sets_first assignments ordinal name.now }
+        ensures { (assignments : List SaidSetting) → AreFirsts (self.now).ordinals assignments
+            → result ≡ sets_first assignments ordinal name.now }
     {
         match self.ordinals.get(&name).copied() {
             Some(first) => first == ordinal,

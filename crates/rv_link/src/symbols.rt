@@ -9,7 +9,7 @@ ghost use Rattle.rv_unit.specs.Unit.{said, IsFilled};
 ghost use Rattle.rv_map.specs.Map.{global_of as shown_global};
 ghost use Rattle.rv_source_laws.specs.Resolves.{is_one_of, is_start, symbol};
 ghost use Rattle.rv_link_laws.specs.Definitions.{named_by, names_from, entry_from};
-ghost use Rattle.rv_link.specs.Names.{unshown, AreNames, NamesLine};
+ghost use Rattle.rv_link.specs.Names.{unshown, linker_names_in, AreNames, NamesLine};
 ghost use Rattle.rv_link.specs.declared.definitions.NameFault.TheVariants.{OutOfMemory};
 
 use crate::definitions::{NameFault, named};
@@ -65,7 +65,8 @@ pub fn entry(unit: &Unit<'_>, starts: &[u32], items: &[Item]) -> Option<u64>
     ensures even { IfSome result (λ a. a % 2 ≡ 0) }
     ensures global { IfSome result (λ _. IsFilled unit.now
         → is_global (binding_of (said unit.now) (codes "_start")) ≡ true) }
-    ensures none { IfNone result (IsFilled unit.now → is_global (binding_of (said unit.now) (codes "_start")) ≡ true
+    ensures none { IfNone result (IsFilled unit.now
+        → is_global (binding_of (said unit.now) (codes "_start")) ≡ true
         → IfSome (entry_from starts.now (said unit.now) items.now) (λ a. a % 2 ≡ 1)) }
 {
     match unit.binding(b"_start") {
@@ -77,10 +78,12 @@ pub fn entry(unit: &Unit<'_>, starts: &[u32], items: &[Item]) -> Option<u64>
 /// The label `_start` of a section of text, which is an even place.
 fn start(starts: &[u32], statements: &[Statement<'_>], items: &[Item]) -> Option<u64>
     requires { length items.now ≡ length statements.now }
-    ensures start { IfSome result (λ a. entry_from starts.now (map statement_of statements.now) items.now ≡ Some a) }
+    ensures start { IfSome result
+        (λ a. entry_from starts.now (map statement_of statements.now) items.now ≡ Some a) }
     ensures even { IfSome result (λ a. a % 2 ≡ 0) }
     ensures none { IfNone result
-        (IfSome (entry_from starts.now (map statement_of statements.now) items.now) (λ a. a % 2 ≡ 1)) }
+        (IfSome (entry_from starts.now (map statement_of statements.now) items.now)
+        (λ a. a % 2 ≡ 1)) }
 {
     for i in 0..statements.len() {
         if !is_entry(&statements[i]) || !items[i].text {
@@ -107,7 +110,8 @@ fn put_symbol(
 ) -> Result<(), NameFault>
     ensures names { OnOk result ((t : Tables) → AreNames names.now t
         → map shown_global symbols.new.items ≡ map shown_global symbols.old.items
-        ++ filter (λ g. not (is_one_of (names_from t 1 (map statement_of statements.now)) g.name)) (symbol name.now address ∷ [])) }
+        ++ filter (λ g. not (is_one_of (names_from t 1 (map statement_of statements.now)) g.name))
+        (symbol name.now address ∷ [])) }
     ensures refused { IfErr result (λ e. NamesLine e (unshown (symbol name.now address ∷ []) 0)) }
 {
     if defines(names, statements, name.as_bytes()) {
@@ -130,8 +134,7 @@ pub fn put_symbols(
     ensures names { OnOk result ((t : Tables) → AreNames names.now t
         → map shown_global symbols.new.items ≡ map shown_global symbols.old.items
         ++ filter (λ g. not (is_one_of (names_from t 1 (map statement_of statements.now)) g.name))
-        (symbol (codes "_etext") (layout.now).text.end ∷ symbol (codes "__bss_start") (layout.now).bss.start ∷ symbol (codes "_edata") (layout.now).data.end
-        ∷ symbol (codes "_end") (layout.now).bss.end ∷ symbol (codes "__global_pointer$") ((layout.now).data.start + 0x800) ∷ [])) }
+        (linker_names_in layout.now)) }
     ensures refused { IfErr result (λ e. e ≡ OutOfMemory) }
 {
     put_symbol(alloc, symbols, names, statements, "_etext", layout.text.end)?;

@@ -68,7 +68,7 @@ module _ (p : Program) (starts : List ℕ) (j : ℕ) where
           → flat_map (code_bytes p) (mapped_in (if b then site_of starts k t s i ∷ more else more) 1 j) ≡ own_code (st ∷ rest)
       go true e true f g ih =
           let executable = (and_parts st.home.loaded st.home.executable (here f)).1 in
-          let same = coded p k st.section st.offset st.line st.home st.placed (row_of 1 starts k i) i.offset (slice_index starts i.section) s.kind (suit e) own executable in
+          let same = coded p k st.section st.offset st.line st.home st.options st.placed (row_of 1 starts k i) i.offset (slice_index starts i.section) s.kind (suit e) own executable in
           ap (λ b. flat_map (code_bytes p) (if b then site_of starts k t s i ∷ mapped_in more 1 j else mapped_in more 1 j)) f
           ∙ ap (λ l. l ++ flat_map (code_bytes p) (mapped_in more 1 j)) same ∙ ap (λ l. code_said (form p st) s.kind ++ l) ih ∙ sym (right true (g ∙ f))
       go false e true f g ih =

@@ -47,7 +47,7 @@ module _ (p : Program) (starts : List ℕ) where
 
       go : (b : Bool) → i.shown ≡ b → AllByRecursion (SizeFits p) (sites_by starts (suc k) (after t k s.kind) ss is)
           → AllByRecursion (SizeFits p) (if b then site_of starts k t s i ∷ sites_by starts (suc k) (after t k s.kind) ss is else sites_by starts (suc k) (after t k s.kind) ss is)
-      go true e ih = (fits p k st.section st.offset st.line st.home st.placed (row_of 1 starts k i) i.offset (slice_index starts i.section) s.kind (h e), ih)
+      go true e ih = (fits p k st.section st.offset st.line st.home st.options st.placed (row_of 1 starts k i) i.offset (slice_index starts i.section) s.kind (h e), ih)
       go false e ih = ih
 
   abbrev Writes : Mapped → Type 0
@@ -63,7 +63,7 @@ module _ (p : Program) (starts : List ℕ) where
 
       go : (b : Bool) → i.shown ≡ b → AllByRecursion Writes (sites_by starts (suc k) (after t k s.kind) ss is)
           → AllByRecursion Writes (if b then site_of starts k t s i ∷ sites_by starts (suc k) (after t k s.kind) ss is else sites_by starts (suc k) (after t k s.kind) ss is)
-      go true e ih = ((λ x. is_written p k st.section st.offset st.line st.home st.placed (row_of 1 starts k i) i.offset (slice_index starts i.section) s.kind (h e) own x), ih)
+      go true e ih = ((λ x. is_written p k st.section st.offset st.line st.home st.options st.placed (row_of 1 starts k i) i.offset (slice_index starts i.section) s.kind (h e) own x), ih)
       go false e ih = ih
 
 -- the greatest alignment of a region

@@ -26,7 +26,8 @@ set_address starts items (Some s) = elim s.meaning [
 
 -- the address or the number of what a statement defines: a label's, or what `.set` gives the name last
 abbrev pub defined_address : Tables → List ℕ → List Item → Item → StatementKind → Option ℕ
-defined_address t starts items i (Directs (Sets name e)) = set_address starts items (assigned_ever t.assignments name)
+defined_address t starts items i (Directs (Sets name e)) =
+    set_address starts items (assigned_ever t.assignments name)
 defined_address t starts items i _ = shown_address starts i
 
 -- the name with its address, if it has one
@@ -39,12 +40,15 @@ abbrev pub names_from : Tables → ℕ → List Statement → List (List ℕ)
 names_from t ordinal [] = []
 names_from t ordinal (s ∷ ss) = named_by t ordinal s.kind ++ names_from t (suc ordinal) ss
 
-abbrev pub definitions_from : Tables → List ℕ → List Item → ℕ → List Statement → List Item → List Global
+abbrev pub definitions_from : Tables → List ℕ → List Item → ℕ → List Statement → List Item
+    → List Global
 definitions_from t starts items ordinal (s ∷ ss) (i ∷ is) =
-    defined_by t starts items ordinal s.kind i ++ definitions_from t starts items (suc ordinal) ss is
+    defined_by t starts items ordinal s.kind i
+    ++ definitions_from t starts items (suc ordinal) ss is
 definitions_from t starts items ordinal ss is = []
 
 -- the address of the first label where a run may begin
 abbrev pub entry_from : List ℕ → List Statement → List Item → Option ℕ
-entry_from starts (s ∷ ss) (i ∷ is) = if is_start s.kind && i.text then Some (address_of starts i) else entry_from starts ss is
+entry_from starts (s ∷ ss) (i ∷ is) =
+    if is_start s.kind && i.text then Some (address_of starts i) else entry_from starts ss is
 entry_from starts ss is = None

@@ -32,21 +32,29 @@ AreItems ordinal t before [] [] last = (j : ℕ) → last j ≡ before j
 AreItems ordinal t before [] (i ∷ is) last = ⊥
 AreItems ordinal t before (s ∷ ss) [] last = ⊥
 AreItems ordinal t before (s ∷ ss) (i ∷ is) last =
-    IsItem (located_now 1 ordinal t s) before i × AreItems (suc ordinal) (after t ordinal s.kind) (grown before i) ss is last
+    IsItem (located_now 1 ordinal t s) before i
+    × AreItems (suc ordinal) (after t ordinal s.kind) (grown before i) ss is last
 
 -- where the sections of the one file start, and where they end
 abbrev pub starts_at : List ℕ → Placement
 starts_at starts file j = slice_index starts j
 
 abbrev pub ends_at : List ℕ → (ℕ → ℕ) → Placement
-ends_at starts last file j = if file == 1 then slice_index starts j + last j else slice_index starts j
+ends_at starts last file j =
+    if file == 1 then slice_index starts j + last j else slice_index starts j
 
 -- the statements with their rows, and those that have one
 abbrev pub entry_of : List ℕ → ℕ → Tables → Statement → Item → MaybeMapped
-entry_of starts k t s i = record { located = located_now 1 k t s; row = (if i.shown then Some (row_of 1 starts k i) else None) }
+entry_of starts k t s i =
+    record {
+      located = located_now 1 k t s;
+      row =
+          (if i.shown then Some (row_of 1 starts k i) else None);
+    }
 
 abbrev pub entries_by : List ℕ → ℕ → Tables → List Statement → List Item → List MaybeMapped
-entries_by starts k t (s ∷ ss) (i ∷ is) = entry_of starts k t s i ∷ entries_by starts (suc k) (after t k s.kind) ss is
+entries_by starts k t (s ∷ ss) (i ∷ is) =
+    entry_of starts k t s i ∷ entries_by starts (suc k) (after t k s.kind) ss is
 entries_by starts k t ss is = []
 
 abbrev pub site_of : List ℕ → ℕ → Tables → Statement → Item → Mapped
@@ -61,7 +69,9 @@ sites_by starts k t ss is = []
 -- each statement that has a row has one that suits it
 abbrev pub AllSuit : Program → List ℕ → ℕ → Tables → List Statement → List Item → Type 0
 AllSuit p starts k t (s ∷ ss) (i ∷ is) =
-    (i.shown ≡ true → Suits (form p (located_now 1 k t s)) (has_values p (site_of starts k t s i)) (located_now 1 k t s).home (row_of 1 starts k i) i.offset (slice_index starts i.section) s.kind)
+    (i.shown ≡ true → Suits (form p (located_now 1 k t s)) (has_values p (site_of starts k t s i))
+    (located_now 1 k t s).home (row_of 1 starts k i) i.offset
+    (slice_index starts i.section) s.kind)
     × AllSuit p starts (suc k) (after t k s.kind) ss is
 AllSuit p starts k t ss is = ⊤
 

@@ -42,7 +42,8 @@ use Rattle.rv_link_laws.specs.Pieces.{ArePieces, goes_to}
 
 abbrev pub PlacedRows : Type 0
 PlacedRows =
-    (starts : List ℕ) (ss : List Statement) (is : List Item) (last : ℕ → ℕ) → AreItems 1 at_start (λ j. 0) ss is last
+    (starts : List ℕ) (ss : List Statement) (is : List Item) (last : ℕ → ℕ)
+    → AreItems 1 at_start (λ j. 0) ss is last
     → RowsOf 1 (starts_at starts) (ss ∷ []) (rows_from 1 starts 1 is) (ends_at starts last)
 
 -- of each region, from its start
@@ -55,25 +56,41 @@ start_of _ text rodata variables bss = 0
 
 abbrev pub PlacedSections : Type 0
 PlacedSections =
-    (to : Destination) (ss : List Statement) (pieces : List Piece) (last : ℕ → ℕ) (text rodata variables bss : ℕ)
-    → is_bound_for to NotLoaded ≡ false → ArePieces (tables ss) last 0 (tables ss).opened.sections pieces
+    (to : Destination) (ss : List Statement) (pieces : List Piece) (last : ℕ → ℕ)
+    (text rodata variables bss : ℕ)
+    → is_bound_for to NotLoaded ≡ false
+    → ArePieces (tables ss) last 0 (tables ss).opened.sections pieces
     → let starts = starts_of pieces text rodata variables bss in
     let place = start_of to text rodata variables bss in
-    SpreadOf (goes_to to) (starts_at starts) (ends_at starts last) 1 place (ss ∷ []) (end_of to place pieces)
+    SpreadOf (goes_to to) (starts_at starts) (ends_at starts last) 1 place (ss ∷ [])
+    (end_of to place pieces)
 
 abbrev pub PlacedSites : Type 0
 PlacedSites =
-    (starts : List ℕ) (ss : List Statement) (is : List Item) (last : ℕ → ℕ) (m : Map) → AreItems 1 at_start (λ j. 0) ss is last → m.rows ≡ rows_from 1 starts 1 is
-    → ((program (ss ∷ []) m).statements ≡ entries_by starts 1 at_start ss is) × ((program (ss ∷ []) m).mapped ≡ sites_by starts 1 at_start ss is)
-    × ((j : ℕ) → size (map (λ s. s.row) (mapped_in (sites_by starts 1 at_start ss is) 1 j)) ≡ last j)
+    (starts : List ℕ) (ss : List Statement) (is : List Item) (last : ℕ → ℕ) (m : Map)
+    → AreItems 1 at_start (λ j. 0) ss is last → m.rows ≡ rows_from 1 starts 1 is
+    → ((program (ss ∷ []) m).statements ≡ entries_by starts 1 at_start ss is)
+    × ((program (ss ∷ []) m).mapped ≡ sites_by starts 1 at_start ss is)
+    × ((j : ℕ) → size (map (λ s. s.row) (mapped_in (sites_by starts 1 at_start ss is) 1 j))
+    ≡ last j)
 
 -- the map of a layout
 abbrev pub map_of : Layout → ℕ → List Global → List Row → Map
 map_of l entry globals rows =
-    record { text = l.text; rodata = l.rodata; «data» = l.data; bss = l.bss; entry = entry; gaps = []; globals = globals; rows = rows }
+    record {
+      text = l.text;
+      rodata = l.rodata;
+      «data» = l.data;
+      bss = l.bss;
+      entry = entry;
+      gaps = [];
+      globals = globals;
+      rows = rows;
+    }
 
 -- the parts of a source that is placed: of each section its bytes as code, and its bytes as data
-pub record IsPlaced (text_start : ℕ) (ss : List Statement) (is : List Item) (last : ℕ → ℕ) (pieces : List Piece) (l : Layout) (m : Map) (texts figures : List (List ℕ)) : Type 0 where
+pub record IsPlaced (text_start : ℕ) (ss : List Statement) (is : List Item) (last : ℕ → ℕ)
+    (pieces : List Piece) (l : Layout) (m : Map) (texts figures : List (List ℕ)) : Type 0 where
   pub good : first_fault ss ≡ None
   pub page : text_start % 2 ≡ 0
   pub items : AreItems 1 at_start (λ j. 0) ss is last
@@ -84,14 +101,19 @@ pub record IsPlaced (text_start : ℕ) (ss : List Statement) (is : List Item) (l
   pub resolves : Resolves (ss ∷ []) m
   pub each_code : AreEach (tables ss).opened.sections texts
   pub each_data : AreEach (tables ss).opened.sections figures
-  pub code : HoldBytes (program (ss ∷ []) m).mapped goes_to_text (code_bytes (program (ss ∷ []) m)) 0 (tables ss).opened.sections texts
-  pub constants : HoldBytes (program (ss ∷ []) m).mapped goes_to_rodata (spelled (program (ss ∷ []) m)) 0 (tables ss).opened.sections figures
-  pub variables : HoldBytes (program (ss ∷ []) m).mapped goes_to_data (spelled (program (ss ∷ []) m)) 0 (tables ss).opened.sections figures
+  pub code : HoldBytes (program (ss ∷ []) m).mapped goes_to_text
+      (code_bytes (program (ss ∷ []) m)) 0 (tables ss).opened.sections texts
+  pub constants : HoldBytes (program (ss ∷ []) m).mapped goes_to_rodata
+      (spelled (program (ss ∷ []) m)) 0 (tables ss).opened.sections figures
+  pub variables : HoldBytes (program (ss ∷ []) m).mapped goes_to_data
+      (spelled (program (ss ∷ []) m)) 0 (tables ss).opened.sections figures
 
 -- they make the linked program of the source
 abbrev pub PlacedLinks : Type 0
 PlacedLinks =
-    (text_start : ℕ) (ss : List Statement) (is : List Item) (last : ℕ → ℕ) (pieces : List Piece) (l : Layout) (entry : ℕ) (globals : List Global) (texts figures : List (List ℕ)) (rvc : Bool)
+    (text_start : ℕ) (ss : List Statement) (is : List Item) (last : ℕ → ℕ) (pieces : List Piece)
+    (l : Layout) (entry : ℕ) (globals : List Global) (texts figures : List (List ℕ))
+    (rvc : Bool)
     → let m = map_of l entry globals (rows_from 1 l.starts.items 1 is) in
     IsPlaced text_start ss is last pieces l m texts figures
     → IsLinked (ss ∷ []) text_start (record {
@@ -105,24 +127,29 @@ PlacedLinks =
 -- the global names and the linker's, with the entry, are what the names of the source resolve to
 abbrev pub PlacedNames : Type 0
 PlacedNames =
-    (ss : List Statement) (is : List Item) (last : ℕ → ℕ) (l : Layout) (entry : ℕ) (globals : List Global)
+    (ss : List Statement) (is : List Item) (last : ℕ → ℕ) (l : Layout) (entry : ℕ)
+    (globals : List Global)
     → let m = map_of l entry globals (rows_from 1 l.starts.items 1 is) in
     first_fault ss ≡ None → AreItems 1 at_start (λ j. 0) ss is last
     → globals ≡ definitions_from (tables ss) l.starts.items is 1 ss is
     ++ filter (λ g. not (is_one_of (names_from (tables ss) 1 ss) g.name)) (linker_symbols m)
-    → is_global (binding_of ss (codes "_start")) ≡ true → entry_from l.starts.items ss is ≡ Some entry → entry % 2 ≡ 0
+    → is_global (binding_of ss (codes "_start")) ≡ true
+    → entry_from l.starts.items ss is ≡ Some entry → entry % 2 ≡ 0
     → Resolves (ss ∷ []) m
 
 -- the bytes of a section of code, by its place in the source, are those of its statements
 abbrev pub PlacedCode : Type 0
 PlacedCode =
     (p : Program) (starts : List ℕ) (j : ℕ) (ss : List Statement) (is : List Item) (last : ℕ → ℕ)
-    → AreItems 1 at_start (λ j. 0) ss is last → AllSuit p starts 1 at_start ss is → first_fault ss ≡ None
+    → AreItems 1 at_start (λ j. 0) ss is last → AllSuit p starts 1 at_start ss is
+    → first_fault ss ≡ None
     → AllByRecursion (λ s. (s.section == j) ≡ true → goes_to_text s.home ≡ true) (located (ss ∷ []))
-    → flat_map (code_bytes p) (mapped_in (sites_by starts 1 at_start ss is) 1 j) ≡ flat_map (λ s. code_said (form p s) s.kind) (filter (λ s. j == s.section) (located (ss ∷ [])))
+    → flat_map (code_bytes p) (mapped_in (sites_by starts 1 at_start ss is) 1 j) ≡ flat_map
+    (λ s. code_said (form p s) s.kind) (filter (λ s. j == s.section) (located (ss ∷ [])))
 
 -- the address of a statement by its ordinal
 abbrev pub PlacedAddresses : Type 0
 PlacedAddresses =
-    (starts : List ℕ) (ss : List Statement) (is : List Item) (last : ℕ → ℕ) (n : ℕ) → AreItems 1 at_start (λ j. 0) ss is last
+    (starts : List ℕ) (ss : List Statement) (is : List Item) (last : ℕ → ℕ) (n : ℕ)
+    → AreItems 1 at_start (λ j. 0) ss is last
     → address_at (entries_by starts 1 at_start ss is) 1 (1 + n) ≡ nth_address starts is n

@@ -34,4 +34,5 @@ rows_of file starts ordinal i = if i.shown then row_of file starts ordinal i ∷
 -- the rows of a file's statements from an ordinal on
 abbrev pub rows_from : ℕ → List ℕ → ℕ → List Item → List Row
 rows_from file starts ordinal [] = []
-rows_from file starts ordinal (i ∷ is) = rows_of file starts ordinal i ++ rows_from file starts (suc ordinal) is
+rows_from file starts ordinal (i ∷ is) =
+    rows_of file starts ordinal i ++ rows_from file starts (suc ordinal) is

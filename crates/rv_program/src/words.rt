@@ -1,5 +1,8 @@
 //! The command line: which words mean which job.
 
+ghost use Rattle.std.specs.Prelude.{◌≡◌, ◌≤◌, ℕ, true, IfSome, IfNone};
+ghost use Rattle.rv_program.specs.Numbers.{IsNumber, IsStart};
+
 use crate::error::CliError;
 use crate::jobs::Job;
 use clap::error::ErrorKind;
@@ -191,28 +194,42 @@ fn number(command: &mut Command<'_>, read: Option<u64>, wanted: &str) -> Result<
     }
 }
 
-/// A decimal number below 2^64: digits alone, one at least.
-pub fn decimal(text: &str) -> Option<u64> {
-    if text.bytes().all(|byte| byte.is_ascii_digit()) {
-        text.parse().ok()
-    } else {
-        None
+/// A number below 2^64 in digits of a radix alone, one at least.
+fn number(text: &str, radix: u32) -> Option<u64>
+    requires { (2 ≤ radix) × (radix ≤ 36) }
+    ensures some { IfSome result (λ n. IsNumber radix text.now n) }
+    ensures none { IfNone result ((n : ℕ) → IsNumber radix text.now n → ⊥) }
+{
+    if text.starts_with('+') {
+        return None;
     }
+    u64::from_str_radix(text, radix).ok()
+}
+
+/// A decimal number below 2^64: digits alone, one at least.
+pub fn decimal(text: &str) -> Option<u64>
+    ensures some { IfSome result (λ n. IsNumber 10 text.now n) }
+    ensures none { IfNone result ((n : ℕ) → IsNumber 10 text.now n → ⊥) }
+{
+    number(text, 10)
 }
 
 /// A number below 2^64, decimal or `0x` with hexadecimal digits of either case.
-pub fn text_start(text: &str) -> Option<u64> {
+pub fn text_start(text: &str) -> Option<u64>
+    ensures some { IfSome result (λ n. IsStart text.now n) }
+    ensures none { IfNone result ((n : ℕ) → IsStart text.now n → ⊥) }
+{
     match text.strip_prefix("0x") {
-        Some(digits) if digits.bytes().all(|byte| byte.is_ascii_hexdigit()) => {
-            u64::from_str_radix(digits, 16).ok()
-        }
-        Some(_) => None,
+        Some(digits) => number(digits, 16),
         None => decimal(text),
     }
 }
 
 /// The options of a build whose words say nothing else.
-pub fn default_options() -> LinkOptions {
+pub fn default_options() -> LinkOptions
+    ensures start { result.text_start ≡ 0x1_0000 }
+    ensures relax { result.relax ≡ true }
+{
     LinkOptions {
         text_start: TEXT_START,
         relax: true,

@@ -1,5 +1,5 @@
 pub mod Located
-pub mod Options
+pub mod Compressed
 pub mod Program
 pub mod Written
 pub mod Meaning

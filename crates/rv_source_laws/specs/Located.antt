@@ -4,6 +4,7 @@
 use Rattle.std.specs.Prelude.{ℕ, suc, Bool, true, false, ◌&&◌, List, [], ◌∷◌, ◌++◌}
 use Rattle.rv_statement.specs.Statement.{StatementKind, Label, Numbered, Instruction, Directs, Statement, Directive, Sets}
 use Rattle.rv_unit_laws.specs.Contributions.{Contribution, Nothing, contribution}
+use Rattle.rv_unit_laws.specs.Options.{Options}
 use Rattle.rv_unit_laws.specs.Sections.{Section, section_at}
 use Rattle.rv_unit_laws.specs.Tables.{Tables, at_start, after, here, stood, value, assigned, gives_location}
 
@@ -24,13 +25,14 @@ is_placed t ordinal (Instruction mnemonic operands) = true
 is_placed t ordinal (Directs directive) = is_placed_directive t ordinal directive
 
 -- a statement: its file and its ordinal, from 1; its section, by that one's index in the file from 0, and the bytes of data
--- before it there; `home` is that section
+-- before it there; `home` is that section; `options` are those that the statements before it set
 pub record Located : Type 0 where
   pub file : ℕ
   pub ordinal : ℕ
   pub section : ℕ
   pub offset : ℕ
   pub home : Section
+  pub options : Options
   pub line : ℕ
   pub kind : StatementKind
   pub placed : Bool
@@ -45,6 +47,7 @@ located_now file ordinal t s =
       section = place.section;
       offset = place.offset;
       home = section_at (after t ordinal s.kind).opened place.section;
+      options = t.options;
       line = s.line;
       kind = s.kind;
       placed = is_placed t ordinal s.kind;

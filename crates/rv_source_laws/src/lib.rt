@@ -3,7 +3,8 @@
 //! It takes the statements of sources (`rv_statement`), their names and sections (`rv_unit_laws`) and a map (`rv_map`), all as
 //! plain data. It gives the definitions by which a built program is judged: where each statement stands (`specs/Located`), its
 //! row and the values of its expressions (`Program`), what it does in one step (`Written`, `Meaning`), memory at the start
-//! (`Start`), when a map fits the sources (`Fits`) and resolves their names (`Resolves`), and their run (`SourceRun`).
+//! (`Start`), when a map fits the sources (`Fits`) and resolves their names (`Resolves`), their run (`SourceRun`), and whether
+//! they have compressed code (`Compressed`).
 //!
 //! Its main contract is the law `laid_out_fits`: a map that is laid out section by section fits its sources. Nothing here
 //! runs, and nothing here knows of executables, of the machine's run or of how a linker works.

@@ -143,20 +143,13 @@ pub(crate) fn zero_fault(
     lower(size_fault(value), lower(misplaced, past))
 }
 
-/// The fault of an alignment in code.
+/// The fault of an alignment in code: above 2 it has bytes, which a section without them cannot have.
 fn code_alignment_fault(nobits: bool, alignment: Option<u32>) -> Option<SourceCode>
     ensures { IsLowest result (laws.code_alignment_faults nobits alignment) }
 {
     match alignment {
         None => None,
-        Some(alignment) => {
-            let code = if nobits {
-                SourceCode::WrongSection
-            } else {
-                SourceCode::UnsupportedHere
-            };
-            faulty_if(alignment > 2, code)
-        }
+        Some(alignment) => faulty_if(nobits && alignment > 2, SourceCode::WrongSection),
     }
 }
 

@@ -2,7 +2,7 @@
 -- for what directives take).
 
 use Rattle.std.specs.Prelude.{ℕ, suc, ◌+◌, ◌^◌, Bool, true, false, not, ◌&&◌, ◌||◌, ◌==◌, nat_lt, nat_le, min, List, [], ◌∷◌, ◌++◌, length, flat_map, Option, Some, None, is_some, if◌then◌else◌}
-use Rattle.rv_text_laws.specs.Codes.{unsupported_here, duplicate_label, not_constant, immediate_range, wrong_section, option_stack, limit}
+use Rattle.rv_text_laws.specs.Codes.{duplicate_label, not_constant, immediate_range, wrong_section, option_stack, limit}
 use Rattle.rv_text_laws.specs.Values.{Value, Constant, Symbolic, Difference, Faulty}
 use Rattle.rv_statement.specs.Statement.{StatementKind, Label, Numbered, Instruction, Directs, Statement, Expression, Directive, Enters, Opens, Sets, Chooses}
 use Rattle.rv_statement.specs.declared.directive.Choice.{Choice}
@@ -51,10 +51,11 @@ value_faults width (Symbolic symbol at plus) = faulty_if (nat_lt width 4) not_co
 value_faults width (Difference symbol minus plus) = []
 value_faults width (Faulty code) = code ∷ []
 
--- an alignment in code beyond 2 has bytes: none can stand in a section without them, and elsewhere they are not built yet
+-- an alignment in code above 2 has bytes, which cannot stand in a section without them
 abbrev pub code_alignment_faults : Bool → Option ℕ → List ℕ
 code_alignment_faults nobits None = []
-code_alignment_faults nobits (Some alignment) = faulty_if (not (nat_le alignment 2)) (if nobits then wrong_section else unsupported_here)
+code_alignment_faults nobits (Some alignment) =
+    faulty_if (nobits && not (nat_le alignment 2)) wrong_section
 
 -- data at an offset
 abbrev pub past_section : Bool → ℕ → ℕ → List ℕ

@@ -15,7 +15,7 @@ use Rattle.rv_isa.specs.declared.operation.ShiftOperation.TheVariants.{Slli}
 use Rattle.rv_isa.specs.declared.operation.UpperOperation.TheVariants.{Lui, Auipc}
 use Rattle.rv_isa.specs.declared.operation.LoadOperation.TheVariants.{Ld}
 use Rattle.rv_isa.specs.declared.operation.StoreOperation.TheVariants.{Sd}
-use Rattle.rv_statement.specs.Statement.{StatementKind, Label, Instruction, Directs, Statement, Expression, Register, Value, Applied, Target, Enters, Opens, Sets, Values, Chooses}
+use Rattle.rv_statement.specs.Statement.{StatementKind, Label, Instruction, Directs, Statement, Expression, Register, Value, Applied, Target, Enters, Opens, Sets, Aligns_to_power, Values, Chooses}
 use Rattle.rv_unit_laws.specs.Faults.{Fault}
 use Rattle.rv_map.specs.Map.{Map}
 use Rattle.rv_worked.specs.Exit7.{said, constant, norvc, globl, row, region, global}
@@ -126,6 +126,18 @@ after_location s =
 -- where compressed code is on
 abbrev pub compressed : StatementKind → List Statement
 compressed s = said 1 s ∷ []
+
+-- `.align 3` in code at line 2, and a statement after it
+abbrev pub after_padding : StatementKind → List Statement
+after_padding s =
+    said 1 norvc ∷ said 2 (Directs (Aligns_to_power (constant 3))) ∷ said 3 s ∷ []
+
+-- `.align 2` in a section of code without bytes
+abbrev pub padding_without_bytes : List Statement
+padding_without_bytes =
+    said 1 (Directs (Opens (codes "later") (Some (codes "ax")) (Some (codes "nobits"))))
+    ∷ said 2 (Directs (Aligns_to_power (constant 2)))
+    ∷ []
 
 -- compressed code is off at line 3, and on again at line 5
 abbrev pub options : List Statement

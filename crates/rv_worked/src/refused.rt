@@ -1,13 +1,14 @@
 //! Worked sources that are refused, as contracts that the check computes.
 
 ghost use Rattle.std.specs.Prelude.{◌≡◌, ◌-◌, ◌^◌, [], ◌∷◌, Some, None, true, false, codes};
-ghost use Rattle.rv_text_laws.specs.Codes.{unsupported_here, immediate_range, not_constant, division_by_zero, duplicate_label, scratch_register, undefined_local};
+ghost use Rattle.rv_text_laws.specs.Codes.{unsupported_here, immediate_range, not_constant, division_by_zero, duplicate_label, scratch_register, undefined_local, wrong_section};
 ghost use Rattle.rv_text_laws.specs.declared.operator.BinaryOperator.TheVariants.{Divide};
 ghost use Rattle.rv_text_laws.specs.Expression.{Leaf, Binary, Reference};
 ghost use Rattle.rv_statement.specs.declared.pseudo.Function.TheVariants.{Lo, PcrelLo};
+ghost use Rattle.rv_statement.specs.Statement.{Directs, Values};
 ghost use Rattle.rv_worked.specs.Exit7.{exit7, load, constant};
 ghost use Rattle.rv_worked.specs.Data.{hello, figures, differences, symbol};
-ghost use Rattle.rv_worked.specs.Refused.{fault, alone, adds, minus, shifts, shifts_word, ands, uppers, loads, x, away, jumps, loads_address, loads_symbol, stores_symbol, calls, jumps_by, adds_part, shifts_part, li_part, upper_part, upper_distance, jumps_back, after_set, before_set, before_label, after_location, compressed, options, two_faults, directive_later, unknown_names, unloaded_place, no_entry, wide, wide_map};
+ghost use Rattle.rv_worked.specs.Refused.{fault, alone, adds, minus, shifts, shifts_word, ands, uppers, loads, x, away, jumps, loads_address, loads_symbol, stores_symbol, calls, jumps_by, adds_part, shifts_part, li_part, upper_part, upper_distance, jumps_back, after_set, before_set, before_label, after_location, compressed, after_padding, padding_without_bytes, options, two_faults, directive_later, unknown_names, unloaded_place, no_entry, wide, wide_map};
 ghost use Rattle.rv_chain_laws.specs.Refusals.{statements_fault, undefined, has_entry, overflows, IsMapOf};
 
 /// The worked programs have no fault; one without `.option norvc` wants compressed code.
@@ -122,6 +123,16 @@ pub fn unplaced_comes_last()
     ensures range { statements_fault (compressed (adds (constant 5000))) ≡ fault immediate_range 1 }
     ensures offset { statements_fault (alone (jumps_back 2047)) ≡ fault unsupported_here 2 }
     ensures far { statements_fault (alone (jumps_back 2048)) ≡ fault immediate_range 2 }
+{}
+
+/// An alignment above 2 in code cannot be placed yet, as an instruction that has no place: after all labels
+/// and directives. In a section without bytes it is a wrong directive.
+pub fn padding_is_code()
+    ensures first { statements_fault (after_padding (adds (constant 5000)))
+        ≡ fault unsupported_here 2 }
+    ensures before { statements_fault (after_padding (Directs (Values 4 (constant 1 ∷ []))))
+        ≡ fault wrong_section 3 }
+    ensures without { statements_fault padding_without_bytes ≡ fault wrong_section 2 }
 {}
 
 /// The first name without an address is that of the first section; a place that is not loaded has

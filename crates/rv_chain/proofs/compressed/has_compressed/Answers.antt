@@ -2,19 +2,17 @@ use Rattle.std.proofs.Common.{◌≡◌, ◌<◌, ◌≤◌, ◌&&◌, length, g
 use Rattle.std.specs.Prelude.{slice_index_or}
 use Rattle.std.proofs.lemmas.List.{length-map}
 use Rattle.rv_statement.specs.View.{statement_of, statement_kind}
-use Rattle.rv_unit_laws.specs.Sections.{Section}
+use Rattle.rv_unit_laws.specs.Options.{Options}
 use Rattle.rv_tables.specs.declared.section_offset.SectionOffset.{SectionOffset}
 use Rattle.rv_unit.specs.Unit.{said}
-use Rattle.rv_source_laws.specs.Options.{is_code}
-use Rattle.rv_chain.specs.Choices.{options_of}
 use Rattle.rv_chain.specs.Measured.{IsExtentAt}
 use Rattle.rv_chain.proofs.Standing.{StandsAt, stands_at, places_count, located_at, stated_none}
-use Rattle.rv_chain.proofs.Itemized.{home_at, place_inside}
-use Rattle.rv_chain.proofs.FirstCode.{code_as, all_decide, decided, left_to_others, none_decides}
+use Rattle.rv_chain.proofs.Itemized.{place_inside}
+use Rattle.rv_chain.proofs.FirstCode.{compressed_as, all_decide, decided, left_to_others, none_decides}
 use Rattle.rv_chain.proofs.compressed.has_compressed.Goals as goal
 
 pub loop-index-init : goal.loop-index-init
-loop-index-init c = all_decide (said c.args.unit.now) (options_of c.new-choices.result) c.new-choices.ensures
+loop-index-init c = all_decide (said c.args.unit.now)
 
 pub bounds-places-index : goal.bounds-places-index
 bounds-places-index c =
@@ -44,9 +42,10 @@ returns-then-is_compressed c =
     let at : StandsAt u i x p = stands_at u i x x (record { section = 0; offset = 0 }) p c.requires inside is (ap (λ l. get_or l i (record { section = 0; offset = 0 })) c.places-places.ensures) in
     let e = c.extent_at-extent.result in
     let there : IsExtentAt u.tables.extents.items p.section e = subst (λ l. IsExtentAt l p.section e) c.sections-extents.ensures c.extent_at-extent.ensures in
-    let o = options_of c.loop-index.choices in
-    decided (said u) i (located_at (said u) i (statement_of x)) o at.next c.loop-index.invariant
-    (sym c.if-is_compressed.true ∙ c.is_compressed.ensures ∙ ap (λ b. o.rvc && b) (code_as e.section.executable x.kind) ∙ ap (λ (h : Section). o.rvc && is_code h.executable (statement_kind x.kind)) (home_at u i x p e at there))
+    let on : c.rvc-compressed.result ≡ (located_at (said u) i (statement_of x)).options.rvc =
+    c.rvc-compressed.ensures ∙ ap (λ (o : Options). o.rvc) (c.options_at.ensures c.requires (subst (λ n. i < n) (sym (length-map u.statements.items statement_of)) inside)) in
+    decided (said u) i (located_at (said u) i (statement_of x)) at.next c.loop-index.invariant
+    (sym c.if-is_compressed.true ∙ c.is_compressed.ensures ∙ compressed_as u i x p e c.rvc-compressed.result at there on)
 
 pub loop-index-preserved : goal.loop-index-preserved
 loop-index-preserved c =
@@ -59,13 +58,14 @@ loop-index-preserved c =
     let at : StandsAt u i x p = stands_at u i x x (record { section = 0; offset = 0 }) p c.requires inside is (ap (λ l. get_or l i (record { section = 0; offset = 0 })) c.places-places.ensures) in
     let e = c.extent_at-extent.result in
     let there : IsExtentAt u.tables.extents.items p.section e = subst (λ l. IsExtentAt l p.section e) c.sections-extents.ensures c.extent_at-extent.ensures in
-    let o = options_of c.loop-index.choices in
-    left_to_others (said u) i (located_at (said u) i (statement_of x)) o at.next c.loop-index.invariant (options_of c.follow.new.self) c.in_ok-follow.ensures
-    (sym c.if-is_compressed.false ∙ c.is_compressed.ensures ∙ ap (λ b. o.rvc && b) (code_as e.section.executable x.kind) ∙ ap (λ (h : Section). o.rvc && is_code h.executable (statement_kind x.kind)) (home_at u i x p e at there))
+    let on : c.rvc-compressed.result ≡ (located_at (said u) i (statement_of x)).options.rvc =
+    c.rvc-compressed.ensures ∙ ap (λ (o : Options). o.rvc) (c.options_at.ensures c.requires (subst (λ n. i < n) (sym (length-map u.statements.items statement_of)) inside)) in
+    left_to_others (said u) i (located_at (said u) i (statement_of x)) at.next c.loop-index.invariant
+    (sym c.if-is_compressed.false ∙ c.is_compressed.ensures ∙ compressed_as u i x p e c.rvc-compressed.result at there on)
 
 pub returns : goal.returns
 returns c =
     let u = c.args.unit.now in
     let i = c.loop-index.index in
     let past = subst (λ l. length l ≤ i) c.statements-statements.ensures c.loop-index-test.false in
-    none_decides (said u) i (options_of c.loop-index.choices) (stated_none (said u) i (subst (λ n. n ≤ i) (sym (length-map u.statements.items statement_of)) past)) c.loop-index.invariant
+    none_decides (said u) i (stated_none (said u) i (subst (λ n. n ≤ i) (sym (length-map u.statements.items statement_of)) past)) c.loop-index.invariant

@@ -1,8 +1,7 @@
 use Rattle.rv_unit.specs.Unit.{said}
-use Rattle.rv_chain.specs.Choices.{options_of}
 use Rattle.rv_chain.proofs.FirstCode.{Decides}
 use Rattle.rv_chain.proofs.compressed.has_compressed.Given as goal
 
 -- the statements that are left decide
 abbrev pub invariant-loop-index : goal.invariant-loop-index
-invariant-loop-index l = Decides (said l.unit) l.index (options_of l.choices)
+invariant-loop-index l = Decides (said l.unit) l.index

@@ -2,7 +2,7 @@ use Rattle.std.proofs.Common.{◌≡◌, ◌≤◌, ◌^◌, ℕ, length, None}
 use Rattle.std.specs.Prelude.{slice_index}
 use Rattle.rv_unit_laws.specs.Faults.{first_fault}
 use Rattle.rv_unit_laws.specs.Tables.{tables}
-use Rattle.rv_chain_laws.specs.Refusals.{size_fault}
+use Rattle.rv_chain_laws.specs.Refusals.{code_fault, size_fault}
 use Rattle.rv_chain.proofs.Rooms.{HasRoomLeft}
 use Rattle.rv_unit.specs.Unit.{said, IsScope}
 use Rattle.rv_chain.proofs.SoFarItems.{AreItemsSoFar}
@@ -18,6 +18,6 @@ invariant-loop-index l = record {
   sized : AreSizedSoFar (tables (said l.unit)) (said l.unit) l.index l.items.items;
   sections : length l.ends.items ≡ length l.unit.tables.extents.items;
   count : length l.items.items ≡ l.index;
-  room : first_fault (said l.unit) ≡ None → size_fault (said l.unit) ≡ None → HasRoomLeft (said l.unit) l.index (λ j. slice_index l.ends.items j);
+  room : first_fault (said l.unit) ≡ None → code_fault (said l.unit) ≡ None → size_fault (said l.unit) ≡ None → HasRoomLeft (said l.unit) l.index (λ j. slice_index l.ends.items j);
   low : (j : ℕ) → slice_index l.ends.items j ≤ 2 ^ 28;
 }

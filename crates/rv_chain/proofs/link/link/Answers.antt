@@ -1,8 +1,6 @@
 use Rattle.std.proofs.Common.{map, ap, ◌∙◌}
 use Rattle.rv_unit.specs.Unit.{said}
 use Rattle.rv_map.specs.Map.{global_of, map_of as shown_map}
-use Rattle.rv_source_laws.specs.Options.{has_compressed}
-use Rattle.rv_chain.proofs.FirstCode.{one_source}
 use Rattle.rv_chain.proofs.Linking.{made, figures_count}
 use Rattle.rv_chain.proofs.link.link.Goals as goal
 
@@ -22,8 +20,8 @@ invariant_of-result c =
     (map global_of c.in_ok-names.names.items) (map global_of c.as_slice.result.now)
     c.in_ok-texts.texts.items c.as_slice-texts.result.now c.in_ok-figures.figures.items c.as_slice-figures.result.now
     c.as_slice-starts.result.now c.as_slice-items.result.now c.in_ok-rows.rows.items
-    c.in_ok-text.text.items c.in_ok-rodata.rodata.items c.in_ok-variables.variables.items (shown_map c.map_with.result) c.in_ok-rvc.rvc
-    c.requires.filled c.requires.good c.requires.page c.in_ok-placed.ensures.stands c.in_ok-texts.ensures.coded c.in_ok-texts.ensures.code.2 c.in_ok-texts.ensures.count
+    c.in_ok-text.text.items c.in_ok-rodata.rodata.items c.in_ok-variables.variables.items (shown_map c.map_with.result) c.has_compressed-rvc.result
+    c.requires.filled c.requires.good c.in_ok-texts.ensures.code.0 c.requires.page c.in_ok-placed.ensures.stands c.in_ok-texts.ensures.coded c.in_ok-texts.ensures.code.2 c.in_ok-texts.ensures.count
     c.as_slice-starts.ensures.value c.as_slice-items.ensures.value c.as_slice-texts.ensures.value c.as_slice-figures.ensures.value (ap (λ l. map global_of l) c.as_slice.ensures.value)
     c.in_ok-names.ensures (c.in-Some.ensures.global c.requires.filled) c.in-Some.ensures.start c.in-Some.ensures.even
     c.in_ok-figures.ensures c.in_ok-rows.ensures c.in_ok-text.ensures c.in_ok-rodata.ensures c.in_ok-variables.ensures c.map_with.ensures in
@@ -46,12 +44,9 @@ returns-clause-linked c =
     (map global_of c.in_ok-names.names.items) (map global_of c.as_slice.result.now)
     c.in_ok-texts.texts.items c.as_slice-texts.result.now c.in_ok-figures.figures.items c.as_slice-figures.result.now
     c.as_slice-starts.result.now c.as_slice-items.result.now c.in_ok-rows.rows.items
-    c.in_ok-text.text.items c.in_ok-rodata.rodata.items c.in_ok-variables.variables.items (shown_map c.map_with.result) c.in_ok-rvc.rvc
-    c.requires.filled c.requires.good c.requires.page c.in_ok-placed.ensures.stands c.in_ok-texts.ensures.coded c.in_ok-texts.ensures.code.2 c.in_ok-texts.ensures.count
+    c.in_ok-text.text.items c.in_ok-rodata.rodata.items c.in_ok-variables.variables.items (shown_map c.map_with.result) c.has_compressed-rvc.result
+    c.requires.filled c.requires.good c.in_ok-texts.ensures.code.0 c.requires.page c.in_ok-placed.ensures.stands c.in_ok-texts.ensures.coded c.in_ok-texts.ensures.code.2 c.in_ok-texts.ensures.count
     c.as_slice-starts.ensures.value c.as_slice-items.ensures.value c.as_slice-texts.ensures.value c.as_slice-figures.ensures.value (ap (λ l. map global_of l) c.as_slice.ensures.value)
     c.in_ok-names.ensures (c.in-Some.ensures.global c.requires.filled) c.in-Some.ensures.start c.in-Some.ensures.even
     c.in_ok-figures.ensures c.in_ok-rows.ensures c.in_ok-text.ensures c.in_ok-rodata.ensures c.in_ok-variables.ensures c.map_with.ensures in
     w.linked
-
-pub returns-clause-flag : goal.returns-clause-flag
-returns-clause-flag c = c.in_ok-rvc.ensures ∙ one_source (has_compressed (said c.args.unit.now))

@@ -1,0 +1,25 @@
+-- Which statements are compressed code, and whether sources have any (RISC-V ELF psABI, "File Header").
+
+use Rattle.std.specs.Prelude.{Bool, true, false, ◌&&◌, List}
+use Rattle.std.specs.List.{list_any}
+use Rattle.rv_statement.specs.Statement.{StatementKind, Instruction, Directs, Statement}
+use Rattle.rv_unit_laws.specs.Contributions.{Contribution, Alignment, contribution}
+use Rattle.rv_source_laws.specs.Located.{Located, located}
+
+abbrev pub is_alignment : Contribution → Bool
+is_alignment (Alignment form number) = true
+is_alignment _ = false
+
+-- an instruction, or an alignment in a section of code, whatever its padding
+abbrev pub is_code : Bool → StatementKind → Bool
+is_code executable (Instruction mnemonic operands) = true
+is_code executable (Directs directive) = executable && is_alignment (contribution directive)
+is_code executable _ = false
+
+-- a statement is code where instructions may be compressed
+abbrev pub is_compressed_code : Located → Bool
+is_compressed_code s = s.options.rvc && is_code s.home.executable s.kind
+
+-- whether a program of these sources is flagged as compressed code: one of their statements is such code
+abbrev pub is_compressed : List (List Statement) → Bool
+is_compressed sources = list_any is_compressed_code (located sources)
