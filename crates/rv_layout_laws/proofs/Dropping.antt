@@ -1,13 +1,12 @@
 -- What sites drop: never more than there is, and with smaller sizes more, by even numbers at offsets that no site holds.
 
-use Rattle.std.proofs.Common.{◌≡◌, ◌⊎◌, inl, inr, ⊎_elim, ℕ, zero, suc, ◌+◌, ◌-◌, ◌*◌, ◌/◌, ◌%◌, ◌≤◌, ◌<◌, min, max, List, [], ◌∷◌, length, slice_index, ℤ, pos, ◌+ℤ◌, ◌-ℤ◌, refl, arith}
+use Rattle.std.proofs.Common.{◌≡◌, ◌⊎◌, inl, inr, ℕ, zero, suc, ◌+◌, ◌-◌, ◌*◌, ◌/◌, ◌%◌, ◌≤◌, min, max, List, [], ◌∷◌, length, slice_index, pos, ◌-ℤ◌, refl, arith}
 use Rattle.std.proofs.lemmas.Int.{ints}
 use Rattle.std.proofs.lemmas.Bool.{cases_lt}
 use Rattle.rv_layout_laws.specs.declared.site.Site.{Site}
-use Rattle.rv_layout_laws.specs.declared.site.SiteKind.{SiteKind}
-use Rattle.rv_layout_laws.specs.Offsets.{AtMost}
+use Rattle.rv_layout_laws.specs.Offsets.{GrowsEvenly, AtMost}
 use Rattle.rv_layout_laws.specs.Calls.{bytes_of, site_at, dropped_of, dropped, new_offset, InOrder}
-use Rattle.rv_layout_laws.proofs.Reaching.{GrowsEvenly, Nearer, Ahead, Behind}
+use Rattle.rv_layout_laws.proofs.Reaching.{Nearer, Ahead, Behind}
 
 -- ---- numbers: a site of n bytes from o on keeps s, or l
 
@@ -29,7 +28,7 @@ fits_from sites [] base a b order le = omega arith
 fits_from [] (k ∷ kept) base a b order le = omega arith
 fits_from (site ∷ sites) (k ∷ kept) base a b order le =
     let rest : dropped sites kept b ≤ dropped sites kept a + (b - max a (site.offset + bytes_of site.kind)) =
-      fits_from sites kept (site.offset + bytes_of site.kind) a b order.1 le in
+    fits_from sites kept (site.offset + bytes_of site.kind) a b order.1 le in
     span_within site.offset (bytes_of site.kind) k a b base order.0 le (dropped sites kept b) (dropped sites kept a) (site.offset + bytes_of site.kind) refl rest
 
 none_before : (sites : List Site) (kept : List ℕ) → dropped sites kept 0 ≡ 0
@@ -57,9 +56,9 @@ dropped_spans sites (s ∷ small) [] a b same most whole le = absurd (omega arit
 dropped_spans [] (s ∷ small) (l ∷ large) a b same most whole le = omega arith
 dropped_spans (site ∷ sites) (s ∷ small) (l ∷ large) a b same most whole le =
     let one : dropped_of site s a + dropped_of site l b ≤ dropped_of site s b + dropped_of site l a =
-      spans site.offset (bytes_of site.kind) s l a b (most zero) (whole zero) le in
+    spans site.offset (bytes_of site.kind) s l a b (most zero) (whole zero) le in
     let rest : dropped sites small a + dropped sites large b ≤ dropped sites small b + dropped sites large a =
-      dropped_spans sites small large a b (omega arith) (λ i. most (suc i)) (λ i. whole (suc i)) le in
+    dropped_spans sites small large a b (omega arith) (λ i. most (suc i)) (λ i. whole (suc i)) le in
     omega arith
 
 -- at an offset a site drops an even number of bytes more
@@ -84,8 +83,8 @@ pub drops_outside : (site : Site) (s l old : ℕ) → GrowsEvenly s l → l ≤ 
 drops_outside site s l old grows le h =
     let even : l ≡ s + 2 * grows.0 = grows.1 in
     elim h [
-    | inl before ↦ (0, omega arith)
-    | inr after ↦ (grows.0, omega arith)
+      | inl before ↦ (0, omega arith)
+      | inr after ↦ (grows.0, omega arith)
     ]
 
 pub drops_same : (site : Site) (s l old : ℕ) → s ≡ l → DropsEvenly site s l old
@@ -108,14 +107,14 @@ offsets_nearer sites small large order same most whole from to f t =
     let more_from : dropped sites small from ≡ dropped sites large from + 2 * f.0 = f.1 in
     let more_to : dropped sites small to ≡ dropped sites large to + 2 * t.0 = t.1 in
     elim (cases_lt to from) [
-    | inl behind ↦
-      let span : dropped sites small to + dropped sites large from ≤ dropped sites small from + dropped sites large to =
-        dropped_spans sites small large to from same most whole (omega arith) in
-      let fits : dropped sites small from ≤ dropped sites small to + (from - to) = dropped_fits sites small to from order (omega arith) in
-      Behind (f.0 - t.0) (omega (arith, ints)) (omega (arith, ints))
-    | inr ahead ↦
-      let span : dropped sites small from + dropped sites large to ≤ dropped sites small to + dropped sites large from =
-        dropped_spans sites small large from to same most whole ahead in
-      let fits : dropped sites small to ≤ dropped sites small from + (to - from) = dropped_fits sites small from to order ahead in
-      Ahead (t.0 - f.0) (omega (arith, ints)) (omega (arith, ints))
+      | inl behind ↦
+          let span : dropped sites small to + dropped sites large from ≤ dropped sites small from + dropped sites large to =
+          dropped_spans sites small large to from same most whole (omega arith) in
+          let fits : dropped sites small from ≤ dropped sites small to + (from - to) = dropped_fits sites small to from order (omega arith) in
+          Behind (f.0 - t.0) (omega (arith, ints)) (omega (arith, ints))
+      | inr ahead ↦
+          let span : dropped sites small from + dropped sites large to ≤ dropped sites small to + dropped sites large from =
+          dropped_spans sites small large from to same most whole ahead in
+          let fits : dropped sites small to ≤ dropped sites small from + (to - from) = dropped_fits sites small from to order ahead in
+          Ahead (t.0 - f.0) (omega (arith, ints)) (omega (arith, ints))
     ]

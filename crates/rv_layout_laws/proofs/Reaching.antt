@@ -1,32 +1,25 @@
 -- Distances grow with sizes, and a form that reaches far reaches near.
 
-use Rattle.std.proofs.Common.{Bool, true, false, ◌&&◌, ◌==◌, int_le, int_lt, refl, ◌-◌, ◌≡◌, ℕ, zero, suc, ◌+◌, ◌*◌, ◌%◌, ◌≤◌, ◌<◌, ◌⊎◌, inl, inr, List, take, length, slice_index, sum, sum_by, ℤ, pos, negsuc, ◌+ℤ◌, ◌-ℤ◌, neg_ℤ, ◌≤ℤ◌, ◌<ℤ◌, unsigned_abs, arith, ap, ◌∙◌, get_or}
+use Rattle.std.proofs.Common.{Bool, true, ◌&&◌, ◌==◌, int_le, int_lt, refl, ◌-◌, ◌≡◌, ℕ, zero, suc, ◌+◌, ◌*◌, ◌%◌, ◌≤◌, inl, inr, List, take, length, slice_index, sum, ℤ, pos, negsuc, ◌+ℤ◌, neg_ℤ, ◌≤ℤ◌, ◌<ℤ◌, unsigned_abs, arith, ap, ◌∙◌}
 use Rattle.std.proofs.lemmas.Int.{ints}
 use Rattle.std.proofs.lemmas.List.{take_all, get_or_past}
 use Rattle.std.proofs.lemmas.List.Sums.{sum_by_more}
 use Rattle.std.proofs.lemmas.Bool.{cases_lt, and_parts, and_from}
-use Rattle.rv_layout_laws.specs.Offsets.{offset, distance, IsEven, IsImmediate, Reaches}
+use Rattle.rv_layout_laws.specs.Offsets.{offset, distance, GrowsEvenly, AllGrowEvenly, IsEven, IsImmediate, Reaches}
 
 -- one part more
 pub offset_more : (sizes : List ℕ) (i : ℕ) → offset sizes (i + 1) ≡ offset sizes i + slice_index sizes i
 offset_more sizes i =
     elim (cases_lt i (length sizes)) [
-    | inl within ↦ sum_by_more (λ x. x) sizes i 0 within
-    | inr past ↦
-      let whole : take i sizes ≡ sizes = take_all i sizes past in
-      let same : take (i + 1) sizes ≡ sizes = take_all (i + 1) sizes (omega arith) in
-      let none : slice_index sizes i ≡ 0 = get_or_past sizes i 0 past in
-      let left : offset sizes (i + 1) ≡ sum sizes = ap sum same in
-      let right : offset sizes i ≡ sum sizes = ap sum whole in
-      omega arith
+      | inl within ↦ sum_by_more (λ x. x) sizes i 0 within
+      | inr past ↦
+          let whole : take i sizes ≡ sizes = take_all i sizes past in
+          let same : take (i + 1) sizes ≡ sizes = take_all (i + 1) sizes (omega arith) in
+          let none : slice_index sizes i ≡ 0 = get_or_past sizes i 0 past in
+          let left : offset sizes (i + 1) ≡ sum sizes = ap sum same in
+          let right : offset sizes i ≡ sum sizes = ap sum whole in
+          omega arith
     ]
-
--- the same sizes, but for an even number of bytes more
-abbrev pub GrowsEvenly : ℕ → ℕ → Type 0
-GrowsEvenly small large = (m : ℕ) × (large ≡ small + 2 * m)
-
-abbrev pub AllGrow : List ℕ → List ℕ → Type 0
-AllGrow small large = (i : ℕ) → GrowsEvenly (slice_index small i) (slice_index large i)
 
 -- what lies between two parts grows, and by an even number
 pub record Between (small large : List ℕ) (i j : ℕ) : Type 0 where
@@ -34,7 +27,7 @@ pub record Between (small large : List ℕ) (i j : ℕ) : Type 0 where
   pub grows : offset large j + offset small i ≡ offset small j + offset large i + 2 * more
   pub ordered : offset small i ≤ offset small j
 
-between_by : (small large : List ℕ) → AllGrow small large → (i n j : ℕ) → j ≡ i + n → Between small large i j
+between_by : (small large : List ℕ) → AllGrowEvenly small large → (i n j : ℕ) → j ≡ i + n → Between small large i j
 between_by small large grows i zero j e =
     let same : j ≡ i = omega arith in
     let s : offset small j ≡ offset small i = ap (offset small) same in
@@ -51,7 +44,7 @@ between_by small large grows i (suc n) j e =
     let up : offset small i ≤ offset small (i + n) = before.ordered in
     record { more = before.more + one.0; grows = omega arith; ordered = omega arith }
 
-pub between : (small large : List ℕ) → AllGrow small large → (i j : ℕ) → i ≤ j → Between small large i j
+pub between : (small large : List ℕ) → AllGrowEvenly small large → (i j : ℕ) → i ≤ j → Between small large i j
 between small large grows i j le = between_by small large grows i (j - i) j (omega arith)
 
 -- on the same side, no farther away, and by an even number
@@ -59,19 +52,19 @@ pub data Nearer (near far : ℤ) : Type 0 where
   Ahead : (m : ℕ) → pos 0 ≤ℤ near → far ≡ near +ℤ pos (2 * m) → Nearer near far
   Behind : (m : ℕ) → near ≤ℤ pos 0 → near ≡ far +ℤ pos (2 * m) → Nearer near far
 
-pub distance_nearer : (small large : List ℕ) → AllGrow small large → (i j : ℕ) → Nearer (distance small i j) (distance large i j)
+pub distance_nearer : (small large : List ℕ) → AllGrowEvenly small large → (i j : ℕ) → Nearer (distance small i j) (distance large i j)
 distance_nearer small large grows i j =
     elim (cases_lt j i) [
-    | inl behind ↦
-      let b : Between small large j i = between small large grows j i (omega arith) in
-      let told : offset large i + offset small j ≡ offset small i + offset large j + 2 * b.more = b.grows in
-      let up : offset small j ≤ offset small i = b.ordered in
-      Behind b.more (omega (arith, ints)) (omega (arith, ints))
-    | inr ahead ↦
-      let b : Between small large i j = between small large grows i j ahead in
-      let told : offset large j + offset small i ≡ offset small j + offset large i + 2 * b.more = b.grows in
-      let up : offset small i ≤ offset small j = b.ordered in
-      Ahead b.more (omega (arith, ints)) (omega (arith, ints))
+      | inl behind ↦
+          let b : Between small large j i = between small large grows j i (omega arith) in
+          let told : offset large i + offset small j ≡ offset small i + offset large j + 2 * b.more = b.grows in
+          let up : offset small j ≤ offset small i = b.ordered in
+          Behind b.more (omega (arith, ints)) (omega (arith, ints))
+      | inr ahead ↦
+          let b : Between small large i j = between small large grows i j ahead in
+          let told : offset large j + offset small i ≡ offset small j + offset large i + 2 * b.more = b.grows in
+          let up : offset small i ≤ offset small j = b.ordered in
+          Ahead b.more (omega (arith, ints)) (omega (arith, ints))
     ]
 
 even_below : (small large : ℤ) (m : ℕ) → large ≡ small +ℤ pos (2 * m) → IsEven large → IsEven small

@@ -1,7 +1,7 @@
 -- The sizes of branches: the least family in which each form below a statement's largest reaches (GNU as,
 -- "RISC-V-Directives"; ISA manual, "Conditional Branches").
 
-use Rattle.std.specs.Prelude.{◌≡◌, ◌≢◌, ◌⊎◌, ℕ, zero, suc, ◌+◌, ◌*◌, ◌^◌, ◌≤◌, ◌<◌, ◌==◌, Bool, true, false, List, [], ◌∷◌, length, set, map, slice_index, slice_index_or, count_by, ℤ, pos, if◌then◌else◌}
+use Rattle.std.specs.Prelude.{◌≡◌, ◌⊎◌, ℕ, suc, ◌^◌, ◌≤◌, ◌<◌, ◌==◌, Bool, true, false, List, [], ◌∷◌, length, set, map, slice_index, slice_index_or, count_by, ℤ, pos, if◌then◌else◌}
 use Rattle.rv_layout_laws.specs.declared.item.Forms.{Forms}
 use Rattle.rv_layout_laws.specs.declared.item.Forms.TheVariants.{Settled, CompressedBranch, Branch, CompressedJump}
 use Rattle.rv_layout_laws.specs.declared.item.Item.{Item}
@@ -79,7 +79,17 @@ pub record MayWiden (items : List Item) (sizes : List ℕ) (i wider : ℕ) : Typ
   pub offered : Offers (item_at items i).forms wider
   pub short : (size : ℕ) → Offers (item_at items i).forms size → slice_index sizes i ≤ size → size < wider → ReachesBy items sizes i size → ⊥
 
--- sizes that come from the smallest by so many widenings, one after the other, in any order
-pub data Widened (items : List Item) : List ℕ → ℕ → Type 0 where
-  Smallest : Widened items (map (λ item. smallest item.forms) items) 0
-  Widens : (sizes : List ℕ) (n i wider : ℕ) → Widened items sizes n → MayWiden items sizes i wider → Widened items (set sizes i wider) (suc n)
+-- sizes that come from others by so many widenings, one after the other, in any order
+pub data Widenings (items : List Item) (from : List ℕ) : List ℕ → ℕ → Type 0 where
+  Unchanged : Widenings items from from 0
+  Widens : (sizes : List ℕ) (n i wider : ℕ) → Widenings items from sizes n → MayWiden items sizes i wider
+      → Widenings items from (set sizes i wider) (suc n)
+
+-- and by so many rounds, each of one widening or more
+pub data Rounds (items : List Item) (from : List ℕ) : List ℕ → ℕ → Type 0 where
+  Begins : Rounds items from from 0
+  Widens_some : (old new : List ℕ) (r n : ℕ) → Rounds items from old r → Widenings items old new n → 0 < n
+      → Rounds items from new (suc r)
+
+abbrev pub smallest_sizes : List Item → List ℕ
+smallest_sizes items = map (λ item. smallest item.forms) items

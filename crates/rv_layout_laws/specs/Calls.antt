@@ -1,7 +1,7 @@
 -- The sizes of calls after relaxation: the greatest family in which no call has a shorter form that reaches
 -- (psABI, "Linker Relaxation": function call relaxation, alignment relaxation).
 
-use Rattle.std.specs.Prelude.{◌≡◌, ◌⊎◌, ℕ, zero, suc, ◌+◌, ◌-◌, ◌%◌, ◌^◌, ◌≤◌, ◌<◌, ◌==◌, min, Bool, true, false, IsTrue, List, [], ◌∷◌, length, set, map, slice_index, slice_index_or, count_by, ⊤, ℤ, pos, ◌-ℤ◌, if◌then◌else◌}
+use Rattle.std.specs.Prelude.{◌≡◌, ◌⊎◌, ℕ, suc, ◌+◌, ◌-◌, ◌^◌, ◌≤◌, ◌<◌, ◌==◌, min, Bool, true, false, IsTrue, List, [], ◌∷◌, length, set, map, slice_index, slice_index_or, count_by, ⊤, pos, ◌-ℤ◌, if◌then◌else◌}
 use Rattle.rv_layout_laws.specs.declared.site.Site.{Site}
 use Rattle.rv_layout_laws.specs.declared.site.SiteKind.{SiteKind}
 use Rattle.rv_layout_laws.specs.declared.site.SiteKind.TheVariants.{Call, Padding}
@@ -73,10 +73,20 @@ pub record IsGreatestClosed (sites : List Site) (kept : List ℕ) : Type 0 where
 abbrev pub calls : List Site → ℕ
 calls sites = count_by (λ site. is_call site.kind) sites
 
--- sizes that come from the whole sites by so many shortenings, one after the other, in any order
-pub data Shortened (sites : List Site) : List ℕ → ℕ → Type 0 where
-  Whole : Shortened sites (map (λ site. bytes_of site.kind) sites) 0
-  Shortens : (kept : List ℕ) (n i shorter : ℕ) → Shortened sites kept n → MayShorten sites kept i shorter → Shortened sites (set kept i shorter) (suc n)
+-- sizes that come from others by so many shortenings, one after the other, in any order
+pub data Shortenings (sites : List Site) (from : List ℕ) : List ℕ → ℕ → Type 0 where
+  Unchanged : Shortenings sites from from 0
+  Shortens : (kept : List ℕ) (n i shorter : ℕ) → Shortenings sites from kept n → MayShorten sites kept i shorter
+      → Shortenings sites from (set kept i shorter) (suc n)
+
+-- and by so many rounds, each of one shortening or more
+pub data Rounds (sites : List Site) (from : List ℕ) : List ℕ → ℕ → Type 0 where
+  Begins : Rounds sites from from 0
+  Shortens_some : (old new : List ℕ) (r n : ℕ) → Rounds sites from old r → Shortenings sites old new n → 0 < n
+      → Rounds sites from new (suc r)
+
+abbrev pub whole_sizes : List Site → List ℕ
+whole_sizes sites = map (λ site. bytes_of site.kind) sites
 
 -- the sites stand in order, none before the end of the one before
 abbrev pub InOrder : ℕ → List Site → Type 0
