@@ -48,13 +48,13 @@ largest_greatest Branch size h = ⊎_elim (λ a. omega arith) (λ b. omega arith
 largest_greatest CompressedJump size h = ⊎_elim (λ a. omega arith) (λ b. omega arith) h
 
 -- below the largest, twice the size is the next
-doubled : (forms : Forms) (size : ℕ) → Offers forms size → size < largest forms → Offers forms (2 * size)
+pub doubled : (forms : Forms) (size : ℕ) → Offers forms size → size < largest forms → Offers forms (2 * size)
 doubled (Settled bytes) size h lt = absurd (omega arith)
 doubled CompressedBranch size h lt = ⊎_elim (λ a. inr (inl (omega arith))) (λ b. ⊎_elim (λ c. inr (inr (omega arith))) (λ d. absurd (omega arith)) b) h
 doubled Branch size h lt = ⊎_elim (λ a. inr (omega arith)) (λ b. absurd (omega arith)) h
 doubled CompressedJump size h lt = ⊎_elim (λ a. inr (omega arith)) (λ b. absurd (omega arith)) h
 
-none_between : (forms : Forms) (size other : ℕ) → Offers forms size → Offers forms other → size ≤ other → other < 2 * size → other ≡ size
+pub none_between : (forms : Forms) (size other : ℕ) → Offers forms size → Offers forms other → size ≤ other → other < 2 * size → other ≡ size
 none_between (Settled bytes) size other h o le lt = omega arith
 none_between CompressedBranch size other h o le lt =
     ⊎_elim (λ a. ⊎_elim (λ x. omega arith) (λ y. ⊎_elim (λ x. omega arith) (λ z. omega arith) y) o)
@@ -66,7 +66,7 @@ none_between Branch size other h o le lt =
 none_between CompressedJump size other h o le lt =
     ⊎_elim (λ a. ⊎_elim (λ x. omega arith) (λ y. omega arith) o) (λ b. ⊎_elim (λ x. omega arith) (λ y. omega arith) o) h
 
-offered_positive : (forms : Forms) (size : ℕ) → Offers forms size → size < largest forms → 0 < size
+pub offered_positive : (forms : Forms) (size : ℕ) → Offers forms size → size < largest forms → 0 < size
 offered_positive (Settled bytes) size h lt = absurd (omega arith)
 offered_positive CompressedBranch size h lt = ⊎_elim (λ a. omega arith) (λ b. ⊎_elim (λ c. omega arith) (λ d. omega arith) b) h
 offered_positive Branch size h lt = ⊎_elim (λ a. omega arith) (λ b. omega arith) h

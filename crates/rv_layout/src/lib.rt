@@ -1,0 +1,5 @@
+//! The sizes of branches.
+#![tactic(auto)]
+
+mod passes;
+mod reach;
