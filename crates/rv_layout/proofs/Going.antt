@@ -1,12 +1,13 @@
 -- What a pass has done so far, and what it has done in all.
 
-use Rattle.std.proofs.Common.{◌≡◌, ◌⊎◌, inl, inr, ℕ, zero, suc, ◌+◌, ◌-◌, ◌*◌, ◌^◌, ◌≤◌, ◌<◌, Bool, true, false, List, [], ◌∷◌, sum, length, set, take, drop, slice_index, refl, ap, subst, sym, ◌∙◌, arith}
+use Rattle.std.proofs.Common.{◌≡◌, ◌⊎◌, inl, inr, ℕ, suc, ◌+◌, ◌-◌, ◌*◌, ◌≤◌, ◌<◌, Bool, true, false, List, [], ◌∷◌, sum, length, set, slice_index, refl, ap, subst, sym, ◌∙◌, arith}
 use Rattle.std.proofs.lemmas.Bool.{cases_lt, cases_eq}
-use Rattle.std.proofs.lemmas.List.{length-set, set-get_or, get_or-set_same, get_or-set_other, get_or_past, drop_all}
+use Rattle.std.proofs.lemmas.List.{set-get_or, get_or-set_same, get_or-set_other, get_or_past, drop_all}
 use Rattle.rv_layout_laws.specs.declared.item.Item.{Item}
-use Rattle.rv_layout_laws.specs.Branches.{item_at, largest, of_section, IsFamily, IsGood, MayWiden, Widenings, Unchanged, Widens, branches, Rounds, Begins, Widens_some, smallest_sizes, IsLeastGood}
-use Rattle.rv_layout_laws.proofs.Widening.{widened_family, widened_least, smallest_family, rounds_widen, rounds_end}
-use Rattle.rv_layout.specs.Passes.{IsInput, rest, around, IsTable, AreRests, Stays, IsVisit}
+use Rattle.rv_layout_laws.specs.Branches.{item_at, is_branch, largest, of_section, IsFamily, IsGood, Widenings, Unchanged, Widens, branches, Rounds, Widens_some, smallest_sizes, IsLeastGood}
+use Rattle.rv_layout_laws.proofs.Widening.{widened_least, rounds_widen, rounds_end, widenings_joined}
+use Rattle.std.proofs.lemmas.List.Sums.{count_by-le-length}
+use Rattle.rv_layout.specs.Passes.{IsInput, rest, around, AreRests, Stays, IsVisit}
 use Rattle.rv_layout.proofs.Places.{own_size, rest_more, backward_ends}
 
 -- so many widenings, and where there were none, each statement from low on and below high stays
@@ -31,18 +32,21 @@ goes_kept items old now new n i low high low' high' true goes visit e either = a
 goes_kept items old now new n i low high low' high' false goes visit e either =
     let kept : Goes items old now n low' high' = record {
       widenings = goes.widenings;
-      settled = λ e. let before = goes.settled e in (before.0, λ j a b. elim (either j a b) [
-        | inl earlier ↦ before.1 j earlier.0 earlier.1
-        | inr here ↦ subst (Stays items now) (sym here) visit.1
-        ]);
+      settled = λ e. let before = goes.settled e in (
+        before.0,
+        λ j a b. elim (either j a b) [
+          | inl earlier ↦ before.1 j earlier.0 earlier.1
+          | inr here ↦ subst (Stays items now) (sym here) visit.1
+        ],
+      );
     } in
     subst (λ sizes. Goes items old sizes n low' high') (sym visit.0) kept
 
 pub step_up : (i j : ℕ) → 0 ≤ j → j < i + 1 → ((0 ≤ j) × (j < i)) ⊎ (j ≡ i)
-step_up i j a b = elim (cases_lt j i) [ | inl before ↦ inl (a, before) | inr after ↦ inr (omega arith) ]
+step_up i j a b = elim (cases_lt j i) [ inl before ↦ inl (a, before) | inr after ↦ inr (omega arith) ]
 
 pub step_down : (i high j : ℕ) → 0 < i → i - 1 ≤ j → j < high → ((i ≤ j) × (j < high)) ⊎ (j ≡ i - 1)
-step_down i high j some a b = elim (cases_lt j i) [ | inl before ↦ inr (omega arith) | inr after ↦ inl (after, b) ]
+step_down i high j some a b = elim (cases_lt j i) [ inl before ↦ inr (omega arith) | inr after ↦ inl (after, b) ]
 
 pub good_from : (items : List Item) (sizes : List ℕ) → IsFamily items sizes → ((j : ℕ) → j < length items → Stays items sizes j) → IsGood items sizes
 good_from items sizes f stays = record {
@@ -50,9 +54,9 @@ good_from items sizes f stays = record {
   reaching = λ i lt. elim (cases_lt i (length items)) [
     | inl within ↦ stays i within lt
     | inr past ↦
-      let none : largest (item_at items i).forms ≡ 0 = ap (λ (item : Item). largest item.forms) (get_or_past items i _ past) in
-      absurd (omega arith)
-    ];
+        let none : largest (item_at items i).forms ≡ 0 = ap (λ (item : Item). largest item.forms) (get_or_past items i _ past) in
+        absurd (omega arith)
+  ];
 }
 
 -- ---- the first table
@@ -63,12 +67,12 @@ RestsFrom items i sizes stands = (j : ℕ) → i ≤ j → j < length items → 
 pub rests_step : (items : List Item) (i : ℕ) (sizes stands : List ℕ) (left : ℕ) → i < length stands → RestsFrom items (i + 1) sizes stands → left ≡ rest (around items sizes i) i
     → RestsFrom items i sizes (set stands i left)
 rests_step items i sizes stands left lt rests is j after within = elim (cases_eq j i) [
-    | inl same ↦
+  | inl same ↦
       let read : slice_index (set stands i left) j ≡ left = ap (slice_index (set stands i left)) same ∙ get_or-set_same stands i left 0 lt in
       let there : rest (around items sizes i) i ≡ rest (around items sizes j) j = ap (λ k. rest (around items sizes k) k) (sym same) in
       omega arith
-    | inr other ↦ get_or-set_other stands i j left 0 other ∙ rests j (omega arith) within
-    ]
+  | inr other ↦ get_or-set_other stands i j left 0 other ∙ rests j (omega arith) within
+]
 
 pub own_rest : (items : List Item) (i : ℕ) (sizes ends : List ℕ) → IsInput items (length ends) → i < length items → length sizes ≡ length items → AreRests items (i + 1) sizes ends
     → slice_index ends (item_at items i).section + slice_index sizes i ≡ rest (around items sizes i) i
@@ -93,3 +97,19 @@ section_ends s (item ∷ items) (size ∷ sizes) = let rest : length (of_section
 pub none_left : (items : List Item) (sizes ends : List ℕ) → ((s : ℕ) → slice_index ends s ≡ 0) → AreRests items (length items) sizes ends
 none_left items sizes ends clear s lt =
     clear s ∙ sym (ap sum (drop_all (length items) (of_section s items sizes) (section_ends s items sizes)))
+
+-- ---- rounds
+
+pub round_more : (items : List Item) (old new : List ℕ) (r n : ℕ) → Rounds items (smallest_sizes items) old r → Widenings items old new n → 0 < n → Rounds items (smallest_sizes items) new (r + 1)
+round_more items old new r n rounds more some = subst (Rounds items (smallest_sizes items) new) (omega arith) (Widens_some old new r n rounds more some)
+
+pub settled_least : (items : List Item) (old new : List ℕ) (r n : ℕ) → Rounds items (smallest_sizes items) old r → Widenings items old new n → IsGood items new → IsLeastGood items new
+settled_least items old new r n rounds more good =
+    let found = rounds_widen items (smallest_sizes items) old r rounds in
+    widened_least items new (found.0 + n) (widenings_joined items (smallest_sizes items) old new found.0 n found.1.1 more) good
+
+-- rounds are few
+pub rounds_few : (items : List Item) (sizes : List ℕ) (r : ℕ) → Rounds items (smallest_sizes items) sizes r → (r ≤ 2 * branches items) × (2 * branches items ≤ 2 * length items)
+rounds_few items sizes r rounds =
+    let most : branches items ≤ length items = count_by-le-length (λ (item : Item). is_branch item.forms) items in
+    (rounds_end items sizes r rounds, omega arith)

@@ -1,7 +1,6 @@
 -- What the tables hold while a pass goes over the statements: each statement's start, or what is left from it on.
 
-use Rattle.std.specs.Prelude.{◌≡◌, ◌⊎◌, ◌≢◌, ℕ, ◌+◌, ◌*◌, ◌^◌, ◌≤◌, ◌<◌, Bool, true, false, List, length, drop, set, slice_index, sum, ℤ, pos, ◌-ℤ◌, MatchBool}
-use Rattle.rv_layout_laws.specs.declared.item.Forms.{Forms}
+use Rattle.std.specs.Prelude.{◌≡◌, ◌⊎◌, ℕ, ◌*◌, ◌^◌, ◌≤◌, ◌<◌, Bool, true, List, length, drop, set, slice_index, sum, ℤ, MatchBool}
 use Rattle.rv_layout_laws.specs.declared.item.Item.{Item}
 use Rattle.rv_layout_laws.specs.Offsets.{offset, Reaches}
 use Rattle.rv_layout_laws.specs.Branches.{half, is_branch, item_at, largest, of_section, IsFamily, MayWiden, ReachesBy}
@@ -12,7 +11,7 @@ pub record IsInput (items : List Item) (sections : ℕ) : Type 0 where
   pub of_sections : (i : ℕ) → i < length items → (item_at items i).section < sections
   pub targets : (i : ℕ) → i < length items → (item_at items i).target < length items
   pub same_section : (i : ℕ) → i < length items → is_branch (item_at items i).forms ≡ true
-    → (item_at items (item_at items i).target).section ≡ (item_at items i).section
+      → (item_at items (item_at items i).target).section ≡ (item_at items i).section
 
 -- the bytes from a part on
 abbrev pub rest : List ℕ → ℕ → ℕ

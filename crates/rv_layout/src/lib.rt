@@ -3,3 +3,6 @@
 
 mod passes;
 mod reach;
+mod sizes;
+
+pub use sizes::{BranchSizes, branch_sizes};

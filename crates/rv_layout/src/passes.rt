@@ -5,7 +5,7 @@
 //! forwards sees what the statements before it have become, and one backwards what those after it have.
 
 ghost use Rattle.std.specs.Prelude.{◌≡◌, ℕ, ◌+◌, ◌*◌, ◌^◌, ◌<◌, ◌≤◌, ◌≤ℤ◌, pos, neg_ℤ, ◌-ℤ◌, ltb, length, slice_index, if◌then◌else◌};
-ghost use Rattle.rv_layout_laws.specs.Branches.{IsFamily, IsGood, Offers, Widenings, item_at};
+ghost use Rattle.rv_layout_laws.specs.Branches.{IsFamily, IsGood, IsLeastGood, Widenings, branches, smallest_sizes};
 ghost use Rattle.rv_layout.specs.Passes.{AreRests, AreStarts, IsInput, IsTable, IsVisit};
 
 use crate::reach::judged_size;
@@ -27,11 +27,9 @@ fn distance_forwards(target: usize, i: usize, start: u64, stands: &[u64]) -> i64
     requires start { start ≤ 2 ^ 62 }
     requires own { slice_index stands.now i ≤ 2 ^ 62 }
     requires there { slice_index stands.now target ≤ 2 ^ 62 }
-    ensures value {
-        result
-            ≡ (if ltb target i then pos (slice_index stands.now target) -ℤ pos start
-               else pos (slice_index stands.now i) -ℤ pos (slice_index stands.now target))
-    }
+    ensures value { result
+        ≡ (if ltb target i then pos (slice_index stands.now target) -ℤ pos start
+        else pos (slice_index stands.now i) -ℤ pos (slice_index stands.now target)) }
     ensures low { neg_ℤ (pos (2 ^ 62)) ≤ℤ result }
     ensures high { result ≤ℤ pos (2 ^ 62) }
 {
@@ -48,11 +46,9 @@ fn distance_backwards(target: usize, i: usize, left: u64, stands: &[u64]) -> i64
     requires left { left ≤ 2 ^ 62 }
     requires own { slice_index stands.now i ≤ 2 ^ 62 }
     requires there { slice_index stands.now target ≤ 2 ^ 62 }
-    ensures value {
-        result
-            ≡ (if ltb i target then pos left -ℤ pos (slice_index stands.now target)
-               else pos (slice_index stands.now target) -ℤ pos (slice_index stands.now i))
-    }
+    ensures value { result
+        ≡ (if ltb i target then pos left -ℤ pos (slice_index stands.now target)
+        else pos (slice_index stands.now target) -ℤ pos (slice_index stands.now i)) }
     ensures low { neg_ℤ (pos (2 ^ 62)) ≤ℤ result }
     ensures high { result ≤ℤ pos (2 ^ 62) }
 {
@@ -63,7 +59,13 @@ fn distance_backwards(target: usize, i: usize, left: u64, stands: &[u64]) -> i64
 }
 
 /// Looks at statement `i` in a pass forwards, and tells whether it was widened.
-fn visit_forwards(items: &[Item], i: usize, sizes: &mut [u32], stands: &mut [u64], ends: &mut [u64]) -> bool
+fn visit_forwards(
+    items: &[Item],
+    i: usize,
+    sizes: &mut [u32],
+    stands: &mut [u64],
+    ends: &mut [u64],
+) -> bool
     requires input { IsInput items.now (length ends.old) }
     requires within { i < length items.now }
     requires table { IsTable items.now i sizes.old stands.old }
@@ -76,7 +78,11 @@ fn visit_forwards(items: &[Item], i: usize, sizes: &mut [u32], stands: &mut [u64
     let section = item.section as usize;
     let start = ends[section];
     let size = sizes[i];
-    let wider = judged_size(item, size, distance_forwards(item.target as usize, i, start, stands));
+    let wider = judged_size(
+        item,
+        size,
+        distance_forwards(item.target as usize, i, start, stands),
+    );
     sizes[i] = wider;
     stands[i] = start;
     ends[section] = start + u64::from(wider);
@@ -84,7 +90,13 @@ fn visit_forwards(items: &[Item], i: usize, sizes: &mut [u32], stands: &mut [u64
 }
 
 /// Looks at statement `i` in a pass backwards, and tells whether it was widened.
-fn visit_backwards(items: &[Item], i: usize, sizes: &mut [u32], stands: &mut [u64], ends: &mut [u64]) -> bool
+fn visit_backwards(
+    items: &[Item],
+    i: usize,
+    sizes: &mut [u32],
+    stands: &mut [u64],
+    ends: &mut [u64],
+) -> bool
     requires input { IsInput items.now (length ends.old) }
     requires within { i < length items.now }
     requires table { IsTable items.now (i + 1) sizes.old stands.old }
@@ -98,7 +110,11 @@ fn visit_backwards(items: &[Item], i: usize, sizes: &mut [u32], stands: &mut [u6
     let after = ends[section];
     let size = sizes[i];
     let left = after + u64::from(size);
-    let wider = judged_size(item, size, distance_backwards(item.target as usize, i, left, stands));
+    let wider = judged_size(
+        item,
+        size,
+        distance_backwards(item.target as usize, i, left, stands),
+    );
     sizes[i] = wider;
     stands[i] = after + u64::from(wider);
     ends[section] = after + u64::from(wider);
@@ -167,4 +183,31 @@ fn widen_backwards(items: &[Item], sizes: &mut [u32], stands: &mut [u64], ends: 
         }
     }
     widened
+}
+
+/// Widens in passes, forwards and backwards in turn, until one finds nothing to widen, and tells how many there were.
+pub(crate) fn settle(
+    items: &[Item],
+    sizes: &mut [u32],
+    stands: &mut [u64],
+    ends: &mut [u64],
+) -> usize
+    requires input { IsInput items.now (length ends.old) }
+    requires smallest { sizes.old ≡ smallest_sizes items.now }
+    requires same_length { length stands.old ≡ length items.now }
+    ensures least { IsLeastGood items.now sizes.new }
+    ensures few { result ≤ 2 * branches items.now + 1 }
+{
+    place_from_end(items, sizes, stands, ends);
+    let mut rounds = 0;
+    'rounds: loop {
+        rounds += 1;
+        if widen_forwards(items, sizes, stands, ends) == 0 {
+            return rounds;
+        }
+        rounds += 1;
+        if widen_backwards(items, sizes, stands, ends) == 0 {
+            return rounds;
+        }
+    }
 }

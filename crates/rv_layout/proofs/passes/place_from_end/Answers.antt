@@ -1,7 +1,7 @@
-use Rattle.std.proofs.Common.{◌≡◌, ℕ, ◌+◌, ◌-◌, ◌^◌, ◌<◌, ◌≤◌, length, slice_index, slice_set, List, arith, refl, sym, subst, ap, ◌∙◌}
+use Rattle.std.proofs.Common.{◌≡◌, ℕ, ◌+◌, ◌-◌, ◌<◌, ◌≤◌, length, slice_index, slice_set, arith, sym, subst, ap, ◌∙◌}
 use Rattle.std.proofs.lemmas.List.{length-set}
 use Rattle.rv_layout_laws.specs.Branches.{item_at}
-use Rattle.rv_layout.specs.Passes.{AreRests, IsInput, IsTable, rest, around}
+use Rattle.rv_layout.specs.Passes.{AreRests, IsInput, rest, around}
 use Rattle.rv_layout.proofs.Places.{places_small}
 use Rattle.rv_layout.proofs.Going.{RestsFrom, rests_step, own_rest, ends_step, none_left}
 use Rattle.rv_layout.proofs.passes.place_from_end.Goals as goal
@@ -33,15 +33,15 @@ loop-i-preserved c =
     let now : AreRests c.args.items.now (c.loop-i.i - 1 + 1) c.args.sizes.now c.loop-i.ends = subst (λ i. AreRests c.args.items.now i c.args.sizes.now c.loop-i.ends) (omega arith) c.loop-i.invariant.ends in
     let before : RestsFrom c.args.items.now (c.loop-i.i - 1 + 1) c.args.sizes.now c.loop-i.stands = subst (λ i. RestsFrom c.args.items.now i c.args.sizes.now c.loop-i.stands) (omega arith) c.loop-i.invariant.rests in
     let is : slice_index c.loop-i.ends (item_at c.args.items.now (c.loop-i.i - 1)).section + slice_index c.args.sizes.now (c.loop-i.i - 1) ≡ rest (around c.args.items.now c.args.sizes.now (c.loop-i.i - 1)) (c.loop-i.i - 1) =
-      own_rest c.args.items.now (c.loop-i.i - 1) c.args.sizes.now c.loop-i.ends c.loop-i.invariant.input (omega arith) c.requires.family.same_length now in
+    own_rest c.args.items.now (c.loop-i.i - 1) c.args.sizes.now c.loop-i.ends c.loop-i.invariant.input (omega arith) c.requires.family.same_length now in
     let left : slice_index c.loop-i.ends (item_at c.args.items.now (c.loop-i.i - 1)).section + c.from.result ≡ slice_index c.loop-i.ends (item_at c.args.items.now (c.loop-i.i - 1)).section + slice_index c.args.sizes.now (c.loop-i.i - 1) =
-      ap (λ n. slice_index c.loop-i.ends (item_at c.args.items.now (c.loop-i.i - 1)).section + n) c.from.ensures in
+    ap (λ n. slice_index c.loop-i.ends (item_at c.args.items.now (c.loop-i.i - 1)).section + n) c.from.ensures in
     record {
       within = omega arith;
       same_length = length-set c.loop-i.stands (c.loop-i.i - 1) _ ∙ c.loop-i.invariant.same_length;
       input = subst (IsInput c.args.items.now) (sym (length-set c.loop-i.ends (item_at c.args.items.now (c.loop-i.i - 1)).section _)) c.loop-i.invariant.input;
       rests = rests_step c.args.items.now (c.loop-i.i - 1) c.args.sizes.now c.loop-i.stands (slice_index c.loop-i.ends (item_at c.args.items.now (c.loop-i.i - 1)).section + c.from.result)
-        (let same = c.loop-i.invariant.same_length in omega arith) before (left ∙ is);
+          (let same = c.loop-i.invariant.same_length in omega arith) before (left ∙ is);
       ends = subst (λ n. AreRests c.args.items.now (c.loop-i.i - 1) c.args.sizes.now (slice_set c.loop-i.ends (item_at c.args.items.now (c.loop-i.i - 1)).section n)) (sym left)
-        (ends_step c.args.items.now (c.loop-i.i - 1) c.args.sizes.now c.loop-i.ends (omega arith) c.requires.family.same_length now);
+          (ends_step c.args.items.now (c.loop-i.i - 1) c.args.sizes.now c.loop-i.ends (omega arith) c.requires.family.same_length now);
     }

@@ -1,4 +1,4 @@
-use Rattle.std.proofs.Common.{◌≡◌, ◌<◌, ◌≤◌, length, slice_index, ℕ, ◌^◌}
+use Rattle.std.proofs.Common.{◌≡◌, ◌≤◌, length}
 use Rattle.rv_layout.specs.Passes.{AreRests, IsInput}
 use Rattle.rv_layout.proofs.Going.{RestsFrom}
 use Rattle.rv_layout.proofs.passes.place_from_end.Given as goal
@@ -9,7 +9,7 @@ invariant-loop-i l = record {
   same_length : length l.stands ≡ length l.items;
   input : IsInput l.items (length l.ends);
   rests : RestsFrom l.items l.i l.sizes l.stands;
-  ends : AreRests l.items l.i l.sizes l.ends
+  ends : AreRests l.items l.i l.sizes l.ends;
 }
 
 abbrev pub decreases-loop-i : goal.decreases-loop-i

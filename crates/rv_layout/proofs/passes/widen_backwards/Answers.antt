@@ -1,6 +1,6 @@
-use Rattle.std.proofs.Common.{◌≡◌, ℕ, ◌+◌, ◌-◌, ◌<◌, ◌≤◌, length, Bool, true, false, List, arith, refl, sym, subst, ◌∙◌}
-use Rattle.rv_layout.specs.Passes.{AreRests, IsInput, IsTable, IsVisit}
-use Rattle.rv_layout.proofs.Going.{Goes, goes_begins, goes_widened, goes_kept, step_down, none_left}
+use Rattle.std.proofs.Common.{◌+◌, ◌-◌, ◌<◌, ◌≤◌, length, arith, sym, subst}
+use Rattle.rv_layout.specs.Passes.{IsInput}
+use Rattle.rv_layout.proofs.Going.{goes_begins, goes_widened, goes_kept, step_down, none_left}
 use Rattle.rv_layout.proofs.passes.widen_backwards.Goals as goal
 
 pub loop-i-init : goal.loop-i-init
@@ -20,7 +20,7 @@ loop-i-preserved-then-visit_backwards c = record {
   table = c.visit_backwards.ensures.table;
   rests = c.visit_backwards.ensures.rests;
   goes = goes_widened c.args.items.now c.args.sizes.now c.loop-i.sizes c.visit_backwards.new.sizes c.loop-i.widened (c.loop-i.i - 1) c.loop-i.i (length c.args.items.now) (c.loop-i.i - 1) (length c.args.items.now)
-    c.visit_backwards.result c.loop-i.invariant.goes c.visit_backwards.ensures.visit c.if-visit_backwards.true;
+      c.visit_backwards.result c.loop-i.invariant.goes c.visit_backwards.ensures.visit c.if-visit_backwards.true;
   few = let before : c.loop-i.widened + c.loop-i.i ≤ length c.args.items.now = c.loop-i.invariant.few in let some : 0 < c.loop-i.i = c.loop-i-test.true in omega arith;
 }
 
@@ -31,6 +31,6 @@ loop-i-preserved c = record {
   table = c.visit_backwards.ensures.table;
   rests = c.visit_backwards.ensures.rests;
   goes = goes_kept c.args.items.now c.args.sizes.now c.loop-i.sizes c.visit_backwards.new.sizes c.loop-i.widened (c.loop-i.i - 1) c.loop-i.i (length c.args.items.now) (c.loop-i.i - 1) (length c.args.items.now)
-    c.visit_backwards.result c.loop-i.invariant.goes c.visit_backwards.ensures.visit c.if-visit_backwards.false (λ j. step_down c.loop-i.i (length c.args.items.now) j c.loop-i-test.true);
+      c.visit_backwards.result c.loop-i.invariant.goes c.visit_backwards.ensures.visit c.if-visit_backwards.false (λ j. step_down c.loop-i.i (length c.args.items.now) j c.loop-i-test.true);
   few = let before : c.loop-i.widened + c.loop-i.i ≤ length c.args.items.now = c.loop-i.invariant.few in omega arith;
 }

@@ -1,4 +1,4 @@
-use Rattle.std.proofs.Common.{◌≡◌, ◌<◌, ◌≤◌, ◌+◌, length, ℕ}
+use Rattle.std.proofs.Common.{◌≤◌, ◌+◌, length}
 use Rattle.rv_layout.specs.Passes.{AreRests, IsInput, IsTable}
 use Rattle.rv_layout.proofs.Going.{Goes}
 use Rattle.rv_layout.proofs.passes.widen_backwards.Given as goal
@@ -10,7 +10,7 @@ invariant-loop-i l = record {
   table : IsTable l.items l.i l.sizes l.stands;
   rests : AreRests l.items l.i l.sizes l.ends;
   goes : Goes l.items l.fn.sizes l.sizes l.widened l.i (length l.items);
-  few : l.widened + l.i ≤ length l.items
+  few : l.widened + l.i ≤ length l.items;
 }
 
 abbrev pub decreases-loop-i : goal.decreases-loop-i
