@@ -77,7 +77,7 @@ rests_step items i sizes stands left lt rests is j after within = elim (cases_eq
 pub own_rest : (items : List Item) (i : ℕ) (sizes ends : List ℕ) → IsInput items (length ends) → i < length items → length sizes ≡ length items → AreRests items (i + 1) sizes ends
     → slice_index ends (item_at items i).section + slice_index sizes i ≡ rest (around items sizes i) i
 own_rest items i sizes ends input lt same rests =
-    let is : slice_index ends (item_at items i).section ≡ rest (around items sizes i) (i + 1) = rests (item_at items i).section (input.of_sections i lt) in
+    let is : slice_index ends (item_at items i).section ≡ rest (around items sizes i) (i + 1) = rests (item_at items i).section ((input.within i lt).in_section) in
     let more : rest (around items sizes i) i ≡ slice_index (around items sizes i) i + rest (around items sizes i) (i + 1) = rest_more (around items sizes i) i in
     let own : slice_index (around items sizes i) i ≡ slice_index sizes i = own_size items sizes i lt same in
     omega arith

@@ -196,8 +196,8 @@ pub forward_is : (items : List Item) (sections i : ℕ) (sizes stands : List ℕ
     → away ≡ distance_of items sizes i
 forward_is items sections i sizes stands start input lt table is branch away e =
     let target : ℕ = (item_at items i).target in
-    let same : (item_at items (item_at items i).target).section ≡ (item_at items i).section = input.same_section i lt branch in
-    let there : (item_at items i).target < length items = input.targets i lt in
+    let same : (item_at items (item_at items i).target).section ≡ (item_at items i).section = (input.within i lt).same_section branch in
+    let there : (item_at items i).target < length items = (input.within i lt).has_target in
     elim (cases_lt (item_at items i).target i) [
       | inl behind ↦
           let chosen : (if ltb (item_at items i).target i then pos (slice_index stands (item_at items i).target) -ℤ pos start else pos (slice_index stands i) -ℤ pos (slice_index stands (item_at items i).target))
@@ -224,8 +224,8 @@ pub backward_is : (items : List Item) (sections i : ℕ) (sizes stands : List �
     → away ≡ (if ltb i (item_at items i).target then pos left -ℤ pos (slice_index stands (item_at items i).target) else pos (slice_index stands (item_at items i).target) -ℤ pos (slice_index stands i))
     → away ≡ distance_of items sizes i
 backward_is items sections i sizes stands left input lt table is branch away e =
-    let same : (item_at items (item_at items i).target).section ≡ (item_at items i).section = input.same_section i lt branch in
-    let there : (item_at items i).target < length items = input.targets i lt in
+    let same : (item_at items (item_at items i).target).section ≡ (item_at items i).section = (input.within i lt).same_section branch in
+    let there : (item_at items i).target < length items = (input.within i lt).has_target in
     elim (cases_lt i (item_at items i).target) [
       | inl ahead ↦
           let chosen : (if ltb i (item_at items i).target then pos left -ℤ pos (slice_index stands (item_at items i).target) else pos (slice_index stands (item_at items i).target) -ℤ pos (slice_index stands i))
@@ -317,7 +317,7 @@ visit_told items sizes i f away wider judged is false up down =
 pub start_small : (items : List Item) (sections i : ℕ) (sizes stands ends : List ℕ) → IsInput items sections → sections ≡ length ends → i < length items → IsTable items i sizes stands → AreStarts items i sizes ends
     → (slice_index ends (item_at items i).section ≡ offset (around items sizes i) i) × (slice_index ends (item_at items i).section ≤ 2 ^ 62)
 start_small items sections i sizes stands ends input same lt table starts =
-    let there : (item_at items i).section < sections = input.of_sections i lt in
+    let there : (item_at items i).section < sections = (input.within i lt).in_section in
     let is : slice_index ends (item_at items i).section ≡ offset (around items sizes i) i = starts (item_at items i).section (omega arith) in
     let small : offset (around items sizes i) i ≤ 2 ^ 62 = (places_small items sizes (item_at items i).section i table.family.same_length input.few table.bounded).0 in
     (is, omega arith)
@@ -339,7 +339,7 @@ table_small items sections i sizes stands input table j within =
 pub rests_small : (items : List Item) (sections i : ℕ) (sizes stands ends : List ℕ) → IsInput items sections → sections ≡ length ends → i < length items → IsTable items (i + 1) sizes stands → AreRests items (i + 1) sizes ends
     → (slice_index ends (item_at items i).section ≡ rest (around items sizes i) (i + 1)) × ((rest (around items sizes i) i ≡ slice_index ends (item_at items i).section + slice_index sizes i) × (rest (around items sizes i) i ≤ 2 ^ 62))
 rests_small items sections i sizes stands ends input same lt table rests =
-    let there : (item_at items i).section < sections = input.of_sections i lt in
+    let there : (item_at items i).section < sections = (input.within i lt).in_section in
     let is : slice_index ends (item_at items i).section ≡ rest (around items sizes i) (i + 1) = rests (item_at items i).section (omega arith) in
     let small : rest (around items sizes i) i ≤ 2 ^ 62 = (places_small items sizes (item_at items i).section i table.family.same_length input.few table.bounded).1 in
     let more : rest (around items sizes i) i ≡ slice_index (around items sizes i) i + rest (around items sizes i) (i + 1) = rest_more (around items sizes i) i in

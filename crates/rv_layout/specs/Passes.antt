@@ -5,13 +5,16 @@ use Rattle.rv_layout_laws.specs.declared.item.Item.{Item}
 use Rattle.rv_layout_laws.specs.Offsets.{offset, Reaches}
 use Rattle.rv_layout_laws.specs.Branches.{half, is_branch, item_at, largest, of_section, IsFamily, MayWiden, ReachesBy}
 
--- statements of so many sections, each target in the section of its branch
+-- a statement stands in one of so many sections, and its target is a statement of that section
+pub record IsWithin (items : List Item) (sections : ℕ) (item : Item) : Type 0 where
+  pub in_section : item.section < sections
+  pub has_target : item.target < length items
+  pub same_section : is_branch item.forms ≡ true → (item_at items item.target).section ≡ item.section
+
+-- and so do all of them
 pub record IsInput (items : List Item) (sections : ℕ) : Type 0 where
   pub few : length items < 2 ^ 30
-  pub of_sections : (i : ℕ) → i < length items → (item_at items i).section < sections
-  pub targets : (i : ℕ) → i < length items → (item_at items i).target < length items
-  pub same_section : (i : ℕ) → i < length items → is_branch (item_at items i).forms ≡ true
-      → (item_at items (item_at items i).target).section ≡ (item_at items i).section
+  pub within : (i : ℕ) → i < length items → IsWithin items sections (item_at items i)
 
 -- the bytes from a part on
 abbrev pub rest : List ℕ → ℕ → ℕ

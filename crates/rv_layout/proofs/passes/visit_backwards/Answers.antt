@@ -27,7 +27,7 @@ distance_backwards-requires-clause-own c =
 
 pub distance_backwards-requires-clause-there : goal.distance_backwards-requires-clause-there
 distance_backwards-requires-clause-there c =
-    table_small c.args.items.now (length c.args.ends.now) (c.args.i + 1) c.args.sizes.now c.args.stands.now c.requires.input c.requires.table (item_at c.args.items.now c.args.i).target (c.requires.input.targets c.args.i c.requires.within)
+    table_small c.args.items.now (length c.args.ends.now) (c.args.i + 1) c.args.sizes.now c.args.stands.now c.requires.input c.requires.table (item_at c.args.items.now c.args.i).target (c.requires.input.within c.args.i c.requires.within).has_target
 
 pub overflow_add-stands : goal.overflow_add-stands
 overflow_add-stands c =

@@ -15,7 +15,7 @@ distance_forwards-requires-clause-own c =
 
 pub distance_forwards-requires-clause-there : goal.distance_forwards-requires-clause-there
 distance_forwards-requires-clause-there c =
-    table_small c.args.items.now (length c.args.ends.now) c.args.i c.args.sizes.now c.args.stands.now c.requires.input c.requires.table (item_at c.args.items.now c.args.i).target (c.requires.input.targets c.args.i c.requires.within)
+    table_small c.args.items.now (length c.args.ends.now) c.args.i c.args.sizes.now c.args.stands.now c.requires.input c.requires.table (item_at c.args.items.now c.args.i).target (c.requires.input.within c.args.i c.requires.within).has_target
 
 pub overflow_add-ends : goal.overflow_add-ends
 overflow_add-ends c =
