@@ -1,0 +1,5 @@
+pub mod Reaching
+pub mod Widening
+pub mod Dropping
+pub mod Shortening
+pub mod Regrowing

@@ -1,0 +1,5 @@
+use Rattle.rv_layout_laws.proofs.Widening.{least_good_exists}
+use Rattle.rv_layout_laws.proofs.branches.least_good_exists.Goals as goal
+
+pub returns : goal.returns
+returns c = least_good_exists

@@ -1,0 +1,4 @@
+pub mod Offsets
+pub mod Branches
+pub mod Calls
+pub mod Paddings
