@@ -1,14 +1,13 @@
 #!/usr/bin/env python3
 """Writes the table of fields that GNU's linker patches, as crates/rv_reloc_tests/src/table.rt has it.
 
-usage: relocation_table.py > crates/rv_reloc_tests/src/table.rt
+usage: relocation_table.py > crates/rv_reloc_tests/src/table.rt, and then rt fmt in that crate
 
 It needs riscv64-unknown-elf-as, -ld and -objcopy. Each row is a field at an address of its own, under one `.reloc`
 with a symbol of its own, whose value the linker is told; the source is linked twice without relaxation, once with fields of zeros and once
 with fields of ones.
 """
 
-import os
 import subprocess
 import tempfile
 
@@ -17,13 +16,13 @@ START = 0x10000
 STEP = 32
 MASK = (1 << 64) - 1
 
-# kind, psABI name, bytes, whether the place is taken off, values
 UPPER = [0, 1, -1, 0x7FF, 0x800, -0x800, -0x801, 0x12345678, -0x12345678, 0x7FFFF7FF, -0x80000800]
 CALL = [0, 2, -2, 0x7FE, 0x800, -0x800, -0x802, 0x12345678, -0x12345678, 0x7FFFF7FE, -0x80000800]
 LOWER = [0, 1, -1, 0x7FF, 0x800, 0x801, -0x800, -0x801, 0x12345ABC, -0x12345ABC]
 PAIRED = LOWER + [0x7FFFF7FF, -0x80000800]
 DATA = [0, 1, -1, 0x55, -0x7F, 0x1234, -0x1234, 0x12345678, -0x12345678]
 WIDE = DATA + [0x123456789ABCDEF0, (1 << 63) - 1, -(1 << 63)]
+# kind, psABI name, bytes, whether the place is taken off, values
 KINDS = [
     ("Abs32", "32", 4, False, DATA + [(1 << 32) - 1, (1 << 31) - 1, -(1 << 31)]),
     ("Abs64", "64", 8, False, WIDE),
@@ -65,11 +64,17 @@ def rows():
             place = START + STEP * number
             # a PCREL_LO12 has its PCREL_HI20 eight bytes after its own field
             origin = place + 8 if name.startswith("PCREL_LO12") else place
-            # GNU's linker adds the addend of a SUB where the psABI takes it off, and GNU's assembler writes none there
+            # GNU's linker adds the addend of a SUB where the psABI takes it off; its assembler
+            # writes none there
             addend = 0 if kind.startswith("Sub") else ADDENDS[number % len(ADDENDS)]
             symbol = value - addend + (origin if relative else 0)
             yield kind, name, width, value, symbol & MASK, addend, origin
             number += 1
+
+
+def run(folder, tool, *words):
+    """Runs one of GNU's tools in a folder."""
+    subprocess.run([TOOLS + tool, *words], cwd=folder, check=True)
 
 
 def linked(fill):
@@ -81,21 +86,20 @@ def linked(fill):
         if name.startswith("PCREL_LO12"):
             lines += [f".reloc {STEP * number}, R_RISCV_{name}, high{number}"]
             lines += [f".reloc high{number}, R_RISCV_PCREL_HI20, s{number} + {addend}"]
-            lines += [f".fill {width}, 1, {fill}", f".org {STEP * number + 8}", f"high{number}: .fill 4, 1, 0"]
+            lines += [f".fill {width}, 1, {fill}", f".org {STEP * number + 8}"]
+            lines += [f"high{number}: .fill 4, 1, 0"]
         else:
             lines += [f".reloc {STEP * number}, R_RISCV_{name}, s{number} + {addend}"]
             lines += [f".fill {width}, 1, {fill}"]
     lines += [f".org {STEP * len(list(rows()))}"]
     with tempfile.TemporaryDirectory() as folder:
-        path = lambda name: os.path.join(folder, name)
-        with open(path("fields.s"), "w") as source:
+        with open(f"{folder}/fields.s", "w") as source:
             source.write("\n".join(lines) + "\n")
-        run = lambda tool, *words: subprocess.run([TOOLS + tool, *words], check=True)
-        run("as", "-march=rv64imac", "-o", path("fields.o"), path("fields.s"))
         places = ["-e", "0", f"--section-start=.fields={START:#x}", *defined]
-        run("ld", "--no-relax", *places, "-o", path("fields"), path("fields.o"))
-        run("objcopy", "-O", "binary", "-j", ".fields", path("fields"), path("fields.bin"))
-        with open(path("fields.bin"), "rb") as image:
+        run(folder, "as", "-march=rv64imac", "-o", "fields.o", "fields.s")
+        run(folder, "ld", "--no-relax", *places, "-o", "fields", "fields.o")
+        run(folder, "objcopy", "-O", "binary", "-j", ".fields", "fields", "fields.bin")
+        with open(f"{folder}/fields.bin", "rb") as image:
             return image.read()
 
 
@@ -112,7 +116,8 @@ def main():
     for number, (kind, _, width, value, symbol, addend, place) in enumerate(rows()):
         at = STEP * number
         fields = [int.from_bytes(image[at:at + width], "little") for image in (zeros, ones)]
-        row = [f"Kind::{kind}", f"{symbol:#x}", f"{addend}", f"{place:#x}", f"{value}", *(f"{field:#x}" for field in fields)]
+        numbers = [f"{symbol:#x}", f"{addend}", f"{place:#x}", f"{value}"]
+        row = [f"Kind::{kind}", *numbers, *(f"{field:#x}" for field in fields)]
         print(f"    ({', '.join(row)}),")
     print("];")
 

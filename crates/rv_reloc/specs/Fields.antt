@@ -87,7 +87,9 @@ pair first second = first + second * 2 ^ 32
 -- `auipc` and the `jalr` after it: the upper half in the first, the lower in the second
 abbrev pub with_halves : ℤ → (field : ℕ) → ℕ
 with_halves v field =
-    pair (with_immediate u_type (modulo 20 (hi v)) (field % 2 ^ 32)) (with_immediate i_type (modulo 12 (lo v)) (field / 2 ^ 32))
+    pair
+    (with_immediate u_type (modulo 20 (hi v)) (field % 2 ^ 32))
+    (with_immediate i_type (modulo 12 (lo v)) (field / 2 ^ 32))
 
 -- the field after a value is written to it
 abbrev pub written : Kind → (value : ℤ) (field : ℕ) → ℕ

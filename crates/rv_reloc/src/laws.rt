@@ -1,5 +1,6 @@
-//! What holds of the fields' definitions. Nothing here runs.
+//! What holds of the definitions of fields and ranges. Nothing here runs.
 
+ghost use Rattle.rv_isa.specs.declared.kind.Kind.{Kind};
 ghost use Rattle.rv_reloc.specs.Fields.{
   IsHeld,
   i_type,
@@ -11,6 +12,10 @@ ghost use Rattle.rv_reloc.specs.Fields.{
   cj_type,
   low_six,
 };
+ghost use Rattle.rv_reloc.specs.Ranges.{Refuses, Takes};
+ghost use Rattle.rv_reloc.specs.declared.fault.PatchFault.{PatchFault};
+ghost use Rattle.rv_reloc.specs.declared.fault.PatchFault.TheVariants.{Overflow, OddTarget};
+ghost use Rattle.std.specs.Prelude.{ℤ};
 
 /// A field whose immediate is set to a number has that immediate, and every other bit as before.
 pub fn immediates_are_held()
@@ -22,4 +27,10 @@ pub fn immediates_are_held()
     ensures cb_type { IsHeld cb_type 9 2 }
     ensures cj_type { IsHeld cj_type 12 2 }
     ensures low_six { IsHeld low_six 6 1 }
+{}
+
+/// A value that a field takes is not refused, and no value is refused for both causes.
+pub fn refusals_are_exact()
+    ensures taken { (k : Kind) (v : ℤ) (fault : PatchFault) → Takes k v → Refuses k v fault → ⊥ }
+    ensures one { (k : Kind) (v : ℤ) → Refuses k v Overflow → Refuses k v OddTarget → ⊥ }
 {}

@@ -28,5 +28,5 @@ mod writing;
 
 pub use calculation::value;
 pub use fault::PatchFault;
-pub use laws::immediates_are_held;
+pub use laws::{immediates_are_held, refusals_are_exact};
 pub use writing::patch;

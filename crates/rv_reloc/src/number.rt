@@ -57,6 +57,7 @@ pub(crate) fn low_64(value: i64) -> u64
     value.cast_unsigned()
 }
 
+/// The low 6 bits of a value in two's complement.
 pub(crate) fn low_6(value: i64) -> u64
     ensures value { result ≡ modulo 6 value }
     ensures below { result < 2 ^ 6 }
@@ -64,6 +65,7 @@ pub(crate) fn low_6(value: i64) -> u64
     value.cast_unsigned() & 0x3f
 }
 
+/// The low 9 bits of a value in two's complement.
 pub(crate) fn low_9(value: i64) -> u64
     ensures value { result ≡ modulo 9 value }
     ensures below { result < 2 ^ 9 }
@@ -71,6 +73,7 @@ pub(crate) fn low_9(value: i64) -> u64
     value.cast_unsigned() & 0x1ff
 }
 
+/// The low 12 bits of a value in two's complement.
 pub(crate) fn low_12(value: i64) -> u64
     ensures value { result ≡ modulo 12 value }
     ensures below { result < 2 ^ 12 }
@@ -78,6 +81,7 @@ pub(crate) fn low_12(value: i64) -> u64
     value.cast_unsigned() & 0xfff
 }
 
+/// The low 13 bits of a value in two's complement.
 pub(crate) fn low_13(value: i64) -> u64
     ensures value { result ≡ modulo 13 value }
     ensures below { result < 2 ^ 13 }
@@ -85,6 +89,7 @@ pub(crate) fn low_13(value: i64) -> u64
     value.cast_unsigned() & 0x1fff
 }
 
+/// The low 21 bits of a value in two's complement.
 pub(crate) fn low_21(value: i64) -> u64
     ensures value { result ≡ modulo 21 value }
     ensures below { result < 2 ^ 21 }

@@ -66,7 +66,8 @@ fn check(kind: Kind, value: i64) -> Result<(), PatchFault>
 /// The field's number after the value is written to it; bytes past the field's width do not count.
 fn rewritten(kind: Kind, value: i64, number: u64) -> u64
     requires { number < 2 ^ (8 * width_of kind) }
-    ensures { little_endian (width_of kind) result ≡ little_endian (width_of kind) (written kind value number) }
+    ensures { little_endian (width_of kind) result
+        ≡ little_endian (width_of kind) (written kind value number) }
 {
     match kind {
         Kind::None | Kind::Relax | Kind::Align => number,
