@@ -12,8 +12,8 @@ ghost use Rattle.rv_parse_laws.specs.Syntax.{A_register, A_value, Stops, and_the
 ghost use Rattle.rv_parse_laws.specs.Parsing.{operands_at};
 ghost use Rattle.rv_parse.specs.Left.{Gives};
 
-use crate::value::{self, Argument};
 use crate::slot;
+use crate::value::{self, Argument};
 use rv_isa::Reg;
 use rv_statement::{Operation, StatementKind};
 use rv_text::{Cursor, Expr, ReadError, SyntaxError};

@@ -226,4 +226,3 @@ pub fn value_or_function<'a>(
         expression,
     })
 }
-

@@ -318,8 +318,7 @@ based_wrong ts w end next e =
     let r = p.1 in
     let behind : ended p.2 ≡ true = ended_more r p.2 (register_no_last r.kind p.3 p.6) (ended_more o (r ∷ p.2) (opening_no_last o.kind p.5) (ap ended (sym p.4) ∙ end)) in
     let k = single_fault A_closing p.2 w behind
-    (seen_err (λ none. Register p.3 ∷ []) (single_at A_closing p.2) w (sym (closing o r p.2 p.3 p.5 p.6) ∙ ap (base_at) (sym p.4) ∙ e)) in
-    (
+    (seen_err (λ none. Register p.3 ∷ []) (single_at A_closing p.2) w (sym (closing o r p.2 p.3 p.5 p.6) ∙ ap (base_at) (sym p.4) ∙ e)) in (
       record {
         before = o ∷ r ∷ [];
         at = k.0;
@@ -383,8 +382,7 @@ offset_wrong ts w end next e = elim (bind_err (value_in roles.Operand ts) (λ v.
     based e rest v fails =
         let last : ended rest ≡ true = v.ended_rest end in
         let f = base_wrong rest w last fails in
-        subst (λ us. AddressWrong us w) (sym v.whole)
-        (
+        subst (λ us. AddressWrong us w) (sym v.whole) (
           behind (List Operand) (List Operand) (IsOperand An_address) IsBase (operand_at An_address) base_at v.text rest w
               (λ us os base. to_offset v.text e v.is us os base)
               (λ us first fails. base_err (v.text ++ us) e us (next_behind v.text us rest (value_in_some roles.Operand v.text e v.is) first ∙ ap base_next (sym v.whole) ∙ next) (v.steady us first) fails)

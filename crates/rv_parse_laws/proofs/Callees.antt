@@ -115,7 +115,7 @@ plt_reads : (ts : List Token) (o : Operand) (rest : List Token) → plt_next ts 
 plt_reads ts o rest next read =
     let p = plt_parts ts next in
     let same = pair_parts (Target (named p.3)) o (p.1 ∷ p.2) rest (value_in roles.Target ts)
-        (ap (value_in roles.Target) p.4 ∙ symbol_read p.0 p.1 p.2 p.3 p.5 (at_follows p.1.kind p.6)) read in
+    (ap (value_in roles.Target) p.4 ∙ symbol_read p.0 p.1 p.2 p.3 p.5 (at_follows p.1.kind p.6)) read in
     (p.1, p.2, sym same.1, p.6)
 
 no_plt : (ts : List Token) (o : Operand) (rest : List Token) → value_in roles.Target ts ≡ Ok (o, rest) → Closes rest → plt_next ts ≡ false
