@@ -2,7 +2,13 @@
 
 use Rattle.std.specs.Prelude.{◌≡◌, ◌<◌, ℕ, Bool, false, List, ◌∷◌, length, Result, Ok, Err, ◌⊎◌}
 use Rattle.rv_statement.specs.Statement.{Statement}
-use Rattle.rv_parse_laws.specs.Syntax.{is_end}
+use Rattle.rv_statement.specs.Statement.{Instruction, Directs}
+use Rattle.rv_statement.specs.View.{statement_kind}
+use Rattle.rv_statement.specs.declared.mnemonic.Mnemonic.{Mnemonic}
+use Rattle.rv_statement.specs.declared.directive.DirectiveWord.{DirectiveWord}
+use Rattle.rv_statement.specs.declared.statement.StatementKind.{StatementKind}
+use Rattle.rv_parse_laws.specs.Syntax.{is_end, slots, places, directed}
+use Rattle.rv_lexer.specs.declared.cursor.Cursor.{Cursor}
 use Rattle.rv_text_laws.specs.Codes.{limit}
 use Rattle.rv_parse_laws.specs.Reading.{most_statements, SaysUpTo}
 use Rattle.rv_parse_laws.specs.Refusals.{Refuses}
@@ -16,12 +22,32 @@ use Rattle.rv_text_laws.specs.SyntaxError as wrongs
 use Rattle.rv_lexer.specs.declared.syntax_error.SyntaxError.{SyntaxError}
 use Rattle.rv_lexer.specs.declared.syntax_error.ReadError.{ReadError}
 use Rattle.rv_lexer.specs.declared.syntax_error.ReadError.TheVariants as refusals
-use Rattle.rv_lexer.specs.Cursor.{syntax_error_of}
+use Rattle.rv_lexer.specs.Cursor.{left, syntax_error_of, Answers}
 
 -- a call's result, as `view` sees it, is what the reading at the front of the tokens gives
 abbrev pub Gives : {X Y : Type 0} → (X → Y) → Result X SyntaxError → Result Y wrongs.SyntaxError → Type 0
 Gives view (Ok x) read = read ≡ Ok (view x)
 Gives view (Err w) read = read ≡ Err (syntax_error_of w)
+
+-- from one state of a cursor to another a call answers the statement of a mnemonic and its operands
+abbrev pub ReadsInstruction : Mnemonic → Cursor → Cursor → Result StatementKind ReadError → Type 0
+ReadsInstruction m old new result =
+    Answers (λ k. (statement_kind k, left new)) result (parsing.seen_as (Instruction m) (parsing.operands_at (slots m) (left old)))
+
+abbrev pub GivesInstruction : Mnemonic → Cursor → Cursor → Result StatementKind SyntaxError → Type 0
+GivesInstruction m old new result =
+    Gives (λ k. (statement_kind k, left new)) result (parsing.seen_as (Instruction m) (parsing.operands_at (slots m) (left old)))
+
+-- the statement of a directive's word and its operands
+abbrev pub ReadsDirective : DirectiveWord → Cursor → Cursor → Result StatementKind ReadError → Type 0
+ReadsDirective word old new result =
+    Answers (λ k. (statement_kind k, left new)) result
+    (parsing.seen_as (λ os. Directs (directed word os)) (parsing.operands_at (places word) (left old)))
+
+abbrev pub GivesDirective : DirectiveWord → Cursor → Cursor → Result StatementKind SyntaxError → Type 0
+GivesDirective word old new result =
+    Gives (λ k. (statement_kind k, left new)) result
+    (parsing.seen_as (λ os. Directs (directed word os)) (parsing.operands_at (places word) (left old)))
 
 -- No further statement is answered at the token t, which begins the tokens ts behind so many statements, where these names
 -- are known: the part there is wrong, or it is a statement too many; where it is both, what stands first.

@@ -9,7 +9,7 @@ ghost use Rattle.rv_parse.specs.Slots.{location_at, placed_at};
 ghost use Rattle.rv_parse.specs.View.{location_of};
 ghost use Rattle.rv_parse_laws.specs.Parsing.{operands_at, seen_as};
 ghost use Rattle.rv_lexer.specs.Cursor.{left, Answers};
-ghost use Rattle.rv_parse.specs.Left.{Gives};
+ghost use Rattle.rv_parse.specs.Left.{Gives, GivesInstruction, ReadsInstruction};
 
 use crate::operands::{given, with};
 use crate::value::Argument;
@@ -86,7 +86,7 @@ pub fn load<'a>(
     cursor: &mut Cursor<'a>,
     operation: LoadOperation,
 ) -> Result<StatementKind<'a>, ReadError>
-    ensures { Answers (λ k. (statement_kind k, left cursor.new)) result (seen_as (Instruction (Load operation)) (operands_at (slots (Load operation)) (left cursor.old))) }
+    ensures { ReadsInstruction (Load operation) cursor.old cursor.new result }
 {
     let rd = slot::register(cursor)?;
     slot::comma(cursor, Slot::Register)?;
@@ -128,7 +128,7 @@ pub fn store<'a>(
     cursor: &mut Cursor<'a>,
     operation: StoreOperation,
 ) -> Result<StatementKind<'a>, ReadError>
-    ensures { Answers (λ k. (statement_kind k, left cursor.new)) result (seen_as (Instruction (Store operation)) (operands_at (slots (Store operation)) (left cursor.old))) }
+    ensures { ReadsInstruction (Store operation) cursor.old cursor.new result }
 {
     let rs2 = slot::register(cursor)?;
     slot::comma(cursor, Slot::Register)?;
@@ -166,7 +166,7 @@ pub fn load_reserved<'a>(
     cursor: &mut Cursor<'a>,
     form: AtomicForm,
 ) -> Result<StatementKind<'a>, SyntaxError>
-    ensures { Gives (λ k. (statement_kind k, left cursor.new)) result (seen_as (Instruction (LoadReserved form)) (operands_at (slots (LoadReserved form)) (left cursor.old))) }
+    ensures { GivesInstruction (LoadReserved form) cursor.old cursor.new result }
 {
     let rd = slot::register(cursor)?;
     slot::comma(cursor, Slot::Register)?;
@@ -181,7 +181,7 @@ pub fn atomic<'a>(
     operation: AtomicOperation,
     form: AtomicForm,
 ) -> Result<StatementKind<'a>, SyntaxError>
-    ensures { Gives (λ k. (statement_kind k, left cursor.new)) result (seen_as (Instruction (Atomic operation form)) (operands_at (slots (Atomic operation form)) (left cursor.old))) }
+    ensures { GivesInstruction (Atomic operation form) cursor.old cursor.new result }
 {
     let rd = slot::register(cursor)?;
     slot::comma(cursor, Slot::Register)?;
@@ -194,7 +194,7 @@ pub fn atomic<'a>(
 /// The operands of `fence`: none, or two sets of accesses.
 #[tactic(auto, unfolding(rv_parse_laws::specs::Parsing::operands_at))]
 pub fn fence<'a>(cursor: &mut Cursor<'a>) -> Result<StatementKind<'a>, SyntaxError>
-    ensures { Gives (λ k. (statement_kind k, left cursor.new)) result (seen_as (Instruction (Fence)) (operands_at (slots (Fence)) (left cursor.old))) }
+    ensures { GivesInstruction Fence cursor.old cursor.new result }
 {
     if slot::begins_accesses(cursor) {
         let before = slot::accesses(cursor)?;

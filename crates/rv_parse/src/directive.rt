@@ -12,7 +12,7 @@ ghost use Rattle.rv_parse_laws.specs.Parsing.{operands_at, items_at, any_at, see
 ghost use Rattle.rv_parse.specs.View.{value_of};
 ghost use Rattle.rv_words.specs.View.{word_of, string_of};
 ghost use Rattle.rv_parse.specs.Slots.{flags_slots, type_slots, further_items, prepended};
-ghost use Rattle.rv_parse.specs.Left.{Gives};
+ghost use Rattle.rv_parse.specs.Left.{Gives, GivesDirective, ReadsDirective};
 
 use crate::{slot, value};
 use rv_statement::{DirectiveWord, Opening, Setting, Standard, StatementKind, Width};
@@ -76,7 +76,7 @@ fn values<'a>(
     cursor: &mut Cursor<'a>,
     width: Width,
 ) -> Result<StatementKind<'a>, ReadError>
-    ensures { Answers (λ k. (statement_kind k, left cursor.new)) result (seen_as (λ os. Directs (directed (Value width) os)) (operands_at (places (Value width)) (left cursor.old))) }
+    ensures { ReadsDirective (Value width) cursor.old cursor.new result }
 {
     let first = value::value(alloc, cursor, Role::Directive)?;
     if slot::begins_comma(cursor) {
@@ -89,7 +89,7 @@ fn values<'a>(
 /// The names of `.globl`.
 #[tactic(auto, using(crate::proofs::Lists::all_names), unfolding(rv_parse_laws::specs::Parsing::operands_at))]
 fn globl<'a>(alloc: Global, cursor: &mut Cursor<'a>) -> Result<StatementKind<'a>, ReadError>
-    ensures { Answers (λ k. (statement_kind k, left cursor.new)) result (seen_as (λ os. Directs (directed Globl os)) (operands_at (places Globl) (left cursor.old))) }
+    ensures { ReadsDirective Globl cursor.old cursor.new result }
 {
     Ok(StatementKind::Globl(names(alloc, cursor)?))
 }
@@ -97,7 +97,7 @@ fn globl<'a>(alloc: Global, cursor: &mut Cursor<'a>) -> Result<StatementKind<'a>
 /// The names of `.local`.
 #[tactic(auto, using(crate::proofs::Lists::all_names), unfolding(rv_parse_laws::specs::Parsing::operands_at))]
 fn local<'a>(alloc: Global, cursor: &mut Cursor<'a>) -> Result<StatementKind<'a>, ReadError>
-    ensures { Answers (λ k. (statement_kind k, left cursor.new)) result (seen_as (λ os. Directs (directed Local os)) (operands_at (places Local) (left cursor.old))) }
+    ensures { ReadsDirective Local cursor.old cursor.new result }
 {
     Ok(StatementKind::Local(names(alloc, cursor)?))
 }
@@ -105,7 +105,7 @@ fn local<'a>(alloc: Global, cursor: &mut Cursor<'a>) -> Result<StatementKind<'a>
 /// The strings of `.ascii`.
 #[tactic(auto, using(crate::proofs::Lists::all_strings), unfolding(rv_parse_laws::specs::Parsing::operands_at))]
 fn ascii<'a>(alloc: Global, cursor: &mut Cursor<'a>) -> Result<StatementKind<'a>, ReadError>
-    ensures { Answers (λ k. (statement_kind k, left cursor.new)) result (seen_as (λ os. Directs (directed Ascii os)) (operands_at (places Ascii) (left cursor.old))) }
+    ensures { ReadsDirective Ascii cursor.old cursor.new result }
 {
     Ok(StatementKind::Ascii(strings(alloc, cursor)?))
 }
@@ -113,7 +113,7 @@ fn ascii<'a>(alloc: Global, cursor: &mut Cursor<'a>) -> Result<StatementKind<'a>
 /// The strings of `.asciz`.
 #[tactic(auto, using(crate::proofs::Lists::all_strings), unfolding(rv_parse_laws::specs::Parsing::operands_at))]
 fn asciz<'a>(alloc: Global, cursor: &mut Cursor<'a>) -> Result<StatementKind<'a>, ReadError>
-    ensures { Answers (λ k. (statement_kind k, left cursor.new)) result (seen_as (λ os. Directs (directed Asciz os)) (operands_at (places Asciz) (left cursor.old))) }
+    ensures { ReadsDirective Asciz cursor.old cursor.new result }
 {
     Ok(StatementKind::Asciz(strings(alloc, cursor)?))
 }
@@ -121,7 +121,7 @@ fn asciz<'a>(alloc: Global, cursor: &mut Cursor<'a>) -> Result<StatementKind<'a>
 /// The size of `.zero`.
 #[tactic(auto, unfolding(rv_parse_laws::specs::Parsing::operands_at))]
 fn zero<'a>(alloc: Global, cursor: &mut Cursor<'a>) -> Result<StatementKind<'a>, ReadError>
-    ensures { Answers (λ k. (statement_kind k, left cursor.new)) result (seen_as (λ os. Directs (directed Zero os)) (operands_at (places Zero) (left cursor.old))) }
+    ensures { ReadsDirective Zero cursor.old cursor.new result }
 {
     let count = value::value(alloc, cursor, Role::Directive)?;
     slot::end(cursor, Slot::Value(Role::Directive))?;
@@ -134,7 +134,7 @@ fn align_to_power<'a>(
     alloc: Global,
     cursor: &mut Cursor<'a>,
 ) -> Result<StatementKind<'a>, ReadError>
-    ensures { Answers (λ k. (statement_kind k, left cursor.new)) result (seen_as (λ os. Directs (directed AlignToPower os)) (operands_at (places AlignToPower) (left cursor.old))) }
+    ensures { ReadsDirective AlignToPower cursor.old cursor.new result }
 {
     let exponent = value::value(alloc, cursor, Role::Alignment)?;
     slot::end(cursor, Slot::Value(Role::Alignment))?;
@@ -147,7 +147,7 @@ fn align_to_bytes<'a>(
     alloc: Global,
     cursor: &mut Cursor<'a>,
 ) -> Result<StatementKind<'a>, ReadError>
-    ensures { Answers (λ k. (statement_kind k, left cursor.new)) result (seen_as (λ os. Directs (directed AlignToBytes os)) (operands_at (places AlignToBytes) (left cursor.old))) }
+    ensures { ReadsDirective AlignToBytes cursor.old cursor.new result }
 {
     let bytes = value::value(alloc, cursor, Role::Alignment)?;
     slot::end(cursor, Slot::Value(Role::Alignment))?;
@@ -157,7 +157,7 @@ fn align_to_bytes<'a>(
 /// The operands of `.set`: `name, e`.
 #[tactic(auto, unfolding(rv_parse_laws::specs::Parsing::operands_at))]
 fn set<'a>(alloc: Global, cursor: &mut Cursor<'a>) -> Result<StatementKind<'a>, ReadError>
-    ensures { Answers (λ k. (statement_kind k, left cursor.new)) result (seen_as (λ os. Directs (directed Set os)) (operands_at (places Set) (left cursor.old))) }
+    ensures { ReadsDirective Set cursor.old cursor.new result }
 {
     let name = slot::symbol(cursor)?;
     slot::comma(cursor, Slot::Symbol)?;
@@ -170,7 +170,7 @@ fn set<'a>(alloc: Global, cursor: &mut Cursor<'a>) -> Result<StatementKind<'a>, 
 /// The word of `.option`.
 #[tactic(auto, using(crate::proofs::Tokens::choice_no_last), unfolding(rv_lexer::specs::Cursor::left, rv_parse_laws::specs::Parsing::operands_at))]
 fn option<'a>(cursor: &mut Cursor<'a>) -> Result<StatementKind<'a>, SyntaxError>
-    ensures { Gives (λ k. (statement_kind k, left cursor.new)) result (seen_as (λ os. Directs (directed Option os)) (operands_at (places Option) (left cursor.old))) }
+    ensures { GivesDirective Option cursor.old cursor.new result }
 {
     match kinds::choice_of(cursor.next.kind) {
         Some(choice) => {
@@ -235,7 +235,7 @@ fn section_flags<'a>(
 /// The operands of `.section`.
 #[tactic(auto, unfolding(rv_parse_laws::specs::Parsing::operands_at))]
 fn section<'a>(alloc: Global, cursor: &mut Cursor<'a>) -> Result<StatementKind<'a>, ReadError>
-    ensures { Answers (λ k. (statement_kind k, left cursor.new)) result (seen_as (λ os. Directs (directed Section os)) (operands_at (places Section) (left cursor.old))) }
+    ensures { ReadsDirective Section cursor.old cursor.new result }
 {
     let name = slot::section_name(cursor)?;
     if slot::begins_comma(cursor) {
@@ -254,7 +254,7 @@ fn section<'a>(alloc: Global, cursor: &mut Cursor<'a>) -> Result<StatementKind<'
 /// No operands: the statement's end.
 #[tactic(auto, unfolding(rv_parse_laws::specs::Parsing::operands_at))]
 fn enters<'a>(cursor: &mut Cursor<'a>, section: Standard) -> Result<StatementKind<'a>, ReadError>
-    ensures { Answers (λ k. (statement_kind k, left cursor.new)) result (seen_as (λ os. Directs (directed (Enters section) os)) (operands_at (places (Enters section)) (left cursor.old))) }
+    ensures { ReadsDirective (Enters section) cursor.old cursor.new result }
 {
     slot::end(cursor, Slot::Register)?;
     Ok(StatementKind::Enters(section))
@@ -277,7 +277,7 @@ fn anything(cursor: &mut Cursor<'_>) -> Result<(), SyntaxError>
 /// The operands of a directive without effect.
 #[tactic(auto, unfolding(rv_parse_laws::specs::Parsing::operands_at))]
 fn ignored<'a>(cursor: &mut Cursor<'a>) -> Result<StatementKind<'a>, SyntaxError>
-    ensures { Gives (λ k. (statement_kind k, left cursor.new)) result (seen_as (λ os. Directs (directed Ignored os)) (operands_at (places Ignored) (left cursor.old))) }
+    ensures { GivesDirective Ignored cursor.old cursor.new result }
 {
     anything(cursor)?;
     Ok(StatementKind::Ignored)
@@ -289,7 +289,7 @@ pub fn directive<'a>(
     cursor: &mut Cursor<'a>,
     word: DirectiveWord,
 ) -> Result<StatementKind<'a>, ReadError>
-    ensures { Answers (λ k. (statement_kind k, left cursor.new)) result (seen_as (λ os. Directs (directed word os)) (operands_at (places word) (left cursor.old))) }
+    ensures { ReadsDirective word cursor.old cursor.new result }
 {
     match word {
         DirectiveWord::Enters(section) => enters(cursor, section),

@@ -7,6 +7,7 @@ ghost use Rattle.rv_statement.specs.View.{statement_kind};
 ghost use Rattle.rv_parse_laws.specs.Syntax.{slots, upper_role, targets};
 ghost use Rattle.rv_parse_laws.specs.Parsing.{operands_at, seen_as};
 ghost use Rattle.rv_lexer.specs.Cursor.{left, Answers};
+ghost use Rattle.rv_parse.specs.Left.{ReadsInstruction};
 
 use crate::operands::{self, given, with};
 use crate::{access, jump, slot, value};
@@ -25,7 +26,7 @@ fn registers<'a>(
     cursor: &mut Cursor<'a>,
     operation: RegisterOperation,
 ) -> Result<StatementKind<'a>, ReadError>
-    ensures { Answers (λ k. (statement_kind k, left cursor.new)) result (seen_as (Instruction (Registers operation)) (operands_at (slots (Registers operation)) (left cursor.old))) }
+    ensures { ReadsInstruction (Registers operation) cursor.old cursor.new result }
 {
     let rd = slot::register(cursor)?;
     slot::comma(cursor, Slot::Register)?;
@@ -58,7 +59,7 @@ pub fn instruction<'a>(
     cursor: &mut Cursor<'a>,
     mnemonic: Mnemonic,
 ) -> Result<StatementKind<'a>, ReadError>
-    ensures { Answers (λ k. (statement_kind k, left cursor.new)) result (seen_as (Instruction mnemonic) (operands_at (slots mnemonic) (left cursor.old))) }
+    ensures { ReadsInstruction mnemonic cursor.old cursor.new result }
 {
     match mnemonic {
         Mnemonic::Registers(operation) => registers(alloc, cursor, operation),

@@ -7,6 +7,7 @@ ghost use Rattle.rv_statement.specs.View.{statement_kind};
 ghost use Rattle.rv_parse_laws.specs.Syntax.{slots, jump_target};
 ghost use Rattle.rv_parse_laws.specs.Parsing.{operands_at, seen_as};
 ghost use Rattle.rv_lexer.specs.Cursor.{left, Answers};
+ghost use Rattle.rv_parse.specs.Left.{ReadsInstruction};
 
 use crate::operands::{given, with};
 use crate::{slot, value};
@@ -20,7 +21,7 @@ use std::alloc::Global;
 /// The operands of `jal`: a target, or a link register and a target.
 #[tactic(auto, unfolding(rv_parse_laws::specs::Parsing::operands_at))]
 pub fn jal<'a>(alloc: Global, cursor: &mut Cursor<'a>) -> Result<StatementKind<'a>, ReadError>
-    ensures { Answers (λ k. (statement_kind k, left cursor.new)) result (seen_as (Instruction Jal) (operands_at (slots Jal) (left cursor.old))) }
+    ensures { ReadsInstruction Jal cursor.old cursor.new result }
 {
     if slot::begins_register(cursor) {
         let rd = slot::register(cursor)?;
@@ -37,7 +38,7 @@ pub fn jal<'a>(alloc: Global, cursor: &mut Cursor<'a>) -> Result<StatementKind<'
 /// The operands of `call`: a target, or a link register and a target.
 #[tactic(auto, unfolding(rv_parse_laws::specs::Parsing::operands_at))]
 pub fn call<'a>(alloc: Global, cursor: &mut Cursor<'a>) -> Result<StatementKind<'a>, ReadError>
-    ensures { Answers (λ k. (statement_kind k, left cursor.new)) result (seen_as (Instruction Call) (operands_at (slots Call) (left cursor.old))) }
+    ensures { ReadsInstruction Call cursor.old cursor.new result }
 {
     if slot::begins_register(cursor) {
         let rd = slot::register(cursor)?;
@@ -54,7 +55,7 @@ pub fn call<'a>(alloc: Global, cursor: &mut Cursor<'a>) -> Result<StatementKind<
 /// The operands of `jump`: a target and a register.
 #[tactic(auto, unfolding(rv_parse_laws::specs::Parsing::operands_at))]
 pub fn jump<'a>(alloc: Global, cursor: &mut Cursor<'a>) -> Result<StatementKind<'a>, ReadError>
-    ensures { Answers (λ k. (statement_kind k, left cursor.new)) result (seen_as (Instruction Jump) (operands_at (slots Jump) (left cursor.old))) }
+    ensures { ReadsInstruction Jump cursor.old cursor.new result }
 {
     let target = value::value(alloc, cursor, Role::Target)?;
     slot::comma(cursor, Slot::Value(Role::Target))?;
@@ -66,7 +67,7 @@ pub fn jump<'a>(alloc: Global, cursor: &mut Cursor<'a>) -> Result<StatementKind<
 /// The operands of `jr`: a register, or an address.
 #[tactic(auto, unfolding(rv_parse_laws::specs::Parsing::operands_at))]
 pub fn jr<'a>(alloc: Global, cursor: &mut Cursor<'a>) -> Result<StatementKind<'a>, ReadError>
-    ensures { Answers (λ k. (statement_kind k, left cursor.new)) result (seen_as (Instruction Jr) (operands_at (slots Jr) (left cursor.old))) }
+    ensures { ReadsInstruction Jr cursor.old cursor.new result }
 {
     if slot::begins_register(cursor) {
         let rs = slot::register(cursor)?;
@@ -87,7 +88,7 @@ pub fn jr<'a>(alloc: Global, cursor: &mut Cursor<'a>) -> Result<StatementKind<'a
 /// The operands of `jalr`: an address, or the link register and its target.
 #[tactic(auto, unfolding(rv_parse_laws::specs::Parsing::operands_at))]
 pub fn jalr<'a>(alloc: Global, cursor: &mut Cursor<'a>) -> Result<StatementKind<'a>, ReadError>
-    ensures { Answers (λ k. (statement_kind k, left cursor.new)) result (seen_as (Instruction Jalr) (operands_at (slots Jalr) (left cursor.old))) }
+    ensures { ReadsInstruction Jalr cursor.old cursor.new result }
 {
     if !slot::begins_register(cursor) {
         if slot::begins_base(cursor) {
