@@ -79,7 +79,7 @@ Seen scope is P = (index : ℕ) → Sees scope is index → P index
 
 -- whether that has an address
 abbrev pub addressed_in : Scope → ℕ → Primary → Bool
-addressed_in scope index q = addressed (said scope.unit.now) index q
+addressed_in scope index = addressed (said scope.unit.now) index
 
 -- what its expressions refer to without an address, where it stands at this offset
 abbrev pub missing_in_next : Scope → ℕ → CodeOffset → List Expression → List (List ℕ)

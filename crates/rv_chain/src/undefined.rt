@@ -10,12 +10,12 @@ ghost use Rattle.rv_statement.specs.View.{statement_of, now_of};
 ghost use Rattle.rv_unit_laws.specs.Faults.{first_fault};
 ghost use Rattle.rv_unit_laws.specs.Sections.{Section as Home};
 ghost use Rattle.rv_unit_laws.specs.Tables.{at_start};
-ghost use Rattle.rv_tables.specs.Sections.{extent_section};
+ghost use Rattle.rv_tables.specs.Sections.{offset_of, extent_section};
 ghost use Rattle.rv_unit.specs.Unit.{said, IsFilled};
 ghost use Rattle.rv_chain_laws.specs.Refusals as laws;
 ghost use Rattle.rv_chain_laws.specs.Refusals.{data_values, first_name};
 ghost use Rattle.rv_link_laws.specs.Items.{AreItems};
-ghost use Rattle.rv_chain.specs.Undefined.{shown_by, addressed_in, missing_in_next, FindsFirst, LackValues, Seen, Sees, IsFirst, found_in, else_name, first_in, first_some};
+ghost use Rattle.rv_chain.specs.Undefined.{shown_by, addressed, addressed_in, missing_at, missing_in_next, FindsFirst, LackValues, Seen, Sees, IsFirst, found_in, else_name, first_in, first_some};
 
 use rv_link::Item;
 use rv_statement::{Statement, StatementKind};
@@ -90,7 +90,8 @@ fn missing<'a>(scope: &Scope<'_, 'a>, items: &[Item], symbol: Symbol<'a>) -> Opt
 fn missing_in<'a>(scope: &Scope<'_, 'a>, items: &[Item], value: Value<'a>) -> Option<&'a [u8]>
     ensures { (index : ℕ) (v : values.Value) → Sees scope.now items.now index
         → value_told value.entry v
-        → IsFirst result (laws.missing_in (addressed_in scope.now index) v) }
+        → IsFirst result
+        (laws.missing_in (addressed (said (scope.now).unit.now) index) v) }
 {
     match value {
         Value::Constant(_) => None,
@@ -110,8 +111,9 @@ fn missing_of<'a>(
     place: SectionOffset,
     line: u32,
 ) -> Result<Option<&'a [u8]>, SourceFault>
-    ensures first { IfOk result (λ found.
-        FindsFirst scope.now items.now place (tree_of_expr value.now ∷ []) found) }
+    ensures first { IfOk result (λ found. (index : ℕ) → Sees scope.now items.now index
+        → IsFirst found (missing_at (said (scope.now).unit.now) index (offset_of place)
+        (tree_of_expr value.now ∷ []))) }
     ensures refuses { IfErr result (λ _.
         LackValues scope.now place (tree_of_expr value.now ∷ [])) }
 {
