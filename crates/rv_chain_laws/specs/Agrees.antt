@@ -10,4 +10,5 @@ pub record IsFront (front whole : List ℕ) : Type 0 where
 
 -- they are equal; or the source run went to the inside of a statement, and so far the console is the same
 abbrev pub Agrees : Outcome → Outcome → Type 0
-Agrees source machine = (source ≡ machine) ⊎ ((source.«end» ≡ Astray) × IsFront source.console machine.console)
+Agrees source machine =
+    (source ≡ machine) ⊎ ((source.«end» ≡ Astray) × IsFront source.console machine.console)

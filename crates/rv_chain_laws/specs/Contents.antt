@@ -33,11 +33,14 @@ abbrev pub contents : (Mapped → List ℕ) → ℕ → List InputSection → Li
 contents bytes stop [] = []
 contents bytes stop (b ∷ bs) =
     let start = aligned b.alignment stop in
-    zeros (start - stop) ++ (flat_map bytes b.mapped ++ contents bytes (start + size (rows_of b)) bs)
+    zeros (start - stop)
+    ++ (flat_map bytes b.mapped ++ contents bytes (start + size (rows_of b)) bs)
 
 -- a statement is written by words: its instructions, four bytes each
 abbrev pub IsWritten : Program → Mapped → Type 0
-IsWritten p s = (instructions : List Inst) × (expansion p s ≡ Some instructions) × (s.row.bytes ≡ 4 * length instructions)
+IsWritten p s =
+    (instructions : List Inst) × (expansion p s ≡ Some instructions)
+    × (s.row.bytes ≡ 4 * length instructions)
 
 -- so is each statement of code
 abbrev pub IsCodeWritten : Program → Type 0
@@ -52,8 +55,11 @@ pub record IsLinked (sources : List (List Statement)) (text_start : ℕ) (l : Li
   pub gaps : l.map.gaps ≡ []
   pub below : l.map.bss.end ≤ stack_start
   pub text : l.text ≡
-      contents (code_bytes (program sources l.map)) l.map.text.start (input_sections goes_to_text sources l.map)
+      contents (code_bytes (program sources l.map)) l.map.text.start
+      (input_sections goes_to_text sources l.map)
   pub rodata : l.rodata ≡
-      contents (spelled (program sources l.map)) l.map.rodata.start (input_sections goes_to_rodata sources l.map)
+      contents (spelled (program sources l.map)) l.map.rodata.start
+      (input_sections goes_to_rodata sources l.map)
   pub «data» : l.data ≡
-      contents (spelled (program sources l.map)) l.map.data.start (input_sections goes_to_data sources l.map)
+      contents (spelled (program sources l.map)) l.map.data.start
+      (input_sections goes_to_data sources l.map)

@@ -38,14 +38,16 @@ AreBytes bytes = AllByRecursion (λ byte. byte < 256) bytes
 abbrev pub RunsAgree : List (List Statement) → Map → Image → Type 0
 RunsAgree sources map image =
     (reader : Reader Spells StandsFor) (input : List ℕ) → AreBytes input → (n : ℕ)
-    → Agrees (source_run sources map input n) (machine_run reader (mem_of image) image.entry input n)
+    → Agrees (source_run sources map input n)
+    (machine_run reader (mem_of image) image.entry input n)
 
 -- EF_RISCV_RVC, the flag of compressed code (RISC-V ELF psABI, "File Header")
 abbrev pub rvc_flag : Bool → ℕ
 rvc_flag is_set = if is_set then 1 else 0
 
 -- what the texts of the sources, the text's start, the bytes of the executable and those of the map have to do with one another
-pub record TheHeadline (texts : List (List ℕ)) (text_start : ℕ) (executable map_bytes : List ℕ) : Type 0 where
+pub record TheHeadline (texts : List (List ℕ)) (text_start : ℕ)
+    (executable map_bytes : List ℕ) : Type 0 where
   pub sources : List (List Statement)
   pub read : AllRead texts sources
   -- the printed map: it fits the sources and resolves their names

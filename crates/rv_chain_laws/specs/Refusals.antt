@@ -62,7 +62,8 @@ grown sizes section bytes j = if j == section then sizes j + bytes else sizes j
 abbrev pub size_fault_from : (ℕ → ℕ) → List Located → Option Fault
 size_fault_from sizes [] = None
 size_fault_from sizes (s ∷ ss) =
-    at_line s.line (if nat_lt longest_section (sizes s.section + code_size s.kind) then Some limit else None)
+    at_line s.line
+    (if nat_lt longest_section (sizes s.section + code_size s.kind) then Some limit else None)
     (size_fault_from (grown sizes s.section (code_size s.kind)) ss)
 
 -- the first statement whose end passes the longest section of code
@@ -82,7 +83,9 @@ statements_fault ss = else_fault (first_fault ss) (else_fault (code_fault ss) (s
 -- ---- the link of one source
 
 abbrev pub linker_names : List (List ℕ)
-linker_names = codes "_etext" ∷ codes "__bss_start" ∷ codes "_edata" ∷ codes "_end" ∷ codes "__global_pointer$" ∷ []
+linker_names =
+    codes "_etext" ∷ codes "__bss_start" ∷ codes "_edata" ∷ codes "_end" ∷
+    codes "__global_pointer$" ∷ []
 
 -- a name that is no place of the source is the linker's, or nobody's
 abbrev pub is_linkers : Primary → Bool
@@ -122,13 +125,16 @@ has_address ss s q = has_address_by (located (ss ∷ [])) q (home (tables ss) s.
 abbrev pub missing_by : List Statement → Located → List (List ℕ)
 missing_by ss s =
     if s.home.loaded
-    then flat_map (λ e. missing_in (has_address ss s) (value (tables ss) true s.ordinal (place_of s) e)) (data_values s.kind)
+    then flat_map
+    (λ e. missing_in (has_address ss s) (value (tables ss) true s.ordinal (place_of s) e))
+    (data_values s.kind)
     else []
 
 -- the statements by section, and then in their order
 abbrev pub in_sections : List Located → ℕ → List Section → List Located
 in_sections ss place [] = []
-in_sections ss place (section ∷ sections) = filter (λ s. s.section == place) ss ++ in_sections ss (suc place) sections
+in_sections ss place (section ∷ sections) =
+    filter (λ s. s.section == place) ss ++ in_sections ss (suc place) sections
 
 abbrev pub by_section : List Statement → List Located
 by_section ss = in_sections (located (ss ∷ [])) 0 (tables ss).opened.sections
@@ -145,7 +151,8 @@ abbrev pub has_entry : List Statement → Bool
 has_entry ss = list_any (begins_run (ss ∷ [])) (located (ss ∷ []))
 
 abbrev pub overflows_in : Program → Mapped → Directive → Bool
-overflows_in p s (Values width values) = (width == 4) && list_any (λ e. is_symbolic (form p s.located e) && is_far (number p s e)) values
+overflows_in p s (Values width values) =
+    (width == 4) && list_any (λ e. is_symbolic (form p s.located e) && is_far (number p s e)) values
 overflows_in p s _ = false
 
 abbrev pub overflows_at : Program → Mapped → Bool

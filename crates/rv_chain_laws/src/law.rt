@@ -31,7 +31,8 @@ pub fn code_has_a_reader()
 /// Where memory holds the statements of the sources at the rows of a map, and the map's entry is an
 /// even address, the two runs agree for every input and every limit.
 pub fn runs_agree()
-    ensures { (reader : Reader Spells StandsFor) (m : Mem) (sources : List (List Statement)) (map : Map)
+    ensures { (reader : Reader Spells StandsFor) (m : Mem) (sources : List (List Statement))
+        (map : Map)
         → Realizes reader m (program sources map) → map.entry < 2 ^ 64 → map.entry % 2 ≡ 0
         → (input : List ℕ) (n : ℕ)
         → Agrees (source_run sources map input n) (machine_run reader m map.entry input n) }

@@ -38,7 +38,8 @@ is_branch forms = true
 
 -- the statement of an index, or one of no bytes past the end
 abbrev pub item_at : List Item → ℕ → Item
-item_at items i = slice_index_or items i (record { addend = pos 0; section = 0; target = 0; forms = Settled 0 })
+item_at items i =
+    slice_index_or items i (record { addend = pos 0; section = 0; target = 0; forms = Settled 0 })
 
 -- the sizes of one section's statements, and 0 for those of others
 abbrev pub of_section : ℕ → List Item → List ℕ → List ℕ
@@ -55,7 +56,8 @@ distance_of items sizes i =
 -- whether a statement would reach its target in the form of a size
 abbrev pub ReachesBy : List Item → List ℕ → ℕ → ℕ → Type 0
 ReachesBy items sizes i size =
-    let item = item_at items i in Reaches (half item.forms size) item.addend (distance_of items sizes i)
+    let item = item_at items i in
+    Reaches (half item.forms size) item.addend (distance_of items sizes i)
 
 pub record IsFamily (items : List Item) (sizes : List ℕ) : Type 0 where
   pub same_length : length sizes ≡ length items
@@ -64,7 +66,8 @@ pub record IsFamily (items : List Item) (sizes : List ℕ) : Type 0 where
 -- each form below the statement's largest reaches; the largest is taken without a test
 pub record IsGood (items : List Item) (sizes : List ℕ) : Type 0 where
   pub family : IsFamily items sizes
-  pub reaching : (i : ℕ) → slice_index sizes i < largest (item_at items i).forms → ReachesBy items sizes i (slice_index sizes i)
+  pub reaching : (i : ℕ) → slice_index sizes i < largest (item_at items i).forms →
+      ReachesBy items sizes i (slice_index sizes i)
 
 pub record IsLeastGood (items : List Item) (sizes : List ℕ) : Type 0 where
   pub good : IsGood items sizes
@@ -77,18 +80,21 @@ branches items = count_by (λ item. is_branch item.forms) items
 pub record MayWiden (items : List Item) (sizes : List ℕ) (i wider : ℕ) : Type 0 where
   pub grows : slice_index sizes i < wider
   pub offered : Offers (item_at items i).forms wider
-  pub short : (size : ℕ) → Offers (item_at items i).forms size → slice_index sizes i ≤ size → size < wider → ReachesBy items sizes i size → ⊥
+  pub short : (size : ℕ) → Offers (item_at items i).forms size → slice_index sizes i ≤ size →
+      size < wider → ReachesBy items sizes i size → ⊥
 
 -- sizes that come from others by so many widenings, one after the other, in any order
 pub data Widenings (items : List Item) (from : List ℕ) : List ℕ → ℕ → Type 0 where
   Unchanged : Widenings items from from 0
-  Widens : (sizes : List ℕ) (n i wider : ℕ) → Widenings items from sizes n → MayWiden items sizes i wider
+  Widens : (sizes : List ℕ) (n i wider : ℕ) → Widenings items from sizes n →
+      MayWiden items sizes i wider
       → Widenings items from (set sizes i wider) (suc n)
 
 -- and by so many rounds, each of one widening or more
 pub data Rounds (items : List Item) (from : List ℕ) : List ℕ → ℕ → Type 0 where
   Begins : Rounds items from from 0
-  Widens_some : (old new : List ℕ) (r n : ℕ) → Rounds items from old r → Widenings items old new n → 0 < n
+  Widens_some : (old new : List ℕ) (r n : ℕ) → Rounds items from old r →
+      Widenings items old new n → 0 < n
       → Rounds items from new (suc r)
 
 abbrev pub smallest_sizes : List Item → List ℕ

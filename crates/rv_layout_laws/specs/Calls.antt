@@ -27,7 +27,9 @@ is_call (Padding padding) = false
 
 -- the site of an index, or one of no bytes past the end
 abbrev pub site_at : List Site → ℕ → Site
-site_at sites i = slice_index_or sites i (record { offset = 0; kind = Padding (record { bytes = 0; alignment = 1 }) })
+site_at sites i =
+    slice_index_or sites i
+    (record { offset = 0; kind = Padding (record { bytes = 0; alignment = 1 }) })
 
 -- the bytes that a site drops before an offset, where it keeps its first ones
 abbrev pub dropped_of : Site → ℕ → ℕ → ℕ
@@ -46,11 +48,13 @@ new_offset sites kept old = old - dropped sites kept old
 -- whether a call would reach its target in the form of a size
 abbrev pub ReachesFrom : List Site → List ℕ → ℕ → SiteKind → ℕ → Type 0
 ReachesFrom sites kept from (Call call) size =
-    Reaches (half size) call.addend (pos (new_offset sites kept call.target) -ℤ pos (new_offset sites kept from))
+    Reaches (half size) call.addend
+    (pos (new_offset sites kept call.target) -ℤ pos (new_offset sites kept from))
 ReachesFrom sites kept from (Padding padding) size = ⊥
 
 abbrev pub ReachesBy : List Site → List ℕ → ℕ → ℕ → Type 0
-ReachesBy sites kept i size = let site = site_at sites i in ReachesFrom sites kept site.offset site.kind size
+ReachesBy sites kept i size =
+    let site = site_at sites i in ReachesFrom sites kept site.offset site.kind size
 
 pub record IsFamily (sites : List Site) (kept : List ℕ) : Type 0 where
   pub same_length : length kept ≡ length sites
@@ -76,13 +80,15 @@ calls sites = count_by (λ site. is_call site.kind) sites
 -- sizes that come from others by so many shortenings, one after the other, in any order
 pub data Shortenings (sites : List Site) (from : List ℕ) : List ℕ → ℕ → Type 0 where
   Unchanged : Shortenings sites from from 0
-  Shortens : (kept : List ℕ) (n i shorter : ℕ) → Shortenings sites from kept n → MayShorten sites kept i shorter
+  Shortens : (kept : List ℕ) (n i shorter : ℕ) → Shortenings sites from kept n →
+      MayShorten sites kept i shorter
       → Shortenings sites from (set kept i shorter) (suc n)
 
 -- and by so many rounds, each of one shortening or more
 pub data Rounds (sites : List Site) (from : List ℕ) : List ℕ → ℕ → Type 0 where
   Begins : Rounds sites from from 0
-  Shortens_some : (old new : List ℕ) (r n : ℕ) → Rounds sites from old r → Shortenings sites old new n → 0 < n
+  Shortens_some : (old new : List ℕ) (r n : ℕ) → Rounds sites from old r →
+      Shortenings sites old new n → 0 < n
       → Rounds sites from new (suc r)
 
 abbrev pub whole_sizes : List Site → List ℕ
@@ -91,7 +97,8 @@ whole_sizes sites = map (λ site. bytes_of site.kind) sites
 -- the sites stand in order, none before the end of the one before
 abbrev pub InOrder : ℕ → List Site → Type 0
 InOrder from [] = ⊤
-InOrder from (site ∷ sites) = (from ≤ site.offset) × InOrder (site.offset + bytes_of site.kind) sites
+InOrder from (site ∷ sites) =
+    (from ≤ site.offset) × InOrder (site.offset + bytes_of site.kind) sites
 
 -- an offset is at the start or the end of a site, or outside
 abbrev pub IsOutside : ℕ → Site → Type 0

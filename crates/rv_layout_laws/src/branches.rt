@@ -12,7 +12,8 @@ pub fn least_good_exists()
 
 /// There is only one.
 pub fn one_least_good()
-    ensures { (items : List AnyItem) (sizes others : List ℕ) → IsLeastGood items sizes → IsLeastGood items others → sizes ≡ others }
+    ensures { (items : List AnyItem) (sizes others : List ℕ) → IsLeastGood items sizes →
+        IsLeastGood items others → sizes ≡ others }
 {}
 
 /// A family that is not good has a statement that may be widened.
@@ -39,6 +40,8 @@ pub fn widening_ends_at_the_least()
 /// A form below the largest still reaches where statements shrink afterwards by even numbers of bytes, as calls that are
 /// shortened and paddings that regrow to less do.
 pub fn shrunk_branches_reach()
-    ensures { (items : List AnyItem) (sizes rows : List ℕ) → IsGood items sizes → AllGrowEvenly rows sizes →
-        (i : ℕ) → slice_index sizes i < largest (item_at items i).forms → ReachesBy items rows i (slice_index sizes i) }
+    ensures { (items : List AnyItem) (sizes rows : List ℕ) → IsGood items sizes →
+        AllGrowEvenly rows sizes →
+        (i : ℕ) → slice_index sizes i < largest (item_at items i).forms →
+        ReachesBy items rows i (slice_index sizes i) }
 {}

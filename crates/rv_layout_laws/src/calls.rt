@@ -7,7 +7,8 @@ ghost use Rattle.rv_layout_laws.specs.Paddings.{AllReach, IsEvenText, IsFullPadd
 
 /// There is a greatest closed family.
 pub fn greatest_closed_exists()
-    ensures { (sites : List AnySite) → IsText sites → (kept : List ℕ) × IsGreatestClosed sites kept }
+    ensures { (sites : List AnySite) → IsText sites → (kept : List ℕ)
+        × IsGreatestClosed sites kept }
 {}
 
 /// There is only one.
@@ -51,6 +52,8 @@ pub fn least_padding_fits()
 
 /// So the least paddings of a text regrow from those of its full paddings, and no more.
 pub fn least_paddings_regrow()
-    ensures { (sites : List AnySite) → IsText sites → IsEvenText sites → ((i : ℕ) → IsFullPadding (site_at sites i).kind) →
-        (sized kept : List ℕ) → IsFamily sites sized → IsPadded sites sized kept → Regrows sites sized kept }
+    ensures { (sites : List AnySite) → IsText sites → IsEvenText sites →
+        ((i : ℕ) → IsFullPadding (site_at sites i).kind) →
+        (sized kept : List ℕ) → IsFamily sites sized → IsPadded sites sized kept →
+        Regrows sites sized kept }
 {}

@@ -25,35 +25,43 @@ use Rattle.rv_lexer.specs.declared.syntax_error.ReadError.TheVariants as refusal
 use Rattle.rv_lexer.specs.Cursor.{left, syntax_error_of, Answers}
 
 -- a call's result, as `view` sees it, is what the reading at the front of the tokens gives
-abbrev pub Gives : {X Y : Type 0} → (X → Y) → Result X SyntaxError → Result Y wrongs.SyntaxError → Type 0
+abbrev pub Gives : {X Y : Type 0} → (X → Y) → Result X SyntaxError → Result Y wrongs.SyntaxError →
+    Type 0
 Gives view (Ok x) read = read ≡ Ok (view x)
 Gives view (Err w) read = read ≡ Err (syntax_error_of w)
 
 -- from one state of a cursor to another a call answers the statement of a mnemonic and its operands
 abbrev pub ReadsInstruction : Mnemonic → Cursor → Cursor → Result StatementKind ReadError → Type 0
 ReadsInstruction m old new result =
-    Answers (λ k. (statement_kind k, left new)) result (parsing.seen_as (Instruction m) (parsing.operands_at (slots m) (left old)))
+    Answers (λ k. (statement_kind k, left new)) result
+    (parsing.seen_as (Instruction m) (parsing.operands_at (slots m) (left old)))
 
 abbrev pub GivesInstruction : Mnemonic → Cursor → Cursor → Result StatementKind SyntaxError → Type 0
 GivesInstruction m old new result =
-    Gives (λ k. (statement_kind k, left new)) result (parsing.seen_as (Instruction m) (parsing.operands_at (slots m) (left old)))
+    Gives (λ k. (statement_kind k, left new)) result
+    (parsing.seen_as (Instruction m) (parsing.operands_at (slots m) (left old)))
 
 -- the statement of a directive's word and its operands
-abbrev pub ReadsDirective : DirectiveWord → Cursor → Cursor → Result StatementKind ReadError → Type 0
+abbrev pub ReadsDirective : DirectiveWord → Cursor → Cursor → Result StatementKind ReadError →
+    Type 0
 ReadsDirective word old new result =
     Answers (λ k. (statement_kind k, left new)) result
-    (parsing.seen_as (λ os. Directs (directed word os)) (parsing.operands_at (places word) (left old)))
+    (parsing.seen_as (λ os. Directs (directed word os))
+    (parsing.operands_at (places word) (left old)))
 
-abbrev pub GivesDirective : DirectiveWord → Cursor → Cursor → Result StatementKind SyntaxError → Type 0
+abbrev pub GivesDirective : DirectiveWord → Cursor → Cursor → Result StatementKind SyntaxError →
+    Type 0
 GivesDirective word old new result =
     Gives (λ k. (statement_kind k, left new)) result
-    (parsing.seen_as (λ os. Directs (directed word os)) (parsing.operands_at (places word) (left old)))
+    (parsing.seen_as (λ os. Directs (directed word os))
+    (parsing.operands_at (places word) (left old)))
 
 -- No further statement is answered at the token t, which begins the tokens ts behind so many statements, where these names
 -- are known: the part there is wrong, or it is a statement too many; where it is both, what stands first.
 abbrev pub StopsAt : ReadError → (List ℕ → Bool) → ℕ → lexing.Token → List lexing.Token → Type 0
 StopsAt (refusals.At w) known count t ts =
-    ((parsing.checked_at known ts ≡ Err (syntax_error_of w)) × ((count < most_statements) ⊎ ((count ≡ most_statements) × (w.offset ≡ t.start))))
+    ((parsing.checked_at known ts ≡ Err (syntax_error_of w))
+    × ((count < most_statements) ⊎ ((count ≡ most_statements) × (w.offset ≡ t.start))))
     ⊎ ((count ≡ most_statements) × (syntax_error_of w ≡ record { offset = t.start; line = t.line; code = limit })
     × ((v : wrongs.SyntaxError) → parsing.checked_at known ts ≡ Err v → v.offset ≡ t.start → ⊥))
 StopsAt refusals.OutOfMemory known count t ts = Unit {0}
@@ -61,11 +69,13 @@ StopsAt refusals.OutOfMemory known count t ts = Unit {0}
 -- the tokens say statements up to a token where no further one is answered
 abbrev pub RefusesTokens : List lexing.Token → ReadError → Type 0
 RefusesTokens ts (refusals.At w) =
-    (t : lexing.Token) × (us : List lexing.Token) × (ss : List Statement) × SaysUpTo ts (t ∷ us) ss × (is_end t.kind ≡ false)
+    (t : lexing.Token) × (us : List lexing.Token) × (ss : List Statement) × SaysUpTo ts (t ∷ us) ss
+    × (is_end t.kind ≡ false)
     × StopsAt (refusals.At w) (is_opened ss) (length ss) t (t ∷ us)
 RefusesTokens ts refusals.OutOfMemory = Unit {0}
 
 -- the bytes are refused with the code and the line of the fault, unless memory ran out
 abbrev pub RefusedWith : List ℕ → SourceFault → Type 0
-RefusedWith bytes (faults.At code line) = Refuses bytes (record { code = number_of code; line = line })
+RefusedWith bytes (faults.At code line) =
+    Refuses bytes (record { code = number_of code; line = line })
 RefusedWith bytes faults.OutOfMemory = Unit {0}

@@ -26,9 +26,13 @@ prepended os r = seen_as (λ ps. os ++ ps) r
 -- what stands where a load or a store goes, and whether it is a target
 abbrev pub location_at : List Token → Read (Bool × List Operand)
 location_at ts =
-    if target_next ts then seen_as (λ os. (true, os)) (operand_at A_target ts) else seen_as (λ os. (false, os)) (operand_at An_address ts)
+    if target_next ts
+    then seen_as (λ os. (true, os)) (operand_at A_target ts)
+    else seen_as (λ os. (false, os)) (operand_at An_address ts)
 
 -- and what is behind it: these places behind a target, the end behind an address
 abbrev pub placed_at : Slots → List Token → Read (List Operand)
 placed_at rest ts =
-    location_at ts >>= λ l. seen_as (λ os. l.0.1 ++ os) (if l.0.0 then operands_at rest l.1 else ended_at An_address l.1)
+    location_at ts >>=
+    λ l. seen_as (λ os. l.0.1 ++ os)
+    (if l.0.0 then operands_at rest l.1 else ended_at An_address l.1)

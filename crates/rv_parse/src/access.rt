@@ -35,7 +35,8 @@ pub enum Location<'a> {
 /// The address that a register and what stands before its parentheses give, or a target.
 #[tactic(auto, using(crate::proofs::Located::number_err, crate::proofs::Located::target_ok), unfolding(rv_lexer::specs::Cursor::left))]
 fn located<'a>(alloc: Global, cursor: &mut Cursor<'a>) -> Result<Location<'a>, ReadError>
-    ensures { Answers (λ l. (location_of l, left cursor.new)) result (location_at (left cursor.old)) }
+    ensures { Answers (λ l. (location_of l, left cursor.new)) result
+        (location_at (left cursor.old)) }
 {
     if slot::begins_base(cursor) {
         let rs = slot::base(cursor)?;
@@ -61,7 +62,9 @@ fn loaded<'a>(
     operation: LoadOperation,
     rd: Reg,
 ) -> Result<StatementKind<'a>, ReadError>
-    ensures { Answers (λ k. (statement_kind k, left cursor.new)) result (seen_as (λ os. Instruction (Load operation) (Register rd ∷ os)) (placed_at (Stops A_target) (left cursor.old))) }
+    ensures { Answers (λ k. (statement_kind k, left cursor.new)) result
+        (seen_as (λ os. Instruction (Load operation) (Register rd ∷ os))
+        (placed_at (Stops A_target) (left cursor.old))) }
 {
     match located(alloc, cursor)? {
         Location::Register(rs1) => {
@@ -101,7 +104,9 @@ fn stored<'a>(
     operation: StoreOperation,
     rs2: Reg,
 ) -> Result<StatementKind<'a>, ReadError>
-    ensures { Answers (λ k. (statement_kind k, left cursor.new)) result (seen_as (λ os. Instruction (Store operation) (Register rs2 ∷ os)) (placed_at (Takes (A_comma A_target) (last A_register)) (left cursor.old))) }
+    ensures { Answers (λ k. (statement_kind k, left cursor.new)) result
+        (seen_as (λ os. Instruction (Store operation) (Register rs2 ∷ os))
+        (placed_at (Takes (A_comma A_target) (last A_register)) (left cursor.old))) }
 {
     match located(alloc, cursor)? {
         Location::Register(rs1) => {
@@ -138,7 +143,8 @@ pub fn store<'a>(
 /// A register in parentheses, after the opening one.
 #[tactic(auto, unfolding(rv_parse_laws::specs::Parsing::operands_at))]
 fn closed(cursor: &mut Cursor<'_>) -> Result<Reg, SyntaxError>
-    ensures { Gives (λ r. (Register r ∷ [], left cursor.new)) result (operands_at closed (left cursor.old)) }
+    ensures { Gives (λ r. (Register r ∷ [], left cursor.new)) result
+        (operands_at closed (left cursor.old)) }
 {
     let base = slot::register(cursor)?;
     slot::closing(cursor)?;
@@ -149,7 +155,8 @@ fn closed(cursor: &mut Cursor<'_>) -> Result<Reg, SyntaxError>
 /// The address of an atomic.
 #[tactic(auto, unfolding(rv_parse_laws::specs::Parsing::operands_at))]
 fn atomic_address(cursor: &mut Cursor<'_>) -> Result<Reg, SyntaxError>
-    ensures { Gives (λ r. (Register r ∷ [], left cursor.new)) result (operands_at atomic_address (left cursor.old)) }
+    ensures { Gives (λ r. (Register r ∷ [], left cursor.new)) result
+        (operands_at atomic_address (left cursor.old)) }
 {
     if slot::begins_opening(cursor) {
         slot::opening(cursor, Slot::Register)?;

@@ -24,7 +24,8 @@ use std::alloc::Global;
 /// One symbol or more, with commas between.
 #[tactic(auto, using(crate::proofs::Lists::names_first_wrong, crate::proofs::Lists::names_begin, crate::proofs::Lists::names_wrong, crate::proofs::Lists::names_done))]
 fn names<'a>(alloc: Global, cursor: &mut Cursor<'a>) -> Result<Vec<&'a [u8]>, ReadError>
-    ensures { Answers (λ names. (map word_of names.items, left cursor.new)) result (items_at A_symbol (left cursor.old)) }
+    ensures { Answers (λ names. (map word_of names.items, left cursor.new)) result
+        (items_at A_symbol (left cursor.old)) }
 {
     let mut names = Vec::new(alloc);
     names.push(slot::symbol(cursor)?)?;
@@ -39,7 +40,8 @@ fn names<'a>(alloc: Global, cursor: &mut Cursor<'a>) -> Result<Vec<&'a [u8]>, Re
 /// One string or more, with commas between.
 #[tactic(auto, using(crate::proofs::Lists::strings_first_wrong, crate::proofs::Lists::strings_begin, crate::proofs::Lists::strings_wrong, crate::proofs::Lists::strings_done))]
 fn strings<'a>(alloc: Global, cursor: &mut Cursor<'a>) -> Result<Vec<&'a [u8]>, ReadError>
-    ensures { Answers (λ strings. (map string_of strings.items, left cursor.new)) result (items_at A_string (left cursor.old)) }
+    ensures { Answers (λ strings. (map string_of strings.items, left cursor.new)) result
+        (items_at A_string (left cursor.old)) }
 {
     let mut strings = Vec::new(alloc);
     strings.push(slot::string(cursor)?)?;
@@ -58,7 +60,9 @@ fn several<'a>(
     cursor: &mut Cursor<'a>,
     first: Expr<'a>,
 ) -> Result<Vec<Expr<'a>>, ReadError>
-    ensures { Answers (λ values. (map value_of values.items, left cursor.new)) result (prepended (value_of first.entry ∷ []) (further_items (A_value roles.Directive) (left cursor.old))) }
+    ensures { Answers (λ values. (map value_of values.items, left cursor.new)) result
+        (prepended (value_of first.entry ∷ [])
+        (further_items (A_value roles.Directive) (left cursor.old))) }
 {
     let mut values = Vec::new(alloc);
     values.push(first)?;
@@ -190,7 +194,10 @@ fn section_type<'a>(
     name: &'a [u8],
     flags: &'a [u8],
 ) -> Result<StatementKind<'a>, ReadError>
-    ensures { Answers (λ k. (statement_kind k, left cursor.new)) result (seen_as (λ os. Directs (directed Section (word_of name.entry ∷ string_of flags.entry ∷ os))) (operands_at type_slots (left cursor.old))) }
+    ensures { Answers (λ k. (statement_kind k, left cursor.new)) result
+        (seen_as
+        (λ os. Directs (directed Section (word_of name.entry ∷ string_of flags.entry ∷ os)))
+        (operands_at type_slots (left cursor.old))) }
 {
     let kind = slot::section_type(cursor)?;
     if slot::begins_comma(cursor) {
@@ -215,7 +222,9 @@ fn section_flags<'a>(
     cursor: &mut Cursor<'a>,
     name: &'a [u8],
 ) -> Result<StatementKind<'a>, ReadError>
-    ensures { Answers (λ k. (statement_kind k, left cursor.new)) result (seen_as (λ os. Directs (directed Section (word_of name.entry ∷ os))) (operands_at flags_slots (left cursor.old))) }
+    ensures { Answers (λ k. (statement_kind k, left cursor.new)) result
+        (seen_as (λ os. Directs (directed Section (word_of name.entry ∷ os)))
+        (operands_at flags_slots (left cursor.old))) }
 {
     let flags = slot::flags(cursor)?;
     if slot::begins_comma(cursor) {

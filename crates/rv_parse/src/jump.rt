@@ -117,7 +117,10 @@ fn jump_target<'a>(
     cursor: &mut Cursor<'a>,
     rd: Reg,
 ) -> Result<StatementKind<'a>, ReadError>
-    ensures { Answers (λ k. (statement_kind k, left cursor.new)) result (seen_as (Instruction Jalr) (seen_as (λ os. Register rd ∷ os) (seen_as (λ os. os) (operands_at jump_target (left cursor.old))))) }
+    ensures { Answers (λ k. (statement_kind k, left cursor.new)) result
+        (seen_as (Instruction Jalr)
+        (seen_as (λ os. Register rd ∷ os)
+        (seen_as (λ os. os) (operands_at jump_target (left cursor.old))))) }
 {
     if !slot::begins_register(cursor) {
         if slot::begins_base(cursor) {

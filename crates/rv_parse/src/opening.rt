@@ -42,7 +42,9 @@ impl<'a> Opened<'a> {
 
     /// Adds a name.
     fn insert(&mut self, name: &'a [u8]) -> Result<(), AllocError>
-        ensures { OnOk result ((test : List ℕ → Bool) → Has (self.old).set test → Has (self.new).set (λ n. bytes_eq name.now n || test n)) }
+        ensures { OnOk result
+            ((test : List ℕ → Bool) → Has (self.old).set test →
+            Has (self.new).set (λ n. bytes_eq name.now n || test n)) }
     {
         self.set.insert(name)?;
         Ok(())
@@ -50,7 +52,9 @@ impl<'a> Opened<'a> {
 
     /// Adds what a statement opens or enters.
     pub fn add(&mut self, kind: &StatementKind<'a>) -> Result<(), AllocError>
-        ensures { OnOk result ((test : List ℕ → Bool) → Has (self.old).set test → Has (self.new).set (λ n. opens n (statement_kind kind.now) || test n)) }
+        ensures { OnOk result
+            ((test : List ℕ → Bool) → Has (self.old).set test →
+            Has (self.new).set (λ n. opens n (statement_kind kind.now) || test n)) }
     {
         match kind {
             StatementKind::Enters(standard) => self.insert(standard.name()),
@@ -88,7 +92,9 @@ fn flags_fault(
     cursor: &Cursor<'_>,
     known: bool,
 ) -> Result<Option<SyntaxError>, AllocError>
-    ensures { IfOk result (λ found. option_map syntax_error_of found ≡ front_fault (flags_fault known) (left cursor.now)) }
+    ensures { IfOk result
+        (λ found. option_map syntax_error_of found
+        ≡ front_fault (flags_fault known) (left cursor.now)) }
 {
     if known {
         return Ok(None);
@@ -128,7 +134,8 @@ fn flags_wrong(
     cursor: Cursor<'_>,
     known: bool,
 ) -> Result<Option<SyntaxError>, AllocError>
-    ensures { IfOk result (λ found. option_map syntax_error_of found ≡ flags_wrong known (left cursor.entry)) }
+    ensures { IfOk result
+        (λ found. option_map syntax_error_of found ≡ flags_wrong known (left cursor.entry)) }
 {
     match flags_fault(alloc, &cursor, known)? {
         Some(wrong) => Ok(Some(wrong)),
@@ -143,7 +150,9 @@ pub fn wrong_opening(
     cursor: &Cursor<'_>,
     opened: &Opened<'_>,
 ) -> Result<Option<SyntaxError>, AllocError>
-    ensures { IfOk result (λ found. (ss : List Statement) → Knows (opened.now).set ss → option_map syntax_error_of found ≡ opening_at (is_opened ss) (left cursor.now)) }
+    ensures { IfOk result
+        (λ found. (ss : List Statement) → Knows (opened.now).set ss →
+        option_map syntax_error_of found ≡ opening_at (is_opened ss) (left cursor.now)) }
 {
     if !kinds::is_section(cursor.next.kind) {
         return Ok(None);

@@ -31,7 +31,8 @@ pub fn with<'a>(operation: Operation, expression: Expr<'a>) -> StatementKind<'a>
 /// None: the statement's end.
 #[tactic(auto, unfolding(rv_parse_laws::specs::Parsing::operands_at))]
 pub fn none(cursor: &Cursor<'_>) -> Result<(), SyntaxError>
-    ensures { Gives (λ _. ([], left cursor.now)) result (operands_at (Stops A_register) (left cursor.now)) }
+    ensures { Gives (λ _. ([], left cursor.now)) result
+        (operands_at (Stops A_register) (left cursor.now)) }
 {
     slot::end(cursor, Slot::Register)
 }
@@ -39,7 +40,8 @@ pub fn none(cursor: &Cursor<'_>) -> Result<(), SyntaxError>
 /// `rd, rs`
 #[tactic(auto, unfolding(rv_parse_laws::specs::Parsing::operands_at))]
 pub fn two_registers(cursor: &mut Cursor<'_>) -> Result<(Reg, Reg), SyntaxError>
-    ensures { Gives (λ r. (Register r.0 ∷ Register r.1 ∷ [], left cursor.new)) result (operands_at (and_then A_register (last A_register)) (left cursor.old)) }
+    ensures { Gives (λ r. (Register r.0 ∷ Register r.1 ∷ [], left cursor.new)) result
+        (operands_at (and_then A_register (last A_register)) (left cursor.old)) }
 {
     let rd = slot::register(cursor)?;
     slot::comma(cursor, Slot::Register)?;
@@ -51,7 +53,10 @@ pub fn two_registers(cursor: &mut Cursor<'_>) -> Result<(Reg, Reg), SyntaxError>
 /// `rd, rs1, rs2`
 #[tactic(auto, unfolding(rv_parse_laws::specs::Parsing::operands_at))]
 pub fn three_registers(cursor: &mut Cursor<'_>) -> Result<(Reg, Reg, Reg), SyntaxError>
-    ensures { Gives (λ r. (Register r.0 ∷ Register r.1 ∷ Register r.2 ∷ [], left cursor.new)) result (operands_at (and_then A_register (and_then A_register (last A_register))) (left cursor.old)) }
+    ensures { Gives
+        (λ r. (Register r.0 ∷ Register r.1 ∷ Register r.2 ∷ [], left cursor.new)) result
+        (operands_at (and_then A_register (and_then A_register (last A_register)))
+        (left cursor.old)) }
 {
     let rd = slot::register(cursor)?;
     slot::comma(cursor, Slot::Register)?;
@@ -81,7 +86,8 @@ pub fn register_and_argument<'a>(
     role: Role,
 ) -> Result<(Reg, Argument<'a>), ReadError>
     requires { targets role ≡ false }
-    ensures { Answers (λ r. (Register r.0 ∷ operand_of r.1 ∷ [], left cursor.new)) result (operands_at (and_then A_register (last (A_value role))) (left cursor.old)) }
+    ensures { Answers (λ r. (Register r.0 ∷ operand_of r.1 ∷ [], left cursor.new)) result
+        (operands_at (and_then A_register (last (A_value role))) (left cursor.old)) }
 {
     let register = slot::register(cursor)?;
     slot::comma(cursor, Slot::Register)?;
@@ -98,7 +104,10 @@ pub fn registers_and_argument<'a>(
     role: Role,
 ) -> Result<(Reg, Reg, Argument<'a>), ReadError>
     requires { targets role ≡ false }
-    ensures { Answers (λ r. (Register r.0 ∷ Register r.1 ∷ operand_of r.2 ∷ [], left cursor.new)) result (operands_at (and_then A_register (and_then A_register (last (A_value role)))) (left cursor.old)) }
+    ensures { Answers
+        (λ r. (Register r.0 ∷ Register r.1 ∷ operand_of r.2 ∷ [], left cursor.new)) result
+        (operands_at (and_then A_register (and_then A_register (last (A_value role))))
+        (left cursor.old)) }
 {
     let first = slot::register(cursor)?;
     slot::comma(cursor, Slot::Register)?;
@@ -117,7 +126,8 @@ pub fn one_value<'a>(
     role: Role,
 ) -> Result<Expr<'a>, ReadError>
     requires { may_call role ≡ false }
-    ensures { Answers (λ e. (valued role (tree_of_expr e) ∷ [], left cursor.new)) result (operands_at (last (A_value role)) (left cursor.old)) }
+    ensures { Answers (λ e. (valued role (tree_of_expr e) ∷ [], left cursor.new)) result
+        (operands_at (last (A_value role)) (left cursor.old)) }
 {
     let value = value::value(alloc, cursor, role)?;
     slot::end(cursor, Slot::Value(role))?;
@@ -132,7 +142,9 @@ pub fn register_and_value<'a>(
     role: Role,
 ) -> Result<(Reg, Expr<'a>), ReadError>
     requires { may_call role ≡ false }
-    ensures { Answers (λ r. (Register r.0 ∷ valued role (tree_of_expr r.1) ∷ [], left cursor.new)) result (operands_at (and_then A_register (last (A_value role))) (left cursor.old)) }
+    ensures { Answers
+        (λ r. (Register r.0 ∷ valued role (tree_of_expr r.1) ∷ [], left cursor.new)) result
+        (operands_at (and_then A_register (last (A_value role))) (left cursor.old)) }
 {
     let register = slot::register(cursor)?;
     slot::comma(cursor, Slot::Register)?;

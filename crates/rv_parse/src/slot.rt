@@ -16,7 +16,8 @@ use rv_words::kinds;
 /// A register.
 #[tactic(auto, using(crate::proofs::Tokens::register_no_last), unfolding(rv_lexer::specs::Cursor::left))]
 pub fn register(cursor: &mut Cursor<'_>) -> Result<Reg, SyntaxError>
-    ensures { Gives (λ r. (Register r ∷ [], left cursor.new)) result (operand_at A_register (left cursor.old)) }
+    ensures { Gives (λ r. (Register r ∷ [], left cursor.new)) result
+        (operand_at A_register (left cursor.old)) }
 {
     match kinds::register_of(cursor.next.kind) {
         Some(register) => {
@@ -88,7 +89,8 @@ pub fn begins_accesses(cursor: &Cursor<'_>) -> bool
 /// A set of accesses.
 #[tactic(auto, using(crate::proofs::Tokens::accesses_no_last), unfolding(rv_lexer::specs::Cursor::left))]
 pub fn accesses(cursor: &mut Cursor<'_>) -> Result<AccessSet, SyntaxError>
-    ensures { Gives (λ set. (Accesses set ∷ [], left cursor.new)) result (operand_at Some_accesses (left cursor.old)) }
+    ensures { Gives (λ set. (Accesses set ∷ [], left cursor.new)) result
+        (operand_at Some_accesses (left cursor.old)) }
 {
     match kinds::accesses_of(cursor.next.kind) {
         Some(set) => {
@@ -115,7 +117,8 @@ pub fn zero(cursor: &mut Cursor<'_>) -> Result<(), SyntaxError>
 /// An opening parenthesis, after what stands in this slot.
 #[tactic(auto, using(crate::proofs::Tokens::opening_no_last), unfolding(rv_lexer::specs::Cursor::left))]
 pub fn opening(cursor: &mut Cursor<'_>, behind: Slot) -> Result<(), SyntaxError>
-    ensures { Gives (λ _. ([], left cursor.new)) result (operand_at (An_opening (slot_of behind)) (left cursor.old)) }
+    ensures { Gives (λ _. ([], left cursor.new)) result
+        (operand_at (An_opening (slot_of behind)) (left cursor.old)) }
 {
     if kinds::is_opening(cursor.next.kind) {
         cursor.advance();
@@ -151,7 +154,8 @@ pub fn base(cursor: &mut Cursor<'_>) -> Result<Reg, SyntaxError>
 /// A symbol, in a directive.
 #[tactic(auto, using(crate::proofs::Tokens::symbol_no_last), unfolding(rv_lexer::specs::Cursor::left))]
 pub fn symbol<'a>(cursor: &mut Cursor<'a>) -> Result<&'a [u8], SyntaxError>
-    ensures { Gives (λ name. (word_of name ∷ [], left cursor.new)) result (operand_at A_symbol (left cursor.old)) }
+    ensures { Gives (λ name. (word_of name ∷ [], left cursor.new)) result
+        (operand_at A_symbol (left cursor.old)) }
 {
     match kinds::symbol_of(cursor.next.kind) {
         Some(name) => {
@@ -165,7 +169,8 @@ pub fn symbol<'a>(cursor: &mut Cursor<'a>) -> Result<&'a [u8], SyntaxError>
 /// A string.
 #[tactic(auto, using(crate::proofs::Tokens::string_no_last), unfolding(rv_lexer::specs::Cursor::left))]
 pub fn string<'a>(cursor: &mut Cursor<'a>) -> Result<&'a [u8], SyntaxError>
-    ensures { Gives (λ text. (string_of text ∷ [], left cursor.new)) result (operand_at A_string (left cursor.old)) }
+    ensures { Gives (λ text. (string_of text ∷ [], left cursor.new)) result
+        (operand_at A_string (left cursor.old)) }
 {
     match kinds::string_of(cursor.next.kind) {
         Some(text) => {
@@ -205,7 +210,8 @@ pub fn plt(cursor: &mut Cursor<'_>) -> Result<(), SyntaxError>
 /// A section's type.
 #[tactic(auto, using(crate::proofs::Tokens::type_no_last), unfolding(rv_lexer::specs::Cursor::left))]
 pub fn section_type<'a>(cursor: &mut Cursor<'a>) -> Result<&'a [u8], SyntaxError>
-    ensures { Gives (λ name. (word_of name ∷ [], left cursor.new)) result (operand_at A_type (left cursor.old)) }
+    ensures { Gives (λ name. (word_of name ∷ [], left cursor.new)) result
+        (operand_at A_type (left cursor.old)) }
 {
     match kinds::type_of(cursor.next.kind) {
         Some(name) => {
@@ -219,7 +225,8 @@ pub fn section_type<'a>(cursor: &mut Cursor<'a>) -> Result<&'a [u8], SyntaxError
 /// A comma, after an operand in this slot.
 #[tactic(auto, using(crate::proofs::Tokens::comma_no_last), unfolding(rv_lexer::specs::Cursor::left))]
 pub fn comma(cursor: &mut Cursor<'_>, behind: Slot) -> Result<(), SyntaxError>
-    ensures { Gives (λ _. ([], left cursor.new)) result (operand_at (A_comma (slot_of behind)) (left cursor.old)) }
+    ensures { Gives (λ _. ([], left cursor.new)) result
+        (operand_at (A_comma (slot_of behind)) (left cursor.old)) }
 {
     if kinds::is_comma(cursor.next.kind) {
         cursor.advance();
@@ -265,7 +272,8 @@ fn too_long(cursor: Cursor<'_>) -> SyntaxError
 /// The name of a section.
 #[tactic(auto, unfolding(rv_lexer::specs::Cursor::left))]
 pub fn section_name<'a>(cursor: &mut Cursor<'a>) -> Result<&'a [u8], SyntaxError>
-    ensures { Gives (λ name. (word_of name ∷ [], left cursor.new)) result (operand_at A_section (left cursor.old)) }
+    ensures { Gives (λ name. (word_of name ∷ [], left cursor.new)) result
+        (operand_at A_section (left cursor.old)) }
 {
     let before = *cursor;
     match cursor.joined() {
@@ -285,7 +293,8 @@ pub fn section_name<'a>(cursor: &mut Cursor<'a>) -> Result<&'a [u8], SyntaxError
 /// The flags of a section.
 #[tactic(auto, using(crate::proofs::Tokens::string_no_last), unfolding(rv_lexer::specs::Cursor::left))]
 pub fn flags<'a>(cursor: &mut Cursor<'a>) -> Result<&'a [u8], SyntaxError>
-    ensures { Gives (λ text. (string_of text ∷ [], left cursor.new)) result (operand_at Some_flags (left cursor.old)) }
+    ensures { Gives (λ text. (string_of text ∷ [], left cursor.new)) result
+        (operand_at Some_flags (left cursor.old)) }
 {
     match kinds::string_of(cursor.next.kind) {
         Some(text) => {

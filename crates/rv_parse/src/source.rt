@@ -51,7 +51,8 @@ fn past_line(source: &[u8]) -> Option<usize>
 
 /// The fault of the first token of a statement past the most.
 fn past_statements(first: Token<'_>) -> SyntaxError
-    ensures { syntax_error_of result ≡ record { offset = first.entry.start; line = first.entry.line; code = limit } }
+    ensures { syntax_error_of result
+        ≡ record { offset = first.entry.start; line = first.entry.line; code = limit } }
 {
     SyntaxError {
         offset: first.start as usize,
@@ -67,7 +68,9 @@ fn checked<'a>(
     opened: &Opened<'a>,
 ) -> Result<StatementKind<'a>, ReadError>
     requires { is_end (kind_of cursor.old.next.kind) ≡ false }
-    ensures { (ss : List SpecStatement) → Knows (opened.now).set ss → Answers (λ k. (Says (statement_kind k), left cursor.new)) result (checked_at (is_opened ss) (left cursor.old)) }
+    ensures { (ss : List SpecStatement) → Knows (opened.now).set ss →
+        Answers (λ k. (Says (statement_kind k), left cursor.new)) result
+        (checked_at (is_opened ss) (left cursor.old)) }
 {
     if let Some(wrong) = wrong_opening(alloc, cursor, opened)? {
         return Err(ReadError::At(wrong));
@@ -83,10 +86,16 @@ fn next_statement<'a>(
     opened: &Opened<'a>,
 ) -> Result<Statement<'a>, ReadError>
     requires { is_end (kind_of cursor.old.next.kind) ≡ false }
-    ensures read { (ss : List SpecStatement) → Knows (opened.now).set ss → IfOk result (λ s. checked_at (is_opened ss) (left cursor.old) ≡ Ok (Says (statement_kind s.kind), left cursor.new)) }
+    ensures read { (ss : List SpecStatement) → Knows (opened.now).set ss →
+        IfOk result
+        (λ s. checked_at (is_opened ss) (left cursor.old)
+        ≡ Ok (Says (statement_kind s.kind), left cursor.new)) }
     ensures line { IfOk result (λ s. s.line ≡ cursor.old.next.line) }
     ensures room { IfOk result (λ s. count < most_statements) }
-    ensures stops { (ss : List SpecStatement) → Knows (opened.now).set ss → count ≤ most_statements → IfErr result (λ e. StopsAt e (is_opened ss) count (token_of cursor.old.next) (left cursor.old)) }
+    ensures stops { (ss : List SpecStatement) → Knows (opened.now).set ss →
+        count ≤ most_statements →
+        IfErr result
+        (λ e. StopsAt e (is_opened ss) count (token_of cursor.old.next) (left cursor.old)) }
 {
     let first = cursor.next;
     let past = past_statements(first);
@@ -115,7 +124,8 @@ fn next_statement<'a>(
 /// The statements that the tokens say, up to the source's end.
 #[tactic(auto, using(rv_parse_laws::proofs::Progress::end_no_last))]
 fn statements<'a>(alloc: Global, lexer: Lexer<'a>) -> Result<Vec<Statement<'a>>, ReadError>
-    ensures says { IfOk result (λ v. SaysUpTo (tokens_left lexer.entry) [] (map statement_of v.items)) }
+    ensures says { IfOk result
+        (λ v. SaysUpTo (tokens_left lexer.entry) [] (map statement_of v.items)) }
     ensures within { IfOk result (λ v. length (map statement_of v.items) ≤ most_statements) }
     ensures refuses { IfErr result (λ e. RefusesTokens (tokens_left lexer.entry) e) }
 {

@@ -19,7 +19,9 @@ use std::alloc::Global;
 #[tactic(auto, using(crate::proofs::Tokens::colon_no_last), unfolding(rv_lexer::specs::Cursor::left))]
 fn label<'a>(cursor: &mut Cursor<'a>, first: Token<'a>) -> Result<StatementKind<'a>, ReadError>
     requires { is_colon (kind_of cursor.old.next.kind) ≡ true }
-    ensures { Answers (λ k. (statement_kind k, left cursor.new)) result (taken (token_of first.entry) (after_first (left cursor.old)) (label_of (kind_of first.entry.kind)) (wrong_label (kind_of first.entry.kind))) }
+    ensures { Answers (λ k. (statement_kind k, left cursor.new)) result
+        (taken (token_of first.entry) (after_first (left cursor.old))
+        (label_of (kind_of first.entry.kind)) (wrong_label (kind_of first.entry.kind))) }
 {
     match kinds::label_of(first.kind) {
         Some(label) => {
@@ -37,7 +39,8 @@ fn begun<'a>(
     cursor: &mut Cursor<'a>,
     first: Token<'a>,
 ) -> Result<StatementKind<'a>, ReadError>
-    ensures { Answers (λ k. (statement_kind k, left cursor.new)) result (begun_at (begins (kind_of first.entry.kind)) (token_of first.entry) (left cursor.old)) }
+    ensures { Answers (λ k. (statement_kind k, left cursor.new)) result
+        (begun_at (begins (kind_of first.entry.kind)) (token_of first.entry) (left cursor.old)) }
 {
     match kinds::begins(first.kind) {
         Beginning::Instruction(mnemonic) => instruction(alloc, cursor, mnemonic),
@@ -56,7 +59,8 @@ fn statement_after<'a>(
     cursor: &mut Cursor<'a>,
     first: Token<'a>,
 ) -> Result<StatementKind<'a>, ReadError>
-    ensures { Answers (λ k. (statement_kind k, left cursor.new)) result (statement_at (token_of first.entry) (left cursor.old)) }
+    ensures { Answers (λ k. (statement_kind k, left cursor.new)) result
+        (statement_at (token_of first.entry) (left cursor.old)) }
 {
     if kinds::is_colon(cursor.next.kind) {
         label(cursor, first)
@@ -69,7 +73,8 @@ fn statement_after<'a>(
 #[tactic(auto, using(rv_parse_laws::proofs::Parts::last_begins_nothing), unfolding(rv_lexer::specs::Cursor::left, rv_parse_laws::specs::Parsing::part_at, rv_parse_laws::specs::Parsing::statement_at, rv_parse_laws::specs::Parsing::begun_at))]
 pub fn statement<'a>(alloc: Global, cursor: &mut Cursor<'a>) -> Result<StatementKind<'a>, ReadError>
     requires { is_end (kind_of cursor.old.next.kind) ≡ false }
-    ensures { Answers (λ k. (Says (statement_kind k), left cursor.new)) result (part_at (left cursor.old)) }
+    ensures { Answers (λ k. (Says (statement_kind k), left cursor.new)) result
+        (part_at (left cursor.old)) }
 {
     let first = cursor.next;
     if kinds::is_last(first.kind) {

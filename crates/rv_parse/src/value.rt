@@ -36,7 +36,8 @@ impl Registers for RegisterNames {
 /// An expression.
 #[tactic(auto, using(crate::proofs::Targets::read_numbers))]
 fn expression<'a>(alloc: Global, cursor: &mut Cursor<'a>) -> Result<Expr<'a>, ReadError>
-    ensures read { Answers (λ e. (tree_of_expr e, left cursor.new)) result (value_at (left cursor.old)) }
+    ensures read { Answers (λ e. (tree_of_expr e, left cursor.new)) result
+        (value_at (left cursor.old)) }
     ensures number { IfOk result (λ e. TellsNumbers e) }
 {
     rv_text::expression::<RegisterNames>(alloc, cursor)
@@ -46,7 +47,8 @@ fn expression<'a>(alloc: Global, cursor: &mut Cursor<'a>) -> Result<Expr<'a>, Re
 #[tactic(auto, unfolding(rv_lexer::specs::Cursor::left))]
 pub fn value<'a>(alloc: Global, cursor: &mut Cursor<'a>, role: Role) -> Result<Expr<'a>, ReadError>
     requires { may_call role ≡ false }
-    ensures { Answers (λ e. (valued role (tree_of_expr e), left cursor.new)) result (value_in role (left cursor.old)) }
+    ensures { Answers (λ e. (valued role (tree_of_expr e), left cursor.new)) result
+        (value_in role (left cursor.old)) }
 {
     let first = cursor.next;
     let value = expression(alloc, cursor)?;
@@ -58,7 +60,8 @@ pub fn value<'a>(alloc: Global, cursor: &mut Cursor<'a>, role: Role) -> Result<E
 
 /// A symbol, `@` and `plt`.
 fn linked<'a>(cursor: &mut Cursor<'a>) -> Result<Expr<'a>, SyntaxError>
-    ensures { Gives (λ e. (Target (tree_of_expr e) ∷ [], left cursor.new)) result (plt_at (left cursor.old)) }
+    ensures { Gives (λ e. (Target (tree_of_expr e) ∷ [], left cursor.new)) result
+        (plt_at (left cursor.old)) }
 {
     let symbol = label(cursor)?;
     slot::at_sign(cursor)?;
@@ -68,7 +71,8 @@ fn linked<'a>(cursor: &mut Cursor<'a>) -> Result<Expr<'a>, SyntaxError>
 
 /// What a call calls: a target, or a symbol and `@plt`.
 pub fn callee<'a>(alloc: Global, cursor: &mut Cursor<'a>) -> Result<Expr<'a>, ReadError>
-    ensures { Answers (λ e. (Target (tree_of_expr e) ∷ [], left cursor.new)) result (operand_at A_callee (left cursor.old)) }
+    ensures { Answers (λ e. (Target (tree_of_expr e) ∷ [], left cursor.new)) result
+        (operand_at A_callee (left cursor.old)) }
 {
     if slot::begins_plt(cursor) {
         return Ok(linked(cursor)?);
@@ -115,7 +119,8 @@ fn argument_of<'a>(
     cursor: &mut Cursor<'a>,
     function: Function,
 ) -> Result<Expr<'a>, ReadError>
-    ensures read { Answers (λ e. (tree_of_expr e, left cursor.new)) result (argument_at function (left cursor.old)) }
+    ensures read { Answers (λ e. (tree_of_expr e, left cursor.new)) result
+        (argument_at function (left cursor.old)) }
     ensures number { IfOk result (λ e. function ≡ PcrelHi → TellsNumbers e) }
 {
     match function {
@@ -132,7 +137,8 @@ fn enclosed<'a>(
     cursor: &mut Cursor<'a>,
     function: Function,
 ) -> Result<Expr<'a>, ReadError>
-    ensures read { Answers (λ e. (tree_of_expr e, left cursor.new)) result (enclosed_at function (left cursor.old)) }
+    ensures read { Answers (λ e. (tree_of_expr e, left cursor.new)) result
+        (enclosed_at function (left cursor.old)) }
     ensures number { IfOk result (λ e. function ≡ PcrelHi → TellsNumbers e) }
 {
     slot::opening(cursor, Slot::Register)?;
@@ -159,7 +165,8 @@ fn called<'a>(
     function: Function,
     percent: Token<'a>,
 ) -> Result<Expr<'a>, ReadError>
-    ensures { Answers (λ e. (Applied function (tree_of_expr e), left cursor.new)) result (called_at function (token_of percent.entry) (left cursor.old)) }
+    ensures { Answers (λ e. (Applied function (tree_of_expr e), left cursor.new)) result
+        (called_at function (token_of percent.entry) (left cursor.old)) }
 {
     let argument = enclosed(alloc, cursor, function)?;
     if is_refused(function, &argument) {
@@ -171,7 +178,8 @@ fn called<'a>(
 /// A word that is no function that may stand after this `%`.
 #[tactic(auto, unfolding(rv_lexer::specs::Cursor::left))]
 fn wrong_function(cursor: &Cursor<'_>, percent: Token<'_>) -> SyntaxError
-    ensures { syntax_error_of result ≡ wrong_function (token_of percent.entry) (token_of cursor.now.next) }
+    ensures { syntax_error_of result
+        ≡ wrong_function (token_of percent.entry) (token_of cursor.now.next) }
 {
     if kinds::is_name(cursor.next.kind) {
         SyntaxError::at(percent, SourceCode::BadOperands)
@@ -188,7 +196,8 @@ fn applied<'a>(
     role: Role,
     percent: Token<'a>,
 ) -> Result<Argument<'a>, ReadError>
-    ensures read { Answers (λ a. (operand_of a, left cursor.new)) result (applied_at role (token_of percent.entry) (left cursor.old)) }
+    ensures read { Answers (λ a. (operand_of a, left cursor.new)) result
+        (applied_at role (token_of percent.entry) (left cursor.old)) }
     ensures function { IfOk result (λ a. (a.function ≡ None) → ⊥) }
 {
     match kinds::function_in(role, cursor.next.kind) {
@@ -212,7 +221,8 @@ pub fn value_or_function<'a>(
     role: Role,
 ) -> Result<Argument<'a>, ReadError>
     requires { targets role ≡ false }
-    ensures read { Answers (λ a. (operand_of a, left cursor.new)) result (value_in role (left cursor.old)) }
+    ensures read { Answers (λ a. (operand_of a, left cursor.new)) result
+        (value_in role (left cursor.old)) }
     ensures number { IfOk result (λ a. a.function ≡ None → TellsNumbers a.expression) }
 {
     let first = cursor.next;

@@ -21,7 +21,10 @@ abbrev pub content_fault : Bool → Slot → Operand → Option ℕ
 content_fault known (A_value role) (Target e) = left_out (is_number e)
 content_fault known (A_value role) (Applied f e) = left_out (is_refused_by f e)
 content_fault known A_section (Word name) = left_out (bytes_eq name (codes ".rv.rows"))
-content_fault false Some_flags (Quoted letters) = if list_all is_flag letters then None else Some (wrong_letters letters)
-content_fault true A_type (Word word) = if nat_lt longest_name (length word) then Some limit else None
-content_fault false A_type (Word word) = if is_among section_types word then None else Some unsupported_here
+content_fault false Some_flags (Quoted letters) =
+    if list_all is_flag letters then None else Some (wrong_letters letters)
+content_fault true A_type (Word word) =
+    if nat_lt longest_name (length word) then Some limit else None
+content_fault false A_type (Word word) =
+    if is_among section_types word then None else Some unsupported_here
 content_fault _ _ _ = None

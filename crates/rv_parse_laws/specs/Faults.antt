@@ -41,7 +41,8 @@ may_call _ = false
 
 -- after a whole expression: a fill or a limit of an alignment is left out
 abbrev pub wrong_after_value : Role → Kind → ℕ
-wrong_after_value roles.Alignment k = if is_comma k then unsupported_here else wrong_or k bad_operands
+wrong_after_value roles.Alignment k =
+    if is_comma k then unsupported_here else wrong_or k bad_operands
 wrong_after_value _ k = wrong_or k bad_operands
 
 -- behind what stands in a place
@@ -62,7 +63,8 @@ wrong_symbol k = wrong_or k bad_operands
 -- after `%`: a word that is no function that may stand there is refused at the `%`
 abbrev pub wrong_function : Token → Token → SyntaxError
 wrong_function percent name =
-    if is_name name.kind then wrong percent bad_operands else wrong name (wrong_or name.kind bad_operands)
+    if is_name name.kind
+    then wrong percent bad_operands else wrong name (wrong_or name.kind bad_operands)
 
 -- a letter of flags that the language leaves out: G and T
 abbrev pub is_known_flag : ℕ → Bool
@@ -74,7 +76,8 @@ wrong_letters letters = if list_all is_known_flag letters then unsupported_here 
 
 -- the word after `.option`
 abbrev pub wrong_option : Kind → ℕ
-wrong_option (NameToken name) = if is_among left_out_options name then unsupported_here else bad_operands
+wrong_option (NameToken name) =
+    if is_among left_out_options name then unsupported_here else bad_operands
 wrong_option k = wrong_or k bad_operands
 
 -- where what stands in a place begins

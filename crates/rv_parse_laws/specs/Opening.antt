@@ -20,7 +20,8 @@ opens name _ = false
 
 -- a statement had this name; a source begins in `.text`
 abbrev pub is_opened : List Statement → List ℕ → Bool
-is_opened ss name = bytes_eq name (codes ".text") || list_any (λ (s : Statement). opens name s.kind) ss
+is_opened ss name =
+    bytes_eq name (codes ".text") || list_any (λ (s : Statement). opens name s.kind) ss
 
 -- the code of a string as the flags of a name that is known, or new
 abbrev pub flags_fault : Bool → Kind → Option ℕ
@@ -45,17 +46,20 @@ is_section _ = false
 -- the tokens are `.section`, this name and a comma
 abbrev pub IsNamed : List Token → List ℕ → Type 0
 IsNamed ts name =
-    (word : Token) × (text : List Token) × (comma : Token) × (ts ≡ word ∷ (text ++ comma ∷ [])) × (is_section word.kind ≡ true)
+    (word : Token) × (text : List Token) × (comma : Token) × (ts ≡ word ∷ (text ++ comma ∷ []))
+    × (is_section word.kind ≡ true)
     × IsJoined text name × (is_section_name name ≡ true) × (is_comma comma.kind ≡ true)
 
 -- behind such tokens a string is wrong as flags
-pub record WrongFlags (known : List ℕ → Bool) (before : List Token) (at : Token) (code : ℕ) : Type 0 where
+pub record WrongFlags (known : List ℕ → Bool) (before : List Token) (at : Token)
+    (code : ℕ) : Type 0 where
   pub name : List ℕ
   pub named : IsNamed before name
   pub wrong : flags_fault (known name) at.kind ≡ Some code
 
 -- behind such tokens, flags that are not wrong, a comma and `@`, a word is wrong as a type
-pub record WrongType (known : List ℕ → Bool) (before : List Token) (at : Token) (code : ℕ) : Type 0 where
+pub record WrongType (known : List ℕ → Bool) (before : List Token) (at : Token)
+    (code : ℕ) : Type 0 where
   pub name : List ℕ
   pub front : List Token
   pub flags : Token
@@ -71,4 +75,5 @@ pub record WrongType (known : List ℕ → Bool) (before : List Token) (at : Tok
 
 -- behind the statements ss the tokens `before` begin an opening with whose name the token `at` is wrong
 abbrev pub IsWrongOpening : List Statement → List Token → Token → ℕ → Type 0
-IsWrongOpening ss before at code = WrongFlags (is_opened ss) before at code ⊎ WrongType (is_opened ss) before at code
+IsWrongOpening ss before at code =
+    WrongFlags (is_opened ss) before at code ⊎ WrongType (is_opened ss) before at code

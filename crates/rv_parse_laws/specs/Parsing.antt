@@ -22,7 +22,8 @@ use Rattle.rv_parse_laws.specs.declared.beginning.Beginning.{Beginning}
 use Rattle.rv_parse_laws.specs.declared.beginning.Beginning.TheVariants as beginnings
 
 infixl 10 ◌>>=◌
-abbrev pub ◌>>=◌ : {A B : Type 0} → Result A SyntaxError → (A → Result B SyntaxError) → Result B SyntaxError
+abbrev pub ◌>>=◌ : {A B : Type 0} → Result A SyntaxError → (A → Result B SyntaxError) →
+    Result B SyntaxError
 (Ok x) >>= f = f x
 (Err e) >>= f = Err e
 
@@ -62,7 +63,8 @@ argument_at f ts = value_at ts
 -- an argument in parentheses
 abbrev pub enclosed_at : Function → List Token → Read Expression
 enclosed_at f ts =
-    single_at (An_opening A_register) ts >>= λ q. argument_at f q.1 >>= λ a. seen_as (λ none. a.0) (single_at A_closing a.1)
+    single_at (An_opening A_register) ts >>= λ q. argument_at f q.1 >>=
+    λ a. seen_as (λ none. a.0) (single_at A_closing a.1)
 
 -- what is after the word of a function whose `%` is the token p
 abbrev pub called_at : Function → Token → List Token → Read Operand
@@ -87,7 +89,8 @@ value_in role (t ∷ ts) =
 -- a register in parentheses
 abbrev pub base_at : List Token → Read (List Operand)
 base_at ts =
-    single_at (An_opening A_register) ts >>= λ o. single_at A_register o.1 >>= λ r. seen_as (λ none. r.0) (single_at A_closing r.1)
+    single_at (An_opening A_register) ts >>= λ o. single_at A_register o.1 >>=
+    λ r. seen_as (λ none. r.0) (single_at A_closing r.1)
 
 -- an expression, and then a register in parentheses
 abbrev pub offset_at : List Token → Read (List Operand)
@@ -108,7 +111,9 @@ target_next ts = is_target (value_at ts)
 
 -- a symbol, `@` and `plt`
 abbrev pub plt_at : List Token → Read (List Operand)
-plt_at ts = label_at ts >>= λ f. single_at At_sign f.1 >>= λ a. seen_as (λ none. Target f.0 ∷ []) (single_at A_plt a.1)
+plt_at ts =
+    label_at ts >>= λ f. single_at At_sign f.1 >>=
+    λ a. seen_as (λ none. Target f.0 ∷ []) (single_at A_plt a.1)
 
 -- how many bytes a token gives to a section's name
 abbrev pub width : Kind → ℕ
@@ -117,7 +122,9 @@ width k = length (unwrap_or (bytes_of k) [])
 -- the first token with which such a name is too long, where so many bytes of it stand before
 abbrev pub too_long : ℕ → List Token → SyntaxError
 too_long before [] = nowhere
-too_long before (t ∷ ts) = let bytes = before + width t.kind in if nat_lt longest_name bytes then wrong t limit else too_long bytes ts
+too_long before (t ∷ ts) =
+    let bytes = before + width t.kind in if nat_lt longest_name bytes
+    then wrong t limit else too_long bytes ts
 
 -- a fault at the first of these tokens
 abbrev pub wrong_front : List Token → ℕ → SyntaxError
@@ -140,7 +147,8 @@ section_at ts = named_or ts (joined_at ts)
 abbrev pub operand_at : Slot → List Token → Read (List Operand)
 operand_at (A_value role) ts = seen_as (λ o. o ∷ []) (value_in role ts)
 operand_at An_address ts = if base_next ts then base_at ts else offset_at ts
-operand_at A_callee ts = if plt_next ts then plt_at ts else seen_as (λ o. o ∷ []) (value_in roles.Target ts)
+operand_at A_callee ts =
+    if plt_next ts then plt_at ts else seen_as (λ o. o ∷ []) (value_in roles.Target ts)
 operand_at A_section ts = seen_as (λ name. Word name ∷ []) (section_at ts)
 operand_at s ts = single_at s ts
 
@@ -174,7 +182,10 @@ items_at s ts = items_in (length ts) s ts
 -- any tokens up to the end
 abbrev pub any_at : List Token → Read (List Operand)
 any_at [] = Err nowhere
-any_at (t ∷ ts) = if is_end t.kind then Ok ([], t ∷ ts) else (if is_any t.kind then any_at ts else Err (wrong t (wrong_any t.kind)))
+any_at (t ∷ ts) =
+    if is_end t.kind
+    then Ok ([], t ∷ ts)
+    else (if is_any t.kind then any_at ts else Err (wrong t (wrong_any t.kind)))
 
 unfoldable pub operands_at : Slots → List Token → Read (List Operand)
 operands_at (Stops s) ts = ended_at s ts
@@ -182,14 +193,17 @@ operands_at (Takes s rest) ts = taking s (λ us. operands_at rest us) ts
 operands_at (Chooses s rest others) ts =
     if front_begins s ts then taking s (λ us. operands_at rest us) ts else operands_at others ts
 operands_at (Locates rest) ts =
-    if target_next ts then taking A_target (λ us. operands_at rest us) ts else taking An_address (ended_at An_address) ts
+    if target_next ts
+    then taking A_target (λ us. operands_at rest us) ts
+    else taking An_address (ended_at An_address) ts
 operands_at (Lists s) ts = items_at s ts
 operands_at Anything ts = any_at ts
 
 -- the statement that begins with the token t, before the tokens ts
 unfoldable pub begun_at : Beginning → Token → List Token → Read StatementKind
 begun_at (beginnings.Instruction m) t ts = seen_as (Instruction m) (operands_at (slots m) ts)
-begun_at (beginnings.Directive word) t ts = seen_as (λ os. Directs (directed word os)) (operands_at (places word) ts)
+begun_at (beginnings.Directive word) t ts =
+    seen_as (λ os. Directs (directed word os)) (operands_at (places word) ts)
 begun_at beginnings.Nothing t ts = Err (wrong t (wrong_start t.kind))
 
 abbrev pub after_first : List Token → List Token
@@ -212,7 +226,8 @@ front_fault fault [] = None
 front_fault fault (t ∷ ts) = option_map (λ code. wrong t code) (fault t.kind)
 
 -- what is wrong behind what is read, if anything
-abbrev pub behind_read : {X : Type 0} → (List Token → Option SyntaxError) → Read X → Option SyntaxError
+abbrev pub behind_read : {X : Type 0} → (List Token → Option SyntaxError) → Read X →
+    Option SyntaxError
 behind_read f (Ok x) = f x.1
 behind_read f (Err w) = None
 
@@ -223,7 +238,10 @@ or_else None other = other
 -- what is wrong with a type behind flags, a comma and `@`, where the name is known, or new
 abbrev pub type_wrong : Bool → List Token → Option SyntaxError
 type_wrong known ts =
-    behind_read (λ us. behind_read (λ vs. behind_read (front_fault (type_fault known)) (single_at At_sign vs)) (single_at (A_comma Some_flags) us))
+    behind_read
+    (λ us. behind_read
+    (λ vs. behind_read (front_fault (type_fault known)) (single_at At_sign vs))
+    (single_at (A_comma Some_flags) us))
     (single_at Some_flags ts)
 
 -- what is wrong with flags, and a type behind them
@@ -232,7 +250,8 @@ flags_wrong known ts = or_else (front_fault (flags_fault known) ts) (type_wrong 
 
 -- what is wrong behind a section's name
 abbrev pub named_wrong : (List ℕ → Bool) → Read (List ℕ) → Option SyntaxError
-named_wrong known (Ok read) = behind_read (λ us. flags_wrong (known read.0) us) (single_at (A_comma A_section) read.1)
+named_wrong known (Ok read) =
+    behind_read (λ us. flags_wrong (known read.0) us) (single_at (A_comma A_section) read.1)
 named_wrong known (Err w) = None
 
 -- what is wrong with an opening of a section at the front, where these names are known

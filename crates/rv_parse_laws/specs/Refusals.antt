@@ -23,7 +23,8 @@ begins_label [] = false
 begins_label (t ∷ ts) = colon_next ts
 
 abbrev pub CanGoOn : List Token → List Token → Type 0
-CanGoOn rest before = (p : Part) × (more : List Token) × (is_label p ≡ begins_label rest) × IsPart p (before ++ more)
+CanGoOn rest before =
+    (p : Part) × (more : List Token) × (is_label p ≡ begins_label rest) × IsPart p (before ++ more)
 
 -- a token with which nothing can go on, after good parts and no wrong opening; the fault stands at that token, or at the
 -- first token of an operand that it ends, which is spelled right and is refused for what it says
@@ -78,7 +79,8 @@ pub record PastStatements (bytes : List ℕ) (place : ℕ) : Type 0 where
 -- a fault with this code stands at this byte
 abbrev pub Stands : List ℕ → ℕ → ℕ → Type 0
 Stands bytes place code =
-    WrongToken bytes place code ⊎ WrongOpening bytes place code ⊎ ((code ≡ limit) × IsPastLine bytes place) ⊎ ((code ≡ limit) × PastStatements bytes place)
+    WrongToken bytes place code ⊎ WrongOpening bytes place code
+    ⊎ ((code ≡ limit) × IsPastLine bytes place) ⊎ ((code ≡ limit) × PastStatements bytes place)
 
 -- a fault's code, by its number, and the line that it names
 pub record Fault : Type 0 where

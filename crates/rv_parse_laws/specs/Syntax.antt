@@ -35,7 +35,9 @@ use Rattle.rv_parse_laws.specs.declared.beginning.Beginning.TheVariants as begin
 
 -- a name that a symbol may have: no register's, not `.` alone, and not too long
 unfoldable pub is_symbol : List ℕ → Bool
-is_symbol name = not (is_some (register name)) && not (bytes_eq name (codes ".")) && nat_le (length name) longest_name
+is_symbol name =
+    not (is_some (register name)) && not (bytes_eq name (codes "."))
+    && nat_le (length name) longest_name
 
 -- the name spells a register
 abbrev pub is_register : List ℕ → Bool
@@ -127,7 +129,8 @@ abbrev pub is_any : Kind → Bool
 is_any k = not (is_end k || is_wrong k || is_long k)
 
 abbrev pub accesses : Bool → Bool → Bool → Bool → AccessSet
-accesses input output reads writes = record { input = input; output = output; reads = reads; writes = writes }
+accesses input output reads writes =
+    record { input = input; output = output; reads = reads; writes = writes }
 
 -- the sets of accesses by their letters, in the order iorw (ISA, 2.7)
 unfoldable pub access_sets : List (List ℕ × AccessSet)
@@ -156,7 +159,8 @@ accesses_of _ = None
 
 -- the letters of a section's flags: a w x, and M and S, which are dropped
 abbrev pub is_flag : ℕ → Bool
-is_flag letter = (letter == 97) || (letter == 119) || (letter == 120) || (letter == 77) || (letter == 83)
+is_flag letter =
+    (letter == 97) || (letter == 119) || (letter == 120) || (letter == 77) || (letter == 83)
 
 -- what may stand in one slot of a statement
 pub data Slot : Type 0 where
@@ -218,7 +222,8 @@ abbrev pub closed : Slots
 closed = Takes A_register (Takes A_closing (Stops A_register))
 
 abbrev pub atomic_address : Slots
-atomic_address = Chooses (An_opening A_register) closed (Takes A_zero (Takes (An_opening A_zero) closed))
+atomic_address =
+    Chooses (An_opening A_register) closed (Takes A_zero (Takes (An_opening A_zero) closed))
 
 -- the form with a constant of an operation that has one (GNU as, "RISC-V-Instructions")
 abbrev pub with_constant : RegisterOperation → Option Mnemonic
@@ -244,7 +249,10 @@ source false = last A_register
 
 -- the target of `jalr` behind its link register: `rs`, `rs, k`, `k(rs)`, `(rs)`
 abbrev pub jump_target : Slots
-jump_target = Chooses A_register (Chooses (A_comma A_register) (last (A_value roles.Operand)) (Stops A_register)) (last An_address)
+jump_target =
+    Chooses A_register
+    (Chooses (A_comma A_register) (last (A_value roles.Operand)) (Stops A_register))
+    (last An_address)
 
 -- the operand of `lui` and of `auipc`
 abbrev pub upper_role : UpperOperation → Role
@@ -260,18 +268,23 @@ linked target = Chooses A_register (Takes (A_comma A_register) (last target)) (l
 
 -- the places of each instruction's operands (ISA, chapter 24; Assembly Programmer's Manual)
 abbrev pub slots : Mnemonic → Slots
-slots (Registers operation) = and_then A_register (and_then A_register (source (is_some (with_constant operation))))
-slots (Immediate operation) = and_then A_register (and_then A_register (last (A_value roles.Operand)))
+slots (Registers operation) =
+    and_then A_register (and_then A_register (source (is_some (with_constant operation))))
+slots (Immediate operation) =
+    and_then A_register (and_then A_register (last (A_value roles.Operand)))
 slots (Shift operation) = and_then A_register (and_then A_register (last (A_value roles.Operand)))
 slots (Upper operation) = and_then A_register (last (A_value (upper_role operation)))
 slots (Load operation) = and_then A_register (Locates (Stops A_target))
 slots (Store operation) = and_then A_register (Locates (Takes (A_comma A_target) (last A_register)))
 slots (Branch operation) = and_then A_register (and_then A_register (last A_target))
 slots Jal = linked A_target
-slots Jalr = Chooses A_register (Chooses (A_comma A_register) jump_target (Stops A_register)) (last An_address)
+slots Jalr =
+    Chooses A_register (Chooses (A_comma A_register) jump_target (Stops A_register))
+    (last An_address)
 slots (LoadReserved form) = and_then A_register atomic_address
 slots (Atomic operation form) = and_then A_register (and_then A_register atomic_address)
-slots Fence = Chooses Some_accesses (Takes (A_comma Some_accesses) (last Some_accesses)) (Stops A_register)
+slots Fence =
+    Chooses Some_accesses (Takes (A_comma Some_accesses) (last Some_accesses)) (Stops A_register)
 slots FenceTso = Stops A_register
 slots Ecall = Stops A_register
 slots Ebreak = Stops A_register
@@ -291,7 +304,9 @@ slots Jump = and_then A_target (last A_register)
 
 -- `.section name[,"flags"[,@type[,n]]]`
 abbrev pub section_slots : Slots
-section_slots = and_maybe A_section (and_maybe Some_flags (Takes At_sign (and_maybe A_type (last (A_value roles.Directive)))))
+section_slots =
+    and_maybe A_section
+    (and_maybe Some_flags (Takes At_sign (and_maybe A_type (last (A_value roles.Directive)))))
 
 -- the places of each directive's operands (GNU as, "Pseudo Ops")
 abbrev pub places : DirectiveWord → Slots
@@ -319,7 +334,8 @@ single A_string (Text bytes) = Some (Quoted bytes ∷ [])
 single Some_flags (Text letters) = Some (Quoted letters ∷ [])
 single At_sign k = if is_at k then Some [] else None
 single A_type (NameToken name) = Some (Word name ∷ [])
-single An_option (NameToken name) = if is_some (named_in choices name) then Some (Word name ∷ []) else None
+single An_option (NameToken name) =
+    if is_some (named_in choices name) then Some (Word name ∷ []) else None
 single A_plt k = if is_plt k then Some [] else None
 single (A_comma behind) k = if is_comma k then Some [] else None
 single (An_opening behind) k = if is_opening k then Some [] else None
@@ -353,7 +369,9 @@ is_refused role e = targets role && is_number e
 
 -- the tokens are an expression
 abbrev pub IsValue : List Token → Expression → Type 0
-IsValue ts e = (tree : Tree) × SpellsTree is_register tree ts × IsAt 0 tree × (nesting tree ≤ deepest) × (e ≡ bare tree)
+IsValue ts e =
+    (tree : Tree) × SpellsTree is_register tree ts × IsAt 0 tree × (nesting tree ≤ deepest)
+    × (e ≡ bare tree)
 
 -- the functions that may stand in place of a value
 abbrev pub may_stand : Role → Function → Bool
@@ -392,17 +410,22 @@ is_refused_by _ e = false
 -- the tokens are a function of a value that may stand so
 abbrev pub IsApplied : Role → List Token → Operand → Type 0
 IsApplied role ts o =
-    (p n q : Token) × (argument : List Token) × (c : Token) × (f : Function) × (e : Expression) × (ts ≡ p ∷ n ∷ q ∷ (argument ++ c ∷ [])) × (is_percent p.kind ≡ true)
-    × (function_in role n.kind ≡ Some f) × (is_opening q.kind ≡ true) × IsArgument f argument e × (is_closing c.kind ≡ true) × (is_refused_by f e ≡ false) × (o ≡ Applied f e)
+    (p n q : Token) × (argument : List Token) × (c : Token) × (f : Function) × (e : Expression)
+    × (ts ≡ p ∷ n ∷ q ∷ (argument ++ c ∷ [])) × (is_percent p.kind ≡ true)
+    × (function_in role n.kind ≡ Some f) × (is_opening q.kind ≡ true) × IsArgument f argument e
+    × (is_closing c.kind ≡ true) × (is_refused_by f e ≡ false) × (o ≡ Applied f e)
 
 -- the tokens are an expression that may stand so, or a function of one
 abbrev pub IsValueIn : Role → List Token → Operand → Type 0
-IsValueIn role ts o = ((e : Expression) × IsValue ts e × (is_refused role e ≡ false) × (o ≡ valued role e)) ⊎ IsApplied role ts o
+IsValueIn role ts o =
+    ((e : Expression) × IsValue ts e × (is_refused role e ≡ false) × (o ≡ valued role e))
+    ⊎ IsApplied role ts o
 
 -- the tokens are a register in parentheses
 abbrev pub IsBase : List Token → List Operand → Type 0
 IsBase ts os =
-    (o r c : Token) × (number : ℕ) × (ts ≡ o ∷ r ∷ c ∷ []) × (is_opening o.kind ≡ true) × (register_of r.kind ≡ Some number) × (is_closing c.kind ≡ true)
+    (o r c : Token) × (number : ℕ) × (ts ≡ o ∷ r ∷ c ∷ []) × (is_opening o.kind ≡ true)
+    × (register_of r.kind ≡ Some number) × (is_closing c.kind ≡ true)
     × (os ≡ Register number ∷ [])
 
 -- the tokens are an expression and then a register in parentheses
@@ -414,7 +437,8 @@ IsOffset ts os =
 -- the tokens are a symbol and `@plt`
 abbrev pub IsLinked : List Token → List Operand → Type 0
 IsLinked ts os =
-    (f a p : Token) × (name : List ℕ) × (ts ≡ f ∷ a ∷ p ∷ []) × (symbol_of f.kind ≡ Some name) × (is_at a.kind ≡ true)
+    (f a p : Token) × (name : List ℕ) × (ts ≡ f ∷ a ∷ p ∷ []) × (symbol_of f.kind ≡ Some name)
+    × (is_at a.kind ≡ true)
     × (is_plt p.kind ≡ true) × (os ≡ Target (Leaf (Symbol name)) ∷ [])
 
 -- the tokens are an expression that may stand so, or a function of one, as an operand
@@ -426,7 +450,8 @@ abbrev pub IsOperand : Slot → List Token → List Operand → Type 0
 IsOperand (A_value role) ts os = IsOneIn role ts os
 IsOperand An_address ts os = IsBase ts os ⊎ IsOffset ts os
 IsOperand A_callee ts os = IsOneIn roles.Target ts os ⊎ IsLinked ts os
-IsOperand A_section ts os = (name : List ℕ) × IsJoined ts name × (is_section_name name ≡ true) × (os ≡ Word name ∷ [])
+IsOperand A_section ts os =
+    (name : List ℕ) × IsJoined ts name × (is_section_name name ≡ true) × (os ≡ Word name ∷ [])
 IsOperand s ts os = (t : Token) × (ts ≡ t ∷ []) × (single s t.kind ≡ Some os)
 
 -- the token at the front can stand in this place
@@ -445,13 +470,16 @@ plt_next [] = false
 plt_next (t ∷ ts) = is_some (symbol_of t.kind) && front_begins At_sign ts
 
 -- what stands in a place, and then what N says
-abbrev pub IsTaken : Slot → (List Token → List Operand → Type 0) → List Token → List Operand → Type 0
+abbrev pub IsTaken : Slot → (List Token → List Operand → Type 0) → List Token → List Operand →
+    Type 0
 IsTaken s N ts os =
-    (one rest : List Token) × (now later : List Operand) × (ts ≡ one ++ rest) × IsOperand s one now × N rest later × (os ≡ now ++ later)
+    (one rest : List Token) × (now later : List Operand) × (ts ≡ one ++ rest) × IsOperand s one now
+    × N rest later × (os ≡ now ++ later)
 
 -- a comma, and then what N says
 abbrev pub IsFurther : (List Token → List Operand → Type 0) → List Token → List Operand → Type 0
-IsFurther N ts os = (c : Token) × (rest : List Token) × (ts ≡ c ∷ rest) × (is_comma c.kind ≡ true) × N rest os
+IsFurther N ts os =
+    (c : Token) × (rest : List Token) × (ts ≡ c ∷ rest) × (is_comma c.kind ≡ true) × N rest os
 
 -- so many items, with commas between
 abbrev pub AreItems : ℕ → Slot → List Token → List Operand → Type 0
@@ -464,8 +492,10 @@ abbrev pub AreOperands : Slots → List Token → List Operand → Type 0
 AreOperands (Stops behind) ts os = (ts ≡ []) × (os ≡ [])
 AreOperands (Takes s rest) ts os = IsTaken s (λ us ps. AreOperands rest us ps) ts os
 AreOperands (Chooses s rest others) ts os =
-    IsTaken s (λ us ps. AreOperands rest us ps) ts os ⊎ ((front_begins s ts ≡ false) × AreOperands others ts os)
-AreOperands (Locates rest) ts os = IsOperand An_address ts os ⊎ IsTaken A_target (λ us ps. AreOperands rest us ps) ts os
+    IsTaken s (λ us ps. AreOperands rest us ps) ts os
+    ⊎ ((front_begins s ts ≡ false) × AreOperands others ts os)
+AreOperands (Locates rest) ts os =
+    IsOperand An_address ts os ⊎ IsTaken A_target (λ us ps. AreOperands rest us ps) ts os
 AreOperands (Lists s) ts os = (n : ℕ) × AreItems n s ts os
 AreOperands Anything ts os = (list_all (λ (t : Token). is_any t.kind) ts ≡ true) × (os ≡ [])
 
@@ -496,7 +526,8 @@ directed (words.Enters section) os = Enters section
 directed words.Section (Word name ∷ []) = Opens name None None
 directed words.Section (Word name ∷ Quoted flags ∷ []) = Opens name (Some flags) None
 -- the size of an entry is not used
-directed words.Section (Word name ∷ Quoted flags ∷ Word kind ∷ size) = Opens name (Some flags) (Some kind)
+directed words.Section (Word name ∷ Quoted flags ∷ Word kind ∷ size) =
+    Opens name (Some flags) (Some kind)
 directed words.Globl os = Globl (names_in os)
 directed words.Local os = Local (names_in os)
 directed words.Set (Word name ∷ Value e ∷ []) = Sets name e
@@ -516,17 +547,22 @@ colon_next (t ∷ ts) = is_colon t.kind
 
 -- the tokens are a label and its colon
 abbrev pub IsLabel : List Token → StatementKind → Type 0
-IsLabel ts s = (t c : Token) × (ts ≡ t ∷ c ∷ []) × (label_of t.kind ≡ Some s) × (is_colon c.kind ≡ true)
+IsLabel ts s =
+    (t c : Token) × (ts ≡ t ∷ c ∷ []) × (label_of t.kind ≡ Some s) × (is_colon c.kind ≡ true)
 
 -- the tokens that say a statement, without its end; a word before a colon is a label
 abbrev pub IsStatement : List Token → StatementKind → Type 0
 IsStatement ts (Label name) = IsLabel ts (Label name)
 IsStatement ts (Numbered number) = IsLabel ts (Numbered number)
 IsStatement ts (Instruction mnemonic operands) =
-    (t : Token) × (rest : List Token) × (ts ≡ t ∷ rest) × (colon_next rest ≡ false) × (begins t.kind ≡ beginnings.Instruction mnemonic) × AreOperands (slots mnemonic) rest operands
+    (t : Token) × (rest : List Token) × (ts ≡ t ∷ rest) × (colon_next rest ≡ false)
+    × (begins t.kind ≡ beginnings.Instruction mnemonic)
+    × AreOperands (slots mnemonic) rest operands
 IsStatement ts (Directs directive) =
-    (t : Token) × (rest : List Token) × (word : DirectiveWord) × (operands : List Operand) × (ts ≡ t ∷ rest) × (colon_next rest ≡ false)
-    × (begins t.kind ≡ beginnings.Directive word) × AreOperands (places word) rest operands × (directive ≡ directed word operands)
+    (t : Token) × (rest : List Token) × (word : DirectiveWord) × (operands : List Operand)
+    × (ts ≡ t ∷ rest) × (colon_next rest ≡ false)
+    × (begins t.kind ≡ beginnings.Directive word) × AreOperands (places word) rest operands
+    × (directive ≡ directed word operands)
 
 -- a part of a source: a statement, or the end of one or of nothing
 pub data Part : Type 0 where

@@ -40,8 +40,10 @@ is_among (w ∷ ws) word = bytes_eq w word || is_among ws word
 -- what the language leaves out by name: a mnemonic, and directives
 unfoldable pub left_out_words : List (List ℕ)
 left_out_words =
-    codes "unimp" ∷ codes ".weak" ∷ codes ".comm" ∷ codes ".macro" ∷ codes ".rept" ∷ codes ".if" ∷ codes ".include" ∷
-    codes ".pushsection" ∷ codes ".popsection" ∷ codes ".previous" ∷ codes ".insn" ∷ codes ".uleb128" ∷ codes ".loc" ∷ []
+    codes "unimp" ∷ codes ".weak" ∷ codes ".comm" ∷ codes ".macro" ∷ codes ".rept" ∷ codes ".if" ∷
+    codes ".include" ∷
+    codes ".pushsection" ∷ codes ".popsection" ∷ codes ".previous" ∷ codes ".insn" ∷
+    codes ".uleb128" ∷ codes ".loc" ∷ []
 
 -- the mnemonics but the atomics: base instructions (ISA, chapter 24), then pseudo-instructions (Assembly Programmer's
 -- Manual, "pseudoinstructions")
@@ -189,7 +191,9 @@ named_in (named ∷ table) word = if bytes_eq named.0 word then Some named.1 els
 
 -- the form of an atomic whose operation stands in front
 abbrev pub form_behind : List ℕ → List ℕ → Option AtomicForm
-form_behind front word = if bytes_eq (take (length front) word) front then named_in atomic_forms (drop (length front) word) else None
+form_behind front word =
+    if bytes_eq (take (length front) word) front
+    then named_in atomic_forms (drop (length front) word) else None
 
 abbrev pub either : {X : Type 0} → Option X → Option X → Option X
 either (Some x) other = Some x
@@ -197,13 +201,15 @@ either None other = other
 
 abbrev pub atomic_in : List (List ℕ × AtomicOperation) → List ℕ → Option Mnemonic
 atomic_in [] word = None
-atomic_in (named ∷ table) word = either (option_map (Atomic named.1) (form_behind named.0 word)) (atomic_in table word)
+atomic_in (named ∷ table) word =
+    either (option_map (Atomic named.1) (form_behind named.0 word)) (atomic_in table word)
 
 -- the mnemonic that a word is
 unfoldable pub mnemonic_named : List ℕ → Option Mnemonic
 mnemonic_named word =
     either (named_in instruction_words word)
-    (either (option_map LoadReserved (form_behind (codes "lr") word)) (atomic_in atomic_operations word))
+    (either (option_map LoadReserved (form_behind (codes "lr") word))
+    (atomic_in atomic_operations word))
 
 -- the functions of a value, after `%` (GNU as, "RISC-V-Modifiers")
 unfoldable pub function_words : List (List ℕ × Function)
@@ -260,7 +266,8 @@ abbrev pub is_frame : List ℕ → Bool
 is_frame word = bytes_eq (take 5 word) (codes ".cfi_")
 
 abbrev pub frame_directive : List ℕ → Option DirectiveWord
-frame_directive word = if is_frame word && nat_le (length word) longest_name then Some words.Ignored else None
+frame_directive word =
+    if is_frame word && nat_le (length word) longest_name then Some words.Ignored else None
 
 -- the directive that a word is
 unfoldable pub directive_named : List ℕ → Option DirectiveWord
@@ -297,7 +304,9 @@ section_types = codes "progbits" ∷ codes "nobits" ∷ codes "note" ∷ []
 
 -- the names of a register: by number, by the ABI, and `fp` for x8
 unfoldable pub names_of : ℕ → List (List ℕ)
-names_of r = (codes "x" ++ decimal r) ∷ (option_to_list (slice_get abi_names r) ++ (if r == 8 then codes "fp" ∷ [] else []))
+names_of r =
+    (codes "x" ++ decimal r) ∷
+    (option_to_list (slice_get abi_names r) ++ (if r == 8 then codes "fp" ∷ [] else []))
 
 -- the register below this number that has the name
 abbrev pub register_below : ℕ → List ℕ → Option ℕ

@@ -23,16 +23,19 @@ use Rattle.rv_parse_laws.specs.Faults.{may_call, is_name, wrong_or, wrong_symbol
 
 -- the token at the front cannot stand in this slot
 abbrev pub IsWrongFirst : Slot → List Token → Token → ℕ → Type 0
-IsWrongFirst s ts t code = (us : List Token) × (ts ≡ t ∷ us) × (single s t.kind ≡ None) × (code ≡ wrong_first s t.kind)
+IsWrongFirst s ts t code =
+    (us : List Token) × (ts ≡ t ∷ us) × (single s t.kind ≡ None) × (code ≡ wrong_first s t.kind)
 
 -- after an expression's first tokens none goes on with this one
 abbrev pub IsWrongInside : List Token → Token → ℕ → Type 0
-IsWrongInside ts t code = (front more : List Token) × (ts ≡ front ++ t ∷ more) × FailsAt is_register front t code
+IsWrongInside ts t code =
+    (front more : List Token) × (ts ≡ front ++ t ∷ more) × FailsAt is_register front t code
 
 -- a whole expression stands at the front, and is refused for what it says
 abbrev pub IsRefused : Role → List Token → ℕ → Type 0
 IsRefused role ts code =
-    (one rest : List Token) × (e : Expression) × (ts ≡ one ++ rest) × IsValue one e × EndsBefore rest
+    (one rest : List Token) × (e : Expression) × (ts ≡ one ++ rest) × IsValue one e
+    × EndsBefore rest
     × (content_fault true (A_value role) (valued role e) ≡ Some code)
 
 -- after the `%` p no function stands that may stand there; if it is a name, it is wrong at the `%`
@@ -43,7 +46,8 @@ IsWrongFunction role p ts t code =
 
 -- the argument of a function
 abbrev pub IsWrongArgument : Function → List Token → Token → ℕ → Type 0
-IsWrongArgument PcrelLo ts t code = (us : List Token) × (ts ≡ t ∷ us) × (label_named t.kind ≡ None) × (code ≡ wrong_symbol t.kind)
+IsWrongArgument PcrelLo ts t code =
+    (us : List Token) × (ts ≡ t ∷ us) × (label_named t.kind ≡ None) × (code ≡ wrong_symbol t.kind)
 IsWrongArgument f ts t code = IsWrongInside ts t code
 
 -- these tokens do not go on with an argument before them
@@ -62,8 +66,10 @@ IsWrongCall f ts t code =
 -- a whole argument in parentheses, which is refused for what it says
 abbrev pub IsRefusedCall : Role → Function → List Token → ℕ → Type 0
 IsRefusedCall role f ts code =
-    (q : Token) × (one : List Token) × (c : Token) × (rest : List Token) × (e : Expression) × (ts ≡ q ∷ (one ++ c ∷ rest)) × (is_opening q.kind ≡ true)
-    × IsArgument f one e × (is_closing c.kind ≡ true) × (content_fault true (A_value role) (Applied f e) ≡ Some code)
+    (q : Token) × (one : List Token) × (c : Token) × (rest : List Token) × (e : Expression)
+    × (ts ≡ q ∷ (one ++ c ∷ rest)) × (is_opening q.kind ≡ true)
+    × IsArgument f one e × (is_closing c.kind ≡ true)
+    × (content_fault true (A_value role) (Applied f e) ≡ Some code)
 
 -- a function comes next, where one may stand
 abbrev pub function_next : Role → List Token → Bool
@@ -84,7 +90,8 @@ IsWrongPlain role ts t code =
 
 abbrev pub IsWrongValue : Role → List Token → Token → ℕ → Type 0
 IsWrongValue role ts t code =
-    ((function_next role ts ≡ true) × ((p : Token) × (us : List Token) × (ts ≡ p ∷ us) × IsWrongApplied role p us t code))
+    ((function_next role ts ≡ true)
+    × ((p : Token) × (us : List Token) × (ts ≡ p ∷ us) × IsWrongApplied role p us t code))
     ⊎ ((function_next role ts ≡ false) × IsWrongPlain role ts t code)
 
 -- these tokens do not go on with a value before them
@@ -108,29 +115,36 @@ IsWrongOffset ts t code =
 
 -- an address: a register in parentheses, where the first two tokens are `(` and a register; else with an offset
 abbrev pub IsWrongAddress : List Token → Token → ℕ → Type 0
-IsWrongAddress ts t code = ((base_next ts ≡ true) × IsWrongBase ts t code) ⊎ ((base_next ts ≡ false) × IsWrongOffset ts t code)
+IsWrongAddress ts t code =
+    ((base_next ts ≡ true) × IsWrongBase ts t code)
+    ⊎ ((base_next ts ≡ false) × IsWrongOffset ts t code)
 
 -- what a call calls: a symbol and `@plt`, where the first two tokens are a symbol and `@`; else a target
 abbrev pub IsWrongCallee : List Token → Token → ℕ → Type 0
 IsWrongCallee ts t code =
-    ((plt_next ts ≡ true) × ((f a : Token) × (us : List Token) × (ts ≡ f ∷ a ∷ us) × IsWrongFirst A_plt us t code))
+    ((plt_next ts ≡ true)
+    × ((f a : Token) × (us : List Token) × (ts ≡ f ∷ a ∷ us) × IsWrongFirst A_plt us t code))
     ⊎ ((plt_next ts ≡ false) × IsWrongValue roles.Target ts t code)
 
 -- a target comes next: an expression that no `(` stands behind
 abbrev pub IsTargetNext : List Token → Type 0
 IsTargetNext ts =
-    (one rest : List Token) × (e : Expression) × (ts ≡ one ++ rest) × IsValue one e × EndsBefore rest × (front_begins (An_opening A_register) rest ≡ false)
+    (one rest : List Token) × (e : Expression) × (ts ≡ one ++ rest) × IsValue one e
+    × EndsBefore rest × (front_begins (An_opening A_register) rest ≡ false)
 
 -- the token with which the name of a section becomes too long
 abbrev pub IsLongName : List Token → Token → Type 0
 IsLongName ts t =
-    (front more : List Token) × (name longer : List ℕ) × (ts ≡ front ++ t ∷ more) × ((front ≡ []) ⊎ IsJoined front name)
-    × (length name ≤ longest_name) × IsJoined (front ++ t ∷ []) longer × (longest_name < length longer)
+    (front more : List Token) × (name longer : List ℕ) × (ts ≡ front ++ t ∷ more)
+    × ((front ≡ []) ⊎ IsJoined front name)
+    × (length name ≤ longest_name) × IsJoined (front ++ t ∷ []) longer
+    × (longest_name < length longer)
 
 -- a section's name: none, one that is too long, or one that is refused
 abbrev pub IsWrongSection : List Token → Token → ℕ → Type 0
 IsWrongSection ts t code =
-    ((us : List Token) × (ts ≡ t ∷ us) × (first_name t.kind ≡ None) × (code ≡ wrong_first A_section t.kind))
+    ((us : List Token) × (ts ≡ t ∷ us) × (first_name t.kind ≡ None)
+    × (code ≡ wrong_first A_section t.kind))
     ⊎ (IsLongName ts t × (code ≡ limit))
     ⊎ ((us : List Token) × (name : List ℕ) × (rest : List Token) × (ts ≡ t ∷ us) × ReadsJoined ts name rest
     × (content_fault true A_section (Word name) ≡ Some code))
@@ -147,7 +161,8 @@ IsWrongOperand s ts t code = IsWrongFirst s ts t code
 abbrev pub Passes : Slot → List Token → List Token → Type 0
 Passes (A_value role) one rest = (o : Operand) × IsValueIn role one o × EndsValue o rest
 Passes A_callee one rest =
-    ((o : Operand) × IsValueIn roles.Target one o × EndsValue o rest × (plt_next (one ++ rest) ≡ false)) ⊎ ((os : List Operand) × IsLinked one os)
+    ((o : Operand) × IsValueIn roles.Target one o × EndsValue o rest
+    × (plt_next (one ++ rest) ≡ false)) ⊎ ((os : List Operand) × IsLinked one os)
 Passes A_section one rest =
     (name : List ℕ) × IsJoined one name × (is_section_name name ≡ true)
     × ((t : Token) (us : List Token) (longer : List ℕ) → rest ≡ t ∷ us → IsJoined (one ++ t ∷ []) longer → ⊥)
@@ -156,26 +171,31 @@ Passes s one rest = (os : List Operand) × IsOperand s one os
 -- what stands in a slot is wrong, or what W says behind it
 abbrev pub IsWrongTaken : Slot → (List Token → Token → ℕ → Type 0) → List Token → Token → ℕ → Type 0
 IsWrongTaken s W ts t code =
-    IsWrongOperand s ts t code ⊎ ((one rest : List Token) × (ts ≡ one ++ rest) × Passes s one rest × W rest t code)
+    IsWrongOperand s ts t code
+    ⊎ ((one rest : List Token) × (ts ≡ one ++ rest) × Passes s one rest × W rest t code)
 
 -- behind what stands in a slot the statement does not end
 abbrev pub IsNoEnd : Slot → List Token → Token → ℕ → Type 0
-IsNoEnd s ts t code = (us : List Token) × (ts ≡ t ∷ us) × (is_end t.kind ≡ false) × (code ≡ wrong_after s t.kind)
+IsNoEnd s ts t code =
+    (us : List Token) × (ts ≡ t ∷ us) × (is_end t.kind ≡ false) × (code ≡ wrong_after s t.kind)
 
 -- behind an item neither a comma nor the end stands, or behind a comma what W says
 abbrev pub IsWrongNext : Slot → (List Token → Token → ℕ → Type 0) → List Token → Token → ℕ → Type 0
 IsWrongNext s W ts t code =
-    ((c : Token) × (us : List Token) × (ts ≡ c ∷ us) × (is_comma c.kind ≡ true) × W us t code) ⊎ ((is_comma t.kind ≡ false) × IsNoEnd s ts t code)
+    ((c : Token) × (us : List Token) × (ts ≡ c ∷ us) × (is_comma c.kind ≡ true) × W us t code)
+    ⊎ ((is_comma t.kind ≡ false) × IsNoEnd s ts t code)
 
 -- of items, the one after so many others
 abbrev pub IsWrongItem : ℕ → Slot → List Token → Token → ℕ → Type 0
 IsWrongItem zero s ts t code = ⊥
-IsWrongItem (suc n) s ts t code = IsWrongTaken s (IsWrongNext s (λ us u d. IsWrongItem n s us u d)) ts t code
+IsWrongItem (suc n) s ts t code =
+    IsWrongTaken s (IsWrongNext s (λ us u d. IsWrongItem n s us u d)) ts t code
 
 -- a token, where operands are not looked at
 abbrev pub IsWrongAny : List Token → Token → ℕ → Type 0
 IsWrongAny ts t code =
-    (front more : List Token) × (ts ≡ front ++ t ∷ more) × (list_all (λ (u : Token). is_any u.kind) front ≡ true) × (is_end t.kind ≡ false)
+    (front more : List Token) × (ts ≡ front ++ t ∷ more)
+    × (list_all (λ (u : Token). is_any u.kind) front ≡ true) × (is_end t.kind ≡ false)
     × (is_any t.kind ≡ false) × (code ≡ wrong_any t.kind)
 
 -- the operands of a statement
@@ -193,7 +213,8 @@ IsWrongIn Anything ts t code = IsWrongAny ts t code
 
 -- a statement behind its first token
 abbrev pub IsWrongBehind : Beginning → Token → List Token → Token → ℕ → Type 0
-IsWrongBehind (beginnings.Instruction mnemonic) first ts t code = IsWrongIn (slots mnemonic) ts t code
+IsWrongBehind (beginnings.Instruction mnemonic) first ts t code =
+    IsWrongIn (slots mnemonic) ts t code
 IsWrongBehind (beginnings.Directive word) first ts t code = IsWrongIn (places word) ts t code
 IsWrongBehind beginnings.Nothing first ts t code = (t ≡ first) × (code ≡ wrong_start first.kind)
 

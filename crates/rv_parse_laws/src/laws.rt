@@ -7,15 +7,18 @@ ghost use Rattle.rv_parse_laws.specs.Refusals.{Fault, Refuses};
 
 /// Bytes have at most one reading.
 pub fn one_reading()
-    ensures { (bytes : List ℕ) (ss others : List Statement) → Reads bytes ss → Reads bytes others → ss ≡ others }
+    ensures { (bytes : List ℕ) (ss others : List Statement) → Reads bytes ss → Reads bytes others →
+        ss ≡ others }
 {}
 
 /// Bytes have at most one first fault.
 pub fn one_fault()
-    ensures { (bytes : List ℕ) (fault other : Fault) → Refuses bytes fault → Refuses bytes other → fault ≡ other }
+    ensures { (bytes : List ℕ) (fault other : Fault) → Refuses bytes fault → Refuses bytes other →
+        fault ≡ other }
 {}
 
 /// No bytes have both a reading and a fault.
 pub fn not_both()
-    ensures { (bytes : List ℕ) (ss : List Statement) (fault : Fault) → Reads bytes ss → Refuses bytes fault → ⊥ }
+    ensures { (bytes : List ℕ) (ss : List Statement) (fault : Fault) → Reads bytes ss →
+        Refuses bytes fault → ⊥ }
 {}

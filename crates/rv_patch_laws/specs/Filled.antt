@@ -53,7 +53,8 @@ Fills k v before after = Takes k v → patched k v before ≡ after
 abbrev pub BranchesFill : Type 0
 BranchesFill =
     (opcode funct3 : ℕ) (x : BType) (v : ℤ) → AreSelectors opcode funct3 → IsBType x
-    → Fills kind.Branch v (word_bytes (Branch opcode funct3 x)) (word_bytes (Branch opcode funct3 (branch_to x v)))
+    → Fills kind.Branch v (word_bytes (Branch opcode funct3 x))
+    (word_bytes (Branch opcode funct3 (branch_to x v)))
 
 abbrev pub JumpsFill : Type 0
 JumpsFill =
@@ -79,8 +80,10 @@ IsLowerKind _ = ⊥
 
 abbrev pub ImmediatesFill : Type 0
 ImmediatesFill =
-    (k : Kind) (opcode funct3 : ℕ) (x : IType) (v : ℤ) → IsLowerKind k → AreSelectors opcode funct3 → IsIType x
-    → Fills k v (word_bytes (Immediate opcode funct3 x)) (word_bytes (Immediate opcode funct3 (immediate_of x v)))
+    (k : Kind) (opcode funct3 : ℕ) (x : IType) (v : ℤ) → IsLowerKind k →
+    AreSelectors opcode funct3 → IsIType x
+    → Fills k v (word_bytes (Immediate opcode funct3 x))
+    (word_bytes (Immediate opcode funct3 (immediate_of x v)))
 
 abbrev pub IsStoreKind : Kind → Type 0
 IsStoreKind kind.Lo12S = Unit {0}
@@ -89,8 +92,10 @@ IsStoreKind _ = ⊥
 
 abbrev pub StoresFill : Type 0
 StoresFill =
-    (k : Kind) (opcode funct3 : ℕ) (x : SType) (v : ℤ) → IsStoreKind k → AreSelectors opcode funct3 → IsSType x
-    → Fills k v (word_bytes (Store opcode funct3 x)) (word_bytes (Store opcode funct3 (store_of x v)))
+    (k : Kind) (opcode funct3 : ℕ) (x : SType) (v : ℤ) → IsStoreKind k →
+    AreSelectors opcode funct3 → IsSType x
+    → Fills k v (word_bytes (Store opcode funct3 x))
+    (word_bytes (Store opcode funct3 (store_of x v)))
 
 -- `auipc` and the `jalr` after it
 abbrev pub IsCallKind : Kind → Type 0
@@ -104,7 +109,8 @@ CallsFill =
     → IsCallKind k → auipc < 2 ^ 7 → AreSelectors jalr funct3 → IsUType x → IsIType y
     → Fills k v
     (word_bytes (Upper auipc x) ++ word_bytes (Immediate jalr funct3 y))
-    (word_bytes (Upper auipc (upper_of x v)) ++ word_bytes (Immediate jalr funct3 (immediate_of y v)))
+    (word_bytes (Upper auipc (upper_of x v))
+    ++ word_bytes (Immediate jalr funct3 (immediate_of y v)))
 
 -- c.beqz, c.bnez and c.j
 abbrev pub ShortBranchesFill : (ℕ → ℤ → Compressed) → Type 0
@@ -113,4 +119,5 @@ ShortBranchesFill branch =
     → Fills kind.RvcBranch v (parcel_bytes (branch rs1 old)) (parcel_bytes (branch rs1 v))
 
 abbrev pub ShortJumpsFill : Type 0
-ShortJumpsFill = (old v : ℤ) → IsLine (J old) → Fills kind.RvcJump v (parcel_bytes (J old)) (parcel_bytes (J v))
+ShortJumpsFill =
+    (old v : ℤ) → IsLine (J old) → Fills kind.RvcJump v (parcel_bytes (J old)) (parcel_bytes (J v))

@@ -41,7 +41,8 @@ cb_type = bits 5 1 2 ∷ bits 1 2 3 ∷ bits 6 2 5 ∷ bits 3 2 10 ∷ bits 8 1 
 -- c.j
 abbrev pub cj_type : List Piece
 cj_type =
-    bits 5 1 2 ∷ bits 1 3 3 ∷ bits 7 1 6 ∷ bits 6 1 7 ∷ bits 10 1 8 ∷ bits 8 2 9 ∷ bits 4 1 11 ∷ bits 11 1 12 ∷ []
+    bits 5 1 2 ∷ bits 1 3 3 ∷ bits 7 1 6 ∷ bits 6 1 7 ∷ bits 10 1 8 ∷ bits 8 2 9 ∷ bits 4 1 11 ∷
+    bits 11 1 12 ∷ []
 
 -- the low six bits of a byte
 abbrev pub low_six : List Piece

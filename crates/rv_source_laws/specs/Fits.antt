@@ -35,7 +35,8 @@ abbrev pub IsRowOf : Option (List Inst) → Row → Type 0
 IsRowOf None r = ⊥
 IsRowOf (Some instructions) r =
     AllByRecursion IsValid instructions
-    × (r.instructions ≡ length instructions) × (2 * r.instructions ≤ r.bytes) × (r.bytes ≤ 4 * r.instructions) × (r.bytes % 2 ≡ 0)
+    × (r.instructions ≡ length instructions) × (2 * r.instructions ≤ r.bytes)
+    × (r.bytes ≤ 4 * r.instructions) × (r.bytes % 2 ≡ 0)
 
 -- open operands are not built: an instruction's expressions are constants
 abbrev pub is_constant : Value → Bool
@@ -52,7 +53,8 @@ has_constants p s = list_all (λ e. is_constant (form p s.located e)) (expressio
 
 -- the row of data: the bytes that the statement spells, all zero where its section has none in the file
 abbrev pub IsDataRow : Program → Mapped → Type 0
-IsDataRow p s = IsTrue (has_values p s) × (s.row.bytes ≡ length (spelled p s)) × (s.row.instructions ≡ 0)
+IsDataRow p s =
+    IsTrue (has_values p s) × (s.row.bytes ≡ length (spelled p s)) × (s.row.instructions ≡ 0)
 
 -- the least padding for which a row of an alignment ends at a multiple of it
 abbrev pub least_padding : Program → Mapped → Directive → ℕ
@@ -67,7 +69,8 @@ is_low (Some alignment) = nat_le alignment 2
 abbrev pub IsPaddingIn : Bool → Program → Mapped → Directive → Type 0
 IsPaddingIn true p s d =
     IsRowOf (expansion p s) s.row × (s.row.bytes ≡ (if is_low (alignment_of (λ e. form p s.located e) d) then 0 else least_padding p s d))
-IsPaddingIn false p s d = IsTrue (has_values p s) × (s.row.bytes ≡ least_padding p s d) × (s.row.instructions ≡ 0)
+IsPaddingIn false p s d =
+    IsTrue (has_values p s) × (s.row.bytes ≡ least_padding p s d) × (s.row.instructions ≡ 0)
 
 abbrev pub IsPadding : Program → Mapped → Directive → Type 0
 IsPadding p s d = IsPaddingIn s.located.home.executable p s d
@@ -86,7 +89,8 @@ DirectiveFits p s d = ContributionFits p s d (contribution d)
 abbrev pub StatementFits : Program → Mapped → StatementKind → Type 0
 StatementFits p s (Label name) = IsRowOf (expansion p s) s.row
 StatementFits p s (Numbered number) = IsRowOf (expansion p s) s.row
-StatementFits p s (Instruction mnemonic operands) = IsTrue (has_constants p s) × IsRowOf (expansion p s) s.row
+StatementFits p s (Instruction mnemonic operands) =
+    IsTrue (has_constants p s) × IsRowOf (expansion p s) s.row
 StatementFits p s (Directs directive) = DirectiveFits p s directive
 
 abbrev pub SizeFits : Program → Mapped → Type 0
@@ -102,27 +106,33 @@ rows_of b = map (λ s. s.row) b.mapped
 
 -- the sites of a section, by its file and its place in the file
 abbrev pub mapped_in : List Mapped → ℕ → ℕ → List Mapped
-mapped_in mapped file section = filter (λ s. (s.located.file == file) && (s.located.section == section)) mapped
+mapped_in mapped file section =
+    filter (λ s. (s.located.file == file) && (s.located.section == section)) mapped
 
 -- the multiple at which a section begins, by its index in its file: the greatest of its alignments, and 2 or more for code
 abbrev pub begins_at : Tables → ℕ → Section → ℕ
-begins_at t place section = max (if goes_to_text section then 2 else 1) (slice_index_or t.alignments place 1)
+begins_at t place section =
+    max (if goes_to_text section then 2 else 1) (slice_index_or t.alignments place 1)
 
 abbrev pub input_section : Tables → Section → List Mapped → ℕ → ℕ → InputSection
-input_section t section mapped file place = record { alignment = begins_at t place section; mapped = mapped_in mapped file place }
+input_section t section mapped file place =
+    record { alignment = begins_at t place section; mapped = mapped_in mapped file place }
 
 -- the sections of a file that go to a region, from a place on in the file's order
-abbrev pub input_sections_of_file : (Section → Bool) → Tables → List Mapped → ℕ → ℕ → List Section → List InputSection
+abbrev pub input_sections_of_file : (Section → Bool) → Tables → List Mapped → ℕ → ℕ →
+    List Section → List InputSection
 input_sections_of_file goes t mapped file place [] = []
 input_sections_of_file goes t mapped file place (section ∷ sections) =
     let rest = input_sections_of_file goes t mapped file (suc place) sections in
     if goes section then input_section t section mapped file place ∷ rest else rest
 
 -- the sections that go to a region, in file order and then in the order of the file
-abbrev pub input_sections_of : (Section → Bool) → List Mapped → ℕ → List (List Statement) → List InputSection
+abbrev pub input_sections_of : (Section → Bool) → List Mapped → ℕ → List (List Statement) →
+    List InputSection
 input_sections_of goes mapped file [] = []
 input_sections_of goes mapped file (ss ∷ files) =
-    input_sections_of_file goes (tables ss) mapped file 0 (tables ss).opened.sections ++ input_sections_of goes mapped (suc file) files
+    input_sections_of_file goes (tables ss) mapped file 0 (tables ss).opened.sections
+    ++ input_sections_of goes mapped (suc file) files
 
 abbrev pub input_sections : (Section → Bool) → List (List Statement) → Map → List InputSection
 input_sections goes sources m = input_sections_of goes (program sources m).mapped 1 sources
@@ -138,7 +148,9 @@ size rows = sum_by (λ r. r.bytes) rows
 -- sections one after another: each at the least aligned place that is not below the end before
 abbrev pub Stand : ℕ → List InputSection → Type 0
 Stand stop [] = ⊤
-Stand stop (b ∷ bs) = Follow (aligned b.alignment stop) (rows_of b) × Stand (aligned b.alignment stop + size (rows_of b)) bs
+Stand stop (b ∷ bs) =
+    Follow (aligned b.alignment stop) (rows_of b)
+    × Stand (aligned b.alignment stop + size (rows_of b)) bs
 
 -- the end of the last of them
 abbrev pub end_of : ℕ → List InputSection → ℕ
@@ -176,4 +188,5 @@ pub record Fits (sources : List (List Statement)) (m : Map) (text_start : ℕ) :
   -- rodata and data begin at pages of 4096 bytes, bss after data at the greatest alignment of its sections
   pub rodata : Holds m.rodata (aligned 4096 m.text.end) (input_sections goes_to_rodata sources m)
   pub «data» : Holds m.data (aligned 4096 m.rodata.end) (input_sections goes_to_data sources m)
-  pub bss : Holds m.bss (aligned (greatest (input_sections goes_to_bss sources m)) m.data.end) (input_sections goes_to_bss sources m)
+  pub bss : Holds m.bss (aligned (greatest (input_sections goes_to_bss sources m)) m.data.end)
+      (input_sections goes_to_bss sources m)

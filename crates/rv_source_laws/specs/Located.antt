@@ -14,7 +14,8 @@ contributes _ = true
 
 -- `.set` has a row where it gives a place, the other directives where they contribute to their section
 abbrev pub is_placed_directive : Tables → ℕ → Directive → Bool
-is_placed_directive t ordinal (Sets name e) = gives_location (assigned name ordinal (value t false ordinal (here t) e))
+is_placed_directive t ordinal (Sets name e) =
+    gives_location (assigned name ordinal (value t false ordinal (here t) e))
 is_placed_directive t ordinal d = contributes (contribution d)
 
 -- whether a statement has a row where its section is loaded: `t` are the tables before it
@@ -56,7 +57,8 @@ located_now file ordinal t s =
 -- the statements of a file from an ordinal on
 abbrev pub located_from : ℕ → ℕ → Tables → List Statement → List Located
 located_from file ordinal t [] = []
-located_from file ordinal t (s ∷ ss) = located_now file ordinal t s ∷ located_from file (suc ordinal) (after t ordinal s.kind) ss
+located_from file ordinal t (s ∷ ss) =
+    located_now file ordinal t s ∷ located_from file (suc ordinal) (after t ordinal s.kind) ss
 
 -- the statements by file and ordinal; files are numbered from a first one on
 abbrev pub located_of : ℕ → List (List Statement) → List Located

@@ -47,7 +47,8 @@ run_said v (Directs directive) bytes h = run_directive directive bytes h
 
 -- what the statement at a site does in one step; one with a name that has no meaning fits no row
 abbrev pub meaning : Program → Mapped → Hart → Effect
-meaning p s h = if has_values p s then run_said (number p s) s.located.kind s.row.bytes h else Breaks
+meaning p s h =
+    if has_values p s then run_said (number p s) s.located.kind s.row.bytes h else Breaks
 
 -- whether a number fits 12 signed bits
 abbrev pub fits_12 : ℕ → Option ℕ
@@ -80,8 +81,10 @@ padding_count bytes = bytes / 4 + bytes % 4 / 2
 -- a place has no bytes, an alignment the instructions of its padding; data are no instructions
 abbrev pub expanded_directive : Directive → ℕ → Option (List Inst)
 expanded_directive (Sets name e) bytes = Some []
-expanded_directive (Aligns_to_power exponent) bytes = Some (replicate (padding_count bytes) no_operation)
-expanded_directive (Aligns_to_bytes alignment) bytes = Some (replicate (padding_count bytes) no_operation)
+expanded_directive (Aligns_to_power exponent) bytes =
+    Some (replicate (padding_count bytes) no_operation)
+expanded_directive (Aligns_to_bytes alignment) bytes =
+    Some (replicate (padding_count bytes) no_operation)
 expanded_directive _ bytes = None
 
 -- the base instructions that stand for a statement whose row has so many bytes
@@ -92,7 +95,8 @@ expanded_said v (Instruction mnemonic operands) bytes = expanded v mnemonic oper
 expanded_said v (Directs directive) bytes = expanded_directive directive bytes
 
 abbrev pub expansion : Program → Mapped → Option (List Inst)
-expansion p s = if has_values p s then expanded_said (number p s) s.located.kind s.row.bytes else None
+expansion p s =
+    if has_values p s then expanded_said (number p s) s.located.kind s.row.bytes else None
 
 -- a line of a statement: an instruction of 2 or 4 bytes at its address
 pub record Line : Type 0 where
@@ -108,7 +112,8 @@ Lie address (l ∷ ls) stop = (l.address ≡ address) × Lie (address + l.bytes)
 -- the lines of a statement: its base instructions, one after another over the bytes of its row
 abbrev pub AreLines : Program → Mapped → List Line → Type 0
 AreLines p s lines =
-    (expansion p s ≡ Some (map (λ l. l.instruction) lines)) × Lie s.row.address lines (s.row.address + s.row.bytes)
+    (expansion p s ≡ Some (map (λ l. l.instruction) lines))
+    × Lie s.row.address lines (s.row.address + s.row.bytes)
 
 -- how many instructions of its row run in one step of this hart
 abbrev pub cost : Program → Mapped → Hart → ℕ

@@ -49,7 +49,8 @@ pub record Program : Type 0 where
   pub map : Map
 
 abbrev pub program_at : List Tables → List MaybeMapped → Map → Program
-program_at ts statements m = record { tables = ts; statements = statements; mapped = mapped_of statements; map = m }
+program_at ts statements m =
+    record { tables = ts; statements = statements; mapped = mapped_of statements; map = m }
 
 abbrev pub program : List (List Statement) → Map → Program
 program sources m = program_at (map tables sources) (statements_of (located sources) m.rows) m
@@ -62,11 +63,13 @@ address_of e = option_map (λ r. r.address) e.row
 -- the address of a file's statement of this ordinal; none where it has no row
 abbrev pub address_at : List MaybeMapped → ℕ → ℕ → Option ℕ
 address_at statements file ordinal =
-    option_and_then address_of (find (λ e. (e.located.file == file) && (e.located.ordinal == ordinal)) statements)
+    option_and_then address_of
+    (find (λ e. (e.located.file == file) && (e.located.ordinal == ordinal)) statements)
 
 -- the address of a place of a file
 abbrev pub home_address : List MaybeMapped → ℕ → Definition → Option ℕ
-home_address statements file h = option_map (λ a. add a h.plus) (address_at statements file h.ordinal)
+home_address statements file h =
+    option_map (λ a. add a h.plus) (address_at statements file h.ordinal)
 
 -- the address of a name that every file can mean
 abbrev pub global_address : List Global → List ℕ → Option ℕ
@@ -87,7 +90,8 @@ tables_in p file = slice_index_or p.tables (file - 1) at_start
 
 -- the address of a name, a reference or `.` in a statement
 abbrev pub address : Program → Located → Primary → Option ℕ
-address p s q = address_by p.statements p.map.globals s.file q (definition (tables_in p s.file) s.ordinal q)
+address p s q =
+    address_by p.statements p.map.globals s.file q (definition (tables_in p s.file) s.ordinal q)
 
 -- ---- values
 
@@ -95,7 +99,8 @@ address p s q = address_by p.statements p.map.globals s.file q (definition (tabl
 abbrev pub resolved : (Primary → Option ℕ) → Value → Option ℕ
 resolved a (Constant n) = Some n
 resolved a (Symbolic q at k) = option_map (λ x. add x k) (a q)
-resolved a (Difference q r k) = option_and_then (λ x. option_map (λ y. add (subtract x y) k) (a r)) (a q)
+resolved a (Difference q r k) =
+    option_and_then (λ x. option_map (λ y. add (subtract x y) k) (a r)) (a q)
 resolved a (Faulty code) = None
 
 abbrev pub place_of : Located → SectionOffset

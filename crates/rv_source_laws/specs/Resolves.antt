@@ -36,12 +36,14 @@ shown name (Some address) = symbol name address ∷ []
 -- a `.set` at an ordinal gives a name for the first time
 abbrev pub sets_first : List Assignment → ℕ → List ℕ → Bool
 sets_first assignments ordinal name =
-    list_any (λ s. (s.ordinal == ordinal) && bytes_eq s.name name) assignments && not (is_some (assigned_before assignments ordinal name))
+    list_any (λ s. (s.ordinal == ordinal) && bytes_eq s.name name) assignments
+    && not (is_some (assigned_before assignments ordinal name))
 
 -- the name that a statement defines: a label's, or one that `.set` gives for the first time
 abbrev pub defined_name : Tables → ℕ → StatementKind → List (List ℕ)
 defined_name t ordinal (Label name) = name ∷ []
-defined_name t ordinal (Directs (Sets name e)) = if sets_first t.assignments ordinal name then name ∷ [] else []
+defined_name t ordinal (Directs (Sets name e)) =
+    if sets_first t.assignments ordinal name then name ∷ [] else []
 defined_name t ordinal _ = []
 
 -- the number that `.set` gives, or the address of the place
@@ -49,14 +51,16 @@ abbrev pub set_address : List MaybeMapped → ℕ → Option Assignment → Opti
 set_address statements file None = None
 set_address statements file (Some s) = elim s.meaning [
   | Known n ↦ Some n
-  | InSection section offset ↦ home_address statements file (record { ordinal = s.ordinal; plus = s.plus })
+  | InSection section offset ↦ home_address statements file
+      (record { ordinal = s.ordinal; plus = s.plus })
   | Open ↦ None
   | Refused code ↦ None
 ]
 
 -- the address or the number of what a statement defines: a label's row's address, or what `.set` gives the name last
 abbrev pub defined_address : Tables → List MaybeMapped → MaybeMapped → StatementKind → Option ℕ
-defined_address t statements e (Directs (Sets name expression)) = set_address statements e.located.file (assigned_ever t.assignments name)
+defined_address t statements e (Directs (Sets name expression)) =
+    set_address statements e.located.file (assigned_ever t.assignments name)
 defined_address t statements e _ = address_of e
 
 -- the name that a statement of a file defines for all files, by the tables of the file
@@ -67,7 +71,8 @@ global_names_of t s = filter (λ name. is_global (t.bindings name)) (defined_nam
 abbrev pub defined_by : Program → MaybeMapped → List Global
 defined_by p e =
     let t = tables_in p e.located.file in
-    flat_map (λ name. shown name (defined_address t p.statements e e.located.kind)) (global_names_of t e.located)
+    flat_map (λ name. shown name (defined_address t p.statements e e.located.kind))
+    (global_names_of t e.located)
 
 -- the names that are defined for all files, by file and then in the order of definition
 abbrev pub global_names : List (List Statement) → Map → List (List ℕ)
@@ -93,7 +98,8 @@ linker_symbols m =
 
 -- those whose name no global definition has
 abbrev pub shown_symbols : List (List Statement) → Map → List Global
-shown_symbols sources m = filter (λ g. not (is_one_of (global_names sources m) g.name)) (linker_symbols m)
+shown_symbols sources m =
+    filter (λ g. not (is_one_of (global_names sources m) g.name)) (linker_symbols m)
 
 -- ---- the entry
 
@@ -103,7 +109,8 @@ is_start (Label name) = bytes_eq name (codes "_start")
 is_start _ = false
 
 abbrev pub begins_run : List (List Statement) → Located → Bool
-begins_run sources s = is_start s.kind && goes_to_text s.home && is_global_in sources s.file (codes "_start")
+begins_run sources s =
+    is_start s.kind && goes_to_text s.home && is_global_in sources s.file (codes "_start")
 
 abbrev pub starts_at : Option MaybeMapped → Option ℕ
 starts_at found = option_and_then address_of found
@@ -115,5 +122,6 @@ pub record Resolves (sources : List (List Statement)) (m : Map) : Type 0 where
   -- no name has two global definitions
   pub once : AreDistinct (global_names sources m)
   -- a run begins at the global label _start, an even place of a section of text
-  pub entry : starts_at (find (λ e. begins_run sources e.located) (program sources m).statements) ≡ Some m.entry
+  pub entry : starts_at (find (λ e. begins_run sources e.located) (program sources m).statements)
+      ≡ Some m.entry
   pub even : m.entry % 2 ≡ 0

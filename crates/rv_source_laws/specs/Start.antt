@@ -47,13 +47,15 @@ byte_of p (Some s) a = slice_index (spelled p s) (a - s.row.address)
 
 -- the byte at an address: that of the row that lies over it, and 0 everywhere else
 abbrev pub first_byte : Program → ℕ → ℕ
-first_byte p a = byte_of p (find (λ s. is_within s.row.address (s.row.address + s.row.bytes) a) p.mapped) a
+first_byte p a =
+    byte_of p (find (λ s. is_within s.row.address (s.row.address + s.row.bytes) a) p.mapped) a
 
 -- text can be executed alone, rodata read alone; from data to the end of bss, and in the stack, a program reads and writes
 abbrev pub right_at : Map → ℕ → Right → Bool
 right_at m a Execute = is_in m.text a
 right_at m a Write = is_within m.data.start m.bss.end a || is_within stack_start stack_end a
-right_at m a Read = is_in m.rodata a || is_within m.data.start m.bss.end a || is_within stack_start stack_end a
+right_at m a Read =
+    is_in m.rodata a || is_within m.data.start m.bss.end a || is_within stack_start stack_end a
 
 abbrev pub first_memory : Program → Mem
 first_memory p = record { byte = first_byte p; has = right_at p.map }

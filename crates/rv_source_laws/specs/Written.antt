@@ -41,10 +41,12 @@ abbrev pub shift_by : ℕ → ℕ → ℕ → ShiftOperands
 shift_by rd rs1 amount = record { rd = rd; rs1 = rs1; amount = amount }
 
 abbrev pub reserve_type : AtomicForm → ℕ → ℕ → Reserve
-reserve_type form rd rs1 = record { rd = rd; rs1 = rs1; acquire = form.acquire; release = form.release }
+reserve_type form rd rs1 =
+    record { rd = rd; rs1 = rs1; acquire = form.acquire; release = form.release }
 
 abbrev pub atomic_type : AtomicForm → ℕ → ℕ → ℕ → AtomicOperands
-atomic_type form rd rs2 rs1 = record { rd = rd; rs1 = rs1; rs2 = rs2; acquire = form.acquire; release = form.release }
+atomic_type form rd rs2 rs1 =
+    record { rd = rd; rs1 = rs1; rs2 = rs2; acquire = form.acquire; release = form.release }
 
 -- an operand with the value of its expression
 pub data Argument : Type 0 where
@@ -79,24 +81,38 @@ by_constant _ rd rs1 k = None
 -- the one instruction that a base mnemonic writes: an address has offset 0 unless it says another, and `jalr` links to ra
 -- unless it names another register
 abbrev pub written : Mnemonic → List Argument → Option Inst
-written (Registers operation) (Of_register rd ∷ Of_register rs1 ∷ Of_register rs2 ∷ []) = Some (of_registers operation (r_type rd rs1 rs2))
-written (Registers operation) (Of_register rd ∷ Of_register rs1 ∷ Of_number k ∷ []) = by_constant (with_constant operation) rd rs1 k
-written (Immediate operation) (Of_register rd ∷ Of_register rs1 ∷ Of_number k ∷ []) = Some (of_immediate operation (i_type rd rs1 k))
-written (Shift operation) (Of_register rd ∷ Of_register rs1 ∷ Of_number k ∷ []) = Some (of_shift operation (shift_by rd rs1 k))
-written (Upper operation) (Of_register rd ∷ Of_number k ∷ []) = Some (of_upper operation (u_type rd k))
-written (Load operation) (Of_register rd ∷ Of_number k ∷ Of_register rs1 ∷ []) = Some (of_load operation (i_type rd rs1 k))
-written (Load operation) (Of_register rd ∷ Of_register rs1 ∷ []) = Some (of_load operation (i_type rd rs1 0))
-written (Store operation) (Of_register rs2 ∷ Of_number k ∷ Of_register rs1 ∷ []) = Some (of_store operation (s_type rs2 rs1 k))
-written (Store operation) (Of_register rs2 ∷ Of_register rs1 ∷ []) = Some (of_store operation (s_type rs2 rs1 0))
-written Jalr (Of_register rd ∷ Of_number k ∷ Of_register rs1 ∷ []) = Some (inst.Jalr (i_type rd rs1 k))
-written Jalr (Of_register rd ∷ Of_register rs1 ∷ Of_number k ∷ []) = Some (inst.Jalr (i_type rd rs1 k))
+written (Registers operation) (Of_register rd ∷ Of_register rs1 ∷ Of_register rs2 ∷ []) =
+    Some (of_registers operation (r_type rd rs1 rs2))
+written (Registers operation) (Of_register rd ∷ Of_register rs1 ∷ Of_number k ∷ []) =
+    by_constant (with_constant operation) rd rs1 k
+written (Immediate operation) (Of_register rd ∷ Of_register rs1 ∷ Of_number k ∷ []) =
+    Some (of_immediate operation (i_type rd rs1 k))
+written (Shift operation) (Of_register rd ∷ Of_register rs1 ∷ Of_number k ∷ []) =
+    Some (of_shift operation (shift_by rd rs1 k))
+written (Upper operation) (Of_register rd ∷ Of_number k ∷ []) =
+    Some (of_upper operation (u_type rd k))
+written (Load operation) (Of_register rd ∷ Of_number k ∷ Of_register rs1 ∷ []) =
+    Some (of_load operation (i_type rd rs1 k))
+written (Load operation) (Of_register rd ∷ Of_register rs1 ∷ []) =
+    Some (of_load operation (i_type rd rs1 0))
+written (Store operation) (Of_register rs2 ∷ Of_number k ∷ Of_register rs1 ∷ []) =
+    Some (of_store operation (s_type rs2 rs1 k))
+written (Store operation) (Of_register rs2 ∷ Of_register rs1 ∷ []) =
+    Some (of_store operation (s_type rs2 rs1 0))
+written Jalr (Of_register rd ∷ Of_number k ∷ Of_register rs1 ∷ []) =
+    Some (inst.Jalr (i_type rd rs1 k))
+written Jalr (Of_register rd ∷ Of_register rs1 ∷ Of_number k ∷ []) =
+    Some (inst.Jalr (i_type rd rs1 k))
 written Jalr (Of_register rd ∷ Of_register rs1 ∷ []) = Some (inst.Jalr (i_type rd rs1 0))
 written Jalr (Of_number k ∷ Of_register rs1 ∷ []) = Some (inst.Jalr (i_type 1 rs1 k))
 written Jalr (Of_register rs1 ∷ []) = Some (inst.Jalr (i_type 1 rs1 0))
-written (LoadReserved form) (Of_register rd ∷ Of_register rs1 ∷ []) = Some (of_reserve form.double (reserve_type form rd rs1))
-written (Atomic operation form) (Of_register rd ∷ Of_register rs2 ∷ Of_register rs1 ∷ []) = Some (of_atomic operation form.double (atomic_type form rd rs2 rs1))
+written (LoadReserved form) (Of_register rd ∷ Of_register rs1 ∷ []) =
+    Some (of_reserve form.double (reserve_type form rd rs1))
+written (Atomic operation form) (Of_register rd ∷ Of_register rs2 ∷ Of_register rs1 ∷ []) =
+    Some (of_atomic operation form.double (atomic_type form rd rs2 rs1))
 written Fence [] = Some (fence 0 15 15)
-written Fence (Of_accesses before ∷ Of_accesses after ∷ []) = Some (fence 0 (access_bits before) (access_bits after))
+written Fence (Of_accesses before ∷ Of_accesses after ∷ []) =
+    Some (fence 0 (access_bits before) (access_bits after))
 written FenceTso [] = Some (fence 8 3 3)
 written Ecall [] = Some inst.Ecall
 written Ebreak [] = Some inst.Ebreak

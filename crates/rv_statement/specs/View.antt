@@ -37,42 +37,72 @@ bytes_of widths.Double = 8
 
 -- an instruction without an expression
 abbrev pub plain_of : Plain → specs.StatementKind
-plain_of (plains.Registers operation rd rs1 rs2) = specs.Instruction (mnemonics.Registers operation) (specs.Register rd ∷ specs.Register rs1 ∷ specs.Register rs2 ∷ [])
-plain_of (plains.Load operation rd rs1) = specs.Instruction (mnemonics.Load operation) (specs.Register rd ∷ specs.Register rs1 ∷ [])
-plain_of (plains.Store operation rs2 rs1) = specs.Instruction (mnemonics.Store operation) (specs.Register rs2 ∷ specs.Register rs1 ∷ [])
-plain_of (plains.Jalr rd rs1) = specs.Instruction mnemonics.Jalr (specs.Register rd ∷ specs.Register rs1 ∷ [])
+plain_of (plains.Registers operation rd rs1 rs2) =
+    specs.Instruction (mnemonics.Registers operation)
+    (specs.Register rd ∷ specs.Register rs1 ∷ specs.Register rs2 ∷ [])
+plain_of (plains.Load operation rd rs1) =
+    specs.Instruction (mnemonics.Load operation) (specs.Register rd ∷ specs.Register rs1 ∷ [])
+plain_of (plains.Store operation rs2 rs1) =
+    specs.Instruction (mnemonics.Store operation) (specs.Register rs2 ∷ specs.Register rs1 ∷ [])
+plain_of (plains.Jalr rd rs1) =
+    specs.Instruction mnemonics.Jalr (specs.Register rd ∷ specs.Register rs1 ∷ [])
 plain_of (plains.JalrLinked rs1) = specs.Instruction mnemonics.Jalr (specs.Register rs1 ∷ [])
-plain_of (plains.LoadReserved form rd rs1) = specs.Instruction (mnemonics.LoadReserved form) (specs.Register rd ∷ specs.Register rs1 ∷ [])
-plain_of (plains.Atomic operation form rd rs2 rs1) = specs.Instruction (mnemonics.Atomic operation form) (specs.Register rd ∷ specs.Register rs2 ∷ specs.Register rs1 ∷ [])
+plain_of (plains.LoadReserved form rd rs1) =
+    specs.Instruction (mnemonics.LoadReserved form) (specs.Register rd ∷ specs.Register rs1 ∷ [])
+plain_of (plains.Atomic operation form rd rs2 rs1) =
+    specs.Instruction (mnemonics.Atomic operation form)
+    (specs.Register rd ∷ specs.Register rs2 ∷ specs.Register rs1 ∷ [])
 plain_of plains.Fence = specs.Instruction mnemonics.Fence []
-plain_of (plains.FenceBetween before after) = specs.Instruction mnemonics.Fence (specs.Accesses before ∷ specs.Accesses after ∷ [])
+plain_of (plains.FenceBetween before after) =
+    specs.Instruction mnemonics.Fence (specs.Accesses before ∷ specs.Accesses after ∷ [])
 plain_of plains.FenceTso = specs.Instruction mnemonics.FenceTso []
 plain_of plains.Ecall = specs.Instruction mnemonics.Ecall []
 plain_of plains.Ebreak = specs.Instruction mnemonics.Ebreak []
 plain_of plains.Nop = specs.Instruction mnemonics.Nop []
-plain_of (plains.Unary operation rd rs) = specs.Instruction (mnemonics.Unary operation) (specs.Register rd ∷ specs.Register rs ∷ [])
-plain_of (plains.Compare operation rd rs1 rs2) = specs.Instruction (mnemonics.Compare operation) (specs.Register rd ∷ specs.Register rs1 ∷ specs.Register rs2 ∷ [])
+plain_of (plains.Unary operation rd rs) =
+    specs.Instruction (mnemonics.Unary operation) (specs.Register rd ∷ specs.Register rs ∷ [])
+plain_of (plains.Compare operation rd rs1 rs2) =
+    specs.Instruction (mnemonics.Compare operation)
+    (specs.Register rd ∷ specs.Register rs1 ∷ specs.Register rs2 ∷ [])
 plain_of (plains.Jr rs) = specs.Instruction mnemonics.Jr (specs.Register rs ∷ [])
 plain_of plains.Ret = specs.Instruction mnemonics.Ret []
 
 -- an operation with an operand that is no register, where it stands
 abbrev pub with_operand : Operation → specs.Operand → specs.StatementKind
-with_operand (operations.Registers operation rd rs1) o = specs.Instruction (mnemonics.Registers operation) (specs.Register rd ∷ specs.Register rs1 ∷ o ∷ [])
-with_operand (operations.Immediate operation rd rs1) o = specs.Instruction (mnemonics.Immediate operation) (specs.Register rd ∷ specs.Register rs1 ∷ o ∷ [])
-with_operand (operations.Shift operation rd rs1) o = specs.Instruction (mnemonics.Shift operation) (specs.Register rd ∷ specs.Register rs1 ∷ o ∷ [])
-with_operand (operations.Upper operation rd) o = specs.Instruction (mnemonics.Upper operation) (specs.Register rd ∷ o ∷ [])
-with_operand (operations.Load operation rd rs1) o = specs.Instruction (mnemonics.Load operation) (specs.Register rd ∷ o ∷ specs.Register rs1 ∷ [])
-with_operand (operations.Store operation rs2 rs1) o = specs.Instruction (mnemonics.Store operation) (specs.Register rs2 ∷ o ∷ specs.Register rs1 ∷ [])
-with_operand (operations.Jalr rd rs1) o = specs.Instruction mnemonics.Jalr (specs.Register rd ∷ o ∷ specs.Register rs1 ∷ [])
-with_operand (operations.JalrThen rd rs1) o = specs.Instruction mnemonics.Jalr (specs.Register rd ∷ specs.Register rs1 ∷ o ∷ [])
-with_operand (operations.JalrLinked rs1) o = specs.Instruction mnemonics.Jalr (o ∷ specs.Register rs1 ∷ [])
-with_operand (operations.Branch operation rs1 rs2) o = specs.Instruction (mnemonics.Branch operation) (specs.Register rs1 ∷ specs.Register rs2 ∷ o ∷ [])
+with_operand (operations.Registers operation rd rs1) o =
+    specs.Instruction (mnemonics.Registers operation)
+    (specs.Register rd ∷ specs.Register rs1 ∷ o ∷ [])
+with_operand (operations.Immediate operation rd rs1) o =
+    specs.Instruction (mnemonics.Immediate operation)
+    (specs.Register rd ∷ specs.Register rs1 ∷ o ∷ [])
+with_operand (operations.Shift operation rd rs1) o =
+    specs.Instruction (mnemonics.Shift operation) (specs.Register rd ∷ specs.Register rs1 ∷ o ∷ [])
+with_operand (operations.Upper operation rd) o =
+    specs.Instruction (mnemonics.Upper operation) (specs.Register rd ∷ o ∷ [])
+with_operand (operations.Load operation rd rs1) o =
+    specs.Instruction (mnemonics.Load operation) (specs.Register rd ∷ o ∷ specs.Register rs1 ∷ [])
+with_operand (operations.Store operation rs2 rs1) o =
+    specs.Instruction (mnemonics.Store operation) (specs.Register rs2 ∷ o ∷ specs.Register rs1 ∷ [])
+with_operand (operations.Jalr rd rs1) o =
+    specs.Instruction mnemonics.Jalr (specs.Register rd ∷ o ∷ specs.Register rs1 ∷ [])
+with_operand (operations.JalrThen rd rs1) o =
+    specs.Instruction mnemonics.Jalr (specs.Register rd ∷ specs.Register rs1 ∷ o ∷ [])
+with_operand (operations.JalrLinked rs1) o =
+    specs.Instruction mnemonics.Jalr (o ∷ specs.Register rs1 ∷ [])
+with_operand (operations.Branch operation rs1 rs2) o =
+    specs.Instruction (mnemonics.Branch operation)
+    (specs.Register rs1 ∷ specs.Register rs2 ∷ o ∷ [])
 with_operand (operations.Jal rd) o = specs.Instruction mnemonics.Jal (specs.Register rd ∷ o ∷ [])
 with_operand operations.JalLinked o = specs.Instruction mnemonics.Jal (o ∷ [])
-with_operand (operations.LoadSymbol operation rd) o = specs.Instruction (mnemonics.Load operation) (specs.Register rd ∷ o ∷ [])
-with_operand (operations.StoreSymbol operation rs2 rt) o = specs.Instruction (mnemonics.Store operation) (specs.Register rs2 ∷ o ∷ specs.Register rt ∷ [])
-with_operand (operations.ZeroBranch operation rs) o = specs.Instruction (mnemonics.ZeroBranch operation) (specs.Register rs ∷ o ∷ [])
-with_operand (operations.SwappedBranch operation rs1 rs2) o = specs.Instruction (mnemonics.SwappedBranch operation) (specs.Register rs1 ∷ specs.Register rs2 ∷ o ∷ [])
+with_operand (operations.LoadSymbol operation rd) o =
+    specs.Instruction (mnemonics.Load operation) (specs.Register rd ∷ o ∷ [])
+with_operand (operations.StoreSymbol operation rs2 rt) o =
+    specs.Instruction (mnemonics.Store operation) (specs.Register rs2 ∷ o ∷ specs.Register rt ∷ [])
+with_operand (operations.ZeroBranch operation rs) o =
+    specs.Instruction (mnemonics.ZeroBranch operation) (specs.Register rs ∷ o ∷ [])
+with_operand (operations.SwappedBranch operation rs1 rs2) o =
+    specs.Instruction (mnemonics.SwappedBranch operation)
+    (specs.Register rs1 ∷ specs.Register rs2 ∷ o ∷ [])
 with_operand operations.J o = specs.Instruction mnemonics.J (o ∷ [])
 with_operand (operations.Jr rs) o = specs.Instruction mnemonics.Jr (o ∷ specs.Register rs ∷ [])
 with_operand (operations.La rd) o = specs.Instruction mnemonics.La (specs.Register rd ∷ o ∷ [])
@@ -117,17 +147,23 @@ statement_kind (kinds.Label name) = specs.Label name.now
 statement_kind (kinds.Numbered digits) = specs.Numbered (value 10 digits.now)
 statement_kind (kinds.Plain p) = plain_of p
 statement_kind (kinds.With operation e) = with_expression operation (tree_of_expr e)
-statement_kind (kinds.WithFunction operation function e) = with_function operation function (tree_of_expr e)
+statement_kind (kinds.WithFunction operation function e) =
+    with_function operation function (tree_of_expr e)
 statement_kind (kinds.Enters section) = specs.Directs (specs.Enters section)
 statement_kind (kinds.Opens opening) = specs.Directs (opening_of (box_value opening))
 statement_kind (kinds.Globl names) = specs.Directs (specs.Globl (map now_of names.items))
 statement_kind (kinds.Local names) = specs.Directs (specs.Local (map now_of names.items))
 statement_kind (kinds.Sets setting) = specs.Directs (setting_of (box_value setting))
-statement_kind (kinds.AlignsToPower exponent) = specs.Directs (specs.Aligns_to_power (tree_of_expr exponent))
-statement_kind (kinds.AlignsToBytes bytes) = specs.Directs (specs.Aligns_to_bytes (tree_of_expr bytes))
-statement_kind (kinds.Value width one) = specs.Directs (specs.Values (bytes_of width) (tree_of_expr one ∷ []))
-statement_kind (kinds.Values width values) = specs.Directs (specs.Values (bytes_of width) (map tree_of_expr values.items))
-statement_kind (kinds.Ascii strings) = specs.Directs (specs.Strings false (map quoted strings.items))
+statement_kind (kinds.AlignsToPower exponent) =
+    specs.Directs (specs.Aligns_to_power (tree_of_expr exponent))
+statement_kind (kinds.AlignsToBytes bytes) =
+    specs.Directs (specs.Aligns_to_bytes (tree_of_expr bytes))
+statement_kind (kinds.Value width one) =
+    specs.Directs (specs.Values (bytes_of width) (tree_of_expr one ∷ []))
+statement_kind (kinds.Values width values) =
+    specs.Directs (specs.Values (bytes_of width) (map tree_of_expr values.items))
+statement_kind (kinds.Ascii strings) =
+    specs.Directs (specs.Strings false (map quoted strings.items))
 statement_kind (kinds.Asciz strings) = specs.Directs (specs.Strings true (map quoted strings.items))
 statement_kind (kinds.Zeros count) = specs.Directs (specs.Zeros (tree_of_expr count))
 statement_kind (kinds.Chooses choice) = specs.Directs (specs.Chooses choice)

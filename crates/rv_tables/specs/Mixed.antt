@@ -16,7 +16,8 @@ mix_digit number d = bit_xor number d * prime % 2 ^ 64
 -- the decimal digits of a number, at most `most` of them, from the last on
 abbrev pub mix_within : ℕ → ℕ → ℕ → ℕ
 mix_within zero n number = number
-mix_within (suc most) n number = if n == 0 then number else mix_within most (n / 10) (mix_digit number (n % 10))
+mix_within (suc most) n number =
+    if n == 0 then number else mix_within most (n / 10) (mix_digit number (n % 10))
 
 -- all of its digits: a number has no more of them than its value
 unfoldable pub mix : ℕ → ℕ → ℕ

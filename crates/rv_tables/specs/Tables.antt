@@ -28,17 +28,20 @@ abbrev pub label_at : List ℕ → Label → laws.Labelled
 label_at name l = record { name = name; ordinal = l.ordinal; place = offset_of l.place }
 
 abbrev pub numeric_label_of : NumericLabel → laws.NumericLabel
-numeric_label_of m = record { number = value 10 m.digits.now; ordinal = m.ordinal; place = offset_of m.place }
+numeric_label_of m =
+    record { number = value 10 m.digits.now; ordinal = m.ordinal; place = offset_of m.place }
 
 abbrev pub assignment_of : Assignment → laws.Assignment
-assignment_of s = record { name = s.name.now; ordinal = s.ordinal; meaning = meaning_of s.meaning; plus = s.plus }
+assignment_of s =
+    record { name = s.name.now; ordinal = s.ordinal; meaning = meaning_of s.meaning; plus = s.plus }
 
 abbrev pub opened_by : List Extent → ℕ → sections.Opened
 opened_by extents current = record { sections = map extent_section extents; current = current }
 
 -- the binding that was said last of a name; else it is local
 abbrev pub binding_in : {S : Type 0} → IndexMap (Bor (List ℕ)) Binding S → List ℕ → Binding
-binding_in bindings name = unwrap_or (get_by (λ (k : Bor (List ℕ)). bytes_eq name k.now) bindings) Local
+binding_in bindings name =
+    unwrap_or (get_by (λ (k : Bor (List ℕ)). bytes_eq name k.now) bindings) Local
 
 -- the tables, of which the code has assignments, numeric labels and kept options with the latest last
 abbrev pub tables_of : Tables → laws.Tables
@@ -55,15 +58,28 @@ tables_of b = record {
 }
 
 -- the numeric labels of a number
-abbrev pub numeric_labels_at : {Z S : Type 0} → IndexMap Number (Vec NumericLabel Z) S → ℕ → List NumericLabel
-numeric_labels_at numbered number = option_map_or (λ numeric_labels. numeric_labels.items) (get_by (λ (k : Number). number == value 10 k.digits.now) numbered) []
+abbrev pub numeric_labels_at : {Z S : Type 0} → IndexMap Number (Vec NumericLabel Z) S → ℕ →
+    List NumericLabel
+numeric_labels_at numbered number =
+    option_map_or (λ numeric_labels. numeric_labels.items)
+    (get_by (λ (k : Number). number == value 10 k.digits.now) numbered) []
 
 -- the assignments of a name
-abbrev pub assignments_at : {Z S : Type 0} → IndexMap (Bor (List ℕ)) (Vec Assignment Z) S → List ℕ → List Assignment
-assignments_at by_name name = option_map_or (λ assignments. assignments.items) (get_by (λ (k : Bor (List ℕ)). bytes_eq name k.now) by_name) []
+abbrev pub assignments_at : {Z S : Type 0} → IndexMap (Bor (List ℕ)) (Vec Assignment Z) S →
+    List ℕ → List Assignment
+assignments_at by_name name =
+    option_map_or (λ assignments. assignments.items)
+    (get_by (λ (k : Bor (List ℕ)). bytes_eq name k.now) by_name) []
 
 -- what is looked up by name or number is what a search would find
 pub record IsIndexed (b : Tables) : Type 0 where
-  pub numbers : (name : List ℕ) → get_by (λ (k : Bor (List ℕ)). bytes_eq name k.now) b.numbers ≡ sections.place_of_name (map extent_section b.extents.items) name
-  pub assignments : (name : List ℕ) → assignments_at b.by_name name ≡ filter (λ (g : Assignment). bytes_eq g.name.now name) b.assignments.items
-  pub numbered : (digits : List ℕ) → numeric_labels_at b.numbered (value 10 digits) ≡ filter (λ (m : NumericLabel). value 10 m.digits.now == value 10 digits) b.numeric_labels.items
+  pub numbers : (name : List ℕ) →
+      get_by (λ (k : Bor (List ℕ)). bytes_eq name k.now) b.numbers
+      ≡ sections.place_of_name (map extent_section b.extents.items) name
+  pub assignments : (name : List ℕ) →
+      assignments_at b.by_name name
+      ≡ filter (λ (g : Assignment). bytes_eq g.name.now name) b.assignments.items
+  pub numbered : (digits : List ℕ) →
+      numeric_labels_at b.numbered (value 10 digits)
+      ≡ filter
+      (λ (m : NumericLabel). value 10 m.digits.now == value 10 digits) b.numeric_labels.items

@@ -60,7 +60,8 @@ pub fn byte_alignment(value: Result<Value<'_>, SourceFault>) -> Option<u32>
 
 /// The bytes that a value counts; none where it is no size.
 pub(crate) fn counted(value: Result<Value<'_>, SourceFault>) -> u64
-    ensures { (v : values.Value) → IsOutcome value.entry 0 v → result ≡ laws.or_none (laws.counted v) }
+    ensures { (v : values.Value) → IsOutcome value.entry 0 v →
+        result ≡ laws.or_none (laws.counted v) }
 {
     match value {
         Ok(Value::Constant(count)) => if count < 1 << 63 { count } else { 0 },
@@ -126,7 +127,8 @@ pub fn values_size(width: Width, count: usize) -> u64
 
 /// The bytes of strings, where asked with a zero byte after each, or as many as a number shows.
 pub fn strings_size(ended: bool, strings: &[&[u8]]) -> u64
-    ensures { result ≡ min (length (laws.string_bytes ended (map quoted strings.now))) (2 ^ 64 - 1) }
+    ensures { result
+        ≡ min (length (laws.string_bytes ended (map quoted strings.now))) (2 ^ 64 - 1) }
 {
     let mut size: u64 = 0;
     for text in strings {

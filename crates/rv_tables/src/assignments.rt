@@ -15,7 +15,8 @@ fn assignments_of<'a>(
     name: &'a [u8],
 ) -> Vec<Assignment<'a>>
     ensures items { result.items ≡ assignments_at by_name.old name.now }
-    ensures others { (other : List ℕ) → bytes_eq name.now other ≡ false → assignments_at by_name.new other ≡ assignments_at by_name.old other }
+    ensures others { (other : List ℕ) → bytes_eq name.now other ≡ false →
+        assignments_at by_name.new other ≡ assignments_at by_name.old other }
 {
     match by_name.swap_remove(&name) {
         Some(assignments) => assignments,

@@ -44,7 +44,9 @@ fn assigned_symbol<'a>(
     plus: u64,
 ) -> Option<Assignment<'a>>
     ensures ordinal { IfSome result (λ g. g.ordinal ≡ ordinal) }
-    ensures value { option_map assignment_of result ≡ laws.assigned name.now ordinal (Symbolic (symbol_of symbol.entry) (meaning_of here) plus) }
+    ensures value { option_map assignment_of result
+        ≡ laws.assigned name.now ordinal
+        (Symbolic (symbol_of symbol.entry) (meaning_of here) plus) }
 {
     match symbol {
         Symbol::Here => match here {
@@ -73,7 +75,9 @@ fn assigned_value<'a>(
     value: Value<'_>,
 ) -> Option<Assignment<'a>>
     ensures ordinal { IfSome result (λ g. g.ordinal ≡ ordinal) }
-    ensures value { (means : Primary → values.Meaning) (e : Expression) → meaning_of here ≡ means Here → value_told value.entry (value_of means e) → option_map assignment_of result ≡ laws.assigned name.now ordinal (value_of means e) }
+    ensures value { (means : Primary → values.Meaning) (e : Expression) →
+        meaning_of here ≡ means Here → value_told value.entry (value_of means e) →
+        option_map assignment_of result ≡ laws.assigned name.now ordinal (value_of means e) }
 {
     match value {
         Value::Constant(number) => Some(Assignment {
@@ -95,7 +99,9 @@ pub fn assigned<'a>(
     value: Result<Value<'_>, SourceFault>,
 ) -> Option<Assignment<'a>>
     ensures ordinal { IfSome result (λ g. g.ordinal ≡ ordinal) }
-    ensures value { (means : Primary → values.Meaning) (e : Expression) → meaning_of here ≡ means Here → IsOutcome value.entry 0 (value_of means e) → option_map assignment_of result ≡ laws.assigned name.now ordinal (value_of means e) }
+    ensures value { (means : Primary → values.Meaning) (e : Expression) →
+        meaning_of here ≡ means Here → IsOutcome value.entry 0 (value_of means e) →
+        option_map assignment_of result ≡ laws.assigned name.now ordinal (value_of means e) }
 {
     match value {
         Ok(value) => assigned_value(here, ordinal, name, value),
@@ -113,7 +119,10 @@ pub struct Filled {
 impl<'a> Tables<'a> {
     /// Enters the section of a `.section`.
     fn add_section(&mut self, opening: &Opening<'a>) -> Result<(), AllocError>
-        ensures tables { OnOk result (IsIndexed self.old → tables_of self.new ≡ laws.with_section (tables_of self.old) (entered_by (opening_of opening.now))) }
+        ensures tables { OnOk result
+            (IsIndexed self.old →
+            tables_of self.new
+            ≡ laws.with_section (tables_of self.old) (entered_by (opening_of opening.now))) }
         ensures indexed { OnOk result (IsIndexed self.old → IsIndexed self.new) }
     {
         self.enter(Section::of(opening.name, opening.flags, opening.kind))
@@ -121,7 +130,13 @@ impl<'a> Tables<'a> {
 
     /// Sets the name of a `.set`.
     fn add_assignment(&mut self, ordinal: usize, assignment: &Setting<'a>) -> Result<(), AllocError>
-        ensures tables { OnOk result (IsIndexed self.old → IsBefore (tables_of self.old) ordinal → tables_of self.new ≡ laws.with_assignment (tables_of self.old) (laws.assigned (assignment.now).name.now ordinal (laws.value (tables_of self.old) false ordinal (laws.here (tables_of self.old)) (tree_of_expr (assignment.now).expression)))) }
+        ensures tables { OnOk result
+            (IsIndexed self.old → IsBefore (tables_of self.old) ordinal →
+            tables_of self.new
+            ≡ laws.with_assignment (tables_of self.old)
+            (laws.assigned (assignment.now).name.now ordinal
+            (laws.value (tables_of self.old) false ordinal (laws.here (tables_of self.old))
+            (tree_of_expr (assignment.now).expression)))) }
         ensures indexed { OnOk result (IsIndexed self.old → IsIndexed self.new) }
     {
         let value = self.value(&assignment.expression);
@@ -133,7 +148,10 @@ impl<'a> Tables<'a> {
 
     /// Adds zero bytes.
     fn add_zeros(&mut self, count: &Expr<'a>) -> Result<(), AllocError>
-        ensures tables { OnOk result (IsIndexed self.old → (o : ℕ) → IsBefore (tables_of self.old) o → tables_of self.new ≡ laws.after_directive (tables_of self.old) o (Zeros (tree_of_expr count.now))) }
+        ensures tables { OnOk result
+            (IsIndexed self.old → (o : ℕ) → IsBefore (tables_of self.old) o →
+            tables_of self.new
+            ≡ laws.after_directive (tables_of self.old) o (Zeros (tree_of_expr count.now))) }
         ensures indexed { OnOk result (IsIndexed self.old → IsIndexed self.new) }
     {
         let bytes = counted(self.value(count));
@@ -142,7 +160,11 @@ impl<'a> Tables<'a> {
 
     /// Aligns to a power of two.
     fn align_to_power(&mut self, exponent: &Expr<'a>) -> Result<(), AllocError>
-        ensures tables { OnOk result (IsIndexed self.old → (o : ℕ) → IsBefore (tables_of self.old) o → tables_of self.new ≡ laws.after_directive (tables_of self.old) o (Aligns_to_power (tree_of_expr exponent.now))) }
+        ensures tables { OnOk result
+            (IsIndexed self.old → (o : ℕ) → IsBefore (tables_of self.old) o →
+            tables_of self.new
+            ≡ laws.after_directive (tables_of self.old) o
+            (Aligns_to_power (tree_of_expr exponent.now))) }
         ensures indexed { OnOk result (IsIndexed self.old → IsIndexed self.new) }
     {
         let alignment = power_alignment(self.value(exponent));
@@ -151,7 +173,11 @@ impl<'a> Tables<'a> {
 
     /// Aligns to a number of bytes.
     fn align_to_bytes(&mut self, bytes: &Expr<'a>) -> Result<(), AllocError>
-        ensures tables { OnOk result (IsIndexed self.old → (o : ℕ) → IsBefore (tables_of self.old) o → tables_of self.new ≡ laws.after_directive (tables_of self.old) o (Aligns_to_bytes (tree_of_expr bytes.now))) }
+        ensures tables { OnOk result
+            (IsIndexed self.old → (o : ℕ) → IsBefore (tables_of self.old) o →
+            tables_of self.new
+            ≡ laws.after_directive (tables_of self.old) o
+            (Aligns_to_bytes (tree_of_expr bytes.now))) }
         ensures indexed { OnOk result (IsIndexed self.old → IsIndexed self.new) }
     {
         let alignment = byte_alignment(self.value(bytes));
@@ -160,7 +186,10 @@ impl<'a> Tables<'a> {
 
     /// What a statement of this ordinal changes.
     fn add(&mut self, ordinal: usize, kind: &StatementKind<'a>) -> Result<(), AllocError>
-        ensures tables { OnOk result (IsIndexed self.old → IsBefore (tables_of self.old) ordinal → tables_of self.new ≡ laws.after (tables_of self.old) ordinal (statement_kind kind.now)) }
+        ensures tables { OnOk result
+            (IsIndexed self.old → IsBefore (tables_of self.old) ordinal →
+            tables_of self.new
+            ≡ laws.after (tables_of self.old) ordinal (statement_kind kind.now)) }
         ensures indexed { OnOk result (IsIndexed self.old → IsIndexed self.new) }
     {
         match kind {
@@ -194,9 +223,14 @@ impl<'a> Tables<'a> {
         ordinal: usize,
         kind: &StatementKind<'a>,
     ) -> Result<SectionOffset, AllocError>
-        ensures tables { OnOk result (IsIndexed self.old → IsBefore (tables_of self.old) ordinal → tables_of self.new ≡ laws.after (tables_of self.old) ordinal (statement_kind kind.now)) }
+        ensures tables { OnOk result
+            (IsIndexed self.old → IsBefore (tables_of self.old) ordinal →
+            tables_of self.new
+            ≡ laws.after (tables_of self.old) ordinal (statement_kind kind.now)) }
         ensures indexed { OnOk result (IsIndexed self.old → IsIndexed self.new) }
-        ensures place { IfOk result (λ place. IsIndexed self.old → IsBefore (tables_of self.old) ordinal → offset_of place ≡ laws.stood (tables_of self.old) ordinal (statement_kind kind.now)) }
+        ensures place { IfOk result
+            (λ place. IsIndexed self.old → IsBefore (tables_of self.old) ordinal →
+            offset_of place ≡ laws.stood (tables_of self.old) ordinal (statement_kind kind.now)) }
     {
         let before = self.here();
         self.add(ordinal, kind)?;
@@ -212,11 +246,18 @@ impl<'a> Tables<'a> {
         alloc: Global,
         statements: &[Statement<'a>],
     ) -> Result<Filled, AllocError>
-        ensures tables { OnOk result (tables_of self.old ≡ laws.at_start → IsIndexed self.old → tables_of self.new ≡ laws.tables (map statement_of statements.now)) }
-        ensures indexed { OnOk result (tables_of self.old ≡ laws.at_start → IsIndexed self.old → IsIndexed self.new) }
-        ensures places { IfOk result (λ filled. tables_of self.old ≡ laws.at_start → IsIndexed self.old → map offset_of filled.places.items ≡ laws.places (map statement_of statements.now)) }
-        ensures options { IfOk result (λ filled. tables_of self.old ≡ laws.at_start → IsIndexed self.old
-            → map options_of filled.options.items ≡ laws.all_options (map statement_of statements.now)) }
+        ensures tables { OnOk result
+            (tables_of self.old ≡ laws.at_start → IsIndexed self.old →
+            tables_of self.new ≡ laws.tables (map statement_of statements.now)) }
+        ensures indexed { OnOk result
+            (tables_of self.old ≡ laws.at_start → IsIndexed self.old → IsIndexed self.new) }
+        ensures places { IfOk result
+            (λ filled. tables_of self.old ≡ laws.at_start → IsIndexed self.old →
+            map offset_of filled.places.items ≡ laws.places (map statement_of statements.now)) }
+        ensures options { IfOk result
+            (λ filled. tables_of self.old ≡ laws.at_start → IsIndexed self.old
+            → map options_of filled.options.items
+            ≡ laws.all_options (map statement_of statements.now)) }
     {
         let mut places = Vec::new(alloc);
         let mut options = Vec::new(alloc);

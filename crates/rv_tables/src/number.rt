@@ -38,7 +38,9 @@ fn digit(byte: u8) -> u8
 
 /// The digits after a zero in front.
 fn behind_zero(digits: &[u8]) -> Option<&[u8]>
-    ensures found { IfSome result (λ rest. (value 10 rest.now ≡ value 10 digits.now) × (length rest.now < length digits.now)) }
+    ensures found { IfSome result
+        (λ rest. (value 10 rest.now ≡ value 10 digits.now)
+        × (length rest.now < length digits.now)) }
     ensures missing { result ≡ None → HasNoZeroInFront digits.now }
 {
     match digits {
@@ -141,7 +143,8 @@ impl Eq for Number<'_> {
 impl Hash for Number<'_> {
     ghost hash_input = { λ n. fed.u64 (mix (value 10 n.digits.now) basis) };
 
-    ghost respects_eq = { λ a b same. ap (λ n. fed.u64 (mix n basis)) (eqb-true (value 10 a.digits.now) (value 10 b.digits.now) same) };
+    ghost respects_eq = { λ a b same. ap (λ n. fed.u64 (mix n basis))
+        (eqb-true (value 10 a.digits.now) (value 10 b.digits.now) same) };
 
     fn hash<H: Hasher>(&self, state: &mut H) {
         state.write_u64(mixed(self.digits));
@@ -151,9 +154,11 @@ impl Hash for Number<'_> {
 impl<'k> Equivalent<Number<'k>> for Number<'_> {
     ghost equivalent = { λ q k. value 10 q.digits.now == value 10 k.digits.now };
 
-    ghost respects_hash = { λ q k same. ap (λ n. fed.u64 (mix n basis)) (eqb-true (value 10 q.digits.now) (value 10 k.digits.now) same) };
+    ghost respects_hash = { λ q k same. ap (λ n. fed.u64 (mix n basis))
+        (eqb-true (value 10 q.digits.now) (value 10 k.digits.now) same) };
 
-    ghost respects_eq = { λ q x y same. ap (λ n. n == value 10 y.digits.now) (eqb-true (value 10 q.digits.now) (value 10 x.digits.now) same) };
+    ghost respects_eq = { λ q x y same. ap (λ n. n == value 10 y.digits.now)
+        (eqb-true (value 10 q.digits.now) (value 10 x.digits.now) same) };
 
     fn equivalent(&self, key: &Number<'k>) -> bool {
         same_number(self.digits, key.digits)

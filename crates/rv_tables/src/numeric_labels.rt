@@ -18,8 +18,12 @@ fn taken<'a>(
     numbered: &mut IndexMap<Number<'a>, Vec<NumericLabel<'a>>>,
     number: Number<'a>,
 ) -> Vec<NumericLabel<'a>>
-    ensures items { result.items ≡ numeric_labels_at numbered.old (value 10 (number.entry).digits.now) }
-    ensures others { (digits : List ℕ) → (value 10 (number.entry).digits.now == value 10 digits) ≡ false → numeric_labels_at numbered.new (value 10 digits) ≡ numeric_labels_at numbered.old (value 10 digits) }
+    ensures items { result.items
+        ≡ numeric_labels_at numbered.old (value 10 (number.entry).digits.now) }
+    ensures others { (digits : List ℕ) →
+        (value 10 (number.entry).digits.now == value 10 digits) ≡ false →
+        numeric_labels_at numbered.new (value 10 digits)
+        ≡ numeric_labels_at numbered.old (value 10 digits) }
 {
     match numbered.swap_remove(number) {
         Some(numeric_labels) => numeric_labels,
@@ -46,7 +50,9 @@ pub(crate) fn add_numbered<'a>(
 
 /// How many of numeric labels in their order stand no later than an ordinal.
 fn count_until(numeric_labels: &[NumericLabel<'_>], ordinal: usize) -> usize
-    ensures { IsNonDecreasingBy (λ (m : NumericLabelOf). m.ordinal) numeric_labels.now → IsPartitionPoint (λ (m : NumericLabelOf). m.ordinal ≤ ordinal) (λ (m : NumericLabelOf). ordinal < m.ordinal) numeric_labels.now result }
+    ensures { IsNonDecreasingBy (λ (m : NumericLabelOf). m.ordinal) numeric_labels.now →
+        IsPartitionPoint (λ (m : NumericLabelOf). m.ordinal ≤ ordinal)
+        (λ (m : NumericLabelOf). ordinal < m.ordinal) numeric_labels.now result }
 {
     numeric_labels.partition_point(
         |numeric_label: &NumericLabel<'_>| -> bool
@@ -60,7 +66,8 @@ pub(crate) fn first_after<'a>(
     numeric_labels: &[NumericLabel<'a>],
     ordinal: usize,
 ) -> Option<NumericLabel<'a>>
-    ensures { IsNonDecreasingBy (λ (m : NumericLabelOf). m.ordinal) numeric_labels.now → result ≡ find (λ (m : NumericLabelOf). nat_lt ordinal m.ordinal) numeric_labels.now }
+    ensures { IsNonDecreasingBy (λ (m : NumericLabelOf). m.ordinal) numeric_labels.now →
+        result ≡ find (λ (m : NumericLabelOf). nat_lt ordinal m.ordinal) numeric_labels.now }
 {
     numeric_labels
         .get(count_until(numeric_labels, ordinal))

@@ -16,7 +16,9 @@ pub(crate) trait HasOrdinal: Copy {
 /// How many of the items, in their order, stand before an ordinal.
 fn count_before<T: HasOrdinal>(items: &[T], ordinal: usize) -> usize
     ensures bound { result ≤ length items.now }
-    ensures point { IsNonDecreasingBy T.at items.now → IsPartitionPoint (λ (x : T). T.at x < ordinal) (λ (x : T). ordinal ≤ T.at x) items.now result }
+    ensures point { IsNonDecreasingBy T.at items.now →
+        IsPartitionPoint (λ (x : T). T.at x < ordinal)
+        (λ (x : T). ordinal ≤ T.at x) items.now result }
 {
     items.partition_point(
         |item: &T| -> bool
@@ -27,7 +29,8 @@ fn count_before<T: HasOrdinal>(items: &[T], ordinal: usize) -> usize
 
 /// The last of the items, in their order, that stands before an ordinal.
 pub(crate) fn last_before<T: HasOrdinal>(items: &[T], ordinal: usize) -> Option<T>
-    ensures { IsNonDecreasingBy T.at items.now → result ≡ find (λ (x : T). nat_lt (T.at x) ordinal) (reverse items.now) }
+    ensures { IsNonDecreasingBy T.at items.now →
+        result ≡ find (λ (x : T). nat_lt (T.at x) ordinal) (reverse items.now) }
 {
     match count_before(items, ordinal).checked_sub(1) {
         Some(last) => items.get(last).copied(),

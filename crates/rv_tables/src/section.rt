@@ -39,7 +39,8 @@ impl<'a> Extent<'a> {
     pub(crate) fn longer(self, end: u64, alignment: Option<u32>) -> Self
         ensures section { section_of result.section ≡ section_of (self.entry).section }
         ensures bytes { result.bytes ≡ end }
-        ensures alignment { result.alignment ≡ max (self.entry).alignment (max 1 (tables.or_none alignment)) }
+        ensures alignment { result.alignment
+            ≡ max (self.entry).alignment (max 1 (tables.or_none alignment)) }
     {
         Extent {
             section: self.section,
@@ -145,7 +146,9 @@ impl<'a> Section<'a> {
 
     /// A section with the flags and the type that are given, or that its name's front says.
     pub fn of(name: &'a [u8], flags: Option<&[u8]>, kind: Option<&[u8]>) -> Self
-        ensures { section_of result ≡ laws.section_of name.now (option_map quoted flags.entry) (option_map now_of kind.entry) }
+        ensures { section_of result
+            ≡ laws.section_of name.now (option_map quoted flags.entry)
+            (option_map now_of kind.entry) }
     {
         let code = is_code(name);
         let variable = is_variable(name);

@@ -181,14 +181,17 @@ impl<'a> Tables<'a> {
 
     /// The label of a name.
     pub fn label(&self, name: &[u8]) -> Option<Label>
-        ensures { option_map (label_at name.now) result ≡ laws.label_of (tables_of self.now).labels true 0 name.now }
+        ensures { option_map (label_at name.now) result
+            ≡ laws.label_of (tables_of self.now).labels true 0 name.now }
     {
         self.labels.get(&name).copied()
     }
 
     /// The label of a name, if it stands before an ordinal.
     pub fn label_before(&self, ordinal: usize, name: &[u8]) -> Option<Label>
-        ensures { (o : ℕ) → IsBefore (tables_of self.now) o → option_map (label_at name.now) result ≡ laws.label_of (tables_of self.now).labels false ordinal name.now }
+        ensures { (o : ℕ) → IsBefore (tables_of self.now) o →
+            option_map (label_at name.now) result
+            ≡ laws.label_of (tables_of self.now).labels false ordinal name.now }
     {
         match self.label(name) {
             Some(label) => {
@@ -204,7 +207,9 @@ impl<'a> Tables<'a> {
 
     /// The latest assignment of a name.
     pub fn assignment(&self, name: &[u8]) -> Option<Assignment<'a>>
-        ensures { IsIndexed self.now → option_map assignment_of result ≡ laws.assigned_ever (tables_of self.now).assignments name.now }
+        ensures { IsIndexed self.now →
+            option_map assignment_of result
+            ≡ laws.assigned_ever (tables_of self.now).assignments name.now }
     {
         match self.by_name.get(&name) {
             Some(assignments) => assignments.as_slice().last().copied(),
@@ -214,7 +219,9 @@ impl<'a> Tables<'a> {
 
     /// The latest assignment of a name before an ordinal.
     pub fn assignment_before(&self, ordinal: usize, name: &[u8]) -> Option<Assignment<'a>>
-        ensures { IsIndexed self.now → (o : ℕ) → IsBefore (tables_of self.now) o → option_map assignment_of result ≡ laws.assigned_before (tables_of self.now).assignments ordinal name.now }
+        ensures { IsIndexed self.now → (o : ℕ) → IsBefore (tables_of self.now) o →
+            option_map assignment_of result
+            ≡ laws.assigned_before (tables_of self.now).assignments ordinal name.now }
     {
         match self.by_name.get(&name) {
             Some(assignments) => last_before(assignments.as_slice(), ordinal),
@@ -224,7 +231,10 @@ impl<'a> Tables<'a> {
 
     /// The latest numeric label of a number.
     pub(crate) fn latest_numeric_label(&self, digits: &[u8]) -> Option<NumericLabel<'a>>
-        ensures { IsIndexed self.now → option_map numeric_label_of result ≡ find (λ m. m.number == digits_value 10 digits.now) (tables_of self.now).numeric_labels }
+        ensures { IsIndexed self.now →
+            option_map numeric_label_of result
+            ≡ find (λ m. m.number == digits_value 10 digits.now)
+            (tables_of self.now).numeric_labels }
     {
         match self.numbered.get(Number { digits }) {
             Some(numeric_labels) => numeric_labels.as_slice().last().copied(),
@@ -234,7 +244,10 @@ impl<'a> Tables<'a> {
 
     /// The nearest numeric label before an ordinal.
     pub fn numeric_label_before(&self, ordinal: usize, digits: &[u8]) -> Option<NumericLabel<'a>>
-        ensures { IsIndexed self.now → (o : ℕ) → IsBefore (tables_of self.now) o → option_map numeric_label_of result ≡ laws.numeric_label_before (tables_of self.now).numeric_labels ordinal (digits_value 10 digits.now) }
+        ensures { IsIndexed self.now → (o : ℕ) → IsBefore (tables_of self.now) o →
+            option_map numeric_label_of result
+            ≡ laws.numeric_label_before (tables_of self.now).numeric_labels ordinal
+            (digits_value 10 digits.now) }
     {
         match self.numbered.get(Number { digits }) {
             Some(numeric_labels) => last_before(numeric_labels.as_slice(), ordinal),
@@ -244,7 +257,10 @@ impl<'a> Tables<'a> {
 
     /// The nearest numeric label after an ordinal.
     pub fn numeric_label_after(&self, ordinal: usize, digits: &[u8]) -> Option<NumericLabel<'a>>
-        ensures { IsIndexed self.now → (o : ℕ) → IsBefore (tables_of self.now) o → option_map numeric_label_of result ≡ laws.numeric_label_after (tables_of self.now).numeric_labels ordinal (digits_value 10 digits.now) }
+        ensures { IsIndexed self.now → (o : ℕ) → IsBefore (tables_of self.now) o →
+            option_map numeric_label_of result
+            ≡ laws.numeric_label_after (tables_of self.now).numeric_labels ordinal
+            (digits_value 10 digits.now) }
     {
         match self.numbered.get(Number { digits }) {
             Some(numeric_labels) => first_after(numeric_labels.as_slice(), ordinal),
@@ -254,7 +270,8 @@ impl<'a> Tables<'a> {
 
     /// What a name means so far.
     fn named(&self, name: &[u8]) -> Meaning
-        ensures { IsIndexed self.now → (o : ℕ) → IsBefore (tables_of self.now) o → meaning_of result ≡ laws.named (tables_of self.now) false o name.now }
+        ensures { IsIndexed self.now → (o : ℕ) → IsBefore (tables_of self.now) o →
+            meaning_of result ≡ laws.named (tables_of self.now) false o name.now }
     {
         match self.assignment(name) {
             Some(assignment) => assignment.meaning,
@@ -264,7 +281,9 @@ impl<'a> Tables<'a> {
 
     /// What a name that is not set means so far.
     fn labelled(&self, name: &[u8]) -> Meaning
-        ensures { meaning_of result ≡ laws.labelled (tables_of self.now).opened (laws.label_of (tables_of self.now).labels true 0 name.now) Open }
+        ensures { meaning_of result
+            ≡ laws.labelled (tables_of self.now).opened
+            (laws.label_of (tables_of self.now).labels true 0 name.now) Open }
     {
         match self.label(name) {
             Some(label) => self.stands(label.place),
@@ -274,7 +293,9 @@ impl<'a> Tables<'a> {
 
     /// What a numeric label before means so far.
     fn backward(&self, digits: &[u8]) -> Meaning
-        ensures { IsIndexed self.now → (o : ℕ) → IsBefore (tables_of self.now) o → meaning_of result ≡ laws.referred (tables_of self.now) false o (digits_value 10 digits.now) false }
+        ensures { IsIndexed self.now → (o : ℕ) → IsBefore (tables_of self.now) o →
+            meaning_of result
+            ≡ laws.referred (tables_of self.now) false o (digits_value 10 digits.now) false }
     {
         match self.latest_numeric_label(digits) {
             Some(numeric_label) => self.stands(numeric_label.place),
@@ -284,7 +305,10 @@ impl<'a> Tables<'a> {
 
     /// What a symbol means in the next statement, as far as the statements before it say.
     fn meaning(&self, symbol: Symbol<'a>) -> Meaning
-        ensures { IsIndexed self.now → (o : ℕ) → IsBefore (tables_of self.now) o → meaning_of result ≡ laws.meaning (tables_of self.now) false o (laws.here (tables_of self.now)) (symbol_of symbol.entry) }
+        ensures { IsIndexed self.now → (o : ℕ) → IsBefore (tables_of self.now) o →
+            meaning_of result
+            ≡ laws.meaning (tables_of self.now) false o (laws.here (tables_of self.now))
+            (symbol_of symbol.entry) }
     {
         match symbol {
             Symbol::Name(name) => self.named(name),
@@ -296,7 +320,10 @@ impl<'a> Tables<'a> {
 
     /// The value of an expression of the next statement, as far as the statements before it say.
     pub(crate) fn value(&self, expression: &Expr<'a>) -> Result<Value<'a>, SourceFault>
-        ensures { IsIndexed self.now → (o : ℕ) → IsBefore (tables_of self.now) o → IsOutcome result 0 (laws.value (tables_of self.now) false o (laws.here (tables_of self.now)) (tree_of_expr expression.now)) }
+        ensures { IsIndexed self.now → (o : ℕ) → IsBefore (tables_of self.now) o →
+            IsOutcome result 0
+            (laws.value (tables_of self.now) false o (laws.here (tables_of self.now))
+            (tree_of_expr expression.now)) }
     {
         eval(expression, 0, &|symbol| self.meaning(symbol))
     }
@@ -330,7 +357,10 @@ impl<'a> Tables<'a> {
 
     /// Enters a section; a new one while there is room.
     pub(crate) fn enter(&mut self, section: Section<'a>) -> Result<(), AllocError>
-        ensures tables { OnOk result (IsIndexed self.old → tables_of self.new ≡ laws.with_section (tables_of self.old) (Some (section_of section.entry))) }
+        ensures tables { OnOk result
+            (IsIndexed self.old →
+            tables_of self.new
+            ≡ laws.with_section (tables_of self.old) (Some (section_of section.entry))) }
         ensures indexed { OnOk result (IsIndexed self.old → IsIndexed self.new) }
     {
         if let Some(number) = self.numbers.get(&section.name).copied() {
@@ -354,7 +384,9 @@ impl<'a> Tables<'a> {
 
     /// Defines a label, unless its name is defined.
     pub(crate) fn add_label(&mut self, ordinal: usize, name: &'a [u8]) -> Result<(), AllocError>
-        ensures tables { OnOk result (IsIndexed self.old → IsBefore (tables_of self.old) ordinal → tables_of self.new ≡ laws.with_label (tables_of self.old) ordinal name.now) }
+        ensures tables { OnOk result
+            (IsIndexed self.old → IsBefore (tables_of self.old) ordinal →
+            tables_of self.new ≡ laws.with_label (tables_of self.old) ordinal name.now) }
         ensures indexed { OnOk result (IsIndexed self.old → IsIndexed self.new) }
     {
         if self.is_defined(name) {
@@ -371,7 +403,9 @@ impl<'a> Tables<'a> {
         ordinal: usize,
         digits: &'a [u8],
     ) -> Result<(), AllocError>
-        ensures tables { OnOk result (tables_of self.new ≡ laws.with_numeric_label (tables_of self.old) ordinal (digits_value 10 digits.now)) }
+        ensures tables { OnOk result
+            (tables_of self.new
+            ≡ laws.with_numeric_label (tables_of self.old) ordinal (digits_value 10 digits.now)) }
         ensures indexed { OnOk result (IsIndexed self.old → IsIndexed self.new) }
     {
         let place = self.here();
@@ -390,7 +424,10 @@ impl<'a> Tables<'a> {
 
     /// Whether a setting's name is defined, where one of the two is a label or a location.
     pub(crate) fn is_taken(&self, assigned: &Assignment<'a>) -> bool
-        ensures { IsIndexed self.now → IsBefore (tables_of self.now) (assigned.now).ordinal → not result ≡ laws.may_set (tables_of self.now) (assigned.now).ordinal (assigned.now).name.now (meaning_of (assigned.now).meaning) }
+        ensures { IsIndexed self.now → IsBefore (tables_of self.now) (assigned.now).ordinal →
+            not result
+            ≡ laws.may_set (tables_of self.now) (assigned.now).ordinal (assigned.now).name.now
+            (meaning_of (assigned.now).meaning) }
     {
         if assigned.is_location() {
             self.is_defined(assigned.name)
@@ -401,7 +438,10 @@ impl<'a> Tables<'a> {
 
     /// Sets a name, unless one of the two is a label or a location.
     pub(crate) fn set(&mut self, assigned: Assignment<'a>) -> Result<(), AllocError>
-        ensures tables { OnOk result (IsIndexed self.old → IsBefore (tables_of self.old) (assigned.entry).ordinal → tables_of self.new ≡ laws.with_assignment (tables_of self.old) (Some (assignment_of assigned.entry))) }
+        ensures tables { OnOk result
+            (IsIndexed self.old → IsBefore (tables_of self.old) (assigned.entry).ordinal →
+            tables_of self.new
+            ≡ laws.with_assignment (tables_of self.old) (Some (assignment_of assigned.entry))) }
         ensures indexed { OnOk result (IsIndexed self.old → IsIndexed self.new) }
     {
         if self.is_taken(&assigned) {
@@ -413,7 +453,8 @@ impl<'a> Tables<'a> {
 
     /// Adds data at the end of the current section, which one of code does not count, and an alignment of it.
     pub(crate) fn extend(&mut self, bytes: u64, alignment: Option<u32>) -> Result<(), AllocError>
-        ensures tables { OnOk result (tables_of self.new ≡ laws.with_data (tables_of self.old) bytes alignment) }
+        ensures tables { OnOk result
+            (tables_of self.new ≡ laws.with_data (tables_of self.old) bytes alignment) }
         ensures indexed { OnOk result (IsIndexed self.old → IsIndexed self.new) }
     {
         let number = self.current as usize;
@@ -432,7 +473,9 @@ impl<'a> Tables<'a> {
 
     /// Adds data of a size that shows all its bytes, or as many as a number can.
     pub(crate) fn extend_by(&mut self, size: u64) -> Result<(), AllocError>
-        ensures tables { OnOk result ((bytes : ℕ) → size ≡ min bytes (2 ^ 64 - 1) → tables_of self.new ≡ laws.with_data (tables_of self.old) bytes None) }
+        ensures tables { OnOk result
+            ((bytes : ℕ) → size ≡ min bytes (2 ^ 64 - 1) →
+            tables_of self.new ≡ laws.with_data (tables_of self.old) bytes None) }
         ensures indexed { OnOk result (IsIndexed self.old → IsIndexed self.new) }
     {
         if size == u64::MAX {
@@ -443,7 +486,8 @@ impl<'a> Tables<'a> {
 
     /// Sets an option, keeps the options, or takes them back.
     pub(crate) fn choose(&mut self, choice: Choice) -> Result<(), AllocError>
-        ensures tables { OnOk result (tables_of self.new ≡ laws.with_choice (tables_of self.old) choice) }
+        ensures tables { OnOk result
+            (tables_of self.new ≡ laws.with_choice (tables_of self.old) choice) }
         ensures indexed { OnOk result (IsIndexed self.old → IsIndexed self.new) }
     {
         match choice {
@@ -461,7 +505,11 @@ impl<'a> Tables<'a> {
     /// Gives names a binding.
     pub(crate) fn bind(&mut self, binding: Binding, names: &[&'a [u8]]) -> Result<(), AllocError>
         ensures tables { OnOk result (tables_of self.new
-            ≡ record (tables_of self.old) { bindings = bound binding (map now_of names.now) (tables_of self.old).bindings }) }
+            ≡ record
+            (tables_of self.old) {
+              bindings = bound binding (map now_of names.now)
+                  (tables_of self.old).bindings;
+            }) }
         ensures indexed { OnOk result (IsIndexed self.old → IsIndexed self.new) }
     {
         bind_all(&mut self.bindings, binding, names)

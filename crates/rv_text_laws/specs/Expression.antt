@@ -112,12 +112,18 @@ follows _ = Nothing_more
 
 -- the tokens spell the tree
 abbrev pub SpellsTree : (List ℕ → Bool) → Tree → List Token → Type 0
-SpellsTree is_register (Leaf p) ts = (t : Token) × (ts ≡ t ∷ []) × (begins is_register t.kind ≡ A_primary p)
-SpellsTree is_register (Unary o x) ts = (t : Token) × (us : List Token) × (ts ≡ t ∷ us) × (begins is_register t.kind ≡ A_prefix o) × SpellsTree is_register x us
+SpellsTree is_register (Leaf p) ts =
+    (t : Token) × (ts ≡ t ∷ []) × (begins is_register t.kind ≡ A_primary p)
+SpellsTree is_register (Unary o x) ts =
+    (t : Token) × (us : List Token) × (ts ≡ t ∷ us) × (begins is_register t.kind ≡ A_prefix o)
+    × SpellsTree is_register x us
 SpellsTree is_register (Paren x) ts =
-    (t u : Token) × (us : List Token) × (ts ≡ t ∷ (us ++ u ∷ [])) × (begins is_register t.kind ≡ An_opening) × (follows u.kind ≡ A_closing) × SpellsTree is_register x us
+    (t u : Token) × (us : List Token) × (ts ≡ t ∷ (us ++ u ∷ []))
+    × (begins is_register t.kind ≡ An_opening) × (follows u.kind ≡ A_closing)
+    × SpellsTree is_register x us
 SpellsTree is_register (Binary o x y) ts =
-    (us vs : List Token) × (t : Token) × (ts ≡ us ++ t ∷ vs) × (follows t.kind ≡ An_operator o) × SpellsTree is_register x us × SpellsTree is_register y vs
+    (us vs : List Token) × (t : Token) × (ts ≡ us ++ t ∷ vs) × (follows t.kind ≡ An_operator o)
+    × SpellsTree is_register x us × SpellsTree is_register y vs
 
 -- where an operand of this level may stand: its operators bind as tight or tighter, the left operand's as tight or
 -- tighter than it, the right operand's tighter; an operator of one operand takes no other
@@ -153,10 +159,13 @@ postfix (Binary o x y) = postfix x ++ (postfix y ++ Binary_node o ∷ [])
 
 -- tokens that an expression does not go on with
 abbrev pub EndsBefore : List Token → Type 0
-EndsBefore rest = (t : Token) × (us : List Token) × (rest ≡ t ∷ us) × ((follows t.kind ≡ Nothing_more) ⊎ (follows t.kind ≡ A_closing))
+EndsBefore rest =
+    (t : Token) × (us : List Token) × (rest ≡ t ∷ us)
+    × ((follows t.kind ≡ Nothing_more) ⊎ (follows t.kind ≡ A_closing))
 
 -- the tokens are this expression, and then the rest, which does not belong to it
-pub record ReadsTree (is_register : List ℕ → Bool) (ts : List Token) (tree : Tree) (rest : List Token) : Type 0 where
+pub record ReadsTree (is_register : List ℕ → Bool) (ts : List Token) (tree : Tree)
+    (rest : List Token) : Type 0 where
   pub tokens : List Token
   pub whole : ts ≡ tokens ++ rest
   pub spelled : SpellsTree is_register tree tokens

@@ -53,7 +53,8 @@ pub data Step : Type 0 where
 
 -- one level deeper, up to the limit
 abbrev pub deeper : Frame → List Frame → List Node → Step
-deeper f fs ns = if nat_lt (depth fs) deepest then Goes (Wants (f ∷ fs) ns) else Fails nesting_too_deep
+deeper f fs ns =
+    if nat_lt (depth fs) deepest then Goes (Wants (f ∷ fs) ns) else Fails nesting_too_deep
 
 abbrev pub step_wants : List Frame → List Node → Begin → Step
 step_wants fs ns (A_primary p) = Goes (Has fs (ns ++ Primary_node p ∷ []))
@@ -80,7 +81,8 @@ end code [] ns = Ends ns
 end code (f ∷ fs) ns = Fails code
 
 abbrev pub step_has : Kind → List Frame → List Node → Follow → Step
-step_has k fs ns (An_operator o) = let s = settle (level_of o) fs ns in Goes (Wants (Infix o ∷ s.0) s.1)
+step_has k fs ns (An_operator o) =
+    let s = settle (level_of o) fs ns in Goes (Wants (Infix o ∷ s.0) s.1)
 step_has k fs ns A_closing = let s = settle 0 fs ns in close s.0 s.1
 step_has k fs ns A_comparison = Fails unsupported_here
 step_has k fs ns Nothing_more = let s = settle 0 fs ns in end (unclosed k) s.0 s.1
@@ -112,13 +114,15 @@ after_tokens is_register s (t ∷ ts) = elim (step is_register s t.kind) [
 ]
 
 -- the tokens are taken, and the one after them is wrong with this code
-pub record FailsAt (is_register : List ℕ → Bool) (front : List Token) (at : Token) (code : ℕ) : Type 0 where
+pub record FailsAt (is_register : List ℕ → Bool) (front : List Token) (at : Token)
+    (code : ℕ) : Type 0 where
   pub stage : Stage
   pub taken : after_tokens is_register (Wants [] []) front ≡ Some stage
   pub fails : step is_register stage at.kind ≡ Fails code
 
 -- the tokens are taken, and the expression of these nodes ends before the one after them
-pub record EndsAt (is_register : List ℕ → Bool) (front : List Token) (at : Token) (nodes : List Node) : Type 0 where
+pub record EndsAt (is_register : List ℕ → Bool) (front : List Token) (at : Token)
+    (nodes : List Node) : Type 0 where
   pub stage : Stage
   pub taken : after_tokens is_register (Wants [] []) front ≡ Some stage
   pub ends : step is_register stage at.kind ≡ Ends nodes
@@ -137,5 +141,6 @@ code_from is_register next s (t ∷ ts) at = elim (step is_register s t.kind) [
   | Fails code ↦ code
 ]
 
-unfoldable pub code_in_expression : (List ℕ → Bool) → (List Token → Token → ℕ) → List Token → Token → ℕ
+unfoldable pub code_in_expression : (List ℕ → Bool) → (List Token → Token → ℕ) → List Token →
+    Token → ℕ
 code_in_expression is_register next before at = code_from is_register next (Wants [] []) before at

@@ -20,12 +20,16 @@ begins c (b ∷ bs) = b == c
 
 -- the number that digits spell, where they are digits of the base and it fits 64 bits
 abbrev pub number_by : ℕ → List ℕ → Option ℕ
-number_by base ds = if list_all (is_digit base) ds && nat_lt (value base ds) (2 ^ 64) then Some (value base ds) else None
+number_by base ds =
+    if list_all (is_digit base) ds && nat_lt (value base ds) (2 ^ 64)
+    then Some (value base ds) else None
 
 abbrev pub after_zero : List ℕ → Option ℕ
 after_zero [] = number_by 8 []
 after_zero (c ∷ []) = number_by 8 (c ∷ [])
-after_zero (c ∷ d ∷ ds) = if c == 120 then number_by 16 (d ∷ ds) else if c == 98 then number_by 2 (d ∷ ds) else number_by 8 (c ∷ d ∷ ds)
+after_zero (c ∷ d ∷ ds) =
+    if c == 120 then number_by 16 (d ∷ ds) else if c == 98
+    then number_by 2 (d ∷ ds) else number_by 8 (c ∷ d ∷ ds)
 
 -- the number that a word writes
 unfoldable pub number_in : List ℕ → Option ℕ
@@ -34,12 +38,14 @@ number_in (d ∷ ds) = if d == 48 then after_zero ds else number_by 10 (d ∷ ds
 
 abbrev pub with_direction : List ℕ → List ℕ → Option (List ℕ × Bool)
 with_direction ds [] = None
-with_direction ds (c ∷ []) = if c == 102 then Some (ds, true) else if c == 98 then Some (ds, false) else None
+with_direction ds (c ∷ []) =
+    if c == 102 then Some (ds, true) else if c == 98 then Some (ds, false) else None
 with_direction ds (c ∷ d ∷ cs) = None
 
 -- the numeric label that a word refers to
 unfoldable pub reference_in : List ℕ → Option (List ℕ × Bool)
-reference_in word = let n = prefix_len (is_digit 10) word in with_direction (take n word) (drop n word)
+reference_in word =
+    let n = prefix_len (is_digit 10) word in with_direction (take n word) (drop n word)
 
 abbrev pub number_kind : List ℕ → Option ℕ → Kind
 number_kind word None = Bad_word word
@@ -52,7 +58,8 @@ digits_kind word (Some r) = Reference r.0 r.1
 -- where the first `*/` begins
 abbrev pub close_at : List ℕ → Option ℕ
 close_at [] = None
-close_at (b ∷ bs) = if (b == 42) && begins 47 bs then Some 0 else option_map (λ n. suc n) (close_at bs)
+close_at (b ∷ bs) =
+    if (b == 42) && begins 47 bs then Some 0 else option_map (λ n. suc n) (close_at bs)
 
 -- the escape after a `\`, and its length with the `\`
 unfoldable pub escape_at : List ℕ → Option (Atom × ℕ)
@@ -61,7 +68,8 @@ escape_at (e ∷ es) =
     if is_digit 8 e then
     (let n = prefix_len (is_digit 8) (take 2 es) in Some (Octal (e ∷ take n es), suc (suc n)))
     else if e == 120 then
-    (let n = prefix_len (is_digit 16) (take 2 es) in if n == 0 then None else Some (Hexadecimal (take n es), suc (suc n)))
+    (let n = prefix_len (is_digit 16) (take 2 es) in if n == 0
+    then None else Some (Hexadecimal (take n es), suc (suc n)))
     else option_map (λ b. (Named b, 2)) (named e)
 
 -- what stands for one byte of a string
@@ -71,11 +79,14 @@ atom_at (b ∷ bs) = if b == 92 then escape_at bs else if is_plain b then Some (
 
 -- a string, after its `"`
 abbrev pub closed_string : List (Piece Atom ℕ) × List ℕ → Option (Kind × ℕ)
-closed_string c = if begins 34 c.1 then Some (Text (map (λ a. byte_of a.kind) c.0), suc (suc (length (texts c.0)))) else None
+closed_string c =
+    if begins 34 c.1
+    then Some (Text (map (λ a. byte_of a.kind) c.0), suc (suc (length (texts c.0)))) else None
 
 abbrev pub closed_escape : List ℕ → Option (Atom × ℕ) → Option (Kind × ℕ)
 closed_escape bs None = None
-closed_escape bs (Some f) = if begins 39 (drop f.1 bs) then Some (Character (byte_of f.0), suc (suc f.1)) else None
+closed_escape bs (Some f) =
+    if begins 39 (drop f.1 bs) then Some (Character (byte_of f.0), suc (suc f.1)) else None
 
 -- a character, after its `'`
 abbrev pub character_at : List ℕ → Option (Kind × ℕ)
@@ -88,7 +99,9 @@ abbrev pub after_slash : List ℕ → Option (Kind × ℕ)
 after_slash [] = Some (Punctuation Slash, 1)
 after_slash (c ∷ cs) =
     if c == 47 then Some (Punctuation DoubleSlash, 2) else
-    if c == 42 then option_map (λ n. (Block_comment, suc (suc (suc (suc n))))) (close_at cs) else Some (Punctuation Slash, 1)
+    if c == 42
+    then option_map (λ n. (Block_comment, suc (suc (suc (suc n))))) (close_at cs)
+    else Some (Punctuation Slash, 1)
 
 abbrev pub after_less : List ℕ → Option (Kind × ℕ)
 after_less [] = Some (Punctuation Less, 1)
@@ -137,11 +150,15 @@ lexeme_at (b ∷ bs) = lexeme_by (class b) b bs
 
 -- the tokens of lexemes and of the rest, from an offset and a line on
 abbrev pub tokens_at : ℕ → ℕ → List (Piece Kind ℕ) → List ℕ → List Token
-tokens_at at line [] rest = record { kind = last_kind rest; start = at; stop = at; line = line } ∷ []
+tokens_at at line [] rest =
+    record { kind = last_kind rest; start = at; stop = at; line = line } ∷ []
 tokens_at at line (p ∷ ps) rest =
     let after = tokens_at (at + length p.text) (line + newlines p.text) ps rest in
-    if is_gap p.kind then after else record { kind = p.kind; start = at; stop = at + length p.text; line = line } ∷ after
+    if is_gap p.kind
+    then after
+    else record { kind = p.kind; start = at; stop = at + length p.text; line = line } ∷ after
 
 -- the tokens of bytes that stand at an offset, on a line
 unfoldable pub tokens_from : ℕ → ℕ → List ℕ → List Token
-tokens_from at line bytes = let lexemes = cut lexeme_at bytes in tokens_at at line lexemes.0 lexemes.1
+tokens_from at line bytes =
+    let lexemes = cut lexeme_at bytes in tokens_at at line lexemes.0 lexemes.1

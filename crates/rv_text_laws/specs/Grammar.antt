@@ -39,7 +39,8 @@ pub data Kind : Type 0 where
 
 -- a word: a byte of this class, and what names and numbers go on with
 abbrev pub IsWord : Class → List ℕ → Type 0
-IsWord first text = (b : ℕ) × (bs : List ℕ) × (text ≡ b ∷ bs) × (class b ≡ first) × (list_all is_word bs ≡ true)
+IsWord first text =
+    (b : ℕ) × (bs : List ℕ) × (text ≡ b ∷ bs) × (class b ≡ first) × (list_all is_word bs ≡ true)
 
 -- how a number shows its base, and the digits in it: `10`, `017`, `0x1f`, `0b11`
 pub data ShowsBase : List ℕ → ℕ → List ℕ → Type 0 where
@@ -63,7 +64,8 @@ direction forward = if forward then 102 else 98
 
 -- the word refers to a numeric label
 abbrev pub IsReference : List ℕ → List ℕ → Bool → Type 0
-IsReference word digits forward = (word ≡ digits ++ direction forward ∷ []) × (list_all (is_digit 10) digits ≡ true)
+IsReference word digits forward =
+    (word ≡ digits ++ direction forward ∷ []) × (list_all (is_digit 10) digits ≡ true)
 
 -- no `*/` stands in the bytes
 abbrev pub NoClose : List ℕ → Type 0
@@ -72,15 +74,21 @@ NoClose text = (front back : List ℕ) → text ≡ front ++ 42 ∷ 47 ∷ back 
 -- what each kind is spelled as
 abbrev pub Spells : Kind → List ℕ → Type 0
 Spells Space text = (b : ℕ) × (text ≡ b ∷ []) × (class b ≡ Blank)
-Spells Line_comment text = (inside : List ℕ) × (text ≡ 35 ∷ inside) × (list_all in_line inside ≡ true)
-Spells Block_comment text = (inside : List ℕ) × (text ≡ 47 ∷ 42 ∷ (inside ++ 42 ∷ 47 ∷ [])) × NoClose (inside ++ 42 ∷ [])
+Spells Line_comment text =
+    (inside : List ℕ) × (text ≡ 35 ∷ inside) × (list_all in_line inside ≡ true)
+Spells Block_comment text =
+    (inside : List ℕ) × (text ≡ 47 ∷ 42 ∷ (inside ++ 42 ∷ 47 ∷ [])) × NoClose (inside ++ 42 ∷ [])
 Spells Newline text = text ≡ 10 ∷ []
 Spells (Punctuation punct) text = text ≡ spelling punct
 Spells (Name name) text = (text ≡ name) × IsWord Letter text
 Spells (Number word number) text = (text ≡ word) × IsWord Digit text × IsNumber text number
 Spells (Reference digits forward) text = IsWord Digit text × IsReference text digits forward
-Spells (Bad_word word) text = (text ≡ word) × IsWord Digit text × ((n : ℕ) → IsNumber text n → ⊥) × ((digits : List ℕ) (forward : Bool) → IsReference text digits forward → ⊥)
-Spells (Text bytes) text = (atoms : List (Piece Atom ℕ)) × (text ≡ 34 ∷ (texts atoms ++ 34 ∷ [])) × Each SpellsAtom StopsAtom atoms (34 ∷ []) × (bytes ≡ map (λ a. byte_of a.kind) atoms)
+Spells (Bad_word word) text =
+    (text ≡ word) × IsWord Digit text × ((n : ℕ) → IsNumber text n → ⊥)
+    × ((digits : List ℕ) (forward : Bool) → IsReference text digits forward → ⊥)
+Spells (Text bytes) text =
+    (atoms : List (Piece Atom ℕ)) × (text ≡ 34 ∷ (texts atoms ++ 34 ∷ []))
+    × Each SpellsAtom StopsAtom atoms (34 ∷ []) × (bytes ≡ map (λ a. byte_of a.kind) atoms)
 Spells (Character byte) text = (text ≡ 39 ∷ byte ∷ 39 ∷ []) × (is_character byte ≡ true)
     ⊎ ((a : Atom) × (one : List ℕ) × (text ≡ 39 ∷ (one ++ 39 ∷ [])) × (is_escape a ≡ true) × SpellsAtom a one × (byte ≡ byte_of a))
 Spells Bad_byte text = ⊥

@@ -19,19 +19,22 @@ bytes_of _ = None
 abbrev pub AreAfter : ℕ → List Token → List ℕ → Type 0
 AreAfter offset [] bytes = bytes ≡ []
 AreAfter offset (t ∷ ts) bytes =
-    (t.start ≡ offset) × (first rest : List ℕ) × (bytes_of t.kind ≡ Some first) × (bytes ≡ first ++ rest) × AreAfter t.stop ts rest
+    (t.start ≡ offset) × (first rest : List ℕ) × (bytes_of t.kind ≡ Some first)
+    × (bytes ≡ first ++ rest) × AreAfter t.stop ts rest
 
 -- the tokens are this name
 abbrev pub IsJoined : List Token → List ℕ → Type 0
 IsJoined [] name = ⊥
-IsJoined (t ∷ ts) name = (first rest : List ℕ) × (t.kind ≡ Name first) × (name ≡ first ++ rest) × AreAfter t.stop ts rest
+IsJoined (t ∷ ts) name =
+    (first rest : List ℕ) × (t.kind ≡ Name first) × (name ≡ first ++ rest) × AreAfter t.stop ts rest
 
 -- the tokens are this name, as long as it can be, and then the rest
 pub record ReadsJoined (ts : List Token) (name : List ℕ) (rest : List Token) : Type 0 where
   pub tokens : List Token
   pub whole : ts ≡ tokens ++ rest
   pub joined : IsJoined tokens name
-  pub longest : (t : Token) (us : List Token) (longer : List ℕ) → rest ≡ t ∷ us → IsJoined (tokens ++ t ∷ []) longer → ⊥
+  pub longest : (t : Token) (us : List Token) (longer : List ℕ) → rest ≡ t ∷ us →
+      IsJoined (tokens ++ t ∷ []) longer → ⊥
 
 -- the bytes of a token that goes on with a name up to this offset
 abbrev pub joins : ℕ → Token → Option (List ℕ)
@@ -52,4 +55,6 @@ first_name _ = None
 -- the name at the front of tokens, and the tokens after it
 unfoldable pub joined_at : List Token → Option (List ℕ × List Token)
 joined_at [] = None
-joined_at (t ∷ ts) = option_map (λ name. let after = joined_after t.stop ts in (name ++ after.0, after.1)) (first_name t.kind)
+joined_at (t ∷ ts) =
+    option_map (λ name. let after = joined_after t.stop ts in (name ++ after.0, after.1))
+    (first_name t.kind)

@@ -21,7 +21,13 @@ newlines (b ∷ bs) = (if b == 10 then 1 else 0) + newlines bs
 
 -- a lexeme's token, after these bytes
 abbrev pub placed : List ℕ → Piece Kind ℕ → Token
-placed before p = record { kind = p.kind; start = length before; stop = length before + length p.text; line = 1 + newlines before }
+placed before p =
+    record {
+      kind = p.kind;
+      start = length before;
+      stop = length before + length p.text;
+      line = 1 + newlines before;
+    }
 
 -- blanks and comments are no tokens
 abbrev pub is_gap : Kind → Bool
@@ -33,7 +39,9 @@ is_gap _ = false
 -- the tokens of lexemes that stand after these bytes
 abbrev pub tokens_of : List ℕ → List (Piece Kind ℕ) → List Token
 tokens_of before [] = []
-tokens_of before (p ∷ ps) = if is_gap p.kind then tokens_of (before ++ p.text) ps else placed before p ∷ tokens_of (before ++ p.text) ps
+tokens_of before (p ∷ ps) =
+    if is_gap p.kind
+    then tokens_of (before ++ p.text) ps else placed before p ∷ tokens_of (before ++ p.text) ps
 
 -- a byte of this class where no lexeme can stand: bytes that are never good apart from the others
 abbrev pub bad : Class → Kind
@@ -68,4 +76,6 @@ CutInto bytes ps rest = Cuts Kind ℕ Spells Stops bytes ps rest × NothingReads
 
 -- the tokens of a source; exactly one list is
 abbrev pub Lexes : List ℕ → List Token → Type 0
-Lexes bytes ts = (ps : List (Piece Kind ℕ)) × (rest : List ℕ) × CutInto bytes ps rest × (ts ≡ tokens_of [] ps ++ last (texts ps) rest ∷ [])
+Lexes bytes ts =
+    (ps : List (Piece Kind ℕ)) × (rest : List ℕ) × CutInto bytes ps rest
+    × (ts ≡ tokens_of [] ps ++ last (texts ps) rest ∷ [])

@@ -36,8 +36,12 @@ is_plain b = not ((b == 34) || (b == 92) || (b == 10))
 abbrev pub SpellsAtom : Atom → List ℕ → Type 0
 SpellsAtom (Plain byte) text = (text ≡ byte ∷ []) × (is_plain byte ≡ true)
 SpellsAtom (Named byte) text = (e : ℕ) × (text ≡ 92 ∷ e ∷ []) × (named e ≡ Some byte)
-SpellsAtom (Octal digits) text = (text ≡ 92 ∷ digits) × (list_all (is_digit 8) digits ≡ true) × (0 < length digits) × (length digits ≤ 3)
-SpellsAtom (Hexadecimal digits) text = (text ≡ 92 ∷ 120 ∷ digits) × (list_all (is_digit 16) digits ≡ true) × (0 < length digits) × (length digits ≤ 2)
+SpellsAtom (Octal digits) text =
+    (text ≡ 92 ∷ digits) × (list_all (is_digit 8) digits ≡ true) × (0 < length digits)
+    × (length digits ≤ 3)
+SpellsAtom (Hexadecimal digits) text =
+    (text ≡ 92 ∷ 120 ∷ digits) × (list_all (is_digit 16) digits ≡ true) × (0 < length digits)
+    × (length digits ≤ 2)
 
 -- whether a next byte belongs to the escape
 abbrev pub atom_goes_on : Atom → ℕ → Bool

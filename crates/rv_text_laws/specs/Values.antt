@@ -37,9 +37,17 @@ subtract a b = (a + (2 ^ 64 - b)) % 2 ^ 64
 -- an operator on two constants: `/` and `%` truncate and take signed numbers, `>>` is logical
 abbrev pub arithmetic : BinaryOperator → ℕ → ℕ → Value
 arithmetic Multiply a b = Constant ((a * b) % 2 ^ 64)
-arithmetic Divide a b = if b == 0 then Faulty division_by_zero else Constant (cast_unsigned w64 (int_wrapping_div w64 (cast_signed w64 a) (cast_signed w64 b)))
-arithmetic Remainder a b = if b == 0 then Faulty division_by_zero else Constant (cast_unsigned w64 (int_rem (cast_signed w64 a) (cast_signed w64 b)))
-arithmetic ShiftLeft a b = if nat_lt b 64 then Constant ((a * 2 ^ b) % 2 ^ 64) else Faulty shift_too_large
+arithmetic Divide a b =
+    if b == 0
+    then Faulty division_by_zero
+    else Constant
+    (cast_unsigned w64 (int_wrapping_div w64 (cast_signed w64 a) (cast_signed w64 b)))
+arithmetic Remainder a b =
+    if b == 0
+    then Faulty division_by_zero
+    else Constant (cast_unsigned w64 (int_rem (cast_signed w64 a) (cast_signed w64 b)))
+arithmetic ShiftLeft a b =
+    if nat_lt b 64 then Constant ((a * 2 ^ b) % 2 ^ 64) else Faulty shift_too_large
 arithmetic ShiftRight a b = if nat_lt b 64 then Constant (a / 2 ^ b) else Faulty shift_too_large
 arithmetic Or a b = Constant (bit_or a b)
 arithmetic And a b = Constant (bit_and a b)
@@ -66,7 +74,8 @@ refused o _ _ = Faulty not_constant
 
 -- the difference of two symbols in one section is a constant
 abbrev pub apart : Meaning → Meaning → Primary → Primary → ℕ → Value
-apart (InSection s a) (InSection t b) p q plus = if s == t then Constant (add plus (subtract a b)) else Difference p q plus
+apart (InSection s a) (InSection t b) p q plus =
+    if s == t then Constant (add plus (subtract a b)) else Difference p q plus
 apart _ _ p q plus = Difference p q plus
 
 abbrev pub sum : Value → Value → Value

@@ -12,7 +12,8 @@ ghost use Rattle.rv_text_laws.specs.ExpressionAt.{Stage, Wants, after_tokens, ex
 
 /// At most one lexeme stands at the front of bytes, and it has one kind.
 pub fn one_lexeme()
-    ensures { (j k : Kind) (text other rest after : List ℕ) → Spells j text → Stops j rest → Spells k other → Stops k after
+    ensures { (j k : Kind) (text other rest after : List ℕ) → Spells j text → Stops j rest →
+        Spells k other → Stops k after
         → text ++ rest ≡ other ++ after → (j ≡ k) × (text ≡ other) }
 {}
 
@@ -28,24 +29,28 @@ pub fn some_list()
 
 /// What spells an expression is read as it.
 pub fn expression_is()
-    ensures { (is_register : List ℕ → Bool) (ts : List Token) (tree : Tree) (rest : List Token) → ReadsTree is_register ts tree rest
+    ensures { (is_register : List ℕ → Bool) (ts : List Token) (tree : Tree) (rest : List Token) →
+        ReadsTree is_register ts tree rest
         → expression_at is_register ts ≡ Ok (postfix tree, rest) }
 {}
 
 /// What is read is an expression.
 pub fn expression_found()
-    ensures { (is_register : List ℕ → Bool) (ts : List Token) (nodes : List Node) (rest : List Token) → expression_at is_register ts ≡ Ok (nodes, rest)
+    ensures { (is_register : List ℕ → Bool) (ts : List Token) (nodes : List Node)
+        (rest : List Token) → expression_at is_register ts ≡ Ok (nodes, rest)
         → (tree : Tree) × ReadsTree is_register ts tree rest × (nodes ≡ postfix tree) }
 {}
 
 /// The nodes of an expression, one after the other, leave its value.
 pub fn postfix_value()
-    ensures { (meanings : Primary → Meaning) (tree : Tree) → after_nodes meanings (postfix tree) [] ≡ value_of meanings tree ∷ [] }
+    ensures { (meanings : Primary → Meaning) (tree : Tree) →
+        after_nodes meanings (postfix tree) [] ≡ value_of meanings tree ∷ [] }
 {}
 
 /// Few values wait at a time in an expression that is read.
 pub fn postfix_fits()
-    ensures { (tree : Tree) → IsAt 0 tree → nesting tree ≤ deepest → nodes_fit (postfix tree) 0 ≡ true }
+    ensures { (tree : Tree) → IsAt 0 tree → nesting tree ≤ deepest →
+        nodes_fit (postfix tree) 0 ≡ true }
 {}
 
 /// The nodes of an expression stand for it, without its parentheses.
@@ -55,43 +60,59 @@ pub fn postfix_tree()
 
 /// Parentheses have no value of their own.
 pub fn bare_value()
-    ensures { (meanings : Primary → Meaning) (tree : Tree) → value_of meanings (bare tree) ≡ value_of meanings tree }
+    ensures { (meanings : Primary → Meaning) (tree : Tree) →
+        value_of meanings (bare tree) ≡ value_of meanings tree }
 {}
 
 /// Nodes that fit leave the value of the expression that they stand for.
 pub fn nodes_value()
     ensures { (meanings : Primary → Meaning) (nodes : List Node) → nodes_fit nodes 0 ≡ true
-        → (others : List Value) × (after_nodes meanings nodes [] ≡ value_of meanings (tree_of nodes) ∷ others) }
+        → (others : List Value)
+        × (after_nodes meanings nodes [] ≡ value_of meanings (tree_of nodes) ∷ others) }
 {}
 
 /// Tokens that are taken can go on as an expression.
 pub fn taken_goes_on()
-    ensures { (is_register : List ℕ → Bool) (front : List Token) (stage : Stage) → after_tokens is_register (Wants [] []) front ≡ Some stage
-        → (more : List Token) × (tree : Tree) × SpellsTree is_register tree (front ++ more) × IsAt 0 tree × (nesting tree ≤ deepest) }
+    ensures { (is_register : List ℕ → Bool) (front : List Token) (stage : Stage) →
+        after_tokens is_register (Wants [] []) front ≡ Some stage
+        → (more : List Token) × (tree : Tree) × SpellsTree is_register tree (front ++ more)
+        × IsAt 0 tree × (nesting tree ≤ deepest) }
 {}
 
 /// A reading names the token at which it is wrong, and with this token no expression goes on.
 pub fn wrong_token()
-    ensures is { (is_register : List ℕ → Bool) (front : List Token) (at : Token) (code : ℕ) (more : List Token) → FailsAt is_register front at code
+    ensures is { (is_register : List ℕ → Bool) (front : List Token) (at : Token) (code : ℕ)
+        (more : List Token) → FailsAt is_register front at code
         → expression_at is_register (front ++ at ∷ more) ≡ Err (wrong at code) }
-    ensures found { (is_register : List ℕ → Bool) (ts : List Token) (w : SyntaxError) → ended ts ≡ true → expression_at is_register ts ≡ Err w
-        → (front : List Token) × (at : Token) × (more : List Token) × (code : ℕ) × (ts ≡ front ++ at ∷ more) × FailsAt is_register front at code × (w ≡ wrong at code) }
-    ensures stops { (is_register : List ℕ → Bool) (front : List Token) (at : Token) (code : ℕ) (more : List Token) → FailsAt is_register front at code
-        → (tree : Tree) → SpellsTree is_register tree (front ++ at ∷ more) → IsAt 0 tree → nesting tree ≤ deepest → ⊥ }
+    ensures found { (is_register : List ℕ → Bool) (ts : List Token) (w : SyntaxError) →
+        ended ts ≡ true → expression_at is_register ts ≡ Err w
+        → (front : List Token) × (at : Token) × (more : List Token) × (code : ℕ)
+        × (ts ≡ front ++ at ∷ more) × FailsAt is_register front at code × (w ≡ wrong at code) }
+    ensures stops { (is_register : List ℕ → Bool) (front : List Token) (at : Token) (code : ℕ)
+        (more : List Token) → FailsAt is_register front at code
+        → (tree : Tree) → SpellsTree is_register tree (front ++ at ∷ more) → IsAt 0 tree →
+        nesting tree ≤ deepest → ⊥ }
 {}
 
 /// A reading ends after the tokens of an expression, whatever it is that stands after the token that ends it.
 pub fn expression_end()
-    ensures is { (is_register : List ℕ → Bool) (front : List Token) (at : Token) (nodes : List Node) (more : List Token) → EndsAt is_register front at nodes
+    ensures is { (is_register : List ℕ → Bool) (front : List Token) (at : Token)
+        (nodes : List Node) (more : List Token) → EndsAt is_register front at nodes
         → expression_at is_register (front ++ at ∷ more) ≡ Ok (nodes, at ∷ more) }
-    ensures found { (is_register : List ℕ → Bool) (ts : List Token) (nodes : List Node) (rest : List Token) → expression_at is_register ts ≡ Ok (nodes, rest)
-        → (front : List Token) × (at : Token) × (more : List Token) × (ts ≡ front ++ at ∷ more) × (rest ≡ at ∷ more) × EndsAt is_register front at nodes }
-    ensures whole { (is_register : List ℕ → Bool) (front : List Token) (at : Token) (nodes : List Node) → EndsAt is_register front at nodes
-        → (tree : Tree) × SpellsTree is_register tree front × IsAt 0 tree × (nesting tree ≤ deepest) × (nodes ≡ postfix tree) }
+    ensures found { (is_register : List ℕ → Bool) (ts : List Token) (nodes : List Node)
+        (rest : List Token) → expression_at is_register ts ≡ Ok (nodes, rest)
+        → (front : List Token) × (at : Token) × (more : List Token) × (ts ≡ front ++ at ∷ more)
+        × (rest ≡ at ∷ more) × EndsAt is_register front at nodes }
+    ensures whole { (is_register : List ℕ → Bool) (front : List Token) (at : Token)
+        (nodes : List Node) → EndsAt is_register front at nodes
+        → (tree : Tree) × SpellsTree is_register tree front × IsAt 0 tree
+        × (nesting tree ≤ deepest) × (nodes ≡ postfix tree) }
 {}
 
 /// A name with minus signs at the front of tokens, which goes as far as it can, is what the function answers.
 pub fn joined_name()
-    ensures is { (ts : List Token) (name : List ℕ) (rest : List Token) → ReadsJoined ts name rest → joined_at ts ≡ Some (name, rest) }
-    ensures found { (ts : List Token) (name : List ℕ) (rest : List Token) → joined_at ts ≡ Some (name, rest) → ReadsJoined ts name rest }
+    ensures is { (ts : List Token) (name : List ℕ) (rest : List Token) → ReadsJoined ts name rest →
+        joined_at ts ≡ Some (name, rest) }
+    ensures found { (ts : List Token) (name : List ℕ) (rest : List Token) →
+        joined_at ts ≡ Some (name, rest) → ReadsJoined ts name rest }
 {}

@@ -11,4 +11,5 @@ abbrev pub faults_at : SourceUnit → ℕ → StatementKind → List ℕ
 faults_at u index kind = faults (tables (said u)) (passed (said u) index) (index + 1) kind
 
 abbrev pub directive_faults_at : SourceUnit → ℕ → Directive → List ℕ
-directive_faults_at u index d = directive_faults (tables (said u)) (passed (said u) index) (index + 1) d
+directive_faults_at u index d =
+    directive_faults (tables (said u)) (passed (said u) index) (index + 1) d

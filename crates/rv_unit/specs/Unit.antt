@@ -54,5 +54,6 @@ fault_of f = record { code = number_of f.0; line = f.1 }
 
 -- the first fault that a refusal names, unless memory ran out
 abbrev pub NamesFirst : SourceFault → List Statement → Type 0
-NamesFirst (refusals.At code line) ss = first_fault ss ≡ Some (record { code = number_of code; line = line })
+NamesFirst (refusals.At code line) ss =
+    first_fault ss ≡ Some (record { code = number_of code; line = line })
 NamesFirst refusals.OutOfMemory ss = Unit {0}

@@ -51,7 +51,8 @@ impl<'a> Unit<'a> {
         place: SectionOffset,
         assignment: &Setting<'a>,
     ) -> Option<SourceCode>
-        ensures { (index : ℕ) → IsAt self.now index ordinal place (Directs (setting_of assignment.now))
+        ensures { (index : ℕ) →
+            IsAt self.now index ordinal place (Directs (setting_of assignment.now))
             → IsLowest result (directive_faults_at self.now index (setting_of assignment.now)) }
     {
         let value = self.early_value(ordinal, place, &assignment.expression);
@@ -70,8 +71,10 @@ impl<'a> Unit<'a> {
         place: SectionOffset,
         count: &Expr<'a>,
     ) -> Option<SourceCode>
-        ensures { (index : ℕ) → IsAt self.now index ordinal place (Directs (Zeros (tree_of_expr count.now)))
-            → IsLowest result (directive_faults_at self.now index (Zeros (tree_of_expr count.now))) }
+        ensures { (index : ℕ) →
+            IsAt self.now index ordinal place (Directs (Zeros (tree_of_expr count.now)))
+            → IsLowest result
+            (directive_faults_at self.now index (Zeros (tree_of_expr count.now))) }
     {
         let value = self.early_value(ordinal, place, count);
         zero_fault(self.tables.section_at(place.section), place.offset, &value)
@@ -84,8 +87,11 @@ impl<'a> Unit<'a> {
         place: SectionOffset,
         exponent: &Expr<'a>,
     ) -> Option<SourceCode>
-        ensures { (index : ℕ) → IsAt self.now index ordinal place (Directs (Aligns_to_power (tree_of_expr exponent.now)))
-            → IsLowest result (directive_faults_at self.now index (Aligns_to_power (tree_of_expr exponent.now))) }
+        ensures { (index : ℕ) →
+            IsAt self.now index ordinal place
+            (Directs (Aligns_to_power (tree_of_expr exponent.now)))
+            → IsLowest result
+            (directive_faults_at self.now index (Aligns_to_power (tree_of_expr exponent.now))) }
     {
         let value = self.early_value(ordinal, place, exponent);
         let found = power_fault(&value);
@@ -106,8 +112,10 @@ impl<'a> Unit<'a> {
         place: SectionOffset,
         bytes: &Expr<'a>,
     ) -> Option<SourceCode>
-        ensures { (index : ℕ) → IsAt self.now index ordinal place (Directs (Aligns_to_bytes (tree_of_expr bytes.now)))
-            → IsLowest result (directive_faults_at self.now index (Aligns_to_bytes (tree_of_expr bytes.now))) }
+        ensures { (index : ℕ) →
+            IsAt self.now index ordinal place (Directs (Aligns_to_bytes (tree_of_expr bytes.now)))
+            → IsLowest result
+            (directive_faults_at self.now index (Aligns_to_bytes (tree_of_expr bytes.now))) }
     {
         let value = self.early_value(ordinal, place, bytes);
         let found = bytes_fault(&value);
@@ -131,7 +139,8 @@ impl<'a> Unit<'a> {
     ) -> Option<SourceCode>
         ensures { (o : ℕ) → IsFilled self.now → ordinal ≡ o
             → IsLowest result (flat_map
-            (λ e. faults.value_faults (bytes_of width) (laws.value (laws.tables (said self.now)) true o (offset_of place) e))
+            (λ e. faults.value_faults (bytes_of width)
+            (laws.value (laws.tables (said self.now)) true o (offset_of place) e))
             (map tree_of_expr values.now)) }
     {
         let mut found = None;
@@ -150,8 +159,12 @@ impl<'a> Unit<'a> {
         width: Width,
         values: &[Expr<'a>],
     ) -> Option<SourceCode>
-        ensures { (index : ℕ) → IsAt self.now index ordinal place (Directs (Values (bytes_of width) (map tree_of_expr values.now)))
-            → IsLowest result (directive_faults_at self.now index (Values (bytes_of width) (map tree_of_expr values.now))) }
+        ensures { (index : ℕ) →
+            IsAt self.now index ordinal place
+            (Directs (Values (bytes_of width) (map tree_of_expr values.now)))
+            → IsLowest result
+            (directive_faults_at self.now index
+            (Values (bytes_of width) (map tree_of_expr values.now))) }
     {
         let each = self.fault_of_each(ordinal, place, width, values);
         let bytes = values_size(width, values.len());
@@ -168,8 +181,10 @@ impl<'a> Unit<'a> {
         ended: bool,
         strings: &[&[u8]],
     ) -> Option<SourceCode>
-        ensures { (index o : ℕ) → IsAt self.now index o place (Directs (Strings ended (map quoted strings.now)))
-            → IsLowest result (directive_faults_at self.now index (Strings ended (map quoted strings.now))) }
+        ensures { (index o : ℕ) →
+            IsAt self.now index o place (Directs (Strings ended (map quoted strings.now)))
+            → IsLowest result
+            (directive_faults_at self.now index (Strings ended (map quoted strings.now))) }
     {
         let bytes = strings_size(ended, strings);
         data_fault(self.tables.section_at(place.section), place.offset, bytes)
@@ -200,7 +215,9 @@ impl<'a> Unit<'a> {
         ensures { (index : ℕ) → IsFilled self.now → index < length (said self.now)
             → (passed (said self.now) (index + 1)).opened
             ≡ entered (passed (said self.now) index).opened (section_of section.entry)
-            → IsLowest result (faults.section_faults (passed (said self.now) index).opened.sections (Some (section_of section.entry))) }
+            → IsLowest result
+            (faults.section_faults (passed (said self.now) index).opened.sections
+            (Some (section_of section.entry))) }
     {
         faulty_if(!self.tables.knows(section.name), SourceCode::Limit)
     }

@@ -115,7 +115,8 @@ pub(crate) fn past_section(executable: bool, offset: u64, bytes: u64) -> Option<
 /// The fault of data at an offset, but for the faults of its values.
 pub(crate) fn data_fault(section: Section<'_>, offset: u64, bytes: u64) -> Option<SourceCode>
     ensures { IsLowest result
-        (laws.faulty_if (section.entry.executable || is_nobits (section_of section.entry)) wrong_section
+        (laws.faulty_if
+        (section.entry.executable || is_nobits (section_of section.entry)) wrong_section
         ++ laws.past_section section.entry.executable offset bytes) }
 {
     let misplaced = faulty_if(
@@ -131,7 +132,8 @@ pub(crate) fn zero_fault(
     offset: u64,
     value: &Outcome<'_>,
 ) -> Option<SourceCode>
-    ensures { ForValue value.now (λ v. IsLowest result (laws.zero_faults (section_of section.entry) offset v)) }
+    ensures { ForValue value.now
+        (λ v. IsLowest result (laws.zero_faults (section_of section.entry) offset v)) }
 {
     let past = match value {
         Ok(Value::Constant(count)) if *count < 1 << 63 => {
@@ -172,7 +174,8 @@ pub(crate) fn alignment_fault(
 
 /// The fault of a `.set` that gives no location, of a name that a label or a location has before.
 fn constant_set_fault(placed: bool, value: &Outcome<'_>) -> Option<SourceCode>
-    ensures { ForValue value.now (λ v. IsLowest result (laws.constant_faults v ++ laws.faulty_if placed duplicate_label)) }
+    ensures { ForValue value.now
+        (λ v. IsLowest result (laws.constant_faults v ++ laws.faulty_if placed duplicate_label)) }
 {
     lower(
         constant_fault(value),
@@ -188,8 +191,10 @@ pub(crate) fn set_fault(
     placed: bool,
     value: &Outcome<'_>,
 ) -> Option<SourceCode>
-    ensures { (t : tables.Tables) (ordinal : ℕ) (name : List ℕ) → defined ≡ tables.is_defined t ordinal name → placed ≡ tables.has_location t ordinal name
-        → ForValue value.now (λ v. IsLowest result (laws.set_faults t ordinal (section_of section.entry) name v)) }
+    ensures { (t : tables.Tables) (ordinal : ℕ) (name : List ℕ) →
+        defined ≡ tables.is_defined t ordinal name → placed ≡ tables.has_location t ordinal name
+        → ForValue value.now
+        (λ v. IsLowest result (laws.set_faults t ordinal (section_of section.entry) name v)) }
 {
     match value {
         Ok(Value::Symbolic(Symbol::Here, _)) => lower(
@@ -223,7 +228,8 @@ pub(crate) fn choice_fault(depth: usize, choice: Choice) -> Option<SourceCode>
 /// The fault of an instruction in a section: it is none of code, or one without bytes.
 pub(crate) fn instruction_fault(section: Section<'_>) -> Option<SourceCode>
     ensures { IsLowest result
-        (laws.faulty_if (not section.entry.executable || is_nobits (section_of section.entry)) wrong_section) }
+        (laws.faulty_if
+        (not section.entry.executable || is_nobits (section_of section.entry)) wrong_section) }
 {
     faulty_if(
         !section.executable || section.is_nobits(),

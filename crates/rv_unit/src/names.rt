@@ -24,7 +24,10 @@ impl<'a> Unit<'a> {
         place: SectionOffset,
         symbol: Symbol<'_>,
     ) -> Meaning
-        ensures { (o : ℕ) → IsFilled self.now → ordinal ≡ o → meaning_of result ≡ laws.meaning (laws.tables (said self.now)) true o (offset_of place) (symbol_of symbol.entry) }
+        ensures { (o : ℕ) → IsFilled self.now → ordinal ≡ o →
+            meaning_of result
+            ≡ laws.meaning (laws.tables (said self.now)) true o (offset_of place)
+            (symbol_of symbol.entry) }
     {
         match symbol {
             Symbol::Name(name) => self.named(ordinal, name),
@@ -42,7 +45,10 @@ impl<'a> Unit<'a> {
         expression: &Expr<'e>,
         line: u32,
     ) -> Result<Value<'e>, SourceFault>
-        ensures { (o : ℕ) → IsFilled self.now → ordinal ≡ o → IsOutcome result line (laws.value (laws.tables (said self.now)) true o (offset_of place) (tree_of_expr expression.now)) }
+        ensures { (o : ℕ) → IsFilled self.now → ordinal ≡ o →
+            IsOutcome result line
+            (laws.value (laws.tables (said self.now)) true o (offset_of place)
+            (tree_of_expr expression.now)) }
     {
         eval(
             expression,
@@ -53,7 +59,9 @@ impl<'a> Unit<'a> {
 
     /// What a name means.
     fn named(&self, ordinal: usize, name: &[u8]) -> Meaning
-        ensures { IsIndexed (self.now).tables → (o : ℕ) → IsBefore (tables_of (self.now).tables) o → meaning_of result ≡ laws.named (tables_of (self.now).tables) true ordinal name.now }
+        ensures { IsIndexed (self.now).tables → (o : ℕ) →
+            IsBefore (tables_of (self.now).tables) o →
+            meaning_of result ≡ laws.named (tables_of (self.now).tables) true ordinal name.now }
     {
         match self.tables.assignment_before(ordinal, name) {
             Some(assignment) => assignment.meaning,
@@ -63,7 +71,12 @@ impl<'a> Unit<'a> {
 
     /// What a name means that is not set before.
     fn labelled(&self, name: &[u8]) -> Meaning
-        ensures { IsIndexed (self.now).tables → meaning_of result ≡ laws.labelled (tables_of (self.now).tables).opened (laws.label_of (tables_of (self.now).tables).labels true 0 name.now) (laws.assigned_later true (laws.assigned_ever (tables_of (self.now).tables).assignments name.now)) }
+        ensures { IsIndexed (self.now).tables →
+            meaning_of result
+            ≡ laws.labelled (tables_of (self.now).tables).opened
+            (laws.label_of (tables_of (self.now).tables).labels true 0 name.now)
+            (laws.assigned_later true
+            (laws.assigned_ever (tables_of (self.now).tables).assignments name.now)) }
     {
         match self.tables.label(name) {
             Some(label) => self.tables.stands(label.place),
@@ -73,7 +86,10 @@ impl<'a> Unit<'a> {
 
     /// What a name means that is only set later: a location that it has then, or another file's.
     fn assigned_later(&self, name: &[u8]) -> Meaning
-        ensures { IsIndexed (self.now).tables → meaning_of result ≡ laws.assigned_later true (laws.assigned_ever (tables_of (self.now).tables).assignments name.now) }
+        ensures { IsIndexed (self.now).tables →
+            meaning_of result
+            ≡ laws.assigned_later true
+            (laws.assigned_ever (tables_of (self.now).tables).assignments name.now) }
     {
         match self.tables.assignment(name) {
             Some(assignment) => match assignment.meaning {
@@ -86,7 +102,12 @@ impl<'a> Unit<'a> {
 
     /// What the nearest numeric label before means.
     fn backward(&self, ordinal: usize, digits: &[u8]) -> Meaning
-        ensures { IsIndexed (self.now).tables → (o : ℕ) → IsBefore (tables_of (self.now).tables) o → meaning_of result ≡ laws.backward_in (tables_of (self.now).tables).opened (laws.numeric_label_before (tables_of (self.now).tables).numeric_labels ordinal (digits_value 10 digits.now)) }
+        ensures { IsIndexed (self.now).tables → (o : ℕ) →
+            IsBefore (tables_of (self.now).tables) o →
+            meaning_of result
+            ≡ laws.backward_in (tables_of (self.now).tables).opened
+            (laws.numeric_label_before (tables_of (self.now).tables).numeric_labels ordinal
+            (digits_value 10 digits.now)) }
     {
         match self.tables.numeric_label_before(ordinal, digits) {
             Some(numeric_label) => self.tables.stands(numeric_label.place),
@@ -96,7 +117,12 @@ impl<'a> Unit<'a> {
 
     /// What the nearest numeric label after means.
     fn forward(&self, ordinal: usize, digits: &[u8]) -> Meaning
-        ensures { IsIndexed (self.now).tables → (o : ℕ) → IsBefore (tables_of (self.now).tables) o → meaning_of result ≡ laws.forward_in (tables_of (self.now).tables).opened true (laws.numeric_label_after (tables_of (self.now).tables).numeric_labels ordinal (digits_value 10 digits.now)) }
+        ensures { IsIndexed (self.now).tables → (o : ℕ) →
+            IsBefore (tables_of (self.now).tables) o →
+            meaning_of result
+            ≡ laws.forward_in (tables_of (self.now).tables).opened true
+            (laws.numeric_label_after (tables_of (self.now).tables).numeric_labels ordinal
+            (digits_value 10 digits.now)) }
     {
         match self.tables.numeric_label_after(ordinal, digits) {
             Some(numeric_label) => self.tables.stands(numeric_label.place),
@@ -111,7 +137,10 @@ impl<'a> Unit<'a> {
         place: SectionOffset,
         symbol: Symbol<'_>,
     ) -> Meaning
-        ensures { (o : ℕ) → IsFilled self.now → ordinal ≡ o → meaning_of result ≡ laws.meaning (laws.tables (said self.now)) false o (offset_of place) (symbol_of symbol.entry) }
+        ensures { (o : ℕ) → IsFilled self.now → ordinal ≡ o →
+            meaning_of result
+            ≡ laws.meaning (laws.tables (said self.now)) false o (offset_of place)
+            (symbol_of symbol.entry) }
     {
         match symbol {
             Symbol::Name(name) => self.early_named(ordinal, name),
@@ -128,7 +157,10 @@ impl<'a> Unit<'a> {
         place: SectionOffset,
         expression: &Expr<'a>,
     ) -> Result<Value<'a>, SourceFault>
-        ensures { (o : ℕ) → IsFilled self.now → ordinal ≡ o → IsOutcome result 0 (laws.value (laws.tables (said self.now)) false o (offset_of place) (tree_of_expr expression.now)) }
+        ensures { (o : ℕ) → IsFilled self.now → ordinal ≡ o →
+            IsOutcome result 0
+            (laws.value (laws.tables (said self.now)) false o (offset_of place)
+            (tree_of_expr expression.now)) }
     {
         eval(
             expression,
@@ -139,7 +171,9 @@ impl<'a> Unit<'a> {
 
     /// What a name means by what is defined before.
     fn early_named(&self, ordinal: usize, name: &[u8]) -> Meaning
-        ensures { IsIndexed (self.now).tables → (o : ℕ) → IsBefore (tables_of (self.now).tables) o → meaning_of result ≡ laws.named (tables_of (self.now).tables) false ordinal name.now }
+        ensures { IsIndexed (self.now).tables → (o : ℕ) →
+            IsBefore (tables_of (self.now).tables) o →
+            meaning_of result ≡ laws.named (tables_of (self.now).tables) false ordinal name.now }
     {
         match self.tables.assignment_before(ordinal, name) {
             Some(assignment) => assignment.meaning,
@@ -149,7 +183,11 @@ impl<'a> Unit<'a> {
 
     /// What a name means that is not set before.
     fn early_labelled(&self, ordinal: usize, name: &[u8]) -> Meaning
-        ensures { IsIndexed (self.now).tables → (o : ℕ) → IsBefore (tables_of (self.now).tables) o → meaning_of result ≡ laws.labelled (tables_of (self.now).tables).opened (laws.label_of (tables_of (self.now).tables).labels false ordinal name.now) Open }
+        ensures { IsIndexed (self.now).tables → (o : ℕ) →
+            IsBefore (tables_of (self.now).tables) o →
+            meaning_of result
+            ≡ laws.labelled (tables_of (self.now).tables).opened
+            (laws.label_of (tables_of (self.now).tables).labels false ordinal name.now) Open }
     {
         match self.tables.label_before(ordinal, name) {
             Some(label) => self.tables.stands(label.place),
@@ -159,7 +197,12 @@ impl<'a> Unit<'a> {
 
     /// What a numeric label after means: no constant, if there is one.
     fn early_forward(&self, ordinal: usize, digits: &[u8]) -> Meaning
-        ensures { IsIndexed (self.now).tables → (o : ℕ) → IsBefore (tables_of (self.now).tables) o → meaning_of result ≡ laws.forward_in (tables_of (self.now).tables).opened false (laws.numeric_label_after (tables_of (self.now).tables).numeric_labels ordinal (digits_value 10 digits.now)) }
+        ensures { IsIndexed (self.now).tables → (o : ℕ) →
+            IsBefore (tables_of (self.now).tables) o →
+            meaning_of result
+            ≡ laws.forward_in (tables_of (self.now).tables).opened false
+            (laws.numeric_label_after (tables_of (self.now).tables).numeric_labels ordinal
+            (digits_value 10 digits.now)) }
     {
         match self.tables.numeric_label_after(ordinal, digits) {
             Some(_) => Meaning::NotConstant,
@@ -180,7 +223,8 @@ impl<'a> Unit<'a> {
     pub(crate) fn has_location_before(&self, ordinal: usize, name: &[u8]) -> bool
         ensures { IsIndexed (self.now).tables → (o : ℕ) → IsBefore (tables_of (self.now).tables) o
             → result ≡ (is_some (laws.label_of (tables_of (self.now).tables).labels false ordinal name.now)
-            || placed_latest (laws.assigned_before (tables_of (self.now).tables).assignments ordinal name.now)) }
+            || placed_latest
+            (laws.assigned_before (tables_of (self.now).tables).assignments ordinal name.now)) }
     {
         if self.tables.label_before(ordinal, name).is_some() {
             return true;
@@ -193,8 +237,12 @@ impl<'a> Unit<'a> {
 
     /// What a symbol means in the statement of an ordinal by the statements before it alone, where nothing comes after it.
     fn past_meaning(&self, ordinal: usize, place: SectionOffset, symbol: Symbol<'_>) -> Meaning
-        ensures { (index : ℕ) → IsFilled self.now → index ≤ length (said self.now) → ordinal ≡ index + 1 → place.section < length (passed (said self.now) index).opened.sections
-            → meaning_of result ≡ laws.meaning (passed (said self.now) index) false (index + 1) (offset_of place) (symbol_of symbol.entry) }
+        ensures { (index : ℕ) → IsFilled self.now → index ≤ length (said self.now) →
+            ordinal ≡ index + 1 →
+            place.section < length (passed (said self.now) index).opened.sections
+            → meaning_of result
+            ≡ laws.meaning (passed (said self.now) index) false (index + 1) (offset_of place)
+            (symbol_of symbol.entry) }
     {
         match symbol {
             Symbol::Forward(_) => Meaning::UndefinedLocal,
@@ -209,8 +257,12 @@ impl<'a> Unit<'a> {
         place: SectionOffset,
         expression: &Expr<'a>,
     ) -> Result<Value<'a>, SourceFault>
-        ensures { (index : ℕ) → IsFilled self.now → index ≤ length (said self.now) → ordinal ≡ index + 1 → place.section < length (passed (said self.now) index).opened.sections
-            → IsOutcome result 0 (laws.value (passed (said self.now) index) false (index + 1) (offset_of place) (tree_of_expr expression.now)) }
+        ensures { (index : ℕ) → IsFilled self.now → index ≤ length (said self.now) →
+            ordinal ≡ index + 1 →
+            place.section < length (passed (said self.now) index).opened.sections
+            → IsOutcome result 0
+            (laws.value (passed (said self.now) index) false (index + 1) (offset_of place)
+            (tree_of_expr expression.now)) }
     {
         eval(
             expression,

@@ -25,7 +25,8 @@ pub struct Scope<'u, 'a> {
 
 /// Where a numeric label stands.
 fn definition_of_numeric_label(numeric_label: Option<NumericLabel<'_>>) -> Option<Definition>
-    ensures { option_map definition_of result ≡ laws.numeric_definition (option_map numeric_label_of numeric_label.entry) }
+    ensures { option_map definition_of result
+        ≡ laws.numeric_definition (option_map numeric_label_of numeric_label.entry) }
 {
     match numeric_label {
         Some(numeric_label) => Some(Definition {
@@ -38,7 +39,8 @@ fn definition_of_numeric_label(numeric_label: Option<NumericLabel<'_>>) -> Optio
 
 /// The definition of a name that is assigned, if it is a location.
 fn definition_of_assignment(assignment: Option<Assignment<'_>>) -> Option<Definition>
-    ensures { option_map definition_of result ≡ laws.assigned_definition (option_map assignment_of assignment.entry) }
+    ensures { option_map definition_of result
+        ≡ laws.assigned_definition (option_map assignment_of assignment.entry) }
 {
     match assignment {
         Some(assignment) => {
@@ -66,14 +68,20 @@ impl<'u, 'a> Scope<'u, 'a> {
 
     /// What a symbol means in the statement that is next, which stands at the offset.
     pub fn meaning(&self, place: SectionOffset, symbol: Symbol<'a>) -> Meaning
-        ensures { (index : ℕ) → IsFilled (self.now).unit.now → IsScope self.now index → meaning_of result ≡ laws.meaning (laws.tables (said (self.now).unit.now)) true (index + 1) (offset_of place) (symbol_of symbol.entry) }
+        ensures { (index : ℕ) → IsFilled (self.now).unit.now → IsScope self.now index →
+            meaning_of result
+            ≡ laws.meaning (laws.tables (said (self.now).unit.now)) true (index + 1)
+            (offset_of place) (symbol_of symbol.entry) }
     {
         self.unit.meaning(self.ordinal, place, symbol)
     }
 
     /// Where a symbol of the statement that is next stands in this source; none where it is another file's.
     pub fn definition(&self, symbol: Symbol<'a>) -> Option<Definition>
-        ensures { (index : ℕ) → IsFilled (self.now).unit.now → IsScope self.now index → option_map definition_of result ≡ laws.definition (laws.tables (said (self.now).unit.now)) (index + 1) (symbol_of symbol.entry) }
+        ensures { (index : ℕ) → IsFilled (self.now).unit.now → IsScope self.now index →
+            option_map definition_of result
+            ≡ laws.definition (laws.tables (said (self.now).unit.now)) (index + 1)
+            (symbol_of symbol.entry) }
     {
         match symbol {
             Symbol::Name(name) => self.definition_of_name(name),
@@ -128,15 +136,24 @@ impl<'u, 'a> Scope<'u, 'a> {
         expression: &Expr<'e>,
         line: u32,
     ) -> Result<Value<'e>, SourceFault>
-        ensures { (index : ℕ) → IsFilled (self.now).unit.now → IsScope self.now index → IsOutcome result line (laws.value (laws.tables (said (self.now).unit.now)) true (index + 1) (offset_of place) (tree_of_expr expression.now)) }
+        ensures { (index : ℕ) → IsFilled (self.now).unit.now → IsScope self.now index →
+            IsOutcome result line
+            (laws.value (laws.tables (said (self.now).unit.now)) true (index + 1)
+            (offset_of place) (tree_of_expr expression.now)) }
     {
         self.unit.value(self.ordinal, place, expression, line)
     }
 
     /// Whether the `.set` that is the next statement, which stands at the offset, gives a location.
     pub fn gives_location(&self, place: SectionOffset, assignment: &Setting<'a>) -> bool
-        ensures { (index : ℕ) → IsFilled (self.now).unit.now → IsScope self.now index → offset_of place ≡ laws.here (passed (said (self.now).unit.now) index)
-            → result ≡ laws.gives_location (laws.assigned (assignment.now).name.now (index + 1) (laws.value (passed (said (self.now).unit.now) index) false (index + 1) (laws.here (passed (said (self.now).unit.now) index)) (tree_of_expr (assignment.now).expression))) }
+        ensures { (index : ℕ) → IsFilled (self.now).unit.now → IsScope self.now index →
+            offset_of place ≡ laws.here (passed (said (self.now).unit.now) index)
+            → result
+            ≡ laws.gives_location
+            (laws.assigned (assignment.now).name.now (index + 1)
+            (laws.value (passed (said (self.now).unit.now) index) false (index + 1)
+            (laws.here (passed (said (self.now).unit.now) index))
+            (tree_of_expr (assignment.now).expression))) }
     {
         let here = self.unit.tables.stands(place);
         let value = self
@@ -151,7 +168,8 @@ impl<'u, 'a> Scope<'u, 'a> {
     /// Goes on after the next statement, if there is one.
     pub fn pass(&mut self)
         ensures unit { (self.new).unit ≡ (self.old).unit }
-        ensures passes { (index : ℕ) → index < length (said (self.old).unit.now) → IsScope self.old index → IsScope self.new (index + 1) }
+        ensures passes { (index : ℕ) → index < length (said (self.old).unit.now) →
+            IsScope self.old index → IsScope self.new (index + 1) }
     {
         if self.ordinal <= self.unit.statements.len() {
             self.ordinal += 1;

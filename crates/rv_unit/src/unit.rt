@@ -29,7 +29,8 @@ impl<'a> Unit<'a> {
         ensures filled { IfOk result (λ u. IsFilled u) }
         ensures same { IfOk result (λ u. u.statements ≡ statements.entry) }
         ensures good { IfOk result (λ u. first_fault (said u) ≡ None) }
-        ensures refuses { IfErr result (λ e. NamesFirst e (map statement_of (statements.entry).items)) }
+        ensures refuses { IfErr result
+            (λ e. NamesFirst e (map statement_of (statements.entry).items)) }
     {
         let unit = Unit::fill(alloc, statements)?;
         match unit.first_fault() {
@@ -101,7 +102,9 @@ impl<'a> Unit<'a> {
 
     /// What `.set` gives a name last.
     pub fn assignment(&self, name: &[u8]) -> Option<Assignment<'a>>
-        ensures { IsFilled self.now → option_map assignment_of result ≡ assigned_ever (tables_of (self.now).tables).assignments name.now }
+        ensures { IsFilled self.now →
+            option_map assignment_of result
+            ≡ assigned_ever (tables_of (self.now).tables).assignments name.now }
     {
         self.tables.assignment(name)
     }

@@ -17,7 +17,8 @@ all_local name = Local
 
 -- names that are given a binding; others keep theirs
 abbrev pub bound : Binding → List (List ℕ) → Bindings → Bindings
-bound binding names before name = if list_any (λ n. bytes_eq n name) names then binding else before name
+bound binding names before name =
+    if list_any (λ n. bytes_eq n name) names then binding else before name
 
 -- the bindings after a directive: the last that lists a name holds
 abbrev pub bindings_then : Directive → Bindings → Bindings

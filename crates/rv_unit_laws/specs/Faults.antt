@@ -37,11 +37,13 @@ size_faults v = constant_faults v
 
 -- an alignment is a power of two and not too great; as a power of two it is not negative
 abbrev pub power_faults : Value → List ℕ
-power_faults (Constant k) = if nat_lt k (2 ^ 63) then faulty_if (not (nat_lt k 13)) limit else immediate_range ∷ []
+power_faults (Constant k) =
+    if nat_lt k (2 ^ 63) then faulty_if (not (nat_lt k 13)) limit else immediate_range ∷ []
 power_faults v = constant_faults v
 
 abbrev pub bytes_faults : Value → List ℕ
-bytes_faults (Constant n) = if is_power n then faulty_if (not (nat_le n greatest_alignment)) limit else immediate_range ∷ []
+bytes_faults (Constant n) =
+    if is_power n then faulty_if (not (nat_le n greatest_alignment)) limit else immediate_range ∷ []
 bytes_faults v = constant_faults v
 
 -- a value of data of a width: a symbol alone takes 4 or 8
@@ -59,7 +61,8 @@ code_alignment_faults nobits (Some alignment) =
 
 -- data at an offset
 abbrev pub past_section : Bool → ℕ → ℕ → List ℕ
-past_section executable offset bytes = faulty_if (not executable && not (nat_le (offset + bytes) longest_section)) limit
+past_section executable offset bytes =
+    faulty_if (not executable && not (nat_le (offset + bytes) longest_section)) limit
 
 abbrev pub zero_faults : Section → ℕ → Value → List ℕ
 zero_faults section offset v =
@@ -71,18 +74,25 @@ zero_faults section offset v =
 
 abbrev pub alignment_faults : Section → ℕ → Option ℕ → List ℕ
 alignment_faults section offset alignment =
-    if section.executable then code_alignment_faults (is_nobits section) alignment else past_section false offset (padding alignment offset)
+    if section.executable
+    then code_alignment_faults (is_nobits section) alignment
+    else past_section false offset (padding alignment offset)
 
 -- a second definition of a name of which either is a label or a location; a location stands in no code
 abbrev pub set_faults : Tables → ℕ → Section → List ℕ → Value → List ℕ
-set_faults t ordinal section name (Symbolic Here at plus) = faulty_if (is_defined t ordinal name) duplicate_label ++ faulty_if section.executable wrong_section
-set_faults t ordinal section name v = constant_faults v ++ faulty_if (has_location t ordinal name) duplicate_label
+set_faults t ordinal section name (Symbolic Here at plus) =
+    faulty_if (is_defined t ordinal name) duplicate_label
+    ++ faulty_if section.executable wrong_section
+set_faults t ordinal section name v =
+    constant_faults v ++ faulty_if (has_location t ordinal name) duplicate_label
 
 -- one section more than there may be
 abbrev pub section_faults : List Section → Option Section → List ℕ
 section_faults sections None = []
 section_faults sections (Some section) =
-    faulty_if (not (is_some (place_of_name sections section.name)) && not (nat_lt (length sections) most_sections)) limit
+    faulty_if
+    (not (is_some (place_of_name sections section.name))
+    && not (nat_lt (length sections) most_sections)) limit
 
 -- a pop without its push
 abbrev pub choice_faults : ℕ → Choice → List ℕ
@@ -108,12 +118,15 @@ contribution_faults all t ordinal (Zero_bytes count) =
     zero_faults (current_section t.opened) (here t).offset (value all false ordinal (here t) count)
 contribution_faults all t ordinal (Alignment form number) =
     let v = value all false ordinal (here t) number in
-    number_faults form v ++ alignment_faults (current_section t.opened) (here t).offset (alignment_as form v)
+    number_faults form v
+    ++ alignment_faults (current_section t.opened) (here t).offset (alignment_as form v)
 
 -- the codes of a directive's faults
 abbrev pub directive_faults : Tables → Tables → ℕ → Directive → List ℕ
-directive_faults all t ordinal (Enters standard) = section_faults t.opened.sections (entered_by (Enters standard))
-directive_faults all t ordinal (Opens name flags kind) = section_faults t.opened.sections (entered_by (Opens name flags kind))
+directive_faults all t ordinal (Enters standard) =
+    section_faults t.opened.sections (entered_by (Enters standard))
+directive_faults all t ordinal (Opens name flags kind) =
+    section_faults t.opened.sections (entered_by (Opens name flags kind))
 directive_faults all t ordinal (Sets name e) =
     set_faults t ordinal (current_section t.opened) name (value all false ordinal (here t) e)
 directive_faults all t ordinal (Chooses choice) = choice_faults (length t.kept) choice
@@ -123,7 +136,10 @@ directive_faults all t ordinal d = contribution_faults all t ordinal (contributi
 abbrev pub faults : Tables → Tables → ℕ → StatementKind → List ℕ
 faults all t ordinal (Label name) = faulty_if (is_defined t ordinal name) duplicate_label
 faults all t ordinal (Numbered number) = []
-faults all t ordinal (Instruction mnemonic operands) = faulty_if (not (current_section t.opened).executable || is_nobits (current_section t.opened)) wrong_section
+faults all t ordinal (Instruction mnemonic operands) =
+    faulty_if
+    (not (current_section t.opened).executable
+    || is_nobits (current_section t.opened)) wrong_section
 faults all t ordinal (Directs directive) = directive_faults all t ordinal directive
 
 -- a fault: its code and its line
@@ -139,7 +155,8 @@ at_line line (Some code) others = Some (record { code = code; line = line })
 abbrev pub first_fault_from : Tables → Tables → ℕ → List Statement → Option Fault
 first_fault_from all t ordinal [] = None
 first_fault_from all t ordinal (s ∷ ss) =
-    at_line s.line (lowest (faults all t ordinal s.kind)) (first_fault_from all (after t ordinal s.kind) (suc ordinal) ss)
+    at_line s.line (lowest (faults all t ordinal s.kind))
+    (first_fault_from all (after t ordinal s.kind) (suc ordinal) ss)
 
 -- the first fault of a source's labels and directives
 abbrev pub first_fault : List Statement → Option Fault

@@ -62,7 +62,8 @@ has_flag letter (Some letters) by_name = list_any (λ l. l == letter) letters
 -- the type of a word: progbits, nobits or note
 abbrev pub type_named : List ℕ → SectionType
 type_named word =
-    if bytes_eq word (codes "nobits") then Nobits else (if bytes_eq word (codes "note") then Note else Progbits)
+    if bytes_eq word (codes "nobits")
+    then Nobits else (if bytes_eq word (codes "note") then Note else Progbits)
 
 -- the type that is given; where none is, what the name's front says
 abbrev pub type_given : Option (List ℕ) → Bool → SectionType
@@ -73,14 +74,22 @@ type_given (Some word) zeroed = type_named word
 abbrev pub section_of : List ℕ → Option (List ℕ) → Option (List ℕ) → Section
 section_of name flags kind = record {
   name = name;
-  loaded = has_flag 97 flags (is_code name || is_variable name || is_zeroed name || is_constant name);
+  loaded = has_flag 97 flags
+      (is_code name || is_variable name || is_zeroed name || is_constant name);
   executable = has_flag 120 flags (is_code name);
   writable = has_flag 119 flags (is_variable name || is_zeroed name);
   section_type = type_given kind (is_zeroed name);
 }
 
 abbrev pub text_section : Section
-text_section = record { name = codes ".text"; loaded = true; executable = true; writable = false; section_type = Progbits }
+text_section =
+    record {
+      name = codes ".text";
+      loaded = true;
+      executable = true;
+      writable = false;
+      section_type = Progbits;
+    }
 
 -- the sections that a source has opened so far, in their order, and the current one's index among them, from 0
 pub record Opened : Type 0 where
@@ -98,7 +107,8 @@ most_sections = 32000
 -- where a name stands among the sections
 abbrev pub place_of_name : List Section → List ℕ → Option ℕ
 place_of_name [] name = None
-place_of_name (s ∷ ss) name = if bytes_eq s.name name then Some 0 else option_map suc (place_of_name ss name)
+place_of_name (s ∷ ss) name =
+    if bytes_eq s.name name then Some 0 else option_map suc (place_of_name ss name)
 
 abbrev pub entered_at : Opened → Section → Option ℕ → Opened
 entered_at opened section (Some place) = record { sections = opened.sections; current = place }

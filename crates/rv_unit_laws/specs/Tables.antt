@@ -75,11 +75,13 @@ here t = record { section = t.opened.current; offset = slice_index_or t.ends t.o
 
 -- an offset in data has a known distance from others of its section, one in code has none
 abbrev pub stands : Opened → SectionOffset → Meaning
-stands opened p = if (section_at opened p.section).executable then Open else InSection p.section p.offset
+stands opened p =
+    if (section_at opened p.section).executable then Open else InSection p.section p.offset
 
 -- the latest assignment of a name before an ordinal
 abbrev pub assigned_before : List Assignment → ℕ → List ℕ → Option Assignment
-assigned_before assignments ordinal name = find (λ s. nat_lt s.ordinal ordinal && bytes_eq s.name name) assignments
+assigned_before assignments ordinal name =
+    find (λ s. nat_lt s.ordinal ordinal && bytes_eq s.name name) assignments
 
 -- any assignment of a name
 abbrev pub assigned_ever : List Assignment → List ℕ → Option Assignment
@@ -87,14 +89,17 @@ assigned_ever assignments name = find (λ s. bytes_eq s.name name) assignments
 
 -- the label of a name; where `all` is false, one before an ordinal
 abbrev pub label_of : List Labelled → Bool → ℕ → List ℕ → Option Labelled
-label_of labels all ordinal name = find (λ l. bytes_eq l.name name && (all || nat_lt l.ordinal ordinal)) labels
+label_of labels all ordinal name =
+    find (λ l. bytes_eq l.name name && (all || nat_lt l.ordinal ordinal)) labels
 
 -- the nearest numeric label before an ordinal, and after it
 abbrev pub numeric_label_before : List NumericLabel → ℕ → ℕ → Option NumericLabel
-numeric_label_before numeric_labels ordinal number = find (λ m. nat_lt m.ordinal ordinal && (m.number == number)) numeric_labels
+numeric_label_before numeric_labels ordinal number =
+    find (λ m. nat_lt m.ordinal ordinal && (m.number == number)) numeric_labels
 
 abbrev pub numeric_label_after : List NumericLabel → ℕ → ℕ → Option NumericLabel
-numeric_label_after numeric_labels ordinal number = find (λ m. nat_lt ordinal m.ordinal && (m.number == number)) (reverse numeric_labels)
+numeric_label_after numeric_labels ordinal number =
+    find (λ m. nat_lt ordinal m.ordinal && (m.number == number)) (reverse numeric_labels)
 
 -- a location may be named before its `.set`, a constant may not
 abbrev pub assigned_later : Bool → Option Assignment → Meaning
@@ -119,7 +124,8 @@ assigned_first None other = other
 abbrev pub named : Tables → Bool → ℕ → List ℕ → Meaning
 named t all ordinal name =
     assigned_first (assigned_before t.assignments ordinal name)
-    (labelled t.opened (label_of t.labels all ordinal name) (assigned_later all (assigned_ever t.assignments name)))
+    (labelled t.opened (label_of t.labels all ordinal name)
+    (assigned_later all (assigned_ever t.assignments name)))
 
 -- a numeric reference; where later definitions do not count, one that comes later is no constant
 abbrev pub forward_in : Opened → Bool → Option NumericLabel → Meaning
@@ -132,8 +138,10 @@ backward_in opened None = Refused undefined_local
 backward_in opened (Some m) = stands opened m.place
 
 abbrev pub referred : Tables → Bool → ℕ → ℕ → Bool → Meaning
-referred t all ordinal number true = forward_in t.opened all (numeric_label_after t.numeric_labels ordinal number)
-referred t all ordinal number false = backward_in t.opened (numeric_label_before t.numeric_labels ordinal number)
+referred t all ordinal number true =
+    forward_in t.opened all (numeric_label_after t.numeric_labels ordinal number)
+referred t all ordinal number false =
+    backward_in t.opened (numeric_label_before t.numeric_labels ordinal number)
 
 -- what stands in an expression of the statement of this ordinal at this offset: `all` says whether later definitions
 -- count, as in values of data and in operands of instructions; in sizes, alignments and assignments they don't
@@ -141,7 +149,8 @@ abbrev pub meaning : Tables → Bool → ℕ → SectionOffset → Primary → M
 meaning t all ordinal p (Literal number) = Known number
 meaning t all ordinal p (Symbol name) = named t all ordinal name
 meaning t all ordinal p Here = stands t.opened p
-meaning t all ordinal p (Reference digits forward) = referred t all ordinal (digits_value 10 digits) forward
+meaning t all ordinal p (Reference digits forward) =
+    referred t all ordinal (digits_value 10 digits) forward
 
 abbrev pub value : Tables → Bool → ℕ → SectionOffset → Expression → Value
 value t all ordinal p e = value_of (λ q. meaning t all ordinal p q) e
@@ -168,7 +177,8 @@ is_location s = elim s.meaning [
 -- a location has a definition, a number has none
 abbrev pub assigned_definition : Option Assignment → Option Definition
 assigned_definition None = None
-assigned_definition (Some s) = if is_location s then Some (record { ordinal = s.ordinal; plus = s.plus }) else None
+assigned_definition (Some s) =
+    if is_location s then Some (record { ordinal = s.ordinal; plus = s.plus }) else None
 
 abbrev pub labelled_definition : Option Labelled → Option Definition → Option Definition
 labelled_definition (Some l) other = Some (definition_at l.ordinal)
@@ -187,10 +197,13 @@ abbrev pub definition : Tables → ℕ → Primary → Option Definition
 definition t ordinal (Literal number) = None
 definition t ordinal (Symbol name) =
     first_definition (assigned_definition (assigned_before t.assignments ordinal name))
-    (labelled_definition (label_of t.labels true ordinal name) (assigned_definition (assigned_ever t.assignments name)))
+    (labelled_definition (label_of t.labels true ordinal name)
+    (assigned_definition (assigned_ever t.assignments name)))
 definition t ordinal Here = Some (definition_at ordinal)
-definition t ordinal (Reference digits true) = numeric_definition (numeric_label_after t.numeric_labels ordinal (digits_value 10 digits))
-definition t ordinal (Reference digits false) = numeric_definition (numeric_label_before t.numeric_labels ordinal (digits_value 10 digits))
+definition t ordinal (Reference digits true) =
+    numeric_definition (numeric_label_after t.numeric_labels ordinal (digits_value 10 digits))
+definition t ordinal (Reference digits false) =
+    numeric_definition (numeric_label_before t.numeric_labels ordinal (digits_value 10 digits))
 
 -- ---- sizes
 
@@ -266,7 +279,8 @@ abbrev pub contributed : (Expression → Value) → ℕ → Contribution → ℕ
 contributed v offset Nothing = 0
 contributed v offset (Bytes contents) = contents_size contents
 contributed v offset (Zero_bytes count) = within offset (or_none (counted (v count)))
-contributed v offset (Alignment form number) = within offset (padding (alignment_as form (v number)) offset)
+contributed v offset (Alignment form number) =
+    within offset (padding (alignment_as form (v number)) offset)
 
 abbrev pub data_bytes : (Expression → Value) → ℕ → Directive → ℕ
 data_bytes v offset d = contributed v offset (contribution d)
@@ -282,14 +296,18 @@ changed_at (suc i) change (n ∷ ns) = n ∷ changed_at i change ns
 abbrev pub has_location : Tables → ℕ → List ℕ → Bool
 has_location t ordinal name =
     is_some (label_of t.labels false ordinal name)
-    || list_any (λ s. nat_lt s.ordinal ordinal && bytes_eq s.name name && is_location s) t.assignments
+    || list_any
+    (λ s. nat_lt s.ordinal ordinal && bytes_eq s.name name && is_location s) t.assignments
 
 abbrev pub is_defined : Tables → ℕ → List ℕ → Bool
-is_defined t ordinal name = is_some (label_of t.labels false ordinal name) || is_some (assigned_before t.assignments ordinal name)
+is_defined t ordinal name =
+    is_some (label_of t.labels false ordinal name)
+    || is_some (assigned_before t.assignments ordinal name)
 
 -- what `.set` assigns by the value of its expression: a number, a location where its symbol is `.`, or nothing
 abbrev pub assigned : List ℕ → ℕ → Value → Option Assignment
-assigned name ordinal (Constant n) = Some (record { name = name; ordinal = ordinal; meaning = Known n; plus = 0 })
+assigned name ordinal (Constant n) =
+    Some (record { name = name; ordinal = ordinal; meaning = Known n; plus = 0 })
 assigned name ordinal (Symbolic Here (InSection section offset) plus) =
     Some (record { name = name; ordinal = ordinal; meaning = InSection section (add offset plus); plus = plus })
 assigned name ordinal _ = None
@@ -306,14 +324,19 @@ may_set t ordinal name _ = not (has_location t ordinal name)
 
 abbrev pub with_assignment : Tables → Option Assignment → Tables
 with_assignment t None = t
-with_assignment t (Some s) = if may_set t s.ordinal s.name s.meaning then record t { assignments = s ∷ t.assignments } else t
+with_assignment t (Some s) =
+    if may_set t s.ordinal s.name s.meaning then record t { assignments = s ∷ t.assignments } else t
 
 abbrev pub with_label : Tables → ℕ → List ℕ → Tables
 with_label t ordinal name =
     if is_defined t ordinal name then t else record t { labels = t.labels ++ record { name = name; ordinal = ordinal; place = here t } ∷ [] }
 
 abbrev pub with_numeric_label : Tables → ℕ → ℕ → Tables
-with_numeric_label t ordinal number = record t { numeric_labels = record { number = number; ordinal = ordinal; place = here t } ∷ t.numeric_labels }
+with_numeric_label t ordinal number =
+    record t {
+      numeric_labels = record { number = number; ordinal = ordinal; place = here t } ∷
+          t.numeric_labels;
+    }
 
 -- a section that is entered; a new one has no bytes yet
 abbrev pub opened_more : Tables → Opened → Tables
@@ -403,7 +426,8 @@ stood t ordinal says = if enters says then here (after t ordinal says) else here
 
 abbrev pub places_from : Tables → ℕ → List Statement → List SectionOffset
 places_from t ordinal [] = []
-places_from t ordinal (s ∷ ss) = stood t ordinal s.kind ∷ places_from (after t ordinal s.kind) (suc ordinal) ss
+places_from t ordinal (s ∷ ss) =
+    stood t ordinal s.kind ∷ places_from (after t ordinal s.kind) (suc ordinal) ss
 
 abbrev pub places : List Statement → List SectionOffset
 places ss = places_from at_start 1 ss

@@ -68,7 +68,8 @@ pub fn is_zero(kind: TokenKind<'_>) -> bool
 
 /// The string that the token is, as it stands between its quotes.
 pub fn string_of(kind: TokenKind<'_>) -> Option<&[u8]>
-    ensures { option_map (λ text. string_of text ∷ []) result ≡ single A_string (kind_of kind.entry) }
+    ensures { option_map (λ text. string_of text ∷ []) result
+        ≡ single A_string (kind_of kind.entry) }
 {
     match kind {
         TokenKind::Text(text) => Some(text),

@@ -383,7 +383,9 @@ fn atomic_in(table: &[(&str, AtomicOperation)], word: &[u8]) -> Option<Mnemonic>
 /// The load-reserved or the atomic that the word is.
 #[tactic(auto, unfolding(rv_parse_laws::specs::Words::atomic_operations))]
 fn atomic_named(word: &[u8]) -> Option<Mnemonic>
-    ensures { result ≡ either (option_map LoadReserved (form_behind (codes "lr") word.now)) (atomic_in atomic_operations word.now) }
+    ensures { result
+        ≡ either (option_map LoadReserved (form_behind (codes "lr") word.now))
+        (atomic_in atomic_operations word.now) }
 {
     match form_behind(b"lr", word) {
         Some(form) => Some(Mnemonic::LoadReserved(form)),

@@ -129,7 +129,11 @@ figures =
     ∷ said 7 (Directs (Values 1 (constant 1 ∷ symbol (codes "limit") ∷ [])))
     ∷ said 8 (Directs (Aligns_to_power (constant 2)))
     ∷ said 9 (Numbered 1)
-    ∷ said 10 (Directs (Values 4 (Unary Negate (constant 1) ∷ Leaf (Reference (codes "1") false) ∷ symbol (codes "_end") ∷ [])))
+    ∷ said 10
+    (Directs
+    (Values 4
+    (Unary Negate (constant 1) ∷ Leaf (Reference (codes "1") false) ∷ symbol (codes "_end") ∷
+    [])))
     ∷ said 11 (Directs (Sets (codes "limit") (constant 9)))
     ∷ said 12 (Directs (Sets (codes "here") (Binary Add (Leaf Here) (constant 2))))
     ∷ said 13 (Directs (Values 2 (symbol (codes "limit") ∷ [])))
@@ -202,10 +206,15 @@ differences =
     ∷ said 4 call
     ∷ said 5 (Directs (Enters Data))
     ∷ said 6 (Label (codes "a"))
-    ∷ said 7 (Directs (Values 1 (Binary Add (constant 2) (Binary Or (constant 3) (constant 4)) ∷ [])))
+    ∷ said 7
+    (Directs (Values 1 (Binary Add (constant 2) (Binary Or (constant 3) (constant 4)) ∷ [])))
     ∷ said 8 (Directs (Aligns_to_power (constant 2)))
     ∷ said 9 (Label (codes "b"))
-    ∷ said 10 (Directs (Values 4 (Binary Subtract (symbol (codes "b")) (symbol (codes "a")) ∷ Binary ShiftLeft (Binary Remainder (constant 5) (constant 3)) (constant 2) ∷ [])))
+    ∷ said 10
+    (Directs
+    (Values 4
+    (Binary Subtract (symbol (codes "b")) (symbol (codes "a")) ∷
+    Binary ShiftLeft (Binary Remainder (constant 5) (constant 3)) (constant 2) ∷ [])))
     ∷ []
 
 abbrev pub differences_map : Map

@@ -48,7 +48,14 @@ exit7 =
 
 abbrev pub row : ℕ → ℕ → ℕ → ℕ → ℕ → ℕ → Row
 row file line ordinal address bytes instructions =
-    record { file = file; line = line; ordinal = ordinal; address = address; bytes = bytes; instructions = instructions }
+    record {
+      file = file;
+      line = line;
+      ordinal = ordinal;
+      address = address;
+      bytes = bytes;
+      instructions = instructions;
+    }
 
 abbrev pub region : ℕ → ℕ → Region
 region start stop = record { start = start; end = stop }
@@ -85,7 +92,9 @@ exit255 =
     ∷ said 2 (globl (codes "_start"))
     ∷ said 3 (Label (codes "_start"))
     ∷ said 3 (load 10 7)
-    ∷ said 4 (Instruction (Immediate Addi) (Register 10 ∷ Register 10 ∷ Value (Unary Negate (constant 8)) ∷ []))
+    ∷ said 4
+    (Instruction (Immediate Addi)
+    (Register 10 ∷ Register 10 ∷ Value (Unary Negate (constant 8)) ∷ []))
     ∷ said 5 (load 17 93)
     ∷ said 6 (Instruction Ecall [])
     ∷ []

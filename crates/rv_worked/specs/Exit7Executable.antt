@@ -37,7 +37,8 @@ exit7_segment = 1 ∷ 0 ∷ 0 ∷ 0 ∷ 1 ∷ 0 ∷ 0 ∷ 0
 
 -- the file: zeros between the headers, 120 bytes, and the code at 1000h
 abbrev pub exit7_file : List ℕ
-exit7_file = exit7_kind ++ exit7_places ++ exit7_sizes ++ exit7_segment ++ replicate 3976 0 ++ exit7_code
+exit7_file =
+    exit7_kind ++ exit7_places ++ exit7_sizes ++ exit7_segment ++ replicate 3976 0 ++ exit7_code
 
 -- the image: one segment, which may be executed and nothing else
 abbrev pub exit7_image : Image

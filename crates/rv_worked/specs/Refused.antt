@@ -175,7 +175,8 @@ unknown_names =
     ∷ said 4 (Directs (Enters Rodata))
     ∷ said 5 (Directs (Values 8 (symbol (codes "early") ∷ [])))
     ∷ said 6 (Directs (Enters Data))
-    ∷ said 7 (Directs (Values 8 (Binary Subtract (symbol (codes "late")) (symbol (codes "early")) ∷ [])))
+    ∷ said 7
+    (Directs (Values 8 (Binary Subtract (symbol (codes "late")) (symbol (codes "early")) ∷ [])))
     ∷ []
 
 -- a place in a section that is not loaded has no address, but its distance to another one there is known

@@ -14,12 +14,15 @@ text_sections source m = input_sections goes_to_text (source ∷ []) m
 
 -- the bytes of the text, of the constants and of the variables
 abbrev pub text_bytes : List Statement → Map → List ℕ
-text_bytes source m = contents (code_bytes (program (source ∷ []) m)) m.text.start (text_sections source m)
+text_bytes source m =
+    contents (code_bytes (program (source ∷ []) m)) m.text.start (text_sections source m)
 
 abbrev pub rodata_bytes : List Statement → Map → List ℕ
 rodata_bytes source m =
-    contents (spelled (program (source ∷ []) m)) m.rodata.start (input_sections goes_to_rodata (source ∷ []) m)
+    contents (spelled (program (source ∷ []) m)) m.rodata.start
+    (input_sections goes_to_rodata (source ∷ []) m)
 
 abbrev pub data_bytes : List Statement → Map → List ℕ
 data_bytes source m =
-    contents (spelled (program (source ∷ []) m)) m.data.start (input_sections goes_to_data (source ∷ []) m)
+    contents (spelled (program (source ∷ []) m)) m.data.start
+    (input_sections goes_to_data (source ∷ []) m)

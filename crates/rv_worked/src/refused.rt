@@ -35,7 +35,8 @@ pub fn other_ranges_end()
     ensures word { statements_fault (alone (shifts_word 31)) ≡ None }
     ensures far_word { statements_fault (alone (shifts_word 32)) ≡ fault immediate_range 2 }
     ensures upper { statements_fault (alone (uppers (constant 1048575))) ≡ None }
-    ensures far_upper { statements_fault (alone (uppers (constant 1048576))) ≡ fault immediate_range 2 }
+    ensures far_upper { statements_fault (alone (uppers (constant 1048576)))
+        ≡ fault immediate_range 2 }
     ensures negative { statements_fault (alone (uppers (minus 1))) ≡ fault immediate_range 2 }
     ensures long { statements_fault (alone (load 10 2048)) ≡ fault unsupported_here 2 }
 {}

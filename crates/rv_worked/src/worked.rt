@@ -33,7 +33,8 @@ pub fn exit7_runs()
 /// Its exit is its third instruction.
 pub fn exit7_is_limited()
     ensures enough { source_run (exit7 ∷ []) exit7_map [] 3 ≡ exits 7 }
-    ensures short { source_run (exit7 ∷ []) exit7_map [] 2 ≡ record { console = []; «end» = Limit } }
+    ensures short { source_run (exit7 ∷ []) exit7_map [] 2
+        ≡ record { console = []; «end» = Limit } }
 {}
 
 /// With 8 taken off a0 it exits with 255, which is -1 modulo 256.
@@ -119,7 +120,8 @@ pub fn figures_resolve()
 
 /// The bindings of its names: what is said last holds, and a name of which nothing is said is local.
 pub fn figures_bind()
-    ensures said { map (λ n. binding_of figures n) (codes "_start" ∷ codes "limit" ∷ []) ≡ Global ∷ Global ∷ [] }
+    ensures said { map (λ n. binding_of figures n) (codes "_start" ∷ codes "limit" ∷ [])
+        ≡ Global ∷ Global ∷ [] }
     ensures last { binding_of figures (codes "table") ≡ Local }
     ensures nothing { binding_of figures (codes "room") ≡ Local }
 {}
@@ -128,7 +130,8 @@ pub fn figures_bind()
 pub fn sections_have_types()
     ensures note { (section_of (codes ".n") None (Some (codes "note"))).section_type ≡ Note }
     ensures nobits { (section_of (codes ".n") None (Some (codes "nobits"))).section_type ≡ Nobits }
-    ensures given { (section_of (codes ".bss") None (Some (codes "progbits"))).section_type ≡ Progbits }
+    ensures given { (section_of (codes ".bss") None (Some (codes "progbits"))).section_type
+        ≡ Progbits }
     ensures zeroed { (section_of (codes ".sbss.x") None None).section_type ≡ Nobits }
     ensures other { (section_of (codes ".note.x") None None).section_type ≡ Progbits }
 {}
@@ -141,7 +144,8 @@ pub fn figures_spell()
 /// A section of code begins at a multiple of the greatest of its alignments: a map without the gap
 /// before it does not hold the sections of the source.
 pub fn code_is_aligned()
-    ensures alignments { map (λ b. b.alignment) (text_sections two_sections with_gap) ≡ 2 ∷ 16 ∷ [] }
+    ensures alignments { map (λ b. b.alignment) (text_sections two_sections with_gap)
+        ≡ 2 ∷ 16 ∷ [] }
     ensures gap { gaps_of 0x10000 (text_sections two_sections with_gap) ≡ with_gap.gaps }
     ensures held { Holds with_gap.text 0x10000 (text_sections two_sections with_gap) }
     ensures not_held { Holds without_gap.text 0x10000 (text_sections two_sections without_gap) → ⊥ }
