@@ -1,11 +1,13 @@
 //! RV64IMA: its registers, its instructions with typed operands, their formats, names and ranges.
 //!
 //! It takes nothing: it is the floor of the repository. It gives [`Inst`], one variant a base mnemonic with the operands
-//! of its format, and the same by format, [`Format`], with an operation of that format inside; and [`Reg`].
+//! of its format, and the same by format, [`Format`], with an operation of that format inside; [`Reg`]; and [`Kind`], a
+//! relocation's, with its number and the width of its field.
 //!
 //! Main contracts: `Inst::format` answers the row of the table `format_of`; `instruction` of each operation writes the
 //! instruction that is its row, in range; `Inst::is_valid` answers whether every operand is in its range (`IsValid`);
-//! and `formats_agree`, the law that the tables of instructions and of formats are inverse.
+//! and `formats_agree`, the law that the tables of instructions and of formats are inverse; `kind_of` answers a kind
+//! exactly where the number is that kind's.
 //! It must not know words of bits, what an instruction does, or how a source is spelled.
 //!
 //! ```text
@@ -16,7 +18,7 @@
 //! // add.is_valid() holds: the contract of `instruction` says so
 //! ```
 //!
-//! Source: RISC-V Unprivileged ISA 20191213, chapters 2, 5, 7, 8 and 24.
+//! Source: RISC-V Unprivileged ISA 20191213, chapters 2, 5, 7, 8 and 24; RISC-V ELF psABI, "Relocations".
 #![tactic(auto)]
 
 mod instruction;
