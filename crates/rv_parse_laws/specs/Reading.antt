@@ -19,7 +19,8 @@ longest_line = 65535
 abbrev pub most_statements : ℕ
 most_statements = 2 ^ 22
 
--- the byte at this place is past its line's limit: it is no line feed, and neither are the bytes of a longest line before it
+-- the byte at this place is past its line's limit: it is no line feed, and as many bytes as the longest line has stand
+-- before it on its line
 pub record IsPastLine (bytes : List ℕ) (place : ℕ) : Type 0 where
   pub front : List ℕ
   pub line : List ℕ
