@@ -9,9 +9,9 @@ use Rattle.rv_text_laws.specs.Expression.{begins, An_opening as Opens, No_operan
 use Rattle.rv_text_laws.specs.ExpressionAt.{Wants, read_from, expression_at}
 use Rattle.rv_text_laws.specs.declared.operator.Frame.TheVariants.{Parenthesis}
 use Rattle.rv_text_laws.proofs.Expressions.{fails, goes}
-use Rattle.rv_text_laws.proofs.ExpressionWrong.{ended_more, ended_behind}
+use Rattle.rv_text_laws.proofs.ExpressionWrong.{ended_more}
 use Rattle.rv_statement.specs.Statement.{Expression, Operand, Register, Value, Applied}
-use Rattle.rv_parse_laws.specs.Syntax.{is_register, register_of, valued, is_refused, is_refused_by, function_in, is_percent, is_opening, is_closing, is_colon, Slot, A_register, A_value, An_address, A_closing, An_opening, single, front_begins, IsValueIn, IsBase, IsOperand}
+use Rattle.rv_parse_laws.specs.Syntax.{is_register, register_of, valued, is_refused, is_refused_by, function_in, is_percent, is_opening, is_closing, is_colon, Slot, A_register, An_address, A_closing, An_opening, single, front_begins, IsValueIn, IsBase, IsOperand}
 use Rattle.rv_parse_laws.specs.Faults.{wrong_first}
 use Rattle.rv_parse_laws.specs.Parsing.{◌>>=◌, seen_as, allowed, value_at, enclosed_at, named_at, applied_at, value_in, single_at, base_at, base_next, offset_at, is_target, target_behind, target_next, operand_at}
 use Rattle.rv_parse_laws.proofs.Steps.{bind_ok, seen_ok, pair_parts, bind_err, seen_err}

@@ -1,12 +1,12 @@
 -- Values in their places: an expression, or a function of one.
 
-use Rattle.std.proofs.Common.{◌≡◌, ℕ, ◌<◌, Bool, true, false, cond, ◌&&◌, List, [], ◌∷◌, ◌++◌, append_assoc, length, length-append, Option, Some, None, Ok, Err, refl, sym, ◌∙◌, ap, subst, codes, arith, ◌⊎◌, inl, inr}
+use Rattle.std.proofs.Common.{◌≡◌, ℕ, ◌<◌, Bool, true, false, cond, ◌&&◌, List, [], ◌∷◌, ◌++◌, append_assoc, length, Option, Some, None, Ok, Err, refl, sym, ◌∙◌, ap, subst, codes, arith, ◌⊎◌, inl, inr}
 use Rattle.std.proofs.lemmas.List.{append-nil}
 use Rattle.rv_text_laws.specs.declared.punct.Punct.TheVariants.{Open, Close, Percent}
 use Rattle.rv_text_laws.specs.Grammar.{Kind, Punctuation, Name as NameToken, Reference as ReferenceToken}
 use Rattle.rv_text_laws.specs.Lexing.{Token, is_last, ended}
 use Rattle.rv_text_laws.specs.SyntaxError.{SyntaxError, wrong, Read}
-use Rattle.rv_text_laws.specs.Expression.{Leaf, Symbol, follows, A_closing as Closing, EndsBefore}
+use Rattle.rv_text_laws.specs.Expression.{follows, A_closing as Closing, EndsBefore}
 use Rattle.rv_text_laws.proofs.ExpressionWrong.{ended_more, ended_behind}
 use Rattle.rv_statement.specs.declared.pseudo.Function.{Function}
 use Rattle.rv_statement.specs.declared.pseudo.Function.TheVariants.{Hi, Lo, PcrelHi, PcrelLo}
@@ -17,9 +17,9 @@ use Rattle.rv_parse_laws.specs.Words.{named_in, function_words}
 use Rattle.rv_parse_laws.specs.Syntax.{is_symbol, is_percent, is_opening, is_closing, targets, valued, is_number, is_refused, is_refused_by, may_stand, standing, function_in, label_named, A_register, A_closing, An_opening, single, IsValue, IsArgument, IsApplied, IsValueIn}
 use Rattle.rv_text_laws.specs.Codes.{bad_operands, unsupported_here}
 use Rattle.rv_parse_laws.specs.Faults.{may_call, is_name, wrong_or, wrong_symbol, wrong_function, wrong_first}
-use Rattle.rv_parse_laws.specs.Parsing.{◌>>=◌, seen_as, taken, value_at, allowed, single_at, label_at, argument_at, enclosed_at, called_at, named_at, applied_at, value_in}
+use Rattle.rv_parse_laws.specs.Parsing.{◌>>=◌, seen_as, value_at, allowed, single_at, label_at, argument_at, enclosed_at, called_at, named_at, applied_at, value_in}
 use Rattle.rv_parse_laws.proofs.Steps.{bind_ok, seen_ok, taken_ok, bind_err, seen_err, taken_err}
-use Rattle.rv_parse_laws.proofs.Failing.{Failing, Shown, at_once, shown_behind, heads, first_of, same_first, first_is, never, wrongs}
+use Rattle.rv_parse_laws.proofs.Failing.{Failing, Shown, at_once, heads, first_of, same_first, first_is, wrongs}
 use Rattle.rv_parse_laws.proofs.Singles.{some_token, a_symbol, a_symbol_is, single_found, single_fault, single_passed, opening_no_last}
 use Rattle.rv_parse_laws.proofs.Values.{Closes, value_is, value_before, value_some, is_allowed, allowed_ok, allowed_err, Ended, value_ended, a_name, name_goes, and_false, sum_goes, Unread, value_unread, no_percent}
 

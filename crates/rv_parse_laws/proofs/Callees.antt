@@ -1,12 +1,12 @@
 -- What a call calls: a target, or a symbol and `@plt`.
 
-use Rattle.std.proofs.Common.{◌≡◌, ℕ, ◌<◌, Bool, true, false, cond, ◌&&◌, not, nat_le, List, [], ◌∷◌, ◌++◌, append_assoc, length, Option, Some, None, is_some, Ok, Err, refl, sym, ◌∙◌, ap, subst, codes, arith, inl, inr}
+use Rattle.std.proofs.Common.{◌≡◌, ℕ, ◌<◌, Bool, true, false, cond, ◌&&◌, not, nat_le, List, [], ◌∷◌, ◌++◌, length, Option, Some, None, is_some, Ok, Err, refl, sym, ◌∙◌, ap, subst, codes, arith, inl, inr}
 use Rattle.std.specs.Str.{bytes_eq}
-use Rattle.rv_text_laws.specs.declared.punct.Punct.TheVariants.{At, Comma, Semicolon, Open}
+use Rattle.rv_text_laws.specs.declared.punct.Punct.TheVariants.{At}
 use Rattle.rv_text_laws.specs.Grammar.{Kind, Newline, Punctuation, Name as NameToken}
 use Rattle.rv_text_laws.specs.Lexing.{Token, is_last, ended}
 use Rattle.rv_text_laws.specs.Codes.{limit}
-use Rattle.rv_text_laws.specs.SyntaxError.{SyntaxError, wrong, Read, longest_name}
+use Rattle.rv_text_laws.specs.SyntaxError.{SyntaxError, wrong, longest_name}
 use Rattle.rv_text_laws.specs.Expression.{Leaf, Symbol, Here, A_primary, No_operand, Begin, begins, follows, Nothing_more}
 use Rattle.rv_text_laws.proofs.ExpressionWrong.{ended_more}
 use Rattle.rv_statement.specs.Statement.{Expression, Operand, Target}
@@ -14,7 +14,7 @@ use Rattle.rv_parse_laws.specs.declared.role.Role.TheVariants as roles
 use Rattle.rv_parse_laws.specs.Words.{register}
 use Rattle.rv_parse_laws.specs.Syntax.{is_symbol, is_register, symbol_of, is_at, is_plt, label_named, is_colon, A_callee, A_plt, At_sign, single, front_begins, IsValue, IsValueIn, IsLinked, IsOperand}
 use Rattle.rv_parse_laws.specs.Faults.{wrong_first}
-use Rattle.rv_parse_laws.specs.Parsing.{seen_as, value_at, value_in, single_at, plt_next, plt_at, operand_at}
+use Rattle.rv_parse_laws.specs.Parsing.{seen_as, value_in, single_at, plt_next, plt_at, operand_at}
 use Rattle.rv_parse_laws.proofs.Steps.{seen_ok, seen_err, pair_parts}
 use Rattle.rv_parse_laws.proofs.Failing.{Failing, at_once, first_of, same_first, never}
 use Rattle.rv_parse_laws.proofs.Singles.{some_token, a_symbol, single_found, single_fault, symbol_no_last, at_no_last}

@@ -1,7 +1,7 @@
 -- An address and then the end, or a target and then the rest: which of them stands there is told by the token behind the
 -- expression.
 
-use Rattle.std.proofs.Common.{◌≡◌, ℕ, ◌<◌, Bool, true, false, cond, ◌&&◌, not, List, [], ◌∷◌, ◌++◌, append_assoc, length, Option, Some, None, is_some, Ok, Err, refl, sym, ◌∙◌, ap, subst, arith, ◌⊎◌, inl, inr}
+use Rattle.std.proofs.Common.{◌≡◌, Bool, true, false, cond, not, List, [], ◌∷◌, ◌++◌, append_assoc, Option, Some, None, is_some, Ok, Err, refl, sym, ◌∙◌, ap, subst, arith, ◌⊎◌, inl, inr}
 use Rattle.std.proofs.lemmas.List.{append-nil}
 use Rattle.rv_text_laws.specs.Lexing.{Token, ended}
 use Rattle.rv_text_laws.specs.Codes.{unsupported_here}
@@ -9,12 +9,12 @@ use Rattle.rv_text_laws.specs.SyntaxError.{SyntaxError, wrong, Read}
 use Rattle.rv_text_laws.proofs.ExpressionWrong.{ended_behind}
 use Rattle.rv_statement.specs.Statement.{Expression, Operand, Target}
 use Rattle.rv_parse_laws.specs.declared.role.Role.TheVariants as roles
-use Rattle.rv_parse_laws.specs.Syntax.{is_opening, is_end, is_number, A_register, A_target, An_address, An_opening, single, front_begins, IsValue, IsOperand, IsTaken, EndsHere}
+use Rattle.rv_parse_laws.specs.Syntax.{is_opening, is_end, is_number, A_register, A_target, An_address, An_opening, front_begins, IsValue, IsOperand, IsTaken, EndsHere}
 use Rattle.rv_parse_laws.specs.Faults.{wrong_after}
 use Rattle.rv_parse_laws.specs.Parsing.{seen_as, value_at, is_target, target_next, operand_at, ended_at, taking}
 use Rattle.rv_parse_laws.proofs.Steps.{bind_err, seen_err}
-use Rattle.rv_parse_laws.proofs.Failing.{Failing, at_once, behind, first_of, first_is, never, wrongs}
-use Rattle.rv_parse_laws.proofs.Values.{closes, Closes, value_is, value_some, Ended, value_ended, sum_goes}
+use Rattle.rv_parse_laws.proofs.Failing.{Failing, at_once, behind, first_of, first_is, wrongs}
+use Rattle.rv_parse_laws.proofs.Values.{closes, value_is, value_some, Ended, value_ended, sum_goes}
 use Rattle.rv_parse_laws.proofs.Arguments.{function_may}
 use Rattle.rv_parse_laws.proofs.Addresses.{address_is, address_found, address_ended, address_wrong, address_no_target}
 use Rattle.rv_parse_laws.proofs.Operands.{taken_is, FoundTo, taken_found}

@@ -4,9 +4,9 @@
 use Rattle.std.proofs.Common.{◌≡◌, ℕ, ◌<◌, true, false, List, [], ◌∷◌, ◌++◌, append_assoc, length, length-append, Ok, Err, refl, sym, ◌∙◌, ap, subst, arith, inl, inr}
 use Rattle.rv_text_laws.specs.Lexing.{Token, ended}
 use Rattle.rv_text_laws.specs.SyntaxError.{SyntaxError, Read}
-use Rattle.rv_text_laws.proofs.ExpressionWrong.{ended_more, ended_behind}
-use Rattle.rv_statement.specs.Statement.{Expression, Operand, Word}
-use Rattle.rv_parse_laws.specs.Syntax.{is_colon, Slot, A_value, An_address, A_callee, A_section, valued, IsValueIn, IsOperand, IsTaken, EndsHere}
+use Rattle.rv_text_laws.proofs.ExpressionWrong.{ended_more}
+use Rattle.rv_statement.specs.Statement.{Operand, Word}
+use Rattle.rv_parse_laws.specs.Syntax.{is_colon, Slot, A_value, An_address, A_callee, A_section, IsValueIn, IsOperand, IsTaken, EndsHere}
 use Rattle.rv_parse_laws.specs.Parsing.{seen_as, value_in, section_at, operand_at, taking}
 use Rattle.rv_parse_laws.proofs.Steps.{bind_ok, seen_ok, bind_err, seen_err}
 use Rattle.rv_parse_laws.proofs.Failing.{Failing, behind, alike, first_of}

@@ -1,6 +1,6 @@
 -- The reading of a part answers exactly what the syntax spells, and is wrong at the first token with which nothing can go on.
 
-use Rattle.std.proofs.Common.{◌≡◌, ℕ, Bool, true, false, cond, List, [], ◌∷◌, ◌++◌, append_assoc, Some, None, Ok, Err, refl, sym, ◌∙◌, ap, subst, codes}
+use Rattle.std.proofs.Common.{◌≡◌, Bool, true, false, cond, List, [], ◌∷◌, ◌++◌, append_assoc, Some, None, Ok, Err, refl, sym, ◌∙◌, ap, subst, codes}
 use Rattle.rv_text_laws.specs.declared.punct.Punct.TheVariants.{Colon}
 use Rattle.rv_text_laws.specs.Bytes.{is_decimal}
 use Rattle.std.specs.List.{list_all}

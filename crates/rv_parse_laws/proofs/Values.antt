@@ -18,7 +18,7 @@ use Rattle.rv_parse_laws.specs.Parsing.{seen_as, value_at, allowed}
 use Rattle.rv_isa.specs.RegisterNames.{abi_names}
 use Rattle.rv_parse_laws.specs.Words.{names_of, register}
 use Rattle.rv_parse_laws.proofs.Steps.{seen_ok, seen_err}
-use Rattle.rv_parse_laws.proofs.Failing.{first_of, same_first, first_is, never, wrongs}
+use Rattle.rv_parse_laws.proofs.Failing.{first_of, first_is, never, wrongs}
 use Rattle.rv_parse_laws.proofs.Singles.{some_token, a_symbol}
 
 -- what may stand behind a section's name: a comma, an opening parenthesis or the end

@@ -47,11 +47,11 @@ said (p ∷ ps) = told p.kind p.text ++ said ps
 abbrev pub AreParts : List Token → List (Piece Part Token) → List Token → Type 0
 AreParts ts ps rest = Cuts Part Token IsPart StopsPart ts ps rest
 
--- at the front of the tokens, behind these statements, no opening of a section is wrong
+-- at the front of the tokens, after these statements, no opening of a section is wrong
 abbrev pub OpensWell : List Statement → List Token → Type 0
 OpensWell ss ts = (before : List Token) (at : Token) (more : List Token) (code : ℕ) → ts ≡ before ++ at ∷ more → IsWrongOpening ss before at code → ⊥
 
--- nor is one at the front of any of these parts, behind these statements and before the rest
+-- nor is one at the front of any of these parts, after these statements and before the rest
 abbrev pub AllOpenWell : List Statement → List (Piece Part Token) → List Token → Type 0
 AllOpenWell ss [] rest = Unit {0}
 AllOpenWell ss (p ∷ ps) rest = OpensWell ss (texts (p ∷ ps) ++ rest) × AllOpenWell (ss ++ told p.kind p.text) ps rest

@@ -194,8 +194,16 @@ const ACCESSES: [(&[u8], &[u8], u32); 22] = [
     (b"1: lwu a5, 1b; lwu a5, 1b + 4", b"1YY", 1),
     (b"sb a0, x, t0; sb zero, x + 4, x31", b"ZZ", 1),
     (b"sh a0, (x), t0; sh a0, . , a1", b"ZZ", 1),
-    (b"sw a0, x, t0\nsw a0, 1f, t0; 1: sw a0, x - 8, fp", b"ZZ1Z", 2),
-    (b"sd ra, . + 8, sp; sd x1, 4 + x, x2; sd s11, 8(t6)", b"ZZS", 1),
+    (
+        b"sw a0, x, t0\nsw a0, 1f, t0; 1: sw a0, x - 8, fp",
+        b"ZZ1Z",
+        2,
+    ),
+    (
+        b"sd ra, . + 8, sp; sd x1, 4 + x, x2; sd s11, 8(t6)",
+        b"ZZS",
+        1,
+    ),
 ];
 
 #[test]
