@@ -1,12 +1,12 @@
 -- What stands in a slot has no fault of content.
 
-use Rattle.std.proofs.Common.{◌≡◌, ℕ, Bool, true, false, cond, ◌&&◌, not, nat_le, List, length, Option, Some, None, refl, sym, ◌∙◌, ap, codes, ◌⊎◌, inl, inr}
+use Rattle.std.proofs.Common.{◌≡◌, ℕ, Bool, true, false, cond, ◌&&◌, not, nat_le, List, length, None, refl, codes, inl, inr}
 use Rattle.std.specs.Str.{bytes_eq}
 use Rattle.rv_text_laws.specs.Lexing.{Token}
 use Rattle.rv_text_laws.specs.SyntaxError.{longest_name}
 use Rattle.rv_statement.specs.Statement.{Operand, Value, Target, Word}
 use Rattle.rv_parse_laws.specs.declared.role.Role.{Role}
-use Rattle.rv_parse_laws.specs.Syntax.{A_value, A_section, targets, is_number, is_section_name, IsValueIn, IsOperand}
+use Rattle.rv_parse_laws.specs.Syntax.{A_value, A_section, targets, is_number, is_section_name, IsValueIn}
 use Rattle.rv_parse_laws.specs.Content.{left_out, content_fault}
 
 pub value_content : (role : Role) (ts : List Token) (o : Operand) → IsValueIn role ts o → content_fault true (A_value role) o ≡ None

@@ -1,6 +1,6 @@
 -- What is wrong stands among the tokens, and where is told by the fault.
 
-use Rattle.std.proofs.Common.{◌≡◌, ℕ, zero, suc, ◌<◌, ◌≤◌, Bool, true, false, List, [], ◌∷◌, ◌++◌, append_assoc, refl, sym, ◌∙◌, ap, subst, ◌⊎◌, inl, inr, arith}
+use Rattle.std.proofs.Common.{◌≡◌, ℕ, zero, suc, List, [], ◌∷◌, ◌++◌, append_assoc, refl, sym, ◌∙◌, ap, subst, inl, inr}
 use Rattle.rv_text_laws.specs.Lexing.{Token}
 use Rattle.rv_statement.specs.declared.pseudo.Function.{Function}
 use Rattle.rv_statement.specs.declared.pseudo.Function.TheVariants.{Hi, Lo, PcrelHi, PcrelLo}
@@ -9,7 +9,7 @@ use Rattle.rv_parse_laws.specs.declared.role.Role.TheVariants as roles
 use Rattle.rv_parse_laws.specs.declared.beginning.Beginning.{Beginning}
 use Rattle.rv_parse_laws.specs.declared.beginning.Beginning.TheVariants as beginnings
 use Rattle.rv_parse_laws.specs.Syntax.{A_value, A_target, An_address, A_callee, A_section, Slot, Slots, Stops, Takes, Chooses, Locates, Lists, Anything, slots, places, begins}
-use Rattle.rv_parse_laws.specs.Wrong.{IsWrongInside, IsWrongArgument, IsWrongCall, IsWrongApplied, IsWrongValue, IsWrongBase, IsWrongAddress, IsWrongCallee, IsWrongSection, IsWrongOperand, IsWrongTaken, IsNoEnd, IsWrongNext, IsWrongItem, IsWrongIn, IsWrongBehind, IsWrongStatement}
+use Rattle.rv_parse_laws.specs.Wrong.{IsWrongInside, IsWrongArgument, IsWrongCall, IsWrongApplied, IsWrongValue, IsWrongBase, IsWrongAddress, IsWrongCallee, IsWrongSection, IsWrongOperand, IsWrongTaken, IsNoEnd, IsWrongNext, IsWrongItem, IsWrongIn, IsWrongAfter, IsWrongStatement}
 
 -- the token is one of these
 abbrev pub Occurs : Token → List Token → Type 0
@@ -100,7 +100,7 @@ operands (Locates rest) ts t code (inr (target, x)) = taken An_address (λ us u 
 operands (Lists s) ts t code (n, x) = item n s ts t code x
 operands Anything ts t code (front, more, w, all, ends, other, is) = (front, more, w)
 
-behind : (b : Beginning) (u : Token) (ts : List Token) (t : Token) (code : ℕ) → IsWrongBehind b u ts t code → Occurs t (u ∷ ts)
+behind : (b : Beginning) (u : Token) (ts : List Token) (t : Token) (code : ℕ) → IsWrongAfter b u ts t code → Occurs t (u ∷ ts)
 behind (beginnings.Instruction m) u ts t code x = occurs_behind t (u ∷ ts) (u ∷ []) ts refl (operands (slots m) ts t code x)
 behind (beginnings.Directive word) u ts t code x = occurs_behind t (u ∷ ts) (u ∷ []) ts refl (operands (places word) ts t code x)
 behind beginnings.Nothing u ts t code (same, is) = first t (u ∷ ts) ts (ap (λ v. v ∷ ts) (sym same))

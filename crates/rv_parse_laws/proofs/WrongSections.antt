@@ -1,14 +1,14 @@
 -- The name of a section is wrong at the token, and with the code, that specs/Wrong says.
 
-use Rattle.std.proofs.Common.{◌≡◌, ℕ, ◌+◌, ◌<◌, ◌≤◌, Bool, true, false, cond, ◌&&◌, not, nat_le, nat_lt, List, [], ◌∷◌, ◌++◌, Option, Some, None, Ok, Err, refl, sym, ◌∙◌, ap, subst, ◌⊎◌, inl, inr, length, length-append, codes, arith}
+use Rattle.std.proofs.Common.{◌≡◌, ℕ, ◌+◌, ◌<◌, ◌≤◌, Bool, true, false, cond, ◌&&◌, not, nat_le, nat_lt, List, [], ◌∷◌, ◌++◌, Option, Some, None, Ok, Err, refl, sym, ◌∙◌, ap, inl, inr, length, length-append, codes, arith}
 use Rattle.std.specs.Str.{bytes_eq}
 use Rattle.std.proofs.lemmas.Bool.Decides.{nat_tests}
 use Rattle.std.proofs.lemmas.Slice.Eq.{bytes_eq-Decides}
-use Rattle.rv_text_laws.specs.Grammar.{Kind, Name}
+use Rattle.rv_text_laws.specs.Grammar.{Name}
 use Rattle.rv_text_laws.specs.Lexing.{Token, ended}
 use Rattle.rv_text_laws.specs.Codes.{unsupported_here, limit}
 use Rattle.rv_text_laws.specs.SyntaxError.{SyntaxError, wrong, Read, longest_name}
-use Rattle.rv_text_laws.specs.Joined.{bytes_of, AreAfter, IsJoined, ReadsJoined, joined_after, first_name, joined_at}
+use Rattle.rv_text_laws.specs.Joined.{bytes_of, AreAfter, IsJoined, joined_after, first_name, joined_at}
 use Rattle.rv_text_laws.proofs.Joins.{joined_is as joined_name_is, joined_found as joined_name_found}
 use Rattle.rv_parse_laws.specs.Syntax.{is_section_name, A_section}
 use Rattle.rv_statement.specs.Statement.{Word}
@@ -17,7 +17,7 @@ use Rattle.rv_parse_laws.specs.Faults.{wrong_first}
 use Rattle.rv_parse_laws.specs.Wrong.{IsLongName, IsWrongSection, Passes}
 use Rattle.rv_parse_laws.specs.Parsing.{too_long, wrong_front, named_or, section_at}
 use Rattle.rv_parse_laws.proofs.Failing.{never, wrongs}
-use Rattle.rv_parse_laws.proofs.Sections.{joins_parts, to_joins, none_at, name_at, section_by, first_name_is, LongAt, too_long_step, too_long_within, length_behind, long_at, long_err, over_test}
+use Rattle.rv_parse_laws.proofs.Sections.{to_joins, none_at, name_at, section_by, first_name_is, too_long_step, too_long_within, length_behind, long_at, long_err, over_test}
 use Rattle.rv_parse_laws.proofs.Wrongs.{SaidBy, left_out_is}
 
 within_test : (n : ℕ) → n ≤ longest_name → nat_lt longest_name n ≡ false

@@ -1,21 +1,20 @@
 -- A statement is wrong at the token, and with the code, that specs/Wrong says.
 
-use Rattle.std.proofs.Common.{◌≡◌, ℕ, zero, suc, ◌+◌, ◌<◌, ◌≤◌, Bool, true, false, cond, ◌&&◌, ◌||◌, not, List, [], ◌∷◌, ◌++◌, Option, Some, None, is_some, Ok, Err, refl, sym, ◌∙◌, ap, subst, ◌⊎◌, inl, inr, length, arith}
+use Rattle.std.proofs.Common.{◌≡◌, ℕ, zero, suc, ◌<◌, ◌≤◌, Bool, true, false, cond, ◌&&◌, List, [], ◌∷◌, ◌++◌, Some, Ok, Err, refl, sym, ◌∙◌, ap, subst, inl, inr, length, arith}
 use Rattle.std.specs.List.{list_all}
 use Rattle.rv_text_laws.specs.Lexing.{Token, ended}
 use Rattle.rv_text_laws.specs.SyntaxError.{SyntaxError, wrong, Read}
-use Rattle.rv_text_laws.specs.Expression.{Leaf, Symbol, EndsBefore}
+use Rattle.rv_text_laws.specs.Expression.{Leaf, Symbol}
 use Rattle.rv_text_laws.proofs.ExpressionWrong.{ended_more}
-use Rattle.rv_statement.specs.Statement.{Expression, Operand, Target, Word, StatementKind, Instruction, Directs}
-use Rattle.rv_parse_laws.specs.declared.role.Role.{Role}
+use Rattle.rv_statement.specs.Statement.{Operand, Target, Word, Instruction, Directs}
 use Rattle.rv_parse_laws.specs.declared.role.Role.TheVariants as roles
 use Rattle.rv_parse_laws.specs.declared.beginning.Beginning.{Beginning}
 use Rattle.rv_parse_laws.specs.declared.beginning.Beginning.TheVariants as beginnings
-use Rattle.rv_parse_laws.specs.Syntax.{symbol_of, is_at, label_of, begins, is_comma, is_end, is_any, Slot, A_register, A_value, A_target, An_address, A_callee, A_section, A_plt, A_comma, An_opening, single, front_begins, IsOperand, Slots, Stops, Takes, Chooses, Locates, Lists, Anything, slots, places, directed, colon_next, Part, Ends, Says}
-use Rattle.rv_parse_laws.specs.Faults.{wrong_first, wrong_after, wrong_any, wrong_start, wrong_label}
-use Rattle.rv_parse_laws.specs.Wrong.{IsWrongFirst, EndsValue, IsWrongCallee, IsTargetNext, IsWrongOperand, Passes, IsWrongTaken, IsNoEnd, IsWrongNext, IsWrongItem, IsWrongAny, IsWrongIn, IsWrongBehind, IsWrongStatement}
-use Rattle.rv_parse_laws.specs.Parsing.{◌>>=◌, seen_as, taken, single_at, value_at, value_in, is_target, target_next, plt_next, plt_at, section_at, operand_at, end_at, ended_at, taking, further, items_at, any_at, operands_at, begun_at, after_first, statement_at, part_at}
-use Rattle.rv_parse_laws.proofs.Steps.{bind_ok, seen_ok, bind_err, seen_err, taken_err}
+use Rattle.rv_parse_laws.specs.Syntax.{symbol_of, is_at, label_of, begins, is_comma, is_end, is_any, Slot, A_value, A_target, An_address, A_callee, A_section, A_plt, front_begins, Slots, Stops, Takes, Chooses, Locates, Lists, Anything, slots, places, directed, colon_next, Part, Ends, Says}
+use Rattle.rv_parse_laws.specs.Faults.{wrong_after, wrong_any, wrong_start, wrong_label}
+use Rattle.rv_parse_laws.specs.Wrong.{IsWrongFirst, IsWrongCallee, IsTargetNext, IsWrongOperand, Passes, IsWrongTaken, IsNoEnd, IsWrongNext, IsWrongItem, IsWrongAny, IsWrongIn, IsWrongAfter, IsWrongStatement}
+use Rattle.rv_parse_laws.specs.Parsing.{seen_as, taken, single_at, value_at, value_in, is_target, target_next, plt_next, plt_at, section_at, operand_at, ended_at, taking, further, items_at, any_at, operands_at, begun_at, after_first, statement_at, part_at}
+use Rattle.rv_parse_laws.proofs.Steps.{seen_ok, bind_err, seen_err, taken_err}
 use Rattle.rv_parse_laws.proofs.Failing.{heads, tails, never, wrongs}
 use Rattle.rv_parse_laws.proofs.Singles.{single_found, comma_no_last, symbol_no_last, at_no_last}
 use Rattle.rv_parse_laws.proofs.Values.{value_before, value_ended}
@@ -297,14 +296,14 @@ operands_said (Lists s) ts w end e = item_said (length ts) s ts w (omega arith) 
 operands_said Anything ts w end e = any_said ts w end e
 
 -- statements
-begun_wrongs : (b : Beginning) (first : Token) (us : List Token) (t : Token) (code : ℕ) → IsWrongBehind b first us t code → begun_at b first us ≡ Err (wrong t code)
+begun_wrongs : (b : Beginning) (first : Token) (us : List Token) (t : Token) (code : ℕ) → IsWrongAfter b first us t code → begun_at b first us ≡ Err (wrong t code)
 unfolding begun_at
 begun_wrongs (beginnings.Instruction m) first us t code x = ap (seen_as (Instruction m)) (operands_wrongs (slots m) us t code x)
 begun_wrongs (beginnings.Directive word) first us t code x = ap (seen_as (λ os. Directs (directed word os))) (operands_wrongs (places word) us t code x)
 begun_wrongs beginnings.Nothing first us t code (same, is) = rw (same, is) refl
 
 begun_said : (b : Beginning) (first : Token) (us : List Token) (w : SyntaxError) → ended (first ∷ us) ≡ true → begins first.kind ≡ b → begun_at b first us ≡ Err w
-    → SaidBy (IsWrongBehind b first) us w
+    → SaidBy (IsWrongAfter b first) us w
 unfolding begun_at
 begun_said (beginnings.Instruction m) first us w end is e =
     operands_said (slots m) us w (ended_more first us (begins_no_last first.kind (beginnings.Instruction m) is (λ h. cc)) end) (seen_err (Instruction m) (operands_at (slots m) us) w e)

@@ -1,25 +1,25 @@
 -- A reading is wrong at the token, and with the code, that specs/Wrong says: values and addresses.
 
-use Rattle.std.proofs.Common.{◌≡◌, ℕ, Bool, true, false, cond, ◌&&◌, List, [], ◌∷◌, ◌++◌, Option, Some, None, Ok, Err, refl, sym, ◌∙◌, ap, subst, ◌⊎◌, inl, inr, length, ◌<◌, arith}
+use Rattle.std.proofs.Common.{◌≡◌, ℕ, Bool, true, false, cond, ◌&&◌, List, [], ◌∷◌, ◌++◌, Option, Some, None, Ok, Err, refl, sym, ◌∙◌, ap, subst, ◌⊎◌, inl, inr, arith}
 use Rattle.rv_text_laws.specs.Lexing.{Token, ended}
-use Rattle.rv_text_laws.specs.SyntaxError.{SyntaxError, wrong, Read, nowhere}
+use Rattle.rv_text_laws.specs.SyntaxError.{SyntaxError, wrong}
 use Rattle.rv_text_laws.specs.Expression.{tree_of, EndsBefore}
 use Rattle.rv_text_laws.specs.ExpressionAt.{expression_at}
 use Rattle.rv_text_laws.specs.Codes.{bad_operands, unsupported_here}
 use Rattle.rv_text_laws.proofs.ExpressionFound.{expression_found}
 use Rattle.rv_text_laws.proofs.ExpressionWrong.{ended_more, fails_there, wrong_at}
-use Rattle.rv_statement.specs.Statement.{Expression, Operand, Register, Applied, Value, Target}
+use Rattle.rv_statement.specs.Statement.{Expression, Operand, Applied, Value, Target}
 use Rattle.rv_statement.specs.declared.pseudo.Function.{Function}
 use Rattle.rv_statement.specs.declared.pseudo.Function.TheVariants.{Hi, Lo, PcrelHi, PcrelLo}
 use Rattle.rv_parse_laws.specs.declared.role.Role.{Role}
 use Rattle.rv_parse_laws.specs.declared.role.Role.TheVariants as roles
-use Rattle.rv_parse_laws.specs.Syntax.{is_register, register_of, is_percent, is_opening, targets, valued, is_number, is_refused, function_in, label_named, is_refused_by, IsValue, IsArgument, IsValueIn, Slot, A_register, A_value, An_address, A_closing, An_opening, single}
+use Rattle.rv_parse_laws.specs.Syntax.{is_register, register_of, is_percent, is_opening, targets, valued, is_number, is_refused, function_in, label_named, is_refused_by, IsArgument, IsValueIn, Slot, A_register, A_value, An_address, A_closing, An_opening}
 use Rattle.rv_parse_laws.specs.Content.{left_out, content_fault}
 use Rattle.rv_parse_laws.specs.Faults.{may_call, is_name, wrong_or, wrong_symbol, wrong_function, wrong_first}
-use Rattle.rv_parse_laws.specs.Wrong.{IsWrongFirst, IsWrongInside, IsRefused, IsRefusedCall, IsWrongFunction, IsWrongArgument, EndsArgument, IsWrongCall, function_next, IsWrongApplied, IsWrongPlain, IsWrongValue, EndsValue, IsWrongBase, IsWrongOffset, IsWrongAddress}
-use Rattle.rv_parse_laws.specs.Parsing.{◌>>=◌, seen_as, taken, value_at, allowed, single_at, label_at, argument_at, enclosed_at, called_at, named_at, applied_at, value_in, base_at, base_next, offset_at, operand_at}
-use Rattle.rv_parse_laws.proofs.Steps.{bind_ok, seen_ok, taken_ok, bind_err, seen_err, taken_err}
-use Rattle.rv_parse_laws.proofs.Failing.{heads, tails, never, wrongs}
+use Rattle.rv_parse_laws.specs.Wrong.{IsWrongFirst, IsWrongInside, IsRefused, IsRefusedCall, IsWrongArgument, EndsArgument, IsWrongCall, IsWrongApplied, IsWrongPlain, IsWrongValue, EndsValue, IsWrongBase, IsWrongAddress}
+use Rattle.rv_parse_laws.specs.Parsing.{◌>>=◌, seen_as, value_at, allowed, single_at, label_at, argument_at, enclosed_at, called_at, named_at, applied_at, value_in, base_at, base_next, offset_at, operand_at}
+use Rattle.rv_parse_laws.proofs.Steps.{bind_ok, seen_ok, bind_err, seen_err, taken_err}
+use Rattle.rv_parse_laws.proofs.Failing.{heads, tails, wrongs}
 use Rattle.rv_parse_laws.proofs.Singles.{single_err, single_fault, single_found, single_passed}
 use Rattle.rv_parse_laws.proofs.Values.{value_before, value_some, is_allowed, allowed_ok, allowed_err, value_ended, and_false, no_percent}
 use Rattle.rv_parse_laws.proofs.Arguments.{applied_is, argument_found, value_found, enclosed_is, opening_single, closing_single, function_no_last, percent_no_last}

@@ -1,11 +1,11 @@
 -- Operands that are spelled right and are refused for what they say: a fault of content, at the operand's first token.
 
-use Rattle.std.specs.Prelude.{ℕ, Bool, true, false, nat_lt, List, length, Option, Some, None, codes, if◌then◌else◌}
+use Rattle.std.specs.Prelude.{ℕ, Bool, true, false, nat_lt, length, Option, Some, None, codes, if◌then◌else◌}
 use Rattle.std.specs.List.{list_all}
 use Rattle.std.specs.Str.{bytes_eq}
 use Rattle.rv_text_laws.specs.Codes.{unsupported_here, limit}
 use Rattle.rv_text_laws.specs.SyntaxError.{longest_name}
-use Rattle.rv_statement.specs.Statement.{Expression, Operand, Applied, Target, Word, Quoted}
+use Rattle.rv_statement.specs.Statement.{Operand, Applied, Target, Word, Quoted}
 use Rattle.rv_parse_laws.specs.Words.{is_among, section_types}
 use Rattle.rv_parse_laws.specs.Syntax.{Slot, A_value, A_section, Some_flags, A_type, is_flag, is_number, is_refused_by}
 use Rattle.rv_parse_laws.specs.Faults.{wrong_letters}

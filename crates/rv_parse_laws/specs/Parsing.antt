@@ -1,7 +1,7 @@
 -- Parts of statements at the front of a list of tokens, as functions: what stands there and the tokens after it, or the
 -- first token that is wrong there, with its code.
 
-use Rattle.std.specs.Prelude.{ℕ, zero, suc, ◌+◌, Bool, false, ◌&&◌, not, nat_lt, List, [], ◌∷◌, ◌++◌, length, Option, Some, None, is_some, option_map, unwrap_or, Result, Ok, Err, if◌then◌else◌}
+use Rattle.std.specs.Prelude.{ℕ, zero, suc, ◌+◌, Bool, false, ◌&&◌, not, nat_lt, List, [], ◌∷◌, ◌++◌, length, Option, Some, None, option_map, unwrap_or, Result, Ok, Err, if◌then◌else◌}
 use Rattle.rv_text_laws.specs.Grammar.{Kind}
 use Rattle.rv_text_laws.specs.Lexing.{Token}
 use Rattle.rv_text_laws.specs.Codes.{unsupported_here, limit}
@@ -10,7 +10,7 @@ use Rattle.rv_text_laws.specs.Joined.{bytes_of, joined_at}
 use Rattle.rv_text_laws.specs.Expression.{tree_of}
 use Rattle.rv_text_laws.specs.ExpressionAt.{expression_at}
 use Rattle.rv_statement.specs.Statement.{Expression, Operand, Value, Applied, Target, Word, StatementKind, Instruction, Directs}
-use Rattle.rv_parse_laws.specs.Syntax.{is_register, symbol_of, label_of, begins, is_comma, is_percent, is_end, is_opening, is_any, is_section_name, valued, is_refused, function_in, label_named, is_refused_by, Slot, A_register, A_value, A_target, An_address, A_callee, A_section, Some_flags, At_sign, A_plt, A_comma, A_closing, An_opening, single, front_begins, Slots, Stops, Takes, Chooses, Locates, Lists, Anything, slots, places, directed, colon_next, Part, Ends, Says}
+use Rattle.rv_parse_laws.specs.Syntax.{is_register, label_of, begins, is_comma, is_percent, is_end, is_any, is_section_name, valued, is_refused, function_in, label_named, is_refused_by, Slot, A_register, A_value, A_target, An_address, A_callee, A_section, Some_flags, At_sign, A_plt, A_comma, A_closing, An_opening, single, front_begins, Slots, Stops, Takes, Chooses, Locates, Lists, Anything, slots, places, directed, colon_next, Part, Ends, Says}
 pub use Rattle.rv_parse_laws.specs.Syntax.{base_next, plt_next}
 use Rattle.rv_parse_laws.specs.Faults.{may_call, wrong_function, wrong_symbol, wrong_first, wrong_after, wrong_any, wrong_start, wrong_label}
 use Rattle.rv_parse_laws.specs.Opening.{flags_fault, type_fault, is_section}

@@ -19,7 +19,8 @@ longest_line = 65535
 abbrev pub most_statements : ℕ
 most_statements = 2 ^ 22
 
--- the byte at this place is past its line's limit: it is no line feed, and neither are the bytes of a longest line before it
+-- the byte at this place is past its line's limit: it is no line feed, and as many bytes as the longest line has stand
+-- before it on its line
 pub record IsPastLine (bytes : List ℕ) (place : ℕ) : Type 0 where
   pub front : List ℕ
   pub line : List ℕ
@@ -46,13 +47,13 @@ said (p ∷ ps) = told p.kind p.text ++ said ps
 abbrev pub AreParts : List Token → List (Piece Part Token) → List Token → Type 0
 AreParts ts ps rest = Cuts Part Token IsPart StopsPart ts ps rest
 
--- at the front of the tokens, behind these statements, no opening of a section is wrong
+-- at the front of the tokens, after these statements, no opening of a section is wrong
 abbrev pub OpensWell : List Statement → List Token → Type 0
 OpensWell ss ts =
     (before : List Token) (at : Token) (more : List Token) (code : ℕ) → ts ≡ before ++ at ∷ more →
     IsWrongOpening ss before at code → ⊥
 
--- nor is one at the front of any of these parts, behind these statements and before the rest
+-- nor is one at the front of any of these parts, after these statements and before the rest
 abbrev pub AllOpenWell : List Statement → List (Piece Part Token) → List Token → Type 0
 AllOpenWell ss [] rest = Unit {0}
 AllOpenWell ss (p ∷ ps) rest =

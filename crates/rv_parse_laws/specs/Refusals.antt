@@ -1,10 +1,10 @@
 -- The first fault of a source.
 
-use Rattle.std.specs.Prelude.{◌≡◌, ℕ, ◌+◌, ◌<◌, ◌≤◌, Bool, true, false, List, [], ◌∷◌, ◌++◌, length, take, Err, ◌⊎◌}
+use Rattle.std.specs.Prelude.{◌≡◌, ℕ, ◌+◌, ◌<◌, ◌≤◌, Bool, true, false, List, [], ◌∷◌, ◌++◌, length, take, ◌⊎◌}
 use Rattle.rv_text_laws.specs.Cut.{Piece, NothingReads}
 use Rattle.rv_text_laws.specs.Lexing.{Token, Lexes, newlines}
 use Rattle.rv_text_laws.specs.Codes.{limit}
-use Rattle.rv_text_laws.specs.SyntaxError.{wrong, offset_of}
+use Rattle.rv_text_laws.specs.SyntaxError.{offset_of}
 use Rattle.rv_statement.specs.Statement.{Label, Numbered}
 use Rattle.rv_parse_laws.specs.Syntax.{Part, Says, IsPart, StopsPart, is_end, colon_next}
 use Rattle.rv_parse_laws.specs.Opening.{IsWrongOpening}
@@ -50,7 +50,7 @@ pub record WrongToken (bytes : List ℕ) (place code : ℕ) : Type 0 where
   pub fault_is : IsWrongStatement rest shown code
   pub place_is : place ≡ offset_of shown code
 
--- a token with which the opening of a section is wrong, behind good parts
+-- a token with which the opening of a section is wrong, after good parts
 pub record WrongOpening (bytes : List ℕ) (place code : ℕ) : Type 0 where
   pub tokens : List Token
   pub lexes : Lexes bytes tokens

@@ -1,6 +1,6 @@
--- The token that is wrong at the front of tokens, and its code, by the slots that a statement awaits: tokens before it fill
--- the slots before, this slot is next, and the token cannot stand there. The code is by slot and token. What is spelled
--- right and refused is wrong at its first token.
+-- The token that is wrong at the front of tokens, and its code, by the slots that a statement awaits: tokens before it
+-- fill the slots before, this slot is next, and the token cannot stand there. The code is by slot and token. What is
+-- spelled right and refused is wrong at its first token.
 
 use Rattle.std.specs.Prelude.{◌≡◌, ℕ, zero, suc, ◌<◌, ◌≤◌, Bool, true, false, ◌&&◌, List, [], ◌∷◌, ◌++◌, length, Some, None, ◌⊎◌}
 use Rattle.std.specs.List.{list_all}
@@ -17,7 +17,7 @@ use Rattle.rv_parse_laws.specs.declared.role.Role.{Role}
 use Rattle.rv_parse_laws.specs.declared.role.Role.TheVariants as roles
 use Rattle.rv_parse_laws.specs.declared.beginning.Beginning.{Beginning}
 use Rattle.rv_parse_laws.specs.declared.beginning.Beginning.TheVariants as beginnings
-use Rattle.rv_parse_laws.specs.Syntax.{is_register, register_of, label_of, begins, is_comma, is_percent, is_end, is_opening, is_closing, is_any, is_section_name, valued, function_in, label_named, IsValue, IsArgument, IsValueIn, IsLinked, IsOperand, Slot, A_register, A_value, A_target, An_address, A_callee, A_section, A_plt, A_comma, A_closing, An_opening, single, front_begins, base_next, plt_next, Slots, Stops, Takes, Chooses, Locates, Lists, Anything, slots, places, colon_next}
+use Rattle.rv_parse_laws.specs.Syntax.{is_register, register_of, label_of, begins, is_comma, is_percent, is_end, is_opening, is_closing, is_any, is_section_name, valued, function_in, label_named, IsValue, IsArgument, IsValueIn, IsLinked, IsOperand, Slot, A_register, A_value, A_target, An_address, A_callee, A_section, A_plt, A_closing, An_opening, single, front_begins, base_next, plt_next, Slots, Stops, Takes, Chooses, Locates, Lists, Anything, slots, places, colon_next}
 use Rattle.rv_parse_laws.specs.Content.{content_fault}
 use Rattle.rv_parse_laws.specs.Faults.{may_call, is_name, wrong_or, wrong_symbol, wrong_first, wrong_after, wrong_any, wrong_start, wrong_label}
 
@@ -34,15 +34,16 @@ IsWrongInside ts t code =
 -- a whole expression stands at the front, and is refused for what it says
 abbrev pub IsRefused : Role → List Token → ℕ → Type 0
 IsRefused role ts code =
-    (one rest : List Token) × (e : Expression) × (ts ≡ one ++ rest) × IsValue one e
-    × EndsBefore rest
+    (one rest : List Token) × (e : Expression) × (ts ≡ one ++ rest)
+    × IsValue one e × EndsBefore rest
     × (content_fault true (A_value role) (valued role e) ≡ Some code)
 
 -- after the `%` p no function stands that may stand there; if it is a name, it is wrong at the `%`
 abbrev pub IsWrongFunction : Role → Token → List Token → Token → ℕ → Type 0
 IsWrongFunction role p ts t code =
     (n : Token) × (us : List Token) × (ts ≡ n ∷ us) × (function_in role n.kind ≡ None)
-    × (((is_name n.kind ≡ true) × (t ≡ p) × (code ≡ bad_operands)) ⊎ ((is_name n.kind ≡ false) × (t ≡ n) × (code ≡ wrong_or n.kind bad_operands)))
+    × (((is_name n.kind ≡ true) × (t ≡ p) × (code ≡ bad_operands))
+    ⊎ ((is_name n.kind ≡ false) × (t ≡ n) × (code ≡ wrong_or n.kind bad_operands)))
 
 -- the argument of a function
 abbrev pub IsWrongArgument : Function → List Token → Token → ℕ → Type 0
@@ -55,32 +56,33 @@ abbrev pub EndsArgument : Function → List Token → Type 0
 EndsArgument PcrelLo rest = Unit {0}
 EndsArgument f rest = EndsBefore rest
 
--- behind the word of a function: an argument in parentheses
+-- after the word of a function: an argument in parentheses
 abbrev pub IsWrongCall : Function → List Token → Token → ℕ → Type 0
 IsWrongCall f ts t code =
     IsWrongFirst (An_opening A_register) ts t code
     ⊎ ((q : Token) × (us : List Token) × (ts ≡ q ∷ us) × (is_opening q.kind ≡ true)
     × (IsWrongArgument f us t code
-    ⊎ ((one rest : List Token) × (e : Expression) × (us ≡ one ++ rest) × IsArgument f one e × EndsArgument f rest × IsWrongFirst A_closing rest t code)))
+    ⊎ ((one rest : List Token) × (e : Expression) × (us ≡ one ++ rest)
+    × IsArgument f one e × EndsArgument f rest × IsWrongFirst A_closing rest t code)))
 
 -- a whole argument in parentheses, which is refused for what it says
 abbrev pub IsRefusedCall : Role → Function → List Token → ℕ → Type 0
 IsRefusedCall role f ts code =
     (q : Token) × (one : List Token) × (c : Token) × (rest : List Token) × (e : Expression)
-    × (ts ≡ q ∷ (one ++ c ∷ rest)) × (is_opening q.kind ≡ true)
-    × IsArgument f one e × (is_closing c.kind ≡ true)
-    × (content_fault true (A_value role) (Applied f e) ≡ Some code)
+    × (ts ≡ q ∷ (one ++ c ∷ rest)) × (is_opening q.kind ≡ true) × IsArgument f one e
+    × (is_closing c.kind ≡ true) × (content_fault true (A_value role) (Applied f e) ≡ Some code)
 
 -- a function comes next, where one may stand
 abbrev pub function_next : Role → List Token → Bool
 function_next role [] = false
 function_next role (t ∷ ts) = may_call role && is_percent t.kind
 
--- a function of a value, behind its `%` p
+-- a function of a value, after its `%` p
 abbrev pub IsWrongApplied : Role → Token → List Token → Token → ℕ → Type 0
 IsWrongApplied role p ts t code =
     IsWrongFunction role p ts t code
-    ⊎ ((n : Token) × (us : List Token) × (f : Function) × (ts ≡ n ∷ us) × (function_in role n.kind ≡ Some f)
+    ⊎ ((n : Token) × (us : List Token) × (f : Function)
+    × (ts ≡ n ∷ us) × (function_in role n.kind ≡ Some f)
     × (IsWrongCall f us t code ⊎ ((t ≡ p) × IsRefusedCall role f us code)))
 
 -- an expression in its place
@@ -88,6 +90,7 @@ abbrev pub IsWrongPlain : Role → List Token → Token → ℕ → Type 0
 IsWrongPlain role ts t code =
     IsWrongInside ts t code ⊎ ((us : List Token) × (ts ≡ t ∷ us) × IsRefused role ts code)
 
+-- a function, or an expression
 abbrev pub IsWrongValue : Role → List Token → Token → ℕ → Type 0
 IsWrongValue role ts t code =
     ((function_next role ts ≡ true)
@@ -105,13 +108,15 @@ IsWrongBase ts t code =
     IsWrongFirst (An_opening A_register) ts t code
     ⊎ ((o : Token) × (us : List Token) × (ts ≡ o ∷ us) × (is_opening o.kind ≡ true)
     × (IsWrongFirst A_register us t code
-    ⊎ ((r : Token) × (vs : List Token) × (number : ℕ) × (us ≡ r ∷ vs) × (register_of r.kind ≡ Some number) × IsWrongFirst A_closing vs t code)))
+    ⊎ ((r : Token) × (vs : List Token) × (number : ℕ) × (us ≡ r ∷ vs)
+    × (register_of r.kind ≡ Some number) × IsWrongFirst A_closing vs t code)))
 
 -- an expression, or a function of one, and then a register in parentheses
 abbrev pub IsWrongOffset : List Token → Token → ℕ → Type 0
 IsWrongOffset ts t code =
     IsWrongValue roles.Operand ts t code
-    ⊎ ((one rest : List Token) × (o : Operand) × (ts ≡ one ++ rest) × IsValueIn roles.Operand one o × EndsValue o rest × IsWrongBase rest t code)
+    ⊎ ((one rest : List Token) × (o : Operand) × (ts ≡ one ++ rest)
+    × IsValueIn roles.Operand one o × EndsValue o rest × IsWrongBase rest t code)
 
 -- an address: a register in parentheses, where the first two tokens are `(` and a register; else with an offset
 abbrev pub IsWrongAddress : List Token → Token → ℕ → Type 0
@@ -126,19 +131,18 @@ IsWrongCallee ts t code =
     × ((f a : Token) × (us : List Token) × (ts ≡ f ∷ a ∷ us) × IsWrongFirst A_plt us t code))
     ⊎ ((plt_next ts ≡ false) × IsWrongValue roles.Target ts t code)
 
--- a target comes next: an expression that no `(` stands behind
+-- a target comes next: an expression after which no `(` stands
 abbrev pub IsTargetNext : List Token → Type 0
 IsTargetNext ts =
-    (one rest : List Token) × (e : Expression) × (ts ≡ one ++ rest) × IsValue one e
-    × EndsBefore rest × (front_begins (An_opening A_register) rest ≡ false)
+    (one rest : List Token) × (e : Expression) × (ts ≡ one ++ rest)
+    × IsValue one e × EndsBefore rest × (front_begins (An_opening A_register) rest ≡ false)
 
 -- the token with which the name of a section becomes too long
 abbrev pub IsLongName : List Token → Token → Type 0
 IsLongName ts t =
     (front more : List Token) × (name longer : List ℕ) × (ts ≡ front ++ t ∷ more)
-    × ((front ≡ []) ⊎ IsJoined front name)
-    × (length name ≤ longest_name) × IsJoined (front ++ t ∷ []) longer
-    × (longest_name < length longer)
+    × ((front ≡ []) ⊎ IsJoined front name) × (length name ≤ longest_name)
+    × IsJoined (front ++ t ∷ []) longer × (longest_name < length longer)
 
 -- a section's name: none, one that is too long, or one that is refused
 abbrev pub IsWrongSection : List Token → Token → ℕ → Type 0
@@ -146,7 +150,8 @@ IsWrongSection ts t code =
     ((us : List Token) × (ts ≡ t ∷ us) × (first_name t.kind ≡ None)
     × (code ≡ wrong_first A_section t.kind))
     ⊎ (IsLongName ts t × (code ≡ limit))
-    ⊎ ((us : List Token) × (name : List ℕ) × (rest : List Token) × (ts ≡ t ∷ us) × ReadsJoined ts name rest
+    ⊎ ((us : List Token) × (name : List ℕ) × (rest : List Token)
+    × (ts ≡ t ∷ us) × ReadsJoined ts name rest
     × (content_fault true A_section (Word name) ≡ Some code))
 
 -- what stands in a slot
@@ -157,35 +162,36 @@ IsWrongOperand A_callee ts t code = IsWrongCallee ts t code
 IsWrongOperand A_section ts t code = IsWrongSection ts t code
 IsWrongOperand s ts t code = IsWrongFirst s ts t code
 
--- these tokens, before the rest, are what stands in a slot, as long as it can be
+-- these tokens are what stands in a slot, and end before the rest
 abbrev pub Passes : Slot → List Token → List Token → Type 0
 Passes (A_value role) one rest = (o : Operand) × IsValueIn role one o × EndsValue o rest
 Passes A_callee one rest =
     ((o : Operand) × IsValueIn roles.Target one o × EndsValue o rest
-    × (plt_next (one ++ rest) ≡ false)) ⊎ ((os : List Operand) × IsLinked one os)
+    × (plt_next (one ++ rest) ≡ false))
+    ⊎ ((os : List Operand) × IsLinked one os)
 Passes A_section one rest =
     (name : List ℕ) × IsJoined one name × (is_section_name name ≡ true)
     × ((t : Token) (us : List Token) (longer : List ℕ) → rest ≡ t ∷ us → IsJoined (one ++ t ∷ []) longer → ⊥)
 Passes s one rest = (os : List Operand) × IsOperand s one os
 
--- what stands in a slot is wrong, or what W says behind it
+-- what stands in a slot is wrong, or W says what is after it
 abbrev pub IsWrongTaken : Slot → (List Token → Token → ℕ → Type 0) → List Token → Token → ℕ → Type 0
 IsWrongTaken s W ts t code =
     IsWrongOperand s ts t code
     ⊎ ((one rest : List Token) × (ts ≡ one ++ rest) × Passes s one rest × W rest t code)
 
--- behind what stands in a slot the statement does not end
+-- after what stands in a slot the statement does not end
 abbrev pub IsNoEnd : Slot → List Token → Token → ℕ → Type 0
 IsNoEnd s ts t code =
     (us : List Token) × (ts ≡ t ∷ us) × (is_end t.kind ≡ false) × (code ≡ wrong_after s t.kind)
 
--- behind an item neither a comma nor the end stands, or behind a comma what W says
+-- after an item neither a comma nor the end stands, or W says what is after the comma
 abbrev pub IsWrongNext : Slot → (List Token → Token → ℕ → Type 0) → List Token → Token → ℕ → Type 0
 IsWrongNext s W ts t code =
     ((c : Token) × (us : List Token) × (ts ≡ c ∷ us) × (is_comma c.kind ≡ true) × W us t code)
     ⊎ ((is_comma t.kind ≡ false) × IsNoEnd s ts t code)
 
--- of items, the one after so many others
+-- of n items with commas between, the last, or what is after it
 abbrev pub IsWrongItem : ℕ → Slot → List Token → Token → ℕ → Type 0
 IsWrongItem zero s ts t code = ⊥
 IsWrongItem (suc n) s ts t code =
@@ -200,7 +206,7 @@ IsWrongAny ts t code =
 
 -- the operands of a statement
 abbrev pub IsWrongIn : Slots → List Token → Token → ℕ → Type 0
-IsWrongIn (Stops behind) ts t code = IsNoEnd behind ts t code
+IsWrongIn (Stops slot) ts t code = IsNoEnd slot ts t code
 IsWrongIn (Takes s rest) ts t code = IsWrongTaken s (λ us u d. IsWrongIn rest us u d) ts t code
 IsWrongIn (Chooses s rest others) ts t code =
     ((front_begins s ts ≡ true) × IsWrongTaken s (λ us u d. IsWrongIn rest us u d) ts t code)
@@ -211,16 +217,16 @@ IsWrongIn (Locates rest) ts t code =
 IsWrongIn (Lists item) ts t code = (n : ℕ) × IsWrongItem n item ts t code
 IsWrongIn Anything ts t code = IsWrongAny ts t code
 
--- a statement behind its first token
-abbrev pub IsWrongBehind : Beginning → Token → List Token → Token → ℕ → Type 0
-IsWrongBehind (beginnings.Instruction mnemonic) first ts t code =
+-- a statement after its first token
+abbrev pub IsWrongAfter : Beginning → Token → List Token → Token → ℕ → Type 0
+IsWrongAfter (beginnings.Instruction mnemonic) first ts t code =
     IsWrongIn (slots mnemonic) ts t code
-IsWrongBehind (beginnings.Directive word) first ts t code = IsWrongIn (places word) ts t code
-IsWrongBehind beginnings.Nothing first ts t code = (t ≡ first) × (code ≡ wrong_start first.kind)
+IsWrongAfter (beginnings.Directive word) first ts t code = IsWrongIn (places word) ts t code
+IsWrongAfter beginnings.Nothing first ts t code = (t ≡ first) × (code ≡ wrong_start first.kind)
 
--- a statement: a label, where a colon stands behind the first token; else a word and its operands
+-- a statement: a label, where a colon stands after the first token; else a word and its operands
 abbrev pub IsWrongStatement : List Token → Token → ℕ → Type 0
 IsWrongStatement ts t code =
     (first : Token) × (us : List Token) × (ts ≡ first ∷ us) × (is_end first.kind ≡ false)
     × (((colon_next us ≡ true) × (label_of first.kind ≡ None) × (t ≡ first) × (code ≡ wrong_label first.kind))
-    ⊎ ((colon_next us ≡ false) × IsWrongBehind (begins first.kind) first us t code))
+    ⊎ ((colon_next us ≡ false) × IsWrongAfter (begins first.kind) first us t code))
