@@ -195,7 +195,7 @@ fn number(command: &mut Command<'_>, read: Option<u64>, wanted: &str) -> Result<
 }
 
 /// A number below 2^64 in digits of a radix alone, one at least.
-fn number(text: &str, radix: u32) -> Option<u64>
+fn in_radix(text: &str, radix: u32) -> Option<u64>
     requires { (2 ≤ radix) × (radix ≤ 36) }
     ensures some { IfSome result (λ n. IsNumber radix text.now n) }
     ensures none { IfNone result ((n : ℕ) → IsNumber radix text.now n → ⊥) }
@@ -211,7 +211,7 @@ pub fn decimal(text: &str) -> Option<u64>
     ensures some { IfSome result (λ n. IsNumber 10 text.now n) }
     ensures none { IfNone result ((n : ℕ) → IsNumber 10 text.now n → ⊥) }
 {
-    number(text, 10)
+    in_radix(text, 10)
 }
 
 /// A number below 2^64, decimal or `0x` with hexadecimal digits of either case.
@@ -220,7 +220,7 @@ pub fn text_start(text: &str) -> Option<u64>
     ensures none { IfNone result ((n : ℕ) → IsStart text.now n → ⊥) }
 {
     match text.strip_prefix("0x") {
-        Some(digits) => number(digits, 16),
+        Some(digits) => in_radix(digits, 16),
         None => decimal(text),
     }
 }
