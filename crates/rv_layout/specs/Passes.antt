@@ -34,10 +34,12 @@ pub record IsTable (items : List Item) (i : ℕ) (sizes stands : List ℕ) : Typ
 
 -- the bytes of each section before statement i, and from it on
 abbrev pub AreStarts : List Item → ℕ → List ℕ → List ℕ → Type 0
-AreStarts items i sizes ends = (s : ℕ) → s < length ends → slice_index ends s ≡ offset (of_section s items sizes) i
+AreStarts items i sizes ends =
+    (s : ℕ) → s < length ends → slice_index ends s ≡ offset (of_section s items sizes) i
 
 abbrev pub AreRests : List Item → ℕ → List ℕ → List ℕ → Type 0
-AreRests items i sizes ends = (s : ℕ) → s < length ends → slice_index ends s ≡ rest (of_section s items sizes) i
+AreRests items i sizes ends =
+    (s : ℕ) → s < length ends → slice_index ends s ≡ rest (of_section s items sizes) i
 
 -- at a distance a size stays where it is the largest or reaches, and else is doubled
 abbrev pub IsJudged : Item → ℤ → (size wider : ℕ) → Type 0
@@ -47,9 +49,12 @@ IsJudged item away size wider =
 
 -- a statement's size stands
 abbrev pub Stays : List Item → List ℕ → ℕ → Type 0
-Stays items sizes i = slice_index sizes i < largest (item_at items i).forms → ReachesBy items sizes i (slice_index sizes i)
+Stays items sizes i =
+    slice_index sizes i < largest (item_at items i).forms → ReachesBy items sizes i (slice_index sizes i)
 
 -- what looking at statement i does, and tells
 abbrev pub IsVisit : List Item → ℕ → (old new : List ℕ) → Bool → Type 0
 IsVisit items i old new widened =
-    MatchBool widened ((wider : ℕ) × (MayWiden items old i wider × (new ≡ set old i wider))) ((new ≡ old) × Stays items old i)
+    MatchBool widened
+    ((wider : ℕ) × (MayWiden items old i wider × (new ≡ set old i wider)))
+    ((new ≡ old) × Stays items old i)
