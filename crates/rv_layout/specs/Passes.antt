@@ -58,5 +58,6 @@ Stays items sizes i =
 -- what looking at statement i does, and tells
 abbrev pub IsVisit : List Item → ℕ → (old new : List ℕ) → Bool → Type 0
 IsVisit items i old new widened =
-    MatchBool widened ((wider : ℕ) × (MayWiden items old i wider × (new ≡ set old i wider)))
+    MatchBool widened
+    ((wider : ℕ) × (MayWiden items old i wider × (new ≡ set old i wider)))
     ((new ≡ old) × Stays items old i)

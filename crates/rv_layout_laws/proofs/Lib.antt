@@ -3,3 +3,4 @@ pub mod Widening
 pub mod Dropping
 pub mod Shortening
 pub mod Regrowing
+pub mod Worked

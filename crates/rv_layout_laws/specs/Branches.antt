@@ -66,8 +66,8 @@ pub record IsFamily (items : List Item) (sizes : List ℕ) : Type 0 where
 -- each form below the statement's largest reaches; the largest is taken without a test
 pub record IsGood (items : List Item) (sizes : List ℕ) : Type 0 where
   pub family : IsFamily items sizes
-  pub reaching : (i : ℕ) → slice_index sizes i < largest (item_at items i).forms →
-      ReachesBy items sizes i (slice_index sizes i)
+  pub reaching : (i : ℕ) → slice_index sizes i < largest (item_at items i).forms
+      → ReachesBy items sizes i (slice_index sizes i)
 
 pub record IsLeastGood (items : List Item) (sizes : List ℕ) : Type 0 where
   pub good : IsGood items sizes
@@ -81,7 +81,8 @@ pub record MayWiden (items : List Item) (sizes : List ℕ) (i wider : ℕ) : Typ
   pub grows : slice_index sizes i < wider
   pub offered : Offers (item_at items i).forms wider
   pub short : (size : ℕ) → Offers (item_at items i).forms size → slice_index sizes i ≤ size →
-      size < wider → ReachesBy items sizes i size → ⊥
+      size < wider
+      → ReachesBy items sizes i size → ⊥
 
 -- sizes that come from others by so many widenings, one after the other, in any order
 pub data Widenings (items : List Item) (from : List ℕ) : List ℕ → ℕ → Type 0 where

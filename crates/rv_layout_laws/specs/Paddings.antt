@@ -20,8 +20,7 @@ IsLaid (Padding padding) sized start kept = IsLeastPadding padding.alignment sta
 -- the text after relaxation
 pub record IsPadded (sites : List Site) (sized kept : List ℕ) : Type 0 where
   pub same_length : length kept ≡ length sites
-  pub laid : (i : ℕ) →
-      let site = site_at sites i in
+  pub laid : (i : ℕ) → let site = site_at sites i in
       IsLaid site.kind (slice_index sized i) (new_offset sites kept site.offset)
       (slice_index kept i)
 
@@ -37,9 +36,8 @@ pub record Regrows (sites : List Site) (sized kept : List ℕ) : Type 0 where
 
 -- each shortened call reaches
 abbrev pub AllReach : List Site → List ℕ → Type 0
-AllReach sites kept =
-    (i : ℕ) → IsTrue (is_call (site_at sites i).kind) → slice_index kept i < 8 →
-    ReachesBy sites kept i (slice_index kept i)
+AllReach sites kept = (i : ℕ) → IsTrue (is_call (site_at sites i).kind) → slice_index kept i < 8
+    → ReachesBy sites kept i (slice_index kept i)
 
 -- a padding is for an even alignment, and as it stands it has one alignment's bytes but 2: enough from any even offset
 abbrev pub IsFullPadding : SiteKind → Type 0

@@ -1,4 +1,4 @@
-use Rattle.std.proofs.Common.{ℕ, ◌<◌, length}
+use Rattle.std.proofs.Common.{ℕ, ◌<◌}
 use Rattle.rv_layout_laws.specs.Branches.{item_at}
 use Rattle.rv_layout.specs.Passes.{IsWithin}
 use Rattle.rv_layout.proofs.input.is_input.Given as goal
