@@ -1,0 +1,2 @@
+pub mod Li
+pub mod Runs
