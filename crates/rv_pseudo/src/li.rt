@@ -14,7 +14,7 @@ use arrayvec::ArrayVec;
 use rv_isa::{IType, Inst, Reg, Shift, UType};
 
 /// A number as a multiple of 4096, counted in 4096, and what is left of it: -2048 to 2047.
-fn halves(value: i64) -> (i64, i32)
+pub(crate) fn halves(value: i64) -> (i64, i32)
     ensures hi { result.0 ≡ hi value }
     ensures lo { result.1 ≡ lo value }
     ensures range { IsSigned12 result.1 }
@@ -40,7 +40,7 @@ fn push_unless_zero(sequence: &mut ArrayVec<Inst, 8>, number: i32, inst: Inst)
 }
 
 /// Whether a number has 12 bits in two's complement.
-fn is_short(value: i64) -> bool
+pub(crate) fn is_short(value: i64) -> bool
     ensures { result ≡ is_signed 12 value }
 {
     -2048 <= value && value < 2048
