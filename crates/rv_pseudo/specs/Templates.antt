@@ -2,7 +2,7 @@
 -- "pseudoinstructions"; RISC-V ELF psABI, "Procedure Calls", "PC-Relative Addresses"; GNU as, "RISC-V-Modifiers"). A field
 -- that a relocation will fill holds 0.
 
-use Rattle.std.specs.Prelude.{◌≡◌, ℕ, ◌-◌, ◌^◌, ℤ, pos, negsuc, Bool, true, false, not, ◌&&◌, ◌||◌, ◌==◌, int_le, int_lt, nat_lt, if◌then◌else◌, unsigned_abs, List, [], ◌∷◌, map, Option, Some, None, Result, Ok, Err, is_some}
+use Rattle.std.specs.Prelude.{◌≡◌, ℕ, ◌^◌, ℤ, pos, negsuc, Bool, true, false, not, ◌&&◌, ◌||◌, ◌==◌, int_le, int_lt, if◌then◌else◌, unsigned_abs, List, [], ◌∷◌, map, Option, Some, None, Result, Ok, Err}
 use Rattle.rv_isa.specs.declared.instruction.RType.{RType}
 use Rattle.rv_isa.specs.declared.instruction.IType.{IType}
 use Rattle.rv_isa.specs.declared.instruction.SType.{SType}
