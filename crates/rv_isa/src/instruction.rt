@@ -222,6 +222,17 @@ pub enum Format {
     Ebreak,
 }
 
+/// `nop`, the instruction without effect (ISA, 2.4): what a place of a fixed list holds before it is used.
+impl Default for Inst {
+    fn default() -> Self {
+        Inst::Addi(IType {
+            immediate: 0,
+            rd: Reg::from_low_bits(0),
+            rs1: Reg::from_low_bits(0),
+        })
+    }
+}
+
 impl Inst {
     /// The instruction's format, with its operation and its operands.
     pub fn format(self) -> Format

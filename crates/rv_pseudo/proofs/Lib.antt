@@ -1,0 +1,4 @@
+pub mod Modulo
+pub mod Zeros
+pub mod Sequences
+pub mod InRange

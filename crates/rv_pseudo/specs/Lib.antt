@@ -1,0 +1,3 @@
+pub mod Li
+pub mod Runs
+pub mod Templates

@@ -1,0 +1,191 @@
+//! Statements without an expression.
+
+ghost use Rattle.std.specs.Prelude.{◌≡◌, ◌<◌, [], ◌∷◌, ◌==◌, map};
+ghost use Rattle.rv_isa.specs.Operations.{of_reserve, of_atomic, of_shift};
+ghost use Rattle.rv_isa.specs.Ranges.{shift_limit};
+ghost use Rattle.rv_statement.specs.declared.pseudo.UnaryOperation.TheVariants.{Mv};
+ghost use Rattle.rv_pseudo.specs.Li as li;
+ghost use Rattle.rv_pseudo.specs.Templates as is;
+
+use crate::template::{Templates, one, plain, two};
+use rv_isa::{
+    Atomic, AtomicForm, AtomicOperation, IType, Inst, RType, Reg, Reserve, SType, Shift,
+    ShiftOperation, fence,
+};
+use rv_statement::{CompareOperation, Plain, UnaryOperation};
+
+/// x0, which is always 0.
+pub(crate) fn x0() -> Reg
+    ensures { result ≡ 0 }
+{
+    Reg::from_low_bits(0)
+}
+
+/// x1, where calls leave their return address.
+pub(crate) fn ra() -> Reg
+    ensures { result ≡ 1 }
+{
+    Reg::from_low_bits(1)
+}
+
+/// Whether a register is x0.
+pub(crate) fn is_x0(register: Reg) -> bool
+    ensures { result ≡ (register == 0) }
+{
+    register.number() == 0
+}
+
+/// `jalr rd, immediate(rs1)`
+pub(crate) fn jalr(rd: Reg, rs1: Reg, immediate: i32) -> Inst
+    ensures { result ≡ is.jalr rd rs1 immediate }
+{
+    Inst::Jalr(IType { immediate, rd, rs1 })
+}
+
+/// A load-reserved of four or eight bytes.
+fn load_reserved(form: AtomicForm, rd: Reg, rs1: Reg) -> Inst
+    ensures { result ≡ of_reserve form.double (is.reserve form rd rs1) }
+{
+    let AtomicForm {
+        double,
+        acquire,
+        release,
+    } = form;
+    let x = Reserve {
+        rd,
+        rs1,
+        acquire,
+        release,
+    };
+    x.instruction(double)
+}
+
+/// A store-conditional or an atomic memory operation.
+fn atomic(operation: AtomicOperation, form: AtomicForm, rd: Reg, rs2: Reg, rs1: Reg) -> Inst
+    ensures { result ≡ of_atomic operation form.double (is.atomic form rd rs2 rs1) }
+{
+    let AtomicForm {
+        double,
+        acquire,
+        release,
+    } = form;
+    let x = Atomic {
+        rd,
+        rs1,
+        rs2,
+        acquire,
+        release,
+    };
+    operation.instruction(double, x)
+}
+
+/// `mv`, in the form that has two bytes where compressed code is on.
+fn mv(rvc: bool, rd: Reg, rs: Reg) -> Inst
+    ensures { result ∷ [] ≡ is.unary rvc Mv rd rs }
+{
+    if rvc && !is_x0(rd) && !is_x0(rs) {
+        Inst::Add(r_type(rd, x0(), rs))
+    } else {
+        Inst::Addi(i_type(rd, rs, 0))
+    }
+}
+
+/// A part of a register: shifted to its upper end, and back with its sign or without.
+fn extended(back: ShiftOperation, rd: Reg, rs: Reg, amount: u8) -> Templates
+    requires left { amount < 64 }
+    requires back { amount < shift_limit back }
+    ensures { result.items ≡ is.plain (li.slli rd rs amount) ∷ is.plain (of_shift back (is.shift_by rd rd amount)) ∷ [] }
+{
+    let there = Inst::Slli(Shift {
+        rd,
+        rs1: rs,
+        amount,
+    });
+    let and_back = back.instruction(Shift {
+        rd,
+        rs1: rd,
+        amount,
+    });
+    two(plain(there), plain(and_back))
+}
+
+/// `rd, rs1, immediate`
+fn i_type(rd: Reg, rs1: Reg, immediate: i32) -> IType
+    ensures { result ≡ is.i_type rd rs1 immediate }
+{
+    IType { immediate, rd, rs1 }
+}
+
+/// `rd, rs1, rs2`
+fn r_type(rd: Reg, rs1: Reg, rs2: Reg) -> RType
+    ensures { result ≡ is.r_type rd rs1 rs2 }
+{
+    RType { rd, rs1, rs2 }
+}
+
+/// An operation on one register, as one instruction or as two shifts.
+fn unary(rvc: bool, operation: UnaryOperation, rd: Reg, rs: Reg) -> Templates
+    ensures { result.items ≡ map is.plain (is.unary rvc operation rd rs) }
+{
+    match operation {
+        UnaryOperation::Mv => one(plain(mv(rvc, rd, rs))),
+        UnaryOperation::Not => one(plain(Inst::Xori(i_type(rd, rs, -1)))),
+        UnaryOperation::Neg => one(plain(Inst::Sub(r_type(rd, x0(), rs)))),
+        UnaryOperation::Negw => one(plain(Inst::Subw(r_type(rd, x0(), rs)))),
+        UnaryOperation::SextW => one(plain(Inst::Addiw(i_type(rd, rs, 0)))),
+        UnaryOperation::ZextB => one(plain(Inst::Andi(i_type(rd, rs, 255)))),
+        UnaryOperation::SextB => extended(ShiftOperation::Srai, rd, rs, 56),
+        UnaryOperation::SextH => extended(ShiftOperation::Srai, rd, rs, 48),
+        UnaryOperation::ZextH => extended(ShiftOperation::Srli, rd, rs, 48),
+        UnaryOperation::ZextW => extended(ShiftOperation::Srli, rd, rs, 32),
+        UnaryOperation::Seqz => one(plain(Inst::Sltiu(i_type(rd, rs, 1)))),
+        UnaryOperation::Snez => one(plain(Inst::Sltu(r_type(rd, x0(), rs)))),
+        UnaryOperation::Sltz => one(plain(Inst::Slt(r_type(rd, rs, x0())))),
+        UnaryOperation::Sgtz => one(plain(Inst::Slt(r_type(rd, x0(), rs)))),
+    }
+}
+
+/// A comparison with its sources swapped.
+fn compare(operation: CompareOperation, rd: Reg, rs1: Reg, rs2: Reg) -> Inst
+    ensures { result ≡ is.compare operation rd rs1 rs2 }
+{
+    let swapped = RType {
+        rd,
+        rs1: rs2,
+        rs2: rs1,
+    };
+    match operation {
+        CompareOperation::Sgt => Inst::Slt(swapped),
+        CompareOperation::Sgtu => Inst::Sltu(swapped),
+    }
+}
+
+/// The templates of a statement without an expression.
+pub(crate) fn bare(statement: Plain, rvc: bool) -> Templates
+    ensures { result.items ≡ map is.plain (is.plain_row rvc statement) }
+{
+    let inst = match statement {
+        Plain::Registers(operation, rd, rs1, rs2) => operation.instruction(r_type(rd, rs1, rs2)),
+        Plain::Load(operation, rd, rs1) => operation.instruction(i_type(rd, rs1, 0)),
+        Plain::Store(operation, rs2, rs1) => operation.instruction(SType {
+            immediate: 0,
+            rs1,
+            rs2,
+        }),
+        Plain::Jalr(rd, rs1) => jalr(rd, rs1, 0),
+        Plain::JalrLinked(rs1) => jalr(ra(), rs1, 0),
+        Plain::LoadReserved(form, rd, rs1) => load_reserved(form, rd, rs1),
+        Plain::Atomic(operation, form, rd, rs2, rs1) => atomic(operation, form, rd, rs2, rs1),
+        Plain::Fence => fence(0, 15, 15),
+        Plain::FenceBetween(before, after) => fence(0, before.bits(), after.bits()),
+        Plain::FenceTso => fence(8, 3, 3),
+        Plain::Ecall => Inst::Ecall,
+        Plain::Ebreak => Inst::Ebreak,
+        Plain::Nop => Inst::Addi(i_type(x0(), x0(), 0)),
+        Plain::Unary(operation, rd, rs) => return unary(rvc, operation, rd, rs),
+        Plain::Compare(operation, rd, rs1, rs2) => compare(operation, rd, rs1, rs2),
+        Plain::Jr(rs) => jalr(x0(), rs, 0),
+        Plain::Ret => jalr(x0(), ra(), 0),
+    };
+    one(plain(inst))
+}

@@ -1,0 +1,33 @@
+//! Pseudo-instructions: the base instructions that stand for each statement of code, with the relocations of its operands
+//! that are still open.
+//!
+//! It takes a statement of `rv_statement` and a [`Form`] of it: whether compressed code is on, the bytes of a branch or a
+//! jump, and the value of its expression where that is a constant. It gives [`Template`]s, or the fault of its operands.
+//!
+//! Main contracts: `expansion` answers the row of one table, `specs/Templates`; `li_sequence` answers `li`, of which the
+//! laws `li_sets`, `li_recurs`, `li_shrinks` and `li_valid` say what it does to a hart, how it is made, and that every
+//! operand is in its range. Neither takes memory. It must not know what names mean, where a statement stands, or how an
+//! instruction is written as bits.
+//!
+//! ```text
+//! let sequence = li_sequence(a0, 2048);            // lui a0, 1 and addiw a0, a0, -2048
+//! let form = Form { value: None, bytes: 4, rvc: true };
+//! let templates = expansion(&statement, form)?;    // of `la a0, x`: auipc under PCREL_HI20, addi under PCREL_LO12_I
+//! ```
+//!
+//! Source: RISC-V Assembly Programmer's Manual, "pseudoinstructions" and "Load Immediate".
+#![tactic(auto)]
+
+mod bare;
+mod expanding;
+mod fault;
+mod laws;
+mod li;
+mod number;
+mod target;
+mod template;
+
+pub use expanding::expansion;
+pub use laws::{li_recurs, li_sets, li_shrinks, li_valid};
+pub use li::li_sequence;
+pub use template::{Form, Template};

@@ -1,0 +1,201 @@
+//! Statements with a target: branches, jumps, calls, and addresses of symbols.
+
+ghost use Rattle.std.specs.Prelude.{◌≡◌, [], ◌∷◌};
+ghost use Rattle.rv_isa.specs.Operations.{of_branch};
+ghost use Rattle.rv_isa.specs.Ranges.{IsBranchOffset};
+ghost use Rattle.rv_statement.specs.declared.statement.Operation.TheVariants.{La, LoadSymbol, StoreSymbol};
+ghost use Rattle.rv_pseudo.specs.Templates as is;
+
+use crate::bare::{is_x0, jalr, ra, x0};
+use crate::template::{Template, Templates, one, plain, two, under};
+use arrayvec::ArrayVec;
+use rv_isa::{
+    BType, BranchOperation, IType, Inst, JType, Kind, LoadOperation, Reg, SType, StoreOperation,
+    UType,
+};
+use rv_statement::{Operation, SwappedBranchOperation, ZeroBranchOperation};
+
+/// The branch that is taken where this one is not.
+fn inverted(operation: BranchOperation) -> BranchOperation
+    ensures { result ≡ is.inverted operation }
+{
+    match operation {
+        BranchOperation::Beq => BranchOperation::Bne,
+        BranchOperation::Bne => BranchOperation::Beq,
+        BranchOperation::Blt => BranchOperation::Bge,
+        BranchOperation::Bge => BranchOperation::Blt,
+        BranchOperation::Bltu => BranchOperation::Bgeu,
+        BranchOperation::Bgeu => BranchOperation::Bltu,
+    }
+}
+
+/// `jal rd` to a target that is open.
+fn jal(rd: Reg) -> Inst
+    ensures { result ≡ is.jal rd }
+{
+    Inst::Jal(JType { offset: 0, rd })
+}
+
+/// A branch over `offset` bytes.
+fn branch_over(operation: BranchOperation, rs1: Reg, rs2: Reg, offset: i32) -> Inst
+    requires { IsBranchOffset offset }
+    ensures { result ≡ of_branch operation (is.b_type rs1 rs2 offset) }
+{
+    operation.instruction(BType { offset, rs1, rs2 })
+}
+
+/// A branch of 2, 4 or 8 bytes.
+fn branch(bytes: u8, operation: BranchOperation, rs1: Reg, rs2: Reg) -> Templates
+    ensures { result.items ≡ is.branch bytes operation rs1 rs2 }
+{
+    match bytes {
+        2 => one(under(Kind::RvcBranch, branch_over(operation, rs1, rs2, 0))),
+        8 => two(
+            plain(branch_over(inverted(operation), rs1, rs2, 8)),
+            under(Kind::Jal, jal(x0())),
+        ),
+        _ => one(under(Kind::Branch, branch_over(operation, rs1, rs2, 0))),
+    }
+}
+
+/// A jump of 2 or 4 bytes.
+fn jump(bytes: u8, rd: Reg) -> Templates
+    ensures { result.items ≡ is.jump bytes rd }
+{
+    if is_x0(rd) && bytes == 2 {
+        one(under(Kind::RvcJump, jal(rd)))
+    } else {
+        one(under(Kind::Jal, jal(rd)))
+    }
+}
+
+/// `auipc rd` of a distance that is open.
+fn auipc(rd: Reg) -> Inst
+    ensures { result ≡ is.auipc rd }
+{
+    Inst::Auipc(UType { immediate: 0, rd })
+}
+
+/// The upper part of a distance in a register, and the instruction that takes the rest.
+fn near(rd: Reg, rest: Template) -> Templates
+    ensures { result.items ≡ is.near rd rest }
+{
+    two(under(Kind::PcrelHi20, auipc(rd)), rest)
+}
+
+/// A call through a register.
+fn far(link: Reg, through: Reg) -> Templates
+    ensures { result.items ≡ is.far link through }
+{
+    two(
+        under(Kind::CallPlt, auipc(through)),
+        plain(jalr(link, through, 0)),
+    )
+}
+
+/// The address of a symbol.
+fn address(rd: Reg) -> Templates
+    ensures { result.items ≡ is.targeted 0 (La rd) }
+{
+    let rest = Inst::Addi(IType {
+        immediate: 0,
+        rd,
+        rs1: rd,
+    });
+    near(rd, under(Kind::PcrelLo12I, rest))
+}
+
+/// A load from a symbol.
+fn load_symbol(operation: LoadOperation, rd: Reg) -> Templates
+    ensures { result.items ≡ is.targeted 0 (LoadSymbol operation rd) }
+{
+    let rest = operation.instruction(IType {
+        immediate: 0,
+        rd,
+        rs1: rd,
+    });
+    near(rd, under(Kind::PcrelLo12I, rest))
+}
+
+/// A store to a symbol, whose address goes through `rt`.
+fn store_symbol(operation: StoreOperation, rs2: Reg, rt: Reg) -> Templates
+    ensures { result.items ≡ is.targeted 0 (StoreSymbol operation rs2 rt) }
+{
+    let rest = operation.instruction(SType {
+        immediate: 0,
+        rs1: rt,
+        rs2,
+    });
+    near(rt, under(Kind::PcrelLo12S, rest))
+}
+
+/// A branch where a register compares so with zero.
+fn zero_branch(bytes: u8, operation: ZeroBranchOperation, rs: Reg) -> Templates
+    ensures { result.items ≡ is.zero_branch bytes operation rs }
+{
+    match operation {
+        ZeroBranchOperation::Beqz => branch(bytes, BranchOperation::Beq, rs, x0()),
+        ZeroBranchOperation::Bnez => branch(bytes, BranchOperation::Bne, rs, x0()),
+        ZeroBranchOperation::Bgez => branch(bytes, BranchOperation::Bge, rs, x0()),
+        ZeroBranchOperation::Bltz => branch(bytes, BranchOperation::Blt, rs, x0()),
+        ZeroBranchOperation::Blez => branch(bytes, BranchOperation::Bge, x0(), rs),
+        ZeroBranchOperation::Bgtz => branch(bytes, BranchOperation::Blt, x0(), rs),
+    }
+}
+
+/// A branch with its sources swapped.
+fn swapped_branch(bytes: u8, operation: SwappedBranchOperation, a: Reg, b: Reg) -> Templates
+    ensures { result.items ≡ is.swapped_branch bytes operation a b }
+{
+    let operation = match operation {
+        SwappedBranchOperation::Bgt => BranchOperation::Blt,
+        SwappedBranchOperation::Ble => BranchOperation::Bge,
+        SwappedBranchOperation::Bgtu => BranchOperation::Bltu,
+        SwappedBranchOperation::Bleu => BranchOperation::Bgeu,
+    };
+    branch(bytes, operation, b, a)
+}
+
+/// Whether the expression of an operation is a target, and not a number.
+pub(crate) fn takes_target(operation: &Operation) -> bool
+    ensures { result ≡ is.takes_target operation.now }
+{
+    matches!(
+        operation,
+        Operation::Branch(..)
+            | Operation::ZeroBranch(..)
+            | Operation::SwappedBranch(..)
+            | Operation::Jal(_)
+            | Operation::JalLinked
+            | Operation::J
+            | Operation::La(_)
+            | Operation::LoadSymbol(..)
+            | Operation::StoreSymbol(..)
+            | Operation::Call(_)
+            | Operation::CallLinked
+            | Operation::Tail
+            | Operation::Jump(_)
+    )
+}
+
+/// The templates of a statement with a target that is open.
+pub(crate) fn targeted(bytes: u8, operation: Operation) -> Templates
+    ensures { result.items ≡ is.targeted bytes operation }
+{
+    match operation {
+        Operation::Branch(operation, rs1, rs2) => branch(bytes, operation, rs1, rs2),
+        Operation::ZeroBranch(operation, rs) => zero_branch(bytes, operation, rs),
+        Operation::SwappedBranch(operation, a, b) => swapped_branch(bytes, operation, a, b),
+        Operation::Jal(rd) => jump(bytes, rd),
+        Operation::JalLinked => jump(bytes, ra()),
+        Operation::J => jump(bytes, x0()),
+        Operation::La(rd) => address(rd),
+        Operation::LoadSymbol(operation, rd) => load_symbol(operation, rd),
+        Operation::StoreSymbol(operation, rs2, rt) => store_symbol(operation, rs2, rt),
+        Operation::Call(rd) => far(rd, rd),
+        Operation::CallLinked => far(ra(), ra()),
+        Operation::Tail => far(x0(), Reg::from_low_bits(6)),
+        Operation::Jump(rt) => far(x0(), rt),
+        _ => ArrayVec::new(),
+    }
+}

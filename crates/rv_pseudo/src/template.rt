@@ -1,0 +1,96 @@
+//! What stands for a statement: instructions, with the relocations of the operands that are still open.
+
+ghost use Rattle.std.specs.Prelude.{◌≡◌, [], ◌∷◌, map};
+ghost use Rattle.rv_isa.specs.declared.instruction.Inst.{Inst as Instruction};
+ghost use Rattle.rv_pseudo.specs.Templates as is;
+
+use arrayvec::ArrayVec;
+use rv_isa::{Inst, Kind};
+
+/// How a statement is written: what its templates depend on beside the statement.
+#[derive(Clone, Copy, Debug, PartialEq, Eq, Drop)]
+pub struct Form {
+    /// The value of its expression where that is a constant, before a function of it.
+    pub value: Option<i64>,
+    /// The bytes of a conditional branch (2, 4 or 8) or of `jal x0` (2 or 4); not looked at in others.
+    pub bytes: u8,
+    /// Whether compressed code is on.
+    pub rvc: bool,
+}
+
+/// An instruction of a statement.
+#[derive(Clone, Copy, Debug, PartialEq, Eq, Drop)]
+pub struct Template {
+    pub inst: Inst,
+    /// The relocation of an operand that is still open, whose field in `inst` is 0. That of a call stands at its first
+    /// instruction and fills both.
+    pub reloc: Option<Kind>,
+}
+
+/// What a place of a fixed list holds before it is used.
+impl Default for Template {
+    fn default() -> Self {
+        plain(Inst::default())
+    }
+}
+
+/// The templates of a statement, eight at most.
+pub(crate) type Templates = ArrayVec<Template, 8>;
+
+/// An instruction whose operands are all known.
+pub(crate) fn plain(inst: Inst) -> Template
+    ensures { result ≡ is.plain inst }
+{
+    Template { inst, reloc: None }
+}
+
+/// An instruction with an operand that a relocation will fill.
+pub(crate) fn under(kind: Kind, inst: Inst) -> Template
+    ensures { result ≡ is.under kind inst }
+{
+    Template {
+        inst,
+        reloc: Some(kind),
+    }
+}
+
+/// One template.
+pub(crate) fn one(template: Template) -> Templates
+    ensures { result.items ≡ template ∷ [] }
+{
+    let Template { inst, reloc } = template;
+    with_reloc(inst, reloc)
+}
+
+/// Two templates.
+pub(crate) fn two(first: Template, second: Template) -> Templates
+    ensures { result.items ≡ first ∷ second ∷ [] }
+{
+    let mut templates = one(first);
+    let Template { inst, reloc } = second;
+    templates.push(Template { inst, reloc });
+    templates
+}
+
+/// One instruction with the relocation of its operand, if that is open.
+pub(crate) fn with_reloc(inst: Inst, reloc: Option<Kind>) -> Templates
+    ensures { result.items ≡ is.with_reloc reloc inst }
+{
+    let mut templates = ArrayVec::new();
+    templates.push(Template { inst, reloc });
+    templates
+}
+
+/// Instructions whose operands are all known.
+pub(crate) fn all_plain(sequence: ArrayVec<Inst, 8>) -> Templates
+    ensures { result.items ≡ map is.plain sequence.items }
+{
+    let mut templates = ArrayVec::new();
+    for inst in sequence.as_slice() {
+        templates.push(Template {
+            inst: *inst,
+            reloc: None,
+        });
+    }
+    templates
+}
