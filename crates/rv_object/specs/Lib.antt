@@ -1,0 +1,6 @@
+pub mod Kinds
+pub mod Object
+pub mod Parts
+pub mod Sections
+pub mod Valid
+pub mod View

@@ -1,0 +1,37 @@
+//! Kinds of relocations.
+
+/// What a relocation changes and by what (psABI, "Relocations").
+#[derive(Clone, Copy, Debug, PartialEq, Eq, Drop)]
+pub enum Kind {
+    None,
+    Abs32,
+    Abs64,
+    Branch,
+    Jal,
+    Call,
+    CallPlt,
+    PcrelHi20,
+    PcrelLo12I,
+    PcrelLo12S,
+    Hi20,
+    Lo12I,
+    Lo12S,
+    Add8,
+    Add16,
+    Add32,
+    Add64,
+    Sub8,
+    Sub16,
+    Sub32,
+    Sub64,
+    Align,
+    RvcBranch,
+    RvcJump,
+    Relax,
+    Sub6,
+    Set6,
+    Set8,
+    Set16,
+    Set32,
+    Pcrel32,
+}
