@@ -20,6 +20,7 @@
 #![tactic(auto)]
 
 mod instruction;
+mod kind;
 mod laws;
 mod mnemonics;
 mod operation;
@@ -30,7 +31,8 @@ mod register_names;
 pub use instruction::{
     Atomic, BType, Fence, Format, IType, Inst, JType, RType, Reserve, SType, Shift, UType,
 };
-pub use laws::formats_agree;
+pub use kind::{Kind, kind_of};
+pub use laws::{formats_agree, kinds_agree};
 pub use mnemonics::mnemonic;
 pub use operation::{
     AccessSet, AtomicForm, AtomicOperation, BranchOperation, ImmediateOperation, LoadOperation,

@@ -2,6 +2,8 @@ pub mod Memory
 pub mod Hart
 pub mod Effect
 pub mod Arithmetic
+pub mod Bytes
+pub mod Halves
 pub mod Meaning
 pub mod Kept
 pub mod Reader

@@ -1,8 +1,9 @@
 -- Memory at the start of a source run: what the data statements spell at their rows, and the rights of the regions
 -- (GNU as, "Pseudo Ops", for the data directives).
 
-use Rattle.std.specs.Prelude.{ℕ, zero, suc, ◌+◌, ◌-◌, ◌/◌, ◌%◌, Bool, ◌&&◌, ◌||◌, nat_le, nat_lt, List, [], ◌∷◌, flat_map, replicate, Option, Some, None, slice_index}
+use Rattle.std.specs.Prelude.{ℕ, ◌+◌, ◌-◌, Bool, ◌&&◌, ◌||◌, nat_le, nat_lt, List, [], ◌∷◌, flat_map, replicate, Option, Some, None, slice_index}
 use Rattle.std.specs.List.{find}
+pub use Rattle.rv_isa_laws.specs.Bytes.{little_endian}
 use Rattle.rv_isa_laws.specs.Memory.{Mem, Right, Read, Write, Execute}
 use Rattle.rv_statement.specs.Statement.{StatementKind, Label, Numbered, Instruction, Directs, Expression}
 use Rattle.rv_unit_laws.specs.Contributions.{Contents, Numbers, Texts, Contribution, Nothing, Bytes, Zero_bytes, Alignment, contribution}
@@ -18,11 +19,6 @@ is_within start stop a = nat_le start a && nat_lt a stop
 
 abbrev pub is_in : Region → ℕ → Bool
 is_in region a = is_within region.start region.end a
-
--- a number in `width` bytes, the lowest first, modulo their width
-abbrev pub little_endian : ℕ → ℕ → List ℕ
-little_endian zero n = []
-little_endian (suc width) n = n % 256 ∷ little_endian width (n / 256)
 
 abbrev pub spelled_contents : (Expression → ℕ) → Contents → List ℕ
 spelled_contents v (Numbers width values) = flat_map (λ e. little_endian width (v e)) values

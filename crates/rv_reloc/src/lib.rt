@@ -1,0 +1,5 @@
+#![tactic(auto)]
+
+mod fault;
+
+pub use fault::PatchFault;
