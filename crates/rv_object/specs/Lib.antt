@@ -1,4 +1,3 @@
-pub mod Kinds
 pub mod Object
 pub mod Parts
 pub mod Sections

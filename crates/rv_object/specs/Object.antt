@@ -1,7 +1,7 @@
 -- An object as a plain value (System V gABI, "Sections", "Symbol Table", "Relocation").
 
-use Rattle.std.specs.Prelude.{ℕ, Bool, List, [], length, Option}
-use Rattle.rv_object.specs.declared.kind.Kind.{Kind}
+use Rattle.std.specs.Prelude.{ℕ, ℤ, Bool, List, [], length, Option}
+use Rattle.rv_isa.specs.declared.kind.Kind.{Kind}
 use Rattle.rv_object.specs.declared.symbol.Binding.{Binding}
 use Rattle.rv_object.specs.declared.symbol.Definition.{Definition}
 use Rattle.rv_object.specs.declared.row.Row.{Row}
@@ -14,12 +14,12 @@ pub data Contents : Type 0 where
   Nobits : (size : ℕ) → Contents
 
 -- a field that the linker fills in: its place, an offset in its section; what it takes; the index of the symbol; and what
--- is added, modulo 2 ^ 64
+-- is added
 pub record Relocation : Type 0 where
   pub place : ℕ
   pub kind : Kind
   pub symbol : Option ℕ
-  pub addend : ℕ
+  pub addend : ℤ
 
 -- a section, with SHF_ALLOC, SHF_EXECINSTR and SHF_WRITE
 pub record Section : Type 0 where

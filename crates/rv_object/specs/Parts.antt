@@ -1,6 +1,5 @@
 -- What the parts of an object stand for.
 
-use Rattle.std.specs.Int.{w64, cast_unsigned}
 use Rattle.rv_object.specs.declared.contents.Contents.{Contents as DeclaredContents}
 use Rattle.rv_object.specs.declared.contents.Contents.TheVariants as contents
 use Rattle.rv_object.specs.declared.symbol.Symbol.{Symbol as DeclaredSymbol}
@@ -13,7 +12,7 @@ contents_of (contents.Note bytes) = Note bytes.items
 contents_of (contents.Nobits size) = Nobits size
 
 abbrev pub relocation_of : DeclaredRelocation → Relocation
-relocation_of r = record { place = r.place; kind = r.kind; symbol = r.symbol; addend = cast_unsigned w64 r.addend }
+relocation_of r = record { place = r.place; kind = r.kind; symbol = r.symbol; addend = r.addend }
 
 abbrev pub symbol_of : DeclaredSymbol → Symbol
 symbol_of s = record { name = s.name.items; binding = s.binding; definition = s.definition }

@@ -1,14 +1,14 @@
 -- What every object keeps of what a reader of files tests (System V gABI, "Sections", "Symbol Table", "Relocation";
 -- RISC-V ELF psABI, "Relocations"; this project's refusals).
 
-use Rattle.std.specs.Prelude.{ℕ, ◌+◌, ◌%◌, ◌^◌, Bool, true, false, not, ◌&&◌, ◌||◌, ◌==◌, nat_le, nat_lt, List, [], ◌∷◌, length, codes, Option, Some, None, bytes_eq, if◌then◌else◌}
+use Rattle.std.specs.Prelude.{ℕ, ℤ, pos, negsuc, unwrap_or, ◌+◌, ◌%◌, ◌^◌, Bool, true, false, not, ◌&&◌, ◌||◌, ◌==◌, nat_le, nat_lt, List, [], ◌∷◌, length, codes, Option, Some, None, bytes_eq, if◌then◌else◌}
 use Rattle.std.specs.List.{list_all, list_any, slice_get}
-use Rattle.rv_object.specs.declared.kind.Kind.{Kind}
-use Rattle.rv_object.specs.declared.kind.Kind.TheVariants as kinds
+use Rattle.rv_isa.specs.declared.kind.Kind.{Kind}
+use Rattle.rv_isa.specs.declared.kind.Kind.TheVariants as kinds
 use Rattle.rv_object.specs.declared.symbol.Definition.{Definition}
 use Rattle.rv_object.specs.declared.symbol.Definition.TheVariants as definitions
 use Rattle.rv_object.specs.declared.row.Row.{Row}
-use Rattle.rv_object.specs.Kinds.{width}
+use Rattle.rv_isa.specs.Kinds.{width_of}
 use Rattle.rv_object.specs.Object.{Contents, Nobits, Relocation, Section, Symbol, size_of}
 
 -- a power of two, 4096 at most
@@ -29,8 +29,8 @@ is_loaded_alone loaded rs = loaded || (length rs == 0)
 
 -- a field lies in bytes that the file has; a relocation without a field stands in the section or at its end
 abbrev pub fits_inside : Contents → Relocation → Bool
-fits_inside (Nobits size) r = width r.kind == 0
-fits_inside c r = nat_le (r.place + width r.kind) (size_of c)
+fits_inside (Nobits size) r = width_of r.kind == 0
+fits_inside c r = nat_le (r.place + width_of r.kind) (size_of c)
 
 abbrev pub fit_inside : Contents → List Relocation → Bool
 fit_inside c rs = list_all (fits_inside c) rs
@@ -41,17 +41,24 @@ abbrev pub is_align : Kind → Bool
 is_align kinds.Align = true
 is_align _ = false
 
+-- the bytes of a padding; none where the addend is negative
+abbrev pub padding_of : ℤ → Option ℕ
+padding_of (pos n) = Some n
+padding_of (negsuc n) = None
+
+abbrev pub is_padding_of : Bool → Contents → ℕ → Option ℕ → Bool
+is_padding_of executable c place None = false
+is_padding_of executable c place (Some n) =
+    (n % 2 == 0) && nat_le n 4094 && (not executable || (place % 2 == 0) && nat_le (place + n) (size_of c))
+
 -- the padding of an alignment has an even count of bytes, 4094 at most; in code it begins at an even offset and lies in the
 -- section
 abbrev pub is_padding : Bool → Contents → Relocation → Bool
-is_padding executable c r =
-    not (is_align r.kind)
-    || (r.addend % 2 == 0) && nat_le r.addend 4094
-    && (not executable || (r.place % 2 == 0) && nat_le (r.place + r.addend) (size_of c))
+is_padding executable c r = not (is_align r.kind) || is_padding_of executable c r.place (padding_of r.addend)
 
 -- the bytes that a relocation has in code from its place on: a padding or a field
 abbrev pub held : Relocation → ℕ
-held r = if is_align r.kind then r.addend else width r.kind
+held r = if is_align r.kind then unwrap_or (padding_of r.addend) 0 else width_of r.kind
 
 -- a padding meets no field and no other padding
 abbrev pub are_apart : Relocation → Relocation → Bool

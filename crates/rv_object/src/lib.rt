@@ -15,7 +15,6 @@
 #![tactic(auto)]
 
 mod contents;
-mod kind;
 mod object;
 mod relocation;
 mod row;
@@ -23,7 +22,6 @@ mod section;
 mod symbol;
 
 pub use contents::Contents;
-pub use kind::Kind;
 pub use object::Object;
 pub use relocation::Relocation;
 pub use row::Row;

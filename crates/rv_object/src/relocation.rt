@@ -1,6 +1,6 @@
 //! Relocations.
 
-use crate::kind::Kind;
+use rv_isa::Kind;
 
 /// A field that the linker fills in (gABI, "Relocation"; psABI, "Relocations").
 #[derive(Clone, Copy, Debug, PartialEq, Eq, Drop)]
