@@ -10,7 +10,7 @@ use Rattle.rv_image.specs.Linked.{Linked}
 use Rattle.rv_object.specs.declared.row.Row.{Row}
 use Rattle.rv_object.specs.Object.{Section, Object}
 use Rattle.rv_object_laws.specs.Moves.{Move, aligned, moves, new_offset, has_room, lost}
-use Rattle.rv_object_laws.specs.Inputs.{Starts, InputSection, goes_to_text, goes_to_rodata, goes_to_data, goes_to_bss, inputs, start_of, Holds, gaps_of, greatest, contents}
+use Rattle.rv_object_laws.specs.Inputs.{Starts, goes_to_text, goes_to_rodata, goes_to_data, goes_to_bss, inputs, start_of, Holds, gaps_of, greatest, contents}
 use Rattle.rv_object_laws.specs.Names.{globals_of, global_names, AreDistinct, shown_linker_symbols, entry_of}
 use Rattle.rv_object_laws.specs.Values.{IsRelocated, linked_bytes}
 
