@@ -1,1 +1,2 @@
 pub mod TwoObjects
+pub mod TwoLinked

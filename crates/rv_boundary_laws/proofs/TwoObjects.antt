@@ -1,12 +1,23 @@
 -- The objects of the two files.
 
-use Rattle.std.proofs.Common.{[], ◌∷◌, refl, arith, Some, ◌≤◌}
-use Rattle.std.specs.List.{slice_get}
+use Rattle.std.proofs.Common.{ℕ, List, [], refl, arith, inl, inr, slice_index_or}
+use Rattle.std.specs.Int.{int_wrap}
+use Rattle.rv_statement.specs.Statement.{Label}
+use Rattle.rv_unit_laws.specs.Tables.{at_start}
+use Rattle.rv_source_laws.specs.Located.{located_now}
+use Rattle.rv_assemble_laws.specs.Sites.{Site}
 use Rattle.rv_isa.specs.declared.instruction.Inst.TheVariants.{Ecall}
 use Rattle.rv_assemble_laws.specs.IsObjectOf.{IsObjectOf}
 use Rattle.rv_boundary_laws.specs.TwoFiles.{first_source, second_source, first_object, second_object, first_sites, second_sites, first_number, second_number}
 
+no_site : Site
+no_site = record { located = located_now 1 1 at_start (record { line = 1; kind = Label [] }); offset = 0; bytes = 0; instructions = 0 }
+
+abbrev nth : List Site → ℕ → Site
+nth sites n = slice_index_or sites n no_site
+
 pub first_is : IsObjectOf first_source first_object
+unfolding int_wrap
 first_is = record {
   good = refl;
   sites = first_sites;
@@ -15,25 +26,82 @@ first_is = record {
   number = first_number;
   sections = (
     record {
-      name = refl; loaded = refl; executable = refl; writable = refl; alignment = refl;
+      name = refl;
+      loaded = refl;
+      executable = refl;
+      writable = refl;
+      alignment = refl;
       tile = (refl, refl, (refl, refl, (refl, refl, (refl, refl, tt))));
-      contents = refl; relocations = refl;
-      sizes = ((λ e. (refl, refl)), ((λ e. (refl, refl)), ((λ e. (refl, refl)), ((λ e. (refl, refl, (Ecall, refl, refl, tt))), tt))));
+      contents = refl;
+      relocations = refl;
+      sizes = ((λ e. (refl, refl)), ((λ e. (refl, refl)), ((λ e. (refl, refl)), ((λ e. (refl, refl, (Ecall, (refl, refl, tt)))), tt))));
       fields = (tt, tt);
       low = λ e. omega arith;
     },
-    record {
-      name = refl; loaded = refl; executable = refl; writable = refl; alignment = refl;
-      tile = (refl, refl, (refl, refl, (refl, refl, (refl, refl, (refl, refl, (refl, refl, tt))))));
-      contents = refl; relocations = refl;
-      sizes = ((λ e. (refl, refl)), ((λ e. (refl, refl)), ((λ e. (refl, refl)), ((λ e. (refl, refl)), ((λ e. (refl, refl)), ((λ e. (refl, refl)), tt))))));
-      fields = (inl refl, (inr refl, (inr (inr (inl refl)), (inr refl, tt))));
-      low = λ e. absurd (cc);
-    },
-    tt,
+    (
+      record {
+        name = refl;
+        loaded = refl;
+        executable = refl;
+        writable = refl;
+        alignment = refl;
+        tile = (refl, refl, (refl, refl, (refl, refl, (refl, refl, (refl, refl, (refl, refl, tt))))));
+        contents = refl;
+        relocations = refl;
+        sizes = ((λ e. (refl, refl)), ((λ e. (refl, refl)), ((λ e. (refl, refl)), ((λ e. (refl, refl)), ((λ e. (refl, refl)), ((λ e. (refl, refl)), tt))))));
+        fields = (inl refl, (inr refl, (inr (inr (inl refl)), (inr refl, tt))));
+        low = λ e. absurd (cc);
+      },
+      tt,
+    ),
   );
   symbols = refl;
-  numbered = search;
+  numbered = ((refl, refl), ((refl, (nth first_sites 5, refl, refl, refl)), ((refl, refl), ((refl, refl), ((refl, (nth first_sites 9, refl, refl, refl)), tt)))));
+  rows = refl;
+  rvc = refl;
+}
+
+pub second_is : IsObjectOf second_source second_object
+unfolding int_wrap
+second_is = record {
+  good = refl;
+  sites = second_sites;
+  located = refl;
+  places = ((λ e. absurd (cc)), tt);
+  number = second_number;
+  sections = (
+    record {
+      name = refl;
+      loaded = refl;
+      executable = refl;
+      writable = refl;
+      alignment = refl;
+      tile = (refl, refl, tt);
+      contents = refl;
+      relocations = refl;
+      sizes = ((λ e. (refl, refl)), tt);
+      fields = tt;
+      low = λ e. omega arith;
+    },
+    (
+      record {
+        name = refl;
+        loaded = refl;
+        executable = refl;
+        writable = refl;
+        alignment = refl;
+        tile = (refl, refl, (refl, refl, (refl, refl, (refl, refl, (refl, refl, (refl, refl, (refl, refl, (refl, refl, tt))))))));
+        contents = refl;
+        relocations = refl;
+        sizes = ((λ e. (refl, refl)), ((λ e. (refl, refl)), ((λ e. (refl, refl)), ((λ e. (refl, refl)), ((λ e. (refl, refl)), ((λ e. (refl, refl)), ((λ e. (refl, refl)), ((λ e. (refl, refl)), tt))))))));
+        fields = (tt, (tt, (inl refl, tt)));
+        low = λ e. absurd (cc);
+      },
+      tt,
+    ),
+  );
+  symbols = refl;
+  numbered = ((refl, (nth second_sites 2, refl, refl, refl)), tt);
   rows = refl;
   rvc = refl;
 }

@@ -1,10 +1,10 @@
 -- Two files, worked by hand: references across them, and a local name that both have.
 
-use Rattle.std.specs.Prelude.{ℕ, zero, suc, pos, Bool, true, false, List, [], ◌∷◌, Option, Some, None, codes, bytes_eq, if◌then◌else◌}
+use Rattle.std.specs.Prelude.{ℕ, zero, suc, pos, true, false, List, [], ◌∷◌, Some, codes, bytes_eq, if◌then◌else◌}
 use Rattle.rv_isa.specs.declared.kind.Kind.{Kind}
 use Rattle.rv_isa.specs.declared.kind.Kind.TheVariants.{Abs32, Abs64, Add32, Sub32}
 use Rattle.rv_text_laws.specs.declared.operator.BinaryOperator.TheVariants.{Add, Subtract}
-use Rattle.rv_text_laws.specs.Expression.{Primary, Literal, Symbol as Named, Here, Reference, Leaf, Binary}
+use Rattle.rv_text_laws.specs.Expression.{Primary, Literal, Symbol as Named, Here, Leaf, Binary}
 use Rattle.rv_statement.specs.declared.directive.Choice.TheVariants.{Norvc}
 use Rattle.rv_statement.specs.declared.directive.Standard.TheVariants.{Data}
 use Rattle.rv_statement.specs.declared.mnemonic.Mnemonic.TheVariants.{Ecall}
@@ -20,7 +20,7 @@ use Rattle.rv_object.specs.declared.symbol.Binding.{Binding}
 use Rattle.rv_object.specs.declared.symbol.Binding.TheVariants.{Local, Global}
 use Rattle.rv_object.specs.declared.symbol.Definition.{Definition}
 use Rattle.rv_object.specs.declared.symbol.Definition.TheVariants.{Undefined, Absolute, InSection}
-use Rattle.rv_object.specs.Object.{Contents, Progbits, Relocation, Section, Symbol, Object}
+use Rattle.rv_object.specs.Object.{Progbits, Relocation, Section, Symbol, Object}
 use Rattle.rv_assemble_laws.specs.Sites.{Site}
 
 abbrev said : ℕ → StatementKind → Statement
@@ -76,14 +76,24 @@ second_source =
 
 abbrev text : List ℕ → Section
 text bytes = record {
-  name = codes ".text"; loaded = true; executable = true; writable = false;
-  contents = Progbits bytes; alignment = 1; relocations = [];
+  name = codes ".text";
+  loaded = true;
+  executable = true;
+  writable = false;
+  contents = Progbits bytes;
+  alignment = 1;
+  relocations = [];
 }
 
 abbrev variables : List ℕ → List Relocation → Section
 variables bytes relocations = record {
-  name = codes ".data"; loaded = true; executable = false; writable = true;
-  contents = Progbits bytes; alignment = 1; relocations = relocations;
+  name = codes ".data";
+  loaded = true;
+  executable = false;
+  writable = true;
+  contents = Progbits bytes;
+  alignment = 1;
+  relocations = relocations;
 }
 
 abbrev relocation : ℕ → Kind → ℕ → ℕ → Relocation
@@ -94,7 +104,12 @@ symbol n binding definition = record { name = n; binding = binding; definition =
 
 abbrev row : ℕ → ℕ → ℕ → ℕ → ℕ → ℕ → Row
 row line ordinal section offset bytes instructions = record {
-  line = line; ordinal = ordinal; section = section; offset = offset; bytes = bytes; instructions = instructions;
+  line = line;
+  ordinal = ordinal;
+  section = section;
+  offset = offset;
+  bytes = bytes;
+  instructions = instructions;
 }
 
 abbrev pub first_object : Object
@@ -137,7 +152,12 @@ global n address = record { name = n; address = address }
 
 abbrev map_row : ℕ → ℕ → ℕ → ℕ → ℕ → ℕ → MapRow
 map_row file line ordinal address bytes instructions = record {
-  file = file; line = line; ordinal = ordinal; address = address; bytes = bytes; instructions = instructions;
+  file = file;
+  line = line;
+  ordinal = ordinal;
+  address = address;
+  bytes = bytes;
+  instructions = instructions;
 }
 
 abbrev pub two_files_map : Map
