@@ -11,10 +11,10 @@ use Rattle.rv_unit_laws.specs.Faults.{first_fault}
 use Rattle.rv_source_laws.specs.Located.{located_from, has_row}
 use Rattle.rv_source_laws.specs.Options.{has_compressed}
 use Rattle.rv_object.specs.declared.row.Row.{Row}
-use Rattle.rv_object.specs.Object.{Contents, Progbits, Nobits, Relocation, Section, Object}
+use Rattle.rv_object.specs.Object.{Contents, Progbits, Nobits, Relocation, Section, Symbol, Object}
 use Rattle.rv_assemble_laws.specs.Templates.{Open, Template, template_fields, IsTemplate}
 use Rattle.rv_assemble_laws.specs.Sites.{Site, Part, form, part_bytes, parts, sites_in, Tile, end_of, HasSize}
-use Rattle.rv_assemble_laws.specs.Symbols.{SymbolUse, references, site_at, symbols_of, StandsFor}
+use Rattle.rv_assemble_laws.specs.Symbols.{SymbolUse, references_in, site_at, symbols_of, StandsFor}
 
 -- ---- rows
 
@@ -55,8 +55,16 @@ relocations_from number offset (p ∷ ps) =
 abbrev pub contents_of : Bool → ℕ → List ℕ → Contents
 contents_of nobits size bytes = if nobits then Nobits size else Progbits bytes
 
--- the section of an index, with its statements
-pub record IsSectionOf (t : Tables) (number : Numbering) (index : ℕ) (section : SourceSection) (sites : List Site) (x : Section) : Type 0 where
+-- the symbol of a reference
+abbrev pub IsNumbered : Tables → List Site → Numbering → List Symbol → SymbolUse → Type 0
+IsNumbered t all number symbols r = StandsFor t all r.ordinal r.symbol (slice_get symbols (number r.ordinal r.symbol))
+
+abbrev pub ArePartsNumbered : Tables → List Site → Numbering → List Symbol → List Part → Type 0
+ArePartsNumbered t all number symbols ps =
+    AllByRecursion (λ p. AllByRecursion (IsNumbered t all number symbols) (references_in p)) ps
+
+-- the section of an index, with its statements, where these are all statements and symbols of the source
+pub record IsSectionOf (t : Tables) (all : List Site) (number : Numbering) (symbols : List Symbol) (index : ℕ) (section : SourceSection) (sites : List Site) (x : Section) : Type 0 where
   pub name : x.name ≡ section.name
   pub loaded : x.loaded ≡ section.loaded
   pub executable : x.executable ≡ section.executable
@@ -67,18 +75,20 @@ pub record IsSectionOf (t : Tables) (number : Numbering) (index : ℕ) (section 
   pub tile : Tile t 0 sites
   pub contents : x.contents ≡ contents_of section.nobits (end_of 0 sites) (flat_map part_bytes (parts t sites))
   pub relocations : x.relocations ≡ (if section.loaded then relocations_from number 0 (parts t sites) else [])
+  pub numbered : section.loaded ≡ true → ArePartsNumbered t all number symbols (parts t sites)
   -- the sizes of its statements
   pub sizes : AllByRecursion (λ s. s.located.placed ≡ true → HasSize (form t s.located) s x.alignment s.located.kind) sites
   pub fields : AllByRecursion (λ p. IsTemplate p.template) (parts t sites)
   -- code is aligned to 2 at most: alignments beyond that are not built
   pub low : goes_to_text section ≡ true → x.alignment ≤ 2
 
-abbrev pub AreSectionsOf : Tables → Numbering → List Site → ℕ → List SourceSection → List Section → Type 0
-AreSectionsOf t number sites index [] [] = ⊤
-AreSectionsOf t number sites index [] (x ∷ xs) = ⊥
-AreSectionsOf t number sites index (section ∷ sections) [] = ⊥
-AreSectionsOf t number sites index (section ∷ sections) (x ∷ xs) =
-    IsSectionOf t number index section (sites_in index sites) x × AreSectionsOf t number sites (suc index) sections xs
+abbrev pub AreSectionsOf : Tables → List Site → Numbering → List Symbol → ℕ → List SourceSection → List Section → Type 0
+AreSectionsOf t all number symbols index [] [] = ⊤
+AreSectionsOf t all number symbols index [] (x ∷ xs) = ⊥
+AreSectionsOf t all number symbols index (section ∷ sections) [] = ⊥
+AreSectionsOf t all number symbols index (section ∷ sections) (x ∷ xs) =
+    IsSectionOf t all number symbols index section (sites_in index all) x
+    × AreSectionsOf t all number symbols (suc index) sections xs
 
 -- ---- the whole
 
@@ -90,10 +100,6 @@ IsInData (Some s) = (s.located.home.executable ≡ false) × (s.located.placed �
 abbrev pub StandsInData : List Site → Assignment → Type 0
 StandsInData sites a = is_location a ≡ true → IsInData (site_at sites a.ordinal)
 
--- the symbol of a reference
-abbrev pub IsNumbered : Tables → List Site → Numbering → Object → SymbolUse → Type 0
-IsNumbered t sites number o r = StandsFor t sites r.ordinal r.symbol (slice_get o.symbols (number r.ordinal r.symbol))
-
 pub record IsObjectOf (ss : List Statement) (o : Object) : Type 0 where
   -- no label and no directive is faulty
   pub good : first_fault ss ≡ None
@@ -103,9 +109,8 @@ pub record IsObjectOf (ss : List Statement) (o : Object) : Type 0 where
   pub places : AllByRecursion (StandsInData sites) (tables ss).assignments
   -- the sections in the order in which the source opens them
   pub number : Numbering
-  pub sections : AreSectionsOf (tables ss) number sites 0 (tables ss).opened.sections o.sections
+  pub sections : AreSectionsOf (tables ss) sites number o.symbols 0 (tables ss).opened.sections o.sections
   pub symbols : o.symbols ≡ symbols_of ss (tables ss) sites
-  pub numbered : AllByRecursion (IsNumbered (tables ss) sites number o) (references (tables ss) sites)
   -- a row for each statement with a place in memory
   pub rows : o.rows ≡ flat_map rows_at sites
   pub rvc : o.rvc ≡ has_compressed ss

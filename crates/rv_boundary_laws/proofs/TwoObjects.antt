@@ -33,7 +33,7 @@ first_is = record {
       alignment = refl;
       tile = (refl, refl, (refl, refl, (refl, refl, (refl, refl, tt))));
       contents = refl;
-      relocations = refl;
+      relocations = refl; numbered = λ e. (tt, tt);
       sizes = ((λ e. (refl, refl)), ((λ e. (refl, refl)), ((λ e. (refl, refl)), ((λ e. (refl, refl, (Ecall, (refl, refl, tt)))), tt))));
       fields = (tt, tt);
       low = λ e. omega arith;
@@ -47,7 +47,7 @@ first_is = record {
         alignment = refl;
         tile = (refl, refl, (refl, refl, (refl, refl, (refl, refl, (refl, refl, (refl, refl, tt))))));
         contents = refl;
-        relocations = refl;
+        relocations = refl; numbered = λ e. (((refl, refl), tt), (((refl, (nth first_sites 5, refl, refl, refl)), tt), (((refl, refl), ((refl, refl), tt)), (((refl, (nth first_sites 9, refl, refl, refl)), tt), tt))));
         sizes = ((λ e. (refl, refl)), ((λ e. (refl, refl)), ((λ e. (refl, refl)), ((λ e. (refl, refl)), ((λ e. (refl, refl)), ((λ e. (refl, refl)), tt))))));
         fields = (inl refl, (inr refl, (inr (inr (inl refl)), (inr refl, tt))));
         low = λ e. absurd (cc);
@@ -56,7 +56,6 @@ first_is = record {
     ),
   );
   symbols = refl;
-  numbered = ((refl, refl), ((refl, (nth first_sites 5, refl, refl, refl)), ((refl, refl), ((refl, refl), ((refl, (nth first_sites 9, refl, refl, refl)), tt)))));
   rows = refl;
   rvc = refl;
 }
@@ -78,7 +77,7 @@ second_is = record {
       alignment = refl;
       tile = (refl, refl, tt);
       contents = refl;
-      relocations = refl;
+      relocations = refl; numbered = λ e. tt;
       sizes = ((λ e. (refl, refl)), tt);
       fields = tt;
       low = λ e. omega arith;
@@ -92,7 +91,7 @@ second_is = record {
         alignment = refl;
         tile = (refl, refl, (refl, refl, (refl, refl, (refl, refl, (refl, refl, (refl, refl, (refl, refl, (refl, refl, tt))))))));
         contents = refl;
-        relocations = refl;
+        relocations = refl; numbered = λ e. (tt, (tt, (((refl, (nth second_sites 2, refl, refl, refl)), tt), tt)));
         sizes = ((λ e. (refl, refl)), ((λ e. (refl, refl)), ((λ e. (refl, refl)), ((λ e. (refl, refl)), ((λ e. (refl, refl)), ((λ e. (refl, refl)), ((λ e. (refl, refl)), ((λ e. (refl, refl)), tt))))))));
         fields = (tt, (tt, (inl refl, tt)));
         low = λ e. absurd (cc);
@@ -101,7 +100,6 @@ second_is = record {
     ),
   );
   symbols = refl;
-  numbered = ((refl, (nth second_sites 2, refl, refl, refl)), tt);
   rows = refl;
   rvc = refl;
 }

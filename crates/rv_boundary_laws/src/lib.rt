@@ -7,6 +7,8 @@
 //! Source: System V gABI, "Sections", "Symbol Table", "Relocation"; RISC-V ELF psABI, "Relocations".
 #![tactic(auto)]
 
+mod law;
 mod worked;
 
+pub use law::development;
 pub use worked::{two_files_are_objects, two_files_link};

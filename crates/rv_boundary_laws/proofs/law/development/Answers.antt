@@ -1,0 +1,8 @@
+use Rattle.std.proofs.Common.{refl}
+use Rattle.rv_boundary_laws.proofs.Numbers.{difference_8}
+use Rattle.rv_boundary_laws.proofs.Patches.{makes}
+use Rattle.rv_boundary_laws.proofs.Statements.{address_by}
+use Rattle.rv_boundary_laws.proofs.law.development.Goals as goal
+
+pub returns : goal.returns
+returns c = λ n. refl
