@@ -71,9 +71,12 @@ pub record IsSectionOf (t : Tables) (all : List Site) (number : Numbering) (symb
   pub writable : x.writable ≡ section.writable
   -- the greatest of its alignments
   pub alignment : x.alignment ≡ slice_index_or t.alignments index 1
+  pub some : 1 ≤ x.alignment
   -- its statements follow one another
   pub tile : Tile t 0 sites
   pub contents : x.contents ≡ contents_of section.nobits (end_of 0 sites) (flat_map part_bytes (parts t sites))
+  -- no code stands in a section without bytes in the file
+  pub code : goes_to_text section ≡ true → section.nobits ≡ true → flat_map part_bytes (parts t sites) ≡ []
   pub relocations : x.relocations ≡ (if section.loaded then relocations_from number 0 (parts t sites) else [])
   pub numbered : section.loaded ≡ true → ArePartsNumbered t all number symbols (parts t sites)
   -- the sizes of its statements

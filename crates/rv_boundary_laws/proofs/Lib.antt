@@ -4,3 +4,7 @@ pub mod Numbers
 pub mod Patches
 
 pub mod Statements
+pub mod Settled
+pub mod Suits
+pub mod Fitting
+pub mod Known

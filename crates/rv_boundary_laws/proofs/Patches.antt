@@ -160,7 +160,7 @@ module _ (new : ℕ → ℕ) (same : (n : ℕ) → new n ≡ n) (value : Relocat
         (ap (λ v. patched plus v (zeros w)) (worth_at plus is ordinal q k (length front) x) ∙ added.1))
         ∙ one p (opened minus r 0) front rest added.0 (added.2 ∙ sym wide') (little_endian w (add (subtract x.at y.at) k))
         (ap (λ v. patched minus v added.0) (worth_at minus is' ordinal r 0 (length front) y) ∙ ap (patched minus (worth y.at 0)) (sym added.1) ∙ makes x.at y.at k y.low)
-        ∙ ap (λ o. front ++ (little_endian w (unwrap_or (resolved_with o (a ordinal r)) 0) ++ rest)) (sym x.is)
+        ∙ ap (λ o. front ++ (little_endian w (unwrap_or (resolved_with o (Some y.at)) 0) ++ rest)) (sym x.is)
         ∙ ap (λ o. front ++ (little_endian w (unwrap_or (resolved_with (a ordinal q) o) 0) ++ rest)) (sym y.is)
       where
         resolved_with : Option ℕ → Option ℕ → Option ℕ

@@ -206,7 +206,7 @@ module _ (starts : Starts) where
   abbrev Test : ℕ → ℕ → MaybeMapped → Bool
   Test file n e = (e.located.file == file) && (e.located.ordinal == n)
 
-  abbrev row_address : ℕ → Site → Option ℕ
+  abbrev pub row_address : ℕ → Site → Option ℕ
   row_address file s = if has_row s.located then Some (starts file s.located.section + s.offset) else None
 
   address_here : (file : ℕ) (s : Site) → address_of (statement_at file s) ≡ row_address file s

@@ -30,7 +30,7 @@ first_is = record {
       loaded = refl;
       executable = refl;
       writable = refl;
-      alignment = refl;
+      alignment = refl; some = omega arith; code = λ e f. absurd (cc);
       tile = (refl, refl, (refl, refl, (refl, refl, (refl, refl, tt))));
       contents = refl;
       relocations = refl; numbered = λ e. (tt, tt);
@@ -44,7 +44,7 @@ first_is = record {
         loaded = refl;
         executable = refl;
         writable = refl;
-        alignment = refl;
+        alignment = refl; some = omega arith; code = λ e f. absurd (cc);
         tile = (refl, refl, (refl, refl, (refl, refl, (refl, refl, (refl, refl, (refl, refl, tt))))));
         contents = refl;
         relocations = refl; numbered = λ e. (((refl, refl), tt), (((refl, (nth first_sites 5, refl, refl, refl)), tt), (((refl, refl), ((refl, refl), tt)), (((refl, (nth first_sites 9, refl, refl, refl)), tt), tt))));
@@ -74,7 +74,7 @@ second_is = record {
       loaded = refl;
       executable = refl;
       writable = refl;
-      alignment = refl;
+      alignment = refl; some = omega arith; code = λ e f. absurd (cc);
       tile = (refl, refl, tt);
       contents = refl;
       relocations = refl; numbered = λ e. tt;
@@ -88,7 +88,7 @@ second_is = record {
         loaded = refl;
         executable = refl;
         writable = refl;
-        alignment = refl;
+        alignment = refl; some = omega arith; code = λ e f. absurd (cc);
         tile = (refl, refl, (refl, refl, (refl, refl, (refl, refl, (refl, refl, (refl, refl, (refl, refl, (refl, refl, tt))))))));
         contents = refl;
         relocations = refl; numbered = λ e. (tt, (tt, (((refl, (nth second_sites 2, refl, refl, refl)), tt), tt)));
