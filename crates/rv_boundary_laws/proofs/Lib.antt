@@ -8,3 +8,5 @@ pub mod Settled
 pub mod Suits
 pub mod Fitting
 pub mod Known
+pub mod Sections
+pub mod Placed

@@ -53,6 +53,34 @@ patched_here front mid rest k v wide =
     ∙ ap (λ l. front ++ (patched k v l ++ drop (width_of k) (mid ++ rest))) own
     ∙ ap (λ l. front ++ (patched k v mid ++ l)) others
 
+-- what a part writes, by the addresses of symbols in the statement of an ordinal
+abbrev pub written_template : (Primary → Option ℕ) → Template → List ℕ
+written_template a (Fixed bytes) = bytes
+written_template a (Datum width v) = little_endian width (unwrap_or (resolved a v) 0)
+
+abbrev pub written : (ℕ → Primary → Option ℕ) → Part → List ℕ
+written a p = written_template (a p.ordinal) p.template
+
+abbrev pub is_data : Kind → Bool
+is_data Abs32 = true
+is_data Abs64 = true
+is_data Add8 = true
+is_data Add16 = true
+is_data Add32 = true
+is_data Add64 = true
+is_data Sub8 = true
+is_data Sub16 = true
+is_data Sub32 = true
+is_data Sub64 = true
+is_data _ = false
+
+zeros_long : (n : ℕ) → length (zeros n) ≡ n
+zeros_long n = length-replicate {A = ℕ} n 0
+
+little_long : (width n : ℕ) → length (little_endian width n) ≡ width
+little_long zero n = refl
+little_long (suc width) n = ap suc (little_long width (n / 256))
+
 -- ---- the parts of a section
 
 module _ (new : ℕ → ℕ) (same : (n : ℕ) → new n ≡ n) (value : Relocation → ℤ) (number : Numbering) where
@@ -93,34 +121,6 @@ module _ (new : ℕ → ℕ) (same : (n : ℕ) → new n ≡ n) (value : Relocat
       let v = value (relocation_at number p.ordinal (length front) f) in
       ap (λ n. patched_at n f.kind v (front ++ (mid ++ rest))) (same (length front))
       ∙ patched_here front mid rest f.kind v wide ∙ ap (λ l. front ++ (l ++ rest)) is
-
-  -- what a part writes, by the addresses of symbols in the statement of an ordinal
-  abbrev pub written_template : (Primary → Option ℕ) → Template → List ℕ
-  written_template a (Fixed bytes) = bytes
-  written_template a (Datum width v) = little_endian width (unwrap_or (resolved a v) 0)
-
-  abbrev pub written : (ℕ → Primary → Option ℕ) → Part → List ℕ
-  written a p = written_template (a p.ordinal) p.template
-
-  abbrev pub is_data : Kind → Bool
-  is_data Abs32 = true
-  is_data Abs64 = true
-  is_data Add8 = true
-  is_data Add16 = true
-  is_data Add32 = true
-  is_data Add64 = true
-  is_data Sub8 = true
-  is_data Sub16 = true
-  is_data Sub32 = true
-  is_data Sub64 = true
-  is_data _ = false
-
-  zeros_long : (n : ℕ) → length (zeros n) ≡ n
-  zeros_long n = length-replicate {A = ℕ} n 0
-
-  little_long : (width n : ℕ) → length (little_endian width n) ≡ width
-  little_long zero n = refl
-  little_long (suc width) n = ap suc (little_long width (n / 256))
 
   -- S for each symbol of a relocation, and the address of each symbol of a statement
   module _ (s : Option ℕ → ℕ) (worths : (r : Relocation) → is_data r.kind ≡ true → value r ≡ int_wrap w64 (pos (s r.symbol) +ℤ r.addend))

@@ -3,7 +3,7 @@
 use Rattle.std.proofs.Common.{◌≡◌, ℕ, suc, ◌+◌, Bool, true, false, List, [], ◌∷◌, ◌++◌, length, refl, sym, ap, ◌∙◌, subst, arith, map, Option, Some, None}
 use Rattle.std.proofs.lemmas.Bool.{eqb-true, and_parts}
 use Rattle.std.proofs.lemmas.List.Sums.{sum_by-cons}
-use Rattle.std.specs.Prelude.{◌&&◌, ◌==◌, if◌then◌else◌, filter, flat_map}
+use Rattle.std.specs.Prelude.{⊤, ◌&&◌, ◌==◌, if◌then◌else◌, filter, flat_map}
 use Rattle.std.specs.List.{AllByRecursion, slice_get}
 use Rattle.rv_text_laws.specs.Values.{Value}
 use Rattle.rv_text_laws.specs.Expression.{Primary}
@@ -46,6 +46,36 @@ bare_from : (file k : ℕ) (t : Tables) (ss : List Statement) → AllByRecursion
 bare_from file k t [] = tt
 bare_from file k t (s ∷ ss) = (unplaced_by t k s.kind, bare_from file (suc k) (after t k s.kind) ss)
 
+-- which statements may have a place
+abbrev pub IsPlacedKind : StatementKind → Type 0
+IsPlacedKind (Directs (Enters section)) = ⊥
+IsPlacedKind (Directs (Opens name flags kind)) = ⊥
+IsPlacedKind (Directs (Globl names)) = ⊥
+IsPlacedKind (Directs (Local names)) = ⊥
+IsPlacedKind (Directs (Chooses choice)) = ⊥
+IsPlacedKind (Directs Ignored) = ⊥
+IsPlacedKind _ = ⊤
+
+placed_by : (t : Tables) (k : ℕ) (kind : StatementKind) → is_placed t k kind ≡ true → IsPlacedKind kind
+placed_by t k (Directs (Enters section)) e = absurd (cc)
+placed_by t k (Directs (Opens name flags kind)) e = absurd (cc)
+placed_by t k (Directs (Globl names)) e = absurd (cc)
+placed_by t k (Directs (Local names)) e = absurd (cc)
+placed_by t k (Directs (Chooses choice)) e = absurd (cc)
+placed_by t k (Directs Ignored) e = absurd (cc)
+placed_by t k (Directs (Sets name x)) e = tt
+placed_by t k (Directs _) e = tt
+placed_by t k (Label name) e = tt
+placed_by t k (Numbered number) e = tt
+placed_by t k (Instruction mnemonic operands) e = tt
+
+abbrev pub IsKind : Located → Type 0
+IsKind l = l.placed ≡ true → IsPlacedKind l.kind
+
+kinds_from : (file k : ℕ) (t : Tables) (ss : List Statement) → AllByRecursion IsKind (located_from file k t ss)
+kinds_from file k t [] = tt
+kinds_from file k t (s ∷ ss) = (placed_by t k s.kind, kinds_from file (suc k) (after t k s.kind) ss)
+
 -- a label has a place
 abbrev pub IsLabelled : Located → Type 0
 IsLabelled l = (name : List ℕ) → l.kind ≡ Label name → l.placed ≡ true
@@ -63,6 +93,7 @@ pub record IsSettled (sections : List Section) (s : Site) : Type 0 where
   pub held : IsHeld s.located.home s.located.kind
   pub bare : IsBare s.located
   pub labelled : IsLabelled s.located
+  pub kind : IsKind s.located
 
 of_located : (P : Located → Type 0) (sites : List Site) → AllByRecursion P (map (λ s. s.located) sites) → AllByRecursion (λ s. P s.located) sites
 of_located P [] h = tt
@@ -73,9 +104,10 @@ front_of P [] ys h = tt
 front_of P (x ∷ xs) ys (h, hs) = (h, front_of P xs ys hs)
 
 settled_by : (sections : List Section) (sites : List Site) → AllByRecursion (λ s. IsHomeIn (λ f. sections) s.located) sites → AllByRecursion (λ s. Held s.located) sites
-    → AllByRecursion (λ s. IsBare s.located) sites → AllByRecursion (λ s. IsLabelled s.located) sites → AllByRecursion (IsSettled sections) sites
-settled_by sections [] h k b l = tt
-settled_by sections (s ∷ ss) (h, hs) (k, ks) (b, bs) (l, ls) = (record { home = h; held = k; bare = b; labelled = l }, settled_by sections ss hs ks bs ls)
+    → AllByRecursion (λ s. IsBare s.located) sites → AllByRecursion (λ s. IsLabelled s.located) sites → AllByRecursion (λ s. IsKind s.located) sites → AllByRecursion (IsSettled sections) sites
+settled_by sections [] h k b l q = tt
+settled_by sections (s ∷ ss) (h, hs) (k, ks) (b, bs) (l, ls) (q, qs) =
+    (record { home = h; held = k; bare = b; labelled = l; kind = q }, settled_by sections ss hs ks bs ls qs)
 
 pub settled : (ss : List Statement) (sites : List Site) → first_fault ss ≡ None → map (λ s. s.located) sites ≡ located_from 1 1 at_start ss
     → AllByRecursion (IsSettled (tables ss).opened.sections) sites
@@ -86,7 +118,7 @@ settled ss sites good is =
     settled_by sections sites
     (all (IsHomeIn (λ f. sections)) (homes_from (λ f. sections) 1 1 at_start ss refl (text_section, refl)))
     (all Held (front_of Held (located_from 1 1 at_start ss) [] (held_of 1 (ss ∷ []) (good, tt))))
-    (all IsBare (bare_from 1 1 at_start ss)) (all IsLabelled (labelled_from 1 1 at_start ss))
+    (all IsBare (bare_from 1 1 at_start ss)) (all IsLabelled (labelled_from 1 1 at_start ss)) (all IsKind (kinds_from 1 1 at_start ss))
 
 -- ---- the statements of a section
 
@@ -96,12 +128,13 @@ pub record IsSiteIn (index : ℕ) (section : Section) (s : Site) : Type 0 where
   pub home : s.located.home ≡ section
   pub held : IsHeld section s.located.kind
   pub bare : IsBare s.located
+  pub kind : IsKind s.located
 
 site_in : (sections : List Section) (index : ℕ) (section : Section) (s : Site) → slice_get sections index ≡ Some section → s.located.section ≡ index → IsSettled sections s → IsSiteIn index section s
 site_in sections index section s at stands h =
     let both : Some s.located.home ≡ Some section = sym h.home ∙ ap (slice_get sections) stands ∙ at in
     let same : s.located.home ≡ section = cc in
-    record { stands = stands; home = same; held = subst (λ x. IsHeld x s.located.kind) same h.held; bare = h.bare }
+    record { stands = stands; home = same; held = subst (λ x. IsHeld x s.located.kind) same h.held; bare = h.bare; kind = h.kind }
 
 pub sites_are_in : (sections : List Section) (index : ℕ) (section : Section) (sites : List Site) → slice_get sections index ≡ Some section
     → AllByRecursion (IsSettled sections) sites → AllByRecursion (IsSiteIn index section) (sites_in index sites)
