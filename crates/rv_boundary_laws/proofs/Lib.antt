@@ -10,3 +10,4 @@ pub mod Fitting
 pub mod Known
 pub mod Sections
 pub mod Placed
+pub mod Regions

@@ -30,9 +30,16 @@ use Rattle.rv_boundary_laws.proofs.Patches.{is_data, written, all_made, makes, I
 use Rattle.rv_boundary_laws.proofs.Statements.{row_in, mapped_at, row_address}
 use Rattle.rv_boundary_laws.proofs.Settled.{IsSettled, IsSiteIn, sites_are_in}
 use Rattle.rv_boundary_laws.proofs.Known.{still, meant_of}
-use Rattle.rv_boundary_laws.proofs.Sections.{each, of_parts, all_valued, suits_by, spelled_by, coded_by}
+use Rattle.rv_boundary_laws.proofs.Sections.{each, of_parts, all_valued, meant_in, suits_by, spelled_by, coded_by}
 use Rattle.rv_boundary_laws.proofs.Suits as suits
 use Rattle.rv_boundary_laws.proofs.Fitting.{fits, is_written, coded}
+
+-- what the row of a statement owes to it, and its bytes
+pub record IsFit (p : Program) (starts : Starts) (file : ℕ) (z : Site) : Type 0 where
+  pub sized : SizeFits p (mapped_at starts file z)
+  pub coded : z.located.home.executable ≡ true → IsWritten p (mapped_at starts file z)
+  pub code : z.located.home.executable ≡ true → code_bytes p (mapped_at starts file z) ≡ flat_map (written (meant_in p file)) (parts_of (tables_in p file) z)
+  pub figures : z.located.home.executable ≡ false → spelled p (mapped_at starts file z) ≡ flat_map (written (meant_in p file)) (parts_of (tables_in p file) z)
 
 module _ (p : Program) (os : List Object) (starts : Starts) (file : ℕ) (sites : List Site) (number : Numbering) (o : Object) (sections : List SourceSection)
     (low : AllByRecursion IsGlobal p.map.globals) (are : AreSectionsOf (tables_in p file) sites number o.symbols 0 sections o.sections)
@@ -43,10 +50,7 @@ module _ (p : Program) (os : List Object) (starts : Starts) (file : ℕ) (sites 
   t = tables_in p file
 
   abbrev pub a : ℕ → Primary → Option ℕ
-  a ordinal q = address_by p.statements p.map.globals file q (definition t ordinal q)
-
-  abbrev pub written_parts : Part → List ℕ
-  written_parts q = written a q
+  a ordinal q = meant_in p file ordinal q
 
   module _ (index : ℕ) (section : SourceSection) (x : Section) (is : IsSectionOf t sites number o.symbols index section (sites_in index sites) x)
       (at : slice_get sections index ≡ Some section) (none : alignments_of x ≡ []) (loaded : section.loaded ≡ true)
@@ -118,7 +122,7 @@ module _ (p : Program) (os : List Object) (starts : Starts) (file : ℕ) (sites 
         (subst (λ rs. AllByRecursion (IsRelocated p.map.globals starts os i) rs) relocations_are relocated))
 
     -- the bytes of the section
-    pub bytes_linked : stored x.contents ≡ flat_map part_bytes ps → linked_bytes p.map.globals starts os i ≡ flat_map (written a) ps
+    pub bytes_linked : stored x.contents ≡ flat_map part_bytes ps → linked_bytes p.map.globals starts os i ≡ flat_map (written (meant_in p file)) ps
     bytes_linked holds =
         let kept_all : kept 0 (moves (starts file index) x) (stored x.contents) ≡ stored x.contents = ap (λ rs. kept 0 (plan (starts file index) 0 rs) (stored x.contents)) none in
         ap (λ rs. applied new worth rs (kept 0 (moves (starts file index) x) (stored x.contents))) relocations_are
@@ -136,18 +140,11 @@ module _ (p : Program) (os : List Object) (starts : Starts) (file : ℕ) (sites 
     has_parts ordinal [] h = tt
     has_parts ordinal (q ∷ qs) (h, hs) = (has_fields ordinal (template_fields q) h, has_parts ordinal qs hs)
 
-    -- what the row of a statement owes to it
-    pub record IsFit (z : Site) : Type 0 where
-      pub fits : SizeFits p (mapped_at starts file z)
-      pub written : section.executable ≡ true → IsWritten p (mapped_at starts file z)
-      pub code : section.executable ≡ true → code_bytes p (mapped_at starts file z) ≡ flat_map (written_parts) (parts_of t z)
-      pub figures : section.executable ≡ false → spelled p (mapped_at starts file z) ≡ flat_map (written_parts) (parts_of t z)
-
     fit : ((m : ℕ) → 0 < m → x.alignment % m ≡ 0 → section.executable ≡ false → starts file index % m ≡ 0) → (z : Site) → IsSiteIn index section z
         → (z.located.placed ≡ true → HasSize (form t z.located) z x.alignment z.located.kind)
         → AllByRecursion (λ q. IsTemplate q.template) (parts_of t z)
         → AllByRecursion (λ q. AllByRecursion (λ f. K q.ordinal f.symbol) (template_fields q.template)) (parts_of t z)
-        → has_row z.located ≡ true → IsFit z
+        → has_row z.located ≡ true → IsFit p starts file z
     fit begins z here sized template knows row =
         let l = z.located in
         let m = mapped_at starts file z in
@@ -155,15 +152,14 @@ module _ (p : Program) (os : List Object) (starts : Starts) (file : ℕ) (sites 
         let size = sized placed in
         let v = form t l in
         let held : IsHeld l.home l.kind = subst (λ y. IsHeld y l.kind) (sym here.home) here.held in
-        let flags : l.home.executable ≡ section.executable = ap (λ y. y.executable) here.home in
         let suit = suits_by z file x.alignment (starts file l.section) (row_in starts file z) v (has_values p m) l.kind refl refl refl
         (λ e al h. multiple e al h) (λ width es k. values width es k) (here.kind placed) size in
         record {
-          fits = fits p file l.ordinal l.section l.offset l.line l.home l.placed (row_in starts file z) z.offset (starts file l.section) l.kind suit;
-          written = λ e. is_written p file l.ordinal l.section l.offset l.line l.home l.placed (row_in starts file z) z.offset (starts file l.section) l.kind suit held (flags ∙ e);
-          code = λ e. coded p file l.ordinal l.section l.offset l.line l.home l.placed (row_in starts file z) z.offset (starts file l.section) l.kind suit held (flags ∙ e)
-              ∙ coded_by p file z x.alignment v l.kind held (flags ∙ e) size;
-          figures = λ e. spelled_by p file starts z x.alignment l.kind held (flags ∙ e) size;
+          sized = fits p file l.ordinal l.section l.offset l.line l.home l.placed (row_in starts file z) z.offset (starts file l.section) l.kind suit;
+          coded = λ e. is_written p file l.ordinal l.section l.offset l.line l.home l.placed (row_in starts file z) z.offset (starts file l.section) l.kind suit held e;
+          code = λ e. coded p file l.ordinal l.section l.offset l.line l.home l.placed (row_in starts file z) z.offset (starts file l.section) l.kind suit held e
+              ∙ coded_by p file z x.alignment v l.kind held e size;
+          figures = λ e. spelled_by p file starts z x.alignment l.kind held e size;
         }
       where
         multiple : z.located.home.executable ≡ false → (al : Option ℕ) → IsMultiple al x.alignment → suits.IsMultiple al (starts file z.located.section)
@@ -184,12 +180,12 @@ module _ (p : Program) (os : List Object) (starts : Starts) (file : ℕ) (sites 
         → AllByRecursion (λ z. z.located.placed ≡ true → HasSize (form t z.located) z x.alignment z.located.kind) zs
         → AllByRecursion (λ z. AllByRecursion (λ q. IsTemplate q.template) (parts_of t z)) zs
         → AllByRecursion (λ z. AllByRecursion (λ q. AllByRecursion (λ f. K q.ordinal f.symbol) (template_fields q.template)) (parts_of t z)) zs
-        → AllByRecursion (λ z. has_row z.located ≡ true → IsFit z) zs
+        → AllByRecursion (λ z. has_row z.located ≡ true → IsFit p starts file z) zs
     all_fit begins [] h sz ts ks = tt
     all_fit begins (z ∷ zs) (h, hs) (sz, szs) (ts, tss) (ks, kss) = (fit begins z h sz ts ks, all_fit begins zs hs szs tss kss)
 
     pub section_fits : ((m : ℕ) → 0 < m → x.alignment % m ≡ 0 → section.executable ≡ false → starts file index % m ≡ 0)
-        → AllByRecursion (λ z. has_row z.located ≡ true → IsFit z) own
+        → AllByRecursion (λ z. has_row z.located ≡ true → IsFit p starts file z) own
     section_fits begins =
         all_fit begins own (sites_are_in sections index section sites at settled) is.sizes
         (each (λ q. IsTemplate q.template) (parts_of t) own is.fields)

@@ -138,26 +138,27 @@ suits_by s file multiple start row v valued (Directs (Chooses choice)) b i at m 
 suits_by s file multiple start row v valued (Directs Ignored) b i at m values placed h = absurd placed
 
 module _ (p : Program) (file : ℕ) where
-  abbrev a : ℕ → Primary → Option ℕ
-  a ordinal q = address_by p.statements p.map.globals file q (definition (tables_in p file) ordinal q)
+  -- the address of what a statement of the file means by a name
+  abbrev pub meant_in : ℕ → Primary → Option ℕ
+  meant_in ordinal q = address_by p.statements p.map.globals file q (definition (tables_in p file) ordinal q)
 
   -- in data a statement's parts are what it spells
   values_spelled : (ordinal width : ℕ) (v : Expression → Value) (es : List Expression)
-      → flat_map (λ e. little_endian width (unwrap_or (resolved (a ordinal) (v e)) 0)) es ≡ flat_map (written a) (map (part_of ordinal) (map (λ e. Datum width (v e)) es))
+      → flat_map (λ e. little_endian width (unwrap_or (resolved (meant_in ordinal) (v e)) 0)) es ≡ flat_map (written meant_in) (map (part_of ordinal) (map (λ e. Datum width (v e)) es))
   values_spelled ordinal width v [] = refl
-  values_spelled ordinal width v (e ∷ es) = ap (λ l. little_endian width (unwrap_or (resolved (a ordinal) (v e)) 0) ++ l) (values_spelled ordinal width v es)
+  values_spelled ordinal width v (e ∷ es) = ap (λ l. little_endian width (unwrap_or (resolved (meant_in ordinal) (v e)) 0) ++ l) (values_spelled ordinal width v es)
 
   pub spelled_by : (starts : Starts) (s : Site) (multiple : ℕ) (kind : StatementKind) → IsHeld s.located.home kind → s.located.home.executable ≡ false
       → HasSize (form (tables_in p file) s.located) s multiple kind
       → let m : Mapped = mapped_at starts file s in
-      spelled_said (number_of p m) kind s.bytes ≡ flat_map (written a) (map (part_of s.located.ordinal) (templates (form (tables_in p file) s.located) kind s.bytes))
+      spelled_said (number_of p m) kind s.bytes ≡ flat_map (written meant_in) (map (part_of s.located.ordinal) (templates (form (tables_in p file) s.located) kind s.bytes))
   spelled_by starts s multiple (Label name) held aside size = refl
   spelled_by starts s multiple (Numbered number) held aside size = refl
   spelled_by starts s multiple (Instruction mnemonic operands) held aside size = let e : true ≡ false = sym held ∙ aside in absurd (cc)
   spelled_by starts s multiple (Directs (Values width es)) held aside size = values_spelled s.located.ordinal width (form (tables_in p file) s.located) es
   spelled_by starts s multiple (Directs (Strings ended strings)) held aside size = sym (append_nil (string_bytes ended strings))
   spelled_by starts s multiple (Directs (Zeros count)) held aside (x, y) =
-      ap (λ v. zeros (unwrap_or (resolved (a s.located.ordinal) v) 0)) y ∙ sym (append_nil (zeros s.bytes))
+      ap (λ v. zeros (unwrap_or (resolved (meant_in s.located.ordinal) v) 0)) y ∙ sym (append_nil (zeros s.bytes))
   spelled_by starts s multiple (Directs (Aligns_to_power e)) held aside size = sym (append_nil (zeros s.bytes))
   spelled_by starts s multiple (Directs (Aligns_to_bytes e)) held aside size = sym (append_nil (zeros s.bytes))
   spelled_by starts s multiple (Directs (Enters section)) held aside size = refl
@@ -170,7 +171,7 @@ module _ (p : Program) (file : ℕ) where
 
   -- in code its parts are the words of its instruction
   pub coded_by : (s : Site) (multiple : ℕ) (v : Expression → Value) (kind : StatementKind) → IsHeld s.located.home kind → s.located.home.executable ≡ true → HasSize v s multiple kind
-      → suits.code_said v kind ≡ flat_map (written a) (map (part_of s.located.ordinal) (templates v kind s.bytes))
+      → suits.code_said v kind ≡ flat_map (written meant_in) (map (part_of s.located.ordinal) (templates v kind s.bytes))
   coded_by s multiple v (Label name) held code size = refl
   coded_by s multiple v (Numbered number) held code size = refl
   coded_by s multiple v (Instruction mnemonic operands) held code size = sym (append_nil (suits.code_said v (Instruction mnemonic operands)))
