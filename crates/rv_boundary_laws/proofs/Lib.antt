@@ -11,3 +11,4 @@ pub mod Known
 pub mod Sections
 pub mod Placed
 pub mod Regions
+pub mod Files

@@ -3,6 +3,7 @@ use Rattle.rv_boundary_laws.proofs.Numbers.{difference_8}
 use Rattle.rv_boundary_laws.proofs.Patches.{makes}
 use Rattle.rv_boundary_laws.proofs.Statements.{address_by}
 use Rattle.rv_boundary_laws.proofs.Settled.{bytes_are}
+use Rattle.rv_boundary_laws.proofs.Files.{files}
 use Rattle.rv_boundary_laws.proofs.Regions.{good_file}
 use Rattle.rv_boundary_laws.proofs.Placed.{section_fits}
 use Rattle.rv_boundary_laws.proofs.Sections.{multiple_of}
