@@ -12,3 +12,4 @@ pub mod Sections
 pub mod Placed
 pub mod Regions
 pub mod Files
+pub mod Linked

@@ -12,17 +12,11 @@ use Rattle.rv_source_laws.specs.Program.{MaybeMapped, Mapped, first_of, statemen
 use Rattle.rv_source_laws.specs.Fits.{mapped_in}
 use Rattle.rv_object.specs.Object.{Object}
 use Rattle.rv_object_laws.specs.Inputs.{Starts}
+pub use Rattle.rv_boundary_laws.specs.Joins.{AreObjectsOf}
 use Rattle.rv_boundary_laws.proofs.Patches.{append_nil}
 use Rattle.rv_assemble_laws.specs.Sites.{Site, sites_in}
 use Rattle.rv_assemble_laws.specs.Symbols.{site_at}
 use Rattle.rv_assemble_laws.specs.IsObjectOf.{IsObjectOf}
-
--- each object is that of its source
-abbrev pub AreObjectsOf : List (List Statement) → List Object → Type 0
-AreObjectsOf [] [] = ⊤
-AreObjectsOf [] (o ∷ os) = ⊥
-AreObjectsOf (ss ∷ sources) [] = ⊥
-AreObjectsOf (ss ∷ sources) (o ∷ os) = IsObjectOf ss o × AreObjectsOf sources os
 
 -- a statement in a file of this number
 abbrev pub renumbered : ℕ → Located → Located

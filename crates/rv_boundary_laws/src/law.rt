@@ -1,10 +1,9 @@
-//! The law.
+//! The law that joins assembling and linking.
 
-ghost use Rattle.std.specs.Prelude.{◌≡◌, ℕ, ◌^◌, ◌<◌};
-ghost use Rattle.rv_isa.specs.declared.kind.Kind.TheVariants.{Add8, Sub8};
-ghost use Rattle.rv_isa_laws.specs.Bytes.{little_endian};
+ghost use Rattle.rv_boundary_laws.specs.Joins.{Joins};
 
-/// TODO
-pub fn development()
-    ensures { (n : ℕ) → n ≡ n }
+/// The objects of these sources, linked so, are the linked program of the sources: its map fits them, and its regions hold
+/// the bytes of their statements, whatever their number and that of their sections, where the map resolves their names.
+pub fn objects_of_sources_link()
+    ensures { Joins }
 {}

@@ -10,5 +10,5 @@
 mod law;
 mod worked;
 
-pub use law::development;
+pub use law::objects_of_sources_link;
 pub use worked::{two_files_are_objects, two_files_link};
