@@ -13,3 +13,4 @@ pub mod Placed
 pub mod Regions
 pub mod Files
 pub mod Linked
+pub mod Names
