@@ -63,7 +63,7 @@ module _ (statements : List MaybeMapped) (globals : List Global) (low : AllByRec
   meant ordinal q = address_by statements globals file q (definition t ordinal q)
 
   -- a place of the file
-  own_agrees : (q : Primary) (name : List ℕ) (s : Site) (d : Definition) → site_at sites d.ordinal ≡ Some s → s.located.placed ≡ true
+  pub own_agrees : (q : Primary) (name : List ℕ) (s : Site) (d : Definition) → site_at sites d.ordinal ≡ Some s → s.located.placed ≡ true
       → symbol_address_by globals (starts file) o name (after_site s d.plus) ≡ home_address statements file d
   own_agrees q name s d found placed =
       let here = all_found (IsSettled sections) (λ s. s.located.ordinal == d.ordinal) sites settled s found in

@@ -14,3 +14,4 @@ pub mod Regions
 pub mod Files
 pub mod Linked
 pub mod Names
+pub mod Globals

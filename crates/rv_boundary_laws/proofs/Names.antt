@@ -38,7 +38,7 @@ use Rattle.rv_boundary_laws.proofs.Files.{plain_of, IsFile, AreFiles, files, row
 
 -- ---- lists
 
-flat_join : {X Y : Type 0} (f : X → List Y) (xs ys : List X) → flat_map f (xs ++ ys) ≡ flat_map f xs ++ flat_map f ys
+pub flat_join : {X Y : Type 0} (f : X → List Y) (xs ys : List X) → flat_map f (xs ++ ys) ≡ flat_map f xs ++ flat_map f ys
 flat_join f [] ys = refl
 flat_join f (x ∷ xs) ys = ap (λ l. f x ++ l) (flat_join f xs ys) ∙ sym (append_assoc (f x) (flat_map f xs) (flat_map f ys))
 
@@ -141,7 +141,7 @@ map_join [] ys = refl
 map_join (x ∷ xs) ys = ap (λ (l : List (List ℕ)). x.name ∷ l) (map_join xs ys)
 
 -- a file's source by its number
-abbrev AreNth : List (List Statement) → ℕ → List (List Statement) → Type 0
+abbrev pub AreNth : List (List Statement) → ℕ → List (List Statement) → Type 0
 AreNth sources file [] = ⊤
 AreNth sources file (ss ∷ rest) = (slice_index_or sources (file - 1) [] ≡ ss) × AreNth sources (suc file) rest
 
@@ -152,7 +152,7 @@ nth_from sources file (ss ∷ rest) f = (
   nth_from sources (suc file) rest (λ i. ap (λ n. slice_index_or sources n []) (let e : suc file + i - 1 ≡ file + suc i - 1 = omega arith in e) ∙ f (suc i)),
 )
 
-nth_all : (sources : List (List Statement)) → AreNth sources 1 sources
+pub nth_all : (sources : List (List Statement)) → AreNth sources 1 sources
 nth_all sources = nth_from sources 1 sources (λ i. ap (λ n. slice_index_or sources n []) (let e : 1 + i - 1 ≡ i = omega arith in e))
 
 module _ (sources : List (List Statement)) (m : Map) (starts : Starts) where
@@ -163,7 +163,7 @@ module _ (sources : List (List Statement)) (m : Map) (starts : Starts) where
   names_at e = source.global_names_of sources (tables_in p e.located.file) e.located
 
   -- the names of a statement
-  site_names : (file : ℕ) (ss : List Statement) → slice_index_or sources (file - 1) [] ≡ ss → tables_in p file ≡ tables ss → (s : Site)
+  pub site_names : (file : ℕ) (ss : List Statement) → slice_index_or sources (file - 1) [] ≡ ss → tables_in p file ≡ tables ss → (s : Site)
       → names_at (statement_at starts file s) ≡ filter (λ name. is_global_after false ss name) (defined_name (tables ss) s.located.ordinal s.located.kind)
   site_names file ss nth same s =
       ap (λ x. filter (λ name. is_global_after false x name) (defined_name (tables_in p file) s.located.ordinal s.located.kind)) nth
