@@ -15,3 +15,4 @@ pub mod Files
 pub mod Linked
 pub mod Names
 pub mod Globals
+pub mod Joined

@@ -1,5 +1,6 @@
 use Rattle.rv_boundary_laws.proofs.Linked.{linked}
 use Rattle.rv_boundary_laws.proofs.Names.{names_are}
+use Rattle.rv_boundary_laws.proofs.Joined.{resolves}
 use Rattle.rv_boundary_laws.proofs.Globals.{globals_are}
 use Rattle.rv_boundary_laws.proofs.law.objects_of_sources_link.Goals as goal
 
