@@ -41,7 +41,7 @@ same_shown name (Some n) = refl
 abbrev pub IsLow : Starts → ℕ → Site → Type 0
 IsLow starts file s = has_row s.located ≡ true → starts file s.located.section + s.offset < 2 ^ 64
 
-low_rows : (starts : Starts) (file : ℕ) (sites : List Site) → AllByRecursion IsRow (rows_from starts file sites) → AllByRecursion (IsLow starts file) sites
+pub low_rows : (starts : Starts) (file : ℕ) (sites : List Site) → AllByRecursion IsRow (rows_from starts file sites) → AllByRecursion (IsLow starts file) sites
 low_rows starts file [] h = tt
 low_rows starts file (s ∷ ss) h = (first (has_row s.located) h, low_rows starts file ss (rest (has_row s.located) h))
   where

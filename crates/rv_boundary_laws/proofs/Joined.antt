@@ -18,6 +18,7 @@ use Rattle.rv_boundary_laws.proofs.Statements.{all_statements, all_rows}
 use Rattle.rv_boundary_laws.proofs.Files.{files, rows_ours, statements_ours}
 use Rattle.rv_boundary_laws.proofs.Names.{names_are, nth_all}
 use Rattle.rv_boundary_laws.proofs.Globals.{globals_are}
+use Rattle.rv_boundary_laws.proofs.Entry.{entry_is}
 
 distinct_same : (names : List (List ℕ)) → objects.AreDistinct names → source.AreDistinct names
 distinct_same [] h = tt
@@ -38,8 +39,15 @@ module _ (sources : List (List Statement)) (os : List Object) (text_start : ℕ)
       (subst (λ rs. AllByRecursion IsRow rs) (rows_ours sources os l.map link.starts h link.rows) link.readable.rows)
       ∙ ap (flat_map (source.defined_by sources p)) (sym (statements_ours sources os l.map link.starts h link.rows))
 
-  pub resolves : source.starts_at (find (λ e. source.begins_run sources e.located) p.statements) ≡ Some l.map.entry → Resolves sources l.map
-  resolves entry = record {
+  entry : source.starts_at (find (λ e. source.begins_run sources e.located) p.statements) ≡ Some l.map.entry
+  entry =
+      ap (λ es. source.starts_at (find (λ e. source.begins_run sources e.located) es)) (statements_ours sources os l.map link.starts h link.rows)
+      ∙ entry_is sources p link.starts 1 sources os h (files sources os l.map link.starts h link.rows) (nth_all sources)
+      (subst (λ rs. AllByRecursion IsRow rs) (rows_ours sources os l.map link.starts h link.rows) link.readable.rows)
+      ∙ link.entry
+
+  pub resolves : Resolves sources l.map
+  resolves = record {
     globals = link.globals ∙ ap (λ g. g ++ objects.shown_linker_symbols os l.map) definitions
         ∙ ap (λ ns. source.definitions sources l.map ++ filter (λ g. not (is_one_of ns g.name)) (source.linker_symbols l.map)) (sym names);
     once = subst source.AreDistinct (sym names) (distinct_same (objects.global_names os) link.once);

@@ -16,3 +16,4 @@ pub mod Linked
 pub mod Names
 pub mod Globals
 pub mod Joined
+pub mod Entry

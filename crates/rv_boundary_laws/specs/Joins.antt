@@ -2,7 +2,6 @@
 
 use Rattle.std.specs.Prelude.{ℕ, ⊤, List, [], ◌∷◌}
 use Rattle.rv_statement.specs.Statement.{Statement}
-use Rattle.rv_source_laws.specs.Resolves.{Resolves}
 use Rattle.rv_image.specs.Linked.{Linked}
 use Rattle.rv_chain_laws.specs.Contents.{IsLinked}
 use Rattle.rv_object.specs.Object.{Object}
@@ -16,8 +15,8 @@ AreObjectsOf [] (o ∷ os) = ⊥
 AreObjectsOf (ss ∷ sources) [] = ⊥
 AreObjectsOf (ss ∷ sources) (o ∷ os) = IsObjectOf ss o × AreObjectsOf sources os
 
--- the objects of sources, linked so, are the linked program of the sources, where the map resolves their names
+-- the objects of sources, linked so, are the linked program of the sources
 abbrev pub Joins : Type 0
 Joins =
     (sources : List (List Statement)) (os : List Object) (text_start : ℕ) (l : Linked)
-    → AreObjectsOf sources os → IsLinkOf os text_start l → Resolves sources l.map → IsLinked sources text_start l
+    → AreObjectsOf sources os → IsLinkOf os text_start l → IsLinked sources text_start l
