@@ -1,19 +1,18 @@
 -- The symbols of an object, in their order (gABI, "Symbol Table"; GNU as, "Symbols"): local ones, those that the source makes
 -- global, and those that it leaves undefined.
 
-use Rattle.std.specs.Prelude.{◌≡◌, ℕ, Bool, true, false, not, ◌&&◌, ◌||◌, ◌==◌, List, [], ◌∷◌, ◌++◌, filter, flat_map, map, Option, Some, None, bytes_eq, if◌then◌else◌}
+use Rattle.std.specs.Prelude.{◌≡◌, ℕ, Bool, true, false, not, ◌&&◌, ◌==◌, List, [], ◌∷◌, ◌++◌, filter, flat_map, map, Option, Some, None, if◌then◌else◌}
 use Rattle.std.specs.List.{find, list_any}
 use Rattle.rv_text_laws.specs.Expression.{Primary, Symbol as Named, Literal, Here, Reference}
 use Rattle.rv_text_laws.specs.Values.{Known, InSection as InData, Open as OpenAddress, Refused, add}
 use Rattle.rv_statement.specs.Statement.{StatementKind, Directs, Statement, Sets}
 use Rattle.rv_unit_laws.specs.Tables.{Tables, Definition, Assignment, definition, assigned_ever}
-use Rattle.rv_source_laws.specs.Located.{Located}
 use Rattle.rv_source_laws.specs.Resolves.{defined_name, is_global_after, is_one_of}
 use Rattle.rv_object.specs.declared.symbol.Binding.TheVariants.{Local, Global}
 use Rattle.rv_object.specs.declared.symbol.Definition.{Definition as Defined}
 use Rattle.rv_object.specs.declared.symbol.Definition.TheVariants.{Undefined, Absolute, InSection, Skipped}
 use Rattle.rv_object.specs.Object.{Symbol}
-use Rattle.rv_assemble_laws.specs.Templates.{Open, template_fields}
+use Rattle.rv_assemble_laws.specs.Templates.{template_fields}
 use Rattle.rv_assemble_laws.specs.Sites.{Site, Part, parts_of}
 
 -- ---- definitions

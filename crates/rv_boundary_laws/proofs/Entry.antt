@@ -1,6 +1,6 @@
 -- A run of the objects' program begins where that of the sources begins.
 
-use Rattle.std.proofs.Common.{◌≡◌, ℕ, suc, ◌+◌, ◌-◌, Bool, true, false, List, [], ◌∷◌, ◌++◌, refl, sym, ap, ◌∙◌, subst, map, Option, Some, None, ◌⊎◌, inl, inr}
+use Rattle.std.proofs.Common.{◌≡◌, ℕ, suc, ◌+◌, ◌-◌, Bool, true, false, List, [], ◌∷◌, ◌++◌, refl, sym, ap, ◌∙◌, map, Option, Some, None, ◌⊎◌, inl, inr}
 use Rattle.std.proofs.lemmas.Bool.{and_parts}
 use Rattle.std.specs.Prelude.{◌&&◌, ◌==◌, if◌then◌else◌, filter, flat_map, option_map, option_and_then, slice_index_or, bytes_eq, codes}
 use Rattle.std.specs.List.{AllByRecursion, slice_get, find}
@@ -16,7 +16,7 @@ use Rattle.rv_source_laws.specs.Resolves as source
 use Rattle.rv_source_laws.specs.Resolves.{is_global_after, defined_name}
 use Rattle.rv_object.specs.declared.symbol.Definition.{Definition as Defined}
 use Rattle.rv_object.specs.declared.symbol.Definition.TheVariants.{InSection}
-use Rattle.rv_object.specs.Object.{Section, Symbol, Object}
+use Rattle.rv_object.specs.Object.{Symbol, Object}
 use Rattle.rv_object_laws.specs.Inputs.{Starts}
 use Rattle.rv_object_laws.specs.Names as objects
 use Rattle.rv_object_laws.specs.Names.{exported, defined_address, is_in_text, is_text_definition, entry_by}
@@ -146,11 +146,15 @@ module _ (sources : List (List Statement)) (p : Program) (starts : Starts) (file
           × (find (objects.begins_run o) (map (λ name. global_symbol name d) (filter G (name ∷ []))) ≡ Some x) × (Da x ≡ Some n))
           ⊎ (((bytes_eq name (codes "_start") && goes_to_text s.located.home && source.is_global_in sources file (codes "_start")) ≡ false)
           × (find (objects.begins_run o) (map (λ name. global_symbol name d) (filter G (name ∷ []))) ≡ None))
-      go false u b v c w = inr (ap (λ x. x && goes_to_text s.located.home && source.is_global_in sources file (codes "_start")) u,
-          kept c w ∙ ap (λ x. if c then (if x && goes_to_text s.located.home then Some (global_symbol name d) else None) else None) u ∙ nothing c)
-      go true u false v c w = inr (ap (λ x. x && goes_to_text s.located.home && source.is_global_in sources file (codes "_start")) u ∙ ap (λ x. x && source.is_global_in sources file (codes "_start")) v,
-          kept c w ∙ ap (λ x. if c then (if x && goes_to_text s.located.home then Some (global_symbol name d) else None) else None) u
-          ∙ ap (λ x. if c then (if x then Some (global_symbol name d) else None) else None) v ∙ nothing c)
+      go false u b v c w = inr (
+        ap (λ x. x && goes_to_text s.located.home && source.is_global_in sources file (codes "_start")) u,
+        kept c w ∙ ap (λ x. if c then (if x && goes_to_text s.located.home then Some (global_symbol name d) else None) else None) u ∙ nothing c,
+      )
+      go true u false v c w = inr (
+        ap (λ x. x && goes_to_text s.located.home && source.is_global_in sources file (codes "_start")) u ∙ ap (λ x. x && source.is_global_in sources file (codes "_start")) v,
+        kept c w ∙ ap (λ x. if c then (if x && goes_to_text s.located.home then Some (global_symbol name d) else None) else None) u
+            ∙ ap (λ x. if c then (if x then Some (global_symbol name d) else None) else None) v ∙ nothing c,
+      )
       go true u true v c w =
           let same : name ≡ codes "_start" = same_bytes name (codes "_start") u in
           let global : source.is_global_in sources file (codes "_start") ≡ c = ap (λ x. is_global_after false x (codes "_start")) nth ∙ ap G (sym same) ∙ w in

@@ -1,27 +1,26 @@
 -- What linking the objects of sources makes of each file.
 
-use Rattle.std.proofs.Common.{◌≡◌, ℕ, zero, suc, ◌+◌, ◌-◌, Bool, true, false, List, [], ◌∷◌, ◌++◌, length, refl, sym, ap, ◌∙◌, subst, arith, map, Option, Some, None}
+use Rattle.std.proofs.Common.{◌≡◌, ℕ, zero, suc, ◌+◌, ◌-◌, Bool, true, false, List, [], ◌∷◌, ◌++◌, length, refl, ap, ◌∙◌, subst, arith, map, Option, Some, None}
 use Rattle.std.specs.Int.{w64, int_wrap}
 use Rattle.std.specs.Prelude.{⊤, pos, ◌&&◌, ◌==◌, if◌then◌else◌, filter, flat_map, option_and_then, slice_index_or}
-use Rattle.std.specs.List.{AllByRecursion, slice_get}
+use Rattle.std.specs.List.{slice_get}
 use Rattle.rv_isa.specs.declared.kind.Kind.{Kind}
 use Rattle.rv_isa.specs.declared.kind.Kind.TheVariants.{Abs32, Abs64, Add8, Add16, Add32, Add64, Sub8, Sub16, Sub32, Sub64}
-use Rattle.rv_text_laws.specs.Values.{Value, Constant, Symbolic, Difference, Faulty}
+use Rattle.rv_text_laws.specs.Values.{Constant, Symbolic, Difference, Faulty}
 use Rattle.rv_statement.specs.Statement.{Statement}
 use Rattle.rv_unit_laws.specs.Sections.{Section as SourceSection}
 use Rattle.rv_unit_laws.specs.Tables.{Tables, tables, at_start}
 use Rattle.rv_map.specs.Map.{Map}
 use Rattle.rv_map.specs.declared.map.Row.{Row as MapRow}
 use Rattle.rv_source_laws.specs.Located.{has_row, located}
-use Rattle.rv_source_laws.specs.Program.{MaybeMapped, Program, program, tables_in, address_at, mapped_of, statements_of}
+use Rattle.rv_source_laws.specs.Program.{Program, program, tables_in, address_at, mapped_of, statements_of}
 use Rattle.rv_source_laws.specs.Fits.{mapped_in}
-use Rattle.rv_object.specs.declared.row.Row.{Row}
 use Rattle.rv_object.specs.Object.{Relocation, Section, Symbol, Object}
 use Rattle.rv_object.specs.Valid.{is_align}
-use Rattle.rv_object_laws.specs.Moves.{Move, alignments_of, by_place, moves, new_offset, plan}
+use Rattle.rv_object_laws.specs.Moves.{alignments_of, by_place, plan}
 use Rattle.rv_object_laws.specs.Inputs.{Starts}
 use Rattle.rv_object_laws.specs.IsLinkOf.{moves_at, map_row, row_in as linked_row, rows_of as linked_rows}
-use Rattle.rv_assemble_laws.specs.Templates.{Template, Fixed, Datum, Open, template_fields, absolute_kind, add_kind, subtract_kind}
+use Rattle.rv_assemble_laws.specs.Templates.{Template, Fixed, Datum, template_fields, absolute_kind, add_kind, subtract_kind}
 use Rattle.rv_assemble_laws.specs.Sites.{Site, Part, part_bytes, parts, sites_in}
 use Rattle.rv_assemble_laws.specs.Symbols.{site_at}
 use Rattle.rv_assemble_laws.specs.IsObjectOf.{Numbering, row_of, rows_at, relocation_at, relocations_from, IsSectionOf, AreSectionsOf, IsObjectOf}
@@ -111,7 +110,12 @@ module _ (starts : Starts) where
       go (Some x) e = ap (plan start 0) (plain j x e)
 
   row_is : (file start : ℕ) (s : Site) → map_row file start [] (row_of s) ≡ record {
-    file = file; line = s.located.line; ordinal = s.located.ordinal; address = start + s.offset; bytes = s.bytes; instructions = s.instructions;
+    file = file;
+    line = s.located.line;
+    ordinal = s.located.ordinal;
+    address = start + s.offset;
+    bytes = s.bytes;
+    instructions = s.instructions;
   }
   row_is file start s =
       let mk : ℕ → ℕ → ℕ → MapRow = λ a b c. record { file = file; line = s.located.line; ordinal = s.located.ordinal; address = a; bytes = b; instructions = c } in

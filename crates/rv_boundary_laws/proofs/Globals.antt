@@ -1,29 +1,27 @@
 -- The global definitions of the objects have the addresses of those of the sources.
 
-use Rattle.std.proofs.Common.{◌≡◌, ℕ, zero, suc, ◌+◌, ◌-◌, ◌%◌, ◌<◌, Bool, true, false, List, [], ◌∷◌, ◌++◌, refl, sym, ap, ◌∙◌, subst, arith, map, Option, Some, None}
-use Rattle.std.proofs.lemmas.Bool.{and_parts}
-use Rattle.std.specs.Prelude.{⊤, ◌^◌, ◌&&◌, not, if◌then◌else◌, filter, flat_map, option_map, option_and_then, slice_index_or, bytes_eq}
-use Rattle.std.specs.List.{AllByRecursion, slice_get, find}
+use Rattle.std.proofs.Common.{◌≡◌, ℕ, suc, ◌+◌, ◌-◌, ◌%◌, ◌<◌, Bool, true, false, List, [], ◌∷◌, ◌++◌, refl, sym, ap, ◌∙◌, arith, map, Option, Some, None}
+use Rattle.std.specs.Prelude.{◌^◌, ◌&&◌, if◌then◌else◌, filter, flat_map, option_map, option_and_then, slice_index_or, bytes_eq}
+use Rattle.std.specs.List.{AllByRecursion}
 use Rattle.rv_text_laws.specs.Expression.{Here}
 use Rattle.rv_text_laws.specs.Values.{Meaning, Known, InSection as InData, Open as OpenAddress, Refused, add}
-use Rattle.rv_statement.specs.Statement.{StatementKind, Label, Numbered, Instruction, Directs, Statement, Directive, Enters, Sets}
+use Rattle.rv_statement.specs.Statement.{StatementKind, Label, Numbered, Instruction, Directs, Statement, Enters, Sets}
 use Rattle.rv_unit_laws.specs.Sections.{Section as SourceSection}
 use Rattle.rv_unit_laws.specs.Tables.{Tables, Assignment, tables, assigned_ever, is_location}
-use Rattle.rv_map.specs.Map.{Map, Global}
-use Rattle.rv_map.specs.Limits.{IsGlobal, IsRow}
-use Rattle.rv_map.specs.declared.map.Row.{Row as MapRow}
-use Rattle.rv_source_laws.specs.Located.{Located, has_row}
-use Rattle.rv_source_laws.specs.Program.{MaybeMapped, Program, program, tables_in, address_at, address_of, home_address}
+use Rattle.rv_map.specs.Map.{Global}
+use Rattle.rv_map.specs.Limits.{IsRow}
+use Rattle.rv_source_laws.specs.Located.{has_row}
+use Rattle.rv_source_laws.specs.Program.{MaybeMapped, Program, tables_in, address_of, home_address}
 use Rattle.rv_source_laws.specs.Resolves as source
 use Rattle.rv_source_laws.specs.Resolves.{is_global_after, defined_name}
 use Rattle.rv_object.specs.declared.symbol.Definition.{Definition as Defined}
-use Rattle.rv_object.specs.declared.symbol.Definition.TheVariants.{Undefined, Absolute, InSection, Skipped}
-use Rattle.rv_object.specs.Object.{Section, Symbol, Object}
+use Rattle.rv_object.specs.declared.symbol.Definition.TheVariants.{InSection}
+use Rattle.rv_object.specs.Object.{Symbol, Object}
 use Rattle.rv_object_laws.specs.Inputs.{Starts}
 use Rattle.rv_object_laws.specs.Names as objects
 use Rattle.rv_object_laws.specs.Names.{exported, defined_address, offset_address}
 use Rattle.rv_assemble_laws.specs.Sites.{Site}
-use Rattle.rv_assemble_laws.specs.Symbols.{site_at, after_found, after_site, assigned_definition, site_definition, global_symbol, exports_of, exports}
+use Rattle.rv_assemble_laws.specs.Symbols.{site_at, after_found, assigned_definition, site_definition, global_symbol, exports_of}
 use Rattle.rv_assemble_laws.specs.IsObjectOf.{IsObjectOf, IsInData, StandsInData}
 use Rattle.rv_boundary_laws.specs.Joins.{AreObjectsOf}
 use Rattle.rv_boundary_laws.proofs.Statements.{row_in, rows_from, statement_at, row_address, all_statements, all_rows}
@@ -31,7 +29,7 @@ use Rattle.rv_boundary_laws.proofs.Settled.{IsSettled, settled}
 use Rattle.rv_boundary_laws.proofs.Known.{all_found, section_found, still, own_agrees}
 use Rattle.rv_boundary_laws.proofs.Sections.{split}
 use Rattle.rv_boundary_laws.proofs.Files.{plain_of, IsFile, AreFiles}
-use Rattle.rv_boundary_laws.proofs.Names.{flat_join, exported_are, AreNth, site_names}
+use Rattle.rv_boundary_laws.proofs.Names.{flat_join, exported_are, AreNth}
 
 same_shown : (name : List ℕ) (a : Option ℕ) → objects.shown name a ≡ source.shown name a
 same_shown name None = refl

@@ -1,7 +1,7 @@
 -- The map of the objects' program resolves the names of the sources.
 
-use Rattle.std.proofs.Common.{◌≡◌, ℕ, Bool, false, List, [], ◌∷◌, ◌++◌, refl, sym, ap, ◌∙◌, subst, Some}
-use Rattle.std.specs.Prelude.{not, filter, flat_map, codes}
+use Rattle.std.proofs.Common.{◌≡◌, ℕ, List, [], ◌∷◌, ◌++◌, sym, ap, ◌∙◌, subst, Some}
+use Rattle.std.specs.Prelude.{not, filter, flat_map}
 use Rattle.std.specs.List.{AllByRecursion, find}
 use Rattle.rv_statement.specs.Statement.{Statement}
 use Rattle.rv_map.specs.Limits.{IsRow}
@@ -9,12 +9,10 @@ use Rattle.rv_source_laws.specs.Program.{Program, program, tables_in}
 use Rattle.rv_source_laws.specs.Resolves as source
 use Rattle.rv_source_laws.specs.Resolves.{Resolves, is_one_of}
 use Rattle.rv_image.specs.Linked.{Linked}
-use Rattle.rv_chain_laws.specs.Contents.{IsLinked}
 use Rattle.rv_object.specs.Object.{Object}
 use Rattle.rv_object_laws.specs.Names as objects
 use Rattle.rv_object_laws.specs.IsLinkOf.{IsLinkOf}
 use Rattle.rv_boundary_laws.specs.Joins.{AreObjectsOf}
-use Rattle.rv_boundary_laws.proofs.Statements.{all_statements, all_rows}
 use Rattle.rv_boundary_laws.proofs.Files.{files, rows_ours, statements_ours}
 use Rattle.rv_boundary_laws.proofs.Names.{names_are, nth_all}
 use Rattle.rv_boundary_laws.proofs.Globals.{globals_are}

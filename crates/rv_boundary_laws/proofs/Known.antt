@@ -1,8 +1,7 @@
 -- A symbol of an object has the address of what its statement means by it.
 
 use Rattle.std.proofs.Common.{◌≡◌, ℕ, zero, suc, ◌+◌, ◌-◌, ◌%◌, ◌<◌, Bool, true, false, List, [], ◌∷◌, refl, sym, ap, ◌∙◌, subst, arith, Option, Some, None}
-use Rattle.std.proofs.lemmas.Bool.{eqb-true, and_parts}
-use Rattle.std.specs.Prelude.{◌^◌, ◌&&◌, ◌==◌, if◌then◌else◌, is_some, unwrap_or, option_map, option_and_then, bytes_eq, IsTrue}
+use Rattle.std.specs.Prelude.{◌^◌, ◌&&◌, ◌==◌, if◌then◌else◌, is_some, unwrap_or, option_map, option_and_then, bytes_eq}
 use Rattle.std.specs.List.{AllByRecursion, find, slice_get}
 use Rattle.rv_text_laws.specs.Expression.{Primary, Symbol as Named, Literal, Here, Reference}
 use Rattle.rv_text_laws.specs.Values.{add}
@@ -10,17 +9,14 @@ use Rattle.rv_unit_laws.specs.Sections.{Section as SourceSection}
 use Rattle.rv_unit_laws.specs.Tables.{Tables, Definition, definition}
 use Rattle.rv_map.specs.Map.{Global}
 use Rattle.rv_map.specs.Limits.{IsGlobal}
-use Rattle.rv_source_laws.specs.Located.{has_row}
-use Rattle.rv_source_laws.specs.Program.{MaybeMapped, Program, address_at, address_by, home_address, outer_address, global_address as source_global_address}
-use Rattle.rv_object.specs.declared.symbol.Definition.TheVariants.{Undefined, Absolute, InSection, Skipped}
-use Rattle.rv_object.specs.declared.symbol.Definition.{Definition as Defined}
+use Rattle.rv_source_laws.specs.Program.{MaybeMapped, address_at, address_by, home_address, outer_address}
 use Rattle.rv_object.specs.Object.{Section, Symbol, Object}
 use Rattle.rv_object_laws.specs.Moves.{alignments_of, moves, plan, new_offset}
 use Rattle.rv_object_laws.specs.Inputs.{Starts}
 use Rattle.rv_object_laws.specs.Names.{symbol_address, symbol_address_by, offset_address, global_address}
 use Rattle.rv_object_laws.specs.Values.{target}
 use Rattle.rv_assemble_laws.specs.Sites.{Site, sites_in}
-use Rattle.rv_assemble_laws.specs.Symbols.{site_at, after_site, IsOwn, IsDefinedBy, IsNamed, StandsFor}
+use Rattle.rv_assemble_laws.specs.Symbols.{site_at, after_site, IsDefinedBy, IsNamed, StandsFor}
 use Rattle.rv_assemble_laws.specs.IsObjectOf.{Numbering, IsSectionOf, AreSectionsOf}
 use Rattle.rv_boundary_laws.proofs.Statements.{row_address}
 use Rattle.rv_boundary_laws.proofs.Settled.{IsSettled}

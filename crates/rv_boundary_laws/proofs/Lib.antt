@@ -2,7 +2,6 @@ pub mod TwoObjects
 pub mod TwoLinked
 pub mod Numbers
 pub mod Patches
-
 pub mod Statements
 pub mod Settled
 pub mod Suits

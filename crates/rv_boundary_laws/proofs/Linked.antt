@@ -1,18 +1,17 @@
 -- The linked program of the objects is that of the sources.
 
-use Rattle.std.proofs.Common.{◌≡◌, ℕ, zero, suc, ◌+◌, ◌*◌, ◌%◌, Bool, true, false, List, [], ◌∷◌, ◌++◌, length, refl, sym, ap, ◌∙◌, subst, arith, map, Option, Some, None}
+use Rattle.std.proofs.Common.{◌≡◌, ℕ, suc, ◌+◌, ◌%◌, Bool, true, false, List, [], ◌∷◌, ◌++◌, length, refl, sym, ap, ◌∙◌, subst, arith, map, None}
 use Rattle.std.proofs.lemmas.Bool.{and_parts}
 use Rattle.std.proofs.lemmas.Bool.Decides.{nat_tests}
 use Rattle.std.proofs.lemmas.List.Sums.{sum_by-cons}
-use Rattle.std.specs.Prelude.{⊤, ◌&&◌, not, nat_lt, IsTrue, if◌then◌else◌, filter, flat_map, slice_index_or}
+use Rattle.std.specs.Prelude.{◌&&◌, not, nat_lt, IsTrue, if◌then◌else◌, filter, flat_map}
 use Rattle.std.specs.List.{AllByRecursion}
 use Rattle.rv_statement.specs.Statement.{Statement}
 use Rattle.rv_unit_laws.specs.Sections.{Section as SourceSection, goes_to_text, goes_to_rodata, goes_to_data, goes_to_bss}
 use Rattle.rv_unit_laws.specs.Tables.{Tables, aligned, tables, at_start}
 use Rattle.rv_unit_laws.specs.Faults.{first_fault}
-use Rattle.rv_map.specs.Map.{Map}
 use Rattle.rv_map.specs.declared.map.Row.{Row as MapRow}
-use Rattle.rv_source_laws.specs.Located.{Located, has_row, located, located_of, located_from}
+use Rattle.rv_source_laws.specs.Located.{Located, has_row, located_of}
 use Rattle.rv_source_laws.specs.Program.{Mapped, Program, program, tables_in}
 use Rattle.rv_source_laws.specs.Fits as source
 use Rattle.rv_source_laws.specs.Fits.{SizeFits}
@@ -22,20 +21,20 @@ use Rattle.rv_image.specs.Linked.{Linked}
 use Rattle.rv_chain_laws.specs.Contents.{IsWritten, IsLinked, code_bytes, contents as source_contents}
 use Rattle.rv_chain_laws.proofs.Homes.{IsAtHome, homes, from_blocks, sections_in}
 use Rattle.rv_chain_laws.proofs.Regions.{AllIn}
-use Rattle.rv_object.specs.Object.{Contents, Section, Object, stored}
+use Rattle.rv_object.specs.Object.{Section, Object, stored}
 use Rattle.rv_object_laws.specs.Inputs as objects
 use Rattle.rv_object_laws.specs.Inputs.{Starts, InputSection, inputs_from, inputs_of, inputs, contents, Holds, Stand}
 use Rattle.rv_object_laws.specs.Values.{linked_bytes, IsRelocated}
-use Rattle.rv_object_laws.specs.IsLinkOf.{IsLinkOf, is_loaded, rows_of}
+use Rattle.rv_object_laws.specs.IsLinkOf.{IsLinkOf, is_loaded}
 use Rattle.rv_assemble_laws.specs.Sites.{Site, parts, parts_of, part_bytes, sites_in, end_of}
-use Rattle.rv_assemble_laws.specs.IsObjectOf.{Numbering, contents_of, IsSectionOf, AreSectionsOf, IsObjectOf}
+use Rattle.rv_assemble_laws.specs.IsObjectOf.{Numbering, contents_of, IsSectionOf, AreSectionsOf}
 use Rattle.rv_boundary_laws.proofs.Patches.{written}
 use Rattle.rv_boundary_laws.proofs.Statements.{AreObjectsOf, renumbered, renumbers, row_in, rows_from, mapped_at, all_rows}
 use Rattle.rv_boundary_laws.proofs.Settled.{settled}
 use Rattle.rv_boundary_laws.proofs.Sections.{meant_in, split}
 use Rattle.rv_boundary_laws.proofs.Placed.{IsFit}
 use Rattle.rv_boundary_laws.proofs.Regions.{AreGood, IsRegion, region, greatest_same, good_join, good_file}
-use Rattle.rv_boundary_laws.proofs.Files.{plain_of, IsFile, AreFiles, files, rows_ours}
+use Rattle.rv_boundary_laws.proofs.Files.{plain_of, AreFiles, files, rows_ours}
 
 -- ---- sections go where the source's go
 

@@ -1,40 +1,28 @@
 -- The names of the map are those of the sources.
 
-use Rattle.std.proofs.Common.{◌≡◌, ℕ, zero, suc, ◌+◌, ◌-◌, ◌%◌, ◌<◌, Bool, true, false, List, [], ◌∷◌, ◌++◌, refl, sym, ap, ◌∙◌, subst, arith, map, Option, Some, None}
-use Rattle.std.proofs.lemmas.Bool.{and_parts}
-use Rattle.std.specs.Prelude.{⊤, ◌^◌, ◌&&◌, not, if◌then◌else◌, filter, flat_map, option_map, option_and_then, slice_index_or, codes}
-use Rattle.std.specs.List.{AllByRecursion, slice_get, find, list_any}
-use Rattle.rv_text_laws.specs.Values.{Meaning, Known, InSection as InData, Open as OpenAddress, Refused, add}
-use Rattle.rv_statement.specs.Statement.{StatementKind, Label, Numbered, Instruction, Directs, Statement, Directive, Enters, Opens, Globl, Local, Sets, Aligns_to_power, Aligns_to_bytes, Values, Strings, Zeros, Chooses, Ignored}
-use Rattle.rv_unit_laws.specs.Sections.{Section as SourceSection}
+use Rattle.std.proofs.Common.{◌≡◌, ℕ, suc, ◌+◌, ◌-◌, Bool, true, false, List, [], ◌∷◌, ◌++◌, refl, sym, ap, ◌∙◌, arith, map, Option, Some, None}
+use Rattle.std.specs.Prelude.{⊤, ◌&&◌, not, if◌then◌else◌, filter, flat_map, slice_index_or}
+use Rattle.std.specs.List.{list_any}
+use Rattle.rv_text_laws.specs.Values.{Meaning, Known, InSection as InData, Open as OpenAddress, Refused}
+use Rattle.rv_statement.specs.Statement.{StatementKind, Label, Numbered, Instruction, Directs, Statement, Enters, Sets}
 use Rattle.rv_unit_laws.specs.Tables.{Tables, Assignment, tables, assigned_ever}
-use Rattle.rv_map.specs.Map.{Map, Global}
-use Rattle.rv_map.specs.Limits.{IsGlobal, IsRow}
-use Rattle.rv_map.specs.declared.map.Row.{Row as MapRow}
-use Rattle.rv_source_laws.specs.Located.{Located, has_row}
-use Rattle.rv_source_laws.specs.Program.{MaybeMapped, Program, program, tables_in, address_at, address_of, home_address}
+use Rattle.rv_map.specs.Map.{Map}
+use Rattle.rv_source_laws.specs.Program.{MaybeMapped, Program, program, tables_in}
 use Rattle.rv_source_laws.specs.Resolves as source
 use Rattle.rv_source_laws.specs.Resolves.{Resolves, is_global_after, defined_name, is_one_of}
-use Rattle.rv_image.specs.Linked.{Linked}
-use Rattle.rv_object.specs.declared.symbol.Binding.TheVariants as bindings
 use Rattle.rv_object.specs.declared.symbol.Definition.{Definition as Defined}
-use Rattle.rv_object.specs.declared.symbol.Definition.TheVariants.{Undefined, Absolute, InSection, Skipped}
-use Rattle.rv_object.specs.Object.{Section, Symbol, Object}
-use Rattle.rv_object_laws.specs.Moves.{alignments_of, moves, new_offset}
+use Rattle.rv_object.specs.declared.symbol.Definition.TheVariants.{Undefined, InSection}
+use Rattle.rv_object.specs.Object.{Symbol, Object}
 use Rattle.rv_object_laws.specs.Inputs.{Starts}
 use Rattle.rv_object_laws.specs.Names as objects
 use Rattle.rv_object_laws.specs.Names.{is_exported, exported, is_defined, defined_address, offset_address}
-use Rattle.rv_object_laws.specs.IsLinkOf.{IsLinkOf, rows_of}
 use Rattle.rv_assemble_laws.specs.Sites.{Site}
-use Rattle.rv_assemble_laws.specs.Symbols.{site_at, after_found, after_site, assigned_definition, site_definition, local_symbol, global_symbol, SymbolUse, references, unnamed_symbols, named_symbols, local_symbols, exports_of, exports, undefined_symbols, distinct_from, missing_name, is_absolute, is_meant, are_together}
-use Rattle.rv_assemble_laws.specs.IsObjectOf.{Numbering, AreSectionsOf, IsObjectOf, StandsInData}
+use Rattle.rv_assemble_laws.specs.Symbols.{site_at, after_found, assigned_definition, site_definition, local_symbol, global_symbol, references, unnamed_symbols, named_symbols, local_symbols, exports_of, exports, undefined_symbols, distinct_from, missing_name, is_absolute, is_meant, are_together}
+use Rattle.rv_assemble_laws.specs.IsObjectOf.{IsObjectOf}
 use Rattle.rv_boundary_laws.specs.Joins.{AreObjectsOf}
 use Rattle.rv_boundary_laws.proofs.Patches.{append_assoc, append_nil}
-use Rattle.rv_boundary_laws.proofs.Statements.{row_in, rows_from, statement_at, row_address, all_statements, all_rows}
-use Rattle.rv_boundary_laws.proofs.Settled.{IsSettled, settled}
-use Rattle.rv_boundary_laws.proofs.Known.{all_found, section_found, still}
-use Rattle.rv_boundary_laws.proofs.Sections.{split}
-use Rattle.rv_boundary_laws.proofs.Files.{plain_of, IsFile, AreFiles, files, rows_ours, statements_ours}
+use Rattle.rv_boundary_laws.proofs.Statements.{statement_at, all_statements}
+use Rattle.rv_boundary_laws.proofs.Files.{AreFiles}
 
 -- ---- lists
 

@@ -1,6 +1,6 @@
 -- The relocations of a section, part by part: what each makes of its own bytes is all that there is to show.
 
-use Rattle.std.proofs.Common.{◌≡◌, ℕ, zero, suc, ◌+◌, ◌/◌, ◌<◌, Bool, true, false, List, [], ◌∷◌, ◌++◌, length, take, drop, refl, sym, ap, ◌∙◌, subst, arith, length-append, map, Some, ◌⊎◌, inl, inr}
+use Rattle.std.proofs.Common.{◌≡◌, ℕ, zero, suc, ◌+◌, ◌/◌, ◌<◌, Bool, true, false, List, [], ◌∷◌, ◌++◌, length, take, drop, refl, sym, ap, ◌∙◌, subst, arith, length-append, map, Some, inl, inr}
 use Rattle.std.proofs.lemmas.List.{length-replicate}
 use Rattle.std.specs.Prelude.{ℤ, pos, ◌+ℤ◌, ◌^◌, flat_map, Option, unwrap_or, option_map, option_and_then}
 use Rattle.std.specs.Int.{w64, int_wrap}
@@ -11,7 +11,7 @@ use Rattle.rv_isa.specs.Kinds.{width_of}
 use Rattle.rv_isa_laws.specs.Bytes.{little_endian}
 use Rattle.rv_reloc.specs.Fields.{patched}
 use Rattle.rv_text_laws.specs.Expression.{Primary}
-use Rattle.rv_text_laws.specs.Values.{Meaning, Value, Constant, Symbolic, Difference, Faulty, add, subtract}
+use Rattle.rv_text_laws.specs.Values.{Meaning, Constant, Symbolic, Difference, Faulty, add, subtract}
 use Rattle.rv_object.specs.Object.{Relocation}
 use Rattle.rv_source_laws.specs.Program.{resolved}
 use Rattle.rv_assemble_laws.specs.Templates.{Template, Fixed, Datum, Open, opened, zeros, template_fields, IsTemplate, IsWide, IsWidth}

@@ -1,19 +1,19 @@
 -- A section of an object in the program: its bytes, its rows and the sizes of its statements.
 
-use Rattle.std.proofs.Common.{◌≡◌, ℕ, suc, ◌+◌, ◌%◌, ◌<◌, Bool, true, false, List, [], ◌∷◌, ◌++◌, refl, sym, ap, ◌∙◌, subst, arith, map, Option, Some, None}
+use Rattle.std.proofs.Common.{◌≡◌, ℕ, ◌%◌, ◌<◌, true, false, List, [], ◌∷◌, refl, sym, ap, ◌∙◌, subst, map, Option, Some, None}
 use Rattle.std.proofs.lemmas.Bool.{and_parts}
-use Rattle.std.specs.Prelude.{ℤ, pos, ◌+ℤ◌, ◌==◌, ◌&&◌, if◌then◌else◌, flat_map, is_some, unwrap_or, option_and_then}
+use Rattle.std.specs.Prelude.{ℤ, pos, ◌+ℤ◌, if◌then◌else◌, flat_map, is_some, unwrap_or, option_and_then}
 use Rattle.std.specs.Int.{w64, int_wrap}
 use Rattle.std.specs.List.{AllByRecursion, list_all, slice_get}
 use Rattle.rv_isa.specs.declared.kind.Kind.{Kind}
 use Rattle.rv_isa.specs.declared.kind.Kind.TheVariants.{Abs32, Abs64, Add8, Add16, Add32, Add64, Sub8, Sub16, Sub32, Sub64}
 use Rattle.rv_text_laws.specs.Expression.{Primary}
-use Rattle.rv_statement.specs.Statement.{StatementKind, Directs, Expression, Values}
+use Rattle.rv_statement.specs.Statement.{Directs, Expression, Values}
 use Rattle.rv_unit_laws.specs.Sections.{Section as SourceSection}
-use Rattle.rv_unit_laws.specs.Tables.{Tables, definition}
+use Rattle.rv_unit_laws.specs.Tables.{Tables}
 use Rattle.rv_map.specs.Limits.{IsGlobal}
 use Rattle.rv_source_laws.specs.Located.{has_row}
-use Rattle.rv_source_laws.specs.Program.{Mapped, Program, tables_in, address_at, address_by, has_values, value as value_at, expressions}
+use Rattle.rv_source_laws.specs.Program.{Program, tables_in, address_at, has_values, value as value_at, expressions}
 use Rattle.rv_source_laws.specs.Fits.{SizeFits}
 use Rattle.rv_source_laws.specs.Start.{spelled}
 use Rattle.rv_chain_laws.specs.Contents.{IsWritten, code_bytes}
@@ -24,9 +24,9 @@ use Rattle.rv_object_laws.specs.Inputs.{Starts, InputSection}
 use Rattle.rv_object_laws.specs.Values.{target, value, applied, linked_bytes, IsRelocated}
 use Rattle.rv_assemble_laws.specs.Templates.{Template, Open, IsTemplate, template_fields, templates}
 use Rattle.rv_assemble_laws.specs.Sites.{Site, Part, form, part_of, parts_of, parts, part_bytes, sites_in, HasSize, IsMultiple}
-use Rattle.rv_assemble_laws.specs.Symbols.{SymbolUse, references_in, site_at}
+use Rattle.rv_assemble_laws.specs.Symbols.{references_in, site_at}
 use Rattle.rv_assemble_laws.specs.IsObjectOf.{Numbering, relocations_from, IsNumbered, IsSectionOf, AreSectionsOf}
-use Rattle.rv_boundary_laws.proofs.Patches.{is_data, written, all_made, makes, IsKnown, Makes}
+use Rattle.rv_boundary_laws.proofs.Patches.{is_data, written, all_made, makes, IsKnown}
 use Rattle.rv_boundary_laws.proofs.Statements.{row_in, mapped_at, row_address}
 use Rattle.rv_boundary_laws.proofs.Settled.{IsSettled, IsSiteIn, sites_are_in}
 use Rattle.rv_boundary_laws.proofs.Known.{still, meant_of}

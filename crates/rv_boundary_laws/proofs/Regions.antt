@@ -1,12 +1,10 @@
 -- The regions of the program hold the sections of the sources.
 
-use Rattle.std.proofs.Common.{◌≡◌, ℕ, zero, suc, ◌+◌, ◌-◌, ◌%◌, ◌<◌, ◌≤◌, Bool, true, false, List, [], ◌∷◌, ◌++◌, length, refl, sym, ap, ◌∙◌, subst, arith, map, max, Option, Some, None}
-use Rattle.std.proofs.lemmas.Bool.{and_parts}
-use Rattle.std.specs.Prelude.{⊤, ◌&&◌, not, nat_lt, if◌then◌else◌, flat_map, option_and_then, slice_index_or}
+use Rattle.std.proofs.Common.{◌≡◌, ℕ, suc, ◌+◌, ◌-◌, ◌%◌, ◌≤◌, Bool, true, false, List, [], ◌∷◌, ◌++◌, length, refl, sym, ap, ◌∙◌, subst, arith, map, max, Some}
+use Rattle.std.specs.Prelude.{⊤, ◌&&◌, nat_lt, if◌then◌else◌, flat_map, option_and_then, slice_index_or}
 use Rattle.std.specs.List.{AllByRecursion, slice_get}
-use Rattle.rv_statement.specs.Statement.{Statement}
 use Rattle.rv_unit_laws.specs.Sections.{Section as SourceSection}
-use Rattle.rv_unit_laws.specs.Tables.{Tables, aligned, tables}
+use Rattle.rv_unit_laws.specs.Tables.{Tables, aligned}
 use Rattle.rv_map.specs.declared.map.Region.{Region}
 use Rattle.rv_map.specs.Limits.{IsGlobal}
 use Rattle.rv_source_laws.specs.Located.{has_row}
@@ -14,12 +12,12 @@ use Rattle.rv_source_laws.specs.Program.{Mapped, Program, tables_in, address_at}
 use Rattle.rv_source_laws.specs.Fits as source
 use Rattle.rv_chain_laws.specs.Contents.{contents as source_contents, zeros}
 use Rattle.rv_chain_laws.proofs.Regions.{AllIn}
-use Rattle.rv_object.specs.Object.{Contents, Section, Object, stored, size_of}
-use Rattle.rv_object_laws.specs.Moves.{alignments_of, moves, new_offset}
-use Rattle.rv_object_laws.specs.Inputs.{Starts, InputSection, inputs_from, inputs_of, begins_at, start_of, size, Stand, end_of, gaps_of, raised, greatest, contents, goes_to_text}
+use Rattle.rv_object.specs.Object.{Section, Object, stored, size_of}
+use Rattle.rv_object_laws.specs.Moves.{alignments_of}
+use Rattle.rv_object_laws.specs.Inputs.{Starts, InputSection, inputs_from, begins_at, start_of, size, Stand, end_of, gaps_of, raised, greatest, contents, goes_to_text}
 use Rattle.rv_object_laws.specs.Values.{linked_bytes, IsRelocated}
 use Rattle.rv_object_laws.specs.IsLinkOf.{is_loaded}
-use Rattle.rv_assemble_laws.specs.Sites.{Site, Part, parts_of, parts, part_bytes, sites_in, end_of as sites_end}
+use Rattle.rv_assemble_laws.specs.Sites.{Site, parts_of, parts, part_bytes, sites_in, end_of as sites_end}
 use Rattle.rv_assemble_laws.specs.Symbols.{site_at}
 use Rattle.rv_assemble_laws.specs.IsObjectOf.{Numbering, contents_of, IsSectionOf, AreSectionsOf}
 use Rattle.rv_assemble_laws.proofs.Filled.{filled}
@@ -27,7 +25,7 @@ use Rattle.rv_boundary_laws.proofs.Patches.{written}
 use Rattle.rv_boundary_laws.proofs.Statements.{mapped_at, mapped_from, row_address}
 use Rattle.rv_boundary_laws.proofs.Settled.{IsSettled, IsSiteIn, sites_are_in, follows, sized, bytes_are}
 use Rattle.rv_boundary_laws.proofs.Known.{still}
-use Rattle.rv_boundary_laws.proofs.Sections.{meant_in, multiple_of, split}
+use Rattle.rv_boundary_laws.proofs.Sections.{meant_in, multiple_of}
 use Rattle.rv_boundary_laws.proofs.Placed.{IsFit, bytes_linked, section_fits}
 
 -- ---- a region, section by section
@@ -121,7 +119,6 @@ module _ (p : Program) (all : List Object) (starts : Starts) (spells : Mapped �
       → spells (mapped_at starts file z) ≡ flat_map (written (meant_in p file)) (parts_of (tables_in p file) z))
       (fitted : (file : ℕ) (s : SourceSection) (z : Site) → goes_source s ≡ true → z.located.home ≡ s → IsFit p starts file z → P (mapped_at starts file z))
       (codes : two ≡ true → (s : SourceSection) → goes_source s ≡ true → (s.loaded && s.executable) ≡ true) where
-
     module _ (file : ℕ) (sites : List Site) (number : Numbering) (o : Object) (sections : List SourceSection)
         (low : AllByRecursion IsGlobal p.map.globals) (are : AreSectionsOf (tables_in p file) sites number o.symbols 0 sections o.sections)
         (settled : AllByRecursion (IsSettled sections) sites)

@@ -1,43 +1,29 @@
 -- A section of an object in the program: its bytes, its rows, and the sizes of its statements.
 
-use Rattle.std.proofs.Common.{◌≡◌, ℕ, suc, ◌+◌, ◌-◌, ◌*◌, ◌/◌, ◌%◌, ◌<◌, ◌≤◌, Bool, true, false, List, [], ◌∷◌, ◌++◌, length, refl, sym, ap, ◌∙◌, subst, arith, map, max, Option, Some, None, inl, inr}
+use Rattle.std.proofs.Common.{◌≡◌, ℕ, ◌+◌, ◌-◌, ◌*◌, ◌/◌, ◌%◌, ◌<◌, Bool, true, false, List, [], ◌∷◌, ◌++◌, length, refl, sym, ap, ◌∙◌, arith, map, Option, Some, None}
 use Rattle.std.proofs.Common.{add-zero, mod-eq_of_lt}
 use Rattle.std.proofs.Math.Nat.{add-mul-mod_self_right}
 use Rattle.std.proofs.lemmas.Nat.{div-add-mod'}
-use Rattle.std.proofs.lemmas.Bool.{and_parts}
-use Rattle.std.specs.Prelude.{ℤ, pos, ◌+ℤ◌, ◌^◌, ◌&&◌, ◌==◌, if◌then◌else◌, flat_map, is_some, unwrap_or, option_map, option_and_then}
-use Rattle.std.specs.Int.{w64, int_wrap}
-use Rattle.std.specs.List.{AllByRecursion, list_all, slice_get}
-use Rattle.rv_isa.specs.declared.kind.Kind.{Kind}
-use Rattle.rv_isa.specs.declared.kind.Kind.TheVariants.{Abs32, Abs64, Add8, Add16, Add32, Add64, Sub8, Sub16, Sub32, Sub64}
+use Rattle.std.specs.Prelude.{◌&&◌, flat_map, is_some, unwrap_or, option_map, option_and_then}
+use Rattle.std.specs.List.{AllByRecursion, list_all}
 use Rattle.rv_isa_laws.specs.Bytes.{little_endian}
 use Rattle.rv_text_laws.specs.Expression.{Primary}
 use Rattle.rv_text_laws.specs.Values.{Value, Constant, Symbolic, Difference, Faulty, add, subtract}
-use Rattle.rv_statement.specs.Statement.{StatementKind, Label, Numbered, Instruction, Directs, Expression, Directive, Enters, Opens, Globl, Local, Sets, Aligns_to_power, Aligns_to_bytes, Values, Strings, Zeros, Chooses, Ignored}
-use Rattle.rv_unit_laws.specs.Sections.{Section as SourceSection}
-use Rattle.rv_unit_laws.specs.Tables.{Tables, aligned, alignment_of, definition, string_bytes}
+use Rattle.rv_statement.specs.Statement.{StatementKind, Label, Numbered, Instruction, Directs, Expression, Enters, Opens, Globl, Local, Sets, Aligns_to_power, Aligns_to_bytes, Values, Strings, Zeros, Chooses, Ignored}
+use Rattle.rv_unit_laws.specs.Tables.{aligned, alignment_of, definition, string_bytes}
 use Rattle.rv_map.specs.declared.map.Row.{Row as MapRow}
-use Rattle.rv_map.specs.Limits.{IsGlobal}
-use Rattle.rv_source_laws.specs.Located.{has_row}
-use Rattle.rv_source_laws.specs.Program.{Mapped, Program, program, tables_in, address_at, address_by, resolved, has_values, number as number_of}
-use Rattle.rv_source_laws.specs.Fits.{SizeFits}
-use Rattle.rv_source_laws.specs.Start.{spelled, spelled_said}
-use Rattle.rv_chain_laws.specs.Contents.{IsWritten, code_bytes}
+use Rattle.rv_source_laws.specs.Program.{Mapped, Program, tables_in, address_by, resolved, number as number_of}
+use Rattle.rv_source_laws.specs.Start.{spelled_said}
 use Rattle.rv_chain_laws.proofs.Held.{IsHeld}
-use Rattle.rv_object.specs.Object.{Relocation, Section, Object, stored}
-use Rattle.rv_object_laws.specs.Moves.{alignments_of, moves, plan, new_offset, kept}
-use Rattle.rv_object_laws.specs.Inputs.{Starts, InputSection}
-use Rattle.rv_object_laws.specs.Values.{target, value, applied, linked_bytes, IsRelocated}
-use Rattle.rv_assemble_laws.specs.Templates.{Template, Fixed, Datum, Open, IsTemplate, HasField, template_fields, value_fields, templates, zeros}
-use Rattle.rv_assemble_laws.specs.Sites.{Site, Part, IsPaddedIn, form, part_of, parts_of, parts, part_bytes, sites_in, HasSize, IsMultiple}
-use Rattle.rv_assemble_laws.specs.Symbols.{StandsFor, SymbolUse, references_in, site_at}
-use Rattle.rv_assemble_laws.specs.IsObjectOf.{Numbering, relocation_at, relocations_from, IsNumbered, IsSectionOf, AreSectionsOf}
-use Rattle.rv_boundary_laws.proofs.Patches.{append_nil, is_data, written, written_template, all_made, makes, IsKnown, Makes}
-use Rattle.rv_boundary_laws.proofs.Statements.{row_in, mapped_at, row_address}
-use Rattle.rv_boundary_laws.proofs.Settled.{IsSettled, IsSiteIn, IsPlacedKind}
-use Rattle.rv_boundary_laws.proofs.Known.{still, IsMeant, meant_of}
+use Rattle.rv_object.specs.Object.{Relocation}
+use Rattle.rv_object_laws.specs.Inputs.{Starts}
+use Rattle.rv_assemble_laws.specs.Templates.{Datum, Open, IsTemplate, HasField, template_fields, value_fields, templates, zeros}
+use Rattle.rv_assemble_laws.specs.Sites.{Site, Part, IsPaddedIn, form, part_of, part_bytes, HasSize, IsMultiple}
+use Rattle.rv_assemble_laws.specs.IsObjectOf.{Numbering, relocation_at, relocations_from}
+use Rattle.rv_boundary_laws.proofs.Patches.{append_nil, written}
+use Rattle.rv_boundary_laws.proofs.Statements.{mapped_at}
+use Rattle.rv_boundary_laws.proofs.Settled.{IsPlacedKind}
 use Rattle.rv_boundary_laws.proofs.Suits as suits
-use Rattle.rv_boundary_laws.proofs.Fitting.{fits, is_written, coded}
 
 -- ---- lists
 
@@ -69,7 +55,6 @@ pub multiple_of : (a multiple stop : ℕ) → 0 < a → multiple % a ≡ 0 → a
 multiple_of a multiple stop some h =
     let q = multiple / a in
     let whole : q * a ≡ multiple = sym (add-zero (q * a)) ∙ ap (λ n. q * a + n) (sym h) ∙ div-add-mod' multiple a in
-
     let n = (stop + (multiple - 1)) / multiple in
     let is : n * multiple ≡ 0 + n * q * a = ap (λ x. n * x) (sym whole) ∙ (let e : n * (q * a) ≡ 0 + n * q * a = omega arith in e) in
     ap (λ x. x % a) is ∙ add-mul-mod_self_right 0 (n * q) a ∙ mod-eq_of_lt some

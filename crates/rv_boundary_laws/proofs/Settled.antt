@@ -1,27 +1,25 @@
 -- The statements of a section: where their rows stand, and that those without a row have no bytes.
 
-use Rattle.std.proofs.Common.{◌≡◌, ℕ, suc, ◌+◌, Bool, true, false, List, [], ◌∷◌, ◌++◌, length, refl, sym, ap, ◌∙◌, subst, arith, map, Option, Some, None}
-use Rattle.std.proofs.lemmas.Bool.{eqb-true, and_parts}
+use Rattle.std.proofs.Common.{◌≡◌, ℕ, suc, ◌+◌, Bool, true, false, List, [], ◌∷◌, ◌++◌, length, refl, sym, ap, ◌∙◌, subst, arith, map, Some, None}
+use Rattle.std.proofs.lemmas.Bool.{eqb-true}
 use Rattle.std.proofs.lemmas.List.Sums.{sum_by-cons}
-use Rattle.std.specs.Prelude.{⊤, ◌&&◌, ◌==◌, if◌then◌else◌, filter, flat_map}
+use Rattle.std.specs.Prelude.{⊤, ◌&&◌, ◌==◌, if◌then◌else◌, flat_map}
 use Rattle.std.specs.List.{AllByRecursion, slice_get}
 use Rattle.rv_text_laws.specs.Values.{Value}
-use Rattle.rv_text_laws.specs.Expression.{Primary}
-use Rattle.rv_statement.specs.Statement.{StatementKind, Label, Numbered, Instruction, Directs, Statement, Expression, Directive, Enters, Opens, Globl, Local, Sets, Aligns_to_power, Aligns_to_bytes, Values, Strings, Zeros, Chooses, Ignored}
+use Rattle.rv_statement.specs.Statement.{StatementKind, Label, Numbered, Instruction, Directs, Statement, Expression, Enters, Opens, Globl, Local, Sets, Aligns_to_power, Aligns_to_bytes, Values, Strings, Zeros, Chooses, Ignored}
 use Rattle.rv_unit_laws.specs.Sections.{Section, text_section}
 use Rattle.rv_unit_laws.specs.Tables.{Tables, at_start, after, tables}
 use Rattle.rv_unit_laws.specs.Faults.{first_fault}
-use Rattle.rv_source_laws.specs.Located.{Located, located_now, located_from, is_placed, has_row}
+use Rattle.rv_source_laws.specs.Located.{Located, located_from, is_placed, has_row}
 use Rattle.rv_source_laws.specs.Program.{Mapped}
 use Rattle.rv_source_laws.specs.Fits.{Follow, size}
 use Rattle.rv_map.specs.declared.map.Row.{Row as MapRow}
 use Rattle.rv_chain_laws.proofs.Held.{IsHeld, Held, held_of}
-use Rattle.rv_chain_laws.proofs.Homes.{IsHomeIn, homes_from, all_filter, all_map, all_both}
+use Rattle.rv_chain_laws.proofs.Homes.{IsHomeIn, homes_from}
 use Rattle.rv_assemble_laws.specs.Templates.{templates}
 use Rattle.rv_assemble_laws.specs.Sites.{Site, Part, form, parts_of, parts, part_bytes, sites_in, Tile, end_of}
-use Rattle.rv_assemble_laws.specs.IsObjectOf.{IsObjectOf}
 use Rattle.rv_object_laws.specs.Inputs.{Starts}
-use Rattle.rv_boundary_laws.proofs.Patches.{append_assoc, append_nil}
+use Rattle.rv_boundary_laws.proofs.Patches.{append_assoc}
 use Rattle.rv_boundary_laws.proofs.Statements.{row_in, mapped_at, mapped_from}
 
 -- ---- a statement

@@ -1,12 +1,12 @@
 -- The statements of the sources with the rows that linking their objects gives.
 
-use Rattle.std.proofs.Common.{◌≡◌, ℕ, zero, suc, ◌+◌, ◌-◌, ◌<◌, Bool, true, false, List, [], ◌∷◌, ◌++◌, refl, sym, ap, ◌∙◌, subst, arith, map, Option, Some, None, drop, ◌⊎◌, inl, inr}
-use Rattle.std.proofs.lemmas.Bool.{eqb-true, eq-eqb, ne_eqb, and_parts}
-use Rattle.std.specs.Prelude.{◌&&◌, ◌==◌, if◌then◌else◌, filter, flat_map, option_map, option_and_then, slice_index_or, ⊤}
-use Rattle.std.specs.List.{find, AllByRecursion}
+use Rattle.std.proofs.Common.{◌≡◌, ℕ, zero, suc, ◌+◌, ◌<◌, Bool, true, false, List, [], ◌∷◌, ◌++◌, refl, sym, ap, ◌∙◌, subst, arith, map, Option, Some, None, drop, ◌⊎◌, inl, inr}
+use Rattle.std.proofs.lemmas.Bool.{eq-eqb, ne_eqb}
+use Rattle.std.specs.Prelude.{◌&&◌, ◌==◌, if◌then◌else◌, option_map, option_and_then}
+use Rattle.std.specs.List.{find}
 use Rattle.rv_statement.specs.Statement.{Statement}
 use Rattle.rv_map.specs.declared.map.Row.{Row as MapRow}
-use Rattle.rv_unit_laws.specs.Tables.{Tables, at_start, after, tables}
+use Rattle.rv_unit_laws.specs.Tables.{Tables, at_start, after}
 use Rattle.rv_source_laws.specs.Located.{Located, located_now, located_from, located_of, has_row}
 use Rattle.rv_source_laws.specs.Program.{MaybeMapped, Mapped, first_of, statements_of, mapped_of, address_of, address_at}
 use Rattle.rv_source_laws.specs.Fits.{mapped_in}
@@ -16,12 +16,18 @@ pub use Rattle.rv_boundary_laws.specs.Joins.{AreObjectsOf}
 use Rattle.rv_boundary_laws.proofs.Patches.{append_nil}
 use Rattle.rv_assemble_laws.specs.Sites.{Site, sites_in}
 use Rattle.rv_assemble_laws.specs.Symbols.{site_at}
-use Rattle.rv_assemble_laws.specs.IsObjectOf.{IsObjectOf}
 
 -- a statement in a file of this number
 abbrev pub renumbered : ℕ → Located → Located
 renumbered file s = record {
-  file = file; ordinal = s.ordinal; section = s.section; offset = s.offset; home = s.home; line = s.line; kind = s.kind; placed = s.placed;
+  file = file;
+  ordinal = s.ordinal;
+  section = s.section;
+  offset = s.offset;
+  home = s.home;
+  line = s.line;
+  kind = s.kind;
+  placed = s.placed;
 }
 
 pub renumbers : (file k : ℕ) (t : Tables) (ss : List Statement) → located_from file k t ss ≡ map (renumbered file) (located_from 1 k t ss)
