@@ -1,0 +1,118 @@
+-- The object of a source (gABI, "Sections", "Symbol Table", "Relocation"; RISC-V ELF psABI, "Relocations"): what assembling is.
+
+use Rattle.std.specs.Prelude.{◌≡◌, ℕ, suc, ◌+◌, ◌≤◌, Bool, true, false, ⊤, List, [], ◌∷◌, ◌++◌, flat_map, map, length, Option, Some, None, slice_index_or, if◌then◌else◌}
+use Rattle.std.specs.List.{AllByRecursion, slice_get}
+use Rattle.rv_text_laws.specs.Expression.{Primary}
+use Rattle.rv_statement.specs.Statement.{Statement}
+use Rattle.rv_unit_laws.specs.Sections.{Section as SourceSection, goes_to_text}
+use Rattle.rv_unit_laws.specs.Tables.{Tables, Assignment, at_start, tables, is_location}
+use Rattle.rv_unit_laws.specs.Faults.{first_fault}
+use Rattle.rv_source_laws.specs.Located.{located_from, has_row}
+use Rattle.rv_source_laws.specs.Options.{has_compressed}
+use Rattle.rv_object.specs.declared.row.Row.{Row}
+use Rattle.rv_object.specs.Object.{Contents, Progbits, Nobits, Relocation, Section, Symbol, Object}
+use Rattle.rv_assemble_laws.specs.Templates.{Open, template_fields, IsTemplate}
+use Rattle.rv_assemble_laws.specs.Sites.{Site, Part, form, part_bytes, parts, sites_in, Tile, end_of, HasSize}
+use Rattle.rv_assemble_laws.specs.Symbols.{SymbolUse, references_in, site_at, symbols_of, StandsFor}
+
+-- ---- rows
+
+abbrev pub row_of : Site → Row
+row_of s = record {
+  line = s.located.line;
+  ordinal = s.located.ordinal;
+  section = s.located.section;
+  offset = s.offset;
+  bytes = s.bytes;
+  instructions = s.instructions;
+}
+
+-- each statement that has a place in memory has a row
+abbrev pub rows_at : Site → List Row
+rows_at s = if has_row s.located then row_of s ∷ [] else []
+
+-- ---- relocations
+
+-- symbols are numbered by what a statement of an ordinal means by them
+abbrev pub Numbering : Type 0
+Numbering = ℕ → Primary → ℕ
+
+abbrev pub relocation_at : Numbering → ℕ → ℕ → Open → Relocation
+relocation_at number ordinal place f =
+    record { place = place; kind = f.kind; symbol = Some (number ordinal f.symbol); addend = f.addend }
+
+-- the fields of parts that follow one another from an offset on, each at the start of its part
+abbrev pub relocations_from : Numbering → ℕ → List Part → List Relocation
+relocations_from number offset [] = []
+relocations_from number offset (p ∷ ps) =
+    map (relocation_at number p.ordinal offset) (template_fields p.template)
+    ++ relocations_from number (offset + length (part_bytes p)) ps
+
+-- ---- sections
+
+-- bytes of the program, or the size of zeros
+abbrev pub contents_of : Bool → ℕ → List ℕ → Contents
+contents_of nobits size bytes = if nobits then Nobits size else Progbits bytes
+
+-- the symbol of a reference
+abbrev pub IsNumbered : Tables → List Site → Numbering → List Symbol → SymbolUse → Type 0
+IsNumbered t all number symbols r = StandsFor t all r.ordinal r.symbol (slice_get symbols (number r.ordinal r.symbol))
+
+abbrev pub ArePartsNumbered : Tables → List Site → Numbering → List Symbol → List Part → Type 0
+ArePartsNumbered t all number symbols ps =
+    AllByRecursion (λ p. AllByRecursion (IsNumbered t all number symbols) (references_in p)) ps
+
+-- the section of an index, with its statements, where these are all statements and symbols of the source
+pub record IsSectionOf (t : Tables) (all : List Site) (number : Numbering) (symbols : List Symbol) (index : ℕ) (section : SourceSection) (sites : List Site) (x : Section) : Type 0 where
+  pub name : x.name ≡ section.name
+  pub loaded : x.loaded ≡ section.loaded
+  pub executable : x.executable ≡ section.executable
+  pub writable : x.writable ≡ section.writable
+  -- the greatest of its alignments
+  pub alignment : x.alignment ≡ slice_index_or t.alignments index 1
+  pub some : 1 ≤ x.alignment
+  -- its statements follow one another
+  pub tile : Tile t 0 sites
+  pub contents : x.contents ≡ contents_of section.nobits (end_of 0 sites) (flat_map part_bytes (parts t sites))
+  -- no code stands in a section without bytes in the file
+  pub code : goes_to_text section ≡ true → section.nobits ≡ true → flat_map part_bytes (parts t sites) ≡ []
+  pub relocations : x.relocations ≡ (if section.loaded then relocations_from number 0 (parts t sites) else [])
+  pub numbered : section.loaded ≡ true → ArePartsNumbered t all number symbols (parts t sites)
+  -- the sizes of its statements
+  pub sizes : AllByRecursion (λ s. s.located.placed ≡ true → HasSize (form t s.located) s x.alignment s.located.kind) sites
+  pub fields : AllByRecursion (λ p. IsTemplate p.template) (parts t sites)
+  -- code is aligned to 2 at most: alignments beyond that are not built
+  pub low : goes_to_text section ≡ true → x.alignment ≤ 2
+
+abbrev pub AreSectionsOf : Tables → List Site → Numbering → List Symbol → ℕ → List SourceSection → List Section → Type 0
+AreSectionsOf t all number symbols index [] [] = ⊤
+AreSectionsOf t all number symbols index [] (x ∷ xs) = ⊥
+AreSectionsOf t all number symbols index (section ∷ sections) [] = ⊥
+AreSectionsOf t all number symbols index (section ∷ sections) (x ∷ xs) =
+    IsSectionOf t all number symbols index section (sites_in index all) x
+    × AreSectionsOf t all number symbols (suc index) sections xs
+
+-- ---- the whole
+
+-- a place that `.set` gives stands in no code
+abbrev pub IsInData : Option Site → Type 0
+IsInData None = ⊤
+IsInData (Some s) = (s.located.home.executable ≡ false) × (s.located.placed ≡ true)
+
+abbrev pub StandsInData : List Site → Assignment → Type 0
+StandsInData sites a = is_location a ≡ true → IsInData (site_at sites a.ordinal)
+
+pub record IsObjectOf (ss : List Statement) (o : Object) : Type 0 where
+  -- no label and no directive is faulty
+  pub good : first_fault ss ≡ None
+  -- the statements in their sections
+  pub sites : List Site
+  pub located : map (λ s. s.located) sites ≡ located_from 1 1 at_start ss
+  pub places : AllByRecursion (StandsInData sites) (tables ss).assignments
+  -- the sections in the order in which the source opens them
+  pub number : Numbering
+  pub sections : AreSectionsOf (tables ss) sites number o.symbols 0 (tables ss).opened.sections o.sections
+  pub symbols : o.symbols ≡ symbols_of ss (tables ss) sites
+  -- a row for each statement with a place in memory
+  pub rows : o.rows ≡ flat_map rows_at sites
+  pub rvc : o.rvc ≡ has_compressed ss

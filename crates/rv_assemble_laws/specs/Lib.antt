@@ -1,0 +1,4 @@
+pub mod Templates
+pub mod Sites
+pub mod Symbols
+pub mod IsObjectOf

@@ -1,0 +1,98 @@
+-- The statements of a source where they stand in its object: their offsets, sizes and templates (gABI, "Sections").
+
+use Rattle.std.specs.Prelude.{◌≡◌, ℕ, ◌+◌, ◌*◌, ◌%◌, ◌<◌, Bool, true, false, ◌==◌, ⊤, List, [], ◌∷◌, length, filter, flat_map, map, Option, Some, None}
+use Rattle.std.specs.List.{list_all}
+use Rattle.rv_isa.specs.declared.instruction.Inst.{Inst}
+use Rattle.rv_isa.specs.Ranges.{IsValid}
+use Rattle.rv_text_laws.specs.Values.{Value, Constant}
+use Rattle.rv_statement.specs.Statement.{StatementKind, Label, Numbered, Instruction, Directs, Expression, Directive, Aligns_to_power, Aligns_to_bytes, Values, Strings, Zeros}
+use Rattle.rv_unit_laws.specs.Tables.{Tables, value, alignment_of, padding, string_bytes}
+use Rattle.rv_source_laws.specs.Located.{Located}
+use Rattle.rv_source_laws.specs.Program.{place_of, expressions}
+use Rattle.rv_source_laws.specs.Fits.{is_constant, constant_in, is_low}
+use Rattle.rv_source_laws.specs.Meaning.{expanded_said}
+use Rattle.rv_assemble_laws.specs.Templates.{Template, templates, template_bytes}
+
+-- a statement of a source alone, the bytes before it in its section, its own bytes, and how many instructions these are
+pub record Site : Type 0 where
+  pub located : Located
+  pub offset : ℕ
+  pub bytes : ℕ
+  pub instructions : ℕ
+
+-- what an expression of a statement is in its file
+abbrev pub form : Tables → Located → Expression → Value
+form t s e = value t true s.ordinal (place_of s) e
+
+-- a part of a section's bytes, with the ordinal of the statement that says it
+pub record Part : Type 0 where
+  pub ordinal : ℕ
+  pub template : Template
+
+abbrev pub part_of : ℕ → Template → Part
+part_of ordinal template = record { ordinal = ordinal; template = template }
+
+abbrev pub parts_of : Tables → Site → List Part
+parts_of t s = map (part_of s.located.ordinal) (templates (form t s.located) s.located.kind s.bytes)
+
+abbrev pub part_bytes : Part → List ℕ
+part_bytes p = template_bytes p.template
+
+-- ---- sections
+
+-- the statements of a section, by its index
+abbrev pub sites_in : ℕ → List Site → List Site
+sites_in section sites = filter (λ s. s.located.section == section) sites
+
+-- the parts of a section: those of its statements, in order
+abbrev pub parts : Tables → List Site → List Part
+parts t sites = flat_map (parts_of t) sites
+
+-- each statement of a section begins where the one before ends, from an offset on, and has the bytes of its templates
+abbrev pub Tile : Tables → ℕ → List Site → Type 0
+Tile t offset [] = ⊤
+Tile t offset (s ∷ ss) =
+    (s.offset ≡ offset) × (s.bytes ≡ length (flat_map part_bytes (parts_of t s))) × Tile t (offset + s.bytes) ss
+
+-- the end of the last of them
+abbrev pub end_of : ℕ → List Site → ℕ
+end_of offset [] = offset
+end_of offset (s ∷ ss) = end_of (offset + s.bytes) ss
+
+-- ---- sizes
+
+-- the one valid instruction of a statement whose expressions are constants
+abbrev pub IsInstruction : (Expression → Value) → StatementKind → Inst → Type 0
+IsInstruction v kind i =
+    (list_all (λ e. is_constant (v e)) (expressions kind) ≡ true)
+    × (expanded_said (λ e. constant_in (v e)) kind 4 ≡ Some (i ∷ [])) × IsValid i
+
+-- the section begins at a multiple of each alignment in it
+abbrev pub IsMultiple : Option ℕ → ℕ → Type 0
+IsMultiple None start = ⊤
+IsMultiple (Some alignment) start = (0 < alignment) × (start % alignment ≡ 0)
+
+-- the padding of an alignment to 2 or less in code: none; in data: up to the multiple
+abbrev pub IsPaddedIn : Bool → Site → ℕ → Option ℕ → Type 0
+IsPaddedIn true s multiple alignment = (s.bytes ≡ 0) × (is_low alignment ≡ true)
+IsPaddedIn false s multiple alignment = (s.bytes ≡ padding alignment s.offset) × IsMultiple alignment multiple
+
+abbrev pub IsPadded : Site → ℕ → Value → Option ℕ → Type 0
+IsPadded s multiple v alignment =
+    (is_constant v ≡ true) × (s.instructions ≡ 0) × IsPaddedIn s.located.home.executable s multiple alignment
+
+abbrev pub DirectiveSize : (Expression → Value) → Site → ℕ → Directive → Type 0
+DirectiveSize v s multiple (Values width values) = (s.instructions ≡ 0) × (s.bytes ≡ width * length values)
+DirectiveSize v s multiple (Strings ended strings) = (s.instructions ≡ 0) × (s.bytes ≡ length (string_bytes ended strings))
+DirectiveSize v s multiple (Zeros count) = (s.instructions ≡ 0) × (v count ≡ Constant s.bytes)
+DirectiveSize v s multiple (Aligns_to_power e) = IsPadded s multiple (v e) (alignment_of v (Aligns_to_power e))
+DirectiveSize v s multiple (Aligns_to_bytes e) = IsPadded s multiple (v e) (alignment_of v (Aligns_to_bytes e))
+DirectiveSize v s multiple _ = (s.bytes ≡ 0) × (s.instructions ≡ 0)
+
+-- the bytes of a statement of a section that begins at such a multiple, and how many instructions they are
+abbrev pub HasSize : (Expression → Value) → Site → ℕ → StatementKind → Type 0
+HasSize v s multiple (Label name) = (s.bytes ≡ 0) × (s.instructions ≡ 0)
+HasSize v s multiple (Numbered number) = (s.bytes ≡ 0) × (s.instructions ≡ 0)
+HasSize v s multiple (Instruction mnemonic operands) =
+    (s.bytes ≡ 4) × (s.instructions ≡ 1) × ((i : Inst) × IsInstruction v (Instruction mnemonic operands) i)
+HasSize v s multiple (Directs directive) = DirectiveSize v s multiple directive

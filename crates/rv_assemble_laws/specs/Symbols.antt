@@ -1,0 +1,178 @@
+-- The symbols of an object, in their order (gABI, "Symbol Table"; GNU as, "Symbols"): local ones, those that the source makes
+-- global, and those that it leaves undefined.
+
+use Rattle.std.specs.Prelude.{◌≡◌, ℕ, Bool, true, false, not, ◌&&◌, ◌==◌, List, [], ◌∷◌, ◌++◌, filter, flat_map, map, Option, Some, None, if◌then◌else◌}
+use Rattle.std.specs.List.{find, list_any}
+use Rattle.rv_text_laws.specs.Expression.{Primary, Symbol as Named, Literal, Here, Reference}
+use Rattle.rv_text_laws.specs.Values.{Known, InSection as InData, Open as OpenAddress, Refused, add}
+use Rattle.rv_statement.specs.Statement.{StatementKind, Directs, Statement, Sets}
+use Rattle.rv_unit_laws.specs.Tables.{Tables, Definition, Assignment, definition, assigned_ever}
+use Rattle.rv_source_laws.specs.Resolves.{defined_name, is_global_after, is_one_of}
+use Rattle.rv_object.specs.declared.symbol.Binding.TheVariants.{Local, Global}
+use Rattle.rv_object.specs.declared.symbol.Definition.{Definition as Defined}
+use Rattle.rv_object.specs.declared.symbol.Definition.TheVariants.{Undefined, Absolute, InSection, Skipped}
+use Rattle.rv_object.specs.Object.{Symbol}
+use Rattle.rv_assemble_laws.specs.Templates.{template_fields}
+use Rattle.rv_assemble_laws.specs.Sites.{Site, Part, parts_of}
+
+-- ---- definitions
+
+abbrev pub site_at : List Site → ℕ → Option Site
+site_at sites ordinal = find (λ s. s.located.ordinal == ordinal) sites
+
+-- so many bytes after the start of a statement
+abbrev pub after_site : Site → ℕ → Defined
+after_site s plus = InSection s.located.section (add s.offset plus)
+
+abbrev pub after_found : Option Site → ℕ → Defined
+after_found None plus = Skipped 0
+after_found (Some s) plus = after_site s plus
+
+-- a number, or a place that `.set` gives
+abbrev pub assigned_definition : List Site → Option Assignment → Defined
+assigned_definition sites None = Skipped 0
+assigned_definition sites (Some a) = elim a.meaning [
+  | Known n ↦ Absolute n
+  | InData section offset ↦ after_found (site_at sites a.ordinal) a.plus
+  | OpenAddress ↦ Skipped 0
+  | Refused code ↦ Skipped 0
+]
+
+-- what a statement defines: a label its own place, `.set` what the name has last
+abbrev pub site_definition : Tables → List Site → Site → StatementKind → Defined
+site_definition t sites s (Directs (Sets name e)) = assigned_definition sites (assigned_ever t.assignments name)
+site_definition t sites s _ = InSection s.located.section s.offset
+
+abbrev pub local_symbol : List ℕ → Defined → Symbol
+local_symbol name d = record { name = name; binding = Local; definition = d }
+
+abbrev pub global_symbol : List ℕ → Defined → Symbol
+global_symbol name d = record { name = name; binding = Global; definition = d }
+
+-- ---- what relocations name
+
+-- the symbols that the relocations of loaded sections name, with the ordinals of their statements, in the source's order
+pub record SymbolUse : Type 0 where
+  pub ordinal : ℕ
+  pub symbol : Primary
+
+abbrev pub references_in : Part → List SymbolUse
+references_in p = map (λ f. record { ordinal = p.ordinal; symbol = f.symbol }) (template_fields p.template)
+
+abbrev pub references_of : Tables → Site → List SymbolUse
+references_of t s = if s.located.home.loaded then flat_map references_in (parts_of t s) else []
+
+abbrev pub references : Tables → List Site → List SymbolUse
+references t sites = flat_map (references_of t) sites
+
+-- ---- local symbols
+
+-- `.` and numeric references mean places without a name
+abbrev pub is_unnamed : Primary → Bool
+is_unnamed (Named name) = false
+is_unnamed _ = true
+
+abbrev pub is_at : ℕ → Option Definition → Bool
+is_at ordinal None = false
+is_at ordinal (Some d) = d.ordinal == ordinal
+
+-- whether a reference without a name means a statement
+abbrev pub is_meant : Tables → List SymbolUse → Site → Bool
+is_meant t rs s = list_any (λ r. is_unnamed r.symbol && is_at s.located.ordinal (definition t r.ordinal r.symbol)) rs
+
+abbrev pub are_together : Site → Site → Bool
+are_together s q = (s.located.section == q.located.section) && (s.offset == q.offset)
+
+-- a symbol without a name stands where a reference means a statement, one for each place
+abbrev pub unnamed_symbols : Tables → List SymbolUse → List Site → Site → List Symbol
+unnamed_symbols t rs before s =
+    if is_meant t rs s && not (list_any (λ q. are_together s q && is_meant t rs q) before)
+    then local_symbol [] (InSection s.located.section s.offset) ∷ []
+    else []
+
+-- constants of the source's own have no symbol
+abbrev pub is_absolute : Symbol → Bool
+is_absolute s = elim s.definition [
+  | Absolute n ↦ true
+  | InSection section offset ↦ false
+  | Skipped n ↦ false
+  | Undefined ↦ false
+]
+
+-- the names that a statement defines for its own file
+abbrev pub named_symbols : List Statement → Tables → List Site → Site → List Symbol
+named_symbols ss t sites s =
+    filter (λ x. not (is_absolute x))
+    (map (λ name. local_symbol name (site_definition t sites s s.located.kind))
+    (filter (λ name. not (is_global_after false ss name)) (defined_name t s.located.ordinal s.located.kind)))
+
+abbrev pub local_symbols : List Statement → Tables → List Site → List Site → List Site → List Symbol
+local_symbols ss t sites before [] = []
+local_symbols ss t sites before (s ∷ rest) =
+    unnamed_symbols t (references t sites) before s ++ (named_symbols ss t sites s
+    ++ local_symbols ss t sites (before ++ s ∷ []) rest)
+
+-- ---- global symbols
+
+-- the names that a statement defines for all files
+abbrev pub exports_of : List Statement → Tables → List Site → Site → List Symbol
+exports_of ss t sites s =
+    map (λ name. global_symbol name (site_definition t sites s s.located.kind))
+    (filter (λ name. is_global_after false ss name) (defined_name t s.located.ordinal s.located.kind))
+
+abbrev pub exports : List Statement → Tables → List Site → List Symbol
+exports ss t sites = flat_map (exports_of ss t sites) sites
+
+-- ---- undefined symbols
+
+abbrev pub missing_name : Tables → ℕ → Primary → List (List ℕ)
+missing_name t ordinal (Named name) = elim (definition t ordinal (Named name)) [
+  | None ↦ name ∷ []
+  | Some d ↦ []
+]
+missing_name t ordinal _ = []
+
+-- each name that is not among those before
+abbrev pub distinct_from : List (List ℕ) → List (List ℕ) → List (List ℕ)
+distinct_from before [] = []
+distinct_from before (name ∷ names) =
+    if is_one_of before name then distinct_from before names else name ∷ distinct_from (name ∷ before) names
+
+-- by first reference
+abbrev pub undefined_symbols : Tables → List Site → List Symbol
+undefined_symbols t sites =
+    map (λ name. global_symbol name Undefined)
+    (distinct_from [] (flat_map (λ r. missing_name t r.ordinal r.symbol) (references t sites)))
+
+-- ---- all of them
+
+abbrev pub symbols_of : List Statement → Tables → List Site → List Symbol
+symbols_of ss t sites = local_symbols ss t sites [] sites ++ (exports ss t sites ++ undefined_symbols t sites)
+
+-- ---- what a symbol stands for
+
+-- a symbol of a name has that name
+abbrev pub IsNamed : Primary → Symbol → Type 0
+IsNamed (Named name) x = x.name ≡ name
+IsNamed (Literal n) x = ⊥
+IsNamed Here x = x.name ≡ []
+IsNamed (Reference digits forward) x = x.name ≡ []
+
+-- a symbol of the file's own stands where the name's statement stands, which has a place
+abbrev pub IsOwn : List Site → Definition → Symbol → Type 0
+IsOwn sites d x =
+    (s : Site) × (site_at sites d.ordinal ≡ Some s) × (s.located.placed ≡ true) × (x.definition ≡ after_site s d.plus)
+
+-- what has no definition in the file is a name that the file leaves undefined
+abbrev pub IsOuter : Primary → Symbol → Type 0
+IsOuter (Named name) x = x.definition ≡ Undefined
+IsOuter _ x = ⊥
+
+abbrev pub IsDefinedBy : List Site → Primary → Option Definition → Symbol → Type 0
+IsDefinedBy sites q (Some d) x = IsOwn sites d x
+IsDefinedBy sites q None x = IsOuter q x
+
+-- the symbol that a statement of this ordinal means by a name, `.` or a numeric reference
+abbrev pub StandsFor : Tables → List Site → ℕ → Primary → Option Symbol → Type 0
+StandsFor t sites ordinal q None = ⊥
+StandsFor t sites ordinal q (Some x) = IsNamed q x × IsDefinedBy sites q (definition t ordinal q) x

@@ -1,0 +1,118 @@
+-- What the statements of a source are in an object: bytes with open fields left zero, and the relocations that fill them
+-- (RISC-V ELF psABI, "Relocations"; GNU as, "Pseudo Ops").
+
+use Rattle.std.specs.Prelude.{◌≡◌, ℕ, ℤ, pos, ◌==◌, ⊤, ◌⊎◌, if◌then◌else◌, List, [], ◌∷◌, flat_map, map, replicate, Option, Some, None}
+use Rattle.std.specs.Int.{w32, w64, to_le_bytes, int_wrap}
+use Rattle.rv_isa.specs.declared.instruction.Inst.{Inst}
+use Rattle.rv_isa.specs.declared.kind.Kind.{Kind}
+use Rattle.rv_isa.specs.declared.kind.Kind.TheVariants.{Abs32, Abs64, Add8, Add16, Add32, Add64, Sub8, Sub16, Sub32, Sub64}
+use Rattle.rv_isa_laws.specs.Bytes.{little_endian}
+use Rattle.rv_encode.specs.Word.{form, word}
+use Rattle.rv_text_laws.specs.Expression.{Primary}
+use Rattle.rv_text_laws.specs.Values.{Value, Constant, Symbolic, Difference, Faulty}
+use Rattle.rv_statement.specs.Statement.{StatementKind, Label, Numbered, Instruction, Directs, Expression}
+use Rattle.rv_unit_laws.specs.Contributions.{Contents, Numbers, Texts, Contribution, Nothing, Bytes, Zero_bytes, Alignment, contribution}
+use Rattle.rv_unit_laws.specs.Tables.{string_bytes}
+use Rattle.rv_source_laws.specs.Fits.{constant_in}
+use Rattle.rv_source_laws.specs.Meaning.{expanded}
+
+abbrev pub zeros : ℕ → List ℕ
+zeros count = replicate count 0
+
+-- instructions as they lie in memory, each a word
+abbrev pub words : Option (List Inst) → List ℕ
+words None = []
+words (Some instructions) = flat_map (λ i. to_le_bytes w32 (word (form i))) instructions
+
+-- ---- templates
+
+-- a part of a statement's bytes. Each format of an instruction with an open operand will be one more case
+pub data Template : Type 0 where
+  -- bytes that the statement says
+  Fixed : (bytes : List ℕ) → Template
+  -- a value of data in so many bytes
+  Datum : (width : ℕ) (value : Value) → Template
+
+-- a field that stays open, by what it takes, the symbol as the statement names it, and the addend, which wraps
+pub record Open : Type 0 where
+  pub kind : Kind
+  pub symbol : Primary
+  pub addend : ℤ
+
+abbrev pub opened : Kind → Primary → ℕ → Open
+opened kind symbol plus = record { kind = kind; symbol = symbol; addend = int_wrap w64 (pos plus) }
+
+-- the address of a symbol in a field of so many bytes
+abbrev pub absolute_kind : ℕ → Kind
+absolute_kind width = if width == 4 then Abs32 else Abs64
+
+-- an address added to a field of so many bytes, or taken off
+abbrev pub add_kind : ℕ → Kind
+add_kind width =
+    if width == 1 then Add8 else
+    if width == 2 then Add16 else
+    if width == 4 then Add32 else Add64
+
+abbrev pub subtract_kind : ℕ → Kind
+subtract_kind width =
+    if width == 1 then Sub8 else
+    if width == 2 then Sub16 else
+    if width == 4 then Sub32 else Sub64
+
+-- a constant is written; an address or a difference is left zero
+abbrev pub value_bytes : ℕ → Value → List ℕ
+value_bytes width (Constant n) = little_endian width n
+value_bytes width _ = zeros width
+
+-- an address is one relocation; of a difference first the symbol that is added, with the constant, and then the other
+abbrev pub value_fields : ℕ → Value → List Open
+value_fields width (Constant n) = []
+value_fields width (Symbolic symbol at plus) = opened (absolute_kind width) symbol plus ∷ []
+value_fields width (Difference symbol minus plus) =
+    opened (add_kind width) symbol plus ∷ opened (subtract_kind width) minus 0 ∷ []
+value_fields width (Faulty code) = []
+
+abbrev pub template_bytes : Template → List ℕ
+template_bytes (Fixed bytes) = bytes
+template_bytes (Datum width value) = value_bytes width value
+
+abbrev pub template_fields : Template → List Open
+template_fields (Fixed bytes) = []
+template_fields (Datum width value) = value_fields width value
+
+-- a value of data has a relocation of its width: an address in 4 or 8 bytes, a difference in 1, 2, 4 or 8
+abbrev pub IsWide : ℕ → Type 0
+IsWide width = (width ≡ 4) ⊎ (width ≡ 8)
+
+abbrev pub IsWidth : ℕ → Type 0
+IsWidth width = (width ≡ 1) ⊎ ((width ≡ 2) ⊎ IsWide width)
+
+abbrev pub HasField : ℕ → Value → Type 0
+HasField width (Constant n) = ⊤
+HasField width (Symbolic symbol at plus) = IsWide width
+HasField width (Difference symbol minus plus) = IsWidth width
+HasField width (Faulty code) = ⊥
+
+abbrev pub IsTemplate : Template → Type 0
+IsTemplate (Fixed bytes) = ⊤
+IsTemplate (Datum width value) = HasField width value
+
+-- ---- the templates of a statement
+
+abbrev pub contents_templates : (Expression → Value) → Contents → List Template
+contents_templates v (Numbers width values) = map (λ e. Datum width (v e)) values
+contents_templates v (Texts ended strings) = Fixed (string_bytes ended strings) ∷ []
+
+-- zeros and paddings of data are zeros
+abbrev pub contribution_templates : (Expression → Value) → Contribution → ℕ → List Template
+contribution_templates v Nothing bytes = []
+contribution_templates v (Bytes contents) bytes = contents_templates v contents
+contribution_templates v (Zero_bytes count) bytes = Fixed (zeros bytes) ∷ []
+contribution_templates v (Alignment form number) bytes = Fixed (zeros bytes) ∷ []
+
+-- an instruction whose operands are constants is its words
+abbrev pub templates : (Expression → Value) → StatementKind → ℕ → List Template
+templates v (Label name) bytes = []
+templates v (Numbered number) bytes = []
+templates v (Instruction mnemonic operands) bytes = Fixed (words (expanded (λ e. constant_in (v e)) mnemonic operands)) ∷ []
+templates v (Directs directive) bytes = contribution_templates v (contribution directive) bytes

@@ -1,0 +1,192 @@
+-- What linking the objects of sources makes of each file.
+
+use Rattle.std.proofs.Common.{◌≡◌, ℕ, zero, suc, ◌+◌, ◌-◌, Bool, true, false, List, [], ◌∷◌, ◌++◌, length, refl, ap, ◌∙◌, subst, arith, map, Option, Some, None}
+use Rattle.std.specs.Int.{w64, int_wrap}
+use Rattle.std.specs.Prelude.{⊤, pos, ◌&&◌, ◌==◌, if◌then◌else◌, filter, flat_map, option_and_then, slice_index_or}
+use Rattle.std.specs.List.{slice_get}
+use Rattle.rv_isa.specs.declared.kind.Kind.{Kind}
+use Rattle.rv_isa.specs.declared.kind.Kind.TheVariants.{Abs32, Abs64, Add8, Add16, Add32, Add64, Sub8, Sub16, Sub32, Sub64}
+use Rattle.rv_text_laws.specs.Values.{Constant, Symbolic, Difference, Faulty}
+use Rattle.rv_statement.specs.Statement.{Statement}
+use Rattle.rv_unit_laws.specs.Sections.{Section as SourceSection}
+use Rattle.rv_unit_laws.specs.Tables.{Tables, tables, at_start}
+use Rattle.rv_map.specs.Map.{Map}
+use Rattle.rv_map.specs.declared.map.Row.{Row as MapRow}
+use Rattle.rv_source_laws.specs.Located.{has_row, located}
+use Rattle.rv_source_laws.specs.Program.{Program, program, tables_in, address_at, mapped_of, statements_of}
+use Rattle.rv_source_laws.specs.Fits.{mapped_in}
+use Rattle.rv_object.specs.Object.{Relocation, Section, Symbol, Object}
+use Rattle.rv_object.specs.Valid.{is_align}
+use Rattle.rv_object_laws.specs.Moves.{alignments_of, by_place, plan}
+use Rattle.rv_object_laws.specs.Inputs.{Starts}
+use Rattle.rv_object_laws.specs.IsLinkOf.{moves_at, map_row, row_in as linked_row, rows_of as linked_rows}
+use Rattle.rv_assemble_laws.specs.Templates.{Template, Fixed, Datum, template_fields, absolute_kind, add_kind, subtract_kind}
+use Rattle.rv_assemble_laws.specs.Sites.{Site, Part, part_bytes, parts, sites_in}
+use Rattle.rv_assemble_laws.specs.Symbols.{site_at}
+use Rattle.rv_assemble_laws.specs.IsObjectOf.{Numbering, row_of, rows_at, relocation_at, relocations_from, IsSectionOf, AreSectionsOf, IsObjectOf}
+use Rattle.rv_boundary_laws.proofs.Statements.{AreObjectsOf, row_in, rows_from, mapped_from, row_address, all_statements, all_rows, statements_all, sites_by, mapped_by, address_by}
+
+-- ---- nothing moves
+
+data_kind : (b : Bool) (k q : Kind) → is_align k ≡ false → is_align q ≡ false → is_align (if b then k else q) ≡ false
+data_kind true k q e f = e
+data_kind false k q e f = f
+
+absolute_plain : (width : ℕ) → is_align (absolute_kind width) ≡ false
+absolute_plain width = data_kind (width == 4) Abs32 Abs64 refl refl
+
+add_plain : (width : ℕ) → is_align (add_kind width) ≡ false
+add_plain width =
+    data_kind (width == 1) Add8 (if width == 2 then Add16 else if width == 4 then Add32 else Add64) refl
+    (data_kind (width == 2) Add16 (if width == 4 then Add32 else Add64) refl (data_kind (width == 4) Add32 Add64 refl refl))
+
+subtract_plain : (width : ℕ) → is_align (subtract_kind width) ≡ false
+subtract_plain width =
+    data_kind (width == 1) Sub8 (if width == 2 then Sub16 else if width == 4 then Sub32 else Sub64) refl
+    (data_kind (width == 2) Sub16 (if width == 4 then Sub32 else Sub64) refl (data_kind (width == 4) Sub32 Sub64 refl refl))
+
+abbrev aligns : List Relocation → List Relocation
+aligns rs = filter (λ r. is_align r.kind) rs
+
+aligns_join : (xs ys : List Relocation) → aligns xs ≡ [] → aligns ys ≡ [] → aligns (xs ++ ys) ≡ []
+aligns_join [] ys e f = f
+aligns_join (x ∷ xs) ys e f = go (is_align x.kind) e (λ g. aligns_join xs ys g f)
+  where
+    go : (b : Bool) → (if b then x ∷ aligns xs else aligns xs) ≡ [] → (aligns xs ≡ [] → aligns (xs ++ ys) ≡ []) → (if b then x ∷ aligns (xs ++ ys) else aligns (xs ++ ys)) ≡ []
+    go true g ih = absurd (cc)
+    go false g ih = ih g
+
+module _ (number : Numbering) where
+  template_plain : (ordinal offset : ℕ) (t : Template) → aligns (map (relocation_at number ordinal offset) (template_fields t)) ≡ []
+  template_plain ordinal offset (Fixed bytes) = refl
+  template_plain ordinal offset (Datum width (Constant n)) = refl
+  template_plain ordinal offset (Datum width (Symbolic q at plus)) =
+      ap (λ b. if b then relocation_at number ordinal offset (record { kind = absolute_kind width; symbol = q; addend = int_wrap w64 (pos plus) }) ∷ [] else []) (absolute_plain width)
+  template_plain ordinal offset (Datum width (Difference q r plus)) =
+      ap (λ b. if b then relocation_at number ordinal offset (record { kind = add_kind width; symbol = q; addend = int_wrap w64 (pos plus) }) ∷ aligns (relocation_at number ordinal offset (record { kind = subtract_kind width; symbol = r; addend = int_wrap w64 (pos 0) }) ∷ []) else aligns (relocation_at number ordinal offset (record { kind = subtract_kind width; symbol = r; addend = int_wrap w64 (pos 0) }) ∷ [])) (add_plain width)
+      ∙ ap (λ b. if b then relocation_at number ordinal offset (record { kind = subtract_kind width; symbol = r; addend = int_wrap w64 (pos 0) }) ∷ [] else []) (subtract_plain width)
+  template_plain ordinal offset (Datum width (Faulty code)) = refl
+
+  parts_plain : (offset : ℕ) (ps : List Part) → aligns (relocations_from number offset ps) ≡ []
+  parts_plain offset [] = refl
+  parts_plain offset (p ∷ ps) =
+      aligns_join (map (relocation_at number p.ordinal offset) (template_fields p.template)) (relocations_from number (offset + length (part_bytes p)) ps)
+      (template_plain p.ordinal offset p.template) (parts_plain (offset + length (part_bytes p)) ps)
+
+  section_plain : (t : Tables) (all : List Site) (symbols : List Symbol) (index : ℕ) (s : SourceSection) (x : Section)
+      → IsSectionOf t all number symbols index s (sites_in index all) x → alignments_of x ≡ []
+  section_plain t all symbols index s x is =
+      let none : aligns x.relocations ≡ [] = ap aligns is.relocations ∙ go s.loaded in
+      either (x.loaded && x.executable) (ap by_place none)
+    where
+      go : (b : Bool) → aligns (if b then relocations_from number 0 (parts t (sites_in index all)) else []) ≡ []
+      go true = parts_plain 0 (parts t (sites_in index all))
+      go false = refl
+
+      either : (b : Bool) → by_place (aligns x.relocations) ≡ [] → (if b then by_place (aligns x.relocations) else []) ≡ []
+      either true e = e
+      either false e = refl
+
+  pub sections_plain : (t : Tables) (all : List Site) (symbols : List Symbol) (index : ℕ) (ss : List SourceSection) (xs : List Section)
+      → AreSectionsOf t all number symbols index ss xs → (j : ℕ) (x : Section) → slice_get xs j ≡ Some x → alignments_of x ≡ []
+  sections_plain t all symbols index [] [] h j x e = absurd (cc)
+  sections_plain t all symbols index [] (y ∷ ys) h j x e = absurd h
+  sections_plain t all symbols index (s ∷ ss) [] h j x e = absurd h
+  sections_plain t all symbols index (s ∷ ss) (y ∷ ys) (h, hs) zero x e =
+      let same : y ≡ x = cc in subst (λ z. alignments_of z ≡ []) same (section_plain t all symbols index s y h)
+  sections_plain t all symbols index (s ∷ ss) (y ∷ ys) (h, hs) (suc j) x e = sections_plain t all symbols (suc index) ss ys hs j x e
+
+pub plain_of : (ss : List Statement) (o : Object) (is : IsObjectOf ss o) → (j : ℕ) (x : Section) → slice_get o.sections j ≡ Some x → alignments_of x ≡ []
+plain_of ss o is = sections_plain is.number (tables ss) is.sites o.symbols 0 (tables ss).opened.sections o.sections is.sections
+
+-- ---- rows
+
+module _ (starts : Starts) where
+  no_moves : (o : Object) → ((j : ℕ) (x : Section) → slice_get o.sections j ≡ Some x → alignments_of x ≡ []) → (start j : ℕ) → moves_at start (slice_get o.sections j) ≡ []
+  no_moves o plain start j = go (slice_get o.sections j) refl
+    where
+      go : (x : Option Section) → slice_get o.sections j ≡ x → moves_at start x ≡ []
+      go None e = refl
+      go (Some x) e = ap (plan start 0) (plain j x e)
+
+  row_is : (file start : ℕ) (s : Site) → map_row file start [] (row_of s) ≡ record {
+    file = file;
+    line = s.located.line;
+    ordinal = s.located.ordinal;
+    address = start + s.offset;
+    bytes = s.bytes;
+    instructions = s.instructions;
+  }
+  row_is file start s =
+      let mk : ℕ → ℕ → ℕ → MapRow = λ a b c. record { file = file; line = s.located.line; ordinal = s.located.ordinal; address = a; bytes = b; instructions = c } in
+      let e : start + (s.offset - 0) ≡ start + s.offset = omega arith in
+      let f : (s.offset + s.bytes - 0) - (s.offset - 0) ≡ s.bytes = omega arith in
+      let g : s.instructions - 0 ≡ s.instructions = omega arith in
+      ap (λ a. mk a ((s.offset + s.bytes - 0) - (s.offset - 0)) (s.instructions - 0)) e ∙ ap (λ b. mk (start + s.offset) b (s.instructions - 0)) f ∙ ap (mk (start + s.offset) s.bytes) g
+
+  rows_are : (file : ℕ) (o : Object) (sites : List Site) → ((j : ℕ) (x : Section) → slice_get o.sections j ≡ Some x → alignments_of x ≡ [])
+      → map (linked_row starts file o) (flat_map rows_at sites) ≡ rows_from starts file sites
+  rows_are file o [] plain = refl
+  rows_are file o (s ∷ ss) plain = go (has_row s.located) (rows_are file o ss plain)
+    where
+      own : linked_row starts file o (row_of s) ≡ row_in starts file s
+      own = ap (λ ms. map_row file (starts file s.located.section) ms (row_of s)) (no_moves o plain (starts file s.located.section) s.located.section) ∙ row_is file (starts file s.located.section) s
+
+      go : (b : Bool) → map (linked_row starts file o) (flat_map rows_at ss) ≡ rows_from starts file ss
+          → map (linked_row starts file o) ((if b then row_of s ∷ [] else []) ++ flat_map rows_at ss) ≡ (if b then row_in starts file s ∷ rows_from starts file ss else rows_from starts file ss)
+      go true ih = ap (λ (r : MapRow). r ∷ map (linked_row starts file o) (flat_map rows_at ss)) own ∙ ap (λ (l : List MapRow). row_in starts file s ∷ l) ih
+      go false ih = ih
+
+  pub rows_all : (file : ℕ) (sources : List (List Statement)) (os : List Object) (h : AreObjectsOf sources os) → linked_rows starts file os ≡ all_rows starts file sources os h
+  rows_all file [] [] h = refl
+  rows_all file [] (o ∷ os) h = absurd h
+  rows_all file (ss ∷ sources) [] h = absurd h
+  rows_all file (ss ∷ sources) (o ∷ os) (is, h) =
+      ap (λ l. map (linked_row starts file o) l ++ linked_rows starts (suc file) os) is.rows
+      ∙ ap (λ l. l ++ linked_rows starts (suc file) os) (rows_are file o is.sites (plain_of ss o is))
+      ∙ ap (λ l. rows_from starts file is.sites ++ l) (rows_all (suc file) sources os h)
+
+-- ---- the files
+
+pub record IsFile (p : Program) (starts : Starts) (file : ℕ) (ss : List Statement) (sites : List Site) : Type 0 where
+  pub tables : tables_in p file ≡ tables ss
+  pub mapped : (j : ℕ) → mapped_in p.mapped file j ≡ mapped_from starts file (sites_in j sites)
+  pub address : (n : ℕ) → address_at p.statements file n ≡ option_and_then (row_address starts file) (site_at sites n)
+
+abbrev pub AreFiles : Program → Starts → ℕ → (sources : List (List Statement)) (os : List Object) → AreObjectsOf sources os → Type 0
+AreFiles p starts file [] [] h = ⊤
+AreFiles p starts file [] (o ∷ os) h = absurd h
+AreFiles p starts file (ss ∷ sources) [] h = absurd h
+AreFiles p starts file (ss ∷ sources) (o ∷ os) (is, h) = IsFile p starts file ss is.sites × AreFiles p starts (suc file) sources os h
+
+files_from : (p : Program) (starts : Starts) (file : ℕ) (sources : List (List Statement)) (os : List Object) (h : AreObjectsOf sources os)
+    → ((i : ℕ) → IsFile p starts (file + i) (slice_index_or sources i []) (sites_by starts sources os h i)) → AreFiles p starts file sources os h
+files_from p starts file [] [] h f = tt
+files_from p starts file [] (o ∷ os) h f = absurd h
+files_from p starts file (ss ∷ sources) [] h f = absurd h
+files_from p starts file (ss ∷ sources) (o ∷ os) (is, h) f = (
+  subst (λ n. IsFile p starts n ss is.sites) (let e : file + 0 ≡ file = omega arith in e) (f 0),
+  files_from p starts (suc file) sources os h (λ i. subst (λ n. IsFile p starts n (slice_index_or sources i []) (sites_by starts sources os h i)) (let e : file + suc i ≡ suc file + i = omega arith in e) (f (suc i))),
+)
+
+tables_by : (sources : List (List Statement)) (i : ℕ) → slice_index_or (map tables sources) i at_start ≡ tables (slice_index_or sources i [])
+tables_by [] i = refl
+tables_by (ss ∷ sources) zero = refl
+tables_by (ss ∷ sources) (suc i) = tables_by sources i
+
+module _ (sources : List (List Statement)) (os : List Object) (m : Map) (starts : Starts) (h : AreObjectsOf sources os) (rows : m.rows ≡ linked_rows starts 1 os) where
+  abbrev p : Program
+  p = program sources m
+
+  pub rows_ours : m.rows ≡ all_rows starts 1 sources os h
+  rows_ours = rows ∙ rows_all starts 1 sources os h
+
+  pub statements_ours : p.statements ≡ all_statements starts 1 sources os h
+  statements_ours = ap (statements_of (located sources)) rows_ours ∙ statements_all starts 1 sources os h
+
+  pub files : AreFiles p starts 1 sources os h
+  files = files_from p starts 1 sources os h (λ i. record {
+    tables = ap (λ n. slice_index_or (map tables sources) n at_start) (let e : 1 + i - 1 ≡ i = omega arith in e) ∙ tables_by sources i;
+    mapped = λ j. ap (λ s. mapped_in (mapped_of s) (1 + i) j) statements_ours ∙ mapped_by starts 1 i j sources os h;
+    address = λ n. ap (λ s. address_at s (1 + i) n) statements_ours ∙ address_by starts 1 i n sources os h;
+  })

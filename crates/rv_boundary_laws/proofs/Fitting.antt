@@ -1,0 +1,225 @@
+-- A row that suits its statement fits it.
+
+use Rattle.std.proofs.Common.{◌≡◌, ℕ, zero, suc, ◌+◌, ◌-◌, ◌*◌, ◌/◌, ◌%◌, ◌<◌, Bool, true, false, List, [], ◌∷◌, length, refl, sym, ap, ◌∙◌, subst, arith, Option, Some, None, length-append}
+use Rattle.std.proofs.Common.{add-zero}
+use Rattle.std.proofs.Math.Nat.{mul-add-div_right, add-mul}
+use Rattle.std.proofs.lemmas.Nat.{div-add-mod'}
+use Rattle.std.proofs.lemmas.Bool.{and_parts}
+use Rattle.std.proofs.lemmas.List.{length-replicate}
+use Rattle.std.specs.Prelude.{◌&&◌, not, IsTrue, flat_map, replicate, is_some, unwrap_or, if◌then◌else◌}
+use Rattle.std.specs.List.{list_all}
+use Rattle.rv_isa.specs.declared.instruction.Inst.{Inst}
+use Rattle.rv_isa.specs.Ranges.{IsValid}
+use Rattle.rv_text_laws.specs.Expression.{Primary}
+use Rattle.rv_text_laws.specs.Values.{Value, Constant, Symbolic, Difference, Faulty}
+use Rattle.rv_statement.specs.declared.mnemonic.Mnemonic.{Mnemonic}
+use Rattle.rv_statement.specs.Statement.{StatementKind, Label, Numbered, Instruction, Directs, Expression, Operand, Register, Value as Of_value, Applied, Target, Accesses, Word, Quoted, Directive, Sets, Aligns_to_power, Aligns_to_bytes, Values, Strings, Zeros}
+use Rattle.rv_unit_laws.specs.Sections.{Section}
+use Rattle.rv_unit_laws.specs.Tables.{alignment_of, padding, aligned}
+use Rattle.rv_map.specs.declared.map.Row.{Row}
+use Rattle.rv_source_laws.specs.Program.{Mapped, Program, form, address, resolved, number, has_values, expressions, in_operand}
+use Rattle.rv_source_laws.specs.Meaning.{expansion, expanded, expanded_with, padding_count, no_operation}
+use Rattle.rv_source_laws.specs.Written.{arguments, argument}
+use Rattle.rv_source_laws.specs.Fits.{constant_in, SizeFits, IsRowOf, IsPaddingIn, is_constant}
+use Rattle.rv_chain_laws.specs.Contents.{IsWritten, words, code_bytes}
+use Rattle.rv_source_laws.specs.Start.{little_endian}
+use Rattle.rv_chain_laws.proofs.Held.{IsHeld, DirectiveHeld}
+use Rattle.rv_boundary_laws.proofs.Suits.{IsInstruction, IsMultiple, SuitsPadding, SuitsDirective, Suits, code_said}
+
+-- ---- constants
+
+constant_some : (a : Primary → Option ℕ) (v : Value) → is_constant v ≡ true → is_some (resolved a v) ≡ true
+constant_some a (Constant n) e = refl
+constant_some a (Symbolic p at k) e = absurd (cc)
+constant_some a (Difference p q k) e = absurd (cc)
+constant_some a (Faulty c) e = absurd (cc)
+
+constant_number : (a : Primary → Option ℕ) (v : Value) → is_constant v ≡ true → unwrap_or (resolved a v) 0 ≡ constant_in v
+constant_number a (Constant n) e = refl
+constant_number a (Symbolic p at k) e = absurd (cc)
+constant_number a (Difference p q k) e = absurd (cc)
+constant_number a (Faulty c) e = absurd (cc)
+
+true_and : (a b : Bool) → a ≡ true → b ≡ true → (a && b) ≡ true
+true_and a b e f = ap (λ x. x && b) e ∙ f
+
+constants_some : (a : Primary → Option ℕ) (f : Expression → Value) (es : List Expression) → list_all (λ e. is_constant (f e)) es ≡ true → list_all (λ e. is_some (resolved a (f e))) es ≡ true
+constants_some a f [] h = refl
+constants_some a f (e ∷ es) h =
+    let parts = and_parts (is_constant (f e)) (list_all (λ e. is_constant (f e)) es) h in
+    true_and (is_some (resolved a (f e))) (list_all (λ e. is_some (resolved a (f e))) es) (constant_some a (f e) parts.0) (constants_some a f es parts.1)
+
+same_arguments : (a : Primary → Option ℕ) (f : Expression → Value) (os : List Operand) → list_all (λ e. is_constant (f e)) (flat_map in_operand os) ≡ true
+    → arguments (λ e. unwrap_or (resolved a (f e)) 0) os ≡ arguments (λ e. constant_in (f e)) os
+same_arguments a f [] h = refl
+same_arguments a f (Register r ∷ os) h = ap (λ l. argument (λ e. constant_in (f e)) (Register r) ∷ l) (same_arguments a f os h)
+same_arguments a f (Of_value e ∷ os) h =
+    let parts = and_parts (is_constant (f e)) (list_all (λ e. is_constant (f e)) (flat_map in_operand os)) h in
+    ap (λ n. argument (λ e. n) (Of_value e) ∷ arguments (λ e. unwrap_or (resolved a (f e)) 0) os) (constant_number a (f e) parts.0)
+    ∙ ap (λ l. argument (λ e. constant_in (f e)) (Of_value e) ∷ l) (same_arguments a f os parts.1)
+same_arguments a f (Applied g e ∷ os) h =
+    let parts = and_parts (is_constant (f e)) (list_all (λ e. is_constant (f e)) (flat_map in_operand os)) h in
+    ap (λ n. argument (λ e. n) (Applied g e) ∷ arguments (λ e. unwrap_or (resolved a (f e)) 0) os) (constant_number a (f e) parts.0)
+    ∙ ap (λ l. argument (λ e. constant_in (f e)) (Applied g e) ∷ l) (same_arguments a f os parts.1)
+same_arguments a f (Target e ∷ os) h =
+    let parts = and_parts (is_constant (f e)) (list_all (λ e. is_constant (f e)) (flat_map in_operand os)) h in
+    ap (λ n. argument (λ e. n) (Target e) ∷ arguments (λ e. unwrap_or (resolved a (f e)) 0) os) (constant_number a (f e) parts.0)
+    ∙ ap (λ l. argument (λ e. constant_in (f e)) (Target e) ∷ l) (same_arguments a f os parts.1)
+same_arguments a f (Accesses s ∷ os) h = ap (λ l. argument (λ e. constant_in (f e)) (Accesses s) ∷ l) (same_arguments a f os h)
+same_arguments a f (Word w ∷ os) h = ap (λ l. argument (λ e. constant_in (f e)) (Word w) ∷ l) (same_arguments a f os h)
+same_arguments a f (Quoted q ∷ os) h = ap (λ l. argument (λ e. constant_in (f e)) (Quoted q) ∷ l) (same_arguments a f os h)
+
+-- ---- rows of instructions
+
+no_row : (r : Row) → r.bytes ≡ 0 → r.instructions ≡ 0 → IsRowOf (Some []) r
+no_row r b n = (tt, n, omega arith, omega arith, (let e : r.bytes % 2 ≡ 0 = omega arith in e))
+
+one_row : (r : Row) (i : Inst) → r.bytes ≡ 4 → r.instructions ≡ 1 → IsValid i → IsRowOf (Some (i ∷ [])) r
+one_row r i b n v = ((v, tt), n, omega arith, omega arith, (let e : r.bytes % 2 ≡ 0 = omega arith in e))
+
+-- ---- lengths
+
+little_length : (width n : ℕ) → length (little_endian width n) ≡ width
+little_length zero n = refl
+little_length (suc width) n = ap suc (little_length width (n / 256))
+
+values_length : (v : Expression → ℕ) (width : ℕ) (es : List Expression) → length (flat_map (λ e. little_endian width (v e)) es) ≡ width * length es
+values_length v width [] = omega arith
+values_length v width (e ∷ es) =
+    let own = little_length width (v e) in
+    let rest = values_length v width es in
+    let m : width * suc (length es) ≡ width + width * length es = omega arith in
+    length-append (little_endian width (v e)) (flat_map (λ e. little_endian width (v e)) es) ∙ ap (λ n. n + length (flat_map (λ e. little_endian width (v e)) es)) own ∙ ap (λ n. width + n) rest ∙ sym m
+
+-- ---- padding
+
+aligned_moves : (a q x : ℕ) → 0 < a → aligned a (q * a + x) ≡ q * a + aligned a x
+aligned_moves a q x h =
+    let more : q * a + x + (a - 1) ≡ q * a + (x + (a - 1)) = omega arith in
+    ap (λ n. n / a * a) more ∙ ap (λ n. n * a) (mul-add-div_right h q (x + (a - 1))) ∙ add-mul q ((x + (a - 1)) / a) a
+
+padding_moves : (alignment : Option ℕ) (start offset : ℕ) → IsMultiple alignment start → padding alignment (start + offset) ≡ padding alignment offset
+padding_moves None start offset h = refl
+padding_moves (Some a) start offset (some, h) =
+    let q = start / a in
+    let whole : q * a ≡ start = sym (add-zero (q * a)) ∙ ap (λ n. q * a + n) (sym h) ∙ div-add-mod' start a in
+    let moved : aligned a (start + offset) ≡ start + aligned a offset =
+    ap (λ n. aligned a (n + offset)) (sym whole) ∙ aligned_moves a q offset some ∙ ap (λ n. n + aligned a offset) whole in
+    ap (λ n. n - (start + offset)) moved ∙ (let e : start + aligned a offset - (start + offset) ≡ aligned a offset - offset = omega arith in e)
+
+-- ---- a site
+
+is_true : (b : Bool) → b ≡ true → IsTrue b
+is_true b e = e
+
+not_false : (b : Bool) → b ≡ false → not b ≡ true
+not_false b e = ap not e
+
+true_false : {A : Type 0} (b : Bool) → b ≡ true → b ≡ false → A
+true_false true e f = absurd (cc)
+true_false false e f = absurd (cc)
+
+module _ (p : Program) (file ordinal section offset line : ℕ) (home : Section) (placed : Bool) (row : Row) (before start : ℕ) where
+  abbrev at : StatementKind → Mapped
+  at says = record { located = record { file = file; ordinal = ordinal; section = section; offset = offset; home = home; line = line; kind = says; placed = placed }; row = row }
+
+  abbrev f : Expression → Value
+  f e = form p (at (Label [])).located e
+
+  abbrev a : Primary → Option ℕ
+  a q = address p (at (Label [])).located q
+
+  -- ---- instructions
+
+  pub instructions_are : (m : Mnemonic) (os : List Operand) (i : Inst) → IsInstruction f (Instruction m os) i → expansion p (at (Instruction m os)) ≡ Some (i ∷ [])
+  instructions_are m os i (constants, is, valid) =
+      let valued : has_values p (at (Instruction m os)) ≡ true = constants_some a f (flat_map in_operand os) constants in
+      ap (λ b. if b then expanded (number p (at (Instruction m os))) m os else None) valued ∙ ap (λ l. expanded_with m l) (same_arguments a f os constants) ∙ is
+
+  valued_alone : (e : Expression) (says : StatementKind) → expressions says ≡ e ∷ [] → is_constant (f e) ≡ true → has_values p (at says) ≡ true
+  valued_alone e says is constant =
+      ap (λ es. list_all (λ e. is_some (resolved a (f e))) es) is ∙ true_and (is_some (resolved a (f e))) true (constant_some a (f e) constant) refl
+
+  -- an alignment
+  alignment_fits : (e : Expression) (d : Directive) → is_constant (f e) ≡ true → has_values p (at (Directs d)) ≡ true → row.instructions ≡ 0
+      → expansion p (at (Directs d)) ≡ (if has_values p (at (Directs d)) then Some (replicate (padding_count row.bytes) no_operation) else None)
+      → (b : Bool) → SuitsPadding b row before start (alignment_of f d) → IsPaddingIn b p (at (Directs d)) d
+  alignment_fits e d constant valued none is true (bytes, low) =
+      let here : expansion p (at (Directs d)) ≡ Some [] = is ∙ ap (λ b. if b then Some (replicate (padding_count row.bytes) no_operation) else None) valued ∙ ap (λ n. Some (replicate (padding_count n) no_operation)) bytes in
+      (subst (λ o. IsRowOf o row) (sym here) (no_row row bytes none), bytes ∙ ap (λ b. if b then 0 else padding (alignment_of f d) row.address) (sym low))
+  alignment_fits e d constant valued none is false (bytes, place, multiple) =
+      (is_true _ valued, bytes ∙ sym (padding_moves (alignment_of f d) start before multiple) ∙ ap (λ n. padding (alignment_of f d) n) (sym place), none)
+
+  directive_fits : (d : Directive) → SuitsDirective f (has_values p (at (Directs d))) home row before start d → SizeFits p (at (Directs d))
+  directive_fits (Values width values) (none, valued, bytes) = (is_true _ valued, bytes ∙ sym (values_length (number p (at (Directs (Values width values)))) width values), none)
+  directive_fits (Strings ended strings) (none, bytes) = (is_true true refl, bytes, none)
+  directive_fits (Zeros count) (none, is) =
+      let constant : is_constant (f count) ≡ true = ap is_constant is in
+      let n : number p (at (Directs (Zeros count))) count ≡ row.bytes = ap (λ v. unwrap_or (resolved a v) 0) is in
+      (is_true _ (valued_alone count (Directs (Zeros count)) refl constant), sym n ∙ sym (length-replicate {A = ℕ} (number p (at (Directs (Zeros count))) count) 0), none)
+  directive_fits (Aligns_to_power e) (constant, none, h) =
+      alignment_fits e (Aligns_to_power e) constant (valued_alone e (Directs (Aligns_to_power e)) refl constant) none refl home.executable h
+  directive_fits (Aligns_to_bytes e) (constant, none, h) =
+      alignment_fits e (Aligns_to_bytes e) constant (valued_alone e (Directs (Aligns_to_bytes e)) refl constant) none refl home.executable h
+  directive_fits (Sets name e) (bytes, none) = no_row row bytes none
+  directive_fits _ h = absurd h
+
+  pub fits : (says : StatementKind) → Suits f (has_values p (at says)) home row before start says → SizeFits p (at says)
+  fits (Label name) (bytes, none) = no_row row bytes none
+  fits (Numbered digits) (bytes, none) = no_row row bytes none
+  fits (Instruction m os) (bytes, one, (i, is)) =
+      (is_true _ is.0, subst (λ o. IsRowOf o row) (sym (instructions_are m os i is)) (one_row row i bytes one is.2))
+  fits (Directs d) h = directive_fits d h
+
+  -- ---- words
+
+  alignment_written : (e : Expression) (d : Directive) → is_constant (f e) ≡ true → has_values p (at (Directs d)) ≡ true
+      → expansion p (at (Directs d)) ≡ (if has_values p (at (Directs d)) then Some (replicate (padding_count row.bytes) no_operation) else None)
+      → (b : Bool) → b ≡ true → SuitsPadding b row before start (alignment_of f d) → IsWritten p (at (Directs d))
+  alignment_written e d constant valued is true yes' (bytes, low) =
+      ([], is ∙ ap (λ b. if b then Some (replicate (padding_count row.bytes) no_operation) else None) valued ∙ ap (λ n. Some (replicate (padding_count n) no_operation)) bytes, bytes)
+  alignment_written e d constant valued is false no' h = absurd (cc)
+
+  directive_written : (d : Directive) → SuitsDirective f (has_values p (at (Directs d))) home row before start d → DirectiveHeld home d → home.executable ≡ true → IsWritten p (at (Directs d))
+  directive_written (Values width values) h held yes' = true_false home.executable yes' held.0
+  directive_written (Strings ended strings) h held yes' = true_false home.executable yes' held.0
+  directive_written (Zeros count) h held yes' = true_false home.executable yes' held
+  directive_written (Aligns_to_power e) (constant, none, h) held yes' =
+      alignment_written e (Aligns_to_power e) constant (valued_alone e (Directs (Aligns_to_power e)) refl constant) refl home.executable yes' h
+  directive_written (Aligns_to_bytes e) (constant, none, h) held yes' =
+      alignment_written e (Aligns_to_bytes e) constant (valued_alone e (Directs (Aligns_to_bytes e)) refl constant) refl home.executable yes' h
+  directive_written (Sets name e) (bytes, none) held yes' = ([], refl, bytes)
+  directive_written _ h held yes' = absurd h
+
+  pub is_written : (says : StatementKind) → Suits f (has_values p (at says)) home row before start says → IsHeld home says → home.executable ≡ true → IsWritten p (at says)
+  is_written (Label name) (bytes, none) held yes' = ([], refl, bytes)
+  is_written (Numbered digits) (bytes, none) held yes' = ([], refl, bytes)
+  is_written (Instruction m os) (bytes, one, (i, is)) held yes' = (i ∷ [], instructions_are m os i is, bytes)
+  is_written (Directs d) h held yes' = directive_written d h held yes'
+
+  -- ---- bytes
+
+  alignment_coded : (d : Directive) → has_values p (at (Directs d)) ≡ true
+      → expansion p (at (Directs d)) ≡ (if has_values p (at (Directs d)) then Some (replicate (padding_count row.bytes) no_operation) else None)
+      → (b : Bool) → b ≡ true → SuitsPadding b row before start (alignment_of f d) → code_bytes p (at (Directs d)) ≡ []
+  alignment_coded d valued is true yes' (bytes, low) =
+      ap words (is ∙ ap (λ b. if b then Some (replicate (padding_count row.bytes) no_operation) else None) valued ∙ ap (λ n. Some (replicate (padding_count n) no_operation)) bytes)
+  alignment_coded d valued is false no' h = absurd (cc)
+
+  directive_coded : (d : Directive) → SuitsDirective f (has_values p (at (Directs d))) home row before start d → DirectiveHeld home d → home.executable ≡ true → code_bytes p (at (Directs d)) ≡ []
+  directive_coded (Values width values) h held yes' = true_false home.executable yes' held.0
+  directive_coded (Strings ended strings) h held yes' = true_false home.executable yes' held.0
+  directive_coded (Zeros count) h held yes' = true_false home.executable yes' held
+  directive_coded (Aligns_to_power e) (constant, none, h) held yes' =
+      alignment_coded (Aligns_to_power e) (valued_alone e (Directs (Aligns_to_power e)) refl constant) refl home.executable yes' h
+  directive_coded (Aligns_to_bytes e) (constant, none, h) held yes' =
+      alignment_coded (Aligns_to_bytes e) (valued_alone e (Directs (Aligns_to_bytes e)) refl constant) refl home.executable yes' h
+  directive_coded (Sets name e) h held yes' = refl
+  directive_coded _ h held yes' = absurd h
+
+  -- in code a statement has the words of its instruction, by the constants of its expressions
+  pub coded : (says : StatementKind) → Suits f (has_values p (at says)) home row before start says → IsHeld home says → home.executable ≡ true → code_bytes p (at says) ≡ code_said f says
+  coded (Label name) h held yes' = refl
+  coded (Numbered digits) h held yes' = refl
+  coded (Instruction m os) (bytes, one, (i, is)) held yes' = ap words (instructions_are m os i is ∙ sym is.1)
+  coded (Directs d) h held yes' = directive_coded d h held yes'

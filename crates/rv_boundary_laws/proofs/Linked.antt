@@ -1,0 +1,328 @@
+-- The linked program of the objects is that of the sources.
+
+use Rattle.std.proofs.Common.{◌≡◌, ℕ, suc, ◌+◌, ◌%◌, Bool, true, false, List, [], ◌∷◌, ◌++◌, length, refl, sym, ap, ◌∙◌, subst, arith, map, None}
+use Rattle.std.proofs.lemmas.Bool.{and_parts}
+use Rattle.std.proofs.lemmas.Bool.Decides.{nat_tests}
+use Rattle.std.proofs.lemmas.List.Sums.{sum_by-cons}
+use Rattle.std.specs.Prelude.{◌&&◌, not, nat_lt, IsTrue, if◌then◌else◌, filter, flat_map}
+use Rattle.std.specs.List.{AllByRecursion}
+use Rattle.rv_statement.specs.Statement.{Statement}
+use Rattle.rv_unit_laws.specs.Sections.{Section as SourceSection, goes_to_text, goes_to_rodata, goes_to_data, goes_to_bss}
+use Rattle.rv_unit_laws.specs.Tables.{Tables, aligned, tables, at_start}
+use Rattle.rv_unit_laws.specs.Faults.{first_fault}
+use Rattle.rv_map.specs.declared.map.Row.{Row as MapRow}
+use Rattle.rv_source_laws.specs.Located.{Located, has_row, located_of}
+use Rattle.rv_source_laws.specs.Program.{Mapped, Program, program, tables_in}
+use Rattle.rv_source_laws.specs.Fits as source
+use Rattle.rv_source_laws.specs.Fits.{SizeFits}
+use Rattle.rv_source_laws.specs.Resolves.{Resolves}
+use Rattle.rv_source_laws.specs.Start.{spelled}
+use Rattle.rv_image.specs.Linked.{Linked}
+use Rattle.rv_chain_laws.specs.Contents.{IsWritten, IsLinked, code_bytes, contents as source_contents}
+use Rattle.rv_chain_laws.proofs.Homes.{IsAtHome, homes, from_blocks, sections_in}
+use Rattle.rv_chain_laws.proofs.Regions.{AllIn}
+use Rattle.rv_object.specs.Object.{Section, Object, stored}
+use Rattle.rv_object_laws.specs.Inputs as objects
+use Rattle.rv_object_laws.specs.Inputs.{Starts, InputSection, inputs_from, inputs_of, inputs, contents, Holds, Stand}
+use Rattle.rv_object_laws.specs.Values.{linked_bytes, IsRelocated}
+use Rattle.rv_object_laws.specs.IsLinkOf.{IsLinkOf, is_loaded}
+use Rattle.rv_assemble_laws.specs.Sites.{Site, parts, parts_of, part_bytes, sites_in, end_of}
+use Rattle.rv_assemble_laws.specs.IsObjectOf.{Numbering, contents_of, IsSectionOf, AreSectionsOf}
+use Rattle.rv_boundary_laws.proofs.Patches.{written}
+use Rattle.rv_boundary_laws.proofs.Statements.{AreObjectsOf, renumbered, renumbers, row_in, rows_from, mapped_at, all_rows}
+use Rattle.rv_boundary_laws.proofs.Settled.{settled}
+use Rattle.rv_boundary_laws.proofs.Sections.{meant_in, split}
+use Rattle.rv_boundary_laws.proofs.Placed.{IsFit}
+use Rattle.rv_boundary_laws.proofs.Regions.{AreGood, IsRegion, region, greatest_same, good_join, good_file}
+use Rattle.rv_boundary_laws.proofs.Files.{plain_of, AreFiles, files, rows_ours}
+
+-- ---- sections go where the source's go
+
+nobits_same : (b : Bool) (count : ℕ) (bytes : List ℕ) → objects.is_nobits (contents_of b count bytes) ≡ b
+nobits_same true count bytes = refl
+nobits_same false count bytes = refl
+
+stored_same : (b : Bool) (count : ℕ) (bytes : List ℕ) → b ≡ false → stored (contents_of b count bytes) ≡ bytes
+stored_same true count bytes e = absurd (cc)
+stored_same false count bytes e = refl
+
+module _ (t : Tables) (sites : List Site) (number : Numbering) (o : Object) (index : ℕ) (s : SourceSection) (x : Section)
+    (is : IsSectionOf t sites number o.symbols index s (sites_in index sites) x) where
+  nobits : objects.is_nobits x.contents ≡ s.nobits
+  nobits = ap objects.is_nobits is.contents ∙ nobits_same s.nobits _ _
+
+  text_same : objects.goes_to_text x ≡ goes_to_text s
+  text_same = ap (λ b. b && x.executable) is.loaded ∙ ap (λ b. s.loaded && b) is.executable
+
+  front_same : (x.loaded && not x.executable) ≡ (s.loaded && not s.executable)
+  front_same = ap (λ b. b && not x.executable) is.loaded ∙ ap (λ b. s.loaded && not b) is.executable
+
+  bss_same : objects.goes_to_bss x ≡ goes_to_bss s
+  bss_same = ap (λ b. b && objects.is_nobits x.contents) front_same ∙ ap (λ b. (s.loaded && not s.executable) && b) nobits
+
+  data_same : objects.goes_to_data x ≡ goes_to_data s
+  data_same =
+      ap (λ b. (b && not (objects.is_nobits x.contents)) && x.writable) front_same ∙ ap (λ b. ((s.loaded && not s.executable) && not b) && x.writable) nobits
+      ∙ ap (λ b. ((s.loaded && not s.executable) && not s.nobits) && b) is.writable
+
+  rodata_same : objects.goes_to_rodata x ≡ goes_to_rodata s
+  rodata_same =
+      ap (λ b. (b && not (objects.is_nobits x.contents)) && not x.writable) front_same ∙ ap (λ b. ((s.loaded && not s.executable) && not b) && not x.writable) nobits
+      ∙ ap (λ b. ((s.loaded && not s.executable) && not s.nobits) && not b) is.writable
+
+  -- bytes in the file
+  plain_holds : s.nobits ≡ false → stored x.contents ≡ flat_map part_bytes (parts t (sites_in index sites))
+  plain_holds e = ap stored is.contents ∙ stored_same s.nobits _ _ e
+
+  text_holds : goes_to_text s ≡ true → stored x.contents ≡ flat_map part_bytes (parts t (sites_in index sites))
+  text_holds e = go s.nobits refl
+    where
+      go : (b : Bool) → s.nobits ≡ b → stored x.contents ≡ flat_map part_bytes (parts t (sites_in index sites))
+      go false f = plain_holds f
+      go true f = ap stored is.contents ∙ ap (λ b. stored (contents_of b (end_of 0 (sites_in index sites)) (flat_map part_bytes (parts t (sites_in index sites))))) f ∙ sym (is.code e f)
+
+-- ---- flags
+
+first_true : (a b : Bool) → (a && b) ≡ true → a ≡ true
+first_true a b e = (and_parts a b e).0
+
+not_true : (a : Bool) → not a ≡ true → a ≡ false
+not_true true e = absurd (cc)
+not_true false e = refl
+
+bss_front : (s : SourceSection) → goes_to_bss s ≡ true → (s.loaded ≡ true) × (s.executable ≡ false)
+bss_front s e =
+    let front = and_parts s.loaded (not s.executable) (and_parts (s.loaded && not s.executable) s.nobits e).0 in (front.0, not_true s.executable front.1)
+
+data_front : (s : SourceSection) → goes_to_data s ≡ true → (s.loaded ≡ true) × (s.executable ≡ false) × (s.nobits ≡ false)
+data_front s e =
+    let three = and_parts (s.loaded && not s.executable) (not s.nobits) (and_parts ((s.loaded && not s.executable) && not s.nobits) s.writable e).0 in
+    let front = and_parts s.loaded (not s.executable) three.0 in
+    (front.0, not_true s.executable front.1, not_true s.nobits three.1)
+
+rodata_front : (s : SourceSection) → goes_to_rodata s ≡ true → (s.loaded ≡ true) × (s.executable ≡ false) × (s.nobits ≡ false)
+rodata_front s e =
+    let three = and_parts (s.loaded && not s.executable) (not s.nobits) (and_parts ((s.loaded && not s.executable) && not s.nobits) (not s.writable) e).0 in
+    let front = and_parts s.loaded (not s.executable) three.0 in
+    (front.0, not_true s.executable front.1, not_true s.nobits three.1)
+
+-- ---- identities of rows
+
+mark_own : (starts : Starts) (file : ℕ) (sites : List Site) (more : List MapRow) (others : List Located)
+    → map source.identity_of_row more ≡ map source.identity_of (filter has_row others)
+    → map source.identity_of_row (rows_from starts file sites ++ more) ≡ map source.identity_of (filter has_row (map (renumbered file) (map (λ s. s.located) sites) ++ others))
+mark_own starts file [] more others e = e
+mark_own starts file (s ∷ ss) more others e = go (has_row s.located) (mark_own starts file ss more others e)
+  where
+    rest : List Located
+    rest = map (renumbered file) (map (λ s. s.located) ss) ++ others
+
+    go : (b : Bool) → map source.identity_of_row (rows_from starts file ss ++ more) ≡ map source.identity_of (filter has_row rest)
+        → map source.identity_of_row ((if b then row_in starts file s ∷ rows_from starts file ss else rows_from starts file ss) ++ more)
+        ≡ map source.identity_of (if b then renumbered file s.located ∷ filter has_row rest else filter has_row rest)
+    go true ih = ap (λ (l : List source.Identity). source.identity_of (renumbered file s.located) ∷ l) ih
+    go false ih = ih
+
+marks : (starts : Starts) (file : ℕ) (sources : List (List Statement)) (os : List Object) (h : AreObjectsOf sources os)
+    → map source.identity_of_row (all_rows starts file sources os h) ≡ map source.identity_of (filter has_row (located_of file sources))
+marks starts file [] [] h = refl
+marks starts file [] (o ∷ os) h = absurd h
+marks starts file (ss ∷ sources) [] h = absurd h
+marks starts file (ss ∷ sources) (o ∷ os) (is, h) =
+    mark_own starts file is.sites (all_rows starts (suc file) sources os h) (located_of (suc file) sources) (marks starts (suc file) sources os h)
+    ∙ ap (λ l. map source.identity_of (filter has_row (l ++ located_of (suc file) sources)))
+    (ap (map (renumbered file)) is.located ∙ sym (renumbers file 1 at_start ss))
+
+good_all : (sources : List (List Statement)) (os : List Object) → AreObjectsOf sources os → AllByRecursion (λ ss. first_fault ss ≡ None) sources
+good_all [] [] h = tt
+good_all [] (o ∷ os) h = absurd h
+good_all (ss ∷ sources) [] h = absurd h
+good_all (ss ∷ sources) (o ∷ os) (is, h) = (is.good, good_all sources os h)
+
+-- ---- no gap stands between sections of code
+
+even_size : (bs : List Mapped) (p : Program) → AllByRecursion (λ m. SizeFits p m × IsWritten p m) bs → source.size (map (λ s. s.row) bs) % 2 ≡ 0
+even_size [] p h = refl
+even_size (b ∷ bs) p ((fits, (is, at, four)), hs) =
+    let c : source.size (b.row ∷ map (λ s. s.row) bs) ≡ b.row.bytes + source.size (map (λ s. s.row) bs) = sum_by-cons (λ r. r.bytes) b.row (map (λ s. s.row) bs) in
+    let ih = even_size bs p hs in
+    let n = length is in
+    ap (λ n. n % 2) c ∙ (let e : (b.row.bytes + source.size (map (λ s. s.row) bs)) % 2 ≡ 0 = omega (arith, four, ih) in e)
+
+module _ (p : Program) (all : List Object) (starts : Starts) (spells : Mapped → List ℕ) where
+  no_gaps : (stop : ℕ) → stop % 2 ≡ 0 → (is : List InputSection) (bs : List source.InputSection) → AreGood p all starts spells true true (λ m. SizeFits p m × IsWritten p m) is bs
+      → AllIn (λ m. SizeFits p m × IsWritten p m) bs → source.gaps_of stop bs ≡ []
+  no_gaps stop even [] [] h k = refl
+  no_gaps stop even [] (b ∷ bs) h k = absurd h
+  no_gaps stop even (i ∷ is) [] h k = absurd h
+  no_gaps stop even (i ∷ is) (b ∷ bs) (h, hs) (k, ks) =
+      let count = source.size (source.rows_of b) in
+      let full : count % 2 ≡ 0 = even_size b.mapped p k in
+      let same : aligned b.alignment stop ≡ stop = ap (λ n. aligned n stop) (h.low refl) ∙ (let e : aligned 2 stop ≡ stop = omega (arith, even) in e) in
+      let fits : nat_lt stop stop ≡ false = grind (arith, nat_tests) in
+      ap (λ a. if nat_lt stop a then record { start = stop; end = a } ∷ source.gaps_of (a + count) bs else source.gaps_of (a + count) bs) same
+      ∙ ap (λ b'. if b' then record { start = stop; end = stop } ∷ source.gaps_of (stop + count) bs else source.gaps_of (stop + count) bs) fits
+      ∙ no_gaps (stop + count) (omega (arith, even, full)) is bs hs ks
+
+-- ---- all regions
+
+module _ (sources : List (List Statement)) (os : List Object) (text_start : ℕ) (l : Linked) (h : AreObjectsOf sources os) (link : IsLinkOf os text_start l) where
+  abbrev p : Program
+  p = program sources l.map
+
+  abbrev starts : Starts
+  starts = link.starts
+
+  abbrev Q : InputSection → Type 0
+  Q i = AllByRecursion (IsRelocated l.map.globals starts os i) i.section.relocations
+
+  module _ (spells : Mapped → List ℕ) (stores two : Bool) (P : Mapped → Type 0) (goes : Section → Bool) (goes_source : SourceSection → Bool)
+      (loads : (s : SourceSection) → goes_source s ≡ true → s.loaded ≡ true)
+      (same_by : (t : Tables) (sites : List Site) (number : Numbering) (o : Object) (index : ℕ) (s : SourceSection) (x : Section)
+      → IsSectionOf t sites number o.symbols index s (sites_in index sites) x → goes x ≡ goes_source s)
+      (holds : (t : Tables) (sites : List Site) (number : Numbering) (o : Object) (index : ℕ) (s : SourceSection) (x : Section)
+      → IsSectionOf t sites number o.symbols index s (sites_in index sites) x → goes_source s ≡ true → stores ≡ true → stored x.contents ≡ flat_map part_bytes (parts t (sites_in index sites)))
+      (spell : (file : ℕ) (s : SourceSection) (z : Site) → goes_source s ≡ true → z.located.home ≡ s → IsFit p starts file z
+      → spells (mapped_at starts file z) ≡ flat_map (written (meant_in p file)) (parts_of (tables_in p file) z))
+      (fitted : (file : ℕ) (s : SourceSection) (z : Site) → goes_source s ≡ true → z.located.home ≡ s → IsFit p starts file z → P (mapped_at starts file z))
+      (codes : two ≡ true → (s : SourceSection) → goes_source s ≡ true → (s.loaded && s.executable) ≡ true) where
+    good_files : (file : ℕ) (srcs : List (List Statement)) (us : List Object) (k : AreObjectsOf srcs us) → AreFiles p starts file srcs us k → AllByRecursion Q (inputs_of is_loaded file us)
+        → AreGood p os starts spells stores two P (inputs_of goes file us) (source.input_sections_of goes_source p.mapped file srcs)
+    good_files file [] [] k f r = tt
+    good_files file [] (o ∷ us) k f r = absurd k
+    good_files file (ss ∷ srcs) [] k f r = absurd k
+    good_files file (ss ∷ srcs) (o ∷ us) (is, k) (f, fs) r =
+        let sections = (tables ss).opened.sections in
+        let both = split Q (inputs_from is_loaded file o 0 o.sections) (inputs_of is_loaded (suc file) us) r in
+        let are = subst (λ t. AreSectionsOf t is.sites is.number o.symbols 0 sections o.sections) (sym f.tables) is.sections in
+        let own = good_file p os starts spells stores two P goes goes_source loads same_by holds spell fitted codes file is.sites is.number o sections
+        link.readable.globals are (settled ss is.sites is.good is.located) (plain_of ss o is) f.address f.mapped both.0 in
+        good_join p os starts spells stores two P (inputs_from goes file o 0 o.sections) (inputs_of goes (suc file) us)
+        (source.input_sections_of_file goes_source (tables ss) p.mapped file 0 sections) (source.input_sections_of goes_source p.mapped (suc file) srcs)
+        (subst (λ t. AreGood p os starts spells stores two P (inputs_from goes file o 0 o.sections) (source.input_sections_of_file goes_source t p.mapped file 0 sections)) f.tables own)
+        (good_files (suc file) srcs us k fs both.1)
+
+    pub good_region : AreGood p os starts spells stores two P (inputs goes os) (source.input_sections goes_source sources l.map)
+    good_region = good_files 1 sources os h (files sources os l.map starts h link.rows) link.relocated
+
+  -- ---- each of them
+
+  abbrev Fit : Mapped → Type 0
+  Fit m = SizeFits p m
+
+  abbrev Written : Mapped → Type 0
+  Written m = SizeFits p m × IsWritten p m
+
+  text_good : AreGood p os starts (code_bytes p) true true Written (inputs objects.goes_to_text os) (source.input_sections goes_to_text sources l.map)
+  text_good = good_region (code_bytes p) true true Written objects.goes_to_text goes_to_text (λ s e. first_true s.loaded s.executable e)
+      text_same (λ t sites number o index s x is e f. text_holds t sites number o index s x is e)
+      (λ file s z e home fit. fit.code (ap (λ y. y.executable) home ∙ (and_parts s.loaded s.executable e).1))
+      (λ file s z e home fit. (fit.sized, fit.coded (ap (λ y. y.executable) home ∙ (and_parts s.loaded s.executable e).1)))
+      (λ e s g. g)
+
+  rodata_good : AreGood p os starts (spelled p) true false Fit (inputs objects.goes_to_rodata os) (source.input_sections goes_to_rodata sources l.map)
+  rodata_good = good_region (spelled p) true false Fit objects.goes_to_rodata goes_to_rodata (λ s e. (rodata_front s e).0)
+      rodata_same (λ t sites number o index s x is e f. plain_holds t sites number o index s x is (rodata_front s e).2)
+      (λ file s z e home fit. fit.figures (ap (λ y. y.executable) home ∙ (rodata_front s e).1))
+      (λ file s z e home fit. fit.sized) (λ e s g. absurd (cc))
+
+  data_good : AreGood p os starts (spelled p) true false Fit (inputs objects.goes_to_data os) (source.input_sections goes_to_data sources l.map)
+  data_good = good_region (spelled p) true false Fit objects.goes_to_data goes_to_data (λ s e. (data_front s e).0)
+      data_same (λ t sites number o index s x is e f. plain_holds t sites number o index s x is (data_front s e).2)
+      (λ file s z e home fit. fit.figures (ap (λ y. y.executable) home ∙ (data_front s e).1))
+      (λ file s z e home fit. fit.sized) (λ e s g. absurd (cc))
+
+  bss_good : AreGood p os starts (spelled p) false false Fit (inputs objects.goes_to_bss os) (source.input_sections goes_to_bss sources l.map)
+  bss_good = good_region (spelled p) false false Fit objects.goes_to_bss goes_to_bss (λ s e. (bss_front s e).0)
+      bss_same (λ t sites number o index s x is e f. absurd (cc))
+      (λ file s z e home fit. fit.figures (ap (λ y. y.executable) home ∙ (bss_front s e).1))
+      (λ file s z e home fit. fit.sized) (λ e s g. absurd (cc))
+
+  text_region : IsRegion p os starts (code_bytes p) true true Written text_start (inputs objects.goes_to_text os) (source.input_sections goes_to_text sources l.map)
+  text_region = region p os starts (code_bytes p) true true Written text_start (inputs objects.goes_to_text os) (source.input_sections goes_to_text sources l.map) text_good link.text.1
+
+  rodata_region : IsRegion p os starts (spelled p) true false Fit (aligned 4096 l.map.text.end) (inputs objects.goes_to_rodata os) (source.input_sections goes_to_rodata sources l.map)
+  rodata_region = region p os starts (spelled p) true false Fit (aligned 4096 l.map.text.end) (inputs objects.goes_to_rodata os) (source.input_sections goes_to_rodata sources l.map) rodata_good link.rodata.1
+
+  data_region : IsRegion p os starts (spelled p) true false Fit (aligned 4096 l.map.rodata.end) (inputs objects.goes_to_data os) (source.input_sections goes_to_data sources l.map)
+  data_region = region p os starts (spelled p) true false Fit (aligned 4096 l.map.rodata.end) (inputs objects.goes_to_data os) (source.input_sections goes_to_data sources l.map) data_good link.data.1
+
+  abbrev bss_start : ℕ
+  bss_start = aligned (objects.greatest (inputs objects.goes_to_bss os)) l.map.data.end
+
+  bss_region : IsRegion p os starts (spelled p) false false Fit bss_start (inputs objects.goes_to_bss os) (source.input_sections goes_to_bss sources l.map)
+  bss_region = region p os starts (spelled p) false false Fit bss_start (inputs objects.goes_to_bss os) (source.input_sections goes_to_bss sources l.map) bss_good link.bss.1
+
+  -- ---- sizes, by the regions
+
+  at_home : AllByRecursion (IsAtHome (sections_in sources)) p.mapped
+  at_home = homes sources l.map.rows
+
+  abbrev In : (SourceSection → Bool) → (Mapped → Type 0) → Mapped → Type 0
+  In goes P s = goes s.located.home ≡ true → P s
+
+  one_of_four : (s : SourceSection) → s.loaded ≡ true → (X : Type 0) → (goes_to_text s ≡ true → X) → (goes_to_rodata s ≡ true → X) → (goes_to_data s ≡ true → X) → (goes_to_bss s ≡ true → X) → X
+  one_of_four s loaded X f g d b = go s.executable s.nobits s.writable refl refl refl
+    where
+      whole : (e n w : Bool) → s.executable ≡ e → s.nobits ≡ n → s.writable ≡ w → (r : Bool → Bool → Bool → Bool → Bool) → r s.loaded s.executable s.nobits s.writable ≡ r true e n w
+      whole e n w x y z r =
+          ap (λ a. r a s.executable s.nobits s.writable) loaded ∙ ap (λ a. r true a s.nobits s.writable) x ∙ ap (λ a. r true e a s.writable) y ∙ ap (λ a. r true e n a) z
+
+      go : (e n w : Bool) → s.executable ≡ e → s.nobits ≡ n → s.writable ≡ w → X
+      go true n w x y z = f (whole true n w x y z (λ a b c d. a && b))
+      go false true w x y z = b (whole false true w x y z (λ a b c d. a && not b && c))
+      go false false true x y z = d (whole false false true x y z (λ a b c d. a && not b && not c && d))
+      go false false false x y z = g (whole false false false x y z (λ a b c d. a && not b && not c && not d))
+
+  sizes_by : (ms : List Mapped) → AllByRecursion (IsAtHome (sections_in sources)) ms → AllByRecursion (In goes_to_text Written) ms → AllByRecursion (In goes_to_rodata Fit) ms
+      → AllByRecursion (In goes_to_data Fit) ms → AllByRecursion (In goes_to_bss Fit) ms → AllByRecursion (SizeFits p) ms
+  sizes_by [] h f g d b = tt
+  sizes_by (m ∷ ms) (h, hs) (f, fs) (g, gs) (d, ds) (b, bs) =
+      (one_of_four m.located.home h.1 (SizeFits p m) (λ e. (f e).0) g d b, sizes_by ms hs fs gs ds bs)
+
+  in_text : AllByRecursion (In goes_to_text Written) p.mapped
+  in_text = from_blocks p.mapped sources goes_to_text Written at_home text_region.each
+
+  sizes : AllByRecursion (SizeFits p) p.mapped
+  sizes = sizes_by p.mapped at_home in_text (from_blocks p.mapped sources goes_to_rodata Fit at_home rodata_region.each)
+      (from_blocks p.mapped sources goes_to_data Fit at_home data_region.each) (from_blocks p.mapped sources goes_to_bss Fit at_home bss_region.each)
+
+  written_by : (ms : List Mapped) → AllByRecursion (IsAtHome (sections_in sources)) ms → AllByRecursion (In goes_to_text Written) ms
+      → AllByRecursion (λ s. IsTrue s.located.home.executable → IsWritten p s) ms
+  written_by [] h f = tt
+  written_by (m ∷ ms) (h, hs) (f, fs) =
+      ((λ e. (f (ap (λ b. b && m.located.home.executable) h.1 ∙ e)).1), written_by ms hs fs)
+
+  gaps_none : source.gaps_of text_start (source.input_sections goes_to_text sources l.map) ≡ []
+  gaps_none = no_gaps p os starts (code_bytes p) text_start (let page = link.page in omega (arith, page)) (inputs objects.goes_to_text os) (source.input_sections goes_to_text sources l.map) text_good text_region.each
+
+  bss_at : bss_start ≡ aligned (source.greatest (source.input_sections goes_to_bss sources l.map)) l.map.data.end
+  bss_at = ap (λ n. aligned n l.map.data.end) (greatest_same p os starts (spelled p) false false Fit (inputs objects.goes_to_bss os) (source.input_sections goes_to_bss sources l.map) bss_good)
+
+  fits : source.Fits sources l.map text_start
+  fits = record {
+    good = good_all sources os h;
+    rows = ap (map source.identity_of_row) (rows_ours sources os l.map starts h link.rows) ∙ marks starts 1 sources os h;
+    sizes = sizes;
+    text = (link.text.0, text_region.stand, link.text.2 ∙ text_region.end);
+    gaps = link.gaps ∙ text_region.gaps;
+    rodata = (link.rodata.0, rodata_region.stand, link.rodata.2 ∙ rodata_region.end);
+    «data» = (link.data.0, data_region.stand, link.data.2 ∙ data_region.end);
+    bss = subst (λ n. source.Holds l.map.bss n (source.input_sections goes_to_bss sources l.map)) bss_at (link.bss.0, bss_region.stand, link.bss.2 ∙ bss_region.end);
+  }
+
+  -- where the names resolve
+  pub linked : Resolves sources l.map → IsLinked sources text_start l
+  linked resolves = record {
+    fits = fits;
+    resolves = resolves;
+    written = written_by p.mapped at_home in_text;
+    gaps = link.gaps ∙ text_region.gaps ∙ gaps_none;
+    below = link.below;
+    text = link.text_bytes ∙ ap (λ n. contents (linked_bytes l.map.globals starts os) starts n (inputs objects.goes_to_text os)) link.text.0
+        ∙ text_region.bytes refl ∙ ap (λ n. source_contents (code_bytes p) n (source.input_sections goes_to_text sources l.map)) (sym link.text.0);
+    rodata = link.rodata_bytes ∙ ap (λ n. contents (linked_bytes l.map.globals starts os) starts n (inputs objects.goes_to_rodata os)) link.rodata.0
+        ∙ rodata_region.bytes refl ∙ ap (λ n. source_contents (spelled p) n (source.input_sections goes_to_rodata sources l.map)) (sym link.rodata.0);
+    «data» = link.data_bytes ∙ ap (λ n. contents (linked_bytes l.map.globals starts os) starts n (inputs objects.goes_to_data os)) link.data.0
+        ∙ data_region.bytes refl ∙ ap (λ n. source_contents (spelled p) n (source.input_sections goes_to_data sources l.map)) (sym link.data.0);
+  }

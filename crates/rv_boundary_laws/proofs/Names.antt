@@ -1,0 +1,177 @@
+-- The names of the map are those of the sources.
+
+use Rattle.std.proofs.Common.{◌≡◌, ℕ, suc, ◌+◌, ◌-◌, Bool, true, false, List, [], ◌∷◌, ◌++◌, refl, sym, ap, ◌∙◌, arith, map, Option, Some, None}
+use Rattle.std.specs.Prelude.{⊤, ◌&&◌, not, if◌then◌else◌, filter, flat_map, slice_index_or}
+use Rattle.std.specs.List.{list_any}
+use Rattle.rv_text_laws.specs.Values.{Meaning, Known, InSection as InData, Open as OpenAddress, Refused}
+use Rattle.rv_statement.specs.Statement.{StatementKind, Label, Numbered, Instruction, Directs, Statement, Enters, Sets}
+use Rattle.rv_unit_laws.specs.Tables.{Tables, Assignment, tables, assigned_ever}
+use Rattle.rv_map.specs.Map.{Map}
+use Rattle.rv_source_laws.specs.Program.{MaybeMapped, Program, program, tables_in}
+use Rattle.rv_source_laws.specs.Resolves as source
+use Rattle.rv_source_laws.specs.Resolves.{Resolves, is_global_after, defined_name, is_one_of}
+use Rattle.rv_object.specs.declared.symbol.Definition.{Definition as Defined}
+use Rattle.rv_object.specs.declared.symbol.Definition.TheVariants.{Undefined, InSection}
+use Rattle.rv_object.specs.Object.{Symbol, Object}
+use Rattle.rv_object_laws.specs.Inputs.{Starts}
+use Rattle.rv_object_laws.specs.Names as objects
+use Rattle.rv_object_laws.specs.Names.{is_exported, exported, is_defined, defined_address, offset_address}
+use Rattle.rv_assemble_laws.specs.Sites.{Site}
+use Rattle.rv_assemble_laws.specs.Symbols.{site_at, after_found, assigned_definition, site_definition, local_symbol, global_symbol, references, unnamed_symbols, named_symbols, local_symbols, exports_of, exports, undefined_symbols, distinct_from, missing_name, is_absolute, is_meant, are_together}
+use Rattle.rv_assemble_laws.specs.IsObjectOf.{IsObjectOf}
+use Rattle.rv_boundary_laws.specs.Joins.{AreObjectsOf}
+use Rattle.rv_boundary_laws.proofs.Patches.{append_assoc, append_nil}
+use Rattle.rv_boundary_laws.proofs.Statements.{statement_at, all_statements}
+use Rattle.rv_boundary_laws.proofs.Files.{AreFiles}
+
+-- ---- lists
+
+pub flat_join : {X Y : Type 0} (f : X → List Y) (xs ys : List X) → flat_map f (xs ++ ys) ≡ flat_map f xs ++ flat_map f ys
+flat_join f [] ys = refl
+flat_join f (x ∷ xs) ys = ap (λ l. f x ++ l) (flat_join f xs ys) ∙ sym (append_assoc (f x) (flat_map f xs) (flat_map f ys))
+
+filter_join : (xs ys : List Symbol) → filter is_exported (xs ++ ys) ≡ filter is_exported xs ++ filter is_exported ys
+filter_join [] ys = refl
+filter_join (x ∷ xs) ys = go (is_exported x) (filter_join xs ys)
+  where
+    go : (b : Bool) → filter is_exported (xs ++ ys) ≡ filter is_exported xs ++ filter is_exported ys
+        → (if b then x ∷ filter is_exported (xs ++ ys) else filter is_exported (xs ++ ys)) ≡ (if b then x ∷ filter is_exported xs else filter is_exported xs) ++ filter is_exported ys
+    go true ih = ap (λ (l : List Symbol). x ∷ l) ih
+    go false ih = ih
+
+-- ---- which symbols are global
+
+none_local : (d : List ℕ → Defined) (test : Symbol → Bool) (names : List (List ℕ)) → filter is_exported (filter test (map (λ name. local_symbol name (d name)) names)) ≡ []
+none_local d test [] = refl
+none_local d test (name ∷ names) = go (test (local_symbol name (d name))) (none_local d test names)
+  where
+    go : (b : Bool) → filter is_exported (filter test (map (λ name. local_symbol name (d name)) names)) ≡ []
+        → filter is_exported (if b then local_symbol name (d name) ∷ filter test (map (λ name. local_symbol name (d name)) names) else filter test (map (λ name. local_symbol name (d name)) names)) ≡ []
+    go true ih = ih
+    go false ih = ih
+
+none_of : (xs ys : List Symbol) → filter is_exported xs ≡ [] → filter is_exported ys ≡ [] → filter is_exported (xs ++ ys) ≡ []
+none_of xs ys e f = filter_join xs ys ∙ ap (λ l. l ++ filter is_exported ys) e ∙ f
+
+none_unnamed : (b : Bool) (section offset : ℕ) → filter is_exported (if b then local_symbol [] (InSection section offset) ∷ [] else []) ≡ []
+none_unnamed true section offset = refl
+none_unnamed false section offset = refl
+
+locals_none : (ss : List Statement) (t : Tables) (sites before rest : List Site) → filter is_exported (local_symbols ss t sites before rest) ≡ []
+locals_none ss t sites before [] = refl
+locals_none ss t sites before (s ∷ rest) =
+    none_of (unnamed_symbols t (references t sites) before s) (named_symbols ss t sites s ++ local_symbols ss t sites (before ++ s ∷ []) rest)
+    (none_unnamed (is_meant t (references t sites) s && not (list_any (λ q. are_together s q && is_meant t (references t sites) q) before)) s.located.section s.offset)
+    (none_of (named_symbols ss t sites s) (local_symbols ss t sites (before ++ s ∷ []) rest)
+    (none_local (λ name. site_definition t sites s s.located.kind) (λ x. not (is_absolute x)) (filter (λ name. not (is_global_after false ss name)) (defined_name t s.located.ordinal s.located.kind)))
+    (locals_none ss t sites (before ++ s ∷ []) rest))
+
+undefined_none : (names : List (List ℕ)) → filter is_exported (map (λ name. global_symbol name Undefined) names) ≡ []
+undefined_none [] = refl
+undefined_none (name ∷ names) = undefined_none names
+
+all_kept : (d : Defined) → is_defined d ≡ true → (names : List (List ℕ)) → filter is_exported (map (λ name. global_symbol name d) names) ≡ map (λ name. global_symbol name d) names
+all_kept d e [] = refl
+all_kept d e (name ∷ names) =
+    ap (λ b. if b then global_symbol name d ∷ filter is_exported (map (λ name. global_symbol name d) names) else filter is_exported (map (λ name. global_symbol name d) names)) e
+    ∙ ap (λ (l : List Symbol). global_symbol name d ∷ l) (all_kept d e names)
+
+found_defined : (o : Option Site) (plus : ℕ) → is_defined (after_found o plus) ≡ true
+found_defined None plus = refl
+found_defined (Some s) plus = refl
+
+assigned_defined : (sites : List Site) (o : Option Assignment) → is_defined (assigned_definition sites o) ≡ true
+assigned_defined sites None = refl
+assigned_defined sites (Some a) = go a.meaning
+  where
+    go : (m : Meaning) → is_defined (assigned_definition sites (Some (record a { meaning = m }))) ≡ true
+    go (Known n) = refl
+    go (InData section offset) = found_defined (site_at sites a.ordinal) a.plus
+    go OpenAddress = refl
+    go (Refused code) = refl
+
+site_defined : (t : Tables) (sites : List Site) (s : Site) (kind : StatementKind) → is_defined (site_definition t sites s kind) ≡ true
+site_defined t sites s (Directs (Sets name e)) = assigned_defined sites (assigned_ever t.assignments name)
+site_defined t sites s (Directs (Enters section)) = refl
+site_defined t sites s (Directs _) = refl
+site_defined t sites s (Label name) = refl
+site_defined t sites s (Numbered number) = refl
+site_defined t sites s (Instruction mnemonic operands) = refl
+
+exports_kept : (ss : List Statement) (t : Tables) (sites rest : List Site) → filter is_exported (flat_map (exports_of ss t sites) rest) ≡ flat_map (exports_of ss t sites) rest
+exports_kept ss t sites [] = refl
+exports_kept ss t sites (s ∷ rest) =
+    filter_join (exports_of ss t sites s) (flat_map (exports_of ss t sites) rest)
+    ∙ ap (λ l. l ++ filter is_exported (flat_map (exports_of ss t sites) rest))
+    (all_kept (site_definition t sites s s.located.kind) (site_defined t sites s s.located.kind) (filter (λ name. is_global_after false ss name) (defined_name t s.located.ordinal s.located.kind)))
+    ∙ ap (λ l. exports_of ss t sites s ++ l) (exports_kept ss t sites rest)
+
+pub exported_are : (ss : List Statement) (o : Object) (is : IsObjectOf ss o) → exported o ≡ exports ss (tables ss) is.sites
+exported_are ss o is =
+    let t = tables ss in
+    let own = exports ss t is.sites in
+    ap (filter is_exported) is.symbols
+    ∙ filter_join (local_symbols ss t is.sites [] is.sites) (own ++ undefined_symbols t is.sites)
+    ∙ ap (λ l. l ++ filter is_exported (own ++ undefined_symbols t is.sites)) (locals_none ss t is.sites [] is.sites)
+    ∙ filter_join own (undefined_symbols t is.sites)
+    ∙ ap (λ l. l ++ filter is_exported (undefined_symbols t is.sites)) (exports_kept ss t is.sites is.sites)
+    ∙ ap (λ l. own ++ l) (undefined_none (distinct_from [] (flat_map (λ r. missing_name t r.ordinal r.symbol) (references t is.sites))))
+    ∙ append_nil own
+
+-- ---- the names
+
+names_kept : (d : Defined) (names : List (List ℕ)) → map (λ s. s.name) (map (λ name. global_symbol name d) names) ≡ names
+names_kept d [] = refl
+names_kept d (name ∷ names) = ap (λ (l : List (List ℕ)). name ∷ l) (names_kept d names)
+
+map_join : (xs ys : List Symbol) → map (λ s. s.name) (xs ++ ys) ≡ map (λ s. s.name) xs ++ map (λ s. s.name) ys
+map_join [] ys = refl
+map_join (x ∷ xs) ys = ap (λ (l : List (List ℕ)). x.name ∷ l) (map_join xs ys)
+
+-- a file's source by its number
+abbrev pub AreNth : List (List Statement) → ℕ → List (List Statement) → Type 0
+AreNth sources file [] = ⊤
+AreNth sources file (ss ∷ rest) = (slice_index_or sources (file - 1) [] ≡ ss) × AreNth sources (suc file) rest
+
+nth_from : (sources : List (List Statement)) (file : ℕ) (rest : List (List Statement)) → ((i : ℕ) → slice_index_or sources (file + i - 1) [] ≡ slice_index_or rest i []) → AreNth sources file rest
+nth_from sources file [] f = tt
+nth_from sources file (ss ∷ rest) f = (
+  ap (λ n. slice_index_or sources n []) (let e : file - 1 ≡ file + 0 - 1 = omega arith in e) ∙ f 0,
+  nth_from sources (suc file) rest (λ i. ap (λ n. slice_index_or sources n []) (let e : suc file + i - 1 ≡ file + suc i - 1 = omega arith in e) ∙ f (suc i)),
+)
+
+pub nth_all : (sources : List (List Statement)) → AreNth sources 1 sources
+nth_all sources = nth_from sources 1 sources (λ i. ap (λ n. slice_index_or sources n []) (let e : 1 + i - 1 ≡ i = omega arith in e))
+
+module _ (sources : List (List Statement)) (m : Map) (starts : Starts) where
+  abbrev p : Program
+  p = program sources m
+
+  abbrev names_at : MaybeMapped → List (List ℕ)
+  names_at e = source.global_names_of sources (tables_in p e.located.file) e.located
+
+  -- the names of a statement
+  pub site_names : (file : ℕ) (ss : List Statement) → slice_index_or sources (file - 1) [] ≡ ss → tables_in p file ≡ tables ss → (s : Site)
+      → names_at (statement_at starts file s) ≡ filter (λ name. is_global_after false ss name) (defined_name (tables ss) s.located.ordinal s.located.kind)
+  site_names file ss nth same s =
+      ap (λ x. filter (λ name. is_global_after false x name) (defined_name (tables_in p file) s.located.ordinal s.located.kind)) nth
+      ∙ ap (λ t. filter (λ name. is_global_after false ss name) (defined_name t s.located.ordinal s.located.kind)) same
+
+  file_names : (file : ℕ) (ss : List Statement) → slice_index_or sources (file - 1) [] ≡ ss → tables_in p file ≡ tables ss → (sites rest : List Site)
+      → flat_map names_at (map (statement_at starts file) rest) ≡ map (λ s. s.name) (flat_map (exports_of ss (tables ss) sites) rest)
+  file_names file ss nth same sites [] = refl
+  file_names file ss nth same sites (s ∷ rest) =
+      let names = filter (λ name. is_global_after false ss name) (defined_name (tables ss) s.located.ordinal s.located.kind) in
+      ap (λ l. l ++ flat_map names_at (map (statement_at starts file) rest)) (site_names file ss nth same s ∙ sym (names_kept (site_definition (tables ss) sites s s.located.kind) names))
+      ∙ ap (λ l. map (λ s. s.name) (exports_of ss (tables ss) sites s) ++ l) (file_names file ss nth same sites rest)
+      ∙ sym (map_join (exports_of ss (tables ss) sites s) (flat_map (exports_of ss (tables ss) sites) rest))
+
+  pub names_are : (file : ℕ) (srcs : List (List Statement)) (os : List Object) (h : AreObjectsOf srcs os) → AreFiles p starts file srcs os h → AreNth sources file srcs
+      → flat_map names_at (all_statements starts file srcs os h) ≡ objects.global_names os
+  names_are file [] [] h f n = refl
+  names_are file [] (o ∷ os) h f n = absurd h
+  names_are file (ss ∷ srcs) [] h f n = absurd h
+  names_are file (ss ∷ srcs) (o ∷ os) (is, h) (f, fs) (n, ns) =
+      flat_join names_at (map (statement_at starts file) is.sites) (all_statements starts (suc file) srcs os h)
+      ∙ ap (λ l. l ++ flat_map names_at (all_statements starts (suc file) srcs os h)) (file_names file ss n f.tables is.sites is.sites ∙ ap (map (λ s. s.name)) (sym (exported_are ss o is)))
+      ∙ ap (λ l. map (λ s. s.name) (exported o) ++ l) (names_are (suc file) srcs os h fs ns)

@@ -1,0 +1,204 @@
+-- The relocations of a section, part by part: what each makes of its own bytes is all that there is to show.
+
+use Rattle.std.proofs.Common.{◌≡◌, ℕ, zero, suc, ◌+◌, ◌/◌, ◌<◌, Bool, true, false, List, [], ◌∷◌, ◌++◌, length, take, drop, refl, sym, ap, ◌∙◌, subst, arith, length-append, map, Some, inl, inr}
+use Rattle.std.proofs.lemmas.List.{length-replicate}
+use Rattle.std.specs.Prelude.{ℤ, pos, ◌+ℤ◌, ◌^◌, flat_map, Option, unwrap_or, option_map, option_and_then}
+use Rattle.std.specs.Int.{w64, int_wrap}
+use Rattle.std.specs.List.{AllByRecursion}
+use Rattle.rv_isa.specs.declared.kind.Kind.{Kind}
+use Rattle.rv_isa.specs.declared.kind.Kind.TheVariants.{Abs32, Abs64, Add8, Add16, Add32, Add64, Sub8, Sub16, Sub32, Sub64}
+use Rattle.rv_isa.specs.Kinds.{width_of}
+use Rattle.rv_isa_laws.specs.Bytes.{little_endian}
+use Rattle.rv_reloc.specs.Fields.{patched}
+use Rattle.rv_text_laws.specs.Expression.{Primary}
+use Rattle.rv_text_laws.specs.Values.{Meaning, Constant, Symbolic, Difference, Faulty, add, subtract}
+use Rattle.rv_object.specs.Object.{Relocation}
+use Rattle.rv_source_laws.specs.Program.{resolved}
+use Rattle.rv_assemble_laws.specs.Templates.{Template, Fixed, Datum, Open, opened, zeros, template_fields, IsTemplate, IsWide, IsWidth}
+use Rattle.rv_assemble_laws.specs.Sites.{Part, part_of, part_bytes}
+use Rattle.rv_assemble_laws.specs.IsObjectOf.{Numbering, relocation_at, relocations_from}
+use Rattle.rv_object_laws.specs.Values.{patched_at, applied}
+use Rattle.rv_boundary_laws.proofs.Numbers.{worth, address_32, address_64, difference_8, difference_16, difference_32, difference_64}
+
+-- ---- lists
+
+pub append_assoc : {X : Type 0} (xs ys zs : List X) → (xs ++ ys) ++ zs ≡ xs ++ (ys ++ zs)
+append_assoc [] ys zs = refl
+append_assoc (x ∷ xs) ys zs = ap (λ l. x ∷ l) (append_assoc xs ys zs)
+
+pub append_nil : {X : Type 0} (xs : List X) → xs ++ [] ≡ xs
+append_nil [] = refl
+append_nil (x ∷ xs) = ap (λ l. x ∷ l) (append_nil xs)
+
+take_front : (xs ys : List ℕ) → take (length xs) (xs ++ ys) ≡ xs
+take_front [] ys = refl
+take_front (x ∷ xs) ys = ap (λ l. x ∷ l) (take_front xs ys)
+
+drop_front : (xs ys : List ℕ) → drop (length xs) (xs ++ ys) ≡ ys
+drop_front [] ys = refl
+drop_front (x ∷ xs) ys = drop_front xs ys
+
+-- ---- one field
+
+-- a field that has just the width of its kind, after the bytes in front
+pub patched_here : (front mid rest : List ℕ) (k : Kind) (v : ℤ) → length mid ≡ width_of k
+    → patched_at (length front) k v (front ++ (mid ++ rest)) ≡ front ++ (patched k v mid ++ rest)
+patched_here front mid rest k v wide =
+    let after : drop (length front) (front ++ (mid ++ rest)) ≡ mid ++ rest = drop_front front (mid ++ rest) in
+    let own : take (width_of k) (mid ++ rest) ≡ mid = ap (λ n. take n (mid ++ rest)) (sym wide) ∙ take_front mid rest in
+    let others : drop (width_of k) (mid ++ rest) ≡ rest = ap (λ n. drop n (mid ++ rest)) (sym wide) ∙ drop_front mid rest in
+    ap (λ l. l ++ (patched k v (take (width_of k) (drop (length front) (front ++ (mid ++ rest)))) ++ drop (width_of k) (drop (length front) (front ++ (mid ++ rest)))))
+    (take_front front (mid ++ rest))
+    ∙ ap (λ l. front ++ (patched k v (take (width_of k) l) ++ drop (width_of k) l)) after
+    ∙ ap (λ l. front ++ (patched k v l ++ drop (width_of k) (mid ++ rest))) own
+    ∙ ap (λ l. front ++ (patched k v mid ++ l)) others
+
+-- what a part writes, by the addresses of symbols in the statement of an ordinal
+abbrev pub written_template : (Primary → Option ℕ) → Template → List ℕ
+written_template a (Fixed bytes) = bytes
+written_template a (Datum width v) = little_endian width (unwrap_or (resolved a v) 0)
+
+abbrev pub written : (ℕ → Primary → Option ℕ) → Part → List ℕ
+written a p = written_template (a p.ordinal) p.template
+
+abbrev pub is_data : Kind → Bool
+is_data Abs32 = true
+is_data Abs64 = true
+is_data Add8 = true
+is_data Add16 = true
+is_data Add32 = true
+is_data Add64 = true
+is_data Sub8 = true
+is_data Sub16 = true
+is_data Sub32 = true
+is_data Sub64 = true
+is_data _ = false
+
+zeros_long : (n : ℕ) → length (zeros n) ≡ n
+zeros_long n = length-replicate {A = ℕ} n 0
+
+little_long : (width n : ℕ) → length (little_endian width n) ≡ width
+little_long zero n = refl
+little_long (suc width) n = ap suc (little_long width (n / 256))
+
+-- ---- the parts of a section
+
+module _ (new : ℕ → ℕ) (same : (n : ℕ) → new n ≡ n) (value : Relocation → ℤ) (number : Numbering) where
+  abbrev fields : ℕ → Part → List Relocation
+  fields offset p = map (relocation_at number p.ordinal offset) (template_fields p.template)
+
+  applied_append : (xs ys : List Relocation) (bytes : List ℕ) → applied new value (xs ++ ys) bytes ≡ applied new value ys (applied new value xs bytes)
+  applied_append [] ys bytes = refl
+  applied_append (x ∷ xs) ys bytes = applied_append xs ys (patched_at (new x.place) x.kind (value x) bytes)
+
+  -- the relocations of a part make its bytes what it writes, whatever stands around it
+  abbrev pub Makes : (Part → List ℕ) → Part → Type 0
+  Makes written p =
+      (length (written p) ≡ length (part_bytes p))
+      × ((front rest : List ℕ) → applied new value (fields (length front) p) (front ++ (part_bytes p ++ rest)) ≡ front ++ (written p ++ rest))
+
+  pub all_made : (written : Part → List ℕ) (front : List ℕ) (offset : ℕ) (ps : List Part) → length front ≡ offset → AllByRecursion (Makes written) ps
+      → applied new value (relocations_from number offset ps) (front ++ flat_map part_bytes ps) ≡ front ++ flat_map written ps
+  all_made written front offset [] at h = refl
+  all_made written front offset (p ∷ ps) at ((long, makes), hs) =
+      let bytes = part_bytes p in
+      let rest = flat_map part_bytes ps in
+      let later = relocations_from number (offset + length bytes) ps in
+      let next : length (front ++ written p) ≡ offset + length bytes = length-append front (written p) ∙ omega (arith, at, long) in
+      applied_append (fields offset p) later (front ++ (bytes ++ rest))
+      ∙ ap (applied new value later) (ap (λ n. applied new value (fields n p) (front ++ (bytes ++ rest))) (sym at) ∙ makes front rest)
+      ∙ ap (applied new value later) (sym (append_assoc front (written p) rest))
+      ∙ all_made written (front ++ written p) (offset + length bytes) ps next hs
+      ∙ append_assoc front (written p) (flat_map written ps)
+
+  -- ---- the parts of data
+
+  -- one relocation at the start of a part
+  one : (p : Part) (f : Open) (front rest : List ℕ) (mid : List ℕ) → length mid ≡ width_of f.kind → (after : List ℕ)
+      → patched f.kind (value (relocation_at number p.ordinal (length front) f)) mid ≡ after
+      → patched_at (new (length front)) f.kind (value (relocation_at number p.ordinal (length front) f)) (front ++ (mid ++ rest)) ≡ front ++ (after ++ rest)
+  one p f front rest mid wide after is =
+      let v = value (relocation_at number p.ordinal (length front) f) in
+      ap (λ n. patched_at n f.kind v (front ++ (mid ++ rest))) (same (length front))
+      ∙ patched_here front mid rest f.kind v wide ∙ ap (λ l. front ++ (l ++ rest)) is
+
+  -- S for each symbol of a relocation, and the address of each symbol of a statement
+  module _ (s : Option ℕ → ℕ) (worths : (r : Relocation) → is_data r.kind ≡ true → value r ≡ int_wrap w64 (pos (s r.symbol) +ℤ r.addend))
+      (a : ℕ → Primary → Option ℕ) where
+    -- a symbol has an address, which is that of its relocation
+    pub record IsKnown (ordinal : ℕ) (q : Primary) : Type 0 where
+      pub at : ℕ
+      pub is : a ordinal q ≡ Some at
+      pub meant : s (Some (number ordinal q)) ≡ at
+      pub low : at < 2 ^ 64
+
+    worth_at : (kind : Kind) → is_data kind ≡ true → (ordinal : ℕ) (q : Primary) (k offset : ℕ) (known : IsKnown ordinal q)
+        → value (relocation_at number ordinal offset (opened kind q k)) ≡ worth known.at k
+    worth_at kind is ordinal q k offset known =
+        worths (relocation_at number ordinal offset (opened kind q k)) is ∙ ap (λ n. worth n k) known.meant
+
+    symbolic_by : (w : ℕ) (kind : Kind) → width_of kind ≡ w → is_data kind ≡ true → ((n k : ℕ) → patched kind (worth n k) (zeros w) ≡ little_endian w (add n k))
+        → (ordinal : ℕ) (q : Primary) (k : ℕ) → IsKnown ordinal q → (front rest : List ℕ)
+        → applied new value (map (relocation_at number ordinal (length front)) (opened kind q k ∷ [])) (front ++ (zeros w ++ rest))
+        ≡ front ++ (little_endian w (unwrap_or (option_map (λ x. add x k) (a ordinal q)) 0) ++ rest)
+    symbolic_by w kind wide is makes ordinal q k known front rest =
+        one (part_of ordinal (Fixed [])) (opened kind q k) front rest (zeros w) (zeros_long w ∙ sym wide) (little_endian w (add known.at k))
+        (ap (λ v. patched kind v (zeros w)) (worth_at kind is ordinal q k (length front) known) ∙ makes known.at k)
+        ∙ ap (λ o. front ++ (little_endian w (unwrap_or (option_map (λ x. add x k) o) 0) ++ rest)) (sym known.is)
+
+    difference_by : (w : ℕ) (plus minus : Kind) → width_of plus ≡ w → width_of minus ≡ w → is_data plus ≡ true → is_data minus ≡ true
+        → ((x k : ℕ) → (bytes : List ℕ) × (patched plus (worth x k) (zeros w) ≡ bytes) × (length bytes ≡ w))
+        → ((x y k : ℕ) → y < 2 ^ 64 → patched minus (worth y 0) (patched plus (worth x k) (zeros w)) ≡ little_endian w (add (subtract x y) k))
+        → (ordinal : ℕ) (q r : Primary) (k : ℕ) → IsKnown ordinal q → IsKnown ordinal r → (front rest : List ℕ)
+        → applied new value (map (relocation_at number ordinal (length front)) (opened plus q k ∷ opened minus r 0 ∷ [])) (front ++ (zeros w ++ rest))
+        ≡ front ++ (little_endian w (unwrap_or (resolved (a ordinal) (Difference q r k)) 0) ++ rest)
+    difference_by w plus minus wide wide' is is' first makes ordinal q r k x y front rest =
+        let added = first x.at k in
+        let p = part_of ordinal (Fixed []) in
+        ap (λ l. patched_at (new (length front)) minus (value (relocation_at number ordinal (length front) (opened minus r 0))) l)
+        (one p (opened plus q k) front rest (zeros w) (zeros_long w ∙ sym wide) added.0
+        (ap (λ v. patched plus v (zeros w)) (worth_at plus is ordinal q k (length front) x) ∙ added.1))
+        ∙ one p (opened minus r 0) front rest added.0 (added.2 ∙ sym wide') (little_endian w (add (subtract x.at y.at) k))
+        (ap (λ v. patched minus v added.0) (worth_at minus is' ordinal r 0 (length front) y) ∙ ap (patched minus (worth y.at 0)) (sym added.1) ∙ makes x.at y.at k y.low)
+        ∙ ap (λ o. front ++ (little_endian w (unwrap_or (resolved_with o (Some y.at)) 0) ++ rest)) (sym x.is)
+        ∙ ap (λ o. front ++ (little_endian w (unwrap_or (resolved_with (a ordinal q) o) 0) ++ rest)) (sym y.is)
+      where
+        resolved_with : Option ℕ → Option ℕ → Option ℕ
+        resolved_with o p = option_and_then (λ u. option_map (λ v. add (subtract u v) k) p) o
+
+    abbrev pub Fields : ℕ → List Open → Type 0
+    Fields ordinal fs = AllByRecursion (λ f. IsKnown ordinal f.symbol) fs
+
+    symbolic_makes : (width ordinal : ℕ) (q : Primary) (at : Meaning) (k : ℕ) → IsWide width → IsKnown ordinal q → Makes (written a) (part_of ordinal (Datum width (Symbolic q at k)))
+    symbolic_makes width ordinal q at k (inl e) known =
+        subst (λ w. Makes (written a) (part_of ordinal (Datum w (Symbolic q at k)))) (sym e)
+        (little_long 4 (unwrap_or (option_map (λ x. add x k) (a ordinal q)) 0), symbolic_by 4 Abs32 refl refl address_32 ordinal q k known)
+    symbolic_makes width ordinal q at k (inr e) known =
+        subst (λ w. Makes (written a) (part_of ordinal (Datum w (Symbolic q at k)))) (sym e)
+        (little_long 8 (unwrap_or (option_map (λ x. add x k) (a ordinal q)) 0), symbolic_by 8 Abs64 refl refl address_64 ordinal q k known)
+
+    difference_makes : (width ordinal : ℕ) (q r : Primary) (k : ℕ) → IsWidth width → IsKnown ordinal q → IsKnown ordinal r → Makes (written a) (part_of ordinal (Datum width (Difference q r k)))
+    difference_makes width ordinal q r k (inl e) x y =
+        subst (λ w. Makes (written a) (part_of ordinal (Datum w (Difference q r k)))) (sym e)
+        (refl, difference_by 1 Add8 Sub8 refl refl refl refl (λ x k. (patched Add8 (worth x k) (zeros 1), refl, refl)) difference_8 ordinal q r k x y)
+    difference_makes width ordinal q r k (inr (inl e)) x y =
+        subst (λ w. Makes (written a) (part_of ordinal (Datum w (Difference q r k)))) (sym e)
+        (refl, difference_by 2 Add16 Sub16 refl refl refl refl (λ x k. (patched Add16 (worth x k) (zeros 2), refl, refl)) difference_16 ordinal q r k x y)
+    difference_makes width ordinal q r k (inr (inr (inl e))) x y =
+        subst (λ w. Makes (written a) (part_of ordinal (Datum w (Difference q r k)))) (sym e)
+        (refl, difference_by 4 Add32 Sub32 refl refl refl refl (λ x k. (patched Add32 (worth x k) (zeros 4), refl, refl)) difference_32 ordinal q r k x y)
+    difference_makes width ordinal q r k (inr (inr (inr e))) x y =
+        subst (λ w. Makes (written a) (part_of ordinal (Datum w (Difference q r k)))) (sym e)
+        (refl, difference_by 8 Add64 Sub64 refl refl refl refl (λ x k. (patched Add64 (worth x k) (zeros 8), refl, refl)) difference_64 ordinal q r k x y)
+
+    -- each part makes what it writes
+    template_makes : (ordinal : ℕ) (t : Template) → IsTemplate t → Fields ordinal (template_fields t) → Makes (written a) (part_of ordinal t)
+    template_makes ordinal (Fixed bytes) h known = (refl, λ front rest. refl)
+    template_makes ordinal (Datum width (Constant n)) h known = (refl, λ front rest. refl)
+    template_makes ordinal (Datum width (Symbolic q at k)) h (known, tt) = symbolic_makes width ordinal q at k h known
+    template_makes ordinal (Datum width (Difference q r k)) h (x, (y, tt)) = difference_makes width ordinal q r k h x y
+    template_makes ordinal (Datum width (Faulty code)) h known = absurd h
+
+    pub makes : (ps : List Part) → AllByRecursion (λ p. IsTemplate p.template) ps → AllByRecursion (λ p. Fields p.ordinal (template_fields p.template)) ps → AllByRecursion (Makes (written a)) ps
+    makes [] h k = tt
+    makes (p ∷ ps) (h, hs) (k, ks) = (template_makes p.ordinal p.template h k, makes ps hs ks)

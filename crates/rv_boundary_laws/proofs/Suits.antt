@@ -1,0 +1,56 @@
+-- What the row of a statement owes to it, in terms of the values of its expressions.
+
+use Rattle.std.specs.Prelude.{List, ◌≡◌, ℕ, ◌+◌, ◌*◌, ◌%◌, ◌<◌, Bool, true, false, ⊤, [], ◌∷◌, length, Option, Some, None}
+use Rattle.std.specs.List.{list_all}
+use Rattle.rv_isa.specs.declared.instruction.Inst.{Inst}
+use Rattle.rv_isa.specs.Ranges.{IsValid}
+use Rattle.rv_text_laws.specs.Values.{Value, Constant}
+use Rattle.rv_statement.specs.Statement.{StatementKind, Label, Numbered, Instruction, Directs, Expression, Directive, Sets, Aligns_to_power, Aligns_to_bytes, Values, Strings, Zeros}
+use Rattle.rv_unit_laws.specs.Sections.{Section}
+use Rattle.rv_unit_laws.specs.Tables.{alignment_of, padding, string_bytes}
+use Rattle.rv_map.specs.declared.map.Row.{Row}
+use Rattle.rv_source_laws.specs.Program.{expressions}
+use Rattle.rv_source_laws.specs.Fits.{is_constant, constant_in, is_low}
+use Rattle.rv_source_laws.specs.Meaning.{expanded, expanded_said}
+use Rattle.rv_chain_laws.specs.Contents.{words}
+
+-- the one valid instruction of a statement whose expressions are constants
+abbrev pub IsInstruction : (Expression → Value) → StatementKind → Inst → Type 0
+IsInstruction f says i =
+    (list_all (λ e. is_constant (f e)) (expressions says) ≡ true) × (expanded_said (λ e. constant_in (f e)) says 4 ≡ Some (i ∷ [])) × IsValid i
+
+abbrev pub IsMultiple : Option ℕ → ℕ → Type 0
+IsMultiple None start = ⊤
+IsMultiple (Some alignment) start = (0 < alignment) × (start % alignment ≡ 0)
+
+-- the padding of an alignment: none in code; in data up to the multiple, in a section that begins at one
+abbrev pub SuitsPadding : Bool → Row → ℕ → ℕ → Option ℕ → Type 0
+SuitsPadding true row offset start alignment = (row.bytes ≡ 0) × (is_low alignment ≡ true)
+SuitsPadding false row offset start alignment = (row.bytes ≡ padding alignment offset) × (row.address ≡ start + offset) × IsMultiple alignment start
+
+abbrev pub SuitsAlignment : Value → Section → Row → ℕ → ℕ → Option ℕ → Type 0
+SuitsAlignment v home row offset start alignment = (is_constant v ≡ true) × (row.instructions ≡ 0) × SuitsPadding home.executable row offset start alignment
+
+-- by what stands in its expressions, whether all of these have values, its section, its row, and its section's start
+abbrev pub SuitsDirective : (Expression → Value) → Bool → Section → Row → ℕ → ℕ → Directive → Type 0
+SuitsDirective f valued home row offset start (Values width values) =
+    (row.instructions ≡ 0) × (valued ≡ true) × (row.bytes ≡ width * length values)
+SuitsDirective f valued home row offset start (Strings ended strings) =
+    (row.instructions ≡ 0) × (row.bytes ≡ length (string_bytes ended strings))
+SuitsDirective f valued home row offset start (Zeros count) = (row.instructions ≡ 0) × (f count ≡ Constant row.bytes)
+SuitsDirective f valued home row offset start (Aligns_to_power e) = SuitsAlignment (f e) home row offset start (alignment_of f (Aligns_to_power e))
+SuitsDirective f valued home row offset start (Aligns_to_bytes e) = SuitsAlignment (f e) home row offset start (alignment_of f (Aligns_to_bytes e))
+SuitsDirective f valued home row offset start (Sets name e) = (row.bytes ≡ 0) × (row.instructions ≡ 0)
+SuitsDirective f valued home row offset start _ = ⊥
+
+abbrev pub Suits : (Expression → Value) → Bool → Section → Row → ℕ → ℕ → StatementKind → Type 0
+Suits f valued home row offset start (Label name) = (row.bytes ≡ 0) × (row.instructions ≡ 0)
+Suits f valued home row offset start (Numbered number) = (row.bytes ≡ 0) × (row.instructions ≡ 0)
+Suits f valued home row offset start (Instruction mnemonic operands) =
+    (row.bytes ≡ 4) × (row.instructions ≡ 1) × ((i : Inst) × IsInstruction f (Instruction mnemonic operands) i)
+Suits f valued home row offset start (Directs directive) = SuitsDirective f valued home row offset start directive
+
+-- the bytes of a statement in code
+abbrev pub code_said : (Expression → Value) → StatementKind → List ℕ
+code_said f (Instruction mnemonic operands) = words (expanded (λ e. constant_in (f e)) mnemonic operands)
+code_said f _ = []

@@ -1,0 +1,117 @@
+-- The objects of the two files.
+
+use Rattle.std.proofs.Common.{ℕ, List, [], refl, arith, inl, inr, slice_index_or}
+use Rattle.std.specs.Int.{int_wrap}
+use Rattle.rv_statement.specs.Statement.{Label}
+use Rattle.rv_unit_laws.specs.Tables.{at_start}
+use Rattle.rv_source_laws.specs.Located.{located_now}
+use Rattle.rv_assemble_laws.specs.Sites.{Site}
+use Rattle.rv_isa.specs.declared.instruction.Inst.TheVariants.{Ecall}
+use Rattle.rv_assemble_laws.specs.IsObjectOf.{IsObjectOf}
+use Rattle.rv_boundary_laws.specs.TwoFiles.{first_source, second_source, first_object, second_object, first_sites, second_sites, first_number, second_number}
+
+no_site : Site
+no_site = record { located = located_now 1 1 at_start (record { line = 1; kind = Label [] }); offset = 0; bytes = 0; instructions = 0 }
+
+abbrev nth : List Site → ℕ → Site
+nth sites n = slice_index_or sites n no_site
+
+pub first_is : IsObjectOf first_source first_object
+unfolding int_wrap
+first_is = record {
+  good = refl;
+  sites = first_sites;
+  located = refl;
+  places = tt;
+  number = first_number;
+  sections = (
+    record {
+      name = refl;
+      loaded = refl;
+      executable = refl;
+      writable = refl;
+      alignment = refl;
+      some = omega arith;
+      code = λ e f. absurd (cc);
+      tile = (refl, refl, (refl, refl, (refl, refl, (refl, refl, tt))));
+      contents = refl;
+      relocations = refl;
+      numbered = λ e. (tt, tt);
+      sizes = ((λ e. (refl, refl)), ((λ e. (refl, refl)), ((λ e. (refl, refl)), ((λ e. (refl, refl, (Ecall, (refl, refl, tt)))), tt))));
+      fields = (tt, tt);
+      low = λ e. omega arith;
+    },
+    (
+      record {
+        name = refl;
+        loaded = refl;
+        executable = refl;
+        writable = refl;
+        alignment = refl;
+        some = omega arith;
+        code = λ e f. absurd (cc);
+        tile = (refl, refl, (refl, refl, (refl, refl, (refl, refl, (refl, refl, (refl, refl, tt))))));
+        contents = refl;
+        relocations = refl;
+        numbered = λ e. (((refl, refl), tt), (((refl, (nth first_sites 5, refl, refl, refl)), tt), (((refl, refl), ((refl, refl), tt)), (((refl, (nth first_sites 9, refl, refl, refl)), tt), tt))));
+        sizes = ((λ e. (refl, refl)), ((λ e. (refl, refl)), ((λ e. (refl, refl)), ((λ e. (refl, refl)), ((λ e. (refl, refl)), ((λ e. (refl, refl)), tt))))));
+        fields = (inl refl, (inr refl, (inr (inr (inl refl)), (inr refl, tt))));
+        low = λ e. absurd (cc);
+      },
+      tt,
+    ),
+  );
+  symbols = refl;
+  rows = refl;
+  rvc = refl;
+}
+
+pub second_is : IsObjectOf second_source second_object
+unfolding int_wrap
+second_is = record {
+  good = refl;
+  sites = second_sites;
+  located = refl;
+  places = ((λ e. absurd (cc)), tt);
+  number = second_number;
+  sections = (
+    record {
+      name = refl;
+      loaded = refl;
+      executable = refl;
+      writable = refl;
+      alignment = refl;
+      some = omega arith;
+      code = λ e f. absurd (cc);
+      tile = (refl, refl, tt);
+      contents = refl;
+      relocations = refl;
+      numbered = λ e. tt;
+      sizes = ((λ e. (refl, refl)), tt);
+      fields = tt;
+      low = λ e. omega arith;
+    },
+    (
+      record {
+        name = refl;
+        loaded = refl;
+        executable = refl;
+        writable = refl;
+        alignment = refl;
+        some = omega arith;
+        code = λ e f. absurd (cc);
+        tile = (refl, refl, (refl, refl, (refl, refl, (refl, refl, (refl, refl, (refl, refl, (refl, refl, (refl, refl, tt))))))));
+        contents = refl;
+        relocations = refl;
+        numbered = λ e. (tt, (tt, (((refl, (nth second_sites 2, refl, refl, refl)), tt), tt)));
+        sizes = ((λ e. (refl, refl)), ((λ e. (refl, refl)), ((λ e. (refl, refl)), ((λ e. (refl, refl)), ((λ e. (refl, refl)), ((λ e. (refl, refl)), ((λ e. (refl, refl)), ((λ e. (refl, refl)), tt))))))));
+        fields = (tt, (tt, (inl refl, tt)));
+        low = λ e. absurd (cc);
+      },
+      tt,
+    ),
+  );
+  symbols = refl;
+  rows = refl;
+  rvc = refl;
+}

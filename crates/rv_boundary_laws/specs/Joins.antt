@@ -1,0 +1,22 @@
+-- What joins the contracts of the assembler and the linker.
+
+use Rattle.std.specs.Prelude.{ℕ, ⊤, List, [], ◌∷◌}
+use Rattle.rv_statement.specs.Statement.{Statement}
+use Rattle.rv_image.specs.Linked.{Linked}
+use Rattle.rv_chain_laws.specs.Contents.{IsLinked}
+use Rattle.rv_object.specs.Object.{Object}
+use Rattle.rv_assemble_laws.specs.IsObjectOf.{IsObjectOf}
+use Rattle.rv_object_laws.specs.IsLinkOf.{IsLinkOf}
+
+-- each object is that of its source
+abbrev pub AreObjectsOf : List (List Statement) → List Object → Type 0
+AreObjectsOf [] [] = ⊤
+AreObjectsOf [] (o ∷ os) = ⊥
+AreObjectsOf (ss ∷ sources) [] = ⊥
+AreObjectsOf (ss ∷ sources) (o ∷ os) = IsObjectOf ss o × AreObjectsOf sources os
+
+-- the objects of sources, linked so, are the linked program of the sources
+abbrev pub Joins : Type 0
+Joins =
+    (sources : List (List Statement)) (os : List Object) (text_start : ℕ) (l : Linked)
+    → AreObjectsOf sources os → IsLinkOf os text_start l → IsLinked sources text_start l

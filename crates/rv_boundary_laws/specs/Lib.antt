@@ -1,0 +1,2 @@
+pub mod TwoFiles
+pub mod Joins

@@ -1,0 +1,234 @@
+-- Two files, worked by hand: references across them, and a local name that both have.
+
+use Rattle.std.specs.Prelude.{ℕ, zero, suc, pos, true, false, List, [], ◌∷◌, Some, codes, bytes_eq, if◌then◌else◌}
+use Rattle.rv_isa.specs.declared.kind.Kind.{Kind}
+use Rattle.rv_isa.specs.declared.kind.Kind.TheVariants.{Abs32, Abs64, Add32, Sub32}
+use Rattle.rv_text_laws.specs.declared.operator.BinaryOperator.TheVariants.{Add, Subtract}
+use Rattle.rv_text_laws.specs.Expression.{Primary, Literal, Symbol as Named, Here, Leaf, Binary}
+use Rattle.rv_statement.specs.declared.directive.Choice.TheVariants.{Norvc}
+use Rattle.rv_statement.specs.declared.directive.Standard.TheVariants.{Data}
+use Rattle.rv_statement.specs.declared.mnemonic.Mnemonic.TheVariants.{Ecall}
+use Rattle.rv_statement.specs.Statement.{StatementKind, Label, Instruction, Directs, Statement, Expression, Enters, Globl, Sets, Chooses, Values}
+use Rattle.rv_unit_laws.specs.Tables.{at_start}
+use Rattle.rv_source_laws.specs.Located.{Located, located_from}
+use Rattle.rv_map.specs.Map.{Map, Global as Shown}
+use Rattle.rv_map.specs.declared.map.Row.{Row as MapRow}
+use Rattle.rv_map.specs.declared.map.Region.{Region}
+use Rattle.rv_image.specs.Linked.{Linked}
+use Rattle.rv_object.specs.declared.row.Row.{Row}
+use Rattle.rv_object.specs.declared.symbol.Binding.{Binding}
+use Rattle.rv_object.specs.declared.symbol.Binding.TheVariants.{Local, Global}
+use Rattle.rv_object.specs.declared.symbol.Definition.{Definition}
+use Rattle.rv_object.specs.declared.symbol.Definition.TheVariants.{Undefined, Absolute, InSection}
+use Rattle.rv_object.specs.Object.{Progbits, Relocation, Section, Symbol, Object}
+use Rattle.rv_assemble_laws.specs.Sites.{Site}
+
+abbrev said : ℕ → StatementKind → Statement
+said line kind = record { line = line; kind = kind }
+
+abbrev name : List ℕ → Expression
+name n = Leaf (Named n)
+
+-- ---- the sources
+
+--     .option norvc
+--     .globl _start
+--     _start: ecall
+--     .data
+--     v: .word f
+--     .dword v + 4
+--     .word f - g
+--     .dword .
+abbrev pub first_source : List Statement
+first_source =
+    said 1 (Directs (Chooses Norvc))
+    ∷ said 2 (Directs (Globl (codes "_start" ∷ [])))
+    ∷ said 3 (Label (codes "_start"))
+    ∷ said 3 (Instruction Ecall [])
+    ∷ said 4 (Directs (Enters Data))
+    ∷ said 5 (Label (codes "v"))
+    ∷ said 5 (Directs (Values 4 (name (codes "f") ∷ [])))
+    ∷ said 6 (Directs (Values 8 (Binary Add (name (codes "v")) (Leaf (Literal 4)) ∷ [])))
+    ∷ said 7 (Directs (Values 4 (Binary Subtract (name (codes "f")) (name (codes "g")) ∷ [])))
+    ∷ said 8 (Directs (Values 8 (Leaf Here ∷ [])))
+    ∷ []
+
+--     .globl f, g, c
+--     .data
+--     v: .byte 7
+--     f: .byte 8
+--     g: .word v
+--     .set c, 5
+abbrev pub second_source : List Statement
+second_source =
+    said 1 (Directs (Globl (codes "f" ∷ codes "g" ∷ codes "c" ∷ [])))
+    ∷ said 2 (Directs (Enters Data))
+    ∷ said 3 (Label (codes "v"))
+    ∷ said 3 (Directs (Values 1 (Leaf (Literal 7) ∷ [])))
+    ∷ said 4 (Label (codes "f"))
+    ∷ said 4 (Directs (Values 1 (Leaf (Literal 8) ∷ [])))
+    ∷ said 5 (Label (codes "g"))
+    ∷ said 5 (Directs (Values 4 (name (codes "v") ∷ [])))
+    ∷ said 6 (Directs (Sets (codes "c") (Leaf (Literal 5))))
+    ∷ []
+
+-- ---- the objects
+
+abbrev text : List ℕ → Section
+text bytes = record {
+  name = codes ".text";
+  loaded = true;
+  executable = true;
+  writable = false;
+  contents = Progbits bytes;
+  alignment = 1;
+  relocations = [];
+}
+
+abbrev variables : List ℕ → List Relocation → Section
+variables bytes relocations = record {
+  name = codes ".data";
+  loaded = true;
+  executable = false;
+  writable = true;
+  contents = Progbits bytes;
+  alignment = 1;
+  relocations = relocations;
+}
+
+abbrev relocation : ℕ → Kind → ℕ → ℕ → Relocation
+relocation place kind symbol addend = record { place = place; kind = kind; symbol = Some symbol; addend = pos addend }
+
+abbrev symbol : List ℕ → Binding → Definition → Symbol
+symbol n binding definition = record { name = n; binding = binding; definition = definition }
+
+abbrev row : ℕ → ℕ → ℕ → ℕ → ℕ → ℕ → Row
+row line ordinal section offset bytes instructions = record {
+  line = line;
+  ordinal = ordinal;
+  section = section;
+  offset = offset;
+  bytes = bytes;
+  instructions = instructions;
+}
+
+abbrev pub first_object : Object
+first_object = record {
+  sections = text (0x73 ∷ 0 ∷ 0 ∷ 0 ∷ [])
+      ∷ variables (0 ∷ 0 ∷ 0 ∷ 0 ∷ 0 ∷ 0 ∷ 0 ∷ 0 ∷ 0 ∷ 0 ∷ 0 ∷ 0 ∷ 0 ∷ 0 ∷ 0 ∷ 0 ∷ 0 ∷ 0 ∷ 0 ∷ 0 ∷ 0 ∷ 0 ∷ 0 ∷ 0 ∷ [])
+      (relocation 0 Abs32 3 0 ∷ relocation 4 Abs64 0 4 ∷ relocation 12 Add32 3 0 ∷ relocation 12 Sub32 4 0
+      ∷ relocation 16 Abs64 1 0 ∷ [])
+      ∷ [];
+  symbols = symbol (codes "v") Local (InSection 1 0)
+      ∷ symbol [] Local (InSection 1 16)
+      ∷ symbol (codes "_start") Global (InSection 0 0)
+      ∷ symbol (codes "f") Global Undefined
+      ∷ symbol (codes "g") Global Undefined
+      ∷ [];
+  rows = row 3 3 0 0 0 0 ∷ row 3 4 0 0 4 1 ∷ row 5 6 1 0 0 0 ∷ row 5 7 1 0 4 0 ∷ row 6 8 1 4 8 0 ∷ row 7 9 1 12 4 0
+      ∷ row 8 10 1 16 8 0 ∷ [];
+  rvc = false;
+}
+
+abbrev pub second_object : Object
+second_object = record {
+  sections = text [] ∷ variables (7 ∷ 8 ∷ 0 ∷ 0 ∷ 0 ∷ 0 ∷ []) (relocation 2 Abs32 0 0 ∷ []) ∷ [];
+  symbols = symbol (codes "v") Local (InSection 1 0)
+      ∷ symbol (codes "f") Global (InSection 1 1)
+      ∷ symbol (codes "g") Global (InSection 1 2)
+      ∷ symbol (codes "c") Global (Absolute 5)
+      ∷ [];
+  rows = row 3 3 1 0 0 0 ∷ row 3 4 1 0 1 0 ∷ row 4 5 1 1 0 0 ∷ row 4 6 1 1 1 0 ∷ row 5 7 1 2 0 0 ∷ row 5 8 1 2 4 0 ∷ [];
+  rvc = false;
+}
+
+-- ---- the program
+
+abbrev region : ℕ → ℕ → Region
+region start end = record { start = start; end = end }
+
+abbrev global : List ℕ → ℕ → Shown
+global n address = record { name = n; address = address }
+
+abbrev map_row : ℕ → ℕ → ℕ → ℕ → ℕ → ℕ → MapRow
+map_row file line ordinal address bytes instructions = record {
+  file = file;
+  line = line;
+  ordinal = ordinal;
+  address = address;
+  bytes = bytes;
+  instructions = instructions;
+}
+
+abbrev pub two_files_map : Map
+two_files_map = record {
+  text = region 0x10000 0x10004;
+  rodata = region 0x11000 0x11000;
+  «data» = region 0x11000 0x1101e;
+  bss = region 0x1101e 0x1101e;
+  entry = 0x10000;
+  gaps = [];
+  globals = global (codes "_start") 0x10000 ∷ global (codes "f") 0x11019 ∷ global (codes "g") 0x1101a ∷ global (codes "c") 5
+      ∷ global (codes "_etext") 0x10004 ∷ global (codes "__bss_start") 0x1101e ∷ global (codes "_edata") 0x1101e
+      ∷ global (codes "_end") 0x1101e ∷ global (codes "__global_pointer$") 0x11800 ∷ [];
+  rows = map_row 1 3 3 0x10000 0 0 ∷ map_row 1 3 4 0x10000 4 1 ∷ map_row 1 5 6 0x11000 0 0 ∷ map_row 1 5 7 0x11000 4 0
+      ∷ map_row 1 6 8 0x11004 8 0 ∷ map_row 1 7 9 0x1100c 4 0 ∷ map_row 1 8 10 0x11010 8 0
+      ∷ map_row 2 3 3 0x11018 0 0 ∷ map_row 2 3 4 0x11018 1 0 ∷ map_row 2 4 5 0x11019 0 0 ∷ map_row 2 4 6 0x11019 1 0
+      ∷ map_row 2 5 7 0x1101a 0 0 ∷ map_row 2 5 8 0x1101a 4 0 ∷ [];
+}
+
+-- `.word f` is 11019h, `.dword v + 4` 11004h, `.word f - g` -1, `.dword .` 11010h, the other file's `.word v` 11018h
+abbrev pub two_files : Linked
+two_files = record {
+  text = 0x73 ∷ 0 ∷ 0 ∷ 0 ∷ [];
+  rodata = [];
+  «data» = 0x19 ∷ 0x10 ∷ 1 ∷ 0 ∷ 0x04 ∷ 0x10 ∷ 1 ∷ 0 ∷ 0 ∷ 0 ∷ 0 ∷ 0 ∷ 0xff ∷ 0xff ∷ 0xff ∷ 0xff
+      ∷ 0x10 ∷ 0x10 ∷ 1 ∷ 0 ∷ 0 ∷ 0 ∷ 0 ∷ 0 ∷ 7 ∷ 8 ∷ 0x18 ∷ 0x10 ∷ 1 ∷ 0 ∷ [];
+  map = two_files_map;
+  rvc = false;
+}
+
+-- ---- how the sources are these objects
+
+-- the offset, the bytes and the instructions of a statement
+pub record Size : Type 0 where
+  pub offset : ℕ
+  pub bytes : ℕ
+  pub instructions : ℕ
+
+abbrev pub size : ℕ → ℕ → ℕ → Size
+size offset bytes instructions = record { offset = offset; bytes = bytes; instructions = instructions }
+
+abbrev pub sites_of : List Located → List Size → List Site
+sites_of [] sizes = []
+sites_of (l ∷ ls) [] = []
+sites_of (l ∷ ls) (z ∷ zs) =
+    record { located = l; offset = z.offset; bytes = z.bytes; instructions = z.instructions } ∷ sites_of ls zs
+
+abbrev pub first_sites : List Site
+first_sites =
+    sites_of (located_from 1 1 at_start first_source)
+    (size 0 0 0 ∷ size 0 0 0 ∷ size 0 0 0 ∷ size 0 4 1 ∷ size 0 0 0 ∷ size 0 0 0 ∷ size 0 4 0 ∷ size 4 8 0 ∷ size 12 4 0
+    ∷ size 16 8 0 ∷ [])
+
+abbrev pub second_sites : List Site
+second_sites =
+    sites_of (located_from 1 1 at_start second_source)
+    (size 0 0 0 ∷ size 0 0 0 ∷ size 0 0 0 ∷ size 0 1 0 ∷ size 1 0 0 ∷ size 1 1 0 ∷ size 2 0 0 ∷ size 2 4 0 ∷ size 6 0 0 ∷ [])
+
+abbrev pub first_number : ℕ → Primary → ℕ
+first_number ordinal (Named n) =
+    if bytes_eq n (codes "v") then 0 else
+    if bytes_eq n (codes "f") then 3 else 4
+first_number ordinal _ = 1
+
+abbrev pub second_number : ℕ → Primary → ℕ
+second_number ordinal q = 0
+
+-- text at the text's start, data at 11000h, each file's sections after those of the file before
+abbrev pub starts : ℕ → ℕ → ℕ
+starts zero index = 0
+starts (suc zero) zero = 0x10000
+starts (suc zero) (suc index) = 0x11000
+starts (suc (suc file)) zero = 0x10004
+starts (suc (suc file)) (suc index) = 0x11018

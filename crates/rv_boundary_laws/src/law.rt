@@ -1,0 +1,9 @@
+//! The law that joins assembling and linking.
+
+ghost use Rattle.rv_boundary_laws.specs.Joins.{Joins};
+
+/// The objects of these sources, linked so, are the linked program of the sources: its map fits them and resolves
+/// their names, and its regions hold the bytes of their statements, whatever the number of sources and of their sections.
+pub fn objects_of_sources_link()
+    ensures { Joins }
+{}

@@ -1,0 +1,5 @@
+pub mod Object
+pub mod Parts
+pub mod Sections
+pub mod Valid
+pub mod View

@@ -1,0 +1,17 @@
+-- What a section of the code stands for.
+
+use Rattle.std.specs.Prelude.{map}
+use Rattle.rv_object.specs.declared.section.Section.{Section as DeclaredSection}
+use Rattle.rv_object.specs.Object.{Section}
+use Rattle.rv_object.specs.Parts.{contents_of, relocation_of}
+
+abbrev pub section_of : DeclaredSection → Section
+section_of s = record {
+  name = s.name.items;
+  loaded = s.loaded;
+  executable = s.executable;
+  writable = s.writable;
+  contents = contents_of s.contents;
+  alignment = s.alignment;
+  relocations = map relocation_of s.relocations.items;
+}

@@ -1,0 +1,29 @@
+//! Relocatable objects.
+
+ghost use Rattle.std.specs.Prelude.{IsTrue, map};
+ghost use Rattle.rv_object.specs.Parts.{symbol_of};
+ghost use Rattle.rv_object.specs.Sections.{section_of};
+ghost use Rattle.rv_object.specs.Valid.{are_indexed, are_defined, are_rows};
+
+use crate::row::Row;
+use crate::section::Section;
+use crate::symbol::Symbol;
+
+/// What the assembler makes of one source, and what the linker takes.
+#[derive(Debug, PartialEq, Eq, Drop)]
+pub struct Object {
+    /// Its sections, in the order of the source.
+    pub sections: Vec<Section>,
+    /// Its symbols: those of its own, and then those that others may name.
+    pub symbols: Vec<Symbol>,
+    /// Where the statements of its source stand, by ordinal.
+    pub rows: Vec<Row>,
+    /// It has compressed code (psABI, EF_RISCV_RVC).
+    pub rvc: bool,
+    /// Each relocation names one of the symbols.
+    pub ghost indexed: { IsTrue (are_indexed (map symbol_of symbols.items) (map section_of sections.items)) },
+    /// Each symbol stands in one of the sections.
+    pub ghost defined: { IsTrue (are_defined (map section_of sections.items) (map symbol_of symbols.items)) },
+    /// Each row lies in a section that has a place in memory.
+    pub ghost lie: { IsTrue (are_rows (map section_of sections.items) rows.items) },
+}

@@ -1,0 +1,39 @@
+//! Sections of an object.
+
+ghost use Rattle.std.specs.Prelude.{IsTrue, map};
+ghost use Rattle.rv_object.specs.Parts.{relocation_of, contents_of};
+ghost use Rattle.rv_object.specs.Valid.{is_alignment, is_kept_name, is_even, is_loaded_alone, fit_inside, are_paddings};
+
+use crate::contents::Contents;
+use crate::relocation::Relocation;
+
+/// A section (gABI, "Sections").
+#[derive(Debug, PartialEq, Eq, Drop)]
+pub struct Section {
+    /// The bytes of its name.
+    pub name: Vec<u8>,
+    /// It has a place in memory (SHF_ALLOC).
+    pub loaded: bool,
+    /// It has instructions (SHF_EXECINSTR).
+    pub executable: bool,
+    /// A program may write to it (SHF_WRITE).
+    pub writable: bool,
+    /// Its bytes.
+    pub contents: Contents,
+    /// It begins at a multiple of this many bytes.
+    pub alignment: u64,
+    /// The fields of its bytes that the linker fills in, in the order in which it does.
+    pub relocations: Vec<Relocation>,
+    /// Its name is not that of the rows.
+    pub ghost kept: { IsTrue (is_kept_name name.items) },
+    /// A power of two, from 1 to 4096.
+    pub ghost aligned: { IsTrue (is_alignment alignment) },
+    /// Code ends at an even offset.
+    pub ghost even: { IsTrue (is_even executable (contents_of contents)) },
+    /// Only sections with a place in memory have relocations.
+    pub ghost alone: { IsTrue (is_loaded_alone loaded (map relocation_of relocations.items)) },
+    /// Each field lies in the section's bytes.
+    pub ghost inside: { IsTrue (fit_inside (contents_of contents) (map relocation_of relocations.items)) },
+    /// Each padding lies there as well, in code at an even offset, and meets no field.
+    pub ghost paddings: { IsTrue (are_paddings executable (contents_of contents) (map relocation_of relocations.items)) },
+}

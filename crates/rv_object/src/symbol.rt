@@ -1,0 +1,34 @@
+//! Symbols of an object.
+
+/// Who may name a symbol (gABI, "Symbol Table", st_info).
+#[derive(Clone, Copy, Debug, PartialEq, Eq, Drop)]
+pub enum Binding {
+    /// Its own object alone.
+    Local,
+    /// Every object.
+    Global,
+}
+
+/// What a symbol is (gABI, "Symbol Table", st_shndx and st_value).
+#[derive(Clone, Copy, Debug, PartialEq, Eq, Drop)]
+pub enum Definition {
+    /// Another object's (SHN_UNDEF).
+    Undefined,
+    /// A number (SHN_ABS).
+    Absolute(u64),
+    /// The index of a section of the object, and an offset there.
+    InSection(u32, u64),
+    /// A value in a section that is not kept: it has no address.
+    Skipped(u64),
+}
+
+/// A name of an object, or a place without a name (gABI, "Symbol Table").
+#[derive(Debug, PartialEq, Eq, Drop)]
+pub struct Symbol {
+    /// The bytes of its name; none where it has no name.
+    pub name: Vec<u8>,
+    /// Who may name it.
+    pub binding: Binding,
+    /// What it is.
+    pub definition: Definition,
+}

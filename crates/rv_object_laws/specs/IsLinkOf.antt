@@ -1,0 +1,82 @@
+-- The linked program of objects, whoever made them (gABI, "Sections", "Symbol Table", "Relocation"; GNU ld; this project's
+-- layout). Nothing here knows of statements.
+
+use Rattle.std.specs.Prelude.{◌≡◌, ℕ, suc, ◌+◌, ◌-◌, ◌%◌, ◌≤◌, ◌^◌, Bool, IsTrue, List, [], ◌∷◌, ◌++◌, map, Option, Some, None}
+use Rattle.std.specs.List.{AllByRecursion, list_any, list_all, slice_get}
+use Rattle.rv_isa_laws.specs.Platform.{stack_start}
+use Rattle.rv_map.specs.declared.map.Row.{Row as MapRow}
+use Rattle.rv_map.specs.Limits.{IsMap}
+use Rattle.rv_image.specs.Linked.{Linked}
+use Rattle.rv_object.specs.declared.row.Row.{Row}
+use Rattle.rv_object.specs.Object.{Section, Object}
+use Rattle.rv_object_laws.specs.Moves.{Move, aligned, moves, new_offset, has_room, lost}
+use Rattle.rv_object_laws.specs.Inputs.{Starts, goes_to_text, goes_to_rodata, goes_to_data, goes_to_bss, inputs, start_of, Holds, gaps_of, greatest, contents}
+use Rattle.rv_object_laws.specs.Names.{globals_of, global_names, AreDistinct, shown_linker_symbols, entry_of}
+use Rattle.rv_object_laws.specs.Values.{IsRelocated, linked_bytes}
+
+-- ---- rows
+
+abbrev pub moves_at : ℕ → Option Section → List Move
+moves_at start None = []
+moves_at start (Some s) = moves start s
+
+-- a row moves with the bytes that are kept; its instructions are those that are left of it
+abbrev pub map_row : ℕ → ℕ → List Move → Row → MapRow
+map_row file start ms r = record {
+  file = file;
+  line = r.line;
+  ordinal = r.ordinal;
+  address = start + new_offset ms r.offset;
+  bytes = new_offset ms (r.offset + r.bytes) - new_offset ms r.offset;
+  instructions = r.instructions - lost ms r.offset r.bytes;
+}
+
+abbrev pub row_in : Starts → ℕ → Object → Row → MapRow
+row_in starts file o r =
+    let start = starts file r.section in
+    map_row file start (moves_at start (slice_get o.sections r.section)) r
+
+abbrev pub rows_of : Starts → ℕ → List Object → List MapRow
+rows_of starts file [] = []
+rows_of starts file (o ∷ os) = map (row_in starts file o) o.rows ++ rows_of starts (suc file) os
+
+-- ---- the whole
+
+abbrev pub is_loaded : Section → Bool
+is_loaded s = s.loaded
+
+-- the most bytes that a program takes of memory
+abbrev pub memory_limit : ℕ
+memory_limit = 2 ^ 28
+
+pub record IsLinkOf (os : List Object) (text_start : ℕ) (l : Linked) : Type 0 where
+  -- the text begins at a page
+  pub page : text_start % 4096 ≡ 0
+  -- where each section starts: text from the text's start, rodata and data at the next pages, bss after data
+  pub starts : Starts
+  pub text : Holds starts l.map.text text_start (inputs goes_to_text os)
+  pub gaps : l.map.gaps ≡ gaps_of starts text_start (inputs goes_to_text os)
+  pub rodata : Holds starts l.map.rodata (aligned 4096 l.map.text.end) (inputs goes_to_rodata os)
+  pub «data» : Holds starts l.map.data (aligned 4096 l.map.rodata.end) (inputs goes_to_data os)
+  pub bss : Holds starts l.map.bss (aligned (greatest (inputs goes_to_bss os)) l.map.data.end) (inputs goes_to_bss os)
+  -- all of it below the stack, and no more than may be loaded
+  pub below : l.map.bss.end ≤ stack_start
+  pub memory : (l.map.text.end - l.map.text.start) + (l.map.rodata.end - l.map.rodata.start) + (l.map.bss.end - l.map.data.start) ≤ memory_limit
+  -- each alignment in code has room for its least padding
+  pub room : AllByRecursion (λ i. IsTrue (list_all has_room (moves (start_of starts i) i.section))) (inputs goes_to_text os)
+  -- no name has two global definitions; a linker's name is shown where none has it
+  pub once : AreDistinct (global_names os)
+  pub globals : l.map.globals ≡ globals_of starts 1 os ++ shown_linker_symbols os l.map
+  -- a run begins at the global `_start`, an even place of a section of text
+  pub entry : entry_of starts 1 os ≡ Some l.map.entry
+  pub even : l.map.entry % 2 ≡ 0
+  pub rows : l.map.rows ≡ rows_of starts 1 os
+  -- a text shows the map: its numbers are below 2 ^ 64
+  pub readable : IsMap l.map
+  pub relocated : AllByRecursion (λ i. AllByRecursion (IsRelocated l.map.globals starts os i) i.section.relocations) (inputs is_loaded os)
+  -- the regions hold the bytes of their sections
+  pub text_bytes : l.text ≡ contents (linked_bytes l.map.globals starts os) starts l.map.text.start (inputs goes_to_text os)
+  pub rodata_bytes : l.rodata ≡ contents (linked_bytes l.map.globals starts os) starts l.map.rodata.start (inputs goes_to_rodata os)
+  pub data_bytes : l.data ≡ contents (linked_bytes l.map.globals starts os) starts l.map.data.start (inputs goes_to_data os)
+  -- there is compressed code where an object has some
+  pub rvc : l.rvc ≡ list_any (λ o. o.rvc) os

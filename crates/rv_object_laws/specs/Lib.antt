@@ -1,0 +1,5 @@
+pub mod Moves
+pub mod Inputs
+pub mod Names
+pub mod Values
+pub mod IsLinkOf
