@@ -39,7 +39,12 @@ Numbering = ℕ → Primary → ℕ
 
 abbrev pub relocation_at : Numbering → ℕ → ℕ → Open → Relocation
 relocation_at number ordinal place f =
-    record { place = place; kind = f.kind; symbol = Some (number ordinal f.symbol); addend = f.addend }
+    record {
+      place = place;
+      kind = f.kind;
+      symbol = Some (number ordinal f.symbol);
+      addend = f.addend;
+    }
 
 -- the fields of parts that follow one another from an offset on, each at the start of its part
 abbrev pub relocations_from : Numbering → ℕ → List Part → List Relocation
@@ -56,14 +61,16 @@ contents_of nobits size bytes = if nobits then Nobits size else Progbits bytes
 
 -- the symbol of a reference
 abbrev pub IsNumbered : Tables → List Site → Numbering → List Symbol → SymbolUse → Type 0
-IsNumbered t all number symbols r = StandsFor t all r.ordinal r.symbol (slice_get symbols (number r.ordinal r.symbol))
+IsNumbered t all number symbols r =
+    StandsFor t all r.ordinal r.symbol (slice_get symbols (number r.ordinal r.symbol))
 
 abbrev pub ArePartsNumbered : Tables → List Site → Numbering → List Symbol → List Part → Type 0
 ArePartsNumbered t all number symbols ps =
     AllByRecursion (λ p. AllByRecursion (IsNumbered t all number symbols) (references_in p)) ps
 
 -- the section of an index, with its statements, where these are all statements and symbols of the source
-pub record IsSectionOf (t : Tables) (all : List Site) (number : Numbering) (symbols : List Symbol) (index : ℕ) (section : SourceSection) (sites : List Site) (x : Section) : Type 0 where
+pub record IsSectionOf (t : Tables) (all : List Site) (number : Numbering) (symbols : List Symbol)
+    (index : ℕ) (section : SourceSection) (sites : List Site) (x : Section) : Type 0 where
   pub name : x.name ≡ section.name
   pub loaded : x.loaded ≡ section.loaded
   pub executable : x.executable ≡ section.executable
@@ -73,18 +80,23 @@ pub record IsSectionOf (t : Tables) (all : List Site) (number : Numbering) (symb
   pub some : 1 ≤ x.alignment
   -- its statements follow one another
   pub tile : Tile t 0 sites
-  pub contents : x.contents ≡ contents_of section.nobits (end_of 0 sites) (flat_map part_bytes (parts t sites))
+  pub contents : x.contents
+      ≡ contents_of section.nobits (end_of 0 sites) (flat_map part_bytes (parts t sites))
   -- no code stands in a section without bytes in the file
-  pub code : goes_to_text section ≡ true → section.nobits ≡ true → flat_map part_bytes (parts t sites) ≡ []
-  pub relocations : x.relocations ≡ (if section.loaded then relocations_from number 0 (parts t sites) else [])
+  pub code : goes_to_text section ≡ true → section.nobits ≡ true →
+      flat_map part_bytes (parts t sites) ≡ []
+  pub relocations : x.relocations
+      ≡ (if section.loaded then relocations_from number 0 (parts t sites) else [])
   pub numbered : section.loaded ≡ true → ArePartsNumbered t all number symbols (parts t sites)
   -- the sizes of its statements
-  pub sizes : AllByRecursion (λ s. s.located.placed ≡ true → HasSize (form t s.located) s x.alignment s.located.kind) sites
+  pub sizes : AllByRecursion
+      (λ s. s.located.placed ≡ true → HasSize (form t s.located) s x.alignment s.located.kind) sites
   pub fields : AllByRecursion (λ p. IsTemplate p.template) (parts t sites)
   -- code is aligned to 2 at most: alignments beyond that are not built
   pub low : goes_to_text section ≡ true → x.alignment ≤ 2
 
-abbrev pub AreSectionsOf : Tables → List Site → Numbering → List Symbol → ℕ → List SourceSection → List Section → Type 0
+abbrev pub AreSectionsOf : Tables → List Site → Numbering → List Symbol → ℕ → List SourceSection →
+    List Section → Type 0
 AreSectionsOf t all number symbols index [] [] = ⊤
 AreSectionsOf t all number symbols index [] (x ∷ xs) = ⊥
 AreSectionsOf t all number symbols index (section ∷ sections) [] = ⊥
@@ -111,7 +123,8 @@ pub record IsObjectOf (ss : List Statement) (o : Object) : Type 0 where
   pub places : AllByRecursion (StandsInData sites) (tables ss).assignments
   -- the sections in the order in which the source opens them
   pub number : Numbering
-  pub sections : AreSectionsOf (tables ss) sites number o.symbols 0 (tables ss).opened.sections o.sections
+  pub sections : AreSectionsOf (tables ss) sites number o.symbols 0
+      (tables ss).opened.sections o.sections
   pub symbols : o.symbols ≡ symbols_of ss (tables ss) sites
   -- a row for each statement with a place in memory
   pub rows : o.rows ≡ flat_map rows_at sites

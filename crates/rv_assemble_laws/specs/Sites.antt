@@ -52,7 +52,8 @@ parts t sites = flat_map (parts_of t) sites
 abbrev pub Tile : Tables → ℕ → List Site → Type 0
 Tile t offset [] = ⊤
 Tile t offset (s ∷ ss) =
-    (s.offset ≡ offset) × (s.bytes ≡ length (flat_map part_bytes (parts_of t s))) × Tile t (offset + s.bytes) ss
+    (s.offset ≡ offset) × (s.bytes ≡ length (flat_map part_bytes (parts_of t s)))
+    × Tile t (offset + s.bytes) ss
 
 -- the end of the last of them
 abbrev pub end_of : ℕ → List Site → ℕ
@@ -75,18 +76,24 @@ IsMultiple (Some alignment) start = (0 < alignment) × (start % alignment ≡ 0)
 -- the padding of an alignment to 2 or less in code: none; in data: up to the multiple
 abbrev pub IsPaddedIn : Bool → Site → ℕ → Option ℕ → Type 0
 IsPaddedIn true s multiple alignment = (s.bytes ≡ 0) × (is_low alignment ≡ true)
-IsPaddedIn false s multiple alignment = (s.bytes ≡ padding alignment s.offset) × IsMultiple alignment multiple
+IsPaddedIn false s multiple alignment =
+    (s.bytes ≡ padding alignment s.offset) × IsMultiple alignment multiple
 
 abbrev pub IsPadded : Site → ℕ → Value → Option ℕ → Type 0
 IsPadded s multiple v alignment =
-    (is_constant v ≡ true) × (s.instructions ≡ 0) × IsPaddedIn s.located.home.executable s multiple alignment
+    (is_constant v ≡ true) × (s.instructions ≡ 0)
+    × IsPaddedIn s.located.home.executable s multiple alignment
 
 abbrev pub DirectiveSize : (Expression → Value) → Site → ℕ → Directive → Type 0
-DirectiveSize v s multiple (Values width values) = (s.instructions ≡ 0) × (s.bytes ≡ width * length values)
-DirectiveSize v s multiple (Strings ended strings) = (s.instructions ≡ 0) × (s.bytes ≡ length (string_bytes ended strings))
+DirectiveSize v s multiple (Values width values) =
+    (s.instructions ≡ 0) × (s.bytes ≡ width * length values)
+DirectiveSize v s multiple (Strings ended strings) =
+    (s.instructions ≡ 0) × (s.bytes ≡ length (string_bytes ended strings))
 DirectiveSize v s multiple (Zeros count) = (s.instructions ≡ 0) × (v count ≡ Constant s.bytes)
-DirectiveSize v s multiple (Aligns_to_power e) = IsPadded s multiple (v e) (alignment_of v (Aligns_to_power e))
-DirectiveSize v s multiple (Aligns_to_bytes e) = IsPadded s multiple (v e) (alignment_of v (Aligns_to_bytes e))
+DirectiveSize v s multiple (Aligns_to_power e) =
+    IsPadded s multiple (v e) (alignment_of v (Aligns_to_power e))
+DirectiveSize v s multiple (Aligns_to_bytes e) =
+    IsPadded s multiple (v e) (alignment_of v (Aligns_to_bytes e))
 DirectiveSize v s multiple _ = (s.bytes ≡ 0) × (s.instructions ≡ 0)
 
 -- the bytes of a statement of a section that begins at such a multiple, and how many instructions they are
@@ -94,5 +101,6 @@ abbrev pub HasSize : (Expression → Value) → Site → ℕ → StatementKind �
 HasSize v s multiple (Label name) = (s.bytes ≡ 0) × (s.instructions ≡ 0)
 HasSize v s multiple (Numbered number) = (s.bytes ≡ 0) × (s.instructions ≡ 0)
 HasSize v s multiple (Instruction mnemonic operands) =
-    (s.bytes ≡ 4) × (s.instructions ≡ 1) × ((i : Inst) × IsInstruction v (Instruction mnemonic operands) i)
+    (s.bytes ≡ 4) × (s.instructions ≡ 1)
+    × ((i : Inst) × IsInstruction v (Instruction mnemonic operands) i)
 HasSize v s multiple (Directs directive) = DirectiveSize v s multiple directive

@@ -40,7 +40,8 @@ assigned_definition sites (Some a) = elim a.meaning [
 
 -- what a statement defines: a label its own place, `.set` what the name has last
 abbrev pub site_definition : Tables → List Site → Site → StatementKind → Defined
-site_definition t sites s (Directs (Sets name e)) = assigned_definition sites (assigned_ever t.assignments name)
+site_definition t sites s (Directs (Sets name e)) =
+    assigned_definition sites (assigned_ever t.assignments name)
 site_definition t sites s _ = InSection s.located.section s.offset
 
 abbrev pub local_symbol : List ℕ → Defined → Symbol
@@ -57,7 +58,8 @@ pub record SymbolUse : Type 0 where
   pub symbol : Primary
 
 abbrev pub references_in : Part → List SymbolUse
-references_in p = map (λ f. record { ordinal = p.ordinal; symbol = f.symbol }) (template_fields p.template)
+references_in p =
+    map (λ f. record { ordinal = p.ordinal; symbol = f.symbol }) (template_fields p.template)
 
 abbrev pub references_of : Tables → Site → List SymbolUse
 references_of t s = if s.located.home.loaded then flat_map references_in (parts_of t s) else []
@@ -78,7 +80,9 @@ is_at ordinal (Some d) = d.ordinal == ordinal
 
 -- whether a reference without a name means a statement
 abbrev pub is_meant : Tables → List SymbolUse → Site → Bool
-is_meant t rs s = list_any (λ r. is_unnamed r.symbol && is_at s.located.ordinal (definition t r.ordinal r.symbol)) rs
+is_meant t rs s =
+    list_any
+    (λ r. is_unnamed r.symbol && is_at s.located.ordinal (definition t r.ordinal r.symbol)) rs
 
 abbrev pub are_together : Site → Site → Bool
 are_together s q = (s.located.section == q.located.section) && (s.offset == q.offset)
@@ -104,7 +108,8 @@ abbrev pub named_symbols : List Statement → Tables → List Site → Site → 
 named_symbols ss t sites s =
     filter (λ x. not (is_absolute x))
     (map (λ name. local_symbol name (site_definition t sites s s.located.kind))
-    (filter (λ name. not (is_global_after false ss name)) (defined_name t s.located.ordinal s.located.kind)))
+    (filter (λ name. not (is_global_after false ss name))
+    (defined_name t s.located.ordinal s.located.kind)))
 
 abbrev pub local_symbols : List Statement → Tables → List Site → List Site → List Site → List Symbol
 local_symbols ss t sites before [] = []
@@ -118,7 +123,8 @@ local_symbols ss t sites before (s ∷ rest) =
 abbrev pub exports_of : List Statement → Tables → List Site → Site → List Symbol
 exports_of ss t sites s =
     map (λ name. global_symbol name (site_definition t sites s s.located.kind))
-    (filter (λ name. is_global_after false ss name) (defined_name t s.located.ordinal s.located.kind))
+    (filter (λ name. is_global_after false ss name)
+    (defined_name t s.located.ordinal s.located.kind))
 
 abbrev pub exports : List Statement → Tables → List Site → List Symbol
 exports ss t sites = flat_map (exports_of ss t sites) sites
@@ -136,7 +142,8 @@ missing_name t ordinal _ = []
 abbrev pub distinct_from : List (List ℕ) → List (List ℕ) → List (List ℕ)
 distinct_from before [] = []
 distinct_from before (name ∷ names) =
-    if is_one_of before name then distinct_from before names else name ∷ distinct_from (name ∷ before) names
+    if is_one_of before name
+    then distinct_from before names else name ∷ distinct_from (name ∷ before) names
 
 -- by first reference
 abbrev pub undefined_symbols : Tables → List Site → List Symbol
@@ -147,7 +154,8 @@ undefined_symbols t sites =
 -- ---- all of them
 
 abbrev pub symbols_of : List Statement → Tables → List Site → List Symbol
-symbols_of ss t sites = local_symbols ss t sites [] sites ++ (exports ss t sites ++ undefined_symbols t sites)
+symbols_of ss t sites =
+    local_symbols ss t sites [] sites ++ (exports ss t sites ++ undefined_symbols t sites)
 
 -- ---- what a symbol stands for
 
@@ -161,7 +169,8 @@ IsNamed (Reference digits forward) x = x.name ≡ []
 -- a symbol of the file's own stands where the name's statement stands, which has a place
 abbrev pub IsOwn : List Site → Definition → Symbol → Type 0
 IsOwn sites d x =
-    (s : Site) × (site_at sites d.ordinal ≡ Some s) × (s.located.placed ≡ true) × (x.definition ≡ after_site s d.plus)
+    (s : Site) × (site_at sites d.ordinal ≡ Some s) × (s.located.placed ≡ true)
+    × (x.definition ≡ after_site s d.plus)
 
 -- what has no definition in the file is a name that the file leaves undefined
 abbrev pub IsOuter : Primary → Symbol → Type 0

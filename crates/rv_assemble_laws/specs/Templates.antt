@@ -114,5 +114,6 @@ contribution_templates v (Alignment form number) bytes = Fixed (zeros bytes) ∷
 abbrev pub templates : (Expression → Value) → StatementKind → ℕ → List Template
 templates v (Label name) bytes = []
 templates v (Numbered number) bytes = []
-templates v (Instruction mnemonic operands) bytes = Fixed (words (expanded (λ e. constant_in (v e)) mnemonic operands)) ∷ []
+templates v (Instruction mnemonic operands) bytes =
+    Fixed (words (expanded (λ e. constant_in (v e)) mnemonic operands)) ∷ []
 templates v (Directs directive) bytes = contribution_templates v (contribution directive) bytes

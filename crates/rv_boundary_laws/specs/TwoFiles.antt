@@ -97,7 +97,8 @@ variables bytes relocations = record {
 }
 
 abbrev relocation : ℕ → Kind → ℕ → ℕ → Relocation
-relocation place kind symbol addend = record { place = place; kind = kind; symbol = Some symbol; addend = pos addend }
+relocation place kind symbol addend =
+    record { place = place; kind = kind; symbol = Some symbol; addend = pos addend }
 
 abbrev symbol : List ℕ → Binding → Definition → Symbol
 symbol n binding definition = record { name = n; binding = binding; definition = definition }
@@ -115,8 +116,11 @@ row line ordinal section offset bytes instructions = record {
 abbrev pub first_object : Object
 first_object = record {
   sections = text (0x73 ∷ 0 ∷ 0 ∷ 0 ∷ [])
-      ∷ variables (0 ∷ 0 ∷ 0 ∷ 0 ∷ 0 ∷ 0 ∷ 0 ∷ 0 ∷ 0 ∷ 0 ∷ 0 ∷ 0 ∷ 0 ∷ 0 ∷ 0 ∷ 0 ∷ 0 ∷ 0 ∷ 0 ∷ 0 ∷ 0 ∷ 0 ∷ 0 ∷ 0 ∷ [])
-      (relocation 0 Abs32 3 0 ∷ relocation 4 Abs64 0 4 ∷ relocation 12 Add32 3 0 ∷ relocation 12 Sub32 4 0
+      ∷ variables
+      (0 ∷ 0 ∷ 0 ∷ 0 ∷ 0 ∷ 0 ∷ 0 ∷ 0 ∷ 0 ∷ 0 ∷ 0 ∷ 0 ∷ 0 ∷ 0 ∷ 0 ∷ 0 ∷ 0 ∷ 0 ∷ 0 ∷ 0 ∷ 0 ∷ 0 ∷
+      0 ∷ 0 ∷ [])
+      (relocation 0 Abs32 3 0 ∷ relocation 4 Abs64 0 4 ∷ relocation 12 Add32 3 0 ∷
+      relocation 12 Sub32 4 0
       ∷ relocation 16 Abs64 1 0 ∷ [])
       ∷ [];
   symbols = symbol (codes "v") Local (InSection 1 0)
@@ -125,7 +129,8 @@ first_object = record {
       ∷ symbol (codes "f") Global Undefined
       ∷ symbol (codes "g") Global Undefined
       ∷ [];
-  rows = row 3 3 0 0 0 0 ∷ row 3 4 0 0 4 1 ∷ row 5 6 1 0 0 0 ∷ row 5 7 1 0 4 0 ∷ row 6 8 1 4 8 0 ∷ row 7 9 1 12 4 0
+  rows = row 3 3 0 0 0 0 ∷ row 3 4 0 0 4 1 ∷ row 5 6 1 0 0 0 ∷ row 5 7 1 0 4 0 ∷ row 6 8 1 4 8 0 ∷
+      row 7 9 1 12 4 0
       ∷ row 8 10 1 16 8 0 ∷ [];
   rvc = false;
 }
@@ -138,7 +143,8 @@ second_object = record {
       ∷ symbol (codes "g") Global (InSection 1 2)
       ∷ symbol (codes "c") Global (Absolute 5)
       ∷ [];
-  rows = row 3 3 1 0 0 0 ∷ row 3 4 1 0 1 0 ∷ row 4 5 1 1 0 0 ∷ row 4 6 1 1 1 0 ∷ row 5 7 1 2 0 0 ∷ row 5 8 1 2 4 0 ∷ [];
+  rows = row 3 3 1 0 0 0 ∷ row 3 4 1 0 1 0 ∷ row 4 5 1 1 0 0 ∷ row 4 6 1 1 1 0 ∷ row 5 7 1 2 0 0 ∷
+      row 5 8 1 2 4 0 ∷ [];
   rvc = false;
 }
 
@@ -168,12 +174,16 @@ two_files_map = record {
   bss = region 0x1101e 0x1101e;
   entry = 0x10000;
   gaps = [];
-  globals = global (codes "_start") 0x10000 ∷ global (codes "f") 0x11019 ∷ global (codes "g") 0x1101a ∷ global (codes "c") 5
-      ∷ global (codes "_etext") 0x10004 ∷ global (codes "__bss_start") 0x1101e ∷ global (codes "_edata") 0x1101e
+  globals = global (codes "_start") 0x10000 ∷ global (codes "f") 0x11019 ∷
+      global (codes "g") 0x1101a ∷ global (codes "c") 5
+      ∷ global (codes "_etext") 0x10004 ∷ global (codes "__bss_start") 0x1101e ∷
+      global (codes "_edata") 0x1101e
       ∷ global (codes "_end") 0x1101e ∷ global (codes "__global_pointer$") 0x11800 ∷ [];
-  rows = map_row 1 3 3 0x10000 0 0 ∷ map_row 1 3 4 0x10000 4 1 ∷ map_row 1 5 6 0x11000 0 0 ∷ map_row 1 5 7 0x11000 4 0
+  rows = map_row 1 3 3 0x10000 0 0 ∷ map_row 1 3 4 0x10000 4 1 ∷ map_row 1 5 6 0x11000 0 0 ∷
+      map_row 1 5 7 0x11000 4 0
       ∷ map_row 1 6 8 0x11004 8 0 ∷ map_row 1 7 9 0x1100c 4 0 ∷ map_row 1 8 10 0x11010 8 0
-      ∷ map_row 2 3 3 0x11018 0 0 ∷ map_row 2 3 4 0x11018 1 0 ∷ map_row 2 4 5 0x11019 0 0 ∷ map_row 2 4 6 0x11019 1 0
+      ∷ map_row 2 3 3 0x11018 0 0 ∷ map_row 2 3 4 0x11018 1 0 ∷ map_row 2 4 5 0x11019 0 0 ∷
+      map_row 2 4 6 0x11019 1 0
       ∷ map_row 2 5 7 0x1101a 0 0 ∷ map_row 2 5 8 0x1101a 4 0 ∷ [];
 }
 
@@ -197,24 +207,28 @@ pub record Size : Type 0 where
   pub instructions : ℕ
 
 abbrev pub size : ℕ → ℕ → ℕ → Size
-size offset bytes instructions = record { offset = offset; bytes = bytes; instructions = instructions }
+size offset bytes instructions =
+    record { offset = offset; bytes = bytes; instructions = instructions }
 
 abbrev pub sites_of : List Located → List Size → List Site
 sites_of [] sizes = []
 sites_of (l ∷ ls) [] = []
 sites_of (l ∷ ls) (z ∷ zs) =
-    record { located = l; offset = z.offset; bytes = z.bytes; instructions = z.instructions } ∷ sites_of ls zs
+    record { located = l; offset = z.offset; bytes = z.bytes; instructions = z.instructions } ∷
+    sites_of ls zs
 
 abbrev pub first_sites : List Site
 first_sites =
     sites_of (located_from 1 1 at_start first_source)
-    (size 0 0 0 ∷ size 0 0 0 ∷ size 0 0 0 ∷ size 0 4 1 ∷ size 0 0 0 ∷ size 0 0 0 ∷ size 0 4 0 ∷ size 4 8 0 ∷ size 12 4 0
+    (size 0 0 0 ∷ size 0 0 0 ∷ size 0 0 0 ∷ size 0 4 1 ∷ size 0 0 0 ∷ size 0 0 0 ∷ size 0 4 0 ∷
+    size 4 8 0 ∷ size 12 4 0
     ∷ size 16 8 0 ∷ [])
 
 abbrev pub second_sites : List Site
 second_sites =
     sites_of (located_from 1 1 at_start second_source)
-    (size 0 0 0 ∷ size 0 0 0 ∷ size 0 0 0 ∷ size 0 1 0 ∷ size 1 0 0 ∷ size 1 1 0 ∷ size 2 0 0 ∷ size 2 4 0 ∷ size 6 0 0 ∷ [])
+    (size 0 0 0 ∷ size 0 0 0 ∷ size 0 0 0 ∷ size 0 1 0 ∷ size 1 0 0 ∷ size 1 1 0 ∷ size 2 0 0 ∷
+    size 2 4 0 ∷ size 6 0 0 ∷ [])
 
 abbrev pub first_number : ℕ → Primary → ℕ
 first_number ordinal (Named n) =

@@ -13,7 +13,8 @@ use Rattle.rv_object.specs.Object.{Contents, Nobits, Relocation, Section, Symbol
 
 -- a power of two, 4096 at most
 abbrev pub is_alignment : ℕ → Bool
-is_alignment n = list_any (λ k. n == 2 ^ k) (0 ∷ 1 ∷ 2 ∷ 3 ∷ 4 ∷ 5 ∷ 6 ∷ 7 ∷ 8 ∷ 9 ∷ 10 ∷ 11 ∷ 12 ∷ [])
+is_alignment n =
+    list_any (λ k. n == 2 ^ k) (0 ∷ 1 ∷ 2 ∷ 3 ∷ 4 ∷ 5 ∷ 6 ∷ 7 ∷ 8 ∷ 9 ∷ 10 ∷ 11 ∷ 12 ∷ [])
 
 -- the rows are no section of an object
 abbrev pub is_kept_name : List ℕ → Bool
@@ -49,12 +50,14 @@ padding_of (negsuc n) = None
 abbrev pub is_padding_of : Bool → Contents → ℕ → Option ℕ → Bool
 is_padding_of executable c place None = false
 is_padding_of executable c place (Some n) =
-    (n % 2 == 0) && nat_le n 4094 && (not executable || (place % 2 == 0) && nat_le (place + n) (size_of c))
+    (n % 2 == 0) && nat_le n 4094
+    && (not executable || (place % 2 == 0) && nat_le (place + n) (size_of c))
 
 -- the padding of an alignment has an even count of bytes, 4094 at most; in code it begins at an even offset and lies in the
 -- section
 abbrev pub is_padding : Bool → Contents → Relocation → Bool
-is_padding executable c r = not (is_align r.kind) || is_padding_of executable c r.place (padding_of r.addend)
+is_padding executable c r =
+    not (is_align r.kind) || is_padding_of executable c r.place (padding_of r.addend)
 
 -- the bytes that a relocation has in code from its place on: a padding or a field
 abbrev pub held : Relocation → ℕ
@@ -63,14 +66,16 @@ held r = if is_align r.kind then unwrap_or (padding_of r.addend) 0 else width_of
 -- a padding meets no field and no other padding
 abbrev pub are_apart : Relocation → Relocation → Bool
 are_apart r q =
-    not (is_align r.kind || is_align q.kind) || nat_le (r.place + held r) q.place || nat_le (q.place + held q) r.place
+    not (is_align r.kind || is_align q.kind) || nat_le (r.place + held r) q.place
+    || nat_le (q.place + held q) r.place
 
 abbrev pub are_all_apart : List Relocation → Bool
 are_all_apart [] = true
 are_all_apart (r ∷ rs) = list_all (are_apart r) rs && are_all_apart rs
 
 abbrev pub are_paddings : Bool → Contents → List Relocation → Bool
-are_paddings executable c rs = list_all (is_padding executable c) rs && (not executable || are_all_apart rs)
+are_paddings executable c rs =
+    list_all (is_padding executable c) rs && (not executable || are_all_apart rs)
 
 -- ---- indices
 
@@ -80,7 +85,8 @@ is_below count (Some index) = nat_lt index count
 
 -- each relocation names one of the symbols, or none
 abbrev pub are_indexed : List Symbol → List Section → Bool
-are_indexed symbols sections = list_all (λ s. list_all (λ r. is_below (length symbols) r.symbol) s.relocations) sections
+are_indexed symbols sections =
+    list_all (λ s. list_all (λ r. is_below (length symbols) r.symbol) s.relocations) sections
 
 abbrev pub is_defined_in : ℕ → Definition → Bool
 is_defined_in count (definitions.InSection section offset) = nat_lt section count

@@ -74,7 +74,8 @@ size starts i = new_offset (moves (start_of starts i) i.section) (size_of i.sect
 abbrev pub Stand : Starts → ℕ → List InputSection → Type 0
 Stand starts stop [] = ⊤
 Stand starts stop (i ∷ is) =
-    (start_of starts i ≡ aligned (begins_at i.section) stop) × Stand starts (start_of starts i + size starts i) is
+    (start_of starts i ≡ aligned (begins_at i.section) stop)
+    × Stand starts (start_of starts i + size starts i) is
 
 -- the end of the last of them
 abbrev pub end_of : Starts → ℕ → List InputSection → ℕ
@@ -83,7 +84,8 @@ end_of starts stop (i ∷ is) = end_of starts (start_of starts i + size starts i
 
 -- a region holds its sections from an address on
 abbrev pub Holds : Starts → Region → ℕ → List InputSection → Type 0
-Holds starts region place is = (region.start ≡ place) × Stand starts place is × (region.end ≡ end_of starts place is)
+Holds starts region place is =
+    (region.start ≡ place) × Stand starts place is × (region.end ≡ end_of starts place is)
 
 -- a gap stands before each section that begins past the end before
 abbrev pub gaps_of : Starts → ℕ → List InputSection → List Region

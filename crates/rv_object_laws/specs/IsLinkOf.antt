@@ -58,12 +58,16 @@ pub record IsLinkOf (os : List Object) (text_start : ℕ) (l : Linked) : Type 0 
   pub gaps : l.map.gaps ≡ gaps_of starts text_start (inputs goes_to_text os)
   pub rodata : Holds starts l.map.rodata (aligned 4096 l.map.text.end) (inputs goes_to_rodata os)
   pub «data» : Holds starts l.map.data (aligned 4096 l.map.rodata.end) (inputs goes_to_data os)
-  pub bss : Holds starts l.map.bss (aligned (greatest (inputs goes_to_bss os)) l.map.data.end) (inputs goes_to_bss os)
+  pub bss : Holds starts l.map.bss (aligned (greatest (inputs goes_to_bss os)) l.map.data.end)
+      (inputs goes_to_bss os)
   -- all of it below the stack, and no more than may be loaded
   pub below : l.map.bss.end ≤ stack_start
-  pub memory : (l.map.text.end - l.map.text.start) + (l.map.rodata.end - l.map.rodata.start) + (l.map.bss.end - l.map.data.start) ≤ memory_limit
+  pub memory : (l.map.text.end - l.map.text.start) + (l.map.rodata.end - l.map.rodata.start) +
+      (l.map.bss.end - l.map.data.start) ≤ memory_limit
   -- each alignment in code has room for its least padding
-  pub room : AllByRecursion (λ i. IsTrue (list_all has_room (moves (start_of starts i) i.section))) (inputs goes_to_text os)
+  pub room : AllByRecursion
+      (λ i. IsTrue (list_all has_room (moves (start_of starts i) i.section)))
+      (inputs goes_to_text os)
   -- no name has two global definitions; a linker's name is shown where none has it
   pub once : AreDistinct (global_names os)
   pub globals : l.map.globals ≡ globals_of starts 1 os ++ shown_linker_symbols os l.map
@@ -73,10 +77,18 @@ pub record IsLinkOf (os : List Object) (text_start : ℕ) (l : Linked) : Type 0 
   pub rows : l.map.rows ≡ rows_of starts 1 os
   -- a text shows the map: its numbers are below 2 ^ 64
   pub readable : IsMap l.map
-  pub relocated : AllByRecursion (λ i. AllByRecursion (IsRelocated l.map.globals starts os i) i.section.relocations) (inputs is_loaded os)
+  pub relocated : AllByRecursion
+      (λ i. AllByRecursion (IsRelocated l.map.globals starts os i) i.section.relocations)
+      (inputs is_loaded os)
   -- the regions hold the bytes of their sections
-  pub text_bytes : l.text ≡ contents (linked_bytes l.map.globals starts os) starts l.map.text.start (inputs goes_to_text os)
-  pub rodata_bytes : l.rodata ≡ contents (linked_bytes l.map.globals starts os) starts l.map.rodata.start (inputs goes_to_rodata os)
-  pub data_bytes : l.data ≡ contents (linked_bytes l.map.globals starts os) starts l.map.data.start (inputs goes_to_data os)
+  pub text_bytes : l.text
+      ≡ contents (linked_bytes l.map.globals starts os) starts l.map.text.start
+      (inputs goes_to_text os)
+  pub rodata_bytes : l.rodata
+      ≡ contents (linked_bytes l.map.globals starts os) starts l.map.rodata.start
+      (inputs goes_to_rodata os)
+  pub data_bytes : l.data
+      ≡ contents (linked_bytes l.map.globals starts os) starts l.map.data.start
+      (inputs goes_to_data os)
   -- there is compressed code where an object has some
   pub rvc : l.rvc ≡ list_any (λ o. o.rvc) os

@@ -15,7 +15,8 @@ pub record Move : Type 0 where
 -- the bytes before an old offset that are dropped, and the offset that is left of it
 abbrev pub dropped : List Move → ℕ → ℕ
 dropped [] old = 0
-dropped (m ∷ ms) old = min (m.full - length m.text) (old - (m.place + length m.text)) + dropped ms old
+dropped (m ∷ ms) old =
+    min (m.full - length m.text) (old - (m.place + length m.text)) + dropped ms old
 
 abbrev pub new_offset : List Move → ℕ → ℕ
 new_offset ms old = old - dropped ms old
@@ -24,7 +25,8 @@ new_offset ms old = old - dropped ms old
 abbrev pub kept : ℕ → List Move → List ℕ → List ℕ
 kept at [] bytes = bytes
 kept at (m ∷ ms) bytes =
-    take (m.place - at) bytes ++ (m.text ++ kept (m.place + m.full) ms (drop (m.place + m.full - at) bytes))
+    take (m.place - at) bytes
+    ++ (m.text ++ kept (m.place + m.full) ms (drop (m.place + m.full - at) bytes))
 
 -- ---- alignments
 
@@ -39,7 +41,9 @@ full_padding r = unwrap_or (padding_of r.addend) 0
 -- the least power of two above the addend
 abbrev pub alignment_of : Relocation → ℕ
 alignment_of r =
-    unwrap_or (find (λ a. nat_lt (full_padding r) a) (2 ∷ 4 ∷ 8 ∷ 16 ∷ 32 ∷ 64 ∷ 128 ∷ 256 ∷ 512 ∷ 1024 ∷ 2048 ∷ 4096 ∷ [])) 4096
+    unwrap_or
+    (find (λ a. nat_lt (full_padding r) a)
+    (2 ∷ 4 ∷ 8 ∷ 16 ∷ 32 ∷ 64 ∷ 128 ∷ 256 ∷ 512 ∷ 1024 ∷ 2048 ∷ 4096 ∷ [])) 4096
 
 -- instructions without effect: `addi zero, zero, 0` of four bytes, and `c.nop` where two are left
 abbrev pub four_each : ℕ → List ℕ
@@ -63,7 +67,8 @@ by_place [] = []
 by_place (r ∷ rs) = inserted r (by_place rs)
 
 abbrev pub alignments_of : Section → List Relocation
-alignments_of s = if s.loaded && s.executable then by_place (filter (λ r. is_align r.kind) s.relocations) else []
+alignments_of s =
+    if s.loaded && s.executable then by_place (filter (λ r. is_align r.kind) s.relocations) else []
 
 -- each alignment keeps the least padding with which it ends at a multiple, where the section begins at an address and so
 -- many of its bytes are dropped so far

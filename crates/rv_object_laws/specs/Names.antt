@@ -34,10 +34,12 @@ global_address globals name = option_map (λ g. g.address) (find (λ g. bytes_eq
 -- a symbol means what its own object defines, else the global of its name
 abbrev pub symbol_address_by : List Global → (ℕ → ℕ) → Object → List ℕ → Definition → Option ℕ
 symbol_address_by globals starts o name definitions.Undefined = global_address globals name
-symbol_address_by globals starts o name (definitions.Absolute n) = defined_address starts o (definitions.Absolute n)
+symbol_address_by globals starts o name (definitions.Absolute n) =
+    defined_address starts o (definitions.Absolute n)
 symbol_address_by globals starts o name (definitions.InSection section offset) =
     defined_address starts o (definitions.InSection section offset)
-symbol_address_by globals starts o name (definitions.Skipped n) = defined_address starts o (definitions.Skipped n)
+symbol_address_by globals starts o name (definitions.Skipped n) =
+    defined_address starts o (definitions.Skipped n)
 
 abbrev pub symbol_address : List Global → (ℕ → ℕ) → Object → Symbol → Option ℕ
 symbol_address globals starts o s = symbol_address_by globals starts o s.name s.definition
@@ -70,7 +72,8 @@ shown name (Some address) = record { name = name; address = address } ∷ []
 abbrev pub globals_of : Starts → ℕ → List Object → List Global
 globals_of starts file [] = []
 globals_of starts file (o ∷ os) =
-    flat_map (λ s. shown s.name (defined_address (starts file) o s.definition)) (exported o) ++ globals_of starts (suc file) os
+    flat_map (λ s. shown s.name (defined_address (starts file) o s.definition)) (exported o)
+    ++ globals_of starts (suc file) os
 
 -- the names of all global definitions
 abbrev pub global_names : List Object → List (List ℕ)
@@ -99,7 +102,8 @@ linker_symbols m =
 
 -- those whose name no global definition has
 abbrev pub shown_linker_symbols : List Object → Map → List Global
-shown_linker_symbols os m = filter (λ g. not (is_one_of (global_names os) g.name)) (linker_symbols m)
+shown_linker_symbols os m =
+    filter (λ g. not (is_one_of (global_names os) g.name)) (linker_symbols m)
 
 -- ---- the entry
 
@@ -108,7 +112,8 @@ is_in_text None = false
 is_in_text (Some s) = goes_to_text s
 
 abbrev pub is_text_definition : Object → Definition → Bool
-is_text_definition o (definitions.InSection section offset) = is_in_text (slice_get o.sections section)
+is_text_definition o (definitions.InSection section offset) =
+    is_in_text (slice_get o.sections section)
 is_text_definition o definitions.Undefined = false
 is_text_definition o (definitions.Absolute n) = false
 is_text_definition o (definitions.Skipped n) = false
@@ -125,7 +130,8 @@ abbrev pub entry_of : Starts → ℕ → List Object → Option ℕ
 entry_of starts file [] = None
 entry_of starts file (o ∷ os) =
     entry_by
-    (option_and_then (λ s. defined_address (starts file) o s.definition) (find (begins_run o) (exported o)))
+    (option_and_then (λ s. defined_address (starts file) o s.definition)
+    (find (begins_run o) (exported o)))
     (entry_of starts (suc file) os)
 
 -- ---- where a symbol stands
@@ -137,7 +143,8 @@ pub record Place : Type 0 where
   pub offset : ℕ
 
 abbrev pub place_in : ℕ → Definition → Option Place
-place_in file (definitions.InSection section offset) = Some (record { file = file; section = section; offset = offset })
+place_in file (definitions.InSection section offset) =
+    Some (record { file = file; section = section; offset = offset })
 place_in file definitions.Undefined = None
 place_in file (definitions.Absolute n) = None
 place_in file (definitions.Skipped n) = None
@@ -151,7 +158,8 @@ global_place file (o ∷ os) name = elim (find (λ s. bytes_eq s.name name) (exp
 ]
 
 abbrev pub symbol_place : List Object → ℕ → Symbol → Option Place
-symbol_place os file s = if is_defined s.definition then place_in file s.definition else global_place 1 os s.name
+symbol_place os file s =
+    if is_defined s.definition then place_in file s.definition else global_place 1 os s.name
 
 abbrev pub no_object : Object
 no_object = record { sections = []; symbols = []; rows = []; rvc = false }

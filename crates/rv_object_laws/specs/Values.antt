@@ -18,7 +18,8 @@ use Rattle.rv_object_laws.specs.Names.{Place, symbol_address, symbol_place, obje
 -- S: the address of the symbol; without a symbol 0
 abbrev pub target : List Global → (ℕ → ℕ) → Object → Option ℕ → Option ℕ
 target globals starts o None = Some 0
-target globals starts o (Some index) = option_and_then (symbol_address globals starts o) (slice_get o.symbols index)
+target globals starts o (Some index) =
+    option_and_then (symbol_address globals starts o) (slice_get o.symbols index)
 
 -- P: the address of an old offset in a section that starts at an address
 abbrev pub moved : ℕ → Section → ℕ → ℕ
@@ -27,7 +28,8 @@ moved start s offset = start + new_offset (moves start s) offset
 -- the value by the relocation's own symbol, addend and place
 abbrev pub own_value : List Global → (ℕ → ℕ) → Object → ℕ → Section → Relocation → ℤ
 own_value globals starts o start s r =
-    value_of r.kind (unwrap_or (target globals starts o r.symbol) 0) r.addend (moved start s r.place)
+    value_of r.kind (unwrap_or (target globals starts o r.symbol) 0) r.addend
+    (moved start s r.place)
 
 -- ---- low parts of distances
 
@@ -42,14 +44,16 @@ is_high _ = false
 
 -- the first PCREL_HI20 of a section at an old offset, both as they have moved
 abbrev pub high_at : List Move → ℕ → List Relocation → Option Relocation
-high_at ms offset rs = find (λ r. is_high r.kind && (new_offset ms r.place == new_offset ms offset)) rs
+high_at ms offset rs =
+    find (λ r. is_high r.kind && (new_offset ms r.place == new_offset ms offset)) rs
 
 -- the value of a PCREL_LO12 is that of the PCREL_HI20 at its symbol's place
 abbrev pub value_in : List Global → Starts → ℕ → Object → ℕ → ℕ → Option Section → Option ℤ
 value_in globals starts file o section offset None = None
 value_in globals starts file o section offset (Some s) =
     let start = starts file section in
-    option_map (own_value globals (starts file) o start s) (high_at (moves start s) offset s.relocations)
+    option_map (own_value globals (starts file) o start s)
+    (high_at (moves start s) offset s.relocations)
 
 abbrev pub value_at : List Global → Starts → List Object → Option Place → Option ℤ
 value_at globals starts os None = None
@@ -72,7 +76,8 @@ value globals starts os i r =
     else Some (own_value globals (starts i.file) i.object (start_of starts i) i.section r)
 
 -- the symbol has an address, the value is one, and the field takes it
-pub record IsRelocated (globals : List Global) (starts : Starts) (os : List Object) (i : InputSection) (r : Relocation) : Type 0 where
+pub record IsRelocated (globals : List Global) (starts : Starts) (os : List Object)
+    (i : InputSection) (r : Relocation) : Type 0 where
   pub resolved : IsTrue (is_some (target globals (starts i.file) i.object r.symbol))
   pub found : IsTrue (is_some (value globals starts os i r))
   pub alone : is_low r.kind ≡ true → r.addend ≡ pos 0
@@ -88,11 +93,13 @@ patched_at offset k v bytes =
 -- with those of all relocations written, in their order
 abbrev pub applied : (ℕ → ℕ) → (Relocation → ℤ) → List Relocation → List ℕ → List ℕ
 applied new worth [] bytes = bytes
-applied new worth (r ∷ rs) bytes = applied new worth rs (patched_at (new r.place) r.kind (worth r) bytes)
+applied new worth (r ∷ rs) bytes =
+    applied new worth rs (patched_at (new r.place) r.kind (worth r) bytes)
 
 -- the bytes of a section in the program: those that are kept, with its relocations applied
 abbrev pub linked_bytes : List Global → Starts → List Object → InputSection → List ℕ
 linked_bytes globals starts os i =
     let ms = moves (start_of starts i) i.section in
-    applied (new_offset ms) (λ r. unwrap_or (value globals starts os i r) (pos 0)) i.section.relocations
+    applied (new_offset ms)
+    (λ r. unwrap_or (value globals starts os i r) (pos 0)) i.section.relocations
     (kept 0 ms (stored i.section.contents))

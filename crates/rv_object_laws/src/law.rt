@@ -6,6 +6,8 @@ ghost use Rattle.rv_object_laws.specs.Moves.{alignments_of, kept, moves, new_off
 
 /// A section without alignments in its code keeps its offsets and its bytes.
 pub fn nothing_moves()
-    ensures offsets { (base : ℕ) (s : Section) → alignments_of s ≡ [] → (offset : ℕ) → new_offset (moves base s) offset ≡ offset }
-    ensures bytes { (base : ℕ) (s : Section) → alignments_of s ≡ [] → (bytes : List ℕ) → kept 0 (moves base s) bytes ≡ bytes }
+    ensures offsets { (base : ℕ) (s : Section) → alignments_of s ≡ [] → (offset : ℕ) →
+        new_offset (moves base s) offset ≡ offset }
+    ensures bytes { (base : ℕ) (s : Section) → alignments_of s ≡ [] → (bytes : List ℕ) →
+        kept 0 (moves base s) bytes ≡ bytes }
 {}

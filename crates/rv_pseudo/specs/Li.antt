@@ -61,7 +61,8 @@ then_low rd v before = before ++ slli rd rd (12 + zeros v) ∷ unless_zero (lo v
 -- where at most `steps` numbers of more than 32 bits come on the way
 abbrev pub li_in : ℕ → ℕ → ℤ → List Inst
 li_in zero rd v = li_short rd v
-li_in (suc steps) rd v = if is_signed 32 v then li_short rd v else then_low rd v (li_in steps rd (above v))
+li_in (suc steps) rd v =
+    if is_signed 32 v then li_short rd v else then_low rd v (li_in steps rd (above v))
 
 -- of 64 bits: each step leaves 12 bits fewer, so three come to 32 bits
 abbrev pub li : ℕ → ℤ → List Inst

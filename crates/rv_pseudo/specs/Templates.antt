@@ -79,7 +79,8 @@ abbrev pub reserve : AtomicForm → ℕ → ℕ → Reserve
 reserve form rd rs1 = record { rd = rd; rs1 = rs1; acquire = form.acquire; release = form.release }
 
 abbrev pub atomic : AtomicForm → ℕ → ℕ → ℕ → AtomicOperands
-atomic form rd rs2 rs1 = record { rd = rd; rs1 = rs1; rs2 = rs2; acquire = form.acquire; release = form.release }
+atomic form rd rs2 rs1 =
+    record { rd = rd; rs1 = rs1; rs2 = rs2; acquire = form.acquire; release = form.release }
 
 abbrev pub jalr : ℕ → ℕ → ℤ → Inst
 jalr rd rs1 k = inst.Jalr (i_type rd rs1 k)
@@ -95,7 +96,9 @@ auipc rd = inst.Auipc (u_type rd 0)
 
 -- rd, rs; `mv` by the form that has two bytes where compressed code is on
 abbrev pub unary : Bool → UnaryOperation → ℕ → ℕ → List Inst
-unary rvc Mv rd rs = (if rvc && not (rd == 0) && not (rs == 0) then inst.Add (r_type rd 0 rs) else addi rd rs (pos 0)) ∷ []
+unary rvc Mv rd rs =
+    (if rvc && not (rd == 0) && not (rs == 0)
+    then inst.Add (r_type rd 0 rs) else addi rd rs (pos 0)) ∷ []
 unary rvc Not rd rs = inst.Xori (i_type rd rs (negsuc 0)) ∷ []
 unary rvc Neg rd rs = inst.Sub (r_type rd 0 rs) ∷ []
 unary rvc Negw rd rs = inst.Subw (r_type rd 0 rs) ∷ []
@@ -115,15 +118,18 @@ compare Sgt rd a b = inst.Slt (r_type rd b a)
 compare Sgtu rd a b = inst.Sltu (r_type rd b a)
 
 abbrev pub plain_row : Bool → Plain → List Inst
-plain_row rvc (plains.Registers operation rd rs1 rs2) = of_registers operation (r_type rd rs1 rs2) ∷ []
+plain_row rvc (plains.Registers operation rd rs1 rs2) =
+    of_registers operation (r_type rd rs1 rs2) ∷ []
 plain_row rvc (plains.Load operation rd rs1) = of_load operation (i_type rd rs1 (pos 0)) ∷ []
 plain_row rvc (plains.Store operation rs2 rs1) = of_store operation (s_type rs2 rs1 (pos 0)) ∷ []
 plain_row rvc (plains.Jalr rd rs1) = jalr rd rs1 (pos 0) ∷ []
 plain_row rvc (plains.JalrLinked rs1) = jalr 1 rs1 (pos 0) ∷ []
 plain_row rvc (plains.LoadReserved form rd rs1) = of_reserve form.double (reserve form rd rs1) ∷ []
-plain_row rvc (plains.Atomic operation form rd rs2 rs1) = of_atomic operation form.double (atomic form rd rs2 rs1) ∷ []
+plain_row rvc (plains.Atomic operation form rd rs2 rs1) =
+    of_atomic operation form.double (atomic form rd rs2 rs1) ∷ []
 plain_row rvc plains.Fence = fence 0 15 15 ∷ []
-plain_row rvc (plains.FenceBetween before after) = fence 0 (access_bits before) (access_bits after) ∷ []
+plain_row rvc (plains.FenceBetween before after) =
+    fence 0 (access_bits before) (access_bits after) ∷ []
 plain_row rvc plains.FenceTso = fence 8 3 3 ∷ []
 plain_row rvc plains.Ecall = inst.Ecall ∷ []
 plain_row rvc plains.Ebreak = inst.Ebreak ∷ []
@@ -148,7 +154,8 @@ abbrev pub branch : ℕ → BranchOperation → ℕ → ℕ → List Template
 branch bytes operation rs1 rs2 =
     if bytes == 2 then under kind.RvcBranch (of_branch operation (b_type rs1 rs2 (pos 0))) ∷ []
     else if bytes == 8
-    then plain (of_branch (inverted operation) (b_type rs1 rs2 (pos 8))) ∷ under kind.Jal (jal 0) ∷ []
+    then plain (of_branch (inverted operation) (b_type rs1 rs2 (pos 8))) ∷ under kind.Jal (jal 0) ∷
+    []
     else under kind.Branch (of_branch operation (b_type rs1 rs2 (pos 0))) ∷ []
 
 abbrev pub jump : ℕ → ℕ → List Template
@@ -184,8 +191,10 @@ targeted bytes (operations.Jal rd) = jump bytes rd
 targeted bytes operations.JalLinked = jump bytes 1
 targeted bytes operations.J = jump bytes 0
 targeted bytes (operations.La rd) = near rd (under kind.PcrelLo12I (addi rd rd (pos 0)))
-targeted bytes (operations.LoadSymbol operation rd) = near rd (under kind.PcrelLo12I (of_load operation (i_type rd rd (pos 0))))
-targeted bytes (operations.StoreSymbol operation rs2 rt) = near rt (under kind.PcrelLo12S (of_store operation (s_type rs2 rt (pos 0))))
+targeted bytes (operations.LoadSymbol operation rd) =
+    near rd (under kind.PcrelLo12I (of_load operation (i_type rd rd (pos 0))))
+targeted bytes (operations.StoreSymbol operation rs2 rt) =
+    near rt (under kind.PcrelLo12S (of_store operation (s_type rs2 rt (pos 0))))
 targeted bytes (operations.Call rd) = far rd rd
 targeted bytes operations.CallLinked = far 1 1
 targeted bytes operations.Tail = far 0 6
@@ -214,17 +223,25 @@ abbrev pub with_reloc : Option Kind → Inst → List Template
 with_reloc reloc i = record { inst = i; reloc = reloc } ∷ []
 
 abbrev pub by_constant : Option Mnemonic → ℕ → ℕ → ℤ → Option Kind → List Template
-by_constant (Some (mnemonics.Immediate operation)) rd rs1 k reloc = with_reloc reloc (of_immediate operation (i_type rd rs1 k))
-by_constant (Some (mnemonics.Shift operation)) rd rs1 k reloc = with_reloc reloc (of_shift operation (shift_by rd rs1 (unsigned_abs k)))
+by_constant (Some (mnemonics.Immediate operation)) rd rs1 k reloc =
+    with_reloc reloc (of_immediate operation (i_type rd rs1 k))
+by_constant (Some (mnemonics.Shift operation)) rd rs1 k reloc =
+    with_reloc reloc (of_shift operation (shift_by rd rs1 (unsigned_abs k)))
 by_constant _ rd rs1 k reloc = []
 
 abbrev pub numbered : Operation → ℤ → Option Kind → List Template
-numbered (operations.Registers operation rd rs1) k reloc = by_constant (with_constant operation) rd rs1 k reloc
-numbered (operations.Immediate operation rd rs1) k reloc = with_reloc reloc (of_immediate operation (i_type rd rs1 k))
-numbered (operations.Shift operation rd rs1) k reloc = with_reloc reloc (of_shift operation (shift_by rd rs1 (unsigned_abs k)))
-numbered (operations.Upper operation rd) k reloc = with_reloc reloc (of_upper operation (u_type rd (unsigned_abs k)))
-numbered (operations.Load operation rd rs1) k reloc = with_reloc reloc (of_load operation (i_type rd rs1 k))
-numbered (operations.Store operation rs2 rs1) k reloc = with_reloc reloc (of_store operation (s_type rs2 rs1 k))
+numbered (operations.Registers operation rd rs1) k reloc =
+    by_constant (with_constant operation) rd rs1 k reloc
+numbered (operations.Immediate operation rd rs1) k reloc =
+    with_reloc reloc (of_immediate operation (i_type rd rs1 k))
+numbered (operations.Shift operation rd rs1) k reloc =
+    with_reloc reloc (of_shift operation (shift_by rd rs1 (unsigned_abs k)))
+numbered (operations.Upper operation rd) k reloc =
+    with_reloc reloc (of_upper operation (u_type rd (unsigned_abs k)))
+numbered (operations.Load operation rd rs1) k reloc =
+    with_reloc reloc (of_load operation (i_type rd rs1 k))
+numbered (operations.Store operation rs2 rs1) k reloc =
+    with_reloc reloc (of_store operation (s_type rs2 rs1 k))
 numbered (operations.Jalr rd rs1) k reloc = with_reloc reloc (jalr rd rs1 k)
 numbered (operations.JalrThen rd rs1) k reloc = with_reloc reloc (jalr rd rs1 k)
 numbered (operations.JalrLinked rs1) k reloc = with_reloc reloc (jalr 1 rs1 k)
@@ -264,13 +281,15 @@ relocation function (Some v) store = None
 -- whether a number is in the range of the statement's field (ISA, chapter 24)
 abbrev pub form_takes : Option Mnemonic → ℤ → Bool
 form_takes (Some (mnemonics.Immediate operation)) k = is_signed 12 k
-form_takes (Some (mnemonics.Shift operation)) k = int_le (pos 0) k && int_lt k (pos (shift_limit operation))
+form_takes (Some (mnemonics.Shift operation)) k =
+    int_le (pos 0) k && int_lt k (pos (shift_limit operation))
 form_takes _ k = false
 
 abbrev pub takes : Operation → ℤ → Bool
 takes (operations.Registers operation rd rs1) k = form_takes (with_constant operation) k
 takes (operations.Immediate operation rd rs1) k = is_signed 12 k
-takes (operations.Shift operation rd rs1) k = int_le (pos 0) k && int_lt k (pos (shift_limit operation))
+takes (operations.Shift operation rd rs1) k =
+    int_le (pos 0) k && int_lt k (pos (shift_limit operation))
 takes (operations.Upper operation rd) k = int_le (pos 0) k && int_lt k (pos (2 ^ 20))
 takes (operations.Load operation rd rs1) k = is_signed 12 k
 takes (operations.Store operation rs2 rs1) k = is_signed 12 k
@@ -332,21 +351,24 @@ is_bad_scratch _ = false
 -- the fault with the lowest number
 abbrev pub fault : Operation → Option Function → Option ℤ → Option SourceCode
 fault operation function value =
-    if is_bad_scratch operation then Some ScratchRegister else operand_fault operation function value
+    if is_bad_scratch operation
+    then Some ScratchRegister else operand_fault operation function value
 
 -- ---- what stands for a statement
 
 abbrev pub templates : Form → Operation → Option Function → List Template
 templates f operation function =
     if takes_target operation then targeted f.bytes operation
-    else numbered operation (number function f.value) (relocation function f.value (is_store operation))
+    else numbered operation (number function f.value)
+    (relocation function f.value (is_store operation))
 
 abbrev pub unless_faulty : Option SourceCode → List Template → Result (List Template) SourceCode
 unless_faulty (Some code) ts = Err code
 unless_faulty None ts = Ok ts
 
 abbrev pub with_operand : Form → Operation → Option Function → Result (List Template) SourceCode
-with_operand f operation function = unless_faulty (fault operation function f.value) (templates f operation function)
+with_operand f operation function =
+    unless_faulty (fault operation function f.value) (templates f operation function)
 
 -- of a statement in a form: its templates, or its fault; a label or a directive has none
 abbrev pub expansion : Form → StatementKind → Result (List Template) SourceCode
@@ -357,13 +379,15 @@ expansion f _ = Ok []
 
 -- ---- the code's answers
 
-abbrev pub Answers : Result (List Template) SourceCode → Result (ArrayVec Template) SourceCode → Type 0
+abbrev pub Answers : Result (List Template) SourceCode → Result (ArrayVec Template) SourceCode →
+    Type 0
 Answers (Ok ts) (Ok found) = found.items ≡ ts
 Answers (Err code) (Err found) = found ≡ code
 Answers _ _ = ⊥
 
 -- the same at a line; never want of memory
-abbrev pub IsExpansion : Result (List Template) SourceCode → ℕ → Result (ArrayVec Template) SourceFault → Type 0
+abbrev pub IsExpansion : Result (List Template) SourceCode → ℕ →
+    Result (ArrayVec Template) SourceFault → Type 0
 IsExpansion (Ok ts) line (Ok found) = found.items ≡ ts
 IsExpansion (Err code) line (Err found) = found ≡ At code line
 IsExpansion _ line _ = ⊥

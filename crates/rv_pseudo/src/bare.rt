@@ -94,7 +94,9 @@ fn mv(rvc: bool, rd: Reg, rs: Reg) -> Inst
 fn extended(back: ShiftOperation, rd: Reg, rs: Reg, amount: u8) -> Templates
     requires left { amount < 64 }
     requires back { amount < shift_limit back }
-    ensures { result.items ≡ is.plain (li.slli rd rs amount) ∷ is.plain (of_shift back (is.shift_by rd rd amount)) ∷ [] }
+    ensures { result.items
+        ≡ is.plain (li.slli rd rs amount) ∷ is.plain (of_shift back (is.shift_by rd rd amount)) ∷
+        [] }
 {
     let there = Inst::Slli(Shift {
         rd,

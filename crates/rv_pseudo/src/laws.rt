@@ -26,11 +26,14 @@ pub fn li_recurs()
 /// ends with no zero bit itself, and it has eleven bits less than the number.
 pub fn li_shrinks()
     ensures whole { (v : ℤ) → hi v ≡ above v *ℤ pos (2 ^ zeros v) }
-    ensures odd { (v : ℤ) → is_signed 64 v ≡ true → is_signed 32 v ≡ false → unsigned_abs (above v) % 2 ≡ 1 }
-    ensures fewer { (v : ℤ) → is_signed 32 v ≡ false → 2 ^ 11 * unsigned_abs (above v) < unsigned_abs v }
+    ensures odd { (v : ℤ) → is_signed 64 v ≡ true → is_signed 32 v ≡ false →
+        unsigned_abs (above v) % 2 ≡ 1 }
+    ensures fewer { (v : ℤ) → is_signed 32 v ≡ false →
+        2 ^ 11 * unsigned_abs (above v) < unsigned_abs v }
 {}
 
 /// Every instruction of a sequence has its operands in their ranges, so a word spells it.
 pub fn li_valid()
-    ensures { (rd : ℕ) (v : ℤ) → rd < 32 → is_signed 64 v ≡ true → AllByRecursion IsValid (li rd v) }
+    ensures { (rd : ℕ) (v : ℤ) → rd < 32 → is_signed 64 v ≡ true →
+        AllByRecursion IsValid (li rd v) }
 {}

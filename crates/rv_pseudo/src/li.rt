@@ -154,7 +154,8 @@ fn parts(value: i64) -> (i64, u8, i32)
 fn then_low(before: ArrayVec<Inst, 8>, rd: Reg, zeros: u8, low: i32) -> ArrayVec<Inst, 8>
     requires room { length before.items ≤ 6 }
     requires zeros { zeros ≤ 51 }
-    ensures items { result.items ≡ before.items ++ slli rd rd (12 + zeros) ∷ unless_zero low (addi rd rd low) }
+    ensures items { result.items ≡ before.items
+        ++ slli rd rd (12 + zeros) ∷ unless_zero low (addi rd rd low) }
     ensures count { length result.items ≤ length before.items + 2 }
 {
     let mut sequence = before;

@@ -36,7 +36,8 @@ fn with_immediate(
     reloc: Option<Kind>,
 ) -> Templates
     requires { is_signed 12 number ≡ true }
-    ensures { result.items ≡ is.with_reloc reloc (of_immediate operation (is.i_type rd rs1 number)) }
+    ensures { result.items
+        ≡ is.with_reloc reloc (of_immediate operation (is.i_type rd rs1 number)) }
 {
     let immediate = immediate(number);
     with_reloc(operation.instruction(IType { immediate, rd, rs1 }), reloc)
@@ -51,7 +52,8 @@ fn shift(
     reloc: Option<Kind>,
 ) -> Templates
     requires { (int_le (pos 0) number && int_lt number (pos (shift_limit operation))) ≡ true }
-    ensures { result.items ≡ is.with_reloc reloc (of_shift operation (is.shift_by rd rs1 (unsigned_abs number))) }
+    ensures { result.items
+        ≡ is.with_reloc reloc (of_shift operation (is.shift_by rd rs1 (unsigned_abs number))) }
 {
     let amount = number as u8;
     with_reloc(operation.instruction(Shift { rd, rs1, amount }), reloc)
@@ -60,7 +62,8 @@ fn shift(
 /// The upper 20 bits of an instruction.
 fn upper(operation: UpperOperation, rd: Reg, number: i64, reloc: Option<Kind>) -> Templates
     requires { (int_le (pos 0) number && int_lt number (pos (2 ^ 20))) ≡ true }
-    ensures { result.items ≡ is.with_reloc reloc (of_upper operation (is.u_type rd (unsigned_abs number))) }
+    ensures { result.items
+        ≡ is.with_reloc reloc (of_upper operation (is.u_type rd (unsigned_abs number))) }
 {
     let immediate = number as u32;
     with_reloc(operation.instruction(UType { immediate, rd }), reloc)

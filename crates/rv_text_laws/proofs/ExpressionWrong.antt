@@ -9,7 +9,7 @@ use Rattle.rv_text_laws.specs.Grammar.{Kind, Punctuation, Number, End}
 use Rattle.rv_text_laws.specs.Lexing.{Token, is_last, ended}
 use Rattle.rv_text_laws.specs.SyntaxError.{SyntaxError, wrong, Read}
 use Rattle.rv_text_laws.specs.Expression.{Literal, Tree, level_of, follows, A_closing, Nothing_more, SpellsTree, IsAt, nesting, deepest, Node, Primary_node, Unary_node, Binary_node, postfix, EndsBefore, ReadsTree}
-use Rattle.rv_text_laws.specs.ExpressionAt.{Stage, Wants, Has, settle, Step, Goes, Ends, Fails, step, step_has, close, end, unclosed, read_from, expression_at, after_tokens, FailsAt, EndsAt, code_from, code_in_expression}
+use Rattle.rv_text_laws.specs.ExpressionAt.{Stage, Wants, Has, settle, Step, Goes, Ends, Fails, step, step_has, close, end, unclosed, read_from, expression_at, after_tokens, FailsAt, EndsAt}
 use Rattle.rv_text_laws.proofs.Expressions.{le_true, goes, ends, fails, expression_is, taken_no_last}
 use Rattle.rv_text_laws.proofs.ExpressionFound.{expression_found}
 
@@ -157,51 +157,6 @@ module _ (r : List ℕ → Bool) where
   -- one token more at the front
   taken_first : (s u : Stage) (t : Token) (front : List Token) → step r s t.kind ≡ Goes u → after_tokens r s (t ∷ front) ≡ after_tokens r u front
   taken_first s u t front e = rw (e, after_tokens) refl
-
-  code_first : (next : List Token → Token → ℕ) (s u : Stage) (t : Token) (front : List Token) (at : Token) → step r s t.kind ≡ Goes u
-      → code_from r next s (t ∷ front) at ≡ code_from r next u front at
-  code_first next s u t front at e = rw (e, code_from) refl
-
-  -- the code after tokens that are taken is that of the stage which they lead to
-  code_onward : (next : List Token → Token → ℕ) (front us : List Token) (at : Token) (s u : Stage) → after_tokens r s front ≡ Some u
-      → code_from r next s (front ++ us) at ≡ code_from r next u us at
-  code_onward next [] us at s u e = let same : s ≡ u = cc in ap (λ (v : Stage). code_from r next v us at) same
-  code_onward next (t ∷ ts) us at s u e = go (step r s t.kind) refl e (λ (v : Stage). code_onward next ts us at v u)
-    where
-      go : (p : Step) → step r s t.kind ≡ p → elim p [ Goes v ↦ after_tokens r v ts | Ends ns ↦ None | Fails code ↦ None ] ≡ Some u
-          → ((v : Stage) → after_tokens r v ts ≡ Some u → code_from r next v (ts ++ us) at ≡ code_from r next u us at)
-          → code_from r next s (t ∷ (ts ++ us)) at ≡ code_from r next u us at
-      go (Goes v) is e further = code_first next s v t (ts ++ us) at is ∙ further v e
-      go (Ends ns) is e further = absurd (cc)
-      go (Fails code) is e further = absurd (cc)
-
-  code_failed : (next : List Token → Token → ℕ) (s : Stage) (at : Token) (code : ℕ) → step r s at.kind ≡ Fails code → code_from r next s [] at ≡ code
-  code_failed next s at code e = rw (e, code_from) refl
-
-  code_ended : (next : List Token → Token → ℕ) (s : Stage) (at : Token) (ns : List Node) → step r s at.kind ≡ Ends ns → code_from r next s [] at ≡ next [] at
-  code_ended next s at ns e = rw (e, code_from) refl
-
-  code_ended_before : (next : List Token → Token → ℕ) (s : Stage) (t : Token) (ts : List Token) (at : Token) (ns : List Node) → step r s t.kind ≡ Ends ns
-      → code_from r next s (t ∷ ts) at ≡ next (t ∷ ts) at
-  code_ended_before next s t ts at ns e = rw (e, code_from) refl
-
-  -- the code of the token at which the reading is wrong, of the one after the expression, and of a later one
-  pub code_there : (next : List Token → Token → ℕ) (front : List Token) (at : Token) (code : ℕ) → FailsAt r front at code → code_in_expression r next front at ≡ code
-  unfolding code_in_expression
-  code_there next front at code f =
-      ap (λ (l : List Token). code_from r next (Wants [] []) l at) (sym (append-nil front))
-      ∙ code_onward next front [] at (Wants [] []) f.stage f.taken ∙ code_failed next f.stage at code f.fails
-
-  pub code_behind : (next : List Token → Token → ℕ) (front : List Token) (at : Token) (nodes : List Node) → EndsAt r front at nodes → code_in_expression r next front at ≡ next [] at
-  unfolding code_in_expression
-  code_behind next front at nodes f =
-      ap (λ (l : List Token). code_from r next (Wants [] []) l at) (sym (append-nil front))
-      ∙ code_onward next front [] at (Wants [] []) f.stage f.taken ∙ code_ended next f.stage at nodes f.ends
-
-  pub code_later : (next : List Token → Token → ℕ) (front : List Token) (t : Token) (nodes : List Node) (ts : List Token) (at : Token) → EndsAt r front t nodes
-      → code_in_expression r next (front ++ t ∷ ts) at ≡ next (t ∷ ts) at
-  unfolding code_in_expression
-  code_later next front t nodes ts at f = code_onward next front (t ∷ ts) at (Wants [] []) f.stage f.taken ∙ code_ended_before next f.stage t ts at nodes f.ends
 
   -- where a reading from a stage on is wrong
   record WrongFrom (s : Stage) (ts : List Token) (w : SyntaxError) : Type 0 where

@@ -126,21 +126,3 @@ pub record EndsAt (is_register : List ℕ → Bool) (front : List Token) (at : T
   pub stage : Stage
   pub taken : after_tokens is_register (Wants [] []) front ≡ Some stage
   pub ends : step is_register stage at.kind ≡ Ends nodes
-
--- the code of the token `at` after these tokens: that of the step at which the reading is wrong; after the end of the
--- expression the one that `next` gives, by the tokens from there on; none where all are taken
-abbrev pub code_from : (List ℕ → Bool) → (List Token → Token → ℕ) → Stage → List Token → Token → ℕ
-code_from is_register next s [] at = elim (step is_register s at.kind) [
-  | Goes u ↦ 0
-  | Ends ns ↦ next [] at
-  | Fails code ↦ code
-]
-code_from is_register next s (t ∷ ts) at = elim (step is_register s t.kind) [
-  | Goes u ↦ code_from is_register next u ts at
-  | Ends ns ↦ next (t ∷ ts) at
-  | Fails code ↦ code
-]
-
-unfoldable pub code_in_expression : (List ℕ → Bool) → (List Token → Token → ℕ) → List Token →
-    Token → ℕ
-code_in_expression is_register next before at = code_from is_register next (Wants [] []) before at
