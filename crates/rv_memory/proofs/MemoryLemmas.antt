@@ -7,7 +7,7 @@ use Rattle.std.proofs.Math.Nat.{div-div-eq-div-mul, pow-suc}
 use Rattle.std.specs.Int.{bytes_low_first, to_le_bytes, w64}
 use Rattle.rv_isa_laws.specs.Memory.{Mem, Right, Read, Execute, may, bytes_at, with_byte, with_bytes, number_at, with_number}
 use Rattle.rv_memory.specs.Rights.{MayLoad}
-use Rattle.rv_memory.specs.Flat.{number_of, bytes_of}
+use Rattle.rv_isa_laws.specs.Bytes.{number_in, little_endian}
 
 -- a range from an address is that from an address that is equal modulo 2 ^ 64
 pub may-wraps : (m : Mem) (a b n : ℕ) (r : Right) → a % 2 ^ 64 ≡ b % 2 ^ 64 → may m a n r ≡ may m b n r
@@ -45,11 +45,11 @@ may-same m n a (suc k) r e =
     cc
 
 -- a number in memory is that of its bytes
-pub number_at-bytes : (m : Mem) (a n : ℕ) → number_at m a n ≡ number_of (bytes_at m a n)
+pub number_at-bytes : (m : Mem) (a n : ℕ) → number_at m a n ≡ number_in (bytes_at m a n)
 number_at-bytes m a zero = refl
 number_at-bytes m a (suc n) = let rest = number_at-bytes m (a + 1) n in cc
 
-pub with_number-bytes : (m : Mem) (a n v : ℕ) → with_number m a n v ≡ with_bytes m a (bytes_of n v)
+pub with_number-bytes : (m : Mem) (a n v : ℕ) → with_number m a n v ≡ with_bytes m a (little_endian n v)
 with_number-bytes m a zero v = refl
 with_number-bytes m a (suc n) v = with_number-bytes (with_byte m (a % 2 ^ 64) (v % 256)) (a + 1) n (v / 256)
 
@@ -119,7 +119,7 @@ may-none m a zero r some h = absurd (omega arith)
 may-none m a (suc n) r some h = rw h
 
 -- a number's bytes, as machine words have them
-pub bytes-low-first : (i k v w : ℕ) → w ≡ v / 256 ^ i → bytes_low_first i k v ≡ bytes_of k w
+pub bytes-low-first : (i k v w : ℕ) → w ≡ v / 256 ^ i → bytes_low_first i k v ≡ little_endian k w
 bytes-low-first i zero v w e = refl
 bytes-low-first zero (suc k) v w e =
     let one : w ≡ v = e ∙ grind arith in
@@ -130,16 +130,16 @@ bytes-low-first (suc i) (suc k) v w e =
     let rest = bytes-low-first (suc (suc i)) k v (w / 256) next in
     rw (sym e) (ap (λ (bs : List ℕ). w % 256 ∷ bs) rest)
 
-bytes_of-take : (n k v : ℕ) → k ≤ n → bytes_of k v ≡ take k (bytes_of n v)
-bytes_of-take n zero v low = refl
-bytes_of-take zero (suc k) v low = absurd (omega arith)
-bytes_of-take (suc n) (suc k) v low = ap (λ (bs : List ℕ). v % 256 ∷ bs) (bytes_of-take n k (v / 256) (omega arith))
+little_endian-take : (n k v : ℕ) → k ≤ n → little_endian k v ≡ take k (little_endian n v)
+little_endian-take n zero v low = refl
+little_endian-take zero (suc k) v low = absurd (omega arith)
+little_endian-take (suc n) (suc k) v low = ap (λ (bs : List ℕ). v % 256 ∷ bs) (little_endian-take n k (v / 256) (omega arith))
 
 -- the low n of a number's eight bytes
-pub bytes-to_le_bytes : (n v : ℕ) → n ≤ 8 → bytes_of n v ≡ take n (to_le_bytes w64 v)
+pub bytes-to_le_bytes : (n v : ℕ) → n ≤ 8 → little_endian n v ≡ take n (to_le_bytes w64 v)
 bytes-to_le_bytes n v low =
     let one : v ≡ v / 256 ^ 0 = grind arith in
-    bytes_of-take 8 n v low ∙ ap (take n) (sym (bytes-low-first 0 8 v v one))
+    little_endian-take 8 n v low ∙ ap (take n) (sym (bytes-low-first 0 8 v v one))
 
 -- the right of one of n bytes
 pub may-at : (m : Mem) (a n k : ℕ) (r : Right) → k < n → may m a n r ≡ true → may m ((a + k) % 2 ^ 64) 1 r ≡ true
@@ -198,7 +198,7 @@ put-number-more m n a k b v bs within is small at new =
     rw (next, after, split, first)
 
 pub may-kept-number : (m n : Mem) (a k b j v : ℕ) (r : Right) → n ≡ with_number m b j v → may m a k r ≡ true → may n a k r ≡ true
-may-kept-number m n a k b j v r new h = may-kept m n a k b r (bytes_of j v) (new ∙ with_number-bytes m b j v) h
+may-kept-number m n a k b j v r new h = may-kept m n a k b r (little_endian j v) (new ∙ with_number-bytes m b j v) h
 
 -- a byte that is loaded
 pub loaded-byte : (m : Mem) (b v : ℕ) → b < 2 ^ 64 → v ≡ number_at m b 1 → v ≡ m.byte b
@@ -210,5 +210,5 @@ loaded-byte m b v fits is =
 -- a number is put by its low bytes
 pub put-low : (m n : Mem) (a k v : ℕ) (digits : List ℕ) → k ≤ 8 → digits ≡ to_le_bytes w64 v → n ≡ with_bytes m a (take k digits) → n ≡ with_number m a k v
 put-low m n a k v digits small is new =
-    let low : take k digits ≡ bytes_of k v = ap (take k) is ∙ sym (bytes-to_le_bytes k v small) in
+    let low : take k digits ≡ little_endian k v = ap (take k) is ∙ sym (bytes-to_le_bytes k v small) in
     new ∙ ap (with_bytes m a) low ∙ sym (with_number-bytes m a k v)

@@ -38,7 +38,8 @@ ghost use Rattle.rv_isa_laws.specs.Memory.{
 };
 ghost use Rattle.rv_image.specs.Segment.{segment_of};
 ghost use Rattle.rv_memory.specs.Rights.{right_of, IsWidth, MayLoad};
-ghost use Rattle.rv_memory.specs.Flat.{memory_of, AreDisjoint, number_of, no_segment, with_part};
+ghost use Rattle.rv_memory.specs.Flat.{memory_of, AreDisjoint, no_segment, with_part};
+ghost use Rattle.rv_isa_laws.specs.Bytes.{number_in};
 ghost use Rattle.rv_image.specs.Memory.{lies_in, has_flag, segment_at, mem_of};
 ghost use Rattle.rv_image.specs.Image.{image_of};
 
@@ -102,7 +103,7 @@ fn bytes_from(segment: &Segment, at: u64) -> &[u8]
 #[inline(always)]
 fn number(bytes: &[u8]) -> u64
     requires { IsWidth (length bytes.now) }
-    ensures { result ≡ number_of bytes.now }
+    ensures { result ≡ number_in bytes.now }
 {
     match bytes {
         [a] => u64::from(*a),
