@@ -1,7 +1,7 @@
 -- The global definitions of the objects have the addresses of those of the sources.
 
-use Rattle.std.proofs.Common.{◌≡◌, ℕ, suc, ◌+◌, ◌-◌, ◌%◌, ◌<◌, Bool, true, false, List, [], ◌∷◌, ◌++◌, refl, sym, ap, ◌∙◌, arith, map, Option, Some, None}
-use Rattle.std.specs.Prelude.{◌^◌, ◌&&◌, if◌then◌else◌, filter, flat_map, option_map, option_and_then, slice_index_or, bytes_eq}
+use Rattle.std.proofs.Common.{◌≡◌, ℕ, suc, ◌+◌, ◌%◌, ◌<◌, Bool, true, false, List, [], ◌∷◌, ◌++◌, refl, sym, ap, ◌∙◌, arith, map, Option, Some, None}
+use Rattle.std.specs.Prelude.{◌^◌, ◌&&◌, if◌then◌else◌, filter, flat_map, option_map, option_and_then, bytes_eq}
 use Rattle.std.specs.List.{AllByRecursion}
 use Rattle.rv_text_laws.specs.Expression.{Here}
 use Rattle.rv_text_laws.specs.Values.{Meaning, Known, InSection as InData, Open as OpenAddress, Refused, add}
@@ -12,7 +12,7 @@ use Rattle.rv_unit_laws.specs.Tables.{Tables, Assignment, tables, assigned_ever,
 use Rattle.rv_map.specs.Map.{Global}
 use Rattle.rv_map.specs.Limits.{IsRow}
 use Rattle.rv_source_laws.specs.Located.{has_row}
-use Rattle.rv_source_laws.specs.Program.{MaybeMapped, Program, tables_in, address_of, home_address}
+use Rattle.rv_source_laws.specs.Program.{Program, address_of, home_address}
 use Rattle.rv_source_laws.specs.Resolves as source
 use Rattle.rv_source_laws.specs.Resolves.{defined_name, global_names_of}
 use Rattle.rv_object.specs.declared.symbol.Definition.{Definition as Defined}

@@ -9,7 +9,6 @@ use Rattle.rv_unit_laws.specs.Bindings.{is_global}
 use Rattle.rv_unit_laws.specs.Tables.{Tables, Assignment, tables, assigned_ever}
 use Rattle.rv_map.specs.Map.{Map}
 use Rattle.rv_source_laws.specs.Program.{MaybeMapped, Program, program, tables_in}
-use Rattle.rv_source_laws.specs.Resolves as source
 use Rattle.rv_source_laws.specs.Resolves.{defined_name, global_names_of}
 use Rattle.rv_object.specs.declared.symbol.Definition.{Definition as Defined}
 use Rattle.rv_object.specs.declared.symbol.Definition.TheVariants.{Undefined, InSection}
