@@ -1,16 +1,18 @@
 -- The object of a source (gABI, "Sections", "Symbol Table", "Relocation"; RISC-V ELF psABI, "Relocations"): what assembling is.
 
-use Rattle.std.specs.Prelude.{◌≡◌, ℕ, suc, ◌+◌, ◌≤◌, Bool, true, false, ⊤, List, [], ◌∷◌, ◌++◌, flat_map, map, length, Option, Some, None, slice_index_or, if◌then◌else◌}
-use Rattle.std.specs.List.{AllByRecursion, slice_get}
+use Rattle.std.specs.Prelude.{◌≡◌, ℕ, suc, ◌+◌, ◌≤◌, true, false, ⊤, List, [], ◌∷◌, ◌++◌, flat_map, map, length, Option, Some, None, slice_index_or, if◌then◌else◌}
+use Rattle.std.specs.List.{AllByRecursion, list_any, slice_get}
 use Rattle.rv_text_laws.specs.Expression.{Primary}
 use Rattle.rv_statement.specs.Statement.{Statement}
-use Rattle.rv_unit_laws.specs.Sections.{Section as SourceSection, goes_to_text}
+use Rattle.rv_unit_laws.specs.declared.section_type.SectionType.{SectionType}
+use Rattle.rv_unit_laws.specs.declared.section_type.SectionType.TheVariants as types
+use Rattle.rv_unit_laws.specs.Sections.{Section as SourceSection, is_nobits, goes_to_text}
 use Rattle.rv_unit_laws.specs.Tables.{Tables, Assignment, at_start, tables, is_location}
 use Rattle.rv_unit_laws.specs.Faults.{first_fault}
 use Rattle.rv_source_laws.specs.Located.{located_from, has_row}
-use Rattle.rv_source_laws.specs.Options.{has_compressed}
+use Rattle.rv_source_laws.specs.Compressed.{is_compressed_code}
 use Rattle.rv_object.specs.declared.row.Row.{Row}
-use Rattle.rv_object.specs.Object.{Contents, Progbits, Nobits, Relocation, Section, Symbol, Object}
+use Rattle.rv_object.specs.Object.{Contents, Progbits, Note, Nobits, Relocation, Section, Symbol, Object}
 use Rattle.rv_assemble_laws.specs.Templates.{Open, template_fields, IsTemplate}
 use Rattle.rv_assemble_laws.specs.Sites.{Site, Part, form, part_bytes, parts, sites_in, Tile, end_of, HasSize}
 use Rattle.rv_assemble_laws.specs.Symbols.{SymbolUse, references_in, site_at, symbols_of, StandsFor}
@@ -55,9 +57,11 @@ relocations_from number offset (p ∷ ps) =
 
 -- ---- sections
 
--- bytes of the program, or the size of zeros
-abbrev pub contents_of : Bool → ℕ → List ℕ → Contents
-contents_of nobits size bytes = if nobits then Nobits size else Progbits bytes
+-- the bytes of a section in its file, by its type; of one without bytes there its size
+abbrev pub contents_of : SectionType → ℕ → List ℕ → Contents
+contents_of types.Progbits size bytes = Progbits bytes
+contents_of types.Note size bytes = Note bytes
+contents_of types.Nobits size bytes = Nobits size
 
 -- the symbol of a reference
 abbrev pub IsNumbered : Tables → List Site → Numbering → List Symbol → SymbolUse → Type 0
@@ -81,9 +85,10 @@ pub record IsSectionOf (t : Tables) (all : List Site) (number : Numbering) (symb
   -- its statements follow one another
   pub tile : Tile t 0 sites
   pub contents : x.contents
-      ≡ contents_of section.nobits (end_of 0 sites) (flat_map part_bytes (parts t sites))
+      ≡ contents_of section.section_type (end_of 0 sites)
+      (flat_map part_bytes (parts t sites))
   -- no code stands in a section without bytes in the file
-  pub code : goes_to_text section ≡ true → section.nobits ≡ true →
+  pub code : goes_to_text section ≡ true → is_nobits section ≡ true →
       flat_map part_bytes (parts t sites) ≡ []
   pub relocations : x.relocations
       ≡ (if section.loaded then relocations_from number 0 (parts t sites) else [])
@@ -125,7 +130,8 @@ pub record IsObjectOf (ss : List Statement) (o : Object) : Type 0 where
   pub number : Numbering
   pub sections : AreSectionsOf (tables ss) sites number o.symbols 0
       (tables ss).opened.sections o.sections
-  pub symbols : o.symbols ≡ symbols_of ss (tables ss) sites
+  pub symbols : o.symbols ≡ symbols_of (tables ss) sites
   -- a row for each statement with a place in memory
   pub rows : o.rows ≡ flat_map rows_at sites
-  pub rvc : o.rvc ≡ has_compressed ss
+  -- one of its statements is compressed code
+  pub rvc : o.rvc ≡ list_any (λ s. is_compressed_code s.located) sites

@@ -5,9 +5,10 @@ use Rattle.std.specs.Prelude.{◌≡◌, ℕ, Bool, true, false, not, ◌&&◌, 
 use Rattle.std.specs.List.{find, list_any}
 use Rattle.rv_text_laws.specs.Expression.{Primary, Symbol as Named, Literal, Here, Reference}
 use Rattle.rv_text_laws.specs.Values.{Known, InSection as InData, Open as OpenAddress, Refused, add}
-use Rattle.rv_statement.specs.Statement.{StatementKind, Directs, Statement, Sets}
+use Rattle.rv_statement.specs.Statement.{StatementKind, Directs, Sets}
+use Rattle.rv_unit_laws.specs.Bindings.{is_global}
 use Rattle.rv_unit_laws.specs.Tables.{Tables, Definition, Assignment, definition, assigned_ever}
-use Rattle.rv_source_laws.specs.Resolves.{defined_name, is_global_after, is_one_of}
+use Rattle.rv_source_laws.specs.Resolves.{defined_name, global_names_of, is_one_of}
 use Rattle.rv_object.specs.declared.symbol.Binding.TheVariants.{Local, Global}
 use Rattle.rv_object.specs.declared.symbol.Definition.{Definition as Defined}
 use Rattle.rv_object.specs.declared.symbol.Definition.TheVariants.{Undefined, Absolute, InSection, Skipped}
@@ -104,30 +105,29 @@ is_absolute s = elim s.definition [
 ]
 
 -- the names that a statement defines for its own file
-abbrev pub named_symbols : List Statement → Tables → List Site → Site → List Symbol
-named_symbols ss t sites s =
+abbrev pub named_symbols : Tables → List Site → Site → List Symbol
+named_symbols t sites s =
     filter (λ x. not (is_absolute x))
     (map (λ name. local_symbol name (site_definition t sites s s.located.kind))
-    (filter (λ name. not (is_global_after false ss name))
+    (filter (λ name. not (is_global (t.bindings name)))
     (defined_name t s.located.ordinal s.located.kind)))
 
-abbrev pub local_symbols : List Statement → Tables → List Site → List Site → List Site → List Symbol
-local_symbols ss t sites before [] = []
-local_symbols ss t sites before (s ∷ rest) =
-    unnamed_symbols t (references t sites) before s ++ (named_symbols ss t sites s
-    ++ local_symbols ss t sites (before ++ s ∷ []) rest)
+abbrev pub local_symbols : Tables → List Site → List Site → List Site → List Symbol
+local_symbols t sites before [] = []
+local_symbols t sites before (s ∷ rest) =
+    unnamed_symbols t (references t sites) before s ++ (named_symbols t sites s
+    ++ local_symbols t sites (before ++ s ∷ []) rest)
 
 -- ---- global symbols
 
 -- the names that a statement defines for all files
-abbrev pub exports_of : List Statement → Tables → List Site → Site → List Symbol
-exports_of ss t sites s =
+abbrev pub exports_of : Tables → List Site → Site → List Symbol
+exports_of t sites s =
     map (λ name. global_symbol name (site_definition t sites s s.located.kind))
-    (filter (λ name. is_global_after false ss name)
-    (defined_name t s.located.ordinal s.located.kind))
+    (global_names_of t s.located)
 
-abbrev pub exports : List Statement → Tables → List Site → List Symbol
-exports ss t sites = flat_map (exports_of ss t sites) sites
+abbrev pub exports : Tables → List Site → List Symbol
+exports t sites = flat_map (exports_of t sites) sites
 
 -- ---- undefined symbols
 
@@ -153,9 +153,9 @@ undefined_symbols t sites =
 
 -- ---- all of them
 
-abbrev pub symbols_of : List Statement → Tables → List Site → List Symbol
-symbols_of ss t sites =
-    local_symbols ss t sites [] sites ++ (exports ss t sites ++ undefined_symbols t sites)
+abbrev pub symbols_of : Tables → List Site → List Symbol
+symbols_of t sites =
+    local_symbols t sites [] sites ++ (exports t sites ++ undefined_symbols t sites)
 
 -- ---- what a symbol stands for
 

@@ -6,14 +6,15 @@ use Rattle.std.specs.Prelude.{◌&&◌, ◌==◌, if◌then◌else◌, filter, f
 use Rattle.std.specs.List.{AllByRecursion, slice_get, find}
 use Rattle.rv_text_laws.specs.Values.{Meaning, Known, InSection as InData, Open as OpenAddress, Refused}
 use Rattle.rv_statement.specs.Statement.{StatementKind, Label, Numbered, Instruction, Directs, Statement, Enters, Sets}
+use Rattle.rv_unit_laws.specs.Bindings.{is_global}
 use Rattle.rv_unit_laws.specs.Sections.{Section as SourceSection, goes_to_text}
-use Rattle.rv_unit_laws.specs.Tables.{Tables, Assignment, tables, assigned_ever, is_location}
+use Rattle.rv_unit_laws.specs.Tables.{Tables, Assignment, tables, assigned_ever, is_location, binding_of}
 use Rattle.rv_unit_laws.proofs.Found.{same_bytes}
 use Rattle.rv_map.specs.Limits.{IsRow}
 use Rattle.rv_source_laws.specs.Located.{has_row}
 use Rattle.rv_source_laws.specs.Program.{MaybeMapped, Program, address_of}
 use Rattle.rv_source_laws.specs.Resolves as source
-use Rattle.rv_source_laws.specs.Resolves.{is_global_after, defined_name}
+use Rattle.rv_source_laws.specs.Resolves.{defined_name}
 use Rattle.rv_object.specs.declared.symbol.Definition.{Definition as Defined}
 use Rattle.rv_object.specs.declared.symbol.Definition.TheVariants.{InSection}
 use Rattle.rv_object.specs.Object.{Symbol, Object}
@@ -65,7 +66,7 @@ module _ (sources : List (List Statement)) (p : Program) (starts : Starts) (file
   sections = (tables ss).opened.sections
 
   abbrev G : List ℕ → Bool
-  G name = is_global_after false ss name
+  G name = is_global (t.bindings name)
 
   abbrev B : MaybeMapped → Bool
   B e = source.begins_run sources e.located
@@ -157,7 +158,7 @@ module _ (sources : List (List Statement)) (p : Program) (starts : Starts) (file
       )
       go true u true v c w =
           let same : name ≡ codes "_start" = same_bytes name (codes "_start") u in
-          let global : source.is_global_in sources file (codes "_start") ≡ c = ap (λ x. is_global_after false x (codes "_start")) nth ∙ ap G (sym same) ∙ w in
+          let global : source.is_global_in sources file (codes "_start") ≡ c = ap (λ x. is_global (binding_of x (codes "_start"))) nth ∙ ap G (sym same) ∙ w in
           let whole : (bytes_eq name (codes "_start") && goes_to_text s.located.home && source.is_global_in sources file (codes "_start")) ≡ c =
           ap (λ x. x && goes_to_text s.located.home && source.is_global_in sources file (codes "_start")) u ∙ ap (λ x. x && source.is_global_in sources file (codes "_start")) v ∙ global in
           let found = kept c w ∙ ap (λ x. if c then (if x && goes_to_text s.located.home then Some (global_symbol name d) else None) else None) u
@@ -194,7 +195,7 @@ module _ (sources : List (List Statement)) (p : Program) (starts : Starts) (file
 
   file_entry : (rest : List Site) (more : List MaybeMapped) → AllByRecursion (IsSettled sections) rest → AllByRecursion (IsLow starts file) rest
       → option_and_then address_of (find B (map (statement_at starts file) rest ++ more))
-      ≡ entry_by (option_and_then Da (find (objects.begins_run o) (flat_map (exports_of ss t is.sites) rest))) (option_and_then address_of (find B more))
+      ≡ entry_by (option_and_then Da (find (objects.begins_run o) (flat_map (exports_of t is.sites) rest))) (option_and_then address_of (find B more))
   file_entry [] more h l = refl
   file_entry (s ∷ rest) more (h, hs) (l, ls) = go (kind_agrees s s.located.kind h l h.labelled) (file_entry rest more hs ls)
     where
@@ -202,10 +203,10 @@ module _ (sources : List (List Statement)) (p : Program) (starts : Starts) (file
       e = statement_at starts file s
 
       own : List Symbol
-      own = exports_of ss t is.sites s
+      own = exports_of t is.sites s
 
       others : List Symbol
-      others = flat_map (exports_of ss t is.sites) rest
+      others = flat_map (exports_of t is.sites) rest
 
       next : Option MaybeMapped
       next = find B (map (statement_at starts file) rest ++ more)

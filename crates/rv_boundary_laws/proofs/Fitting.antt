@@ -14,6 +14,7 @@ use Rattle.rv_text_laws.specs.Expression.{Primary}
 use Rattle.rv_text_laws.specs.Values.{Value, Constant, Symbolic, Difference, Faulty}
 use Rattle.rv_statement.specs.declared.mnemonic.Mnemonic.{Mnemonic}
 use Rattle.rv_statement.specs.Statement.{StatementKind, Label, Numbered, Instruction, Directs, Expression, Operand, Register, Value as Of_value, Applied, Target, Accesses, Word, Quoted, Directive, Sets, Aligns_to_power, Aligns_to_bytes, Values, Strings, Zeros}
+use Rattle.rv_unit_laws.specs.Options.{Options}
 use Rattle.rv_unit_laws.specs.Sections.{Section}
 use Rattle.rv_unit_laws.specs.Tables.{alignment_of, padding, aligned}
 use Rattle.rv_map.specs.declared.map.Row.{Row}
@@ -119,9 +120,9 @@ true_false : {A : Type 0} (b : Bool) → b ≡ true → b ≡ false → A
 true_false true e f = absurd (cc)
 true_false false e f = absurd (cc)
 
-module _ (p : Program) (file ordinal section offset line : ℕ) (home : Section) (placed : Bool) (row : Row) (before start : ℕ) where
+module _ (p : Program) (file ordinal section offset line : ℕ) (options : Options) (home : Section) (placed : Bool) (row : Row) (before start : ℕ) where
   abbrev at : StatementKind → Mapped
-  at says = record { located = record { file = file; ordinal = ordinal; section = section; offset = offset; home = home; line = line; kind = says; placed = placed }; row = row }
+  at says = record { located = record { file = file; ordinal = ordinal; section = section; offset = offset; home = home; options = options; line = line; kind = says; placed = placed }; row = row }
 
   abbrev f : Expression → Value
   f e = form p (at (Label [])).located e

@@ -1,19 +1,20 @@
 -- The global definitions of the objects have the addresses of those of the sources.
 
-use Rattle.std.proofs.Common.{◌≡◌, ℕ, suc, ◌+◌, ◌-◌, ◌%◌, ◌<◌, Bool, true, false, List, [], ◌∷◌, ◌++◌, refl, sym, ap, ◌∙◌, arith, map, Option, Some, None}
-use Rattle.std.specs.Prelude.{◌^◌, ◌&&◌, if◌then◌else◌, filter, flat_map, option_map, option_and_then, slice_index_or, bytes_eq}
+use Rattle.std.proofs.Common.{◌≡◌, ℕ, suc, ◌+◌, ◌%◌, ◌<◌, Bool, true, false, List, [], ◌∷◌, ◌++◌, refl, sym, ap, ◌∙◌, arith, map, Option, Some, None}
+use Rattle.std.specs.Prelude.{◌^◌, ◌&&◌, if◌then◌else◌, filter, flat_map, option_map, option_and_then, bytes_eq}
 use Rattle.std.specs.List.{AllByRecursion}
 use Rattle.rv_text_laws.specs.Expression.{Here}
 use Rattle.rv_text_laws.specs.Values.{Meaning, Known, InSection as InData, Open as OpenAddress, Refused, add}
 use Rattle.rv_statement.specs.Statement.{StatementKind, Label, Numbered, Instruction, Directs, Statement, Enters, Sets}
+use Rattle.rv_unit_laws.specs.Bindings.{is_global}
 use Rattle.rv_unit_laws.specs.Sections.{Section as SourceSection}
 use Rattle.rv_unit_laws.specs.Tables.{Tables, Assignment, tables, assigned_ever, is_location}
 use Rattle.rv_map.specs.Map.{Global}
 use Rattle.rv_map.specs.Limits.{IsRow}
 use Rattle.rv_source_laws.specs.Located.{has_row}
-use Rattle.rv_source_laws.specs.Program.{MaybeMapped, Program, tables_in, address_of, home_address}
+use Rattle.rv_source_laws.specs.Program.{Program, address_of, home_address}
 use Rattle.rv_source_laws.specs.Resolves as source
-use Rattle.rv_source_laws.specs.Resolves.{is_global_after, defined_name}
+use Rattle.rv_source_laws.specs.Resolves.{defined_name, global_names_of}
 use Rattle.rv_object.specs.declared.symbol.Definition.{Definition as Defined}
 use Rattle.rv_object.specs.declared.symbol.Definition.TheVariants.{InSection}
 use Rattle.rv_object.specs.Object.{Symbol, Object}
@@ -29,7 +30,7 @@ use Rattle.rv_boundary_laws.proofs.Settled.{IsSettled, settled}
 use Rattle.rv_boundary_laws.proofs.Known.{all_found, section_found, still, own_agrees}
 use Rattle.rv_boundary_laws.proofs.Sections.{split}
 use Rattle.rv_boundary_laws.proofs.Files.{plain_of, IsFile, AreFiles}
-use Rattle.rv_boundary_laws.proofs.Names.{flat_join, exported_are, AreNth}
+use Rattle.rv_boundary_laws.proofs.Names.{flat_join, exported_are}
 
 same_shown : (name : List ℕ) (a : Option ℕ) → objects.shown name a ≡ source.shown name a
 same_shown name None = refl
@@ -120,7 +121,7 @@ module _ (p : Program) (starts : Starts) (file : ℕ) (ss : List Statement) (o :
       ∙ ap (λ l. source.shown name a ++ l) (shown_all d a e names)
 
   abbrev G : List ℕ → Bool
-  G name = is_global_after false ss name
+  G name = is_global (t.bindings name)
 
   kind_globals : (s : Site) (kind : StatementKind) → IsSettled sections s → IsLow starts file s → ((name : List ℕ) → kind ≡ Label name → s.located.placed ≡ true)
       → flat_map Shown (map (λ name. global_symbol name (site_definition t is.sites s kind)) (filter G (defined_name t s.located.ordinal kind)))
@@ -135,41 +136,33 @@ module _ (p : Program) (starts : Starts) (file : ℕ) (ss : List Statement) (o :
   kind_globals s (Numbered number) here low label = refl
   kind_globals s (Instruction mnemonic operands) here low label = refl
 
-  module _ (sources : List (List Statement)) (nth : slice_index_or sources (file - 1) [] ≡ ss) where
-    abbrev named : (Tables → MaybeMapped → List (List ℕ)) → MaybeMapped → List Global
-    named names e = flat_map (λ name. source.shown name (source.defined_address (tables_in p e.located.file) p.statements e e.located.kind)) (names (tables_in p e.located.file) e)
+  site_globals : (s : Site) → IsSettled sections s → IsLow starts file s → flat_map Shown (exports_of t is.sites s) ≡ source.defined_by p (statement_at starts file s)
+  site_globals s here low =
+      let e = statement_at starts file s in
+      kind_globals s s.located.kind here low here.labelled
+      ∙ ap (λ u. flat_map (λ name. source.shown name (source.defined_address u p.statements e s.located.kind)) (global_names_of u s.located)) (sym f.tables)
 
-    site_globals : (s : Site) → IsSettled sections s → IsLow starts file s → flat_map Shown (exports_of ss t is.sites s) ≡ source.defined_by sources p (statement_at starts file s)
-    site_globals s here low =
-        let e = statement_at starts file s in
-        let names = filter G (defined_name t s.located.ordinal s.located.kind) in
-        kind_globals s s.located.kind here low here.labelled
-        ∙ ap (λ u. flat_map (λ name. source.shown name (source.defined_address u p.statements e s.located.kind)) names) (sym f.tables)
-        ∙ ap (λ ns. flat_map (λ name. source.shown name (source.defined_address (tables_in p file) p.statements e s.located.kind)) ns)
-        (ap (λ u. filter G (defined_name u s.located.ordinal s.located.kind)) (sym f.tables)
-        ∙ ap (λ x. filter (λ name. is_global_after false x name) (defined_name (tables_in p file) s.located.ordinal s.located.kind)) (sym nth))
+  file_globals : (rest : List Site) → AllByRecursion (IsSettled sections) rest → AllByRecursion (IsLow starts file) rest
+      → flat_map Shown (flat_map (exports_of t is.sites) rest) ≡ flat_map (source.defined_by p) (map (statement_at starts file) rest)
+  file_globals [] h l = refl
+  file_globals (s ∷ rest) (h, hs) (l, ls) =
+      flat_join Shown (exports_of t is.sites s) (flat_map (exports_of t is.sites) rest)
+      ∙ ap (λ g. g ++ flat_map Shown (flat_map (exports_of t is.sites) rest)) (site_globals s h l)
+      ∙ ap (λ g. source.defined_by p (statement_at starts file s) ++ g) (file_globals rest hs ls)
 
-    file_globals : (rest : List Site) → AllByRecursion (IsSettled sections) rest → AllByRecursion (IsLow starts file) rest
-        → flat_map Shown (flat_map (exports_of ss t is.sites) rest) ≡ flat_map (source.defined_by sources p) (map (statement_at starts file) rest)
-    file_globals [] h l = refl
-    file_globals (s ∷ rest) (h, hs) (l, ls) =
-        flat_join Shown (exports_of ss t is.sites s) (flat_map (exports_of ss t is.sites) rest)
-        ∙ ap (λ g. g ++ flat_map Shown (flat_map (exports_of ss t is.sites) rest)) (site_globals s h l)
-        ∙ ap (λ g. source.defined_by sources p (statement_at starts file s) ++ g) (file_globals rest hs ls)
-
-    pub own_globals : AllByRecursion (IsLow starts file) is.sites → flat_map Shown (exported o) ≡ flat_map (source.defined_by sources p) (map (statement_at starts file) is.sites)
-    own_globals low = ap (flat_map Shown) (exported_are ss o is) ∙ file_globals is.sites all_settled low
+  pub own_globals : AllByRecursion (IsLow starts file) is.sites → flat_map Shown (exported o) ≡ flat_map (source.defined_by p) (map (statement_at starts file) is.sites)
+  own_globals low = ap (flat_map Shown) (exported_are ss o is) ∙ file_globals is.sites all_settled low
 
 -- ---- all files
 
-pub globals_are : (p : Program) (starts : Starts) (sources : List (List Statement)) (file : ℕ) (srcs : List (List Statement)) (os : List Object) (h : AreObjectsOf srcs os)
-    → AreFiles p starts file srcs os h → AreNth sources file srcs → AllByRecursion IsRow (all_rows starts file srcs os h)
-    → objects.globals_of starts file os ≡ flat_map (source.defined_by sources p) (all_statements starts file srcs os h)
-globals_are p starts sources file [] [] h f n r = refl
-globals_are p starts sources file [] (o ∷ os) h f n r = absurd h
-globals_are p starts sources file (ss ∷ srcs) [] h f n r = absurd h
-globals_are p starts sources file (ss ∷ srcs) (o ∷ os) (is, h) (f, fs) (n, ns) r =
+pub globals_are : (p : Program) (starts : Starts) (file : ℕ) (srcs : List (List Statement)) (os : List Object) (h : AreObjectsOf srcs os)
+    → AreFiles p starts file srcs os h → AllByRecursion IsRow (all_rows starts file srcs os h)
+    → objects.globals_of starts file os ≡ flat_map (source.defined_by p) (all_statements starts file srcs os h)
+globals_are p starts file [] [] h f r = refl
+globals_are p starts file [] (o ∷ os) h f r = absurd h
+globals_are p starts file (ss ∷ srcs) [] h f r = absurd h
+globals_are p starts file (ss ∷ srcs) (o ∷ os) (is, h) (f, fs) r =
     let rows = split IsRow (rows_from starts file is.sites) (all_rows starts (suc file) srcs os h) r in
-    ap (λ l. l ++ objects.globals_of starts (suc file) os) (own_globals p starts file ss o is f sources n (low_rows starts file is.sites rows.0))
-    ∙ ap (λ l. flat_map (source.defined_by sources p) (map (statement_at starts file) is.sites) ++ l) (globals_are p starts sources (suc file) srcs os h fs ns rows.1)
-    ∙ sym (flat_join (source.defined_by sources p) (map (statement_at starts file) is.sites) (all_statements starts (suc file) srcs os h))
+    ap (λ l. l ++ objects.globals_of starts (suc file) os) (own_globals p starts file ss o is f (low_rows starts file is.sites rows.0))
+    ∙ ap (λ l. flat_map (source.defined_by p) (map (statement_at starts file) is.sites) ++ l) (globals_are p starts (suc file) srcs os h fs rows.1)
+    ∙ sym (flat_join (source.defined_by p) (map (statement_at starts file) is.sites) (all_statements starts (suc file) srcs os h))

@@ -28,14 +28,14 @@ module _ (sources : List (List Statement)) (os : List Object) (text_start : ℕ)
 
   names : source.global_names sources l.map ≡ objects.global_names os
   names =
-      ap (flat_map (λ e. source.global_names_of sources (tables_in p e.located.file) e.located)) (statements_ours sources os l.map link.starts h link.rows)
-      ∙ names_are sources l.map link.starts 1 sources os h (files sources os l.map link.starts h link.rows) (nth_all sources)
+      ap (flat_map (λ e. source.global_names_of (tables_in p e.located.file) e.located)) (statements_ours sources os l.map link.starts h link.rows)
+      ∙ names_are sources l.map link.starts 1 sources os h (files sources os l.map link.starts h link.rows)
 
   definitions : objects.globals_of link.starts 1 os ≡ source.definitions sources l.map
   definitions =
-      globals_are p link.starts sources 1 sources os h (files sources os l.map link.starts h link.rows) (nth_all sources)
+      globals_are p link.starts 1 sources os h (files sources os l.map link.starts h link.rows)
       (subst (λ rs. AllByRecursion IsRow rs) (rows_ours sources os l.map link.starts h link.rows) link.readable.rows)
-      ∙ ap (flat_map (source.defined_by sources p)) (sym (statements_ours sources os l.map link.starts h link.rows))
+      ∙ ap (flat_map (source.defined_by p)) (sym (statements_ours sources os l.map link.starts h link.rows))
 
   entry : source.starts_at (find (λ e. source.begins_run sources e.located) p.statements) ≡ Some l.map.entry
   entry =

@@ -16,3 +16,4 @@ pub mod Names
 pub mod Globals
 pub mod Joined
 pub mod Entry
+pub mod Flagged

@@ -7,7 +7,9 @@ use Rattle.std.proofs.lemmas.List.Sums.{sum_by-cons}
 use Rattle.std.specs.Prelude.{◌&&◌, not, nat_lt, IsTrue, if◌then◌else◌, filter, flat_map}
 use Rattle.std.specs.List.{AllByRecursion}
 use Rattle.rv_statement.specs.Statement.{Statement}
-use Rattle.rv_unit_laws.specs.Sections.{Section as SourceSection, goes_to_text, goes_to_rodata, goes_to_data, goes_to_bss}
+use Rattle.rv_unit_laws.specs.declared.section_type.SectionType.{SectionType}
+use Rattle.rv_unit_laws.specs.declared.section_type.SectionType.TheVariants as types
+use Rattle.rv_unit_laws.specs.Sections.{Section as SourceSection, is_nobits_type, is_nobits, goes_to_text, goes_to_rodata, goes_to_data, goes_to_bss}
 use Rattle.rv_unit_laws.specs.Tables.{Tables, aligned, tables, at_start}
 use Rattle.rv_unit_laws.specs.Faults.{first_fault}
 use Rattle.rv_map.specs.declared.map.Row.{Row as MapRow}
@@ -26,7 +28,7 @@ use Rattle.rv_object_laws.specs.Inputs as objects
 use Rattle.rv_object_laws.specs.Inputs.{Starts, InputSection, inputs_from, inputs_of, inputs, contents, Holds, Stand}
 use Rattle.rv_object_laws.specs.Values.{linked_bytes, IsRelocated}
 use Rattle.rv_object_laws.specs.IsLinkOf.{IsLinkOf, is_loaded}
-use Rattle.rv_assemble_laws.specs.Sites.{Site, parts, parts_of, part_bytes, sites_in, end_of}
+use Rattle.rv_assemble_laws.specs.Sites.{Site, parts, parts_of, part_bytes, sites_in}
 use Rattle.rv_assemble_laws.specs.IsObjectOf.{Numbering, contents_of, IsSectionOf, AreSectionsOf}
 use Rattle.rv_boundary_laws.proofs.Patches.{written}
 use Rattle.rv_boundary_laws.proofs.Statements.{AreObjectsOf, renumbered, renumbers, row_in, rows_from, mapped_at, all_rows}
@@ -38,18 +40,25 @@ use Rattle.rv_boundary_laws.proofs.Files.{plain_of, AreFiles, files, rows_ours}
 
 -- ---- sections go where the source's go
 
-nobits_same : (b : Bool) (count : ℕ) (bytes : List ℕ) → objects.is_nobits (contents_of b count bytes) ≡ b
-nobits_same true count bytes = refl
-nobits_same false count bytes = refl
+nobits_same : (b : SectionType) (count : ℕ) (bytes : List ℕ) → objects.is_nobits (contents_of b count bytes) ≡ is_nobits_type b
+nobits_same types.Progbits count bytes = refl
+nobits_same types.Note count bytes = refl
+nobits_same types.Nobits count bytes = refl
 
-stored_same : (b : Bool) (count : ℕ) (bytes : List ℕ) → b ≡ false → stored (contents_of b count bytes) ≡ bytes
-stored_same true count bytes e = absurd (cc)
-stored_same false count bytes e = refl
+stored_same : (b : SectionType) (count : ℕ) (bytes : List ℕ) → is_nobits_type b ≡ false → stored (contents_of b count bytes) ≡ bytes
+stored_same types.Progbits count bytes e = refl
+stored_same types.Note count bytes e = refl
+stored_same types.Nobits count bytes e = absurd (cc)
+
+stored_none : (b : SectionType) (count : ℕ) (bytes : List ℕ) → is_nobits_type b ≡ true → stored (contents_of b count bytes) ≡ []
+stored_none types.Progbits count bytes e = absurd (cc)
+stored_none types.Note count bytes e = absurd (cc)
+stored_none types.Nobits count bytes e = refl
 
 module _ (t : Tables) (sites : List Site) (number : Numbering) (o : Object) (index : ℕ) (s : SourceSection) (x : Section)
     (is : IsSectionOf t sites number o.symbols index s (sites_in index sites) x) where
-  nobits : objects.is_nobits x.contents ≡ s.nobits
-  nobits = ap objects.is_nobits is.contents ∙ nobits_same s.nobits _ _
+  nobits : objects.is_nobits x.contents ≡ is_nobits s
+  nobits = ap objects.is_nobits is.contents ∙ nobits_same s.section_type _ _
 
   text_same : objects.goes_to_text x ≡ goes_to_text s
   text_same = ap (λ b. b && x.executable) is.loaded ∙ ap (λ b. s.loaded && b) is.executable
@@ -63,23 +72,23 @@ module _ (t : Tables) (sites : List Site) (number : Numbering) (o : Object) (ind
   data_same : objects.goes_to_data x ≡ goes_to_data s
   data_same =
       ap (λ b. (b && not (objects.is_nobits x.contents)) && x.writable) front_same ∙ ap (λ b. ((s.loaded && not s.executable) && not b) && x.writable) nobits
-      ∙ ap (λ b. ((s.loaded && not s.executable) && not s.nobits) && b) is.writable
+      ∙ ap (λ b. ((s.loaded && not s.executable) && not (is_nobits s)) && b) is.writable
 
   rodata_same : objects.goes_to_rodata x ≡ goes_to_rodata s
   rodata_same =
       ap (λ b. (b && not (objects.is_nobits x.contents)) && not x.writable) front_same ∙ ap (λ b. ((s.loaded && not s.executable) && not b) && not x.writable) nobits
-      ∙ ap (λ b. ((s.loaded && not s.executable) && not s.nobits) && not b) is.writable
+      ∙ ap (λ b. ((s.loaded && not s.executable) && not (is_nobits s)) && not b) is.writable
 
   -- bytes in the file
-  plain_holds : s.nobits ≡ false → stored x.contents ≡ flat_map part_bytes (parts t (sites_in index sites))
-  plain_holds e = ap stored is.contents ∙ stored_same s.nobits _ _ e
+  plain_holds : is_nobits s ≡ false → stored x.contents ≡ flat_map part_bytes (parts t (sites_in index sites))
+  plain_holds e = ap stored is.contents ∙ stored_same s.section_type _ _ e
 
   text_holds : goes_to_text s ≡ true → stored x.contents ≡ flat_map part_bytes (parts t (sites_in index sites))
-  text_holds e = go s.nobits refl
+  text_holds e = go (is_nobits s) refl
     where
-      go : (b : Bool) → s.nobits ≡ b → stored x.contents ≡ flat_map part_bytes (parts t (sites_in index sites))
+      go : (b : Bool) → is_nobits s ≡ b → stored x.contents ≡ flat_map part_bytes (parts t (sites_in index sites))
       go false f = plain_holds f
-      go true f = ap stored is.contents ∙ ap (λ b. stored (contents_of b (end_of 0 (sites_in index sites)) (flat_map part_bytes (parts t (sites_in index sites))))) f ∙ sym (is.code e f)
+      go true f = ap stored is.contents ∙ stored_none s.section_type _ _ f ∙ sym (is.code e f)
 
 -- ---- flags
 
@@ -92,19 +101,19 @@ not_true false e = refl
 
 bss_front : (s : SourceSection) → goes_to_bss s ≡ true → (s.loaded ≡ true) × (s.executable ≡ false)
 bss_front s e =
-    let front = and_parts s.loaded (not s.executable) (and_parts (s.loaded && not s.executable) s.nobits e).0 in (front.0, not_true s.executable front.1)
+    let front = and_parts s.loaded (not s.executable) (and_parts (s.loaded && not s.executable) (is_nobits s) e).0 in (front.0, not_true s.executable front.1)
 
-data_front : (s : SourceSection) → goes_to_data s ≡ true → (s.loaded ≡ true) × (s.executable ≡ false) × (s.nobits ≡ false)
+data_front : (s : SourceSection) → goes_to_data s ≡ true → (s.loaded ≡ true) × (s.executable ≡ false) × (is_nobits s ≡ false)
 data_front s e =
-    let three = and_parts (s.loaded && not s.executable) (not s.nobits) (and_parts ((s.loaded && not s.executable) && not s.nobits) s.writable e).0 in
+    let three = and_parts (s.loaded && not s.executable) (not (is_nobits s)) (and_parts ((s.loaded && not s.executable) && not (is_nobits s)) s.writable e).0 in
     let front = and_parts s.loaded (not s.executable) three.0 in
-    (front.0, not_true s.executable front.1, not_true s.nobits three.1)
+    (front.0, not_true s.executable front.1, not_true (is_nobits s) three.1)
 
-rodata_front : (s : SourceSection) → goes_to_rodata s ≡ true → (s.loaded ≡ true) × (s.executable ≡ false) × (s.nobits ≡ false)
+rodata_front : (s : SourceSection) → goes_to_rodata s ≡ true → (s.loaded ≡ true) × (s.executable ≡ false) × (is_nobits s ≡ false)
 rodata_front s e =
-    let three = and_parts (s.loaded && not s.executable) (not s.nobits) (and_parts ((s.loaded && not s.executable) && not s.nobits) (not s.writable) e).0 in
+    let three = and_parts (s.loaded && not s.executable) (not (is_nobits s)) (and_parts ((s.loaded && not s.executable) && not (is_nobits s)) (not s.writable) e).0 in
     let front = and_parts s.loaded (not s.executable) three.0 in
-    (front.0, not_true s.executable front.1, not_true s.nobits three.1)
+    (front.0, not_true s.executable front.1, not_true (is_nobits s) three.1)
 
 -- ---- identities of rows
 
@@ -262,13 +271,13 @@ module _ (sources : List (List Statement)) (os : List Object) (text_start : ℕ)
   In goes P s = goes s.located.home ≡ true → P s
 
   one_of_four : (s : SourceSection) → s.loaded ≡ true → (X : Type 0) → (goes_to_text s ≡ true → X) → (goes_to_rodata s ≡ true → X) → (goes_to_data s ≡ true → X) → (goes_to_bss s ≡ true → X) → X
-  one_of_four s loaded X f g d b = go s.executable s.nobits s.writable refl refl refl
+  one_of_four s loaded X f g d b = go s.executable (is_nobits s) s.writable refl refl refl
     where
-      whole : (e n w : Bool) → s.executable ≡ e → s.nobits ≡ n → s.writable ≡ w → (r : Bool → Bool → Bool → Bool → Bool) → r s.loaded s.executable s.nobits s.writable ≡ r true e n w
+      whole : (e n w : Bool) → s.executable ≡ e → is_nobits s ≡ n → s.writable ≡ w → (r : Bool → Bool → Bool → Bool → Bool) → r s.loaded s.executable (is_nobits s) s.writable ≡ r true e n w
       whole e n w x y z r =
-          ap (λ a. r a s.executable s.nobits s.writable) loaded ∙ ap (λ a. r true a s.nobits s.writable) x ∙ ap (λ a. r true e a s.writable) y ∙ ap (λ a. r true e n a) z
+          ap (λ a. r a s.executable (is_nobits s) s.writable) loaded ∙ ap (λ a. r true a (is_nobits s) s.writable) x ∙ ap (λ a. r true e a s.writable) y ∙ ap (λ a. r true e n a) z
 
-      go : (e n w : Bool) → s.executable ≡ e → s.nobits ≡ n → s.writable ≡ w → X
+      go : (e n w : Bool) → s.executable ≡ e → is_nobits s ≡ n → s.writable ≡ w → X
       go true n w x y z = f (whole true n w x y z (λ a b c d. a && b))
       go false true w x y z = b (whole false true w x y z (λ a b c d. a && not b && c))
       go false false true x y z = d (whole false false true x y z (λ a b c d. a && not b && not c && d))

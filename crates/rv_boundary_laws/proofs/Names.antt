@@ -5,11 +5,11 @@ use Rattle.std.specs.Prelude.{⊤, ◌&&◌, not, if◌then◌else◌, filter, f
 use Rattle.std.specs.List.{list_any}
 use Rattle.rv_text_laws.specs.Values.{Meaning, Known, InSection as InData, Open as OpenAddress, Refused}
 use Rattle.rv_statement.specs.Statement.{StatementKind, Label, Numbered, Instruction, Directs, Statement, Enters, Sets}
+use Rattle.rv_unit_laws.specs.Bindings.{is_global}
 use Rattle.rv_unit_laws.specs.Tables.{Tables, Assignment, tables, assigned_ever}
 use Rattle.rv_map.specs.Map.{Map}
 use Rattle.rv_source_laws.specs.Program.{MaybeMapped, Program, program, tables_in}
-use Rattle.rv_source_laws.specs.Resolves as source
-use Rattle.rv_source_laws.specs.Resolves.{Resolves, is_global_after, defined_name, is_one_of}
+use Rattle.rv_source_laws.specs.Resolves.{defined_name, global_names_of}
 use Rattle.rv_object.specs.declared.symbol.Definition.{Definition as Defined}
 use Rattle.rv_object.specs.declared.symbol.Definition.TheVariants.{Undefined, InSection}
 use Rattle.rv_object.specs.Object.{Symbol, Object}
@@ -57,14 +57,14 @@ none_unnamed : (b : Bool) (section offset : ℕ) → filter is_exported (if b th
 none_unnamed true section offset = refl
 none_unnamed false section offset = refl
 
-locals_none : (ss : List Statement) (t : Tables) (sites before rest : List Site) → filter is_exported (local_symbols ss t sites before rest) ≡ []
-locals_none ss t sites before [] = refl
-locals_none ss t sites before (s ∷ rest) =
-    none_of (unnamed_symbols t (references t sites) before s) (named_symbols ss t sites s ++ local_symbols ss t sites (before ++ s ∷ []) rest)
+locals_none : (t : Tables) (sites before rest : List Site) → filter is_exported (local_symbols t sites before rest) ≡ []
+locals_none t sites before [] = refl
+locals_none t sites before (s ∷ rest) =
+    none_of (unnamed_symbols t (references t sites) before s) (named_symbols t sites s ++ local_symbols t sites (before ++ s ∷ []) rest)
     (none_unnamed (is_meant t (references t sites) s && not (list_any (λ q. are_together s q && is_meant t (references t sites) q) before)) s.located.section s.offset)
-    (none_of (named_symbols ss t sites s) (local_symbols ss t sites (before ++ s ∷ []) rest)
-    (none_local (λ name. site_definition t sites s s.located.kind) (λ x. not (is_absolute x)) (filter (λ name. not (is_global_after false ss name)) (defined_name t s.located.ordinal s.located.kind)))
-    (locals_none ss t sites (before ++ s ∷ []) rest))
+    (none_of (named_symbols t sites s) (local_symbols t sites (before ++ s ∷ []) rest)
+    (none_local (λ name. site_definition t sites s s.located.kind) (λ x. not (is_absolute x)) (filter (λ name. not (is_global (t.bindings name))) (defined_name t s.located.ordinal s.located.kind)))
+    (locals_none t sites (before ++ s ∷ []) rest))
 
 undefined_none : (names : List (List ℕ)) → filter is_exported (map (λ name. global_symbol name Undefined) names) ≡ []
 undefined_none [] = refl
@@ -98,23 +98,23 @@ site_defined t sites s (Label name) = refl
 site_defined t sites s (Numbered number) = refl
 site_defined t sites s (Instruction mnemonic operands) = refl
 
-exports_kept : (ss : List Statement) (t : Tables) (sites rest : List Site) → filter is_exported (flat_map (exports_of ss t sites) rest) ≡ flat_map (exports_of ss t sites) rest
-exports_kept ss t sites [] = refl
-exports_kept ss t sites (s ∷ rest) =
-    filter_join (exports_of ss t sites s) (flat_map (exports_of ss t sites) rest)
-    ∙ ap (λ l. l ++ filter is_exported (flat_map (exports_of ss t sites) rest))
-    (all_kept (site_definition t sites s s.located.kind) (site_defined t sites s s.located.kind) (filter (λ name. is_global_after false ss name) (defined_name t s.located.ordinal s.located.kind)))
-    ∙ ap (λ l. exports_of ss t sites s ++ l) (exports_kept ss t sites rest)
+exports_kept : (t : Tables) (sites rest : List Site) → filter is_exported (flat_map (exports_of t sites) rest) ≡ flat_map (exports_of t sites) rest
+exports_kept t sites [] = refl
+exports_kept t sites (s ∷ rest) =
+    filter_join (exports_of t sites s) (flat_map (exports_of t sites) rest)
+    ∙ ap (λ l. l ++ filter is_exported (flat_map (exports_of t sites) rest))
+    (all_kept (site_definition t sites s s.located.kind) (site_defined t sites s s.located.kind) (global_names_of t s.located))
+    ∙ ap (λ l. exports_of t sites s ++ l) (exports_kept t sites rest)
 
-pub exported_are : (ss : List Statement) (o : Object) (is : IsObjectOf ss o) → exported o ≡ exports ss (tables ss) is.sites
+pub exported_are : (ss : List Statement) (o : Object) (is : IsObjectOf ss o) → exported o ≡ exports (tables ss) is.sites
 exported_are ss o is =
     let t = tables ss in
-    let own = exports ss t is.sites in
+    let own = exports t is.sites in
     ap (filter is_exported) is.symbols
-    ∙ filter_join (local_symbols ss t is.sites [] is.sites) (own ++ undefined_symbols t is.sites)
-    ∙ ap (λ l. l ++ filter is_exported (own ++ undefined_symbols t is.sites)) (locals_none ss t is.sites [] is.sites)
+    ∙ filter_join (local_symbols t is.sites [] is.sites) (own ++ undefined_symbols t is.sites)
+    ∙ ap (λ l. l ++ filter is_exported (own ++ undefined_symbols t is.sites)) (locals_none t is.sites [] is.sites)
     ∙ filter_join own (undefined_symbols t is.sites)
-    ∙ ap (λ l. l ++ filter is_exported (undefined_symbols t is.sites)) (exports_kept ss t is.sites is.sites)
+    ∙ ap (λ l. l ++ filter is_exported (undefined_symbols t is.sites)) (exports_kept t is.sites is.sites)
     ∙ ap (λ l. own ++ l) (undefined_none (distinct_from [] (flat_map (λ r. missing_name t r.ordinal r.symbol) (references t is.sites))))
     ∙ append_nil own
 
@@ -148,30 +148,28 @@ module _ (sources : List (List Statement)) (m : Map) (starts : Starts) where
   p = program sources m
 
   abbrev names_at : MaybeMapped → List (List ℕ)
-  names_at e = source.global_names_of sources (tables_in p e.located.file) e.located
+  names_at e = global_names_of (tables_in p e.located.file) e.located
 
   -- the names of a statement
-  pub site_names : (file : ℕ) (ss : List Statement) → slice_index_or sources (file - 1) [] ≡ ss → tables_in p file ≡ tables ss → (s : Site)
-      → names_at (statement_at starts file s) ≡ filter (λ name. is_global_after false ss name) (defined_name (tables ss) s.located.ordinal s.located.kind)
-  site_names file ss nth same s =
-      ap (λ x. filter (λ name. is_global_after false x name) (defined_name (tables_in p file) s.located.ordinal s.located.kind)) nth
-      ∙ ap (λ t. filter (λ name. is_global_after false ss name) (defined_name t s.located.ordinal s.located.kind)) same
+  pub site_names : (file : ℕ) (ss : List Statement) → tables_in p file ≡ tables ss → (s : Site)
+      → names_at (statement_at starts file s) ≡ global_names_of (tables ss) s.located
+  site_names file ss same s = ap (λ t. global_names_of t s.located) same
 
-  file_names : (file : ℕ) (ss : List Statement) → slice_index_or sources (file - 1) [] ≡ ss → tables_in p file ≡ tables ss → (sites rest : List Site)
-      → flat_map names_at (map (statement_at starts file) rest) ≡ map (λ s. s.name) (flat_map (exports_of ss (tables ss) sites) rest)
-  file_names file ss nth same sites [] = refl
-  file_names file ss nth same sites (s ∷ rest) =
-      let names = filter (λ name. is_global_after false ss name) (defined_name (tables ss) s.located.ordinal s.located.kind) in
-      ap (λ l. l ++ flat_map names_at (map (statement_at starts file) rest)) (site_names file ss nth same s ∙ sym (names_kept (site_definition (tables ss) sites s s.located.kind) names))
-      ∙ ap (λ l. map (λ s. s.name) (exports_of ss (tables ss) sites s) ++ l) (file_names file ss nth same sites rest)
-      ∙ sym (map_join (exports_of ss (tables ss) sites s) (flat_map (exports_of ss (tables ss) sites) rest))
+  file_names : (file : ℕ) (ss : List Statement) → tables_in p file ≡ tables ss → (sites rest : List Site)
+      → flat_map names_at (map (statement_at starts file) rest) ≡ map (λ s. s.name) (flat_map (exports_of (tables ss) sites) rest)
+  file_names file ss same sites [] = refl
+  file_names file ss same sites (s ∷ rest) =
+      let names = global_names_of (tables ss) s.located in
+      ap (λ l. l ++ flat_map names_at (map (statement_at starts file) rest)) (site_names file ss same s ∙ sym (names_kept (site_definition (tables ss) sites s s.located.kind) names))
+      ∙ ap (λ l. map (λ s. s.name) (exports_of (tables ss) sites s) ++ l) (file_names file ss same sites rest)
+      ∙ sym (map_join (exports_of (tables ss) sites s) (flat_map (exports_of (tables ss) sites) rest))
 
-  pub names_are : (file : ℕ) (srcs : List (List Statement)) (os : List Object) (h : AreObjectsOf srcs os) → AreFiles p starts file srcs os h → AreNth sources file srcs
+  pub names_are : (file : ℕ) (srcs : List (List Statement)) (os : List Object) (h : AreObjectsOf srcs os) → AreFiles p starts file srcs os h
       → flat_map names_at (all_statements starts file srcs os h) ≡ objects.global_names os
-  names_are file [] [] h f n = refl
-  names_are file [] (o ∷ os) h f n = absurd h
-  names_are file (ss ∷ srcs) [] h f n = absurd h
-  names_are file (ss ∷ srcs) (o ∷ os) (is, h) (f, fs) (n, ns) =
+  names_are file [] [] h f = refl
+  names_are file [] (o ∷ os) h f = absurd h
+  names_are file (ss ∷ srcs) [] h f = absurd h
+  names_are file (ss ∷ srcs) (o ∷ os) (is, h) (f, fs) =
       flat_join names_at (map (statement_at starts file) is.sites) (all_statements starts (suc file) srcs os h)
-      ∙ ap (λ l. l ++ flat_map names_at (all_statements starts (suc file) srcs os h)) (file_names file ss n f.tables is.sites is.sites ∙ ap (map (λ s. s.name)) (sym (exported_are ss o is)))
-      ∙ ap (λ l. map (λ s. s.name) (exported o) ++ l) (names_are (suc file) srcs os h fs ns)
+      ∙ ap (λ l. l ++ flat_map names_at (all_statements starts (suc file) srcs os h)) (file_names file ss f.tables is.sites is.sites ∙ ap (map (λ s. s.name)) (sym (exported_are ss o is)))
+      ∙ ap (λ l. map (λ s. s.name) (exported o) ++ l) (names_are (suc file) srcs os h fs)

@@ -155,9 +155,9 @@ module _ (p : Program) (os : List Object) (starts : Starts) (file : ℕ) (sites 
         let suit = suits_by z file x.alignment (starts file l.section) (row_in starts file z) v (has_values p m) l.kind refl refl refl
         (λ e al h. multiple e al h) (λ width es k. values width es k) (here.kind placed) size in
         record {
-          sized = fits p file l.ordinal l.section l.offset l.line l.home l.placed (row_in starts file z) z.offset (starts file l.section) l.kind suit;
-          coded = λ e. is_written p file l.ordinal l.section l.offset l.line l.home l.placed (row_in starts file z) z.offset (starts file l.section) l.kind suit held e;
-          code = λ e. coded p file l.ordinal l.section l.offset l.line l.home l.placed (row_in starts file z) z.offset (starts file l.section) l.kind suit held e
+          sized = fits p file l.ordinal l.section l.offset l.line l.options l.home l.placed (row_in starts file z) z.offset (starts file l.section) l.kind suit;
+          coded = λ e. is_written p file l.ordinal l.section l.offset l.line l.options l.home l.placed (row_in starts file z) z.offset (starts file l.section) l.kind suit held e;
+          code = λ e. coded p file l.ordinal l.section l.offset l.line l.options l.home l.placed (row_in starts file z) z.offset (starts file l.section) l.kind suit held e
               ∙ coded_by p file z x.alignment v l.kind held e size;
           figures = λ e. spelled_by p file starts z x.alignment l.kind held e size;
         }

@@ -3,6 +3,8 @@
 use Rattle.std.proofs.Common.{◌≡◌, ℕ, suc, ◌+◌, ◌-◌, ◌%◌, ◌≤◌, Bool, true, false, List, [], ◌∷◌, ◌++◌, length, refl, sym, ap, ◌∙◌, subst, arith, map, max, Some}
 use Rattle.std.specs.Prelude.{⊤, ◌&&◌, nat_lt, if◌then◌else◌, flat_map, option_and_then, slice_index_or}
 use Rattle.std.specs.List.{AllByRecursion, slice_get}
+use Rattle.rv_unit_laws.specs.declared.section_type.SectionType.{SectionType}
+use Rattle.rv_unit_laws.specs.declared.section_type.SectionType.TheVariants as types
 use Rattle.rv_unit_laws.specs.Sections.{Section as SourceSection}
 use Rattle.rv_unit_laws.specs.Tables.{Tables, aligned}
 use Rattle.rv_map.specs.declared.map.Region.{Region}
@@ -105,9 +107,10 @@ module _ (p : Program) (all : List Object) (starts : Starts) (spells : Mapped �
   both Q R S [] f h k = tt
   both Q R S (z ∷ zs) f (h, hs) (k, ks) = (f z h k, both Q R S zs f hs ks)
 
-  stored_size : (nobits : Bool) (count : ℕ) (bytes : List ℕ) → count ≡ length bytes → size_of (contents_of nobits count bytes) ≡ count
-  stored_size true count bytes e = refl
-  stored_size false count bytes e = sym e
+  stored_size : (kind : SectionType) (count : ℕ) (bytes : List ℕ) → count ≡ length bytes → size_of (contents_of kind count bytes) ≡ count
+  stored_size types.Progbits count bytes e = sym e
+  stored_size types.Note count bytes e = sym e
+  stored_size types.Nobits count bytes e = refl
 
   module _ (goes : Section → Bool) (goes_source : SourceSection → Bool)
       (loads : (s : SourceSection) → goes_source s ≡ true → s.loaded ≡ true)
@@ -155,7 +158,7 @@ module _ (p : Program) (all : List Object) (starts : Starts) (spells : Mapped �
             low = λ e.
                 let code = codes e s goes_there in
                 ap (λ b. max (if b then 2 else 1) (slice_index_or t.alignments index 1)) code ∙ ap (λ n. max 2 n) (sym is.alignment) ∙ most x.alignment (is.low code);
-            count = still x none (starts file index) (size_of x.contents) ∙ ap size_of is.contents ∙ stored_size s.nobits (sites_end 0 own) (flat_map part_bytes (parts t own)) count_is
+            count = still x none (starts file index) (size_of x.contents) ∙ ap size_of is.contents ∙ stored_size s.section_type (sites_end 0 own) (flat_map part_bytes (parts t own)) count_is
                 ∙ sym rows_count ∙ plus_zero (source.size (map (λ s. s.row) (mapped_from starts file own))) ∙ ap (λ l. source.size (map (λ s. s.row) l)) (sym (mapped index));
             bytes = λ stop starts_at e.
                 bytes_linked p all starts file sites number o sections low are settled plain address index s x is at none loaded relocated (holds t sites number o index s x is goes_there e)

@@ -25,6 +25,7 @@ renumbered file s = record {
   section = s.section;
   offset = s.offset;
   home = s.home;
+  options = s.options;
   line = s.line;
   kind = s.kind;
   placed = s.placed;

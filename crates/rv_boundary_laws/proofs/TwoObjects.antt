@@ -108,7 +108,25 @@ second_is = record {
         fields = (tt, (tt, (inl refl, tt)));
         low = λ e. absurd (cc);
       },
-      tt,
+      (
+        record {
+          name = refl;
+          loaded = refl;
+          executable = refl;
+          writable = refl;
+          alignment = refl;
+          some = omega arith;
+          code = λ e f. absurd (cc);
+          tile = (refl, refl, (refl, refl, tt));
+          contents = refl;
+          relocations = refl;
+          numbered = λ e. absurd (cc);
+          sizes = ((λ e. (refl, refl)), ((λ e. (refl, refl)), tt));
+          fields = (tt, tt);
+          low = λ e. absurd (cc);
+        },
+        tt,
+      ),
     ),
   );
   symbols = refl;

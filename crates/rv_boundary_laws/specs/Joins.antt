@@ -1,7 +1,8 @@
 -- What joins the contracts of the assembler and the linker.
 
-use Rattle.std.specs.Prelude.{ℕ, ⊤, List, [], ◌∷◌}
+use Rattle.std.specs.Prelude.{◌≡◌, ℕ, ⊤, List, [], ◌∷◌}
 use Rattle.rv_statement.specs.Statement.{Statement}
+use Rattle.rv_source_laws.specs.Compressed.{is_compressed}
 use Rattle.rv_image.specs.Linked.{Linked}
 use Rattle.rv_chain_laws.specs.Contents.{IsLinked}
 use Rattle.rv_object.specs.Object.{Object}
@@ -20,3 +21,9 @@ abbrev pub Joins : Type 0
 Joins =
     (sources : List (List Statement)) (os : List Object) (text_start : ℕ) (l : Linked)
     → AreObjectsOf sources os → IsLinkOf os text_start l → IsLinked sources text_start l
+
+-- and their program is flagged as compressed code where the sources have some
+abbrev pub IsFlagged : Type 0
+IsFlagged =
+    (sources : List (List Statement)) (os : List Object) (text_start : ℕ) (l : Linked)
+    → AreObjectsOf sources os → IsLinkOf os text_start l → l.rvc ≡ is_compressed sources

@@ -1,4 +1,4 @@
--- Two files, worked by hand: references across them, and a local name that both have.
+-- Two files, worked by hand: references across them, a local name that both have, and a section of notes.
 
 use Rattle.std.specs.Prelude.{ℕ, zero, suc, pos, true, false, List, [], ◌∷◌, Some, codes, bytes_eq, if◌then◌else◌}
 use Rattle.rv_isa.specs.declared.kind.Kind.{Kind}
@@ -8,7 +8,7 @@ use Rattle.rv_text_laws.specs.Expression.{Primary, Literal, Symbol as Named, Her
 use Rattle.rv_statement.specs.declared.directive.Choice.TheVariants.{Norvc}
 use Rattle.rv_statement.specs.declared.directive.Standard.TheVariants.{Data}
 use Rattle.rv_statement.specs.declared.mnemonic.Mnemonic.TheVariants.{Ecall}
-use Rattle.rv_statement.specs.Statement.{StatementKind, Label, Instruction, Directs, Statement, Expression, Enters, Globl, Sets, Chooses, Values}
+use Rattle.rv_statement.specs.Statement.{StatementKind, Label, Instruction, Directs, Statement, Expression, Enters, Opens, Globl, Sets, Chooses, Values}
 use Rattle.rv_unit_laws.specs.Tables.{at_start}
 use Rattle.rv_source_laws.specs.Located.{Located, located_from}
 use Rattle.rv_map.specs.Map.{Map, Global as Shown}
@@ -20,7 +20,7 @@ use Rattle.rv_object.specs.declared.symbol.Binding.{Binding}
 use Rattle.rv_object.specs.declared.symbol.Binding.TheVariants.{Local, Global}
 use Rattle.rv_object.specs.declared.symbol.Definition.{Definition}
 use Rattle.rv_object.specs.declared.symbol.Definition.TheVariants.{Undefined, Absolute, InSection}
-use Rattle.rv_object.specs.Object.{Progbits, Relocation, Section, Symbol, Object}
+use Rattle.rv_object.specs.Object.{Progbits, Note, Relocation, Section, Symbol, Object}
 use Rattle.rv_assemble_laws.specs.Sites.{Site}
 
 abbrev said : ℕ → StatementKind → Statement
@@ -59,6 +59,8 @@ first_source =
 --     f: .byte 8
 --     g: .word v
 --     .set c, 5
+--     .section .note.tool, "", @note
+--     .byte 9
 abbrev pub second_source : List Statement
 second_source =
     said 1 (Directs (Globl (codes "f" ∷ codes "g" ∷ codes "c" ∷ [])))
@@ -70,6 +72,8 @@ second_source =
     ∷ said 5 (Label (codes "g"))
     ∷ said 5 (Directs (Values 4 (name (codes "v") ∷ [])))
     ∷ said 6 (Directs (Sets (codes "c") (Leaf (Literal 5))))
+    ∷ said 7 (Directs (Opens (codes ".note.tool") (Some []) (Some (codes "note"))))
+    ∷ said 8 (Directs (Values 1 (Leaf (Literal 9) ∷ [])))
     ∷ []
 
 -- ---- the objects
@@ -94,6 +98,18 @@ variables bytes relocations = record {
   contents = Progbits bytes;
   alignment = 1;
   relocations = relocations;
+}
+
+-- a section of notes has no place in memory
+abbrev notes : List ℕ → Section
+notes bytes = record {
+  name = codes ".note.tool";
+  loaded = false;
+  executable = false;
+  writable = false;
+  contents = Note bytes;
+  alignment = 1;
+  relocations = [];
 }
 
 abbrev relocation : ℕ → Kind → ℕ → ℕ → Relocation
@@ -137,7 +153,10 @@ first_object = record {
 
 abbrev pub second_object : Object
 second_object = record {
-  sections = text [] ∷ variables (7 ∷ 8 ∷ 0 ∷ 0 ∷ 0 ∷ 0 ∷ []) (relocation 2 Abs32 0 0 ∷ []) ∷ [];
+  sections = text []
+      ∷ variables (7 ∷ 8 ∷ 0 ∷ 0 ∷ 0 ∷ 0 ∷ []) (relocation 2 Abs32 0 0 ∷ [])
+      ∷ notes (9 ∷ [])
+      ∷ [];
   symbols = symbol (codes "v") Local (InSection 1 0)
       ∷ symbol (codes "f") Global (InSection 1 1)
       ∷ symbol (codes "g") Global (InSection 1 2)
@@ -228,7 +247,7 @@ abbrev pub second_sites : List Site
 second_sites =
     sites_of (located_from 1 1 at_start second_source)
     (size 0 0 0 ∷ size 0 0 0 ∷ size 0 0 0 ∷ size 0 1 0 ∷ size 1 0 0 ∷ size 1 1 0 ∷ size 2 0 0 ∷
-    size 2 4 0 ∷ size 6 0 0 ∷ [])
+    size 2 4 0 ∷ size 6 0 0 ∷ size 0 0 0 ∷ size 0 1 0 ∷ [])
 
 abbrev pub first_number : ℕ → Primary → ℕ
 first_number ordinal (Named n) =

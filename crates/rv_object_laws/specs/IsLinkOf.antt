@@ -1,9 +1,9 @@
 -- The linked program of objects, whoever made them (gABI, "Sections", "Symbol Table", "Relocation"; GNU ld; this project's
 -- layout). Nothing here knows of statements.
 
-use Rattle.std.specs.Prelude.{◌≡◌, ℕ, suc, ◌+◌, ◌-◌, ◌%◌, ◌≤◌, ◌^◌, Bool, IsTrue, List, [], ◌∷◌, ◌++◌, map, Option, Some, None}
+use Rattle.std.specs.Prelude.{◌≡◌, ℕ, suc, ◌+◌, ◌-◌, ◌%◌, ◌≤◌, Bool, IsTrue, List, [], ◌∷◌, ◌++◌, map, Option, Some, None}
 use Rattle.std.specs.List.{AllByRecursion, list_any, list_all, slice_get}
-use Rattle.rv_isa_laws.specs.Platform.{stack_start}
+use Rattle.rv_isa_laws.specs.Platform.{stack_start, memory_limit}
 use Rattle.rv_map.specs.declared.map.Row.{Row as MapRow}
 use Rattle.rv_map.specs.Limits.{IsMap}
 use Rattle.rv_image.specs.Linked.{Linked}
@@ -44,10 +44,6 @@ rows_of starts file (o ∷ os) = map (row_in starts file o) o.rows ++ rows_of st
 
 abbrev pub is_loaded : Section → Bool
 is_loaded s = s.loaded
-
--- the most bytes that a program takes of memory
-abbrev pub memory_limit : ℕ
-memory_limit = 2 ^ 28
 
 pub record IsLinkOf (os : List Object) (text_start : ℕ) (l : Linked) : Type 0 where
   -- the text begins at a page
