@@ -58,8 +58,7 @@ impl<'a> Cursor<'a> {
         }
     }
 
-    /// Takes the next token, which is not the last. It stands alone, so that the token is made in its place.
-    #[inline(never)]
+    /// Takes the next token, which is not the last.
     #[tactic(auto, unfolding(crate::specs::Cursor::left))]
     pub fn advance(&mut self)
         requires { is_last (kind_of self.old.next.kind) ≡ false }

@@ -42,7 +42,6 @@ impl<'a> Lexer<'a> {
     }
 
     /// The next token. After the last one (the end, a bad byte or a bad token) it comes again.
-    #[inline(always)]
     pub fn next(&mut self) -> Token<'a>
         ensures first { tokens_left self.old
             ≡ token_of result ∷
