@@ -5,6 +5,9 @@ use Rattle.std.specs.Prelude.{ℕ, ℤ, pos, negsuc, unwrap_or, ◌+◌, ◌%◌
 use Rattle.std.specs.List.{list_all, list_any, slice_get}
 use Rattle.rv_isa.specs.declared.kind.Kind.{Kind}
 use Rattle.rv_isa.specs.declared.kind.Kind.TheVariants as kinds
+use Rattle.rv_map.specs.Name.{is_name}
+use Rattle.rv_object.specs.declared.symbol.Binding.{Binding}
+use Rattle.rv_object.specs.declared.symbol.Binding.TheVariants as bindings
 use Rattle.rv_object.specs.declared.symbol.Definition.{Definition}
 use Rattle.rv_object.specs.declared.symbol.Definition.TheVariants as definitions
 use Rattle.rv_object.specs.declared.row.Row.{Row}
@@ -76,6 +79,13 @@ are_all_apart (r ∷ rs) = list_all (are_apart r) rs && are_all_apart rs
 abbrev pub are_paddings : Bool → Contents → List Relocation → Bool
 are_paddings executable c rs =
     list_all (is_padding executable c) rs && (not executable || are_all_apart rs)
+
+-- ---- names
+
+-- a name that every object may use has one byte or more, each 21h to 7Eh
+abbrev pub is_shown : Binding → List ℕ → Bool
+is_shown bindings.Local name = true
+is_shown bindings.Global name = is_name name
 
 -- ---- indices
 

@@ -1,5 +1,8 @@
 //! Symbols of an object.
 
+ghost use Rattle.std.specs.Prelude.{IsTrue};
+ghost use Rattle.rv_object.specs.Valid.{is_shown};
+
 /// Who may name a symbol (gABI, "Symbol Table", st_info).
 #[derive(Clone, Copy, Debug, PartialEq, Eq, Drop)]
 pub enum Binding {
@@ -31,4 +34,6 @@ pub struct Symbol {
     pub binding: Binding,
     /// What it is.
     pub definition: Definition,
+    /// A name that every object may use is one that a map can show.
+    pub ghost shown: { IsTrue (is_shown binding name.items) },
 }
