@@ -8,7 +8,8 @@ use Rattle.rv_statement.specs.Statement.{Operand, Word, Statement as SpecStateme
 use Rattle.rv_statement.specs.View.{statement_kind, statement_of}
 use Rattle.rv_statement.specs.declared.statement.Statement.{Statement}
 use Rattle.rv_parse_laws.specs.Syntax.{A_section, A_comma}
-use Rattle.rv_parse_laws.specs.Opening.{is_section, opens}
+use Rattle.rv_parse_laws.specs.Opening.{opens}
+use Rattle.rv_parse_laws.specs.WrongOpening.{is_section}
 use Rattle.rv_parse_laws.specs.Parsing.{operand_at, seen_as, section_at, flags_wrong, named_wrong}
 use Rattle.rv_parse.specs.Opened.{NameSet, Has, is_had, Knows}
 

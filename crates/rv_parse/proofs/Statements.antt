@@ -7,7 +7,7 @@ use Rattle.rv_statement.specs.Statement.{Statement as SpecStatement}
 use Rattle.rv_parse_laws.specs.Syntax.{Says, is_end, is_source_end}
 use Rattle.rv_parse_laws.specs.Opening.{is_opened}
 use Rattle.rv_parse_laws.specs.Parsing.{statement_at, part_at, checked_at}
-use Rattle.rv_parse_laws.specs.Reading.{SaysUpTo}
+use Rattle.rv_parse_laws.specs.Refusals.{SaysUpTo}
 use Rattle.rv_parse_laws.proofs.Progress.{push_end, push_statement, source_end_is_end}
 use Rattle.rv_statement.specs.declared.statement.Statement.{Statement}
 use Rattle.rv_statement.specs.declared.statement.StatementKind.{StatementKind}

@@ -5,7 +5,8 @@ ghost use Rattle.std.specs.Prelude.{◌≡◌, ℕ, List, [], Bool, ◌||◌, op
 ghost use Rattle.rv_lexer.specs.Cursor.{left, syntax_error_of};
 ghost use Rattle.rv_statement.specs.Statement.{Statement};
 ghost use Rattle.rv_statement.specs.View.{statement_kind};
-ghost use Rattle.rv_parse_laws.specs.Opening.{opens, is_opened, flags_fault, type_fault};
+ghost use Rattle.rv_parse_laws.specs.Opening.{opens, is_opened};
+ghost use Rattle.rv_parse_laws.specs.WrongOpening.{flags_fault, type_fault};
 ghost use Rattle.rv_parse_laws.specs.Parsing.{front_fault, type_wrong, flags_wrong, opening_at};
 ghost use Rattle.rv_parse.specs.Opened.{Has, Knows};
 

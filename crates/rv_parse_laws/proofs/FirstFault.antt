@@ -7,12 +7,15 @@ use Rattle.rv_text_laws.proofs.Cut.{unique, nothing_none}
 use Rattle.rv_text_laws.proofs.Tokens.{one_list}
 use Rattle.rv_statement.specs.Statement.{Statement}
 use Rattle.rv_parse_laws.specs.Syntax.{Part, IsPart, StopsPart, is_end}
-use Rattle.rv_parse_laws.specs.Opening.{is_opened, IsWrongOpening}
+use Rattle.rv_parse_laws.specs.Opening.{is_opened}
+use Rattle.rv_parse_laws.specs.WrongOpening.{IsWrongOpening}
 use Rattle.rv_parse_laws.specs.Parsing.{part_at, opening_at, checked_at}
 use Rattle.rv_text_laws.specs.Codes.{limit}
 use Rattle.rv_text_laws.specs.SyntaxError.{SyntaxError, wrong, offset_of}
-use Rattle.rv_parse_laws.specs.Reading.{AreParts, Reads, said, IsPastLine, longest_source, most_statements, OpensWell, AllOpenWell}
-use Rattle.rv_parse_laws.specs.Refusals.{CanGoOn, WrongToken, WrongOpening, PastStatements, Stands, Fault, Refuses}
+use Rattle.rv_parse_laws.specs.Reading.{AreParts, Reads, said, IsPastLine, longest_source, most_statements}
+use Rattle.rv_parse_laws.specs.Opening.{OpenWell}
+use Rattle.rv_parse_laws.proofs.OpenedWell.{all_open_well}
+use Rattle.rv_parse_laws.specs.Refusals.{OpensWell, AllOpenWell, CanGoOn, WrongToken, WrongOpening, PastStatements, Stands, Fault, Refuses}
 use Rattle.rv_parse_laws.specs.Wrong.{IsWrongStatement}
 use Rattle.rv_parse_laws.proofs.WrongStatements.{statement_wrongs, statement_said}
 use Rattle.rv_parse_laws.proofs.WrongPlaces.{statement_occurs}
@@ -488,11 +491,11 @@ one_fault bytes f g (inr (short, x)) (inr (short', y)) =
 
 -- no source is both read and refused
 pub not_both : (bytes : List ℕ) (ss : List Statement) (f : Fault) → Reads bytes ss → Refuses bytes f → ⊥
-not_both bytes ss f (short, lines, few, ts, ps, lexes, cut, opens, is) (inl (long, e)) = omega (arith, long, short)
-not_both bytes ss f (short, lines, few, ts, ps, lexes, cut, opens, is) (inr (short', x)) = go x.stands
+not_both bytes ss f (short, lines, few, ts, ps, lexes, cut, is, opens) (inl (long, e)) = omega (arith, long, short)
+not_both bytes ss f (short, lines, few, ts, ps, lexes, cut, is, opens) (inr (short', x)) = go x.stands
   where
     good : (p c : ℕ) → InTokens bytes p c → ⊥
-    good = all_good bytes ts ps lexes cut opens (subst (λ (xs : List Statement). length xs ≤ most_statements) is few)
+    good = all_good bytes ts ps lexes cut (all_open_well [] ps [] cut.each (subst (OpenWell []) is opens)) (subst (λ (xs : List Statement). length xs ≤ most_statements) is few)
 
     go : Stands bytes x.place f.code → ⊥
     go (inl y) = good x.place f.code (inl (inl y))

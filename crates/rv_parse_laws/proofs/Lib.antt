@@ -13,6 +13,8 @@ pub mod InPlaces
 pub mod Parts
 pub mod Registers
 pub mod Openings
+pub mod GoodOpenings
+pub mod OpenedWell
 pub mod Whole
 pub mod Progress
 pub mod Cutting

@@ -12,10 +12,11 @@ use Rattle.rv_statement.specs.declared.directive.DirectiveWord.TheVariants as wo
 use Rattle.rv_statement.specs.Statement.{Operand, Word, Quoted, Directs, Statement}
 use Rattle.rv_parse_laws.specs.Words.{beginning, mnemonic_named, directive_named, instruction_words, atomic_operations, atomic_forms, directive_words}
 use Rattle.rv_parse_laws.specs.Syntax.{begins, is_comma, is_at, is_end, is_section_name, A_section, Some_flags, At_sign, A_comma, single, places, directed, colon_next, AreOperands, Part, Says, IsPart}
-use Rattle.rv_parse_laws.specs.Opening.{flags_fault, type_fault, is_text, is_section, is_opened, IsNamed, WrongFlags, WrongType, IsWrongOpening}
+use Rattle.rv_parse_laws.specs.Opening.{is_opened}
+use Rattle.rv_parse_laws.specs.WrongOpening.{flags_fault, type_fault, is_text, is_section, IsNamed, WrongFlags, WrongType, IsWrongOpening}
 use Rattle.rv_parse_laws.specs.Parsing.{part_at, section_at, single_at, front_fault, behind_read, or_else, type_wrong, flags_wrong, named_wrong, opening_at, unless, checked_at}
-use Rattle.rv_parse_laws.specs.Reading.{AreParts, told, said, OpensWell, AllOpenWell}
-use Rattle.rv_parse_laws.specs.Refusals.{CanGoOn}
+use Rattle.rv_parse_laws.specs.Reading.{AreParts, told, said}
+use Rattle.rv_parse_laws.specs.Refusals.{OpensWell, AllOpenWell, CanGoOn}
 use Rattle.rv_parse_laws.proofs.Singles.{some_token, single_found}
 use Rattle.rv_parse_laws.proofs.Sections.{section_is, section_found}
 use Rattle.rv_parse_laws.specs.declared.beginning.Beginning.TheVariants as beginnings
@@ -24,7 +25,7 @@ section_begins : beginning (codes ".section") ≡ beginnings.Directive words.Sec
 unfolding beginning mnemonic_named directive_named instruction_words atomic_operations atomic_forms directive_words
 section_begins = refl
 
-section_word : (k : Kind) → is_section k ≡ true → begins k ≡ beginnings.Directive words.Section
+pub section_word : (k : Kind) → is_section k ≡ true → begins k ≡ beginnings.Directive words.Section
 section_word (NameToken word) h = let same : word ≡ codes ".section" = (bytes_eq-Decides word (codes ".section")).0 h in rw same section_begins
 section_word _ h = absurd (cc)
 

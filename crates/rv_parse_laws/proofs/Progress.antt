@@ -8,7 +8,8 @@ use Rattle.rv_statement.specs.Statement.{StatementKind, Statement}
 use Rattle.rv_parse_laws.specs.Syntax.{Part, Ends, Says, IsPart, StopsPart, is_end, is_source_end}
 use Rattle.rv_parse_laws.specs.Opening.{is_opened}
 use Rattle.rv_parse_laws.specs.Parsing.{checked_at}
-use Rattle.rv_parse_laws.specs.Reading.{said, told, SaysUpTo, OpensWell}
+use Rattle.rv_parse_laws.specs.Reading.{said, told}
+use Rattle.rv_parse_laws.specs.Refusals.{SaysUpTo, OpensWell}
 use Rattle.rv_parse_laws.proofs.Parts.{part_found, part_nonempty}
 use Rattle.rv_parse_laws.proofs.Openings.{texts_push, open_push, end_opens, checked_ok}
 

@@ -9,9 +9,12 @@ use Rattle.rv_parse_laws.specs.Syntax.{Part, IsPart, StopsPart}
 use Rattle.rv_parse_laws.specs.Parsing.{part_at}
 use Rattle.rv_text_laws.specs.SyntaxError.{SyntaxError, Read}
 use Rattle.rv_text_laws.proofs.Tokens.{one_list, given}
-use Rattle.rv_parse_laws.specs.Reading.{AreParts, Reads, said, SaysUpTo, IsPastLine, longest_source, most_statements}
+use Rattle.rv_parse_laws.specs.Reading.{AreParts, Reads, said, IsPastLine, longest_source, most_statements}
+use Rattle.rv_parse_laws.specs.Refusals.{SaysUpTo}
 use Rattle.rv_text_laws.specs.Front.{tokens_from}
+use Rattle.rv_parse_laws.specs.Opening.{OpenWell}
 use Rattle.rv_parse_laws.proofs.Parts.{part_is, part_found, part_nonempty}
+use Rattle.rv_parse_laws.proofs.OpenedWell.{said_well}
 
 -- a part and how many tokens it has, of a reading at the front of so many tokens
 abbrev pub counted : ℕ → Read Part → Option (Part × ℕ)
@@ -64,11 +67,12 @@ one_cut ts ps qs c d =
 
 -- bytes have at most one reading
 pub one_reading : (bytes : List ℕ) (ss others : List Statement) → Reads bytes ss → Reads bytes others → ss ≡ others
-one_reading bytes ss others (a, b, c, ts, ps, lexes, cuts, opens, says) (d, e, f, us, qs, lexes', cuts', opens', says') =
+one_reading bytes ss others (a, b, c, ts, ps, lexes, cuts, says, opens) (d, e, f, us, qs, lexes', cuts', says', opens') =
     let same : ts ≡ us = one_list bytes ts us lexes lexes' in
     says ∙ ap said (one_cut us ps qs (subst (λ xs. AreParts xs ps []) same cuts) cuts') ∙ sym says'
 
 -- what the tokens of bytes say within the limits is their reading
 pub reads_as : (bytes : List ℕ) (ts : List Token) (ss : List Statement) → length bytes ≤ longest_source → ((place : ℕ) → IsPastLine bytes place → ⊥) → length ss ≤ most_statements
     → ts ≡ tokens_from 0 1 bytes → SaysUpTo ts [] ss → Reads bytes ss
-reads_as bytes ts ss short lines few is (ps, cuts, opens, says) = (short, lines, few, ts, ps, subst (Lexes bytes) (sym is) (given bytes), cuts, opens, says)
+reads_as bytes ts ss short lines few is (ps, cuts, opens, says) =
+    (short, lines, few, ts, ps, subst (Lexes bytes) (sym is) (given bytes), cuts, says, subst (OpenWell []) (sym says) (said_well [] ps [] cuts.each opens))

@@ -3,6 +3,7 @@ pub mod Syntax
 pub mod Faults
 pub mod Content
 pub mod Opening
+pub mod WrongOpening
 pub mod Parsing
 pub mod Reading
 pub mod Wrong

@@ -1,15 +1,12 @@
 -- The openings of sections: the flags and the type that `.section` gives a name count where the name is new; later ones
 -- are not looked at (GNU as, ".section").
 
-use Rattle.std.specs.Prelude.{◌≡◌, ℕ, Bool, true, false, ◌||◌, List, [], ◌∷◌, ◌++◌, Option, Some, None, codes, ◌⊎◌}
+use Rattle.std.specs.Prelude.{◌≡◌, ℕ, Bool, true, false, not, ◌&&◌, ◌||◌, List, [], ◌∷◌, ◌++◌, Option, Some, None, is_some, codes}
 use Rattle.std.specs.List.{list_any}
 use Rattle.std.specs.Str.{bytes_eq}
-use Rattle.rv_text_laws.specs.Grammar.{Kind, Name as NameToken, Text}
-use Rattle.rv_text_laws.specs.Lexing.{Token}
-use Rattle.rv_text_laws.specs.Joined.{IsJoined}
 use Rattle.rv_statement.specs.Sections.{standard_name}
-use Rattle.rv_statement.specs.Statement.{Word, Quoted, Enters, Opens, StatementKind, Directs, Statement}
-use Rattle.rv_parse_laws.specs.Syntax.{is_comma, is_at, is_section_name, Some_flags, A_type}
+use Rattle.rv_statement.specs.Statement.{Operand, Word, Quoted, Enters, Opens, StatementKind, Directs, Statement}
+use Rattle.rv_parse_laws.specs.Syntax.{Slot, Some_flags, A_type}
 use Rattle.rv_parse_laws.specs.Content.{content_fault}
 
 -- a statement opens, or enters, the section of this name
@@ -23,57 +20,26 @@ abbrev pub is_opened : List Statement → List ℕ → Bool
 is_opened ss name =
     bytes_eq name (codes ".text") || list_any (λ (s : Statement). opens name s.kind) ss
 
--- the code of a string as the flags of a name that is known, or new
-abbrev pub flags_fault : Bool → Kind → Option ℕ
-flags_fault false (Text letters) = content_fault false Some_flags (Quoted letters)
-flags_fault _ k = None
+-- what an operand says is good in its slot, where its section's name is known, or new
+abbrev pub is_good : Bool → Slot → Operand → Bool
+is_good known slot o = not (is_some (content_fault known slot o))
 
--- the code of a word as the type of a name that is known, or new
-abbrev pub type_fault : Bool → Kind → Option ℕ
-type_fault true (NameToken word) = content_fault true A_type (Word word)
-type_fault false (NameToken word) = content_fault false A_type (Word word)
-type_fault _ k = None
+abbrev pub flags_good : Bool → Option (List ℕ) → Bool
+flags_good known None = true
+flags_good known (Some letters) = is_good known Some_flags (Quoted letters)
 
-abbrev pub is_text : Kind → Bool
-is_text (Text bytes) = true
-is_text _ = false
+abbrev pub type_good : Bool → Option (List ℕ) → Bool
+type_good known None = true
+type_good known (Some word) = is_good known A_type (Word word)
 
--- the word `.section`
-abbrev pub is_section : Kind → Bool
-is_section (NameToken word) = bytes_eq word (codes ".section")
-is_section _ = false
+-- a statement opens no section, or one with good flags and a good type
+abbrev pub opens_well : (List ℕ → Bool) → StatementKind → Bool
+opens_well known (Directs (Opens name flags kind)) =
+    flags_good (known name) flags && type_good (known name) kind
+opens_well known _ = true
 
--- the tokens are `.section`, this name and a comma
-abbrev pub IsNamed : List Token → List ℕ → Type 0
-IsNamed ts name =
-    (word : Token) × (text : List Token) × (comma : Token) × (ts ≡ word ∷ (text ++ comma ∷ []))
-    × (is_section word.kind ≡ true)
-    × IsJoined text name × (is_section_name name ≡ true) × (is_comma comma.kind ≡ true)
-
--- behind such tokens a string is wrong as flags
-pub record WrongFlags (known : List ℕ → Bool) (before : List Token) (at : Token)
-    (code : ℕ) : Type 0 where
-  pub name : List ℕ
-  pub named : IsNamed before name
-  pub wrong : flags_fault (known name) at.kind ≡ Some code
-
--- behind such tokens, flags that are not wrong, a comma and `@`, a word is wrong as a type
-pub record WrongType (known : List ℕ → Bool) (before : List Token) (at : Token)
-    (code : ℕ) : Type 0 where
-  pub name : List ℕ
-  pub front : List Token
-  pub flags : Token
-  pub comma : Token
-  pub sign : Token
-  pub whole : before ≡ front ++ flags ∷ comma ∷ sign ∷ []
-  pub named : IsNamed front name
-  pub text : is_text flags.kind ≡ true
-  pub good : flags_fault (known name) flags.kind ≡ None
-  pub comma_is : is_comma comma.kind ≡ true
-  pub sign_is : is_at sign.kind ≡ true
-  pub wrong : type_fault (known name) at.kind ≡ Some code
-
--- behind the statements ss the tokens `before` begin an opening with whose name the token `at` is wrong
-abbrev pub IsWrongOpening : List Statement → List Token → Token → ℕ → Type 0
-IsWrongOpening ss before at code =
-    WrongFlags (is_opened ss) before at code ⊎ WrongType (is_opened ss) before at code
+-- each of these statements, after others, opens well
+abbrev pub OpenWell : List Statement → List Statement → Type 0
+OpenWell before [] = Unit {0}
+OpenWell before (s ∷ ss) =
+    (opens_well (is_opened before) s.kind ≡ true) × OpenWell (before ++ s ∷ []) ss

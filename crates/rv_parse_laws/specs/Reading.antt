@@ -7,7 +7,7 @@ use Rattle.rv_text_laws.specs.Cut.{Piece, texts, Cuts}
 use Rattle.rv_text_laws.specs.Lexing.{Token, Lexes}
 use Rattle.rv_statement.specs.Statement.{Statement}
 use Rattle.rv_parse_laws.specs.Syntax.{Part, Ends, Says, IsPart, StopsPart}
-use Rattle.rv_parse_laws.specs.Opening.{IsWrongOpening}
+use Rattle.rv_parse_laws.specs.Opening.{OpenWell}
 
 -- the longest source and the longest line without its line feed, in bytes, and the most statements
 abbrev pub longest_source : ℕ
@@ -47,28 +47,11 @@ said (p ∷ ps) = told p.kind p.text ++ said ps
 abbrev pub AreParts : List Token → List (Piece Part Token) → List Token → Type 0
 AreParts ts ps rest = Cuts Part Token IsPart StopsPart ts ps rest
 
--- at the front of the tokens, after these statements, no opening of a section is wrong
-abbrev pub OpensWell : List Statement → List Token → Type 0
-OpensWell ss ts =
-    (before : List Token) (at : Token) (more : List Token) (code : ℕ) → ts ≡ before ++ at ∷ more →
-    IsWrongOpening ss before at code → ⊥
-
--- nor is one at the front of any of these parts, after these statements and before the rest
-abbrev pub AllOpenWell : List Statement → List (Piece Part Token) → List Token → Type 0
-AllOpenWell ss [] rest = Unit {0}
-AllOpenWell ss (p ∷ ps) rest =
-    OpensWell ss (texts (p ∷ ps) ++ rest) × AllOpenWell (ss ++ told p.kind p.text) ps rest
-
--- the bytes read as these statements: they are cut into tokens, the tokens into parts whose openings are good, all within
--- the limits
+-- the bytes read as these statements: they are cut into tokens, the tokens into parts, all within the limits, and sections
+-- are opened well
 abbrev pub Reads : List ℕ → List Statement → Type 0
 Reads bytes ss =
     (length bytes ≤ longest_source) × ((place : ℕ) → IsPastLine bytes place → ⊥)
     × (length ss ≤ most_statements)
     × (ts : List Token) × (ps : List (Piece Part Token)) × Lexes bytes ts × AreParts ts ps []
-    × AllOpenWell [] ps [] × (ss ≡ said ps)
-
--- the tokens say these statements, with good openings, up to the rest
-abbrev pub SaysUpTo : List Token → List Token → List Statement → Type 0
-SaysUpTo ts rest ss =
-    (ps : List (Piece Part Token)) × AreParts ts ps rest × AllOpenWell [] ps rest × (ss ≡ said ps)
+    × (ss ≡ said ps) × OpenWell [] ss

@@ -1,15 +1,32 @@
 -- The first fault of a source.
 
 use Rattle.std.specs.Prelude.{◌≡◌, ℕ, ◌+◌, ◌<◌, ◌≤◌, Bool, true, false, List, [], ◌∷◌, ◌++◌, length, take, ◌⊎◌}
-use Rattle.rv_text_laws.specs.Cut.{Piece, NothingReads}
+use Rattle.rv_text_laws.specs.Cut.{Piece, texts, NothingReads}
 use Rattle.rv_text_laws.specs.Lexing.{Token, Lexes, newlines}
 use Rattle.rv_text_laws.specs.Codes.{limit}
 use Rattle.rv_text_laws.specs.SyntaxError.{offset_of}
-use Rattle.rv_statement.specs.Statement.{Label, Numbered}
+use Rattle.rv_statement.specs.Statement.{Label, Numbered, Statement}
 use Rattle.rv_parse_laws.specs.Syntax.{Part, Says, IsPart, StopsPart, is_end, colon_next}
-use Rattle.rv_parse_laws.specs.Opening.{IsWrongOpening}
+use Rattle.rv_parse_laws.specs.WrongOpening.{IsWrongOpening}
 use Rattle.rv_parse_laws.specs.Wrong.{IsWrongStatement}
-use Rattle.rv_parse_laws.specs.Reading.{longest_source, most_statements, IsPastLine, said, AreParts, OpensWell, AllOpenWell}
+use Rattle.rv_parse_laws.specs.Reading.{longest_source, most_statements, IsPastLine, told, said, AreParts}
+
+-- at the front of the tokens, after these statements, no opening of a section is wrong
+abbrev pub OpensWell : List Statement → List Token → Type 0
+OpensWell ss ts =
+    (before : List Token) (at : Token) (more : List Token) (code : ℕ) → ts ≡ before ++ at ∷ more →
+    IsWrongOpening ss before at code → ⊥
+
+-- nor is one at the front of any of these parts, after these statements and before the rest
+abbrev pub AllOpenWell : List Statement → List (Piece Part Token) → List Token → Type 0
+AllOpenWell ss [] rest = Unit {0}
+AllOpenWell ss (p ∷ ps) rest =
+    OpensWell ss (texts (p ∷ ps) ++ rest) × AllOpenWell (ss ++ told p.kind p.text) ps rest
+
+-- the tokens say these statements, with good openings, up to the rest
+abbrev pub SaysUpTo : List Token → List Token → List Statement → Type 0
+SaysUpTo ts rest ss =
+    (ps : List (Piece Part Token)) × AreParts ts ps rest × AllOpenWell [] ps rest × (ss ≡ said ps)
 
 -- a part with these first tokens can still stand at the front of the rest: a colon after the rest's first token makes it a
 -- label, and without it there is none
