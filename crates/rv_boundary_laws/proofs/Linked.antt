@@ -23,12 +23,13 @@ use Rattle.rv_image.specs.Linked.{Linked}
 use Rattle.rv_chain_laws.specs.Contents.{IsWritten, IsLinked, code_bytes, contents as source_contents}
 use Rattle.rv_chain_laws.proofs.Homes.{IsAtHome, homes, from_blocks, sections_in}
 use Rattle.rv_chain_laws.proofs.Regions.{AllIn}
-use Rattle.rv_object.specs.Object.{Section, Object, stored}
+use Rattle.rv_object.specs.Object.{Section, Object}
 use Rattle.rv_object_laws.specs.Inputs as objects
-use Rattle.rv_object_laws.specs.Inputs.{Starts, InputSection, inputs_from, inputs_of, inputs, contents, Holds, Stand}
-use Rattle.rv_object_laws.specs.Values.{linked_bytes, IsRelocated}
+use Rattle.rv_object_laws.specs.Inputs.{Starts, InputSection, inputs_from, inputs_of, inputs, contents, zeros, Holds, Stand}
+use Rattle.rv_object_laws.specs.Values.{initial_bytes, linked_bytes, IsRelocated}
 use Rattle.rv_object_laws.specs.IsLinkOf.{IsLinkOf, is_loaded}
-use Rattle.rv_assemble_laws.specs.Sites.{Site, parts, parts_of, part_bytes, sites_in}
+use Rattle.rv_assemble_laws.specs.Sites.{Site, parts, parts_of, part_bytes, sites_in, end_of as sites_end}
+use Rattle.rv_assemble_laws.proofs.Filled.{filled}
 use Rattle.rv_assemble_laws.specs.IsObjectOf.{Numbering, contents_of, IsSectionOf, AreSectionsOf}
 use Rattle.rv_boundary_laws.proofs.Patches.{written}
 use Rattle.rv_boundary_laws.proofs.Statements.{AreObjectsOf, renumbered, renumbers, row_in, rows_from, mapped_at, all_rows}
@@ -45,15 +46,15 @@ nobits_same types.Progbits count bytes = refl
 nobits_same types.Note count bytes = refl
 nobits_same types.Nobits count bytes = refl
 
-stored_same : (b : SectionType) (count : ℕ) (bytes : List ℕ) → is_nobits_type b ≡ false → stored (contents_of b count bytes) ≡ bytes
-stored_same types.Progbits count bytes e = refl
-stored_same types.Note count bytes e = refl
-stored_same types.Nobits count bytes e = absurd (cc)
+initial_same : (b : SectionType) (count : ℕ) (bytes : List ℕ) → is_nobits_type b ≡ false → initial_bytes (contents_of b count bytes) ≡ bytes
+initial_same types.Progbits count bytes e = refl
+initial_same types.Note count bytes e = refl
+initial_same types.Nobits count bytes e = absurd (cc)
 
-stored_none : (b : SectionType) (count : ℕ) (bytes : List ℕ) → is_nobits_type b ≡ true → stored (contents_of b count bytes) ≡ []
-stored_none types.Progbits count bytes e = absurd (cc)
-stored_none types.Note count bytes e = absurd (cc)
-stored_none types.Nobits count bytes e = refl
+initial_none : (b : SectionType) (count : ℕ) (bytes : List ℕ) → is_nobits_type b ≡ true → count ≡ 0 → initial_bytes (contents_of b count bytes) ≡ []
+initial_none types.Progbits count bytes e none = absurd (cc)
+initial_none types.Note count bytes e none = absurd (cc)
+initial_none types.Nobits count bytes e none = ap zeros none
 
 module _ (t : Tables) (sites : List Site) (number : Numbering) (o : Object) (index : ℕ) (s : SourceSection) (x : Section)
     (is : IsSectionOf t sites number o.symbols index s (sites_in index sites) x) where
@@ -80,15 +81,19 @@ module _ (t : Tables) (sites : List Site) (number : Numbering) (o : Object) (ind
       ∙ ap (λ b. ((s.loaded && not s.executable) && not (is_nobits s)) && not b) is.writable
 
   -- bytes in the file
-  plain_holds : is_nobits s ≡ false → stored x.contents ≡ flat_map part_bytes (parts t (sites_in index sites))
-  plain_holds e = ap stored is.contents ∙ stored_same s.section_type _ _ e
+  plain_holds : is_nobits s ≡ false → initial_bytes x.contents ≡ flat_map part_bytes (parts t (sites_in index sites))
+  plain_holds e = ap initial_bytes is.contents ∙ initial_same s.section_type _ _ e
 
-  text_holds : goes_to_text s ≡ true → stored x.contents ≡ flat_map part_bytes (parts t (sites_in index sites))
+  text_holds : goes_to_text s ≡ true → initial_bytes x.contents ≡ flat_map part_bytes (parts t (sites_in index sites))
   text_holds e = go (is_nobits s) refl
     where
-      go : (b : Bool) → is_nobits s ≡ b → stored x.contents ≡ flat_map part_bytes (parts t (sites_in index sites))
+      go : (b : Bool) → is_nobits s ≡ b → initial_bytes x.contents ≡ flat_map part_bytes (parts t (sites_in index sites))
       go false f = plain_holds f
-      go true f = ap stored is.contents ∙ stored_none s.section_type _ _ f ∙ sym (is.code e f)
+      go true f =
+          let none : flat_map part_bytes (parts t (sites_in index sites)) ≡ [] = is.code e f in
+          let count : sites_end 0 (sites_in index sites) ≡ 0 + length (flat_map part_bytes (parts t (sites_in index sites))) = filled t 0 (sites_in index sites) is.tile in
+          let nothing : sites_end 0 (sites_in index sites) ≡ 0 = omega (arith, count, ap length none) in
+          ap initial_bytes is.contents ∙ initial_none s.section_type (sites_end 0 (sites_in index sites)) _ f nothing ∙ sym none
 
 -- ---- flags
 
@@ -190,7 +195,7 @@ module _ (sources : List (List Statement)) (os : List Object) (text_start : ℕ)
       (same_by : (t : Tables) (sites : List Site) (number : Numbering) (o : Object) (index : ℕ) (s : SourceSection) (x : Section)
       → IsSectionOf t sites number o.symbols index s (sites_in index sites) x → goes x ≡ goes_source s)
       (holds : (t : Tables) (sites : List Site) (number : Numbering) (o : Object) (index : ℕ) (s : SourceSection) (x : Section)
-      → IsSectionOf t sites number o.symbols index s (sites_in index sites) x → goes_source s ≡ true → stores ≡ true → stored x.contents ≡ flat_map part_bytes (parts t (sites_in index sites)))
+      → IsSectionOf t sites number o.symbols index s (sites_in index sites) x → goes_source s ≡ true → stores ≡ true → initial_bytes x.contents ≡ flat_map part_bytes (parts t (sites_in index sites)))
       (spell : (file : ℕ) (s : SourceSection) (z : Site) → goes_source s ≡ true → z.located.home ≡ s → IsFit p starts file z
       → spells (mapped_at starts file z) ≡ flat_map (written (meant_in p file)) (parts_of (tables_in p file) z))
       (fitted : (file : ℕ) (s : SourceSection) (z : Site) → goes_source s ≡ true → z.located.home ≡ s → IsFit p starts file z → P (mapped_at starts file z))

@@ -18,10 +18,10 @@ use Rattle.rv_source_laws.specs.Fits.{SizeFits}
 use Rattle.rv_source_laws.specs.Start.{spelled}
 use Rattle.rv_chain_laws.specs.Contents.{IsWritten, code_bytes}
 use Rattle.rv_chain_laws.proofs.Held.{IsHeld}
-use Rattle.rv_object.specs.Object.{Relocation, Section, Object, stored}
+use Rattle.rv_object.specs.Object.{Relocation, Section, Object}
 use Rattle.rv_object_laws.specs.Moves.{alignments_of, moves, plan, new_offset, kept}
 use Rattle.rv_object_laws.specs.Inputs.{Starts, InputSection}
-use Rattle.rv_object_laws.specs.Values.{target, value, applied, linked_bytes, IsRelocated}
+use Rattle.rv_object_laws.specs.Values.{initial_bytes, target, value, applied, linked_bytes, IsRelocated}
 use Rattle.rv_assemble_laws.specs.Templates.{Template, Open, IsTemplate, template_fields, templates}
 use Rattle.rv_assemble_laws.specs.Sites.{Site, Part, form, part_of, parts_of, parts, part_bytes, sites_in, HasSize, IsMultiple}
 use Rattle.rv_assemble_laws.specs.Symbols.{references_in, site_at}
@@ -122,10 +122,10 @@ module _ (p : Program) (os : List Object) (starts : Starts) (file : ℕ) (sites 
         (subst (λ rs. AllByRecursion (IsRelocated p.map.globals starts os i) rs) relocations_are relocated))
 
     -- the bytes of the section
-    pub bytes_linked : stored x.contents ≡ flat_map part_bytes ps → linked_bytes p.map.globals starts os i ≡ flat_map (written (meant_in p file)) ps
+    pub bytes_linked : initial_bytes x.contents ≡ flat_map part_bytes ps → linked_bytes p.map.globals starts os i ≡ flat_map (written (meant_in p file)) ps
     bytes_linked holds =
-        let kept_all : kept 0 (moves (starts file index) x) (stored x.contents) ≡ stored x.contents = ap (λ rs. kept 0 (plan (starts file index) 0 rs) (stored x.contents)) none in
-        ap (λ rs. applied new worth rs (kept 0 (moves (starts file index) x) (stored x.contents))) relocations_are
+        let kept_all : kept 0 (moves (starts file index) x) (initial_bytes x.contents) ≡ initial_bytes x.contents = ap (λ rs. kept 0 (plan (starts file index) 0 rs) (initial_bytes x.contents)) none in
+        ap (λ rs. applied new worth rs (kept 0 (moves (starts file index) x) (initial_bytes x.contents))) relocations_are
         ∙ ap (λ b. applied new worth (relocations_from number 0 ps) b) (kept_all ∙ holds)
         ∙ all_made new same worth number (written a) [] 0 ps refl (makes new same worth number s worths a ps is.fields known)
 

@@ -14,10 +14,10 @@ use Rattle.rv_source_laws.specs.Program.{Mapped, Program, tables_in, address_at}
 use Rattle.rv_source_laws.specs.Fits as source
 use Rattle.rv_chain_laws.specs.Contents.{contents as source_contents, zeros}
 use Rattle.rv_chain_laws.proofs.Regions.{AllIn}
-use Rattle.rv_object.specs.Object.{Section, Object, stored, size_of}
+use Rattle.rv_object.specs.Object.{Section, Object, size_of}
 use Rattle.rv_object_laws.specs.Moves.{alignments_of}
 use Rattle.rv_object_laws.specs.Inputs.{Starts, InputSection, inputs_from, begins_at, start_of, size, Stand, end_of, gaps_of, raised, greatest, contents, goes_to_text}
-use Rattle.rv_object_laws.specs.Values.{linked_bytes, IsRelocated}
+use Rattle.rv_object_laws.specs.Values.{initial_bytes, linked_bytes, IsRelocated}
 use Rattle.rv_object_laws.specs.IsLinkOf.{is_loaded}
 use Rattle.rv_assemble_laws.specs.Sites.{Site, parts_of, parts, part_bytes, sites_in, end_of as sites_end}
 use Rattle.rv_assemble_laws.specs.Symbols.{site_at}
@@ -117,7 +117,7 @@ module _ (p : Program) (all : List Object) (starts : Starts) (spells : Mapped �
       (same_by : (t : Tables) (sites : List Site) (number : Numbering) (o : Object) (index : ℕ) (s : SourceSection) (x : Section)
       → IsSectionOf t sites number o.symbols index s (sites_in index sites) x → goes x ≡ goes_source s)
       (holds : (t : Tables) (sites : List Site) (number : Numbering) (o : Object) (index : ℕ) (s : SourceSection) (x : Section)
-      → IsSectionOf t sites number o.symbols index s (sites_in index sites) x → goes_source s ≡ true → stores ≡ true → stored x.contents ≡ flat_map part_bytes (parts t (sites_in index sites)))
+      → IsSectionOf t sites number o.symbols index s (sites_in index sites) x → goes_source s ≡ true → stores ≡ true → initial_bytes x.contents ≡ flat_map part_bytes (parts t (sites_in index sites)))
       (spell : (file : ℕ) (s : SourceSection) (z : Site) → goes_source s ≡ true → z.located.home ≡ s → IsFit p starts file z
       → spells (mapped_at starts file z) ≡ flat_map (written (meant_in p file)) (parts_of (tables_in p file) z))
       (fitted : (file : ℕ) (s : SourceSection) (z : Site) → goes_source s ≡ true → z.located.home ≡ s → IsFit p starts file z → P (mapped_at starts file z))

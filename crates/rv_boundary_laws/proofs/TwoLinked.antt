@@ -8,7 +8,9 @@ use Rattle.rv_boundary_laws.specs.TwoFiles.{first_object, second_object, two_fil
 pub linked : IsLinkOf (first_object ∷ second_object ∷ []) 0x10000 two_files
 unfolding int_wrap
 linked = record {
+  few = omega arith;
   page = refl;
+  low = omega arith;
   starts = starts;
   text = (refl, (refl, (refl, tt)), refl);
   gaps = refl;

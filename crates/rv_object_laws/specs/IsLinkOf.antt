@@ -1,7 +1,7 @@
 -- The linked program of objects, whoever made them (gABI, "Sections", "Symbol Table", "Relocation"; GNU ld; this project's
 -- layout). Nothing here knows of statements.
 
-use Rattle.std.specs.Prelude.{◌≡◌, ℕ, suc, ◌+◌, ◌-◌, ◌%◌, ◌≤◌, Bool, IsTrue, List, [], ◌∷◌, ◌++◌, map, Option, Some, None}
+use Rattle.std.specs.Prelude.{◌≡◌, ℕ, suc, ◌+◌, ◌-◌, ◌%◌, ◌<◌, ◌≤◌, Bool, IsTrue, List, [], ◌∷◌, ◌++◌, length, map, Option, Some, None}
 use Rattle.std.specs.List.{AllByRecursion, list_any, list_all, slice_get}
 use Rattle.rv_isa_laws.specs.Platform.{stack_start, memory_limit}
 use Rattle.rv_map.specs.declared.map.Row.{Row as MapRow}
@@ -45,9 +45,15 @@ rows_of starts file (o ∷ os) = map (row_in starts file o) o.rows ++ rows_of st
 abbrev pub is_loaded : Section → Bool
 is_loaded s = s.loaded
 
+-- the most files that are linked at once
+abbrev pub most_files : ℕ
+most_files = 1024
+
 pub record IsLinkOf (os : List Object) (text_start : ℕ) (l : Linked) : Type 0 where
-  -- the text begins at a page
+  pub few : length os ≤ most_files
+  -- the text begins at a page below the stack
   pub page : text_start % 4096 ≡ 0
+  pub low : text_start < stack_start
   -- where each section starts: text from the text's start, rodata and data at the next pages, bss after data
   pub starts : Starts
   pub text : Holds starts l.map.text text_start (inputs goes_to_text os)

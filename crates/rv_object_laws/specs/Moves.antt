@@ -57,10 +57,12 @@ no_operations bytes = four_each (bytes / 4) ++ (if nat_le 2 (bytes % 4) then 0x0
 abbrev pub operations_in : ℕ → ℕ
 operations_in bytes = bytes / 4 + bytes % 4 / 2
 
--- the alignments of a section of code in the order of their places, whatever the order of its relocations
+-- the alignments of a section of code in the order of their places, whatever the order of its relocations: before those
+-- that begin where it ends or later (so that one without bytes stands before the padding at its place)
 abbrev pub inserted : Relocation → List Relocation → List Relocation
 inserted r [] = r ∷ []
-inserted r (q ∷ qs) = if nat_le r.place q.place then r ∷ q ∷ qs else q ∷ inserted r qs
+inserted r (q ∷ qs) =
+    if nat_le (r.place + full_padding r) q.place then r ∷ q ∷ qs else q ∷ inserted r qs
 
 abbrev pub by_place : List Relocation → List Relocation
 by_place [] = []

@@ -10,9 +10,9 @@ use Rattle.rv_reloc.specs.Values.{value_of}
 use Rattle.rv_reloc.specs.Fields.{patched}
 use Rattle.rv_reloc.specs.Ranges.{Takes}
 use Rattle.rv_map.specs.Map.{Global}
-use Rattle.rv_object.specs.Object.{Relocation, Section, Object, stored}
+use Rattle.rv_object.specs.Object.{Contents, Progbits, Note, Nobits, Relocation, Section, Object}
 use Rattle.rv_object_laws.specs.Moves.{Move, moves, new_offset, kept}
-use Rattle.rv_object_laws.specs.Inputs.{Starts, InputSection, start_of}
+use Rattle.rv_object_laws.specs.Inputs.{Starts, InputSection, start_of, zeros}
 use Rattle.rv_object_laws.specs.Names.{Place, symbol_address, symbol_place, object_at}
 
 -- S: the address of the symbol; without a symbol 0
@@ -96,10 +96,16 @@ applied new worth [] bytes = bytes
 applied new worth (r ∷ rs) bytes =
     applied new worth rs (patched_at (new r.place) r.kind (worth r) bytes)
 
+-- the bytes that a section begins with: zeros where the file has none
+abbrev pub initial_bytes : Contents → List ℕ
+initial_bytes (Progbits bytes) = bytes
+initial_bytes (Note bytes) = bytes
+initial_bytes (Nobits size) = zeros size
+
 -- the bytes of a section in the program: those that are kept, with its relocations applied
 abbrev pub linked_bytes : List Global → Starts → List Object → InputSection → List ℕ
 linked_bytes globals starts os i =
     let ms = moves (start_of starts i) i.section in
     applied (new_offset ms)
     (λ r. unwrap_or (value globals starts os i r) (pos 0)) i.section.relocations
-    (kept 0 ms (stored i.section.contents))
+    (kept 0 ms (initial_bytes i.section.contents))
