@@ -1,0 +1,10 @@
+//! What one can choose of a link.
+
+/// What one can choose of a link.
+#[derive(Clone, Copy, Debug, PartialEq, Eq, Drop)]
+pub struct LinkOptions {
+    /// The address at which the text starts: a multiple of 4096 below the stack.
+    pub text_start: u64,
+    /// Whether calls may become shorter; so far none does.
+    pub relax: bool,
+}

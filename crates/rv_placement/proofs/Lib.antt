@@ -1,0 +1,11 @@
+pub mod Alignments
+pub mod Found
+pub mod Walks
+pub mod Huge
+pub mod Texts
+pub mod Layouts
+pub mod MapRows
+pub mod Rooms
+pub mod Placed
+pub mod Behind
+pub mod Standing

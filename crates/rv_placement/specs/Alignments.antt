@@ -1,0 +1,14 @@
+-- The multiple at which a section begins, by its relocations in any order.
+
+use Rattle.std.specs.Prelude.{ℕ, max, List, [], ◌∷◌, if◌then◌else◌}
+use Rattle.rv_object.specs.Object.{Relocation}
+use Rattle.rv_object.specs.Valid.{is_align}
+use Rattle.rv_object_laws.specs.Moves.{alignment_of}
+
+-- the multiple for which a relocation asks; 0 where it is no alignment
+abbrev pub asked : Relocation → ℕ
+asked r = if is_align r.kind then alignment_of r else 0
+
+abbrev pub raised_by : List Relocation → ℕ → ℕ
+raised_by [] alignment = alignment
+raised_by (r ∷ rs) alignment = max (asked r) (raised_by rs alignment)

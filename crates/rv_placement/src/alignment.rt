@@ -1,0 +1,103 @@
+//! The multiples at which sections begin.
+
+ghost use Rattle.std.specs.Prelude.{◌≡◌, ◌<◌, ◌≤◌, ◌^◌, map, max};
+ghost use Rattle.rv_object.specs.Parts.{relocation_of};
+ghost use Rattle.rv_object.specs.Sections.{section_of};
+ghost use Rattle.rv_object.specs.View.{object_of};
+ghost use Rattle.rv_object_laws.specs.Moves as moves;
+ghost use Rattle.rv_object_laws.specs.Inputs as inputs;
+ghost use Rattle.rv_placement.specs.Alignments as laws;
+ghost use Rattle.rv_placement.specs.Walk as walk;
+
+use crate::destination::{Destination, goes_to, is_text};
+use rv_isa::Kind;
+use rv_object::{Object, Relocation, Section};
+use rv_relax::asked_alignment;
+
+/// The least multiple of an alignment that is not below an address.
+pub(crate) fn next_multiple(alignment: u64, address: u64) -> u64
+    requires some { 0 < alignment }
+    requires small { alignment ≤ 4096 }
+    requires low { address ≤ 2 ^ 62 }
+    ensures { result ≡ moves.aligned alignment address }
+{
+    (address + (alignment - 1)) / alignment * alignment
+}
+
+/// The multiple for which a relocation asks; 0 where it is no alignment.
+fn asked(relocation: &Relocation) -> u64
+    ensures value { result ≡ laws.asked (relocation_of relocation.now) }
+    ensures small { result ≤ 4096 }
+{
+    match relocation.kind {
+        Kind::Align => asked_alignment(relocation),
+        _ => 0,
+    }
+}
+
+/// The greatest of a number and the multiples for which relocations ask.
+fn raised(alignment: u64, relocations: &[Relocation]) -> u64
+    requires small { alignment ≤ 4096 }
+    ensures value { result ≡ laws.raised_by (map relocation_of relocations.now) alignment }
+    ensures small { result ≤ 4096 }
+    ensures more { alignment ≤ result }
+{
+    let mut greatest = alignment;
+    for relocation in relocations {
+        greatest = greatest.max(asked(relocation));
+    }
+    greatest
+}
+
+/// The multiple at which a section begins.
+pub(crate) fn begins_at(section: &Section) -> u64
+    ensures value { result ≡ inputs.begins_at (section_of section.now) }
+    ensures some { 0 < result }
+    ensures small { result ≤ 4096 }
+{
+    if is_text(section) {
+        raised(section.alignment.max(2), section.relocations.as_slice())
+    } else {
+        section.alignment.max(1)
+    }
+}
+
+/// The multiple of a section that goes to a region; 1 of others.
+fn weight(destination: Destination, section: &Section) -> u64
+    ensures value { result ≡ walk.weight (walk.goes destination) (section_of section.now) }
+    ensures some { 0 < result }
+    ensures small { result ≤ 4096 }
+{
+    if goes_to(destination, section) {
+        begins_at(section)
+    } else {
+        1
+    }
+}
+
+/// The greatest multiple of the sections of a file that go to a region.
+fn greatest_in(destination: Destination, sections: &[Section]) -> u64
+    ensures value { result
+        ≡ walk.greatest_in (walk.goes destination) (map section_of sections.now) }
+    ensures some { 0 < result }
+    ensures small { result ≤ 4096 }
+{
+    let mut greatest = 1;
+    for section in sections {
+        greatest = weight(destination, section).max(greatest);
+    }
+    greatest
+}
+
+/// The greatest multiple of the sections that go to a region.
+pub(crate) fn greatest_of(destination: Destination, objects: &[Object]) -> u64
+    ensures value { result ≡ walk.greatest_of (walk.goes destination) (map object_of objects.now) }
+    ensures some { 0 < result }
+    ensures small { result ≤ 4096 }
+{
+    let mut greatest = 1;
+    for object in objects {
+        greatest = greatest_in(destination, object.sections.as_slice()).max(greatest);
+    }
+    greatest
+}

@@ -1,0 +1,23 @@
+//! Why sections cannot be placed.
+
+ghost use Rattle.std.specs.Prelude.{◌≡◌};
+
+use std::alloc::AllocError;
+
+/// Why sections cannot be placed.
+#[derive(Clone, Copy, Debug, PartialEq, Eq, Drop)]
+pub enum PlacementFault {
+    /// They pass the end of memory, or need too much of it.
+    TooLarge,
+    OutOfMemory,
+}
+
+impl From<AllocError> for PlacementFault {
+    ghost use Rattle.rv_placement.specs.declared.fault.PlacementFault.TheVariants.{OutOfMemory};
+
+    ghost from_gives = { λ _ e. e ≡ OutOfMemory };
+
+    fn from(_: AllocError) -> Self {
+        PlacementFault::OutOfMemory
+    }
+}

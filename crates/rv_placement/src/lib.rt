@@ -1,0 +1,32 @@
+//! Where the sections of objects stand in memory.
+//!
+//! It takes a list of objects (`rv_object`) and the address at which the text begins, and gives the [`Placement`]: where each
+//! section starts, what is kept of it, the regions, and the gaps of the text.
+//!
+//! Main contracts: of `Placement::of`, that the regions hold the sections of all files as `rv_object_laws` says (`IsPlacement`),
+//! or that these are too large for memory wherever they stand so (`IsTooLarge`; by `sections_stand` they stand so somewhere); of
+//! `rows` and `address`, that they are those of the definitions at these starts. It must not know symbols, values of relocations,
+//! nor statements.
+//!
+//! ```text
+//! let placement = Placement::of(alloc, &objects, 0x10000)?;
+//! let first = placement.section(0, 0);                        // Some(PlacedSection { start: 0x10000, .. })
+//! let address = placement.address(&objects, 0, 0, 8);         // Some(0x10008), where no byte before it is dropped
+//! let rows = placement.rows(alloc, &objects)?;
+//! ```
+//!
+//! Source: gABI, "Sections"; GNU ld, "SECTIONS Command"; this project's layout.
+#![tactic(auto)]
+
+mod alignment;
+mod destination;
+mod fault;
+mod law;
+mod placement;
+mod regions;
+mod rows;
+mod text;
+
+pub use fault::PlacementFault;
+pub use law::sections_stand;
+pub use placement::{PlacedSection, Placement};

@@ -1,0 +1,178 @@
+//! The sections of the text.
+
+ghost use Rattle.std.specs.Prelude.{◌≡◌, ◌+◌, ◌++◌, ◌<◌, ◌≤◌, [], map, IfOk, IfSome, IfNone};
+ghost use Rattle.std.specs.List.{AllZip};
+ghost use Rattle.rv_isa_laws.specs.Platform.{stack_start};
+ghost use Rattle.rv_object.specs.Sections.{section_of};
+ghost use Rattle.rv_object.specs.View.{object_of};
+ghost use Rattle.rv_object_laws.specs.Inputs.{goes_to_text};
+ghost use Rattle.rv_placement.specs.Walk.{end_from, start_from, next, ended, ended_files, lists_of, text_starts, text_files, gap_between, gap_behind, gapped, gapped_files, IsKept, AreKept, IsPut};
+
+use crate::alignment::{begins_at, next_multiple};
+use crate::destination::{full_size, is_text};
+use crate::placement::PlacedSection;
+use rv_image::STACK_START;
+use rv_map::Region;
+use rv_object::{Object, Section};
+use rv_relax::SectionPlan;
+use std::alloc::{AllocError, Global};
+
+/// A section with more bytes than this passes the end of memory whatever is dropped of it, unless
+/// it has more relocations than `MANY`.
+const HUGE: u64 = 1 << 62;
+
+/// More relocations than any memory holds.
+const MANY: u64 = 1 << 40;
+
+/// Adds the place of a section that has none in the text.
+fn put_other(
+    alloc: Global,
+    places: &mut Vec<PlacedSection>,
+    section: &Section,
+) -> Result<(), AllocError>
+    ensures { IfOk result
+        (λ _. IsPut (section_of section.now) 0 places.old.items places.new.items) }
+{
+    let _size = full_size(&section.contents);
+    let plan = SectionPlan::of(alloc, section, 0)?;
+    places.push(PlacedSection { start: 0, plan })?;
+    Ok(())
+}
+
+/// Adds the place of a section of the text that starts at an address. Gives its end, or `None`
+/// where that passes the end of memory.
+fn put_code(
+    alloc: Global,
+    places: &mut Vec<PlacedSection>,
+    section: &Section,
+    start: u64,
+) -> Result<Option<u64>, AllocError>
+    requires { start ≤ stack_start }
+    ensures placed { IfOk result (λ found. IfSome found (λ end.
+        (end ≡ end_from start (section_of section.now)) × (end ≤ stack_start)
+        × IsPut (section_of section.now) start places.old.items places.new.items)) }
+    ensures far { IfOk result (λ found. IfNone found
+        (stack_start < end_from start (section_of section.now))) }
+{
+    let size = full_size(&section.contents);
+    if size > HUGE {
+        if section.relocations.len() as u64 > MANY {
+            return Err(AllocError);
+        }
+        return Ok(None);
+    }
+    let plan = SectionPlan::of(alloc, section, start)?;
+    let end = start + plan.new_offset(size);
+    if end > STACK_START {
+        return Ok(None);
+    }
+    places.push(PlacedSection { start, plan })?;
+    Ok(Some(end))
+}
+
+/// Adds the gap between an end and the start behind it, if there is one.
+fn put_gap(gaps: &mut Vec<Region>, stop: u64, start: u64) -> Result<(), AllocError>
+    ensures { IfOk result (λ _. gaps.new.items ≡ gaps.old.items ++ gap_between stop start) }
+{
+    if stop < start {
+        gaps.push(Region {
+            start: stop,
+            end: start,
+        })?;
+    }
+    Ok(())
+}
+
+/// Adds the place of a section that comes after an end of the text. Gives the end after it, or
+/// `None` where that passes the end of memory.
+fn put_section(
+    alloc: Global,
+    places: &mut Vec<PlacedSection>,
+    gaps: &mut Vec<Region>,
+    section: &Section,
+    stop: u64,
+) -> Result<Option<u64>, AllocError>
+    requires { stop ≤ stack_start }
+    ensures placed { IfOk result (λ found. IfSome found (λ end.
+        (end ≡ next goes_to_text stop (section_of section.now)) × (end ≤ stack_start)
+        × IsPut (section_of section.now) (start_from goes_to_text stop 0 (section_of section.now))
+        places.old.items places.new.items
+        × (gaps.new.items ≡ gaps.old.items ++ gap_behind stop (section_of section.now)))) }
+    ensures far { IfOk result (λ found. IfNone found
+        (stack_start < next goes_to_text stop (section_of section.now))) }
+{
+    if !is_text(section) {
+        put_other(alloc, places, section)?;
+        return Ok(Some(stop));
+    }
+    let start = next_multiple(begins_at(section), stop);
+    if start > STACK_START {
+        return Ok(None);
+    }
+    put_gap(gaps, stop, start)?;
+    match put_code(alloc, places, section, start)? {
+        Some(end) => Ok(Some(end)),
+        None => Ok(None),
+    }
+}
+
+/// Adds the places of a file's sections, where those of the text begin at an address. Gives their
+/// end, or `None` where that passes the end of memory.
+fn put_file(
+    alloc: Global,
+    places: &mut Vec<PlacedSection>,
+    gaps: &mut Vec<Region>,
+    sections: &[Section],
+    first: u64,
+) -> Result<Option<u64>, AllocError>
+    requires empty { places.old.items ≡ [] }
+    requires low { first ≤ stack_start }
+    ensures placed { IfOk result (λ found. IfSome found (λ end.
+        (end ≡ ended goes_to_text first (map section_of sections.now)) × (end ≤ stack_start)
+        × (map (λ q. q.start) places.new.items ≡ text_starts first (map section_of sections.now))
+        × AllZip IsKept (map section_of sections.now) places.new.items
+        × (gaps.new.items ≡ gaps.old.items ++ gapped first (map section_of sections.now)))) }
+    ensures far { IfOk result (λ found. IfNone found
+        (stack_start < ended goes_to_text first (map section_of sections.now))) }
+{
+    let mut stop = first;
+    for section in sections {
+        match put_section(alloc, places, gaps, section, stop)? {
+            Some(end) => stop = end,
+            None => return Ok(None),
+        }
+    }
+    Ok(Some(stop))
+}
+
+/// Adds the places of all sections, where those of the text begin at an address. Gives the end of
+/// the text, or `None` where that passes the end of memory.
+pub(crate) fn put_files(
+    alloc: Global,
+    files: &mut Vec<Vec<PlacedSection>>,
+    gaps: &mut Vec<Region>,
+    objects: &[Object],
+    first: u64,
+) -> Result<Option<u64>, AllocError>
+    requires empty { files.old.items ≡ [] }
+    requires low { first ≤ stack_start }
+    ensures placed { IfOk result (λ found. IfSome found (λ end.
+        (end ≡ ended_files goes_to_text first (map object_of objects.now)) × (end ≤ stack_start)
+        × (map (λ f. map (λ q. q.start) f) (lists_of files.new.items)
+        ≡ text_files first (map object_of objects.now))
+        × AllZip AreKept (map object_of objects.now) (lists_of files.new.items)
+        × (gaps.new.items ≡ gaps.old.items ++ gapped_files first (map object_of objects.now)))) }
+    ensures far { IfOk result (λ found. IfNone found
+        (stack_start < ended_files goes_to_text first (map object_of objects.now))) }
+{
+    let mut stop = first;
+    for object in objects {
+        let mut places = Vec::new(alloc);
+        match put_file(alloc, &mut places, gaps, object.sections.as_slice(), stop)? {
+            Some(end) => stop = end,
+            None => return Ok(None),
+        }
+        files.push(places)?;
+    }
+    Ok(Some(stop))
+}

@@ -1,0 +1,17 @@
+use Rattle.std.proofs.Common.{◌≡◌, ℕ, ◌≤◌, ◌++◌, true, length, map, take, List}
+use Rattle.rv_object_laws.specs.Moves.{plan}
+use Rattle.rv_relax.specs.declared.padding.Padding.{Padding}
+use Rattle.rv_relax.specs.Paddings.{are_alignments, are_in_order, move_of}
+use Rattle.rv_relax.proofs.Sorting.{backwards}
+use Rattle.rv_relax.proofs.paddings.paddings.Given as goal
+
+-- what is planned so far, and the plan of the rest, make up the whole; the rest stands behind what is planned
+abbrev pub invariant-loop-rest : goal.invariant-loop-rest
+invariant-loop-rest l =
+    (l.rest ≤ length l.alignments)
+    × (map move_of l.paddings.items ++ plan l.start l.gone (backwards (take l.rest l.alignments)) ≡ plan l.start 0 (backwards l.alignments))
+    × ((stop : ℕ) × (are_alignments l.start stop (backwards (take l.rest l.alignments)) ≡ true) × (l.gone ≤ stop) × (l.dropped ≤ stop)
+    × ((more : List Padding) → are_in_order stop l.dropped more ≡ true → are_in_order 0 0 (l.paddings.items ++ more) ≡ true))
+
+abbrev pub decreases-loop-rest : goal.decreases-loop-rest
+decreases-loop-rest l = l.rest

@@ -1,0 +1,33 @@
+-- Paddings in the order of their places.
+
+use Rattle.std.specs.Prelude.{ℕ, ◌+◌, ◌-◌, ◌%◌, ◌^◌, Bool, true, ◌&&◌, ◌==◌, nat_le, nat_lt, List, [], ◌∷◌}
+use Rattle.rv_relax.specs.declared.padding.Padding.{Padding}
+use Rattle.rv_object.specs.Object.{Relocation}
+use Rattle.rv_object_laws.specs.Moves.{Move, no_operations, full_padding}
+
+-- what is kept of a padding
+abbrev pub move_of : Padding → Move
+move_of p = record { place = p.place; full = p.full; text = no_operations p.left }
+
+-- behind paddings that end at an offset, with so many bytes of them dropped, a padding that keeps whole instructions
+abbrev pub is_next : ℕ → ℕ → Padding → Bool
+is_next stop gone p =
+    nat_le stop p.place
+    && (nat_lt (p.place + p.full) (2 ^ 64) && ((p.left % 2 == 0) && (p.gone == gone)))
+
+abbrev pub are_in_order : ℕ → ℕ → List Padding → Bool
+are_in_order stop gone [] = true
+are_in_order stop gone (p ∷ ps) =
+    is_next stop gone p && are_in_order (p.place + p.full) (gone + (p.full - p.left)) ps
+
+-- behind paddings that end at an offset, alignments whose paddings lie one behind the other, in a section that starts at an
+-- address and ends below 2 ^ 64
+abbrev pub is_next_alignment : ℕ → ℕ → Relocation → Bool
+is_next_alignment start stop r =
+    nat_le stop r.place
+    && (nat_le (full_padding r) 4094 && nat_lt (start + (r.place + full_padding r)) (2 ^ 64))
+
+abbrev pub are_alignments : ℕ → ℕ → List Relocation → Bool
+are_alignments start stop [] = true
+are_alignments start stop (r ∷ rs) =
+    is_next_alignment start stop r && are_alignments start (r.place + full_padding r) rs

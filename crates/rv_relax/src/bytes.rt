@@ -1,0 +1,58 @@
+//! The bytes that are kept of a section.
+
+ghost use Rattle.std.specs.Prelude.{◌≡◌, ◌++◌, true, map, take, drop, OnOk};
+ghost use Rattle.rv_object_laws.specs.Moves.{kept, no_operations};
+ghost use Rattle.rv_relax.specs.Paddings.{are_in_order, move_of};
+
+use crate::padding::Padding;
+use std::alloc::AllocError;
+
+/// `addi zero, zero, 0`.
+const NOP: [u8; 4] = [0x13, 0, 0, 0];
+/// `c.nop`.
+const C_NOP: [u8; 2] = [1, 0];
+
+/// The first bytes, or all where there are fewer, and those after them.
+fn cut(bytes: &[u8], count: u64) -> (&[u8], &[u8])
+    ensures front { result.0.now ≡ take count bytes.now }
+    ensures back { result.1.now ≡ drop count bytes.now }
+{
+    bytes.split_at((count as usize).min(bytes.len()))
+}
+
+/// Adds instructions without effect.
+fn put_no_operations(out: &mut Vec<u8>, bytes: u32) -> Result<(), AllocError>
+    ensures { OnOk result (out.new.items ≡ out.old.items ++ no_operations bytes) }
+{
+    for _ in 0..bytes / 4 {
+        out.extend_from_slice(&NOP)?;
+    }
+    if bytes % 4 < 2 {
+        return Ok(());
+    }
+    out.extend_from_slice(&C_NOP)?;
+    Ok(())
+}
+
+/// Adds what is kept of a section's bytes.
+pub(crate) fn put_kept(
+    out: &mut Vec<u8>,
+    paddings: &[Padding],
+    bytes: &[u8],
+) -> Result<(), AllocError>
+    requires { are_in_order 0 0 paddings.now ≡ true }
+    ensures { OnOk result
+        (out.new.items ≡ out.old.items ++ kept 0 (map move_of paddings.now) bytes.now) }
+{
+    let mut at = 0;
+    let mut rest = bytes;
+    for padding in paddings {
+        let (before, after) = cut(rest, padding.place - at);
+        out.extend_from_slice(before)?;
+        put_no_operations(out, padding.left)?;
+        rest = cut(after, u64::from(padding.full)).1;
+        at = padding.end();
+    }
+    out.extend_from_slice(rest)?;
+    Ok(())
+}

@@ -1,0 +1,39 @@
+//! Paddings of a section.
+
+ghost use Rattle.std.specs.Prelude.{◌≡◌, ◌+◌, ◌-◌, ◌^◌, ◌<◌, ◌≤◌, min};
+
+/// A padding, and what is kept of it.
+#[derive(Clone, Copy, Drop)]
+pub(crate) struct Padding {
+    /// The offset of its first byte in the section.
+    pub place: u64,
+    /// The bytes that are dropped before it.
+    pub gone: u64,
+    /// Its bytes.
+    pub full: u32,
+    /// The bytes that are left of it.
+    pub left: u32,
+}
+
+impl Padding {
+    /// The offset of the byte after it.
+    pub fn end(&self) -> u64
+        requires { (self.now).place + (self.now).full < 2 ^ 64 }
+        ensures { result ≡ (self.now).place + (self.now).full }
+    {
+        self.place + u64::from(self.full)
+    }
+
+    /// The bytes of it and of the paddings before it that are dropped before an offset.
+    pub fn all_dropped_before(&self, offset: u64) -> u64
+        requires { (self.now).gone ≤ (self.now).place }
+        ensures { result
+            ≡ (self.now).gone
+            + min ((self.now).full - (self.now).left)
+            (offset - ((self.now).place + (self.now).left)) }
+    {
+        let dropped = self.full.saturating_sub(self.left);
+        let behind = offset.saturating_sub(self.place);
+        self.gone + u64::from(dropped).min(behind.saturating_sub(u64::from(self.left)))
+    }
+}

@@ -1,0 +1,125 @@
+-- Where a run begins: at the one global definition of `_start`.
+
+use Rattle.std.proofs.Common.{◌≡◌, ◌+◌, ℕ, suc, Bool, true, false, cond, Option, Some, None, option_map, List, [], ◌∷◌, ◌++◌, map, refl, sym, ap, ◌∙◌, arith}
+use Rattle.std.specs.Prelude.{◌||◌, ◌&&◌, option_and_then, codes, bytes_eq, if◌then◌else◌}
+use Rattle.std.specs.List.{find}
+use Rattle.std.specs.Option.{option_or}
+use Rattle.std.proofs.lemmas.List.Folds.{list_any-append}
+use Rattle.rv_object.specs.Object.{Symbol, Object}
+use Rattle.rv_object_laws.specs.Inputs.{Starts}
+use Rattle.rv_object_laws.specs.Names.{defined_address, exported, is_one_of, AreDistinct, is_text_definition, begins_run, entry_by, entry_of, global_names}
+use Rattle.rv_resolve.specs.Exports.{Export, export, exports_from, named}
+use Rattle.rv_resolve.proofs.Found.{has_name, named_files}
+use Rattle.rv_resolve.proofs.Shown.{address_at, not_named}
+use Rattle.rv_resolve.proofs.Steps.{names_of_exports}
+use Rattle.rv_resolve.proofs.Table.{same_bytes}
+
+abbrev pub start_name : List ℕ
+start_name = codes "_start"
+
+-- the address of a definition in a section of text
+abbrev pub start_at : Starts → Export → Option ℕ
+start_at starts e = if is_text_definition e.object e.symbol.definition then address_at starts e else None
+
+abbrev own_names : List Symbol → List (List ℕ)
+own_names ss = map (λ s. s.name) ss
+
+-- ---- names of which none stands twice
+
+distinct_right : (xs ys : List (List ℕ)) → AreDistinct (xs ++ ys) → AreDistinct ys
+distinct_right [] ys d = d
+distinct_right (x ∷ xs) ys d = distinct_right xs ys d.1
+
+or_left : (a b : Bool) → (a || b) ≡ false → a ≡ false
+or_left true b e = e
+or_left false b e = refl
+
+or_right : (a b : Bool) → (a || b) ≡ false → b ≡ false
+or_right true b e = absurd (cc)
+or_right false b e = e
+
+distinct_left : (xs ys : List (List ℕ)) → AreDistinct (xs ++ ys) → AreDistinct xs
+distinct_left [] ys d = tt
+distinct_left (x ∷ xs) ys d =
+    (or_left (is_one_of xs x) (is_one_of ys x) (sym (list_any-append (λ n. bytes_eq n x) xs ys) ∙ d.0), distinct_left xs ys d.1)
+
+-- a name of the first ones is none of the others
+distinct_apart : (xs ys : List (List ℕ)) (name : List ℕ) → AreDistinct (xs ++ ys) → is_one_of xs name ≡ true → is_one_of ys name ≡ false
+distinct_apart [] ys name d e = absurd (cc)
+distinct_apart (x ∷ xs) ys name d e = by (bytes_eq x name) refl e (distinct_apart xs ys name d.1)
+  where
+    by : (b : Bool) → bytes_eq x name ≡ b → (b || is_one_of xs name) ≡ true → (is_one_of xs name ≡ true → is_one_of ys name ≡ false) → is_one_of ys name ≡ false
+    by true f h rest =
+        ap (is_one_of ys) (sym (same_bytes x name f))
+        ∙ or_right (is_one_of xs x) (is_one_of ys x) (sym (list_any-append (λ n. bytes_eq n x) xs ys) ∙ d.0)
+    by false f h rest = rest h
+
+-- ---- one file
+
+no_symbol : (ss : List Symbol) (name : List ℕ) → is_one_of (own_names ss) name ≡ false → find (has_name name) ss ≡ None
+no_symbol [] name e = refl
+no_symbol (s ∷ ss) name e =
+    ap (λ b. cond b (Some s) (find (has_name name) ss)) (or_left (bytes_eq s.name name) (is_one_of (own_names ss) name) e)
+    ∙ no_symbol ss name (or_right (bytes_eq s.name name) (is_one_of (own_names ss) name) e)
+
+some_symbol : (ss : List Symbol) (name : List ℕ) (s : Symbol) → find (has_name name) ss ≡ Some s → is_one_of (own_names ss) name ≡ true
+some_symbol ss name s e = by (is_one_of (own_names ss) name) refl
+  where
+    by : (b : Bool) → is_one_of (own_names ss) name ≡ b → b ≡ true
+    by true f = refl
+    by false f = absurd (let t : ◌≡◌ {A = Option Symbol} None (Some s) = sym (no_symbol ss name f) ∙ e in cc)
+
+abbrev in_text : Object → Symbol → Option Symbol
+in_text o s = if is_text_definition o s.definition then Some s else None
+
+-- the first in text of a name is the first of it, where that is in text
+find_text : (o : Object) (ss : List Symbol) → AreDistinct (own_names ss) → find (begins_run o) ss ≡ option_and_then (in_text o) (find (has_name start_name) ss)
+find_text o [] d = refl
+find_text o (s ∷ ss) d = by (bytes_eq s.name start_name) refl (is_text_definition o s.definition) refl (find_text o ss d.1)
+  where
+    by : (b : Bool) → bytes_eq s.name start_name ≡ b → (t : Bool) → is_text_definition o s.definition ≡ t
+        → find (begins_run o) ss ≡ option_and_then (in_text o) (find (has_name start_name) ss)
+        → cond (b && t) (Some s) (find (begins_run o) ss) ≡ option_and_then (in_text o) (cond b (Some s) (find (has_name start_name) ss))
+    by true f true g rest = ap (λ c. if c then Some s else None) (sym g)
+    by true f false g rest =
+        rest ∙ ap (option_and_then (in_text o)) (no_symbol ss start_name (ap (is_one_of (own_names ss)) (sym (same_bytes s.name start_name f)) ∙ d.0))
+        ∙ ap (λ c. if c then Some s else None) (sym g)
+    by false f t g rest = rest
+
+-- ---- all files
+
+entry_none : (found : Option ℕ) → entry_by found None ≡ found
+entry_none None = refl
+entry_none (Some a) = refl
+
+pub entry_found : (starts : Starts) (file : ℕ) (os : List Object) → AreDistinct (global_names os)
+    → entry_of starts (suc file) os ≡ option_and_then (start_at starts) (named (exports_from file os) start_name)
+entry_found starts file [] d = refl
+entry_found starts file (o ∷ os) d =
+    let own = own_names (exported o) in
+    let behind = global_names os in
+    ap (λ f. entry_by (option_and_then (λ (s : Symbol). defined_address (starts (suc file)) o s.definition) f) (entry_of starts (suc (suc file)) os)) (find_text o (exported o) (distinct_left own behind d))
+    ∙ by (find (has_name start_name) (exported o)) refl (entry_found starts (suc file) os (distinct_right own behind d))
+    ∙ ap (option_and_then (start_at starts)) (sym (named_files file o os start_name))
+  where
+    others : (s : Symbol) → find (has_name start_name) (exported o) ≡ Some s → named (exports_from (suc file) os) start_name ≡ None
+    others s f =
+        not_named (exports_from (suc file) os) start_name
+        (ap (λ l. is_one_of l start_name) (names_of_exports (suc file) os)
+        ∙ distinct_apart (own_names (exported o)) (global_names os) start_name d (some_symbol (exported o) start_name s f))
+
+    text : (s : Symbol) (t : Bool)
+        → option_and_then (λ (s : Symbol). defined_address (starts (suc file)) o s.definition) (if t then Some s else None)
+        ≡ (if t then defined_address (starts (file + 1)) o s.definition else None)
+    text s true = ap (λ n. defined_address (starts n) o s.definition) (let e : suc file ≡ file + 1 = omega arith in e)
+    text s false = refl
+
+    by : (f : Option Symbol) → find (has_name start_name) (exported o) ≡ f
+        → entry_of starts (suc (suc file)) os ≡ option_and_then (start_at starts) (named (exports_from (suc file) os) start_name)
+        → entry_by (option_and_then (λ (s : Symbol). defined_address (starts (suc file)) o s.definition) (option_and_then (in_text o) f)) (entry_of starts (suc (suc file)) os)
+        ≡ option_and_then (start_at starts) (option_or (option_map (export file o) f) (named (exports_from (suc file) os) start_name))
+    by None g rest = rest
+    by (Some s) g rest =
+        ap (entry_by (option_and_then (λ (s : Symbol). defined_address (starts (suc file)) o s.definition) (in_text o s))) (rest ∙ ap (option_and_then (start_at starts)) (others s g))
+        ∙ entry_none (option_and_then (λ (s : Symbol). defined_address (starts (suc file)) o s.definition) (in_text o s))
+        ∙ text s (is_text_definition o s.definition)

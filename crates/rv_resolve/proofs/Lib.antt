@@ -1,0 +1,11 @@
+mod Adding
+mod Distinct
+mod Entry
+mod FirstSome
+mod Found
+mod LinkerNames
+mod Meant
+mod Resolved
+mod Shown
+mod Steps
+mod Table

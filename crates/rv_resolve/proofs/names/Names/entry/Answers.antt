@@ -1,0 +1,47 @@
+use Rattle.std.proofs.Common.{◌≡◌, ◌+◌, ◌∙◌, Some, None, option_map, map, ap, sym}
+use Rattle.std.specs.Prelude.{option_and_then, if◌then◌else◌}
+use Rattle.rv_object.specs.View.{object_of}
+use Rattle.rv_object_laws.specs.Names.{defined_address, is_text_definition}
+use Rattle.rv_placement.specs.Placement.{starts_of}
+use Rattle.rv_resolve.specs.declared.names.Exported.{Exported}
+use Rattle.rv_resolve.specs.Exports.{export_of}
+use Rattle.rv_resolve.specs.Names.{kept_of}
+use Rattle.rv_resolve.proofs.Entry.{start_name, start_at, entry_found}
+use Rattle.rv_resolve.proofs.Meant.{kept_held}
+use Rattle.rv_resolve.proofs.Table.{none_kept}
+use Rattle.rv_resolve.proofs.names.Names.entry.Goals as goal
+
+pub returns-then-is_text : goal.returns-then-is_text
+returns-then-is_text c = λ start h stands.
+    let os = map object_of c.args.objects.now in
+    let starts = starts_of c.args.placement.now in
+    let x = c.in-Some.exported in
+    let found : option_map kept_of (export_of os start_name) ≡ Some x =
+    ap (λ n. option_map kept_of (export_of os n)) (sym c.as_slice.ensures) ∙ sym (h.answers c.as_slice.result.now) ∙ sym (c.copied.ensures ∙ c.get.ensures.value) ∙ c.in-Some.is in
+    let k = kept_held os start_name x found in
+    c.defined_address.ensures start k.0.object stands k.3
+    ∙ sym
+    (entry_found starts 0 os h.distinct ∙ ap (option_and_then (start_at starts)) k.1
+    ∙ ap (λ (y : Exported). if is_text_definition k.0.object y.definition then defined_address (starts (y.file + 1)) k.0.object y.definition else None) k.2
+    ∙ ap (λ b. if b then defined_address (starts (x.file + 1)) k.0.object x.definition else None) (sym (c.is_text.ensures k.0.object k.3) ∙ c.if-is_text.true))
+
+pub returns-else-is_text : goal.returns-else-is_text
+returns-else-is_text c = λ start h stands.
+    let os = map object_of c.args.objects.now in
+    let starts = starts_of c.args.placement.now in
+    let x = c.in-Some.exported in
+    let found : option_map kept_of (export_of os start_name) ≡ Some x =
+    ap (λ n. option_map kept_of (export_of os n)) (sym c.as_slice.ensures) ∙ sym (h.answers c.as_slice.result.now) ∙ sym (c.copied.ensures ∙ c.get.ensures.value) ∙ c.in-Some.is in
+    let k = kept_held os start_name x found in
+    sym
+    (entry_found starts 0 os h.distinct ∙ ap (option_and_then (start_at starts)) k.1
+    ∙ ap (λ (y : Exported). if is_text_definition k.0.object y.definition then defined_address (starts (y.file + 1)) k.0.object y.definition else None) k.2
+    ∙ ap (λ b. if b then defined_address (starts (x.file + 1)) k.0.object x.definition else None) (sym (c.is_text.ensures k.0.object k.3) ∙ c.if-is_text.false))
+
+pub returns-in-None : goal.returns-in-None
+returns-in-None c = λ start h stands.
+    let os = map object_of c.args.objects.now in
+    let starts = starts_of c.args.placement.now in
+    let found : option_map kept_of (export_of os start_name) ≡ None =
+    ap (λ n. option_map kept_of (export_of os n)) (sym c.as_slice.ensures) ∙ sym (h.answers c.as_slice.result.now) ∙ sym (c.copied.ensures ∙ c.get.ensures.value) ∙ c.in-None.is in
+    sym (entry_found starts 0 os h.distinct ∙ ap (option_and_then (start_at starts)) (none_kept (export_of os start_name) found))

@@ -1,0 +1,78 @@
+use Rattle.std.proofs.Common.{◌≡◌, ◌<◌, ◌≤◌, ◌∙◌, ◌+◌, ◌++◌, [], List, ℕ, length, map, take, drop, get_or, rules, ap, sym, subst}
+use Rattle.std.specs.Prelude.{bytes_eq}
+use Rattle.std.specs.Borrow.{Bor}
+use Rattle.std.specs.Map.{lookup}
+use Rattle.std.proofs.lemmas.List.{length-map, take_all, at_drop_all}
+use Rattle.std.proofs.lemmas.Result.{err_from_is_err_and}
+use Rattle.rv_object.specs.declared.object.Object.{Object as DeclaredObject}
+use Rattle.rv_object.specs.Parts.{symbol_of}
+use Rattle.rv_object.specs.View.{object_of}
+use Rattle.rv_object_laws.specs.Names.{global_names}
+use Rattle.rv_resolve.specs.Exports.{exports_from, exports_in, names_of, first_again}
+use Rattle.rv_resolve.specs.Names.{Answers, IsDuplicate}
+use Rattle.rv_resolve.proofs.Distinct.{all_apart}
+use Rattle.rv_resolve.proofs.Steps.{viewed, files_more, files_left, names_of_exports}
+use Rattle.rv_resolve.proofs.names.Names.of.Goals as goal
+
+pub loop-file-init : goal.loop-file-init
+loop-file-init c = record {
+  answers = λ name. ap (λ es. lookup (λ (k : Bor (List ℕ)). bytes_eq name k.now) es) c.new.ensures.empty;
+  apart = ap (first_again []) (sym (names_of_exports 0 (map object_of c.args.objects.now)));
+}
+
+pub loop-file-preserved : goal.loop-file-preserved
+loop-file-preserved c =
+    let i = c.loop-file.file in
+    let xs = c.args.objects.now in
+    let os = map object_of xs in
+    let x = c.index-objects-file.result in
+    let o = object_of x in
+    let inside : i < length xs = search rules in
+    let inside' : i < length os = subst (λ n. i < n) (sym (length-map xs object_of)) inside in
+    let is : o ≡ get_or os i o = viewed object_of xs i x inside c.index-objects-file.is in
+    let own : exports_in i o (map symbol_of c.as_slice.result.now) ≡ exports_in i o o.symbols = ap (λ l. exports_in i o (map symbol_of l)) c.as_slice.ensures.value ∙ ap (λ (y : DeclaredObject). exports_in i o (map symbol_of y.symbols.items)) (sym c.index-objects-file.is) in
+    let done = exports_from 0 (take i os) in
+    let behind = names_of (exports_from (i + 1) (drop (i + 1) os)) in
+    record {
+      answers =
+          subst (λ l. Answers l c.put_all.new.self) (ap (λ l. done ++ l) own ∙ files_more os i o inside' is)
+          (c.in_ok-put_all.ensures.added o done c.loop-file.invariant.answers).0;
+      apart =
+          c.loop-file.invariant.apart ∙ ap (first_again (names_of done)) (files_left os i o inside' is ∙ ap (λ l. names_of l ++ behind) (sym own))
+          ∙ (c.in_ok-put_all.ensures.added o done c.loop-file.invariant.answers).1 behind
+          ∙ ap (λ l. first_again (names_of l) behind) (ap (λ l. done ++ l) own ∙ files_more os i o inside' is);
+    }
+
+pub returns-in_err-put_all-clause-refuses : goal.returns-in_err-put_all-clause-refuses
+returns-in_err-put_all-clause-refuses c =
+    let i = c.loop-file.file in
+    let xs = c.args.objects.now in
+    let os = map object_of xs in
+    let x = c.index-objects-file.result in
+    let o = object_of x in
+    let inside : i < length xs = search rules in
+    let inside' : i < length os = subst (λ n. i < n) (sym (length-map xs object_of)) inside in
+    let is : o ≡ get_or os i o = viewed object_of xs i x inside c.index-objects-file.is in
+    let own : exports_in i o (map symbol_of c.as_slice.result.now) ≡ exports_in i o o.symbols = ap (λ l. exports_in i o (map symbol_of l)) c.as_slice.ensures.value ∙ ap (λ (y : DeclaredObject). exports_in i o (map symbol_of y.symbols.items)) (sym c.index-objects-file.is) in
+    let done = exports_from 0 (take i os) in
+    let behind = names_of (exports_from (i + 1) (drop (i + 1) os)) in
+    let found = err_from_is_err_and c.from_residual.result c.from_residual.ensures.1 in
+    let fault = c.in_err-put_all.field-0.0 in
+    rw (found.1, found.2) (subst (IsDuplicate fault)
+    (sym (c.loop-file.invariant.apart ∙ ap (first_again (names_of done)) (files_left os i o inside' is ∙ ap (λ l. names_of l ++ behind) (sym own))))
+    (c.in_err-put_all.ensures.refuses o done c.loop-file.invariant.answers behind))
+
+pub returns-clause-names : goal.returns-clause-names
+returns-clause-names c =
+    let n = c.loop-file.file in
+    let xs = c.args.objects.now in
+    let os = map object_of xs in
+    let past : length os ≤ n = subst (λ k. k ≤ n) (sym (length-map xs object_of)) (search rules) in
+    record {
+      answers = subst (λ l. Answers (exports_from 0 l) c.loop-file.names) (take_all n os past) c.loop-file.invariant.answers;
+      distinct = all_apart [] (global_names os)
+          (c.loop-file.invariant.apart ∙ at_drop_all (λ l. first_again (names_of (exports_from 0 (take n os))) (names_of (exports_from n l))) os n past);
+    }
+
+pub returns-clause-distinct : goal.returns-clause-distinct
+returns-clause-distinct c = (returns-clause-names c).distinct

@@ -1,0 +1,24 @@
+use Rattle.std.proofs.Common.{◌∙◌, ◌∷◌, ◌++◌, [], map, ap, sym, append-nil}
+use Rattle.std.specs.Prelude.{cond, not}
+use Rattle.std.proofs.lemmas.List.{map-append}
+use Rattle.rv_map.specs.Map.{global_of}
+use Rattle.rv_object_laws.specs.Names.{global}
+use Rattle.rv_resolve.proofs.Adding.{is_taken}
+use Rattle.rv_resolve.proofs.names.Names.put_linker_symbol.Goals as goal
+
+pub returns-then-is_some : goal.returns-then-is_some
+returns-then-is_some c = λ os h.
+    let old = map global_of c.args.globals.now.items in
+    let g = global c.args.name.now c.args.address in
+    let taken = is_taken os c.args.self.now c.args.name.now c.get.result _ h c.get.ensures.value (sym c.is_some.ensures ∙ c.if-is_some.true) in
+    sym (append-nil old) ∙ ap (λ b. old ++ cond (not b) (g ∷ []) []) (sym taken)
+
+pub returns : goal.returns
+returns c = λ os h.
+    let items = c.args.globals.now.items in
+    let old = map global_of items in
+    let g = global c.args.name.now c.args.address in
+    let free = is_taken os c.args.self.now c.args.name.now c.get.result _ h c.get.ensures.value (sym c.is_some.ensures ∙ c.if-is_some.false) in
+    ap (map global_of) c.in_ok-push.ensures.items ∙ map-append global_of items (_ ∷ [])
+    ∙ ap (λ n. old ++ global n c.args.address ∷ []) c.in_ok-name.ensures.items
+    ∙ ap (λ b. old ++ cond (not b) (g ∷ []) []) (sym free)

@@ -1,0 +1,5 @@
+pub mod Exports
+pub mod Names
+pub mod Shown
+pub mod Resolved
+pub mod Undefined

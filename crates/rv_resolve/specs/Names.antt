@@ -1,0 +1,62 @@
+-- The table of the code: what it answers.
+
+use Rattle.std.specs.Prelude.{◌≡◌, ◌+◌, ◌++◌, ⊤, ℕ, List, Option, Some, option_map, bytes_eq, if◌then◌else◌}
+use Rattle.std.specs.Borrow.{Bor}
+use Rattle.indexmap.specs.IndexMap.{get_by}
+use Rattle.rv_object.specs.Object.{Symbol, Object}
+use Rattle.rv_object_laws.specs.Names.{AreDistinct, global_names, is_defined, Place}
+use Rattle.rv_resolve.specs.declared.fault.ResolveFault.{ResolveFault}
+use Rattle.rv_resolve.specs.declared.fault.ResolveFault.TheVariants.{Duplicate, OutOfMemory}
+use Rattle.rv_resolve.specs.declared.names.Exported.{Exported}
+use Rattle.rv_resolve.specs.declared.names.Names.{Names}
+use Rattle.rv_resolve.specs.Exports.{Export, exports_from, named, names_of, export_of, first_again}
+
+-- what is kept of a definition for all files
+abbrev pub kept_of : Export → Exported
+kept_of e = record { file = e.file; definition = e.symbol.definition }
+
+-- a name is answered with the first of these definitions that has it
+abbrev pub Answers : List Export → Names → Type 0
+Answers es names =
+    (name : List ℕ) →
+    get_by (λ (k : Bor (List ℕ)). bytes_eq name k.now) names.by_name
+    ≡ option_map kept_of (named es name)
+
+-- the name that is refused is this one; memory may run out whatever the names are
+abbrev pub IsDuplicate : ResolveFault → Option (List ℕ) → Type 0
+IsDuplicate (Duplicate name) found = found ≡ Some name.now
+IsDuplicate OutOfMemory found = ⊤
+
+-- after some definitions these came to the table, and the name of each was new
+abbrev pub AreAdded : List Export → List Export → Names → Type 0
+AreAdded es more names =
+    Answers (es ++ more) names
+    × ((rest : List (List ℕ)) →
+    first_again (names_of es) (names_of more ++ rest)
+    ≡ first_again (names_of (es ++ more)) rest)
+
+-- after some definitions these are refused: the first name that is not new is this one
+abbrev pub IsRefused : ResolveFault → List Export → List Export → Type 0
+IsRefused fault es more =
+    (rest : List (List ℕ)) → IsDuplicate fault (first_again (names_of es) (names_of more ++ rest))
+
+-- the names of objects, of which none has two definitions for all files
+pub record IsNames (os : List Object) (names : Names) : Type 0 where
+  pub answers : Answers (exports_from 0 os) names
+  pub distinct : AreDistinct (global_names os)
+
+-- ---- what symbols mean
+
+-- what a symbol of a file means: what its own object defines, else the definition of its name
+abbrev pub meant_by : List Object → ℕ → Symbol → Option Exported
+meant_by os file s =
+    if is_defined s.definition
+    then Some (record { file = file; definition = s.definition })
+    else option_map kept_of (export_of os s.name)
+
+-- a place, of which the code counts files from 0
+abbrev pub place_of : ℕ × ℕ × ℕ → Place
+place_of p = record { file = p.0 + 1; section = p.1; offset = p.2 }
+
+abbrev pub bytes_of : Bor (List ℕ) → List ℕ
+bytes_of name = name.now

@@ -1,0 +1,152 @@
+//! What symbols mean: their addresses and their places.
+
+ghost use Rattle.std.specs.Prelude.{◌≡◌, ◌+◌, ℕ, List, Some, map, option_map};
+ghost use Rattle.std.specs.List.{slice_get};
+ghost use Rattle.rv_object.specs.Object.{Object as SaidObject};
+ghost use Rattle.rv_object.specs.Parts.{symbol_of};
+ghost use Rattle.rv_object.specs.View.{object_of};
+ghost use Rattle.rv_object_laws.specs.Names as laws;
+ghost use Rattle.rv_placement.specs.Placement.{starts_of, IsPlacement};
+ghost use Rattle.rv_resolve.specs.Names.{IsNames, place_of};
+ghost use Rattle.rv_resolve.specs.Shown.{shown_globals, regions_of};
+
+use crate::names::{Exported, Names};
+use rv_object::{Definition, Object, Symbol};
+use rv_placement::Placement;
+
+impl<'o> Names<'o> {
+    /// What a symbol of a file, from 0, means: its address; none where it has none.
+    pub fn address(
+        &self,
+        objects: &[Object],
+        placement: &Placement,
+        file: usize,
+        symbol: &Symbol,
+    ) -> Option<u64>
+        ensures { (start : ℕ) (o : SaidObject) → IsNames (map object_of objects.now) self.now
+            → IsPlacement (map object_of objects.now) start placement.now
+            → slice_get (map object_of objects.now) file ≡ Some o
+            → result ≡ laws.symbol_address (shown_globals (map object_of objects.now) placement.now)
+            (starts_of placement.now (file + 1)) o (symbol_of symbol.now) }
+    {
+        match self.meant(file, symbol) {
+            Some(exported) => {
+                defined_address(objects, placement, exported.file, exported.definition)
+            }
+            None => linker_address(placement, symbol.name.as_slice()),
+        }
+    }
+
+    /// Where a symbol of a file, from 0, stands: a file, from 0, a section there, and an offset that has not moved. None where
+    /// it is a number or the linker's.
+    pub fn place(&self, file: usize, symbol: &Symbol) -> Option<(usize, u32, u64)>
+        ensures { (os : List SaidObject) → IsNames os self.now
+            → option_map place_of result ≡ laws.symbol_place os (file + 1) (symbol_of symbol.now) }
+    {
+        match self.meant(file, symbol) {
+            Some(exported) => placed(exported),
+            None => None,
+        }
+    }
+
+    /// Where a run begins: the address of the global `_start`, if that stands in a section of text.
+    pub fn entry(&self, objects: &[Object], placement: &Placement) -> Option<u64>
+        ensures { (start : ℕ) → IsNames (map object_of objects.now) self.now
+            → IsPlacement (map object_of objects.now) start placement.now
+            → result ≡ laws.entry_of (starts_of placement.now) 1 (map object_of objects.now) }
+    {
+        match self.by_name.get(&b"_start".as_slice()).copied() {
+            Some(exported) => {
+                if is_text(objects, exported.file, exported.definition) {
+                    defined_address(objects, placement, exported.file, exported.definition)
+                } else {
+                    None
+                }
+            }
+            None => None,
+        }
+    }
+}
+
+/// The file, section and offset of a definition.
+fn placed(exported: Exported) -> Option<(usize, u32, u64)>
+    ensures { option_map place_of result ≡ laws.place_in (exported.file + 1) exported.definition }
+{
+    match exported.definition {
+        Definition::InSection(section, offset) => Some((exported.file, section, offset)),
+        _ => None,
+    }
+}
+
+/// The address of what a file defines.
+pub(crate) fn defined_address(
+    objects: &[Object],
+    placement: &Placement,
+    file: usize,
+    definition: Definition,
+) -> Option<u64>
+    ensures { (start : ℕ) (o : SaidObject)
+        → IsPlacement (map object_of objects.now) start placement.now
+        → slice_get (map object_of objects.now) file ≡ Some o
+        → result ≡ laws.defined_address (starts_of placement.now (file + 1)) o definition }
+{
+    match definition {
+        Definition::Undefined => None,
+        Definition::Absolute(number) => Some(number),
+        Definition::InSection(section, offset) => placement.address(objects, file, section, offset),
+        Definition::Skipped(_) => None,
+    }
+}
+
+/// Whether a definition of a file stands in a section of text.
+fn is_text(objects: &[Object], file: usize, definition: Definition) -> bool
+    ensures { (o : SaidObject) → slice_get (map object_of objects.now) file ≡ Some o
+        → result ≡ laws.is_text_definition o definition }
+{
+    match definition {
+        Definition::InSection(section, _) => goes_to_text(objects, file, section),
+        _ => false,
+    }
+}
+
+/// Whether a section of a file is one of text.
+fn goes_to_text(objects: &[Object], file: usize, section: u32) -> bool
+    ensures { (o : SaidObject) → slice_get (map object_of objects.now) file ≡ Some o
+        → result ≡ laws.is_in_text (slice_get o.sections section) }
+{
+    match objects.get(file) {
+        Some(object) => match object.sections.get(section as usize) {
+            Some(section) => section.loaded && section.executable,
+            None => false,
+        },
+        None => false,
+    }
+}
+
+/// The address of a name that the linker gives.
+fn linker_address(placement: &Placement, name: &[u8]) -> Option<u64>
+    ensures { (os : List SaidObject) (start : ℕ) → IsPlacement os start placement.now
+        → result ≡ laws.global_address (laws.linker_symbols (regions_of placement.now)) name.now }
+{
+    if name == b"_etext".as_slice() {
+        Some(placement.text.end)
+    } else if name == b"__bss_start".as_slice() {
+        Some(placement.bss.start)
+    } else if name == b"_edata".as_slice() {
+        Some(placement.data.end)
+    } else if name == b"_end".as_slice() {
+        Some(placement.bss.end)
+    } else if name == b"__global_pointer$".as_slice() {
+        Some(global_pointer(placement))
+    } else {
+        None
+    }
+}
+
+/// The address of `__global_pointer$`, from which code reaches the most of the variables.
+pub(crate) fn global_pointer(placement: &Placement) -> u64
+    ensures { (os : List SaidObject) (start : ℕ) → IsPlacement os start placement.now
+        → result ≡ (placement.now).data.start + 0x800 }
+{
+    placement.data.start.wrapping_add(0x800)
+}

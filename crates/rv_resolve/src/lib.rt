@@ -1,0 +1,29 @@
+//! What names mean across objects: the global definitions by their names, what has none, and where a run begins.
+//!
+//! It takes objects (`rv_object`), and where their sections stand (`rv_placement`). It gives [`Names`], the table of the global
+//! definitions: [`Names::of`] refuses a name that has two, and [`Names::undefined`] finds the first reference without a meaning.
+//! The main contract is that of [`Names::address`]: the address of a symbol is the one that `rv_object_laws` defines
+//! (`specs/Names`, `symbol_address`) by the names of [`Names::globals`], found without a search.
+//!
+//! It knows neither bytes, values of relocations, nor how a section's place is found.
+//!
+//! ```text
+//! let names = Names::of(alloc, &objects)?;
+//! if let Some(name) = names.undefined(&objects) { .. }
+//! let placement = Placement::of(alloc, &objects, 0x10000)?;
+//! let globals = names.globals(alloc, &objects, &placement)?;
+//! let address = names.address(&objects, &placement, file, symbol);
+//! ```
+//!
+//! Source: System V gABI, "Symbol Table"; GNU ld, "Symbols".
+#![tactic(auto)]
+
+mod addresses;
+mod fault;
+mod globals;
+mod names;
+mod symbol;
+mod undefined;
+
+pub use fault::ResolveFault;
+pub use names::Names;

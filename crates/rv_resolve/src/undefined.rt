@@ -1,0 +1,158 @@
+//! References without a meaning.
+
+ghost use Rattle.std.specs.Prelude.{◌≡◌, ◌++◌, Some, map, option_map, IfNone};
+ghost use Rattle.std.specs.List.{slice_get};
+ghost use Rattle.rv_map.specs.Map.{Map};
+ghost use Rattle.rv_object.specs.Object.{Object as SaidObject};
+ghost use Rattle.rv_object.specs.Parts.{relocation_of, symbol_of};
+ghost use Rattle.rv_object.specs.View.{object_of};
+ghost use Rattle.rv_object_laws.specs.Inputs.{Starts};
+ghost use Rattle.rv_object_laws.specs.Names.{globals_of, is_one_of, shown_linker_symbols};
+ghost use Rattle.rv_resolve.specs.Names.{IsNames, bytes_of};
+ghost use Rattle.rv_resolve.specs.Resolved.{AreResolved};
+ghost use Rattle.rv_resolve.specs.Undefined as laws;
+
+use crate::names::Names;
+use rv_object::{Definition, Object, Relocation, Symbol};
+
+impl<'o> Names<'o> {
+    /// The first reference without a meaning, by object, section and relocation: the name of its symbol.
+    pub fn undefined(&self, objects: &'o [Object]) -> Option<&'o [u8]>
+        ensures first { IsNames (map object_of objects.now) self.now
+            → option_map bytes_of result ≡ laws.first_undefined (map object_of objects.now) }
+        ensures resolved { IfNone result (IsNames (map object_of objects.now) self.now
+            → (starts : Starts) (m : Map) → m.globals
+            ≡ globals_of starts 1 (map object_of objects.now)
+            ++ shown_linker_symbols (map object_of objects.now) m
+            → AreResolved starts (map object_of objects.now) m.globals) }
+    {
+        for file in 0..objects.len() {
+            match self.undefined_in(objects, file, &objects[file]) {
+                Some(name) => return Some(name),
+                None => (),
+            }
+        }
+        None
+    }
+
+    /// The first in an object.
+    fn undefined_in(&self, objects: &[Object], file: usize, object: &'o Object) -> Option<&'o [u8]>
+        ensures { IsNames (map object_of objects.now) self.now
+            → slice_get (map object_of objects.now) file ≡ Some (object_of object.now)
+            → option_map bytes_of result
+            ≡ laws.first_some (laws.undefined_in (map object_of objects.now) (object_of object.now))
+            (object_of object.now).sections }
+    {
+        for section in &object.sections {
+            if !section.loaded {
+                continue;
+            }
+            match self.undefined_among(objects, file, object, section.relocations.as_slice()) {
+                Some(name) => return Some(name),
+                None => (),
+            }
+        }
+        None
+    }
+
+    /// The first of relocations of an object.
+    fn undefined_among(
+        &self,
+        objects: &[Object],
+        file: usize,
+        object: &'o Object,
+        relocations: &[Relocation],
+    ) -> Option<&'o [u8]>
+        ensures { IsNames (map object_of objects.now) self.now
+            → slice_get (map object_of objects.now) file ≡ Some (object_of object.now)
+            → option_map bytes_of result
+            ≡ laws.first_some
+            (λ r. laws.undefined_name (map object_of objects.now) (object_of object.now) r.symbol)
+            (map relocation_of relocations.now) }
+    {
+        for relocation in relocations {
+            match self.undefined_name(objects, file, object, relocation) {
+                Some(name) => return Some(name),
+                None => (),
+            }
+        }
+        None
+    }
+
+    /// The name of a relocation's symbol, if that has no address.
+    fn undefined_name(
+        &self,
+        objects: &[Object],
+        file: usize,
+        object: &'o Object,
+        relocation: &Relocation,
+    ) -> Option<&'o [u8]>
+        ensures { IsNames (map object_of objects.now) self.now
+            → slice_get (map object_of objects.now) file ≡ Some (object_of object.now)
+            → option_map bytes_of result
+            ≡ laws.undefined_name (map object_of objects.now) (object_of object.now)
+            (relocation.now).symbol }
+    {
+        let index = relocation.symbol?;
+        match object.symbols.get(index as usize) {
+            Some(symbol) => {
+                if self.is_resolved(objects, file, symbol) {
+                    None
+                } else {
+                    Some(symbol.name.as_slice())
+                }
+            }
+            None => Some(b"".as_slice()),
+        }
+    }
+
+    /// Whether a symbol of an object has an address, wherever sections stand.
+    fn is_resolved(&self, objects: &[Object], file: usize, symbol: &Symbol) -> bool
+        ensures { (o : SaidObject) → IsNames (map object_of objects.now) self.now
+            → slice_get (map object_of objects.now) file ≡ Some o
+            → result ≡ laws.is_resolved (map object_of objects.now) o (symbol_of symbol.now) }
+    {
+        match self.meant(file, symbol) {
+            Some(exported) => has_address(objects, exported.file, exported.definition),
+            None => is_linker_name(symbol.name.as_slice()),
+        }
+    }
+}
+
+/// Whether a definition of a file has an address, wherever sections stand.
+fn has_address(objects: &[Object], file: usize, definition: Definition) -> bool
+    ensures { (o : SaidObject) → slice_get (map object_of objects.now) file ≡ Some o
+        → result ≡ laws.has_address o definition }
+{
+    match definition {
+        Definition::Undefined => false,
+        Definition::Absolute(_) => true,
+        Definition::InSection(section, _) => is_loaded(objects, file, section),
+        Definition::Skipped(_) => false,
+    }
+}
+
+/// Whether a section of a file has a place in memory.
+fn is_loaded(objects: &[Object], file: usize, section: u32) -> bool
+    ensures { (o : SaidObject) → slice_get (map object_of objects.now) file ≡ Some o
+        → result ≡ laws.is_loaded_at (slice_get o.sections section) }
+{
+    match objects.get(file) {
+        Some(object) => match object.sections.get(section as usize) {
+            Some(section) => section.loaded,
+            None => false,
+        },
+        None => false,
+    }
+}
+
+/// Whether the linker gives a name.
+fn is_linker_name(name: &[u8]) -> bool
+    ensures { result ≡ is_one_of laws.linker_names name.now }
+{
+    name == b"_etext".as_slice()
+        || name == b"__bss_start".as_slice()
+        || name == b"_edata".as_slice()
+        || name == b"_end".as_slice()
+        || name == b"__global_pointer$".as_slice()
+}

@@ -1,0 +1,3 @@
+pub mod Highs
+pub mod Symbols
+pub mod Values
