@@ -1,1 +1,4 @@
 pub mod Filled
+pub mod SpelledNames
+pub mod Homes
+pub mod Held

@@ -1,11 +1,20 @@
 //! Laws of the definitions.
 
 ghost use Rattle.std.specs.Prelude.{◌≡◌, ℕ, List, length, flat_map};
+ghost use Rattle.rv_statement.specs.Statement.{Statement};
+ghost use Rattle.rv_parse_laws.specs.Reading.{Reads};
 ghost use Rattle.rv_unit_laws.specs.Tables.{Tables};
 ghost use Rattle.rv_assemble_laws.specs.Sites.{Site, Tile, end_of, part_bytes, parts};
+ghost use Rattle.rv_assemble_laws.specs.ShownNames.{HasNames};
 
 /// The statements of a section end where its bytes end.
 pub fn statements_fill_sections()
     ensures { (t : Tables) (sites : List Site) → Tile t 0 sites →
         end_of 0 sites ≡ length (flat_map part_bytes (parts t sites)) }
+{}
+
+/// A map can show each name that a source says: labels, names that are set or listed, symbols in expressions.
+pub fn names_are_shown()
+    ensures { (text : List ℕ) (statements : List Statement) → Reads text statements →
+        HasNames statements }
 {}

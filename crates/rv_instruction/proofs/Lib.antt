@@ -1,0 +1,2 @@
+pub mod StatementKinds
+pub mod Unplaced

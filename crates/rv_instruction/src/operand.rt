@@ -1,0 +1,339 @@
+//! The faults of an instruction's operands, by the values of their expressions.
+
+ghost use Rattle.std.specs.Prelude.{◌≡◌, ℕ, ◌+◌, ◌^◌, ◌==◌, Bool, false, not, nat_lt, List, ◌++◌, Some, None, is_some, MatchOption};
+ghost use Rattle.rv_isa.specs.Ranges.{IsSigned12};
+ghost use Rattle.rv_text_laws.specs.Codes.{scratch_register, immediate_range};
+ghost use Rattle.rv_text_laws.specs.Expression.{Primary};
+ghost use Rattle.rv_text_laws.specs.Values as values;
+ghost use Rattle.rv_lexer.specs.Fault.{number_of};
+ghost use Rattle.rv_text.specs.Nodes.{symbol_of};
+ghost use Rattle.rv_parse_laws.specs.Syntax as syntax;
+ghost use Rattle.rv_unit_laws.specs.Faults as faults;
+ghost use Rattle.rv_unit_laws.specs.Tables.{tables, definition};
+ghost use Rattle.rv_source_laws.specs.Meaning.{fits_12};
+ghost use Rattle.rv_source_laws.specs.Written.{signed};
+ghost use Rattle.rv_unit.specs.Faults.{IsLowest, ForValue};
+ghost use Rattle.rv_unit.specs.Unit.{said, IsFilled, IsScope};
+ghost use Rattle.rv_assemble_laws.specs.InstructionFaults as laws;
+ghost use Rattle.rv_instruction.specs.Code.{mnemonic_of, takes_target, scratch_of, function_faults};
+ghost use Rattle.rv_instruction.specs.Scoped.{labels_at};
+
+use rv_isa::{Reg, RegisterOperation};
+use rv_statement::{Function, Operation};
+use rv_text::{SourceCode, SourceFault, Symbol, Value};
+use rv_unit::Scope;
+
+/// What an expression is worth, or its fault.
+pub(crate) type Outcome<'a> = Result<Value<'a>, SourceFault>;
+
+/// Whether an expression that stands where the operation has one is a target, and not a number.
+pub(crate) fn takes_target(operation: &Operation) -> bool
+    ensures { result ≡ takes_target operation.now }
+{
+    match operation {
+        Operation::Branch(..)
+        | Operation::Jal(_)
+        | Operation::JalLinked
+        | Operation::LoadSymbol(..)
+        | Operation::StoreSymbol(..)
+        | Operation::ZeroBranch(..)
+        | Operation::SwappedBranch(..)
+        | Operation::J
+        | Operation::La(_)
+        | Operation::Call(_)
+        | Operation::CallLinked
+        | Operation::Tail
+        | Operation::Jump(_) => true,
+        _ => false,
+    }
+}
+
+/// Whether an operation on registers has a form with an amount in place of the last.
+fn is_shift(operation: RegisterOperation) -> bool
+    ensures { result ≡ not (laws.is_signed_12 (syntax.with_constant operation)) }
+{
+    matches!(
+        operation,
+        RegisterOperation::Sll
+            | RegisterOperation::Srl
+            | RegisterOperation::Sra
+            | RegisterOperation::Sllw
+            | RegisterOperation::Srlw
+            | RegisterOperation::Sraw
+    )
+}
+
+/// Whether an operation's number may be the low part of an address.
+fn takes_address(operation: Operation) -> bool
+    ensures { result ≡ laws.takes_address (mnemonic_of operation) }
+{
+    match operation {
+        Operation::Registers(operation, ..) => !is_shift(operation),
+        Operation::Shift(..) | Operation::Li(_) => false,
+        _ => true,
+    }
+}
+
+/// Whether a register is x0.
+fn is_zero(register: Reg) -> bool
+    ensures { result ≡ (register == 0) }
+{
+    register.number() == 0
+}
+
+/// Whether a register on the way to a symbol cannot be used: x0 holds no address, and a store still needs its own.
+fn is_bad_scratch(operation: Operation) -> bool
+    ensures { faults.faulty_if result scratch_register ≡ scratch_of operation }
+{
+    match operation {
+        Operation::LoadSymbol(_, rd) => is_zero(rd),
+        Operation::StoreSymbol(_, rs2, rt) => is_zero(rt) || rt.number() == rs2.number(),
+        Operation::Call(rd) => is_zero(rd),
+        Operation::Jump(rt) => is_zero(rt),
+        _ => false,
+    }
+}
+
+/// The code, where it is a fault.
+fn faulty_if(test: bool, code: SourceCode) -> Option<SourceCode>
+    ensures { IsLowest result (faults.faulty_if test (number_of code)) }
+{
+    if test { Some(code) } else { None }
+}
+
+/// The fault of a statement that also has that of a scratch register, if it has: the lower one.
+#[tactic(auto, using(crate::proofs::Unplaced::first_lowest))]
+fn beside_scratch(is_bad: bool, fault: Option<SourceCode>) -> Option<SourceCode>
+    ensures { (cs : List ℕ) → IsLowest fault cs
+        → IsLowest result (faults.faulty_if is_bad scratch_register ++ cs) }
+{
+    if !is_bad {
+        return fault;
+    }
+    match fault {
+        Some(code) => Some(if code.number() < 10 {
+            code
+        } else {
+            SourceCode::ScratchRegister
+        }),
+        None => Some(SourceCode::ScratchRegister),
+    }
+}
+
+/// The code of a fault, or of what cannot be placed yet.
+#[tactic(auto, using(crate::proofs::Unplaced::unplaced_none, crate::proofs::Unplaced::unplaced_some))]
+fn else_unplaced(found: Option<SourceCode>) -> SourceCode
+    ensures { (cs : List ℕ) → IsLowest found cs
+        → faults.lowest (laws.else_unplaced false cs) ≡ Some (number_of result) }
+{
+    match found {
+        Some(code) => code,
+        None => SourceCode::UnsupportedHere,
+    }
+}
+
+// ---- numbers
+
+/// The immediate of 12 bits that a number is, taken as signed.
+pub(crate) fn immediate_of(number: u64) -> Option<i32>
+    ensures { MatchOption result (fits_12 number ≡ None)
+        (λ i. (fits_12 number ≡ Some number) × (i ≡ signed number) × IsSigned12 i) }
+{
+    let above = number.wrapping_add(2048);
+    if above < 4096 {
+        Some(above as i32 - 2048)
+    } else {
+        None
+    }
+}
+
+/// Whether a number fits 12 signed bits.
+fn fits_immediate(number: u64) -> bool
+    ensures { result ≡ is_some (fits_12 number) }
+{
+    number.wrapping_add(2048) < 4096
+}
+
+/// Whether a number is in the range of the form with a constant of an operation on registers.
+fn form_takes(operation: RegisterOperation, number: u64) -> bool
+    ensures { result ≡ laws.form_takes (syntax.with_constant operation) number }
+{
+    match operation {
+        RegisterOperation::Add
+        | RegisterOperation::Slt
+        | RegisterOperation::Sltu
+        | RegisterOperation::Xor
+        | RegisterOperation::Or
+        | RegisterOperation::And
+        | RegisterOperation::Addw => fits_immediate(number),
+        RegisterOperation::Sll | RegisterOperation::Srl | RegisterOperation::Sra => number < 64,
+        RegisterOperation::Sllw | RegisterOperation::Srlw | RegisterOperation::Sraw => number < 32,
+        _ => false,
+    }
+}
+
+/// Whether a number is in the range of an operation's.
+fn takes(operation: Operation, number: u64) -> bool
+    ensures { faults.faulty_if (not result) immediate_range
+        ≡ laws.range_faults (mnemonic_of operation) number }
+{
+    match operation {
+        Operation::Registers(operation, ..) => form_takes(operation, number),
+        Operation::Shift(operation, ..) => number < u64::from(operation.limit()),
+        Operation::Upper(..) => number < 1 << 20,
+        Operation::Li(_) => true,
+        _ => fits_immediate(number),
+    }
+}
+
+/// Whether the upper part of a number has 20 bits.
+fn has_upper_part(number: u64) -> bool
+    ensures { result ≡ nat_lt (laws.upper_part number) (2 ^ 20) }
+{
+    number.wrapping_add(2048) / 4096 < 1 << 20
+}
+
+/// The low 12 bits of a number, taken as signed.
+fn low_part(number: u64) -> u64
+    ensures { result ≡ laws.low_part number }
+{
+    let low = number % 4096;
+    if low < 2048 {
+        low
+    } else {
+        low + 0xffff_ffff_ffff_f000
+    }
+}
+
+// ---- targets, and parts of numbers and addresses
+
+/// The fault of a target.
+fn target_fault(value: &Outcome<'_>) -> Option<SourceCode>
+    ensures { ForValue value.now (λ v. IsLowest result (laws.target_faults v)) }
+{
+    match value {
+        Ok(Value::Constant(_)) => Some(SourceCode::ImmediateRange),
+        Ok(Value::Symbolic(..)) => None,
+        Ok(Value::Difference(..)) => Some(SourceCode::NotConstant),
+        Err(SourceFault::At { code, .. }) => Some(*code),
+        Err(SourceFault::OutOfMemory) => None,
+    }
+}
+
+/// The fault of a value whose upper part is taken.
+fn upper_fault(value: &Outcome<'_>) -> Option<SourceCode>
+    ensures { ForValue value.now (λ v. IsLowest result (laws.upper_faults v)) }
+{
+    match value {
+        Ok(Value::Constant(number)) => {
+            faulty_if(!has_upper_part(*number), SourceCode::ImmediateRange)
+        }
+        _ => target_fault(value),
+    }
+}
+
+/// The fault of a value whose low part is an operation's number.
+fn low_fault(operation: Operation, value: &Outcome<'_>) -> Option<SourceCode>
+    ensures { ForValue value.now
+        (λ v. IsLowest result (laws.low_faults (mnemonic_of operation) v)) }
+{
+    match value {
+        Ok(Value::Constant(number)) => faulty_if(
+            !takes(operation, low_part(*number)),
+            SourceCode::ImmediateRange,
+        ),
+        Ok(Value::Symbolic(..)) => faulty_if(!takes_address(operation), SourceCode::NotConstant),
+        _ => target_fault(value),
+    }
+}
+
+/// Whether a symbol of the next statement stands somewhere in its source.
+#[tactic(auto, using(crate::proofs::Unplaced::some_mapped))]
+fn is_defined<'a>(scope: &Scope<'_, 'a>, symbol: Symbol<'a>) -> bool
+    ensures { (index : ℕ) → IsFilled (scope.now).unit.now → IsScope scope.now index
+        → result ≡ is_some
+        (definition (tables (said (scope.now).unit.now)) (index + 1) (symbol_of symbol.entry)) }
+{
+    scope.definition(symbol).is_some()
+}
+
+/// Whether a symbol of the next statement is a label of its source.
+fn is_label<'a>(scope: &Scope<'_, 'a>, symbol: Symbol<'a>) -> bool
+    ensures { (index : ℕ) → IsFilled (scope.now).unit.now → IsScope scope.now index
+        → result ≡ labels_at scope.now index (symbol_of symbol.entry) }
+{
+    match symbol {
+        Symbol::Name(name) => scope.is_label(name),
+        Symbol::Here => false,
+        Symbol::Backward(digits) => is_defined(scope, Symbol::Backward(digits)),
+        Symbol::Forward(digits) => is_defined(scope, Symbol::Forward(digits)),
+    }
+}
+
+/// Whether a value in the next statement is a label of its source.
+fn is_labelled<'a>(scope: &Scope<'_, 'a>, value: &Outcome<'a>) -> bool
+    ensures { (index : ℕ) → IsFilled (scope.now).unit.now → IsScope scope.now index
+        → ForValue value.now (λ v. result ≡ laws.is_labelled (labels_at scope.now index) v) }
+{
+    match value {
+        Ok(Value::Symbolic(symbol, _)) => is_label(scope, *symbol),
+        _ => false,
+    }
+}
+
+/// The fault of a value that names where the upper part of a distance stands, whose low part is an operation's number.
+fn distance_fault(operation: Operation, is_labelled: bool) -> Option<SourceCode>
+    ensures { (l : Primary → Bool) (v : values.Value) → is_labelled ≡ laws.is_labelled l v
+        → IsLowest result (laws.distance_faults l (mnemonic_of operation) v) }
+{
+    if !is_labelled {
+        return Some(SourceCode::UndefinedLocal);
+    }
+    faulty_if(!takes_address(operation), SourceCode::NotConstant)
+}
+
+// ---- operands that cannot be placed yet
+
+/// The lowest code of an operation with a target.
+pub(crate) fn target_code(operation: Operation, value: Outcome<'_>) -> SourceCode
+    ensures { ForValue value.entry (λ v.
+        faults.lowest (laws.else_unplaced false (scratch_of operation ++ laws.target_faults v))
+        ≡ Some (number_of result)) }
+{
+    else_unplaced(beside_scratch(is_bad_scratch(operation), target_fault(&value)))
+}
+
+/// The fault of an operation with a function of a value.
+fn function_fault<'a>(
+    scope: &Scope<'_, 'a>,
+    operation: Operation,
+    function: Function,
+    value: &Outcome<'a>,
+) -> Option<SourceCode>
+    ensures { (index : ℕ) → IsFilled (scope.now).unit.now → IsScope scope.now index
+        → ForValue value.now (λ v.
+        IsLowest result (function_faults (labels_at scope.now index) operation function v)) }
+{
+    match function {
+        Function::Hi => upper_fault(value),
+        Function::Lo => low_fault(operation, value),
+        Function::PcrelHi => target_fault(value),
+        Function::PcrelLo => distance_fault(operation, is_labelled(scope, value)),
+    }
+}
+
+/// The lowest code of an operation with a function of a value.
+pub(crate) fn function_code<'a>(
+    scope: &Scope<'_, 'a>,
+    operation: Operation,
+    function: Function,
+    value: &Outcome<'a>,
+) -> SourceCode
+    ensures { (index : ℕ) → IsFilled (scope.now).unit.now → IsScope scope.now index
+        → ForValue value.now (λ v.
+        faults.lowest (laws.else_unplaced false
+        (function_faults (labels_at scope.now index) operation function v))
+        ≡ Some (number_of result)) }
+{
+    else_unplaced(function_fault(scope, operation, function, value))
+}

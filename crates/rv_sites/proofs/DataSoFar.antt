@@ -1,0 +1,241 @@
+-- One statement more of the data so far.
+
+use Rattle.std.proofs.Common.{◌≡◌, ℕ, zero, suc, ◌+◌, ◌*◌, ◌≤◌, ◌==◌, Bool, true, false, List, [], ◌∷◌, ◌++◌, length, map, take, drop, get_or, Some, refl, sym, ap, ◌∙◌, subst, append-nil, append_assoc, arith}
+use Rattle.std.specs.Global.{Vec}
+use Rattle.std.specs.Prelude.{flat_map, slice_get, slice_index_or, if◌then◌else◌}
+use Rattle.std.proofs.lemmas.Bool.{eqb-true, eq-eqb}
+use Rattle.rv_statement.specs.Statement.{StatementKind, Statement}
+use Rattle.rv_unit_laws.specs.Sections.{Section}
+use Rattle.rv_unit_laws.specs.Tables.{Tables, SectionOffset as Standing, at_start, after, after_all, tables, stood, value}
+use Rattle.rv_unit.specs.Unit.{passed}
+use Rattle.rv_source_laws.specs.Located.{Located, located_now, located_from, is_placed}
+use Rattle.rv_assemble_laws.specs.Sites.{Site, Part, part_bytes, sites_in}
+use Rattle.rv_assemble_laws.proofs.Filled.{bytes_append}
+use Rattle.rv_sites.specs.declared.field.OpenField.{OpenField}
+use Rattle.rv_sites.specs.declared.item.Item.{Item}
+use Rattle.rv_sites.specs.Code.{GrowsBy, bytes_in, value_at}
+use Rattle.rv_sites.specs.DataParts.{is_filled, data_said, fields_said, data_parts, data_fields, data_bytes, sites, HasRoomFor, IsLaid, IsDataTo, IsData}
+use Rattle.rv_sites.specs.Draft.{field_of}
+use Rattle.rv_sites.specs.Items.{IsItem, AreItems, grown}
+use Rattle.rv_sites.specs.Seated.{site_of, sites_of}
+use Rattle.rv_sites.specs.Sized.{IsSized, AreSized}
+use Rattle.rv_sites.proofs.Standing.{located_at, stated_next}
+
+-- ---- the bytes of sections never fall
+
+le_if : (b : Bool) (n more : ℕ) → n ≤ (if b then n + more else n)
+le_if true n more = omega arith
+le_if false n more = omega arith
+
+grown_more : (before : ℕ → ℕ) (x : Item) (j : ℕ) → before j ≤ grown before x j
+grown_more before x j = le_if (j == x.section) (before j) x.bytes
+
+pub items_more : (k : ℕ) (t : Tables) (before last : ℕ → ℕ) (ss : List Statement) (is : List Item) → AreItems k t before ss is last → (j : ℕ) → before j ≤ last j
+items_more k t before last [] [] h j = let e = h j in omega (arith, e)
+items_more k t before last [] (x ∷ is) h j = absurd h
+items_more k t before last (s ∷ ss) [] h j = absurd h
+items_more k t before last (s ∷ ss) (x ∷ is) h j =
+    let more = items_more (suc k) (after t k s.kind) (grown before x) last ss is h.1 j in
+    let here = grown_more before x j in
+    omega (arith, more, here)
+
+-- an item ends in its section
+item_here : (s : Located) (before last : ℕ → ℕ) (x : Item) → IsItem s before x → ((j : ℕ) → grown before x j ≤ last j) → x.offset + x.bytes ≤ last x.section
+item_here s before last x one more =
+    let own : (x.section == x.section) ≡ true = eq-eqb x.section x.section refl in
+    let here : before x.section + x.bytes ≤ last x.section = subst (λ b. (if b then before x.section + x.bytes else before x.section) ≤ last x.section) own (more x.section) in
+    let offset : x.offset ≡ before x.section = one.offset ∙ ap before (sym one.section) in
+    omega (arith, here, offset)
+
+pub item_ends : (k i : ℕ) (t : Tables) (before last : ℕ → ℕ) (ss : List Statement) (is : List Item) (s : Statement) (rest : List Statement) (x : Item) (more : List Item)
+    → AreItems k t before ss is last → drop i ss ≡ s ∷ rest → drop i is ≡ x ∷ more → x.offset + x.bytes ≤ last x.section
+item_ends k zero t before last [] is s rest x more h e g = absurd (cc)
+item_ends k (suc i) t before last [] is s rest x more h e g = absurd (cc)
+item_ends k zero t before last (y ∷ ys) [] s rest x more h e g = absurd (cc)
+item_ends k (suc i) t before last (y ∷ ys) [] s rest x more h e g = absurd (cc)
+item_ends k zero t before last (y ∷ ys) (z ∷ zs) s rest x more h e g =
+    let alike : z ≡ x = cc in
+    subst (λ (x : Item). x.offset + x.bytes ≤ last x.section) alike
+    (item_here (located_now 1 k t y) before last z h.0 (items_more (suc k) (after t k y.kind) (grown before z) last ys zs h.1))
+item_ends k (suc i) t before last (y ∷ ys) (z ∷ zs) s rest x more h e g =
+    item_ends (suc k) i (after t k y.kind) (grown before z) last ys zs s rest x more h.1 e g
+
+-- ---- the size of the item at an index
+
+abbrev SizedAt : Tables → ℕ → Tables → Statement → Item → Type 0
+SizedAt all k t s x =
+    (located_now 1 k t s).placed ≡ true → IsSized (λ e. value_at all (located_now 1 k t s) e) (located_now 1 k t s).home.executable x (slice_index_or all.alignments x.section 1) s.kind
+
+pub sized_left : (all : Tables) (k i : ℕ) (t : Tables) (ss : List Statement) (is : List Item) (s : Statement) (rest : List Statement) (x : Item) (more : List Item)
+    → AreSized all k t ss is → drop i ss ≡ s ∷ rest → drop i is ≡ x ∷ more → SizedAt all (i + k) (after_all t k (take i ss)) s x
+sized_left all k zero t [] is s rest x more h e g = absurd (cc)
+sized_left all k (suc i) t [] is s rest x more h e g = absurd (cc)
+sized_left all k zero t (y ∷ ys) [] s rest x more h e g = absurd (cc)
+sized_left all k (suc i) t (y ∷ ys) [] s rest x more h e g = absurd (cc)
+sized_left all k zero t (y ∷ ys) (z ∷ zs) s rest x more h e g =
+    let same : y ≡ s = cc in
+    let alike : z ≡ x = cc in
+    let n : k ≡ 0 + k = omega arith in
+    subst (λ n. SizedAt all n t s x) n (subst (λ s. SizedAt all k t s x) same (subst (λ x. SizedAt all k t y x) alike h.0))
+sized_left all k (suc i) t (y ∷ ys) (z ∷ zs) s rest x more h e g =
+    let n : i + suc k ≡ suc i + k = omega arith in
+    subst (λ n. SizedAt all n (after_all (after t k y.kind) (suc k) (take i ys)) s x) n (sized_left all (suc k) i (after t k y.kind) ys zs s rest x more h.1 e g)
+
+-- values of data end where a section may end
+pub room_for : (ss : List Statement) (is : List Item) (i : ℕ) (s : Statement) (x : Item) → IsLaid ss is → drop i ss ≡ s ∷ drop (i + 1) ss → drop i is ≡ x ∷ drop (i + 1) is → HasRoomFor s.kind x.offset
+room_for ss is i s x laid here item w vs says =
+    let ends : x.offset + x.bytes ≤ laid.last x.section = item_ends 1 i at_start (λ j. 0) laid.last ss is s (drop (i + 1) ss) x (drop (i + 1) is) laid.items here item in
+    let low = laid.low x.section in
+    let size = sized_left (tables ss) 1 i at_start ss is s (drop (i + 1) ss) x (drop (i + 1) is) laid.sized here item in
+    let st = located_at ss i s in
+    let placed : is_placed (passed ss i) (i + 1) s.kind ≡ true = ap (is_placed (passed ss i) (i + 1)) says in
+    let sized = subst (λ k. IsSized (λ e. value_at (tables ss) st e) st.home.executable x (slice_index_or (tables ss).alignments x.section 1) k) says (size placed) in
+    let bytes : x.bytes ≡ w * length vs = sized.1 in
+    omega (arith, ends, low, bytes)
+
+-- ---- sites
+
+drop_sites : (i : ℕ) (ls : List Located) (is : List Item) → drop i (sites_of ls is) ≡ sites_of (drop i ls) (drop i is)
+drop_sites zero [] is = refl
+drop_sites (suc i) [] is = refl
+drop_sites zero (l ∷ ls) [] = refl
+drop_sites (suc i) (l ∷ ls) [] = none (drop i ls)
+  where
+    none : (ms : List Located) → [] ≡ sites_of ms []
+    none [] = refl
+    none (m ∷ ms) = refl
+drop_sites zero (l ∷ ls) (x ∷ is) = refl
+drop_sites (suc i) (l ∷ ls) (x ∷ is) = drop_sites i ls is
+
+pub sites_next : (ss : List Statement) (is : List Item) (i : ℕ) (s : Statement) (x : Item) → drop i ss ≡ s ∷ drop (i + 1) ss → drop i is ≡ x ∷ drop (i + 1) is
+    → drop i (sites ss is) ≡ site_of (located_at ss i s) x ∷ drop (i + 1) (sites ss is)
+sites_next ss is i s x here item =
+    let all = located_from 1 1 at_start ss in
+    drop_sites i all is ∙ ap (λ l. sites_of l (drop i is)) (stated_next ss i s (drop (i + 1) ss) here)
+    ∙ ap (λ l. sites_of (located_at ss i s ∷ drop (i + 1) all) l) item
+    ∙ ap (λ l. site_of (located_at ss i s) x ∷ l) (sym (drop_sites (i + 1) all is))
+
+-- ---- one statement
+
+-- what a statement puts into its section, by where it stands
+pub record Puts (t : Tables) (k o : ℕ) (q : Standing) (loaded : Bool) (says : StatementKind) (x : Item) (old new : List (Vec ℕ)) (had found : List OpenField) : Type 0 where
+  pub grows : GrowsBy old new q.section (flat_map part_bytes (data_said o (λ e. value t true k q e) says x.bytes))
+  pub fields : map field_of found ≡ map field_of had ++ fields_said loaded q.section x.offset (data_said o (λ e. value t true k q e) says x.bytes)
+
+pub puts_at : (t u : Tables) (k o : ℕ) (p q : Standing) (h g : Section) (says : StatementKind) (x : Item) (old new : List (Vec ℕ)) (had found : List OpenField) → t ≡ u → o ≡ k → p ≡ q → h ≡ g
+    → Puts t k o p h.loaded says x old new had found → Puts u k k q g.loaded says x old new had found
+puts_at t u k o p q h g says x old new had found tables ordinal place home put =
+    subst (λ (g : Section). Puts u k k q g.loaded says x old new had found) home
+    (subst (λ (q : Standing). Puts u k k q h.loaded says x old new had found) place
+    (subst (λ n. Puts u k n p h.loaded says x old new had found) ordinal
+    (subst (λ (u : Tables). Puts u k o p h.loaded says x old new had found) tables put)))
+
+pub got_as : {A B : Type 0} (f : A → B) (xs : List A) (i : ℕ) (d : A) (y : B) → slice_get (map f xs) i ≡ Some y → f (get_or xs i d) ≡ y
+got_as f [] zero d y e = absurd (cc)
+got_as f [] (suc i) d y e = absurd (cc)
+got_as f (x ∷ xs) zero d y e = cc
+got_as f (x ∷ xs) (suc i) d y e = got_as f xs i d y e
+
+swapped : (a b : ℕ) (c : Bool) → (a == b) ≡ c → (b == a) ≡ c
+swapped a b true e = eq-eqb b a (sym (eqb-true a b e))
+swapped a b false e = go (b == a) refl
+  where
+    go : (x : Bool) → (b == a) ≡ x → (b == a) ≡ false
+    go true f = let g : (a == b) ≡ true = eq-eqb a b (sym (eqb-true b a f)) in absurd (cc)
+    go false f = f
+
+module _ (ss : List Statement) (is : List Item) (start : List (Vec ℕ)) (i : ℕ) (s : Statement) (x : Item) (old new : List (Vec ℕ)) (had found : List OpenField)
+    (here : drop i ss ≡ s ∷ drop (i + 1) ss) (item : drop i is ≡ x ∷ drop (i + 1) is) where
+  abbrev t : Tables
+  t = tables ss
+
+  abbrev st : Located
+  st = located_at ss i s
+
+  abbrev site : Site
+  site = site_of st x
+
+  abbrev rest : List Site
+  rest = drop (i + 1) (sites ss is)
+
+  abbrev said : List Part
+  said = data_said (i + 1) (λ e. value t true (i + 1) (stood (passed ss i) (i + 1) s.kind) e) s.kind x.bytes
+
+  abbrev PutsHere : Type 0
+  PutsHere = Puts t (i + 1) (i + 1) (stood (passed ss i) (i + 1) s.kind) st.home.loaded s.kind x old new had found
+
+  -- by whether the section is one of data
+  abbrev Parts : Bool → List Part
+  Parts b = if b then said else []
+
+  bytes_by : (b : Bool) → is_filled st.home ≡ b → (is_filled st.home ≡ true → PutsHere) → (is_filled st.home ≡ false → new ≡ old)
+      → (j : ℕ) → bytes_in new j ≡ (if j == st.section then bytes_in old j ++ flat_map part_bytes (Parts b) else bytes_in old j)
+  bytes_by true e put left j = (put e).grows.1 j
+  bytes_by false e put left j = ap (λ l. bytes_in l j) (left e) ∙ go (j == st.section)
+    where
+      go : (c : Bool) → bytes_in old j ≡ (if c then bytes_in old j ++ [] else bytes_in old j)
+      go true = sym (append-nil (bytes_in old j))
+      go false = refl
+
+  no_fields : (loaded : Bool) → fields_said loaded st.section x.offset [] ≡ []
+  no_fields true = refl
+  no_fields false = refl
+
+  fields_by : (b : Bool) → is_filled st.home ≡ b → (is_filled st.home ≡ true → PutsHere) → (is_filled st.home ≡ false → found ≡ had)
+      → map field_of found ≡ map field_of had ++ fields_said st.home.loaded st.section x.offset (Parts b)
+  fields_by true e put left = (put e).fields
+  fields_by false e put left =
+      ap (λ l. map field_of l) (left e) ∙ sym (append-nil (map field_of had)) ∙ ap (λ l. map field_of had ++ l) (sym (no_fields st.home.loaded))
+
+  joined : (j : ℕ) (c : Bool) → (j == st.section) ≡ c → (st.section == j) ≡ c
+      → (if j == st.section then bytes_in old j ++ flat_map part_bytes (data_parts t site) else bytes_in old j) ++ data_bytes t j rest
+      ≡ bytes_in old j ++ data_bytes t j (site ∷ rest)
+  joined j true e f =
+      ap (λ b. (if b then bytes_in old j ++ flat_map part_bytes (data_parts t site) else bytes_in old j) ++ data_bytes t j rest) e
+      ∙ append_assoc (bytes_in old j) (flat_map part_bytes (data_parts t site)) (data_bytes t j rest)
+      ∙ ap (λ l. bytes_in old j ++ l) (sym (bytes_append (data_parts t site) (flat_map (data_parts t) (sites_in j rest))))
+      ∙ ap (λ b. bytes_in old j ++ flat_map part_bytes (flat_map (data_parts t) (if b then site ∷ sites_in j rest else sites_in j rest))) (sym f)
+  joined j false e f =
+      ap (λ b. (if b then bytes_in old j ++ flat_map part_bytes (data_parts t site) else bytes_in old j) ++ data_bytes t j rest) e
+      ∙ ap (λ b. bytes_in old j ++ flat_map part_bytes (flat_map (data_parts t) (if b then site ∷ sites_in j rest else sites_in j rest))) (sym f)
+
+  pub data_more : (is_filled st.home ≡ true → PutsHere) → (is_filled st.home ≡ false → (new ≡ old) × (found ≡ had))
+      → IsDataTo ss is start i old had → IsDataTo ss is start (i + 1) new found
+  data_more put left h =
+      let next = sites_next ss is i s x here item in
+      record {
+        bytes = λ j.
+            ap (λ l. l ++ data_bytes t j rest) (bytes_by (is_filled st.home) refl put (λ e. (left e).0) j)
+            ∙ joined j (j == st.section) refl (swapped j st.section (j == st.section) refl)
+            ∙ ap (λ l. bytes_in old j ++ data_bytes t j l) (sym next) ∙ h.bytes j;
+        fields =
+            ap (λ l. l ++ flat_map (data_fields t) rest) (fields_by (is_filled st.home) refl put (λ e. (left e).1))
+            ∙ append_assoc (map field_of had) (data_fields t site) (flat_map (data_fields t) rest)
+            ∙ ap (λ l. map field_of had ++ flat_map (data_fields t) l) (sym next) ∙ h.fields;
+      }
+
+-- ---- before the first, and after the last
+
+drop_none : {A : Type 0} (xs : List A) → drop 0 xs ≡ xs
+drop_none [] = refl
+drop_none (x ∷ xs) = refl
+
+pub data_begin : (ss : List Statement) (is : List Item) (start : List (Vec ℕ)) (found : List OpenField) → found ≡ [] → IsDataTo ss is start 0 start found
+data_begin ss is start found none = record {
+  bytes = λ j. ap (λ l. bytes_in start j ++ data_bytes (tables ss) j l) (drop_none (sites ss is));
+  fields =
+      ap (λ l. map field_of l ++ flat_map (data_fields (tables ss)) (drop 0 (sites ss is))) none
+      ∙ ap (flat_map (data_fields (tables ss))) (drop_none (sites ss is));
+}
+
+pub data_all : (ss : List Statement) (is : List Item) (start : List (Vec ℕ)) (i : ℕ) (sections : List (Vec ℕ)) (found : List OpenField) → drop i (located_from 1 1 at_start ss) ≡ []
+    → IsDataTo ss is start i sections found → IsData ss is start sections found
+data_all ss is start i sections found past h =
+    let none : drop i (sites ss is) ≡ [] = drop_sites i (located_from 1 1 at_start ss) is ∙ ap (λ l. sites_of l (drop i is)) past in
+    record {
+      bytes = λ j.
+          sym (append-nil (bytes_in sections j))
+          ∙ ap (λ l. bytes_in sections j ++ data_bytes (tables ss) j l) (sym none) ∙ h.bytes j;
+      fields =
+          sym (append-nil (map field_of found)) ∙ ap (λ l. map field_of found ++ flat_map (data_fields (tables ss)) l) (sym none) ∙ h.fields;
+    }

@@ -1,0 +1,119 @@
+-- The draft of a source.
+
+use Rattle.std.proofs.Common.{◌≡◌, ℕ, ◌≤◌, ◌<◌, ◌^◌, true, List, [], ◌∷◌, ◌++◌, length, map, Some, None, refl, sym, ap, ◌∙◌, subst}
+use Rattle.std.specs.Prelude.{flat_map, ◌||◌, slice_get, slice_index, slice_index_or, if◌then◌else◌}
+use Rattle.std.specs.List.{AllByRecursion, list_any}
+use Rattle.std.specs.Global.{Vec}
+use Rattle.std.proofs.lemmas.Bool.{and_parts}
+use Rattle.rv_statement.specs.Statement.{Statement}
+use Rattle.rv_unit_laws.specs.Sections.{Section, text_section, is_nobits, goes_to_text}
+use Rattle.rv_unit_laws.specs.Tables.{Tables, at_start, tables, longest_section}
+use Rattle.rv_unit_laws.specs.Faults.{first_fault}
+use Rattle.rv_source_laws.specs.Located.{located, located_from}
+use Rattle.rv_source_laws.specs.Compressed.{is_compressed, is_compressed_code}
+use Rattle.rv_assemble_laws.specs.Sites.{Site, part_bytes, parts, parts_of, sites_in, Tile, end_of}
+use Rattle.rv_assemble_laws.specs.Refusals.{code_fault}
+use Rattle.rv_assemble_laws.proofs.Homes.{IsHomeIn, homes_from, all_map}
+use Rattle.rv_assemble_laws.proofs.Held.{all_held}
+use Rattle.rv_sites.specs.declared.draft.Draft.{Draft}
+use Rattle.rv_sites.specs.Code.{bytes_in, section_code}
+use Rattle.rv_sites.specs.Coded.{AreCoded}
+use Rattle.rv_sites.specs.DataParts.{data_bytes, sites, IsData}
+use Rattle.rv_sites.specs.Items.{AreItems}
+use Rattle.rv_sites.specs.Sized.{AreSized}
+use Rattle.rv_sites.specs.Draft.{IsDraft, IsDrafted}
+use Rattle.rv_sites.proofs.Fitted.{Fit, IsWideKind, fits_from, have_all_fields}
+use Rattle.rv_sites.proofs.Locations.{places_stand}
+use Rattle.rv_sites.proofs.LowSections.{low_all}
+use Rattle.rv_sites.proofs.Sectioned.{IsOf, all_located, all_items, all_sites, tiles, all_of, code_in, section_bytes, code_bytes, all_sizes, section_templates, all_fields, asks_some}
+use Rattle.rv_sites.proofs.Standing.{got_or}
+use Rattle.rv_sites.proofs.Whole.{IsCodedBy, one_file}
+
+-- what the passes over a source have found
+pub record Passed (ss : List Statement) (code : List (Vec ℕ)) (d : Draft) : Type 0 where
+  pub good : first_fault ss ≡ None
+  pub wide : AllByRecursion (λ s. IsWideKind s.kind) ss
+  pub sound : code_fault ss ≡ None
+  pub coded : AreCoded ss
+  pub words : (j : ℕ) → bytes_in code j ≡ section_code (tables ss) j (located (ss ∷ []))
+  pub items : AreItems 1 at_start (λ j. 0) ss d.items.items (λ j. slice_index d.ends.items j)
+  pub sized : AreSized (tables ss) 1 at_start ss d.items.items
+  pub low : (j : ℕ) → slice_index d.ends.items j ≤ longest_section
+  pub figures : IsData ss d.items.items code d.sections.items d.fields.items
+  pub counted : length d.sections.items ≡ length (tables ss).opened.sections
+  pub ended : length d.ends.items ≡ length (tables ss).opened.sections
+  pub few : length ss < 2 ^ 32
+  pub compressed : d.rvc ≡ is_compressed (ss ∷ [])
+
+any_located : (sites : List Site) → list_any is_compressed_code (map (λ (s : Site). s.located) sites) ≡ list_any (λ (s : Site). is_compressed_code s.located) sites
+any_located [] = refl
+any_located (s ∷ ss) = ap (λ b. is_compressed_code s.located || b) (any_located ss)
+
+module _ (ss : List Statement) (code : List (Vec ℕ)) (d : Draft) (h : Passed ss code d) where
+  abbrev t : Tables
+  t = tables ss
+
+  abbrev all : List Site
+  all = sites ss d.items.items
+
+  located_all : map (λ (s : Site). s.located) all ≡ located_from 1 1 at_start ss
+  located_all = all_located 1 at_start (λ j. 0) (λ j. slice_index d.ends.items j) ss d.items.items h.items
+
+  fits : AllByRecursion (Fit t) all
+  fits =
+      fits_from t 1 at_start (λ j. 0) (λ j. slice_index d.ends.items j) ss d.items.items h.items h.sized
+      (subst (λ ls. AllByRecursion (IsCodedBy t) ls) (one_file ss) h.coded)
+      (all_held ss h.good) (have_all_fields ss h.good h.wide)
+
+  homes : AllByRecursion (λ (s : Site). IsHomeIn (λ file. t.opened.sections) s.located) all
+  homes =
+      all_sites (IsHomeIn (λ file. t.opened.sections)) all
+      (subst (λ ls. AllByRecursion (IsHomeIn (λ file. t.opened.sections)) ls) (sym located_all)
+      (homes_from (λ file. t.opened.sections) 1 1 at_start ss refl (text_section, refl)))
+
+  module _ (j : ℕ) (home : Section) (at : slice_get t.opened.sections j ≡ Some home) where
+    own : AllByRecursion (IsOf t j home) (sites_in j all)
+    own = all_of t (λ file. t.opened.sections) j home all (λ n. refl) at fits homes
+
+    follow : Tile t 0 (sites_in j all) × (end_of 0 (sites_in j all) ≡ slice_index d.ends.items j)
+    follow =
+        tiles t j 1 at_start (λ j. 0) (λ j. slice_index d.ends.items j) ss d.items.items h.items
+        (all_map (Fit t) (λ (s : Site). s.bytes ≡ length (flat_map part_bytes (parts_of t s))) all (λ s f. f.bytes) fits)
+
+    bytes : bytes_in d.sections.items j ≡ (if is_nobits home then [] else flat_map part_bytes (parts t (sites_in j all)))
+    bytes =
+        h.figures.bytes j
+        ∙ ap (λ l. l ++ data_bytes t j all) (h.words j ∙ ap (section_code t j) (one_file ss ∙ sym located_all) ∙ code_in t j all)
+        ∙ section_bytes t j home (sites_in j all) own
+
+    low : goes_to_text home ≡ true → slice_index_or t.alignments j 1 ≤ 2
+    low e =
+        low_all ss h.good h.sound j
+        (ap (λ (g : Section). g.executable) (got_or t.opened.sections j text_section home at) ∙ (and_parts home.loaded home.executable e).1)
+
+    drafted : IsDrafted t j home (sites_in j all) d
+    drafted = record {
+      tile = follow.0;
+      stop = sym follow.1;
+      short = subst (λ n. n ≤ longest_section) (sym follow.1) (h.low j);
+      bytes = bytes;
+      code = code_bytes t j home (sites_in j all) own;
+      sizes = all_sizes t j home (sites_in j all) own;
+      templates = section_templates t j home (sites_in j all) own;
+      some = asks_some ss j;
+      low = low;
+    }
+
+  pub is_draft : IsDraft ss d
+  is_draft = record {
+    sites = all;
+    located = located_all;
+    few = h.few;
+    stand = all_items 1 at_start (λ j. 0) (λ j. slice_index d.ends.items j) ss d.items.items h.items;
+    counted = h.counted;
+    ended = h.ended;
+    each = λ j home at. drafted j home at;
+    open_fields = h.figures.fields ∙ all_fields t all fits;
+    places = places_stand ss all located_all;
+    compressed = h.compressed ∙ ap (list_any is_compressed_code) (one_file ss ∙ sym located_all) ∙ any_located all;
+  }

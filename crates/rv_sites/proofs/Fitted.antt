@@ -1,0 +1,298 @@
+-- A statement with its item is a site: it has the bytes of its templates, and its size.
+
+use Rattle.std.proofs.Common.{◌≡◌, ℕ, suc, ◌*◌, inl, inr, Bool, true, false, List, [], ◌∷◌, ◌++◌, length, map, Option, Some, None, refl, sym, ap, ◌∙◌, subst, append-nil, length-append, arith}
+use Rattle.std.proofs.lemmas.List.{length-replicate}
+use Rattle.std.specs.Prelude.{flat_map, not, ◌&&◌, ◌||◌, nat_lt, ⊤, slice_index_or, if◌then◌else◌}
+use Rattle.std.specs.List.{AllByRecursion}
+use Rattle.rv_isa.specs.declared.instruction.Inst.{Inst}
+use Rattle.rv_text_laws.specs.Values.{Value, Constant, Symbolic, Difference, Faulty}
+use Rattle.rv_statement.specs.Statement.{StatementKind, Label, Numbered, Instruction, Directs, Statement, Expression, Directive, Enters, Sets, Aligns_to_power, Aligns_to_bytes, Values, Strings, Zeros}
+use Rattle.rv_unit_laws.specs.Contributions.{contribution}
+use Rattle.rv_unit_laws.specs.Sections.{Section, is_nobits, current_section}
+use Rattle.rv_unit_laws.specs.Tables.{Tables, at_start, here, value, alignment_of, string_bytes, after, tables, stood}
+use Rattle.rv_unit_laws.specs.Faults.{faulty_if, value_faults, past_section, faults, first_fault}
+use Rattle.rv_source_laws.specs.Fits.{constant_in}
+use Rattle.rv_source_laws.specs.Located.{Located, located_now, located_from, contributes, is_placed}
+use Rattle.rv_source_laws.specs.Meaning.{expanded}
+use Rattle.rv_assemble_laws.specs.Templates.{Datum, Fixed, words, zeros, value_bytes, templates, HasField, IsWide, IsWidth, IsTemplate}
+use Rattle.rv_assemble_laws.specs.Sites.{Site, Part, form, part_of, part_bytes, parts_of, IsPaddedIn, HasSize}
+use Rattle.rv_assemble_laws.specs.Fields.{fields_from, fields_at}
+use Rattle.rv_assemble_laws.proofs.Held.{Held, IsHeld, DirectiveHeld, none_left, no_test}
+use Rattle.rv_instruction.specs.Code.{code_said}
+use Rattle.rv_sites.specs.declared.item.Item.{Item}
+use Rattle.rv_sites.specs.Code.{value_at}
+use Rattle.rv_sites.specs.Coded.{IsCoded}
+use Rattle.rv_sites.specs.DataParts.{is_filled, data_said, data_parts, data_fields}
+use Rattle.rv_sites.specs.Items.{AreItems, grown}
+use Rattle.rv_sites.specs.Seated.{site_of, sites_of}
+use Rattle.rv_sites.specs.Sized.{IsPadded, IsSized, AreSized}
+use Rattle.rv_sites.proofs.FieldsSoFar.{value_long}
+use Rattle.rv_sites.proofs.Sound.{AreSound, sound}
+
+true_false : {A : Type 0} (b : Bool) → b ≡ true → b ≡ false → A
+true_false true e f = absurd (cc)
+true_false false e f = absurd (cc)
+
+-- ---- which statements have a place
+
+abbrev PlacedDirective : Bool → Directive → Type 0
+PlacedDirective placed (Sets name e) = ⊤
+PlacedDirective placed d = placed ≡ contributes (contribution d)
+
+abbrev pub PlacedAs : Bool → StatementKind → Type 0
+PlacedAs placed (Label name) = placed ≡ true
+PlacedAs placed (Numbered number) = placed ≡ true
+PlacedAs placed (Instruction mnemonic operands) = placed ≡ true
+PlacedAs placed (Directs d) = PlacedDirective placed d
+
+placed_directive : (t : Tables) (k : ℕ) (d : Directive) → PlacedDirective (is_placed t k (Directs d)) d
+placed_directive t k (Sets name e) = tt
+placed_directive t k (Enters standard) = refl
+placed_directive t k _ = refl
+
+pub placed_as : (t : Tables) (k : ℕ) (says : StatementKind) → PlacedAs (is_placed t k says) says
+placed_as t k (Label name) = refl
+placed_as t k (Numbered number) = refl
+placed_as t k (Instruction mnemonic operands) = refl
+placed_as t k (Directs d) = placed_directive t k d
+
+-- ---- by what a statement says
+
+words_four : (o : Option (List Inst)) (i : Inst) → o ≡ Some (i ∷ []) → length (words o ++ []) ≡ 4
+words_four o i e = ap (λ p. length (words p ++ [])) e
+
+module _ (v : Expression → Value) (o : ℕ) (home : Section) (x : Item) (begins : ℕ) (placed : Bool) where
+  abbrev Parts : StatementKind → List Part
+  Parts says = map (part_of o) (templates v says x.bytes)
+
+  abbrev Sized : StatementKind → Type 0
+  Sized says = placed ≡ true → IsSized v home.executable x begins says
+
+  abbrev Absent : Type 0
+  Absent = placed ≡ false → x.bytes ≡ 0
+
+  -- bytes
+
+  values_long : (w : ℕ) (es : List Expression) → length (flat_map part_bytes (map (part_of o) (map (λ e. Datum w (v e)) es))) ≡ w * length es
+  values_long w [] = omega arith
+  values_long w (e ∷ es) =
+      let own = value_long w (v e) in
+      let rest = values_long w es in
+      let both = length-append (value_bytes w (v e)) (flat_map part_bytes (map (part_of o) (map (λ e. Datum w (v e)) es))) in
+      omega (arith, own, rest, both)
+
+  zeros_long : (n : ℕ) → length (zeros n ++ []) ≡ n
+  zeros_long n = ap length (append-nil (zeros n)) ∙ length-replicate {A = ℕ} n 0
+
+  set_bytes : (p : Bool) → placed ≡ p → (name : List ℕ) (e : Expression) → Sized (Directs (Sets name e)) → Absent → x.bytes ≡ 0
+  set_bytes true is name e size absent = (size is).1
+  set_bytes false is name e size absent = absent is
+
+  directive_bytes : (d : Directive) → PlacedDirective placed d → Sized (Directs d) → Absent → x.bytes ≡ length (flat_map part_bytes (Parts (Directs d)))
+  directive_bytes (Sets name e) is size absent = set_bytes placed refl name e size absent
+  directive_bytes (Values w vs) is size absent = (size is).1 ∙ sym (values_long w vs)
+  directive_bytes (Strings ended strings) is size absent = (size is).1 ∙ ap length (sym (append-nil (string_bytes ended strings)))
+  directive_bytes (Zeros count) is size absent = sym (zeros_long x.bytes)
+  directive_bytes (Aligns_to_power e) is size absent = sym (zeros_long x.bytes)
+  directive_bytes (Aligns_to_bytes e) is size absent = sym (zeros_long x.bytes)
+  directive_bytes _ is size absent = absent is
+
+  said_bytes : (says : StatementKind) → PlacedAs placed says → Sized says → Absent → IsCoded v says → x.bytes ≡ length (flat_map part_bytes (Parts says))
+  said_bytes (Label name) is size absent coded = (size is).0
+  said_bytes (Numbered number) is size absent coded = (size is).0
+  said_bytes (Instruction mnemonic operands) is size absent coded =
+      (size is).0 ∙ sym (words_four (expanded (λ e. constant_in (v e)) mnemonic operands) coded.0 coded.1.1)
+  said_bytes (Directs d) is size absent coded = directive_bytes d is size absent
+
+  -- code
+
+  no_padding : (b : Bool) → b ≡ true → (a : Option ℕ) → IsPadded b x begins a → flat_map part_bytes (part_of o (Fixed (zeros x.bytes)) ∷ []) ≡ []
+  no_padding true e a h = ap (λ n. zeros n ++ []) h.0
+  no_padding false e a h = absurd (cc)
+
+  directive_code : (d : Directive) → home.executable ≡ true → PlacedDirective placed d → Sized (Directs d) → DirectiveHeld home d → flat_map part_bytes (Parts (Directs d)) ≡ []
+  directive_code (Values w vs) code is size held = true_false home.executable code held.0
+  directive_code (Strings ended strings) code is size held = true_false home.executable code held.0
+  directive_code (Zeros count) code is size held = true_false home.executable code held
+  directive_code (Aligns_to_power e) code is size held = no_padding home.executable code (alignment_of v (Aligns_to_power e)) (size is).1.1
+  directive_code (Aligns_to_bytes e) code is size held = no_padding home.executable code (alignment_of v (Aligns_to_bytes e)) (size is).1.1
+  directive_code _ code is size held = refl
+
+  said_code : (says : StatementKind) → home.executable ≡ true → PlacedAs placed says → Sized says → IsHeld home says → flat_map part_bytes (Parts says) ≡ code_said v says
+  said_code (Label name) code is size held = refl
+  said_code (Numbered number) code is size held = refl
+  said_code (Instruction mnemonic operands) code is size held = append-nil (words (expanded (λ e. constant_in (v e)) mnemonic operands))
+  said_code (Directs d) code is size held = directive_code d code is size held
+
+  no_code : (says : StatementKind) → home.executable ≡ false → IsHeld home says → code_said v says ≡ []
+  no_code (Instruction mnemonic operands) other held = true_false home.executable held.0 other
+  no_code (Label name) other held = refl
+  no_code (Numbered number) other held = refl
+  no_code (Directs d) other held = refl
+
+  empty_code : (says : StatementKind) → is_nobits home ≡ true → IsHeld home says → code_said v says ≡ []
+  empty_code (Instruction mnemonic operands) none held = true_false (is_nobits home) none held.1
+  empty_code (Label name) none held = refl
+  empty_code (Numbered number) none held = refl
+  empty_code (Directs d) none held = refl
+
+  -- data
+
+  code_unfilled : (b n : Bool) → b ≡ true → (not b && n) ≡ true → ⊥
+  code_unfilled true n e f = absurd (cc)
+  code_unfilled false n e f = absurd (cc)
+
+  said_data : (says : StatementKind) → is_filled home ≡ true → IsHeld home says → data_said o v says x.bytes ≡ Parts says
+  said_data (Instruction mnemonic operands) filled held = absurd (code_unfilled home.executable (not (is_nobits home)) held.0 filled)
+  said_data (Label name) filled held = refl
+  said_data (Numbered number) filled held = refl
+  said_data (Directs d) filled held = refl
+
+  data_filled : (b n : Bool) → b ≡ false → n ≡ false → (not b && not n) ≡ true
+  data_filled b n e f = ap (λ c. not c && not n) e ∙ ap not f
+
+  no_fields : (section : ℕ) (says : StatementKind) → is_filled home ≡ false → IsHeld home says → fields_from section x.offset (Parts says) ≡ []
+  no_fields section (Label name) e held = refl
+  no_fields section (Numbered number) e held = refl
+  no_fields section (Instruction mnemonic operands) e held = refl
+  no_fields section (Directs (Values w vs)) e held = true_false (is_filled home) (data_filled home.executable (is_nobits home) held.0 held.1) e
+  no_fields section (Directs (Strings ended strings)) e held = refl
+  no_fields section (Directs _) e held = refl
+
+  -- sizes
+
+  padded_in : (l : Located) (b : Bool) (a : Option ℕ) → IsPadded b x begins a → IsPaddedIn b (site_of l x) begins a
+  padded_in l true a h = h
+  padded_in l false a h = h
+
+  directive_size : (l : Located) (d : Directive) → l.home ≡ home → placed ≡ true → PlacedDirective placed d → IsSized v home.executable x begins (Directs d) → HasSize v (site_of l x) begins (Directs d)
+  directive_size l (Sets name e) at there is h = (h.1, h.0)
+  directive_size l (Values w vs) at there is h = h
+  directive_size l (Strings ended strings) at there is h = h
+  directive_size l (Zeros count) at there is h = h
+  directive_size l (Aligns_to_power e) at there is h =
+      (h.1.0, h.0, subst (λ (g : Section). IsPaddedIn g.executable (site_of l x) begins (alignment_of v (Aligns_to_power e))) (sym at) (padded_in l home.executable (alignment_of v (Aligns_to_power e)) h.1.1))
+  directive_size l (Aligns_to_bytes e) at there is h =
+      (h.1.0, h.0, subst (λ (g : Section). IsPaddedIn g.executable (site_of l x) begins (alignment_of v (Aligns_to_bytes e))) (sym at) (padded_in l home.executable (alignment_of v (Aligns_to_bytes e)) h.1.1))
+  directive_size l _ at there is h = true_false placed there is
+
+  said_size : (l : Located) (says : StatementKind) → l.home ≡ home → placed ≡ true → PlacedAs placed says → IsSized v home.executable x begins says → IsCoded v says → HasSize v (site_of l x) begins says
+  said_size l (Label name) at there is h coded = h
+  said_size l (Numbered number) at there is h coded = h
+  said_size l (Instruction mnemonic operands) at there is h coded = (h.0, h.1, coded)
+  said_size l (Directs d) at there is h coded = directive_size l d at there is h
+
+-- ---- the fields of values
+
+abbrev pub HaveFields : Tables → Located → Type 0
+HaveFields all l =
+    (w : ℕ) (vs : List Expression) → l.kind ≡ Directs (Values w vs) → AllByRecursion (λ e. HasField w (form all l e)) vs
+
+abbrev pub IsWideKind : StatementKind → Type 0
+IsWideKind says = (w : ℕ) (vs : List Expression) → says ≡ Directs (Values w vs) → IsWidth w
+
+wide : (w : ℕ) → IsWidth w → faulty_if (nat_lt w 4) 13 ≡ [] → IsWide w
+wide w (inl e) none = true_false (nat_lt w 4) (ap (λ n. nat_lt n 4) e) (no_test (nat_lt w 4) 13 none)
+wide w (inr (inl e)) none = true_false (nat_lt w 4) (ap (λ n. nat_lt n 4) e) (no_test (nat_lt w 4) 13 none)
+wide w (inr (inr h)) none = h
+
+has_field : (w : ℕ) (x : Value) → IsWidth w → value_faults w x ≡ [] → HasField w x
+has_field w (Constant n) is none = tt
+has_field w (Symbolic q at k) is none = wide w is none
+has_field w (Difference q r k) is none = is
+has_field w (Faulty code) is none = absurd (cc)
+
+have_fields : (w : ℕ) (v : Expression → Value) (es : List Expression) → IsWidth w → flat_map (λ e. value_faults w (v e)) es ≡ [] → AllByRecursion (λ e. HasField w (v e)) es
+have_fields w v [] is none = tt
+have_fields w v (e ∷ es) is none =
+    let parts = none_left_of (value_faults w (v e)) (flat_map (λ e. value_faults w (v e)) es) none in
+    (has_field w (v e) is parts.0, have_fields w v es is parts.1)
+  where
+    none_left_of : (xs ys : List ℕ) → xs ++ ys ≡ [] → (xs ≡ []) × (ys ≡ [])
+    none_left_of xs ys e = none_left xs ys e
+
+fields_one : (all t : Tables) (k : ℕ) (s : Statement) → faults all t k s.kind ≡ [] → IsWideKind s.kind → HaveFields all (located_now 1 k t s)
+fields_one all t k s none wide w vs e =
+    let sound : faults all t k (Directs (Values w vs)) ≡ [] = subst (λ says. faults all t k says ≡ []) e none in
+    let own = none_left (flat_map (λ x. value_faults w (value all true k (here t) x)) vs)
+    (faulty_if ((current_section t.opened).executable || is_nobits (current_section t.opened)) 15 ++ past_section (current_section t.opened).executable (here t).offset (w * length vs)) sound in
+    subst (λ says. AllByRecursion (λ x. HasField w (value all true k (stood t k says) x)) vs) (sym e)
+    (have_fields w (λ x. value all true k (here t) x) vs (wide w vs e) own.0)
+
+fields_all : (all : Tables) (k : ℕ) (t : Tables) (ss : List Statement) → AreSound all k t ss → AllByRecursion (λ s. IsWideKind s.kind) ss → AllByRecursion (HaveFields all) (located_from 1 k t ss)
+fields_all all k t [] h wide = tt
+fields_all all k t (s ∷ ss) h wide = (fields_one all t k s h.0 wide.0, fields_all all (suc k) (after t k s.kind) ss h.1 wide.1)
+
+-- ---- sites
+
+pub record Fit (t : Tables) (s : Site) : Type 0 where
+  pub size : s.located.placed ≡ true → HasSize (form t s.located) s (slice_index_or t.alignments s.located.section 1) s.located.kind
+  pub bytes : s.bytes ≡ length (flat_map part_bytes (parts_of t s))
+  pub code : s.located.home.executable ≡ true → flat_map part_bytes (parts_of t s) ≡ code_said (λ e. value_at t s.located e) s.located.kind
+  pub other : s.located.home.executable ≡ false → code_said (λ e. value_at t s.located e) s.located.kind ≡ []
+  pub empty : is_nobits s.located.home ≡ true → code_said (λ e. value_at t s.located e) s.located.kind ≡ []
+  pub filled : is_filled s.located.home ≡ true → data_parts t s ≡ parts_of t s
+  pub unfilled : is_filled s.located.home ≡ false → data_parts t s ≡ []
+  pub templates : AllByRecursion (λ p. IsTemplate p.template) (parts_of t s)
+  pub fields : data_fields t s ≡ fields_at t s
+
+all_templates : (v : Expression → Value) (o bytes : ℕ) (says : StatementKind) → ((w : ℕ) (vs : List Expression) → says ≡ Directs (Values w vs) → AllByRecursion (λ e. HasField w (v e)) vs)
+    → AllByRecursion (λ (p : Part). IsTemplate p.template) (map (part_of o) (templates v says bytes))
+all_templates v o bytes (Label name) h = tt
+all_templates v o bytes (Numbered number) h = tt
+all_templates v o bytes (Instruction mnemonic operands) h = (tt, tt)
+all_templates v o bytes (Directs (Values w vs)) h = go vs (h w vs refl)
+  where
+    go : (es : List Expression) → AllByRecursion (λ e. HasField w (v e)) es → AllByRecursion (λ (p : Part). IsTemplate p.template) (map (part_of o) (map (λ e. Datum w (v e)) es))
+    go [] k = tt
+    go (e ∷ es) k = (k.0, go es k.1)
+all_templates v o bytes (Directs (Strings ended strings)) h = (tt, tt)
+all_templates v o bytes (Directs (Zeros count)) h = (tt, tt)
+all_templates v o bytes (Directs (Aligns_to_power e)) h = (tt, tt)
+all_templates v o bytes (Directs (Aligns_to_bytes e)) h = (tt, tt)
+all_templates v o bytes (Directs _) h = tt
+
+pub fit_one : (all : Tables) (s : Located) (x : Item) → PlacedAs s.placed s.kind → (s.placed ≡ false → x.bytes ≡ 0) → x.section ≡ s.section
+    → (s.placed ≡ true → IsSized (λ e. value_at all s e) s.home.executable x (slice_index_or all.alignments x.section 1) s.kind)
+    → IsCoded (λ e. value_at all s e) s.kind → Held s → HaveFields all s → Fit all (site_of s x)
+fit_one all s x is absent at size coded held fields =
+    let v : Expression → Value = λ e. value_at all s e in
+    let begins = slice_index_or all.alignments s.section 1 in
+    let size' : s.placed ≡ true → IsSized v s.home.executable x begins s.kind = λ e. subst (λ n. IsSized v s.home.executable x (slice_index_or all.alignments n 1) s.kind) at (size e) in
+    let site = site_of s x in
+    record {
+      size = λ e. said_size v s.ordinal s.home x begins s.placed s s.kind refl e is (size' e) coded;
+      bytes = said_bytes v s.ordinal s.home x begins s.placed s.kind is size' absent coded;
+      code = λ e. said_code v s.ordinal s.home x begins s.placed s.kind e is size' held;
+      other = λ e. no_code v s.ordinal s.home x begins s.placed s.kind e held;
+      empty = λ e. empty_code v s.ordinal s.home x begins s.placed s.kind e held;
+      filled = λ e. ap (λ b. if b then data_said s.ordinal v s.kind x.bytes else []) e ∙ said_data v s.ordinal s.home x begins s.placed s.kind e held;
+      unfilled = λ e. ap (λ b. if b then data_said s.ordinal v s.kind x.bytes else []) e;
+      templates = all_templates v s.ordinal x.bytes s.kind fields;
+      fields = same (is_filled s.home) refl;
+    }
+  where
+    same : (b : Bool) → is_filled s.home ≡ b → data_fields all (site_of s x) ≡ fields_at all (site_of s x)
+    same true e =
+        let v : Expression → Value = λ e. value_at all s e in
+        ap (λ ps. if s.home.loaded then fields_from s.section x.offset ps else [])
+        (ap (λ b. if b then data_said s.ordinal v s.kind x.bytes else []) e ∙ said_data v s.ordinal s.home x 0 s.placed s.kind e held)
+    same false e =
+        let v : Expression → Value = λ e. value_at all s e in
+        ap (λ ps. if s.home.loaded then fields_from s.section x.offset ps else [])
+        (ap (λ b. if b then data_said s.ordinal v s.kind x.bytes else []) e)
+        ∙ ap (λ l. if s.home.loaded then l else []) (sym (no_fields v s.ordinal s.home x 0 s.placed s.section s.kind e held))
+
+pub fits_from : (all : Tables) (k : ℕ) (t : Tables) (before last : ℕ → ℕ) (ss : List Statement) (is : List Item) → AreItems k t before ss is last → AreSized all k t ss is
+    → AllByRecursion (λ s. IsCoded (λ e. value_at all s e) s.kind) (located_from 1 k t ss) → AllByRecursion Held (located_from 1 k t ss) → AllByRecursion (HaveFields all) (located_from 1 k t ss)
+    → AllByRecursion (Fit all) (sites_of (located_from 1 k t ss) is)
+fits_from all k t before last [] [] items sized coded held fields = tt
+fits_from all k t before last [] (x ∷ is) items sized coded held fields = absurd items
+fits_from all k t before last (s ∷ ss) [] items sized coded held fields = absurd items
+fits_from all k t before last (s ∷ ss) (x ∷ is) items sized coded held fields = (
+  fit_one all (located_now 1 k t s) x (placed_as t k s.kind) items.0.absent items.0.section sized.0 coded.0 held.0 fields.0,
+  fits_from all (suc k) (after t k s.kind) (grown before x) last ss is items.1 sized.1 coded.1 held.1 fields.1,
+)
+
+pub have_all_fields : (ss : List Statement) → first_fault ss ≡ None → AllByRecursion (λ s. IsWideKind s.kind) ss → AllByRecursion (HaveFields (tables ss)) (located_from 1 1 at_start ss)
+have_all_fields ss good wide = fields_all (tables ss) 1 at_start ss (sound ss good) wide

@@ -1,0 +1,43 @@
+-- The size of one item more.
+
+use Rattle.std.proofs.Common.{◌≡◌, ℕ, suc, ◌+◌, true, List, [], ◌∷◌, ◌++◌, drop, sym, subst, append-nil, append_assoc, arith}
+use Rattle.std.specs.Prelude.{slice_index_or}
+use Rattle.rv_statement.specs.Statement.{Statement}
+use Rattle.rv_unit_laws.specs.Tables.{Tables, at_start, after}
+use Rattle.rv_unit.specs.Unit.{passed}
+use Rattle.rv_sites.specs.declared.item.Item.{Item}
+use Rattle.rv_sites.specs.Code.{value_at}
+use Rattle.rv_sites.specs.Sized.{IsSized, AreSized}
+use Rattle.rv_sites.proofs.Standing.{located_at}
+use Rattle.rv_sites.proofs.SoFarItems.{passed_next}
+
+-- the sizes of the items so far, with those of what is left, are those of all items
+abbrev pub AreSizedSoFar : Tables → List Statement → ℕ → List Item → Type 0
+AreSizedSoFar all ss i so_far =
+    (rest : List Item) → AreSized all (i + 1) (passed ss i) (drop i ss) rest → AreSized all 1 at_start ss (so_far ++ rest)
+
+pub sized_begin : (all : Tables) (ss : List Statement) → AreSizedSoFar all ss 0 []
+sized_begin all [] rest h = h
+sized_begin all (s ∷ ss) rest h = h
+
+-- the item of a statement has its size where it has a place
+abbrev pub IsSizedAt : Tables → List Statement → ℕ → Statement → Item → Type 0
+IsSizedAt all ss i s x =
+    (located_at ss i s).placed ≡ true → IsSized (λ e. value_at all (located_at ss i s) e) (located_at ss i s).home.executable x (slice_index_or all.alignments x.section 1) s.kind
+
+pub sized_more : (all : Tables) (ss : List Statement) (i : ℕ) (s : Statement) (so_far : List Item) (x : Item) → drop i ss ≡ s ∷ drop (i + 1) ss
+    → IsSizedAt all ss i s x → AreSizedSoFar all ss i so_far → AreSizedSoFar all ss (i + 1) (so_far ++ x ∷ [])
+sized_more all ss i s so_far x here one h rest more =
+    let same = passed_next ss i s (drop (i + 1) ss) here in
+    let next : i + 1 + 1 ≡ suc (i + 1) = omega arith in
+    let tail : AreSized all (i + 1 + 1) (after (passed ss i) (i + 1) s.kind) (drop (i + 1) ss) rest =
+    subst (λ t. AreSized all (i + 1 + 1) t (drop (i + 1) ss) rest) same more in
+    let tail' : AreSized all (suc (i + 1)) (after (passed ss i) (i + 1) s.kind) (drop (i + 1) ss) rest =
+    subst (λ n. AreSized all n (after (passed ss i) (i + 1) s.kind) (drop (i + 1) ss) rest) next tail in
+    subst (λ l. AreSized all 1 at_start ss l) (sym (append_assoc so_far (x ∷ []) rest))
+    (h (x ∷ rest) (subst (λ l. AreSized all (i + 1) (passed ss i) l (x ∷ rest)) (sym here) (one, tail')))
+
+pub sized_all : (all : Tables) (ss : List Statement) (i : ℕ) (so_far : List Item) → drop i ss ≡ [] → AreSizedSoFar all ss i so_far → AreSized all 1 at_start ss so_far
+sized_all all ss i so_far none h =
+    subst (λ l. AreSized all 1 at_start ss l) (append-nil so_far)
+    (h [] (subst (λ l. AreSized all (i + 1) (passed ss i) l []) (sym none) tt))

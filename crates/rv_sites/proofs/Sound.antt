@@ -1,0 +1,71 @@
+-- In a source without faults no statement has one.
+
+use Rattle.std.proofs.Common.{◌≡◌, ℕ, zero, suc, ◌+◌, Bool, true, false, List, [], ◌∷◌, take, drop, None, refl, sym, ap, ◌∙◌, subst, append-nil, arith}
+use Rattle.std.specs.Prelude.{⊤, ◌&&◌, not}
+use Rattle.std.specs.List.{AllByRecursion}
+use Rattle.rv_statement.specs.Statement.{Directs, Statement, Directive}
+use Rattle.rv_unit_laws.specs.Tables.{Tables, at_start, alignment_of, after, after_all, tables}
+use Rattle.rv_unit_laws.specs.Faults.{faulty_if, faults, lowest, first_fault_from, first_fault}
+use Rattle.rv_unit.specs.Unit.{passed}
+use Rattle.rv_source_laws.specs.Fits.{is_low}
+use Rattle.rv_source_laws.specs.Located.{Located, located_from}
+use Rattle.rv_assemble_laws.specs.InstructionFaults.{is_label}
+use Rattle.rv_assemble_laws.specs.Refusals.{code_faults, code_faults_at, code_fault_from, code_fault}
+use Rattle.rv_assemble_laws.proofs.Held.{no_lowest, no_fault}
+use Rattle.rv_sites.specs.Code.{value_at}
+use Rattle.rv_sites.proofs.Standing.{all_at, located_at, stated_next}
+
+-- no statement from an ordinal on has a fault
+abbrev pub AreSound : Tables → ℕ → Tables → List Statement → Type 0
+AreSound all k t [] = ⊤
+AreSound all k t (s ∷ ss) = (faults all t k s.kind ≡ []) × AreSound all (suc k) (after t k s.kind) ss
+
+sound_from : (all : Tables) (k : ℕ) (t : Tables) (ss : List Statement) → first_fault_from all t k ss ≡ None → AreSound all k t ss
+sound_from all k t [] e = tt
+sound_from all k t (s ∷ ss) e =
+    let parts = no_fault s.line (lowest (faults all t k s.kind)) (first_fault_from all (after t k s.kind) (suc k) ss) e in
+    (no_lowest (faults all t k s.kind) parts.0, sound_from all (suc k) (after t k s.kind) ss parts.1)
+
+pub sound : (ss : List Statement) → first_fault ss ≡ None → AreSound (tables ss) 1 at_start ss
+sound ss e = sound_from (tables ss) 1 at_start ss e
+
+sound_left : (all : Tables) (k : ℕ) (t : Tables) (ss : List Statement) (i : ℕ) (s : Statement) (rest : List Statement) → drop i ss ≡ s ∷ rest → AreSound all k t ss
+    → faults all (after_all t k (take i ss)) (i + k) s.kind ≡ []
+sound_left all k t [] zero s rest e h = absurd (cc)
+sound_left all k t [] (suc i) s rest e h = absurd (cc)
+sound_left all k t (x ∷ xs) zero s rest e h =
+    let same : x ≡ s = cc in
+    subst (λ n. faults all t n s.kind ≡ []) (let f : k ≡ 0 + k = omega arith in f) (subst (λ (y : Statement). faults all t k y.kind ≡ []) same h.0)
+sound_left all k t (x ∷ xs) (suc i) s rest e h =
+    subst (λ n. faults all (after_all (after t k x.kind) (suc k) (take i xs)) n s.kind ≡ []) (let f : i + suc k ≡ suc i + k = omega arith in f)
+    (sound_left all (suc k) (after t k x.kind) xs i s rest e h.1)
+
+-- of the statement at an index of a source
+pub sound_at : (ss : List Statement) (i : ℕ) (s : Statement) (rest : List Statement) → drop i ss ≡ s ∷ rest → first_fault ss ≡ None → faults (tables ss) (passed ss i) (i + 1) s.kind ≡ []
+sound_at ss i s rest e good = sound_left (tables ss) 1 at_start ss i s rest e (sound ss good)
+
+-- ---- code
+
+code_sound : (t : Tables) (ss : List Located) → code_fault_from t ss ≡ None → AllByRecursion (λ s. code_faults_at t s ≡ []) ss
+code_sound t [] e = tt
+code_sound t (s ∷ ss) e =
+    let parts = no_fault s.line (lowest (code_faults_at t s)) (code_fault_from t ss) e in
+    (no_lowest (code_faults_at t s) parts.0, code_sound t ss parts.1)
+
+-- the statement at an index has no fault as code
+pub code_sound_at : (ss : List Statement) (i : ℕ) (s : Statement) (rest : List Statement) → drop i ss ≡ s ∷ rest → code_fault ss ≡ None → code_faults_at (tables ss) (located_at ss i s) ≡ []
+code_sound_at ss i s rest e good =
+    let all = located_from 1 1 at_start ss in
+    all_at (λ u. code_faults_at (tables ss) u ≡ []) all i (located_at ss i s) (drop (i + 1) all) (stated_next ss i s rest e)
+    (code_sound (tables ss) all (sym (ap (code_fault_from (tables ss)) (append-nil all)) ∙ good))
+
+low_by : (low executable : Bool) → faulty_if (not low && executable) 9 ≡ [] → executable ≡ true → low ≡ true
+low_by true executable none e = refl
+low_by false true none e = absurd (cc)
+low_by false false none e = absurd (cc)
+
+-- so an alignment in code is low
+pub low_code : (t : Tables) (s : Located) (d : Directive) → s.kind ≡ Directs d → code_faults_at t s ≡ [] → s.home.executable ≡ true → is_low (alignment_of (λ e. value_at t s e) d) ≡ true
+low_code t s d is none code =
+    low_by (is_low (alignment_of (λ e. value_at t s e) d)) s.home.executable
+    (sym (ap (λ says. code_faults s.options s.home.executable (λ e. value_at t s e) (is_label t s.ordinal) says) is) ∙ none) code

@@ -1,0 +1,33 @@
+-- The size of an item is that of its stretch of the section.
+
+use Rattle.std.proofs.Common.{◌≡◌, ℕ, Bool, true, false, Option}
+use Rattle.rv_text_laws.specs.Values.{Value}
+use Rattle.rv_statement.specs.Statement.{StatementKind, Label, Numbered, Instruction, Directs, Expression, Directive, Enters, Opens, Globl, Local, Sets, Aligns_to_power, Aligns_to_bytes, Values, Strings, Zeros, Chooses, Ignored}
+use Rattle.rv_unit_laws.specs.Tables.{alignment_of}
+use Rattle.rv_sites.specs.declared.item.Item.{Item}
+use Rattle.rv_sites.specs.Measured.{IsSize, instructions_of, stretch}
+use Rattle.rv_sites.specs.Sized.{IsPadded, IsSizedDirective, IsSized}
+
+padded : (b : Bool) (x : Item) (begins : ℕ) (a : Option ℕ) → IsPadded b (stretch x.offset x.bytes) begins a → IsPadded b x begins a
+padded true x begins a h = h
+padded false x begins a h = h
+
+sized_directive : (v : Expression → Value) (b : Bool) (x : Item) (begins : ℕ) (d : Directive) → IsSizedDirective v b (stretch x.offset x.bytes) begins d → IsSizedDirective v b x begins d
+sized_directive v b x begins (Sets name e) h = h
+sized_directive v b x begins (Values width values) h = h
+sized_directive v b x begins (Strings ended strings) h = h
+sized_directive v b x begins (Zeros count) h = h
+sized_directive v b x begins (Aligns_to_power e) h = (h.0, padded b x begins (alignment_of v (Aligns_to_power e)) h.1)
+sized_directive v b x begins (Aligns_to_bytes e) h = (h.0, padded b x begins (alignment_of v (Aligns_to_bytes e)) h.1)
+sized_directive v b x begins (Enters standard) h = h
+sized_directive v b x begins (Opens name flags kind) h = h
+sized_directive v b x begins (Globl names) h = h
+sized_directive v b x begins (Local names) h = h
+sized_directive v b x begins (Chooses choice) h = h
+sized_directive v b x begins Ignored h = h
+
+pub sized_as : (v : Expression → Value) (b : Bool) (x : Item) (begins : ℕ) (says : StatementKind) → x.instructions ≡ instructions_of says → IsSize v b begins x.offset says x.bytes → IsSized v b x begins says
+sized_as v b x begins (Label name) count h = (h, count)
+sized_as v b x begins (Numbered number) count h = (h, count)
+sized_as v b x begins (Instruction mnemonic operands) count h = (h, count)
+sized_as v b x begins (Directs d) count h = (count, sized_directive v b x begins d h)

@@ -1,0 +1,88 @@
+-- What the statements of a source contribute to sections of data: bytes, and fields that stay open.
+
+use Rattle.std.specs.Prelude.{◌≡◌, ℕ, ◌+◌, ◌*◌, ◌≤◌, Bool, not, ◌&&◌, List, [], ◌++◌, flat_map, map, drop, length, if◌then◌else◌}
+use Rattle.std.specs.Global.{Vec}
+use Rattle.rv_text_laws.specs.Values.{Value}
+use Rattle.rv_statement.specs.Statement.{StatementKind, Label, Numbered, Instruction, Directs, Expression, Statement, Values}
+use Rattle.rv_unit_laws.specs.Contributions.{contribution}
+use Rattle.rv_unit_laws.specs.Sections.{Section, is_nobits}
+use Rattle.rv_unit_laws.specs.Tables.{Tables, at_start, tables, longest_section}
+use Rattle.rv_source_laws.specs.Located.{located_from}
+use Rattle.rv_assemble_laws.specs.Templates.{Template, contribution_templates}
+use Rattle.rv_assemble_laws.specs.Sites.{Site, Part, form, part_of, part_bytes, sites_in}
+use Rattle.rv_assemble_laws.specs.Fields.{Field, fields_from}
+use Rattle.rv_sites.specs.declared.field.OpenField.{OpenField}
+use Rattle.rv_sites.specs.declared.item.Item.{Item}
+use Rattle.rv_sites.specs.Code.{bytes_in}
+use Rattle.rv_sites.specs.Draft.{field_of}
+use Rattle.rv_sites.specs.Items.{AreItems}
+use Rattle.rv_sites.specs.Seated.{sites_of}
+use Rattle.rv_sites.specs.Sized.{AreSized}
+
+-- a section of data that has its bytes in the file
+abbrev pub is_filled : Section → Bool
+is_filled home = not home.executable && not (is_nobits home)
+
+-- ---- one statement
+
+-- the templates of data, by the values of its expressions, in so many bytes
+abbrev pub data_templates : (Expression → Value) → StatementKind → ℕ → List Template
+data_templates v (Label name) bytes = []
+data_templates v (Numbered number) bytes = []
+data_templates v (Instruction mnemonic operands) bytes = []
+data_templates v (Directs directive) bytes = contribution_templates v (contribution directive) bytes
+
+abbrev pub data_said : ℕ → (Expression → Value) → StatementKind → ℕ → List Part
+data_said ordinal v says bytes = map (part_of ordinal) (data_templates v says bytes)
+
+-- the open fields of parts from an offset of a section on, where that one is loaded
+abbrev pub fields_said : Bool → ℕ → ℕ → List Part → List Field
+fields_said loaded section offset ps = if loaded then fields_from section offset ps else []
+
+-- values of data end where a section may end
+abbrev pub HasRoomFor : StatementKind → ℕ → Type 0
+HasRoomFor says offset =
+    (width : ℕ) (values : List Expression) → says ≡ Directs (Values width values)
+    → offset + width * length values ≤ longest_section
+
+-- ---- the statements of a source
+
+abbrev pub data_parts : Tables → Site → List Part
+data_parts t s =
+    if is_filled s.located.home
+    then data_said s.located.ordinal (λ e. form t s.located e) s.located.kind s.bytes
+    else []
+
+abbrev pub data_fields : Tables → Site → List Field
+data_fields t s =
+    fields_said s.located.home.loaded s.located.section s.offset (data_parts t s)
+
+-- the bytes of data that statements have in a section
+abbrev pub data_bytes : Tables → ℕ → List Site → List ℕ
+data_bytes t section sites = flat_map part_bytes (flat_map (data_parts t) (sites_in section sites))
+
+-- the sites of a source with these items
+abbrev pub sites : List Statement → List Item → List Site
+sites ss is = sites_of (located_from 1 1 at_start ss) is
+
+-- the items stand in their sections, and have their sizes
+pub record IsLaid (ss : List Statement) (is : List Item) : Type 0 where
+  pub last : ℕ → ℕ
+  pub items : AreItems 1 at_start (λ j. 0) ss is last
+  pub sized : AreSized (tables ss) 1 at_start ss is
+  pub low : (j : ℕ) → last j ≤ longest_section
+
+-- what is there so far, from these sections on, and what the statements from an index on contribute, make up the whole
+pub record IsDataTo (ss : List Statement) (is : List Item) (start : List (Vec ℕ)) (i : ℕ)
+    (sections : List (Vec ℕ)) (found : List OpenField) : Type 0 where
+  pub bytes : (j : ℕ) → bytes_in sections j ++ data_bytes (tables ss) j (drop i (sites ss is))
+      ≡ bytes_in start j ++ data_bytes (tables ss) j (sites ss is)
+  pub fields : map field_of found ++ flat_map (data_fields (tables ss)) (drop i (sites ss is))
+      ≡ flat_map (data_fields (tables ss)) (sites ss is)
+
+-- all of it
+pub record IsData (ss : List Statement) (is : List Item) (start sections : List (Vec ℕ))
+    (found : List OpenField) : Type 0 where
+  pub bytes : (j : ℕ) → bytes_in sections j
+      ≡ bytes_in start j ++ data_bytes (tables ss) j (sites ss is)
+  pub fields : map field_of found ≡ flat_map (data_fields (tables ss)) (sites ss is)

@@ -1,0 +1,11 @@
+pub mod Added
+pub mod Code
+pub mod Coded
+pub mod Compressed
+pub mod DataParts
+pub mod Draft
+pub mod Items
+pub mod Measured
+pub mod Seated
+pub mod Sized
+pub mod Spots

@@ -1,0 +1,50 @@
+-- The sizes of statements as their items have them, by the values of their expressions.
+
+use Rattle.std.specs.Prelude.{◌≡◌, ℕ, suc, ◌*◌, Bool, true, false, ⊤, List, ◌∷◌, length, Option, slice_index_or}
+use Rattle.rv_text_laws.specs.Values.{Value, Constant}
+use Rattle.rv_statement.specs.Statement.{StatementKind, Label, Numbered, Instruction, Directs, Statement, Expression, Directive, Sets, Aligns_to_power, Aligns_to_bytes, Values, Strings, Zeros}
+use Rattle.rv_unit_laws.specs.Tables.{Tables, after, alignment_of, padding, string_bytes}
+use Rattle.rv_source_laws.specs.Located.{located_now}
+use Rattle.rv_source_laws.specs.Fits.{is_constant, is_low}
+use Rattle.rv_sites.specs.declared.item.Item.{Item}
+use Rattle.rv_assemble_laws.specs.Sites.{IsMultiple}
+use Rattle.rv_sites.specs.Code.{value_at}
+
+-- the padding of an alignment: none in code; in data up to the multiple, in a section that asks for a multiple of it
+abbrev pub IsPadded : Bool → Item → ℕ → Option ℕ → Type 0
+IsPadded true i begins alignment = (i.bytes ≡ 0) × (is_low alignment ≡ true)
+IsPadded false i begins alignment =
+    (i.bytes ≡ padding alignment i.offset) × IsMultiple alignment begins
+
+abbrev pub IsAligned : Value → Bool → Item → ℕ → Option ℕ → Type 0
+IsAligned v executable i begins alignment =
+    (is_constant v ≡ true) × IsPadded executable i begins alignment
+
+-- the bytes of a directive, by whether its section is one of code, and the multiple at which that one asks to begin
+abbrev pub IsSizedDirective : (Expression → Value) → Bool → Item → ℕ → Directive → Type 0
+IsSizedDirective v executable i begins (Sets name e) = i.bytes ≡ 0
+IsSizedDirective v executable i begins (Values width values) = i.bytes ≡ width * length values
+IsSizedDirective v executable i begins (Strings ended strings) =
+    i.bytes ≡ length (string_bytes ended strings)
+IsSizedDirective v executable i begins (Zeros count) = v count ≡ Constant i.bytes
+IsSizedDirective v executable i begins (Aligns_to_power e) =
+    IsAligned (v e) executable i begins (alignment_of v (Aligns_to_power e))
+IsSizedDirective v executable i begins (Aligns_to_bytes e) =
+    IsAligned (v e) executable i begins (alignment_of v (Aligns_to_bytes e))
+IsSizedDirective v executable i begins _ = ⊤
+
+-- an instruction is one, and has four bytes
+abbrev pub IsSized : (Expression → Value) → Bool → Item → ℕ → StatementKind → Type 0
+IsSized v executable i begins (Label name) = (i.bytes ≡ 0) × (i.instructions ≡ 0)
+IsSized v executable i begins (Numbered number) = (i.bytes ≡ 0) × (i.instructions ≡ 0)
+IsSized v executable i begins (Instruction mnemonic operands) = (i.bytes ≡ 4) × (i.instructions ≡ 1)
+IsSized v executable i begins (Directs directive) =
+    (i.instructions ≡ 0) × IsSizedDirective v executable i begins directive
+
+-- of each statement that has a place: `all` are the tables of the whole source, `t` those before the statement
+abbrev pub AreSized : Tables → ℕ → Tables → List Statement → List Item → Type 0
+AreSized all k t (s ∷ ss) (i ∷ is) =
+    ((located_now 1 k t s).placed ≡ true → IsSized (λ e. value_at all (located_now 1 k t s) e)
+    (located_now 1 k t s).home.executable i (slice_index_or all.alignments i.section 1) s.kind)
+    × AreSized all (suc k) (after t k s.kind) ss is
+AreSized all k t ss is = ⊤

@@ -1,0 +1,55 @@
+-- What a statement of data adds where it stands.
+
+use Rattle.std.specs.Prelude.{◌≡◌, ℕ, List, ◌++◌, flat_map, map}
+use Rattle.std.specs.Global.{Vec}
+use Rattle.rv_text_laws.specs.Values.{Value}
+use Rattle.rv_statement.specs.Statement.{StatementKind, Expression}
+use Rattle.rv_assemble_laws.specs.Templates.{Datum, value_fields}
+use Rattle.rv_assemble_laws.specs.Sites.{Part, part_of, part_bytes}
+use Rattle.rv_assemble_laws.specs.Fields.{Field, field_at}
+use Rattle.rv_instruction.specs.Scoped.{values_at, AtNext}
+use Rattle.rv_sites.specs.declared.data.Spot.{Spot}
+use Rattle.rv_sites.specs.declared.field.OpenField.{OpenField}
+use Rattle.rv_sites.specs.Code.{GrowsBy}
+use Rattle.rv_sites.specs.DataParts.{data_said, fields_said}
+use Rattle.rv_sites.specs.Draft.{field_of}
+
+-- of the index from 0 of the statement
+abbrev pub AtSpot : Spot → (ℕ → Type 0) → Type 0
+AtSpot spot P = AtNext spot.scope.now P
+
+-- the value of an expression there
+abbrev pub value_in : Spot → ℕ → Expression → Value
+value_in spot index e = values_at spot.scope.now index spot.place e
+
+-- the parts of values of a width
+abbrev pub parts_in : Spot → ℕ → ℕ → List Expression → List Part
+parts_in spot index width es =
+    map (λ e. part_of spot.ordinal (Datum width (value_in spot index e))) es
+
+-- the parts of a statement that says this in so many bytes
+abbrev pub said_in : Spot → StatementKind → ℕ → ℕ → List Part
+said_in spot says bytes index = data_said spot.ordinal (λ e. value_in spot index e) says bytes
+
+-- the fields of a value at a place
+abbrev pub own_fields : Spot → ℕ → ℕ → Value → List Field
+own_fields spot place width v =
+    map (field_at spot.place.section spot.ordinal place) (value_fields width v)
+
+-- the fields of parts from an offset on, where the section is loaded
+abbrev pub fields_in : Spot → ℕ → List Part → List Field
+fields_in spot offset ps = fields_said spot.loaded spot.place.section offset ps
+
+-- ---- what is added, by the index of the statement
+
+abbrev pub AddsBytes : Spot → List ℕ → List ℕ → (ℕ → List ℕ) → Type 0
+AddsBytes spot old new more = AtSpot spot (λ index. new ≡ old ++ more index)
+
+abbrev pub AddsFields : Spot → List OpenField → List OpenField → (ℕ → List Field) → Type 0
+AddsFields spot old new more =
+    AtSpot spot (λ index. map field_of new ≡ map field_of old ++ more index)
+
+-- the section where the statement stands grows by the bytes of parts
+abbrev pub AddsParts : Spot → List (Vec ℕ) → List (Vec ℕ) → (ℕ → List Part) → Type 0
+AddsParts spot old new ps =
+    AtSpot spot (λ index. GrowsBy old new spot.place.section (flat_map part_bytes (ps index)))

@@ -1,0 +1,21 @@
+//! The fields that stay open.
+
+use rv_isa::Kind;
+use rv_text::Symbol;
+
+/// A field that the linker fills in, as a statement says it (gABI, "Relocation").
+#[derive(Clone, Copy, Debug, PartialEq, Eq, Drop)]
+pub struct OpenField<'a> {
+    /// The index of its section in the source.
+    pub section: u32,
+    /// The offset of its first byte there.
+    pub place: u32,
+    /// What it takes.
+    pub kind: Kind,
+    /// The ordinal of its statement, from 1.
+    pub ordinal: u32,
+    /// The symbol, as the statement names it.
+    pub symbol: Symbol<'a>,
+    /// What is added.
+    pub addend: i64,
+}

@@ -1,0 +1,18 @@
+//! The statements of a source in their sections.
+
+/// Where a statement stands in its section.
+#[derive(Clone, Copy, Debug, PartialEq, Eq, Drop)]
+pub struct Item {
+    /// The index of its section in the source.
+    pub section: u32,
+    /// The bytes before it in its section.
+    pub offset: u32,
+    /// Its own bytes.
+    pub bytes: u32,
+    /// Its line in the source, from 1.
+    pub line: u32,
+    /// It has a row in the map.
+    pub shown: bool,
+    /// How many instructions its bytes are.
+    pub instructions: u32,
+}

@@ -1,0 +1,12 @@
+pub mod Firsts
+pub mod Stands
+pub mod Naming
+pub mod Using
+pub mod Indexing
+pub mod Ordered
+pub mod Numbered
+pub mod Unnamed
+pub mod Standing
+pub mod Owned
+pub mod Single
+pub mod All

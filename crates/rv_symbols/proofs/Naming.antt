@@ -1,0 +1,174 @@
+-- The names that statements define.
+
+use Rattle.std.proofs.Common.{◌≡◌, ℕ, zero, suc, ◌+◌, ◌<◌, Bool, true, false, List, [], ◌∷◌, ◌++◌, length, map, take, drop, refl, sym, ap, ◌∙◌, arith, append_assoc, Some}
+use Rattle.std.specs.Prelude.{◌&&◌, ◌||◌, ◌==◌, not, filter, slice_get, if◌then◌else◌}
+use Rattle.std.specs.List.{list_all}
+use Rattle.std.proofs.lemmas.Bool.{and_parts}
+use Rattle.std.proofs.lemmas.List.Folds.{list_any-append}
+use Rattle.rv_statement.specs.Statement.{StatementKind, Label, Directs, Sets}
+use Rattle.rv_map.specs.Name.{is_name}
+use Rattle.rv_source_laws.specs.Resolves.{sets_first, defined_name}
+use Rattle.rv_unit_laws.specs.Tables.{Tables}
+use Rattle.rv_object.specs.declared.symbol.Definition.{Definition as Defined}
+use Rattle.rv_object.specs.declared.symbol.Definition.TheVariants.{Undefined, Absolute, InSection, Skipped}
+use Rattle.rv_object.specs.Object.{Symbol}
+use Rattle.rv_assemble_laws.specs.Sites.{Site}
+use Rattle.rv_assemble_laws.specs.Symbols.{SymbolUse, local_symbol, global_symbol, is_absolute, references, is_meant, unnamed_symbols, named_symbols, local_symbols}
+use Rattle.rv_assemble_laws.specs.ShownNames.{tree_names, said_names, are_shown}
+use Rattle.rv_symbols.specs.Source.{place_in}
+use Rattle.rv_symbols.specs.Found.{is_number, same_place, is_seen}
+
+-- ---- the names of one statement
+
+abbrev pub local_names : (List ℕ → Bool) → Defined → List (List ℕ) → List Symbol
+local_names global d names = filter (λ x. not (is_absolute x)) (map (λ name. local_symbol name d) (filter (λ name. not (global name)) names))
+
+pub local_none : (global : List ℕ → Bool) (d : Defined) (names : List (List ℕ)) → [] ≡ names → [] ≡ local_names global d names
+local_none global d names e = ap (local_names global d) e
+
+if_not : (b c : Bool) (name : List ℕ) (names : List (List ℕ)) → b ≡ c → (if not b then name ∷ names else names) ≡ (if not c then name ∷ names else names)
+if_not b c name names e = ap (λ x. if not x then name ∷ names else names) e
+
+pub local_global : (global : List ℕ → Bool) (d : Defined) (names : List (List ℕ)) (name : List ℕ) → name ∷ [] ≡ names → global name ≡ true → [] ≡ local_names global d names
+local_global global d names name e g =
+    sym (ap (λ l. filter (λ x. not (is_absolute x)) (map (λ name. local_symbol name d) l)) (if_not (global name) true name [] g)) ∙ ap (local_names global d) e
+
+one_number : (d : Defined) (name : List ℕ) → is_number d ≡ true → filter (λ x. not (is_absolute x)) (local_symbol name d ∷ []) ≡ []
+one_number (Absolute n) name e = refl
+one_number Undefined name e = absurd (cc)
+one_number (InSection s o) name e = absurd (cc)
+one_number (Skipped n) name e = absurd (cc)
+
+one_place : (d : Defined) (name : List ℕ) → is_number d ≡ false → filter (λ x. not (is_absolute x)) (local_symbol name d ∷ []) ≡ local_symbol name d ∷ []
+one_place (Absolute n) name e = absurd (cc)
+one_place Undefined name e = refl
+one_place (InSection s o) name e = refl
+one_place (Skipped n) name e = refl
+
+pub local_number : (global : List ℕ → Bool) (d : Defined) (names : List (List ℕ)) (name : List ℕ) → name ∷ [] ≡ names → global name ≡ false → is_number d ≡ true → [] ≡ local_names global d names
+local_number global d names name e g n =
+    sym (ap (λ l. filter (λ x. not (is_absolute x)) (map (λ name. local_symbol name d) l)) (if_not (global name) false name [] g) ∙ one_number d name n) ∙ ap (local_names global d) e
+
+pub local_one : (global : List ℕ → Bool) (d : Defined) (names : List (List ℕ)) (name : List ℕ) → name ∷ [] ≡ names → global name ≡ false → is_number d ≡ false
+    → local_symbol name d ∷ [] ≡ local_names global d names
+local_one global d names name e g n =
+    sym (ap (λ l. filter (λ x. not (is_absolute x)) (map (λ name. local_symbol name d) l)) (if_not (global name) false name [] g) ∙ one_place d name n) ∙ ap (local_names global d) e
+
+abbrev pub global_names : (List ℕ → Bool) → Defined → List (List ℕ) → List Symbol
+global_names global d names = map (λ name. global_symbol name d) (filter global names)
+
+if_same : (b c : Bool) (name : List ℕ) → b ≡ c → (if b then name ∷ [] else []) ≡ (if c then name ∷ [] else [])
+if_same b c name e = ap (λ x. if x then name ∷ [] else []) e
+
+pub global_none : (global : List ℕ → Bool) (d : Defined) (names : List (List ℕ)) → [] ≡ names → [] ≡ global_names global d names
+global_none global d names e = ap (global_names global d) e
+
+pub global_local : (global : List ℕ → Bool) (d : Defined) (names : List (List ℕ)) (name : List ℕ) → name ∷ [] ≡ names → global name ≡ false → [] ≡ global_names global d names
+global_local global d names name e g = sym (ap (λ l. map (λ name. global_symbol name d) l) (if_same (global name) false name g)) ∙ ap (global_names global d) e
+
+pub global_one : (global : List ℕ → Bool) (d : Defined) (names : List (List ℕ)) (name : List ℕ) → name ∷ [] ≡ names → global name ≡ true → global_symbol name d ∷ [] ≡ global_names global d names
+global_one global d names name e g = sym (ap (λ l. map (λ name. global_symbol name d) l) (if_same (global name) true name g)) ∙ ap (global_names global d) e
+
+-- a map can show the name that a statement defines
+first_shown : (n : List ℕ) (more : List (List ℕ)) → are_shown (n ∷ more) ≡ true → is_name n ≡ true
+first_shown n more e = (and_parts (is_name n) (are_shown more) e).0
+
+one_of : (b : Bool) (n name : List ℕ) → name ∷ [] ≡ (if b then n ∷ [] else []) → name ≡ n
+one_of true n name e = cc
+one_of false n name e = absurd (cc)
+
+pub shown_defined : (t : Tables) (ordinal : ℕ) (kind : StatementKind) (name : List ℕ) → name ∷ [] ≡ defined_name t ordinal kind → are_shown (said_names kind) ≡ true → is_name name ≡ true
+shown_defined t ordinal (Label n) name e h =
+    let same : name ≡ n = cc in
+    ap is_name same ∙ first_shown n [] h
+shown_defined t ordinal (Directs (Sets n x)) name e h = ap is_name (one_of (sets_first t.assignments ordinal n) n name e) ∙ first_shown n (tree_names x ++ []) h
+shown_defined t ordinal _ name e h = absurd (cc)
+
+-- what all pass, the one at an index passes
+pub all_got : {X : Type 0} (p : X → Bool) (xs : List X) (i : ℕ) (x : X) → slice_get xs i ≡ Some x → list_all p xs ≡ true → p x ≡ true
+all_got p [] zero x e h = absurd (cc)
+all_got p [] (suc i) x e h = absurd (cc)
+all_got p (y ∷ ys) zero x e h =
+    let same : y ≡ x = cc in
+    ap p (sym same) ∙ (and_parts (p y) (list_all p ys) h).0
+all_got p (y ∷ ys) (suc i) x e h = all_got p ys i x e (and_parts (p y) (list_all p ys) h).1
+
+-- ---- one statement more
+
+pub drop_got : {X : Type 0} (xs : List X) (i : ℕ) (x : X) → slice_get xs i ≡ Some x → drop i xs ≡ x ∷ drop (suc i) xs
+drop_got [] zero x e = absurd (cc)
+drop_got [] (suc i) x e = absurd (cc)
+drop_got (y ∷ ys) zero x e =
+    let same : y ≡ x = cc in
+    ap (λ z. z ∷ ys) same
+drop_got (y ∷ ys) (suc i) x e = drop_got ys i x e
+
+pub take_got : {X : Type 0} (xs : List X) (i : ℕ) (x : X) → slice_get xs i ≡ Some x → take (suc i) xs ≡ take i xs ++ x ∷ []
+take_got [] zero x e = absurd (cc)
+take_got [] (suc i) x e = absurd (cc)
+take_got (y ∷ ys) zero x e =
+    let same : y ≡ x = cc in
+    ap (λ z. z ∷ []) same
+take_got (y ∷ ys) (suc i) x e = ap (λ l. y ∷ l) (take_got ys i x e)
+
+pub there_is : {X : Type 0} (xs : List X) (i : ℕ) → i < length xs → (x : X) × (slice_get xs i ≡ Some x)
+there_is [] i h = absurd (omega arith)
+there_is (x ∷ xs) zero h = (x, refl)
+there_is (x ∷ xs) (suc i) h = there_is xs i (omega arith)
+
+module _ (t : Tables) (sites : List Site) (rs : List SymbolUse) where
+  eqb_swap : (a b : ℕ) → (a == b) ≡ (b == a)
+  eqb_swap a b = grind (arith)
+
+  and_swap : (a b : Bool) → (a && b) ≡ (b && a)
+  and_swap true true = refl
+  and_swap true false = refl
+  and_swap false true = refl
+  and_swap false false = refl
+
+  or_none : (a : Bool) → (a || false) ≡ a
+  or_none true = refl
+  or_none false = refl
+
+  place_swap : (p q : ℕ × ℕ) → same_place p q ≡ same_place q p
+  place_swap p q = ap (λ b. b && (p.1 == q.1)) (eqb_swap p.0 q.0) ∙ ap (λ b. (q.0 == p.0) && b) (eqb_swap p.1 q.1)
+
+  pub seen_more : (before : List Site) (s : Site) (meant old new : Bool) (q : ℕ × ℕ) → meant ≡ is_meant t rs s → old ≡ is_seen t rs before q
+      → new ≡ (old || meant && same_place (place_in s) q) → new ≡ is_seen t rs (before ++ s ∷ []) q
+  seen_more before s meant old new q m o n =
+      n ∙ ap (λ b. b || meant && same_place (place_in s) q) o
+      ∙ ap (λ b. is_seen t rs before q || b)
+      (and_swap meant (same_place (place_in s) q) ∙ ap (λ b. b && meant) (place_swap (place_in s) q) ∙ ap (λ b. same_place q (place_in s) && b) m ∙ sym (or_none (same_place q (place_in s) && is_meant t rs s)))
+      ∙ sym (list_any-append (λ y. same_place q (place_in y) && is_meant t rs y) before (s ∷ []))
+
+-- the local symbols so far, and those that are left
+pub locals_more : (t : Tables) (sites before rest : List Site) (s : Site) (rs : List SymbolUse) (meant seen : Bool) (old new all : List Symbol)
+    → meant ≡ is_meant t rs s → seen ≡ is_seen t rs before (place_in s) → rs ≡ references t sites
+    → new ≡ old ++ ((if meant && not seen then local_symbol [] (InSection s.located.section s.offset) ∷ [] else []) ++ named_symbols t sites s)
+    → old ++ local_symbols t sites before (s ∷ rest) ≡ all → new ++ local_symbols t sites (before ++ s ∷ []) rest ≡ all
+locals_more t sites before rest s rs meant seen old new all m o r n h =
+    let more = local_symbols t sites (before ++ s ∷ []) rest in
+    let named = named_symbols t sites s in
+    let one : Bool → List Symbol = λ b. if b then local_symbol [] (InSection s.located.section s.offset) ∷ [] else [] in
+    let unnamed = one (meant && not seen) in
+    let same : unnamed ≡ unnamed_symbols t (references t sites) before s =
+    ap (λ b. one (b && not seen)) m ∙ ap (λ b. one (is_meant t rs s && not b)) o ∙ ap (λ l. unnamed_symbols t l before s) r in
+    ap (λ l. l ++ more) n
+    ∙ append_assoc old (unnamed ++ named) more
+    ∙ ap (λ l. old ++ l) (append_assoc unnamed named more)
+    ∙ ap (λ l. old ++ (l ++ (named ++ more))) same
+    ∙ h
+
+-- the name that a statement defines, by its index
+pub named_at : (t : Tables) (names : List (List ℕ)) (index : ℕ) (s : Site) (kind : StatementKind) → s.located.ordinal ≡ index + 1 → kind ≡ s.located.kind → names ≡ defined_name t (index + 1) kind
+    → names ≡ defined_name t s.located.ordinal s.located.kind
+named_at t names index s kind o k e = e ∙ ap (defined_name t (index + 1)) k ∙ ap (λ n. defined_name t n s.located.kind) (sym o)
+
+next : (i : ℕ) → suc i ≡ i + 1
+next i = omega arith
+
+pub drop_next : {X : Type 0} (xs : List X) (i : ℕ) (x : X) → slice_get xs i ≡ Some x → drop i xs ≡ x ∷ drop (i + 1) xs
+drop_next xs i x e = drop_got xs i x e ∙ ap (λ n. x ∷ drop n xs) (next i)
+
+pub take_next : {X : Type 0} (xs : List X) (i : ℕ) (x : X) → slice_get xs i ≡ Some x → take (i + 1) xs ≡ take i xs ++ x ∷ []
+take_next xs i x e = ap (λ n. take n xs) (sym (next i)) ∙ take_got xs i x e

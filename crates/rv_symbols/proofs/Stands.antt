@@ -1,0 +1,182 @@
+-- Where the statements of a source stand.
+
+use Rattle.std.proofs.Common.{◌≡◌, ℕ, zero, suc, ◌+◌, ◌<◌, ◌≤◌, Bool, true, false, List, [], ◌∷◌, length, map, drop, refl, sym, ap, ◌∙◌, subst, arith, Option, Some, None}
+use Rattle.std.specs.Borrow.{Bor}
+use Rattle.std.specs.Prelude.{IfSome, is_some, option_copied, slice_index_or, nat_lt, ◌==◌, slice_get, option_map, if◌then◌else◌}
+use Rattle.std.specs.List.{find}
+use Rattle.std.proofs.lemmas.Bool.{eqb-true, eq-eqb, ltb-true, ltb-false}
+use Rattle.rv_statement.specs.Statement.{Statement}
+use Rattle.rv_statement.specs.View.{statement_of}
+use Rattle.rv_statement.specs.declared.statement.Statement.{Statement as DeclaredStatement}
+use Rattle.std.proofs.lemmas.List.{length-map, at_drop_all}
+use Rattle.rv_unit_laws.specs.Tables.{Tables, SectionOffset as Standing, at_start, after, stood, places_from}
+use Rattle.rv_tables.specs.declared.section_offset.SectionOffset.{SectionOffset}
+use Rattle.rv_tables.specs.Sections.{offset_of}
+use Rattle.rv_unit.specs.Unit.{said}
+use Rattle.rv_unit.specs.declared.unit.Unit.{Unit as SourceUnit}
+use Rattle.rv_source_laws.specs.Located.{Located, located_from}
+use Rattle.rv_assemble_laws.specs.Sites.{Site}
+use Rattle.rv_text_laws.specs.Values.{add}
+use Rattle.rv_object.specs.declared.symbol.Definition.TheVariants.{InSection, Skipped}
+use Rattle.rv_assemble_laws.specs.Symbols.{site_at, after_found}
+use Rattle.rv_symbols.specs.declared.source.Source.{Source}
+use Rattle.rv_symbols.specs.Source.{place_in, IsSource}
+
+front : {A : Type 0} (x y : A) (xs ys : List A) → x ∷ xs ≡ y ∷ ys → (x ≡ y) × (xs ≡ ys)
+front x y xs ys e = (cc, cc)
+
+not_equal : (a b : ℕ) → (a ≡ b → ⊥) → (a == b) ≡ false
+not_equal a b f = go (a == b) refl
+  where
+    go : (c : Bool) → (a == b) ≡ c → (a == b) ≡ false
+    go true e = absurd (f (eqb-true a b e))
+    go false e = e
+
+-- the statement of an ordinal is that at its index
+pub site_by : (k : ℕ) (t : Tables) (ss : List Statement) (sites : List Site) → map (λ s. s.located) sites ≡ located_from 1 k t ss → (n i : ℕ) → n ≡ k + i
+    → find (λ s. s.located.ordinal == n) sites ≡ slice_get sites i
+site_by k t ss [] e n zero m = refl
+site_by k t ss [] e n (suc i) m = refl
+site_by k t [] (s ∷ sites) e n i m = absurd (cc)
+site_by k t (x ∷ ss) (s ∷ sites) e n zero m =
+    let own : s.located.ordinal ≡ k = ap (λ (l : Located). l.ordinal) (front _ _ _ _ e).0 in
+    ap (λ b. if b then Some s else find (λ s. s.located.ordinal == n) sites) (eq-eqb s.located.ordinal n (omega arith))
+site_by k t (x ∷ ss) (s ∷ sites) e n (suc i) m =
+    let own : s.located.ordinal ≡ k = ap (λ (l : Located). l.ordinal) (front _ _ _ _ e).0 in
+    ap (λ b. if b then Some s else find (λ s. s.located.ordinal == n) sites) (not_equal s.located.ordinal n (λ f. absurd (omega arith)))
+    ∙ site_by (suc k) (after t k x.kind) ss sites (front _ _ _ _ e).1 n i (omega arith)
+
+-- none stands before the first
+pub none_before : (k : ℕ) (t : Tables) (ss : List Statement) (sites : List Site) → map (λ s. s.located) sites ≡ located_from 1 k t ss → (n : ℕ) → n < k → find (λ s. s.located.ordinal == n) sites ≡ None
+none_before k t ss [] e n low = refl
+none_before k t [] (s ∷ sites) e n low = absurd (cc)
+none_before k t (x ∷ ss) (s ∷ sites) e n low =
+    let own : s.located.ordinal ≡ k = ap (λ (l : Located). l.ordinal) (front _ _ _ _ e).0 in
+    ap (λ b. if b then Some s else find (λ s. s.located.ordinal == n) sites) (not_equal s.located.ordinal n (λ f. absurd (omega arith)))
+    ∙ none_before (suc k) (after t k x.kind) ss sites (front _ _ _ _ e).1 n (omega arith)
+
+pub site_none : (x : Source) (sites : List Site) → IsSource x sites → site_at sites 0 ≡ None
+site_none x sites h = none_before 1 at_start (said x.unit.now) sites h.located 0 (omega arith)
+
+pub site_next : (x : Source) (sites : List Site) → IsSource x sites → (n i : ℕ) → n ≡ i + 1 → site_at sites n ≡ slice_get sites i
+site_next x sites h n i e =
+    site_by 1 at_start (said x.unit.now) sites h.located n i (omega arith)
+
+-- the sections of statements are those of their places
+sections_are : (k : ℕ) (t : Tables) (ss : List Statement) → map (λ (l : Located). l.section) (located_from 1 k t ss) ≡ map (λ (p : Standing). p.section) (places_from t k ss)
+sections_are k t [] = refl
+sections_are k t (s ∷ ss) = ap (λ l. (stood t k s.kind).section ∷ l) (sections_are (suc k) (after t k s.kind) ss)
+
+map_twice : {A B C : Type 0} (f : A → B) (g : B → C) (xs : List A) → map g (map f xs) ≡ map (λ x. g (f x)) xs
+map_twice f g [] = refl
+map_twice f g (x ∷ xs) = ap (λ l. g (f x) ∷ l) (map_twice f g xs)
+
+pub got_map : {A B : Type 0} (f : A → B) (xs : List A) (i : ℕ) → slice_get (map f xs) i ≡ option_map f (slice_get xs i)
+got_map f [] zero = refl
+got_map f [] (suc i) = refl
+got_map f (x ∷ xs) zero = refl
+got_map f (x ∷ xs) (suc i) = got_map f xs i
+
+-- a section and an offset, where there are both
+abbrev pub both : Option SectionOffset → Option ℕ → Option (ℕ × ℕ)
+both None o = None
+both (Some p) None = None
+both (Some p) (Some o) = Some (p.section, o)
+
+pairs : (sites : List Site) (ps : List SectionOffset) (os : List ℕ) → map (λ s. s.located.section) sites ≡ map (λ (p : SectionOffset). p.section) ps → map (λ s. s.offset) sites ≡ os → (i : ℕ)
+    → option_map place_in (slice_get sites i) ≡ both (slice_get ps i) (slice_get os i)
+pairs [] [] [] e f zero = refl
+pairs [] [] [] e f (suc i) = refl
+pairs [] (p ∷ ps) os e f i = absurd (cc)
+pairs [] [] (o ∷ os) e f i = absurd (cc)
+pairs (s ∷ sites) [] os e f i = absurd (cc)
+pairs (s ∷ sites) (p ∷ ps) [] e f i = absurd (cc)
+pairs (s ∷ sites) (p ∷ ps) (o ∷ os) e f zero =
+    ap (λ n. Some (n, s.offset)) (front _ _ _ _ e).0 ∙ ap (λ n. Some (p.section, n)) (front _ _ _ _ f).0
+pairs (s ∷ sites) (p ∷ ps) (o ∷ os) e f (suc i) = pairs sites ps os (front _ _ _ _ e).1 (front _ _ _ _ f).1 i
+
+pub place_of : (x : Source) (sites : List Site) → IsSource x sites → (i : ℕ) → both (slice_get x.unit.now.places.items i) (slice_get x.offsets.now i) ≡ option_map place_in (slice_get sites i)
+place_of x sites h i =
+    sym (pairs sites x.unit.now.places.items x.offsets.now
+    (sym (map_twice (λ (s : Site). s.located) (λ (l : Located). l.section) sites) ∙ ap (map (λ (l : Located). l.section)) h.located
+    ∙ sections_are 1 at_start (said x.unit.now) ∙ ap (map (λ (p : Standing). p.section)) (sym h.filled.stand)
+    ∙ map_twice offset_of (λ (p : Standing). p.section) x.unit.now.places.items) h.at i)
+
+-- what a statement says
+kinds_are : (k : ℕ) (t : Tables) (ss : List Statement) → map (λ (l : Located). l.kind) (located_from 1 k t ss) ≡ map (λ (s : Statement). s.kind) ss
+kinds_are k t [] = refl
+kinds_are k t (s ∷ ss) = ap (λ l. s.kind ∷ l) (kinds_are (suc k) (after t k s.kind) ss)
+
+pub ordinal_by : (k : ℕ) (t : Tables) (ss : List Statement) (sites : List Site) → map (λ s. s.located) sites ≡ located_from 1 k t ss → (i : ℕ) (s : Site) → slice_get sites i ≡ Some s → s.located.ordinal ≡ k + i
+ordinal_by k t ss [] e zero s f = absurd (cc)
+ordinal_by k t ss [] e (suc i) s f = absurd (cc)
+ordinal_by k t [] (x ∷ sites) e i s f = absurd (cc)
+ordinal_by k t (y ∷ ss) (x ∷ sites) e zero s f =
+    let same : x ≡ s = cc in
+    ap (λ (s : Site). s.located.ordinal) (sym same) ∙ ap (λ (l : Located). l.ordinal) (front _ _ _ _ e).0 ∙ (let m : k ≡ k + 0 = omega arith in m)
+ordinal_by k t (y ∷ ss) (x ∷ sites) e (suc i) s f =
+    ordinal_by (suc k) (after t k y.kind) ss sites (front _ _ _ _ e).1 i s f ∙ (let m : suc k + i ≡ k + suc i = omega arith in m)
+
+-- the statement at an index
+pub ordinal_is : (x : Source) (sites : List Site) → IsSource x sites → (i : ℕ) (s : Site) → slice_get sites i ≡ Some s → s.located.ordinal ≡ i + 1
+ordinal_is x sites h i s e = ordinal_by 1 at_start (said x.unit.now) sites h.located i s e ∙ (let m : 1 + i ≡ i + 1 = omega arith in m)
+
+pub count_is : (x : Source) (sites : List Site) → IsSource x sites → length sites ≡ length (said x.unit.now)
+count_is x sites h = sym (counts (λ (s : Site). s.located) sites) ∙ ap length h.located ∙ sym (counts (λ (l : Located). l.kind) (located_from 1 1 at_start (said x.unit.now)))
+    ∙ ap length (kinds_are 1 at_start (said x.unit.now)) ∙ counts (λ (s : Statement). s.kind) (said x.unit.now)
+  where
+    counts : {A B : Type 0} (f : A → B) (xs : List A) → length (map f xs) ≡ length xs
+    counts f [] = refl
+    counts f (x ∷ xs) = ap suc (counts f xs)
+
+pub kind_is : (x : Source) (sites : List Site) → IsSource x sites → (i : ℕ) (s : Site) → slice_get sites i ≡ Some s
+    → option_map (λ (y : Statement). y.kind) (slice_get (said x.unit.now) i) ≡ Some s.located.kind
+kind_is x sites h i s e =
+    sym (got_map (λ (y : Statement). y.kind) (said x.unit.now) i) ∙ ap (λ l. slice_get l i) (sym (kinds_are 1 at_start (said x.unit.now)) ∙ ap (map (λ (l : Located). l.kind)) (sym h.located) ∙ map_twice (λ (s : Site). s.located) (λ (l : Located). l.kind) sites)
+    ∙ got_map (λ (s : Site). s.located.kind) sites i ∙ ap (option_map (λ (s : Site). s.located.kind)) e
+
+pub some_at : {X : Type 0} (xs : List X) (k : ℕ) (d : X) → k < length xs → slice_get xs k ≡ Some (slice_index_or xs k d)
+some_at [] k d inside = absurd (omega arith)
+some_at (x ∷ xs) zero d inside = refl
+some_at (x ∷ xs) (suc k) d inside = some_at xs k d (omega arith)
+
+none_at : {X : Type 0} (xs : List X) (k : ℕ) → length xs ≤ k → slice_get xs k ≡ None
+none_at [] zero past = refl
+none_at [] (suc k) past = refl
+none_at (x ∷ xs) zero past = absurd (omega arith)
+none_at (x ∷ xs) (suc k) past = none_at xs k (omega arith)
+
+-- what a look-up gives
+pub got : {X : Type 0} (r : Option (Bor X)) (xs : List X) (k : ℕ) → is_some r ≡ nat_lt k (length xs) → IfSome r (λ x. x.now ≡ slice_index_or xs k x.now) → option_copied r ≡ slice_get xs k
+got None xs k found is = sym (none_at xs k (ltb-false k (length xs) (sym found)))
+got (Some x) xs k found is = ap Some is ∙ sym (some_at xs k x.now (ltb-true k (length xs) (sym found)))
+
+-- a place after the start of a statement, by the statement's own place
+pub after_some : (found : Option Site) (section offset plus : ℕ) → Some (section, offset) ≡ option_map place_in found → InSection section (add offset plus) ≡ after_found found plus
+after_some None section offset plus e = absurd (cc)
+after_some (Some s) section offset plus e =
+    let f : (section, offset) ≡ (s.located.section, s.offset) = cc in
+    ap (λ (p : ℕ × ℕ). InSection p.0 (add p.1 plus)) f
+
+pub after_none : (found : Option Site) (plus : ℕ) → None ≡ option_map place_in found → Skipped 0 ≡ after_found found plus
+after_none None plus e = refl
+after_none (Some s) plus e = absurd (cc)
+
+-- what the statement at an index says, by the code's statement
+pub kind_at : (x : Source) (sites : List Site) → IsSource x sites → (i : ℕ) (s : Site) → slice_get sites i ≡ Some s → (y : DeclaredStatement) → i < length x.unit.now.statements.items
+    → y ≡ slice_index_or x.unit.now.statements.items i y → (statement_of y).kind ≡ s.located.kind
+kind_at x sites h i s e y inside is =
+    let at : slice_get x.unit.now.statements.items i ≡ Some y = some_at x.unit.now.statements.items i y inside ∙ ap Some (sym is) in
+    let same : Some (statement_of y).kind ≡ Some s.located.kind =
+    ap (λ o. option_map (λ (z : Statement). z.kind) (option_map statement_of o)) (sym at) ∙ ap (option_map (λ (z : Statement). z.kind)) (sym (got_map statement_of x.unit.now.statements.items i)) ∙ kind_is x sites h i s e in
+    cc
+
+pub sites_inside : (x : Source) (sites : List Site) → IsSource x sites → (i : ℕ) → i < length x.unit.now.statements.items → i < length sites
+sites_inside x sites h i inside = subst (λ n. i < n) (sym (length-map x.unit.now.statements.items statement_of) ∙ sym (count_is x sites h)) inside
+
+pub sites_past : (x : Source) (sites : List Site) → IsSource x sites → (i : ℕ) → length x.unit.now.statements.items ≤ i → drop i sites ≡ []
+sites_past x sites h i past = at_drop_all (λ l. l) sites i (subst (λ n. n ≤ i) (sym (length-map x.unit.now.statements.items statement_of) ∙ sym (count_is x sites h)) past)
+
+pub said_at : (u : SourceUnit) (i : ℕ) (y : DeclaredStatement) → i < length u.statements.items → y ≡ slice_index_or u.statements.items i y → slice_get (said u) i ≡ Some (statement_of y)
+said_at u i y inside is =
+    got_map statement_of u.statements.items i ∙ ap (option_map statement_of) (some_at u.statements.items i y inside ∙ ap Some (sym is))

@@ -1,0 +1,31 @@
+use Rattle.std.proofs.Common.{◌+◌, [], ◌∷◌, ◌++◌, map, drop, get_or, sym, ap, ◌∙◌, append_assoc}
+use Rattle.std.proofs.lemmas.List.{map-append}
+use Rattle.rv_object.specs.declared.symbol.Definition.TheVariants.{Undefined}
+use Rattle.rv_object.specs.Parts.{symbol_of}
+use Rattle.rv_assemble_laws.specs.Symbols.{global_symbol}
+use Rattle.std.specs.Prelude.{option_map}
+use Rattle.rv_map.specs.Name.{is_name}
+use Rattle.rv_statement.specs.View.{now_of}
+use Rattle.rv_symbols.proofs.Stands.{got_map, some_at}
+use Rattle.rv_symbols.proofs.Naming.{all_got, drop_next}
+use Rattle.rv_symbols.proofs.exports.put_undefined.Goals as goal
+
+pub symbol-requires : goal.symbol-requires
+symbol-requires c =
+    let i = c.loop-name.name-index in
+    let names = c.args.names.now in
+    all_got is_name (map now_of names) i _ (got_map now_of names i ∙ ap (option_map now_of) (some_at names i (record { ref_ptr = (0, 0); now = [] }) c.loop-name-test.true)) c.requires
+
+pub loop-name-preserved : goal.loop-name-preserved
+loop-name-preserved c =
+    let i = c.loop-name.name-index in
+    let names = c.args.names.now in
+    let name = get_or names i (record { ref_ptr = (0, 0); now = [] }) in
+    let old = map symbol_of c.loop-name.symbols.items in
+    let rest = map (λ name. global_symbol name Undefined) (drop (i + 1) (map now_of names)) in
+    ap (λ l. map symbol_of l ++ rest) c.in_ok-push.ensures.items
+    ∙ ap (λ l. l ++ rest) (map-append symbol_of c.loop-name.symbols.items (c.in_ok-undefined.undefined ∷ []))
+    ∙ append_assoc old (symbol_of c.in_ok-undefined.undefined ∷ []) rest
+    ∙ ap (λ x. old ++ x ∷ rest) c.in_ok-undefined.ensures
+    ∙ ap (λ l. old ++ map (λ name. global_symbol name Undefined) l) (sym (drop_next (map now_of names) i name.now (got_map now_of names i ∙ ap (option_map now_of) (some_at names i (record { ref_ptr = (0, 0); now = [] }) c.loop-name-test.true))))
+    ∙ c.loop-name.invariant

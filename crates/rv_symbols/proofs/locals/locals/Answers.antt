@@ -1,0 +1,53 @@
+use Rattle.std.proofs.Common.{◌≡◌, ◌<◌, ◌≤◌, ◌+◌, false, ◌++◌, length, map, take, drop, get_or, refl, sym, ap, ◌∙◌, subst, append-nil, rules}
+use Rattle.std.specs.HashSet.{contains}
+use Rattle.rv_object.specs.Parts.{symbol_of}
+use Rattle.rv_statement.specs.View.{statement_of}
+use Rattle.std.proofs.lemmas.List.{length-map}
+use Rattle.rv_assemble_laws.specs.Sites.{Site}
+use Rattle.rv_assemble_laws.specs.Symbols.{references, is_meant, local_symbols}
+use Rattle.rv_symbols.specs.Source.{tables_of, place_in}
+use Rattle.rv_symbols.specs.Found.{same_place, is_seen, any_means}
+use Rattle.rv_symbols.proofs.Stands.{ordinal_is, kind_at, sites_inside, sites_past}
+use Rattle.rv_symbols.proofs.Naming.{there_is, drop_next, take_next, locals_more, seen_more}
+use Rattle.rv_symbols.proofs.locals.locals.Goals as goal
+
+pub loop-i-preserved : goal.loop-i-preserved
+loop-i-preserved c =
+    let i = c.loop-i.i in
+    let x = c.args.source.now in
+    let t = tables_of x in
+    let items = x.unit.now.statements.items in
+    let meant = c.args.meant.now in
+    let y = c.index-statements-i.result in
+    let inside : i < length items = search rules in
+    let within : i < length meant = subst (λ n. i < n) (sym (length-map items statement_of) ∙ sym c.requires.marks) inside in
+    let is : y ≡ get_or items i y = c.index-statements-i.is ∙ ap (λ l. get_or l i y) c.statements-statements.ensures in
+    record {
+      symbols = λ sites h marks.
+          let rs = references t sites in
+          let found = there_is sites i (sites_inside x sites h i inside) in
+          let s : Site = found.0 in
+          let m : get_or meant i false ≡ is_meant t rs s = marks i within ∙ ap (λ n. any_means t n rs) (sym (ordinal_is x sites h i s found.1)) in
+          ap (λ l. map symbol_of c.put_both.new.symbols.items ++ local_symbols t sites l (drop (i + 1) sites)) (take_next sites i s found.1)
+          ∙ locals_more t sites (take i sites) (drop (i + 1) sites) s rs (get_or meant i false) (contains same_place c.loop-i.seen (place_in s)) (map symbol_of c.loop-i.symbols.items) _ _
+          m (c.loop-i.invariant.seen sites h marks (place_in s)) refl (c.in_ok-put_both.ensures.symbols sites s h found.1 (kind_at x sites h i s found.1 y inside is))
+          (ap (λ l. map symbol_of c.loop-i.symbols.items ++ local_symbols t sites (take i sites) l) (sym (drop_next sites i s found.1)) ∙ c.loop-i.invariant.symbols sites h marks);
+      seen = λ sites h marks q.
+          let rs = references t sites in
+          let found = there_is sites i (sites_inside x sites h i inside) in
+          let s : Site = found.0 in
+          let m : get_or meant i false ≡ is_meant t rs s = marks i within ∙ ap (λ n. any_means t n rs) (sym (ordinal_is x sites h i s found.1)) in
+          seen_more t sites rs (take i sites) s (get_or meant i false) (contains same_place c.loop-i.seen q) (contains same_place c.put_both.new.seen q) q m (c.loop-i.invariant.seen sites h marks q)
+          (c.in_ok-put_both.ensures.seen sites s h found.1 q)
+          ∙ ap (λ l. is_seen t rs l q) (sym (take_next sites i s found.1));
+    }
+
+pub returns : goal.returns
+returns c = λ sites h marks.
+    let i = c.loop-i.i in
+    let x = c.args.source.now in
+    let t = tables_of x in
+    let past : length x.unit.now.statements.items ≤ i = subst (λ n. n ≤ i) (ap length c.statements-statements.ensures) c.loop-i-test.false in
+    sym (append-nil (map symbol_of c.loop-i.symbols.items))
+    ∙ ap (λ l. map symbol_of c.loop-i.symbols.items ++ local_symbols t sites (take i sites) l) (sym (sites_past x sites h i past))
+    ∙ c.loop-i.invariant.symbols sites h marks

@@ -1,0 +1,24 @@
+use Rattle.std.proofs.Common.{◌≡◌, ◌<◌, ◌≤◌, ◌+◌, [], ◌∷◌, ◌++◌, length, map, take, sym, ap, ◌∙◌, subst, arith, rules}
+use Rattle.std.proofs.lemmas.List.{take_all}
+use Rattle.rv_object.specs.Parts.{symbol_of}
+use Rattle.rv_symbols.specs.Indices.{AreNameIndices}
+use Rattle.rv_symbols.proofs.Indexing.{symbols_next, symbols_count}
+use Rattle.rv_symbols.proofs.numbers.name_indices.Goals as goal
+
+pub loop-i-preserved : goal.loop-i-preserved
+loop-i-preserved c =
+    let i = c.loop-i.i in
+    let xs = c.args.symbols.now in
+    let x = c.index-symbols-i.result in
+    let inside : i < length xs = search rules in
+    let within : i ≤ length xs = omega (arith, inside) in
+    let next : map symbol_of (take (i + 1) xs) ≡ map symbol_of (take i xs) ++ symbol_of x ∷ [] =
+    symbols_next xs i x inside ∙ ap (λ y. map symbol_of (take i xs) ++ symbol_of y ∷ []) (sym c.index-symbols-i.is) in
+    subst (AreNameIndices c.put_name.new.names) (sym next) (c.in_ok-put_name.ensures (map symbol_of (take i xs)) (c.in_ok-index.ensures ∙ symbols_count xs i within) c.loop-i.invariant)
+
+pub returns : goal.returns
+returns c =
+    let i = c.loop-i.i in
+    let xs = c.args.symbols.now in
+    let past : length xs ≤ i = c.loop-i-test.false in
+    subst (λ l. AreNameIndices c.loop-i.names (map symbol_of l)) (take_all i xs past) c.loop-i.invariant

@@ -1,0 +1,7 @@
+use Rattle.rv_object.specs.Parts.{symbol_of}
+use Rattle.rv_symbols.proofs.Indexing.{name_more}
+use Rattle.rv_symbols.proofs.numbers.put_name.Goals as goal
+
+pub returns : goal.returns
+returns c = λ xs at h q.
+    name_more xs (symbol_of c.args.symbol.now) q.now c.as_slice.result.now c.args.next _ _ c.as_slice.ensures.value at (c.in_ok-insert.ensures.updates.0 q) (h q)

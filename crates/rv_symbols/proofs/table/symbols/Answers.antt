@@ -1,0 +1,65 @@
+use Rattle.std.proofs.Math.Facts.{Fits-lt-pow}
+use Rattle.rv_symbols.proofs.Ordered.{rises_from}
+use Rattle.rv_symbols.proofs.All.{numbered, offset_low}
+use Rattle.rv_symbols.proofs.table.symbols.Goals as goal
+use Rattle.std.proofs.Common.{◌≡◌, ℕ, false, List, [], ◌++◌, length, map, sym, ap, ◌∙◌, subst, arith, append_assoc}
+use Rattle.std.specs.Prelude.{option_map}
+use Rattle.rv_statement.specs.View.{now_of}
+use Rattle.rv_unit_laws.specs.Tables.{Tables, at_start, tables}
+use Rattle.rv_unit.specs.Unit.{said, definition_of, IsFilled}
+use Rattle.rv_source_laws.specs.Located.{located_from}
+use Rattle.rv_object.specs.declared.symbol.Definition.TheVariants.{Undefined}
+use Rattle.rv_object.specs.Object.{Symbol}
+use Rattle.rv_object.specs.Parts.{symbol_of}
+use Rattle.rv_assemble_laws.specs.Symbols.{SymbolUse, references, local_symbols, exports, global_symbol, symbols_of}
+use Rattle.rv_symbols.specs.Settings.{AreFirsts}
+use Rattle.std.specs.List.{AllByRecursion}
+use Rattle.rv_assemble_laws.specs.IsObjectOf.{IsNumbered}
+use Rattle.rv_symbols.specs.SymbolUse.{uses_of, AreMeant, is_own_name}
+use Rattle.rv_symbols.specs.Source.{tables_of, IsSource}
+use Rattle.rv_symbols.specs.Numbers.{own_symbols, missing_names, number_by, number_in}
+use Rattle.rv_symbols.specs.Found.{definition_in, Rises, AreMarks}
+
+pub returns : goal.returns
+returns c = λ sites w.
+    let u = c.args.unit.now in
+    let ss = said u in
+    let t = tables ss in
+    let rs = uses_of c.args.uses.now in
+    let x = c.in_ok-source.source in
+    let unit = c.in_ok-source.ensures.unit in
+    let h : IsSource x sites = record {
+      filled = subst IsFilled (sym unit) c.requires.filled;
+      firsts = subst (λ v. AreFirsts x.firsts.ordinals (tables (said v)).assignments) (sym unit) (c.in_ok-source.ensures.firsts c.requires.filled);
+      located = w.located ∙ ap (λ v. located_from 1 1 at_start (said v)) (sym unit);
+      at = w.at ∙ sym c.in_ok-source.ensures.offsets;
+    } in
+    let same : tables_of x ≡ t = ap (λ v. tables (said v)) unit in
+    let rises : Rises 1 (length ss) rs = subst (Rises 1 (length ss)) w.named (rises_from t 1 (length ss) at_start ss sites w.located (omega arith)) in
+    let defs : map (option_map definition_of) c.in_ok-definitions.definitions.items ≡ map (definition_in t) rs = c.in_ok-definitions.ensures.found c.requires.filled rises in
+    let meant = c.in_ok-meant.meant.items in
+    let marks : AreMarks t rs meant (length c.args.offsets.now) = c.in_ok-meant.ensures.marks t (ap (map (option_map definition_of)) c.as_slice.ensures.value ∙ defs) in
+    let marked : AreMarks t (references t sites) meant (length meant) =
+    subst (λ n. AreMarks t (references t sites) meant n) (sym c.in_ok-meant.ensures.len) (subst (λ l. AreMarks t l meant (length c.args.offsets.now)) (sym w.named) marks) in
+    let those : AreMarks (tables_of x) (references (tables_of x) sites) c.as_slice-2.result.now (length c.as_slice-2.result.now) =
+    subst (λ (v : Tables). AreMarks v (references v sites) c.as_slice-2.result.now (length c.as_slice-2.result.now)) (sym same)
+    (subst (λ l. AreMarks t (references t sites) l (length l)) (sym c.as_slice-2.ensures.value) marked) in
+    let own : map symbol_of c.put_exports.new.symbols.items ≡ own_symbols t sites =
+    c.in_ok-put_exports.ensures sites h ∙ ap (λ l. l ++ exports (tables_of x) sites) (c.in_ok-symbols.ensures sites h those) ∙ ap (λ (v : Tables). own_symbols v sites) same in
+    let names : map now_of c.in_ok-missing.missing.keys ≡ missing_names t rs = c.in_ok-missing.ensures.names t (ap (map (option_map definition_of)) c.as_slice-3.ensures.value ∙ defs) in
+    let undefined : List (List ℕ) → List Symbol = λ ns. map (λ name. global_symbol name Undefined) ns in
+    record {
+      symbols =
+          c.in_ok-put_undefined.ensures
+          ∙ ap (λ l. l ++ undefined (map now_of c.as_slice-6.result.now)) own
+          ∙ ap (λ l. own_symbols t sites ++ undefined l) (ap (map now_of) c.as_slice-6.ensures.keys ∙ names ∙ ap (missing_names t) (sym w.named))
+          ∙ append_assoc (local_symbols t sites [] sites) (exports t sites) (undefined (missing_names t (references t sites)));
+      number = number_in t sites;
+      numbers =
+          sym (c.in_ok-numbers.ensures sites t h (ap (map (option_map definition_of)) c.as_slice-5.ensures.value ∙ defs)
+          ∙ ap (λ l. map (λ (r : SymbolUse). number_by l (map now_of c.in_ok-missing.missing.keys) sites r.symbol (definition_in t r)) rs) (ap (map symbol_of) c.as_slice-4.ensures.value ∙ own)
+          ∙ ap (λ l. map (λ (r : SymbolUse). number_by (own_symbols t sites) l sites r.symbol (definition_in t r)) rs) (names ∙ ap (missing_names t) (sym w.named)));
+      numbered =
+          subst (λ l. AllByRecursion (λ r. is_own_name t r ≡ false → IsNumbered t sites (number_in t sites) (symbols_of t sites) r) l) w.named
+          (numbered ss sites w.located (subst (AreMeant t) (sym w.named) c.requires.meant) (offset_low c.args.offsets.now sites w.at (λ i. Fits-lt-pow (c.type_inv.offsets i))));
+    }

@@ -1,0 +1,30 @@
+-- The symbols of an object with the numbers that stand for them.
+
+use Rattle.std.specs.Prelude.{◌≡◌, ℕ, false, List, map}
+use Rattle.std.specs.List.{AllByRecursion}
+use Rattle.rv_statement.specs.Statement.{Statement}
+use Rattle.rv_unit_laws.specs.Tables.{Tables, at_start, tables}
+use Rattle.rv_source_laws.specs.Located.{located_from}
+use Rattle.rv_object.specs.Parts.{symbol_of}
+use Rattle.rv_assemble_laws.specs.Sites.{Site}
+use Rattle.rv_assemble_laws.specs.Symbols.{SymbolUse, references, symbols_of}
+use Rattle.rv_assemble_laws.specs.IsObjectOf.{Numbering, IsNumbered}
+use Rattle.rv_symbols.specs.SymbolUse.{is_own_name}
+use Rattle.rv_symbols.specs.declared.table.SymbolTable.{SymbolTable}
+
+-- the statements of a source stand at these offsets, and their relocations name these symbols
+pub record AreSites (ss : List Statement) (offsets : List ℕ) (rs : List SymbolUse)
+    (sites : List Site) : Type 0 where
+  pub located : map (λ s. s.located) sites ≡ located_from 1 1 at_start ss
+  pub at : map (λ s. s.offset) sites ≡ offsets
+  pub named : references (tables ss) sites ≡ rs
+
+-- the symbols of a source's object, and for each use the index of the symbol that stands for it
+pub record HasSymbols (t : Tables) (sites : List Site) (rs : List SymbolUse) (x : SymbolTable) :
+    Type 0 where
+  pub symbols : map symbol_of x.symbols.items ≡ symbols_of t sites
+  pub number : Numbering
+  pub numbers : map (λ r. number r.ordinal r.symbol) rs ≡ x.numbers.items
+  -- each stands for its use, where that is no name of the file's own
+  pub numbered : AllByRecursion
+      (λ r. is_own_name t r ≡ false → IsNumbered t sites number (symbols_of t sites) r) rs

@@ -1,0 +1,30 @@
+-- What the names and the places of a source's statements stand for.
+
+use Rattle.std.specs.Prelude.{◌≡◌, ℕ, List, [], ◌∷◌, map, Option, Some, None}
+use Rattle.std.specs.Borrow.{Bor}
+use Rattle.rv_unit_laws.specs.Tables.{Tables, at_start, tables}
+use Rattle.rv_unit.specs.Unit.{said, IsFilled}
+use Rattle.rv_source_laws.specs.Located.{located_from}
+use Rattle.rv_assemble_laws.specs.Sites.{Site}
+use Rattle.rv_symbols.specs.Settings.{AreFirsts}
+use Rattle.rv_symbols.specs.declared.source.Source.{Source}
+
+-- a name, or none
+abbrev pub name_in : Option (Bor (List ℕ)) → List (List ℕ)
+name_in None = []
+name_in (Some name) = name.now ∷ []
+
+-- the tables of a source
+abbrev pub tables_of : Source → Tables
+tables_of x = tables (said x.unit.now)
+
+-- the source's statements stand there
+pub record IsSource (x : Source) (sites : List Site) : Type 0 where
+  pub filled : IsFilled x.unit.now
+  pub firsts : AreFirsts x.firsts.ordinals (tables_of x).assignments
+  pub located : map (λ s. s.located) sites ≡ located_from 1 1 at_start (said x.unit.now)
+  pub at : map (λ s. s.offset) sites ≡ x.offsets.now
+
+-- the section and the offset of a statement
+abbrev pub place_in : Site → ℕ × ℕ
+place_in s = (s.located.section, s.offset)

@@ -1,0 +1,102 @@
+//! The symbols that a file defines for all files, and those that it leaves undefined.
+
+ghost use Rattle.std.specs.Prelude.{◌≡◌, ◌<◌, ◌++◌, ℕ, List, Some, true, length, map, slice_get, IfOk, OnOk, IfSome};
+ghost use Rattle.rv_statement.specs.View.{statement_of, now_of};
+ghost use Rattle.rv_unit.specs.Unit.{said};
+ghost use Rattle.rv_map.specs.Name.{is_name};
+ghost use Rattle.rv_object.specs.declared.symbol.Binding.TheVariants.{Global};
+ghost use Rattle.rv_object.specs.declared.symbol.Definition.TheVariants.{Undefined};
+ghost use Rattle.rv_object.specs.Parts.{symbol_of};
+ghost use Rattle.rv_assemble_laws.specs.Sites.{Site};
+ghost use Rattle.rv_assemble_laws.specs.Symbols.{global_symbol, exports_of, exports};
+ghost use Rattle.rv_assemble_laws.specs.ShownNames.{said_names, are_shown, HasNames};
+ghost use Rattle.rv_symbols.specs.Source.{tables_of, IsSource};
+ghost use Rattle.rv_symbols.specs.Found.{symbols_in};
+
+use crate::locals::symbol;
+use crate::source::Source;
+use rv_object::{Binding, Definition, Symbol};
+use rv_statement::Statement;
+use std::alloc::{AllocError, Global as Allocator};
+
+/// The name that the statement at this index defines for all files, with its definition.
+fn export<'s>(
+    source: &Source<'_, '_>,
+    index: usize,
+    statement: &Statement<'s>,
+) -> Option<(&'s [u8], Definition)>
+    requires { index < length (source.now).offsets.now }
+    ensures symbols { (sites : List Site) (s : Site) → IsSource source.now sites
+        → slice_get sites index ≡ Some s → (statement_of statement.now).kind ≡ s.located.kind
+        → symbols_in Global result ≡ exports_of (tables_of source.now) sites s }
+    ensures shown { are_shown (said_names (statement_of statement.now).kind) ≡ true
+        → IfSome result (λ p. is_name p.0.now ≡ true) }
+{
+    let Some(name) = source.defined(index, statement) else {
+        return None;
+    };
+    if !source.is_global(name) {
+        return None;
+    }
+    let definition = source.definition(index, statement);
+    Some((name, definition))
+}
+
+/// Adds the name that the statement at this index defines for all files.
+fn put_export(
+    alloc: Allocator,
+    symbols: &mut Vec<Symbol>,
+    source: &Source<'_, '_>,
+    index: usize,
+    statement: &Statement<'_>,
+) -> Result<(), AllocError>
+    requires inside { index < length (source.now).offsets.now }
+    requires shown { are_shown (said_names (statement_of statement.now).kind) ≡ true }
+    ensures { OnOk result ((sites : List Site) (s : Site) → IsSource source.now sites
+        → slice_get sites index ≡ Some s → (statement_of statement.now).kind ≡ s.located.kind
+        → map symbol_of symbols.new.items ≡ map symbol_of symbols.old.items
+        ++ exports_of (tables_of source.now) sites s) }
+{
+    let Some((name, definition)) = export(source, index, statement) else {
+        return Ok(());
+    };
+    let named = symbol(alloc, name, Binding::Global, definition)?;
+    symbols.push(named)?;
+    Ok(())
+}
+
+/// Adds the names that a file defines for all files.
+pub(crate) fn put_exports(
+    alloc: Allocator,
+    symbols: &mut Vec<Symbol>,
+    source: &Source<'_, '_>,
+) -> Result<(), AllocError>
+    requires each { length (source.now).offsets.now ≡ length (said (source.now).unit.now) }
+    requires names { HasNames (said (source.now).unit.now) }
+    ensures { OnOk result ((sites : List Site) → IsSource source.now sites
+        → map symbol_of symbols.new.items
+        ≡ map symbol_of symbols.old.items ++ exports (tables_of source.now) sites) }
+{
+    let statements = source.unit.statements();
+    for i in 0..statements.len() {
+        put_export(alloc, symbols, source, i, &statements[i])?;
+    }
+    Ok(())
+}
+
+/// Adds the names that a file leaves undefined.
+pub(crate) fn put_undefined(
+    alloc: Allocator,
+    symbols: &mut Vec<Symbol>,
+    names: &[&[u8]],
+) -> Result<(), AllocError>
+    requires { are_shown (map now_of names.now) ≡ true }
+    ensures { OnOk result (map symbol_of symbols.new.items ≡ map symbol_of symbols.old.items
+        ++ map (λ name. global_symbol name Undefined) (map now_of names.now)) }
+{
+    for name in names {
+        let undefined = symbol(alloc, name, Binding::Global, Definition::Undefined)?;
+        symbols.push(undefined)?;
+    }
+    Ok(())
+}

@@ -1,0 +1,29 @@
+//! The symbols of a source's object, in their order, and for each use of a symbol its index.
+//!
+//! It takes a source's unit (`rv_unit`), the offset of each statement in its section, and the symbols that relocations
+//! name. It gives the symbols as an object has them (`rv_object`), those of the file alone, then those that it defines for
+//! all files, then those that it leaves undefined, and a number for each use. The main contract is that of [`symbols`]:
+//! these are the symbols that `rv_assemble_laws` defines (`specs/Symbols`), and each number stands for its use.
+//!
+//! It knows no bytes, no kind of relocation and no address.
+//!
+//! ```text
+//! let uses = [SymbolUse { ordinal: 2, symbol: Symbol::Name(b"loop") }];
+//! let table = symbols(alloc, &unit, &offsets, &uses)?;
+//! let symbol = &table.symbols[table.numbers[0] as usize];
+//! ```
+//!
+//! Source: System V gABI, "Symbol Table"; GNU as, "Symbols".
+#![tactic(auto)]
+
+mod exports;
+mod locals;
+mod numbers;
+mod settings;
+mod source;
+mod symbol_use;
+mod table;
+mod uses;
+
+pub use symbol_use::SymbolUse;
+pub use table::{SymbolTable, symbols};

@@ -1,0 +1,197 @@
+//! The symbols of the file alone.
+
+ghost use Rattle.std.specs.Prelude.{◌≡◌, ◌<◌, ◌+◌, ◌++◌, ◌&&◌, ◌||◌, ℕ, List, [], ◌∷◌, Some, true, not, length, map, slice_get, if◌then◌else◌, IfOk, OnOk};
+ghost use Rattle.std.specs.HashSet.{contains};
+ghost use Rattle.rv_statement.specs.View.{statement_of};
+ghost use Rattle.rv_unit.specs.Unit.{said};
+ghost use Rattle.rv_object.specs.declared.symbol.Binding.TheVariants.{Local};
+ghost use Rattle.rv_object.specs.declared.symbol.Definition.TheVariants.{InSection};
+ghost use Rattle.rv_object.specs.Parts.{symbol_of};
+ghost use Rattle.rv_object.specs.Valid.{is_shown};
+ghost use Rattle.rv_assemble_laws.specs.Sites.{Site};
+ghost use Rattle.rv_assemble_laws.specs.Symbols.{local_symbol, named_symbols, local_symbols, references};
+ghost use Rattle.rv_symbols.specs.Source.{tables_of, place_in, IsSource};
+ghost use Rattle.rv_symbols.specs.Found.{symbols_in, is_number, same_place, AreMarks};
+
+use crate::source::Source;
+use rv_object::{Binding, Definition, Symbol};
+use rv_statement::Statement;
+use std::alloc::{AllocError, Global};
+use std::collections::HashSet;
+
+/// A symbol of a name.
+pub(crate) fn symbol(
+    alloc: Global,
+    name: &[u8],
+    binding: Binding,
+    definition: Definition,
+) -> Result<Symbol, AllocError>
+    requires { is_shown binding name.now ≡ true }
+    ensures { IfOk result (λ x. symbol_of x
+        ≡ record { name = name.now; binding = binding; definition = definition }) }
+{
+    let name = Vec::from_slice(alloc, name)?;
+    Ok(Symbol {
+        name,
+        binding,
+        definition,
+    })
+}
+
+/// Whether a statement is the first at its place that a reference without a name means.
+fn is_first(
+    seen: &mut HashSet<(u32, u64)>,
+    place: (u32, u64),
+    meant: bool,
+) -> Result<bool, AllocError>
+    ensures first { IfOk result (λ b. b ≡ (meant && not (contains same_place seen.old place))) }
+    ensures seen { OnOk result ((q : ℕ × ℕ) → contains same_place seen.new q
+        ≡ (contains same_place seen.old q || meant && same_place place q)) }
+{
+    if !meant {
+        return Ok(false);
+    }
+    let first = seen.insert(place)?;
+    Ok(first)
+}
+
+/// Adds a symbol without a name, where a statement is the first at its place that a reference without a name means.
+fn put_unnamed(
+    alloc: Global,
+    symbols: &mut Vec<Symbol>,
+    seen: &mut HashSet<(u32, u64)>,
+    place: (u32, u64),
+    meant: bool,
+) -> Result<(), AllocError>
+    ensures symbols { OnOk result (map symbol_of symbols.new.items ≡ map symbol_of symbols.old.items
+        ++ (if meant && not (contains same_place seen.old place)
+        then local_symbol [] (InSection place.0 place.1) ∷ [] else [])) }
+    ensures seen { OnOk result ((q : ℕ × ℕ) → contains same_place seen.new q
+        ≡ (contains same_place seen.old q || meant && same_place place q)) }
+{
+    if !is_first(seen, place, meant)? {
+        return Ok(());
+    }
+    let (section, offset) = place;
+    let unnamed = symbol(
+        alloc,
+        b"",
+        Binding::Local,
+        Definition::InSection(section, offset),
+    )?;
+    symbols.push(unnamed)?;
+    Ok(())
+}
+
+/// Whether a definition is a number.
+fn is_number(definition: Definition) -> bool
+    ensures { result ≡ is_number definition }
+{
+    match definition {
+        Definition::Absolute(_) => true,
+        _ => false,
+    }
+}
+
+/// The name that the statement at this index defines for its own file, with its definition; constants have no symbol.
+fn local<'s>(
+    source: &Source<'_, '_>,
+    index: usize,
+    statement: &Statement<'s>,
+) -> Option<(&'s [u8], Definition)>
+    requires { index < length (source.now).offsets.now }
+    ensures { (sites : List Site) (s : Site) → IsSource source.now sites
+        → slice_get sites index ≡ Some s → (statement_of statement.now).kind ≡ s.located.kind
+        → symbols_in Local result ≡ named_symbols (tables_of source.now) sites s }
+{
+    let Some(name) = source.defined(index, statement) else {
+        return None;
+    };
+    if source.is_global(name) {
+        return None;
+    }
+    let definition = source.definition(index, statement);
+    if is_number(definition) {
+        return None;
+    }
+    Some((name, definition))
+}
+
+/// Adds the name that the statement at this index defines for its own file.
+fn put_local(
+    alloc: Global,
+    symbols: &mut Vec<Symbol>,
+    source: &Source<'_, '_>,
+    index: usize,
+    statement: &Statement<'_>,
+) -> Result<(), AllocError>
+    requires { index < length (source.now).offsets.now }
+    ensures { OnOk result ((sites : List Site) (s : Site) → IsSource source.now sites
+        → slice_get sites index ≡ Some s → (statement_of statement.now).kind ≡ s.located.kind
+        → map symbol_of symbols.new.items ≡ map symbol_of symbols.old.items
+        ++ named_symbols (tables_of source.now) sites s) }
+{
+    let Some((name, definition)) = local(source, index, statement) else {
+        return Ok(());
+    };
+    let named = symbol(alloc, name, Binding::Local, definition)?;
+    symbols.push(named)?;
+    Ok(())
+}
+
+/// Adds the symbols of the statement at this index: one for its place, where a reference without a name means it and none is
+/// there yet, and the name that it defines.
+fn put_both(
+    alloc: Global,
+    symbols: &mut Vec<Symbol>,
+    seen: &mut HashSet<(u32, u64)>,
+    source: &Source<'_, '_>,
+    index: usize,
+    statement: &Statement<'_>,
+    meant: bool,
+) -> Result<(), AllocError>
+    requires { index < length (source.now).offsets.now }
+    ensures symbols { OnOk result ((sites : List Site) (s : Site) → IsSource source.now sites
+        → slice_get sites index ≡ Some s → (statement_of statement.now).kind ≡ s.located.kind
+        → map symbol_of symbols.new.items ≡ map symbol_of symbols.old.items
+        ++ ((if meant && not (contains same_place seen.old (place_in s))
+        then local_symbol [] (InSection s.located.section s.offset) ∷ [] else [])
+        ++ named_symbols (tables_of source.now) sites s)) }
+    ensures seen { OnOk result ((sites : List Site) (s : Site) → IsSource source.now sites
+        → slice_get sites index ≡ Some s → (q : ℕ × ℕ) → contains same_place seen.new q
+        ≡ (contains same_place seen.old q || meant && same_place (place_in s) q)) }
+{
+    put_unnamed(alloc, symbols, seen, source.here(index), meant)?;
+    put_local(alloc, symbols, source, index, statement)?;
+    Ok(())
+}
+
+/// The symbols of the file alone, where these statements are meant by references without a name.
+pub(crate) fn locals(
+    alloc: Global,
+    source: &Source<'_, '_>,
+    meant: &[bool],
+) -> Result<Vec<Symbol>, AllocError>
+    requires each { length (source.now).offsets.now ≡ length (said (source.now).unit.now) }
+    requires marks { length meant.now ≡ length (said (source.now).unit.now) }
+    ensures { IfOk result (λ x. (sites : List Site) → IsSource source.now sites
+        → AreMarks (tables_of source.now) (references (tables_of source.now) sites) meant.now
+        (length meant.now)
+        → map symbol_of x.items ≡ local_symbols (tables_of source.now) sites [] sites) }
+{
+    let statements = source.unit.statements();
+    let mut symbols = Vec::new(alloc);
+    let mut seen = HashSet::new(alloc);
+    for i in 0..statements.len() {
+        put_both(
+            alloc,
+            &mut symbols,
+            &mut seen,
+            source,
+            i,
+            &statements[i],
+            meant[i],
+        )?;
+    }
+    Ok(symbols)
+}

@@ -1,0 +1,221 @@
+//! The indices of the symbols that uses name.
+
+ghost use Rattle.std.specs.Prelude.{◌≡◌, ◌+◌, ◌++◌, ℕ, List, [], ◌∷◌, length, map, option_map, IfOk, OnOk};
+ghost use Rattle.rv_text.specs.Nodes.{symbol_of};
+ghost use Rattle.rv_statement.specs.View.{now_of};
+ghost use Rattle.rv_unit_laws.specs.Tables.{Tables};
+ghost use Rattle.rv_unit.specs.Unit.{definition_of};
+ghost use Rattle.rv_object.specs.Object.{Symbol as SaidSymbol};
+ghost use Rattle.rv_object.specs.Parts.{symbol_of as object_symbol};
+ghost use Rattle.rv_assemble_laws.specs.Sites.{Site};
+ghost use Rattle.rv_assemble_laws.specs.Symbols.{site_at};
+ghost use Rattle.rv_symbols.specs.SymbolUse.{uses_of};
+ghost use Rattle.rv_symbols.specs.Source.{IsSource};
+ghost use Rattle.rv_symbols.specs.Numbers.{place_number, own_number, outer_number, number_by};
+ghost use Rattle.rv_symbols.specs.Found.{definition_in};
+ghost use Rattle.rv_symbols.specs.Indices.{NameIndices, PlaceIndices, AreNameIndices, ArePlaceIndices};
+
+use crate::source::Source;
+use crate::symbol_use::SymbolUse;
+use indexmap::IndexSet;
+use rv_object::{Definition as Defined, Symbol};
+use rv_text::Symbol as Named;
+use rv_unit::Definition;
+use std::alloc::{AllocError, Global};
+use std::collections::HashMap;
+
+/// An index that relocations can hold.
+fn index(i: usize) -> Result<u32, AllocError>
+    ensures { IfOk result (λ n. n ≡ i) }
+{
+    if i > 0xffff_ffff {
+        return Err(AllocError);
+    }
+    Ok(i as u32)
+}
+
+/// Adds the name of the next symbol.
+fn put_name<'o>(
+    names: &mut HashMap<&'o [u8], u32>,
+    next: u32,
+    symbol: &'o Symbol,
+) -> Result<(), AllocError>
+    ensures { OnOk result ((xs : List SaidSymbol) → next ≡ length xs → AreNameIndices names.old xs
+        → AreNameIndices names.new (xs ++ object_symbol symbol.now ∷ [])) }
+{
+    names.insert(symbol.name.as_slice(), next)?;
+    Ok(())
+}
+
+/// The indices of the last symbols of each name.
+fn name_indices<'o>(
+    alloc: Global,
+    symbols: &'o [Symbol],
+) -> Result<HashMap<&'o [u8], u32>, AllocError>
+    ensures { IfOk result (λ x. AreNameIndices x (map object_symbol symbols.now)) }
+{
+    let mut names = HashMap::new(alloc);
+    for i in 0..symbols.len() {
+        put_name(&mut names, index(i)?, &symbols[i])?;
+    }
+    Ok(names)
+}
+
+/// Adds the place of the next symbol, if it has one and no name.
+fn put_place(
+    places: &mut HashMap<(u32, u64), u32>,
+    next: u32,
+    symbol: &Symbol,
+) -> Result<(), AllocError>
+    ensures { OnOk result ((xs : List SaidSymbol) → next ≡ length xs → ArePlaceIndices places.old xs
+        → ArePlaceIndices places.new (xs ++ object_symbol symbol.now ∷ [])) }
+{
+    if !symbol.name.is_empty() {
+        return Ok(());
+    }
+    let Defined::InSection(section, offset) = symbol.definition else {
+        return Ok(());
+    };
+    places.insert((section, offset), next)?;
+    Ok(())
+}
+
+/// The indices of the symbols without names, by their places.
+fn place_indices(alloc: Global, symbols: &[Symbol]) -> Result<HashMap<(u32, u64), u32>, AllocError>
+    ensures { IfOk result (λ x. ArePlaceIndices x (map object_symbol symbols.now)) }
+{
+    let mut places = HashMap::new(alloc);
+    for i in 0..symbols.len() {
+        put_place(&mut places, index(i)?, &symbols[i])?;
+    }
+    Ok(places)
+}
+
+/// The indices of symbols: those of a source's own, and after them those that it leaves undefined.
+#[derive(Drop)]
+struct Indices<'i, 'u, 'a> {
+    source: &'i Source<'u, 'a>,
+    /// How many are the source's own.
+    count: usize,
+    names: HashMap<&'i [u8], u32>,
+    places: HashMap<(u32, u64), u32>,
+    missing: &'i IndexSet<&'a [u8]>,
+}
+
+impl<'i, 'u, 'a> Indices<'i, 'u, 'a> {
+    ghost use Rattle.rv_symbols.specs.Indexed.{AreIndices};
+
+    /// Those of these symbols.
+    fn of(
+        alloc: Global,
+        source: &'i Source<'u, 'a>,
+        own: &'i [Symbol],
+        missing: &'i IndexSet<&'a [u8]>,
+    ) -> Result<Self, AllocError>
+        ensures source { IfOk result (λ x. x.source.now ≡ source.now) }
+        ensures indices { IfOk result (λ x. AreIndices x (map object_symbol own.now)
+            (map now_of (missing.now).keys)) }
+    {
+        let names = name_indices(alloc, own)?;
+        let places = place_indices(alloc, own)?;
+        Ok(Indices {
+            source,
+            count: own.len(),
+            names,
+            places,
+            missing,
+        })
+    }
+
+    /// The index of the symbol without a name where the statement of this ordinal stands.
+    fn place_number(&self, ordinal: usize) -> u32
+        ensures { (sites : List Site) (own : List SaidSymbol) (names : List (List ℕ))
+            → IsSource (self.now).source.now sites → AreIndices self.now own names
+            → result ≡ place_number own (site_at sites ordinal) }
+    {
+        if ordinal == 0 {
+            return 0;
+        }
+        match self.source.place(ordinal - 1) {
+            Some(place) => self.places.get(&place).copied().unwrap_or(0),
+            None => 0,
+        }
+    }
+
+    /// The index of a symbol that is defined in the file.
+    fn own_number(&self, symbol: Named<'_>, definition: Definition) -> u32
+        ensures { (sites : List Site) (own : List SaidSymbol) (names : List (List ℕ))
+            → IsSource (self.now).source.now sites → AreIndices self.now own names
+            → result ≡ own_number own sites (definition_of definition) (symbol_of symbol.entry) }
+    {
+        match symbol {
+            Named::Name(name) => self.names.get(&name).copied().unwrap_or(0),
+            Named::Here => self.place_number(definition.ordinal),
+            Named::Backward(_) => self.place_number(definition.ordinal),
+            Named::Forward(_) => self.place_number(definition.ordinal),
+        }
+    }
+
+    /// The index of a symbol that the file leaves undefined.
+    fn outer_number(&self, symbol: Named<'_>) -> Result<u32, AllocError>
+        ensures { IfOk result (λ n. (own : List SaidSymbol) (names : List (List ℕ))
+            → AreIndices self.now own names
+            → n ≡ outer_number (length own) names (symbol_of symbol.entry)) }
+    {
+        match symbol {
+            Named::Name(name) => {
+                let after = self.missing.get_index_of(&name).unwrap_or(0);
+                let Some(place) = self.count.checked_add(after) else {
+                    return Err(AllocError);
+                };
+                let number = index(place)?;
+                Ok(number)
+            }
+            Named::Here => Ok(0),
+            Named::Backward(_) => Ok(0),
+            Named::Forward(_) => Ok(0),
+        }
+    }
+
+    /// The index of the symbol that a use names.
+    fn number(&self, symbol: Named<'_>, definition: Option<Definition>) -> Result<u32, AllocError>
+        ensures { IfOk result (λ n. (sites : List Site) (own : List SaidSymbol)
+            (names : List (List ℕ)) → IsSource (self.now).source.now sites
+            → AreIndices self.now own names
+            → n ≡ number_by own names sites (symbol_of symbol.entry)
+            (option_map definition_of definition)) }
+    {
+        match definition {
+            Some(definition) => Ok(self.own_number(symbol, definition)),
+            None => {
+                let number = self.outer_number(symbol)?;
+                Ok(number)
+            }
+        }
+    }
+}
+
+/// The index of the symbol of each use, among a source's own symbols and those after them that it leaves undefined.
+pub(crate) fn numbers<'a>(
+    alloc: Global,
+    source: &Source<'_, 'a>,
+    own: &[Symbol],
+    missing: &IndexSet<&'a [u8]>,
+    uses: &[SymbolUse<'a>],
+    definitions: &[Option<Definition>],
+) -> Result<Vec<u32>, AllocError>
+    requires { length definitions.now ≡ length uses.now }
+    ensures { IfOk result (λ x. (sites : List Site) (t : Tables) → IsSource source.now sites
+        → map (option_map definition_of) definitions.now
+        ≡ map (definition_in t) (uses_of uses.now)
+        → x.items
+        ≡ map (λ r. number_by (map object_symbol own.now) (map now_of (missing.now).keys) sites
+        r.symbol (definition_in t r)) (uses_of uses.now)) }
+{
+    let indices = Indices::of(alloc, source, own, missing)?;
+    let mut numbers = Vec::new(alloc);
+    for i in 0..uses.len() {
+        numbers.push(indices.number(uses[i].symbol, definitions[i])?)?;
+    }
+    Ok(numbers)
+}

@@ -1,0 +1,173 @@
+//! A source's names, and where its statements stand.
+
+ghost use Rattle.std.specs.Prelude.{◌≡◌, ◌+◌, ◌<◌, Some, List, [], ◌∷◌, length, slice_get, option_map, if◌then◌else◌, true, IfOk, IfSome};
+ghost use Rattle.rv_statement.specs.View.{statement_of};
+ghost use Rattle.rv_unit_laws.specs.Bindings.{is_global};
+ghost use Rattle.rv_unit_laws.specs.Tables.{tables, assigned_ever};
+ghost use Rattle.rv_tables.specs.Tables.{assignment_of};
+ghost use Rattle.rv_unit.specs.Unit.{said, IsFilled};
+ghost use Rattle.rv_map.specs.Name.{is_name};
+ghost use Rattle.rv_source_laws.specs.Resolves.{sets_first, defined_name};
+ghost use Rattle.rv_assemble_laws.specs.Sites.{Site};
+ghost use Rattle.rv_assemble_laws.specs.Symbols.{site_at, after_found, assigned_definition, site_definition};
+ghost use Rattle.rv_assemble_laws.specs.ShownNames.{said_names, are_shown};
+ghost use Rattle.rv_symbols.specs.Settings.{AreFirsts};
+
+use crate::settings::FirstSettings;
+use rv_object::Definition;
+use rv_statement::{Statement, StatementKind};
+use rv_text::Meaning;
+use rv_unit::{Assignment, Binding, Unit};
+use std::alloc::{AllocError, Global};
+
+/// A source: its unit says what its names are; and where its statements stand.
+#[derive(Drop)]
+pub(crate) struct Source<'u, 'a> {
+    pub(crate) unit: &'u Unit<'a>,
+    /// The offset of each statement in its section.
+    pub(crate) offsets: &'u [u32],
+    /// Where `.set` gives names first.
+    pub(crate) firsts: FirstSettings<'a>,
+}
+
+impl<'u, 'a> Source<'u, 'a> {
+    ghost use Rattle.rv_symbols.specs.Source.{name_in, tables_of, place_in, IsSource};
+
+    /// A source whose statements stand at these offsets.
+    pub(crate) fn of(
+        alloc: Global,
+        unit: &'u Unit<'a>,
+        offsets: &'u [u32],
+    ) -> Result<Self, AllocError>
+        ensures unit { IfOk result (λ x. x.unit.now ≡ unit.now) }
+        ensures offsets { IfOk result (λ x. x.offsets.now ≡ offsets.now) }
+        ensures firsts { IfOk result (λ x. IsFilled unit.now
+            → AreFirsts x.firsts.ordinals (tables (said unit.now)).assignments) }
+    {
+        let firsts = FirstSettings::of(alloc, unit.assignments())?;
+        Ok(Source {
+            unit,
+            offsets,
+            firsts,
+        })
+    }
+
+    /// Whether the source makes a name global.
+    pub(crate) fn is_global(&self, name: &[u8]) -> bool
+        ensures { (sites : List Site) → IsSource self.now sites
+            → result ≡ is_global ((tables_of self.now).bindings name.now) }
+    {
+        matches!(self.unit.binding(name), Binding::Global)
+    }
+
+    /// The name that the statement at this index defines.
+    pub(crate) fn defined<'s>(&self, index: usize, statement: &Statement<'s>) -> Option<&'s [u8]>
+        requires { index < length (self.now).offsets.now }
+        ensures name { (sites : List Site) → IsSource self.now sites
+            → name_in result
+            ≡ defined_name (tables_of self.now) (index + 1) (statement_of statement.now).kind }
+        ensures shown { are_shown (said_names (statement_of statement.now).kind) ≡ true
+            → IfSome result (λ n. is_name n.now ≡ true) }
+    {
+        match &statement.kind {
+            StatementKind::Label(name) => Some(*name),
+            StatementKind::Sets(setting) => self.first_set(index, setting.name),
+            _ => None,
+        }
+    }
+
+    /// The name, where the statement at this index is the first that gives it.
+    fn first_set<'s>(&self, index: usize, name: &'s [u8]) -> Option<&'s [u8]>
+        requires { index < length (self.now).offsets.now }
+        ensures same { IfSome result (λ n. n.now ≡ name.now) }
+        ensures name { (sites : List Site) → IsSource self.now sites
+            → name_in result
+            ≡ (if sets_first (tables_of self.now).assignments (index + 1) name.now
+            then name.now ∷ [] else []) }
+    {
+        if self.firsts.is_first(index + 1, name) {
+            Some(name)
+        } else {
+            None
+        }
+    }
+
+    /// The section and the offset of the statement at this index, if there is one.
+    pub(crate) fn place(&self, index: usize) -> Option<(u32, u64)>
+        ensures { (sites : List Site) → IsSource self.now sites
+            → result ≡ option_map place_in (slice_get sites index) }
+    {
+        let Some(place) = self.unit.places().get(index) else {
+            return None;
+        };
+        let Some(offset) = self.offsets.get(index) else {
+            return None;
+        };
+        Some((place.section, u64::from(*offset)))
+    }
+
+    /// The section and the offset of the statement at this index.
+    pub(crate) fn here(&self, index: usize) -> (u32, u64)
+        ensures { (sites : List Site) (s : Site) → IsSource self.now sites
+            → slice_get sites index ≡ Some s → result ≡ place_in s }
+    {
+        match self.place(index) {
+            Some(place) => place,
+            None => (0, 0),
+        }
+    }
+
+    /// So many bytes after the start of the statement of this ordinal.
+    fn after(&self, ordinal: usize, plus: u64) -> Definition
+        ensures { (sites : List Site) → IsSource self.now sites
+            → result ≡ after_found (site_at sites ordinal) plus }
+    {
+        if ordinal == 0 {
+            return Definition::Skipped(0);
+        }
+        match self.place(ordinal - 1) {
+            Some((section, offset)) => Definition::InSection(section, offset.wrapping_add(plus)),
+            None => Definition::Skipped(0),
+        }
+    }
+
+    /// A number, or a place that `.set` gives.
+    fn assigned(&self, assignment: Assignment<'a>) -> Definition
+        ensures { (sites : List Site) → IsSource self.now sites
+            → result ≡ assigned_definition sites (Some (assignment_of assignment.entry)) }
+    {
+        match assignment.meaning {
+            Meaning::Constant(number) => Definition::Absolute(number),
+            Meaning::InSection(_, _) => self.after(assignment.ordinal, assignment.plus),
+            _ => Definition::Skipped(0),
+        }
+    }
+
+    /// What `.set` gives a name last.
+    fn set_definition(&self, name: &[u8]) -> Definition
+        ensures { (sites : List Site) → IsSource self.now sites
+            → result ≡ assigned_definition sites
+            (assigned_ever (tables_of self.now).assignments name.now) }
+    {
+        match self.unit.assignment(name) {
+            Some(assignment) => self.assigned(assignment),
+            None => Definition::Skipped(0),
+        }
+    }
+
+    /// What the statement at this index defines: a label its own place, `.set` what the name has last.
+    pub(crate) fn definition(&self, index: usize, statement: &Statement<'_>) -> Definition
+        ensures { (sites : List Site) (s : Site) → IsSource self.now sites
+            → slice_get sites index ≡ Some s
+            → result ≡ site_definition (tables_of self.now) sites s
+            (statement_of statement.now).kind }
+    {
+        match &statement.kind {
+            StatementKind::Sets(setting) => self.set_definition(setting.name),
+            _ => {
+                let (section, offset) = self.here(index);
+                Definition::InSection(section, offset)
+            }
+        }
+    }
+}

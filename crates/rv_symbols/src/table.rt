@@ -1,0 +1,65 @@
+//! The symbols of an object and their indices.
+
+ghost use Rattle.std.specs.Prelude.{◌≡◌, None, List, length, IfOk};
+ghost use Rattle.rv_unit_laws.specs.Tables.{tables};
+ghost use Rattle.rv_unit_laws.specs.Faults.{first_fault};
+ghost use Rattle.rv_unit.specs.Unit.{said, IsFilled};
+ghost use Rattle.rv_assemble_laws.specs.Sites.{Site};
+ghost use Rattle.rv_assemble_laws.specs.ShownNames.{HasNames, AreShown};
+ghost use Rattle.rv_symbols.specs.SymbolUse.{uses_of, AreMeant};
+ghost use Rattle.rv_symbols.specs.HasSymbols.{AreSites, HasSymbols};
+
+use crate::exports::{put_exports, put_undefined};
+use crate::locals::locals;
+use crate::numbers::numbers;
+use crate::source::Source;
+use crate::symbol_use::SymbolUse;
+use crate::uses::{definitions, marks, missing};
+use rv_object::Symbol;
+use rv_unit::Unit;
+use std::alloc::{AllocError, Global};
+
+/// The symbols of an object, and for each use of a symbol its index.
+#[derive(Drop)]
+pub struct SymbolTable {
+    /// Those of the file alone, then those that it defines for all files, then those that it leaves undefined.
+    pub symbols: Vec<Symbol>,
+    /// A number for each use, in the order of the uses: the index of its symbol.
+    pub numbers: Vec<u32>,
+}
+
+/// The symbols of a source whose statements stand at these offsets in their sections, with the index of the symbol for each
+/// use, in the order of their statements.
+pub fn symbols<'a>(
+    alloc: Global,
+    unit: &Unit<'a>,
+    offsets: &[u32],
+    uses: &[SymbolUse<'a>],
+) -> Result<SymbolTable, AllocError>
+    requires filled { IsFilled unit.now }
+    requires good { first_fault (said unit.now) ≡ None }
+    requires names { HasNames (said unit.now) }
+    requires shown { AreShown (uses_of uses.now) }
+    requires meant { AreMeant (tables (said unit.now)) (uses_of uses.now) }
+    requires each { length offsets.now ≡ length (said unit.now) }
+    ensures { IfOk result (λ r. (sites : List Site)
+        → AreSites (said unit.now) offsets.now (uses_of uses.now) sites
+        → HasSymbols (tables (said unit.now)) sites (uses_of uses.now) r) }
+{
+    let source = Source::of(alloc, unit, offsets)?;
+    let definitions = definitions(alloc, unit, uses)?;
+    let meant = marks(alloc, offsets.len(), uses, definitions.as_slice())?;
+    let mut symbols = locals(alloc, &source, meant.as_slice())?;
+    put_exports(alloc, &mut symbols, &source)?;
+    let missing = missing(alloc, uses, definitions.as_slice())?;
+    let numbers = numbers(
+        alloc,
+        &source,
+        symbols.as_slice(),
+        &missing,
+        uses,
+        definitions.as_slice(),
+    )?;
+    put_undefined(alloc, &mut symbols, missing.as_slice())?;
+    Ok(SymbolTable { symbols, numbers })
+}
