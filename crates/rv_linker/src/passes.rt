@@ -32,9 +32,9 @@ pub const MOST_FILES: usize = 1024;
 ///
 /// # Errors
 ///
-/// The first fault of the objects, in the order of the passes: too many of them, a bad start of the text, names that are
-/// defined twice or not at all, too much memory, a missing entry, paddings without room, and then fields that cannot hold
-/// their values, by file, section and relocation.
+/// A fault of the objects, in the order of the passes: too many of them, a bad start of the text, names that are defined
+/// twice or not at all, a missing entry, too much memory, paddings without room, and then fields that cannot hold their
+/// values, by file, section and relocation. The clause below does not say when each comes.
 pub fn link(alloc: Global, objects: &[Object], options: LinkOptions) -> Result<Linked, LinkFault>
     ensures { IfOk result
         (λ l. IsLinkOf (map object_of objects.now) options.text_start (linked_of l)) }
