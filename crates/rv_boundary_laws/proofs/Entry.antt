@@ -1,10 +1,10 @@
 -- A run of the objects' program begins where that of the sources begins.
 
-use Rattle.std.proofs.Common.{◌≡◌, ℕ, suc, ◌+◌, ◌-◌, Bool, true, false, List, [], ◌∷◌, ◌++◌, refl, sym, ap, ◌∙◌, map, Option, Some, None, ◌⊎◌, inl, inr}
-use Rattle.std.proofs.lemmas.Bool.{and_parts}
+use Rattle.std.proofs.Common.{◌≡◌, ℕ, suc, ◌+◌, ◌-◌, ◌%◌, Bool, true, false, List, [], ◌∷◌, ◌++◌, refl, sym, ap, ◌∙◌, map, Option, Some, None, ◌⊎◌, inl, inr}
+use Rattle.std.proofs.lemmas.Bool.{and_parts, eq-eqb}
 use Rattle.std.specs.Prelude.{◌&&◌, ◌==◌, if◌then◌else◌, filter, flat_map, option_map, option_and_then, slice_index_or, bytes_eq, codes}
 use Rattle.std.specs.List.{AllByRecursion, slice_get, find}
-use Rattle.rv_text_laws.specs.Values.{Meaning, Known, InSection as InData, Open as OpenAddress, Refused}
+use Rattle.rv_text_laws.specs.Values.{Meaning, Known, InSection as InData, Open as OpenAddress, Refused, add}
 use Rattle.rv_statement.specs.Statement.{StatementKind, Label, Numbered, Instruction, Directs, Statement, Enters, Sets}
 use Rattle.rv_unit_laws.specs.Bindings.{is_global}
 use Rattle.rv_unit_laws.specs.Sections.{Section as SourceSection, goes_to_text}
@@ -20,7 +20,7 @@ use Rattle.rv_object.specs.declared.symbol.Definition.TheVariants.{InSection}
 use Rattle.rv_object.specs.Object.{Symbol, Object}
 use Rattle.rv_object_laws.specs.Inputs.{Starts}
 use Rattle.rv_object_laws.specs.Names as objects
-use Rattle.rv_object_laws.specs.Names.{exported, defined_address, is_in_text, is_text_definition, entry_by}
+use Rattle.rv_object_laws.specs.Names.{exported, defined_address, is_in_text, can_begin, entry_by}
 use Rattle.rv_assemble_laws.specs.Sites.{Site}
 use Rattle.rv_assemble_laws.specs.Symbols.{site_at, after_found, assigned_definition, site_definition, global_symbol, exports_of}
 use Rattle.rv_assemble_laws.specs.IsObjectOf.{IsObjectOf, IsInData, StandsInData}
@@ -32,6 +32,7 @@ use Rattle.rv_boundary_laws.proofs.Sections.{split}
 use Rattle.rv_boundary_laws.proofs.Files.{IsFile, AreFiles}
 use Rattle.rv_boundary_laws.proofs.Names.{exported_are, AreNth}
 use Rattle.rv_boundary_laws.proofs.Globals.{IsLow, low_rows, label_address}
+use Rattle.rv_boundary_laws.proofs.Evens.{IsEven, evens}
 
 -- ---- searches
 
@@ -80,33 +81,33 @@ module _ (sources : List (List Statement)) (p : Program) (starts : Starts) (file
       ap is_in_text found.1 ∙ ap (λ b. b && found.0.executable) found.2.loaded ∙ ap (λ b. s.located.home.loaded && b) found.2.executable
 
   -- a place that `.set` gives is in no text
-  found_aside : (a : Option Site) (ordinal plus : ℕ) → site_at is.sites ordinal ≡ a → IsInData a → is_text_definition o (after_found a plus) ≡ false
+  found_aside : (a : Option Site) (ordinal plus : ℕ) → site_at is.sites ordinal ≡ a → IsInData a → can_begin o (after_found a plus) ≡ false
   found_aside None ordinal plus e h = refl
   found_aside (Some s) ordinal plus e (aside, placed) =
       let here = all_found (IsSettled sections) (λ s. s.located.ordinal == ordinal) is.sites (settled ss is.sites is.good is.located) s e in
-      text_is s here ∙ ap (λ b. s.located.home.loaded && b) aside ∙ never s.located.home.loaded
+      ap (λ b. b && (add s.offset plus % 2 == 0)) (text_is s here ∙ ap (λ b. s.located.home.loaded && b) aside ∙ never s.located.home.loaded)
     where
       never : (b : Bool) → (b && false) ≡ false
       never true = refl
       never false = refl
 
-  assigned_aside : (name : List ℕ) → is_text_definition o (assigned_definition is.sites (assigned_ever t.assignments name)) ≡ false
+  assigned_aside : (name : List ℕ) → can_begin o (assigned_definition is.sites (assigned_ever t.assignments name)) ≡ false
   assigned_aside name = go (assigned_ever t.assignments name) refl
     where
       by : (a : Assignment) (m : Meaning) → (is_location (record a { meaning = m }) ≡ true → IsInData (site_at is.sites a.ordinal))
-          → is_text_definition o (assigned_definition is.sites (Some (record a { meaning = m }))) ≡ false
+          → can_begin o (assigned_definition is.sites (Some (record a { meaning = m }))) ≡ false
       by a (Known n) h = refl
       by a (InData section offset) h = found_aside (site_at is.sites a.ordinal) a.ordinal a.plus refl (h refl)
       by a OpenAddress h = refl
       by a (Refused code) h = refl
 
-      go : (a : Option Assignment) → assigned_ever t.assignments name ≡ a → is_text_definition o (assigned_definition is.sites a) ≡ false
+      go : (a : Option Assignment) → assigned_ever t.assignments name ≡ a → can_begin o (assigned_definition is.sites a) ≡ false
       go None e = refl
       go (Some a) e = by a a.meaning (all_found (StandsInData is.sites) (λ s. bytes_eq s.name name) t.assignments is.places a e)
 
   -- ---- a statement: it begins the run as its symbol does, or neither does
 
-  none_begins : (d : Defined) → is_text_definition o d ≡ false → (names : List (List ℕ)) → find (objects.begins_run o) (map (λ name. global_symbol name d) names) ≡ None
+  none_begins : (d : Defined) → can_begin o d ≡ false → (names : List (List ℕ)) → find (objects.begins_run o) (map (λ name. global_symbol name d) names) ≡ None
   none_begins d e [] = refl
   none_begins d e (name ∷ names) =
       ap (λ b. if bytes_eq name (codes "_start") && b then Some (global_symbol name d) else find (objects.begins_run o) (map (λ name. global_symbol name d) names)) e
@@ -117,14 +118,14 @@ module _ (sources : List (List Statement)) (p : Program) (starts : Starts) (file
       go true ih = ih
       go false ih = ih
 
-  label_agrees : (s : Site) (name : List ℕ) → IsSettled sections s → IsLow starts file s → s.located.placed ≡ true
+  label_agrees : (s : Site) (name : List ℕ) → IsSettled sections s → IsLow starts file s → IsEven s → s.located.placed ≡ true
       → let e = statement_at starts file s in
       let d = InSection s.located.section s.offset in
       ((n : ℕ) × (x : Symbol) × ((bytes_eq name (codes "_start") && goes_to_text s.located.home && source.is_global_in sources file (codes "_start")) ≡ true) × (address_of e ≡ Some n)
       × (find (objects.begins_run o) (map (λ name. global_symbol name d) (filter G (name ∷ []))) ≡ Some x) × (Da x ≡ Some n))
       ⊎ (((bytes_eq name (codes "_start") && goes_to_text s.located.home && source.is_global_in sources file (codes "_start")) ≡ false)
       × (find (objects.begins_run o) (map (λ name. global_symbol name d) (filter G (name ∷ []))) ≡ None))
-  label_agrees s name here low placed = go (bytes_eq name (codes "_start")) refl (goes_to_text s.located.home) refl (G name) refl
+  label_agrees s name here low even placed = go (bytes_eq name (codes "_start")) refl (goes_to_text s.located.home) refl (G name) refl
     where
       e : MaybeMapped
       e = statement_at starts file s
@@ -132,8 +133,12 @@ module _ (sources : List (List Statement)) (p : Program) (starts : Starts) (file
       d : Defined
       d = InSection s.located.section s.offset
 
-      is_in : is_text_definition o d ≡ goes_to_text s.located.home
-      is_in = text_is s here
+      is_in : can_begin o d ≡ goes_to_text s.located.home
+      is_in = ap (λ b. b && (s.offset % 2 == 0)) (text_is s here) ∙ at (goes_to_text s.located.home) refl
+        where
+          at : (b : Bool) → goes_to_text s.located.home ≡ b → (b && (s.offset % 2 == 0)) ≡ b
+          at true v = eq-eqb (s.offset % 2) 0 (even v)
+          at false v = refl
 
       kept : (b : Bool) → G name ≡ b → find (objects.begins_run o) (map (λ name. global_symbol name d) (filter G (name ∷ [])))
           ≡ (if b then (if bytes_eq name (codes "_start") && goes_to_text s.located.home then Some (global_symbol name d) else None) else None)
@@ -180,24 +185,24 @@ module _ (sources : List (List Statement)) (p : Program) (starts : Starts) (file
           by true x y = inl (starts file s.located.section + s.offset, global_symbol name d, x, at, y, label_address p starts file ss o is f s here placed low ∙ at)
           by false x y = inr (x, y)
 
-  kind_agrees : (s : Site) (kind : StatementKind) → IsSettled sections s → IsLow starts file s → ((name : List ℕ) → kind ≡ Label name → s.located.placed ≡ true)
+  kind_agrees : (s : Site) (kind : StatementKind) → IsSettled sections s → IsLow starts file s → IsEven s → ((name : List ℕ) → kind ≡ Label name → s.located.placed ≡ true)
       → ((n : ℕ) × (x : Symbol) × ((source.is_start kind && goes_to_text s.located.home && source.is_global_in sources file (codes "_start")) ≡ true) × (address_of (statement_at starts file s) ≡ Some n)
       × (find (objects.begins_run o) (map (λ name. global_symbol name (site_definition t is.sites s kind)) (filter G (defined_name t s.located.ordinal kind))) ≡ Some x) × (Da x ≡ Some n))
       ⊎ (((source.is_start kind && goes_to_text s.located.home && source.is_global_in sources file (codes "_start")) ≡ false)
       × (find (objects.begins_run o) (map (λ name. global_symbol name (site_definition t is.sites s kind)) (filter G (defined_name t s.located.ordinal kind))) ≡ None))
-  kind_agrees s (Label name) here low label = label_agrees s name here low (label name refl)
-  kind_agrees s (Directs (Sets name e)) here low label =
+  kind_agrees s (Label name) here low even label = label_agrees s name here low even (label name refl)
+  kind_agrees s (Directs (Sets name e)) here low even label =
       inr (refl, none_begins (assigned_definition is.sites (assigned_ever t.assignments name)) (assigned_aside name) (filter G (defined_name t s.located.ordinal (Directs (Sets name e)))))
-  kind_agrees s (Directs (Enters section)) here low label = inr (refl, refl)
-  kind_agrees s (Directs _) here low label = inr (refl, refl)
-  kind_agrees s (Numbered number) here low label = inr (refl, refl)
-  kind_agrees s (Instruction mnemonic operands) here low label = inr (refl, refl)
+  kind_agrees s (Directs (Enters section)) here low even label = inr (refl, refl)
+  kind_agrees s (Directs _) here low even label = inr (refl, refl)
+  kind_agrees s (Numbered number) here low even label = inr (refl, refl)
+  kind_agrees s (Instruction mnemonic operands) here low even label = inr (refl, refl)
 
-  file_entry : (rest : List Site) (more : List MaybeMapped) → AllByRecursion (IsSettled sections) rest → AllByRecursion (IsLow starts file) rest
+  file_entry : (rest : List Site) (more : List MaybeMapped) → AllByRecursion (IsSettled sections) rest → AllByRecursion (IsLow starts file) rest → AllByRecursion IsEven rest
       → option_and_then address_of (find B (map (statement_at starts file) rest ++ more))
       ≡ entry_by (option_and_then Da (find (objects.begins_run o) (flat_map (exports_of t is.sites) rest))) (option_and_then address_of (find B more))
-  file_entry [] more h l = refl
-  file_entry (s ∷ rest) more (h, hs) (l, ls) = go (kind_agrees s s.located.kind h l h.labelled) (file_entry rest more hs ls)
+  file_entry [] more h l v = refl
+  file_entry (s ∷ rest) more (h, hs) (l, ls) (v, vs) = go (kind_agrees s s.located.kind h l v h.labelled) (file_entry rest more hs ls vs)
     where
       e : MaybeMapped
       e = statement_at starts file s
@@ -232,7 +237,7 @@ entry_is sources p starts file [] (o ∷ os) h f n r = absurd h
 entry_is sources p starts file (ss ∷ srcs) [] h f n r = absurd h
 entry_is sources p starts file (ss ∷ srcs) (o ∷ os) (is, h) (f, fs) (n, ns) r =
     let rows = split IsRow (rows_from starts file is.sites) (all_rows starts (suc file) srcs os h) r in
-    file_entry sources p starts file ss o is f n is.sites (all_statements starts (suc file) srcs os h) (settled ss is.sites is.good is.located) (low_rows starts file is.sites rows.0)
+    file_entry sources p starts file ss o is f n is.sites (all_statements starts (suc file) srcs os h) (settled ss is.sites is.good is.located) (low_rows starts file is.sites rows.0) (evens ss o is)
     ∙ ap (λ xs. entry_by (option_and_then (λ s. defined_address (starts file) o s.definition) (find (objects.begins_run o) xs))
     (source.starts_at (find (λ e. source.begins_run sources e.located) (all_statements starts (suc file) srcs os h)))) (sym (exported_are ss o is))
     ∙ ap (entry_by (option_and_then (λ s. defined_address (starts file) o s.definition) (find (objects.begins_run o) (exported o)))) (entry_is sources p starts (suc file) srcs os h fs ns rows.1)

@@ -14,6 +14,7 @@ pub mod Files
 pub mod Linked
 pub mod Names
 pub mod Globals
+pub mod Evens
 pub mod Joined
 pub mod Entry
 pub mod Flagged

@@ -263,6 +263,22 @@ const FAULTS: &[Row] = &[
         0x1_0000,
         7,
     ),
+    // an odd place in bytes of a padding that are dropped, so that its address is even
+    (
+        &[(
+            &[(
+                b".text",
+                A | X,
+                b"\x13\0\0\0\x01\0\x82\x80",
+                None,
+                4,
+                &[(4, Kind::Align, None, 2)],
+            )],
+            &[(b"_start", Binding::Global, Definition::InSection(0, 5))],
+        )],
+        0x1_0000,
+        7,
+    ),
     (
         &[(
             &[CODE],

@@ -147,7 +147,7 @@ fn is_entry(object: &Object, definition: Definition) -> bool {
     }
 }
 
-/// Where a run begins: at an even address.
+/// Where a run begins: at an even address, as that of each even place of code is.
 fn entry(names: &Names<'_>, objects: &[Object], placement: &Placement) -> Result<u64, LinkFault>
     requires { IsPlaced (map object_of objects.now) names.now placement.now }
     ensures entry { IfOk result

@@ -75,6 +75,7 @@ pub record IsLinkOf (os : List Object) (text_start : ℕ) (l : Linked) : Type 0 
   pub globals : l.map.globals ≡ globals_of starts 1 os ++ shown_linker_symbols os l.map
   -- a run begins at the global `_start`, an even place of a section of text
   pub entry : entry_of starts 1 os ≡ Some l.map.entry
+  -- whose address is even, too
   pub even : l.map.entry % 2 ≡ 0
   pub rows : l.map.rows ≡ rows_of starts 1 os
   -- a text shows the map: its numbers are below 2 ^ 64

@@ -1,6 +1,6 @@
 -- What the names of objects mean across files (gABI, "Symbol Table"; GNU ld, "Symbols").
 
-use Rattle.std.specs.Prelude.{◌≡◌, ℕ, suc, ◌+◌, ◌-◌, ◌%◌, ◌^◌, Bool, true, false, not, ◌&&◌, ⊤, List, [], ◌∷◌, ◌++◌, filter, flat_map, map, Option, Some, None, option_map, option_and_then, slice_index_or, codes, bytes_eq, if◌then◌else◌}
+use Rattle.std.specs.Prelude.{◌≡◌, ℕ, suc, ◌+◌, ◌-◌, ◌%◌, ◌^◌, ◌==◌, Bool, true, false, not, ◌&&◌, ⊤, List, [], ◌∷◌, ◌++◌, filter, flat_map, map, Option, Some, None, option_map, option_and_then, slice_index_or, codes, bytes_eq, if◌then◌else◌}
 use Rattle.std.specs.List.{find, list_any, slice_get}
 use Rattle.rv_map.specs.Map.{Map, Global}
 use Rattle.rv_object.specs.declared.symbol.Binding.{Binding}
@@ -111,16 +111,17 @@ abbrev pub is_in_text : Option Section → Bool
 is_in_text None = false
 is_in_text (Some s) = goes_to_text s
 
-abbrev pub is_text_definition : Object → Definition → Bool
-is_text_definition o (definitions.InSection section offset) =
-    is_in_text (slice_get o.sections section)
-is_text_definition o definitions.Undefined = false
-is_text_definition o (definitions.Absolute n) = false
-is_text_definition o (definitions.Skipped n) = false
+-- an even place of a section of text, by its offset in the object
+abbrev pub can_begin : Object → Definition → Bool
+can_begin o (definitions.InSection section offset) =
+    is_in_text (slice_get o.sections section) && (offset % 2 == 0)
+can_begin o definitions.Undefined = false
+can_begin o (definitions.Absolute n) = false
+can_begin o (definitions.Skipped n) = false
 
--- the global `_start` of a section of text
+-- the global `_start` at such a place
 abbrev pub begins_run : Object → Symbol → Bool
-begins_run o s = bytes_eq s.name (codes "_start") && is_text_definition o s.definition
+begins_run o s = bytes_eq s.name (codes "_start") && can_begin o s.definition
 
 abbrev pub entry_by : Option ℕ → Option ℕ → Option ℕ
 entry_by (Some address) other = Some address

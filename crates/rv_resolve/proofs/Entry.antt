@@ -7,7 +7,7 @@ use Rattle.std.specs.Option.{option_or}
 use Rattle.std.proofs.lemmas.List.Folds.{list_any-append}
 use Rattle.rv_object.specs.Object.{Symbol, Object}
 use Rattle.rv_object_laws.specs.Inputs.{Starts}
-use Rattle.rv_object_laws.specs.Names.{defined_address, exported, is_one_of, AreDistinct, is_text_definition, begins_run, entry_by, entry_of, global_names}
+use Rattle.rv_object_laws.specs.Names.{defined_address, exported, is_one_of, AreDistinct, can_begin, begins_run, entry_by, entry_of, global_names}
 use Rattle.rv_resolve.specs.Exports.{Export, export, exports_from, named}
 use Rattle.rv_resolve.proofs.Found.{has_name, named_files}
 use Rattle.rv_resolve.proofs.Shown.{address_at, not_named}
@@ -17,9 +17,9 @@ use Rattle.rv_resolve.proofs.Table.{same_bytes}
 abbrev pub start_name : List ℕ
 start_name = codes "_start"
 
--- the address of a definition in a section of text
+-- the address of a definition at which a run can begin
 abbrev pub start_at : Starts → Export → Option ℕ
-start_at starts e = if is_text_definition e.object e.symbol.definition then address_at starts e else None
+start_at starts e = if can_begin e.object e.symbol.definition then address_at starts e else None
 
 abbrev own_names : List Symbol → List (List ℕ)
 own_names ss = map (λ s. s.name) ss
@@ -69,20 +69,20 @@ some_symbol ss name s e = by (is_one_of (own_names ss) name) refl
     by true f = refl
     by false f = absurd (let t : ◌≡◌ {A = Option Symbol} None (Some s) = sym (no_symbol ss name f) ∙ e in cc)
 
-abbrev in_text : Object → Symbol → Option Symbol
-in_text o s = if is_text_definition o s.definition then Some s else None
+abbrev that_can : Object → Symbol → Option Symbol
+that_can o s = if can_begin o s.definition then Some s else None
 
--- the first in text of a name is the first of it, where that is in text
-find_text : (o : Object) (ss : List Symbol) → AreDistinct (own_names ss) → find (begins_run o) ss ≡ option_and_then (in_text o) (find (has_name start_name) ss)
-find_text o [] d = refl
-find_text o (s ∷ ss) d = by (bytes_eq s.name start_name) refl (is_text_definition o s.definition) refl (find_text o ss d.1)
+-- the first of a name at which a run can begin is the first of it, where one can begin there
+find_start : (o : Object) (ss : List Symbol) → AreDistinct (own_names ss) → find (begins_run o) ss ≡ option_and_then (that_can o) (find (has_name start_name) ss)
+find_start o [] d = refl
+find_start o (s ∷ ss) d = by (bytes_eq s.name start_name) refl (can_begin o s.definition) refl (find_start o ss d.1)
   where
-    by : (b : Bool) → bytes_eq s.name start_name ≡ b → (t : Bool) → is_text_definition o s.definition ≡ t
-        → find (begins_run o) ss ≡ option_and_then (in_text o) (find (has_name start_name) ss)
-        → cond (b && t) (Some s) (find (begins_run o) ss) ≡ option_and_then (in_text o) (cond b (Some s) (find (has_name start_name) ss))
+    by : (b : Bool) → bytes_eq s.name start_name ≡ b → (t : Bool) → can_begin o s.definition ≡ t
+        → find (begins_run o) ss ≡ option_and_then (that_can o) (find (has_name start_name) ss)
+        → cond (b && t) (Some s) (find (begins_run o) ss) ≡ option_and_then (that_can o) (cond b (Some s) (find (has_name start_name) ss))
     by true f true g rest = ap (λ c. if c then Some s else None) (sym g)
     by true f false g rest =
-        rest ∙ ap (option_and_then (in_text o)) (no_symbol ss start_name (ap (is_one_of (own_names ss)) (sym (same_bytes s.name start_name f)) ∙ d.0))
+        rest ∙ ap (option_and_then (that_can o)) (no_symbol ss start_name (ap (is_one_of (own_names ss)) (sym (same_bytes s.name start_name f)) ∙ d.0))
         ∙ ap (λ c. if c then Some s else None) (sym g)
     by false f t g rest = rest
 
@@ -98,7 +98,7 @@ entry_found starts file [] d = refl
 entry_found starts file (o ∷ os) d =
     let own = own_names (exported o) in
     let behind = global_names os in
-    ap (λ f. entry_by (option_and_then (λ (s : Symbol). defined_address (starts (suc file)) o s.definition) f) (entry_of starts (suc (suc file)) os)) (find_text o (exported o) (distinct_left own behind d))
+    ap (λ f. entry_by (option_and_then (λ (s : Symbol). defined_address (starts (suc file)) o s.definition) f) (entry_of starts (suc (suc file)) os)) (find_start o (exported o) (distinct_left own behind d))
     ∙ by (find (has_name start_name) (exported o)) refl (entry_found starts (suc file) os (distinct_right own behind d))
     ∙ ap (option_and_then (start_at starts)) (sym (named_files file o os start_name))
   where
@@ -116,10 +116,10 @@ entry_found starts file (o ∷ os) d =
 
     by : (f : Option Symbol) → find (has_name start_name) (exported o) ≡ f
         → entry_of starts (suc (suc file)) os ≡ option_and_then (start_at starts) (named (exports_from (suc file) os) start_name)
-        → entry_by (option_and_then (λ (s : Symbol). defined_address (starts (suc file)) o s.definition) (option_and_then (in_text o) f)) (entry_of starts (suc (suc file)) os)
+        → entry_by (option_and_then (λ (s : Symbol). defined_address (starts (suc file)) o s.definition) (option_and_then (that_can o) f)) (entry_of starts (suc (suc file)) os)
         ≡ option_and_then (start_at starts) (option_or (option_map (export file o) f) (named (exports_from (suc file) os) start_name))
     by None g rest = rest
     by (Some s) g rest =
-        ap (entry_by (option_and_then (λ (s : Symbol). defined_address (starts (suc file)) o s.definition) (in_text o s))) (rest ∙ ap (option_and_then (start_at starts)) (others s g))
-        ∙ entry_none (option_and_then (λ (s : Symbol). defined_address (starts (suc file)) o s.definition) (in_text o s))
-        ∙ text s (is_text_definition o s.definition)
+        ap (entry_by (option_and_then (λ (s : Symbol). defined_address (starts (suc file)) o s.definition) (that_can o s))) (rest ∙ ap (option_and_then (start_at starts)) (others s g))
+        ∙ entry_none (option_and_then (λ (s : Symbol). defined_address (starts (suc file)) o s.definition) (that_can o s))
+        ∙ text s (can_begin o s.definition)

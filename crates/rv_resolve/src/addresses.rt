@@ -49,7 +49,7 @@ impl<'o> Names<'o> {
         }
     }
 
-    /// Where a run begins: the address of the global `_start`, if that stands in a section of text.
+    /// Where a run begins: the address of the global `_start`, if that stands at an even place of a section of text.
     pub fn entry(&self, objects: &[Object], placement: &Placement) -> Option<u64>
         ensures { (start : ℕ) → IsNames (map object_of objects.now) self.now
             → IsPlacement (map object_of objects.now) start placement.now
@@ -57,7 +57,7 @@ impl<'o> Names<'o> {
     {
         match self.by_name.get(&b"_start".as_slice()).copied() {
             Some(exported) => {
-                if is_text(objects, exported.file, exported.definition) {
+                if can_begin(objects, exported.file, exported.definition) {
                     defined_address(objects, placement, exported.file, exported.definition)
                 } else {
                     None
@@ -98,13 +98,15 @@ pub(crate) fn defined_address(
     }
 }
 
-/// Whether a definition of a file stands in a section of text.
-fn is_text(objects: &[Object], file: usize, definition: Definition) -> bool
+/// Whether a run can begin at a definition of a file: at an even place of a section of text, whatever becomes of its address.
+fn can_begin(objects: &[Object], file: usize, definition: Definition) -> bool
     ensures { (o : SaidObject) → slice_get (map object_of objects.now) file ≡ Some o
-        → result ≡ laws.is_text_definition o definition }
+        → result ≡ laws.can_begin o definition }
 {
     match definition {
-        Definition::InSection(section, _) => goes_to_text(objects, file, section),
+        Definition::InSection(section, offset) => {
+            goes_to_text(objects, file, section) && offset % 2 == 0
+        }
         _ => false,
     }
 }

@@ -1,7 +1,7 @@
 use Rattle.std.proofs.Common.{◌≡◌, ◌+◌, ◌∙◌, Some, None, option_map, map, ap, sym}
 use Rattle.std.specs.Prelude.{option_and_then, if◌then◌else◌}
 use Rattle.rv_object.specs.View.{object_of}
-use Rattle.rv_object_laws.specs.Names.{defined_address, is_text_definition}
+use Rattle.rv_object_laws.specs.Names.{defined_address, can_begin}
 use Rattle.rv_placement.specs.Placement.{starts_of}
 use Rattle.rv_resolve.specs.declared.names.Exported.{Exported}
 use Rattle.rv_resolve.specs.Exports.{export_of}
@@ -11,8 +11,8 @@ use Rattle.rv_resolve.proofs.Meant.{kept_held}
 use Rattle.rv_resolve.proofs.Table.{none_kept}
 use Rattle.rv_resolve.proofs.names.Names.entry.Goals as goal
 
-pub returns-then-is_text : goal.returns-then-is_text
-returns-then-is_text c = λ start h stands.
+pub returns-then-can_begin : goal.returns-then-can_begin
+returns-then-can_begin c = λ start h stands.
     let os = map object_of c.args.objects.now in
     let starts = starts_of c.args.placement.now in
     let x = c.in-Some.exported in
@@ -22,11 +22,11 @@ returns-then-is_text c = λ start h stands.
     c.defined_address.ensures start k.0.object stands k.3
     ∙ sym
     (entry_found starts 0 os h.distinct ∙ ap (option_and_then (start_at starts)) k.1
-    ∙ ap (λ (y : Exported). if is_text_definition k.0.object y.definition then defined_address (starts (y.file + 1)) k.0.object y.definition else None) k.2
-    ∙ ap (λ b. if b then defined_address (starts (x.file + 1)) k.0.object x.definition else None) (sym (c.is_text.ensures k.0.object k.3) ∙ c.if-is_text.true))
+    ∙ ap (λ (y : Exported). if can_begin k.0.object y.definition then defined_address (starts (y.file + 1)) k.0.object y.definition else None) k.2
+    ∙ ap (λ b. if b then defined_address (starts (x.file + 1)) k.0.object x.definition else None) (sym (c.can_begin.ensures k.0.object k.3) ∙ c.if-can_begin.true))
 
-pub returns-else-is_text : goal.returns-else-is_text
-returns-else-is_text c = λ start h stands.
+pub returns-else-can_begin : goal.returns-else-can_begin
+returns-else-can_begin c = λ start h stands.
     let os = map object_of c.args.objects.now in
     let starts = starts_of c.args.placement.now in
     let x = c.in-Some.exported in
@@ -35,8 +35,8 @@ returns-else-is_text c = λ start h stands.
     let k = kept_held os start_name x found in
     sym
     (entry_found starts 0 os h.distinct ∙ ap (option_and_then (start_at starts)) k.1
-    ∙ ap (λ (y : Exported). if is_text_definition k.0.object y.definition then defined_address (starts (y.file + 1)) k.0.object y.definition else None) k.2
-    ∙ ap (λ b. if b then defined_address (starts (x.file + 1)) k.0.object x.definition else None) (sym (c.is_text.ensures k.0.object k.3) ∙ c.if-is_text.false))
+    ∙ ap (λ (y : Exported). if can_begin k.0.object y.definition then defined_address (starts (y.file + 1)) k.0.object y.definition else None) k.2
+    ∙ ap (λ b. if b then defined_address (starts (x.file + 1)) k.0.object x.definition else None) (sym (c.can_begin.ensures k.0.object k.3) ∙ c.if-can_begin.false))
 
 pub returns-in-None : goal.returns-in-None
 returns-in-None c = λ start h stands.

@@ -1,0 +1,122 @@
+-- Statements of text stand at even offsets.
+
+use Rattle.std.proofs.Common.{◌≡◌, ℕ, ◌+◌, ◌%◌, Bool, true, false, List, [], ◌∷◌, length, refl, sym, ap, ◌∙◌, subst, arith, Some}
+use Rattle.std.proofs.lemmas.Bool.{and_parts, eq-eqb}
+use Rattle.std.specs.Prelude.{◌==◌, if◌then◌else◌, flat_map, map}
+use Rattle.std.specs.List.{AllByRecursion, slice_get}
+use Rattle.rv_text_laws.specs.Values.{Value}
+use Rattle.rv_statement.specs.Statement.{StatementKind, Label, Numbered, Instruction, Directs, Statement, Expression, Enters, Opens, Globl, Local, Sets, Aligns_to_power, Aligns_to_bytes, Values, Strings, Zeros, Chooses, Ignored}
+use Rattle.rv_unit_laws.specs.Sections.{Section as SourceSection, goes_to_text}
+use Rattle.rv_unit_laws.specs.Tables.{Tables, tables, alignment_of}
+use Rattle.rv_chain_laws.proofs.Held.{IsHeld}
+use Rattle.rv_object.specs.Object.{Object}
+use Rattle.rv_assemble_laws.specs.Sites.{Site, IsPaddedIn, form, part_of, part_bytes, parts_of, sites_in, Tile, HasSize}
+use Rattle.rv_assemble_laws.specs.IsObjectOf.{IsSectionOf, IsObjectOf}
+use Rattle.rv_boundary_laws.proofs.Settled.{IsSettled, settled, IsSiteIn, sites_are_in}
+use Rattle.rv_boundary_laws.proofs.Known.{section_found}
+
+abbrev pub IsEven : Site → Type 0
+IsEven s = goes_to_text s.located.home ≡ true → s.offset % 2 ≡ 0
+
+-- ---- a statement
+
+none_even : (n : ℕ) → n ≡ 0 → n % 2 ≡ 0
+none_even n e = ap (λ n. n % 2) e
+
+-- a statement of code with a place has an even count of bytes
+even_by : (s : Site) (section : SourceSection) (multiple : ℕ) (v : Expression → Value) (kind : StatementKind) → IsHeld section kind → section.executable ≡ true → s.located.home ≡ section
+    → HasSize v s multiple kind → s.bytes % 2 ≡ 0
+even_by s section multiple v (Label name) held code home size = none_even s.bytes size.0
+even_by s section multiple v (Numbered number) held code home size = none_even s.bytes size.0
+even_by s section multiple v (Instruction mnemonic operands) held code home size = ap (λ n. n % 2) size.0
+even_by s section multiple v (Directs (Values width es)) held code home size = let e : true ≡ false = sym code ∙ held.0 in absurd (cc)
+even_by s section multiple v (Directs (Strings ended strings)) held code home size = let e : true ≡ false = sym code ∙ held.0 in absurd (cc)
+even_by s section multiple v (Directs (Zeros count)) held code home size = let e : true ≡ false = sym code ∙ held in absurd (cc)
+even_by s section multiple v (Directs (Aligns_to_power e)) held code home (x, y, z) = go s.located.home.executable (ap (λ x. x.executable) home ∙ code) z
+  where
+    go : (b : Bool) → b ≡ true → IsPaddedIn b s multiple (alignment_of v (Aligns_to_power e)) → s.bytes % 2 ≡ 0
+    go true e (n, low) = none_even s.bytes n
+    go false e h = absurd (cc)
+even_by s section multiple v (Directs (Aligns_to_bytes e)) held code home (x, y, z) = go s.located.home.executable (ap (λ x. x.executable) home ∙ code) z
+  where
+    go : (b : Bool) → b ≡ true → IsPaddedIn b s multiple (alignment_of v (Aligns_to_bytes e)) → s.bytes % 2 ≡ 0
+    go true e (n, low) = none_even s.bytes n
+    go false e h = absurd (cc)
+even_by s section multiple v (Directs (Enters opened)) held code home size = none_even s.bytes size.0
+even_by s section multiple v (Directs (Opens name flags kind)) held code home size = none_even s.bytes size.0
+even_by s section multiple v (Directs (Globl names)) held code home size = none_even s.bytes size.0
+even_by s section multiple v (Directs (Local names)) held code home size = none_even s.bytes size.0
+even_by s section multiple v (Directs (Sets name e)) held code home size = none_even s.bytes size.0
+even_by s section multiple v (Directs (Chooses choice)) held code home size = none_even s.bytes size.0
+even_by s section multiple v (Directs Ignored) held code home size = none_even s.bytes size.0
+
+-- ---- a section
+
+module _ (t : Tables) (index : ℕ) (section : SourceSection) (multiple : ℕ) where
+  abbrev Sized : Site → Type 0
+  Sized s = s.located.placed ≡ true → HasSize (form t s.located) s multiple s.located.kind
+
+  bytes_even : (s : Site) → section.executable ≡ true → IsSiteIn index section s → s.bytes ≡ length (flat_map part_bytes (parts_of t s)) → Sized s → s.bytes % 2 ≡ 0
+  bytes_even s code is bytes size = go s.located.placed refl
+    where
+      go : (b : Bool) → s.located.placed ≡ b → s.bytes % 2 ≡ 0
+      go true e = even_by s section multiple (form t s.located) s.located.kind is.held code is.home (size e)
+      go false e =
+          none_even s.bytes (bytes ∙ ap (λ l. length (flat_map part_bytes (map (part_of s.located.ordinal) l))) (is.bare e (form t s.located) s.bytes))
+
+  in_code : (offset : ℕ) (sites : List Site) → section.executable ≡ true → offset % 2 ≡ 0 → AllByRecursion (IsSiteIn index section) sites → Tile t offset sites → AllByRecursion Sized sites
+      → AllByRecursion IsEven sites
+  in_code offset [] code even h tile sizes = tt
+  in_code offset (s ∷ ss) code even (h, hs) (at, bytes, tile) (size, sizes) =
+      let own = bytes_even s code h bytes size in (
+        (λ text. ap (λ n. n % 2) at ∙ even),
+        in_code (offset + s.bytes) ss code (omega (arith, even, own)) hs tile sizes,
+      )
+
+  aside : (sites : List Site) → goes_to_text section ≡ false → AllByRecursion (IsSiteIn index section) sites → AllByRecursion IsEven sites
+  aside [] none h = tt
+  aside (s ∷ ss) none (h, hs) = (
+    (λ text. let e : true ≡ false = sym text ∙ ap goes_to_text h.home ∙ none in absurd (cc)),
+    aside ss none hs,
+  )
+
+-- ---- a file
+
+module _ (ss : List Statement) (o : Object) (is : IsObjectOf ss o) where
+  abbrev sections : List SourceSection
+  sections = (tables ss).opened.sections
+
+  all_settled : AllByRecursion (IsSettled sections) is.sites
+  all_settled = settled ss is.sites is.good is.located
+
+  section_even : (index : ℕ) (section : SourceSection) → slice_get sections index ≡ Some section → AllByRecursion IsEven (sites_in index is.sites)
+  section_even index section at = go (goes_to_text section) refl
+    where
+      here : AllByRecursion (IsSiteIn index section) (sites_in index is.sites)
+      here = sites_are_in sections index section is.sites at all_settled
+
+      go : (b : Bool) → goes_to_text section ≡ b → AllByRecursion IsEven (sites_in index is.sites)
+      go true text =
+          let (x, there, plain) = section_found (tables ss) is.sites is.number o.symbols 0 index sections o.sections section is.sections at in
+          let same : 0 + index ≡ index = omega arith in
+          let found = subst (λ n. IsSectionOf (tables ss) is.sites is.number o.symbols n section (sites_in n is.sites) x) same plain in
+          in_code (tables ss) index section x.alignment 0 (sites_in index is.sites) ((and_parts section.loaded section.executable text).1) refl here found.tile found.sizes
+      go false none = aside (tables ss) index section 1 (sites_in index is.sites) none here
+
+  -- what holds in each section holds of all
+  of_all : (rest : List Site) → AllByRecursion (IsSettled sections) rest → ((index : ℕ) (section : SourceSection) → slice_get sections index ≡ Some section → AllByRecursion IsEven (sites_in index rest))
+      → AllByRecursion IsEven rest
+  of_all [] h each = tt
+  of_all (s ∷ rest) (h, hs) each =
+      (first (s.located.section == s.located.section) (eq-eqb s.located.section s.located.section refl) (each s.located.section s.located.home h.home), of_all rest hs (λ index section at. later index (s.located.section == index) (each index section at)))
+    where
+      first : (b : Bool) → b ≡ true → AllByRecursion IsEven (if b then s ∷ sites_in s.located.section rest else sites_in s.located.section rest) → IsEven s
+      first true e (one, more) = one
+      first false e more = absurd (cc)
+
+      later : (index : ℕ) (b : Bool) → AllByRecursion IsEven (if b then s ∷ sites_in index rest else sites_in index rest) → AllByRecursion IsEven (sites_in index rest)
+      later index true (one, more) = more
+      later index false more = more
+
+  pub evens : AllByRecursion IsEven is.sites
+  evens = of_all is.sites all_settled section_even
