@@ -2,7 +2,7 @@
 
 use Rattle.std.proofs.Common.{◌≡◌, ℕ, zero, suc, ◌+◌, ◌-◌, Bool, true, false, List, [], ◌∷◌, ◌++◌, length, refl, ap, ◌∙◌, subst, arith, map, Option, Some, None}
 use Rattle.std.specs.Int.{w64, int_wrap}
-use Rattle.std.specs.Prelude.{⊤, pos, ◌&&◌, ◌==◌, if◌then◌else◌, filter, flat_map, option_and_then, slice_index_or}
+use Rattle.std.specs.Prelude.{⊤, pos, ◌&&◌, ◌==◌, nat_lt, if◌then◌else◌, filter, flat_map, option_and_then, slice_index_or}
 use Rattle.std.specs.List.{slice_get}
 use Rattle.rv_isa.specs.declared.kind.Kind.{Kind}
 use Rattle.rv_isa.specs.declared.kind.Kind.TheVariants.{Abs32, Abs64, Add8, Add16, Add32, Add64, Sub8, Sub16, Sub32, Sub64}
@@ -17,7 +17,7 @@ use Rattle.rv_source_laws.specs.Program.{Program, program, tables_in, address_at
 use Rattle.rv_source_laws.specs.Fits.{mapped_in}
 use Rattle.rv_object.specs.Object.{Relocation, Section, Symbol, Object}
 use Rattle.rv_object.specs.Valid.{is_align}
-use Rattle.rv_object_laws.specs.Moves.{alignments_of, by_place, plan}
+use Rattle.rv_object_laws.specs.Moves.{alignments_of, by_place, full_padding, has_padding, plan}
 use Rattle.rv_object_laws.specs.Inputs.{Starts}
 use Rattle.rv_object_laws.specs.IsLinkOf.{moves_at, map_row, row_in as linked_row, rows_of as linked_rows}
 use Rattle.rv_assemble_laws.specs.Templates.{Template, Fixed, Datum, template_fields, absolute_kind, add_kind, subtract_kind}
@@ -56,6 +56,16 @@ aligns_join (x ∷ xs) ys e f = go (is_align x.kind) e (λ g. aligns_join xs ys 
     go true g ih = absurd (cc)
     go false g ih = ih g
 
+-- where no alignment stands no padding does
+padded_none : (rs : List Relocation) → aligns rs ≡ [] → filter has_padding rs ≡ []
+padded_none [] e = refl
+padded_none (r ∷ rs) e = go (is_align r.kind) e (padded_none rs)
+  where
+    go : (b : Bool) → (if b then r ∷ aligns rs else aligns rs) ≡ [] → (aligns rs ≡ [] → filter has_padding rs ≡ [])
+        → (if b && nat_lt 0 (full_padding r) then r ∷ filter has_padding rs else filter has_padding rs) ≡ []
+    go true f ih = absurd (cc)
+    go false f ih = ih f
+
 module _ (number : Numbering) where
   template_plain : (ordinal offset : ℕ) (t : Template) → aligns (map (relocation_at number ordinal offset) (template_fields t)) ≡ []
   template_plain ordinal offset (Fixed bytes) = refl
@@ -76,14 +86,14 @@ module _ (number : Numbering) where
   section_plain : (t : Tables) (all : List Site) (symbols : List Symbol) (index : ℕ) (s : SourceSection) (x : Section)
       → IsSectionOf t all number symbols index s (sites_in index all) x → alignments_of x ≡ []
   section_plain t all symbols index s x is =
-      let none : aligns x.relocations ≡ [] = ap aligns is.relocations ∙ go s.loaded in
+      let none : filter has_padding x.relocations ≡ [] = padded_none x.relocations (ap aligns is.relocations ∙ go s.loaded) in
       either (x.loaded && x.executable) (ap by_place none)
     where
       go : (b : Bool) → aligns (if b then relocations_from number 0 (parts t (sites_in index all)) else []) ≡ []
       go true = parts_plain 0 (parts t (sites_in index all))
       go false = refl
 
-      either : (b : Bool) → by_place (aligns x.relocations) ≡ [] → (if b then by_place (aligns x.relocations) else []) ≡ []
+      either : (b : Bool) → by_place (filter has_padding x.relocations) ≡ [] → (if b then by_place (filter has_padding x.relocations) else []) ≡ []
       either true e = e
       either false e = refl
 

@@ -143,8 +143,9 @@ fn stand_apart(relocation: &Relocation, other: &Relocation) -> bool
     if !is_align(relocation) && !is_align(other) {
         return true;
     }
-    ends_within(relocation.place, holds(relocation), other.place)
-        || ends_within(other.place, holds(other), relocation.place)
+    let later = relocation.place.max(other.place);
+    ends_within(relocation.place, holds(relocation), later)
+        || ends_within(other.place, holds(other), later)
 }
 
 fn stands_apart(relocation: &Relocation, others: &[Relocation]) -> bool

@@ -158,6 +158,31 @@ const SHAPES: &[Shape] = &[
         0x1_100c,
         0x1_100c,
     ),
+    // what has no bytes meets no padding and no field: a relocation without a field, and paddings without bytes
+    (
+        &[(
+            &[(
+                b".text",
+                A | X,
+                b"\x01\0\x01\0\x01\0\x13\0\0\0\x6f\0\0\0",
+                None,
+                8,
+                &[
+                    (4, Kind::Align, None, 6),
+                    (6, Kind::None, None, 0),
+                    (8, Kind::Align, None, 0),
+                    (10, Kind::Jal, Some(0), 0),
+                    (12, Kind::Align, None, 0),
+                ],
+            )],
+            &[START],
+        )],
+        b"\x01\0\x01\0\x13\0\0\0\x6f\xf0\x9f\xff",
+        b"",
+        b"",
+        0x1_1000,
+        0x1_1000,
+    ),
     // code without bytes in the file
     (
         &[

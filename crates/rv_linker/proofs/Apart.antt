@@ -1,16 +1,16 @@
 -- The paddings and fields of a section do not meet, so its fields lie in what is kept of it.
 
 use Rattle.std.proofs.Common.{◌≡◌, ◌⊎◌, inl, inr, ℕ, ◌+◌, ◌-◌, ◌<◌, ◌≤◌, Bool, true, false, List, [], ◌∷◌, length, refl, sym, ap, ◌∙◌, subst, arith, Option, Some, None}
-use Rattle.std.proofs.lemmas.Bool.{and_parts, leb-true, le-leb}
+use Rattle.std.proofs.lemmas.Bool.{and_parts, leb-true, ltb-true, le-leb}
 use Rattle.std.proofs.lemmas.Bool.Decides.{nat_tests}
-use Rattle.std.specs.Prelude.{◌&&◌, ◌||◌, not, nat_le, filter, unwrap_or, if◌then◌else◌}
+use Rattle.std.specs.Prelude.{◌&&◌, ◌||◌, not, nat_le, nat_lt, max, filter, unwrap_or, if◌then◌else◌}
 use Rattle.std.specs.List.{AllByRecursion, list_all}
 use Rattle.rv_isa.specs.declared.kind.Kind.{Kind}
 use Rattle.rv_isa.specs.declared.kind.Kind.TheVariants as kinds
 use Rattle.rv_isa.specs.Kinds.{width_of}
 use Rattle.rv_object.specs.Object.{Contents, Progbits, Note, Nobits, Relocation, Section, size_of}
 use Rattle.rv_object.specs.Valid.{is_align, padding_of, is_padding, is_padding_of, held, are_apart, are_all_apart, are_paddings, fits_inside, fit_inside}
-use Rattle.rv_object_laws.specs.Moves.{full_padding, no_operations, aligned, alignment_of, inserted, by_place, plan, moves, new_offset, has_room}
+use Rattle.rv_object_laws.specs.Moves.{full_padding, has_padding, no_operations, aligned, alignment_of, inserted, by_place, plan, moves, new_offset, has_room}
 use Rattle.rv_linker.proofs.Following.{Follow, Clears, field_inside}
 
 -- ---- tests
@@ -67,28 +67,46 @@ Apart r q = (r.place + full_padding r ≤ q.place) ⊎ (q.place + full_padding q
 abbrev pub Beside : Relocation → Relocation → Type 0
 Beside r q = (r.place + width_of r.kind ≤ q.place) ⊎ (q.place + full_padding q ≤ r.place)
 
-held_apart : (r q : Relocation) → (is_align r.kind || is_align q.kind) ≡ true → are_apart r q ≡ true
+padded : (r : Relocation) → has_padding r ≡ true → (is_align r.kind ≡ true) × (0 < full_padding r)
+padded r h =
+    let both = and_parts (is_align r.kind) (nat_lt 0 (full_padding r)) h in
+    (both.0, ltb-true 0 (full_padding r) both.1)
+
+-- one with bytes that ends before the later of two begins stands before the other
+before_other : (a b count : ℕ) → 0 < count → a + count ≤ max a b → a + count ≤ b
+before_other a b count some h = omega (arith, some, h)
+
+before_first : (a b count : ℕ) → 0 < count → b + count ≤ max a b → b + count ≤ a
+before_first a b count some h = omega (arith, some, h)
+
+held_apart : (r q : Relocation) → (is_align r.kind || is_align q.kind) ≡ true → 0 < held r → 0 < held q → are_apart r q ≡ true
     → (r.place + held r ≤ q.place) ⊎ (q.place + held q ≤ r.place)
-held_apart r q e h = elim (either (is_align r.kind || is_align q.kind) _ _ e h) [
-  | inl before ↦ inl (leb-true (r.place + held r) q.place before)
-  | inr after ↦ inr (leb-true (q.place + held q) r.place after)
+held_apart r q e some other h = elim (either (is_align r.kind || is_align q.kind) _ _ e h) [
+  | inl before ↦ inl (before_other r.place q.place (held r) some (leb-true (r.place + held r) (max r.place q.place) before))
+  | inr after ↦ inr (before_first r.place q.place (held q) other (leb-true (q.place + held q) (max r.place q.place) after))
 ]
 
-paddings_apart : (r q : Relocation) → is_align r.kind ≡ true → is_align q.kind ≡ true → are_apart r q ≡ true → Apart r q
-paddings_apart r q e f h = elim (held_apart r q (or_left (is_align r.kind) _ e) h) [
-  | inl before ↦ inl (subst (λ n. r.place + n ≤ q.place) (held_align r e) before)
-  | inr after ↦ inr (subst (λ n. q.place + n ≤ r.place) (held_align q f) after)
+held_some : (r : Relocation) → has_padding r ≡ true → 0 < held r
+held_some r h = let p = padded r h in subst (λ n. 0 < n) (sym (held_align r p.0)) p.1
+
+width_some : (r : Relocation) → is_align r.kind ≡ false → 0 < width_of r.kind → 0 < held r
+width_some r e has = subst (λ n. 0 < n) (sym (held_field r e)) has
+
+paddings_apart : (r q : Relocation) → has_padding r ≡ true → has_padding q ≡ true → are_apart r q ≡ true → Apart r q
+paddings_apart r q e f h = elim (held_apart r q (or_left (is_align r.kind) _ (padded r e).0) (held_some r e) (held_some q f) h) [
+  | inl before ↦ inl (subst (λ n. r.place + n ≤ q.place) (held_align r (padded r e).0) before)
+  | inr after ↦ inr (subst (λ n. q.place + n ≤ r.place) (held_align q (padded q f).0) after)
 ]
 
-field_before : (r q : Relocation) → is_align r.kind ≡ false → is_align q.kind ≡ true → are_apart r q ≡ true → Beside r q
-field_before r q e f h = elim (held_apart r q (or_right (is_align r.kind) _ f) h) [
+field_before : (r q : Relocation) → is_align r.kind ≡ false → 0 < width_of r.kind → has_padding q ≡ true → are_apart r q ≡ true → Beside r q
+field_before r q e has f h = elim (held_apart r q (or_right (is_align r.kind) _ (padded q f).0) (width_some r e has) (held_some q f) h) [
   | inl before ↦ inl (subst (λ n. r.place + n ≤ q.place) (held_field r e) before)
-  | inr after ↦ inr (subst (λ n. q.place + n ≤ r.place) (held_align q f) after)
+  | inr after ↦ inr (subst (λ n. q.place + n ≤ r.place) (held_align q (padded q f).0) after)
 ]
 
-field_after : (q r : Relocation) → is_align q.kind ≡ true → is_align r.kind ≡ false → are_apart q r ≡ true → Beside r q
-field_after q r f e h = elim (held_apart q r (or_left (is_align q.kind) _ f) h) [
-  | inl before ↦ inr (subst (λ n. q.place + n ≤ r.place) (held_align q f) before)
+field_after : (q r : Relocation) → has_padding q ≡ true → is_align r.kind ≡ false → 0 < width_of r.kind → are_apart q r ≡ true → Beside r q
+field_after q r f e has h = elim (held_apart q r (or_left (is_align q.kind) _ (padded q f).0) (held_some q f) (width_some r e has) h) [
+  | inl before ↦ inr (subst (λ n. q.place + n ≤ r.place) (held_align q (padded q f).0) before)
   | inr after ↦ inl (subst (λ n. r.place + n ≤ q.place) (held_field r e) after)
 ]
 
@@ -129,20 +147,20 @@ all_by_place P [] h = tt
 all_by_place P (r ∷ rs) (one, h) = all_inserted P r (by_place rs) one (all_by_place P rs h)
 
 abbrev aligns : List Relocation → List Relocation
-aligns rs = filter (λ r. is_align r.kind) rs
+aligns rs = filter has_padding rs
 
-apart_from : (r : Relocation) (rs : List Relocation) → is_align r.kind ≡ true → list_all (are_apart r) rs ≡ true → AllByRecursion (Apart r) (aligns rs)
+apart_from : (r : Relocation) (rs : List Relocation) → has_padding r ≡ true → list_all (are_apart r) rs ≡ true → AllByRecursion (Apart r) (aligns rs)
 apart_from r [] e h = tt
 apart_from r (q ∷ qs) e h =
-    go (is_align q.kind) refl (apart_from r qs e ((and_parts (are_apart r q) (list_all (are_apart r) qs) h).1)) where
-      go : (b : Bool) → is_align q.kind ≡ b → AllByRecursion (Apart r) (aligns qs) → AllByRecursion (Apart r) (if b then q ∷ aligns qs else aligns qs)
+    go (has_padding q) refl (apart_from r qs e ((and_parts (are_apart r q) (list_all (are_apart r) qs) h).1)) where
+      go : (b : Bool) → has_padding q ≡ b → AllByRecursion (Apart r) (aligns qs) → AllByRecursion (Apart r) (if b then q ∷ aligns qs else aligns qs)
       go true f more = (paddings_apart r q e f ((and_parts (are_apart r q) (list_all (are_apart r) qs) h).0), more)
       go false f more = more
 
 pub ordered : (c : Contents) (rs : List Relocation) → list_all (is_padding true c) rs ≡ true → are_all_apart rs ≡ true → AreOrdered 0 (by_place (aligns rs)) (size_of c)
 ordered c [] h apart = omega arith
 ordered c (r ∷ rs) h apart =
-    go (is_align r.kind) refl
+    go (has_padding r) refl
     (ordered c rs ((and_parts (is_padding true c r) (list_all (is_padding true c) rs) h).1) ((and_parts (list_all (are_apart r) rs) (are_all_apart rs) apart).1)) where
       one : is_padding true c r ≡ true
       one = (and_parts (is_padding true c r) (list_all (is_padding true c) rs) h).0
@@ -150,9 +168,9 @@ ordered c (r ∷ rs) h apart =
       others : list_all (are_apart r) rs ≡ true
       others = (and_parts (list_all (are_apart r) rs) (are_all_apart rs) apart).0
 
-      go : (b : Bool) → is_align r.kind ≡ b → AreOrdered 0 (by_place (aligns rs)) (size_of c) → AreOrdered 0 (by_place (if b then r ∷ aligns rs else aligns rs)) (size_of c)
+      go : (b : Bool) → has_padding r ≡ b → AreOrdered 0 (by_place (aligns rs)) (size_of c) → AreOrdered 0 (by_place (if b then r ∷ aligns rs else aligns rs)) (size_of c)
       go true e more =
-          inserted_ordered r (by_place (aligns rs)) 0 (size_of c) more (omega arith) (padding_inside c r e one)
+          inserted_ordered r (by_place (aligns rs)) 0 (size_of c) more (omega arith) (padding_inside c r (padded r e).0 one)
           (all_by_place (Apart r) (aligns rs) (apart_from r rs e others))
       go false e more = more
 
@@ -173,12 +191,12 @@ plan_clear place width (r ∷ rs) base gone (one, h) =
 
 -- ---- fields
 
-beside_after : (r : Relocation) (rs : List Relocation) → is_align r.kind ≡ false → list_all (are_apart r) rs ≡ true → AllByRecursion (Beside r) (aligns rs)
-beside_after r [] e h = tt
-beside_after r (q ∷ qs) e h =
-    go (is_align q.kind) refl (beside_after r qs e ((and_parts (are_apart r q) (list_all (are_apart r) qs) h).1)) where
-      go : (b : Bool) → is_align q.kind ≡ b → AllByRecursion (Beside r) (aligns qs) → AllByRecursion (Beside r) (if b then q ∷ aligns qs else aligns qs)
-      go true f more = (field_before r q e f ((and_parts (are_apart r q) (list_all (are_apart r) qs) h).0), more)
+beside_after : (r : Relocation) (rs : List Relocation) → is_align r.kind ≡ false → 0 < width_of r.kind → list_all (are_apart r) rs ≡ true → AllByRecursion (Beside r) (aligns rs)
+beside_after r [] e has h = tt
+beside_after r (q ∷ qs) e has h =
+    go (has_padding q) refl (beside_after r qs e has ((and_parts (are_apart r q) (list_all (are_apart r) qs) h).1)) where
+      go : (b : Bool) → has_padding q ≡ b → AllByRecursion (Beside r) (aligns qs) → AllByRecursion (Beside r) (if b then q ∷ aligns qs else aligns qs)
+      go true f more = (field_before r q e has f ((and_parts (are_apart r q) (list_all (are_apart r) qs) h).0), more)
       go false f more = more
 
 at_member : (test : Relocation → Bool) (r : Relocation) (rs : List Relocation) → IsIn r rs → list_all test rs ≡ true → test r ≡ true
@@ -186,20 +204,20 @@ at_member test r [] in' h = absurd in'
 at_member test r (q ∷ qs) (inl e) h = ap test e ∙ (and_parts (test q) (list_all test qs) h).0
 at_member test r (q ∷ qs) (inr later) h = at_member test r qs later ((and_parts (test q) (list_all test qs) h).1)
 
-beside_all : (r : Relocation) (rs : List Relocation) → IsIn r rs → is_align r.kind ≡ false → are_all_apart rs ≡ true → AllByRecursion (Beside r) (aligns rs)
-beside_all r [] in' e h = absurd in'
-beside_all r (q ∷ qs) (inl same) e h =
-    go (is_align q.kind) refl where
+beside_all : (r : Relocation) (rs : List Relocation) → IsIn r rs → is_align r.kind ≡ false → 0 < width_of r.kind → are_all_apart rs ≡ true → AllByRecursion (Beside r) (aligns rs)
+beside_all r [] in' e has h = absurd in'
+beside_all r (q ∷ qs) (inl same) e has h =
+    go (has_padding q) refl where
       parts : (list_all (are_apart q) qs ≡ true) × (are_all_apart qs ≡ true)
       parts = and_parts (list_all (are_apart q) qs) (are_all_apart qs) h
 
-      go : (b : Bool) → is_align q.kind ≡ b → AllByRecursion (Beside r) (if b then q ∷ aligns qs else aligns qs)
-      go true f = absurd (let both : true ≡ false = sym f ∙ ap (λ x. is_align x.kind) (sym same) ∙ e in cc)
-      go false f = beside_after r qs e (ap (λ x. list_all (are_apart x) qs) same ∙ parts.0)
-beside_all r (q ∷ qs) (inr later) e h =
-    go (is_align q.kind) refl (beside_all r qs later e ((and_parts (list_all (are_apart q) qs) (are_all_apart qs) h).1)) where
-      go : (b : Bool) → is_align q.kind ≡ b → AllByRecursion (Beside r) (aligns qs) → AllByRecursion (Beside r) (if b then q ∷ aligns qs else aligns qs)
-      go true f more = (field_after q r f e (at_member (are_apart q) r qs later ((and_parts (list_all (are_apart q) qs) (are_all_apart qs) h).0)), more)
+      go : (b : Bool) → has_padding q ≡ b → AllByRecursion (Beside r) (if b then q ∷ aligns qs else aligns qs)
+      go true f = absurd (let both : true ≡ false = sym (padded q f).0 ∙ ap (λ x. is_align x.kind) (sym same) ∙ e in cc)
+      go false f = beside_after r qs e has (ap (λ x. list_all (are_apart x) qs) same ∙ parts.0)
+beside_all r (q ∷ qs) (inr later) e has h =
+    go (has_padding q) refl (beside_all r qs later e has ((and_parts (list_all (are_apart q) qs) (are_all_apart qs) h).1)) where
+      go : (b : Bool) → has_padding q ≡ b → AllByRecursion (Beside r) (aligns qs) → AllByRecursion (Beside r) (if b then q ∷ aligns qs else aligns qs)
+      go true f more = (field_after q r f e has (at_member (are_apart q) r qs later ((and_parts (list_all (are_apart q) qs) (are_all_apart qs) h).0)), more)
       go false f more = more
 
 field_ends : (c : Contents) (r : Relocation) → 0 < width_of r.kind → fits_inside c r ≡ true → r.place + width_of r.kind ≤ size_of c
@@ -233,7 +251,7 @@ module _ (s : Section) (base : ℕ) (paddings : are_paddings s.executable s.cont
     go true e =
         let h : (list_all (is_padding true s.contents) s.relocations ≡ true) × (are_all_apart s.relocations ≡ true) = both ((and_parts s.loaded s.executable e).1) in
         plan_clear r.place (width_of r.kind) (by_place (aligns s.relocations)) base 0
-        (all_by_place (Beside r) (aligns s.relocations) (beside_all r s.relocations in' (has_no_padding r.kind has) h.1))
+        (all_by_place (Beside r) (aligns s.relocations) (beside_all r s.relocations in' (has_no_padding r.kind has) has h.1))
     go false e = tt
 
   -- each field lies in what is kept of the section

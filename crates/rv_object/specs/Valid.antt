@@ -1,7 +1,7 @@
 -- What every object keeps of what a reader of files tests (System V gABI, "Sections", "Symbol Table", "Relocation";
 -- RISC-V ELF psABI, "Relocations"; this project's refusals).
 
-use Rattle.std.specs.Prelude.{ℕ, ℤ, pos, negsuc, unwrap_or, ◌+◌, ◌%◌, ◌^◌, Bool, true, false, not, ◌&&◌, ◌||◌, ◌==◌, nat_le, nat_lt, List, [], ◌∷◌, length, codes, Option, Some, None, bytes_eq, if◌then◌else◌}
+use Rattle.std.specs.Prelude.{ℕ, ℤ, pos, negsuc, unwrap_or, ◌+◌, ◌%◌, ◌^◌, Bool, true, false, not, ◌&&◌, ◌||◌, ◌==◌, nat_le, nat_lt, max, List, [], ◌∷◌, length, codes, Option, Some, None, bytes_eq, if◌then◌else◌}
 use Rattle.std.specs.List.{list_all, list_any, slice_get}
 use Rattle.rv_isa.specs.declared.kind.Kind.{Kind}
 use Rattle.rv_isa.specs.declared.kind.Kind.TheVariants as kinds
@@ -66,11 +66,12 @@ is_padding executable c r =
 abbrev pub held : Relocation → ℕ
 held r = if is_align r.kind then unwrap_or (padding_of r.addend) 0 else width_of r.kind
 
--- a padding meets no field and no other padding
+-- a padding meets no field and no other padding: one of two ends before the later begins, as what has no bytes does
 abbrev pub are_apart : Relocation → Relocation → Bool
 are_apart r q =
-    not (is_align r.kind || is_align q.kind) || nat_le (r.place + held r) q.place
-    || nat_le (q.place + held q) r.place
+    let later = max r.place q.place in
+    not (is_align r.kind || is_align q.kind) || nat_le (r.place + held r) later
+    || nat_le (q.place + held q) later
 
 abbrev pub are_all_apart : List Relocation → Bool
 are_all_apart [] = true

@@ -38,6 +38,10 @@ aligned alignment n = (n + (alignment - 1)) / alignment * alignment
 abbrev pub full_padding : Relocation → ℕ
 full_padding r = unwrap_or (padding_of r.addend) 0
 
+-- an alignment with bytes of padding
+abbrev pub has_padding : Relocation → Bool
+has_padding r = is_align r.kind && nat_lt 0 (full_padding r)
+
 -- the least power of two above the addend
 abbrev pub alignment_of : Relocation → ℕ
 alignment_of r =
@@ -57,8 +61,8 @@ no_operations bytes = four_each (bytes / 4) ++ (if nat_le 2 (bytes % 4) then 0x0
 abbrev pub operations_in : ℕ → ℕ
 operations_in bytes = bytes / 4 + bytes % 4 / 2
 
--- the alignments of a section of code in the order of their places, whatever the order of its relocations: before those
--- that begin where it ends or later (so that one without bytes stands before the padding at its place)
+-- the paddings of a section of code in the order of their places, whatever the order of its relocations: before those that
+-- begin where it ends or later
 abbrev pub inserted : Relocation → List Relocation → List Relocation
 inserted r [] = r ∷ []
 inserted r (q ∷ qs) =
@@ -70,7 +74,7 @@ by_place (r ∷ rs) = inserted r (by_place rs)
 
 abbrev pub alignments_of : Section → List Relocation
 alignments_of s =
-    if s.loaded && s.executable then by_place (filter (λ r. is_align r.kind) s.relocations) else []
+    if s.loaded && s.executable then by_place (filter has_padding s.relocations) else []
 
 -- each alignment keeps the least padding with which it ends at a multiple, where the section begins at an address and so
 -- many of its bytes are dropped so far

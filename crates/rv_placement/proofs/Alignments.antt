@@ -6,8 +6,7 @@ use Rattle.std.proofs.lemmas.List.{drop_more}
 use Rattle.rv_object.specs.Object.{Relocation, Section, Object}
 use Rattle.rv_object.specs.declared.relocation.Relocation.{Relocation as Declared}
 use Rattle.rv_object.specs.Parts.{relocation_of}
-use Rattle.rv_object.specs.Valid.{is_align}
-use Rattle.rv_object_laws.specs.Moves.{alignment_of, alignments_of, inserted, by_place, full_padding}
+use Rattle.rv_object_laws.specs.Moves.{has_padding, alignment_of, alignments_of, inserted, by_place, full_padding}
 use Rattle.rv_object_laws.specs.Inputs.{raised, begins_at, goes_to_text}
 use Rattle.rv_placement.specs.Alignments.{asked, raised_by}
 use Rattle.rv_placement.specs.Walk.{greatest_in, greatest_of}
@@ -31,13 +30,13 @@ raised_inserted r (q ∷ qs) a = go (nat_le (r.place + full_padding r) q.place) 
         swap x y z = omega arith
 
 -- the order of places makes no difference
-raised_is : (rs : List Relocation) (a : ℕ) → raised (by_place (filter (λ r. is_align r.kind) rs)) a ≡ raised_by rs a
+raised_is : (rs : List Relocation) (a : ℕ) → raised (by_place (filter has_padding rs)) a ≡ raised_by rs a
 raised_is [] a = refl
-raised_is (r ∷ rs) a = go (is_align r.kind) (raised_is rs a)
+raised_is (r ∷ rs) a = go (has_padding r) (raised_is rs a)
   where
-    go : (b : Bool) → raised (by_place (filter (λ r. is_align r.kind) rs)) a ≡ raised_by rs a
-        → raised (by_place (if b then r ∷ filter (λ r. is_align r.kind) rs else filter (λ r. is_align r.kind) rs)) a ≡ max (if b then alignment_of r else 0) (raised_by rs a)
-    go true h = raised_inserted r (by_place (filter (λ r. is_align r.kind) rs)) a ∙ ap (max (alignment_of r)) h
+    go : (b : Bool) → raised (by_place (filter has_padding rs)) a ≡ raised_by rs a
+        → raised (by_place (if b then r ∷ filter has_padding rs else filter has_padding rs)) a ≡ max (if b then alignment_of r else 0) (raised_by rs a)
+    go true h = raised_inserted r (by_place (filter has_padding rs)) a ∙ ap (max (alignment_of r)) h
     go false h = h ∙ none (raised_by rs a)
       where
         none : (x : ℕ) → x ≡ max 0 x
@@ -45,12 +44,12 @@ raised_is (r ∷ rs) a = go (is_align r.kind) (raised_is rs a)
 
 pub begins_text : (s : Section) → goes_to_text s ≡ true → begins_at s ≡ raised_by s.relocations (max s.alignment 2)
 begins_text s e =
-    ap (λ b. raised (if b then by_place (filter (λ r. is_align r.kind) s.relocations) else []) (max (if b then 2 else 1) s.alignment)) e
+    ap (λ b. raised (if b then by_place (filter has_padding s.relocations) else []) (max (if b then 2 else 1) s.alignment)) e
     ∙ raised_is s.relocations (max 2 s.alignment) ∙ ap (raised_by s.relocations) (let same : max 2 s.alignment ≡ max s.alignment 2 = omega arith in same)
 
 pub begins_other : (s : Section) → goes_to_text s ≡ false → begins_at s ≡ max s.alignment 1
 begins_other s e =
-    ap (λ b. raised (if b then by_place (filter (λ r. is_align r.kind) s.relocations) else []) (max (if b then 2 else 1) s.alignment)) e
+    ap (λ b. raised (if b then by_place (filter has_padding s.relocations) else []) (max (if b then 2 else 1) s.alignment)) e
     ∙ (let same : max 1 s.alignment ≡ max s.alignment 1 = omega arith in same)
 
 -- a section begins at a multiple of one or more

@@ -1,12 +1,12 @@
 -- What a section loses is bounded by the count of its relocations.
 
-use Rattle.std.proofs.Common.{◌≡◌, ◌<◌, ◌≤◌, ◌+◌, ◌-◌, ◌*◌, ◌%◌, ◌^◌, ℕ, Bool, true, false, Option, Some, None, List, [], ◌∷◌, length, nat_le, refl, ap, ◌∙◌, arith}
+use Rattle.std.proofs.Common.{◌≡◌, ◌<◌, ◌≤◌, ◌+◌, ◌-◌, ◌*◌, ◌%◌, ◌^◌, ℕ, Bool, true, false, Option, Some, None, List, [], ◌∷◌, length, nat_le, nat_lt, refl, ap, ◌∙◌, arith}
 use Rattle.std.specs.Prelude.{unwrap_or, filter, not, ◌&&◌, ◌||◌, ◌==◌, IsTrue, if◌then◌else◌}
 use Rattle.std.specs.List.{list_all}
 use Rattle.std.proofs.lemmas.Bool.{leb-true}
 use Rattle.rv_object.specs.Object.{Contents, Relocation, Section, size_of}
 use Rattle.rv_object.specs.Valid.{is_align, is_padding, is_padding_of, are_paddings, are_all_apart, padding_of}
-use Rattle.rv_object_laws.specs.Moves.{aligned, alignment_of, dropped, new_offset, plan, moves, inserted, by_place, full_padding}
+use Rattle.rv_object_laws.specs.Moves.{has_padding, aligned, alignment_of, dropped, new_offset, plan, moves, inserted, by_place, full_padding}
 
 -- the bytes of paddings
 abbrev total : List Relocation → ℕ
@@ -50,27 +50,28 @@ low_of e c place (Some n) h = go (n % 2 == 0) (nat_le n 4094) refl (not e || (pl
     go true false same d k = absurd (cc)
     go false false same d k = absurd (cc)
 
-most_aligned : (e : Bool) (c : Contents) (rs : List Relocation) → IsTrue (list_all (is_padding e c) rs) → total (filter (λ r. is_align r.kind) rs) ≤ 4094 * length rs
+most_aligned : (e : Bool) (c : Contents) (rs : List Relocation) → IsTrue (list_all (is_padding e c) rs) → total (filter has_padding rs) ≤ 4094 * length rs
 most_aligned e c [] h = omega arith
 most_aligned e c (r ∷ rs) h =
     let more = most_aligned e c rs (second (is_padding e c r) (list_all (is_padding e c) rs) h) in
-    go (is_align r.kind) refl more (first (is_padding e c r) (list_all (is_padding e c) rs) h)
+    go (is_align r.kind) (nat_lt 0 (full_padding r)) more (first (is_padding e c r) (list_all (is_padding e c) rs) h)
   where
-    go : (b : Bool) → is_align r.kind ≡ b → total (filter (λ r. is_align r.kind) rs) ≤ 4094 * length rs → IsTrue (not b || is_padding_of e c r.place (padding_of r.addend))
-        → total (if b then r ∷ filter (λ r. is_align r.kind) rs else filter (λ r. is_align r.kind) rs) ≤ 4094 * length (r ∷ rs)
-    go true same more k = let low = low_of e c r.place (padding_of r.addend) k in omega arith
-    go false same more k = omega arith
+    go : (a some : Bool) → total (filter has_padding rs) ≤ 4094 * length rs → IsTrue (not a || is_padding_of e c r.place (padding_of r.addend))
+        → total (if a && some then r ∷ filter has_padding rs else filter has_padding rs) ≤ 4094 * length (r ∷ rs)
+    go true true more k = let low = low_of e c r.place (padding_of r.addend) k in omega arith
+    go true false more k = omega arith
+    go false some more k = omega arith
 
 most_dropped : (s : Section) (start old : ℕ) → IsTrue (are_paddings s.executable s.contents s.relocations) → dropped (moves start s) old ≤ 4094 * length s.relocations
 most_dropped s start old h =
     let low = most_aligned s.executable s.contents s.relocations (first (list_all (is_padding s.executable s.contents) s.relocations) (not s.executable || are_all_apart s.relocations) h) in
     go (s.loaded && s.executable) low
   where
-    go : (b : Bool) → total (filter (λ r. is_align r.kind) s.relocations) ≤ 4094 * length s.relocations
-        → dropped (plan start 0 (if b then by_place (filter (λ r. is_align r.kind) s.relocations) else [])) old ≤ 4094 * length s.relocations
+    go : (b : Bool) → total (filter has_padding s.relocations) ≤ 4094 * length s.relocations
+        → dropped (plan start 0 (if b then by_place (filter has_padding s.relocations) else [])) old ≤ 4094 * length s.relocations
     go true low =
-        let most = dropped_most start 0 old (by_place (filter (λ r. is_align r.kind) s.relocations)) in
-        let same = total_placed (filter (λ r. is_align r.kind) s.relocations) in
+        let most = dropped_most start 0 old (by_place (filter has_padding s.relocations)) in
+        let same = total_placed (filter has_padding s.relocations) in
         omega arith
     go false low = omega arith
 

@@ -2,11 +2,10 @@
 
 use Rattle.std.proofs.Common.{suc, ◌≡◌, ◌<◌, ◌≤◌, ◌+◌, ◌-◌, ◌^◌, ℕ, Bool, true, false, Option, Some, None, List, [], ◌∷◌, ◌++◌, map, max, nat_lt, refl, sym, ap, subst, ◌∙◌, append_assoc, arith}
 use Rattle.std.specs.Prelude.{if◌then◌else◌, ⊤, filter}
-use Rattle.rv_object.specs.Valid.{is_align}
 use Rattle.std.specs.List.{AllZip, slice_get}
 use Rattle.rv_map.specs.declared.map.Region.{Region}
 use Rattle.rv_object.specs.Object.{Section, Object, size_of}
-use Rattle.rv_object_laws.specs.Moves.{plan, by_place, moves, new_offset}
+use Rattle.rv_object_laws.specs.Moves.{has_padding, plan, by_place, moves, new_offset}
 use Rattle.rv_object_laws.specs.Inputs.{Starts, InputSection, goes_to_text, begins_at, inputs_from, inputs_of, start_of, size, Stand, end_of, gaps_of, greatest}
 use Rattle.rv_placement.specs.declared.placement.PlacedSection.{PlacedSection}
 use Rattle.rv_placement.specs.Placement.{start_in}
@@ -48,7 +47,7 @@ chosen_still to other stop last (q ∷ qs) (s ∷ ss) apart h = (
 
 -- a section that isn't in the text loses nothing
 pub moves_other : (s : Section) (base : ℕ) → goes_to_text s ≡ false → moves base s ≡ []
-moves_other s base e = ap (λ b. plan base 0 (if b then by_place (filter (λ r. is_align r.kind) s.relocations) else [])) e
+moves_other s base e = ap (λ b. plan base 0 (if b then by_place (filter has_padding s.relocations) else [])) e
 
 whole_other : (s : Section) (base old : ℕ) → goes_to_text s ≡ false → new_offset (moves base s) old ≡ old
 whole_other s base old e = ap (λ ms. new_offset ms old) (moves_other s base e) ∙ (let same : old - 0 ≡ old = omega arith in same)

@@ -2,12 +2,11 @@
 
 use Rattle.std.specs.Prelude.{ℕ, max, List, [], ◌∷◌, if◌then◌else◌}
 use Rattle.rv_object.specs.Object.{Relocation}
-use Rattle.rv_object.specs.Valid.{is_align}
-use Rattle.rv_object_laws.specs.Moves.{alignment_of}
+use Rattle.rv_object_laws.specs.Moves.{alignment_of, has_padding}
 
--- the multiple for which a relocation asks; 0 where it is no alignment
+-- the multiple for which a relocation asks; 0 where it is no alignment with bytes of padding
 abbrev pub asked : Relocation → ℕ
-asked r = if is_align r.kind then alignment_of r else 0
+asked r = if has_padding r then alignment_of r else 0
 
 abbrev pub raised_by : List Relocation → ℕ → ℕ
 raised_by [] alignment = alignment

@@ -10,9 +10,8 @@ ghost use Rattle.rv_placement.specs.Alignments as laws;
 ghost use Rattle.rv_placement.specs.Walk as walk;
 
 use crate::destination::{Destination, goes_to, is_text};
-use rv_isa::Kind;
 use rv_object::{Object, Relocation, Section};
-use rv_relax::asked_alignment;
+use rv_relax::{asked_alignment, has_padding};
 
 /// The least multiple of an alignment that is not below an address.
 pub(crate) fn next_multiple(alignment: u64, address: u64) -> u64
@@ -24,14 +23,15 @@ pub(crate) fn next_multiple(alignment: u64, address: u64) -> u64
     (address + (alignment - 1)) / alignment * alignment
 }
 
-/// The multiple for which a relocation asks; 0 where it is no alignment.
+/// The multiple for which a relocation asks; 0 where it is no alignment with bytes of padding.
 fn asked(relocation: &Relocation) -> u64
     ensures value { result ≡ laws.asked (relocation_of relocation.now) }
     ensures small { result ≤ 4096 }
 {
-    match relocation.kind {
-        Kind::Align => asked_alignment(relocation),
-        _ => 0,
+    if has_padding(relocation) {
+        asked_alignment(relocation)
+    } else {
+        0
     }
 }
 

@@ -1,13 +1,13 @@
 -- The paddings of a section of code lie in it, apart from each other: so they stand in order.
 
-use Rattle.std.proofs.Common.{◌≡◌, ℕ, ◌+◌, ◌%◌, ◌^◌, ◌<◌, ◌≤◌, ◌⊎◌, inl, inr, Bool, true, false, not, cond, ◌&&◌, ◌||◌, nat_le, List, [], ◌∷◌, Option, Some, None, refl, sym, ap, ◌∙◌, arith}
+use Rattle.std.proofs.Common.{◌≡◌, ℕ, ◌+◌, ◌%◌, ◌^◌, ◌<◌, ◌≤◌, ◌⊎◌, inl, inr, Bool, true, false, not, cond, ◌&&◌, ◌||◌, nat_le, nat_lt, max, List, [], ◌∷◌, Option, Some, None, refl, sym, ap, ◌∙◌, arith}
 use Rattle.std.specs.Prelude.{◌==◌, unwrap_or}
 use Rattle.std.specs.List.{list_all, filter}
-use Rattle.std.proofs.lemmas.Bool.{leb-true, and_parts, and_from, or_left, or_right}
+use Rattle.std.proofs.lemmas.Bool.{leb-true, ltb-true, le-leb, and_parts, and_from, or_left, or_right}
 use Rattle.rv_isa.specs.Kinds.{width_of}
 use Rattle.rv_object.specs.Object.{Relocation, Contents, size_of}
 use Rattle.rv_object.specs.Valid.{is_align, is_padding, is_padding_of, padding_of, held, are_apart, are_all_apart, are_paddings}
-use Rattle.rv_object_laws.specs.Moves.{full_padding, inserted, by_place}
+use Rattle.rv_object_laws.specs.Moves.{full_padding, has_padding, inserted, by_place}
 use Rattle.rv_relax.specs.Paddings.{are_alignments}
 use Rattle.rv_relax.proofs.Planned.{IsNextAlignment, next_alignment, other_alignments, next_is}
 
@@ -41,6 +41,11 @@ lies c r align h =
     let both = padding_lies c r.place (padding_of r.addend) (sym (ap (λ b. not b || is_padding_of true c r.place (padding_of r.addend)) align) ∙ h) in
     record { short = both.0; within = both.1 }
 
+padded : (r : Relocation) → has_padding r ≡ true → (is_align r.kind ≡ true) × (0 < full_padding r)
+padded r h =
+    let both = and_parts (is_align r.kind) (nat_lt 0 (full_padding r)) h in
+    (both.0, ltb-true 0 (full_padding r) both.1)
+
 -- ---- two of them
 
 held_full : (r : Relocation) → is_align r.kind ≡ true → held r ≡ full_padding r
@@ -50,24 +55,32 @@ held_full r align = ap (λ b. cond b (unwrap_or (padding_of r.addend) 0) (width_
 abbrev pub are_clear : Relocation → Relocation → Bool
 are_clear r q = nat_le (r.place + full_padding r) q.place || nat_le (q.place + full_padding q) r.place
 
-clear : (r q : Relocation) → is_align r.kind ≡ true → is_align q.kind ≡ true → are_apart r q ≡ true → are_clear r q ≡ true
-clear r q align other h =
-    from (either (not (is_align r.kind || is_align q.kind)) (nat_le (r.place + held r) q.place) (nat_le (q.place + held q) r.place) h
-    (ap (λ b. not (b || is_align q.kind)) align))
+clear : (r q : Relocation) → has_padding r ≡ true → has_padding q ≡ true → are_apart r q ≡ true → are_clear r q ≡ true
+clear r q first second h =
+    from (either (not (is_align r.kind || is_align q.kind)) (nat_le (r.place + held r) (max r.place q.place)) (nat_le (q.place + held q) (max r.place q.place)) h
+    (ap (λ b. not (b || is_align q.kind)) (padded r first).0))
   where
-    from : (nat_le (r.place + held r) q.place ≡ true) ⊎ (nat_le (q.place + held q) r.place ≡ true) → are_clear r q ≡ true
-    from (inl e) = or_left (nat_le (r.place + full_padding r) q.place) (nat_le (q.place + full_padding q) r.place) (ap (λ n. nat_le (r.place + n) q.place) (sym (held_full r align)) ∙ e)
-    from (inr e) = or_right (nat_le (r.place + full_padding r) q.place) (nat_le (q.place + full_padding q) r.place) (ap (λ n. nat_le (q.place + n) r.place) (sym (held_full q other)) ∙ e)
+    from : (nat_le (r.place + held r) (max r.place q.place) ≡ true) ⊎ (nat_le (q.place + held q) (max r.place q.place) ≡ true) → are_clear r q ≡ true
+    from (inl e) =
+        let some = (padded r first).1 in
+        let full = held_full r (padded r first).0 in
+        let within = leb-true (r.place + held r) (max r.place q.place) e in
+        or_left (nat_le (r.place + full_padding r) q.place) (nat_le (q.place + full_padding q) r.place) (le-leb (r.place + full_padding r) q.place (omega (arith, some, full, within)))
+    from (inr e) =
+        let some = (padded q second).1 in
+        let full = held_full q (padded q second).0 in
+        let within = leb-true (q.place + held q) (max r.place q.place) e in
+        or_right (nat_le (r.place + full_padding r) q.place) (nat_le (q.place + full_padding q) r.place) (le-leb (q.place + full_padding q) r.place (omega (arith, some, full, within)))
 
-clear_of_all : (r : Relocation) (rs : List Relocation) → is_align r.kind ≡ true → list_all (are_apart r) rs ≡ true → list_all (are_clear r) (filter (λ q. is_align q.kind) rs) ≡ true
+clear_of_all : (r : Relocation) (rs : List Relocation) → has_padding r ≡ true → list_all (are_apart r) rs ≡ true → list_all (are_clear r) (filter has_padding rs) ≡ true
 clear_of_all r [] align h = refl
 clear_of_all r (q ∷ rs) align h =
     let both = and_parts (are_apart r q) (list_all (are_apart r) rs) h in
-    by (is_align q.kind) (λ other. clear r q align other both.0) (clear_of_all r rs align both.1)
+    by (has_padding q) (λ other. clear r q align other both.0) (clear_of_all r rs align both.1)
   where
-    by : (b : Bool) → (b ≡ true → are_clear r q ≡ true) → list_all (are_clear r) (filter (λ x. is_align x.kind) rs) ≡ true
-        → list_all (are_clear r) (cond b (q ∷ filter (λ x. is_align x.kind) rs) (filter (λ x. is_align x.kind) rs)) ≡ true
-    by true one more = and_from (are_clear r q) (list_all (are_clear r) (filter (λ x. is_align x.kind) rs)) (one refl) more
+    by : (b : Bool) → (b ≡ true → are_clear r q ≡ true) → list_all (are_clear r) (filter has_padding rs) ≡ true
+        → list_all (are_clear r) (cond b (q ∷ filter has_padding rs) (filter has_padding rs)) ≡ true
+    by true one more = and_from (are_clear r q) (list_all (are_clear r) (filter has_padding rs)) (one refl) more
     by false one more = more
 
 -- what holds of each holds of each in order
@@ -112,24 +125,24 @@ insert_one start stop r (q ∷ qs) one h order =
     by false is apart more = next_is start stop q (inserted r qs) other (more apart)
 
 pub in_order : (start : ℕ) (c : Contents) (rs : List Relocation) → start + size_of c < 2 ^ 64 → list_all (is_padding true c) rs ≡ true → are_all_apart rs ≡ true
-    → are_alignments start 0 (by_place (filter (λ r. is_align r.kind) rs)) ≡ true
+    → are_alignments start 0 (by_place (filter has_padding rs)) ≡ true
 in_order start c [] low paddings apart = refl
 in_order start c (r ∷ rs) low paddings apart =
     let each = and_parts (is_padding true c r) (list_all (is_padding true c) rs) paddings in
     let clear_ones = and_parts (list_all (are_apart r) rs) (are_all_apart rs) apart in
-    by (is_align r.kind) (λ align. lies c r align each.0) (λ align. clear_of_all r rs align clear_ones.0) (in_order start c rs low each.1 clear_ones.1)
+    by (has_padding r) (λ align. lies c r (padded r align).0 each.0) (λ align. clear_of_all r rs align clear_ones.0) (in_order start c rs low each.1 clear_ones.1)
   where
-    by : (b : Bool) → (b ≡ true → Lies c r) → (b ≡ true → list_all (are_clear r) (filter (λ x. is_align x.kind) rs) ≡ true) → are_alignments start 0 (by_place (filter (λ x. is_align x.kind) rs)) ≡ true
-        → are_alignments start 0 (by_place (cond b (r ∷ filter (λ x. is_align x.kind) rs) (filter (λ x. is_align x.kind) rs))) ≡ true
+    by : (b : Bool) → (b ≡ true → Lies c r) → (b ≡ true → list_all (are_clear r) (filter has_padding rs) ≡ true) → are_alignments start 0 (by_place (filter has_padding rs)) ≡ true
+        → are_alignments start 0 (by_place (cond b (r ∷ filter has_padding rs) (filter has_padding rs))) ≡ true
     by false where_it_lies clear_of more = more
     by true where_it_lies clear_of more =
         let it = where_it_lies refl in
-        insert_one start 0 r (by_place (filter (λ x. is_align x.kind) rs))
+        insert_one start 0 r (by_place (filter has_padding rs))
         (record { from = omega arith; short = it.short; low = omega (arith, it.within) })
-        (all_by_place (are_clear r) (filter (λ x. is_align x.kind) rs) (clear_of refl)) more
+        (all_by_place (are_clear r) (filter has_padding rs) (clear_of refl)) more
 
 pub of_section : (start : ℕ) (c : Contents) (executable : Bool) (rs : List Relocation) → executable ≡ true → start + size_of c < 2 ^ 64 → are_paddings executable c rs ≡ true
-    → are_alignments start 0 (by_place (filter (λ r. is_align r.kind) rs)) ≡ true
+    → are_alignments start 0 (by_place (filter has_padding rs)) ≡ true
 of_section start c true rs is low h =
     let both = and_parts (list_all (is_padding true c) rs) (are_all_apart rs) h in
     in_order start c rs low both.0 both.1

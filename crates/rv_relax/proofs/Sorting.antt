@@ -8,8 +8,7 @@ use Rattle.rv_object.specs.declared.relocation.Relocation.{Relocation as Declare
 use Rattle.rv_isa.specs.declared.kind.Kind.TheVariants as kinds
 use Rattle.rv_object.specs.Object.{Relocation}
 use Rattle.rv_object.specs.Parts.{relocation_of}
-use Rattle.rv_object.specs.Valid.{is_align}
-use Rattle.rv_object_laws.specs.Moves.{inserted, by_place, full_padding}
+use Rattle.rv_object_laws.specs.Moves.{has_padding, inserted, by_place, full_padding}
 
 -- what a slice has past its end
 abbrev pub nothing : DeclaredRelocation
@@ -77,13 +76,13 @@ kept_one r rs true = refl
 kept_one r rs false = refl
 
 pub one_more : (xs : List DeclaredRelocation) (k : ℕ) (d : DeclaredRelocation) (old new : List Relocation) → k < length xs
-    → old ≡ by_place (filter (λ r. is_align r.kind) (map relocation_of (drop (k + 1) xs)))
-    → new ≡ cond (is_align (slice_index_or xs k d).kind) (inserted (relocation_of (slice_index_or xs k d)) old) old
-    → new ≡ by_place (filter (λ r. is_align r.kind) (map relocation_of (drop k xs)))
+    → old ≡ by_place (filter has_padding (map relocation_of (drop (k + 1) xs)))
+    → new ≡ cond (has_padding (relocation_of (slice_index_or xs k d))) (inserted (relocation_of (slice_index_or xs k d)) old) old
+    → new ≡ by_place (filter has_padding (map relocation_of (drop k xs)))
 one_more xs k d old new inside before put =
-    put ∙ ap (λ l. cond (is_align (slice_index_or xs k d).kind) (inserted (relocation_of (slice_index_or xs k d)) l) l) before
-    ∙ sym (kept_one (relocation_of (slice_index_or xs k d)) (filter (λ r. is_align r.kind) (map relocation_of (drop (k + 1) xs))) (is_align (slice_index_or xs k d).kind))
-    ∙ sym (ap (λ l. by_place (filter (λ r. is_align r.kind) (map relocation_of l))) (drop_more xs k d inside))
+    put ∙ ap (λ l. cond (has_padding (relocation_of (slice_index_or xs k d))) (inserted (relocation_of (slice_index_or xs k d)) l) l) before
+    ∙ sym (kept_one (relocation_of (slice_index_or xs k d)) (filter has_padding (map relocation_of (drop (k + 1) xs))) (has_padding (relocation_of (slice_index_or xs k d))))
+    ∙ sym (ap (λ l. by_place (filter has_padding (map relocation_of l))) (drop_more xs k d inside))
 
 -- ---- with the index of the one after it
 
@@ -108,16 +107,16 @@ ends_at r xs zero whole none so_far = goes_first r xs whole so_far
 ends_at r xs (suc at) whole none so_far = absurd (omega arith)
 
 pub one_more_at : (xs : List DeclaredRelocation) (k at : ℕ) (d : DeclaredRelocation) (old new : List Relocation) → k + 1 ≡ at → k < length xs
-    → old ≡ by_place (filter (λ r. is_align r.kind) (map relocation_of (drop at xs)))
-    → new ≡ cond (is_align (slice_index_or xs k d).kind) (inserted (relocation_of (slice_index_or xs k d)) old) old
-    → new ≡ by_place (filter (λ r. is_align r.kind) (map relocation_of (drop k xs)))
+    → old ≡ by_place (filter has_padding (map relocation_of (drop at xs)))
+    → new ≡ cond (has_padding (relocation_of (slice_index_or xs k d))) (inserted (relocation_of (slice_index_or xs k d)) old) old
+    → new ≡ by_place (filter has_padding (map relocation_of (drop k xs)))
 one_more_at xs k at d old new is inside before put =
-    one_more xs k d old new inside (subst (λ n. old ≡ by_place (filter (λ r. is_align r.kind) (map relocation_of (drop n xs)))) (sym is) before) put
+    one_more xs k d old new inside (subst (λ n. old ≡ by_place (filter has_padding (map relocation_of (drop n xs)))) (sym is) before) put
 
 pub all_of_them : (xs : List DeclaredRelocation) (at : ℕ) (old : List Relocation) → at ≤ 0
-    → old ≡ by_place (filter (λ r. is_align r.kind) (map relocation_of (drop at xs))) → old ≡ by_place (filter (λ r. is_align r.kind) (map relocation_of xs))
+    → old ≡ by_place (filter has_padding (map relocation_of (drop at xs))) → old ≡ by_place (filter has_padding (map relocation_of xs))
 all_of_them xs zero old none before = before
 all_of_them xs (suc at) old none before = absurd (omega arith)
 
-pub none_of_them : (xs : List DeclaredRelocation) → by_place (filter (λ r. is_align r.kind) (map relocation_of (drop (length xs) xs))) ≡ []
-none_of_them xs = ap (λ l. by_place (filter (λ r. is_align r.kind) (map relocation_of l))) (drop_all (length xs) xs (omega arith))
+pub none_of_them : (xs : List DeclaredRelocation) → by_place (filter has_padding (map relocation_of (drop (length xs) xs))) ≡ []
+none_of_them xs = ap (λ l. by_place (filter has_padding (map relocation_of l))) (drop_all (length xs) xs (omega arith))

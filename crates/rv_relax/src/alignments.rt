@@ -3,8 +3,7 @@
 ghost use Rattle.std.specs.Prelude.{◌≡◌, ◌+◌, ◌<◌, ◌≤◌, nat_le, length, map, reverse, IfOk, OnOk, if◌then◌else◌};
 ghost use Rattle.std.specs.List.{filter, insert as with_inserted};
 ghost use Rattle.rv_object.specs.Parts.{relocation_of};
-ghost use Rattle.rv_object.specs.Valid.{is_align as is_align_kind};
-ghost use Rattle.rv_object_laws.specs.Moves.{alignment_of, by_place, full_padding as full_padding_of, inserted};
+ghost use Rattle.rv_object_laws.specs.Moves.{alignment_of, by_place, full_padding as full_padding_of, has_padding as has_padding_of, inserted};
 
 use rv_isa::Kind;
 use rv_object::Relocation;
@@ -39,11 +38,11 @@ pub fn asked_alignment(alignment: &Relocation) -> u64
     4096
 }
 
-/// Whether a relocation is an alignment.
-fn is_align(relocation: &Relocation) -> bool
-    ensures { result ≡ is_align_kind (relocation.now).kind }
+/// Whether a relocation is an alignment with bytes of padding.
+pub fn has_padding(relocation: &Relocation) -> bool
+    ensures { result ≡ has_padding_of (relocation_of relocation.now) }
 {
-    matches!(relocation.kind, Kind::Align)
+    matches!(relocation.kind, Kind::Align) && full_padding(relocation) > 0
 }
 
 /// Whether another relocation stands at the end of a padding or behind it.
@@ -74,14 +73,14 @@ fn place_in(sorted: &[Relocation], alignment: &Relocation) -> usize
     at
 }
 
-/// Adds a relocation to those that stand from the last to the first, if it is an alignment.
+/// Adds a relocation to those that stand from the last to the first, if it is an alignment with bytes of padding.
 fn put(sorted: &mut Vec<Relocation>, relocation: &Relocation) -> Result<(), AllocError>
     ensures { OnOk result (reverse (map relocation_of sorted.new.items)
-        ≡ (if is_align_kind (relocation.now).kind
+        ≡ (if has_padding_of (relocation_of relocation.now)
         then inserted (relocation_of relocation.now) (reverse (map relocation_of sorted.old.items))
         else reverse (map relocation_of sorted.old.items))) }
 {
-    if !is_align(relocation) {
+    if !has_padding(relocation) {
         return Ok(());
     }
     let place = place_in(sorted, relocation);
@@ -89,13 +88,13 @@ fn put(sorted: &mut Vec<Relocation>, relocation: &Relocation) -> Result<(), Allo
     Ok(())
 }
 
-/// The alignments among relocations of code, from the last to the first.
+/// The alignments with bytes of padding among relocations of code, from the last to the first.
 pub(crate) fn alignments(
     alloc: Global,
     relocations: &[Relocation],
 ) -> Result<Vec<Relocation>, AllocError>
     ensures { IfOk result (λ sorted. reverse (map relocation_of sorted.items)
-        ≡ by_place (filter (λ r. is_align_kind r.kind) (map relocation_of relocations.now))) }
+        ≡ by_place (filter has_padding_of (map relocation_of relocations.now))) }
 {
     let mut sorted = Vec::new(alloc);
     let mut left = relocations.len();

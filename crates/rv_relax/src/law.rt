@@ -22,13 +22,12 @@ pub fn one_alignment()
     ensures short { list_all has_room (moves 64 (code_with (align_at 2 4 ∷ []))) ≡ false }
 {}
 
-/// Alignments stand in the order of their places, whatever the order of the relocations; one without bytes stands before
-/// the padding at its place. GNU ld keeps as much of the two in `linked`.
+/// Alignments stand in the order of their places, whatever the order of the relocations; one without bytes keeps nothing,
+/// also inside another's padding. GNU ld keeps as much of the two in `linked`.
 pub fn two_alignments()
     ensures sorted { moves 64 (code_with (align_at 8 2 ∷ align_at 2 6 ∷ []))
         ≡ kept_of 2 6 6 ∷ kept_of 8 2 0 ∷ [] }
-    ensures empty { moves 64 (code_with (align_at 2 6 ∷ align_at 2 0 ∷ []))
-        ≡ kept_of 2 0 0 ∷ kept_of 2 6 6 ∷ [] }
+    ensures empty { moves 64 (code_with (align_at 2 6 ∷ align_at 4 0 ∷ [])) ≡ kept_of 2 6 6 ∷ [] }
     ensures linked { moves 0x10000 (code_with (align_at 4 6 ∷ align_at 14 2 ∷ []))
         ≡ kept_of 4 6 4 ∷ kept_of 14 2 0 ∷ [] }
     ensures gone { moves 66 (code_with (align_at 2 6 ∷ align_at 8 2 ∷ []))

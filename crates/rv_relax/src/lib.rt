@@ -27,6 +27,6 @@ mod padding;
 mod paddings;
 mod plan;
 
-pub use alignments::asked_alignment;
+pub use alignments::{asked_alignment, has_padding};
 pub use law::{one_alignment, two_alignments};
 pub use plan::SectionPlan;
