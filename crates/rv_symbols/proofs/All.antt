@@ -1,36 +1,30 @@
 -- The symbols that stand for the uses of a source.
 
-use Rattle.std.proofs.Common.{◌≡◌, ℕ, zero, suc, ◌+◌, ◌<◌, ◌^◌, true, false, List, [], ◌∷◌, map, get_or, refl, sym, ap, ◌∙◌, subst, arith, Option, Some, None}
+use Rattle.std.proofs.Common.{◌≡◌, ℕ, zero, suc, ◌<◌, ◌^◌, Bool, true, false, List, [], ◌∷◌, map, get_or, refl, sym, ap, ◌∙◌, arith, Option, Some, None}
 use Rattle.std.specs.Prelude.{reverse, slice_get, option_map, is_some, nat_lt, ◌&&◌, ◌==◌}
 use Rattle.std.specs.List.{AllByRecursion}
+use Rattle.std.specs.Str.{bytes_eq}
 use Rattle.rv_text_laws.specs.Bytes.{value as digits_value}
 use Rattle.rv_text_laws.specs.Expression.{Primary, Literal, Symbol as Named, Here, Reference}
 use Rattle.rv_statement.specs.Statement.{Statement}
 use Rattle.rv_unit_laws.specs.Tables as laws
 use Rattle.rv_unit_laws.specs.Tables.{Tables, NumericLabel, at_start, tables, definition_at, numeric_label_before, numeric_label_after}
+use Rattle.rv_unit_laws.specs.Faults.{first_fault}
+use Rattle.rv_unit_laws.proofs.Found.{and_both}
+use Rattle.rv_map.specs.Name.{is_name}
 use Rattle.rv_source_laws.specs.Located.{located_from}
 use Rattle.rv_assemble_laws.specs.Sites.{Site}
-use Rattle.rv_assemble_laws.specs.Symbols.{SymbolUse, references, is_unnamed, site_at, symbols_of, StandsFor}
+use Rattle.rv_assemble_laws.specs.Symbols.{SymbolUse, references, is_unnamed, symbols_of, StandsFor}
 use Rattle.rv_assemble_laws.specs.IsObjectOf.{IsNumbered}
-use Rattle.rv_symbols.specs.SymbolUse.{is_meant_use, AreMeant, is_own_by, is_own_name}
+use Rattle.rv_assemble_laws.specs.ShownNames.{is_shown_use, AreShown}
+use Rattle.rv_symbols.specs.SymbolUse.{is_meant_use, AreMeant}
 use Rattle.rv_symbols.specs.Numbers.{number_in}
-use Rattle.rv_symbols.proofs.Stands.{got_map, site_by, ordinal_by}
+use Rattle.rv_symbols.proofs.Stands.{got_map}
+use Rattle.rv_symbols.proofs.Defining.{all_index, by_index, site_of, own_name}
 use Rattle.rv_symbols.proofs.Naming.{all_got}
 use Rattle.rv_symbols.proofs.Numbered.{undefined_stands}
 use Rattle.rv_symbols.proofs.Unnamed.{unnamed_stands}
 use Rattle.rv_symbols.proofs.Standing.{StandsAt, AreNumeric, uses_stand, numeric_stand, found_of, reversed}
-
-all_index : {X : Type 0} (P : X → Type 0) (xs : List X) (i : ℕ) (x : X) → slice_get xs i ≡ Some x → AllByRecursion P xs → P x
-all_index P [] zero x e h = absurd (cc)
-all_index P [] (suc i) x e h = absurd (cc)
-all_index P (y ∷ ys) zero x e h =
-    let same : y ≡ x = cc in
-    subst P same h.0
-all_index P (y ∷ ys) (suc i) x e h = all_index P ys i x e h.1
-
-by_index : {X : Type 0} (P : X → Type 0) (xs : List X) → ((i : ℕ) (x : X) → slice_get xs i ≡ Some x → P x) → AllByRecursion P xs
-by_index P [] h = tt
-by_index P (x ∷ xs) h = (h zero x refl, by_index P xs (λ i y e. h (suc i) y e))
 
 pub offset_low : (offsets : List ℕ) (sites : List Site) → map (λ s. s.offset) sites ≡ offsets → ((i : ℕ) → get_or offsets i 0 < 2 ^ 32) → (i : ℕ) (s : Site) → slice_get sites i ≡ Some s → s.offset < 2 ^ 64
 offset_low offsets sites e low i s at =
@@ -46,7 +40,7 @@ offset_low offsets sites e low i s at =
     at_or (x ∷ xs) (suc i) n e = at_or xs i n e
 
 module _ (ss : List Statement) (sites : List Site) (located : map (λ s. s.located) sites ≡ located_from 1 1 at_start ss) (meant : AreMeant (tables ss) (references (tables ss) sites))
-    (low : (i : ℕ) (s : Site) → slice_get sites i ≡ Some s → s.offset < 2 ^ 64) where
+    (free : first_fault ss ≡ None) (shown : AreShown (references (tables ss) sites)) (low : (i : ℕ) (s : Site) → slice_get sites i ≡ Some s → s.offset < 2 ^ 64) where
   abbrev t : Tables
   t = tables ss
 
@@ -59,14 +53,9 @@ module _ (ss : List Statement) (sites : List Site) (located : map (λ s. s.locat
   numeric : AreNumeric sites t.numeric_labels
   numeric = numeric_stand sites 0 1 at_start ss sites refl located tt
 
-  site_of : (o i : ℕ) (s : Site) → slice_get sites i ≡ Some s → s.located.ordinal ≡ o → site_at sites o ≡ Some s
-  site_of o i s at is =
-      let own : s.located.ordinal ≡ 1 + i = ordinal_by 1 at_start ss sites located i s at in
-      site_by 1 at_start ss sites located o i (omega (arith, own, is)) ∙ at
-
   unnamed : (j o n : ℕ) (q : Primary) → slice_get rs j ≡ Some (record { ordinal = o; symbol = q }) → is_unnamed q ≡ true → laws.definition t o q ≡ Some (definition_at n) → StandsAt sites n → Stands o q
   unnamed j o n q e u f (i, s, at, is, placed) =
-      unnamed_stands t sites j (record { ordinal = o; symbol = q }) (definition_at n) i s e u f at (site_of n i s at is) (sym is) placed refl (low i s at)
+      unnamed_stands t sites j (record { ordinal = o; symbol = q }) (definition_at n) i s e u f at (site_of ss sites located n i s at is) (sym is) placed refl (low i s at)
 
   later : (j o : ℕ) (digits : List ℕ) → slice_get rs j ≡ Some (record { ordinal = o; symbol = Reference digits true }) → is_some (laws.definition t o (Reference digits true)) ≡ true → Stands o (Reference digits true)
   later j o digits e m = go (numeric_label_after t.numeric_labels o (digits_value 10 digits)) refl
@@ -93,16 +82,30 @@ module _ (ss : List Statement) (sites : List Site) (located : map (λ s. s.locat
       none_of None f = refl
       none_of (Some d) f = absurd (cc)
 
-  by_symbol : (j o : ℕ) (q : Primary) → slice_get rs j ≡ Some (record { ordinal = o; symbol = q }) → is_meant_use t (record { ordinal = o; symbol = q }) ≡ true → StandsAt sites o
-      → is_own_by q (laws.definition t o q) ≡ false → Stands o q
-  by_symbol j o (Literal n) e m at own = absurd (cc)
-  by_symbol j o (Named name) e m at own = outer j o name e own
-  by_symbol j o Here e m at own = unnamed j o o Here e refl refl at
-  by_symbol j o (Reference digits true) e m at own = later j o digits e m
-  by_symbol j o (Reference digits false) e m at own = earlier j o digits e m
+  -- a name that a map can show is not empty
+  some_name : (j o : ℕ) (name : List ℕ) → slice_get rs j ≡ Some (record { ordinal = o; symbol = Named name }) → bytes_eq [] name ≡ false
+  some_name j o name e = go name (and_both (is_name name) true (all_got is_shown_use rs j (record { ordinal = o; symbol = Named name }) e shown)).0
+    where
+      go : (name : List ℕ) → is_name name ≡ true → bytes_eq [] name ≡ false
+      go [] h = absurd (cc)
+      go (b ∷ bs) h = refl
 
-  pub numbered : AllByRecursion (λ r. is_own_name t r ≡ false → IsNumbered t sites (number_in t sites) (symbols_of t sites) r) rs
+  by_name : (j o : ℕ) (name : List ℕ) → slice_get rs j ≡ Some (record { ordinal = o; symbol = Named name }) → Stands o (Named name)
+  by_name j o name e = go (is_some (laws.definition t o (Named name))) refl
+    where
+      go : (b : Bool) → is_some (laws.definition t o (Named name)) ≡ b → Stands o (Named name)
+      go true f = own_name ss sites located free low name (some_name j o name e) o f
+      go false f = outer j o name e f
+
+  by_symbol : (j o : ℕ) (q : Primary) → slice_get rs j ≡ Some (record { ordinal = o; symbol = q }) → is_meant_use t (record { ordinal = o; symbol = q }) ≡ true → StandsAt sites o → Stands o q
+  by_symbol j o (Literal n) e m at = absurd (cc)
+  by_symbol j o (Named name) e m at = by_name j o name e
+  by_symbol j o Here e m at = unnamed j o o Here e refl refl at
+  by_symbol j o (Reference digits true) e m at = later j o digits e m
+  by_symbol j o (Reference digits false) e m at = earlier j o digits e m
+
+  pub numbered : AllByRecursion (IsNumbered t sites (number_in t sites) (symbols_of t sites)) rs
   numbered =
-      by_index (λ r. is_own_name t r ≡ false → IsNumbered t sites (number_in t sites) (symbols_of t sites) r) rs
-      (λ j r e own. by_symbol j r.ordinal r.symbol e (all_got (is_meant_use t) rs j r e meant)
-      (all_index (λ (z : SymbolUse). StandsAt sites z.ordinal) rs j r e (uses_stand t sites 0 1 at_start ss sites refl located)) own)
+      by_index (IsNumbered t sites (number_in t sites) (symbols_of t sites)) rs
+      (λ j r e. by_symbol j r.ordinal r.symbol e (all_got (is_meant_use t) rs j r e meant)
+      (all_index (λ (z : SymbolUse). StandsAt sites z.ordinal) rs j r e (uses_stand t sites 0 1 at_start ss sites refl located)))

@@ -9,4 +9,6 @@ pub mod Unnamed
 pub mod Standing
 pub mod Owned
 pub mod Single
+pub mod OneName
+pub mod Defining
 pub mod All

@@ -1,6 +1,6 @@
 -- The symbols of an object with the numbers that stand for them.
 
-use Rattle.std.specs.Prelude.{◌≡◌, ℕ, false, List, map}
+use Rattle.std.specs.Prelude.{◌≡◌, ℕ, List, map}
 use Rattle.std.specs.List.{AllByRecursion}
 use Rattle.rv_statement.specs.Statement.{Statement}
 use Rattle.rv_unit_laws.specs.Tables.{Tables, at_start, tables}
@@ -9,7 +9,6 @@ use Rattle.rv_object.specs.Parts.{symbol_of}
 use Rattle.rv_assemble_laws.specs.Sites.{Site}
 use Rattle.rv_assemble_laws.specs.Symbols.{SymbolUse, references, symbols_of}
 use Rattle.rv_assemble_laws.specs.IsObjectOf.{Numbering, IsNumbered}
-use Rattle.rv_symbols.specs.SymbolUse.{is_own_name}
 use Rattle.rv_symbols.specs.declared.table.SymbolTable.{SymbolTable}
 
 -- the statements of a source stand at these offsets, and their relocations name these symbols
@@ -25,6 +24,5 @@ pub record HasSymbols (t : Tables) (sites : List Site) (rs : List SymbolUse) (x 
   pub symbols : map symbol_of x.symbols.items ≡ symbols_of t sites
   pub number : Numbering
   pub numbers : map (λ r. number r.ordinal r.symbol) rs ≡ x.numbers.items
-  -- each stands for its use, where that is no name of the file's own
-  pub numbered : AllByRecursion
-      (λ r. is_own_name t r ≡ false → IsNumbered t sites number (symbols_of t sites) r) rs
+  -- each stands for its use
+  pub numbered : AllByRecursion (IsNumbered t sites number (symbols_of t sites)) rs

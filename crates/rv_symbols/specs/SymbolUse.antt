@@ -1,10 +1,9 @@
 -- What the symbols that relocations name are.
 
-use Rattle.std.specs.Prelude.{◌≡◌, Bool, true, false, not, ◌||◌, List, map, Option, is_some}
+use Rattle.std.specs.Prelude.{◌≡◌, Bool, true, not, ◌||◌, List, map, is_some}
 use Rattle.std.specs.List.{list_all}
-use Rattle.rv_text_laws.specs.Expression.{Primary, Symbol as Named}
 use Rattle.rv_text.specs.Nodes.{symbol_of}
-use Rattle.rv_unit_laws.specs.Tables.{Tables, Definition, definition}
+use Rattle.rv_unit_laws.specs.Tables.{Tables, definition}
 use Rattle.rv_assemble_laws.specs.Symbols as laws
 use Rattle.rv_symbols.specs.declared.symbol_use.SymbolUse.{SymbolUse}
 
@@ -20,11 +19,3 @@ is_meant_use t r = not (laws.is_unnamed r.symbol) || is_some (definition t r.ord
 
 abbrev pub AreMeant : Tables → List laws.SymbolUse → Type 0
 AreMeant t rs = list_all (is_meant_use t) rs ≡ true
-
--- a name that its own file defines
-abbrev pub is_own_by : Primary → Option Definition → Bool
-is_own_by (Named name) found = is_some found
-is_own_by _ found = false
-
-abbrev pub is_own_name : Tables → laws.SymbolUse → Bool
-is_own_name t r = is_own_by r.symbol (definition t r.ordinal r.symbol)

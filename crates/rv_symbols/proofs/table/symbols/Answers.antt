@@ -2,7 +2,7 @@ use Rattle.std.proofs.Math.Facts.{Fits-lt-pow}
 use Rattle.rv_symbols.proofs.Ordered.{rises_from}
 use Rattle.rv_symbols.proofs.All.{numbered, offset_low}
 use Rattle.rv_symbols.proofs.table.symbols.Goals as goal
-use Rattle.std.proofs.Common.{◌≡◌, ℕ, false, List, [], ◌++◌, length, map, sym, ap, ◌∙◌, subst, arith, append_assoc}
+use Rattle.std.proofs.Common.{◌≡◌, ℕ, List, [], ◌++◌, length, map, sym, ap, ◌∙◌, subst, arith, append_assoc}
 use Rattle.std.specs.Prelude.{option_map}
 use Rattle.rv_statement.specs.View.{now_of}
 use Rattle.rv_unit_laws.specs.Tables.{Tables, at_start, tables}
@@ -15,7 +15,8 @@ use Rattle.rv_assemble_laws.specs.Symbols.{SymbolUse, references, local_symbols,
 use Rattle.rv_symbols.specs.Settings.{AreFirsts}
 use Rattle.std.specs.List.{AllByRecursion}
 use Rattle.rv_assemble_laws.specs.IsObjectOf.{IsNumbered}
-use Rattle.rv_symbols.specs.SymbolUse.{uses_of, AreMeant, is_own_name}
+use Rattle.rv_assemble_laws.specs.ShownNames.{AreShown}
+use Rattle.rv_symbols.specs.SymbolUse.{uses_of, AreMeant}
 use Rattle.rv_symbols.specs.Source.{tables_of, IsSource}
 use Rattle.rv_symbols.specs.Numbers.{own_symbols, missing_names, number_by, number_in}
 use Rattle.rv_symbols.specs.Found.{definition_in, Rises, AreMarks}
@@ -60,6 +61,6 @@ returns c = λ sites w.
           ∙ ap (λ l. map (λ (r : SymbolUse). number_by l (map now_of c.in_ok-missing.missing.keys) sites r.symbol (definition_in t r)) rs) (ap (map symbol_of) c.as_slice-4.ensures.value ∙ own)
           ∙ ap (λ l. map (λ (r : SymbolUse). number_by (own_symbols t sites) l sites r.symbol (definition_in t r)) rs) (names ∙ ap (missing_names t) (sym w.named)));
       numbered =
-          subst (λ l. AllByRecursion (λ r. is_own_name t r ≡ false → IsNumbered t sites (number_in t sites) (symbols_of t sites) r) l) w.named
-          (numbered ss sites w.located (subst (AreMeant t) (sym w.named) c.requires.meant) (offset_low c.args.offsets.now sites w.at (λ i. Fits-lt-pow (c.type_inv.offsets i))));
+          subst (λ l. AllByRecursion (IsNumbered t sites (number_in t sites) (symbols_of t sites)) l) w.named
+          (numbered ss sites w.located (subst (AreMeant t) (sym w.named) c.requires.meant) c.requires.good (subst AreShown (sym w.named) c.requires.shown) (offset_low c.args.offsets.now sites w.at (λ i. Fits-lt-pow (c.type_inv.offsets i))));
     }
