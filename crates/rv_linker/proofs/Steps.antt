@@ -1,6 +1,6 @@
 -- What a turn of the loops over relocations and sections does.
 
-use Rattle.std.proofs.Common.{◌≡◌, ℕ, zero, suc, ◌+◌, ◌-◌, ◌<◌, List, [], ◌∷◌, ◌++◌, length, take, drop, map, get_or, refl, sym, ap, ◌∙◌, subst, arith, Some}
+use Rattle.std.proofs.Common.{◌≡◌, ℕ, zero, suc, ◌+◌, ◌-◌, ◌<◌, List, [], ◌∷◌, ◌++◌, length, take, drop, map, get_or, refl, sym, ap, ◌∙◌, subst, arith, Some, inl, inr}
 use Rattle.std.proofs.lemmas.List.{drop_more, get_or_default, drop_at, drop_all, take_at, take_all, append-nil, length-map, length-append, length-replicate}
 use Rattle.std.proofs.lemmas.Bool.{and_parts, eqb-true}
 use Rattle.std.specs.Prelude.{◌==◌, is_some, unwrap_or, ℤ, pos, IsTrue, true}
@@ -17,7 +17,11 @@ use Rattle.rv_object_laws.specs.Values.{applied, patched_at, value, is_low, init
 use Rattle.rv_placement.specs.declared.placement.Placement.{Placement}
 use Rattle.rv_placement.specs.Placement.{starts_of}
 use Rattle.rv_resolve.specs.Shown.{shown_globals}
+use Rattle.rv_linker.specs.declared.fault.LinkFault.{LinkFault}
+use Rattle.rv_linker.specs.declared.fault.LinkFault.TheVariants.{Overflow, OddTarget, DanglingPcrel, AlignmentShort, Undefined, Duplicate, EntryMissing, ImageTooLarge, BadTextStart, TooManyFiles, OutOfMemory}
+use Rattle.rv_linker.specs.Fault.{IsOfPatch}
 use Rattle.rv_linker.specs.Filled.{IsInside, IsTaken, worth}
+use Rattle.rv_linker.specs.Untaken.{IsFirst, IsUntaken}
 use Rattle.rv_linker.proofs.Following.{Follow, kept_size}
 use Rattle.rv_linker.proofs.Apart.{section_follows, fields_inside}
 
@@ -41,6 +45,7 @@ pub record IsPatched (os : List Object) (p : Placement) (i : InputSection) (ms :
   pub inside : AllByRecursion (IsInside ms (length bytes)) left
   pub same : applied (new_offset ms) (worth os p i) left bytes ≡ applied (new_offset ms) (worth os p i) all old
   pub taken : AllByRecursion (IsTaken os p i) left → AllByRecursion (IsTaken os p i) all
+  pub first : (fault : LinkFault) → IsFirst (IsTaken os p i) (IsUntaken os p i fault) left → IsFirst (IsTaken os p i) (IsUntaken os p i fault) all
 
 pub patched_step : (os : List Object) (p : Placement) (i : InputSection) (ms : List Move) (all : List Relocation) (old : List ℕ)
     (from : List Relocation) (r : Relocation) (left : List Relocation) (bytes new : List ℕ) (v : ℤ) → IsPatched os p i ms all old from bytes → from ≡ r ∷ left
@@ -56,7 +61,29 @@ patched_step os p i ms all old from r left bytes new v is front found alone take
           ap (λ l. applied (new_offset ms) (worth os p i) left l) (writes ∙ ap (λ x. patched_at (new_offset ms r.place) r.kind x bytes) (sym here))
           ∙ ap (λ l. applied (new_offset ms) (worth os p i) l bytes) (sym front) ∙ is.same;
       taken = λ h. is.taken (subst (λ l. AllByRecursion (IsTaken os p i) l) (sym front) (one, h));
+      first = λ fault h. is.first fault (subst (λ l. IsFirst (IsTaken os p i) (IsUntaken os p i fault) l) (sym front) (inr (one, h)));
     }
+
+-- the next one fails
+pub patched_failed : (os : List Object) (p : Placement) (i : InputSection) (ms : List Move) (all : List Relocation) (old : List ℕ)
+    (from : List Relocation) (r : Relocation) (left : List Relocation) (bytes : List ℕ) (fault : LinkFault) → IsPatched os p i ms all old from bytes → from ≡ r ∷ left
+    → IsUntaken os p i fault r → IsFirst (IsTaken os p i) (IsUntaken os p i fault) all
+patched_failed os p i ms all old from r left bytes fault is front h = is.first fault (subst (λ l. IsFirst (IsTaken os p i) (IsUntaken os p i fault) l) (sym front) (inl h))
+
+-- a field that does not take its value
+pub untaken_by : (os : List Object) (p : Placement) (i : InputSection) (r : Relocation) (v : ℤ) (fault : LinkFault) → value (shown_globals os p) (starts_of p) os i r ≡ Some v → (is_low r.kind ≡ true → r.addend ≡ pos 0)
+    → IsOfPatch r.kind v fault → IsUntaken os p i fault r
+untaken_by os p i r v Overflow found alone h = (v, (found, alone), h)
+untaken_by os p i r v OddTarget found alone h = (v, (found, alone), h)
+untaken_by os p i r v DanglingPcrel found alone h = absurd h
+untaken_by os p i r v AlignmentShort found alone h = absurd h
+untaken_by os p i r v (Undefined name) found alone h = absurd h
+untaken_by os p i r v (Duplicate name) found alone h = absurd h
+untaken_by os p i r v EntryMissing found alone h = absurd h
+untaken_by os p i r v ImageTooLarge found alone h = absurd h
+untaken_by os p i r v BadTextStart found alone h = absurd h
+untaken_by os p i r v TooManyFiles found alone h = absurd h
+untaken_by os p i r v OutOfMemory found alone h = absurd h
 
 -- what is next of relocations of the code, which a loop reads from a list that is theirs
 pub relocation_next : (all items : List Declared) (n : ℕ) (d : Declared) → items ≡ all → n < length items

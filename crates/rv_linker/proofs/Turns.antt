@@ -1,6 +1,6 @@
 -- What a turn of the loop over sections does to the regions.
 
-use Rattle.std.proofs.Common.{◌≡◌, ℕ, suc, ◌+◌, ◌-◌, ◌<◌, ◌≤◌, drop, get_or, arith, add-one, Bool, true, false, List, [], ◌∷◌, ◌++◌, length, refl, sym, ap, ◌∙◌, subst}
+use Rattle.std.proofs.Common.{◌≡◌, ℕ, suc, ◌+◌, ◌-◌, ◌<◌, ◌≤◌, drop, get_or, arith, add-one, Bool, true, false, List, [], ◌∷◌, ◌++◌, length, refl, sym, ap, ◌∙◌, subst, inl, inr}
 use Rattle.std.specs.Prelude.{◌&&◌, not}
 use Rattle.std.specs.Global.{Vec}
 use Rattle.std.specs.List.{AllByRecursion}
@@ -16,7 +16,9 @@ use Rattle.rv_placement.specs.Placement.{starts_of, IsPlacement}
 use Rattle.rv_linker.specs.declared.fixed.Input.{Input}
 use Rattle.rv_linker.specs.declared.regions.Regions.{Regions}
 use Rattle.rv_linker.specs.Filled.{IsInput, input_at, linked_in}
-use Rattle.rv_linker.specs.Regions.{left_from, left_files, IsGrown, AreTaken, AreGrown}
+use Rattle.rv_linker.specs.declared.fault.LinkFault.{LinkFault}
+use Rattle.rv_linker.specs.Untaken.{AreTaken, AreUntaken, IsFirstUntaken, OrMemory, AreUnfilled}
+use Rattle.rv_linker.specs.Regions.{left_from, left_files, IsGrown, AreGrown}
 use Rattle.rv_linker.proofs.Growing.{later, grown_first, grown_next, grown_same, left_takes, left_skips, linked_long}
 
 module _ (os : List Object) (p : Placement) (x : Input) (is : IsInput os p x) where
@@ -42,6 +44,12 @@ module _ (os : List Object) (p : Placement) (x : Input) (is : IsInput os p x) wh
       → AllByRecursion (AreTaken os p) (left_from os x.file (x.index + 1) is_loaded) → AllByRecursion (AreTaken os p) (inputs is_loaded os)
   judged here e so h = so (subst (λ l. AllByRecursion (AreTaken os p) l) (sym (left_takes os x.file x.index (section_of x.section.now) is_loaded is.stands e)) (here, h))
 
+  -- the first that fails of those behind it
+  past : AreTaken os p (input_at os x.file x.index (section_of x.section.now)) → (section_of x.section.now).loaded ≡ true
+      → (fault : LinkFault) → (IsFirstUntaken os p fault (left_from os x.file x.index is_loaded) → IsFirstUntaken os p fault (inputs is_loaded os))
+      → IsFirstUntaken os p fault (left_from os x.file (x.index + 1) is_loaded) → IsFirstUntaken os p fault (inputs is_loaded os)
+  past here e fault so h = so (subst (λ l. IsFirstUntaken os p fault l) (sym (left_takes os x.file x.index (section_of x.section.now) is_loaded is.stands e)) (inr (here, h)))
+
   -- where a region's section starts
   pub starts_later : (goes : Section → Bool) (region : Region) (out : List ℕ) → goes (section_of x.section.now) ≡ true
       → IsGrown (linked_in os p) (starts_of p) region (inputs goes os) (left_from os x.file x.index goes) out → region.start + length out ≤ x.placed.now.start
@@ -59,7 +67,16 @@ module _ (os : List Object) (p : Placement) (x : Input) (is : IsInput os p x) wh
       rodata = other goes_to_rodata p.rodata r.rodata.items (ap (λ b. b && not x.section.now.executable && not (is_nobits (section_of x.section.now).contents) && not x.section.now.writable) e) grown.rodata;
       «data» = other goes_to_data p.data r.data.items (ap (λ b. b && not x.section.now.executable && not (is_nobits (section_of x.section.now).contents) && x.section.now.writable) e) grown.data;
       taken = λ h. grown.taken (subst (λ l. AllByRecursion (AreTaken os p) l) (sym (left_skips os x.file x.index (section_of x.section.now) is_loaded is.stands e)) h);
+      first = λ fault h. grown.first fault (subst (λ l. IsFirstUntaken os p fault l) (sym (left_skips os x.file x.index (section_of x.section.now) is_loaded is.stands e)) h);
     }
+
+    -- it fails itself
+    pub failed : x.section.now.loaded ≡ true → (fault : LinkFault) → AreUntaken os p fault (input_at os x.file x.index (section_of x.section.now)) → IsFirstUntaken os p fault (inputs is_loaded os)
+    failed e fault h = grown.first fault (subst (λ l. IsFirstUntaken os p fault l) (sym (left_takes os x.file x.index (section_of x.section.now) is_loaded is.stands e)) (inl h))
+
+    pub failed_or : x.section.now.loaded ≡ true → (fault : LinkFault) → OrMemory (λ f. AreUntaken os p f (input_at os x.file x.index (section_of x.section.now))) fault → AreUnfilled os p fault
+    failed_or e fault (inl h) = inl h
+    failed_or e fault (inr h) = inr (failed e fault h)
 
     pub text_is : (a b : Bool) → x.section.now.loaded ≡ a → x.section.now.executable ≡ b → goes_to_text (section_of x.section.now) ≡ (a && b)
     text_is a b e f = ap (λ l. l && x.section.now.executable) e ∙ ap (λ l. a && l) f
@@ -82,6 +99,9 @@ module _ (os : List Object) (p : Placement) (x : Input) (is : IsInput os p x) wh
       so : AllByRecursion (AreTaken os p) (left_from os x.file (x.index + 1) is_loaded) → AllByRecursion (AreTaken os p) (inputs is_loaded os)
       so = judged here loaded grown.taken
 
+      behind : (fault : LinkFault) → IsFirstUntaken os p fault (left_from os x.file (x.index + 1) is_loaded) → IsFirstUntaken os p fault (inputs is_loaded os)
+      behind fault = past here loaded fault (grown.first fault)
+
       module _ (out : Vec ℕ) where
         pub in_text : x.section.now.executable ≡ true
             → out.items ≡ r.text.items ++ (zeros (x.placed.now.start - (p.text.start + length r.text.items)) ++ linked_in os p (input_at os x.file x.index (section_of x.section.now)))
@@ -91,6 +111,7 @@ module _ (os : List Object) (p : Placement) (x : Input) (is : IsInput os p x) wh
           rodata = other goes_to_rodata p.rodata r.rodata.items (rodata_is true true _ _ loaded e refl refl) grown.rodata;
           «data» = other goes_to_data p.data r.data.items (data_is true true _ _ loaded e refl refl) grown.data;
           taken = so;
+          first = behind;
         }
 
         pub in_rodata : x.section.now.executable ≡ false → is_nobits (section_of x.section.now).contents ≡ false → x.section.now.writable ≡ false
@@ -101,6 +122,7 @@ module _ (os : List Object) (p : Placement) (x : Input) (is : IsInput os p x) wh
           rodata = one goes_to_rodata p.rodata r.rodata.items out.items (rodata_is true false false false loaded e n w) grown.rodata made;
           «data» = other goes_to_data p.data r.data.items (data_is true false false false loaded e n w) grown.data;
           taken = so;
+          first = behind;
         }
 
         pub in_data : x.section.now.executable ≡ false → is_nobits (section_of x.section.now).contents ≡ false → x.section.now.writable ≡ true
@@ -111,6 +133,7 @@ module _ (os : List Object) (p : Placement) (x : Input) (is : IsInput os p x) wh
           rodata = other goes_to_rodata p.rodata r.rodata.items (rodata_is true false false true loaded e n w) grown.rodata;
           «data» = one goes_to_data p.data r.data.items out.items (data_is true false false true loaded e n w) grown.data made;
           taken = so;
+          first = behind;
         }
 
       pub in_bss : x.section.now.executable ≡ false → is_nobits (section_of x.section.now).contents ≡ true → AreGrown os p (left_from os x.file (x.index + 1)) r
@@ -119,6 +142,7 @@ module _ (os : List Object) (p : Placement) (x : Input) (is : IsInput os p x) wh
         rodata = other goes_to_rodata p.rodata r.rodata.items (rodata_is true false true _ loaded e n refl) grown.rodata;
         «data» = other goes_to_data p.data r.data.items (data_is true false true _ loaded e n refl) grown.data;
         taken = so;
+          first = behind;
       }
 
 -- ---- files
@@ -130,6 +154,7 @@ grown_along os p left next r same grown = record {
   rodata = grown_same _ _ p.rodata _ _ _ r.rodata.items (same goes_to_rodata) grown.rodata;
   «data» = grown_same _ _ p.data _ _ _ r.data.items (same goes_to_data) grown.data;
   taken = λ h. grown.taken (subst (λ l. AllByRecursion (AreTaken os p) l) (sym (same is_loaded)) h);
+  first = λ fault h. grown.first fault (subst (λ l. IsFirstUntaken os p fault l) (sym (same is_loaded)) h);
 }
 
 pub file_opens : (os : List Object) (file : ℕ) → file < length os → (goes : Section → Bool) → left_files os file goes ≡ left_from os file 0 goes
@@ -155,4 +180,5 @@ opens os p start r placed e f g = record {
   rodata = subst (λ l. IsGrown (linked_in os p) (starts_of p) p.rodata (inputs goes_to_rodata os) (inputs goes_to_rodata os) l) (sym f) (grown_first (linked_in os p) (starts_of p) p.rodata _ _ placed.rodata);
   «data» = subst (λ l. IsGrown (linked_in os p) (starts_of p) p.data (inputs goes_to_data os) (inputs goes_to_data os) l) (sym g) (grown_first (linked_in os p) (starts_of p) p.data _ _ placed.data);
   taken = λ h. h;
+  first = λ fault h. h;
 }

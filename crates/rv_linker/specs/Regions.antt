@@ -16,7 +16,9 @@ use Rattle.rv_placement.specs.Placement.{starts_of, are_roomy, IsPlacement}
 use Rattle.rv_values.specs.Values.{IsValues}
 use Rattle.rv_linker.specs.declared.fixed.Fixed.{Fixed}
 use Rattle.rv_linker.specs.declared.regions.Regions.{Regions}
-use Rattle.rv_linker.specs.Filled.{objects_of, IsTaken, linked_in}
+use Rattle.rv_linker.specs.declared.fault.LinkFault.{LinkFault}
+use Rattle.rv_linker.specs.Filled.{objects_of, linked_in}
+use Rattle.rv_linker.specs.Untaken.{AreTaken, IsFirstUntaken}
 
 -- where the sections of objects stand, with room for their paddings, and what their relocations are worth
 pub record IsFixed (f : Fixed) : Type 0 where
@@ -44,10 +46,6 @@ pub record IsGrown (bytes : InputSection → List ℕ) (starts : Starts) (region
   pub holds : out ++ contents bytes starts (region.start + length out) left
       ≡ contents bytes starts region.start whole
 
--- the fields of a section take their values
-abbrev pub AreTaken : List Object → Placement → InputSection → Type 0
-AreTaken os p i = AllByRecursion (IsTaken os p i) i.section.relocations
-
 -- the regions of placed objects, but for the sections that are left of each kind
 pub record AreGrown (os : List Object) (p : Placement)
     (left : (Section → Bool) → List InputSection) (r : Regions) : Type 0 where
@@ -59,6 +57,9 @@ pub record AreGrown (os : List Object) (p : Placement)
       (left goes_to_data) r.data.items
   pub taken : AllByRecursion (AreTaken os p) (left is_loaded)
       → AllByRecursion (AreTaken os p) (inputs is_loaded os)
+  -- so the first that fails of those that are left is the first of all
+  pub first : (fault : LinkFault) → IsFirstUntaken os p fault (left is_loaded)
+      → IsFirstUntaken os p fault (inputs is_loaded os)
 
 -- ---- passes
 

@@ -1,6 +1,6 @@
 //! Objects whose addresses are fixed.
 
-ghost use Rattle.std.specs.Prelude.{◌≡◌, ◌+◌, ◌-◌, ◌++◌, ◌<◌, ◌≤◌, IsTrue, IfOk, OnOk, Some, pos, true, length, map};
+ghost use Rattle.std.specs.Prelude.{◌≡◌, ◌+◌, ◌-◌, ◌++◌, ◌<◌, ◌≤◌, IsTrue, IfOk, IfErr, OnOk, Some, pos, true, length, map};
 ghost use Rattle.std.specs.List.{AllByRecursion};
 ghost use Rattle.rv_object.specs.Parts.{contents_of, relocation_of};
 ghost use Rattle.rv_object_laws.specs.Inputs.{is_nobits, zeros};
@@ -9,6 +9,7 @@ ghost use Rattle.rv_object_laws.specs.Values.{applied, initial_bytes, is_low, va
 ghost use Rattle.rv_object_laws.specs.Names.{object_at};
 ghost use Rattle.rv_placement.specs.Placement.{starts_of};
 ghost use Rattle.rv_linker.specs.Regions.{IsFixed};
+ghost use Rattle.rv_linker.specs.Untaken.{IsUntaken, AreUntakenOf, OrMemory};
 ghost use Rattle.rv_relax.specs.Plan.{moves_of};
 ghost use Rattle.rv_resolve.specs.Shown.{shown_globals};
 ghost use Rattle.rv_linker.specs.Filled.{
@@ -74,6 +75,9 @@ impl<'o> Fixed<'o> {
             (input_of self.now input.now) (relocation_of relocation.now) ≡ Some v) }
         ensures alone { IfOk result
             (λ v. is_low (relocation.now).kind ≡ true → (relocation.now).addend ≡ pos 0) }
+        ensures refuses { IfErr result (λ fault. IsUntaken (objects_of self.now)
+            (self.now).placement.now (input_of self.now input.now) fault
+            (relocation_of relocation.now)) }
     {
         match self.values.value(input.file, input.index, relocation) {
             Ok(value) => Ok(value),
@@ -94,6 +98,7 @@ impl<'o> Fixed<'o> {
             (map relocation_of (input.now).section.now.relocations.items) bytes.old) }
         // each of its relocations has a value, which its field takes
         ensures taken { OnOk result (AreTakenOf self.now input.now) }
+        ensures refuses { IfErr result (λ fault. AreUntakenOf self.now input.now fault) }
     {
         for relocation in &input.section.relocations {
             let value = self.value(input, relocation)?;
@@ -108,7 +113,8 @@ impl<'o> Fixed<'o> {
         requires fixed { IsFixed self.now }
         requires input { IsInputOf self.now input.now }
         requires zeroed { is_nobits (contents_of (input.now).section.now.contents) ≡ true }
-        ensures { OnOk result (AreTakenOf self.now input.now) }
+        ensures taken { OnOk result (AreTakenOf self.now input.now) }
+        ensures refuses { IfErr result (λ fault. AreUntakenOf self.now input.now fault) }
     {
         self.relocate(input, &mut [])?;
         Ok(())
@@ -126,6 +132,7 @@ impl<'o> Fixed<'o> {
         ensures bytes { OnOk result (out.new.items ≡ out.old.items ++ bytes_of self.now input.now) }
         // each of its relocations has a value, which its field takes
         ensures taken { OnOk result (AreTakenOf self.now input.now) }
+        ensures refuses { IfErr result (OrMemory (AreUntakenOf self.now input.now)) }
     {
         let from = out.len();
         put_contents(alloc, &input.placed.plan, &input.section.contents, out)?;
@@ -149,6 +156,7 @@ impl<'o> Fixed<'o> {
             ++ bytes_of self.now input.now)) }
         // each of its relocations has a value, which its field takes
         ensures taken { OnOk result (AreTakenOf self.now input.now) }
+        ensures refuses { IfErr result (OrMemory (AreUntakenOf self.now input.now)) }
     {
         put_zeros(out, input.placed.start - region - out.len() as u64)?;
         self.put_bytes(alloc, input, out)

@@ -1,10 +1,11 @@
 //! The bytes of the regions.
 
-ghost use Rattle.std.specs.Prelude.{◌≡◌, ◌+◌, ◌<◌, [], length, IfOk, OnOk};
+ghost use Rattle.std.specs.Prelude.{◌≡◌, ◌+◌, ◌<◌, [], length, IfOk, IfErr, OnOk};
 ghost use Rattle.rv_object.specs.Parts.{contents_of};
 ghost use Rattle.rv_object_laws.specs.Inputs as laws;
 ghost use Rattle.rv_object_laws.specs.Names.{object_at};
 ghost use Rattle.rv_linker.specs.Filled.{IsInputOf, objects_of};
+ghost use Rattle.rv_linker.specs.Untaken.{AreUnfilled};
 ghost use Rattle.rv_linker.specs.Regions.{AreGrown, IsFixed, left_files, left_from};
 
 use crate::fault::LinkFault;
@@ -34,8 +35,10 @@ impl Regions {
     /// The bytes of the regions of objects, section by section in their order.
     pub(crate) fn of(alloc: Global, fixed: &Fixed<'_>) -> Result<Regions, LinkFault>
         requires { IsFixed fixed.now }
-        ensures { IfOk result
+        ensures grown { IfOk result
             (AreGrown (objects_of fixed.now) (fixed.now).placement.now (λ goes. [])) }
+        ensures refuses { IfErr result (AreUnfilled (objects_of fixed.now)
+            (fixed.now).placement.now) }
     {
         let mut regions = Regions {
             text: Vec::new(alloc),
@@ -54,8 +57,10 @@ impl Regions {
         requires file { file < length (fixed.now).objects.now }
         requires grown { AreGrown (objects_of fixed.now) (fixed.now).placement.now
             (left_files (objects_of fixed.now) file) self.old }
-        ensures { OnOk result (AreGrown (objects_of fixed.now) (fixed.now).placement.now
+        ensures grown { OnOk result (AreGrown (objects_of fixed.now) (fixed.now).placement.now
             (left_files (objects_of fixed.now) (file + 1)) self.new) }
+        ensures refuses { IfErr result (AreUnfilled (objects_of fixed.now)
+            (fixed.now).placement.now) }
     {
         for index in 0..fixed.objects[file].sections.len() {
             self.put_section(alloc, fixed, file, index)?;
@@ -75,8 +80,10 @@ impl Regions {
         requires section { index < length (object_at (objects_of fixed.now) (file + 1)).sections }
         requires grown { AreGrown (objects_of fixed.now) (fixed.now).placement.now
             (left_from (objects_of fixed.now) file index) self.old }
-        ensures { OnOk result (AreGrown (objects_of fixed.now) (fixed.now).placement.now
+        ensures grown { OnOk result (AreGrown (objects_of fixed.now) (fixed.now).placement.now
             (left_from (objects_of fixed.now) file (index + 1)) self.new) }
+        ensures refuses { IfErr result (AreUnfilled (objects_of fixed.now)
+            (fixed.now).placement.now) }
     {
         let input = fixed.input(file, index);
         self.put(alloc, fixed, &input)
@@ -88,8 +95,10 @@ impl Regions {
         requires input { IsInputOf fixed.now input.now }
         requires grown { AreGrown (objects_of fixed.now) (fixed.now).placement.now
             (left_from (objects_of fixed.now) (input.now).file (input.now).index) self.old }
-        ensures { OnOk result (AreGrown (objects_of fixed.now) (fixed.now).placement.now
+        ensures grown { OnOk result (AreGrown (objects_of fixed.now) (fixed.now).placement.now
             (left_from (objects_of fixed.now) (input.now).file ((input.now).index + 1)) self.new) }
+        ensures refuses { IfErr result (AreUnfilled (objects_of fixed.now)
+            (fixed.now).placement.now) }
     {
         let section = input.section;
         if !section.loaded {

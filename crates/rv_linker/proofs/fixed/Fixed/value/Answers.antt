@@ -18,4 +18,10 @@ returns-in-Ok c =
     c.in-Ok.ensures.value (objects_of f) f.placement.now (input_of f x) c.requires.fixed.valued (found_section (objects_of f) x.file x.index (section_of x.section.now) c.requires.input.stands) in
     let fits : FitsSigned w64 v = search rules in
     let same : to_z w64 (of_z w64 v) ≡ v = to_z-of_z w64 v fits in
-    record { found = told.0 ∙ ap (λ n. Some n) (sym same); alone = told.1 }
+    record { found = told.0 ∙ ap (λ n. Some n) (sym same); alone = told.1; refuses = tt }
+
+pub returns-in-Err-Dangling-clause-refuses : goal.returns-in-Err-Dangling-clause-refuses
+returns-in-Err-Dangling-clause-refuses c =
+    let f = c.args.self.now in
+    let x = c.args.input.now in
+    c.in-Err-Dangling.ensures.refuses (objects_of f) f.placement.now (input_of f x) c.requires.fixed.valued (found_section (objects_of f) x.file x.index (section_of x.section.now) c.requires.input.stands)

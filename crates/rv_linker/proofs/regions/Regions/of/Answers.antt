@@ -11,8 +11,8 @@ loop-file-init c =
     opens (objects_of c.args.fixed.now) c.args.fixed.now.placement.now c.requires.first (record { text = c.new.result; rodata = c.new-2.result; «data» = c.new-3.result })
     c.requires.placed c.new.ensures.items c.new-2.ensures.items c.new-3.ensures.items
 
-pub returns : goal.returns
-returns c =
+pub returns-clause-grown : goal.returns-clause-grown
+returns-clause-grown c =
     let os = objects_of c.args.fixed.now in
     let p = c.args.fixed.now.placement.now in
     let last : c.loop-file.file ≡ length os = omega (arith, length-map c.args.fixed.now.objects.now object_of) in

@@ -16,8 +16,8 @@ loop-index-init c =
     let inside : c.args.file < length os = subst (λ n. c.args.file < n) (sym (length-map c.args.fixed.now.objects.now object_of)) c.requires.file in
     grown_along os c.args.fixed.now.placement.now (left_files os c.args.file) (left_from os c.args.file 0) c.args.self.now (λ goes. file_opens os c.args.file inside goes) c.requires.grown
 
-pub returns : goal.returns
-returns c =
+pub returns-clause-grown : goal.returns-clause-grown
+returns-clause-grown c =
     let objects = c.args.fixed.now.objects.now in
     let os = objects_of c.args.fixed.now in
     let p = c.args.fixed.now.placement.now in
