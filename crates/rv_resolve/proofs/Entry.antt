@@ -1,13 +1,18 @@
 -- Where a run begins: at the one global definition of `_start`.
 
-use Rattle.std.proofs.Common.{◌≡◌, ◌+◌, ℕ, suc, Bool, true, false, cond, Option, Some, None, option_map, List, [], ◌∷◌, ◌++◌, map, refl, sym, ap, ◌∙◌, arith}
-use Rattle.std.specs.Prelude.{◌||◌, ◌&&◌, option_and_then, codes, bytes_eq, if◌then◌else◌}
-use Rattle.std.specs.List.{find}
+use Rattle.std.proofs.Common.{◌≡◌, ◌+◌, ℕ, suc, Bool, true, false, cond, Option, Some, None, option_map, List, [], ◌∷◌, ◌++◌, map, refl, sym, ap, ◌∙◌, arith, ◌%◌, ◌^◌}
+use Rattle.std.specs.Prelude.{◌||◌, ◌&&◌, ◌==◌, is_some, slice_get, option_and_then, codes, bytes_eq, if◌then◌else◌}
+use Rattle.std.specs.List.{find, list_any}
+use Rattle.std.proofs.lemmas.Bool.{and_parts}
 use Rattle.std.specs.Option.{option_or}
 use Rattle.std.proofs.lemmas.List.Folds.{list_any-append}
-use Rattle.rv_object.specs.Object.{Symbol, Object}
+use Rattle.rv_object.specs.declared.symbol.Definition.{Definition}
+use Rattle.rv_object.specs.declared.symbol.Definition.TheVariants as definitions
+use Rattle.rv_object.specs.Object.{Section, Symbol, Object}
 use Rattle.rv_object_laws.specs.Inputs.{Starts}
-use Rattle.rv_object_laws.specs.Names.{defined_address, exported, is_one_of, AreDistinct, can_begin, begins_run, entry_by, entry_of, global_names}
+use Rattle.rv_object_laws.specs.Moves.{moves, new_offset}
+use Rattle.rv_object_laws.specs.Names.{offset_address, is_in_text, defined_address, exported, is_one_of, AreDistinct, can_begin, begins_run, entry_by, entry_of, global_names}
+use Rattle.rv_resolve.specs.Entry.{has_entry}
 use Rattle.rv_resolve.specs.Exports.{Export, export, exports_from, named}
 use Rattle.rv_resolve.proofs.Found.{has_name, named_files}
 use Rattle.rv_resolve.proofs.Shown.{address_at, not_named}
@@ -123,3 +128,71 @@ entry_found starts file (o ∷ os) d =
         ap (entry_by (option_and_then (λ (s : Symbol). defined_address (starts (suc file)) o s.definition) (that_can o s))) (rest ∙ ap (option_and_then (start_at starts)) (others s g))
         ∙ entry_none (option_and_then (λ (s : Symbol). defined_address (starts (suc file)) o s.definition) (that_can o s))
         ∙ text s (can_begin o s.definition)
+
+-- ---- whether there is one
+
+found_any : {X : Type 0} (test : X → Bool) (xs : List X) → is_some (find test xs) ≡ list_any test xs
+found_any test [] = refl
+found_any test (x ∷ xs) = go (test x) (found_any test xs)
+  where
+    go : (b : Bool) → is_some (find test xs) ≡ list_any test xs → is_some (cond b (Some x) (find test xs)) ≡ (b || list_any test xs)
+    go true e = refl
+    go false e = e
+
+found_passes : {X : Type 0} (test : X → Bool) (xs : List X) (x : X) → find test xs ≡ Some x → test x ≡ true
+found_passes test [] x e = absurd (cc)
+found_passes test (z ∷ xs) x e = go (test z) refl e (found_passes test xs x)
+  where
+    go : (b : Bool) → test z ≡ b → cond b (Some z) (find test xs) ≡ Some x → (find test xs ≡ Some x → test x ≡ true) → test x ≡ true
+    go true f e ih =
+        let same : z ≡ x = cc in
+        ap test (sym same) ∙ f
+    go false f e ih = ih e
+
+-- where a run can begin, there is an address
+began : (starts : ℕ → ℕ) (o : Object) (d : Definition) → can_begin o d ≡ true → is_some (defined_address starts o d) ≡ true
+began starts o definitions.Undefined e = absurd (cc)
+began starts o (definitions.Absolute n) e = absurd (cc)
+began starts o (definitions.Skipped n) e = absurd (cc)
+began starts o (definitions.InSection section offset) e = go (slice_get o.sections section) (and_parts (is_in_text (slice_get o.sections section)) (offset % 2 == 0) e).0
+  where
+    go : (s : Option Section) → is_in_text s ≡ true → is_some (offset_address (starts section) offset s) ≡ true
+    go None f = absurd (cc)
+    go (Some s) f = ap (λ b. is_some (if b then Some ((starts section + new_offset (moves (starts section) s) offset) % 2 ^ 64) else None)) (and_parts s.loaded s.executable f).0
+
+entry_some : (starts : Starts) (file : ℕ) (os : List Object) → is_some (entry_of starts file os) ≡ has_entry os
+entry_some starts file [] = refl
+entry_some starts file (o ∷ os) = go (find (begins_run o) (exported o)) refl (entry_some starts (suc file) os)
+  where
+    address : Symbol → Option ℕ
+    address s = defined_address (starts file) o s.definition
+
+    by : (a : Option ℕ) → is_some a ≡ true → is_some (entry_by a (entry_of starts (suc file) os)) ≡ true
+    by (Some n) e = refl
+    by None e = absurd (cc)
+
+    go : (found : Option Symbol) → find (begins_run o) (exported o) ≡ found → is_some (entry_of starts (suc file) os) ≡ has_entry os
+        → is_some (entry_by (option_and_then (λ (s : Symbol). defined_address (starts file) o s.definition) found) (entry_of starts (suc file) os)) ≡ (list_any (begins_run o) (exported o) || has_entry os)
+    go None e rest = rest ∙ ap (λ b. b || has_entry os) (sym (ap is_some e) ∙ found_any (begins_run o) (exported o))
+    go (Some s) e rest =
+        by (defined_address (starts file) o s.definition) (began (starts file) o s.definition (and_parts (bytes_eq s.name start_name) (can_begin o s.definition) (found_passes (begins_run o) (exported o) s e)).1)
+        ∙ ap (λ b. b || has_entry os) (sym (ap is_some e) ∙ found_any (begins_run o) (exported o))
+
+-- by the one definition of the name
+abbrev pub can : Export → Bool
+can e = can_begin e.object e.symbol.definition
+
+abbrev pub can_one : Option Export → Bool
+can_one None = false
+can_one (Some e) = can e
+
+pub entry_named : (os : List Object) → AreDistinct (global_names os) → has_entry os ≡ can_one (named (exports_from 0 os) start_name)
+entry_named os d = sym (entry_some (λ file section. 0) 1 os) ∙ ap is_some (entry_found (λ file section. 0) 0 os d) ∙ go (named (exports_from 0 os) start_name)
+  where
+    by : (e : Export) (b : Bool) → can e ≡ b → is_some (if b then address_at (λ file section. 0) e else None) ≡ b
+    by e true f = began (λ section. 0) e.object e.symbol.definition f
+    by e false f = refl
+
+    go : (found : Option Export) → is_some (option_and_then (start_at (λ file section. 0)) found) ≡ can_one found
+    go None = refl
+    go (Some e) = by e (can e) refl

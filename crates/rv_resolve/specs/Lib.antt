@@ -3,3 +3,4 @@ pub mod Names
 pub mod Shown
 pub mod Resolved
 pub mod Undefined
+pub mod Entry

@@ -7,6 +7,7 @@ ghost use Rattle.rv_object.specs.Parts.{symbol_of};
 ghost use Rattle.rv_object.specs.View.{object_of};
 ghost use Rattle.rv_object_laws.specs.Names as laws;
 ghost use Rattle.rv_placement.specs.Placement.{starts_of, IsPlacement};
+ghost use Rattle.rv_resolve.specs.Entry.{has_entry};
 ghost use Rattle.rv_resolve.specs.Names.{IsNames, place_of};
 ghost use Rattle.rv_resolve.specs.Shown.{shown_globals, regions_of};
 
@@ -46,6 +47,17 @@ impl<'o> Names<'o> {
         match self.meant(file, symbol) {
             Some(exported) => placed(exported),
             None => None,
+        }
+    }
+
+    /// Whether a run can begin: the global `_start` stands at an even place of a section of text, wherever that stands.
+    pub fn has_entry(&self, objects: &[Object]) -> bool
+        ensures { IsNames (map object_of objects.now) self.now
+            → result ≡ has_entry (map object_of objects.now) }
+    {
+        match self.by_name.get(&b"_start".as_slice()).copied() {
+            Some(exported) => can_begin(objects, exported.file, exported.definition),
+            None => false,
         }
     }
 
