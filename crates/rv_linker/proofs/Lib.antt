@@ -5,3 +5,4 @@ pub mod Standing
 pub mod Links
 pub mod Steps
 pub mod Turns
+pub mod Unlinked

@@ -21,7 +21,8 @@ use Rattle.rv_resolve.specs.declared.names.Names.{Names}
 use Rattle.rv_resolve.specs.Shown.{shown_globals, regions_of}
 use Rattle.rv_linker.specs.declared.regions.Regions.{Regions}
 use Rattle.rv_linker.specs.Filled.{IsTaken}
-use Rattle.rv_linker.specs.Regions.{AreTaken, AreGrown, IsNamed}
+use Rattle.rv_linker.specs.Untaken.{AreTaken}
+use Rattle.rv_linker.specs.Regions.{AreGrown, IsNamed}
 use Rattle.rv_linker.specs.Made.{made}
 use Rattle.rv_linker.proofs.Standing.{all_at}
 

@@ -1,6 +1,6 @@
 pub mod Fault
-pub mod Refusals
 pub mod Filled
 pub mod Untaken
+pub mod Refusals
 pub mod Made
 pub mod Regions

@@ -1,6 +1,6 @@
 -- How far the regions of a program are filled.
 
-use Rattle.std.specs.Prelude.{◌≡◌, ℕ, suc, ◌+◌, Bool, true, List, ◌++◌, drop, length}
+use Rattle.std.specs.Prelude.{◌≡◌, ℕ, suc, ◌+◌, Bool, true, List, ◌++◌, drop, length, None}
 use Rattle.std.specs.List.{AllByRecursion}
 use Rattle.rv_map.specs.declared.map.Region.{Region}
 use Rattle.rv_object.specs.Object.{Section, Object}
@@ -10,6 +10,7 @@ use Rattle.rv_object_laws.specs.Names.{object_at, globals_of, global_names, AreD
 use Rattle.rv_resolve.specs.declared.names.Names.{Names}
 use Rattle.rv_resolve.specs.Names.{IsNames}
 use Rattle.rv_resolve.specs.Resolved.{AreResolved}
+use Rattle.rv_resolve.specs.Undefined.{first_undefined}
 use Rattle.rv_object_laws.specs.IsLinkOf.{is_loaded}
 use Rattle.rv_placement.specs.declared.placement.Placement.{Placement}
 use Rattle.rv_placement.specs.Placement.{starts_of, are_roomy, IsPlacement}
@@ -67,6 +68,7 @@ pub record AreGrown (os : List Object) (p : Placement)
 pub record IsNamed (os : List Object) (names : Names) : Type 0 where
   pub table : IsNames os names
   pub once : AreDistinct (global_names os)
+  pub meant : first_undefined os ≡ None
   pub resolved : (starts : Starts) (m : Map)
       → m.globals ≡ globals_of starts 1 os ++ shown_linker_symbols os m
       → AreResolved starts os m.globals

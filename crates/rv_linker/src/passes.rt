@@ -1,16 +1,22 @@
 //! The passes of a link.
 
-ghost use Rattle.std.specs.Prelude.{◌≡◌, ◌%◌, ◌<◌, [], Some, map, IfOk, IfErr, OnOk};
+ghost use Rattle.std.specs.Prelude.{◌≡◌, ◌%◌, ◌<◌, [], List, Some, map, IfOk, IfErr, OnOk};
 ghost use Rattle.std.specs.List.{list_any};
 ghost use Rattle.rv_isa_laws.specs.Platform.{stack_start};
 ghost use Rattle.rv_image.specs.Linked.{linked_of};
+ghost use Rattle.rv_object.specs.Object.{Object as SaidObject};
 ghost use Rattle.rv_object.specs.View.{object_of};
 ghost use Rattle.rv_object_laws.specs.IsLinkOf.{IsLinkOf};
-ghost use Rattle.rv_object_laws.specs.Names.{entry_of};
+ghost use Rattle.rv_object_laws.specs.Names.{AreDistinct, global_names, entry_of};
 ghost use Rattle.rv_placement.specs.Placement.{IsPlacement, starts_of};
 ghost use Rattle.rv_map.specs.Limits.{IsMap};
 ghost use Rattle.rv_linker.specs.Made.{made};
-ghost use Rattle.rv_linker.specs.Refusals.{AreWithin, ArePast};
+ghost use Rattle.rv_resolve.specs.Names.{IsDuplicate};
+ghost use Rattle.rv_resolve.specs.Exports.{first_duplicate};
+ghost use Rattle.rv_resolve.specs.Undefined.{first_undefined};
+ghost use Rattle.rv_linker.specs.declared.fault.LinkFault.TheVariants.{EntryMissing, OutOfMemory};
+ghost use Rattle.rv_linker.specs.Untaken.{AreUnfilled};
+ghost use Rattle.rv_linker.specs.Refusals.{AreWithin, ArePast, AreUnnamed, AreUnplaced, IsOddEntry, IsUnlinked};
 ghost use Rattle.rv_linker.specs.Regions.{AreGrown, IsNamed, IsReady, IsPlaced};
 
 use crate::fault::LinkFault;
@@ -19,7 +25,7 @@ use crate::options::LinkOptions;
 use crate::regions::Regions;
 use rv_image::{Linked, STACK_START};
 use rv_map::{Map, known};
-use rv_object::{Binding, Definition, Object};
+use rv_object::Object;
 use rv_placement::{Placement, PlacementFault};
 use rv_resolve::{Names, ResolveFault};
 use rv_values::Values;
@@ -32,18 +38,22 @@ pub const MOST_FILES: usize = 1024;
 ///
 /// # Errors
 ///
-/// A fault of the objects, in the order of the passes: too many of them, a bad start of the text, names that are defined
-/// twice or not at all, a missing entry, too much memory, paddings without room, and then fields that cannot hold their
-/// values, by file, section and relocation. The clause below does not say when each comes.
+/// The first fault of the objects, in the order of the passes: too many of them, a bad start of the text, names that are defined
+/// twice or not at all, a missing entry, paddings without room, too much memory, and then fields that cannot hold their
+/// values, by file, section and relocation.
 pub fn link(alloc: Global, objects: &[Object], options: LinkOptions) -> Result<Linked, LinkFault>
-    ensures { IfOk result
+    ensures links { IfOk result
         (λ l. IsLinkOf (map object_of objects.now) options.text_start (linked_of l)) }
+    ensures refuses { IfErr result (IsUnlinked (map object_of objects.now) options.text_start) }
 {
     let start = options.text_start;
     within_limits(objects.len(), start)?;
     // the start of the text is fixed from here on
     let names = resolve(alloc, objects)?;
     // what each name means is fixed: its definition, though not its address
+    if !names.has_entry(objects) {
+        return Err(LinkFault::EntryMissing);
+    }
     let placement = place(alloc, objects, start)?;
     let entry = entry(&names, objects, &placement)?;
     if !placement.is_roomy() {
@@ -72,7 +82,8 @@ pub fn within_limits(files: usize, text_start: u64) -> Result<(), LinkFault>
 
 /// What the names of objects mean: each has one definition for all files at most, and no reference is without one.
 fn resolve<'o>(alloc: Global, objects: &'o [Object]) -> Result<Names<'o>, LinkFault>
-    ensures { IfOk result (IsNamed (map object_of objects.now)) }
+    ensures named { IfOk result (IsNamed (map object_of objects.now)) }
+    ensures refuses { IfErr result (AreUnnamed (map object_of objects.now)) }
 {
     let names = match Names::of(alloc, objects) {
         Ok(names) => names,
@@ -85,7 +96,10 @@ fn resolve<'o>(alloc: Global, objects: &'o [Object]) -> Result<Names<'o>, LinkFa
 }
 
 /// The fault of names.
-fn of_names(alloc: Global, fault: ResolveFault<'_>) -> LinkFault {
+fn of_names(alloc: Global, fault: ResolveFault<'_>) -> LinkFault
+    ensures { (os : List SaidObject) → IsDuplicate fault.entry (first_duplicate os)
+        → AreUnnamed os result }
+{
     match fault {
         ResolveFault::Duplicate(name) => match Vec::from_slice(alloc, name) {
             Ok(name) => LinkFault::Duplicate(name),
@@ -96,7 +110,10 @@ fn of_names(alloc: Global, fault: ResolveFault<'_>) -> LinkFault {
 }
 
 /// The fault of a name that nobody defines.
-fn undefined(alloc: Global, name: &[u8]) -> LinkFault {
+fn undefined(alloc: Global, name: &[u8]) -> LinkFault
+    ensures { (os : List SaidObject) → AreDistinct (global_names os)
+        → first_undefined os ≡ Some name.now → AreUnnamed os result }
+{
     match Vec::from_slice(alloc, name) {
         Ok(name) => LinkFault::Undefined(name),
         Err(_) => LinkFault::OutOfMemory,
@@ -107,43 +124,14 @@ fn undefined(alloc: Global, name: &[u8]) -> LinkFault {
 fn place(alloc: Global, objects: &[Object], start: u64) -> Result<Placement, LinkFault>
     requires page { start % 4096 ≡ 0 }
     requires low { start < stack_start }
-    ensures { IfOk result (IsPlacement (map object_of objects.now) start) }
+    ensures placed { IfOk result (IsPlacement (map object_of objects.now) start) }
+    ensures refuses { IfErr result (AreUnplaced (map object_of objects.now) start) }
 {
     match Placement::of(alloc, objects, start) {
         Ok(placement) => Ok(placement),
-        Err(PlacementFault::TooLarge) => Err(too_large(objects)),
+        Err(PlacementFault::Short) => Err(LinkFault::AlignmentShort),
+        Err(PlacementFault::TooLarge) => Err(LinkFault::ImageTooLarge),
         Err(PlacementFault::OutOfMemory) => Err(LinkFault::OutOfMemory),
-    }
-}
-
-/// Why objects are refused that are too large: for their entry, where that is missing as well.
-fn too_large(objects: &[Object]) -> LinkFault {
-    for object in objects {
-        if has_entry(object) {
-            return LinkFault::ImageTooLarge;
-        }
-    }
-    LinkFault::EntryMissing
-}
-
-/// Whether an object defines a global `_start` at an even place of a section of text.
-fn has_entry(object: &Object) -> bool {
-    for symbol in &object.symbols {
-        if symbol.binding == Binding::Global && symbol.name.as_slice() == b"_start".as_slice() {
-            return is_entry(object, symbol.definition);
-        }
-    }
-    false
-}
-
-/// Whether a run can begin at what an object defines so.
-fn is_entry(object: &Object, definition: Definition) -> bool {
-    let Definition::InSection(section, offset) = definition else {
-        return false;
-    };
-    match object.sections.get(section as usize) {
-        Some(section) => section.loaded && section.executable && offset % 2 == 0,
-        None => false,
     }
 }
 
@@ -153,6 +141,8 @@ fn entry(names: &Names<'_>, objects: &[Object], placement: &Placement) -> Result
     ensures entry { IfOk result
         (λ a. entry_of (starts_of placement.now) 1 (map object_of objects.now) ≡ Some a) }
     ensures even { IfOk result (λ a. a % 2 ≡ 0) }
+    ensures refuses { IfErr result (λ fault. (fault ≡ EntryMissing)
+        × IsOddEntry (map object_of objects.now) placement.now) }
 {
     match names.entry(objects, placement) {
         Some(entry) => {
@@ -174,7 +164,9 @@ fn fill(
     names: &Names<'_>,
 ) -> Result<Regions, LinkFault>
     requires { IsReady (map object_of objects.now) names.now placement.now }
-    ensures { IfOk result (AreGrown (map object_of objects.now) placement.now (λ goes. [])) }
+    ensures filled { IfOk result
+        (AreGrown (map object_of objects.now) placement.now (λ goes. [])) }
+    ensures refuses { IfErr result (AreUnfilled (map object_of objects.now) placement.now) }
 {
     let values = Values::of(alloc, objects, placement, names)?;
     let fixed = Fixed {
@@ -200,6 +192,7 @@ fn finish(
     ensures made { IfOk result
         (λ l. linked_of l ≡ made (map object_of objects.now) placement entry regions) }
     ensures readable { IfOk result (λ l. IsMap (linked_of l).map) }
+    ensures refuses { IfErr result (λ fault. fault ≡ OutOfMemory) }
 {
     let globals = names.globals(alloc, objects, &placement)?;
     let rows = placement.rows(alloc, objects)?;

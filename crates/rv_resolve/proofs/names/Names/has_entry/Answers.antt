@@ -1,4 +1,4 @@
-use Rattle.std.proofs.Common.{◌≡◌, ◌+◌, ◌∙◌, Some, None, option_map, map, ap, sym}
+use Rattle.std.proofs.Common.{◌≡◌, ◌∙◌, Some, None, option_map, map, ap, sym}
 use Rattle.rv_object.specs.View.{object_of}
 use Rattle.rv_object_laws.specs.Names.{can_begin}
 use Rattle.rv_resolve.specs.declared.names.Exported.{Exported}
