@@ -1,0 +1,16 @@
+pub mod Settled
+pub mod FieldLists
+pub mod ValueSymbols
+pub mod UsesKnown
+pub mod Alignments
+pub mod NamesKept
+pub mod EvenCode
+pub mod FieldsInside
+pub mod Indexed
+pub mod OpenedKept
+pub mod ListsSoFar
+pub mod Composed
+pub mod SectionsSoFar
+pub mod Uses
+pub mod Joining
+pub mod Refused

@@ -1,0 +1,25 @@
+use Rattle.std.proofs.Common.{map, sym, subst}
+use Rattle.rv_statement.specs.View.{statement_of}
+use Rattle.rv_parse_laws.specs.Reading.{Reads}
+use Rattle.rv_unit.specs.Unit.{said}
+use Rattle.rv_assemble.proofs.OpenedKept.{sections_kept}
+use Rattle.rv_assemble.proofs.Refused.{object_read, fault_read}
+use Rattle.rv_assemble.proofs.source.assemble.Goals as goal
+
+pub assembled-requires-clause-names : goal.assembled-requires-clause-names
+assembled-requires-clause-names c =
+    c.names_are_shown.ensures c.args.source.now (said c.in_ok-unit.unit) (subst (λ v. Reads c.args.source.now (map statement_of v.items)) (sym c.in_ok-unit.ensures.same) c.in_ok-statements.ensures.reads)
+
+pub assembled-requires-clause-kept : goal.assembled-requires-clause-kept
+assembled-requires-clause-kept c =
+    sections_kept c.args.source.now (said c.in_ok-unit.unit) (subst (λ v. Reads c.args.source.now (map statement_of v.items)) (sym c.in_ok-unit.ensures.same) c.in_ok-statements.ensures.reads)
+
+pub returns-clause-object : goal.returns-clause-object
+returns-clause-object c =
+    object_read c.args.source.now (said c.in_ok-unit.unit) c.assembled.result
+    (subst (λ v. Reads c.args.source.now (map statement_of v.items)) (sym c.in_ok-unit.ensures.same) c.in_ok-statements.ensures.reads) c.assembled.ensures.sound c.assembled.ensures.object
+
+pub returns-clause-refuses : goal.returns-clause-refuses
+returns-clause-refuses c =
+    fault_read c.args.source.now (said c.in_ok-unit.unit) c.assembled.result
+    (subst (λ v. Reads c.args.source.now (map statement_of v.items)) (sym c.in_ok-unit.ensures.same) c.in_ok-statements.ensures.reads) c.in_ok-unit.ensures.good c.assembled.ensures.refuses

@@ -1,0 +1,7 @@
+use Rattle.rv_unit.specs.Unit.{said}
+use Rattle.rv_assemble.proofs.Refused.{all_sound}
+use Rattle.rv_assemble.proofs.source.assembled.Goals as goal
+
+pub returns-clause-sound : goal.returns-clause-sound
+returns-clause-sound c =
+    all_sound (said c.args.unit.now) c.requires.good c.in_ok-draft.ensures.sound.0 c.in_ok-draft.ensures.sound.1

@@ -1,0 +1,22 @@
+use Rattle.std.proofs.Common.{length, ap, ◌∙◌, sym, subst, map}
+use Rattle.rv_unit_laws.specs.Tables.{tables}
+use Rattle.rv_unit.specs.Unit.{said}
+use Rattle.rv_assemble_laws.specs.ShownNames.{AreShown}
+use Rattle.rv_symbols.specs.SymbolUse.{AreMeant, uses_of}
+use Rattle.rv_assemble.specs.Tabled.{use_of, offsets_of}
+use Rattle.rv_assemble.proofs.Uses.{uses_shown, uses_meant, offsets_count}
+use Rattle.rv_assemble.proofs.symbols.table.Goals as goal
+
+pub symbols-requires-clause-shown : goal.symbols-requires-clause-shown
+symbols-requires-clause-shown c =
+    subst AreShown (sym (ap uses_of c.as_slice-4.ensures.value ∙ c.in_ok-uses.ensures ∙ ap (map use_of) c.as_slice-2.ensures.value))
+    (uses_shown (said c.args.unit.now) c.args.draft.now c.requires.draft c.requires.names)
+
+pub symbols-requires-clause-meant : goal.symbols-requires-clause-meant
+symbols-requires-clause-meant c =
+    subst (AreMeant (tables (said c.args.unit.now))) (sym (ap uses_of c.as_slice-4.ensures.value ∙ c.in_ok-uses.ensures ∙ ap (map use_of) c.as_slice-2.ensures.value))
+    (uses_meant (said c.args.unit.now) c.args.draft.now c.requires.draft c.requires.names)
+
+pub symbols-requires-clause-each : goal.symbols-requires-clause-each
+symbols-requires-clause-each c =
+    ap length (c.as_slice-3.ensures.value ∙ c.in_ok-offsets.ensures ∙ ap offsets_of c.as_slice.ensures.value) ∙ offsets_count (said c.args.unit.now) c.args.draft.now c.requires.draft

@@ -1,0 +1,5 @@
+pub mod FirstFault
+pub mod KeptNames
+pub mod Making
+pub mod Lists
+pub mod Tabled

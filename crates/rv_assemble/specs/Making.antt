@@ -1,0 +1,88 @@
+-- What the parts of an object are made of: rows of items, relocations of fields with numbers, sections of their parts.
+
+use Rattle.std.specs.Prelude.{◌≡◌, ℕ, ◌+◌, ◌==◌, true, List, [], ◌∷◌, ◌++◌, length, map, Some, if◌then◌else◌}
+use Rattle.std.specs.Global.{Vec}
+use Rattle.rv_unit_laws.specs.Sections.{Section as SourceSection}
+use Rattle.rv_tables.specs.declared.section.Extent.{Extent}
+use Rattle.rv_tables.specs.Sections.{extent_section}
+use Rattle.rv_object.specs.declared.row.Row.{Row}
+use Rattle.rv_object.specs.declared.relocation.Relocation.{Relocation as DeclaredRelocation}
+use Rattle.rv_object.specs.Object.{Relocation, Section}
+use Rattle.rv_object.specs.Parts.{relocation_of}
+use Rattle.rv_object.specs.Valid.{is_alignment, is_kept_name, is_even, is_loaded_alone, fit_inside, are_paddings}
+use Rattle.rv_assemble_laws.specs.Fields.{Field}
+use Rattle.rv_assemble_laws.specs.IsObjectOf.{contents_of}
+use Rattle.rv_sites.specs.declared.item.Item.{Item}
+
+-- ---- rows
+
+abbrev pub row_of : ℕ → Item → Row
+row_of ordinal i = record {
+  line = i.line;
+  ordinal = ordinal;
+  section = i.section;
+  offset = i.offset;
+  bytes = i.bytes;
+  instructions = i.instructions;
+}
+
+abbrev pub rows_of : ℕ → Item → List Row
+rows_of ordinal i = if i.shown then row_of ordinal i ∷ [] else []
+
+-- the rows of items from an ordinal on
+abbrev pub rows_from : ℕ → List Item → List Row
+rows_from ordinal [] = []
+rows_from ordinal (i ∷ is) = rows_of ordinal i ++ rows_from (ordinal + 1) is
+
+-- ---- relocations
+
+-- a field whose symbol has an index
+abbrev pub relocation_by : Field → ℕ → Relocation
+relocation_by f n =
+    record { place = f.place; kind = f.kind; symbol = Some n; addend = f.addend }
+
+abbrev pub relocations_at : ℕ → Field → ℕ → List Relocation
+relocations_at section f n = if f.section == section then relocation_by f n ∷ [] else []
+
+-- those of a section, of fields with their indices
+abbrev pub relocations_in : ℕ → List Field → List ℕ → List Relocation
+relocations_in section (f ∷ fs) (n ∷ ns) =
+    relocations_at section f n ++ relocations_in section fs ns
+relocations_in section _ _ = []
+
+abbrev pub list_of : Vec DeclaredRelocation → List Relocation
+list_of v = map relocation_of v.items
+
+-- ---- sections
+
+abbrev pub section_by : SourceSection → ℕ → ℕ → List ℕ → List Relocation → Section
+section_by home alignment stop bytes rs = record {
+  name = home.name;
+  loaded = home.loaded;
+  executable = home.executable;
+  writable = home.writable;
+  contents = contents_of home.section_type stop bytes;
+  alignment = alignment;
+  relocations = rs;
+}
+
+-- what every section of an object keeps
+pub record IsMakeable (x : Section) : Type 0 where
+  pub kept : is_kept_name x.name ≡ true
+  pub aligned : is_alignment x.alignment ≡ true
+  pub even : is_even x.executable x.contents ≡ true
+  pub alone : is_loaded_alone x.loaded x.relocations ≡ true
+  pub inside : fit_inside x.contents x.relocations ≡ true
+  pub paddings : are_paddings x.executable x.contents x.relocations ≡ true
+
+-- the sections of a source with the ends, the bytes and the relocations of each
+abbrev pub sections_by : List Extent → List ℕ → List (Vec ℕ) → List (Vec DeclaredRelocation) →
+    List Section
+sections_by (e ∷ es) (n ∷ ns) (b ∷ bs) (r ∷ rs) =
+    section_by (extent_section e) e.alignment n b.items (list_of r) ∷ sections_by es ns bs rs
+sections_by _ _ _ _ = []
+
+-- one each
+abbrev pub AreEach : List Extent → List ℕ → List (Vec ℕ) → List (Vec DeclaredRelocation) → Type 0
+AreEach es ns bs rs =
+    (length ns ≡ length es) × (length bs ≡ length es) × (length rs ≡ length es)

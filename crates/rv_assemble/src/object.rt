@@ -1,0 +1,53 @@
+//! The object of a draft.
+
+ghost use Rattle.std.specs.Prelude.{◌≡◌, None, IfOk};
+ghost use Rattle.rv_unit_laws.specs.Faults.{first_fault};
+ghost use Rattle.rv_unit.specs.Unit.{said, IsFilled};
+ghost use Rattle.rv_object.specs.View.{object_of};
+ghost use Rattle.rv_assemble_laws.specs.IsObjectOf.{IsObjectOf};
+ghost use Rattle.rv_sites.specs.Draft.{IsDraft};
+ghost use Rattle.rv_assemble.specs.KeptNames.{OpenKept};
+ghost use Rattle.rv_assemble.specs.Tabled.{HasTable};
+
+use crate::relocations::relocations;
+use crate::rows::rows;
+use crate::sections::sections;
+use rv_object::Object;
+use rv_sites::Draft;
+use rv_symbols::SymbolTable;
+use rv_unit::Unit;
+use std::alloc::{AllocError, Global};
+
+/// The object of a draft with its symbols. The bytes of its sections are moved.
+pub(crate) fn object(
+    alloc: Global,
+    unit: &Unit<'_>,
+    draft: Draft<'_>,
+    table: SymbolTable,
+) -> Result<Object, AllocError>
+    requires filled { IsFilled unit.now }
+    requires good { first_fault (said unit.now) ≡ None }
+    requires kept { OpenKept (said unit.now) }
+    requires draft { IsDraft (said unit.now) draft }
+    requires table { HasTable (said unit.now) draft table }
+    ensures { IfOk result (λ o. IsObjectOf (said unit.now) (object_of o)) }
+{
+    let Draft {
+        items,
+        sections: bytes,
+        ends,
+        fields,
+        rvc,
+    } = draft;
+    let SymbolTable { symbols, numbers } = table;
+    let extents = unit.sections();
+    let relocations = relocations(alloc, extents.len(), fields.as_slice(), numbers.as_slice())?;
+    let rows = rows(alloc, items.as_slice())?;
+    let sections = sections(alloc, extents, ends.as_slice(), bytes, relocations)?;
+    Ok(Object {
+        sections,
+        symbols,
+        rows,
+        rvc,
+    })
+}

@@ -1,0 +1,55 @@
+//! From a source to its object.
+
+ghost use Rattle.std.specs.Prelude.{◌≡◌, List, None, IfOk, IfErr};
+ghost use Rattle.rv_statement.specs.Statement.{Statement};
+ghost use Rattle.rv_parse_laws.specs.Reading.{Reads};
+ghost use Rattle.rv_unit_laws.specs.Faults.{first_fault};
+ghost use Rattle.rv_unit.specs.Unit.{said, IsFilled};
+ghost use Rattle.rv_object.specs.View.{object_of};
+ghost use Rattle.rv_assemble_laws.specs.IsObjectOf.{IsObjectOf};
+ghost use Rattle.rv_assemble_laws.specs.Refusals.{statements_fault};
+ghost use Rattle.rv_assemble_laws.specs.ShownNames.{HasNames};
+ghost use Rattle.rv_sites.specs.Draft.{IsRefused};
+ghost use Rattle.rv_assemble.specs.FirstFault.{IsFirstFault};
+ghost use Rattle.rv_assemble.specs.KeptNames.{OpenKept};
+
+use crate::object::object;
+use crate::symbols::table;
+use rv_assemble_laws::names_are_shown;
+use rv_object::Object;
+use rv_parse::parse;
+use rv_sites::Draft;
+use rv_text::SourceFault;
+use rv_unit::Unit;
+use std::alloc::Global;
+
+/// The object of a source. A fault names its line, from 1, and is the first one: those of the text
+/// come before those of labels and directives, those before the ones of code, and sizes come last.
+pub fn assemble(alloc: Global, source: &[u8]) -> Result<Object, SourceFault>
+    ensures object { IfOk result (λ o.
+        (ss : List Statement) × Reads source.now ss × (statements_fault ss ≡ None)
+        × IsObjectOf ss (object_of o)) }
+    ensures refuses { IfErr result (λ fault. IsFirstFault source.now fault) }
+{
+    let statements = parse(alloc, source)?;
+    let unit = Unit::build(alloc, statements)?;
+    // its names can be shown
+    names_are_shown();
+    assembled(alloc, &unit)
+}
+
+/// The object of a unit.
+fn assembled(alloc: Global, unit: &Unit<'_>) -> Result<Object, SourceFault>
+    requires filled { IsFilled unit.now }
+    requires good { first_fault (said unit.now) ≡ None }
+    requires names { HasNames (said unit.now) }
+    requires kept { OpenKept (said unit.now) }
+    ensures sound { IfOk result (λ o. statements_fault (said unit.now) ≡ None) }
+    ensures object { IfOk result (λ o. IsObjectOf (said unit.now) (object_of o)) }
+    ensures refuses { IfErr result (λ fault. IsRefused (said unit.now) fault) }
+{
+    let draft = Draft::of(alloc, unit)?;
+    let table = table(alloc, unit, &draft)?;
+    let object = object(alloc, unit, draft, table)?;
+    Ok(object)
+}

@@ -1,0 +1,57 @@
+//! The symbols of a draft.
+
+ghost use Rattle.std.specs.Prelude.{◌≡◌, None, IfOk, map};
+ghost use Rattle.rv_unit_laws.specs.Faults.{first_fault};
+ghost use Rattle.rv_unit.specs.Unit.{said, IsFilled};
+ghost use Rattle.rv_assemble_laws.specs.ShownNames.{HasNames};
+ghost use Rattle.rv_sites.specs.Draft.{IsDraft};
+ghost use Rattle.rv_symbols.specs.SymbolUse.{uses_of};
+ghost use Rattle.rv_assemble.specs.Tabled.{use_of, offsets_of, HasTable};
+
+use rv_sites::{Draft, Item, OpenField};
+use rv_symbols::{SymbolTable, SymbolUse, symbols};
+use rv_unit::Unit;
+use std::alloc::{AllocError, Global};
+
+/// The symbols of a draft, with the index of each field's.
+pub(crate) fn table<'a>(
+    alloc: Global,
+    unit: &Unit<'a>,
+    draft: &Draft<'a>,
+) -> Result<SymbolTable, AllocError>
+    requires filled { IsFilled unit.now }
+    requires good { first_fault (said unit.now) ≡ None }
+    requires names { HasNames (said unit.now) }
+    requires draft { IsDraft (said unit.now) draft.now }
+    ensures { IfOk result (λ table. HasTable (said unit.now) draft.now table) }
+{
+    let offsets = offsets(alloc, draft.items.as_slice())?;
+    let uses = uses(alloc, draft.fields.as_slice())?;
+    symbols(alloc, unit, offsets.as_slice(), uses.as_slice())
+}
+
+/// The offset of each statement in its section.
+fn offsets(alloc: Global, items: &[Item]) -> Result<Vec<u32>, AllocError>
+    ensures { IfOk result (λ offsets. offsets.items ≡ offsets_of items.now) }
+{
+    let mut offsets = Vec::new(alloc);
+    for index in 0..items.len() {
+        offsets.push(items[index].offset)?;
+    }
+    Ok(offsets)
+}
+
+/// The symbols that fields name, in their order.
+fn uses<'a>(alloc: Global, fields: &[OpenField<'a>]) -> Result<Vec<SymbolUse<'a>>, AllocError>
+    ensures { IfOk result (λ uses. uses_of uses.items ≡ map use_of fields.now) }
+{
+    let mut uses = Vec::new(alloc);
+    for index in 0..fields.len() {
+        let field = &fields[index];
+        uses.push(SymbolUse {
+            ordinal: field.ordinal,
+            symbol: field.symbol,
+        })?;
+    }
+    Ok(uses)
+}
