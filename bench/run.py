@@ -22,6 +22,7 @@ AS = "riscv64-unknown-elf-as"
 LD = "riscv64-unknown-elf-ld"
 SOURCE_BYTES = 16 * 2**20
 STATEMENTS = 2**22
+SOURCES = 1000
 # No token: the last line of a source that is read whole and refused.
 FAULT = "!\n"
 
@@ -247,6 +248,46 @@ def compiler(folder):
     reading_alone(folder, source, count, length)
 
 
+def write_sources(folder):
+    """Writes as many sources as are linked, of the length that is measured together: each has its own labels, makes one
+    global and refers to that of the source before it; the first has `_start`."""
+    each, paths = SOURCE_BYTES // SOURCES, []
+    for number in range(SOURCES):
+        paths.append(folder / f"source_{number}.s")
+        front = f".globl file_{number}\n.data\nfile_{number}: .dword file_{max(number - 1, 0)}\n.text\n"
+        length = len(front)
+        with paths[-1].open("w") as file:
+            file.write(front)
+            for line in lines() if number == 0 else (it for it in lines() if "_start" not in it):
+                length += len(line) + 1
+                if length > each:
+                    break
+                file.write(line + "\n")
+    return paths
+
+
+def assemble_all(sources):
+    """The processor time of GNU as over all sources, and their objects."""
+    objects = [source.with_suffix(".o") for source in sources]
+    start = spent()
+    for source, made in zip(sources, objects):
+        subprocess.run([AS, "-march=rv64ima", "-mabi=lp64", "-o", made, source], check=True)
+    return spent() - start, objects
+
+
+def many(folder):
+    """Linking many small sources: bytes a second, and the memory that it takes."""
+    sources = write_sources(folder)
+    length = sum(source.stat().st_size for source in sources)
+    print(f"Building {len(sources)} sources of {length} bytes together")
+    measured("rv build", [RV, "build", "-o", folder / "executable", "--map", folder / "map", *sources], length)
+    if missing(AS) or missing(LD):
+        return
+    seconds, objects = assemble_all(sources)
+    row("as, one by one", seconds, length, peak([AS, "-o", folder / "object", sources[0]])[0], "")
+    measured("ld", [LD, "-Map", folder / "map", "-o", folder / "executable", *objects], length)
+
+
 def statements(folder):
     """The most statements that a source may have: the memory that each takes, with the source's own."""
     source, faulty = folder / "statements.s", folder / "too_many.s"
@@ -264,7 +305,7 @@ def statements(folder):
 
 def main():
     with tempfile.TemporaryDirectory() as folder:
-        for benchmark in (kernel, reading, compiler, statements):
+        for benchmark in (kernel, reading, compiler, many, statements):
             benchmark(Path(folder))
 
 

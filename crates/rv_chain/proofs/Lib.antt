@@ -1,25 +1,2 @@
-pub mod Adding
-pub mod FirstCode
+pub mod Gathered
 pub mod Headlined
-pub mod Figures
-pub mod Growing
-pub mod SoFar
-pub mod StatementKinds
-pub mod Unplaced
-pub mod SoFarData
-pub mod SoFarPieces
-mod Stretched
-pub mod Standing
-pub mod Whole
-pub mod SoFarItems
-pub mod HeldCode
-pub mod EvenSections
-pub mod Linking
-pub mod FirstNames
-pub mod SoFarSized
-pub mod Itemized
-pub mod Sound
-pub mod Started
-pub mod SuitsAll
-pub mod Roomy
-pub mod Rooms

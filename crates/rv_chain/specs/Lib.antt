@@ -1,15 +1,5 @@
-pub mod Added
 pub mod Building
-pub mod Compressed
-pub mod Code
-pub mod Coded
-pub mod DataSoFar
 pub mod Fault
-pub mod Linking
-pub mod Measured
-pub mod Pieces
+pub mod Objects
+pub mod Refusals
 pub mod Running
-pub mod Scoped
-pub mod Sized
-pub mod Undefined
-pub mod Valued

@@ -1,19 +1,24 @@
 //! From sources to an executable and its map.
 
-ghost use Rattle.std.specs.Prelude.{◌≡◌, ◌<◌, ◌%◌, ◌∷◌, [], IfOk, IsTrue, map, ◌↔◌};
-ghost use Rattle.rv_isa_laws.specs.Platform.{stack_start};
+ghost use Rattle.std.specs.Prelude.{◌<◌, ◌≤◌, ◌+◌, map, length, IfOk, IfErr};
 ghost use Rattle.rv_statement.specs.View.{now_of};
 ghost use Rattle.rv_image.specs.Linked.{linked_of};
+ghost use Rattle.rv_object.specs.View.{object_of};
+ghost use Rattle.rv_object_laws.specs.IsLinkOf.{most_files};
 ghost use Rattle.rv_chain_laws.specs.Headline.{TheHeadline};
 ghost use Rattle.rv_chain.specs.Building.{IsProgramOf, IsExecutableOf};
+ghost use Rattle.rv_chain.specs.Objects.{IsObjectFrom, AreObjectsFrom};
+ghost use Rattle.rv_chain.specs.Refusals.{IsRefusedFor, IsRefusedIn, IsRefusedAt};
 
-use crate::fault::{Fault, LinkFault};
-use crate::link::link;
-use crate::options::{Built, LinkOptions};
-use rv_image::{Linked, STACK_START, write_exec};
+use crate::built::Built;
+use crate::fault::Fault;
+use rv_assemble::assemble;
+use rv_boundary_laws::{linked_objects_are_flagged, objects_of_sources_link};
+use rv_image::{Linked, write_exec};
+use rv_link::{LinkOptions, link, within_limits};
 use rv_map::known;
-use rv_parse::parse;
-use rv_unit::Unit;
+use rv_object::Object;
+use rv_text::SourceFault;
 use std::alloc::Global;
 
 /// Assembles and links a list of sources: the executable and its map.
@@ -22,11 +27,13 @@ use std::alloc::Global;
 /// console and the end that the statements of the sources give, each executed in one step at the
 /// addresses of the map; only a jump to the inside of a statement ends the promise.
 pub fn build(alloc: Global, sources: &[&[u8]], options: LinkOptions) -> Result<Built, Fault>
-    ensures { IfOk result
+    ensures headline { IfOk result
         (λ built. TheHeadline
         (map now_of sources.now) options.text_start built.exe.items built.map.items) }
+    // The first fault: too many files, the text's start, then the sources one by one, then the link.
+    ensures refuses { IfErr result (IsRefusedFor (map now_of sources.now) options.text_start) }
 {
-    let linked = linked(alloc, sources, options.text_start)?;
+    let linked = linked(alloc, sources, options)?;
     // what the types of a map keep
     known(&linked.map);
     let exe = write_exec(alloc, &linked)?;
@@ -36,10 +43,11 @@ pub fn build(alloc: Global, sources: &[&[u8]], options: LinkOptions) -> Result<B
 
 /// Assembles and links as `build`, without the text of the map: the same executable.
 pub fn build_exe(alloc: Global, sources: &[&[u8]], options: LinkOptions) -> Result<Vec<u8>, Fault>
-    ensures { IfOk result
+    ensures headline { IfOk result
         (λ exe. IsExecutableOf (map now_of sources.now) options.text_start exe.items) }
+    ensures refuses { IfErr result (IsRefusedFor (map now_of sources.now) options.text_start) }
 {
-    let linked = linked(alloc, sources, options.text_start)?;
+    let linked = linked(alloc, sources, options)?;
     // what the types of a map keep
     known(&linked.map);
     let exe = write_exec(alloc, &linked)?;
@@ -47,36 +55,45 @@ pub fn build_exe(alloc: Global, sources: &[&[u8]], options: LinkOptions) -> Resu
 }
 
 /// The linked program of a list of sources.
-fn linked(alloc: Global, sources: &[&[u8]], start: u64) -> Result<Linked, Fault>
-    ensures { IfOk result (λ l. IsProgramOf (map now_of sources.now) start (linked_of l)) }
+fn linked(alloc: Global, sources: &[&[u8]], options: LinkOptions) -> Result<Linked, Fault>
+    ensures program { IfOk result
+        (λ l. IsProgramOf (map now_of sources.now) options.text_start (linked_of l)) }
+    ensures refuses { IfErr result (IsRefusedFor (map now_of sources.now) options.text_start) }
 {
-    if sources.len() > 1 {
-        return Err(Fault::Link(LinkFault::TooManyFiles));
-    }
-    if !is_text_start(start) {
-        return Err(Fault::Link(LinkFault::BadTextStart));
-    }
-    match sources {
-        [source] => linked_one(alloc, *source, start),
-        _ => Err(Fault::Link(LinkFault::EntryMissing)),
-    }
-}
-
-/// Whether a text can start at an address: a multiple of 4096 below the stack.
-fn is_text_start(address: u64) -> bool
-    ensures { IsTrue result ↔ ((address % 4096 ≡ 0) × (address < stack_start)) }
-{
-    address % 4096 == 0 && address < STACK_START
-}
-
-/// The linked program of one source. Its statements are gone when the program is written.
-fn linked_one(alloc: Global, source: &[u8], start: u64) -> Result<Linked, Fault>
-    requires page { start % 4096 ≡ 0 }
-    requires low { start < stack_start }
-    ensures { IfOk result (λ l. IsProgramOf (source.now ∷ []) start (linked_of l)) }
-{
-    let statements = parse(alloc, source)?;
-    let unit = Unit::build(alloc, statements)?;
-    let linked = link(alloc, &unit, start)?;
+    within_limits(sources.len(), options.text_start)?;
+    let objects = objects(alloc, sources)?;
+    // what they are linked to is the program of the sources
+    objects_of_sources_link();
+    linked_objects_are_flagged();
+    let linked = link(alloc, objects.as_slice(), options)?;
     Ok(linked)
+}
+
+/// The objects of sources, in their order.
+fn objects(alloc: Global, sources: &[&[u8]]) -> Result<Vec<Object>, Fault>
+    requires few { length sources.now ≤ most_files }
+    ensures objects { IfOk result
+        (λ os. AreObjectsFrom (map now_of sources.now) (map object_of os.items)) }
+    ensures refuses { IfErr result (IsRefusedIn (map now_of sources.now)) }
+{
+    let mut objects = Vec::new(alloc);
+    for index in 0..sources.len() {
+        objects.push(object(alloc, index, sources[index])?)?;
+    }
+    Ok(objects)
+}
+
+/// The object of the source at this index, from 0.
+fn object(alloc: Global, index: usize, source: &[u8]) -> Result<Object, Fault>
+    requires few { index < most_files }
+    ensures object { IfOk result (λ o. IsObjectFrom source.now (object_of o)) }
+    ensures refuses { IfErr result (IsRefusedAt (index + 1) source.now) }
+{
+    match assemble(alloc, source) {
+        Ok(object) => Ok(object),
+        Err(SourceFault::At { code, line }) => {
+            Err(Fault::Source(index as u32 + 1, SourceFault::At { code, line }))
+        }
+        Err(SourceFault::OutOfMemory) => Err(Fault::Memory),
+    }
 }

@@ -1,7 +1,7 @@
 //! Whole runs: from sources to an executable with its map, and from an executable to its end.
 //!
-//! Takes the bytes of sources (of one, today) and how to link them; or the bytes of an executable, an input and a limit
-//! of instructions. Gives an executable and its map's text, or a run's console and end; or the first fault.
+//! Takes the bytes of sources and how to link them; or the bytes of an executable, an input and a limit of instructions.
+//! Gives an executable and its map's text, or a run's console and end; or the first fault.
 //!
 //! The main contract: what `build` gives keeps `TheHeadline`: the run of the executable's bytes is the run of the
 //! sources' statements at the addresses of the printed map, for every input and limit. `build_exe` gives the same
@@ -17,25 +17,15 @@
 #![tactic(auto)]
 
 mod building;
-mod code;
-mod compressed;
-mod data;
+mod built;
 mod fault;
-mod instruction;
-mod items;
-mod link;
-mod operand;
-mod options;
-mod pieces;
-mod placed;
 mod running;
-mod undefined;
-mod written;
 
 pub use building::{build, build_exe};
-pub use fault::{Fault, LinkFault};
-pub use options::{Built, LinkOptions};
+pub use built::Built;
+pub use fault::Fault;
 pub use running::run_exec;
 pub use rv_image::FileFault;
+pub use rv_link::{LinkFault, LinkOptions};
 pub use rv_machine::{End, Outcome};
 pub use rv_text::{SourceCode, SourceFault};

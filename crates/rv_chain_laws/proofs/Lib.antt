@@ -12,5 +12,3 @@ pub mod Homes
 pub mod Held
 pub mod LaidOut
 pub mod Contents
-pub mod Distinct
-pub mod Entered

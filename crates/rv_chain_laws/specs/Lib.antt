@@ -2,5 +2,3 @@ pub mod Realizes
 pub mod Agrees
 pub mod Headline
 pub mod Contents
-pub mod InstructionFaults
-pub mod Refusals

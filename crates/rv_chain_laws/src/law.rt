@@ -1,8 +1,7 @@
 //! The law: whenever memory holds a program, the machine's run over it agrees with the run of its
 //! statements.
 
-ghost use Rattle.std.specs.Prelude.{◌≡◌, ℕ, ◌^◌, ◌%◌, ◌<◌, List, [], ◌∷◌, None, true};
-ghost use Rattle.rv_unit_laws.specs.Faults.{first_fault};
+ghost use Rattle.std.specs.Prelude.{◌≡◌, ℕ, ◌^◌, ◌%◌, ◌<◌, List};
 ghost use Rattle.rv_isa_laws.specs.Memory.{Mem};
 ghost use Rattle.rv_statement.specs.Statement.{Statement};
 ghost use Rattle.rv_map.specs.Map.{Map};
@@ -16,9 +15,6 @@ ghost use Rattle.rv_source_laws.specs.Program.{program};
 ghost use Rattle.rv_source_laws.specs.SourceRun.{source_run};
 ghost use Rattle.rv_chain_laws.specs.Headline.{RunsAgree};
 ghost use Rattle.rv_chain_laws.specs.Contents.{IsLinked};
-ghost use Rattle.rv_source_laws.specs.Fits.{Fits};
-ghost use Rattle.rv_source_laws.specs.Resolves.{AreDistinct, global_names};
-ghost use Rattle.rv_chain_laws.specs.Refusals.{IsMapOf, has_entry};
 ghost use Rattle.rv_image.specs.Linked.{Linked};
 ghost use Rattle.rv_image.specs.Executable.{linked_image};
 
@@ -43,16 +39,4 @@ pub fn runs_agree()
 pub fn linked_runs_agree()
     ensures { (start : ℕ) (sources : List (List Statement)) (l : Linked)
         → IsLinked sources start l → RunsAgree sources l.map (linked_image l) }
-{}
-
-/// In one source without a faulty label or directive no name has two global definitions.
-pub fn names_are_distinct()
-    ensures { (ss : List Statement) (map : Map)
-        → first_fault ss ≡ None → AreDistinct (global_names (ss ∷ []) map) }
-{}
-
-/// A source that has a map has an entry: no source is refused both for want of one and for its size.
-pub fn a_map_has_an_entry()
-    ensures { (start : ℕ) (ss : List Statement) (map : Map)
-        → IsMapOf start ss map → has_entry ss ≡ true }
 {}

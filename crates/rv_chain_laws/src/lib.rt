@@ -2,8 +2,8 @@
 //! that it does.
 //!
 //! It takes what sources mean (`rv_source_laws`), what a linked program and an image are (`rv_image`) and what the machine
-//! does (`rv_isa_laws`). It gives the definition that `build` promises (`specs/Headline`), what the linker owes to it
-//! (`Contents`) and what memory owes to it (`Realizes`), and why one source is refused (`Refusals`).
+//! does (`rv_isa_laws`). It gives the definition that `build` promises (`specs/Headline`), what a linked program owes to it
+//! (`Contents`) and what memory owes to it (`Realizes`).
 //!
 //! Its main contract is the law `linked_runs_agree`: where the regions of a linked program hold the sections of its sources
 //! (`IsLinked`), the image's run agrees with the sources' run for every input and every limit. `code_has_a_reader` says that
@@ -23,6 +23,4 @@
 
 mod law;
 
-pub use law::{
-    a_map_has_an_entry, code_has_a_reader, linked_runs_agree, names_are_distinct, runs_agree,
-};
+pub use law::{code_has_a_reader, linked_runs_agree, runs_agree};

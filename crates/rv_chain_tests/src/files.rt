@@ -6,20 +6,22 @@ use std::process::Abort;
 use std::test::Fail;
 
 /// Sources, the text start, and what their build comes to.
-const BUILDS: [(&[&[u8]], u64, Answer); 12] = [
+const BUILDS: [(&[&[u8]], u64, Answer); 14] = [
     (&[], 0x1_0000, Answer::Link(7)),
     (&[b""], 0x1_0000, Answer::Link(7)),
-    (&[EXIT, b""], 0x1_0000, Answer::Link(10)),
-    (&[b"", EXIT], 0x1_0000, Answer::Link(10)),
+    (&[b"", b""], 0x1_0000, Answer::Link(7)),
+    (&[EXIT, b""], 0x1_0000, Answer::Built),
+    (&[b"", EXIT], 0x1_0000, Answer::Built),
+    (&[EXIT, EXIT], 0x1_0000, Answer::Link(6)),
     (&[EXIT], 4097, Answer::Link(9)),
     (&[EXIT], 0x3ff0_0000, Answer::Link(9)),
     (&[EXIT], u64::MAX, Answer::Link(9)),
     (&[EXIT], 0, Answer::Built),
     (&[EXIT], 0x3fef_f000, Answer::Built),
     // their order
-    (&[EXIT, b"foo a0"], 4097, Answer::Link(10)),
+    (&[EXIT, EXIT], 4097, Answer::Link(9)),
     (&[b"foo a0"], 4097, Answer::Link(9)),
-    (&[b"foo a0"], 4096, Answer::Source(6, 1)),
+    (&[b"foo a0", EXIT, EXIT], 4096, Answer::Source(6, 1)),
 ];
 
 /// Each row's build comes to its answer.

@@ -22,6 +22,6 @@ mod order;
 #[cfg(test)]
 mod programs;
 #[cfg(test)]
-mod sections;
+mod several;
 #[cfg(test)]
 mod sources;

@@ -4,7 +4,7 @@ use rv_chain::{Built, End, Fault, LinkOptions, SourceFault, build, run_exec};
 use std::alloc::{AllocError, Global};
 use std::process::Abort;
 
-const OPTIONS: LinkOptions = LinkOptions {
+pub const OPTIONS: LinkOptions = LinkOptions {
     text_start: 0x1_0000,
     relax: true,
 };

@@ -1,7 +1,8 @@
-pub mod Unshown
-pub mod RefusedData
-pub mod TooLarge
-pub mod Placed
-pub mod Named
-pub mod Joined
-pub mod Firsts
+pub mod Following
+pub mod Apart
+pub mod Growing
+pub mod Standing
+pub mod Links
+pub mod Steps
+pub mod Turns
+pub mod Unlinked

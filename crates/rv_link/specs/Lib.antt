@@ -1,4 +1,6 @@
-pub mod TooLarge
-pub mod Settings
-pub mod Names
-pub mod Numbers
+pub mod Fault
+pub mod Filled
+pub mod Untaken
+pub mod Refusals
+pub mod Made
+pub mod Regions

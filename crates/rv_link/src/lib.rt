@@ -1,40 +1,29 @@
-//! Sections one after another in memory: where each starts, where their statements stand, what the regions of a program
-//! hold, and the addresses of names and expressions.
+//! Linking: the program that a list of objects becomes.
 //!
-//! Takes the sections of a source as pieces, its statements as items, and its unit, which knows its names. Gives the
-//! layout, the rows and names of the map, the entry, the bytes of data and those of each region.
+//! It takes objects (`rv_object`), whoever made them, and the address at which their text starts, and gives a linked program
+//! (`rv_image`): the bytes of its regions with each relocation applied, and its map. Nothing here knows of statements.
 //!
-//! The main contracts: `lay_out` gives a layout that `IsLayout`, or says that the pieces are too large;
-//! `region_bytes` gives the `contents_of` a region; `rv_link_laws` makes of these a program that fits its source.
+//! Main contract: [`link`] answers only a program that `IsLinkOf` the objects (`rv_object_laws`). The work is that of the
+//! crates below, pass by pass: names (`rv_resolve`), places (`rv_placement`), values (`rv_values`), fields (`rv_reloc`).
 //!
-//! It must not know instructions, files, or how a map is printed. In use:
+//! ```text
+//! let options = LinkOptions { text_start: 0x1_0000, relax: false };
+//! let linked = link(alloc, objects.as_slice(), options)?;
+//! let first = linked.entry();
+//! let file = write_exec(alloc, &linked)?;
+//! let fault = link(alloc, &[], options);                      // Err(EntryMissing)
+//! ```
 //!
-//!     let layout = lay_out(alloc, pieces, 0x1_0000)?;
-//!     let starts = layout.starts.as_slice();
-//!     let rows = statement_rows(alloc, 1, starts, items)?;
-//!     let (to, start) = (Destination::Data, layout.data.start);
-//!     let bytes = region_bytes(alloc, pieces, starts, sections, to, start)?;
-//!
-//! Source: System V gABI, "Sections"; GNU ld, "SECTIONS Command".
+//! Source: System V gABI, "Sections", "Symbol Table", "Relocation"; RISC-V ELF psABI, "Relocations"; GNU ld.
 #![tactic(auto)]
 
-mod contents;
-mod data;
-mod definitions;
-mod layout;
-mod names;
-mod numbers;
-mod rows;
-mod settings;
-mod symbols;
+mod fault;
+mod fields;
+mod fixed;
+mod options;
+mod passes;
+mod regions;
 
-pub use contents::region_bytes;
-pub use data::put_data;
-pub use definitions::{NameFault, global_definitions};
-pub use layout::{LayoutFault, lay_out};
-pub use names::Names;
-pub use numbers::{Addresses, DataFault, Numbers};
-pub use rows::{address, statement_rows};
-pub use rv_link_laws::{Destination, Item, Layout, Piece};
-pub use settings::FirstSettings;
-pub use symbols::{entry, put_symbols};
+pub use fault::LinkFault;
+pub use options::LinkOptions;
+pub use passes::{MOST_FILES, link, within_limits};

@@ -1,4 +1,4 @@
-//! Tests alone: it takes `rv_linker` and gives nothing.
+//! Tests alone: it takes `rv_link` and gives nothing.
 //!
 //! Programs of objects that GNU's assembler made, against what GNU's linker makes of them; and objects made by hand, as
 //! another assembler may write them, with the faults of their links.

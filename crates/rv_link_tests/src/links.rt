@@ -2,7 +2,7 @@
 
 use crate::objects::{ObjectRow, objects};
 use rv_image::Linked;
-use rv_linker::{LinkFault, LinkOptions, link};
+use rv_link::{LinkFault, LinkOptions, link};
 use rv_object::Object;
 use std::alloc::{AllocError, Global};
 

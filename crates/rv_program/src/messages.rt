@@ -58,13 +58,17 @@ fn link_line(alloc: Global, fault: &LinkFault) -> Result<CliError, AllocError> {
     };
     let what = fault.name();
     let line = match fault {
-        LinkFault::Undefined(name) => {
-            let name = from_utf8(name.as_slice()).unwrap_or("");
-            format!(in alloc; "L{number} {what} {name}")?
-        }
+        LinkFault::Duplicate(name) => named_line(alloc, number, what, name.as_slice())?,
+        LinkFault::Undefined(name) => named_line(alloc, number, what, name.as_slice())?,
         _ => format!(in alloc; "L{number} {what}")?,
     };
     Ok(CliError::Line(line))
+}
+
+/// The line of a fault of the link with the name that it is about.
+fn named_line(alloc: Global, number: u8, what: &str, name: &[u8]) -> Result<String, AllocError> {
+    let name = from_utf8(name).unwrap_or("");
+    format!(in alloc; "L{number} {what} {name}")
 }
 
 /// As `FetchOutside 8`; an address is hexadecimal, in lower case.

@@ -28,6 +28,25 @@ row 1 4 5 10004 4 1
 row 1 5 6 10008 4 1
 ";
 
+/// The same after an empty source.
+const SECOND_MAP: &str = "rvmap 1
+text 10000 1000c
+rodata 11000 11000
+data 11000 11000
+bss 11000 11000
+entry 10000
+global _start 10000
+global _etext 1000c
+global __bss_start 11000
+global _edata 11000
+global _end 11000
+global __global_pointer$ 11800
+row 2 3 3 10000 0 0
+row 2 3 4 10000 4 1
+row 2 4 5 10004 4 1
+row 2 5 6 10008 4 1
+";
+
 /// Whether the program wrote nothing but files, and of them as this one a file of this name and purpose with this
 /// number of bytes.
 fn wrote(fake: &Fake<'_>, index: usize, name: &str, purpose: Purpose, length: usize) -> bool {
@@ -58,7 +77,11 @@ fn builds_without_a_map(rt: HostRuntime) -> Result<(), Fail> {
     Ok(())
 }
 
-const PRINTS: [Row; 1] = [("rv map a.s", 0, EXIT7_MAP, "")];
+const PRINTS: [Row; 3] = [
+    ("rv map a.s", 0, EXIT7_MAP, ""),
+    ("rv map a.s b.s", 0, EXIT7_MAP, ""),
+    ("rv map b.s a.s", 0, SECOND_MAP, ""),
+];
 
 const PRINTS_NOT: [Row; 1] = [("rv map a.s", 1, "", "rv: -: cannot write\n")];
 

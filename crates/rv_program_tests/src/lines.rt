@@ -53,6 +53,8 @@ fn fault_lines(rt: HostRuntime) -> Result<(), AllocError> {
     assert!(rt; shows(alloc, fault, Some("L10 TooManyFiles"))?);
     let fault = Fault::Link(LinkFault::Undefined(Vec::from_slice(alloc, b"f")?));
     assert!(rt; shows(alloc, fault, Some("L5 Undefined f"))?);
+    let fault = Fault::Link(LinkFault::Duplicate(Vec::from_slice(alloc, b"f")?));
+    assert!(rt; shows(alloc, fault, Some("L6 Duplicate f"))?);
     assert!(rt; shows(alloc, Fault::Memory, None)?);
     Ok(())
 }

@@ -5,12 +5,14 @@ use super::runs::{EXIT7, executable};
 use std::alloc::{AllocError, Global};
 use std::test::Fail;
 
-/// The jobs that read a source.
-const JOBS: [&str; 4] = [
+/// The jobs that read a source, alone or after an empty one.
+const JOBS: [&str; 6] = [
     "rv run a.s",
     "rv build -o a a.s",
+    "rv build -o a b.s a.s",
     "rv build -o a --map a.map a.s",
     "rv map a.s",
+    "rv map b.s a.s",
 ];
 
 /// Whether each job ends with status 1 and this line alone, with these bytes as `a.s`.
@@ -116,8 +118,13 @@ const LINKS: [Row; 10] = [
         "",
         "rv: L9 BadTextStart\n",
     ),
-    ("rv build -o a a.s b.s", 1, "", "rv: L10 TooManyFiles\n"),
-    ("rv map a.s b.s", 1, "", "rv: L10 TooManyFiles\n"),
+    (
+        "rv build -o a a.s b.s a.s",
+        1,
+        "",
+        "rv: L6 Duplicate _start\n",
+    ),
+    ("rv map b.s b.s", 1, "", "rv: L7 EntryMissing\n"),
     ("rv build -o a b.s", 1, "", "rv: L7 EntryMissing\n"),
     ("rv map b.s", 1, "", "rv: L7 EntryMissing\n"),
 ];

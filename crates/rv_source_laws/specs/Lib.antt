@@ -7,4 +7,3 @@ pub mod Fits
 pub mod Resolves
 pub mod Start
 pub mod SourceRun
-pub mod Placement

@@ -6,8 +6,7 @@
 //! (`Start`), when a map fits the sources (`Fits`) and resolves their names (`Resolves`), their run (`SourceRun`), and whether
 //! they have compressed code (`Compressed`).
 //!
-//! Its main contract is the law `laid_out_fits`: a map that is laid out section by section fits its sources. Nothing here
-//! runs, and nothing here knows of executables, of the machine's run or of how a linker works.
+//! Nothing here runs, and nothing here knows of executables, of the machine's run or of how a linker works.
 //!
 //! A contract that cites it:
 //!
@@ -22,7 +21,3 @@
 //! Source: RISC-V Unprivileged ISA 20191213; RISC-V Assembly Programmer's Manual; System V gABI, "Sections" and "Symbol
 //! Table".
 #![tactic(auto)]
-
-mod law;
-
-pub use law::laid_out_fits;

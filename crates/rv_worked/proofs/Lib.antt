@@ -1,3 +1,2 @@
 pub mod Exit7Program
 pub mod FiguresProgram
-pub mod WideProgram

@@ -1,11 +1,11 @@
 -- Worked sources that are refused.
 
-use Rattle.std.specs.Prelude.{ℕ, List, [], ◌∷◌, Option, Some, None, codes}
+use Rattle.std.specs.Prelude.{ℕ, List, [], ◌∷◌, Option, Some, codes}
 use Rattle.rv_text_laws.specs.declared.operator.UnaryOperator.TheVariants.{Negate}
-use Rattle.rv_text_laws.specs.declared.operator.BinaryOperator.TheVariants.{Add, Subtract, Divide}
+use Rattle.rv_text_laws.specs.declared.operator.BinaryOperator.TheVariants.{Subtract, Divide}
 use Rattle.rv_text_laws.specs.Expression.{Leaf, Here, Unary, Binary}
 use Rattle.rv_statement.specs.declared.directive.Choice.TheVariants.{Norvc, Push, Pop}
-use Rattle.rv_statement.specs.declared.directive.Standard.TheVariants.{Text, Data, Rodata}
+use Rattle.rv_statement.specs.declared.directive.Standard.TheVariants.{Text, Data}
 use Rattle.rv_statement.specs.declared.mnemonic.Mnemonic.TheVariants.{Registers, Immediate, Shift, Upper, Load, Store, J, Jr, La, Li, Call, Jump}
 use Rattle.rv_statement.specs.declared.pseudo.Function.{Function}
 use Rattle.rv_statement.specs.declared.pseudo.Function.TheVariants.{Hi, PcrelHi}
@@ -17,8 +17,7 @@ use Rattle.rv_isa.specs.declared.operation.LoadOperation.TheVariants.{Ld}
 use Rattle.rv_isa.specs.declared.operation.StoreOperation.TheVariants.{Sd}
 use Rattle.rv_statement.specs.Statement.{StatementKind, Label, Instruction, Directs, Statement, Expression, Register, Value, Applied, Target, Enters, Opens, Sets, Aligns_to_power, Values, Chooses}
 use Rattle.rv_unit_laws.specs.Faults.{Fault}
-use Rattle.rv_map.specs.Map.{Map}
-use Rattle.rv_worked.specs.Exit7.{said, constant, norvc, globl, row, region, global}
+use Rattle.rv_worked.specs.Exit7.{said, constant, norvc}
 use Rattle.rv_worked.specs.Data.{call, symbol}
 
 -- a fault by its code and its line
@@ -165,68 +164,3 @@ directive_later =
     ∷ said 3 (Label (codes "x"))
     ∷ said 4 (Label (codes "x"))
     ∷ []
-
--- the data name `late` in the first section of data, and before it in the source `early` in the second one
-abbrev pub unknown_names : List Statement
-unknown_names =
-    said 1 norvc
-    ∷ said 2 (Directs (Enters Data))
-    ∷ said 3 (Directs (Values 8 (symbol (codes "_end") ∷ [])))
-    ∷ said 4 (Directs (Enters Rodata))
-    ∷ said 5 (Directs (Values 8 (symbol (codes "early") ∷ [])))
-    ∷ said 6 (Directs (Enters Data))
-    ∷ said 7
-    (Directs (Values 8 (Binary Subtract (symbol (codes "late")) (symbol (codes "early")) ∷ [])))
-    ∷ []
-
--- a place in a section that is not loaded has no address, but its distance to another one there is known
-abbrev pub unloaded_place : List Statement
-unloaded_place =
-    said 1 (Directs (Opens (codes "notes") None None))
-    ∷ said 2 (Label (codes "n"))
-    ∷ said 3 (Directs (Values 4 (symbol (codes "elsewhere") ∷ [])))
-    ∷ said 4 (Label (codes "m"))
-    ∷ said 5 (Directs (Enters Data))
-    ∷ said 6 (Directs (Values 4 (Binary Subtract (symbol (codes "m")) (symbol (codes "n")) ∷ [])))
-    ∷ said 7 (Directs (Values 4 (symbol (codes "n") ∷ [])))
-    ∷ []
-
--- a global constant, and a label of data, are no entry
-abbrev pub no_entry : List Statement
-no_entry =
-    said 1 (globl (codes "_start"))
-    ∷ said 2 (Directs (Enters Data))
-    ∷ said 3 (Label (codes "_start"))
-    ∷ []
-
--- a place plus a number, in four bytes
-abbrev pub wide : ℕ → List Statement
-wide k =
-    said 1 norvc
-    ∷ said 2 (globl (codes "_start"))
-    ∷ said 3 (Label (codes "_start"))
-    ∷ said 4 call
-    ∷ said 5 (Directs (Enters Data))
-    ∷ said 6 (Directs (Values 4 (Binary Add (Leaf Here) (constant k) ∷ [])))
-    ∷ []
-
-abbrev pub wide_map : Map
-wide_map = record {
-  text = region 0x10000 0x10004;
-  rodata = region 0x11000 0x11000;
-  «data» = region 0x11000 0x11004;
-  bss = region 0x11004 0x11004;
-  entry = 0x10000;
-  gaps = [];
-  globals = global (codes "_start") 0x10000
-      ∷ global (codes "_etext") 0x10004
-      ∷ global (codes "__bss_start") 0x11004
-      ∷ global (codes "_edata") 0x11004
-      ∷ global (codes "_end") 0x11004
-      ∷ global (codes "__global_pointer$") 0x11800
-      ∷ [];
-  rows = row 1 3 3 0x10000 0 0
-      ∷ row 1 4 4 0x10000 4 1
-      ∷ row 1 6 6 0x11000 4 0
-      ∷ [];
-}

@@ -19,9 +19,9 @@ mod refused;
 mod worked;
 
 pub use refused::{
-    distances_name_labels, first_ones_count, low_parts_fit, names_are_missing, other_ranges_end,
-    padding_is_code, places_overflow, ranges_end, scratch_registers_are_used,
-    targets_are_addresses, unplaced_comes_last, upper_parts_end, wide_is_mapped, worked_are_sound,
+    distances_name_labels, first_ones_count, low_parts_fit, other_ranges_end, padding_is_code,
+    ranges_end, scratch_registers_are_used, targets_are_addresses, unplaced_comes_last,
+    upper_parts_end, worked_are_sound,
 };
 pub use worked::{
     code_is_aligned, differences_fit, differences_spell, exit7_executes, exit7_fits,

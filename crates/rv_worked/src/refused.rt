@@ -1,6 +1,6 @@
 //! Worked sources that are refused, as contracts that the check computes.
 
-ghost use Rattle.std.specs.Prelude.{◌≡◌, ◌-◌, ◌^◌, [], ◌∷◌, Some, None, true, false, codes};
+ghost use Rattle.std.specs.Prelude.{◌≡◌, [], ◌∷◌, None, true, false, codes};
 ghost use Rattle.rv_text_laws.specs.Codes.{unsupported_here, immediate_range, not_constant, division_by_zero, duplicate_label, scratch_register, undefined_local, wrong_section};
 ghost use Rattle.rv_text_laws.specs.declared.operator.BinaryOperator.TheVariants.{Divide};
 ghost use Rattle.rv_text_laws.specs.Expression.{Leaf, Binary, Reference};
@@ -8,8 +8,8 @@ ghost use Rattle.rv_statement.specs.declared.pseudo.Function.TheVariants.{Lo, Pc
 ghost use Rattle.rv_statement.specs.Statement.{Directs, Values};
 ghost use Rattle.rv_worked.specs.Exit7.{exit7, load, constant};
 ghost use Rattle.rv_worked.specs.Data.{hello, figures, differences, symbol};
-ghost use Rattle.rv_worked.specs.Refused.{fault, alone, adds, minus, shifts, shifts_word, ands, uppers, loads, x, away, jumps, loads_address, loads_symbol, stores_symbol, calls, jumps_by, adds_part, shifts_part, li_part, upper_part, upper_distance, jumps_back, after_set, before_set, before_label, after_location, compressed, after_padding, padding_without_bytes, options, two_faults, directive_later, unknown_names, unloaded_place, no_entry, wide, wide_map};
-ghost use Rattle.rv_chain_laws.specs.Refusals.{statements_fault, undefined, has_entry, overflows, IsMapOf};
+ghost use Rattle.rv_worked.specs.Refused.{fault, alone, adds, minus, shifts, shifts_word, ands, uppers, loads, x, away, jumps, loads_address, loads_symbol, stores_symbol, calls, jumps_by, adds_part, shifts_part, li_part, upper_part, upper_distance, jumps_back, after_set, before_set, before_label, after_location, compressed, after_padding, padding_without_bytes, options, two_faults, directive_later};
+ghost use Rattle.rv_assemble_laws.specs.Refusals.{statements_fault};
 
 /// The worked programs have no fault; one without `.option norvc` wants compressed code.
 pub fn worked_are_sound()
@@ -134,26 +134,4 @@ pub fn padding_is_code()
     ensures before { statements_fault (after_padding (Directs (Values 4 (constant 1 ∷ []))))
         ≡ fault wrong_section 3 }
     ensures without { statements_fault padding_without_bytes ≡ fault wrong_section 2 }
-{}
-
-/// The first name without an address is that of the first section; a place that is not loaded has
-/// none; `_start` has to be a label of text.
-pub fn names_are_missing()
-    ensures sections { undefined unknown_names ≡ Some (codes "late") }
-    ensures unloaded { undefined unloaded_place ≡ Some (codes "n") }
-    ensures entry { has_entry no_entry ≡ false }
-    ensures good { has_entry hello ≡ true }
-{}
-
-/// The map of a source with a place in four bytes.
-pub fn wide_is_mapped()
-    ensures { IsMapOf 0x10000 (wide (2 ^ 32 - 0x11001)) wide_map }
-{}
-
-/// A place in four bytes is at most 2^32 - 1 and at least -2^31.
-pub fn places_overflow()
-    ensures last { overflows (wide (2 ^ 32 - 0x11001)) wide_map ≡ false }
-    ensures past { overflows (wide (2 ^ 32 - 0x11000)) wide_map ≡ true }
-    ensures first { overflows (wide (2 ^ 64 - 2 ^ 31 - 0x11000)) wide_map ≡ false }
-    ensures before { overflows (wide (2 ^ 64 - 2 ^ 31 - 0x11001)) wide_map ≡ true }
 {}

@@ -5,8 +5,8 @@ use Rattle.rv_image.specs.Linked.{linked_of}
 use Rattle.rv_chain.proofs.Headlined.{headlined}
 use Rattle.rv_chain.proofs.building.build_exe.Goals as goal
 
-pub returns : goal.returns
-returns c = (
+pub returns-clause-headline : goal.returns-clause-headline
+returns-clause-headline c = (
   map_text (linked_of c.in_ok-linked.linked).map,
-  headlined (map now_of c.args.sources.now) c.args.options.text_start c.in_ok-linked.linked c.in_ok-exe.exe.items c.known.ensures c.in_ok-linked.ensures c.in_ok-exe.ensures,
+  headlined (map now_of c.args.sources.now) c.args.options.text_start c.in_ok-linked.linked c.in_ok-exe.exe.items c.known.ensures c.in_ok-linked.ensures.program c.in_ok-exe.ensures,
 )

@@ -1,0 +1,107 @@
+-- The objects of texts, one after another, and the statements of all of them.
+
+use Rattle.std.proofs.Common.{◌≡◌, ℕ, zero, suc, ◌+◌, ◌<◌, List, [], ◌∷◌, ◌++◌, length, take, drop, map, get_or, sym, ap, subst, ◌∙◌, refl, ◌⊎◌, inl, inr, arith}
+use Rattle.std.specs.Prelude.{⊤, Result, Ok, Err, IfErr}
+use Rattle.std.specs.Result.{IsErrAnd}
+use Rattle.std.specs.Borrow.{Bor}
+use Rattle.rv_statement.specs.View.{now_of}
+use Rattle.rv_chain.specs.declared.fault.Fault.{Fault}
+use Rattle.rv_chain.specs.declared.fault.Fault.TheVariants as cases
+use Rattle.rv_lexer.specs.declared.fault.SourceFault.{SourceFault}
+use Rattle.rv_statement.specs.Statement.{Statement}
+use Rattle.rv_object.specs.Object.{Object}
+use Rattle.rv_chain_laws.specs.Headline.{AllRead}
+use Rattle.rv_boundary_laws.specs.Joins.{AreObjectsOf}
+use Rattle.rv_assemble.specs.FirstFault.{IsFirstFault}
+use Rattle.rv_chain.specs.Objects.{IsObjectFrom, AreObjectsFrom}
+use Rattle.rv_link.specs.declared.fault.LinkFault.{LinkFault}
+use Rattle.rv_link.specs.declared.fault.LinkFault.TheVariants as faults
+use Rattle.rv_link.specs.Refusals.{AreWithin}
+use Rattle.rv_chain.specs.Fault.{of_link}
+use Rattle.rv_chain.specs.Refusals.{IsRefusedAt, IsFirstRefused, IsRefusedIn, AreAssembled, IsRefusedFor}
+
+pub one_more : (texts : List (List ℕ)) (os : List Object) (text : List ℕ) (o : Object) → AreObjectsFrom texts os → IsObjectFrom text o → AreObjectsFrom (texts ++ text ∷ []) (os ++ o ∷ [])
+one_more [] [] text o h is = (is, tt)
+one_more [] (p ∷ os) text o h is = absurd h
+one_more (t ∷ texts) [] text o h is = absurd h
+one_more (t ∷ texts) (p ∷ os) text o (one, h) is = (one, one_more texts os text o h is)
+
+-- the statements that texts read as, of which these are the objects
+pub gathered : (texts : List (List ℕ)) (os : List Object) → AreObjectsFrom texts os → (sources : List (List Statement)) × AllRead texts sources × AreObjectsOf sources os
+gathered [] [] h = ([], tt, tt)
+gathered [] (o ∷ os) h = absurd h
+gathered (text ∷ texts) [] h = absurd h
+gathered (text ∷ texts) (o ∷ os) ((ss, reads, sound, is), h) =
+    let rest = gathered texts os h in
+    (ss ∷ rest.0, (reads, rest.1), (is, rest.2))
+
+-- the text at an index, between those before and after it
+split_here : (texts : List (List ℕ)) (i : ℕ) → i < length texts → texts ≡ take i texts ++ get_or texts i [] ∷ drop (suc i) texts
+split_here [] i h = absurd (let no : i < 0 = h in omega arith)
+split_here (t ∷ texts) zero h = refl
+split_here (t ∷ texts) (suc i) h = ap (λ l. t ∷ l) (split_here texts i (omega (arith, h)))
+
+pub split_at : (texts : List (List ℕ)) (i : ℕ) → i < length texts → texts ≡ take i texts ++ get_or texts i [] ∷ drop (i + 1) texts
+split_at texts i h =
+    let next : suc i ≡ i + 1 = omega arith in
+    subst (λ n. texts ≡ take i texts ++ get_or texts i [] ∷ drop n texts) next (split_here texts i h)
+
+take_next : (texts : List (List ℕ)) (i : ℕ) → i < length texts → take (suc i) texts ≡ take i texts ++ get_or texts i [] ∷ []
+take_next [] i h = absurd (let no : i < 0 = h in omega arith)
+take_next (t ∷ texts) zero h = refl
+take_next (t ∷ texts) (suc i) h = ap (λ l. t ∷ l) (take_next texts i (omega (arith, h)))
+
+pub take_one_more : (texts : List (List ℕ)) (i : ℕ) → i < length texts → take (i + 1) texts ≡ take i texts ++ get_or texts i [] ∷ []
+take_one_more texts i h =
+    let next : suc i ≡ i + 1 = omega arith in
+    subst (λ n. take n texts ≡ take i texts ++ get_or texts i [] ∷ []) next (take_next texts i h)
+
+pub taken : (texts : List (List ℕ)) (i : ℕ) → i < length texts → length (take i texts) ≡ i
+taken [] i h = absurd (let no : i < 0 = h in omega arith)
+taken (t ∷ texts) zero h = refl
+taken (t ∷ texts) (suc i) h = ap suc (taken texts i (omega (arith, h)))
+
+-- what is said of the one error that is answered
+pub err_given : {X : Type 0} (r : Result X Fault) (P Q : Fault → Type 0) → IsErrAnd r Q → ((f : Fault) → Q f → P f) → IfErr r P
+err_given (Ok x) P Q h go = tt
+err_given (Err f) P Q h go = go f h
+
+pub refused_there : (texts : List (List ℕ)) (i : ℕ) (os : List Object) (fault : SourceFault) (number : ℕ) → i < length texts → AreObjectsFrom (take i texts) os
+    → number ≡ i + 1 → IsFirstFault (get_or texts i []) fault → IsFirstRefused texts number fault
+refused_there texts i os fault number h good is refused = record {
+  before = take i texts;
+  text = get_or texts i [];
+  after = drop (i + 1) texts;
+  whole = split_at texts i h;
+  number_is = is ∙ ap (λ n. n + 1) (sym (taken texts i h));
+  objects = os;
+  good = good;
+  refused = refused;
+}
+
+-- a refused link of assembled sources
+pub link_refused : (texts : List (List ℕ)) (start : ℕ) (fault : LinkFault) → AreWithin (length texts) start → AreAssembled texts → IsRefusedFor texts start (of_link fault)
+link_refused texts start faults.OutOfMemory within are = tt
+link_refused texts start faults.Overflow within are = inr (within, are)
+link_refused texts start faults.OddTarget within are = inr (within, are)
+link_refused texts start faults.DanglingPcrel within are = inr (within, are)
+link_refused texts start faults.AlignmentShort within are = inr (within, are)
+link_refused texts start (faults.Undefined name) within are = inr (within, are)
+link_refused texts start (faults.Duplicate name) within are = inr (within, are)
+link_refused texts start faults.EntryMissing within are = inr (within, are)
+link_refused texts start faults.ImageTooLarge within are = inr (within, are)
+link_refused texts start faults.BadTextStart within are = inr (within, are)
+link_refused texts start faults.TooManyFiles within are = inr (within, are)
+
+-- the text of a source at an index
+pub source_at : (sources : List (Bor (List ℕ))) (i : ℕ) (d : Bor (List ℕ)) → i < length sources → get_or (map now_of sources) i [] ≡ (get_or sources i d).now
+source_at [] i d h = absurd (let no : i < 0 = h in omega arith)
+source_at (s ∷ sources) zero d h = refl
+source_at (s ∷ sources) (suc i) d h = source_at sources i d (omega (arith, h))
+
+-- a source is refused, and those before it have objects
+pub refused_in : (texts : List (List ℕ)) (i : ℕ) (os : List Object) (f : Fault) → i < length texts → AreObjectsFrom (take i texts) os → IsRefusedAt (i + 1) (get_or texts i []) f → IsRefusedIn texts f
+refused_in texts i os (cases.Source number fault) h good (is, refused) = refused_there texts i os fault number h good is refused
+refused_in texts i os (cases.File number fault) h good refused = refused
+refused_in texts i os (cases.Link fault) h good refused = refused
+refused_in texts i os cases.Memory h good refused = tt

@@ -1,0 +1,42 @@
+-- Why a link ends: what each pass says of it.
+
+use Rattle.std.proofs.Common.{◌≡◌, ℕ, List, [], ◌∷◌, true, inl, inr, subst, sym}
+use Rattle.rv_object.specs.Object.{Relocation, Object}
+use Rattle.rv_object_laws.specs.Inputs.{InputSection, inputs}
+use Rattle.rv_object_laws.specs.IsLinkOf.{is_loaded}
+use Rattle.rv_placement.specs.declared.placement.Placement.{Placement}
+use Rattle.rv_placement.specs.Placement.{are_roomy, IsPlacement}
+use Rattle.rv_link.specs.declared.fault.LinkFault.{LinkFault}
+use Rattle.rv_link.specs.declared.fault.LinkFault.TheVariants.{Overflow, OddTarget, DanglingPcrel, AlignmentShort, Undefined, Duplicate, EntryMissing, ImageTooLarge, BadTextStart, TooManyFiles, OutOfMemory}
+use Rattle.rv_link.specs.Filled.{IsTaken}
+use Rattle.rv_link.specs.Untaken.{IsFirst, IsUntaken, AreTaken, AreUntaken, IsFirstUntaken, AreUnfilled}
+use Rattle.rv_link.specs.Refusals.{ComesToPlaces, IsUnlinked}
+
+-- what nothing can be, is first of no list
+none_first : {X : Type 0} (Passes Fails : X → Type 0) → ((x : X) → Fails x → ⊥) → (xs : List X) → IsFirst Passes Fails xs → ⊥
+none_first Passes Fails none [] h = h
+none_first Passes Fails none (x ∷ xs) (inl h) = none x h
+none_first Passes Fails none (x ∷ xs) (inr h) = none_first Passes Fails none xs h.1
+
+module _ (os : List Object) (start : ℕ) (p : Placement) (so : ComesToPlaces os start) (placed : IsPlacement os start p) (roomy : are_roomy p ≡ true) where
+  -- no relocation is refused for another reason
+  never : {A : Type 0} (fault : LinkFault) → ((i : InputSection) (r : Relocation) → IsUntaken os p i fault r → ⊥) → IsFirstUntaken os p fault (inputs is_loaded os) → A
+  never fault none h =
+      absurd (none_first (AreTaken os p) (AreUntaken os p fault) (λ i. none_first (IsTaken os p i) (IsUntaken os p i fault) (none i) i.section.relocations) (inputs is_loaded os) h)
+
+  told : (fault : LinkFault) → IsFirstUntaken os p fault (inputs is_loaded os) → IsUnlinked os start fault
+  told Overflow h = (so, (p, placed, roomy, h))
+  told OddTarget h = (so, (p, placed, roomy, h))
+  told DanglingPcrel h = (so, (p, placed, roomy, h))
+  told AlignmentShort h = never AlignmentShort (λ i r n. n) h
+  told (Undefined name) h = never (Undefined name) (λ i r n. n) h
+  told (Duplicate name) h = never (Duplicate name) (λ i r n. n) h
+  told EntryMissing h = never EntryMissing (λ i r n. n) h
+  told ImageTooLarge h = never ImageTooLarge (λ i r n. n) h
+  told BadTextStart h = never BadTextStart (λ i r n. n) h
+  told TooManyFiles h = never TooManyFiles (λ i r n. n) h
+  told OutOfMemory h = tt
+
+  pub unfilled : (fault : LinkFault) → AreUnfilled os p fault → IsUnlinked os start fault
+  unfilled fault (inl e) = subst (IsUnlinked os start) (sym e) tt
+  unfilled fault (inr h) = told fault h

@@ -1,7 +1,0 @@
-use Rattle.std.proofs.Common.{◌≡◌, ◌++◌, ◌+◌, drop}
-use Rattle.rv_link_laws.specs.Rows.{rows_from}
-use Rattle.rv_link.proofs.rows.statement_rows.Given as goal
-
--- the rows so far, and those of what is left, are all rows
-abbrev pub invariant-loop-index : goal.invariant-loop-index
-invariant-loop-index l = l.rows.items ++ rows_from l.file l.starts (l.index + 1) (drop l.index l.items) ≡ rows_from l.file l.starts 1 l.items

@@ -1,0 +1,68 @@
+-- What regions hold, section by section (gABI, "Relocation").
+
+use Rattle.std.specs.Prelude.{◌≡◌, ℕ, ◌+◌, ◌<◌, ◌≤◌, ℤ, pos, true, IsTrue, List, map, Some, is_some, unwrap_or}
+use Rattle.std.specs.List.{AllByRecursion, list_all}
+use Rattle.rv_isa.specs.Kinds.{width_of}
+use Rattle.rv_reloc.specs.Ranges.{Takes}
+use Rattle.rv_object.specs.Object.{Relocation, Section, Object}
+use Rattle.rv_object.specs.Parts.{relocation_of}
+use Rattle.rv_object.specs.Sections.{section_of}
+use Rattle.rv_object.specs.View.{object_of}
+use Rattle.rv_object_laws.specs.Moves.{Move, moves, new_offset, has_room}
+use Rattle.rv_object_laws.specs.Inputs.{InputSection}
+use Rattle.rv_object_laws.specs.Names.{object_at}
+use Rattle.rv_object_laws.specs.Values.{is_low, value, linked_bytes}
+use Rattle.rv_relax.specs.Plan.{moves_of}
+use Rattle.rv_placement.specs.declared.placement.Placement.{Placement}
+use Rattle.rv_placement.specs.Placement.{starts_of, section_at}
+use Rattle.rv_link.specs.declared.fixed.Input.{Input}
+use Rattle.rv_link.specs.declared.fixed.Fixed.{Fixed}
+use Rattle.rv_resolve.specs.Shown.{shown_globals}
+
+abbrev pub objects_of : Fixed → List Object
+objects_of f = map object_of f.objects.now
+
+-- a section at an index of a file, both from 0
+abbrev pub input_at : List Object → ℕ → ℕ → Section → InputSection
+input_at os file index s =
+    record { file = file + 1; object = object_at os (file + 1); index = index; section = s }
+
+abbrev pub input_of : Fixed → Input → InputSection
+input_of f x = input_at (objects_of f) x.file x.index (section_of x.section.now)
+
+-- the section is one of the objects, and what is placed for it is where it starts, with room for its paddings
+pub record IsInput (os : List Object) (p : Placement) (x : Input) : Type 0 where
+  pub stands : section_at os x.file x.index ≡ Some (section_of x.section.now)
+  pub start : starts_of p (x.file + 1) x.index ≡ x.placed.now.start
+  pub planned : moves_of x.placed.now.plan ≡ moves x.placed.now.start (section_of x.section.now)
+  pub room : IsTrue (list_all has_room (moves_of x.placed.now.plan))
+
+abbrev pub IsInputOf : Fixed → Input → Type 0
+IsInputOf f x = IsInput (objects_of f) f.placement.now x
+
+-- the value of a relocation where objects stand so
+abbrev pub worth : List Object → Placement → InputSection → Relocation → ℤ
+worth os p i r = unwrap_or (value (shown_globals os p) (starts_of p) os i r) (pos 0)
+
+-- a relocation has a value, and its field takes it
+pub record IsTaken (os : List Object) (p : Placement) (i : InputSection) (r : Relocation) : Type 0 where
+  pub found : IsTrue (is_some (value (shown_globals os p) (starts_of p) os i r))
+  pub alone : is_low r.kind ≡ true → r.addend ≡ pos 0
+  pub takes : Takes r.kind (worth os p i r)
+
+-- a relocation's field lies in so many bytes that are kept
+abbrev pub IsInside : List Move → ℕ → Relocation → Type 0
+IsInside ms size r = 0 < width_of r.kind → new_offset ms r.place + width_of r.kind ≤ size
+
+-- the bytes of a section in the program
+abbrev pub linked_in : List Object → Placement → InputSection → List ℕ
+linked_in os p i = linked_bytes (shown_globals os p) (starts_of p) os i
+
+abbrev pub bytes_of : Fixed → Input → List ℕ
+bytes_of f x = linked_in (objects_of f) f.placement.now (input_of f x)
+
+-- the fields of a section take their values
+abbrev pub AreTakenOf : Fixed → Input → Type 0
+AreTakenOf f x =
+    AllByRecursion (IsTaken (objects_of f) f.placement.now (input_of f x))
+    (map relocation_of x.section.now.relocations.items)

@@ -1,0 +1,30 @@
+-- The program of placed objects.
+
+use Rattle.std.specs.Prelude.{ℕ, List}
+use Rattle.std.specs.List.{list_any}
+use Rattle.rv_image.specs.Linked.{Linked}
+use Rattle.rv_object.specs.Object.{Object}
+use Rattle.rv_object_laws.specs.IsLinkOf.{rows_of}
+use Rattle.rv_placement.specs.declared.placement.Placement.{Placement}
+use Rattle.rv_placement.specs.Placement.{starts_of}
+use Rattle.rv_resolve.specs.Shown.{shown_globals}
+use Rattle.rv_link.specs.declared.regions.Regions.{Regions}
+
+-- with these regions, the names that they show and the rows of their statements
+abbrev pub made : List Object → Placement → ℕ → Regions → Linked
+made os p entry r = record {
+  text = r.text.items;
+  rodata = r.rodata.items;
+  «data» = r.data.items;
+  map = record {
+    text = p.text;
+    rodata = p.rodata;
+    «data» = p.data;
+    bss = p.bss;
+    entry = entry;
+    gaps = p.gaps.items;
+    globals = shown_globals os p;
+    rows = rows_of (starts_of p) 1 os;
+  };
+  rvc = list_any (λ o. o.rvc) os;
+}

@@ -1,0 +1,102 @@
+-- Why objects cannot be linked, in the order in which that is tested (this project's linker; GNU ld's diagnostics are of the
+-- same kinds).
+
+use Rattle.std.specs.Prelude.{◌≡◌, ◌⊎◌, ⊤, ℕ, ◌%◌, ◌<◌, ◌≤◌, true, false, List, length, Some, None}
+use Rattle.rv_isa_laws.specs.Platform.{stack_start}
+use Rattle.rv_object.specs.Object.{Object}
+use Rattle.rv_object_laws.specs.Inputs.{Starts, goes_to_text, inputs, Stand}
+use Rattle.rv_object_laws.specs.Names.{global_names, AreDistinct, entry_of}
+use Rattle.rv_object_laws.specs.IsLinkOf.{most_files, is_loaded}
+use Rattle.rv_placement.specs.declared.placement.Placement.{Placement}
+use Rattle.rv_placement.specs.Placement.{starts_of, are_roomy, IsPlacement, AreRoomy, IsTooLarge, AreRoomyBelow}
+use Rattle.rv_resolve.specs.Entry.{has_entry}
+use Rattle.rv_resolve.specs.Exports.{first_duplicate}
+use Rattle.rv_resolve.specs.Undefined.{first_undefined}
+use Rattle.rv_link.specs.declared.fault.LinkFault.{LinkFault}
+use Rattle.rv_link.specs.declared.fault.LinkFault.TheVariants.{Overflow, OddTarget, DanglingPcrel, AlignmentShort, Undefined, Duplicate, EntryMissing, ImageTooLarge, BadTextStart, TooManyFiles, OutOfMemory}
+use Rattle.rv_link.specs.Untaken.{IsFirstUntaken}
+
+-- ---- limits
+
+-- a text starts at a page below the stack
+abbrev pub IsTextStart : ℕ → Type 0
+IsTextStart start = (start % 4096 ≡ 0) × (start < stack_start)
+
+-- files and a text's start that can be linked
+abbrev pub AreWithin : ℕ → ℕ → Type 0
+AreWithin files start = (files ≤ most_files) × IsTextStart start
+
+-- why others cannot: the count of files comes first
+abbrev pub ArePast : ℕ → ℕ → LinkFault → Type 0
+ArePast files start TooManyFiles = most_files < files
+ArePast files start BadTextStart = (files ≤ most_files) × (IsTextStart start → ⊥)
+ArePast files start _ = ⊥
+
+-- ---- names
+
+-- a name that has two definitions, and then one that has none
+abbrev pub AreUnnamed : List Object → LinkFault → Type 0
+AreUnnamed os (Duplicate name) = first_duplicate os ≡ Some name.items
+AreUnnamed os (Undefined name) =
+    AreDistinct (global_names os) × (first_undefined os ≡ Some name.items)
+AreUnnamed os OutOfMemory = ⊤
+AreUnnamed os _ = ⊥
+
+abbrev pub AreNamed : List Object → Type 0
+AreNamed os = AreDistinct (global_names os) × (first_undefined os ≡ None)
+
+-- ---- places
+
+-- where the text's sections stand, one has a padding without room
+abbrev pub LacksRoom : List Object → ℕ → Type 0
+LacksRoom os start =
+    (starts : Starts) × Stand starts start (inputs goes_to_text os) × (AreRoomy os starts → ⊥)
+
+-- paddings come before what is too large
+abbrev pub AreUnplaced : List Object → ℕ → LinkFault → Type 0
+AreUnplaced os start AlignmentShort = LacksRoom os start
+AreUnplaced os start ImageTooLarge = IsTooLarge os start × AreRoomyBelow os start
+AreUnplaced os start OutOfMemory = ⊤
+AreUnplaced os start _ = ⊥
+
+-- where sections stand, the entry has no even address
+abbrev pub IsOddEntry : List Object → Placement → Type 0
+IsOddEntry os p = (a : ℕ) → entry_of (starts_of p) 1 os ≡ Some a → a % 2 ≡ 0 → ⊥
+
+-- no global `_start` at an even place of a section of text
+abbrev pub LacksEntry : List Object → ℕ → Type 0
+LacksEntry os start =
+    (has_entry os ≡ false) ⊎ ((p : Placement) × IsPlacement os start p × IsOddEntry os p)
+
+-- ---- the whole
+
+-- what a link has come to when it looks at the entry, and when it looks at places
+abbrev pub ComesToEntry : List Object → ℕ → Type 0
+ComesToEntry os start = AreWithin (length os) start × AreNamed os
+
+abbrev pub ComesToPlaces : List Object → ℕ → Type 0
+ComesToPlaces os start = ComesToEntry os start × (has_entry os ≡ true)
+
+-- at last a relocation that cannot be applied, the first by file, section and relocation
+abbrev pub IsUnapplied : List Object → ℕ → LinkFault → Type 0
+IsUnapplied os start fault =
+    ComesToPlaces os start
+    × ((p : Placement) × IsPlacement os start p × (are_roomy p ≡ true)
+    × IsFirstUntaken os p fault (inputs is_loaded os))
+
+abbrev pub IsUnlinked : List Object → ℕ → LinkFault → Type 0
+IsUnlinked os start TooManyFiles = ArePast (length os) start TooManyFiles
+IsUnlinked os start BadTextStart = ArePast (length os) start BadTextStart
+IsUnlinked os start (Duplicate name) =
+    AreWithin (length os) start × AreUnnamed os (Duplicate name)
+IsUnlinked os start (Undefined name) =
+    AreWithin (length os) start × AreUnnamed os (Undefined name)
+IsUnlinked os start EntryMissing = ComesToEntry os start × LacksEntry os start
+IsUnlinked os start AlignmentShort =
+    ComesToPlaces os start × AreUnplaced os start AlignmentShort
+IsUnlinked os start ImageTooLarge =
+    ComesToPlaces os start × AreUnplaced os start ImageTooLarge
+IsUnlinked os start Overflow = IsUnapplied os start Overflow
+IsUnlinked os start OddTarget = IsUnapplied os start OddTarget
+IsUnlinked os start DanglingPcrel = IsUnapplied os start DanglingPcrel
+IsUnlinked os start OutOfMemory = ⊤

@@ -1,0 +1,195 @@
+//! Objects whose addresses are fixed.
+
+ghost use Rattle.std.specs.Prelude.{◌≡◌, ◌+◌, ◌-◌, ◌++◌, ◌<◌, ◌≤◌, IsTrue, IfOk, IfErr, OnOk, Some, pos, true, length, map};
+ghost use Rattle.std.specs.List.{AllByRecursion};
+ghost use Rattle.rv_object.specs.Parts.{contents_of, relocation_of};
+ghost use Rattle.rv_object_laws.specs.Inputs.{is_nobits, zeros};
+ghost use Rattle.rv_object_laws.specs.Moves.{kept, new_offset};
+ghost use Rattle.rv_object_laws.specs.Values.{applied, initial_bytes, is_low, value};
+ghost use Rattle.rv_object_laws.specs.Names.{object_at};
+ghost use Rattle.rv_placement.specs.Placement.{starts_of};
+ghost use Rattle.rv_link.specs.Regions.{IsFixed};
+ghost use Rattle.rv_link.specs.Untaken.{IsUntaken, AreUntakenOf, OrMemory};
+ghost use Rattle.rv_relax.specs.Plan.{moves_of};
+ghost use Rattle.rv_resolve.specs.Shown.{shown_globals};
+ghost use Rattle.rv_link.specs.Filled.{
+  AreTakenOf,
+  IsInside,
+  IsInputOf,
+  bytes_of,
+  input_of,
+  objects_of,
+  worth,
+};
+
+use crate::fault::LinkFault;
+use crate::fields::apply;
+use rv_object::{Contents, Object, Relocation, Section};
+use rv_placement::{PlacedSection, Placement};
+use rv_relax::SectionPlan;
+use rv_values::{ValueFault, Values};
+use std::alloc::{AllocError, Global};
+
+/// A section of an object, and where it stands.
+#[derive(Drop)]
+pub(crate) struct Input<'o> {
+    /// The place of its object, from 0.
+    pub(crate) file: usize,
+    /// Its own place there.
+    pub(crate) index: usize,
+    pub(crate) section: &'o Section,
+    pub(crate) placed: &'o PlacedSection,
+}
+
+/// Objects whose sections and names have their addresses.
+#[derive(Drop)]
+pub(crate) struct Fixed<'o> {
+    pub(crate) objects: &'o [Object],
+    pub(crate) placement: &'o Placement,
+    pub(crate) values: &'o Values<'o, 'o>,
+}
+
+impl<'o> Fixed<'o> {
+    /// The section at an index of an object, both from 0.
+    pub(crate) fn input(&self, file: usize, index: usize) -> Input<'o>
+        requires fixed { IsFixed self.now }
+        requires section { index < length (object_at (objects_of self.now) (file + 1)).sections }
+        ensures input { IsInputOf self.now result }
+        ensures at { (result.file ≡ file) × (result.index ≡ index) }
+    {
+        Input {
+            file,
+            index,
+            section: &self.objects[file].sections[index],
+            placed: &self.placement.files[file][index],
+        }
+    }
+
+    /// The value of a relocation of a section.
+    fn value(&self, input: &Input<'_>, relocation: &Relocation) -> Result<i64, LinkFault>
+        requires fixed { IsFixed self.now }
+        requires input { IsInputOf self.now input.now }
+        ensures found { IfOk result
+            (λ v. value (shown_globals (objects_of self.now) (self.now).placement.now)
+            (starts_of (self.now).placement.now) (objects_of self.now)
+            (input_of self.now input.now) (relocation_of relocation.now) ≡ Some v) }
+        ensures alone { IfOk result
+            (λ v. is_low (relocation.now).kind ≡ true → (relocation.now).addend ≡ pos 0) }
+        ensures refuses { IfErr result (λ fault. IsUntaken (objects_of self.now)
+            (self.now).placement.now (input_of self.now input.now) fault
+            (relocation_of relocation.now)) }
+    {
+        match self.values.value(input.file, input.index, relocation) {
+            Ok(value) => Ok(value),
+            Err(ValueFault::Dangling) => Err(LinkFault::DanglingPcrel),
+        }
+    }
+
+    /// Writes the values of a section's relocations to their fields in what is kept of it.
+    pub(crate) fn relocate(&self, input: &Input<'_>, bytes: &mut [u8]) -> Result<(), LinkFault>
+        requires fixed { IsFixed self.now }
+        requires input { IsInputOf self.now input.now }
+        requires inside { AllByRecursion
+            (IsInside (moves_of (input.now).placed.now.plan) (length bytes.old))
+            (map relocation_of (input.now).section.now.relocations.items) }
+        ensures applied { OnOk result
+            (bytes.new ≡ applied (new_offset (moves_of (input.now).placed.now.plan))
+            (worth (objects_of self.now) (self.now).placement.now (input_of self.now input.now))
+            (map relocation_of (input.now).section.now.relocations.items) bytes.old) }
+        // each of its relocations has a value, which its field takes
+        ensures taken { OnOk result (AreTakenOf self.now input.now) }
+        ensures refuses { IfErr result (λ fault. AreUntakenOf self.now input.now fault) }
+    {
+        for relocation in &input.section.relocations {
+            let value = self.value(input, relocation)?;
+            let place = input.placed.plan.new_offset(relocation.place);
+            apply(bytes, place, relocation.kind, value)?;
+        }
+        Ok(())
+    }
+
+    /// Judges the relocations of a section without bytes.
+    pub(crate) fn judge(&self, input: &Input<'_>) -> Result<(), LinkFault>
+        requires fixed { IsFixed self.now }
+        requires input { IsInputOf self.now input.now }
+        requires zeroed { is_nobits (contents_of (input.now).section.now.contents) ≡ true }
+        ensures taken { OnOk result (AreTakenOf self.now input.now) }
+        ensures refuses { IfErr result (λ fault. AreUntakenOf self.now input.now fault) }
+    {
+        self.relocate(input, &mut [])?;
+        Ok(())
+    }
+
+    /// Adds what is kept of a section's bytes, with its relocations applied.
+    fn put_bytes(
+        &self,
+        alloc: Global,
+        input: &Input<'_>,
+        out: &mut Vec<u8>,
+    ) -> Result<(), LinkFault>
+        requires fixed { IsFixed self.now }
+        requires input { IsInputOf self.now input.now }
+        ensures bytes { OnOk result (out.new.items ≡ out.old.items ++ bytes_of self.now input.now) }
+        // each of its relocations has a value, which its field takes
+        ensures taken { OnOk result (AreTakenOf self.now input.now) }
+        ensures refuses { IfErr result (OrMemory (AreUntakenOf self.now input.now)) }
+    {
+        let from = out.len();
+        put_contents(alloc, &input.placed.plan, &input.section.contents, out)?;
+        self.relocate(input, &mut out[from..])?;
+        Ok(())
+    }
+
+    /// Adds a section to its region, which starts at an address: zeros up to where the section starts, and then its bytes.
+    pub(crate) fn put(
+        &self,
+        alloc: Global,
+        input: &Input<'_>,
+        region: u64,
+        out: &mut Vec<u8>,
+    ) -> Result<(), LinkFault>
+        requires fixed { IsFixed self.now }
+        requires input { IsInputOf self.now input.now }
+        requires later { region + length out.old.items ≤ (input.now).placed.now.start }
+        ensures bytes { OnOk result (out.new.items ≡ out.old.items
+            ++ (zeros ((input.now).placed.now.start - (region + length out.old.items))
+            ++ bytes_of self.now input.now)) }
+        // each of its relocations has a value, which its field takes
+        ensures taken { OnOk result (AreTakenOf self.now input.now) }
+        ensures refuses { IfErr result (OrMemory (AreUntakenOf self.now input.now)) }
+    {
+        put_zeros(out, input.placed.start - region - out.len() as u64)?;
+        self.put_bytes(alloc, input, out)
+    }
+}
+
+/// Adds zeros.
+fn put_zeros(out: &mut Vec<u8>, count: u64) -> Result<(), AllocError>
+    ensures { OnOk result (out.new.items ≡ out.old.items ++ zeros count) }
+{
+    for _ in 0..count {
+        out.push(0)?;
+    }
+    Ok(())
+}
+
+/// Adds what is kept of the bytes with which a section begins.
+fn put_contents(
+    alloc: Global,
+    plan: &SectionPlan,
+    contents: &Contents,
+    out: &mut Vec<u8>,
+) -> Result<(), AllocError>
+    ensures { OnOk result (out.new.items
+        ≡ out.old.items ++ kept 0 (moves_of plan.now) (initial_bytes (contents_of contents.now))) }
+{
+    match contents {
+        Contents::Progbits(bytes) => plan.put_kept(out, bytes.as_slice()),
+        Contents::Note(bytes) => plan.put_kept(out, bytes.as_slice()),
+        Contents::Nobits(size) => {
+            let mut bytes = Vec::new(alloc);
+            put_zeros(&mut bytes, *size)?;
+            plan.put_kept(out, bytes.as_slice())
+        }
+    }
+}

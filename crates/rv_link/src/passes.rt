@@ -1,0 +1,229 @@
+//! The passes of a link.
+
+ghost use Rattle.std.specs.Prelude.{◌≡◌, ◌%◌, ◌<◌, [], List, Some, map, IfOk, IfErr, OnOk};
+ghost use Rattle.std.specs.List.{list_any};
+ghost use Rattle.rv_isa_laws.specs.Platform.{stack_start};
+ghost use Rattle.rv_image.specs.Linked.{linked_of};
+ghost use Rattle.rv_object.specs.Object.{Object as SaidObject};
+ghost use Rattle.rv_object.specs.View.{object_of};
+ghost use Rattle.rv_object_laws.specs.IsLinkOf.{IsLinkOf};
+ghost use Rattle.rv_object_laws.specs.Names.{AreDistinct, global_names, entry_of};
+ghost use Rattle.rv_placement.specs.Placement.{IsPlacement, starts_of};
+ghost use Rattle.rv_map.specs.Limits.{IsMap};
+ghost use Rattle.rv_link.specs.Made.{made};
+ghost use Rattle.rv_resolve.specs.Names.{IsDuplicate};
+ghost use Rattle.rv_resolve.specs.Exports.{first_duplicate};
+ghost use Rattle.rv_resolve.specs.Undefined.{first_undefined};
+ghost use Rattle.rv_link.specs.declared.fault.LinkFault.TheVariants.{EntryMissing, OutOfMemory};
+ghost use Rattle.rv_link.specs.Untaken.{AreUnfilled};
+ghost use Rattle.rv_link.specs.Refusals.{AreWithin, ArePast, AreUnnamed, AreUnplaced, IsOddEntry, IsUnlinked};
+ghost use Rattle.rv_link.specs.Regions.{AreGrown, IsNamed, IsReady, IsPlaced};
+
+use crate::fault::LinkFault;
+use crate::fixed::Fixed;
+use crate::options::LinkOptions;
+use crate::regions::Regions;
+use rv_image::{Linked, STACK_START};
+use rv_map::{Map, known};
+use rv_object::Object;
+use rv_placement::{Placement, PlacementFault};
+use rv_resolve::{Names, ResolveFault};
+use rv_values::Values;
+use std::alloc::Global;
+
+/// The most files that are linked at once.
+pub const MOST_FILES: usize = 1024;
+
+/// Links objects into a program, whose text starts at an address.
+///
+/// # Errors
+///
+/// The first fault of the objects, in the order of the passes: too many of them, a bad start of the text, names that are defined
+/// twice or not at all, a missing entry, paddings without room, too much memory, and then fields that cannot hold their
+/// values, by file, section and relocation.
+pub fn link(alloc: Global, objects: &[Object], options: LinkOptions) -> Result<Linked, LinkFault>
+    ensures links { IfOk result
+        (λ l. IsLinkOf (map object_of objects.now) options.text_start (linked_of l)) }
+    ensures refuses { IfErr result (IsUnlinked (map object_of objects.now) options.text_start) }
+{
+    let start = options.text_start;
+    within_limits(objects.len(), start)?;
+    // the start of the text is fixed from here on
+    let names = resolve(alloc, objects)?;
+    // what each name means is fixed: its definition, though not its address
+    if !names.has_entry(objects) {
+        return Err(LinkFault::EntryMissing);
+    }
+    let placement = place(alloc, objects, start)?;
+    let entry = entry(&names, objects, &placement)?;
+    if !placement.is_roomy() {
+        return Err(LinkFault::AlignmentShort);
+    }
+    // all addresses are fixed: those of sections, of what is kept of them, and of names
+    let regions = fill(alloc, objects, &placement, &names)?;
+    // all bytes are fixed; what is left is to show them
+    let linked = finish(alloc, objects, &names, placement, entry, regions)?;
+    Ok(linked)
+}
+
+/// Whether so many files can be linked, to a text that starts at an address.
+pub fn within_limits(files: usize, text_start: u64) -> Result<(), LinkFault>
+    ensures within { OnOk result (AreWithin files text_start) }
+    ensures refuses { IfErr result (ArePast files text_start) }
+{
+    if MOST_FILES < files {
+        return Err(LinkFault::TooManyFiles);
+    }
+    if text_start % 4096 != 0 || STACK_START <= text_start {
+        return Err(LinkFault::BadTextStart);
+    }
+    Ok(())
+}
+
+/// What the names of objects mean: each has one definition for all files at most, and no reference is without one.
+fn resolve<'o>(alloc: Global, objects: &'o [Object]) -> Result<Names<'o>, LinkFault>
+    ensures named { IfOk result (IsNamed (map object_of objects.now)) }
+    ensures refuses { IfErr result (AreUnnamed (map object_of objects.now)) }
+{
+    let names = match Names::of(alloc, objects) {
+        Ok(names) => names,
+        Err(fault) => return Err(of_names(alloc, fault)),
+    };
+    match names.undefined(objects) {
+        Some(name) => Err(undefined(alloc, name)),
+        None => Ok(names),
+    }
+}
+
+/// The fault of names.
+fn of_names(alloc: Global, fault: ResolveFault<'_>) -> LinkFault
+    ensures { (os : List SaidObject) → IsDuplicate fault.entry (first_duplicate os)
+        → AreUnnamed os result }
+{
+    match fault {
+        ResolveFault::Duplicate(name) => match Vec::from_slice(alloc, name) {
+            Ok(name) => LinkFault::Duplicate(name),
+            Err(_) => LinkFault::OutOfMemory,
+        },
+        ResolveFault::OutOfMemory => LinkFault::OutOfMemory,
+    }
+}
+
+/// The fault of a name that nobody defines.
+fn undefined(alloc: Global, name: &[u8]) -> LinkFault
+    ensures { (os : List SaidObject) → AreDistinct (global_names os)
+        → first_undefined os ≡ Some name.now → AreUnnamed os result }
+{
+    match Vec::from_slice(alloc, name) {
+        Ok(name) => LinkFault::Undefined(name),
+        Err(_) => LinkFault::OutOfMemory,
+    }
+}
+
+/// Where the sections of objects stand.
+fn place(alloc: Global, objects: &[Object], start: u64) -> Result<Placement, LinkFault>
+    requires page { start % 4096 ≡ 0 }
+    requires low { start < stack_start }
+    ensures placed { IfOk result (IsPlacement (map object_of objects.now) start) }
+    ensures refuses { IfErr result (AreUnplaced (map object_of objects.now) start) }
+{
+    match Placement::of(alloc, objects, start) {
+        Ok(placement) => Ok(placement),
+        Err(PlacementFault::Short) => Err(LinkFault::AlignmentShort),
+        Err(PlacementFault::TooLarge) => Err(LinkFault::ImageTooLarge),
+        Err(PlacementFault::OutOfMemory) => Err(LinkFault::OutOfMemory),
+    }
+}
+
+/// Where a run begins: at an even address, as that of each even place of code is.
+fn entry(names: &Names<'_>, objects: &[Object], placement: &Placement) -> Result<u64, LinkFault>
+    requires { IsPlaced (map object_of objects.now) names.now placement.now }
+    ensures entry { IfOk result
+        (λ a. entry_of (starts_of placement.now) 1 (map object_of objects.now) ≡ Some a) }
+    ensures even { IfOk result (λ a. a % 2 ≡ 0) }
+    ensures refuses { IfErr result (λ fault. (fault ≡ EntryMissing)
+        × IsOddEntry (map object_of objects.now) placement.now) }
+{
+    match names.entry(objects, placement) {
+        Some(entry) => {
+            if entry % 2 == 0 {
+                Ok(entry)
+            } else {
+                Err(LinkFault::EntryMissing)
+            }
+        }
+        None => Err(LinkFault::EntryMissing),
+    }
+}
+
+/// The bytes of the regions of placed objects.
+fn fill(
+    alloc: Global,
+    objects: &[Object],
+    placement: &Placement,
+    names: &Names<'_>,
+) -> Result<Regions, LinkFault>
+    requires { IsReady (map object_of objects.now) names.now placement.now }
+    ensures filled { IfOk result
+        (AreGrown (map object_of objects.now) placement.now (λ goes. [])) }
+    ensures refuses { IfErr result (AreUnfilled (map object_of objects.now) placement.now) }
+{
+    let values = Values::of(alloc, objects, placement, names)?;
+    let fixed = Fixed {
+        objects,
+        placement,
+        values: &values,
+    };
+    Regions::of(alloc, &fixed)
+}
+
+/// The program of placed objects, whose regions are filled, and its map.
+fn finish(
+    alloc: Global,
+    objects: &[Object],
+    names: &Names<'_>,
+    placement: Placement,
+    entry: u64,
+    regions: Regions,
+) -> Result<Linked, LinkFault>
+    requires placed { IsPlaced (map object_of objects.now) names.now placement }
+    requires grown { AreGrown (map object_of objects.now) placement (λ goes. []) regions }
+    requires even { entry % 2 ≡ 0 }
+    ensures made { IfOk result
+        (λ l. linked_of l ≡ made (map object_of objects.now) placement entry regions) }
+    ensures readable { IfOk result (λ l. IsMap (linked_of l).map) }
+    ensures refuses { IfErr result (λ fault. fault ≡ OutOfMemory) }
+{
+    let globals = names.globals(alloc, objects, &placement)?;
+    let rows = placement.rows(alloc, objects)?;
+    let map = Map {
+        text: placement.text,
+        rodata: placement.rodata,
+        data: placement.data,
+        bss: placement.bss,
+        entry,
+        gaps: placement.gaps,
+        globals,
+        rows,
+    };
+    known(&map);
+    Ok(Linked {
+        text: regions.text,
+        rodata: regions.rodata,
+        data: regions.data,
+        map,
+        rvc: has_compressed(objects),
+    })
+}
+
+/// Whether an object has compressed code.
+fn has_compressed(objects: &[Object]) -> bool
+    ensures { result ≡ list_any (λ o. o.rvc) (map object_of objects.now) }
+{
+    for object in objects {
+        if object.rvc {
+            return true;
+        }
+    }
+    false
+}

@@ -1,0 +1,122 @@
+//! The bytes of the regions.
+
+ghost use Rattle.std.specs.Prelude.{◌≡◌, ◌+◌, ◌<◌, [], length, IfOk, IfErr, OnOk};
+ghost use Rattle.rv_object.specs.Parts.{contents_of};
+ghost use Rattle.rv_object_laws.specs.Inputs as laws;
+ghost use Rattle.rv_object_laws.specs.Names.{object_at};
+ghost use Rattle.rv_link.specs.Filled.{IsInputOf, objects_of};
+ghost use Rattle.rv_link.specs.Untaken.{AreUnfilled};
+ghost use Rattle.rv_link.specs.Regions.{AreGrown, IsFixed, left_files, left_from};
+
+use crate::fault::LinkFault;
+use crate::fixed::{Fixed, Input};
+use rv_object::Contents;
+use std::alloc::Global;
+
+/// What the regions of a program hold so far.
+#[derive(Drop)]
+pub(crate) struct Regions {
+    pub(crate) text: Vec<u8>,
+    pub(crate) rodata: Vec<u8>,
+    pub(crate) data: Vec<u8>,
+}
+
+/// Whether a section has no bytes in the file.
+fn is_nobits(contents: &Contents) -> bool
+    ensures { result ≡ laws.is_nobits (contents_of contents.now) }
+{
+    match contents {
+        Contents::Nobits(_) => true,
+        Contents::Progbits(_) | Contents::Note(_) => false,
+    }
+}
+
+impl Regions {
+    /// The bytes of the regions of objects, section by section in their order.
+    pub(crate) fn of(alloc: Global, fixed: &Fixed<'_>) -> Result<Regions, LinkFault>
+        requires { IsFixed fixed.now }
+        ensures grown { IfOk result
+            (AreGrown (objects_of fixed.now) (fixed.now).placement.now (λ goes. [])) }
+        ensures refuses { IfErr result (AreUnfilled (objects_of fixed.now)
+            (fixed.now).placement.now) }
+    {
+        let mut regions = Regions {
+            text: Vec::new(alloc),
+            rodata: Vec::new(alloc),
+            data: Vec::new(alloc),
+        };
+        for file in 0..fixed.objects.len() {
+            regions.put_object(alloc, fixed, file)?;
+        }
+        Ok(regions)
+    }
+
+    /// Adds the sections of an object.
+    fn put_object(&mut self, alloc: Global, fixed: &Fixed<'_>, file: usize) -> Result<(), LinkFault>
+        requires fixed { IsFixed fixed.now }
+        requires file { file < length (fixed.now).objects.now }
+        requires grown { AreGrown (objects_of fixed.now) (fixed.now).placement.now
+            (left_files (objects_of fixed.now) file) self.old }
+        ensures grown { OnOk result (AreGrown (objects_of fixed.now) (fixed.now).placement.now
+            (left_files (objects_of fixed.now) (file + 1)) self.new) }
+        ensures refuses { IfErr result (AreUnfilled (objects_of fixed.now)
+            (fixed.now).placement.now) }
+    {
+        for index in 0..fixed.objects[file].sections.len() {
+            self.put_section(alloc, fixed, file, index)?;
+        }
+        Ok(())
+    }
+
+    /// Adds a section of an object.
+    fn put_section(
+        &mut self,
+        alloc: Global,
+        fixed: &Fixed<'_>,
+        file: usize,
+        index: usize,
+    ) -> Result<(), LinkFault>
+        requires fixed { IsFixed fixed.now }
+        requires section { index < length (object_at (objects_of fixed.now) (file + 1)).sections }
+        requires grown { AreGrown (objects_of fixed.now) (fixed.now).placement.now
+            (left_from (objects_of fixed.now) file index) self.old }
+        ensures grown { OnOk result (AreGrown (objects_of fixed.now) (fixed.now).placement.now
+            (left_from (objects_of fixed.now) file (index + 1)) self.new) }
+        ensures refuses { IfErr result (AreUnfilled (objects_of fixed.now)
+            (fixed.now).placement.now) }
+    {
+        let input = fixed.input(file, index);
+        self.put(alloc, fixed, &input)
+    }
+
+    /// Adds a section to the region to which it goes.
+    fn put(&mut self, alloc: Global, fixed: &Fixed<'_>, input: &Input<'_>) -> Result<(), LinkFault>
+        requires fixed { IsFixed fixed.now }
+        requires input { IsInputOf fixed.now input.now }
+        requires grown { AreGrown (objects_of fixed.now) (fixed.now).placement.now
+            (left_from (objects_of fixed.now) (input.now).file (input.now).index) self.old }
+        ensures grown { OnOk result (AreGrown (objects_of fixed.now) (fixed.now).placement.now
+            (left_from (objects_of fixed.now) (input.now).file ((input.now).index + 1)) self.new) }
+        ensures refuses { IfErr result (AreUnfilled (objects_of fixed.now)
+            (fixed.now).placement.now) }
+    {
+        let section = input.section;
+        if !section.loaded {
+            return Ok(());
+        }
+        if section.executable {
+            fixed.put(alloc, input, fixed.placement.text.start, &mut self.text)?;
+            return Ok(());
+        }
+        if is_nobits(&section.contents) {
+            fixed.judge(input)?;
+            return Ok(());
+        }
+        if section.writable {
+            fixed.put(alloc, input, fixed.placement.data.start, &mut self.data)?;
+            return Ok(());
+        }
+        fixed.put(alloc, input, fixed.placement.rodata.start, &mut self.rodata)?;
+        Ok(())
+    }
+}

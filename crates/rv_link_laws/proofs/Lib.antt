@@ -1,9 +1,0 @@
-pub mod Rows
-pub mod Spread
-pub mod Sited
-pub mod Held
-pub mod Fitting
-pub mod Whole
-pub mod Resolved
-pub mod Coded
-pub mod Addresses

@@ -1,6 +1,0 @@
-use Rattle.std.proofs.Common.{◌≡◌, ◌++◌}
-use Rattle.rv_object_laws.specs.Inputs.{zeros}
-use Rattle.rv_linker.proofs.fixed.put_zeros.Given as goal
-
-abbrev pub invariant-loop : goal.invariant-loop
-invariant-loop l = l.out.items ≡ l.fn.out.items ++ zeros l.counter

@@ -1,6 +1,0 @@
-pub mod Fault
-pub mod Filled
-pub mod Untaken
-pub mod Refusals
-pub mod Made
-pub mod Regions
