@@ -16,9 +16,8 @@ use Rattle.rv_assemble.specs.FirstFault.{IsFirstFault}
 use Rattle.rv_chain.specs.Objects.{IsObjectFrom, AreObjectsFrom}
 use Rattle.rv_link.specs.declared.fault.LinkFault.{LinkFault}
 use Rattle.rv_link.specs.declared.fault.LinkFault.TheVariants as faults
-use Rattle.rv_link.specs.Refusals.{AreWithin}
 use Rattle.rv_chain.specs.Fault.{of_link}
-use Rattle.rv_chain.specs.Refusals.{IsRefusedAt, IsFirstRefused, IsRefusedIn, AreAssembled, IsRefusedFor}
+use Rattle.rv_chain.specs.Refusals.{IsRefusedAt, IsFirstRefused, IsRefusedIn, AreUnlinked, IsRefusedFor}
 
 pub one_more : (texts : List (List ℕ)) (os : List Object) (text : List ℕ) (o : Object) → AreObjectsFrom texts os → IsObjectFrom text o → AreObjectsFrom (texts ++ text ∷ []) (os ++ o ∷ [])
 one_more [] [] text o h is = (is, tt)
@@ -80,18 +79,18 @@ refused_there texts i os fault number h good is refused = record {
 }
 
 -- a refused link of assembled sources
-pub link_refused : (texts : List (List ℕ)) (start : ℕ) (fault : LinkFault) → AreWithin (length texts) start → AreAssembled texts → IsRefusedFor texts start (of_link fault)
-link_refused texts start faults.OutOfMemory within are = tt
-link_refused texts start faults.Overflow within are = inr (within, are)
-link_refused texts start faults.OddTarget within are = inr (within, are)
-link_refused texts start faults.DanglingPcrel within are = inr (within, are)
-link_refused texts start faults.AlignmentShort within are = inr (within, are)
-link_refused texts start (faults.Undefined name) within are = inr (within, are)
-link_refused texts start (faults.Duplicate name) within are = inr (within, are)
-link_refused texts start faults.EntryMissing within are = inr (within, are)
-link_refused texts start faults.ImageTooLarge within are = inr (within, are)
-link_refused texts start faults.BadTextStart within are = inr (within, are)
-link_refused texts start faults.TooManyFiles within are = inr (within, are)
+pub link_refused : (texts : List (List ℕ)) (start : ℕ) (fault : LinkFault) → AreUnlinked texts start fault → IsRefusedFor texts start (of_link fault)
+link_refused texts start faults.OutOfMemory h = tt
+link_refused texts start faults.Overflow h = inr h
+link_refused texts start faults.OddTarget h = inr h
+link_refused texts start faults.DanglingPcrel h = inr h
+link_refused texts start faults.AlignmentShort h = inr h
+link_refused texts start (faults.Undefined name) h = inr h
+link_refused texts start (faults.Duplicate name) h = inr h
+link_refused texts start faults.EntryMissing h = inr h
+link_refused texts start faults.ImageTooLarge h = inr h
+link_refused texts start faults.BadTextStart h = inr h
+link_refused texts start faults.TooManyFiles h = inr h
 
 -- the text of a source at an index
 pub source_at : (sources : List (Bor (List ℕ))) (i : ℕ) (d : Bor (List ℕ)) → i < length sources → get_or (map now_of sources) i [] ≡ (get_or sources i d).now

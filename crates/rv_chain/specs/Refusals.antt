@@ -4,7 +4,8 @@ use Rattle.std.specs.Prelude.{◌≡◌, ℕ, ◌+◌, ⊤, ◌⊎◌, List, ◌
 use Rattle.rv_lexer.specs.declared.fault.SourceFault.{SourceFault}
 use Rattle.rv_object.specs.Object.{Object}
 use Rattle.rv_assemble.specs.FirstFault.{IsFirstFault}
-use Rattle.rv_link.specs.Refusals.{AreWithin, ArePast}
+use Rattle.rv_link.specs.declared.fault.LinkFault.{LinkFault}
+use Rattle.rv_link.specs.Refusals.{AreWithin, ArePast, IsUnlinked}
 use Rattle.rv_chain.specs.declared.fault.Fault.{Fault}
 use Rattle.rv_chain.specs.declared.fault.Fault.TheVariants.{Source, File, Link, Memory}
 use Rattle.rv_chain.specs.Objects.{AreObjectsFrom}
@@ -33,9 +34,18 @@ IsRefusedIn texts (File number fault) = ⊥
 IsRefusedIn texts (Link fault) = ⊥
 IsRefusedIn texts Memory = ⊤
 
--- each source has its object: what is refused is their link
+-- each source has its object
 abbrev pub AreAssembled : List (List ℕ) → Type 0
 AreAssembled texts = (os : List Object) × AreObjectsFrom texts os
+
+-- and their link is refused
+abbrev pub AreUnlinked : List (List ℕ) → ℕ → LinkFault → Type 0
+AreUnlinked texts start fault =
+    (os : List Object) × AreObjectsFrom texts os × IsUnlinked os start fault
+
+-- files and a start of the text that can be linked, and sources without a fault
+abbrev pub AreGood : List (List ℕ) → ℕ → Type 0
+AreGood texts start = AreWithin (length texts) start × AreAssembled texts
 
 -- first the count of the files, then the text's start, then the sources, and then the link
 abbrev pub IsRefusedFor : List (List ℕ) → ℕ → Fault → Type 0
@@ -43,5 +53,5 @@ IsRefusedFor texts start (Source number fault) =
     AreWithin (length texts) start × IsFirstRefused texts number fault
 IsRefusedFor texts start (File number fault) = ⊥
 IsRefusedFor texts start (Link fault) =
-    ArePast (length texts) start fault ⊎ (AreWithin (length texts) start × AreAssembled texts)
+    ArePast (length texts) start fault ⊎ AreUnlinked texts start fault
 IsRefusedFor texts start Memory = ⊤

@@ -8,7 +8,7 @@ ghost use Rattle.rv_object_laws.specs.IsLinkOf.{most_files};
 ghost use Rattle.rv_chain_laws.specs.Headline.{TheHeadline};
 ghost use Rattle.rv_chain.specs.Building.{IsProgramOf, IsExecutableOf};
 ghost use Rattle.rv_chain.specs.Objects.{IsObjectFrom, AreObjectsFrom};
-ghost use Rattle.rv_chain.specs.Refusals.{IsRefusedFor, IsRefusedIn, IsRefusedAt};
+ghost use Rattle.rv_chain.specs.Refusals.{AreGood, IsRefusedFor, IsRefusedIn, IsRefusedAt};
 
 use crate::built::Built;
 use crate::fault::Fault;
@@ -30,6 +30,7 @@ pub fn build(alloc: Global, sources: &[&[u8]], options: LinkOptions) -> Result<B
     ensures headline { IfOk result
         (λ built. TheHeadline
         (map now_of sources.now) options.text_start built.exe.items built.map.items) }
+    ensures good { IfOk result (λ _. AreGood (map now_of sources.now) options.text_start) }
     // The first fault: too many files, the text's start, then the sources one by one, then the link.
     ensures refuses { IfErr result (IsRefusedFor (map now_of sources.now) options.text_start) }
 {
@@ -45,6 +46,7 @@ pub fn build(alloc: Global, sources: &[&[u8]], options: LinkOptions) -> Result<B
 pub fn build_exe(alloc: Global, sources: &[&[u8]], options: LinkOptions) -> Result<Vec<u8>, Fault>
     ensures headline { IfOk result
         (λ exe. IsExecutableOf (map now_of sources.now) options.text_start exe.items) }
+    ensures good { IfOk result (λ _. AreGood (map now_of sources.now) options.text_start) }
     ensures refuses { IfErr result (IsRefusedFor (map now_of sources.now) options.text_start) }
 {
     let linked = linked(alloc, sources, options)?;
@@ -58,6 +60,7 @@ pub fn build_exe(alloc: Global, sources: &[&[u8]], options: LinkOptions) -> Resu
 fn linked(alloc: Global, sources: &[&[u8]], options: LinkOptions) -> Result<Linked, Fault>
     ensures program { IfOk result
         (λ l. IsProgramOf (map now_of sources.now) options.text_start (linked_of l)) }
+    ensures good { IfOk result (λ _. AreGood (map now_of sources.now) options.text_start) }
     ensures refuses { IfErr result (IsRefusedFor (map now_of sources.now) options.text_start) }
 {
     within_limits(sources.len(), options.text_start)?;

@@ -4,8 +4,8 @@ use Rattle.rv_statement.specs.View.{now_of}
 use Rattle.rv_image.specs.Linked.{linked_of}
 use Rattle.rv_object.specs.View.{object_of}
 use Rattle.rv_object_laws.specs.IsLinkOf.{IsLinkOf}
-use Rattle.rv_link.specs.Refusals.{AreWithin}
-use Rattle.rv_chain.specs.Refusals.{IsRefusedFor, AreAssembled}
+use Rattle.rv_link.specs.Refusals.{AreWithin, IsUnlinked}
+use Rattle.rv_chain.specs.Refusals.{IsRefusedFor}
 use Rattle.rv_chain.proofs.Gathered.{err_given, gathered, link_refused}
 use Rattle.rv_chain.proofs.building.linked.Goals as goal
 
@@ -13,11 +13,11 @@ pub returns-in_err-linked-clause-refuses : goal.returns-in_err-linked-clause-ref
 returns-in_err-linked-clause-refuses c =
     let texts = map now_of c.args.sources.now in
     let start = c.args.options.text_start in
-    let n : length texts ≡ length c.args.sources.now = length-map c.args.sources.now now_of in
-    let within = subst (λ k. AreWithin k start) (sym n) c.in_ok-within_limits.ensures.within in
-    let are : AreAssembled texts = (map object_of c.in_ok-objects.objects.items, c.in_ok-objects.ensures.objects) in
+    let os = map object_of c.in_ok-objects.objects.items in
+    let refused : IsUnlinked os start c.in_err-linked.field-0.0 =
+    subst (λ xs. IsUnlinked (map object_of xs) start c.in_err-linked.field-0.0) c.as_slice.ensures.value c.in_err-linked.ensures.refuses in
     err_given c.from_residual-in_err-linked.result (IsRefusedFor texts start) _ c.from_residual-in_err-linked.ensures.1
-    (λ f is. subst (IsRefusedFor texts start) (sym is) (link_refused texts start c.in_err-linked.field-0.0 within are))
+    (λ f is. subst (IsRefusedFor texts start) (sym is) (link_refused texts start c.in_err-linked.field-0.0 (os, (c.in_ok-objects.ensures.objects, refused))))
 
 pub returns-clause-program : goal.returns-clause-program
 returns-clause-program c =
@@ -26,10 +26,16 @@ returns-clause-program c =
     let start = c.args.options.text_start in
     let l = linked_of c.in_ok-linked.linked in
     let g = gathered texts os c.in_ok-objects.ensures.objects in
-    let link = subst (λ xs. IsLinkOf (map object_of xs) start l) c.as_slice.ensures.value c.in_ok-linked.ensures in
+    let link = subst (λ xs. IsLinkOf (map object_of xs) start l) c.as_slice.ensures.value c.in_ok-linked.ensures.links in
     record {
       sources = g.0;
       read = g.1;
       linked = c.objects_of_sources_link.ensures g.0 os start l g.2 link;
       flag = c.linked_objects_are_flagged.ensures g.0 os start l g.2 link;
     }
+
+pub returns-clause-good : goal.returns-clause-good
+returns-clause-good c =
+    let texts = map now_of c.args.sources.now in
+    let n : length texts ≡ length c.args.sources.now = length-map c.args.sources.now now_of in
+    (subst (λ k. AreWithin k c.args.options.text_start) (sym n) c.in_ok-within_limits.ensures.within, (map object_of c.in_ok-objects.objects.items, c.in_ok-objects.ensures.objects))
