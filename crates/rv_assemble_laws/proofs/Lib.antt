@@ -2,3 +2,4 @@ pub mod Filled
 pub mod SpelledNames
 pub mod Homes
 pub mod Held
+pub mod Faultless

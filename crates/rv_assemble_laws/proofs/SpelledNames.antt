@@ -1,6 +1,6 @@
 -- Each name that a source's statements say is spelled by bytes that a map can show.
 
-use Rattle.std.proofs.Common.{◌≡◌, ℕ, zero, suc, Bool, true, false, ◌&&◌, ◌||◌, ◌==◌, cond, List, [], ◌∷◌, ◌++◌, map, flat_map, Option, Some, None, refl, sym, ap, append_assoc, ◌∙◌, subst, ◌⊎◌, inl, inr, arith}
+use Rattle.std.proofs.Common.{◌≡◌, ℕ, zero, suc, Bool, true, false, ◌&&◌, ◌||◌, ◌==◌, cond, List, [], ◌∷◌, ◌++◌, flat_map, Option, Some, None, refl, sym, append_assoc, ◌∙◌, subst, inl, inr, arith}
 use Rattle.std.specs.Prelude.{nat_le, nat_lt, length, codes, bytes_eq, is_some, option_map}
 use Rattle.std.specs.List.{list_all}
 use Rattle.std.proofs.lemmas.Bool.{and_from}
@@ -8,7 +8,7 @@ use Rattle.std.proofs.lemmas.List.Folds.{list_all-append}
 use Rattle.rv_text_laws.specs.declared.class.Class.{Class}
 use Rattle.rv_text_laws.specs.declared.class.Class.TheVariants as classes
 use Rattle.rv_text_laws.specs.Bytes.{class, is_letter, is_decimal, is_word, between}
-use Rattle.rv_text_laws.specs.Cut.{Piece, texts, Each, Cuts}
+use Rattle.rv_text_laws.specs.Cut.{Piece, texts, Each}
 use Rattle.rv_text_laws.specs.Grammar.{Kind, Space, Line_comment, Block_comment, Newline, Punctuation, Name, Number, Reference, Bad_word, Text, Character, Bad_byte, Bad_token, End, IsWord, Spells, Stops}
 use Rattle.rv_text_laws.specs.Lexing.{Token, Lexes, tokens_of, placed, is_gap, bad, last_kind, last}
 use Rattle.rv_text_laws.specs.declared.punct.Punct.{Punct}
@@ -32,7 +32,7 @@ use Rattle.rv_parse_laws.specs.Reading.{told, said, Reads}
 use Rattle.rv_source_laws.specs.Program.{in_operand}
 use Rattle.rv_text_laws.proofs.Runs.{pick}
 use Rattle.rv_map.specs.Name.{is_name, is_name_byte}
-use Rattle.rv_assemble_laws.specs.ShownNames.{primary_names, tree_names, own_names, said_names, are_shown, HasNames}
+use Rattle.rv_assemble_laws.specs.ShownNames.{primary_names, tree_names, said_names, are_shown, HasNames}
 
 -- ---- both of two tests
 

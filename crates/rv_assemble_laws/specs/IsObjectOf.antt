@@ -8,11 +8,11 @@ use Rattle.rv_unit_laws.specs.declared.section_type.SectionType.{SectionType}
 use Rattle.rv_unit_laws.specs.declared.section_type.SectionType.TheVariants as types
 use Rattle.rv_unit_laws.specs.Sections.{Section as SourceSection, is_nobits, goes_to_text}
 use Rattle.rv_unit_laws.specs.Tables.{Tables, Assignment, at_start, tables, is_location}
-use Rattle.rv_unit_laws.specs.Faults.{first_fault}
 use Rattle.rv_source_laws.specs.Located.{located_from, has_row}
 use Rattle.rv_source_laws.specs.Compressed.{is_compressed_code}
 use Rattle.rv_object.specs.declared.row.Row.{Row}
 use Rattle.rv_object.specs.Object.{Contents, Progbits, Note, Nobits, Relocation, Section, Symbol, Object}
+use Rattle.rv_assemble_laws.specs.Refusals.{statements_fault}
 use Rattle.rv_assemble_laws.specs.Templates.{Open, template_fields, IsTemplate}
 use Rattle.rv_assemble_laws.specs.Sites.{Site, Part, form, part_bytes, parts, sites_in, Tile, end_of, HasSize}
 use Rattle.rv_assemble_laws.specs.Symbols.{SymbolUse, references_in, site_at, symbols_of, StandsFor}
@@ -120,8 +120,8 @@ abbrev pub StandsInData : List Site → Assignment → Type 0
 StandsInData sites a = is_location a ≡ true → IsInData (site_at sites a.ordinal)
 
 pub record IsObjectOf (ss : List Statement) (o : Object) : Type 0 where
-  -- no label and no directive is faulty
-  pub good : first_fault ss ≡ None
+  -- no label, directive or code is faulty, and no section of code too long
+  pub good : statements_fault ss ≡ None
   -- the statements in their sections
   pub sites : List Site
   pub located : map (λ s. s.located) sites ≡ located_from 1 1 at_start ss

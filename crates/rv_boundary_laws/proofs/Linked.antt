@@ -28,6 +28,7 @@ use Rattle.rv_object_laws.specs.Inputs as objects
 use Rattle.rv_object_laws.specs.Inputs.{Starts, InputSection, inputs_from, inputs_of, inputs, contents, zeros, Holds, Stand}
 use Rattle.rv_object_laws.specs.Values.{initial_bytes, linked_bytes, IsRelocated}
 use Rattle.rv_object_laws.specs.IsLinkOf.{IsLinkOf, is_loaded}
+use Rattle.rv_assemble_laws.proofs.Faultless.{no_first_fault}
 use Rattle.rv_assemble_laws.specs.Sites.{Site, parts, parts_of, part_bytes, sites_in, end_of as sites_end}
 use Rattle.rv_assemble_laws.proofs.Filled.{filled}
 use Rattle.rv_assemble_laws.specs.IsObjectOf.{Numbering, contents_of, IsSectionOf, AreSectionsOf}
@@ -151,7 +152,7 @@ good_all : (sources : List (List Statement)) (os : List Object) → AreObjectsOf
 good_all [] [] h = tt
 good_all [] (o ∷ os) h = absurd h
 good_all (ss ∷ sources) [] h = absurd h
-good_all (ss ∷ sources) (o ∷ os) (is, h) = (is.good, good_all sources os h)
+good_all (ss ∷ sources) (o ∷ os) (is, h) = (no_first_fault ss is.good, good_all sources os h)
 
 -- ---- no gap stands between sections of code
 
@@ -210,7 +211,7 @@ module _ (sources : List (List Statement)) (os : List Object) (text_start : ℕ)
         let both = split Q (inputs_from is_loaded file o 0 o.sections) (inputs_of is_loaded (suc file) us) r in
         let are = subst (λ t. AreSectionsOf t is.sites is.number o.symbols 0 sections o.sections) (sym f.tables) is.sections in
         let own = good_file p os starts spells stores two P goes goes_source loads same_by holds spell fitted codes file is.sites is.number o sections
-        link.readable.globals are (settled ss is.sites is.good is.located) (plain_of ss o is) f.address f.mapped both.0 in
+        link.readable.globals are (settled ss is.sites (no_first_fault ss is.good) is.located) (plain_of ss o is) f.address f.mapped both.0 in
         good_join p os starts spells stores two P (inputs_from goes file o 0 o.sections) (inputs_of goes (suc file) us)
         (source.input_sections_of_file goes_source (tables ss) p.mapped file 0 sections) (source.input_sections_of goes_source p.mapped (suc file) srcs)
         (subst (λ t. AreGood p os starts spells stores two P (inputs_from goes file o 0 o.sections) (source.input_sections_of_file goes_source t p.mapped file 0 sections)) f.tables own)

@@ -1,0 +1,13 @@
+-- A source without faults has none of labels and directives.
+
+use Rattle.std.proofs.Common.{◌≡◌, List, Option, Some, None, refl}
+use Rattle.rv_statement.specs.Statement.{Statement}
+use Rattle.rv_unit_laws.specs.Faults.{Fault, first_fault}
+use Rattle.rv_assemble_laws.specs.Refusals.{code_fault, size_fault, else_fault, statements_fault}
+
+no_first : (f other : Option Fault) → else_fault f other ≡ None → f ≡ None
+no_first None other e = refl
+no_first (Some f) other e = absurd (cc)
+
+pub no_first_fault : (ss : List Statement) → statements_fault ss ≡ None → first_fault ss ≡ None
+no_first_fault ss good = no_first (first_fault ss) (else_fault (code_fault ss) (size_fault ss)) good
