@@ -1,12 +1,14 @@
 -- The least multiple of an alignment, and the least alignment above a padding.
 
-use Rattle.std.proofs.Common.{◌≡◌, ℕ, ◌+◌, ◌-◌, ◌*◌, ◌/◌, ◌%◌, ◌<◌, ◌≤◌, List, [], ◌∷◌, Option, Some, cond, nat_lt, length, drop, slice_index_or, sym, ap, ◌∙◌, arith}
+use Rattle.std.proofs.Common.{◌≡◌, ℕ, ◌+◌, ◌-◌, ◌*◌, ◌/◌, ◌%◌, ◌^◌, ◌<◌, ◌≤◌, Bool, true, false, List, [], ◌∷◌, Option, Some, cond, nat_lt, length, drop, slice_index_or, sym, ap, ◌∙◌, arith}
+use Rattle.std.specs.Prelude.{unwrap_or}
 use Rattle.std.proofs.lemmas.Nat.{div-mul-add, div-add-mod'}
 use Rattle.std.proofs.Math.Nat.{mod-lt}
-use Rattle.std.specs.List.{find}
+use Rattle.std.specs.List.{AllByRecursion, find}
 use Rattle.std.proofs.lemmas.Bool.{lt-ltb, le-ltb}
 use Rattle.std.proofs.lemmas.List.{drop_more}
-use Rattle.rv_object_laws.specs.Moves.{aligned}
+use Rattle.rv_object.specs.Object.{Relocation}
+use Rattle.rv_object_laws.specs.Moves.{aligned, alignment_of, full_padding}
 
 pub none_left : (a n : ℕ) → 0 < a → n % a ≡ 0 → 0 ≡ aligned a n - n
 none_left a n some is =
@@ -25,10 +27,29 @@ some_left a n some is =
     let same : (n + (a - 1)) / a * a ≡ (n / a + 1) * a = ap (λ q. q * a) quotient in
     omega arith
 
--- ---- the least alignment above a padding
+-- ---- addresses modulo 2 ^ 64
 
 abbrev pub alignments : List ℕ
 alignments = 2 ∷ 4 ∷ 8 ∷ 16 ∷ 32 ∷ 64 ∷ 128 ∷ 256 ∷ 512 ∷ 1024 ∷ 2048 ∷ 4096 ∷ []
+
+one_of : (P : ℕ → Type 0) (full : ℕ) (xs : List ℕ) → P 4096 → AllByRecursion P xs → P (unwrap_or (find (λ a. nat_lt full a) xs) 4096)
+one_of P full [] most each = most
+one_of P full (a ∷ xs) most each = by (nat_lt full a) (one_of P full xs most each.1)
+  where
+    by : (b : Bool) → P (unwrap_or (find (λ a. nat_lt full a) xs) 4096) → P (unwrap_or (cond b (Some a) (find (λ a. nat_lt full a) xs)) 4096)
+    by true more = each.0
+    by false more = more
+
+-- an alignment's least padding looks at the address modulo 2 ^ 64 alone
+abbrev IsSame : ℕ → ℕ → Type 0
+IsSame n a = aligned a (n % 2 ^ 64) - n % 2 ^ 64 ≡ aligned a n - n
+
+pub same_least : (r : Relocation) (n : ℕ) → aligned (alignment_of r) (n % 2 ^ 64) - n % 2 ^ 64 ≡ aligned (alignment_of r) n - n
+same_least r n =
+    one_of (IsSame n) (full_padding r) alignments (omega arith)
+    (omega arith, (omega arith, (omega arith, (omega arith, (omega arith, (omega arith, (omega arith, (omega arith, (omega arith, (omega arith, (omega arith, (omega arith, tt))))))))))))
+
+-- ---- the least alignment above a padding
 
 pub found : (full i : ℕ) (xs : List ℕ) (o : Option ℕ) → i < length xs → find (λ a. nat_lt full a) (drop i xs) ≡ o → full < slice_index_or xs i 0 → o ≡ Some (slice_index_or xs i 0)
 found full i xs o inside so_far high =

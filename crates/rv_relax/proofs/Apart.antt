@@ -102,48 +102,48 @@ all_by_place p (r ∷ rs) h =
 
 -- ---- in order
 
-insert_one : (start stop : ℕ) (r : Relocation) (qs : List Relocation) → IsNextAlignment start stop r → list_all (are_clear r) qs ≡ true → are_alignments start stop qs ≡ true
-    → are_alignments start stop (inserted r qs) ≡ true
-insert_one start stop r [] one h order = next_is start stop r [] one refl
-insert_one start stop r (q ∷ qs) one h order =
+insert_one : (stop : ℕ) (r : Relocation) (qs : List Relocation) → IsNextAlignment stop r → list_all (are_clear r) qs ≡ true → are_alignments stop qs ≡ true
+    → are_alignments stop (inserted r qs) ≡ true
+insert_one stop r [] one h order = next_is stop r [] one refl
+insert_one stop r (q ∷ qs) one h order =
     let both = and_parts (are_clear r q) (list_all (are_clear r) qs) h in
     by (nat_le (r.place + full_padding r) q.place) refl both.0
-    (λ apart. insert_one start (q.place + full_padding q) r qs (record { from = leb-true (q.place + full_padding q) r.place apart; short = one.short; low = one.low }) both.1 rest)
+    (λ apart. insert_one (q.place + full_padding q) r qs (record { from = leb-true (q.place + full_padding q) r.place apart; short = one.short; low = one.low }) both.1 rest)
   where
-    other : IsNextAlignment start stop q
-    other = next_alignment start stop q qs order
+    other : IsNextAlignment stop q
+    other = next_alignment stop q qs order
 
-    rest : are_alignments start (q.place + full_padding q) qs ≡ true
-    rest = other_alignments start stop q qs order
+    rest : are_alignments (q.place + full_padding q) qs ≡ true
+    rest = other_alignments stop q qs order
 
     by : (b : Bool) → nat_le (r.place + full_padding r) q.place ≡ b → (b || nat_le (q.place + full_padding q) r.place) ≡ true
-        → (nat_le (q.place + full_padding q) r.place ≡ true → are_alignments start (q.place + full_padding q) (inserted r qs) ≡ true)
-        → are_alignments start stop (cond b (r ∷ q ∷ qs) (q ∷ inserted r qs)) ≡ true
+        → (nat_le (q.place + full_padding q) r.place ≡ true → are_alignments (q.place + full_padding q) (inserted r qs) ≡ true)
+        → are_alignments stop (cond b (r ∷ q ∷ qs) (q ∷ inserted r qs)) ≡ true
     by true is apart more =
-        next_is start stop r (q ∷ qs) one
-        (next_is start (r.place + full_padding r) q qs (record { from = leb-true (r.place + full_padding r) q.place is; short = other.short; low = other.low }) rest)
-    by false is apart more = next_is start stop q (inserted r qs) other (more apart)
+        next_is stop r (q ∷ qs) one
+        (next_is (r.place + full_padding r) q qs (record { from = leb-true (r.place + full_padding r) q.place is; short = other.short; low = other.low }) rest)
+    by false is apart more = next_is stop q (inserted r qs) other (more apart)
 
-pub in_order : (start : ℕ) (c : Contents) (rs : List Relocation) → start + size_of c < 2 ^ 64 → list_all (is_padding true c) rs ≡ true → are_all_apart rs ≡ true
-    → are_alignments start 0 (by_place (filter has_padding rs)) ≡ true
-in_order start c [] low paddings apart = refl
-in_order start c (r ∷ rs) low paddings apart =
+pub in_order : (c : Contents) (rs : List Relocation) → size_of c < 2 ^ 64 → list_all (is_padding true c) rs ≡ true → are_all_apart rs ≡ true
+    → are_alignments 0 (by_place (filter has_padding rs)) ≡ true
+in_order c [] low paddings apart = refl
+in_order c (r ∷ rs) low paddings apart =
     let each = and_parts (is_padding true c r) (list_all (is_padding true c) rs) paddings in
     let clear_ones = and_parts (list_all (are_apart r) rs) (are_all_apart rs) apart in
-    by (has_padding r) (λ align. lies c r (padded r align).0 each.0) (λ align. clear_of_all r rs align clear_ones.0) (in_order start c rs low each.1 clear_ones.1)
+    by (has_padding r) (λ align. lies c r (padded r align).0 each.0) (λ align. clear_of_all r rs align clear_ones.0) (in_order c rs low each.1 clear_ones.1)
   where
-    by : (b : Bool) → (b ≡ true → Lies c r) → (b ≡ true → list_all (are_clear r) (filter has_padding rs) ≡ true) → are_alignments start 0 (by_place (filter has_padding rs)) ≡ true
-        → are_alignments start 0 (by_place (cond b (r ∷ filter has_padding rs) (filter has_padding rs))) ≡ true
+    by : (b : Bool) → (b ≡ true → Lies c r) → (b ≡ true → list_all (are_clear r) (filter has_padding rs) ≡ true) → are_alignments 0 (by_place (filter has_padding rs)) ≡ true
+        → are_alignments 0 (by_place (cond b (r ∷ filter has_padding rs) (filter has_padding rs))) ≡ true
     by false where_it_lies clear_of more = more
     by true where_it_lies clear_of more =
         let it = where_it_lies refl in
-        insert_one start 0 r (by_place (filter has_padding rs))
+        insert_one 0 r (by_place (filter has_padding rs))
         (record { from = omega arith; short = it.short; low = omega (arith, it.within) })
         (all_by_place (are_clear r) (filter has_padding rs) (clear_of refl)) more
 
-pub of_section : (start : ℕ) (c : Contents) (executable : Bool) (rs : List Relocation) → executable ≡ true → start + size_of c < 2 ^ 64 → are_paddings executable c rs ≡ true
-    → are_alignments start 0 (by_place (filter has_padding rs)) ≡ true
-of_section start c true rs is low h =
+pub of_section : (c : Contents) (executable : Bool) (rs : List Relocation) → executable ≡ true → size_of c < 2 ^ 64 → are_paddings executable c rs ≡ true
+    → are_alignments 0 (by_place (filter has_padding rs)) ≡ true
+of_section c true rs is low h =
     let both = and_parts (list_all (is_padding true c) rs) (are_all_apart rs) h in
-    in_order start c rs low both.0 both.1
-of_section start c false rs is low h = absurd (cc)
+    in_order c rs low both.0 both.1
+of_section c false rs is low h = absurd (cc)

@@ -14,30 +14,30 @@ use Rattle.rv_relax.proofs.Operations.{same_even}
 use Rattle.rv_relax.proofs.Sorting.{nothing, backwards, last_first}
 
 -- an alignment that stands behind others
-pub record IsNextAlignment (start stop : ℕ) (r : Relocation) : Type 0 where
+pub record IsNextAlignment (stop : ℕ) (r : Relocation) : Type 0 where
   pub from : stop ≤ r.place
   pub short : full_padding r ≤ 4094
-  pub low : start + (r.place + full_padding r) < 2 ^ 64
+  pub low : r.place + full_padding r < 2 ^ 64
 
-pub next_alignment : (start stop : ℕ) (r : Relocation) (rs : List Relocation) → are_alignments start stop (r ∷ rs) ≡ true → IsNextAlignment start stop r
-next_alignment start stop r rs h =
-    let all = and_parts (is_next_alignment start stop r) (are_alignments start (r.place + full_padding r) rs) h in
-    let one = and_parts (nat_le stop r.place) (nat_le (full_padding r) 4094 && nat_lt (start + (r.place + full_padding r)) (2 ^ 64)) all.0 in
-    let two = and_parts (nat_le (full_padding r) 4094) (nat_lt (start + (r.place + full_padding r)) (2 ^ 64)) one.1 in
+pub next_alignment : (stop : ℕ) (r : Relocation) (rs : List Relocation) → are_alignments stop (r ∷ rs) ≡ true → IsNextAlignment stop r
+next_alignment stop r rs h =
+    let all = and_parts (is_next_alignment stop r) (are_alignments (r.place + full_padding r) rs) h in
+    let one = and_parts (nat_le stop r.place) (nat_le (full_padding r) 4094 && nat_lt (r.place + full_padding r) (2 ^ 64)) all.0 in
+    let two = and_parts (nat_le (full_padding r) 4094) (nat_lt (r.place + full_padding r) (2 ^ 64)) one.1 in
     record {
       from = leb-true stop r.place one.0;
       short = leb-true (full_padding r) 4094 two.0;
-      low = ltb-true (start + (r.place + full_padding r)) (2 ^ 64) two.1;
+      low = ltb-true (r.place + full_padding r) (2 ^ 64) two.1;
     }
 
-pub other_alignments : (start stop : ℕ) (r : Relocation) (rs : List Relocation) → are_alignments start stop (r ∷ rs) ≡ true → are_alignments start (r.place + full_padding r) rs ≡ true
-other_alignments start stop r rs h = (and_parts (is_next_alignment start stop r) (are_alignments start (r.place + full_padding r) rs) h).1
+pub other_alignments : (stop : ℕ) (r : Relocation) (rs : List Relocation) → are_alignments stop (r ∷ rs) ≡ true → are_alignments (r.place + full_padding r) rs ≡ true
+other_alignments stop r rs h = (and_parts (is_next_alignment stop r) (are_alignments (r.place + full_padding r) rs) h).1
 
-pub next_is : (start stop : ℕ) (r : Relocation) (rs : List Relocation) → IsNextAlignment start stop r → are_alignments start (r.place + full_padding r) rs ≡ true → are_alignments start stop (r ∷ rs) ≡ true
-next_is start stop r rs one more =
-    and_from (is_next_alignment start stop r) (are_alignments start (r.place + full_padding r) rs)
-    (and_from (nat_le stop r.place) (nat_le (full_padding r) 4094 && nat_lt (start + (r.place + full_padding r)) (2 ^ 64)) (le-leb stop r.place one.from)
-    (and_from (nat_le (full_padding r) 4094) (nat_lt (start + (r.place + full_padding r)) (2 ^ 64)) (le-leb (full_padding r) 4094 one.short) (lt-ltb (start + (r.place + full_padding r)) (2 ^ 64) one.low)))
+pub next_is : (stop : ℕ) (r : Relocation) (rs : List Relocation) → IsNextAlignment stop r → are_alignments (r.place + full_padding r) rs ≡ true → are_alignments stop (r ∷ rs) ≡ true
+next_is stop r rs one more =
+    and_from (is_next_alignment stop r) (are_alignments (r.place + full_padding r) rs)
+    (and_from (nat_le stop r.place) (nat_le (full_padding r) 4094 && nat_lt (r.place + full_padding r) (2 ^ 64)) (le-leb stop r.place one.from)
+    (and_from (nat_le (full_padding r) 4094) (nat_lt (r.place + full_padding r) (2 ^ 64)) (le-leb (full_padding r) 4094 one.short) (lt-ltb (r.place + full_padding r) (2 ^ 64) one.low)))
     more
 
 -- the least padding of an alignment
@@ -56,11 +56,11 @@ planned start gone past least r rs ps whole is so_far =
     ∙ so_far
 
 -- and the paddings stay in order
-pub one_behind : (start stop past least : ℕ) (r : Relocation) (ps : List Padding) → IsNextAlignment start stop r
+pub one_behind : (stop past least : ℕ) (r : Relocation) (ps : List Padding) → IsNextAlignment stop r
     → ((more : List Padding) → are_in_order stop past more ≡ true → are_in_order 0 0 (ps ++ more) ≡ true)
     → (more : List Padding) → are_in_order (r.place + full_padding r) (past + (full_padding r - (least - least % 2))) more ≡ true
     → are_in_order 0 0 ((ps ++ record { place = r.place; gone = past; full = full_padding r; left = least - least % 2 } ∷ []) ++ more) ≡ true
-one_behind start stop past least r ps one so_far more h =
+one_behind stop past least r ps one so_far more h =
     ap (are_in_order 0 0) (append_assoc ps (p ∷ []) more) ∙ so_far (p ∷ more) (and_from (is_next stop past p) (are_in_order (r.place + full_padding r) (past + (full_padding r - (least - least % 2))) more) here h)
   where
     p : Padding
@@ -73,10 +73,10 @@ one_behind start stop past least r ps one so_far more h =
         (and_from ((least - least % 2) % 2 == 0) (past == past) (eq-eqb ((least - least % 2) % 2) 0 (omega arith)) (eq-eqb past past refl)))
 
 -- the alignment before an index is the first of those that are left
-pub at_hand : (start stop : ℕ) (xs : List DeclaredRelocation) (k at : ℕ) → k + 1 ≡ at → k < length xs → are_alignments start stop (backwards (take at xs)) ≡ true
-    → are_alignments start stop (relocation_of (slice_index_or xs k nothing) ∷ backwards (take k xs)) ≡ true
-at_hand start stop xs k at is inside h =
-    sym (ap (are_alignments start stop) (last_first xs k nothing inside)) ∙ ap (λ n. are_alignments start stop (backwards (take n xs))) is ∙ h
+pub at_hand : (stop : ℕ) (xs : List DeclaredRelocation) (k at : ℕ) → k + 1 ≡ at → k < length xs → are_alignments stop (backwards (take at xs)) ≡ true
+    → are_alignments stop (relocation_of (slice_index_or xs k nothing) ∷ backwards (take k xs)) ≡ true
+at_hand stop xs k at is inside h =
+    sym (ap (are_alignments stop) (last_first xs k nothing inside)) ∙ ap (λ n. are_alignments stop (backwards (take n xs))) is ∙ h
 
 pub plan_at : (start gone : ℕ) (xs : List DeclaredRelocation) (k at : ℕ) → k + 1 ≡ at → k < length xs
     → plan start gone (relocation_of (slice_index_or xs k nothing) ∷ backwards (take k xs)) ≡ plan start gone (backwards (take at xs))

@@ -20,14 +20,14 @@ are_in_order stop gone [] = true
 are_in_order stop gone (p ∷ ps) =
     is_next stop gone p && are_in_order (p.place + p.full) (gone + (p.full - p.left)) ps
 
--- behind paddings that end at an offset, alignments whose paddings lie one behind the other, in a section that starts at an
--- address and ends below 2 ^ 64
-abbrev pub is_next_alignment : ℕ → ℕ → Relocation → Bool
-is_next_alignment start stop r =
+-- behind paddings that end at an offset, alignments whose paddings lie one behind the other, in a section of less than
+-- 2 ^ 64 bytes
+abbrev pub is_next_alignment : ℕ → Relocation → Bool
+is_next_alignment stop r =
     nat_le stop r.place
-    && (nat_le (full_padding r) 4094 && nat_lt (start + (r.place + full_padding r)) (2 ^ 64))
+    && (nat_le (full_padding r) 4094 && nat_lt (r.place + full_padding r) (2 ^ 64))
 
-abbrev pub are_alignments : ℕ → ℕ → List Relocation → Bool
-are_alignments start stop [] = true
-are_alignments start stop (r ∷ rs) =
-    is_next_alignment start stop r && are_alignments start (r.place + full_padding r) rs
+abbrev pub are_alignments : ℕ → List Relocation → Bool
+are_alignments stop [] = true
+are_alignments stop (r ∷ rs) =
+    is_next_alignment stop r && are_alignments (r.place + full_padding r) rs

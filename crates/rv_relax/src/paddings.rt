@@ -31,7 +31,7 @@ pub(crate) fn paddings(
     alignments: &[Relocation],
     start: u64,
 ) -> Result<Vec<Padding>, AllocError>
-    requires { are_alignments start 0 (reverse (map relocation_of alignments.now)) ≡ true }
+    requires { are_alignments 0 (reverse (map relocation_of alignments.now)) ≡ true }
     ensures moves { IfOk result (λ v. map move_of v.items
         ≡ plan start 0 (reverse (map relocation_of alignments.now))) }
     ensures order { IfOk result (λ v. are_in_order 0 0 v.items ≡ true) }
@@ -43,7 +43,7 @@ pub(crate) fn paddings(
         rest -= 1;
         let alignment = &alignments[rest];
         let full = full_padding(alignment) as u32;
-        let stands = start + (alignment.place - gone);
+        let stands = start.wrapping_add(alignment.place - gone);
         let least = least_padding(asked_alignment(alignment), stands);
         let left = least - least % 2;
         paddings.push(Padding {

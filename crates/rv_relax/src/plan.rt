@@ -29,7 +29,7 @@ impl SectionPlan {
 
     /// What is kept of a section that starts at an address.
     pub fn of(alloc: Global, section: &Section, start: u64) -> Result<SectionPlan, AllocError>
-        requires low { start + size_of (contents_of (section.now).contents) < 2 ^ 64 }
+        requires low { size_of (contents_of (section.now).contents) < 2 ^ 64 }
         ensures { IfOk result (λ p. moves_of p ≡ moves start (section_of section.now)) }
     {
         if !section.loaded || !section.executable {

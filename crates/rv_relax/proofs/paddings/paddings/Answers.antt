@@ -1,7 +1,8 @@
-use Rattle.std.proofs.Common.{◌≡◌, ◌+◌, ◌-◌, ◌%◌, ◌<◌, ◌∷◌, [], ◌++◌, length, map, take, slice_index_or, refl, sym, ap, ◌∙◌, arith, append-nil}
+use Rattle.std.proofs.Common.{◌≡◌, ◌+◌, ◌-◌, ◌%◌, ◌^◌, ◌<◌, ◌∷◌, [], ◌++◌, length, map, take, slice_index_or, refl, sym, ap, ◌∙◌, arith, append-nil}
 use Rattle.rv_object.specs.Parts.{relocation_of}
 use Rattle.rv_object_laws.specs.Moves.{aligned, alignment_of, full_padding, plan}
 use Rattle.rv_relax.specs.Paddings.{are_in_order, move_of}
+use Rattle.rv_relax.proofs.Aligned.{same_least}
 use Rattle.rv_relax.proofs.Sorting.{nothing, backwards}
 use Rattle.rv_relax.proofs.Planned.{next_alignment, other_alignments, at_hand, plan_at, least_of, planned, one_behind}
 use Rattle.rv_relax.proofs.paddings.paddings.Goals as goal
@@ -16,8 +17,8 @@ overflow_cast-full c =
     let r = relocation_of (slice_index_or xs (at - 1) nothing) in
     let rs = backwards (take (at - 1) xs) in
     let stop = c.loop-rest.invariant.2.0 in
-    let all = at_hand start stop xs (at - 1) at is inside c.loop-rest.invariant.2.1 in
-    let one = next_alignment start stop r rs all in
+    let all = at_hand stop xs (at - 1) at is inside c.loop-rest.invariant.2.1 in
+    let one = next_alignment stop r rs all in
     omega (arith, one.short, c.full_padding-full.ensures)
 
 pub overflow_sub-stands : goal.overflow_sub-stands
@@ -30,23 +31,9 @@ overflow_sub-stands c =
     let r = relocation_of (slice_index_or xs (at - 1) nothing) in
     let rs = backwards (take (at - 1) xs) in
     let stop = c.loop-rest.invariant.2.0 in
-    let all = at_hand start stop xs (at - 1) at is inside c.loop-rest.invariant.2.1 in
-    let one = next_alignment start stop r rs all in
+    let all = at_hand stop xs (at - 1) at is inside c.loop-rest.invariant.2.1 in
+    let one = next_alignment stop r rs all in
     omega (arith, one.from, c.loop-rest.invariant.2.2)
-
-pub overflow_add-stands : goal.overflow_add-stands
-overflow_add-stands c =
-    let xs = c.args.alignments.now in
-    let start = c.args.start in
-    let at = c.loop-rest.rest in
-    let is : at - 1 + 1 ≡ at = omega (arith, c.loop-rest-test.true) in
-    let inside : at - 1 < length xs = omega (arith, c.loop-rest.invariant.0, c.loop-rest-test.true) in
-    let r = relocation_of (slice_index_or xs (at - 1) nothing) in
-    let rs = backwards (take (at - 1) xs) in
-    let stop = c.loop-rest.invariant.2.0 in
-    let all = at_hand start stop xs (at - 1) at is inside c.loop-rest.invariant.2.1 in
-    let one = next_alignment start stop r rs all in
-    omega (arith, one.low)
 
 pub overflow_add-gone : goal.overflow_add-gone
 overflow_add-gone c =
@@ -58,8 +45,8 @@ overflow_add-gone c =
     let r = relocation_of (slice_index_or xs (at - 1) nothing) in
     let rs = backwards (take (at - 1) xs) in
     let stop = c.loop-rest.invariant.2.0 in
-    let all = at_hand start stop xs (at - 1) at is inside c.loop-rest.invariant.2.1 in
-    let one = next_alignment start stop r rs all in
+    let all = at_hand stop xs (at - 1) at is inside c.loop-rest.invariant.2.1 in
+    let one = next_alignment stop r rs all in
     omega (arith, one.from, one.low, c.loop-rest.invariant.2.2, c.full_padding-full.ensures, c.from-gone.ensures, c.saturating_sub.ensures)
 
 pub overflow_add-dropped : goal.overflow_add-dropped
@@ -72,8 +59,8 @@ overflow_add-dropped c =
     let r = relocation_of (slice_index_or xs (at - 1) nothing) in
     let rs = backwards (take (at - 1) xs) in
     let stop = c.loop-rest.invariant.2.0 in
-    let all = at_hand start stop xs (at - 1) at is inside c.loop-rest.invariant.2.1 in
-    let one = next_alignment start stop r rs all in
+    let all = at_hand stop xs (at - 1) at is inside c.loop-rest.invariant.2.1 in
+    let one = next_alignment stop r rs all in
     omega (arith, one.from, one.low, c.loop-rest.invariant.2.3, c.full_padding-full.ensures, c.from-dropped.ensures, c.saturating_sub-in-loop-rest.ensures)
 
 pub returns-clause-order : goal.returns-clause-order
@@ -90,8 +77,8 @@ loop-rest-preserved c =
     let r = relocation_of (slice_index_or xs (at - 1) nothing) in
     let rs = backwards (take (at - 1) xs) in
     let stop = c.loop-rest.invariant.2.0 in
-    let all = at_hand start stop xs (at - 1) at is inside c.loop-rest.invariant.2.1 in
-    let one = next_alignment start stop r rs all in
+    let all = at_hand stop xs (at - 1) at is inside c.loop-rest.invariant.2.1 in
+    let one = next_alignment stop r rs all in
     let gone = c.loop-rest.gone in
     let past = c.loop-rest.dropped in
     let ps = c.loop-rest.paddings.items in
@@ -99,7 +86,9 @@ loop-rest-preserved c =
     let full : c.full_padding-full.result ≡ full_padding r = c.full_padding-full.ensures in
     let above : c.asked_alignment.result ≡ alignment_of r = c.asked_alignment.ensures.value in
     let stands = start + (r.place - gone) in
-    let least_is : least ≡ least_of start gone r = c.least_padding-least.ensures.value ∙ ap (λ a. aligned a stands - stands) above in
+    let wrapped = stands % 2 ^ 64 in
+    let least_is : least ≡ least_of start gone r =
+    c.least_padding-least.ensures.value ∙ ap (λ a. aligned a wrapped - wrapped) above ∙ same_least r stands in
     let items : c.push.new.self.items ≡ ps ++ record { place = r.place; gone = past; full = full_padding r; left = least - least % 2 } ∷ [] =
     c.in_ok-push.ensures.items ∙ ap (λ n. ps ++ record { place = r.place; gone = past; full = n; left = least - least % 2 } ∷ []) full in
     let more_gone : c.from-gone.result ≡ full_padding r - least = c.from-gone.ensures ∙ c.saturating_sub.ensures ∙ ap (λ n. n - least) full in
@@ -110,10 +99,10 @@ loop-rest-preserved c =
           ∙ planned start gone past least r rs ps (plan start 0 (backwards xs)) least_is (ap (λ l. map move_of ps ++ l) (plan_at start gone xs (at - 1) at is inside) ∙ c.loop-rest.invariant.1),
       (
         r.place + full_padding r,
-        other_alignments start stop r rs all,
+        other_alignments stop r rs all,
         omega (arith, one.from, c.loop-rest.invariant.2.2),
         omega (arith, one.from, c.loop-rest.invariant.2.3),
         (λ more h. ap (λ l. are_in_order 0 0 (l ++ more)) items
-            ∙ one_behind start stop past least r ps one c.loop-rest.invariant.2.4 more (sym (ap (λ n. are_in_order (r.place + full_padding r) (past + n) more) more_dropped) ∙ h)),
+            ∙ one_behind stop past least r ps one c.loop-rest.invariant.2.4 more (sym (ap (λ n. are_in_order (r.place + full_padding r) (past + n) more) more_dropped) ∙ h)),
       ),
     )

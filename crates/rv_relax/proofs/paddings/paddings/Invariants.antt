@@ -10,7 +10,7 @@ abbrev pub invariant-loop-rest : goal.invariant-loop-rest
 invariant-loop-rest l =
     (l.rest ≤ length l.alignments)
     × (map move_of l.paddings.items ++ plan l.start l.gone (backwards (take l.rest l.alignments)) ≡ plan l.start 0 (backwards l.alignments))
-    × ((stop : ℕ) × (are_alignments l.start stop (backwards (take l.rest l.alignments)) ≡ true) × (l.gone ≤ stop) × (l.dropped ≤ stop)
+    × ((stop : ℕ) × (are_alignments stop (backwards (take l.rest l.alignments)) ≡ true) × (l.gone ≤ stop) × (l.dropped ≤ stop)
     × ((more : List Padding) → are_in_order stop l.dropped more ≡ true → are_in_order 0 0 (l.paddings.items ++ more) ≡ true))
 
 abbrev pub decreases-loop-rest : goal.decreases-loop-rest

@@ -17,8 +17,8 @@ paddings-requires c =
     let sorted : reverse (map relocation_of c.deref-2.result.now) ≡ by_place (filter has_padding rs) =
     ap (λ l. reverse (map relocation_of l)) c.deref-2.ensures.value ∙ c.in_ok-alignments.ensures
     ∙ ap (λ l. by_place (filter has_padding (map relocation_of l))) c.deref.ensures.value in
-    ap (are_alignments c.args.start 0) sorted
-    ∙ of_section c.args.start (contents_of s.contents) s.executable rs c.if-not-section-2.false c.requires.low s.paddings
+    ap (are_alignments 0) sorted
+    ∙ of_section (contents_of s.contents) s.executable rs c.if-not-section-2.false c.requires.low s.paddings
 
 pub returns-then-not-section : goal.returns-then-not-section
 unfolding moves_of
