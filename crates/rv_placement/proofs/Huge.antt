@@ -81,3 +81,10 @@ pub huge : (s : Section) (start : ℕ) → IsTrue (are_paddings s.executable s.c
 huge s start h few large =
     let most = most_dropped s start (size_of s.contents) h in
     omega arith
+
+-- and one of more bytes ends above all addresses that are looked at
+pub huge_far : (s : Section) (start : ℕ) → IsTrue (are_paddings s.executable s.contents s.relocations) → length s.relocations ≤ 2 ^ 40 → 2 ^ 63 < size_of s.contents
+    → 2 ^ 62 ≤ start + new_offset (moves start s) (size_of s.contents)
+huge_far s start h few large =
+    let most = most_dropped s start (size_of s.contents) h in
+    omega arith

@@ -6,6 +6,8 @@ pub mod Texts
 pub mod Layouts
 pub mod MapRows
 pub mod Rooms
+pub mod RoomsBehind
+pub mod RoomsBelow
 pub mod Placed
 pub mod Behind
 pub mod Standing

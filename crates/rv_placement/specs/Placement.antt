@@ -1,14 +1,16 @@
 -- When sections stand where the layout of objects puts them.
 
-use Rattle.std.specs.Prelude.{◌≡◌, ℕ, ◌+◌, ◌-◌, ◌<◌, ◌≤◌, ◌^◌, ◌⊎◌, Bool, IsTrue, List, length, map, Option, Some, None}
+use Rattle.std.specs.Prelude.{◌≡◌, ℕ, ◌+◌, ◌-◌, ◌<◌, ◌≤◌, ◌^◌, ◌⊎◌, ⊤, Bool, IsTrue, List, length, map, Option, Some, None}
 use Rattle.std.specs.List.{AllByRecursion, list_all, slice_get}
 use Rattle.std.specs.Global.{Vec}
 use Rattle.rv_isa_laws.specs.Platform.{stack_start, memory_limit}
 use Rattle.rv_map.specs.declared.map.Region.{Region}
 use Rattle.rv_object.specs.Object.{Section, Object, size_of}
 use Rattle.rv_object_laws.specs.Moves.{aligned, moves, has_room}
-use Rattle.rv_object_laws.specs.Inputs.{Starts, goes_to_text, goes_to_rodata, goes_to_data, goes_to_bss, inputs, start_of, Holds, gaps_of, greatest}
+use Rattle.rv_object_laws.specs.Inputs.{Starts, goes_to_text, goes_to_rodata, goes_to_data, goes_to_bss, inputs, start_of, Stand, Holds, gaps_of, greatest}
 use Rattle.rv_relax.specs.Plan.{moves_of}
+use Rattle.rv_placement.specs.declared.fault.PlacementFault.{PlacementFault}
+use Rattle.rv_placement.specs.declared.fault.PlacementFault.TheVariants.{TooLarge, Short, OutOfMemory}
 use Rattle.rv_placement.specs.declared.placement.PlacedSection.{PlacedSection}
 use Rattle.rv_placement.specs.declared.placement.Placement.{Placement}
 
@@ -89,6 +91,30 @@ IsTooLarge os text_start =
     → Holds starts bss (aligned (greatest (inputs goes_to_bss os)) variables.end)
     (inputs goes_to_bss os)
     → (stack_start < bss.end) ⊎ (memory_limit < memory_of text rodata variables bss)
+
+-- addresses are looked at below this
+abbrev pub farthest : ℕ
+farthest = 2 ^ 62
+
+-- wherever the text's sections stand one behind the other, one of them has a padding without room
+abbrev pub IsShort : List Object → ℕ → Type 0
+IsShort os text_start =
+    (starts : Starts) → Stand starts text_start (inputs goes_to_text os) → AreRoomy os starts → ⊥
+
+-- each of the text's sections that starts below has room for its paddings
+abbrev pub AreRoomyBelow : List Object → ℕ → Type 0
+AreRoomyBelow os text_start =
+    (starts : Starts) → Stand starts text_start (inputs goes_to_text os)
+    → AllByRecursion
+    (λ i. start_of starts i < farthest
+        → IsTrue (list_all has_room (moves (start_of starts i) i.section)))
+    (inputs goes_to_text os)
+
+-- why sections cannot be placed
+abbrev pub IsUnplaced : List Object → ℕ → PlacementFault → Type 0
+IsUnplaced os text_start TooLarge = IsTooLarge os text_start × AreRoomyBelow os text_start
+IsUnplaced os text_start Short = IsTooLarge os text_start × IsShort os text_start
+IsUnplaced os text_start OutOfMemory = ⊤
 
 -- sections have a layout, however large it is
 abbrev pub HasLayout : List Object → ℕ → Type 0

@@ -4,7 +4,8 @@
 //! section starts, what is kept of it, the regions, and the gaps of the text.
 //!
 //! Main contracts: of `Placement::of`, that the regions hold the sections of all files as `rv_object_laws` says (`IsPlacement`),
-//! or that these are too large for memory wherever they stand so (`IsTooLarge`; by `sections_stand` they stand so somewhere); of
+//! or that these are too large for memory wherever they stand so (`IsTooLarge`; by `sections_stand` they stand so somewhere), and
+//! then whether a padding of the text has no room (`IsShort`) or each has (`AreRoomyBelow`); of
 //! `rows` and `address`, that they are those of the definitions at these starts. It must not know symbols, values of relocations,
 //! nor statements.
 //!
@@ -24,6 +25,7 @@ mod fault;
 mod law;
 mod placement;
 mod regions;
+mod room;
 mod rows;
 mod text;
 

@@ -8,11 +8,11 @@ ghost use Rattle.rv_object.specs.Sections.{section_of};
 ghost use Rattle.rv_object.specs.View.{object_of};
 ghost use Rattle.rv_object_laws.specs.Names.{offset_address};
 ghost use Rattle.rv_placement.specs.Placement as laws;
-ghost use Rattle.rv_placement.specs.declared.fault.PlacementFault.TheVariants.{TooLarge};
-ghost use Rattle.rv_placement.specs.Placement.{starts_of, placed_at, are_roomy_in, are_roomy, IsPlacement, AreRoomy, IsTooLarge};
+ghost use Rattle.rv_placement.specs.Placement.{starts_of, placed_at, are_roomy_in, are_roomy, IsPlacement, AreRoomy, IsUnplaced};
 
 use crate::fault::PlacementFault;
 use crate::regions::{Regions, regions_behind};
+use crate::room::unplaced;
 use crate::text::put_files;
 use rv_image::MEMORY_LIMIT;
 use rv_map::Region;
@@ -88,24 +88,23 @@ impl Placement {
         requires page { text_start % 4096 ≡ 0 }
         requires low { text_start < stack_start }
         ensures placement { IfOk result (IsPlacement (map object_of objects.now) text_start) }
-        ensures refuses { IfErr result
-            (λ fault. fault ≡ TooLarge → IsTooLarge (map object_of objects.now) text_start) }
+        ensures refuses { IfErr result (IsUnplaced (map object_of objects.now) text_start) }
     {
         let mut files = Vec::new(alloc);
         let mut gaps = Vec::new(alloc);
         let found = put_files(alloc, &mut files, &mut gaps, objects, text_start)?;
         let Some(end) = found else {
-            return Err(PlacementFault::TooLarge);
+            return Err(unplaced(alloc, objects, text_start));
         };
         let text = Region {
             start: text_start,
             end,
         };
         let Some(behind) = regions_behind(files.as_mut_slice(), objects, end) else {
-            return Err(PlacementFault::TooLarge);
+            return Err(unplaced(alloc, objects, text_start));
         };
         if memory_of(text, behind) > MEMORY_LIMIT {
-            return Err(PlacementFault::TooLarge);
+            return Err(unplaced(alloc, objects, text_start));
         }
         Ok(Placement {
             files,

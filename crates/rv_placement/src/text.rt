@@ -22,7 +22,7 @@ use std::alloc::{AllocError, Global};
 const HUGE: u64 = 1 << 62;
 
 /// More relocations than any memory holds.
-const MANY: u64 = 1 << 40;
+pub(crate) const MANY: u64 = 1 << 40;
 
 /// Adds the place of a section that has none in the text.
 fn put_other(

@@ -10,8 +10,8 @@ use Rattle.rv_placement.proofs.Placed.{each_list, is_placement, text_too_large, 
 use Rattle.rv_placement.proofs.placement.Placement.of.Goals as goal
 
 pub returns-in_default-clause-refuses : goal.returns-in_default-clause-refuses
-returns-in_default-clause-refuses c same =
-    text_too_large (map object_of c.args.objects.now) c.args.text_start (told_none _ c.in_ok-found.found c.in_default.is c.in_ok-found.ensures.far)
+returns-in_default-clause-refuses c =
+    c.unplaced.ensures (text_too_large (map object_of c.args.objects.now) c.args.text_start (told_none _ c.in_ok-found.found c.in_default.is c.in_ok-found.ensures.far))
 
 pub regions_behind-requires-clause-each : goal.regions_behind-requires-clause-each
 regions_behind-requires-clause-each c =
@@ -19,9 +19,9 @@ regions_behind-requires-clause-each c =
     ap (λ l. map length (lists_of l)) c.as_mut_slice.ensures.value ∙ each_list c.put_files.new.files.items (map object_of c.args.objects.now) placed.3
 
 pub returns-in_default-regions_behind-clause-refuses : goal.returns-in_default-regions_behind-clause-refuses
-returns-in_default-regions_behind-clause-refuses c same =
+returns-in_default-regions_behind-clause-refuses c =
     let placed = told _ c.in_ok-found.found c.in-Some.end c.in-Some.is c.in_ok-found.ensures.placed in
-    behind_too_large (map object_of c.args.objects.now) c.args.text_start c.in-Some.end placed.0 c.in_default-regions_behind.ensures.far
+    c.unplaced-in_default-regions_behind.ensures (behind_too_large (map object_of c.args.objects.now) c.args.text_start c.in-Some.end placed.0 c.in_default-regions_behind.ensures.far)
 
 pub memory_of-requires : goal.memory_of-requires
 memory_of-requires c =
@@ -36,11 +36,12 @@ memory_of-requires c =
     (placed.1, few, low)
 
 pub returns-then-memory_of-gt-MEMORY_LIMIT-clause-refuses : goal.returns-then-memory_of-gt-MEMORY_LIMIT-clause-refuses
-returns-then-memory_of-gt-MEMORY_LIMIT-clause-refuses c same =
+returns-then-memory_of-gt-MEMORY_LIMIT-clause-refuses c =
     let placed = told _ c.in_ok-found.found c.in-Some.end c.in-Some.is c.in_ok-found.ensures.placed in
     let r = c.in-Some-regions_behind.behind in
-    memory_too_large (map object_of c.args.objects.now) c.args.text_start (record { start = c.args.text_start; end = c.in-Some.end }) r.rodata r.data r.bss refl placed.0 c.in-Some-regions_behind.ensures.behind
-    (subst (λ n. memory_limit < n) c.memory_of.ensures c.if-memory_of-gt-MEMORY_LIMIT.true)
+    c.unplaced-then-memory_of-gt-MEMORY_LIMIT.ensures
+    (memory_too_large (map object_of c.args.objects.now) c.args.text_start (record { start = c.args.text_start; end = c.in-Some.end }) r.rodata r.data r.bss refl placed.0 c.in-Some-regions_behind.ensures.behind
+    (subst (λ n. memory_limit < n) c.memory_of.ensures c.if-memory_of-gt-MEMORY_LIMIT.true))
 
 pub returns-clause-placement : goal.returns-clause-placement
 returns-clause-placement c =
