@@ -1,9 +1,9 @@
 -- Whether the text's paddings have room, section by section, with ends that are capped.
 
-use Rattle.std.proofs.Common.{◌≡◌, ◌<◌, ◌≤◌, ◌+◌, ◌^◌, ℕ, Bool, true, false, List, [], ◌∷◌, length, drop, get_or, map, min, nat_le, refl, sym, ap, ◌∙◌, arith, inl, inr}
-use Rattle.std.specs.Prelude.{if◌then◌else◌, ◌&&◌, ◌||◌, ◌⊎◌, not}
+use Rattle.std.proofs.Common.{◌≡◌, ◌<◌, ◌≤◌, ◌+◌, ℕ, Bool, true, false, List, [], ◌∷◌, length, drop, get_or, map, nat_le, refl, sym, ap, ◌∙◌, arith, inl, inr}
+use Rattle.std.specs.Prelude.{◌&&◌, ◌||◌, ◌⊎◌, not}
 use Rattle.std.specs.List.{list_all}
-use Rattle.std.proofs.lemmas.Bool.{le-leb, lt-leb, leb-true, leb-false}
+use Rattle.std.proofs.lemmas.Bool.{le-leb, leb-true, leb-false}
 use Rattle.rv_object.specs.declared.object.Object.{Object as DeclaredObject}
 use Rattle.rv_object.specs.declared.section.Section.{Section as DeclaredSection}
 use Rattle.rv_object.specs.Object.{Section, Object}
@@ -12,15 +12,12 @@ use Rattle.rv_object.specs.View.{object_of}
 use Rattle.rv_object_laws.specs.Moves.{moves, has_room}
 use Rattle.rv_object_laws.specs.Inputs.{goes_to_text, begins_at}
 use Rattle.rv_placement.specs.Placement.{farthest}
-use Rattle.rv_placement.specs.Walk.{start_behind, end_from, end_behind, next, ended, ended_files, capped, is_roomy_from, is_roomy_behind, are_roomy_behind, are_files_roomy}
+use Rattle.rv_placement.specs.Walk.{start_behind, end_from, next, ended, capped, is_roomy_from, is_roomy_behind, are_roomy_behind, are_files_roomy}
 use Rattle.rv_placement.proofs.Alignments.{begins_some}
-use Rattle.rv_placement.proofs.Texts.{next_other, next_text}
-use Rattle.rv_placement.proofs.Walks.{above, next_up, grows, grows_files, left}
+use Rattle.rv_placement.proofs.Texts.{next_text}
+use Rattle.rv_placement.proofs.Walks.{above, next_up, grows, left}
 
 -- ---- one section
-
-other_roomy : (stop : ℕ) (s : Section) → goes_to_text s ≡ false → is_roomy_behind stop s ≡ true
-other_roomy stop s e = ap (λ b. not b || is_roomy_from (start_behind stop s) s) e
 
 text_roomy : (stop start : ℕ) (s : Section) → goes_to_text s ≡ true → start ≡ start_behind stop s → is_roomy_behind stop s ≡ is_roomy_from start s
 text_roomy stop start s e is = ap (λ b. not b || is_roomy_from (start_behind stop s) s) e ∙ ap (λ n. is_roomy_from n s) (sym is)
@@ -28,26 +25,9 @@ text_roomy stop start s e is = ap (λ b. not b || is_roomy_from (start_behind st
 from_far : (start : ℕ) (s : Section) → farthest ≤ start → is_roomy_from start s ≡ true
 from_far start s far = ap (λ b. b || list_all has_room (moves start s)) (le-leb farthest start far)
 
-from_near : (start : ℕ) (s : Section) → start < farthest → is_roomy_from start s ≡ list_all has_room (moves start s)
-from_near start s near = ap (λ b. b || list_all has_room (moves start s)) (lt-leb farthest start near)
-
 roomy_so : (a b : Bool) → b ≡ true → a || b ≡ true
 roomy_so true b h = refl
 roomy_so false b h = h
-
-pub behind_other : (stop : ℕ) (s : Section) → stop ≤ farthest → goes_to_text s ≡ false → (stop ≡ capped (next goes_to_text stop s)) × (is_roomy_behind stop s ≡ true)
-behind_other stop s low e =
-    let same = next_other stop s e in
-    (omega arith, other_roomy stop s e)
-
-pub behind_far : (stop start : ℕ) (s : Section) → goes_to_text s ≡ true → start ≡ start_behind stop s → farthest ≤ start → (farthest ≡ capped (next goes_to_text stop s)) × (is_roomy_behind stop s ≡ true)
-behind_far stop start s e is far =
-    let same = next_text stop s e in
-    let more : farthest ≤ end_behind stop s = omega arith in
-    (omega arith, text_roomy stop start s e is ∙ from_far start s far)
-
-pub behind_short : (stop start : ℕ) (s : Section) → goes_to_text s ≡ true → start ≡ start_behind stop s → start < farthest → list_all has_room (moves start s) ≡ false → is_roomy_behind stop s ≡ false
-behind_short stop start s e is near short = text_roomy stop start s e is ∙ from_near start s near ∙ short
 
 pub behind_roomy : (stop start end : ℕ) (s : Section) → goes_to_text s ≡ true → start ≡ start_behind stop s → list_all has_room (moves start s) ≡ true → end ≡ capped (end_from start s)
     → (end ≡ capped (next goes_to_text stop s)) × (is_roomy_behind stop s ≡ true)
@@ -101,9 +81,6 @@ files_capped n os = either_way (λ m. are_files_roomy m os) true n (λ m far. fi
 
 -- ---- the steps of loops
 
-not_front : (a b whole : Bool) → a ≡ false → a && b ≡ whole → whole ≡ false
-not_front a b whole e h = sym h ∙ ap (λ x. x && b) e
-
 module _ (stop i : ℕ) (sections : List DeclaredSection) (x : DeclaredSection) (inside : i < length sections) (is : x ≡ get_or sections i x) where
   abbrev rest : List Section
   rest = map section_of (drop (i + 1) sections)
@@ -116,10 +93,6 @@ module _ (stop i : ℕ) (sections : List DeclaredSection) (x : DeclaredSection) 
   section_roomy end whole ends roomy h =
       ap (λ n. are_roomy_behind n rest) ends ∙ roomy_capped (next goes_to_text stop (section_of x)) rest
       ∙ sym (ap (λ b. b && are_roomy_behind (next goes_to_text stop (section_of x)) rest) roomy) ∙ ap (are_roomy_behind stop) (sym here) ∙ h
-
-  pub section_short : (whole : Bool) → is_roomy_behind stop (section_of x) ≡ false → are_roomy_behind stop (map section_of (drop i sections)) ≡ whole → whole ≡ false
-  section_short whole short h =
-      not_front (is_roomy_behind stop (section_of x)) (are_roomy_behind (next goes_to_text stop (section_of x)) rest) whole short (ap (are_roomy_behind stop) (sym here) ∙ h)
 
   pub section_capped : (end whole : ℕ) → end ≡ capped (next goes_to_text stop (section_of x)) → capped (ended goes_to_text stop (map section_of (drop i sections))) ≡ whole
       → capped (ended goes_to_text end rest) ≡ whole
@@ -141,7 +114,3 @@ module _ (stop i : ℕ) (objects : List DeclaredObject) (o : DeclaredObject) (in
   object_roomy end whole ends roomy h =
       ap (λ n. are_files_roomy n others) ends ∙ files_capped (ended goes_to_text stop mine) others
       ∙ sym (ap (λ b. b && are_files_roomy (ended goes_to_text stop mine) others) roomy) ∙ ap (are_files_roomy stop) (sym there) ∙ h
-
-  pub object_short : (whole : Bool) → are_roomy_behind stop mine ≡ false → are_files_roomy stop (map object_of (drop i objects)) ≡ whole → whole ≡ false
-  object_short whole short h =
-      not_front (are_roomy_behind stop mine) (are_files_roomy (ended goes_to_text stop mine) others) whole short (ap (are_files_roomy stop) (sym there) ∙ h)

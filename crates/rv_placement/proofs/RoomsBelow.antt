@@ -1,6 +1,6 @@
 -- What the pass over the text says of its paddings, wherever its sections stand so.
 
-use Rattle.std.proofs.Common.{suc, ◌≡◌, ◌<◌, ◌≤◌, ◌+◌, ℕ, Bool, true, false, List, [], ◌∷◌, ◌++◌, nat_le, refl, sym, ap, subst, ◌∙◌, arith}
+use Rattle.std.proofs.Common.{suc, ◌≡◌, ◌<◌, ◌+◌, ℕ, Bool, true, false, List, [], ◌∷◌, ◌++◌, nat_le, refl, sym, ap, subst, ◌∙◌}
 use Rattle.std.specs.Prelude.{if◌then◌else◌, ◌&&◌, ◌||◌, not, IsTrue}
 use Rattle.std.specs.List.{AllByRecursion, list_all}
 use Rattle.std.proofs.lemmas.Bool.{lt-leb, and_parts}
@@ -8,7 +8,7 @@ use Rattle.rv_object.specs.Object.{Section, Object, size_of}
 use Rattle.rv_object_laws.specs.Moves.{moves, has_room, new_offset}
 use Rattle.rv_object_laws.specs.Inputs.{Starts, InputSection, goes_to_text, inputs, inputs_from, inputs_of, start_of, Stand}
 use Rattle.rv_placement.specs.declared.fault.PlacementFault.TheVariants.{TooLarge, Short}
-use Rattle.rv_placement.specs.Placement.{farthest, AreRoomy, IsShort, AreRoomyBelow, IsTooLarge, IsUnplaced}
+use Rattle.rv_placement.specs.Placement.{farthest, IsShort, AreRoomyBelow, IsTooLarge, IsUnplaced}
 use Rattle.rv_placement.specs.Walk.{start_behind, end_behind, ended, is_roomy_from, are_roomy_behind, are_files_roomy}
 
 and_assoc : (a b c : Bool) → a && (b && c) ≡ (a && b) && c
@@ -30,7 +30,7 @@ module _ (starts : Starts) where
       go : (more : List InputSection) (b : Bool) → Stand starts stop ((if b then record { file = file; object = o; index = index; section = s } ∷ more else more) ++ rest)
           → ((n : ℕ) → Stand starts n (more ++ rest) → (list_all (below starts) (more ++ rest) ≡ (are_roomy_behind n ss && list_all (below starts) rest)) × Stand starts (ended goes_to_text n ss) rest)
           → (list_all (below starts) ((if b then record { file = file; object = o; index = index; section = s } ∷ more else more) ++ rest)
-              ≡ (((not b || is_roomy_from (start_behind stop s) s) && are_roomy_behind (if b then end_behind stop s else stop) ss) && list_all (below starts) rest))
+          ≡ (((not b || is_roomy_from (start_behind stop s) s) && are_roomy_behind (if b then end_behind stop s else stop) ss) && list_all (below starts) rest))
           × Stand starts (ended goes_to_text (if b then end_behind stop s else stop) ss) rest
       go more true h others =
           let stand = subst (λ n. Stand starts n (more ++ rest)) (ap (λ n. n + new_offset (moves n s) (size_of s.contents)) h.0) h.1 in

@@ -107,7 +107,7 @@ AreRoomyBelow os text_start =
     (starts : Starts) → Stand starts text_start (inputs goes_to_text os)
     → AllByRecursion
     (λ i. start_of starts i < farthest
-        → IsTrue (list_all has_room (moves (start_of starts i) i.section)))
+    → IsTrue (list_all has_room (moves (start_of starts i) i.section)))
     (inputs goes_to_text os)
 
 -- why sections cannot be placed

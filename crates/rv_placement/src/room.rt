@@ -25,11 +25,7 @@ const HUGE: u64 = 1 << 63;
 
 /// The end after a section that comes after an end, `FARTHEST` at most; `None` where a padding of
 /// it has no room.
-fn room_behind(
-    alloc: Global,
-    section: &Section,
-    stop: u64,
-) -> Result<Option<u64>, AllocError>
+fn room_behind(alloc: Global, section: &Section, stop: u64) -> Result<Option<u64>, AllocError>
     requires { stop ≤ farthest }
     ensures roomy { IfOk result (λ found. IfSome found (λ end.
         (end ≡ capped (next goes_to_text stop (section_of section.now)))
@@ -60,11 +56,7 @@ fn room_behind(
 
 /// The end after the sections of a file that come after an end, `FARTHEST` at most; `None` where a
 /// padding of the text has no room.
-fn room_in(
-    alloc: Global,
-    sections: &[Section],
-    first: u64,
-) -> Result<Option<u64>, AllocError>
+fn room_in(alloc: Global, sections: &[Section], first: u64) -> Result<Option<u64>, AllocError>
     requires { first ≤ farthest }
     ensures roomy { IfOk result (λ found. IfSome found (λ end.
         (end ≡ capped (ended goes_to_text first (map section_of sections.now)))
