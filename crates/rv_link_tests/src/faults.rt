@@ -28,6 +28,38 @@ const HUGE: SectionRow = (b".bss", W | A, b"", Some(0x0fff_fff9), 1, &[]);
 /// A padding of 4 bytes at 2, where 6 are needed: 8 is the least power of two above 4.
 const SHORT: SectionRow = (b".text", A | X, NOPS, None, 8, &[(2, Kind::Align, None, 4)]);
 
+/// A padding of 4 bytes at 4, where 4 are needed.
+const ROOMY: SectionRow = (b".text", A | X, NOPS, None, 8, &[(4, Kind::Align, None, 4)]);
+
+/// Zeros past all addresses.
+const BEYOND: SectionRow = (b".bss", W | A, b"", Some(u64::MAX), 1, &[]);
+
+/// Code without bytes, of 4 GiB.
+const LONG: SectionRow = (b".text.long", A | X, b"", Some(0x1_0000_0000), 8, &[]);
+
+/// Code without bytes, as long as it can be.
+const LONGEST: SectionRow = (b".text.long", A | X, b"", Some(u64::MAX - 1), 8, &[]);
+
+/// The same with a padding of 4 bytes at 2 before its end, where 6 are needed.
+const LONGEST_SHORT: SectionRow = (
+    b".text.long",
+    A | X,
+    b"",
+    Some(u64::MAX - 1),
+    8,
+    &[(u64::MAX - 5, Kind::Align, None, 4)],
+);
+
+/// The same with a padding of 4 bytes, where 4 are needed.
+const LONGEST_ROOMY: SectionRow = (
+    b".text.long",
+    A | X,
+    b"",
+    Some(u64::MAX - 1),
+    8,
+    &[(u64::MAX - 11, Kind::Align, None, 4)],
+);
+
 const CALLS: SectionRow = (
     b".text",
     A | X,
@@ -310,6 +342,18 @@ const ORDER: &[Row] = &[
     (&[(&[JUMPS], &[HERE, FAR])], 0x1_0000, 7),
     (&[(&[JUMPS, SHORT], &[START, FAR])], 0x1_0000, 4),
     (&[(&[JUMPS, HUGE], &[START, FAR])], 0x1_0000, 8),
+    // a padding without room, where sections are too large as well: by their memory, behind the text, by the text's end
+    (&[(&[SHORT, HUGE], &[START])], 0x1_0000, 4),
+    (&[(&[ROOMY, HUGE], &[START])], 0x1_0000, 8),
+    (&[(&[SHORT, BEYOND], &[START])], 0x1_0000, 4),
+    (&[(&[ROOMY, BEYOND], &[START])], 0x1_0000, 8),
+    (&[(&[LONG, SHORT], &[START])], 0x1_0000, 4),
+    (&[GOOD, (&[LONG], &[]), (&[SHORT], &[])], 0x1_0000, 4),
+    (&[(&[LONG, ROOMY], &[START])], 0x1_0000, 8),
+    // in a section that ends behind all addresses, and behind it
+    (&[(&[LONGEST_SHORT], &[START])], 0x1_0000, 4),
+    (&[(&[LONGEST_ROOMY], &[START])], 0x1_0000, 8),
+    (&[(&[LONGEST, SHORT], &[START])], 0x1_0000, 8),
     // by file, section and relocation
     (
         &[(&[JUMPS], &[START, ODD]), (&[JUMPS], &[HERE, FAR])],
