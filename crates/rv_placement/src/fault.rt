@@ -7,7 +7,8 @@ use std::alloc::AllocError;
 /// Why sections cannot be placed.
 #[derive(Clone, Copy, Debug, PartialEq, Eq, Drop)]
 pub enum PlacementFault {
-    /// They pass the end of memory, or need too much of it; each padding of the text has room.
+    /// They pass the end of memory, or need too much of it; as far as addresses are looked at, each
+    /// padding of the text has room.
     TooLarge,
     /// They are too large, and a padding of the text has no room.
     Short,

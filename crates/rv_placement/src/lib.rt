@@ -5,9 +5,8 @@
 //!
 //! Main contracts: of `Placement::of`, that the regions hold the sections of all files as `rv_object_laws` says (`IsPlacement`),
 //! or that these are too large for memory wherever they stand so (`IsTooLarge`; by `sections_stand` they stand so somewhere), and
-//! then whether a padding of the text has no room (`IsShort`) or each has (`AreRoomyBelow`); of
-//! `rows` and `address`, that they are those of the definitions at these starts. It must not know symbols, values of relocations,
-//! nor statements.
+//! then that a padding of the text has no room (`IsShort`) or that each has (`AreRoomyBelow`); of `rows` and `address`, that they
+//! are those of the definitions at these starts. It must not know symbols, values of relocations, nor statements.
 //!
 //! ```text
 //! let placement = Placement::of(alloc, &objects, 0x10000)?;
