@@ -11,7 +11,6 @@ use Rattle.rv_isa.specs.Kinds.{width_of}
 use Rattle.rv_statement.specs.Statement.{Statement}
 use Rattle.rv_unit_laws.specs.declared.section_type.SectionType.{SectionType}
 use Rattle.rv_unit_laws.specs.declared.section_type.SectionType.TheVariants as types
-use Rattle.rv_unit_laws.specs.Faults.{first_fault}
 use Rattle.rv_unit_laws.specs.Sections.{Section as SourceSection, is_nobits_type}
 use Rattle.rv_unit_laws.specs.Tables.{Tables, at_start, after, tables}
 use Rattle.rv_tables.specs.declared.section.Extent.{Extent}
@@ -21,6 +20,8 @@ use Rattle.rv_object.specs.declared.relocation.Relocation.{Relocation as Declare
 use Rattle.rv_object.specs.declared.row.Row.{Row}
 use Rattle.rv_object.specs.Object.{Contents, Relocation, Section, Symbol, size_of}
 use Rattle.rv_object.specs.Valid.{are_paddings, is_below, is_even, is_loaded_alone, fit_inside, are_indexed, are_defined, is_row_in, are_rows, is_alignment}
+use Rattle.rv_assemble_laws.specs.Refusals.{statements_fault}
+use Rattle.rv_assemble_laws.proofs.Faultless.{no_first_fault}
 use Rattle.rv_assemble_laws.specs.Sites.{Site, form, HasSize, part_bytes, parts, sites_in, end_of}
 use Rattle.rv_assemble_laws.specs.Symbols.{references, symbols_of}
 use Rattle.rv_assemble_laws.specs.IsObjectOf.{IsObjectOf, ArePartsNumbered, Numbering, relocations_from, contents_of, IsNumbered, IsSectionOf, AreSectionsOf, row_of, rows_at}
@@ -194,7 +195,7 @@ of_sections t all number symbols k [] (x ∷ xs) h = absurd h
 of_sections t all number symbols k (e ∷ es) [] h = absurd h
 of_sections t all number symbols k (e ∷ es) (x ∷ xs) (h, hs) = (h, of_sections t all number symbols (suc k) es xs hs)
 
-module _ (ss : List Statement) (d : Draft) (extents : List Extent) (lists : List (Vec DeclaredRelocation)) (number : Numbering) (h : IsDraft ss d) (good : first_fault ss ≡ None) (kept : OpenKept ss)
+module _ (ss : List Statement) (d : Draft) (extents : List Extent) (lists : List (Vec DeclaredRelocation)) (number : Numbering) (h : IsDraft ss d) (good : statements_fault ss ≡ None) (kept : OpenKept ss)
     (opened : map extent_section extents ≡ (tables ss).opened.sections) (alignments : map (λ (e : Extent). e.alignment) extents ≡ (tables ss).alignments) (counted : length lists ≡ length extents)
     (listed : (j : ℕ) → list_in lists j ≡ relocations_in j (map field_of d.fields.items) (map (λ f. number f.ordinal f.symbol) (map field_of d.fields.items)))
     (numbers : AllByRecursion (IsNumbered (tables ss) h.sites number (symbols_of (tables ss) h.sites)) (references (tables ss) h.sites)) where
@@ -205,7 +206,7 @@ module _ (ss : List Statement) (d : Draft) (extents : List Extent) (lists : List
   symbols = symbols_of t h.sites
 
   all_settled : AllByRecursion (IsSettled t.opened.sections) h.sites
-  all_settled = settled ss h.sites good h.located
+  all_settled = settled ss h.sites (no_first_fault ss good) h.located
 
   pub are_each : AreEach extents d.ends.items d.sections.items lists
   are_each =

@@ -4,7 +4,7 @@ use Rattle.std.proofs.Common.{◌≡◌, ℕ, ◌+◌, ◌≤◌, Bool, true, fa
 use Rattle.std.proofs.lemmas.Bool.{le-leb}
 use Rattle.std.proofs.lemmas.List.{length-replicate}
 use Rattle.std.proofs.lemmas.List.Folds.{list_all-append}
-use Rattle.std.specs.Prelude.{not, if◌then◌else◌, flat_map}
+use Rattle.std.specs.Prelude.{max, not, if◌then◌else◌, flat_map}
 use Rattle.std.specs.List.{AllByRecursion, list_all}
 use Rattle.rv_isa.specs.declared.kind.Kind.TheVariants.{Abs32, Abs64, Add8, Add16, Add32, Add64, Sub8, Sub16, Sub32, Sub64}
 use Rattle.rv_isa.specs.Kinds.{width_of}
@@ -161,8 +161,9 @@ no_padding executable c (r ∷ rs) (h, hs) =
 
 apart_two : (r q : Relocation) → IsPlain r → IsPlain q → are_apart r q ≡ true
 apart_two r q h k =
-    ap (λ b. not (b || is_align q.kind) || nat_le (r.place + held r) q.place || nat_le (q.place + held q) r.place) h
-    ∙ ap (λ b. not b || nat_le (r.place + held r) q.place || nat_le (q.place + held q) r.place) k
+    let later = max r.place q.place in
+    ap (λ b. not (b || is_align q.kind) || nat_le (r.place + held r) later || nat_le (q.place + held q) later) h
+    ∙ ap (λ b. not b || nat_le (r.place + held r) later || nat_le (q.place + held q) later) k
 
 apart_one : (r : Relocation) (rs : List Relocation) → IsPlain r → AllByRecursion IsPlain rs → list_all (are_apart r) rs ≡ true
 apart_one r [] h hs = refl

@@ -4,7 +4,6 @@ use Rattle.std.proofs.Common.{◌≡◌, ℕ, ◌<◌, true, List, [], ◌∷◌
 use Rattle.std.proofs.lemmas.List.{length-map}
 use Rattle.std.specs.Global.{Vec}
 use Rattle.std.specs.List.{AllByRecursion}
-use Rattle.rv_unit_laws.specs.Faults.{first_fault}
 use Rattle.rv_unit_laws.specs.Tables.{Tables, tables}
 use Rattle.rv_tables.specs.declared.section.Extent.{Extent}
 use Rattle.rv_tables.specs.Sections.{extent_section}
@@ -15,6 +14,8 @@ use Rattle.rv_object.specs.declared.row.Row.{Row}
 use Rattle.rv_object.specs.Object.{Section}
 use Rattle.rv_object.specs.Parts.{symbol_of}
 use Rattle.rv_object.specs.Valid.{are_indexed, are_defined, are_rows}
+use Rattle.rv_assemble_laws.specs.Refusals.{statements_fault}
+use Rattle.rv_assemble_laws.proofs.Faultless.{no_first_fault}
 use Rattle.rv_assemble_laws.specs.Symbols.{references, symbols_of}
 use Rattle.rv_assemble_laws.specs.IsObjectOf.{Numbering, IsNumbered, IsObjectOf}
 use Rattle.rv_sites.specs.declared.field.OpenField.{OpenField}
@@ -33,7 +34,7 @@ numbers_map : (number : Numbering) (fs : List OpenField) → map (λ r. number r
 numbers_map number [] = refl
 numbers_map number (f ∷ fs) = ap (λ l. number f.ordinal (field_of f).symbol ∷ l) (numbers_map number fs)
 
-module _ (u : SourceUnit) (d : Draft) (x : SymbolTable) (filled : IsFilled u) (good : first_fault (said u) ≡ None) (kept : OpenKept (said u)) (h : IsDraft (said u) d) (has : HasTable (said u) d x) where
+module _ (u : SourceUnit) (d : Draft) (x : SymbolTable) (filled : IsFilled u) (good : statements_fault (said u) ≡ None) (kept : OpenKept (said u)) (h : IsDraft (said u) d) (has : HasTable (said u) d x) where
   abbrev t : Tables
   t = tables (said u)
 
@@ -56,7 +57,7 @@ module _ (u : SourceUnit) (d : Draft) (x : SymbolTable) (filled : IsFilled u) (g
   numbers_count = ap length numbers_are ∙ length-map (map field_of d.fields.items) _ ∙ length-map d.fields.items field_of
 
   pub inside : AllByRecursion (λ (f : OpenField). f.section < length extents) d.fields.items
-  inside = subst (λ n. AllByRecursion (λ (f : OpenField). f.section < n) d.fields.items) (ap length (sym opened) ∙ length-map extents extent_section) (fields_inside (said u) d h good)
+  inside = subst (λ n. AllByRecursion (λ (f : OpenField). f.section < n) d.fields.items) (ap length (sym opened) ∙ length-map extents extent_section) (fields_inside (said u) d h (no_first_fault (said u) good))
 
   numbered : AllByRecursion (IsNumbered t h.sites known.number (symbols_of t h.sites)) (references t h.sites)
   numbered = subst (λ rs. AllByRecursion (IsNumbered t h.sites known.number (symbols_of t h.sites)) rs) (uses_named (said u) d h) known.numbered

@@ -1,10 +1,10 @@
 //! The object of a draft.
 
 ghost use Rattle.std.specs.Prelude.{◌≡◌, None, IfOk};
-ghost use Rattle.rv_unit_laws.specs.Faults.{first_fault};
 ghost use Rattle.rv_unit.specs.Unit.{said, IsFilled};
 ghost use Rattle.rv_object.specs.View.{object_of};
 ghost use Rattle.rv_assemble_laws.specs.IsObjectOf.{IsObjectOf};
+ghost use Rattle.rv_assemble_laws.specs.Refusals.{statements_fault};
 ghost use Rattle.rv_sites.specs.Draft.{IsDraft};
 ghost use Rattle.rv_assemble.specs.KeptNames.{OpenKept};
 ghost use Rattle.rv_assemble.specs.Tabled.{HasTable};
@@ -26,7 +26,7 @@ pub(crate) fn object(
     table: SymbolTable,
 ) -> Result<Object, AllocError>
     requires filled { IsFilled unit.now }
-    requires good { first_fault (said unit.now) ≡ None }
+    requires good { statements_fault (said unit.now) ≡ None }
     requires kept { OpenKept (said unit.now) }
     requires draft { IsDraft (said unit.now) draft }
     requires table { HasTable (said unit.now) draft table }
