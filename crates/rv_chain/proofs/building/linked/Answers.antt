@@ -17,7 +17,7 @@ returns-in_err-linked-clause-refuses c =
     let refused : IsUnlinked os start c.in_err-linked.field-0.0 =
     subst (λ xs. IsUnlinked (map object_of xs) start c.in_err-linked.field-0.0) c.as_slice.ensures.value c.in_err-linked.ensures.refuses in
     err_given c.from_residual-in_err-linked.result (IsRefusedFor texts start) _ c.from_residual-in_err-linked.ensures.1
-    (λ f is. subst (IsRefusedFor texts start) (sym is) (link_refused texts start c.in_err-linked.field-0.0 (os, (c.in_ok-objects.ensures.objects, refused))))
+    (λ f is. subst (IsRefusedFor texts start) (sym is) (link_refused texts start c.in_err-linked.field-0.0 (os, c.in_ok-objects.ensures.objects, refused)))
 
 pub returns-clause-program : goal.returns-clause-program
 returns-clause-program c =
