@@ -10,7 +10,7 @@
 //!
 //! ```text
 //! let placement = Placement::of(alloc, &objects, 0x10000)?;
-//! let first = placement.section(0, 0);                        // Some(PlacedSection { start: 0x10000, .. })
+//! let first = &placement.files[0][0];                         // PlacedSection { start: 0x10000, .. }
 //! let address = placement.address(&objects, 0, 0, 8);         // Some(0x10008), where no byte before it is dropped
 //! let rows = placement.rows(alloc, &objects)?;
 //! ```

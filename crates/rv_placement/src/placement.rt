@@ -117,7 +117,7 @@ impl Placement {
     }
 
     /// The place of a section by its object, from 0, and its index there.
-    pub fn section(&self, file: usize, index: u32) -> Option<&PlacedSection>
+    pub(crate) fn section(&self, file: usize, index: u32) -> Option<&PlacedSection>
         ensures { option_map (λ q. q.now) result ≡ placed_at self.now file index }
     {
         let section = self.files.get(file)?;
