@@ -23,6 +23,7 @@ ghost use Rattle.rv_object.specs.Valid.{
   is_padding,
   is_row_in,
   is_shown,
+  is_string,
   padding_of,
 };
 ghost use Rattle.rv_map.specs.Name.{is_name, is_name_byte};
@@ -218,11 +219,17 @@ fn has_shown_bytes(name: &[u8]) -> bool
     name.iter().all(|byte| b'!' <= *byte && *byte <= b'~')
 }
 
+fn has_no_zero(name: &[u8]) -> bool
+    ensures { result ≡ is_string name.now }
+{
+    name.iter().all(|byte| *byte != 0)
+}
+
 fn may_show(binding: Binding, name: &[u8]) -> bool
     ensures { result ≡ is_shown binding name.now }
 {
     match binding {
-        Binding::Local => true,
+        Binding::Local => has_no_zero(name),
         Binding::Global => is_shown_name(name),
     }
 }

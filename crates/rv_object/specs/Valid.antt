@@ -83,9 +83,13 @@ are_paddings executable c rs =
 
 -- ---- names
 
+-- a name ends before the first zero byte in its file
+abbrev pub is_string : List ℕ → Bool
+is_string name = list_all (λ byte. not (byte == 0)) name
+
 -- a name that every object may use has one byte or more, each 21h to 7Eh
 abbrev pub is_shown : Binding → List ℕ → Bool
-is_shown bindings.Local name = true
+is_shown bindings.Local name = is_string name
 is_shown bindings.Global name = is_name name
 
 -- ---- indices

@@ -34,6 +34,6 @@ pub struct Symbol {
     pub binding: Binding,
     /// What it is.
     pub definition: Definition,
-    /// A name that every object may use is one that a map can show.
+    /// A name that every object may use is one that a map can show; no other has a zero byte.
     pub ghost shown: { IsTrue (is_shown binding name.items) },
 }

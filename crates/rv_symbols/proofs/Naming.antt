@@ -1,17 +1,18 @@
 -- The names that statements define.
 
 use Rattle.std.proofs.Common.{◌≡◌, ℕ, zero, suc, ◌+◌, ◌<◌, Bool, true, false, List, [], ◌∷◌, ◌++◌, length, map, take, drop, refl, sym, ap, ◌∙◌, arith, append_assoc, Some}
-use Rattle.std.specs.Prelude.{◌&&◌, ◌||◌, ◌==◌, not, filter, slice_get, if◌then◌else◌}
+use Rattle.std.specs.Prelude.{◌&&◌, ◌||◌, ◌==◌, nat_lt, not, filter, slice_get, if◌then◌else◌}
 use Rattle.std.specs.List.{list_all}
-use Rattle.std.proofs.lemmas.Bool.{and_parts}
+use Rattle.std.proofs.lemmas.Bool.{and_parts, and_from}
 use Rattle.std.proofs.lemmas.List.Folds.{list_any-append}
 use Rattle.rv_statement.specs.Statement.{StatementKind, Label, Directs, Sets}
-use Rattle.rv_map.specs.Name.{is_name}
+use Rattle.rv_map.specs.Name.{is_name, is_name_byte}
 use Rattle.rv_source_laws.specs.Resolves.{sets_first, defined_name}
 use Rattle.rv_unit_laws.specs.Tables.{Tables}
 use Rattle.rv_object.specs.declared.symbol.Definition.{Definition as Defined}
 use Rattle.rv_object.specs.declared.symbol.Definition.TheVariants.{Undefined, Absolute, InSection, Skipped}
 use Rattle.rv_object.specs.Object.{Symbol}
+use Rattle.rv_object.specs.Valid.{is_string}
 use Rattle.rv_assemble_laws.specs.Sites.{Site}
 use Rattle.rv_assemble_laws.specs.Symbols.{SymbolUse, local_symbol, global_symbol, is_absolute, references, is_meant, unnamed_symbols, named_symbols, local_symbols}
 use Rattle.rv_assemble_laws.specs.ShownNames.{tree_names, said_names, are_shown}
@@ -72,6 +73,19 @@ global_one global d names name e g = sym (ap (λ l. map (λ name. global_symbol 
 -- a map can show the name that a statement defines
 first_shown : (n : List ℕ) (more : List (List ℕ)) → are_shown (n ∷ more) ≡ true → is_name n ≡ true
 first_shown n more e = (and_parts (is_name n) (are_shown more) e).0
+
+-- such a name has no zero byte
+byte_kept : (b : ℕ) → is_name_byte b ≡ true → not (b == 0) ≡ true
+byte_kept b h = grind arith
+
+bytes_kept : (bs : List ℕ) → list_all is_name_byte bs ≡ true → is_string bs ≡ true
+bytes_kept [] h = refl
+bytes_kept (b ∷ bs) h =
+    let both = and_parts (is_name_byte b) (list_all is_name_byte bs) h in
+    and_from (not (b == 0)) (is_string bs) (byte_kept b both.0) (bytes_kept bs both.1)
+
+pub name_is_string : (name : List ℕ) → is_name name ≡ true → is_string name ≡ true
+name_is_string name h = bytes_kept name (and_parts (nat_lt 0 (length name)) (list_all is_name_byte name) h).1
 
 one_of : (b : Bool) (n name : List ℕ) → name ∷ [] ≡ (if b then n ∷ [] else []) → name ≡ n
 one_of true n name e = cc

@@ -1,15 +1,17 @@
 //! The symbols of the file alone.
 
-ghost use Rattle.std.specs.Prelude.{◌≡◌, ◌<◌, ◌+◌, ◌++◌, ◌&&◌, ◌||◌, ℕ, List, [], ◌∷◌, Some, true, not, length, map, slice_get, if◌then◌else◌, IfOk, OnOk};
+ghost use Rattle.std.specs.Prelude.{◌≡◌, ◌<◌, ◌+◌, ◌++◌, ◌&&◌, ◌||◌, ℕ, List, [], ◌∷◌, Some, true, not, length, map, slice_get, if◌then◌else◌, IfOk, OnOk, IfSome};
 ghost use Rattle.std.specs.HashSet.{contains};
 ghost use Rattle.rv_statement.specs.View.{statement_of};
 ghost use Rattle.rv_unit.specs.Unit.{said};
+ghost use Rattle.rv_map.specs.Name.{is_name};
 ghost use Rattle.rv_object.specs.declared.symbol.Binding.TheVariants.{Local};
 ghost use Rattle.rv_object.specs.declared.symbol.Definition.TheVariants.{InSection};
 ghost use Rattle.rv_object.specs.Parts.{symbol_of};
 ghost use Rattle.rv_object.specs.Valid.{is_shown};
 ghost use Rattle.rv_assemble_laws.specs.Sites.{Site};
 ghost use Rattle.rv_assemble_laws.specs.Symbols.{local_symbol, named_symbols, local_symbols, references};
+ghost use Rattle.rv_assemble_laws.specs.ShownNames.{said_names, are_shown, HasNames};
 ghost use Rattle.rv_symbols.specs.Source.{tables_of, place_in, IsSource};
 ghost use Rattle.rv_symbols.specs.Found.{symbols_in, is_number, same_place, AreMarks};
 
@@ -100,9 +102,11 @@ fn local<'s>(
     statement: &Statement<'s>,
 ) -> Option<(&'s [u8], Definition)>
     requires { index < length (source.now).offsets.now }
-    ensures { (sites : List Site) (s : Site) → IsSource source.now sites
+    ensures symbols { (sites : List Site) (s : Site) → IsSource source.now sites
         → slice_get sites index ≡ Some s → (statement_of statement.now).kind ≡ s.located.kind
         → symbols_in Local result ≡ named_symbols (tables_of source.now) sites s }
+    ensures shown { are_shown (said_names (statement_of statement.now).kind) ≡ true
+        → IfSome result (λ p. is_name p.0.now ≡ true) }
 {
     let Some(name) = source.defined(index, statement) else {
         return None;
@@ -125,7 +129,8 @@ fn put_local(
     index: usize,
     statement: &Statement<'_>,
 ) -> Result<(), AllocError>
-    requires { index < length (source.now).offsets.now }
+    requires inside { index < length (source.now).offsets.now }
+    requires shown { are_shown (said_names (statement_of statement.now).kind) ≡ true }
     ensures { OnOk result ((sites : List Site) (s : Site) → IsSource source.now sites
         → slice_get sites index ≡ Some s → (statement_of statement.now).kind ≡ s.located.kind
         → map symbol_of symbols.new.items ≡ map symbol_of symbols.old.items
@@ -150,7 +155,8 @@ fn put_both(
     statement: &Statement<'_>,
     meant: bool,
 ) -> Result<(), AllocError>
-    requires { index < length (source.now).offsets.now }
+    requires inside { index < length (source.now).offsets.now }
+    requires shown { are_shown (said_names (statement_of statement.now).kind) ≡ true }
     ensures symbols { OnOk result ((sites : List Site) (s : Site) → IsSource source.now sites
         → slice_get sites index ≡ Some s → (statement_of statement.now).kind ≡ s.located.kind
         → map symbol_of symbols.new.items ≡ map symbol_of symbols.old.items
@@ -174,6 +180,7 @@ pub(crate) fn locals(
 ) -> Result<Vec<Symbol>, AllocError>
     requires each { length (source.now).offsets.now ≡ length (said (source.now).unit.now) }
     requires marks { length meant.now ≡ length (said (source.now).unit.now) }
+    requires names { HasNames (said (source.now).unit.now) }
     ensures { IfOk result (λ x. (sites : List Site) → IsSource source.now sites
         → AreMarks (tables_of source.now) (references (tables_of source.now) sites) meant.now
         (length meant.now)

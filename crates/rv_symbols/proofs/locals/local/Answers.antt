@@ -9,23 +9,23 @@ use Rattle.rv_symbols.proofs.Stands.{ordinal_is}
 use Rattle.rv_symbols.proofs.Naming.{local_none, local_global, local_number, local_one, named_at}
 use Rattle.rv_symbols.proofs.locals.local.Goals as goal
 
-pub returns-in_default : goal.returns-in_default
-returns-in_default c = λ sites s h at kind.
+pub returns-in_default-clause-symbols : goal.returns-in_default-clause-symbols
+returns-in_default-clause-symbols c = λ sites s h at kind.
     let x = c.args.source.now in
     let t = tables_of x in
     local_none (λ n. is_global (t.bindings n)) (site_definition t sites s s.located.kind) (defined_name t s.located.ordinal s.located.kind)
     (ap name_in (sym c.in_default.is) ∙ named_at t _ c.args.index s (statement_of c.args.statement.now).kind (ordinal_is x sites h c.args.index s at) kind (c.defined.ensures.name sites h))
 
-pub returns-then-is_global : goal.returns-then-is_global
-returns-then-is_global c = λ sites s h at kind.
+pub returns-then-is_global-clause-symbols : goal.returns-then-is_global-clause-symbols
+returns-then-is_global-clause-symbols c = λ sites s h at kind.
     let x = c.args.source.now in
     let t = tables_of x in
     local_global (λ n. is_global (t.bindings n)) (site_definition t sites s s.located.kind) (defined_name t s.located.ordinal s.located.kind) c.in-Some.name.now
     (ap name_in (sym c.in-Some.is) ∙ named_at t _ c.args.index s (statement_of c.args.statement.now).kind (ordinal_is x sites h c.args.index s at) kind (c.defined.ensures.name sites h))
     (sym (c.is_global.ensures sites h) ∙ c.if-is_global.true)
 
-pub returns-then-is_number : goal.returns-then-is_number
-returns-then-is_number c = λ sites s h at kind.
+pub returns-then-is_number-clause-symbols : goal.returns-then-is_number-clause-symbols
+returns-then-is_number-clause-symbols c = λ sites s h at kind.
     let x = c.args.source.now in
     let t = tables_of x in
     let d : c.definition-definition.result ≡ site_definition t sites s s.located.kind = c.definition-definition.ensures sites s h at ∙ ap (site_definition t sites s) kind in
@@ -34,8 +34,8 @@ returns-then-is_number c = λ sites s h at kind.
     (sym (c.is_global.ensures sites h) ∙ c.if-is_global.false)
     (ap is_number (sym d) ∙ sym c.is_number.ensures ∙ c.if-is_number.true)
 
-pub returns : goal.returns
-returns c = λ sites s h at kind.
+pub returns-clause-symbols : goal.returns-clause-symbols
+returns-clause-symbols c = λ sites s h at kind.
     let x = c.args.source.now in
     let t = tables_of x in
     let d : c.definition-definition.result ≡ site_definition t sites s s.located.kind = c.definition-definition.ensures sites s h at ∙ ap (site_definition t sites s) kind in

@@ -2,14 +2,26 @@ use Rattle.std.proofs.Common.{◌≡◌, ◌<◌, ◌≤◌, ◌+◌, false, ◌
 use Rattle.std.specs.HashSet.{contains}
 use Rattle.rv_object.specs.Parts.{symbol_of}
 use Rattle.rv_statement.specs.View.{statement_of}
+use Rattle.rv_statement.specs.Statement.{Statement}
+use Rattle.rv_unit.specs.Unit.{said}
+use Rattle.rv_assemble_laws.specs.ShownNames.{said_names, are_shown}
 use Rattle.std.proofs.lemmas.List.{length-map}
 use Rattle.rv_assemble_laws.specs.Sites.{Site}
 use Rattle.rv_assemble_laws.specs.Symbols.{references, is_meant, local_symbols}
 use Rattle.rv_symbols.specs.Source.{tables_of, place_in}
 use Rattle.rv_symbols.specs.Found.{same_place, is_seen, any_means}
-use Rattle.rv_symbols.proofs.Stands.{ordinal_is, kind_at, sites_inside, sites_past}
-use Rattle.rv_symbols.proofs.Naming.{there_is, drop_next, take_next, locals_more, seen_more}
+use Rattle.rv_symbols.proofs.Stands.{ordinal_is, kind_at, sites_inside, sites_past, said_at}
+use Rattle.rv_symbols.proofs.Naming.{all_got, there_is, drop_next, take_next, locals_more, seen_more}
 use Rattle.rv_symbols.proofs.locals.locals.Goals as goal
+
+pub put_both-requires-clause-shown : goal.put_both-requires-clause-shown
+put_both-requires-clause-shown c =
+    let i = c.loop-i.i in
+    let items = c.args.source.now.unit.now.statements.items in
+    let y = c.index-statements-i.result in
+    let inside : i < length items = search rules in
+    let is : y ≡ get_or items i y = c.index-statements-i.is ∙ ap (λ l. get_or l i y) c.statements-statements.ensures in
+    all_got (λ (s : Statement). are_shown (said_names s.kind)) (said c.args.source.now.unit.now) i (statement_of y) (said_at c.args.source.now.unit.now i y inside is) c.requires.names
 
 pub loop-i-preserved : goal.loop-i-preserved
 loop-i-preserved c =
