@@ -1,6 +1,6 @@
 -- What linking the objects of sources makes of each file.
 
-use Rattle.std.proofs.Common.{◌≡◌, ℕ, zero, suc, ◌+◌, ◌-◌, Bool, true, false, List, [], ◌∷◌, ◌++◌, length, refl, ap, ◌∙◌, subst, arith, map, Option, Some, None}
+use Rattle.std.proofs.Common.{◌≡◌, ℕ, zero, suc, ◌+◌, ◌-◌, ◌≤◌, Bool, true, false, List, [], ◌∷◌, ◌++◌, length, refl, ap, ◌∙◌, subst, arith, map, Option, Some, None}
 use Rattle.std.specs.Int.{w64, int_wrap}
 use Rattle.std.specs.Prelude.{⊤, pos, ◌&&◌, ◌==◌, nat_lt, if◌then◌else◌, filter, flat_map, option_and_then, slice_index_or}
 use Rattle.std.specs.List.{slice_get}
@@ -9,17 +9,19 @@ use Rattle.rv_isa.specs.declared.kind.Kind.TheVariants.{Abs32, Abs64, Add8, Add1
 use Rattle.rv_text_laws.specs.Values.{Constant, Symbolic, Difference, Faulty}
 use Rattle.rv_statement.specs.Statement.{Statement}
 use Rattle.rv_unit_laws.specs.Sections.{Section as SourceSection}
-use Rattle.rv_unit_laws.specs.Tables.{Tables, tables, at_start}
+use Rattle.rv_unit_laws.specs.Tables.{Tables, tables, at_start, after}
 use Rattle.rv_map.specs.Map.{Map}
 use Rattle.rv_map.specs.declared.map.Row.{Row as MapRow}
-use Rattle.rv_source_laws.specs.Located.{has_row, located}
+use Rattle.rv_source_laws.specs.Located.{has_row, located, located_now, located_from}
 use Rattle.rv_source_laws.specs.Program.{Program, program, tables_in, address_at, mapped_of, statements_of}
 use Rattle.rv_source_laws.specs.Fits.{mapped_in}
 use Rattle.rv_object.specs.Object.{Relocation, Section, Symbol, Object}
 use Rattle.rv_object.specs.Valid.{is_align}
 use Rattle.rv_object_laws.specs.Moves.{alignments_of, by_place, full_padding, has_padding, plan}
 use Rattle.rv_object_laws.specs.Inputs.{Starts}
-use Rattle.rv_object_laws.specs.IsLinkOf.{moves_at, map_row, row_in as linked_row, rows_of as linked_rows}
+use Rattle.rv_object_laws.specs.Rising.{Rise}
+use Rattle.rv_object_laws.proofs.Ordinals.{rows_stay}
+use Rattle.rv_object_laws.specs.IsLinkOf.{by_ordinal, moves_at, map_row, row_in as linked_row, rows_of as linked_rows}
 use Rattle.rv_assemble_laws.specs.Templates.{Template, Fixed, Datum, template_fields, absolute_kind, add_kind, subtract_kind}
 use Rattle.rv_assemble_laws.specs.Sites.{Site, Part, part_bytes, parts, sites_in}
 use Rattle.rv_assemble_laws.specs.Symbols.{site_at}
@@ -147,12 +149,29 @@ module _ (starts : Starts) where
       go true ih = ap (λ (r : MapRow). r ∷ map (linked_row starts file o) (flat_map rows_at ss)) own ∙ ap (λ (l : List MapRow). row_in starts file s ∷ l) ih
       go false ih = ih
 
+  -- the rows of a source stand by their ordinals
+  rise_from : (k : ℕ) (t : Tables) (ss : List Statement) (sites : List Site) → map (λ s. s.located) sites ≡ located_from 1 k t ss → (low : ℕ) → low ≤ k → Rise low (flat_map rows_at sites)
+  rise_from k t ss [] e low h = tt
+  rise_from k t [] (s ∷ sites) e low h = absurd (cc)
+  rise_from k t (x ∷ ss) (s ∷ sites) e low h =
+      go (has_row s.located) (rise_from (suc k) (after t k x.kind) ss sites (let rest : map (λ s. s.located) sites ≡ located_from 1 (suc k) (after t k x.kind) ss = cc in rest))
+    where
+      own : s.located.ordinal ≡ k
+      own = let now : s.located ≡ located_now 1 k t x = cc in ap (λ l. l.ordinal) now
+
+      go : (b : Bool) → ((low : ℕ) → low ≤ suc k → Rise low (flat_map rows_at sites)) → Rise low ((if b then row_of s ∷ [] else []) ++ flat_map rows_at sites)
+      go true more = (omega (arith, own, h), more s.located.ordinal (omega (arith, own)))
+      go false more = more low (omega (arith, h))
+
+  by_ordinals : (ss : List Statement) (o : Object) (is : IsObjectOf ss o) → by_ordinal o.rows ≡ flat_map rows_at is.sites
+  by_ordinals ss o is = ap by_ordinal is.rows ∙ rows_stay 0 (flat_map rows_at is.sites) (rise_from 1 at_start ss is.sites is.located 0 (omega arith))
+
   pub rows_all : (file : ℕ) (sources : List (List Statement)) (os : List Object) (h : AreObjectsOf sources os) → linked_rows starts file os ≡ all_rows starts file sources os h
   rows_all file [] [] h = refl
   rows_all file [] (o ∷ os) h = absurd h
   rows_all file (ss ∷ sources) [] h = absurd h
   rows_all file (ss ∷ sources) (o ∷ os) (is, h) =
-      ap (λ l. map (linked_row starts file o) l ++ linked_rows starts (suc file) os) is.rows
+      ap (λ l. map (linked_row starts file o) l ++ linked_rows starts (suc file) os) (by_ordinals ss o is)
       ∙ ap (λ l. l ++ linked_rows starts (suc file) os) (rows_are file o is.sites (plain_of ss o is))
       ∙ ap (λ l. rows_from starts file is.sites ++ l) (rows_all (suc file) sources os h)
 

@@ -259,21 +259,22 @@ const PADDED: ObjectRow = (
 /// Another file's code, at a multiple of 64.
 const APART: ObjectRow = (&[(b".text", A | X, NOP, None, 64, &[])], &[]);
 
+/// Their statements, which stand in no order.
 const STATEMENTS: &[Statement] = &[
+    Statement {
+        line: 10,
+        ordinal: 4,
+        section: 0,
+        offset: 12,
+        bytes: 2,
+        instructions: 1,
+    },
     Statement {
         line: 7,
         ordinal: 1,
         section: 0,
         offset: 0,
         bytes: 4,
-        instructions: 2,
-    },
-    Statement {
-        line: 8,
-        ordinal: 2,
-        section: 0,
-        offset: 4,
-        bytes: 6,
         instructions: 2,
     },
     Statement {
@@ -285,12 +286,12 @@ const STATEMENTS: &[Statement] = &[
         instructions: 1,
     },
     Statement {
-        line: 10,
-        ordinal: 4,
+        line: 8,
+        ordinal: 2,
         section: 0,
-        offset: 12,
-        bytes: 2,
-        instructions: 1,
+        offset: 4,
+        bytes: 6,
+        instructions: 2,
     },
     Statement {
         line: 11,
@@ -302,7 +303,7 @@ const STATEMENTS: &[Statement] = &[
     },
 ];
 
-/// The line, ordinal, address, bytes and instructions of their rows.
+/// The line, ordinal, address, bytes and instructions of their rows, by ordinal.
 const ROWS: [(u64, u64, u64, u64, u64); 5] = [
     (7, 1, 0x1_0000, 4, 2),
     (8, 2, 0x1_0004, 4, 1),

@@ -16,7 +16,7 @@ pub struct Object {
     pub sections: Vec<Section>,
     /// Its symbols: those of its own, and then those that others may name.
     pub symbols: Vec<Symbol>,
-    /// Where the statements of its source stand, by ordinal.
+    /// Where the statements of its source stand, in any order.
     pub rows: Vec<Row>,
     /// It has compressed code (psABI, EF_RISCV_RVC).
     pub rvc: bool,

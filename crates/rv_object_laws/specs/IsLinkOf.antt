@@ -1,7 +1,7 @@
 -- The linked program of objects, whoever made them (gABI, "Sections", "Symbol Table", "Relocation"; GNU ld; this project's
 -- layout). Nothing here knows of statements.
 
-use Rattle.std.specs.Prelude.{◌≡◌, ℕ, suc, ◌+◌, ◌-◌, ◌%◌, ◌<◌, ◌≤◌, Bool, IsTrue, List, [], ◌∷◌, ◌++◌, length, map, Option, Some, None}
+use Rattle.std.specs.Prelude.{◌≡◌, ℕ, suc, ◌+◌, ◌-◌, ◌%◌, ◌<◌, ◌≤◌, nat_le, Bool, IsTrue, List, [], ◌∷◌, ◌++◌, length, map, Option, Some, None, if◌then◌else◌}
 use Rattle.std.specs.List.{AllByRecursion, list_any, list_all, slice_get}
 use Rattle.rv_isa_laws.specs.Platform.{stack_start, memory_limit}
 use Rattle.rv_map.specs.declared.map.Row.{Row as MapRow}
@@ -36,9 +36,21 @@ row_in starts file o r =
     let start = starts file r.section in
     map_row file start (moves_at start (slice_get o.sections r.section)) r
 
+-- rows in the order of their ordinals, whatever their order in the object; those of one ordinal stay in theirs
+abbrev pub inserted_row : Row → List Row → List Row
+inserted_row r [] = r ∷ []
+inserted_row r (q ∷ qs) =
+    if nat_le r.ordinal q.ordinal then r ∷ q ∷ qs else q ∷ inserted_row r qs
+
+abbrev pub by_ordinal : List Row → List Row
+by_ordinal [] = []
+by_ordinal (r ∷ rs) = inserted_row r (by_ordinal rs)
+
+-- by file, and then by ordinal
 abbrev pub rows_of : Starts → ℕ → List Object → List MapRow
 rows_of starts file [] = []
-rows_of starts file (o ∷ os) = map (row_in starts file o) o.rows ++ rows_of starts (suc file) os
+rows_of starts file (o ∷ os) =
+    map (row_in starts file o) (by_ordinal o.rows) ++ rows_of starts (suc file) os
 
 -- ---- the whole
 

@@ -3,3 +3,4 @@ pub mod Inputs
 pub mod Names
 pub mod Values
 pub mod IsLinkOf
+pub mod Rising

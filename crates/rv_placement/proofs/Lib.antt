@@ -5,6 +5,7 @@ pub mod Huge
 pub mod Texts
 pub mod Layouts
 pub mod MapRows
+pub mod Sorted
 pub mod Rooms
 pub mod RoomsBehind
 pub mod RoomsBelow

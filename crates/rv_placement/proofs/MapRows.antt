@@ -1,6 +1,6 @@
 -- The rows of objects, as they have moved.
 
-use Rattle.std.proofs.Common.{zero, suc, ◌≡◌, ◌<◌, ◌≤◌, ◌+◌, ◌^◌, ℕ, Bool, true, false, Option, Some, None, List, [], ◌∷◌, ◌++◌, length, drop, get_or, map, nat_le, refl, sym, ap, subst, ◌∙◌, append_assoc, arith}
+use Rattle.std.proofs.Common.{zero, suc, ◌≡◌, ◌<◌, ◌≤◌, ◌+◌, ◌^◌, ℕ, Bool, true, false, Option, Some, None, List, [], ◌∷◌, ◌++◌, length, drop, get_or, map, nat_le, refl, sym, ap, ◌∙◌, append_assoc, arith}
 use Rattle.std.specs.Prelude.{◌&&◌}
 use Rattle.std.specs.List.{list_all, slice_get}
 use Rattle.std.proofs.lemmas.Bool.{leb-true}
@@ -10,8 +10,8 @@ use Rattle.rv_object.specs.declared.row.Row.{Row}
 use Rattle.rv_object.specs.declared.object.Object.{Object as DeclaredObject}
 use Rattle.rv_object.specs.Object.{Section, Object, size_of}
 use Rattle.rv_object.specs.View.{object_of}
-use Rattle.rv_object.specs.Valid.{is_row_in}
-use Rattle.rv_object_laws.specs.IsLinkOf.{map_row, moves_at, row_in, rows_of}
+use Rattle.rv_object.specs.Valid.{is_row_in, are_rows}
+use Rattle.rv_object_laws.specs.IsLinkOf.{by_ordinal, map_row, moves_at, row_in, rows_of}
 use Rattle.rv_relax.specs.Plan.{moves_of}
 use Rattle.rv_placement.specs.declared.placement.PlacedSection.{PlacedSection}
 use Rattle.rv_placement.specs.declared.placement.Placement.{Placement}
@@ -40,19 +40,16 @@ row_stands r (Some s) h = (s, refl, leb-true (r.offset + r.bytes) (size_of s.con
     back true b h = h
     back false b h = absurd (cc)
 
-module _ (os : List Object) (start : ℕ) (p : Placement) (is : IsPlacement os start p) (file : ℕ) (o : DeclaredObject) (at : slice_get os file ≡ Some (object_of o)) (rows : List Row) (same : rows ≡ o.rows.items) (i : ℕ) (d : Row)
-    (fits : i < length rows) where
+module _ (os : List Object) (start : ℕ) (p : Placement) (is : IsPlacement os start p) (file : ℕ) (o : DeclaredObject) (at : slice_get os file ≡ Some (object_of o)) (rows : List Row)
+    (lie : are_rows (object_of o).sections rows ≡ true) (i : ℕ) (d : Row) (inside : i < length rows) where
   abbrev r : Row
   r = get_or rows i d
 
-  inside : i < length o.rows.items
-  inside = subst (λ l. i < length l) same fits
-
-  here : r ≡ get_or o.rows.items i r
-  here = ap (λ l. get_or l i d) same ∙ get_or_default o.rows.items i d r inside
+  here : r ≡ get_or rows i r
+  here = get_or_default rows i d r inside
 
   stands : (s : Section) × (slice_get (object_of o).sections r.section ≡ Some s) × (r.offset + r.bytes ≤ size_of s.contents)
-  stands = row_stands r (slice_get (object_of o).sections r.section) (all_at (λ r. is_row_in r (slice_get (object_of o).sections r.section)) o.rows.items i r o.lie inside here)
+  stands = row_stands r (slice_get (object_of o).sections r.section) (all_at (λ r. is_row_in r (slice_get (object_of o).sections r.section)) rows i r lie inside here)
 
   there : section_at os file r.section ≡ Some stands.0
   there = in_object os file r.section (object_of o) at ∙ stands.1
@@ -75,18 +72,18 @@ module _ (os : List Object) (start : ℕ) (p : Placement) (is : IsPlacement os s
 
   -- one row more
   pub row_more : (q : PlacedSection) (m : MapRow) (old new all : List MapRow) → Some q ≡ placed_at p file r.section → m ≡ map_row (file + 1) q.start (moves_of q.plan) r → new ≡ old ++ (m ∷ [])
-      → old ++ map (row_in (starts_of p) (file + 1) (object_of o)) (drop i o.rows.items) ≡ all → new ++ map (row_in (starts_of p) (file + 1) (object_of o)) (drop (i + 1) o.rows.items) ≡ all
+      → old ++ map (row_in (starts_of p) (file + 1) (object_of o)) (drop i rows) ≡ all → new ++ map (row_in (starts_of p) (file + 1) (object_of o)) (drop (i + 1) rows) ≡ all
   row_more q m old new all found made pushed h =
-      let rest = map (row_in (starts_of p) (file + 1) (object_of o)) (drop (i + 1) o.rows.items) in
+      let rest = map (row_in (starts_of p) (file + 1) (object_of o)) (drop (i + 1) rows) in
       ap (λ l. l ++ rest) pushed ∙ append_assoc old (m ∷ []) rest ∙ ap (λ x. old ++ (x ∷ rest)) (made ∙ row_is q found)
-      ∙ ap (λ l. old ++ map (row_in (starts_of p) (file + 1) (object_of o)) l) (sym (left o.rows.items i r inside here)) ∙ h
+      ∙ ap (λ l. old ++ map (row_in (starts_of p) (file + 1) (object_of o)) l) (sym (left rows i r inside here)) ∙ h
 
 -- one file more
 pub file_more : (p : Placement) (objects : List DeclaredObject) (i : ℕ) (o : DeclaredObject) (old new all : List MapRow) → i < length objects → o ≡ get_or objects i o
-    → new ≡ old ++ map (row_in (starts_of p) (i + 1) (object_of o)) o.rows.items → old ++ rows_of (starts_of p) (i + 1) (map object_of (drop i objects)) ≡ all
+    → new ≡ old ++ map (row_in (starts_of p) (i + 1) (object_of o)) (by_ordinal o.rows.items) → old ++ rows_of (starts_of p) (i + 1) (map object_of (drop i objects)) ≡ all
     → new ++ rows_of (starts_of p) (i + 1 + 1) (map object_of (drop (i + 1) objects)) ≡ all
 file_more p objects i o old new all inside here pushed h =
-    let mine = map (row_in (starts_of p) (i + 1) (object_of o)) o.rows.items in
+    let mine = map (row_in (starts_of p) (i + 1) (object_of o)) (by_ordinal o.rows.items) in
     let rest = map object_of (drop (i + 1) objects) in
     ap (λ l. l ++ rows_of (starts_of p) (i + 1 + 1) rest) pushed ∙ append_assoc old mine (rows_of (starts_of p) (i + 1 + 1) rest)
     ∙ ap (λ n. old ++ (mine ++ rows_of (starts_of p) n rest)) (let e : i + 1 + 1 ≡ suc (i + 1) = omega arith in e)

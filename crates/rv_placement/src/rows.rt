@@ -1,8 +1,10 @@
 //! The rows of a map.
 
-ghost use Rattle.std.specs.Prelude.{◌≡◌, ◌+◌, ◌<◌, ◌++◌, ◌^◌, ℕ, Some, List, IfOk, map};
+ghost use Rattle.std.specs.Prelude.{◌≡◌, ◌+◌, ◌<◌, ◌++◌, ◌^◌, ℕ, Some, List, IfOk, IsTrue, map};
+ghost use Rattle.std.specs.Bool.{OnTrue};
 ghost use Rattle.std.specs.List.{slice_get};
 ghost use Rattle.rv_object.specs.Object.{Object as PlainObject};
+ghost use Rattle.rv_object.specs.Valid.{are_rows};
 ghost use Rattle.rv_object.specs.View.{object_of};
 ghost use Rattle.rv_object_laws.specs.IsLinkOf as laws;
 ghost use Rattle.rv_relax.specs.Plan.{moves_of};
@@ -32,10 +34,58 @@ fn map_row(file: u64, place: &PlacedSection, row: &Row) -> MapRow
     }
 }
 
+/// Whether rows stand in the order of their ordinals.
+fn are_ordered(rows: &[Row]) -> bool
+    ensures { OnTrue result (laws.by_ordinal rows.now ≡ rows.now) }
+{
+    let mut last = 0;
+    for row in rows {
+        if row.ordinal < last {
+            return false;
+        }
+        last = row.ordinal;
+    }
+    true
+}
+
+/// Rows in the order of their ordinals; those of one ordinal stay in theirs.
+fn by_ordinal(alloc: Global, rows: &[Row]) -> Result<Vec<Row>, AllocError>
+    ensures { IfOk result (λ sorted. sorted.items ≡ laws.by_ordinal rows.now) }
+{
+    let mut sorted = Vec::from_slice(alloc, rows)?;
+    sorted.sort_by_key(|row| row.ordinal)?;
+    Ok(sorted)
+}
+
 impl Placement {
-    /// Adds the rows of an object, by its place, from 0.
+    /// Adds rows of an object, by its place, from 0.
     fn put_rows(
         &self,
+        rows: &mut Vec<MapRow>,
+        object: &Object,
+        file: usize,
+        own: &[Row],
+    ) -> Result<(), AllocError>
+        requires file { file + 1 < 2 ^ 64 }
+        requires own { IsTrue (are_rows (object_of object.now).sections own.now) }
+        ensures { (os : List PlainObject) (start : ℕ) → IsPlacement os start self.now
+            → slice_get os file ≡ Some (object_of object.now)
+            → IfOk result (λ _. rows.new.items ≡ rows.old.items
+            ++ map (laws.row_in (starts_of self.now) (file + 1) (object_of object.now)) own.now) }
+    {
+        for row in own {
+            match self.section(file, row.section) {
+                Some(place) => rows.push(map_row(file as u64 + 1, place, row))?,
+                None => return Ok(()),
+            }
+        }
+        Ok(())
+    }
+
+    /// Adds the rows of an object, by its place, from 0, in the order of their ordinals.
+    fn put_object(
+        &self,
+        alloc: Global,
         rows: &mut Vec<MapRow>,
         object: &Object,
         file: usize,
@@ -45,18 +95,16 @@ impl Placement {
             → slice_get os file ≡ Some (object_of object.now)
             → IfOk result (λ _. rows.new.items ≡ rows.old.items
             ++ map (laws.row_in (starts_of self.now) (file + 1) (object_of object.now))
-            (object.now).rows.items) }
+            (laws.by_ordinal (object.now).rows.items)) }
     {
-        for row in &object.rows {
-            match self.section(file, row.section) {
-                Some(place) => rows.push(map_row(file as u64 + 1, place, row))?,
-                None => return Ok(()),
-            }
+        if are_ordered(object.rows.as_slice()) {
+            return self.put_rows(rows, object, file, object.rows.as_slice());
         }
-        Ok(())
+        let own = by_ordinal(alloc, object.rows.as_slice())?;
+        self.put_rows(rows, object, file, own.as_slice())
     }
 
-    /// The rows of a map, by object and then in their order there.
+    /// The rows of a map, by object and then by ordinal.
     pub fn rows(&self, alloc: Global, objects: &[Object]) -> Result<Vec<MapRow>, AllocError>
         ensures { (start : ℕ) → IsPlacement (map object_of objects.now) start self.now
             → IfOk result (λ rows. rows.items
@@ -64,7 +112,7 @@ impl Placement {
     {
         let mut rows = Vec::new(alloc);
         for i in 0..objects.len() {
-            self.put_rows(&mut rows, &objects[i], i)?;
+            self.put_object(alloc, &mut rows, &objects[i], i)?;
         }
         Ok(rows)
     }

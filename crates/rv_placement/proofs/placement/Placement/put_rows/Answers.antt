@@ -7,14 +7,14 @@ blank = record { line = 0; ordinal = 0; section = 0; offset = 0; bytes = 0; inst
 
 pub returns-in-None : goal.returns-in-None
 returns-in-None c os start is at =
-    absurd (row_placed os start c.args.self.now is c.args.file c.args.object.now at c.deref-row-items.result.now c.deref-row-items.ensures.value c.loop-row.row-index blank c.loop-row-test.true c.in-None.ensures)
+    absurd (row_placed os start c.args.self.now is c.args.file c.args.object.now at c.args.own.now c.requires.own c.loop-row.row-index blank c.loop-row-test.true c.in-None.ensures)
 
 pub loop-row-preserved : goal.loop-row-preserved
 loop-row-preserved c os start is at =
-    let rows = c.deref-row-items.result.now in
-    let same = c.deref-row-items.ensures.value in
+    let rows = c.args.own.now in
+    let lie = c.requires.own in
     let i = c.loop-row.row-index in
     let q = c.in-Some.place.now in
-    let low = row_low os start c.args.self.now is c.args.file c.args.object.now at rows same i blank c.loop-row-test.true q c.in-Some.ensures in
-    row_more os start c.args.self.now is c.args.file c.args.object.now at rows same i blank c.loop-row-test.true q c.map_row.result c.loop-row.rows.items _ _ c.in-Some.ensures (c.map_row.ensures low) c.in_ok-push-in-Some.ensures.items
+    let low = row_low os start c.args.self.now is c.args.file c.args.object.now at rows lie i blank c.loop-row-test.true q c.in-Some.ensures in
+    row_more os start c.args.self.now is c.args.file c.args.object.now at rows lie i blank c.loop-row-test.true q c.map_row.result c.loop-row.rows.items _ _ c.in-Some.ensures (c.map_row.ensures low) c.in_ok-push-in-Some.ensures.items
     (c.loop-row.invariant os start is at)

@@ -10,5 +10,5 @@ use Rattle.rv_placement.proofs.placement.Placement.put_rows.Given as goal
 abbrev pub invariant-loop-row : goal.invariant-loop-row
 invariant-loop-row l =
     (os : List Object) (start : ℕ) → IsPlacement os start l.self → slice_get os l.file ≡ Some (object_of l.object)
-    → l.rows.items ++ map (row_in (starts_of l.self) (l.file + 1) (object_of l.object)) (drop l.row-index l.object.rows.items)
-    ≡ l.initial.rows.items ++ map (row_in (starts_of l.self) (l.file + 1) (object_of l.object)) l.object.rows.items
+    → l.rows.items ++ map (row_in (starts_of l.self) (l.file + 1) (object_of l.object)) (drop l.row-index l.own)
+    ≡ l.initial.rows.items ++ map (row_in (starts_of l.self) (l.file + 1) (object_of l.object)) l.own

@@ -9,4 +9,4 @@ loop-i-preserved c start is =
     let i = c.loop-i.i in
     let o = c.index-objects-i.result in
     let at = object_here objects i o c.loop-i-test.true c.index-objects-i.is in
-    file_more c.args.self.now objects i o c.loop-i.rows.items _ _ c.loop-i-test.true c.index-objects-i.is (c.in_ok-put_rows.ensures (map object_of objects) start is at) (c.loop-i.invariant start is)
+    file_more c.args.self.now objects i o c.loop-i.rows.items _ _ c.loop-i-test.true c.index-objects-i.is (c.in_ok-put_object.ensures (map object_of objects) start is at) (c.loop-i.invariant start is)
