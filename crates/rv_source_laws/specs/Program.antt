@@ -1,7 +1,7 @@
 -- The statements of the sources where they stand in the map, and the values of their expressions there
 -- (Assembly Programmer's Manual; GNU as, "Symbols" and "Expressions").
 
-use Rattle.std.specs.Prelude.{ℕ, ◌-◌, ◌^◌, Bool, true, false, not, ◌&&◌, ◌||◌, ◌==◌, nat_lt, nat_le, if◌then◌else◌, List, [], ◌∷◌, drop, flat_map, map, Option, Some, None, is_some, option_map, option_and_then, unwrap_or, bytes_eq, slice_index_or}
+use Rattle.std.specs.Prelude.{ℕ, ◌-◌, Bool, true, ◌&&◌, ◌==◌, if◌then◌else◌, List, [], ◌∷◌, drop, flat_map, map, Option, Some, None, is_some, option_map, option_and_then, unwrap_or, bytes_eq, slice_index_or}
 use Rattle.std.specs.List.{find, list_all}
 use Rattle.rv_text_laws.specs.Expression.{Primary, Symbol}
 use Rattle.rv_text_laws.specs.Values.{Value, Constant, Symbolic, Difference, Faulty, add, subtract}
@@ -116,15 +116,6 @@ value p s e = resolved (λ q. address p s.located q) (form p s.located e)
 
 abbrev pub number : Program → Mapped → Expression → ℕ
 number p s e = unwrap_or (value p s e) 0
-
--- whether a value is a symbol's address
-abbrev pub is_symbolic : Value → Bool
-is_symbolic (Symbolic q at k) = true
-is_symbolic _ = false
-
--- an address that four bytes cannot hold, neither as a number nor as a negative one
-abbrev pub is_far : ℕ → Bool
-is_far n = not (nat_lt n (2 ^ 32) || nat_le (2 ^ 64 - 2 ^ 31) n)
 
 -- the expressions that a statement evaluates where it stands; what `.set` gives stands in the tables
 abbrev pub in_operand : Operand → List Expression

@@ -1,7 +1,7 @@
 -- Memory at the start of a source run: what the data statements spell at their rows, and the rights of the regions
 -- (GNU as, "Pseudo Ops", for the data directives).
 
-use Rattle.std.specs.Prelude.{ℕ, ◌+◌, ◌-◌, Bool, ◌&&◌, ◌||◌, nat_le, nat_lt, List, [], ◌∷◌, flat_map, replicate, Option, Some, None, slice_index}
+use Rattle.std.specs.Prelude.{ℕ, ◌+◌, ◌-◌, Bool, ◌&&◌, ◌||◌, nat_le, nat_lt, List, [], flat_map, replicate, Option, Some, None, slice_index}
 use Rattle.std.specs.List.{find}
 pub use Rattle.rv_isa_laws.specs.Bytes.{little_endian}
 use Rattle.rv_isa_laws.specs.Memory.{Mem, Right, Read, Write, Execute}
