@@ -15,7 +15,7 @@ use Rattle.rv_isa.specs.declared.operation.ShiftOperation.TheVariants.{Slli}
 use Rattle.rv_isa.specs.declared.operation.UpperOperation.TheVariants.{Lui, Auipc}
 use Rattle.rv_isa.specs.declared.operation.LoadOperation.TheVariants.{Ld}
 use Rattle.rv_isa.specs.declared.operation.StoreOperation.TheVariants.{Sd}
-use Rattle.rv_statement.specs.Statement.{StatementKind, Label, Instruction, Directs, Statement, Expression, Register, Value, Applied, Target, Enters, Opens, Sets, Aligns_to_power, Values, Chooses}
+use Rattle.rv_statement.specs.Statement.{StatementKind, Label, Instruction, Directs, Statement, Expression, Register, Value, Applied, Target, Enters, Opens, Sets, Aligns_to_power, Chooses}
 use Rattle.rv_unit_laws.specs.Faults.{Fault}
 use Rattle.rv_worked.specs.Exit7.{said, constant, norvc}
 use Rattle.rv_worked.specs.Data.{call, symbol}

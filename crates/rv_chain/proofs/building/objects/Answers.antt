@@ -1,4 +1,4 @@
-use Rattle.std.proofs.Common.{◌≡◌, ◌<◌, ◌∷◌, [], ◌++◌, length, map, take, get_or, sym, subst, ap, ◌∙◌, ◌+◌, ℕ, List, rules, arith}
+use Rattle.std.proofs.Common.{◌≡◌, ◌<◌, ◌∷◌, [], ◌++◌, length, map, take, get_or, sym, subst, ◌+◌, ℕ, List, rules, arith}
 use Rattle.std.proofs.lemmas.List.{length-map, map-append}
 use Rattle.rv_statement.specs.View.{now_of}
 use Rattle.rv_object.specs.View.{object_of}
