@@ -1,6 +1,6 @@
 -- The line feeds of a lexeme: a line's end is one, and of the others block comments alone have any.
 
-use Rattle.std.proofs.Common.{◌≡◌, ℕ, ◌+◌, ◌<◌, Bool, true, false, cond, ◌&&◌, ◌==◌, List, [], ◌∷◌, ◌++◌, refl, sym, ◌∙◌, ap, subst, arith, ◌⊎◌, inl, inr, Some, take}
+use Rattle.std.proofs.Common.{◌≡◌, ℕ, ◌+◌, ◌<◌, Bool, true, false, cond, ◌&&◌, ◌==◌, List, [], ◌∷◌, ◌++◌, refl, sym, ◌∙◌, ap, subst, arith, ◌⊎◌, inl, inr, Some, take, length}
 use Rattle.std.specs.List.{list_all}
 use Rattle.std.proofs.lemmas.Bool.{eqb-true}
 use Rattle.rv_text_laws.specs.declared.punct.Punct.{Punct}
@@ -99,6 +99,10 @@ no_feeds (Character byte) text (inr (a, one, w, escape, spelled, is)) none = ap 
 no_feeds Bad_byte text spelled none = absurd spelled
 no_feeds Bad_token text spelled none = absurd spelled
 no_feeds End text spelled none = absurd spelled
+
+-- a line's end is one line feed
+pub one_feed : (k : Kind) (text : List ℕ) → k ≡ Newline → Spells k text → (1 ≡ newlines text) × (length text ≡ 1)
+one_feed k text is spelled = let w : Spells Newline text = subst (λ (l : Kind). Spells l text) is spelled in (sym (ap newlines w), ap length w)
 
 -- the lexeme that is found is spelled so
 pub found_spelled : (bytes : List ℕ) (k : Kind) (n : ℕ) → Some (k, n) ≡ lexeme_at bytes → Spells k (take n bytes)

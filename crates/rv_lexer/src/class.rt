@@ -17,6 +17,17 @@ static WORD_BYTES: [u8; 256] = *b"\
     00000000000000000000000000000000\
     00000000000000000000000000000000";
 
+/// For each byte `1` where it is a blank.
+static BLANK_BYTES: [u8; 256] = *b"\
+    00000000010001000000000000000000\
+    10000000000000000000000000000000\
+    00000000000000000000000000000000\
+    00000000000000000000000000000000\
+    00000000000000000000000000000000\
+    00000000000000000000000000000000\
+    00000000000000000000000000000000\
+    00000000000000000000000000000000";
+
 /// What a byte begins.
 #[inline(always)]
 #[tactic(auto, unfolding(rv_text_laws::specs::Bytes::class))]
@@ -65,7 +76,7 @@ pub(crate) fn class(byte: u8) -> Class
 pub(crate) fn is_blank(byte: u8) -> bool
     ensures { result ≡ is_blank byte }
 {
-    matches!(byte, b' ' | b'\t' | b'\r')
+    BLANK_BYTES[usize::from(byte)] == b'1'
 }
 
 /// Whether names and numbers go on with the byte.

@@ -65,7 +65,7 @@ impl<'a> Cursor<'a> {
         ensures { left self.old ≡ token_of self.old.next ∷ left self.new }
     {
         self.before = self.lexer;
-        self.next = self.lexer.next();
+        self.lexer.put_next(&mut self.next);
     }
 
     /// The lexer whose next token is the cursor's.

@@ -3,7 +3,7 @@
 ghost use Rattle.std.specs.Prelude.{◌≡◌, ◌+◌, ◌≤◌, ◌<◌, ◌^◌, ◌∷◌, slice_index, true, false, MatchOption, length, option_map};
 ghost use Rattle.std.specs.List.{prefix_len};
 ghost use Rattle.rv_text_laws.specs.Bytes.{in_line};
-ghost use Rattle.rv_text_laws.specs.Grammar.{Spells};
+ghost use Rattle.rv_text_laws.specs.Grammar.{Spells, Newline};
 ghost use Rattle.rv_text_laws.specs.Lexing.{newlines, is_gap};
 ghost use Rattle.rv_text_laws.specs.Front.{close_at, lexeme_at, lexeme_by, after_slash, after_less, after_greater, with_equal};
 ghost use Rattle.rv_lexer.specs.Token.{kind_of};
@@ -44,6 +44,13 @@ impl<'a> LexemeKind<'a> {
 }
 
 impl LexemeKind<'_> {
+    /// Whether it is a line feed.
+    fn is_line_end(self) -> bool
+        ensures { result ≡ true → lexeme_kind_of self.entry ≡ Newline }
+    {
+        matches!(self, LexemeKind::Token(TokenKind::Newline))
+    }
+
     /// Whether such lexemes have line feeds.
     fn has_feeds(self) -> bool
         ensures { result ≡ has_feeds (lexeme_kind_of self.entry) }
@@ -64,13 +71,15 @@ pub(crate) struct Lexeme<'a> {
 }
 
 /// The line feeds of a lexeme that has this text.
-#[tactic(auto, using(crate::proofs::Feeds::no_feeds))]
+#[tactic(auto, using(crate::proofs::Feeds::no_feeds, crate::proofs::Feeds::one_feed))]
 pub(crate) fn line_feeds_of(kind: LexemeKind<'_>, text: &[u8]) -> usize
     requires { Spells (lexeme_kind_of kind) text.now }
     ensures count { result ≡ newlines text.now }
     ensures within { result ≤ length text.now }
 {
-    if kind.has_feeds() {
+    if kind.is_line_end() {
+        1
+    } else if kind.has_feeds() {
         line_feeds(text)
     } else {
         0

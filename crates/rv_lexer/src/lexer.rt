@@ -49,26 +49,45 @@ impl<'a> Lexer<'a> {
         ensures stays { is_last (token_of result).kind ≡ true →
             tokens_left self.new ≡ tokens_left self.old }
     {
+        let mut token = Token {
+            kind: TokenKind::End,
+            start: 0,
+            stop: 0,
+            line: 0,
+        };
+        self.put_next(&mut token);
+        token
+    }
+
+    /// Puts the next token in place of another: a token is written once, where it stays.
+    pub(crate) fn put_next(&mut self, token: &mut Token<'a>)
+        ensures first { tokens_left self.old
+            ≡ token_of token.new ∷
+            (if is_last (token_of token.new).kind then [] else tokens_left self.new) }
+        ensures stays { is_last (token_of token.new).kind ≡ true →
+            tokens_left self.new ≡ tokens_left self.old }
+    {
         self.skip_blanks();
         while let Some(lexeme) = lexeme_at(self.rest) {
             let start = self.at;
             let line = self.line;
             self.skip(lexeme);
             if let Some(kind) = lexeme.kind.token() {
-                return Token {
+                *token = Token {
                     kind,
                     start,
                     stop: self.at,
                     line,
                 };
+                return;
             }
         }
-        Token {
+        *token = Token {
             kind: last_kind(self.rest),
             start: self.at,
             stop: self.at,
             line: self.line,
-        }
+        };
     }
 
     /// The bytes between two offsets in the source.

@@ -5,7 +5,7 @@ use Rattle.rv_lexer.specs.Token.{kind_of}
 use Rattle.rv_lexer.specs.Lexeme.{lexeme_kind_of}
 use Rattle.rv_lexer.proofs.Feeds.{found_spelled}
 use Rattle.rv_lexer.proofs.Steps.{goes_on_after, lexeme_within, gap_step, token_step, stop_step}
-use Rattle.rv_lexer.proofs.lexer.Lexer.next.Goals as goal
+use Rattle.rv_lexer.proofs.lexer.Lexer.put_next.Goals as goal
 
 pub skip-requires : goal.skip-requires
 skip-requires c = record {
