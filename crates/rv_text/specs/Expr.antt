@@ -88,6 +88,13 @@ Reached is_register stage ts =
 abbrev pub alone : expression.Primary → List expression.Node
 alone p = expression.Primary_node p ∷ []
 
+-- a symbol, a number, and the operator on both
+abbrev pub pair_nodes : Pair → List expression.Node
+pair_nodes pair =
+    expression.Primary_node (symbol_of pair.symbol) ∷
+    expression.Primary_node (expression.Literal pair.number) ∷
+    expression.Binary_node pair.operator ∷ []
+
 -- the nodes of an expression
 abbrev pub expr_of : Expr → List expression.Node
 expr_of (exprs.Number number) = alone (expression.Literal number)
@@ -97,10 +104,11 @@ expr_of (exprs.Backward digits) = alone (expression.Reference digits.now false)
 expr_of (exprs.Forward digits) = alone (expression.Reference digits.now true)
 expr_of (exprs.Negative number) =
     expression.Primary_node (expression.Literal number) ∷ expression.Unary_node Negate ∷ []
-expr_of (exprs.Pair pair) =
-    expression.Primary_node (symbol_of pair.value.symbol) ∷
-    expression.Primary_node (expression.Literal pair.value.number) ∷
-    expression.Binary_node pair.value.operator ∷ []
+expr_of (exprs.NamePair operator number name) =
+    expression.Primary_node (expression.Symbol name.now) ∷
+    expression.Primary_node (expression.Literal number) ∷
+    expression.Binary_node operator ∷ []
+expr_of (exprs.Pair pair) = pair_nodes pair.value
 expr_of (exprs.Compound compound) = nodes_of compound.value.nodes
 
 -- what is read from a stage on, with the tokens that are left

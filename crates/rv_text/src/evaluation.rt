@@ -432,6 +432,14 @@ pub fn eval<'a, F: Fn(Symbol<'a>) -> Meaning>(
         Expr::Backward(digits) => outcome(lone(Symbol::Backward(digits), names), line),
         Expr::Forward(digits) => outcome(lone(Symbol::Forward(digits), names), line),
         Expr::Negative(number) => Ok(Value::Constant(0u64.wrapping_sub(*number))),
+        Expr::NamePair(operator, number, name) => {
+            let pair = Pair {
+                symbol: Symbol::Name(name),
+                operator: *operator,
+                number: u64::from(*number),
+            };
+            outcome(pair_value(&pair, names), line)
+        }
         Expr::Pair(pair) => outcome(pair_value(pair, names), line),
         Expr::Compound(compound) => outcome(compound_value(&compound.nodes, names), line),
     }

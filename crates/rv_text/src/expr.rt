@@ -4,14 +4,16 @@ ghost use Rattle.std.specs.Prelude.{◌≡◌, true, [], ◌∷◌, IfOk};
 ghost use Rattle.rv_text_laws.specs.Expression.{Primary_node};
 ghost use Rattle.rv_text_laws.specs.Values.{nodes_fit};
 ghost use Rattle.rv_text.specs.Nodes.{symbol_of, nodes_of, are_numbers};
-ghost use Rattle.rv_text.specs.Expr.{expr_of};
+ghost use Rattle.rv_text.specs.Expr.{expr_of, pair_nodes};
 
 use crate::compound::Compound;
 use crate::node::{Node, Nodes, Symbol};
 use crate::pair::Pair;
+use rv_text_laws::BinaryOperator;
 use std::alloc::{AllocError, Global};
 
-/// An expression that was read. Texts are parts of the source; a number, its negative or a symbol alone takes no heap.
+/// An expression that was read. Texts are parts of the source; a number, its negative, a symbol alone
+/// and most of a name, an operator and a number take no heap.
 #[derive(Debug, Drop)]
 pub enum Expr<'a> {
     /// A number or a character.
@@ -26,7 +28,9 @@ pub enum Expr<'a> {
     Forward(&'a [u8]),
     /// `-` and a number.
     Negative(u64),
-    /// A symbol, an operator and a number.
+    /// A name, an operator and a number below 2^32.
+    NamePair(BinaryOperator, u32, &'a [u8]),
+    /// Another symbol, an operator and a number, or a larger number.
     Pair(Box<Pair<'a>>),
     /// Another expression with operators.
     Compound(Box<Compound<'a>>),
@@ -53,9 +57,21 @@ impl<'a> Expr<'a> {
     {
         match self {
             Expr::Number(_) | Expr::Negative(_) => true,
-            Expr::Name(_) | Expr::Here | Expr::Backward(_) | Expr::Forward(_) | Expr::Pair(_) =>
-                false,
+            Expr::Name(_) | Expr::Here | Expr::Backward(_) | Expr::Forward(_) => false,
+            Expr::NamePair(..) | Expr::Pair(_) => false,
             Expr::Compound(compound) => compound.nodes.are_numbers(),
+        }
+    }
+
+    /// A symbol, an operator and a number.
+    pub(crate) fn of_pair(alloc: Global, pair: Pair<'a>) -> Result<Self, AllocError>
+        ensures { IfOk result (λ e. expr_of e ≡ pair_nodes pair.entry) }
+    {
+        match pair.symbol {
+            Symbol::Name(name) if pair.number < 1 << 32 => {
+                Ok(Expr::NamePair(pair.operator, pair.number as u32, name))
+            }
+            _ => Ok(Expr::Pair(Box::new(alloc, pair)?)),
         }
     }
 

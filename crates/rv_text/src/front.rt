@@ -109,8 +109,7 @@ fn after_pair<'a, R: Registers>(
     ensures { ReadOn R.registers (after_pair pair.entry) cursor.old cursor.new result }
 {
     if ends(cursor.next.kind) {
-        let pair = Box::new(alloc, pair)?;
-        return Ok(Expr::Pair(pair));
+        return Ok(Expr::of_pair(alloc, pair)?);
     }
     let frames = waiting(alloc, Frame::Infix(pair.operator))?;
     let mut nodes = one(alloc, Node::Symbol(pair.symbol));

@@ -1,6 +1,6 @@
 -- A number or a symbol alone, and those with one operator.
 use Rattle.std.proofs.Common.{◌∙◌, ap}
-use Rattle.rv_text_laws.specs.Expression.{Literal}
+use Rattle.rv_text_laws.specs.Expression.{Literal, Symbol}
 use Rattle.rv_text_laws.specs.Values as values
 use Rattle.rv_text.specs.declared.pair.Pair.{Pair}
 use Rattle.rv_text.specs.Nodes.{symbol_of}
@@ -26,7 +26,12 @@ returns-in-Forward g c = λ m means. lone_outcome m _ c.args.expr.now c.outcome-
 pub returns-in-Negative : goal.returns-in-Negative
 returns-in-Negative g c = λ m means. ap (λ e. values.value_of m (tree_of_expr e)) c.in-Negative.is ∙ negative_value m c.in-Negative.number
 
+pub returns-in-NamePair : goal.returns-in-NamePair
+returns-in-NamePair g c = λ m means.
+    pair_outcome m _ _ _ c.args.expr.now c.outcome-in-NamePair.result c.args.line _ (ap expr_of c.in-NamePair.is)
+    (c.pair_value.ensures m means ∙ ap (λ n. values.both c.in-NamePair.operator (values.primary_value m (Symbol c.in-NamePair.name.now)) (values.Constant n)) c.from.ensures) c.outcome-in-NamePair.ensures
+
 pub returns-in-Pair : goal.returns-in-Pair
 returns-in-Pair g c = λ m means.
     pair_outcome m _ _ _ c.args.expr.now c.outcome-in-Pair.result c.args.line _ (ap expr_of c.in-Pair.is)
-    (c.pair_value.ensures m means ∙ ap (λ (p : Pair). values.both p.operator (values.primary_value m (symbol_of p.symbol)) (values.Constant p.number)) c.deref.ensures) c.outcome-in-Pair.ensures
+    (c.pair_value-in-Pair.ensures m means ∙ ap (λ (p : Pair). values.both p.operator (values.primary_value m (symbol_of p.symbol)) (values.Constant p.number)) c.deref.ensures) c.outcome-in-Pair.ensures

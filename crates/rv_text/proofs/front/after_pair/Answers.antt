@@ -1,8 +1,7 @@
 -- The number ends the expression.
 use Rattle.std.proofs.Common.{Ok, [], ◌∷◌, sym, ◌∙◌, ap}
-use Rattle.rv_text_laws.specs.Expression.{Primary_node, Binary_node, Literal}
+use Rattle.rv_text_laws.specs.Expression.{Primary_node, Literal}
 use Rattle.rv_lexer.specs.Cursor.{left}
-use Rattle.rv_text.specs.declared.pair.Pair.{Pair}
 use Rattle.rv_text.specs.Nodes.{symbol_of}
 use Rattle.rv_text.proofs.Fronts.{ended_at, settled_infix}
 use Rattle.rv_text.proofs.front.after_pair.Goals as goal
@@ -10,4 +9,4 @@ use Rattle.rv_text.proofs.front.after_pair.Goals as goal
 pub returns-then-ends : goal.returns-then-ends
 returns-then-ends g c =
     ended_at _ c.args.cursor.now _ _ _ (sym c.ends.ensures ∙ c.if-ends.true) (settled_infix c.args.pair.operator (Primary_node (symbol_of c.args.pair.symbol) ∷ Primary_node (Literal c.args.pair.number) ∷ []))
-    ∙ ap (λ (p : Pair). Ok (Primary_node (symbol_of p.symbol) ∷ Primary_node (Literal p.number) ∷ Binary_node p.operator ∷ [], left c.args.cursor.now)) (sym c.in_ok-pair.ensures.ok)
+    ∙ ap (λ ns. Ok (ns, left c.args.cursor.now)) (sym c.in_ok-of_pair.ensures)
