@@ -1,6 +1,6 @@
 -- The line feeds of a lexeme: a line's end is one, and of the others block comments alone have any.
 
-use Rattle.std.proofs.Common.{◌≡◌, ℕ, ◌+◌, ◌<◌, Bool, true, false, cond, ◌&&◌, ◌==◌, List, [], ◌∷◌, ◌++◌, refl, sym, ◌∙◌, ap, subst, arith, ◌⊎◌, inl, inr, Some, take, length}
+use Rattle.std.proofs.Common.{◌≡◌, ℕ, ◌+◌, ◌<◌, Bool, true, false, cond, ◌&&◌, ◌==◌, List, [], ◌∷◌, ◌++◌, refl, sym, ◌∙◌, ap, subst, arith, ◌⊎◌, inl, inr, Some, take}
 use Rattle.std.specs.List.{list_all}
 use Rattle.std.proofs.lemmas.Bool.{eqb-true}
 use Rattle.rv_text_laws.specs.declared.punct.Punct.{Punct}
@@ -13,6 +13,9 @@ use Rattle.rv_text_laws.specs.Strings.{Atom, Plain, Named, Octal, Hexadecimal, n
 use Rattle.rv_text_laws.specs.Grammar.{Kind, Space, Line_comment, Block_comment, Newline, Punctuation, Name, Number, Reference, Bad_word, Text, Character, Bad_byte, Bad_token, End, Spells, IsWord}
 use Rattle.rv_text_laws.specs.Lexing.{newlines}
 use Rattle.rv_text_laws.specs.Front.{lexeme_at}
+use Rattle.rv_lexer.specs.declared.token.TokenKind.{TokenKind}
+use Rattle.rv_lexer.specs.declared.token.TokenKind.TheVariants as code
+use Rattle.rv_lexer.specs.Token.{kind_of}
 use Rattle.rv_lexer.specs.Lexeme.{has_feeds}
 use Rattle.rv_text_laws.proofs.Cut.{front}
 use Rattle.rv_text_laws.proofs.Lexemes.{lexemes}
@@ -100,9 +103,19 @@ no_feeds Bad_byte text spelled none = absurd spelled
 no_feeds Bad_token text spelled none = absurd spelled
 no_feeds End text spelled none = absurd spelled
 
--- a line's end is one line feed
-pub one_feed : (k : Kind) (text : List ℕ) → k ≡ Newline → Spells k text → (1 ≡ newlines text) × (length text ≡ 1)
-one_feed k text is spelled = let w : Spells Newline text = subst (λ (l : Kind). Spells l text) is spelled in (sym (ap newlines w), ap length w)
+-- a token has one line feed or none
+pub token_feeds : (k : TokenKind) (text : List ℕ) → Spells (kind_of k) text → newlines text ≡ cond (has_feeds (kind_of k)) 1 0
+token_feeds code.Newline text s = ap newlines s
+token_feeds (code.Punct punct) text s = no_feeds (Punctuation punct) text s refl
+token_feeds (code.Name name) text s = no_feeds (Name name.now) text s refl
+token_feeds (code.Number word number) text s = no_feeds (Number word.now number) text s refl
+token_feeds (code.Reference digits forward) text s = no_feeds (Reference digits.now forward) text s refl
+token_feeds (code.BadWord word) text s = no_feeds (Bad_word word.now) text s refl
+token_feeds (code.Text inside) text s = no_feeds (kind_of (code.Text inside)) text s refl
+token_feeds (code.Character byte) text s = no_feeds (Character byte) text s refl
+token_feeds code.BadByte text s = absurd s
+token_feeds code.BadToken text s = absurd s
+token_feeds code.End text s = absurd s
 
 -- the lexeme that is found is spelled so
 pub found_spelled : (bytes : List ℕ) (k : Kind) (n : ℕ) → Some (k, n) ≡ lexeme_at bytes → Spells k (take n bytes)

@@ -1,9 +1,9 @@
 //! Pieces of a source: blanks, comments and tokens.
 
-ghost use Rattle.std.specs.Prelude.{◌≡◌, ◌+◌, ◌≤◌, ◌<◌, ◌^◌, ◌∷◌, slice_index, true, false, MatchOption, length, option_map};
+ghost use Rattle.std.specs.Prelude.{◌≡◌, ◌+◌, ◌≤◌, ◌<◌, ◌^◌, ◌∷◌, slice_index, true, false, MatchOption, IfSome, length, option_map, if◌then◌else◌};
 ghost use Rattle.std.specs.List.{prefix_len};
 ghost use Rattle.rv_text_laws.specs.Bytes.{in_line};
-ghost use Rattle.rv_text_laws.specs.Grammar.{Spells, Newline};
+ghost use Rattle.rv_text_laws.specs.Grammar.{Spells};
 ghost use Rattle.rv_text_laws.specs.Lexing.{newlines, is_gap};
 ghost use Rattle.rv_text_laws.specs.Front.{close_at, lexeme_at, lexeme_by, after_slash, after_less, after_greater, with_equal};
 ghost use Rattle.rv_lexer.specs.Token.{kind_of};
@@ -44,13 +44,6 @@ impl<'a> LexemeKind<'a> {
 }
 
 impl LexemeKind<'_> {
-    /// Whether it is a line feed.
-    fn is_line_end(self) -> bool
-        ensures { result ≡ true → lexeme_kind_of self.entry ≡ Newline }
-    {
-        matches!(self, LexemeKind::Token(TokenKind::Newline))
-    }
-
     /// Whether such lexemes have line feeds.
     fn has_feeds(self) -> bool
         ensures { result ≡ has_feeds (lexeme_kind_of self.entry) }
@@ -71,15 +64,13 @@ pub(crate) struct Lexeme<'a> {
 }
 
 /// The line feeds of a lexeme that has this text.
-#[tactic(auto, using(crate::proofs::Feeds::no_feeds, crate::proofs::Feeds::one_feed))]
+#[tactic(auto, using(crate::proofs::Feeds::no_feeds))]
 pub(crate) fn line_feeds_of(kind: LexemeKind<'_>, text: &[u8]) -> usize
     requires { Spells (lexeme_kind_of kind) text.now }
     ensures count { result ≡ newlines text.now }
     ensures within { result ≤ length text.now }
 {
-    if kind.is_line_end() {
-        1
-    } else if kind.has_feeds() {
+    if kind.has_feeds() {
         line_feeds(text)
     } else {
         0
@@ -238,4 +229,62 @@ pub(crate) fn lexeme_at(bytes: &[u8]) -> Option<Lexeme<'_>>
     }
     let (_, rest) = bytes.split_at(1);
     lexeme_by(class(bytes[0]), bytes, rest)
+}
+
+/// A name, punctuation of one byte or a line feed: the most frequent tokens, found without a way through all others.
+#[derive(Clone, Copy, Drop)]
+pub(crate) struct Frequent<'a> {
+    pub(crate) kind: TokenKind<'a>,
+    /// Its bytes.
+    pub(crate) length: usize,
+    /// Its line feeds.
+    pub(crate) feeds: u32,
+}
+
+/// The frequent token at the front of bytes, by the class of the first of them.
+#[inline(always)]
+fn frequent_by<'a>(class: Class, bytes: &'a [u8], rest: &'a [u8]) -> Option<Frequent<'a>>
+    requires whole { bytes.now ≡ slice_index bytes.now 0 ∷ rest.now }
+    ensures is { IfSome result
+        (λ f. Some (kind_of f.kind, f.length)
+        ≡ lexeme_by class (slice_index bytes.now 0) rest.now) }
+    ensures feeds { IfSome result
+        (λ f. f.feeds ≡ (if has_feeds (kind_of f.kind) then 1 else 0)) }
+{
+    match class {
+        Class::Letter => {
+            let length = word_length(rest) + 1;
+            Some(Frequent {
+                kind: TokenKind::Name(bytes.split_at(length).0),
+                length,
+                feeds: 0,
+            })
+        }
+        Class::LineEnd => Some(Frequent {
+            kind: TokenKind::Newline,
+            length: 1,
+            feeds: 1,
+        }),
+        Class::Single(punct) => Some(Frequent {
+            kind: TokenKind::Punct(punct),
+            length: 1,
+            feeds: 0,
+        }),
+        _ => None,
+    }
+}
+
+/// The frequent token at the front of bytes, where one stands there.
+#[inline(always)]
+#[tactic(auto, unfolding(rv_text_laws::specs::Front::lexeme_at))]
+pub(crate) fn frequent_at(bytes: &[u8]) -> Option<Frequent<'_>>
+    ensures is { IfSome result (λ f. Some (kind_of f.kind, f.length) ≡ lexeme_at bytes.now) }
+    ensures feeds { IfSome result
+        (λ f. f.feeds ≡ (if has_feeds (kind_of f.kind) then 1 else 0)) }
+{
+    if bytes.is_empty() {
+        return None;
+    }
+    let (_, rest) = bytes.split_at(1);
+    frequent_by(class(bytes[0]), bytes, rest)
 }

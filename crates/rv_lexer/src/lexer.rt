@@ -7,7 +7,7 @@ ghost use Rattle.rv_lexer.specs.Lexeme.{lexeme_kind_of};
 ghost use Rattle.rv_lexer.specs.Token.{kind_of, token_of};
 
 use crate::class::class;
-use crate::lexeme::{Lexeme, blanks, lexeme_at, line_feeds_of};
+use crate::lexeme::{Lexeme, blanks, frequent_at, lexeme_at, line_feeds_of};
 use crate::token::{Token, TokenKind};
 use rv_text_laws::Class;
 
@@ -59,7 +59,7 @@ impl<'a> Lexer<'a> {
         token
     }
 
-    /// Puts the next token in place of another: a token is written once, where it stays.
+    /// Puts the next token in place of another: it is written once, where it stays.
     pub(crate) fn put_next(&mut self, token: &mut Token<'a>)
         ensures first { tokens_left self.old
             ≡ token_of token.new ∷
@@ -68,26 +68,53 @@ impl<'a> Lexer<'a> {
             tokens_left self.new ≡ tokens_left self.old }
     {
         self.skip_blanks();
+        let Some(frequent) = frequent_at(self.rest) else {
+            *token = self.next_of_all();
+            return;
+        };
+        let (_, rest) = self.rest.split_at(frequent.length);
+        let behind = Lexer {
+            rest,
+            at: self.at + frequent.length as u32,
+            line: self.line + frequent.feeds,
+        };
+        *token = Token {
+            kind: frequent.kind,
+            start: self.at,
+            stop: behind.at,
+            line: self.line,
+        };
+        *self = behind;
+    }
+
+    /// The next token, whichever it is, after any blanks and comments.
+    #[inline(never)]
+    fn next_of_all(&mut self) -> Token<'a>
+        ensures first { tokens_left self.old
+            ≡ token_of result ∷
+            (if is_last (token_of result).kind then [] else tokens_left self.new) }
+        ensures stays { is_last (token_of result).kind ≡ true →
+            tokens_left self.new ≡ tokens_left self.old }
+    {
         while let Some(lexeme) = lexeme_at(self.rest) {
             let start = self.at;
             let line = self.line;
             self.skip(lexeme);
             if let Some(kind) = lexeme.kind.token() {
-                *token = Token {
+                return Token {
                     kind,
                     start,
                     stop: self.at,
                     line,
                 };
-                return;
             }
         }
-        *token = Token {
+        Token {
             kind: last_kind(self.rest),
             start: self.at,
             stop: self.at,
             line: self.line,
-        };
+        }
     }
 
     /// The bytes between two offsets in the source.

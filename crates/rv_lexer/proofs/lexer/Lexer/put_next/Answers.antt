@@ -1,41 +1,43 @@
--- A blank or a comment, a token, and the last token.
-use Rattle.std.proofs.Common.{◌≡◌, false, sym, ◌∙◌, ap, arith, length, length-drop}
+-- The frequent token is the lexeme at the front.
+use Rattle.std.proofs.Common.{◌≡◌, ℕ, ◌+◌, ◌≤◌, Bool, true, false, cond, length, take, length-drop, refl, sym, ◌∙◌, ap, arith}
 use Rattle.rv_text_laws.specs.Lexing.{is_last}
 use Rattle.rv_lexer.specs.Token.{kind_of}
-use Rattle.rv_lexer.specs.Lexeme.{lexeme_kind_of}
-use Rattle.rv_lexer.proofs.Feeds.{found_spelled}
-use Rattle.rv_lexer.proofs.Steps.{goes_on_after, lexeme_within, gap_step, token_step, stop_step}
+use Rattle.rv_lexer.proofs.Feeds.{found_spelled, token_feeds}
+use Rattle.rv_lexer.proofs.Steps.{goes_on_after, lexeme_within, no_gap, token_step}
 use Rattle.rv_lexer.proofs.lexer.Lexer.put_next.Goals as goal
 
-pub skip-requires : goal.skip-requires
-skip-requires c = record {
-  within = (lexeme_within c.loop-lexeme.self.rest.now (lexeme_kind_of c.in-Some.lexeme.kind) c.in-Some.lexeme.length c.in-Some.ensures).1;
-  spelled = found_spelled c.loop-lexeme.self.rest.now (lexeme_kind_of c.in-Some.lexeme.kind) c.in-Some.lexeme.length c.in-Some.ensures;
-}
+one_at_most : (t : Bool) (n : ℕ) → n ≡ cond t 1 0 → n ≤ 1
+one_at_most true n e = omega (arith, e)
+one_at_most false n e = omega (arith, e)
 
-pub returns-in-Some-token-clause-first : goal.returns-in-Some-token-clause-first
-returns-in-Some-token-clause-first c =
-    sym c.skip_blanks.ensures
-    ∙ c.loop-lexeme.invariant
-    ∙ token_step c.loop-lexeme.self c.skip.new.self (lexeme_kind_of c.in-Some.lexeme.kind) c.in-Some.lexeme.length c.in-Some-token.kind c.in-Some.ensures
-    c.skip.ensures.rest c.skip.ensures.at c.skip.ensures.line c.in-Some-token.ensures.0 c.in-Some-token.ensures.1
+pub split_at-requires : goal.split_at-requires
+split_at-requires c = (lexeme_within _ (kind_of c.in-Some.frequent.kind) c.in-Some.frequent.length c.in-Some.ensures.is).1
 
-pub returns-in-Some-token-clause-stays : goal.returns-in-Some-token-clause-stays
-returns-in-Some-token-clause-stays c = λ last.
-    let on : is_last (lexeme_kind_of c.in-Some.lexeme.kind) ≡ false = goes_on_after c.loop-lexeme.self.rest.now (lexeme_kind_of c.in-Some.lexeme.kind) c.in-Some.lexeme.length c.in-Some.ensures in
-    let same : is_last (lexeme_kind_of c.in-Some.lexeme.kind) ≡ is_last (kind_of c.in-Some-token.kind) = ap is_last c.in-Some-token.ensures.0 in
-    cc (on, same, last)
+pub overflow_add-behind-2 : goal.overflow_add-behind-2
+overflow_add-behind-2 c =
+    let w = lexeme_within _ (kind_of c.in-Some.frequent.kind) c.in-Some.frequent.length c.in-Some.ensures.is in
+    omega (arith, c.skip_blanks.new.self.line_fits, one_at_most _ c.in-Some.frequent.feeds c.in-Some.ensures.feeds, w.0, w.1)
 
-pub loop-lexeme-smaller : goal.loop-lexeme-smaller
-loop-lexeme-smaller c =
-    let w = lexeme_within c.loop-lexeme.self.rest.now (lexeme_kind_of c.in-Some.lexeme.kind) c.in-Some.lexeme.length c.in-Some.ensures in
-    omega (arith, w.0, w.1, ap length c.skip.ensures.rest, length-drop c.in-Some.lexeme.length c.loop-lexeme.self.rest.now)
-
-pub loop-lexeme-preserved : goal.loop-lexeme-preserved
-loop-lexeme-preserved c =
-    c.loop-lexeme.invariant
-    ∙ gap_step c.loop-lexeme.self c.skip.new.self (lexeme_kind_of c.in-Some.lexeme.kind) c.in-Some.lexeme.length c.in-Some.ensures
-    c.skip.ensures.rest c.skip.ensures.at c.skip.ensures.line c.in_default-token.ensures
+pub invariant_of-behind : goal.invariant_of-behind
+invariant_of-behind c =
+    let w = lexeme_within _ (kind_of c.in-Some.frequent.kind) c.in-Some.frequent.length c.in-Some.ensures.is in
+    let less = length-drop c.in-Some.frequent.length c.skip_blanks.new.self.rest.now in
+    let few = one_at_most _ c.in-Some.frequent.feeds c.in-Some.ensures.feeds in
+    record {
+      offset_fits = omega (arith, c.skip_blanks.new.self.offset_fits, ap length c.split_at.ensures.back, less, w.0, w.1);
+      line_fits = omega (arith, c.skip_blanks.new.self.line_fits, ap length c.split_at.ensures.back, less, few, w.0, w.1);
+    }
 
 pub returns-clause-first : goal.returns-clause-first
-returns-clause-first c = sym c.skip_blanks.ensures ∙ c.loop-lexeme.invariant ∙ stop_step c.loop-lexeme.self c.last_kind.result c.in_default.ensures c.last_kind.ensures
+returns-clause-first c =
+    let f = c.in-Some.frequent in
+    let old = c.skip_blanks.new.self in
+    sym c.skip_blanks.ensures
+    ∙ token_step old _ (kind_of f.kind) f.length f.kind c.in-Some.ensures.is c.split_at.ensures.back refl
+    (ap (λ (n : ℕ). old.line + n) (c.in-Some.ensures.feeds ∙ sym (token_feeds f.kind (take f.length old.rest.now) (found_spelled old.rest.now (kind_of f.kind) f.length c.in-Some.ensures.is))))
+    refl (no_gap f.kind)
+
+pub returns-clause-stays : goal.returns-clause-stays
+returns-clause-stays c = λ last.
+    let on : is_last (kind_of c.in-Some.frequent.kind) ≡ false = goes_on_after c.skip_blanks.new.self.rest.now (kind_of c.in-Some.frequent.kind) c.in-Some.frequent.length c.in-Some.ensures.is in
+    cc (on, last)

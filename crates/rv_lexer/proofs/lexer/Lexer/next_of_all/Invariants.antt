@@ -1,7 +1,7 @@
 -- The tokens left are those at the start.
 use Rattle.std.proofs.Common.{◌≡◌, length}
 use Rattle.rv_lexer.specs.Left.{tokens_left}
-use Rattle.rv_lexer.proofs.lexer.Lexer.put_next.Given as goal
+use Rattle.rv_lexer.proofs.lexer.Lexer.next_of_all.Given as goal
 
 abbrev pub invariant-loop-lexeme : goal.invariant-loop-lexeme
 invariant-loop-lexeme l = tokens_left l.initial.self ≡ tokens_left l.self
