@@ -142,7 +142,7 @@ module _ (os : List Object) (p : Placement) (x : Input) (is : IsInput os p x) wh
         rodata = other goes_to_rodata p.rodata r.rodata.items (rodata_is true false true _ loaded e n refl) grown.rodata;
         «data» = other goes_to_data p.data r.data.items (data_is true false true _ loaded e n refl) grown.data;
         taken = so;
-          first = behind;
+        first = behind;
       }
 
 -- ---- files

@@ -144,9 +144,9 @@ module _ (ss : List Statement) (sites : List Site) (located : map (λ s. s.locat
             first false g = tt
             first true g = (
               λ f. (
-                let same : n ≡ name = same_bytes n name f in
-                subst (λ m. Own d (assigned_definition sites (assigned_ever t.assignments m))) (sym same) (set s.located.ordinal (ap (sets_first t.assignments s.located.ordinal) (sym same) ∙ g))
-              ),
+                  let same : n ≡ name = same_bytes n name f in
+                  subst (λ m. Own d (assigned_definition sites (assigned_ever t.assignments m))) (sym same) (set s.located.ordinal (ap (sets_first t.assignments s.located.ordinal) (sym same) ∙ g))
+                  ),
               tt,
             )
         go i s at (Directs (Aligns_to_power x)) is = tt

@@ -351,14 +351,14 @@ module _ (name : List ℕ) where
       let now = (front _ _ _ _ e).0 in
       let parts = no_fault x.line (lowest (faults all t k x.kind)) (first_fault_from all (after t k x.kind) (suc k) ss) free in (
         λ n is f. (
-          let kind : x.kind ≡ Label n = sym (ap (λ (l : Located). l.kind) now) ∙ is in
-          let none : faults all t k (Label n) ≡ [] = subst (λ y. faults all t k y ≡ []) kind (no_lowest (faults all t k x.kind) parts.0) in
-          let found = found_now all t k n before none f in (
-            found.0,
-            subst (λ u. Finds u found.0) same (finds_all (after t k x.kind) (suc k) ss found.0 (subst (λ y. Finds (after t k y) found.0) (sym kind) found.1)),
-            found.2 ∙ sym (ap (λ (l : Located). l.ordinal) now),
-          )
-        ),
+            let kind : x.kind ≡ Label n = sym (ap (λ (l : Located). l.kind) now) ∙ is in
+            let none : faults all t k (Label n) ≡ [] = subst (λ y. faults all t k y ≡ []) kind (no_lowest (faults all t k x.kind) parts.0) in
+            let found = found_now all t k n before none f in (
+              found.0,
+              subst (λ u. Finds u found.0) same (finds_all (after t k x.kind) (suc k) ss found.0 (subst (λ y. Finds (after t k y) found.0) (sym kind) found.1)),
+              found.2 ∙ sym (ap (λ (l : Located). l.ordinal) now),
+            )
+            ),
         labels_found all (suc k) (after t k x.kind) ss sites (front _ _ _ _ e).1 parts.1 (before_after t k x.kind before) same,
       )
     where
