@@ -29,6 +29,28 @@ f: .word 7
 g: .word v
 ";
 
+/// Another `f`, whose last value counts: the word at 11001h is the end of `.word f` and `v`: 10h, 1, 0, 1.
+const CONSTANT: &[u8] = b".globl f
+.set f, 1
+.set f, 0x11001
+";
+
+/// A program whose first datum is the address `_end`.
+const SHOWS_END: &[u8] = b".option norvc
+.globl _start
+_start: li a7, 93
+ecall
+.data
+.word _end
+.globl w
+w: .word 9
+";
+
+/// A file that defines it.
+const END: &[u8] = b".globl _end
+.set _end, 0x11004
+";
+
 const TWO_FILES_MAP: &[u8] = b"rvmap 1
 text 10000 10014
 rodata 11000 11000
@@ -106,20 +128,20 @@ fn own_names_first(rt: HostRuntime) -> Result<(), Fail> {
     Ok(exits(&rt, alloc, &[own.as_slice(), SEVEN], 5)?)
 }
 
-/// A constant of another file; `_end` is the linker's where no file defines it.
+/// A constant of another file.
 #[test]
-fn constants_and_linker_names(rt: HostRuntime) -> Result<(), Fail> {
+fn constants(rt: HostRuntime) -> Result<(), Fail> {
     let alloc = rt.alloc();
-    // the last value counts; the word at 11001h is the end of `.word f` and `v`: 10h, 1, 0, 1
-    let constant = b".globl f\n.set f, 1\n.set f, 0x11001\n".as_slice();
-    exits(&rt, alloc, &[READS, constant], 0x10)?;
-    let one = b".data\n.word _end\n.globl w\nw: .word 9\n".as_slice();
-    let two = b".globl _end\n.set _end, 0x11004\n".as_slice();
-    let mut first = Vec::from_slice(alloc, EXIT)?;
-    first.extend_from_slice(one)?;
-    assert_eq!(rt; linked(alloc, &[first.as_slice()]), Answer::Built);
-    let built = build(alloc, &[first.as_slice(), two], OPTIONS)?;
+    Ok(exits(&rt, alloc, &[READS, CONSTANT], 0x10)?)
+}
+
+/// `_end` is the linker's where no file defines it.
+#[test]
+fn linker_names(rt: HostRuntime) -> Result<(), Fail> {
+    let alloc = rt.alloc();
+    let built = build(alloc, &[SHOWS_END, END], OPTIONS)?;
     assert!(rt; built.exe.as_slice().ends_with(b"\x04\x10\x01\0\x09\0\0\0"));
+    assert_eq!(rt; linked(alloc, &[SHOWS_END]), Answer::Built);
     Ok(())
 }
 
