@@ -1,16 +1,17 @@
 -- The alignment of each section of a source is a power of two, from 1 to 4096.
 
-use Rattle.std.proofs.Common.{◌≡◌, ℕ, zero, suc, ◌^◌, ◌<◌, ◌≤◌, Bool, true, false, ◌&&◌, ◌==◌, nat_lt, nat_le, List, [], ◌∷◌, ◌++◌, length, max, refl, sym, ap, ◌∙◌, subst, arith, Option, Some, None}
+use Rattle.std.proofs.Common.{◌≡◌, ℕ, zero, suc, ◌^◌, ◌<◌, ◌≤◌, Bool, true, false, ◌&&◌, nat_lt, nat_le, List, [], ◌∷◌, ◌++◌, max, refl, sym, ap, ◌∙◌, subst, arith, Option, Some, None}
 use Rattle.std.proofs.Math.Pow.{pow-lt}
 use Rattle.std.proofs.lemmas.Bool.{and_parts, leb-true, ltb-true, ltb-false}
 use Rattle.std.specs.Prelude.{if◌then◌else◌, slice_index_or}
 use Rattle.rv_text_laws.specs.Values.{Value, Constant, Symbolic, Difference, Faulty}
 use Rattle.rv_statement.specs.Statement.{StatementKind, Label, Numbered, Instruction, Directs, Statement, Expression, Directive}
 use Rattle.rv_statement.specs.declared.directive.Choice.{Choice}
-use Rattle.rv_unit_laws.specs.Sections.{Section, entered, entered_by}
+use Rattle.rv_unit_laws.specs.Sections.{Section, entered_by}
 use Rattle.rv_unit_laws.specs.Contributions.{AlignmentForm, As_power, As_bytes, Contribution, Nothing, Bytes, Zero_bytes, Alignment, contribution}
-use Rattle.rv_unit_laws.specs.Tables.{Tables, Assignment, at_start, here, value, is_power, greatest_alignment, alignment_as, or_none, contributed, changed_at, is_defined, may_set, with_assignment, with_section, with_data, with_contribution, with_choice, with_chosen, assigned_by, chosen, after, after_directive, after_all, tables}
-use Rattle.rv_unit_laws.proofs.Grown.{IsPower, grown_all}
+use Rattle.rv_unit_laws.specs.Tables.{Tables, Assignment, at_start, here, value, is_power, greatest_alignment, alignment_as, or_none, contributed, changed_at, is_defined, may_set, with_assignment, with_section, with_data, with_contribution, with_choice, with_chosen, assigned_by, chosen, after, after_directive, after_all, tables, alignments_of}
+use Rattle.rv_unit_laws.proofs.Entering.{entering}
+use Rattle.rv_unit_laws.proofs.Grown.{IsPower, alignment_new, data_alignments, grown_all}
 use Rattle.rv_object.specs.Valid.{is_alignment}
 
 -- ---- no alignment is greater
@@ -48,13 +49,6 @@ form_low As_bytes (Symbolic p at k) = omega arith
 form_low As_bytes (Difference p q k) = omega arith
 form_low As_bytes (Faulty c) = omega arith
 
-one_more : (ns : List ℕ) (j : ℕ) → slice_index_or (ns ++ 1 ∷ []) j 1 ≡ slice_index_or ns j 1
-one_more [] zero = refl
-one_more [] (suc zero) = refl
-one_more [] (suc (suc j)) = refl
-one_more (n ∷ ns) zero = refl
-one_more (n ∷ ns) (suc j) = one_more ns j
-
 changed_low : (i a : ℕ) (ns : List ℕ) → a ≤ 4096 → AreLow ns → AreLow (changed_at i (λ n. max n (max 1 a)) ns)
 changed_low i a [] l h j = h j
 changed_low zero a (n ∷ ns) l h zero = let m = h 0 in omega (arith, m, l)
@@ -63,7 +57,7 @@ changed_low (suc i) a (n ∷ ns) l h zero = h 0
 changed_low (suc i) a (n ∷ ns) l h (suc j) = changed_low i a ns l (λ k. h (suc k)) j
 
 abbrev IsLow : Tables → Type 0
-IsLow t = AreLow t.alignments
+IsLow t = AreLow (alignments_of t)
 
 either : (b : Bool) (t u : Tables) → IsLow t → IsLow u → IsLow (if b then t else u)
 either true t u h k = h
@@ -71,10 +65,7 @@ either false t u h k = k
 
 low_section : (t : Tables) (found : Option Section) → IsLow t → IsLow (with_section t found)
 low_section t None h = h
-low_section t (Some s) h =
-    either (length (entered t.opened s).sections == length t.opened.sections) (record t { opened = entered t.opened s })
-    (record t { opened = entered t.opened s; ends = t.ends ++ 0 ∷ []; alignments = t.alignments ++ 1 ∷ [] })
-    h (λ j. subst (λ n. n ≤ 4096) (sym (one_more t.alignments j)) (h j))
+low_section t (Some s) h = entering (λ (u : Tables). IsLow u) t s (λ n at. h) (λ room j. subst (λ n. n ≤ 4096) (sym (alignment_new t s j)) (h j)) h
 
 low_set : (t : Tables) (found : Option Assignment) → IsLow t → IsLow (with_assignment t found)
 low_set t None h = h
@@ -88,7 +79,7 @@ low_chosen t None h = h
 low_chosen t (Some choice) h = low_choice t choice h
 
 low_data : (t : Tables) (bytes : ℕ) (alignment : Option ℕ) → or_none alignment ≤ 4096 → IsLow t → IsLow (with_data t bytes alignment)
-low_data t bytes alignment l h = changed_low t.opened.current (or_none alignment) t.alignments l h
+low_data t bytes alignment l h = subst AreLow (sym (data_alignments t bytes alignment)) (changed_low t.current (or_none alignment) (alignments_of t) l h)
 
 low_contribution : (t : Tables) (v : Expression → Value) (c : Contribution) → IsLow t → IsLow (with_contribution t v c)
 low_contribution t v Nothing h = h
@@ -113,7 +104,7 @@ low_all : (t : Tables) (k : ℕ) (ss : List Statement) → IsLow t → IsLow (af
 low_all t k [] h = h
 low_all t k (s ∷ ss) h = low_all (after t k s.kind) (suc k) ss (low_after t k s.kind h)
 
-low_start : (j : ℕ) → slice_index_or at_start.alignments j 1 ≤ 4096
+low_start : (j : ℕ) → slice_index_or (alignments_of at_start) j 1 ≤ 4096
 low_start zero = omega arith
 low_start (suc zero) = omega arith
 low_start (suc (suc j)) = omega arith
@@ -149,5 +140,5 @@ below k low = go (nat_lt k 13) refl
 of_power : (n : ℕ) → IsPower n → n ≤ 4096 → is_alignment n ≡ true
 of_power n (k, is) low = ap is_alignment is ∙ a_power k (below k (subst (λ m. m ≤ 4096) is low))
 
-pub aligned : (ss : List Statement) (j : ℕ) → is_alignment (slice_index_or (tables ss).alignments j 1) ≡ true
-aligned ss j = of_power (slice_index_or (tables ss).alignments j 1) ((grown_all 1 ss).powers j) (low_all at_start 1 ss low_start j)
+pub aligned : (ss : List Statement) (j : ℕ) → is_alignment (slice_index_or (alignments_of (tables ss)) j 1) ≡ true
+aligned ss j = of_power (slice_index_or (alignments_of (tables ss)) j 1) (grown_all 1 ss j) (low_all at_start 1 ss low_start j)

@@ -12,7 +12,7 @@ use Rattle.rv_statement.specs.Statement.{Statement}
 use Rattle.rv_unit_laws.specs.declared.section_type.SectionType.{SectionType}
 use Rattle.rv_unit_laws.specs.declared.section_type.SectionType.TheVariants as types
 use Rattle.rv_unit_laws.specs.Sections.{Section as SourceSection, is_nobits_type}
-use Rattle.rv_unit_laws.specs.Tables.{Tables, at_start, after, tables}
+use Rattle.rv_unit_laws.specs.Tables.{Tables, at_start, after, tables, opened_of, alignments_of}
 use Rattle.rv_tables.specs.declared.section.Extent.{Extent}
 use Rattle.rv_tables.specs.Sections.{extent_section}
 use Rattle.rv_source_laws.specs.Located.{Located, located_now, located_from, has_row}
@@ -196,7 +196,7 @@ of_sections t all number symbols k (e ∷ es) [] h = absurd h
 of_sections t all number symbols k (e ∷ es) (x ∷ xs) (h, hs) = (h, of_sections t all number symbols (suc k) es xs hs)
 
 module _ (ss : List Statement) (d : Draft) (extents : List Extent) (lists : List (Vec DeclaredRelocation)) (number : Numbering) (h : IsDraft ss d) (good : statements_fault ss ≡ None) (kept : OpenKept ss)
-    (opened : map extent_section extents ≡ (tables ss).opened.sections) (alignments : map (λ (e : Extent). e.alignment) extents ≡ (tables ss).alignments) (counted : length lists ≡ length extents)
+    (opened : map extent_section extents ≡ (opened_of (tables ss)).sections) (alignments : map (λ (e : Extent). e.alignment) extents ≡ alignments_of (tables ss)) (counted : length lists ≡ length extents)
     (listed : (j : ℕ) → list_in lists j ≡ relocations_in j (map field_of d.fields.items) (map (λ f. number f.ordinal f.symbol) (map field_of d.fields.items)))
     (numbers : AllByRecursion (IsNumbered (tables ss) h.sites number (symbols_of (tables ss) h.sites)) (references (tables ss) h.sites)) where
   abbrev t : Tables
@@ -205,12 +205,12 @@ module _ (ss : List Statement) (d : Draft) (extents : List Extent) (lists : List
   abbrev symbols : List Symbol
   symbols = symbols_of t h.sites
 
-  all_settled : AllByRecursion (IsSettled t.opened.sections) h.sites
+  all_settled : AllByRecursion (IsSettled (opened_of t).sections) h.sites
   all_settled = settled ss h.sites (no_first_fault ss good) h.located
 
   pub are_each : AreEach extents d.ends.items d.sections.items lists
   are_each =
-      let count : length t.opened.sections ≡ length extents = ap length (sym opened) ∙ length-map extents extent_section in
+      let count : length (opened_of t).sections ≡ length extents = ap length (sym opened) ∙ length-map extents extent_section in
       (h.ended ∙ count, h.counted ∙ count, counted)
 
   -- one section
@@ -230,22 +230,22 @@ module _ (ss : List Statement) (d : Draft) (extents : List Extent) (lists : List
     abbrev made : Section
     made = section_at extents d.ends.items d.sections.items lists j e
 
-    there : slice_get t.opened.sections j ≡ Some home
+    there : slice_get (opened_of t).sections j ≡ Some home
     there = ap (λ l. slice_get l j) (sym opened) ∙ got_map extent_section extents j e at
 
     drafted : IsDrafted t j home sites d
     drafted = h.each j home there
 
     inside : AllByRecursion (IsIn home) sites
-    inside = all_in t.opened.sections j home there h.sites all_settled
+    inside = all_in (opened_of t).sections j home there h.sites all_settled
 
-    alignment : slice_index_or t.alignments j 1 ≡ e.alignment
+    alignment : slice_index_or (alignments_of t) j 1 ≡ e.alignment
     alignment = ap (λ l. slice_index_or l j 1) (sym alignments) ∙ read_map extents j e at
 
     relocations : list_in lists j ≡ (if home.loaded then relocations_from number 0 (parts t sites) else [])
     relocations =
         listed j ∙ fields_numbered number j (map field_of d.fields.items) ∙ ap (λ l. map (numbered number) (in_section j l)) h.open_fields
-        ∙ section_relocations t number t.opened.sections j home there 0 h.sites all_settled drafted.tile
+        ∙ section_relocations t number (opened_of t).sections j home there 0 h.sites all_settled drafted.tile
 
     contents : made.contents ≡ contents_of home.section_type stop full
     contents = contents_same home.section_type (slice_index d.ends.items j) stop (bytes_in d.sections.items j) full drafted.stop drafted.bytes
@@ -257,7 +257,7 @@ module _ (ss : List Statement) (d : Draft) (extents : List Extent) (lists : List
     size = ap size_of contents ∙ contents_size home.section_type stop full ends
 
     are_numbered : home.loaded ≡ true → ArePartsNumbered t h.sites number symbols (parts t sites)
-    are_numbered loaded = parts_numbered t h.sites number symbols t.opened.sections j home there loaded h.sites all_settled numbers
+    are_numbered loaded = parts_numbered t h.sites number symbols (opened_of t).sections j home there loaded h.sites all_settled numbers
 
     is_section : IsSectionOf t h.sites number symbols j home sites made
     is_section = record {
@@ -295,7 +295,7 @@ module _ (ss : List Statement) (d : Draft) (extents : List Extent) (lists : List
     is_makeable = record {
       kept = names_kept ss j home kept there;
       aligned = subst (λ n. is_alignment n ≡ true) alignment (aligned ss j);
-      even = even_by home.executable made.contents stop size (λ code. end_even t home (slice_index_or t.alignments j 1) 0 sites code inside drafted.sizes drafted.tile refl);
+      even = even_by home.executable made.contents stop size (λ code. end_even t home (slice_index_or (alignments_of t) j 1) 0 sites code inside drafted.sizes drafted.tile refl);
       alone = ap (is_loaded_alone home.loaded) relocations ∙ alone_by home.loaded (relocations_from number 0 (parts t sites));
       inside = ap (fit_inside made.contents) relocations ∙ ap (λ c. fit_inside c (if home.loaded then relocations_from number 0 (parts t sites) else [])) contents
           ∙ inside_by home.section_type stop full (if home.loaded then relocations_from number 0 (parts t sites) else []) none fits;
@@ -325,11 +325,11 @@ module _ (ss : List Statement) (d : Draft) (extents : List Extent) (lists : List
       (from_at (λ (s : Section). list_all (λ (r : Relocation). is_below (length symbols) r.symbol) s.relocations ≡ true) 0 extents (sections_by extents d.ends.items d.sections.items lists)
       (every (λ k e x. list_all (λ (r : Relocation). is_below (length symbols) r.symbol) x.relocations ≡ true) is_indexed))
 
-  count : length t.opened.sections ≡ length (sections_by extents d.ends.items d.sections.items lists)
+  count : length (opened_of t).sections ≡ length (sections_by extents d.ends.items d.sections.items lists)
   count = ap length (sym opened) ∙ length-map extents extent_section ∙ sym (sections_count extents d.ends.items d.sections.items lists are_each)
 
   pub defined : are_defined (sections_by extents d.ends.items d.sections.items lists) symbols ≡ true
-  defined = symbols_stand t t.opened.sections (length (sections_by extents d.ends.items d.sections.items lists)) count h.sites all_settled
+  defined = symbols_stand t (opened_of t).sections (length (sections_by extents d.ends.items d.sections.items lists)) count h.sites all_settled
 
   abbrev Ends : ℕ → Site → Type 0
   Ends j s = (e : Extent) → slice_get extents j ≡ Some e → s.offset + s.bytes ≤ end_of 0 (sites_in j h.sites)
@@ -343,7 +343,7 @@ module _ (ss : List Statement) (d : Draft) (extents : List Extent) (lists : List
   abbrev Lies : Row → Bool
   Lies r = is_row_in r (slice_get (sections_by extents d.ends.items d.sections.items lists) r.section)
 
-  row_lies : (s : Site) → IsSettled t.opened.sections s → Ends s.located.section s → list_all Lies (rows_at s) ≡ true
+  row_lies : (s : Site) → IsSettled (opened_of t).sections s → Ends s.located.section s → list_all Lies (rows_at s) ≡ true
   row_lies s k l = go (has_row s.located) refl
     where
       shown : has_row s.located ≡ true → Lies (row_of s) ≡ true
@@ -360,7 +360,7 @@ module _ (ss : List Statement) (d : Draft) (extents : List Extent) (lists : List
       go true e = ap (λ b. b && true) (shown e)
       go false e = refl
 
-  rows_lie : (sites : List Site) → AllByRecursion (IsSettled t.opened.sections) sites → AllByRecursion (λ s. Ends s.located.section s) sites → list_all Lies (flat_map rows_at sites) ≡ true
+  rows_lie : (sites : List Site) → AllByRecursion (IsSettled (opened_of t).sections) sites → AllByRecursion (λ s. Ends s.located.section s) sites → list_all Lies (flat_map rows_at sites) ≡ true
   rows_lie [] k l = refl
   rows_lie (s ∷ sites) (k, ks) (l, ls) =
       list_all-append Lies (rows_at s) (flat_map rows_at sites) ∙ ap (λ b. b && list_all Lies (flat_map rows_at sites)) (row_lies s k l) ∙ rows_lie sites ks ls

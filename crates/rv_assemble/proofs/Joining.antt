@@ -4,9 +4,10 @@ use Rattle.std.proofs.Common.{◌≡◌, ℕ, ◌<◌, true, List, [], ◌∷◌
 use Rattle.std.proofs.lemmas.List.{length-map}
 use Rattle.std.specs.Global.{Vec}
 use Rattle.std.specs.List.{AllByRecursion}
-use Rattle.rv_unit_laws.specs.Tables.{Tables, tables}
+use Rattle.rv_unit_laws.specs.Tables.{Tables, tables, opened_of, alignments_of}
 use Rattle.rv_tables.specs.declared.section.Extent.{Extent}
 use Rattle.rv_tables.specs.Sections.{extent_section}
+use Rattle.rv_tables.proofs.Lookups.{sections_are, alignments_are}
 use Rattle.rv_unit.specs.declared.unit.Unit.{Unit as SourceUnit}
 use Rattle.rv_unit.specs.Unit.{said, IsFilled}
 use Rattle.rv_object.specs.declared.relocation.Relocation.{Relocation as DeclaredRelocation}
@@ -44,11 +45,11 @@ module _ (u : SourceUnit) (d : Draft) (x : SymbolTable) (filled : IsFilled u) (g
   known : HasSymbols t h.sites (uses_in d) x
   known = has h.sites (are_sites (said u) d h)
 
-  opened : map extent_section extents ≡ t.opened.sections
-  opened = ap (λ (b : Tables). b.opened.sections) filled.tables
+  opened : map extent_section extents ≡ (opened_of t).sections
+  opened = sections_are extents ∙ ap (λ (b : Tables). (opened_of b).sections) filled.tables
 
-  alignments : map (λ (e : Extent). e.alignment) extents ≡ t.alignments
-  alignments = ap (λ (b : Tables). b.alignments) filled.tables
+  alignments : map (λ (e : Extent). e.alignment) extents ≡ alignments_of t
+  alignments = alignments_are extents ∙ ap (λ (b : Tables). alignments_of b) filled.tables
 
   numbers_are : x.numbers.items ≡ map (λ f. known.number f.ordinal f.symbol) (map field_of d.fields.items)
   numbers_are = sym known.numbers ∙ numbers_map known.number d.fields.items

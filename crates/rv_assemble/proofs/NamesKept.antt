@@ -1,16 +1,17 @@
 -- No section of a source is that of the rows.
 
-use Rattle.std.proofs.Common.{◌≡◌, ℕ, zero, suc, Bool, true, false, ◌&&◌, nat_lt, List, [], ◌∷◌, ◌++◌, length, refl, sym, ap, ◌∙◌, subst, Option, Some, None}
+use Rattle.std.proofs.Common.{◌≡◌, ℕ, zero, suc, Bool, true, ◌&&◌, List, [], ◌∷◌, ◌++◌, refl, sym, ap, ◌∙◌, subst, Option, Some, None}
 use Rattle.std.proofs.lemmas.Bool.{and_parts}
 use Rattle.std.proofs.lemmas.List.Folds.{list_all-append}
-use Rattle.std.specs.Prelude.{⊤, if◌then◌else◌, slice_get}
+use Rattle.std.specs.Prelude.{⊤, slice_get}
 use Rattle.std.specs.List.{list_all}
 use Rattle.rv_statement.specs.declared.directive.Standard.{Standard}
 use Rattle.rv_statement.specs.declared.directive.Standard.TheVariants.{Text, Data, Rodata, Bss}
 use Rattle.rv_statement.specs.Statement.{StatementKind, Label, Numbered, Instruction, Directs, Statement, Directive, Enters, Opens}
-use Rattle.rv_unit_laws.specs.Sections.{Section, Opened, place_of_name, most_sections, entered, entered_at, entered_by}
-use Rattle.rv_unit_laws.specs.Tables.{Tables, at_start, after, after_all, tables}
-use Rattle.rv_unit_laws.proofs.Opened.{entered_in, next_opened, after_opened}
+use Rattle.rv_unit_laws.specs.Sections.{Section, Opened, entered_by}
+use Rattle.rv_unit_laws.specs.Tables.{Tables, at_start, with_section, after, after_all, tables, opened_of}
+use Rattle.rv_unit_laws.proofs.Entering.{sections_more, entering}
+use Rattle.rv_unit_laws.proofs.Opened.{entered_in, after_opened}
 use Rattle.rv_object.specs.Valid.{is_kept_name}
 use Rattle.rv_assemble.specs.KeptNames.{opens_kept, OpenKept}
 
@@ -27,20 +28,11 @@ IsKept (Some s) = is_kept_name s.name ≡ true
 kept_more : (sections : List Section) (s : Section) → all_kept sections ≡ true → is_kept_name s.name ≡ true → all_kept (sections ++ s ∷ []) ≡ true
 kept_more sections s h k = list_all-append (λ s. is_kept_name s.name) sections (s ∷ []) ∙ ap (λ b. b && (is_kept_name s.name && true)) h ∙ ap (λ b. b && true) k
 
-entered_kept : (o : Opened) (s : Section) → AreKept o → is_kept_name s.name ≡ true → AreKept (entered o s)
-entered_kept o s h k = go (place_of_name o.sections s.name)
-  where
-    new : (b : Bool) → AreKept (if b then record { sections = o.sections ++ s ∷ []; current = length o.sections } else o)
-    new true = kept_more o.sections s h k
-    new false = h
-
-    go : (found : Option ℕ) → AreKept (entered_at o s found)
-    go (Some i) = h
-    go None = new (nat_lt (length o.sections) most_sections)
-
-next_kept : (o : Opened) (found : Option Section) → AreKept o → IsKept found → AreKept (next_opened o found)
-next_kept o None h k = h
-next_kept o (Some s) h k = entered_kept o s h k
+section_kept : (t : Tables) (found : Option Section) → AreKept (opened_of t) → IsKept found → AreKept (opened_of (with_section t found))
+section_kept t None h k = h
+section_kept t (Some s) h k =
+    entering (λ (u : Tables). AreKept (opened_of u)) t s (λ n at. h)
+    (λ room. ap all_kept (sections_more t s) ∙ kept_more (opened_of t).sections s h k) h
 
 standard_kept : (s : Standard) → IsKept (entered_by (Enters s))
 standard_kept Text = refl
@@ -59,11 +51,11 @@ opened_kept (Numbered number) e = tt
 opened_kept (Instruction mnemonic operands) e = tt
 opened_kept (Directs d) e = directive_kept d e
 
-all_after : (t : Tables) (k : ℕ) (ss : List Statement) → OpenKept ss → AreKept t.opened → AreKept (after_all t k ss).opened
+all_after : (t : Tables) (k : ℕ) (ss : List Statement) → OpenKept ss → AreKept (opened_of t) → AreKept (opened_of (after_all t k ss))
 all_after t k [] e h = h
 all_after t k (s ∷ ss) e h =
     let both = and_parts (opens_kept s.kind) (list_all (λ (s : Statement). opens_kept s.kind) ss) e in
-    all_after (after t k s.kind) (suc k) ss both.1 (subst AreKept (sym (after_opened t k s.kind)) (next_kept t.opened (entered_in s.kind) h (opened_kept s.kind both.0)))
+    all_after (after t k s.kind) (suc k) ss both.1 (subst AreKept (sym (after_opened t k s.kind)) (section_kept t (entered_in s.kind) h (opened_kept s.kind both.0)))
 
 kept_at : (sections : List Section) (j : ℕ) (home : Section) → all_kept sections ≡ true → slice_get sections j ≡ Some home → is_kept_name home.name ≡ true
 kept_at [] j home h e = absurd (cc)
@@ -72,5 +64,5 @@ kept_at (s ∷ sections) zero home h e =
     ap (λ (x : Section). is_kept_name x.name) (sym same) ∙ (and_parts (is_kept_name s.name) (all_kept sections) h).0
 kept_at (s ∷ sections) (suc j) home h e = kept_at sections j home (and_parts (is_kept_name s.name) (all_kept sections) h).1 e
 
-pub names_kept : (ss : List Statement) (j : ℕ) (home : Section) → OpenKept ss → slice_get (tables ss).opened.sections j ≡ Some home → is_kept_name home.name ≡ true
-names_kept ss j home kept e = kept_at (tables ss).opened.sections j home (all_after at_start 1 ss kept refl) e
+pub names_kept : (ss : List Statement) (j : ℕ) (home : Section) → OpenKept ss → slice_get (opened_of (tables ss)).sections j ≡ Some home → is_kept_name home.name ≡ true
+names_kept ss j home kept e = kept_at (opened_of (tables ss)).sections j home (all_after at_start 1 ss kept refl) e

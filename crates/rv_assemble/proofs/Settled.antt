@@ -8,7 +8,7 @@ use Rattle.std.specs.List.{AllByRecursion, slice_get}
 use Rattle.rv_text_laws.specs.Values.{Value}
 use Rattle.rv_statement.specs.Statement.{StatementKind, Label, Numbered, Instruction, Directs, Statement, Expression, Sets, Aligns_to_power, Aligns_to_bytes, Values, Strings, Zeros}
 use Rattle.rv_unit_laws.specs.Sections.{Section, text_section}
-use Rattle.rv_unit_laws.specs.Tables.{Tables, at_start, after, tables}
+use Rattle.rv_unit_laws.specs.Tables.{Tables, at_start, after, tables, opened_of}
 use Rattle.rv_unit_laws.specs.Faults.{first_fault}
 use Rattle.rv_source_laws.specs.Located.{Located, located_from, is_placed}
 use Rattle.rv_assemble_laws.specs.Templates.{templates}
@@ -57,9 +57,9 @@ settled_by sections [] h k b = tt
 settled_by sections (s ∷ ss) (h, hs) (k, ks) (b, bs) = (record { home = h; held = k; bare = b }, settled_by sections ss hs ks bs)
 
 pub settled : (ss : List Statement) (sites : List Site) → first_fault ss ≡ None → map (λ s. s.located) sites ≡ located_from 1 1 at_start ss
-    → AllByRecursion (IsSettled (tables ss).opened.sections) sites
+    → AllByRecursion (IsSettled (opened_of (tables ss)).sections) sites
 settled ss sites good is =
-    let sections = (tables ss).opened.sections in
+    let sections = (opened_of (tables ss)).sections in
     let all : (P : Located → Type 0) → AllByRecursion P (located_from 1 1 at_start ss) → AllByRecursion (λ s. P s.located) sites =
     λ P h. of_located P sites (subst (λ l. AllByRecursion P l) (sym is) h) in
     settled_by sections sites

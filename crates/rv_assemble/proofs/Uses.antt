@@ -8,7 +8,7 @@ use Rattle.std.proofs.lemmas.Option.{slice_get_within}
 use Rattle.rv_statement.specs.Statement.{Statement}
 use Rattle.rv_unit_laws.specs.Faults.{first_fault}
 use Rattle.rv_unit_laws.specs.Sections.{Section}
-use Rattle.rv_unit_laws.specs.Tables.{Tables, at_start, after, tables}
+use Rattle.rv_unit_laws.specs.Tables.{Tables, at_start, after, tables, opened_of}
 use Rattle.rv_source_laws.specs.Located.{located_from}
 use Rattle.rv_assemble_laws.specs.Templates.{Open, template_fields}
 use Rattle.rv_assemble_laws.specs.Sites.{Site, Part, part_bytes, parts_of}
@@ -89,11 +89,11 @@ module _ (ss : List Statement) (d : Draft) (h : IsDraft ss d) where
   pub uses_meant : HasNames ss → AreMeant (tables ss) (uses_in d)
   uses_meant names = subst (AreMeant (tables ss)) (sym uses_named) (are_meant_uses ss h.sites names h.located)
 
-  pub fields_inside : first_fault ss ≡ None → AllByRecursion (λ (f : OpenField). f.section < length (tables ss).opened.sections) d.fields.items
+  pub fields_inside : first_fault ss ≡ None → AllByRecursion (λ (f : OpenField). f.section < length (opened_of (tables ss)).sections) d.fields.items
   fields_inside good =
-      unmapped (length (tables ss).opened.sections) d.fields.items
-      (subst (λ fs. AllByRecursion (λ (f : Field). f.section < length (tables ss).opened.sections) fs) (sym h.open_fields)
-      (sites_inside (tables ss) (tables ss).opened.sections h.sites (settled ss h.sites good h.located)))
+      unmapped (length (opened_of (tables ss)).sections) d.fields.items
+      (subst (λ fs. AllByRecursion (λ (f : Field). f.section < length (opened_of (tables ss)).sections) fs) (sym h.open_fields)
+      (sites_inside (tables ss) (opened_of (tables ss)).sections h.sites (settled ss h.sites good h.located)))
 
 -- ---- one more
 

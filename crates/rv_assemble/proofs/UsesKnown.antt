@@ -10,7 +10,7 @@ use Rattle.rv_text_laws.specs.Expression.{Primary, Literal, Symbol, Here, Refere
 use Rattle.rv_text_laws.specs.Values.{Value, Constant, Symbolic, Difference, Faulty}
 use Rattle.rv_statement.specs.Statement.{StatementKind, Label, Numbered, Instruction, Directs, Statement, Expression}
 use Rattle.rv_unit_laws.specs.Contributions.{Numbers, Texts, Contribution, Nothing, Bytes, Zero_bytes, Alignment, contribution}
-use Rattle.rv_unit_laws.specs.Tables.{Tables, SectionOffset, NumericLabel, at_start, after, tables, meaning, numeric_label_after, numeric_label_before, forward_in, backward_in, numeric_definition}
+use Rattle.rv_unit_laws.specs.Tables.{Tables, SectionOffset, NumericLabel, at_start, after, tables, meaning, numeric_label_after, numeric_label_before, forward_in, backward_in, numeric_definition, opened_of}
 use Rattle.rv_unit_laws.proofs.Found.{all_weaker}
 use Rattle.rv_source_laws.specs.Located.{Located, located_from}
 use Rattle.rv_source_laws.specs.Program.{place_of, in_contribution}
@@ -35,11 +35,11 @@ module _ (t : Tables) where
 
   -- ---- names and places
 
-  forward_known : (ordinal : ℕ) (digits : List ℕ) (found : Option NumericLabel) → IsPlace (forward_in t.opened true found) → is_some (numeric_definition found) ≡ true
+  forward_known : (ordinal : ℕ) (digits : List ℕ) (found : Option NumericLabel) → IsPlace (forward_in (opened_of t) true found) → is_some (numeric_definition found) ≡ true
   forward_known ordinal digits None h = absurd h
   forward_known ordinal digits (Some l) h = refl
 
-  backward_known : (ordinal : ℕ) (digits : List ℕ) (found : Option NumericLabel) → IsPlace (backward_in t.opened found) → is_some (numeric_definition found) ≡ true
+  backward_known : (ordinal : ℕ) (digits : List ℕ) (found : Option NumericLabel) → IsPlace (backward_in (opened_of t) found) → is_some (numeric_definition found) ≡ true
   backward_known ordinal digits None h = absurd h
   backward_known ordinal digits (Some l) h = refl
 

@@ -6,7 +6,7 @@ use Rattle.std.specs.List.{AllByRecursion}
 use Rattle.rv_statement.specs.Statement.{StatementKind, Label, Numbered, Instruction, Directs, Statement, Directive, Enters, Opens, Sets, Chooses}
 use Rattle.rv_unit_laws.specs.Contributions.{Contribution, Bytes, Zero_bytes, contribution}
 use Rattle.rv_unit_laws.specs.Sections.{Section, is_nobits, section_at, current_section}
-use Rattle.rv_unit_laws.specs.Tables.{Tables, at_start, here, value, counted, contents_size, after, tables, stood}
+use Rattle.rv_unit_laws.specs.Tables.{Tables, at_start, here, value, counted, contents_size, after, tables, stood, opened_of}
 use Rattle.rv_unit_laws.specs.Faults.{Fault, faulty_if, lowest, at_line, size_faults, contents_faults, past_section, contribution_faults, directive_faults, faults, first_fault_from, first_fault}
 use Rattle.rv_source_laws.specs.Located.{Located, located_from}
 use Rattle.rv_unit_laws.proofs.Opened.{after_opened}
@@ -63,7 +63,7 @@ no_fault line (Some code) others e = absurd (cc)
 
 module _ (all t : Tables) (k : ℕ) where
   abbrev home : Section
-  home = current_section t.opened
+  home = current_section (opened_of t)
 
   abbrev Good : Directive → Type 0
   Good d = directive_faults all t k d ≡ []
@@ -106,12 +106,12 @@ module _ (all t : Tables) (k : ℕ) where
   held (Directs directive) e = directive_held directive e
 
   -- a statement that enters no section stands in the current one; one that enters a section holds nothing
-  directive_at : (d : Directive) → DirectiveHeld home d → DirectiveHeld (section_at (after t k (Directs d)).opened (stood t k (Directs d)).section) d
+  directive_at : (d : Directive) → DirectiveHeld home d → DirectiveHeld (section_at (opened_of (after t k (Directs d))) (stood t k (Directs d)).section) d
   directive_at (Enters standard) h = tt
   directive_at (Opens name flags kind) h = tt
-  directive_at d h = subst (λ o. DirectiveHeld (section_at o t.opened.current) d) (sym (after_opened t k (Directs d))) h
+  directive_at d h = subst (λ o. DirectiveHeld (section_at o t.current) d) (sym (after_opened t k (Directs d))) h
 
-  held_at : (says : StatementKind) → IsHeld home says → IsHeld (section_at (after t k says).opened (stood t k says).section) says
+  held_at : (says : StatementKind) → IsHeld home says → IsHeld (section_at (opened_of (after t k says)) (stood t k says).section) says
   held_at (Label name) h = tt
   held_at (Numbered number) h = tt
   held_at (Instruction mnemonic operands) h = h

@@ -5,7 +5,7 @@ use Rattle.std.specs.Prelude.{if◌then◌else◌, filter, slice_get}
 use Rattle.std.specs.List.{AllByRecursion}
 use Rattle.rv_statement.specs.Statement.{StatementKind, Label, Numbered, Instruction, Directs, Statement, Enters, Opens}
 use Rattle.rv_unit_laws.specs.Sections.{Section, text_section, section_at}
-use Rattle.rv_unit_laws.specs.Tables.{Tables, after, after_all, stood}
+use Rattle.rv_unit_laws.specs.Tables.{Tables, after, after_all, stood, opened_of}
 use Rattle.rv_unit_laws.proofs.Opened.{got_of, IsOpen, after_opened, after_open, stays_all}
 use Rattle.rv_source_laws.specs.Located.{Located, located_from}
 
@@ -30,7 +30,7 @@ all_both P Q R (x ∷ xs) f (p, ps) (q, qs) = (f x p q, all_both P Q R xs f ps q
 -- ---- where a statement stands
 
 -- a statement stands in the section that is current after it
-pub stood_in : (t : Tables) (k : ℕ) (says : StatementKind) → (stood t k says).section ≡ (after t k says).opened.current
+pub stood_in : (t : Tables) (k : ℕ) (says : StatementKind) → (stood t k says).section ≡ (after t k says).current
 stood_in t k (Label name) = ap (λ o. o.current) (sym (after_opened t k (Label name)))
 stood_in t k (Numbered number) = refl
 stood_in t k (Instruction mnemonic operands) = refl
@@ -43,12 +43,12 @@ stood_in t k (Directs d) = ap (λ o. o.current) (sym (after_opened t k (Directs 
 abbrev pub IsHomeIn : (ℕ → List Section) → Located → Type 0
 IsHomeIn sections t = slice_get (sections t.file) t.section ≡ Some t.home
 
-pub home_now : (t : Tables) (k : ℕ) (ss : List Statement) (i : ℕ) → IsOpen t.opened → i ≡ t.opened.current → slice_get (after_all t k ss).opened.sections i ≡ Some (section_at t.opened i)
+pub home_now : (t : Tables) (k : ℕ) (ss : List Statement) (i : ℕ) → IsOpen (opened_of t) → i ≡ t.current → slice_get (opened_of (after_all t k ss)).sections i ≡ Some (section_at (opened_of t) i)
 home_now t k ss i (x, e) same =
-    let at : slice_get t.opened.sections i ≡ Some x = ap (λ n. slice_get t.opened.sections n) same ∙ e in
-    stays_all t k ss (x, e) i (section_at t.opened i) (at ∙ ap Some (sym (got_of t.opened.sections i text_section x at)))
+    let at : slice_get (opened_of t).sections i ≡ Some x = ap (λ n. slice_get (opened_of t).sections n) same ∙ e in
+    stays_all t k ss (x, e) i (section_at (opened_of t) i) (at ∙ ap Some (sym (got_of (opened_of t).sections i text_section x at)))
 
-pub homes_from : (sections : ℕ → List Section) (file k : ℕ) (t : Tables) (ss : List Statement) → sections file ≡ (after_all t k ss).opened.sections → IsOpen t.opened → AllByRecursion (IsHomeIn sections) (located_from file k t ss)
+pub homes_from : (sections : ℕ → List Section) (file k : ℕ) (t : Tables) (ss : List Statement) → sections file ≡ (opened_of (after_all t k ss)).sections → IsOpen (opened_of t) → AllByRecursion (IsHomeIn sections) (located_from file k t ss)
 homes_from sections file k t [] same is_open = tt
 homes_from sections file k t (s ∷ ss) same is_open =
     let now = after_open t k s.kind is_open in

@@ -1,13 +1,13 @@
 -- The object of a source (gABI, "Sections", "Symbol Table", "Relocation"; RISC-V ELF psABI, "Relocations"): what assembling is.
 
-use Rattle.std.specs.Prelude.{◌≡◌, ℕ, suc, ◌+◌, ◌≤◌, true, false, ⊤, List, [], ◌∷◌, ◌++◌, flat_map, map, length, Option, Some, None, slice_index_or, if◌then◌else◌}
+use Rattle.std.specs.Prelude.{◌≡◌, ℕ, suc, ◌+◌, ◌≤◌, true, false, ⊤, List, [], ◌∷◌, ◌++◌, flat_map, map, length, Option, Some, None, if◌then◌else◌}
 use Rattle.std.specs.List.{AllByRecursion, list_any, slice_get}
 use Rattle.rv_text_laws.specs.Expression.{Primary}
 use Rattle.rv_statement.specs.Statement.{Statement}
 use Rattle.rv_unit_laws.specs.declared.section_type.SectionType.{SectionType}
 use Rattle.rv_unit_laws.specs.declared.section_type.SectionType.TheVariants as types
 use Rattle.rv_unit_laws.specs.Sections.{Section as SourceSection, is_nobits, goes_to_text}
-use Rattle.rv_unit_laws.specs.Tables.{Tables, Assignment, at_start, tables, is_location}
+use Rattle.rv_unit_laws.specs.Tables.{Tables, Assignment, at_start, tables, is_location, opened_of, alignment_at}
 use Rattle.rv_source_laws.specs.Located.{located_from, has_row}
 use Rattle.rv_source_laws.specs.Compressed.{is_compressed_code}
 use Rattle.rv_object.specs.declared.row.Row.{Row}
@@ -80,7 +80,7 @@ pub record IsSectionOf (t : Tables) (all : List Site) (number : Numbering) (symb
   pub executable : x.executable ≡ section.executable
   pub writable : x.writable ≡ section.writable
   -- the greatest of its alignments
-  pub alignment : x.alignment ≡ slice_index_or t.alignments index 1
+  pub alignment : x.alignment ≡ alignment_at t index
   pub some : 1 ≤ x.alignment
   -- its statements follow one another
   pub tile : Tile t 0 sites
@@ -129,7 +129,7 @@ pub record IsObjectOf (ss : List Statement) (o : Object) : Type 0 where
   -- the sections in the order in which the source opens them
   pub number : Numbering
   pub sections : AreSectionsOf (tables ss) sites number o.symbols 0
-      (tables ss).opened.sections o.sections
+      (opened_of (tables ss)).sections o.sections
   pub symbols : o.symbols ≡ symbols_of (tables ss) sites
   -- a row for each statement with a place in memory
   pub rows : o.rows ≡ flat_map rows_at sites

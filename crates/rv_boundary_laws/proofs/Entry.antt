@@ -8,7 +8,7 @@ use Rattle.rv_text_laws.specs.Values.{Meaning, Known, InSection as InData, Open 
 use Rattle.rv_statement.specs.Statement.{StatementKind, Label, Numbered, Instruction, Directs, Statement, Enters, Sets}
 use Rattle.rv_unit_laws.specs.Bindings.{is_global}
 use Rattle.rv_unit_laws.specs.Sections.{Section as SourceSection, goes_to_text}
-use Rattle.rv_unit_laws.specs.Tables.{Tables, Assignment, tables, assigned_ever, is_location, binding_of}
+use Rattle.rv_unit_laws.specs.Tables.{Tables, Assignment, tables, assigned_ever, is_location, binding_of, opened_of}
 use Rattle.rv_unit_laws.proofs.Found.{same_bytes}
 use Rattle.rv_map.specs.Limits.{IsRow}
 use Rattle.rv_source_laws.specs.Located.{has_row}
@@ -65,7 +65,7 @@ module _ (sources : List (List Statement)) (p : Program) (starts : Starts) (file
   t = tables ss
 
   abbrev sections : List SourceSection
-  sections = (tables ss).opened.sections
+  sections = (opened_of (tables ss)).sections
 
   abbrev G : List ℕ → Bool
   G name = is_global (t.bindings name)

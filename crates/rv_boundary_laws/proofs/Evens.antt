@@ -7,7 +7,7 @@ use Rattle.std.specs.List.{AllByRecursion, slice_get}
 use Rattle.rv_text_laws.specs.Values.{Value}
 use Rattle.rv_statement.specs.Statement.{StatementKind, Label, Numbered, Instruction, Directs, Statement, Expression, Enters, Opens, Globl, Local, Sets, Aligns_to_power, Aligns_to_bytes, Values, Strings, Zeros, Chooses, Ignored}
 use Rattle.rv_unit_laws.specs.Sections.{Section as SourceSection, goes_to_text}
-use Rattle.rv_unit_laws.specs.Tables.{Tables, tables, alignment_of}
+use Rattle.rv_unit_laws.specs.Tables.{Tables, tables, alignment_of, opened_of}
 use Rattle.rv_chain_laws.proofs.Held.{IsHeld}
 use Rattle.rv_object.specs.Object.{Object}
 use Rattle.rv_assemble_laws.proofs.Faultless.{no_first_fault}
@@ -85,7 +85,7 @@ module _ (t : Tables) (index : ℕ) (section : SourceSection) (multiple : ℕ) w
 
 module _ (ss : List Statement) (o : Object) (is : IsObjectOf ss o) where
   abbrev sections : List SourceSection
-  sections = (tables ss).opened.sections
+  sections = (opened_of (tables ss)).sections
 
   all_settled : AllByRecursion (IsSettled sections) is.sites
   all_settled = settled ss is.sites (no_first_fault ss is.good) is.located

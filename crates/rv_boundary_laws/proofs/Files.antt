@@ -9,7 +9,7 @@ use Rattle.rv_isa.specs.declared.kind.Kind.TheVariants.{Abs32, Abs64, Add8, Add1
 use Rattle.rv_text_laws.specs.Values.{Constant, Symbolic, Difference, Faulty}
 use Rattle.rv_statement.specs.Statement.{Statement}
 use Rattle.rv_unit_laws.specs.Sections.{Section as SourceSection}
-use Rattle.rv_unit_laws.specs.Tables.{Tables, tables, at_start, after}
+use Rattle.rv_unit_laws.specs.Tables.{Tables, tables, at_start, after, opened_of, alignments_of}
 use Rattle.rv_map.specs.Map.{Map}
 use Rattle.rv_map.specs.declared.map.Row.{Row as MapRow}
 use Rattle.rv_source_laws.specs.Located.{has_row, located, located_now, located_from}
@@ -109,7 +109,7 @@ module _ (number : Numbering) where
   sections_plain t all symbols index (s ∷ ss) (y ∷ ys) (h, hs) (suc j) x e = sections_plain t all symbols (suc index) ss ys hs j x e
 
 pub plain_of : (ss : List Statement) (o : Object) (is : IsObjectOf ss o) → (j : ℕ) (x : Section) → slice_get o.sections j ≡ Some x → alignments_of x ≡ []
-plain_of ss o is = sections_plain is.number (tables ss) is.sites o.symbols 0 (tables ss).opened.sections o.sections is.sections
+plain_of ss o is = sections_plain is.number (tables ss) is.sites o.symbols 0 (opened_of (tables ss)).sections o.sections is.sections
 
 -- ---- rows
 

@@ -8,7 +8,7 @@ use Rattle.rv_text_laws.specs.Values.{Meaning, Known, InSection as InData, Open 
 use Rattle.rv_statement.specs.Statement.{StatementKind, Label, Numbered, Instruction, Directs, Statement, Enters, Sets}
 use Rattle.rv_unit_laws.specs.Bindings.{is_global}
 use Rattle.rv_unit_laws.specs.Sections.{Section as SourceSection}
-use Rattle.rv_unit_laws.specs.Tables.{Tables, Assignment, tables, assigned_ever, is_location}
+use Rattle.rv_unit_laws.specs.Tables.{Tables, Assignment, tables, assigned_ever, is_location, opened_of}
 use Rattle.rv_map.specs.Map.{Global}
 use Rattle.rv_map.specs.Limits.{IsRow}
 use Rattle.rv_source_laws.specs.Located.{has_row}
@@ -60,7 +60,7 @@ module _ (p : Program) (starts : Starts) (file : ℕ) (ss : List Statement) (o :
   t = tables ss
 
   abbrev sections : List SourceSection
-  sections = (tables ss).opened.sections
+  sections = (opened_of (tables ss)).sections
 
   all_settled : AllByRecursion (IsSettled sections) is.sites
   all_settled = settled ss is.sites (no_first_fault ss is.good) is.located

@@ -10,7 +10,7 @@ use Rattle.rv_statement.specs.Statement.{Statement}
 use Rattle.rv_unit_laws.specs.declared.section_type.SectionType.{SectionType}
 use Rattle.rv_unit_laws.specs.declared.section_type.SectionType.TheVariants as types
 use Rattle.rv_unit_laws.specs.Sections.{Section as SourceSection, is_nobits_type, is_nobits, goes_to_text, goes_to_rodata, goes_to_data, goes_to_bss}
-use Rattle.rv_unit_laws.specs.Tables.{Tables, aligned, tables, at_start}
+use Rattle.rv_unit_laws.specs.Tables.{Tables, aligned, tables, at_start, opened_of}
 use Rattle.rv_unit_laws.specs.Faults.{first_fault}
 use Rattle.rv_map.specs.declared.map.Row.{Row as MapRow}
 use Rattle.rv_source_laws.specs.Located.{Located, has_row, located_of}
@@ -207,7 +207,7 @@ module _ (sources : List (List Statement)) (os : List Object) (text_start : ℕ)
     good_files file [] (o ∷ us) k f r = absurd k
     good_files file (ss ∷ srcs) [] k f r = absurd k
     good_files file (ss ∷ srcs) (o ∷ us) (is, k) (f, fs) r =
-        let sections = (tables ss).opened.sections in
+        let sections = (opened_of (tables ss)).sections in
         let both = split Q (inputs_from is_loaded file o 0 o.sections) (inputs_of is_loaded (suc file) us) r in
         let are = subst (λ t. AreSectionsOf t is.sites is.number o.symbols 0 sections o.sections) (sym f.tables) is.sections in
         let own = good_file p os starts spells stores two P goes goes_source loads same_by holds spell fitted codes file is.sites is.number o sections

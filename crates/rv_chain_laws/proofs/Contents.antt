@@ -18,7 +18,7 @@ use Rattle.rv_statement.specs.Statement.{StatementKind, Label, Numbered, Instruc
 use Rattle.rv_unit_laws.specs.Contributions.{Contribution, Nothing, Bytes, Zero_bytes, Alignment, contribution}
 use Rattle.rv_unit_laws.specs.Options.{Options}
 use Rattle.rv_unit_laws.specs.Sections.{Section, is_nobits, goes_to_text, goes_to_rodata, goes_to_data, goes_to_bss}
-use Rattle.rv_unit_laws.specs.Tables.{Tables, tables, aligned}
+use Rattle.rv_unit_laws.specs.Tables.{Tables, tables, aligned, alignments_of}
 use Rattle.rv_map.specs.Map.{Map}
 use Rattle.rv_map.specs.declared.map.Row.{Row}
 use Rattle.rv_image.specs.Linked.{Linked}
@@ -194,7 +194,7 @@ aligned_file goes t mapped file index (section ∷ sections) = go (goes section)
   where
     go : (b : Bool) → AllByRecursion IsAligned (input_sections_of_file goes t mapped file (suc index) sections)
         → AllByRecursion IsAligned (if b then input_section t section mapped file index ∷ input_sections_of_file goes t mapped file (suc index) sections else input_sections_of_file goes t mapped file (suc index) sections)
-    go true rest = (one_or_more (goes_to_text section) (slice_index_or t.alignments index 1), rest)
+    go true rest = (one_or_more (goes_to_text section) (slice_index_or (alignments_of t) index 1), rest)
     go false rest = rest
 
 aligned_files : (goes : Section → Bool) (mapped : List Mapped) (file : ℕ) (files : List (List Statement)) → AllByRecursion IsAligned (input_sections_of goes mapped file files)

@@ -6,7 +6,7 @@ use Rattle.std.specs.Prelude.{flat_map, slice_get, slice_index_or, if◌then◌e
 use Rattle.std.proofs.lemmas.Bool.{eqb-true, eq-eqb}
 use Rattle.rv_statement.specs.Statement.{StatementKind, Statement}
 use Rattle.rv_unit_laws.specs.Sections.{Section}
-use Rattle.rv_unit_laws.specs.Tables.{Tables, SectionOffset as Standing, at_start, after, after_all, tables, stood, value}
+use Rattle.rv_unit_laws.specs.Tables.{Tables, SectionOffset as Standing, at_start, after, after_all, tables, stood, value, alignments_of}
 use Rattle.rv_unit.specs.Unit.{passed}
 use Rattle.rv_source_laws.specs.Located.{Located, located_now, located_from, is_placed}
 use Rattle.rv_assemble_laws.specs.Sites.{Site, Part, part_bytes, sites_in}
@@ -64,7 +64,7 @@ item_ends k (suc i) t before last (y ∷ ys) (z ∷ zs) s rest x more h e g =
 
 abbrev SizedAt : Tables → ℕ → Tables → Statement → Item → Type 0
 SizedAt all k t s x =
-    (located_now 1 k t s).placed ≡ true → IsSized (λ e. value_at all (located_now 1 k t s) e) (located_now 1 k t s).home.executable x (slice_index_or all.alignments x.section 1) s.kind
+    (located_now 1 k t s).placed ≡ true → IsSized (λ e. value_at all (located_now 1 k t s) e) (located_now 1 k t s).home.executable x (slice_index_or (alignments_of all) x.section 1) s.kind
 
 pub sized_left : (all : Tables) (k i : ℕ) (t : Tables) (ss : List Statement) (is : List Item) (s : Statement) (rest : List Statement) (x : Item) (more : List Item)
     → AreSized all k t ss is → drop i ss ≡ s ∷ rest → drop i is ≡ x ∷ more → SizedAt all (i + k) (after_all t k (take i ss)) s x
@@ -89,7 +89,7 @@ room_for ss is i s x laid here item w vs says =
     let size = sized_left (tables ss) 1 i at_start ss is s (drop (i + 1) ss) x (drop (i + 1) is) laid.sized here item in
     let st = located_at ss i s in
     let placed : is_placed (passed ss i) (i + 1) s.kind ≡ true = ap (is_placed (passed ss i) (i + 1)) says in
-    let sized = subst (λ k. IsSized (λ e. value_at (tables ss) st e) st.home.executable x (slice_index_or (tables ss).alignments x.section 1) k) says (size placed) in
+    let sized = subst (λ k. IsSized (λ e. value_at (tables ss) st e) st.home.executable x (slice_index_or (alignments_of (tables ss)) x.section 1) k) says (size placed) in
     let bytes : x.bytes ≡ w * length vs = sized.1 in
     omega (arith, ends, low, bytes)
 

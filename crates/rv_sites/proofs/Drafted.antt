@@ -7,7 +7,7 @@ use Rattle.std.specs.Global.{Vec}
 use Rattle.std.proofs.lemmas.Bool.{and_parts}
 use Rattle.rv_statement.specs.Statement.{Statement}
 use Rattle.rv_unit_laws.specs.Sections.{Section, text_section, is_nobits, goes_to_text}
-use Rattle.rv_unit_laws.specs.Tables.{Tables, at_start, tables, longest_section}
+use Rattle.rv_unit_laws.specs.Tables.{Tables, at_start, tables, longest_section, opened_of, alignments_of}
 use Rattle.rv_unit_laws.specs.Faults.{first_fault}
 use Rattle.rv_source_laws.specs.Located.{located, located_from}
 use Rattle.rv_source_laws.specs.Compressed.{is_compressed, is_compressed_code}
@@ -40,8 +40,8 @@ pub record Passed (ss : List Statement) (code : List (Vec ℕ)) (d : Draft) : Ty
   pub sized : AreSized (tables ss) 1 at_start ss d.items.items
   pub low : (j : ℕ) → slice_index d.ends.items j ≤ longest_section
   pub figures : IsData ss d.items.items code d.sections.items d.fields.items
-  pub counted : length d.sections.items ≡ length (tables ss).opened.sections
-  pub ended : length d.ends.items ≡ length (tables ss).opened.sections
+  pub counted : length d.sections.items ≡ length (opened_of (tables ss)).sections
+  pub ended : length d.ends.items ≡ length (opened_of (tables ss)).sections
   pub few : length ss < 2 ^ 32
   pub compressed : d.rvc ≡ is_compressed (ss ∷ [])
 
@@ -65,15 +65,15 @@ module _ (ss : List Statement) (code : List (Vec ℕ)) (d : Draft) (h : Passed s
       (subst (λ ls. AllByRecursion (IsCodedBy t) ls) (one_file ss) h.coded)
       (all_held ss h.good) (have_all_fields ss h.good h.wide)
 
-  homes : AllByRecursion (λ (s : Site). IsHomeIn (λ file. t.opened.sections) s.located) all
+  homes : AllByRecursion (λ (s : Site). IsHomeIn (λ file. (opened_of t).sections) s.located) all
   homes =
-      all_sites (IsHomeIn (λ file. t.opened.sections)) all
-      (subst (λ ls. AllByRecursion (IsHomeIn (λ file. t.opened.sections)) ls) (sym located_all)
-      (homes_from (λ file. t.opened.sections) 1 1 at_start ss refl (text_section, refl)))
+      all_sites (IsHomeIn (λ file. (opened_of t).sections)) all
+      (subst (λ ls. AllByRecursion (IsHomeIn (λ file. (opened_of t).sections)) ls) (sym located_all)
+      (homes_from (λ file. (opened_of t).sections) 1 1 at_start ss refl (text_section, refl)))
 
-  module _ (j : ℕ) (home : Section) (at : slice_get t.opened.sections j ≡ Some home) where
+  module _ (j : ℕ) (home : Section) (at : slice_get (opened_of t).sections j ≡ Some home) where
     own : AllByRecursion (IsOf t j home) (sites_in j all)
-    own = all_of t (λ file. t.opened.sections) j home all (λ n. refl) at fits homes
+    own = all_of t (λ file. (opened_of t).sections) j home all (λ n. refl) at fits homes
 
     follow : Tile t 0 (sites_in j all) × (end_of 0 (sites_in j all) ≡ slice_index d.ends.items j)
     follow =
@@ -86,10 +86,10 @@ module _ (ss : List Statement) (code : List (Vec ℕ)) (d : Draft) (h : Passed s
         ∙ ap (λ l. l ++ data_bytes t j all) (h.words j ∙ ap (section_code t j) (one_file ss ∙ sym located_all) ∙ code_in t j all)
         ∙ section_bytes t j home (sites_in j all) own
 
-    low : goes_to_text home ≡ true → slice_index_or t.alignments j 1 ≤ 2
+    low : goes_to_text home ≡ true → slice_index_or (alignments_of t) j 1 ≤ 2
     low e =
         low_all ss h.good h.sound j
-        (ap (λ (g : Section). g.executable) (got_or t.opened.sections j text_section home at) ∙ (and_parts home.loaded home.executable e).1)
+        (ap (λ (g : Section). g.executable) (got_or (opened_of t).sections j text_section home at) ∙ (and_parts home.loaded home.executable e).1)
 
     drafted : IsDrafted t j home (sites_in j all) d
     drafted = record {

@@ -9,7 +9,7 @@ use Rattle.rv_text_laws.specs.Values.{Value, Constant, Symbolic, Difference, Fau
 use Rattle.rv_statement.specs.Statement.{StatementKind, Label, Numbered, Instruction, Directs, Statement, Expression, Directive, Enters, Sets, Aligns_to_power, Aligns_to_bytes, Values, Strings, Zeros}
 use Rattle.rv_unit_laws.specs.Contributions.{contribution}
 use Rattle.rv_unit_laws.specs.Sections.{Section, is_nobits, current_section}
-use Rattle.rv_unit_laws.specs.Tables.{Tables, at_start, here, value, alignment_of, string_bytes, after, tables, stood}
+use Rattle.rv_unit_laws.specs.Tables.{Tables, at_start, here, value, alignment_of, string_bytes, after, tables, stood, opened_of, alignments_of}
 use Rattle.rv_unit_laws.specs.Faults.{faulty_if, value_faults, past_section, faults, first_fault}
 use Rattle.rv_source_laws.specs.Fits.{constant_in}
 use Rattle.rv_source_laws.specs.Located.{Located, located_now, located_from, contributes, is_placed}
@@ -215,7 +215,7 @@ fields_one : (all t : Tables) (k : ℕ) (s : Statement) → faults all t k s.kin
 fields_one all t k s none wide w vs e =
     let sound : faults all t k (Directs (Values w vs)) ≡ [] = subst (λ says. faults all t k says ≡ []) e none in
     let own = none_left (flat_map (λ x. value_faults w (value all true k (here t) x)) vs)
-    (faulty_if ((current_section t.opened).executable || is_nobits (current_section t.opened)) 15 ++ past_section (current_section t.opened).executable (here t).offset (w * length vs)) sound in
+    (faulty_if ((current_section (opened_of t)).executable || is_nobits (current_section (opened_of t))) 15 ++ past_section (current_section (opened_of t)).executable (here t).offset (w * length vs)) sound in
     subst (λ says. AllByRecursion (λ x. HasField w (value all true k (stood t k says) x)) vs) (sym e)
     (have_fields w (λ x. value all true k (here t) x) vs (wide w vs e) own.0)
 
@@ -226,7 +226,7 @@ fields_all all k t (s ∷ ss) h wide = (fields_one all t k s h.0 wide.0, fields_
 -- ---- sites
 
 pub record Fit (t : Tables) (s : Site) : Type 0 where
-  pub size : s.located.placed ≡ true → HasSize (form t s.located) s (slice_index_or t.alignments s.located.section 1) s.located.kind
+  pub size : s.located.placed ≡ true → HasSize (form t s.located) s (slice_index_or (alignments_of t) s.located.section 1) s.located.kind
   pub bytes : s.bytes ≡ length (flat_map part_bytes (parts_of t s))
   pub code : s.located.home.executable ≡ true → flat_map part_bytes (parts_of t s) ≡ code_said (λ e. value_at t s.located e) s.located.kind
   pub other : s.located.home.executable ≡ false → code_said (λ e. value_at t s.located e) s.located.kind ≡ []
@@ -253,12 +253,12 @@ all_templates v o bytes (Directs (Aligns_to_bytes e)) h = (tt, tt)
 all_templates v o bytes (Directs _) h = tt
 
 pub fit_one : (all : Tables) (s : Located) (x : Item) → PlacedAs s.placed s.kind → (s.placed ≡ false → x.bytes ≡ 0) → x.section ≡ s.section
-    → (s.placed ≡ true → IsSized (λ e. value_at all s e) s.home.executable x (slice_index_or all.alignments x.section 1) s.kind)
+    → (s.placed ≡ true → IsSized (λ e. value_at all s e) s.home.executable x (slice_index_or (alignments_of all) x.section 1) s.kind)
     → IsCoded (λ e. value_at all s e) s.kind → Held s → HaveFields all s → Fit all (site_of s x)
 fit_one all s x is absent at size coded held fields =
     let v : Expression → Value = λ e. value_at all s e in
-    let begins = slice_index_or all.alignments s.section 1 in
-    let size' : s.placed ≡ true → IsSized v s.home.executable x begins s.kind = λ e. subst (λ n. IsSized v s.home.executable x (slice_index_or all.alignments n 1) s.kind) at (size e) in
+    let begins = slice_index_or (alignments_of all) s.section 1 in
+    let size' : s.placed ≡ true → IsSized v s.home.executable x begins s.kind = λ e. subst (λ n. IsSized v s.home.executable x (slice_index_or (alignments_of all) n 1) s.kind) at (size e) in
     let site = site_of s x in
     record {
       size = λ e. said_size v s.ordinal s.home x begins s.placed s s.kind refl e is (size' e) coded;

@@ -8,11 +8,12 @@ use Rattle.rv_statement.specs.View.{statement_of, statement_kind}
 use Rattle.rv_statement.specs.declared.statement.Statement.{Statement}
 use Rattle.rv_statement.specs.declared.statement.StatementKind.TheVariants as kinds
 use Rattle.rv_unit_laws.specs.Sections.{Section}
-use Rattle.rv_unit_laws.specs.Tables.{Tables, SectionOffset as Standing, tables, value, stood}
+use Rattle.rv_unit_laws.specs.Tables.{Tables, SectionOffset as Standing, tables, value, stood, alignments_of}
 use Rattle.rv_tables.specs.declared.section_offset.SectionOffset.{SectionOffset}
 use Rattle.rv_tables.specs.declared.section.Extent.{Extent}
 use Rattle.rv_unit.specs.declared.unit.Unit.{Unit as SourceUnit}
 use Rattle.rv_tables.specs.Sections.{offset_of, extent_section}
+use Rattle.rv_tables.proofs.Lookups.{alignments_are}
 use Rattle.rv_unit.specs.Unit.{said, passed, IsFilled}
 use Rattle.rv_source_laws.specs.Located.{is_placed}
 use Rattle.rv_sites.specs.declared.item.Item.{Item}
@@ -92,27 +93,28 @@ pub sized_at : (u : SourceUnit) (i : ℕ) (s : Statement) (p : SectionOffset) (e
     → IsSizedAt (tables (said u)) (said u) i (statement_of s) x
 sized_at u i s p e x filled at there section h shown =
     let all = tables (said u) in
-    let begins : e.alignment ≡ slice_index_or all.alignments x.section 1 =
-    sym there.alignment ∙ ap (λ (t : Tables). slice_index_or t.alignments p.section 1) filled.tables ∙ ap (λ n. slice_index_or all.alignments n 1) (sym section) in
+    let begins : e.alignment ≡ slice_index_or (alignments_of all) x.section 1 =
+    sym there.alignment ∙ ap (λ l. slice_index_or l p.section 1) (alignments_are u.tables.extents.items ∙ ap (λ (t : Tables). alignments_of t) filled.tables) ∙ ap (λ n. slice_index_or (alignments_of all) n 1) (sym section) in
     let home = home_at u i s p e at there in
-    subst (λ (h : Section). IsSized (λ t. value all true (i + 1) (stood (passed (said u) i) (i + 1) (statement_of s).kind) t) h.executable x (slice_index_or all.alignments x.section 1) (statement_kind s.kind)) home
+    subst (λ (h : Section). IsSized (λ t. value all true (i + 1) (stood (passed (said u) i) (i + 1) (statement_of s).kind) t) h.executable x (slice_index_or (alignments_of all) x.section 1) (statement_kind s.kind)) home
     (subst (λ n. IsSized (λ t. value all true (i + 1) (stood (passed (said u) i) (i + 1) (statement_of s).kind) t) e.section.executable x n (statement_kind s.kind)) begins
     (subst (λ (q : Standing). IsSized (λ t. value all true (i + 1) q t) e.section.executable x e.alignment (statement_kind s.kind)) at.place (h shown)))
 
 -- a statement that has a size, and for which its section has room
 pub room_at : (u : SourceUnit) (i : ℕ) (s : Statement) (p : SectionOffset) (e : Extent) (ends : ℕ → ℕ) (stop : ℕ) → IsFilled u → StandsAt u i s p → IsExtentAt u.tables.extents.items p.section e
     → (let st = located_at (said u) i (statement_of s) in
-    IsRoomy (λ t. value_at (tables (said u)) st t) st.home.executable (slice_index_or (tables (said u)).alignments st.section 1) (ends st.section) stop (statement_of s).kind)
+    IsRoomy (λ t. value_at (tables (said u)) st t) st.home.executable (slice_index_or (alignments_of (tables (said u))) st.section 1) (ends st.section) stop (statement_of s).kind)
     → HasRoom (λ t. value (tables (said u)) true (i + 1) (offset_of p) t) e.section.executable e.alignment (ends p.section) (statement_kind s.kind)
 room_at u i s p e ends stop filled at there roomy =
     let all = tables (said u) in
     let st = located_at (said u) i (statement_of s) in
     let RoomAt : Standing → Section → ℕ → Type 0 = λ q home begins. HasRoom (λ t. value all true (i + 1) q t) home.executable begins (ends q.section) (statement_kind s.kind) in
-    let begins : slice_index_or all.alignments p.section 1 ≡ e.alignment = ap (λ (t : Tables). slice_index_or t.alignments p.section 1) (sym filled.tables) ∙ there.alignment in
-    let room : RoomAt (stood (passed (said u) i) (i + 1) (statement_of s).kind) st.home (slice_index_or all.alignments st.section 1) = record { size = roomy.size; room = roomy.room } in
+    let begins : slice_index_or (alignments_of all) p.section 1 ≡ e.alignment =
+    ap (λ l. slice_index_or l p.section 1) (sym (alignments_are u.tables.extents.items ∙ ap (λ (t : Tables). alignments_of t) filled.tables)) ∙ there.alignment in
+    let room : RoomAt (stood (passed (said u) i) (i + 1) (statement_of s).kind) st.home (slice_index_or (alignments_of all) st.section 1) = record { size = roomy.size; room = roomy.room } in
     subst (RoomAt (offset_of p) (extent_section e)) begins
-    (subst (λ h. RoomAt (offset_of p) h (slice_index_or all.alignments p.section 1)) (sym (home_at u i s p e at there))
-    (subst (λ q. RoomAt q st.home (slice_index_or all.alignments q.section 1)) (sym at.place) room))
+    (subst (λ h. RoomAt (offset_of p) h (slice_index_or (alignments_of all) p.section 1)) (sym (home_at u i s p e at there))
+    (subst (λ q. RoomAt q st.home (slice_index_or (alignments_of all) q.section 1)) (sym at.place) room))
 
 -- the section of a statement is one of the unit's
 pub stands_inside : (u : SourceUnit) (i : ℕ) (s : Statement) (p : SectionOffset) → StandsAt u i s p → p.section < length u.tables.extents.items

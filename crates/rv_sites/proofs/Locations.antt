@@ -8,9 +8,10 @@ use Rattle.rv_text_laws.specs.Expression.{Literal, Symbol, Here, Reference}
 use Rattle.rv_text_laws.specs.Values.{Known, InSection, Open, Refused, Value, Constant, Symbolic, Difference, Faulty}
 use Rattle.rv_statement.specs.Statement.{StatementKind, Label, Numbered, Instruction, Directs, Statement, Expression, Directive, Sets}
 use Rattle.rv_unit_laws.specs.Contributions.{Contribution, Nothing, contribution}
-use Rattle.rv_unit_laws.specs.Sections.{Section, Opened, section_at, current_section, entered, entered_by}
+use Rattle.rv_unit_laws.specs.Sections.{Section, Opened, section_at, current_section, entered_by}
 use Rattle.rv_statement.specs.declared.directive.Choice.{Choice}
-use Rattle.rv_unit_laws.specs.Tables.{Tables, SectionOffset, Assignment, at_start, here, stands, meaning, value, assigned, assigned_by, is_location, gives_location, is_defined, may_set, chosen, with_assignment, with_section, with_chosen, with_contribution, after, after_directive, after_all, tables}
+use Rattle.rv_unit_laws.specs.Tables.{Tables, SectionOffset, Assignment, at_start, here, stands, meaning, value, assigned, assigned_by, is_location, gives_location, is_defined, may_set, chosen, with_assignment, with_section, with_chosen, with_contribution, after, after_directive, after_all, tables, opened_of}
+use Rattle.rv_unit_laws.proofs.Entering.{entering}
 use Rattle.rv_unit_laws.proofs.Meant.{HasMeaning, value_meant}
 use Rattle.rv_unit_laws.proofs.Opened.{after_opened}
 use Rattle.rv_source_laws.specs.Located.{Located, located_now, located_from}
@@ -69,13 +70,13 @@ set_lies : (t : Tables) (k : ℕ) (ls : List Located) (line : ℕ) (name : List 
 set_lies t k ls line name e section offset plus is found =
     let s : Statement = record { line = line; kind = Directs (Sets name e) } in
     let l = located_now 1 k t s in
-    let means : InSection section offset ≡ stands t.opened (here t) =
+    let means : InSection section offset ≡ stands (opened_of t) (here t) =
     subst (λ v. HasMeaning (λ q. meaning t false k (here t) q) v) is (value_meant (λ q. meaning t false k (here t) q) e) in
-    let data' : (current_section t.opened).executable ≡ false = no_code (current_section t.opened).executable section offset (here t) means in
-    let opened : (after t k (Directs (Sets name e))).opened ≡ t.opened = after_opened t k (Directs (Sets name e)) in (
+    let data' : (current_section (opened_of t)).executable ≡ false = no_code (current_section (opened_of t)).executable section offset (here t) means in
+    let opened : opened_of (after t k (Directs (Sets name e))) ≡ opened_of t = after_opened t k (Directs (Sets name e)) in (
       l,
       found,
-      (ap (λ (o : Opened). (section_at o t.opened.current).executable) opened ∙ data', ap (λ v. gives_location (assigned name k v)) is),
+      (ap (λ (o : Opened). (section_at o t.current).executable) opened ∙ data', ap (λ v. gives_location (assigned name k v)) is),
     )
 
 -- ---- the assignments after a statement
@@ -90,7 +91,7 @@ module _ (ls : List Located) where
 
   lie_section : (t : Tables) (found : Option Section) → AllLie t → AllLie (with_section t found)
   lie_section t None h = h
-  lie_section t (Some section) h = lie_if _ (record t { opened = entered t.opened section }) _ h h
+  lie_section t (Some section) h = entering (λ (u : Tables). AllLie u) t section (λ n at. h) (λ room. h) h
 
   lie_chosen : (t : Tables) (found : Option Choice) → AllLie t → AllLie (with_chosen t found)
   lie_chosen t None h = h

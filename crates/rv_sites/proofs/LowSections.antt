@@ -3,16 +3,18 @@
 use Rattle.std.proofs.Common.{◌≡◌, ℕ, zero, suc, ◌+◌, ◌≤◌, Bool, true, false, List, [], ◌∷◌, ◌++◌, take, drop, refl, sym, ap, ◌∙◌, subst, arith, Option, Some, None}
 use Rattle.std.proofs.Math.Seq.{take-length}
 use Rattle.std.proofs.lemmas.Bool.{leb-true}
-use Rattle.std.specs.Prelude.{◌==◌, nat_lt, max, length, slice_index_or, if◌then◌else◌}
+use Rattle.std.specs.Prelude.{max, length, slice_index_or, if◌then◌else◌}
 use Rattle.rv_text_laws.specs.Values.{Value, Constant}
 use Rattle.rv_statement.specs.declared.directive.Choice.{Choice}
 use Rattle.rv_statement.specs.declared.directive.Choice.TheVariants.{Push, Pop}
 use Rattle.rv_statement.specs.Statement.{StatementKind, Label, Numbered, Instruction, Directs, Statement, Expression, Directive, Aligns_to_power, Aligns_to_bytes}
 use Rattle.rv_unit_laws.specs.Contributions.{AlignmentForm, As_power, As_bytes, Contribution, Nothing, Bytes, Zero_bytes, Alignment, contribution}
 use Rattle.rv_unit_laws.specs.Faults.{first_fault, faults, directive_faults, contribution_faults, number_faults, alignment_faults}
-use Rattle.rv_unit_laws.specs.Sections.{Section, Opened, text_section, section_at, current_section, entered, entered_at, entered_by, place_of_name, most_sections}
-use Rattle.rv_unit_laws.specs.Tables.{Tables, Assignment, at_start, here, value, alignment_of, alignment_as, contribution_alignment, contributed, changed_at, is_defined, may_set, or_none, assigned_by, chosen, with_label, with_assignment, with_section, with_data, with_choice, with_chosen, with_contribution, opened_more, after, after_directive, after_all, tables}
-use Rattle.rv_unit_laws.proofs.Opened.{open_inside, stood_all, stood_start}
+use Rattle.rv_unit_laws.specs.Sections.{Section, Opened, text_section, section_at, current_section, entered_by}
+use Rattle.rv_unit_laws.specs.Tables.{Tables, Assignment, at_start, here, value, alignment_of, alignment_as, contribution_alignment, contributed, changed_at, is_defined, may_set, or_none, assigned_by, chosen, with_label, with_assignment, with_section, with_data, with_choice, with_chosen, with_contribution, after, after_directive, after_all, tables, opened_of, alignments_of}
+use Rattle.rv_unit_laws.proofs.Entering.{with_new, sections_more, entering}
+use Rattle.rv_unit_laws.proofs.Grown.{alignment_new, data_alignments}
+use Rattle.rv_unit_laws.proofs.Opened.{data_opened, open_inside, stood_all, stood_start}
 use Rattle.rv_unit.specs.Unit.{passed}
 use Rattle.rv_unit.proofs.Constants.{constant_past, constant_whole}
 use Rattle.rv_source_laws.specs.Fits.{is_low}
@@ -30,19 +32,12 @@ abbrev pub AreLow : Opened → List ℕ → Type 0
 AreLow o alignments = (j : ℕ) → (section_at o j).executable ≡ true → slice_index_or alignments j 1 ≤ 2
 
 abbrev pub IsLow : Tables → Type 0
-IsLow t = AreLow t.opened t.alignments
+IsLow t = AreLow (opened_of t) (alignments_of t)
 
-low_start : (j : ℕ) → slice_index_or at_start.alignments j 1 ≤ 2
+low_start : (j : ℕ) → slice_index_or (alignments_of at_start) j 1 ≤ 2
 low_start zero = omega arith
 low_start (suc zero) = omega arith
 low_start (suc (suc j)) = omega arith
-
-one_more : (ns : List ℕ) (j : ℕ) → slice_index_or (ns ++ 1 ∷ []) j 1 ≡ slice_index_or ns j 1
-one_more [] zero = refl
-one_more [] (suc zero) = refl
-one_more [] (suc (suc j)) = refl
-one_more (n ∷ ns) zero = refl
-one_more (n ∷ ns) (suc j) = one_more ns j
 
 -- what is code after one section more was code or not open
 code_before : (xs : List Section) (x : Section) (j : ℕ) → (slice_index_or (xs ++ x ∷ []) j text_section).executable ≡ true → (slice_index_or xs j text_section).executable ≡ true
@@ -62,23 +57,14 @@ low_setting : (t : Tables) (found : Option Assignment) → IsLow t → IsLow (wi
 low_setting t None h = h
 low_setting t (Some s) h = low_if (may_set t s.ordinal s.name s.meaning) (record t { assignments = s ∷ t.assignments }) t h h
 
-low_opened : (t : Tables) (opened : Opened) → AreLow opened t.alignments → IsLow (opened_more t opened)
-low_opened t opened h =
-    low_if (length opened.sections == length t.opened.sections) (record t { opened = opened })
-    (record t { opened = opened; ends = t.ends ++ 0 ∷ []; alignments = t.alignments ++ 1 ∷ [] })
-    h (λ j code. subst (λ n. n ≤ 2) (sym (one_more t.alignments j)) (h j code))
+low_new : (t : Tables) (s : Section) → IsLow t → IsLow (with_new t s)
+low_new t s h j code =
+    let before = code_before (opened_of t).sections s j (ap (λ l. (slice_index_or l j text_section).executable) (sym (sections_more t s)) ∙ code) in
+    subst (λ n. n ≤ 2) (sym (alignment_new t s j)) (h j before)
 
 low_section : (t : Tables) (found : Option Section) → IsLow t → IsLow (with_section t found)
 low_section t None h = h
-low_section t (Some s) h = low_opened t (entered t.opened s) (go (place_of_name t.opened.sections s.name))
-  where
-    new : (b : Bool) → AreLow (if b then record { sections = t.opened.sections ++ s ∷ []; current = length t.opened.sections } else t.opened) t.alignments
-    new true = λ j code. h j (code_before t.opened.sections s j code)
-    new false = h
-
-    go : (found : Option ℕ) → AreLow (entered_at t.opened s found) t.alignments
-    go (Some i) = h
-    go None = new (nat_lt (length t.opened.sections) most_sections)
+low_section t (Some s) h = entering (λ (u : Tables). IsLow u) t s (λ n at. h) (λ room. low_new t s h) h
 
 low_choice : (t : Tables) (choice : Choice) → IsLow t → IsLow (with_choice t choice)
 low_choice t Push h = h
@@ -97,11 +83,13 @@ low_changed (suc i) a (n ∷ ns) zero low h = h
 low_changed (suc i) a (n ∷ ns) (suc j) low h = low_changed i a ns j (λ e. low (ap suc e)) h
 
 -- the current section asks for one more alignment
-low_data : (t : Tables) (bytes : ℕ) (alignment : Option ℕ) → ((current_section t.opened).executable ≡ true → or_none alignment ≤ 2) → IsLow t → IsLow (with_data t bytes alignment)
+low_data : (t : Tables) (bytes : ℕ) (alignment : Option ℕ) → ((current_section (opened_of t)).executable ≡ true → or_none alignment ≤ 2) → IsLow t → IsLow (with_data t bytes alignment)
 low_data t bytes alignment low h j code =
-    low_changed t.opened.current (or_none alignment) t.alignments j (λ same. low (ap (λ n. (section_at t.opened n).executable) (sym same) ∙ code)) (h j code)
+    let before : (section_at (opened_of t) j).executable ≡ true = ap (λ o. (section_at o j).executable) (sym (data_opened t bytes alignment)) ∙ code in
+    subst (λ l. slice_index_or l j 1 ≤ 2) (sym (data_alignments t bytes alignment))
+    (low_changed t.current (or_none alignment) (alignments_of t) j (λ same. low (ap (λ n. (section_at (opened_of t) n).executable) (sym same) ∙ before)) (h j before))
 
-low_contribution : (t : Tables) (v : Expression → Value) (c : Contribution) → ((current_section t.opened).executable ≡ true → or_none (contribution_alignment v c) ≤ 2) → IsLow t → IsLow (with_contribution t v c)
+low_contribution : (t : Tables) (v : Expression → Value) (c : Contribution) → ((current_section (opened_of t)).executable ≡ true → or_none (contribution_alignment v c) ≤ 2) → IsLow t → IsLow (with_contribution t v c)
 low_contribution t v Nothing low h = h
 low_contribution t v (Bytes contents) low h = low_data t (contributed v (here t).offset (Bytes contents)) None low h
 low_contribution t v (Zero_bytes count) low h = low_data t (contributed v (here t).offset (Zero_bytes count)) None low h
@@ -109,7 +97,7 @@ low_contribution t v (Alignment form number) low h = low_data t (contributed v (
 
 -- an alignment in code is 2 at most
 abbrev AsksLow : Tables → ℕ → Directive → Type 0
-AsksLow t k d = (current_section t.opened).executable ≡ true → or_none (alignment_of (value t false k (here t)) d) ≤ 2
+AsksLow t k d = (current_section (opened_of t)).executable ≡ true → or_none (alignment_of (value t false k (here t)) d) ≤ 2
 
 -- a directive with its section, its name and its choice, and without what it contributes
 abbrev without : Tables → ℕ → Directive → Tables
@@ -119,7 +107,7 @@ none_low : or_none None ≤ 2
 none_low = omega arith
 
 -- where a directive contributes an alignment it does nothing else
-still_low : (t : Tables) (k : ℕ) (d : Directive) → AsksLow t k d → (current_section (without t k d).opened).executable ≡ true → or_none (alignment_of (value t false k (here t)) d) ≤ 2
+still_low : (t : Tables) (k : ℕ) (d : Directive) → AsksLow t k d → (current_section (opened_of (without t k d))).executable ≡ true → or_none (alignment_of (value t false k (here t)) d) ≤ 2
 still_low t k (Aligns_to_power e) low = low
 still_low t k (Aligns_to_bytes e) low = low
 still_low t k _ low = λ code. none_low
@@ -153,12 +141,12 @@ module _ (all t : Tables) (k : ℕ) (whole : (e : Expression) (n : ℕ) → valu
       → or_none (alignment_as form (value t false k (here t) number)) ≤ 2
   asks_low form number none low =
       let w = value all false k (here t) number in
-      let parts = none_left (number_faults form w) (alignment_faults (current_section t.opened) (here t).offset (alignment_as form w)) none in
+      let parts = none_left (number_faults form w) (alignment_faults (current_section (opened_of t)) (here t).offset (alignment_as form w)) none in
       let (n, is) = a_number form w parts.0 in
       subst (λ v. or_none (alignment_as form v) ≤ 2) (whole number n is ∙ sym (past number n is)) (is_low_or_none (alignment_as form (value all true k (here t) number)) low)
 
   directive_low : (d : Directive) → directive_faults all t k d ≡ []
-      → (is_placed_directive t k d ≡ true → (current_section t.opened).executable ≡ true → is_low (alignment_of (λ e. value all true k (here t) e) d) ≡ true) → AsksLow t k d
+      → (is_placed_directive t k d ≡ true → (current_section (opened_of t)).executable ≡ true → is_low (alignment_of (λ e. value all true k (here t) e) d) ≡ true) → AsksLow t k d
   directive_low (Aligns_to_power e) none low code = asks_low As_power e none (low refl code)
   directive_low (Aligns_to_bytes e) none low code = asks_low As_bytes e none (low refl code)
   directive_low _ none low code = none_low
@@ -171,7 +159,7 @@ module _ (ss : List Statement) (good : first_fault ss ≡ None) (coded : code_fa
   low_at : (i : ℕ) (s : Statement) (d : Directive) → drop i ss ≡ s ∷ drop (i + 1) ss → i ≤ length ss → s.kind ≡ Directs d → AsksLow (passed ss i) (i + 1) d
   low_at i s d here_is within is =
       let t = passed ss i in
-      let inside = open_inside t.opened (stood_all at_start 1 (take i ss) stood_start).opened in
+      let inside = open_inside (opened_of t) (stood_all at_start 1 (take i ss) stood_start).opened in
       directive_low (tables ss) t (i + 1) (constant_whole ss (i + 1) (here t)) (constant_past ss i (here t) within inside) d
       (subst (λ says. faults (tables ss) t (i + 1) says ≡ []) is (sound_at ss i s (drop (i + 1) ss) here_is good))
       (λ placed code. low_here ss i s here_is good coded d is (subst (λ says. is_placed t (i + 1) says ≡ true) (sym is) placed) code)

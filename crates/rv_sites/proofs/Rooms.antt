@@ -7,7 +7,7 @@ use Rattle.rv_statement.specs.Statement.{StatementKind, Label, Numbered, Instruc
 use Rattle.rv_text_laws.specs.Values.{Value}
 use Rattle.rv_text_laws.specs.Codes.{limit}
 use Rattle.rv_unit_laws.specs.Sections.{Section, Opened, text_section, section_at, current_section}
-use Rattle.rv_unit_laws.specs.Tables.{Tables, SectionOffset, at_start, here, value, alignment_of, stood, after, after_all, tables, longest_section}
+use Rattle.rv_unit_laws.specs.Tables.{Tables, SectionOffset, at_start, here, value, alignment_of, stood, after, after_all, tables, longest_section, opened_of, ends_of, alignments_of}
 use Rattle.rv_unit_laws.specs.Faults.{first_fault}
 use Rattle.rv_unit_laws.proofs.Grown.{BeginsAt, puts, grows_after, grown_all, begins_multiple}
 use Rattle.rv_unit_laws.proofs.Opened.{after_opened, open_inside, stood_all, stood_start}
@@ -34,8 +34,8 @@ use Rattle.rv_sites.proofs.Roomy.{IsRoomy, statement_here}
 pub record HasRoomLeft (ss : List Statement) (i : ℕ) (ends : ℕ → ℕ) : Type 0 where
   pub sizes : ℕ → ℕ
   pub rest : size_fault_from sizes (drop i (located_from 1 1 at_start ss)) ≡ None
-  pub code : (j : ℕ) → (section_at (tables ss).opened j).executable ≡ true → ends j ≤ sizes j
-  pub stored : (j : ℕ) → (section_at (tables ss).opened j).executable ≡ false → ends j ≤ slice_index_or (passed ss i).ends j 0
+  pub code : (j : ℕ) → (section_at (opened_of (tables ss)) j).executable ≡ true → ends j ≤ sizes j
+  pub stored : (j : ℕ) → (section_at (opened_of (tables ss)) j).executable ≡ false → ends j ≤ slice_index_or (ends_of (passed ss i)) j 0
 
 pub drop_none : {A : Type 0} (xs : List A) → drop 0 xs ≡ xs
 drop_none [] = refl
@@ -57,7 +57,7 @@ rooms_begin ss ends good zeros = record {
 
 -- ---- a statement that has a row enters no section
 
-stood_directive : (t : Tables) (k : ℕ) (d : Directive) → is_placed_directive t k d ≡ true → (stood t k (Directs d) ≡ here t) × ((after t k (Directs d)).opened ≡ t.opened)
+stood_directive : (t : Tables) (k : ℕ) (d : Directive) → is_placed_directive t k d ≡ true → (stood t k (Directs d) ≡ here t) × (opened_of (after t k (Directs d)) ≡ opened_of t)
 stood_directive t k (Sets name e) placed = (refl, after_opened t k (Directs (Sets name e)))
 stood_directive t k (Aligns_to_power e) placed = (refl, after_opened t k (Directs (Aligns_to_power e)))
 stood_directive t k (Aligns_to_bytes e) placed = (refl, after_opened t k (Directs (Aligns_to_bytes e)))
@@ -66,7 +66,7 @@ stood_directive t k (Strings ended strings) placed = (refl, after_opened t k (Di
 stood_directive t k (Zeros count) placed = (refl, after_opened t k (Directs (Zeros count)))
 stood_directive t k _ placed = absurd (cc)
 
-stood_here : (t : Tables) (k : ℕ) (says : StatementKind) → is_placed t k says ≡ true → (stood t k says ≡ here t) × ((after t k says).opened ≡ t.opened)
+stood_here : (t : Tables) (k : ℕ) (says : StatementKind) → is_placed t k says ≡ true → (stood t k says ≡ here t) × (opened_of (after t k says) ≡ opened_of t)
 stood_here t k (Label name) placed = (refl, after_opened t k (Label name))
 stood_here t k (Numbered number) placed = (refl, refl)
 stood_here t k (Instruction mnemonic operands) placed = (refl, refl)
@@ -115,33 +115,33 @@ module _ (ss : List Statement) (i : ℕ) (s : Statement) (here_is : drop i ss �
   within : i ≤ length ss
   within = let l = drop_inside ss i s (drop (i + 1) ss) here_is in omega (arith, l)
 
-  inside : t.opened.current < length t.opened.sections
-  inside = open_inside t.opened (stood_all at_start 1 (take i ss) stood_start).opened
+  inside : t.current < length (opened_of t).sections
+  inside = open_inside (opened_of t) (stood_all at_start 1 (take i ss) stood_start).opened
 
   next : drop i (located_from 1 1 at_start ss) ≡ st ∷ drop (i + 1) (located_from 1 1 at_start ss)
   next = stated_next ss i s (drop (i + 1) ss) here_is
 
   -- the section of the statement
-  home_is : section_at all.opened st.section ≡ st.home
+  home_is : section_at (opened_of all) st.section ≡ st.home
   home_is =
-      got_or all.opened.sections st.section text_section st.home
-      (all_at (IsHomeIn (λ file. all.opened.sections)) (located_from 1 1 at_start ss) i st (drop (i + 1) (located_from 1 1 at_start ss)) next
-      (homes_from (λ file. all.opened.sections) 1 1 at_start ss refl (text_section, refl)))
+      got_or (opened_of all).sections st.section text_section st.home
+      (all_at (IsHomeIn (λ file. (opened_of all).sections)) (located_from 1 1 at_start ss) i st (drop (i + 1) (located_from 1 1 at_start ss)) next
+      (homes_from (λ file. (opened_of all).sections) 1 1 at_start ss refl (text_section, refl)))
 
-  multiples : (d : Directive) → s.kind ≡ Directs d → puts d ≡ true → BeginsAt (alignment_of (value t false k (here t)) d) (slice_index_or all.alignments t.opened.current 1)
+  multiples : (d : Directive) → s.kind ≡ Directs d → puts d ≡ true → BeginsAt (alignment_of (value t false k (here t)) d) (slice_index_or (alignments_of all) t.current 1)
   multiples d is h =
-      subst (λ (u : Tables). BeginsAt (alignment_of (value t false k (here t)) d) (slice_index_or u.alignments t.opened.current 1))
+      subst (λ (u : Tables). BeginsAt (alignment_of (value t false k (here t)) d) (slice_index_or (alignments_of u) t.current 1))
       (sym (whole_rest ss i within ∙ ap (after_all t k) here_is ∙ ap (λ y. after_all (after t k y) (suc k) (drop (i + 1) ss)) is))
       (begins_multiple t k (suc k) d (drop (i + 1) ss) h (grown_all 1 (take i ss)) inside)
 
   -- the section where a statement that has a row stands is the current one
-  home_here : is_placed t k s.kind ≡ true → st.home ≡ current_section t.opened
+  home_here : is_placed t k s.kind ≡ true → st.home ≡ current_section (opened_of t)
   home_here placed =
       let (place, opened) = stood_here t k s.kind placed in
-      ap (λ o. section_at o st.section) opened ∙ ap (λ (p : SectionOffset). section_at t.opened p.section) place
+      ap (λ o. section_at o st.section) opened ∙ ap (λ (p : SectionOffset). section_at (opened_of t) p.section) place
 
   -- an alignment in code is low
-  pub low_here : (d : Directive) → s.kind ≡ Directs d → is_placed t k s.kind ≡ true → (current_section t.opened).executable ≡ true
+  pub low_here : (d : Directive) → s.kind ≡ Directs d → is_placed t k s.kind ≡ true → (current_section (opened_of t)).executable ≡ true
       → is_low (alignment_of (λ e. value all true k (here t) e) d) ≡ true
   low_here d is placed code =
       let (place, opened) = stood_here t k s.kind placed in
@@ -151,21 +151,21 @@ module _ (ss : List Statement) (i : ℕ) (s : Statement) (here_is : drop i ss �
   -- what a place with its section says
   abbrev RoomyIn : ℕ → SectionOffset → Opened → Type 0
   RoomyIn offset p o =
-      IsRoomy (λ e. value all true k p e) (section_at o p.section).executable (slice_index_or all.alignments p.section 1) offset (slice_index_or (after t k s.kind).ends p.section 0) s.kind
+      IsRoomy (λ e. value all true k p e) (section_at o p.section).executable (slice_index_or (alignments_of all) p.section 1) offset (slice_index_or (ends_of (after t k s.kind)) p.section 0) s.kind
 
   pub roomy_at : (offset : ℕ) → offset ≤ longest_section → is_placed t k s.kind ≡ true → (st.home.executable ≡ true → offset + code_size s.kind ≤ longest_section)
-      → (st.home.executable ≡ false → offset ≤ slice_index_or t.ends st.section 0)
-      → IsRoomy (λ e. value_at all st e) st.home.executable (slice_index_or all.alignments st.section 1) offset (slice_index_or (after t k s.kind).ends st.section 0) s.kind
+      → (st.home.executable ≡ false → offset ≤ slice_index_or (ends_of t) st.section 0)
+      → IsRoomy (λ e. value_at all st e) st.home.executable (slice_index_or (alignments_of all) st.section 1) offset (slice_index_or (ends_of (after t k s.kind)) st.section 0) s.kind
   roomy_at offset low placed fits before =
       let (place, opened) = stood_here t k s.kind placed in
       let home = home_here placed in
-      let before' : (current_section t.opened).executable ≡ false → offset ≤ (here t).offset =
-      λ e. subst (λ (p : SectionOffset). offset ≤ slice_index_or t.ends p.section 0) place (before (ap (λ (h : Section). h.executable) home ∙ e)) in
-      let fits' : (current_section t.opened).executable ≡ true → offset + code_size s.kind ≤ longest_section = λ e. fits (ap (λ (h : Section). h.executable) home ∙ e) in
-      subst (λ p. RoomyIn offset p (after t k s.kind).opened) (sym place)
+      let before' : (current_section (opened_of t)).executable ≡ false → offset ≤ (here t).offset =
+      λ e. subst (λ (p : SectionOffset). offset ≤ slice_index_or (ends_of t) p.section 0) place (before (ap (λ (h : Section). h.executable) home ∙ e)) in
+      let fits' : (current_section (opened_of t)).executable ≡ true → offset + code_size s.kind ≤ longest_section = λ e. fits (ap (λ (h : Section). h.executable) home ∙ e) in
+      subst (λ p. RoomyIn offset p (opened_of (after t k s.kind))) (sym place)
       (subst (λ o. RoomyIn offset (here t) o) (sym opened)
-      (statement_here all t k (slice_index_or all.alignments t.opened.current 1) offset low inside (grown_all 1 (take i ss)) (constant_whole ss k (here t)) (constant_past ss i (here t) within inside) before' s.kind placed
-      multiples ((grows_after t k s.kind).ends t.opened.current) fits' (sound_at ss i s (drop (i + 1) ss) here_is good)
+      (statement_here all t k (slice_index_or (alignments_of all) t.current 1) offset low inside (constant_whole ss k (here t)) (constant_past ss i (here t) within inside) before' s.kind placed
+      multiples ((grows_after t k s.kind).ends t.current) fits' (sound_at ss i s (drop (i + 1) ss) here_is good)
       (λ d is code. low_here d is placed code)))
 
   module _ (ends : ℕ → ℕ) (low : (j : ℕ) → ends j ≤ longest_section) (left : HasRoomLeft ss i ends) where
@@ -187,22 +187,22 @@ module _ (ss : List Statement) (i : ℕ) (s : Statement) (here_is : drop i ss �
 
     -- the next statement has a size, and its section has room for it
     pub roomy_now : is_placed t k s.kind ≡ true
-        → IsRoomy (λ e. value_at all st e) st.home.executable (slice_index_or all.alignments st.section 1) (ends st.section) (slice_index_or (after t k s.kind).ends st.section 0) s.kind
+        → IsRoomy (λ e. value_at all st e) st.home.executable (slice_index_or (alignments_of all) st.section 1) (ends st.section) (slice_index_or (ends_of (after t k s.kind)) st.section 0) s.kind
     roomy_now placed = roomy_at (ends st.section) (low st.section) placed fits (λ e. left.stored st.section (ap (λ (h : Section). h.executable) home_is ∙ e))
 
     module _ (x : Item) (one : IsItem st ends x) (sized : IsSizedAt all ss i s x) where
       -- the size of an item that has a place
-      placed_size : is_placed t k s.kind ≡ true → IsSize (λ e. value_at all st e) st.home.executable (slice_index_or all.alignments st.section 1) (ends st.section) s.kind x.bytes
+      placed_size : is_placed t k s.kind ≡ true → IsSize (λ e. value_at all st e) st.home.executable (slice_index_or (alignments_of all) st.section 1) (ends st.section) s.kind x.bytes
       placed_size e =
-          subst (λ n. IsSize (λ e. value_at all st e) st.home.executable (slice_index_or all.alignments st.section 1) n s.kind x.bytes) one.offset
-          (subst (λ n. IsSize (λ e. value_at all st e) st.home.executable (slice_index_or all.alignments n 1) x.offset s.kind x.bytes) one.section
-          (size_as (λ e. value_at all st e) st.home.executable x (slice_index_or all.alignments x.section 1) s.kind (sized e)))
+          subst (λ n. IsSize (λ e. value_at all st e) st.home.executable (slice_index_or (alignments_of all) st.section 1) n s.kind x.bytes) one.offset
+          (subst (λ n. IsSize (λ e. value_at all st e) st.home.executable (slice_index_or (alignments_of all) n 1) x.offset s.kind x.bytes) one.section
+          (size_as (λ e. value_at all st e) st.home.executable x (slice_index_or (alignments_of all) x.section 1) s.kind (sized e)))
 
       in_code : (b : Bool) → is_placed t k s.kind ≡ b → st.home.executable ≡ true → x.bytes ≤ code_size s.kind
       in_code true e code = (roomy_now e).code code x.bytes (placed_size e)
       in_code false e code = let none = one.absent e in omega (arith, none)
 
-      in_store : (b : Bool) → is_placed t k s.kind ≡ b → st.home.executable ≡ false → ends st.section + x.bytes ≤ slice_index_or (after t k s.kind).ends st.section 0
+      in_store : (b : Bool) → is_placed t k s.kind ≡ b → st.home.executable ≡ false → ends st.section + x.bytes ≤ slice_index_or (ends_of (after t k s.kind)) st.section 0
       in_store true e other = (roomy_now e).stored other x.bytes (placed_size e)
       in_store false e other =
           let none = one.absent e in
@@ -210,20 +210,20 @@ module _ (ss : List Statement) (i : ℕ) (s : Statement) (here_is : drop i ss �
           let m = (grows_after t k s.kind).ends st.section in
           omega (arith, none, l, m)
 
-      code_by : (j : ℕ) (b : Bool) → (j == st.section) ≡ b → (section_at all.opened j).executable ≡ true
+      code_by : (j : ℕ) (b : Bool) → (j == st.section) ≡ b → (section_at (opened_of all) j).executable ≡ true
           → (if b then ends j + x.bytes else ends j) ≤ (if b then left.sizes j + code_size s.kind else left.sizes j)
       code_by j true is e =
           let at : j ≡ st.section = eqb-true j st.section is in
           let l = left.code j e in
-          let m = in_code (is_placed t k s.kind) refl (ap (λ (h : Section). h.executable) (sym home_is ∙ sym (ap (section_at all.opened) at)) ∙ e) in
+          let m = in_code (is_placed t k s.kind) refl (ap (λ (h : Section). h.executable) (sym home_is ∙ sym (ap (section_at (opened_of all)) at)) ∙ e) in
           omega (arith, l, m)
       code_by j false is e = left.code j e
 
-      store_by : (j : ℕ) (b : Bool) → (j == st.section) ≡ b → (section_at all.opened j).executable ≡ false → (if b then ends j + x.bytes else ends j) ≤ slice_index_or (after t k s.kind).ends j 0
+      store_by : (j : ℕ) (b : Bool) → (j == st.section) ≡ b → (section_at (opened_of all) j).executable ≡ false → (if b then ends j + x.bytes else ends j) ≤ slice_index_or (ends_of (after t k s.kind)) j 0
       store_by j true is e =
           let at : st.section ≡ j = sym (eqb-true j st.section is) in
-          subst (λ n. ends n + x.bytes ≤ slice_index_or (after t k s.kind).ends n 0) at
-          (in_store (is_placed t k s.kind) refl (ap (λ (h : Section). h.executable) (sym home_is ∙ ap (section_at all.opened) at) ∙ e))
+          subst (λ n. ends n + x.bytes ≤ slice_index_or (ends_of (after t k s.kind)) n 0) at
+          (in_store (is_placed t k s.kind) refl (ap (λ (h : Section). h.executable) (sym home_is ∙ ap (section_at (opened_of all)) at) ∙ e))
       store_by j false is e = let l = left.stored j e in let m = (grows_after t k s.kind).ends j in omega (arith, l, m)
 
       pub rooms_more : (behind : ℕ → ℕ) → ((j : ℕ) → behind j ≡ grown ends x j) → HasRoomLeft ss (i + 1) behind
@@ -232,8 +232,8 @@ module _ (ss : List Statement) (i : ℕ) (s : Statement) (here_is : drop i ss �
         rest = parts.1;
         code = λ j e. subst (λ n. n ≤ grown_by left.sizes st.section (code_size s.kind) j) (sym (at_section j)) (code_by j (j == st.section) refl e);
         stored = λ j e.
-            subst (λ (u : Tables). behind j ≤ slice_index_or u.ends j 0) (sym (passed_next ss i s (drop (i + 1) ss) here_is))
-            (subst (λ n. n ≤ slice_index_or (after t k s.kind).ends j 0) (sym (at_section j)) (store_by j (j == st.section) refl e));
+            subst (λ (u : Tables). behind j ≤ slice_index_or (ends_of u) j 0) (sym (passed_next ss i s (drop (i + 1) ss) here_is))
+            (subst (λ n. n ≤ slice_index_or (ends_of (after t k s.kind)) j 0) (sym (at_section j)) (store_by j (j == st.section) refl e));
       }
         where
           at_section : (j : ℕ) → behind j ≡ (if j == st.section then ends j + x.bytes else ends j)

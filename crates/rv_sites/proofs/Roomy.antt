@@ -8,9 +8,9 @@ use Rattle.std.specs.Prelude.{IfErr, Result, Ok, Err, not, flat_map, slice_index
 use Rattle.rv_text_laws.specs.Values.{Value, Constant, Symbolic, Difference, Faulty}
 use Rattle.rv_statement.specs.Statement.{StatementKind, Label, Numbered, Instruction, Directs, Expression, Directive, Sets, Aligns_to_power, Aligns_to_bytes, Values, Strings, Zeros}
 use Rattle.rv_unit_laws.specs.Sections.{Section, is_nobits, current_section}
-use Rattle.rv_unit_laws.specs.Tables.{Tables, here, value, aligned, alignment_of, power_alignment, byte_alignment, counted, or_none, within, padding, data_bytes, string_bytes, longest_section, after}
+use Rattle.rv_unit_laws.specs.Tables.{Tables, here, value, aligned, alignment_of, power_alignment, byte_alignment, counted, or_none, within, padding, data_bytes, string_bytes, longest_section, after, opened_of, ends_of}
 use Rattle.rv_unit_laws.specs.Faults.{faulty_if, size_faults, power_faults, bytes_faults, value_faults, code_alignment_faults, past_section, alignment_faults, directive_faults, faults}
-use Rattle.rv_unit_laws.proofs.Grown.{BeginsAt, IsGrown, puts, end_behind}
+use Rattle.rv_unit_laws.proofs.Grown.{BeginsAt, puts, end_behind}
 use Rattle.rv_source_laws.specs.Fits.{is_constant, is_low}
 use Rattle.rv_assemble_laws.specs.Refusals.{code_size}
 use Rattle.rv_source_laws.specs.Located.{is_placed, is_placed_directive}
@@ -104,12 +104,12 @@ multiple (Some n) begins h = h
 
 -- ---- one statement
 
-module _ (all t : Tables) (k begins offset : ℕ) (low : offset ≤ longest_section) (inside : t.opened.current < length t.opened.sections) (grown : IsGrown t)
+module _ (all t : Tables) (k begins offset : ℕ) (low : offset ≤ longest_section) (inside : t.current < length (opened_of t).sections)
     (whole : (e : Expression) (n : ℕ) → value all false k (here t) e ≡ Constant n → value all true k (here t) e ≡ Constant n)
     (past : (e : Expression) (n : ℕ) → value all false k (here t) e ≡ Constant n → value t false k (here t) e ≡ Constant n)
-    (before : (current_section t.opened).executable ≡ false → offset ≤ (here t).offset) where
+    (before : (current_section (opened_of t)).executable ≡ false → offset ≤ (here t).offset) where
   abbrev home : Section
-  home = current_section t.opened
+  home = current_section (opened_of t)
 
   abbrev v : Expression → Value
   v e = value all true k (here t) e
@@ -118,7 +118,7 @@ module _ (all t : Tables) (k begins offset : ℕ) (low : offset ≤ longest_sect
   first e = value t false k (here t) e
 
   abbrev stop : StatementKind → ℕ
-  stop says = slice_index_or (after t k says).ends t.opened.current 0
+  stop says = slice_index_or (ends_of (after t k says)) t.current 0
 
   abbrev Here : StatementKind → Type 0
   Here says = IsRoomy v home.executable begins offset (stop says) says
@@ -131,7 +131,7 @@ module _ (all t : Tables) (k begins offset : ℕ) (low : offset ≤ longest_sect
     size = size;
     room = λ n h. let l = less n h in omega (arith, l, fits);
     code = λ e. true_false home.executable e other;
-    stored = λ e n h. let l = less n h in let f = end_behind t k d puts grown inside other in omega (arith, l, f);
+    stored = λ e n h. let l = less n h in let f = end_behind t k d puts inside other in omega (arith, l, f);
   }
 
   -- a statement without bytes

@@ -7,7 +7,7 @@ use Rattle.std.proofs.lemmas.Bool.{eqb-true, eq-eqb, and_parts}
 use Rattle.std.proofs.lemmas.Nat.{pow_pos}
 use Rattle.rv_statement.specs.Statement.{Statement}
 use Rattle.rv_unit_laws.specs.Sections.{Section, is_nobits, goes_to_text}
-use Rattle.rv_unit_laws.specs.Tables.{Tables, after, tables}
+use Rattle.rv_unit_laws.specs.Tables.{Tables, after, tables, opened_of, alignments_of}
 use Rattle.rv_unit_laws.proofs.Grown.{grown_all}
 use Rattle.rv_source_laws.specs.Located.{Located, located_now, located_from}
 use Rattle.rv_assemble_laws.specs.Templates.{IsTemplate}
@@ -96,7 +96,7 @@ pub record IsOf (t : Tables) (j : ℕ) (home : Section) (s : Site) : Type 0 wher
   pub index : s.located.section ≡ j
   pub here : s.located.home ≡ home
 
-pub all_of : (t : Tables) (file : ℕ → List Section) (j : ℕ) (home : Section) (sites : List Site) → ((n : ℕ) → file n ≡ t.opened.sections) → slice_get t.opened.sections j ≡ Some home
+pub all_of : (t : Tables) (file : ℕ → List Section) (j : ℕ) (home : Section) (sites : List Site) → ((n : ℕ) → file n ≡ (opened_of t).sections) → slice_get (opened_of t).sections j ≡ Some home
     → AllByRecursion (Fit t) sites → AllByRecursion (λ (s : Site). IsHomeIn file s.located) sites → AllByRecursion (IsOf t j home) (sites_in j sites)
 all_of t file j home [] same at fits homes = tt
 all_of t file j home (s ∷ ss) same at fits homes = go (s.located.section == j) refl (all_of t file j home ss same at fits.1 homes.1)
@@ -107,7 +107,7 @@ all_of t file j home (s ∷ ss) same at fits homes = go (s.located.section == j)
     go : (b : Bool) → (s.located.section == j) ≡ b → AllByRecursion (IsOf t j home) (sites_in j ss) → AllByRecursion (IsOf t j home) (if b then s ∷ sites_in j ss else sites_in j ss)
     go true e rest =
         let index : s.located.section ≡ j = eqb-true s.located.section j e in
-        let here = one s.located.home home (sym homes.0 ∙ ap (λ l. slice_get l s.located.section) (same s.located.file) ∙ ap (slice_get t.opened.sections) index ∙ at) in
+        let here = one s.located.home home (sym homes.0 ∙ ap (λ l. slice_get l s.located.section) (same s.located.file) ∙ ap (slice_get (opened_of t).sections) index ∙ at) in
         (record { fit = fits.0; index = index; here = here }, rest)
     go false e rest = rest
 
@@ -187,10 +187,10 @@ module _ (t : Tables) (j : ℕ) (home : Section) where
   code_bytes sites h e f = sym (coded sites (and_parts home.loaded home.executable e).1 h) ∙ empty_code sites f h
 
   pub all_sizes : (sites : List Site) → AllByRecursion Of sites
-      → AllByRecursion (λ (s : Site). s.located.placed ≡ true → HasSize (form t s.located) s (slice_index_or t.alignments j 1) s.located.kind) sites
+      → AllByRecursion (λ (s : Site). s.located.placed ≡ true → HasSize (form t s.located) s (slice_index_or (alignments_of t) j 1) s.located.kind) sites
   all_sizes [] h = tt
   all_sizes (s ∷ ss) h =
-      ((λ e. subst (λ n. HasSize (form t s.located) s (slice_index_or t.alignments n 1) s.located.kind) h.0.index (h.0.fit.size e)), all_sizes ss h.1)
+      ((λ e. subst (λ n. HasSize (form t s.located) s (slice_index_or (alignments_of t) n 1) s.located.kind) h.0.index (h.0.fit.size e)), all_sizes ss h.1)
 
   pub section_templates : (sites : List Site) → AllByRecursion Of sites → AllByRecursion (λ (p : Part). IsTemplate p.template) (parts t sites)
   section_templates [] h = tt
@@ -203,5 +203,5 @@ all_fields t [] h = refl
 all_fields t (s ∷ ss) h = ap (λ l. l ++ flat_map (data_fields t) ss) h.0.fields ∙ ap (λ l. fields_at t s ++ l) (all_fields t ss h.1)
 
 -- each section asks to begin at a multiple of one or more
-pub asks_some : (ss : List Statement) (j : ℕ) → 0 < slice_index_or (tables ss).alignments j 1
-asks_some ss j = let (power, is) = (grown_all 1 ss).powers j in subst (λ n. 0 < n) (sym is) (pow_pos power)
+pub asks_some : (ss : List Statement) (j : ℕ) → 0 < slice_index_or (alignments_of (tables ss)) j 1
+asks_some ss j = let (power, is) = grown_all 1 ss j in subst (λ n. 0 < n) (sym is) (pow_pos power)

@@ -3,7 +3,7 @@
 use Rattle.std.proofs.Common.{◌≡◌, ℕ, suc, ◌+◌, true, List, [], ◌∷◌, ◌++◌, drop, sym, subst, append-nil, append_assoc, arith}
 use Rattle.std.specs.Prelude.{slice_index_or}
 use Rattle.rv_statement.specs.Statement.{Statement}
-use Rattle.rv_unit_laws.specs.Tables.{Tables, at_start, after}
+use Rattle.rv_unit_laws.specs.Tables.{Tables, at_start, after, alignments_of}
 use Rattle.rv_unit.specs.Unit.{passed}
 use Rattle.rv_sites.specs.declared.item.Item.{Item}
 use Rattle.rv_sites.specs.Code.{value_at}
@@ -23,7 +23,7 @@ sized_begin all (s ∷ ss) rest h = h
 -- the item of a statement has its size where it has a place
 abbrev pub IsSizedAt : Tables → List Statement → ℕ → Statement → Item → Type 0
 IsSizedAt all ss i s x =
-    (located_at ss i s).placed ≡ true → IsSized (λ e. value_at all (located_at ss i s) e) (located_at ss i s).home.executable x (slice_index_or all.alignments x.section 1) s.kind
+    (located_at ss i s).placed ≡ true → IsSized (λ e. value_at all (located_at ss i s) e) (located_at ss i s).home.executable x (slice_index_or (alignments_of all) x.section 1) s.kind
 
 pub sized_more : (all : Tables) (ss : List Statement) (i : ℕ) (s : Statement) (so_far : List Item) (x : Item) → drop i ss ≡ s ∷ drop (i + 1) ss
     → IsSizedAt all ss i s x → AreSizedSoFar all ss i so_far → AreSizedSoFar all ss (i + 1) (so_far ++ x ∷ [])

@@ -9,10 +9,11 @@ use Rattle.rv_statement.specs.Statement.{Statement as SpecStatement}
 use Rattle.rv_statement.specs.View.{statement_of}
 use Rattle.rv_statement.specs.declared.statement.Statement.{Statement}
 use Rattle.rv_unit_laws.specs.Sections.{text_section}
-use Rattle.rv_unit_laws.specs.Tables.{Tables, SectionOffset as Standing, at_start, after, after_all, tables, stood, places, places_from}
+use Rattle.rv_unit_laws.specs.Tables.{Tables, SectionOffset as Standing, at_start, after, after_all, tables, stood, places, places_from, opened_of}
 use Rattle.rv_tables.specs.declared.section_offset.SectionOffset.{SectionOffset}
 use Rattle.rv_unit.specs.declared.unit.Unit.{Unit as SourceUnit}
 use Rattle.rv_tables.specs.Sections.{offset_of, extent_section}
+use Rattle.rv_tables.proofs.Lookups.{sections_are}
 use Rattle.rv_unit.specs.Unit.{said, passed, IsFilled}
 use Rattle.rv_source_laws.specs.Located.{Located, located_now, located_from}
 use Rattle.rv_assemble_laws.proofs.Homes.{IsHomeIn, homes_from}
@@ -111,15 +112,15 @@ stands_at u i dx x dp p f inside is at =
     let place : offset_of p ≡ stood (passed ss i) (i + 1) (statement_of x).kind =
     first_same (offset_of p) (stood (passed ss i) (i + 1) (statement_of x).kind) (drop (i + 1) (map offset_of u.places.items)) (drop (i + 1) (places ss))
     (sym seat ∙ ap (drop i) f.stand ∙ places_next ss i (statement_of x) (drop (i + 1) ss) here) in
-    let homes = homes_from (λ file. (tables ss).opened.sections) 1 1 at_start ss refl (text_section, refl) in
-    let home = all_at (IsHomeIn (λ file. (tables ss).opened.sections)) (located_from 1 1 at_start ss) i (located_at ss i (statement_of x)) (drop (i + 1) (located_from 1 1 at_start ss)) next homes in
+    let homes = homes_from (λ file. (opened_of (tables ss)).sections) 1 1 at_start ss refl (text_section, refl) in
+    let home = all_at (IsHomeIn (λ file. (opened_of (tables ss)).sections)) (located_from 1 1 at_start ss) i (located_at ss i (statement_of x)) (drop (i + 1) (located_from 1 1 at_start ss)) next homes in
     record {
       here = here;
       next = next;
       place = place;
       home =
-          ap (λ l. slice_get l p.section) (ap (λ t. t.opened.sections) f.tables)
-          ∙ ap (λ (q : Standing). slice_get (tables ss).opened.sections q.section) place ∙ home;
+          ap (λ l. slice_get l p.section) (sections_are u.tables.extents.items ∙ ap (λ (t : Tables). (opened_of t).sections) f.tables)
+          ∙ ap (λ (q : Standing). slice_get (opened_of (tables ss)).sections q.section) place ∙ home;
     }
 
 stated_length : (file k : ℕ) (t : Tables) (ss : List SpecStatement) → length (located_from file k t ss) ≡ length ss

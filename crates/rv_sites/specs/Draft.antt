@@ -1,6 +1,6 @@
 -- The draft of a source: its statements in their sections, the bytes of these, and the fields that stay open.
 
-use Rattle.std.specs.Prelude.{◌≡◌, ℕ, ◌<◌, ◌≤◌, ◌^◌, true, List, [], flat_map, map, length, Some, slice_get, slice_index, slice_index_or, if◌then◌else◌}
+use Rattle.std.specs.Prelude.{◌≡◌, ℕ, ◌<◌, ◌≤◌, ◌^◌, true, List, [], flat_map, map, length, Some, slice_get, slice_index, if◌then◌else◌}
 use Rattle.std.specs.List.{AllByRecursion, list_any}
 use Rattle.rv_text.specs.Nodes.{symbol_of}
 use Rattle.rv_lexer.specs.declared.fault.SourceFault.{SourceFault}
@@ -8,7 +8,7 @@ use Rattle.rv_lexer.specs.declared.fault.SourceFault.TheVariants.{At, OutOfMemor
 use Rattle.rv_lexer.specs.Fault.{number_of}
 use Rattle.rv_statement.specs.Statement.{Statement}
 use Rattle.rv_unit_laws.specs.Sections.{Section, is_nobits, goes_to_text}
-use Rattle.rv_unit_laws.specs.Tables.{Tables, at_start, tables, longest_section}
+use Rattle.rv_unit_laws.specs.Tables.{Tables, at_start, tables, longest_section, opened_of, alignment_at}
 use Rattle.rv_source_laws.specs.Located.{located_from, has_row}
 use Rattle.rv_source_laws.specs.Compressed.{is_compressed_code}
 use Rattle.rv_assemble_laws.specs.Templates.{IsTemplate}
@@ -57,14 +57,15 @@ pub record IsDrafted (t : Tables) (index : ℕ) (home : Section) (sites : List S
   -- the sizes of its statements
   pub sizes : AllByRecursion
       (λ s. s.located.placed ≡ true →
-      HasSize (form t s.located) s (slice_index_or t.alignments index 1) s.located.kind) sites
+      HasSize (form t s.located) s (alignment_at t index) s.located.kind) sites
   pub templates : AllByRecursion (λ p. IsTemplate p.template) (parts t sites)
-  pub some : 1 ≤ slice_index_or t.alignments index 1
+  pub some : 1 ≤ alignment_at t index
   -- code is aligned to 2 at most
-  pub low : goes_to_text home ≡ true → slice_index_or t.alignments index 1 ≤ 2
+  pub low : goes_to_text home ≡ true → alignment_at t index ≤ 2
 
 abbrev pub AreDrafted : Tables → List Site → Draft → Type 0
-AreDrafted t all d = (index : ℕ) (home : Section) → slice_get t.opened.sections index ≡ Some home
+AreDrafted t all d = (index : ℕ) (home : Section)
+    → slice_get (opened_of t).sections index ≡ Some home
     → IsDrafted t index home (sites_in index all) d
 
 -- the draft of a source
@@ -74,8 +75,8 @@ pub record IsDraft (ss : List Statement) (d : Draft) : Type 0 where
   -- its ordinals are numbers of 32 bits
   pub few : length ss < 2 ^ 32
   pub stand : map item_of sites ≡ d.items.items
-  pub counted : length d.sections.items ≡ length (tables ss).opened.sections
-  pub ended : length d.ends.items ≡ length (tables ss).opened.sections
+  pub counted : length d.sections.items ≡ length (opened_of (tables ss)).sections
+  pub ended : length d.ends.items ≡ length (opened_of (tables ss)).sections
   pub each : AreDrafted (tables ss) sites d
   pub open_fields : map field_of d.fields.items ≡ fields (tables ss) sites
   pub places : AllByRecursion (StandsInData sites) (tables ss).assignments

@@ -1,9 +1,9 @@
 -- The sizes of statements as their items have them, by the values of their expressions.
 
-use Rattle.std.specs.Prelude.{◌≡◌, ℕ, suc, ◌*◌, Bool, true, false, ⊤, List, ◌∷◌, length, Option, slice_index_or}
+use Rattle.std.specs.Prelude.{◌≡◌, ℕ, suc, ◌*◌, Bool, true, false, ⊤, List, ◌∷◌, length, Option}
 use Rattle.rv_text_laws.specs.Values.{Value, Constant}
 use Rattle.rv_statement.specs.Statement.{StatementKind, Label, Numbered, Instruction, Directs, Statement, Expression, Directive, Sets, Aligns_to_power, Aligns_to_bytes, Values, Strings, Zeros}
-use Rattle.rv_unit_laws.specs.Tables.{Tables, after, alignment_of, padding, string_bytes}
+use Rattle.rv_unit_laws.specs.Tables.{Tables, after, alignment_of, padding, string_bytes, alignment_at}
 use Rattle.rv_source_laws.specs.Located.{located_now}
 use Rattle.rv_source_laws.specs.Fits.{is_constant, is_low}
 use Rattle.rv_sites.specs.declared.item.Item.{Item}
@@ -45,6 +45,6 @@ IsSized v executable i begins (Directs directive) =
 abbrev pub AreSized : Tables → ℕ → Tables → List Statement → List Item → Type 0
 AreSized all k t (s ∷ ss) (i ∷ is) =
     ((located_now 1 k t s).placed ≡ true → IsSized (λ e. value_at all (located_now 1 k t s) e)
-    (located_now 1 k t s).home.executable i (slice_index_or all.alignments i.section 1) s.kind)
+    (located_now 1 k t s).home.executable i (alignment_at all i.section) s.kind)
     × AreSized all (suc k) (after t k s.kind) ss is
 AreSized all k t ss is = ⊤

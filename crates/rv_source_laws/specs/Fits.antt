@@ -1,6 +1,6 @@
 -- The map fits the sources: which rows it has, how large each is, and where each stands.
 
-use Rattle.std.specs.Prelude.{◌≡◌, ℕ, suc, ◌+◌, ◌*◌, ◌%◌, ◌≤◌, Bool, true, false, ◌&&◌, ◌==◌, IsTrue, ⊤, max, sum_by, map, List, [], ◌∷◌, ◌++◌, filter, length, Option, Some, None, nat_le, nat_lt, slice_index_or, if◌then◌else◌}
+use Rattle.std.specs.Prelude.{◌≡◌, ℕ, suc, ◌+◌, ◌*◌, ◌%◌, ◌≤◌, Bool, true, false, ◌&&◌, ◌==◌, IsTrue, ⊤, max, sum_by, map, List, [], ◌∷◌, ◌++◌, filter, length, Option, Some, None, nat_le, nat_lt, if◌then◌else◌}
 use Rattle.std.specs.List.{AllByRecursion, list_all}
 use Rattle.rv_isa.specs.declared.instruction.Inst.{Inst}
 use Rattle.rv_isa.specs.Ranges.{IsValid}
@@ -8,7 +8,7 @@ use Rattle.rv_text_laws.specs.Values.{Value, Constant}
 use Rattle.rv_statement.specs.Statement.{StatementKind, Label, Numbered, Instruction, Directs, Statement, Directive, Sets}
 use Rattle.rv_unit_laws.specs.Contributions.{Contribution, Nothing, Bytes, Zero_bytes, Alignment, contribution}
 use Rattle.rv_unit_laws.specs.Sections.{Section, goes_to_text, goes_to_rodata, goes_to_data, goes_to_bss}
-use Rattle.rv_unit_laws.specs.Tables.{Tables, tables, aligned, alignment_of, padding}
+use Rattle.rv_unit_laws.specs.Tables.{Tables, tables, aligned, alignment_of, padding, opened_of, alignment_at}
 use Rattle.rv_unit_laws.specs.Faults.{first_fault}
 use Rattle.rv_map.specs.Map.{Map}
 use Rattle.rv_map.specs.declared.map.Row.{Row}
@@ -112,7 +112,7 @@ mapped_in mapped file section =
 -- the multiple at which a section begins, by its index in its file: the greatest of its alignments, and 2 or more for code
 abbrev pub begins_at : Tables → ℕ → Section → ℕ
 begins_at t place section =
-    max (if goes_to_text section then 2 else 1) (slice_index_or t.alignments place 1)
+    max (if goes_to_text section then 2 else 1) (alignment_at t place)
 
 abbrev pub input_section : Tables → Section → List Mapped → ℕ → ℕ → InputSection
 input_section t section mapped file place =
@@ -131,7 +131,7 @@ abbrev pub input_sections_of : (Section → Bool) → List Mapped → ℕ → Li
     List InputSection
 input_sections_of goes mapped file [] = []
 input_sections_of goes mapped file (ss ∷ files) =
-    input_sections_of_file goes (tables ss) mapped file 0 (tables ss).opened.sections
+    input_sections_of_file goes (tables ss) mapped file 0 (opened_of (tables ss)).sections
     ++ input_sections_of goes mapped (suc file) files
 
 abbrev pub input_sections : (Section → Bool) → List (List Statement) → Map → List InputSection

@@ -6,7 +6,7 @@ use Rattle.rv_statement.specs.Statement.{StatementKind, Label, Numbered, Instruc
 use Rattle.rv_unit_laws.specs.Contributions.{Contribution, Nothing, contribution}
 use Rattle.rv_unit_laws.specs.Options.{Options}
 use Rattle.rv_unit_laws.specs.Sections.{Section, section_at}
-use Rattle.rv_unit_laws.specs.Tables.{Tables, at_start, after, here, stood, value, assigned, gives_location}
+use Rattle.rv_unit_laws.specs.Tables.{Tables, at_start, after, here, stood, value, assigned, gives_location, opened_of}
 
 abbrev pub contributes : Contribution → Bool
 contributes Nothing = false
@@ -47,7 +47,7 @@ located_now file ordinal t s =
       ordinal = ordinal;
       section = place.section;
       offset = place.offset;
-      home = section_at (after t ordinal s.kind).opened place.section;
+      home = section_at (opened_of (after t ordinal s.kind)) place.section;
       options = t.options;
       line = s.line;
       kind = s.kind;

@@ -8,9 +8,10 @@ use Rattle.rv_text_laws.specs.Expression.{Literal, Symbol, Here, Reference}
 use Rattle.rv_text_laws.specs.Values.{Known, InSection, Open, Refused, Value, Constant, Symbolic, Difference, Faulty, add}
 use Rattle.rv_statement.specs.declared.directive.Choice.{Choice}
 use Rattle.rv_statement.specs.Statement.{StatementKind, Label, Numbered, Instruction, Directs, Statement, Expression, Directive, Enters, Opens, Globl, Local, Sets, Aligns_to_power, Aligns_to_bytes, Values, Strings, Zeros, Chooses, Ignored}
-use Rattle.rv_unit_laws.specs.Sections.{Section, entered, entered_by}
+use Rattle.rv_unit_laws.specs.Sections.{Section, entered_by}
 use Rattle.rv_unit_laws.specs.Contributions.{Contribution, Nothing, contribution}
-use Rattle.rv_unit_laws.specs.Tables.{Tables, Labelled, Assignment, here, value, label_of, assigned_ever, is_location, gives_location, is_defined, has_location, may_set, assigned, assigned_by, chosen, with_assignment, with_label, with_section, with_chosen, with_contribution, after_directive, after, after_all}
+use Rattle.rv_unit_laws.specs.Tables.{Tables, Labelled, Assignment, here, value, label_of, assigned_ever, is_location, gives_location, is_defined, has_location, may_set, assigned, assigned_by, chosen, with_assignment, with_label, with_section, with_chosen, with_contribution, after_directive, after, after_all, opened_of}
+use Rattle.rv_unit_laws.proofs.Entering.{entering}
 use Rattle.rv_unit_laws.specs.Faults.{lowest, faults, first_fault_from}
 use Rattle.rv_unit_laws.proofs.Found.{same_bytes}
 use Rattle.rv_unit_laws.proofs.Before.{IsBefore, placed_latest, has_place_now, defined_now, before_after}
@@ -57,13 +58,9 @@ Same t u = (u.labels ≡ t.labels) × (u.assignments ≡ t.assignments)
 joined : (t u v : Tables) → Same t u → Same u v → Same t v
 joined t u v (l, a) (m, b) = (m ∙ l, b ∙ a)
 
-same_if : (b : Bool) (t u v : Tables) → Same t u → Same t v → Same t (if b then u else v)
-same_if true t u v e f = e
-same_if false t u v e f = f
-
 section_same : (t : Tables) (found : Option Section) → Same t (with_section t found)
 section_same t None = (refl, refl)
-section_same t (Some section) = same_if (length (entered t.opened section).sections == length t.opened.sections) t _ _ (refl, refl) (refl, refl)
+section_same t (Some section) = entering (λ (u : Tables). Same t u) t section (λ n at. (refl, refl)) (λ room. (refl, refl)) (refl, refl)
 
 chosen_same : (t : Tables) (found : Option Choice) → Same t (with_chosen t found)
 chosen_same t None = (refl, refl)

@@ -7,9 +7,10 @@ use Rattle.std.proofs.lemmas.List.{reverse-append}
 use Rattle.rv_text_laws.specs.Values.{Value}
 use Rattle.rv_statement.specs.declared.directive.Choice.{Choice}
 use Rattle.rv_statement.specs.Statement.{StatementKind, Label, Numbered, Instruction, Directs, Statement, Expression, Directive, Enters, Opens, Globl, Local, Sets, Aligns_to_power, Aligns_to_bytes, Values, Strings, Zeros, Chooses, Ignored}
-use Rattle.rv_unit_laws.specs.Sections.{Section, entered, entered_by}
+use Rattle.rv_unit_laws.specs.Sections.{Section, entered_by}
 use Rattle.rv_unit_laws.specs.Contributions.{Contribution, Nothing, contribution}
-use Rattle.rv_unit_laws.specs.Tables.{Tables, NumericLabel, Assignment, here, value, is_defined, may_set, assigned_by, chosen, with_assignment, with_section, with_chosen, with_contribution, after_directive, after, after_all}
+use Rattle.rv_unit_laws.specs.Tables.{Tables, NumericLabel, Assignment, here, value, is_defined, may_set, assigned_by, chosen, with_assignment, with_section, with_chosen, with_contribution, after_directive, after, after_all, opened_of}
+use Rattle.rv_unit_laws.proofs.Entering.{entering}
 use Rattle.rv_source_laws.specs.Located.{Located, is_placed, located_now, located_from}
 use Rattle.rv_assemble_laws.specs.Templates.{templates}
 use Rattle.rv_assemble_laws.specs.Sites.{Site, part_of, form}
@@ -96,7 +97,7 @@ set_same t (Some s) = same_if (may_set t s.ordinal s.name s.meaning) t _ t refl 
 
 section_same : (t : Tables) (found : Option Section) → (with_section t found).numeric_labels ≡ t.numeric_labels
 section_same t None = refl
-section_same t (Some section) = same_if (length (entered t.opened section).sections == length t.opened.sections) t _ _ refl refl
+section_same t (Some section) = entering (λ (u : Tables). u.numeric_labels ≡ t.numeric_labels) t section (λ n at. refl) (λ room. refl) refl
 
 chosen_same : (t : Tables) (found : Option Choice) → (with_chosen t found).numeric_labels ≡ t.numeric_labels
 chosen_same t None = refl

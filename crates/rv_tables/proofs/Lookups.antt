@@ -6,13 +6,11 @@ use Rattle.std.specs.Borrow.{Bor}
 use Rattle.std.specs.List.{find, list_all}
 use Rattle.std.specs.Map.{lookup}
 use Rattle.std.specs.Str.{bytes_eq}
-use Rattle.std.proofs.lemmas.List.{reverse-append, length-map}
+use Rattle.std.proofs.lemmas.List.{reverse-append, map-append, length-map}
 use Rattle.std.proofs.lemmas.Bool.{leb-true}
 use Rattle.rv_text_laws.specs.Values.{Meaning, Known, InSection, Open, Refused}
 use Rattle.std.proofs.lemmas.List.Folds.{list_all-append}
-use Rattle.rv_unit_laws.specs.Sections.{Section, place_of_name, current_section, text_section}
-use Rattle.rv_unit_laws.specs.Options.{Options}
-use Rattle.rv_unit_laws.specs.Bindings.{Bindings}
+use Rattle.rv_unit_laws.specs.Sections.{Section, place_of_name}
 use Rattle.rv_unit_laws.specs.Tables as laws
 use Rattle.rv_unit_laws.proofs.Found.{bytes_swap, same_bytes, find_all, and_both}
 use Rattle.rv_unit_laws.proofs.Before.{IsBefore, label_before, set_now, none_later, defined_now, has_place_now, placed_latest}
@@ -20,7 +18,7 @@ use Rattle.rv_unit_laws.proofs.Entering.{place_more, or_last}
 use Rattle.std.proofs.Math.ListN.{set}
 use Rattle.rv_tables.specs.declared.section.Extent.{Extent}
 use Rattle.rv_tables.specs.declared.tables.Label.{Label}
-use Rattle.rv_tables.specs.Sections.{section_of, extent_section}
+use Rattle.rv_tables.specs.Sections.{section_of, extent_section, extent_of}
 use Rattle.rv_tables.specs.Tables.{labelled_of, label_at}
 
 -- a label by its name
@@ -50,12 +48,12 @@ indexed_first es k ss s only first same name =
 -- a name that is set, and one that is not
 pub named_set : (t : laws.Tables) (o : ℕ) (name : List ℕ) (s : laws.Assignment) → IsBefore t o → laws.assigned_ever t.assignments name ≡ Some s → laws.named t false o name ≡ s.meaning
 named_set t o name s h is =
-    ap (λ f. laws.assigned_first f (laws.labelled t.opened (laws.label_of t.labels false o name) (laws.assigned_later false (laws.assigned_ever t.assignments name)))) (set_now t o name h ∙ is)
+    ap (λ f. laws.assigned_first f (laws.labelled (laws.opened_of t) (laws.label_of t.labels false o name) (laws.assigned_later false (laws.assigned_ever t.assignments name)))) (set_now t o name h ∙ is)
 
-pub named_other : (t : laws.Tables) (o : ℕ) (name : List ℕ) → IsBefore t o → laws.assigned_ever t.assignments name ≡ None → laws.named t false o name ≡ laws.labelled t.opened (laws.label_of t.labels true 0 name) Open
+pub named_other : (t : laws.Tables) (o : ℕ) (name : List ℕ) → IsBefore t o → laws.assigned_ever t.assignments name ≡ None → laws.named t false o name ≡ laws.labelled (laws.opened_of t) (laws.label_of t.labels true 0 name) Open
 named_other t o name h is =
-    ap (λ f. laws.assigned_first f (laws.labelled t.opened (laws.label_of t.labels false o name) Open)) (set_now t o name h ∙ is)
-    ∙ ap (λ l. laws.labelled t.opened l Open) (label_before t o name h)
+    ap (λ f. laws.assigned_first f (laws.labelled (laws.opened_of t) (laws.label_of t.labels false o name) Open)) (set_now t o name h ∙ is)
+    ∙ ap (λ l. laws.labelled (laws.opened_of t) l Open) (label_before t o name h)
 
 -- the nearest numeric label before the next statement
 pub numeric_label_latest : (t : laws.Tables) (o number : ℕ) → IsBefore t o → laws.numeric_label_before t.numeric_labels o number ≡ find (λ m. m.number == number) t.numeric_labels
@@ -135,66 +133,68 @@ pub set_one : (t : laws.Tables) (s : laws.Assignment) (more : List laws.Assignme
 set_one t s more is added = ap (λ l. record t { assignments = l }) added ∙ sym (ap (λ b. if b then record t { assignments = s ∷ t.assignments } else t) is)
 
 -- one extent of the list changes
-pub changed_map : (f : Extent → ℕ) (change : ℕ → ℕ) (es : List Extent) (n : ℕ) (e w : Extent) → n < length es → e ≡ get_or es n e → f w ≡ change (f e) → map f (set es n w) ≡ laws.changed_at n change (map f es)
-changed_map f change [] n e w inside at is = absurd (omega arith)
-changed_map f change (x ∷ xs) zero e w inside at is = ap (λ r. r ∷ map f xs) (is ∙ ap (λ y. change (f y)) at)
-changed_map f change (x ∷ xs) (suc n) e w inside at is = ap (λ r. f x ∷ r) (changed_map f change xs n e w (omega arith) at is)
+changed_map : (change : laws.Extent → laws.Extent) (es : List Extent) (n : ℕ) (e w : Extent) → n < length es → e ≡ get_or es n e → extent_of w ≡ change (extent_of e)
+    → map extent_of (set es n w) ≡ laws.changed_at n change (map extent_of es)
+changed_map change [] n e w inside at is = absurd (omega arith)
+changed_map change (x ∷ xs) zero e w inside at is = ap (λ r. r ∷ map extent_of xs) (is ∙ ap (λ y. change (extent_of y)) at)
+changed_map change (x ∷ xs) (suc n) e w inside at is = ap (λ r. extent_of x ∷ r) (changed_map change xs n e w (omega arith) at is)
 
-pub same_map : {Y : Type 0} (g : Extent → Y) (es : List Extent) (n : ℕ) (e w : Extent) → n < length es → e ≡ get_or es n e → g w ≡ g e → map g (set es n w) ≡ map g es
-same_map g [] n e w inside at is = absurd (omega arith)
-same_map g (x ∷ xs) zero e w inside at is = ap (λ r. r ∷ map g xs) (is ∙ ap g at)
-same_map g (x ∷ xs) (suc n) e w inside at is = ap (λ r. g x ∷ r) (same_map g xs n e w (omega arith) at is)
+-- the sections alone
+abbrev pub sections_in : List Extent → List Section
+sections_in es = map (λ (e : laws.Extent). e.section) (map extent_of es)
 
-pub index_map : {Y : Type 0} (g : Extent → Y) (es : List Extent) (n : ℕ) (e : Extent) (d : Y) → n < length es → e ≡ get_or es n e → slice_index_or (map g es) n d ≡ g e
-index_map g [] n e d inside at = absurd (omega arith)
-index_map g (x ∷ xs) zero e d inside at = ap g (sym at)
-index_map g (x ∷ xs) (suc n) e d inside at = index_map g xs n e d (omega arith) at
+pub sections_set : (es : List Extent) (n : ℕ) (e w : Extent) → n < length es → e ≡ get_or es n e → section_of w.section ≡ section_of e.section → sections_in (set es n w) ≡ sections_in es
+sections_set [] n e w inside at is = absurd (omega arith)
+sections_set (x ∷ xs) zero e w inside at is = ap (λ r. r ∷ sections_in xs) (is ∙ ap (λ (y : Extent). section_of y.section) at)
+sections_set (x ∷ xs) (suc n) e w inside at is = ap (λ r. section_of x.section ∷ r) (sections_set xs n e w (omega arith) at is)
 
-abbrev pub shown : List Section → List ℕ → List ℕ → ℕ → List laws.Labelled → List laws.NumericLabel → List laws.Assignment → Options → List Options → Bindings → laws.Tables
-shown sections ends alignments current labels numeric_labels assignments options kept bindings = record {
-  opened = record { sections = sections; current = current };
-  ends = ends;
-  alignments = alignments;
-  labels = labels;
-  numeric_labels = numeric_labels;
-  assignments = assignments;
-  options = options;
-  kept = kept;
-  bindings = bindings;
-}
+pub sections_append : (es : List Extent) (e : Extent) → sections_in (es ++ e ∷ []) ≡ sections_in es ++ section_of e.section ∷ []
+sections_append es e = ap (map (λ (x : laws.Extent). x.section)) (map-append extent_of es (e ∷ [])) ∙ map-append (λ (x : laws.Extent). x.section) (map extent_of es) (extent_of e ∷ [])
+
+pub sections_length : (es : List Extent) → length (sections_in es) ≡ length es
+sections_length es = length-map (map extent_of es) (λ (x : laws.Extent). x.section) ∙ length-map es extent_of
+
+-- they and their alignments, as the code has them
+pub sections_are : (es : List Extent) → map extent_section es ≡ sections_in es
+sections_are [] = refl
+sections_are (e ∷ es) = ap (λ l. section_of e.section ∷ l) (sections_are es)
+
+pub alignments_are : (es : List Extent) → map (λ (e : Extent). e.alignment) es ≡ map (λ (e : laws.Extent). e.alignment) (map extent_of es)
+alignments_are [] = refl
+alignments_are (e ∷ es) = ap (λ l. e.alignment ∷ l) (alignments_are es)
+
+-- an extent by its index
+pub section_found : (es : List Extent) (i : ℕ) (e w : Extent) (d : Section) → i < length es → e ≡ slice_index_or es i w → section_of e.section ≡ slice_index_or (sections_in es) i d
+section_found [] i e w d inside is = absurd (omega arith)
+section_found (x ∷ xs) zero e w d inside is = ap (λ (y : Extent). section_of y.section) is
+section_found (x ∷ xs) (suc i) e w d inside is = section_found xs i e w d (omega arith) is
+
+pub bytes_found : (es : List Extent) (i : ℕ) (e w : Extent) (d : ℕ) → i < length es → e ≡ slice_index_or es i w → e.bytes ≡ slice_index_or (map (λ (x : laws.Extent). x.bytes) (map extent_of es)) i d
+bytes_found [] i e w d inside is = absurd (omega arith)
+bytes_found (x ∷ xs) zero e w d inside is = ap (λ (y : Extent). y.bytes) is
+bytes_found (x ∷ xs) (suc i) e w d inside is = bytes_found xs i e w d (omega arith) is
 
 -- data at the end of the current section
-pub extend_is : (es : List Extent) (n : ℕ) (e w : Extent) (bytes : ℕ) (a : Option ℕ) (ls : List laws.Labelled) (ms : List laws.NumericLabel) (ss : List laws.Assignment) (options : Options) (kept : List Options) (bindings : Bindings)
+abbrev as_extent : Section → ℕ → ℕ → laws.Extent
+as_extent section bytes alignment = record { section = section; bytes = bytes; alignment = alignment }
+
+pub extend_is : (es : List Extent) (n : ℕ) (e w : Extent) (bytes : ℕ) (a : Option ℕ)
     → n < length es → e ≡ get_or es n e → section_of w.section ≡ section_of e.section → w.bytes ≡ e.bytes + laws.counted_in (section_of e.section) bytes → w.alignment ≡ max e.alignment (max 1 (laws.or_none a))
-    → let t = shown (map extent_section es) (map (λ (x : Extent). x.bytes) es) (map (λ (x : Extent). x.alignment) es) n ls ms ss options kept bindings in
-    shown (map extent_section (set es n w)) (map (λ (x : Extent). x.bytes) (set es n w)) (map (λ (x : Extent). x.alignment) (set es n w)) n ls ms ss options kept bindings ≡ laws.with_data t bytes a
-extend_is es n e w bytes a ls ms ss options kept bindings inside at section size alignment =
-    let t = shown (map extent_section es) (map (λ (x : Extent). x.bytes) es) (map (λ (x : Extent). x.alignment) es) n ls ms ss options kept bindings in
-    let more : Section → ℕ → ℕ = λ s k. k + laws.counted_in s bytes in
-    let current : current_section t.opened ≡ section_of e.section = index_map extent_section es n e text_section inside at in
-    ap (λ x. shown x (map (λ (x : Extent). x.bytes) (set es n w)) (map (λ (x : Extent). x.alignment) (set es n w)) n ls ms ss options kept bindings) (same_map extent_section es n e w inside at section)
-    ∙ ap (λ x. shown (map extent_section es) x (map (λ (x : Extent). x.alignment) (set es n w)) n ls ms ss options kept bindings) (changed_map (λ (x : Extent). x.bytes) (more (section_of e.section)) es n e w inside at size)
-    ∙ ap (λ x. shown (map extent_section es) (laws.changed_at n (more (section_of e.section)) (map (λ (x : Extent). x.bytes) es)) x n ls ms ss options kept bindings) (changed_map (λ (x : Extent). x.alignment) (λ k. max k (max 1 (laws.or_none a))) es n e w inside at alignment)
-    ∙ ap (λ s. record t {
-      ends = laws.changed_at n (more s) t.ends;
-      alignments = laws.changed_at n (λ k. max k (max 1 (laws.or_none a))) t.alignments;
-    }) (sym current)
+    → map extent_of (set es n w) ≡ laws.changed_at n (laws.extended bytes a) (map extent_of es)
+extend_is es n e w bytes a inside at section size alignment =
+    changed_map (laws.extended bytes a) es n e w inside at
+    (ap (λ s. as_extent s w.bytes w.alignment) section
+    ∙ ap (λ k. as_extent (section_of e.section) k w.alignment) size
+    ∙ ap (λ k. as_extent (section_of e.section) (e.bytes + laws.counted_in (section_of e.section) bytes) k) alignment)
 
 -- past the last section nothing changes
-changed_past : (n : ℕ) (change : ℕ → ℕ) (ns : List ℕ) → length ns ≤ n → laws.changed_at n change ns ≡ ns
+changed_past : {X : Type 0} (n : ℕ) (change : X → X) (xs : List X) → length xs ≤ n → laws.changed_at n change xs ≡ xs
 changed_past n change [] past = refl
 changed_past zero change (x ∷ xs) past = absurd (omega arith)
 changed_past (suc n) change (x ∷ xs) past = ap (λ r. x ∷ r) (changed_past n change xs (omega arith))
 
-pub extend_past : (es : List Extent) (n bytes : ℕ) (a : Option ℕ) (ls : List laws.Labelled) (ms : List laws.NumericLabel) (ss : List laws.Assignment) (options : Options) (kept : List Options) (bindings : Bindings) → length es ≤ n
-    → let t = shown (map extent_section es) (map (λ (x : Extent). x.bytes) es) (map (λ (x : Extent). x.alignment) es) n ls ms ss options kept bindings in
-    t ≡ laws.with_data t bytes a
-extend_past es n bytes a ls ms ss options kept bindings past =
-    let t = shown (map extent_section es) (map (λ (x : Extent). x.bytes) es) (map (λ (x : Extent). x.alignment) es) n ls ms ss options kept bindings in
-    let more : ℕ → ℕ = λ k. k + laws.counted_in (current_section t.opened) bytes in
-    let up : ℕ → ℕ = λ k. max k (max 1 (laws.or_none a)) in
-    ap (λ x. record t { ends = x }) (sym (changed_past n more t.ends (omega (arith, past, length-map es (λ (x : Extent). x.bytes)))))
-    ∙ ap (λ x. record t { ends = laws.changed_at n more t.ends; alignments = x }) (sym (changed_past n up t.alignments (omega (arith, past, length-map es (λ (x : Extent). x.alignment)))))
+pub extend_past : (es : List Extent) (n bytes : ℕ) (a : Option ℕ) → length es ≤ n → map extent_of es ≡ laws.changed_at n (laws.extended bytes a) (map extent_of es)
+extend_past es n bytes a past = sym (changed_past n (laws.extended bytes a) (map extent_of es) (omega (arith, past, length-map es extent_of)))
 
 -- past the longest section nothing fits
 pub past_all : (offset bytes : ℕ) → laws.longest_section < offset → 0 ≡ laws.within offset bytes

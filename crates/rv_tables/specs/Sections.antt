@@ -20,3 +20,7 @@ extent_section e = section_of e.section
 
 abbrev pub offset_of : SectionOffset → tables.SectionOffset
 offset_of p = record { section = p.section; offset = p.offset }
+
+abbrev pub extent_of : Extent → tables.Extent
+extent_of e =
+    record { section = section_of e.section; bytes = e.bytes; alignment = e.alignment }

@@ -17,9 +17,8 @@ use Rattle.rv_tables.specs.declared.tables.Label.{Label}
 use Rattle.rv_tables.specs.declared.number.Number.{Number}
 use Rattle.rv_tables.specs.declared.tables.NumericLabel.{NumericLabel}
 use Rattle.rv_tables.specs.declared.tables.Tables.{Tables}
-use Rattle.rv_tables.specs.declared.section.Extent.{Extent}
 use Rattle.rv_tables.specs.Options.{options_of}
-use Rattle.rv_tables.specs.Sections.{offset_of, extent_section}
+use Rattle.rv_tables.specs.Sections.{offset_of, extent_of}
 
 abbrev pub labelled_of : Bor (List ℕ) × Label → laws.Labelled
 labelled_of e = record { name = e.0.now; ordinal = e.1.ordinal; place = offset_of e.1.place }
@@ -35,9 +34,6 @@ abbrev pub assignment_of : Assignment → laws.Assignment
 assignment_of s =
     record { name = s.name.now; ordinal = s.ordinal; meaning = meaning_of s.meaning; plus = s.plus }
 
-abbrev pub opened_by : List Extent → ℕ → sections.Opened
-opened_by extents current = record { sections = map extent_section extents; current = current }
-
 -- the binding that was said last of a name; else it is local
 abbrev pub binding_in : {S : Type 0} → IndexMap (Bor (List ℕ)) Binding S → List ℕ → Binding
 binding_in bindings name =
@@ -46,9 +42,8 @@ binding_in bindings name =
 -- the tables, of which the code has assignments, numeric labels and kept options with the latest last
 abbrev pub tables_of : Tables → laws.Tables
 tables_of b = record {
-  opened = opened_by b.extents.items b.current;
-  ends = map (λ (e : Extent). e.bytes) b.extents.items;
-  alignments = map (λ (e : Extent). e.alignment) b.extents.items;
+  extents = map extent_of b.extents.items;
+  current = b.current;
   labels = map labelled_of b.labels.entries;
   numeric_labels = reverse (map numeric_label_of b.numeric_labels.items);
   assignments = reverse (map assignment_of b.assignments.items);
@@ -75,7 +70,7 @@ assignments_at by_name name =
 pub record IsIndexed (b : Tables) : Type 0 where
   pub numbers : (name : List ℕ) →
       get_by (λ (k : Bor (List ℕ)). bytes_eq name k.now) b.numbers
-      ≡ sections.place_of_name (map extent_section b.extents.items) name
+      ≡ sections.place_of_name (laws.opened_of (tables_of b)).sections name
   pub assignments : (name : List ℕ) →
       assignments_at b.by_name name
       ≡ filter (λ (g : Assignment). bytes_eq g.name.now name) b.assignments.items

@@ -160,7 +160,8 @@ impl<'a> Tables<'a> {
 
     /// A section by its number.
     pub fn section_at(&self, number: u32) -> Section<'a>
-        ensures { section_of result ≡ sections.section_at (tables_of self.now).opened number }
+        ensures { section_of result
+            ≡ sections.section_at (laws.opened_of (tables_of self.now)) number }
     {
         match self.extents.get(number as usize) {
             Some(extent) => extent.section,
@@ -170,7 +171,8 @@ impl<'a> Tables<'a> {
 
     /// What an offset means: in data it has a known distance from others of its section.
     pub fn stands(&self, place: SectionOffset) -> Meaning
-        ensures { meaning_of result ≡ laws.stands (tables_of self.now).opened (offset_of place) }
+        ensures { meaning_of result
+            ≡ laws.stands (laws.opened_of (tables_of self.now)) (offset_of place) }
     {
         if self.section_at(place.section).executable {
             Meaning::Open
@@ -282,7 +284,7 @@ impl<'a> Tables<'a> {
     /// What a name that is not set means so far.
     fn labelled(&self, name: &[u8]) -> Meaning
         ensures { meaning_of result
-            ≡ laws.labelled (tables_of self.now).opened
+            ≡ laws.labelled (laws.opened_of (tables_of self.now))
             (laws.label_of (tables_of self.now).labels true 0 name.now) Open }
     {
         match self.label(name) {
@@ -330,7 +332,10 @@ impl<'a> Tables<'a> {
 
     /// Whether a section of the name is open.
     pub fn knows(&self, name: &[u8]) -> bool
-        ensures { IsIndexed self.now → result ≡ is_some (sections.place_of_name (tables_of self.now).opened.sections name.now) }
+        ensures { IsIndexed self.now →
+            result
+            ≡ is_some
+            (sections.place_of_name (laws.opened_of (tables_of self.now)).sections name.now) }
     {
         self.numbers.get(&name).is_some()
     }

@@ -5,16 +5,16 @@ use Rattle.rv_text_laws.specs.Bytes.{value as digits_value}
 use Rattle.rv_text_laws.specs.Expression.{Literal, Symbol, Here, Reference}
 use Rattle.rv_text_laws.specs.Values.{Constant}
 use Rattle.rv_statement.specs.Statement.{Statement, Expression}
-use Rattle.rv_unit_laws.specs.Tables.{Tables, SectionOffset, NumericLabel, at_start, tables, after_all, numeric_label_after, forward_in, meaning, value}
+use Rattle.rv_unit_laws.specs.Tables.{Tables, SectionOffset, NumericLabel, at_start, tables, after_all, numeric_label_after, forward_in, meaning, value, opened_of}
 use Rattle.rv_unit_laws.proofs.Before.{before_all, before_start}
 use Rattle.rv_unit_laws.proofs.Settled.{Agree, is_settled, constant_same, constant_later}
 use Rattle.rv_unit.specs.Unit.{passed}
 use Rattle.rv_unit.proofs.Passed.{passed_rest}
 use Rattle.rv_unit.proofs.Scoped.{past_name, past_here, past_back}
 
-module _ (ss : List Statement) (i : ℕ) (p : SectionOffset) (within : i ≤ length ss) (inside : p.section < length (passed ss i).opened.sections) where
+module _ (ss : List Statement) (i : ℕ) (p : SectionOffset) (within : i ≤ length ss) (inside : p.section < length (opened_of (passed ss i)).sections) where
   -- a numeric label that comes later is no constant
-  ahead : (o : Tables) (found : Option NumericLabel) (digits : List ℕ) → is_settled (forward_in o.opened false found) ≡ true → meaning (passed ss i) false (i + 1) p (Reference digits true) ≡ forward_in o.opened false found
+  ahead : (o : Tables) (found : Option NumericLabel) (digits : List ℕ) → is_settled (forward_in (opened_of o) false found) ≡ true → meaning (passed ss i) false (i + 1) p (Reference digits true) ≡ forward_in (opened_of o) false found
   ahead o None digits e = absurd (cc)
   ahead o (Some m) digits e = absurd (cc)
 

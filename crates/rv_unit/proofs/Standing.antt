@@ -1,12 +1,12 @@
 -- The statement at an index, by the tables of the whole source.
 
-use Rattle.std.proofs.Common.{◌≡◌, ℕ, ◌+◌, ◌<◌, ◌≤◌, Bool, ◌&&◌, ◌||◌, false, List, length, drop, get_or, nat_lt, refl, sym, ap, ◌∙◌, subst, arith}
+use Rattle.std.proofs.Common.{◌≡◌, ℕ, ◌+◌, ◌<◌, ◌≤◌, Bool, ◌&&◌, ◌||◌, false, List, length, drop, get_or, nat_lt, refl, sym, ap, ◌∙◌, subst, arith, Some}
 use Rattle.std.specs.Prelude.{not, is_some, if◌then◌else◌}
 use Rattle.std.proofs.lemmas.List.{get_or-map, length-map}
 use Rattle.rv_statement.specs.Statement.{StatementKind, Statement as SpecStatement}
 use Rattle.rv_statement.specs.declared.statement.Statement.{Statement}
 use Rattle.rv_statement.specs.View.{statement_of}
-use Rattle.rv_unit_laws.specs.Sections.{Section, place_of_name, most_sections, entered, section_at, current_section}
+use Rattle.rv_unit_laws.specs.Sections.{Section, place_of_name, most_sections, section_at, current_section}
 use Rattle.rv_unit_laws.specs.Tables as laws
 use Rattle.rv_unit_laws.proofs.Before.{placed_latest}
 use Rattle.rv_unit_laws.proofs.Asked.{defined_kept, location_kept, home_same, too_many, places_length, place_at, options_at, options_length, after_depth, depth_after}
@@ -31,13 +31,13 @@ at_here u i o p kind at outside =
 
 -- its section
 pub at_home : (u : SourceUnit) (i o : ℕ) (p : SectionOffset) (kind : StatementKind) → IsAt u i o p kind → laws.enters kind ≡ false
-    → section_at (tables_of u.tables).opened p.section ≡ current_section (passed (said u) i).opened
+    → section_at (laws.opened_of (tables_of u.tables)) p.section ≡ current_section (laws.opened_of (passed (said u) i))
 at_home u i o p kind at outside =
     let ss = said u in
     let t = passed ss i in
-    ap (λ (w : laws.Tables). section_at w.opened p.section) at.filled.tables
-    ∙ ap (λ (q : laws.SectionOffset). section_at (laws.tables ss).opened q.section) (at_here u i o p kind at outside)
-    ∙ ap (λ (w : laws.Tables). section_at w.opened t.opened.current) (passed_rest ss i (within u i o p kind at))
+    ap (λ (w : laws.Tables). section_at (laws.opened_of w) p.section) at.filled.tables
+    ∙ ap (λ (q : laws.SectionOffset). section_at (laws.opened_of (laws.tables ss)) q.section) (at_here u i o p kind at outside)
+    ∙ ap (λ (w : laws.Tables). section_at (laws.opened_of w) t.current) (passed_rest ss i (within u i o p kind at))
     ∙ home_same t (i + 1) (drop i ss) (passed_stood ss i).opened
 
 -- what is defined before it
@@ -60,12 +60,12 @@ at_location u i o p kind name at =
     ∙ location_kept (passed ss i) (laws.tables ss) (i + 1) name (passed_before ss i inside) (passed_keeps ss i inside)
 
 -- whether the section that it enters is one too many
-pub at_limit : (u : SourceUnit) (i : ℕ) (section : Section) → IsFilled u → i < length (said u) → (passed (said u) (i + 1)).opened ≡ entered (passed (said u) i).opened section
-    → not (is_some (place_of_name (tables_of u.tables).opened.sections section.name))
-    ≡ (not (is_some (place_of_name (passed (said u) i).opened.sections section.name)) && not (nat_lt (length (passed (said u) i).opened.sections) most_sections))
+pub at_limit : (u : SourceUnit) (i : ℕ) (section : Section) → IsFilled u → i < length (said u) → laws.opened_of (passed (said u) (i + 1)) ≡ laws.opened_of (laws.with_section (passed (said u) i) (Some section))
+    → not (is_some (place_of_name (laws.opened_of (tables_of u.tables)).sections section.name))
+    ≡ (not (is_some (place_of_name (laws.opened_of (passed (said u) i)).sections section.name)) && not (nat_lt (length (laws.opened_of (passed (said u) i)).sections) most_sections))
 at_limit u i section f inside is =
     let ss = said u in
-    ap (λ (w : laws.Tables). not (is_some (place_of_name w.opened.sections section.name))) (f.tables ∙ passed_rest ss (i + 1) (omega (arith, inside)))
+    ap (λ (w : laws.Tables). not (is_some (place_of_name (laws.opened_of w).sections section.name))) (f.tables ∙ passed_rest ss (i + 1) (omega (arith, inside)))
     ∙ too_many (passed ss i) (passed ss (i + 1)) (i + 1 + 1) (drop (i + 1) ss) section is
 
 -- each statement has a place

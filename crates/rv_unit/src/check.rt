@@ -9,7 +9,6 @@ ghost use Rattle.rv_statement.specs.Statement.{Operand as SpecOperand, Instructi
 ghost use Rattle.rv_statement.specs.declared.mnemonic.Mnemonic.{Mnemonic as SpecMnemonic};
 ghost use Rattle.rv_statement.specs.View.{bytes_of, quoted, setting_of, statement_kind};
 ghost use Rattle.rv_unit_laws.specs.Faults as faults;
-ghost use Rattle.rv_unit_laws.specs.Sections.{entered};
 ghost use Rattle.rv_unit_laws.specs.Tables as laws;
 ghost use Rattle.rv_unit_laws.proofs.Asked.{depth_after as depth_then};
 ghost use Rattle.rv_tables.specs.Sections.{section_of, offset_of};
@@ -213,10 +212,11 @@ impl<'a> Unit<'a> {
     /// The fault of a section that is entered: it is one more than there may be, so that the source has none of its name.
     fn fault_of_section(&self, section: Section<'_>) -> Option<SourceCode>
         ensures { (index : ℕ) → IsFilled self.now → index < length (said self.now)
-            → (passed (said self.now) (index + 1)).opened
-            ≡ entered (passed (said self.now) index).opened (section_of section.entry)
+            → laws.opened_of (passed (said self.now) (index + 1))
+            ≡ laws.opened_of
+            (laws.with_section (passed (said self.now) index) (Some (section_of section.entry)))
             → IsLowest result
-            (faults.section_faults (passed (said self.now) index).opened.sections
+            (faults.section_faults (laws.opened_of (passed (said self.now) index)).sections
             (Some (section_of section.entry))) }
     {
         faulty_if(!self.tables.knows(section.name), SourceCode::Limit)

@@ -73,7 +73,7 @@ impl<'a> Unit<'a> {
     fn labelled(&self, name: &[u8]) -> Meaning
         ensures { IsIndexed (self.now).tables →
             meaning_of result
-            ≡ laws.labelled (tables_of (self.now).tables).opened
+            ≡ laws.labelled (laws.opened_of (tables_of (self.now).tables))
             (laws.label_of (tables_of (self.now).tables).labels true 0 name.now)
             (laws.assigned_later true
             (laws.assigned_ever (tables_of (self.now).tables).assignments name.now)) }
@@ -105,7 +105,7 @@ impl<'a> Unit<'a> {
         ensures { IsIndexed (self.now).tables → (o : ℕ) →
             IsBefore (tables_of (self.now).tables) o →
             meaning_of result
-            ≡ laws.backward_in (tables_of (self.now).tables).opened
+            ≡ laws.backward_in (laws.opened_of (tables_of (self.now).tables))
             (laws.numeric_label_before (tables_of (self.now).tables).numeric_labels ordinal
             (digits_value 10 digits.now)) }
     {
@@ -120,7 +120,7 @@ impl<'a> Unit<'a> {
         ensures { IsIndexed (self.now).tables → (o : ℕ) →
             IsBefore (tables_of (self.now).tables) o →
             meaning_of result
-            ≡ laws.forward_in (tables_of (self.now).tables).opened true
+            ≡ laws.forward_in (laws.opened_of (tables_of (self.now).tables)) true
             (laws.numeric_label_after (tables_of (self.now).tables).numeric_labels ordinal
             (digits_value 10 digits.now)) }
     {
@@ -186,7 +186,7 @@ impl<'a> Unit<'a> {
         ensures { IsIndexed (self.now).tables → (o : ℕ) →
             IsBefore (tables_of (self.now).tables) o →
             meaning_of result
-            ≡ laws.labelled (tables_of (self.now).tables).opened
+            ≡ laws.labelled (laws.opened_of (tables_of (self.now).tables))
             (laws.label_of (tables_of (self.now).tables).labels false ordinal name.now) Open }
     {
         match self.tables.label_before(ordinal, name) {
@@ -200,7 +200,7 @@ impl<'a> Unit<'a> {
         ensures { IsIndexed (self.now).tables → (o : ℕ) →
             IsBefore (tables_of (self.now).tables) o →
             meaning_of result
-            ≡ laws.forward_in (tables_of (self.now).tables).opened false
+            ≡ laws.forward_in (laws.opened_of (tables_of (self.now).tables)) false
             (laws.numeric_label_after (tables_of (self.now).tables).numeric_labels ordinal
             (digits_value 10 digits.now)) }
     {
@@ -239,7 +239,7 @@ impl<'a> Unit<'a> {
     fn past_meaning(&self, ordinal: usize, place: SectionOffset, symbol: Symbol<'_>) -> Meaning
         ensures { (index : ℕ) → IsFilled self.now → index ≤ length (said self.now) →
             ordinal ≡ index + 1 →
-            place.section < length (passed (said self.now) index).opened.sections
+            place.section < length (laws.opened_of (passed (said self.now) index)).sections
             → meaning_of result
             ≡ laws.meaning (passed (said self.now) index) false (index + 1) (offset_of place)
             (symbol_of symbol.entry) }
@@ -259,7 +259,7 @@ impl<'a> Unit<'a> {
     ) -> Result<Value<'a>, SourceFault>
         ensures { (index : ℕ) → IsFilled self.now → index ≤ length (said self.now) →
             ordinal ≡ index + 1 →
-            place.section < length (passed (said self.now) index).opened.sections
+            place.section < length (laws.opened_of (passed (said self.now) index)).sections
             → IsOutcome result 0
             (laws.value (passed (said self.now) index) false (index + 1) (offset_of place)
             (tree_of_expr expression.now)) }

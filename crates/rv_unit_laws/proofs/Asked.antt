@@ -1,21 +1,21 @@
 -- What the tables before a statement answer, asked of the tables of the whole source.
 
-use Rattle.std.proofs.Common.{◌≡◌, ℕ, zero, suc, ◌+◌, ◌-◌, ◌<◌, Bool, true, false, ◌&&◌, ◌||◌, ◌==◌, nat_lt, List, [], ◌∷◌, ◌++◌, length, take, drop, get_or, refl, sym, ap, ◌∙◌, arith, Option, Some, None}
+use Rattle.std.proofs.Common.{◌≡◌, ℕ, zero, suc, ◌+◌, ◌-◌, ◌<◌, Bool, true, false, ◌&&◌, ◌||◌, nat_lt, List, [], ◌∷◌, length, take, drop, get_or, refl, sym, ap, ◌∙◌, arith, Option, Some, None}
 use Rattle.std.specs.Prelude.{not, is_some, if◌then◌else◌}
 use Rattle.std.specs.Str.{bytes_eq}
 use Rattle.rv_text_laws.specs.Values.{Value}
 use Rattle.rv_statement.specs.Statement.{StatementKind, Label, Numbered, Instruction, Directs, Statement, Expression, Directive}
 use Rattle.rv_statement.specs.declared.directive.Choice.{Choice}
 use Rattle.rv_statement.specs.declared.directive.Choice.TheVariants.{Rvc, Norvc, Relax, Norelax, Push, Pop, Nopic}
-use Rattle.rv_unit_laws.specs.Sections.{Section, Opened, place_of_name, most_sections, text_section, entered_at, entered, entered_by, section_at, current_section}
+use Rattle.rv_unit_laws.specs.Sections.{Section, Opened, place_of_name, most_sections, text_section, entered_by, section_at, current_section}
 use Rattle.rv_unit_laws.specs.Options.{Options}
 use Rattle.rv_unit_laws.specs.Contributions.{Contribution, Nothing, contribution}
-use Rattle.rv_unit_laws.specs.Tables.{Tables, SectionOffset, Assignment, here, stood, places_from, options_from, value, assigned_by, chosen, label_of, assigned_before, is_defined, has_location, may_set, with_assignment, with_section, with_contribution, with_choice, with_chosen, after_directive, after, after_all}
+use Rattle.rv_unit_laws.specs.Tables.{Tables, SectionOffset, Assignment, here, stood, places_from, options_from, value, assigned_by, chosen, label_of, assigned_before, is_defined, has_location, may_set, with_assignment, with_section, with_contribution, with_choice, with_chosen, after_directive, after, after_all, opened_of}
 use Rattle.rv_unit_laws.proofs.Before.{IsBefore, label_before, set_now, has_place_now, placed_latest}
-use Rattle.rv_unit_laws.proofs.Entering.{place_more, or_last}
+use Rattle.rv_unit_laws.proofs.Entering.{place_more, or_last, sections_more, sections_count, entering, entered_new}
 use Rattle.rv_unit_laws.proofs.Found.{bytes_same}
 use Rattle.rv_unit_laws.proofs.Later.{Keeps}
-use Rattle.rv_unit_laws.proofs.Opened.{IsOpen, got, got_of, entered_in, next_opened, after_opened, stays_all, open_inside}
+use Rattle.rv_unit_laws.proofs.Opened.{IsOpen, got, got_of, entered_in, after_opened, stays_all, open_inside}
 
 -- ---- names
 
@@ -36,85 +36,70 @@ location_kept t u o name h k =
 -- ---- sections
 
 -- the current section
-pub home_same : (t : Tables) (k : ℕ) (ss : List Statement) → IsOpen t.opened → section_at (after_all t k ss).opened t.opened.current ≡ current_section t.opened
+pub home_same : (t : Tables) (k : ℕ) (ss : List Statement) → IsOpen (opened_of t) → section_at (opened_of (after_all t k ss)) t.current ≡ current_section (opened_of t)
 home_same t k ss is_open =
-    let at = got t.opened.sections t.opened.current text_section (open_inside t.opened is_open) in
-    got_of (after_all t k ss).opened.sections t.opened.current text_section (current_section t.opened) (stays_all t k ss is_open t.opened.current (current_section t.opened) at)
-
--- a section more
-abbrev with_last : Opened → Section → Opened
-with_last o section = record { sections = o.sections ++ section ∷ []; current = length o.sections }
+    let at = got (opened_of t).sections t.current text_section (open_inside (opened_of t) is_open) in
+    got_of (opened_of (after_all t k ss)).sections t.current text_section (current_section (opened_of t)) (stays_all t k ss is_open t.current (current_section (opened_of t)) at)
 
 -- a name that is known keeps its index
-known_next : (o : Opened) (found : Option Section) (name : List ℕ) (i : ℕ) → place_of_name o.sections name ≡ Some i → place_of_name (next_opened o found).sections name ≡ Some i
-known_next o None name i e = e
-known_next o (Some section) name i e = go (place_of_name o.sections section.name)
-  where
-    new : (b : Bool) → place_of_name (if b then with_last o section else o).sections name ≡ Some i
-    new true = place_more o.sections section name ∙ ap (λ f. or_last f (length o.sections) (bytes_eq section.name name)) e
-    new false = e
+known_next : (t : Tables) (found : Option Section) (name : List ℕ) (i : ℕ) → place_of_name (opened_of t).sections name ≡ Some i → place_of_name (opened_of (with_section t found)).sections name ≡ Some i
+known_next t None name i e = e
+known_next t (Some s) name i e =
+    entering (λ (u : Tables). place_of_name (opened_of u).sections name ≡ Some i) t s (λ n at. e)
+    (λ room. ap (λ l. place_of_name l name) (sections_more t s) ∙ place_more (opened_of t).sections s name ∙ ap (λ f. or_last f (length (opened_of t).sections) (bytes_eq s.name name)) e)
+    e
 
-    go : (found : Option ℕ) → place_of_name (entered_at o section found).sections name ≡ Some i
-    go (Some j) = e
-    go None = new (nat_lt (length o.sections) most_sections)
-
-known_later : (t : Tables) (k : ℕ) (ss : List Statement) (name : List ℕ) (i : ℕ) → place_of_name t.opened.sections name ≡ Some i → place_of_name (after_all t k ss).opened.sections name ≡ Some i
+known_later : (t : Tables) (k : ℕ) (ss : List Statement) (name : List ℕ) (i : ℕ) → place_of_name (opened_of t).sections name ≡ Some i → place_of_name (opened_of (after_all t k ss)).sections name ≡ Some i
 known_later t k [] name i e = e
 known_later t k (s ∷ ss) name i e =
     known_later (after t k s.kind) (suc k) ss name i
-    (ap (λ (o : Opened). place_of_name o.sections name) (after_opened t k s.kind) ∙ known_next t.opened (entered_in s.kind) name i e)
+    (ap (λ (o : Opened). place_of_name o.sections name) (after_opened t k s.kind) ∙ known_next t (entered_in s.kind) name i e)
 
 -- where there are as many sections as there may be, they stay the same
-full_next : (o : Opened) (found : Option Section) → nat_lt (length o.sections) most_sections ≡ false → (next_opened o found).sections ≡ o.sections
-full_next o None full = refl
-full_next o (Some section) full = go (place_of_name o.sections section.name)
-  where
-    new : (b : Bool) → b ≡ false → (if b then with_last o section else o).sections ≡ o.sections
-    new true e = absurd (cc)
-    new false e = refl
+full_next : (t : Tables) (found : Option Section) → nat_lt (length (opened_of t).sections) most_sections ≡ false → (opened_of (with_section t found)).sections ≡ (opened_of t).sections
+full_next t None full = refl
+full_next t (Some s) full =
+    entering (λ (u : Tables). (opened_of u).sections ≡ (opened_of t).sections) t s (λ n at. refl)
+    (λ room. absurd (let e : true ≡ false = sym room ∙ ap (λ n. nat_lt n most_sections) (sym (sections_count t)) ∙ full in cc)) refl
 
-    go : (found : Option ℕ) → (entered_at o section found).sections ≡ o.sections
-    go (Some j) = refl
-    go None = new (nat_lt (length o.sections) most_sections) full
-
-full_later : (t : Tables) (k : ℕ) (ss : List Statement) → nat_lt (length t.opened.sections) most_sections ≡ false → (after_all t k ss).opened.sections ≡ t.opened.sections
+full_later : (t : Tables) (k : ℕ) (ss : List Statement) → nat_lt (length (opened_of t).sections) most_sections ≡ false → (opened_of (after_all t k ss)).sections ≡ (opened_of t).sections
 full_later t k [] full = refl
 full_later t k (s ∷ ss) full =
-    let now : (after t k s.kind).opened.sections ≡ t.opened.sections = ap (λ (o : Opened). o.sections) (after_opened t k s.kind) ∙ full_next t.opened (entered_in s.kind) full in
+    let now : (opened_of (after t k s.kind)).sections ≡ (opened_of t).sections = ap (λ (o : Opened). o.sections) (after_opened t k s.kind) ∙ full_next t (entered_in s.kind) full in
     full_later (after t k s.kind) (suc k) ss (ap (λ l. nat_lt (length l) most_sections) now ∙ full) ∙ now
 
 -- a new section has its name
-new_known : (o : Opened) (section : Section) → place_of_name o.sections section.name ≡ None → nat_lt (length o.sections) most_sections ≡ true
-    → place_of_name (entered o section).sections section.name ≡ Some (length o.sections)
-new_known o section none room =
-    ap (λ f. place_of_name (entered_at o section f).sections section.name) none
-    ∙ ap (λ b. place_of_name (if b then with_last o section else o).sections section.name) room
-    ∙ place_more o.sections section section.name
-    ∙ ap (λ f. or_last f (length o.sections) (bytes_eq section.name section.name)) none
-    ∙ ap (or_last None (length o.sections)) (bytes_same section.name)
+new_known : (t : Tables) (s : Section) → place_of_name (opened_of t).sections s.name ≡ None → nat_lt (length (opened_of t).sections) most_sections ≡ true
+    → place_of_name (opened_of (with_section t (Some s))).sections s.name ≡ Some (length (opened_of t).sections)
+new_known t s none room =
+    ap (λ (u : Tables). place_of_name (opened_of u).sections s.name) (entered_new t s none (ap (λ n. nat_lt n most_sections) (sym (sections_count t)) ∙ room))
+    ∙ ap (λ l. place_of_name l s.name) (sections_more t s)
+    ∙ place_more (opened_of t).sections s s.name
+    ∙ ap (λ f. or_last f (length (opened_of t).sections) (bytes_eq s.name s.name)) none
+    ∙ ap (or_last None (length (opened_of t).sections)) (bytes_same s.name)
 
 -- a section that is entered is one too many where its name is not known in the end
-pub too_many : (t now : Tables) (k : ℕ) (ss : List Statement) (section : Section) → now.opened ≡ entered t.opened section
-    → not (is_some (place_of_name (after_all now k ss).opened.sections section.name))
-    ≡ (not (is_some (place_of_name t.opened.sections section.name)) && not (nat_lt (length t.opened.sections) most_sections))
-too_many t now k ss section is = go (place_of_name t.opened.sections section.name) refl
+pub too_many : (t now : Tables) (k : ℕ) (ss : List Statement) (section : Section) → opened_of now ≡ opened_of (with_section t (Some section))
+    → not (is_some (place_of_name (opened_of (after_all now k ss)).sections section.name))
+    ≡ (not (is_some (place_of_name (opened_of t).sections section.name)) && not (nat_lt (length (opened_of t).sections) most_sections))
+too_many t now k ss section is = go (place_of_name (opened_of t).sections section.name) refl
   where
-    found_later : (i : ℕ) → place_of_name (entered t.opened section).sections section.name ≡ Some i → not (is_some (place_of_name (after_all now k ss).opened.sections section.name)) ≡ false
+    found_later : (i : ℕ) → place_of_name (opened_of (with_section t (Some section))).sections section.name ≡ Some i → not (is_some (place_of_name (opened_of (after_all now k ss)).sections section.name)) ≡ false
     found_later i e =
         ap (λ f. not (is_some f)) (known_later now k ss section.name i (ap (λ (o : Opened). place_of_name o.sections section.name) is ∙ e))
 
-    by : (b : Bool) → nat_lt (length t.opened.sections) most_sections ≡ b → place_of_name t.opened.sections section.name ≡ None
-        → not (is_some (place_of_name (after_all now k ss).opened.sections section.name)) ≡ not b
-    by true room none = found_later (length t.opened.sections) (new_known t.opened section none room)
+    by : (b : Bool) → nat_lt (length (opened_of t).sections) most_sections ≡ b → place_of_name (opened_of t).sections section.name ≡ None
+        → not (is_some (place_of_name (opened_of (after_all now k ss)).sections section.name)) ≡ not b
+    by true room none = found_later (length (opened_of t).sections) (new_known t section none room)
     by false full none =
-        let same : now.opened.sections ≡ t.opened.sections = ap (λ (o : Opened). o.sections) is ∙ full_next t.opened (Some section) full in
+        let same : (opened_of now).sections ≡ (opened_of t).sections = ap (λ (o : Opened). o.sections) is ∙ full_next t (Some section) full in
         ap (λ l. not (is_some (place_of_name l section.name))) (full_later now k ss (ap (λ l. nat_lt (length l) most_sections) same ∙ full) ∙ same)
         ∙ ap (λ f. not (is_some f)) none
 
-    go : (found : Option ℕ) → place_of_name t.opened.sections section.name ≡ found
-        → not (is_some (place_of_name (after_all now k ss).opened.sections section.name)) ≡ (not (is_some found) && not (nat_lt (length t.opened.sections) most_sections))
-    go (Some i) e = found_later i (known_next t.opened (Some section) section.name i e)
-    go None e = by (nat_lt (length t.opened.sections) most_sections) refl e
+    go : (found : Option ℕ) → place_of_name (opened_of t).sections section.name ≡ found
+        → not (is_some (place_of_name (opened_of (after_all now k ss)).sections section.name)) ≡ (not (is_some found) && not (nat_lt (length (opened_of t).sections) most_sections))
+    go (Some i) e = found_later i (known_next t (Some section) section.name i e)
+    go None e = by (nat_lt (length (opened_of t).sections) most_sections) refl e
 
 -- ---- places
 
@@ -168,7 +153,7 @@ set_kept t (Some s) = if_kept (may_set t s.ordinal s.name s.meaning) _ t t.kept 
 
 section_kept : (t : Tables) (found : Option Section) → (with_section t found).kept ≡ t.kept
 section_kept t None = refl
-section_kept t (Some section) = if_kept (length (entered t.opened section).sections == length t.opened.sections) _ _ t.kept refl refl
+section_kept t (Some section) = entering (λ (u : Tables). u.kept ≡ t.kept) t section (λ n at. refl) (λ room. refl) refl
 
 dropped : (kept : List Options) → length (drop 1 kept) ≡ length kept - 1
 dropped [] = refl

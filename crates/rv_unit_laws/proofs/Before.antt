@@ -10,9 +10,10 @@ use Rattle.rv_text_laws.specs.Values.{Meaning, Known, InSection, Open, Refused, 
 use Rattle.rv_text_laws.specs.Expression.{Literal, Symbol, Here, Reference}
 use Rattle.rv_statement.specs.Statement.{StatementKind, Label, Numbered, Instruction, Directs, Statement, Expression, Directive, Sets}
 use Rattle.rv_statement.specs.declared.directive.Choice.{Choice}
-use Rattle.rv_unit_laws.specs.Sections.{Section, entered, entered_by}
+use Rattle.rv_unit_laws.specs.Sections.{Section, entered_by}
 use Rattle.rv_unit_laws.specs.Contributions.{Contribution, Nothing, Bytes, Zero_bytes, Alignment, contribution}
 use Rattle.rv_unit_laws.specs.Tables.{Tables, Labelled, NumericLabel, Assignment, at_start, here, after, after_directive, after_all, value, assigned, assigned_by, chosen, with_label, with_numeric_label, with_assignment, with_section, with_contribution, with_choice, with_chosen, with_bindings, label_of, assigned_before, assigned_ever, has_location, is_defined, may_set, is_location}
+use Rattle.rv_unit_laws.proofs.Entering.{with_new, entering}
 use Rattle.rv_unit_laws.proofs.Found.{and_both, find_all, find_all_swapped, any_all, find_none, all_weaker, same_bytes}
 
 abbrev pub all_labels : ℕ → List Labelled → Bool
@@ -272,11 +273,8 @@ before_named t o v _ h = before_next t o h
 -- sections, options and data leave the names
 before_section : (t : Tables) (section : Option Section) (o : ℕ) → IsBefore t o → IsBefore (with_section t section) o
 before_section t None o h = h
-before_section t (Some section) o h = by (length (entered t.opened section).sections == length t.opened.sections)
-  where
-    by : (b : Bool) → IsBefore (if b then record t { opened = entered t.opened section } else record t { opened = entered t.opened section; ends = t.ends ++ 0 ∷ []; alignments = t.alignments ++ 1 ∷ [] }) o
-    by true = before_sections t (record t { opened = entered t.opened section }) o refl refl refl h
-    by false = before_sections t (record t { opened = entered t.opened section; ends = t.ends ++ 0 ∷ []; alignments = t.alignments ++ 1 ∷ [] }) o refl refl refl h
+before_section t (Some section) o h =
+    entering (λ (u : Tables). IsBefore u o) t section (λ n at. before_sections t (record t { current = n }) o refl refl refl h) (λ room. before_sections t (with_new t section) o refl refl refl h) h
 
 before_choice : (t : Tables) (choice : Choice) (o : ℕ) → IsBefore t o → IsBefore (with_choice t choice) o
 before_choice t choice o h = before_sections t (with_choice t choice) o refl refl refl h

@@ -1,12 +1,11 @@
 -- Sections that are entered.
 
-use Rattle.std.proofs.Common.{◌≡◌, ℕ, suc, ◌<◌, Bool, true, false, ◌==◌, nat_lt, List, [], ◌∷◌, ◌++◌, length, refl, ap, ◌∙◌, arith, Option, Some, None, option_map, eq-eqb}
+use Rattle.std.proofs.Common.{◌≡◌, ℕ, suc, ◌<◌, Bool, true, false, nat_lt, List, [], ◌∷◌, ◌++◌, length, refl, ap, ◌∙◌, arith, Option, Some, None, option_map}
 use Rattle.std.specs.Prelude.{if◌then◌else◌}
 use Rattle.std.specs.Str.{bytes_eq}
-use Rattle.std.proofs.lemmas.Bool.{eqb-true}
-use Rattle.std.proofs.lemmas.List.{length-append}
-use Rattle.rv_unit_laws.specs.Sections.{Section, Opened, place_of_name, entered_at, most_sections}
-use Rattle.rv_unit_laws.specs.Tables.{Tables, with_section, opened_more}
+use Rattle.std.proofs.lemmas.List.{map-append, length-map}
+use Rattle.rv_unit_laws.specs.Sections.{Section, place_of_name, most_sections}
+use Rattle.rv_unit_laws.specs.Tables.{Tables, Extent, empty_extent, opened_of, entered_at, with_section}
 
 -- a name among sections and one more
 abbrev pub or_last : Option ℕ → ℕ → Bool → Option ℕ
@@ -30,16 +29,6 @@ place_more (x ∷ xs) s name = by (bytes_eq x.name name) (place_more xs s name)
     by true more = refl
     by false more = ap (option_map suc) more ∙ suc_last (place_of_name xs name) (length xs) (bytes_eq s.name name)
 
-same_length : (n : ℕ) → (n == n) ≡ true
-same_length n = eq-eqb n n refl
-
-longer : (xs : List Section) (s : Section) → (length (xs ++ s ∷ []) == length xs) ≡ false
-longer xs s = by (length (xs ++ s ∷ []) == length xs) refl
-  where
-    by : (b : Bool) → (length (xs ++ s ∷ []) == length xs) ≡ b → b ≡ false
-    by true e = absurd (let same : length (xs ++ s ∷ []) ≡ length xs = eqb-true (length (xs ++ s ∷ [])) (length xs) e in omega (arith, length-append xs (s ∷ [])))
-    by false e = refl
-
 -- a name has the index of a section
 inside_by : (b : Bool) (found : Option ℕ) (count i : ℕ) → ((j : ℕ) → found ≡ Some j → j < count) → (if b then Some 0 else option_map suc found) ≡ Some i → i < suc count
 inside_by true found count i more e = let first : 0 ≡ i = cc in omega (arith, first)
@@ -50,29 +39,37 @@ pub place_inside : (ss : List Section) (name : List ℕ) (i : ℕ) → place_of_
 place_inside [] name i e = absurd (cc)
 place_inside (s ∷ ss) name i e = inside_by (bytes_eq s.name name) (place_of_name ss name) (length ss) i (λ j at. place_inside ss name j at) e
 
--- the tables with other sections; a new one has no bytes yet
-abbrev pub more_or_same : Tables → Opened → Bool → Tables
-more_or_same t opened same =
-    if same then record t { opened = opened } else record t { opened = opened; ends = t.ends ++ 0 ∷ []; alignments = t.alignments ++ 1 ∷ [] }
+-- the tables with a section more
+abbrev pub with_new : Tables → Section → Tables
+with_new t s = record t { extents = t.extents ++ empty_extent s ∷ []; current = length t.extents }
+
+pub sections_more : (t : Tables) (s : Section) → (opened_of (with_new t s)).sections ≡ (opened_of t).sections ++ s ∷ []
+sections_more t s = map-append (λ (e : Extent). e.section) t.extents (empty_extent s ∷ [])
+
+pub sections_count : (t : Tables) → length (opened_of t).sections ≡ length t.extents
+sections_count t = length-map t.extents (λ (e : Extent). e.section)
+
+-- what holds however a section is entered
+pub entering : (P : Tables → Type 0) (t : Tables) (s : Section) → ((n : ℕ) → place_of_name (opened_of t).sections s.name ≡ Some n → P (record t { current = n }))
+    → (nat_lt (length t.extents) most_sections ≡ true → P (with_new t s)) → P t → P (with_section t (Some s))
+entering P t s known new full = go (place_of_name (opened_of t).sections s.name) refl
+  where
+    by_room : (b : Bool) → nat_lt (length t.extents) most_sections ≡ b → P (if b then with_new t s else t)
+    by_room true e = new e
+    by_room false e = full
+
+    go : (found : Option ℕ) → place_of_name (opened_of t).sections s.name ≡ found → P (entered_at t s found)
+    go (Some n) e = known n e
+    go None e = by_room (nat_lt (length t.extents) most_sections) refl
 
 -- a section whose name was opened before
-pub entered_known : (t : Tables) (s : Section) (n : ℕ) → place_of_name t.opened.sections s.name ≡ Some n
-    → with_section t (Some s) ≡ record t { opened = record { sections = t.opened.sections; current = n } }
-entered_known t s n is =
-    ap (λ o. opened_more t (entered_at t.opened s o)) is
-    ∙ ap (more_or_same t (record { sections = t.opened.sections; current = n })) (same_length (length t.opened.sections))
+pub entered_known : (t : Tables) (s : Section) (n : ℕ) → place_of_name (opened_of t).sections s.name ≡ Some n → with_section t (Some s) ≡ record t { current = n }
+entered_known t s n is = ap (entered_at t s) is
 
 -- a name for which there is no more room
-pub entered_full : (t : Tables) (s : Section) → place_of_name t.opened.sections s.name ≡ None → nat_lt (length t.opened.sections) most_sections ≡ false → with_section t (Some s) ≡ t
-entered_full t s is full =
-    ap (λ o. opened_more t (entered_at t.opened s o)) is
-    ∙ ap (λ b. opened_more t (if b then record { sections = t.opened.sections ++ s ∷ []; current = length t.opened.sections } else t.opened)) full
-    ∙ ap (more_or_same t t.opened) (same_length (length t.opened.sections))
+pub entered_full : (t : Tables) (s : Section) → place_of_name (opened_of t).sections s.name ≡ None → nat_lt (length t.extents) most_sections ≡ false → with_section t (Some s) ≡ t
+entered_full t s is full = ap (entered_at t s) is ∙ ap (λ b. if b then with_new t s else t) full
 
 -- a new section
-pub entered_new : (t : Tables) (s : Section) → place_of_name t.opened.sections s.name ≡ None → nat_lt (length t.opened.sections) most_sections ≡ true
-    → with_section t (Some s) ≡ record t { opened = record { sections = t.opened.sections ++ s ∷ []; current = length t.opened.sections }; ends = t.ends ++ 0 ∷ []; alignments = t.alignments ++ 1 ∷ [] }
-entered_new t s is room =
-    ap (λ o. opened_more t (entered_at t.opened s o)) is
-    ∙ ap (λ b. opened_more t (if b then record { sections = t.opened.sections ++ s ∷ []; current = length t.opened.sections } else t.opened)) room
-    ∙ ap (more_or_same t (record { sections = t.opened.sections ++ s ∷ []; current = length t.opened.sections })) (longer t.opened.sections s)
+pub entered_new : (t : Tables) (s : Section) → place_of_name (opened_of t).sections s.name ≡ None → nat_lt (length t.extents) most_sections ≡ true → with_section t (Some s) ≡ with_new t s
+entered_new t s is room = ap (entered_at t s) is ∙ ap (λ b. if b then with_new t s else t) room

@@ -1,18 +1,19 @@
 -- What a statement adds to its section: bytes of data, and its alignment.
 
-use Rattle.std.proofs.Common.{eq-eqb, ◌≡◌, ℕ, zero, suc, ◌+◌, ◌*◌, ◌-◌, ◌%◌, ◌^◌, ◌<◌, ◌≤◌, Bool, true, false, ◌&&◌, ◌||◌, ◌==◌, nat_lt, nat_le, List, [], ◌∷◌, ◌++◌, length, max, refl, sym, ap, ◌∙◌, subst, arith, Option, Some, None}
+use Rattle.std.proofs.Common.{◌≡◌, ℕ, zero, suc, ◌+◌, ◌*◌, ◌-◌, ◌%◌, ◌^◌, ◌<◌, ◌≤◌, Bool, true, false, ◌&&◌, ◌||◌, ◌==◌, nat_lt, nat_le, List, [], ◌∷◌, ◌++◌, length, map, max, refl, sym, ap, ◌∙◌, subst, arith, Option, Some, None}
 use Rattle.std.proofs.Math.Nat.{le-max_left, le-max_right, mul-mod_left}
 use Rattle.std.proofs.Math.Pow.{pow-lt}
 use Rattle.std.proofs.lemmas.Bool.{eqb-true, leb-true, leb-false}
 use Rattle.std.proofs.lemmas.Nat.{pow-add, pow_pos}
-use Rattle.std.proofs.lemmas.List.{length-append}
+use Rattle.std.proofs.lemmas.List.{map-append, length-map}
 use Rattle.std.specs.Prelude.{⊤, if◌then◌else◌, slice_index_or}
 use Rattle.rv_text_laws.specs.Values.{Value, Constant, Symbolic, Difference, Faulty}
 use Rattle.rv_statement.specs.Statement.{StatementKind, Label, Numbered, Instruction, Directs, Statement, Expression, Directive, Aligns_to_power, Aligns_to_bytes, Values, Strings, Zeros}
 use Rattle.rv_statement.specs.declared.directive.Choice.{Choice}
-use Rattle.rv_unit_laws.specs.Sections.{Section, Opened, current_section, entered, entered_at, entered_by, place_of_name, most_sections}
+use Rattle.rv_unit_laws.specs.Sections.{Section, text_section, current_section, entered_by}
 use Rattle.rv_unit_laws.specs.Contributions.{AlignmentForm, As_power, As_bytes, Contribution, Nothing, Bytes, Zero_bytes, Alignment, contribution}
-use Rattle.rv_unit_laws.specs.Tables.{Tables, Assignment, at_start, here, value, is_power, is_power_below, greatest_alignment, alignment_of, power_alignment, byte_alignment, alignment_as, contribution_alignment, or_none, data_bytes, contributed, counted_in, changed_at, is_defined, may_set, with_assignment, with_section, with_data, with_contribution, with_choice, with_chosen, with_bindings, with_numeric_label, assigned_by, chosen, after, after_directive, after_all}
+use Rattle.rv_unit_laws.specs.Tables.{Tables, Assignment, at_start, here, value, is_power, is_power_below, greatest_alignment, alignment_of, power_alignment, byte_alignment, alignment_as, contribution_alignment, or_none, data_bytes, contributed, counted_in, changed_at, is_defined, may_set, with_assignment, with_section, with_data, with_contribution, with_choice, with_chosen, with_bindings, with_numeric_label, assigned_by, chosen, after, after_directive, after_all, opened_of, ends_of, alignments_of, Extent, empty_extent, extended}
+use Rattle.rv_unit_laws.proofs.Entering.{with_new, sections_count, entering}
 use Rattle.rv_unit_laws.proofs.Found.{and_both}
 
 -- ---- powers of two
@@ -85,7 +86,7 @@ pub directive_aligned : (v : Expression → Value) (d : Directive) → AlignsToP
 directive_aligned v d = contribution_aligned v (contribution d)
 
 -- the number that the multiple of its section is not to be below
-abbrev least : Option ℕ → ℕ
+abbrev pub least : Option ℕ → ℕ
 least alignment = max 1 (or_none alignment)
 
 least_power : (alignment : Option ℕ) → AlignsToPower alignment → IsPower (least alignment)
@@ -118,11 +119,6 @@ changed_here i change [] d inside = absurd (omega arith)
 changed_here zero change (n ∷ ns) d inside = refl
 changed_here (suc i) change (n ∷ ns) d inside = changed_here i change ns d (omega arith)
 
-changed_length : (i : ℕ) (change : ℕ → ℕ) (ns : List ℕ) → length (changed_at i change ns) ≡ length ns
-changed_length i change [] = refl
-changed_length zero change (n ∷ ns) = refl
-changed_length (suc i) change (n ∷ ns) = ap suc (changed_length i change ns)
-
 -- a change that makes nothing less
 changed_more : (i : ℕ) (change : ℕ → ℕ) (ns : List ℕ) (d j : ℕ) → ((n : ℕ) → n ≤ change n) → slice_index_or ns j d ≤ slice_index_or (changed_at i change ns) j d
 changed_more i change [] d j more = omega arith
@@ -141,23 +137,46 @@ changed_powers zero change (n ∷ ns) keeps h (suc j) = h (suc j)
 changed_powers (suc i) change (n ∷ ns) keeps h zero = h 0
 changed_powers (suc i) change (n ∷ ns) keeps h (suc j) = changed_powers i change ns keeps (λ k. h (suc k)) j
 
+-- the alignments and the bytes of sections, one of which gets data
+changed_alignments : (i bytes : ℕ) (alignment : Option ℕ) (es : List Extent)
+    → map (λ (e : Extent). e.alignment) (changed_at i (extended bytes alignment) es) ≡ changed_at i (λ n. max n (least alignment)) (map (λ (e : Extent). e.alignment) es)
+changed_alignments i bytes alignment [] = refl
+changed_alignments zero bytes alignment (e ∷ es) = refl
+changed_alignments (suc i) bytes alignment (e ∷ es) = ap (λ l. e.alignment ∷ l) (changed_alignments i bytes alignment es)
+
+changed_ends : (i bytes : ℕ) (alignment : Option ℕ) (es : List Extent)
+    → map (λ (e : Extent). e.bytes) (changed_at i (extended bytes alignment) es)
+    ≡ changed_at i (λ n. n + counted_in (slice_index_or (map (λ (e : Extent). e.section) es) i text_section) bytes) (map (λ (e : Extent). e.bytes) es)
+changed_ends i bytes alignment [] = refl
+changed_ends zero bytes alignment (e ∷ es) = refl
+changed_ends (suc i) bytes alignment (e ∷ es) = ap (λ l. e.bytes ∷ l) (changed_ends i bytes alignment es)
+
+pub data_alignments : (t : Tables) (bytes : ℕ) (alignment : Option ℕ) → alignments_of (with_data t bytes alignment) ≡ changed_at t.current (λ n. max n (least alignment)) (alignments_of t)
+data_alignments t bytes alignment = changed_alignments t.current bytes alignment t.extents
+
+data_ends : (t : Tables) (bytes : ℕ) (alignment : Option ℕ) → ends_of (with_data t bytes alignment) ≡ changed_at t.current (λ n. n + counted_in (current_section (opened_of t)) bytes) (ends_of t)
+data_ends t bytes alignment = changed_ends t.current bytes alignment t.extents
+
+-- there are as many of both as sections
+ends_count : (t : Tables) → length (ends_of t) ≡ length (opened_of t).sections
+ends_count t = length-map t.extents (λ (e : Extent). e.bytes) ∙ sym (sections_count t)
+
+alignments_count : (t : Tables) → length (alignments_of t) ≡ length (opened_of t).sections
+alignments_count t = length-map t.extents (λ (e : Extent). e.alignment) ∙ sym (sections_count t)
+
 -- ---- one statement
 
--- no section gets fewer bytes, or begins at a lower multiple; that is a power of two; each section has both numbers
+-- no section gets fewer bytes, or begins at a lower multiple; that is a power of two
 pub record Grows (t u : Tables) : Type 0 where
-  pub ends : (j : ℕ) → slice_index_or t.ends j 0 ≤ slice_index_or u.ends j 0
-  pub alignments : (j : ℕ) → slice_index_or t.alignments j 1 ≤ slice_index_or u.alignments j 1
-  pub powers : ArePowers t.alignments → ArePowers u.alignments
-  pub each_end : length t.ends ≡ length t.opened.sections → length u.ends ≡ length u.opened.sections
-  pub each_alignment : length t.alignments ≡ length t.opened.sections → length u.alignments ≡ length u.opened.sections
+  pub ends : (j : ℕ) → slice_index_or (ends_of t) j 0 ≤ slice_index_or (ends_of u) j 0
+  pub alignments : (j : ℕ) → slice_index_or (alignments_of t) j 1 ≤ slice_index_or (alignments_of u) j 1
+  pub powers : ArePowers (alignments_of t) → ArePowers (alignments_of u)
 
-grows_same : (t u : Tables) → u.opened ≡ t.opened → u.ends ≡ t.ends → u.alignments ≡ t.alignments → Grows t u
-grows_same t u o e a = record {
-  ends = λ j. let f : slice_index_or t.ends j 0 ≡ slice_index_or u.ends j 0 = ap (λ l. slice_index_or l j 0) (sym e) in omega (arith, f);
-  alignments = λ j. let f : slice_index_or t.alignments j 1 ≡ slice_index_or u.alignments j 1 = ap (λ l. slice_index_or l j 1) (sym a) in omega (arith, f);
-  powers = λ h j. subst (λ l. IsPower (slice_index_or l j 1)) (sym a) (h j);
-  each_end = λ h. ap length e ∙ h ∙ ap (λ (p : Opened). length p.sections) (sym o);
-  each_alignment = λ h. ap length a ∙ h ∙ ap (λ (p : Opened). length p.sections) (sym o);
+grows_same : (t u : Tables) → u.extents ≡ t.extents → Grows t u
+grows_same t u same = record {
+  ends = λ j. let f : slice_index_or (ends_of t) j 0 ≡ slice_index_or (ends_of u) j 0 = ap (λ l. slice_index_or (map (λ (e : Extent). e.bytes) l) j 0) (sym same) in omega (arith, f);
+  alignments = λ j. let f : slice_index_or (alignments_of t) j 1 ≡ slice_index_or (alignments_of u) j 1 = ap (λ l. slice_index_or (map (λ (e : Extent). e.alignment) l) j 1) (sym same) in omega (arith, f);
+  powers = λ h j. subst (λ l. IsPower (slice_index_or (map (λ (e : Extent). e.alignment) l) j 1)) (sym same) (h j);
 }
 
 grows_if : (b : Bool) (t u v : Tables) → Grows t u → Grows t v → Grows t (if b then u else v)
@@ -169,79 +188,52 @@ grows_then t u v h k = record {
   ends = λ j. let f = h.ends j in let g = k.ends j in omega (arith, f, g);
   alignments = λ j. let f = h.alignments j in let g = k.alignments j in omega (arith, f, g);
   powers = λ p. k.powers (h.powers p);
-  each_end = λ e. k.each_end (h.each_end e);
-  each_alignment = λ e. k.each_alignment (h.each_alignment e);
 }
 
 grows_set : (t : Tables) (found : Option Assignment) → Grows t (with_assignment t found)
-grows_set t None = grows_same t t refl refl refl
-grows_set t (Some s) = grows_if (may_set t s.ordinal s.name s.meaning) t (record t { assignments = s ∷ t.assignments }) t (grows_same t (record t { assignments = s ∷ t.assignments }) refl refl refl) (grows_same t t refl refl refl)
+grows_set t None = grows_same t t refl
+grows_set t (Some s) = grows_if (may_set t s.ordinal s.name s.meaning) t (record t { assignments = s ∷ t.assignments }) t (grows_same t (record t { assignments = s ∷ t.assignments }) refl) (grows_same t t refl)
 
--- a section that is entered and was not open is one more
-entered_one : (o : Opened) (section : Section) → (length (entered o section).sections == length o.sections) ≡ false → length (entered o section).sections ≡ suc (length o.sections)
-entered_one o section differs = go (place_of_name o.sections section.name) differs
-  where
-    more : Opened
-    more = record { sections = o.sections ++ section ∷ []; current = length o.sections }
+-- a new section has no bytes and the least alignment, as one that isn't open
+end_new : (t : Tables) (s : Section) (j : ℕ) → slice_index_or (ends_of (with_new t s)) j 0 ≡ slice_index_or (ends_of t) j 0
+end_new t s j = ap (λ l. slice_index_or l j 0) (map-append (λ (e : Extent). e.bytes) t.extents (empty_extent s ∷ [])) ∙ one_more (ends_of t) 0 j
 
-    same : (length o.sections == length o.sections) ≡ false → length o.sections ≡ suc (length o.sections)
-    same e = absurd (let f : (length o.sections == length o.sections) ≡ true = eq-eqb (length o.sections) (length o.sections) refl in cc)
+pub alignment_new : (t : Tables) (s : Section) (j : ℕ) → slice_index_or (alignments_of (with_new t s)) j 1 ≡ slice_index_or (alignments_of t) j 1
+alignment_new t s j = ap (λ l. slice_index_or l j 1) (map-append (λ (e : Extent). e.alignment) t.extents (empty_extent s ∷ [])) ∙ one_more (alignments_of t) 1 j
 
-    new : (b : Bool) → (length (if b then more else o).sections == length o.sections) ≡ false → length (if b then more else o).sections ≡ suc (length o.sections)
-    new true e = length-append o.sections (section ∷ []) ∙ (let f : length o.sections + 1 ≡ suc (length o.sections) = omega arith in f)
-    new false e = same e
-
-    go : (found : Option ℕ) → (length (entered_at o section found).sections == length o.sections) ≡ false → length (entered_at o section found).sections ≡ suc (length o.sections)
-    go (Some i) e = same e
-    go None e = new (nat_lt (length o.sections) most_sections) e
+grows_new : (t : Tables) (s : Section) → Grows t (with_new t s)
+grows_new t s = record {
+  ends = λ j. let f = end_new t s j in omega (arith, f);
+  alignments = λ j. let f = alignment_new t s j in omega (arith, f);
+  powers = λ h j. subst IsPower (sym (alignment_new t s j)) (h j);
+}
 
 grows_section : (t : Tables) (section : Option Section) → Grows t (with_section t section)
-grows_section t None = grows_same t t refl refl refl
-grows_section t (Some section) = by (length o.sections == length t.opened.sections) refl
-  where
-    o : Opened
-    o = entered t.opened section
-
-    by : (b : Bool) → (length (entered t.opened section).sections == length t.opened.sections) ≡ b
-        → Grows t (if b then record t { opened = entered t.opened section } else record t { opened = entered t.opened section; ends = t.ends ++ 0 ∷ []; alignments = t.alignments ++ 1 ∷ [] })
-    by true same = record {
-      ends = λ j. omega arith;
-      alignments = λ j. omega arith;
-      powers = λ h. h;
-      each_end = λ h. h ∙ sym (eqb-true (length (entered t.opened section).sections) (length t.opened.sections) same);
-      each_alignment = λ h. h ∙ sym (eqb-true (length (entered t.opened section).sections) (length t.opened.sections) same);
-    }
-    by false differs =
-        let count = entered_one t.opened section differs in
-        record {
-          ends = λ j. let f = one_more t.ends 0 j in omega (arith, f);
-          alignments = λ j. let f = one_more t.alignments 1 j in omega (arith, f);
-          powers = λ h j. subst IsPower (sym (one_more t.alignments 1 j)) (h j);
-          each_end = λ h. let l = length-append t.ends (0 ∷ []) in omega (arith, l, h, count);
-          each_alignment = λ h. let l = length-append t.alignments (1 ∷ []) in omega (arith, l, h, count);
-        }
+grows_section t None = grows_same t t refl
+grows_section t (Some section) = entering (λ (u : Tables). Grows t u) t section (λ n at. grows_same t (record t { current = n }) refl) (λ room. grows_new t section) (grows_same t t refl)
 
 grows_data : (t : Tables) (bytes : ℕ) (alignment : Option ℕ) → AlignsToPower alignment → Grows t (with_data t bytes alignment)
 grows_data t bytes alignment power = record {
-  ends = λ j. changed_more t.opened.current (λ n. n + counted_in (current_section t.opened) bytes) t.ends 0 j (λ n. omega arith);
-  alignments = λ j. changed_more t.opened.current (λ n. max n (max 1 (or_none alignment))) t.alignments 1 j (λ n. le-max_left n (max 1 (or_none alignment)));
-  powers = λ h. changed_powers t.opened.current (λ n. max n (max 1 (or_none alignment))) t.alignments (λ n p. max_power n (max 1 (or_none alignment)) p (least_power alignment power)) h;
-  each_end = λ h. changed_length t.opened.current (λ n. n + counted_in (current_section t.opened) bytes) t.ends ∙ h;
-  each_alignment = λ h. changed_length t.opened.current (λ n. max n (max 1 (or_none alignment))) t.alignments ∙ h;
+  ends = λ j. subst (λ l. slice_index_or (ends_of t) j 0 ≤ slice_index_or l j 0) (sym (data_ends t bytes alignment))
+      (changed_more t.current (λ n. n + counted_in (current_section (opened_of t)) bytes) (ends_of t) 0 j (λ n. omega arith));
+  alignments = λ j. subst (λ l. slice_index_or (alignments_of t) j 1 ≤ slice_index_or l j 1) (sym (data_alignments t bytes alignment))
+      (changed_more t.current (λ n. max n (least alignment)) (alignments_of t) 1 j (λ n. le-max_left n (least alignment)));
+  powers = λ h. subst ArePowers (sym (data_alignments t bytes alignment))
+      (changed_powers t.current (λ n. max n (least alignment)) (alignments_of t) (λ n p. max_power n (least alignment) p (least_power alignment power)) h);
 }
 
 grows_contribution : (t : Tables) (v : Expression → Value) (c : Contribution) → Grows t (with_contribution t v c)
-grows_contribution t v Nothing = grows_same t t refl refl refl
+grows_contribution t v Nothing = grows_same t t refl
 grows_contribution t v (Bytes contents) = grows_data t (contributed v (here t).offset (Bytes contents)) None tt
 grows_contribution t v (Zero_bytes count) = grows_data t (contributed v (here t).offset (Zero_bytes count)) None tt
 grows_contribution t v (Alignment form number) =
     grows_data t (contributed v (here t).offset (Alignment form number)) (alignment_as form (v number)) (form_aligned form (v number))
 
 grows_choice : (t : Tables) (choice : Choice) → Grows t (with_choice t choice)
-grows_choice t choice = grows_same t (with_choice t choice) refl refl refl
+grows_choice t choice = grows_same t (with_choice t choice) refl
 
 grows_chosen : (t : Tables) (found : Option Choice) → Grows t (with_chosen t found)
-grows_chosen t None = grows_same t t refl refl refl
+grows_chosen t None = grows_same t t refl
 grows_chosen t (Some choice) = grows_choice t choice
 
 grows_directive : (t : Tables) (o : ℕ) (d : Directive) → Grows t (after_directive t o d)
@@ -255,35 +247,27 @@ grows_directive t o d =
     (grows_then t chose contributed
     (grows_then t named chose (grows_then t entered named (grows_section t (entered_by d)) (grows_set entered (assigned_by v o d))) (grows_chosen named (chosen d)))
     (grows_contribution chose v (contribution d)))
-    (grows_same contributed (with_bindings contributed d) refl refl refl)
+    (grows_same contributed (with_bindings contributed d) refl)
 
 pub grows_after : (t : Tables) (o : ℕ) (says : StatementKind) → Grows t (after t o says)
 grows_after t o (Label name) =
     let u : Tables = record t { labels = t.labels ++ record { name = name; ordinal = o; place = here t } ∷ [] } in
-    grows_if (is_defined t o name) t t u (grows_same t t refl refl refl) (grows_same t u refl refl refl)
-grows_after t o (Numbered number) = grows_same t (with_numeric_label t o number) refl refl refl
-grows_after t o (Instruction mnemonic operands) = grows_same t t refl refl refl
+    grows_if (is_defined t o name) t t u (grows_same t t refl) (grows_same t u refl)
+grows_after t o (Numbered number) = grows_same t (with_numeric_label t o number) refl
+grows_after t o (Instruction mnemonic operands) = grows_same t t refl
 grows_after t o (Directs d) = grows_directive t o d
 
 pub grows_all : (t : Tables) (o : ℕ) (ss : List Statement) → Grows t (after_all t o ss)
-grows_all t o [] = grows_same t t refl refl refl
+grows_all t o [] = grows_same t t refl
 grows_all t o (s ∷ ss) = grows_then t (after t o s.kind) (after_all (after t o s.kind) (suc o) ss) (grows_after t o s.kind) (grows_all (after t o s.kind) (suc o) ss)
 
--- each section has both numbers, of which the multiple is a power of two
-pub record IsGrown (t : Tables) : Type 0 where
-  pub ends : length t.ends ≡ length t.opened.sections
-  pub alignments : length t.alignments ≡ length t.opened.sections
-  pub powers : ArePowers t.alignments
-
-start_powers : (j : ℕ) → IsPower (slice_index_or at_start.alignments j 1)
+start_powers : (j : ℕ) → IsPower (slice_index_or (alignments_of at_start) j 1)
 start_powers zero = (0, refl)
 start_powers (suc zero) = (0, refl)
 start_powers (suc (suc j)) = (0, refl)
 
-pub grown_all : (o : ℕ) (ss : List Statement) → IsGrown (after_all at_start o ss)
-grown_all o ss =
-    let g = grows_all at_start o ss in
-    record { ends = g.each_end refl; alignments = g.each_alignment refl; powers = g.powers start_powers }
+pub grown_all : (o : ℕ) (ss : List Statement) → ArePowers (alignments_of (after_all at_start o ss))
+grown_all o ss = (grows_all at_start o ss).powers start_powers
 
 -- ---- what a directive contributes to its section
 
@@ -292,18 +276,20 @@ IsPut t o d =
     let v = value t false o (here t) in
     after_directive t o d ≡ with_data t (data_bytes v (here t).offset d) (alignment_of v d)
 
-put_end : (t : Tables) (o : ℕ) (d : Directive) → IsPut t o d → t.opened.current < length t.ends
-    → slice_index_or (after_directive t o d).ends t.opened.current 0
-    ≡ (here t).offset + counted_in (current_section t.opened) (data_bytes (value t false o (here t)) (here t).offset d)
+put_end : (t : Tables) (o : ℕ) (d : Directive) → IsPut t o d → t.current < length (ends_of t)
+    → slice_index_or (ends_of (after_directive t o d)) t.current 0
+    ≡ (here t).offset + counted_in (current_section (opened_of t)) (data_bytes (value t false o (here t)) (here t).offset d)
 put_end t o d is inside =
-    ap (λ (u : Tables). slice_index_or u.ends t.opened.current 0) is
-    ∙ changed_here t.opened.current (λ n. n + counted_in (current_section t.opened) (data_bytes (value t false o (here t)) (here t).offset d)) t.ends 0 inside
+    ap (λ (u : Tables). slice_index_or (ends_of u) t.current 0) is
+    ∙ ap (λ l. slice_index_or l t.current 0) (data_ends t (data_bytes (value t false o (here t)) (here t).offset d) (alignment_of (value t false o (here t)) d))
+    ∙ changed_here t.current (λ n. n + counted_in (current_section (opened_of t)) (data_bytes (value t false o (here t)) (here t).offset d)) (ends_of t) 0 inside
 
-put_alignment : (t : Tables) (o : ℕ) (d : Directive) → IsPut t o d → t.opened.current < length t.alignments
-    → slice_index_or (after_directive t o d).alignments t.opened.current 1 ≡ max (slice_index_or t.alignments t.opened.current 1) (max 1 (or_none (alignment_of (value t false o (here t)) d)))
+put_alignment : (t : Tables) (o : ℕ) (d : Directive) → IsPut t o d → t.current < length (alignments_of t)
+    → slice_index_or (alignments_of (after_directive t o d)) t.current 1 ≡ max (slice_index_or (alignments_of t) t.current 1) (max 1 (or_none (alignment_of (value t false o (here t)) d)))
 put_alignment t o d is inside =
-    ap (λ (u : Tables). slice_index_or u.alignments t.opened.current 1) is
-    ∙ changed_here t.opened.current (λ n. max n (max 1 (or_none (alignment_of (value t false o (here t)) d)))) t.alignments 1 inside
+    ap (λ (u : Tables). slice_index_or (alignments_of u) t.current 1) is
+    ∙ ap (λ l. slice_index_or l t.current 1) (data_alignments t (data_bytes (value t false o (here t)) (here t).offset d) (alignment_of (value t false o (here t)) d))
+    ∙ changed_here t.current (λ n. max n (max 1 (or_none (alignment_of (value t false o (here t)) d)))) (alignments_of t) 1 inside
 
 -- the directives that contribute something
 abbrev contributes : Contribution → Bool
@@ -322,23 +308,23 @@ is_put t o (Zeros count) h = refl
 is_put t o _ h = absurd (cc)
 
 -- the end of a section of data after a directive that contributes to it
-pub end_behind : (t : Tables) (o : ℕ) (d : Directive) → puts d ≡ true → IsGrown t → t.opened.current < length t.opened.sections → (current_section t.opened).executable ≡ false
-    → slice_index_or (after t o (Directs d)).ends t.opened.current 0 ≡ (here t).offset + data_bytes (value t false o (here t)) (here t).offset d
-end_behind t o d h each inside stored =
+pub end_behind : (t : Tables) (o : ℕ) (d : Directive) → puts d ≡ true → t.current < length (opened_of t).sections → (current_section (opened_of t)).executable ≡ false
+    → slice_index_or (ends_of (after t o (Directs d))) t.current 0 ≡ (here t).offset + data_bytes (value t false o (here t)) (here t).offset d
+end_behind t o d h inside stored =
     let bytes = data_bytes (value t false o (here t)) (here t).offset d in
-    put_end t o d (is_put t o d h) (subst (λ n. t.opened.current < n) (sym each.ends) inside)
+    put_end t o d (is_put t o d h) (subst (λ n. t.current < n) (sym (ends_count t)) inside)
     ∙ ap (λ b. (here t).offset + (if b then 0 else bytes)) stored
 
 -- in the end the alignment of its section is a multiple of the directive's own
-pub begins_multiple : (t : Tables) (o k : ℕ) (d : Directive) (ss : List Statement) → puts d ≡ true → IsGrown t → t.opened.current < length t.opened.sections
-    → BeginsAt (alignment_of (value t false o (here t)) d) (slice_index_or (after_all (after t o (Directs d)) k ss).alignments t.opened.current 1)
-begins_multiple t o k d ss h each inside =
+pub begins_multiple : (t : Tables) (o k : ℕ) (d : Directive) (ss : List Statement) → puts d ≡ true → ArePowers (alignments_of t) → t.current < length (opened_of t).sections
+    → BeginsAt (alignment_of (value t false o (here t)) d) (slice_index_or (alignments_of (after_all (after t o (Directs d)) k ss)) t.current 1)
+begins_multiple t o k d ss h powers inside =
     let alignment = alignment_of (value t false o (here t)) d in
-    let before = slice_index_or t.alignments t.opened.current 1 in
-    let last = slice_index_or (after_all (after t o (Directs d)) k ss).alignments t.opened.current 1 in
+    let before = slice_index_or (alignments_of t) t.current 1 in
+    let last = slice_index_or (alignments_of (after_all (after t o (Directs d)) k ss)) t.current 1 in
     let now = grows_after t o (Directs d) in
     let later = grows_all (after t o (Directs d)) k ss in
-    let asks = put_alignment t o d (is_put t o d h) (subst (λ n. t.opened.current < n) (sym each.alignments) inside) in
-    let grown : slice_index_or (after_directive t o d).alignments t.opened.current 1 ≤ last = later.alignments t.opened.current in
+    let asks = put_alignment t o d (is_put t o d h) (subst (λ n. t.current < n) (sym (alignments_count t)) inside) in
+    let grown : slice_index_or (alignments_of (after_directive t o d)) t.current 1 ≤ last = later.alignments t.current in
     let below : least alignment ≤ max before (least alignment) = le-max_right before (least alignment) in
-    begins_at alignment last (directive_aligned (value t false o (here t)) d) (later.powers (now.powers each.powers) t.opened.current) (omega (arith, asks, grown, below))
+    begins_at alignment last (directive_aligned (value t false o (here t)) d) (later.powers (now.powers powers) t.current) (omega (arith, asks, grown, below))

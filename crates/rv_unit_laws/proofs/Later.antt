@@ -1,6 +1,6 @@
 -- What comes later changes nothing of what was defined before.
 
-use Rattle.std.proofs.Common.{◌≡◌, ℕ, suc, ◌<◌, Bool, true, false, cond, ◌&&◌, ◌==◌, nat_lt, List, [], ◌∷◌, ◌++◌, length, refl, sym, ap, ◌∙◌, arith, Option, Some, None}
+use Rattle.std.proofs.Common.{◌≡◌, ℕ, suc, ◌<◌, Bool, true, false, cond, ◌&&◌, nat_lt, List, [], ◌∷◌, ◌++◌, refl, sym, ap, ◌∙◌, arith, Option, Some, None}
 use Rattle.std.specs.Prelude.{if◌then◌else◌}
 use Rattle.std.specs.List.{find}
 use Rattle.std.proofs.lemmas.Bool.{ltb-true, lt-ltb}
@@ -8,9 +8,10 @@ use Rattle.rv_text_laws.specs.Values.{Known, InSection, Open, Refused, Value, Co
 use Rattle.rv_text_laws.specs.Expression.{Literal, Symbol, Here, Reference}
 use Rattle.rv_statement.specs.Statement.{StatementKind, Label, Numbered, Instruction, Directs, Statement, Expression, Directive, Sets}
 use Rattle.rv_statement.specs.declared.directive.Choice.{Choice}
-use Rattle.rv_unit_laws.specs.Sections.{Section, entered, entered_by}
+use Rattle.rv_unit_laws.specs.Sections.{Section, entered_by}
 use Rattle.rv_unit_laws.specs.Contributions.{Contribution, Nothing, Bytes, Zero_bytes, Alignment, contribution}
 use Rattle.rv_unit_laws.specs.Tables.{Tables, Labelled, NumericLabel, Assignment, here, after, after_directive, after_all, value, assigned, assigned_by, chosen, with_label, with_numeric_label, with_assignment, with_section, with_contribution, with_choice, with_chosen, with_bindings, is_defined, may_set}
+use Rattle.rv_unit_laws.proofs.Entering.{with_new, entering}
 use Rattle.rv_unit_laws.proofs.Found.{find_same}
 
 -- of what stands before the ordinal, a search finds the same in both
@@ -122,11 +123,8 @@ keeps_assignment t o name (Faulty code) = keeps_same t t o refl refl refl
 
 keeps_section : (t : Tables) (section : Option Section) (o : ℕ) → Keeps t (with_section t section) o
 keeps_section t None o = keeps_same t t o refl refl refl
-keeps_section t (Some section) o = by (length (entered t.opened section).sections == length t.opened.sections)
-  where
-    by : (b : Bool) → Keeps t (if b then record t { opened = entered t.opened section } else record t { opened = entered t.opened section; ends = t.ends ++ 0 ∷ []; alignments = t.alignments ++ 1 ∷ [] }) o
-    by true = keeps_same t (record t { opened = entered t.opened section }) o refl refl refl
-    by false = keeps_same t (record t { opened = entered t.opened section; ends = t.ends ++ 0 ∷ []; alignments = t.alignments ++ 1 ∷ [] }) o refl refl refl
+keeps_section t (Some section) o =
+    entering (λ (u : Tables). Keeps t u o) t section (λ n at. keeps_same t (record t { current = n }) o refl refl refl) (λ room. keeps_same t (with_new t section) o refl refl refl) (keeps_same t t o refl refl refl)
 
 keeps_named : (t : Tables) (o : ℕ) (v : Expression → Value) (d : Directive) → Keeps t (with_assignment t (assigned_by v o d)) o
 keeps_named t o v (Sets name e) = keeps_assignment t o name (v e)

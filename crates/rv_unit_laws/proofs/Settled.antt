@@ -10,7 +10,7 @@ use Rattle.rv_text_laws.specs.declared.operator.BinaryOperator.TheVariants.{Mult
 use Rattle.rv_text_laws.specs.Expression.{Primary, Literal, Symbol, Here, Reference, Tree, Leaf, Unary, Paren, Binary}
 use Rattle.rv_text_laws.specs.Values.{Meaning, Known, InSection, Open, Refused, Value, Constant, Symbolic, Difference, Faulty, refused, apart, sum, difference, constants, both, alone, meant, primary_value, value_of}
 use Rattle.rv_statement.specs.Statement.{Expression}
-use Rattle.rv_unit_laws.specs.Tables.{Tables, SectionOffset, Labelled, NumericLabel, Assignment, label_of, assigned_before, assigned_ever, assigned_later, assigned_first, labelled, numeric_label_after, forward_in, meaning, value}
+use Rattle.rv_unit_laws.specs.Tables.{Tables, SectionOffset, Labelled, NumericLabel, Assignment, label_of, assigned_before, assigned_ever, assigned_later, assigned_first, labelled, numeric_label_after, forward_in, meaning, value, opened_of}
 use Rattle.rv_unit_laws.proofs.Before.{IsBefore, label_below, below}
 
 -- ---- values
@@ -165,15 +165,15 @@ label_stays found (Some k) at is l e = by (nat_lt k.ordinal at) (sym e ∙ is)
 
 module _ (t : Tables) (o at : ℕ) (before : IsBefore t o) where
   named_later : (name : List ℕ) (first : Option Assignment) (found : Option Labelled) → label_of t.labels false at name ≡ found
-      → is_settled (assigned_first first (labelled t.opened found Open)) ≡ true
-      → assigned_first first (labelled t.opened (label_of t.labels true at name) (assigned_later true (assigned_ever t.assignments name))) ≡ assigned_first first (labelled t.opened found Open)
+      → is_settled (assigned_first first (labelled (opened_of t) found Open)) ≡ true
+      → assigned_first first (labelled (opened_of t) (label_of t.labels true at name) (assigned_later true (assigned_ever t.assignments name))) ≡ assigned_first first (labelled (opened_of t) found Open)
   named_later name (Some s) found is e = refl
   named_later name None None is e = absurd (cc)
   named_later name None (Some l) is e =
-      ap (λ k. labelled t.opened k (assigned_later true (assigned_ever t.assignments name)))
+      ap (λ k. labelled (opened_of t) k (assigned_later true (assigned_ever t.assignments name)))
       (label_stays (label_of t.labels false at name) (label_of t.labels true 0 name) at (label_below t o at name before) l is)
 
-  ahead_later : (found : Option NumericLabel) → is_settled (forward_in t.opened false found) ≡ true → forward_in t.opened true found ≡ forward_in t.opened false found
+  ahead_later : (found : Option NumericLabel) → is_settled (forward_in (opened_of t) false found) ≡ true → forward_in (opened_of t) true found ≡ forward_in (opened_of t) false found
   ahead_later None e = absurd (cc)
   ahead_later (Some m) e = absurd (cc)
 

@@ -10,7 +10,7 @@ use Rattle.rv_statement.specs.declared.directive.Choice.TheVariants.{Pop}
 use Rattle.rv_text_laws.specs.Expression.{Here}
 use Rattle.rv_unit_laws.specs.Sections.{Section, is_nobits, current_section, place_of_name, most_sections, entered_by}
 use Rattle.rv_unit_laws.specs.Contributions.{Contents, Numbers, Texts, AlignmentForm, As_power, As_bytes, Contribution, Nothing, Bytes, Zero_bytes, Alignment, contribution}
-use Rattle.rv_unit_laws.specs.Tables.{Tables, at_start, after, tables, here, value, has_location, is_defined, is_power, greatest_alignment, longest_section, alignment_as, contents_size, counted, padding}
+use Rattle.rv_unit_laws.specs.Tables.{Tables, at_start, after, tables, here, value, has_location, is_defined, is_power, greatest_alignment, longest_section, alignment_as, contents_size, counted, padding, opened_of}
 
 -- the code of a fault where it is one
 abbrev pub faulty_if : Bool → ℕ → List ℕ
@@ -111,24 +111,25 @@ contents_faults v (Texts ended strings) = []
 abbrev pub contribution_faults : Tables → Tables → ℕ → Contribution → List ℕ
 contribution_faults all t ordinal Nothing = []
 contribution_faults all t ordinal (Bytes contents) =
-    let section = current_section t.opened in
+    let section = current_section (opened_of t) in
     contents_faults (λ e. value all true ordinal (here t) e) contents
     ++ (faulty_if (section.executable || is_nobits section) wrong_section ++ past_section section.executable (here t).offset (contents_size contents))
 contribution_faults all t ordinal (Zero_bytes count) =
-    zero_faults (current_section t.opened) (here t).offset (value all false ordinal (here t) count)
+    zero_faults (current_section (opened_of t)) (here t).offset
+    (value all false ordinal (here t) count)
 contribution_faults all t ordinal (Alignment form number) =
     let v = value all false ordinal (here t) number in
     number_faults form v
-    ++ alignment_faults (current_section t.opened) (here t).offset (alignment_as form v)
+    ++ alignment_faults (current_section (opened_of t)) (here t).offset (alignment_as form v)
 
 -- the codes of a directive's faults
 abbrev pub directive_faults : Tables → Tables → ℕ → Directive → List ℕ
 directive_faults all t ordinal (Enters standard) =
-    section_faults t.opened.sections (entered_by (Enters standard))
+    section_faults (opened_of t).sections (entered_by (Enters standard))
 directive_faults all t ordinal (Opens name flags kind) =
-    section_faults t.opened.sections (entered_by (Opens name flags kind))
+    section_faults (opened_of t).sections (entered_by (Opens name flags kind))
 directive_faults all t ordinal (Sets name e) =
-    set_faults t ordinal (current_section t.opened) name (value all false ordinal (here t) e)
+    set_faults t ordinal (current_section (opened_of t)) name (value all false ordinal (here t) e)
 directive_faults all t ordinal (Chooses choice) = choice_faults (length t.kept) choice
 directive_faults all t ordinal d = contribution_faults all t ordinal (contribution d)
 
@@ -138,8 +139,8 @@ faults all t ordinal (Label name) = faulty_if (is_defined t ordinal name) duplic
 faults all t ordinal (Numbered number) = []
 faults all t ordinal (Instruction mnemonic operands) =
     faulty_if
-    (not (current_section t.opened).executable
-    || is_nobits (current_section t.opened)) wrong_section
+    (not (current_section (opened_of t)).executable
+    || is_nobits (current_section (opened_of t))) wrong_section
 faults all t ordinal (Directs directive) = directive_faults all t ordinal directive
 
 -- a fault: its code and its line

@@ -1,6 +1,6 @@
 -- The sections of a source (gABI, "Sections"; GNU as, "Sections" and ".section").
 
-use Rattle.std.specs.Prelude.{ℕ, suc, Bool, true, false, not, ◌&&◌, ◌||◌, ◌==◌, nat_lt, List, [], ◌∷◌, ◌++◌, length, take, Option, Some, None, slice_index_or, codes, option_map, if◌then◌else◌}
+use Rattle.std.specs.Prelude.{ℕ, suc, Bool, true, false, not, ◌&&◌, ◌||◌, ◌==◌, List, [], ◌∷◌, length, take, Option, Some, None, slice_index_or, codes, option_map, if◌then◌else◌}
 use Rattle.std.specs.List.{list_any}
 use Rattle.std.specs.Str.{bytes_eq}
 use Rattle.rv_statement.specs.Statement.{Directive, Enters, Opens}
@@ -91,14 +91,10 @@ text_section =
       section_type = Progbits;
     }
 
--- the sections that a source has opened so far, in their order, and the current one's index among them, from 0
+-- sections in their order, and the current one's index among them, from 0
 pub record Opened : Type 0 where
   pub sections : List Section
   pub current : ℕ
-
--- a source begins in .text, which is always its first section
-abbrev pub at_first : Opened
-at_first = record { sections = text_section ∷ []; current = 0 }
 
 -- the most sections of a source
 abbrev pub most_sections : ℕ
@@ -109,17 +105,6 @@ abbrev pub place_of_name : List Section → List ℕ → Option ℕ
 place_of_name [] name = None
 place_of_name (s ∷ ss) name =
     if bytes_eq s.name name then Some 0 else option_map suc (place_of_name ss name)
-
-abbrev pub entered_at : Opened → Section → Option ℕ → Opened
-entered_at opened section (Some place) = record { sections = opened.sections; current = place }
-entered_at opened section None =
-    if nat_lt (length opened.sections) most_sections
-    then record { sections = opened.sections ++ section ∷ []; current = length opened.sections }
-    else opened
-
--- a name that was opened before keeps its section; a new one is a section after the others, while there is room
-abbrev pub entered : Opened → Section → Opened
-entered opened section = entered_at opened section (place_of_name opened.sections section.name)
 
 -- the section that a directive enters
 abbrev pub entered_by : Directive → Option Section

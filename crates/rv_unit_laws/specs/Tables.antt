@@ -1,7 +1,7 @@
 -- What the statements of a source define: sections with the bytes of their data, labels, assignments
 -- (GNU as, "Symbols", "Expressions" and "Pseudo Ops").
 
-use Rattle.std.specs.Prelude.{ℕ, zero, suc, ◌+◌, ◌-◌, ◌*◌, ◌/◌, ◌^◌, Bool, true, false, not, ◌&&◌, ◌||◌, ◌==◌, nat_lt, nat_le, max, List, [], ◌∷◌, ◌++◌, length, flat_map, reverse, Option, Some, None, is_some, slice_index_or, if◌then◌else◌}
+use Rattle.std.specs.Prelude.{ℕ, zero, suc, ◌+◌, ◌-◌, ◌*◌, ◌/◌, ◌^◌, Bool, true, false, not, ◌&&◌, ◌||◌, ◌==◌, nat_lt, nat_le, max, List, [], ◌∷◌, ◌++◌, length, map, flat_map, reverse, Option, Some, None, is_some, slice_index_or, if◌then◌else◌}
 use Rattle.std.specs.List.{find, list_any}
 use Rattle.std.specs.Str.{bytes_eq}
 use Rattle.rv_text_laws.specs.Bytes.{value as digits_value}
@@ -10,7 +10,7 @@ use Rattle.rv_text_laws.specs.Codes.{undefined_local, not_constant}
 use Rattle.rv_text_laws.specs.Values.{Meaning, Known, InSection, Open, Refused, Value, Constant, Symbolic, add, value_of}
 use Rattle.rv_statement.specs.Statement.{StatementKind, Label, Numbered, Instruction, Directs, Statement, Expression, Directive, Sets, Chooses}
 use Rattle.rv_statement.specs.declared.directive.Choice.{Choice}
-use Rattle.rv_unit_laws.specs.Sections.{Section, Opened, at_first, entered, entered_by, section_at, current_section}
+use Rattle.rv_unit_laws.specs.Sections.{Section, Opened, text_section, most_sections, place_of_name, entered_by, section_at}
 use Rattle.rv_unit_laws.specs.Options.{Options, first_options, options_then, kept_then}
 use Rattle.rv_unit_laws.specs.declared.binding.Binding.{Binding}
 use Rattle.rv_unit_laws.specs.Bindings.{Bindings, all_local, bindings_then}
@@ -40,12 +40,21 @@ pub record Assignment : Type 0 where
   pub meaning : Meaning
   pub plus : ℕ
 
+-- a section, the bytes of its data, and the greatest of its statements' alignments
+pub record Extent : Type 0 where
+  pub section : Section
+  pub bytes : ℕ
+  pub alignment : ℕ
+
+-- a section without statements
+abbrev pub empty_extent : Section → Extent
+empty_extent section = record { section = section; bytes = 0; alignment = 1 }
+
 -- what the statements so far define; of assignments and numeric labels the latest stand first
 pub record Tables : Type 0 where
-  pub opened : Opened
-  -- the bytes of data in each section, and its alignment: the greatest of its statements' alignments
-  pub ends : List ℕ
-  pub alignments : List ℕ
+  -- the sections that are open, in their order, and the current one's index among them, from 0
+  pub extents : List Extent
+  pub current : ℕ
   pub labels : List Labelled
   pub numeric_labels : List NumericLabel
   pub assignments : List Assignment
@@ -54,11 +63,11 @@ pub record Tables : Type 0 where
   pub kept : List Options
   pub bindings : Bindings
 
+-- a source begins in .text, which is always its first section
 abbrev pub at_start : Tables
 at_start = record {
-  opened = at_first;
-  ends = 0 ∷ [];
-  alignments = 1 ∷ [];
+  extents = empty_extent text_section ∷ [];
+  current = 0;
   labels = [];
   numeric_labels = [];
   assignments = [];
@@ -67,9 +76,24 @@ at_start = record {
   bindings = all_local;
 }
 
+-- the sections alone, the bytes of each, and the alignment of each
+abbrev pub opened_of : Tables → Opened
+opened_of t =
+    record { sections = map (λ (e : Extent). e.section) t.extents; current = t.current }
+
+abbrev pub ends_of : Tables → List ℕ
+ends_of t = map (λ (e : Extent). e.bytes) t.extents
+
+abbrev pub alignments_of : Tables → List ℕ
+alignments_of t = map (λ (e : Extent). e.alignment) t.extents
+
+-- the alignment of the section of an index
+abbrev pub alignment_at : Tables → ℕ → ℕ
+alignment_at t index = slice_index_or (alignments_of t) index 1
+
 -- where the next statement stands
 abbrev pub here : Tables → SectionOffset
-here t = record { section = t.opened.current; offset = slice_index_or t.ends t.opened.current 0 }
+here t = record { section = t.current; offset = slice_index_or (ends_of t) t.current 0 }
 
 -- ---- meanings
 
@@ -124,7 +148,7 @@ assigned_first None other = other
 abbrev pub named : Tables → Bool → ℕ → List ℕ → Meaning
 named t all ordinal name =
     assigned_first (assigned_before t.assignments ordinal name)
-    (labelled t.opened (label_of t.labels all ordinal name)
+    (labelled (opened_of t) (label_of t.labels all ordinal name)
     (assigned_later all (assigned_ever t.assignments name)))
 
 -- a numeric reference; where later definitions do not count, one that comes later is no constant
@@ -139,16 +163,16 @@ backward_in opened (Some m) = stands opened m.place
 
 abbrev pub referred : Tables → Bool → ℕ → ℕ → Bool → Meaning
 referred t all ordinal number true =
-    forward_in t.opened all (numeric_label_after t.numeric_labels ordinal number)
+    forward_in (opened_of t) all (numeric_label_after t.numeric_labels ordinal number)
 referred t all ordinal number false =
-    backward_in t.opened (numeric_label_before t.numeric_labels ordinal number)
+    backward_in (opened_of t) (numeric_label_before t.numeric_labels ordinal number)
 
 -- what stands in an expression of the statement of this ordinal at this offset: `all` says whether later definitions
 -- count, as in values of data and in operands of instructions; in sizes, alignments and assignments they don't
 abbrev pub meaning : Tables → Bool → ℕ → SectionOffset → Primary → Meaning
 meaning t all ordinal p (Literal number) = Known number
 meaning t all ordinal p (Symbol name) = named t all ordinal name
-meaning t all ordinal p Here = stands t.opened p
+meaning t all ordinal p Here = stands (opened_of t) p
 meaning t all ordinal p (Reference digits forward) =
     referred t all ordinal (digits_value 10 digits) forward
 
@@ -287,10 +311,10 @@ data_bytes v offset d = contributed v offset (contribution d)
 
 -- ---- what a statement changes
 
-abbrev pub changed_at : ℕ → (ℕ → ℕ) → List ℕ → List ℕ
+abbrev pub changed_at : {X : Type 0} → ℕ → (X → X) → List X → List X
 changed_at i change [] = []
-changed_at zero change (n ∷ ns) = change n ∷ ns
-changed_at (suc i) change (n ∷ ns) = n ∷ changed_at i change ns
+changed_at zero change (x ∷ xs) = change x ∷ xs
+changed_at (suc i) change (x ∷ xs) = x ∷ changed_at i change xs
 
 -- a label or a location has the name; a label or any assignment has it
 abbrev pub has_location : Tables → ℕ → List ℕ → Bool
@@ -338,27 +362,36 @@ with_numeric_label t ordinal number =
           t.numeric_labels;
     }
 
--- a section that is entered; a new one has no bytes yet
-abbrev pub opened_more : Tables → Opened → Tables
-opened_more t opened =
-    if length opened.sections == length t.opened.sections
-    then record t { opened = opened }
-    else record t { opened = opened; ends = t.ends ++ 0 ∷ []; alignments = t.alignments ++ 1 ∷ [] }
+-- a name that was opened before keeps its section; a new one is a section after the others, while
+-- there is room
+abbrev pub entered_at : Tables → Section → Option ℕ → Tables
+entered_at t section (Some index) = record t { current = index }
+entered_at t section None =
+    if nat_lt (length t.extents) most_sections
+    then record t { extents = t.extents ++ empty_extent section ∷ []; current = length t.extents }
+    else t
 
 abbrev pub with_section : Tables → Option Section → Tables
 with_section t None = t
-with_section t (Some section) = opened_more t (entered t.opened section)
+with_section t (Some section) =
+    entered_at t section (place_of_name (opened_of t).sections section.name)
 
 -- the bytes of data that a section counts: one of code counts none
 abbrev pub counted_in : Section → ℕ → ℕ
 counted_in section bytes = if section.executable then 0 else bytes
 
+-- a section with more data, and an alignment more
+abbrev pub extended : ℕ → Option ℕ → Extent → Extent
+extended bytes alignment e = record {
+  section = e.section;
+  bytes = e.bytes + counted_in e.section bytes;
+  alignment = max e.alignment (max 1 (or_none alignment));
+}
+
 -- data at the end of the current section, and an alignment of that section
 abbrev pub with_data : Tables → ℕ → Option ℕ → Tables
-with_data t bytes alignment = record t {
-  ends = changed_at t.opened.current (λ n. n + counted_in (current_section t.opened) bytes) t.ends;
-  alignments = changed_at t.opened.current (λ n. max n (max 1 (or_none alignment))) t.alignments;
-}
+with_data t bytes alignment =
+    record t { extents = changed_at t.current (extended bytes alignment) t.extents }
 
 -- what a directive contributes, by the values of expressions
 abbrev pub with_contribution : Tables → (Expression → Value) → Contribution → Tables

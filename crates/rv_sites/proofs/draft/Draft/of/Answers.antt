@@ -2,7 +2,8 @@ use Rattle.std.proofs.Common.{rules, ◌<◌, ◌^◌, length, sym, ap, subst, �
 use Rattle.std.proofs.lemmas.List.{length-map}
 use Rattle.rv_statement.specs.View.{statement_of}
 use Rattle.rv_tables.specs.Sections.{extent_section}
-use Rattle.rv_unit_laws.specs.Tables.{Tables}
+use Rattle.rv_tables.proofs.Lookups.{sections_are}
+use Rattle.rv_unit_laws.specs.Tables.{Tables, opened_of}
 use Rattle.rv_unit.specs.Unit.{said}
 use Rattle.rv_sites.specs.declared.draft.Draft.{Draft}
 use Rattle.rv_sites.specs.DataParts.{IsData}
@@ -16,7 +17,7 @@ returns-clause-draft c =
     let ss = said u in
     let found = c.in_ok-sections.field-0 in
     let d : Draft = record { items = c.in_ok-items.items; sections = found.sections; ends = c.in_ok-items.ends; fields = found.fields; rvc = c.has_compressed.result } in
-    let sections = sym (length-map u.tables.extents.items extent_section) ∙ ap (λ (t : Tables). length t.opened.sections) c.requires.filled.tables in
+    let sections = sym (length-map u.tables.extents.items extent_section) ∙ ap length (sections_are u.tables.extents.items ∙ ap (λ (t : Tables). (opened_of t).sections) c.requires.filled.tables) in
     let few : length c.statements.result.now < 2 ^ 32 = search rules in
     is_draft ss c.in_ok-code.code.items d
     (record {

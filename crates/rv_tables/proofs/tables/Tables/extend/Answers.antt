@@ -1,32 +1,32 @@
-use Rattle.std.proofs.Common.{◌≡◌, ◌+◌, ◌<◌, ◌≤◌, ◌∙◌, ap, sym, rules, length, map}
-use Rattle.std.specs.Prelude.{reverse}
+use Rattle.std.proofs.Common.{◌≡◌, ◌+◌, ◌<◌, ◌≤◌, ◌∙◌, ap, sym, rules, List, length}
 use Rattle.rv_unit_laws.specs.Sections.{place_of_name}
-use Rattle.rv_tables.specs.Options.{options_of}
-use Rattle.rv_tables.specs.Sections.{extent_section}
-use Rattle.rv_tables.specs.Tables.{labelled_of, numeric_label_of, assignment_of, binding_in}
-use Rattle.rv_tables.proofs.Lookups.{extend_is, extend_past, same_map}
+use Rattle.rv_unit_laws.specs.Tables as laws
+use Rattle.rv_tables.specs.Tables.{tables_of}
+use Rattle.rv_tables.proofs.Lookups.{extend_is, extend_past, sections_set}
 use Rattle.rv_tables.proofs.tables.Tables.extend.Goals as goal
 
 pub returns-then-number-len-clause-tables : goal.returns-then-number-len-clause-tables
 returns-then-number-len-clause-tables c =
     let b = c.args.self.now in
     let past : length b.extents.items ≤ b.current = search rules in
-    extend_past b.extents.items b.current c.args.bytes c.args.alignment (map labelled_of b.labels.entries) (reverse (map numeric_label_of b.numeric_labels.items)) (reverse (map assignment_of b.assignments.items)) (options_of b.options) (reverse (map options_of b.kept.items)) (λ name. binding_in b.bindings name) past
+    let t : laws.Tables = tables_of b in
+    ap (λ (l : List laws.Extent). record t { extents = l }) (extend_past b.extents.items b.current c.args.bytes c.args.alignment past)
 
 pub returns-in-Some-clause-tables : goal.returns-in-Some-clause-tables
 returns-in-Some-clause-tables c =
     let b = c.args.self.now in
     let inside : b.current < length b.extents.items = search rules in
     let end : c.in-Some.end ≡ c.index.result.now.bytes + c.counted.result = search rules in
-    extend_is b.extents.items b.current c.index.result.now c.longer.result c.args.bytes c.args.alignment (map labelled_of b.labels.entries) (reverse (map numeric_label_of b.numeric_labels.items)) (reverse (map assignment_of b.assignments.items)) (options_of b.options) (reverse (map options_of b.kept.items)) (λ name. binding_in b.bindings name)
-    inside c.index.ensures c.longer.ensures.section (c.longer.ensures.bytes ∙ end ∙ ap (λ k. c.index.result.now.bytes + k) c.counted.ensures) c.longer.ensures.alignment
+    let t : laws.Tables = tables_of b in
+    ap (λ (l : List laws.Extent). record t { extents = l })
+    (extend_is b.extents.items b.current c.index.result.now c.longer.result c.args.bytes c.args.alignment inside c.index.ensures c.longer.ensures.section (c.longer.ensures.bytes ∙ end ∙ ap (λ k. c.index.result.now.bytes + k) c.counted.ensures) c.longer.ensures.alignment)
 
 pub returns-in-Some-clause-indexed : goal.returns-in-Some-clause-indexed
 returns-in-Some-clause-indexed c = λ i.
     let b = c.args.self.now in
     let inside : b.current < length b.extents.items = search rules in
     record {
-      numbers = λ name. i.numbers name ∙ ap (λ l. place_of_name l name) (sym (same_map extent_section b.extents.items b.current c.index.result.now c.longer.result inside c.index.ensures c.longer.ensures.section));
+      numbers = λ name. i.numbers name ∙ ap (λ l. place_of_name l name) (sym (sections_set b.extents.items b.current c.index.result.now c.longer.result inside c.index.ensures c.longer.ensures.section));
       assignments = i.assignments;
       numbered = i.numbered;
     }

@@ -19,7 +19,7 @@ returns-in-Some c = λ i f s at.
     let o = c.args.self.now.ordinal in
     let inside = here_inside ss i p at in
     let means : Primary → Meaning = λ q. laws.meaning t false (i + 1) p q in
-    let here = c.stands-here.ensures ∙ ap (λ (x : laws.Tables). laws.stands x.opened p) f.tables ∙ past_here ss i p s.within inside in
+    let here = c.stands-here.ensures ∙ ap (λ (x : laws.Tables). laws.stands (laws.opened_of x) p) f.tables ∙ past_here ss i p s.within inside in
     let gives = c.assigned.ensures.value means e here (c.past_value-value.ensures i f s.within s.ordinal inside) in
     c.is_location.ensures ∙ ap (λ g. laws.gives_location (option_map assignment_of g)) (sym c.in-Some.is)
     ∙ ap laws.gives_location (gives ∙ ap (λ n. laws.assigned c.args.assignment.now.name.now n (laws.value t false (i + 1) p e)) s.ordinal ∙ ap (λ q. laws.assigned c.args.assignment.now.name.now (i + 1) (laws.value t false (i + 1) q e)) at)
@@ -33,7 +33,7 @@ returns-in-None c = λ i f s at.
     let e = tree_of_expr c.args.assignment.now.expression in
     let inside = here_inside ss i p at in
     let means : Primary → Meaning = λ q. laws.meaning t false (i + 1) p q in
-    let here = c.stands-here.ensures ∙ ap (λ (x : laws.Tables). laws.stands x.opened p) f.tables ∙ past_here ss i p s.within inside in
+    let here = c.stands-here.ensures ∙ ap (λ (x : laws.Tables). laws.stands (laws.opened_of x) p) f.tables ∙ past_here ss i p s.within inside in
     let gives = c.assigned.ensures.value means e here (c.past_value-value.ensures i f s.within s.ordinal inside) in
     ap (λ g. laws.gives_location (option_map assignment_of g)) (sym c.in-None.is)
     ∙ ap laws.gives_location (gives ∙ ap (λ n. laws.assigned c.args.assignment.now.name.now n (laws.value t false (i + 1) p e)) s.ordinal ∙ ap (λ q. laws.assigned c.args.assignment.now.name.now (i + 1) (laws.value t false (i + 1) q e)) at)

@@ -6,7 +6,7 @@ use Rattle.rv_statement.specs.declared.statement.Opening.{Opening}
 use Rattle.rv_statement.specs.View.{now_of, quoted, opening_of, statement_kind, operand_in}
 use Rattle.rv_statement.specs.Statement.{Applied, Directs, Enters}
 use Rattle.rv_unit_laws.specs.Faults as faults
-use Rattle.rv_unit_laws.specs.Sections.{section_of, entered}
+use Rattle.rv_unit_laws.specs.Sections.{section_of}
 use Rattle.rv_unit_laws.specs.Tables as laws
 use Rattle.rv_unit_laws.proofs.Opened.{after_opened}
 use Rattle.rv_unit.specs.Faults.{IsLowest}
@@ -89,10 +89,10 @@ returns-in-Enters c = λ i at depth.
     let k = c.in-Enters.is in
     let now = subst (λ k. IsAt u i c.args.ordinal c.args.place (statement_kind k)) k at in
     let is = c.standard.ensures in
-    let opened = ap (λ (w : laws.Tables). w.opened) now.more ∙ after_opened t (i + 1) (Directs (Enters c.in-Enters.standard)) in
+    let opened = ap (λ (w : laws.Tables). laws.opened_of w) now.more ∙ after_opened t (i + 1) (Directs (Enters c.in-Enters.standard)) in
     subst (λ k. IsLowest c.fault_of_section.result (faults.faults all t (i + 1) (statement_kind k))) (sym k)
-    (subst (λ x. IsLowest c.fault_of_section.result (faults.section_faults t.opened.sections (Some x))) is
-    (c.fault_of_section.ensures i now.filled now.within (subst (λ x. (passed (said u) (i + 1)).opened ≡ entered t.opened x) (sym is) opened)))
+    (subst (λ x. IsLowest c.fault_of_section.result (faults.section_faults (laws.opened_of t).sections (Some x))) is
+    (c.fault_of_section.ensures i now.filled now.within (subst (λ x. laws.opened_of (passed (said u) (i + 1)) ≡ laws.opened_of (laws.with_section t (Some x))) (sym is) opened)))
 
 pub returns-in-Opens : goal.returns-in-Opens
 returns-in-Opens c = λ i at depth.
@@ -107,7 +107,7 @@ returns-in-Opens c = λ i at depth.
     ∙ ap (λ (x : Opening). section_of x.name.now (option_map quoted c.deref-in-Opens.result.now.flags) (option_map now_of c.deref-in-Opens-2.result.now.kind)) c.deref.ensures
     ∙ ap (λ (x : Opening). section_of o.name.now (option_map quoted x.flags) (option_map now_of c.deref-in-Opens-2.result.now.kind)) c.deref-in-Opens.ensures
     ∙ ap (λ (x : Opening). section_of o.name.now (option_map quoted o.flags) (option_map now_of x.kind)) c.deref-in-Opens-2.ensures in
-    let opened = ap (λ (w : laws.Tables). w.opened) now.more ∙ after_opened t (i + 1) (Directs (opening_of o)) in
+    let opened = ap (λ (w : laws.Tables). laws.opened_of w) now.more ∙ after_opened t (i + 1) (Directs (opening_of o)) in
     subst (λ k. IsLowest c.fault_of_section-in-Opens.result (faults.faults all t (i + 1) (statement_kind k))) (sym k)
-    (subst (λ x. IsLowest c.fault_of_section-in-Opens.result (faults.section_faults t.opened.sections (Some x))) is
-    (c.fault_of_section-in-Opens.ensures i now.filled now.within (subst (λ x. (passed (said u) (i + 1)).opened ≡ entered t.opened x) (sym is) opened)))
+    (subst (λ x. IsLowest c.fault_of_section-in-Opens.result (faults.section_faults (laws.opened_of t).sections (Some x))) is
+    (c.fault_of_section-in-Opens.ensures i now.filled now.within (subst (λ x. laws.opened_of (passed (said u) (i + 1)) ≡ laws.opened_of (laws.with_section t (Some x))) (sym is) opened)))

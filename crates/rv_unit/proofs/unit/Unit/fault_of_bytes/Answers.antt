@@ -21,7 +21,7 @@ returns c = λ i at.
     let r = c.alignment_fault.result in
     let here = at_here u i c.args.ordinal c.args.place kind at refl in
     let value = c.early_value-value.ensures (i + 1) at.filled at.ordinal in
-    c.lower.ensures (faults.bytes_faults (worth (laws.here t))) (faults.alignment_faults (current_section t.opened) (laws.here t).offset (laws.byte_alignment (worth (laws.here t))))
+    c.lower.ensures (faults.bytes_faults (worth (laws.here t))) (faults.alignment_faults (current_section (laws.opened_of t)) (laws.here t).offset (laws.byte_alignment (worth (laws.here t))))
     (subst (λ q. IsLowest c.bytes_fault-found.result (faults.bytes_faults (worth q))) here (c.bytes_fault-found.ensures 0 _ value))
     (subst (λ k. IsLowest r (faults.alignment_faults k (laws.here t).offset (laws.byte_alignment (worth (laws.here t))))) (c.section_at.ensures ∙ at_home u i c.args.ordinal c.args.place kind at refl)
     (subst (λ (q : laws.SectionOffset). IsLowest r (faults.alignment_faults (section_of c.section_at.result) q.offset (laws.byte_alignment (worth q)))) here

@@ -16,7 +16,7 @@ returns c = λ i o at.
     let r = c.data_fault.result in
     let strings = map quoted c.args.strings.now in
     let kind : StatementKind = Directs (Strings c.args.ended strings) in
-    let section = current_section t.opened in
+    let section = current_section (laws.opened_of t) in
     let offset = (laws.here t).offset in
     subst (IsLowest r) (data_shown section offset (length (laws.string_bytes c.args.ended strings)))
     (subst (λ b. IsLowest r (data_faults section offset b)) c.strings_size-bytes.ensures

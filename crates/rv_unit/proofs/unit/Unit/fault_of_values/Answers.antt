@@ -22,7 +22,7 @@ returns c = λ i at.
     let xs = c.args.values.now in
     let kind : StatementKind = Directs (Values w (map tree_of_expr xs)) in
     let each : laws.SectionOffset → List ℕ = λ q. flat_map (λ e. faults.value_faults w (laws.value (laws.tables (said u)) true (i + 1) q e)) (map tree_of_expr xs) in
-    let section = current_section t.opened in
+    let section = current_section (laws.opened_of t) in
     let offset = (laws.here t).offset in
     let here = at_here u i c.args.ordinal c.args.place kind at refl in
     c.lower.ensures

@@ -21,7 +21,7 @@ returns-in-Here c = λ o f at.
     let all = tables_of c.args.self.now.tables in
     let ss = said c.args.self.now in
     let p = offset_of c.args.place in
-    c.stands.ensures ∙ ap (λ (x : laws.Tables). laws.stands x.opened p) f.tables
+    c.stands.ensures ∙ ap (λ (x : laws.Tables). laws.stands (laws.opened_of x) p) f.tables
     ∙ sym (ap (λ x. laws.meaning (laws.tables ss) true o p (symbol_of x)) c.in-Here.is)
 
 pub returns-in-Backward : goal.returns-in-Backward
