@@ -12,16 +12,25 @@ use Rattle.rv_object.specs.declared.symbol.Definition.{Definition}
 use Rattle.rv_object.specs.declared.symbol.Definition.TheVariants as definitions
 use Rattle.rv_object.specs.declared.row.Row.{Row}
 use Rattle.rv_isa.specs.Kinds.{width_of}
-use Rattle.rv_object.specs.Object.{Contents, Nobits, Relocation, Section, Symbol, size_of}
+use Rattle.rv_object.specs.Object.{Contents, Progbits, Note, Nobits, Relocation, Section, Symbol, size_of}
 
 -- a power of two, 4096 at most
 abbrev pub is_alignment : ℕ → Bool
 is_alignment n =
     list_any (λ k. n == 2 ^ k) (0 ∷ 1 ∷ 2 ∷ 3 ∷ 4 ∷ 5 ∷ 6 ∷ 7 ∷ 8 ∷ 9 ∷ 10 ∷ 11 ∷ 12 ∷ [])
 
--- the rows are no section of an object
+-- a name ends before the first zero byte in its file
+abbrev pub is_string : List ℕ → Bool
+is_string name = list_all (λ byte. not (byte == 0)) name
+
+-- the rows are no section of an object: they stand in a section of bytes
 abbrev pub is_kept_name : List ℕ → Bool
 is_kept_name name = not (bytes_eq name (codes ".rv.rows"))
+
+abbrev pub keeps_name : Contents → List ℕ → Bool
+keeps_name (Progbits bytes) name = is_kept_name name
+keeps_name (Note bytes) name = true
+keeps_name (Nobits size) name = true
 
 -- code has an even size
 abbrev pub is_even : Bool → Contents → Bool
@@ -82,10 +91,6 @@ are_paddings executable c rs =
     list_all (is_padding executable c) rs && (not executable || are_all_apart rs)
 
 -- ---- names
-
--- a name ends before the first zero byte in its file
-abbrev pub is_string : List ℕ → Bool
-is_string name = list_all (λ byte. not (byte == 0)) name
 
 -- a name that every object may use has one byte or more, each 21h to 7Eh
 abbrev pub is_shown : Binding → List ℕ → Bool
