@@ -64,7 +64,8 @@ unfoldable pub program_bytes : ℕ → Part → List ℕ
 program_bytes start part =
     little_bytes 4 1 ++ (little_bytes 4 part.flags ++ (little_bytes 8 (offset_of start part)
     ++ (little_bytes 8 part.address ++ (little_bytes 8 part.address
-    ++ (little_bytes 8 (length part.stored) ++ (little_bytes 8 (memory_size_of part) ++ little_bytes 8 0x1000))))))
+    ++ (little_bytes 8 (length part.stored)
+    ++ (little_bytes 8 (memory_size_of part) ++ little_bytes 8 0x1000))))))
 
 -- a file with these bytes at a place after its end, zeros between; nothing for no bytes
 abbrev pub with_contents : List ℕ → ℕ → List ℕ → List ℕ

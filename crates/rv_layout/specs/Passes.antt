@@ -47,7 +47,8 @@ AreRests items i sizes ends =
 abbrev pub IsJudged : Item → ℤ → (size wider : ℕ) → Type 0
 IsJudged item away size wider =
     ((wider ≡ size) × (size < largest item.forms → Reaches (half item.forms size) item.addend away))
-    ⊎ ((wider ≡ 2 * size) × ((size < largest item.forms) × (Reaches (half item.forms size) item.addend away → ⊥)))
+    ⊎ ((wider ≡ 2 * size) × ((size < largest item.forms)
+    × (Reaches (half item.forms size) item.addend away → ⊥)))
 
 -- a statement's size stands
 abbrev pub Stays : List Item → List ℕ → ℕ → Type 0

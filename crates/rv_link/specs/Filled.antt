@@ -45,7 +45,8 @@ abbrev pub worth : List Object → Placement → InputSection → Relocation →
 worth os p i r = unwrap_or (value (shown_globals os p) (starts_of p) os i r) (pos 0)
 
 -- a relocation has a value, and its field takes it
-pub record IsTaken (os : List Object) (p : Placement) (i : InputSection) (r : Relocation) : Type 0 where
+pub record IsTaken (os : List Object) (p : Placement)
+    (i : InputSection) (r : Relocation) : Type 0 where
   pub found : IsTrue (is_some (value (shown_globals os p) (starts_of p) os i r))
   pub alone : is_low r.kind ≡ true → r.addend ≡ pos 0
   pub takes : Takes r.kind (worth os p i r)

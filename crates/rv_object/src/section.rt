@@ -35,7 +35,9 @@ pub struct Section {
     /// Only sections with a place in memory have relocations.
     pub ghost alone: { IsTrue (is_loaded_alone loaded (map relocation_of relocations.items)) },
     /// Each field lies in the section's bytes.
-    pub ghost inside: { IsTrue (fit_inside (contents_of contents) (map relocation_of relocations.items)) },
+    pub ghost inside: { IsTrue
+        (fit_inside (contents_of contents) (map relocation_of relocations.items)) },
     /// Each padding lies there as well, in code at an even offset, and meets no field.
-    pub ghost paddings: { IsTrue (are_paddings executable (contents_of contents) (map relocation_of relocations.items)) },
+    pub ghost paddings: { IsTrue
+        (are_paddings executable (contents_of contents) (map relocation_of relocations.items)) },
 }

@@ -88,7 +88,9 @@ pub record IsRelocated (globals : List Global) (starts : Starts) (os : List Obje
 -- bytes with the field at an offset written
 abbrev pub patched_at : ℕ → Kind → ℤ → List ℕ → List ℕ
 patched_at offset k v bytes =
-    take offset bytes ++ (patched k v (take (width_of k) (drop offset bytes)) ++ drop (width_of k) (drop offset bytes))
+    take offset bytes
+    ++ (patched k v (take (width_of k) (drop offset bytes))
+    ++ drop (width_of k) (drop offset bytes))
 
 -- with those of all relocations written, in their order
 abbrev pub applied : (ℕ → ℕ) → (Relocation → ℤ) → List Relocation → List ℕ → List ℕ

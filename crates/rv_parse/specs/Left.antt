@@ -63,7 +63,8 @@ abbrev pub StopsAt : ReadError → (List ℕ → Bool) → ℕ → lexing.Token 
 StopsAt (refusals.At w) known count t ts =
     ((parsing.checked_at known ts ≡ Err (syntax_error_of w))
     × ((count < most_statements) ⊎ ((count ≡ most_statements) × (w.offset ≡ t.start))))
-    ⊎ ((count ≡ most_statements) × (syntax_error_of w ≡ record { offset = t.start; line = t.line; code = limit })
+    ⊎ ((count ≡ most_statements)
+    × (syntax_error_of w ≡ record { offset = t.start; line = t.line; code = limit })
     × ((v : wrongs.SyntaxError) → parsing.checked_at known ts ≡ Err v → v.offset ≡ t.start → ⊥))
 StopsAt refusals.OutOfMemory known count t ts = Unit {0}
 

@@ -137,7 +137,8 @@ named_or [] None = Err nowhere
 named_or (t ∷ ts) None = Err (wrong t (wrong_first A_section t.kind))
 named_or ts (Some read) =
     if is_section_name read.0 then Ok read
-    else (if nat_lt longest_name (length read.0) then Err (too_long 0 ts) else Err (wrong_front ts unsupported_here))
+    else (if nat_lt longest_name (length read.0) then Err (too_long 0 ts)
+    else Err (wrong_front ts unsupported_here))
 
 -- the name of a section
 abbrev pub section_at : List Token → Read (List ℕ)

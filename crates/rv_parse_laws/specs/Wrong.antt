@@ -171,7 +171,8 @@ Passes A_callee one rest =
     ⊎ ((os : List Operand) × IsLinked one os)
 Passes A_section one rest =
     (name : List ℕ) × IsJoined one name × (is_section_name name ≡ true)
-    × ((t : Token) (us : List Token) (longer : List ℕ) → rest ≡ t ∷ us → IsJoined (one ++ t ∷ []) longer → ⊥)
+    × ((t : Token) (us : List Token) (longer : List ℕ) → rest ≡ t ∷ us →
+    IsJoined (one ++ t ∷ []) longer → ⊥)
 Passes s one rest = (os : List Operand) × IsOperand s one os
 
 -- what stands in a slot is wrong, or W says what is after it
@@ -213,7 +214,8 @@ IsWrongIn (Chooses s rest others) ts t code =
     ⊎ ((front_begins s ts ≡ false) × IsWrongIn others ts t code)
 IsWrongIn (Locates rest) ts t code =
     (IsTargetNext ts × IsWrongTaken A_target (λ us u d. IsWrongIn rest us u d) ts t code)
-    ⊎ ((IsTargetNext ts → ⊥) × IsWrongTaken An_address (λ us u d. IsNoEnd An_address us u d) ts t code)
+    ⊎ ((IsTargetNext ts → ⊥)
+    × IsWrongTaken An_address (λ us u d. IsNoEnd An_address us u d) ts t code)
 IsWrongIn (Lists item) ts t code = (n : ℕ) × IsWrongItem n item ts t code
 IsWrongIn Anything ts t code = IsWrongAny ts t code
 
@@ -228,5 +230,6 @@ IsWrongAfter beginnings.Nothing first ts t code = (t ≡ first) × (code ≡ wro
 abbrev pub IsWrongStatement : List Token → Token → ℕ → Type 0
 IsWrongStatement ts t code =
     (first : Token) × (us : List Token) × (ts ≡ first ∷ us) × (is_end first.kind ≡ false)
-    × (((colon_next us ≡ true) × (label_of first.kind ≡ None) × (t ≡ first) × (code ≡ wrong_label first.kind))
+    × (((colon_next us ≡ true) × (label_of first.kind ≡ None)
+    × (t ≡ first) × (code ≡ wrong_label first.kind))
     ⊎ ((colon_next us ≡ false) × IsWrongAfter (begins first.kind) first us t code))

@@ -68,7 +68,9 @@ is_low (Some alignment) = nat_le alignment 2
 -- the row of an alignment: in executable sections instructions, and none up to 2; in others zeros
 abbrev pub IsPaddingIn : Bool → Program → Mapped → Directive → Type 0
 IsPaddingIn true p s d =
-    IsRowOf (expansion p s) s.row × (s.row.bytes ≡ (if is_low (alignment_of (λ e. form p s.located e) d) then 0 else least_padding p s d))
+    IsRowOf (expansion p s) s.row
+    × (s.row.bytes
+    ≡ (if is_low (alignment_of (λ e. form p s.located e) d) then 0 else least_padding p s d))
 IsPaddingIn false p s d =
     IsTrue (has_values p s) × (s.row.bytes ≡ least_padding p s d) × (s.row.instructions ≡ 0)
 

@@ -29,7 +29,8 @@ found mapped pc = find (λ s. nat_lt 0 s.row.bytes && (s.row.address == pc)) map
 abbrev pub place : Program → ℕ → Place
 place p pc =
     if is_in p.map.text pc
-    then (if list_any (λ gap. is_in gap pc) p.map.gaps then Gap else starts_or_inside (found p.mapped pc))
+    then (if list_any (λ gap. is_in gap pc) p.map.gaps then Gap
+    else starts_or_inside (found p.mapped pc))
     else Outside
 
 -- the step at a place; the next pc is the row's end where the statement doesn't jump

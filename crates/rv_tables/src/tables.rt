@@ -330,21 +330,26 @@ impl<'a> Tables<'a> {
 
     /// Whether a section of the name is open.
     pub fn knows(&self, name: &[u8]) -> bool
-        ensures { IsIndexed self.now → result ≡ is_some (sections.place_of_name (tables_of self.now).opened.sections name.now) }
+        ensures { IsIndexed self.now → result
+            ≡ is_some (sections.place_of_name (tables_of self.now).opened.sections name.now) }
     {
         self.numbers.get(&name).is_some()
     }
 
     /// Whether a label or an assignment has the name.
     pub(crate) fn is_defined(&self, name: &[u8]) -> bool
-        ensures { IsIndexed self.now → result ≡ (is_some (laws.label_of (tables_of self.now).labels true 0 name.now) || is_some (laws.assigned_ever (tables_of self.now).assignments name.now)) }
+        ensures { IsIndexed self.now → result
+            ≡ (is_some (laws.label_of (tables_of self.now).labels true 0 name.now)
+            || is_some (laws.assigned_ever (tables_of self.now).assignments name.now)) }
     {
         self.label(name).is_some() || self.assignment(name).is_some()
     }
 
     /// Whether a label or a location has the name.
     pub(crate) fn has_location(&self, name: &[u8]) -> bool
-        ensures { IsIndexed self.now → result ≡ (is_some (laws.label_of (tables_of self.now).labels true 0 name.now) || placed_latest (laws.assigned_ever (tables_of self.now).assignments name.now)) }
+        ensures { IsIndexed self.now → result
+            ≡ (is_some (laws.label_of (tables_of self.now).labels true 0 name.now)
+            || placed_latest (laws.assigned_ever (tables_of self.now).assignments name.now)) }
     {
         if self.label(name).is_some() {
             return true;

@@ -113,7 +113,8 @@ contribution_faults all t ordinal Nothing = []
 contribution_faults all t ordinal (Bytes contents) =
     let section = current_section t.opened in
     contents_faults (λ e. value all true ordinal (here t) e) contents
-    ++ (faulty_if (section.executable || is_nobits section) wrong_section ++ past_section section.executable (here t).offset (contents_size contents))
+    ++ (faulty_if (section.executable || is_nobits section) wrong_section
+    ++ past_section section.executable (here t).offset (contents_size contents))
 contribution_faults all t ordinal (Zero_bytes count) =
     zero_faults (current_section t.opened) (here t).offset (value all false ordinal (here t) count)
 contribution_faults all t ordinal (Alignment form number) =

@@ -309,7 +309,13 @@ abbrev pub assigned : List ℕ → ℕ → Value → Option Assignment
 assigned name ordinal (Constant n) =
     Some (record { name = name; ordinal = ordinal; meaning = Known n; plus = 0 })
 assigned name ordinal (Symbolic Here (InSection section offset) plus) =
-    Some (record { name = name; ordinal = ordinal; meaning = InSection section (add offset plus); plus = plus })
+    Some
+    (record {
+      name = name;
+      ordinal = ordinal;
+      meaning = InSection section (add offset plus);
+      plus = plus;
+    })
 assigned name ordinal _ = None
 
 -- whether a `.set` gives a location
@@ -329,7 +335,10 @@ with_assignment t (Some s) =
 
 abbrev pub with_label : Tables → ℕ → List ℕ → Tables
 with_label t ordinal name =
-    if is_defined t ordinal name then t else record t { labels = t.labels ++ record { name = name; ordinal = ordinal; place = here t } ∷ [] }
+    if is_defined t ordinal name then t
+    else record t {
+      labels = t.labels ++ record { name = name; ordinal = ordinal; place = here t } ∷ [];
+    }
 
 abbrev pub with_numeric_label : Tables → ℕ → ℕ → Tables
 with_numeric_label t ordinal number =
