@@ -1,4 +1,5 @@
--- No statement opens the section of an object's rows, which no source may open (this project's refusals).
+-- No statement opens the section of an object's rows, which no source may open (this project's
+-- refusals).
 
 use Rattle.std.specs.Prelude.{◌≡◌, Bool, true, List}
 use Rattle.std.specs.List.{list_all}

@@ -1,4 +1,5 @@
--- What the parts of an object are made of: rows of items, relocations of fields with numbers, sections of their parts.
+-- What the parts of an object are made of: rows of items, relocations of fields with numbers,
+-- sections of their parts.
 
 use Rattle.std.specs.Prelude.{◌≡◌, ℕ, ◌+◌, ◌==◌, true, List, [], ◌∷◌, ◌++◌, length, map, Some, if◌then◌else◌}
 use Rattle.std.specs.Global.{Vec}

@@ -33,7 +33,8 @@ short_7 register = register % 8 * 2 ^ 7
 abbrev pub short_2 : ℕ → ℕ
 short_2 register = register % 8 * 2 ^ 2
 
--- the immediate fields, named by the bits that stand in them, as the manual's tables 16.5 to 16.7 draw them
+-- the immediate fields, named by the bits that stand in them, as the manual's tables 16.5 to 16.7
+-- draw them
 -- uimm[5:3] at 12:10, uimm[2|6] at 6:5
 abbrev pub word_offset : ℕ → ℕ
 word_offset u = bits_at u 3 3 10 + bits_at u 2 1 6 + bits_at u 6 1 5

@@ -1,5 +1,6 @@
--- The word of each instruction of RV64IMA: a table of formats and selectors, and one sum of fields a format
--- (RISC-V Unprivileged ISA 20191213, section 2.2 for the formats and chapter 24 for the table).
+-- The word of each instruction of RV64IMA: a table of formats and selectors, and one sum of fields
+-- a format (RISC-V Unprivileged ISA 20191213, section 2.2 for the formats and chapter 24 for the
+-- table).
 
 use Rattle.std.specs.Prelude.{◌≡◌, ℕ, suc, ◌+◌, ◌-◌, ◌*◌, ◌/◌, ◌%◌, ◌^◌, ℤ, pos, negsuc, ◌↔◌, Option, Some}
 use Rattle.std.specs.Int.{from_bool}

@@ -1,4 +1,5 @@
--- What the tables hold while a pass goes over the statements: each statement's start, or what is left from it on.
+-- What the tables hold while a pass goes over the statements: each statement's start, or what is
+-- left from it on.
 
 use Rattle.std.specs.Prelude.{◌≡◌, ◌⊎◌, ℕ, ◌*◌, ◌^◌, ◌≤◌, ◌<◌, Bool, true, List, length, drop, set, slice_index, sum, ℤ, MatchBool}
 use Rattle.rv_layout_laws.specs.declared.item.Item.{Item}

@@ -30,7 +30,8 @@ input_at os file index s =
 abbrev pub input_of : Fixed → Input → InputSection
 input_of f x = input_at (objects_of f) x.file x.index (section_of x.section.now)
 
--- the section is one of the objects, and what is placed for it is where it starts, with room for its paddings
+-- the section is one of the objects, and what is placed for it is where it starts, with room for
+-- its paddings
 pub record IsInput (os : List Object) (p : Placement) (x : Input) : Type 0 where
   pub stands : section_at os x.file x.index ≡ Some (section_of x.section.now)
   pub start : starts_of p (x.file + 1) x.index ≡ x.placed.now.start

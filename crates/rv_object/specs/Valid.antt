@@ -1,5 +1,5 @@
--- What every object keeps of what a reader of files tests (System V gABI, "Sections", "Symbol Table", "Relocation";
--- RISC-V ELF psABI, "Relocations"; this project's refusals).
+-- What every object keeps of what a reader of files tests (System V gABI, "Sections", "Symbol
+-- Table", "Relocation"; RISC-V ELF psABI, "Relocations"; this project's refusals).
 
 use Rattle.std.specs.Prelude.{ℕ, ℤ, pos, negsuc, unwrap_or, ◌+◌, ◌%◌, ◌^◌, Bool, true, false, not, ◌&&◌, ◌||◌, ◌==◌, nat_le, nat_lt, max, List, [], ◌∷◌, length, codes, Option, Some, None, bytes_eq, if◌then◌else◌}
 use Rattle.std.specs.List.{list_all, list_any, slice_get}
@@ -40,7 +40,8 @@ is_even executable c = not executable || (size_of c % 2 == 0)
 abbrev pub is_loaded_alone : Bool → List Relocation → Bool
 is_loaded_alone loaded rs = loaded || (length rs == 0)
 
--- a field lies in bytes that the file has; a relocation without a field stands in the section or at its end
+-- a field lies in bytes that the file has; a relocation without a field stands in the section or at
+-- its end
 abbrev pub fits_inside : Contents → Relocation → Bool
 fits_inside (Nobits size) r = width_of r.kind == 0
 fits_inside c r = nat_le (r.place + width_of r.kind) (size_of c)
@@ -65,8 +66,8 @@ is_padding_of executable c place (Some n) =
     (n % 2 == 0) && nat_le n 4094
     && (not executable || (place % 2 == 0) && nat_le (place + n) (size_of c))
 
--- the padding of an alignment has an even count of bytes, 4094 at most; in code it begins at an even offset and lies in the
--- section
+-- the padding of an alignment has an even count of bytes, 4094 at most; in code it begins at an
+-- even offset and lies in the section
 abbrev pub is_padding : Bool → Contents → Relocation → Bool
 is_padding executable c r =
     not (is_align r.kind) || is_padding_of executable c r.place (padding_of r.addend)
@@ -75,7 +76,8 @@ is_padding executable c r =
 abbrev pub held : Relocation → ℕ
 held r = if is_align r.kind then unwrap_or (padding_of r.addend) 0 else width_of r.kind
 
--- a padding meets no field and no other padding: one of two ends before the later begins, as what has no bytes does
+-- a padding meets no field and no other padding: one of two ends before the later begins, as what
+-- has no bytes does
 abbrev pub are_apart : Relocation → Relocation → Bool
 are_apart r q =
     let later = max r.place q.place in

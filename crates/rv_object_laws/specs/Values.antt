@@ -1,5 +1,5 @@
--- The relocations of objects: their values, and the bytes of a section with all of them applied (gABI, "Relocation";
--- RISC-V ELF psABI, "Relocations").
+-- The relocations of objects: their values, and the bytes of a section with all of them applied
+-- (gABI, "Relocation"; RISC-V ELF psABI, "Relocations").
 
 use Rattle.std.specs.Prelude.{◌≡◌, ℕ, ◌+◌, ℤ, pos, ◌==◌, Bool, true, false, ◌&&◌, IsTrue, List, [], ◌∷◌, ◌++◌, take, drop, Option, Some, None, is_some, option_map, option_and_then, unwrap_or, if◌then◌else◌}
 use Rattle.std.specs.List.{find, slice_get}

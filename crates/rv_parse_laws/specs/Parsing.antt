@@ -1,5 +1,5 @@
--- Parts of statements at the front of a list of tokens, as functions: what stands there and the tokens after it, or the
--- first token that is wrong there, with its code.
+-- Parts of statements at the front of a list of tokens, as functions: what stands there and the
+-- tokens after it, or the first token that is wrong there, with its code.
 
 use Rattle.std.specs.Prelude.{ℕ, zero, suc, ◌+◌, Bool, false, ◌&&◌, not, nat_lt, List, [], ◌∷◌, ◌++◌, length, Option, Some, None, option_map, unwrap_or, Result, Ok, Err, if◌then◌else◌}
 use Rattle.rv_text_laws.specs.Grammar.{Kind}
@@ -260,7 +260,8 @@ unfoldable pub opening_at : (List ℕ → Bool) → List Token → Option Syntax
 opening_at known [] = None
 opening_at known (t ∷ ts) = if is_section t.kind then named_wrong known (section_at ts) else None
 
--- a part at the front, or what is wrong with it: an opening's flags or type, or the first token with which nothing goes on
+-- a part at the front, or what is wrong with it: an opening's flags or type, or the first token
+-- with which nothing goes on
 abbrev pub unless : {X : Type 0} → Option SyntaxError → Read X → Read X
 unless (Some w) r = Err w
 unless None r = r

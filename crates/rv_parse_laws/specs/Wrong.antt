@@ -1,6 +1,7 @@
--- The token that is wrong at the front of tokens, and its code, by the slots that a statement awaits: tokens before it
--- fill the slots before, this slot is next, and the token cannot stand there. The code is by slot and token. What is
--- spelled right and refused is wrong at its first token.
+-- The token that is wrong at the front of tokens, and its code, by the slots that a statement
+-- awaits: tokens before it fill the slots before, this slot is next, and the token cannot stand
+-- there. The code is by slot and token. What is spelled right and refused is wrong at its first
+-- token.
 
 use Rattle.std.specs.Prelude.{◌≡◌, ℕ, zero, suc, ◌<◌, ◌≤◌, Bool, true, false, ◌&&◌, List, [], ◌∷◌, ◌++◌, length, Some, None, ◌⊎◌}
 use Rattle.std.specs.List.{list_all}
@@ -118,13 +119,15 @@ IsWrongOffset ts t code =
     ⊎ ((one rest : List Token) × (o : Operand) × (ts ≡ one ++ rest)
     × IsValueIn roles.Operand one o × EndsValue o rest × IsWrongBase rest t code)
 
--- an address: a register in parentheses, where the first two tokens are `(` and a register; else with an offset
+-- an address: a register in parentheses, where the first two tokens are `(` and a register; else
+-- with an offset
 abbrev pub IsWrongAddress : List Token → Token → ℕ → Type 0
 IsWrongAddress ts t code =
     ((base_next ts ≡ true) × IsWrongBase ts t code)
     ⊎ ((base_next ts ≡ false) × IsWrongOffset ts t code)
 
--- what a call calls: a symbol and `@plt`, where the first two tokens are a symbol and `@`; else a target
+-- what a call calls: a symbol and `@plt`, where the first two tokens are a symbol and `@`; else a
+-- target
 abbrev pub IsWrongCallee : List Token → Token → ℕ → Type 0
 IsWrongCallee ts t code =
     ((plt_next ts ≡ true)

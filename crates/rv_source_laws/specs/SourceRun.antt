@@ -11,7 +11,8 @@ use Rattle.rv_source_laws.specs.Program.{Mapped, Program, program}
 use Rattle.rv_source_laws.specs.Meaning.{meaning, cost}
 use Rattle.rv_source_laws.specs.Start.{is_in, first_memory}
 
--- what stands at a pc: a statement that starts there, the inside of one, a gap of the text, or no text
+-- what stands at a pc: a statement that starts there, the inside of one, a gap of the text, or no
+-- text
 pub data Place : Type 0 where
   Starts : (site : Mapped) → Place
   Inside : Place

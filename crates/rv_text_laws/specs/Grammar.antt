@@ -1,4 +1,5 @@
--- The lexemes of a source: blanks and comments, and the tokens (Assembly Programmer's Manual; GNU as, "Syntax").
+-- The lexemes of a source: blanks and comments, and the tokens (Assembly Programmer's Manual; GNU
+-- as, "Syntax").
 
 use Rattle.std.specs.Prelude.{◌≡◌, ℕ, ◌^◌, ◌<◌, Bool, true, false, ◌||◌, ◌==◌, List, [], ◌∷◌, ◌++◌, map, ◌⊎◌, if◌then◌else◌}
 use Rattle.std.specs.List.{list_all}
