@@ -35,7 +35,9 @@ use Rattle.rv_assemble.specs.Lists.{list_in}
 use Rattle.rv_assemble.proofs.Settled.{IsSettled, settled, IsIn, all_in}
 use Rattle.rv_assemble.proofs.FieldLists.{numbered, in_section, section_relocations, parts_numbered}
 use Rattle.rv_assemble.proofs.Alignments.{aligned}
-use Rattle.rv_assemble.proofs.NamesKept.{names_kept}
+use Rattle.rv_assemble_laws.proofs.OpenedNames.{sections_named}
+use Rattle.rv_symbols.proofs.Naming.{name_is_string}
+use Rattle.rv_assemble.proofs.NamesKept.{names_kept, kept_by}
 use Rattle.rv_assemble.proofs.EvenCode.{end_even, ends_within}
 use Rattle.rv_assemble.proofs.FieldsInside.{none_in_nobits, parts_within, no_paddings}
 use Rattle.rv_assemble.proofs.Indexed.{parts_indexed, symbols_stand}
@@ -293,7 +295,8 @@ module _ (ss : List Statement) (d : Draft) (extents : List Extent) (lists : List
 
     is_makeable : IsMakeable made
     is_makeable = record {
-      kept = names_kept ss j home kept there;
+      named = name_is_string home.name (sections_named ss j home kept.1 there);
+      kept = kept_by made.contents home.name (names_kept ss j home kept.0 there);
       aligned = subst (λ n. is_alignment n ≡ true) alignment (aligned ss j);
       even = even_by home.executable made.contents stop size (λ code. end_even t home (slice_index_or (alignments_of t) j 1) 0 sites code inside drafted.sizes drafted.tile refl);
       alone = ap (is_loaded_alone home.loaded) relocations ∙ alone_by home.loaded (relocations_from number 0 (parts t sites));

@@ -12,8 +12,9 @@ use Rattle.rv_unit_laws.specs.Sections.{Section, Opened, entered_by}
 use Rattle.rv_unit_laws.specs.Tables.{Tables, at_start, with_section, after, after_all, tables, opened_of}
 use Rattle.rv_unit_laws.proofs.Entering.{sections_more, entering}
 use Rattle.rv_unit_laws.proofs.Opened.{entered_in, after_opened}
-use Rattle.rv_object.specs.Valid.{is_kept_name}
-use Rattle.rv_assemble.specs.KeptNames.{opens_kept, OpenKept}
+use Rattle.rv_object.specs.Object.{Contents, Progbits, Note, Nobits}
+use Rattle.rv_object.specs.Valid.{is_kept_name, keeps_name}
+use Rattle.rv_assemble.specs.KeptNames.{opens_kept, OpenOthers}
 
 abbrev all_kept : List Section → Bool
 all_kept sections = list_all (λ s. is_kept_name s.name) sections
@@ -51,7 +52,7 @@ opened_kept (Numbered number) e = tt
 opened_kept (Instruction mnemonic operands) e = tt
 opened_kept (Directs d) e = directive_kept d e
 
-all_after : (t : Tables) (k : ℕ) (ss : List Statement) → OpenKept ss → AreKept (opened_of t) → AreKept (opened_of (after_all t k ss))
+all_after : (t : Tables) (k : ℕ) (ss : List Statement) → OpenOthers ss → AreKept (opened_of t) → AreKept (opened_of (after_all t k ss))
 all_after t k [] e h = h
 all_after t k (s ∷ ss) e h =
     let both = and_parts (opens_kept s.kind) (list_all (λ (s : Statement). opens_kept s.kind) ss) e in
@@ -64,5 +65,11 @@ kept_at (s ∷ sections) zero home h e =
     ap (λ (x : Section). is_kept_name x.name) (sym same) ∙ (and_parts (is_kept_name s.name) (all_kept sections) h).0
 kept_at (s ∷ sections) (suc j) home h e = kept_at sections j home (and_parts (is_kept_name s.name) (all_kept sections) h).1 e
 
-pub names_kept : (ss : List Statement) (j : ℕ) (home : Section) → OpenKept ss → slice_get (opened_of (tables ss)).sections j ≡ Some home → is_kept_name home.name ≡ true
+pub names_kept : (ss : List Statement) (j : ℕ) (home : Section) → OpenOthers ss → slice_get (opened_of (tables ss)).sections j ≡ Some home → is_kept_name home.name ≡ true
 names_kept ss j home kept e = kept_at (opened_of (tables ss)).sections j home (all_after at_start 1 ss kept refl) e
+
+-- whatever such a section has in the file
+pub kept_by : (c : Contents) (name : List ℕ) → is_kept_name name ≡ true → keeps_name c name ≡ true
+kept_by (Progbits bytes) name h = h
+kept_by (Note bytes) name h = refl
+kept_by (Nobits size) name h = refl

@@ -16,7 +16,7 @@ use Rattle.rv_parse_laws.specs.Words.{named_in, choices}
 use Rattle.rv_parse_laws.specs.Syntax.{is_section_name, places, chosen, directed, AreOperands, Part, Ends, Says, IsPart, StopsPart, IsStatement}
 use Rattle.rv_parse_laws.specs.Reading.{told, said, Reads}
 use Rattle.rv_object.specs.Valid.{is_kept_name}
-use Rattle.rv_assemble.specs.KeptNames.{opens_kept, OpenKept}
+use Rattle.rv_assemble.specs.KeptNames.{opens_kept, OpenOthers}
 
 kept_name : (name : List ℕ) → is_section_name name ≡ true → is_kept_name name ≡ true
 unfolding is_section_name
@@ -75,16 +75,16 @@ statement_kept ts (Instruction mnemonic operands) h = refl
 statement_kept ts (Directs directive) (t, rest, word, operands, is, colon, begun, h, says) =
     subst (λ (d : Directive). opens_kept (Directs d) ≡ true) (sym says) (directed_kept word rest operands h)
 
-told_kept : (p : Part) (ts : List Token) → IsPart p ts → OpenKept (told p ts)
+told_kept : (p : Part) (ts : List Token) → IsPart p ts → OpenOthers (told p ts)
 told_kept Ends ts h = refl
 told_kept (Says statement) [] h = refl
 told_kept (Says statement) (t ∷ ts) h = ap (λ b. b && true) (statement_kept (t ∷ ts) statement h)
 
-parts_kept : (ps : List (Piece Part Token)) → Each IsPart StopsPart ps [] → OpenKept (said ps)
+parts_kept : (ps : List (Piece Part Token)) → Each IsPart StopsPart ps [] → OpenOthers (said ps)
 parts_kept [] h = refl
 parts_kept (p ∷ ps) (is, stops, each) =
     list_all-append (λ (s : Statement). opens_kept s.kind) (told p.kind p.text) (said ps)
     ∙ ap (λ b. b && list_all (λ (s : Statement). opens_kept s.kind) (said ps)) (told_kept p.kind p.text is) ∙ parts_kept ps each
 
-pub sections_kept : (bytes : List ℕ) (ss : List Statement) → Reads bytes ss → OpenKept ss
-sections_kept bytes ss (short, lines, few, ts, ps, lexes, cuts, says, opens) = subst OpenKept (sym says) (parts_kept ps cuts.each)
+pub sections_kept : (bytes : List ℕ) (ss : List Statement) → Reads bytes ss → OpenOthers ss
+sections_kept bytes ss (short, lines, few, ts, ps, lexes, cuts, says, opens) = subst OpenOthers (sym says) (parts_kept ps cuts.each)

@@ -1,4 +1,5 @@
--- What the parts of an object are made of: rows of items, relocations of fields with numbers, sections of their parts.
+-- What the parts of an object are made of: rows of items, relocations of fields with numbers,
+-- sections of their parts.
 
 use Rattle.std.specs.Prelude.{◌≡◌, ℕ, ◌+◌, ◌==◌, true, List, [], ◌∷◌, ◌++◌, length, map, Some, if◌then◌else◌}
 use Rattle.std.specs.Global.{Vec}
@@ -9,7 +10,7 @@ use Rattle.rv_object.specs.declared.row.Row.{Row}
 use Rattle.rv_object.specs.declared.relocation.Relocation.{Relocation as DeclaredRelocation}
 use Rattle.rv_object.specs.Object.{Relocation, Section}
 use Rattle.rv_object.specs.Parts.{relocation_of}
-use Rattle.rv_object.specs.Valid.{is_alignment, is_kept_name, is_even, is_loaded_alone, fit_inside, are_paddings}
+use Rattle.rv_object.specs.Valid.{is_alignment, is_string, keeps_name, is_even, is_loaded_alone, fit_inside, are_paddings}
 use Rattle.rv_assemble_laws.specs.Fields.{Field}
 use Rattle.rv_assemble_laws.specs.IsObjectOf.{contents_of}
 use Rattle.rv_sites.specs.declared.item.Item.{Item}
@@ -68,7 +69,8 @@ section_by home alignment stop bytes rs = record {
 
 -- what every section of an object keeps
 pub record IsMakeable (x : Section) : Type 0 where
-  pub kept : is_kept_name x.name ≡ true
+  pub named : is_string x.name ≡ true
+  pub kept : keeps_name x.contents x.name ≡ true
   pub aligned : is_alignment x.alignment ≡ true
   pub even : is_even x.executable x.contents ≡ true
   pub alone : is_loaded_alone x.loaded x.relocations ≡ true

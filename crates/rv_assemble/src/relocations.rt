@@ -51,7 +51,8 @@ fn put_relocation(
     number: u32,
 ) -> Result<(), AllocError>
     requires { (field.now).section < length lists.old.items }
-    ensures { IfOk result (λ _. GainsOne lists.old.items lists.new.items (field_of field.now) number) }
+    ensures { IfOk result
+        (λ _. GainsOne lists.old.items lists.new.items (field_of field.now) number) }
 {
     lists[field.section as usize].push(Relocation {
         place: u64::from(field.place),

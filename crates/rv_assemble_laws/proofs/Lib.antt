@@ -3,3 +3,4 @@ pub mod SpelledNames
 pub mod Homes
 pub mod Held
 pub mod Faultless
+pub mod OpenedNames

@@ -1,6 +1,6 @@
 -- Each name that a source's statements say is spelled by bytes that a map can show.
 
-use Rattle.std.proofs.Common.{◌≡◌, ℕ, zero, suc, Bool, true, false, ◌&&◌, ◌||◌, ◌==◌, cond, List, [], ◌∷◌, ◌++◌, flat_map, Option, Some, None, refl, sym, append_assoc, ◌∙◌, subst, inl, inr, arith}
+use Rattle.std.proofs.Common.{◌≡◌, ℕ, zero, suc, Bool, true, false, ◌&&◌, ◌||◌, ◌==◌, cond, List, [], ◌∷◌, ◌++◌, flat_map, Option, Some, None, refl, sym, ap, append_assoc, ◌∙◌, subst, inl, inr, arith}
 use Rattle.std.specs.Prelude.{nat_le, nat_lt, length, codes, bytes_eq, is_some, option_map}
 use Rattle.std.specs.List.{list_all}
 use Rattle.std.proofs.lemmas.Bool.{and_from}
@@ -9,7 +9,8 @@ use Rattle.rv_text_laws.specs.declared.class.Class.{Class}
 use Rattle.rv_text_laws.specs.declared.class.Class.TheVariants as classes
 use Rattle.rv_text_laws.specs.Bytes.{class, is_letter, is_decimal, is_word, between}
 use Rattle.rv_text_laws.specs.Cut.{Piece, texts, Each}
-use Rattle.rv_text_laws.specs.Grammar.{Kind, Space, Line_comment, Block_comment, Newline, Punctuation, Name, Number, Reference, Bad_word, Text, Character, Bad_byte, Bad_token, End, IsWord, Spells, Stops}
+use Rattle.rv_text_laws.specs.Grammar.{Kind, Space, Line_comment, Block_comment, Newline, Punctuation, Name, Number, Reference, Bad_word, Text, Character, Bad_byte, Bad_token, End, IsWord, direction, Spells, Stops}
+use Rattle.rv_text_laws.specs.Joined.{bytes_of, AreAfter, IsJoined}
 use Rattle.rv_text_laws.specs.Lexing.{Token, Lexes, tokens_of, placed, is_gap, bad, last_kind, last}
 use Rattle.rv_text_laws.specs.declared.punct.Punct.{Punct}
 use Rattle.rv_text_laws.specs.declared.punct.Punct.TheVariants as puncts
@@ -83,6 +84,43 @@ letter_class b =
     pick (NoLetter b) (b == 33) _ _ (λ _ e. absurd (cc)) (λ _.
     pick (NoLetter b) (between 32 126 b) _ _ (λ _ e. absurd (cc)) (λ _ e. absurd (cc))))))))))))))))))))))))))))
 
+abbrev NoDigit : ℕ → Class → Type 0
+NoDigit b c = c ≡ classes.Digit → is_decimal b ≡ true
+
+digit_class : (b : ℕ) → NoDigit b (class b)
+unfolding class
+digit_class b =
+    pick (NoDigit b) (is_letter b) _ _ (λ _ e. absurd (cc)) (λ _.
+    pick (NoDigit b) (is_decimal b) _ _ (λ t e. t) (λ _.
+    pick (NoDigit b) ((b == 32) || (b == 9) || (b == 13)) _ _ (λ _ e. absurd (cc)) (λ _.
+    pick (NoDigit b) (b == 10) _ _ (λ _ e. absurd (cc)) (λ _.
+    pick (NoDigit b) (b == 44) _ _ (λ _ e. absurd (cc)) (λ _.
+    pick (NoDigit b) (b == 40) _ _ (λ _ e. absurd (cc)) (λ _.
+    pick (NoDigit b) (b == 41) _ _ (λ _ e. absurd (cc)) (λ _.
+    pick (NoDigit b) (b == 58) _ _ (λ _ e. absurd (cc)) (λ _.
+    pick (NoDigit b) (b == 35) _ _ (λ _ e. absurd (cc)) (λ _.
+    pick (NoDigit b) (b == 59) _ _ (λ _ e. absurd (cc)) (λ _.
+    pick (NoDigit b) (b == 43) _ _ (λ _ e. absurd (cc)) (λ _.
+    pick (NoDigit b) (b == 45) _ _ (λ _ e. absurd (cc)) (λ _.
+    pick (NoDigit b) (b == 42) _ _ (λ _ e. absurd (cc)) (λ _.
+    pick (NoDigit b) (b == 37) _ _ (λ _ e. absurd (cc)) (λ _.
+    pick (NoDigit b) (b == 124) _ _ (λ _ e. absurd (cc)) (λ _.
+    pick (NoDigit b) (b == 38) _ _ (λ _ e. absurd (cc)) (λ _.
+    pick (NoDigit b) (b == 94) _ _ (λ _ e. absurd (cc)) (λ _.
+    pick (NoDigit b) (b == 126) _ _ (λ _ e. absurd (cc)) (λ _.
+    pick (NoDigit b) (b == 64) _ _ (λ _ e. absurd (cc)) (λ _.
+    pick (NoDigit b) (b == 47) _ _ (λ _ e. absurd (cc)) (λ _.
+    pick (NoDigit b) (b == 34) _ _ (λ _ e. absurd (cc)) (λ _.
+    pick (NoDigit b) (b == 39) _ _ (λ _ e. absurd (cc)) (λ _.
+    pick (NoDigit b) (b == 60) _ _ (λ _ e. absurd (cc)) (λ _.
+    pick (NoDigit b) (b == 62) _ _ (λ _ e. absurd (cc)) (λ _.
+    pick (NoDigit b) (b == 61) _ _ (λ _ e. absurd (cc)) (λ _.
+    pick (NoDigit b) (b == 33) _ _ (λ _ e. absurd (cc)) (λ _.
+    pick (NoDigit b) (between 32 126 b) _ _ (λ _ e. absurd (cc)) (λ _ e. absurd (cc))))))))))))))))))))))))))))
+
+digit_shown : (b : ℕ) → is_decimal b ≡ true → is_name_byte b ≡ true
+digit_shown b h = grind arith
+
 letter_shown : (b : ℕ) → is_letter b ≡ true → is_name_byte b ≡ true
 letter_shown b h = grind arith
 
@@ -103,9 +141,17 @@ word_shown text (b, bs, is, letter, rest) =
     subst (λ (t : List ℕ). is_name t ≡ true) (sym is)
     (and_from _ _ (some_bytes b bs) (and_from _ _ (letter_shown b (letter_class b letter)) (word_bytes_shown bs rest)))
 
--- a token that is no name, or the name of which can be shown
+digits_shown : (text : List ℕ) → IsWord classes.Digit text → list_all is_name_byte text ≡ true
+digits_shown text (b, bs, is, digit, rest) =
+    subst (λ (t : List ℕ). list_all is_name_byte t ≡ true) (sym is)
+    (and_from _ _ (digit_shown b (digit_class b digit)) (word_bytes_shown bs rest))
+
+-- a token that is no word, or the bytes of which can be shown
 pub good : Kind → Bool
 good (Name name) = is_name name
+good (Number word number) = list_all is_name_byte word
+good (Reference digits forward) = list_all is_name_byte (digits ++ direction forward ∷ [])
+good (Bad_word word) = list_all is_name_byte word
 good _ = true
 
 abbrev pub are_good : List Token → Bool
@@ -119,9 +165,9 @@ spelled_good Line_comment text h = refl
 spelled_good Block_comment text h = refl
 spelled_good Newline text h = refl
 spelled_good (Punctuation punct) text h = refl
-spelled_good (Number word number) text h = refl
-spelled_good (Reference digits forward) text h = refl
-spelled_good (Bad_word word) text h = refl
+spelled_good (Number word number) text (is, digits, number') = subst (λ (t : List ℕ). list_all is_name_byte t ≡ true) is (digits_shown text digits)
+spelled_good (Reference digits forward) text (word, (is, all)) = subst (λ (t : List ℕ). list_all is_name_byte t ≡ true) is (digits_shown text word)
+spelled_good (Bad_word word) text (is, digits, no_number, no_reference) = subst (λ (t : List ℕ). list_all is_name_byte t ≡ true) is (digits_shown text digits)
 spelled_good (Text bytes) text h = refl
 spelled_good (Character byte) text h = refl
 spelled_good Bad_byte text h = refl
@@ -536,16 +582,57 @@ directed_shown words.Option (Word name ∷ []) plain h = chosen_shown (named_in 
 directed_shown words.Option _ plain h = refl
 directed_shown words.Ignored os plain h = refl
 
-section_shown : (os : List Operand) → SaysShown (Directs (directed words.Section os))
-section_shown (Word name ∷ []) = refl
-section_shown (Word name ∷ Quoted flags ∷ []) = refl
-section_shown (Word name ∷ Quoted flags ∷ Word kind ∷ size) = refl
-section_shown _ = refl
+-- the bytes of a name that goes on, and those of the whole
+added_shown : (k : Kind) (bytes : List ℕ) → good k ≡ true → bytes_of k ≡ Some bytes → list_all is_name_byte bytes ≡ true
+unfolding good
+added_shown (Name name) bytes h e =
+    let is : name ≡ bytes = cc in
+    subst (λ (t : List ℕ). list_all is_name_byte t ≡ true) is (and_parts (nat_lt 0 (length name)) (list_all is_name_byte name) h).1
+added_shown (Number word number) bytes h e = let is : word ≡ bytes = cc in subst (λ (t : List ℕ). list_all is_name_byte t ≡ true) is h
+added_shown (Reference digits forward) bytes h e =
+    let is : digits ++ direction forward ∷ [] ≡ bytes = cc in subst (λ (t : List ℕ). list_all is_name_byte t ≡ true) is h
+added_shown (Bad_word word) bytes h e = let is : word ≡ bytes = cc in subst (λ (t : List ℕ). list_all is_name_byte t ≡ true) is h
+added_shown (Punctuation puncts.Minus) bytes h e = let is : codes "-" ≡ bytes = cc in subst (λ (t : List ℕ). list_all is_name_byte t ≡ true) is refl
+added_shown (Punctuation _) bytes h e = absurd (cc)
+added_shown _ bytes h e = absurd (cc)
 
-section_word_shown : (word : DirectiveWord) (os : List Operand) → is_section_word word ≡ true → SaysShown (Directs (directed word os))
+after_shown : (offset : ℕ) (ts : List Token) (bytes : List ℕ) → are_good ts ≡ true → AreAfter offset ts bytes → list_all is_name_byte bytes ≡ true
+after_shown offset [] bytes g h = subst (λ (t : List ℕ). list_all is_name_byte t ≡ true) (sym h) refl
+after_shown offset (t ∷ ts) bytes g (at, first, rest, own, is, more) =
+    let k = and_parts (good t.kind) (are_good ts) g in
+    subst (λ (x : List ℕ). list_all is_name_byte x ≡ true) (sym is)
+    (all_both is_name_byte first rest (added_shown t.kind first k.0 own) (after_shown t.stop ts rest k.1 more))
+
+some_more : (first rest : List ℕ) → nat_lt 0 (length first) ≡ true → nat_lt 0 (length (first ++ rest)) ≡ true
+some_more [] rest h = absurd (cc)
+some_more (b ∷ first) rest h = some_bytes b (first ++ rest)
+
+front_shown : (first : List ℕ) (k : Kind) → k ≡ Name first → good k ≡ true → is_name first ≡ true
+unfolding good
+front_shown first k e h = subst (λ (x : Kind). good x ≡ true) e h
+
+joined_name_shown : (ts : List Token) (name : List ℕ) → are_good ts ≡ true → IsJoined ts name → is_name name ≡ true
+joined_name_shown [] name g h = absurd h
+joined_name_shown (t ∷ ts) name g (first, rest, kind, is, more) =
+    let k = and_parts (good t.kind) (are_good ts) g in
+    let own = and_parts (nat_lt 0 (length first)) (list_all is_name_byte first) (front_shown first t.kind kind k.0) in
+    subst (λ (x : List ℕ). is_name x ≡ true) (sym is)
+    (and_from _ _ (some_more first rest own.0) (all_both is_name_byte first rest own.1 (after_shown t.stop ts rest k.1 more)))
+
+section_shown : (name : List ℕ) (later : List Operand) → is_name name ≡ true → SaysShown (Directs (directed words.Section (Word name ∷ later)))
+section_shown name [] h = and_from _ _ h refl
+section_shown name (Quoted flags ∷ []) h = and_from _ _ h refl
+section_shown name (Quoted flags ∷ Word kind ∷ size) h = and_from _ _ h refl
+section_shown name _ h = refl
+
+section_word_shown : (word : DirectiveWord) (ts : List Token) (os : List Operand) → is_section_word word ≡ true → are_good ts ≡ true → AreOperands (places word) ts os
+    → SaysShown (Directs (directed word os))
 unfolding is_section_word
-section_word_shown words.Section os e = section_shown os
-section_word_shown _ os e = absurd (cc)
+section_word_shown words.Section ts os e g (one, rest, now, later, is, (name, joined, fine, names), others, says) =
+    let h = all_parts (λ (t : Token). good t.kind) one rest (subst (λ (us : List Token). are_good us ≡ true) is g) in
+    subst (λ (l : List Operand). SaysShown (Directs (directed words.Section l))) (sym (says ∙ ap (λ l. l ++ later) names))
+    (section_shown name later (joined_name_shown one name h.0 joined))
+section_word_shown _ ts os e g h = absurd (cc)
 
 places_plain : (word : DirectiveWord) → is_section_word word ≡ false → are_plain (places word) ≡ true
 unfolding are_plain is_plain is_section_word
@@ -581,7 +668,7 @@ directive_shown word ts os g h = go (is_section_word word) refl
   where
     go : (b : Bool) → is_section_word word ≡ b → SaysShown (Directs (directed word os))
     go false e = directed_shown word os e (operands_shown (places word) (places_plain word e) ts os g h)
-    go true e = section_word_shown word os e
+    go true e = section_word_shown word ts os e g h
 
 statement_shown : (ts : List Token) (kind : StatementKind) → are_good ts ≡ true → IsStatement ts kind → SaysShown kind
 statement_shown ts (Label name) g (t, c, is, e, colon) =

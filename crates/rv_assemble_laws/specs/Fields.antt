@@ -7,8 +7,8 @@ use Rattle.rv_unit_laws.specs.Tables.{Tables}
 use Rattle.rv_assemble_laws.specs.Templates.{Open, template_fields}
 use Rattle.rv_assemble_laws.specs.Sites.{Site, Part, part_bytes, parts_of}
 
--- an open field: the index of its section and its offset there, the ordinal of its statement, what it takes, the symbol as
--- the statement names it, and the addend
+-- an open field: the index of its section and its offset there, the ordinal of its statement, what
+-- it takes, the symbol as the statement names it, and the addend
 pub record Field : Type 0 where
   pub section : ℕ
   pub place : ℕ
@@ -28,7 +28,8 @@ field_at section ordinal place f =
       addend = f.addend;
     }
 
--- those of parts of a section that follow one another from an offset on, each at the start of its part
+-- those of parts of a section that follow one another from an offset on, each at the start of its
+-- part
 abbrev pub fields_from : ℕ → ℕ → List Part → List Field
 fields_from section offset [] = []
 fields_from section offset (p ∷ ps) =

@@ -1,6 +1,7 @@
--- The faults of one instruction, by its operands and the values of their expressions (RISC-V Unprivileged ISA 20191213,
--- chapter 24, for ranges; RISC-V Assembly Programmer's Manual; GNU as, "RISC-V-Modifiers", for parts of addresses). What
--- cannot be placed yet is refused as such, where nothing else is wrong.
+-- The faults of one instruction, by its operands and the values of their expressions (RISC-V
+-- Unprivileged ISA 20191213, chapter 24, for ranges; RISC-V Assembly Programmer's Manual; GNU as,
+-- "RISC-V-Modifiers", for parts of addresses). What cannot be placed yet is refused as such, where
+-- nothing else is wrong.
 
 use Rattle.std.specs.Prelude.{ℕ, ◌+◌, ◌-◌, ◌/◌, ◌%◌, ◌^◌, Bool, true, false, not, ◌&&◌, ◌||◌, ◌==◌, nat_lt, List, [], ◌∷◌, ◌++◌, flat_map, Option, Some, None, is_some, if◌then◌else◌}
 use Rattle.std.specs.List.{list_all}
@@ -21,7 +22,8 @@ use Rattle.rv_source_laws.specs.Meaning.{fits_12, expanded}
 
 -- ---- numbers
 
--- whether a constant is in the range of an instruction's number: a shift's, 20 bits, any for `li`, else 12 signed ones
+-- whether a constant is in the range of an instruction's number: a shift's, 20 bits, any for `li`,
+-- else 12 signed ones
 abbrev pub takes : Mnemonic → ℕ → Bool
 takes (Shift operation) n = nat_lt n (shift_limit operation)
 takes (Upper operation) n = nat_lt n (2 ^ 20)
@@ -70,7 +72,8 @@ abbrev pub is_signed_12 : Option Mnemonic → Bool
 is_signed_12 (Some (Shift operation)) = false
 is_signed_12 form = true
 
--- whether an instruction's number may be the low part of an address: one of 12 signed bits may, a shift's and `li`'s may not
+-- whether an instruction's number may be the low part of an address: one of 12 signed bits may, a
+-- shift's and `li`'s may not
 abbrev pub takes_address : Mnemonic → Bool
 takes_address (Registers operation) = is_signed_12 (with_constant operation)
 takes_address (Shift operation) = false
@@ -134,7 +137,8 @@ is_simple (Applied function e) = false
 is_simple (Target e) = false
 is_simple _ = true
 
--- the addresses of symbols, their parts, most pseudo-instructions and longer numbers of `li` cannot be placed yet
+-- the addresses of symbols, their parts, most pseudo-instructions and longer numbers of `li` cannot
+-- be placed yet
 abbrev pub is_built : (Expression → Value) → Mnemonic → List Operand → Bool
 is_built v mnemonic operands =
     list_all is_simple operands && is_some (expanded (λ e. constant_in (v e)) mnemonic operands)

@@ -1,4 +1,5 @@
--- The object of a source (gABI, "Sections", "Symbol Table", "Relocation"; RISC-V ELF psABI, "Relocations"): what assembling is.
+-- The object of a source (gABI, "Sections", "Symbol Table", "Relocation"; RISC-V ELF psABI,
+-- "Relocations"): what assembling is.
 
 use Rattle.std.specs.Prelude.{◌≡◌, ℕ, suc, ◌+◌, ◌≤◌, true, false, ⊤, List, [], ◌∷◌, ◌++◌, flat_map, map, length, Option, Some, None, if◌then◌else◌}
 use Rattle.std.specs.List.{AllByRecursion, list_any, slice_get}
@@ -72,7 +73,8 @@ abbrev pub ArePartsNumbered : Tables → List Site → Numbering → List Symbol
 ArePartsNumbered t all number symbols ps =
     AllByRecursion (λ p. AllByRecursion (IsNumbered t all number symbols) (references_in p)) ps
 
--- the section of an index, with its statements, where these are all statements and symbols of the source
+-- the section of an index, with its statements, where these are all statements and symbols of the
+-- source
 pub record IsSectionOf (t : Tables) (all : List Site) (number : Numbering) (symbols : List Symbol)
     (index : ℕ) (section : SourceSection) (sites : List Site) (x : Section) : Type 0 where
   pub name : x.name ≡ section.name

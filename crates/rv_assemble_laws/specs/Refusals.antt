@@ -1,5 +1,5 @@
--- Why a source is refused that reads well: after the faults of its labels and directives those of its code and of the sizes
--- of code.
+-- Why a source is refused that reads well: after the faults of its labels and directives those of
+-- its code and of the sizes of code.
 
 use Rattle.std.specs.Prelude.{ℕ, ◌+◌, Bool, true, not, ◌&&◌, ◌==◌, nat_lt, List, [], ◌∷◌, Option, Some, None, if◌then◌else◌}
 use Rattle.rv_text_laws.specs.Expression.{Primary}
@@ -21,8 +21,8 @@ abbrev pub padding_faults : Bool → Option ℕ → List ℕ
 padding_faults executable alignment =
     faulty_if (not (is_low alignment) && executable) unsupported_here
 
--- the faults of a statement as code: those of an instruction, or of an alignment in a section of code;
--- v gives values, and l says which symbols are labels of the file
+-- the faults of a statement as code: those of an instruction, or of an alignment in a section of
+-- code; v gives values, and l says which symbols are labels of the file
 abbrev pub code_faults :
     Options → Bool → (Expression → Value) → (Primary → Bool) → StatementKind → List ℕ
 code_faults o executable v l (Directs directive) =

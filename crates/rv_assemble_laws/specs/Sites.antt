@@ -1,4 +1,5 @@
--- The statements of a source where they stand in its object: their offsets, sizes and templates (gABI, "Sections").
+-- The statements of a source where they stand in its object: their offsets, sizes and templates
+-- (gABI, "Sections").
 
 use Rattle.std.specs.Prelude.{◌≡◌, ℕ, ◌+◌, ◌*◌, ◌%◌, ◌<◌, Bool, true, false, ◌==◌, ⊤, List, [], ◌∷◌, length, filter, flat_map, map, Option, Some, None}
 use Rattle.std.specs.List.{list_all}
@@ -13,7 +14,8 @@ use Rattle.rv_source_laws.specs.Fits.{is_constant, constant_in, is_low}
 use Rattle.rv_source_laws.specs.Meaning.{expanded_said}
 use Rattle.rv_assemble_laws.specs.Templates.{Template, templates, template_bytes}
 
--- a statement of a source alone, the bytes before it in its section, its own bytes, and how many instructions these are
+-- a statement of a source alone, the bytes before it in its section, its own bytes, and how many
+-- instructions these are
 pub record Site : Type 0 where
   pub located : Located
   pub offset : ℕ
@@ -48,7 +50,8 @@ sites_in section sites = filter (λ s. s.located.section == section) sites
 abbrev pub parts : Tables → List Site → List Part
 parts t sites = flat_map (parts_of t) sites
 
--- each statement of a section begins where the one before ends, from an offset on, and has the bytes of its templates
+-- each statement of a section begins where the one before ends, from an offset on, and has the
+-- bytes of its templates
 abbrev pub Tile : Tables → ℕ → List Site → Type 0
 Tile t offset [] = ⊤
 Tile t offset (s ∷ ss) =
@@ -96,7 +99,8 @@ DirectiveSize v s multiple (Aligns_to_bytes e) =
     IsPadded s multiple (v e) (alignment_of v (Aligns_to_bytes e))
 DirectiveSize v s multiple _ = (s.bytes ≡ 0) × (s.instructions ≡ 0)
 
--- the bytes of a statement of a section that begins at such a multiple, and how many instructions they are
+-- the bytes of a statement of a section that begins at such a multiple, and how many instructions
+-- they are
 abbrev pub HasSize : (Expression → Value) → Site → ℕ → StatementKind → Type 0
 HasSize v s multiple (Label name) = (s.bytes ≡ 0) × (s.instructions ≡ 0)
 HasSize v s multiple (Numbered number) = (s.bytes ≡ 0) × (s.instructions ≡ 0)

@@ -1,5 +1,5 @@
--- The symbols of an object, in their order (gABI, "Symbol Table"; GNU as, "Symbols"): local ones, those that the source makes
--- global, and those that it leaves undefined.
+-- The symbols of an object, in their order (gABI, "Symbol Table"; GNU as, "Symbols"): local ones,
+-- those that the source makes global, and those that it leaves undefined.
 
 use Rattle.std.specs.Prelude.{◌≡◌, ℕ, Bool, true, false, not, ◌&&◌, ◌==◌, List, [], ◌∷◌, ◌++◌, filter, flat_map, map, Option, Some, None, if◌then◌else◌}
 use Rattle.std.specs.List.{find, list_any}
@@ -53,7 +53,8 @@ global_symbol name d = record { name = name; binding = Global; definition = d }
 
 -- ---- what relocations name
 
--- the symbols that the relocations of loaded sections name, with the ordinals of their statements, in the source's order
+-- the symbols that the relocations of loaded sections name, with the ordinals of their statements,
+-- in the source's order
 pub record SymbolUse : Type 0 where
   pub ordinal : ℕ
   pub symbol : Primary

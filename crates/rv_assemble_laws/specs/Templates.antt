@@ -1,5 +1,5 @@
--- What the statements of a source are in an object: bytes with open fields left zero, and the relocations that fill them
--- (RISC-V ELF psABI, "Relocations"; GNU as, "Pseudo Ops").
+-- What the statements of a source are in an object: bytes with open fields left zero, and the
+-- relocations that fill them (RISC-V ELF psABI, "Relocations"; GNU as, "Pseudo Ops").
 
 use Rattle.std.specs.Prelude.{◌≡◌, ℕ, ℤ, pos, ◌==◌, ⊤, ◌⊎◌, if◌then◌else◌, List, [], ◌∷◌, flat_map, map, replicate, Option, Some, None}
 use Rattle.std.specs.Int.{w32, w64, to_le_bytes, int_wrap}
@@ -26,14 +26,16 @@ words (Some instructions) = flat_map (λ i. to_le_bytes w32 (word (form i))) ins
 
 -- ---- templates
 
--- a part of a statement's bytes. Each format of an instruction with an open operand will be one more case
+-- a part of a statement's bytes. Each format of an instruction with an open operand will be one
+-- more case
 pub data Template : Type 0 where
   -- bytes that the statement says
   Fixed : (bytes : List ℕ) → Template
   -- a value of data in so many bytes
   Datum : (width : ℕ) (value : Value) → Template
 
--- a field that stays open, by what it takes, the symbol as the statement names it, and the addend, which wraps
+-- a field that stays open, by what it takes, the symbol as the statement names it, and the addend,
+-- which wraps
 pub record Open : Type 0 where
   pub kind : Kind
   pub symbol : Primary
@@ -64,7 +66,8 @@ abbrev pub value_bytes : ℕ → Value → List ℕ
 value_bytes width (Constant n) = little_endian width n
 value_bytes width _ = zeros width
 
--- an address is one relocation; of a difference first the symbol that is added, with the constant, and then the other
+-- an address is one relocation; of a difference first the symbol that is added, with the constant,
+-- and then the other
 abbrev pub value_fields : ℕ → Value → List Open
 value_fields width (Constant n) = []
 value_fields width (Symbolic symbol at plus) = opened (absolute_kind width) symbol plus ∷ []
@@ -80,7 +83,8 @@ abbrev pub template_fields : Template → List Open
 template_fields (Fixed bytes) = []
 template_fields (Datum width value) = value_fields width value
 
--- a value of data has a relocation of its width: an address in 4 or 8 bytes, a difference in 1, 2, 4 or 8
+-- a value of data has a relocation of its width: an address in 4 or 8 bytes, a difference in 1, 2,
+-- 4 or 8
 abbrev pub IsWide : ℕ → Type 0
 IsWide width = (width ≡ 4) ⊎ (width ≡ 8)
 

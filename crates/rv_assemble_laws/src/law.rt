@@ -1,9 +1,12 @@
 //! Laws of the definitions.
 
-ghost use Rattle.std.specs.Prelude.{◌≡◌, ℕ, List, length, flat_map};
+ghost use Rattle.std.specs.Prelude.{◌≡◌, ℕ, List, Some, true, length, flat_map};
+ghost use Rattle.std.specs.List.{slice_get};
+ghost use Rattle.rv_map.specs.Name.{is_name};
 ghost use Rattle.rv_statement.specs.Statement.{Statement};
 ghost use Rattle.rv_parse_laws.specs.Reading.{Reads};
-ghost use Rattle.rv_unit_laws.specs.Tables.{Tables};
+ghost use Rattle.rv_unit_laws.specs.Sections.{Section};
+ghost use Rattle.rv_unit_laws.specs.Tables.{Tables, tables};
 ghost use Rattle.rv_assemble_laws.specs.Sites.{Site, Tile, end_of, part_bytes, parts};
 ghost use Rattle.rv_assemble_laws.specs.ShownNames.{HasNames};
 
@@ -13,8 +16,15 @@ pub fn statements_fill_sections()
         end_of 0 sites ≡ length (flat_map part_bytes (parts t sites)) }
 {}
 
-/// A map can show each name that a source says: labels, names that are set or listed, symbols in expressions.
+/// A map can show each name that a source says: labels, names that are set or listed, symbols in expressions, sections.
 pub fn names_are_shown()
     ensures { (text : List ℕ) (statements : List Statement) → Reads text statements →
         HasNames statements }
+{}
+
+/// So it can the name of each section of such a source, those that open by themselves among them.
+pub fn sections_are_named()
+    ensures { (statements : List Statement) (index : ℕ) (section : Section) → HasNames statements →
+        slice_get (opened_of (tables statements)).sections index ≡ Some section →
+        is_name section.name ≡ true }
 {}

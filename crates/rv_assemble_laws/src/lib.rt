@@ -12,4 +12,4 @@
 
 mod law;
 
-pub use law::{names_are_shown, statements_fill_sections};
+pub use law::{names_are_shown, sections_are_named, statements_fill_sections};

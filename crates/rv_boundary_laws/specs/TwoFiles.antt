@@ -1,4 +1,5 @@
--- Two files, worked by hand: references across them, a local name that both have, and a section of notes.
+-- Two files, worked by hand: references across them, a local name that both have, and a section of
+-- notes.
 
 use Rattle.std.specs.Prelude.{ℕ, zero, suc, pos, true, false, List, [], ◌∷◌, Some, codes, bytes_eq, if◌then◌else◌}
 use Rattle.rv_isa.specs.declared.kind.Kind.{Kind}
@@ -206,7 +207,8 @@ two_files_map = record {
       ∷ map_row 2 5 7 0x1101a 0 0 ∷ map_row 2 5 8 0x1101a 4 0 ∷ [];
 }
 
--- `.word f` is 11019h, `.dword v + 4` 11004h, `.word f - g` -1, `.dword .` 11010h, the other file's `.word v` 11018h
+-- `.word f` is 11019h, `.dword v + 4` 11004h, `.word f - g` -1, `.dword .` 11010h, the other file's
+-- `.word v` 11018h
 abbrev pub two_files : Linked
 two_files = record {
   text = 0x73 ∷ 0 ∷ 0 ∷ 0 ∷ [];

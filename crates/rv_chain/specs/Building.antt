@@ -7,7 +7,8 @@ use Rattle.rv_source_laws.specs.Compressed.{is_compressed}
 use Rattle.rv_chain_laws.specs.Contents.{IsLinked}
 use Rattle.rv_chain_laws.specs.Headline.{AllRead, TheHeadline}
 
--- the linked program of the statements that the texts read as, flagged where they have compressed code
+-- the linked program of the statements that the texts read as, flagged where they have compressed
+-- code
 pub record IsProgramOf (texts : List (List ℕ)) (start : ℕ) (l : Linked) : Type 0 where
   pub sources : List (List Statement)
   pub read : AllRead texts sources

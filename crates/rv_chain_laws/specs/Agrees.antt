@@ -8,7 +8,8 @@ pub record IsFront (front whole : List ℕ) : Type 0 where
   pub rest : List ℕ
   pub joined : front ++ rest ≡ whole
 
--- they are equal; or the source run went to the inside of a statement, and so far the console is the same
+-- they are equal; or the source run went to the inside of a statement, and so far the console is
+-- the same
 abbrev pub Agrees : Outcome → Outcome → Type 0
 Agrees source machine =
     (source ≡ machine) ⊎ ((source.«end» ≡ Astray) × IsFront source.console machine.console)

@@ -1,4 +1,5 @@
--- What a linked program holds: the bytes of its regions are those of the statements that stand there.
+-- What a linked program holds: the bytes of its regions are those of the statements that stand
+-- there.
 
 use Rattle.std.specs.Prelude.{◌≡◌, ℕ, ◌+◌, ◌-◌, ◌*◌, ◌≤◌, IsTrue, List, [], ◌∷◌, ◌++◌, flat_map, length, replicate, Option, Some, None}
 use Rattle.std.specs.Int.{w32, to_le_bytes}
@@ -28,7 +29,8 @@ code_bytes p s = words (expansion p s)
 abbrev pub zeros : ℕ → List ℕ
 zeros count = replicate count 0
 
--- the bytes of sections one after another from an end on: zeros up to where each starts, and then those of its statements
+-- the bytes of sections one after another from an end on: zeros up to where each starts, and then
+-- those of its statements
 abbrev pub contents : (Mapped → List ℕ) → ℕ → List InputSection → List ℕ
 contents bytes stop [] = []
 contents bytes stop (b ∷ bs) =
@@ -46,7 +48,8 @@ IsWritten p s =
 abbrev pub IsCodeWritten : Program → Type 0
 IsCodeWritten p = AllByRecursion (λ s. IsTrue s.located.home.executable → IsWritten p s) p.mapped
 
--- the linked program of sources: its map fits them, and each region has the bytes of its sections, bss zeros
+-- the linked program of sources: its map fits them, and each region has the bytes of its sections,
+-- bss zeros
 pub record IsLinked (sources : List (List Statement)) (text_start : ℕ) (l : Linked) : Type 0 where
   pub fits : Fits sources l.map text_start
   pub resolves : Resolves sources l.map

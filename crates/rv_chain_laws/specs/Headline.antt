@@ -1,5 +1,5 @@
--- The headline: running the bytes of the executable gives exactly the console and the end that the source statements
--- give, each executed in one step at the addresses of the printed map.
+-- The headline: running the bytes of the executable gives exactly the console and the end that the
+-- source statements give, each executed in one step at the addresses of the printed map.
 
 use Rattle.std.specs.Prelude.{◌≡◌, ℕ, ◌<◌, Bool, if◌then◌else◌, List, [], ◌∷◌, ⊤, None}
 use Rattle.std.specs.List.{AllByRecursion}
@@ -34,7 +34,8 @@ AllRead (text ∷ texts) (statements ∷ sources) = Reads text statements × All
 abbrev pub AreBytes : List ℕ → Type 0
 AreBytes bytes = AllByRecursion (λ byte. byte < 256) bytes
 
--- for every input and every limit, the machine's run over the image agrees with the sources' run at the map
+-- for every input and every limit, the machine's run over the image agrees with the sources' run at
+-- the map
 abbrev pub RunsAgree : List (List Statement) → Map → Image → Type 0
 RunsAgree sources map image =
     (reader : Reader Spells StandsFor) (input : List ℕ) → AreBytes input → (n : ℕ)
@@ -45,7 +46,8 @@ RunsAgree sources map image =
 abbrev pub rvc_flag : Bool → ℕ
 rvc_flag is_set = if is_set then 1 else 0
 
--- what the texts of the sources, the text's start, the bytes of the executable and those of the map have to do with one another
+-- what the texts of the sources, the text's start, the bytes of the executable and those of the map
+-- have to do with one another
 pub record TheHeadline (texts : List (List ℕ)) (text_start : ℕ)
     (executable map_bytes : List ℕ) : Type 0 where
   pub sources : List (List Statement)

@@ -1,4 +1,5 @@
--- The instruction at the front of bytes: RISC-V Unprivileged ISA 20191213, section 1.5 (instruction lengths).
+-- The instruction at the front of bytes: RISC-V Unprivileged ISA 20191213, section 1.5 (instruction
+-- lengths).
 
 use Rattle.std.specs.Prelude.{◌≡◌, ◌≢◌, ℕ, ◌+◌, ◌*◌, ◌%◌, ◌^◌, ◌≤◌, List, length, slice_index, ◌⊎◌}
 use Rattle.rv_isa.specs.declared.instruction.Inst.{Inst}

@@ -33,7 +33,8 @@ short_7 register = register % 8 * 2 ^ 7
 abbrev pub short_2 : ℕ → ℕ
 short_2 register = register % 8 * 2 ^ 2
 
--- the immediate fields, named by the bits that stand in them, as the manual's tables 16.5 to 16.7 draw them
+-- the immediate fields, named by the bits that stand in them, as the manual's tables 16.5 to 16.7
+-- draw them
 -- uimm[5:3] at 12:10, uimm[2|6] at 6:5
 abbrev pub word_offset : ℕ → ℕ
 word_offset u = bits_at u 3 3 10 + bits_at u 2 1 6 + bits_at u 6 1 5
@@ -58,7 +59,8 @@ stack_step u =
 -- imm[11|4|9:8|10|6|7|3:1|5] at 12:2
 abbrev pub jump_offset : ℕ → ℕ
 jump_offset u =
-    bits_at u 11 1 12 + bits_at u 4 1 11 + bits_at u 8 2 9 + bits_at u 10 1 8 + bits_at u 6 1 7 + bits_at u 7 1 6 + bits_at u 1 3 3 + bits_at u 5 1 2
+    bits_at u 11 1 12 + bits_at u 4 1 11 + bits_at u 8 2 9 + bits_at u 10 1 8
+    + bits_at u 6 1 7 + bits_at u 7 1 6 + bits_at u 1 3 3 + bits_at u 5 1 2
 
 -- imm[8|4:3] at 12:10, imm[7:6|2:1|5] at 6:2
 abbrev pub branch_offset : ℕ → ℕ

@@ -42,7 +42,12 @@ pub fn stack_address(bits: u32) -> u32
 /// nzimm[9] at 12, nzimm[4|6|8:7|5] at 6:2.
 #[inline]
 pub fn stack_step(bits: u32) -> u32
-    ensures { result ≡ bits_at bits 6 1 4 + bits_at bits 2 1 5 + bits_at bits 5 1 6 + bits_at bits 3 2 7 + bits_at bits 12 1 9 }
+    ensures { result
+        ≡ bits_at bits 6 1 4
+        + bits_at bits 2 1 5
+        + bits_at bits 5 1 6
+        + bits_at bits 3 2 7
+        + bits_at bits 12 1 9 }
 {
     (bits >> 6 & 1) << 4
         | (bits >> 2 & 1) << 5
@@ -72,7 +77,12 @@ pub fn jump_offset(bits: u32) -> u32
 /// imm[8|4:3] at 12:10, imm[7:6|2:1|5] at 6:2.
 #[inline]
 pub fn branch_offset(bits: u32) -> u32
-    ensures { result ≡ bits_at bits 3 2 1 + bits_at bits 10 2 3 + bits_at bits 2 1 5 + bits_at bits 5 2 6 + bits_at bits 12 1 8 }
+    ensures { result
+        ≡ bits_at bits 3 2 1
+        + bits_at bits 10 2 3
+        + bits_at bits 2 1 5
+        + bits_at bits 5 2 6
+        + bits_at bits 12 1 8 }
 {
     (bits >> 3 & 3) << 1
         | (bits >> 10 & 3) << 3

@@ -1,5 +1,6 @@
--- The word of each instruction of RV64IMA: a table of formats and selectors, and one sum of fields a format
--- (RISC-V Unprivileged ISA 20191213, section 2.2 for the formats and chapter 24 for the table).
+-- The word of each instruction of RV64IMA: a table of formats and selectors, and one sum of fields
+-- a format (RISC-V Unprivileged ISA 20191213, section 2.2 for the formats and chapter 24 for the
+-- table).
 
 use Rattle.std.specs.Prelude.{◌≡◌, ℕ, suc, ◌+◌, ◌-◌, ◌*◌, ◌/◌, ◌%◌, ◌^◌, ℤ, pos, negsuc, ◌↔◌, Option, Some}
 use Rattle.std.specs.Int.{from_bool}
@@ -236,8 +237,8 @@ word (Store opcode funct3 x) =
     + immediate / 2 ^ 5 * 2 ^ 25
 word (Branch opcode funct3 x) =
     let offset = field 13 x.offset in
-    opcode + offset / 2 ^ 11 % 2 * 2 ^ 7 + offset / 2 % 2 ^ 4 * 2 ^ 8 + funct3 * 2 ^ 12 + x.rs1 * 2 ^ 15
-    + x.rs2 * 2 ^ 20 + offset / 2 ^ 5 % 2 ^ 6 * 2 ^ 25 + offset / 2 ^ 12 * 2 ^ 31
+    opcode + offset / 2 ^ 11 % 2 * 2 ^ 7 + offset / 2 % 2 ^ 4 * 2 ^ 8 + funct3 * 2 ^ 12
+    + x.rs1 * 2 ^ 15 + x.rs2 * 2 ^ 20 + offset / 2 ^ 5 % 2 ^ 6 * 2 ^ 25 + offset / 2 ^ 12 * 2 ^ 31
 word (Upper opcode x) = opcode + x.rd * 2 ^ 7 + x.immediate * 2 ^ 12
 word (Jump opcode x) =
     let offset = field 21 x.offset in
@@ -250,7 +251,8 @@ word (LoadReserved opcode funct3 funct5 x) =
     opcode + x.rd * 2 ^ 7 + funct3 * 2 ^ 12 + x.rs1 * 2 ^ 15
     + from_bool x.release * 2 ^ 25 + from_bool x.acquire * 2 ^ 26 + funct5 * 2 ^ 27
 word (Ordering opcode funct3 x) =
-    opcode + x.rd * 2 ^ 7 + funct3 * 2 ^ 12 + x.rs1 * 2 ^ 15 + x.succ * 2 ^ 20 + x.pred * 2 ^ 24 + x.fm * 2 ^ 28
+    opcode + x.rd * 2 ^ 7 + funct3 * 2 ^ 12 + x.rs1 * 2 ^ 15
+    + x.succ * 2 ^ 20 + x.pred * 2 ^ 24 + x.fm * 2 ^ 28
 word (Whole bits) = bits
 
 -- the word spells the instruction: its operands are in range, and the fields sum to the word

@@ -45,12 +45,13 @@ has_memory part = not (memory_size_of part == 0)
 abbrev pub parts : Linked → List Part
 parts l = filter has_memory (all_parts l)
 
--- where the file has a segment: text, which begins at this start, at 1000h, the others as far behind as in memory
+-- where the file has a segment: text, which begins at this start, at 1000h, the others as far
+-- behind as in memory
 abbrev pub offset_of : ℕ → Part → ℕ
 offset_of start part = 0x1000 + (part.address - start)
 
--- ELF, 64 bits, little-endian, version 1; ET_EXEC, EM_RISCV, version 1; entry; the program headers at 64
--- and no section headers; the flag of compressed code; the sizes and counts of the tables
+-- ELF, 64 bits, little-endian, version 1; ET_EXEC, EM_RISCV, version 1; entry; the program headers
+-- at 64 and no section headers; the flag of compressed code; the sizes and counts of the tables
 unfoldable pub header_bytes : Linked → List ℕ
 header_bytes l = (0x7F ∷ 0x45 ∷ 0x4C ∷ 0x46 ∷ 2 ∷ 1 ∷ 1 ∷ 0 ∷ 0 ∷ 0 ∷ 0 ∷ 0 ∷ 0 ∷ 0 ∷ 0 ∷ 0 ∷ [])
     ++ (little_bytes 2 2 ++ (little_bytes 2 243 ++ (little_bytes 4 1
@@ -64,7 +65,8 @@ unfoldable pub program_bytes : ℕ → Part → List ℕ
 program_bytes start part =
     little_bytes 4 1 ++ (little_bytes 4 part.flags ++ (little_bytes 8 (offset_of start part)
     ++ (little_bytes 8 part.address ++ (little_bytes 8 part.address
-    ++ (little_bytes 8 (length part.stored) ++ (little_bytes 8 (memory_size_of part) ++ little_bytes 8 0x1000))))))
+    ++ (little_bytes 8 (length part.stored)
+    ++ (little_bytes 8 (memory_size_of part) ++ little_bytes 8 0x1000))))))
 
 -- a file with these bytes at a place after its end, zeros between; nothing for no bytes
 abbrev pub with_contents : List ℕ → ℕ → List ℕ → List ℕ

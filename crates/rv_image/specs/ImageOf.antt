@@ -6,7 +6,8 @@ use Rattle.rv_image.specs.Header.{field, file_type, machine, entry_point, progra
 use Rattle.rv_image.specs.Segment.{Segment}
 use Rattle.rv_image.specs.Image.{Image}
 
--- the segment of a program header: the bytes that the file has of it, and zeros up to its size in memory
+-- the segment of a program header: the bytes that the file has of it, and zeros up to its size in
+-- memory
 abbrev pub segment_in : List ℕ → Program → Segment
 segment_in file p = record {
   address = p.address;
@@ -14,7 +15,8 @@ segment_in file p = record {
   flags = p.flags;
 }
 
--- the file is an executable of this machine, and the image has its entry and a segment for each PT_LOAD
+-- the file is an executable of this machine, and the image has its entry and a segment for each
+-- PT_LOAD
 pub record ImageOf (file : List ℕ) (image : Image) : Type 0 where
   -- 7Fh ELF, the lowest byte first
   pub magic : field 4 0 file ≡ 0x464C457F

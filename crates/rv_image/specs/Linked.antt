@@ -23,8 +23,8 @@ linked_of l =
       rvc = l.rvc;
     }
 
--- how the linker lays a program out: each region has its bytes, one after the other, bss after the data, all below the
--- stack, 256 MiB at most; the entry is even
+-- how the linker lays a program out: each region has its bytes, one after the other, bss after the
+-- data, all below the stack, 256 MiB at most; the entry is even
 pub record IsLaidOut (l : Linked) : Type 0 where
   pub text_fills : l.map.text.start + length l.text ≡ l.map.text.end
   pub rodata_fills : l.map.rodata.start + length l.rodata ≡ l.map.rodata.end

@@ -1,4 +1,5 @@
--- Memory as an image lays it out, with the stack (System V gABI, "Program Header": segments and their flags).
+-- Memory as an image lays it out, with the stack (System V gABI, "Program Header": segments and
+-- their flags).
 
 use Rattle.std.specs.Prelude.{ℕ, ◌+◌, ◌-◌, ◌%◌, ◌/◌, Bool, false, ◌&&◌, ◌||◌, ◌==◌, nat_le, nat_lt, List, length, slice_index, Option, Some, None}
 use Rattle.std.specs.List.{find}

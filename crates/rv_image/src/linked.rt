@@ -28,7 +28,8 @@ pub struct Linked {
     /// The stack lies above.
     pub ghost below_stack: { map.bss.end ≤ stack_start },
     /// The memory has 256 MiB at most.
-    pub ghost limit: { length text.items + length rodata.items + (map.bss.end - map.data.start) ≤ memory_limit },
+    pub ghost limit: { length text.items + length rodata.items + (map.bss.end - map.data.start)
+        ≤ memory_limit },
     /// Instructions begin at even addresses.
     pub ghost even: { map.entry % 2 ≡ 0 },
 }

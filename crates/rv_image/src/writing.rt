@@ -46,7 +46,9 @@ fn put_header(file: &mut Vec<u8>, linked: &Linked) -> Result<(), AllocError>
 fn put_sizes(file: &mut Vec<u8>, linked: &Linked) -> Result<(), AllocError>
     ensures length { OnOk result (vec_len file.new ≡ vec_len file.old + 16) }
     ensures bytes { OnOk result (file.new.items ≡ file.old.items
-        ++ (little_bytes 4 (if linked.now.rvc then 1 else 0) ++ (64 ∷ 0 ∷ 56 ∷ 0 ∷ (little_bytes 2 (length (parts (linked_of linked.now))) ++ 0 ∷ 0 ∷ 0 ∷ 0 ∷ 0 ∷ 0 ∷ [])))) }
+        ++ (little_bytes 4 (if linked.now.rvc then 1 else 0)
+        ++ (64 ∷ 0 ∷ 56 ∷ 0 ∷ (little_bytes 2 (length (parts (linked_of linked.now)))
+        ++ 0 ∷ 0 ∷ 0 ∷ 0 ∷ 0 ∷ 0 ∷ [])))) }
 {
     file.extend_from_slice(&u32::from(linked.rvc).to_le_bytes())?;
     file.extend_from_slice(b"\x40\0\x38\0")?;
@@ -187,7 +189,9 @@ fn put_place(file: &mut Vec<u8>, start: u64, part: Part) -> Result<(), AllocErro
     requires far { part.address < 2 ^ 63 }
     ensures length { OnOk result (vec_len file.new ≡ vec_len file.old + 32) }
     ensures bytes { OnOk result (file.new.items ≡ file.old.items
-        ++ (1 ∷ 0 ∷ 0 ∷ 0 ∷ (little_bytes 4 part.entry.flags ++ (little_bytes 8 (offset_of start (part_of part.entry)) ++ (little_bytes 8 part.entry.address ++ little_bytes 8 part.entry.address))))) }
+        ++ (1 ∷ 0 ∷ 0 ∷ 0 ∷ (little_bytes 4 part.entry.flags
+        ++ (little_bytes 8 (offset_of start (part_of part.entry))
+        ++ (little_bytes 8 part.entry.address ++ little_bytes 8 part.entry.address))))) }
 {
     file.extend_from_slice(b"\x01\0\0\0")?;
     file.extend_from_slice(&part.flags.to_le_bytes())?;

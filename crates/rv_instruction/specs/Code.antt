@@ -114,7 +114,8 @@ value_faults operation v =
     then scratch_of operation ++ target_faults v
     else number_faults (mnemonic_of operation) v
 
--- those of an operation with a function of a value, where l says which symbols are labels of the file
+-- those of an operation with a function of a value, where l says which symbols are labels of the
+-- file
 abbrev pub function_faults : (Primary → Bool) → Operation → Function → values.Value → List ℕ
 function_faults l operation Hi v = upper_faults v
 function_faults l operation Lo v = low_faults (mnemonic_of operation) v
@@ -126,7 +127,8 @@ abbrev pub InRange : Bool → Option Inst → Result Inst SourceCode → Type 0
 InRange fits wanted (Ok i) = (fits ≡ true) × (wanted ≡ Some i) × IsValid i
 InRange fits wanted (Err code) = (fits ≡ false) × (code ≡ ImmediateRange)
 
--- the instruction of an operation with a number, or the code of the number's fault, or of what cannot be placed
+-- the instruction of an operation with a number, or the code of the number's fault, or of what
+-- cannot be placed
 abbrev pub OfNumber : Operation → ℕ → Result Inst SourceCode → Type 0
 OfNumber operation k (Ok i) =
     (range_faults (mnemonic_of operation) k ≡ []) × (numbered operation k ≡ Some (i ∷ []))
@@ -156,8 +158,8 @@ code_said f (Instruction mnemonic operands) =
     words (expanded (λ e. constant_in (f e)) mnemonic operands)
 code_said f _ = []
 
--- the instruction of a statement in a section of code or not, if it is one, or the lowest code of its
--- faults: where l says which symbols are labels of the file
+-- the instruction of a statement in a section of code or not, if it is one, or the lowest code of
+-- its faults: where l says which symbols are labels of the file
 abbrev pub Codes :
     Options → Bool → (Expression → values.Value) → (Primary → Bool) → Statement
     → Result (Option Inst) SourceFault → Type 0

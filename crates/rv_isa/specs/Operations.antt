@@ -1,5 +1,6 @@
--- The operations of each format: the instructions that they write, and their names; and the format of each instruction
--- (RISC-V Unprivileged ISA 20191213, section 2.2 for the formats and chapter 24 for the table).
+-- The operations of each format: the instructions that they write, and their names; and the format
+-- of each instruction (RISC-V Unprivileged ISA 20191213, section 2.2 for the formats and chapter 24
+-- for the table).
 
 use Rattle.std.specs.Prelude.{ℕ, ◌+◌, ◌*◌, Bool, true, false, List, codes}
 use Rattle.std.specs.Int.{from_bool}

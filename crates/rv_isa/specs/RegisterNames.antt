@@ -1,4 +1,5 @@
--- The names of registers (RISC-V ELF psABI, integer register convention; RISC-V Assembly Programmer's Manual).
+-- The names of registers (RISC-V ELF psABI, integer register convention; RISC-V Assembly
+-- Programmer's Manual).
 
 use Rattle.std.specs.Prelude.{◌≡◌, ℕ, ◌+◌, ◌/◌, ◌%◌, ◌<◌, ◌⊎◌, List, [], ◌∷◌, ◌++◌, Some, codes, slice_get, nat_lt, if◌then◌else◌}
 

@@ -1,5 +1,5 @@
--- Arithmetic on whole numbers below 2 ^ 64 (ISA, chapters 2, 5 and 7). Signed numbers are whole numbers with a sign:
--- `pos n` is n, `negsuc n` is -(n + 1).
+-- Arithmetic on whole numbers below 2 ^ 64 (ISA, chapters 2, 5 and 7). Signed numbers are whole
+-- numbers with a sign: `pos n` is n, `negsuc n` is -(n + 1).
 
 use Rattle.std.specs.Prelude.{ℕ, suc, ℤ, pos, negsuc, ◌+◌, ◌-◌, ◌*◌, ◌/◌, ◌%◌, ◌^◌, ◌*ℤ◌, Bool, if◌then◌else◌, nat_lt, int_lt, int_div, int_rem, ◌==◌}
 
@@ -28,7 +28,8 @@ floor (negsuc n) d = negsuc (n / d)
 abbrev pub one_if : Bool → ℕ
 one_if b = if b then 1 else 0
 
--- ---- add, sub, slt, sltu and the shifts (ISA, 2.4); a shift takes the low 6 bits of its amount (ISA, 5.2)
+-- ---- add, sub, slt, sltu and the shifts (ISA, 2.4)
+-- a shift takes the low 6 bits of its amount (ISA, 5.2)
 
 abbrev pub sum_of : ℕ → ℕ → ℕ
 sum_of a b = (a + b) % 2 ^ 64
@@ -48,7 +49,8 @@ shifted_right a by = a / 2 ^ (by % 64)
 abbrev pub shifted_right_signed : ℕ → ℕ → ℕ
 shifted_right_signed a by = wrapped (floor (signed 64 a) (2 ^ (by % 64)))
 
--- ---- the same in the W forms (ISA, 5.2): low 32 bits in, sign-extended out; the low 5 bits of an amount
+-- ---- the same in the W forms (ISA, 5.2)
+-- low 32 bits in, sign-extended out; the low 5 bits of an amount
 
 abbrev pub word_sum : ℕ → ℕ → ℕ
 word_sum a b = extended 32 (low (a + b))
@@ -65,7 +67,8 @@ word_shifted_right a by = extended 32 (low a / 2 ^ (by % 32))
 abbrev pub word_shifted_right_signed : ℕ → ℕ → ℕ
 word_shifted_right_signed a by = wrapped (floor (signed 32 (low a)) (2 ^ (by % 32)))
 
--- ---- products (ISA, 7.1): the low 64 bits, and the high 64 of signed, unsigned, signed by unsigned
+-- ---- products (ISA, 7.1)
+-- the low 64 bits, and the high 64 of signed, unsigned, signed by unsigned
 
 abbrev pub product_of : ℕ → ℕ → ℕ
 product_of a b = (a * b) % 2 ^ 64
@@ -83,7 +86,8 @@ abbrev pub word_product : ℕ → ℕ → ℕ
 word_product a b = extended 32 (low (a * b))
 
 -- ---- quotients toward zero and their remainders (ISA, 7.2). By 0: all ones, and the dividend.
--- The one quotient that is out of range, of the least number by -1, is the least number again modulo 2 ^ 64.
+-- The one quotient that is out of range, of the least number by -1, is the least number again
+-- modulo 2 ^ 64.
 
 abbrev pub quotient : ℕ → ℕ → ℕ
 quotient a b = if b == 0 then 2 ^ 64 - 1 else wrapped (int_div (signed 64 a) (signed 64 b))

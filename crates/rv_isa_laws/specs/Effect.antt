@@ -92,7 +92,9 @@ apply (Reserves a n next) m =
     else Over (MisalignedAtomic a)
 apply (Conditional a n v reserved next) m =
     if a % n == 0
-    then (if may m a n Write then On next (if reserved then with_number m a n v else m) else Over (store_refusal m a n))
+    then (if may m a n Write
+    then On next (if reserved then with_number m a n v else m)
+    else Over (store_refusal m a n))
     else Over (MisalignedAtomic a)
 apply (Updates a n new next) m =
     if a % n == 0

@@ -1,5 +1,6 @@
--- The halves of an address or a distance: what `lui` or `auipc` takes of it, and what is left for twelve bits with sign
--- (ISA, 2.4; RISC-V ELF psABI, "Absolute Addresses" and "PC-Relative Addresses").
+-- The halves of an address or a distance: what `lui` or `auipc` takes of it, and what is left for
+-- twelve bits with sign (ISA, 2.4; RISC-V ELF psABI, "Absolute Addresses" and "PC-Relative
+-- Addresses").
 
 use Rattle.std.specs.Prelude.{ℤ, pos, ◌+ℤ◌, ◌-ℤ◌, ◌*ℤ◌}
 use Rattle.rv_isa_laws.specs.Arithmetic.{floor}

@@ -19,7 +19,8 @@ GoesOn P Breaks = Unit {0}
 abbrev pub InRange : Hart → Type 0
 InRange h = (r : ℕ) → slice_index h.registers r < 2 ^ 64
 
--- what a hart keeps of an earlier one: input, console and registers in range; and its pc is an address
+-- what a hart keeps of an earlier one: input, console and registers in range; and its pc is an
+-- address
 pub record Kept (h g : Hart) : Type 0 where
   pub input : g.input ≡ h.input
   pub console : g.console ≡ h.console

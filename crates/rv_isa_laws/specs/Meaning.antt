@@ -56,7 +56,8 @@ abbrev pub jumps : ℕ → Hart → ℕ → ℕ → Effect
 jumps bytes h rd target =
     Goes (record (with_register h rd ((h.pc + bytes) % 2 ^ 64)) { pc = target % 2 ^ 64 })
 
--- where the test holds the hart goes so far from the branch, else to the next instruction (ISA, 2.5)
+-- where the test holds the hart goes so far from the branch, else to the next instruction (ISA,
+-- 2.5)
 abbrev pub branches : ℕ → Hart → BType → Bool → Effect
 branches bytes h x taken =
     Goes (record h { pc = (h.pc + (if taken then wrapped x.offset else bytes)) % 2 ^ 64 })
@@ -93,7 +94,8 @@ reserves bytes h x width made =
     let reserved = with_reservation h (Some (reservation_of (register h x.rs1) width)) in
     Reserves (register h x.rs1) width (λ n. with_result bytes reserved x.rd (made n))
 
--- where it is reserved, rs2 goes to rs1 and rd gets 0, else rd gets 1; nothing is reserved from here on (ISA, 8.2)
+-- where it is reserved, rs2 goes to rs1 and rd gets 0, else rd gets 1; nothing is reserved from
+-- here on (ISA, 8.2)
 abbrev pub stores_if_reserved : ℕ → Hart → AtomicOperands → ℕ → Effect
 stores_if_reserved bytes h x width =
     let reserved = is_reserved h.reservation (register h x.rs1) width in
@@ -116,7 +118,7 @@ updates_word bytes h x operation =
 abbrev pub upper : ℕ → ℕ
 upper immediate = extended 32 (low (immediate * 2 ^ 12))
 
--- ---- integer computation (ISA, 2.4), the W forms (ISA, 5.2), multiplication and division (ISA, 7.1 and 7.2)
+-- ---- integer computation (ISA, 2.4), W forms (ISA, 5.2), products and quotients (ISA, 7.1, 7.2)
 
 -- what is made of rs1 and rs2
 abbrev pub register_result : RegisterOperation → ℕ → ℕ → ℕ
@@ -220,7 +222,8 @@ abbrev pub reserve_result : Bool → ℕ → ℕ
 reserve_result false = extended 32
 reserve_result true = λ n. n
 
--- what memory gets of the old number and rs2, both of `bits` bits (ISA, 8.4); a store-conditional stores rs2 (ISA, 8.2)
+-- what memory gets of the old number and rs2, both of `bits` bits (ISA, 8.4); a store-conditional
+-- stores rs2 (ISA, 8.2)
 abbrev pub atomic_result : AtomicOperation → ℕ → ℕ → ℕ → ℕ
 atomic_result Sc bits = λ old b. b
 atomic_result Amoswap bits = λ old b. b

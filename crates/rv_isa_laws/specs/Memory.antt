@@ -1,4 +1,5 @@
--- Memory as a program sees it: at each address a byte and its rights. Addresses count modulo 2 ^ 64 (ISA, 1.4).
+-- Memory as a program sees it: at each address a byte and its rights. Addresses count modulo 2 ^ 64
+-- (ISA, 1.4).
 
 use Rattle.std.specs.Prelude.{ℕ, zero, suc, ◌+◌, ◌*◌, ◌/◌, ◌%◌, ◌^◌, Bool, true, false, ◌&&◌, ◌||◌, ◌==◌, if◌then◌else◌, List, [], ◌∷◌}
 

@@ -1,4 +1,5 @@
--- What code spells, as a function: for each word and each parcel the one instruction that it spells, or none.
+-- What code spells, as a function: for each word and each parcel the one instruction that it
+-- spells, or none.
 
 use Rattle.std.specs.Prelude.{◌≡◌, ◌↔◌, ℕ, Option, Some}
 use Rattle.rv_isa.specs.declared.instruction.Inst.{Inst}

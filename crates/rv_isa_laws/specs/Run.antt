@@ -8,7 +8,8 @@ use Rattle.rv_isa_laws.specs.Effect.{Next, Over, apply, follow}
 use Rattle.rv_isa_laws.specs.Meaning.{effect}
 use Rattle.rv_isa_laws.specs.Reader.{Reader}
 
--- what stands at an address: bytes that may not be executed, bytes that spell nothing, or an instruction and its length
+-- what stands at an address: bytes that may not be executed, bytes that spell nothing, or an
+-- instruction and its length
 pub data Fetched : Type 0 where
   NoRight : Fetched
   NoInstruction : Fetched

@@ -1,4 +1,5 @@
--- What the tables hold while a pass goes over the statements: each statement's start, or what is left from it on.
+-- What the tables hold while a pass goes over the statements: each statement's start, or what is
+-- left from it on.
 
 use Rattle.std.specs.Prelude.{◌≡◌, ◌⊎◌, ℕ, ◌*◌, ◌^◌, ◌≤◌, ◌<◌, Bool, true, List, length, drop, set, slice_index, sum, ℤ, MatchBool}
 use Rattle.rv_layout_laws.specs.declared.item.Item.{Item}
@@ -47,7 +48,8 @@ AreRests items i sizes ends =
 abbrev pub IsJudged : Item → ℤ → (size wider : ℕ) → Type 0
 IsJudged item away size wider =
     ((wider ≡ size) × (size < largest item.forms → Reaches (half item.forms size) item.addend away))
-    ⊎ ((wider ≡ 2 * size) × ((size < largest item.forms) × (Reaches (half item.forms size) item.addend away → ⊥)))
+    ⊎ ((wider ≡ 2 * size) × ((size < largest item.forms)
+    × (Reaches (half item.forms size) item.addend away → ⊥)))
 
 -- a statement's size stands
 abbrev pub Stays : List Item → List ℕ → ℕ → Type 0

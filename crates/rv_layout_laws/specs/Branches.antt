@@ -1,5 +1,5 @@
--- The sizes of branches: the least family in which each form below a statement's largest reaches (GNU as,
--- "RISC-V-Directives"; ISA manual, "Conditional Branches").
+-- The sizes of branches: the least family in which each form below a statement's largest reaches
+-- (GNU as, "RISC-V-Directives"; ISA manual, "Conditional Branches").
 
 use Rattle.std.specs.Prelude.{◌≡◌, ◌⊎◌, ℕ, suc, ◌^◌, ◌≤◌, ◌<◌, ◌==◌, Bool, true, false, List, [], ◌∷◌, length, set, map, slice_index, slice_index_or, count_by, ℤ, pos, if◌then◌else◌}
 use Rattle.rv_layout_laws.specs.declared.item.Forms.{Forms}
@@ -26,7 +26,8 @@ largest CompressedBranch = 8
 largest Branch = 8
 largest CompressedJump = 4
 
--- the form of a size reaches from -half on, and less far than half: c.beqz and c.bnez 256, branches 4096, c.j 2048
+-- the form of a size reaches from -half on, and less far than half: c.beqz and c.bnez 256, branches
+-- 4096, c.j 2048
 abbrev pub half : Forms → ℕ → ℕ
 half CompressedJump size = 2 ^ 11
 half CompressedBranch size = if size == 2 then 2 ^ 8 else 2 ^ 12

@@ -1,5 +1,5 @@
--- The sizes of calls after relaxation: the greatest family in which no call has a shorter form that reaches
--- (psABI, "Linker Relaxation": function call relaxation, alignment relaxation).
+-- The sizes of calls after relaxation: the greatest family in which no call has a shorter form that
+-- reaches (psABI, "Linker Relaxation": function call relaxation, alignment relaxation).
 
 use Rattle.std.specs.Prelude.{◌≡◌, ◌⊎◌, ℕ, suc, ◌+◌, ◌-◌, ◌^◌, ◌≤◌, ◌<◌, ◌==◌, min, Bool, true, false, IsTrue, List, [], ◌∷◌, length, set, map, slice_index, slice_index_or, count_by, ⊤, pos, ◌-ℤ◌, if◌then◌else◌}
 use Rattle.rv_layout_laws.specs.declared.site.Site.{Site}

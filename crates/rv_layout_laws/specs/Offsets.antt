@@ -1,5 +1,6 @@
--- Where the parts of a text stand, how far one is from another, and which distances a jump reaches (ISA manual,
--- "Unconditional Jumps", "Conditional Branches" and "Compressed Control Transfer Instructions").
+-- Where the parts of a text stand, how far one is from another, and which distances a jump reaches
+-- (ISA manual, "Unconditional Jumps", "Conditional Branches" and "Compressed Control Transfer
+-- Instructions").
 
 use Rattle.std.specs.Prelude.{◌≡◌, ℕ, ◌+◌, ◌*◌, ◌%◌, ◌≤◌, List, take, slice_index, sum, ℤ, pos, ◌+ℤ◌, ◌-ℤ◌, neg_ℤ, ◌≤ℤ◌, ◌<ℤ◌, unsigned_abs}
 
@@ -34,7 +35,8 @@ pub record IsImmediate (half : ℕ) (z : ℤ) : Type 0 where
   pub low : neg_ℤ (pos half) ≤ℤ z
   pub high : z <ℤ pos half
 
--- a form reaches where the constant added to its target is an immediate by itself, and with the distance
+-- a form reaches where the constant added to its target is an immediate by itself, and with the
+-- distance
 pub record Reaches (half : ℕ) (addend : ℤ) (away : ℤ) : Type 0 where
   pub alone : IsImmediate half addend
   pub added : IsImmediate half (away +ℤ addend)

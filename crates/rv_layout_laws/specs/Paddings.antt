@@ -1,5 +1,5 @@
--- Paddings after relaxation: calls keep the sizes of a family, and each alignment the least padding that aligns its end
--- (psABI, "Linker Relaxation": alignment relaxation).
+-- Paddings after relaxation: calls keep the sizes of a family, and each alignment the least padding
+-- that aligns its end (psABI, "Linker Relaxation": alignment relaxation).
 
 use Rattle.std.specs.Prelude.{◌≡◌, ◌⊎◌, ℕ, ◌+◌, ◌%◌, ◌≤◌, ◌<◌, List, length, slice_index, IsTrue, ⊤}
 use Rattle.rv_layout_laws.specs.declared.site.Site.{Site}
@@ -12,7 +12,8 @@ pub record IsLeastPadding (alignment start padding : ℕ) : Type 0 where
   pub aligned : (start + padding) % alignment ≡ 0
   pub least : (other : ℕ) → (start + other) % alignment ≡ 0 → padding ≤ other
 
--- what is kept of a site, where a family of call sizes keeps so much of it and it begins at a new offset
+-- what is kept of a site, where a family of call sizes keeps so much of it and it begins at a new
+-- offset
 abbrev pub IsLaid : SiteKind → (sized start kept : ℕ) → Type 0
 IsLaid (Call call) sized start kept = kept ≡ sized
 IsLaid (Padding padding) sized start kept = IsLeastPadding padding.alignment start kept
@@ -39,7 +40,8 @@ abbrev pub AllReach : List Site → List ℕ → Type 0
 AllReach sites kept = (i : ℕ) → IsTrue (is_call (site_at sites i).kind) → slice_index kept i < 8
     → ReachesBy sites kept i (slice_index kept i)
 
--- a padding is for an even alignment, and as it stands it has one alignment's bytes but 2: enough from any even offset
+-- a padding is for an even alignment, and as it stands it has one alignment's bytes but 2: enough
+-- from any even offset
 abbrev pub IsFullPadding : SiteKind → Type 0
 IsFullPadding (Call call) = ⊤
 IsFullPadding (Padding padding) = (padding.alignment ≡ padding.bytes + 2) × (padding.bytes % 2 ≡ 0)

@@ -34,7 +34,8 @@ pub fn widening_ends()
 /// Where it ends is the least good family.
 pub fn widening_ends_at_the_least()
     ensures { (items : List AnyItem) (sizes : List ℕ) (n : ℕ) →
-        Widenings items (smallest_sizes items) sizes n → IsGood items sizes → IsLeastGood items sizes }
+        Widenings items (smallest_sizes items) sizes n → IsGood items sizes →
+        IsLeastGood items sizes }
 {}
 
 /// A form below the largest still reaches where statements shrink afterwards by even numbers of bytes, as calls that are

@@ -35,7 +35,8 @@ pub fn shortening_ends()
 /// Where it ends is the greatest closed family.
 pub fn shortening_ends_at_the_greatest()
     ensures { (sites : List AnySite) → IsText sites → (kept : List ℕ) (n : ℕ) →
-        Shortenings sites (whole_sizes sites) kept n → IsClosed sites kept → IsGreatestClosed sites kept }
+        Shortenings sites (whole_sizes sites) kept n → IsClosed sites kept →
+        IsGreatestClosed sites kept }
 {}
 
 /// Each shortened call reaches, whatever paddings regrow.

@@ -25,7 +25,8 @@ abbrev pub Fails : {Y : Type 0} → ReadError → Result Y laws.SyntaxError → 
 Fails (errors.At w) read = read ≡ Err (syntax_error_of w)
 Fails errors.OutOfMemory read = Unit {0}
 
--- a call's result, as `view` sees it, is what the reading at the front of the tokens gives, unless memory ran out
+-- a call's result, as `view` sees it, is what the reading at the front of the tokens gives, unless
+-- memory ran out
 abbrev pub Answers : {X Y : Type 0} → (X → Y) → Result X ReadError → Result Y laws.SyntaxError →
     Type 0
 Answers view (Ok x) read = read ≡ Ok (view x)

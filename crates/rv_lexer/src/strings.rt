@@ -65,7 +65,9 @@ fn octal(digits: &[u8]) -> Option<(u8, usize)>
 /// The byte of a hexadecimal escape, and its length with the backslash and the `x`.
 fn hexadecimal(digits: &[u8]) -> Option<(u8, usize)>
     requires { length digits.now < 4 }
-    ensures { result ≡ (if length digits.now == 0 then None else option_map (λ n. (n % 256, length digits.now + 2)) (number_by 16 digits.now)) }
+    ensures { result
+        ≡ (if length digits.now == 0 then None
+        else option_map (λ n. (n % 256, length digits.now + 2)) (number_by 16 digits.now)) }
 {
     if digits.is_empty() {
         return None;

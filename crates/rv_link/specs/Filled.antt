@@ -30,7 +30,8 @@ input_at os file index s =
 abbrev pub input_of : Fixed → Input → InputSection
 input_of f x = input_at (objects_of f) x.file x.index (section_of x.section.now)
 
--- the section is one of the objects, and what is placed for it is where it starts, with room for its paddings
+-- the section is one of the objects, and what is placed for it is where it starts, with room for
+-- its paddings
 pub record IsInput (os : List Object) (p : Placement) (x : Input) : Type 0 where
   pub stands : section_at os x.file x.index ≡ Some (section_of x.section.now)
   pub start : starts_of p (x.file + 1) x.index ≡ x.placed.now.start
@@ -45,7 +46,8 @@ abbrev pub worth : List Object → Placement → InputSection → Relocation →
 worth os p i r = unwrap_or (value (shown_globals os p) (starts_of p) os i r) (pos 0)
 
 -- a relocation has a value, and its field takes it
-pub record IsTaken (os : List Object) (p : Placement) (i : InputSection) (r : Relocation) : Type 0 where
+pub record IsTaken (os : List Object) (p : Placement)
+    (i : InputSection) (r : Relocation) : Type 0 where
   pub found : IsTrue (is_some (value (shown_globals os p) (starts_of p) os i r))
   pub alone : is_low r.kind ≡ true → r.addend ≡ pos 0
   pub takes : Takes r.kind (worth os p i r)

@@ -1,5 +1,5 @@
--- Why objects cannot be linked, in the order in which that is tested (this project's linker; GNU ld's diagnostics are of the
--- same kinds).
+-- Why objects cannot be linked, in the order in which that is tested (this project's linker; GNU
+-- ld's diagnostics are of the same kinds).
 
 use Rattle.std.specs.Prelude.{◌≡◌, ◌⊎◌, ⊤, ℕ, ◌%◌, ◌<◌, ◌≤◌, true, false, List, length, Some, None}
 use Rattle.rv_isa_laws.specs.Platform.{stack_start}

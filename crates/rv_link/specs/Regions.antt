@@ -21,7 +21,8 @@ use Rattle.rv_link.specs.declared.fault.LinkFault.{LinkFault}
 use Rattle.rv_link.specs.Filled.{objects_of, linked_in}
 use Rattle.rv_link.specs.Untaken.{AreTaken, IsFirstUntaken}
 
--- where the sections of objects stand, with room for their paddings, and what their relocations are worth
+-- where the sections of objects stand, with room for their paddings, and what their relocations are
+-- worth
 pub record IsFixed (f : Fixed) : Type 0 where
   pub first : ℕ
   pub placed : IsPlacement (objects_of f) first f.placement.now
@@ -39,7 +40,8 @@ left_from os file index goes =
 abbrev pub left_files : List Object → ℕ → (Section → Bool) → List InputSection
 left_files os file goes = inputs_of goes (file + 1) (drop file os)
 
--- a region has the bytes of all its sections but for those that are left, which stand from its end on
+-- a region has the bytes of all its sections but for those that are left, which stand from its end
+-- on
 pub record IsGrown (bytes : InputSection → List ℕ) (starts : Starts) (region : Region)
     (whole left : List InputSection) (out : List ℕ) : Type 0 where
   pub stand : Stand starts (region.start + length out) left

@@ -1,4 +1,5 @@
--- Why fields do not take their values: the first relocation that fails (RISC-V ELF psABI, "Relocations").
+-- Why fields do not take their values: the first relocation that fails (RISC-V ELF psABI,
+-- "Relocations").
 
 use Rattle.std.specs.Prelude.{◌≡◌, ◌⊎◌, ℤ, List, [], ◌∷◌}
 use Rattle.std.specs.List.{AllByRecursion}

@@ -19,11 +19,11 @@ ghost use Rattle.rv_object.specs.Valid.{
   is_below,
   is_defined_in,
   is_even,
-  is_kept_name,
   is_padding,
   is_row_in,
   is_shown,
   is_string,
+  keeps_name,
   padding_of,
 };
 ghost use Rattle.rv_map.specs.Name.{is_name, is_name_byte};
@@ -53,10 +53,20 @@ fn is_power(n: u64) -> bool
     )
 }
 
-fn is_kept(name: &[u8]) -> bool
-    ensures { result ≡ is_kept_name name.now }
+fn is_kept(contents: &Contents, name: &[u8]) -> bool
+    ensures { result ≡ keeps_name (contents_of contents.now) name.now }
 {
-    name != b".rv.rows".as_slice()
+    match contents {
+        Contents::Progbits(_) => name != b".rv.rows".as_slice(),
+        Contents::Note(_) => true,
+        Contents::Nobits(_) => true,
+    }
+}
+
+fn has_no_zero(name: &[u8]) -> bool
+    ensures { result ≡ is_string name.now }
+{
+    name.iter().all(|byte| *byte != 0)
 }
 
 fn ends_even(executable: bool, contents: &Contents) -> bool
@@ -219,12 +229,6 @@ fn has_shown_bytes(name: &[u8]) -> bool
     name.iter().all(|byte| b'!' <= *byte && *byte <= b'~')
 }
 
-fn has_no_zero(name: &[u8]) -> bool
-    ensures { result ≡ is_string name.now }
-{
-    name.iter().all(|byte| *byte != 0)
-}
-
 fn may_show(binding: Binding, name: &[u8]) -> bool
     ensures { result ≡ is_shown binding name.now }
 {
@@ -369,7 +373,10 @@ fn section_with(
 ) -> Option<Section> {
     let loaded = flags & A != 0;
     let executable = flags & X != 0;
-    if !is_kept(&name) || !is_power(alignment) || !ends_even(executable, &contents) {
+    if !has_no_zero(&name) || !is_kept(&contents, &name) {
+        return None;
+    }
+    if !is_power(alignment) || !ends_even(executable, &contents) {
         return None;
     }
     if !loaded && !relocations.is_empty() {

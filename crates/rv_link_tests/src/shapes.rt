@@ -60,7 +60,8 @@ const SHAPES: &[Shape] = &[
                     (b".data", W | A, b"\x07", None, 1, &[]),
                     (b".bss", W | A, b"", Some(3), 1, &[]),
                     (b".bss.b", W | A, b"", Some(1), 16, &[]),
-                    (b".zeros", A, b"", Some(2), 1, &[]),
+                    // a section without bytes is none of rows, whatever its name
+                    (b".rv.rows", A, b"", Some(2), 1, &[]),
                 ],
                 &[],
             ),

@@ -4,14 +4,14 @@
 
 ghost use Rattle.std.specs.Prelude.{◌≡◌, ℕ, List, ◌+◌, ◌%◌, ◌^◌, ◌<◌, ◌&&◌, true, false, MatchOption, MatchBool, if◌then◌else◌};
 ghost use Rattle.rv_isa_laws.specs.Memory.{number_at, with_number, some_has, may, Execute as ToExecute, Read as ToRead, Write as ToWrite};
-ghost use Rattle.rv_isa_laws.specs.Effect.{Goes, Updates, apply, load_refusal, store_refusal};
+ghost use Rattle.rv_isa_laws.specs.Effect.{Goes, Updates, load_refusal, store_refusal};
 ghost use Rattle.rv_isa_laws.specs.Arithmetic.{extended, low};
 ghost use Rattle.rv_isa_laws.specs.Meaning.{jumps, with_result};
 ghost use Rattle.rv_memory.specs.Rights.{IsWidth};
 ghost use Rattle.rv_machine.specs.Action.{effect_of, made, of_word, of_double};
 ghost use Rattle.rv_machine.specs.End.{end_of};
 ghost use Rattle.rv_machine.specs.Hart.{hart_of};
-ghost use Rattle.rv_machine.specs.Machine.{Comes};
+ghost use Rattle.rv_machine.specs.Machine.{ComesOf};
 ghost use Rattle.rv_machine.specs.declared.action.Action.TheVariants as is;
 
 use crate::action::{ConditionalStore, Load, ReservingLoad, Store, Update};
@@ -128,7 +128,8 @@ pub fn load<M: Memory>(hart: &mut Hart, memory: &M, x: Load, bytes: u64) -> Opti
     requires { IsWidth x.bytes }
     ensures { (input console : List ℕ) →
         let before = hart_of hart.old input console in
-        Comes result (apply (effect_of (is.Load x) bytes before) (M.mem memory.now)) before (M.mem memory.now) (hart_of hart.new input console) (M.mem memory.now) }
+        ComesOf result (effect_of (is.Load x) bytes before) before (M.mem memory.now)
+        (hart_of hart.new input console) (M.mem memory.now) }
 {
     match read(memory, x.address, x.bytes, x.signed) {
         Some(value) => {
@@ -145,7 +146,8 @@ pub fn store<M: Memory>(hart: &mut Hart, memory: &mut M, x: Store, bytes: u64) -
     requires { IsWidth x.bytes }
     ensures { (input console : List ℕ) →
         let before = hart_of hart.old input console in
-        Comes result (apply (effect_of (is.Store x) bytes before) (M.mem memory.old)) before (M.mem memory.old) (hart_of hart.new input console) (M.mem memory.new) }
+        ComesOf result (effect_of (is.Store x) bytes before) before (M.mem memory.old)
+        (hart_of hart.new input console) (M.mem memory.new) }
 {
     if !write(memory, x.address, x.bytes, x.value) {
         return Some(store_end(memory, x.address, x.bytes));
@@ -160,7 +162,8 @@ pub fn reserve<M: Memory>(hart: &mut Hart, memory: &M, x: ReservingLoad, bytes: 
     requires { IsWidth x.bytes }
     ensures { (input console : List ℕ) →
         let before = hart_of hart.old input console in
-        Comes result (apply (effect_of (is.Reserve x) bytes before) (M.mem memory.now)) before (M.mem memory.now) (hart_of hart.new input console) (M.mem memory.now) }
+        ComesOf result (effect_of (is.Reserve x) bytes before) before (M.mem memory.now)
+        (hart_of hart.new input console) (M.mem memory.now) }
 {
     if x.address % x.bytes != 0 {
         return Some(End::MisalignedAtomic(x.address));
@@ -183,7 +186,9 @@ pub fn reserve<M: Memory>(hart: &mut Hart, memory: &M, x: ReservingLoad, bytes: 
 fn store_if<M: Memory>(memory: &mut M, address: u64, bytes: u64, value: u64, reserved: bool)
     requires width { IsWidth bytes }
     requires may { may (M.mem memory.old) address bytes ToWrite ≡ true }
-    ensures { M.mem memory.new ≡ (if reserved then with_number (M.mem memory.old) address bytes value else M.mem memory.old) }
+    ensures { M.mem memory.new
+        ≡ (if reserved then with_number (M.mem memory.old) address bytes value
+        else M.mem memory.old) }
 {
     if reserved {
         memory.store(address, bytes, value);
@@ -201,7 +206,8 @@ pub fn conditional<M: Memory>(
     requires { IsWidth x.bytes }
     ensures { (input console : List ℕ) →
         let before = hart_of hart.old input console in
-        Comes result (apply (effect_of (is.Conditional x) bytes before) (M.mem memory.old)) before (M.mem memory.old) (hart_of hart.new input console) (M.mem memory.new) }
+        ComesOf result (effect_of (is.Conditional x) bytes before) before (M.mem memory.old)
+        (hart_of hart.new input console) (M.mem memory.new) }
 {
     if x.address % x.bytes != 0 {
         return Some(End::MisalignedAtomic(x.address));
@@ -218,7 +224,9 @@ pub fn conditional<M: Memory>(
 /// Whether bytes may be read and written.
 #[inline(always)]
 fn may_update<M: Memory>(memory: &M, address: u64, bytes: u64) -> bool
-    ensures { result ≡ (may (M.mem memory.now) address bytes ToRead && may (M.mem memory.now) address bytes ToWrite) }
+    ensures { result
+        ≡ (may (M.mem memory.now) address bytes ToRead
+        && may (M.mem memory.now) address bytes ToWrite) }
 {
     memory.may(address, bytes, Right::Read) && memory.may(address, bytes, Right::Write)
 }
@@ -236,7 +244,9 @@ pub fn update_word<M: Memory>(
     ensures { (input console : List ℕ) →
         let before = hart_of hart.old input console in
         let new : ℕ → ℕ = λ old. of_word x.operation (low old) (low x.value) in
-        Comes result (apply (Updates x.address width new (λ old. with_result bytes before x.rd (extended 32 (low old)))) (M.mem memory.old)) before (M.mem memory.old) (hart_of hart.new input console) (M.mem memory.new) }
+        ComesOf result
+        (Updates x.address width new (λ old. with_result bytes before x.rd (extended 32 (low old))))
+        before (M.mem memory.old) (hart_of hart.new input console) (M.mem memory.new) }
 {
     if x.address % width != 0 {
         return Some(End::MisalignedAtomic(x.address));
@@ -265,7 +275,9 @@ pub fn update_double<M: Memory>(
     ensures { (input console : List ℕ) →
         let before = hart_of hart.old input console in
         let new : ℕ → ℕ = λ old. of_double x.operation old x.value in
-        Comes result (apply (Updates x.address width new (λ old. with_result bytes before x.rd old)) (M.mem memory.old)) before (M.mem memory.old) (hart_of hart.new input console) (M.mem memory.new) }
+        ComesOf result
+        (Updates x.address width new (λ old. with_result bytes before x.rd old))
+        before (M.mem memory.old) (hart_of hart.new input console) (M.mem memory.new) }
 {
     if x.address % width != 0 {
         return Some(End::MisalignedAtomic(x.address));

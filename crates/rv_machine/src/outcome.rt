@@ -26,7 +26,8 @@ pub struct Outcome {
 /// Runs an image over a flat memory, with an input, at most `limit` instructions.
 pub fn run(alloc: Global, image: Image, input: &[u8], limit: u64) -> Result<Outcome, AllocError>
     ensures { (reader : Reader Spells StandsFor) →
-        IfOk result (λ o. outcome_of o ≡ machine_run reader (mem_of (image_of image)) image.entry input.now limit) }
+        IfOk result (λ o. outcome_of o
+        ≡ machine_run reader (mem_of (image_of image)) image.entry input.now limit) }
 {
     let entry = image.entry;
     let memory = Flat::new(alloc, image)?;

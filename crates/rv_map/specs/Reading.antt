@@ -61,7 +61,17 @@ row_at bytes = do
   address ← number_at 16 32 ordinal.1
   bytes ← number_at 10 32 address.1
   instructions ← number_at 10 10 bytes.1
-  Some (record { file = file.0; line = line.0; ordinal = ordinal.0; address = address.0; bytes = bytes.0; instructions = instructions.0 }, instructions.1)
+  Some (
+    record {
+      file = file.0;
+      line = line.0;
+      ordinal = ordinal.0;
+      address = address.0;
+      bytes = bytes.0;
+      instructions = instructions.0;
+    },
+    instructions.1,
+  )
 
 -- the lines that every map has, as a map without gaps, globals and rows
 unfoldable pub head_at : List ℕ → Option (Map × List ℕ)
@@ -73,4 +83,16 @@ head_at bytes = do
   bss ← region_at (codes "bss ") «data».1
   rest ← behind (codes "entry ") bss.1
   entry ← number_at 16 10 rest
-  Some (record { text = text.0; rodata = rodata.0; «data» = «data».0; bss = bss.0; entry = entry.0; gaps = []; globals = []; rows = [] }, entry.1)
+  Some (
+    record {
+      text = text.0;
+      rodata = rodata.0;
+      «data» = «data».0;
+      bss = bss.0;
+      entry = entry.0;
+      gaps = [];
+      globals = [];
+      rows = [];
+    },
+    entry.1,
+  )

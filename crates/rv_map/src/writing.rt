@@ -127,7 +127,8 @@ fn put_row(text: &mut Vec<u8>, row: Row) -> Result<(), AllocError>
 /// The front of a row's line, which says which statement it is.
 fn put_statement(text: &mut Vec<u8>, row: Row) -> Result<(), AllocError>
     ensures { OnOk result (text.new.items ≡ text.old.items
-        ++ (codes "row " ++ (decimal row.file ++ 32 ∷ (decimal row.line ++ 32 ∷ (decimal row.ordinal ++ 32 ∷ []))))) }
+        ++ (codes "row " ++ (decimal row.file ++ 32 ∷
+        (decimal row.line ++ 32 ∷ (decimal row.ordinal ++ 32 ∷ []))))) }
 {
     text.extend_from_slice(b"row ")?;
     put_decimal(text, row.file, b' ')?;

@@ -13,8 +13,8 @@ pub data Contents : Type 0 where
   -- no bytes: the size of the zeros in memory
   Nobits : (size : ℕ) → Contents
 
--- a field that the linker fills in: its place, an offset in its section; what it takes; the index of the symbol; and what
--- is added
+-- a field that the linker fills in: its place, an offset in its section; what it takes; the index
+-- of the symbol; and what is added
 pub record Relocation : Type 0 where
   pub place : ℕ
   pub kind : Kind
@@ -37,7 +37,8 @@ pub record Symbol : Type 0 where
   pub binding : Binding
   pub definition : Definition
 
--- sections and symbols by their indices, from 0; a row for each statement that has a place; and EF_RISCV_RVC
+-- sections and symbols by their indices, from 0; a row for each statement that has a place; and
+-- EF_RISCV_RVC
 pub record Object : Type 0 where
   pub sections : List Section
   pub symbols : List Symbol

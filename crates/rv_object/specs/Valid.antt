@@ -1,5 +1,5 @@
--- What every object keeps of what a reader of files tests (System V gABI, "Sections", "Symbol Table", "Relocation";
--- RISC-V ELF psABI, "Relocations"; this project's refusals).
+-- What every object keeps of what a reader of files tests (System V gABI, "Sections", "Symbol
+-- Table", "Relocation"; RISC-V ELF psABI, "Relocations"; this project's refusals).
 
 use Rattle.std.specs.Prelude.{ℕ, ℤ, pos, negsuc, unwrap_or, ◌+◌, ◌%◌, ◌^◌, Bool, true, false, not, ◌&&◌, ◌||◌, ◌==◌, nat_le, nat_lt, max, List, [], ◌∷◌, length, codes, Option, Some, None, bytes_eq, if◌then◌else◌}
 use Rattle.std.specs.List.{list_all, list_any, slice_get}
@@ -12,16 +12,25 @@ use Rattle.rv_object.specs.declared.symbol.Definition.{Definition}
 use Rattle.rv_object.specs.declared.symbol.Definition.TheVariants as definitions
 use Rattle.rv_object.specs.declared.row.Row.{Row}
 use Rattle.rv_isa.specs.Kinds.{width_of}
-use Rattle.rv_object.specs.Object.{Contents, Nobits, Relocation, Section, Symbol, size_of}
+use Rattle.rv_object.specs.Object.{Contents, Progbits, Note, Nobits, Relocation, Section, Symbol, size_of}
 
 -- a power of two, 4096 at most
 abbrev pub is_alignment : ℕ → Bool
 is_alignment n =
     list_any (λ k. n == 2 ^ k) (0 ∷ 1 ∷ 2 ∷ 3 ∷ 4 ∷ 5 ∷ 6 ∷ 7 ∷ 8 ∷ 9 ∷ 10 ∷ 11 ∷ 12 ∷ [])
 
--- the rows are no section of an object
+-- a name ends before the first zero byte in its file
+abbrev pub is_string : List ℕ → Bool
+is_string name = list_all (λ byte. not (byte == 0)) name
+
+-- the rows are no section of an object: they stand in a section of bytes
 abbrev pub is_kept_name : List ℕ → Bool
 is_kept_name name = not (bytes_eq name (codes ".rv.rows"))
+
+abbrev pub keeps_name : Contents → List ℕ → Bool
+keeps_name (Progbits bytes) name = is_kept_name name
+keeps_name (Note bytes) name = true
+keeps_name (Nobits size) name = true
 
 -- code has an even size
 abbrev pub is_even : Bool → Contents → Bool
@@ -31,7 +40,8 @@ is_even executable c = not executable || (size_of c % 2 == 0)
 abbrev pub is_loaded_alone : Bool → List Relocation → Bool
 is_loaded_alone loaded rs = loaded || (length rs == 0)
 
--- a field lies in bytes that the file has; a relocation without a field stands in the section or at its end
+-- a field lies in bytes that the file has; a relocation without a field stands in the section or at
+-- its end
 abbrev pub fits_inside : Contents → Relocation → Bool
 fits_inside (Nobits size) r = width_of r.kind == 0
 fits_inside c r = nat_le (r.place + width_of r.kind) (size_of c)
@@ -56,8 +66,8 @@ is_padding_of executable c place (Some n) =
     (n % 2 == 0) && nat_le n 4094
     && (not executable || (place % 2 == 0) && nat_le (place + n) (size_of c))
 
--- the padding of an alignment has an even count of bytes, 4094 at most; in code it begins at an even offset and lies in the
--- section
+-- the padding of an alignment has an even count of bytes, 4094 at most; in code it begins at an
+-- even offset and lies in the section
 abbrev pub is_padding : Bool → Contents → Relocation → Bool
 is_padding executable c r =
     not (is_align r.kind) || is_padding_of executable c r.place (padding_of r.addend)
@@ -66,7 +76,8 @@ is_padding executable c r =
 abbrev pub held : Relocation → ℕ
 held r = if is_align r.kind then unwrap_or (padding_of r.addend) 0 else width_of r.kind
 
--- a padding meets no field and no other padding: one of two ends before the later begins, as what has no bytes does
+-- a padding meets no field and no other padding: one of two ends before the later begins, as what
+-- has no bytes does
 abbrev pub are_apart : Relocation → Relocation → Bool
 are_apart r q =
     let later = max r.place q.place in
@@ -82,10 +93,6 @@ are_paddings executable c rs =
     list_all (is_padding executable c) rs && (not executable || are_all_apart rs)
 
 -- ---- names
-
--- a name ends before the first zero byte in its file
-abbrev pub is_string : List ℕ → Bool
-is_string name = list_all (λ byte. not (byte == 0)) name
 
 -- a name that every object may use has one byte or more, each 21h to 7Eh
 abbrev pub is_shown : Binding → List ℕ → Bool

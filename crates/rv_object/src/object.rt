@@ -21,9 +21,11 @@ pub struct Object {
     /// It has compressed code (psABI, EF_RISCV_RVC).
     pub rvc: bool,
     /// Each relocation names one of the symbols.
-    pub ghost indexed: { IsTrue (are_indexed (map symbol_of symbols.items) (map section_of sections.items)) },
+    pub ghost indexed: { IsTrue
+        (are_indexed (map symbol_of symbols.items) (map section_of sections.items)) },
     /// Each symbol stands in one of the sections.
-    pub ghost defined: { IsTrue (are_defined (map section_of sections.items) (map symbol_of symbols.items)) },
+    pub ghost defined: { IsTrue
+        (are_defined (map section_of sections.items) (map symbol_of symbols.items)) },
     /// Each row lies in a section that has a place in memory.
     pub ghost lie: { IsTrue (are_rows (map section_of sections.items) rows.items) },
 }

@@ -2,7 +2,7 @@
 
 ghost use Rattle.std.specs.Prelude.{IsTrue, map};
 ghost use Rattle.rv_object.specs.Parts.{relocation_of, contents_of};
-ghost use Rattle.rv_object.specs.Valid.{is_alignment, is_kept_name, is_even, is_loaded_alone, fit_inside, are_paddings};
+ghost use Rattle.rv_object.specs.Valid.{is_alignment, is_string, keeps_name, is_even, is_loaded_alone, fit_inside, are_paddings};
 
 use crate::contents::Contents;
 use crate::relocation::Relocation;
@@ -24,8 +24,10 @@ pub struct Section {
     pub alignment: u64,
     /// The fields of its bytes that the linker fills in, in the order in which it does.
     pub relocations: Vec<Relocation>,
-    /// Its name is not that of the rows.
-    pub ghost kept: { IsTrue (is_kept_name name.items) },
+    /// Its name has no zero byte.
+    pub ghost named: { IsTrue (is_string name.items) },
+    /// Bytes of the program have another name than the rows.
+    pub ghost kept: { IsTrue (keeps_name (contents_of contents) name.items) },
     /// A power of two, from 1 to 4096.
     pub ghost aligned: { IsTrue (is_alignment alignment) },
     /// Code ends at an even offset.
@@ -33,7 +35,9 @@ pub struct Section {
     /// Only sections with a place in memory have relocations.
     pub ghost alone: { IsTrue (is_loaded_alone loaded (map relocation_of relocations.items)) },
     /// Each field lies in the section's bytes.
-    pub ghost inside: { IsTrue (fit_inside (contents_of contents) (map relocation_of relocations.items)) },
+    pub ghost inside: { IsTrue
+        (fit_inside (contents_of contents) (map relocation_of relocations.items)) },
     /// Each padding lies there as well, in code at an even offset, and meets no field.
-    pub ghost paddings: { IsTrue (are_paddings executable (contents_of contents) (map relocation_of relocations.items)) },
+    pub ghost paddings: { IsTrue
+        (are_paddings executable (contents_of contents) (map relocation_of relocations.items)) },
 }

@@ -1,5 +1,5 @@
--- The sections of objects as the linker takes them: which region each goes to, and where it starts (gABI, "Sections"; GNU ld,
--- "SECTIONS Command"; this project's layout).
+-- The sections of objects as the linker takes them: which region each goes to, and where it starts
+-- (gABI, "Sections"; GNU ld, "SECTIONS Command"; this project's layout).
 
 use Rattle.std.specs.Prelude.{◌≡◌, ℕ, suc, ◌+◌, ◌-◌, Bool, true, false, not, ◌&&◌, nat_lt, ⊤, max, List, [], ◌∷◌, ◌++◌, replicate, if◌then◌else◌}
 use Rattle.rv_map.specs.declared.map.Region.{Region}
@@ -59,7 +59,8 @@ abbrev pub raised : List Relocation → ℕ → ℕ
 raised [] alignment = alignment
 raised (r ∷ rs) alignment = max (alignment_of r) (raised rs alignment)
 
--- the multiple at which a section begins: its own alignment, 2 or more for code, and that of each alignment in its code
+-- the multiple at which a section begins: its own alignment, 2 or more for code, and that of each
+-- alignment in its code
 abbrev pub begins_at : Section → ℕ
 begins_at s = raised (alignments_of s) (max (if goes_to_text s then 2 else 1) s.alignment)
 

@@ -1,5 +1,5 @@
--- The linked program of objects, whoever made them (gABI, "Sections", "Symbol Table", "Relocation"; GNU ld; this project's
--- layout). Nothing here knows of statements.
+-- The linked program of objects, whoever made them (gABI, "Sections", "Symbol Table", "Relocation";
+-- GNU ld; this project's layout). Nothing here knows of statements.
 
 use Rattle.std.specs.Prelude.{◌≡◌, ℕ, suc, ◌+◌, ◌-◌, ◌%◌, ◌<◌, ◌≤◌, nat_le, Bool, IsTrue, List, [], ◌∷◌, ◌++◌, length, map, Option, Some, None, if◌then◌else◌}
 use Rattle.std.specs.List.{AllByRecursion, list_any, list_all, slice_get}
@@ -36,7 +36,8 @@ row_in starts file o r =
     let start = starts file r.section in
     map_row file start (moves_at start (slice_get o.sections r.section)) r
 
--- rows in the order of their ordinals, whatever their order in the object; those of one ordinal stay in theirs
+-- rows in the order of their ordinals, whatever their order in the object; those of one ordinal
+-- stay in theirs
 abbrev pub inserted_row : Row → List Row → List Row
 inserted_row r [] = r ∷ []
 inserted_row r (q ∷ qs) =
@@ -66,7 +67,8 @@ pub record IsLinkOf (os : List Object) (text_start : ℕ) (l : Linked) : Type 0 
   -- the text begins at a page below the stack
   pub page : text_start % 4096 ≡ 0
   pub low : text_start < stack_start
-  -- where each section starts: text from the text's start, rodata and data at the next pages, bss after data
+  -- where each section starts: text from the text's start, rodata and data at the next pages, bss
+  -- after data
   pub starts : Starts
   pub text : Holds starts l.map.text text_start (inputs goes_to_text os)
   pub gaps : l.map.gaps ≡ gaps_of starts text_start (inputs goes_to_text os)

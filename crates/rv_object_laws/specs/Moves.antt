@@ -1,5 +1,5 @@
--- What the linker takes out of sections of code: the padding of an alignment that is more than is needed (RISC-V ELF psABI,
--- "Linker Relaxation", R_RISCV_ALIGN).
+-- What the linker takes out of sections of code: the padding of an alignment that is more than is
+-- needed (RISC-V ELF psABI, "Linker Relaxation", R_RISCV_ALIGN).
 
 use Rattle.std.specs.Prelude.{ℕ, zero, suc, ◌+◌, ◌-◌, ◌*◌, ◌/◌, ◌%◌, Bool, ◌&&◌, nat_le, nat_lt, min, List, [], ◌∷◌, ◌++◌, length, take, drop, filter, sum_by, unwrap_or, if◌then◌else◌}
 use Rattle.std.specs.List.{find}
@@ -61,8 +61,8 @@ no_operations bytes = four_each (bytes / 4) ++ (if nat_le 2 (bytes % 4) then 0x0
 abbrev pub operations_in : ℕ → ℕ
 operations_in bytes = bytes / 4 + bytes % 4 / 2
 
--- the paddings of a section of code in the order of their places, whatever the order of its relocations: before those that
--- begin where it ends or later
+-- the paddings of a section of code in the order of their places, whatever the order of its
+-- relocations: before those that begin where it ends or later
 abbrev pub inserted : Relocation → List Relocation → List Relocation
 inserted r [] = r ∷ []
 inserted r (q ∷ qs) =
@@ -76,8 +76,8 @@ abbrev pub alignments_of : Section → List Relocation
 alignments_of s =
     if s.loaded && s.executable then by_place (filter has_padding s.relocations) else []
 
--- each alignment keeps the least padding with which it ends at a multiple, where the section begins at an address and so
--- many of its bytes are dropped so far
+-- each alignment keeps the least padding with which it ends at a multiple, where the section begins
+-- at an address and so many of its bytes are dropped so far
 abbrev pub plan : ℕ → ℕ → List Relocation → List Move
 plan base gone [] = []
 plan base gone (r ∷ rs) =

@@ -13,7 +13,8 @@ use Rattle.rv_object_laws.specs.Inputs.{Starts, goes_to_text}
 
 -- ---- addresses
 
--- the address of an old offset in a section, by where that starts, modulo 2 ^ 64; none in a section without one
+-- the address of an old offset in a section, by where that starts, modulo 2 ^ 64; none in a section
+-- without one
 abbrev pub offset_address : ℕ → ℕ → Option Section → Option ℕ
 offset_address start offset None = None
 offset_address start offset (Some s) =

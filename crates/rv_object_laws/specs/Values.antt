@@ -1,5 +1,5 @@
--- The relocations of objects: their values, and the bytes of a section with all of them applied (gABI, "Relocation";
--- RISC-V ELF psABI, "Relocations").
+-- The relocations of objects: their values, and the bytes of a section with all of them applied
+-- (gABI, "Relocation"; RISC-V ELF psABI, "Relocations").
 
 use Rattle.std.specs.Prelude.{◌≡◌, ℕ, ◌+◌, ℤ, pos, ◌==◌, Bool, true, false, ◌&&◌, IsTrue, List, [], ◌∷◌, ◌++◌, take, drop, Option, Some, None, is_some, option_map, option_and_then, unwrap_or, if◌then◌else◌}
 use Rattle.std.specs.List.{find, slice_get}
@@ -88,7 +88,9 @@ pub record IsRelocated (globals : List Global) (starts : Starts) (os : List Obje
 -- bytes with the field at an offset written
 abbrev pub patched_at : ℕ → Kind → ℤ → List ℕ → List ℕ
 patched_at offset k v bytes =
-    take offset bytes ++ (patched k v (take (width_of k) (drop offset bytes)) ++ drop (width_of k) (drop offset bytes))
+    take offset bytes
+    ++ (patched k v (take (width_of k) (drop offset bytes))
+    ++ drop (width_of k) (drop offset bytes))
 
 -- with those of all relocations written, in their order
 abbrev pub applied : (ℕ → ℕ) → (Relocation → ℤ) → List Relocation → List ℕ → List ℕ

@@ -57,13 +57,15 @@ GivesDirective word old new result =
     (parsing.seen_as (λ os. Directs (directed word os))
     (parsing.operands_at (places word) (left old)))
 
--- No further statement is answered at the token t, which begins the tokens ts behind so many statements, where these names
--- are known: the part there is wrong, or it is a statement too many; where it is both, what stands first.
+-- No further statement is answered at the token t, which begins the tokens ts behind so many
+-- statements, where these names are known: the part there is wrong, or it is a statement too many;
+-- where it is both, what stands first.
 abbrev pub StopsAt : ReadError → (List ℕ → Bool) → ℕ → lexing.Token → List lexing.Token → Type 0
 StopsAt (refusals.At w) known count t ts =
     ((parsing.checked_at known ts ≡ Err (syntax_error_of w))
     × ((count < most_statements) ⊎ ((count ≡ most_statements) × (w.offset ≡ t.start))))
-    ⊎ ((count ≡ most_statements) × (syntax_error_of w ≡ record { offset = t.start; line = t.line; code = limit })
+    ⊎ ((count ≡ most_statements)
+    × (syntax_error_of w ≡ record { offset = t.start; line = t.line; code = limit })
     × ((v : wrongs.SyntaxError) → parsing.checked_at known ts ≡ Err v → v.offset ≡ t.start → ⊥))
 StopsAt refusals.OutOfMemory known count t ts = Unit {0}
 

@@ -3,8 +3,8 @@
 use Rattle.std.specs.Prelude.{ℕ, ◌+◌, ◌==◌, List, [], ◌∷◌, Option, Some, None, if◌then◌else◌}
 use Rattle.rv_parse_laws.specs.Reading.{longest_line}
 
--- the place of the first byte past the limit of its line, where the bytes stand at this place, and this many of their
--- line's bytes before them
+-- the place of the first byte past the limit of its line, where the bytes stand at this place, and
+-- this many of their line's bytes before them
 abbrev pub past_line : ℕ → ℕ → List ℕ → Option ℕ
 past_line place before [] = None
 past_line place before (b ∷ bs) =

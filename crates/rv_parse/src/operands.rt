@@ -161,7 +161,11 @@ pub fn registers_and_value<'a>(
     role: Role,
 ) -> Result<(Reg, Reg, Expr<'a>), ReadError>
     requires { may_call role ≡ false }
-    ensures { Answers (λ r. (Register r.0 ∷ Register r.1 ∷ valued role (tree_of_expr r.2) ∷ [], left cursor.new)) result (operands_at (and_then A_register (and_then A_register (last (A_value role)))) (left cursor.old)) }
+    ensures { Answers
+        (λ r. (Register r.0 ∷ Register r.1 ∷ valued role (tree_of_expr r.2) ∷ [], left cursor.new))
+        result
+        (operands_at (and_then A_register (and_then A_register (last (A_value role))))
+        (left cursor.old)) }
 {
     let first = slot::register(cursor)?;
     slot::comma(cursor, Slot::Register)?;

@@ -1,4 +1,5 @@
--- Operands that are spelled right and are refused for what they say: a fault of content, at the operand's first token.
+-- Operands that are spelled right and are refused for what they say: a fault of content, at the
+-- operand's first token.
 
 use Rattle.std.specs.Prelude.{ℕ, Bool, true, false, nat_lt, length, Option, Some, None, codes, if◌then◌else◌}
 use Rattle.std.specs.List.{list_all}
@@ -15,8 +16,8 @@ abbrev pub left_out : Bool → Option ℕ
 left_out true = Some unsupported_here
 left_out false = None
 
--- the code of what an operand says in its slot, where its section's name is known, or new: a number as a target, the name
--- of the rows, flags and a type that are looked at for a new name alone
+-- the code of what an operand says in its slot, where its section's name is known, or new: a number
+-- as a target, the name of the rows, flags and a type that are looked at for a new name alone
 abbrev pub content_fault : Bool → Slot → Operand → Option ℕ
 content_fault known (A_value role) (Target e) = left_out (is_number e)
 content_fault known (A_value role) (Applied f e) = left_out (is_refused_by f e)

@@ -1,5 +1,5 @@
--- The codes of the faults of phase one, by what stands before a token and at it (GNU as, "Statements", for the syntax).
--- What is wrong inside an expression is said with the expressions.
+-- The codes of the faults of phase one, by what stands before a token and at it (GNU as,
+-- "Statements", for the syntax). What is wrong inside an expression is said with the expressions.
 
 use Rattle.std.specs.Prelude.{ℕ, Bool, true, false, ◌||◌, ◌==◌, nat_lt, List, length, codes, take, if◌then◌else◌}
 use Rattle.std.specs.List.{list_all}
@@ -14,7 +14,8 @@ use Rattle.rv_parse_laws.specs.Syntax.{Slot, A_value, A_symbol, A_section, An_op
 use Rattle.rv_parse_laws.specs.declared.role.Role.{Role}
 use Rattle.rv_parse_laws.specs.declared.role.Role.TheVariants as roles
 
--- a token that is wrong wherever it stands has a code of its own; every other has the code of its place
+-- a token that is wrong wherever it stands has a code of its own; every other has the code of its
+-- place
 abbrev pub wrong_or : Kind → ℕ → ℕ
 wrong_or Bad_byte code = bad_byte
 wrong_or Bad_token code = bad_token
@@ -93,8 +94,8 @@ wrong_first _ k = wrong_or k bad_operands
 abbrev pub wrong_any : Kind → ℕ
 wrong_any k = if is_long k then limit else wrong_or k bad_operands
 
--- a word that begins a statement, and is neither a mnemonic nor a directive; call frame information is none where its
--- word is too long
+-- a word that begins a statement, and is neither a mnemonic nor a directive; call frame information
+-- is none where its word is too long
 abbrev pub wrong_word : List ℕ → ℕ
 wrong_word word =
     if is_among left_out_words word then unsupported_here

@@ -1,5 +1,5 @@
--- The openings of sections: the flags and the type that `.section` gives a name count where the name is new; later ones
--- are not looked at (GNU as, ".section").
+-- The openings of sections: the flags and the type that `.section` gives a name count where the
+-- name is new; later ones are not looked at (GNU as, ".section").
 
 use Rattle.std.specs.Prelude.{◌≡◌, ℕ, Bool, true, false, not, ◌&&◌, ◌||◌, List, [], ◌∷◌, ◌++◌, Option, Some, None, is_some, codes}
 use Rattle.std.specs.List.{list_any}

@@ -1,5 +1,5 @@
--- Parts of statements at the front of a list of tokens, as functions: what stands there and the tokens after it, or the
--- first token that is wrong there, with its code.
+-- Parts of statements at the front of a list of tokens, as functions: what stands there and the
+-- tokens after it, or the first token that is wrong there, with its code.
 
 use Rattle.std.specs.Prelude.{ℕ, zero, suc, ◌+◌, Bool, false, ◌&&◌, not, nat_lt, List, [], ◌∷◌, ◌++◌, length, Option, Some, None, option_map, unwrap_or, Result, Ok, Err, if◌then◌else◌}
 use Rattle.rv_text_laws.specs.Grammar.{Kind}
@@ -137,7 +137,8 @@ named_or [] None = Err nowhere
 named_or (t ∷ ts) None = Err (wrong t (wrong_first A_section t.kind))
 named_or ts (Some read) =
     if is_section_name read.0 then Ok read
-    else (if nat_lt longest_name (length read.0) then Err (too_long 0 ts) else Err (wrong_front ts unsupported_here))
+    else (if nat_lt longest_name (length read.0) then Err (too_long 0 ts)
+    else Err (wrong_front ts unsupported_here))
 
 -- the name of a section
 abbrev pub section_at : List Token → Read (List ℕ)
@@ -259,7 +260,8 @@ unfoldable pub opening_at : (List ℕ → Bool) → List Token → Option Syntax
 opening_at known [] = None
 opening_at known (t ∷ ts) = if is_section t.kind then named_wrong known (section_at ts) else None
 
--- a part at the front, or what is wrong with it: an opening's flags or type, or the first token with which nothing goes on
+-- a part at the front, or what is wrong with it: an opening's flags or type, or the first token
+-- with which nothing goes on
 abbrev pub unless : {X : Type 0} → Option SyntaxError → Read X → Read X
 unless (Some w) r = Err w
 unless None r = r

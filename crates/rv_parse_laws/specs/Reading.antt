@@ -19,8 +19,8 @@ longest_line = 65535
 abbrev pub most_statements : ℕ
 most_statements = 2 ^ 22
 
--- the byte at this place is past its line's limit: it is no line feed, and as many bytes as the longest line has stand
--- before it on its line
+-- the byte at this place is past its line's limit: it is no line feed, and as many bytes as the
+-- longest line has stand before it on its line
 pub record IsPastLine (bytes : List ℕ) (place : ℕ) : Type 0 where
   pub front : List ℕ
   pub line : List ℕ
@@ -47,8 +47,8 @@ said (p ∷ ps) = told p.kind p.text ++ said ps
 abbrev pub AreParts : List Token → List (Piece Part Token) → List Token → Type 0
 AreParts ts ps rest = Cuts Part Token IsPart StopsPart ts ps rest
 
--- the bytes read as these statements: they are cut into tokens, the tokens into parts, all within the limits, and sections
--- are opened well
+-- the bytes read as these statements: they are cut into tokens, the tokens into parts, all within
+-- the limits, and sections are opened well
 abbrev pub Reads : List ℕ → List Statement → Type 0
 Reads bytes ss =
     (length bytes ≤ longest_source) × ((place : ℕ) → IsPastLine bytes place → ⊥)

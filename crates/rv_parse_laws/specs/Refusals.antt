@@ -28,8 +28,8 @@ abbrev pub SaysUpTo : List Token → List Token → List Statement → Type 0
 SaysUpTo ts rest ss =
     (ps : List (Piece Part Token)) × AreParts ts ps rest × AllOpenWell [] ps rest × (ss ≡ said ps)
 
--- a part with these first tokens can still stand at the front of the rest: a colon after the rest's first token makes it a
--- label, and without it there is none
+-- a part with these first tokens can still stand at the front of the rest: a colon after the rest's
+-- first token makes it a label, and without it there is none
 abbrev pub is_label : Part → Bool
 is_label (Says (Label name)) = true
 is_label (Says (Numbered number)) = true
@@ -43,8 +43,9 @@ abbrev pub CanGoOn : List Token → List Token → Type 0
 CanGoOn rest before =
     (p : Part) × (more : List Token) × (is_label p ≡ begins_label rest) × IsPart p (before ++ more)
 
--- a token with which nothing can go on, after good parts and no wrong opening; the fault stands at that token, or at the
--- first token of an operand that it ends, which is spelled right and is refused for what it says
+-- a token with which nothing can go on, after good parts and no wrong opening; the fault stands at
+-- that token, or at the first token of an operand that it ends, which is spelled right and is
+-- refused for what it says
 pub record WrongToken (bytes : List ℕ) (place code : ℕ) : Type 0 where
   pub tokens : List Token
   pub lexes : Lexes bytes tokens
@@ -104,7 +105,8 @@ pub record Fault : Type 0 where
   pub code : ℕ
   pub line : ℕ
 
--- the first fault in the order of the bytes: at one byte the lowest number; one in a source that is not too long
+-- the first fault in the order of the bytes: at one byte the lowest number; one in a source that is
+-- not too long
 pub record IsFirst (bytes : List ℕ) (f : Fault) : Type 0 where
   pub place : ℕ
   pub stands : Stands bytes place f.code

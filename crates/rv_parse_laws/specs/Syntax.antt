@@ -1,5 +1,5 @@
--- The syntax of statements, over the kinds of tokens (RISC-V Assembly Programmer's Manual; GNU as, "Statements" and
--- "Pseudo Ops").
+-- The syntax of statements, over the kinds of tokens (RISC-V Assembly Programmer's Manual; GNU as,
+-- "Statements" and "Pseudo Ops").
 
 use Rattle.std.specs.Prelude.{◌≡◌, ℕ, zero, suc, Bool, true, false, ◌&&◌, ◌||◌, ◌==◌, not, nat_le, ◌≤◌, List, [], ◌∷◌, ◌++◌, length, Option, Some, None, option_map, is_some, codes, ◌⊎◌, if◌then◌else◌}
 use Rattle.std.specs.List.{list_all}
@@ -177,8 +177,8 @@ pub data Slot : Type 0 where
   Some_accesses : Slot
   A_symbol : Slot
   A_string : Slot
-  -- what `.section` takes: a name, a string of letters, and a type behind `@`; which letters and types are good is said
-  -- with the openings of sections
+  -- what `.section` takes: a name, a string of letters, and a type behind `@`; which letters and
+  -- types are good is said with the openings of sections
   A_section : Slot
   Some_flags : Slot
   At_sign : Slot

@@ -1,5 +1,5 @@
--- The words that may begin a statement (RISC-V Unprivileged ISA 20191213, chapters 2, 5, 7 and 8; RISC-V Assembly
--- Programmer's Manual; GNU as).
+-- The words that may begin a statement (RISC-V Unprivileged ISA 20191213, chapters 2, 5, 7 and 8;
+-- RISC-V Assembly Programmer's Manual; GNU as).
 
 use Rattle.std.specs.Prelude.{ℕ, zero, suc, List, [], ◌∷◌, ◌++◌, Bool, true, false, ◌||◌, ◌&&◌, ◌==◌, nat_le, length, take, drop, codes, Option, Some, None, option_map, slice_get, option_to_list, if◌then◌else◌}
 use Rattle.std.specs.Str.{bytes_eq}
@@ -45,8 +45,8 @@ left_out_words =
     codes ".pushsection" ∷ codes ".popsection" ∷ codes ".previous" ∷ codes ".insn" ∷
     codes ".uleb128" ∷ codes ".loc" ∷ []
 
--- the mnemonics but the atomics: base instructions (ISA, chapter 24), then pseudo-instructions (Assembly Programmer's
--- Manual, "pseudoinstructions")
+-- the mnemonics but the atomics: base instructions (ISA, chapter 24), then pseudo-instructions
+-- (Assembly Programmer's Manual, "pseudoinstructions")
 unfoldable pub instruction_words : List (List ℕ × Mnemonic)
 instruction_words =
     (codes "lui", Upper Lui)

@@ -1,6 +1,7 @@
--- The token that is wrong at the front of tokens, and its code, by the slots that a statement awaits: tokens before it
--- fill the slots before, this slot is next, and the token cannot stand there. The code is by slot and token. What is
--- spelled right and refused is wrong at its first token.
+-- The token that is wrong at the front of tokens, and its code, by the slots that a statement
+-- awaits: tokens before it fill the slots before, this slot is next, and the token cannot stand
+-- there. The code is by slot and token. What is spelled right and refused is wrong at its first
+-- token.
 
 use Rattle.std.specs.Prelude.{◌≡◌, ℕ, zero, suc, ◌<◌, ◌≤◌, Bool, true, false, ◌&&◌, List, [], ◌∷◌, ◌++◌, length, Some, None, ◌⊎◌}
 use Rattle.std.specs.List.{list_all}
@@ -118,13 +119,15 @@ IsWrongOffset ts t code =
     ⊎ ((one rest : List Token) × (o : Operand) × (ts ≡ one ++ rest)
     × IsValueIn roles.Operand one o × EndsValue o rest × IsWrongBase rest t code)
 
--- an address: a register in parentheses, where the first two tokens are `(` and a register; else with an offset
+-- an address: a register in parentheses, where the first two tokens are `(` and a register; else
+-- with an offset
 abbrev pub IsWrongAddress : List Token → Token → ℕ → Type 0
 IsWrongAddress ts t code =
     ((base_next ts ≡ true) × IsWrongBase ts t code)
     ⊎ ((base_next ts ≡ false) × IsWrongOffset ts t code)
 
--- what a call calls: a symbol and `@plt`, where the first two tokens are a symbol and `@`; else a target
+-- what a call calls: a symbol and `@plt`, where the first two tokens are a symbol and `@`; else a
+-- target
 abbrev pub IsWrongCallee : List Token → Token → ℕ → Type 0
 IsWrongCallee ts t code =
     ((plt_next ts ≡ true)
@@ -171,7 +174,8 @@ Passes A_callee one rest =
     ⊎ ((os : List Operand) × IsLinked one os)
 Passes A_section one rest =
     (name : List ℕ) × IsJoined one name × (is_section_name name ≡ true)
-    × ((t : Token) (us : List Token) (longer : List ℕ) → rest ≡ t ∷ us → IsJoined (one ++ t ∷ []) longer → ⊥)
+    × ((t : Token) (us : List Token) (longer : List ℕ) → rest ≡ t ∷ us →
+    IsJoined (one ++ t ∷ []) longer → ⊥)
 Passes s one rest = (os : List Operand) × IsOperand s one os
 
 -- what stands in a slot is wrong, or W says what is after it
@@ -213,7 +217,8 @@ IsWrongIn (Chooses s rest others) ts t code =
     ⊎ ((front_begins s ts ≡ false) × IsWrongIn others ts t code)
 IsWrongIn (Locates rest) ts t code =
     (IsTargetNext ts × IsWrongTaken A_target (λ us u d. IsWrongIn rest us u d) ts t code)
-    ⊎ ((IsTargetNext ts → ⊥) × IsWrongTaken An_address (λ us u d. IsNoEnd An_address us u d) ts t code)
+    ⊎ ((IsTargetNext ts → ⊥)
+    × IsWrongTaken An_address (λ us u d. IsNoEnd An_address us u d) ts t code)
 IsWrongIn (Lists item) ts t code = (n : ℕ) × IsWrongItem n item ts t code
 IsWrongIn Anything ts t code = IsWrongAny ts t code
 
@@ -228,5 +233,6 @@ IsWrongAfter beginnings.Nothing first ts t code = (t ≡ first) × (code ≡ wro
 abbrev pub IsWrongStatement : List Token → Token → ℕ → Type 0
 IsWrongStatement ts t code =
     (first : Token) × (us : List Token) × (ts ≡ first ∷ us) × (is_end first.kind ≡ false)
-    × (((colon_next us ≡ true) × (label_of first.kind ≡ None) × (t ≡ first) × (code ≡ wrong_label first.kind))
+    × (((colon_next us ≡ true) × (label_of first.kind ≡ None)
+    × (t ≡ first) × (code ≡ wrong_label first.kind))
     ⊎ ((colon_next us ≡ false) × IsWrongAfter (begins first.kind) first us t code))

@@ -1,4 +1,5 @@
--- Openings of sections whose flags or type are wrong: the fault of the token that shows it (GNU as, ".section").
+-- Openings of sections whose flags or type are wrong: the fault of the token that shows it (GNU as,
+-- ".section").
 
 use Rattle.std.specs.Prelude.{◌≡◌, ℕ, Bool, true, false, List, [], ◌∷◌, ◌++◌, Option, Some, None, codes, ◌⊎◌}
 use Rattle.std.specs.Str.{bytes_eq}
@@ -60,7 +61,8 @@ pub record WrongType (known : List ℕ → Bool) (before : List Token) (at : Tok
   pub sign_is : is_at sign.kind ≡ true
   pub wrong : type_fault (known name) at.kind ≡ Some code
 
--- behind the statements ss the tokens `before` begin an opening with whose name the token `at` is wrong
+-- behind the statements ss the tokens `before` begin an opening with whose name the token `at` is
+-- wrong
 abbrev pub IsWrongOpening : List Statement → List Token → Token → ℕ → Type 0
 IsWrongOpening ss before at code =
     WrongFlags (is_opened ss) before at code ⊎ WrongType (is_opened ss) before at code

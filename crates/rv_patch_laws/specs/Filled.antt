@@ -1,4 +1,5 @@
--- Code with an operand that a relocation fills: which instruction it is then (RISC-V ELF psABI, "Relocations").
+-- Code with an operand that a relocation fills: which instruction it is then (RISC-V ELF psABI,
+-- "Relocations").
 
 use Rattle.std.specs.Prelude.{◌≡◌, ℕ, ◌^◌, ◌<◌, ℤ, List, ◌++◌}
 use Rattle.rv_isa.specs.declared.kind.Kind.{Kind}

@@ -1,6 +1,6 @@
--- `li`: the instructions that put a number into a register (RISC-V Assembly Programmer's Manual, "Load Immediate"):
--- twelve bits by `addi`, thirty-two by `lui` and `addiw`, and of more bits first those above the low twelve by `li`
--- again, without the zero bits that they end with.
+-- `li`: the instructions that put a number into a register (RISC-V Assembly Programmer's Manual,
+-- "Load Immediate"): twelve bits by `addi`, thirty-two by `lui` and `addiw`, and of more bits first
+-- those above the low twelve by `li` again, without the zero bits that they end with.
 
 use Rattle.std.specs.Prelude.{ℕ, zero, suc, ◌+◌, ◌-◌, ◌*◌, ◌%◌, ◌≤◌, ◌^◌, ℤ, pos, negsuc, Bool, ◌&&◌, int_lt, int_le, unsigned_abs, if◌then◌else◌, List, [], ◌∷◌, ◌++◌}
 use Rattle.std.specs.Ordering.{int_eq}

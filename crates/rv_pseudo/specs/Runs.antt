@@ -16,7 +16,8 @@ abbrev pub goes_on : Effect → (Hart → Option Hart) → Option Hart
 goes_on (Goes next) go = go next
 goes_on _ go = None
 
--- the hart after instructions, each of which changes the hart alone and has the next one after it; none where another does more
+-- the hart after instructions, each of which changes the hart alone and has the next one after it;
+-- none where another does more
 abbrev pub after : List Sized → Hart → Option Hart
 after [] h = Some h
 after (l ∷ ls) h = goes_on (effect l.instruction l.bytes h) (after ls)
@@ -27,8 +28,8 @@ instructions_of ls = map (λ l. l.instruction) ls
 abbrev pub bytes_of : List Sized → ℕ
 bytes_of ls = sum_by (λ l. l.bytes) ls
 
--- these instructions, each of whatever bytes, set register rd to a number modulo 2 ^ 64, and change nothing else of any
--- hart but its pc, which is after them (and memory not at all); x0 stays 0
+-- these instructions, each of whatever bytes, set register rd to a number modulo 2 ^ 64, and change
+-- nothing else of any hart but its pc, which is after them (and memory not at all); x0 stays 0
 abbrev pub Sets : ℕ → ℕ → List Inst → Type 0
 Sets rd value instructions =
     (ls : List Sized) (h : Hart) → instructions_of ls ≡ instructions → rd < length h.registers

@@ -1,6 +1,6 @@
--- The base instructions that stand for each statement of code, a row each (RISC-V Assembly Programmer's Manual,
--- "pseudoinstructions"; RISC-V ELF psABI, "Procedure Calls", "PC-Relative Addresses"; GNU as, "RISC-V-Modifiers"). A field
--- that a relocation will fill holds 0.
+-- The base instructions that stand for each statement of code, a row each (RISC-V Assembly
+-- Programmer's Manual, "pseudoinstructions"; RISC-V ELF psABI, "Procedure Calls", "PC-Relative
+-- Addresses"; GNU as, "RISC-V-Modifiers"). A field that a relocation will fill holds 0.
 
 use Rattle.std.specs.Prelude.{◌≡◌, ℕ, ◌^◌, ℤ, pos, negsuc, Bool, true, false, not, ◌&&◌, ◌||◌, ◌==◌, int_le, int_lt, if◌then◌else◌, unsigned_abs, List, [], ◌∷◌, map, Option, Some, None, Result, Ok, Err}
 use Rattle.rv_isa.specs.declared.instruction.RType.{RType}
@@ -161,7 +161,8 @@ branch bytes operation rs1 rs2 =
 abbrev pub jump : ℕ → ℕ → List Template
 jump bytes rd = under (if rd == 0 && bytes == 2 then kind.RvcJump else kind.Jal) (jal rd) ∷ []
 
--- an address within reach of the pc by two instructions: the upper part in a register, and the instruction that takes the rest
+-- an address within reach of the pc by two instructions: the upper part in a register, and the
+-- instruction that takes the rest
 abbrev pub near : ℕ → Template → List Template
 near rd rest = under kind.PcrelHi20 (auipc rd) ∷ rest ∷ []
 
@@ -300,8 +301,8 @@ takes (operations.Jr rs) k = is_signed 12 k
 takes (operations.Li rd) k = true
 takes _ k = false
 
--- whether the field can take a part of an address that is open: an upper part the 20 bits of `lui` and `auipc`, a low part
--- twelve signed bits
+-- whether the field can take a part of an address that is open: an upper part the 20 bits of `lui`
+-- and `auipc`, a low part twelve signed bits
 abbrev pub is_upper : Operation → Bool
 is_upper (operations.Upper operation rd) = true
 is_upper _ = false
@@ -330,7 +331,8 @@ takes_part PcrelLo operation = is_low operation
 abbrev pub unless : Bool → SourceCode → Option SourceCode
 unless good code = if good then None else Some code
 
--- the fault of an operand: a number is a constant in its range, a target and a distance are no constants
+-- the fault of an operand: a number is a constant in its range, a target and a distance are no
+-- constants
 abbrev pub operand_fault : Operation → Option Function → Option ℤ → Option SourceCode
 operand_fault operation None (Some v) = unless (takes operation v) ImmediateRange
 operand_fault operation None None = unless (takes_target operation) NotConstant

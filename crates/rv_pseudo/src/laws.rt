@@ -19,7 +19,8 @@ pub fn li_recurs()
     ensures { (rd : ℕ) (v : ℤ) → is_signed 64 v ≡ true → li rd v ≡
         (if is_signed 12 v then addi rd 0 v ∷ []
         else if is_signed 32 v then lui rd (upper_20 v) ∷ unless_zero (lo v) (addiw rd rd (lo v))
-        else li rd (above v) ++ slli rd rd (12 + zeros v) ∷ unless_zero (lo v) (addi rd rd (lo v))) }
+        else li rd (above v)
+        ++ slli rd rd (12 + zeros v) ∷ unless_zero (lo v) (addi rd rd (lo v))) }
 {}
 
 /// What `above` and `zeros` are where the sequences take them: the upper half is one with so many zero bits after it, it

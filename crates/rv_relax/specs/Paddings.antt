@@ -9,7 +9,8 @@ use Rattle.rv_object_laws.specs.Moves.{Move, no_operations, full_padding}
 abbrev pub move_of : Padding → Move
 move_of p = record { place = p.place; full = p.full; text = no_operations p.left }
 
--- behind paddings that end at an offset, with so many bytes of them dropped, a padding that keeps whole instructions
+-- behind paddings that end at an offset, with so many bytes of them dropped, a padding that keeps
+-- whole instructions
 abbrev pub is_next : ℕ → ℕ → Padding → Bool
 is_next stop gone p =
     nat_le stop p.place
@@ -20,8 +21,8 @@ are_in_order stop gone [] = true
 are_in_order stop gone (p ∷ ps) =
     is_next stop gone p && are_in_order (p.place + p.full) (gone + (p.full - p.left)) ps
 
--- behind paddings that end at an offset, alignments whose paddings lie one behind the other, in a section of less than
--- 2 ^ 64 bytes
+-- behind paddings that end at an offset, alignments whose paddings lie one behind the other, in a
+-- section of less than 2 ^ 64 bytes
 abbrev pub is_next_alignment : ℕ → Relocation → Bool
 is_next_alignment stop r =
     nat_le stop r.place

@@ -1,5 +1,6 @@
--- What each kind of relocation makes of its field (RISC-V ELF psABI, "Relocations", the column "Field"; ISA, 2.3 and
--- chapter 16 for the immediates). A field is a number: that of its bytes, the lowest first.
+-- What each kind of relocation makes of its field (RISC-V ELF psABI, "Relocations", the column
+-- "Field"; ISA, 2.3 and chapter 16 for the immediates). A field is a number: that of its bytes, the
+-- lowest first.
 
 use Rattle.std.specs.Prelude.{◌≡◌, ◌⊎◌, ℕ, ◌+◌, ◌-◌, ◌*◌, ◌/◌, ◌%◌, ◌^◌, ◌<◌, ℤ, pos, ◌+ℤ◌, ◌-ℤ◌, List, [], ◌∷◌, unsigned_abs}
 use Rattle.std.specs.Int.{int_rem_euclid}
@@ -13,7 +14,8 @@ use Rattle.rv_isa_laws.specs.Halves.{hi, lo}
 abbrev pub modulo : (bits : ℕ) → ℤ → ℕ
 modulo bits z = unsigned_abs (int_rem_euclid z (pos (2 ^ bits)))
 
--- `count` bits of an immediate from its bit `low` on, which stand in the instruction from bit `place` on
+-- `count` bits of an immediate from its bit `low` on, which stand in the instruction from bit
+-- `place` on
 pub data Piece : Type 0 where
   bits : (low count place : ℕ) → Piece
 
@@ -75,7 +77,8 @@ pub record IsSetTo (pieces : List Piece) (number old new : ℕ) : Type 0 where
   pub immediate : immediate_at pieces new ≡ number
   pub rest : rest_of pieces new ≡ rest_of pieces old
 
--- the law of a format whose immediate has `count` bits, of which the lowest are zeros up to a multiple of `unit`
+-- the law of a format whose immediate has `count` bits, of which the lowest are zeros up to a
+-- multiple of `unit`
 abbrev pub IsHeld : List Piece → (count unit : ℕ) → Type 0
 IsHeld pieces count unit =
     (number field : ℕ) → number < 2 ^ count → number % unit ≡ 0

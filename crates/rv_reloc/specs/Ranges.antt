@@ -1,5 +1,5 @@
--- Which values the field of each kind of relocation can hold (RISC-V ELF psABI, "Relocations"; ISA, 2.3 and chapter 16
--- for the immediates).
+-- Which values the field of each kind of relocation can hold (RISC-V ELF psABI, "Relocations"; ISA,
+-- 2.3 and chapter 16 for the immediates).
 
 use Rattle.std.specs.Prelude.{◌≡◌, ◌-◌, ◌^◌, ◌%◌, ℤ, pos, negsuc, ◌≤ℤ◌, unsigned_abs, Bool, true, false}
 use Rattle.rv_isa.specs.declared.kind.Kind.{Kind}

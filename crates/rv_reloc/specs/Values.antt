@@ -1,6 +1,6 @@
 -- The value of each kind of relocation (RISC-V ELF psABI, "Relocations", the column "Calculation").
--- S is the symbol's value, A the addend, P the address of the relocation's place. A PCREL_LO12 has those of the
--- PCREL_HI20 that it is paired with.
+-- S is the symbol's value, A the addend, P the address of the relocation's place. A PCREL_LO12 has
+-- those of the PCREL_HI20 that it is paired with.
 
 use Rattle.std.specs.Prelude.{ℕ, ℤ, pos, ◌+ℤ◌, ◌-ℤ◌}
 use Rattle.std.specs.Int.{w64, int_wrap}

@@ -38,7 +38,8 @@ is_resolved os o s =
     then has_address o s.definition
     else is_known s.name (export_of os s.name)
 
--- the name of a symbol without an address; one that an object doesn't have has the name without bytes
+-- the name of a symbol without an address; one that an object doesn't have has the name without
+-- bytes
 abbrev pub undefined_symbol : List Object → Object → Option Symbol → Option (List ℕ)
 undefined_symbol os o None = Some []
 undefined_symbol os o (Some s) = if is_resolved os o s then None else Some s.name

@@ -55,7 +55,8 @@ IsCode t all (Err (At code line)) =
     × (size_fault_from (λ j. 0) all ≡ Some (record { code = number_of code; line = line }))
 IsCode t all (Err OutOfMemory) = ⊥
 
--- the code of each section of a source, or the first fault of its code and of the sizes of code; memory may run out
+-- the code of each section of a source, or the first fault of its code and of the sizes of code;
+-- memory may run out
 abbrev pub IsSourceCode : List Statement → Result (Vec (Vec ℕ)) SourceFault → Type 0
 IsSourceCode ss (Ok sections) =
     (code_fault ss ≡ None) × (size_fault ss ≡ None)

@@ -72,7 +72,8 @@ pub record IsLaid (ss : List Statement) (is : List Item) : Type 0 where
   pub sized : AreSized (tables ss) 1 at_start ss is
   pub low : (j : ℕ) → last j ≤ longest_section
 
--- what is there so far, from these sections on, and what the statements from an index on contribute, make up the whole
+-- what is there so far, from these sections on, and what the statements from an index on
+-- contribute, make up the whole
 pub record IsDataTo (ss : List Statement) (is : List Item) (start : List (Vec ℕ)) (i : ℕ)
     (sections : List (Vec ℕ)) (found : List OpenField) : Type 0 where
   pub bytes : (j : ℕ) → bytes_in sections j ++ data_bytes (tables ss) j (drop i (sites ss is))

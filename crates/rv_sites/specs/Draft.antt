@@ -1,4 +1,5 @@
--- The draft of a source: its statements in their sections, the bytes of these, and the fields that stay open.
+-- The draft of a source: its statements in their sections, the bytes of these, and the fields that
+-- stay open.
 
 use Rattle.std.specs.Prelude.{◌≡◌, ℕ, ◌<◌, ◌≤◌, ◌^◌, true, List, [], flat_map, map, length, Some, slice_get, slice_index, if◌then◌else◌}
 use Rattle.std.specs.List.{AllByRecursion, list_any}

@@ -22,8 +22,8 @@ stretch offset bytes = record {
   instructions = 0;
 }
 
--- the bytes of a statement that has a place, by the values of its expressions: in a section of code or not, that asks to begin
--- at this multiple, after `offset` bytes
+-- the bytes of a statement that has a place, by the values of its expressions: in a section of code
+-- or not, that asks to begin at this multiple, after `offset` bytes
 abbrev pub IsSize : (Expression → Value) → Bool → ℕ → ℕ → StatementKind → ℕ → Type 0
 IsSize v executable begins offset (Label name) bytes = bytes ≡ 0
 IsSize v executable begins offset (Numbered number) bytes = bytes ≡ 0
@@ -41,8 +41,8 @@ pub record IsExtentAt (extents : List Extent) (place : ℕ) (e : Extent) : Type 
   pub section : slice_get (map extent_section extents) place ≡ Some (extent_section e)
   pub alignment : slice_index_or (map (λ (x : Extent). x.alignment) extents) place 1 ≡ e.alignment
 
--- an alignment can be had: one of code needs no padding; a section of data begins at a multiple of its own, and has the
--- padding
+-- an alignment can be had: one of code needs no padding; a section of data begins at a multiple of
+-- its own, and has the padding
 abbrev pub CanPad : Bool → ℕ → ℕ → Option ℕ → Type 0
 CanPad true begins offset alignment = is_low alignment ≡ true
 CanPad false begins offset alignment =
@@ -57,8 +57,8 @@ CanAlign v executable begins offset alignment =
 abbrev pub CanCount : Value → Type 0
 CanCount v = (n : ℕ) × (v ≡ Constant n) × (n ≤ longest_section)
 
--- a statement has a size, by the values of its expressions: in a section of code or not, that asks to begin at this
--- multiple, after `offset` bytes
+-- a statement has a size, by the values of its expressions: in a section of code or not, that asks
+-- to begin at this multiple, after `offset` bytes
 abbrev pub HasSizeDirective : (Expression → Value) → Bool → ℕ → ℕ → Directive → Type 0
 HasSizeDirective v executable begins offset (Values width values) =
     width * length values ≤ longest_section

@@ -10,7 +10,8 @@ use Rattle.rv_sites.specs.declared.item.Item.{Item}
 use Rattle.rv_assemble_laws.specs.Sites.{IsMultiple}
 use Rattle.rv_sites.specs.Code.{value_at}
 
--- the padding of an alignment: none in code; in data up to the multiple, in a section that asks for a multiple of it
+-- the padding of an alignment: none in code; in data up to the multiple, in a section that asks for
+-- a multiple of it
 abbrev pub IsPadded : Bool → Item → ℕ → Option ℕ → Type 0
 IsPadded true i begins alignment = (i.bytes ≡ 0) × (is_low alignment ≡ true)
 IsPadded false i begins alignment =
@@ -20,7 +21,8 @@ abbrev pub IsAligned : Value → Bool → Item → ℕ → Option ℕ → Type 0
 IsAligned v executable i begins alignment =
     (is_constant v ≡ true) × IsPadded executable i begins alignment
 
--- the bytes of a directive, by whether its section is one of code, and the multiple at which that one asks to begin
+-- the bytes of a directive, by whether its section is one of code, and the multiple at which that
+-- one asks to begin
 abbrev pub IsSizedDirective : (Expression → Value) → Bool → Item → ℕ → Directive → Type 0
 IsSizedDirective v executable i begins (Sets name e) = i.bytes ≡ 0
 IsSizedDirective v executable i begins (Values width values) = i.bytes ≡ width * length values
@@ -41,7 +43,8 @@ IsSized v executable i begins (Instruction mnemonic operands) = (i.bytes ≡ 4) 
 IsSized v executable i begins (Directs directive) =
     (i.instructions ≡ 0) × IsSizedDirective v executable i begins directive
 
--- of each statement that has a place: `all` are the tables of the whole source, `t` those before the statement
+-- of each statement that has a place: `all` are the tables of the whole source, `t` those before
+-- the statement
 abbrev pub AreSized : Tables → ℕ → Tables → List Statement → List Item → Type 0
 AreSized all k t (s ∷ ss) (i ∷ is) =
     ((located_now 1 k t s).placed ≡ true → IsSized (λ e. value_at all (located_now 1 k t s) e)

@@ -1,4 +1,5 @@
--- Which statements are compressed code, and whether sources have any (RISC-V ELF psABI, "File Header").
+-- Which statements are compressed code, and whether sources have any (RISC-V ELF psABI, "File
+-- Header").
 
 use Rattle.std.specs.Prelude.{Bool, true, false, ◌&&◌, List}
 use Rattle.std.specs.List.{list_any}
@@ -20,6 +21,7 @@ is_code executable _ = false
 abbrev pub is_compressed_code : Located → Bool
 is_compressed_code s = s.options.rvc && is_code s.home.executable s.kind
 
--- whether a program of these sources is flagged as compressed code: one of their statements is such code
+-- whether a program of these sources is flagged as compressed code: one of their statements is such
+-- code
 abbrev pub is_compressed : List (List Statement) → Bool
 is_compressed sources = list_any is_compressed_code (located sources)

@@ -30,7 +30,8 @@ identity_of_row r = record { file = r.file; line = r.line; ordinal = r.ordinal }
 abbrev pub identity_of : Located → Identity
 identity_of s = record { file = s.file; line = s.line; ordinal = s.ordinal }
 
--- the row of instructions that are valid, each of 2 or 4 bytes; no row fits a statement without instructions to stand for it
+-- the row of instructions that are valid, each of 2 or 4 bytes; no row fits a statement without
+-- instructions to stand for it
 abbrev pub IsRowOf : Option (List Inst) → Row → Type 0
 IsRowOf None r = ⊥
 IsRowOf (Some instructions) r =
@@ -51,7 +52,8 @@ constant_in _ = 0
 abbrev pub has_constants : Program → Mapped → Bool
 has_constants p s = list_all (λ e. is_constant (form p s.located e)) (expressions s.located.kind)
 
--- the row of data: the bytes that the statement spells, all zero where its section has none in the file
+-- the row of data: the bytes that the statement spells, all zero where its section has none in the
+-- file
 abbrev pub IsDataRow : Program → Mapped → Type 0
 IsDataRow p s =
     IsTrue (has_values p s) × (s.row.bytes ≡ length (spelled p s)) × (s.row.instructions ≡ 0)
@@ -68,7 +70,9 @@ is_low (Some alignment) = nat_le alignment 2
 -- the row of an alignment: in executable sections instructions, and none up to 2; in others zeros
 abbrev pub IsPaddingIn : Bool → Program → Mapped → Directive → Type 0
 IsPaddingIn true p s d =
-    IsRowOf (expansion p s) s.row × (s.row.bytes ≡ (if is_low (alignment_of (λ e. form p s.located e) d) then 0 else least_padding p s d))
+    IsRowOf (expansion p s) s.row
+    × (s.row.bytes
+    ≡ (if is_low (alignment_of (λ e. form p s.located e) d) then 0 else least_padding p s d))
 IsPaddingIn false p s d =
     IsTrue (has_values p s) × (s.row.bytes ≡ least_padding p s d) × (s.row.instructions ≡ 0)
 
@@ -96,7 +100,8 @@ StatementFits p s (Directs directive) = DirectiveFits p s directive
 abbrev pub SizeFits : Program → Mapped → Type 0
 SizeFits p s = StatementFits p s s.located.kind
 
--- a section of a file as the linker takes it: the multiple at which it begins, and its statements in the map
+-- a section of a file as the linker takes it: the multiple at which it begins, and its statements
+-- in the map
 pub record InputSection : Type 0 where
   pub alignment : ℕ
   pub mapped : List Mapped
@@ -109,7 +114,8 @@ abbrev pub mapped_in : List Mapped → ℕ → ℕ → List Mapped
 mapped_in mapped file section =
     filter (λ s. (s.located.file == file) && (s.located.section == section)) mapped
 
--- the multiple at which a section begins, by its index in its file: the greatest of its alignments, and 2 or more for code
+-- the multiple at which a section begins, by its index in its file: the greatest of its alignments,
+-- and 2 or more for code
 abbrev pub begins_at : Tables → ℕ → Section → ℕ
 begins_at t place section =
     max (if goes_to_text section then 2 else 1) (alignment_at t place)
@@ -185,7 +191,8 @@ pub record Fits (sources : List (List Statement)) (m : Map) (text_start : ℕ) :
   pub sizes : AllByRecursion (SizeFits (program sources m)) (program sources m).mapped
   pub text : Holds m.text text_start (input_sections goes_to_text sources m)
   pub gaps : m.gaps ≡ gaps_of text_start (input_sections goes_to_text sources m)
-  -- rodata and data begin at pages of 4096 bytes, bss after data at the greatest alignment of its sections
+  -- rodata and data begin at pages of 4096 bytes, bss after data at the greatest alignment of its
+  -- sections
   pub rodata : Holds m.rodata (aligned 4096 m.text.end) (input_sections goes_to_rodata sources m)
   pub «data» : Holds m.data (aligned 4096 m.rodata.end) (input_sections goes_to_data sources m)
   pub bss : Holds m.bss (aligned (greatest (input_sections goes_to_bss sources m)) m.data.end)

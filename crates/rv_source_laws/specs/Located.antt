@@ -1,5 +1,5 @@
--- The statements of the sources where they stand, and which of them have a row in the map (gABI, "Sections"; GNU as,
--- "Pseudo Ops").
+-- The statements of the sources where they stand, and which of them have a row in the map (gABI,
+-- "Sections"; GNU as, "Pseudo Ops").
 
 use Rattle.std.specs.Prelude.{ℕ, suc, Bool, true, false, ◌&&◌, List, [], ◌∷◌, ◌++◌}
 use Rattle.rv_statement.specs.Statement.{StatementKind, Label, Numbered, Instruction, Directs, Statement, Directive, Sets}
@@ -12,7 +12,8 @@ abbrev pub contributes : Contribution → Bool
 contributes Nothing = false
 contributes _ = true
 
--- `.set` has a row where it gives a place, the other directives where they contribute to their section
+-- `.set` has a row where it gives a place, the other directives where they contribute to their
+-- section
 abbrev pub is_placed_directive : Tables → ℕ → Directive → Bool
 is_placed_directive t ordinal (Sets name e) =
     gives_location (assigned name ordinal (value t false ordinal (here t) e))
@@ -25,8 +26,9 @@ is_placed t ordinal (Numbered number) = true
 is_placed t ordinal (Instruction mnemonic operands) = true
 is_placed t ordinal (Directs directive) = is_placed_directive t ordinal directive
 
--- a statement: its file and its ordinal, from 1; its section, by that one's index in the file from 0, and the bytes of data
--- before it there; `home` is that section; `options` are those that the statements before it set
+-- a statement: its file and its ordinal, from 1; its section, by that one's index in the file from
+-- 0, and the bytes of data before it there; `home` is that section; `options` are those that the
+-- statements before it set
 pub record Located : Type 0 where
   pub file : ℕ
   pub ordinal : ℕ

@@ -22,8 +22,8 @@ abbrev pub run_written : Option Inst → ℕ → Hart → Effect
 run_written None bytes h = Breaks
 run_written (Some i) bytes h = effect i bytes h
 
--- what an instruction or a pseudo-instruction does in so many bytes: a base instruction what its own meaning says, `li`
--- puts its number into rd
+-- what an instruction or a pseudo-instruction does in so many bytes: a base instruction what its
+-- own meaning says, `li` puts its number into rd
 abbrev pub run_with : Mnemonic → List Argument → ℕ → Hart → Effect
 run_with Li (Of_register rd ∷ Of_number k ∷ []) bytes h = sets bytes h rd k
 run_with mnemonic arguments bytes h = run_written (written mnemonic arguments) bytes h
@@ -62,7 +62,8 @@ abbrev pub alone : Option Inst → Option (List Inst)
 alone (Some i) = Some (i ∷ [])
 alone None = None
 
--- the base instructions that stand for an instruction or a pseudo-instruction; none for operands that it can't have
+-- the base instructions that stand for an instruction or a pseudo-instruction; none for operands
+-- that it can't have
 abbrev pub expanded_with : Mnemonic → List Argument → Option (List Inst)
 expanded_with Li (Of_register rd ∷ Of_number k ∷ []) = add_zero rd (fits_12 k)
 expanded_with mnemonic arguments = alone (written mnemonic arguments)

@@ -1,5 +1,5 @@
--- The statements of the sources where they stand in the map, and the values of their expressions there
--- (Assembly Programmer's Manual; GNU as, "Symbols" and "Expressions").
+-- The statements of the sources where they stand in the map, and the values of their expressions
+-- there (Assembly Programmer's Manual; GNU as, "Symbols" and "Expressions").
 
 use Rattle.std.specs.Prelude.{ℕ, ◌-◌, Bool, true, ◌&&◌, ◌==◌, if◌then◌else◌, List, [], ◌∷◌, drop, flat_map, map, Option, Some, None, is_some, option_map, option_and_then, unwrap_or, bytes_eq, slice_index_or}
 use Rattle.std.specs.List.{find, list_all}
@@ -41,7 +41,8 @@ seated located (Some row) = record { located = located; row = row } ∷ []
 abbrev pub mapped_of : List MaybeMapped → List Mapped
 mapped_of statements = flat_map (λ e. seated e.located e.row) statements
 
--- what is executed in source steps: what the names of each file mean, the statements, those that have rows, and the map
+-- what is executed in source steps: what the names of each file mean, the statements, those that
+-- have rows, and the map
 pub record Program : Type 0 where
   pub tables : List Tables
   pub statements : List MaybeMapped
@@ -106,7 +107,8 @@ resolved a (Faulty code) = None
 abbrev pub place_of : Located → SectionOffset
 place_of s = record { section = s.section; offset = s.offset }
 
--- what an expression of a statement is in its file: a constant, or one with a symbol or with a difference of two
+-- what an expression of a statement is in its file: a constant, or one with a symbol or with a
+-- difference of two
 abbrev pub form : Program → Located → Expression → Value
 form p s e = value_in_file (tables_in p s.file) true s.ordinal (place_of s) e
 
@@ -117,7 +119,8 @@ value p s e = resolved (λ q. address p s.located q) (form p s.located e)
 abbrev pub number : Program → Mapped → Expression → ℕ
 number p s e = unwrap_or (value p s e) 0
 
--- the expressions that a statement evaluates where it stands; what `.set` gives stands in the tables
+-- the expressions that a statement evaluates where it stands; what `.set` gives stands in the
+-- tables
 abbrev pub in_operand : Operand → List Expression
 in_operand (Of_value e) = e ∷ []
 in_operand (Applied function e) = e ∷ []

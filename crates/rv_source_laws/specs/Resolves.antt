@@ -1,4 +1,5 @@
--- The names of a map: which globals it shows, and where a run begins (gABI, "Symbol Table"; GNU as, ".global").
+-- The names of a map: which globals it shows, and where a run begins (gABI, "Symbol Table"; GNU as,
+-- ".global").
 
 use Rattle.std.specs.Prelude.{◌≡◌, ℕ, ◌+◌, ◌-◌, ◌%◌, Bool, false, not, ◌&&◌, ◌==◌, ⊤, List, [], ◌∷◌, ◌++◌, filter, flat_map, Option, Some, None, is_some, option_and_then, slice_index_or, codes, bytes_eq, if◌then◌else◌}
 use Rattle.std.specs.List.{find, list_any}
@@ -19,7 +20,8 @@ abbrev pub AreDistinct : List (List ℕ) → Type 0
 AreDistinct [] = ⊤
 AreDistinct (name ∷ names) = (is_one_of names name ≡ false) × AreDistinct names
 
--- whether a file, numbered from 1, makes a name global: the last of its statements that say a binding of it does
+-- whether a file, numbered from 1, makes a name global: the last of its statements that say a
+-- binding of it does
 abbrev pub is_global_in : List (List Statement) → ℕ → List ℕ → Bool
 is_global_in sources file name = is_global (binding_of (slice_index_or sources (file - 1) []) name)
 
@@ -57,7 +59,8 @@ set_address statements file (Some s) = elim s.meaning [
   | Refused code ↦ None
 ]
 
--- the address or the number of what a statement defines: a label's row's address, or what `.set` gives the name last
+-- the address or the number of what a statement defines: a label's row's address, or what `.set`
+-- gives the name last
 abbrev pub defined_address : Tables → List MaybeMapped → MaybeMapped → StatementKind → Option ℕ
 defined_address t statements e (Directs (Sets name expression)) =
     set_address statements e.located.file (assigned_ever t.assignments name)

@@ -11,7 +11,8 @@ use Rattle.rv_source_laws.specs.Program.{Mapped, Program, program}
 use Rattle.rv_source_laws.specs.Meaning.{meaning, cost}
 use Rattle.rv_source_laws.specs.Start.{is_in, first_memory}
 
--- what stands at a pc: a statement that starts there, the inside of one, a gap of the text, or no text
+-- what stands at a pc: a statement that starts there, the inside of one, a gap of the text, or no
+-- text
 pub data Place : Type 0 where
   Starts : (site : Mapped) → Place
   Inside : Place
@@ -29,7 +30,8 @@ found mapped pc = find (λ s. nat_lt 0 s.row.bytes && (s.row.address == pc)) map
 abbrev pub place : Program → ℕ → Place
 place p pc =
     if is_in p.map.text pc
-    then (if list_any (λ gap. is_in gap pc) p.map.gaps then Gap else starts_or_inside (found p.mapped pc))
+    then (if list_any (λ gap. is_in gap pc) p.map.gaps then Gap
+    else starts_or_inside (found p.mapped pc))
     else Outside
 
 -- the step at a place; the next pc is the row's end where the statement doesn't jump

@@ -1,5 +1,5 @@
--- Memory at the start of a source run: what the data statements spell at their rows, and the rights of the regions
--- (GNU as, "Pseudo Ops", for the data directives).
+-- Memory at the start of a source run: what the data statements spell at their rows, and the rights
+-- of the regions (GNU as, "Pseudo Ops", for the data directives).
 
 use Rattle.std.specs.Prelude.{ℕ, ◌+◌, ◌-◌, Bool, ◌&&◌, ◌||◌, nat_le, nat_lt, List, [], flat_map, replicate, Option, Some, None, slice_index}
 use Rattle.std.specs.List.{find}
@@ -24,7 +24,8 @@ abbrev pub spelled_contents : (Expression → ℕ) → Contents → List ℕ
 spelled_contents v (Numbers width values) = flat_map (λ e. little_endian width (v e)) values
 spelled_contents v (Texts ended strings) = string_bytes ended strings
 
--- what a directive contributes to data in this count of bytes, by the values of expressions; an alignment's padding is zeros
+-- what a directive contributes to data in this count of bytes, by the values of expressions; an
+-- alignment's padding is zeros
 abbrev pub spelled_contribution : (Expression → ℕ) → Contribution → ℕ → List ℕ
 spelled_contribution v Nothing bytes = []
 spelled_contribution v (Bytes contents) bytes = spelled_contents v contents
@@ -50,7 +51,8 @@ abbrev pub first_byte : Program → ℕ → ℕ
 first_byte p a =
     byte_of p (find (λ s. is_within s.row.address (s.row.address + s.row.bytes) a) p.mapped) a
 
--- text can be executed alone, rodata read alone; from data to the end of bss, and in the stack, a program reads and writes
+-- text can be executed alone, rodata read alone; from data to the end of bss, and in the stack, a
+-- program reads and writes
 abbrev pub right_at : Map → ℕ → Right → Bool
 right_at m a Execute = is_in m.text a
 right_at m a Write = is_within m.data.start m.bss.end a || is_within stack_start stack_end a

@@ -1,5 +1,6 @@
--- The base instruction that a mnemonic writes with its operands (RISC-V Unprivileged ISA 20191213, chapter 24; GNU as,
--- "RISC-V-Instructions", for operands that may be left out and for a constant as second source).
+-- The base instruction that a mnemonic writes with its operands (RISC-V Unprivileged ISA 20191213,
+-- chapter 24; GNU as, "RISC-V-Instructions", for operands that may be left out and for a constant
+-- as second source).
 
 use Rattle.std.specs.Prelude.{ℕ, ℤ, pos, ◌-ℤ◌, ◌^◌, List, [], ◌∷◌, Option, Some, None, nat_lt, if◌then◌else◌}
 use Rattle.rv_isa.specs.declared.instruction.RType.{RType}
@@ -53,7 +54,8 @@ pub data Argument : Type 0 where
   Of_register : (number : ℕ) → Argument
   Of_number : (number : ℕ) → Argument
   Of_accesses : (set : AccessSet) → Argument
-  -- the address of a target, and a part of a value: no base mnemonic takes them yet, so they write no instruction
+  -- the address of a target, and a part of a value: no base mnemonic takes them yet, so they write
+  -- no instruction
   Of_target : (address : ℕ) → Argument
   Of_part : (function : Function) (number : ℕ) → Argument
   -- a word or a string, which no instruction has
@@ -78,8 +80,8 @@ by_constant (Some (Immediate operation)) rd rs1 k = Some (of_immediate operation
 by_constant (Some (Shift operation)) rd rs1 k = Some (of_shift operation (shift_by rd rs1 k))
 by_constant _ rd rs1 k = None
 
--- the one instruction that a base mnemonic writes: an address has offset 0 unless it says another, and `jalr` links to ra
--- unless it names another register
+-- the one instruction that a base mnemonic writes: an address has offset 0 unless it says another,
+-- and `jalr` links to ra unless it names another register
 abbrev pub written : Mnemonic → List Argument → Option Inst
 written (Registers operation) (Of_register rd ∷ Of_register rs1 ∷ Of_register rs2 ∷ []) =
     Some (of_registers operation (r_type rd rs1 rs2))

@@ -1,5 +1,5 @@
--- What a statement says, as plain data (RISC-V Assembly Programmer's Manual; GNU as, "Pseudo Ops"). Later kinds are
--- further cases.
+-- What a statement says, as plain data (RISC-V Assembly Programmer's Manual; GNU as, "Pseudo Ops").
+-- Later kinds are further cases.
 
 use Rattle.std.specs.Prelude.{ℕ, List, Bool, Option}
 use Rattle.rv_text_laws.specs.Expression.{Tree}

@@ -39,7 +39,8 @@ abbrev pub binding_in : {S : Type 0} → IndexMap (Bor (List ℕ)) Binding S →
 binding_in bindings name =
     unwrap_or (get_by (λ (k : Bor (List ℕ)). bytes_eq name k.now) bindings) Local
 
--- the tables, of which the code has assignments, numeric labels and kept options with the latest last
+-- the tables, of which the code has assignments, numeric labels and kept options with the latest
+-- last
 abbrev pub tables_of : Tables → laws.Tables
 tables_of b = record {
   extents = map extent_of b.extents.items;

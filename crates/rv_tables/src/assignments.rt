@@ -30,7 +30,10 @@ pub(crate) fn add_assigned<'a>(
     by_name: &mut IndexMap<&'a [u8], Vec<Assignment<'a>>>,
     assigned: Assignment<'a>,
 ) -> Result<(), AllocError>
-    ensures { OnOk result ((name : List ℕ) → assignments_at by_name.new name ≡ (if bytes_eq (assigned.entry).name.now name then assignments_at by_name.old name ++ assigned.entry ∷ [] else assignments_at by_name.old name)) }
+    ensures { OnOk result ((name : List ℕ) → assignments_at by_name.new name
+        ≡ (if bytes_eq (assigned.entry).name.now name
+        then assignments_at by_name.old name ++ assigned.entry ∷ []
+        else assignments_at by_name.old name)) }
 {
     let mut assignments = assignments_of(alloc, by_name, assigned.name);
     assignments.push(assigned)?;

@@ -37,7 +37,10 @@ pub(crate) fn add_numbered<'a>(
     numbered: &mut IndexMap<Number<'a>, Vec<NumericLabel<'a>>>,
     numeric_label: NumericLabel<'a>,
 ) -> Result<(), AllocError>
-    ensures { OnOk result ((digits : List ℕ) → numeric_labels_at numbered.new (value 10 digits) ≡ (if value 10 (numeric_label.entry).digits.now == value 10 digits then numeric_labels_at numbered.old (value 10 digits) ++ numeric_label.entry ∷ [] else numeric_labels_at numbered.old (value 10 digits))) }
+    ensures { OnOk result ((digits : List ℕ) → numeric_labels_at numbered.new (value 10 digits)
+        ≡ (if value 10 (numeric_label.entry).digits.now == value 10 digits
+        then numeric_labels_at numbered.old (value 10 digits) ++ numeric_label.entry ∷ []
+        else numeric_labels_at numbered.old (value 10 digits))) }
 {
     let number = Number {
         digits: numeric_label.digits,

@@ -342,14 +342,18 @@ impl<'a> Tables<'a> {
 
     /// Whether a label or an assignment has the name.
     pub(crate) fn is_defined(&self, name: &[u8]) -> bool
-        ensures { IsIndexed self.now → result ≡ (is_some (laws.label_of (tables_of self.now).labels true 0 name.now) || is_some (laws.assigned_ever (tables_of self.now).assignments name.now)) }
+        ensures { IsIndexed self.now → result
+            ≡ (is_some (laws.label_of (tables_of self.now).labels true 0 name.now)
+            || is_some (laws.assigned_ever (tables_of self.now).assignments name.now)) }
     {
         self.label(name).is_some() || self.assignment(name).is_some()
     }
 
     /// Whether a label or a location has the name.
     pub(crate) fn has_location(&self, name: &[u8]) -> bool
-        ensures { IsIndexed self.now → result ≡ (is_some (laws.label_of (tables_of self.now).labels true 0 name.now) || placed_latest (laws.assigned_ever (tables_of self.now).assignments name.now)) }
+        ensures { IsIndexed self.now → result
+            ≡ (is_some (laws.label_of (tables_of self.now).labels true 0 name.now)
+            || placed_latest (laws.assigned_ever (tables_of self.now).assignments name.now)) }
     {
         if self.label(name).is_some() {
             return true;

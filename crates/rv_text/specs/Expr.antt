@@ -64,7 +64,8 @@ ends_operand expression.Nothing_more = true
 ends_operand expression.A_closing = true
 ends_operand _ = false
 
--- the stages after an operand alone, after `-` and a number, and after a symbol, an operator and a number
+-- the stages after an operand alone, after `-` and a number, and after a symbol, an operator and a
+-- number
 abbrev pub after_operand : expression.Primary → reading.Stage
 after_operand p = reading.Has [] (expression.Primary_node p ∷ [])
 

@@ -1,5 +1,5 @@
--- The bytes of a source: their classes, digits and numerals (Assembly Programmer's Manual; GNU as, "Symbols",
--- "Constants").
+-- The bytes of a source: their classes, digits and numerals (Assembly Programmer's Manual; GNU as,
+-- "Symbols", "Constants").
 
 use Rattle.std.specs.Prelude.{ℕ, ◌+◌, ◌-◌, ◌*◌, ◌^◌, Bool, ◌&&◌, ◌||◌, nat_le, nat_lt, ◌==◌, if◌then◌else◌, List, [], ◌∷◌, length, codes}
 use Rattle.rv_text_laws.specs.declared.punct.Punct.{Punct}

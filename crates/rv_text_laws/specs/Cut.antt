@@ -1,5 +1,6 @@
--- A list cut into pieces: each piece is spelled by its text, and no next element would make it longer. Bytes are cut
--- into blanks, comments and tokens, the inside of a string into its bytes, and tokens into parts of statements.
+-- A list cut into pieces: each piece is spelled by its text, and no next element would make it
+-- longer. Bytes are cut into blanks, comments and tokens, the inside of a string into its bytes,
+-- and tokens into parts of statements.
 
 use Rattle.std.specs.Prelude.{◌≡◌, ℕ, zero, suc, List, [], ◌∷◌, ◌++◌, ◌<◌, Option, Some, None, length, take, drop}
 
@@ -40,7 +41,8 @@ cut_in (suc room) at all = elim (at all) [
       (record { kind = f.0; text = take f.1 all } ∷ after.0, after.1)
 ]
 
--- the pieces of a list by a finder of the piece at the front (its kind and its length), as far as there are any
+-- the pieces of a list by a finder of the piece at the front (its kind and its length), as far as
+-- there are any
 unfoldable pub cut : {K A : Type 0} → (List A → Option (K × ℕ)) → List A → List (Piece K A) × List A
 cut at all = cut_in (length all) at all
 

@@ -1,5 +1,5 @@
--- Expressions: their trees, how tokens spell them, and their postfix form (GNU as, "Expressions"; Assembly
--- Programmer's Manual).
+-- Expressions: their trees, how tokens spell them, and their postfix form (GNU as, "Expressions";
+-- Assembly Programmer's Manual).
 
 use Rattle.std.specs.Prelude.{◌≡◌, ℕ, suc, ◌≤◌, max, Bool, nat_le, List, [], ◌∷◌, ◌++◌, length, codes, ◌⊎◌, if◌then◌else◌}
 use Rattle.std.specs.Str.{bytes_eq}
@@ -125,8 +125,9 @@ SpellsTree is_register (Binary o x y) ts =
     (us vs : List Token) × (t : Token) × (ts ≡ us ++ t ∷ vs) × (follows t.kind ≡ An_operator o)
     × SpellsTree is_register x us × SpellsTree is_register y vs
 
--- where an operand of this level may stand: its operators bind as tight or tighter, the left operand's as tight or
--- tighter than it, the right operand's tighter; an operator of one operand takes no other
+-- where an operand of this level may stand: its operators bind as tight or tighter, the left
+-- operand's as tight or tighter than it, the right operand's tighter; an operator of one operand
+-- takes no other
 abbrev pub IsAt : ℕ → Tree → Type 0
 IsAt level (Leaf p) = Unit {0}
 IsAt level (Unary o x) = IsAt 3 x

@@ -1,6 +1,7 @@
--- The expression at the front of tokens, going over them once: where an expression stands there, its nodes and the tokens
--- after it (`expression_is`, `expression_found`: the definitions of Expression leave room for one); else the first token
--- with which no expression goes on, with its code (`taken_goes_on`, `wrong_token`).
+-- The expression at the front of tokens, going over them once: where an expression stands there,
+-- its nodes and the tokens after it (`expression_is`, `expression_found`: the definitions of
+-- Expression leave room for one); else the first token with which no expression goes on, with its
+-- code (`taken_goes_on`, `wrong_token`).
 
 use Rattle.std.specs.Prelude.{◌≡◌, ℕ, suc, Bool, true, false, nat_le, nat_lt, List, [], ◌∷◌, ◌++◌, Option, Some, None, Ok, Err, if◌then◌else◌}
 use Rattle.rv_text_laws.specs.declared.punct.Punct.TheVariants.{DoubleSlash}
@@ -12,7 +13,8 @@ use Rattle.rv_text_laws.specs.Codes.{bad_byte, bad_token, nesting_too_deep, bad_
 use Rattle.rv_text_laws.specs.SyntaxError.{wrong, Read, nowhere}
 use Rattle.rv_text_laws.specs.Expression.{Begin, A_primary, A_prefix, An_opening, No_operand, begins, Follow, An_operator, A_closing, A_comparison, Nothing_more, follows, level_of, deepest, Node, Primary_node, Unary_node, Binary_node}
 
--- what is read so far: what waits for an operand, the last one first, and the nodes; and whether an operand comes next
+-- what is read so far: what waits for an operand, the last one first, and the nodes; and whether an
+-- operand comes next
 pub data Stage : Type 0 where
   Wants : (frames : List Frame) (nodes : List Node) → Stage
   Has : (frames : List Frame) (nodes : List Node) → Stage
@@ -45,7 +47,8 @@ abbrev pub settle : ℕ → List Frame → List Node → List Frame × List Node
 settle level [] ns = ([], ns)
 settle level (f ∷ fs) ns = if binds level f then settle level fs (ns ++ node_of f) else (f ∷ fs, ns)
 
--- what a token makes of a stage: another stage, the end of the expression before the token, or a fault at it
+-- what a token makes of a stage: another stage, the end of the expression before the token, or a
+-- fault at it
 pub data Step : Type 0 where
   Goes : (stage : Stage) → Step
   Ends : (nodes : List Node) → Step

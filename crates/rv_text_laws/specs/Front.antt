@@ -1,5 +1,6 @@
--- The lexeme at the front of bytes, by looking at them in order: the function that the definitions of Grammar leave
--- room for one of. The laws say that the two agree, so nothing rests on how this one goes.
+-- The lexeme at the front of bytes, by looking at them in order: the function that the definitions
+-- of Grammar leave room for one of. The laws say that the two agree, so nothing rests on how this
+-- one goes.
 
 use Rattle.std.specs.Prelude.{ℕ, suc, ◌+◌, ◌^◌, Bool, true, false, ◌&&◌, ◌==◌, nat_lt, if◌then◌else◌, List, [], ◌∷◌, Option, Some, None, option_map, length, take, drop, map}
 use Rattle.std.specs.List.{list_all, prefix_len}

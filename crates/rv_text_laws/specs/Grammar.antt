@@ -1,4 +1,5 @@
--- The lexemes of a source: blanks and comments, and the tokens (Assembly Programmer's Manual; GNU as, "Syntax").
+-- The lexemes of a source: blanks and comments, and the tokens (Assembly Programmer's Manual; GNU
+-- as, "Syntax").
 
 use Rattle.std.specs.Prelude.{◌≡◌, ℕ, ◌^◌, ◌<◌, Bool, true, false, ◌||◌, ◌==◌, List, [], ◌∷◌, ◌++◌, map, ◌⊎◌, if◌then◌else◌}
 use Rattle.std.specs.List.{list_all}
@@ -90,7 +91,8 @@ Spells (Text bytes) text =
     (atoms : List (Piece Atom ℕ)) × (text ≡ 34 ∷ (texts atoms ++ 34 ∷ []))
     × Each SpellsAtom StopsAtom atoms (34 ∷ []) × (bytes ≡ map (λ a. byte_of a.kind) atoms)
 Spells (Character byte) text = (text ≡ 39 ∷ byte ∷ 39 ∷ []) × (is_character byte ≡ true)
-    ⊎ ((a : Atom) × (one : List ℕ) × (text ≡ 39 ∷ (one ++ 39 ∷ [])) × (is_escape a ≡ true) × SpellsAtom a one × (byte ≡ byte_of a))
+    ⊎ ((a : Atom) × (one : List ℕ) × (text ≡ 39 ∷ (one ++ 39 ∷ [])) × (is_escape a ≡ true)
+    × SpellsAtom a one × (byte ≡ byte_of a))
 Spells Bad_byte text = ⊥
 Spells Bad_token text = ⊥
 Spells End text = ⊥

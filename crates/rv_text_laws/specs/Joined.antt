@@ -1,5 +1,5 @@
--- Names in which `-` may stand after the first byte, as those of sections (GNU as, ".section"): a name, and then words
--- and minus signs without a gap between.
+-- Names in which `-` may stand after the first byte, as those of sections (GNU as, ".section"): a
+-- name, and then words and minus signs without a gap between.
 
 use Rattle.std.specs.Prelude.{◌≡◌, ℕ, ◌==◌, List, [], ◌∷◌, ◌++◌, Option, Some, None, option_map, codes, if◌then◌else◌}
 use Rattle.rv_text_laws.specs.declared.punct.Punct.TheVariants.{Minus}

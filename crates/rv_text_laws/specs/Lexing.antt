@@ -7,7 +7,8 @@ use Rattle.rv_text_laws.specs.Cut.{Piece, texts, Cuts, NothingReads}
 use Rattle.rv_text_laws.specs.Bytes.{class}
 use Rattle.rv_text_laws.specs.Grammar.{Kind, Space, Line_comment, Block_comment, Bad_byte, Bad_token, End, Spells, Stops}
 
--- a token: what it is, the offsets of its first byte and of the byte after it (from 0), its first byte's line (from 1)
+-- a token: what it is, the offsets of its first byte and of the byte after it (from 0), its first
+-- byte's line (from 1)
 pub record Token : Type 0 where
   pub kind : Kind
   pub start : ℕ

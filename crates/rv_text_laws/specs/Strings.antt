@@ -4,8 +4,8 @@ use Rattle.std.specs.Prelude.{◌≡◌, ℕ, ◌%◌, ◌<◌, ◌≤◌, Bool,
 use Rattle.std.specs.List.{list_all}
 use Rattle.rv_text_laws.specs.Bytes.{between, is_digit, value}
 
--- what one byte of a string is written as: as it stands, by a letter after `\`, by up to three octal digits after `\`
--- (counted modulo 256), or by one or two hexadecimal digits after `\x`
+-- what one byte of a string is written as: as it stands, by a letter after `\`, by up to three
+-- octal digits after `\` (counted modulo 256), or by one or two hexadecimal digits after `\x`
 pub data Atom : Type 0 where
   Plain : (byte : ℕ) → Atom
   Named : (byte : ℕ) → Atom

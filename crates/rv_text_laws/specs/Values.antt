@@ -1,4 +1,5 @@
--- The value of an expression: 64-bit two's complement that wraps, with names that may stay open (GNU as, "Expressions").
+-- The value of an expression: 64-bit two's complement that wraps, with names that may stay open
+-- (GNU as, "Expressions").
 
 use Rattle.std.specs.Prelude.{ℕ, ◌+◌, ◌-◌, ◌*◌, ◌/◌, ◌%◌, ◌^◌, min, Bool, ◌&&◌, ◌==◌, nat_lt, List, [], ◌∷◌, bit_and, bit_or, bit_xor, int_rem, if◌then◌else◌}
 use Rattle.std.specs.Int.{w64, cast_signed, cast_unsigned, int_wrapping_div}
@@ -20,8 +21,8 @@ pub data Meaning : Type 0 where
   -- no meaning, with its fault's code: `undefined_local` or `not_constant`
   Refused : (code : ℕ) → Meaning
 
--- a value: a constant below 2 ^ 64, alone, with a symbol (and what that means), or with a difference of two; or the
--- code of a fault
+-- a value: a constant below 2 ^ 64, alone, with a symbol (and what that means), or with a
+-- difference of two; or the code of a fault
 pub data Value : Type 0 where
   Constant : (number : ℕ) → Value
   Symbolic : (symbol : Primary) (at : Meaning) (plus : ℕ) → Value

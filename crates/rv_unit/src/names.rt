@@ -222,7 +222,8 @@ impl<'a> Unit<'a> {
     /// Whether a label or a location has the name before an ordinal.
     pub(crate) fn has_location_before(&self, ordinal: usize, name: &[u8]) -> bool
         ensures { IsIndexed (self.now).tables → (o : ℕ) → IsBefore (tables_of (self.now).tables) o
-            → result ≡ (is_some (laws.label_of (tables_of (self.now).tables).labels false ordinal name.now)
+            → result
+            ≡ (is_some (laws.label_of (tables_of (self.now).tables).labels false ordinal name.now)
             || placed_latest
             (laws.assigned_before (tables_of (self.now).tables).assignments ordinal name.now)) }
     {

@@ -104,7 +104,15 @@ impl<'u, 'a> Scope<'u, 'a> {
 
     /// Where a name stands.
     fn definition_of_name(&self, name: &[u8]) -> Option<Definition>
-        ensures { IsIndexed (self.now).unit.now.tables → (o : ℕ) → IsBefore (tables_of (self.now).unit.now.tables) o → option_map definition_of result ≡ laws.first_definition (laws.assigned_definition (laws.assigned_before (tables_of (self.now).unit.now.tables).assignments (self.now).ordinal name.now)) (laws.labelled_definition (laws.label_of (tables_of (self.now).unit.now.tables).labels true 0 name.now) (laws.assigned_definition (laws.assigned_ever (tables_of (self.now).unit.now.tables).assignments name.now))) }
+        ensures { IsIndexed (self.now).unit.now.tables → (o : ℕ) →
+            let tables = tables_of (self.now).unit.now.tables in
+            IsBefore tables o →
+            option_map definition_of result
+            ≡ laws.first_definition
+            (laws.assigned_definition
+            (laws.assigned_before tables.assignments (self.now).ordinal name.now))
+            (laws.labelled_definition (laws.label_of tables.labels true 0 name.now)
+            (laws.assigned_definition (laws.assigned_ever tables.assignments name.now))) }
     {
         if let Some(definition) = definition_of_assignment(
             self.unit.tables.assignment_before(self.ordinal, name),

@@ -1,4 +1,5 @@
--- What a directive contributes to its section: nothing, bytes, zero bytes or an alignment (GNU as, "Pseudo Ops").
+-- What a directive contributes to its section: nothing, bytes, zero bytes or an alignment (GNU as,
+-- "Pseudo Ops").
 
 use Rattle.std.specs.Prelude.{ℕ, List, Bool}
 use Rattle.rv_statement.specs.Statement.{Expression, Directive, Aligns_to_power, Aligns_to_bytes, Values, Strings, Zeros}

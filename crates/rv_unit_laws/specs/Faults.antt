@@ -1,5 +1,5 @@
--- The faults of labels and directives, and of instructions outside code; the first of them (GNU as, "Pseudo Ops",
--- for what directives take).
+-- The faults of labels and directives, and of instructions outside code; the first of them (GNU as,
+-- "Pseudo Ops", for what directives take).
 
 use Rattle.std.specs.Prelude.{ℕ, suc, ◌+◌, ◌^◌, Bool, true, false, not, ◌&&◌, ◌||◌, ◌==◌, nat_lt, nat_le, min, List, [], ◌∷◌, ◌++◌, length, flat_map, Option, Some, None, is_some, if◌then◌else◌}
 use Rattle.rv_text_laws.specs.Codes.{duplicate_label, not_constant, immediate_range, wrong_section, option_stack, limit}
@@ -78,7 +78,8 @@ alignment_faults section offset alignment =
     then code_alignment_faults (is_nobits section) alignment
     else past_section false offset (padding alignment offset)
 
--- a second definition of a name of which either is a label or a location; a location stands in no code
+-- a second definition of a name of which either is a label or a location; a location stands in no
+-- code
 abbrev pub set_faults : Tables → ℕ → Section → List ℕ → Value → List ℕ
 set_faults t ordinal section name (Symbolic Here at plus) =
     faulty_if (is_defined t ordinal name) duplicate_label
@@ -107,13 +108,15 @@ abbrev pub contents_faults : (Expression → Value) → Contents → List ℕ
 contents_faults v (Numbers width values) = flat_map (λ e. value_faults width (v e)) values
 contents_faults v (Texts ended strings) = []
 
--- the codes of the faults of what a directive contributes: `t` are the tables before it, `all` those of the whole source
+-- the codes of the faults of what a directive contributes: `t` are the tables before it, `all`
+-- those of the whole source
 abbrev pub contribution_faults : Tables → Tables → ℕ → Contribution → List ℕ
 contribution_faults all t ordinal Nothing = []
 contribution_faults all t ordinal (Bytes contents) =
     let section = current_section (opened_of t) in
     contents_faults (λ e. value all true ordinal (here t) e) contents
-    ++ (faulty_if (section.executable || is_nobits section) wrong_section ++ past_section section.executable (here t).offset (contents_size contents))
+    ++ (faulty_if (section.executable || is_nobits section) wrong_section
+    ++ past_section section.executable (here t).offset (contents_size contents))
 contribution_faults all t ordinal (Zero_bytes count) =
     zero_faults (current_section (opened_of t)) (here t).offset
     (value all false ordinal (here t) count)

@@ -41,7 +41,8 @@ goes_to_rodata s = s.loaded && not s.executable && not (is_nobits s) && not s.wr
 abbrev pub begins_with : List ℕ → List ℕ → Bool
 begins_with front name = bytes_eq (take (length front) name) front
 
--- the sections that the front of their name says: code, variables, variables that begin as zero, constants
+-- the sections that the front of their name says: code, variables, variables that begin as zero,
+-- constants
 abbrev pub is_code : List ℕ → Bool
 is_code name = begins_with (codes ".text") name
 
@@ -70,7 +71,8 @@ abbrev pub type_given : Option (List ℕ) → Bool → SectionType
 type_given None zeroed = if zeroed then Nobits else Progbits
 type_given (Some word) zeroed = type_named word
 
--- a section with the flags a (97), x (120) and w (119) and the type that are given, or that its name's front says
+-- a section with the flags a (97), x (120) and w (119) and the type that are given, or that its
+-- name's front says
 abbrev pub section_of : List ℕ → Option (List ℕ) → Option (List ℕ) → Section
 section_of name flags kind = record {
   name = name;

@@ -1,5 +1,5 @@
--- What the statements of a source define: sections with the bytes of their data, labels, assignments
--- (GNU as, "Symbols", "Expressions" and "Pseudo Ops").
+-- What the statements of a source define: sections with the bytes of their data, labels,
+-- assignments (GNU as, "Symbols", "Expressions" and "Pseudo Ops").
 
 use Rattle.std.specs.Prelude.{ℕ, zero, suc, ◌+◌, ◌-◌, ◌*◌, ◌/◌, ◌^◌, Bool, true, false, not, ◌&&◌, ◌||◌, ◌==◌, nat_lt, nat_le, max, List, [], ◌∷◌, ◌++◌, length, map, flat_map, reverse, Option, Some, None, is_some, slice_index_or, if◌then◌else◌}
 use Rattle.std.specs.List.{find, list_any}
@@ -16,7 +16,8 @@ use Rattle.rv_unit_laws.specs.declared.binding.Binding.{Binding}
 use Rattle.rv_unit_laws.specs.Bindings.{Bindings, all_local, bindings_then}
 use Rattle.rv_unit_laws.specs.Contributions.{Contents, Numbers, Texts, AlignmentForm, As_power, As_bytes, Contribution, Nothing, Bytes, Zero_bytes, Alignment, contribution}
 
--- where something stands: the index of its section in the source, and the bytes of data before it there
+-- where something stands: the index of its section in the source, and the bytes of data before it
+-- there
 pub record SectionOffset : Type 0 where
   pub section : ℕ
   pub offset : ℕ
@@ -33,7 +34,8 @@ pub record NumericLabel : Type 0 where
   pub ordinal : ℕ
   pub place : SectionOffset
 
--- what a `.set` gives a name: a number, or a location in a section of data, and how far after the statement that is
+-- what a `.set` gives a name: a number, or a location in a section of data, and how far after the
+-- statement that is
 pub record Assignment : Type 0 where
   pub name : List ℕ
   pub ordinal : ℕ
@@ -144,7 +146,8 @@ abbrev pub assigned_first : Option Assignment → Meaning → Meaning
 assigned_first (Some s) other = s.meaning
 assigned_first None other = other
 
--- a name: its latest earlier assignment, else its label, else the location that it is set to; else it is another file's
+-- a name: its latest earlier assignment, else its label, else the location that it is set to; else
+-- it is another file's
 abbrev pub named : Tables → Bool → ℕ → List ℕ → Meaning
 named t all ordinal name =
     assigned_first (assigned_before t.assignments ordinal name)
@@ -167,8 +170,9 @@ referred t all ordinal number true =
 referred t all ordinal number false =
     backward_in (opened_of t) (numeric_label_before t.numeric_labels ordinal number)
 
--- what stands in an expression of the statement of this ordinal at this offset: `all` says whether later definitions
--- count, as in values of data and in operands of instructions; in sizes, alignments and assignments they don't
+-- what stands in an expression of the statement of this ordinal at this offset: `all` says whether
+-- later definitions count, as in values of data and in operands of instructions; in sizes,
+-- alignments and assignments they don't
 abbrev pub meaning : Tables → Bool → ℕ → SectionOffset → Primary → Meaning
 meaning t all ordinal p (Literal number) = Known number
 meaning t all ordinal p (Symbol name) = named t all ordinal name
@@ -216,7 +220,8 @@ abbrev pub numeric_definition : Option NumericLabel → Option Definition
 numeric_definition None = None
 numeric_definition (Some m) = Some (definition_at m.ordinal)
 
--- the definition of a symbol in an expression of the statement of this ordinal; none where it is another file's
+-- the definition of a symbol in an expression of the statement of this ordinal; none where it is
+-- another file's
 abbrev pub definition : Tables → ℕ → Primary → Option Definition
 definition t ordinal (Literal number) = None
 definition t ordinal (Symbol name) =
@@ -251,7 +256,8 @@ is_power n = is_power_below 63 n
 abbrev pub aligned : ℕ → ℕ → ℕ
 aligned alignment n = (n + (alignment - 1)) / alignment * alignment
 
--- the alignment of a value: to that power of two, or to that number of bytes; none where it can't be had
+-- the alignment of a value: to that power of two, or to that number of bytes; none where it can't
+-- be had
 abbrev pub power_alignment : Value → Option ℕ
 power_alignment (Constant k) = if nat_lt k 13 then Some (2 ^ k) else None
 power_alignment _ = None
@@ -297,8 +303,8 @@ abbrev pub padding : Option ℕ → ℕ → ℕ
 padding None offset = 0
 padding (Some alignment) offset = aligned alignment offset - offset
 
--- the bytes that a contribution has at an offset of data: contents have all theirs; a count or an alignment that is faulty,
--- or does not fit, has none
+-- the bytes that a contribution has at an offset of data: contents have all theirs; a count or an
+-- alignment that is faulty, or does not fit, has none
 abbrev pub contributed : (Expression → Value) → ℕ → Contribution → ℕ
 contributed v offset Nothing = 0
 contributed v offset (Bytes contents) = contents_size contents
@@ -328,12 +334,19 @@ is_defined t ordinal name =
     is_some (label_of t.labels false ordinal name)
     || is_some (assigned_before t.assignments ordinal name)
 
--- what `.set` assigns by the value of its expression: a number, a location where its symbol is `.`, or nothing
+-- what `.set` assigns by the value of its expression: a number, a location where its symbol is `.`,
+-- or nothing
 abbrev pub assigned : List ℕ → ℕ → Value → Option Assignment
 assigned name ordinal (Constant n) =
     Some (record { name = name; ordinal = ordinal; meaning = Known n; plus = 0 })
 assigned name ordinal (Symbolic Here (InSection section offset) plus) =
-    Some (record { name = name; ordinal = ordinal; meaning = InSection section (add offset plus); plus = plus })
+    Some
+    (record {
+      name = name;
+      ordinal = ordinal;
+      meaning = InSection section (add offset plus);
+      plus = plus;
+    })
 assigned name ordinal _ = None
 
 -- whether a `.set` gives a location
@@ -353,7 +366,10 @@ with_assignment t (Some s) =
 
 abbrev pub with_label : Tables → ℕ → List ℕ → Tables
 with_label t ordinal name =
-    if is_defined t ordinal name then t else record t { labels = t.labels ++ record { name = name; ordinal = ordinal; place = here t } ∷ [] }
+    if is_defined t ordinal name then t
+    else record t {
+      labels = t.labels ++ record { name = name; ordinal = ordinal; place = here t } ∷ [];
+    }
 
 abbrev pub with_numeric_label : Tables → ℕ → ℕ → Tables
 with_numeric_label t ordinal number =
@@ -421,7 +437,8 @@ assigned_by v ordinal _ = None
 abbrev pub with_bindings : Tables → Directive → Tables
 with_bindings t d = record t { bindings = bindings_then d t.bindings }
 
--- a directive enters a section, gives a name its value, chooses an option, contributes to its section or binds names
+-- a directive enters a section, gives a name its value, chooses an option, contributes to its
+-- section or binds names
 abbrev pub after_directive : Tables → ℕ → Directive → Tables
 after_directive t ordinal d =
     let v = value t false ordinal (here t) in

@@ -1,5 +1,5 @@
--- The high parts of distances, by where they stand in what is kept of sections (RISC-V ELF psABI, "PC-Relative Symbol
--- Addresses").
+-- The high parts of distances, by where they stand in what is kept of sections (RISC-V ELF psABI,
+-- "PC-Relative Symbol Addresses").
 
 use Rattle.std.specs.Prelude.{◌≡◌, ℕ, ◌==◌, ◌&&◌, List, Option, Some, None, option_map, if◌then◌else◌}
 use Rattle.std.specs.List.{find}

@@ -1,5 +1,5 @@
--- What the values of placed objects answer (`rv_object_laws`, specs/Values), and which relocations have none (RISC-V ELF psABI,
--- "PC-Relative Symbol Addresses").
+-- What the values of placed objects answer (`rv_object_laws`, specs/Values), and which relocations
+-- have none (RISC-V ELF psABI, "PC-Relative Symbol Addresses").
 
 use Rattle.std.specs.Prelude.{◌≡◌, ◌⊎◌, ℕ, ◌+◌, ℤ, pos, true, List, map, Some, None}
 use Rattle.std.specs.List.{slice_get}

@@ -19,7 +19,8 @@ two_sections =
     ∷ said 4 call
     ∷ []
 
--- as it is linked: the second section begins at a multiple of 16, after a gap, and so its alignment has no padding
+-- as it is linked: the second section begins at a multiple of 16, after a gap, and so its alignment
+-- has no padding
 abbrev pub with_gap : Map
 with_gap = record exit7_map {
   text = region 0x10000 0x10014;

@@ -6,7 +6,7 @@
 --     li a7, 93
 --     ecall
 
-use Rattle.std.specs.Prelude.{ℕ, List, [], ◌∷◌, codes}
+use Rattle.std.specs.Prelude.{ℕ, List, [], ◌∷◌, ◌++◌, codes}
 use Rattle.rv_isa_laws.specs.Hart.{Outcome, Exited}
 use Rattle.rv_text_laws.specs.declared.operator.UnaryOperator.TheVariants.{Negate}
 use Rattle.rv_text_laws.specs.Expression.{Literal, Leaf, Unary}
@@ -147,4 +147,9 @@ two_files_map = record exit7_map {
 
 -- the map's text
 abbrev pub exit7_text : List ℕ
-exit7_text = codes "rvmap 1\ntext 10000 1000c\nrodata 11000 11000\ndata 11000 11000\nbss 11000 11000\nentry 10000\nglobal _start 10000\nglobal _etext 1000c\nglobal __bss_start 11000\nglobal _edata 11000\nglobal _end 11000\nglobal __global_pointer$ 11800\nrow 1 3 3 10000 0 0\nrow 1 3 4 10000 4 1\nrow 1 4 5 10004 4 1\nrow 1 5 6 10008 4 1\n"
+exit7_text =
+    codes "rvmap 1\ntext 10000 1000c\nrodata 11000 11000\ndata 11000 11000\nbss 11000 11000\n"
+    ++ (codes "entry 10000\nglobal _start 10000\nglobal _etext 1000c\nglobal __bss_start 11000\n"
+    ++ (codes "global _edata 11000\nglobal _end 11000\nglobal __global_pointer$ 11800\n"
+    ++ (codes "row 1 3 3 10000 0 0\nrow 1 3 4 10000 4 1\n"
+    ++ codes "row 1 4 5 10004 4 1\nrow 1 5 6 10008 4 1\n")))

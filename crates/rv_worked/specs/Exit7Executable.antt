@@ -1,4 +1,5 @@
--- The executable of the worked program, byte by byte (System V gABI, "ELF Header" and "Program Header").
+-- The executable of the worked program, byte by byte (System V gABI, "ELF Header" and "Program
+-- Header").
 
 use Rattle.std.specs.Prelude.{ℕ, List, [], ◌∷◌, ◌++◌, false, replicate}
 use Rattle.rv_image.specs.Image.{Image}
@@ -25,7 +26,8 @@ exit7_places = 0 ∷ 0 ∷ 1 ∷ 0 ∷ 0 ∷ 0 ∷ 0 ∷ 0
 abbrev pub exit7_sizes : List ℕ
 exit7_sizes = 64 ∷ 0 ∷ 56 ∷ 0 ∷ 1 ∷ 0 ∷ 0 ∷ 0 ∷ 0 ∷ 0 ∷ 0 ∷ 0 ∷ []
 
--- type 1, to be executed; at 1000h of the file and at 10000h twice; 12 bytes in the file and in memory; alignment 1000h
+-- type 1, to be executed; at 1000h of the file and at 10000h twice; 12 bytes in the file and in
+-- memory; alignment 1000h
 abbrev pub exit7_segment : List ℕ
 exit7_segment = 1 ∷ 0 ∷ 0 ∷ 0 ∷ 1 ∷ 0 ∷ 0 ∷ 0
     ∷ 0 ∷ 0x10 ∷ 0 ∷ 0 ∷ 0 ∷ 0 ∷ 0 ∷ 0

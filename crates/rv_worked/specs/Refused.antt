@@ -79,7 +79,8 @@ calls rd e = Instruction Call (Register rd ∷ Target e ∷ [])
 abbrev pub jumps_by : ℕ → Expression → StatementKind
 jumps_by rt e = Instruction Jump (Target e ∷ Register rt ∷ [])
 
--- `addi a0, a0, f(e)`, `slli a0, a0, f(e)`, `li a0, f(e)`, `lui a0, %hi(e)` and `auipc a0, %pcrel_hi(e)`
+-- `addi a0, a0, f(e)`, `slli a0, a0, f(e)`, `li a0, f(e)`, `lui a0, %hi(e)` and `auipc a0,
+-- %pcrel_hi(e)`
 abbrev pub adds_part : Function → Expression → StatementKind
 adds_part f e = Instruction (Immediate Addi) (Register 10 ∷ Register 10 ∷ Applied f e ∷ [])
 

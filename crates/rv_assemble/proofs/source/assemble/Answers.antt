@@ -12,7 +12,8 @@ assembled-requires-clause-names c =
 
 pub assembled-requires-clause-kept : goal.assembled-requires-clause-kept
 assembled-requires-clause-kept c =
-    sections_kept c.args.source.now (said c.in_ok-unit.unit) (subst (λ v. Reads c.args.source.now (map statement_of v.items)) (sym c.in_ok-unit.ensures.same) c.in_ok-statements.ensures.reads)
+    let reads = subst (λ v. Reads c.args.source.now (map statement_of v.items)) (sym c.in_ok-unit.ensures.same) c.in_ok-statements.ensures.reads in
+    (sections_kept c.args.source.now (said c.in_ok-unit.unit) reads, c.names_are_shown.ensures c.args.source.now (said c.in_ok-unit.unit) reads)
 
 pub returns-clause-object : goal.returns-clause-object
 returns-clause-object c =

@@ -1,0 +1,5 @@
+use Rattle.rv_assemble_laws.proofs.OpenedNames.{sections_named}
+use Rattle.rv_assemble_laws.proofs.law.sections_are_named.Goals as goal
+
+pub returns : goal.returns
+returns c = sections_named
