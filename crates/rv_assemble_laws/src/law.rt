@@ -6,7 +6,7 @@ ghost use Rattle.rv_map.specs.Name.{is_name};
 ghost use Rattle.rv_statement.specs.Statement.{Statement};
 ghost use Rattle.rv_parse_laws.specs.Reading.{Reads};
 ghost use Rattle.rv_unit_laws.specs.Sections.{Section};
-ghost use Rattle.rv_unit_laws.specs.Tables.{Tables, tables};
+ghost use Rattle.rv_unit_laws.specs.Tables.{Tables, opened_of, tables};
 ghost use Rattle.rv_assemble_laws.specs.Sites.{Site, Tile, end_of, part_bytes, parts};
 ghost use Rattle.rv_assemble_laws.specs.ShownNames.{HasNames};
 
