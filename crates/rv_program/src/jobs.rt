@@ -1,5 +1,8 @@
 //! What the program does: runs, builds, prints a map.
 
+ghost use Rattle.std.specs.Prelude.{◌≡◌, IfOk};
+ghost use Rattle.rv_program.specs.Status.{run_status};
+
 use crate::error::CliError;
 use crate::messages::{end_line, fault_line};
 use crate::system::{FILE_LIMIT, INPUT_LIMIT, Purpose, ReadFault, System};
@@ -109,7 +112,9 @@ fn guest_input<S: System>(system: &mut S) -> Result<Vec<u8>, CliError> {
 }
 
 /// Prints the console and says how the run ended; the exit status.
-fn report_end<S: System>(system: &mut S, console: &[u8], end: &End) -> Result<u8, CliError> {
+fn report_end<S: System>(system: &mut S, console: &[u8], end: &End) -> Result<u8, CliError>
+    ensures { IfOk result (λ status. status ≡ run_status end.now) }
+{
     if system.print(console).is_err() {
         return Err(CliError::Line("X2 OutputFault".to_string(system.alloc())?));
     }

@@ -1,12 +1,17 @@
 //! The lines that the program writes to standard error, without `rv: ` before them.
 
+ghost use Rattle.std.specs.Prelude.{◌≡◌, IfOk, option_map, string_bytes};
+ghost use Rattle.rv_program.specs.Messages.{Tells, end_text, fault_text, file_name, file_text, kind_in, link_text, name_in, shown_name, source_text};
+
 use crate::error::CliError;
 use rv_chain::{End, Fault, FileFault, LinkFault, SourceFault};
 use std::alloc::{AllocError, Global};
 use std::str::from_utf8;
 
 /// The line of a fault of `build` or `run_exec`; `names` are the files in their order.
-pub fn fault_line(alloc: Global, fault: &Fault, names: &[&str]) -> Result<CliError, AllocError> {
+pub fn fault_line(alloc: Global, fault: &Fault, names: &[&str]) -> Result<CliError, AllocError>
+    ensures { IfOk result (λ error. Tells error (fault_text names.now fault.now)) }
+{
     match fault {
         Fault::Source(file, fault) => source_line(alloc, name_of(names, *file), fault),
         Fault::File(file, fault) => file_line(alloc, name_of(names, *file), fault),
@@ -16,16 +21,22 @@ pub fn fault_line(alloc: Global, fault: &Fault, names: &[&str]) -> Result<CliErr
 }
 
 /// The name of a file by its number, from 1.
-fn name_of<'a>(names: &[&'a str], file: u32) -> &'a str {
-    let index = (file as usize).wrapping_sub(1);
-    match names.get(index) {
+fn name_of<'a>(names: &[&'a str], file: u32) -> &'a str
+    ensures { result.now ≡ file_name names.now file }
+{
+    if file == 0 {
+        return "";
+    }
+    match names.get(file as usize - 1) {
         Some(name) => *name,
         None => "",
     }
 }
 
 /// As `a.s:5: E7 BadOperands`.
-fn source_line(alloc: Global, name: &str, fault: &SourceFault) -> Result<CliError, AllocError> {
+fn source_line(alloc: Global, name: &str, fault: &SourceFault) -> Result<CliError, AllocError>
+    ensures { IfOk result (λ error. Tells error (source_text name.now fault.now)) }
+{
     match fault {
         SourceFault::At { code, line } => {
             let number = code.number();
@@ -37,42 +48,72 @@ fn source_line(alloc: Global, name: &str, fault: &SourceFault) -> Result<CliErro
 }
 
 /// As `a.o: F9 UnsupportedRelocation 20`.
-fn file_line(alloc: Global, name: &str, fault: &FileFault) -> Result<CliError, AllocError> {
+fn file_line(alloc: Global, name: &str, fault: &FileFault) -> Result<CliError, AllocError>
+    ensures { IfOk result (λ error. Tells error (file_text name.now fault.now)) }
+{
     let Some(number) = fault.number() else {
         return Ok(CliError::Memory);
     };
     let what = fault.name();
-    let line = match fault {
-        FileFault::UnsupportedRelocation(kind) | FileFault::UnsupportedSection(kind) => {
-            format!(in alloc; "{name}: F{number} {what} {kind}")?
-        }
-        _ => format!(in alloc; "{name}: F{number} {what}")?,
+    let line = match kind_in(fault) {
+        Some(kind) => format!(in alloc; "{name}: F{number} {what} {kind}")?,
+        None => format!(in alloc; "{name}: F{number} {what}")?,
     };
     Ok(CliError::Line(line))
+}
+
+/// The kind of relocation, or the type of section, that a fault is about.
+fn kind_in(fault: &FileFault) -> Option<u32>
+    ensures { result ≡ kind_in fault.now }
+{
+    match fault {
+        FileFault::UnsupportedRelocation(kind) => Some(*kind),
+        FileFault::UnsupportedSection(kind) => Some(*kind),
+        _ => None,
+    }
 }
 
 /// As `L7 EntryMissing`, or `L5 Undefined f`.
-fn link_line(alloc: Global, fault: &LinkFault) -> Result<CliError, AllocError> {
+fn link_line(alloc: Global, fault: &LinkFault) -> Result<CliError, AllocError>
+    ensures { IfOk result (λ error. Tells error (link_text fault.now)) }
+{
     let Some(number) = fault.number() else {
         return Ok(CliError::Memory);
     };
     let what = fault.name();
-    let line = match fault {
-        LinkFault::Duplicate(name) => named_line(alloc, number, what, name.as_slice())?,
-        LinkFault::Undefined(name) => named_line(alloc, number, what, name.as_slice())?,
-        _ => format!(in alloc; "L{number} {what}")?,
+    let line = match name_in(fault) {
+        Some(name) => format!(in alloc; "L{number} {what} {name}")?,
+        None => format!(in alloc; "L{number} {what}")?,
     };
     Ok(CliError::Line(line))
 }
 
-/// The line of a fault of the link with the name that it is about.
-fn named_line(alloc: Global, number: u8, what: &str, name: &[u8]) -> Result<String, AllocError> {
-    let name = from_utf8(name).unwrap_or("");
-    format!(in alloc; "L{number} {what} {name}")
+/// The name that a fault of the link is about, as it is shown.
+fn name_in(fault: &LinkFault) -> Option<&str>
+    ensures { option_map (λ name. name.now) result ≡ option_map shown_name (name_in fault.now) }
+{
+    match fault {
+        LinkFault::Undefined(name) => Some(shown_name(name.as_slice())),
+        LinkFault::Duplicate(name) => Some(shown_name(name.as_slice())),
+        _ => None,
+    }
+}
+
+/// A name; without bytes where it is no UTF-8.
+#[tactic(auto, using(crate::proofs::Shown::shown_whole, crate::proofs::Shown::not_shown))]
+fn shown_name(name: &[u8]) -> &str
+    ensures { result.now ≡ shown_name name.now }
+{
+    match from_utf8(name) {
+        Ok(name) => name,
+        Err(_) => "",
+    }
 }
 
 /// As `FetchOutside 8`; an address is hexadecimal, in lower case.
-pub fn end_line(alloc: Global, end: &End) -> Result<String, AllocError> {
+pub fn end_line(alloc: Global, end: &End) -> Result<String, AllocError>
+    ensures { IfOk result (λ line. string_bytes line ≡ end_text end.now) }
+{
     let what = end.name();
     match end.address() {
         Some(address) => format!(in alloc; "{what} {address:x}"),

@@ -1,5 +1,9 @@
 //! From the words of the command line to the exit status.
 
+ghost use Rattle.std.specs.Prelude.{◌≡◌, ◌⊎◌};
+ghost use Rattle.clap.specs.Values.{kind_of};
+ghost use Rattle.rv_program.specs.Status.{IsErrorStatus, refused, usage_status};
+
 use crate::error::CliError;
 use crate::jobs::run_job;
 use crate::system::System;
@@ -31,7 +35,9 @@ fn work<S: System>(system: &mut S, words: &[String]) -> Result<u8, CliError> {
 }
 
 /// Shows why a job was not done; the exit status.
-pub fn report<S: System>(system: &mut S, error: CliError) -> u8 {
+pub fn report<S: System>(system: &mut S, error: CliError) -> u8
+    ensures { IsErrorStatus error result }
+{
     match error {
         CliError::Usage(error) => show_usage(system, &error),
         CliError::NotText => {
@@ -44,14 +50,18 @@ pub fn report<S: System>(system: &mut S, error: CliError) -> u8 {
 }
 
 /// Says why a job was refused; the exit status.
-fn refuse<S: System>(system: &mut S, line: &str) -> u8 {
+fn refuse<S: System>(system: &mut S, line: &str) -> u8
+    ensures { result ≡ refused }
+{
     system.tell(line);
     REFUSED
 }
 
 /// Shows what is wrong with the words, or prints the help or the version that they ask for; the
 /// exit status.
-fn show_usage<S: System>(system: &mut S, error: &clap::Error) -> u8 {
+fn show_usage<S: System>(system: &mut S, error: &clap::Error) -> u8
+    ensures { (result ≡ usage_status (kind_of error.now)) ⊎ (result ≡ refused) }
+{
     let Ok(text) = error.to_string(system.alloc()) else {
         return refuse(system, "out of memory");
     };

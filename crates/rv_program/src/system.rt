@@ -1,5 +1,8 @@
 //! What the program asks of the system: files and the standard streams, read and written whole.
 
+ghost use Rattle.std.specs.Prelude.{◌≤◌, length, IfOk};
+ghost use Rattle.std.specs.Io.KnownBytes.{Consumes, IsAtEnd};
+
 use std::alloc::{AllocError, AllocFailed, Global};
 use std::io::{self, Read};
 
@@ -65,7 +68,12 @@ pub fn read_whole<R: Read>(
     alloc: Global,
     reader: &mut R,
     limit: usize,
-) -> Result<Vec<u8>, ReadFault> {
+) -> Result<Vec<u8>, ReadFault>
+    ensures within { IfOk result (λ all. length all.items ≤ limit) }
+    ensures bytes { IfOk result (λ all.
+        Consumes (R.remaining reader.old) (R.remaining reader.new) all.items) }
+    ensures end { IfOk result (λ _. IsAtEnd (R.remaining reader.new)) }
+{
     let mut all = Vec::new(alloc);
     let mut piece = vec![in alloc; 0u8; PIECE]?;
     for _ in 0..u64::MAX {
@@ -73,12 +81,12 @@ pub fn read_whole<R: Read>(
             return Err(ReadFault::Failed);
         };
         if count == 0 {
-            break;
+            return Ok(all);
         }
         if count > limit || all.len() > limit - count {
             return Err(ReadFault::Failed);
         }
         all.extend_from_slice(&piece[..count])?;
     }
-    Ok(all)
+    Err(ReadFault::Failed)
 }
