@@ -1,3 +1,4 @@
+pub mod Written
 pub mod Templates
 pub mod Sites
 pub mod Symbols

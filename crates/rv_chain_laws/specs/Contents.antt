@@ -1,30 +1,84 @@
 -- What a linked program holds: the bytes of its regions are those of the statements that stand
 -- there.
 
-use Rattle.std.specs.Prelude.{◌≡◌, ℕ, ◌+◌, ◌-◌, ◌*◌, ◌≤◌, IsTrue, List, [], ◌∷◌, ◌++◌, flat_map, length, replicate, Option, Some, None}
-use Rattle.std.specs.Int.{w32, to_le_bytes}
+use Rattle.std.specs.Prelude.{◌≡◌, ℕ, ◌+◌, ◌-◌, ◌≤◌, ◌⊎◌, ⊤, Bool, true, false, ◌&&◌, IsTrue, List, [], ◌∷◌, ◌++◌, flat_map, replicate, Some}
 use Rattle.std.specs.List.{AllByRecursion}
 use Rattle.rv_isa.specs.declared.instruction.Inst.{Inst}
+use Rattle.rv_isa_laws.specs.Bytes.{little_endian}
 use Rattle.rv_isa_laws.specs.Platform.{stack_start}
 use Rattle.rv_encode.specs.Word.{form, word}
-use Rattle.rv_statement.specs.Statement.{Statement}
+use Rattle.rv_compress.specs.Parcel.{IsShortOf}
+use Rattle.rv_statement.specs.Statement.{Statement, StatementKind, Directs}
+use Rattle.rv_pseudo_laws.specs.Code.{Part, Closed, Open, Joined}
+use Rattle.rv_pseudo_laws.specs.Filled.{are_closed, kind_bytes}
 use Rattle.rv_image.specs.Linked.{Linked}
 use Rattle.rv_unit_laws.specs.Sections.{goes_to_text, goes_to_rodata, goes_to_data}
 use Rattle.rv_source_laws.specs.Program.{Mapped, Program, program}
-use Rattle.rv_source_laws.specs.Meaning.{expansion}
+use Rattle.rv_source_laws.specs.Lines.{parts, Line, AreLines}
 use Rattle.rv_unit_laws.specs.Tables.{aligned}
 use Rattle.rv_source_laws.specs.Fits.{Fits, InputSection, rows_of, input_sections, size}
 use Rattle.rv_source_laws.specs.Resolves.{Resolves}
 use Rattle.rv_source_laws.specs.Start.{spelled}
 
--- instructions as they lie in memory, each a word
-abbrev pub words : Option (List Inst) → List ℕ
-words None = []
-words (Some instructions) = flat_map (λ i. to_le_bytes w32 (word (form i))) instructions
+-- ---- instructions as they lie in memory
 
--- the bytes of a statement in the text
-abbrev pub code_bytes : Program → Mapped → List ℕ
-code_bytes p s = words (expansion p s)
+-- a parcel stands for an instruction, and is no HINT (ISA, 16.7)
+abbrev pub HasShort : Inst → Type 0
+HasShort i = (p : ℕ) × IsShortOf i p
+
+-- the bytes of an instruction: two where compressed code may be and a parcel stands for it, else four
+abbrev pub IsLeast : Bool → Inst → ℕ → Type 0
+IsLeast true i bytes = ((bytes ≡ 2) × HasShort i) ⊎ ((bytes ≡ 4) × (HasShort i → ⊥))
+IsLeast false i bytes = bytes ≡ 4
+
+-- each line of a statement's parts has its bytes
+abbrev pub AreSized : Bool → List Part → List Line → Type 0
+AreSized compressed [] [] = ⊤
+AreSized compressed (Closed i ∷ ps) (l ∷ ls) =
+    IsLeast compressed l.instruction l.bytes × AreSized compressed ps ls
+AreSized compressed (Open k i ∷ ps) (l ∷ ls) =
+    (l.bytes ≡ kind_bytes k) × AreSized compressed ps ls
+AreSized compressed (Joined k i j ∷ ps) (l ∷ m ∷ ls) =
+    (l.bytes ≡ 4) × (m.bytes ≡ 4) × AreSized compressed ps ls
+AreSized compressed _ _ = ⊥
+
+-- a padding is instructions of four bytes, and of two at its end where two are left
+abbrev pub ArePadding : List Line → Type 0
+ArePadding [] = ⊤
+ArePadding (l ∷ []) = (l.bytes ≡ 2) ⊎ (l.bytes ≡ 4)
+ArePadding (l ∷ ls) = (l.bytes ≡ 4) × ArePadding ls
+
+-- of a statement: it is compressed where compressed code is on and none of its operands is open
+abbrev pub HasSizes : Bool → List Part → StatementKind → List Line → Type 0
+HasSizes rvc ps (Directs directive) lines = ArePadding lines
+HasSizes rvc ps kind lines = AreSized (rvc && are_closed ps) ps lines
+
+-- the bytes of a line: the word of its instruction, or the parcel that is chosen for it
+abbrev pub IsEncoded : Line → List ℕ → Type 0
+IsEncoded l bytes =
+    ((l.bytes ≡ 4) × (bytes ≡ little_endian 4 (word (form l.instruction))))
+    ⊎ ((l.bytes ≡ 2) × ((q : ℕ) × IsShortOf l.instruction q × (bytes ≡ little_endian 2 q)))
+
+abbrev pub AreEncoded : List Line → List ℕ → Type 0
+AreEncoded [] bytes = bytes ≡ []
+AreEncoded (l ∷ ls) bytes =
+    (front : List ℕ) × ((rest : List ℕ) × (bytes ≡ front ++ rest) × IsEncoded l front × AreEncoded ls rest)
+
+-- a statement of code is written by its lines, each in its bytes
+pub record IsWritten (p : Program) (s : Mapped) (bytes : List ℕ) : Type 0 where
+  pub ps : List Part
+  pub are_parts : parts p s ≡ Some ps
+  pub lines : List Line
+  pub are_lines : AreLines p s lines
+  pub sizes : HasSizes s.located.options.rvc ps s.located.kind lines
+  pub encoded : AreEncoded lines bytes
+
+-- so is each statement of code
+abbrev pub IsCodeWritten : Program → (Mapped → List ℕ) → Type 0
+IsCodeWritten p code =
+    AllByRecursion (λ s. IsTrue s.located.home.executable → IsWritten p s (code s)) p.mapped
+
+-- ---- regions
 
 abbrev pub zeros : ℕ → List ℕ
 zeros count = replicate count 0
@@ -38,27 +92,17 @@ contents bytes stop (b ∷ bs) =
     zeros (start - stop)
     ++ (flat_map bytes b.mapped ++ contents bytes (start + size (rows_of b)) bs)
 
--- a statement is written by words: its instructions, four bytes each
-abbrev pub IsWritten : Program → Mapped → Type 0
-IsWritten p s =
-    (instructions : List Inst) × (expansion p s ≡ Some instructions)
-    × (s.row.bytes ≡ 4 * length instructions)
-
--- so is each statement of code
-abbrev pub IsCodeWritten : Program → Type 0
-IsCodeWritten p = AllByRecursion (λ s. IsTrue s.located.home.executable → IsWritten p s) p.mapped
-
 -- the linked program of sources: its map fits them, and each region has the bytes of its sections,
 -- bss zeros
 pub record IsLinked (sources : List (List Statement)) (text_start : ℕ) (l : Linked) : Type 0 where
   pub fits : Fits sources l.map text_start
   pub resolves : Resolves sources l.map
-  pub written : IsCodeWritten (program sources l.map)
-  -- code is aligned to 2 at most, so that no gap stands in the text
-  pub gaps : l.map.gaps ≡ []
+  -- the bytes of each statement of code
+  pub code : Mapped → List ℕ
+  pub written : IsCodeWritten (program sources l.map) code
   pub below : l.map.bss.end ≤ stack_start
   pub text : l.text ≡
-      contents (code_bytes (program sources l.map)) l.map.text.start
+      contents code l.map.text.start
       (input_sections goes_to_text sources l.map)
   pub rodata : l.rodata ≡
       contents (spelled (program sources l.map)) l.map.rodata.start

@@ -11,12 +11,12 @@ use Rattle.rv_isa.specs.declared.instruction.SType.{SType}
 use Rattle.rv_isa.specs.declared.instruction.UType.{UType}
 use Rattle.rv_isa.specs.Ranges.{IsBType, IsIType, IsJType, IsSType, IsUType}
 use Rattle.rv_isa_laws.specs.Bytes.{little_endian}
-use Rattle.rv_isa_laws.specs.Halves.{hi, lo}
 use Rattle.rv_encode.specs.Word.{Form, Immediate, Store, Branch, Upper, Jump, word}
 use Rattle.rv_compress.specs.declared.form.Compressed.{Compressed}
 use Rattle.rv_compress.specs.declared.form.Compressed.TheVariants.{J}
 use Rattle.rv_compress.specs.Parcel.{IsLine, parcel}
-use Rattle.rv_reloc.specs.Fields.{modulo, patched}
+use Rattle.rv_reloc.specs.Fields.{patched}
+use Rattle.rv_reloc.specs.Operands.{branch_to, jump_to, immediate_of, store_of, upper_of}
 use Rattle.rv_reloc.specs.Ranges.{Takes}
 
 -- the bytes of a word and of a parcel
@@ -25,22 +25,6 @@ word_bytes form = little_endian 4 (word form)
 
 abbrev pub parcel_bytes : Compressed → List ℕ
 parcel_bytes form = little_endian 2 (parcel form)
-
--- operands with another immediate: a branch's and a jump's offset, the lower half, the upper half
-abbrev pub branch_to : BType → ℤ → BType
-branch_to x v = record { offset = v; rs1 = x.rs1; rs2 = x.rs2 }
-
-abbrev pub jump_to : JType → ℤ → JType
-jump_to x v = record { offset = v; rd = x.rd }
-
-abbrev pub immediate_of : IType → ℤ → IType
-immediate_of x v = record { immediate = lo v; rd = x.rd; rs1 = x.rs1 }
-
-abbrev pub store_of : SType → ℤ → SType
-store_of x v = record { immediate = lo v; rs1 = x.rs1; rs2 = x.rs2 }
-
-abbrev pub upper_of : UType → ℤ → UType
-upper_of x v = record { immediate = modulo 20 (hi v); rd = x.rd }
 
 -- opcode and funct3 have seven bits and three
 abbrev pub AreSelectors : (opcode funct3 : ℕ) → Type 0

@@ -1,4 +1,1 @@
-pub mod Modulo
-pub mod Zeros
-pub mod Sequences
 pub mod InRange

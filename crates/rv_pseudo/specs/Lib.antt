@@ -1,3 +1,1 @@
-pub mod Li
-pub mod Runs
 pub mod Templates

@@ -4,7 +4,7 @@ ghost use Rattle.std.specs.Prelude.{◌≡◌, ◌<◌, [], ◌∷◌, ◌==◌,
 ghost use Rattle.rv_isa.specs.Operations.{of_reserve, of_atomic, of_shift};
 ghost use Rattle.rv_isa.specs.Ranges.{shift_limit};
 ghost use Rattle.rv_statement.specs.declared.pseudo.UnaryOperation.TheVariants.{Mv};
-ghost use Rattle.rv_pseudo.specs.Li as li;
+ghost use Rattle.rv_pseudo_laws.specs.Li as li;
 ghost use Rattle.rv_pseudo.specs.Templates as is;
 
 use crate::template::{Templates, one, plain, two};

@@ -7,8 +7,8 @@ ghost use Rattle.std.specs.Int.{w64, trailing_zeros};
 ghost use Rattle.rv_isa.specs.Ranges.{IsSigned12};
 ghost use Rattle.rv_isa_laws.specs.Arithmetic.{wrapped, floor};
 ghost use Rattle.rv_isa_laws.specs.Halves.{hi, lo};
-ghost use Rattle.rv_pseudo.specs.Li as is;
-ghost use Rattle.rv_pseudo.specs.Li.{is_signed, li, addi, addiw, slli, unless_zero, IsWithin};
+ghost use Rattle.rv_pseudo_laws.specs.Li as is;
+ghost use Rattle.rv_pseudo_laws.specs.Li.{is_signed, li, addi, addiw, slli, unless_zero, IsWithin};
 
 use arrayvec::ArrayVec;
 use rv_isa::{IType, Inst, Reg, Shift, UType};

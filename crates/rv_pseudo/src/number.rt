@@ -5,7 +5,7 @@ ghost use Rattle.rv_isa.specs.Operations.{of_immediate, of_shift, of_upper};
 ghost use Rattle.rv_isa.specs.Ranges.{IsSigned12, shift_limit};
 ghost use Rattle.rv_isa_laws.specs.Halves.{hi, lo};
 ghost use Rattle.rv_parse_laws.specs.Syntax as syntax;
-ghost use Rattle.rv_pseudo.specs.Li.{is_signed};
+ghost use Rattle.rv_pseudo_laws.specs.Li.{is_signed};
 ghost use Rattle.rv_pseudo.specs.Templates as is;
 
 use crate::bare::{jalr, ra, x0};

@@ -1,3 +1,4 @@
 pub mod Values
 pub mod Fields
 pub mod Ranges
+pub mod Operands

@@ -1,11 +1,13 @@
 -- The map fits the sources: which rows it has, how large each is, and where each stands.
 
-use Rattle.std.specs.Prelude.{◌≡◌, ℕ, suc, ◌+◌, ◌*◌, ◌%◌, ◌≤◌, Bool, true, false, ◌&&◌, ◌==◌, IsTrue, ⊤, max, sum_by, map, List, [], ◌∷◌, ◌++◌, filter, length, Option, Some, None, nat_le, nat_lt, if◌then◌else◌}
-use Rattle.std.specs.List.{AllByRecursion, list_all}
+use Rattle.std.specs.Prelude.{◌≡◌, ℕ, suc, ◌+◌, ◌*◌, ◌%◌, ◌≤◌, Bool, true, false, ◌&&◌, ◌==◌, IsTrue, ⊤, max, sum_by, map, List, [], ◌∷◌, ◌++◌, filter, length, Option, Some, None, is_some, nat_le, nat_lt, if◌then◌else◌}
+use Rattle.std.specs.List.{AllByRecursion}
 use Rattle.rv_isa.specs.declared.instruction.Inst.{Inst}
 use Rattle.rv_isa.specs.Ranges.{IsValid}
-use Rattle.rv_text_laws.specs.Values.{Value, Constant}
-use Rattle.rv_statement.specs.Statement.{StatementKind, Label, Numbered, Instruction, Directs, Statement, Directive, Sets}
+use Rattle.rv_statement.specs.Statement.{StatementKind, Label, Numbered, Instruction, Directs, Statement, Operand, Applied, Directive, Sets}
+use Rattle.rv_statement.specs.declared.pseudo.Function.TheVariants.{PcrelLo}
+use Rattle.rv_pseudo_laws.specs.Code.{Part}
+use Rattle.rv_pseudo_laws.specs.Filled.{are_closed, code_bytes, AreTaken}
 use Rattle.rv_unit_laws.specs.Contributions.{Contribution, Nothing, Bytes, Zero_bytes, Alignment, contribution}
 use Rattle.rv_unit_laws.specs.Sections.{Section, goes_to_text, goes_to_rodata, goes_to_data, goes_to_bss}
 use Rattle.rv_unit_laws.specs.Tables.{Tables, tables, aligned, alignment_of, padding, opened_of, alignment_at}
@@ -14,8 +16,8 @@ use Rattle.rv_map.specs.Map.{Map}
 use Rattle.rv_map.specs.declared.map.Row.{Row}
 use Rattle.rv_map.specs.declared.map.Region.{Region}
 use Rattle.rv_source_laws.specs.Located.{Located, located, has_row}
-use Rattle.rv_source_laws.specs.Program.{Mapped, Program, program, form, has_values, expressions}
-use Rattle.rv_source_laws.specs.Meaning.{expansion}
+use Rattle.rv_source_laws.specs.Program.{Mapped, Program, program, form, has_values}
+use Rattle.rv_source_laws.specs.Lines.{expansion, parts, operand_of, field_value, pair_of}
 use Rattle.rv_source_laws.specs.Start.{spelled}
 
 -- a statement by its file, its line and its ordinal
@@ -39,18 +41,22 @@ IsRowOf (Some instructions) r =
     × (r.instructions ≡ length instructions) × (2 * r.instructions ≤ r.bytes)
     × (r.bytes ≤ 4 * r.instructions) × (r.bytes % 2 ≡ 0)
 
--- open operands are not built: an instruction's expressions are constants
-abbrev pub is_constant : Value → Bool
-is_constant (Constant n) = true
-is_constant _ = false
+-- a low part has the statement that it belongs to
+abbrev pub IsPaired : Program → Mapped → Option Operand → Type 0
+IsPaired p s (Some (Applied PcrelLo e)) = IsTrue (is_some (pair_of p s e))
+IsPaired p s operand = ⊤
 
--- the number of a constant
-abbrev pub constant_in : Value → ℕ
-constant_in (Constant n) = n
-constant_in _ = 0
+-- the row of code: each field takes its value, and where one was open the row has the bytes of the full forms
+pub record IsCodeRow (p : Program) (s : Mapped) (ps : List Part) : Type 0 where
+  pub valued : IsTrue (has_values p s)
+  pub paired : IsPaired p s (operand_of s.located.kind)
+  pub taken : AreTaken (field_value p s) s.row.address ps
+  pub row : IsRowOf (expansion p s) s.row
+  pub long : are_closed ps ≡ false → s.row.bytes ≡ code_bytes ps
 
-abbrev pub has_constants : Program → Mapped → Bool
-has_constants p s = list_all (λ e. is_constant (form p s.located e)) (expressions s.located.kind)
+abbrev pub CodeFits : Program → Mapped → Option (List Part) → Type 0
+CodeFits p s None = ⊥
+CodeFits p s (Some ps) = IsCodeRow p s ps
 
 -- the row of data: the bytes that the statement spells, all zero where its section has none in the
 -- file
@@ -93,8 +99,7 @@ DirectiveFits p s d = ContributionFits p s d (contribution d)
 abbrev pub StatementFits : Program → Mapped → StatementKind → Type 0
 StatementFits p s (Label name) = IsRowOf (expansion p s) s.row
 StatementFits p s (Numbered number) = IsRowOf (expansion p s) s.row
-StatementFits p s (Instruction mnemonic operands) =
-    IsTrue (has_constants p s) × IsRowOf (expansion p s) s.row
+StatementFits p s (Instruction mnemonic operands) = CodeFits p s (parts p s)
 StatementFits p s (Directs directive) = DirectiveFits p s directive
 
 abbrev pub SizeFits : Program → Mapped → Type 0

@@ -1,7 +1,7 @@
 pub mod Located
 pub mod Compressed
 pub mod Program
-pub mod Written
+pub mod Lines
 pub mod Meaning
 pub mod Fits
 pub mod Resolves

@@ -1,121 +1,188 @@
--- What a statement does in one step, the instructions that stand for it, and how many of them run
--- (RISC-V Assembly Programmer's Manual, pseudo-instructions).
+-- What a statement does in one step, and how many instructions that counts
+-- (RISC-V Assembly Programmer's Manual, pseudo-instructions; RISC-V Unprivileged ISA 20191213).
 
-use Rattle.std.specs.Prelude.{◌≡◌, ℕ, ◌+◌, ◌/◌, ◌%◌, ◌^◌, List, [], ◌∷◌, Option, Some, None, map, replicate, if◌then◌else◌, nat_lt}
+use Rattle.std.specs.Prelude.{ℕ, ℤ, pos, ◌+◌, ◌-◌, ◌%◌, ◌^◌, ◌+ℤ◌, ◌-ℤ◌, ◌*ℤ◌, Bool, true, false, not, ◌&&◌, ◌==◌, nat_lt, if◌then◌else◌, List, [], ◌∷◌, Option, Some, None}
+use Rattle.std.specs.Int.{w64, int_wrap}
 use Rattle.rv_isa.specs.declared.instruction.Inst.{Inst}
-use Rattle.rv_isa.specs.declared.instruction.Inst.TheVariants.{Addi as AddImmediate}
-use Rattle.rv_isa_laws.specs.Hart.{Hart, advanced}
-use Rattle.rv_isa_laws.specs.Effect.{Effect, Goes, Breaks}
-use Rattle.rv_isa_laws.specs.Meaning.{effect, sets}
+use Rattle.rv_isa.specs.declared.operation.LoadOperation.{LoadOperation}
+use Rattle.rv_isa.specs.declared.operation.StoreOperation.{StoreOperation}
+use Rattle.rv_isa_laws.specs.Arithmetic.{signed, wrapped, extended, low, one_if, difference_of, word_difference, less_signed}
+use Rattle.rv_isa_laws.specs.Halves.{hi, lo}
+use Rattle.rv_isa_laws.specs.Hart.{Hart, register, with_register, advanced}
+use Rattle.rv_isa_laws.specs.Effect.{Effect, Goes, Loads, Stores, Breaks}
+use Rattle.rv_isa_laws.specs.Meaning.{effect, sets, jumps, with_result, is_taken, load_width, load_result, store_width}
 use Rattle.rv_statement.specs.declared.mnemonic.Mnemonic.{Mnemonic}
-use Rattle.rv_statement.specs.declared.mnemonic.Mnemonic.TheVariants.{Li}
-use Rattle.rv_statement.specs.Statement.{StatementKind, Label, Numbered, Instruction, Directs, Operand, Expression, Directive, Sets, Aligns_to_power, Aligns_to_bytes}
-use Rattle.rv_source_laws.specs.Written.{signed, Argument, Of_register, Of_number, arguments, written}
+use Rattle.rv_statement.specs.declared.mnemonic.Mnemonic.TheVariants.{Load, Store, Branch, Unary, Compare, ZeroBranch, SwappedBranch, La, Li, Call, Tail, Jump}
+use Rattle.rv_statement.specs.declared.pseudo.Function.TheVariants.{Lo}
+use Rattle.rv_statement.specs.declared.pseudo.UnaryOperation.{UnaryOperation}
+use Rattle.rv_statement.specs.declared.pseudo.UnaryOperation.TheVariants.{Mv, Not, Neg, Negw, SextB, SextH, SextW, ZextB, ZextH, ZextW, Seqz, Snez, Sltz, Sgtz}
+use Rattle.rv_statement.specs.declared.pseudo.CompareOperation.{CompareOperation}
+use Rattle.rv_statement.specs.declared.pseudo.CompareOperation.TheVariants.{Sgt, Sgtu}
+use Rattle.rv_statement.specs.declared.pseudo.ZeroBranchOperation.{ZeroBranchOperation}
+use Rattle.rv_statement.specs.declared.pseudo.ZeroBranchOperation.TheVariants.{Beqz, Bnez, Bgez, Bltz, Blez, Bgtz}
+use Rattle.rv_statement.specs.declared.pseudo.SwappedBranchOperation.{SwappedBranchOperation}
+use Rattle.rv_statement.specs.declared.pseudo.SwappedBranchOperation.TheVariants.{Bgt, Ble, Bgtu, Bleu}
+use Rattle.rv_statement.specs.Statement.{StatementKind, Label, Numbered, Instruction, Directs, Operand, Register, Value, Applied, Target, Expression, Directive, Aligns_to_power, Aligns_to_bytes}
 use Rattle.rv_source_laws.specs.Program.{Mapped, Program, number, has_values}
+use Rattle.rv_source_laws.specs.Lines.{other_operand, operand_number, expansion}
 
--- `addi rd, rs1, k`
-abbrev pub add_immediate : ℕ → ℕ → ℕ → Inst
-add_immediate rd rs1 k = AddImmediate (record { immediate = signed k; rd = rd; rs1 = rs1 })
+-- ---- the one assignment that a name says, of a register's number
 
--- what the instruction does that a base mnemonic writes
-abbrev pub run_written : Option Inst → ℕ → Hart → Effect
-run_written None bytes h = Breaks
-run_written (Some i) bytes h = effect i bytes h
+abbrev pub unary_result : UnaryOperation → ℕ → ℕ
+unary_result Mv a = a
+unary_result Not a = 2 ^ 64 - 1 - a
+unary_result Neg a = difference_of 0 a
+unary_result Negw a = word_difference 0 a
+unary_result SextB a = extended 8 (a % 2 ^ 8)
+unary_result SextH a = extended 16 (a % 2 ^ 16)
+unary_result SextW a = extended 32 (low a)
+unary_result ZextB a = a % 2 ^ 8
+unary_result ZextH a = a % 2 ^ 16
+unary_result ZextW a = a % 2 ^ 32
+unary_result Seqz a = one_if (a == 0)
+unary_result Snez a = one_if (not (a == 0))
+unary_result Sltz a = one_if (less_signed a 0)
+unary_result Sgtz a = one_if (less_signed 0 a)
 
--- what an instruction or a pseudo-instruction does in so many bytes: a base instruction what its
--- own meaning says, `li` puts its number into rd
-abbrev pub run_with : Mnemonic → List Argument → ℕ → Hart → Effect
-run_with Li (Of_register rd ∷ Of_number k ∷ []) bytes h = sets bytes h rd k
-run_with mnemonic arguments bytes h = run_written (written mnemonic arguments) bytes h
+abbrev pub compare_result : CompareOperation → ℕ → ℕ → ℕ
+compare_result Sgt a b = one_if (less_signed b a)
+compare_result Sgtu a b = one_if (nat_lt b a)
 
--- the same where v gives the values of expressions
-abbrev pub run_spoken : (Expression → ℕ) → Mnemonic → List Operand → ℕ → Hart → Effect
-run_spoken v mnemonic operands bytes h = run_with mnemonic (arguments v operands) bytes h
+-- ---- when a branch is taken
+
+abbrev pub zero_taken : ZeroBranchOperation → ℕ → Bool
+zero_taken Beqz a = a == 0
+zero_taken Bnez a = not (a == 0)
+zero_taken Bgez a = not (less_signed a 0)
+zero_taken Bltz a = less_signed a 0
+zero_taken Blez a = not (less_signed 0 a)
+zero_taken Bgtz a = less_signed 0 a
+
+abbrev pub swapped_taken : SwappedBranchOperation → ℕ → ℕ → Bool
+swapped_taken Bgt a b = less_signed b a
+swapped_taken Ble a b = not (less_signed b a)
+swapped_taken Bgtu a b = nat_lt b a
+swapped_taken Bleu a b = not (nat_lt b a)
+
+-- whether a statement is a branch, and is taken
+abbrev pub taken : Mnemonic → List Operand → Hart → Option Bool
+taken (Branch operation) (Register a ∷ Register b ∷ Target e ∷ []) h =
+    Some (is_taken operation (register h a) (register h b))
+taken (ZeroBranch operation) (Register a ∷ Target e ∷ []) h =
+    Some (zero_taken operation (register h a))
+taken (SwappedBranch operation) (Register a ∷ Register b ∷ Target e ∷ []) h =
+    Some (swapped_taken operation (register h a) (register h b))
+taken mnemonic operands h = None
+
+-- ---- addresses
+
+-- the hart goes to a target, or to the next statement
+abbrev pub goes_if : Bool → ℕ → ℕ → Hart → Effect
+goes_if is_taken target bytes h =
+    Goes (record h { pc = (if is_taken then target else h.pc + bytes) % 2 ^ 64 })
+
+-- from an address to a target, taken as signed
+abbrev pub distance : ℕ → ℕ → ℤ
+distance address target = int_wrap w64 (pos target -ℤ pos address)
+
+-- what a register holds on the way to a target: an address and the upper part of the distance from there
+abbrev pub on_the_way : ℕ → ℕ → ℕ
+on_the_way address target =
+    wrapped (pos address +ℤ pos 0x1000 *ℤ hi (distance address target))
+
+-- rd gets what is made of the number at a target
+abbrev pub loads_from : LoadOperation → ℕ → Hart → ℕ → ℕ → Effect
+loads_from operation bytes h rd target =
+    Loads (target % 2 ^ 64) (load_width operation)
+    (λ n. with_result bytes h rd (load_result operation n))
+
+-- the low bytes of rs2 go to a target, by way of rt
+abbrev pub stores_to : StoreOperation → ℕ → Hart → ℕ → ℕ → ℕ → Effect
+stores_to operation bytes h rs2 rt target =
+    Stores (target % 2 ^ 64) (store_width operation) (register h rs2)
+    (with_result bytes h rt (on_the_way h.pc target))
+
+-- the hart goes to a target, by way of rt where the jump has two instructions
+abbrev pub goes_by : ℕ → Hart → ℕ → ℕ → Effect
+goes_by bytes h rt target =
+    if bytes == 8
+    then Goes (record (with_register h rt (on_the_way h.pc target)) { pc = target % 2 ^ 64 })
+    else Goes (record h { pc = target % 2 ^ 64 })
+
+-- ---- statements
+
+-- a number, or the low part of one
+abbrev pub number_in : (Expression → ℕ) → Operand → ℕ
+number_in v (Applied Lo e) = wrapped (lo (signed 64 (v e)))
+number_in v (Value e) = v e
+number_in v operand = 0
+
+-- what a pseudo-instruction does in so many bytes, where v gives numbers and addresses; none for the others, which do what
+-- their one instruction does
+abbrev pub pseudo_effect : (Expression → ℕ) → Mnemonic → List Operand → ℕ → Hart → Option Effect
+pseudo_effect v (Load operation) (Register rd ∷ Target e ∷ []) bytes h =
+    Some (loads_from operation bytes h rd (v e))
+pseudo_effect v (Store operation) (Register rs2 ∷ Target e ∷ Register rt ∷ []) bytes h =
+    Some (stores_to operation bytes h rs2 rt (v e))
+pseudo_effect v (Unary operation) (Register rd ∷ Register rs ∷ []) bytes h =
+    Some (sets bytes h rd (unary_result operation (register h rs)))
+pseudo_effect v (Compare operation) (Register rd ∷ Register a ∷ Register b ∷ []) bytes h =
+    Some (sets bytes h rd (compare_result operation (register h a) (register h b)))
+pseudo_effect v La (Register rd ∷ Target e ∷ []) bytes h = Some (sets bytes h rd (v e))
+pseudo_effect v Li (Register rd ∷ o ∷ []) bytes h = Some (sets bytes h rd (number_in v o))
+pseudo_effect v Call (Register rd ∷ Target e ∷ []) bytes h = Some (jumps bytes h rd (v e))
+pseudo_effect v Call (Target e ∷ []) bytes h = Some (jumps bytes h 1 (v e))
+pseudo_effect v Tail (Target e ∷ []) bytes h = Some (goes_by bytes h 6 (v e))
+pseudo_effect v Jump (Target e ∷ Register rt ∷ []) bytes h = Some (goes_by bytes h rt (v e))
+pseudo_effect v mnemonic operands bytes h = None
+
+-- what one instruction does
+abbrev pub alone_effect : Option (List Inst) → ℕ → Hart → Effect
+alone_effect (Some (i ∷ [])) bytes h = effect i bytes h
+alone_effect _ bytes h = Breaks
+
+abbrev pub else_goes_if : Option Bool → ℕ → ℕ → Hart → Effect → Effect
+else_goes_if (Some is_taken) target bytes h other = goes_if is_taken target bytes h
+else_goes_if None target bytes h other = other
+
+abbrev pub else_alone : Option Effect → Option (List Inst) → ℕ → Hart → Effect
+else_alone (Some e) instructions bytes h = e
+else_alone None instructions bytes h = alone_effect instructions bytes h
 
 -- an alignment goes on after its padding
-abbrev pub run_directive : Directive → ℕ → Hart → Effect
-run_directive (Aligns_to_power exponent) bytes h = Goes (advanced h bytes)
-run_directive (Aligns_to_bytes alignment) bytes h = Goes (advanced h bytes)
-run_directive _ bytes h = Breaks
+abbrev pub directive_effect : Directive → ℕ → Hart → Effect
+directive_effect (Aligns_to_power exponent) bytes h = Goes (advanced h bytes)
+directive_effect (Aligns_to_bytes alignment) bytes h = Goes (advanced h bytes)
+directive_effect _ bytes h = Breaks
 
 -- a statement that isn't executed has no bytes in the text, and so is never run
-abbrev pub run_said : (Expression → ℕ) → StatementKind → ℕ → Hart → Effect
-run_said v (Label name) bytes h = Breaks
-run_said v (Numbered number) bytes h = Breaks
-run_said v (Instruction mnemonic operands) bytes h = run_spoken v mnemonic operands bytes h
-run_said v (Directs directive) bytes h = run_directive directive bytes h
+abbrev pub statement_effect : (Expression → ℕ) → Option (List Inst) → StatementKind → ℕ → Hart → Effect
+statement_effect v instructions (Label name) bytes h = Breaks
+statement_effect v instructions (Numbered number) bytes h = Breaks
+statement_effect v instructions (Instruction mnemonic operands) bytes h =
+    else_goes_if (taken mnemonic operands h) (operand_number v (other_operand operands)) bytes h
+    (else_alone (pseudo_effect v mnemonic operands bytes h) instructions bytes h)
+statement_effect v instructions (Directs directive) bytes h = directive_effect directive bytes h
 
--- what the statement at a site does in one step; one with a name that has no meaning fits no row
+-- what a statement does in one step; one with a name that has no meaning fits no row
 abbrev pub meaning : Program → Mapped → Hart → Effect
 meaning p s h =
-    if has_values p s then run_said (number p s) s.located.kind s.row.bytes h else Breaks
+    if has_values p s
+    then statement_effect (number p s) (expansion p s) s.located.kind s.row.bytes h
+    else Breaks
 
--- whether a number fits 12 signed bits
-abbrev pub fits_12 : ℕ → Option ℕ
-fits_12 k = if nat_lt ((k + 2 ^ 11) % 2 ^ 64) (2 ^ 12) then Some k else None
+-- ---- cost
 
-abbrev pub add_zero : ℕ → Option ℕ → Option (List Inst)
-add_zero rd (Some k) = Some (add_immediate rd 0 k ∷ [])
-add_zero rd None = None
+-- whether a statement is a branch that isn't taken
+abbrev pub is_passed : Option Bool → Bool
+is_passed (Some is_taken) = not is_taken
+is_passed None = false
 
-abbrev pub alone : Option Inst → Option (List Inst)
-alone (Some i) = Some (i ∷ [])
-alone None = None
+abbrev pub is_untaken : StatementKind → Hart → Bool
+is_untaken (Instruction mnemonic operands) h = is_passed (taken mnemonic operands h)
+is_untaken _ h = false
 
--- the base instructions that stand for an instruction or a pseudo-instruction; none for operands
--- that it can't have
-abbrev pub expanded_with : Mnemonic → List Argument → Option (List Inst)
-expanded_with Li (Of_register rd ∷ Of_number k ∷ []) = add_zero rd (fits_12 k)
-expanded_with mnemonic arguments = alone (written mnemonic arguments)
-
-abbrev pub expanded : (Expression → ℕ) → Mnemonic → List Operand → Option (List Inst)
-expanded v mnemonic operands = expanded_with mnemonic (arguments v operands)
-
--- an instruction without effect
-abbrev pub no_operation : Inst
-no_operation = add_immediate 0 0 0
-
--- a padding in code has one instruction per 4 bytes and one for 2 that remain
-abbrev pub padding_count : ℕ → ℕ
-padding_count bytes = bytes / 4 + bytes % 4 / 2
-
--- a place has no bytes, an alignment the instructions of its padding; data are no instructions
-abbrev pub expanded_directive : Directive → ℕ → Option (List Inst)
-expanded_directive (Sets name e) bytes = Some []
-expanded_directive (Aligns_to_power exponent) bytes =
-    Some (replicate (padding_count bytes) no_operation)
-expanded_directive (Aligns_to_bytes alignment) bytes =
-    Some (replicate (padding_count bytes) no_operation)
-expanded_directive _ bytes = None
-
--- the base instructions that stand for a statement whose row has so many bytes
-abbrev pub expanded_said : (Expression → ℕ) → StatementKind → ℕ → Option (List Inst)
-expanded_said v (Label name) bytes = Some []
-expanded_said v (Numbered number) bytes = Some []
-expanded_said v (Instruction mnemonic operands) bytes = expanded v mnemonic operands
-expanded_said v (Directs directive) bytes = expanded_directive directive bytes
-
-abbrev pub expansion : Program → Mapped → Option (List Inst)
-expansion p s =
-    if has_values p s then expanded_said (number p s) s.located.kind s.row.bytes else None
-
--- a line of a statement: an instruction of 2 or 4 bytes at its address
-pub record Line : Type 0 where
-  pub address : ℕ
-  pub bytes : ℕ
-  pub instruction : Inst
-
--- lines that follow one another from an address to an end
-abbrev pub Lie : ℕ → List Line → ℕ → Type 0
-Lie address [] stop = address ≡ stop
-Lie address (l ∷ ls) stop = (l.address ≡ address) × Lie (address + l.bytes) ls stop
-
--- the lines of a statement: its base instructions, one after another over the bytes of its row
-abbrev pub AreLines : Program → Mapped → List Line → Type 0
-AreLines p s lines =
-    (expansion p s ≡ Some (map (λ l. l.instruction) lines))
-    × Lie s.row.address lines (s.row.address + s.row.bytes)
-
--- how many instructions of its row run in one step of this hart
+-- how many instructions of its row run in one step of this hart: of an untaken branch over a jump the branch alone
 abbrev pub cost : Program → Mapped → Hart → ℕ
-cost p s h = s.row.instructions
+cost p s h =
+    if (s.row.bytes == 8) && is_untaken s.located.kind h then 1 else s.row.instructions

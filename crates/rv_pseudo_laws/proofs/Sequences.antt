@@ -17,10 +17,10 @@ use Rattle.rv_isa_laws.specs.Halves.{hi, lo}
 use Rattle.rv_isa_laws.specs.Hart.{Hart, register}
 use Rattle.rv_isa_laws.specs.Effect.{Effect, Goes, Loads, Stores, Reserves, Conditional, Updates, Calls, Breaks}
 use Rattle.rv_isa_laws.specs.Meaning.{effect, with_result, upper}
-use Rattle.rv_pseudo.specs.Li.{lui, addi, addiw, slli, is_signed, upper_20, zeros, above, unless_zero, li_short, then_low, li_in, li, reach, IsWithin}
-use Rattle.rv_pseudo.specs.Runs.{Sized, goes_on, after, Sets as SetsRegister}
-use Rattle.rv_pseudo.proofs.Modulo.{wrapped_below, wrapped_add, wrapped_times, halves_whole, hi_within, hi_some, above_within, extended_word, extended_low, floor_closer, lo_range, signed_12}
-use Rattle.rv_pseudo.proofs.Zeros.{zeros_multiple, zeros_within, floor_times, floor_odd, abs_some}
+use Rattle.rv_pseudo_laws.specs.Li.{lui, addi, addiw, slli, is_signed, upper_20, zeros, above, unless_zero, li_short, then_low, li_in, li, reach, IsWithin}
+use Rattle.rv_pseudo_laws.specs.Runs.{Sized, goes_on, after, Sets as SetsRegister}
+use Rattle.rv_pseudo_laws.proofs.Modulo.{wrapped_below, wrapped_add, wrapped_times, halves_whole, hi_within, hi_some, above_within, extended_word, extended_low, floor_closer, lo_range, signed_12}
+use Rattle.rv_pseudo_laws.proofs.Zeros.{zeros_multiple, zeros_within, floor_times, floor_odd, abs_some}
 
 -- ---- instructions one after another
 

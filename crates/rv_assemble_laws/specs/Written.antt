@@ -119,3 +119,29 @@ written FenceTso [] = Some (fence 8 3 3)
 written Ecall [] = Some inst.Ecall
 written Ebreak [] = Some inst.Ebreak
 written mnemonic arguments = None
+
+-- ---- what can be placed so far: base instructions, and `li` of twelve bits
+
+-- `addi rd, rs1, k`
+abbrev pub add_immediate : ℕ → ℕ → ℕ → Inst
+add_immediate rd rs1 k = AddImmediate (record { immediate = signed k; rd = rd; rs1 = rs1 })
+
+-- whether a number fits 12 signed bits
+abbrev pub fits_12 : ℕ → Option ℕ
+fits_12 k = if nat_lt ((k + 2 ^ 11) % 2 ^ 64) (2 ^ 12) then Some k else None
+
+abbrev pub add_zero : ℕ → Option ℕ → Option (List Inst)
+add_zero rd (Some k) = Some (add_immediate rd 0 k ∷ [])
+add_zero rd None = None
+
+abbrev pub alone : Option Inst → Option (List Inst)
+alone (Some i) = Some (i ∷ [])
+alone None = None
+
+-- the base instructions that stand for an instruction or a pseudo-instruction; none for operands that it can't have
+abbrev pub expanded_with : Mnemonic → List Argument → Option (List Inst)
+expanded_with Li (Of_register rd ∷ Of_number k ∷ []) = add_zero rd (fits_12 k)
+expanded_with mnemonic arguments = alone (written mnemonic arguments)
+
+abbrev pub expanded : (Expression → ℕ) → Mnemonic → List Operand → Option (List Inst)
+expanded v mnemonic operands = expanded_with mnemonic (arguments v operands)

@@ -5,8 +5,8 @@ ghost use Rattle.std.specs.List.{AllByRecursion};
 ghost use Rattle.rv_isa.specs.Ranges.{IsValid};
 ghost use Rattle.rv_isa_laws.specs.Arithmetic.{wrapped};
 ghost use Rattle.rv_isa_laws.specs.Halves.{hi, lo};
-ghost use Rattle.rv_pseudo.specs.Li.{is_signed, upper_20, zeros, above, unless_zero, li, lui, addi, addiw, slli};
-ghost use Rattle.rv_pseudo.specs.Runs.{Sets};
+ghost use Rattle.rv_pseudo_laws.specs.Li.{is_signed, upper_20, zeros, above, unless_zero, li, lui, addi, addiw, slli};
+ghost use Rattle.rv_pseudo_laws.specs.Runs.{Sets};
 
 /// The sequence of a number of 64 bits sets its register to the number, from every hart.
 pub fn li_sets()

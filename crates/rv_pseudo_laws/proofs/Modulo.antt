@@ -8,7 +8,7 @@ use Rattle.std.proofs.lemmas.Bool.Decides.{nat_tests}
 use Rattle.rv_isa.specs.Ranges.{IsSigned12}
 use Rattle.rv_isa_laws.specs.Arithmetic.{wrapped, floor, signed, extended}
 use Rattle.rv_isa_laws.specs.Halves.{hi, lo}
-use Rattle.rv_pseudo.specs.Li.{is_signed, zeros, above}
+use Rattle.rv_pseudo_laws.specs.Li.{is_signed, zeros, above}
 
 -- ---- wrapped numbers
 

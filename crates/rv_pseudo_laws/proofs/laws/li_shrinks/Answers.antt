@@ -1,6 +1,6 @@
 use Rattle.std.proofs.Common.{sym}
-use Rattle.rv_pseudo.proofs.Sequences.{above_whole, above_odd, above_fewer}
-use Rattle.rv_pseudo.proofs.laws.li_shrinks.Goals as goal
+use Rattle.rv_pseudo_laws.proofs.Sequences.{above_whole, above_odd, above_fewer}
+use Rattle.rv_pseudo_laws.proofs.laws.li_shrinks.Goals as goal
 
 pub returns-clause-whole : goal.returns-clause-whole
 returns-clause-whole c = λ v. sym (above_whole v)

@@ -1,5 +1,0 @@
-use Rattle.rv_pseudo.proofs.Sequences.{li_recurs}
-use Rattle.rv_pseudo.proofs.laws.li_recurs.Goals as goal
-
-pub returns : goal.returns
-returns c = li_recurs

@@ -1,5 +1,0 @@
-use Rattle.rv_pseudo.proofs.Sequences.{li_sets}
-use Rattle.rv_pseudo.proofs.laws.li_sets.Goals as goal
-
-pub returns : goal.returns
-returns c = li_sets

@@ -1,5 +1,0 @@
-use Rattle.rv_pseudo.proofs.Sequences.{li_valid}
-use Rattle.rv_pseudo.proofs.laws.li_valid.Goals as goal
-
-pub returns : goal.returns
-returns c = li_valid

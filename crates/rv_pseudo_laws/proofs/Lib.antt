@@ -1,0 +1,3 @@
+pub mod Modulo
+pub mod Zeros
+pub mod Sequences

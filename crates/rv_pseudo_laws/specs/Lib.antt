@@ -1,0 +1,4 @@
+pub mod Li
+pub mod Runs
+pub mod Code
+pub mod Filled

@@ -1,0 +1,166 @@
+-- The base instructions that stand for a statement at its row, with the numbers of its operands
+-- (RISC-V Assembly Programmer's Manual, pseudo-instructions; RISC-V ELF psABI, "PC-Relative Addresses").
+
+use Rattle.std.specs.Prelude.{◌≡◌, ℕ, ℤ, pos, ◌+◌, ◌/◌, ◌%◌, Bool, true, false, ◌&&◌, ◌==◌, if◌then◌else◌, List, [], ◌∷◌, map, replicate, Option, Some, None, option_map, option_and_then}
+use Rattle.std.specs.List.{find, list_any}
+use Rattle.rv_isa.specs.declared.instruction.Inst.{Inst}
+use Rattle.rv_isa.specs.declared.kind.Kind.{Kind}
+use Rattle.rv_isa.specs.declared.kind.Kind.TheVariants as kind
+use Rattle.rv_isa_laws.specs.Arithmetic.{signed}
+use Rattle.rv_reloc.specs.Values.{value_of}
+use Rattle.rv_text_laws.specs.Values.{Value, Constant, Symbolic}
+use Rattle.rv_statement.specs.declared.pseudo.Function.TheVariants.{PcrelLo}
+use Rattle.rv_statement.specs.Statement.{StatementKind, Label, Numbered, Instruction, Directs, Operand, Register, Value as Of_value, Applied, Target, Expression, Directive, Sets, Aligns_to_power, Aligns_to_bytes}
+use Rattle.rv_pseudo_laws.specs.Li.{addi}
+use Rattle.rv_pseudo_laws.specs.Code.{Part, Closed, Open, Constants, code}
+use Rattle.rv_pseudo_laws.specs.Filled.{FieldValue, filled}
+use Rattle.rv_unit_laws.specs.Tables.{definition}
+use Rattle.rv_source_laws.specs.Located.{Located}
+use Rattle.rv_source_laws.specs.Program.{Mapped, Program, form, number, has_values, tables_in}
+
+-- ---- the parts of a statement's code
+
+abbrev pub constant_of : Value → Option ℤ
+constant_of (Constant n) = Some (signed 64 n)
+constant_of _ = None
+
+-- the expressions of a statement that are constants
+abbrev pub constants : Program → Located → Constants
+constants p s e = constant_of (form p s e)
+
+-- an instruction without effect
+abbrev pub no_operation : Inst
+no_operation = addi 0 0 (pos 0)
+
+-- a padding in code has one instruction per 4 bytes and one for 2 that remain
+abbrev pub padding_parts : ℕ → List Part
+padding_parts bytes = replicate (bytes / 4 + bytes % 4 / 2) (Closed no_operation)
+
+-- a place has no code; data are no instructions
+abbrev pub directive_parts : Directive → ℕ → Option (List Part)
+directive_parts (Sets name e) bytes = Some []
+directive_parts (Aligns_to_power exponent) bytes = Some (padding_parts bytes)
+directive_parts (Aligns_to_bytes alignment) bytes = Some (padding_parts bytes)
+directive_parts _ bytes = None
+
+-- the code of a statement whose row has so many bytes
+abbrev pub parts_of : Constants → Bool → ℕ → StatementKind → Option (List Part)
+parts_of v rvc bytes (Label name) = Some []
+parts_of v rvc bytes (Numbered number) = Some []
+parts_of v rvc bytes (Instruction mnemonic operands) = code v rvc bytes mnemonic operands
+parts_of v rvc bytes (Directs directive) = directive_parts directive bytes
+
+abbrev pub parts : Program → Mapped → Option (List Part)
+parts p s =
+    parts_of (constants p s.located) s.located.options.rvc s.row.bytes s.located.kind
+
+-- ---- what its open fields take
+
+-- the operand that is no register: a statement has one at most that can be open
+abbrev pub other_operand : List Operand → Option Operand
+other_operand [] = None
+other_operand (Register number ∷ operands) = other_operand operands
+other_operand (operand ∷ operands) = Some operand
+
+abbrev pub operand_of : StatementKind → Option Operand
+operand_of (Instruction mnemonic operands) = other_operand operands
+operand_of _ = None
+
+-- the number of an operand, an address where it names one
+abbrev pub operand_number : (Expression → ℕ) → Option Operand → ℕ
+operand_number v (Some (Of_value e)) = v e
+operand_number v (Some (Applied function e)) = v e
+operand_number v (Some (Target e)) = v e
+operand_number v _ = 0
+
+abbrev pub target : Program → Mapped → ℕ
+target p s = operand_number (number p s) (operand_of s.located.kind)
+
+-- from an address to what the statement's operand names
+abbrev pub distance_from : Program → Mapped → ℕ → ℤ
+distance_from p s address = value_of kind.PcrelHi20 (target p s) (pos 0) address
+
+-- ---- the upper part that a low part belongs to
+
+abbrev pub takes_upper : Part → Bool
+takes_upper (Open kind.PcrelHi20 i) = true
+takes_upper _ = false
+
+abbrev pub have_upper : Option (List Part) → Bool
+have_upper None = false
+have_upper (Some ps) = list_any takes_upper ps
+
+-- the section of a file's statement of this ordinal
+abbrev pub section_of : Program → ℕ → ℕ → Option ℕ
+section_of p file ordinal =
+    option_map (λ e. e.located.section)
+    (find (λ e. (e.located.file == file) && (e.located.ordinal == ordinal)) p.statements)
+
+-- the section of the label that a value names
+abbrev pub label_section : Program → Located → Value → Option ℕ
+label_section p s (Symbolic q at plus) =
+    option_and_then (λ d. section_of p s.file d.ordinal)
+    (definition (tables_in p s.file) s.ordinal q)
+label_section p s _ = None
+
+abbrev pub is_upper_at : Program → ℕ → ℕ → ℕ → Mapped → Bool
+is_upper_at p file section address m =
+    (m.located.file == file) && (m.located.section == section) && (m.row.address == address)
+    && have_upper (parts p m)
+
+-- the first statement of a section at an address that takes the upper part of a distance
+abbrev pub upper_at : Program → ℕ → ℕ → Option ℕ → Option Mapped
+upper_at p file address None = None
+upper_at p file address (Some section) = find (is_upper_at p file section address) p.mapped
+
+-- the statement at the label that `%pcrel_lo` names
+abbrev pub pair_of : Program → Mapped → Expression → Option Mapped
+pair_of p s e =
+    upper_at p s.located.file (number p s e)
+    (label_section p s.located (form p s.located e))
+
+abbrev pub pair_distance : Program → Option Mapped → ℤ
+pair_distance p None = pos 0
+pair_distance p (Some m) = distance_from p m m.row.address
+
+-- ---- all of them
+
+-- a low part counts from the upper one, which stands first in its statement
+abbrev pub is_low_part : Kind → Bool
+is_low_part kind.PcrelLo12I = true
+is_low_part kind.PcrelLo12S = true
+is_low_part _ = false
+
+abbrev pub value_by : Program → Mapped → Option Operand → FieldValue
+value_by p s (Some (Applied PcrelLo e)) k a = pair_distance p (pair_of p s e)
+value_by p s operand k a =
+    value_of k (target p s) (pos 0) (if is_low_part k then s.row.address else a)
+
+-- what a field of a statement takes
+abbrev pub field_value : Program → Mapped → FieldValue
+field_value p s = value_by p s (operand_of s.located.kind)
+
+-- ---- lines
+
+-- the base instructions that stand for a statement; none where a name in it has no meaning
+abbrev pub expansion : Program → Mapped → Option (List Inst)
+expansion p s =
+    if has_values p s
+    then option_map (filled (field_value p s) s.row.address) (parts p s) else None
+
+-- a line of a statement: an instruction of 2 or 4 bytes at its address
+pub record Line : Type 0 where
+  pub address : ℕ
+  pub bytes : ℕ
+  pub instruction : Inst
+
+-- lines that follow one another from an address to an end
+abbrev pub Lie : ℕ → List Line → ℕ → Type 0
+Lie address [] stop = address ≡ stop
+Lie address (l ∷ ls) stop = (l.address ≡ address) × Lie (address + l.bytes) ls stop
+
+-- the lines of a statement: its base instructions, one after another over the bytes of its row
+abbrev pub AreLines : Program → Mapped → List Line → Type 0
+AreLines p s lines =
+    (expansion p s ≡ Some (map (λ l. l.instruction) lines))
+    × Lie s.row.address lines (s.row.address + s.row.bytes)
