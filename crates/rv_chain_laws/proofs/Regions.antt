@@ -203,20 +203,20 @@ gap_blank bytes m (b ∷ bs) a x (z, zs) (l, ls) (v, vs) (f, st) h even e =
     before inside =
         let parts = within_parts a start x inside in
         let room : x + 1 < start = below_even x start even (aligned_even b.alignment a v) parts.1 in
-        let zeros' = bytes_front m a (zeros (start - a)) (later bytes m start b bs) h in
+        let gap = bytes_front m a (zeros (start - a)) (later bytes m start b bs) h in
         record {
           starts = parts.0;
           room = omega (arith, ends);
-          first = byte_zero m (start - a) a x zeros' parts.0 (omega arith);
-          second = byte_zero m (start - a) a (x + 1) zeros' (omega arith) (omega arith);
+          first = byte_zero m (start - a) a x gap parts.0 (omega arith);
+          second = byte_zero m (start - a) a (x + 1) gap (omega arith) (omega arith);
         }
 
-    behind : IsBlank m next (end_of next bs) x → IsBlank m a (end_of next bs) x
-    behind k = record { starts = (let s = k.starts in omega (arith, up)); room = k.room; first = k.first; second = k.second }
+    onward : IsBlank m next (end_of next bs) x → IsBlank m a (end_of next bs) x
+    onward k = record { starts = (let s = k.starts in omega (arith, up)); room = k.room; first = k.first; second = k.second }
 
     go : (t : Bool) → list_any test (if t then record { start = a; end = start } ∷ gaps_of next bs else gaps_of next bs) ≡ true → (list_any test (gaps_of next bs) ≡ true → IsBlank m next (end_of next bs) x) → IsBlank m a (end_of next bs) x
-    go true e ih = elim (or_cases (is_within a start x) (list_any test (gaps_of next bs)) e) [ inl inside ↦ before inside | inr more ↦ behind (ih more) ]
-    go false e ih = behind (ih e)
+    go true e ih = elim (or_cases (is_within a start x) (list_any test (gaps_of next bs)) e) [ inl inside ↦ before inside | inr more ↦ onward (ih more) ]
+    go false e ih = onward (ih e)
 
 pub length_blocks : (bytes : Mapped → List ℕ) (bs : List InputSection) (a : ℕ) → AllIn (Sized bytes) bs → AllByRecursion IsAligned bs → a + length (contents bytes a bs) ≡ end_of a bs
 length_blocks bytes [] a z l = omega arith

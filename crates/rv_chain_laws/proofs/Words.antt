@@ -1,6 +1,6 @@
 -- Words and parcels that lie in memory are fetched.
 
-use Rattle.std.proofs.Common.{◌≡◌, ℕ, zero, suc, ◌+◌, ◌*◌, ◌/◌, ◌%◌, ◌^◌, ◌<◌, ◌≤◌, true, false, List, [], ◌∷◌, ◌++◌, length, refl, ap, ◌∙◌, subst, arith, Option, Some, None}
+use Rattle.std.proofs.Common.{◌≡◌, ℕ, zero, suc, ◌+◌, ◌*◌, ◌/◌, ◌%◌, ◌^◌, ◌<◌, ◌≤◌, true, List, [], ◌∷◌, ◌++◌, length, refl, sym, ap, ◌∙◌, subst, arith, Option, Some, None}
 use Rattle.std.proofs.lemmas.Bool.Decides.{nat_tests}
 use Rattle.std.specs.Prelude.{◌&&◌, ◌==◌, if◌then◌else◌, ⊤}
 use Rattle.rv_isa.specs.declared.instruction.Inst.{Inst}
@@ -26,6 +26,9 @@ two n below = omega arith
 four : (n : ℕ) → n < 2 ^ 32 → n % 256 + 256 * (n / 256 % 256 + 256 * (n / 256 / 256 % 256 + 256 * (n / 256 / 256 / 256 % 256 + 256 * 0))) ≡ n
 four n below = omega arith
 
+short_length : (m : Mem) (a : ℕ) → m.byte (a % 2 ^ 64) % 4 < 3 → length_at m a ≡ 2
+short_length m a low = grind (arith, nat_tests)
+
 module _ (reader : Reader Spells StandsFor) (m : Mem) where
   -- where the low bits are not 11 there is a parcel
   parcel_at : (a p : ℕ) (found : Option Inst) → a + 2 < 2 ^ 64 → may m a 2 Execute ≡ true → p < 2 ^ 16 → p % 4 < 3 → HasBytes m a (little_endian 2 p) → reader.parcel p ≡ found → fetch reader m a ≡ spelled 2 found
@@ -36,16 +39,12 @@ module _ (reader : Reader Spells StandsFor) (m : Mem) where
       ap (λ x. x + 256 * number_at m (a + 1) 1) low
       ∙ ap (λ x. p % 256 + 256 * (x + 256 * 0)) b1
       ∙ two p below in
-      let short : p % 256 % 4 < 3 = omega arith in
-      let no_three : (p % 256 % 4 == 3) ≡ false = other (p % 256 % 4) short in
-      let long : length_at m a ≡ 2 = ap (λ x. if x % 4 == 3 then 4 else 2) low ∙ ap (λ t. if t then 4 else 2) no_three in
+      let begins : m.byte (a % 2 ^ 64) % 4 < 3 = subst (λ b. b % 4 < 3) (sym low) (let e : p % 256 % 4 < 3 = omega arith in e) in
+      let long : length_at m a ≡ 2 = short_length m a begins in
       ap (λ n. if may m a n Execute then spelled n (if n == 4 then reader.word (number_at m a 4) else reader.parcel (number_at m a 2)) else NoRight) long
       ∙ ap (λ t. if t then spelled 2 (reader.parcel (number_at m a 2)) else NoRight) runs
       ∙ ap (λ n. spelled 2 (reader.parcel n)) number
       ∙ ap (λ o. spelled 2 o) read
-    where
-      other : (n : ℕ) → n < 3 → (n == 3) ≡ false
-      other n below = grind (arith, nat_tests)
 
   -- a parcel that lies in memory is fetched
   pub fetch-parcel : (a : ℕ) (i : Inst) (p : ℕ) → IsShortOf i p → a + 2 < 2 ^ 64 → may m a 2 Execute ≡ true → HasBytes m a (little_endian 2 p) → fetch reader m a ≡ Got i 2
