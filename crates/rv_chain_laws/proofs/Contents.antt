@@ -36,7 +36,9 @@ use Rattle.rv_source_laws.specs.Start.{is_within, is_in, right_at, first_byte, b
 use Rattle.rv_source_laws.specs.SourceRun.{Starts, Gap, Outside, starts_or_inside, place, found}
 use Rattle.rv_chain_laws.specs.Realizes.{StandsIn, HoldsLines, Realizes}
 use Rattle.rv_chain_laws.specs.Contents.{IsEncoded, AreEncoded, IsWritten, contents, zeros, IsLinked}
+use Rattle.rv_chain_laws.specs.Headline.{RunsAgree}
 use Rattle.rv_chain_laws.proofs.Words.{HasBytes, fetch-parcel, fetch-zeros, fetch-word, bytes_behind, may_all, Runs}
+use Rattle.rv_chain_laws.proofs.Simulation.{agreement_of_image}
 use Rattle.rv_chain_laws.proofs.Regions.{within_parts, bytes_front, Sized, LiesIn, Misses, AllIn, IsAligned, IsBlank, gap_blank, byte_at, byte_zero, above, end_above, lie_blocks, held_blocks, zero_blocks, length_blocks}
 use Rattle.rv_chain_laws.proofs.Held.{ContributionHeld, DirectiveHeld, IsHeld, Held, held_of}
 use Rattle.rv_chain_laws.proofs.Homes.{sections_of, sections_in, IsSeated, IsAtHome, seats, homes, all_join, all_map, to_blocks, from_blocks}
@@ -636,3 +638,8 @@ module _ (sources : List (List Statement)) (a : ℕ) (l : Linked) (h : IsLinked 
         let low = entry_of (find (λ e. begins_run sources e.located) p.statements) refl h.resolves.entry in
         let room = text_room in
         omega arith
+
+-- a linked program runs as its sources do, for every input and every limit
+pub linked_agrees : (a : ℕ) (sources : List (List Statement)) (l : Linked) → IsLinked sources a l → RunsAgree sources l.map (linked_image l)
+linked_agrees a sources l h reader input bytes n =
+    agreement_of_image sources l.map (mem_of (linked_image l)) l.map.entry (λ r. realizes_linked sources a l h r) refl (entry_low sources a l h reader) h.resolves.even reader input n

@@ -14,4 +14,3 @@ pub mod Held
 pub mod LaidOut
 pub mod Alignments
 pub mod Contents
-pub mod Linked
