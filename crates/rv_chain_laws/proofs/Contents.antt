@@ -1,26 +1,28 @@
 -- The memory of a linked program's image realizes its sources: any number of sections, code and data.
 
-use Rattle.std.proofs.Common.{◌≡◌, ℕ, suc, ◌+◌, ◌-◌, ◌*◌, ◌^◌, ◌<◌, ◌≤◌, Bool, true, false, List, [], ◌∷◌, ◌++◌, length, refl, sym, ap, ◌∙◌, subst, arith, map, Option, Some, None, length-append, ◌⊎◌, inl, inr}
+use Rattle.std.proofs.Common.{◌≡◌, ℕ, suc, ◌+◌, ◌-◌, ◌%◌, ◌^◌, ◌<◌, ◌≤◌, Bool, true, false, List, [], ◌∷◌, ◌++◌, length, refl, sym, ap, ◌∙◌, subst, arith, map, Option, Some, None, length-append, ◌⊎◌, inl, inr}
 use Rattle.std.proofs.lemmas.Bool.Decides.{nat_tests}
-use Rattle.std.proofs.lemmas.Bool.{cases_lt, and_parts, ltb-true, leb-true, eqb-true}
+use Rattle.std.proofs.lemmas.Bool.{cases_lt, and_parts, eqb-true}
 use Rattle.std.proofs.lemmas.List.{length-replicate, get_or-replicate}
 use Rattle.std.proofs.Math.ListN.{get_or-eq_default}
-use Rattle.std.specs.Prelude.{◌&&◌, ◌||◌, ◌==◌, not, nat_le, nat_lt, if◌then◌else◌, slice_index, slice_index_or, option_map, codes, IsTrue, max}
+use Rattle.std.specs.Prelude.{◌&&◌, ◌||◌, ◌==◌, not, nat_lt, if◌then◌else◌, slice_index, slice_index_or, option_map, codes, IsTrue, max}
 use Rattle.std.specs.List.{AllByRecursion, find, list_any}
-use Rattle.std.specs.Int.{w32, to_le_bytes}
 use Rattle.rv_isa.specs.declared.instruction.Inst.{Inst}
 use Rattle.rv_isa.specs.Ranges.{IsValid}
 use Rattle.rv_isa_laws.specs.Memory.{Mem, Read, Write, Execute}
-use Rattle.rv_encode.specs.Word.{form, word, Spells}
+use Rattle.rv_encode.specs.Word.{Spells}
+use Rattle.rv_compress.specs.Parcel.{StandsFor}
 use Rattle.rv_isa_laws.specs.Reader.{Reader}
-use Rattle.rv_isa_laws.specs.Run.{fetch, Got}
+use Rattle.rv_isa_laws.specs.Run.{NoInstruction, Got, fetch}
 use Rattle.rv_statement.specs.Statement.{StatementKind, Label, Numbered, Instruction, Directs, Statement, Expression, Directive, Sets}
+use Rattle.rv_pseudo_laws.specs.Code.{Part}
 use Rattle.rv_unit_laws.specs.Contributions.{Contribution, Nothing, Bytes, Zero_bytes, Alignment, contribution}
 use Rattle.rv_unit_laws.specs.Options.{Options}
 use Rattle.rv_unit_laws.specs.Sections.{Section, is_nobits, goes_to_text, goes_to_rodata, goes_to_data, goes_to_bss}
 use Rattle.rv_unit_laws.specs.Tables.{Tables, tables, aligned, alignments_of}
 use Rattle.rv_map.specs.Map.{Map}
 use Rattle.rv_map.specs.declared.map.Row.{Row}
+use Rattle.rv_map.specs.declared.map.Region.{Region}
 use Rattle.rv_image.specs.Linked.{Linked}
 use Rattle.rv_image.specs.Executable.{linked_image}
 use Rattle.rv_isa_laws.specs.Platform.{stack_start, stack_end}
@@ -28,63 +30,72 @@ use Rattle.rv_image.specs.Memory.{mem_of}
 use Rattle.rv_source_laws.specs.Located.{located}
 use Rattle.rv_source_laws.specs.Program.{MaybeMapped, Mapped, Program, program, number, seated, mapped_of}
 use Rattle.rv_source_laws.specs.Resolves.{is_global_in, is_start, begins_run, starts_at}
-use Rattle.rv_source_laws.specs.Meaning.{Line, Lie, expansion}
-use Rattle.rv_source_laws.specs.Fits.{IsRowOf, IsPaddingIn, ContributionFits, SizeFits, InputSection, input_section, input_sections, input_sections_of_file, input_sections_of, greatest, Holds, Stand, end_of}
+use Rattle.rv_source_laws.specs.Lines.{parts, Line, Lie, expansion}
+use Rattle.rv_source_laws.specs.Fits.{IsRowOf, CodeFits, IsPaddingIn, ContributionFits, SizeFits, InputSection, input_section, input_sections, input_sections_of_file, input_sections_of, greatest, Holds, Stand, end_of}
 use Rattle.rv_source_laws.specs.Start.{is_within, is_in, right_at, first_byte, byte_of, spelled, spelled_contribution}
 use Rattle.rv_source_laws.specs.SourceRun.{Starts, Gap, Outside, starts_or_inside, place, found}
 use Rattle.rv_chain_laws.specs.Realizes.{StandsIn, HoldsLines, Realizes}
-use Rattle.rv_chain_laws.specs.Contents.{words, code_bytes, contents, zeros, IsWritten, IsLinked}
+use Rattle.rv_chain_laws.specs.Contents.{IsEncoded, AreEncoded, IsWritten, contents, zeros, IsLinked}
 use Rattle.rv_chain_laws.specs.Headline.{RunsAgree}
-use Rattle.rv_chain_laws.proofs.Words.{HasBytes, bytes_behind, fetch-word, may_all, Runs}
-use Rattle.rv_chain_laws.proofs.Wide.{valid_wide}
-use Rattle.rv_chain_laws.proofs.Simulation.{find_holds, agreement_of_image}
-use Rattle.rv_chain_laws.proofs.Regions.{Sized, LiesIn, Misses, AllIn, IsAligned, byte_at, byte_zero, above, end_above, lie_blocks, held_blocks, zero_blocks, length_blocks}
+use Rattle.rv_chain_laws.proofs.Words.{HasBytes, fetch-parcel, fetch-zeros, fetch-word, bytes_behind, may_all, Runs}
+use Rattle.rv_chain_laws.proofs.Simulation.{agreement_of_image}
+use Rattle.rv_chain_laws.proofs.Regions.{within_parts, bytes_front, Sized, LiesIn, Misses, AllIn, IsAligned, IsBlank, gap_blank, byte_at, byte_zero, above, end_above, lie_blocks, held_blocks, zero_blocks, length_blocks}
 use Rattle.rv_chain_laws.proofs.Held.{ContributionHeld, DirectiveHeld, IsHeld, Held, held_of}
 use Rattle.rv_chain_laws.proofs.Homes.{sections_of, sections_in, IsSeated, IsAtHome, seats, homes, all_join, all_map, to_blocks, from_blocks}
+use Rattle.rv_chain_laws.proofs.Alignments.{even_files}
 use Rattle.rv_chain_laws.proofs.LaidOut.{AreRegions, apart, rights-are, text_held, rodata_held, data_held, bss_held, stack_zero}
 
--- ---- the instructions of a statement
-
-lines_from : ℕ → List Inst → List Line
-lines_from a [] = []
-lines_from a (i ∷ is) = record { address = a; bytes = 4; instruction = i } ∷ lines_from (a + 4) is
+-- ---- the lines of a statement
 
 abbrev instructions_of : List Line → List Inst
 instructions_of ls = map (λ (l : Line). l.instruction) ls
 
-lines_are : (a : ℕ) (is : List Inst) → instructions_of (lines_from a is) ≡ is
-unfolding lines_from
-lines_are a [] = refl
-lines_are a (i ∷ is) = ap (λ js. i ∷ js) (lines_are (a + 4) is)
+line_length : (l : Line) (bytes : List ℕ) → IsEncoded l bytes → length bytes ≡ l.bytes
+line_length l bytes (inl (four, same)) = ap (λ b. length b) same ∙ sym four
+line_length l bytes (inr (two, (q, short, same))) = ap (λ b. length b) same ∙ sym two
 
-lines_lie : (a stop : ℕ) (is : List Inst) → a + 4 * length is ≡ stop → Lie a (lines_from a is) stop
-unfolding lines_from
-lines_lie a stop [] e = omega arith
-lines_lie a stop (i ∷ is) e = (refl, lines_lie (a + 4) stop is (omega arith))
+-- a statement has as many bytes as its lines
+lines_length : (ls : List Line) (a stop : ℕ) (bytes : List ℕ) → Lie a ls stop → AreEncoded ls bytes → a + length bytes ≡ stop
+lines_length [] a stop bytes lie none = let e : length bytes ≡ 0 = ap (λ b. length b) none in omega arith
+lines_length (l ∷ ls) a stop bytes (at, lie) (front, (rest, joined, one, more)) =
+    let here : length front ≡ l.bytes = line_length l front one in
+    let next : a + l.bytes + length rest ≡ stop = lines_length ls (a + l.bytes) stop rest lie more in
+    let whole : length bytes ≡ length front + length rest = ap (λ b. length b) joined ∙ length-append front rest in
+    omega arith
 
-words_length : (is : List Inst) → length (words (Some is)) ≡ 4 * length is
-words_length [] = refl
-words_length (i ∷ is) = length-append (to_le_bytes w32 (word (form i))) (words (Some is)) ∙ (let e = words_length is in let g : 4 + length (words (Some is)) ≡ 4 * suc (length is) = omega arith in g)
+module _ (reader : Reader Spells StandsFor) (m : Mem) (stop : ℕ) (room : stop < 2 ^ 64) where
+  line_stands : (l : Line) (bytes : List ℕ) → IsValid l.instruction → IsEncoded l bytes → HasBytes m l.address bytes → Runs m l.address stop → l.address + l.bytes ≤ stop → StandsIn reader m l
+  line_stands l bytes valid (inl (four, same)) h runs fits =
+      let got : fetch reader m l.address ≡ Got l.instruction 4 = fetch-word reader m l.address l.instruction valid (omega arith) (may_all m 4 l.address (λ x low up. runs x low (omega arith)) (omega arith)) (subst (HasBytes m l.address) same h) in
+      (got ∙ ap (λ n. Got l.instruction n) (sym four), valid)
+  line_stands l bytes valid (inr (two, (q, short, same))) h runs fits =
+      let got : fetch reader m l.address ≡ Got l.instruction 2 = fetch-parcel reader m l.address l.instruction q short (omega arith) (may_all m 2 l.address (λ x low up. runs x low (omega arith)) (omega arith)) (subst (HasBytes m l.address) same h) in
+      (got ∙ ap (λ n. Got l.instruction n) (sym two), valid)
 
-module _ {StandsFor : ℕ → Inst → Type 0} (reader : Reader Spells StandsFor) (m : Mem) (stop : ℕ) (room : stop < 2 ^ 64) where
-  lines_stand : (a : ℕ) (is : List Inst) → AllByRecursion IsValid is → HasBytes m a (words (Some is)) → Runs m a stop → a + 4 * length is ≤ stop → AllByRecursion (StandsIn reader m) (lines_from a is)
-  unfolding lines_from
-  lines_stand a [] ws h runs fits = tt
-  lines_stand a (i ∷ is) (valid, ws) h runs fits =
-      let wide = valid_wide i valid in
-      let got : fetch reader m a ≡ Got i 4 = fetch-word reader m a i (word (form i)) (words (Some is)) refl wide.0 wide.1 valid (omega arith) (may_all m 4 a (λ x l u. runs x l (omega arith)) (omega arith)) h in
-      ((got, valid), lines_stand (a + 4) is ws (bytes_behind m a (to_le_bytes w32 (word (form i))) (words (Some is)) h) (λ x l u. runs x (omega arith) u) (omega arith))
+  lines_stand : (ls : List Line) (a : ℕ) (bytes : List ℕ) → Lie a ls (a + length bytes) → AreEncoded ls bytes → AllByRecursion IsValid (instructions_of ls) → HasBytes m a bytes → Runs m a stop → a + length bytes ≤ stop → AllByRecursion (StandsIn reader m) ls
+  lines_stand [] a bytes lie e valid h runs fits = tt
+  lines_stand (l ∷ ls) a bytes (at, lie) (front, (rest, joined, one, more)) (v, vs) h runs fits =
+      let here : length front ≡ l.bytes = line_length l front one in
+      let whole : length bytes ≡ length front + length rest = ap (λ b. length b) joined ∙ length-append front rest in
+      let both : HasBytes m a (front ++ rest) = subst (HasBytes m a) joined h in
+      let ends : a + length bytes ≡ a + l.bytes + length rest = omega arith in (
+        line_stands l front v one (subst (λ x. HasBytes m x front) (sym at) (bytes_front m a front rest both)) (subst (λ x. Runs m x stop) (sym at) runs) (omega arith),
+        lines_stand ls (a + l.bytes) rest (subst (Lie (a + l.bytes) ls) ends lie) more vs
+            (subst (λ n. HasBytes m (a + n) rest) here (bytes_behind m a front rest both)) (λ x low up. runs x (omega arith) up) (omega arith),
+      )
 
-  holds_written : (p : Program) (s : Mapped) → IsWritten p s → HasBytes m s.row.address (code_bytes p s) → Runs m s.row.address stop → s.row.address + s.row.bytes ≤ stop → IsRowOf (expansion p s) s.row → HoldsLines reader m p s
-  holds_written p s (is, e, size) h runs fits row =
+  holds_written : (p : Program) (s : Mapped) (bytes : List ℕ) → IsWritten p s bytes → HasBytes m s.row.address bytes → Runs m s.row.address stop → s.row.address + s.row.bytes ≤ stop → SizeFits p s → IsRowOf (expansion p s) s.row → HoldsLines reader m p s
+  holds_written p s bytes written h runs fits size row =
       let a = s.row.address in
-      let valid : AllByRecursion IsValid is = (subst (λ o. IsRowOf o s.row) e row).0 in
+      let lines = written.lines in
+      let ends : a + length bytes ≡ a + s.row.bytes = lines_length lines a (a + s.row.bytes) bytes written.are_lines.1 written.encoded in
+      let valid : AllByRecursion IsValid (instructions_of lines) = (subst (λ o. IsRowOf o s.row) written.are_lines.0 row).0 in
       record {
-        lines = lines_from a is;
-        are_lines = (e ∙ ap Some (sym (lines_are a is)), lines_lie a (a + s.row.bytes) is (ap (λ n. a + n) (sym size)));
-        stand = lines_stand a is valid (subst (λ o. HasBytes m a (words o)) e h) runs (subst (λ n. a + n ≤ stop) size fits);
+        lines = lines;
+        are_lines = written.are_lines;
+        stand = lines_stand lines a bytes (subst (Lie a lines) (sym ends) written.are_lines.1) written.encoded valid h runs (omega arith);
         below = omega arith;
-        size = row;
+        fits = size;
       }
 
 -- ---- what the sizes of rows say
@@ -130,6 +141,10 @@ module _ (p : Program) (file ordinal section offset line : ℕ) (home : Section)
   statement_data (Directs directive) fits held e = directive_data directive fits
 
   -- a row in an executable section has its statement's instructions
+  parts_code : (says : StatementKind) (found : Option (List Part)) → CodeFits p (at says) found → IsRowOf (expansion p (at says)) row
+  parts_code says None fits = absurd fits
+  parts_code says (Some ps) fits = fits.row
+
   contribution_code : (d : Directive) (c : Contribution) → ContributionFits p (at (Directs d)) d c → ContributionHeld home c → home.executable ≡ true
       → IsRowOf (expansion p (at (Directs d))) row
   contribution_code d Nothing fits held e = absurd fits
@@ -144,7 +159,7 @@ module _ (p : Program) (file ordinal section offset line : ℕ) (home : Section)
   statement_code : (says : StatementKind) → SizeFits p (at says) → IsHeld home says → home.executable ≡ true → IsRowOf (expansion p (at says)) row
   statement_code (Label name) fits held e = fits
   statement_code (Numbered number) fits held e = fits
-  statement_code (Instruction mnemonic operands) fits held e = fits.1
+  statement_code (Instruction mnemonic operands) fits held e = parts_code (Instruction mnemonic operands) (parts p (at (Instruction mnemonic operands))) fits
   statement_code (Directs directive) fits held e = directive_code directive fits held e
 
   -- a row without bytes in the file has zeros
@@ -215,20 +230,22 @@ starts_when true false (Some k) s e = (refl, cc)
 starts_when true false None s e = absurd (cc)
 starts_when false g o s e = absurd (cc)
 
-no_gap : (t : Bool) (o : Option Mapped) → (if t then starts_or_inside o else Outside) ≡ Gap → ⊥
-no_gap true (Some r) e = cc
-no_gap true None e = cc
-no_gap false o e = cc
+gap_when : (t g : Bool) (o : Option Mapped) → (if t then (if g then Gap else starts_or_inside o) else Outside) ≡ Gap → (t ≡ true) × (g ≡ true)
+gap_when true true o e = (refl, refl)
+gap_when true false (Some k) e = absurd (cc)
+gap_when true false None e = absurd (cc)
+gap_when false g o e = absurd (cc)
 
-all_found : {X : Type 0} (P : X → Type 0) (test : X → Bool) (xs : List X) (x : X) → find test xs ≡ Some x → AllByRecursion P xs → P x
+-- what is found passes the test, and has what all have
+all_found : {X : Type 0} (P : X → Type 0) (test : X → Bool) (xs : List X) (x : X) → find test xs ≡ Some x → AllByRecursion P xs → P x × (test x ≡ true)
 all_found P test [] x e ps = absurd (cc)
 all_found P test (y ∷ ys) x e (p, ps) = go (test y) refl (λ f. all_found P test ys x f ps)
   where
-    go : (b : Bool) → test y ≡ b → (find test ys ≡ Some x → P x) → P x
+    go : (b : Bool) → test y ≡ b → (find test ys ≡ Some x → P x × (test x ≡ true)) → P x × (test x ≡ true)
     go true t ih =
         let f : Some y ≡ Some x = subst (λ b. (if b then Some y else find test ys) ≡ Some x) t e in
         let same : y ≡ x = cc in
-        subst P same p
+        (subst P same p, subst (λ z. test z ≡ true) same t)
     go false t ih = ih (subst (λ b. (if b then Some y else find test ys) ≡ Some x) t e)
 
 none_found : {X : Type 0} (test : X → Bool) (xs : List X) → find test xs ≡ None → AllByRecursion (λ x. test x ≡ false) xs
@@ -254,11 +271,6 @@ or_cases false false false e = absurd (cc)
 or_left : (a b c : Bool) → a ≡ true → (a || b || c) ≡ true
 or_left true b c e = refl
 or_left false b c e = absurd (cc)
-
-within_parts : (a b x : ℕ) → is_within a b x ≡ true → (a ≤ x) × (x < b)
-within_parts a b x e =
-    let parts = and_parts (nat_le a x) (nat_lt x b) e in
-    (leb-true a x parts.0, ltb-true x b parts.1)
 
 -- no address lies both before an end and from there on
 past : {A : Type 0} (a b c x : ℕ) → is_within a b x ≡ true → b ≤ c → c ≤ x → A
@@ -320,12 +332,17 @@ module _ (sources : List (List Statement)) (a : ℕ) (l : Linked) (h : IsLinked 
   not_data : (s : Section) → goes_to_data s ≡ true → s.executable ≡ false
   not_data s e = no_code_more s.loaded s.executable (is_nobits s) s.writable e
 
-  written_sized : (s : Mapped) → IsWritten p s → Sized (code_bytes p) s
-  written_sized s (is, e, size) = ap (λ o. length (words o)) e ∙ words_length is ∙ sym size
+  abbrev code : Mapped → List ℕ
+  code = h.code
 
-  code_sized : AllIn (Sized (code_bytes p)) (region goes_to_text)
-  code_sized = to_blocks p.mapped sources goes_to_text (Sized (code_bytes p)) at_home
-      (all_map (λ s. IsTrue s.located.home.executable → IsWritten p s) (λ s. goes_to_text s.located.home ≡ true → Sized (code_bytes p) s) p.mapped
+  written_sized : (s : Mapped) → IsWritten p s (code s) → Sized code s
+  written_sized s written =
+      let ends : s.row.address + length (code s) ≡ s.row.address + s.row.bytes = lines_length written.lines s.row.address (s.row.address + s.row.bytes) (code s) written.are_lines.1 written.encoded in
+      omega arith
+
+  code_sized : AllIn (Sized code) (region goes_to_text)
+  code_sized = to_blocks p.mapped sources goes_to_text (Sized code) at_home
+      (all_map (λ s. IsTrue s.located.home.executable → IsWritten p s (code s)) (λ s. goes_to_text s.located.home ≡ true → Sized code s) p.mapped
       (λ s w good. written_sized s (w (and_parts s.located.home.loaded s.located.home.executable good).1)) h.written)
 
   -- each region holds its sections from its start on
@@ -341,7 +358,7 @@ module _ (sources : List (List Statement)) (a : ℕ) (l : Linked) (h : IsLinked 
   bss_holds : Holds map_of.bss (aligned (greatest (region goes_to_bss)) map_of.data.end) (region goes_to_bss)
   bss_holds = h.fits.bss
 
-  text_is : l.text ≡ contents (code_bytes p) map_of.text.start (region goes_to_text)
+  text_is : l.text ≡ contents code map_of.text.start (region goes_to_text)
   text_is = h.text
 
   rodata_is : l.rodata ≡ contents (spelled p) map_of.rodata.start (region goes_to_rodata)
@@ -356,7 +373,7 @@ module _ (sources : List (List Statement)) (a : ℕ) (l : Linked) (h : IsLinked 
 
   pub are_regions : AreRegions l
   are_regions = record {
-    text = filled map_of.text.start a map_of.text.end (code_bytes p) (region goes_to_text) l.text text_holds.0 text_holds.2 text_is code_sized (is_aligned goes_to_text);
+    text = filled map_of.text.start a map_of.text.end code (region goes_to_text) l.text text_holds.0 text_holds.2 text_is code_sized (is_aligned goes_to_text);
     rodata = filled map_of.rodata.start (aligned 4096 map_of.text.end) map_of.rodata.end (spelled p) (region goes_to_rodata) l.rodata rodata_holds.0 rodata_holds.2 rodata_is (data_sized goes_to_rodata not_rodata) (is_aligned goes_to_rodata);
     «data» = filled map_of.data.start (aligned 4096 map_of.rodata.end) map_of.data.end (spelled p) (region goes_to_data) l.data data_holds.0 data_holds.2 data_is (data_sized goes_to_data not_data) (is_aligned goes_to_data);
     rodata_after = subst (λ x. map_of.text.end ≤ x) (sym rodata_holds.0) (above 4096 map_of.text.end (omega arith));
@@ -366,7 +383,7 @@ module _ (sources : List (List Statement)) (a : ℕ) (l : Linked) (h : IsLinked 
     below = h.below;
   }
 
-  module _ {StandsFor : ℕ → Inst → Type 0} (reader : Reader Spells StandsFor) where
+  module _ (reader : Reader Spells StandsFor) where
     -- where the statements of each region stand, and that memory holds their bytes
     abbrev In : (Section → Bool) → (Mapped → Type 0) → Mapped → Type 0
     In goes P s = goes s.located.home ≡ true → P s
@@ -387,8 +404,8 @@ module _ (sources : List (List Statement)) (a : ℕ) (l : Linked) (h : IsLinked 
 
     abbrev Whole : Mapped → Type 0
     Whole s =
-        IsAtHome sections s × (Fitting s × ((IsTrue s.located.home.executable → IsWritten p s)
-        × (In goes_to_text (LiesIn map_of.text.start map_of.text.end) s × (In goes_to_text (λ s. HasBytes m s.row.address (code_bytes p s)) s
+        IsAtHome sections s × (Fitting s × ((IsTrue s.located.home.executable → IsWritten p s (code s))
+        × (In goes_to_text (LiesIn map_of.text.start map_of.text.end) s × (In goes_to_text (λ s. HasBytes m s.row.address (code s)) s
         × (In goes_to_rodata (LiesIn map_of.rodata.start map_of.rodata.end) s × (In goes_to_rodata (λ s. HasBytes m s.row.address (spelled p s)) s
         × (In goes_to_data (LiesIn map_of.data.start map_of.data.end) s × (In goes_to_data (λ s. HasBytes m s.row.address (spelled p s)) s
         × In goes_to_bss (LiesIn map_of.bss.start map_of.bss.end) s))))))))
@@ -397,9 +414,9 @@ module _ (sources : List (List Statement)) (a : ℕ) (l : Linked) (h : IsLinked 
     whole =
         all_pair (IsAtHome sections) _ p.mapped at_home
         (all_pair Fitting _ p.mapped fitting
-        (all_pair (λ s. IsTrue s.located.home.executable → IsWritten p s) _ p.mapped h.written
+        (all_pair (λ s. IsTrue s.located.home.executable → IsWritten p s (code s)) _ p.mapped h.written
         (all_pair (In goes_to_text (LiesIn map_of.text.start map_of.text.end)) _ p.mapped (lies goes_to_text map_of.text.start a map_of.text.end text_holds.0 text_holds.1 text_holds.2)
-        (all_pair (In goes_to_text (λ s. HasBytes m s.row.address (code_bytes p s))) _ p.mapped (held goes_to_text (code_bytes p) map_of.text.start a l.text text_holds.0 text_holds.1 text_is code_sized (text_held l are_regions))
+        (all_pair (In goes_to_text (λ s. HasBytes m s.row.address (code s))) _ p.mapped (held goes_to_text code map_of.text.start a l.text text_holds.0 text_holds.1 text_is code_sized (text_held l are_regions))
         (all_pair (In goes_to_rodata (LiesIn map_of.rodata.start map_of.rodata.end)) _ p.mapped (lies goes_to_rodata map_of.rodata.start (aligned 4096 map_of.text.end) map_of.rodata.end rodata_holds.0 rodata_holds.1 rodata_holds.2)
         (all_pair (In goes_to_rodata (λ s. HasBytes m s.row.address (spelled p s))) _ p.mapped (held goes_to_rodata (spelled p) map_of.rodata.start (aligned 4096 map_of.text.end) l.rodata rodata_holds.0 rodata_holds.1 rodata_is (data_sized goes_to_rodata not_rodata) (rodata_held l are_regions))
         (all_pair (In goes_to_data (LiesIn map_of.data.start map_of.data.end)) _ p.mapped (lies goes_to_data map_of.data.start (aligned 4096 map_of.rodata.end) map_of.data.end data_holds.0 data_holds.1 data_holds.2)
@@ -451,7 +468,7 @@ module _ (sources : List (List Statement)) (a : ℕ) (l : Linked) (h : IsLinked 
           | inl good ↦
               let x = (and_parts s.located.home.loaded s.located.home.executable good).1 in
               let lie = tl good in
-              holds_written reader m map_of.text.end (let e = text_room in omega arith) p s (written x) (th good) (text_runs s.row.address lie.0) lie.1
+              holds_written reader m map_of.text.end (let e = text_room in omega arith) p s (code s) (written x) (th good) (text_runs s.row.address lie.0) lie.1 fits.0
               (statement_code p s.located.file s.located.ordinal s.located.section s.located.offset s.located.line s.located.home s.located.options s.located.placed s.row s.located.kind fits.0 fits.1 x)
           | inr other ↦ elim other [
             | inl good ↦ past map_of.text.start map_of.text.end map_of.rodata.start s.row.address inside rodata_past (rl good).0
@@ -557,20 +574,39 @@ module _ (sources : List (List Statement)) (a : ℕ) (l : Linked) (h : IsLinked 
         over s = is_within s.row.address (s.row.address + s.row.bytes) x
 
         go : (o : Option Mapped) → find over p.mapped ≡ o → m.byte x ≡ byte_of p o x
-        go (Some s) e = row_spells s x (all_found Whole over p.mapped s e whole) readable (find_holds over p.mapped s e)
+        go (Some s) e = (let found = all_found Whole over p.mapped s e whole in row_spells s x found.0 readable found.1)
         go None e = none_zero x (none_found over p.mapped e) readable
 
     rows_hold : (pc : ℕ) (s : Mapped) → place p pc ≡ Starts s → HoldsLines reader m p s
     rows_hold pc s e =
         let starts = starts_when (is_in map_of.text pc) (list_any (λ gap. is_in gap pc) map_of.gaps) (found p.mapped pc) s e in
-        let test = find_holds (λ (k : Mapped). nat_lt 0 k.row.bytes && (k.row.address == pc)) p.mapped s starts.1 in
-        let here : s.row.address ≡ pc = eqb-true s.row.address pc (and_parts (nat_lt 0 s.row.bytes) (s.row.address == pc) test).1 in
-        row_holds s (all_found Whole _ p.mapped s starts.1 whole) (subst (λ x. is_in map_of.text x ≡ true) (sym here) starts.0)
+        let there = all_found Whole (λ (k : Mapped). nat_lt 0 k.row.bytes && (k.row.address == pc)) p.mapped s starts.1 whole in
+        let here : s.row.address ≡ pc = eqb-true s.row.address pc (and_parts (nat_lt 0 s.row.bytes) (s.row.address == pc) there.1).1 in
+        row_holds s there.0 (subst (λ x. is_in map_of.text x ≡ true) (sym here) starts.0)
+
+    gaps_blank : (pc : ℕ) → pc % 2 ≡ 0 → place p pc ≡ Gap → IsBlank m map_of.text.start map_of.text.end pc
+    gaps_blank pc even e =
+        let inside : list_any (λ (gap : Region). is_in gap pc) map_of.gaps ≡ true = (gap_when (is_in map_of.text pc) (list_any (λ gap. is_in gap pc) map_of.gaps) (found p.mapped pc) e).1 in
+        let bs = region goes_to_text in
+        let there : IsBlank m a (end_of a bs) pc =
+        gap_blank code m bs a pc code_sized (is_aligned goes_to_text) (even_files p.mapped 1 sources) text_holds.1
+        (subst (λ x. HasBytes m x (contents code x bs)) text_holds.0 (subst (HasBytes m map_of.text.start) text_is (text_held l are_regions))) even
+        (subst (λ gaps. list_any (λ (gap : Region). is_in gap pc) gaps ≡ true) h.fits.gaps inside) in
+        subst (λ x. IsBlank m x map_of.text.end pc) (sym text_holds.0) (subst (λ x. IsBlank m a x pc) (sym text_holds.2) there)
+
+    gaps_spell : (pc : ℕ) → pc % 2 ≡ 0 → place p pc ≡ Gap → fetch reader m pc ≡ NoInstruction
+    gaps_spell pc even e =
+        let blank = gaps_blank pc even e in
+        let low = blank.starts in
+        let high = blank.room in
+        let room = text_room in
+        let runs = text_runs pc low in
+        fetch-zeros reader m pc (omega arith) (may_all m 2 pc (λ x from up. runs x from (omega arith)) (omega arith)) blank.first blank.second
 
     pub realizes_linked : Realizes reader m p
     realizes_linked = record {
       rows = λ pc s u e. rows_hold pc s e;
-      gaps = λ pc u even e. absurd (no_gap (is_in map_of.text pc) (found p.mapped pc) (subst (λ gaps. (if is_in map_of.text pc then (if list_any (λ gap. is_in gap pc) gaps then Gap else starts_or_inside (found p.mapped pc)) else Outside) ≡ Gap) h.gaps e));
+      gaps = λ pc u even e. gaps_spell pc even e;
       rights = λ x u right. rights-are l are_regions x right;
       bytes = λ x u readable. bytes_are x readable;
       fixed = λ x u inside. unwritten x inside;
@@ -584,19 +620,16 @@ module _ (sources : List (List Statement)) (a : ℕ) (l : Linked) (h : IsLinked 
     entry_of None e there = absurd (cc)
     entry_of (Some entry) e there = at_row entry.row refl there
       where
-        found_entry : (r : Row) → entry.row ≡ Some r → In goes_to_text (LiesIn map_of.text.start map_of.text.end) (record { located = entry.located; row = r })
-        found_entry = all_found (Seated (In goes_to_text (LiesIn map_of.text.start map_of.text.end))) (λ e. begins_run sources e.located) p.statements entry e (seated_all _ p.statements lies_in_text)
-
-        begins : begins_run sources entry.located ≡ true
-        begins = find_holds (λ (e : MaybeMapped). begins_run sources e.located) p.statements entry e
+        found : Seated (In goes_to_text (LiesIn map_of.text.start map_of.text.end)) entry × (begins_run sources entry.located ≡ true)
+        found = all_found (Seated (In goes_to_text (LiesIn map_of.text.start map_of.text.end))) (λ e. begins_run sources e.located) p.statements entry e (seated_all _ p.statements lies_in_text)
 
         goes : goes_to_text entry.located.home ≡ true
-        goes = (and_parts (is_start entry.located.kind) (goes_to_text entry.located.home) (and_parts (is_start entry.located.kind && goes_to_text entry.located.home) (is_global_in sources entry.located.file (codes "_start")) begins).0).1
+        goes = (and_parts (is_start entry.located.kind) (goes_to_text entry.located.home) (and_parts (is_start entry.located.kind && goes_to_text entry.located.home) (is_global_in sources entry.located.file (codes "_start")) found.1).0).1
 
         at_row : (o : Option Row) → entry.row ≡ o → option_map (λ (r : Row). r.address) o ≡ Some map_of.entry → map_of.entry ≤ map_of.text.end
         at_row None none same = absurd (cc)
         at_row (Some r) some same =
-            let lie = found_entry r some goes in
+            let lie = found.0 r some goes in
             let here : r.address ≡ map_of.entry = cc in
             omega arith
 

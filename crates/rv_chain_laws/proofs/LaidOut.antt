@@ -138,9 +138,6 @@ has_all m a all same = subst (λ y. HasBytes m y all) (let e : a + 0 ≡ a = ome
 within-true : (a b x : ℕ) → a ≤ x → x < b → is_within a b x ≡ true
 within-true a b x lo hi = grind (arith, nat_tests)
 
-within-low : (a b x : ℕ) → x < a → is_within a b x ≡ false
-within-low a b x lo = grind (arith, nat_tests)
-
 within-high : (a b x : ℕ) → b ≤ x → is_within a b x ≡ false
 within-high a b x hi = grind (arith, nat_tests)
 

@@ -4,6 +4,7 @@ pub mod Onward
 pub mod Fetch
 pub mod Walk
 pub mod Wide
+pub mod Narrow
 pub mod Words
 pub mod Obligations
 pub mod Simulation
@@ -11,4 +12,5 @@ pub mod Regions
 pub mod Homes
 pub mod Held
 pub mod LaidOut
+pub mod Alignments
 pub mod Contents

@@ -1,24 +1,31 @@
 -- Sections one after another in a region: where their statements stand, and which bytes lie there.
 
-use Rattle.std.proofs.Common.{◌≡◌, ℕ, zero, suc, ◌+◌, ◌-◌, ◌*◌, ◌/◌, ◌%◌, ◌<◌, ◌≤◌, true, false, List, [], ◌∷◌, ◌++◌, length, refl, sym, ap, ◌∙◌, subst, arith, map, append_assoc, length-append, inl, inr}
+use Rattle.std.proofs.Common.{◌≡◌, ℕ, zero, suc, ◌+◌, ◌-◌, ◌*◌, ◌/◌, ◌%◌, ◌<◌, ◌≤◌, Bool, true, false, List, [], ◌∷◌, ◌++◌, length, refl, sym, ap, ◌∙◌, subst, arith, map, append_assoc, length-append, inl, inr}
 use Rattle.std.proofs.lemmas.Bool.Decides.{nat_tests}
-use Rattle.std.proofs.lemmas.Bool.{cases_lt}
+use Rattle.std.proofs.lemmas.Bool.{cases_lt, or_cases, and_parts, ltb-true, leb-true}
 use Rattle.std.proofs.lemmas.List.{length-replicate, get_or-replicate}
 use Rattle.std.proofs.lemmas.List.Sums.{sum_by-cons}
+use Rattle.std.proofs.lemmas.Nat.{mul-mod_second}
 use Rattle.std.proofs.Math.Nat.{mod-eq-sub-div-mul, div-mul-le_self, mod-lt}
-use Rattle.std.specs.Prelude.{flat_map, slice_index}
-use Rattle.std.specs.List.{AllByRecursion}
+use Rattle.std.specs.Prelude.{nat_le, nat_lt, if◌then◌else◌, flat_map, slice_index}
+use Rattle.std.specs.List.{AllByRecursion, list_any}
 use Rattle.rv_isa_laws.specs.Memory.{Mem}
 use Rattle.rv_map.specs.declared.map.Row.{Row}
+use Rattle.rv_map.specs.declared.map.Region.{Region}
 use Rattle.rv_source_laws.specs.Program.{Mapped}
 use Rattle.rv_unit_laws.specs.Tables.{aligned}
-use Rattle.rv_source_laws.specs.Fits.{InputSection, rows_of, Follow, size, Stand, end_of}
-use Rattle.rv_source_laws.specs.Start.{is_within}
+use Rattle.rv_source_laws.specs.Fits.{InputSection, rows_of, Follow, size, Stand, end_of, gaps_of}
+use Rattle.rv_source_laws.specs.Start.{is_within, is_in}
 use Rattle.rv_chain_laws.specs.Contents.{contents, zeros}
 use Rattle.rv_chain_laws.proofs.Words.{HasBytes, bytes_behind}
 
 abbrev row_of : Mapped → Row
 row_of s = s.row
+
+pub within_parts : (a b x : ℕ) → is_within a b x ≡ true → (a ≤ x) × (x < b)
+within_parts a b x e =
+    let parts = and_parts (nat_le a x) (nat_lt x b) e in
+    (leb-true a x parts.0, ltb-true x b parts.1)
 
 -- ---- bytes in memory
 
@@ -151,6 +158,65 @@ module _ (bytes : Mapped → List ℕ) (m : Mem) where
           | inr past ↦ zero_blocks bs (start + size (rows_of b)) x zs ls st here.1 ns past hi
         ]
       ]
+
+-- a section that begins at an even address wherever it stands
+abbrev pub BeginsEven : InputSection → Type 0
+BeginsEven b = b.alignment % 2 ≡ 0
+
+aligned_even : (n a : ℕ) → n % 2 ≡ 0 → aligned n a % 2 ≡ 0
+aligned_even n a even =
+    let q = (a + (n - 1)) / n in
+    sym (mul-mod_second q n 2) ∙ ap (λ k. q * k % 2) even ∙ (let e : q * 0 % 2 ≡ 0 = omega arith in e)
+
+-- an address has a zero on it and one after it, from a start on and before an end
+pub record IsBlank (m : Mem) (low high x : ℕ) : Type 0 where
+  pub starts : low ≤ x
+  pub room : x + 1 < high
+  pub first : m.byte x ≡ 0
+  pub second : m.byte (x + 1) ≡ 0
+
+below_even : (x stop : ℕ) → x % 2 ≡ 0 → stop % 2 ≡ 0 → x < stop → x + 1 < stop
+below_even x stop e f less = omega arith
+
+-- in a gap before a section of code there are zeros
+pub gap_blank : (bytes : Mapped → List ℕ) (m : Mem) (bs : List InputSection) (a x : ℕ) → AllIn (Sized bytes) bs → AllByRecursion IsAligned bs → AllByRecursion BeginsEven bs → Stand a bs → HasBytes m a (contents bytes a bs) → x % 2 ≡ 0 → list_any (λ (gap : Region). is_in gap x) (gaps_of a bs) ≡ true → IsBlank m a (end_of a bs) x
+gap_blank bytes m [] a x z l v st h even e = absurd (cc)
+gap_blank bytes m (b ∷ bs) a x (z, zs) (l, ls) (v, vs) (f, st) h even e =
+    go (nat_lt a start) e (gap_blank bytes m bs next x zs ls vs st (held_follow bytes m b.mapped start (contents bytes next bs) z f (behind_zeros bytes m a start (later bytes m start b bs) up h)).1 even)
+  where
+    start : ℕ
+    start = aligned b.alignment a
+
+    next : ℕ
+    next = start + size (rows_of b)
+
+    up : a ≤ start
+    up = above b.alignment a l
+
+    ends : next ≤ end_of next bs
+    ends = end_above bs next ls
+
+    test : Region → Bool
+    test gap = is_in gap x
+
+    before : is_within a start x ≡ true → IsBlank m a (end_of next bs) x
+    before inside =
+        let parts = within_parts a start x inside in
+        let room : x + 1 < start = below_even x start even (aligned_even b.alignment a v) parts.1 in
+        let gap = bytes_front m a (zeros (start - a)) (later bytes m start b bs) h in
+        record {
+          starts = parts.0;
+          room = omega (arith, ends);
+          first = byte_zero m (start - a) a x gap parts.0 (omega arith);
+          second = byte_zero m (start - a) a (x + 1) gap (omega arith) (omega arith);
+        }
+
+    onward : IsBlank m next (end_of next bs) x → IsBlank m a (end_of next bs) x
+    onward k = record { starts = (let s = k.starts in omega (arith, up)); room = k.room; first = k.first; second = k.second }
+
+    go : (t : Bool) → list_any test (if t then record { start = a; end = start } ∷ gaps_of next bs else gaps_of next bs) ≡ true → (list_any test (gaps_of next bs) ≡ true → IsBlank m next (end_of next bs) x) → IsBlank m a (end_of next bs) x
+    go true e ih = elim (or_cases (is_within a start x) (list_any test (gaps_of next bs)) e) [ inl inside ↦ before inside | inr more ↦ onward (ih more) ]
+    go false e ih = onward (ih e)
 
 pub length_blocks : (bytes : Mapped → List ℕ) (bs : List InputSection) (a : ℕ) → AllIn (Sized bytes) bs → AllByRecursion IsAligned bs → a + length (contents bytes a bs) ≡ end_of a bs
 length_blocks bytes [] a z l = omega arith
