@@ -4,3 +4,4 @@ pub mod Homes
 pub mod Held
 pub mod Faultless
 pub mod OpenedNames
+pub mod WrittenCode

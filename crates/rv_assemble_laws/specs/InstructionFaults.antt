@@ -17,8 +17,7 @@ use Rattle.rv_parse_laws.specs.Syntax.{with_constant}
 use Rattle.rv_unit_laws.specs.Options.{Options}
 use Rattle.rv_unit_laws.specs.Tables.{Tables, label_of, definition}
 use Rattle.rv_unit_laws.specs.Faults.{faulty_if}
-use Rattle.rv_source_laws.specs.Fits.{constant_in}
-use Rattle.rv_source_laws.specs.Meaning.{fits_12, expanded}
+use Rattle.rv_assemble_laws.specs.Written.{constant_in, fits_12, expanded}
 
 -- ---- numbers
 

@@ -6,12 +6,13 @@ use Rattle.std.specs.List.{list_all}
 use Rattle.rv_isa.specs.declared.instruction.Inst.{Inst}
 use Rattle.rv_isa.specs.Ranges.{IsValid}
 use Rattle.rv_text_laws.specs.Values.{Value, Constant}
-use Rattle.rv_statement.specs.Statement.{StatementKind, Label, Numbered, Instruction, Directs, Expression, Directive, Aligns_to_power, Aligns_to_bytes, Values, Strings, Zeros}
+use Rattle.rv_statement.specs.declared.mnemonic.Mnemonic.{Mnemonic}
+use Rattle.rv_statement.specs.Statement.{StatementKind, Label, Numbered, Instruction, Directs, Operand, Expression, Directive, Aligns_to_power, Aligns_to_bytes, Values, Strings, Zeros}
 use Rattle.rv_unit_laws.specs.Tables.{Tables, value, alignment_of, padding, string_bytes}
 use Rattle.rv_source_laws.specs.Located.{Located}
-use Rattle.rv_source_laws.specs.Program.{place_of, expressions}
-use Rattle.rv_source_laws.specs.Fits.{is_constant, constant_in, is_low}
-use Rattle.rv_source_laws.specs.Meaning.{expanded_said}
+use Rattle.rv_source_laws.specs.Program.{place_of, in_operand}
+use Rattle.rv_source_laws.specs.Fits.{is_low}
+use Rattle.rv_assemble_laws.specs.Written.{is_constant, constant_in, expanded}
 use Rattle.rv_assemble_laws.specs.Templates.{Template, templates, template_bytes}
 
 -- a statement of a source alone, the bytes before it in its section, its own bytes, and how many
@@ -66,10 +67,10 @@ end_of offset (s ∷ ss) = end_of (offset + s.bytes) ss
 -- ---- sizes
 
 -- the one valid instruction of a statement whose expressions are constants
-abbrev pub IsInstruction : (Expression → Value) → StatementKind → Inst → Type 0
-IsInstruction v kind i =
-    (list_all (λ e. is_constant (v e)) (expressions kind) ≡ true)
-    × (expanded_said (λ e. constant_in (v e)) kind 4 ≡ Some (i ∷ [])) × IsValid i
+abbrev pub IsInstruction : (Expression → Value) → Mnemonic → List Operand → Inst → Type 0
+IsInstruction v mnemonic operands i =
+    (list_all (λ e. is_constant (v e)) (flat_map in_operand operands) ≡ true)
+    × (expanded (λ e. constant_in (v e)) mnemonic operands ≡ Some (i ∷ [])) × IsValid i
 
 -- the section begins at a multiple of each alignment in it
 abbrev pub IsMultiple : Option ℕ → ℕ → Type 0
@@ -106,5 +107,5 @@ HasSize v s multiple (Label name) = (s.bytes ≡ 0) × (s.instructions ≡ 0)
 HasSize v s multiple (Numbered number) = (s.bytes ≡ 0) × (s.instructions ≡ 0)
 HasSize v s multiple (Instruction mnemonic operands) =
     (s.bytes ≡ 4) × (s.instructions ≡ 1)
-    × ((i : Inst) × IsInstruction v (Instruction mnemonic operands) i)
+    × ((i : Inst) × IsInstruction v mnemonic operands i)
 HasSize v s multiple (Directs directive) = DirectiveSize v s multiple directive

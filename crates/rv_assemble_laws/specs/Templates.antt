@@ -13,8 +13,7 @@ use Rattle.rv_text_laws.specs.Values.{Value, Constant, Symbolic, Difference, Fau
 use Rattle.rv_statement.specs.Statement.{StatementKind, Label, Numbered, Instruction, Directs, Expression}
 use Rattle.rv_unit_laws.specs.Contributions.{Contents, Numbers, Texts, Contribution, Nothing, Bytes, Zero_bytes, Alignment, contribution}
 use Rattle.rv_unit_laws.specs.Tables.{string_bytes}
-use Rattle.rv_source_laws.specs.Fits.{constant_in}
-use Rattle.rv_source_laws.specs.Meaning.{expanded}
+use Rattle.rv_assemble_laws.specs.Written.{constant_in, expanded}
 
 abbrev pub zeros : ℕ → List ℕ
 zeros count = replicate count 0

@@ -1,61 +1,41 @@
--- The base instruction that a mnemonic writes with its operands (RISC-V Unprivileged ISA 20191213,
--- chapter 24; GNU as, "RISC-V-Instructions", for operands that may be left out and for a constant
--- as second source).
+-- The base instruction that a mnemonic writes with its operands (RISC-V Unprivileged ISA 20191213, chapter 24; GNU as,
+-- "RISC-V-Instructions", for operands that may be left out and for a constant as second source): what can be placed so far.
 
-use Rattle.std.specs.Prelude.{ℕ, ℤ, pos, ◌-ℤ◌, ◌^◌, List, [], ◌∷◌, Option, Some, None, nat_lt, if◌then◌else◌}
-use Rattle.rv_isa.specs.declared.instruction.RType.{RType}
-use Rattle.rv_isa.specs.declared.instruction.IType.{IType}
-use Rattle.rv_isa.specs.declared.instruction.SType.{SType}
-use Rattle.rv_isa.specs.declared.instruction.UType.{UType}
-use Rattle.rv_isa.specs.declared.instruction.Shift.{Shift as ShiftOperands}
-use Rattle.rv_isa.specs.declared.instruction.Atomic.{Atomic as AtomicOperands}
-use Rattle.rv_isa.specs.declared.instruction.Reserve.{Reserve}
+use Rattle.std.specs.Prelude.{ℕ, pos, ◌+◌, ◌%◌, ◌^◌, Bool, true, false, List, [], ◌∷◌, Option, Some, None, nat_lt, if◌then◌else◌}
 use Rattle.rv_isa.specs.declared.instruction.Inst.{Inst}
 use Rattle.rv_isa.specs.declared.instruction.Inst.TheVariants as inst
 use Rattle.rv_isa.specs.Operations.{of_registers, of_immediate, of_shift, of_upper, of_load, of_store, of_reserve, of_atomic, access_bits, fence}
 use Rattle.rv_isa.specs.declared.operation.AccessSet.{AccessSet}
-use Rattle.rv_isa.specs.declared.operation.AtomicForm.{AtomicForm}
+use Rattle.rv_isa_laws.specs.Arithmetic.{signed}
+use Rattle.rv_text_laws.specs.Values as values
 use Rattle.rv_statement.specs.declared.mnemonic.Mnemonic.{Mnemonic}
-use Rattle.rv_statement.specs.declared.mnemonic.Mnemonic.TheVariants.{Registers, Immediate, Shift, Upper, Load, Store, Jalr, LoadReserved, Atomic, Fence, FenceTso, Ecall, Ebreak}
+use Rattle.rv_statement.specs.declared.mnemonic.Mnemonic.TheVariants.{Registers, Immediate, Shift, Upper, Load, Store, Jalr, LoadReserved, Atomic, Fence, FenceTso, Ecall, Ebreak, Li}
 use Rattle.rv_statement.specs.declared.pseudo.Function.{Function}
 use Rattle.rv_statement.specs.Statement.{Operand, Register, Value, Applied, Target, Accesses, Word, Quoted, Expression}
 use Rattle.rv_parse_laws.specs.Syntax.{with_constant}
+use Rattle.rv_pseudo_laws.specs.Li.{addi}
+use Rattle.rv_pseudo_laws.specs.Code.{r_type, i_type, s_type, u_type, shift_by, reserve, atomic, jalr}
 
--- a number below 2 ^ 64 taken as signed: 64-bit two's complement
-abbrev pub signed : ℕ → ℤ
-signed n = if nat_lt n (2 ^ 63) then pos n else pos n -ℤ pos (2 ^ 64)
+-- ---- constants
 
--- the operands of a format; a number is taken as signed where the format's is
-abbrev pub r_type : ℕ → ℕ → ℕ → RType
-r_type rd rs1 rs2 = record { rd = rd; rs1 = rs1; rs2 = rs2 }
+-- open operands are not built: an instruction's expressions are constants
+abbrev pub is_constant : values.Value → Bool
+is_constant (values.Constant n) = true
+is_constant _ = false
 
-abbrev pub i_type : ℕ → ℕ → ℕ → IType
-i_type rd rs1 number = record { immediate = signed number; rd = rd; rs1 = rs1 }
+-- the number of a constant
+abbrev pub constant_in : values.Value → ℕ
+constant_in (values.Constant n) = n
+constant_in _ = 0
 
-abbrev pub s_type : ℕ → ℕ → ℕ → SType
-s_type rs2 rs1 number = record { immediate = signed number; rs1 = rs1; rs2 = rs2 }
-
-abbrev pub u_type : ℕ → ℕ → UType
-u_type rd number = record { immediate = number; rd = rd }
-
-abbrev pub shift_by : ℕ → ℕ → ℕ → ShiftOperands
-shift_by rd rs1 amount = record { rd = rd; rs1 = rs1; amount = amount }
-
-abbrev pub reserve_type : AtomicForm → ℕ → ℕ → Reserve
-reserve_type form rd rs1 =
-    record { rd = rd; rs1 = rs1; acquire = form.acquire; release = form.release }
-
-abbrev pub atomic_type : AtomicForm → ℕ → ℕ → ℕ → AtomicOperands
-atomic_type form rd rs2 rs1 =
-    record { rd = rd; rs1 = rs1; rs2 = rs2; acquire = form.acquire; release = form.release }
+-- ---- operands
 
 -- an operand with the value of its expression
 pub data Argument : Type 0 where
   Of_register : (number : ℕ) → Argument
   Of_number : (number : ℕ) → Argument
   Of_accesses : (set : AccessSet) → Argument
-  -- the address of a target, and a part of a value: no base mnemonic takes them yet, so they write
-  -- no instruction
+  -- the address of a target, and a part of a value: they are not built
   Of_target : (address : ℕ) → Argument
   Of_part : (function : Function) (number : ℕ) → Argument
   -- a word or a string, which no instruction has
@@ -74,9 +54,12 @@ abbrev pub arguments : (Expression → ℕ) → List Operand → List Argument
 arguments v [] = []
 arguments v (o ∷ os) = argument v o ∷ arguments v os
 
+-- ---- instructions; a number is taken as signed where the format's is
+
 -- the form with a constant of an operation on registers
 abbrev pub by_constant : Option Mnemonic → ℕ → ℕ → ℕ → Option Inst
-by_constant (Some (Immediate operation)) rd rs1 k = Some (of_immediate operation (i_type rd rs1 k))
+by_constant (Some (Immediate operation)) rd rs1 k =
+    Some (of_immediate operation (i_type rd rs1 (signed 64 k)))
 by_constant (Some (Shift operation)) rd rs1 k = Some (of_shift operation (shift_by rd rs1 k))
 by_constant _ rd rs1 k = None
 
@@ -88,30 +71,30 @@ written (Registers operation) (Of_register rd ∷ Of_register rs1 ∷ Of_registe
 written (Registers operation) (Of_register rd ∷ Of_register rs1 ∷ Of_number k ∷ []) =
     by_constant (with_constant operation) rd rs1 k
 written (Immediate operation) (Of_register rd ∷ Of_register rs1 ∷ Of_number k ∷ []) =
-    Some (of_immediate operation (i_type rd rs1 k))
+    Some (of_immediate operation (i_type rd rs1 (signed 64 k)))
 written (Shift operation) (Of_register rd ∷ Of_register rs1 ∷ Of_number k ∷ []) =
     Some (of_shift operation (shift_by rd rs1 k))
 written (Upper operation) (Of_register rd ∷ Of_number k ∷ []) =
     Some (of_upper operation (u_type rd k))
 written (Load operation) (Of_register rd ∷ Of_number k ∷ Of_register rs1 ∷ []) =
-    Some (of_load operation (i_type rd rs1 k))
+    Some (of_load operation (i_type rd rs1 (signed 64 k)))
 written (Load operation) (Of_register rd ∷ Of_register rs1 ∷ []) =
-    Some (of_load operation (i_type rd rs1 0))
+    Some (of_load operation (i_type rd rs1 (pos 0)))
 written (Store operation) (Of_register rs2 ∷ Of_number k ∷ Of_register rs1 ∷ []) =
-    Some (of_store operation (s_type rs2 rs1 k))
+    Some (of_store operation (s_type rs2 rs1 (signed 64 k)))
 written (Store operation) (Of_register rs2 ∷ Of_register rs1 ∷ []) =
-    Some (of_store operation (s_type rs2 rs1 0))
+    Some (of_store operation (s_type rs2 rs1 (pos 0)))
 written Jalr (Of_register rd ∷ Of_number k ∷ Of_register rs1 ∷ []) =
-    Some (inst.Jalr (i_type rd rs1 k))
+    Some (jalr rd rs1 (signed 64 k))
 written Jalr (Of_register rd ∷ Of_register rs1 ∷ Of_number k ∷ []) =
-    Some (inst.Jalr (i_type rd rs1 k))
-written Jalr (Of_register rd ∷ Of_register rs1 ∷ []) = Some (inst.Jalr (i_type rd rs1 0))
-written Jalr (Of_number k ∷ Of_register rs1 ∷ []) = Some (inst.Jalr (i_type 1 rs1 k))
-written Jalr (Of_register rs1 ∷ []) = Some (inst.Jalr (i_type 1 rs1 0))
+    Some (jalr rd rs1 (signed 64 k))
+written Jalr (Of_register rd ∷ Of_register rs1 ∷ []) = Some (jalr rd rs1 (pos 0))
+written Jalr (Of_number k ∷ Of_register rs1 ∷ []) = Some (jalr 1 rs1 (signed 64 k))
+written Jalr (Of_register rs1 ∷ []) = Some (jalr 1 rs1 (pos 0))
 written (LoadReserved form) (Of_register rd ∷ Of_register rs1 ∷ []) =
-    Some (of_reserve form.double (reserve_type form rd rs1))
+    Some (of_reserve form.double (reserve form rd rs1))
 written (Atomic operation form) (Of_register rd ∷ Of_register rs2 ∷ Of_register rs1 ∷ []) =
-    Some (of_atomic operation form.double (atomic_type form rd rs2 rs1))
+    Some (of_atomic operation form.double (atomic form rd rs2 rs1))
 written Fence [] = Some (fence 0 15 15)
 written Fence (Of_accesses before ∷ Of_accesses after ∷ []) =
     Some (fence 0 (access_bits before) (access_bits after))
@@ -120,18 +103,14 @@ written Ecall [] = Some inst.Ecall
 written Ebreak [] = Some inst.Ebreak
 written mnemonic arguments = None
 
--- ---- what can be placed so far: base instructions, and `li` of twelve bits
-
--- `addi rd, rs1, k`
-abbrev pub add_immediate : ℕ → ℕ → ℕ → Inst
-add_immediate rd rs1 k = AddImmediate (record { immediate = signed k; rd = rd; rs1 = rs1 })
+-- ---- base instructions, and `li` of twelve bits
 
 -- whether a number fits 12 signed bits
 abbrev pub fits_12 : ℕ → Option ℕ
 fits_12 k = if nat_lt ((k + 2 ^ 11) % 2 ^ 64) (2 ^ 12) then Some k else None
 
 abbrev pub add_zero : ℕ → Option ℕ → Option (List Inst)
-add_zero rd (Some k) = Some (add_immediate rd 0 k ∷ [])
+add_zero rd (Some k) = Some (addi rd 0 (signed 64 k) ∷ [])
 add_zero rd None = None
 
 abbrev pub alone : Option Inst → Option (List Inst)
