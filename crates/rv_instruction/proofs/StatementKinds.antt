@@ -16,7 +16,7 @@ use Rattle.rv_statement.specs.declared.statement.Plain.TheVariants as plains
 use Rattle.rv_unit_laws.specs.Faults.{lowest}
 use Rattle.rv_assemble_laws.specs.InstructionFaults.{else_unplaced}
 use Rattle.rv_assemble_laws.specs.Refusals.{code_faults, code_size}
-use Rattle.rv_source_laws.specs.Fits.{constant_in}
+use Rattle.rv_assemble_laws.specs.Written.{constant_in}
 use Rattle.rv_unit_laws.specs.Options.{Options}
 use Rattle.rv_instruction.specs.Code.{instruction_by, numbered, scratch_of, value_faults, function_faults, IsBuilt}
 use Rattle.rv_instruction.proofs.Unplaced.{nowhere}

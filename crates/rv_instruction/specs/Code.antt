@@ -2,9 +2,9 @@
 
 use Rattle.std.specs.Prelude.{◌≡◌, ℕ, Bool, true, false, ◌||◌, ◌==◌, List, [], ◌∷◌, ◌++◌, Option, Some, None, Result, Ok, Err, is_some, if◌then◌else◌}
 use Rattle.rv_isa.specs.declared.instruction.Inst.{Inst}
-use Rattle.rv_isa.specs.declared.instruction.Inst.TheVariants.{Jalr}
 use Rattle.rv_isa.specs.Operations.{of_immediate, of_shift, of_upper, of_load, of_store}
 use Rattle.rv_isa.specs.Ranges.{IsValid}
+use Rattle.rv_isa_laws.specs.Arithmetic.{signed}
 use Rattle.rv_text_laws.specs.Codes.{scratch_register}
 use Rattle.rv_text_laws.specs.Expression.{Primary}
 use Rattle.rv_text_laws.specs.Values as values
@@ -23,9 +23,8 @@ use Rattle.rv_statement.specs.Statement.{StatementKind, Instruction, Expression,
 use Rattle.rv_parse_laws.specs.Syntax.{with_constant}
 use Rattle.rv_unit_laws.specs.Faults.{faulty_if, lowest, constant_faults}
 use Rattle.rv_unit_laws.specs.Options.{Options}
-use Rattle.rv_source_laws.specs.Fits.{constant_in}
-use Rattle.rv_source_laws.specs.Written.{i_type, s_type, u_type, shift_by, by_constant}
-use Rattle.rv_source_laws.specs.Meaning.{add_zero, alone, fits_12, expanded}
+use Rattle.rv_pseudo_laws.specs.Code.{i_type, s_type, u_type, shift_by, jalr}
+use Rattle.rv_assemble_laws.specs.Written.{constant_in, by_constant, add_zero, alone, fits_12, expanded}
 use Rattle.rv_assemble_laws.specs.Templates.{words}
 use Rattle.rv_assemble_laws.specs.InstructionFaults.{range_faults, number_faults, target_faults, upper_faults, low_faults, distance_faults, else_unplaced}
 use Rattle.rv_assemble_laws.specs.Refusals.{code_faults, code_size}
@@ -85,14 +84,16 @@ abbrev pub numbered : Operation → ℕ → Option (List Inst)
 numbered (operations.Registers operation rd rs1) k =
     alone (by_constant (with_constant operation) rd rs1 k)
 numbered (operations.Immediate operation rd rs1) k =
-    Some (of_immediate operation (i_type rd rs1 k) ∷ [])
+    Some (of_immediate operation (i_type rd rs1 (signed 64 k)) ∷ [])
 numbered (operations.Shift operation rd rs1) k = Some (of_shift operation (shift_by rd rs1 k) ∷ [])
 numbered (operations.Upper operation rd) k = Some (of_upper operation (u_type rd k) ∷ [])
-numbered (operations.Load operation rd rs1) k = Some (of_load operation (i_type rd rs1 k) ∷ [])
-numbered (operations.Store operation rs2 rs1) k = Some (of_store operation (s_type rs2 rs1 k) ∷ [])
-numbered (operations.Jalr rd rs1) k = Some (Jalr (i_type rd rs1 k) ∷ [])
-numbered (operations.JalrThen rd rs1) k = Some (Jalr (i_type rd rs1 k) ∷ [])
-numbered (operations.JalrLinked rs1) k = Some (Jalr (i_type 1 rs1 k) ∷ [])
+numbered (operations.Load operation rd rs1) k =
+    Some (of_load operation (i_type rd rs1 (signed 64 k)) ∷ [])
+numbered (operations.Store operation rs2 rs1) k =
+    Some (of_store operation (s_type rs2 rs1 (signed 64 k)) ∷ [])
+numbered (operations.Jalr rd rs1) k = Some (jalr rd rs1 (signed 64 k) ∷ [])
+numbered (operations.JalrThen rd rs1) k = Some (jalr rd rs1 (signed 64 k) ∷ [])
+numbered (operations.JalrLinked rs1) k = Some (jalr 1 rs1 (signed 64 k) ∷ [])
 numbered (operations.Li rd) k = add_zero rd (fits_12 k)
 numbered _ k = None
 

@@ -2,9 +2,9 @@
 
 ghost use Rattle.std.specs.Prelude.{◌≡◌, ℕ, Bool, true, false, not, ◌&&◌, List, [], ◌∷◌, Option, Some, is_some, option_map, IfOk, IfSome, MatchResult};
 ghost use Rattle.rv_isa.specs.declared.instruction.Inst.{Inst as Instruction};
-ghost use Rattle.rv_isa.specs.declared.instruction.Inst.TheVariants.{Jalr};
 ghost use Rattle.rv_isa.specs.Operations.{of_immediate, of_load, of_store};
 ghost use Rattle.rv_isa.specs.Ranges.{IsValid, IsSigned12};
+ghost use Rattle.rv_isa_laws.specs.Arithmetic.{signed};
 ghost use Rattle.rv_text_laws.specs.Codes.{immediate_range};
 ghost use Rattle.rv_text_laws.specs.Expression.{Primary};
 ghost use Rattle.rv_text_laws.specs.Values as values;
@@ -18,9 +18,9 @@ ghost use Rattle.rv_parse_laws.specs.Syntax as syntax;
 ghost use Rattle.rv_unit_laws.specs.Faults.{faulty_if};
 ghost use Rattle.rv_unit_laws.specs.Options.{Options};
 ghost use Rattle.rv_unit.specs.Unit.{IsFilled, IsScope};
-ghost use Rattle.rv_source_laws.specs.Fits.{constant_in, is_low};
-ghost use Rattle.rv_source_laws.specs.Written as laws;
-ghost use Rattle.rv_source_laws.specs.Meaning.{fits_12};
+ghost use Rattle.rv_pseudo_laws.specs.Code as laws;
+ghost use Rattle.rv_source_laws.specs.Fits.{is_low};
+ghost use Rattle.rv_assemble_laws.specs.Written.{constant_in, by_constant, fits_12};
 ghost use Rattle.rv_assemble_laws.specs.InstructionFaults.{form_takes, else_unplaced};
 ghost use Rattle.rv_assemble_laws.specs.Refusals.{padding_faults, code_faults, code_size};
 ghost use Rattle.rv_instruction.specs.Code.{code_said};
@@ -39,7 +39,7 @@ use rv_unit::{Scope, SectionOffset, byte_alignment, power_alignment};
 
 /// The immediate of 12 bits that a number is, or why it is none.
 fn immediate(number: u64) -> Result<i32, SourceCode>
-    ensures { MatchResult result (λ i. (is_some (fits_12 number) ≡ true) × (i ≡ laws.signed number)
+    ensures { MatchResult result (λ i. (is_some (fits_12 number) ≡ true) × (i ≡ signed 64 number)
         × IsSigned12 i) (λ code. (is_some (fits_12 number) ≡ false) × (code ≡ ImmediateRange)) }
 {
     match immediate_of(number) {
@@ -108,7 +108,7 @@ fn with_immediate(
     number: u64,
 ) -> Result<Inst, SourceCode>
     ensures { InRange (is_some (fits_12 number))
-        (Some (of_immediate operation (laws.i_type rd rs1 number))) result }
+        (Some (of_immediate operation (laws.i_type rd rs1 (signed 64 number)))) result }
 {
     let immediate = immediate(number)?;
     Ok(operation.instruction(IType { immediate, rd, rs1 }))
@@ -122,7 +122,7 @@ fn with_constant(
     number: u64,
 ) -> Result<Inst, SourceCode>
     ensures { InRange (form_takes (syntax.with_constant operation) number)
-        (laws.by_constant (syntax.with_constant operation) rd rs1 number) result }
+        (by_constant (syntax.with_constant operation) rd rs1 number) result }
 {
     match operation {
         RegisterOperation::Add => with_immediate(ImmediateOperation::Addi, rd, rs1, number),
@@ -146,7 +146,7 @@ fn with_constant(
 /// A load at a number from a register.
 fn load(operation: LoadOperation, rd: Reg, rs1: Reg, number: u64) -> Result<Inst, SourceCode>
     ensures { InRange (is_some (fits_12 number))
-        (Some (of_load operation (laws.i_type rd rs1 number))) result }
+        (Some (of_load operation (laws.i_type rd rs1 (signed 64 number)))) result }
 {
     let immediate = immediate(number)?;
     Ok(operation.instruction(IType { immediate, rd, rs1 }))
@@ -155,7 +155,7 @@ fn load(operation: LoadOperation, rd: Reg, rs1: Reg, number: u64) -> Result<Inst
 /// A store at a number from a register.
 fn store(operation: StoreOperation, rs2: Reg, rs1: Reg, number: u64) -> Result<Inst, SourceCode>
     ensures { InRange (is_some (fits_12 number))
-        (Some (of_store operation (laws.s_type rs2 rs1 number))) result }
+        (Some (of_store operation (laws.s_type rs2 rs1 (signed 64 number)))) result }
 {
     let immediate = immediate(number)?;
     Ok(operation.instruction(SType {
@@ -167,7 +167,8 @@ fn store(operation: StoreOperation, rs2: Reg, rs1: Reg, number: u64) -> Result<I
 
 /// A jump to a number from a register.
 fn jalr(rd: Reg, rs1: Reg, number: u64) -> Result<Inst, SourceCode>
-    ensures { InRange (is_some (fits_12 number)) (Some (Jalr (laws.i_type rd rs1 number))) result }
+    ensures { InRange (is_some (fits_12 number))
+        (Some (laws.jalr rd rs1 (signed 64 number))) result }
 {
     let immediate = immediate(number)?;
     Ok(Inst::Jalr(IType { immediate, rd, rs1 }))

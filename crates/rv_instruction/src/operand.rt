@@ -2,6 +2,7 @@
 
 ghost use Rattle.std.specs.Prelude.{◌≡◌, ℕ, ◌+◌, ◌^◌, ◌==◌, Bool, false, not, nat_lt, List, ◌++◌, Some, None, is_some, MatchOption};
 ghost use Rattle.rv_isa.specs.Ranges.{IsSigned12};
+ghost use Rattle.rv_isa_laws.specs.Arithmetic.{signed};
 ghost use Rattle.rv_text_laws.specs.Codes.{scratch_register, immediate_range};
 ghost use Rattle.rv_text_laws.specs.Expression.{Primary};
 ghost use Rattle.rv_text_laws.specs.Values as values;
@@ -10,10 +11,9 @@ ghost use Rattle.rv_text.specs.Nodes.{symbol_of};
 ghost use Rattle.rv_parse_laws.specs.Syntax as syntax;
 ghost use Rattle.rv_unit_laws.specs.Faults as faults;
 ghost use Rattle.rv_unit_laws.specs.Tables.{tables, definition};
-ghost use Rattle.rv_source_laws.specs.Meaning.{fits_12};
-ghost use Rattle.rv_source_laws.specs.Written.{signed};
 ghost use Rattle.rv_unit.specs.Faults.{IsLowest, ForValue};
 ghost use Rattle.rv_unit.specs.Unit.{said, IsFilled, IsScope};
+ghost use Rattle.rv_assemble_laws.specs.Written.{fits_12};
 ghost use Rattle.rv_assemble_laws.specs.InstructionFaults as laws;
 ghost use Rattle.rv_instruction.specs.Code.{mnemonic_of, takes_target, scratch_of, function_faults};
 ghost use Rattle.rv_instruction.specs.Scoped.{labels_at};
@@ -137,7 +137,7 @@ fn else_unplaced(found: Option<SourceCode>) -> SourceCode
 /// The immediate of 12 bits that a number is, taken as signed.
 pub(crate) fn immediate_of(number: u64) -> Option<i32>
     ensures { MatchOption result (fits_12 number ≡ None)
-        (λ i. (fits_12 number ≡ Some number) × (i ≡ signed number) × IsSigned12 i) }
+        (λ i. (fits_12 number ≡ Some number) × (i ≡ signed 64 number) × IsSigned12 i) }
 {
     let above = number.wrapping_add(2048);
     if above < 4096 {

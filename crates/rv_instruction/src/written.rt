@@ -3,7 +3,7 @@
 ghost use Rattle.std.specs.Prelude.{◌≡◌, ◌^◌, Some, nat_lt};
 ghost use Rattle.rv_isa.specs.Operations.{of_shift, of_upper, of_reserve, of_atomic};
 ghost use Rattle.rv_isa.specs.Ranges.{IsValid, shift_limit};
-ghost use Rattle.rv_source_laws.specs.Written as laws;
+ghost use Rattle.rv_pseudo_laws.specs.Code as laws;
 ghost use Rattle.rv_instruction.specs.Code.{InRange};
 
 use rv_isa::{
@@ -43,7 +43,7 @@ pub(crate) fn upper(operation: UpperOperation, rd: Reg, number: u64) -> Result<I
 
 /// A load-reserved of four or eight bytes.
 pub(crate) fn load_reserved(form: AtomicForm, rd: Reg, rs1: Reg) -> Inst
-    ensures { (result ≡ of_reserve form.double (laws.reserve_type form rd rs1)) × IsValid result }
+    ensures { (result ≡ of_reserve form.double (laws.reserve form rd rs1)) × IsValid result }
 {
     let AtomicForm {
         double,
@@ -67,7 +67,7 @@ pub(crate) fn atomic(
     rs2: Reg,
     rs1: Reg,
 ) -> Inst
-    ensures { (result ≡ of_atomic operation form.double (laws.atomic_type form rd rs2 rs1))
+    ensures { (result ≡ of_atomic operation form.double (laws.atomic form rd rs2 rs1))
         × IsValid result }
 {
     let AtomicForm {

@@ -4,7 +4,7 @@ use Rattle.rv_lexer.specs.Fault.{number_of}
 use Rattle.rv_statement.specs.View.{statement_of, statement_kind, plain_of}
 use Rattle.rv_assemble_laws.specs.Refusals.{padding_faults, code_faults, code_size}
 use Rattle.rv_instruction.specs.Code.{code_said}
-use Rattle.rv_source_laws.specs.Fits.{constant_in}
+use Rattle.rv_assemble_laws.specs.Written.{constant_in}
 use Rattle.rv_instruction.specs.Code.{instruction_by, numbered, value_faults}
 use Rattle.rv_instruction.specs.Scoped.{values_at, labels_at}
 use Rattle.rv_instruction.proofs.StatementKinds.{plain_built, plain_size, with_built, with_size, function_wrong}
