@@ -13,12 +13,11 @@ use Rattle.rv_lexer.specs.declared.fault.SourceFault.TheVariants.{At, OutOfMemor
 use Rattle.rv_statement.specs.declared.mnemonic.Mnemonic.{Mnemonic}
 use Rattle.rv_statement.specs.Statement.{StatementKind, Label, Numbered, Instruction, Directs, Expression, Statement, Operand, Register, Value as Of_value, Applied, Target, Accesses, Word, Quoted}
 use Rattle.rv_assemble_laws.specs.Templates.{words}
-use Rattle.rv_source_laws.specs.Fits.{constant_in, is_constant}
 use Rattle.rv_assemble_laws.specs.InstructionFaults.{number_faults, operand_faults, scratch_faults, own_faults, is_simple, is_built}
 use Rattle.rv_assemble_laws.specs.Refusals.{code_faults, code_size}
 use Rattle.rv_unit_laws.specs.Options.{Options}
-use Rattle.rv_source_laws.specs.Meaning.{expanded}
 use Rattle.rv_source_laws.specs.Program.{in_operand}
+use Rattle.rv_assemble_laws.specs.Written.{constant_in, is_constant, expanded}
 use Rattle.rv_assemble_laws.proofs.Held.{none_left}
 use Rattle.rv_instruction.specs.Code.{code_said}
 use Rattle.rv_instruction.specs.Code.{Codes, instruction_by}

@@ -11,9 +11,8 @@ use Rattle.rv_unit_laws.specs.Contributions.{contribution}
 use Rattle.rv_unit_laws.specs.Sections.{Section, is_nobits, current_section}
 use Rattle.rv_unit_laws.specs.Tables.{Tables, at_start, here, value, alignment_of, string_bytes, after, tables, stood, opened_of, alignments_of}
 use Rattle.rv_unit_laws.specs.Faults.{faulty_if, value_faults, past_section, faults, first_fault}
-use Rattle.rv_source_laws.specs.Fits.{constant_in}
 use Rattle.rv_source_laws.specs.Located.{Located, located_now, located_from, contributes, is_placed}
-use Rattle.rv_source_laws.specs.Meaning.{expanded}
+use Rattle.rv_assemble_laws.specs.Written.{constant_in, expanded}
 use Rattle.rv_assemble_laws.specs.Templates.{Datum, Fixed, words, zeros, value_bytes, templates, HasField, IsWide, IsWidth, IsTemplate}
 use Rattle.rv_assemble_laws.specs.Sites.{Site, Part, form, part_of, part_bytes, parts_of, IsPaddedIn, HasSize}
 use Rattle.rv_assemble_laws.specs.Fields.{fields_from, fields_at}

@@ -11,7 +11,8 @@ use Rattle.rv_unit_laws.specs.Sections.{Section, is_nobits, current_section}
 use Rattle.rv_unit_laws.specs.Tables.{Tables, here, value, aligned, alignment_of, power_alignment, byte_alignment, counted, or_none, within, padding, data_bytes, string_bytes, longest_section, after, opened_of, ends_of}
 use Rattle.rv_unit_laws.specs.Faults.{faulty_if, size_faults, power_faults, bytes_faults, value_faults, code_alignment_faults, past_section, alignment_faults, directive_faults, faults}
 use Rattle.rv_unit_laws.proofs.Grown.{BeginsAt, puts, end_behind}
-use Rattle.rv_source_laws.specs.Fits.{is_constant, is_low}
+use Rattle.rv_source_laws.specs.Fits.{is_low}
+use Rattle.rv_assemble_laws.specs.Written.{is_constant}
 use Rattle.rv_assemble_laws.specs.Refusals.{code_size}
 use Rattle.rv_source_laws.specs.Located.{is_placed, is_placed_directive}
 use Rattle.rv_assemble_laws.proofs.Held.{none_left, no_test}

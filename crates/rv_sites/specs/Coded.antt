@@ -13,7 +13,7 @@ use Rattle.rv_sites.specs.Code.{value_at}
 -- an instruction of a statement is one that is valid, by constants
 abbrev pub IsCoded : (Expression → Value) → StatementKind → Type 0
 IsCoded v (Instruction mnemonic operands) =
-    (i : Inst) × IsInstruction v (Instruction mnemonic operands) i
+    (i : Inst) × IsInstruction v mnemonic operands i
 IsCoded v _ = ⊤
 
 abbrev pub AreCoded : List Statement → Type 0

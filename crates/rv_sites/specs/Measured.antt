@@ -6,7 +6,8 @@ use Rattle.rv_statement.specs.Statement.{StatementKind, Label, Numbered, Instruc
 use Rattle.rv_unit_laws.specs.Tables.{alignment_of, padding, string_bytes, longest_section}
 use Rattle.rv_tables.specs.declared.section.Extent.{Extent}
 use Rattle.rv_tables.specs.Sections.{extent_section}
-use Rattle.rv_source_laws.specs.Fits.{is_constant, is_low}
+use Rattle.rv_source_laws.specs.Fits.{is_low}
+use Rattle.rv_assemble_laws.specs.Written.{is_constant}
 use Rattle.rv_sites.specs.declared.item.Item.{Item}
 use Rattle.rv_assemble_laws.specs.Sites.{IsMultiple}
 use Rattle.rv_sites.specs.Sized.{IsPadded, IsAligned, IsSized, IsSizedDirective}

@@ -5,7 +5,8 @@ use Rattle.rv_text_laws.specs.Values.{Value, Constant}
 use Rattle.rv_statement.specs.Statement.{StatementKind, Label, Numbered, Instruction, Directs, Statement, Expression, Directive, Sets, Aligns_to_power, Aligns_to_bytes, Values, Strings, Zeros}
 use Rattle.rv_unit_laws.specs.Tables.{Tables, after, alignment_of, padding, string_bytes, alignment_at}
 use Rattle.rv_source_laws.specs.Located.{located_now}
-use Rattle.rv_source_laws.specs.Fits.{is_constant, is_low}
+use Rattle.rv_source_laws.specs.Fits.{is_low}
+use Rattle.rv_assemble_laws.specs.Written.{is_constant}
 use Rattle.rv_sites.specs.declared.item.Item.{Item}
 use Rattle.rv_assemble_laws.specs.Sites.{IsMultiple}
 use Rattle.rv_sites.specs.Code.{value_at}
