@@ -21,7 +21,6 @@ use Rattle.rv_object.specs.Object.{Symbol, Object}
 use Rattle.rv_object_laws.specs.Inputs.{Starts}
 use Rattle.rv_object_laws.specs.Names as objects
 use Rattle.rv_object_laws.specs.Names.{exported, defined_address, is_in_text, can_begin, entry_by}
-use Rattle.rv_assemble_laws.proofs.Faultless.{no_first_fault}
 use Rattle.rv_assemble_laws.specs.Sites.{Site}
 use Rattle.rv_assemble_laws.specs.Symbols.{site_at, after_found, assigned_definition, site_definition, global_symbol, exports_of}
 use Rattle.rv_assemble_laws.specs.IsObjectOf.{IsObjectOf, IsInData, StandsInData}
@@ -85,7 +84,7 @@ module _ (sources : List (List Statement)) (p : Program) (starts : Starts) (file
   found_aside : (a : Option Site) (ordinal plus : ℕ) → site_at is.sites ordinal ≡ a → IsInData a → can_begin o (after_found a plus) ≡ false
   found_aside None ordinal plus e h = refl
   found_aside (Some s) ordinal plus e (aside, placed) =
-      let here = all_found (IsSettled sections) (λ s. s.located.ordinal == ordinal) is.sites (settled ss is.sites (no_first_fault ss is.good) is.located) s e in
+      let here = all_found (IsSettled sections) (λ s. s.located.ordinal == ordinal) is.sites (settled ss is.sites is.good is.located) s e in
       ap (λ b. b && (add s.offset plus % 2 == 0)) (text_is s here ∙ ap (λ b. s.located.home.loaded && b) aside ∙ never s.located.home.loaded)
     where
       never : (b : Bool) → (b && false) ≡ false
@@ -238,7 +237,7 @@ entry_is sources p starts file [] (o ∷ os) h f n r = absurd h
 entry_is sources p starts file (ss ∷ srcs) [] h f n r = absurd h
 entry_is sources p starts file (ss ∷ srcs) (o ∷ os) (is, h) (f, fs) (n, ns) r =
     let rows = split IsRow (rows_from starts file is.sites) (all_rows starts (suc file) srcs os h) r in
-    file_entry sources p starts file ss o is f n is.sites (all_statements starts (suc file) srcs os h) (settled ss is.sites (no_first_fault ss is.good) is.located) (low_rows starts file is.sites rows.0) (evens ss o is)
+    file_entry sources p starts file ss o is f n is.sites (all_statements starts (suc file) srcs os h) (settled ss is.sites is.good is.located) (low_rows starts file is.sites rows.0) (evens ss o is)
     ∙ ap (λ xs. entry_by (option_and_then (λ s. defined_address (starts file) o s.definition) (find (objects.begins_run o) xs))
     (source.starts_at (find (λ e. source.begins_run sources e.located) (all_statements starts (suc file) srcs os h)))) (sym (exported_are ss o is))
     ∙ ap (entry_by (option_and_then (λ s. defined_address (starts file) o s.definition) (find (objects.begins_run o) (exported o)))) (entry_is sources p starts (suc file) srcs os h fs ns rows.1)

@@ -10,7 +10,6 @@ use Rattle.rv_unit_laws.specs.Sections.{Section as SourceSection, goes_to_text}
 use Rattle.rv_unit_laws.specs.Tables.{Tables, tables, alignment_of, opened_of}
 use Rattle.rv_chain_laws.proofs.Held.{IsHeld}
 use Rattle.rv_object.specs.Object.{Object}
-use Rattle.rv_assemble_laws.proofs.Faultless.{no_first_fault}
 use Rattle.rv_assemble_laws.specs.Sites.{Site, IsPaddedIn, form, part_of, part_bytes, parts_of, sites_in, Tile, HasSize}
 use Rattle.rv_assemble_laws.specs.IsObjectOf.{IsSectionOf, IsObjectOf}
 use Rattle.rv_boundary_laws.proofs.Settled.{IsSettled, settled, IsSiteIn, sites_are_in}
@@ -88,7 +87,7 @@ module _ (ss : List Statement) (o : Object) (is : IsObjectOf ss o) where
   sections = (opened_of (tables ss)).sections
 
   all_settled : AllByRecursion (IsSettled sections) is.sites
-  all_settled = settled ss is.sites (no_first_fault ss is.good) is.located
+  all_settled = settled ss is.sites is.good is.located
 
   section_even : (index : ℕ) (section : SourceSection) → slice_get sections index ≡ Some section → AllByRecursion IsEven (sites_in index is.sites)
   section_even index section at = go (goes_to_text section) refl

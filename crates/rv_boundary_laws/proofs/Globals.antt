@@ -21,7 +21,6 @@ use Rattle.rv_object.specs.Object.{Symbol, Object}
 use Rattle.rv_object_laws.specs.Inputs.{Starts}
 use Rattle.rv_object_laws.specs.Names as objects
 use Rattle.rv_object_laws.specs.Names.{exported, defined_address, offset_address}
-use Rattle.rv_assemble_laws.proofs.Faultless.{no_first_fault}
 use Rattle.rv_assemble_laws.specs.Sites.{Site}
 use Rattle.rv_assemble_laws.specs.Symbols.{site_at, after_found, assigned_definition, site_definition, global_symbol, exports_of}
 use Rattle.rv_assemble_laws.specs.IsObjectOf.{IsObjectOf, IsInData, StandsInData}
@@ -63,7 +62,7 @@ module _ (p : Program) (starts : Starts) (file : ℕ) (ss : List Statement) (o :
   sections = (opened_of (tables ss)).sections
 
   all_settled : AllByRecursion (IsSettled sections) is.sites
-  all_settled = settled ss is.sites (no_first_fault ss is.good) is.located
+  all_settled = settled ss is.sites is.good is.located
 
   -- a label
   pub label_address : (s : Site) → IsSettled sections s → s.located.placed ≡ true → IsLow starts file s

@@ -20,7 +20,7 @@ use Rattle.rv_source_laws.specs.Fits.{SizeFits}
 use Rattle.rv_source_laws.specs.Resolves.{Resolves}
 use Rattle.rv_source_laws.specs.Start.{spelled}
 use Rattle.rv_image.specs.Linked.{Linked}
-use Rattle.rv_chain_laws.specs.Contents.{IsWritten, IsLinked, code_bytes, contents as source_contents}
+use Rattle.rv_chain_laws.specs.Contents.{IsWritten, IsLinked, contents as source_contents}
 use Rattle.rv_chain_laws.proofs.Homes.{IsAtHome, homes, from_blocks, sections_in}
 use Rattle.rv_chain_laws.proofs.Regions.{AllIn}
 use Rattle.rv_object.specs.Object.{Section, Object}
@@ -36,6 +36,7 @@ use Rattle.rv_boundary_laws.proofs.Patches.{written}
 use Rattle.rv_boundary_laws.proofs.Statements.{AreObjectsOf, renumbered, renumbers, row_in, rows_from, mapped_at, all_rows}
 use Rattle.rv_boundary_laws.proofs.Settled.{settled}
 use Rattle.rv_boundary_laws.proofs.Sections.{meant_in, split}
+use Rattle.rv_boundary_laws.proofs.Fitting.{code_bytes}
 use Rattle.rv_boundary_laws.proofs.Placed.{IsFit}
 use Rattle.rv_boundary_laws.proofs.Regions.{AreGood, IsRegion, region, greatest_same, good_join, good_file}
 use Rattle.rv_boundary_laws.proofs.Files.{plain_of, AreFiles, files, rows_ours}
@@ -154,31 +155,6 @@ good_all [] (o ∷ os) h = absurd h
 good_all (ss ∷ sources) [] h = absurd h
 good_all (ss ∷ sources) (o ∷ os) (is, h) = (no_first_fault ss is.good, good_all sources os h)
 
--- ---- no gap stands between sections of code
-
-even_size : (bs : List Mapped) (p : Program) → AllByRecursion (λ m. SizeFits p m × IsWritten p m) bs → source.size (map (λ s. s.row) bs) % 2 ≡ 0
-even_size [] p h = refl
-even_size (b ∷ bs) p ((fits, (is, at, four)), hs) =
-    let c : source.size (b.row ∷ map (λ s. s.row) bs) ≡ b.row.bytes + source.size (map (λ s. s.row) bs) = sum_by-cons (λ r. r.bytes) b.row (map (λ s. s.row) bs) in
-    let ih = even_size bs p hs in
-    let n = length is in
-    ap (λ n. n % 2) c ∙ (let e : (b.row.bytes + source.size (map (λ s. s.row) bs)) % 2 ≡ 0 = omega (arith, four, ih) in e)
-
-module _ (p : Program) (all : List Object) (starts : Starts) (spells : Mapped → List ℕ) where
-  no_gaps : (stop : ℕ) → stop % 2 ≡ 0 → (is : List InputSection) (bs : List source.InputSection) → AreGood p all starts spells true true (λ m. SizeFits p m × IsWritten p m) is bs
-      → AllIn (λ m. SizeFits p m × IsWritten p m) bs → source.gaps_of stop bs ≡ []
-  no_gaps stop even [] [] h k = refl
-  no_gaps stop even [] (b ∷ bs) h k = absurd h
-  no_gaps stop even (i ∷ is) [] h k = absurd h
-  no_gaps stop even (i ∷ is) (b ∷ bs) (h, hs) (k, ks) =
-      let count = source.size (source.rows_of b) in
-      let full : count % 2 ≡ 0 = even_size b.mapped p k in
-      let same : aligned b.alignment stop ≡ stop = ap (λ n. aligned n stop) (h.low refl) ∙ (let e : aligned 2 stop ≡ stop = omega (arith, even) in e) in
-      let fits : nat_lt stop stop ≡ false = grind (arith, nat_tests) in
-      ap (λ a. if nat_lt stop a then record { start = stop; end = a } ∷ source.gaps_of (a + count) bs else source.gaps_of (a + count) bs) same
-      ∙ ap (λ b'. if b' then record { start = stop; end = stop } ∷ source.gaps_of (stop + count) bs else source.gaps_of (stop + count) bs) fits
-      ∙ no_gaps (stop + count) (omega (arith, even, full)) is bs hs ks
-
 -- ---- all regions
 
 module _ (sources : List (List Statement)) (os : List Object) (text_start : ℕ) (l : Linked) (h : AreObjectsOf sources os) (link : IsLinkOf os text_start l) where
@@ -191,7 +167,7 @@ module _ (sources : List (List Statement)) (os : List Object) (text_start : ℕ)
   abbrev Q : InputSection → Type 0
   Q i = AllByRecursion (IsRelocated l.map.globals starts os i) i.section.relocations
 
-  module _ (spells : Mapped → List ℕ) (stores two : Bool) (P : Mapped → Type 0) (goes : Section → Bool) (goes_source : SourceSection → Bool)
+  module _ (spells : Mapped → List ℕ) (stores : Bool) (P : Mapped → Type 0) (goes : Section → Bool) (goes_source : SourceSection → Bool)
       (loads : (s : SourceSection) → goes_source s ≡ true → s.loaded ≡ true)
       (same_by : (t : Tables) (sites : List Site) (number : Numbering) (o : Object) (index : ℕ) (s : SourceSection) (x : Section)
       → IsSectionOf t sites number o.symbols index s (sites_in index sites) x → goes x ≡ goes_source s)
@@ -199,10 +175,9 @@ module _ (sources : List (List Statement)) (os : List Object) (text_start : ℕ)
       → IsSectionOf t sites number o.symbols index s (sites_in index sites) x → goes_source s ≡ true → stores ≡ true → initial_bytes x.contents ≡ flat_map part_bytes (parts t (sites_in index sites)))
       (spell : (file : ℕ) (s : SourceSection) (z : Site) → goes_source s ≡ true → z.located.home ≡ s → IsFit p starts file z
       → spells (mapped_at starts file z) ≡ flat_map (written (meant_in p file)) (parts_of (tables_in p file) z))
-      (fitted : (file : ℕ) (s : SourceSection) (z : Site) → goes_source s ≡ true → z.located.home ≡ s → IsFit p starts file z → P (mapped_at starts file z))
-      (codes : two ≡ true → (s : SourceSection) → goes_source s ≡ true → (s.loaded && s.executable) ≡ true) where
+      (fitted : (file : ℕ) (s : SourceSection) (z : Site) → goes_source s ≡ true → z.located.home ≡ s → IsFit p starts file z → P (mapped_at starts file z)) where
     good_files : (file : ℕ) (srcs : List (List Statement)) (us : List Object) (k : AreObjectsOf srcs us) → AreFiles p starts file srcs us k → AllByRecursion Q (inputs_of is_loaded file us)
-        → AreGood p os starts spells stores two P (inputs_of goes file us) (source.input_sections_of goes_source p.mapped file srcs)
+        → AreGood p os starts spells stores P (inputs_of goes file us) (source.input_sections_of goes_source p.mapped file srcs)
     good_files file [] [] k f r = tt
     good_files file [] (o ∷ us) k f r = absurd k
     good_files file (ss ∷ srcs) [] k f r = absurd k
@@ -210,14 +185,14 @@ module _ (sources : List (List Statement)) (os : List Object) (text_start : ℕ)
         let sections = (opened_of (tables ss)).sections in
         let both = split Q (inputs_from is_loaded file o 0 o.sections) (inputs_of is_loaded (suc file) us) r in
         let are = subst (λ t. AreSectionsOf t is.sites is.number o.symbols 0 sections o.sections) (sym f.tables) is.sections in
-        let own = good_file p os starts spells stores two P goes goes_source loads same_by holds spell fitted codes file is.sites is.number o sections
-        link.readable.globals are (settled ss is.sites (no_first_fault ss is.good) is.located) (plain_of ss o is) f.address f.mapped both.0 in
-        good_join p os starts spells stores two P (inputs_from goes file o 0 o.sections) (inputs_of goes (suc file) us)
+        let own = good_file p os starts spells stores P goes goes_source loads same_by holds spell fitted file is.sites is.number o sections
+        link.readable.globals are (settled ss is.sites is.good is.located) (plain_of ss o is) f.address f.mapped both.0 in
+        good_join p os starts spells stores P (inputs_from goes file o 0 o.sections) (inputs_of goes (suc file) us)
         (source.input_sections_of_file goes_source (tables ss) p.mapped file 0 sections) (source.input_sections_of goes_source p.mapped (suc file) srcs)
-        (subst (λ t. AreGood p os starts spells stores two P (inputs_from goes file o 0 o.sections) (source.input_sections_of_file goes_source t p.mapped file 0 sections)) f.tables own)
+        (subst (λ t. AreGood p os starts spells stores P (inputs_from goes file o 0 o.sections) (source.input_sections_of_file goes_source t p.mapped file 0 sections)) f.tables own)
         (good_files (suc file) srcs us k fs both.1)
 
-    pub good_region : AreGood p os starts spells stores two P (inputs goes os) (source.input_sections goes_source sources l.map)
+    pub good_region : AreGood p os starts spells stores P (inputs goes os) (source.input_sections goes_source sources l.map)
     good_region = good_files 1 sources os h (files sources os l.map starts h link.rows) link.relocated
 
   -- ---- each of them
@@ -226,47 +201,46 @@ module _ (sources : List (List Statement)) (os : List Object) (text_start : ℕ)
   Fit m = SizeFits p m
 
   abbrev Written : Mapped → Type 0
-  Written m = SizeFits p m × IsWritten p m
+  Written m = SizeFits p m × IsWritten p m (code_bytes p m)
 
-  text_good : AreGood p os starts (code_bytes p) true true Written (inputs objects.goes_to_text os) (source.input_sections goes_to_text sources l.map)
-  text_good = good_region (code_bytes p) true true Written objects.goes_to_text goes_to_text (λ s e. first_true s.loaded s.executable e)
+  text_good : AreGood p os starts (code_bytes p) true Written (inputs objects.goes_to_text os) (source.input_sections goes_to_text sources l.map)
+  text_good = good_region (code_bytes p) true Written objects.goes_to_text goes_to_text (λ s e. first_true s.loaded s.executable e)
       text_same (λ t sites number o index s x is e f. text_holds t sites number o index s x is e)
       (λ file s z e home fit. fit.code (ap (λ y. y.executable) home ∙ (and_parts s.loaded s.executable e).1))
       (λ file s z e home fit. (fit.sized, fit.coded (ap (λ y. y.executable) home ∙ (and_parts s.loaded s.executable e).1)))
-      (λ e s g. g)
 
-  rodata_good : AreGood p os starts (spelled p) true false Fit (inputs objects.goes_to_rodata os) (source.input_sections goes_to_rodata sources l.map)
-  rodata_good = good_region (spelled p) true false Fit objects.goes_to_rodata goes_to_rodata (λ s e. (rodata_front s e).0)
+  rodata_good : AreGood p os starts (spelled p) true Fit (inputs objects.goes_to_rodata os) (source.input_sections goes_to_rodata sources l.map)
+  rodata_good = good_region (spelled p) true Fit objects.goes_to_rodata goes_to_rodata (λ s e. (rodata_front s e).0)
       rodata_same (λ t sites number o index s x is e f. plain_holds t sites number o index s x is (rodata_front s e).2)
       (λ file s z e home fit. fit.figures (ap (λ y. y.executable) home ∙ (rodata_front s e).1))
-      (λ file s z e home fit. fit.sized) (λ e s g. absurd (cc))
+      (λ file s z e home fit. fit.sized)
 
-  data_good : AreGood p os starts (spelled p) true false Fit (inputs objects.goes_to_data os) (source.input_sections goes_to_data sources l.map)
-  data_good = good_region (spelled p) true false Fit objects.goes_to_data goes_to_data (λ s e. (data_front s e).0)
+  data_good : AreGood p os starts (spelled p) true Fit (inputs objects.goes_to_data os) (source.input_sections goes_to_data sources l.map)
+  data_good = good_region (spelled p) true Fit objects.goes_to_data goes_to_data (λ s e. (data_front s e).0)
       data_same (λ t sites number o index s x is e f. plain_holds t sites number o index s x is (data_front s e).2)
       (λ file s z e home fit. fit.figures (ap (λ y. y.executable) home ∙ (data_front s e).1))
-      (λ file s z e home fit. fit.sized) (λ e s g. absurd (cc))
+      (λ file s z e home fit. fit.sized)
 
-  bss_good : AreGood p os starts (spelled p) false false Fit (inputs objects.goes_to_bss os) (source.input_sections goes_to_bss sources l.map)
-  bss_good = good_region (spelled p) false false Fit objects.goes_to_bss goes_to_bss (λ s e. (bss_front s e).0)
+  bss_good : AreGood p os starts (spelled p) false Fit (inputs objects.goes_to_bss os) (source.input_sections goes_to_bss sources l.map)
+  bss_good = good_region (spelled p) false Fit objects.goes_to_bss goes_to_bss (λ s e. (bss_front s e).0)
       bss_same (λ t sites number o index s x is e f. absurd (cc))
       (λ file s z e home fit. fit.figures (ap (λ y. y.executable) home ∙ (bss_front s e).1))
-      (λ file s z e home fit. fit.sized) (λ e s g. absurd (cc))
+      (λ file s z e home fit. fit.sized)
 
-  text_region : IsRegion p os starts (code_bytes p) true true Written text_start (inputs objects.goes_to_text os) (source.input_sections goes_to_text sources l.map)
-  text_region = region p os starts (code_bytes p) true true Written text_start (inputs objects.goes_to_text os) (source.input_sections goes_to_text sources l.map) text_good link.text.1
+  text_region : IsRegion p os starts (code_bytes p) true Written text_start (inputs objects.goes_to_text os) (source.input_sections goes_to_text sources l.map)
+  text_region = region p os starts (code_bytes p) true Written text_start (inputs objects.goes_to_text os) (source.input_sections goes_to_text sources l.map) text_good link.text.1
 
-  rodata_region : IsRegion p os starts (spelled p) true false Fit (aligned 4096 l.map.text.end) (inputs objects.goes_to_rodata os) (source.input_sections goes_to_rodata sources l.map)
-  rodata_region = region p os starts (spelled p) true false Fit (aligned 4096 l.map.text.end) (inputs objects.goes_to_rodata os) (source.input_sections goes_to_rodata sources l.map) rodata_good link.rodata.1
+  rodata_region : IsRegion p os starts (spelled p) true Fit (aligned 4096 l.map.text.end) (inputs objects.goes_to_rodata os) (source.input_sections goes_to_rodata sources l.map)
+  rodata_region = region p os starts (spelled p) true Fit (aligned 4096 l.map.text.end) (inputs objects.goes_to_rodata os) (source.input_sections goes_to_rodata sources l.map) rodata_good link.rodata.1
 
-  data_region : IsRegion p os starts (spelled p) true false Fit (aligned 4096 l.map.rodata.end) (inputs objects.goes_to_data os) (source.input_sections goes_to_data sources l.map)
-  data_region = region p os starts (spelled p) true false Fit (aligned 4096 l.map.rodata.end) (inputs objects.goes_to_data os) (source.input_sections goes_to_data sources l.map) data_good link.data.1
+  data_region : IsRegion p os starts (spelled p) true Fit (aligned 4096 l.map.rodata.end) (inputs objects.goes_to_data os) (source.input_sections goes_to_data sources l.map)
+  data_region = region p os starts (spelled p) true Fit (aligned 4096 l.map.rodata.end) (inputs objects.goes_to_data os) (source.input_sections goes_to_data sources l.map) data_good link.data.1
 
   abbrev bss_start : ℕ
   bss_start = aligned (objects.greatest (inputs objects.goes_to_bss os)) l.map.data.end
 
-  bss_region : IsRegion p os starts (spelled p) false false Fit bss_start (inputs objects.goes_to_bss os) (source.input_sections goes_to_bss sources l.map)
-  bss_region = region p os starts (spelled p) false false Fit bss_start (inputs objects.goes_to_bss os) (source.input_sections goes_to_bss sources l.map) bss_good link.bss.1
+  bss_region : IsRegion p os starts (spelled p) false Fit bss_start (inputs objects.goes_to_bss os) (source.input_sections goes_to_bss sources l.map)
+  bss_region = region p os starts (spelled p) false Fit bss_start (inputs objects.goes_to_bss os) (source.input_sections goes_to_bss sources l.map) bss_good link.bss.1
 
   -- ---- sizes, by the regions
 
@@ -303,16 +277,13 @@ module _ (sources : List (List Statement)) (os : List Object) (text_start : ℕ)
       (from_blocks p.mapped sources goes_to_data Fit at_home data_region.each) (from_blocks p.mapped sources goes_to_bss Fit at_home bss_region.each)
 
   written_by : (ms : List Mapped) → AllByRecursion (IsAtHome (sections_in sources)) ms → AllByRecursion (In goes_to_text Written) ms
-      → AllByRecursion (λ s. IsTrue s.located.home.executable → IsWritten p s) ms
+      → AllByRecursion (λ s. IsTrue s.located.home.executable → IsWritten p s (code_bytes p s)) ms
   written_by [] h f = tt
   written_by (m ∷ ms) (h, hs) (f, fs) =
       ((λ e. (f (ap (λ b. b && m.located.home.executable) h.1 ∙ e)).1), written_by ms hs fs)
 
-  gaps_none : source.gaps_of text_start (source.input_sections goes_to_text sources l.map) ≡ []
-  gaps_none = no_gaps p os starts (code_bytes p) text_start (let page = link.page in omega (arith, page)) (inputs objects.goes_to_text os) (source.input_sections goes_to_text sources l.map) text_good text_region.each
-
   bss_at : bss_start ≡ aligned (source.greatest (source.input_sections goes_to_bss sources l.map)) l.map.data.end
-  bss_at = ap (λ n. aligned n l.map.data.end) (greatest_same p os starts (spelled p) false false Fit (inputs objects.goes_to_bss os) (source.input_sections goes_to_bss sources l.map) bss_good)
+  bss_at = ap (λ n. aligned n l.map.data.end) (greatest_same p os starts (spelled p) false Fit (inputs objects.goes_to_bss os) (source.input_sections goes_to_bss sources l.map) bss_good)
 
   fits : source.Fits sources l.map text_start
   fits = record {
@@ -331,8 +302,8 @@ module _ (sources : List (List Statement)) (os : List Object) (text_start : ℕ)
   linked resolves = record {
     fits = fits;
     resolves = resolves;
+    code = code_bytes p;
     written = written_by p.mapped at_home in_text;
-    gaps = link.gaps ∙ text_region.gaps ∙ gaps_none;
     below = link.below;
     text = link.text_bytes ∙ ap (λ n. contents (linked_bytes l.map.globals starts os) starts n (inputs objects.goes_to_text os)) link.text.0
         ∙ text_region.bytes refl ∙ ap (λ n. source_contents (code_bytes p) n (source.input_sections goes_to_text sources l.map)) (sym link.text.0);

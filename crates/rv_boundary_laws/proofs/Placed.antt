@@ -16,7 +16,7 @@ use Rattle.rv_source_laws.specs.Located.{has_row}
 use Rattle.rv_source_laws.specs.Program.{Program, tables_in, address_at, has_values, value as value_at, expressions}
 use Rattle.rv_source_laws.specs.Fits.{SizeFits}
 use Rattle.rv_source_laws.specs.Start.{spelled}
-use Rattle.rv_chain_laws.specs.Contents.{IsWritten, code_bytes}
+use Rattle.rv_chain_laws.specs.Contents.{IsWritten}
 use Rattle.rv_chain_laws.proofs.Held.{IsHeld}
 use Rattle.rv_object.specs.Object.{Relocation, Section, Object}
 use Rattle.rv_object_laws.specs.Moves.{alignments_of, moves, plan, new_offset, kept}
@@ -32,12 +32,12 @@ use Rattle.rv_boundary_laws.proofs.Settled.{IsSettled, IsSiteIn, sites_are_in}
 use Rattle.rv_boundary_laws.proofs.Known.{still, meant_of}
 use Rattle.rv_boundary_laws.proofs.Sections.{each, of_parts, all_valued, meant_in, suits_by, spelled_by, coded_by}
 use Rattle.rv_boundary_laws.proofs.Suits as suits
-use Rattle.rv_boundary_laws.proofs.Fitting.{fits, is_written, coded}
+use Rattle.rv_boundary_laws.proofs.Fitting.{code_bytes, fits, is_written, coded}
 
 -- what the row of a statement owes to it, and its bytes
 pub record IsFit (p : Program) (starts : Starts) (file : ℕ) (z : Site) : Type 0 where
   pub sized : SizeFits p (mapped_at starts file z)
-  pub coded : z.located.home.executable ≡ true → IsWritten p (mapped_at starts file z)
+  pub coded : z.located.home.executable ≡ true → IsWritten p (mapped_at starts file z) (code_bytes p (mapped_at starts file z))
   pub code : z.located.home.executable ≡ true → code_bytes p (mapped_at starts file z) ≡ flat_map (written (meant_in p file)) (parts_of (tables_in p file) z)
   pub figures : z.located.home.executable ≡ false → spelled p (mapped_at starts file z) ≡ flat_map (written (meant_in p file)) (parts_of (tables_in p file) z)
 
@@ -156,7 +156,7 @@ module _ (p : Program) (os : List Object) (starts : Starts) (file : ℕ) (sites 
         (λ e al h. multiple e al h) (λ width es k. values width es k) (here.kind placed) size in
         record {
           sized = fits p file l.ordinal l.section l.offset l.line l.options l.home l.placed (row_in starts file z) z.offset (starts file l.section) l.kind suit;
-          coded = λ e. is_written p file l.ordinal l.section l.offset l.line l.options l.home l.placed (row_in starts file z) z.offset (starts file l.section) l.kind suit held e;
+          coded = λ e. is_written p file l.ordinal l.section l.offset l.line l.options l.home l.placed (row_in starts file z) z.offset (starts file l.section) l.kind suit held here.uncompressed e;
           code = λ e. coded p file l.ordinal l.section l.offset l.line l.options l.home l.placed (row_in starts file z) z.offset (starts file l.section) l.kind suit held e
               ∙ coded_by p file z x.alignment v l.kind held e size;
           figures = λ e. spelled_by p file starts z x.alignment l.kind held e size;

@@ -32,12 +32,11 @@ use Rattle.rv_boundary_laws.proofs.Placed.{IsFit, bytes_linked, section_fits}
 
 -- ---- a region, section by section
 
-module _ (p : Program) (all : List Object) (starts : Starts) (spells : Mapped → List ℕ) (stores two : Bool) (P : Mapped → Type 0) where
+module _ (p : Program) (all : List Object) (starts : Starts) (spells : Mapped → List ℕ) (stores : Bool) (P : Mapped → Type 0) where
   -- what a section of an object and that of the source have in common
   pub record IsGood (i : InputSection) (b : source.InputSection) : Type 0 where
     pub alignment : begins_at i.section ≡ b.alignment
     pub follow : source.Follow (start_of starts i) (source.rows_of b)
-    pub low : two ≡ true → b.alignment ≡ 2
     pub count : size starts i ≡ source.size (source.rows_of b)
     pub bytes : (stop : ℕ) → start_of starts i ≡ aligned (begins_at i.section) stop → stores ≡ true → linked_bytes p.map.globals starts all i ≡ flat_map spells b.mapped
     pub each : (stop : ℕ) → start_of starts i ≡ aligned (begins_at i.section) stop → AllByRecursion P b.mapped
@@ -120,8 +119,7 @@ module _ (p : Program) (all : List Object) (starts : Starts) (spells : Mapped �
       → IsSectionOf t sites number o.symbols index s (sites_in index sites) x → goes_source s ≡ true → stores ≡ true → initial_bytes x.contents ≡ flat_map part_bytes (parts t (sites_in index sites)))
       (spell : (file : ℕ) (s : SourceSection) (z : Site) → goes_source s ≡ true → z.located.home ≡ s → IsFit p starts file z
       → spells (mapped_at starts file z) ≡ flat_map (written (meant_in p file)) (parts_of (tables_in p file) z))
-      (fitted : (file : ℕ) (s : SourceSection) (z : Site) → goes_source s ≡ true → z.located.home ≡ s → IsFit p starts file z → P (mapped_at starts file z))
-      (codes : two ≡ true → (s : SourceSection) → goes_source s ≡ true → (s.loaded && s.executable) ≡ true) where
+      (fitted : (file : ℕ) (s : SourceSection) (z : Site) → goes_source s ≡ true → z.located.home ≡ s → IsFit p starts file z → P (mapped_at starts file z)) where
     module _ (file : ℕ) (sites : List Site) (number : Numbering) (o : Object) (sections : List SourceSection)
         (low : AllByRecursion IsGlobal p.map.globals) (are : AreSectionsOf (tables_in p file) sites number o.symbols 0 sections o.sections)
         (settled : AllByRecursion (IsSettled sections) sites)
@@ -155,9 +153,6 @@ module _ (p : Program) (all : List Object) (starts : Starts) (spells : Mapped �
             alignment = begins_as ∙ ap (λ b. max (if b then 2 else 1) x.alignment) flags ∙ ap (λ n. max (if s.loaded && s.executable then 2 else 1) n) is.alignment;
             follow = subst (λ n. source.Follow n (source.rows_of (source.input_section t s p.mapped file index))) (let e : starts file index + 0 ≡ starts file index = omega arith in e)
                 (subst (λ l. source.Follow (starts file index + 0) (map (λ s. s.row) l)) (sym (mapped index)) (follows starts file t index s loaded 0 own inside is.tile));
-            low = λ e.
-                let code = codes e s goes_there in
-                ap (λ b. max (if b then 2 else 1) (alignment_at t index)) code ∙ ap (λ n. max 2 n) (sym is.alignment) ∙ most x.alignment (is.low code);
             count = still x none (starts file index) (size_of x.contents) ∙ ap size_of is.contents ∙ stored_size s.section_type (sites_end 0 own) (flat_map part_bytes (parts t own)) count_is
                 ∙ sym rows_count ∙ plus_zero (source.size (map (λ s. s.row) (mapped_from starts file own))) ∙ ap (λ l. source.size (map (λ s. s.row) l)) (sym (mapped index));
             bytes = λ stop starts_at e.
@@ -178,9 +173,6 @@ module _ (p : Program) (all : List Object) (starts : Starts) (spells : Mapped �
 
           least : (n : ℕ) → 1 ≤ n → max 1 n ≡ n
           least n h = omega arith
-
-          most : (n : ℕ) → n ≤ 2 → max 2 n ≡ 2
-          most n h = omega arith
 
           plus_zero : (n : ℕ) → 0 + n ≡ n
           plus_zero n = omega arith

@@ -9,15 +9,16 @@ use Rattle.rv_text_laws.specs.Values.{Value}
 use Rattle.rv_statement.specs.Statement.{StatementKind, Label, Numbered, Instruction, Directs, Statement, Expression, Enters, Opens, Globl, Local, Sets, Aligns_to_power, Aligns_to_bytes, Values, Strings, Zeros, Chooses, Ignored}
 use Rattle.rv_unit_laws.specs.Sections.{Section, text_section}
 use Rattle.rv_unit_laws.specs.Tables.{Tables, at_start, after, tables, opened_of}
-use Rattle.rv_unit_laws.specs.Faults.{first_fault}
 use Rattle.rv_source_laws.specs.Located.{Located, located_from, is_placed, has_row}
 use Rattle.rv_source_laws.specs.Program.{Mapped}
 use Rattle.rv_source_laws.specs.Fits.{Follow, size}
 use Rattle.rv_map.specs.declared.map.Row.{Row as MapRow}
 use Rattle.rv_chain_laws.proofs.Held.{IsHeld, Held, held_of}
 use Rattle.rv_chain_laws.proofs.Homes.{IsHomeIn, homes_from}
+use Rattle.rv_assemble_laws.specs.Refusals.{statements_fault}
 use Rattle.rv_assemble_laws.specs.Templates.{templates}
 use Rattle.rv_assemble_laws.specs.Sites.{Site, Part, form, parts_of, parts, part_bytes, sites_in, Tile, end_of}
+use Rattle.rv_assemble_laws.proofs.Faultless.{no_first_fault, IsUncompressed, all_uncompressed}
 use Rattle.rv_object_laws.specs.Inputs.{Starts}
 use Rattle.rv_boundary_laws.proofs.Patches.{append_assoc}
 use Rattle.rv_boundary_laws.proofs.Statements.{row_in, mapped_at, mapped_from}
@@ -92,6 +93,7 @@ pub record IsSettled (sections : List Section) (s : Site) : Type 0 where
   pub bare : IsBare s.located
   pub labelled : IsLabelled s.located
   pub kind : IsKind s.located
+  pub uncompressed : IsUncompressed s.located.options s.located.kind
 
 of_located : (P : Located → Type 0) (sites : List Site) → AllByRecursion P (map (λ s. s.located) sites) → AllByRecursion (λ s. P s.located) sites
 of_located P [] h = tt
@@ -102,12 +104,13 @@ front_of P [] ys h = tt
 front_of P (x ∷ xs) ys (h, hs) = (h, front_of P xs ys hs)
 
 settled_by : (sections : List Section) (sites : List Site) → AllByRecursion (λ s. IsHomeIn (λ f. sections) s.located) sites → AllByRecursion (λ s. Held s.located) sites
-    → AllByRecursion (λ s. IsBare s.located) sites → AllByRecursion (λ s. IsLabelled s.located) sites → AllByRecursion (λ s. IsKind s.located) sites → AllByRecursion (IsSettled sections) sites
-settled_by sections [] h k b l q = tt
-settled_by sections (s ∷ ss) (h, hs) (k, ks) (b, bs) (l, ls) (q, qs) =
-    (record { home = h; held = k; bare = b; labelled = l; kind = q }, settled_by sections ss hs ks bs ls qs)
+    → AllByRecursion (λ s. IsBare s.located) sites → AllByRecursion (λ s. IsLabelled s.located) sites → AllByRecursion (λ s. IsKind s.located) sites
+    → AllByRecursion (λ s. IsUncompressed s.located.options s.located.kind) sites → AllByRecursion (IsSettled sections) sites
+settled_by sections [] h k b l q u = tt
+settled_by sections (s ∷ ss) (h, hs) (k, ks) (b, bs) (l, ls) (q, qs) (u, us) =
+    (record { home = h; held = k; bare = b; labelled = l; kind = q; uncompressed = u }, settled_by sections ss hs ks bs ls qs us)
 
-pub settled : (ss : List Statement) (sites : List Site) → first_fault ss ≡ None → map (λ s. s.located) sites ≡ located_from 1 1 at_start ss
+pub settled : (ss : List Statement) (sites : List Site) → statements_fault ss ≡ None → map (λ s. s.located) sites ≡ located_from 1 1 at_start ss
     → AllByRecursion (IsSettled (opened_of (tables ss)).sections) sites
 settled ss sites good is =
     let sections = (opened_of (tables ss)).sections in
@@ -115,8 +118,9 @@ settled ss sites good is =
     λ P h. of_located P sites (subst (λ l. AllByRecursion P l) (sym is) h) in
     settled_by sections sites
     (all (IsHomeIn (λ f. sections)) (homes_from (λ f. sections) 1 1 at_start ss refl (text_section, refl)))
-    (all Held (front_of Held (located_from 1 1 at_start ss) [] (held_of 1 (ss ∷ []) (good, tt))))
+    (all Held (front_of Held (located_from 1 1 at_start ss) [] (held_of 1 (ss ∷ []) (no_first_fault ss good, tt))))
     (all IsBare (bare_from 1 1 at_start ss)) (all IsLabelled (labelled_from 1 1 at_start ss)) (all IsKind (kinds_from 1 1 at_start ss))
+    (all (λ l. IsUncompressed l.options l.kind) (all_uncompressed ss good))
 
 -- ---- the statements of a section
 
@@ -127,12 +131,13 @@ pub record IsSiteIn (index : ℕ) (section : Section) (s : Site) : Type 0 where
   pub held : IsHeld section s.located.kind
   pub bare : IsBare s.located
   pub kind : IsKind s.located
+  pub uncompressed : IsUncompressed s.located.options s.located.kind
 
 site_in : (sections : List Section) (index : ℕ) (section : Section) (s : Site) → slice_get sections index ≡ Some section → s.located.section ≡ index → IsSettled sections s → IsSiteIn index section s
 site_in sections index section s at stands h =
     let both : Some s.located.home ≡ Some section = sym h.home ∙ ap (slice_get sections) stands ∙ at in
     let same : s.located.home ≡ section = cc in
-    record { stands = stands; home = same; held = subst (λ x. IsHeld x s.located.kind) same h.held; bare = h.bare; kind = h.kind }
+    record { stands = stands; home = same; held = subst (λ x. IsHeld x s.located.kind) same h.held; bare = h.bare; kind = h.kind; uncompressed = h.uncompressed }
 
 pub sites_are_in : (sections : List Section) (index : ℕ) (section : Section) (sites : List Site) → slice_get sections index ≡ Some section
     → AllByRecursion (IsSettled sections) sites → AllByRecursion (IsSiteIn index section) (sites_in index sites)

@@ -1,23 +1,16 @@
 -- What the row of a statement owes to it, in terms of the values of its expressions.
 
-use Rattle.std.specs.Prelude.{List, ◌≡◌, ℕ, ◌+◌, ◌*◌, ◌%◌, ◌<◌, Bool, true, false, ⊤, [], ◌∷◌, length, Option, Some, None}
-use Rattle.std.specs.List.{list_all}
+use Rattle.std.specs.Prelude.{List, ◌≡◌, ℕ, ◌+◌, ◌*◌, ◌%◌, ◌<◌, Bool, true, false, ⊤, [], length, Option, Some, None}
 use Rattle.rv_isa.specs.declared.instruction.Inst.{Inst}
-use Rattle.rv_isa.specs.Ranges.{IsValid}
 use Rattle.rv_text_laws.specs.Values.{Value, Constant}
 use Rattle.rv_statement.specs.Statement.{StatementKind, Label, Numbered, Instruction, Directs, Expression, Directive, Sets, Aligns_to_power, Aligns_to_bytes, Values, Strings, Zeros}
 use Rattle.rv_unit_laws.specs.Sections.{Section}
 use Rattle.rv_unit_laws.specs.Tables.{alignment_of, padding, string_bytes}
 use Rattle.rv_map.specs.declared.map.Row.{Row}
-use Rattle.rv_source_laws.specs.Program.{expressions}
-use Rattle.rv_source_laws.specs.Fits.{is_constant, constant_in, is_low}
-use Rattle.rv_source_laws.specs.Meaning.{expanded, expanded_said}
-use Rattle.rv_chain_laws.specs.Contents.{words}
-
--- the one valid instruction of a statement whose expressions are constants
-abbrev pub IsInstruction : (Expression → Value) → StatementKind → Inst → Type 0
-IsInstruction f says i =
-    (list_all (λ e. is_constant (f e)) (expressions says) ≡ true) × (expanded_said (λ e. constant_in (f e)) says 4 ≡ Some (i ∷ [])) × IsValid i
+use Rattle.rv_source_laws.specs.Fits.{is_low}
+use Rattle.rv_assemble_laws.specs.Written.{is_constant, constant_in, expanded}
+use Rattle.rv_assemble_laws.specs.Templates.{words}
+use Rattle.rv_assemble_laws.specs.Sites.{IsInstruction}
 
 abbrev pub IsMultiple : Option ℕ → ℕ → Type 0
 IsMultiple None start = ⊤
@@ -47,7 +40,7 @@ abbrev pub Suits : (Expression → Value) → Bool → Section → Row → ℕ �
 Suits f valued home row offset start (Label name) = (row.bytes ≡ 0) × (row.instructions ≡ 0)
 Suits f valued home row offset start (Numbered number) = (row.bytes ≡ 0) × (row.instructions ≡ 0)
 Suits f valued home row offset start (Instruction mnemonic operands) =
-    (row.bytes ≡ 4) × (row.instructions ≡ 1) × ((i : Inst) × IsInstruction f (Instruction mnemonic operands) i)
+    (row.bytes ≡ 4) × (row.instructions ≡ 1) × ((i : Inst) × IsInstruction f mnemonic operands i)
 Suits f valued home row offset start (Directs directive) = SuitsDirective f valued home row offset start directive
 
 -- the bytes of a statement in code
