@@ -197,11 +197,10 @@ module _ (p : Program) (file ordinal section offset line : ℕ) (options : Optio
   alignment_fits : (d : Directive) → has_values p (at (Directs d)) ≡ true → row.instructions ≡ 0
       → parts p (at (Directs d)) ≡ Some (padding_parts row.bytes)
       → (b : Bool) → SuitsPadding b row before start (alignment_of f d) → IsPaddingIn b p (at (Directs d)) d
-  alignment_fits d valued none is true (bytes, low) =
-      (
-        subst (λ o. IsRowOf o row) (sym (no_instruction d valued is bytes)) (no_row row bytes none),
-        bytes ∙ ap (λ b. if b then 0 else padding (alignment_of f d) row.address) (sym low),
-      )
+  alignment_fits d valued none is true (bytes, low) = (
+    subst (λ o. IsRowOf o row) (sym (no_instruction d valued is bytes)) (no_row row bytes none),
+    bytes ∙ ap (λ b. if b then 0 else padding (alignment_of f d) row.address) (sym low),
+  )
   alignment_fits d valued none is false (bytes, place, multiple) =
       (is_true _ valued, bytes ∙ sym (padding_moves (alignment_of f d) start before multiple) ∙ ap (λ n. padding (alignment_of f d) n) (sym place), none)
 
