@@ -1,35 +1,55 @@
 -- The worked program: what it is linked to, and its run by the machine.
 
-use Rattle.std.proofs.Common.{◌≡◌, [], ◌∷◌, refl, sym, ◌∙◌, lit<, arith, inl, inr}
+use Rattle.std.proofs.Common.{◌≡◌, [], ◌∷◌, refl, sym, ◌∙◌, lit<, arith, inl, inr, pos}
 use Rattle.std.proofs.lemmas.Int.{ints}
 use Rattle.rv_isa.specs.Ranges.{IsValid}
+use Rattle.rv_isa.specs.declared.instruction.Inst.{Inst}
 use Rattle.rv_isa.specs.declared.instruction.Inst.TheVariants.{Ecall}
+use Rattle.rv_isa_laws.specs.Bytes.{little_endian}
 use Rattle.rv_isa_laws.specs.Hart.{Exited, Astray}
-use Rattle.rv_encode.specs.Word.{Spells}
+use Rattle.rv_encode.specs.Word.{Spells, form, word}
 use Rattle.rv_compress.specs.Parcel.{StandsFor}
 use Rattle.rv_image.specs.Memory.{mem_of}
 use Rattle.rv_isa_laws.specs.Reader.{Reader}
 use Rattle.rv_isa_laws.specs.Run.{machine_run}
 use Rattle.rv_worked.specs.Exit7.{exit7, exit7_map, exits}
 use Rattle.rv_worked.specs.Exit7Executable.{exit7_image, exit7_linked}
-use Rattle.rv_source_laws.specs.Meaning.{add_immediate}
+use Rattle.rv_worked.specs.Regions.{code_words}
+use Rattle.rv_pseudo_laws.specs.Li.{addi}
+use Rattle.rv_pseudo_laws.specs.Code.{Closed}
 use Rattle.rv_source_laws.specs.Fits.{Fits}
 use Rattle.rv_source_laws.specs.Resolves.{Resolves}
 use Rattle.rv_chain_laws.specs.Contents.{IsLinked}
 use Rattle.rv_source_laws.specs.SourceRun.{source_run}
 use Rattle.rv_chain_laws.proofs.Contents.{linked_agrees}
 
-valid7 : IsValid (add_immediate 10 0 7)
+-- `li a0, 7` and `li a7, 93`
+abbrev first : Inst
+first = addi 10 0 (pos 7)
+
+abbrev second : Inst
+second = addi 17 0 (pos 93)
+
+valid7 : IsValid first
 valid7 = (lit< tt, lit< tt, (omega (arith, ints), omega (arith, ints)))
 
-valid93 : IsValid (add_immediate 17 0 93)
+valid93 : IsValid second
 valid93 = (lit< tt, lit< tt, (omega (arith, ints), omega (arith, ints)))
 
 fits : Fits (exit7 ∷ []) exit7_map 0x10000
 fits = record {
   good = (refl, tt);
   rows = refl;
-  sizes = ((tt, refl, omega arith, omega arith, refl), ((refl, ((valid7, tt), refl, omega arith, omega arith, refl)), ((refl, ((valid93, tt), refl, omega arith, omega arith, refl)), ((refl, ((tt, tt), refl, omega arith, omega arith, refl)), tt))));
+  sizes = (
+    (tt, refl, omega arith, omega arith, refl),
+    (
+      record { valued = refl; paired = tt; taken = (tt, tt); row = ((valid7, tt), refl, omega arith, omega arith, refl); long = λ e. absurd (cc) },
+      (
+        record { valued = refl; paired = tt; taken = (tt, tt); row = ((valid93, tt), refl, omega arith, omega arith, refl); long = λ e. absurd (cc) },
+        (record { valued = refl; paired = tt; taken = (tt, tt); row = ((tt, tt), refl, omega arith, omega arith, refl); long = λ e. absurd (cc) }, tt),
+      ),
+    ),
+  );
   text = (refl, ((refl, (refl, (refl, (refl, tt)))), tt), refl);
   gaps = refl;
   rodata = (refl, tt, refl);
@@ -44,8 +64,41 @@ pub links : IsLinked (exit7 ∷ []) 0x10000 exit7_linked
 links = record {
   fits = fits;
   resolves = resolves;
-  written = (λ code. ([], refl, refl), (λ code. (add_immediate 10 0 7 ∷ [], refl, refl), (λ code. (add_immediate 17 0 93 ∷ [], refl, refl), (λ code. (Ecall ∷ [], refl, refl), tt))));
-  gaps = refl;
+  code = code_words exit7 exit7_map;
+  written = (
+    (λ code. record { ps = []; are_parts = refl; lines = []; are_lines = (refl, refl); sizes = tt; encoded = refl }),
+    (
+      (λ code. record {
+        ps = Closed first ∷ [];
+        are_parts = refl;
+        lines = record { address = 0x10000; bytes = 4; instruction = first } ∷ [];
+        are_lines = (refl, (refl, refl));
+        sizes = (refl, tt);
+        encoded = (little_endian 4 (word (form first)), ([], refl, inl (refl, refl), refl));
+      }),
+      (
+        (λ code. record {
+          ps = Closed second ∷ [];
+          are_parts = refl;
+          lines = record { address = 0x10004; bytes = 4; instruction = second } ∷ [];
+          are_lines = (refl, (refl, refl));
+          sizes = (refl, tt);
+          encoded = (little_endian 4 (word (form second)), ([], refl, inl (refl, refl), refl));
+        }),
+        (
+          (λ code. record {
+            ps = Closed Ecall ∷ [];
+            are_parts = refl;
+            lines = record { address = 0x10008; bytes = 4; instruction = Ecall } ∷ [];
+            are_lines = (refl, (refl, refl));
+            sizes = (refl, tt);
+            encoded = (little_endian 4 (word (form Ecall)), ([], refl, inl (refl, refl), refl));
+          }),
+          tt,
+        ),
+      ),
+    ),
+  );
   below = omega arith;
   text = refl;
   rodata = refl;

@@ -4,18 +4,23 @@ use Rattle.std.specs.Prelude.{ℕ, List, [], ◌∷◌}
 use Rattle.rv_statement.specs.Statement.{Statement}
 use Rattle.rv_unit_laws.specs.Sections.{goes_to_text, goes_to_rodata, goes_to_data}
 use Rattle.rv_map.specs.Map.{Map}
-use Rattle.rv_source_laws.specs.Program.{program}
+use Rattle.rv_source_laws.specs.Program.{Mapped, program}
 use Rattle.rv_source_laws.specs.Start.{spelled}
 use Rattle.rv_source_laws.specs.Fits.{InputSection, input_sections}
-use Rattle.rv_chain_laws.specs.Contents.{contents, code_bytes}
+use Rattle.rv_source_laws.specs.Lines.{expansion}
+use Rattle.rv_chain_laws.specs.Contents.{contents}
+use Rattle.rv_assemble_laws.specs.Templates.{words}
 
 abbrev pub text_sections : List Statement → Map → List InputSection
 text_sections source m = input_sections goes_to_text (source ∷ []) m
 
+-- the words of a statement
+abbrev pub code_words : List Statement → Map → Mapped → List ℕ
+code_words source m s = words (expansion (program (source ∷ []) m) s)
+
 -- the bytes of the text, of the constants and of the variables
 abbrev pub text_bytes : List Statement → Map → List ℕ
-text_bytes source m =
-    contents (code_bytes (program (source ∷ []) m)) m.text.start (text_sections source m)
+text_bytes source m = contents (code_words source m) m.text.start (text_sections source m)
 
 abbrev pub rodata_bytes : List Statement → Map → List ℕ
 rodata_bytes source m =
