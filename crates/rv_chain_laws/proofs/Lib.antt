@@ -2,6 +2,7 @@ pub mod Even
 pub mod Alike
 pub mod Onward
 pub mod Fetch
+pub mod Numbers
 pub mod Walk
 pub mod Wide
 pub mod Narrow

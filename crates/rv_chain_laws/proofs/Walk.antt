@@ -13,7 +13,8 @@ use Rattle.rv_isa_laws.specs.Kept.{GoesOn, Kept}
 use Rattle.rv_isa_laws.proofs.EffectLaws.{effect_keeps}
 use Rattle.rv_isa_laws.specs.Reader.{Reader}
 use Rattle.rv_isa_laws.specs.Run.{Got, fetch, step, run, done}
-use Rattle.rv_source_laws.specs.Meaning.{Line}
+use Rattle.rv_source_laws.specs.Lines.{Line}
+use Rattle.rv_chain_laws.proofs.Numbers.{wrapped_wrap}
 use Rattle.rv_chain_laws.specs.Realizes.{StandsIn}
 use Rattle.rv_chain_laws.proofs.Even.{IsEven, effect_even}
 use Rattle.rv_chain_laws.proofs.Fetch.{Text, fetched, even_bytes}

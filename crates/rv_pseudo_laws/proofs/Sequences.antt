@@ -71,32 +71,32 @@ turned : (p b c : ℕ) → ((p + b) % 2 ^ 64 + c) % 2 ^ 64 ≡ (p + (b + c)) % 2
 turned p b c = omega arith
 
 -- the registers after one of them got a number, which is none of them where the test holds
-abbrev put : Bool → List ℕ → ℕ → ℕ → List ℕ
+abbrev pub put : Bool → List ℕ → ℕ → ℕ → List ℕ
 put t xs r v = if t then xs else set xs r v
 
-put_again : (t : Bool) (xs : List ℕ) (r x y : ℕ) → put t (put t xs r x) r y ≡ put t xs r y
+pub put_again : (t : Bool) (xs : List ℕ) (r x y : ℕ) → put t (put t xs r x) r y ≡ put t xs r y
 put_again true xs r x y = refl
 put_again false xs r x y = set-set xs r x y
 
-put_same : (t : Bool) (xs : List ℕ) (r x y : ℕ) → (t ≡ false → x ≡ y) → put t xs r x ≡ put t xs r y
+pub put_same : (t : Bool) (xs : List ℕ) (r x y : ℕ) → (t ≡ false → x ≡ y) → put t xs r x ≡ put t xs r y
 put_same true xs r x y e = refl
 put_same false xs r x y e = ap (set xs r) (e refl)
 
-put_read : (t : Bool) (xs : List ℕ) (r x : ℕ) → t ≡ false → r < length xs → (if t then 0 else slice_index (put t xs r x) r) ≡ x
+pub put_read : (t : Bool) (xs : List ℕ) (r x : ℕ) → t ≡ false → r < length xs → (if t then 0 else slice_index (put t xs r x) r) ≡ x
 put_read true xs r x e inside = absurd (cc)
 put_read false xs r x e inside = get_or-set_same xs r x 0 inside
 
 -- what is put there is what it is modulo 2 ^ 64, and nothing for x0
-again : (rd b c : ℕ) (h : Hart) (x y : ℕ) → with_result c (with_result b h rd x) rd y ≡ with_result (b + c) h rd y
+pub again : (rd b c : ℕ) (h : Hart) (x y : ℕ) → with_result c (with_result b h rd x) rd y ≡ with_result (b + c) h rd y
 again rd b c h x y =
     ap (λ p. record h { registers = put (rd == 0) (put (rd == 0) h.registers rd (x % 2 ^ 64)) rd (y % 2 ^ 64); pc = p }) (turned h.pc b c)
     ∙ ap (λ s. record h { registers = s; pc = (h.pc + (b + c)) % 2 ^ 64 }) (put_again (rd == 0) h.registers rd (x % 2 ^ 64) (y % 2 ^ 64))
 
-with_same : (rd b : ℕ) (h : Hart) (x y : ℕ) → ((rd == 0) ≡ false → x % 2 ^ 64 ≡ y % 2 ^ 64) → with_result b h rd x ≡ with_result b h rd y
+pub with_same : (rd b : ℕ) (h : Hart) (x y : ℕ) → ((rd == 0) ≡ false → x % 2 ^ 64 ≡ y % 2 ^ 64) → with_result b h rd x ≡ with_result b h rd y
 with_same rd b h x y e =
     ap (λ s. record h { registers = s; pc = (h.pc + b) % 2 ^ 64 }) (put_same (rd == 0) h.registers rd (x % 2 ^ 64) (y % 2 ^ 64) e)
 
-register_set : (rd b : ℕ) (h : Hart) (x : ℕ) → (rd == 0) ≡ false → rd < length h.registers → x < 2 ^ 64 → register (with_result b h rd x) rd ≡ x
+pub register_set : (rd b : ℕ) (h : Hart) (x : ℕ) → (rd == 0) ≡ false → rd < length h.registers → x < 2 ^ 64 → register (with_result b h rd x) rd ≡ x
 register_set rd b h x some inside below =
     let fits : x % 2 ^ 64 ≡ x = omega arith in
     put_read (rd == 0) h.registers rd (x % 2 ^ 64) some inside ∙ fits
@@ -145,10 +145,10 @@ zero_number k e = grind (arith, ints)
 -- ---- numbers
 
 -- the upper half in its place
-abbrev high : ℤ → ℕ
+abbrev pub high : ℤ → ℕ
 high v = wrapped (hi v *ℤ pos 4096)
 
-whole_sum : (v : ℤ) → wrapped v ≡ (high v + wrapped (lo v)) % 2 ^ 64
+pub whole_sum : (v : ℤ) → wrapped v ≡ (high v + wrapped (lo v)) % 2 ^ 64
 whole_sum v = ap wrapped (halves_whole v) ∙ wrapped_add (hi v *ℤ pos 4096) (lo v)
 
 high_alone : (v : ℤ) → lo v ≡ pos 0 → high v ≡ wrapped v

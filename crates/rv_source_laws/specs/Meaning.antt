@@ -111,10 +111,10 @@ goes_by bytes h rt target =
 
 -- ---- statements
 
--- a number, or the low part of one
+-- a number taken as signed, or the low part of one
 abbrev pub number_in : (Expression → ℕ) → Operand → ℕ
 number_in v (Applied Lo e) = wrapped (lo (signed 64 (v e)))
-number_in v (Value e) = v e
+number_in v (Value e) = wrapped (signed 64 (v e))
 number_in v operand = 0
 
 -- what a pseudo-instruction does in so many bytes, where v gives numbers and addresses; none for the others, which do what
