@@ -4,6 +4,9 @@ pub mod Onward
 pub mod Fetch
 pub mod Numbers
 pub mod Walk
+pub mod Shapes
+pub mod Rows
+pub mod Pairs
 pub mod Wide
 pub mod Narrow
 pub mod Words
