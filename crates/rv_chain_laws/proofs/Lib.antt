@@ -7,6 +7,7 @@ pub mod Walk
 pub mod Shapes
 pub mod Rows
 pub mod Pairs
+pub mod LoadImmediate
 pub mod Wide
 pub mod Narrow
 pub mod Words

@@ -3,3 +3,4 @@ use Rattle.std.proofs.Common.{◌≡◌, ℕ}
 use Rattle.rv_chain_laws.proofs.Shapes.{Does, walk_after}
 use Rattle.rv_chain_laws.proofs.Rows.{row_unary}
 use Rattle.rv_chain_laws.proofs.Pairs.{row_call}
+use Rattle.rv_chain_laws.proofs.LoadImmediate.{row_li}
