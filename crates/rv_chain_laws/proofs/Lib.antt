@@ -8,6 +8,7 @@ pub mod Shapes
 pub mod Rows
 pub mod Pairs
 pub mod LoadImmediate
+pub mod Table
 pub mod Wide
 pub mod Narrow
 pub mod Words

@@ -4,3 +4,4 @@ use Rattle.rv_chain_laws.proofs.Shapes.{Does, walk_after}
 use Rattle.rv_chain_laws.proofs.Rows.{row_unary}
 use Rattle.rv_chain_laws.proofs.Pairs.{row_call}
 use Rattle.rv_chain_laws.proofs.LoadImmediate.{row_li}
+use Rattle.rv_chain_laws.proofs.Table.{comes}

@@ -8,8 +8,8 @@ use Rattle.rv_isa_laws.specs.Memory.{Mem, Right, Read, Write, Execute}
 use Rattle.rv_isa_laws.specs.Reader.{Reader}
 use Rattle.rv_isa_laws.specs.Run.{NoInstruction, Got, fetch}
 use Rattle.rv_source_laws.specs.Program.{Mapped, Program}
-use Rattle.rv_source_laws.specs.Lines.{Line, AreLines}
-use Rattle.rv_source_laws.specs.Fits.{SizeFits}
+use Rattle.rv_source_laws.specs.Lines.{Line, AreLines, expansion}
+use Rattle.rv_source_laws.specs.Fits.{IsRowOf, SizeFits}
 use Rattle.rv_source_laws.specs.Start.{first_byte, right_at}
 use Rattle.rv_source_laws.specs.SourceRun.{Starts, Gap, place}
 
@@ -26,6 +26,8 @@ pub record HoldsLines {Spells StandsFor : ℕ → Inst → Type 0} (reader : Rea
   pub stand : AllByRecursion (StandsIn reader m) lines
   pub below : s.row.address + s.row.bytes < 2 ^ 64
   pub fits : SizeFits p s
+  -- the row counts them, each with its operands in range
+  pub row : IsRowOf (expansion p s) s.row
 
 -- memory m holds a program: what a run of the machine needs so that it does what the statements do
 pub record Realizes {Spells StandsFor : ℕ → Inst → Type 0} (reader : Reader Spells StandsFor)
