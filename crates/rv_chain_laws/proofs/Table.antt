@@ -120,7 +120,7 @@ one_of (Some qs) ps e one = let same : qs ≡ ps = cc in subst (λ x. IsOne x) s
 
 -- ---- by operands
 
-unpassed : (t : Bool) (n : ℕ) → n ≡ (if t && false then 1 else n)
+pub unpassed : (t : Bool) (n : ℕ) → n ≡ (if t && false then 1 else n)
 unpassed true n = refl
 unpassed false n = refl
 
