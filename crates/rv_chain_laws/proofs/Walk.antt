@@ -1,20 +1,19 @@
 -- The lines of a statement one after another: what they come to, and that a run of the machine over them comes to the same.
 
-use Rattle.std.proofs.Common.{◌≡◌, ℕ, zero, suc, ◌+◌, ◌^◌, ◌<◌, ◌≤◌, Bool, true, false, List, [], ◌∷◌, refl, ap, ◌∙◌, arith}
+use Rattle.std.proofs.Common.{◌≡◌, ℕ, zero, suc, ◌+◌, ◌^◌, ◌<◌, ◌≤◌, Bool, true, false, Option, Some, None, List, [], ◌∷◌, length, refl, ap, ◌∙◌, arith}
 use Rattle.std.specs.Prelude.{◌==◌, if◌then◌else◌}
 use Rattle.std.specs.List.{AllByRecursion}
 use Rattle.std.proofs.lemmas.Bool.{eqb-true}
 use Rattle.rv_isa.specs.declared.instruction.Inst.{Inst}
-use Rattle.rv_isa_laws.specs.Memory.{Mem, Right}
+use Rattle.rv_isa_laws.specs.Memory.{Mem, Right, Execute, may}
 use Rattle.rv_isa_laws.specs.Hart.{Hart, Outcome, Limit, stop}
 use Rattle.rv_isa_laws.specs.Effect.{Effect, Goes, Loads, Stores, Reserves, Conditional, Updates, Calls, Breaks, Next, On, Over, apply, follow}
 use Rattle.rv_isa_laws.specs.Meaning.{effect}
-use Rattle.rv_isa_laws.specs.Kept.{GoesOn, Kept}
+use Rattle.rv_isa_laws.specs.Kept.{GoesOn, Kept, InRange}
 use Rattle.rv_isa_laws.proofs.EffectLaws.{effect_keeps}
 use Rattle.rv_isa_laws.specs.Reader.{Reader}
-use Rattle.rv_isa_laws.specs.Run.{Got, fetch, step, run, done}
+use Rattle.rv_isa_laws.specs.Run.{Fetched, NoRight, Got, spelled, length_at, fetch, step, run, done}
 use Rattle.rv_source_laws.specs.Lines.{Line}
-use Rattle.rv_chain_laws.proofs.Numbers.{wrapped_wrap}
 use Rattle.rv_chain_laws.specs.Realizes.{StandsIn}
 use Rattle.rv_chain_laws.proofs.Even.{IsEven, effect_even}
 use Rattle.rv_chain_laws.proofs.Fetch.{Text, fetched, even_bytes}
@@ -65,14 +64,37 @@ pub walk_one : (l : Line) (ls : List Line) (h : Hart) → 1 ≤ (walk l ls h).co
 walk_one l [] h = omega arith
 walk_one l (k ∷ ls) h = one_then (effect l.instruction l.bytes h) k.address (walk k ls)
 
--- the hart goes on with the console that it has, to an even address below 2 ^ 64
+short_spelled : (n : ℕ) (o : Option Inst) (i : Inst) (b : ℕ) → n ≤ 4 → spelled n o ≡ Got i b → b ≤ 4
+short_spelled n None i b short e = absurd (cc)
+short_spelled n (Some j) i b short e = let same : n ≡ b = cc in omega arith
+
+short_if : (t : Bool) (n : ℕ) (o : Option Inst) (i : Inst) (b : ℕ) → n ≤ 4 → (if t then spelled n o else NoRight) ≡ Got i b → b ≤ 4
+short_if true n o i b short e = short_spelled n o i b short e
+short_if false n o i b short e = absurd (cc)
+
+short_length : (t : Bool) → (if t then 4 else 2) ≤ 4
+short_length true = omega arith
+short_length false = omega arith
+
+module _ {Spells StandsFor : ℕ → Inst → Type 0} (reader : Reader Spells StandsFor) (m : Mem) where
+  short_bytes : (a : ℕ) (i : Inst) (b : ℕ) → fetch reader m a ≡ Got i b → b ≤ 4
+  short_bytes a i b e = short_if (may m a (length_at m a) Execute) (length_at m a) _ i b (short_length _) e
+
+  -- lines that stand in memory have at most four bytes each
+  pub short_lines : (ls : List Line) → AllByRecursion (StandsIn reader m) ls → AllByRecursion (λ l. l.bytes ≤ 4) ls
+  short_lines [] stand = tt
+  short_lines (l ∷ ls) stand = (short_bytes l.address l.instruction l.bytes stand.0.0, short_lines ls stand.1)
+
+-- the hart goes on with the console that it has and as many registers in range, to an even address below 2 ^ 64
 pub record Steady (h g : Hart) : Type 0 where
   pub console : g.console ≡ h.console
   pub pc : g.pc < 2 ^ 64
   pub even : IsEven g
+  pub whole : length g.registers ≡ length h.registers
+  pub inside : InRange h → InRange g
 
-steady_from : (h k g : Hart) → k.console ≡ h.console → Steady k g → Steady h g
-steady_from h k g e s = record { console = s.console ∙ e; pc = s.pc; even = s.even }
+steady_from : (h k g : Hart) → Steady h k → Steady k g → Steady h g
+steady_from h k g r s = record { console = s.console ∙ r.console; pc = s.pc; even = s.even; whole = s.whole ∙ r.whole; inside = λ all. s.inside (r.inside all) }
 
 follow_same : (x : Next) (g h : Hart) (go : Hart → Mem → Outcome) → g.console ≡ h.console → follow x g go ≡ follow x h go
 follow_same (On k m) g h go e = refl
@@ -81,12 +103,12 @@ follow_same (Over f) g h go e = ap (λ c. record { console = c; «end» = f }) e
 module _ {Spells StandsFor : ℕ → Inst → Type 0} (reader : Reader Spells StandsFor) (has : ℕ → Right → Bool) (first : Mem) (rights : (a : ℕ) → a < 2 ^ 64 → (right : Right) → first.has a right ≡ has a right) where
   line_steady : (l : Line) (h : Hart) → StandsIn reader first l → IsEven h → GoesOn (Steady h) (effect l.instruction l.bytes h)
   line_steady l h stands e =
-      both_goes (Kept h) IsEven (Steady h) (λ g k even. record { console = k.console; pc = k.pc; even = even }) (effect l.instruction l.bytes h)
+      both_goes (Kept h) IsEven (Steady h) (λ g k even. record { console = k.console; pc = k.pc; even = even; whole = k.count; inside = k.below }) (effect l.instruction l.bytes h)
       (effect_keeps l.instruction l.bytes h)
       (effect_even l.instruction l.bytes h stands.1 (even_bytes reader first l.address l.instruction l.bytes stands.0) e)
 
   steady_goes : (t : Bool) (g h : Hart) (go : Hart → Walked) → Steady h g → GoesOn (Steady g) (go g).effect → GoesOn (Steady h) (if t then more (go g) else once (Goes g)).effect
-  steady_goes true g h go s rest = both_goes (Steady g) (Steady g) (Steady h) (λ k a b. steady_from h g k s.console a) (go g).effect rest rest
+  steady_goes true g h go s rest = both_goes (Steady g) (Steady g) (Steady h) (λ k a b. steady_from h g k s a) (go g).effect rest rest
   steady_goes false g h go s rest = s
 
   steady_then : (e : Effect) (next : ℕ) (go : Hart → Walked) (h : Hart) → GoesOn (Steady h) e → ((g : Hart) → IsEven g → GoesOn (Steady g) (go g).effect) → GoesOn (Steady h) (then_walk e next go).effect
