@@ -1,6 +1,6 @@
 -- The row of `li`: its lines set the register to the number.
 
-use Rattle.std.proofs.Common.{◌≡◌, ℕ, zero, suc, ◌+◌, ◌-◌, ◌*◌, ◌%◌, ◌^◌, ◌<◌, Bool, true, false, List, [], ◌∷◌, ◌++◌, Some, length, refl, sym, ap, ◌∙◌, subst, arith, ℤ, pos, negsuc}
+use Rattle.std.proofs.Common.{◌≡◌, ℕ, zero, suc, ◌+◌, ◌-◌, ◌^◌, ◌<◌, Bool, true, false, List, [], ◌∷◌, ◌++◌, Some, length, refl, sym, ap, ◌∙◌, subst, arith, ℤ, pos, negsuc}
 use Rattle.std.specs.Prelude.{map, if◌then◌else◌, sum_by, nat_lt}
 use Rattle.std.specs.Ordering.{int_eq}
 use Rattle.std.specs.List.{AllByRecursion}
@@ -10,17 +10,16 @@ use Rattle.rv_isa.specs.declared.instruction.Inst.{Inst}
 use Rattle.rv_isa.specs.Ranges.{IsValid, IsSigned12}
 use Rattle.rv_isa_laws.specs.Arithmetic.{wrapped, signed, sum_of, word_sum, shifted_left}
 use Rattle.rv_isa_laws.specs.Halves.{lo}
-use Rattle.rv_isa_laws.specs.Hart.{Hart, register}
-use Rattle.rv_isa_laws.specs.Effect.{Goes}
-use Rattle.rv_isa_laws.specs.Meaning.{sets, with_result, upper}
+use Rattle.rv_isa_laws.specs.Hart.{register}
+use Rattle.rv_isa_laws.specs.Meaning.{with_result, upper}
 use Rattle.rv_pseudo_laws.specs.Li.{addi, addiw, slli, lui, is_signed, upper_20, zeros, unless_zero, above, li_in, li, then_low}
-use Rattle.rv_pseudo_laws.specs.Code.{Part, Closed}
+use Rattle.rv_pseudo_laws.specs.Code.{Closed}
 use Rattle.rv_pseudo_laws.specs.Filled.{FieldValue, filled}
 use Rattle.rv_pseudo_laws.specs.Runs.{Sized}
 use Rattle.rv_pseudo_laws.proofs.Modulo.{lo_range}
 use Rattle.rv_pseudo_laws.proofs.Sequences.{li_sets}
 use Rattle.rv_source_laws.specs.Lines.{Line, Lie}
-use Rattle.rv_chain_laws.proofs.Shapes.{insts, walked, Ready, Does, IsStraight, sized, sized_are, sized_bytes, walk_after}
+use Rattle.rv_chain_laws.proofs.Shapes.{insts, IsStraight, sized, sized_are, sized_bytes, walk_after}
 use Rattle.rv_chain_laws.proofs.Rows.{Row, SetsTo}
 
 all_append : (P : Inst → Type 0) (xs ys : List Inst) → AllByRecursion P xs → AllByRecursion P ys → AllByRecursion P (xs ++ ys)

@@ -1,6 +1,6 @@
 -- Numbers of statements: where a distance leads, what its halves make of a register, and the numbers of single assignments.
 
-use Rattle.std.proofs.Common.{◌≡◌, ℕ, zero, suc, ◌+◌, ◌-◌, ◌*◌, ◌/◌, ◌%◌, ◌^◌, ◌<◌, ◌≤◌, Bool, true, false, not, refl, sym, ap, ◌∙◌, arith, ℤ, pos, negsuc, ◌+ℤ◌, ◌-ℤ◌, ◌*ℤ◌, ◌≤ℤ◌, unsigned_abs}
+use Rattle.std.proofs.Common.{◌≡◌, ℕ, zero, suc, ◌+◌, ◌-◌, ◌*◌, ◌/◌, ◌%◌, ◌^◌, ◌<◌, Bool, true, false, not, refl, sym, ap, ◌∙◌, arith, ℤ, pos, negsuc, ◌+ℤ◌, ◌-ℤ◌, ◌*ℤ◌, ◌≤ℤ◌}
 use Rattle.std.specs.Prelude.{◌==◌, nat_lt, if◌then◌else◌, bit_and, bit_xor}
 use Rattle.std.specs.Int.{w64, int_wrap, cast_signed}
 use Rattle.std.specs.Int.Bits.{xor_add_and}
@@ -8,13 +8,13 @@ use Rattle.std.proofs.lemmas.Nat.{and_mask}
 use Rattle.std.proofs.lemmas.Int.{ints}
 use Rattle.std.proofs.lemmas.Bool.{ltb-true, ltb-false, le-ltb, lt-ltb, ne_eqb}
 use Rattle.std.proofs.lemmas.Bool.Decides.{nat_tests}
-use Rattle.rv_isa_laws.specs.Arithmetic.{wrapped, floor, signed, extended, one_if, sum_of, shifted_left, shifted_right, shifted_right_signed}
+use Rattle.rv_isa_laws.specs.Arithmetic.{wrapped, floor, extended, sum_of, shifted_left, shifted_right, shifted_right_signed}
 use Rattle.rv_isa_laws.specs.Halves.{hi, lo}
 use Rattle.rv_isa_laws.specs.Meaning.{upper}
 use Rattle.rv_reloc.specs.Fields.{modulo}
 use Rattle.rv_reloc.specs.Ranges.{HasUpper, IsBetween, IsOdd}
 use Rattle.rv_pseudo_laws.specs.Li.{is_signed}
-use Rattle.rv_pseudo_laws.proofs.Modulo.{wrapped_is, wrapped_below, wrapped_add, wrapped_times, extended_word}
+use Rattle.rv_pseudo_laws.proofs.Modulo.{wrapped_is, wrapped_add, wrapped_times, extended_word}
 use Rattle.rv_pseudo_laws.proofs.Sequences.{high, whole_sum}
 use Rattle.rv_source_laws.specs.Meaning.{distance, on_the_way}
 
@@ -41,7 +41,7 @@ between a t = int_wrap w64 ((pos t +ℤ pos 0) -ℤ pos a)
 pub leads : (a t : ℕ) → a < 2 ^ 64 → (a + wrapped (between a t)) % 2 ^ 64 ≡ t % 2 ^ 64
 leads a t below =
     let far : wrapped ((pos t +ℤ pos 0) -ℤ pos a) ≡ (t + (2 ^ 64 - a)) % 2 ^ 64 =
-        wrapped_is ((pos t +ℤ pos 0) -ℤ pos a) 1 (t + (2 ^ 64 - a)) (omega (arith, ints)) in
+    wrapped_is ((pos t +ℤ pos 0) -ℤ pos a) 1 (t + (2 ^ 64 - a)) (omega (arith, ints)) in
     let there : (a + (t + (2 ^ 64 - a)) % 2 ^ 64) % 2 ^ 64 ≡ t % 2 ^ 64 = omega arith in
     ap (λ x. (a + x) % 2 ^ 64) (wrapped_wrap ((pos t +ℤ pos 0) -ℤ pos a) ∙ far) ∙ there
 

@@ -1,7 +1,7 @@
 -- Each kind of statement: its lines one after another come to its meaning and its cost.
 
-use Rattle.std.proofs.Common.{◌≡◌, ℕ, zero, suc, ◌+◌, ◌-◌, ◌/◌, ◌%◌, ◌^◌, ◌<◌, ◌≤◌, Bool, true, false, ◌&&◌, List, [], ◌∷◌, Option, Some, None, length, refl, sym, ap, ◌∙◌, subst, arith, ℤ, pos}
-use Rattle.std.specs.Prelude.{map, replicate, ◌==◌, if◌then◌else◌, option_map, unwrap_or}
+use Rattle.std.proofs.Common.{◌≡◌, ℕ, zero, suc, ◌+◌, ◌-◌, ◌%◌, ◌^◌, ◌<◌, ◌≤◌, Bool, true, false, ◌&&◌, List, [], ◌∷◌, Option, Some, None, length, refl, sym, ap, ◌∙◌, subst, arith, ℤ, pos}
+use Rattle.std.specs.Prelude.{replicate, ◌==◌, if◌then◌else◌, option_map, unwrap_or}
 use Rattle.std.specs.List.{AllByRecursion}
 use Rattle.std.proofs.lemmas.Bool.{eq-eqb}
 use Rattle.rv_isa.specs.declared.instruction.Inst.{Inst}
@@ -20,10 +20,10 @@ use Rattle.rv_source_laws.specs.Program.{Mapped, Program, form, resolved, addres
 use Rattle.rv_source_laws.specs.Lines.{Line, Lie, AreLines, constant_of, constants, no_operation, parts_of, parts, other_operand, operand_of, operand_number, is_low_part, value_by, field_value, expansion}
 use Rattle.rv_source_laws.specs.Meaning.{statement_effect, meaning, is_untaken, cost}
 use Rattle.rv_source_laws.specs.Fits.{IsRowOf, IsCodeRow, CodeFits, StatementFits, SizeFits}
-use Rattle.rv_chain_laws.proofs.Shapes.{insts, walked, Ready, Does, does_as, go_on, ends_above}
-use Rattle.rv_chain_laws.proofs.Rows.{Row, Leads}
+use Rattle.rv_chain_laws.proofs.Shapes.{insts, walked, Does, does_as, go_on, ends_above}
+use Rattle.rv_chain_laws.proofs.Rows.{Leads}
 use Rattle.rv_chain_laws.proofs.Table.{unpassed, comes}
-use Rattle.rv_chain_laws.proofs.Walk.{more, then_walk, walk}
+use Rattle.rv_chain_laws.proofs.Walk.{then_walk, walk}
 
 -- a statement without instructions has no bytes
 no_lines : (meant : Hart → Effect) (count : Hart → ℕ) (address bytes : ℕ) (lines : List Line) → [] ≡ insts lines → Lie address lines (address + bytes) → 0 < bytes → Does meant count address lines

@@ -1,6 +1,6 @@
 -- What an effect keeps of the hart, the step that it comes to keeps as well.
 
-use Rattle.std.proofs.Common.{◌⊎◌, inl, inr, ℕ, ◌-◌, ◌%◌, ◌^◌, ◌<◌, ◌≤◌, arith, Bool, true, false, List, ◌++◌, length, drop}
+use Rattle.std.proofs.Common.{◌⊎◌, inl, inr, ℕ, ◌%◌, ◌^◌, ◌<◌, ◌≤◌, arith, Bool, true, false, List, ◌++◌, length, drop}
 use Rattle.std.specs.Prelude.{◌&&◌, ◌||◌, ◌==◌, if◌then◌else◌, min}
 use Rattle.rv_isa_laws.specs.Memory.{Mem, Read, Write, may}
 use Rattle.rv_isa_laws.specs.Hart.{Hart, register}

@@ -1,8 +1,8 @@
 -- The rows of an address by two instructions: the upper part of its distance in a register, and an instruction that takes the rest.
 
-use Rattle.std.proofs.Common.{◌≡◌, ℕ, ◌+◌, ◌*◌, ◌/◌, ◌%◌, ◌^◌, ◌<◌, Bool, true, false, List, [], ◌∷◌, length, set, refl, sym, ap, ◌∙◌, subst, arith, ℤ, pos}
+use Rattle.std.proofs.Common.{◌≡◌, ℕ, ◌+◌, ◌*◌, ◌/◌, ◌%◌, ◌^◌, ◌<◌, Bool, true, false, List, [], ◌∷◌, length, refl, sym, ap, ◌∙◌, subst, arith, ℤ, pos}
 use Rattle.std.specs.Prelude.{◌==◌, if◌then◌else◌, slice_index}
-use Rattle.std.proofs.lemmas.Bool.{eqb-false, eqb-true}
+use Rattle.std.proofs.lemmas.Bool.{eqb-false}
 use Rattle.std.proofs.lemmas.List.{get_or-set_other}
 use Rattle.rv_isa.specs.declared.instruction.Inst.{Inst}
 use Rattle.rv_isa.specs.declared.instruction.Inst.TheVariants as inst
@@ -18,19 +18,19 @@ use Rattle.rv_isa.specs.Operations.{of_load, of_store}
 use Rattle.rv_isa_laws.specs.Arithmetic.{wrapped, sum_of}
 use Rattle.rv_isa_laws.specs.Halves.{hi, lo}
 use Rattle.rv_isa_laws.specs.Hart.{Hart, register, with_register, advanced}
-use Rattle.rv_isa_laws.specs.Effect.{Effect, Goes, Loads, Stores}
-use Rattle.rv_isa_laws.specs.Meaning.{effect, sets, jumps, loads, stores, with_result, load_width, load_result, store_width}
+use Rattle.rv_isa_laws.specs.Effect.{Goes, Loads, Stores}
+use Rattle.rv_isa_laws.specs.Meaning.{effect, jumps, loads, stores, with_result, load_width, load_result, store_width}
 use Rattle.rv_reloc.specs.Fields.{modulo}
 use Rattle.rv_reloc.specs.Operands.{with_value, immediate_of, store_of}
-use Rattle.rv_reloc.specs.Ranges.{Takes, HasUpper, IsOdd}
+use Rattle.rv_reloc.specs.Ranges.{Takes, HasUpper}
 use Rattle.rv_pseudo_laws.specs.Li.{addi}
-use Rattle.rv_pseudo_laws.specs.Code.{Part, Closed, Open, Joined, i_type, s_type, u_type, jalr, auipc, near, far, jump}
+use Rattle.rv_pseudo_laws.specs.Code.{Joined, i_type, s_type, u_type, jalr, auipc, near, far, jump}
 use Rattle.rv_pseudo_laws.specs.Filled.{FieldValue}
-use Rattle.rv_pseudo_laws.proofs.Sequences.{again, with_same, register_set, put, put_again, put_same}
-use Rattle.rv_source_laws.specs.Lines.{Line, Lie}
+use Rattle.rv_pseudo_laws.proofs.Sequences.{again, register_set, put, put_again}
+use Rattle.rv_source_laws.specs.Lines.{Line}
 use Rattle.rv_source_laws.specs.Meaning.{on_the_way, loads_from, stores_to, goes_by}
 use Rattle.rv_chain_laws.proofs.Numbers.{between, leads, even_target, halfway, leads_on, on_way}
-use Rattle.rv_chain_laws.proofs.Shapes.{insts, Ready, Does, does_as, two_lines}
+use Rattle.rv_chain_laws.proofs.Shapes.{insts, Does, does_as, two_lines}
 use Rattle.rv_chain_laws.proofs.Rows.{Row, Leads, SetsTo, two_sets, row_jump, valid_parts}
 
 -- the first instruction
@@ -199,12 +199,12 @@ far_lines link by target f address size lines some r to =
     let inside : by < length h.registers = omega arith in
     let next : ((h.pc + b) % 2 ^ 64 + c) % 2 ^ 64 ≡ (h.pc + size) % 2 ^ 64 = omega arith in
     let s : sum_of (register g by) (wrapped (lo d)) ≡ target % 2 ^ 64 =
-        ap (λ u. (u + wrapped (lo d)) % 2 ^ 64) (register_set by b h (halfway h.pc d) some inside (small_half h.pc d))
-        ∙ whole_target h.pc address target k.at (omega arith) takes.range in
+    ap (λ u. (u + wrapped (lo d)) % 2 ^ 64) (register_set by b h (halfway h.pc d) some inside (small_half h.pc d))
+    ∙ whole_target h.pc address target k.at (omega arith) takes.range in
     let from_even : address % 2 ≡ 0 = omega arith in
     let still : target % 2 ^ 64 % 2 ≡ 0 = subst (λ n. n % 2 ≡ 0) (leads address target (omega arith)) (even_target address d from_even (takes.even refl)) in
     let half : (sum_of (register g by) (wrapped (lo d)) / 2 * 2) % 2 ^ 64 ≡ target % 2 ^ 64 =
-        half_target (sum_of (register g by) (wrapped (lo d))) target s (subst (λ n. n % 2 ≡ 0) (sym s) still) in
+    half_target (sum_of (register g by) (wrapped (lo d))) target s (subst (λ n. n % 2 ≡ 0) (sym s) still) in
     λ i. Goes (record (with_register (with_register h by (halfway h.pc d % 2 ^ 64)) link (next i)) { pc = half i }))
 
 -- a call: by the register that it links in

@@ -1,37 +1,24 @@
 -- The shapes of the table's rows: what the code of a statement comes to where its fields are filled.
 
-use Rattle.std.proofs.Common.{◌≡◌, ℕ, zero, suc, ◌+◌, ◌-◌, ◌*◌, ◌/◌, ◌%◌, ◌^◌, ◌<◌, ◌≤◌, Bool, true, false, not, ◌&&◌, List, [], ◌∷◌, ◌++◌, Option, Some, None, length, refl, sym, ap, ◌∙◌, subst, arith, ℤ, pos, negsuc}
-use Rattle.std.specs.Prelude.{map, ◌==◌, nat_lt, if◌then◌else◌, sum_by, bit_and, bit_xor, slice_index}
+use Rattle.std.proofs.Common.{◌≡◌, ℕ, ◌+◌, ◌-◌, ◌*◌, ◌%◌, ◌^◌, ◌<◌, ◌≤◌, Bool, true, false, not, ◌&&◌, List, [], ◌∷◌, Some, length, refl, sym, ap, ◌∙◌, subst, arith, ℤ, pos, negsuc}
+use Rattle.std.specs.Prelude.{map, ◌==◌, nat_lt, if◌then◌else◌, bit_and, bit_xor, slice_index}
 use Rattle.std.specs.List.{AllByRecursion}
-use Rattle.std.specs.Ordering.{int_eq}
-use Rattle.std.proofs.lemmas.Bool.{eqb-true, eqb-false}
-use Rattle.std.proofs.lemmas.Bool.Decides.{nat_tests}
-use Rattle.std.proofs.lemmas.Int.{ints}
-use Rattle.std.proofs.lemmas.List.{get_or-set_other}
+use Rattle.std.proofs.lemmas.Bool.{eqb-true}
 use Rattle.rv_isa.specs.declared.instruction.Inst.{Inst}
 use Rattle.rv_isa.specs.declared.instruction.Inst.TheVariants as inst
-use Rattle.rv_isa.specs.declared.instruction.IType.{IType}
-use Rattle.rv_isa.specs.declared.instruction.SType.{SType}
 use Rattle.rv_isa.specs.declared.instruction.BType.{BType}
 use Rattle.rv_isa.specs.declared.kind.Kind.{Kind}
 use Rattle.rv_isa.specs.declared.kind.Kind.TheVariants as kind
-use Rattle.rv_isa.specs.declared.operation.LoadOperation.{LoadOperation}
-use Rattle.rv_isa.specs.declared.operation.LoadOperation.TheVariants.{Lb, Lh, Lw, Ld, Lbu, Lhu, Lwu}
-use Rattle.rv_isa.specs.declared.operation.StoreOperation.{StoreOperation}
-use Rattle.rv_isa.specs.declared.operation.StoreOperation.TheVariants.{Sb, Sh, Sw, Sd}
 use Rattle.rv_isa.specs.declared.operation.BranchOperation.{BranchOperation}
 use Rattle.rv_isa.specs.declared.operation.BranchOperation.TheVariants.{Beq, Bne, Blt, Bge, Bltu, Bgeu}
-use Rattle.rv_isa.specs.Operations.{of_load, of_store, of_branch}
+use Rattle.rv_isa.specs.Operations.{of_branch}
 use Rattle.rv_isa.specs.Ranges.{IsValid}
-use Rattle.rv_isa_laws.specs.Arithmetic.{wrapped, signed, extended, low, one_if, sum_of, difference_of, word_difference, word_sum, less_signed, shifted_left, shifted_right, shifted_right_signed}
-use Rattle.rv_isa_laws.specs.Halves.{hi, lo}
+use Rattle.rv_isa_laws.specs.Arithmetic.{wrapped, extended, low, one_if, sum_of, difference_of, word_difference, word_sum, less_signed, shifted_left, shifted_right, shifted_right_signed}
 use Rattle.rv_isa_laws.specs.Hart.{Hart, register, with_register, advanced}
-use Rattle.rv_isa_laws.specs.Effect.{Effect, Goes, Loads, Stores}
+use Rattle.rv_isa_laws.specs.Effect.{Goes}
 use Rattle.rv_isa_laws.specs.Kept.{InRange}
-use Rattle.rv_isa_laws.specs.Meaning.{effect, sets, branches, jumps, loads, stores, with_result, is_taken, load_width, load_result, store_width, upper}
-use Rattle.rv_reloc.specs.Fields.{modulo}
-use Rattle.rv_reloc.specs.Operands.{with_value, immediate_of, store_of, branch_to}
-use Rattle.rv_reloc.specs.Ranges.{Takes, HasUpper, IsOdd}
+use Rattle.rv_isa_laws.specs.Meaning.{effect, sets, branches, jumps, with_result, is_taken}
+use Rattle.rv_reloc.specs.Operands.{with_value, branch_to}
 use Rattle.rv_reloc.specs.Values.{value_of}
 use Rattle.rv_statement.specs.declared.pseudo.UnaryOperation.{UnaryOperation}
 use Rattle.rv_statement.specs.declared.pseudo.UnaryOperation.TheVariants.{Mv, Not, Neg, Negw, SextB, SextH, SextW, ZextB, ZextH, ZextW, Seqz, Snez, Sltz, Sgtz}
@@ -41,15 +28,14 @@ use Rattle.rv_statement.specs.declared.pseudo.ZeroBranchOperation.{ZeroBranchOpe
 use Rattle.rv_statement.specs.declared.pseudo.ZeroBranchOperation.TheVariants.{Beqz, Bnez, Bgez, Bltz, Blez, Bgtz}
 use Rattle.rv_statement.specs.declared.pseudo.SwappedBranchOperation.{SwappedBranchOperation}
 use Rattle.rv_statement.specs.declared.pseudo.SwappedBranchOperation.TheVariants.{Bgt, Ble, Bgtu, Bleu}
-use Rattle.rv_pseudo_laws.specs.Li.{addi, addiw, slli, lui, is_signed, upper_20, unless_zero, above, li_in, li, then_low}
-use Rattle.rv_pseudo_laws.specs.Code.{Part, Closed, Open, Joined, r_type, i_type, s_type, b_type, u_type, shift_by, jalr, jal, auipc, unary, compare, inverted, branch, jump, near, far, zero_branch, swapped_branch}
+use Rattle.rv_pseudo_laws.specs.Li.{addi, addiw, slli}
+use Rattle.rv_pseudo_laws.specs.Code.{Part, Closed, Open, Joined, r_type, i_type, b_type, shift_by, jal, unary, compare, inverted, branch, jump, zero_branch, swapped_branch}
 use Rattle.rv_pseudo_laws.specs.Filled.{FieldValue, filled, AreTaken}
-use Rattle.rv_pseudo_laws.specs.Runs.{Sized}
-use Rattle.rv_pseudo_laws.proofs.Sequences.{again, with_same, register_set, put, put_again, put_same, li_sets}
+use Rattle.rv_pseudo_laws.proofs.Sequences.{again, with_same, register_set}
 use Rattle.rv_source_laws.specs.Lines.{Line, Lie, is_low_part}
-use Rattle.rv_source_laws.specs.Meaning.{unary_result, compare_result, zero_taken, swapped_taken, goes_if, on_the_way, loads_from, stores_to, goes_by, alone_effect}
-use Rattle.rv_chain_laws.proofs.Numbers.{between, leads, even_target, halfway, leads_on, on_way, complement, low_byte, none_below_one, some_above, signed_byte, signed_half, low_half, low_word}
-use Rattle.rv_chain_laws.proofs.Shapes.{insts, walked, Ready, Does, does_as, one_line, two_lines, branch_effect, over_jump, IsStraight, sized, sized_are, sized_bytes, walk_after}
+use Rattle.rv_source_laws.specs.Meaning.{unary_result, compare_result, zero_taken, swapped_taken, goes_if, alone_effect}
+use Rattle.rv_chain_laws.proofs.Numbers.{between, leads, complement, low_byte, none_below_one, some_above, signed_byte, signed_half, low_half, low_word}
+use Rattle.rv_chain_laws.proofs.Shapes.{insts, Ready, Does, one_line, two_lines, branch_effect, over_jump}
 
 -- the row of a statement at an address: its lines are its parts with their fields filled
 pub record Row (f : FieldValue) (address size : ℕ) (ps : List Part) (lines : List Line) : Type 0 where

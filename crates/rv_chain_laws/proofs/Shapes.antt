@@ -1,6 +1,6 @@
 -- What lines come to, by their shape: one, two of which the first sets a register, a branch over a jump, or many that only go on.
 
-use Rattle.std.proofs.Common.{◌≡◌, ℕ, zero, suc, ◌+◌, ◌-◌, ◌%◌, ◌^◌, ◌<◌, ◌≤◌, Bool, true, false, not, List, [], ◌∷◌, Some, length, refl, sym, ap, ◌∙◌, arith, ℤ, pos}
+use Rattle.std.proofs.Common.{◌≡◌, ℕ, ◌+◌, ◌%◌, ◌^◌, ◌<◌, ◌≤◌, Bool, true, false, not, List, [], ◌∷◌, Some, length, refl, sym, ap, ◌∙◌, arith, ℤ, pos}
 use Rattle.std.specs.Prelude.{map, ◌==◌, if◌then◌else◌, sum_by}
 use Rattle.std.specs.List.{AllByRecursion}
 use Rattle.std.proofs.lemmas.Bool.{eq-eqb, ne_eqb}
@@ -11,11 +11,11 @@ use Rattle.rv_isa.specs.declared.operation.BranchOperation.{BranchOperation}
 use Rattle.rv_isa.specs.declared.operation.BranchOperation.TheVariants.{Beq, Bne, Blt, Bge, Bltu, Bgeu}
 use Rattle.rv_isa.specs.declared.instruction.BType.{BType}
 use Rattle.rv_isa.specs.Operations.{of_branch}
-use Rattle.rv_isa_laws.specs.Arithmetic.{wrapped, less_signed}
-use Rattle.rv_isa_laws.specs.Hart.{Hart, register, with_register}
+use Rattle.rv_isa_laws.specs.Arithmetic.{wrapped}
+use Rattle.rv_isa_laws.specs.Hart.{Hart, register}
 use Rattle.rv_isa_laws.specs.Effect.{Effect, Goes}
 use Rattle.rv_isa_laws.specs.Kept.{InRange}
-use Rattle.rv_isa_laws.specs.Meaning.{effect, sets, branches, jumps, with_result, is_taken}
+use Rattle.rv_isa_laws.specs.Meaning.{effect, sets, branches, with_result, is_taken}
 use Rattle.rv_pseudo_laws.specs.Code.{inverted, b_type}
 use Rattle.rv_pseudo_laws.specs.Runs.{Sized, goes_on, after}
 use Rattle.rv_source_laws.specs.Lines.{Line, Lie}
@@ -141,7 +141,7 @@ over_by true d target address k h pc below at is e =
     let here : (h.pc + 4) % 2 ^ 64 ≡ address + 4 = omega arith in
     let g : Hart = record h { pc = (h.pc + 4) % 2 ^ 64 } in
     let to : ((h.pc + 4) % 2 ^ 64 + wrapped d) % 2 ^ 64 ≡ target % 2 ^ 64 =
-        ap (λ n. (n + wrapped d) % 2 ^ 64) here ∙ ap (λ z. (address + 4 + wrapped z) % 2 ^ 64) e ∙ leads (address + 4) target (omega arith) in
+    ap (λ n. (n + wrapped d) % 2 ^ 64) here ∙ ap (λ z. (address + 4 + wrapped z) % 2 ^ 64) e ∙ leads (address + 4) target (omega arith) in
     go_on ((h.pc + 4) % 2 ^ 64 == k.address) (once (effect k.instruction k.bytes g)) (once (goes_if true target 8 h)) (Goes g)
     (eq-eqb ((h.pc + 4) % 2 ^ 64) k.address there)
     (ap (λ n. once (effect n k.bytes g)) is ∙ ap (λ n. once (Goes (record h { pc = n }))) to)

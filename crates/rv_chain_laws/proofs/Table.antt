@@ -1,6 +1,6 @@
 -- Each row of the table of code: its lines come to what the statement means, and count what it costs.
 
-use Rattle.std.proofs.Common.{◌≡◌, ℕ, ◌+◌, Bool, true, false, not, ◌&&◌, List, [], ◌∷◌, Option, Some, None, length, refl, sym, ap, ◌∙◌, subst, ℤ, pos}
+use Rattle.std.proofs.Common.{◌≡◌, ℕ, Bool, true, false, ◌&&◌, List, [], ◌∷◌, Option, Some, None, length, refl, sym, ap, ◌∙◌, subst, ℤ}
 use Rattle.std.specs.Prelude.{map, ◌==◌, if◌then◌else◌, option_map}
 use Rattle.rv_isa.specs.declared.instruction.Inst.{Inst}
 use Rattle.rv_isa.specs.declared.kind.Kind.{Kind}
@@ -9,19 +9,18 @@ use Rattle.rv_isa_laws.specs.Arithmetic.{wrapped, signed}
 use Rattle.rv_isa_laws.specs.Halves.{lo}
 use Rattle.rv_isa_laws.specs.Hart.{Hart, register}
 use Rattle.rv_isa_laws.specs.Effect.{Effect}
-use Rattle.rv_isa_laws.specs.Meaning.{sets}
 use Rattle.rv_statement.specs.declared.mnemonic.Mnemonic.{Mnemonic}
 use Rattle.rv_statement.specs.declared.mnemonic.Mnemonic.TheVariants.{Registers, Immediate, Shift, Upper, Load, Store, Branch, Jal, Jalr, LoadReserved, Atomic, Fence, FenceTso, Ecall, Ebreak, Nop, Unary, Compare, ZeroBranch, SwappedBranch, J, Jr, Ret, La, Li, Call, Tail, Jump}
 use Rattle.rv_statement.specs.declared.pseudo.Function.TheVariants.{Hi, Lo, PcrelHi, PcrelLo}
 use Rattle.rv_statement.specs.Statement.{Operand, Register, Value, Applied, Target, Accesses, Expression}
 use Rattle.rv_parse_laws.specs.Syntax.{with_constant}
 use Rattle.rv_pseudo_laws.specs.Li.{is_signed, li}
-use Rattle.rv_pseudo_laws.specs.Code.{Part, Closed, Open, Joined, Constants, by_number, by_part, signed_12, upper_20, number_of, by_amount, by_constant, i_type, s_type, u_type, jalr, through, code}
+use Rattle.rv_pseudo_laws.specs.Code.{Part, Closed, Constants, by_number, by_part, signed_12, upper_20, number_of, by_constant, i_type, s_type, u_type, jalr, through, code}
 use Rattle.rv_pseudo_laws.specs.Filled.{FieldValue}
 use Rattle.rv_source_laws.specs.Lines.{Line, other_operand, operand_number}
-use Rattle.rv_source_laws.specs.Meaning.{taken, pseudo_effect, else_alone, else_goes_if, is_passed, alone_effect, number_in}
+use Rattle.rv_source_laws.specs.Meaning.{taken, pseudo_effect, else_alone, else_goes_if, is_passed, number_in}
 use Rattle.rv_chain_laws.proofs.Shapes.{insts, Does, does_as}
-use Rattle.rv_chain_laws.proofs.Rows.{Row, row_as, Leads, SetsTo, IsOne, row_alone, row_unary, row_compare, row_jump, row_branch, row_zero_branch, row_swapped_branch}
+use Rattle.rv_chain_laws.proofs.Rows.{Row, row_as, Leads, SetsTo, IsOne, row_alone, row_unary, row_compare, row_branch, row_zero_branch, row_swapped_branch}
 use Rattle.rv_chain_laws.proofs.Pairs.{row_near, row_load, row_store, row_call, row_far}
 use Rattle.rv_chain_laws.proofs.LoadImmediate.{row_li, signed_fits, low_fits}
 

@@ -12,7 +12,7 @@ use Rattle.rv_isa_laws.specs.Meaning.{effect}
 use Rattle.rv_isa_laws.specs.Kept.{GoesOn, Kept, InRange}
 use Rattle.rv_isa_laws.proofs.EffectLaws.{effect_keeps}
 use Rattle.rv_isa_laws.specs.Reader.{Reader}
-use Rattle.rv_isa_laws.specs.Run.{Fetched, NoRight, Got, spelled, length_at, fetch, step, run, done}
+use Rattle.rv_isa_laws.specs.Run.{NoRight, Got, spelled, length_at, fetch, step, run, done}
 use Rattle.rv_source_laws.specs.Lines.{Line}
 use Rattle.rv_chain_laws.specs.Realizes.{StandsIn}
 use Rattle.rv_chain_laws.proofs.Even.{IsEven, effect_even}
