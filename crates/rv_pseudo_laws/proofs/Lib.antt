@@ -1,3 +1,5 @@
 pub mod Modulo
 pub mod Zeros
 pub mod Sequences
+pub mod Formats
+pub mod Filling

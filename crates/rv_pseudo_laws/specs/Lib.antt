@@ -2,3 +2,4 @@ pub mod Li
 pub mod Runs
 pub mod Code
 pub mod Filled
+pub mod Valid

@@ -1,10 +1,17 @@
-//! What holds of the sequences of `li`. Nothing here runs.
+//! What holds of the code of statements, and of the sequences of `li`. Nothing here runs.
 
-ghost use Rattle.std.specs.Prelude.{◌≡◌, ◌<◌, ◌*◌, ◌%◌, ◌^◌, ◌+◌, ◌++◌, ℕ, ℤ, pos, ◌*ℤ◌, true, false, [], ◌∷◌, unsigned_abs, if◌then◌else◌};
+ghost use Rattle.std.specs.Prelude.{◌≡◌, ◌<◌, ◌*◌, ◌%◌, ◌^◌, ◌+◌, ◌++◌, ℕ, ℤ, pos, ◌*ℤ◌, true, false, List, [], ◌∷◌, unsigned_abs, if◌then◌else◌};
 ghost use Rattle.std.specs.List.{AllByRecursion};
+ghost use Rattle.rv_isa.specs.declared.instruction.Inst.{Inst};
+ghost use Rattle.rv_isa.specs.declared.kind.Kind.{Kind};
 ghost use Rattle.rv_isa.specs.Ranges.{IsValid};
 ghost use Rattle.rv_isa_laws.specs.Arithmetic.{wrapped};
 ghost use Rattle.rv_isa_laws.specs.Halves.{hi, lo};
+ghost use Rattle.rv_reloc.specs.Operands.{with_value};
+ghost use Rattle.rv_reloc.specs.Ranges.{Takes};
+ghost use Rattle.rv_pseudo_laws.specs.Code.{Part};
+ghost use Rattle.rv_pseudo_laws.specs.Filled.{FieldValue, AreTaken, filled};
+ghost use Rattle.rv_pseudo_laws.specs.Valid.{IsOpen, IsValidPart};
 ghost use Rattle.rv_pseudo_laws.specs.Li.{is_signed, upper_20, zeros, above, unless_zero, li, lui, addi, addiw, slli};
 ghost use Rattle.rv_pseudo_laws.specs.Runs.{Sets};
 
@@ -37,4 +44,13 @@ pub fn li_shrinks()
 pub fn li_valid()
     ensures { (rd : ℕ) (v : ℤ) → rd < 32 → is_signed 64 v ≡ true →
         AllByRecursion IsValid (li rd v) }
+{}
+
+/// An instruction of which a relocation fills the field keeps its operands in their ranges, and so does the code of a
+/// statement with its open fields filled.
+pub fn filling_valid()
+    ensures one { (k : Kind) (v : ℤ) (i : Inst) → IsOpen k i → Takes k v → IsValid (with_value v i) }
+    ensures all { (value : FieldValue) (a : ℕ) (parts : List Part) →
+        AllByRecursion IsValidPart parts → AreTaken value a parts →
+        AllByRecursion IsValid (filled value a parts) }
 {}

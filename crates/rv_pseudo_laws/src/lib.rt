@@ -10,4 +10,4 @@
 
 mod laws;
 
-pub use laws::{li_recurs, li_sets, li_shrinks, li_valid};
+pub use laws::{filling_valid, li_recurs, li_sets, li_shrinks, li_valid};
