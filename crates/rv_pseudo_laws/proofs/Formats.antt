@@ -1,6 +1,6 @@
 -- The format of each instruction that an operation writes is that of the operation, so what holds of the format holds of it.
 
-use Rattle.std.proofs.Common.{◌≡◌, Bool, true, false, refl, sym, subst}
+use Rattle.std.proofs.Common.{◌≡◌, Bool, true, false, refl}
 use Rattle.rv_isa.specs.declared.instruction.RType.{RType}
 use Rattle.rv_isa.specs.declared.instruction.IType.{IType}
 use Rattle.rv_isa.specs.declared.instruction.SType.{SType}

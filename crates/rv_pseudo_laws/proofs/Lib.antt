@@ -3,3 +3,4 @@ pub mod Zeros
 pub mod Sequences
 pub mod Formats
 pub mod Filling
+pub mod Parts

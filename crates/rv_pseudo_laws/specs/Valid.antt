@@ -1,7 +1,7 @@
 -- Which operands and constants the instructions of a statement can have (ISA, chapter 24), and which of their fields a
 -- relocation of each kind fills (RISC-V ELF psABI, "Relocations").
 
-use Rattle.std.specs.Prelude.{◌≡◌, ◌^◌, ℤ, pos, Bool, true, false, ◌&&◌, ◌||◌, int_le, int_lt, List, [], ◌∷◌, Option, Some, None, option_map, ⊤}
+use Rattle.std.specs.Prelude.{◌≡◌, ◌^◌, ℤ, pos, Bool, true, false, ◌&&◌, ◌||◌, int_le, int_lt, List, Option, Some, None, option_map, ⊤}
 use Rattle.std.specs.List.{AllByRecursion}
 use Rattle.rv_isa.specs.declared.kind.Kind.{Kind}
 use Rattle.rv_isa.specs.declared.kind.Kind.TheVariants as kind
@@ -14,7 +14,7 @@ use Rattle.rv_isa.specs.Ranges.{IsReg, IsValid, shift_limit}
 use Rattle.rv_isa_laws.specs.Halves.{hi, lo}
 use Rattle.rv_statement.specs.declared.mnemonic.Mnemonic.{Mnemonic}
 use Rattle.rv_statement.specs.declared.mnemonic.Mnemonic.TheVariants.{Registers, Immediate, Shift, Upper, Li}
-use Rattle.rv_statement.specs.declared.pseudo.Function.TheVariants.{Hi, Lo, PcrelHi, PcrelLo}
+use Rattle.rv_statement.specs.declared.pseudo.Function.TheVariants.{Hi, Lo}
 use Rattle.rv_statement.specs.Statement.{Operand, Register, Value, Applied}
 use Rattle.rv_parse_laws.specs.Syntax.{with_constant}
 use Rattle.rv_pseudo_laws.specs.Li.{is_signed}

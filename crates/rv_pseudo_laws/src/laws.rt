@@ -1,6 +1,6 @@
 //! What holds of the code of statements, and of the sequences of `li`. Nothing here runs.
 
-ghost use Rattle.std.specs.Prelude.{◌≡◌, ◌<◌, ◌*◌, ◌%◌, ◌^◌, ◌+◌, ◌++◌, ℕ, ℤ, pos, ◌*ℤ◌, true, false, List, [], ◌∷◌, unsigned_abs, if◌then◌else◌};
+ghost use Rattle.std.specs.Prelude.{◌≡◌, ◌<◌, ◌*◌, ◌%◌, ◌^◌, ◌+◌, ◌++◌, ℕ, ℤ, pos, ◌*ℤ◌, Bool, true, false, List, [], ◌∷◌, Some, unsigned_abs, if◌then◌else◌};
 ghost use Rattle.std.specs.List.{AllByRecursion};
 ghost use Rattle.rv_isa.specs.declared.instruction.Inst.{Inst};
 ghost use Rattle.rv_isa.specs.declared.kind.Kind.{Kind};
@@ -9,9 +9,11 @@ ghost use Rattle.rv_isa_laws.specs.Arithmetic.{wrapped};
 ghost use Rattle.rv_isa_laws.specs.Halves.{hi, lo};
 ghost use Rattle.rv_reloc.specs.Operands.{with_value};
 ghost use Rattle.rv_reloc.specs.Ranges.{Takes};
-ghost use Rattle.rv_pseudo_laws.specs.Code.{Part};
+ghost use Rattle.rv_statement.specs.declared.mnemonic.Mnemonic.{Mnemonic};
+ghost use Rattle.rv_statement.specs.Statement.{Operand};
+ghost use Rattle.rv_pseudo_laws.specs.Code.{Part, Constants, code};
 ghost use Rattle.rv_pseudo_laws.specs.Filled.{FieldValue, AreTaken, filled};
-ghost use Rattle.rv_pseudo_laws.specs.Valid.{IsOpen, IsValidPart};
+ghost use Rattle.rv_pseudo_laws.specs.Valid.{AreOperandsOf, IsOpen, IsValidPart};
 ghost use Rattle.rv_pseudo_laws.specs.Li.{is_signed, upper_20, zeros, above, unless_zero, li, lui, addi, addiw, slli};
 ghost use Rattle.rv_pseudo_laws.specs.Runs.{Sets};
 
@@ -44,6 +46,15 @@ pub fn li_shrinks()
 pub fn li_valid()
     ensures { (rd : ℕ) (v : ℤ) → rd < 32 → is_signed 64 v ≡ true →
         AllByRecursion IsValid (li rd v) }
+{}
+
+/// Every part of a statement's code has its operands in their ranges, where the statement's own are, and an open field is
+/// one of its relocation's kind.
+pub fn code_valid()
+    ensures { (v : Constants) (rvc : Bool) (bytes : ℕ) (mnemonic : Mnemonic)
+        (operands : List Operand) (parts : List Part) →
+        AreOperandsOf v mnemonic operands → code v rvc bytes mnemonic operands ≡ Some parts →
+        AllByRecursion IsValidPart parts }
 {}
 
 /// An instruction of which a relocation fills the field keeps its operands in their ranges, and so does the code of a
