@@ -1,9 +1,11 @@
 //! Statements without an expression.
 
-ghost use Rattle.std.specs.Prelude.{◌≡◌, ◌<◌, [], ◌∷◌, ◌==◌, map};
+ghost use Rattle.std.specs.Prelude.{◌≡◌, ℕ, ◌<◌, [], ◌∷◌, ◌==◌, map};
 ghost use Rattle.rv_isa.specs.Operations.{of_reserve, of_atomic, of_shift};
 ghost use Rattle.rv_isa.specs.Ranges.{shift_limit};
 ghost use Rattle.rv_statement.specs.declared.pseudo.UnaryOperation.TheVariants.{Mv};
+ghost use Rattle.rv_statement.specs.View.{plain_of};
+ghost use Rattle.rv_pseudo_laws.specs.Code as row;
 ghost use Rattle.rv_pseudo_laws.specs.Li as li;
 ghost use Rattle.rv_pseudo.specs.Templates as is;
 
@@ -37,14 +39,14 @@ pub(crate) fn is_x0(register: Reg) -> bool
 
 /// `jalr rd, immediate(rs1)`
 pub(crate) fn jalr(rd: Reg, rs1: Reg, immediate: i32) -> Inst
-    ensures { result ≡ is.jalr rd rs1 immediate }
+    ensures { result ≡ row.jalr rd rs1 immediate }
 {
     Inst::Jalr(IType { immediate, rd, rs1 })
 }
 
 /// A load-reserved of four or eight bytes.
 fn load_reserved(form: AtomicForm, rd: Reg, rs1: Reg) -> Inst
-    ensures { result ≡ of_reserve form.double (is.reserve form rd rs1) }
+    ensures { result ≡ of_reserve form.double (row.reserve form rd rs1) }
 {
     let AtomicForm {
         double,
@@ -62,7 +64,7 @@ fn load_reserved(form: AtomicForm, rd: Reg, rs1: Reg) -> Inst
 
 /// A store-conditional or an atomic memory operation.
 fn atomic(operation: AtomicOperation, form: AtomicForm, rd: Reg, rs2: Reg, rs1: Reg) -> Inst
-    ensures { result ≡ of_atomic operation form.double (is.atomic form rd rs2 rs1) }
+    ensures { result ≡ of_atomic operation form.double (row.atomic form rd rs2 rs1) }
 {
     let AtomicForm {
         double,
@@ -81,7 +83,7 @@ fn atomic(operation: AtomicOperation, form: AtomicForm, rd: Reg, rs2: Reg, rs1: 
 
 /// `mv`, in the form that has two bytes where compressed code is on.
 fn mv(rvc: bool, rd: Reg, rs: Reg) -> Inst
-    ensures { result ∷ [] ≡ is.unary rvc Mv rd rs }
+    ensures { result ∷ [] ≡ row.unary rvc Mv rd rs }
 {
     if rvc && !is_x0(rd) && !is_x0(rs) {
         Inst::Add(r_type(rd, x0(), rs))
@@ -95,7 +97,7 @@ fn extended(back: ShiftOperation, rd: Reg, rs: Reg, amount: u8) -> Templates
     requires left { amount < 64 }
     requires back { amount < shift_limit back }
     ensures { result.items
-        ≡ is.plain (li.slli rd rs amount) ∷ is.plain (of_shift back (is.shift_by rd rd amount)) ∷
+        ≡ is.plain (li.slli rd rs amount) ∷ is.plain (of_shift back (row.shift_by rd rd amount)) ∷
         [] }
 {
     let there = Inst::Slli(Shift {
@@ -113,21 +115,21 @@ fn extended(back: ShiftOperation, rd: Reg, rs: Reg, amount: u8) -> Templates
 
 /// `rd, rs1, immediate`
 fn i_type(rd: Reg, rs1: Reg, immediate: i32) -> IType
-    ensures { result ≡ is.i_type rd rs1 immediate }
+    ensures { result ≡ row.i_type rd rs1 immediate }
 {
     IType { immediate, rd, rs1 }
 }
 
 /// `rd, rs1, rs2`
 fn r_type(rd: Reg, rs1: Reg, rs2: Reg) -> RType
-    ensures { result ≡ is.r_type rd rs1 rs2 }
+    ensures { result ≡ row.r_type rd rs1 rs2 }
 {
     RType { rd, rs1, rs2 }
 }
 
 /// An operation on one register, as one instruction or as two shifts.
 fn unary(rvc: bool, operation: UnaryOperation, rd: Reg, rs: Reg) -> Templates
-    ensures { result.items ≡ map is.plain (is.unary rvc operation rd rs) }
+    ensures { result.items ≡ is.all_templates (map row.Closed (row.unary rvc operation rd rs)) }
 {
     match operation {
         UnaryOperation::Mv => one(plain(mv(rvc, rd, rs))),
@@ -149,7 +151,7 @@ fn unary(rvc: bool, operation: UnaryOperation, rd: Reg, rs: Reg) -> Templates
 
 /// A comparison with its sources swapped.
 fn compare(operation: CompareOperation, rd: Reg, rs1: Reg, rs2: Reg) -> Inst
-    ensures { result ≡ is.compare operation rd rs1 rs2 }
+    ensures { result ≡ row.compare operation rd rs1 rs2 }
 {
     let swapped = RType {
         rd,
@@ -164,7 +166,7 @@ fn compare(operation: CompareOperation, rd: Reg, rs1: Reg, rs2: Reg) -> Inst
 
 /// The templates of a statement without an expression.
 pub(crate) fn bare(statement: Plain, rvc: bool) -> Templates
-    ensures { result.items ≡ map is.plain (is.plain_row rvc statement) }
+    ensures { (bytes : ℕ) → is.AreOpen rvc bytes (plain_of statement) result.items }
 {
     let inst = match statement {
         Plain::Registers(operation, rd, rs1, rs2) => operation.instruction(r_type(rd, rs1, rs2)),

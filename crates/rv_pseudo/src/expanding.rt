@@ -1,6 +1,9 @@
 //! The templates of any statement of code.
 
-ghost use Rattle.std.specs.Prelude.{◌≡◌, None};
+ghost use Rattle.std.specs.Prelude.{◌≡◌, Some, None};
+ghost use Rattle.rv_statement.specs.Statement.{Expression};
+ghost use Rattle.rv_statement.specs.View.{statement_kind};
+ghost use Rattle.rv_pseudo.specs.Faults as faults;
 ghost use Rattle.rv_pseudo.specs.Templates as is;
 ghost use Rattle.rv_pseudo.specs.Templates.{Answers, IsExpansion};
 
@@ -22,8 +25,9 @@ fn is_store(operation: &Operation) -> bool
 
 /// The templates of a statement with an operand that has no fault.
 fn templates(operation: Operation, function: Option<Function>, form: Form) -> Templates
-    requires { is.fault operation function form.value ≡ None }
-    ensures { result.items ≡ is.templates form operation function }
+    requires { faults.fault operation function form.value ≡ None }
+    ensures { (e : Expression) →
+        is.templates form (is.said operation function e) ≡ Some result.items }
 {
     if takes_target(&operation) {
         return targeted(form.bytes, operation);
@@ -39,7 +43,9 @@ fn with_operand(
     function: Option<Function>,
     form: Form,
 ) -> Result<Templates, SourceCode>
-    ensures { Answers (is.with_operand form operation function) result }
+    ensures { (e : Expression) →
+        Answers (faults.fault operation function form.value)
+        (is.templates form (is.said operation function e)) result }
 {
     match fault(&operation, function, form.value) {
         Some(code) => Err(code),
@@ -49,7 +55,8 @@ fn with_operand(
 
 /// The templates of what a statement says, or its fault.
 fn expanded(kind: &StatementKind<'_>, form: Form) -> Result<Templates, SourceCode>
-    ensures { Answers (is.expansion form kind.now) result }
+    ensures { Answers (faults.fault_of form kind.now)
+        (is.templates form (statement_kind kind.now)) result }
 {
     match kind {
         StatementKind::Plain(statement) => Ok(bare(*statement, form.rvc)),
@@ -62,15 +69,16 @@ fn expanded(kind: &StatementKind<'_>, form: Form) -> Result<Templates, SourceCod
 }
 
 /// The base instructions that stand for an instruction or a pseudo-instruction in a form, with the relocations of its open
-/// operands; none for a label or a directive.
+/// operands; none for a label or a directive. A call has eight bytes, whatever its form.
 ///
 /// # Errors
 ///
 /// At the statement's line the fault with the lowest number: E10 for a scratch register that is x0 or the one that is
 /// stored, E12 for a low part of a distance to a constant, E13 for an open operand where a constant has to stand, E14 for
-/// a constant out of its range or in place of a target. Never want of memory.
+/// a constant out of its range, in place of a target, or a part of one that the field does not take. Never want of memory.
 pub fn expansion(statement: &Statement<'_>, form: Form) -> Result<Templates, SourceFault>
-    ensures { IsExpansion (is.expansion form (statement.now).kind) (statement.now).line result }
+    ensures { IsExpansion (faults.fault_of form (statement.now).kind)
+        (is.templates form (statement_kind (statement.now).kind)) (statement.now).line result }
 {
     match expanded(&statement.kind, form) {
         Ok(templates) => Ok(templates),

@@ -1,9 +1,9 @@
 //! The faults of a statement of code, by the values of its operands.
 
-ghost use Rattle.std.specs.Prelude.{◌≡◌, ◌==◌, ◌&&◌, pos, int_le, int_lt, Some, None};
-ghost use Rattle.rv_isa.specs.Ranges.{shift_limit};
+ghost use Rattle.std.specs.Prelude.{◌≡◌, ◌==◌, Some, None};
 ghost use Rattle.rv_parse_laws.specs.Syntax as syntax;
-ghost use Rattle.rv_pseudo.specs.Templates as is;
+ghost use Rattle.rv_pseudo_laws.specs.Valid.{form_takes, is_amount};
+ghost use Rattle.rv_pseudo.specs.Faults as is;
 
 use crate::bare::is_x0;
 use crate::li::is_short;
@@ -15,14 +15,14 @@ use rv_statement::{Function, Operation};
 
 /// Whether a shift can have this amount.
 fn is_amount(operation: ShiftOperation, number: i64) -> bool
-    ensures { result ≡ (int_le (pos 0) number && int_lt number (pos (shift_limit operation))) }
+    ensures { result ≡ is_amount operation number }
 {
     0 <= number && number < i64::from(operation.limit())
 }
 
 /// Whether a number is in the range of the form with a constant of an operation on registers.
 fn form_takes(operation: RegisterOperation, number: i64) -> bool
-    ensures { result ≡ is.form_takes (syntax.with_constant operation) number }
+    ensures { result ≡ form_takes (syntax.with_constant operation) number }
 {
     match operation {
         RegisterOperation::Add
@@ -132,11 +132,11 @@ fn constant_fault(
     match function {
         None => unless(takes(operation, value), SourceCode::ImmediateRange),
         Some(Function::Hi) => unless(
-            takes(operation, upper_part(value)),
+            is_upper(operation) && takes(operation, upper_part(value)),
             SourceCode::ImmediateRange,
         ),
         Some(Function::Lo) => unless(
-            takes(operation, lower_part(value)),
+            !is_upper(operation) && takes(operation, lower_part(value)),
             SourceCode::ImmediateRange,
         ),
         Some(Function::PcrelHi) => Some(SourceCode::ImmediateRange),

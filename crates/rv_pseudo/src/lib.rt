@@ -4,10 +4,10 @@
 //! It takes a statement of `rv_statement` and a [`Form`] of it: whether compressed code is on, the bytes of a branch or a
 //! jump, and the value of its expression where that is a constant. It gives [`Template`]s, or the fault of its operands.
 //!
-//! Main contracts: `expansion` answers the row of one table, `specs/Templates`; `li_sequence` answers `li`, of which the
-//! laws `li_sets`, `li_recurs`, `li_shrinks` and `li_valid` say what it does to a hart, how it is made, and that every
-//! operand is in its range. Neither takes memory. It must not know what names mean, where a statement stands, or how an
-//! instruction is written as bits.
+//! Main contracts: `expansion` answers the statement's row of the one table, `rv_pseudo_laws/specs/Code`, as templates
+//! (`specs/Templates`), exactly where it has no fault (`specs/Faults`); `li_sequence` answers `li`. What the rows are worth
+//! the laws of `rv_pseudo_laws` say. Neither takes memory. It must not know what names mean, where a statement stands, or
+//! how an instruction is written as bits.
 //!
 //! ```text
 //! let sequence = li_sequence(a0, 2048);            // lui a0, 1 and addiw a0, a0, -2048
@@ -21,13 +21,11 @@
 mod bare;
 mod expanding;
 mod fault;
-mod laws;
 mod li;
 mod number;
 mod target;
 mod template;
 
 pub use expanding::expansion;
-pub use laws::{li_recurs, li_sets, li_shrinks, li_valid};
 pub use li::li_sequence;
 pub use template::{Form, Template};

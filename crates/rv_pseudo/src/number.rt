@@ -1,11 +1,15 @@
 //! Statements with a number, or with a part of an address in place of one.
 
-ghost use Rattle.std.specs.Prelude.{◌≡◌, ◌<◌, ◌&&◌, ◌^◌, true, pos, int_le, int_lt, unsigned_abs};
-ghost use Rattle.rv_isa.specs.Operations.{of_immediate, of_shift, of_upper};
+ghost use Rattle.std.specs.Prelude.{◌≡◌, ◌<◌, ◌^◌, true};
+ghost use Rattle.rv_isa.specs.Operations.{of_immediate, of_shift, of_upper, of_load, of_store};
 ghost use Rattle.rv_isa.specs.Ranges.{IsSigned12, shift_limit};
+ghost use Rattle.rv_isa_laws.specs.Arithmetic.{wrapped};
 ghost use Rattle.rv_isa_laws.specs.Halves.{hi, lo};
 ghost use Rattle.rv_parse_laws.specs.Syntax as syntax;
+ghost use Rattle.rv_pseudo_laws.specs.Code as row;
 ghost use Rattle.rv_pseudo_laws.specs.Li.{is_signed};
+ghost use Rattle.rv_pseudo_laws.specs.Valid.{form_takes, is_amount, is_upper_20};
+ghost use Rattle.rv_pseudo.specs.Faults as faults;
 ghost use Rattle.rv_pseudo.specs.Templates as is;
 
 use crate::bare::{jalr, ra, x0};
@@ -13,8 +17,8 @@ use crate::li::{halves, is_short, li_sequence};
 use crate::template::{Templates, all_plain, with_reloc};
 use arrayvec::ArrayVec;
 use rv_isa::{
-    IType, ImmediateOperation, Kind, Reg, RegisterOperation, SType, Shift, ShiftOperation, UType,
-    UpperOperation,
+    IType, ImmediateOperation, Kind, LoadOperation, Reg, RegisterOperation, SType, Shift,
+    ShiftOperation, StoreOperation, UType, UpperOperation,
 };
 use rv_statement::{Function, Operation};
 
@@ -37,10 +41,28 @@ fn with_immediate(
 ) -> Templates
     requires { is_signed 12 number ≡ true }
     ensures { result.items
-        ≡ is.with_reloc reloc (of_immediate operation (is.i_type rd rs1 number)) }
+        ≡ is.with_reloc reloc (of_immediate operation (row.i_type rd rs1 number)) }
 {
     let immediate = immediate(number);
     with_reloc(operation.instruction(IType { immediate, rd, rs1 }), reloc)
+}
+
+/// The amount of a shift.
+fn amount(operation: ShiftOperation, number: i64) -> u8
+    requires { is_amount operation number ≡ true }
+    ensures same { result ≡ wrapped number }
+    ensures range { result < shift_limit operation }
+{
+    number as u8
+}
+
+/// A number of 20 bits.
+fn upper_field(number: i64) -> u32
+    requires { is_upper_20 number ≡ true }
+    ensures same { result ≡ wrapped number }
+    ensures range { result < 2 ^ 20 }
+{
+    number as u32
 }
 
 /// A shift by a number.
@@ -51,21 +73,21 @@ fn shift(
     number: i64,
     reloc: Option<Kind>,
 ) -> Templates
-    requires { (int_le (pos 0) number && int_lt number (pos (shift_limit operation))) ≡ true }
+    requires { is_amount operation number ≡ true }
     ensures { result.items
-        ≡ is.with_reloc reloc (of_shift operation (is.shift_by rd rs1 (unsigned_abs number))) }
+        ≡ is.with_reloc reloc (of_shift operation (row.shift_by rd rs1 (wrapped number))) }
 {
-    let amount = number as u8;
+    let amount = amount(operation, number);
     with_reloc(operation.instruction(Shift { rd, rs1, amount }), reloc)
 }
 
 /// The upper 20 bits of an instruction.
 fn upper(operation: UpperOperation, rd: Reg, number: i64, reloc: Option<Kind>) -> Templates
-    requires { (int_le (pos 0) number && int_lt number (pos (2 ^ 20))) ≡ true }
+    requires { is_upper_20 number ≡ true }
     ensures { result.items
-        ≡ is.with_reloc reloc (of_upper operation (is.u_type rd (unsigned_abs number))) }
+        ≡ is.with_reloc reloc (of_upper operation (row.u_type rd (wrapped number))) }
 {
-    let immediate = number as u32;
+    let immediate = upper_field(number);
     with_reloc(operation.instruction(UType { immediate, rd }), reloc)
 }
 
@@ -77,8 +99,8 @@ fn with_constant(
     number: i64,
     reloc: Option<Kind>,
 ) -> Templates
-    requires { is.form_takes (syntax.with_constant operation) number ≡ true }
-    ensures { result.items ≡ is.by_constant (syntax.with_constant operation) rd rs1 number reloc }
+    requires { form_takes (syntax.with_constant operation) number ≡ true }
+    ensures { is.IsConstantRow (syntax.with_constant operation) rd rs1 number reloc result.items }
 {
     match operation {
         RegisterOperation::Add => with_immediate(ImmediateOperation::Addi, rd, rs1, number, reloc),
@@ -102,18 +124,47 @@ fn with_constant(
     }
 }
 
+/// A load at a register and a number.
+fn load(operation: LoadOperation, rd: Reg, rs1: Reg, number: i64, reloc: Option<Kind>) -> Templates
+    requires { is_signed 12 number ≡ true }
+    ensures { result.items ≡ is.with_reloc reloc (of_load operation (row.i_type rd rs1 number)) }
+{
+    let immediate = immediate(number);
+    with_reloc(operation.instruction(IType { immediate, rd, rs1 }), reloc)
+}
+
+/// A store at a register and a number.
+fn store(
+    operation: StoreOperation,
+    rs2: Reg,
+    rs1: Reg,
+    number: i64,
+    reloc: Option<Kind>,
+) -> Templates
+    requires { is_signed 12 number ≡ true }
+    ensures { result.items ≡ is.with_reloc reloc (of_store operation (row.s_type rs2 rs1 number)) }
+{
+    let immediate = immediate(number);
+    let x = SType {
+        immediate,
+        rs1,
+        rs2,
+    };
+    with_reloc(operation.instruction(x), reloc)
+}
+
 /// A jump to a register and a number.
 fn jump(rd: Reg, rs1: Reg, number: i64, reloc: Option<Kind>) -> Templates
     requires { is_signed 12 number ≡ true }
-    ensures { result.items ≡ is.with_reloc reloc (is.jalr rd rs1 number) }
+    ensures { result.items ≡ is.with_reloc reloc (row.jalr rd rs1 number) }
 {
     with_reloc(jalr(rd, rs1, immediate(number)), reloc)
 }
 
 /// The templates of a statement with a number that is in the range of its field.
 pub(crate) fn numbered(operation: Operation, number: i64, reloc: Option<Kind>) -> Templates
-    requires { is.takes operation number ≡ true }
-    ensures { result.items ≡ is.numbered operation number reloc }
+    requires { faults.takes operation number ≡ true }
+    ensures { is.AreNumbered operation number reloc result.items }
 {
     match operation {
         Operation::Registers(operation, rd, rs1) => {
@@ -124,19 +175,8 @@ pub(crate) fn numbered(operation: Operation, number: i64, reloc: Option<Kind>) -
         }
         Operation::Shift(operation, rd, rs1) => shift(operation, rd, rs1, number, reloc),
         Operation::Upper(operation, rd) => upper(operation, rd, number, reloc),
-        Operation::Load(operation, rd, rs1) => {
-            let immediate = immediate(number);
-            with_reloc(operation.instruction(IType { immediate, rd, rs1 }), reloc)
-        }
-        Operation::Store(operation, rs2, rs1) => {
-            let immediate = immediate(number);
-            let x = SType {
-                immediate,
-                rs1,
-                rs2,
-            };
-            with_reloc(operation.instruction(x), reloc)
-        }
+        Operation::Load(operation, rd, rs1) => load(operation, rd, rs1, number, reloc),
+        Operation::Store(operation, rs2, rs1) => store(operation, rs2, rs1, number, reloc),
         Operation::Jalr(rd, rs1) => jump(rd, rs1, number, reloc),
         Operation::JalrThen(rd, rs1) => jump(rd, rs1, number, reloc),
         Operation::JalrLinked(rs1) => jump(ra(), rs1, number, reloc),
@@ -162,7 +202,7 @@ pub(crate) fn lower_part(value: i64) -> i64
 
 /// The number of an operand, by its function and its value: 0 where it is open.
 pub(crate) fn number(function: Option<Function>, value: Option<i64>) -> i64
-    ensures { result ≡ is.number function value }
+    ensures { result ≡ faults.number function value }
 {
     let Some(value) = value else { return 0 };
     match function {
@@ -175,7 +215,7 @@ pub(crate) fn number(function: Option<Function>, value: Option<i64>) -> i64
 
 /// The relocation of a part of an address.
 fn kind_of(function: Function, store: bool) -> Kind
-    ensures { result ≡ is.kind_of function store }
+    ensures { is.IsKindOf function store result }
 {
     match (function, store) {
         (Function::Hi, _) => Kind::Hi20,
@@ -193,11 +233,14 @@ pub(crate) fn relocation(
     value: Option<i64>,
     store: bool,
 ) -> Option<Kind>
-    ensures { result ≡ is.relocation function value store }
+    ensures { is.Puts function value store (faults.number function value) result }
 {
     match (function, value) {
+        (None, _) => None,
+        (Some(Function::Hi), Some(_)) => None,
+        (Some(Function::Lo), Some(_)) => None,
+        (Some(Function::PcrelHi), Some(_)) => Some(kind_of(Function::PcrelHi, store)),
+        (Some(Function::PcrelLo), Some(_)) => Some(kind_of(Function::PcrelLo, store)),
         (Some(function), None) => Some(kind_of(function, store)),
-        (None, None) => None,
-        (_, Some(_)) => None,
     }
 }

@@ -1,13 +1,18 @@
 //! Statements with a target: branches, jumps, calls, and addresses of symbols.
 
-ghost use Rattle.std.specs.Prelude.{◌≡◌, [], ◌∷◌};
-ghost use Rattle.rv_isa.specs.Operations.{of_branch};
+ghost use Rattle.std.specs.Prelude.{◌≡◌, Bool, true, false, pos};
+ghost use Rattle.rv_isa.specs.declared.kind.Kind.TheVariants.{PcrelLo12I, PcrelLo12S};
+ghost use Rattle.rv_isa.specs.Operations.{of_branch, of_load, of_store};
 ghost use Rattle.rv_isa.specs.Ranges.{IsBranchOffset};
-ghost use Rattle.rv_statement.specs.declared.statement.Operation.TheVariants.{La, LoadSymbol, StoreSymbol};
+ghost use Rattle.rv_statement.specs.Statement.{Expression, Target};
+ghost use Rattle.rv_statement.specs.View.{with_operand};
+ghost use Rattle.rv_pseudo_laws.specs.Code as row;
+ghost use Rattle.rv_pseudo_laws.specs.Li.{addi};
+ghost use Rattle.rv_pseudo.specs.Faults as faults;
 ghost use Rattle.rv_pseudo.specs.Templates as is;
 
 use crate::bare::{is_x0, jalr, ra, x0};
-use crate::template::{Template, Templates, one, plain, two, under};
+use crate::template::{Templates, one, plain, two, under};
 use arrayvec::ArrayVec;
 use rv_isa::{
     BType, BranchOperation, IType, Inst, JType, Kind, LoadOperation, Reg, SType, StoreOperation,
@@ -17,7 +22,7 @@ use rv_statement::{Operation, SwappedBranchOperation, ZeroBranchOperation};
 
 /// The branch that is taken where this one is not.
 fn inverted(operation: BranchOperation) -> BranchOperation
-    ensures { result ≡ is.inverted operation }
+    ensures { result ≡ row.inverted operation }
 {
     match operation {
         BranchOperation::Beq => BranchOperation::Bne,
@@ -31,7 +36,7 @@ fn inverted(operation: BranchOperation) -> BranchOperation
 
 /// `jal rd` to a target that is open.
 fn jal(rd: Reg) -> Inst
-    ensures { result ≡ is.jal rd }
+    ensures { result ≡ row.jal rd }
 {
     Inst::Jal(JType { offset: 0, rd })
 }
@@ -39,14 +44,14 @@ fn jal(rd: Reg) -> Inst
 /// A branch over `offset` bytes.
 fn branch_over(operation: BranchOperation, rs1: Reg, rs2: Reg, offset: i32) -> Inst
     requires { IsBranchOffset offset }
-    ensures { result ≡ of_branch operation (is.b_type rs1 rs2 offset) }
+    ensures { result ≡ of_branch operation (row.b_type rs1 rs2 offset) }
 {
     operation.instruction(BType { offset, rs1, rs2 })
 }
 
 /// A branch of 2, 4 or 8 bytes.
 fn branch(bytes: u8, operation: BranchOperation, rs1: Reg, rs2: Reg) -> Templates
-    ensures { result.items ≡ is.branch bytes operation rs1 rs2 }
+    ensures { result.items ≡ is.all_templates (row.branch bytes operation rs1 rs2) }
 {
     match bytes {
         2 => one(under(Kind::RvcBranch, branch_over(operation, rs1, rs2, 0))),
@@ -60,7 +65,7 @@ fn branch(bytes: u8, operation: BranchOperation, rs1: Reg, rs2: Reg) -> Template
 
 /// A jump of 2 or 4 bytes.
 fn jump(bytes: u8, rd: Reg) -> Templates
-    ensures { result.items ≡ is.jump bytes rd }
+    ensures { result.items ≡ is.all_templates (row.jump bytes rd) }
 {
     if is_x0(rd) && bytes == 2 {
         one(under(Kind::RvcJump, jal(rd)))
@@ -71,21 +76,21 @@ fn jump(bytes: u8, rd: Reg) -> Templates
 
 /// `auipc rd` of a distance that is open.
 fn auipc(rd: Reg) -> Inst
-    ensures { result ≡ is.auipc rd }
+    ensures { result ≡ row.auipc rd }
 {
     Inst::Auipc(UType { immediate: 0, rd })
 }
 
 /// The upper part of a distance in a register, and the instruction that takes the rest.
-fn near(rd: Reg, rest: Template) -> Templates
-    ensures { result.items ≡ is.near rd rest }
+fn near(rd: Reg, kind: Kind, rest: Inst) -> Templates
+    ensures { result.items ≡ is.all_templates (row.near rd kind rest) }
 {
-    two(under(Kind::PcrelHi20, auipc(rd)), rest)
+    two(under(Kind::PcrelHi20, auipc(rd)), under(kind, rest))
 }
 
-/// A call through a register.
+/// A call through a register, in eight bytes.
 fn far(link: Reg, through: Reg) -> Templates
-    ensures { result.items ≡ is.far link through }
+    ensures { result.items ≡ is.all_templates (row.far 8 link through) }
 {
     two(
         under(Kind::CallPlt, auipc(through)),
@@ -95,43 +100,45 @@ fn far(link: Reg, through: Reg) -> Templates
 
 /// The address of a symbol.
 fn address(rd: Reg) -> Templates
-    ensures { result.items ≡ is.targeted 0 (La rd) }
+    ensures { result.items ≡ is.all_templates (row.near rd PcrelLo12I (addi rd rd (pos 0))) }
 {
     let rest = Inst::Addi(IType {
         immediate: 0,
         rd,
         rs1: rd,
     });
-    near(rd, under(Kind::PcrelLo12I, rest))
+    near(rd, Kind::PcrelLo12I, rest)
 }
 
 /// A load from a symbol.
 fn load_symbol(operation: LoadOperation, rd: Reg) -> Templates
-    ensures { result.items ≡ is.targeted 0 (LoadSymbol operation rd) }
+    ensures { result.items
+        ≡ is.all_templates (row.near rd PcrelLo12I (of_load operation (row.i_type rd rd (pos 0)))) }
 {
     let rest = operation.instruction(IType {
         immediate: 0,
         rd,
         rs1: rd,
     });
-    near(rd, under(Kind::PcrelLo12I, rest))
+    near(rd, Kind::PcrelLo12I, rest)
 }
 
 /// A store to a symbol, whose address goes through `rt`.
 fn store_symbol(operation: StoreOperation, rs2: Reg, rt: Reg) -> Templates
-    ensures { result.items ≡ is.targeted 0 (StoreSymbol operation rs2 rt) }
+    ensures { result.items
+        ≡ is.all_templates (row.near rt PcrelLo12S (of_store operation (row.s_type rs2 rt (pos 0)))) }
 {
     let rest = operation.instruction(SType {
         immediate: 0,
         rs1: rt,
         rs2,
     });
-    near(rt, under(Kind::PcrelLo12S, rest))
+    near(rt, Kind::PcrelLo12S, rest)
 }
 
 /// A branch where a register compares so with zero.
 fn zero_branch(bytes: u8, operation: ZeroBranchOperation, rs: Reg) -> Templates
-    ensures { result.items ≡ is.zero_branch bytes operation rs }
+    ensures { result.items ≡ is.all_templates (row.zero_branch bytes operation rs) }
 {
     match operation {
         ZeroBranchOperation::Beqz => branch(bytes, BranchOperation::Beq, rs, x0()),
@@ -145,7 +152,7 @@ fn zero_branch(bytes: u8, operation: ZeroBranchOperation, rs: Reg) -> Templates
 
 /// A branch with its sources swapped.
 fn swapped_branch(bytes: u8, operation: SwappedBranchOperation, a: Reg, b: Reg) -> Templates
-    ensures { result.items ≡ is.swapped_branch bytes operation a b }
+    ensures { result.items ≡ is.all_templates (row.swapped_branch bytes operation a b) }
 {
     let operation = match operation {
         SwappedBranchOperation::Bgt => BranchOperation::Blt,
@@ -158,7 +165,7 @@ fn swapped_branch(bytes: u8, operation: SwappedBranchOperation, a: Reg, b: Reg) 
 
 /// Whether the expression of an operation is a target, and not a number.
 pub(crate) fn takes_target(operation: &Operation) -> bool
-    ensures { result ≡ is.takes_target operation.now }
+    ensures { result ≡ faults.takes_target operation.now }
 {
     matches!(
         operation,
@@ -180,7 +187,10 @@ pub(crate) fn takes_target(operation: &Operation) -> bool
 
 /// The templates of a statement with a target that is open.
 pub(crate) fn targeted(bytes: u8, operation: Operation) -> Templates
-    ensures { result.items ≡ is.targeted bytes operation }
+    requires target { faults.takes_target operation ≡ true }
+    requires scratch { faults.is_bad_scratch operation ≡ false }
+    ensures { (rvc : Bool) (e : Expression) →
+        is.AreOpen rvc bytes (with_operand operation (Target e)) result.items }
 {
     match operation {
         Operation::Branch(operation, rs1, rs2) => branch(bytes, operation, rs1, rs2),

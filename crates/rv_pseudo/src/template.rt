@@ -12,7 +12,8 @@ use rv_isa::{Inst, Kind};
 pub struct Form {
     /// The value of its expression where that is a constant, before a function of it.
     pub value: Option<i64>,
-    /// The bytes of a conditional branch (2, 4 or 8) or of `jal x0` (2 or 4); not looked at in others.
+    /// The bytes of a conditional branch (2, 4 or 8) or of `jal x0` (2 or 4); not looked at in others. A call has 8: only
+    /// the linker shortens it.
     pub bytes: u8,
     /// Whether compressed code is on.
     pub rvc: bool,
