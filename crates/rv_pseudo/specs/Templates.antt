@@ -42,7 +42,7 @@ all_templates parts = flat_map templates_of parts
 abbrev pub constants_of : Form → Constants
 constants_of form = λ e. form.value
 
--- the bytes that the table is asked for: a call has eight until it is relaxed, and no other
+-- the bytes for which the table is asked: eight for a call, which only the linker shortens
 abbrev pub asked_bytes : Mnemonic → ℕ → ℕ
 asked_bytes Call bytes = 8
 asked_bytes Tail bytes = 8
@@ -50,7 +50,8 @@ asked_bytes Jump bytes = 8
 asked_bytes mnemonic bytes = bytes
 
 -- the parts of what a statement says; a label or a directive has none
-abbrev pub parts_of : Constants → (rvc : Bool) → (bytes : ℕ) → StatementKind → Option (List Part)
+abbrev pub parts_of : Constants → (rvc : Bool) → (bytes : ℕ) → StatementKind →
+    Option (List Part)
 parts_of v rvc bytes (Instruction mnemonic operands) =
     code v rvc (asked_bytes mnemonic bytes) mnemonic operands
 parts_of v rvc bytes kind = Some []
@@ -64,8 +65,8 @@ abbrev pub operand : Operation → Option Function → Expression → Operand
 operand operation None e = operand_in operation e
 operand operation (Some function) e = Applied function e
 
-abbrev pub said : Operation → Option Function → Expression → StatementKind
-said operation function e = with_operand operation (operand operation function e)
+abbrev pub statement_with : Operation → Option Function → Expression → StatementKind
+statement_with operation function e = with_operand operation (operand operation function e)
 
 -- ---- the code's answers
 
@@ -95,7 +96,8 @@ with_reloc reloc i = record { inst = i; reloc = reloc } ∷ []
 
 -- these parts, if any, are an instruction under such a relocation, or none
 abbrev pub ArePut : Option Kind → Inst → Option (List Part) → Type 0
-ArePut reloc i row = (parts : List Part) → row ≡ Some parts → all_templates parts ≡ with_reloc reloc i
+ArePut reloc i row =
+    (parts : List Part) → row ≡ Some parts → all_templates parts ≡ with_reloc reloc i
 
 -- whatever the instruction, an operand puts this number into its field under this relocation: into twelve signed bits, into
 -- twenty bits, and with no relocation where only a constant may stand
@@ -131,10 +133,11 @@ abbrev pub AreNumbered : Operation → ℤ → Option Kind → List Template →
 AreNumbered operation number reloc found =
     (function : Option Function) (value : Option ℤ) (rvc : Bool) (bytes : ℕ) (e : Expression)
     (parts : List Part) → Puts function value (is_store operation) number reloc
-    → parts_of (λ t. value) rvc bytes (with_operand operation (number_operand function e)) ≡ Some parts
+    → parts_of (λ t. value) rvc bytes (with_operand operation (number_operand function e))
+    ≡ Some parts
     → all_templates parts ≡ found
 
--- these are the templates of a statement, whatever the constants
-abbrev pub AreOpen : (rvc : Bool) → (bytes : ℕ) → StatementKind → List Template → Type 0
-AreOpen rvc bytes kind found =
+-- these are the templates of a statement, whatever constants there are
+abbrev pub AreTemplates : (rvc : Bool) → (bytes : ℕ) → StatementKind → List Template → Type 0
+AreTemplates rvc bytes kind found =
     (v : Constants) → option_map all_templates (parts_of v rvc bytes kind) ≡ Some found

@@ -27,7 +27,7 @@ fn is_store(operation: &Operation) -> bool
 fn templates(operation: Operation, function: Option<Function>, form: Form) -> Templates
     requires { faults.fault operation function form.value ≡ None }
     ensures { (e : Expression) →
-        is.templates form (is.said operation function e) ≡ Some result.items }
+        is.templates form (is.statement_with operation function e) ≡ Some result.items }
 {
     if takes_target(&operation) {
         return targeted(form.bytes, operation);
@@ -45,7 +45,7 @@ fn with_operand(
 ) -> Result<Templates, SourceCode>
     ensures { (e : Expression) →
         Answers (faults.fault operation function form.value)
-        (is.templates form (is.said operation function e)) result }
+        (is.templates form (is.statement_with operation function e)) result }
 {
     match fault(&operation, function, form.value) {
         Some(code) => Err(code),

@@ -190,7 +190,7 @@ pub(crate) fn targeted(bytes: u8, operation: Operation) -> Templates
     requires target { faults.takes_target operation ≡ true }
     requires scratch { faults.is_bad_scratch operation ≡ false }
     ensures { (rvc : Bool) (e : Expression) →
-        is.AreOpen rvc bytes (with_operand operation (Target e)) result.items }
+        is.AreTemplates rvc bytes (with_operand operation (Target e)) result.items }
 {
     match operation {
         Operation::Branch(operation, rs1, rs2) => branch(bytes, operation, rs1, rs2),
