@@ -96,6 +96,7 @@ module _ (reader : Reader Spells StandsFor) (m : Mem) (stop : ℕ) (room : stop 
         stand = lines_stand lines a bytes (subst (Lie a lines) (sym ends) written.are_lines.1) written.encoded valid h runs (omega arith);
         below = omega arith;
         fits = size;
+        row = row;
       }
 
 -- ---- what the sizes of rows say
