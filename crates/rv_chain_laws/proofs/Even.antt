@@ -24,7 +24,7 @@ even_sum a b e f = omega arith
 even_half : (a : ℕ) → a / 2 * 2 % 2 ^ 64 % 2 ≡ 0
 even_half a = omega arith
 
-even_wrapped : (z : ℤ) → unsigned_abs z % 2 ≡ 0 → wrapped z % 2 ≡ 0
+pub even_wrapped : (z : ℤ) → unsigned_abs z % 2 ≡ 0 → wrapped z % 2 ≡ 0
 even_wrapped (pos n) e = omega arith
 even_wrapped (negsuc n) e = omega arith
 

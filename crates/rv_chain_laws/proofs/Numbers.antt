@@ -17,6 +17,7 @@ use Rattle.rv_pseudo_laws.specs.Li.{is_signed}
 use Rattle.rv_pseudo_laws.proofs.Modulo.{wrapped_is, wrapped_add, wrapped_times, extended_word}
 use Rattle.rv_pseudo_laws.proofs.Sequences.{high, whole_sum}
 use Rattle.rv_source_laws.specs.Meaning.{distance, on_the_way}
+use Rattle.rv_chain_laws.proofs.Even.{even_wrapped}
 
 -- ---- distances
 
@@ -45,17 +46,9 @@ leads a t below =
     let there : (a + (t + (2 ^ 64 - a)) % 2 ^ 64) % 2 ^ 64 ≡ t % 2 ^ 64 = omega arith in
     ap (λ x. (a + x) % 2 ^ 64) (wrapped_wrap ((pos t +ℤ pos 0) -ℤ pos a) ∙ far) ∙ there
 
-even_wrapped : (z : ℤ) → (IsOdd z → ⊥) → wrapped z % 2 ≡ 0
-even_wrapped (pos n) even =
-    let e : n % 2 ≡ 0 = omega (arith, even) in
-    omega arith
-even_wrapped (negsuc n) even =
-    let e : suc n % 2 ≡ 0 = omega (arith, even) in
-    omega arith
-
 -- a target at an even distance from an even address is even
 pub even_target : (a : ℕ) (z : ℤ) → a % 2 ≡ 0 → (IsOdd z → ⊥) → (a + wrapped z) % 2 ^ 64 % 2 ≡ 0
-even_target a z e odd = let f = even_wrapped z odd in omega arith
+even_target a z e odd = let f = even_wrapped z (omega (arith, odd)) in omega arith
 
 -- ---- the halves of a distance
 

@@ -31,14 +31,11 @@ use Rattle.rv_source_laws.specs.Lines.{Line}
 use Rattle.rv_source_laws.specs.Meaning.{on_the_way, loads_from, stores_to, goes_by}
 use Rattle.rv_chain_laws.proofs.Numbers.{between, leads, even_target, halfway, leads_on, on_way}
 use Rattle.rv_chain_laws.proofs.Shapes.{insts, Does, does_as, two_lines}
-use Rattle.rv_chain_laws.proofs.Rows.{Row, Leads, SetsTo, two_sets, row_jump, valid_parts}
+use Rattle.rv_chain_laws.proofs.Rows.{Row, Leads, SetsTo, below_mod, two_sets, row_jump, valid_parts}
 
 -- the first instruction
 abbrev upper_part : ℕ → ℤ → Inst
 upper_part rd d = inst.Auipc (u_type rd (modulo 20 (hi d)))
-
-below_mod : (a : ℕ) → a % 2 ^ 64 < 2 ^ 64
-below_mod a = omega arith
 
 small_half : (a : ℕ) (d : ℤ) → halfway a d < 2 ^ 64
 small_half a d = below_mod _

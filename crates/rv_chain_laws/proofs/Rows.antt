@@ -124,7 +124,7 @@ and_zero a = omega arith
 plus_zero : (a : ℕ) → a + 0 ≡ a
 plus_zero a = omega arith
 
-below_mod : (a : ℕ) → a % 2 ^ 64 < 2 ^ 64
+pub below_mod : (a : ℕ) → a % 2 ^ 64 < 2 ^ 64
 below_mod a = omega arith
 
 row_mv : (t : Bool) (rd rs : ℕ) (f : FieldValue) (address size : ℕ) (lines : List Line)
