@@ -9,7 +9,7 @@ use Rattle.rv_isa.specs.declared.kind.Kind.TheVariants.{Abs32, Abs64, Add8, Add1
 use Rattle.rv_text_laws.specs.Values.{Constant, Symbolic, Difference, Faulty}
 use Rattle.rv_statement.specs.Statement.{Statement}
 use Rattle.rv_unit_laws.specs.Sections.{Section as SourceSection}
-use Rattle.rv_unit_laws.specs.Tables.{Tables, tables, at_start, after, opened_of, alignments_of}
+use Rattle.rv_unit_laws.specs.Tables.{Tables, tables, at_start, after, opened_of}
 use Rattle.rv_map.specs.Map.{Map}
 use Rattle.rv_map.specs.declared.map.Row.{Row as MapRow}
 use Rattle.rv_source_laws.specs.Located.{has_row, located, located_now, located_from}

@@ -6,7 +6,7 @@ use Rattle.std.specs.List.{AllByRecursion, slice_get}
 use Rattle.rv_unit_laws.specs.declared.section_type.SectionType.{SectionType}
 use Rattle.rv_unit_laws.specs.declared.section_type.SectionType.TheVariants as types
 use Rattle.rv_unit_laws.specs.Sections.{Section as SourceSection}
-use Rattle.rv_unit_laws.specs.Tables.{Tables, aligned, alignments_of}
+use Rattle.rv_unit_laws.specs.Tables.{Tables, aligned, alignment_at}
 use Rattle.rv_map.specs.declared.map.Region.{Region}
 use Rattle.rv_map.specs.Limits.{IsGlobal}
 use Rattle.rv_source_laws.specs.Located.{has_row}
@@ -157,7 +157,7 @@ module _ (p : Program) (all : List Object) (starts : Starts) (spells : Mapped �
                 (subst (λ l. source.Follow (starts file index + 0) (map (λ s. s.row) l)) (sym (mapped index)) (follows starts file t index s loaded 0 own inside is.tile));
             low = λ e.
                 let code = codes e s goes_there in
-                ap (λ b. max (if b then 2 else 1) (slice_index_or (alignments_of t) index 1)) code ∙ ap (λ n. max 2 n) (sym is.alignment) ∙ most x.alignment (is.low code);
+                ap (λ b. max (if b then 2 else 1) (alignment_at t index)) code ∙ ap (λ n. max 2 n) (sym is.alignment) ∙ most x.alignment (is.low code);
             count = still x none (starts file index) (size_of x.contents) ∙ ap size_of is.contents ∙ stored_size s.section_type (sites_end 0 own) (flat_map part_bytes (parts t own)) count_is
                 ∙ sym rows_count ∙ plus_zero (source.size (map (λ s. s.row) (mapped_from starts file own))) ∙ ap (λ l. source.size (map (λ s. s.row) l)) (sym (mapped index));
             bytes = λ stop starts_at e.
