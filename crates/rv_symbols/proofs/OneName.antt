@@ -1,7 +1,7 @@
 -- A name of a source is one label, or one location, or constants, and each stands at its statement.
 
-use Rattle.std.proofs.Common.{◌≡◌, ℕ, zero, suc, Bool, true, false, List, [], ◌∷◌, ◌++◌, length, map, drop, refl, sym, ap, ◌∙◌, subst, Option, Some, None}
-use Rattle.std.specs.Prelude.{⊤, not, ◌&&◌, ◌||◌, ◌==◌, nat_lt, is_some, slice_get, if◌then◌else◌}
+use Rattle.std.proofs.Common.{◌≡◌, ℕ, zero, suc, Bool, true, false, List, [], ◌∷◌, ◌++◌, map, drop, refl, sym, ap, ◌∙◌, subst, Option, Some, None}
+use Rattle.std.specs.Prelude.{⊤, not, ◌&&◌, ◌||◌, nat_lt, is_some, slice_get, if◌then◌else◌}
 use Rattle.std.specs.List.{AllByRecursion, find}
 use Rattle.std.specs.Str.{bytes_eq}
 use Rattle.rv_text_laws.specs.Expression.{Literal, Symbol, Here, Reference}
@@ -10,7 +10,7 @@ use Rattle.rv_statement.specs.declared.directive.Choice.{Choice}
 use Rattle.rv_statement.specs.Statement.{StatementKind, Label, Numbered, Instruction, Directs, Statement, Expression, Directive, Enters, Opens, Globl, Local, Sets, Aligns_to_power, Aligns_to_bytes, Values, Strings, Zeros, Chooses, Ignored}
 use Rattle.rv_unit_laws.specs.Sections.{Section, entered_by}
 use Rattle.rv_unit_laws.specs.Contributions.{Contribution, Nothing, contribution}
-use Rattle.rv_unit_laws.specs.Tables.{Tables, Labelled, Assignment, here, value, label_of, assigned_ever, is_location, gives_location, is_defined, has_location, may_set, assigned, assigned_by, chosen, with_assignment, with_label, with_section, with_chosen, with_contribution, after_directive, after, after_all, opened_of}
+use Rattle.rv_unit_laws.specs.Tables.{Tables, Labelled, Assignment, here, value, label_of, assigned_ever, is_location, gives_location, is_defined, has_location, may_set, assigned, assigned_by, chosen, with_assignment, with_label, with_section, with_chosen, with_contribution, after_directive, after, after_all}
 use Rattle.rv_unit_laws.proofs.Entering.{entering}
 use Rattle.rv_unit_laws.specs.Faults.{lowest, faults, first_fault_from}
 use Rattle.rv_unit_laws.proofs.Found.{same_bytes}

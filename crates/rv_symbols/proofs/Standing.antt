@@ -1,7 +1,7 @@
 -- Where the statements stand that uses without names mean.
 
-use Rattle.std.proofs.Common.{◌≡◌, ℕ, zero, suc, Bool, true, false, List, [], ◌∷◌, ◌++◌, length, map, drop, refl, sym, ap, ◌∙◌, subst, Option, Some, None}
-use Rattle.std.specs.Prelude.{reverse, flat_map, slice_get, if◌then◌else◌, ◌==◌}
+use Rattle.std.proofs.Common.{◌≡◌, ℕ, zero, suc, Bool, true, false, List, [], ◌∷◌, ◌++◌, map, drop, refl, sym, ap, ◌∙◌, subst, Option, Some, None}
+use Rattle.std.specs.Prelude.{reverse, flat_map, slice_get, if◌then◌else◌}
 use Rattle.std.specs.List.{AllByRecursion, find}
 use Rattle.std.proofs.lemmas.List.{reverse-append}
 use Rattle.rv_text_laws.specs.Values.{Value}
@@ -9,7 +9,7 @@ use Rattle.rv_statement.specs.declared.directive.Choice.{Choice}
 use Rattle.rv_statement.specs.Statement.{StatementKind, Label, Numbered, Instruction, Directs, Statement, Expression, Directive, Enters, Opens, Globl, Local, Sets, Aligns_to_power, Aligns_to_bytes, Values, Strings, Zeros, Chooses, Ignored}
 use Rattle.rv_unit_laws.specs.Sections.{Section, entered_by}
 use Rattle.rv_unit_laws.specs.Contributions.{Contribution, Nothing, contribution}
-use Rattle.rv_unit_laws.specs.Tables.{Tables, NumericLabel, Assignment, here, value, is_defined, may_set, assigned_by, chosen, with_assignment, with_section, with_chosen, with_contribution, after_directive, after, after_all, opened_of}
+use Rattle.rv_unit_laws.specs.Tables.{Tables, NumericLabel, Assignment, here, value, is_defined, may_set, assigned_by, chosen, with_assignment, with_section, with_chosen, with_contribution, after_directive, after, after_all}
 use Rattle.rv_unit_laws.proofs.Entering.{entering}
 use Rattle.rv_source_laws.specs.Located.{Located, is_placed, located_now, located_from}
 use Rattle.rv_assemble_laws.specs.Templates.{templates}
