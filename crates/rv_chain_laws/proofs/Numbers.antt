@@ -1,6 +1,6 @@
 -- Numbers of statements: where a distance leads, what its halves make of a register, and the numbers of single assignments.
 
-use Rattle.std.proofs.Common.{◌≡◌, ℕ, zero, suc, ◌+◌, ◌-◌, ◌*◌, ◌/◌, ◌%◌, ◌^◌, ◌<◌, Bool, true, false, not, refl, sym, ap, ◌∙◌, arith, ℤ, pos, negsuc, ◌+ℤ◌, ◌-ℤ◌, ◌*ℤ◌, ◌≤ℤ◌}
+use Rattle.std.proofs.Common.{◌≡◌, ℕ, zero, suc, ◌+◌, ◌-◌, ◌*◌, ◌/◌, ◌%◌, ◌^◌, ◌<◌, Bool, true, false, not, refl, sym, ap, ◌∙◌, arith, ℤ, pos, negsuc, ◌-ℤ◌, ◌*ℤ◌, ◌≤ℤ◌}
 use Rattle.std.specs.Prelude.{◌==◌, nat_lt, if◌then◌else◌, bit_and, bit_xor}
 use Rattle.std.specs.Int.{w64, int_wrap, cast_signed}
 use Rattle.std.specs.Int.Bits.{xor_add_and}
@@ -16,7 +16,8 @@ use Rattle.rv_reloc.specs.Ranges.{HasUpper, IsBetween, IsOdd}
 use Rattle.rv_pseudo_laws.specs.Li.{is_signed}
 use Rattle.rv_pseudo_laws.proofs.Modulo.{wrapped_is, wrapped_add, wrapped_times, extended_word}
 use Rattle.rv_pseudo_laws.proofs.Sequences.{high, whole_sum}
-use Rattle.rv_source_laws.specs.Meaning.{distance, on_the_way}
+use Rattle.rv_source_laws.specs.Lines.{distance}
+use Rattle.rv_source_laws.specs.Meaning.{on_the_way}
 use Rattle.rv_chain_laws.proofs.Even.{even_wrapped}
 
 -- ---- distances
@@ -34,17 +35,13 @@ unfolding int_wrap
 wrapped_wrap (pos n) = wrapped_cast (n % 2 ^ 64) (omega arith)
 wrapped_wrap (negsuc n) = wrapped_cast (2 ^ 64 - 1 - n % 2 ^ 64) (omega arith)
 
--- from an address to a target, with the addend 0
-abbrev pub between : ℕ → ℕ → ℤ
-between a t = int_wrap w64 ((pos t +ℤ pos 0) -ℤ pos a)
-
 -- the distance leads to the target
-pub leads : (a t : ℕ) → a < 2 ^ 64 → (a + wrapped (between a t)) % 2 ^ 64 ≡ t % 2 ^ 64
+pub leads : (a t : ℕ) → a < 2 ^ 64 → (a + wrapped (distance a t)) % 2 ^ 64 ≡ t % 2 ^ 64
 leads a t below =
-    let far : wrapped ((pos t +ℤ pos 0) -ℤ pos a) ≡ (t + (2 ^ 64 - a)) % 2 ^ 64 =
-    wrapped_is ((pos t +ℤ pos 0) -ℤ pos a) 1 (t + (2 ^ 64 - a)) (omega (arith, ints)) in
+    let far : wrapped (pos t -ℤ pos a) ≡ (t + (2 ^ 64 - a)) % 2 ^ 64 =
+    wrapped_is (pos t -ℤ pos a) 1 (t + (2 ^ 64 - a)) (omega (arith, ints)) in
     let there : (a + (t + (2 ^ 64 - a)) % 2 ^ 64) % 2 ^ 64 ≡ t % 2 ^ 64 = omega arith in
-    ap (λ x. (a + x) % 2 ^ 64) (wrapped_wrap ((pos t +ℤ pos 0) -ℤ pos a) ∙ far) ∙ there
+    ap (λ x. (a + x) % 2 ^ 64) (wrapped_wrap (pos t -ℤ pos a) ∙ far) ∙ there
 
 -- a target at an even distance from an even address is even
 pub even_target : (a : ℕ) (z : ℤ) → a % 2 ≡ 0 → (IsOdd z → ⊥) → (a + wrapped z) % 2 ^ 64 % 2 ≡ 0
@@ -85,14 +82,11 @@ turned (pos n) = omega (arith, ints)
 turned (negsuc n) = omega (arith, ints)
 
 -- so is what the register holds on the way
-pub on_way : (a t : ℕ) → a < 2 ^ 64 → HasUpper (between a t) → halfway a (between a t) ≡ on_the_way a t
+pub on_way : (a t : ℕ) → a < 2 ^ 64 → HasUpper (distance a t) → halfway a (distance a t) ≡ on_the_way a t
 on_way a t below has =
     let d = distance a t in
-    let none : t + 0 ≡ t = omega arith in
-    let same : between a t ≡ d = ap (λ n. int_wrap w64 (pos n -ℤ pos a)) none in
     let whole : (a % 2 ^ 64 + wrapped (hi d *ℤ pos 4096)) % 2 ^ 64 ≡ (a + wrapped (hi d *ℤ pos 4096)) % 2 ^ 64 = omega arith in
-    ap (λ u. (a + u) % 2 ^ 64) (upper_is (hi (between a t)) has)
-    ∙ ap (λ z. (a + wrapped (hi z *ℤ pos 4096)) % 2 ^ 64) same
+    ap (λ u. (a + u) % 2 ^ 64) (upper_is (hi d) has)
     ∙ sym whole
     ∙ ap (λ z. (a % 2 ^ 64 + wrapped z) % 2 ^ 64) (sym (turned (hi d)))
     ∙ sym (wrapped_add (pos a) (pos 4096 *ℤ hi d))

@@ -1,6 +1,6 @@
 -- Each kind of statement: its lines one after another come to its meaning and its cost.
 
-use Rattle.std.proofs.Common.{◌≡◌, ℕ, zero, suc, ◌+◌, ◌-◌, ◌%◌, ◌^◌, ◌<◌, ◌≤◌, Bool, true, false, ◌&&◌, List, [], ◌∷◌, Option, Some, None, length, refl, sym, ap, ◌∙◌, subst, arith, ℤ, pos}
+use Rattle.std.proofs.Common.{◌≡◌, ℕ, zero, suc, ◌+◌, ◌-◌, ◌%◌, ◌^◌, ◌<◌, ◌≤◌, Bool, true, false, ◌&&◌, List, [], ◌∷◌, Option, Some, None, length, refl, sym, ap, ◌∙◌, subst, arith, ℤ}
 use Rattle.std.specs.Prelude.{replicate, ◌==◌, if◌then◌else◌, option_map, unwrap_or}
 use Rattle.std.specs.List.{AllByRecursion}
 use Rattle.std.proofs.lemmas.Bool.{eq-eqb}
@@ -9,7 +9,6 @@ use Rattle.rv_isa_laws.specs.Arithmetic.{signed}
 use Rattle.rv_isa_laws.specs.Hart.{Hart, advanced}
 use Rattle.rv_isa_laws.specs.Effect.{Effect, Goes, Breaks}
 use Rattle.rv_isa_laws.specs.Meaning.{effect}
-use Rattle.rv_reloc.specs.Values.{value_of}
 use Rattle.rv_text_laws.specs.Expression.{Primary}
 use Rattle.rv_text_laws.specs.Values.{Value, Constant, Symbolic, Difference, Faulty}
 use Rattle.rv_statement.specs.declared.mnemonic.Mnemonic.{Mnemonic}
@@ -17,7 +16,7 @@ use Rattle.rv_statement.specs.Statement.{StatementKind, Label, Numbered, Instruc
 use Rattle.rv_pseudo_laws.specs.Code.{Part, Closed}
 use Rattle.rv_pseudo_laws.specs.Filled.{FieldValue, filled}
 use Rattle.rv_source_laws.specs.Program.{Mapped, Program, form, resolved, address, number, has_values}
-use Rattle.rv_source_laws.specs.Lines.{Line, Lie, AreLines, constant_of, constants, no_operation, parts_of, parts, other_operand, operand_of, operand_number, is_low_part, value_by, field_value, expansion}
+use Rattle.rv_source_laws.specs.Lines.{Line, Lie, AreLines, constant_of, constants, no_operation, parts_of, parts, other_operand, operand_of, is_low_part, operand_value, field_value, expansion}
 use Rattle.rv_source_laws.specs.Meaning.{statement_effect, meaning, is_untaken, cost}
 use Rattle.rv_source_laws.specs.Fits.{IsRowOf, IsCodeRow, CodeFits, StatementFits, SizeFits}
 use Rattle.rv_chain_laws.proofs.Shapes.{insts, walked, Does, does_as, go_on, ends_above}
@@ -91,8 +90,7 @@ field_leads : (p : Program) (s : Mapped) (mnemonic : Mnemonic) (operands : List 
     → other_operand operands ≡ Some (Target e) → Leads (field_value p s) s.row.address (number p s e)
 field_leads p s mnemonic operands e is target = λ kind a.
     let operand : operand_of s.located.kind ≡ Some (Target e) = ap operand_of is ∙ target in
-    ap (λ o. value_by p s o kind a) operand
-    ∙ ap (λ o. value_of kind (operand_number (number p s) o) (pos 0) (if is_low_part kind then s.row.address else a)) operand
+    ap (λ o. operand_value p s o (if is_low_part kind then s.row.address else a)) operand
 
 -- ---- where each name has a meaning, the lines are the parts with their fields filled
 

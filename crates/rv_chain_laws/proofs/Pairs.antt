@@ -27,9 +27,9 @@ use Rattle.rv_pseudo_laws.specs.Li.{addi}
 use Rattle.rv_pseudo_laws.specs.Code.{Joined, i_type, s_type, u_type, jalr, auipc, near, far, jump}
 use Rattle.rv_pseudo_laws.specs.Filled.{FieldValue}
 use Rattle.rv_pseudo_laws.proofs.Sequences.{again, register_set, put, put_again}
-use Rattle.rv_source_laws.specs.Lines.{Line}
+use Rattle.rv_source_laws.specs.Lines.{distance, Line}
 use Rattle.rv_source_laws.specs.Meaning.{on_the_way, loads_from, stores_to, goes_by}
-use Rattle.rv_chain_laws.proofs.Numbers.{between, leads, even_target, halfway, leads_on, on_way}
+use Rattle.rv_chain_laws.proofs.Numbers.{leads, even_target, halfway, leads_on, on_way}
 use Rattle.rv_chain_laws.proofs.Shapes.{insts, Does, does_as, two_lines}
 use Rattle.rv_chain_laws.proofs.Rows.{Row, Leads, SetsTo, below_mod, two_sets, row_jump, valid_parts}
 
@@ -41,15 +41,15 @@ small_half : (a : ℕ) (d : ℤ) → halfway a d < 2 ^ 64
 small_half a d = below_mod _
 
 -- what both halves come to
-whole_target : (pc address target : ℕ) → pc ≡ address → address < 2 ^ 64 → HasUpper (between address target)
-    → (halfway pc (between address target) + wrapped (lo (between address target))) % 2 ^ 64 ≡ target % 2 ^ 64
+whole_target : (pc address target : ℕ) → pc ≡ address → address < 2 ^ 64 → HasUpper (distance address target)
+    → (halfway pc (distance address target) + wrapped (lo (distance address target))) % 2 ^ 64 ≡ target % 2 ^ 64
 whole_target pc address target at below has =
-    ap (λ a. (halfway a (between address target) + wrapped (lo (between address target))) % 2 ^ 64) at
-    ∙ leads_on address (between address target) has ∙ leads address target below
+    ap (λ a. (halfway a (distance address target) + wrapped (lo (distance address target))) % 2 ^ 64) at
+    ∙ leads_on address (distance address target) has ∙ leads address target below
 
-way_held : (pc address target : ℕ) → pc ≡ address → address < 2 ^ 64 → HasUpper (between address target) → halfway pc (between address target) ≡ on_the_way pc target
+way_held : (pc address target : ℕ) → pc ≡ address → address < 2 ^ 64 → HasUpper (distance address target) → halfway pc (distance address target) ≡ on_the_way pc target
 way_held pc address target at below has =
-    ap (λ a. halfway a (between address target)) at ∙ on_way address target below has ∙ ap (λ a. on_the_way a target) (sym at)
+    ap (λ a. halfway a (distance address target)) at ∙ on_way address target below has ∙ ap (λ a. on_the_way a target) (sym at)
 
 mod_once : (a : ℕ) → a < 2 ^ 64 → a % 2 ^ 64 ≡ a
 mod_once a below = omega arith
@@ -61,14 +61,14 @@ mod_twice a = omega arith
 
 -- the lines of a near address, with its distance in both
 near_lines : (rd : ℕ) (rest : Kind) (i : Inst) (target : ℕ) (f : FieldValue) (address size : ℕ) (lines : List Line) → Row f address size (near rd rest i) lines
-    → Leads f address target → f rest (address + 4) ≡ between address target
-    → upper_part rd (between address target) ∷ with_value (between address target) i ∷ [] ≡ insts lines
+    → Leads f address target → f rest (address + 4) ≡ distance address target
+    → upper_part rd (distance address target) ∷ with_value (distance address target) i ∷ [] ≡ insts lines
 near_lines rd rest i target f address size lines r to low =
-    ap (λ v. upper_part rd v ∷ with_value (between address target) i ∷ []) (sym (to kind.PcrelHi20 address))
+    ap (λ v. upper_part rd v ∷ with_value (distance address target) i ∷ []) (sym (to kind.PcrelHi20 address))
     ∙ ap (λ v. upper_part rd (f kind.PcrelHi20 address) ∷ with_value v i ∷ []) (sym low) ∙ r.is
 
 near_has : (rd : ℕ) (rest : Kind) (i : Inst) (target : ℕ) (f : FieldValue) (address size : ℕ) (lines : List Line) → Row f address size (near rd rest i) lines
-    → Leads f address target → HasUpper (between address target)
+    → Leads f address target → HasUpper (distance address target)
 near_has rd rest i target f address size lines r to = subst (λ v. HasUpper v) (to kind.PcrelHi20 address) r.taken.0.range
 
 near_few : (rd : ℕ) (rest : Kind) (i : Inst) (f : FieldValue) (address size : ℕ) (lines : List Line) → Row f address size (near rd rest i) lines → rd < 32
@@ -78,7 +78,7 @@ near_few rd rest i f address size lines r = (valid_parts f address size (near rd
 pub row_near : (rd target : ℕ) (f : FieldValue) (address size : ℕ) (lines : List Line) → Row f address size (near rd kind.PcrelLo12I (addi rd rd (pos 0))) lines
     → Leads f address target → SetsTo rd (λ h. target) address size lines
 row_near rd target f address size lines r to =
-    let d = between address target in
+    let d = distance address target in
     two_sets (upper_part rd d) (addi rd rd (lo d)) rd (λ h. halfway h.pc d) (λ u. sum_of u (wrapped (lo d))) (λ h. target) address size lines
     (near_lines rd kind.PcrelLo12I (addi rd rd (pos 0)) target f address size lines r to (to kind.PcrelLo12I (address + 4)))
     r.lie r.below (near_few rd kind.PcrelLo12I (addi rd rd (pos 0)) f address size lines r) (λ h. small_half h.pc d) (λ b h. refl) (λ c g. refl)
@@ -104,7 +104,7 @@ pub row_load : (operation : LoadOperation) (rd target : ℕ) (f : FieldValue) (a
     → Row f address size (near rd kind.PcrelLo12I (of_load operation (i_type rd rd (pos 0)))) lines
     → Leads f address target → Does (λ h. loads_from operation size h rd target) (λ h. length (insts lines)) address lines
 row_load operation rd target f address size lines some r to =
-    let d = between address target in
+    let d = distance address target in
     let i = of_load operation (i_type rd rd (pos 0)) in
     let few = near_few rd kind.PcrelLo12I i f address size lines r in
     let has = near_has rd kind.PcrelLo12I i target f address size lines r to in
@@ -142,7 +142,7 @@ pub row_store : (operation : StoreOperation) (rs2 rt target : ℕ) (f : FieldVal
     → Row f address size (near rt kind.PcrelLo12S (of_store operation (s_type rs2 rt (pos 0)))) lines
     → Leads f address target → Does (λ h. stores_to operation size h rs2 rt target) (λ h. length (insts lines)) address lines
 row_store operation rs2 rt target f address size lines other some r to =
-    let d = between address target in
+    let d = distance address target in
     let i = of_store operation (s_type rs2 rt (pos 0)) in
     let few = near_few rt kind.PcrelLo12S i f address size lines r in
     let has = near_has rt kind.PcrelLo12S i target f address size lines r to in
@@ -178,10 +178,10 @@ half_target s target same even = omega arith
 -- a jump by a register, which leaves the upper part in that register and the address after it in another
 far_lines : (link by target : ℕ) (f : FieldValue) (address size : ℕ) (lines : List Line) → (by == 0) ≡ false
     → Row f address size (Joined kind.CallPlt (auipc by) (jalr link by (pos 0)) ∷ []) lines → Leads f address target
-    → Does (λ h. Goes (record (with_register (with_register h by (halfway h.pc (between address target) % 2 ^ 64)) link ((h.pc + size) % 2 ^ 64)) { pc = target % 2 ^ 64 }))
+    → Does (λ h. Goes (record (with_register (with_register h by (halfway h.pc (distance address target) % 2 ^ 64)) link ((h.pc + size) % 2 ^ 64)) { pc = target % 2 ^ 64 }))
     (λ h. length (insts lines)) address lines
 far_lines link by target f address size lines some r to =
-    let d = between address target in
+    let d = distance address target in
     let few : by < 32 = (valid_parts f address size (Joined kind.CallPlt (auipc by) (jalr link by (pos 0)) ∷ []) lines r).0.0 in
     let takes : Takes kind.CallPlt d = subst (λ v. Takes kind.CallPlt v) (to kind.CallPlt address) r.taken.0 in
     let below = r.below in
@@ -213,7 +213,7 @@ row_call rd target f address size lines some r to = by (size == 8) r
         → Does (λ h. jumps size h rd target) (λ h. length (insts lines)) address lines
     by true r =
         does_as _ (λ h. jumps size h rd target) (λ h. length (insts lines)) _ address lines (far_lines rd rd target f address size lines some r to)
-        (λ h k. ap (λ xs. Goes (record h { registers = xs; pc = target % 2 ^ 64 })) (put_again (rd == 0) h.registers rd (halfway h.pc (between address target) % 2 ^ 64) ((h.pc + size) % 2 ^ 64)))
+        (λ h k. ap (λ xs. Goes (record h { registers = xs; pc = target % 2 ^ 64 })) (put_again (rd == 0) h.registers rd (halfway h.pc (distance address target) % 2 ^ 64) ((h.pc + size) % 2 ^ 64)))
         (λ h. refl)
     by false r = row_jump rd target f address size lines r to
 
@@ -230,8 +230,8 @@ row_far rt target f address size lines some r to = by (size == 8) r
         (far_lines 0 rt target f address size lines some r to)
         (λ h k.
         let below = r.below in
-        let has : HasUpper (between address target) = subst (λ v. HasUpper v) (to kind.CallPlt address) r.taken.0.range in
+        let has : HasUpper (distance address target) = subst (λ v. HasUpper v) (to kind.CallPlt address) r.taken.0.range in
         ap (λ x. Goes (record (with_register h rt x) { pc = target % 2 ^ 64 }))
-        (mod_once _ (small_half h.pc (between address target)) ∙ way_held h.pc address target k.at (omega arith) has))
+        (mod_once _ (small_half h.pc (distance address target)) ∙ way_held h.pc address target k.at (omega arith) has))
         (λ h. refl)
     by false r = row_jump 0 target f address size lines r to

@@ -19,7 +19,6 @@ use Rattle.rv_isa_laws.specs.Effect.{Goes}
 use Rattle.rv_isa_laws.specs.Kept.{InRange}
 use Rattle.rv_isa_laws.specs.Meaning.{effect, sets, branches, jumps, with_result, is_taken}
 use Rattle.rv_reloc.specs.Operands.{with_value, branch_to}
-use Rattle.rv_reloc.specs.Values.{value_of}
 use Rattle.rv_statement.specs.declared.pseudo.UnaryOperation.{UnaryOperation}
 use Rattle.rv_statement.specs.declared.pseudo.UnaryOperation.TheVariants.{Mv, Not, Neg, Negw, SextB, SextH, SextW, ZextB, ZextH, ZextW, Seqz, Snez, Sltz, Sgtz}
 use Rattle.rv_statement.specs.declared.pseudo.CompareOperation.{CompareOperation}
@@ -32,9 +31,9 @@ use Rattle.rv_pseudo_laws.specs.Li.{addi, addiw, slli}
 use Rattle.rv_pseudo_laws.specs.Code.{Part, Closed, Open, Joined, r_type, i_type, b_type, shift_by, jal, unary, compare, inverted, branch, jump, zero_branch, swapped_branch}
 use Rattle.rv_pseudo_laws.specs.Filled.{FieldValue, filled, AreTaken}
 use Rattle.rv_pseudo_laws.proofs.Sequences.{again, with_same, register_set}
-use Rattle.rv_source_laws.specs.Lines.{Line, Lie, is_low_part}
+use Rattle.rv_source_laws.specs.Lines.{distance, is_low_part, Line, Lie}
 use Rattle.rv_source_laws.specs.Meaning.{unary_result, compare_result, zero_taken, swapped_taken, goes_if, alone_effect}
-use Rattle.rv_chain_laws.proofs.Numbers.{between, leads, complement, low_byte, none_below_one, some_above, signed_byte, signed_half, low_half, low_word}
+use Rattle.rv_chain_laws.proofs.Numbers.{leads, complement, low_byte, none_below_one, some_above, signed_byte, signed_half, low_half, low_word}
 use Rattle.rv_chain_laws.proofs.Shapes.{insts, Ready, Does, one_line, two_lines, branch_effect, over_jump}
 
 -- the row of a statement at an address: its lines are its parts with their fields filled
@@ -53,9 +52,9 @@ row_as f address size ps qs lines e r = let same : qs ≡ ps = cc in subst (λ x
 pub valid_parts : (f : FieldValue) (address size : ℕ) (ps : List Part) (lines : List Line) → Row f address size ps lines → AllByRecursion IsValid (filled f address ps)
 valid_parts f address size ps lines r = subst (λ is. AllByRecursion IsValid is) (sym r.is) r.valid
 
--- each field takes the value of its kind for one target; a low part counts from the row's start
+-- each field takes the distance to one target; a low part counts from the row's start
 abbrev pub Leads : FieldValue → ℕ → ℕ → Type 0
-Leads f address target = (k : Kind) (a : ℕ) → f k a ≡ value_of k target (pos 0) (if is_low_part k then address else a)
+Leads f address target = (k : Kind) (a : ℕ) → f k a ≡ distance (if is_low_part k then address else a) target
 
 -- the statement sets a register, by as many instructions as it has
 abbrev pub SetsTo : ℕ → (Hart → ℕ) → ℕ → ℕ → List Line → Type 0
@@ -188,12 +187,12 @@ row_compare Sgtu rd a b f address size lines r =
 
 -- ---- jumps and branches
 
-jump_target : (h : Hart) (address target : ℕ) (v : ℤ) → h.pc ≡ address → address < 2 ^ 64 → v ≡ between address target → (h.pc + wrapped v) % 2 ^ 64 ≡ target % 2 ^ 64
+jump_target : (h : Hart) (address target : ℕ) (v : ℤ) → h.pc ≡ address → address < 2 ^ 64 → v ≡ distance address target → (h.pc + wrapped v) % 2 ^ 64 ≡ target % 2 ^ 64
 jump_target h address target v at below e =
     ap (λ n. (n + wrapped v) % 2 ^ 64) at ∙ ap (λ z. (address + wrapped z) % 2 ^ 64) e ∙ leads address target below
 
 jump_line : (v : ℤ) (rd target address size : ℕ) (lines : List Line) → inst.Jal (record { offset = v; rd = rd }) ∷ [] ≡ insts lines → Lie address lines (address + size)
-    → address + size < 2 ^ 64 → v ≡ between address target → Does (λ h. jumps size h rd target) (λ h. length (insts lines)) address lines
+    → address + size < 2 ^ 64 → v ≡ distance address target → Does (λ h. jumps size h rd target) (λ h. length (insts lines)) address lines
 jump_line v rd target address size lines e lie below same =
     one_line (inst.Jal (record { offset = v; rd = rd })) (λ h. jumps size h rd target) address size lines e lie
     (λ h r. ap (λ n. Goes (record (with_register h rd ((h.pc + size) % 2 ^ 64)) { pc = n })) (jump_target h address target v r.at (omega arith) same))
@@ -215,13 +214,13 @@ branch_with Bge x v = refl
 branch_with Bltu x v = refl
 branch_with Bgeu x v = refl
 
-branch_goes : (t : Bool) (v : ℤ) (target address size : ℕ) (h : Hart) → h.pc ≡ address → address < 2 ^ 64 → v ≡ between address target
+branch_goes : (t : Bool) (v : ℤ) (target address size : ℕ) (h : Hart) → h.pc ≡ address → address < 2 ^ 64 → v ≡ distance address target
     → branches size h (b_type 0 0 v) t ≡ goes_if t target size h
 branch_goes true v target address size h at below e = ap (λ n. Goes (record h { pc = n })) (jump_target h address target v at below e)
 branch_goes false v target address size h at below e = refl
 
 branch_line : (v : ℤ) (operation : BranchOperation) (a b target address size : ℕ) (lines : List Line) → with_value v (of_branch operation (b_type a b (pos 0))) ∷ [] ≡ insts lines
-    → Lie address lines (address + size) → address + size < 2 ^ 64 → v ≡ between address target
+    → Lie address lines (address + size) → address + size < 2 ^ 64 → v ≡ distance address target
     → Does (λ h. goes_if (is_taken operation (register h a) (register h b)) target size h) (λ h. length (insts lines)) address lines
 branch_line v operation a b target address size lines e lie below same =
     one_line (with_value v (of_branch operation (b_type a b (pos 0)))) (λ h. goes_if (is_taken operation (register h a) (register h b)) target size h) address size lines e lie

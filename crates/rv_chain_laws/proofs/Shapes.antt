@@ -18,10 +18,10 @@ use Rattle.rv_isa_laws.specs.Kept.{InRange}
 use Rattle.rv_isa_laws.specs.Meaning.{effect, sets, branches, with_result, is_taken}
 use Rattle.rv_pseudo_laws.specs.Code.{inverted, b_type}
 use Rattle.rv_pseudo_laws.specs.Runs.{Sized, goes_on, after}
-use Rattle.rv_source_laws.specs.Lines.{Line, Lie}
+use Rattle.rv_source_laws.specs.Lines.{distance, Line, Lie}
 use Rattle.rv_source_laws.specs.Meaning.{goes_if}
 use Rattle.rv_chain_laws.proofs.Even.{IsEven}
-use Rattle.rv_chain_laws.proofs.Numbers.{between, leads}
+use Rattle.rv_chain_laws.proofs.Numbers.{leads}
 use Rattle.rv_chain_laws.proofs.Walk.{Walked, once, more, then_walk, walk}
 
 abbrev pub walked : Effect → ℕ → Walked
@@ -134,7 +134,7 @@ inverted_not Bgeu a b = not_not _
 
 -- after the inverted branch: the jump where the test holds, and the statement's end where it does not
 over_by : (t : Bool) (d : ℤ) (target address : ℕ) (k : Line) (h : Hart) → h.pc ≡ address → address + 8 < 2 ^ 64 → k.address ≡ address + 4
-    → k.instruction ≡ inst.Jal (record { offset = d; rd = 0 }) → d ≡ between (address + 4) target
+    → k.instruction ≡ inst.Jal (record { offset = d; rd = 0 }) → d ≡ distance (address + 4) target
     → then_walk (branches 4 h (b_type 0 0 (pos 8)) (not t)) k.address (walk k []) ≡ walked (goes_if t target 8 h) (if not t then 1 else 2)
 over_by true d target address k h pc below at is e =
     let there : (h.pc + 4) % 2 ^ 64 ≡ k.address = omega arith in
@@ -154,7 +154,7 @@ both_four b c p q e = omega arith
 
 pub over_jump : (operation : BranchOperation) (a b : ℕ) (d : ℤ) (target address : ℕ) (lines : List Line)
     → of_branch (inverted operation) (b_type a b (pos 8)) ∷ inst.Jal (record { offset = d; rd = 0 }) ∷ [] ≡ insts lines
-    → Lie address lines (address + 8) → AllByRecursion (λ l. l.bytes ≤ 4) lines → address + 8 < 2 ^ 64 → d ≡ between (address + 4) target
+    → Lie address lines (address + 8) → AllByRecursion (λ l. l.bytes ≤ 4) lines → address + 8 < 2 ^ 64 → d ≡ distance (address + 4) target
     → Does (λ h. goes_if (is_taken operation (register h a) (register h b)) target 8 h)
     (λ h. if not (is_taken operation (register h a) (register h b)) then 1 else length (insts lines)) address lines
 over_jump operation a b d target address [] e lie small below leads = absurd (cc)

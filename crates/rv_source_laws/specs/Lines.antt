@@ -1,15 +1,15 @@
 -- The base instructions that stand for a statement at its row, with the numbers of its operands
 -- (RISC-V Assembly Programmer's Manual, pseudo-instructions; RISC-V ELF psABI, "PC-Relative Addresses").
 
-use Rattle.std.specs.Prelude.{◌≡◌, ℕ, ℤ, pos, ◌+◌, ◌/◌, ◌%◌, Bool, true, false, ◌&&◌, ◌==◌, if◌then◌else◌, List, [], ◌∷◌, map, replicate, Option, Some, None, option_map, option_and_then}
+use Rattle.std.specs.Prelude.{◌≡◌, ℕ, ℤ, pos, ◌-ℤ◌, ◌+◌, ◌/◌, ◌%◌, Bool, true, false, ◌&&◌, ◌==◌, if◌then◌else◌, List, [], ◌∷◌, map, replicate, Option, Some, None, option_map, option_and_then}
+use Rattle.std.specs.Int.{w64, int_wrap}
 use Rattle.std.specs.List.{find, list_any}
 use Rattle.rv_isa.specs.declared.instruction.Inst.{Inst}
 use Rattle.rv_isa.specs.declared.kind.Kind.{Kind}
 use Rattle.rv_isa.specs.declared.kind.Kind.TheVariants as kind
 use Rattle.rv_isa_laws.specs.Arithmetic.{signed}
-use Rattle.rv_reloc.specs.Values.{value_of}
 use Rattle.rv_text_laws.specs.Values.{Value, Constant, Symbolic}
-use Rattle.rv_statement.specs.declared.pseudo.Function.TheVariants.{PcrelLo}
+use Rattle.rv_statement.specs.declared.pseudo.Function.TheVariants.{Hi, Lo, PcrelLo}
 use Rattle.rv_statement.specs.Statement.{StatementKind, Label, Numbered, Instruction, Directs, Operand, Register, Value as Of_value, Applied, Target, Expression, Directive, Sets, Aligns_to_power, Aligns_to_bytes}
 use Rattle.rv_pseudo_laws.specs.Li.{addi}
 use Rattle.rv_pseudo_laws.specs.Code.{Part, Closed, Open, Constants, code}
@@ -76,9 +76,9 @@ operand_number v _ = 0
 abbrev pub target : Program → Mapped → ℕ
 target p s = operand_number (number p s) (operand_of s.located.kind)
 
--- from an address to what the statement's operand names
-abbrev pub distance_from : Program → Mapped → ℕ → ℤ
-distance_from p s address = value_of kind.PcrelHi20 (target p s) (pos 0) address
+-- from an address to a target, taken as signed
+abbrev pub distance : ℕ → ℕ → ℤ
+distance address target = int_wrap w64 (pos target -ℤ pos address)
 
 -- ---- the upper part that a low part belongs to
 
@@ -121,9 +121,16 @@ pair_of p s e =
 
 abbrev pub pair_distance : Program → Option Mapped → ℤ
 pair_distance p None = pos 0
-pair_distance p (Some m) = distance_from p m m.row.address
+pair_distance p (Some m) = distance m.row.address (target p m)
 
 -- ---- all of them
+
+-- what an operand stands for at an address: a part of an address takes it whole, all else counts from there
+abbrev pub operand_value : Program → Mapped → Option Operand → ℕ → ℤ
+operand_value p s (Some (Applied PcrelLo e)) a = pair_distance p (pair_of p s e)
+operand_value p s (Some (Applied Hi e)) a = signed 64 (number p s e)
+operand_value p s (Some (Applied Lo e)) a = signed 64 (number p s e)
+operand_value p s operand a = distance a (operand_number (number p s) operand)
 
 -- a low part counts from the upper one, which stands first in its statement
 abbrev pub is_low_part : Kind → Bool
@@ -131,14 +138,10 @@ is_low_part kind.PcrelLo12I = true
 is_low_part kind.PcrelLo12S = true
 is_low_part _ = false
 
-abbrev pub value_by : Program → Mapped → Option Operand → FieldValue
-value_by p s (Some (Applied PcrelLo e)) k a = pair_distance p (pair_of p s e)
-value_by p s operand k a =
-    value_of k (target p s) (pos 0) (if is_low_part k then s.row.address else a)
-
--- what a field of a statement takes
+-- what a field of a statement takes: what the statement's operand stands for
 abbrev pub field_value : Program → Mapped → FieldValue
-field_value p s = value_by p s (operand_of s.located.kind)
+field_value p s k a =
+    operand_value p s (operand_of s.located.kind) (if is_low_part k then s.row.address else a)
 
 -- ---- lines
 

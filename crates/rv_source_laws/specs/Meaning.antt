@@ -1,8 +1,7 @@
 -- What a statement does in one step, and how many instructions that counts
 -- (RISC-V Assembly Programmer's Manual, pseudo-instructions; RISC-V Unprivileged ISA 20191213).
 
-use Rattle.std.specs.Prelude.{ℕ, ℤ, pos, ◌+◌, ◌-◌, ◌%◌, ◌^◌, ◌+ℤ◌, ◌-ℤ◌, ◌*ℤ◌, Bool, true, false, not, ◌&&◌, ◌==◌, nat_lt, if◌then◌else◌, List, [], ◌∷◌, Option, Some, None}
-use Rattle.std.specs.Int.{w64, int_wrap}
+use Rattle.std.specs.Prelude.{ℕ, pos, ◌+◌, ◌-◌, ◌%◌, ◌^◌, ◌+ℤ◌, ◌*ℤ◌, Bool, false, not, ◌&&◌, ◌==◌, nat_lt, if◌then◌else◌, List, [], ◌∷◌, Option, Some, None}
 use Rattle.rv_isa.specs.declared.instruction.Inst.{Inst}
 use Rattle.rv_isa.specs.declared.operation.LoadOperation.{LoadOperation}
 use Rattle.rv_isa.specs.declared.operation.StoreOperation.{StoreOperation}
@@ -24,7 +23,7 @@ use Rattle.rv_statement.specs.declared.pseudo.SwappedBranchOperation.{SwappedBra
 use Rattle.rv_statement.specs.declared.pseudo.SwappedBranchOperation.TheVariants.{Bgt, Ble, Bgtu, Bleu}
 use Rattle.rv_statement.specs.Statement.{StatementKind, Label, Numbered, Instruction, Directs, Operand, Register, Value, Applied, Target, Expression, Directive, Aligns_to_power, Aligns_to_bytes}
 use Rattle.rv_source_laws.specs.Program.{Mapped, Program, number, has_values}
-use Rattle.rv_source_laws.specs.Lines.{other_operand, operand_number, expansion}
+use Rattle.rv_source_laws.specs.Lines.{other_operand, operand_number, distance, expansion}
 
 -- ---- the one assignment that a name says, of a register's number
 
@@ -80,10 +79,6 @@ taken mnemonic operands h = None
 abbrev pub goes_if : Bool → ℕ → ℕ → Hart → Effect
 goes_if is_taken target bytes h =
     Goes (record h { pc = (if is_taken then target else h.pc + bytes) % 2 ^ 64 })
-
--- from an address to a target, taken as signed
-abbrev pub distance : ℕ → ℕ → ℤ
-distance address target = int_wrap w64 (pos target -ℤ pos address)
 
 -- what a register holds on the way to a target: an address and the upper part of the distance from there
 abbrev pub on_the_way : ℕ → ℕ → ℕ
