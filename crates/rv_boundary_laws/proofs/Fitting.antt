@@ -177,7 +177,7 @@ module _ (p : Program) (file ordinal section offset line : ℕ) (options : Optio
         paired = paired p s os known.0;
         taken = (tt, tt);
         row = subst (λ o. IsRowOf o row) (sym (instructions_are m os i h)) (one_row row i bytes one h.2);
-        long = λ e. absurd (cc);
+        whole = λ e. absurd (cc);
       })
 
   valued_alone : (e : Expression) (says : StatementKind) → expressions says ≡ e ∷ [] → is_constant (f e) ≡ true → has_values p (at says) ≡ true

@@ -4,13 +4,14 @@
 use Rattle.std.specs.Prelude.{◌≡◌, ℕ, ◌+◌, ◌-◌, ◌≤◌, ◌⊎◌, ⊤, Bool, true, false, ◌&&◌, IsTrue, List, [], ◌∷◌, ◌++◌, flat_map, replicate, Some}
 use Rattle.std.specs.List.{AllByRecursion}
 use Rattle.rv_isa.specs.declared.instruction.Inst.{Inst}
+use Rattle.rv_isa.specs.Kinds.{width_of}
 use Rattle.rv_isa_laws.specs.Bytes.{little_endian}
 use Rattle.rv_isa_laws.specs.Platform.{stack_start}
 use Rattle.rv_encode.specs.Word.{form, word}
 use Rattle.rv_compress.specs.Parcel.{IsShortOf}
 use Rattle.rv_statement.specs.Statement.{Statement, StatementKind, Directs}
 use Rattle.rv_pseudo_laws.specs.Code.{Part, Closed, Open, Joined}
-use Rattle.rv_pseudo_laws.specs.Filled.{are_closed, kind_bytes}
+use Rattle.rv_pseudo_laws.specs.Filled.{are_closed}
 use Rattle.rv_image.specs.Linked.{Linked}
 use Rattle.rv_unit_laws.specs.Sections.{goes_to_text, goes_to_rodata, goes_to_data}
 use Rattle.rv_source_laws.specs.Program.{Mapped, Program, program}
@@ -37,7 +38,7 @@ AreSized compressed [] [] = ⊤
 AreSized compressed (Closed i ∷ ps) (l ∷ ls) =
     IsLeast compressed l.instruction l.bytes × AreSized compressed ps ls
 AreSized compressed (Open k i ∷ ps) (l ∷ ls) =
-    (l.bytes ≡ kind_bytes k) × AreSized compressed ps ls
+    (l.bytes ≡ width_of k) × AreSized compressed ps ls
 AreSized compressed (Joined k i j ∷ ps) (l ∷ m ∷ ls) =
     (l.bytes ≡ 4) × (m.bytes ≡ 4) × AreSized compressed ps ls
 AreSized compressed _ _ = ⊥
@@ -48,7 +49,8 @@ ArePadding [] = ⊤
 ArePadding (l ∷ []) = (l.bytes ≡ 2) ⊎ (l.bytes ≡ 4)
 ArePadding (l ∷ ls) = (l.bytes ≡ 4) × ArePadding ls
 
--- of a statement: it is compressed where compressed code is on and none of its operands is open
+-- of a statement: it is compressed where compressed code is on and none of its operands is open, and where a field is open, as its
+-- kind says
 abbrev pub HasSizes : Bool → List Part → StatementKind → List Line → Type 0
 HasSizes rvc ps (Directs directive) lines = ArePadding lines
 HasSizes rvc ps kind lines = AreSized (rvc && are_closed ps) ps lines
@@ -62,7 +64,9 @@ IsEncoded l bytes =
 abbrev pub AreEncoded : List Line → List ℕ → Type 0
 AreEncoded [] bytes = bytes ≡ []
 AreEncoded (l ∷ ls) bytes =
-    (front : List ℕ) × ((rest : List ℕ) × (bytes ≡ front ++ rest) × IsEncoded l front × AreEncoded ls rest)
+    (front : List ℕ)
+    × ((rest : List ℕ)
+    × (bytes ≡ front ++ rest) × IsEncoded l front × AreEncoded ls rest)
 
 -- a statement of code is written by its lines, each in its bytes
 pub record IsWritten (p : Program) (s : Mapped) (bytes : List ℕ) : Type 0 where

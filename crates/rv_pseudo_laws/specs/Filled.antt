@@ -4,7 +4,7 @@ use Rattle.std.specs.Prelude.{ℕ, ℤ, ◌+◌, Bool, true, false, List, [], �
 use Rattle.std.specs.List.{list_all}
 use Rattle.rv_isa.specs.declared.instruction.Inst.{Inst}
 use Rattle.rv_isa.specs.declared.kind.Kind.{Kind}
-use Rattle.rv_isa.specs.declared.kind.Kind.TheVariants as kind
+use Rattle.rv_isa.specs.Kinds.{width_of}
 use Rattle.rv_reloc.specs.Operands.{with_value}
 use Rattle.rv_reloc.specs.Ranges.{Takes}
 use Rattle.rv_pseudo_laws.specs.Code.{Part, Closed, Open, Joined}
@@ -18,17 +18,11 @@ is_closed (Joined k i j) = false
 abbrev pub are_closed : List Part → Bool
 are_closed parts = list_all is_closed parts
 
--- the bytes of an instruction under a relocation of this kind
-abbrev pub kind_bytes : Kind → ℕ
-kind_bytes kind.RvcBranch = 2
-kind_bytes kind.RvcJump = 2
-kind_bytes _ = 4
-
--- the bytes of a part, where none is compressed but under a relocation of a compressed form
+-- the bytes of a part: 4 of a closed one, and of an open one those that its relocation changes
 abbrev pub part_bytes : Part → ℕ
 part_bytes (Closed i) = 4
-part_bytes (Open k i) = kind_bytes k
-part_bytes (Joined k i j) = 8
+part_bytes (Open k i) = width_of k
+part_bytes (Joined k i j) = width_of k
 
 abbrev pub code_bytes : List Part → ℕ
 code_bytes parts = sum_by part_bytes parts
@@ -43,7 +37,8 @@ filled_part value a (Closed i) = i ∷ []
 filled_part value a (Open k i) = with_value (value k a) i ∷ []
 filled_part value a (Joined k i j) = with_value (value k a) i ∷ with_value (value k a) j ∷ []
 
--- of parts that follow one another from an address on
+-- of parts that follow one another from an address on; a closed one counts as 4 bytes: it is compressed only where none is open,
+-- and then no address is asked for
 abbrev pub filled : FieldValue → ℕ → List Part → List Inst
 filled value a [] = []
 filled value a (p ∷ ps) = filled_part value a p ++ filled value (a + part_bytes p) ps

@@ -151,7 +151,8 @@ directive_effect (Aligns_to_bytes alignment) bytes h = Goes (advanced h bytes)
 directive_effect _ bytes h = Breaks
 
 -- a statement that isn't executed has no bytes in the text, and so is never run
-abbrev pub statement_effect : (Expression → ℕ) → Option (List Inst) → StatementKind → ℕ → Hart → Effect
+abbrev pub statement_effect : (Expression → ℕ) → Option (List Inst) → StatementKind → ℕ → Hart →
+    Effect
 statement_effect v instructions (Label name) bytes h = Breaks
 statement_effect v instructions (Numbered number) bytes h = Breaks
 statement_effect v instructions (Instruction mnemonic operands) bytes h =

@@ -43,10 +43,10 @@ fits = record {
   sizes = (
     (tt, refl, omega arith, omega arith, refl),
     (
-      record { valued = refl; paired = tt; taken = (tt, tt); row = ((valid7, tt), refl, omega arith, omega arith, refl); long = λ e. absurd (cc) },
+      record { valued = refl; paired = tt; taken = (tt, tt); row = ((valid7, tt), refl, omega arith, omega arith, refl); whole = λ e. absurd (cc) },
       (
-        record { valued = refl; paired = tt; taken = (tt, tt); row = ((valid93, tt), refl, omega arith, omega arith, refl); long = λ e. absurd (cc) },
-        (record { valued = refl; paired = tt; taken = (tt, tt); row = ((tt, tt), refl, omega arith, omega arith, refl); long = λ e. absurd (cc) }, tt),
+        record { valued = refl; paired = tt; taken = (tt, tt); row = ((valid93, tt), refl, omega arith, omega arith, refl); whole = λ e. absurd (cc) },
+        (record { valued = refl; paired = tt; taken = (tt, tt); row = ((tt, tt), refl, omega arith, omega arith, refl); whole = λ e. absurd (cc) }, tt),
       ),
     ),
   );

@@ -9,7 +9,7 @@ use Rattle.rv_source_laws.specs.Fits.{Fits, SizeFits}
 
 sizes : AllByRecursion (SizeFits (program (figures ∷ []) figures_map)) (program (figures ∷ []) figures_map).mapped
 unfolding digit
-sizes = ((tt, refl, omega arith, omega arith, refl), (record { valued = refl; paired = tt; taken = (tt, tt); row = ((tt, tt), refl, omega arith, omega arith, refl); long = λ e. absurd (cc) }, ((tt, refl, omega arith, omega arith, refl), ((refl, refl, refl), ((refl, refl, refl), ((tt, refl, omega arith, omega arith, refl), ((refl, refl, refl), ((tt, refl, omega arith, omega arith, refl), ((refl, refl, refl), ((refl, refl, refl), ((refl, refl, refl), ((tt, refl, omega arith, omega arith, refl), ((refl, refl, refl), tt)))))))))))))
+sizes = ((tt, refl, omega arith, omega arith, refl), (record { valued = refl; paired = tt; taken = (tt, tt); row = ((tt, tt), refl, omega arith, omega arith, refl); whole = λ e. absurd (cc) }, ((tt, refl, omega arith, omega arith, refl), ((refl, refl, refl), ((refl, refl, refl), ((tt, refl, omega arith, omega arith, refl), ((refl, refl, refl), ((tt, refl, omega arith, omega arith, refl), ((refl, refl, refl), ((refl, refl, refl), ((refl, refl, refl), ((tt, refl, omega arith, omega arith, refl), ((refl, refl, refl), tt)))))))))))))
 
 pub fits : Fits (figures ∷ []) figures_map 0x10000
 unfolding digit
