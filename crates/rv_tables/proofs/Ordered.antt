@@ -193,7 +193,7 @@ found_at at o (x ∷ xs) (suc k) low high =
     found_at at o xs k (λ j d l r. low (suc j) d (omega arith) (omega arith)) (λ j d l r. high (suc j) d (omega arith) (omega arith))
     ∙ sym (ap (λ t. cond t (Some x) (find (λ y. nat_lt o (at y)) xs)) (le-ltb o (at x) (low zero x (omega arith) (omega arith))))
 
-some_at : {X : Type 0} (xs : List X) (k : ℕ) (d : X) → k < length xs → slice_get xs k ≡ Some (slice_index_or xs k d)
+pub some_at : {X : Type 0} (xs : List X) (k : ℕ) (d : X) → k < length xs → slice_get xs k ≡ Some (slice_index_or xs k d)
 some_at [] k d inside = absurd (omega arith)
 some_at (x ∷ xs) zero d inside = refl
 some_at (x ∷ xs) (suc k) d inside = some_at xs k d (omega arith)

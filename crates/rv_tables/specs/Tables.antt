@@ -1,6 +1,6 @@
 -- What the tables of the code stand for.
 
-use Rattle.std.specs.Prelude.{◌≡◌, ◌==◌, ℕ, List, [], map, filter, reverse, unwrap_or}
+use Rattle.std.specs.Prelude.{◌≡◌, ◌==◌, ℕ, List, [], Some, map, filter, reverse, slice_get, unwrap_or}
 use Rattle.std.specs.Option.{option_map_or}
 use Rattle.std.specs.declared.vec.Vec.{Vec}
 use Rattle.std.specs.Borrow.{Bor}
@@ -53,12 +53,20 @@ tables_of b = record {
   bindings = λ name. binding_in b.bindings name;
 }
 
--- the numeric labels of a number
-abbrev pub numeric_labels_at : {Z S : Type 0} → IndexMap Number (Vec NumericLabel Z) S → ℕ →
-    List NumericLabel
-numeric_labels_at numbered number =
-    option_map_or (λ numeric_labels. numeric_labels.items)
+-- the indices of the numeric labels of a number
+abbrev pub indices_at : {Z S : Type 0} → IndexMap Number (Vec ℕ Z) S → ℕ → List ℕ
+indices_at numbered number =
+    option_map_or (λ indices. indices.items)
     (get_by (λ (k : Number). number == value 10 k.digits.now) numbered) []
+
+-- the items of a list that stand at these indices, one after the other, are some
+abbrev pub AreAt : {X : Type 0} → List X → List ℕ → List X → Type 0
+AreAt items indices some = map (slice_get items) indices ≡ map Some some
+
+-- the ordinal of the numeric label at an index
+abbrev pub ordinal_in : List NumericLabel → ℕ → ℕ
+ordinal_in numeric_labels index =
+    option_map_or (λ (m : NumericLabel). m.ordinal) (slice_get numeric_labels index) 0
 
 -- the assignments of a name
 abbrev pub assignments_at : {Z S : Type 0} → IndexMap (Bor (List ℕ)) (Vec Assignment Z) S →
@@ -67,7 +75,8 @@ assignments_at by_name name =
     option_map_or (λ assignments. assignments.items)
     (get_by (λ (k : Bor (List ℕ)). bytes_eq name k.now) by_name) []
 
--- what is looked up by name or number is what a search would find
+-- what is looked up by name or number is what a search would find; of numeric labels it has the
+-- indices
 pub record IsIndexed (b : Tables) : Type 0 where
   pub numbers : (name : List ℕ) →
       get_by (λ (k : Bor (List ℕ)). bytes_eq name k.now) b.numbers
@@ -76,6 +85,6 @@ pub record IsIndexed (b : Tables) : Type 0 where
       assignments_at b.by_name name
       ≡ filter (λ (g : Assignment). bytes_eq g.name.now name) b.assignments.items
   pub numbered : (digits : List ℕ) →
-      numeric_labels_at b.numbered (value 10 digits)
-      ≡ filter
-      (λ (m : NumericLabel). value 10 m.digits.now == value 10 digits) b.numeric_labels.items
+      AreAt b.numeric_labels.items (indices_at b.numbered (value 10 digits))
+      (filter (λ (m : NumericLabel). value 10 m.digits.now == value 10 digits)
+      b.numeric_labels.items)

@@ -1,7 +1,10 @@
 //! Assignments by their names.
 
-ghost use Rattle.std.specs.Prelude.{◌≡◌, ◌++◌, ℕ, false, List, [], ◌∷◌, if◌then◌else◌, OnOk};
+ghost use Rattle.std.specs.Prelude.{◌≡◌, ◌++◌, ◌≤◌, ◌<◌, ℕ, false, List, [], ◌∷◌, nat_lt, length, reverse, if◌then◌else◌, OnOk};
+ghost use Rattle.std.specs.List.{find};
+ghost use Rattle.std.specs.List.Sorted.{IsNonDecreasingBy, IsPartitionPoint};
 ghost use Rattle.std.specs.Str.{bytes_eq};
+ghost use Rattle.rv_tables.specs.declared.tables.Assignment.{Assignment as AssignmentOf};
 ghost use Rattle.rv_tables.specs.Tables.{assignments_at};
 
 use crate::tables::Assignment;
@@ -39,4 +42,32 @@ pub(crate) fn add_assigned<'a>(
     assignments.push(assigned)?;
     by_name.insert(assigned.name, assignments)?;
     Ok(())
+}
+
+/// How many of assignments, in their order, stand before an ordinal.
+fn count_before(assignments: &[Assignment<'_>], ordinal: usize) -> usize
+    ensures bound { result ≤ length assignments.now }
+    ensures point { IsNonDecreasingBy (λ (s : AssignmentOf). s.ordinal) assignments.now →
+        IsPartitionPoint (λ (s : AssignmentOf). s.ordinal < ordinal)
+        (λ (s : AssignmentOf). ordinal ≤ s.ordinal) assignments.now result }
+{
+    assignments.partition_point(
+        |assignment: &Assignment<'_>| -> bool
+            ensures { result ≡ nat_lt (assignment.now).ordinal ordinal }
+        { assignment.ordinal < ordinal },
+    )
+}
+
+/// The latest of assignments, in their order, that stands before an ordinal.
+pub(crate) fn latest_before<'a>(
+    assignments: &[Assignment<'a>],
+    ordinal: usize,
+) -> Option<Assignment<'a>>
+    ensures { IsNonDecreasingBy (λ (s : AssignmentOf). s.ordinal) assignments.now →
+        result ≡ find (λ (s : AssignmentOf). nat_lt s.ordinal ordinal) (reverse assignments.now) }
+{
+    match count_before(assignments, ordinal).checked_sub(1) {
+        Some(last) => assignments.get(last).copied(),
+        None => None,
+    }
 }

@@ -25,7 +25,6 @@ mod fill;
 mod number;
 mod numeric_labels;
 mod options;
-mod ordinal;
 mod section;
 mod section_offset;
 mod tables;

@@ -16,12 +16,11 @@ ghost use Rattle.rv_unit_laws.proofs.Before.{IsBefore, placed_latest};
 ghost use Rattle.rv_tables.specs.Sections.{section_of, offset_of};
 ghost use Rattle.rv_tables.specs.Tables.{tables_of, label_at, numeric_label_of, assignment_of, IsIndexed};
 
-use crate::assignments::add_assigned;
+use crate::assignments::{add_assigned, latest_before};
 use crate::bindings::bind_all;
 use crate::number::Number;
-use crate::numeric_labels::{add_numbered, first_after};
+use crate::numeric_labels::{add_numbered, at_last, first_after, last_before};
 use crate::options::Options;
-use crate::ordinal::{HasOrdinal, last_before};
 use crate::section::{Extent, Section};
 use crate::section_offset::SectionOffset;
 use indexmap::IndexMap;
@@ -61,22 +60,6 @@ pub struct Assignment<'a> {
     pub plus: u64,
 }
 
-impl HasOrdinal for NumericLabel<'_> {
-    ghost at = { λ m. m.ordinal };
-
-    fn ordinal(&self) -> usize {
-        self.ordinal
-    }
-}
-
-impl HasOrdinal for Assignment<'_> {
-    ghost at = { λ s. s.ordinal };
-
-    fn ordinal(&self) -> usize {
-        self.ordinal
-    }
-}
-
 impl Assignment<'_> {
     /// Whether the name is a location.
     pub fn is_location(&self) -> bool
@@ -95,9 +78,9 @@ pub struct Tables<'a> {
     /// The number of the current one.
     pub(crate) current: u32,
     pub(crate) labels: IndexMap<&'a [u8], Label>,
-    /// The numeric labels in their order, and those of each number.
+    /// The numeric labels in their order, and the indices of those of each number.
     pub(crate) numeric_labels: Vec<NumericLabel<'a>>,
-    pub(crate) numbered: IndexMap<Number<'a>, Vec<NumericLabel<'a>>>,
+    pub(crate) numbered: IndexMap<Number<'a>, Vec<u32>>,
     /// The assignments in their order, and those of each name.
     pub assignments: Vec<Assignment<'a>>,
     pub(crate) by_name: IndexMap<&'a [u8], Vec<Assignment<'a>>>,
@@ -226,7 +209,7 @@ impl<'a> Tables<'a> {
             ≡ laws.assigned_before (tables_of self.now).assignments ordinal name.now }
     {
         match self.by_name.get(&name) {
-            Some(assignments) => last_before(assignments.as_slice(), ordinal),
+            Some(assignments) => latest_before(assignments.as_slice(), ordinal),
             None => None,
         }
     }
@@ -239,7 +222,7 @@ impl<'a> Tables<'a> {
             (tables_of self.now).numeric_labels }
     {
         match self.numbered.get(Number { digits }) {
-            Some(numeric_labels) => numeric_labels.as_slice().last().copied(),
+            Some(indices) => at_last(self.numeric_labels.as_slice(), indices.as_slice()),
             None => None,
         }
     }
@@ -252,7 +235,9 @@ impl<'a> Tables<'a> {
             (digits_value 10 digits.now) }
     {
         match self.numbered.get(Number { digits }) {
-            Some(numeric_labels) => last_before(numeric_labels.as_slice(), ordinal),
+            Some(indices) => {
+                last_before(self.numeric_labels.as_slice(), indices.as_slice(), ordinal)
+            }
             None => None,
         }
     }
@@ -265,7 +250,9 @@ impl<'a> Tables<'a> {
             (digits_value 10 digits.now) }
     {
         match self.numbered.get(Number { digits }) {
-            Some(numeric_labels) => first_after(numeric_labels.as_slice(), ordinal),
+            Some(indices) => {
+                first_after(self.numeric_labels.as_slice(), indices.as_slice(), ordinal)
+            }
             None => None,
         }
     }
@@ -417,17 +404,23 @@ impl<'a> Tables<'a> {
             ≡ laws.with_numeric_label (tables_of self.old) ordinal (digits_value 10 digits.now)) }
         ensures indexed { OnOk result (IsIndexed self.old → IsIndexed self.new) }
     {
+        // no index of 32 bits is left for one more; no source comes near
+        let count = self.numeric_labels.len();
+        if count > u32::MAX as usize {
+            return Err(AllocError);
+        }
+        let index = count as u32;
         let place = self.here();
-        let numeric_label = NumericLabel {
+        self.numeric_labels.push(NumericLabel {
             digits,
             ordinal,
             place,
-        };
-        self.numeric_labels.push(numeric_label)?;
+        })?;
         add_numbered(
             *self.numeric_labels.allocator(),
             &mut self.numbered,
-            numeric_label,
+            Number { digits },
+            index,
         )
     }
 

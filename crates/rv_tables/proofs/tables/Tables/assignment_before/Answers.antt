@@ -14,7 +14,7 @@ returns-in-Some c = λ i o h.
     let xs = c.args.self.now.assignments.items in
     let kept = assigned_at c.get.result _ (filter (λ (g : Assignment). bytes_eq g.name.now n) xs) c.as_slice.result.now c.get.ensures.value (i.assignments n) (ap (λ o. option_map_or (λ v. v.items) (option_copied o) []) c.in-Some.is ∙ sym c.as_slice.ensures.value) in
     ap (option_map assignment_of)
-    (c.last_before.ensures (in_order assignment_of (λ s. s.ordinal) (λ (g : Assignment). bytes_eq g.name.now n) xs c.as_slice.result.now h.assignments_fall kept)
+    (c.latest_before.ensures (in_order assignment_of (λ s. s.ordinal) (λ (g : Assignment). bytes_eq g.name.now n) xs c.as_slice.result.now h.assignments_fall kept)
     ∙ ap (λ l. find (λ (g : Assignment). nat_lt g.ordinal c.args.ordinal) (reverse l)) kept)
     ∙ before_found assignment_of (λ s. nat_lt s.ordinal c.args.ordinal) (λ s. bytes_eq s.name n) xs
 

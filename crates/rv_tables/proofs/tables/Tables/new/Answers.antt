@@ -1,4 +1,5 @@
-use Rattle.std.proofs.Common.{◌∙◌, ap, sym, List, [], ◌∷◌, ◌++◌, ◌==◌, filter}
+use Rattle.std.proofs.Common.{◌∙◌, ap, sym, List, [], ◌∷◌, ◌++◌, ◌==◌, filter, map, Some}
+use Rattle.std.specs.Prelude.{slice_get}
 use Rattle.std.specs.Borrow.{Bor}
 use Rattle.std.specs.Option.{option_map_or}
 use Rattle.std.specs.Map.{lookup}
@@ -20,5 +21,7 @@ returns-clause-indexed c = record {
       (ap sections_in (c.in_ok-push.ensures.items ∙ ap (λ (l : List Extent). l ++ record { section = c.text-section.result; bytes = 0; alignment = 1 } ∷ []) c.new-extents.ensures.items))
       (λ i. c.text-section.result.name.now);
   assignments = λ name. ap (λ es. option_map_or (λ v. v.items) (lookup (λ (k : Bor (List _)). bytes_eq name k.now) es) []) c.new-5.ensures.empty ∙ sym (ap (filter (λ (g : Assignment). bytes_eq g.name.now name)) c.new-4.ensures.items);
-  numbered = λ digits. ap (λ es. option_map_or (λ v. v.items) (lookup (λ (k : Number). value 10 digits == value 10 k.digits.now) es) []) c.new-3.ensures.empty ∙ sym (ap (filter (λ (m : NumericLabel). value 10 m.digits.now == value 10 digits)) c.new-2.ensures.items);
+  numbered = λ digits.
+      ap (λ es. map (slice_get c.new-2.result.items) (option_map_or (λ v. v.items) (lookup (λ (k : Number). value 10 digits == value 10 k.digits.now) es) [])) c.new-3.ensures.empty
+      ∙ sym (ap (λ l. map Some (filter (λ (m : NumericLabel). value 10 m.digits.now == value 10 digits) l)) c.new-2.ensures.items);
 }
