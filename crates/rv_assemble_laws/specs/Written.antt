@@ -1,5 +1,6 @@
--- The base instruction that a mnemonic writes with its operands (RISC-V Unprivileged ISA 20191213, chapter 24; GNU as,
--- "RISC-V-Instructions", for operands that may be left out and for a constant as second source): what can be placed so far.
+-- The base instruction that a mnemonic writes with its operands (RISC-V Unprivileged ISA 20191213,
+-- chapter 24; GNU as, "RISC-V-Instructions", for operands that may be left out and for a constant
+-- as second source): what can be placed so far.
 
 use Rattle.std.specs.Prelude.{ℕ, pos, ◌+◌, ◌%◌, ◌^◌, Bool, true, false, List, [], ◌∷◌, Option, Some, None, nat_lt, if◌then◌else◌}
 use Rattle.rv_isa.specs.declared.instruction.Inst.{Inst}
@@ -117,7 +118,8 @@ abbrev pub alone : Option Inst → Option (List Inst)
 alone (Some i) = Some (i ∷ [])
 alone None = None
 
--- the base instructions that stand for an instruction or a pseudo-instruction; none for operands that it can't have
+-- the base instructions that stand for an instruction or a pseudo-instruction; none for operands
+-- that it can't have
 abbrev pub expanded_with : Mnemonic → List Argument → Option (List Inst)
 expanded_with Li (Of_register rd ∷ Of_number k ∷ []) = add_zero rd (fits_12 k)
 expanded_with mnemonic arguments = alone (written mnemonic arguments)

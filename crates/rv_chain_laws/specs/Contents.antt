@@ -27,7 +27,8 @@ use Rattle.rv_source_laws.specs.Start.{spelled}
 abbrev pub HasShort : Inst → Type 0
 HasShort i = (p : ℕ) × IsShortOf i p
 
--- the bytes of an instruction: two where compressed code may be and a parcel stands for it, else four
+-- the bytes of an instruction: two where compressed code may be and a parcel stands for it, else
+-- four
 abbrev pub IsLeast : Bool → Inst → ℕ → Type 0
 IsLeast true i bytes = ((bytes ≡ 2) × HasShort i) ⊎ ((bytes ≡ 4) × (HasShort i → ⊥))
 IsLeast false i bytes = bytes ≡ 4
@@ -49,8 +50,8 @@ ArePadding [] = ⊤
 ArePadding (l ∷ []) = (l.bytes ≡ 2) ⊎ (l.bytes ≡ 4)
 ArePadding (l ∷ ls) = (l.bytes ≡ 4) × ArePadding ls
 
--- of a statement: it is compressed where compressed code is on and none of its operands is open, and where a field is open, as its
--- kind says
+-- of a statement: it is compressed where compressed code is on and none of its operands is open,
+-- and where a field is open, as its kind says
 abbrev pub HasSizes : Bool → List Part → StatementKind → List Line → Type 0
 HasSizes rvc ps (Directs directive) lines = ArePadding lines
 HasSizes rvc ps kind lines = AreSized (rvc && are_closed ps) ps lines

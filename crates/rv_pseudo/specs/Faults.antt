@@ -1,5 +1,6 @@
--- The faults of the operands of a statement of code, by the values of their expressions (ISA, chapter 24, for ranges; RISC-V
--- Assembly Programmer's Manual; GNU as, "RISC-V-Modifiers", for parts of addresses).
+-- The faults of the operands of a statement of code, by the values of their expressions (ISA,
+-- chapter 24, for ranges; RISC-V Assembly Programmer's Manual; GNU as, "RISC-V-Modifiers", for
+-- parts of addresses).
 
 use Rattle.std.specs.Prelude.{ℤ, pos, Bool, true, false, not, ◌&&◌, ◌||◌, ◌==◌, if◌then◌else◌, Option, Some, None}
 use Rattle.rv_isa_laws.specs.Halves.{hi, lo}
@@ -63,8 +64,8 @@ takes (operations.Jr rs) k = is_signed 12 k
 takes (operations.Li rd) k = true
 takes _ k = false
 
--- whether the field can take a part of an address: an upper part the 20 bits of `lui` and `auipc`, a low part twelve
--- signed bits
+-- whether the field can take a part of an address: an upper part the 20 bits of `lui` and `auipc`,
+-- a low part twelve signed bits
 abbrev pub is_upper : Operation → Bool
 is_upper (operations.Upper operation rd) = true
 is_upper _ = false
@@ -93,8 +94,9 @@ takes_part PcrelLo operation = is_low operation
 abbrev pub unless : Bool → SourceCode → Option SourceCode
 unless good code = if good then None else Some code
 
--- the fault of an operand: a number is a constant in its range, a target and a distance are no constants, and the 20 bits of
--- `lui` and `auipc` take upper parts of numbers, all other fields low parts
+-- the fault of an operand: a number is a constant in its range, a target and a distance are no
+-- constants, and the 20 bits of `lui` and `auipc` take upper parts of numbers, all other fields low
+-- parts
 abbrev pub operand_fault : Operation → Option Function → Option ℤ → Option SourceCode
 operand_fault operation None (Some v) = unless (takes operation v) ImmediateRange
 operand_fault operation None None = unless (takes_target operation) NotConstant

@@ -1,4 +1,5 @@
--- The templates of a statement of code: the parts of its row in the one table (`code`), as the code holds them.
+-- The templates of a statement of code: the parts of its row in the one table (`code`), as the code
+-- holds them.
 
 use Rattle.std.specs.Prelude.{◌≡◌, ℕ, ℤ, pos, Bool, true, false, List, [], ◌∷◌, flat_map, Option, Some, None, option_map, Result, Ok, Err}
 use Rattle.arrayvec.specs.ArrayVec.{ArrayVec}
@@ -99,8 +100,8 @@ abbrev pub ArePut : Option Kind → Inst → Option (List Part) → Type 0
 ArePut reloc i row =
     (parts : List Part) → row ≡ Some parts → all_templates parts ≡ with_reloc reloc i
 
--- whatever the instruction, an operand puts this number into its field under this relocation: into twelve signed bits, into
--- twenty bits, and with no relocation where only a constant may stand
+-- whatever the instruction, an operand puts this number into its field under this relocation: into
+-- twelve signed bits, into twenty bits, and with no relocation where only a constant may stand
 abbrev pub Puts : Option Function → Option ℤ → (store : Bool) → ℤ → Option Kind → Type 0
 Puts function value store number reloc =
     ((make : ℤ → Inst) (e : Expression) →

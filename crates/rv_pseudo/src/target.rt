@@ -125,8 +125,8 @@ fn load_symbol(operation: LoadOperation, rd: Reg) -> Templates
 
 /// A store to a symbol, whose address goes through `rt`.
 fn store_symbol(operation: StoreOperation, rs2: Reg, rt: Reg) -> Templates
-    ensures { result.items
-        ≡ is.all_templates (row.near rt PcrelLo12S (of_store operation (row.s_type rs2 rt (pos 0)))) }
+    ensures { result.items ≡ is.all_templates
+        (row.near rt PcrelLo12S (of_store operation (row.s_type rs2 rt (pos 0)))) }
 {
     let rest = operation.instruction(SType {
         immediate: 0,

@@ -1,6 +1,7 @@
--- The base instructions that stand for each statement of code, a row each (RISC-V Assembly Programmer's Manual,
--- "pseudoinstructions"; RISC-V ELF psABI, "Procedure Calls", "PC-Relative Addresses" and "Relocations"; GNU as,
--- "RISC-V-Modifiers"). A field that a relocation fills holds 0.
+-- The base instructions that stand for each statement of code, a row each (RISC-V Assembly
+-- Programmer's Manual, "pseudoinstructions"; RISC-V ELF psABI, "Procedure Calls", "PC-Relative
+-- Addresses" and "Relocations"; GNU as, "RISC-V-Modifiers"). A field that a relocation fills holds
+-- 0.
 
 use Rattle.std.specs.Prelude.{ℕ, ℤ, pos, negsuc, Bool, true, false, not, ◌&&◌, ◌==◌, if◌then◌else◌, List, [], ◌∷◌, map, Option, Some, None, option_map}
 use Rattle.rv_isa.specs.declared.instruction.RType.{RType}
@@ -138,11 +139,13 @@ branch bytes operation rs1 rs2 =
 abbrev pub jump : ℕ → ℕ → List Part
 jump bytes rd = Open (if (rd == 0) && (bytes == 2) then kind.RvcJump else kind.Jal) (jal rd) ∷ []
 
--- an address within reach of the pc by two instructions: the upper part in a register, and the instruction that takes the rest
+-- an address within reach of the pc by two instructions: the upper part in a register, and the
+-- instruction that takes the rest
 abbrev pub near : ℕ → Kind → Inst → List Part
 near rd rest i = Open kind.PcrelHi20 (auipc rd) ∷ Open rest i ∷ []
 
--- a jump to an address within reach of the pc: through a register, or, where relaxation has shortened it, by itself
+-- a jump to an address within reach of the pc: through a register, or, where relaxation has
+-- shortened it, by itself
 abbrev pub far : ℕ → ℕ → ℕ → List Part
 far bytes link through =
     if bytes == 8 then Joined kind.CallPlt (auipc through) (jalr link through (pos 0)) ∷ []
@@ -166,7 +169,7 @@ swapped_branch bytes Ble a b = branch bytes Bge b a
 swapped_branch bytes Bgtu a b = branch bytes Bltu b a
 swapped_branch bytes Bleu a b = branch bytes Bgeu b a
 
--- ---- statements with a number, or with a part of an address in place of one; `v` gives the constants
+-- ---- statements with a number, or with a part of an address in place of one
 
 abbrev pub Constants : Type 0
 Constants = Expression → Option ℤ
@@ -216,8 +219,8 @@ by_constant v _ rd rs1 o = None
 
 -- ---- all rows
 
--- the code of a statement, where `rvc` says whether compressed code is on and `bytes` how long a branch, a jump or a call is;
--- none for operands that it can't have
+-- the code of a statement, where `rvc` says whether compressed code is on and `bytes` how long a
+-- branch, a jump or a call is; none for operands that it can't have
 abbrev pub code : Constants → (rvc : Bool) → (bytes : ℕ) → Mnemonic → List Operand →
     Option (List Part)
 code v rvc bytes (Registers operation) (Register rd ∷ Register rs1 ∷ Register rs2 ∷ []) =

@@ -1,4 +1,5 @@
--- The code of a statement with its open fields filled: its bytes, and its instructions (RISC-V ELF psABI, "Relocations").
+-- The code of a statement with its open fields filled: its bytes, and its instructions (RISC-V ELF
+-- psABI, "Relocations").
 
 use Rattle.std.specs.Prelude.{ℕ, ℤ, ◌+◌, Bool, true, false, List, [], ◌∷◌, ◌++◌, sum_by, ⊤}
 use Rattle.std.specs.List.{list_all}
@@ -37,8 +38,8 @@ filled_part value a (Closed i) = i ∷ []
 filled_part value a (Open k i) = with_value (value k a) i ∷ []
 filled_part value a (Joined k i j) = with_value (value k a) i ∷ with_value (value k a) j ∷ []
 
--- of parts that follow one another from an address on; a closed one counts as 4 bytes: it is compressed only where none is open,
--- and then no address is asked for
+-- of parts that follow one another from an address on; a closed one counts as 4 bytes: it is
+-- compressed only where none is open, and then no address is asked for
 abbrev pub filled : FieldValue → ℕ → List Part → List Inst
 filled value a [] = []
 filled value a (p ∷ ps) = filled_part value a p ++ filled value (a + part_bytes p) ps

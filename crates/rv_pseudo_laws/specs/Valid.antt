@@ -1,5 +1,5 @@
--- Which operands and constants the instructions of a statement can have (ISA, chapter 24), and which of their fields a
--- relocation of each kind fills (RISC-V ELF psABI, "Relocations").
+-- Which operands and constants the instructions of a statement can have (ISA, chapter 24), and
+-- which of their fields a relocation of each kind fills (RISC-V ELF psABI, "Relocations").
 
 use Rattle.std.specs.Prelude.{◌≡◌, ◌^◌, ℤ, pos, Bool, true, false, ◌&&◌, ◌||◌, int_le, int_lt, List, Option, Some, None, option_map, ⊤}
 use Rattle.std.specs.List.{AllByRecursion}

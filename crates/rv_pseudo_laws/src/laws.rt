@@ -60,7 +60,8 @@ pub fn code_valid()
 /// An instruction of which a relocation fills the field keeps its operands in their ranges, and so does the code of a
 /// statement with its open fields filled.
 pub fn filling_valid()
-    ensures one { (k : Kind) (v : ℤ) (i : Inst) → IsOpen k i → Takes k v → IsValid (with_value v i) }
+    ensures one { (k : Kind) (v : ℤ) (i : Inst) → IsOpen k i → Takes k v →
+        IsValid (with_value v i) }
     ensures all { (value : FieldValue) (a : ℕ) (parts : List Part) →
         AllByRecursion IsValidPart parts → AreTaken value a parts →
         AllByRecursion IsValid (filled value a parts) }

@@ -1,5 +1,5 @@
--- An instruction with another operand: what a relocated value makes of it, by its format (ISA, 2.3; RISC-V ELF psABI,
--- "Relocations").
+-- An instruction with another operand: what a relocated value makes of it, by its format (ISA, 2.3;
+-- RISC-V ELF psABI, "Relocations").
 
 use Rattle.std.specs.Prelude.{ℤ}
 use Rattle.rv_isa.specs.declared.instruction.BType.{BType}

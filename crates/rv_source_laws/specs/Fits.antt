@@ -32,8 +32,8 @@ identity_of_row r = record { file = r.file; line = r.line; ordinal = r.ordinal }
 abbrev pub identity_of : Located → Identity
 identity_of s = record { file = s.file; line = s.line; ordinal = s.ordinal }
 
--- the row of an expansion: instructions that are valid, each of 2 or 4 bytes; no row fits a statement
--- that has no expansion
+-- the row of an expansion: instructions that are valid, each of 2 or 4 bytes; no row fits a
+-- statement that has no expansion
 abbrev pub IsRowOf : Option (List Inst) → Row → Type 0
 IsRowOf None r = ⊥
 IsRowOf (Some instructions) r =
@@ -46,7 +46,8 @@ abbrev pub IsPaired : Program → Mapped → Option Operand → Type 0
 IsPaired p s (Some (Applied PcrelLo e)) = IsTrue (is_some (pair_of p s e))
 IsPaired p s operand = ⊤
 
--- the row of code: each field takes its value, and where one is open, the row has the bytes that the kinds of its fields say
+-- the row of code: each field takes its value, and where one is open, the row has the bytes that
+-- the kinds of its fields say
 pub record IsCodeRow (p : Program) (s : Mapped) (ps : List Part) : Type 0 where
   pub valued : IsTrue (has_values p s)
   pub paired : IsPaired p s (operand_of s.located.kind)

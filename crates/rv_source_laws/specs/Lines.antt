@@ -1,5 +1,6 @@
 -- The base instructions that stand for a statement at its row, with the numbers of its operands
--- (RISC-V Assembly Programmer's Manual, pseudo-instructions; RISC-V ELF psABI, "PC-Relative Addresses").
+-- (RISC-V Assembly Programmer's Manual, pseudo-instructions; RISC-V ELF psABI, "PC-Relative
+-- Addresses").
 
 use Rattle.std.specs.Prelude.{◌≡◌, ℕ, ℤ, pos, ◌-ℤ◌, ◌+◌, ◌/◌, ◌%◌, Bool, true, false, ◌&&◌, ◌==◌, if◌then◌else◌, List, [], ◌∷◌, map, replicate, Option, Some, None, option_map, option_and_then}
 use Rattle.std.specs.Int.{w64, int_wrap}
@@ -125,7 +126,8 @@ pair_distance p (Some m) = distance m.row.address (target p m)
 
 -- ---- all of them
 
--- what an operand stands for at an address: a part of an address takes it whole, all else counts from there
+-- what an operand stands for at an address: a part of an address takes it whole, all else counts
+-- from there
 abbrev pub operand_value : Program → Mapped → Option Operand → ℕ → ℤ
 operand_value p s (Some (Applied PcrelLo e)) a = pair_distance p (pair_of p s e)
 operand_value p s (Some (Applied Hi e)) a = signed 64 (number p s e)

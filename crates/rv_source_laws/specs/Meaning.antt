@@ -80,7 +80,8 @@ abbrev pub goes_if : Bool → ℕ → ℕ → Hart → Effect
 goes_if is_taken target bytes h =
     Goes (record h { pc = (if is_taken then target else h.pc + bytes) % 2 ^ 64 })
 
--- what a register holds on the way to a target: an address and the upper part of the distance from there
+-- what a register holds on the way to a target: an address and the upper part of the distance from
+-- there
 abbrev pub on_the_way : ℕ → ℕ → ℕ
 on_the_way address target =
     wrapped (pos address +ℤ pos 0x1000 *ℤ hi (distance address target))
@@ -112,8 +113,8 @@ number_in v (Applied Lo e) = wrapped (lo (signed 64 (v e)))
 number_in v (Value e) = wrapped (signed 64 (v e))
 number_in v operand = 0
 
--- what a pseudo-instruction does in so many bytes, where v gives numbers and addresses; none for the others, which do what
--- their one instruction does
+-- what a pseudo-instruction does in so many bytes, where v gives numbers and addresses; none for
+-- the others, which do what their one instruction does
 abbrev pub pseudo_effect : (Expression → ℕ) → Mnemonic → List Operand → ℕ → Hart → Option Effect
 pseudo_effect v (Load operation) (Register rd ∷ Target e ∷ []) bytes h =
     Some (loads_from operation bytes h rd (v e))
@@ -178,7 +179,8 @@ abbrev pub is_untaken : StatementKind → Hart → Bool
 is_untaken (Instruction mnemonic operands) h = is_passed (taken mnemonic operands h)
 is_untaken _ h = false
 
--- how many instructions of its row run in one step of this hart: of an untaken branch over a jump the branch alone
+-- how many instructions of its row run in one step of this hart: of an untaken branch over a jump
+-- the branch alone
 abbrev pub cost : Program → Mapped → Hart → ℕ
 cost p s h =
     if (s.row.bytes == 8) && is_untaken s.located.kind h then 1 else s.row.instructions
