@@ -4,4 +4,3 @@ pub mod Homes
 pub mod Held
 pub mod Faultless
 pub mod OpenedNames
-pub mod WrittenCode

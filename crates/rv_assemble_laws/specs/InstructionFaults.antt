@@ -3,44 +3,32 @@
 -- "RISC-V-Modifiers", for parts of addresses). What cannot be placed yet is refused as such, where
 -- nothing else is wrong.
 
-use Rattle.std.specs.Prelude.{ℕ, ◌+◌, ◌-◌, ◌/◌, ◌%◌, ◌^◌, Bool, true, false, not, ◌&&◌, ◌||◌, ◌==◌, nat_lt, List, [], ◌∷◌, ◌++◌, flat_map, Option, Some, None, is_some, if◌then◌else◌}
-use Rattle.std.specs.List.{list_all}
-use Rattle.rv_isa.specs.Ranges.{shift_limit}
+use Rattle.std.specs.Prelude.{ℕ, ℤ, Bool, true, false, not, ◌&&◌, ◌||◌, ◌==◌, List, [], ◌∷◌, ◌++◌, flat_map, Option, Some, None, is_some}
+use Rattle.rv_isa_laws.specs.Arithmetic.{signed}
+use Rattle.rv_isa_laws.specs.Halves.{hi, lo}
 use Rattle.rv_text_laws.specs.Expression.{Primary, Symbol, Reference}
 use Rattle.rv_text_laws.specs.Codes.{unsupported_here, scratch_register, undefined_local, not_constant, immediate_range}
 use Rattle.rv_text_laws.specs.Values.{Value, Constant, Symbolic, Difference, Faulty}
 use Rattle.rv_statement.specs.declared.mnemonic.Mnemonic.{Mnemonic}
-use Rattle.rv_statement.specs.declared.mnemonic.Mnemonic.TheVariants.{Registers, Shift, Upper, Load, Store, Li, Call, Jump}
+use Rattle.rv_statement.specs.declared.mnemonic.Mnemonic.TheVariants.{Registers, Shift, Load, Store, Li, Call, Jump}
 use Rattle.rv_statement.specs.declared.pseudo.Function.TheVariants.{Hi, Lo, PcrelHi, PcrelLo}
 use Rattle.rv_statement.specs.Statement.{StatementKind, Instruction, Expression, Operand, Register, Value as Of_value, Applied, Target}
 use Rattle.rv_parse_laws.specs.Syntax.{with_constant}
-use Rattle.rv_unit_laws.specs.Options.{Options}
+use Rattle.rv_pseudo_laws.specs.Code.{code}
+use Rattle.rv_pseudo_laws.specs.Valid.{is_upper_20, takes}
 use Rattle.rv_unit_laws.specs.Tables.{Tables, label_of, definition}
 use Rattle.rv_unit_laws.specs.Faults.{faulty_if}
-use Rattle.rv_assemble_laws.specs.Written.{constant_in, fits_12, expanded}
+use Rattle.rv_assemble_laws.specs.Coded.{constants, are_known}
 
 -- ---- numbers
 
--- whether a constant is in the range of an instruction's number: a shift's, 20 bits, any for `li`,
--- else 12 signed ones
-abbrev pub takes : Mnemonic → ℕ → Bool
-takes (Shift operation) n = nat_lt n (shift_limit operation)
-takes (Upper operation) n = nat_lt n (2 ^ 20)
-takes Li n = true
-takes mnemonic n = is_some (fits_12 n)
-
-abbrev pub form_takes : Option Mnemonic → ℕ → Bool
-form_takes None n = false
-form_takes (Some mnemonic) n = takes mnemonic n
-
-abbrev pub range_faults : Mnemonic → ℕ → List ℕ
-range_faults (Registers operation) n =
-    faulty_if (not (form_takes (with_constant operation) n)) immediate_range
-range_faults mnemonic n = faulty_if (not (takes mnemonic n)) immediate_range
+-- a number outside the range of an instruction's field
+abbrev pub range_faults : Mnemonic → ℤ → List ℕ
+range_faults mnemonic k = faulty_if (not (takes mnemonic k)) immediate_range
 
 -- a number has to be a constant in its range
 abbrev pub number_faults : Mnemonic → Value → List ℕ
-number_faults mnemonic (Constant n) = range_faults mnemonic n
+number_faults mnemonic (Constant n) = range_faults mnemonic (signed 64 n)
 number_faults mnemonic (Faulty code) = code ∷ []
 number_faults mnemonic _ = not_constant ∷ []
 
@@ -53,16 +41,8 @@ target_faults (Symbolic symbol at plus) = []
 target_faults (Difference symbol minus plus) = not_constant ∷ []
 target_faults (Faulty code) = code ∷ []
 
--- the upper part of a number, rounded so that the signed low part makes up the rest: 52 bits
-abbrev pub upper_part : ℕ → ℕ
-upper_part n = (n + 2 ^ 11) % 2 ^ 64 / 2 ^ 12
-
--- the low 12 bits of a number, taken as signed: 64-bit two's complement
-abbrev pub low_part : ℕ → ℕ
-low_part n = if nat_lt (n % 2 ^ 12) (2 ^ 11) then n % 2 ^ 12 else n % 2 ^ 12 + (2 ^ 64 - 2 ^ 12)
-
 abbrev pub upper_faults : Value → List ℕ
-upper_faults (Constant n) = faulty_if (not (nat_lt (upper_part n) (2 ^ 20))) immediate_range
+upper_faults (Constant n) = faulty_if (not (is_upper_20 (hi (signed 64 n)))) immediate_range
 upper_faults (Symbolic symbol at plus) = []
 upper_faults (Difference symbol minus plus) = not_constant ∷ []
 upper_faults (Faulty code) = code ∷ []
@@ -80,7 +60,7 @@ takes_address Li = false
 takes_address mnemonic = true
 
 abbrev pub low_faults : Mnemonic → Value → List ℕ
-low_faults mnemonic (Constant n) = range_faults mnemonic (low_part n)
+low_faults mnemonic (Constant n) = range_faults mnemonic (lo (signed 64 n))
 low_faults mnemonic (Symbolic symbol at plus) =
     faulty_if (not (takes_address mnemonic)) not_constant
 low_faults mnemonic (Difference symbol minus plus) = not_constant ∷ []
@@ -131,25 +111,19 @@ own_faults v l mnemonic operands =
 
 -- ---- what can be placed
 
-abbrev pub is_simple : Operand → Bool
-is_simple (Applied function e) = false
-is_simple (Target e) = false
-is_simple _ = true
-
--- the addresses of symbols, their parts, most pseudo-instructions and longer numbers of `li` cannot
--- be placed yet
+-- open operands cannot be placed yet, nor what has no row
 abbrev pub is_built : (Expression → Value) → Mnemonic → List Operand → Bool
 is_built v mnemonic operands =
-    list_all is_simple operands && is_some (expanded (λ e. constant_in (v e)) mnemonic operands)
+    are_known v operands && is_some (code (constants v) false 4 mnemonic operands)
 
 -- what has no fault and cannot be placed has that one
 abbrev pub else_unplaced : Bool → List ℕ → List ℕ
 else_unplaced placed [] = faulty_if (not placed) unsupported_here
 else_unplaced placed (code ∷ codes) = code ∷ codes
 
--- the codes of an instruction's faults; compressed code cannot be placed yet
+-- the codes of an instruction's faults
 abbrev pub instruction_faults :
-    Options → (Expression → Value) → (Primary → Bool) → StatementKind → List ℕ
-instruction_faults o v l (Instruction mnemonic operands) =
-    else_unplaced (not o.rvc && is_built v mnemonic operands) (own_faults v l mnemonic operands)
-instruction_faults o v l _ = []
+    (Expression → Value) → (Primary → Bool) → StatementKind → List ℕ
+instruction_faults v l (Instruction mnemonic operands) =
+    else_unplaced (is_built v mnemonic operands) (own_faults v l mnemonic operands)
+instruction_faults v l _ = []

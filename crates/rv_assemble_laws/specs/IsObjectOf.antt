@@ -8,7 +8,7 @@ use Rattle.rv_statement.specs.Statement.{Statement}
 use Rattle.rv_unit_laws.specs.declared.section_type.SectionType.{SectionType}
 use Rattle.rv_unit_laws.specs.declared.section_type.SectionType.TheVariants as types
 use Rattle.rv_unit_laws.specs.Sections.{Section as SourceSection, is_nobits, goes_to_text}
-use Rattle.rv_unit_laws.specs.Tables.{Tables, Assignment, at_start, tables, is_location, opened_of, alignment_at}
+use Rattle.rv_unit_laws.specs.Tables.{Tables, Assignment, at_start, tables, is_location, opened_of, alignment_at, longest_section}
 use Rattle.rv_source_laws.specs.Located.{located_from, has_row}
 use Rattle.rv_source_laws.specs.Compressed.{is_compressed_code}
 use Rattle.rv_object.specs.declared.row.Row.{Row}
@@ -99,6 +99,8 @@ pub record IsSectionOf (t : Tables) (all : List Site) (number : Numbering) (symb
   pub sizes : AllByRecursion
       (λ s. s.located.placed ≡ true → HasSize (form t s.located) s x.alignment s.located.kind) sites
   pub fields : AllByRecursion (λ p. IsTemplate p.template) (parts t sites)
+  -- a section of code is not too long
+  pub short : section.executable ≡ true → end_of 0 sites ≤ longest_section
   -- code is aligned to 2 at most: alignments beyond that are not built
   pub low : goes_to_text section ≡ true → x.alignment ≤ 2
 
@@ -122,7 +124,7 @@ abbrev pub StandsInData : List Site → Assignment → Type 0
 StandsInData sites a = is_location a ≡ true → IsInData (site_at sites a.ordinal)
 
 pub record IsObjectOf (ss : List Statement) (o : Object) : Type 0 where
-  -- no label, directive or code is faulty, and no section of code too long
+  -- no label, directive or code is faulty
   pub good : statements_fault ss ≡ None
   -- the statements in their sections
   pub sites : List Site

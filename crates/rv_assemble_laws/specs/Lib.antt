@@ -1,4 +1,4 @@
-pub mod Written
+pub mod Coded
 pub mod Templates
 pub mod Sites
 pub mod Symbols

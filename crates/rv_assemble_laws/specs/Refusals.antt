@@ -1,17 +1,17 @@
 -- Why a source is refused that reads well: after the faults of its labels and directives those of
 -- its code and of the sizes of code.
 
-use Rattle.std.specs.Prelude.{ℕ, ◌+◌, Bool, true, not, ◌&&◌, ◌==◌, nat_lt, List, [], ◌∷◌, Option, Some, None, if◌then◌else◌}
+use Rattle.std.specs.Prelude.{◌≡◌, ◌⊎◌, ⊤, ℕ, ◌+◌, Bool, true, not, ◌&&◌, ◌==◌, nat_lt, List, [], ◌∷◌, Option, Some, None, if◌then◌else◌}
 use Rattle.rv_text_laws.specs.Expression.{Primary}
 use Rattle.rv_text_laws.specs.Codes.{unsupported_here, limit}
 use Rattle.rv_text_laws.specs.Values.{Value}
 use Rattle.rv_statement.specs.Statement.{StatementKind, Instruction, Directs, Statement, Expression}
-use Rattle.rv_unit_laws.specs.Options.{Options}
 use Rattle.rv_unit_laws.specs.Tables.{Tables, tables, value, longest_section, alignment_of}
 use Rattle.rv_unit_laws.specs.Faults.{Fault, faulty_if, lowest, at_line, first_fault}
 use Rattle.rv_source_laws.specs.Located.{Located, located}
 use Rattle.rv_source_laws.specs.Program.{place_of}
 use Rattle.rv_source_laws.specs.Fits.{is_low}
+use Rattle.rv_assemble_laws.specs.Coded.{IsCode}
 use Rattle.rv_assemble_laws.specs.InstructionFaults.{instruction_faults, is_label}
 
 -- ---- code
@@ -24,14 +24,14 @@ padding_faults executable alignment =
 -- the faults of a statement as code: those of an instruction, or of an alignment in a section of
 -- code; v gives values, and l says which symbols are labels of the file
 abbrev pub code_faults :
-    Options → Bool → (Expression → Value) → (Primary → Bool) → StatementKind → List ℕ
-code_faults o executable v l (Directs directive) =
+    Bool → (Expression → Value) → (Primary → Bool) → StatementKind → List ℕ
+code_faults executable v l (Directs directive) =
     padding_faults executable (alignment_of v directive)
-code_faults o executable v l kind = instruction_faults o v l kind
+code_faults executable v l kind = instruction_faults v l kind
 
 abbrev pub code_faults_at : Tables → Located → List ℕ
 code_faults_at t s =
-    code_faults s.options s.home.executable (λ e. value t true s.ordinal (place_of s) e)
+    code_faults s.home.executable (λ e. value t true s.ordinal (place_of s) e)
     (is_label t s.ordinal) s.kind
 
 abbrev pub code_fault_from : Tables → List Located → Option Fault
@@ -45,25 +45,42 @@ code_fault ss = code_fault_from (tables ss) (located (ss ∷ []))
 
 -- ---- the sizes of code
 
--- an instruction has four bytes
-abbrev pub code_size : StatementKind → ℕ
-code_size (Instruction mnemonic operands) = 4
-code_size _ = 0
+-- the bytes of a statement as code: those of an instruction
+abbrev pub HasCodeSize : (Expression → Value) → Bool → StatementKind → ℕ → Type 0
+HasCodeSize v rvc (Instruction mnemonic operands) bytes =
+    (coded : List (List ℕ))
+    × ((instructions : ℕ) × IsCode v rvc mnemonic operands bytes coded instructions)
+HasCodeSize v rvc kind bytes = bytes ≡ 0
+
+abbrev pub HasSizeAt : Tables → Located → ℕ → Type 0
+HasSizeAt t s bytes =
+    HasCodeSize (λ e. value t true s.ordinal (place_of s) e) s.options.rvc s.kind bytes
+
+-- those of statements, one after the other
+abbrev pub AreCodeSizes : Tables → List Located → List ℕ → Type 0
+AreCodeSizes t [] [] = ⊤
+AreCodeSizes t [] (bytes ∷ sizes) = ⊥
+AreCodeSizes t (s ∷ ss) [] = ⊥
+AreCodeSizes t (s ∷ ss) (bytes ∷ sizes) = HasSizeAt t s bytes × AreCodeSizes t ss sizes
 
 -- these bytes more in one section
 abbrev pub grown : (ℕ → ℕ) → ℕ → ℕ → ℕ → ℕ
-grown sizes section bytes j = if j == section then sizes j + bytes else sizes j
+grown before section bytes j = if j == section then before j + bytes else before j
 
-abbrev pub size_fault_from : (ℕ → ℕ) → List Located → Option Fault
-size_fault_from sizes [] = None
-size_fault_from sizes (s ∷ ss) =
+-- the first statement whose end passes the longest section, where so many bytes stand before in
+-- each section
+abbrev pub size_fault_from : (before : ℕ → ℕ) → List Located → (sizes : List ℕ) → Option Fault
+size_fault_from before (s ∷ ss) (bytes ∷ sizes) =
     at_line s.line
-    (if nat_lt longest_section (sizes s.section + code_size s.kind) then Some limit else None)
-    (size_fault_from (grown sizes s.section (code_size s.kind)) ss)
+    (if nat_lt longest_section (before s.section + bytes) then Some limit else None)
+    (size_fault_from (grown before s.section bytes) ss sizes)
+size_fault_from before ss sizes = None
 
--- the first statement whose end passes the longest section of code
-abbrev pub size_fault : List Statement → Option Fault
-size_fault ss = size_fault_from (λ j. 0) (located (ss ∷ []))
+-- a section of code becomes too long, and this is where
+pub record IsTooLong (ss : List Statement) (f : Fault) : Type 0 where
+  pub sizes : List ℕ
+  pub are_sizes : AreCodeSizes (tables ss) (located (ss ∷ [])) sizes
+  pub fault : size_fault_from (λ j. 0) (located (ss ∷ [])) sizes ≡ Some f
 
 -- ---- the first fault of a source
 
@@ -71,6 +88,11 @@ abbrev pub else_fault : Option Fault → Option Fault → Option Fault
 else_fault (Some f) other = Some f
 else_fault None other = other
 
--- labels and directives come first, then code, then sizes
+-- labels and directives come first, then code
 abbrev pub statements_fault : List Statement → Option Fault
-statements_fault ss = else_fault (first_fault ss) (else_fault (code_fault ss) (size_fault ss))
+statements_fault ss = else_fault (first_fault ss) (code_fault ss)
+
+-- the fault for which a source is refused: sizes come after all others
+abbrev pub IsStatementsFault : List Statement → Fault → Type 0
+IsStatementsFault ss f =
+    (statements_fault ss ≡ Some f) ⊎ ((statements_fault ss ≡ None) × IsTooLong ss f)

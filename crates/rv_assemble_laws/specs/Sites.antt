@@ -2,26 +2,23 @@
 -- (gABI, "Sections").
 
 use Rattle.std.specs.Prelude.{◌≡◌, ℕ, ◌+◌, ◌*◌, ◌%◌, ◌<◌, Bool, true, false, ◌==◌, ⊤, List, [], ◌∷◌, length, filter, flat_map, map, Option, Some, None}
-use Rattle.std.specs.List.{list_all}
-use Rattle.rv_isa.specs.declared.instruction.Inst.{Inst}
-use Rattle.rv_isa.specs.Ranges.{IsValid}
 use Rattle.rv_text_laws.specs.Values.{Value, Constant}
-use Rattle.rv_statement.specs.declared.mnemonic.Mnemonic.{Mnemonic}
-use Rattle.rv_statement.specs.Statement.{StatementKind, Label, Numbered, Instruction, Directs, Operand, Expression, Directive, Aligns_to_power, Aligns_to_bytes, Values, Strings, Zeros}
+use Rattle.rv_statement.specs.Statement.{StatementKind, Label, Numbered, Instruction, Directs, Expression, Directive, Aligns_to_power, Aligns_to_bytes, Values, Strings, Zeros}
 use Rattle.rv_unit_laws.specs.Tables.{Tables, value, alignment_of, padding, string_bytes}
 use Rattle.rv_source_laws.specs.Located.{Located}
-use Rattle.rv_source_laws.specs.Program.{place_of, in_operand}
+use Rattle.rv_source_laws.specs.Program.{place_of}
 use Rattle.rv_source_laws.specs.Fits.{is_low}
-use Rattle.rv_assemble_laws.specs.Written.{is_constant, constant_in, expanded}
+use Rattle.rv_assemble_laws.specs.Coded.{is_constant, IsCode}
 use Rattle.rv_assemble_laws.specs.Templates.{Template, templates, template_bytes}
 
--- a statement of a source alone, the bytes before it in its section, its own bytes, and how many
--- instructions these are
+-- a statement of a source alone, the bytes before it in its section, how many bytes it has, how
+-- many instructions these are, and the bytes of its code, part by part
 pub record Site : Type 0 where
   pub located : Located
   pub offset : ℕ
   pub bytes : ℕ
   pub instructions : ℕ
+  pub coded : List (List ℕ)
 
 -- what an expression of a statement is in its file
 abbrev pub form : Tables → Located → Expression → Value
@@ -36,7 +33,8 @@ abbrev pub part_of : ℕ → Template → Part
 part_of ordinal template = record { ordinal = ordinal; template = template }
 
 abbrev pub parts_of : Tables → Site → List Part
-parts_of t s = map (part_of s.located.ordinal) (templates (form t s.located) s.located.kind s.bytes)
+parts_of t s =
+    map (part_of s.located.ordinal) (templates (form t s.located) s.located.kind s.bytes s.coded)
 
 abbrev pub part_bytes : Part → List ℕ
 part_bytes p = template_bytes p.template
@@ -65,12 +63,6 @@ end_of offset [] = offset
 end_of offset (s ∷ ss) = end_of (offset + s.bytes) ss
 
 -- ---- sizes
-
--- the one valid instruction of a statement whose expressions are constants
-abbrev pub IsInstruction : (Expression → Value) → Mnemonic → List Operand → Inst → Type 0
-IsInstruction v mnemonic operands i =
-    (list_all (λ e. is_constant (v e)) (flat_map in_operand operands) ≡ true)
-    × (expanded (λ e. constant_in (v e)) mnemonic operands ≡ Some (i ∷ [])) × IsValid i
 
 -- the section begins at a multiple of each alignment in it
 abbrev pub IsMultiple : Option ℕ → ℕ → Type 0
@@ -106,6 +98,5 @@ abbrev pub HasSize : (Expression → Value) → Site → ℕ → StatementKind �
 HasSize v s multiple (Label name) = (s.bytes ≡ 0) × (s.instructions ≡ 0)
 HasSize v s multiple (Numbered number) = (s.bytes ≡ 0) × (s.instructions ≡ 0)
 HasSize v s multiple (Instruction mnemonic operands) =
-    (s.bytes ≡ 4) × (s.instructions ≡ 1)
-    × ((i : Inst) × IsInstruction v mnemonic operands i)
+    IsCode v s.located.options.rvc mnemonic operands s.bytes s.coded s.instructions
 HasSize v s multiple (Directs directive) = DirectiveSize v s multiple directive

@@ -1,27 +1,19 @@
 -- What the statements of a source are in an object: bytes with open fields left zero, and the
 -- relocations that fill them (RISC-V ELF psABI, "Relocations"; GNU as, "Pseudo Ops").
 
-use Rattle.std.specs.Prelude.{◌≡◌, ℕ, ℤ, pos, ◌==◌, ⊤, ◌⊎◌, if◌then◌else◌, List, [], ◌∷◌, flat_map, map, replicate, Option, Some, None}
-use Rattle.std.specs.Int.{w32, w64, to_le_bytes, int_wrap}
-use Rattle.rv_isa.specs.declared.instruction.Inst.{Inst}
+use Rattle.std.specs.Prelude.{◌≡◌, ℕ, ℤ, pos, ◌==◌, ⊤, ◌⊎◌, if◌then◌else◌, List, [], ◌∷◌, map, replicate}
+use Rattle.std.specs.Int.{w64, int_wrap}
 use Rattle.rv_isa.specs.declared.kind.Kind.{Kind}
 use Rattle.rv_isa.specs.declared.kind.Kind.TheVariants.{Abs32, Abs64, Add8, Add16, Add32, Add64, Sub8, Sub16, Sub32, Sub64}
 use Rattle.rv_isa_laws.specs.Bytes.{little_endian}
-use Rattle.rv_encode.specs.Word.{form, word}
 use Rattle.rv_text_laws.specs.Expression.{Primary}
 use Rattle.rv_text_laws.specs.Values.{Value, Constant, Symbolic, Difference, Faulty}
 use Rattle.rv_statement.specs.Statement.{StatementKind, Label, Numbered, Instruction, Directs, Expression}
 use Rattle.rv_unit_laws.specs.Contributions.{Contents, Numbers, Texts, Contribution, Nothing, Bytes, Zero_bytes, Alignment, contribution}
 use Rattle.rv_unit_laws.specs.Tables.{string_bytes}
-use Rattle.rv_assemble_laws.specs.Written.{constant_in, expanded}
 
 abbrev pub zeros : ℕ → List ℕ
 zeros count = replicate count 0
-
--- instructions as they lie in memory, each a word
-abbrev pub words : Option (List Inst) → List ℕ
-words None = []
-words (Some instructions) = flat_map (λ i. to_le_bytes w32 (word (form i))) instructions
 
 -- ---- templates
 
@@ -113,10 +105,11 @@ contribution_templates v (Bytes contents) bytes = contents_templates v contents
 contribution_templates v (Zero_bytes count) bytes = Fixed (zeros bytes) ∷ []
 contribution_templates v (Alignment form number) bytes = Fixed (zeros bytes) ∷ []
 
--- an instruction whose operands are constants is its words
-abbrev pub templates : (Expression → Value) → StatementKind → ℕ → List Template
-templates v (Label name) bytes = []
-templates v (Numbered number) bytes = []
-templates v (Instruction mnemonic operands) bytes =
-    Fixed (words (expanded (λ e. constant_in (v e)) mnemonic operands)) ∷ []
-templates v (Directs directive) bytes = contribution_templates v (contribution directive) bytes
+-- of a statement with so many bytes, and if it is an instruction with this code, part by part
+abbrev pub templates : (Expression → Value) → StatementKind → (bytes : ℕ) → List (List ℕ) →
+    List Template
+templates v (Label name) bytes coded = []
+templates v (Numbered number) bytes coded = []
+templates v (Instruction mnemonic operands) bytes coded = map Fixed coded
+templates v (Directs directive) bytes coded =
+    contribution_templates v (contribution directive) bytes

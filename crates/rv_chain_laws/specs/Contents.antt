@@ -3,12 +3,9 @@
 
 use Rattle.std.specs.Prelude.{◌≡◌, ℕ, ◌+◌, ◌-◌, ◌≤◌, ◌⊎◌, ⊤, Bool, true, false, ◌&&◌, IsTrue, List, [], ◌∷◌, ◌++◌, flat_map, replicate, Some}
 use Rattle.std.specs.List.{AllByRecursion}
-use Rattle.rv_isa.specs.declared.instruction.Inst.{Inst}
 use Rattle.rv_isa.specs.Kinds.{width_of}
-use Rattle.rv_isa_laws.specs.Bytes.{little_endian}
 use Rattle.rv_isa_laws.specs.Platform.{stack_start}
-use Rattle.rv_encode.specs.Word.{form, word}
-use Rattle.rv_compress.specs.Parcel.{IsShortOf}
+use Rattle.rv_patch_laws.specs.Encoded.{IsLeast, IsEncodedIn}
 use Rattle.rv_statement.specs.Statement.{Statement, StatementKind, Directs}
 use Rattle.rv_pseudo_laws.specs.Code.{Part, Closed, Open, Joined}
 use Rattle.rv_pseudo_laws.specs.Filled.{are_closed}
@@ -22,16 +19,6 @@ use Rattle.rv_source_laws.specs.Resolves.{Resolves}
 use Rattle.rv_source_laws.specs.Start.{spelled}
 
 -- ---- instructions as they lie in memory
-
--- a parcel stands for an instruction, and is no HINT (ISA, 16.7)
-abbrev pub HasShort : Inst → Type 0
-HasShort i = (p : ℕ) × IsShortOf i p
-
--- the bytes of an instruction: two where compressed code may be and a parcel stands for it, else
--- four
-abbrev pub IsLeast : Bool → Inst → ℕ → Type 0
-IsLeast true i bytes = ((bytes ≡ 2) × HasShort i) ⊎ ((bytes ≡ 4) × (HasShort i → ⊥))
-IsLeast false i bytes = bytes ≡ 4
 
 -- each line of a statement's parts has its bytes
 abbrev pub AreSized : Bool → List Part → List Line → Type 0
@@ -58,9 +45,7 @@ HasSizes rvc ps kind lines = AreSized (rvc && are_closed ps) ps lines
 
 -- the bytes of a line: the word of its instruction, or the parcel that is chosen for it
 abbrev pub IsEncoded : Line → List ℕ → Type 0
-IsEncoded l bytes =
-    ((l.bytes ≡ 4) × (bytes ≡ little_endian 4 (word (form l.instruction))))
-    ⊎ ((l.bytes ≡ 2) × ((q : ℕ) × IsShortOf l.instruction q × (bytes ≡ little_endian 2 q)))
+IsEncoded l bytes = IsEncodedIn l.instruction l.bytes bytes
 
 abbrev pub AreEncoded : List Line → List ℕ → Type 0
 AreEncoded [] bytes = bytes ≡ []
