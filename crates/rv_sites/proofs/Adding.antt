@@ -1,6 +1,6 @@
 -- How the code of a source grows, statement by statement.
 
-use Rattle.std.proofs.Common.{◌≡◌, ℕ, Bool, List, [], length, map, Ok, Err, sym, ap, subst}
+use Rattle.std.proofs.Common.{ℕ, Bool, List, length, Err, sym, ap, subst}
 use Rattle.std.proofs.lemmas.List.{length-map}
 use Rattle.rv_text_laws.specs.Expression.{Primary}
 use Rattle.rv_text_laws.specs.Values as values

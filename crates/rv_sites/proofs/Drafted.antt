@@ -18,7 +18,7 @@ use Rattle.rv_sites.specs.declared.draft.Draft.{Draft}
 use Rattle.rv_sites.specs.Added.{IsWhole}
 use Rattle.rv_sites.specs.Code.{bytes_in, section_code}
 use Rattle.rv_sites.specs.Coded.{AreCoded}
-use Rattle.rv_sites.specs.DataParts.{data_bytes, sites, IsData}
+use Rattle.rv_sites.specs.DataParts.{data_bytes, IsData}
 use Rattle.rv_sites.specs.Items.{AreItems}
 use Rattle.rv_sites.specs.Seated.{sites_of}
 use Rattle.rv_sites.specs.Sized.{AreSized}

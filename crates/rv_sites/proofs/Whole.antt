@@ -8,7 +8,6 @@ use Rattle.rv_statement.specs.Statement.{Statement as SpecStatement}
 use Rattle.rv_statement.specs.View.{statement_of}
 use Rattle.rv_statement.specs.declared.statement.Statement.{Statement}
 use Rattle.rv_unit_laws.specs.Faults.{Fault, lowest}
-use Rattle.rv_unit_laws.specs.Options.{Options}
 use Rattle.rv_unit_laws.specs.Sections.{Section}
 use Rattle.rv_unit_laws.specs.Tables.{Tables, SectionOffset as Standing, at_start, tables, value, stood}
 use Rattle.rv_tables.specs.declared.section_offset.SectionOffset.{SectionOffset}
@@ -19,7 +18,7 @@ use Rattle.rv_unit.specs.Unit.{said, passed}
 use Rattle.rv_source_laws.specs.Located.{Located, located, located_from}
 use Rattle.rv_assemble_laws.specs.InstructionFaults.{is_label}
 use Rattle.rv_assemble_laws.specs.Refusals.{code_faults, code_faults_at, code_fault_from}
-use Rattle.rv_sites.specs.Added.{IsAdded, IsAllCode, IsCodeFault, IsCodeSoFar, IsLong, IsSourceCode, Adds}
+use Rattle.rv_sites.specs.Added.{IsAdded, IsAllCode, IsCodeFault, IsCodeSoFar, IsSourceCode, Adds}
 use Rattle.rv_sites.specs.declared.code.Coder.{Coder}
 use Rattle.rv_sites.specs.declared.code.SectionCode.{SectionCode}
 use Rattle.rv_sites.proofs.SoFar.{next_code, wrong_code}

@@ -166,7 +166,8 @@ fn padding_to_bytes(
     bytes_of_padding(extent, alignment, offset, line)
 }
 
-/// The bytes of the statement that is next, after `offset` bytes of its section, where its code has this size.
+/// The bytes of the statement that is next, after `offset` bytes of its section, where its code has
+/// this size.
 fn size(
     scope: &Scope<'_, '_>,
     statement: &Statement<'_>,
@@ -306,7 +307,8 @@ pub(crate) fn extent_at<'a>(extents: &[Extent<'a>], section: u32) -> Extent<'a>
     extents[section as usize]
 }
 
-/// The item of the statement that is next, after `offset` bytes of its section, where its code has this size.
+/// The item of the statement that is next, after `offset` bytes of its section, where its code has
+/// this size.
 fn next_item<'a>(
     scope: &Scope<'_, 'a>,
     statement: &Statement<'a>,
@@ -362,7 +364,8 @@ fn grow(ends: &mut Vec<u32>, item: Item)
     ends[item.section as usize] = item.offset + item.bytes;
 }
 
-/// The items of a source's statements, whose code has these sizes, and the bytes of each section after the last of them.
+/// The items of a source's statements, whose code has these sizes, and the bytes of each section
+/// after the last of them.
 pub(crate) fn items(
     alloc: Global,
     unit: &Unit<'_>,
@@ -394,7 +397,14 @@ pub(crate) fn items(
         let place = places[index];
         let extent = extent_at(extents, place.section);
         let offset = end(ends.as_slice(), place.section);
-        let item = next_item(&scope, &statements[index], place, &extent, offset, sizes[index])?;
+        let item = next_item(
+            &scope,
+            &statements[index],
+            place,
+            &extent,
+            offset,
+            sizes[index],
+        )?;
         grow(&mut ends, item);
         items.push(item)?;
         scope.pass();

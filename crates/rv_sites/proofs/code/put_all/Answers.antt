@@ -1,4 +1,4 @@
-use Rattle.std.proofs.Common.{rules, ◌++◌, ◌+◌, ◌<◌, ◌∙◌, length, map, drop, get_or, sym, ap, append-nil}
+use Rattle.std.proofs.Common.{rules, ◌++◌, ◌+◌, ◌<◌, ◌∙◌, length, map, drop, sym, ap, append-nil}
 use Rattle.rv_instruction.specs.Code.{encoded_bytes}
 use Rattle.rv_sites.proofs.Joined.{flat_more, left_at}
 use Rattle.rv_sites.proofs.code.put_all.Goals as goal
