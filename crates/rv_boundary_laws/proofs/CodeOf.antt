@@ -1,8 +1,8 @@
 -- The code of a statement of the sources: the bytes that its site in an object has.
 
-use Rattle.std.proofs.Common.{◌≡◌, ℕ, zero, suc, ◌+◌, ◌-◌, ◌≤◌, Bool, List, [], ◌∷◌, refl, ap, ◌∙◌, subst, arith, map, Option, Some, None}
+use Rattle.std.proofs.Common.{◌≡◌, ℕ, zero, suc, ◌+◌, ◌-◌, ◌≤◌, List, [], ◌∷◌, refl, ap, ◌∙◌, subst, arith, map, Option, Some, None}
 use Rattle.std.proofs.lemmas.Bool.{eq-eqb, ne_eqb}
-use Rattle.std.specs.Prelude.{⊤, ◌==◌, if◌then◌else◌}
+use Rattle.std.specs.Prelude.{⊤, if◌then◌else◌}
 use Rattle.std.specs.List.{AllByRecursion}
 use Rattle.rv_statement.specs.Statement.{Statement}
 use Rattle.rv_unit_laws.specs.Tables.{Tables, at_start, after}
@@ -25,9 +25,10 @@ IsFound least sites z = (least ≤ z.located.ordinal) × (site_at sites z.locate
 found_from : (k : ℕ) (t : Tables) (ss : List Statement) (sites : List Site) → map (λ s. s.located) sites ≡ located_from 1 k t ss → AllByRecursion (IsFound k sites) sites
 found_from k t ss [] e = tt
 found_from k t [] (s ∷ sites) e = absurd (cc)
-found_from k t (x ∷ ss) (s ∷ sites) e =
-    ((omega (arith, own), ap (λ b. if b then Some s else site_at sites s.located.ordinal) (eq-eqb s.located.ordinal s.located.ordinal refl)),
-    all_map (IsFound (suc k) sites) (IsFound k (s ∷ sites)) sites later (found_from (suc k) (after t k x.kind) ss sites (let rest : map (λ s. s.located) sites ≡ located_from 1 (suc k) (after t k x.kind) ss = cc in rest)))
+found_from k t (x ∷ ss) (s ∷ sites) e = (
+  (omega (arith, own), ap (λ b. if b then Some s else site_at sites s.located.ordinal) (eq-eqb s.located.ordinal s.located.ordinal refl)),
+  all_map (IsFound (suc k) sites) (IsFound k (s ∷ sites)) sites later (found_from (suc k) (after t k x.kind) ss sites (let rest : map (λ s. s.located) sites ≡ located_from 1 (suc k) (after t k x.kind) ss = cc in rest)),
+)
   where
     own : s.located.ordinal ≡ k
     own = let now : s.located ≡ located_now 1 k t x = cc in ap (λ l. l.ordinal) now

@@ -1,11 +1,11 @@
 -- Code whose operands are known: its lines, their bytes, and why no low part of a distance is among its operands.
 
 use Rattle.std.proofs.Common.{◌≡◌, ℕ, suc, ◌+◌, ◌*◌, ◌%◌, ◌≤◌, Bool, true, false, List, [], ◌∷◌, ◌++◌, length, map, refl, sym, ap, ◌∙◌, subst, arith, Option, Some, None, ◌⊎◌, inl, inr, length-append}
-use Rattle.std.specs.Prelude.{ℤ, ◌&&◌, ⊤}
+use Rattle.std.specs.Prelude.{◌&&◌, ⊤}
 use Rattle.std.specs.List.{AllByRecursion}
 use Rattle.rv_isa.specs.declared.instruction.Inst.{Inst}
 use Rattle.rv_isa.specs.Ranges.{IsValid}
-use Rattle.rv_patch_laws.specs.Encoded.{IsLeast, IsEncodedIn}
+use Rattle.rv_patch_laws.specs.Encoded.{IsLeast}
 use Rattle.rv_statement.specs.declared.mnemonic.Mnemonic.{Mnemonic}
 use Rattle.rv_statement.specs.declared.mnemonic.Mnemonic.TheVariants.{Registers, Immediate, Shift, Upper, Load, Store, Jalr, Jr, Li, Ecall}
 use Rattle.rv_statement.specs.declared.pseudo.Function.TheVariants.{Hi, Lo, PcrelHi, PcrelLo}
@@ -17,7 +17,7 @@ use Rattle.rv_source_laws.specs.Program.{Mapped, Program}
 use Rattle.rv_source_laws.specs.Lines.{other_operand, Line, Lie}
 use Rattle.rv_source_laws.specs.Fits.{IsPaired}
 use Rattle.rv_chain_laws.specs.Contents.{AreSized, AreEncoded}
-use Rattle.rv_assemble_laws.specs.Coded.{IsCodedPart, AreCodedParts, joined}
+use Rattle.rv_assemble_laws.specs.Coded.{AreCodedParts, joined}
 
 -- ---- the bytes of an instruction
 
