@@ -1,10 +1,11 @@
 -- Worked code: why each instruction has its bytes.
 
-use Rattle.std.proofs.Common.{◌≡◌, ℕ, ◌≤◌, true, false, [], ◌∷◌, refl, subst, lit<, arith, inl, inr, pos, negsuc}
+use Rattle.std.proofs.Common.{◌≡◌, ℕ, ◌≤◌, true, false, [], ◌∷◌, refl, ap, subst, lit<, arith, inl, inr, ℤ, pos, negsuc}
 use Rattle.std.proofs.lemmas.Int.{ints}
 use Rattle.std.specs.Prelude.{◌≤ℤ◌, ◌<◌}
 use Rattle.rv_isa.specs.Ranges.{IsValid}
 use Rattle.rv_isa.specs.declared.instruction.Inst.{Inst}
+use Rattle.rv_isa.specs.declared.instruction.Inst.TheVariants as isa
 use Rattle.rv_isa.specs.declared.operation.ImmediateOperation.TheVariants.{Addi as Of_addi}
 use Rattle.rv_compress.specs.declared.form.Compressed.{Compressed}
 use Rattle.rv_compress.specs.declared.form.Compressed.TheVariants.{Addi, Addiw, Lui}
@@ -52,9 +53,14 @@ upper_short = record {
   same = refl;
 }
 
+-- the number of `addiw`
+abbrev number_in : Inst → ℤ
+number_in (isa.Addiw x) = x.immediate
+number_in i = pos 0
+
 no_form : (f : Compressed) → IsLine f → expansion f ≡ low → ⊥
 no_form (Addiw rd i) (register, six) e =
-    let same : i ≡ negsuc 2047 = cc in
+    let same : i ≡ negsuc 2047 = ap number_in e in
     let far : negsuc 31 ≤ℤ negsuc 2047 = subst (λ k. negsuc 31 ≤ℤ k) same six.0 in
     omega (arith, ints, far)
 no_form f line e = absurd (cc)
