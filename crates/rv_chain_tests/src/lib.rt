@@ -6,6 +6,8 @@
 #![tactic(auto)]
 
 #[cfg(test)]
+mod code;
+#[cfg(test)]
 mod faults;
 #[cfg(test)]
 mod files;
@@ -23,5 +25,7 @@ mod order;
 mod programs;
 #[cfg(test)]
 mod several;
+#[cfg(test)]
+mod short;
 #[cfg(test)]
 mod sources;
