@@ -437,7 +437,7 @@ fn operations(rt: HostRuntime) -> Result<(), Fail> {
 }
 
 /// Loads and stores at a register.
-const MEMORY: [Row; 34] = [
+const MEMORY: [Row; 36] = [
     (b"lw a0, 0(a1)", &[0x0005a503], &[0x4188]),
     (b"lw a0, 4(a1)", &[0x0045a503], &[0x41c8]),
     (b"lw a0, 64(a1)", &[0x0405a503], &[0x41a8]),
@@ -472,6 +472,8 @@ const MEMORY: [Row; 34] = [
     (b"lwu a0, 0(a0)", &[0x00056503], &[0x00056503]),
     (b"sh a0, 0(a0)", &[0x00a51023], &[0x00a51023]),
     (b"lw a0, %lo(4100)(a0)", &[0x00452503], &[0x4148]),
+    (b"sd s0, %lo(4104)(a5)", &[0x0087b423], &[0xe780]),
+    (b"sd s0, %lo(4095)(t0)", &[0xfe82bfa3], &[0xfe82bfa3]),
 ];
 
 #[test]
