@@ -60,8 +60,8 @@ fn programs(rt: HostRuntime) -> Result<(), Fail> {
 }
 
 /// Of some hundred random programs those that have the most different forms, the last four with compressed code: a
-/// source; the rows of 32 bytes after
-/// the first page of its file that are not all zero, and their count; how its map begins.
+/// source; the rows of 32 bytes after the first page of its file that are not all zero, and their count; how its map
+/// begins.
 const PROGRAMS: &str = "===
 .option norvc
 ecall
