@@ -12,13 +12,14 @@ use Rattle.rv_source_laws.specs.Located.{Located, located_now, located_from, is_
 use Rattle.rv_assemble_laws.specs.Sites.{Site, Part, part_bytes, sites_in}
 use Rattle.rv_assemble_laws.proofs.Filled.{bytes_append}
 use Rattle.rv_sites.specs.declared.field.OpenField.{OpenField}
+use Rattle.rv_sites.specs.declared.item.CodeSize.{CodeSize}
 use Rattle.rv_sites.specs.declared.item.Item.{Item}
 use Rattle.rv_sites.specs.Code.{GrowsBy, bytes_in, value_at}
 use Rattle.rv_sites.specs.DataParts.{is_filled, data_said, fields_said, data_parts, data_fields, data_bytes, sites, HasRoomFor, IsLaid, IsDataTo, IsData}
 use Rattle.rv_sites.specs.Draft.{field_of}
 use Rattle.rv_sites.specs.Items.{IsItem, AreItems, grown}
 use Rattle.rv_sites.specs.Seated.{site_of, sites_of}
-use Rattle.rv_sites.specs.Sized.{IsSized, AreSized}
+use Rattle.rv_sites.specs.Sized.{IsSized, AreSized, first_size, other_sizes}
 use Rattle.rv_sites.proofs.Standing.{located_at, stated_next}
 
 -- ---- the bytes of sections never fall
@@ -62,58 +63,60 @@ item_ends k (suc i) t before last (y ∷ ys) (z ∷ zs) s rest x more h e g =
 
 -- ---- the size of the item at an index
 
-abbrev SizedAt : Tables → ℕ → Tables → Statement → Item → Type 0
-SizedAt all k t s x =
-    (located_now 1 k t s).placed ≡ true → IsSized (λ e. value_at all (located_now 1 k t s) e) (located_now 1 k t s).home.executable x (slice_index_or (alignments_of all) x.section 1) s.kind
+-- with some size of its code
+record SizedAt (all : Tables) (k : ℕ) (t : Tables) (s : Statement) (x : Item) : Type 0 where
+  code : CodeSize
+  sized : (located_now 1 k t s).placed ≡ true → IsSized (λ e. value_at all (located_now 1 k t s) e) (located_now 1 k t s).home.executable x (slice_index_or (alignments_of all) x.section 1) code s.kind
 
-pub sized_left : (all : Tables) (k i : ℕ) (t : Tables) (ss : List Statement) (is : List Item) (s : Statement) (rest : List Statement) (x : Item) (more : List Item)
-    → AreSized all k t ss is → drop i ss ≡ s ∷ rest → drop i is ≡ x ∷ more → SizedAt all (i + k) (after_all t k (take i ss)) s x
-sized_left all k zero t [] is s rest x more h e g = absurd (cc)
-sized_left all k (suc i) t [] is s rest x more h e g = absurd (cc)
-sized_left all k zero t (y ∷ ys) [] s rest x more h e g = absurd (cc)
-sized_left all k (suc i) t (y ∷ ys) [] s rest x more h e g = absurd (cc)
-sized_left all k zero t (y ∷ ys) (z ∷ zs) s rest x more h e g =
+sized_left : (all : Tables) (k i : ℕ) (t : Tables) (ss : List Statement) (is : List Item) (sizes : List CodeSize) (s : Statement) (rest : List Statement) (x : Item) (more : List Item)
+    → AreSized all k t ss is sizes → drop i ss ≡ s ∷ rest → drop i is ≡ x ∷ more → SizedAt all (i + k) (after_all t k (take i ss)) s x
+sized_left all k zero t [] is sizes s rest x more h e g = absurd (cc)
+sized_left all k (suc i) t [] is sizes s rest x more h e g = absurd (cc)
+sized_left all k zero t (y ∷ ys) [] sizes s rest x more h e g = absurd (cc)
+sized_left all k (suc i) t (y ∷ ys) [] sizes s rest x more h e g = absurd (cc)
+sized_left all k zero t (y ∷ ys) (z ∷ zs) sizes s rest x more h e g =
     let same : y ≡ s = cc in
     let alike : z ≡ x = cc in
     let n : k ≡ 0 + k = omega arith in
-    subst (λ n. SizedAt all n t s x) n (subst (λ s. SizedAt all k t s x) same (subst (λ x. SizedAt all k t y x) alike h.0))
-sized_left all k (suc i) t (y ∷ ys) (z ∷ zs) s rest x more h e g =
+    let one : SizedAt all k t y z = record { code = first_size sizes; sized = h.0 } in
+    subst (λ n. SizedAt all n t s x) n (subst (λ s. SizedAt all k t s x) same (subst (λ x. SizedAt all k t y x) alike one))
+sized_left all k (suc i) t (y ∷ ys) (z ∷ zs) sizes s rest x more h e g =
     let n : i + suc k ≡ suc i + k = omega arith in
-    subst (λ n. SizedAt all n (after_all (after t k y.kind) (suc k) (take i ys)) s x) n (sized_left all (suc k) i (after t k y.kind) ys zs s rest x more h.1 e g)
+    subst (λ n. SizedAt all n (after_all (after t k y.kind) (suc k) (take i ys)) s x) n (sized_left all (suc k) i (after t k y.kind) ys zs (other_sizes sizes) s rest x more h.1 e g)
 
 -- values of data end where a section may end
 pub room_for : (ss : List Statement) (is : List Item) (i : ℕ) (s : Statement) (x : Item) → IsLaid ss is → drop i ss ≡ s ∷ drop (i + 1) ss → drop i is ≡ x ∷ drop (i + 1) is → HasRoomFor s.kind x.offset
 room_for ss is i s x laid here item w vs says =
     let ends : x.offset + x.bytes ≤ laid.last x.section = item_ends 1 i at_start (λ j. 0) laid.last ss is s (drop (i + 1) ss) x (drop (i + 1) is) laid.items here item in
     let low = laid.low x.section in
-    let size = sized_left (tables ss) 1 i at_start ss is s (drop (i + 1) ss) x (drop (i + 1) is) laid.sized here item in
+    let size = sized_left (tables ss) 1 i at_start ss is laid.sizes s (drop (i + 1) ss) x (drop (i + 1) is) laid.sized here item in
     let st = located_at ss i s in
     let placed : is_placed (passed ss i) (i + 1) s.kind ≡ true = ap (is_placed (passed ss i) (i + 1)) says in
-    let sized = subst (λ k. IsSized (λ e. value_at (tables ss) st e) st.home.executable x (slice_index_or (alignments_of (tables ss)) x.section 1) k) says (size placed) in
+    let sized = subst (λ k. IsSized (λ e. value_at (tables ss) st e) st.home.executable x (slice_index_or (alignments_of (tables ss)) x.section 1) size.code k) says (size.sized placed) in
     let bytes : x.bytes ≡ w * length vs = sized.1 in
     omega (arith, ends, low, bytes)
 
 -- ---- sites
 
-drop_sites : (i : ℕ) (ls : List Located) (is : List Item) → drop i (sites_of ls is) ≡ sites_of (drop i ls) (drop i is)
+drop_sites : (i : ℕ) (ls : List Located) (is : List Item) → drop i (sites_of ls is []) ≡ sites_of (drop i ls) (drop i is) []
 drop_sites zero [] is = refl
 drop_sites (suc i) [] is = refl
 drop_sites zero (l ∷ ls) [] = refl
 drop_sites (suc i) (l ∷ ls) [] = none (drop i ls)
   where
-    none : (ms : List Located) → [] ≡ sites_of ms []
+    none : (ms : List Located) → [] ≡ sites_of ms [] []
     none [] = refl
     none (m ∷ ms) = refl
 drop_sites zero (l ∷ ls) (x ∷ is) = refl
 drop_sites (suc i) (l ∷ ls) (x ∷ is) = drop_sites i ls is
 
 pub sites_next : (ss : List Statement) (is : List Item) (i : ℕ) (s : Statement) (x : Item) → drop i ss ≡ s ∷ drop (i + 1) ss → drop i is ≡ x ∷ drop (i + 1) is
-    → drop i (sites ss is) ≡ site_of (located_at ss i s) x ∷ drop (i + 1) (sites ss is)
+    → drop i (sites ss is) ≡ site_of (located_at ss i s) x [] ∷ drop (i + 1) (sites ss is)
 sites_next ss is i s x here item =
     let all = located_from 1 1 at_start ss in
-    drop_sites i all is ∙ ap (λ l. sites_of l (drop i is)) (stated_next ss i s (drop (i + 1) ss) here)
-    ∙ ap (λ l. sites_of (located_at ss i s ∷ drop (i + 1) all) l) item
-    ∙ ap (λ l. site_of (located_at ss i s) x ∷ l) (sym (drop_sites (i + 1) all is))
+    drop_sites i all is ∙ ap (λ l. sites_of l (drop i is) []) (stated_next ss i s (drop (i + 1) ss) here)
+    ∙ ap (λ l. sites_of (located_at ss i s ∷ drop (i + 1) all) l []) item
+    ∙ ap (λ l. site_of (located_at ss i s) x [] ∷ l) (sym (drop_sites (i + 1) all is))
 
 -- ---- one statement
 
@@ -153,7 +156,7 @@ module _ (ss : List Statement) (is : List Item) (start : List (Vec ℕ)) (i : �
   st = located_at ss i s
 
   abbrev site : Site
-  site = site_of st x
+  site = site_of st x []
 
   abbrev rest : List Site
   rest = drop (i + 1) (sites ss is)
@@ -231,7 +234,7 @@ data_begin ss is start found none = record {
 pub data_all : (ss : List Statement) (is : List Item) (start : List (Vec ℕ)) (i : ℕ) (sections : List (Vec ℕ)) (found : List OpenField) → drop i (located_from 1 1 at_start ss) ≡ []
     → IsDataTo ss is start i sections found → IsData ss is start sections found
 data_all ss is start i sections found past h =
-    let none : drop i (sites ss is) ≡ [] = drop_sites i (located_from 1 1 at_start ss) is ∙ ap (λ l. sites_of l (drop i is)) past in
+    let none : drop i (sites ss is) ≡ [] = drop_sites i (located_from 1 1 at_start ss) is ∙ ap (λ l. sites_of l (drop i is) []) past in
     record {
       bytes = λ j.
           sym (append-nil (bytes_in sections j))

@@ -12,32 +12,32 @@ use Rattle.rv_unit_laws.specs.Faults.{first_fault}
 use Rattle.rv_source_laws.specs.Located.{located, located_from}
 use Rattle.rv_source_laws.specs.Compressed.{is_compressed, is_compressed_code}
 use Rattle.rv_assemble_laws.specs.Sites.{Site, part_bytes, parts, parts_of, sites_in, Tile, end_of}
-use Rattle.rv_assemble_laws.specs.Refusals.{code_fault}
 use Rattle.rv_assemble_laws.proofs.Homes.{IsHomeIn, homes_from, all_map}
 use Rattle.rv_assemble_laws.proofs.Held.{all_held}
 use Rattle.rv_sites.specs.declared.draft.Draft.{Draft}
+use Rattle.rv_sites.specs.Added.{IsWhole}
 use Rattle.rv_sites.specs.Code.{bytes_in, section_code}
 use Rattle.rv_sites.specs.Coded.{AreCoded}
 use Rattle.rv_sites.specs.DataParts.{data_bytes, sites, IsData}
 use Rattle.rv_sites.specs.Items.{AreItems}
+use Rattle.rv_sites.specs.Seated.{sites_of}
 use Rattle.rv_sites.specs.Sized.{AreSized}
+use Rattle.rv_sites.specs.declared.item.CodeSize.{CodeSize}
 use Rattle.rv_sites.specs.Draft.{IsDraft, IsDrafted}
 use Rattle.rv_sites.proofs.Fitted.{Fit, IsWideKind, fits_from, have_all_fields}
 use Rattle.rv_sites.proofs.Locations.{places_stand}
 use Rattle.rv_sites.proofs.LowSections.{low_all}
-use Rattle.rv_sites.proofs.Sectioned.{IsOf, all_located, all_items, all_sites, tiles, all_of, code_in, section_bytes, code_bytes, all_sizes, section_templates, all_fields, asks_some}
+use Rattle.rv_sites.proofs.Sectioned.{IsOf, all_located, all_items, all_sites, data_as, fields_as, tiles, all_of, code_in, section_bytes, code_bytes, all_sizes, section_templates, all_fields, asks_some}
 use Rattle.rv_sites.proofs.Standing.{got_or}
-use Rattle.rv_sites.proofs.Whole.{IsCodedBy, one_file}
+use Rattle.rv_sites.proofs.Whole.{one_file}
 
 -- what the passes over a source have found
-pub record Passed (ss : List Statement) (code : List (Vec ℕ)) (d : Draft) : Type 0 where
+pub record Passed (ss : List Statement) (code : List (Vec ℕ)) (sizes : List CodeSize) (d : Draft) : Type 0 where
   pub good : first_fault ss ≡ None
   pub wide : AllByRecursion (λ s. IsWideKind s.kind) ss
-  pub sound : code_fault ss ≡ None
-  pub coded : AreCoded ss
-  pub words : (j : ℕ) → bytes_in code j ≡ section_code (tables ss) j (located (ss ∷ []))
+  pub whole : IsWhole (tables ss) (located (ss ∷ [])) code sizes
   pub items : AreItems 1 at_start (λ j. 0) ss d.items.items (λ j. slice_index d.ends.items j)
-  pub sized : AreSized (tables ss) 1 at_start ss d.items.items
+  pub sized : AreSized (tables ss) 1 at_start ss d.items.items sizes
   pub low : (j : ℕ) → slice_index d.ends.items j ≤ longest_section
   pub figures : IsData ss d.items.items code d.sections.items d.fields.items
   pub counted : length d.sections.items ≡ length (opened_of (tables ss)).sections
@@ -49,20 +49,26 @@ any_located : (sites : List Site) → list_any is_compressed_code (map (λ (s : 
 any_located [] = refl
 any_located (s ∷ ss) = ap (λ b. is_compressed_code s.located || b) (any_located ss)
 
-module _ (ss : List Statement) (code : List (Vec ℕ)) (d : Draft) (h : Passed ss code d) where
+module _ (ss : List Statement) (code : List (Vec ℕ)) (sizes : List CodeSize) (d : Draft) (h : Passed ss code sizes d) where
   abbrev t : Tables
   t = tables ss
 
+  abbrev codes : List (List (List ℕ))
+  codes = h.whole.codes
+
   abbrev all : List Site
-  all = sites ss d.items.items
+  all = sites_of (located_from 1 1 at_start ss) d.items.items codes
+
+  coded : AreCoded t (located_from 1 1 at_start ss) codes
+  coded = subst (λ ls. AreCoded t ls codes) (one_file ss) h.whole.coded
 
   located_all : map (λ (s : Site). s.located) all ≡ located_from 1 1 at_start ss
-  located_all = all_located 1 at_start (λ j. 0) (λ j. slice_index d.ends.items j) ss d.items.items h.items
+  located_all = all_located 1 at_start (λ j. 0) (λ j. slice_index d.ends.items j) ss d.items.items codes h.items
 
   fits : AllByRecursion (Fit t) all
   fits =
-      fits_from t 1 at_start (λ j. 0) (λ j. slice_index d.ends.items j) ss d.items.items h.items h.sized
-      (subst (λ ls. AllByRecursion (IsCodedBy t) ls) (one_file ss) h.coded)
+      fits_from t 1 at_start (λ j. 0) (λ j. slice_index d.ends.items j) ss d.items.items codes h.items
+      (subst (λ l. AreSized t 1 at_start ss d.items.items l) h.whole.counts h.sized) coded
       (all_held ss h.good) (have_all_fields ss h.good h.wide)
 
   homes : AllByRecursion (λ (s : Site). IsHomeIn (λ file. (opened_of t).sections) s.located) all
@@ -77,18 +83,21 @@ module _ (ss : List Statement) (code : List (Vec ℕ)) (d : Draft) (h : Passed s
 
     follow : Tile t 0 (sites_in j all) × (end_of 0 (sites_in j all) ≡ slice_index d.ends.items j)
     follow =
-        tiles t j 1 at_start (λ j. 0) (λ j. slice_index d.ends.items j) ss d.items.items h.items
+        tiles t j 1 at_start (λ j. 0) (λ j. slice_index d.ends.items j) ss d.items.items codes h.items
         (all_map (Fit t) (λ (s : Site). s.bytes ≡ length (flat_map part_bytes (parts_of t s))) all (λ s f. f.bytes) fits)
 
     bytes : bytes_in d.sections.items j ≡ (if is_nobits home then [] else flat_map part_bytes (parts t (sites_in j all)))
     bytes =
         h.figures.bytes j
-        ∙ ap (λ l. l ++ data_bytes t j all) (h.words j ∙ ap (section_code t j) (one_file ss ∙ sym located_all) ∙ code_in t j all)
+        ∙ ap (λ l. bytes_in code j ++ l) (sym (data_as t j (located_from 1 1 at_start ss) d.items.items codes))
+        ∙ ap (λ l. l ++ data_bytes t j all)
+        (h.whole.bytes j ∙ ap (λ l. section_code j l codes) (one_file ss)
+        ∙ code_in t j 1 at_start (λ j. 0) (λ j. slice_index d.ends.items j) ss d.items.items codes h.items coded)
         ∙ section_bytes t j home (sites_in j all) own
 
     low : goes_to_text home ≡ true → slice_index_or (alignments_of t) j 1 ≤ 2
     low e =
-        low_all ss h.good h.sound j
+        low_all ss h.good h.whole.faults j
         (ap (λ (g : Section). g.executable) (got_or (opened_of t).sections j text_section home at) ∙ (and_parts home.loaded home.executable e).1)
 
     drafted : IsDrafted t j home (sites_in j all) d
@@ -109,11 +118,11 @@ module _ (ss : List Statement) (code : List (Vec ℕ)) (d : Draft) (h : Passed s
     sites = all;
     located = located_all;
     few = h.few;
-    stand = all_items 1 at_start (λ j. 0) (λ j. slice_index d.ends.items j) ss d.items.items h.items;
+    stand = all_items 1 at_start (λ j. 0) (λ j. slice_index d.ends.items j) ss d.items.items codes h.items;
     counted = h.counted;
     ended = h.ended;
     each = λ j home at. drafted j home at;
-    open_fields = h.figures.fields ∙ all_fields t all fits;
+    open_fields = h.figures.fields ∙ sym (fields_as t (located_from 1 1 at_start ss) d.items.items codes) ∙ all_fields t all fits;
     places = places_stand ss all located_all;
     compressed = h.compressed ∙ ap (list_any is_compressed_code) (one_file ss ∙ sym located_all) ∙ any_located all;
   }

@@ -1,10 +1,9 @@
 -- A statement with its item is a site: it has the bytes of its templates, and its size.
 
-use Rattle.std.proofs.Common.{◌≡◌, ℕ, suc, ◌*◌, inl, inr, Bool, true, false, List, [], ◌∷◌, ◌++◌, length, map, Option, Some, None, refl, sym, ap, ◌∙◌, subst, append-nil, length-append, arith}
+use Rattle.std.proofs.Common.{◌≡◌, ℕ, suc, ◌+◌, ◌*◌, inl, inr, Bool, true, false, List, [], ◌∷◌, ◌++◌, length, map, Option, None, refl, sym, ap, ◌∙◌, subst, append-nil, length-append, arith}
 use Rattle.std.proofs.lemmas.List.{length-replicate}
 use Rattle.std.specs.Prelude.{flat_map, not, ◌&&◌, ◌||◌, nat_lt, ⊤, slice_index_or, if◌then◌else◌}
 use Rattle.std.specs.List.{AllByRecursion}
-use Rattle.rv_isa.specs.declared.instruction.Inst.{Inst}
 use Rattle.rv_text_laws.specs.Values.{Value, Constant, Symbolic, Difference, Faulty}
 use Rattle.rv_statement.specs.Statement.{StatementKind, Label, Numbered, Instruction, Directs, Statement, Expression, Directive, Enters, Sets, Aligns_to_power, Aligns_to_bytes, Values, Strings, Zeros}
 use Rattle.rv_unit_laws.specs.Contributions.{contribution}
@@ -12,15 +11,14 @@ use Rattle.rv_unit_laws.specs.Sections.{Section, is_nobits, current_section}
 use Rattle.rv_unit_laws.specs.Tables.{Tables, at_start, here, value, alignment_of, string_bytes, after, tables, stood, opened_of, alignments_of}
 use Rattle.rv_unit_laws.specs.Faults.{faulty_if, value_faults, past_section, faults, first_fault}
 use Rattle.rv_source_laws.specs.Located.{Located, located_now, located_from, contributes, is_placed}
-use Rattle.rv_assemble_laws.specs.Written.{constant_in, expanded}
-use Rattle.rv_assemble_laws.specs.Templates.{Datum, Fixed, words, zeros, value_bytes, templates, HasField, IsWide, IsWidth, IsTemplate}
+use Rattle.rv_assemble_laws.specs.Coded.{joined, IsCode}
+use Rattle.rv_assemble_laws.specs.Templates.{Datum, Fixed, zeros, value_bytes, templates, HasField, IsWide, IsWidth, IsTemplate}
 use Rattle.rv_assemble_laws.specs.Sites.{Site, Part, form, part_of, part_bytes, parts_of, IsPaddedIn, HasSize}
 use Rattle.rv_assemble_laws.specs.Fields.{fields_from, fields_at}
 use Rattle.rv_assemble_laws.proofs.Held.{Held, IsHeld, DirectiveHeld, none_left, no_test}
-use Rattle.rv_instruction.specs.Code.{code_said}
 use Rattle.rv_sites.specs.declared.item.Item.{Item}
-use Rattle.rv_sites.specs.Code.{value_at}
-use Rattle.rv_sites.specs.Coded.{IsCoded}
+use Rattle.rv_sites.specs.Code.{value_at, size_of}
+use Rattle.rv_sites.specs.Coded.{IsCoded, AreCoded}
 use Rattle.rv_sites.specs.DataParts.{is_filled, data_said, data_parts, data_fields}
 use Rattle.rv_sites.specs.Items.{AreItems, grown}
 use Rattle.rv_sites.specs.Seated.{site_of, sites_of}
@@ -57,15 +55,29 @@ placed_as t k (Directs d) = placed_directive t k d
 
 -- ---- by what a statement says
 
-words_four : (o : Option (List Inst)) (i : Inst) → o ≡ Some (i ∷ []) → length (words o ++ []) ≡ 4
-words_four o i e = ap (λ p. length (words p ++ [])) e
+-- the bytes of code are those of its parts
+code_bytes : (o : ℕ) (coded : List (List ℕ)) → flat_map part_bytes (map (part_of o) (map Fixed coded)) ≡ joined coded
+code_bytes o [] = refl
+code_bytes o (bytes ∷ coded) = ap (λ l. bytes ++ l) (code_bytes o coded)
 
-module _ (v : Expression → Value) (o : ℕ) (home : Section) (x : Item) (begins : ℕ) (placed : Bool) where
+-- nothing of it stays open
+code_fields : (section o offset : ℕ) (coded : List (List ℕ)) → fields_from section offset (map (part_of o) (map Fixed coded)) ≡ []
+code_fields section o offset [] = refl
+code_fields section o offset (bytes ∷ coded) = code_fields section o (offset + length bytes) coded
+
+code_templates : (o : ℕ) (coded : List (List ℕ)) → AllByRecursion (λ (p : Part). IsTemplate p.template) (map (part_of o) (map Fixed coded))
+code_templates o [] = tt
+code_templates o (bytes ∷ coded) = (tt, code_templates o coded)
+
+module _ (v : Expression → Value) (o : ℕ) (rvc : Bool) (home : Section) (x : Item) (begins : ℕ) (placed : Bool) (coded : List (List ℕ)) where
   abbrev Parts : StatementKind → List Part
-  Parts says = map (part_of o) (templates v says x.bytes)
+  Parts says = map (part_of o) (templates v says x.bytes coded)
 
   abbrev Sized : StatementKind → Type 0
-  Sized says = placed ≡ true → IsSized v home.executable x begins says
+  Sized says = placed ≡ true → IsSized v home.executable x begins (size_of coded) says
+
+  abbrev Coded : StatementKind → Type 0
+  Coded says = IsCoded v rvc says coded
 
   abbrev Absent : Type 0
   Absent = placed ≡ false → x.bytes ≡ 0
@@ -96,18 +108,21 @@ module _ (v : Expression → Value) (o : ℕ) (home : Section) (x : Item) (begin
   directive_bytes (Aligns_to_bytes e) is size absent = sym (zeros_long x.bytes)
   directive_bytes _ is size absent = absent is
 
-  said_bytes : (says : StatementKind) → PlacedAs placed says → Sized says → Absent → IsCoded v says → x.bytes ≡ length (flat_map part_bytes (Parts says))
-  said_bytes (Label name) is size absent coded = (size is).0
-  said_bytes (Numbered number) is size absent coded = (size is).0
-  said_bytes (Instruction mnemonic operands) is size absent coded =
-      (size is).0 ∙ sym (words_four (expanded (λ e. constant_in (v e)) mnemonic operands) coded.0 coded.1.1)
-  said_bytes (Directs d) is size absent coded = directive_bytes d is size absent
+  said_bytes : (says : StatementKind) → PlacedAs placed says → Sized says → Absent → x.bytes ≡ length (flat_map part_bytes (Parts says))
+  said_bytes (Label name) is size absent = (size is).0
+  said_bytes (Numbered number) is size absent = (size is).0
+  said_bytes (Instruction mnemonic operands) is size absent = (size is).0 ∙ ap length (sym (code_bytes o coded))
+  said_bytes (Directs d) is size absent = directive_bytes d is size absent
 
   -- code
 
   no_padding : (b : Bool) → b ≡ true → (a : Option ℕ) → IsPadded b x begins a → flat_map part_bytes (part_of o (Fixed (zeros x.bytes)) ∷ []) ≡ []
   no_padding true e a h = ap (λ n. zeros n ++ []) h.0
   no_padding false e a h = absurd (cc)
+
+  -- what is no instruction has no code
+  no_joined : coded ≡ [] → joined coded ≡ []
+  no_joined none = ap joined none
 
   directive_code : (d : Directive) → home.executable ≡ true → PlacedDirective placed d → Sized (Directs d) → DirectiveHeld home d → flat_map part_bytes (Parts (Directs d)) ≡ []
   directive_code (Values w vs) code is size held = true_false home.executable code held.0
@@ -117,23 +132,23 @@ module _ (v : Expression → Value) (o : ℕ) (home : Section) (x : Item) (begin
   directive_code (Aligns_to_bytes e) code is size held = no_padding home.executable code (alignment_of v (Aligns_to_bytes e)) (size is).1.1
   directive_code _ code is size held = refl
 
-  said_code : (says : StatementKind) → home.executable ≡ true → PlacedAs placed says → Sized says → IsHeld home says → flat_map part_bytes (Parts says) ≡ code_said v says
-  said_code (Label name) code is size held = refl
-  said_code (Numbered number) code is size held = refl
-  said_code (Instruction mnemonic operands) code is size held = append-nil (words (expanded (λ e. constant_in (v e)) mnemonic operands))
-  said_code (Directs d) code is size held = directive_code d code is size held
+  said_code : (says : StatementKind) → home.executable ≡ true → PlacedAs placed says → Sized says → Coded says → IsHeld home says → flat_map part_bytes (Parts says) ≡ joined coded
+  said_code (Label name) code is size none held = sym (no_joined none)
+  said_code (Numbered number) code is size none held = sym (no_joined none)
+  said_code (Instruction mnemonic operands) code is size own held = code_bytes o coded
+  said_code (Directs d) code is size none held = directive_code d code is size held ∙ sym (no_joined none)
 
-  no_code : (says : StatementKind) → home.executable ≡ false → IsHeld home says → code_said v says ≡ []
-  no_code (Instruction mnemonic operands) other held = true_false home.executable held.0 other
-  no_code (Label name) other held = refl
-  no_code (Numbered number) other held = refl
-  no_code (Directs d) other held = refl
+  no_code : (says : StatementKind) → home.executable ≡ false → Coded says → IsHeld home says → joined coded ≡ []
+  no_code (Instruction mnemonic operands) other own held = true_false home.executable held.0 other
+  no_code (Label name) other none held = no_joined none
+  no_code (Numbered number) other none held = no_joined none
+  no_code (Directs d) other none held = no_joined none
 
-  empty_code : (says : StatementKind) → is_nobits home ≡ true → IsHeld home says → code_said v says ≡ []
-  empty_code (Instruction mnemonic operands) none held = true_false (is_nobits home) none held.1
-  empty_code (Label name) none held = refl
-  empty_code (Numbered number) none held = refl
-  empty_code (Directs d) none held = refl
+  empty_code : (says : StatementKind) → is_nobits home ≡ true → Coded says → IsHeld home says → joined coded ≡ []
+  empty_code (Instruction mnemonic operands) empty own held = true_false (is_nobits home) empty held.1
+  empty_code (Label name) empty none held = no_joined none
+  empty_code (Numbered number) empty none held = no_joined none
+  empty_code (Directs d) empty none held = no_joined none
 
   -- data
 
@@ -153,33 +168,36 @@ module _ (v : Expression → Value) (o : ℕ) (home : Section) (x : Item) (begin
   no_fields : (section : ℕ) (says : StatementKind) → is_filled home ≡ false → IsHeld home says → fields_from section x.offset (Parts says) ≡ []
   no_fields section (Label name) e held = refl
   no_fields section (Numbered number) e held = refl
-  no_fields section (Instruction mnemonic operands) e held = refl
+  no_fields section (Instruction mnemonic operands) e held = code_fields section o x.offset coded
   no_fields section (Directs (Values w vs)) e held = true_false (is_filled home) (data_filled home.executable (is_nobits home) held.0 held.1) e
   no_fields section (Directs (Strings ended strings)) e held = refl
   no_fields section (Directs _) e held = refl
 
   -- sizes
 
-  padded_in : (l : Located) (b : Bool) (a : Option ℕ) → IsPadded b x begins a → IsPaddedIn b (site_of l x) begins a
+  padded_in : (l : Located) (b : Bool) (a : Option ℕ) → IsPadded b x begins a → IsPaddedIn b (site_of l x coded) begins a
   padded_in l true a h = h
   padded_in l false a h = h
 
-  directive_size : (l : Located) (d : Directive) → l.home ≡ home → placed ≡ true → PlacedDirective placed d → IsSized v home.executable x begins (Directs d) → HasSize v (site_of l x) begins (Directs d)
+  directive_size : (l : Located) (d : Directive) → l.home ≡ home → placed ≡ true → PlacedDirective placed d → IsSized v home.executable x begins (size_of coded) (Directs d) → HasSize v (site_of l x coded) begins (Directs d)
   directive_size l (Sets name e) at there is h = (h.1, h.0)
   directive_size l (Values w vs) at there is h = h
   directive_size l (Strings ended strings) at there is h = h
   directive_size l (Zeros count) at there is h = h
   directive_size l (Aligns_to_power e) at there is h =
-      (h.1.0, h.0, subst (λ (g : Section). IsPaddedIn g.executable (site_of l x) begins (alignment_of v (Aligns_to_power e))) (sym at) (padded_in l home.executable (alignment_of v (Aligns_to_power e)) h.1.1))
+      (h.1.0, h.0, subst (λ (g : Section). IsPaddedIn g.executable (site_of l x coded) begins (alignment_of v (Aligns_to_power e))) (sym at) (padded_in l home.executable (alignment_of v (Aligns_to_power e)) h.1.1))
   directive_size l (Aligns_to_bytes e) at there is h =
-      (h.1.0, h.0, subst (λ (g : Section). IsPaddedIn g.executable (site_of l x) begins (alignment_of v (Aligns_to_bytes e))) (sym at) (padded_in l home.executable (alignment_of v (Aligns_to_bytes e)) h.1.1))
+      (h.1.0, h.0, subst (λ (g : Section). IsPaddedIn g.executable (site_of l x coded) begins (alignment_of v (Aligns_to_bytes e))) (sym at) (padded_in l home.executable (alignment_of v (Aligns_to_bytes e)) h.1.1))
   directive_size l _ at there is h = true_false placed there is
 
-  said_size : (l : Located) (says : StatementKind) → l.home ≡ home → placed ≡ true → PlacedAs placed says → IsSized v home.executable x begins says → IsCoded v says → HasSize v (site_of l x) begins says
-  said_size l (Label name) at there is h coded = h
-  said_size l (Numbered number) at there is h coded = h
-  said_size l (Instruction mnemonic operands) at there is h coded = (h.0, h.1, coded)
-  said_size l (Directs d) at there is h coded = directive_size l d at there is h
+  said_size : (l : Located) (says : StatementKind) → l.home ≡ home → l.options.rvc ≡ rvc → placed ≡ true → PlacedAs placed says → IsSized v home.executable x begins (size_of coded) says → Coded says → HasSize v (site_of l x coded) begins says
+  said_size l (Label name) at on there is h own = h
+  said_size l (Numbered number) at on there is h own = h
+  said_size l (Instruction mnemonic operands) at on there is h own =
+      subst (λ b. IsCode v b mnemonic operands x.bytes coded x.instructions) (sym on)
+      (subst (λ n. IsCode v rvc mnemonic operands n coded x.instructions) (sym h.0)
+      (subst (λ n. IsCode v rvc mnemonic operands (length (joined coded)) coded n) (sym h.1) own))
+  said_size l (Directs d) at on there is h own = directive_size l d at there is h
 
 -- ---- the fields of values
 
@@ -227,70 +245,72 @@ fields_all all k t (s ∷ ss) h wide = (fields_one all t k s h.0 wide.0, fields_
 pub record Fit (t : Tables) (s : Site) : Type 0 where
   pub size : s.located.placed ≡ true → HasSize (form t s.located) s (slice_index_or (alignments_of t) s.located.section 1) s.located.kind
   pub bytes : s.bytes ≡ length (flat_map part_bytes (parts_of t s))
-  pub code : s.located.home.executable ≡ true → flat_map part_bytes (parts_of t s) ≡ code_said (λ e. value_at t s.located e) s.located.kind
-  pub other : s.located.home.executable ≡ false → code_said (λ e. value_at t s.located e) s.located.kind ≡ []
-  pub empty : is_nobits s.located.home ≡ true → code_said (λ e. value_at t s.located e) s.located.kind ≡ []
+  pub code : s.located.home.executable ≡ true → flat_map part_bytes (parts_of t s) ≡ joined s.coded
+  pub other : s.located.home.executable ≡ false → joined s.coded ≡ []
+  pub empty : is_nobits s.located.home ≡ true → joined s.coded ≡ []
   pub filled : is_filled s.located.home ≡ true → data_parts t s ≡ parts_of t s
   pub unfilled : is_filled s.located.home ≡ false → data_parts t s ≡ []
   pub templates : AllByRecursion (λ p. IsTemplate p.template) (parts_of t s)
   pub fields : data_fields t s ≡ fields_at t s
 
-all_templates : (v : Expression → Value) (o bytes : ℕ) (says : StatementKind) → ((w : ℕ) (vs : List Expression) → says ≡ Directs (Values w vs) → AllByRecursion (λ e. HasField w (v e)) vs)
-    → AllByRecursion (λ (p : Part). IsTemplate p.template) (map (part_of o) (templates v says bytes))
-all_templates v o bytes (Label name) h = tt
-all_templates v o bytes (Numbered number) h = tt
-all_templates v o bytes (Instruction mnemonic operands) h = (tt, tt)
-all_templates v o bytes (Directs (Values w vs)) h = go vs (h w vs refl)
+all_templates : (v : Expression → Value) (o bytes : ℕ) (coded : List (List ℕ)) (says : StatementKind) → ((w : ℕ) (vs : List Expression) → says ≡ Directs (Values w vs) → AllByRecursion (λ e. HasField w (v e)) vs)
+    → AllByRecursion (λ (p : Part). IsTemplate p.template) (map (part_of o) (templates v says bytes coded))
+all_templates v o bytes coded (Label name) h = tt
+all_templates v o bytes coded (Numbered number) h = tt
+all_templates v o bytes coded (Instruction mnemonic operands) h = code_templates o coded
+all_templates v o bytes coded (Directs (Values w vs)) h = go vs (h w vs refl)
   where
     go : (es : List Expression) → AllByRecursion (λ e. HasField w (v e)) es → AllByRecursion (λ (p : Part). IsTemplate p.template) (map (part_of o) (map (λ e. Datum w (v e)) es))
     go [] k = tt
     go (e ∷ es) k = (k.0, go es k.1)
-all_templates v o bytes (Directs (Strings ended strings)) h = (tt, tt)
-all_templates v o bytes (Directs (Zeros count)) h = (tt, tt)
-all_templates v o bytes (Directs (Aligns_to_power e)) h = (tt, tt)
-all_templates v o bytes (Directs (Aligns_to_bytes e)) h = (tt, tt)
-all_templates v o bytes (Directs _) h = tt
+all_templates v o bytes coded (Directs (Strings ended strings)) h = (tt, tt)
+all_templates v o bytes coded (Directs (Zeros count)) h = (tt, tt)
+all_templates v o bytes coded (Directs (Aligns_to_power e)) h = (tt, tt)
+all_templates v o bytes coded (Directs (Aligns_to_bytes e)) h = (tt, tt)
+all_templates v o bytes coded (Directs _) h = tt
 
-pub fit_one : (all : Tables) (s : Located) (x : Item) → PlacedAs s.placed s.kind → (s.placed ≡ false → x.bytes ≡ 0) → x.section ≡ s.section
-    → (s.placed ≡ true → IsSized (λ e. value_at all s e) s.home.executable x (slice_index_or (alignments_of all) x.section 1) s.kind)
-    → IsCoded (λ e. value_at all s e) s.kind → Held s → HaveFields all s → Fit all (site_of s x)
-fit_one all s x is absent at size coded held fields =
+pub fit_one : (all : Tables) (s : Located) (x : Item) (coded : List (List ℕ)) → PlacedAs s.placed s.kind → (s.placed ≡ false → x.bytes ≡ 0) → x.section ≡ s.section
+    → (s.placed ≡ true → IsSized (λ e. value_at all s e) s.home.executable x (slice_index_or (alignments_of all) x.section 1) (size_of coded) s.kind)
+    → IsCoded (λ e. value_at all s e) s.options.rvc s.kind coded → Held s → HaveFields all s → Fit all (site_of s x coded)
+fit_one all s x coded is absent at size own held fields =
     let v : Expression → Value = λ e. value_at all s e in
+    let rvc = s.options.rvc in
     let begins = slice_index_or (alignments_of all) s.section 1 in
-    let size' : s.placed ≡ true → IsSized v s.home.executable x begins s.kind = λ e. subst (λ n. IsSized v s.home.executable x (slice_index_or (alignments_of all) n 1) s.kind) at (size e) in
-    let site = site_of s x in
+    let size' : s.placed ≡ true → IsSized v s.home.executable x begins (size_of coded) s.kind =
+    λ e. subst (λ n. IsSized v s.home.executable x (slice_index_or (alignments_of all) n 1) (size_of coded) s.kind) at (size e) in
     record {
-      size = λ e. said_size v s.ordinal s.home x begins s.placed s s.kind refl e is (size' e) coded;
-      bytes = said_bytes v s.ordinal s.home x begins s.placed s.kind is size' absent coded;
-      code = λ e. said_code v s.ordinal s.home x begins s.placed s.kind e is size' held;
-      other = λ e. no_code v s.ordinal s.home x begins s.placed s.kind e held;
-      empty = λ e. empty_code v s.ordinal s.home x begins s.placed s.kind e held;
-      filled = λ e. ap (λ b. if b then data_said s.ordinal v s.kind x.bytes else []) e ∙ said_data v s.ordinal s.home x begins s.placed s.kind e held;
+      size = λ e. said_size v s.ordinal rvc s.home x begins s.placed coded s s.kind refl refl e is (size' e) own;
+      bytes = said_bytes v s.ordinal rvc s.home x begins s.placed coded s.kind is size' absent;
+      code = λ e. said_code v s.ordinal rvc s.home x begins s.placed coded s.kind e is size' own held;
+      other = λ e. no_code v s.ordinal rvc s.home x begins s.placed coded s.kind e own held;
+      empty = λ e. empty_code v s.ordinal rvc s.home x begins s.placed coded s.kind e own held;
+      filled = λ e. ap (λ b. if b then data_said s.ordinal v s.kind x.bytes else []) e ∙ said_data v s.ordinal rvc s.home x begins s.placed coded s.kind e held;
       unfilled = λ e. ap (λ b. if b then data_said s.ordinal v s.kind x.bytes else []) e;
-      templates = all_templates v s.ordinal x.bytes s.kind fields;
+      templates = all_templates v s.ordinal x.bytes coded s.kind fields;
       fields = same (is_filled s.home) refl;
     }
   where
-    same : (b : Bool) → is_filled s.home ≡ b → data_fields all (site_of s x) ≡ fields_at all (site_of s x)
+    same : (b : Bool) → is_filled s.home ≡ b → data_fields all (site_of s x coded) ≡ fields_at all (site_of s x coded)
     same true e =
         let v : Expression → Value = λ e. value_at all s e in
         ap (λ ps. if s.home.loaded then fields_from s.section x.offset ps else [])
-        (ap (λ b. if b then data_said s.ordinal v s.kind x.bytes else []) e ∙ said_data v s.ordinal s.home x 0 s.placed s.kind e held)
+        (ap (λ b. if b then data_said s.ordinal v s.kind x.bytes else []) e ∙ said_data v s.ordinal s.options.rvc s.home x 0 s.placed coded s.kind e held)
     same false e =
         let v : Expression → Value = λ e. value_at all s e in
         ap (λ ps. if s.home.loaded then fields_from s.section x.offset ps else [])
         (ap (λ b. if b then data_said s.ordinal v s.kind x.bytes else []) e)
-        ∙ ap (λ l. if s.home.loaded then l else []) (sym (no_fields v s.ordinal s.home x 0 s.placed s.section s.kind e held))
+        ∙ ap (λ l. if s.home.loaded then l else []) (sym (no_fields v s.ordinal s.options.rvc s.home x 0 s.placed coded s.section s.kind e held))
 
-pub fits_from : (all : Tables) (k : ℕ) (t : Tables) (before last : ℕ → ℕ) (ss : List Statement) (is : List Item) → AreItems k t before ss is last → AreSized all k t ss is
-    → AllByRecursion (λ s. IsCoded (λ e. value_at all s e) s.kind) (located_from 1 k t ss) → AllByRecursion Held (located_from 1 k t ss) → AllByRecursion (HaveFields all) (located_from 1 k t ss)
-    → AllByRecursion (Fit all) (sites_of (located_from 1 k t ss) is)
-fits_from all k t before last [] [] items sized coded held fields = tt
-fits_from all k t before last [] (x ∷ is) items sized coded held fields = absurd items
-fits_from all k t before last (s ∷ ss) [] items sized coded held fields = absurd items
-fits_from all k t before last (s ∷ ss) (x ∷ is) items sized coded held fields = (
-  fit_one all (located_now 1 k t s) x (placed_as t k s.kind) items.0.absent items.0.section sized.0 coded.0 held.0 fields.0,
-  fits_from all (suc k) (after t k s.kind) (grown before x) last ss is items.1 sized.1 coded.1 held.1 fields.1,
+pub fits_from : (all : Tables) (k : ℕ) (t : Tables) (before last : ℕ → ℕ) (ss : List Statement) (is : List Item) (codes : List (List (List ℕ))) → AreItems k t before ss is last
+    → AreSized all k t ss is (map size_of codes) → AreCoded all (located_from 1 k t ss) codes → AllByRecursion Held (located_from 1 k t ss) → AllByRecursion (HaveFields all) (located_from 1 k t ss)
+    → AllByRecursion (Fit all) (sites_of (located_from 1 k t ss) is codes)
+fits_from all k t before last [] [] codes items sized coded held fields = tt
+fits_from all k t before last [] (x ∷ is) codes items sized coded held fields = absurd items
+fits_from all k t before last (s ∷ ss) [] codes items sized coded held fields = absurd items
+fits_from all k t before last (s ∷ ss) (x ∷ is) [] items sized coded held fields = absurd coded
+fits_from all k t before last (s ∷ ss) (x ∷ is) (c ∷ codes) items sized coded held fields = (
+  fit_one all (located_now 1 k t s) x c (placed_as t k s.kind) items.0.absent items.0.section sized.0 coded.0 held.0 fields.0,
+  fits_from all (suc k) (after t k s.kind) (grown before x) last ss is codes items.1 sized.1 coded.1 held.1 fields.1,
 )
 
 pub have_all_fields : (ss : List Statement) → first_fault ss ≡ None → AllByRecursion (λ s. IsWideKind s.kind) ss → AllByRecursion (HaveFields (tables ss)) (located_from 1 1 at_start ss)

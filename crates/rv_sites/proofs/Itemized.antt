@@ -16,6 +16,7 @@ use Rattle.rv_tables.specs.Sections.{offset_of, extent_section}
 use Rattle.rv_tables.proofs.Lookups.{alignments_are}
 use Rattle.rv_unit.specs.Unit.{said, passed, IsFilled}
 use Rattle.rv_source_laws.specs.Located.{is_placed}
+use Rattle.rv_sites.specs.declared.item.CodeSize.{CodeSize}
 use Rattle.rv_sites.specs.declared.item.Item.{Item}
 use Rattle.rv_sites.specs.Items.{IsItem, grown}
 use Rattle.rv_sites.specs.Sized.{IsSized}
@@ -88,27 +89,27 @@ item_at u i s p e before x at there section offset line shown absent =
       absent = absent;
     }
 
-pub sized_at : (u : SourceUnit) (i : ℕ) (s : Statement) (p : SectionOffset) (e : Extent) (x : Item) → IsFilled u → StandsAt u i s p → IsExtentAt u.tables.extents.items p.section e → x.section ≡ p.section
-    → (is_placed (passed (said u) i) (i + 1) (statement_kind s.kind) ≡ true → IsSized (λ t. value (tables (said u)) true (i + 1) (offset_of p) t) e.section.executable x e.alignment (statement_kind s.kind))
-    → IsSizedAt (tables (said u)) (said u) i (statement_of s) x
-sized_at u i s p e x filled at there section h shown =
+pub sized_at : (u : SourceUnit) (i : ℕ) (s : Statement) (p : SectionOffset) (e : Extent) (size : CodeSize) (x : Item) → IsFilled u → StandsAt u i s p → IsExtentAt u.tables.extents.items p.section e → x.section ≡ p.section
+    → (is_placed (passed (said u) i) (i + 1) (statement_kind s.kind) ≡ true → IsSized (λ t. value (tables (said u)) true (i + 1) (offset_of p) t) e.section.executable x e.alignment size (statement_kind s.kind))
+    → IsSizedAt (tables (said u)) (said u) i (statement_of s) size x
+sized_at u i s p e size x filled at there section h shown =
     let all = tables (said u) in
     let begins : e.alignment ≡ slice_index_or (alignments_of all) x.section 1 =
     sym there.alignment ∙ ap (λ l. slice_index_or l p.section 1) (alignments_are u.tables.extents.items ∙ ap (λ (t : Tables). alignments_of t) filled.tables) ∙ ap (λ n. slice_index_or (alignments_of all) n 1) (sym section) in
     let home = home_at u i s p e at there in
-    subst (λ (h : Section). IsSized (λ t. value all true (i + 1) (stood (passed (said u) i) (i + 1) (statement_of s).kind) t) h.executable x (slice_index_or (alignments_of all) x.section 1) (statement_kind s.kind)) home
-    (subst (λ n. IsSized (λ t. value all true (i + 1) (stood (passed (said u) i) (i + 1) (statement_of s).kind) t) e.section.executable x n (statement_kind s.kind)) begins
-    (subst (λ (q : Standing). IsSized (λ t. value all true (i + 1) q t) e.section.executable x e.alignment (statement_kind s.kind)) at.place (h shown)))
+    subst (λ (h : Section). IsSized (λ t. value all true (i + 1) (stood (passed (said u) i) (i + 1) (statement_of s).kind) t) h.executable x (slice_index_or (alignments_of all) x.section 1) size (statement_kind s.kind)) home
+    (subst (λ n. IsSized (λ t. value all true (i + 1) (stood (passed (said u) i) (i + 1) (statement_of s).kind) t) e.section.executable x n size (statement_kind s.kind)) begins
+    (subst (λ (q : Standing). IsSized (λ t. value all true (i + 1) q t) e.section.executable x e.alignment size (statement_kind s.kind)) at.place (h shown)))
 
 -- a statement that has a size, and for which its section has room
-pub room_at : (u : SourceUnit) (i : ℕ) (s : Statement) (p : SectionOffset) (e : Extent) (ends : ℕ → ℕ) (stop : ℕ) → IsFilled u → StandsAt u i s p → IsExtentAt u.tables.extents.items p.section e
+pub room_at : (u : SourceUnit) (i : ℕ) (s : Statement) (p : SectionOffset) (e : Extent) (size : CodeSize) (ends : ℕ → ℕ) (stop : ℕ) → IsFilled u → StandsAt u i s p → IsExtentAt u.tables.extents.items p.section e
     → (let st = located_at (said u) i (statement_of s) in
-    IsRoomy (λ t. value_at (tables (said u)) st t) st.home.executable (slice_index_or (alignments_of (tables (said u))) st.section 1) (ends st.section) stop (statement_of s).kind)
-    → HasRoom (λ t. value (tables (said u)) true (i + 1) (offset_of p) t) e.section.executable e.alignment (ends p.section) (statement_kind s.kind)
-room_at u i s p e ends stop filled at there roomy =
+    IsRoomy (λ t. value_at (tables (said u)) st t) st.home.executable (slice_index_or (alignments_of (tables (said u))) st.section 1) (ends st.section) stop size (statement_of s).kind)
+    → HasRoom (λ t. value (tables (said u)) true (i + 1) (offset_of p) t) e.section.executable e.alignment (ends p.section) size (statement_kind s.kind)
+room_at u i s p e size ends stop filled at there roomy =
     let all = tables (said u) in
     let st = located_at (said u) i (statement_of s) in
-    let RoomAt : Standing → Section → ℕ → Type 0 = λ q home begins. HasRoom (λ t. value all true (i + 1) q t) home.executable begins (ends q.section) (statement_kind s.kind) in
+    let RoomAt : Standing → Section → ℕ → Type 0 = λ q home begins. HasRoom (λ t. value all true (i + 1) q t) home.executable begins (ends q.section) size (statement_kind s.kind) in
     let begins : slice_index_or (alignments_of all) p.section 1 ≡ e.alignment =
     ap (λ l. slice_index_or l p.section 1) (sym (alignments_are u.tables.extents.items ∙ ap (λ (t : Tables). alignments_of t) filled.tables)) ∙ there.alignment in
     let room : RoomAt (stood (passed (said u) i) (i + 1) (statement_of s).kind) st.home (slice_index_or (alignments_of all) st.section 1) = record { size = roomy.size; room = roomy.room } in

@@ -1,6 +1,6 @@
 -- Along a source without faults each section has room for the statements that are left.
 
-use Rattle.std.proofs.Common.{◌≡◌, ℕ, zero, suc, ◌+◌, ◌<◌, ◌≤◌, Bool, true, false, ◌==◌, nat_lt, List, [], ◌∷◌, length, take, drop, refl, sym, ap, ◌∙◌, subst, append-nil, arith, Option, Some, None}
+use Rattle.std.proofs.Common.{◌≡◌, ℕ, zero, suc, ◌+◌, ◌<◌, ◌≤◌, Bool, true, false, ◌==◌, nat_lt, List, [], ◌∷◌, length, map, take, drop, refl, sym, ap, ◌∙◌, subst, append-nil, arith, Option, Some, None}
 use Rattle.std.proofs.lemmas.Bool.{eqb-true, ltb-false}
 use Rattle.std.specs.Prelude.{slice_index_or, if◌then◌else◌}
 use Rattle.rv_statement.specs.Statement.{StatementKind, Label, Numbered, Instruction, Directs, Statement, Expression, Directive, Sets, Aligns_to_power, Aligns_to_bytes, Values, Strings, Zeros}
@@ -14,14 +14,15 @@ use Rattle.rv_unit_laws.proofs.Opened.{after_opened, open_inside, stood_all, sto
 use Rattle.rv_unit.specs.Unit.{passed}
 use Rattle.rv_unit.proofs.Constants.{constant_past, constant_whole, whole_rest}
 use Rattle.rv_source_laws.specs.Fits.{is_low}
-use Rattle.rv_source_laws.specs.Located.{Located, located_from, is_placed, is_placed_directive}
-use Rattle.rv_assemble_laws.specs.Refusals.{code_fault, code_size, grown as grown_by, size_fault_from, size_fault}
+use Rattle.rv_source_laws.specs.Located.{Located, located, located_from, is_placed, is_placed_directive}
+use Rattle.rv_assemble_laws.specs.Refusals.{code_fault, grown as grown_by, size_fault_from}
 use Rattle.rv_assemble_laws.proofs.Held.{no_fault}
 use Rattle.rv_assemble_laws.proofs.Homes.{IsHomeIn, homes_from}
+use Rattle.rv_sites.specs.declared.item.CodeSize.{CodeSize}
 use Rattle.rv_sites.specs.declared.item.Item.{Item}
 use Rattle.rv_sites.specs.Items.{IsItem, grown}
 use Rattle.rv_sites.specs.Code.{value_at}
-use Rattle.rv_sites.specs.Sized.{IsPadded, IsSizedDirective, IsSized}
+use Rattle.rv_sites.specs.Sized.{IsPadded, IsSizedDirective, IsSized, bytes_of_sizes}
 use Rattle.rv_sites.specs.Measured.{stretch, IsSize}
 use Rattle.rv_sites.proofs.Standing.{all_at, got_or, located_at, stated_next}
 use Rattle.rv_sites.proofs.SoFarItems.{passed_next}
@@ -31,10 +32,10 @@ use Rattle.rv_sites.proofs.Roomy.{IsRoomy, statement_here}
 
 -- the bytes of each section before the statement at an index: those of code are no more than what the sizes of
 -- code have counted, and these have room for what is left; those of others are no more than the tables'
-pub record HasRoomLeft (ss : List Statement) (i : ℕ) (ends : ℕ → ℕ) : Type 0 where
-  pub sizes : ℕ → ℕ
-  pub rest : size_fault_from sizes (drop i (located_from 1 1 at_start ss)) ≡ None
-  pub code : (j : ℕ) → (section_at (opened_of (tables ss)) j).executable ≡ true → ends j ≤ sizes j
+pub record HasRoomLeft (ss : List Statement) (sizes : List CodeSize) (i : ℕ) (ends : ℕ → ℕ) : Type 0 where
+  pub counted : ℕ → ℕ
+  pub rest : size_fault_from counted (drop i (located_from 1 1 at_start ss)) (drop i (bytes_of_sizes sizes)) ≡ None
+  pub code : (j : ℕ) → (section_at (opened_of (tables ss)) j).executable ≡ true → ends j ≤ counted j
   pub stored : (j : ℕ) → (section_at (opened_of (tables ss)) j).executable ≡ false → ends j ≤ slice_index_or (ends_of (passed ss i)) j 0
 
 pub drop_none : {A : Type 0} (xs : List A) → drop 0 xs ≡ xs
@@ -47,10 +48,12 @@ drop_inside [] (suc i) y ys e = absurd (cc)
 drop_inside (x ∷ xs) zero y ys e = omega arith
 drop_inside (x ∷ xs) (suc i) y ys e = let l : i < length xs = drop_inside xs i y ys e in omega (arith, l)
 
-pub rooms_begin : (ss : List Statement) (ends : ℕ → ℕ) → size_fault ss ≡ None → ((j : ℕ) → ends j ≡ 0) → HasRoomLeft ss 0 ends
-rooms_begin ss ends good zeros = record {
-  sizes = λ j. 0;
-  rest = ap (size_fault_from (λ j. 0)) (drop_none (located_from 1 1 at_start ss) ∙ sym (append-nil (located_from 1 1 at_start ss))) ∙ good;
+pub rooms_begin : (ss : List Statement) (sizes : List CodeSize) (ends : ℕ → ℕ) → size_fault_from (λ j. 0) (located (ss ∷ [])) (bytes_of_sizes sizes) ≡ None → ((j : ℕ) → ends j ≡ 0) → HasRoomLeft ss sizes 0 ends
+rooms_begin ss sizes ends good zeros = record {
+  counted = λ j. 0;
+  rest =
+      ap (λ l. size_fault_from (λ j. 0) l (drop 0 (bytes_of_sizes sizes))) (drop_none (located_from 1 1 at_start ss) ∙ sym (append-nil (located_from 1 1 at_start ss)))
+      ∙ ap (λ l. size_fault_from (λ j. 0) (located (ss ∷ [])) l) (drop_none (bytes_of_sizes sizes)) ∙ good;
   code = λ j code. let e = zeros j in omega (arith, e);
   stored = λ j other. let e = zeros j in omega (arith, e);
 }
@@ -87,11 +90,11 @@ directive_as v b x begins (Aligns_to_power e) h = (h.0, padded_as b x begins (al
 directive_as v b x begins (Aligns_to_bytes e) h = (h.0, padded_as b x begins (alignment_of v (Aligns_to_bytes e)) h.1)
 directive_as v b x begins _ h = tt
 
-size_as : (v : Expression → Value) (b : Bool) (x : Item) (begins : ℕ) (says : StatementKind) → IsSized v b x begins says → IsSize v b begins x.offset says x.bytes
-size_as v b x begins (Label name) h = h.0
-size_as v b x begins (Numbered number) h = h.0
-size_as v b x begins (Instruction mnemonic operands) h = h.0
-size_as v b x begins (Directs d) h = directive_as v b x begins d h.1
+size_as : (v : Expression → Value) (b : Bool) (x : Item) (begins : ℕ) (own : CodeSize) (says : StatementKind) → IsSized v b x begins own says → IsSize v b begins x.offset own says x.bytes
+size_as v b x begins own (Label name) h = h.0
+size_as v b x begins own (Numbered number) h = h.0
+size_as v b x begins own (Instruction mnemonic operands) h = h.0
+size_as v b x begins own (Directs d) h = directive_as v b x begins d h.1
 
 -- ---- one statement
 
@@ -148,93 +151,95 @@ module _ (ss : List Statement) (i : ℕ) (s : Statement) (here_is : drop i ss �
       subst (λ (p : SectionOffset). is_low (alignment_of (λ e. value all true k p e) d) ≡ true) place
       (low_code all st d is (code_sound_at ss i s (drop (i + 1) ss) here_is coded) (ap (λ (h : Section). h.executable) (home_here placed) ∙ code))
 
-  -- what a place with its section says
-  abbrev RoomyIn : ℕ → SectionOffset → Opened → Type 0
-  RoomyIn offset p o =
-      IsRoomy (λ e. value all true k p e) (section_at o p.section).executable (slice_index_or (alignments_of all) p.section 1) offset (slice_index_or (ends_of (after t k s.kind)) p.section 0) s.kind
+  module _ (sizes : List CodeSize) (own : CodeSize) (size_is : drop i (bytes_of_sizes sizes) ≡ own.bytes ∷ drop (i + 1) (bytes_of_sizes sizes)) where
+    -- what a place with its section says
+    abbrev RoomyIn : ℕ → SectionOffset → Opened → Type 0
+    RoomyIn offset p o =
+        IsRoomy (λ e. value all true k p e) (section_at o p.section).executable (slice_index_or (alignments_of all) p.section 1) offset (slice_index_or (ends_of (after t k s.kind)) p.section 0) own s.kind
 
-  pub roomy_at : (offset : ℕ) → offset ≤ longest_section → is_placed t k s.kind ≡ true → (st.home.executable ≡ true → offset + code_size s.kind ≤ longest_section)
-      → (st.home.executable ≡ false → offset ≤ slice_index_or (ends_of t) st.section 0)
-      → IsRoomy (λ e. value_at all st e) st.home.executable (slice_index_or (alignments_of all) st.section 1) offset (slice_index_or (ends_of (after t k s.kind)) st.section 0) s.kind
-  roomy_at offset low placed fits before =
-      let (place, opened) = stood_here t k s.kind placed in
-      let home = home_here placed in
-      let before' : (current_section (opened_of t)).executable ≡ false → offset ≤ (here t).offset =
-      λ e. subst (λ (p : SectionOffset). offset ≤ slice_index_or (ends_of t) p.section 0) place (before (ap (λ (h : Section). h.executable) home ∙ e)) in
-      let fits' : (current_section (opened_of t)).executable ≡ true → offset + code_size s.kind ≤ longest_section = λ e. fits (ap (λ (h : Section). h.executable) home ∙ e) in
-      subst (λ p. RoomyIn offset p (opened_of (after t k s.kind))) (sym place)
-      (subst (λ o. RoomyIn offset (here t) o) (sym opened)
-      (statement_here all t k (slice_index_or (alignments_of all) t.current 1) offset low inside (constant_whole ss k (here t)) (constant_past ss i (here t) within inside) before' s.kind placed
-      multiples ((grows_after t k s.kind).ends t.current) fits' (sound_at ss i s (drop (i + 1) ss) here_is good)
-      (λ d is code. low_here d is placed code)))
+    pub roomy_at : (offset : ℕ) → offset ≤ longest_section → is_placed t k s.kind ≡ true → (st.home.executable ≡ true → offset + own.bytes ≤ longest_section)
+        → (st.home.executable ≡ false → offset ≤ slice_index_or (ends_of t) st.section 0)
+        → IsRoomy (λ e. value_at all st e) st.home.executable (slice_index_or (alignments_of all) st.section 1) offset (slice_index_or (ends_of (after t k s.kind)) st.section 0) own s.kind
+    roomy_at offset low placed fits before =
+        let (place, opened) = stood_here t k s.kind placed in
+        let home = home_here placed in
+        let before' : (current_section (opened_of t)).executable ≡ false → offset ≤ (here t).offset =
+        λ e. subst (λ (p : SectionOffset). offset ≤ slice_index_or (ends_of t) p.section 0) place (before (ap (λ (h : Section). h.executable) home ∙ e)) in
+        let fits' : (current_section (opened_of t)).executable ≡ true → offset + own.bytes ≤ longest_section = λ e. fits (ap (λ (h : Section). h.executable) home ∙ e) in
+        subst (λ p. RoomyIn offset p (opened_of (after t k s.kind))) (sym place)
+        (subst (λ o. RoomyIn offset (here t) o) (sym opened)
+        (statement_here all t k (slice_index_or (alignments_of all) t.current 1) offset own low inside (constant_whole ss k (here t)) (constant_past ss i (here t) within inside) before' s.kind placed
+        multiples ((grows_after t k s.kind).ends t.current) fits' (sound_at ss i s (drop (i + 1) ss) here_is good)
+        (λ d is code. low_here d is placed code)))
 
-  module _ (ends : ℕ → ℕ) (low : (j : ℕ) → ends j ≤ longest_section) (left : HasRoomLeft ss i ends) where
-    -- whether the section of the statement is too long after it
-    abbrev full : Option ℕ
-    full = if nat_lt longest_section (left.sizes st.section + code_size s.kind) then Some limit else None
+    module _ (ends : ℕ → ℕ) (low : (j : ℕ) → ends j ≤ longest_section) (left : HasRoomLeft ss sizes i ends) where
+      -- whether the section of the statement is too long after it
+      abbrev full : Option ℕ
+      full = if nat_lt longest_section (left.counted st.section + own.bytes) then Some limit else None
 
-    parts : (full ≡ None) × (size_fault_from (grown_by left.sizes st.section (code_size s.kind)) (drop (i + 1) (located_from 1 1 at_start ss)) ≡ None)
-    parts =
-        no_fault st.line full
-        (size_fault_from (grown_by left.sizes st.section (code_size s.kind)) (drop (i + 1) (located_from 1 1 at_start ss)))
-        (ap (size_fault_from left.sizes) (sym next) ∙ left.rest)
+      parts : (full ≡ None) × (size_fault_from (grown_by left.counted st.section own.bytes) (drop (i + 1) (located_from 1 1 at_start ss)) (drop (i + 1) (bytes_of_sizes sizes)) ≡ None)
+      parts =
+          no_fault st.line full
+          (size_fault_from (grown_by left.counted st.section own.bytes) (drop (i + 1) (located_from 1 1 at_start ss)) (drop (i + 1) (bytes_of_sizes sizes)))
+          (ap (λ l. size_fault_from left.counted l (own.bytes ∷ drop (i + 1) (bytes_of_sizes sizes))) (sym next)
+          ∙ ap (λ l. size_fault_from left.counted (drop i (located_from 1 1 at_start ss)) l) (sym size_is) ∙ left.rest)
 
-    fits : st.home.executable ≡ true → ends st.section + code_size s.kind ≤ longest_section
-    fits e =
-        let l = left.code st.section (ap (λ (h : Section). h.executable) home_is ∙ e) in
-        let m : left.sizes st.section + code_size s.kind ≤ longest_section = ltb-false longest_section (left.sizes st.section + code_size s.kind) (if_some (nat_lt longest_section (left.sizes st.section + code_size s.kind)) 17 parts.0) in
-        omega (arith, l, m)
-
-    -- the next statement has a size, and its section has room for it
-    pub roomy_now : is_placed t k s.kind ≡ true
-        → IsRoomy (λ e. value_at all st e) st.home.executable (slice_index_or (alignments_of all) st.section 1) (ends st.section) (slice_index_or (ends_of (after t k s.kind)) st.section 0) s.kind
-    roomy_now placed = roomy_at (ends st.section) (low st.section) placed fits (λ e. left.stored st.section (ap (λ (h : Section). h.executable) home_is ∙ e))
-
-    module _ (x : Item) (one : IsItem st ends x) (sized : IsSizedAt all ss i s x) where
-      -- the size of an item that has a place
-      placed_size : is_placed t k s.kind ≡ true → IsSize (λ e. value_at all st e) st.home.executable (slice_index_or (alignments_of all) st.section 1) (ends st.section) s.kind x.bytes
-      placed_size e =
-          subst (λ n. IsSize (λ e. value_at all st e) st.home.executable (slice_index_or (alignments_of all) st.section 1) n s.kind x.bytes) one.offset
-          (subst (λ n. IsSize (λ e. value_at all st e) st.home.executable (slice_index_or (alignments_of all) n 1) x.offset s.kind x.bytes) one.section
-          (size_as (λ e. value_at all st e) st.home.executable x (slice_index_or (alignments_of all) x.section 1) s.kind (sized e)))
-
-      in_code : (b : Bool) → is_placed t k s.kind ≡ b → st.home.executable ≡ true → x.bytes ≤ code_size s.kind
-      in_code true e code = (roomy_now e).code code x.bytes (placed_size e)
-      in_code false e code = let none = one.absent e in omega (arith, none)
-
-      in_store : (b : Bool) → is_placed t k s.kind ≡ b → st.home.executable ≡ false → ends st.section + x.bytes ≤ slice_index_or (ends_of (after t k s.kind)) st.section 0
-      in_store true e other = (roomy_now e).stored other x.bytes (placed_size e)
-      in_store false e other =
-          let none = one.absent e in
-          let l = left.stored st.section (ap (λ (h : Section). h.executable) home_is ∙ other) in
-          let m = (grows_after t k s.kind).ends st.section in
-          omega (arith, none, l, m)
-
-      code_by : (j : ℕ) (b : Bool) → (j == st.section) ≡ b → (section_at (opened_of all) j).executable ≡ true
-          → (if b then ends j + x.bytes else ends j) ≤ (if b then left.sizes j + code_size s.kind else left.sizes j)
-      code_by j true is e =
-          let at : j ≡ st.section = eqb-true j st.section is in
-          let l = left.code j e in
-          let m = in_code (is_placed t k s.kind) refl (ap (λ (h : Section). h.executable) (sym home_is ∙ sym (ap (section_at (opened_of all)) at)) ∙ e) in
+      fits : st.home.executable ≡ true → ends st.section + own.bytes ≤ longest_section
+      fits e =
+          let l = left.code st.section (ap (λ (h : Section). h.executable) home_is ∙ e) in
+          let m : left.counted st.section + own.bytes ≤ longest_section = ltb-false longest_section (left.counted st.section + own.bytes) (if_some (nat_lt longest_section (left.counted st.section + own.bytes)) 17 parts.0) in
           omega (arith, l, m)
-      code_by j false is e = left.code j e
 
-      store_by : (j : ℕ) (b : Bool) → (j == st.section) ≡ b → (section_at (opened_of all) j).executable ≡ false → (if b then ends j + x.bytes else ends j) ≤ slice_index_or (ends_of (after t k s.kind)) j 0
-      store_by j true is e =
-          let at : st.section ≡ j = sym (eqb-true j st.section is) in
-          subst (λ n. ends n + x.bytes ≤ slice_index_or (ends_of (after t k s.kind)) n 0) at
-          (in_store (is_placed t k s.kind) refl (ap (λ (h : Section). h.executable) (sym home_is ∙ ap (section_at (opened_of all)) at) ∙ e))
-      store_by j false is e = let l = left.stored j e in let m = (grows_after t k s.kind).ends j in omega (arith, l, m)
+      -- the next statement has a size, and its section has room for it
+      pub roomy_now : is_placed t k s.kind ≡ true
+          → IsRoomy (λ e. value_at all st e) st.home.executable (slice_index_or (alignments_of all) st.section 1) (ends st.section) (slice_index_or (ends_of (after t k s.kind)) st.section 0) own s.kind
+      roomy_now placed = roomy_at (ends st.section) (low st.section) placed fits (λ e. left.stored st.section (ap (λ (h : Section). h.executable) home_is ∙ e))
 
-      pub rooms_more : (behind : ℕ → ℕ) → ((j : ℕ) → behind j ≡ grown ends x j) → HasRoomLeft ss (i + 1) behind
-      rooms_more behind grows = record {
-        sizes = grown_by left.sizes st.section (code_size s.kind);
-        rest = parts.1;
-        code = λ j e. subst (λ n. n ≤ grown_by left.sizes st.section (code_size s.kind) j) (sym (at_section j)) (code_by j (j == st.section) refl e);
-        stored = λ j e.
-            subst (λ (u : Tables). behind j ≤ slice_index_or (ends_of u) j 0) (sym (passed_next ss i s (drop (i + 1) ss) here_is))
-            (subst (λ n. n ≤ slice_index_or (ends_of (after t k s.kind)) j 0) (sym (at_section j)) (store_by j (j == st.section) refl e));
-      }
-        where
-          at_section : (j : ℕ) → behind j ≡ (if j == st.section then ends j + x.bytes else ends j)
-          at_section j = grows j ∙ ap (λ n. if j == n then ends j + x.bytes else ends j) one.section
+      module _ (x : Item) (one : IsItem st ends x) (sized : IsSizedAt all ss i s own x) where
+        -- the size of an item that has a place
+        placed_size : is_placed t k s.kind ≡ true → IsSize (λ e. value_at all st e) st.home.executable (slice_index_or (alignments_of all) st.section 1) (ends st.section) own s.kind x.bytes
+        placed_size e =
+            subst (λ n. IsSize (λ e. value_at all st e) st.home.executable (slice_index_or (alignments_of all) st.section 1) n own s.kind x.bytes) one.offset
+            (subst (λ n. IsSize (λ e. value_at all st e) st.home.executable (slice_index_or (alignments_of all) n 1) x.offset own s.kind x.bytes) one.section
+            (size_as (λ e. value_at all st e) st.home.executable x (slice_index_or (alignments_of all) x.section 1) own s.kind (sized e)))
+
+        in_code : (b : Bool) → is_placed t k s.kind ≡ b → st.home.executable ≡ true → x.bytes ≤ own.bytes
+        in_code true e code = (roomy_now e).code code x.bytes (placed_size e)
+        in_code false e code = let none = one.absent e in omega (arith, none)
+
+        in_store : (b : Bool) → is_placed t k s.kind ≡ b → st.home.executable ≡ false → ends st.section + x.bytes ≤ slice_index_or (ends_of (after t k s.kind)) st.section 0
+        in_store true e other = (roomy_now e).stored other x.bytes (placed_size e)
+        in_store false e other =
+            let none = one.absent e in
+            let l = left.stored st.section (ap (λ (h : Section). h.executable) home_is ∙ other) in
+            let m = (grows_after t k s.kind).ends st.section in
+            omega (arith, none, l, m)
+
+        code_by : (j : ℕ) (b : Bool) → (j == st.section) ≡ b → (section_at (opened_of all) j).executable ≡ true
+            → (if b then ends j + x.bytes else ends j) ≤ (if b then left.counted j + own.bytes else left.counted j)
+        code_by j true is e =
+            let at : j ≡ st.section = eqb-true j st.section is in
+            let l = left.code j e in
+            let m = in_code (is_placed t k s.kind) refl (ap (λ (h : Section). h.executable) (sym home_is ∙ sym (ap (section_at (opened_of all)) at)) ∙ e) in
+            omega (arith, l, m)
+        code_by j false is e = left.code j e
+
+        store_by : (j : ℕ) (b : Bool) → (j == st.section) ≡ b → (section_at (opened_of all) j).executable ≡ false → (if b then ends j + x.bytes else ends j) ≤ slice_index_or (ends_of (after t k s.kind)) j 0
+        store_by j true is e =
+            let at : st.section ≡ j = sym (eqb-true j st.section is) in
+            subst (λ n. ends n + x.bytes ≤ slice_index_or (ends_of (after t k s.kind)) n 0) at
+            (in_store (is_placed t k s.kind) refl (ap (λ (h : Section). h.executable) (sym home_is ∙ ap (section_at (opened_of all)) at) ∙ e))
+        store_by j false is e = let l = left.stored j e in let m = (grows_after t k s.kind).ends j in omega (arith, l, m)
+
+        pub rooms_more : (behind : ℕ → ℕ) → ((j : ℕ) → behind j ≡ grown ends x j) → HasRoomLeft ss sizes (i + 1) behind
+        rooms_more behind grows = record {
+          counted = grown_by left.counted st.section own.bytes;
+          rest = parts.1;
+          code = λ j e. subst (λ n. n ≤ grown_by left.counted st.section own.bytes j) (sym (at_section j)) (code_by j (j == st.section) refl e);
+          stored = λ j e.
+              subst (λ (u : Tables). behind j ≤ slice_index_or (ends_of u) j 0) (sym (passed_next ss i s (drop (i + 1) ss) here_is))
+              (subst (λ n. n ≤ slice_index_or (ends_of (after t k s.kind)) j 0) (sym (at_section j)) (store_by j (j == st.section) refl e));
+        }
+          where
+            at_section : (j : ℕ) → behind j ≡ (if j == st.section then ends j + x.bytes else ends j)
+            at_section j = grows j ∙ ap (λ n. if j == n then ends j + x.bytes else ends j) one.section

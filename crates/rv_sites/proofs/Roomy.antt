@@ -12,20 +12,20 @@ use Rattle.rv_unit_laws.specs.Tables.{Tables, here, value, aligned, alignment_of
 use Rattle.rv_unit_laws.specs.Faults.{faulty_if, size_faults, power_faults, bytes_faults, value_faults, code_alignment_faults, past_section, alignment_faults, directive_faults, faults}
 use Rattle.rv_unit_laws.proofs.Grown.{BeginsAt, puts, end_behind}
 use Rattle.rv_source_laws.specs.Fits.{is_low}
-use Rattle.rv_assemble_laws.specs.Written.{is_constant}
-use Rattle.rv_assemble_laws.specs.Refusals.{code_size}
+use Rattle.rv_assemble_laws.specs.Coded.{is_constant}
 use Rattle.rv_source_laws.specs.Located.{is_placed, is_placed_directive}
 use Rattle.rv_assemble_laws.proofs.Held.{none_left, no_test}
 use Rattle.rv_assemble_laws.specs.Sites.{IsMultiple}
+use Rattle.rv_sites.specs.declared.item.CodeSize.{CodeSize}
 use Rattle.rv_sites.specs.Sized.{IsPadded, IsSizedDirective}
 use Rattle.rv_sites.specs.Measured.{stretch, IsSize, CanPad, HasSize, HasSizeDirective}
 
 -- a statement's size, and what it makes of its section: in code no more than its code, else no more than up to this end
-pub record IsRoomy (v : Expression → Value) (executable : Bool) (begins offset stop : ℕ) (says : StatementKind) : Type 0 where
+pub record IsRoomy (v : Expression → Value) (executable : Bool) (begins offset stop : ℕ) (own : CodeSize) (says : StatementKind) : Type 0 where
   pub size : HasSize v executable begins offset says
-  pub room : (n : ℕ) → IsSize v executable begins offset says n → offset + n ≤ longest_section
-  pub code : executable ≡ true → (n : ℕ) → IsSize v executable begins offset says n → n ≤ code_size says
-  pub stored : executable ≡ false → (n : ℕ) → IsSize v executable begins offset says n → offset + n ≤ stop
+  pub room : (n : ℕ) → IsSize v executable begins offset own says n → offset + n ≤ longest_section
+  pub code : executable ≡ true → (n : ℕ) → IsSize v executable begins offset own says n → n ≤ own.bytes
+  pub stored : executable ≡ false → (n : ℕ) → IsSize v executable begins offset own says n → offset + n ≤ stop
 
 -- what is so whatever was refused
 pub err_always : {T E : Type 0} (r : Result T E) {P : E → Type 0} → ((e : E) → P e) → IfErr r P
@@ -105,7 +105,7 @@ multiple (Some n) begins h = h
 
 -- ---- one statement
 
-module _ (all t : Tables) (k begins offset : ℕ) (low : offset ≤ longest_section) (inside : t.current < length (opened_of t).sections)
+module _ (all t : Tables) (k begins offset : ℕ) (own : CodeSize) (low : offset ≤ longest_section) (inside : t.current < length (opened_of t).sections)
     (whole : (e : Expression) (n : ℕ) → value all false k (here t) e ≡ Constant n → value all true k (here t) e ≡ Constant n)
     (past : (e : Expression) (n : ℕ) → value all false k (here t) e ≡ Constant n → value t false k (here t) e ≡ Constant n)
     (before : (current_section (opened_of t)).executable ≡ false → offset ≤ (here t).offset) where
@@ -122,7 +122,7 @@ module _ (all t : Tables) (k begins offset : ℕ) (low : offset ≤ longest_sect
   stop says = slice_index_or (ends_of (after t k says)) t.current 0
 
   abbrev Here : StatementKind → Type 0
-  Here says = IsRoomy v home.executable begins offset (stop says) says
+  Here says = IsRoomy v home.executable begins offset (stop says) own says
 
   -- data that end no later than those of the tables
   put_here : (d : Directive) → home.executable ≡ false → puts d ≡ true → HasSizeDirective v home.executable begins offset d
@@ -136,7 +136,7 @@ module _ (all t : Tables) (k begins offset : ℕ) (low : offset ≤ longest_sect
   }
 
   -- a statement without bytes
-  none_here : (says : StatementKind) → HasSize v home.executable begins offset says → ((n : ℕ) → IsSize v home.executable begins offset says n → n ≡ 0) → (here t).offset ≤ stop says → Here says
+  none_here : (says : StatementKind) → HasSize v home.executable begins offset says → ((n : ℕ) → IsSize v home.executable begins offset own says n → n ≡ 0) → (here t).offset ≤ stop says → Here says
   none_here says size none more = record {
     size = size;
     room = λ n h. let e = none n h in omega (arith, e, low);
@@ -145,7 +145,7 @@ module _ (all t : Tables) (k begins offset : ℕ) (low : offset ≤ longest_sect
   }
 
   -- a statement without bytes in code
-  none_in_code : (says : StatementKind) → HasSize v home.executable begins offset says → ((n : ℕ) → IsSize v home.executable begins offset says n → n ≡ 0) → home.executable ≡ true → Here says
+  none_in_code : (says : StatementKind) → HasSize v home.executable begins offset says → ((n : ℕ) → IsSize v home.executable begins offset own says n → n ≡ 0) → home.executable ≡ true → Here says
   none_in_code says size none code = record {
     size = size;
     room = λ n h. let e = none n h in omega (arith, e, low);
@@ -267,8 +267,8 @@ module _ (all t : Tables) (k begins offset : ℕ) (low : offset ≤ longest_sect
   directive_here _ placed multiples more none lows = absurd (cc)
 
   -- an instruction, where its section has room for it
-  instruction_here : (says : StatementKind) → HasSize v home.executable begins offset says → ((n : ℕ) → IsSize v home.executable begins offset says n → n ≡ code_size says)
-      → home.executable ≡ true → offset + code_size says ≤ longest_section → Here says
+  instruction_here : (says : StatementKind) → HasSize v home.executable begins offset says → ((n : ℕ) → IsSize v home.executable begins offset own says n → n ≡ own.bytes)
+      → home.executable ≡ true → offset + own.bytes ≤ longest_section → Here says
   instruction_here says size four code fits = record {
     size = size;
     room = λ n h. let f = four n h in omega (arith, f, fits);
@@ -277,7 +277,7 @@ module _ (all t : Tables) (k begins offset : ℕ) (low : offset ≤ longest_sect
   }
 
   pub statement_here : (says : StatementKind) → is_placed t k says ≡ true → ((d : Directive) → says ≡ Directs d → puts d ≡ true → BeginsAt (alignment_of first d) begins)
-      → (here t).offset ≤ stop says → (home.executable ≡ true → offset + code_size says ≤ longest_section) → faults all t k says ≡ []
+      → (here t).offset ≤ stop says → (home.executable ≡ true → offset + own.bytes ≤ longest_section) → faults all t k says ≡ []
       → ((d : Directive) → says ≡ Directs d → AsksLow d) → Here says
   statement_here (Label name) placed multiples more fits none lows = none_here (Label name) tt (λ n h. h) more
   statement_here (Numbered number) placed multiples more fits none lows = none_here (Numbered number) tt (λ n h. h) more

@@ -1,7 +1,7 @@
 -- The sections of a source, with the sites of its statements.
 
 use Rattle.std.proofs.Common.{◌≡◌, ℕ, suc, ◌+◌, ◌<◌, ◌==◌, Bool, true, false, List, [], ◌∷◌, ◌++◌, length, map, Some, refl, sym, ap, ◌∙◌, subst, append-nil}
-use Rattle.std.specs.Prelude.{flat_map, filter, not, ◌&&◌, slice_get, slice_index_or, if◌then◌else◌}
+use Rattle.std.specs.Prelude.{flat_map, not, ◌&&◌, slice_get, slice_index_or, if◌then◌else◌}
 use Rattle.std.specs.List.{AllByRecursion}
 use Rattle.std.proofs.lemmas.Bool.{eqb-true, eq-eqb, and_parts}
 use Rattle.std.proofs.lemmas.Nat.{pow_pos}
@@ -10,43 +10,65 @@ use Rattle.rv_unit_laws.specs.Sections.{Section, is_nobits, goes_to_text}
 use Rattle.rv_unit_laws.specs.Tables.{Tables, after, tables, opened_of, alignments_of}
 use Rattle.rv_unit_laws.proofs.Grown.{grown_all}
 use Rattle.rv_source_laws.specs.Located.{Located, located_now, located_from}
+use Rattle.rv_assemble_laws.specs.Coded.{joined}
 use Rattle.rv_assemble_laws.specs.Templates.{IsTemplate}
 use Rattle.rv_assemble_laws.specs.Sites.{Site, Part, form, part_bytes, parts, parts_of, sites_in, Tile, end_of, HasSize}
 use Rattle.rv_assemble_laws.specs.Fields.{fields_at, fields}
 use Rattle.rv_assemble_laws.proofs.Filled.{bytes_append}
 use Rattle.rv_assemble_laws.proofs.Homes.{IsHomeIn, all_join}
-use Rattle.rv_instruction.specs.Code.{code_said}
 use Rattle.rv_sites.specs.declared.item.Item.{Item}
-use Rattle.rv_sites.specs.Code.{value_at, section_code}
-use Rattle.rv_sites.specs.DataParts.{is_filled, data_parts, data_fields}
+use Rattle.rv_sites.specs.Code.{section_code}
+use Rattle.rv_sites.specs.Coded.{AreCoded}
+use Rattle.rv_sites.specs.DataParts.{is_filled, data_parts, data_fields, data_bytes}
 use Rattle.rv_sites.specs.Items.{IsItem, AreItems, grown}
-use Rattle.rv_sites.specs.Seated.{site_of, sites_of}
+use Rattle.rv_sites.specs.Seated.{site_of, first_code, other_codes, sites_of}
 use Rattle.rv_sites.specs.Draft.{item_of}
 use Rattle.rv_sites.proofs.Fitted.{Fit}
 
 -- ---- the statements of sites, and their items
 
-pub all_located : (k : ℕ) (t : Tables) (before last : ℕ → ℕ) (ss : List Statement) (is : List Item) → AreItems k t before ss is last
-    → map (λ (s : Site). s.located) (sites_of (located_from 1 k t ss) is) ≡ located_from 1 k t ss
-all_located k t before last [] [] h = refl
-all_located k t before last [] (x ∷ is) h = absurd h
-all_located k t before last (s ∷ ss) [] h = absurd h
-all_located k t before last (s ∷ ss) (x ∷ is) h = ap (λ l. located_now 1 k t s ∷ l) (all_located (suc k) (after t k s.kind) (grown before x) last ss is h.1)
+pub all_located : (k : ℕ) (t : Tables) (before last : ℕ → ℕ) (ss : List Statement) (is : List Item) (codes : List (List (List ℕ))) → AreItems k t before ss is last
+    → map (λ (s : Site). s.located) (sites_of (located_from 1 k t ss) is codes) ≡ located_from 1 k t ss
+all_located k t before last [] [] codes h = refl
+all_located k t before last [] (x ∷ is) codes h = absurd h
+all_located k t before last (s ∷ ss) [] codes h = absurd h
+all_located k t before last (s ∷ ss) (x ∷ is) codes h = ap (λ l. located_now 1 k t s ∷ l) (all_located (suc k) (after t k s.kind) (grown before x) last ss is (other_codes codes) h.1)
 
-one_item : (s : Located) (before : ℕ → ℕ) (x : Item) → IsItem s before x → item_of (site_of s x) ≡ x
-one_item s before x h =
+one_item : (s : Located) (before : ℕ → ℕ) (x : Item) (coded : List (List ℕ)) → IsItem s before x → item_of (site_of s x coded) ≡ x
+one_item s before x coded h =
     ap (λ n. record { section = n; offset = x.offset; bytes = x.bytes; line = s.line; shown = s.placed && s.home.loaded; instructions = x.instructions }) (sym h.section)
     ∙ ap (λ n. record { section = x.section; offset = x.offset; bytes = x.bytes; line = n; shown = s.placed && s.home.loaded; instructions = x.instructions }) (sym h.line)
     ∙ ap (λ b. record { section = x.section; offset = x.offset; bytes = x.bytes; line = x.line; shown = b; instructions = x.instructions }) (sym h.shown)
 
-pub all_items : (k : ℕ) (t : Tables) (before last : ℕ → ℕ) (ss : List Statement) (is : List Item) → AreItems k t before ss is last
-    → map item_of (sites_of (located_from 1 k t ss) is) ≡ is
-all_items k t before last [] [] h = refl
-all_items k t before last [] (x ∷ is) h = absurd h
-all_items k t before last (s ∷ ss) [] h = absurd h
-all_items k t before last (s ∷ ss) (x ∷ is) h =
-    ap (λ y. y ∷ map item_of (sites_of (located_from 1 (suc k) (after t k s.kind) ss) is)) (one_item (located_now 1 k t s) before x h.0)
-    ∙ ap (λ l. x ∷ l) (all_items (suc k) (after t k s.kind) (grown before x) last ss is h.1)
+pub all_items : (k : ℕ) (t : Tables) (before last : ℕ → ℕ) (ss : List Statement) (is : List Item) (codes : List (List (List ℕ))) → AreItems k t before ss is last
+    → map item_of (sites_of (located_from 1 k t ss) is codes) ≡ is
+all_items k t before last [] [] codes h = refl
+all_items k t before last [] (x ∷ is) codes h = absurd h
+all_items k t before last (s ∷ ss) [] codes h = absurd h
+all_items k t before last (s ∷ ss) (x ∷ is) codes h =
+    ap (λ y. y ∷ map item_of (sites_of (located_from 1 (suc k) (after t k s.kind) ss) is (other_codes codes))) (one_item (located_now 1 k t s) before x (first_code codes) h.0)
+    ∙ ap (λ l. x ∷ l) (all_items (suc k) (after t k s.kind) (grown before x) last ss is (other_codes codes) h.1)
+
+-- ---- the data of sites, which their code leaves as it is
+
+data_step : (t : Tables) (section : ℕ) (b : Bool) (l : Located) (x : Item) (coded : List (List ℕ)) (rest others : List Site)
+    → flat_map part_bytes (flat_map (data_parts t) rest) ≡ flat_map part_bytes (flat_map (data_parts t) others)
+    → flat_map part_bytes (flat_map (data_parts t) (if b then site_of l x coded ∷ rest else rest)) ≡ flat_map part_bytes (flat_map (data_parts t) (if b then site_of l x [] ∷ others else others))
+data_step t section true l x coded rest others h =
+    let own = data_parts t (site_of l x []) in
+    bytes_append own (flat_map (data_parts t) rest) ∙ ap (λ m. flat_map part_bytes own ++ m) h ∙ sym (bytes_append own (flat_map (data_parts t) others))
+data_step t section false l x coded rest others h = h
+
+pub data_as : (t : Tables) (section : ℕ) (ls : List Located) (is : List Item) (codes : List (List (List ℕ))) → data_bytes t section (sites_of ls is codes) ≡ data_bytes t section (sites_of ls is [])
+data_as t section [] is codes = refl
+data_as t section (l ∷ ls) [] codes = refl
+data_as t section (l ∷ ls) (x ∷ is) codes =
+    data_step t section (l.section == section) l x (first_code codes) (sites_in section (sites_of ls is (other_codes codes))) (sites_in section (sites_of ls is [])) (data_as t section ls is (other_codes codes))
+
+pub fields_as : (t : Tables) (ls : List Located) (is : List Item) (codes : List (List (List ℕ))) → flat_map (data_fields t) (sites_of ls is codes) ≡ flat_map (data_fields t) (sites_of ls is [])
+fields_as t [] is codes = refl
+fields_as t (l ∷ ls) [] codes = refl
+fields_as t (l ∷ ls) (x ∷ is) codes = ap (λ m. data_fields t (site_of l x []) ++ m) (fields_as t ls is (other_codes codes))
 
 -- what holds of the statements holds of their sites
 pub all_sites : (P : Located → Type 0) (sites : List Site) → AllByRecursion P (map (λ (s : Site). s.located) sites) → AllByRecursion (λ (s : Site). P s.located) sites
@@ -75,18 +97,19 @@ module _ (all : Tables) (j : ℕ) where
       go true f = let g : (a == b) ≡ true = eq-eqb a b (sym (eqb-true b a f)) in absurd (cc)
       go false f = f
 
-  pub tiles : (k : ℕ) (t : Tables) (before last : ℕ → ℕ) (ss : List Statement) (is : List Item) → AreItems k t before ss is last → AllByRecursion Own (sites_of (located_from 1 k t ss) is)
-      → Follows (before j) (last j) (sites_in j (sites_of (located_from 1 k t ss) is))
-  tiles k t before last [] [] h own = (tt, sym (h j))
-  tiles k t before last [] (x ∷ is) h own = absurd h
-  tiles k t before last (s ∷ ss) [] h own = absurd h
-  tiles k t before last (s ∷ ss) (x ∷ is) h own =
+  pub tiles : (k : ℕ) (t : Tables) (before last : ℕ → ℕ) (ss : List Statement) (is : List Item) (codes : List (List (List ℕ))) → AreItems k t before ss is last → AllByRecursion Own (sites_of (located_from 1 k t ss) is codes)
+      → Follows (before j) (last j) (sites_in j (sites_of (located_from 1 k t ss) is codes))
+  tiles k t before last [] [] codes h own = (tt, sym (h j))
+  tiles k t before last [] (x ∷ is) codes h own = absurd h
+  tiles k t before last (s ∷ ss) [] codes h own = absurd h
+  tiles k t before last (s ∷ ss) (x ∷ is) codes h own =
       let l = located_now 1 k t s in
-      let rest = tiles (suc k) (after t k s.kind) (grown before x) last ss is h.1 own.1 in
+      let left = sites_in j (sites_of (located_from 1 (suc k) (after t k s.kind) ss) is (other_codes codes)) in
+      let rest = tiles (suc k) (after t k s.kind) (grown before x) last ss is (other_codes codes) h.1 own.1 in
       let same : (j == x.section) ≡ (l.section == j) = ap (λ n. j == n) h.0.section ∙ sym (swapped j l.section (j == l.section) refl) in
-      step (l.section == j) (site_of l x) (sites_in j (sites_of (located_from 1 (suc k) (after t k s.kind) ss) is)) (before j) (last j)
+      step (l.section == j) (site_of l x (first_code codes)) left (before j) (last j)
       (λ e. h.0.offset ∙ ap before (eqb-true l.section j e)) own.0
-      (subst (λ b. Follows (if b then before j + x.bytes else before j) (last j) (sites_in j (sites_of (located_from 1 (suc k) (after t k s.kind) ss) is))) same rest)
+      (subst (λ b. Follows (if b then before j + x.bytes else before j) (last j) left) same rest)
 
 -- ---- the bytes of a section
 
@@ -111,43 +134,45 @@ all_of t file j home (s ∷ ss) same at fits homes = go (s.located.section == j)
         (record { fit = fits.0; index = index; here = here }, rest)
     go false e rest = rest
 
-abbrev pub code_at : Tables → Site → List ℕ
-code_at t s = code_said (λ e. value_at t s.located e) s.located.kind
+abbrev pub code_at : Site → List ℕ
+code_at s = joined s.coded
 
 -- the code of a section
-pub code_in : (t : Tables) (j : ℕ) (sites : List Site) → section_code t j (map (λ (s : Site). s.located) sites) ≡ flat_map (code_at t) (sites_in j sites)
-code_in t j [] = refl
-code_in t j (s ∷ ss) =
-    ap (λ b. flat_map (λ l. code_said (λ e. value_at t l e) l.kind) (if b then s.located ∷ filter (λ l. j == l.section) (map (λ (s : Site). s.located) ss) else filter (λ l. j == l.section) (map (λ (s : Site). s.located) ss)))
-    (swapped t j s.located.section j (s.located.section == j) refl)
-    ∙ go (s.located.section == j) (code_in t j ss)
-  where
-    go : (b : Bool) → section_code t j (map (λ (s : Site). s.located) ss) ≡ flat_map (code_at t) (sites_in j ss) → flat_map (λ l. code_said (λ e. value_at t l e) l.kind) (if b then s.located ∷ filter (λ l. j == l.section) (map (λ (s : Site). s.located) ss) else filter (λ l. j == l.section) (map (λ (s : Site). s.located) ss))
-        ≡ flat_map (code_at t) (if b then s ∷ sites_in j ss else sites_in j ss)
-    go true rest = ap (λ l. code_at t s ++ l) rest
-    go false rest = rest
+code_in_step : (j : ℕ) (b c : Bool) (s : Site) (rest : List ℕ) (sites : List Site) → b ≡ c → rest ≡ flat_map code_at sites → (if b then code_at s else []) ++ rest ≡ flat_map code_at (if c then s ∷ sites else sites)
+code_in_step j true c s rest sites e h = ap (λ l. code_at s ++ l) h ∙ ap (λ d. flat_map code_at (if d then s ∷ sites else sites)) e
+code_in_step j false c s rest sites e h = h ∙ ap (λ d. flat_map code_at (if d then s ∷ sites else sites)) e
+
+pub code_in : (t : Tables) (j k : ℕ) (u : Tables) (before last : ℕ → ℕ) (ss : List Statement) (is : List Item) (codes : List (List (List ℕ))) → AreItems k u before ss is last → AreCoded t (located_from 1 k u ss) codes
+    → section_code j (located_from 1 k u ss) codes ≡ flat_map code_at (sites_in j (sites_of (located_from 1 k u ss) is codes))
+code_in t j k u before last [] is codes items coded = refl
+code_in t j k u before last (s ∷ ss) [] codes items coded = absurd items
+code_in t j k u before last (s ∷ ss) (x ∷ is) [] items coded = absurd coded
+code_in t j k u before last (s ∷ ss) (x ∷ is) (c ∷ codes) items coded =
+    let l = located_now 1 k u s in
+    code_in_step j (j == l.section) (l.section == j) (site_of l x c) (section_code j (located_from 1 (suc k) (after u k s.kind) ss) codes) (sites_in j (sites_of (located_from 1 (suc k) (after u k s.kind) ss) is codes))
+    (swapped t j l.section j (l.section == j) refl) (code_in t j (suc k) (after u k s.kind) (grown before x) last ss is codes items.1 coded.1)
 
 module _ (t : Tables) (j : ℕ) (home : Section) where
   abbrev Of : Site → Type 0
   Of s = IsOf t j home s
 
   -- in code
-  coded : (sites : List Site) → home.executable ≡ true → AllByRecursion Of sites → flat_map (code_at t) sites ≡ flat_map part_bytes (parts t sites)
+  coded : (sites : List Site) → home.executable ≡ true → AllByRecursion Of sites → flat_map code_at sites ≡ flat_map part_bytes (parts t sites)
   coded [] e h = refl
   coded (s ∷ ss) e h =
-      ap (λ l. l ++ flat_map (code_at t) ss) (sym (h.0.fit.code (ap (λ (g : Section). g.executable) h.0.here ∙ e)))
+      ap (λ l. l ++ flat_map code_at ss) (sym (h.0.fit.code (ap (λ (g : Section). g.executable) h.0.here ∙ e)))
       ∙ ap (λ l. flat_map part_bytes (parts_of t s) ++ l) (coded ss e h.1)
       ∙ sym (bytes_append (parts_of t s) (parts t ss))
 
-  no_code : (sites : List Site) → home.executable ≡ false → AllByRecursion Of sites → flat_map (code_at t) sites ≡ []
+  no_code : (sites : List Site) → home.executable ≡ false → AllByRecursion Of sites → flat_map code_at sites ≡ []
   no_code [] e h = refl
   no_code (s ∷ ss) e h =
-      ap (λ l. l ++ flat_map (code_at t) ss) (h.0.fit.other (ap (λ (g : Section). g.executable) h.0.here ∙ e)) ∙ no_code ss e h.1
+      ap (λ l. l ++ flat_map code_at ss) (h.0.fit.other (ap (λ (g : Section). g.executable) h.0.here ∙ e)) ∙ no_code ss e h.1
 
-  empty_code : (sites : List Site) → is_nobits home ≡ true → AllByRecursion Of sites → flat_map (code_at t) sites ≡ []
+  empty_code : (sites : List Site) → is_nobits home ≡ true → AllByRecursion Of sites → flat_map code_at sites ≡ []
   empty_code [] e h = refl
   empty_code (s ∷ ss) e h =
-      ap (λ l. l ++ flat_map (code_at t) ss) (h.0.fit.empty (ap is_nobits h.0.here ∙ e)) ∙ empty_code ss e h.1
+      ap (λ l. l ++ flat_map code_at ss) (h.0.fit.empty (ap is_nobits h.0.here ∙ e)) ∙ empty_code ss e h.1
 
   -- in data
   filled : (sites : List Site) → is_filled home ≡ true → AllByRecursion Of sites → flat_map (data_parts t) sites ≡ parts t sites
@@ -164,13 +189,13 @@ module _ (t : Tables) (j : ℕ) (home : Section) where
   not_filled b n e = ap (λ c. not c && n) e
 
   bytes_by : (b n : Bool) (sites : List Site) → home.executable ≡ b → is_nobits home ≡ n → AllByRecursion Of sites
-      → flat_map (code_at t) sites ++ flat_map part_bytes (flat_map (data_parts t) sites) ≡ (if n then [] else flat_map part_bytes (parts t sites))
+      → flat_map code_at sites ++ flat_map part_bytes (flat_map (data_parts t) sites) ≡ (if n then [] else flat_map part_bytes (parts t sites))
   bytes_by true true sites e f h =
       ap (λ l. l ++ flat_map part_bytes (flat_map (data_parts t) sites)) (empty_code sites f h)
       ∙ ap (λ ps. flat_map part_bytes ps) (unfilled sites (not_filled home.executable (not (is_nobits home)) e) h)
   bytes_by true false sites e f h =
-      ap (λ ps. flat_map (code_at t) sites ++ flat_map part_bytes ps) (unfilled sites (not_filled home.executable (not (is_nobits home)) e) h)
-      ∙ append-nil (flat_map (code_at t) sites) ∙ coded sites e h
+      ap (λ ps. flat_map code_at sites ++ flat_map part_bytes ps) (unfilled sites (not_filled home.executable (not (is_nobits home)) e) h)
+      ∙ append-nil (flat_map code_at sites) ∙ coded sites e h
   bytes_by false true sites e f h =
       ap (λ l. l ++ flat_map part_bytes (flat_map (data_parts t) sites)) (no_code sites e h)
       ∙ ap (λ ps. flat_map part_bytes ps) (unfilled sites (ap (λ c. not c && not (is_nobits home)) e ∙ ap not f) h)
@@ -179,7 +204,7 @@ module _ (t : Tables) (j : ℕ) (home : Section) where
       ∙ ap (λ ps. flat_map part_bytes ps) (filled sites (ap (λ c. not c && not (is_nobits home)) e ∙ ap not f) h)
 
   pub section_bytes : (sites : List Site) → AllByRecursion Of sites
-      → flat_map (code_at t) sites ++ flat_map part_bytes (flat_map (data_parts t) sites) ≡ (if is_nobits home then [] else flat_map part_bytes (parts t sites))
+      → flat_map code_at sites ++ flat_map part_bytes (flat_map (data_parts t) sites) ≡ (if is_nobits home then [] else flat_map part_bytes (parts t sites))
   section_bytes sites h = bytes_by home.executable (is_nobits home) sites refl refl h
 
   -- no code stands in a section without bytes

@@ -1,16 +1,22 @@
 -- One statement more of the code so far.
 
-use Rattle.std.proofs.Common.{◌≡◌, ℕ, ◌+◌, ◌==◌, nat_lt, Bool, true, false, cond, List, [], ◌∷◌, ◌++◌, length, flat_map, filter, Option, Some, None, if◌then◌else◌, refl, sym, ap, ◌∙◌, append-nil, zero, suc, append_assoc, length-append, rules}
+use Rattle.std.proofs.Common.{◌≡◌, ℕ, ◌+◌, ◌==◌, nat_lt, Bool, true, false, List, [], ◌∷◌, ◌++◌, length, map, Option, Some, None, if◌then◌else◌, refl, sym, ap, ◌∙◌, subst, append-nil, zero, suc, append_assoc, length-append, rules}
 use Rattle.std.specs.Global.{Vec}
+use Rattle.std.proofs.lemmas.List.{length-map, map-append}
 use Rattle.rv_text_laws.specs.Codes.{limit}
+use Rattle.rv_statement.specs.Statement.{StatementKind, Label, Numbered, Instruction, Directs, Expression}
+use Rattle.rv_text_laws.specs.Values.{Value}
 use Rattle.rv_unit_laws.specs.Faults.{Fault, lowest, at_line}
 use Rattle.rv_unit_laws.specs.Tables.{Tables, longest_section}
 use Rattle.rv_source_laws.specs.Located.{Located}
-use Rattle.rv_assemble_laws.specs.Refusals.{code_faults_at, code_fault_from, size_fault_from, else_fault, grown, code_size}
-use Rattle.rv_instruction.specs.Code.{code_said}
-use Rattle.rv_sites.specs.Code.{bytes_in, value_at, section_code, full_fault, full_at}
-use Rattle.rv_sites.specs.Added.{IsAdded, IsCodeSoFar}
+use Rattle.rv_assemble_laws.specs.Coded.{joined}
+use Rattle.rv_assemble_laws.specs.Refusals.{code_faults_at, code_fault_from, size_fault_from, else_fault, grown, HasCodeSize, AreCodeSizes}
+use Rattle.rv_sites.specs.Code.{bytes_in, value_at, size_of, bytes_of_codes, section_code, full_fault, full_at}
+use Rattle.rv_sites.specs.Coded.{IsCoded, AreCoded}
+use Rattle.rv_sites.specs.Added.{IsAdded, IsCodeSoFar, IsWhole, IsLong}
+use Rattle.rv_sites.specs.Sized.{bytes_of_sizes}
 use Rattle.rv_sites.specs.declared.code.Coder.{Coder}
+use Rattle.rv_sites.specs.declared.item.CodeSize.{CodeSize}
 
 else_assoc : (a b c : Option Fault) → else_fault (else_fault a b) c ≡ else_fault a (else_fault b c)
 else_assoc (Some f) b c = refl
@@ -20,49 +26,57 @@ at_else : (line : ℕ) (code : Option ℕ) (other : Option Fault) → else_fault
 at_else line None other = refl
 at_else line (Some code) other = refl
 
--- sizes that are the same have the same fault
-sizes_alike : (f g : ℕ → ℕ) (ss : List Located) → ((j : ℕ) → f j ≡ g j) → size_fault_from f ss ≡ size_fault_from g ss
-sizes_alike f g [] e = refl
-sizes_alike f g (s ∷ ss) e =
-    ap (λ n. at_line s.line (if nat_lt longest_section (n + code_size s.kind) then Some limit else None) (size_fault_from (grown f s.section (code_size s.kind)) ss)) (e s.section)
-    ∙ ap (λ r. at_line s.line (if nat_lt longest_section (g s.section + code_size s.kind) then Some limit else None) r)
-    (sizes_alike (grown f s.section (code_size s.kind)) (grown g s.section (code_size s.kind)) ss
-    (λ j. ap (λ n. if j == s.section then n + code_size s.kind else n) (e j)))
+-- sections that have as many bytes have the same fault
+sizes_alike : (f g : ℕ → ℕ) (ss : List Located) (sizes : List ℕ) → ((j : ℕ) → f j ≡ g j) → size_fault_from f ss sizes ≡ size_fault_from g ss sizes
+sizes_alike f g [] sizes e = refl
+sizes_alike f g (s ∷ ss) [] e = refl
+sizes_alike f g (s ∷ ss) (size ∷ sizes) e =
+    ap (λ n. at_line s.line (if nat_lt longest_section (n + size) then Some limit else None) (size_fault_from (grown f s.section size) ss sizes)) (e s.section)
+    ∙ ap (λ r. at_line s.line (if nat_lt longest_section (g s.section + size) then Some limit else None) r)
+    (sizes_alike (grown f s.section size) (grown g s.section size) ss sizes
+    (λ j. ap (λ n. if j == s.section then n + size else n) (e j)))
 
-grown_length : (b : Bool) (old more : List ℕ) (size : ℕ) → length more ≡ size → length (if b then old ++ more else old) ≡ (if b then length old + size else length old)
-grown_length true old more size e = length-append old more ∙ ap (λ n. length old + n) e
-grown_length false old more size e = refl
+grown_length : (b : Bool) (old more : List ℕ) → length (if b then old ++ more else old) ≡ (if b then length old + length more else length old)
+grown_length true old more = length-append old more
+grown_length false old more = refl
 
 same : (n : ℕ) → (n == n) ≡ true
 same n = search rules
 
-joined : (b : Bool) (old : List ℕ) (code : Located → List ℕ) (s : Located) (rest : List Located) → (if b then old ++ code s else old) ++ flat_map code rest ≡ old ++ flat_map code (cond b (s ∷ rest) rest)
-joined true old code s rest = append_assoc old (code s) (flat_map code rest)
-joined false old code s rest = refl
+joined_by : (b : Bool) (old code rest : List ℕ) → (if b then old ++ code else old) ++ rest ≡ old ++ ((if b then code else []) ++ rest)
+joined_by true old code rest = append_assoc old code rest
+joined_by false old code rest = refl
 
-pub next_code : (t : Tables) (all : List Located) (s : Located) (next : List Located) (old new : Coder) → IsCodeSoFar t all (s ∷ next) old → IsAdded old new s.section (code_faults_at t s) (value_at t s) (record { line = s.line; kind = s.kind }) → IsCodeSoFar t all next new
+pub next_code : (t : Tables) (all : List Located) (s : Located) (next : List Located) (old new : Coder) → IsCodeSoFar t all (s ∷ next) old
+    → IsAdded old new s.section (code_faults_at t s) (λ e. value_at t s e) s.options.rvc (record { line = s.line; kind = s.kind }) → IsCodeSoFar t all next new
 next_code t all s next old new h a =
     let f = λ (j : ℕ). length (bytes_in old.sections.items j) in
     let g = λ (j : ℕ). length (bytes_in new.sections.items j) in
-    let size = code_size s.kind in
-    let alike = λ (j : ℕ). ap length (a.grows.1 j) ∙ grown_length (j == s.section) (bytes_in old.sections.items j) (code_said (value_at t s) s.kind) size a.size in
-    let here : g s.section ≡ f s.section + size = alike s.section ∙ ap (λ b. if b then f s.section + size else f s.section) (same s.section) in
+    let code = joined a.coded in
+    let alike = λ (j : ℕ). ap length (a.grows.1 j) ∙ grown_length (j == s.section) (bytes_in old.sections.items j) code in
+    let here : g s.section ≡ f s.section + length code = alike s.section ∙ ap (λ b. if b then f s.section + length code else f s.section) (same s.section) in
+    let behind : (more : List (List (List ℕ))) → (h.codes ++ a.coded ∷ []) ++ more ≡ h.codes ++ a.coded ∷ more = λ more. append_assoc h.codes (a.coded ∷ []) more in
     record {
       faults =
           sym (ap (λ fs. at_line s.line (lowest fs) (code_fault_from t next)) a.sound)
           ∙ h.faults;
-      sizes =
-          ap (λ x. else_fault x (size_fault_from g next)) a.full
-          ∙ else_assoc (full_fault old.full) (full_at s.line (g s.section)) (size_fault_from g next)
+      codes = h.codes ++ a.coded ∷ [];
+      counts = a.counts ∙ ap (λ l. l ++ size_of a.coded ∷ []) h.counts ∙ sym (map-append (λ c. size_of c) h.codes (a.coded ∷ []));
+      coded = λ more rest. subst (λ l. AreCoded t all l) (sym (behind more)) (h.coded (a.coded ∷ more) (a.is, rest));
+      long = λ more.
+          let sizes = bytes_of_codes more in
+          ap (λ x. else_fault x (size_fault_from g next sizes)) a.full
+          ∙ else_assoc (full_fault old.full) (full_at s.line (g s.section)) (size_fault_from g next sizes)
           ∙ ap (λ x. else_fault (full_fault old.full) x)
-          (at_else s.line (if nat_lt longest_section (g s.section) then Some limit else None) (size_fault_from g next)
-          ∙ ap (λ n. at_line s.line (if nat_lt longest_section n then Some limit else None) (size_fault_from g next)) here
-          ∙ ap (λ r. at_line s.line (if nat_lt longest_section (f s.section + size) then Some limit else None) r) (sizes_alike g (grown f s.section size) next alike))
-          ∙ h.sizes;
-      bytes = λ j.
-          ap (λ x. x ++ section_code t j next) (a.grows.1 j)
-          ∙ joined (j == s.section) (bytes_in old.sections.items j) (λ u. code_said (value_at t u) u.kind) s (filter (λ u. j == u.section) next)
-          ∙ h.bytes j;
+          (at_else s.line (if nat_lt longest_section (g s.section) then Some limit else None) (size_fault_from g next sizes)
+          ∙ ap (λ n. at_line s.line (if nat_lt longest_section n then Some limit else None) (size_fault_from g next sizes)) here
+          ∙ ap (λ r. at_line s.line (if nat_lt longest_section (f s.section + length code) then Some limit else None) r) (sizes_alike g (grown f s.section (length code)) next sizes alike))
+          ∙ h.long (a.coded ∷ more)
+          ∙ ap (λ l. size_fault_from (λ j. 0) all (bytes_of_codes l)) (sym (behind more));
+      bytes = λ more j.
+          ap (λ x. x ++ section_code j next more) (a.grows.1 j)
+          ∙ joined_by (j == s.section) (bytes_in old.sections.items j) code (section_code j next more)
+          ∙ h.bytes (a.coded ∷ more) j ∙ ap (λ l. section_code j all l) (sym (behind more));
     }
 
 -- the first statement that is faulty as code is the next one
@@ -70,25 +84,82 @@ pub wrong_code : (t : Tables) (all : List Located) (s : Located) (next : List Lo
     → code_fault_from t all ≡ Some (record { code = code; line = s.line })
 wrong_code t all s next old code h e = sym h.faults ∙ ap (λ c. at_line s.line c (code_fault_from t next)) e
 
--- after the last statement the code is whole
-pub whole_code : (t : Tables) (all : List Located) (c : Coder) → IsCodeSoFar t all [] c → (j : ℕ) → bytes_in c.sections.items j ≡ section_code t j all
-whole_code t all c h j = sym (append-nil (bytes_in c.sections.items j)) ∙ h.bytes j
+-- ---- after the last statement
 
 else_none : (a : Option Fault) → else_fault a None ≡ a
 else_none None = refl
 else_none (Some f) = refl
 
-pub whole_sizes : (t : Tables) (all : List Located) (c : Coder) → IsCodeSoFar t all [] c → size_fault_from (λ j. 0) all ≡ full_fault c.full
-whole_sizes t all c h = sym h.sizes ∙ else_none (full_fault c.full)
+whole_sizes : (t : Tables) (all : List Located) (c : Coder) (h : IsCodeSoFar t all [] c) → size_fault_from (λ j. 0) all (bytes_of_codes h.codes) ≡ full_fault c.full
+whole_sizes t all c h =
+    ap (λ l. size_fault_from (λ j. 0) all (bytes_of_codes l)) (sym (append-nil h.codes)) ∙ sym (h.long []) ∙ else_none (full_fault c.full)
+
+whole_coded : (t : Tables) (all : List Located) (c : Coder) (h : IsCodeSoFar t all [] c) → AreCoded t all h.codes
+whole_coded t all c h = subst (λ l. AreCoded t all l) (append-nil h.codes) (h.coded [] tt)
+
+-- the code is whole
+pub whole_code : (t : Tables) (all : List Located) (c : Coder) → c.full ≡ None → IsCodeSoFar t all [] c → IsWhole t all c.sections.items c.sizes.items
+whole_code t all c none h = record {
+  faults = sym h.faults;
+  codes = h.codes;
+  counts = h.counts;
+  coded = whole_coded t all c h;
+  short = whole_sizes t all c h ∙ ap full_fault none;
+  bytes = λ j. sym (append-nil (bytes_in c.sections.items j)) ∙ h.bytes [] j ∙ ap (λ l. section_code j all l) (append-nil h.codes);
+}
+
+-- the size of a statement's code
+has_size : (v : Expression → Value) (rvc : Bool) (says : StatementKind) (coded : List (List ℕ)) → IsCoded v rvc says coded → HasCodeSize v rvc says (length (joined coded))
+has_size v rvc (Instruction mnemonic operands) coded h = (coded, (length coded, h))
+has_size v rvc (Label name) coded h = ap (λ c. length (joined c)) h
+has_size v rvc (Numbered number) coded h = ap (λ c. length (joined c)) h
+has_size v rvc (Directs directive) coded h = ap (λ c. length (joined c)) h
+
+have_sizes : (t : Tables) (ss : List Located) (codes : List (List (List ℕ))) → AreCoded t ss codes → AreCodeSizes t ss (bytes_of_codes codes)
+have_sizes t [] [] h = tt
+have_sizes t [] (coded ∷ codes) h = absurd h
+have_sizes t (s ∷ ss) [] h = absurd h
+have_sizes t (s ∷ ss) (coded ∷ codes) h = (has_size (λ e. value_at t s e) s.options.rvc s.kind coded h.0, have_sizes t ss codes h.1)
+
+-- each statement has a code, and each code a size
+coded_count : (t : Tables) (ss : List Located) (codes : List (List (List ℕ))) → AreCoded t ss codes → length codes ≡ length ss
+coded_count t [] [] h = refl
+coded_count t [] (coded ∷ codes) h = absurd h
+coded_count t (s ∷ ss) [] h = absurd h
+coded_count t (s ∷ ss) (coded ∷ codes) h = ap suc (coded_count t ss codes h.1)
+
+pub sizes_count : (t : Tables) (all : List Located) (code : List (Vec ℕ)) (sizes : List CodeSize) → IsWhole t all code sizes → length sizes ≡ length all
+sizes_count t all code sizes h = ap length h.counts ∙ length-map h.codes (λ c. size_of c) ∙ coded_count t all h.codes h.coded
+
+sizes_bytes : (codes : List (List (List ℕ))) → bytes_of_sizes (map (λ c. size_of c) codes) ≡ bytes_of_codes codes
+sizes_bytes [] = refl
+sizes_bytes (coded ∷ codes) = ap (λ l. length (joined coded) ∷ l) (sizes_bytes codes)
+
+-- no section is too long by these sizes
+pub sizes_short : (t : Tables) (all : List Located) (code : List (Vec ℕ)) (sizes : List CodeSize) → IsWhole t all code sizes → size_fault_from (λ j. 0) all (bytes_of_sizes sizes) ≡ None
+sizes_short t all code sizes h =
+    ap (λ l. size_fault_from (λ j. 0) all (bytes_of_sizes l)) h.counts ∙ ap (λ l. size_fault_from (λ j. 0) all l) (sizes_bytes h.codes) ∙ h.short
+
+-- a section is too long
+pub long_code : (t : Tables) (all : List Located) (c : Coder) (line : ℕ) → c.full ≡ Some line → IsCodeSoFar t all [] c → IsLong t all (record { code = limit; line = line })
+long_code t all c line full h = record {
+  faults = sym h.faults;
+  sizes = bytes_of_codes h.codes;
+  are_sizes = have_sizes t all h.codes (whole_coded t all c h);
+  fault = whole_sizes t all c h ∙ ap full_fault full;
+}
 
 -- before the first statement there is none
-pub begun : (t : Tables) (all : List Located) (c : Coder) → full_fault c.full ≡ None → ((j : ℕ) → bytes_in c.sections.items j ≡ []) → IsCodeSoFar t all all c
-begun t all c f e = record {
+pub begun : (t : Tables) (all : List Located) (c : Coder) → full_fault c.full ≡ None → c.sizes.items ≡ [] → ((j : ℕ) → bytes_in c.sections.items j ≡ []) → IsCodeSoFar t all all c
+begun t all c f none e = record {
   faults = refl;
-  sizes =
-      ap (λ x. else_fault x (size_fault_from (λ j. length (bytes_in c.sections.items j)) all)) f
-      ∙ sizes_alike (λ j. length (bytes_in c.sections.items j)) (λ j. 0) all (λ j. ap length (e j));
-  bytes = λ j. ap (λ x. x ++ section_code t j all) (e j);
+  codes = [];
+  counts = none;
+  coded = λ more h. h;
+  long = λ more.
+      ap (λ x. else_fault x (size_fault_from (λ j. length (bytes_in c.sections.items j)) all (bytes_of_codes more))) f
+      ∙ sizes_alike (λ j. length (bytes_in c.sections.items j)) (λ j. 0) all (bytes_of_codes more) (λ j. ap length (e j));
+  bytes = λ more j. ap (λ x. x ++ section_code j all more) (e j);
 }
 
 -- an empty section after others

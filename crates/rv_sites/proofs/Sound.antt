@@ -68,4 +68,4 @@ low_by false false none e = absurd (cc)
 pub low_code : (t : Tables) (s : Located) (d : Directive) → s.kind ≡ Directs d → code_faults_at t s ≡ [] → s.home.executable ≡ true → is_low (alignment_of (λ e. value_at t s e) d) ≡ true
 low_code t s d is none code =
     low_by (is_low (alignment_of (λ e. value_at t s e) d)) s.home.executable
-    (sym (ap (λ says. code_faults s.options s.home.executable (λ e. value_at t s e) (is_label t s.ordinal) says) is) ∙ none) code
+    (sym (ap (λ says. code_faults s.home.executable (λ e. value_at t s e) (is_label t s.ordinal) says) is) ∙ none) code

@@ -123,7 +123,7 @@ stands_at u i dx x dp p f inside is at =
           ∙ ap (λ (q : Standing). slice_get (opened_of (tables ss)).sections q.section) place ∙ home;
     }
 
-stated_length : (file k : ℕ) (t : Tables) (ss : List SpecStatement) → length (located_from file k t ss) ≡ length ss
+pub stated_length : (file k : ℕ) (t : Tables) (ss : List SpecStatement) → length (located_from file k t ss) ≡ length ss
 stated_length file k t [] = refl
 stated_length file k t (s ∷ ss) = ap suc (stated_length file (suc k) (after t k s.kind) ss)
 

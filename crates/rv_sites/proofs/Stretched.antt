@@ -4,6 +4,7 @@ use Rattle.std.proofs.Common.{◌≡◌, ℕ, Bool, true, false, Option}
 use Rattle.rv_text_laws.specs.Values.{Value}
 use Rattle.rv_statement.specs.Statement.{StatementKind, Label, Numbered, Instruction, Directs, Expression, Directive, Enters, Opens, Globl, Local, Sets, Aligns_to_power, Aligns_to_bytes, Values, Strings, Zeros, Chooses, Ignored}
 use Rattle.rv_unit_laws.specs.Tables.{alignment_of}
+use Rattle.rv_sites.specs.declared.item.CodeSize.{CodeSize}
 use Rattle.rv_sites.specs.declared.item.Item.{Item}
 use Rattle.rv_sites.specs.Measured.{IsSize, instructions_of, stretch}
 use Rattle.rv_sites.specs.Sized.{IsPadded, IsSizedDirective, IsSized}
@@ -26,8 +27,8 @@ sized_directive v b x begins (Local names) h = h
 sized_directive v b x begins (Chooses choice) h = h
 sized_directive v b x begins Ignored h = h
 
-pub sized_as : (v : Expression → Value) (b : Bool) (x : Item) (begins : ℕ) (says : StatementKind) → x.instructions ≡ instructions_of says → IsSize v b begins x.offset says x.bytes → IsSized v b x begins says
-sized_as v b x begins (Label name) count h = (h, count)
-sized_as v b x begins (Numbered number) count h = (h, count)
-sized_as v b x begins (Instruction mnemonic operands) count h = (h, count)
-sized_as v b x begins (Directs d) count h = (count, sized_directive v b x begins d h)
+pub sized_as : (v : Expression → Value) (b : Bool) (x : Item) (begins : ℕ) (size : CodeSize) (says : StatementKind) → x.instructions ≡ instructions_of size says → IsSize v b begins x.offset size says x.bytes → IsSized v b x begins size says
+sized_as v b x begins size (Label name) count h = (h, count)
+sized_as v b x begins size (Numbered number) count h = (h, count)
+sized_as v b x begins size (Instruction mnemonic operands) count h = (h, count)
+sized_as v b x begins size (Directs d) count h = (count, sized_directive v b x begins d h)

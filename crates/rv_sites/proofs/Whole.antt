@@ -1,9 +1,6 @@
 -- The code of a whole source.
 
-use Rattle.std.proofs.Common.{◌≡◌, ℕ, ◌+◌, true, List, [], ◌∷◌, drop, Option, Some, Result, Ok, Err, refl, sym, ap, ◌∙◌, subst, append-nil}
-use Rattle.std.specs.Global.{Vec}
-use Rattle.std.specs.List.{AllByRecursion}
-use Rattle.std.specs.Prelude.{IfOk}
+use Rattle.std.proofs.Common.{◌≡◌, ℕ, ◌+◌, Bool, true, Option, List, [], ◌∷◌, drop, inl, inr, Some, Result, Ok, Err, sym, ap, ◌∙◌, subst, append-nil}
 use Rattle.rv_lexer.specs.declared.fault.SourceFault.{SourceFault}
 use Rattle.rv_lexer.specs.declared.fault.SourceFault.TheVariants.{At, OutOfMemory}
 use Rattle.rv_lexer.specs.Fault.{number_of}
@@ -21,11 +18,10 @@ use Rattle.rv_tables.specs.Sections.{offset_of, extent_section}
 use Rattle.rv_unit.specs.Unit.{said, passed}
 use Rattle.rv_source_laws.specs.Located.{Located, located, located_from}
 use Rattle.rv_assemble_laws.specs.InstructionFaults.{is_label}
-use Rattle.rv_assemble_laws.specs.Refusals.{else_fault, code_faults, code_faults_at, code_fault, code_fault_from, size_fault}
-use Rattle.rv_sites.specs.Code.{value_at}
-use Rattle.rv_sites.specs.Coded.{IsCoded, AreCoded}
-use Rattle.rv_sites.specs.Added.{IsAdded, IsCode, IsCodeSoFar, IsSourceCode, Adds}
+use Rattle.rv_assemble_laws.specs.Refusals.{code_faults, code_faults_at, code_fault_from}
+use Rattle.rv_sites.specs.Added.{IsAdded, IsAllCode, IsCodeFault, IsCodeSoFar, IsLong, IsSourceCode, Adds}
 use Rattle.rv_sites.specs.declared.code.Coder.{Coder}
+use Rattle.rv_sites.specs.declared.code.SectionCode.{SectionCode}
 use Rattle.rv_sites.proofs.SoFar.{next_code, wrong_code}
 use Rattle.rv_sites.specs.Measured.{IsExtentAt}
 use Rattle.rv_sites.proofs.Itemized.{home_at}
@@ -35,66 +31,52 @@ use Rattle.rv_sites.proofs.Standing.{StandsAt, located_at}
 abbrev pub CodeTo : List SpecStatement → ℕ → Coder → Type 0
 CodeTo ss i c = IsCodeSoFar (tables ss) (located_from 1 1 at_start ss) (drop i (located_from 1 1 at_start ss)) c
 
-abbrev pub IsCodedBy : Tables → Located → Type 0
-IsCodedBy t s = IsCoded (λ e. value_at t s e) s.kind
+-- the faults of a statement as code, in its section, by where it stands
+abbrev pub faults_in : Tables → ℕ → Section → Standing → SpecStatement → List ℕ
+faults_in t o home p s = code_faults home.executable (λ e. value t true o p e) (is_label t o) s.kind
 
--- the faults of a statement as code, in its section, by its options and by where it stands
-abbrev pub faults_in : Tables → ℕ → Options → Section → Standing → SpecStatement → List ℕ
-faults_in t o options home p s = code_faults options home.executable (λ e. value t true o p e) (is_label t o) s.kind
-
-pub faults_there : (u : SourceUnit) (i : ℕ) (x : Statement) (p : SectionOffset) (e : Extent) (o : Options) → StandsAt u i x p → IsExtentAt u.tables.extents.items p.section e → o ≡ (passed (said u) i).options
-    → faults_in (tables (said u)) (i + 1) o (extent_section e) (offset_of p) (statement_of x) ≡ code_faults_at (tables (said u)) (located_at (said u) i (statement_of x))
-faults_there u i x p e o at there is =
+pub faults_there : (u : SourceUnit) (i : ℕ) (x : Statement) (p : SectionOffset) (e : Extent) → StandsAt u i x p → IsExtentAt u.tables.extents.items p.section e
+    → faults_in (tables (said u)) (i + 1) (extent_section e) (offset_of p) (statement_of x) ≡ code_faults_at (tables (said u)) (located_at (said u) i (statement_of x))
+faults_there u i x p e at there =
     let t = tables (said u) in
     let s = statement_of x in
     let st = located_at (said u) i s in
-    ap (λ (q : Options). faults_in t (i + 1) q (extent_section e) (offset_of p) s) is
-    ∙ ap (λ (h : Section). faults_in t (i + 1) st.options h (offset_of p) s) (home_at u i x p e at there)
-    ∙ ap (λ (r : Standing). faults_in t (i + 1) st.options st.home r s) at.place
+    ap (λ (h : Section). faults_in t (i + 1) h (offset_of p) s) (home_at u i x p e at there)
+    ∙ ap (λ (r : Standing). faults_in t (i + 1) st.home r s) at.place
 
 -- what is added where the statement stands
-added_there : (t : Tables) (o i : ℕ) (c d : Coder) (s : SpecStatement) (p q : Standing) (faults others : List ℕ) → p ≡ q → faults ≡ others
-    → IsAdded c d p.section faults (λ e. value t true o p e) s → IsAdded c d q.section others (λ e. value t true o q e) s
-added_there t o i c d s p q faults others e f h =
-    subst (λ l. IsAdded c d q.section l (λ e. value t true o q e) s) f (subst (λ (r : Standing). IsAdded c d r.section faults (λ e. value t true o r e) s) e h)
+added_there : (t : Tables) (o : ℕ) (rvc on : Bool) (c d : Coder) (s : SpecStatement) (p q : Standing) (faults others : List ℕ) → p ≡ q → faults ≡ others → rvc ≡ on
+    → IsAdded c d p.section faults (λ e. value t true o p e) rvc s → IsAdded c d q.section others (λ e. value t true o q e) on s
+added_there t o rvc on c d s p q faults others e f g h =
+    subst (λ b. IsAdded c d q.section others (λ e. value t true o q e) b s) g
+    (subst (λ l. IsAdded c d q.section l (λ e. value t true o q e) rvc s) f (subst (λ (r : Standing). IsAdded c d r.section faults (λ e. value t true o r e) rvc s) e h))
 
-pub code_more : (u : SourceUnit) (i : ℕ) (x : Statement) (p : SectionOffset) (c d : Coder) (faults : List ℕ) → StandsAt u i x p → CodeTo (said u) i c
-    → faults ≡ code_faults_at (tables (said u)) (located_at (said u) i (statement_of x))
-    → IsAdded c d p.section faults (λ e. value (tables (said u)) true (i + 1) (offset_of p) e) (statement_of x) → CodeTo (said u) (i + 1) d
-code_more u i x p c d faults at h same added =
+pub code_more : (u : SourceUnit) (i : ℕ) (x : Statement) (p : SectionOffset) (rvc : Bool) (c d : Coder) (faults : List ℕ) → StandsAt u i x p → CodeTo (said u) i c
+    → faults ≡ code_faults_at (tables (said u)) (located_at (said u) i (statement_of x)) → rvc ≡ (located_at (said u) i (statement_of x)).options.rvc
+    → IsAdded c d p.section faults (λ e. value (tables (said u)) true (i + 1) (offset_of p) e) rvc (statement_of x) → CodeTo (said u) (i + 1) d
+code_more u i x p rvc c d faults at h same on added =
     let ss = said u in
     let all = located_from 1 1 at_start ss in
-    next_code (tables ss) all (located_at ss i (statement_of x)) (drop (i + 1) all) c d
+    let st = located_at ss i (statement_of x) in
+    next_code (tables ss) all st (drop (i + 1) all) c d
     (subst (λ rest. IsCodeSoFar (tables ss) all rest c) at.next h)
-    (added_there (tables ss) (i + 1) i c d (statement_of x) (offset_of p) (stood (passed ss i) (i + 1) (statement_of x).kind) faults _ at.place same added)
+    (added_there (tables ss) (i + 1) rvc st.options.rvc c d (statement_of x) (offset_of p) (stood (passed ss i) (i + 1) (statement_of x).kind) faults _ at.place same on added)
 
--- all statements of a source are coded where those from an index on are
-abbrev pub CodedTo : List SpecStatement → ℕ → Type 0
-CodedTo ss i =
-    AllByRecursion (IsCodedBy (tables ss)) (drop i (located_from 1 1 at_start ss)) → AllByRecursion (IsCodedBy (tables ss)) (located_from 1 1 at_start ss)
-
-pub coded_more : (u : SourceUnit) (i : ℕ) (x : Statement) (p : SectionOffset) (c d : Coder) (faults : List ℕ) → StandsAt u i x p → CodedTo (said u) i
-    → IsAdded c d p.section faults (λ e. value (tables (said u)) true (i + 1) (offset_of p) e) (statement_of x) → CodedTo (said u) (i + 1)
-coded_more u i x p c d faults at h added rest =
-    let ss = said u in
-    let there = added_there (tables ss) (i + 1) i c d (statement_of x) (offset_of p) (stood (passed ss i) (i + 1) (statement_of x).kind) faults faults at.place refl added in
-    h (subst (λ l. AllByRecursion (IsCodedBy (tables ss)) l) (sym at.next) (there.coded, rest))
-
-abbrev fault_at : ℕ → ℕ → Option Fault
-fault_at code line = Some (record { code = code; line = line })
-
-fault_first : (ss : List SpecStatement) (code line at : ℕ) → code_fault ss ≡ Some (record { code = code; line = line }) → at ≡ line → else_fault (code_fault ss) (size_fault ss) ≡ Some (record { code = code; line = at })
-fault_first ss code line at e f = ap (λ a. else_fault a (size_fault ss)) e ∙ ap (fault_at code) (sym f)
+fault_first : (ss : List SpecStatement) (code line at : ℕ) → code_fault_from (tables ss) (located (ss ∷ [])) ≡ Some (record { code = code; line = line }) → at ≡ line → IsCodeFault ss (record { code = code; line = at })
+fault_first ss code line at e f = inl (e ∙ ap (λ n. fault_at code n) (sym f))
+  where
+    fault_at : ℕ → ℕ → Option Fault
+    fault_at code line = Some (record { code = code; line = line })
 
 pub one_file : (ss : List SpecStatement) → located (ss ∷ []) ≡ located_from 1 1 at_start ss
 one_file ss = append-nil (located_from 1 1 at_start ss)
 
 -- a statement with a fault is the first
-pub code_wrong : (u : SourceUnit) (i : ℕ) (x : Statement) (p : SectionOffset) (c d : Coder) (faults : List ℕ) (fault : SourceFault) → StandsAt u i x p → CodeTo (said u) i c
+pub code_wrong : (u : SourceUnit) (i : ℕ) (x : Statement) (p : SectionOffset) (rvc : Bool) (c d : Coder) (faults : List ℕ) (fault : SourceFault) → StandsAt u i x p → CodeTo (said u) i c
     → faults ≡ code_faults_at (tables (said u)) (located_at (said u) i (statement_of x))
-    → Adds c d p.section faults (λ e. value (tables (said u)) true (i + 1) (offset_of p) e) (statement_of x) (Err fault) → IsSourceCode (said u) (Err fault)
-code_wrong u i x p c d faults OutOfMemory at h same wrong = tt
-code_wrong u i x p c d faults (At code line) at h same wrong =
+    → Adds c d p.section faults (λ e. value (tables (said u)) true (i + 1) (offset_of p) e) rvc (statement_of x) (Err fault) → IsSourceCode (said u) (Err fault)
+code_wrong u i x p rvc c d faults OutOfMemory at h same wrong = tt
+code_wrong u i x p rvc c d faults (At code line) at h same wrong =
     let ss = said u in
     let all = located_from 1 1 at_start ss in
     fault_first ss (number_of code) x.line line
@@ -104,18 +86,12 @@ code_wrong u i x p c d faults (At code line) at h same wrong =
     (ap lowest (sym same) ∙ wrong.0))
     wrong.1
 
-pub code_whole : (ss : List SpecStatement) (i : ℕ) (c : Coder) (r : Result (Vec (Vec ℕ)) SourceFault) → drop i (located_from 1 1 at_start ss) ≡ [] → CodeTo ss i c
-    → ((t : Tables) (all : List Located) → IsCodeSoFar t all [] c → IsCode t all r) → IsSourceCode ss r
+pub code_whole : (ss : List SpecStatement) (i : ℕ) (c : Coder) (r : Result SectionCode SourceFault) → drop i (located_from 1 1 at_start ss) ≡ [] → CodeTo ss i c
+    → ((t : Tables) (all : List Located) → IsCodeSoFar t all [] c → IsAllCode t all r) → IsSourceCode ss r
 code_whole ss i c r none h finish =
-    go r (subst (λ l. IsCode (tables ss) l r) (sym (one_file ss)) (finish (tables ss) (located_from 1 1 at_start ss) (subst (λ l. IsCodeSoFar (tables ss) (located_from 1 1 at_start ss) l c) none h)))
+    go r (subst (λ l. IsAllCode (tables ss) l r) (sym (one_file ss)) (finish (tables ss) (located_from 1 1 at_start ss) (subst (λ l. IsCodeSoFar (tables ss) (located_from 1 1 at_start ss) l c) none h)))
   where
-    go : (r : Result (Vec (Vec ℕ)) SourceFault) → IsCode (tables ss) (located (ss ∷ [])) r → IsSourceCode ss r
-    go (Ok sections) h = h
-    go (Err (At code line)) h = ap (λ a. else_fault a (size_fault ss)) h.0 ∙ h.1
-    go (Err OutOfMemory) h = tt
-
--- after the last statement all are coded
-pub coded_whole : (ss : List SpecStatement) (i : ℕ) (r : Result (Vec (Vec ℕ)) SourceFault) → drop i (located_from 1 1 at_start ss) ≡ [] → CodedTo ss i → IfOk r (λ sections. AreCoded ss)
-coded_whole ss i (Ok sections) none h =
-    subst (λ l. AllByRecursion (IsCodedBy (tables ss)) l) (sym (one_file ss)) (h (subst (λ l. AllByRecursion (IsCodedBy (tables ss)) l) (sym none) tt))
-coded_whole ss i (Err fault) none h = tt
+    go : (r : Result SectionCode SourceFault) → IsAllCode (tables ss) (located (ss ∷ [])) r → IsSourceCode ss r
+    go (Ok found) h = h
+    go (Err (At code line)) h = inr (h.faults, record { sizes = h.sizes; are_sizes = h.are_sizes; fault = h.fault })
+    go (Err OutOfMemory) h = absurd h

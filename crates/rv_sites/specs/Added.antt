@@ -1,67 +1,91 @@
 -- The code of a source as its statements add to it, one after the other.
 
-use Rattle.std.specs.Prelude.{◌≡◌, ℕ, List, [], ◌∷◌, ◌++◌, length, Result, Ok, Err, Some, None, ⊤}
+use Rattle.std.specs.Prelude.{◌≡◌, ◌⊎◌, ℕ, Bool, List, [], ◌∷◌, ◌++◌, map, length, Result, Ok, Err, Some, None, ⊤}
 use Rattle.std.specs.Global.{Vec}
 use Rattle.rv_text_laws.specs.Values as values
 use Rattle.rv_lexer.specs.declared.fault.SourceFault.{SourceFault}
 use Rattle.rv_lexer.specs.declared.fault.SourceFault.TheVariants.{At, OutOfMemory}
 use Rattle.rv_lexer.specs.Fault.{number_of}
 use Rattle.rv_statement.specs.Statement.{Expression, Statement}
-use Rattle.rv_unit_laws.specs.Faults.{lowest}
+use Rattle.rv_unit_laws.specs.Faults.{Fault, lowest}
 use Rattle.rv_unit_laws.specs.Tables.{Tables, tables}
 use Rattle.rv_source_laws.specs.Located.{Located, located}
-use Rattle.rv_assemble_laws.specs.Refusals.{code_fault_from, size_fault_from, code_fault, size_fault, else_fault, code_size}
-use Rattle.rv_instruction.specs.Code.{code_said}
-use Rattle.rv_sites.specs.Code.{GrowsBy, bytes_in, section_code, full_fault, full_at}
-use Rattle.rv_sites.specs.Coded.{IsCoded}
+use Rattle.rv_assemble_laws.specs.Coded.{joined}
+use Rattle.rv_assemble_laws.specs.Refusals.{code_fault_from, size_fault_from, code_fault, else_fault, AreCodeSizes, IsTooLong}
+use Rattle.rv_sites.specs.Code.{GrowsBy, bytes_in, size_of, bytes_of_codes, section_code, full_fault, full_at}
+use Rattle.rv_sites.specs.Coded.{IsCoded, AreCoded}
 use Rattle.rv_sites.specs.declared.code.Coder.{Coder}
+use Rattle.rv_sites.specs.declared.code.SectionCode.{SectionCode}
+use Rattle.rv_sites.specs.declared.item.CodeSize.{CodeSize}
 
--- a statement without faults as code, in a section, by the values of its expressions
+-- a statement without faults as code, in a section, by the values of its expressions, where
+-- compressed code is on or off
 pub record IsAdded (old new : Coder) (section : ℕ) (faults : List ℕ) (v : Expression → values.Value)
-    (s : Statement) : Type 0 where
-  pub coded : IsCoded v s.kind
+    (rvc : Bool) (s : Statement) : Type 0 where
   pub sound : faults ≡ []
-  pub size : length (code_said v s.kind) ≡ code_size s.kind
-  pub grows : GrowsBy old.sections.items new.sections.items section (code_said v s.kind)
+  pub coded : List (List ℕ)
+  pub is : IsCoded v rvc s.kind coded
+  pub grows : GrowsBy old.sections.items new.sections.items section (joined coded)
+  pub counts : new.sizes.items ≡ old.sizes.items ++ size_of coded ∷ []
   pub full : full_fault new.full
       ≡ else_fault (full_fault old.full)
       (full_at s.line (length (bytes_in new.sections.items section)))
 
 -- a statement with these faults is added, where it has none, or refused by the lowest code of them
 abbrev pub Adds :
-    Coder → Coder → ℕ → List ℕ → (Expression → values.Value) → Statement
+    Coder → Coder → ℕ → List ℕ → (Expression → values.Value) → Bool → Statement
     → Result ⊤ SourceFault → Type 0
-Adds old new section faults v s (Ok done) = IsAdded old new section faults v s
-Adds old new section faults v s (Err (At code at)) =
+Adds old new section faults v rvc s (Ok done) = IsAdded old new section faults v rvc s
+Adds old new section faults v rvc s (Err (At code at)) =
     (lowest faults ≡ Some (number_of code)) × (at ≡ s.line)
-Adds old new section faults v s (Err OutOfMemory) = Unit {0}
+Adds old new section faults v rvc s (Err OutOfMemory) = Unit {0}
 
--- what is there so far and what the rest gives make up the whole
+-- the code of the statements so far; with any code of the rest it makes up the whole
 pub record IsCodeSoFar (t : Tables) (all rest : List Located) (c : Coder) : Type 0 where
   pub faults : code_fault_from t rest ≡ code_fault_from t all
-  pub sizes :
+  pub codes : List (List (List ℕ))
+  pub counts : c.sizes.items ≡ map size_of codes
+  pub coded : (more : List (List (List ℕ))) → AreCoded t rest more → AreCoded t all (codes ++ more)
+  pub long : (more : List (List (List ℕ))) →
       else_fault (full_fault c.full)
-      (size_fault_from (λ j. length (bytes_in c.sections.items j)) rest)
-      ≡ size_fault_from (λ j. 0) all
-  pub bytes : (j : ℕ) → bytes_in c.sections.items j ++ section_code t j rest ≡ section_code t j all
+      (size_fault_from (λ j. length (bytes_in c.sections.items j)) rest (bytes_of_codes more))
+      ≡ size_fault_from (λ j. 0) all (bytes_of_codes (codes ++ more))
+  pub bytes : (more : List (List (List ℕ))) (j : ℕ) →
+      bytes_in c.sections.items j ++ section_code j rest more ≡ section_code j all (codes ++ more)
 
--- the code of each section, or the first statement whose end passes the longest section
-abbrev pub IsCode : Tables → List Located → Result (Vec (Vec ℕ)) SourceFault → Type 0
-IsCode t all (Ok sections) =
-    (code_fault_from t all ≡ None) × (size_fault_from (λ j. 0) all ≡ None)
-    × ((j : ℕ) → bytes_in sections.items j ≡ section_code t j all)
-IsCode t all (Err (At code line)) =
-    (code_fault_from t all ≡ None)
-    × (size_fault_from (λ j. 0) all ≡ Some (record { code = number_of code; line = line }))
-IsCode t all (Err OutOfMemory) = ⊥
+-- the code of each section and the size of each statement's; none is too long
+pub record IsWhole (t : Tables) (all : List Located) (sections : List (Vec ℕ))
+    (sizes : List CodeSize) : Type 0 where
+  pub faults : code_fault_from t all ≡ None
+  pub codes : List (List (List ℕ))
+  pub counts : sizes ≡ map size_of codes
+  pub coded : AreCoded t all codes
+  pub short : size_fault_from (λ j. 0) all (bytes_of_codes codes) ≡ None
+  pub bytes : (j : ℕ) → bytes_in sections j ≡ section_code j all codes
 
--- the code of each section of a source, or the first fault of its code and of the sizes of code;
--- memory may run out
-abbrev pub IsSourceCode : List Statement → Result (Vec (Vec ℕ)) SourceFault → Type 0
-IsSourceCode ss (Ok sections) =
-    (code_fault ss ≡ None) × (size_fault ss ≡ None)
-    × ((j : ℕ) → bytes_in sections.items j ≡ section_code (tables ss) j (located (ss ∷ [])))
+-- a section of code becomes too long, and this is where
+pub record IsLong (t : Tables) (all : List Located) (f : Fault) : Type 0 where
+  pub faults : code_fault_from t all ≡ None
+  pub sizes : List ℕ
+  pub are_sizes : AreCodeSizes t all sizes
+  pub fault : size_fault_from (λ j. 0) all sizes ≡ Some f
+
+-- the code of all statements, or the first whose end passes the longest section
+abbrev pub IsAllCode : Tables → List Located → Result SectionCode SourceFault → Type 0
+IsAllCode t all (Ok c) = IsWhole t all c.sections.items c.sizes.items
+IsAllCode t all (Err (At code line)) =
+    IsLong t all (record { code = number_of code; line = line })
+IsAllCode t all (Err OutOfMemory) = ⊥
+
+-- the first fault of a source as code, or of the sizes of its code
+abbrev pub IsCodeFault : List Statement → Fault → Type 0
+IsCodeFault ss f = (code_fault ss ≡ Some f) ⊎ ((code_fault ss ≡ None) × IsTooLong ss f)
+
+-- the code of a source, or the first fault of its code and of the sizes of code; memory may run
+-- out
+abbrev pub IsSourceCode : List Statement → Result SectionCode SourceFault → Type 0
+IsSourceCode ss (Ok c) =
+    IsWhole (tables ss) (located (ss ∷ [])) c.sections.items c.sizes.items
 IsSourceCode ss (Err (At code line)) =
-    else_fault (code_fault ss) (size_fault ss)
-    ≡ Some (record { code = number_of code; line = line })
+    IsCodeFault ss (record { code = number_of code; line = line })
 IsSourceCode ss (Err OutOfMemory) = Unit {0}

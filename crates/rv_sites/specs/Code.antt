@@ -1,8 +1,7 @@
 -- The bytes of code of each section.
 
-use Rattle.std.specs.Prelude.{◌≡◌, ℕ, true, ◌==◌, List, [], ◌∷◌, ◌++◌, flat_map, filter, Option, Some, None, length, nat_lt, slice_get, if◌then◌else◌}
+use Rattle.std.specs.Prelude.{◌≡◌, ℕ, true, ◌==◌, List, [], ◌∷◌, ◌++◌, map, Option, Some, None, length, nat_lt, slice_get, if◌then◌else◌}
 use Rattle.std.specs.Global.{Vec}
-use Rattle.rv_isa.specs.declared.instruction.Inst.{Inst}
 use Rattle.rv_text_laws.specs.Codes.{limit}
 use Rattle.rv_text_laws.specs.Values as values
 use Rattle.rv_statement.specs.Statement.{Expression}
@@ -10,8 +9,8 @@ use Rattle.rv_unit_laws.specs.Faults.{Fault, at_line}
 use Rattle.rv_unit_laws.specs.Tables.{Tables, value, longest_section}
 use Rattle.rv_source_laws.specs.Located.{Located}
 use Rattle.rv_source_laws.specs.Program.{place_of}
-use Rattle.rv_assemble_laws.specs.Templates.{words}
-use Rattle.rv_instruction.specs.Code.{code_said}
+use Rattle.rv_assemble_laws.specs.Coded.{joined}
+use Rattle.rv_sites.specs.declared.item.CodeSize.{CodeSize}
 
 -- the bytes of a section by its place among the sections
 abbrev pub bytes_of_some : Option (Vec ℕ) → List ℕ
@@ -28,18 +27,25 @@ GrowsBy old new section more =
     × ((j : ℕ) → bytes_in new j
     ≡ (if j == section then bytes_in old j ++ more else bytes_in old j))
 
--- the word of an instruction, if there is one
-abbrev pub word_of : Option Inst → List ℕ
-word_of None = []
-word_of (Some i) = words (Some (i ∷ []))
+-- ---- the code of statements, each part by part
 
--- the code of the statements of a section
 abbrev pub value_at : Tables → Located → Expression → values.Value
 value_at t s e = value t true s.ordinal (place_of s) e
 
-abbrev pub section_code : Tables → ℕ → List Located → List ℕ
-section_code t section ss =
-    flat_map (λ s. code_said (value_at t s) s.kind) (filter (λ s. section == s.section) ss)
+-- how large code is
+abbrev pub size_of : List (List ℕ) → CodeSize
+size_of coded = record { bytes = length (joined coded); instructions = length coded }
+
+-- how many bytes each statement has in code
+abbrev pub bytes_of_codes : List (List (List ℕ)) → List ℕ
+bytes_of_codes codes = map (λ coded. length (joined coded)) codes
+
+-- the code of the statements of a section
+abbrev pub section_code : ℕ → List Located → List (List (List ℕ)) → List ℕ
+section_code section [] codes = []
+section_code section (s ∷ ss) [] = []
+section_code section (s ∷ ss) (coded ∷ codes) =
+    (if section == s.section then joined coded else []) ++ section_code section ss codes
 
 -- a section of code that is too long, at a line
 abbrev pub full_fault : Option ℕ → Option Fault

@@ -12,6 +12,7 @@ use Rattle.rv_assemble_laws.specs.Templates.{Template, contribution_templates}
 use Rattle.rv_assemble_laws.specs.Sites.{Site, Part, form, part_of, part_bytes, sites_in}
 use Rattle.rv_assemble_laws.specs.Fields.{Field, fields_from}
 use Rattle.rv_sites.specs.declared.field.OpenField.{OpenField}
+use Rattle.rv_sites.specs.declared.item.CodeSize.{CodeSize}
 use Rattle.rv_sites.specs.declared.item.Item.{Item}
 use Rattle.rv_sites.specs.Code.{bytes_in}
 use Rattle.rv_sites.specs.Draft.{field_of}
@@ -61,15 +62,16 @@ data_fields t s =
 abbrev pub data_bytes : Tables → ℕ → List Site → List ℕ
 data_bytes t section sites = flat_map part_bytes (flat_map (data_parts t) (sites_in section sites))
 
--- the sites of a source with these items
+-- the sites of a source with these items, without their code
 abbrev pub sites : List Statement → List Item → List Site
-sites ss is = sites_of (located_from 1 1 at_start ss) is
+sites ss is = sites_of (located_from 1 1 at_start ss) is []
 
 -- the items stand in their sections, and have their sizes
 pub record IsLaid (ss : List Statement) (is : List Item) : Type 0 where
   pub last : ℕ → ℕ
   pub items : AreItems 1 at_start (λ j. 0) ss is last
-  pub sized : AreSized (tables ss) 1 at_start ss is
+  pub sizes : List CodeSize
+  pub sized : AreSized (tables ss) 1 at_start ss is sizes
   pub low : (j : ℕ) → last j ≤ longest_section
 
 -- what is there so far, from these sections on, and what the statements from an index on

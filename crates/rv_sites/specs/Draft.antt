@@ -16,11 +16,11 @@ use Rattle.rv_assemble_laws.specs.Templates.{IsTemplate}
 use Rattle.rv_assemble_laws.specs.Sites.{Site, form, part_bytes, parts, sites_in, Tile, end_of, HasSize}
 use Rattle.rv_assemble_laws.specs.IsObjectOf.{StandsInData}
 use Rattle.rv_assemble_laws.specs.Fields.{Field, fields}
-use Rattle.rv_assemble_laws.specs.Refusals.{code_fault, size_fault, else_fault}
 pub use Rattle.rv_sites.specs.Code.{bytes_in}
 use Rattle.rv_sites.specs.declared.item.Item.{Item}
 use Rattle.rv_sites.specs.declared.field.OpenField.{OpenField}
 use Rattle.rv_sites.specs.declared.draft.Draft.{Draft}
+use Rattle.rv_sites.specs.Added.{IsCodeFault}
 
 -- where a statement stands
 abbrev pub item_of : Site → Item
@@ -85,7 +85,5 @@ pub record IsDraft (ss : List Statement) (d : Draft) : Type 0 where
 
 -- the first fault of a source as code, or of the sizes of its code; memory may run out
 abbrev pub IsRefused : List Statement → SourceFault → Type 0
-IsRefused ss (At code line) =
-    else_fault (code_fault ss) (size_fault ss)
-    ≡ Some (record { code = number_of code; line = line })
+IsRefused ss (At code line) = IsCodeFault ss (record { code = number_of code; line = line })
 IsRefused ss OutOfMemory = Unit {0}

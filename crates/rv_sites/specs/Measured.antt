@@ -7,7 +7,8 @@ use Rattle.rv_unit_laws.specs.Tables.{alignment_of, padding, string_bytes, longe
 use Rattle.rv_tables.specs.declared.section.Extent.{Extent}
 use Rattle.rv_tables.specs.Sections.{extent_section}
 use Rattle.rv_source_laws.specs.Fits.{is_low}
-use Rattle.rv_assemble_laws.specs.Written.{is_constant}
+use Rattle.rv_assemble_laws.specs.Coded.{is_constant}
+use Rattle.rv_sites.specs.declared.item.CodeSize.{CodeSize}
 use Rattle.rv_sites.specs.declared.item.Item.{Item}
 use Rattle.rv_assemble_laws.specs.Sites.{IsMultiple}
 use Rattle.rv_sites.specs.Sized.{IsPadded, IsAligned, IsSized, IsSizedDirective}
@@ -24,18 +25,19 @@ stretch offset bytes = record {
 }
 
 -- the bytes of a statement that has a place, by the values of its expressions: in a section of code
--- or not, that asks to begin at this multiple, after `offset` bytes
-abbrev pub IsSize : (Expression → Value) → Bool → ℕ → ℕ → StatementKind → ℕ → Type 0
-IsSize v executable begins offset (Label name) bytes = bytes ≡ 0
-IsSize v executable begins offset (Numbered number) bytes = bytes ≡ 0
-IsSize v executable begins offset (Instruction mnemonic operands) bytes = bytes ≡ 4
-IsSize v executable begins offset (Directs directive) bytes =
+-- or not, that asks to begin at this multiple, after `offset` bytes; an instruction has the size of
+-- its code
+abbrev pub IsSize : (Expression → Value) → Bool → ℕ → ℕ → CodeSize → StatementKind → ℕ → Type 0
+IsSize v executable begins offset size (Label name) bytes = bytes ≡ 0
+IsSize v executable begins offset size (Numbered number) bytes = bytes ≡ 0
+IsSize v executable begins offset size (Instruction mnemonic operands) bytes = bytes ≡ size.bytes
+IsSize v executable begins offset size (Directs directive) bytes =
     IsSizedDirective v executable (stretch offset bytes) begins directive
 
 -- how many instructions a statement is
-abbrev pub instructions_of : StatementKind → ℕ
-instructions_of (Instruction mnemonic operands) = 1
-instructions_of _ = 0
+abbrev pub instructions_of : CodeSize → StatementKind → ℕ
+instructions_of size (Instruction mnemonic operands) = size.instructions
+instructions_of size _ = 0
 
 -- the section at a place, with the multiple at which it asks to begin
 pub record IsExtentAt (extents : List Extent) (place : ℕ) (e : Extent) : Type 0 where
@@ -77,11 +79,11 @@ HasSize v executable begins offset (Directs directive) =
     HasSizeDirective v executable begins offset directive
 HasSize v executable begins offset _ = ⊤
 
--- and its section has room for it
+-- and its section has room for it, where its code has this size
 pub record HasRoom (v : Expression → Value) (executable : Bool) (begins offset : ℕ)
-    (says : StatementKind) : Type 0 where
+    (code : CodeSize) (says : StatementKind) : Type 0 where
   pub size : HasSize v executable begins offset says
-  pub room : (n : ℕ) → IsSize v executable begins offset says n → offset + n ≤ longest_section
+  pub room : (n : ℕ) → IsSize v executable begins offset code says n → offset + n ≤ longest_section
 
 -- ---- in a section with its bytes and the multiple at which it asks to begin
 
@@ -100,15 +102,16 @@ abbrev pub CanAlignIn : Extent → Value → ℕ → Option ℕ → Type 0
 CanAlignIn e v offset alignment =
     CanAlign v e.section.executable e.alignment offset alignment
 
-abbrev pub IsSizeIn : Extent → (Expression → Value) → ℕ → StatementKind → ℕ → Type 0
-IsSizeIn e v offset kind bytes = IsSize v e.section.executable e.alignment offset kind bytes
+abbrev pub IsSizeIn : Extent → (Expression → Value) → ℕ → CodeSize → StatementKind → ℕ → Type 0
+IsSizeIn e v offset code kind bytes =
+    IsSize v e.section.executable e.alignment offset code kind bytes
 
 abbrev pub HasSizeIn : Extent → (Expression → Value) → ℕ → StatementKind → Type 0
 HasSizeIn e v offset kind = HasSize v e.section.executable e.alignment offset kind
 
-abbrev pub HasRoomIn : Extent → (Expression → Value) → ℕ → StatementKind → Type 0
-HasRoomIn e v offset kind = HasRoom v e.section.executable e.alignment offset kind
+abbrev pub HasRoomIn : Extent → (Expression → Value) → ℕ → CodeSize → StatementKind → Type 0
+HasRoomIn e v offset code kind = HasRoom v e.section.executable e.alignment offset code kind
 
 -- the item of a statement that has a place
-abbrev pub IsSizedIn : Extent → (Expression → Value) → Item → StatementKind → Type 0
-IsSizedIn e v x kind = IsSized v e.section.executable x e.alignment kind
+abbrev pub IsSizedIn : Extent → (Expression → Value) → Item → CodeSize → StatementKind → Type 0
+IsSizedIn e v x code kind = IsSized v e.section.executable x e.alignment code kind

@@ -1,12 +1,13 @@
 -- The sizes of statements as their items have them, by the values of their expressions.
 
-use Rattle.std.specs.Prelude.{◌≡◌, ℕ, suc, ◌*◌, Bool, true, false, ⊤, List, ◌∷◌, length, Option}
+use Rattle.std.specs.Prelude.{◌≡◌, ℕ, suc, ◌*◌, Bool, true, false, ⊤, List, [], ◌∷◌, length, map, Option}
 use Rattle.rv_text_laws.specs.Values.{Value, Constant}
 use Rattle.rv_statement.specs.Statement.{StatementKind, Label, Numbered, Instruction, Directs, Statement, Expression, Directive, Sets, Aligns_to_power, Aligns_to_bytes, Values, Strings, Zeros}
 use Rattle.rv_unit_laws.specs.Tables.{Tables, after, alignment_of, padding, string_bytes, alignment_at}
 use Rattle.rv_source_laws.specs.Located.{located_now}
 use Rattle.rv_source_laws.specs.Fits.{is_low}
-use Rattle.rv_assemble_laws.specs.Written.{is_constant}
+use Rattle.rv_assemble_laws.specs.Coded.{is_constant}
+use Rattle.rv_sites.specs.declared.item.CodeSize.{CodeSize}
 use Rattle.rv_sites.specs.declared.item.Item.{Item}
 use Rattle.rv_assemble_laws.specs.Sites.{IsMultiple}
 use Rattle.rv_sites.specs.Code.{value_at}
@@ -36,19 +37,33 @@ IsSizedDirective v executable i begins (Aligns_to_bytes e) =
     IsAligned (v e) executable i begins (alignment_of v (Aligns_to_bytes e))
 IsSizedDirective v executable i begins _ = ⊤
 
--- an instruction is one, and has four bytes
-abbrev pub IsSized : (Expression → Value) → Bool → Item → ℕ → StatementKind → Type 0
-IsSized v executable i begins (Label name) = (i.bytes ≡ 0) × (i.instructions ≡ 0)
-IsSized v executable i begins (Numbered number) = (i.bytes ≡ 0) × (i.instructions ≡ 0)
-IsSized v executable i begins (Instruction mnemonic operands) = (i.bytes ≡ 4) × (i.instructions ≡ 1)
-IsSized v executable i begins (Directs directive) =
+-- an instruction has the size of its code
+abbrev pub IsSized : (Expression → Value) → Bool → Item → ℕ → CodeSize → StatementKind → Type 0
+IsSized v executable i begins size (Label name) = (i.bytes ≡ 0) × (i.instructions ≡ 0)
+IsSized v executable i begins size (Numbered number) = (i.bytes ≡ 0) × (i.instructions ≡ 0)
+IsSized v executable i begins size (Instruction mnemonic operands) =
+    (i.bytes ≡ size.bytes) × (i.instructions ≡ size.instructions)
+IsSized v executable i begins size (Directs directive) =
     (i.instructions ≡ 0) × IsSizedDirective v executable i begins directive
+
+-- the size of the first statement's code, and those after it, where there are some
+abbrev pub first_size : List CodeSize → CodeSize
+first_size [] = record { bytes = 0; instructions = 0 }
+first_size (size ∷ sizes) = size
+
+abbrev pub other_sizes : List CodeSize → List CodeSize
+other_sizes [] = []
+other_sizes (size ∷ sizes) = sizes
+
+-- the bytes of each statement in code
+abbrev pub bytes_of_sizes : List CodeSize → List ℕ
+bytes_of_sizes sizes = map (λ (size : CodeSize). size.bytes) sizes
 
 -- of each statement that has a place: `all` are the tables of the whole source, `t` those before
 -- the statement
-abbrev pub AreSized : Tables → ℕ → Tables → List Statement → List Item → Type 0
-AreSized all k t (s ∷ ss) (i ∷ is) =
+abbrev pub AreSized : Tables → ℕ → Tables → List Statement → List Item → List CodeSize → Type 0
+AreSized all k t (s ∷ ss) (i ∷ is) sizes =
     ((located_now 1 k t s).placed ≡ true → IsSized (λ e. value_at all (located_now 1 k t s) e)
-    (located_now 1 k t s).home.executable i (alignment_at all i.section) s.kind)
-    × AreSized all (suc k) (after t k s.kind) ss is
-AreSized all k t ss is = ⊤
+    (located_now 1 k t s).home.executable i (alignment_at all i.section) (first_size sizes) s.kind)
+    × AreSized all (suc k) (after t k s.kind) ss is (other_sizes sizes)
+AreSized all k t ss is sizes = ⊤

@@ -1,53 +1,88 @@
-//! The code of a source's sections: the words of its instructions, one after another.
+//! The code of a source's sections: its instructions as they lie in memory, one after another.
 
-ghost use Rattle.std.specs.Prelude.{◌≡◌, ◌<◌, ℕ, ◌+◌, Bool, true, List, Some, Ok, [], ◌∷◌, length, IfOk, IfSome};
-ghost use Rattle.rv_isa.specs.Ranges.{IsValid};
-ghost use Rattle.rv_text_laws.specs.Expression.{Primary};
+ghost use Rattle.std.specs.Prelude.{◌≡◌, ◌<◌, ◌≤◌, ℕ, ◌+◌, ◌++◌, Bool, List, [], length, IfOk, OnOk};
 ghost use Rattle.rv_text_laws.specs.Values as values;
 ghost use Rattle.rv_statement.specs.Statement.{Expression};
 ghost use Rattle.rv_statement.specs.View.{statement_of};
-ghost use Rattle.rv_unit_laws.specs.Options.{Options};
 ghost use Rattle.rv_unit_laws.specs.Tables.{Tables};
 ghost use Rattle.rv_unit.specs.Unit.{said, IsFilled, IsScope};
-ghost use Rattle.rv_assemble_laws.specs.Templates.{words};
 ghost use Rattle.rv_source_laws.specs.Located.{Located};
-ghost use Rattle.rv_assemble_laws.specs.Refusals.{code_faults, else_fault};
-ghost use Rattle.rv_sites.specs.Added.{Adds, IsCode, IsCodeSoFar, IsSourceCode};
-ghost use Rattle.rv_sites.specs.Coded.{AreCoded};
+ghost use Rattle.rv_assemble_laws.specs.Coded.{joined};
+ghost use Rattle.rv_assemble_laws.specs.Refusals.{else_fault};
+ghost use Rattle.rv_sites.specs.Added.{Adds, IsAllCode, IsCodeSoFar, IsSourceCode};
 ghost use Rattle.rv_sites.specs.Code as laws;
-ghost use Rattle.rv_instruction.specs.Code.{Codes};
-ghost use Rattle.rv_sites.specs.Code.{GrowsBy, word_of, full_fault, full_at};
+ghost use Rattle.rv_instruction.specs.Code.{encoded_bytes, coded_by, HasCode};
+ghost use Rattle.rv_sites.specs.Code.{GrowsBy, full_fault, full_at};
 ghost use Rattle.rv_instruction.specs.Scoped.{values_at, faults_at};
 
+use crate::item::CodeSize;
 use crate::items::extent_at;
-use rv_encode::encode;
-use rv_instruction::instruction;
-use rv_isa::Inst;
+use rv_instruction::{Encoded, code as code_of};
 use rv_statement::Statement;
 use rv_text::{SourceCode, SourceFault};
 use rv_unit::{LONGEST_SECTION, Scope, SectionOffset, Unit};
 use std::alloc::{AllocError, Global};
 
-/// Adds the word of an instruction to the code of a section.
-fn put(sections: &mut [Vec<u8>], section: u32, inst: Inst) -> Result<(), AllocError>
-    requires valid { IsValid inst }
-    requires section { section < length sections.old }
-    ensures { IfOk result
-        (λ _. GrowsBy sections.old sections.new section (words (Some (inst ∷ [])))) }
+/// Adds an instruction as it lies in memory.
+fn put(bytes: &mut Vec<u8>, encoded: Encoded) -> Result<(), AllocError>
+    ensures { OnOk result (bytes.new.items ≡ bytes.old.items ++ encoded_bytes encoded) }
 {
-    let word = encode(inst).to_le_bytes();
-    sections[section as usize].extend_from_slice(word.as_slice())
+    match encoded {
+        Encoded::Parcel(parcel) => bytes.extend_from_slice(parcel.to_le_bytes().as_slice()),
+        Encoded::Word(word) => bytes.extend_from_slice(word.to_le_bytes().as_slice()),
+    }
 }
 
-/// Adds the word of an instruction, if there is one.
-fn put_found(sections: &mut [Vec<u8>], section: u32, found: Option<Inst>) -> Result<(), AllocError>
-    requires valid { IfSome found IsValid }
-    requires section { section < length sections.old }
-    ensures { IfOk result (λ _. GrowsBy sections.old sections.new section (word_of found)) }
+/// Adds the instructions of a statement.
+fn put_all(bytes: &mut Vec<u8>, code: &[Encoded]) -> Result<(), AllocError>
+    ensures { OnOk result (bytes.new.items ≡ bytes.old.items ++ joined (coded_by code.now)) }
 {
-    match found {
-        Some(inst) => put(sections, section, inst),
-        None => Ok(()),
+    for encoded in code {
+        put(bytes, *encoded)?;
+    }
+    Ok(())
+}
+
+/// Adds the instructions of a statement to the code of a section.
+fn put_section(sections: &mut [Vec<u8>], section: u32, code: &[Encoded]) -> Result<(), AllocError>
+    requires { section < length sections.old }
+    ensures { OnOk result
+        (GrowsBy sections.old sections.new section (joined (coded_by code.now))) }
+{
+    put_all(&mut sections[section as usize], code)
+}
+
+/// How many bytes an instruction has in memory.
+fn width(encoded: Encoded) -> u8
+    ensures size { result ≡ length (encoded_bytes encoded) }
+    ensures low { result ≤ 4 }
+{
+    match encoded {
+        Encoded::Parcel(_) => 2,
+        Encoded::Word(_) => 4,
+    }
+}
+
+/// How many bytes the instructions of a statement have.
+fn bytes_of(code: &[Encoded]) -> u8
+    requires { length code.now ≤ 8 }
+    ensures { result ≡ length (joined (coded_by code.now)) }
+{
+    let mut bytes = 0;
+    for encoded in code {
+        bytes += width(*encoded);
+    }
+    bytes
+}
+
+/// How large the code of a statement is.
+fn size_of(code: &[Encoded]) -> CodeSize
+    requires { length code.now ≤ 8 }
+    ensures { result ≡ laws.size_of (coded_by code.now) }
+{
+    CodeSize {
+        bytes: bytes_of(code),
+        instructions: code.len() as u8,
     }
 }
 
@@ -83,11 +118,22 @@ fn full_behind(full: Option<u32>, bytes: usize, line: u32) -> Option<u32>
     }
 }
 
+/// The code of a source.
+#[derive(Debug, Drop)]
+pub(crate) struct SectionCode {
+    /// The bytes of each section.
+    pub(crate) sections: Vec<Vec<u8>>,
+    /// The size of each statement's code.
+    pub(crate) sizes: Vec<CodeSize>,
+}
+
 /// The code so far of a source's statements.
 #[derive(Debug, Drop)]
 pub(crate) struct Coder {
     /// The bytes of each section.
     pub(crate) sections: Vec<Vec<u8>>,
+    /// The size of each statement's code.
+    pub(crate) sizes: Vec<CodeSize>,
     /// The line of the first statement after which its section is too long.
     pub(crate) full: Option<u32>,
 }
@@ -102,24 +148,27 @@ impl Coder {
     {
         Ok(Coder {
             sections: empty_sections(alloc, sections)?,
+            sizes: Vec::new(alloc),
             full: None,
         })
     }
 
-    /// The bytes of each section after the last statement, where none is too long.
-    #[tactic(auto, using(crate::proofs::SoFar::whole_code, crate::proofs::SoFar::whole_sizes))]
-    pub(crate) fn finish(self) -> Result<Vec<Vec<u8>>, SourceFault>
+    /// The code of all statements after the last, where no section is too long.
+    pub(crate) fn finish(self) -> Result<SectionCode, SourceFault>
         ensures count { IfOk result
-            (λ sections. length sections.items ≡ length self.sections.items) }
+            (λ c. length c.sections.items ≡ length self.sections.items) }
         ensures code { (t : Tables) (all : List Located) → IsCodeSoFar t all [] self
-            → IsCode t all result }
+            → IsAllCode t all result }
     {
         match self.full {
             Some(line) => Err(SourceFault::At {
                 code: SourceCode::Limit,
                 line,
             }),
-            None => Ok(self.sections),
+            None => Ok(SectionCode {
+                sections: self.sections,
+                sizes: self.sizes,
+            }),
         }
     }
 
@@ -134,47 +183,44 @@ impl Coder {
         compressed: bool,
     ) -> Result<(), SourceFault>
         requires { place.section < length self.old.sections.items }
-        ensures { (o : Options) (index : ℕ) → o.rvc ≡ compressed → IsFilled (scope.now).unit.now
-            → IsScope scope.now index
+        ensures { (index : ℕ) → IsFilled (scope.now).unit.now → IsScope scope.now index
             → Adds self.old self.new place.section
-            (faults_at scope.now index place o executable (statement_of statement.now).kind)
-            (values_at scope.now index place) (statement_of statement.now) result }
+            (faults_at scope.now index place executable (statement_of statement.now).kind)
+            (values_at scope.now index place) compressed (statement_of statement.now) result }
     {
-        match instruction(statement, scope, place, executable, compressed) {
-            Ok(found) => self.add_found(statement, place.section, found),
+        match code_of(statement, scope, place, executable, compressed) {
+            Ok(found) => self.add_found(statement, place.section, found.as_slice()),
             Err(fault) => Err(fault),
         }
     }
 
-    /// Adds a statement that has this instruction, or none.
+    /// Adds a statement that has these instructions.
     fn add_found(
         &mut self,
         statement: &Statement<'_>,
         section: u32,
-        found: Option<Inst>,
+        found: &[Encoded],
     ) -> Result<(), SourceFault>
-        requires valid { IfSome found IsValid }
+        requires few { length found.now ≤ 8 }
         requires section { section < length self.old.sections.items }
-        ensures { (o : Options) (executable : Bool) (v : Expression → values.Value)
-            (l : Primary → Bool) → Codes o executable v l (statement_of statement.now) (Ok found)
-            → Adds self.old self.new section
-            (code_faults o executable v l (statement_of statement.now).kind) v
-            (statement_of statement.now) result }
+        ensures { (faults : List ℕ) (v : Expression → values.Value) (rvc : Bool) → faults ≡ []
+            → HasCode v rvc (statement_of statement.now).kind found.now
+            → Adds self.old self.new section faults v rvc (statement_of statement.now) result }
     {
-        put_found(self.sections.as_mut_slice(), section, found)?;
+        put_section(self.sections.as_mut_slice(), section, found)?;
+        self.sizes.push(size_of(found))?;
         let bytes = bytes_in(self.sections.as_slice(), section);
         self.full = full_behind(self.full, bytes, statement.line);
         Ok(())
     }
 }
 
-/// The code of each section of a unit.
-pub(crate) fn code(alloc: Global, unit: &Unit<'_>) -> Result<Vec<Vec<u8>>, SourceFault>
+/// The code of each section of a unit, and how much of it each statement has.
+pub(crate) fn code(alloc: Global, unit: &Unit<'_>) -> Result<SectionCode, SourceFault>
     requires { IsFilled unit.now }
     ensures count { IfOk result
-        (λ sections. length sections.items ≡ length (unit.now).tables.extents.items) }
+        (λ c. length c.sections.items ≡ length (unit.now).tables.extents.items) }
     ensures code { IsSourceCode (said unit.now) result }
-    ensures coded { IfOk result (λ _. AreCoded (said unit.now)) }
 {
     let mut coder = Coder::new(alloc, unit.sections().len())?;
     let mut scope = Scope::new(unit);

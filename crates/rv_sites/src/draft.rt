@@ -3,7 +3,7 @@
 ghost use Rattle.std.specs.Prelude.{◌≡◌, None, IfOk, IfErr};
 ghost use Rattle.rv_unit_laws.specs.Faults.{first_fault};
 ghost use Rattle.rv_unit.specs.Unit.{said, IsFilled};
-ghost use Rattle.rv_assemble_laws.specs.Refusals.{code_fault, size_fault};
+ghost use Rattle.rv_assemble_laws.specs.Refusals.{code_fault};
 
 use crate::code::code;
 use crate::compressed::has_compressed;
@@ -39,8 +39,7 @@ impl<'a> Draft<'a> {
         requires filled { IsFilled unit.now }
         requires good { first_fault (said unit.now) ≡ None }
         ensures draft { IfOk result (λ d. IsDraft (said unit.now) d) }
-        ensures sound { IfOk result (λ _. (code_fault (said unit.now) ≡ None)
-            × (size_fault (said unit.now) ≡ None)) }
+        ensures sound { IfOk result (λ _. code_fault (said unit.now) ≡ None) }
         ensures refuses { IfErr result (λ e. IsRefused (said unit.now) e) }
     {
         // ordinals have 32 bits: as many statements need more memory than there is
@@ -48,8 +47,9 @@ impl<'a> Draft<'a> {
             return Err(SourceFault::OutOfMemory);
         }
         let code = code(alloc, unit)?;
-        let (items, ends) = items(alloc, unit)?;
-        let Filled { sections, fields } = data(alloc, unit, items.as_slice(), code)?;
+        let sizes = code.sizes.as_slice();
+        let (items, ends) = items(alloc, unit, sizes)?;
+        let Filled { sections, fields } = data(alloc, unit, items.as_slice(), code.sections)?;
         Ok(Draft {
             items,
             sections,

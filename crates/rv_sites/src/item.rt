@@ -16,3 +16,12 @@ pub struct Item {
     /// How many instructions its bytes are.
     pub instructions: u32,
 }
+
+/// How large the code of a statement is; what is no instruction has none.
+#[derive(Clone, Copy, Debug, PartialEq, Eq, Drop)]
+pub(crate) struct CodeSize {
+    /// Its bytes.
+    pub(crate) bytes: u8,
+    /// How many instructions they are.
+    pub(crate) instructions: u8,
+}

@@ -1,7 +1,7 @@
 //! The statements of a source as items: their bytes, one after the other in each section, and which have a row in the
 //! map.
 
-ghost use Rattle.std.specs.Prelude.{◌≡◌, ◌&&◌, ◌+◌, ◌*◌, ◌<◌, ◌≤◌, ℕ, true, false, length, map, slice_index, slice_set, None, IfOk, IfErr};
+ghost use Rattle.std.specs.Prelude.{◌≡◌, ◌&&◌, ◌+◌, ◌*◌, ◌<◌, ◌≤◌, ℕ, true, false, [], ◌∷◌, length, map, slice_index, slice_set, None, IfOk, IfErr};
 ghost use Rattle.rv_text_laws.specs.Values as values;
 ghost use Rattle.rv_lexer.specs.declared.fault.SourceFault.TheVariants.{OutOfMemory};
 ghost use Rattle.rv_statement.specs.View.{bytes_of, quoted, statement_kind};
@@ -9,14 +9,15 @@ ghost use Rattle.rv_unit_laws.specs.Faults.{first_fault};
 ghost use Rattle.rv_unit_laws.specs.Tables as laws;
 ghost use Rattle.rv_unit.specs.Unit.{said, IsFilled};
 ghost use Rattle.rv_source_laws.specs.Fits.{is_low};
-ghost use Rattle.rv_assemble_laws.specs.Refusals.{code_fault, size_fault};
+ghost use Rattle.rv_source_laws.specs.Located.{located};
+ghost use Rattle.rv_assemble_laws.specs.Refusals.{code_fault, size_fault_from};
 ghost use Rattle.rv_sites.specs.Items.{AreItems};
 ghost use Rattle.rv_assemble_laws.specs.Sites.{IsMultiple};
 ghost use Rattle.rv_instruction.specs.Scoped.{values_at, is_placed_at, AtNext, StandsHere, ForOutcome};
-ghost use Rattle.rv_sites.specs.Sized.{AreSized};
+ghost use Rattle.rv_sites.specs.Sized.{AreSized, bytes_of_sizes};
 ghost use Rattle.rv_sites.specs.Measured.{instructions_of, IsExtentAt, CanCount, PadsIn, CanPadIn, AlignsIn, CanAlignIn, IsSizeIn, HasSizeIn, HasRoomIn, IsSizedIn};
 
-use crate::item::Item;
+use crate::item::{CodeSize, Item};
 use rv_instruction::constant;
 use rv_statement::{Statement, StatementKind, Width};
 use rv_text::{SourceCode, SourceFault, Value};
@@ -165,16 +166,17 @@ fn padding_to_bytes(
     bytes_of_padding(extent, alignment, offset, line)
 }
 
-/// The bytes of the statement that is next, after `offset` bytes of its section.
+/// The bytes of the statement that is next, after `offset` bytes of its section, where its code has this size.
 fn size(
     scope: &Scope<'_, '_>,
     statement: &Statement<'_>,
     place: SectionOffset,
     extent: Extent<'_>,
     offset: u32,
+    code: CodeSize,
 ) -> Result<u32, SourceFault>
     ensures size { IfOk result (λ n. AtNext scope.now (λ index.
-        IsSizeIn extent.entry (values_at scope.now index place) offset
+        IsSizeIn extent.entry (values_at scope.now index place) offset code
         (statement_kind (statement.now).kind) n)) }
     ensures refuses { IfErr result (λ _. AtNext scope.now (λ index.
         HasSizeIn extent.entry (values_at scope.now index place) offset
@@ -182,9 +184,9 @@ fn size(
 {
     let line = statement.line;
     match &statement.kind {
-        StatementKind::Plain(_) => Ok(4),
-        StatementKind::With(..) => Ok(4),
-        StatementKind::WithFunction(..) => Ok(4),
+        StatementKind::Plain(_) => Ok(u32::from(code.bytes)),
+        StatementKind::With(..) => Ok(u32::from(code.bytes)),
+        StatementKind::WithFunction(..) => Ok(u32::from(code.bytes)),
         StatementKind::Value(width, _) => bytes_of_values(*width, 1, line),
         StatementKind::Values(width, values) => bytes_of_values(*width, values.len(), line),
         StatementKind::Ascii(strings) => bytes_of_strings(false, strings, line),
@@ -216,10 +218,11 @@ fn placed_size(
     place: SectionOffset,
     extent: Extent<'_>,
     offset: u32,
+    code: CodeSize,
 ) -> Result<u32, SourceFault>
     ensures absent { IfOk result (λ n. placed ≡ false → n ≡ 0) }
     ensures size { IfOk result (λ n. AtNext scope.now (λ index. placed ≡ true
-        → IsSizeIn extent.entry (values_at scope.now index place) offset
+        → IsSizeIn extent.entry (values_at scope.now index place) offset code
         (statement_kind (statement.now).kind) n)) }
     ensures refuses { IfErr result (λ _. AtNext scope.now (λ index.
         (placed ≡ true → HasSizeIn extent.entry (values_at scope.now index place) offset
@@ -228,17 +231,17 @@ fn placed_size(
     if !placed {
         return Ok(0);
     }
-    size(scope, statement, place, extent, offset)
+    size(scope, statement, place, extent, offset, code)
 }
 
-/// How many instructions a statement is.
-fn instructions(kind: &StatementKind<'_>) -> u32
-    ensures { result ≡ instructions_of (statement_kind kind.now) }
+/// How many instructions a statement is, where its code has this size.
+fn instructions(kind: &StatementKind<'_>, code: CodeSize) -> u32
+    ensures { result ≡ instructions_of code (statement_kind kind.now) }
 {
     match kind {
-        StatementKind::Plain(_) => 1,
-        StatementKind::With(..) => 1,
-        StatementKind::WithFunction(..) => 1,
+        StatementKind::Plain(_) => u32::from(code.instructions),
+        StatementKind::With(..) => u32::from(code.instructions),
+        StatementKind::WithFunction(..) => u32::from(code.instructions),
         _ => 0,
     }
 }
@@ -303,13 +306,14 @@ pub(crate) fn extent_at<'a>(extents: &[Extent<'a>], section: u32) -> Extent<'a>
     extents[section as usize]
 }
 
-/// The item of the statement that is next, after `offset` bytes of its section.
+/// The item of the statement that is next, after `offset` bytes of its section, where its code has this size.
 fn next_item<'a>(
     scope: &Scope<'_, 'a>,
     statement: &Statement<'a>,
     place: SectionOffset,
     extent: &Extent<'_>,
     offset: u32,
+    code: CodeSize,
 ) -> Result<Item, SourceFault>
     requires { offset ≤ laws.longest_section }
     ensures section { IfOk result (λ x. x.section ≡ place.section) }
@@ -326,18 +330,18 @@ fn next_item<'a>(
     ensures sized { IfOk result (λ x. AtNext scope.now (λ index.
         StandsHere scope.now index place (statement_kind (statement.now).kind)
         → is_placed_at scope.now index (statement_kind (statement.now).kind) ≡ true
-        → IsSizedIn extent.now (values_at scope.now index place) x
+        → IsSizedIn extent.now (values_at scope.now index place) x code
         (statement_kind (statement.now).kind))) }
     ensures fits { IfOk result (λ x. x.offset + x.bytes ≤ laws.longest_section) }
     ensures refuses { IfErr result (λ _. AtNext scope.now (λ index.
         StandsHere scope.now index place (statement_kind (statement.now).kind)
         → (is_placed_at scope.now index (statement_kind (statement.now).kind) ≡ true
-        → HasRoomIn extent.now (values_at scope.now index place) offset
+        → HasRoomIn extent.now (values_at scope.now index place) offset code
         (statement_kind (statement.now).kind)) → ⊥)) }
 {
     let line = statement.line;
     let placed = is_placed(scope, place, &statement.kind);
-    let bytes = placed_size(placed, scope, statement, place, *extent, offset)?;
+    let bytes = placed_size(placed, scope, statement, place, *extent, offset, code)?;
     fitting(u64::from(offset) + u64::from(bytes), line)?;
     Ok(Item {
         section: place.section,
@@ -345,7 +349,7 @@ fn next_item<'a>(
         bytes,
         line,
         shown: is_shown(placed, extent.section),
-        instructions: instructions(&statement.kind),
+        instructions: instructions(&statement.kind, code),
     })
 }
 
@@ -358,9 +362,14 @@ fn grow(ends: &mut Vec<u32>, item: Item)
     ends[item.section as usize] = item.offset + item.bytes;
 }
 
-/// The items of a source's statements, and the bytes of each section after the last of them.
-pub(crate) fn items(alloc: Global, unit: &Unit<'_>) -> Result<(Vec<Item>, Vec<u32>), SourceFault>
-    requires { IsFilled unit.now }
+/// The items of a source's statements, whose code has these sizes, and the bytes of each section after the last of them.
+pub(crate) fn items(
+    alloc: Global,
+    unit: &Unit<'_>,
+    sizes: &[CodeSize],
+) -> Result<(Vec<Item>, Vec<u32>), SourceFault>
+    requires filled { IsFilled unit.now }
+    requires sizes { length sizes.now ≡ length (unit.now).statements.items }
     ensures count { IfOk result (λ r. length r.0.items ≡ length (unit.now).statements.items) }
     ensures sections { IfOk result
         (λ r. length r.1.items ≡ length (unit.now).tables.extents.items) }
@@ -368,9 +377,11 @@ pub(crate) fn items(alloc: Global, unit: &Unit<'_>) -> Result<(Vec<Item>, Vec<u3
         (λ j. slice_index r.1.items j)) }
     ensures low { IfOk result (λ r. (j : ℕ) → slice_index r.1.items j ≤ laws.longest_section) }
     ensures sized { IfOk result (λ r.
-        AreSized (laws.tables (said unit.now)) 1 laws.at_start (said unit.now) r.0.items) }
+        AreSized (laws.tables (said unit.now)) 1 laws.at_start (said unit.now) r.0.items
+        sizes.now) }
     ensures refuses { IfErr result (λ e. first_fault (said unit.now) ≡ None
-        → code_fault (said unit.now) ≡ None → size_fault (said unit.now) ≡ None
+        → code_fault (said unit.now) ≡ None
+        → size_fault_from (λ j. 0) (located (said unit.now ∷ [])) (bytes_of_sizes sizes.now) ≡ None
         → e ≡ OutOfMemory) }
 {
     let mut scope = Scope::new(unit);
@@ -383,7 +394,7 @@ pub(crate) fn items(alloc: Global, unit: &Unit<'_>) -> Result<(Vec<Item>, Vec<u3
         let place = places[index];
         let extent = extent_at(extents, place.section);
         let offset = end(ends.as_slice(), place.section);
-        let item = next_item(&scope, &statements[index], place, &extent, offset)?;
+        let item = next_item(&scope, &statements[index], place, &extent, offset, sizes[index])?;
         grow(&mut ends, item);
         items.push(item)?;
         scope.pass();

@@ -1,6 +1,5 @@
 use Rattle.std.proofs.Common.{◌≡◌, ◌+◌, ◌<◌, ◌≤◌, length, map, get_or, sym, ap, subst, ◌∙◌, true, Err}
-use Rattle.std.specs.Prelude.{slice_index_or, ℕ, IfOk}
-use Rattle.std.specs.Global.{Vec}
+use Rattle.std.specs.Prelude.{slice_index_or, IfOk}
 use Rattle.std.proofs.lemmas.Result.{err_from_is_err_and}
 use Rattle.std.proofs.lemmas.List.{length-map}
 use Rattle.rv_statement.specs.View.{statement_of}
@@ -8,16 +7,17 @@ use Rattle.rv_tables.specs.declared.section_offset.SectionOffset.{SectionOffset}
 use Rattle.rv_unit.specs.Unit.{said, IsFilled}
 use Rattle.rv_tables.specs.Sections.{extent_section, offset_of}
 use Rattle.rv_unit_laws.specs.Tables.{tables, value as value_of}
-use Rattle.rv_tables.specs.Options.{options_of}
+use Rattle.rv_unit_laws.specs.Options.{Options}
 use Rattle.rv_sites.specs.Added.{IsAdded, Adds}
 use Rattle.rv_sites.proofs.Standing.{StandsAt, stands_at, places_count, got_inside, located_at, stated_none}
 use Rattle.rv_sites.specs.Measured.{IsExtentAt}
 use Rattle.rv_sites.proofs.Itemized.{place_inside}
-use Rattle.rv_sites.proofs.Whole.{faults_in, faults_there, code_more, coded_more, code_wrong, code_whole, coded_whole}
+use Rattle.rv_sites.specs.declared.code.SectionCode.{SectionCode}
+use Rattle.rv_sites.proofs.Whole.{faults_in, faults_there, code_more, code_wrong, code_whole}
 use Rattle.rv_sites.proofs.code.code.Goals as goal
 
 pub loop-index-init : goal.loop-index-init
-loop-index-init c = (c.new-scope.ensures.unit, c.new-scope.ensures.start, c.in_ok-coder.ensures.begun _ _, c.in_ok-coder.ensures.count ∙ ap length c.sections.ensures, λ rest. rest)
+loop-index-init c = (c.new-scope.ensures.unit, c.new-scope.ensures.start, c.in_ok-coder.ensures.begun _ _, c.in_ok-coder.ensures.count ∙ ap length c.sections.ensures)
 
 pub bounds-places-index : goal.bounds-places-index
 bounds-places-index c =
@@ -60,20 +60,21 @@ loop-index-preserved c =
     let e = c.extent_at-extent.result in
     let there : IsExtentAt u.tables.extents.items p.section e = subst (λ l. IsExtentAt l p.section e) c.sections-extents.ensures c.extent_at-extent.ensures in
     let within = subst (λ n. i < n) (sym (length-map u.statements.items statement_of)) inside in
-    let o = options_of c.options_at.result in
+    let rvc = c.rvc-compressed.result in
     let same = c.loop-index.invariant.0 in
     let filled = subst IsFilled (sym same) c.requires in
-    let faults = faults_in (tables (said u)) (i + 1) o (extent_section e) (offset_of p) (statement_of x) in
-    let known = faults_there u i x p e o at there (c.options_at.ensures c.requires within) in
-    let added : IsAdded c.loop-index.coder c.add.new.self p.section faults (λ e. value_of (tables (said u)) true (i + 1) (offset_of p) e) (statement_of x) =
-    subst (λ w. IsAdded c.loop-index.coder c.add.new.self p.section (faults_in (tables (said w)) (i + 1) o (extent_section e) (offset_of p) (statement_of x)) (λ e. value_of (tables (said w)) true (i + 1) (offset_of p) e) (statement_of x)) same
-    (c.in_ok-add.ensures o i (sym c.rvc-compressed.ensures) filled c.loop-index.invariant.1) in
+    let faults = faults_in (tables (said u)) (i + 1) (extent_section e) (offset_of p) (statement_of x) in
+    let known = faults_there u i x p e at there in
+    let on : rvc ≡ (located_at (said u) i (statement_of x)).options.rvc =
+    c.rvc-compressed.ensures ∙ ap (λ (o : Options). o.rvc) (c.options_at.ensures c.requires within) in
+    let added : IsAdded c.loop-index.coder c.add.new.self p.section faults (λ e. value_of (tables (said u)) true (i + 1) (offset_of p) e) rvc (statement_of x) =
+    subst (λ w. IsAdded c.loop-index.coder c.add.new.self p.section (faults_in (tables (said w)) (i + 1) (extent_section e) (offset_of p) (statement_of x)) (λ e. value_of (tables (said w)) true (i + 1) (offset_of p) e) rvc (statement_of x)) same
+    (c.in_ok-add.ensures i filled c.loop-index.invariant.1) in
     let within' = subst (λ w. i < length (said w)) (sym same) within in (
       ap (λ b. b.now) c.pass.ensures.unit ∙ same,
       c.pass.ensures.passes i within' c.loop-index.invariant.1,
-      code_more u i x p c.loop-index.coder c.add.new.self faults at c.loop-index.invariant.2 known added,
+      code_more u i x p rvc c.loop-index.coder c.add.new.self faults at c.loop-index.invariant.2 known on added,
       added.grows.0 ∙ c.loop-index.invariant.3,
-      coded_more u i x p c.loop-index.coder c.add.new.self faults at c.loop-index.invariant.4 added,
     )
 
 pub returns-in_err-add-clause-code : goal.returns-in_err-add-clause-code
@@ -88,17 +89,17 @@ returns-in_err-add-clause-code c =
     let e = c.extent_at-extent.result in
     let there : IsExtentAt u.tables.extents.items p.section e = subst (λ l. IsExtentAt l p.section e) c.sections-extents.ensures c.extent_at-extent.ensures in
     let within = subst (λ n. i < n) (sym (length-map u.statements.items statement_of)) inside in
-    let o = options_of c.options_at.result in
+    let rvc = c.rvc-compressed.result in
     let same = c.loop-index.invariant.0 in
     let filled = subst IsFilled (sym same) c.requires in
-    let faults = faults_in (tables (said u)) (i + 1) o (extent_section e) (offset_of p) (statement_of x) in
-    let known = faults_there u i x p e o at there (c.options_at.ensures c.requires within) in
+    let faults = faults_in (tables (said u)) (i + 1) (extent_section e) (offset_of p) (statement_of x) in
+    let known = faults_there u i x p e at there in
     let wrong =
-    subst (λ w. Adds c.loop-index.coder c.add.new.self p.section (faults_in (tables (said w)) (i + 1) o (extent_section e) (offset_of p) (statement_of x)) (λ e. value_of (tables (said w)) true (i + 1) (offset_of p) e) (statement_of x) (Err c.in_err-add.field-0.0)) same
-    (c.in_err-add.ensures o i (sym c.rvc-compressed.ensures) filled c.loop-index.invariant.1) in
+    subst (λ w. Adds c.loop-index.coder c.add.new.self p.section (faults_in (tables (said w)) (i + 1) (extent_section e) (offset_of p) (statement_of x)) (λ e. value_of (tables (said w)) true (i + 1) (offset_of p) e) rvc (statement_of x) (Err c.in_err-add.field-0.0)) same
+    (c.in_err-add.ensures i filled c.loop-index.invariant.1) in
     let found = err_from_is_err_and c.from_residual-in_err-add.result c.from_residual-in_err-add.ensures.1 in
     rw (found.1, found.2)
-    (code_wrong u i x p c.loop-index.coder c.add.new.self faults c.in_err-add.field-0.0 at c.loop-index.invariant.2 known wrong)
+    (code_wrong u i x p rvc c.loop-index.coder c.add.new.self faults c.in_err-add.field-0.0 at c.loop-index.invariant.2 known wrong)
 
 pub returns-clause-code : goal.returns-clause-code
 returns-clause-code c =
@@ -107,12 +108,5 @@ returns-clause-code c =
     let past = subst (λ l. length l ≤ i) c.statements-statements.ensures c.loop-index-test.false in
     code_whole (said u) i c.loop-index.coder c.finish.result (stated_none (said u) i (subst (λ n. n ≤ i) (sym (length-map u.statements.items statement_of)) past)) c.loop-index.invariant.2 c.finish.ensures.code
 
-pub returns-clause-coded : goal.returns-clause-coded
-returns-clause-coded c =
-    let u = c.args.unit.now in
-    let i = c.loop-index.index in
-    let past = subst (λ l. length l ≤ i) c.statements-statements.ensures c.loop-index-test.false in
-    coded_whole (said u) i c.finish.result (stated_none (said u) i (subst (λ n. n ≤ i) (sym (length-map u.statements.items statement_of)) past)) c.loop-index.invariant.4
-
 pub returns-clause-count : goal.returns-clause-count
-returns-clause-count c = subst (λ n. IfOk c.finish.result (λ (sections : Vec (Vec ℕ)). length sections.items ≡ n)) c.loop-index.invariant.3 c.finish.ensures.count
+returns-clause-count c = subst (λ n. IfOk c.finish.result (λ (found : SectionCode). length found.sections.items ≡ n)) c.loop-index.invariant.3 c.finish.ensures.count

@@ -24,7 +24,7 @@ returns-clause-sized c = λ index f s stands placed.
       shown = c.is_shown.result;
       instructions = c.instructions.result;
     })
-    c.args.extent.now.alignment (statement_kind c.args.statement.now.kind) c.instructions.ensures (c.in_ok-bytes.ensures.size index f s (c.is_placed-placed.ensures index f s stands ∙ placed))
+    c.args.extent.now.alignment c.args.code (statement_kind c.args.statement.now.kind) c.instructions.ensures (c.in_ok-bytes.ensures.size index f s (c.is_placed-placed.ensures index f s stands ∙ placed))
 
 pub returns-in_err-bytes-clause-refuses : goal.returns-in_err-bytes-clause-refuses
 returns-in_err-bytes-clause-refuses c =

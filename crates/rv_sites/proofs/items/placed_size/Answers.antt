@@ -13,8 +13,8 @@ returns-clause-size c =
     let p = offset_of c.args.place in
     let extent = c.args.extent in
     IfOk-weaker c.size.result
-    (λ n. (index : ℕ) → IsFilled u → IsScope c.args.scope.now index → IsSize (λ e. laws.value (laws.tables (said u)) true (index + 1) p e) extent.section.executable extent.alignment c.args.offset (statement_kind c.args.statement.now.kind) n)
-    (λ n. (index : ℕ) → IsFilled u → IsScope c.args.scope.now index → c.args.placed ≡ true → IsSize (λ e. laws.value (laws.tables (said u)) true (index + 1) p e) extent.section.executable extent.alignment c.args.offset (statement_kind c.args.statement.now.kind) n)
+    (λ n. (index : ℕ) → IsFilled u → IsScope c.args.scope.now index → IsSize (λ e. laws.value (laws.tables (said u)) true (index + 1) p e) extent.section.executable extent.alignment c.args.offset c.args.code (statement_kind c.args.statement.now.kind) n)
+    (λ n. (index : ℕ) → IsFilled u → IsScope c.args.scope.now index → c.args.placed ≡ true → IsSize (λ e. laws.value (laws.tables (said u)) true (index + 1) p e) extent.section.executable extent.alignment c.args.offset c.args.code (statement_kind c.args.statement.now.kind) n)
     (λ n h index f s placed. h index f s)
     c.size.ensures.size
 

@@ -20,9 +20,9 @@ returns-in-Zeros c =
       size =
           IfOk-weaker c.bytes_of_zeros.result
           (λ n. (v : values.Value) → IsOutcome c.value.result line v → v ≡ values.Constant n)
-          (λ n. (index : ℕ) → IsFilled u → IsScope c.args.scope.now index → IsSize (λ e. laws.value (laws.tables (said u)) true (index + 1) p e) extent.section.executable extent.alignment c.args.offset (statement_kind c.args.statement.now.kind) n)
+          (λ n. (index : ℕ) → IsFilled u → IsScope c.args.scope.now index → IsSize (λ e. laws.value (laws.tables (said u)) true (index + 1) p e) extent.section.executable extent.alignment c.args.offset c.args.code (statement_kind c.args.statement.now.kind) n)
           (λ n h index f s.
-          subst (λ k. IsSize (λ e. laws.value (laws.tables (said u)) true (index + 1) p e) extent.section.executable extent.alignment c.args.offset (statement_kind k) n) (sym c.in-Zeros.is)
+          subst (λ k. IsSize (λ e. laws.value (laws.tables (said u)) true (index + 1) p e) extent.section.executable extent.alignment c.args.offset c.args.code (statement_kind k) n) (sym c.in-Zeros.is)
           (h _ (c.value.ensures index f s)))
           c.bytes_of_zeros.ensures.size;
       refuses =
@@ -45,9 +45,9 @@ returns-in-AlignsToPower c =
       size =
           IfOk-weaker c.padding_to_power.result
           (λ n. (v : values.Value) → IsOutcome c.value-in-AlignsToPower.result line v → IsAligned v extent.section.executable (stretch c.args.offset n) extent.alignment (laws.power_alignment v))
-          (λ n. (index : ℕ) → IsFilled u → IsScope c.args.scope.now index → IsSize (λ e. laws.value (laws.tables (said u)) true (index + 1) p e) extent.section.executable extent.alignment c.args.offset (statement_kind c.args.statement.now.kind) n)
+          (λ n. (index : ℕ) → IsFilled u → IsScope c.args.scope.now index → IsSize (λ e. laws.value (laws.tables (said u)) true (index + 1) p e) extent.section.executable extent.alignment c.args.offset c.args.code (statement_kind c.args.statement.now.kind) n)
           (λ n h index f s.
-          subst (λ k. IsSize (λ e. laws.value (laws.tables (said u)) true (index + 1) p e) extent.section.executable extent.alignment c.args.offset (statement_kind k) n) (sym c.in-AlignsToPower.is)
+          subst (λ k. IsSize (λ e. laws.value (laws.tables (said u)) true (index + 1) p e) extent.section.executable extent.alignment c.args.offset c.args.code (statement_kind k) n) (sym c.in-AlignsToPower.is)
           (h _ (c.value-in-AlignsToPower.ensures index f s)))
           c.padding_to_power.ensures.size;
       refuses =
@@ -70,9 +70,9 @@ returns-in-AlignsToBytes c =
       size =
           IfOk-weaker c.padding_to_bytes.result
           (λ n. (v : values.Value) → IsOutcome c.value-in-AlignsToBytes.result line v → IsAligned v extent.section.executable (stretch c.args.offset n) extent.alignment (laws.byte_alignment v))
-          (λ n. (index : ℕ) → IsFilled u → IsScope c.args.scope.now index → IsSize (λ e. laws.value (laws.tables (said u)) true (index + 1) p e) extent.section.executable extent.alignment c.args.offset (statement_kind c.args.statement.now.kind) n)
+          (λ n. (index : ℕ) → IsFilled u → IsScope c.args.scope.now index → IsSize (λ e. laws.value (laws.tables (said u)) true (index + 1) p e) extent.section.executable extent.alignment c.args.offset c.args.code (statement_kind c.args.statement.now.kind) n)
           (λ n h index f s.
-          subst (λ k. IsSize (λ e. laws.value (laws.tables (said u)) true (index + 1) p e) extent.section.executable extent.alignment c.args.offset (statement_kind k) n) (sym c.in-AlignsToBytes.is)
+          subst (λ k. IsSize (λ e. laws.value (laws.tables (said u)) true (index + 1) p e) extent.section.executable extent.alignment c.args.offset c.args.code (statement_kind k) n) (sym c.in-AlignsToBytes.is)
           (h _ (c.value-in-AlignsToBytes.ensures index f s)))
           c.padding_to_bytes.ensures.size;
       refuses =

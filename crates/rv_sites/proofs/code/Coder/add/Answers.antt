@@ -1,21 +1,26 @@
-use Rattle.std.proofs.Common.{subst}
+use Rattle.std.proofs.Common.{rules, ◌≡◌, subst, sym}
 use Rattle.rv_statement.specs.View.{statement_of}
-use Rattle.rv_instruction.specs.Code.{Codes}
-use Rattle.rv_instruction.specs.Scoped.{values_at, labels_at}
+use Rattle.rv_instruction.specs.Code.{HasCode, Codes}
+use Rattle.rv_instruction.specs.Scoped.{values_at, labels_at, faults_at}
 use Rattle.rv_sites.proofs.Adding.{adds_fault}
 use Rattle.rv_sites.proofs.code.Coder.add.Goals as goal
 
 pub returns-in-Ok : goal.returns-in-Ok
-returns-in-Ok c = λ o index on filled stands.
+returns-in-Ok c = λ index filled stands.
     let b = c.args.executable in
+    let s = statement_of c.args.statement.now in
     let v = values_at c.args.scope.now index c.args.place in
     let l = labels_at c.args.scope.now index in
-    c.add_found.ensures o b v l (subst (Codes o b v l (statement_of c.args.statement.now)) c.in-Ok.is (c.instruction.ensures.codes o index on filled stands))
+    let codes = subst (Codes b c.args.compressed v l s) c.in-Ok.is (c.code.ensures.codes index filled stands) in
+    let same : c.as_slice.result.now ≡ c.in-Ok.found.items = search rules in
+    c.add_found.ensures (faults_at c.args.scope.now index c.args.place b s.kind) v c.args.compressed codes.0
+    (subst (λ found. HasCode v c.args.compressed s.kind found) (sym same) codes.1)
 
 pub returns-in-Err : goal.returns-in-Err
-returns-in-Err c = λ o index on filled stands.
+returns-in-Err c = λ index filled stands.
     let b = c.args.executable in
+    let s = statement_of c.args.statement.now in
     let v = values_at c.args.scope.now index c.args.place in
     let l = labels_at c.args.scope.now index in
-    adds_fault c.args.self.now c.args.self.now c.args.place.section o b v l (statement_of c.args.statement.now) c.in-Err.fault
-    (subst (Codes o b v l (statement_of c.args.statement.now)) c.in-Err.is (c.instruction.ensures.codes o index on filled stands))
+    adds_fault c.args.self.now c.args.self.now c.args.place.section b c.args.compressed v l s c.in-Err.fault
+    (subst (Codes b c.args.compressed v l s) c.in-Err.is (c.code.ensures.codes index filled stands))

@@ -1,18 +1,17 @@
 use Rattle.std.proofs.Common.{arith, rules}
 use Rattle.std.proofs.lemmas.Grind.{common_steps}
 use Rattle.rv_statement.specs.View.{statement_of}
-use Rattle.rv_sites.proofs.Adding.{codes_found}
+use Rattle.rv_instruction.specs.Code.{coded_by}
+use Rattle.rv_sites.proofs.Adding.{found_coded}
 use Rattle.rv_sites.proofs.code.Coder.add_found.Goals as goal
 
 pub returns : goal.returns
-returns c = λ o b v l codes.
-    let s = statement_of c.args.statement.now in
-    let h = codes_found o b v l s c.args.found codes in
-    let same = h.2 in
+returns c = λ faults v rvc none has.
     record {
-      coded = h.3;
-      sound = h.0;
-      size = h.1;
-      grows = grind (arith, common_steps, same);
+      sound = none;
+      coded = coded_by c.args.found.now;
+      is = found_coded v rvc (statement_of c.args.statement.now).kind c.args.found.now has;
+      grows = grind (arith, common_steps);
+      counts = search rules;
       full = search rules;
     }

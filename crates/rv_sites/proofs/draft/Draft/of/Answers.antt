@@ -1,15 +1,43 @@
-use Rattle.std.proofs.Common.{rules, ◌<◌, ◌^◌, length, sym, ap, subst, ◌∙◌}
+use Rattle.std.proofs.Common.{rules, ◌<◌, ◌^◌, [], ◌∷◌, length, sym, ap, subst, ◌∙◌}
+use Rattle.std.proofs.lemmas.Result.{err_from_is_err_and}
 use Rattle.std.proofs.lemmas.List.{length-map}
 use Rattle.rv_statement.specs.View.{statement_of}
 use Rattle.rv_tables.specs.Sections.{extent_section}
 use Rattle.rv_tables.proofs.Lookups.{sections_are}
-use Rattle.rv_unit_laws.specs.Tables.{Tables, opened_of}
+use Rattle.rv_unit_laws.specs.Tables.{Tables, at_start, tables, opened_of}
+use Rattle.rv_source_laws.specs.Located.{located}
 use Rattle.rv_unit.specs.Unit.{said}
 use Rattle.rv_sites.specs.declared.draft.Draft.{Draft}
 use Rattle.rv_sites.specs.DataParts.{IsData}
+use Rattle.rv_sites.specs.Draft.{IsRefused}
+use Rattle.rv_sites.specs.Sized.{AreSized, bytes_of_sizes}
+use Rattle.rv_assemble_laws.specs.Refusals.{size_fault_from}
 use Rattle.rv_sites.proofs.Drafted.{is_draft}
+use Rattle.rv_sites.proofs.SoFar.{sizes_count, sizes_short}
+use Rattle.rv_sites.proofs.Standing.{stated_length}
+use Rattle.rv_sites.proofs.Whole.{one_file}
 use Rattle.rv_sites.proofs.Widths.{all_wide}
 use Rattle.rv_sites.proofs.draft.Draft.of.Goals as goal
+
+pub items-requires-clause-sizes : goal.items-requires-clause-sizes
+items-requires-clause-sizes c =
+    let u = c.args.unit.now in
+    let ss = said u in
+    let code = c.in_ok-code.code in
+    ap length c.as_slice-sizes.ensures.value ∙ sizes_count (tables ss) (located (ss ∷ [])) code.sections.items code.sizes.items c.in_ok-code.ensures.code
+    ∙ ap length (one_file ss) ∙ stated_length 1 1 at_start ss ∙ length-map u.statements.items statement_of
+
+pub returns-in_err-items-clause-refuses : goal.returns-in_err-items-clause-refuses
+returns-in_err-items-clause-refuses c =
+    let ss = said c.args.unit.now in
+    let code = c.in_ok-code.code in
+    let whole = c.in_ok-code.ensures.code in
+    let short = sizes_short (tables ss) (located (ss ∷ [])) code.sections.items code.sizes.items whole in
+    let memory =
+    c.in_err-items.ensures.refuses c.requires.good whole.faults
+    (ap (λ l. size_fault_from (λ j. 0) (located (ss ∷ [])) (bytes_of_sizes l)) c.as_slice-sizes.ensures.value ∙ short) in
+    let found = err_from_is_err_and c.from_residual-in_err-items.result c.from_residual-in_err-items.ensures.1 in
+    rw (found.1, found.2) (subst (λ e. IsRefused ss e) (sym memory) tt)
 
 pub returns-clause-draft : goal.returns-clause-draft
 returns-clause-draft c =
@@ -19,17 +47,15 @@ returns-clause-draft c =
     let d : Draft = record { items = c.in_ok-items.items; sections = found.sections; ends = c.in_ok-items.ends; fields = found.fields; rvc = c.has_compressed.result } in
     let sections = sym (length-map u.tables.extents.items extent_section) ∙ ap length (sections_are u.tables.extents.items ∙ ap (λ (t : Tables). (opened_of t).sections) c.requires.filled.tables) in
     let few : length c.statements.result.now < 2 ^ 32 = search rules in
-    is_draft ss c.in_ok-code.code.items d
+    is_draft ss c.in_ok-code.code.sections.items c.in_ok-code.code.sizes.items d
     (record {
       good = c.requires.good;
       wide = all_wide u.statements.items;
-      sound = c.in_ok-code.ensures.code.0;
-      coded = c.in_ok-code.ensures.coded;
-      words = c.in_ok-code.ensures.code.2;
+      whole = c.in_ok-code.ensures.code;
       items = c.in_ok-items.ensures.items;
-      sized = c.in_ok-items.ensures.sized;
+      sized = subst (λ l. AreSized (tables ss) 1 at_start ss c.in_ok-items.items.items l) c.as_slice-sizes.ensures.value c.in_ok-items.ensures.sized;
       low = c.in_ok-items.ensures.low;
-      figures = subst (λ is. IsData ss is c.in_ok-code.code.items found.sections.items found.fields.items) c.as_slice.ensures.value c.in_ok-sections.ensures.data;
+      figures = subst (λ is. IsData ss is c.in_ok-code.code.sections.items found.sections.items found.fields.items) c.as_slice.ensures.value c.in_ok-sections.ensures.data;
       counted = c.in_ok-sections.ensures.count ∙ c.in_ok-code.ensures.count ∙ sections;
       ended = c.in_ok-items.ensures.sections ∙ sections;
       few = subst (λ n. n < 2 ^ 32) (ap length c.statements.ensures ∙ sym (length-map u.statements.items statement_of)) few;
