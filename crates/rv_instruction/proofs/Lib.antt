@@ -1,2 +1,4 @@
+pub mod KnownRows
+pub mod Taken
 pub mod StatementKinds
 pub mod Unplaced

@@ -1,6 +1,6 @@
 -- The code of a statement, and the faults of one.
 
-use Rattle.std.specs.Prelude.{◌≡◌, ℕ, ℤ, pos, Bool, true, false, ◌||◌, ◌==◌, List, [], ◌∷◌, ◌++◌, length, map, Option, Some, None, is_some, not, Result, Ok, Err, if◌then◌else◌}
+use Rattle.std.specs.Prelude.{◌≡◌, ⊤, ℕ, ℤ, Bool, true, false, ◌||◌, ◌==◌, List, [], ◌∷◌, ◌++◌, length, map, Option, Some, None, is_some, not, Result, Ok, Err, if◌then◌else◌}
 use Rattle.std.specs.List.{AllByRecursion}
 use Rattle.arrayvec.specs.ArrayVec.{ArrayVec}
 use Rattle.rv_isa.specs.declared.instruction.Inst.{Inst}
@@ -24,10 +24,12 @@ use Rattle.rv_statement.specs.Statement.{StatementKind, Instruction, Expression,
 use Rattle.rv_unit_laws.specs.Faults.{faulty_if, lowest, constant_faults}
 use Rattle.rv_pseudo_laws.specs.Code.{Part, Closed, Constants, code}
 use Rattle.rv_pseudo_laws.specs.Valid.{AreOperandsOf}
+use Rattle.rv_pseudo.specs.declared.template.Form.{Form}
 use Rattle.rv_pseudo.specs.declared.template.Template.{Template}
 use Rattle.rv_pseudo.specs.Faults.{takes_target, fault}
+use Rattle.rv_pseudo.specs.Templates.{templates, statement_with}
 use Rattle.rv_assemble_laws.specs.Coded.{IsCode, AreCodedParts, constants, are_known, joined}
-use Rattle.rv_assemble_laws.specs.InstructionFaults.{number_faults, target_faults, upper_faults, low_faults, distance_faults}
+use Rattle.rv_assemble_laws.specs.InstructionFaults.{number_faults, target_faults, upper_faults, low_faults, distance_faults, else_unplaced}
 use Rattle.rv_assemble_laws.specs.Refusals.{code_faults}
 use Rattle.rv_instruction.specs.declared.encoded.Encoded.{Encoded}
 use Rattle.rv_instruction.specs.declared.encoded.Encoded.TheVariants.{Parcel, Word}
@@ -71,14 +73,12 @@ known_parts templates = map (λ t. Closed t.inst) templates
 abbrev pub AreValid : List Template → Type 0
 AreValid templates = AllByRecursion (λ t. IsValid t.inst) templates
 
--- these are the instructions of a statement, each with its operands in range, however long a
--- branch is
+-- these are the instructions of a statement, however long a branch is
 abbrev pub HasTemplates :
     (Expression → values.Value) → Bool → StatementKind → List Template → Type 0
 HasTemplates v rvc (Instruction mnemonic operands) found =
     (are_known v operands ≡ true)
     × ((bytes : ℕ) → code (constants v) rvc bytes mnemonic operands ≡ Some (known_parts found))
-    × AreValid found
 HasTemplates v rvc kind found = found ≡ []
 
 -- the same, or the lowest code of the statement's faults
@@ -135,6 +135,29 @@ is_taken operation function (values.Constant n) =
     not (is_some (fault (known_as operation function) function (Some (signed 64 n))))
 is_taken operation function _ = false
 
+-- the form of an operand that is a constant
+abbrev pub constant_form : ℤ → Bool → Form
+constant_form k rvc = record { value = Some k; bytes = 4; rvc = rvc }
+
+-- the templates of an operation with a constant, exactly where that has no fault
+abbrev pub IsOfConstant :
+    Operation → Option Function → ℤ → Bool → Option (ArrayVec Template) → Type 0
+IsOfConstant operation function k rvc None =
+    is_some (fault operation function (Some k)) ≡ true
+IsOfConstant operation function k rvc (Some found) =
+    (fault operation function (Some k) ≡ None)
+    × ((e : Expression) →
+    templates (constant_form k rvc) (statement_with operation function e) ≡ Some found.items)
+
+-- the same of an operand with this value, exactly where it is taken
+abbrev pub IsKnown :
+    Operation → Option Function → values.Value → Bool → Option (ArrayVec Template) → Type 0
+IsKnown operation function v rvc None = is_taken operation function v ≡ false
+IsKnown operation function v rvc (Some found) =
+    (n : ℕ)
+    × (v ≡ values.Constant n)
+    × IsOfConstant (known_as operation function) function (signed 64 n) rvc (Some found)
+
 -- the operands of a statement of code are in their ranges
 abbrev pub AreInRange : Constants → StatementKind → Type 0
 AreInRange v (Instruction mnemonic operands) = AreOperandsOf v mnemonic operands
@@ -170,6 +193,18 @@ function_faults l operation PcrelLo v = distance_faults l (mnemonic_of operation
 abbrev pub faults_of : (Primary → Bool) → Operation → Option Function → values.Value → List ℕ
 faults_of l operation None v = value_faults operation v
 faults_of l operation (Some function) v = function_faults l operation function v
+
+-- the templates of an operation with an operand of this value, or the lowest code of its faults
+abbrev pub IsBuilt :
+    (Primary → Bool) → Operation → Option Function → values.Value → Bool → ℕ
+    → Result (ArrayVec Template) SourceFault → Type 0
+IsBuilt l operation function v rvc line (Ok found) =
+    IsKnown operation function v rvc (Some found)
+IsBuilt l operation function v rvc line (Err (At code at)) =
+    (is_taken operation function v ≡ false)
+    × (lowest (else_unplaced false (faults_of l operation function v)) ≡ Some (number_of code))
+    × (at ≡ line)
+IsBuilt l operation function v rvc line (Err OutOfMemory) = ⊥
 
 -- the constant that a value is, or its fault at a line
 abbrev pub IsNumber : values.Value → ℕ → Result ℕ SourceFault → Type 0
