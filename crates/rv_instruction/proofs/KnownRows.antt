@@ -201,12 +201,19 @@ row_closed _ function k rvc bytes e f away = absurd (cc)
 
 -- ---- fields that do not take a part
 
+abbrev pub takes_no_upper : Operation → Bool
+takes_no_upper (operations.Upper operation rd) = false
+takes_no_upper _ = true
+
+abbrev pub takes_no_low : Operation → Bool
+takes_no_low (operations.StoreSymbol operation rs2 rt) = false
+takes_no_low operation = is_upper operation || takes_target operation
+
 abbrev pub takes_none : Operation → Function → Bool
-takes_none (operations.Upper operation rd) Hi = false
-takes_none (operations.StoreSymbol operation rs2 rt) Lo = false
-takes_none operation Hi = true
-takes_none operation Lo = is_upper operation || takes_target operation
-takes_none operation _ = false
+takes_none operation Hi = takes_no_upper operation
+takes_none operation Lo = takes_no_low operation
+takes_none operation PcrelHi = false
+takes_none operation PcrelLo = false
 
 no_constant : (c : Constants) (form : Option Mnemonic) (rd rs1 : ℕ) (e : Expression) → by_constant c form rd rs1 (Applied Hi e) ≡ None
 no_constant c (Some (mnemonics.Immediate i)) rd rs1 e = refl
@@ -232,5 +239,5 @@ row_none operations.CallLinked Lo c rvc bytes e none = refl
 row_none operations.Tail Lo c rvc bytes e none = refl
 row_none (operations.Jump rt) Lo c rvc bytes e none = refl
 row_none _ Lo c rvc bytes e none = absurd (cc)
-row_none _ PcrelHi c rvc bytes e none = absurd (cc)
-row_none _ PcrelLo c rvc bytes e none = absurd (cc)
+row_none operation PcrelHi c rvc bytes e none = absurd (cc)
+row_none operation PcrelLo c rvc bytes e none = absurd (cc)

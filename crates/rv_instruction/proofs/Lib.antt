@@ -1,4 +1,5 @@
 pub mod KnownRows
 pub mod Taken
 pub mod StatementKinds
+pub mod Encoding
 pub mod Unplaced

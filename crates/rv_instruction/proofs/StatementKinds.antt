@@ -27,7 +27,7 @@ use Rattle.rv_pseudo.proofs.Rows.{away_operand}
 use Rattle.rv_source_laws.specs.Lines as lines
 use Rattle.rv_source_laws.specs.Lines.{constant_of}
 use Rattle.rv_unit_laws.specs.Faults.{lowest}
-use Rattle.rv_assemble_laws.specs.Coded.{is_constant, constants, are_known, IsCode, AreCodedParts}
+use Rattle.rv_assemble_laws.specs.Coded.{is_constant, constants, are_known, joined, IsCode, AreCodedParts}
 use Rattle.rv_assemble_laws.specs.InstructionFaults.{else_unplaced}
 use Rattle.rv_assemble_laws.specs.Refusals.{code_faults}
 use Rattle.rv_instruction.specs.declared.encoded.Encoded.{Encoded}
@@ -191,7 +191,7 @@ has_code : (kind : StatementKind) (v : Expression → values.Value) (rvc : Bool)
 has_code (Instruction mnemonic operands) v rvc ts found (known, rows) coded = record {
   known = known;
   ps = known_parts ts;
-  parts = rows _;
+  parts = rows (length (joined (coded_by found)));
   coded_as = coded;
   size = refl;
   count = counted rvc ts found coded;

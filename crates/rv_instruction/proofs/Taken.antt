@@ -1,6 +1,8 @@
 -- Operands that are taken have no fault, and what is not taken cannot be placed.
 
-use Rattle.std.proofs.Common.{◌≡◌, ℕ, Bool, true, false, refl, sym, ap, subst, ◌∙◌, ℤ, pos, negsuc, List, [], ◌∷◌, ◌++◌, Option, Some, None, ints, arith, nat_tests}
+use Rattle.std.proofs.Common.{◌≡◌, ℕ, Bool, true, false, refl, sym, ap, subst, ◌∙◌, ℤ, pos, negsuc, List, [], ◌∷◌, ◌++◌, Option, Some, None, arith}
+use Rattle.std.proofs.lemmas.Int.{ints}
+use Rattle.std.proofs.lemmas.Bool.Decides.{nat_tests}
 use Rattle.std.specs.Prelude.{not, ◌&&◌, ◌||◌, is_some, if◌then◌else◌, ◌^◌, ◌-◌, suc, nat_lt}
 use Rattle.rv_isa.specs.Ranges.{IsSigned12}
 use Rattle.rv_isa_laws.specs.Arithmetic.{signed}

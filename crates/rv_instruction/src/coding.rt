@@ -48,7 +48,7 @@ fn with_value<'a>(
         → IsScope scope.now index → IsOutcome value.now line v
         → IsBuilt (labels_at scope.now index) operation function v compressed line result }
 {
-    match known(operation, function, value, compressed) {
+    match known(&operation, function, value, compressed) {
         Some(templates) => Ok(templates),
         None => Err(SourceFault::At {
             code: operand_code(scope, operation, function, value),

@@ -34,19 +34,21 @@ impl Default for Encoded {
 pub type Code = ArrayVec<Encoded, 8>;
 
 /// The parcel that is chosen for an instruction, where compressed code is on and there is one.
-fn shortened(inst: Inst, compressed: bool) -> Option<u16>
-    ensures { MatchOption result (compressed ≡ true → HasShort inst → ⊥)
-        (λ p. (compressed ≡ true) × IsShortOf inst p) }
+#[tactic(auto, using(crate::proofs::Encoding::shortest))]
+fn shortened(inst: &Inst, compressed: bool) -> Option<u16>
+    ensures { MatchOption result (compressed ≡ true → HasShort inst.now → ⊥)
+        (λ p. (compressed ≡ true) × IsShortOf inst.now p) }
 {
-    if compressed { shrink(inst) } else { None }
+    if compressed { shrink(*inst) } else { None }
 }
 
 /// An instruction in its least form.
-fn encoded(inst: Inst, compressed: bool) -> Encoded
+#[tactic(auto, using(crate::proofs::Encoding::as_parcel, crate::proofs::Encoding::as_word))]
+fn in_least_form(inst: Inst, compressed: bool) -> Encoded
     requires { IsValid inst }
     ensures { IsCodedPart compressed (Closed inst) (encoded_bytes result) }
 {
-    match shortened(inst, compressed) {
+    match shortened(&inst, compressed) {
         Some(parcel) => Encoded::Parcel(parcel),
         None => Encoded::Word(encode(inst)),
     }
@@ -60,7 +62,7 @@ pub(crate) fn encode_all(templates: Templates, compressed: bool) -> Code
 {
     let mut code = ArrayVec::new();
     for template in templates.as_slice() {
-        code.push(encoded(template.inst, compressed));
+        code.push(in_least_form(template.inst, compressed));
     }
     code
 }

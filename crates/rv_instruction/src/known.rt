@@ -18,7 +18,7 @@ use rv_statement::{Function, Operation, Plain};
 use rv_text::Value;
 
 /// The registers of a statement without an expression are x0 to x31.
-fn plain_in_range(statement: Plain)
+fn plain_registers(statement: Plain)
     ensures { (v : Constants) → AreInRange v (plain_of statement) }
 {
     match statement {
@@ -43,7 +43,7 @@ fn plain_in_range(statement: Plain)
 }
 
 /// The registers of an operation are x0 to x31.
-fn operation_in_range(operation: Operation)
+fn operation_registers(operation: Operation)
     ensures { (v : Constants) (o : Operand) → IsOperandOf v (mnemonic_of operation) o
         → AreInRange v (with_operand operation o) }
 {
@@ -75,23 +75,48 @@ fn operation_in_range(operation: Operation)
     }
 }
 
+/// The same of a statement that is lent.
+fn plain_in_range(statement: &Plain)
+    ensures { (v : Constants) → AreInRange v (plain_of statement.now) }
+{
+    plain_registers(*statement);
+}
+
+/// The same of an operation that is lent.
+fn operation_in_range(operation: &Operation)
+    ensures { (v : Constants) (o : Operand) → IsOperandOf v (mnemonic_of operation.now) o
+        → AreInRange v (with_operand operation.now o) }
+{
+    operation_registers(*operation);
+}
+
 /// The instructions of a statement without an expression.
 pub(crate) fn plain(statement: Plain, compressed: bool) -> Templates
     ensures valid { AreValid result.items }
     ensures is { (bytes : ℕ) → AreTemplates compressed bytes (plain_of statement) result.items }
 {
-    plain_in_range(statement);
+    plain_in_range(&statement);
     code_valid();
     without_operand(statement, compressed)
 }
 
-/// The operation by which an operand is known: with a part of a value a store to a symbol is one at a number from a register.
+/// With a part of a value a store to a symbol is one at a number from a register.
+fn with_part(operation: Operation) -> Operation
+    ensures { result ≡ laws.with_part operation }
+{
+    match operation {
+        Operation::StoreSymbol(operation, rs2, rt) => Operation::Store(operation, rs2, rt),
+        _ => operation,
+    }
+}
+
+/// The operation by which an operand is known.
 fn known_as(operation: Operation, function: Option<Function>) -> Operation
     ensures { result ≡ laws.known_as operation function }
 {
-    match (operation, function) {
-        (Operation::StoreSymbol(operation, rs2, rt), Some(_)) => Operation::Store(operation, rs2, rt),
-        (operation, _) => operation,
+    match function {
+        None => operation,
+        Some(_) => with_part(operation),
     }
 }
 
@@ -105,7 +130,7 @@ fn of_constant(
     ensures valid { IfSome result (λ t. AreValid t.items) }
     ensures is { IsOfConstant operation function (signed 64 number) compressed result }
 {
-    operation_in_range(operation);
+    operation_in_range(&operation);
     code_valid();
     let form = Form {
         value: Some(signed(number)),
@@ -121,17 +146,17 @@ fn of_constant(
 /// The instructions of an operation with an expression of this value, or with a function of one, where that is known and the
 /// operation's field takes it.
 pub(crate) fn known(
-    operation: Operation,
+    operation: &Operation,
     function: Option<Function>,
     value: &Outcome<'_>,
     compressed: bool,
 ) -> Option<Templates>
     ensures valid { IfSome result (λ t. AreValid t.items) }
-    ensures is { ForValue value.now (λ v. IsKnown operation function v compressed result) }
+    ensures is { ForValue value.now (λ v. IsKnown operation.now function v compressed result) }
 {
     match value {
         Ok(Value::Constant(number)) => {
-            of_constant(known_as(operation, function), function, *number, compressed)
+            of_constant(known_as(*operation, function), function, *number, compressed)
         }
         _ => None,
     }
