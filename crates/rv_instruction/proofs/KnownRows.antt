@@ -1,34 +1,30 @@
 -- The rows of operations with an operand that is known: closed parts, the same whatever the form.
 
-use Rattle.std.proofs.Common.{◌≡◌, ℕ, Bool, true, false, refl, sym, ap, subst, ◌∙◌, ℤ, pos, List, [], ◌∷◌, ◌++◌, map, Option, Some, None, option_map}
-use Rattle.std.specs.Prelude.{not, ◌&&◌, ◌||◌, is_some, if◌then◌else◌}
-use Rattle.std.specs.List.{list_all}
+use Rattle.std.proofs.Common.{◌≡◌, ℕ, Bool, true, false, refl, ap, ◌∙◌, ℤ, List, [], ◌∷◌, map, Option, Some, None, option_map}
+use Rattle.std.specs.Prelude.{not, ◌||◌, is_some}
 use Rattle.rv_isa.specs.declared.instruction.Inst.{Inst}
 use Rattle.rv_isa.specs.Operations.{of_immediate, of_shift, of_upper, of_load, of_store}
 use Rattle.rv_isa_laws.specs.Arithmetic.{wrapped}
-use Rattle.rv_isa_laws.specs.Halves.{hi, lo}
-use Rattle.rv_lexer.specs.declared.fault.SourceCode.{SourceCode}
 use Rattle.rv_statement.specs.declared.mnemonic.Mnemonic.{Mnemonic}
 use Rattle.rv_statement.specs.declared.mnemonic.Mnemonic.TheVariants as mnemonics
 use Rattle.rv_statement.specs.declared.pseudo.Function.{Function}
 use Rattle.rv_statement.specs.declared.pseudo.Function.TheVariants.{Hi, Lo, PcrelHi, PcrelLo}
-use Rattle.rv_statement.specs.declared.pseudo.UnaryOperation.{UnaryOperation}
 use Rattle.rv_statement.specs.declared.statement.Operation.{Operation}
 use Rattle.rv_statement.specs.declared.statement.Operation.TheVariants as operations
 use Rattle.rv_statement.specs.declared.statement.Plain.{Plain}
 use Rattle.rv_statement.specs.declared.statement.Plain.TheVariants as plains
-use Rattle.rv_statement.specs.Statement.{Expression, StatementKind, Value, Applied}
+use Rattle.rv_statement.specs.Statement.{Expression, Applied}
 use Rattle.rv_statement.specs.View.{plain_of, with_operand}
 use Rattle.rv_parse_laws.specs.Syntax.{with_constant}
-use Rattle.rv_pseudo_laws.specs.Code.{Part, Closed, Open, Joined, Constants, i_type, s_type, u_type, shift_by, jalr, by_number, signed_12, upper_20, number_of, by_amount, by_constant, unary}
-use Rattle.rv_pseudo_laws.specs.Filled.{is_closed, are_closed}
+use Rattle.rv_pseudo_laws.specs.Code.{Part, Closed, Open, Joined, Constants, i_type, s_type, u_type, shift_by, jalr, by_number, signed_12, upper_20, number_of, by_constant, unary}
+use Rattle.rv_pseudo_laws.specs.Filled.{are_closed}
 use Rattle.rv_pseudo_laws.specs.Li.{li}
 use Rattle.rv_pseudo_laws.specs.Valid.{form_takes}
 use Rattle.rv_pseudo.specs.declared.template.Template.{Template}
-use Rattle.rv_pseudo.specs.Faults.{takes, is_upper, takes_target, number, unless, operand_fault}
+use Rattle.rv_pseudo.specs.Faults.{is_upper, takes_target, number, operand_fault}
 use Rattle.rv_pseudo.specs.Templates.{all_templates, templates_of, number_operand}
 use Rattle.rv_pseudo.specs.Templates as pseudo
-use Rattle.rv_pseudo.proofs.InRange.{unless_good, and_left, number_takes, takes_away, upper_away}
+use Rattle.rv_pseudo.proofs.InRange.{unless_good, and_left, number_takes}
 use Rattle.rv_source_laws.specs.Lines as lines
 use Rattle.rv_instruction.specs.Code.{known_parts}
 

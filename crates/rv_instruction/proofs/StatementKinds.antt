@@ -1,14 +1,13 @@
 -- What the statements of instructions have, by their kinds.
 
-use Rattle.std.proofs.Common.{◌≡◌, ℕ, List, [], ◌∷◌, ◌++◌, Option, Some, None, Bool, true, false, Result, Ok, Err, refl, sym, ap, ◌∙◌, subst, append-nil, ℤ, map, length, option_map}
-use Rattle.std.specs.Prelude.{not, ◌&&◌, is_some, suc}
+use Rattle.std.proofs.Common.{◌≡◌, ℕ, List, [], ◌∷◌, ◌++◌, Option, Some, None, Bool, true, false, Result, Ok, Err, refl, sym, ap, ◌∙◌, subst, append-nil, ℤ, length, option_map}
+use Rattle.std.specs.Prelude.{◌&&◌, is_some, suc}
 use Rattle.arrayvec.specs.ArrayVec.{ArrayVec}
 use Rattle.rv_isa_laws.specs.Arithmetic.{signed}
 use Rattle.rv_text_laws.specs.Expression.{Primary}
 use Rattle.rv_text_laws.specs.Values as values
 use Rattle.rv_lexer.specs.declared.fault.SourceFault.{SourceFault}
 use Rattle.rv_lexer.specs.declared.fault.SourceFault.TheVariants.{At, OutOfMemory}
-use Rattle.rv_lexer.specs.Fault.{number_of}
 use Rattle.rv_statement.specs.Statement.{Expression, Statement, StatementKind, Label, Numbered, Instruction, Directs}
 use Rattle.rv_statement.specs.View.{plain_of, with_operand}
 use Rattle.rv_statement.specs.declared.pseudo.Function.{Function}
@@ -19,7 +18,6 @@ use Rattle.rv_statement.specs.declared.statement.Plain.{Plain}
 use Rattle.rv_statement.specs.declared.statement.Plain.TheVariants as plains
 use Rattle.rv_pseudo_laws.specs.Code.{Part, Constants}
 use Rattle.rv_pseudo.specs.declared.template.Template.{Template}
-use Rattle.rv_pseudo.specs.Faults.{operand_fault}
 use Rattle.rv_pseudo.specs.Templates.{all_templates, statement_with, number_operand, AreTemplates}
 use Rattle.rv_pseudo.specs.Templates as pseudo
 use Rattle.rv_pseudo.proofs.InRange.{no_operand_fault}
@@ -27,11 +25,11 @@ use Rattle.rv_pseudo.proofs.Rows.{away_operand}
 use Rattle.rv_source_laws.specs.Lines as lines
 use Rattle.rv_source_laws.specs.Lines.{constant_of}
 use Rattle.rv_unit_laws.specs.Faults.{lowest}
-use Rattle.rv_assemble_laws.specs.Coded.{is_constant, constants, are_known, joined, IsCode, AreCodedParts}
+use Rattle.rv_assemble_laws.specs.Coded.{is_constant, constants, are_known, joined, AreCodedParts}
 use Rattle.rv_assemble_laws.specs.InstructionFaults.{else_unplaced}
 use Rattle.rv_assemble_laws.specs.Refusals.{code_faults}
 use Rattle.rv_instruction.specs.declared.encoded.Encoded.{Encoded}
-use Rattle.rv_instruction.specs.Code.{coded_by, known_parts, known_as, is_taken, scratch_of, faults_of, HasCode, Codes, HasTemplates, IsExpanded, IsKnown, IsOfConstant, IsBuilt}
+use Rattle.rv_instruction.specs.Code.{coded_by, known_parts, known_as, is_taken, scratch_of, faults_of, HasCode, Codes, HasTemplates, IsExpanded, IsOfConstant, IsBuilt}
 use Rattle.rv_instruction.proofs.KnownRows.{row_same, row_back, row_closed, plain_closed, plain_same}
 use Rattle.rv_instruction.proofs.Taken.{part_statement, good_away, good_faultless, untaken_rowless}
 
@@ -54,7 +52,7 @@ plain_faults : (p : Plain) (b : Bool) (v : Expression → values.Value) (l : Pri
 plain_faults plains.Ecall b v l = refl
 plain_faults _ b v l = refl
 
-plain_known : (p : Plain) (v : Expression → values.Value) → known_in v (plain_of p) ≡ true
+pub plain_known : (p : Plain) (v : Expression → values.Value) → known_in v (plain_of p) ≡ true
 plain_known plains.Ecall v = refl
 plain_known _ v = refl
 
@@ -75,7 +73,7 @@ and_true : (b : Bool) → (b && true) ≡ b
 and_true true = refl
 and_true false = refl
 
-known_is : (operation : Operation) (function : Option Function) (e : Expression) (v : Expression → values.Value) → known_in v (statement_with operation function e) ≡ is_constant (v e)
+pub known_is : (operation : Operation) (function : Option Function) (e : Expression) (v : Expression → values.Value) → known_in v (statement_with operation function e) ≡ is_constant (v e)
 known_is (operations.Li rd) None e v = and_true (is_constant (v e))
 known_is _ None e v = and_true (is_constant (v e))
 known_is (operations.Li rd) (Some f) e v = and_true (is_constant (v e))

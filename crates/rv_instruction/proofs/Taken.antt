@@ -3,7 +3,7 @@
 use Rattle.std.proofs.Common.{◌≡◌, ℕ, Bool, true, false, refl, sym, ap, subst, ◌∙◌, ℤ, pos, negsuc, List, [], ◌∷◌, ◌++◌, Option, Some, None, arith}
 use Rattle.std.proofs.lemmas.Int.{ints}
 use Rattle.std.proofs.lemmas.Bool.Decides.{nat_tests}
-use Rattle.std.specs.Prelude.{not, ◌&&◌, ◌||◌, is_some, if◌then◌else◌, ◌^◌, ◌-◌, suc, nat_lt}
+use Rattle.std.specs.Prelude.{not, ◌&&◌, ◌||◌, is_some, if◌then◌else◌}
 use Rattle.rv_isa.specs.Ranges.{IsSigned12}
 use Rattle.rv_isa_laws.specs.Arithmetic.{signed}
 use Rattle.rv_isa_laws.specs.Halves.{hi, lo}
@@ -17,15 +17,13 @@ use Rattle.rv_statement.specs.declared.pseudo.Function.TheVariants.{Hi, Lo, Pcre
 use Rattle.rv_statement.specs.declared.statement.Operation.{Operation}
 use Rattle.rv_statement.specs.declared.statement.Operation.TheVariants as operations
 use Rattle.rv_statement.specs.Statement.{Expression}
-use Rattle.rv_statement.specs.View.{with_operand}
 use Rattle.rv_pseudo_laws.specs.Code.{Constants}
 use Rattle.rv_pseudo_laws.specs.Li.{is_signed}
 use Rattle.rv_pseudo_laws.specs.Valid as range
 use Rattle.rv_pseudo_laws.proofs.Modulo.{lo_range}
-use Rattle.rv_pseudo.specs.Faults.{takes, is_upper, takes_target, number, unless, operand_fault, is_bad_scratch, fault}
-use Rattle.rv_pseudo.specs.Templates.{statement_with, number_operand}
-use Rattle.rv_pseudo.proofs.InRange.{unless_good, and_left, and_right, no_operand_fault, takes_away, upper_away}
-use Rattle.rv_pseudo.proofs.Rows.{away_operand}
+use Rattle.rv_pseudo.specs.Faults.{takes, is_upper, takes_target, unless, operand_fault, is_bad_scratch, fault}
+use Rattle.rv_pseudo.specs.Templates.{statement_with}
+use Rattle.rv_pseudo.proofs.InRange.{unless_good, and_left, and_right, takes_away, upper_away}
 use Rattle.rv_source_laws.specs.Lines as lines
 use Rattle.rv_unit_laws.specs.Faults.{faulty_if}
 use Rattle.rv_instruction.specs.Code.{mnemonic_of, with_part, known_as, is_taken, scratch_of, faults_of}

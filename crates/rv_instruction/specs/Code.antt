@@ -3,14 +3,12 @@
 use Rattle.std.specs.Prelude.{◌≡◌, ⊤, ℕ, ℤ, Bool, true, false, ◌||◌, ◌==◌, List, [], ◌∷◌, ◌++◌, length, map, Option, Some, None, is_some, not, Result, Ok, Err, if◌then◌else◌}
 use Rattle.std.specs.List.{AllByRecursion}
 use Rattle.arrayvec.specs.ArrayVec.{ArrayVec}
-use Rattle.rv_isa.specs.declared.instruction.Inst.{Inst}
 use Rattle.rv_isa.specs.Ranges.{IsValid}
 use Rattle.rv_isa_laws.specs.Arithmetic.{signed}
 use Rattle.rv_isa_laws.specs.Bytes.{little_endian}
 use Rattle.rv_text_laws.specs.Codes.{scratch_register}
 use Rattle.rv_text_laws.specs.Expression.{Primary}
 use Rattle.rv_text_laws.specs.Values as values
-use Rattle.rv_lexer.specs.declared.fault.SourceCode.{SourceCode}
 use Rattle.rv_lexer.specs.declared.fault.SourceFault.{SourceFault}
 use Rattle.rv_lexer.specs.declared.fault.SourceFault.TheVariants.{At, OutOfMemory}
 use Rattle.rv_lexer.specs.Fault.{number_of}
@@ -20,7 +18,7 @@ use Rattle.rv_statement.specs.declared.pseudo.Function.{Function}
 use Rattle.rv_statement.specs.declared.pseudo.Function.TheVariants.{Hi, Lo, PcrelHi, PcrelLo}
 use Rattle.rv_statement.specs.declared.statement.Operation.{Operation}
 use Rattle.rv_statement.specs.declared.statement.Operation.TheVariants as operations
-use Rattle.rv_statement.specs.Statement.{StatementKind, Instruction, Expression, Operand, Statement}
+use Rattle.rv_statement.specs.Statement.{StatementKind, Instruction, Expression, Statement}
 use Rattle.rv_unit_laws.specs.Faults.{faulty_if, lowest, constant_faults}
 use Rattle.rv_pseudo_laws.specs.Code.{Part, Closed, Constants, code}
 use Rattle.rv_pseudo_laws.specs.Valid.{AreOperandsOf}
@@ -28,7 +26,7 @@ use Rattle.rv_pseudo.specs.declared.template.Form.{Form}
 use Rattle.rv_pseudo.specs.declared.template.Template.{Template}
 use Rattle.rv_pseudo.specs.Faults.{takes_target, fault}
 use Rattle.rv_pseudo.specs.Templates.{templates, statement_with}
-use Rattle.rv_assemble_laws.specs.Coded.{IsCode, AreCodedParts, constants, are_known, joined}
+use Rattle.rv_assemble_laws.specs.Coded.{IsCode, constants, are_known, joined}
 use Rattle.rv_assemble_laws.specs.InstructionFaults.{number_faults, target_faults, upper_faults, low_faults, distance_faults, else_unplaced}
 use Rattle.rv_assemble_laws.specs.Refusals.{code_faults}
 use Rattle.rv_instruction.specs.declared.encoded.Encoded.{Encoded}

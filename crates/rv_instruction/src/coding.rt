@@ -141,6 +141,8 @@ pub fn code<'a>(
         → Codes executable compressed (values_at scope.now index place)
         (labels_at scope.now index) (statement_of statement.now) result }
 {
-    let templates = expanded(statement, scope, place, executable, compressed)?;
-    Ok(encode_all(templates, compressed))
+    match expanded(statement, scope, place, executable, compressed) {
+        Ok(templates) => Ok(encode_all(templates, compressed)),
+        Err(fault) => Err(fault),
+    }
 }

@@ -13,7 +13,6 @@ ghost use Rattle.rv_instruction.specs.Code.{mnemonic_of, AreInRange, AreValid, I
 
 use crate::operand::{Outcome, signed};
 use rv_pseudo::{Form, Templates, with_operand, without_operand};
-use rv_pseudo_laws::code_valid;
 use rv_statement::{Function, Operation, Plain};
 use rv_text::Value;
 
@@ -96,7 +95,6 @@ pub(crate) fn plain(statement: Plain, compressed: bool) -> Templates
     ensures is { (bytes : ℕ) → AreTemplates compressed bytes (plain_of statement) result.items }
 {
     plain_in_range(&statement);
-    code_valid();
     without_operand(statement, compressed)
 }
 
@@ -131,7 +129,6 @@ fn of_constant(
     ensures is { IsOfConstant operation function (signed 64 number) compressed result }
 {
     operation_in_range(&operation);
-    code_valid();
     let form = Form {
         value: Some(signed(number)),
         bytes: 4,
@@ -156,7 +153,12 @@ pub(crate) fn known(
 {
     match value {
         Ok(Value::Constant(number)) => {
-            of_constant(known_as(*operation, function), function, *number, compressed)
+            of_constant(
+                known_as(*operation, function),
+                function,
+                *number,
+                compressed,
+            )
         }
         _ => None,
     }

@@ -144,7 +144,10 @@ fn number_fault(operation: Operation, value: &Outcome<'_>) -> Option<SourceCode>
 {
     match value {
         Ok(Value::Constant(number)) => {
-            faulty_if(!takes(operation, signed(*number)), SourceCode::ImmediateRange)
+            faulty_if(
+                !takes(operation, signed(*number)),
+                SourceCode::ImmediateRange,
+            )
         }
         Ok(Value::Symbolic(..)) => Some(SourceCode::NotConstant),
         Ok(Value::Difference(..)) => Some(SourceCode::NotConstant),
