@@ -276,6 +276,7 @@ module _ (ss : List Statement) (d : Draft) (extents : List Extent) (lists : List
       numbered = are_numbered;
       sizes = subst (λ n. AllByRecursion (λ s. s.located.placed ≡ true → HasSize (form t s.located) s n s.located.kind) sites) alignment drafted.sizes;
       fields = drafted.templates;
+      short = λ code. drafted.short;
       low = λ text. subst (λ n. n ≤ 2) alignment (drafted.low text);
     }
 

@@ -34,17 +34,21 @@ contribution_bare home v ordinal bytes (Bytes contents) e h = absurd (let f : is
 contribution_bare home v ordinal bytes (Zero_bytes count) e h = (refl, tt)
 contribution_bare home v ordinal bytes (Alignment f number) e h = (refl, tt)
 
-statement_bare : (home : Section) (v : Expression → Value) (ordinal bytes : ℕ) (kind : StatementKind) → is_nobits home ≡ true → IsHeld home kind
-    → AllByRecursion HasNoField (map (part_of ordinal) (templates v kind bytes))
-statement_bare home v ordinal bytes (Label name) e h = tt
-statement_bare home v ordinal bytes (Numbered number) e h = tt
-statement_bare home v ordinal bytes (Instruction mnemonic operands) e h = (refl, tt)
-statement_bare home v ordinal bytes (Directs d) e h = contribution_bare home v ordinal bytes (contribution d) e h
+code_bare : (ordinal : ℕ) (coded : List (List ℕ)) → AllByRecursion HasNoField (map (part_of ordinal) (map Fixed coded))
+code_bare ordinal [] = tt
+code_bare ordinal (bytes ∷ coded) = (refl, code_bare ordinal coded)
+
+statement_bare : (home : Section) (v : Expression → Value) (ordinal bytes : ℕ) (coded : List (List ℕ)) (kind : StatementKind) → is_nobits home ≡ true → IsHeld home kind
+    → AllByRecursion HasNoField (map (part_of ordinal) (templates v kind bytes coded))
+statement_bare home v ordinal bytes coded (Label name) e h = tt
+statement_bare home v ordinal bytes coded (Numbered number) e h = tt
+statement_bare home v ordinal bytes coded (Instruction mnemonic operands) e h = code_bare ordinal coded
+statement_bare home v ordinal bytes coded (Directs d) e h = contribution_bare home v ordinal bytes (contribution d) e h
 
 parts_bare : (t : Tables) (home : Section) (sites : List Site) → is_nobits home ≡ true → AllByRecursion (IsIn home) sites → AllByRecursion HasNoField (parts t sites)
 parts_bare t home [] e h = tt
 parts_bare t home (s ∷ ss) e (h, hs) =
-    all_join HasNoField (parts_of t s) (parts t ss) (statement_bare home (form t s.located) s.located.ordinal s.bytes s.located.kind e h.held) (parts_bare t home ss e hs)
+    all_join HasNoField (parts_of t s) (parts t ss) (statement_bare home (form t s.located) s.located.ordinal s.bytes s.coded s.located.kind e h.held) (parts_bare t home ss e hs)
 
 no_relocations : (number : Numbering) (offset : ℕ) (ps : List Part) → AllByRecursion HasNoField ps → relocations_from number offset ps ≡ []
 no_relocations number offset [] h = refl

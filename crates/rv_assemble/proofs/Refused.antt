@@ -1,6 +1,6 @@
 -- What holds of the statements that a text reads as holds of the text.
 
-use Rattle.std.proofs.Common.{◌≡◌, ℕ, List, ap, ◌∙◌, None, inr}
+use Rattle.std.proofs.Common.{◌≡◌, ℕ, List, ap, ◌∙◌, None, inl, inr}
 use Rattle.std.specs.Prelude.{Result, Ok, Err, IfOk, IfErr}
 use Rattle.rv_lexer.specs.declared.fault.SourceFault.{SourceFault}
 use Rattle.rv_lexer.specs.declared.fault.SourceFault.TheVariants.{At, OutOfMemory}
@@ -10,17 +10,17 @@ use Rattle.rv_unit_laws.specs.Faults.{first_fault}
 use Rattle.rv_object.specs.declared.object.Object.{Object as DeclaredObject}
 use Rattle.rv_object.specs.View.{object_of}
 use Rattle.rv_assemble_laws.specs.IsObjectOf.{IsObjectOf}
-use Rattle.rv_assemble_laws.specs.Refusals.{code_fault, size_fault, else_fault, statements_fault}
+use Rattle.rv_assemble_laws.specs.Refusals.{code_fault, else_fault, statements_fault}
 use Rattle.rv_sites.specs.Draft.{IsRefused}
 use Rattle.rv_assemble.specs.FirstFault.{IsFirstFault}
 
-of_code : (text : List ℕ) (ss : List Statement) (e : SourceFault) → Reads text ss → first_fault ss ≡ None → IsRefused ss e → IsFirstFault text e
-of_code text ss (At code line) reads good h = inr (ss, reads, ap (λ f. else_fault f (else_fault (code_fault ss) (size_fault ss))) good ∙ h)
-of_code text ss OutOfMemory reads good h = tt
+pub all_sound : (ss : List Statement) → first_fault ss ≡ None → code_fault ss ≡ None → statements_fault ss ≡ None
+all_sound ss good code = ap (λ f. else_fault f (code_fault ss)) good ∙ code
 
-pub all_sound : (ss : List Statement) → first_fault ss ≡ None → code_fault ss ≡ None → size_fault ss ≡ None → statements_fault ss ≡ None
-all_sound ss good code size =
-    ap (λ f. else_fault f (else_fault (code_fault ss) (size_fault ss))) good ∙ ap (λ f. else_fault f (size_fault ss)) code ∙ size
+of_code : (text : List ℕ) (ss : List Statement) (e : SourceFault) → Reads text ss → first_fault ss ≡ None → IsRefused ss e → IsFirstFault text e
+of_code text ss (At code line) reads good (inl h) = inr (ss, reads, inl (ap (λ f. else_fault f (code_fault ss)) good ∙ h))
+of_code text ss (At code line) reads good (inr (none, long)) = inr (ss, reads, inr (all_sound ss good none, long))
+of_code text ss OutOfMemory reads good h = tt
 
 pub object_read : (text : List ℕ) (ss : List Statement) (r : Result DeclaredObject SourceFault) → Reads text ss → IfOk r (λ o. statements_fault ss ≡ None) → IfOk r (λ o. IsObjectOf ss (object_of o))
     → IfOk r (λ o. (ss : List Statement) × Reads text ss × (statements_fault ss ≡ None) × IsObjectOf ss (object_of o))

@@ -21,20 +21,20 @@ IsHomeIn sections l = slice_get sections l.section ≡ Some l.home
 
 -- ---- statements without a place
 
-unplaced_by : (t : Tables) (k : ℕ) (kind : StatementKind) → is_placed t k kind ≡ false → (v : Expression → Value) (bytes : ℕ) → templates v kind bytes ≡ []
-unplaced_by t k (Label name) e v bytes = absurd (cc)
-unplaced_by t k (Numbered number) e v bytes = absurd (cc)
-unplaced_by t k (Instruction mnemonic operands) e v bytes = absurd (cc)
-unplaced_by t k (Directs (Sets name x)) e v bytes = refl
-unplaced_by t k (Directs (Values width values)) e v bytes = absurd (cc)
-unplaced_by t k (Directs (Strings ended strings)) e v bytes = absurd (cc)
-unplaced_by t k (Directs (Zeros count)) e v bytes = absurd (cc)
-unplaced_by t k (Directs (Aligns_to_power x)) e v bytes = absurd (cc)
-unplaced_by t k (Directs (Aligns_to_bytes x)) e v bytes = absurd (cc)
-unplaced_by t k (Directs _) e v bytes = refl
+unplaced_by : (t : Tables) (k : ℕ) (kind : StatementKind) → is_placed t k kind ≡ false → (v : Expression → Value) (bytes : ℕ) (coded : List (List ℕ)) → templates v kind bytes coded ≡ []
+unplaced_by t k (Label name) e v bytes coded = absurd (cc)
+unplaced_by t k (Numbered number) e v bytes coded = absurd (cc)
+unplaced_by t k (Instruction mnemonic operands) e v bytes coded = absurd (cc)
+unplaced_by t k (Directs (Sets name x)) e v bytes coded = refl
+unplaced_by t k (Directs (Values width values)) e v bytes coded = absurd (cc)
+unplaced_by t k (Directs (Strings ended strings)) e v bytes coded = absurd (cc)
+unplaced_by t k (Directs (Zeros count)) e v bytes coded = absurd (cc)
+unplaced_by t k (Directs (Aligns_to_power x)) e v bytes coded = absurd (cc)
+unplaced_by t k (Directs (Aligns_to_bytes x)) e v bytes coded = absurd (cc)
+unplaced_by t k (Directs _) e v bytes coded = refl
 
 abbrev pub IsBare : Located → Type 0
-IsBare l = l.placed ≡ false → (v : Expression → Value) (bytes : ℕ) → templates v l.kind bytes ≡ []
+IsBare l = l.placed ≡ false → (v : Expression → Value) (bytes : ℕ) (coded : List (List ℕ)) → templates v l.kind bytes coded ≡ []
 
 bare_from : (k : ℕ) (t : Tables) (ss : List Statement) → AllByRecursion IsBare (located_from 1 k t ss)
 bare_from k t [] = tt

@@ -14,7 +14,7 @@ use Rattle.rv_unit_laws.specs.Tables.{Tables, SectionOffset, NumericLabel, at_st
 use Rattle.rv_unit_laws.proofs.Found.{all_weaker}
 use Rattle.rv_source_laws.specs.Located.{Located, located_from}
 use Rattle.rv_source_laws.specs.Program.{place_of, in_contribution}
-use Rattle.rv_assemble_laws.specs.Templates.{Datum, contribution_templates, templates}
+use Rattle.rv_assemble_laws.specs.Templates.{Fixed, Datum, contribution_templates, templates}
 use Rattle.rv_assemble_laws.specs.Sites.{Site, form, part_of, parts_of}
 use Rattle.rv_assemble_laws.specs.Symbols.{SymbolUse, references_in, references_of, references}
 use Rattle.rv_assemble_laws.specs.ShownNames.{primary_names, tree_names, own_names, said_names, are_shown, HasNames, is_shown_use, AreShown}
@@ -89,18 +89,22 @@ module _ (t : Tables) where
   of_contribution l bytes (Zero_bytes count) h = refl
   of_contribution l bytes (Alignment f number) h = refl
 
-  of_statement : (l : Located) (bytes : ℕ) (kind : StatementKind) → are_shown (said_names kind) ≡ true
-      → list_all is_known (flat_map references_in (map (part_of l.ordinal) (templates (form t l) kind bytes))) ≡ true
-  of_statement l bytes (Label name) h = refl
-  of_statement l bytes (Numbered number) h = refl
-  of_statement l bytes (Instruction mnemonic operands) h = refl
-  of_statement l bytes (Directs d) h = of_contribution l bytes (contribution d) (both_shown (own_names (Directs d)) (flat_map tree_names (in_contribution (contribution d))) h).1
+  of_code : (ordinal : ℕ) (coded : List (List ℕ)) → list_all is_known (flat_map references_in (map (part_of ordinal) (map Fixed coded))) ≡ true
+  of_code ordinal [] = refl
+  of_code ordinal (bytes ∷ coded) = of_code ordinal coded
+
+  of_statement : (l : Located) (bytes : ℕ) (coded : List (List ℕ)) (kind : StatementKind) → are_shown (said_names kind) ≡ true
+      → list_all is_known (flat_map references_in (map (part_of l.ordinal) (templates (form t l) kind bytes coded))) ≡ true
+  of_statement l bytes coded (Label name) h = refl
+  of_statement l bytes coded (Numbered number) h = refl
+  of_statement l bytes coded (Instruction mnemonic operands) h = of_code l.ordinal coded
+  of_statement l bytes coded (Directs d) h = of_contribution l bytes (contribution d) (both_shown (own_names (Directs d)) (flat_map tree_names (in_contribution (contribution d))) h).1
 
   of_site : (s : Site) → are_shown (said_names s.located.kind) ≡ true → list_all is_known (references_of t s) ≡ true
   of_site s h = go s.located.home.loaded
     where
       go : (b : Bool) → list_all is_known (if b then flat_map references_in (parts_of t s) else []) ≡ true
-      go true = of_statement s.located s.bytes s.located.kind h
+      go true = of_statement s.located s.bytes s.coded s.located.kind h
       go false = refl
 
   of_sites : (sites : List Site) → AllByRecursion (λ s. are_shown (said_names s.located.kind) ≡ true) sites → list_all is_known (references t sites) ≡ true

@@ -1,6 +1,6 @@
 -- The first fault of a source.
 
-use Rattle.std.specs.Prelude.{◌≡◌, ℕ, ⊤, List, Some, ◌⊎◌}
+use Rattle.std.specs.Prelude.{ℕ, ⊤, List, ◌⊎◌}
 use Rattle.rv_lexer.specs.declared.fault.SourceCode.{SourceCode}
 use Rattle.rv_lexer.specs.declared.fault.SourceFault.{SourceFault}
 use Rattle.rv_lexer.specs.declared.fault.SourceFault.TheVariants.{At, OutOfMemory}
@@ -8,17 +8,17 @@ use Rattle.rv_lexer.specs.Fault.{number_of}
 use Rattle.rv_statement.specs.Statement.{Statement}
 use Rattle.rv_parse_laws.specs.Reading.{Reads}
 use Rattle.rv_parse_laws.specs.Refusals.{Refuses}
-use Rattle.rv_assemble_laws.specs.Refusals.{statements_fault}
+use Rattle.rv_assemble_laws.specs.Refusals.{IsStatementsFault}
 
--- the text reads as statements of which this is the first fault
-abbrev pub IsStatementsFault : List ℕ → SourceCode → ℕ → Type 0
-IsStatementsFault text code line =
+-- the text reads as statements for which this is the fault
+abbrev pub IsReadFault : List ℕ → SourceCode → ℕ → Type 0
+IsReadFault text code line =
     (ss : List Statement) × Reads text ss
-    × (statements_fault ss ≡ Some (record { code = number_of code; line = line }))
+    × IsStatementsFault ss (record { code = number_of code; line = line })
 
 -- a fault of the text; else one of its statements. Memory may run out anywhere
 abbrev pub IsFirstFault : List ℕ → SourceFault → Type 0
 IsFirstFault text (At code line) =
     Refuses text (record { code = number_of code; line = line })
-    ⊎ IsStatementsFault text code line
+    ⊎ IsReadFault text code line
 IsFirstFault text OutOfMemory = ⊤

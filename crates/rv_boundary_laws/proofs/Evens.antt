@@ -14,6 +14,7 @@ use Rattle.rv_assemble_laws.specs.Sites.{Site, IsPaddedIn, form, part_of, part_b
 use Rattle.rv_assemble_laws.specs.IsObjectOf.{IsSectionOf, IsObjectOf}
 use Rattle.rv_boundary_laws.proofs.Settled.{IsSettled, settled, IsSiteIn, sites_are_in}
 use Rattle.rv_boundary_laws.proofs.Known.{section_found}
+use Rattle.rv_boundary_laws.proofs.KnownCode.{all_few}
 
 abbrev pub IsEven : Site → Type 0
 IsEven s = goes_to_text s.located.home ≡ true → s.offset % 2 ≡ 0
@@ -28,7 +29,8 @@ even_by : (s : Site) (section : SourceSection) (multiple : ℕ) (v : Expression 
     → HasSize v s multiple kind → s.bytes % 2 ≡ 0
 even_by s section multiple v (Label name) held code home size = none_even s.bytes size.0
 even_by s section multiple v (Numbered number) held code home size = none_even s.bytes size.0
-even_by s section multiple v (Instruction mnemonic operands) held code home size = ap (λ n. n % 2) size.0
+even_by s section multiple v (Instruction mnemonic operands) held code home size =
+    ap (λ n. n % 2) size.size ∙ (all_few s.located.options.rvc size.ps s.coded size.coded_as).2
 even_by s section multiple v (Directs (Values width es)) held code home size = let e : true ≡ false = sym code ∙ held.0 in absurd (cc)
 even_by s section multiple v (Directs (Strings ended strings)) held code home size = let e : true ≡ false = sym code ∙ held.0 in absurd (cc)
 even_by s section multiple v (Directs (Zeros count)) held code home size = let e : true ≡ false = sym code ∙ held in absurd (cc)
@@ -62,7 +64,7 @@ module _ (t : Tables) (index : ℕ) (section : SourceSection) (multiple : ℕ) w
       go : (b : Bool) → s.located.placed ≡ b → s.bytes % 2 ≡ 0
       go true e = even_by s section multiple (form t s.located) s.located.kind is.held code is.home (size e)
       go false e =
-          none_even s.bytes (bytes ∙ ap (λ l. length (flat_map part_bytes (map (part_of s.located.ordinal) l))) (is.bare e (form t s.located) s.bytes))
+          none_even s.bytes (bytes ∙ ap (λ l. length (flat_map part_bytes (map (part_of s.located.ordinal) l))) (is.bare e (form t s.located) s.bytes s.coded))
 
   in_code : (offset : ℕ) (sites : List Site) → section.executable ≡ true → offset % 2 ≡ 0 → AllByRecursion (IsSiteIn index section) sites → Tile t offset sites → AllByRecursion Sized sites
       → AllByRecursion IsEven sites

@@ -5,6 +5,8 @@ pub mod Patches
 pub mod Statements
 pub mod Settled
 pub mod Suits
+pub mod KnownCode
+pub mod CodeOf
 pub mod Fitting
 pub mod Known
 pub mod Sections

@@ -33,7 +33,7 @@ use Rattle.rv_boundary_laws.proofs.Patches.{written}
 use Rattle.rv_boundary_laws.proofs.Statements.{AreObjectsOf, renumbered, renumbers, row_in, rows_from, mapped_at, all_rows}
 use Rattle.rv_boundary_laws.proofs.Settled.{settled}
 use Rattle.rv_boundary_laws.proofs.Sections.{meant_in, split}
-use Rattle.rv_boundary_laws.proofs.Fitting.{code_bytes}
+use Rattle.rv_boundary_laws.proofs.CodeOf.{AreCodesOf, code_of, codes}
 use Rattle.rv_boundary_laws.proofs.Placed.{IsFit}
 use Rattle.rv_boundary_laws.proofs.Regions.{AreGood, IsRegion, region, greatest_same, good_join, good_file}
 use Rattle.rv_boundary_laws.proofs.Files.{plain_of, AreFiles, files, rows_ours}
@@ -161,6 +161,9 @@ module _ (sources : List (List Statement)) (os : List Object) (text_start : ℕ)
   abbrev starts : Starts
   starts = link.starts
 
+  abbrev bytes_of : Mapped → List ℕ
+  bytes_of m = code_of starts sources os h m
+
   abbrev Q : InputSection → Type 0
   Q i = AllByRecursion (IsRelocated l.map.globals starts os i) i.section.relocations
 
@@ -170,27 +173,27 @@ module _ (sources : List (List Statement)) (os : List Object) (text_start : ℕ)
       → IsSectionOf t sites number o.symbols index s (sites_in index sites) x → goes x ≡ goes_source s)
       (holds : (t : Tables) (sites : List Site) (number : Numbering) (o : Object) (index : ℕ) (s : SourceSection) (x : Section)
       → IsSectionOf t sites number o.symbols index s (sites_in index sites) x → goes_source s ≡ true → stores ≡ true → initial_bytes x.contents ≡ flat_map part_bytes (parts t (sites_in index sites)))
-      (spell : (file : ℕ) (s : SourceSection) (z : Site) → goes_source s ≡ true → z.located.home ≡ s → IsFit p starts file z
+      (spell : (file : ℕ) (s : SourceSection) (z : Site) → goes_source s ≡ true → z.located.home ≡ s → IsFit p starts bytes_of file z
       → spells (mapped_at starts file z) ≡ flat_map (written (meant_in p file)) (parts_of (tables_in p file) z))
-      (fitted : (file : ℕ) (s : SourceSection) (z : Site) → goes_source s ≡ true → z.located.home ≡ s → IsFit p starts file z → P (mapped_at starts file z)) where
-    good_files : (file : ℕ) (srcs : List (List Statement)) (us : List Object) (k : AreObjectsOf srcs us) → AreFiles p starts file srcs us k → AllByRecursion Q (inputs_of is_loaded file us)
+      (fitted : (file : ℕ) (s : SourceSection) (z : Site) → goes_source s ≡ true → z.located.home ≡ s → IsFit p starts bytes_of file z → P (mapped_at starts file z)) where
+    good_files : (file : ℕ) (srcs : List (List Statement)) (us : List Object) (k : AreObjectsOf srcs us) → AreFiles p starts file srcs us k → AreCodesOf starts bytes_of file srcs us k → AllByRecursion Q (inputs_of is_loaded file us)
         → AreGood p os starts spells stores P (inputs_of goes file us) (source.input_sections_of goes_source p.mapped file srcs)
-    good_files file [] [] k f r = tt
-    good_files file [] (o ∷ us) k f r = absurd k
-    good_files file (ss ∷ srcs) [] k f r = absurd k
-    good_files file (ss ∷ srcs) (o ∷ us) (is, k) (f, fs) r =
+    good_files file [] [] k f c r = tt
+    good_files file [] (o ∷ us) k f c r = absurd k
+    good_files file (ss ∷ srcs) [] k f c r = absurd k
+    good_files file (ss ∷ srcs) (o ∷ us) (is, k) (f, fs) (c, cs) r =
         let sections = (opened_of (tables ss)).sections in
         let both = split Q (inputs_from is_loaded file o 0 o.sections) (inputs_of is_loaded (suc file) us) r in
         let are = subst (λ t. AreSectionsOf t is.sites is.number o.symbols 0 sections o.sections) (sym f.tables) is.sections in
-        let own = good_file p os starts spells stores P goes goes_source loads same_by holds spell fitted file is.sites is.number o sections
-        link.readable.globals are (settled ss is.sites is.good is.located) (plain_of ss o is) f.address f.mapped both.0 in
+        let own = good_file p os starts spells stores P bytes_of goes goes_source loads same_by holds spell fitted file is.sites is.number o sections
+        link.readable.globals are (settled ss is.sites is.good is.located) c (plain_of ss o is) f.address f.mapped both.0 in
         good_join p os starts spells stores P (inputs_from goes file o 0 o.sections) (inputs_of goes (suc file) us)
         (source.input_sections_of_file goes_source (tables ss) p.mapped file 0 sections) (source.input_sections_of goes_source p.mapped (suc file) srcs)
         (subst (λ t. AreGood p os starts spells stores P (inputs_from goes file o 0 o.sections) (source.input_sections_of_file goes_source t p.mapped file 0 sections)) f.tables own)
-        (good_files (suc file) srcs us k fs both.1)
+        (good_files (suc file) srcs us k fs cs both.1)
 
     pub good_region : AreGood p os starts spells stores P (inputs goes os) (source.input_sections goes_source sources l.map)
-    good_region = good_files 1 sources os h (files sources os l.map starts h link.rows) link.relocated
+    good_region = good_files 1 sources os h (files sources os l.map starts h link.rows) (codes starts sources os h) link.relocated
 
   -- ---- each of them
 
@@ -198,10 +201,10 @@ module _ (sources : List (List Statement)) (os : List Object) (text_start : ℕ)
   Fit m = SizeFits p m
 
   abbrev Written : Mapped → Type 0
-  Written m = SizeFits p m × IsWritten p m (code_bytes p m)
+  Written m = SizeFits p m × IsWritten p m (bytes_of m)
 
-  text_good : AreGood p os starts (code_bytes p) true Written (inputs objects.goes_to_text os) (source.input_sections goes_to_text sources l.map)
-  text_good = good_region (code_bytes p) true Written objects.goes_to_text goes_to_text (λ s e. first_true s.loaded s.executable e)
+  text_good : AreGood p os starts bytes_of true Written (inputs objects.goes_to_text os) (source.input_sections goes_to_text sources l.map)
+  text_good = good_region bytes_of true Written objects.goes_to_text goes_to_text (λ s e. first_true s.loaded s.executable e)
       text_same (λ t sites number o index s x is e f. text_holds t sites number o index s x is e)
       (λ file s z e home fit. fit.code (ap (λ y. y.executable) home ∙ (and_parts s.loaded s.executable e).1))
       (λ file s z e home fit. (fit.sized, fit.coded (ap (λ y. y.executable) home ∙ (and_parts s.loaded s.executable e).1)))
@@ -224,8 +227,8 @@ module _ (sources : List (List Statement)) (os : List Object) (text_start : ℕ)
       (λ file s z e home fit. fit.figures (ap (λ y. y.executable) home ∙ (bss_front s e).1))
       (λ file s z e home fit. fit.sized)
 
-  text_region : IsRegion p os starts (code_bytes p) true Written text_start (inputs objects.goes_to_text os) (source.input_sections goes_to_text sources l.map)
-  text_region = region p os starts (code_bytes p) true Written text_start (inputs objects.goes_to_text os) (source.input_sections goes_to_text sources l.map) text_good link.text.1
+  text_region : IsRegion p os starts bytes_of true Written text_start (inputs objects.goes_to_text os) (source.input_sections goes_to_text sources l.map)
+  text_region = region p os starts bytes_of true Written text_start (inputs objects.goes_to_text os) (source.input_sections goes_to_text sources l.map) text_good link.text.1
 
   rodata_region : IsRegion p os starts (spelled p) true Fit (aligned 4096 l.map.text.end) (inputs objects.goes_to_rodata os) (source.input_sections goes_to_rodata sources l.map)
   rodata_region = region p os starts (spelled p) true Fit (aligned 4096 l.map.text.end) (inputs objects.goes_to_rodata os) (source.input_sections goes_to_rodata sources l.map) rodata_good link.rodata.1
@@ -274,7 +277,7 @@ module _ (sources : List (List Statement)) (os : List Object) (text_start : ℕ)
       (from_blocks p.mapped sources goes_to_data Fit at_home data_region.each) (from_blocks p.mapped sources goes_to_bss Fit at_home bss_region.each)
 
   written_by : (ms : List Mapped) → AllByRecursion (IsAtHome (sections_in sources)) ms → AllByRecursion (In goes_to_text Written) ms
-      → AllByRecursion (λ s. IsTrue s.located.home.executable → IsWritten p s (code_bytes p s)) ms
+      → AllByRecursion (λ s. IsTrue s.located.home.executable → IsWritten p s (bytes_of s)) ms
   written_by [] h f = tt
   written_by (m ∷ ms) (h, hs) (f, fs) =
       ((λ e. (f (ap (λ b. b && m.located.home.executable) h.1 ∙ e)).1), written_by ms hs fs)
@@ -299,11 +302,11 @@ module _ (sources : List (List Statement)) (os : List Object) (text_start : ℕ)
   linked resolves = record {
     fits = fits;
     resolves = resolves;
-    code = code_bytes p;
+    code = bytes_of;
     written = written_by p.mapped at_home in_text;
     below = link.below;
     text = link.text_bytes ∙ ap (λ n. contents (linked_bytes l.map.globals starts os) starts n (inputs objects.goes_to_text os)) link.text.0
-        ∙ text_region.bytes refl ∙ ap (λ n. source_contents (code_bytes p) n (source.input_sections goes_to_text sources l.map)) (sym link.text.0);
+        ∙ text_region.bytes refl ∙ ap (λ n. source_contents bytes_of n (source.input_sections goes_to_text sources l.map)) (sym link.text.0);
     rodata = link.rodata_bytes ∙ ap (λ n. contents (linked_bytes l.map.globals starts os) starts n (inputs objects.goes_to_rodata os)) link.rodata.0
         ∙ rodata_region.bytes refl ∙ ap (λ n. source_contents (spelled p) n (source.input_sections goes_to_rodata sources l.map)) (sym link.rodata.0);
     «data» = link.data_bytes ∙ ap (λ n. contents (linked_bytes l.map.globals starts os) starts n (inputs objects.goes_to_data os)) link.data.0

@@ -2,7 +2,7 @@
 
 use Rattle.std.proofs.Common.{◌≡◌, ℕ, ◌%◌, ◌<◌, true, false, List, [], ◌∷◌, refl, sym, ap, ◌∙◌, subst, map, Option, Some, None}
 use Rattle.std.proofs.lemmas.Bool.{and_parts}
-use Rattle.std.specs.Prelude.{ℤ, pos, ◌+ℤ◌, if◌then◌else◌, flat_map, is_some, unwrap_or, option_and_then}
+use Rattle.std.specs.Prelude.{ℤ, pos, ◌+ℤ◌, ◌==◌, if◌then◌else◌, flat_map, is_some, unwrap_or, option_and_then}
 use Rattle.std.specs.Int.{w64, int_wrap}
 use Rattle.std.specs.List.{AllByRecursion, list_all, slice_get}
 use Rattle.rv_isa.specs.declared.kind.Kind.{Kind}
@@ -13,7 +13,7 @@ use Rattle.rv_unit_laws.specs.Sections.{Section as SourceSection}
 use Rattle.rv_unit_laws.specs.Tables.{Tables}
 use Rattle.rv_map.specs.Limits.{IsGlobal}
 use Rattle.rv_source_laws.specs.Located.{has_row}
-use Rattle.rv_source_laws.specs.Program.{Program, tables_in, address_at, has_values, value as value_at, expressions}
+use Rattle.rv_source_laws.specs.Program.{Mapped, Program, tables_in, address_at, has_values, value as value_at, expressions}
 use Rattle.rv_source_laws.specs.Fits.{SizeFits}
 use Rattle.rv_source_laws.specs.Start.{spelled}
 use Rattle.rv_chain_laws.specs.Contents.{IsWritten}
@@ -25,6 +25,7 @@ use Rattle.rv_object_laws.specs.Values.{initial_bytes, target, value, applied, l
 use Rattle.rv_assemble_laws.specs.Templates.{Template, Open, IsTemplate, template_fields, templates}
 use Rattle.rv_assemble_laws.specs.Sites.{Site, Part, form, part_of, parts_of, parts, part_bytes, sites_in, HasSize, IsMultiple}
 use Rattle.rv_assemble_laws.specs.Symbols.{references_in, site_at}
+use Rattle.rv_assemble_laws.proofs.Homes.{all_filter}
 use Rattle.rv_assemble_laws.specs.IsObjectOf.{Numbering, relocations_from, IsNumbered, IsSectionOf, AreSectionsOf}
 use Rattle.rv_boundary_laws.proofs.Patches.{is_data, written, all_made, makes, IsKnown}
 use Rattle.rv_boundary_laws.proofs.Statements.{row_in, mapped_at, row_address}
@@ -32,18 +33,19 @@ use Rattle.rv_boundary_laws.proofs.Settled.{IsSettled, IsSiteIn, sites_are_in}
 use Rattle.rv_boundary_laws.proofs.Known.{still, meant_of}
 use Rattle.rv_boundary_laws.proofs.Sections.{each, of_parts, all_valued, meant_in, suits_by, spelled_by, coded_by}
 use Rattle.rv_boundary_laws.proofs.Suits as suits
-use Rattle.rv_boundary_laws.proofs.Fitting.{code_bytes, fits, is_written, coded}
+use Rattle.rv_boundary_laws.proofs.CodeOf.{IsCodeOf}
+use Rattle.rv_boundary_laws.proofs.Fitting.{fits, is_written}
 
--- what the row of a statement owes to it, and its bytes
-pub record IsFit (p : Program) (starts : Starts) (file : ℕ) (z : Site) : Type 0 where
+-- what the row of a statement owes to it, and its bytes, where a function gives the code of each
+pub record IsFit (p : Program) (starts : Starts) (bytes : Mapped → List ℕ) (file : ℕ) (z : Site) : Type 0 where
   pub sized : SizeFits p (mapped_at starts file z)
-  pub coded : z.located.home.executable ≡ true → IsWritten p (mapped_at starts file z) (code_bytes p (mapped_at starts file z))
-  pub code : z.located.home.executable ≡ true → code_bytes p (mapped_at starts file z) ≡ flat_map (written (meant_in p file)) (parts_of (tables_in p file) z)
+  pub coded : z.located.home.executable ≡ true → IsWritten p (mapped_at starts file z) (bytes (mapped_at starts file z))
+  pub code : z.located.home.executable ≡ true → bytes (mapped_at starts file z) ≡ flat_map (written (meant_in p file)) (parts_of (tables_in p file) z)
   pub figures : z.located.home.executable ≡ false → spelled p (mapped_at starts file z) ≡ flat_map (written (meant_in p file)) (parts_of (tables_in p file) z)
 
 module _ (p : Program) (os : List Object) (starts : Starts) (file : ℕ) (sites : List Site) (number : Numbering) (o : Object) (sections : List SourceSection)
     (low : AllByRecursion IsGlobal p.map.globals) (are : AreSectionsOf (tables_in p file) sites number o.symbols 0 sections o.sections)
-    (settled : AllByRecursion (IsSettled sections) sites)
+    (settled : AllByRecursion (IsSettled sections) sites) (bytes : Mapped → List ℕ) (codes : AllByRecursion (IsCodeOf starts bytes file) sites)
     (plain : (j : ℕ) (x : Section) → slice_get o.sections j ≡ Some x → alignments_of x ≡ [])
     (address : (n : ℕ) → address_at p.statements file n ≡ option_and_then (row_address starts file) (site_at sites n)) where
   abbrev t : Tables
@@ -140,12 +142,12 @@ module _ (p : Program) (os : List Object) (starts : Starts) (file : ℕ) (sites 
     has_parts ordinal [] h = tt
     has_parts ordinal (q ∷ qs) (h, hs) = (has_fields ordinal (template_fields q) h, has_parts ordinal qs hs)
 
-    fit : ((m : ℕ) → 0 < m → x.alignment % m ≡ 0 → section.executable ≡ false → starts file index % m ≡ 0) → (z : Site) → IsSiteIn index section z
+    fit : ((m : ℕ) → 0 < m → x.alignment % m ≡ 0 → section.executable ≡ false → starts file index % m ≡ 0) → (z : Site) → IsSiteIn index section z → IsCodeOf starts bytes file z
         → (z.located.placed ≡ true → HasSize (form t z.located) z x.alignment z.located.kind)
         → AllByRecursion (λ q. IsTemplate q.template) (parts_of t z)
         → AllByRecursion (λ q. AllByRecursion (λ f. K q.ordinal f.symbol) (template_fields q.template)) (parts_of t z)
-        → has_row z.located ≡ true → IsFit p starts file z
-    fit begins z here sized template knows row =
+        → has_row z.located ≡ true → IsFit p starts bytes file z
+    fit begins z here found sized template knows row =
         let l = z.located in
         let m = mapped_at starts file z in
         let placed : l.placed ≡ true = (and_parts l.placed l.home.loaded row).0 in
@@ -155,10 +157,11 @@ module _ (p : Program) (os : List Object) (starts : Starts) (file : ℕ) (sites 
         let suit = suits_by z file x.alignment (starts file l.section) (row_in starts file z) v (has_values p m) l.kind refl refl refl
         (λ e al h. multiple e al h) (λ width es k. values width es k) (here.kind placed) size in
         record {
-          sized = fits p file l.ordinal l.section l.offset l.line l.options l.home l.placed (row_in starts file z) z.offset (starts file l.section) l.kind suit;
-          coded = λ e. is_written p file l.ordinal l.section l.offset l.line l.options l.home l.placed (row_in starts file z) z.offset (starts file l.section) l.kind suit held here.uncompressed e;
-          code = λ e. coded p file l.ordinal l.section l.offset l.line l.options l.home l.placed (row_in starts file z) z.offset (starts file l.section) l.kind suit held e
-              ∙ coded_by p file z x.alignment v l.kind held e size;
+          sized = fits p file l.ordinal l.section l.offset l.line l.options l.home l.placed (row_in starts file z) z.offset (starts file l.section) z.coded l.kind suit;
+          coded = λ e.
+              subst (IsWritten p m) (sym found)
+              (is_written p file l.ordinal l.section l.offset l.line l.options l.home l.placed (row_in starts file z) z.offset (starts file l.section) z.coded l.kind suit held e);
+          code = λ e. found ∙ coded_by p file z x.alignment v l.kind held e size;
           figures = λ e. spelled_by p file starts z x.alignment l.kind held e size;
         }
       where
@@ -172,21 +175,22 @@ module _ (p : Program) (os : List Object) (starts : Starts) (file : ℕ) (sites 
             let ordinal = z.located.ordinal in
             ap (λ kind. list_all (λ e. is_some (value_at p (mapped_at starts file z) e)) (expressions kind)) k
             ∙ all_valued (a ordinal) ordinal width v es
-            (subst (λ kind. AllByRecursion (λ q. IsTemplate q.template) (map (part_of ordinal) (templates v kind z.bytes))) k template)
-            (has_parts ordinal (templates v (Directs (Values width es)) z.bytes)
-            (subst (λ kind. AllByRecursion (λ q. AllByRecursion (λ f. K q.ordinal f.symbol) (template_fields q.template)) (map (part_of ordinal) (templates v kind z.bytes))) k knows))
+            (subst (λ kind. AllByRecursion (λ q. IsTemplate q.template) (map (part_of ordinal) (templates v kind z.bytes z.coded))) k template)
+            (has_parts ordinal (templates v (Directs (Values width es)) z.bytes z.coded)
+            (subst (λ kind. AllByRecursion (λ q. AllByRecursion (λ f. K q.ordinal f.symbol) (template_fields q.template)) (map (part_of ordinal) (templates v kind z.bytes z.coded))) k knows))
 
-    all_fit : ((m : ℕ) → 0 < m → x.alignment % m ≡ 0 → section.executable ≡ false → starts file index % m ≡ 0) → (zs : List Site) → AllByRecursion (IsSiteIn index section) zs
+    all_fit : ((m : ℕ) → 0 < m → x.alignment % m ≡ 0 → section.executable ≡ false → starts file index % m ≡ 0) → (zs : List Site) → AllByRecursion (IsSiteIn index section) zs → AllByRecursion (IsCodeOf starts bytes file) zs
         → AllByRecursion (λ z. z.located.placed ≡ true → HasSize (form t z.located) z x.alignment z.located.kind) zs
         → AllByRecursion (λ z. AllByRecursion (λ q. IsTemplate q.template) (parts_of t z)) zs
         → AllByRecursion (λ z. AllByRecursion (λ q. AllByRecursion (λ f. K q.ordinal f.symbol) (template_fields q.template)) (parts_of t z)) zs
-        → AllByRecursion (λ z. has_row z.located ≡ true → IsFit p starts file z) zs
-    all_fit begins [] h sz ts ks = tt
-    all_fit begins (z ∷ zs) (h, hs) (sz, szs) (ts, tss) (ks, kss) = (fit begins z h sz ts ks, all_fit begins zs hs szs tss kss)
+        → AllByRecursion (λ z. has_row z.located ≡ true → IsFit p starts bytes file z) zs
+    all_fit begins [] h cs sz ts ks = tt
+    all_fit begins (z ∷ zs) (h, hs) (c, cs) (sz, szs) (ts, tss) (ks, kss) = (fit begins z h c sz ts ks, all_fit begins zs hs cs szs tss kss)
 
     pub section_fits : ((m : ℕ) → 0 < m → x.alignment % m ≡ 0 → section.executable ≡ false → starts file index % m ≡ 0)
-        → AllByRecursion (λ z. has_row z.located ≡ true → IsFit p starts file z) own
+        → AllByRecursion (λ z. has_row z.located ≡ true → IsFit p starts bytes file z) own
     section_fits begins =
-        all_fit begins own (sites_are_in sections index section sites at settled) is.sizes
+        all_fit begins own (sites_are_in sections index section sites at settled)
+        (all_filter (IsCodeOf starts bytes file) (λ s. s.located.section == index) sites codes) is.sizes
         (each (λ q. IsTemplate q.template) (parts_of t) own is.fields)
         (each (λ q. AllByRecursion (λ f. K q.ordinal f.symbol) (template_fields q.template)) (parts_of t) own known)

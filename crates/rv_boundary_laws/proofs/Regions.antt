@@ -6,7 +6,7 @@ use Rattle.std.specs.List.{AllByRecursion, slice_get}
 use Rattle.rv_unit_laws.specs.declared.section_type.SectionType.{SectionType}
 use Rattle.rv_unit_laws.specs.declared.section_type.SectionType.TheVariants as types
 use Rattle.rv_unit_laws.specs.Sections.{Section as SourceSection}
-use Rattle.rv_unit_laws.specs.Tables.{Tables, aligned, alignment_at}
+use Rattle.rv_unit_laws.specs.Tables.{Tables, aligned}
 use Rattle.rv_map.specs.declared.map.Region.{Region}
 use Rattle.rv_map.specs.Limits.{IsGlobal}
 use Rattle.rv_source_laws.specs.Located.{has_row}
@@ -28,6 +28,7 @@ use Rattle.rv_boundary_laws.proofs.Statements.{mapped_at, mapped_from, row_addre
 use Rattle.rv_boundary_laws.proofs.Settled.{IsSettled, IsSiteIn, sites_are_in, follows, sized, bytes_are}
 use Rattle.rv_boundary_laws.proofs.Known.{still}
 use Rattle.rv_boundary_laws.proofs.Sections.{meant_in, multiple_of}
+use Rattle.rv_boundary_laws.proofs.CodeOf.{IsCodeOf}
 use Rattle.rv_boundary_laws.proofs.Placed.{IsFit, bytes_linked, section_fits}
 
 -- ---- a region, section by section
@@ -111,18 +112,18 @@ module _ (p : Program) (all : List Object) (starts : Starts) (spells : Mapped �
   stored_size types.Note count bytes e = sym e
   stored_size types.Nobits count bytes e = refl
 
-  module _ (goes : Section → Bool) (goes_source : SourceSection → Bool)
+  module _ (code : Mapped → List ℕ) (goes : Section → Bool) (goes_source : SourceSection → Bool)
       (loads : (s : SourceSection) → goes_source s ≡ true → s.loaded ≡ true)
       (same_by : (t : Tables) (sites : List Site) (number : Numbering) (o : Object) (index : ℕ) (s : SourceSection) (x : Section)
       → IsSectionOf t sites number o.symbols index s (sites_in index sites) x → goes x ≡ goes_source s)
       (holds : (t : Tables) (sites : List Site) (number : Numbering) (o : Object) (index : ℕ) (s : SourceSection) (x : Section)
       → IsSectionOf t sites number o.symbols index s (sites_in index sites) x → goes_source s ≡ true → stores ≡ true → initial_bytes x.contents ≡ flat_map part_bytes (parts t (sites_in index sites)))
-      (spell : (file : ℕ) (s : SourceSection) (z : Site) → goes_source s ≡ true → z.located.home ≡ s → IsFit p starts file z
+      (spell : (file : ℕ) (s : SourceSection) (z : Site) → goes_source s ≡ true → z.located.home ≡ s → IsFit p starts code file z
       → spells (mapped_at starts file z) ≡ flat_map (written (meant_in p file)) (parts_of (tables_in p file) z))
-      (fitted : (file : ℕ) (s : SourceSection) (z : Site) → goes_source s ≡ true → z.located.home ≡ s → IsFit p starts file z → P (mapped_at starts file z)) where
+      (fitted : (file : ℕ) (s : SourceSection) (z : Site) → goes_source s ≡ true → z.located.home ≡ s → IsFit p starts code file z → P (mapped_at starts file z)) where
     module _ (file : ℕ) (sites : List Site) (number : Numbering) (o : Object) (sections : List SourceSection)
         (low : AllByRecursion IsGlobal p.map.globals) (are : AreSectionsOf (tables_in p file) sites number o.symbols 0 sections o.sections)
-        (settled : AllByRecursion (IsSettled sections) sites)
+        (settled : AllByRecursion (IsSettled sections) sites) (codes : AllByRecursion (IsCodeOf starts code file) sites)
         (plain : (j : ℕ) (x : Section) → slice_get o.sections j ≡ Some x → alignments_of x ≡ [])
         (address : (n : ℕ) → address_at p.statements file n ≡ option_and_then (row_address starts file) (site_at sites n))
         (mapped : (j : ℕ) → source.mapped_in p.mapped file j ≡ mapped_from starts file (sites_in j sites)) where
@@ -143,8 +144,8 @@ module _ (p : Program) (all : List Object) (starts : Starts) (spells : Mapped �
           let flags : goes_to_text x ≡ (s.loaded && s.executable) = ap (λ b. b && x.executable) is.loaded ∙ ap (λ b. s.loaded && b) is.executable in
           let count_is : sites_end 0 own ≡ length (flat_map part_bytes (parts t own)) = filled t 0 own is.tile ∙ (let n = length (flat_map part_bytes (parts t own)) in let e : 0 + n ≡ n = omega arith in e) in
           let rows_count = sized starts file t index s loaded 0 own inside is.tile in
-          let fits : (stop : ℕ) → starts file index ≡ aligned (begins_at x) stop → AllByRecursion (λ z. has_row z.located ≡ true → IsFit p starts file z) own =
-          λ stop starts_at. section_fits p all starts file sites number o sections low are settled plain address index s x is at none loaded relocated
+          let fits : (stop : ℕ) → starts file index ≡ aligned (begins_at x) stop → AllByRecursion (λ z. has_row z.located ≡ true → IsFit p starts code file z) own =
+          λ stop starts_at. section_fits p all starts file sites number o sections low are settled code codes plain address index s x is at none loaded relocated
           (λ m some divides no_code.
           ap (λ n. n % m) (starts_at ∙ ap (λ n. aligned n stop)
           (begins_as ∙ ap (λ b. max (if b then 2 else 1) x.alignment) (flags ∙ ap (λ b. s.loaded && b) no_code ∙ never s.loaded) ∙ least x.alignment is.some))
@@ -156,14 +157,14 @@ module _ (p : Program) (all : List Object) (starts : Starts) (spells : Mapped �
             count = still x none (starts file index) (size_of x.contents) ∙ ap size_of is.contents ∙ stored_size s.section_type (sites_end 0 own) (flat_map part_bytes (parts t own)) count_is
                 ∙ sym rows_count ∙ plus_zero (source.size (map (λ s. s.row) (mapped_from starts file own))) ∙ ap (λ l. source.size (map (λ s. s.row) l)) (sym (mapped index));
             bytes = λ stop starts_at e.
-                bytes_linked p all starts file sites number o sections low are settled plain address index s x is at none loaded relocated (holds t sites number o index s x is goes_there e)
+                bytes_linked p all starts file sites number o sections low are settled code codes plain address index s x is at none loaded relocated (holds t sites number o index s x is goes_there e)
                 ∙ sym (bytes_are starts file t index s loaded spells (written (meant_in p file)) own inside
-                (both (λ z. has_row z.located ≡ true → IsFit p starts file z) (IsSiteIn index s) (λ z. has_row z.located ≡ true → spells (mapped_at starts file z) ≡ flat_map (written (meant_in p file)) (parts_of t z)) own
+                (both (λ z. has_row z.located ≡ true → IsFit p starts code file z) (IsSiteIn index s) (λ z. has_row z.located ≡ true → spells (mapped_at starts file z) ≡ flat_map (written (meant_in p file)) (parts_of t z)) own
                 (λ z h k row. spell file s z goes_there k.home (h row)) (fits stop starts_at) inside))
                 ∙ ap (flat_map spells) (sym (mapped index));
             each = λ stop starts_at.
                 subst (λ l. AllByRecursion P l) (sym (mapped index))
-                (all_mapped file own (both (λ z. has_row z.located ≡ true → IsFit p starts file z) (IsSiteIn index s) (λ z. has_row z.located ≡ true → P (mapped_at starts file z)) own
+                (all_mapped file own (both (λ z. has_row z.located ≡ true → IsFit p starts code file z) (IsSiteIn index s) (λ z. has_row z.located ≡ true → P (mapped_at starts file z)) own
                 (λ z h k row. fitted file s z goes_there k.home (h row)) (fits stop starts_at) inside));
           }
         where

@@ -10,6 +10,7 @@ use Rattle.rv_isa_laws.specs.Bytes.{little_endian}
 use Rattle.rv_text_laws.specs.Expression.{Primary}
 use Rattle.rv_text_laws.specs.Values.{Value, Constant, Symbolic, Difference, Faulty, add, subtract}
 use Rattle.rv_statement.specs.Statement.{StatementKind, Label, Numbered, Instruction, Directs, Expression, Enters, Opens, Globl, Local, Sets, Aligns_to_power, Aligns_to_bytes, Values, Strings, Zeros, Chooses, Ignored}
+use Rattle.rv_pseudo_laws.specs.Code.{code}
 use Rattle.rv_unit_laws.specs.Tables.{aligned, alignment_of, definition, string_bytes}
 use Rattle.rv_map.specs.declared.map.Row.{Row as MapRow}
 use Rattle.rv_source_laws.specs.Program.{Mapped, Program, tables_in, address_by, resolved, number as number_of}
@@ -17,7 +18,8 @@ use Rattle.rv_source_laws.specs.Start.{spelled_said}
 use Rattle.rv_chain_laws.proofs.Held.{IsHeld}
 use Rattle.rv_object.specs.Object.{Relocation}
 use Rattle.rv_object_laws.specs.Inputs.{Starts}
-use Rattle.rv_assemble_laws.specs.Templates.{Datum, Open, IsTemplate, HasField, template_fields, value_fields, templates, zeros}
+use Rattle.rv_assemble_laws.specs.Templates.{Datum, Fixed, Open, IsTemplate, HasField, template_fields, value_fields, templates, zeros}
+use Rattle.rv_assemble_laws.specs.Coded.{constants, joined}
 use Rattle.rv_assemble_laws.specs.Sites.{Site, Part, IsPaddedIn, form, part_of, part_bytes, HasSize, IsMultiple}
 use Rattle.rv_assemble_laws.specs.IsObjectOf.{Numbering, relocation_at, relocations_from}
 use Rattle.rv_boundary_laws.proofs.Patches.{append_nil, written}
@@ -97,10 +99,17 @@ pub suits_by : (s : Site) (file multiple start : ℕ) (row : MapRow) (v : Expres
     → row.bytes ≡ s.bytes → row.instructions ≡ s.instructions → row.address ≡ start + s.offset
     → (s.located.home.executable ≡ false → (a : Option ℕ) → IsMultiple a multiple → suits.IsMultiple a start)
     → ((width : ℕ) (values : List Expression) → kind ≡ Directs (Values width values) → valued ≡ true)
-    → IsPlacedKind kind → HasSize v s multiple kind → suits.Suits v valued s.located.home row s.offset start kind
+    → IsPlacedKind kind → HasSize v s multiple kind → suits.Suits v valued s.located.home s.located.options.rvc s.coded row s.offset start kind
 suits_by s file multiple start row v valued (Label name) b i at m values placed (x, y) = (b ∙ x, i ∙ y)
 suits_by s file multiple start row v valued (Numbered number) b i at m values placed (x, y) = (b ∙ x, i ∙ y)
-suits_by s file multiple start row v valued (Instruction mnemonic operands) b i at m values placed (x, y, z) = (b ∙ x, i ∙ y, z)
+suits_by s file multiple start row v valued (Instruction mnemonic operands) b i at m values placed h = record {
+  known = h.known;
+  ps = h.ps;
+  parts = ap (λ n. code (constants v) s.located.options.rvc n mnemonic operands) b ∙ h.parts;
+  coded_as = h.coded_as;
+  size = b ∙ h.size;
+  count = i ∙ h.count;
+}
 suits_by s file multiple start row v valued (Directs (Values width es)) b i at m values placed (x, y) = (i ∙ x, values width es refl, b ∙ y)
 suits_by s file multiple start row v valued (Directs (Strings ended strings)) b i at m values placed (x, y) = (i ∙ x, b ∙ y)
 suits_by s file multiple start row v valued (Directs (Zeros count)) b i at m values placed (x, y) = (i ∙ x, y ∙ ap Constant (sym b))
@@ -136,7 +145,7 @@ module _ (p : Program) (file : ℕ) where
   pub spelled_by : (starts : Starts) (s : Site) (multiple : ℕ) (kind : StatementKind) → IsHeld s.located.home kind → s.located.home.executable ≡ false
       → HasSize (form (tables_in p file) s.located) s multiple kind
       → let m : Mapped = mapped_at starts file s in
-      spelled_said (number_of p m) kind s.bytes ≡ flat_map (written meant_in) (map (part_of s.located.ordinal) (templates (form (tables_in p file) s.located) kind s.bytes))
+      spelled_said (number_of p m) kind s.bytes ≡ flat_map (written meant_in) (map (part_of s.located.ordinal) (templates (form (tables_in p file) s.located) kind s.bytes s.coded))
   spelled_by starts s multiple (Label name) held aside size = refl
   spelled_by starts s multiple (Numbered number) held aside size = refl
   spelled_by starts s multiple (Instruction mnemonic operands) held aside size = let e : true ≡ false = sym held ∙ aside in absurd (cc)
@@ -154,12 +163,17 @@ module _ (p : Program) (file : ℕ) where
   spelled_by starts s multiple (Directs (Chooses choice)) held aside size = refl
   spelled_by starts s multiple (Directs Ignored) held aside size = refl
 
-  -- in code its parts are the words of its instruction
+  -- the parts of code
+  fixed_parts : (ordinal : ℕ) (coded : List (List ℕ)) → joined coded ≡ flat_map (written meant_in) (map (part_of ordinal) (map Fixed coded))
+  fixed_parts ordinal [] = refl
+  fixed_parts ordinal (bytes ∷ coded) = ap (λ l. bytes ++ l) (fixed_parts ordinal coded)
+
+  -- in code its parts are its code
   pub coded_by : (s : Site) (multiple : ℕ) (v : Expression → Value) (kind : StatementKind) → IsHeld s.located.home kind → s.located.home.executable ≡ true → HasSize v s multiple kind
-      → suits.code_said v kind ≡ flat_map (written meant_in) (map (part_of s.located.ordinal) (templates v kind s.bytes))
+      → suits.code_said s.coded kind ≡ flat_map (written meant_in) (map (part_of s.located.ordinal) (templates v kind s.bytes s.coded))
   coded_by s multiple v (Label name) held code size = refl
   coded_by s multiple v (Numbered number) held code size = refl
-  coded_by s multiple v (Instruction mnemonic operands) held code size = sym (append_nil (suits.code_said v (Instruction mnemonic operands)))
+  coded_by s multiple v (Instruction mnemonic operands) held code size = fixed_parts s.located.ordinal s.coded
   coded_by s multiple v (Directs (Values width es)) held code size = let e : true ≡ false = sym code ∙ held.0 in absurd (cc)
   coded_by s multiple v (Directs (Strings ended strings)) held code size = let e : true ≡ false = sym code ∙ held.0 in absurd (cc)
   coded_by s multiple v (Directs (Zeros count)) held code size = let e : true ≡ false = sym code ∙ held in absurd (cc)

@@ -18,7 +18,7 @@ use Rattle.rv_chain_laws.proofs.Homes.{IsHomeIn, homes_from}
 use Rattle.rv_assemble_laws.specs.Refusals.{statements_fault}
 use Rattle.rv_assemble_laws.specs.Templates.{templates}
 use Rattle.rv_assemble_laws.specs.Sites.{Site, Part, form, parts_of, parts, part_bytes, sites_in, Tile, end_of}
-use Rattle.rv_assemble_laws.proofs.Faultless.{no_first_fault, IsUncompressed, all_uncompressed}
+use Rattle.rv_assemble_laws.proofs.Faultless.{no_first_fault}
 use Rattle.rv_object_laws.specs.Inputs.{Starts}
 use Rattle.rv_boundary_laws.proofs.Patches.{append_assoc}
 use Rattle.rv_boundary_laws.proofs.Statements.{row_in, mapped_at, mapped_from}
@@ -26,20 +26,20 @@ use Rattle.rv_boundary_laws.proofs.Statements.{row_in, mapped_at, mapped_from}
 -- ---- a statement
 
 -- a statement without a place has no bytes
-unplaced_by : (t : Tables) (k : ℕ) (kind : StatementKind) → is_placed t k kind ≡ false → (v : Expression → Value) (bytes : ℕ) → templates v kind bytes ≡ []
-unplaced_by t k (Label name) e v bytes = absurd (cc)
-unplaced_by t k (Numbered number) e v bytes = absurd (cc)
-unplaced_by t k (Instruction mnemonic operands) e v bytes = absurd (cc)
-unplaced_by t k (Directs (Sets name x)) e v bytes = refl
-unplaced_by t k (Directs (Values width values)) e v bytes = absurd (cc)
-unplaced_by t k (Directs (Strings ended strings)) e v bytes = absurd (cc)
-unplaced_by t k (Directs (Zeros count)) e v bytes = absurd (cc)
-unplaced_by t k (Directs (Aligns_to_power x)) e v bytes = absurd (cc)
-unplaced_by t k (Directs (Aligns_to_bytes x)) e v bytes = absurd (cc)
-unplaced_by t k (Directs _) e v bytes = refl
+unplaced_by : (t : Tables) (k : ℕ) (kind : StatementKind) → is_placed t k kind ≡ false → (v : Expression → Value) (bytes : ℕ) (coded : List (List ℕ)) → templates v kind bytes coded ≡ []
+unplaced_by t k (Label name) e v bytes coded = absurd (cc)
+unplaced_by t k (Numbered number) e v bytes coded = absurd (cc)
+unplaced_by t k (Instruction mnemonic operands) e v bytes coded = absurd (cc)
+unplaced_by t k (Directs (Sets name x)) e v bytes coded = refl
+unplaced_by t k (Directs (Values width values)) e v bytes coded = absurd (cc)
+unplaced_by t k (Directs (Strings ended strings)) e v bytes coded = absurd (cc)
+unplaced_by t k (Directs (Zeros count)) e v bytes coded = absurd (cc)
+unplaced_by t k (Directs (Aligns_to_power x)) e v bytes coded = absurd (cc)
+unplaced_by t k (Directs (Aligns_to_bytes x)) e v bytes coded = absurd (cc)
+unplaced_by t k (Directs _) e v bytes coded = refl
 
 abbrev pub IsBare : Located → Type 0
-IsBare l = l.placed ≡ false → (v : Expression → Value) (bytes : ℕ) → templates v l.kind bytes ≡ []
+IsBare l = l.placed ≡ false → (v : Expression → Value) (bytes : ℕ) (coded : List (List ℕ)) → templates v l.kind bytes coded ≡ []
 
 bare_from : (file k : ℕ) (t : Tables) (ss : List Statement) → AllByRecursion IsBare (located_from file k t ss)
 bare_from file k t [] = tt
@@ -93,7 +93,6 @@ pub record IsSettled (sections : List Section) (s : Site) : Type 0 where
   pub bare : IsBare s.located
   pub labelled : IsLabelled s.located
   pub kind : IsKind s.located
-  pub uncompressed : IsUncompressed s.located.options s.located.kind
 
 of_located : (P : Located → Type 0) (sites : List Site) → AllByRecursion P (map (λ s. s.located) sites) → AllByRecursion (λ s. P s.located) sites
 of_located P [] h = tt
@@ -105,10 +104,10 @@ front_of P (x ∷ xs) ys (h, hs) = (h, front_of P xs ys hs)
 
 settled_by : (sections : List Section) (sites : List Site) → AllByRecursion (λ s. IsHomeIn (λ f. sections) s.located) sites → AllByRecursion (λ s. Held s.located) sites
     → AllByRecursion (λ s. IsBare s.located) sites → AllByRecursion (λ s. IsLabelled s.located) sites → AllByRecursion (λ s. IsKind s.located) sites
-    → AllByRecursion (λ s. IsUncompressed s.located.options s.located.kind) sites → AllByRecursion (IsSettled sections) sites
-settled_by sections [] h k b l q u = tt
-settled_by sections (s ∷ ss) (h, hs) (k, ks) (b, bs) (l, ls) (q, qs) (u, us) =
-    (record { home = h; held = k; bare = b; labelled = l; kind = q; uncompressed = u }, settled_by sections ss hs ks bs ls qs us)
+    → AllByRecursion (IsSettled sections) sites
+settled_by sections [] h k b l q = tt
+settled_by sections (s ∷ ss) (h, hs) (k, ks) (b, bs) (l, ls) (q, qs) =
+    (record { home = h; held = k; bare = b; labelled = l; kind = q }, settled_by sections ss hs ks bs ls qs)
 
 pub settled : (ss : List Statement) (sites : List Site) → statements_fault ss ≡ None → map (λ s. s.located) sites ≡ located_from 1 1 at_start ss
     → AllByRecursion (IsSettled (opened_of (tables ss)).sections) sites
@@ -120,7 +119,6 @@ settled ss sites good is =
     (all (IsHomeIn (λ f. sections)) (homes_from (λ f. sections) 1 1 at_start ss refl (text_section, refl)))
     (all Held (front_of Held (located_from 1 1 at_start ss) [] (held_of 1 (ss ∷ []) (no_first_fault ss good, tt))))
     (all IsBare (bare_from 1 1 at_start ss)) (all IsLabelled (labelled_from 1 1 at_start ss)) (all IsKind (kinds_from 1 1 at_start ss))
-    (all (λ l. IsUncompressed l.options l.kind) (all_uncompressed ss good))
 
 -- ---- the statements of a section
 
@@ -131,13 +129,12 @@ pub record IsSiteIn (index : ℕ) (section : Section) (s : Site) : Type 0 where
   pub held : IsHeld section s.located.kind
   pub bare : IsBare s.located
   pub kind : IsKind s.located
-  pub uncompressed : IsUncompressed s.located.options s.located.kind
 
 site_in : (sections : List Section) (index : ℕ) (section : Section) (s : Site) → slice_get sections index ≡ Some section → s.located.section ≡ index → IsSettled sections s → IsSiteIn index section s
 site_in sections index section s at stands h =
     let both : Some s.located.home ≡ Some section = sym h.home ∙ ap (slice_get sections) stands ∙ at in
     let same : s.located.home ≡ section = cc in
-    record { stands = stands; home = same; held = subst (λ x. IsHeld x s.located.kind) same h.held; bare = h.bare; kind = h.kind; uncompressed = h.uncompressed }
+    record { stands = stands; home = same; held = subst (λ x. IsHeld x s.located.kind) same h.held; bare = h.bare; kind = h.kind }
 
 pub sites_are_in : (sections : List Section) (index : ℕ) (section : Section) (sites : List Site) → slice_get sections index ≡ Some section
     → AllByRecursion (IsSettled sections) sites → AllByRecursion (IsSiteIn index section) (sites_in index sites)
@@ -157,7 +154,7 @@ no_row s section t home loaded bare none = go s.located.placed refl (ap (λ x. s
     go : (b : Bool) → s.located.placed ≡ b → (s.located.placed && section.loaded) ≡ false → parts_of t s ≡ []
     go true e f =
         let g : true ≡ false = sym loaded ∙ ap (λ x. x && section.loaded) (sym e) ∙ f in absurd (cc)
-    go false e f = ap (map (λ x. record { ordinal = s.located.ordinal; template = x })) (bare e (form t s.located) s.bytes)
+    go false e f = ap (map (λ x. record { ordinal = s.located.ordinal; template = x })) (bare e (form t s.located) s.bytes s.coded)
 
 module _ (starts : Starts) (file : ℕ) (t : Tables) (index : ℕ) (section : Section) (loaded : section.loaded ≡ true) where
   abbrev rows : List Site → List MapRow

@@ -1,16 +1,13 @@
 -- What the row of a statement owes to it, in terms of the values of its expressions.
 
 use Rattle.std.specs.Prelude.{List, ◌≡◌, ℕ, ◌+◌, ◌*◌, ◌%◌, ◌<◌, Bool, true, false, ⊤, [], length, Option, Some, None}
-use Rattle.rv_isa.specs.declared.instruction.Inst.{Inst}
 use Rattle.rv_text_laws.specs.Values.{Value, Constant}
 use Rattle.rv_statement.specs.Statement.{StatementKind, Label, Numbered, Instruction, Directs, Expression, Directive, Sets, Aligns_to_power, Aligns_to_bytes, Values, Strings, Zeros}
 use Rattle.rv_unit_laws.specs.Sections.{Section}
 use Rattle.rv_unit_laws.specs.Tables.{alignment_of, padding, string_bytes}
 use Rattle.rv_map.specs.declared.map.Row.{Row}
 use Rattle.rv_source_laws.specs.Fits.{is_low}
-use Rattle.rv_assemble_laws.specs.Written.{is_constant, constant_in, expanded}
-use Rattle.rv_assemble_laws.specs.Templates.{words}
-use Rattle.rv_assemble_laws.specs.Sites.{IsInstruction}
+use Rattle.rv_assemble_laws.specs.Coded.{is_constant, joined, IsCode}
 
 abbrev pub IsMultiple : Option ℕ → ℕ → Type 0
 IsMultiple None start = ⊤
@@ -36,14 +33,14 @@ SuitsDirective f valued home row offset start (Aligns_to_bytes e) = SuitsAlignme
 SuitsDirective f valued home row offset start (Sets name e) = (row.bytes ≡ 0) × (row.instructions ≡ 0)
 SuitsDirective f valued home row offset start _ = ⊥
 
-abbrev pub Suits : (Expression → Value) → Bool → Section → Row → ℕ → ℕ → StatementKind → Type 0
-Suits f valued home row offset start (Label name) = (row.bytes ≡ 0) × (row.instructions ≡ 0)
-Suits f valued home row offset start (Numbered number) = (row.bytes ≡ 0) × (row.instructions ≡ 0)
-Suits f valued home row offset start (Instruction mnemonic operands) =
-    (row.bytes ≡ 4) × (row.instructions ≡ 1) × ((i : Inst) × IsInstruction f mnemonic operands i)
-Suits f valued home row offset start (Directs directive) = SuitsDirective f valued home row offset start directive
+-- an instruction by its code as well, where compressed code is on or off
+abbrev pub Suits : (Expression → Value) → Bool → Section → Bool → List (List ℕ) → Row → ℕ → ℕ → StatementKind → Type 0
+Suits f valued home rvc coded row offset start (Label name) = (row.bytes ≡ 0) × (row.instructions ≡ 0)
+Suits f valued home rvc coded row offset start (Numbered number) = (row.bytes ≡ 0) × (row.instructions ≡ 0)
+Suits f valued home rvc coded row offset start (Instruction mnemonic operands) = IsCode f rvc mnemonic operands row.bytes coded row.instructions
+Suits f valued home rvc coded row offset start (Directs directive) = SuitsDirective f valued home row offset start directive
 
 -- the bytes of a statement in code
-abbrev pub code_said : (Expression → Value) → StatementKind → List ℕ
-code_said f (Instruction mnemonic operands) = words (expanded (λ e. constant_in (f e)) mnemonic operands)
-code_said f _ = []
+abbrev pub code_said : List (List ℕ) → StatementKind → List ℕ
+code_said coded (Instruction mnemonic operands) = joined coded
+code_said coded _ = []

@@ -1,20 +1,34 @@
 -- The objects of the two files.
 
-use Rattle.std.proofs.Common.{ℕ, List, [], refl, arith, inl, inr, slice_index_or}
+use Rattle.std.proofs.Common.{ℕ, false, List, [], ◌∷◌, refl, arith, inl, inr, slice_index_or}
 use Rattle.std.specs.Int.{int_wrap}
 use Rattle.rv_statement.specs.Statement.{Label}
-use Rattle.rv_unit_laws.specs.Tables.{at_start}
+use Rattle.rv_unit_laws.specs.Tables.{at_start, tables}
 use Rattle.rv_source_laws.specs.Located.{located_now}
-use Rattle.rv_assemble_laws.specs.Sites.{Site}
-use Rattle.rv_isa.specs.declared.instruction.Inst.TheVariants.{Ecall}
+use Rattle.rv_assemble_laws.specs.Sites.{Site, form}
+use Rattle.rv_isa.specs.declared.instruction.Inst.TheVariants as inst
+use Rattle.rv_statement.specs.declared.mnemonic.Mnemonic.TheVariants.{Ecall}
+use Rattle.rv_pseudo_laws.specs.Code.{Closed}
+use Rattle.rv_assemble_laws.specs.Coded.{IsCode}
 use Rattle.rv_assemble_laws.specs.IsObjectOf.{IsObjectOf}
 use Rattle.rv_boundary_laws.specs.TwoFiles.{first_source, second_source, first_object, second_object, first_sites, second_sites, first_number, second_number}
 
 no_site : Site
-no_site = record { located = located_now 1 1 at_start (record { line = 1; kind = Label [] }); offset = 0; bytes = 0; instructions = 0 }
+no_site = record { located = located_now 1 1 at_start (record { line = 1; kind = Label [] }); offset = 0; bytes = 0; instructions = 0; coded = [] }
 
 abbrev nth : List Site → ℕ → Site
 nth sites n = slice_index_or sites n no_site
+
+-- its one instruction, with compressed code off
+ecall : IsCode (form (tables first_source) (nth first_sites 3).located) false Ecall [] 4 ((0x73 ∷ 0 ∷ 0 ∷ 0 ∷ []) ∷ []) 1
+ecall = record {
+  known = refl;
+  ps = Closed inst.Ecall ∷ [];
+  parts = refl;
+  coded_as = ((tt, refl, inl (refl, refl)), tt);
+  size = refl;
+  count = refl;
+}
 
 pub first_is : IsObjectOf first_source first_object
 unfolding int_wrap
@@ -37,8 +51,9 @@ first_is = record {
       contents = refl;
       relocations = refl;
       numbered = λ e. (tt, tt);
-      sizes = ((λ e. (refl, refl)), ((λ e. (refl, refl)), ((λ e. (refl, refl)), ((λ e. (refl, refl, (Ecall, (refl, refl, tt)))), tt))));
+      sizes = ((λ e. (refl, refl)), ((λ e. (refl, refl)), ((λ e. (refl, refl)), ((λ e. ecall), tt))));
       fields = (tt, tt);
+      short = λ e. omega arith;
       low = λ e. omega arith;
     },
     (
@@ -56,6 +71,7 @@ first_is = record {
         numbered = λ e. (((refl, refl), tt), (((refl, (nth first_sites 5, refl, refl, refl)), tt), (((refl, refl), ((refl, refl), tt)), (((refl, (nth first_sites 9, refl, refl, refl)), tt), tt))));
         sizes = ((λ e. (refl, refl)), ((λ e. (refl, refl)), ((λ e. (refl, refl)), ((λ e. (refl, refl)), ((λ e. (refl, refl)), ((λ e. (refl, refl)), tt))))));
         fields = (inl refl, (inr refl, (inr (inr (inl refl)), (inr refl, tt))));
+        short = λ e. omega arith;
         low = λ e. absurd (cc);
       },
       tt,
@@ -89,6 +105,7 @@ second_is = record {
       numbered = λ e. tt;
       sizes = ((λ e. (refl, refl)), tt);
       fields = tt;
+      short = λ e. omega arith;
       low = λ e. omega arith;
     },
     (
@@ -106,6 +123,7 @@ second_is = record {
         numbered = λ e. (tt, (tt, (((refl, (nth second_sites 2, refl, refl, refl)), tt), tt)));
         sizes = ((λ e. (refl, refl)), ((λ e. (refl, refl)), ((λ e. (refl, refl)), ((λ e. (refl, refl)), ((λ e. (refl, refl)), ((λ e. (refl, refl)), ((λ e. (refl, refl)), ((λ e. (refl, refl)), tt))))))));
         fields = (tt, (tt, (inl refl, tt)));
+        short = λ e. omega arith;
         low = λ e. absurd (cc);
       },
       (
@@ -123,6 +141,7 @@ second_is = record {
           numbered = λ e. absurd (cc);
           sizes = ((λ e. (refl, refl)), ((λ e. (refl, refl)), tt));
           fields = (tt, tt);
+          short = λ e. omega arith;
           low = λ e. absurd (cc);
         },
         tt,

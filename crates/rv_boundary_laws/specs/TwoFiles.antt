@@ -221,28 +221,39 @@ two_files = record {
 
 -- ---- how the sources are these objects
 
--- the offset, the bytes and the instructions of a statement
+-- the offset, the bytes and the instructions of a statement, and its code
 pub record Size : Type 0 where
   pub offset : ℕ
   pub bytes : ℕ
   pub instructions : ℕ
+  pub coded : List (List ℕ)
 
 abbrev pub size : ℕ → ℕ → ℕ → Size
 size offset bytes instructions =
-    record { offset = offset; bytes = bytes; instructions = instructions }
+    record { offset = offset; bytes = bytes; instructions = instructions; coded = [] }
+
+-- of one instruction, a word at the start of its section
+abbrev pub one_word : List ℕ → Size
+one_word bytes = record { offset = 0; bytes = 4; instructions = 1; coded = bytes ∷ [] }
 
 abbrev pub sites_of : List Located → List Size → List Site
 sites_of [] sizes = []
 sites_of (l ∷ ls) [] = []
 sites_of (l ∷ ls) (z ∷ zs) =
-    record { located = l; offset = z.offset; bytes = z.bytes; instructions = z.instructions } ∷
-    sites_of ls zs
+    record {
+      located = l;
+      offset = z.offset;
+      bytes = z.bytes;
+      instructions = z.instructions;
+      coded = z.coded;
+    }
+    ∷ sites_of ls zs
 
 abbrev pub first_sites : List Site
 first_sites =
     sites_of (located_from 1 1 at_start first_source)
-    (size 0 0 0 ∷ size 0 0 0 ∷ size 0 0 0 ∷ size 0 4 1 ∷ size 0 0 0 ∷ size 0 0 0 ∷ size 0 4 0 ∷
-    size 4 8 0 ∷ size 12 4 0
+    (size 0 0 0 ∷ size 0 0 0 ∷ size 0 0 0 ∷ one_word (0x73 ∷ 0 ∷ 0 ∷ 0 ∷ []) ∷ size 0 0 0 ∷
+    size 0 0 0 ∷ size 0 4 0 ∷ size 4 8 0 ∷ size 12 4 0
     ∷ size 16 8 0 ∷ [])
 
 abbrev pub second_sites : List Site

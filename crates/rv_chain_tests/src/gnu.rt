@@ -59,8 +59,9 @@ fn programs(rt: HostRuntime) -> Result<(), Fail> {
     Ok(())
 }
 
-/// Of some hundred random programs those that have the most different forms: a source; the rows of 32 bytes after
-/// the first page of its file that are not all zero, and their count; how its map begins.
+/// Of some hundred random programs those that have the most different forms, the last four with compressed code: a
+/// source; the rows of 32 bytes after the first page of its file that are not all zero, and their count; how its map
+/// begins.
 const PROGRAMS: &str = "===
 .option norvc
 ecall
@@ -1736,4 +1737,243 @@ global _start 10000
 global l.3 10014
 global c.4 c494fe3a
 global f.1 10037
+===
+.globl _start
+sltz a0, a1
+_start:
+zext.w a0, a1
+addiw a0, a0, 0
+l1:
+.globl l1
+addi a0, sp, 1024
+.align 1
+sw a0, 64(a1)
+.section .text.b,\"ax\"
+lui a0, 0
+lw ra, 32(sp)
+jr 4(a1)
+l2:
+.globl l2
+addi a0, a1, 1
+.text
+.align 1
+sd s0, 248(a5)
+.option norvc
+.option norvc
+addi a0, sp, 0
+.option norvc
+.section .text.c,\"ax\"
+li a0, -33
+.align 1
+srli a0, a0, 63
+sgt a0, a1, zero
+addw a0, a0, a1
+srai a0, a0, 63
+.section .rodata
+.word _start + 5
+.word l1 + 4
+.half _start - l2
+.word l1 - l2
+d3:
+.data
+.half _etext - l2
+.dword l2, d3 - 4
+d4:
+---
+000000000000000033a50500139505020191012513050140a8c1e0ff130501003705000082506780
+00000000000000014500138515001305f0fd1355f5033325b0003b05b5001355f543000000000000
+00000000000000800900010010000100e2ffeaffffff000000000000000000000000000000000000
+0000000000000100180022000100000000000a10010000000000
+0000000000002012
+---
+rvmap 1
+text 10000 1003a
+rodata 11000 1100e
+data 12000 12012
+bss 12012 12012
+entry 10004
+global _start 10004
+global l1 1000c
+global l2 10022
+===
+.globl _start
+l1:
+_start:
+zext.w a0, a1
+.option norvc
+.align 1
+.option norvc
+li a0, -32
+l2:
+lui a0, 0xfffe0
+l3:
+.globl l3
+.section .text.b,\"ax\"
+lw a0, 124(a1)
+.option norvc
+sd t6, 0(sp)
+.text
+.option push
+lw a0, 2(a1)
+l4:
+.option rvc
+addw a0, a0, 5
+.section .text.c,\"ax\"
+l5:
+.globl l5
+.option push
+srli a0, a0, 0
+sd t6, 504(sp)
+addi a0, sp, 4
+.option norvc
+srli a0, a0, 0
+srai a6, a6, 1
+.section .rodata
+.word _start + 4
+.word l1 + 1
+.half _etext - l1
+d6:
+.data
+.half l5 - l2
+.word l3 - l3
+.half _etext - l2
+.balign 4
+d7:
+.bss
+.zero 6
+---
+0000000000000000139505020191130500fe3705feff03a52500152503a5c5072330f10113550500
+0000000000000001feff480013550500135818400000000000000000000000000000000000000000
+000000000000008004000100010001002c0000000000000000000000000000000000000000000000
+00000000000001001200000000002200
+0000000000002008
+---
+rvmap 1
+text 10000 1002c
+rodata 11000 1100a
+data 12000 12008
+bss 12008 1200e
+entry 10000
+global _start 10000
+global l3 1000e
+global l5 1001c
+===
+.globl _start
+li ra, -0x20000
+.option push
+_start:
+l1:
+.globl l1
+l2:
+.globl l2
+.option rvc
+l3:
+neg a0, a1
+ori a0, a0, 1
+.section .text.b,\"ax\"
+l4:
+l5:
+.globl l5
+l6:
+.option norvc
+addw a0, a0, t0
+sd t0, 0(a0)
+subw a0, a0, t0
+lw t0, 0(a0)
+.text
+l7:
+.globl l7
+l8:
+l9:
+addi a0, a0, 32
+li a0, 0xfffffffffffff7ff
+l10:
+fence rw, w
+ld s0, -8(a5)
+li t6, 0x12345678
+.section .rodata
+.half l7 - l8
+.word l9 + 3
+.word _end + 3
+d11:
+.data
+.half l8 - l9
+d12:
+---
+000000000000000081703305b040136515001305050237f5ffff1b05f57f0f00100303b487ffb75f
+000000000000000134129b8f8f673b055500233055003b0555408322050000000000000000000000
+000000000000008000000d0001000520010000000000000000000000000000000000000000000000
+00000000000001000000
+0000000000002002
+---
+rvmap 1
+text 10000 10036
+rodata 11000 1100a
+data 12000 12002
+bss 12002 12002
+entry 10002
+global _start 10002
+global l1 10002
+global l2 10002
+global l5 10026
+global l7 1000a
+===
+.globl _start
+lui a0, 0xfffdf
+l1:
+.globl l1
+li a0, 0x7fffffff
+_start:
+.option norvc
+sub a0, a1, a0
+.option rvc
+.option norvc
+.section .text.b,\"ax\"
+lw a0, 128(a1)
+sgtu a0, a1, a2
+or a0, a1, a0
+jalr zero, 0(ra)
+l2:
+ld s0, 0(a5)
+add a0, zero, zero
+sra a5, a5, 63
+addi sp, sp, 31
+.text
+.option norvc
+sgtz a0, a1
+sext.h a0, a1
+zext.w a0, a1
+.section .text.c,\"ax\"
+lw a0, 64(a1)
+.option norvc
+.align 1
+.option norvc
+lui t6, 31
+.section .rodata
+.word l1 - _etext
+.dword _etext, l1 - 4
+.dword _etext, l2 - 4
+.dword l2, l1 - 4
+d3:
+.data
+.half l2 - l2
+.balign 4
+d4:
+---
+000000000000000037f5fdff370500807d353385a5403325b0001395050313550543139505021355
+0000000000000001050203a505083335b60033e5a5006780000003b407003305000093d7f7431301
+0000000000000002f10103a50504b7ff010000000000000000000000000000000000000000000000
+0000000000000080baffffff4a0001000000000000000100000000004a000100000000002e000100
+00000000000000810000000032000100000000000000010000000000000000000000000000000000
+000000000000010000000000
+0000000000002004
+---
+rvmap 1
+text 10000 1004a
+rodata 11000 11034
+data 12000 12004
+bss 12004 12004
+entry 1000a
+global l1 10004
+global _start 1000a
 ";

@@ -1,27 +1,10 @@
 //! What the language has and is not built yet.
 
-use crate::sources::{Answer, answers, refused};
+use crate::sources::{Answer, EXIT, answers, refused};
 use std::test::Fail;
 
-/// Each is refused as unsupported, at its line.
-const NOT_BUILT: [(&[u8], u8, u32); 74] = [
-    (b"nop", 9, 1),
-    (b"mv a0, a1", 9, 1),
-    (b"not a0, a1", 9, 1),
-    (b"neg a0, a1", 9, 1),
-    (b"negw a0, a1", 9, 1),
-    (b"sext.b a0, a1", 9, 1),
-    (b"sext.h a0, a1", 9, 1),
-    (b"sext.w a0, a1", 9, 1),
-    (b"zext.b a0, a1", 9, 1),
-    (b"zext.h a0, a1", 9, 1),
-    (b"zext.w a0, a1", 9, 1),
-    (b"seqz a0, a1", 9, 1),
-    (b"snez a0, a1", 9, 1),
-    (b"sltz a0, a1", 9, 1),
-    (b"sgtz a0, a1", 9, 1),
-    (b"sgt a0, a1, a2", 9, 1),
-    (b"sgtu a0, a1, a2", 9, 1),
+/// Operands without a number in their file: each is refused as unsupported, at its line.
+const NOT_BUILT: [(&[u8], u8, u32); 40] = [
     (b"beqz a0, x\nx:", 9, 1),
     (b"bnez a0, x\nx:", 9, 1),
     (b"bgez a0, x\nx:", 9, 1),
@@ -34,59 +17,36 @@ const NOT_BUILT: [(&[u8], u8, u32); 74] = [
     (b"bleu a0, a1, x\nx:", 9, 1),
     (b"j x\nx:", 9, 1),
     (b"jal x\nx:", 9, 1),
-    (b"jr ra", 9, 1),
-    (b"jr 4(ra)", 9, 1),
-    (b"ret", 9, 1),
     (b"la a0, x\nx:", 9, 1),
     (b"lla a0, x\nx:", 9, 1),
     (b"call x\nx:", 9, 1),
     (b"call t0, x@plt\nx:", 9, 1),
     (b"tail x\nx:", 9, 1),
     (b"jump x, t0\nx:", 9, 1),
+    (b"la zero, x", 9, 1),
     // symbols as targets and places
     (b"beq a0, a1, x\nx:", 9, 1),
     (b"bne a0, a1, . + 8", 9, 1),
     (b"1: blt a0, a1, 1b", 9, 1),
     (b"jal ra, x\nx:", 9, 1),
     (b"jal zero, .", 9, 1),
-    (b"bgeu a0, a1, 8", 9, 1),
     (b"lw a0, x\n.data; x:", 9, 1),
     (b"lbu a0, x + 4\n.data; x:", 9, 1),
     (b"sd a0, x, t0\n.data; x:", 9, 1),
-    (b"lw a0, 8", 9, 1),
-    (b"sd a0, 8, t0", 9, 1),
-    // functions of addresses
+    // parts of addresses
     (b"lui a0, %hi(x)\nx:", 9, 1),
     (b"addi a0, a0, %lo(x)\nx:", 9, 1),
     (b"auipc a0, %pcrel_hi(x)\nx:", 9, 1),
     (b"lw a0, %lo(x)(a0)\nx:", 9, 1),
     (b"sd a0, %pcrel_lo(x)(a1)\nx:", 9, 1),
-    (b"add a0, a0, %lo(5)", 9, 1),
-    (b"la zero, x", 9, 1),
-    (b"lui a0, %hi(-2048)", 9, 1),
-    (b"lui a0, %hi(0xfffff7ff)", 9, 1),
-    (b"slli a0, a0, %lo(4096 + 63)", 9, 1),
+    (b"jalr ra, %lo(x)(a1)\nx:", 9, 1),
     (b"1: lw a0, %pcrel_lo(1b)(a0)", 9, 1),
-    (b"li a0, %lo(5000)", 9, 1),
-    (b"jr 2047(a0)", 9, 1),
-    // constants of more instructions
-    (b"li a0, 2048", 9, 1),
-    (b"li a0, -2049", 9, 1),
-    (b"li a0, 1 << 63", 9, 1),
-    (b".set big, 5000\nli a0, big", 9, 2),
-    // compressed code
-    (b".option rvc\naddi a0, a0, 1", 9, 2),
-    (b".option push\n.option rvc\nsub a0, a1, a2", 9, 3),
-    (
-        b".option rvc; .option push; .option norvc\n.option pop\necall",
-        9,
-        3,
-    ),
-    // paddings in code
-    (b".align 2", 9, 1),
-    (b".p2align 12", 9, 1),
-    (b".balign 4", 9, 1),
-    (b".section .x, \"ax\"\n.align 3", 9, 2),
+    // the same with compressed code
+    (b".option rvc\nbeqz a0, x\nx:", 9, 2),
+    (b".option rvc\nj x\nx:", 9, 2),
+    (b".option rvc\ncall x\nx:", 9, 2),
+    (b".option rvc\nlui a0, %hi(x)\nx:", 9, 2),
+    (b".option rvc\n.align 2", 9, 2),
     (b".weak x", 9, 1),
 ];
 
@@ -96,7 +56,11 @@ fn not_built(rt: HostRuntime) -> Result<(), Fail> {
 }
 
 /// Padding in code is refused after the faults of labels and directives, beside those of instructions.
-const PADDING: [(&[u8], u8, u32); 9] = [
+const PADDING: [(&[u8], u8, u32); 13] = [
+    (b".align 2", 9, 1),
+    (b".p2align 12", 9, 1),
+    (b".balign 4", 9, 1),
+    (b".section .x, \"ax\"\n.align 3", 9, 2),
     (b".align 3\n.word 1", 15, 2),
     (b".align 2\nx: x:", 11, 2),
     (b".align 2\n.balign 12", 14, 2),
@@ -115,29 +79,38 @@ fn padding_in_code(rt: HostRuntime) -> Result<(), Fail> {
     Ok(refused(&rt, rt.alloc(), &PADDING)?)
 }
 
-/// A source begins with compressed code on; only instructions need it off.
-const COMPRESSED: [(&[u8], Answer); 6] = [
-    (b"li a0, 1", Answer::Source(9, 1)),
+/// What looks like some of these and is built, for its numbers are known; with compressed code as well.
+const BUILT: [(&[u8], Answer); 8] = [
     (
-        b".globl _start\n_start:\n.data\n.word 1\n.text\necall",
-        Answer::Source(9, 6),
-    ),
-    (b".globl _start\n_start: .data\n.word 1", Answer::Built),
-    (
-        b".globl _start\n.option norvc\n_start: ecall\n.option rvc\n.align 1",
+        b".set x, 5000; li a0, x; li a0, %lo(x); lui a0, %hi(x)",
         Answer::Built,
     ),
     (
-        b".option push\n.option norvc\n.option pop\necall",
-        Answer::Source(9, 4),
-    ),
-    (
-        b".globl _start\n_start: .option norvc\n.option push\n.option rvc\n.option pop\necall",
+        b".data; a: .zero 3000; b: .text; li a0, b - a; lw a0, %lo(b - a)(a0)",
         Answer::Built,
     ),
+    (
+        b".option rvc; .set x, 5000; li a0, x; li a0, %lo(x); lui a0, %hi(x)",
+        Answer::Built,
+    ),
+    (
+        b".align 1; .option rvc; nop; .align 1; nop; .balign 2",
+        Answer::Built,
+    ),
+    (
+        b".option push; .option rvc; sub a0, a1, a2; .option pop; mv a0, a1",
+        Answer::Built,
+    ),
+    (
+        b".option rvc; ret; jr 4(a0); jalr a0; ebreak",
+        Answer::Built,
+    ),
+    // a name that has a number later has none here
+    (b"li a0, x\n.set x, 5000", Answer::Source(13, 5)),
+    (b".option rvc\nlui a0, %hi(-2049)", Answer::Source(14, 6)),
 ];
 
 #[test]
-fn compressed_code(rt: HostRuntime) -> Result<(), Fail> {
-    Ok(answers(&rt, rt.alloc(), b"", &COMPRESSED)?)
+fn known_numbers(rt: HostRuntime) -> Result<(), Fail> {
+    Ok(answers(&rt, rt.alloc(), EXIT, &BUILT)?)
 }

@@ -1,10 +1,13 @@
-//! Builds of whole sources: worked programs, each refusal with its line and their order, the limits, and
-//! programs that GNU's tools build too.
+//! Builds of whole sources: worked programs, the bytes of each line of code, each refusal with its line and their order,
+//! the limits, and programs that GNU's tools build too.
 //!
-//! The bytes and addresses of the table in `gnu` were made by `riscv64-unknown-elf-as -march=rv64ima -mno-relax` and
-//! `riscv64-unknown-elf-ld` (GNU Binutils 2.40), with a script that lays the sections out in the order of regions.
+//! The bytes and addresses of the table in `gnu` were made by `riscv64-unknown-elf-as -mno-relax`, with `-march=rv64imac`
+//! where code is compressed and else `rv64ima`, and `riscv64-unknown-elf-ld` (GNU Binutils 2.40), with a script that lays
+//! the sections out in the order of regions.
 #![tactic(auto)]
 
+#[cfg(test)]
+mod code;
 #[cfg(test)]
 mod faults;
 #[cfg(test)]
@@ -23,5 +26,7 @@ mod order;
 mod programs;
 #[cfg(test)]
 mod several;
+#[cfg(test)]
+mod short;
 #[cfg(test)]
 mod sources;

@@ -34,7 +34,7 @@ const FAULTY: [(&[u8], u8, u8); 33] = [
     (b".align 2", 9, 3),
     (b"addi a0, a0, 1 / 0", 4, 3),
     (b"addi a0, a0, 1 << 64", 5, 3),
-    (b"li a0, 2048", 9, 3),
+    (b"la a0, nowhere", 9, 3),
     (b"j nowhere", 9, 3),
     (b"call zero, nowhere", 10, 3),
     (b"addi a0, a0, 78f", 12, 3),

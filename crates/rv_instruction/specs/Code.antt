@@ -1,15 +1,14 @@
--- The instructions of statements, and the faults of one.
+-- The code of a statement, and the faults of one.
 
-use Rattle.std.specs.Prelude.{◌≡◌, ℕ, Bool, true, false, ◌||◌, ◌==◌, List, [], ◌∷◌, ◌++◌, Option, Some, None, Result, Ok, Err, is_some, if◌then◌else◌}
-use Rattle.rv_isa.specs.declared.instruction.Inst.{Inst}
-use Rattle.rv_isa.specs.Operations.{of_immediate, of_shift, of_upper, of_load, of_store}
+use Rattle.std.specs.Prelude.{◌≡◌, ⊤, ℕ, ℤ, Bool, true, false, ◌||◌, ◌==◌, List, [], ◌∷◌, ◌++◌, length, map, Option, Some, None, is_some, not, Result, Ok, Err, if◌then◌else◌}
+use Rattle.std.specs.List.{AllByRecursion}
+use Rattle.arrayvec.specs.ArrayVec.{ArrayVec}
 use Rattle.rv_isa.specs.Ranges.{IsValid}
 use Rattle.rv_isa_laws.specs.Arithmetic.{signed}
+use Rattle.rv_isa_laws.specs.Bytes.{little_endian}
 use Rattle.rv_text_laws.specs.Codes.{scratch_register}
 use Rattle.rv_text_laws.specs.Expression.{Primary}
 use Rattle.rv_text_laws.specs.Values as values
-use Rattle.rv_lexer.specs.declared.fault.SourceCode.{SourceCode}
-use Rattle.rv_lexer.specs.declared.fault.SourceCode.TheVariants.{ImmediateRange}
 use Rattle.rv_lexer.specs.declared.fault.SourceFault.{SourceFault}
 use Rattle.rv_lexer.specs.declared.fault.SourceFault.TheVariants.{At, OutOfMemory}
 use Rattle.rv_lexer.specs.Fault.{number_of}
@@ -20,21 +19,77 @@ use Rattle.rv_statement.specs.declared.pseudo.Function.TheVariants.{Hi, Lo, Pcre
 use Rattle.rv_statement.specs.declared.statement.Operation.{Operation}
 use Rattle.rv_statement.specs.declared.statement.Operation.TheVariants as operations
 use Rattle.rv_statement.specs.Statement.{StatementKind, Instruction, Expression, Statement}
-use Rattle.rv_parse_laws.specs.Syntax.{with_constant}
 use Rattle.rv_unit_laws.specs.Faults.{faulty_if, lowest, constant_faults}
-use Rattle.rv_unit_laws.specs.Options.{Options}
-use Rattle.rv_pseudo_laws.specs.Code.{i_type, s_type, u_type, shift_by, jalr}
-use Rattle.rv_assemble_laws.specs.Written.{constant_in, by_constant, add_zero, alone, fits_12, expanded}
-use Rattle.rv_assemble_laws.specs.Templates.{words}
-use Rattle.rv_assemble_laws.specs.InstructionFaults.{range_faults, number_faults, target_faults, upper_faults, low_faults, distance_faults, else_unplaced}
-use Rattle.rv_assemble_laws.specs.Refusals.{code_faults, code_size}
+use Rattle.rv_pseudo_laws.specs.Code.{Part, Closed, Constants, code}
+use Rattle.rv_pseudo_laws.specs.Valid.{AreOperandsOf}
+use Rattle.rv_pseudo.specs.declared.template.Form.{Form}
+use Rattle.rv_pseudo.specs.declared.template.Template.{Template}
+use Rattle.rv_pseudo.specs.Faults.{takes_target, fault}
+use Rattle.rv_pseudo.specs.Templates.{templates, statement_with}
+use Rattle.rv_assemble_laws.specs.Coded.{IsCode, constants, are_known, joined}
+use Rattle.rv_assemble_laws.specs.InstructionFaults.{number_faults, target_faults, upper_faults, low_faults, distance_faults, else_unplaced}
+use Rattle.rv_assemble_laws.specs.Refusals.{code_faults}
+use Rattle.rv_instruction.specs.declared.encoded.Encoded.{Encoded}
+use Rattle.rv_instruction.specs.declared.encoded.Encoded.TheVariants.{Parcel, Word}
 
--- ---- one instruction
+-- ---- one statement
 
--- the instruction of a statement, by the values of its expressions
-abbrev pub instruction_by : (Expression → ℕ) → StatementKind → Option (List Inst)
-instruction_by v (Instruction mnemonic operands) = expanded v mnemonic operands
-instruction_by v _ = None
+-- an instruction as it lies in memory
+abbrev pub encoded_bytes : Encoded → List ℕ
+encoded_bytes (Parcel p) = little_endian 2 p
+encoded_bytes (Word w) = little_endian 4 w
+
+abbrev pub coded_by : List Encoded → List (List ℕ)
+coded_by found = map encoded_bytes found
+
+-- the code of a statement with these values, where compressed code is on or off; what is no
+-- instruction has none
+abbrev pub HasCode :
+    (Expression → values.Value) → Bool → StatementKind → List Encoded → Type 0
+HasCode v rvc (Instruction mnemonic operands) found =
+    IsCode v rvc mnemonic operands (length (joined (coded_by found))) (coded_by found)
+    (length found)
+HasCode v rvc kind found = found ≡ []
+
+-- the code of a statement in a section of code or not, or the lowest code of its faults; l says
+-- which symbols are labels of the file
+abbrev pub Codes :
+    Bool → Bool → (Expression → values.Value) → (Primary → Bool) → Statement
+    → Result (ArrayVec Encoded) SourceFault → Type 0
+Codes executable rvc v l s (Ok found) =
+    (code_faults executable v l s.kind ≡ []) × HasCode v rvc s.kind found.items
+Codes executable rvc v l s (Err (At code at)) =
+    (lowest (code_faults executable v l s.kind) ≡ Some (number_of code)) × (at ≡ s.line)
+Codes executable rvc v l s (Err OutOfMemory) = ⊥
+
+-- ---- the templates of one whose operands are known
+
+-- instructions without open fields, as parts of a statement's code
+abbrev pub known_parts : List Template → List Part
+known_parts templates = map (λ t. Closed t.inst) templates
+
+abbrev pub AreValid : List Template → Type 0
+AreValid templates = AllByRecursion (λ t. IsValid t.inst) templates
+
+-- these are the instructions of a statement, however long a branch is
+abbrev pub HasTemplates :
+    (Expression → values.Value) → Bool → StatementKind → List Template → Type 0
+HasTemplates v rvc (Instruction mnemonic operands) found =
+    (are_known v operands ≡ true)
+    × ((bytes : ℕ) → code (constants v) rvc bytes mnemonic operands ≡ Some (known_parts found))
+HasTemplates v rvc kind found = found ≡ []
+
+-- the same, or the lowest code of the statement's faults
+abbrev pub IsExpanded :
+    Bool → Bool → (Expression → values.Value) → (Primary → Bool) → Statement
+    → Result (ArrayVec Template) SourceFault → Type 0
+IsExpanded executable rvc v l s (Ok found) =
+    (code_faults executable v l s.kind ≡ []) × HasTemplates v rvc s.kind found.items
+IsExpanded executable rvc v l s (Err (At code at)) =
+    (lowest (code_faults executable v l s.kind) ≡ Some (number_of code)) × (at ≡ s.line)
+IsExpanded executable rvc v l s (Err OutOfMemory) = ⊥
+
+-- ---- operations
 
 abbrev pub mnemonic_of : Operation → Mnemonic
 mnemonic_of (operations.Registers operation rd rs1) = mnemonics.Registers operation
@@ -62,40 +117,49 @@ mnemonic_of operations.CallLinked = mnemonics.Call
 mnemonic_of operations.Tail = mnemonics.Tail
 mnemonic_of (operations.Jump rt) = mnemonics.Jump
 
--- whether an expression that stands where an operation has one is a target, and not a number
-abbrev pub takes_target : Operation → Bool
-takes_target (operations.Branch operation rs1 rs2) = true
-takes_target (operations.Jal rd) = true
-takes_target operations.JalLinked = true
-takes_target (operations.LoadSymbol operation rd) = true
-takes_target (operations.StoreSymbol operation rs2 rt) = true
-takes_target (operations.ZeroBranch operation rs) = true
-takes_target (operations.SwappedBranch operation rs1 rs2) = true
-takes_target operations.J = true
-takes_target (operations.La rd) = true
-takes_target (operations.Call rd) = true
-takes_target operations.CallLinked = true
-takes_target operations.Tail = true
-takes_target (operations.Jump rt) = true
-takes_target _ = false
+-- with a part of a value a store to a symbol is one at a number from a register
+abbrev pub with_part : Operation → Operation
+with_part (operations.StoreSymbol operation rs2 rt) = operations.Store operation rs2 rt
+with_part operation = operation
 
--- the instruction of an operation with a number, where one can be placed
-abbrev pub numbered : Operation → ℕ → Option (List Inst)
-numbered (operations.Registers operation rd rs1) k =
-    alone (by_constant (with_constant operation) rd rs1 k)
-numbered (operations.Immediate operation rd rs1) k =
-    Some (of_immediate operation (i_type rd rs1 (signed 64 k)) ∷ [])
-numbered (operations.Shift operation rd rs1) k = Some (of_shift operation (shift_by rd rs1 k) ∷ [])
-numbered (operations.Upper operation rd) k = Some (of_upper operation (u_type rd k) ∷ [])
-numbered (operations.Load operation rd rs1) k =
-    Some (of_load operation (i_type rd rs1 (signed 64 k)) ∷ [])
-numbered (operations.Store operation rs2 rs1) k =
-    Some (of_store operation (s_type rs2 rs1 (signed 64 k)) ∷ [])
-numbered (operations.Jalr rd rs1) k = Some (jalr rd rs1 (signed 64 k) ∷ [])
-numbered (operations.JalrThen rd rs1) k = Some (jalr rd rs1 (signed 64 k) ∷ [])
-numbered (operations.JalrLinked rs1) k = Some (jalr 1 rs1 (signed 64 k) ∷ [])
-numbered (operations.Li rd) k = add_zero rd (fits_12 k)
-numbered _ k = None
+-- the operation by which an operand is known
+abbrev pub known_as : Operation → Option Function → Operation
+known_as operation None = operation
+known_as operation (Some function) = with_part operation
+
+-- whether an operand is known, in its range and of a sort that its field takes
+abbrev pub is_taken : Operation → Option Function → values.Value → Bool
+is_taken operation function (values.Constant n) =
+    not (is_some (fault (known_as operation function) function (Some (signed 64 n))))
+is_taken operation function _ = false
+
+-- the form of an operand that is a constant
+abbrev pub constant_form : ℤ → Bool → Form
+constant_form k rvc = record { value = Some k; bytes = 4; rvc = rvc }
+
+-- the templates of an operation with a constant, exactly where that has no fault
+abbrev pub IsOfConstant :
+    Operation → Option Function → ℤ → Bool → Option (ArrayVec Template) → Type 0
+IsOfConstant operation function k rvc None =
+    is_some (fault operation function (Some k)) ≡ true
+IsOfConstant operation function k rvc (Some found) =
+    (fault operation function (Some k) ≡ None)
+    × ((e : Expression) →
+    templates (constant_form k rvc) (statement_with operation function e) ≡ Some found.items)
+
+-- the same of an operand with this value, exactly where it is taken
+abbrev pub IsKnown :
+    Operation → Option Function → values.Value → Bool → Option (ArrayVec Template) → Type 0
+IsKnown operation function v rvc None = is_taken operation function v ≡ false
+IsKnown operation function v rvc (Some found) =
+    (n : ℕ)
+    × (v ≡ values.Constant n)
+    × IsOfConstant (known_as operation function) function (signed 64 n) rvc (Some found)
+
+-- the operands of a statement of code are in their ranges
+abbrev pub AreInRange : Constants → StatementKind → Type 0
+AreInRange v (Instruction mnemonic operands) = AreOperandsOf v mnemonic operands
+AreInRange v _ = ⊤
 
 -- ---- the faults of one instruction
 
@@ -123,53 +187,25 @@ function_faults l operation Lo v = low_faults (mnemonic_of operation) v
 function_faults l operation PcrelHi v = target_faults v
 function_faults l operation PcrelLo v = distance_faults l (mnemonic_of operation) v
 
--- an instruction whose number is in its range, else the refusal
-abbrev pub InRange : Bool → Option Inst → Result Inst SourceCode → Type 0
-InRange fits wanted (Ok i) = (fits ≡ true) × (wanted ≡ Some i) × IsValid i
-InRange fits wanted (Err code) = (fits ≡ false) × (code ≡ ImmediateRange)
+-- those of an operand
+abbrev pub faults_of : (Primary → Bool) → Operation → Option Function → values.Value → List ℕ
+faults_of l operation None v = value_faults operation v
+faults_of l operation (Some function) v = function_faults l operation function v
 
--- the instruction of an operation with a number, or the code of the number's fault, or of what
--- cannot be placed
-abbrev pub OfNumber : Operation → ℕ → Result Inst SourceCode → Type 0
-OfNumber operation k (Ok i) =
-    (range_faults (mnemonic_of operation) k ≡ []) × (numbered operation k ≡ Some (i ∷ []))
-    × IsValid i
-OfNumber operation k (Err code) =
-    else_unplaced (is_some (numbered operation k)) (range_faults (mnemonic_of operation) k)
-    ≡ number_of code ∷ []
+-- the templates of an operation with an operand of this value, or the lowest code of its faults
+abbrev pub IsBuilt :
+    (Primary → Bool) → Operation → Option Function → values.Value → Bool → ℕ
+    → Result (ArrayVec Template) SourceFault → Type 0
+IsBuilt l operation function v rvc line (Ok found) =
+    IsKnown operation function v rvc (Some found)
+IsBuilt l operation function v rvc line (Err (At code at)) =
+    (is_taken operation function v ≡ false)
+    × (lowest (else_unplaced false (faults_of l operation function v)) ≡ Some (number_of code))
+    × (at ≡ line)
+IsBuilt l operation function v rvc line (Err OutOfMemory) = ⊥
 
 -- the constant that a value is, or its fault at a line
 abbrev pub IsNumber : values.Value → ℕ → Result ℕ SourceFault → Type 0
 IsNumber v line (Ok n) = v ≡ values.Constant n
 IsNumber v line (Err (At code at)) = (constant_faults v ≡ number_of code ∷ []) × (at ≡ line)
 IsNumber v line (Err OutOfMemory) = ⊥
-
--- an instruction without faults, or the lowest code of those that it has, at its line
-abbrev pub IsBuilt : List ℕ → Option (List Inst) → ℕ → Result Inst SourceFault → Type 0
-IsBuilt faults wanted line (Ok i) = (faults ≡ []) × (wanted ≡ Some (i ∷ [])) × IsValid i
-IsBuilt faults wanted line (Err (At code at)) =
-    (lowest faults ≡ Some (number_of code)) × (at ≡ line)
-IsBuilt faults wanted line (Err OutOfMemory) = ⊥
-
--- ---- one statement
-
--- the bytes of a statement in code
-abbrev pub code_said : (Expression → values.Value) → StatementKind → List ℕ
-code_said f (Instruction mnemonic operands) =
-    words (expanded (λ e. constant_in (f e)) mnemonic operands)
-code_said f _ = []
-
--- the instruction of a statement in a section of code or not, if it is one, or the lowest code of
--- its faults: where l says which symbols are labels of the file
-abbrev pub Codes :
-    Options → Bool → (Expression → values.Value) → (Primary → Bool) → Statement
-    → Result (Option Inst) SourceFault → Type 0
-Codes o executable v l s (Ok None) =
-    (code_faults o executable v l s.kind ≡ []) × (code_said v s.kind ≡ []) × (code_size s.kind ≡ 0)
-Codes o executable v l s (Ok (Some i)) =
-    (code_faults o executable v l s.kind ≡ [])
-    × (instruction_by (λ e. constant_in (v e)) s.kind ≡ Some (i ∷ [])) × IsValid i
-    × (code_size s.kind ≡ 4)
-Codes o executable v l s (Err (At code at)) =
-    (lowest (code_faults o executable v l s.kind) ≡ Some (number_of code)) × (at ≡ s.line)
-Codes o executable v l s (Err OutOfMemory) = ⊥

@@ -7,7 +7,6 @@ use Rattle.rv_lexer.specs.declared.fault.SourceFault.{SourceFault}
 use Rattle.rv_text.specs.declared.evaluation.Value.{Value}
 use Rattle.rv_text.specs.Eval.{IsOutcome}
 use Rattle.rv_statement.specs.Statement.{StatementKind, Expression}
-use Rattle.rv_unit_laws.specs.Options.{Options}
 use Rattle.rv_unit_laws.specs.Tables.{tables, value, stood}
 use Rattle.rv_tables.specs.declared.section_offset.SectionOffset.{SectionOffset}
 use Rattle.rv_tables.specs.Sections.{offset_of}
@@ -26,10 +25,10 @@ values_at scope index place e =
 abbrev pub labels_at : Scope → ℕ → Primary → Bool
 labels_at scope index q = is_label (tables (said scope.unit.now)) (index + 1) q
 
--- the faults of that statement as code, with these options, in a section of code or not
-abbrev pub faults_at : Scope → ℕ → SectionOffset → Options → Bool → StatementKind → List ℕ
-faults_at scope index place options executable kind =
-    code_faults options executable (values_at scope index place) (labels_at scope index) kind
+-- the faults of that statement as code, in a section of code or not
+abbrev pub faults_at : Scope → ℕ → SectionOffset → Bool → StatementKind → List ℕ
+faults_at scope index place executable kind =
+    code_faults executable (values_at scope index place) (labels_at scope index) kind
 
 -- ---- what is said of that statement, and of a value
 

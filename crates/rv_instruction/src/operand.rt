@@ -1,7 +1,6 @@
 //! The faults of an instruction's operands, by the values of their expressions.
 
-ghost use Rattle.std.specs.Prelude.{◌≡◌, ℕ, ◌+◌, ◌^◌, ◌==◌, Bool, false, not, nat_lt, List, ◌++◌, Some, None, is_some, MatchOption};
-ghost use Rattle.rv_isa.specs.Ranges.{IsSigned12};
+ghost use Rattle.std.specs.Prelude.{◌≡◌, ℕ, ◌+◌, ◌==◌, Bool, false, not, List, ◌++◌, Some, is_some};
 ghost use Rattle.rv_isa_laws.specs.Arithmetic.{signed};
 ghost use Rattle.rv_text_laws.specs.Codes.{scratch_register, immediate_range};
 ghost use Rattle.rv_text_laws.specs.Expression.{Primary};
@@ -13,40 +12,19 @@ ghost use Rattle.rv_unit_laws.specs.Faults as faults;
 ghost use Rattle.rv_unit_laws.specs.Tables.{tables, definition};
 ghost use Rattle.rv_unit.specs.Faults.{IsLowest, ForValue};
 ghost use Rattle.rv_unit.specs.Unit.{said, IsFilled, IsScope};
-ghost use Rattle.rv_assemble_laws.specs.Written.{fits_12};
+ghost use Rattle.rv_pseudo_laws.specs.Valid as range;
 ghost use Rattle.rv_assemble_laws.specs.InstructionFaults as laws;
-ghost use Rattle.rv_instruction.specs.Code.{mnemonic_of, takes_target, scratch_of, function_faults};
+ghost use Rattle.rv_instruction.specs.Code.{mnemonic_of, scratch_of, value_faults, function_faults, faults_of};
 ghost use Rattle.rv_instruction.specs.Scoped.{labels_at};
 
 use rv_isa::{Reg, RegisterOperation};
+use rv_pseudo::{is_short, lower_part, takes_target, upper_part};
 use rv_statement::{Function, Operation};
 use rv_text::{SourceCode, SourceFault, Symbol, Value};
 use rv_unit::Scope;
 
 /// What an expression is worth, or its fault.
 pub(crate) type Outcome<'a> = Result<Value<'a>, SourceFault>;
-
-/// Whether an expression that stands where the operation has one is a target, and not a number.
-pub(crate) fn takes_target(operation: &Operation) -> bool
-    ensures { result ≡ takes_target operation.now }
-{
-    match operation {
-        Operation::Branch(..)
-        | Operation::Jal(_)
-        | Operation::JalLinked
-        | Operation::LoadSymbol(..)
-        | Operation::StoreSymbol(..)
-        | Operation::ZeroBranch(..)
-        | Operation::SwappedBranch(..)
-        | Operation::J
-        | Operation::La(_)
-        | Operation::Call(_)
-        | Operation::CallLinked
-        | Operation::Tail
-        | Operation::Jump(_) => true,
-        _ => false,
-    }
-}
 
 /// Whether an operation on registers has a form with an amount in place of the last.
 fn is_shift(operation: RegisterOperation) -> bool
@@ -134,74 +112,47 @@ fn else_unplaced(found: Option<SourceCode>) -> SourceCode
 
 // ---- numbers
 
-/// The immediate of 12 bits that a number is, taken as signed.
-pub(crate) fn immediate_of(number: u64) -> Option<i32>
-    ensures { MatchOption result (fits_12 number ≡ None)
-        (λ i. (fits_12 number ≡ Some number) × (i ≡ signed 64 number) × IsSigned12 i) }
+/// A number with its sign.
+pub(crate) fn signed(number: u64) -> i64
+    ensures { result ≡ signed 64 number }
 {
-    let above = number.wrapping_add(2048);
-    if above < 4096 {
-        Some(above as i32 - 2048)
-    } else {
-        None
-    }
-}
-
-/// Whether a number fits 12 signed bits.
-fn fits_immediate(number: u64) -> bool
-    ensures { result ≡ is_some (fits_12 number) }
-{
-    number.wrapping_add(2048) < 4096
-}
-
-/// Whether a number is in the range of the form with a constant of an operation on registers.
-fn form_takes(operation: RegisterOperation, number: u64) -> bool
-    ensures { result ≡ laws.form_takes (syntax.with_constant operation) number }
-{
-    match operation {
-        RegisterOperation::Add
-        | RegisterOperation::Slt
-        | RegisterOperation::Sltu
-        | RegisterOperation::Xor
-        | RegisterOperation::Or
-        | RegisterOperation::And
-        | RegisterOperation::Addw => fits_immediate(number),
-        RegisterOperation::Sll | RegisterOperation::Srl | RegisterOperation::Sra => number < 64,
-        RegisterOperation::Sllw | RegisterOperation::Srlw | RegisterOperation::Sraw => number < 32,
-        _ => false,
-    }
+    number.cast_signed()
 }
 
 /// Whether a number is in the range of an operation's.
-fn takes(operation: Operation, number: u64) -> bool
-    ensures { faults.faulty_if (not result) immediate_range
-        ≡ laws.range_faults (mnemonic_of operation) number }
+fn takes(operation: Operation, number: i64) -> bool
+    ensures { result ≡ range.takes (mnemonic_of operation) number }
 {
-    match operation {
-        Operation::Registers(operation, ..) => form_takes(operation, number),
-        Operation::Shift(operation, ..) => number < u64::from(operation.limit()),
-        Operation::Upper(..) => number < 1 << 20,
-        Operation::Li(_) => true,
-        _ => fits_immediate(number),
+    if takes_target(&operation) {
+        is_short(number)
+    } else {
+        rv_pseudo::takes(operation, number)
     }
 }
 
-/// Whether the upper part of a number has 20 bits.
-fn has_upper_part(number: u64) -> bool
-    ensures { result ≡ nat_lt (laws.upper_part number) (2 ^ 20) }
+/// Whether a number has 20 bits.
+fn is_upper_20(number: i64) -> bool
+    ensures { result ≡ range.is_upper_20 number }
 {
-    number.wrapping_add(2048) / 4096 < 1 << 20
+    0 <= number && number < 1 << 20
 }
 
-/// The low 12 bits of a number, taken as signed.
-fn low_part(number: u64) -> u64
-    ensures { result ≡ laws.low_part number }
+/// The fault of a number that has to be a constant in its range.
+fn number_fault(operation: Operation, value: &Outcome<'_>) -> Option<SourceCode>
+    ensures { ForValue value.now
+        (λ v. IsLowest result (laws.number_faults (mnemonic_of operation) v)) }
 {
-    let low = number % 4096;
-    if low < 2048 {
-        low
-    } else {
-        low + 0xffff_ffff_ffff_f000
+    match value {
+        Ok(Value::Constant(number)) => {
+            faulty_if(
+                !takes(operation, signed(*number)),
+                SourceCode::ImmediateRange,
+            )
+        }
+        Ok(Value::Symbolic(..)) => Some(SourceCode::NotConstant),
+        Ok(Value::Difference(..)) => Some(SourceCode::NotConstant),
+        Err(SourceFault::At { code, .. }) => Some(*code),
+        Err(SourceFault::OutOfMemory) => None,
     }
 }
 
@@ -226,7 +177,8 @@ fn upper_fault(value: &Outcome<'_>) -> Option<SourceCode>
 {
     match value {
         Ok(Value::Constant(number)) => {
-            faulty_if(!has_upper_part(*number), SourceCode::ImmediateRange)
+            let upper = upper_part(signed(*number));
+            faulty_if(!is_upper_20(upper), SourceCode::ImmediateRange)
         }
         _ => target_fault(value),
     }
@@ -238,10 +190,10 @@ fn low_fault(operation: Operation, value: &Outcome<'_>) -> Option<SourceCode>
         (λ v. IsLowest result (laws.low_faults (mnemonic_of operation) v)) }
 {
     match value {
-        Ok(Value::Constant(number)) => faulty_if(
-            !takes(operation, low_part(*number)),
-            SourceCode::ImmediateRange,
-        ),
+        Ok(Value::Constant(number)) => {
+            let lower = lower_part(signed(*number));
+            faulty_if(!takes(operation, lower), SourceCode::ImmediateRange)
+        }
         Ok(Value::Symbolic(..)) => faulty_if(!takes_address(operation), SourceCode::NotConstant),
         _ => target_fault(value),
     }
@@ -292,15 +244,17 @@ fn distance_fault(operation: Operation, is_labelled: bool) -> Option<SourceCode>
     faulty_if(!takes_address(operation), SourceCode::NotConstant)
 }
 
-// ---- operands that cannot be placed yet
+// ---- operands that are not known
 
-/// The lowest code of an operation with a target.
-pub(crate) fn target_code(operation: Operation, value: Outcome<'_>) -> SourceCode
-    ensures { ForValue value.entry (λ v.
-        faults.lowest (laws.else_unplaced false (scratch_of operation ++ laws.target_faults v))
-        ≡ Some (number_of result)) }
+/// The fault of an operation with an expression of this value.
+fn value_fault(operation: Operation, value: &Outcome<'_>) -> Option<SourceCode>
+    ensures { ForValue value.now (λ v. IsLowest result (value_faults operation v)) }
 {
-    else_unplaced(beside_scratch(is_bad_scratch(operation), target_fault(&value)))
+    if takes_target(&operation) {
+        beside_scratch(is_bad_scratch(operation), target_fault(value))
+    } else {
+        number_fault(operation, value)
+    }
 }
 
 /// The fault of an operation with a function of a value.
@@ -322,18 +276,20 @@ fn function_fault<'a>(
     }
 }
 
-/// The lowest code of an operation with a function of a value.
-pub(crate) fn function_code<'a>(
+/// The lowest code of an operation with an operand that is not known, or that its field does not take.
+pub(crate) fn operand_code<'a>(
     scope: &Scope<'_, 'a>,
     operation: Operation,
-    function: Function,
+    function: Option<Function>,
     value: &Outcome<'a>,
 ) -> SourceCode
     ensures { (index : ℕ) → IsFilled (scope.now).unit.now → IsScope scope.now index
-        → ForValue value.now (λ v.
-        faults.lowest (laws.else_unplaced false
-        (function_faults (labels_at scope.now index) operation function v))
+        → ForValue value.now (λ v. faults.lowest (laws.else_unplaced false
+        (faults_of (labels_at scope.now index) operation function v))
         ≡ Some (number_of result)) }
 {
-    else_unplaced(function_fault(scope, operation, function, value))
+    match function {
+        None => else_unplaced(value_fault(operation, value)),
+        Some(function) => else_unplaced(function_fault(scope, operation, function, value)),
+    }
 }

@@ -37,7 +37,7 @@ const SOURCES: [(&[u8], &str); 12] = [
         b".option norvc\naddi a0, a0, 2048",
         "rv: a.s:2: E14 ImmediateRange\n",
     ),
-    (b"\nli a0, 7", "rv: a.s:2: E9 UnsupportedHere\n"),
+    (b"\nla a0, x", "rv: a.s:2: E9 UnsupportedHere\n"),
     (b"_start:", "rv: L7 EntryMissing\n"),
     (
         b".globl _start\n_start: .data\n.word 1, f.g$ + 4",

@@ -87,7 +87,7 @@ good_scratch operation function value e = scratch_only (is_bad_scratch operation
 
 -- ---- a target stands by itself
 
-upper_away : (operation : Operation) → is_upper operation ≡ true → takes_target operation ≡ false
+pub upper_away : (operation : Operation) → is_upper operation ≡ true → takes_target operation ≡ false
 upper_away (operations.Upper operation rd) e = refl
 upper_away _ e = absurd (cc)
 
@@ -102,7 +102,7 @@ low_away (operations.JalrLinked rs1) e = refl
 low_away (operations.Jr rs) e = refl
 low_away _ e = absurd (cc)
 
-takes_away : (operation : Operation) (k : ℤ) → takes operation k ≡ true → takes_target operation ≡ false
+pub takes_away : (operation : Operation) (k : ℤ) → takes operation k ≡ true → takes_target operation ≡ false
 takes_away (operations.Registers operation rd rs1) k e = refl
 takes_away (operations.Immediate operation rd rs1) k e = refl
 takes_away (operations.Shift operation rd rs1) k e = refl

@@ -165,7 +165,7 @@ fn compare(operation: CompareOperation, rd: Reg, rs1: Reg, rs2: Reg) -> Inst
 }
 
 /// The templates of a statement without an expression.
-pub(crate) fn bare(statement: Plain, rvc: bool) -> Templates
+pub fn without_operand(statement: Plain, rvc: bool) -> Templates
     ensures { (bytes : ℕ) → is.AreTemplates rvc bytes (plain_of statement) result.items }
 {
     let inst = match statement {

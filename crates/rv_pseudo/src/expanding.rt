@@ -7,7 +7,7 @@ ghost use Rattle.rv_pseudo.specs.Faults as faults;
 ghost use Rattle.rv_pseudo.specs.Templates as is;
 ghost use Rattle.rv_pseudo.specs.Templates.{Answers, IsExpansion};
 
-use crate::bare::bare;
+use crate::bare::without_operand;
 use crate::fault::fault;
 use crate::number::{number, numbered, relocation};
 use crate::target::{takes_target, targeted};
@@ -38,7 +38,7 @@ fn templates(operation: Operation, function: Option<Function>, form: Form) -> Te
 }
 
 /// The templates of a statement with an operand, or its fault.
-fn with_operand(
+pub fn with_operand(
     operation: Operation,
     function: Option<Function>,
     form: Form,
@@ -59,7 +59,7 @@ fn expanded(kind: &StatementKind<'_>, form: Form) -> Result<Templates, SourceCod
         (is.templates form (statement_kind kind.now)) result }
 {
     match kind {
-        StatementKind::Plain(statement) => Ok(bare(*statement, form.rvc)),
+        StatementKind::Plain(statement) => Ok(without_operand(*statement, form.rvc)),
         StatementKind::With(operation, _) => with_operand(*operation, None, form),
         StatementKind::WithFunction(operation, function, _) => {
             with_operand(*operation, Some(*function), form)

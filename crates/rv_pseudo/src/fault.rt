@@ -43,7 +43,7 @@ fn form_takes(operation: RegisterOperation, number: i64) -> bool
 }
 
 /// Whether a number is in the range of the statement's field.
-fn takes(operation: Operation, number: i64) -> bool
+pub fn takes(operation: Operation, number: i64) -> bool
     ensures { result ≡ is.takes operation number }
 {
     match operation {

@@ -5,7 +5,8 @@
 //! jump, and the value of its expression where that is a constant. It gives [`Template`]s, or the fault of its operands.
 //!
 //! Main contracts: `expansion` answers the statement's row of the one table, `rv_pseudo_laws/specs/Code`, as templates
-//! (`specs/Templates`), exactly where it has no fault (`specs/Faults`); `li_sequence` answers `li`. What the rows are worth
+//! (`specs/Templates`), exactly where it has no fault (`specs/Faults`); `without_operand` and `with_operand` answer the same of a
+//! statement without an expression and of an operation with one; `li_sequence` answers `li`. What the rows are worth
 //! the laws of `rv_pseudo_laws` say. Neither takes memory. It must not know what names mean, where a statement stands, or
 //! how an instruction is written as bits.
 //!
@@ -26,6 +27,10 @@ mod number;
 mod target;
 mod template;
 
-pub use expanding::expansion;
-pub use li::li_sequence;
-pub use template::{Form, Template};
+pub use bare::without_operand;
+pub use expanding::{expansion, with_operand};
+pub use fault::takes;
+pub use li::{is_short, li_sequence};
+pub use number::{lower_part, upper_part};
+pub use target::takes_target;
+pub use template::{Form, Template, Templates};

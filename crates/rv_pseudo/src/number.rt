@@ -187,14 +187,14 @@ pub(crate) fn numbered(operation: Operation, number: i64, reloc: Option<Kind>) -
 }
 
 /// The upper part of a number.
-pub(crate) fn upper_part(value: i64) -> i64
+pub fn upper_part(value: i64) -> i64
     ensures { result ≡ hi value }
 {
     halves(value).0
 }
 
 /// The lower part of a number.
-pub(crate) fn lower_part(value: i64) -> i64
+pub fn lower_part(value: i64) -> i64
     ensures { result ≡ lo value }
 {
     i64::from(halves(value).1)

@@ -164,7 +164,7 @@ fn swapped_branch(bytes: u8, operation: SwappedBranchOperation, a: Reg, b: Reg) 
 }
 
 /// Whether the expression of an operation is a target, and not a number.
-pub(crate) fn takes_target(operation: &Operation) -> bool
+pub fn takes_target(operation: &Operation) -> bool
     ensures { result ≡ faults.takes_target operation.now }
 {
     matches!(

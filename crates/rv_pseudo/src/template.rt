@@ -36,7 +36,7 @@ impl Default for Template {
 }
 
 /// The templates of a statement, eight at most.
-pub(crate) type Templates = ArrayVec<Template, 8>;
+pub type Templates = ArrayVec<Template, 8>;
 
 /// An instruction whose operands are all known.
 pub(crate) fn plain(inst: Inst) -> Template

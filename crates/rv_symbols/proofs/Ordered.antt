@@ -31,7 +31,7 @@ pub of_site : (t : Tables) (s : Site) → AreOf s.located.ordinal (references_of
 of_site t s = go s.located.home.loaded
   where
     go : (b : Bool) → AreOf s.located.ordinal (if b then flat_map references_in (parts_of t s) else [])
-    go true = of_templates s.located.ordinal (templates (form t s.located) s.located.kind s.bytes)
+    go true = of_templates s.located.ordinal (templates (form t s.located) s.located.kind s.bytes s.coded)
     go false = tt
 
 lower : (low n high : ℕ) (rs : List SymbolUse) → low ≤ n → Rises n high rs → Rises low high rs

@@ -12,7 +12,7 @@ use Rattle.rv_unit_laws.specs.Contributions.{Contribution, Nothing, contribution
 use Rattle.rv_unit_laws.specs.Tables.{Tables, NumericLabel, Assignment, here, value, is_defined, may_set, assigned_by, chosen, with_assignment, with_section, with_chosen, with_contribution, after_directive, after, after_all}
 use Rattle.rv_unit_laws.proofs.Entering.{entering}
 use Rattle.rv_source_laws.specs.Located.{Located, is_placed, located_now, located_from}
-use Rattle.rv_assemble_laws.specs.Templates.{templates}
+use Rattle.rv_assemble_laws.specs.Templates.{Fixed, templates}
 use Rattle.rv_assemble_laws.specs.Sites.{Site, part_of, form}
 use Rattle.rv_assemble_laws.specs.Symbols.{SymbolUse, references_in, references_of, references}
 use Rattle.rv_symbols.proofs.Ordered.{of_site}
@@ -26,34 +26,39 @@ all_same : {X : Type 0} (P : Type 0) (xs : List X) → P → AllByRecursion (λ 
 all_same P [] h = tt
 all_same P (x ∷ xs) h = (h, all_same P xs h)
 
+-- code names none
+code_names : (P : Type 0) (n : ℕ) (coded : List (List ℕ)) → AllByRecursion (λ (r : SymbolUse). P) (flat_map references_in (map (part_of n) (map Fixed coded)))
+code_names P n [] = tt
+code_names P n (bytes ∷ coded) = code_names P n coded
+
 -- a statement whose values name symbols has a place
-placed_by : (u : Tables) (k n bytes : ℕ) (v : Expression → Value) (kind : StatementKind) (placed : Bool) → placed ≡ is_placed u k kind
-    → AllByRecursion (λ (r : SymbolUse). placed ≡ true) (flat_map references_in (map (part_of n) (templates v kind bytes)))
-placed_by u k n bytes v (Label name) placed e = tt
-placed_by u k n bytes v (Numbered number) placed e = tt
-placed_by u k n bytes v (Instruction mnemonic operands) placed e = tt
-placed_by u k n bytes v (Directs (Enters section)) placed e = tt
-placed_by u k n bytes v (Directs (Opens name flags kind)) placed e = tt
-placed_by u k n bytes v (Directs (Globl names)) placed e = tt
-placed_by u k n bytes v (Directs (Local names)) placed e = tt
-placed_by u k n bytes v (Directs (Sets name x)) placed e = tt
-placed_by u k n bytes v (Directs (Aligns_to_power x)) placed e = tt
-placed_by u k n bytes v (Directs (Aligns_to_bytes x)) placed e = tt
-placed_by u k n bytes v (Directs (Values width xs)) placed e = all_same (placed ≡ true) _ e
-placed_by u k n bytes v (Directs (Strings ended strings)) placed e = tt
-placed_by u k n bytes v (Directs (Zeros count)) placed e = tt
-placed_by u k n bytes v (Directs (Chooses choice)) placed e = tt
-placed_by u k n bytes v (Directs Ignored) placed e = tt
+placed_by : (u : Tables) (k n bytes : ℕ) (coded : List (List ℕ)) (v : Expression → Value) (kind : StatementKind) (placed : Bool) → placed ≡ is_placed u k kind
+    → AllByRecursion (λ (r : SymbolUse). placed ≡ true) (flat_map references_in (map (part_of n) (templates v kind bytes coded)))
+placed_by u k n bytes coded v (Label name) placed e = tt
+placed_by u k n bytes coded v (Numbered number) placed e = tt
+placed_by u k n bytes coded v (Instruction mnemonic operands) placed e = code_names (placed ≡ true) n coded
+placed_by u k n bytes coded v (Directs (Enters section)) placed e = tt
+placed_by u k n bytes coded v (Directs (Opens name flags kind)) placed e = tt
+placed_by u k n bytes coded v (Directs (Globl names)) placed e = tt
+placed_by u k n bytes coded v (Directs (Local names)) placed e = tt
+placed_by u k n bytes coded v (Directs (Sets name x)) placed e = tt
+placed_by u k n bytes coded v (Directs (Aligns_to_power x)) placed e = tt
+placed_by u k n bytes coded v (Directs (Aligns_to_bytes x)) placed e = tt
+placed_by u k n bytes coded v (Directs (Values width xs)) placed e = all_same (placed ≡ true) _ e
+placed_by u k n bytes coded v (Directs (Strings ended strings)) placed e = tt
+placed_by u k n bytes coded v (Directs (Zeros count)) placed e = tt
+placed_by u k n bytes coded v (Directs (Chooses choice)) placed e = tt
+placed_by u k n bytes coded v (Directs Ignored) placed e = tt
 
 placed_of : (t : Tables) (s : Site) (u : Tables) (k : ℕ) (x : Statement) → s.located ≡ located_now 1 k u x → AllByRecursion (λ (r : SymbolUse). s.located.placed ≡ true) (references_of t s)
 placed_of t s u k x e = go s.located.home.loaded
   where
-    all : AllByRecursion (λ (r : SymbolUse). s.located.placed ≡ true) (flat_map references_in (map (part_of s.located.ordinal) (templates (form t s.located) s.located.kind s.bytes)))
+    all : AllByRecursion (λ (r : SymbolUse). s.located.placed ≡ true) (flat_map references_in (map (part_of s.located.ordinal) (templates (form t s.located) s.located.kind s.bytes s.coded)))
     all =
-        placed_by u k s.located.ordinal s.bytes (form t s.located) s.located.kind s.located.placed
+        placed_by u k s.located.ordinal s.bytes s.coded (form t s.located) s.located.kind s.located.placed
         (ap (λ (l : Located). l.placed) e ∙ ap (is_placed u k) (sym (ap (λ (l : Located). l.kind) e)))
 
-    go : (b : Bool) → AllByRecursion (λ (r : SymbolUse). s.located.placed ≡ true) (if b then flat_map references_in (map (part_of s.located.ordinal) (templates (form t s.located) s.located.kind s.bytes)) else [])
+    go : (b : Bool) → AllByRecursion (λ (r : SymbolUse). s.located.placed ≡ true) (if b then flat_map references_in (map (part_of s.located.ordinal) (templates (form t s.located) s.located.kind s.bytes s.coded)) else [])
     go true = all
     go false = tt
 

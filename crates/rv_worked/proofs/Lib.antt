@@ -1,2 +1,3 @@
 pub mod Exit7Program
 pub mod FiguresProgram
+pub mod KnownCodes

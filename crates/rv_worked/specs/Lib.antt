@@ -4,3 +4,4 @@ pub mod Data
 pub mod Refused
 pub mod CodeAlignment
 pub mod Regions
+pub mod KnownCode

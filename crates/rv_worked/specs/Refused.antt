@@ -6,9 +6,10 @@ use Rattle.rv_text_laws.specs.declared.operator.BinaryOperator.TheVariants.{Subt
 use Rattle.rv_text_laws.specs.Expression.{Leaf, Here, Unary, Binary}
 use Rattle.rv_statement.specs.declared.directive.Choice.TheVariants.{Norvc, Push, Pop}
 use Rattle.rv_statement.specs.declared.directive.Standard.TheVariants.{Text, Data}
-use Rattle.rv_statement.specs.declared.mnemonic.Mnemonic.TheVariants.{Registers, Immediate, Shift, Upper, Load, Store, J, Jr, La, Li, Call, Jump}
+use Rattle.rv_statement.specs.declared.mnemonic.Mnemonic.TheVariants.{Registers, Immediate, Shift, Upper, Load, Store, Unary as Of_one, J, Jr, La, Li, Call, Jump}
 use Rattle.rv_statement.specs.declared.pseudo.Function.{Function}
 use Rattle.rv_statement.specs.declared.pseudo.Function.TheVariants.{Hi, PcrelHi}
+use Rattle.rv_statement.specs.declared.pseudo.UnaryOperation.TheVariants.{Mv, SextB}
 use Rattle.rv_isa.specs.declared.operation.RegisterOperation.TheVariants.{And, Sllw}
 use Rattle.rv_isa.specs.declared.operation.ImmediateOperation.TheVariants.{Addi}
 use Rattle.rv_isa.specs.declared.operation.ShiftOperation.TheVariants.{Slli}
@@ -95,6 +96,13 @@ upper_part e = Instruction (Upper Lui) (Register 10 ∷ Applied Hi e ∷ [])
 
 abbrev pub upper_distance : Expression → StatementKind
 upper_distance e = Instruction (Upper Auipc) (Register 10 ∷ Applied PcrelHi e ∷ [])
+
+-- `mv rd, rs` and `sext.b rd, rs`
+abbrev pub moves : ℕ → ℕ → StatementKind
+moves rd rs = Instruction (Of_one Mv) (Register rd ∷ Register rs ∷ [])
+
+abbrev pub extends : ℕ → ℕ → StatementKind
+extends rd rs = Instruction (Of_one SextB) (Register rd ∷ Register rs ∷ [])
 
 -- `jr k(a0)`
 abbrev pub jumps_back : ℕ → StatementKind

@@ -1,6 +1,9 @@
 -- What the regions hold of one worked source at its map.
 
-use Rattle.std.specs.Prelude.{ℕ, List, [], ◌∷◌}
+use Rattle.std.specs.Prelude.{ℕ, List, [], ◌∷◌, flat_map, Option, Some, None}
+use Rattle.rv_isa.specs.declared.instruction.Inst.{Inst}
+use Rattle.rv_isa_laws.specs.Bytes.{little_endian}
+use Rattle.rv_encode.specs.Word.{form, word}
 use Rattle.rv_statement.specs.Statement.{Statement}
 use Rattle.rv_unit_laws.specs.Sections.{goes_to_text, goes_to_rodata, goes_to_data}
 use Rattle.rv_map.specs.Map.{Map}
@@ -9,10 +12,14 @@ use Rattle.rv_source_laws.specs.Start.{spelled}
 use Rattle.rv_source_laws.specs.Fits.{InputSection, input_sections}
 use Rattle.rv_source_laws.specs.Lines.{expansion}
 use Rattle.rv_chain_laws.specs.Contents.{contents}
-use Rattle.rv_assemble_laws.specs.Templates.{words}
 
 abbrev pub text_sections : List Statement → Map → List InputSection
 text_sections source m = input_sections goes_to_text (source ∷ []) m
+
+-- instructions as they lie in memory, each a word
+abbrev pub words : Option (List Inst) → List ℕ
+words None = []
+words (Some instructions) = flat_map (λ i. little_endian 4 (word (form i))) instructions
 
 -- the words of a statement
 abbrev pub code_words : List Statement → Map → Mapped → List ℕ

@@ -8,15 +8,15 @@ ghost use Rattle.rv_statement.specs.declared.pseudo.Function.TheVariants.{Lo, Pc
 ghost use Rattle.rv_statement.specs.Statement.{Directs, Values};
 ghost use Rattle.rv_worked.specs.Exit7.{exit7, load, constant};
 ghost use Rattle.rv_worked.specs.Data.{hello, figures, differences, symbol};
-ghost use Rattle.rv_worked.specs.Refused.{fault, alone, adds, minus, shifts, shifts_word, ands, uppers, loads, x, away, jumps, loads_address, loads_symbol, stores_symbol, calls, jumps_by, adds_part, shifts_part, li_part, upper_part, upper_distance, jumps_back, after_set, before_set, before_label, after_location, compressed, after_padding, padding_without_bytes, options, two_faults, directive_later};
+ghost use Rattle.rv_worked.specs.Refused.{fault, alone, adds, minus, shifts, shifts_word, ands, uppers, loads, x, away, jumps, moves, extends, loads_address, loads_symbol, stores_symbol, calls, jumps_by, adds_part, shifts_part, li_part, upper_part, upper_distance, jumps_back, after_set, before_set, before_label, after_location, compressed, after_padding, padding_without_bytes, options, two_faults, directive_later};
 ghost use Rattle.rv_assemble_laws.specs.Refusals.{statements_fault};
 
-/// The worked programs have no fault; one without `.option norvc` wants compressed code.
+/// The worked programs have no fault, in compressed code or not.
 pub fn worked_are_sound()
     ensures exit7 { statements_fault exit7 ≡ None }
     ensures hello { statements_fault hello ≡ None }
     ensures differences { statements_fault differences ≡ None }
-    ensures figures { statements_fault figures ≡ fault unsupported_here 3 }
+    ensures figures { statements_fault figures ≡ None }
 {}
 
 /// The ends of the ranges of instructions' numbers.
@@ -28,7 +28,7 @@ pub fn ranges_end()
     ensures offset { statements_fault (alone (loads (constant 2048))) ≡ fault immediate_range 2 }
 {}
 
-/// Those of shifts, of upper parts, and of a constant that `li` loads by one instruction.
+/// Those of shifts and of upper parts.
 pub fn other_ranges_end()
     ensures shift { statements_fault (alone (shifts 63)) ≡ None }
     ensures far { statements_fault (alone (shifts 64)) ≡ fault immediate_range 2 }
@@ -38,14 +38,12 @@ pub fn other_ranges_end()
     ensures far_upper { statements_fault (alone (uppers (constant 1048576)))
         ≡ fault immediate_range 2 }
     ensures negative { statements_fault (alone (uppers (minus 1))) ≡ fault immediate_range 2 }
-    ensures long { statements_fault (alone (load 10 2048)) ≡ fault unsupported_here 2 }
 {}
 
-/// A symbol is no constant; compressed code comes and goes with the options; of several faulty
-/// statements the first counts, and labels and directives come first.
+/// A symbol is no constant; of several faulty statements the first counts, and labels and directives
+/// come first.
 pub fn first_ones_count()
     ensures symbol { statements_fault (alone (adds (symbol (codes "x")))) ≡ fault not_constant 2 }
-    ensures options { statements_fault options ≡ fault unsupported_here 5 }
     ensures two { statements_fault two_faults ≡ fault division_by_zero 2 }
     ensures later { statements_fault directive_later ≡ fault duplicate_label 4 }
 {}
@@ -77,10 +75,9 @@ pub fn targets_are_addresses()
 
 /// An upper part has 20 bits, from -2048 to 2^32 - 2049.
 pub fn upper_parts_end()
-    ensures low { statements_fault (alone (upper_part (minus 2048))) ≡ fault unsupported_here 2 }
+    ensures low { statements_fault (alone (upper_part (minus 2048))) ≡ None }
     ensures below { statements_fault (alone (upper_part (minus 2049))) ≡ fault immediate_range 2 }
-    ensures high { statements_fault (alone (upper_part (constant 0xfffff7ff)))
-        ≡ fault unsupported_here 2 }
+    ensures high { statements_fault (alone (upper_part (constant 0xfffff7ff))) ≡ None }
     ensures above { statements_fault (alone (upper_part (constant 0xfffff800)))
         ≡ fault immediate_range 2 }
     ensures symbol { statements_fault (alone (upper_part x)) ≡ fault unsupported_here 2 }
@@ -91,12 +88,10 @@ pub fn upper_parts_end()
 pub fn low_parts_fit()
     ensures symbol { statements_fault (alone (adds_part Lo x)) ≡ fault unsupported_here 2 }
     ensures distance { statements_fault (alone (adds_part Lo away)) ≡ fault not_constant 2 }
-    ensures number { statements_fault (alone (adds_part Lo (constant 5000)))
-        ≡ fault unsupported_here 2 }
+    ensures number { statements_fault (alone (adds_part Lo (constant 5000))) ≡ None }
     ensures shift { statements_fault (alone (shifts_part Lo x)) ≡ fault not_constant 2 }
     ensures li { statements_fault (alone (li_part Lo x)) ≡ fault not_constant 2 }
-    ensures amount { statements_fault (alone (shifts_part Lo (constant 4159)))
-        ≡ fault unsupported_here 2 }
+    ensures amount { statements_fault (alone (shifts_part Lo (constant 4159))) ≡ None }
     ensures far { statements_fault (alone (shifts_part Lo (constant 4160)))
         ≡ fault immediate_range 2 }
     ensures negative { statements_fault (alone (shifts_part Lo (constant 4095)))
@@ -117,13 +112,25 @@ pub fn distances_name_labels()
     ensures both { statements_fault (alone (shifts_part PcrelLo x)) ≡ fault undefined_local 2 }
 {}
 
-/// What cannot be placed yet is refused as such where nothing else is wrong.
-pub fn unplaced_comes_last()
-    ensures compressed { statements_fault (compressed (adds (constant 5)))
-        ≡ fault unsupported_here 1 }
+/// Code whose operands are known has a place, in compressed code too, where its numbers are in range.
+pub fn known_code_is_sound()
+    ensures compressed { statements_fault (compressed (adds (constant 5))) ≡ None }
     ensures range { statements_fault (compressed (adds (constant 5000))) ≡ fault immediate_range 1 }
-    ensures offset { statements_fault (alone (jumps_back 2047)) ≡ fault unsupported_here 2 }
+    ensures options { statements_fault options ≡ None }
+    ensures long { statements_fault (alone (load 10 2048)) ≡ None }
+    ensures longest { statements_fault (compressed (load 10 0x123456789abcdef0)) ≡ None }
+    ensures moves { statements_fault (compressed (moves 10 11)) ≡ None }
+    ensures extends { statements_fault (alone (extends 10 11)) ≡ None }
+    ensures offset { statements_fault (alone (jumps_back 2047)) ≡ None }
     ensures far { statements_fault (alone (jumps_back 2048)) ≡ fault immediate_range 2 }
+{}
+
+/// A symbol is open, and code with one cannot be placed yet: as such it is refused where nothing else
+/// is wrong.
+pub fn unplaced_comes_last()
+    ensures symbol { statements_fault (alone (loads_symbol 10 x)) ≡ fault unsupported_here 2 }
+    ensures compressed { statements_fault (compressed (jumps x)) ≡ fault unsupported_here 1 }
+    ensures other { statements_fault (alone (loads_symbol 10 away)) ≡ fault not_constant 2 }
 {}
 
 /// An alignment above 2 in code cannot be placed yet, as an instruction that has no place: after all labels

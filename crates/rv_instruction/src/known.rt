@@ -1,0 +1,165 @@
+//! The instructions of a statement whose operands are known, with their operands in range.
+
+ghost use Rattle.std.specs.Prelude.{◌≡◌, ℕ, IfSome, not};
+ghost use Rattle.rv_isa_laws.specs.Arithmetic.{signed};
+ghost use Rattle.rv_statement.specs.Statement.{Operand};
+ghost use Rattle.rv_statement.specs.View.{plain_of, with_operand};
+ghost use Rattle.rv_pseudo_laws.specs.Code.{Constants};
+ghost use Rattle.rv_pseudo_laws.specs.Valid.{IsOperandOf};
+ghost use Rattle.rv_pseudo.specs.Templates.{AreTemplates};
+ghost use Rattle.rv_unit.specs.Faults.{ForValue};
+ghost use Rattle.rv_instruction.specs.Code as laws;
+ghost use Rattle.rv_instruction.specs.Code.{mnemonic_of, AreInRange, AreValid, IsKnown, IsOfConstant};
+
+use crate::operand::{Outcome, signed};
+use rv_pseudo::{Form, Templates, with_operand, without_operand};
+use rv_statement::{Function, Operation, Plain};
+use rv_text::Value;
+
+/// The registers of a statement without an expression are x0 to x31.
+fn plain_registers(statement: Plain)
+    ensures { (v : Constants) → AreInRange v (plain_of statement) }
+{
+    match statement {
+        Plain::Registers(..) => {}
+        Plain::Load(..) => {}
+        Plain::Store(..) => {}
+        Plain::Jalr(..) => {}
+        Plain::JalrLinked(..) => {}
+        Plain::LoadReserved(..) => {}
+        Plain::Atomic(..) => {}
+        Plain::Fence => {}
+        Plain::FenceBetween(..) => {}
+        Plain::FenceTso => {}
+        Plain::Ecall => {}
+        Plain::Ebreak => {}
+        Plain::Nop => {}
+        Plain::Unary(..) => {}
+        Plain::Compare(..) => {}
+        Plain::Jr(..) => {}
+        Plain::Ret => {}
+    }
+}
+
+/// The registers of an operation are x0 to x31.
+fn operation_registers(operation: Operation)
+    ensures { (v : Constants) (o : Operand) → IsOperandOf v (mnemonic_of operation) o
+        → AreInRange v (with_operand operation o) }
+{
+    match operation {
+        Operation::Registers(..) => {}
+        Operation::Immediate(..) => {}
+        Operation::Shift(..) => {}
+        Operation::Upper(..) => {}
+        Operation::Load(..) => {}
+        Operation::Store(..) => {}
+        Operation::Jalr(..) => {}
+        Operation::JalrThen(..) => {}
+        Operation::JalrLinked(..) => {}
+        Operation::Branch(..) => {}
+        Operation::Jal(..) => {}
+        Operation::JalLinked => {}
+        Operation::LoadSymbol(..) => {}
+        Operation::StoreSymbol(..) => {}
+        Operation::ZeroBranch(..) => {}
+        Operation::SwappedBranch(..) => {}
+        Operation::J => {}
+        Operation::Jr(..) => {}
+        Operation::La(..) => {}
+        Operation::Li(..) => {}
+        Operation::Call(..) => {}
+        Operation::CallLinked => {}
+        Operation::Tail => {}
+        Operation::Jump(..) => {}
+    }
+}
+
+/// The same of a statement that is lent.
+fn plain_in_range(statement: &Plain)
+    ensures { (v : Constants) → AreInRange v (plain_of statement.now) }
+{
+    plain_registers(*statement);
+}
+
+/// The same of an operation that is lent.
+fn operation_in_range(operation: &Operation)
+    ensures { (v : Constants) (o : Operand) → IsOperandOf v (mnemonic_of operation.now) o
+        → AreInRange v (with_operand operation.now o) }
+{
+    operation_registers(*operation);
+}
+
+/// The instructions of a statement without an expression.
+pub(crate) fn plain(statement: Plain, compressed: bool) -> Templates
+    ensures valid { AreValid result.items }
+    ensures is { (bytes : ℕ) → AreTemplates compressed bytes (plain_of statement) result.items }
+{
+    plain_in_range(&statement);
+    without_operand(statement, compressed)
+}
+
+/// With a part of a value a store to a symbol is one at a number from a register.
+fn with_part(operation: Operation) -> Operation
+    ensures { result ≡ laws.with_part operation }
+{
+    match operation {
+        Operation::StoreSymbol(operation, rs2, rt) => Operation::Store(operation, rs2, rt),
+        _ => operation,
+    }
+}
+
+/// The operation by which an operand is known.
+fn known_as(operation: Operation, function: Option<Function>) -> Operation
+    ensures { result ≡ laws.known_as operation function }
+{
+    match function {
+        None => operation,
+        Some(_) => with_part(operation),
+    }
+}
+
+/// The instructions of an operation with a constant, or with a function of one, where its field takes that.
+fn of_constant(
+    operation: Operation,
+    function: Option<Function>,
+    number: u64,
+    compressed: bool,
+) -> Option<Templates>
+    ensures valid { IfSome result (λ t. AreValid t.items) }
+    ensures is { IsOfConstant operation function (signed 64 number) compressed result }
+{
+    operation_in_range(&operation);
+    let form = Form {
+        value: Some(signed(number)),
+        bytes: 4,
+        rvc: compressed,
+    };
+    match with_operand(operation, function, form) {
+        Ok(templates) => Some(templates),
+        Err(_) => None,
+    }
+}
+
+/// The instructions of an operation with an expression of this value, or with a function of one, where that is known and the
+/// operation's field takes it.
+pub(crate) fn known(
+    operation: &Operation,
+    function: Option<Function>,
+    value: &Outcome<'_>,
+    compressed: bool,
+) -> Option<Templates>
+    ensures valid { IfSome result (λ t. AreValid t.items) }
+    ensures is { ForValue value.now (λ v. IsKnown operation.now function v compressed result) }
+{
+    match value {
+        Ok(Value::Constant(number)) => {
+            of_constant(
+                known_as(*operation, function),
+                function,
+                *number,
+                compressed,
+            )
+        }
+        _ => None,
+    }
+}
