@@ -394,7 +394,14 @@ pub(crate) fn items(
         let place = places[index];
         let extent = extent_at(extents, place.section);
         let offset = end(ends.as_slice(), place.section);
-        let item = next_item(&scope, &statements[index], place, &extent, offset, sizes[index])?;
+        let item = next_item(
+            &scope,
+            &statements[index],
+            place,
+            &extent,
+            offset,
+            sizes[index],
+        )?;
         grow(&mut ends, item);
         items.push(item)?;
         scope.pass();
