@@ -106,10 +106,6 @@ row_back (Some ps) found closed e =
     let same : all_templates ps ≡ found = cc in
     ap Some (parts_back ps closed ∙ ap known_parts same)
 
-pub closed_some : (row : Option (List Part)) → closed_in row ≡ true → is_some row ≡ true
-closed_some None closed = absurd (cc)
-closed_some (Some ps) closed = refl
-
 -- of statements without an expression
 pub plain_closed : (p : Plain) (c : Constants) (rvc : Bool) (bytes : ℕ) → closed_in (pseudo.parts_of c rvc bytes (plain_of p)) ≡ true
 plain_closed (plains.Unary operation rd rs) c rvc bytes = closed_map (unary rvc operation rd rs)

@@ -56,22 +56,6 @@ takes_same (operations.Jr rs) k fits away = refl
 takes_same (operations.Li rd) k fits away = sym fits
 takes_same _ k fits away = absurd (cc)
 
-pub target_takes : (operation : Operation) (k : ℤ) → takes_target operation ≡ true → is_signed 12 k ≡ range.takes (mnemonic_of operation) k
-target_takes (operations.Branch operation rs1 rs2) k target = refl
-target_takes (operations.ZeroBranch operation rs) k target = refl
-target_takes (operations.SwappedBranch operation a b) k target = refl
-target_takes (operations.Jal rd) k target = refl
-target_takes operations.JalLinked k target = refl
-target_takes operations.J k target = refl
-target_takes (operations.La rd) k target = refl
-target_takes (operations.LoadSymbol operation rd) k target = refl
-target_takes (operations.StoreSymbol operation rs2 rt) k target = refl
-target_takes (operations.Call rd) k target = refl
-target_takes operations.CallLinked k target = refl
-target_takes operations.Tail k target = refl
-target_takes (operations.Jump rt) k target = refl
-target_takes _ k target = absurd (cc)
-
 pub part_mnemonic : (operation : Operation) → mnemonic_of (with_part operation) ≡ mnemonic_of operation
 part_mnemonic (operations.StoreSymbol operation rs2 rt) = refl
 part_mnemonic _ = refl

@@ -1,6 +1,6 @@
 -- The lowest code of an instruction that cannot be placed.
 
-use Rattle.std.proofs.Common.{◌≡◌, ℕ, Bool, true, false, List, [], ◌∷◌, Option, Some, None, refl, sym, ap, ◌∙◌}
+use Rattle.std.proofs.Common.{◌≡◌, ℕ, Bool, true, false, List, [], ◌∷◌, Option, Some, None, sym, ap, ◌∙◌}
 use Rattle.std.specs.Prelude.{◌&&◌, not, min, is_some, option_map}
 use Rattle.rv_text_laws.specs.Codes.{unsupported_here}
 use Rattle.rv_unit_laws.specs.Faults.{faulty_if, lowest}
@@ -29,22 +29,6 @@ unplaced_none cs e = ap (λ l. lowest (else_unplaced false l)) (no_lowest cs (sy
 pub unplaced_some : (cs : List ℕ) (c : ℕ) → Some c ≡ lowest cs → lowest (else_unplaced false cs) ≡ Some c
 unplaced_some [] c e = absurd (cc)
 unplaced_some (d ∷ ds) c e = sym e
-
--- what cannot be placed anyway has the same lowest code
-pub unplaced_less : (placed : Bool) (cs : List ℕ) (c : ℕ) → lowest (else_unplaced placed cs) ≡ Some c → lowest (else_unplaced false cs) ≡ Some c
-unplaced_less placed (d ∷ ds) c e = e
-unplaced_less true [] c e = absurd (cc)
-unplaced_less false [] c e = e
-
--- what has no fault can be placed
-pub placed_sound : (placed : Bool) (cs : List ℕ) → else_unplaced placed cs ≡ [] → (cs ≡ []) × (placed ≡ true)
-placed_sound true [] e = (refl, refl)
-placed_sound false [] e = absurd (cc)
-placed_sound placed (d ∷ ds) e = absurd (cc)
-
-pub nowhere : (b : Bool) → (b && false) ≡ false
-nowhere true = refl
-nowhere false = refl
 
 -- an alignment without padding in code has no fault, one with padding cannot be placed
 pub padded_low : (faults : List ℕ) (executable : Bool) (alignment : Option ℕ) → faults ≡ padding_faults executable alignment

@@ -34,7 +34,8 @@ pub fn constant(value: Result<Value<'_>, SourceFault>, line: u32) -> Result<u64,
     }
 }
 
-/// The instructions of an operation with an operand of this value at a line, where that is known, or its fault.
+/// The instructions of an operation with an operand of this value at a line, where that is known,
+/// or its fault.
 fn with_value<'a>(
     scope: &Scope<'_, 'a>,
     operation: Operation,
@@ -86,7 +87,8 @@ fn unpadded(executable: bool, alignment: Option<u32>, line: u32) -> Result<Templ
     Ok(ArrayVec::new())
 }
 
-/// The instructions of the statement that is next, none where it is no instruction, or the lowest code of its faults as code.
+/// The instructions of the statement that is next, none where it is no instruction, or the lowest
+/// code of its faults as code.
 fn expanded<'a>(
     statement: &Statement<'a>,
     scope: &Scope<'_, 'a>,
@@ -122,13 +124,14 @@ fn expanded<'a>(
     }
 }
 
-/// The code of the statement that is next, none where it is no instruction: in a section of code or not, where compressed
-/// code is on or off.
+/// The code of the statement that is next, none where it is no instruction: in a section of code or
+/// not, where compressed code is on or off.
 ///
 /// # Errors
 ///
-/// At the statement's line the lowest code of its faults as code; E9 where nothing else is wrong with an operand that is open,
-/// or with an alignment that has padding in code. Never want of memory.
+/// At the statement's line the lowest code of its faults as code; E9 where nothing else is wrong
+/// with an operand that is open, or with an alignment that has padding in code. Never want of
+/// memory.
 pub fn code<'a>(
     statement: &Statement<'a>,
     scope: &Scope<'_, 'a>,

@@ -118,7 +118,8 @@ fn known_as(operation: Operation, function: Option<Function>) -> Operation
     }
 }
 
-/// The instructions of an operation with a constant, or with a function of one, where its field takes that.
+/// The instructions of an operation with a constant, or with a function of one, where its field
+/// takes that.
 fn of_constant(
     operation: Operation,
     function: Option<Function>,
@@ -140,8 +141,8 @@ fn of_constant(
     }
 }
 
-/// The instructions of an operation with an expression of this value, or with a function of one, where that is known and the
-/// operation's field takes it.
+/// The instructions of an operation with an expression of this value, or with a function of one,
+/// where that is known and the operation's field takes it.
 pub(crate) fn known(
     operation: &Operation,
     function: Option<Function>,
