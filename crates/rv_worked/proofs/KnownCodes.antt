@@ -1,6 +1,6 @@
 -- Worked code: why each instruction has its bytes.
 
-use Rattle.std.proofs.Common.{◌≡◌, ℕ, ◌≤◌, true, false, [], ◌∷◌, refl, ap, subst, lit<, arith, inl, inr, ℤ, pos, negsuc}
+use Rattle.std.proofs.Common.{◌≡◌, ◌≤◌, true, false, [], ◌∷◌, refl, ap, subst, lit<, arith, inl, inr, ℤ, pos, negsuc}
 use Rattle.std.proofs.lemmas.Int.{ints}
 use Rattle.std.specs.Prelude.{◌≤ℤ◌, ◌<◌}
 use Rattle.rv_isa.specs.Ranges.{IsValid}

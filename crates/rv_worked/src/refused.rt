@@ -1,6 +1,6 @@
 //! Worked sources that are refused, as contracts that the check computes.
 
-ghost use Rattle.std.specs.Prelude.{◌≡◌, [], ◌∷◌, None, true, false, codes};
+ghost use Rattle.std.specs.Prelude.{◌≡◌, [], ◌∷◌, None, false, codes};
 ghost use Rattle.rv_text_laws.specs.Codes.{unsupported_here, immediate_range, not_constant, division_by_zero, duplicate_label, scratch_register, undefined_local, wrong_section};
 ghost use Rattle.rv_text_laws.specs.declared.operator.BinaryOperator.TheVariants.{Divide};
 ghost use Rattle.rv_text_laws.specs.Expression.{Leaf, Binary, Reference};
