@@ -6,7 +6,7 @@ use Rattle.std.proofs.lemmas.List.{length-map}
 use Rattle.std.proofs.lemmas.List.Folds.{list_all-append}
 use Rattle.std.specs.Global.{Vec}
 use Rattle.std.specs.List.{AllByRecursion, list_all}
-use Rattle.std.specs.Prelude.{⊤, ◌&&◌, if◌then◌else◌, flat_map, slice_get, slice_index, slice_index_or}
+use Rattle.std.specs.Prelude.{⊤, ◌&&◌, if◌then◌else◌, flat_map, option_map, slice_get, slice_index, slice_index_or}
 use Rattle.rv_isa.specs.Kinds.{width_of}
 use Rattle.rv_statement.specs.Statement.{Statement}
 use Rattle.rv_unit_laws.specs.declared.section_type.SectionType.{SectionType}
@@ -39,18 +39,19 @@ use Rattle.rv_assemble_laws.proofs.OpenedNames.{sections_named}
 use Rattle.rv_symbols.proofs.Naming.{name_is_string}
 use Rattle.rv_assemble.proofs.NamesKept.{names_kept, kept_by}
 use Rattle.rv_assemble.proofs.EvenCode.{end_even, ends_within}
+use Rattle.rv_assemble.proofs.CodeFits.{Holds, all_fit}
 use Rattle.rv_assemble.proofs.FieldsInside.{none_in_nobits, parts_within, no_paddings}
 use Rattle.rv_assemble.proofs.Indexed.{parts_indexed, symbols_stand}
 
 -- ---- relocations
 
 -- those of a section, where each field's number is that of its symbol
-fields_numbered : (number : Numbering) (j : ℕ) (fs : List Field) → relocations_in j fs (map (λ f. number f.ordinal f.symbol) fs) ≡ map (numbered number) (in_section j fs)
+fields_numbered : (number : Numbering) (j : ℕ) (fs : List Field) → relocations_in j fs (map (λ f. option_map (number f.ordinal) f.symbol) fs) ≡ map (numbered number) (in_section j fs)
 fields_numbered number j [] = refl
 fields_numbered number j (f ∷ fs) = go (f.section == j) (fields_numbered number j fs)
   where
-    go : (b : Bool) → relocations_in j fs (map (λ f. number f.ordinal f.symbol) fs) ≡ map (numbered number) (in_section j fs)
-        → (if b then relocation_by f (number f.ordinal f.symbol) ∷ [] else []) ++ relocations_in j fs (map (λ f. number f.ordinal f.symbol) fs)
+    go : (b : Bool) → relocations_in j fs (map (λ f. option_map (number f.ordinal) f.symbol) fs) ≡ map (numbered number) (in_section j fs)
+        → (if b then relocation_by f (option_map (number f.ordinal) f.symbol) ∷ [] else []) ++ relocations_in j fs (map (λ f. option_map (number f.ordinal) f.symbol) fs)
         ≡ map (numbered number) (if b then f ∷ in_section j fs else in_section j fs)
     go true e = ap (λ l. numbered number f ∷ l) e
     go false e = e
@@ -199,7 +200,7 @@ of_sections t all number symbols k (e ∷ es) (x ∷ xs) (h, hs) = (h, of_sectio
 
 module _ (ss : List Statement) (d : Draft) (extents : List Extent) (lists : List (Vec DeclaredRelocation)) (number : Numbering) (h : IsDraft ss d) (good : statements_fault ss ≡ None) (kept : OpenKept ss)
     (opened : map extent_section extents ≡ (opened_of (tables ss)).sections) (alignments : map (λ (e : Extent). e.alignment) extents ≡ alignments_of (tables ss)) (counted : length lists ≡ length extents)
-    (listed : (j : ℕ) → list_in lists j ≡ relocations_in j (map field_of d.fields.items) (map (λ f. number f.ordinal f.symbol) (map field_of d.fields.items)))
+    (listed : (j : ℕ) → list_in lists j ≡ relocations_in j (map field_of d.fields.items) (map (λ f. option_map (number f.ordinal) f.symbol) (map field_of d.fields.items)))
     (numbers : AllByRecursion (IsNumbered (tables ss) h.sites number (symbols_of (tables ss) h.sites)) (references (tables ss) h.sites)) where
   abbrev t : Tables
   t = tables ss
@@ -280,6 +281,9 @@ module _ (ss : List Statement) (d : Draft) (extents : List Extent) (lists : List
       low = λ text. subst (λ n. n ≤ 2) alignment (drafted.low text);
     }
 
+    held : AllByRecursion Holds (parts t sites)
+    held = all_fit t home (slice_index_or (alignments_of t) j 1) sites inside drafted.sizes drafted.templates
+
     none : is_nobits_type home.section_type ≡ true → (if home.loaded then relocations_from number 0 (parts t sites) else []) ≡ []
     none e = go home.loaded
       where
@@ -291,7 +295,7 @@ module _ (ss : List Statement) (d : Draft) (extents : List Extent) (lists : List
     fits = go home.loaded
       where
         go : (b : Bool) → list_all (λ r. nat_le (r.place + width_of r.kind) (length full)) (if b then relocations_from number 0 (parts t sites) else []) ≡ true
-        go true = parts_within number 0 (length full) (parts t sites) drafted.templates (let f : 0 + length full ≤ length full = omega arith in f)
+        go true = parts_within number 0 (length full) (parts t sites) held (let f : 0 + length full ≤ length full = omega arith in f)
         go false = refl
 
     is_makeable : IsMakeable made
@@ -303,7 +307,7 @@ module _ (ss : List Statement) (d : Draft) (extents : List Extent) (lists : List
       alone = ap (is_loaded_alone home.loaded) relocations ∙ alone_by home.loaded (relocations_from number 0 (parts t sites));
       inside = ap (fit_inside made.contents) relocations ∙ ap (λ c. fit_inside c (if home.loaded then relocations_from number 0 (parts t sites) else [])) contents
           ∙ inside_by home.section_type stop full (if home.loaded then relocations_from number 0 (parts t sites) else []) none fits;
-      paddings = ap (are_paddings home.executable made.contents) relocations ∙ no_paddings number home.executable made.contents home.loaded (parts t sites);
+      paddings = ap (are_paddings home.executable made.contents) relocations ∙ no_paddings number home.executable made.contents home.loaded (parts t sites) held;
     }
 
     is_indexed : list_all (λ (r : Relocation). is_below (length symbols) r.symbol) made.relocations ≡ true
@@ -381,6 +385,7 @@ module _ (ss : List Statement) (d : Draft) (extents : List Extent) (lists : List
     sites = h.sites;
     located = h.located;
     places = h.places;
+    least = h.least;
     number = number;
     sections = subst (λ l. AreSectionsOf t h.sites number symbols 0 l (sections_by extents d.ends.items d.sections.items lists)) opened
         (of_sections t h.sites number symbols 0 extents (sections_by extents d.ends.items d.sections.items lists)

@@ -3,14 +3,14 @@
 
 use Rattle.std.proofs.Common.{◌≡◌, ℕ, ◌+◌, Bool, true, false, List, [], ◌∷◌, ◌++◌, length, refl, sym, ap, ◌∙◌, subst, arith, map, length-append, Some}
 use Rattle.std.proofs.lemmas.Bool.{eqb-true}
-use Rattle.std.specs.Prelude.{◌==◌, if◌then◌else◌, filter, flat_map, slice_get}
+use Rattle.std.specs.Prelude.{◌==◌, if◌then◌else◌, filter, flat_map, option_map, slice_get}
 use Rattle.std.specs.List.{AllByRecursion}
 use Rattle.rv_unit_laws.specs.Sections.{Section}
 use Rattle.rv_unit_laws.specs.Tables.{Tables}
 use Rattle.rv_object.specs.Object.{Relocation, Symbol}
 use Rattle.rv_assemble_laws.specs.Templates.{Open, template_fields}
 use Rattle.rv_assemble_laws.specs.Sites.{Site, Part, parts_of, parts, part_bytes, sites_in, Tile}
-use Rattle.rv_assemble_laws.specs.Symbols.{SymbolUse, references_in, references_of, references}
+use Rattle.rv_assemble_laws.specs.Symbols.{SymbolUse, use_of, references_in, references_of, references}
 use Rattle.rv_assemble_laws.specs.IsObjectOf.{Numbering, relocation_at, relocations_from, IsNumbered, ArePartsNumbered}
 use Rattle.rv_assemble_laws.specs.Fields.{Field, field_at, fields_from, fields_at, fields}
 use Rattle.rv_assemble.proofs.Settled.{IsSettled}
@@ -37,7 +37,7 @@ filter_append test (x ∷ xs) ys = go (test x) (filter_append test xs ys)
     go true e = ap (λ l. x ∷ l) e
     go false e = e
 
-flat_append : {X Y : Type 0} (f : X → List Y) (xs ys : List X) → flat_map f (xs ++ ys) ≡ flat_map f xs ++ flat_map f ys
+pub flat_append : {X Y : Type 0} (f : X → List Y) (xs ys : List X) → flat_map f (xs ++ ys) ≡ flat_map f xs ++ flat_map f ys
 flat_append f [] ys = refl
 flat_append f (x ∷ xs) ys = ap (λ l. f x ++ l) (flat_append f xs ys) ∙ sym (append_assoc (f x) (flat_map f xs) (flat_map f ys))
 
@@ -56,27 +56,27 @@ all_each P f (x ∷ xs) h = let both = all_split P (f x) (flat_map f xs) h in (b
 -- ---- a field as a relocation
 
 abbrev pub numbered : Numbering → Field → Relocation
-numbered number f = record { place = f.place; kind = f.kind; symbol = Some (number f.ordinal f.symbol); addend = f.addend }
+numbered number f = record { place = f.place; kind = f.kind; symbol = option_map (number f.ordinal) f.symbol; addend = f.addend }
 
 abbrev pub in_section : ℕ → List Field → List Field
 in_section j fs = filter (λ f. f.section == j) fs
 
 module _ (number : Numbering) where
-  of_part : (section ordinal offset : ℕ) (opens : List Open) → map (numbered number) (map (field_at section ordinal offset) opens) ≡ map (relocation_at number ordinal offset) opens
-  of_part section ordinal offset [] = refl
-  of_part section ordinal offset (f ∷ fs) = ap (λ l. relocation_at number ordinal offset f ∷ l) (of_part section ordinal offset fs)
+  of_part : (section offset : ℕ) (opens : List Open) → map (numbered number) (map (field_at section offset) opens) ≡ map (relocation_at number offset) opens
+  of_part section offset [] = refl
+  of_part section offset (f ∷ fs) = ap (λ l. relocation_at number offset f ∷ l) (of_part section offset fs)
 
   of_parts : (section offset : ℕ) (ps : List Part) → map (numbered number) (fields_from section offset ps) ≡ relocations_from number offset ps
   of_parts section offset [] = refl
   of_parts section offset (p ∷ ps) =
-      map_append (numbered number) (map (field_at section p.ordinal offset) (template_fields p.template)) (fields_from section (offset + length (part_bytes p)) ps)
-      ∙ ap (λ l. l ++ map (numbered number) (fields_from section (offset + length (part_bytes p)) ps)) (of_part section p.ordinal offset (template_fields p.template))
-      ∙ ap (λ l. map (relocation_at number p.ordinal offset) (template_fields p.template) ++ l) (of_parts section (offset + length (part_bytes p)) ps)
+      map_append (numbered number) (map (field_at section offset) (template_fields p.ordinal p.template)) (fields_from section (offset + length (part_bytes p)) ps)
+      ∙ ap (λ l. l ++ map (numbered number) (fields_from section (offset + length (part_bytes p)) ps)) (of_part section offset (template_fields p.ordinal p.template))
+      ∙ ap (λ l. map (relocation_at number offset) (template_fields p.ordinal p.template) ++ l) (of_parts section (offset + length (part_bytes p)) ps)
 
   pub behind : (offset : ℕ) (ps qs : List Part) → relocations_from number offset (ps ++ qs) ≡ relocations_from number offset ps ++ relocations_from number (offset + length (flat_map part_bytes ps)) qs
   behind offset [] qs = ap (λ n. relocations_from number n qs) (let e : offset ≡ offset + 0 = omega arith in e)
   behind offset (p ∷ ps) qs =
-      let own = map (relocation_at number p.ordinal offset) (template_fields p.template) in
+      let own = map (relocation_at number offset) (template_fields p.ordinal p.template) in
       let next = offset + length (part_bytes p) in
       let l = length-append (part_bytes p) (flat_map part_bytes ps) in
       let at : next + length (flat_map part_bytes ps) ≡ offset + length (part_bytes p ++ flat_map part_bytes ps) = omega (arith, l) in
@@ -86,16 +86,16 @@ module _ (number : Numbering) where
 
 -- ---- the fields of a section
 
-opens_in : (j section ordinal offset : ℕ) (b : Bool) → (section == j) ≡ b → (opens : List Open)
-    → in_section j (map (field_at section ordinal offset) opens) ≡ (if b then map (field_at section ordinal offset) opens else [])
-opens_in j section ordinal offset true e [] = refl
-opens_in j section ordinal offset false e [] = refl
-opens_in j section ordinal offset true e (f ∷ fs) =
-    ap (λ b. if b then field_at section ordinal offset f ∷ in_section j (map (field_at section ordinal offset) fs) else in_section j (map (field_at section ordinal offset) fs)) e
-    ∙ ap (λ l. field_at section ordinal offset f ∷ l) (opens_in j section ordinal offset true e fs)
-opens_in j section ordinal offset false e (f ∷ fs) =
-    ap (λ b. if b then field_at section ordinal offset f ∷ in_section j (map (field_at section ordinal offset) fs) else in_section j (map (field_at section ordinal offset) fs)) e
-    ∙ opens_in j section ordinal offset false e fs
+opens_in : (j section offset : ℕ) (b : Bool) → (section == j) ≡ b → (opens : List Open)
+    → in_section j (map (field_at section offset) opens) ≡ (if b then map (field_at section offset) opens else [])
+opens_in j section offset true e [] = refl
+opens_in j section offset false e [] = refl
+opens_in j section offset true e (f ∷ fs) =
+    ap (λ b. if b then field_at section offset f ∷ in_section j (map (field_at section offset) fs) else in_section j (map (field_at section offset) fs)) e
+    ∙ ap (λ l. field_at section offset f ∷ l) (opens_in j section offset true e fs)
+opens_in j section offset false e (f ∷ fs) =
+    ap (λ b. if b then field_at section offset f ∷ in_section j (map (field_at section offset) fs) else in_section j (map (field_at section offset) fs)) e
+    ∙ opens_in j section offset false e fs
 
 if_append : {X : Type 0} (b : Bool) (xs ys : List X) → (if b then xs else []) ++ (if b then ys else []) ≡ (if b then xs ++ ys else [])
 if_append true xs ys = refl
@@ -105,10 +105,10 @@ parts_in : (j section offset : ℕ) (b : Bool) → (section == j) ≡ b → (ps 
 parts_in j section offset true e [] = refl
 parts_in j section offset false e [] = refl
 parts_in j section offset b e (p ∷ ps) =
-    let own = map (field_at section p.ordinal offset) (template_fields p.template) in
+    let own = map (field_at section offset) (template_fields p.ordinal p.template) in
     let rest = fields_from section (offset + length (part_bytes p)) ps in
     filter_append (λ f. f.section == j) own rest
-    ∙ ap (λ l. l ++ in_section j rest) (opens_in j section p.ordinal offset b e (template_fields p.template))
+    ∙ ap (λ l. l ++ in_section j rest) (opens_in j section offset b e (template_fields p.ordinal p.template))
     ∙ ap (λ l. (if b then own else []) ++ l) (parts_in j section (offset + length (part_bytes p)) b e ps)
     ∙ if_append b own rest
 
@@ -164,32 +164,32 @@ module _ (t : Tables) (number : Numbering) (sections : List Section) (j : ℕ) (
 
 -- ---- what they name
 
-abbrev pub use_of_field : Field → SymbolUse
-use_of_field f = record { ordinal = f.ordinal; symbol = f.symbol }
+abbrev pub use_of_field : Field → List SymbolUse
+use_of_field f = use_of f.ordinal f.symbol
 
-uses_of_part : (section ordinal offset : ℕ) (opens : List Open) → map use_of_field (map (field_at section ordinal offset) opens) ≡ map (λ f. record { ordinal = ordinal; symbol = f.symbol }) opens
-uses_of_part section ordinal offset [] = refl
-uses_of_part section ordinal offset (f ∷ fs) = ap (λ (l : List SymbolUse). record { ordinal = ordinal; symbol = f.symbol } ∷ l) (uses_of_part section ordinal offset fs)
+uses_of_part : (section offset : ℕ) (opens : List Open) → flat_map use_of_field (map (field_at section offset) opens) ≡ flat_map (λ f. use_of f.ordinal f.symbol) opens
+uses_of_part section offset [] = refl
+uses_of_part section offset (f ∷ fs) = ap (λ l. use_of f.ordinal f.symbol ++ l) (uses_of_part section offset fs)
 
-uses_of_parts : (section offset : ℕ) (ps : List Part) → map use_of_field (fields_from section offset ps) ≡ flat_map references_in ps
+uses_of_parts : (section offset : ℕ) (ps : List Part) → flat_map use_of_field (fields_from section offset ps) ≡ flat_map references_in ps
 uses_of_parts section offset [] = refl
 uses_of_parts section offset (p ∷ ps) =
-    map_append use_of_field (map (field_at section p.ordinal offset) (template_fields p.template)) (fields_from section (offset + length (part_bytes p)) ps)
-    ∙ ap (λ l. l ++ map use_of_field (fields_from section (offset + length (part_bytes p)) ps)) (uses_of_part section p.ordinal offset (template_fields p.template))
+    flat_append use_of_field (map (field_at section offset) (template_fields p.ordinal p.template)) (fields_from section (offset + length (part_bytes p)) ps)
+    ∙ ap (λ l. l ++ flat_map use_of_field (fields_from section (offset + length (part_bytes p)) ps)) (uses_of_part section offset (template_fields p.ordinal p.template))
     ∙ ap (λ l. references_in p ++ l) (uses_of_parts section (offset + length (part_bytes p)) ps)
 
-uses_of_site : (t : Tables) (s : Site) → map use_of_field (fields_at t s) ≡ references_of t s
+uses_of_site : (t : Tables) (s : Site) → flat_map use_of_field (fields_at t s) ≡ references_of t s
 uses_of_site t s = go s.located.home.loaded
   where
-    go : (b : Bool) → map use_of_field (if b then fields_from s.located.section s.offset (parts_of t s) else []) ≡ (if b then flat_map references_in (parts_of t s) else [])
+    go : (b : Bool) → flat_map use_of_field (if b then fields_from s.located.section s.offset (parts_of t s) else []) ≡ (if b then flat_map references_in (parts_of t s) else [])
     go true = uses_of_parts s.located.section s.offset (parts_of t s)
     go false = refl
 
-pub uses_of_fields : (t : Tables) (sites : List Site) → map use_of_field (fields t sites) ≡ references t sites
+pub uses_of_fields : (t : Tables) (sites : List Site) → flat_map use_of_field (fields t sites) ≡ references t sites
 uses_of_fields t [] = refl
 uses_of_fields t (s ∷ ss) =
-    map_append use_of_field (fields_at t s) (fields t ss)
-    ∙ ap (λ l. l ++ map use_of_field (fields t ss)) (uses_of_site t s) ∙ ap (λ l. references_of t s ++ l) (uses_of_fields t ss)
+    flat_append use_of_field (fields_at t s) (fields t ss)
+    ∙ ap (λ l. l ++ flat_map use_of_field (fields t ss)) (uses_of_site t s) ∙ ap (λ l. references_of t s ++ l) (uses_of_fields t ss)
 
 -- what is numbered of all that relocations name is numbered of the parts of each loaded section
 module _ (t : Tables) (all : List Site) (number : Numbering) (symbols : List Symbol) (sections : List Section) (j : ℕ) (home : Section) (at : slice_get sections j ≡ Some home) (loaded : home.loaded ≡ true) where

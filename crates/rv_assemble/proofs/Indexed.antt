@@ -3,7 +3,7 @@
 use Rattle.std.proofs.Common.{◌≡◌, ℕ, zero, suc, ◌+◌, ◌<◌, Bool, true, false, not, ◌&&◌, ◌==◌, nat_lt, List, [], ◌∷◌, ◌++◌, length, refl, ap, ◌∙◌, subst, arith, map, Option, Some, None}
 use Rattle.std.proofs.lemmas.Bool.{and_parts, lt-ltb}
 use Rattle.std.proofs.lemmas.List.Folds.{list_all-append}
-use Rattle.std.specs.Prelude.{if◌then◌else◌, filter, flat_map, slice_get}
+use Rattle.std.specs.Prelude.{if◌then◌else◌, filter, flat_map, option_map, slice_get}
 use Rattle.std.specs.List.{AllByRecursion, list_all, list_any}
 use Rattle.rv_text_laws.specs.Expression.{Primary}
 use Rattle.rv_text_laws.specs.Values.{Meaning, Known, InSection as InData, Open as OpenAddress, Refused}
@@ -18,9 +18,10 @@ use Rattle.rv_object.specs.Object.{Relocation, Symbol}
 use Rattle.rv_object.specs.Valid.{is_below, is_defined_in}
 use Rattle.rv_assemble_laws.specs.Templates.{Open, template_fields}
 use Rattle.rv_assemble_laws.specs.Sites.{Site, Part, part_bytes}
-use Rattle.rv_assemble_laws.specs.Symbols.{site_at, after_site, after_found, assigned_definition, site_definition, local_symbol, global_symbol, references, is_meant, are_together, unnamed_symbols, is_absolute, named_symbols, local_symbols, exports_of, exports, missing_name, distinct_from, undefined_symbols, symbols_of, StandsFor}
+use Rattle.rv_assemble_laws.specs.Symbols.{use_of, site_at, after_site, after_found, assigned_definition, site_definition, local_symbol, global_symbol, references, is_meant, are_together, unnamed_symbols, is_absolute, named_symbols, local_symbols, exports_of, exports, missing_name, distinct_from, undefined_symbols, symbols_of, StandsFor}
 use Rattle.rv_assemble_laws.specs.IsObjectOf.{Numbering, relocation_at, relocations_from, IsNumbered, ArePartsNumbered}
 use Rattle.rv_assemble.proofs.Settled.{IsSettled}
+use Rattle.rv_assemble.proofs.FieldLists.{all_split}
 
 -- ---- relocations
 
@@ -40,17 +41,22 @@ module _ (t : Tables) (all : List Site) (number : Numbering) (symbols : List Sym
       go None e h = absurd h
       go (Some x) e h = lt-ltb n (length symbols) (inside_of symbols n x e)
 
-  opens_indexed : (ordinal place : ℕ) (fs : List Open) → AllByRecursion (IsNumbered t all number symbols) (map (λ f. record { ordinal = ordinal; symbol = f.symbol }) fs)
-      → list_all IsIndexed (map (relocation_at number ordinal place) fs) ≡ true
-  opens_indexed ordinal place [] h = refl
-  opens_indexed ordinal place (f ∷ fs) (h, hs) =
-      ap (λ b. b && list_all IsIndexed (map (relocation_at number ordinal place) fs)) (stands ordinal f.symbol (number ordinal f.symbol) h) ∙ opens_indexed ordinal place fs hs
+  open_indexed : (ordinal : ℕ) (q : Option Primary) → AllByRecursion (IsNumbered t all number symbols) (use_of ordinal q) → is_below (length symbols) (option_map (number ordinal) q) ≡ true
+  open_indexed ordinal None h = refl
+  open_indexed ordinal (Some q) h = stands ordinal q (number ordinal q) h.0
+
+  opens_indexed : (place : ℕ) (fs : List Open) → AllByRecursion (IsNumbered t all number symbols) (flat_map (λ f. use_of f.ordinal f.symbol) fs)
+      → list_all IsIndexed (map (relocation_at number place) fs) ≡ true
+  opens_indexed place [] h = refl
+  opens_indexed place (f ∷ fs) h =
+      let both = all_split (IsNumbered t all number symbols) (use_of f.ordinal f.symbol) (flat_map (λ f. use_of f.ordinal f.symbol) fs) h in
+      ap (λ b. b && list_all IsIndexed (map (relocation_at number place) fs)) (open_indexed f.ordinal f.symbol both.0) ∙ opens_indexed place fs both.1
 
   pub parts_indexed : (offset : ℕ) (ps : List Part) → ArePartsNumbered t all number symbols ps → list_all IsIndexed (relocations_from number offset ps) ≡ true
   parts_indexed offset [] h = refl
   parts_indexed offset (p ∷ ps) (h, hs) =
-      list_all-append IsIndexed (map (relocation_at number p.ordinal offset) (template_fields p.template)) (relocations_from number (offset + length (part_bytes p)) ps)
-      ∙ ap (λ b. b && list_all IsIndexed (relocations_from number (offset + length (part_bytes p)) ps)) (opens_indexed p.ordinal offset (template_fields p.template) h)
+      list_all-append IsIndexed (map (relocation_at number offset) (template_fields p.ordinal p.template)) (relocations_from number (offset + length (part_bytes p)) ps)
+      ∙ ap (λ b. b && list_all IsIndexed (relocations_from number (offset + length (part_bytes p)) ps)) (opens_indexed offset (template_fields p.ordinal p.template) h)
       ∙ parts_indexed (offset + length (part_bytes p)) ps hs
 
 -- ---- symbols

@@ -1,5 +1,6 @@
 pub mod Settled
 pub mod FieldLists
+pub mod CodeFits
 pub mod ValueSymbols
 pub mod UsesKnown
 pub mod Alignments
@@ -9,6 +10,7 @@ pub mod FieldsInside
 pub mod Indexed
 pub mod OpenedKept
 pub mod ListsSoFar
+pub mod IndicesSoFar
 pub mod Composed
 pub mod SectionsSoFar
 pub mod Uses

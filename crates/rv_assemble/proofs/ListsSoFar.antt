@@ -1,6 +1,6 @@
 -- One field more of the relocations so far, and one section more of the sections.
 
-use Rattle.std.proofs.Common.{◌≡◌, ℕ, ℤ, zero, suc, ◌+◌, ◌<◌, ◌==◌, Bool, true, false, List, [], ◌∷◌, ◌++◌, length, drop, map, Some, None, refl, sym, ap, ◌∙◌, subst, arith, get_or, add-one}
+use Rattle.std.proofs.Common.{◌≡◌, ℕ, ℤ, zero, suc, ◌+◌, ◌<◌, ◌==◌, Bool, true, false, List, [], ◌∷◌, ◌++◌, length, drop, map, Option, Some, None, refl, sym, ap, ◌∙◌, subst, arith, get_or, add-one}
 use Rattle.std.proofs.lemmas.Bool.{eqb-true, eq-eqb}
 use Rattle.std.proofs.lemmas.List.{length-set, drop_more}
 use Rattle.std.specs.Global.{Vec}
@@ -38,7 +38,7 @@ swap a b = go (a == b) refl
 pub left : {X : Type 0} (xs : List X) (i : ℕ) (x : X) → i < length xs → x ≡ get_or xs i x → drop i xs ≡ x ∷ drop (i + 1) xs
 left xs i x inside is = drop_more xs i x inside ∙ ap (λ y. y ∷ drop (i + 1) xs) (sym is)
 
-left_map : {X Y : Type 0} (f : X → Y) (xs : List X) (i : ℕ) (d : X) → i < length xs → drop i (map f xs) ≡ f (get_or xs i d) ∷ drop (i + 1) (map f xs)
+pub left_map : {X Y : Type 0} (f : X → Y) (xs : List X) (i : ℕ) (d : X) → i < length xs → drop i (map f xs) ≡ f (get_or xs i d) ∷ drop (i + 1) (map f xs)
 left_map f xs i d inside = by xs i inside ∙ ap (λ n. f (get_or xs i d) ∷ drop n (map f xs)) (sym (add-one i))
   where
     by : (xs : List _) (i : ℕ) → i < length xs → drop i (map f xs) ≡ f (get_or xs i d) ∷ drop (suc i) (map f xs)
@@ -46,7 +46,7 @@ left_map f xs i d inside = by xs i inside ∙ ap (λ n. f (get_or xs i d) ∷ dr
     by (y ∷ ys) zero inside = refl
     by (y ∷ ys) (suc i) inside = by ys i (omega (arith, inside))
 
-one_more : (old new : List (Vec DeclaredRelocation)) (f : Field) (n : ℕ) (fs : List Field) (ns : List ℕ) (whole : ℕ → List Relocation)
+one_more : (old new : List (Vec DeclaredRelocation)) (f : Field) (n : Option ℕ) (fs : List Field) (ns : List (Option ℕ)) (whole : ℕ → List Relocation)
     → GainsOne old new f n → ((j : ℕ) → list_in old j ++ relocations_in j (f ∷ fs) (n ∷ ns) ≡ whole j) → (j : ℕ) → list_in new j ++ relocations_in j fs ns ≡ whole j
 one_more old new f n fs ns whole (count, gains) h j =
     ap (λ l. l ++ relocations_in j fs ns) (gains j ∙ ap (λ b. if b then list_in old j ++ relocation_by f n ∷ [] else list_in old j) (swap j f.section) ∙ go (f.section == j))
@@ -70,7 +70,7 @@ set_other (y ∷ ys) zero (suc j) v h = refl
 set_other (y ∷ ys) (suc i) zero v h = refl
 set_other (y ∷ ys) (suc i) (suc j) v h = set_other ys i j v (λ e. h (ap suc e))
 
-pub gains_one : (xs : List (Vec DeclaredRelocation)) (i : ℕ) (x v : Vec DeclaredRelocation) (r : DeclaredRelocation) (f : Field) (n : ℕ)
+pub gains_one : (xs : List (Vec DeclaredRelocation)) (i : ℕ) (x v : Vec DeclaredRelocation) (r : DeclaredRelocation) (f : Field) (n : Option ℕ)
     → slice_get xs i ≡ Some x → v.items ≡ x.items ++ r ∷ [] → relocation_of r ≡ relocation_by f n → f.section ≡ i → GainsOne xs (slice_set xs i v) f n
 gains_one xs i x v r f n got more is same = (length-set xs i v, gained)
   where
@@ -97,17 +97,17 @@ next_inside [] i d count n same inside h = absurd (omega (arith, inside))
 next_inside (g ∷ fs) zero d count n same inside (h, hs) = subst (λ m. g.section < m) (sym same) h
 next_inside (g ∷ fs) (suc i) d count n same inside (h, hs) = next_inside fs i d count n same (omega (arith, inside)) hs
 
-pub next_one : (old new : List (Vec DeclaredRelocation)) (fs : List OpenField) (ns : List ℕ) (i : ℕ) (d : OpenField) (whole : ℕ → List Relocation) → i < length fs → length ns ≡ length fs
-    → GainsOne old new (field_of (get_or fs i d)) (get_or ns i 0)
+pub next_one : (old new : List (Vec DeclaredRelocation)) (fs : List OpenField) (ns : List (Option ℕ)) (i : ℕ) (d : OpenField) (whole : ℕ → List Relocation) → i < length fs → length ns ≡ length fs
+    → GainsOne old new (field_of (get_or fs i d)) (get_or ns i None)
     → ((j : ℕ) → list_in old j ++ relocations_in j (drop i (map field_of fs)) (drop i ns) ≡ whole j)
     → (j : ℕ) → list_in new j ++ relocations_in j (drop (i + 1) (map field_of fs)) (drop (i + 1) ns) ≡ whole j
 next_one old new fs ns i d whole inside each gains h =
-    one_more old new (field_of (get_or fs i d)) (get_or ns i 0) (drop (i + 1) (map field_of fs)) (drop (i + 1) ns) whole gains
-    (λ j. ap (λ l. list_in old j ++ relocations_in j l (get_or ns i 0 ∷ drop (i + 1) ns)) (sym (left_map field_of fs i d inside))
-    ∙ ap (λ l. list_in old j ++ relocations_in j (drop i (map field_of fs)) l) (sym (drop_more ns i 0 (subst (λ n. i < n) (sym each) inside))) ∙ h j)
+    one_more old new (field_of (get_or fs i d)) (get_or ns i None) (drop (i + 1) (map field_of fs)) (drop (i + 1) ns) whole gains
+    (λ j. ap (λ l. list_in old j ++ relocations_in j l (get_or ns i None ∷ drop (i + 1) ns)) (sym (left_map field_of fs i d inside))
+    ∙ ap (λ l. list_in old j ++ relocations_in j (drop i (map field_of fs)) l) (sym (drop_more ns i None (subst (λ n. i < n) (sym each) inside))) ∙ h j)
 
-abbrev pub placed : ℕ → ℕ → Kind → ℤ → Relocation
-placed p n k a = record { place = p; kind = k; symbol = Some n; addend = a }
+abbrev pub placed : ℕ → Option ℕ → Kind → ℤ → Relocation
+placed p n k a = record { place = p; kind = k; symbol = n; addend = a }
 
-pub same_relocation : (p q n : ℕ) (k : Kind) (a b : ℤ) → p ≡ q → a ≡ b → placed p n k a ≡ placed q n k b
+pub same_relocation : (p q : ℕ) (n : Option ℕ) (k : Kind) (a b : ℤ) → p ≡ q → a ≡ b → placed p n k a ≡ placed q n k b
 same_relocation p q n k a b e f = ap (λ x. placed x n k a) e ∙ ap (λ x. placed q n k x) f

@@ -5,14 +5,12 @@ use Rattle.std.proofs.Common.{◌≡◌, ℕ, suc, Bool, true, false, List, [], 
 use Rattle.std.proofs.lemmas.Bool.{eqb-true}
 use Rattle.std.specs.Prelude.{◌==◌, if◌then◌else◌}
 use Rattle.std.specs.List.{AllByRecursion, slice_get}
-use Rattle.rv_text_laws.specs.Values.{Value}
-use Rattle.rv_statement.specs.Statement.{StatementKind, Label, Numbered, Instruction, Directs, Statement, Expression, Sets, Aligns_to_power, Aligns_to_bytes, Values, Strings, Zeros}
+use Rattle.rv_statement.specs.Statement.{StatementKind, Label, Numbered, Instruction, Directs, Statement, Sets, Aligns_to_power, Aligns_to_bytes, Values, Strings, Zeros}
 use Rattle.rv_unit_laws.specs.Sections.{Section, text_section}
 use Rattle.rv_unit_laws.specs.Tables.{Tables, at_start, after, tables, opened_of}
 use Rattle.rv_unit_laws.specs.Faults.{first_fault}
 use Rattle.rv_source_laws.specs.Located.{Located, located_from, is_placed}
-use Rattle.rv_assemble_laws.specs.Templates.{templates}
-use Rattle.rv_assemble_laws.specs.Sites.{Site, sites_in}
+use Rattle.rv_assemble_laws.specs.Sites.{Site, sites_in, templates}
 use Rattle.rv_assemble_laws.proofs.Held.{IsHeld, Held, all_held}
 use Rattle.rv_assemble_laws.proofs.Homes.{homes_from}
 
@@ -21,20 +19,20 @@ IsHomeIn sections l = slice_get sections l.section ≡ Some l.home
 
 -- ---- statements without a place
 
-unplaced_by : (t : Tables) (k : ℕ) (kind : StatementKind) → is_placed t k kind ≡ false → (v : Expression → Value) (bytes : ℕ) (coded : List (List ℕ)) → templates v kind bytes coded ≡ []
-unplaced_by t k (Label name) e v bytes coded = absurd (cc)
-unplaced_by t k (Numbered number) e v bytes coded = absurd (cc)
-unplaced_by t k (Instruction mnemonic operands) e v bytes coded = absurd (cc)
-unplaced_by t k (Directs (Sets name x)) e v bytes coded = refl
-unplaced_by t k (Directs (Values width values)) e v bytes coded = absurd (cc)
-unplaced_by t k (Directs (Strings ended strings)) e v bytes coded = absurd (cc)
-unplaced_by t k (Directs (Zeros count)) e v bytes coded = absurd (cc)
-unplaced_by t k (Directs (Aligns_to_power x)) e v bytes coded = absurd (cc)
-unplaced_by t k (Directs (Aligns_to_bytes x)) e v bytes coded = absurd (cc)
-unplaced_by t k (Directs _) e v bytes coded = refl
+unplaced_by : (t : Tables) (k : ℕ) (kind : StatementKind) → is_placed t k kind ≡ false → (u : Tables) (s : Site) → templates u s kind ≡ []
+unplaced_by t k (Label name) e u s = absurd (cc)
+unplaced_by t k (Numbered number) e u s = absurd (cc)
+unplaced_by t k (Instruction mnemonic operands) e u s = absurd (cc)
+unplaced_by t k (Directs (Sets name x)) e u s = refl
+unplaced_by t k (Directs (Values width values)) e u s = absurd (cc)
+unplaced_by t k (Directs (Strings ended strings)) e u s = absurd (cc)
+unplaced_by t k (Directs (Zeros count)) e u s = absurd (cc)
+unplaced_by t k (Directs (Aligns_to_power x)) e u s = absurd (cc)
+unplaced_by t k (Directs (Aligns_to_bytes x)) e u s = absurd (cc)
+unplaced_by t k (Directs _) e u s = refl
 
 abbrev pub IsBare : Located → Type 0
-IsBare l = l.placed ≡ false → (v : Expression → Value) (bytes : ℕ) (coded : List (List ℕ)) → templates v l.kind bytes coded ≡ []
+IsBare l = l.placed ≡ false → (u : Tables) (s : Site) → templates u s l.kind ≡ []
 
 bare_from : (k : ℕ) (t : Tables) (ss : List Statement) → AllByRecursion IsBare (located_from 1 k t ss)
 bare_from k t [] = tt

@@ -3,7 +3,7 @@
 use Rattle.std.proofs.Common.{◌≡◌, ℕ, suc, ◌+◌, ◌<◌, List, [], ◌∷◌, ◌++◌, length, map, refl, sym, ap, ◌∙◌, subst, None, drop, get_or}
 use Rattle.std.proofs.lemmas.List.{length-map, drop_more}
 use Rattle.std.specs.List.{AllByRecursion}
-use Rattle.std.specs.Prelude.{Bool, true, false, if◌then◌else◌}
+use Rattle.std.specs.Prelude.{Bool, true, false, flat_map, if◌then◌else◌}
 use Rattle.std.proofs.lemmas.Option.{slice_get_within}
 use Rattle.rv_statement.specs.Statement.{Statement}
 use Rattle.rv_unit_laws.specs.Faults.{first_fault}
@@ -20,20 +20,20 @@ use Rattle.rv_sites.specs.declared.field.OpenField.{OpenField}
 use Rattle.rv_sites.specs.declared.draft.Draft.{Draft}
 use Rattle.rv_sites.specs.Draft.{item_of, field_of, IsDraft}
 use Rattle.rv_symbols.specs.declared.symbol_use.SymbolUse.{SymbolUse as CodeUse}
-use Rattle.rv_symbols.specs.SymbolUse.{AreMeant, uses_of, use_of as code_use}
+use Rattle.rv_symbols.specs.SymbolUse.{AreMeant, uses_of}
 use Rattle.rv_symbols.specs.HasSymbols.{AreSites}
 use Rattle.rv_assemble.specs.Tabled.{use_of, uses_in, offsets_of}
 use Rattle.rv_assemble.proofs.Settled.{IsSettled, settled}
-use Rattle.rv_assemble.proofs.FieldLists.{use_of_field, uses_of_fields, all_join, append_assoc, map_append}
+use Rattle.rv_assemble.proofs.FieldLists.{use_of_field, uses_of_fields, all_join, append_assoc}
 use Rattle.rv_assemble.proofs.UsesKnown.{are_shown_uses, are_meant_uses}
 
 offsets_are : (sites : List Site) → map (λ s. s.offset) sites ≡ offsets_of (map item_of sites)
 offsets_are [] = refl
 offsets_are (s ∷ ss) = ap (λ l. s.offset ∷ l) (offsets_are ss)
 
-uses_are : (fs : List OpenField) → map use_of fs ≡ map use_of_field (map field_of fs)
+uses_are : (fs : List OpenField) → flat_map use_of fs ≡ flat_map use_of_field (map field_of fs)
 uses_are [] = refl
-uses_are (f ∷ fs) = ap (λ l. use_of f ∷ l) (uses_are fs)
+uses_are (f ∷ fs) = ap (λ l. use_of f ++ l) (uses_are fs)
 
 count_from : (k : ℕ) (t : Tables) (ss : List Statement) → length (located_from 1 k t ss) ≡ length ss
 count_from k t [] = refl
@@ -41,14 +41,14 @@ count_from k t (s ∷ ss) = ap suc (count_from (suc k) (after t k s.kind) ss)
 
 -- ---- the sections of fields
 
-opens_inside : (n section ordinal offset : ℕ) → section < n → (fs : List Open) → AllByRecursion (λ (f : Field). f.section < n) (map (field_at section ordinal offset) fs)
-opens_inside n section ordinal offset h [] = tt
-opens_inside n section ordinal offset h (f ∷ fs) = (h, opens_inside n section ordinal offset h fs)
+opens_inside : (n section offset : ℕ) → section < n → (fs : List Open) → AllByRecursion (λ (f : Field). f.section < n) (map (field_at section offset) fs)
+opens_inside n section offset h [] = tt
+opens_inside n section offset h (f ∷ fs) = (h, opens_inside n section offset h fs)
 
 parts_inside : (n section offset : ℕ) → section < n → (ps : List Part) → AllByRecursion (λ (f : Field). f.section < n) (fields_from section offset ps)
 parts_inside n section offset h [] = tt
 parts_inside n section offset h (p ∷ ps) =
-    all_join (λ (f : Field). f.section < n) (map (field_at section p.ordinal offset) (template_fields p.template)) (fields_from section (offset + length (part_bytes p)) ps) (opens_inside n section p.ordinal offset h (template_fields p.template))
+    all_join (λ (f : Field). f.section < n) (map (field_at section offset) (template_fields p.ordinal p.template)) (fields_from section (offset + length (part_bytes p)) ps) (opens_inside n section offset h (template_fields p.ordinal p.template))
     (parts_inside n section (offset + length (part_bytes p)) h ps)
 
 site_inside : (n : ℕ) (t : Tables) (s : Site) → s.located.section < n → AllByRecursion (λ (f : Field). f.section < n) (fields_at t s)
@@ -71,7 +71,7 @@ unmapped n (f ∷ fs) (h, hs) = (h, unmapped n fs hs)
 module _ (ss : List Statement) (d : Draft) (h : IsDraft ss d) where
   -- the symbols of the fields are those that relocations name
   pub uses_named : uses_in d ≡ references (tables ss) h.sites
-  uses_named = uses_are d.fields.items ∙ ap (map use_of_field) h.open_fields ∙ uses_of_fields (tables ss) h.sites
+  uses_named = uses_are d.fields.items ∙ ap (flat_map use_of_field) h.open_fields ∙ uses_of_fields (tables ss) h.sites
 
   pub are_sites : AreSites ss (offsets_of d.items.items) (uses_in d) h.sites
   are_sites = record { located = h.located; at = offsets_are h.sites ∙ ap offsets_of h.stand; named = sym uses_named }
@@ -102,8 +102,8 @@ pub offsets_more : (made : List ℕ) (items : List Item) (i : ℕ) (d : Item) �
 offsets_more made items i d inside h =
     append_assoc made ((get_or items i d).offset ∷ []) (offsets_of (drop (i + 1) items)) ∙ ap (λ l. made ++ offsets_of l) (sym (drop_more items i d inside)) ∙ h
 
-pub uses_more : (made : List CodeUse) (u : CodeUse) (fs : List OpenField) (i : ℕ) (d : OpenField) → i < length fs → code_use u ≡ use_of (get_or fs i d) → uses_of made ++ map use_of (drop i fs) ≡ map use_of fs
-    → uses_of (made ++ u ∷ []) ++ map use_of (drop (i + 1) fs) ≡ map use_of fs
-uses_more made u fs i d inside is h =
-    ap (λ l. l ++ map use_of (drop (i + 1) fs)) (map_append code_use made (u ∷ [])) ∙ append_assoc (uses_of made) (code_use u ∷ []) (map use_of (drop (i + 1) fs))
-    ∙ ap (λ x. uses_of made ++ x ∷ map use_of (drop (i + 1) fs)) is ∙ ap (λ l. uses_of made ++ map use_of l) (sym (drop_more fs i d inside)) ∙ h
+pub uses_more : (made now : List CodeUse) (fs : List OpenField) (i : ℕ) (d : OpenField) → i < length fs → uses_of now ≡ uses_of made ++ use_of (get_or fs i d) → uses_of made ++ flat_map use_of (drop i fs) ≡ flat_map use_of fs
+    → uses_of now ++ flat_map use_of (drop (i + 1) fs) ≡ flat_map use_of fs
+uses_more made now fs i d inside is h =
+    ap (λ l. l ++ flat_map use_of (drop (i + 1) fs)) is ∙ append_assoc (uses_of made) (use_of (get_or fs i d)) (flat_map use_of (drop (i + 1) fs))
+    ∙ ap (λ l. uses_of made ++ flat_map use_of l) (sym (drop_more fs i d inside)) ∙ h

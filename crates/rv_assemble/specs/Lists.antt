@@ -15,8 +15,8 @@ abbrev pub list_in : List (Vec DeclaredRelocation) → ℕ → List Relocation
 list_in lists j = list_of_some (slice_get lists j)
 
 -- the section of a field has one relocation more, the others have their own
-abbrev pub GainsOne : List (Vec DeclaredRelocation) → List (Vec DeclaredRelocation) → Field → ℕ →
-    Type 0
+abbrev pub GainsOne : List (Vec DeclaredRelocation) → List (Vec DeclaredRelocation) → Field →
+    Option ℕ → Type 0
 GainsOne old new f n =
     (length new ≡ length old)
     × ((j : ℕ) → list_in new j

@@ -1,8 +1,9 @@
 -- What the parts of an object are made of: rows of items, relocations of fields with numbers,
 -- sections of their parts.
 
-use Rattle.std.specs.Prelude.{◌≡◌, ℕ, ◌+◌, ◌==◌, true, List, [], ◌∷◌, ◌++◌, length, map, Some, if◌then◌else◌}
+use Rattle.std.specs.Prelude.{◌≡◌, ℕ, ◌+◌, ◌==◌, true, List, [], ◌∷◌, ◌++◌, length, map, drop, slice_get, Option, Some, None, if◌then◌else◌}
 use Rattle.std.specs.Global.{Vec}
+use Rattle.rv_text_laws.specs.Expression.{Primary}
 use Rattle.rv_unit_laws.specs.Sections.{Section as SourceSection}
 use Rattle.rv_tables.specs.declared.section.Extent.{Extent}
 use Rattle.rv_tables.specs.Sections.{extent_section}
@@ -37,19 +38,32 @@ rows_from ordinal (i ∷ is) = rows_of ordinal i ++ rows_from (ordinal + 1) is
 
 -- ---- relocations
 
--- a field whose symbol has an index
-abbrev pub relocation_by : Field → ℕ → Relocation
+-- a field with the index of its symbol, if it has one
+abbrev pub relocation_by : Field → Option ℕ → Relocation
 relocation_by f n =
-    record { place = f.place; kind = f.kind; symbol = Some n; addend = f.addend }
+    record { place = f.place; kind = f.kind; symbol = n; addend = f.addend }
 
-abbrev pub relocations_at : ℕ → Field → ℕ → List Relocation
+abbrev pub relocations_at : ℕ → Field → Option ℕ → List Relocation
 relocations_at section f n = if f.section == section then relocation_by f n ∷ [] else []
 
 -- those of a section, of fields with their indices
-abbrev pub relocations_in : ℕ → List Field → List ℕ → List Relocation
+abbrev pub relocations_in : ℕ → List Field → List (Option ℕ) → List Relocation
 relocations_in section (f ∷ fs) (n ∷ ns) =
     relocations_at section f n ++ relocations_in section fs ns
 relocations_in section _ _ = []
+
+-- where symbols have numbers in the order of their fields, that of the next field
+abbrev pub index_of : Option Primary → List ℕ → Option ℕ
+index_of None ns = None
+index_of (Some q) ns = slice_get ns 0
+
+abbrev pub next_of : Option Primary → ℕ → ℕ
+next_of None n = n
+next_of (Some q) n = n + 1
+
+abbrev pub indices_of : List Field → List ℕ → List (Option ℕ)
+indices_of [] ns = []
+indices_of (f ∷ fs) ns = index_of f.symbol ns ∷ indices_of fs (drop (next_of f.symbol 0) ns)
 
 abbrev pub list_of : Vec DeclaredRelocation → List Relocation
 list_of v = map relocation_of v.items

@@ -1,23 +1,23 @@
 -- The symbols of a draft.
 
-use Rattle.std.specs.Prelude.{ℕ, List, map}
+use Rattle.std.specs.Prelude.{ℕ, List, flat_map, map, option_map}
 use Rattle.rv_text.specs.Nodes.{symbol_of}
 use Rattle.rv_statement.specs.Statement.{Statement}
 use Rattle.rv_unit_laws.specs.Tables.{tables}
 use Rattle.rv_assemble_laws.specs.Sites.{Site}
-use Rattle.rv_assemble_laws.specs.Symbols.{SymbolUse}
+use Rattle.rv_assemble_laws.specs.Symbols.{SymbolUse, use_of as field_use}
 use Rattle.rv_sites.specs.declared.item.Item.{Item}
 use Rattle.rv_sites.specs.declared.field.OpenField.{OpenField}
 use Rattle.rv_sites.specs.declared.draft.Draft.{Draft}
 use Rattle.rv_symbols.specs.declared.table.SymbolTable.{SymbolTable}
 use Rattle.rv_symbols.specs.HasSymbols.{AreSites, HasSymbols}
 
--- the symbol that a field names
-abbrev pub use_of : OpenField → SymbolUse
-use_of f = record { ordinal = f.ordinal; symbol = symbol_of f.symbol }
+-- the symbol that a field names, if there is one
+abbrev pub use_of : OpenField → List SymbolUse
+use_of f = field_use f.ordinal (option_map symbol_of f.symbol)
 
 abbrev pub uses_in : Draft → List SymbolUse
-uses_in d = map use_of d.fields.items
+uses_in d = flat_map use_of d.fields.items
 
 abbrev pub offsets_of : List Item → List ℕ
 offsets_of items = map (λ (i : Item). i.offset) items

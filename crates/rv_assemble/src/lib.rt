@@ -18,6 +18,7 @@
 //! "Pseudo Ops".
 #![tactic(auto)]
 
+mod indices;
 mod object;
 mod relocations;
 mod rows;

@@ -9,6 +9,7 @@ ghost use Rattle.rv_sites.specs.Draft.{IsDraft};
 ghost use Rattle.rv_assemble.specs.KeptNames.{OpenKept};
 ghost use Rattle.rv_assemble.specs.Tabled.{HasTable};
 
+use crate::indices::indices;
 use crate::relocations::relocations;
 use crate::rows::rows;
 use crate::sections::sections;
@@ -41,7 +42,8 @@ pub(crate) fn object(
     } = draft;
     let SymbolTable { symbols, numbers } = table;
     let extents = unit.sections();
-    let relocations = relocations(alloc, extents.len(), fields.as_slice(), numbers.as_slice())?;
+    let indices = indices(alloc, fields.as_slice(), numbers.as_slice())?;
+    let relocations = relocations(alloc, extents.len(), fields.as_slice(), indices.as_slice())?;
     let rows = rows(alloc, items.as_slice())?;
     let sections = sections(alloc, extents, ends.as_slice(), bytes, relocations)?;
     Ok(Object {

@@ -11,12 +11,12 @@ use rv_sites::OpenField;
 use std::alloc::{AllocError, Global};
 
 /// The relocations of `count` sections: of each field, which stands in one of them, with the index
-/// of its symbol.
+/// of its symbol, if it has one.
 pub(crate) fn relocations(
     alloc: Global,
     count: usize,
     fields: &[OpenField<'_>],
-    numbers: &[u32],
+    numbers: &[Option<u32>],
 ) -> Result<Vec<Vec<Relocation>>, AllocError>
     requires each { length numbers.now ≡ length fields.now }
     requires inside { AllByRecursion (λ f. f.section < count) fields.now }
@@ -44,11 +44,11 @@ fn empty_lists(alloc: Global, count: usize) -> Result<Vec<Vec<Relocation>>, Allo
     Ok(lists)
 }
 
-/// Adds the relocation of a field, whose symbol has this index, to those of its section.
+/// Adds the relocation of a field with the index of its symbol to those of its section.
 fn put_relocation(
     lists: &mut Vec<Vec<Relocation>>,
     field: &OpenField<'_>,
-    number: u32,
+    number: Option<u32>,
 ) -> Result<(), AllocError>
     requires { (field.now).section < length lists.old.items }
     ensures { IfOk result
@@ -57,7 +57,7 @@ fn put_relocation(
     lists[field.section as usize].push(Relocation {
         place: u64::from(field.place),
         kind: field.kind,
-        symbol: Some(number),
+        symbol: number,
         addend: field.addend,
     })?;
     Ok(())

@@ -1,6 +1,6 @@
 //! The symbols of a draft.
 
-ghost use Rattle.std.specs.Prelude.{◌≡◌, None, IfOk, map};
+ghost use Rattle.std.specs.Prelude.{◌≡◌, ◌++◌, None, IfOk, OnOk, flat_map};
 ghost use Rattle.rv_unit_laws.specs.Faults.{first_fault};
 ghost use Rattle.rv_unit.specs.Unit.{said, IsFilled};
 ghost use Rattle.rv_assemble_laws.specs.ShownNames.{HasNames};
@@ -13,7 +13,7 @@ use rv_symbols::{SymbolTable, SymbolUse, symbols};
 use rv_unit::Unit;
 use std::alloc::{AllocError, Global};
 
-/// The symbols of a draft, with the index of each field's.
+/// The symbols of a draft, with the index of each that a field names.
 pub(crate) fn table<'a>(
     alloc: Global,
     unit: &Unit<'a>,
@@ -41,17 +41,27 @@ fn offsets(alloc: Global, items: &[Item]) -> Result<Vec<u32>, AllocError>
     Ok(offsets)
 }
 
+/// Adds the symbol that a field names, if there is one.
+fn put_use<'a>(uses: &mut Vec<SymbolUse<'a>>, field: &OpenField<'a>) -> Result<(), AllocError>
+    ensures { OnOk result (uses_of uses.new.items ≡ uses_of uses.old.items ++ use_of field.now) }
+{
+    let Some(symbol) = field.symbol else {
+        return Ok(());
+    };
+    uses.push(SymbolUse {
+        ordinal: field.ordinal,
+        symbol,
+    })?;
+    Ok(())
+}
+
 /// The symbols that fields name, in their order.
 fn uses<'a>(alloc: Global, fields: &[OpenField<'a>]) -> Result<Vec<SymbolUse<'a>>, AllocError>
-    ensures { IfOk result (λ uses. uses_of uses.items ≡ map use_of fields.now) }
+    ensures { IfOk result (λ uses. uses_of uses.items ≡ flat_map use_of fields.now) }
 {
     let mut uses = Vec::new(alloc);
     for index in 0..fields.len() {
-        let field = &fields[index];
-        uses.push(SymbolUse {
-            ordinal: field.ordinal,
-            symbol: field.symbol,
-        })?;
+        put_use(&mut uses, &fields[index])?;
     }
     Ok(uses)
 }

@@ -1,15 +1,16 @@
--- The code of a statement whose operands are known: its base instructions, each in its least bytes
--- (RISC-V Assembly Programmer's Manual, "pseudoinstructions"; Unprivileged ISA 20191213, chapter
--- 16).
+-- The code of a statement: its base instructions, in their least bytes where no operand is open, and
+-- else in those that the kinds of its open fields say (RISC-V Assembly Programmer's Manual,
+-- "pseudoinstructions"; Unprivileged ISA 20191213, chapter 16).
 
-use Rattle.std.specs.Prelude.{◌≡◌, ℕ, Bool, true, false, ⊤, List, [], ◌∷◌, flat_map, length, Option, Some, None}
-use Rattle.std.specs.List.{list_all}
+use Rattle.std.specs.Prelude.{◌≡◌, ℕ, Bool, true, false, ◌&&◌, ⊤, List, [], ◌∷◌, ◌++◌, flat_map, length, sum_by, Option, Some, None}
+use Rattle.rv_isa.specs.Kinds.{width_of}
 use Rattle.rv_isa.specs.Ranges.{IsValid}
 use Rattle.rv_text_laws.specs.Values.{Value, Constant}
 use Rattle.rv_statement.specs.declared.mnemonic.Mnemonic.{Mnemonic}
 use Rattle.rv_statement.specs.Statement.{Operand, Expression}
 use Rattle.rv_pseudo_laws.specs.Code.{Part, Closed, Open, Joined, Constants, code}
-use Rattle.rv_source_laws.specs.Program.{in_operand}
+use Rattle.rv_pseudo_laws.specs.Filled.{are_closed}
+use Rattle.rv_pseudo_laws.specs.Valid.{IsOpen}
 use Rattle.rv_source_laws.specs.Lines.{constant_of}
 use Rattle.rv_patch_laws.specs.Encoded.{IsLeast, IsEncodedIn}
 
@@ -23,19 +24,19 @@ is_constant _ = false
 abbrev pub constants : (Expression → Value) → Constants
 constants v e = constant_of (v e)
 
--- whether all operands are known: open ones cannot be placed yet
-abbrev pub are_known : (Expression → Value) → List Operand → Bool
-are_known v operands = list_all (λ e. is_constant (v e)) (flat_map in_operand operands)
-
 -- ---- code
 
--- the bytes of a part: an instruction with its operands in range, in its least form where
--- compressed code is on
+-- the bytes of a part with its operands in range: an instruction in its least form where it may be
+-- compressed; one with an open field, which holds 0, in the form of the field's kind
 abbrev pub IsCodedPart : Bool → Part → List ℕ → Type 0
-IsCodedPart rvc (Closed i) bytes =
-    IsValid i × IsLeast rvc i (length bytes) × IsEncodedIn i (length bytes) bytes
-IsCodedPart rvc (Open k i) bytes = ⊥
-IsCodedPart rvc (Joined k i j) bytes = ⊥
+IsCodedPart compressed (Closed i) bytes =
+    IsValid i × IsLeast compressed i (length bytes) × IsEncodedIn i (length bytes) bytes
+IsCodedPart compressed (Open k i) bytes = IsOpen k i × IsEncodedIn i (width_of k) bytes
+IsCodedPart compressed (Joined k i j) bytes =
+    IsOpen k i × IsOpen k j
+    × ((first : List ℕ)
+    × ((second : List ℕ)
+    × IsEncodedIn i 4 first × IsEncodedIn j 4 second × (bytes ≡ first ++ second)))
 
 abbrev pub AreCodedParts : Bool → List Part → List (List ℕ) → Type 0
 AreCodedParts rvc [] [] = ⊤
@@ -48,13 +49,20 @@ AreCodedParts rvc (p ∷ ps) (bytes ∷ coded) =
 abbrev pub joined : List (List ℕ) → List ℕ
 joined coded = flat_map (λ bytes. bytes) coded
 
+abbrev pub part_instructions : Part → ℕ
+part_instructions (Joined k i j) = 2
+part_instructions p = 1
+
+-- how many instructions parts are
+abbrev pub instructions_in : List Part → ℕ
+instructions_in ps = sum_by part_instructions ps
+
 -- the code of a statement with these values, where compressed code is on or off: how many bytes it
 -- has, these bytes part by part, and how many instructions they are
 pub record IsCode (v : Expression → Value) (rvc : Bool) (mnemonic : Mnemonic)
     (operands : List Operand) (bytes : ℕ) (coded : List (List ℕ)) (instructions : ℕ) : Type 0 where
-  pub known : are_known v operands ≡ true
   pub ps : List Part
   pub parts : code (constants v) rvc bytes mnemonic operands ≡ Some ps
-  pub coded_as : AreCodedParts rvc ps coded
+  pub coded_as : AreCodedParts (rvc && are_closed ps) ps coded
   pub size : bytes ≡ length (joined coded)
-  pub count : instructions ≡ length ps
+  pub count : instructions ≡ instructions_in ps

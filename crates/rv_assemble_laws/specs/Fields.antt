@@ -1,28 +1,28 @@
 -- The fields of a source that stay open, each at its place in its section (gABI, "Relocation").
 
-use Rattle.std.specs.Prelude.{ℕ, ℤ, ◌+◌, List, [], ◌∷◌, ◌++◌, flat_map, map, length, if◌then◌else◌}
+use Rattle.std.specs.Prelude.{ℕ, ℤ, ◌+◌, List, [], ◌∷◌, ◌++◌, flat_map, map, length, Option, if◌then◌else◌}
 use Rattle.rv_isa.specs.declared.kind.Kind.{Kind}
 use Rattle.rv_text_laws.specs.Expression.{Primary}
 use Rattle.rv_unit_laws.specs.Tables.{Tables}
 use Rattle.rv_assemble_laws.specs.Templates.{Open, template_fields}
 use Rattle.rv_assemble_laws.specs.Sites.{Site, Part, part_bytes, parts_of}
 
--- an open field: the index of its section and its offset there, the ordinal of its statement, what
--- it takes, the symbol as the statement names it, and the addend
+-- an open field: the index of its section and its offset there, what it takes, the symbol, if there
+-- is one, as the statement of an ordinal names it, and the addend
 pub record Field : Type 0 where
   pub section : ℕ
   pub place : ℕ
   pub ordinal : ℕ
   pub kind : Kind
-  pub symbol : Primary
+  pub symbol : Option Primary
   pub addend : ℤ
 
-abbrev pub field_at : ℕ → ℕ → ℕ → Open → Field
-field_at section ordinal place f =
+abbrev pub field_at : ℕ → ℕ → Open → Field
+field_at section place f =
     record {
       section = section;
       place = place;
-      ordinal = ordinal;
+      ordinal = f.ordinal;
       kind = f.kind;
       symbol = f.symbol;
       addend = f.addend;
@@ -33,7 +33,7 @@ field_at section ordinal place f =
 abbrev pub fields_from : ℕ → ℕ → List Part → List Field
 fields_from section offset [] = []
 fields_from section offset (p ∷ ps) =
-    map (field_at section p.ordinal offset) (template_fields p.template)
+    map (field_at section offset) (template_fields p.ordinal p.template)
     ++ fields_from section (offset + length (part_bytes p)) ps
 
 -- those of a statement; a section that isn't loaded has none

@@ -1,9 +1,9 @@
 -- The faults of one instruction, by its operands and the values of their expressions (RISC-V
 -- Unprivileged ISA 20191213, chapter 24, for ranges; RISC-V Assembly Programmer's Manual; GNU as,
--- "RISC-V-Modifiers", for parts of addresses). What cannot be placed yet is refused as such, where
--- nothing else is wrong.
+-- "RISC-V-Modifiers", for parts of addresses). What has no row is refused as such, where nothing else
+-- is wrong.
 
-use Rattle.std.specs.Prelude.{ℕ, ℤ, Bool, true, false, not, ◌&&◌, ◌||◌, ◌==◌, List, [], ◌∷◌, ◌++◌, flat_map, Option, Some, None, is_some}
+use Rattle.std.specs.Prelude.{ℕ, ℤ, Bool, true, false, not, ◌||◌, ◌==◌, List, [], ◌∷◌, ◌++◌, flat_map, Option, Some, None, is_some}
 use Rattle.rv_isa_laws.specs.Arithmetic.{signed}
 use Rattle.rv_isa_laws.specs.Halves.{hi, lo}
 use Rattle.rv_text_laws.specs.Expression.{Primary, Symbol, Reference}
@@ -18,7 +18,7 @@ use Rattle.rv_pseudo_laws.specs.Code.{code}
 use Rattle.rv_pseudo_laws.specs.Valid.{is_upper_20, takes}
 use Rattle.rv_unit_laws.specs.Tables.{Tables, label_of, definition}
 use Rattle.rv_unit_laws.specs.Faults.{faulty_if}
-use Rattle.rv_assemble_laws.specs.Coded.{constants, are_known}
+use Rattle.rv_assemble_laws.specs.Coded.{constants}
 
 -- ---- numbers
 
@@ -109,14 +109,13 @@ abbrev pub own_faults : (Expression → Value) → (Primary → Bool) → Mnemon
 own_faults v l mnemonic operands =
     scratch_faults mnemonic operands ++ flat_map (operand_faults v l mnemonic) operands
 
--- ---- what can be placed
+-- ---- what has a row
 
--- open operands cannot be placed yet, nor what has no row
-abbrev pub is_built : (Expression → Value) → Mnemonic → List Operand → Bool
-is_built v mnemonic operands =
-    are_known v operands && is_some (code (constants v) false 4 mnemonic operands)
+-- a part of an address in a field that takes none has no row; no source says that, by its grammar
+abbrev pub has_row : (Expression → Value) → Mnemonic → List Operand → Bool
+has_row v mnemonic operands = is_some (code (constants v) false 4 mnemonic operands)
 
--- what has no fault and cannot be placed has that one
+-- what has no fault and no row has that one
 abbrev pub else_unplaced : Bool → List ℕ → List ℕ
 else_unplaced placed [] = faulty_if (not placed) unsupported_here
 else_unplaced placed (code ∷ codes) = code ∷ codes
@@ -125,5 +124,5 @@ else_unplaced placed (code ∷ codes) = code ∷ codes
 abbrev pub instruction_faults :
     (Expression → Value) → (Primary → Bool) → StatementKind → List ℕ
 instruction_faults v l (Instruction mnemonic operands) =
-    else_unplaced (is_built v mnemonic operands) (own_faults v l mnemonic operands)
+    else_unplaced (has_row v mnemonic operands) (own_faults v l mnemonic operands)
 instruction_faults v l _ = []

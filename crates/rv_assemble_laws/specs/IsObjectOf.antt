@@ -1,7 +1,7 @@
 -- The object of a source (gABI, "Sections", "Symbol Table", "Relocation"; RISC-V ELF psABI,
 -- "Relocations"): what assembling is.
 
-use Rattle.std.specs.Prelude.{◌≡◌, ℕ, suc, ◌+◌, ◌≤◌, true, false, ⊤, List, [], ◌∷◌, ◌++◌, flat_map, map, length, Option, Some, None, if◌then◌else◌}
+use Rattle.std.specs.Prelude.{◌≡◌, ℕ, suc, ◌+◌, ◌≤◌, true, false, ⊤, List, [], ◌∷◌, ◌++◌, flat_map, map, length, Option, Some, None, option_map, if◌then◌else◌}
 use Rattle.std.specs.List.{AllByRecursion, list_any, slice_get}
 use Rattle.rv_text_laws.specs.Expression.{Primary}
 use Rattle.rv_statement.specs.Statement.{Statement}
@@ -16,6 +16,7 @@ use Rattle.rv_object.specs.Object.{Contents, Progbits, Note, Nobits, Relocation,
 use Rattle.rv_assemble_laws.specs.Refusals.{statements_fault}
 use Rattle.rv_assemble_laws.specs.Templates.{Open, template_fields, IsTemplate}
 use Rattle.rv_assemble_laws.specs.Sites.{Site, Part, form, part_bytes, parts, sites_in, Tile, end_of, HasSize}
+use Rattle.rv_assemble_laws.specs.Sizes.{AreLeast}
 use Rattle.rv_assemble_laws.specs.Symbols.{SymbolUse, references_in, site_at, symbols_of, StandsFor}
 
 -- ---- rows
@@ -40,12 +41,12 @@ rows_at s = if has_row s.located then row_of s ∷ [] else []
 abbrev pub Numbering : Type 0
 Numbering = ℕ → Primary → ℕ
 
-abbrev pub relocation_at : Numbering → ℕ → ℕ → Open → Relocation
-relocation_at number ordinal place f =
+abbrev pub relocation_at : Numbering → ℕ → Open → Relocation
+relocation_at number place f =
     record {
       place = place;
       kind = f.kind;
-      symbol = Some (number ordinal f.symbol);
+      symbol = option_map (number f.ordinal) f.symbol;
       addend = f.addend;
     }
 
@@ -53,7 +54,7 @@ relocation_at number ordinal place f =
 abbrev pub relocations_from : Numbering → ℕ → List Part → List Relocation
 relocations_from number offset [] = []
 relocations_from number offset (p ∷ ps) =
-    map (relocation_at number p.ordinal offset) (template_fields p.template)
+    map (relocation_at number offset) (template_fields p.ordinal p.template)
     ++ relocations_from number (offset + length (part_bytes p)) ps
 
 -- ---- sections
@@ -130,6 +131,8 @@ pub record IsObjectOf (ss : List Statement) (o : Object) : Type 0 where
   pub sites : List Site
   pub located : map (λ s. s.located) sites ≡ located_from 1 1 at_start ss
   pub places : AllByRecursion (StandsInData sites) (tables ss).assignments
+  -- each branch has the least size that reaches
+  pub least : AreLeast (tables ss) (located_from 1 1 at_start ss) (map (λ s. s.bytes) sites)
   -- the sections in the order in which the source opens them
   pub number : Numbering
   pub sections : AreSectionsOf (tables ss) sites number o.symbols 0

@@ -12,6 +12,7 @@ use Rattle.rv_source_laws.specs.Located.{Located, located}
 use Rattle.rv_source_laws.specs.Program.{place_of}
 use Rattle.rv_source_laws.specs.Fits.{is_low}
 use Rattle.rv_assemble_laws.specs.Coded.{IsCode}
+use Rattle.rv_assemble_laws.specs.Sizes.{AreLeast}
 use Rattle.rv_assemble_laws.specs.InstructionFaults.{instruction_faults, is_label}
 
 -- ---- code
@@ -80,6 +81,7 @@ size_fault_from before ss sizes = None
 pub record IsTooLong (ss : List Statement) (f : Fault) : Type 0 where
   pub sizes : List ℕ
   pub are_sizes : AreCodeSizes (tables ss) (located (ss ∷ [])) sizes
+  pub least : AreLeast (tables ss) (located (ss ∷ [])) sizes
   pub fault : size_fault_from (λ j. 0) (located (ss ∷ [])) sizes ≡ Some f
 
 -- ---- the first fault of a source

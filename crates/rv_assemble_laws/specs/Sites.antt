@@ -1,15 +1,18 @@
 -- The statements of a source where they stand in its object: their offsets, sizes and templates
 -- (gABI, "Sections").
 
-use Rattle.std.specs.Prelude.{◌≡◌, ℕ, ◌+◌, ◌*◌, ◌%◌, ◌<◌, Bool, true, false, ◌==◌, ⊤, List, [], ◌∷◌, length, filter, flat_map, map, Option, Some, None}
+use Rattle.std.specs.Prelude.{◌≡◌, ℕ, ◌+◌, ◌*◌, ◌%◌, ◌<◌, Bool, true, false, ◌==◌, ⊤, List, [], ◌∷◌, length, filter, flat_map, map, Option, Some, None, unwrap_or}
 use Rattle.rv_text_laws.specs.Values.{Value, Constant}
 use Rattle.rv_statement.specs.Statement.{StatementKind, Label, Numbered, Instruction, Directs, Expression, Directive, Aligns_to_power, Aligns_to_bytes, Values, Strings, Zeros}
 use Rattle.rv_unit_laws.specs.Tables.{Tables, value, alignment_of, padding, string_bytes}
+use Rattle.rv_unit_laws.specs.Contributions.{contribution}
+use Rattle.rv_pseudo_laws.specs.Code.{Part as CodePart, code}
 use Rattle.rv_source_laws.specs.Located.{Located}
 use Rattle.rv_source_laws.specs.Program.{place_of}
 use Rattle.rv_source_laws.specs.Fits.{is_low}
-use Rattle.rv_assemble_laws.specs.Coded.{is_constant, IsCode}
-use Rattle.rv_assemble_laws.specs.Templates.{Template, templates, template_bytes}
+use Rattle.rv_assemble_laws.specs.CodeFields.{part_fields}
+use Rattle.rv_assemble_laws.specs.Coded.{is_constant, constants, IsCode}
+use Rattle.rv_assemble_laws.specs.Templates.{Open, Template, Coded, contribution_templates, template_bytes}
 
 -- a statement of a source alone, the bytes before it in its section, how many bytes it has, how
 -- many instructions these are, and the bytes of its code, part by part
@@ -32,9 +35,25 @@ pub record Part : Type 0 where
 abbrev pub part_of : ℕ → Template → Part
 part_of ordinal template = record { ordinal = ordinal; template = template }
 
+-- the code of a statement part by part, each with its open fields
+abbrev pub coded_templates : (CodePart → List Open) → List CodePart → List (List ℕ) → List Template
+coded_templates fields [] coded = []
+coded_templates fields (p ∷ ps) [] = []
+coded_templates fields (p ∷ ps) (bytes ∷ coded) =
+    Coded bytes (fields p) ∷ coded_templates fields ps coded
+
+abbrev pub templates : Tables → Site → StatementKind → List Template
+templates t s (Label name) = []
+templates t s (Numbered number) = []
+templates t s (Instruction mnemonic operands) =
+    let v = form t s.located in
+    coded_templates (part_fields t v s.located)
+    (unwrap_or (code (constants v) s.located.options.rvc s.bytes mnemonic operands) []) s.coded
+templates t s (Directs directive) =
+    contribution_templates (form t s.located) (contribution directive) s.bytes
+
 abbrev pub parts_of : Tables → Site → List Part
-parts_of t s =
-    map (part_of s.located.ordinal) (templates (form t s.located) s.located.kind s.bytes s.coded)
+parts_of t s = map (part_of s.located.ordinal) (templates t s s.located.kind)
 
 abbrev pub part_bytes : Part → List ℕ
 part_bytes p = template_bytes p.template

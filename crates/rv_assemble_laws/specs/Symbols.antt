@@ -59,9 +59,13 @@ pub record SymbolUse : Type 0 where
   pub ordinal : ℕ
   pub symbol : Primary
 
+abbrev pub use_of : ℕ → Option Primary → List SymbolUse
+use_of ordinal None = []
+use_of ordinal (Some symbol) = record { ordinal = ordinal; symbol = symbol } ∷ []
+
 abbrev pub references_in : Part → List SymbolUse
 references_in p =
-    map (λ f. record { ordinal = p.ordinal; symbol = f.symbol }) (template_fields p.template)
+    flat_map (λ f. use_of f.ordinal f.symbol) (template_fields p.ordinal p.template)
 
 abbrev pub references_of : Tables → Site → List SymbolUse
 references_of t s = if s.located.home.loaded then flat_map references_in (parts_of t s) else []

@@ -1,39 +1,52 @@
 -- What the statements of a source are in an object: bytes with open fields left zero, and the
 -- relocations that fill them (RISC-V ELF psABI, "Relocations"; GNU as, "Pseudo Ops").
 
-use Rattle.std.specs.Prelude.{◌≡◌, ℕ, ℤ, pos, ◌==◌, ⊤, ◌⊎◌, if◌then◌else◌, List, [], ◌∷◌, map, replicate}
+use Rattle.std.specs.Prelude.{◌≡◌, ℕ, ℤ, pos, ◌==◌, ⊤, ◌⊎◌, if◌then◌else◌, List, [], ◌∷◌, map, replicate, Option, Some}
 use Rattle.std.specs.Int.{w64, int_wrap}
 use Rattle.rv_isa.specs.declared.kind.Kind.{Kind}
 use Rattle.rv_isa.specs.declared.kind.Kind.TheVariants.{Abs32, Abs64, Add8, Add16, Add32, Add64, Sub8, Sub16, Sub32, Sub64}
 use Rattle.rv_isa_laws.specs.Bytes.{little_endian}
 use Rattle.rv_text_laws.specs.Expression.{Primary}
 use Rattle.rv_text_laws.specs.Values.{Value, Constant, Symbolic, Difference, Faulty}
-use Rattle.rv_statement.specs.Statement.{StatementKind, Label, Numbered, Instruction, Directs, Expression}
-use Rattle.rv_unit_laws.specs.Contributions.{Contents, Numbers, Texts, Contribution, Nothing, Bytes, Zero_bytes, Alignment, contribution}
+use Rattle.rv_statement.specs.Statement.{Expression}
+use Rattle.rv_unit_laws.specs.Contributions.{Contents, Numbers, Texts, Contribution, Nothing, Bytes, Zero_bytes, Alignment}
 use Rattle.rv_unit_laws.specs.Tables.{string_bytes}
 
 abbrev pub zeros : ℕ → List ℕ
 zeros count = replicate count 0
 
+-- ---- open fields
+
+-- a field that stays open, by what it takes, the symbol as the statement of this ordinal names it,
+-- if there is one, and the addend, which wraps
+pub record Open : Type 0 where
+  pub kind : Kind
+  pub ordinal : ℕ
+  pub symbol : Option Primary
+  pub addend : ℤ
+
+abbrev pub open_at : Kind → ℕ → Option Primary → ℕ → Open
+open_at kind ordinal symbol plus =
+    record {
+      kind = kind;
+      ordinal = ordinal;
+      symbol = symbol;
+      addend = int_wrap w64 (pos plus);
+    }
+
+abbrev pub opened : ℕ → Kind → Primary → ℕ → Open
+opened ordinal kind symbol plus = open_at kind ordinal (Some symbol) plus
+
 -- ---- templates
 
--- a part of a statement's bytes. Each format of an instruction with an open operand will be one
--- more case
+-- a part of a statement's bytes
 pub data Template : Type 0 where
   -- bytes that the statement says
   Fixed : (bytes : List ℕ) → Template
   -- a value of data in so many bytes
   Datum : (width : ℕ) (value : Value) → Template
-
--- a field that stays open, by what it takes, the symbol as the statement names it, and the addend,
--- which wraps
-pub record Open : Type 0 where
-  pub kind : Kind
-  pub symbol : Primary
-  pub addend : ℤ
-
-abbrev pub opened : Kind → Primary → ℕ → Open
-opened kind symbol plus = record { kind = kind; symbol = symbol; addend = int_wrap w64 (pos plus) }
+  -- code, with the fields of it that stay open
+  Coded : (bytes : List ℕ) (fields : List Open) → Template
 
 -- the address of a symbol in a field of so many bytes
 abbrev pub absolute_kind : ℕ → Kind
@@ -59,20 +72,25 @@ value_bytes width _ = zeros width
 
 -- an address is one relocation; of a difference first the symbol that is added, with the constant,
 -- and then the other
-abbrev pub value_fields : ℕ → Value → List Open
-value_fields width (Constant n) = []
-value_fields width (Symbolic symbol at plus) = opened (absolute_kind width) symbol plus ∷ []
-value_fields width (Difference symbol minus plus) =
-    opened (add_kind width) symbol plus ∷ opened (subtract_kind width) minus 0 ∷ []
-value_fields width (Faulty code) = []
+abbrev pub value_fields : (ordinal width : ℕ) → Value → List Open
+value_fields ordinal width (Constant n) = []
+value_fields ordinal width (Symbolic symbol at plus) =
+    opened ordinal (absolute_kind width) symbol plus ∷ []
+value_fields ordinal width (Difference symbol minus plus) =
+    opened ordinal (add_kind width) symbol plus
+    ∷ opened ordinal (subtract_kind width) minus 0 ∷ []
+value_fields ordinal width (Faulty code) = []
 
 abbrev pub template_bytes : Template → List ℕ
 template_bytes (Fixed bytes) = bytes
 template_bytes (Datum width value) = value_bytes width value
+template_bytes (Coded bytes fields) = bytes
 
-abbrev pub template_fields : Template → List Open
-template_fields (Fixed bytes) = []
-template_fields (Datum width value) = value_fields width value
+-- those of a template of the statement of this ordinal
+abbrev pub template_fields : (ordinal : ℕ) → Template → List Open
+template_fields ordinal (Fixed bytes) = []
+template_fields ordinal (Datum width value) = value_fields ordinal width value
+template_fields ordinal (Coded bytes fields) = fields
 
 -- a value of data has a relocation of its width: an address in 4 or 8 bytes, a difference in 1, 2,
 -- 4 or 8
@@ -91,8 +109,9 @@ HasField width (Faulty code) = ⊥
 abbrev pub IsTemplate : Template → Type 0
 IsTemplate (Fixed bytes) = ⊤
 IsTemplate (Datum width value) = HasField width value
+IsTemplate (Coded bytes fields) = ⊤
 
--- ---- the templates of a statement
+-- ---- the templates of data
 
 abbrev pub contents_templates : (Expression → Value) → Contents → List Template
 contents_templates v (Numbers width values) = map (λ e. Datum width (v e)) values
@@ -104,12 +123,3 @@ contribution_templates v Nothing bytes = []
 contribution_templates v (Bytes contents) bytes = contents_templates v contents
 contribution_templates v (Zero_bytes count) bytes = Fixed (zeros bytes) ∷ []
 contribution_templates v (Alignment form number) bytes = Fixed (zeros bytes) ∷ []
-
--- of a statement with so many bytes, and if it is an instruction with this code, part by part
-abbrev pub templates : (Expression → Value) → StatementKind → (bytes : ℕ) → List (List ℕ) →
-    List Template
-templates v (Label name) bytes coded = []
-templates v (Numbered number) bytes coded = []
-templates v (Instruction mnemonic operands) bytes coded = map Fixed coded
-templates v (Directs directive) bytes coded =
-    contribution_templates v (contribution directive) bytes

@@ -1,4 +1,4 @@
--- The code of a statement of the sources: the bytes that its site in an object has.
+-- The code of a statement of the sources: the bytes that its site writes.
 
 use Rattle.std.proofs.Common.{◌≡◌, ℕ, zero, suc, ◌+◌, ◌-◌, ◌≤◌, List, [], ◌∷◌, refl, ap, ◌∙◌, subst, arith, map, Option, Some, None}
 use Rattle.std.proofs.lemmas.Bool.{eq-eqb, ne_eqb}
@@ -15,14 +15,13 @@ use Rattle.rv_assemble_laws.specs.Symbols.{site_at}
 use Rattle.rv_assemble_laws.proofs.Homes.{all_map}
 use Rattle.rv_boundary_laws.specs.Joins.{AreObjectsOf}
 use Rattle.rv_boundary_laws.proofs.Statements.{mapped_at, sites_by}
-use Rattle.rv_boundary_laws.proofs.Suits.{code_said}
 
 -- ---- each statement of a file is found by its ordinal
 
-abbrev IsFound : ℕ → List Site → Site → Type 0
+abbrev pub IsFound : ℕ → List Site → Site → Type 0
 IsFound least sites z = (least ≤ z.located.ordinal) × (site_at sites z.located.ordinal ≡ Some z)
 
-found_from : (k : ℕ) (t : Tables) (ss : List Statement) (sites : List Site) → map (λ s. s.located) sites ≡ located_from 1 k t ss → AllByRecursion (IsFound k sites) sites
+pub found_from : (k : ℕ) (t : Tables) (ss : List Statement) (sites : List Site) → map (λ s. s.located) sites ≡ located_from 1 k t ss → AllByRecursion (IsFound k sites) sites
 found_from k t ss [] e = tt
 found_from k t [] (s ∷ sites) e = absurd (cc)
 found_from k t (x ∷ ss) (s ∷ sites) e = (
@@ -39,7 +38,7 @@ found_from k t (x ∷ ss) (s ∷ sites) e = (
       ap (λ b. if b then Some s else site_at sites z.located.ordinal) (ne_eqb s.located.ordinal z.located.ordinal (λ same. omega (arith, least, own, same))) ∙ found,
     )
 
-module _ (starts : Starts) where
+module _ (starts : Starts) (says : ℕ → Site → List ℕ) where
   found_by : (sources : List (List Statement)) (os : List Object) (h : AreObjectsOf sources os) (i : ℕ)
       → AllByRecursion (IsFound 0 (sites_by starts sources os h i)) (sites_by starts sources os h i)
   found_by [] [] h i = tt
@@ -52,7 +51,7 @@ module _ (starts : Starts) where
   -- ---- a function that gives each site's code for its statement
 
   abbrev pub IsCodeOf : (Mapped → List ℕ) → ℕ → Site → Type 0
-  IsCodeOf code file z = code (mapped_at starts file z) ≡ code_said z.coded z.located.kind
+  IsCodeOf code file z = code (mapped_at starts file z) ≡ says file z
 
   abbrev pub AreCodesOf : (Mapped → List ℕ) → ℕ → (sources : List (List Statement)) (os : List Object) → AreObjectsOf sources os → Type 0
   AreCodesOf code file [] [] h = ⊤
@@ -71,17 +70,17 @@ module _ (starts : Starts) where
   )
 
   module _ (sources : List (List Statement)) (os : List Object) (h : AreObjectsOf sources os) where
-    abbrev code_found : Option Site → List ℕ
-    code_found None = []
-    code_found (Some z) = code_said z.coded z.located.kind
+    abbrev code_found : ℕ → Option Site → List ℕ
+    code_found file None = []
+    code_found file (Some z) = says file z
 
     -- files are numbered from 1
     abbrev pub code_of : Mapped → List ℕ
-    code_of m = code_found (site_at (sites_by starts sources os h (m.located.file - 1)) m.located.ordinal)
+    code_of m = code_found m.located.file (site_at (sites_by starts sources os h (m.located.file - 1)) m.located.ordinal)
 
     pub codes : AreCodesOf code_of 1 sources os h
     codes =
         codes_from code_of 1 sources os h
         (λ i. all_map (IsFound 0 (sites_by starts sources os h i)) (IsCodeOf code_of (1 + i)) (sites_by starts sources os h i)
-        (λ z found. ap (λ n. code_found (site_at (sites_by starts sources os h n) z.located.ordinal)) (let e : 1 + i - 1 ≡ i = omega arith in e) ∙ ap code_found found.1)
+        (λ z found. ap (λ n. code_found (1 + i) (site_at (sites_by starts sources os h n) z.located.ordinal)) (let e : 1 + i - 1 ≡ i = omega arith in e) ∙ ap (code_found (1 + i)) found.1)
         (found_by sources os h i))

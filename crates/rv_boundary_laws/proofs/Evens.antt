@@ -2,10 +2,11 @@
 
 use Rattle.std.proofs.Common.{◌≡◌, ℕ, ◌+◌, ◌%◌, Bool, true, false, List, [], ◌∷◌, length, refl, sym, ap, ◌∙◌, subst, arith, Some}
 use Rattle.std.proofs.lemmas.Bool.{and_parts, eq-eqb}
-use Rattle.std.specs.Prelude.{◌==◌, if◌then◌else◌, flat_map, map}
+use Rattle.std.specs.Prelude.{◌&&◌, ◌==◌, if◌then◌else◌, flat_map, map}
 use Rattle.std.specs.List.{AllByRecursion, slice_get}
 use Rattle.rv_text_laws.specs.Values.{Value}
 use Rattle.rv_statement.specs.Statement.{StatementKind, Label, Numbered, Instruction, Directs, Statement, Expression, Enters, Opens, Globl, Local, Sets, Aligns_to_power, Aligns_to_bytes, Values, Strings, Zeros, Chooses, Ignored}
+use Rattle.rv_pseudo_laws.specs.Filled.{are_closed}
 use Rattle.rv_unit_laws.specs.Sections.{Section as SourceSection, goes_to_text}
 use Rattle.rv_unit_laws.specs.Tables.{Tables, tables, alignment_of, opened_of}
 use Rattle.rv_chain_laws.proofs.Held.{IsHeld}
@@ -14,7 +15,7 @@ use Rattle.rv_assemble_laws.specs.Sites.{Site, IsPaddedIn, form, part_of, part_b
 use Rattle.rv_assemble_laws.specs.IsObjectOf.{IsSectionOf, IsObjectOf}
 use Rattle.rv_boundary_laws.proofs.Settled.{IsSettled, settled, IsSiteIn, sites_are_in}
 use Rattle.rv_boundary_laws.proofs.Known.{section_found}
-use Rattle.rv_boundary_laws.proofs.KnownCode.{all_few}
+use Rattle.rv_boundary_laws.proofs.Coding.{all_few}
 
 abbrev pub IsEven : Site → Type 0
 IsEven s = goes_to_text s.located.home ≡ true → s.offset % 2 ≡ 0
@@ -30,7 +31,7 @@ even_by : (s : Site) (section : SourceSection) (multiple : ℕ) (v : Expression 
 even_by s section multiple v (Label name) held code home size = none_even s.bytes size.0
 even_by s section multiple v (Numbered number) held code home size = none_even s.bytes size.0
 even_by s section multiple v (Instruction mnemonic operands) held code home size =
-    ap (λ n. n % 2) size.size ∙ (all_few s.located.options.rvc size.ps s.coded size.coded_as).2
+    ap (λ n. n % 2) size.size ∙ (all_few (s.located.options.rvc && are_closed size.ps) size.ps s.coded size.coded_as).2
 even_by s section multiple v (Directs (Values width es)) held code home size = let e : true ≡ false = sym code ∙ held.0 in absurd (cc)
 even_by s section multiple v (Directs (Strings ended strings)) held code home size = let e : true ≡ false = sym code ∙ held.0 in absurd (cc)
 even_by s section multiple v (Directs (Zeros count)) held code home size = let e : true ≡ false = sym code ∙ held in absurd (cc)
@@ -64,7 +65,7 @@ module _ (t : Tables) (index : ℕ) (section : SourceSection) (multiple : ℕ) w
       go : (b : Bool) → s.located.placed ≡ b → s.bytes % 2 ≡ 0
       go true e = even_by s section multiple (form t s.located) s.located.kind is.held code is.home (size e)
       go false e =
-          none_even s.bytes (bytes ∙ ap (λ l. length (flat_map part_bytes (map (part_of s.located.ordinal) l))) (is.bare e (form t s.located) s.bytes s.coded))
+          none_even s.bytes (bytes ∙ ap (λ l. length (flat_map part_bytes (map (part_of s.located.ordinal) l))) (is.bare e t s))
 
   in_code : (offset : ℕ) (sites : List Site) → section.executable ≡ true → offset % 2 ≡ 0 → AllByRecursion (IsSiteIn index section) sites → Tile t offset sites → AllByRecursion Sized sites
       → AllByRecursion IsEven sites

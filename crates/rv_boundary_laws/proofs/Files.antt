@@ -1,12 +1,11 @@
 -- What linking the objects of sources makes of each file.
 
 use Rattle.std.proofs.Common.{◌≡◌, ℕ, zero, suc, ◌+◌, ◌-◌, ◌≤◌, Bool, true, false, List, [], ◌∷◌, ◌++◌, length, refl, ap, ◌∙◌, subst, arith, map, Option, Some, None}
-use Rattle.std.specs.Int.{w64, int_wrap}
-use Rattle.std.specs.Prelude.{⊤, pos, ◌&&◌, ◌==◌, nat_lt, if◌then◌else◌, filter, flat_map, option_and_then, slice_index_or}
-use Rattle.std.specs.List.{slice_get}
+use Rattle.std.specs.Prelude.{⊤, ◌&&◌, ◌==◌, nat_lt, if◌then◌else◌, filter, flat_map, option_and_then, slice_index_or}
+use Rattle.std.specs.List.{AllByRecursion, find, slice_get}
 use Rattle.rv_isa.specs.declared.kind.Kind.{Kind}
 use Rattle.rv_isa.specs.declared.kind.Kind.TheVariants.{Abs32, Abs64, Add8, Add16, Add32, Add64, Sub8, Sub16, Sub32, Sub64}
-use Rattle.rv_text_laws.specs.Values.{Constant, Symbolic, Difference, Faulty}
+use Rattle.rv_text_laws.specs.Values.{Value, Constant, Symbolic, Difference, Faulty}
 use Rattle.rv_statement.specs.Statement.{Statement}
 use Rattle.rv_unit_laws.specs.Sections.{Section as SourceSection}
 use Rattle.rv_unit_laws.specs.Tables.{Tables, tables, at_start, after, opened_of}
@@ -14,6 +13,7 @@ use Rattle.rv_map.specs.Map.{Map}
 use Rattle.rv_map.specs.declared.map.Row.{Row as MapRow}
 use Rattle.rv_source_laws.specs.Located.{has_row, located, located_now, located_from}
 use Rattle.rv_source_laws.specs.Program.{Program, program, tables_in, address_at, mapped_of, statements_of}
+use Rattle.rv_source_laws.specs.Lines.{section_of}
 use Rattle.rv_source_laws.specs.Fits.{mapped_in}
 use Rattle.rv_object.specs.Object.{Relocation, Section, Symbol, Object}
 use Rattle.rv_object.specs.Valid.{is_align}
@@ -22,11 +22,14 @@ use Rattle.rv_object_laws.specs.Inputs.{Starts}
 use Rattle.rv_object_laws.specs.Rising.{Rise}
 use Rattle.rv_object_laws.proofs.Ordinals.{rows_stay}
 use Rattle.rv_object_laws.specs.IsLinkOf.{by_ordinal, moves_at, map_row, row_in as linked_row, rows_of as linked_rows}
-use Rattle.rv_assemble_laws.specs.Templates.{Template, Fixed, Datum, template_fields, absolute_kind, add_kind, subtract_kind}
-use Rattle.rv_assemble_laws.specs.Sites.{Site, Part, part_bytes, parts, sites_in}
+use Rattle.rv_assemble_laws.specs.Templates.{Template, Fixed, Datum, Coded, Open, value_fields, template_fields, absolute_kind, add_kind, subtract_kind}
+use Rattle.rv_assemble_laws.specs.Sites.{Site, Part, form, part_of, part_bytes, parts_of, parts, templates, sites_in, HasSize}
+use Rattle.rv_assemble_laws.proofs.Homes.{all_filter, all_map}
+use Rattle.rv_boundary_laws.proofs.Settled.{IsBare, IsSettled, settled}
+use Rattle.rv_boundary_laws.proofs.Fielded.{IsPlain, plain}
 use Rattle.rv_assemble_laws.specs.Symbols.{site_at}
 use Rattle.rv_assemble_laws.specs.IsObjectOf.{Numbering, row_of, rows_at, relocation_at, relocations_from, IsSectionOf, AreSectionsOf, IsObjectOf}
-use Rattle.rv_boundary_laws.proofs.Statements.{AreObjectsOf, row_in, rows_from, mapped_from, row_address, all_statements, all_rows, statements_all, sites_by, mapped_by, address_by}
+use Rattle.rv_boundary_laws.proofs.Statements.{AreObjectsOf, row_in, rows_from, mapped_from, row_address, all_statements, all_rows, statements_all, sites_by, mapped_by, address_by, Test, section_in, site_section, section_by}
 
 -- ---- nothing moves
 
@@ -68,48 +71,80 @@ padded_none (r ∷ rs) e = go (is_align r.kind) e (padded_none rs)
     go true f ih = absurd (cc)
     go false f ih = ih f
 
-module _ (number : Numbering) where
-  template_plain : (ordinal offset : ℕ) (t : Template) → aligns (map (relocation_at number ordinal offset) (template_fields t)) ≡ []
-  template_plain ordinal offset (Fixed bytes) = refl
-  template_plain ordinal offset (Datum width (Constant n)) = refl
-  template_plain ordinal offset (Datum width (Symbolic q at plus)) =
-      ap (λ b. if b then relocation_at number ordinal offset (record { kind = absolute_kind width; symbol = q; addend = int_wrap w64 (pos plus) }) ∷ [] else []) (absolute_plain width)
-  template_plain ordinal offset (Datum width (Difference q r plus)) =
-      ap (λ b. if b then relocation_at number ordinal offset (record { kind = add_kind width; symbol = q; addend = int_wrap w64 (pos plus) }) ∷ aligns (relocation_at number ordinal offset (record { kind = subtract_kind width; symbol = r; addend = int_wrap w64 (pos 0) }) ∷ []) else aligns (relocation_at number ordinal offset (record { kind = subtract_kind width; symbol = r; addend = int_wrap w64 (pos 0) }) ∷ [])) (add_plain width)
-      ∙ ap (λ b. if b then relocation_at number ordinal offset (record { kind = subtract_kind width; symbol = r; addend = int_wrap w64 (pos 0) }) ∷ [] else []) (subtract_plain width)
-  template_plain ordinal offset (Datum width (Faulty code)) = refl
+-- no field of a part is an alignment
+abbrev pub ArePlain : List Open → Type 0
+ArePlain fs = AllByRecursion (λ (f : Open). is_align f.kind ≡ false) fs
 
-  parts_plain : (offset : ℕ) (ps : List Part) → aligns (relocations_from number offset ps) ≡ []
-  parts_plain offset [] = refl
-  parts_plain offset (p ∷ ps) =
-      aligns_join (map (relocation_at number p.ordinal offset) (template_fields p.template)) (relocations_from number (offset + length (part_bytes p)) ps)
-      (template_plain p.ordinal offset p.template) (parts_plain (offset + length (part_bytes p)) ps)
+value_plain : (ordinal width : ℕ) (v : Value) → ArePlain (value_fields ordinal width v)
+value_plain ordinal width (Constant n) = tt
+value_plain ordinal width (Symbolic q at plus) = (absolute_plain width, tt)
+value_plain ordinal width (Difference q r plus) = (add_plain width, (subtract_plain width, tt))
+value_plain ordinal width (Faulty code) = tt
+
+module _ (number : Numbering) where
+  fields_plain : (offset : ℕ) (fs : List Open) → ArePlain fs → aligns (map (relocation_at number offset) fs) ≡ []
+  fields_plain offset [] h = refl
+  fields_plain offset (f ∷ fs) (h, hs) =
+      ap (λ b. if b then relocation_at number offset f ∷ aligns (map (relocation_at number offset) fs) else aligns (map (relocation_at number offset) fs)) h
+      ∙ fields_plain offset fs hs
+
+  template_plain : (ordinal : ℕ) (q : Template) → IsPlain q → ArePlain (template_fields ordinal q)
+  template_plain ordinal (Fixed bytes) h = tt
+  template_plain ordinal (Datum width v) h = value_plain ordinal width v
+  template_plain ordinal (Coded bytes fields) h = h
+
+  abbrev IsPlainPart : Part → Type 0
+  IsPlainPart p = IsPlain p.template
+
+  parts_plain : (offset : ℕ) (ps : List Part) → AllByRecursion IsPlainPart ps → aligns (relocations_from number offset ps) ≡ []
+  parts_plain offset [] h = refl
+  parts_plain offset (p ∷ ps) (h, hs) =
+      aligns_join (map (relocation_at number offset) (template_fields p.ordinal p.template)) (relocations_from number (offset + length (part_bytes p)) ps)
+      (fields_plain offset (template_fields p.ordinal p.template) (template_plain p.ordinal p.template h)) (parts_plain (offset + length (part_bytes p)) ps hs)
+
+  of_ordinal : (ordinal : ℕ) (ts : List Template) → AllByRecursion IsPlain ts → AllByRecursion IsPlainPart (map (part_of ordinal) ts)
+  of_ordinal ordinal [] h = tt
+  of_ordinal ordinal (q ∷ ts) (h, hs) = (h, of_ordinal ordinal ts hs)
+
+  joined : (xs ys : List Part) → AllByRecursion IsPlainPart xs → AllByRecursion IsPlainPart ys → AllByRecursion IsPlainPart (xs ++ ys)
+  joined [] ys h k = k
+  joined (x ∷ xs) ys (h, hs) k = (h, joined xs ys hs k)
+
+  sites_plain : (t : Tables) (multiple : ℕ) (zs : List Site) → AllByRecursion (λ z. IsBare z.located) zs
+      → AllByRecursion (λ z. z.located.placed ≡ true → HasSize (form t z.located) z multiple z.located.kind) zs → AllByRecursion IsPlainPart (parts t zs)
+  sites_plain t multiple [] h sz = tt
+  sites_plain t multiple (z ∷ zs) (h, hs) (sz, szs) =
+      joined (parts_of t z) (parts t zs) (of_ordinal z.located.ordinal (templates t z z.located.kind) (plain t z multiple h sz)) (sites_plain t multiple zs hs szs)
 
   section_plain : (t : Tables) (all : List Site) (symbols : List Symbol) (index : ℕ) (s : SourceSection) (x : Section)
-      → IsSectionOf t all number symbols index s (sites_in index all) x → alignments_of x ≡ []
-  section_plain t all symbols index s x is =
+      → AllByRecursion (λ z. IsBare z.located) all → IsSectionOf t all number symbols index s (sites_in index all) x → alignments_of x ≡ []
+  section_plain t all symbols index s x bare is =
       let none : filter has_padding x.relocations ≡ [] = padded_none x.relocations (ap aligns is.relocations ∙ go s.loaded) in
       either (x.loaded && x.executable) (ap by_place none)
     where
       go : (b : Bool) → aligns (if b then relocations_from number 0 (parts t (sites_in index all)) else []) ≡ []
-      go true = parts_plain 0 (parts t (sites_in index all))
+      go true =
+          parts_plain 0 (parts t (sites_in index all))
+          (sites_plain t x.alignment (sites_in index all) (all_filter (λ z. IsBare z.located) (λ z. z.located.section == index) all bare) is.sizes)
       go false = refl
 
       either : (b : Bool) → by_place (filter has_padding x.relocations) ≡ [] → (if b then by_place (filter has_padding x.relocations) else []) ≡ []
       either true e = e
       either false e = refl
 
-  pub sections_plain : (t : Tables) (all : List Site) (symbols : List Symbol) (index : ℕ) (ss : List SourceSection) (xs : List Section)
+  pub sections_plain : (t : Tables) (all : List Site) (symbols : List Symbol) (index : ℕ) (ss : List SourceSection) (xs : List Section) → AllByRecursion (λ z. IsBare z.located) all
       → AreSectionsOf t all number symbols index ss xs → (j : ℕ) (x : Section) → slice_get xs j ≡ Some x → alignments_of x ≡ []
-  sections_plain t all symbols index [] [] h j x e = absurd (cc)
-  sections_plain t all symbols index [] (y ∷ ys) h j x e = absurd h
-  sections_plain t all symbols index (s ∷ ss) [] h j x e = absurd h
-  sections_plain t all symbols index (s ∷ ss) (y ∷ ys) (h, hs) zero x e =
-      let same : y ≡ x = cc in subst (λ z. alignments_of z ≡ []) same (section_plain t all symbols index s y h)
-  sections_plain t all symbols index (s ∷ ss) (y ∷ ys) (h, hs) (suc j) x e = sections_plain t all symbols (suc index) ss ys hs j x e
+  sections_plain t all symbols index [] [] bare h j x e = absurd (cc)
+  sections_plain t all symbols index [] (y ∷ ys) bare h j x e = absurd h
+  sections_plain t all symbols index (s ∷ ss) [] bare h j x e = absurd h
+  sections_plain t all symbols index (s ∷ ss) (y ∷ ys) bare (h, hs) zero x e =
+      let same : y ≡ x = cc in subst (λ z. alignments_of z ≡ []) same (section_plain t all symbols index s y bare h)
+  sections_plain t all symbols index (s ∷ ss) (y ∷ ys) bare (h, hs) (suc j) x e = sections_plain t all symbols (suc index) ss ys bare hs j x e
 
 pub plain_of : (ss : List Statement) (o : Object) (is : IsObjectOf ss o) → (j : ℕ) (x : Section) → slice_get o.sections j ≡ Some x → alignments_of x ≡ []
-plain_of ss o is = sections_plain is.number (tables ss) is.sites o.symbols 0 (opened_of (tables ss)).sections o.sections is.sections
+plain_of ss o is =
+    sections_plain is.number (tables ss) is.sites o.symbols 0 (opened_of (tables ss)).sections o.sections
+    (all_map (IsSettled (opened_of (tables ss)).sections) (λ z. IsBare z.located) is.sites (λ z h. h.bare) (settled ss is.sites is.good is.located)) is.sections
 
 -- ---- rows
 
@@ -181,6 +216,7 @@ pub record IsFile (p : Program) (starts : Starts) (file : ℕ) (ss : List Statem
   pub tables : tables_in p file ≡ tables ss
   pub mapped : (j : ℕ) → mapped_in p.mapped file j ≡ mapped_from starts file (sites_in j sites)
   pub address : (n : ℕ) → address_at p.statements file n ≡ option_and_then (row_address starts file) (site_at sites n)
+  pub stands : (n : ℕ) → section_of p file n ≡ site_section starts (site_at sites n)
 
 abbrev pub AreFiles : Program → Starts → ℕ → (sources : List (List Statement)) (os : List Object) → AreObjectsOf sources os → Type 0
 AreFiles p starts file [] [] h = ⊤
@@ -218,4 +254,5 @@ module _ (sources : List (List Statement)) (os : List Object) (m : Map) (starts 
     tables = ap (λ n. slice_index_or (map tables sources) n at_start) (let e : 1 + i - 1 ≡ i = omega arith in e) ∙ tables_by sources i;
     mapped = λ j. ap (λ s. mapped_in (mapped_of s) (1 + i) j) statements_ours ∙ mapped_by starts 1 i j sources os h;
     address = λ n. ap (λ s. address_at s (1 + i) n) statements_ours ∙ address_by starts 1 i n sources os h;
+    stands = λ n. ap (λ s. section_in starts (find (Test starts (1 + i) n) s)) statements_ours ∙ section_by starts 1 i n sources os h;
   })

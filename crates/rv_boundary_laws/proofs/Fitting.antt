@@ -1,31 +1,31 @@
 -- A row that suits its statement fits it.
 
-use Rattle.std.proofs.Common.{◌≡◌, ℕ, zero, suc, ◌+◌, ◌-◌, ◌*◌, ◌/◌, ◌%◌, ◌<◌, Bool, true, false, List, [], ◌∷◌, length, refl, sym, ap, ◌∙◌, subst, arith, Option, Some, None, length-append}
+use Rattle.std.proofs.Common.{◌≡◌, ℕ, zero, suc, ◌+◌, ◌-◌, ◌*◌, ◌/◌, ◌%◌, ◌<◌, Bool, true, false, List, [], ◌∷◌, length, refl, sym, ap, ◌∙◌, subst, arith, Option, Some, None, ◌⊎◌, inl, inr, length-append}
 use Rattle.std.proofs.Common.{add-zero}
 use Rattle.std.proofs.Math.Nat.{mul-add-div_right, add-mul}
 use Rattle.std.proofs.lemmas.Nat.{div-add-mod'}
-use Rattle.std.proofs.lemmas.Bool.{and_parts}
 use Rattle.std.proofs.lemmas.List.{length-replicate}
-use Rattle.std.specs.Prelude.{◌&&◌, IsTrue, flat_map, is_some, unwrap_or, option_map, if◌then◌else◌}
+use Rattle.std.specs.Prelude.{⊤, ℤ, map, ◌&&◌, IsTrue, flat_map, is_some, unwrap_or, option_map, if◌then◌else◌}
 use Rattle.std.specs.List.{list_all}
 use Rattle.rv_isa_laws.specs.Bytes.{little_endian}
 use Rattle.rv_text_laws.specs.Expression.{Primary}
 use Rattle.rv_text_laws.specs.Values.{Value, Constant, Symbolic, Difference, Faulty}
 use Rattle.rv_statement.specs.declared.mnemonic.Mnemonic.{Mnemonic}
 use Rattle.rv_statement.specs.Statement.{StatementKind, Label, Numbered, Instruction, Directs, Expression, Operand, Directive, Sets, Aligns_to_power, Aligns_to_bytes, Values, Strings, Zeros}
-use Rattle.rv_pseudo_laws.specs.Code.{Part}
-use Rattle.rv_pseudo_laws.specs.Filled.{filled, are_closed}
+use Rattle.rv_pseudo_laws.specs.Code.{Part, code}
+use Rattle.rv_pseudo_laws.specs.Filled.{FieldValue, filled, are_closed, AreTaken}
 use Rattle.rv_unit_laws.specs.Options.{Options}
 use Rattle.rv_unit_laws.specs.Sections.{Section}
 use Rattle.rv_unit_laws.specs.Tables.{alignment_of, padding, aligned}
 use Rattle.rv_map.specs.declared.map.Row.{Row}
-use Rattle.rv_source_laws.specs.Program.{Mapped, Program, form, address, resolved, number, has_values, expressions, in_operand}
-use Rattle.rv_source_laws.specs.Lines.{parts, padding_parts, field_value, expansion}
-use Rattle.rv_source_laws.specs.Fits.{SizeFits, CodeFits, IsRowOf, IsPaddingIn}
+use Rattle.rv_source_laws.specs.Program.{Mapped, Program, form, address, resolved, number, has_values, expressions}
+use Rattle.rv_source_laws.specs.Lines.{Line, parts, padding_parts, field_value, expansion, other_operand}
+use Rattle.rv_source_laws.specs.Fits.{SizeFits, CodeFits, IsRowOf, IsPaddingIn, IsPaired}
 use Rattle.rv_chain_laws.specs.Contents.{HasSizes, IsWritten}
 use Rattle.rv_chain_laws.proofs.Held.{IsHeld, DirectiveHeld}
-use Rattle.rv_assemble_laws.specs.Coded.{is_constant, constants, joined, IsCode}
-use Rattle.rv_boundary_laws.proofs.KnownCode.{instructions_of, lines_of, all_closed, all_taken, all_filled, all_valid, all_counted, all_few, lines_say, lines_lie, lines_sized, lines_encoded, paired}
+use Rattle.rv_assemble_laws.specs.Coded.{is_constant, constants, AreCodedParts, IsCode}
+use Rattle.rv_assemble_laws.specs.Templates.{Open as OpenField}
+use Rattle.rv_boundary_laws.proofs.Coding.{coded_bytes, AreFilledParts, all_few, lines_of, lines_lie, lines_sized, lines_encoded, lines_say, closed_say, lines_valid, lines_counted, lines_taken, closed_taken, lines_whole}
 use Rattle.rv_boundary_laws.proofs.Suits.{IsMultiple, SuitsPadding, SuitsDirective, Suits, code_said}
 
 -- ---- constants
@@ -38,12 +38,6 @@ constant_some a (Faulty c) e = absurd (cc)
 
 true_and : (a b : Bool) → a ≡ true → b ≡ true → (a && b) ≡ true
 true_and a b e f = ap (λ x. x && b) e ∙ f
-
-constants_some : (a : Primary → Option ℕ) (f : Expression → Value) (es : List Expression) → list_all (λ e. is_constant (f e)) es ≡ true → list_all (λ e. is_some (resolved a (f e))) es ≡ true
-constants_some a f [] h = refl
-constants_some a f (e ∷ es) h =
-    let parts = and_parts (is_constant (f e)) (list_all (λ e. is_constant (f e)) es) h in
-    true_and (is_some (resolved a (f e))) (list_all (λ e. is_some (resolved a (f e))) es) (constant_some a (f e) parts.0) (constants_some a f es parts.1)
 
 -- ---- rows of instructions
 
@@ -108,7 +102,8 @@ nothing_written p s is none bytes = record {
   encoded = refl;
 }
 
-module _ (p : Program) (file ordinal section offset line : ℕ) (options : Options) (home : Section) (placed : Bool) (row : Row) (before start : ℕ) (coded : List (List ℕ)) where
+module _ (p : Program) (file ordinal section offset line : ℕ) (options : Options) (home : Section) (placed : Bool) (row : Row) (before start : ℕ) (coded : List (List ℕ))
+    (v : ℕ → OpenField → ℤ) (fields : Part → List OpenField) where
   abbrev at : StatementKind → Mapped
   at says = record { located = record { file = file; ordinal = ordinal; section = section; offset = offset; home = home; options = options; line = line; kind = says; placed = placed }; row = row }
 
@@ -125,27 +120,73 @@ module _ (p : Program) (file ordinal section offset line : ℕ) (options : Optio
       ap (λ b. if b then option_map (filled (field_value p s) s.row.address) (parts p s) else None) valued
       ∙ ap (option_map (filled (field_value p s) s.row.address)) is
 
-  module _ (m : Mnemonic) (os : List Operand) (h : IsCode f options.rvc m os row.bytes coded row.instructions) where
+  -- what code owes to its row besides its bytes: its operands have values, and its open fields take what they stand for
+  pub record IsFilledCode (m : Mnemonic) (os : List Operand) (ps : List Part) : Type 0 where
+    pub valued : has_values p (at (Instruction m os)) ≡ true
+    pub is_paired : IsPaired p (at (Instruction m os)) (other_operand os)
+    pub filled_parts : AreFilledParts v fields (field_value p (at (Instruction m os))) before row.address ps coded
+
+  abbrev pub IsFilled : StatementKind → Type 0
+  IsFilled (Instruction m os) =
+      (ps : List Part) → code (constants f) options.rvc row.bytes m os ≡ Some ps → AreCodedParts (options.rvc && are_closed ps) ps coded → IsFilledCode m os ps
+  IsFilled says = ⊤
+
+  module _ (m : Mnemonic) (os : List Operand) (h : IsCode f options.rvc m os row.bytes coded row.instructions) (k : IsFilledCode m os h.ps) where
     abbrev s : Mapped
     s = at (Instruction m os)
 
-    valued_all : has_values p s ≡ true
-    valued_all = constants_some a f (flat_map in_operand os) h.known
+    abbrev value : FieldValue
+    value = field_value p s
 
-    closed : are_closed h.ps ≡ true
-    closed = all_closed options.rvc h.ps coded h.coded_as
+    abbrev ps : List Part
+    ps = h.ps
 
-    instructions_are : expansion p s ≡ Some (instructions_of h.ps)
-    instructions_are =
-        expansion_is s h.ps valued_all h.parts ∙ ap (λ l. Some l) (all_filled (field_value p s) row.address options.rvc h.ps coded h.coded_as)
+    abbrev compressed : Bool
+    compressed = options.rvc && are_closed ps
 
-    row_fits : IsRowOf (Some (instructions_of h.ps)) row
+    abbrev lines : List Line
+    lines = lines_of v fields value row.address ps coded
+
+    -- where a field is open nothing is compressed
+    closed_or_not : (are_closed ps ≡ true) ⊎ (compressed ≡ false)
+    closed_or_not = go (are_closed ps) options.rvc
+      where
+        go : (b c : Bool) → (b ≡ true) ⊎ ((c && b) ≡ false)
+        go true c = inl refl
+        go false true = inr refl
+        go false false = inr refl
+
+    open_whole : are_closed ps ≡ false → compressed ≡ false
+    open_whole e = ap (λ b. options.rvc && b) e ∙ go options.rvc
+      where
+        go : (c : Bool) → (c && false) ≡ false
+        go true = refl
+        go false = refl
+
+    say : filled value row.address ps ≡ map (λ l. l.instruction) lines
+    say = go closed_or_not
+      where
+        go : (are_closed ps ≡ true) ⊎ (compressed ≡ false) → filled value row.address ps ≡ map (λ l. l.instruction) lines
+        go (inl e) = closed_say v fields value row.address row.address compressed ps coded h.coded_as e
+        go (inr e) = lines_say v fields value row.address compressed ps coded h.coded_as before k.filled_parts e
+
+    taken : AreTaken value row.address ps
+    taken = go closed_or_not
+      where
+        go : (are_closed ps ≡ true) ⊎ (compressed ≡ false) → AreTaken value row.address ps
+        go (inl e) = closed_taken v fields value row.address ps e
+        go (inr e) = lines_taken v fields value before row.address compressed ps coded h.coded_as k.filled_parts e
+
+    instructions_are : expansion p s ≡ Some (map (λ l. l.instruction) lines)
+    instructions_are = expansion_is s ps k.valued h.parts ∙ ap (λ l. Some l) say
+
+    row_fits : IsRowOf (Some (map (λ l. l.instruction) lines)) row
     row_fits =
-        let few = all_few options.rvc h.ps coded h.coded_as in
+        let few = all_few compressed ps coded h.coded_as in
         let size = h.size in
         let count = h.count in (
-          all_valid options.rvc h.ps coded h.coded_as,
-          count ∙ all_counted options.rvc h.ps coded h.coded_as,
+          lines_valid v fields value before row.address compressed ps coded h.coded_as k.filled_parts,
+          count ∙ lines_counted v fields value row.address compressed ps coded h.coded_as,
           omega (arith, few.0, size, count),
           omega (arith, few.1, size, count),
           ap (λ n. n % 2) size ∙ few.2,
@@ -154,24 +195,21 @@ module _ (p : Program) (file ordinal section offset line : ℕ) (options : Optio
     code_fits : SizeFits p s
     code_fits =
         subst (CodeFits p s) (sym h.parts) (record {
-          valued = is_true (has_values p s) valued_all;
-          paired = paired (constants f) options.rvc row.bytes p s m os h.ps h.parts closed;
-          taken = all_taken (field_value p s) row.address options.rvc h.ps coded h.coded_as;
+          valued = is_true (has_values p s) k.valued;
+          paired = k.is_paired;
+          taken = taken;
           row = subst (λ o. IsRowOf o row) (sym instructions_are) row_fits;
-          whole = λ e. true_false (are_closed h.ps) closed e;
+          whole = λ e. h.size ∙ lines_whole v fields value before row.address compressed ps coded h.coded_as k.filled_parts (open_whole e);
         })
 
-    instruction_written : IsWritten p s (joined coded)
+    instruction_written : IsWritten p s (coded_bytes v fields before ps coded)
     instruction_written = record {
-      ps = h.ps;
+      ps = ps;
       are_parts = h.parts;
-      lines = lines_of row.address h.ps coded;
-      are_lines = (
-        instructions_are ∙ ap (λ l. Some l) (lines_say row.address options.rvc h.ps coded h.coded_as),
-        lines_lie row.address (row.address + row.bytes) options.rvc h.ps coded h.coded_as (ap (λ n. row.address + n) (sym h.size)),
-      );
-      sizes = lines_sized row.address options.rvc h.ps coded h.coded_as;
-      encoded = lines_encoded row.address options.rvc h.ps coded h.coded_as;
+      lines = lines;
+      are_lines = (instructions_are, lines_lie v fields value row.address (row.address + row.bytes) compressed ps coded h.coded_as (ap (λ n. row.address + n) (sym h.size)));
+      sizes = lines_sized v fields value row.address compressed ps coded h.coded_as closed_or_not;
+      encoded = lines_encoded v fields value before row.address compressed ps coded h.coded_as k.filled_parts;
     }
 
   valued_alone : (e : Expression) (says : StatementKind) → expressions says ≡ e ∷ [] → is_constant (f e) ≡ true → has_values p (at says) ≡ true
@@ -209,11 +247,11 @@ module _ (p : Program) (file ordinal section offset line : ℕ) (options : Optio
   directive_fits (Sets name e) (bytes, none) = no_row row bytes none
   directive_fits _ h = absurd h
 
-  pub fits : (says : StatementKind) → Suits f (has_values p (at says)) home options.rvc coded row before start says → SizeFits p (at says)
-  fits (Label name) (bytes, none) = no_row row bytes none
-  fits (Numbered digits) (bytes, none) = no_row row bytes none
-  fits (Instruction m os) h = code_fits m os h
-  fits (Directs d) h = directive_fits d h
+  pub fits : (says : StatementKind) → Suits f (has_values p (at says)) home options.rvc coded row before start says → IsFilled says → SizeFits p (at says)
+  fits (Label name) (bytes, none) k = no_row row bytes none
+  fits (Numbered digits) (bytes, none) k = no_row row bytes none
+  fits (Instruction m os) h k = code_fits m os h (k h.ps h.parts h.coded_as)
+  fits (Directs d) h k = directive_fits d h
 
   -- ---- bytes
 
@@ -236,9 +274,10 @@ module _ (p : Program) (file ordinal section offset line : ℕ) (options : Optio
   directive_written _ h held yes' = absurd h
 
   -- in code a statement is written by its code
-  pub is_written : (says : StatementKind) → Suits f (has_values p (at says)) home options.rvc coded row before start says → IsHeld home says → home.executable ≡ true
-      → IsWritten p (at says) (code_said coded says)
-  is_written (Label name) (bytes, none) held yes' = nothing_written p (at (Label name)) refl refl bytes
-  is_written (Numbered digits) (bytes, none) held yes' = nothing_written p (at (Numbered digits)) refl refl bytes
-  is_written (Instruction m os) h held yes' = instruction_written m os h
-  is_written (Directs d) h held yes' = directive_written d h held yes'
+  pub is_written : (says : StatementKind) → Suits f (has_values p (at says)) home options.rvc coded row before start says → IsFilled says → IsHeld home says → home.executable ≡ true
+      → IsWritten p (at says) (code_said v fields f options.rvc before row.bytes coded says)
+  is_written (Label name) (bytes, none) k held yes' = nothing_written p (at (Label name)) refl refl bytes
+  is_written (Numbered digits) (bytes, none) k held yes' = nothing_written p (at (Numbered digits)) refl refl bytes
+  is_written (Instruction m os) h k held yes' =
+      subst (IsWritten p (at (Instruction m os))) (ap (λ o. coded_bytes v fields before (unwrap_or o []) coded) (sym h.parts)) (instruction_written m os h (k h.ps h.parts h.coded_as))
+  is_written (Directs d) h k held yes' = directive_written d h held yes'

@@ -1,3 +1,4 @@
+pub mod Settling
 pub mod TwoObjects
 pub mod TwoLinked
 pub mod Numbers
@@ -5,11 +6,20 @@ pub mod Patches
 pub mod Statements
 pub mod Settled
 pub mod Suits
-pub mod KnownCode
+pub mod Fielded
+pub mod Coding
+pub mod Rows
 pub mod CodeOf
 pub mod Fitting
 pub mod Known
+pub mod Labels
+pub mod Wholes
 pub mod Sections
+pub mod Fields
+pub mod Operands
+pub mod Uppers
+pub mod Lows
+pub mod FilledCode
 pub mod Placed
 pub mod Regions
 pub mod Files

@@ -2,7 +2,7 @@
 
 use Rattle.std.proofs.Common.{◌≡◌, ℕ, suc, ◌+◌, Bool, true, false, List, [], ◌∷◌, ◌++◌, length, refl, sym, ap, ◌∙◌, subst, arith, map, None}
 use Rattle.std.proofs.lemmas.Bool.{and_parts}
-use Rattle.std.specs.Prelude.{◌&&◌, not, IsTrue, if◌then◌else◌, filter, flat_map}
+use Rattle.std.specs.Prelude.{ℤ, Some, ◌&&◌, not, IsTrue, if◌then◌else◌, filter, flat_map}
 use Rattle.std.specs.List.{AllByRecursion}
 use Rattle.rv_statement.specs.Statement.{Statement}
 use Rattle.rv_unit_laws.specs.declared.section_type.SectionType.{SectionType}
@@ -11,8 +11,9 @@ use Rattle.rv_unit_laws.specs.Sections.{Section as SourceSection, is_nobits_type
 use Rattle.rv_unit_laws.specs.Tables.{Tables, aligned, tables, at_start, opened_of}
 use Rattle.rv_unit_laws.specs.Faults.{first_fault}
 use Rattle.rv_map.specs.declared.map.Row.{Row as MapRow}
+use Rattle.rv_map.specs.Limits.{IsRow}
 use Rattle.rv_source_laws.specs.Located.{Located, has_row, located_of}
-use Rattle.rv_source_laws.specs.Program.{Mapped, Program, program, tables_in}
+use Rattle.rv_source_laws.specs.Program.{Mapped, Program, program}
 use Rattle.rv_source_laws.specs.Fits as source
 use Rattle.rv_source_laws.specs.Fits.{SizeFits}
 use Rattle.rv_source_laws.specs.Resolves.{Resolves}
@@ -26,14 +27,18 @@ use Rattle.rv_object_laws.specs.Inputs.{Starts, InputSection, inputs_from, input
 use Rattle.rv_object_laws.specs.Values.{initial_bytes, linked_bytes, IsRelocated}
 use Rattle.rv_object_laws.specs.IsLinkOf.{IsLinkOf, is_loaded}
 use Rattle.rv_assemble_laws.proofs.Faultless.{no_first_fault}
-use Rattle.rv_assemble_laws.specs.Sites.{Site, parts, parts_of, part_bytes, sites_in, end_of as sites_end}
+use Rattle.rv_assemble_laws.specs.Templates.{Open}
+use Rattle.rv_assemble_laws.specs.Sites.{Site, parts, part_bytes, sites_in, end_of as sites_end}
+use Rattle.rv_assemble_laws.specs.Symbols.{site_at}
+use Rattle.rv_assemble_laws.proofs.Homes.{all_map}
 use Rattle.rv_assemble_laws.proofs.Filled.{filled}
 use Rattle.rv_assemble_laws.specs.IsObjectOf.{Numbering, contents_of, IsSectionOf, AreSectionsOf}
-use Rattle.rv_boundary_laws.proofs.Patches.{written}
+use Rattle.rv_boundary_laws.proofs.Wholes.{numbers_by, worths_of, AreObjectsAt, objects_at, worths_are, IsSound, sound, StandsAlone, labels, IsWhole, relocated_at}
+use Rattle.rv_boundary_laws.proofs.Globals.{low_rows}
 use Rattle.rv_boundary_laws.proofs.Statements.{AreObjectsOf, renumbered, renumbers, row_in, rows_from, mapped_at, all_rows}
 use Rattle.rv_boundary_laws.proofs.Settled.{settled}
-use Rattle.rv_boundary_laws.proofs.Sections.{meant_in, split}
-use Rattle.rv_boundary_laws.proofs.CodeOf.{AreCodesOf, code_of, codes}
+use Rattle.rv_boundary_laws.proofs.Sections.{said, split}
+use Rattle.rv_boundary_laws.proofs.CodeOf.{IsFound, found_from, AreCodesOf, code_of, codes}
 use Rattle.rv_boundary_laws.proofs.Placed.{IsFit}
 use Rattle.rv_boundary_laws.proofs.Regions.{AreGood, IsRegion, region, greatest_same, good_join, good_file}
 use Rattle.rv_boundary_laws.proofs.Files.{plain_of, AreFiles, files, rows_ours}
@@ -161,8 +166,18 @@ module _ (sources : List (List Statement)) (os : List Object) (text_start : ℕ)
   abbrev starts : Starts
   starts = link.starts
 
+  abbrev numbers : ℕ → Numbering
+  numbers = numbers_by sources os h
+
+  -- what the fields of code take
+  abbrev worths : ℕ → ℕ → ℕ → Open → ℤ
+  worths = worths_of l.map.globals starts os numbers
+
+  abbrev says : ℕ → Site → List ℕ
+  says file z = said p file (worths file) z
+
   abbrev bytes_of : Mapped → List ℕ
-  bytes_of m = code_of starts sources os h m
+  bytes_of m = code_of starts says sources os h m
 
   abbrev Q : InputSection → Type 0
   Q i = AllByRecursion (IsRelocated l.map.globals starts os i) i.section.relocations
@@ -173,27 +188,43 @@ module _ (sources : List (List Statement)) (os : List Object) (text_start : ℕ)
       → IsSectionOf t sites number o.symbols index s (sites_in index sites) x → goes x ≡ goes_source s)
       (holds : (t : Tables) (sites : List Site) (number : Numbering) (o : Object) (index : ℕ) (s : SourceSection) (x : Section)
       → IsSectionOf t sites number o.symbols index s (sites_in index sites) x → goes_source s ≡ true → stores ≡ true → initial_bytes x.contents ≡ flat_map part_bytes (parts t (sites_in index sites)))
-      (spell : (file : ℕ) (s : SourceSection) (z : Site) → goes_source s ≡ true → z.located.home ≡ s → IsFit p starts bytes_of file z
-      → spells (mapped_at starts file z) ≡ flat_map (written (meant_in p file)) (parts_of (tables_in p file) z))
-      (fitted : (file : ℕ) (s : SourceSection) (z : Site) → goes_source s ≡ true → z.located.home ≡ s → IsFit p starts bytes_of file z → P (mapped_at starts file z)) where
-    good_files : (file : ℕ) (srcs : List (List Statement)) (us : List Object) (k : AreObjectsOf srcs us) → AreFiles p starts file srcs us k → AreCodesOf starts bytes_of file srcs us k → AllByRecursion Q (inputs_of is_loaded file us)
+      (spell : (file : ℕ) (s : SourceSection) (z : Site) → goes_source s ≡ true → z.located.home ≡ s → IsFit p starts bytes_of worths file z
+      → spells (mapped_at starts file z) ≡ said p file (worths file) z)
+      (fitted : (file : ℕ) (s : SourceSection) (z : Site) → goes_source s ≡ true → z.located.home ≡ s → IsFit p starts bytes_of worths file z → P (mapped_at starts file z)) where
+    good_files : (file : ℕ) (srcs : List (List Statement)) (us : List Object) (k : AreObjectsOf srcs us) → AreFiles p starts file srcs us k → AreObjectsAt os numbers file srcs us k → AllByRecursion IsRow (all_rows starts file srcs us k)
+        → AreCodesOf starts says bytes_of file srcs us k → AllByRecursion Q (inputs_of is_loaded file us)
         → AreGood p os starts spells stores P (inputs_of goes file us) (source.input_sections_of goes_source p.mapped file srcs)
-    good_files file [] [] k f c r = tt
-    good_files file [] (o ∷ us) k f c r = absurd k
-    good_files file (ss ∷ srcs) [] k f c r = absurd k
-    good_files file (ss ∷ srcs) (o ∷ us) (is, k) (f, fs) (c, cs) r =
+    good_files file [] [] k f g rows c r = tt
+    good_files file [] (o ∷ us) k f g rows c r = absurd k
+    good_files file (ss ∷ srcs) [] k f g rows c r = absurd k
+    good_files file (ss ∷ srcs) (o ∷ us) (is, k) (f, fs) (g, gs) rows (c, cs) r =
         let sections = (opened_of (tables ss)).sections in
         let both = split Q (inputs_from is_loaded file o 0 o.sections) (inputs_of is_loaded (suc file) us) r in
         let are = subst (λ t. AreSectionsOf t is.sites is.number o.symbols 0 sections o.sections) (sym f.tables) is.sections in
-        let own = good_file p os starts spells stores P bytes_of goes goes_source loads same_by holds spell fitted file is.sites is.number o sections
-        link.readable.globals are (settled ss is.sites is.good is.located) c (plain_of ss o is) f.address f.mapped both.0 in
+        let two = split IsRow (rows_from starts file is.sites) (all_rows starts (suc file) srcs us k) rows in
+        let whole : IsWhole p os starts file is.sites is.number o (worths file) = record {
+          object = g.object;
+          mapped = f.mapped;
+          low = low_rows starts file is.sites two.0;
+          sound = subst (λ t. AllByRecursion (λ z. IsSound t z.located) is.sites) (sym f.tables) (sound ss is.sites is.good is.located);
+          labels = subst StandsAlone (sym f.tables) (labels ss);
+          worth = worths_are p os starts numbers file o is.number g;
+          stands = f.stands;
+          itself = all_map (IsFound 1 is.sites) (λ z. site_at is.sites z.located.ordinal ≡ Some z) is.sites (λ z k. k.1) (found_from 1 at_start ss is.sites is.located);
+          relocated = λ j x at loaded.
+              subst (λ n. Q (record { file = file; object = o; index = n; section = x })) (let e : 0 + j ≡ j = omega arith in e)
+              (relocated_at Q file o 0 o.sections both.0 j x at loaded);
+        } in
+        let own = good_file p os starts spells stores P bytes_of worths goes goes_source loads same_by holds spell fitted file is.sites is.number o sections
+        link.readable.globals are (settled ss is.sites is.good is.located) whole c (plain_of ss o is) f.address both.0 in
         good_join p os starts spells stores P (inputs_from goes file o 0 o.sections) (inputs_of goes (suc file) us)
         (source.input_sections_of_file goes_source (tables ss) p.mapped file 0 sections) (source.input_sections_of goes_source p.mapped (suc file) srcs)
         (subst (λ t. AreGood p os starts spells stores P (inputs_from goes file o 0 o.sections) (source.input_sections_of_file goes_source t p.mapped file 0 sections)) f.tables own)
-        (good_files (suc file) srcs us k fs cs both.1)
+        (good_files (suc file) srcs us k fs gs two.1 cs both.1)
 
     pub good_region : AreGood p os starts spells stores P (inputs goes os) (source.input_sections goes_source sources l.map)
-    good_region = good_files 1 sources os h (files sources os l.map starts h link.rows) (codes starts sources os h) link.relocated
+    good_region = good_files 1 sources os h (files sources os l.map starts h link.rows) (objects_at sources os h)
+        (subst (λ rows. AllByRecursion IsRow rows) (rows_ours sources os l.map starts h link.rows) link.readable.rows) (codes starts says sources os h) link.relocated
 
   -- ---- each of them
 

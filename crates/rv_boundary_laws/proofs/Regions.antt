@@ -1,7 +1,7 @@
 -- The regions of the program hold the sections of the sources.
 
 use Rattle.std.proofs.Common.{◌≡◌, ℕ, suc, ◌+◌, ◌-◌, ◌%◌, ◌≤◌, Bool, true, false, List, [], ◌∷◌, ◌++◌, length, refl, sym, ap, ◌∙◌, subst, arith, map, max, Some}
-use Rattle.std.specs.Prelude.{⊤, ◌&&◌, nat_lt, if◌then◌else◌, flat_map, option_and_then}
+use Rattle.std.specs.Prelude.{⊤, ℤ, ◌&&◌, nat_lt, if◌then◌else◌, flat_map, option_and_then}
 use Rattle.std.specs.List.{AllByRecursion, slice_get}
 use Rattle.rv_unit_laws.specs.declared.section_type.SectionType.{SectionType}
 use Rattle.rv_unit_laws.specs.declared.section_type.SectionType.TheVariants as types
@@ -19,15 +19,17 @@ use Rattle.rv_object_laws.specs.Moves.{alignments_of}
 use Rattle.rv_object_laws.specs.Inputs.{Starts, InputSection, inputs_from, begins_at, start_of, size, Stand, end_of, gaps_of, raised, greatest, contents, goes_to_text}
 use Rattle.rv_object_laws.specs.Values.{initial_bytes, linked_bytes, IsRelocated}
 use Rattle.rv_object_laws.specs.IsLinkOf.{is_loaded}
+use Rattle.rv_assemble_laws.specs.Templates.{Open}
 use Rattle.rv_assemble_laws.specs.Sites.{Site, parts_of, parts, part_bytes, sites_in, end_of as sites_end}
 use Rattle.rv_assemble_laws.specs.Symbols.{site_at}
 use Rattle.rv_assemble_laws.specs.IsObjectOf.{Numbering, contents_of, IsSectionOf, AreSectionsOf}
 use Rattle.rv_assemble_laws.proofs.Filled.{filled}
-use Rattle.rv_boundary_laws.proofs.Patches.{written}
+use Rattle.rv_boundary_laws.proofs.Patches.{written, written_from}
 use Rattle.rv_boundary_laws.proofs.Statements.{mapped_at, mapped_from, row_address}
 use Rattle.rv_boundary_laws.proofs.Settled.{IsSettled, IsSiteIn, sites_are_in, follows, sized, bytes_are}
 use Rattle.rv_boundary_laws.proofs.Known.{still}
-use Rattle.rv_boundary_laws.proofs.Sections.{meant_in, multiple_of}
+use Rattle.rv_boundary_laws.proofs.Wholes.{IsWhole}
+use Rattle.rv_boundary_laws.proofs.Sections.{meant_in, said, multiple_of}
 use Rattle.rv_boundary_laws.proofs.CodeOf.{IsCodeOf}
 use Rattle.rv_boundary_laws.proofs.Placed.{IsFit, bytes_linked, section_fits}
 
@@ -112,31 +114,31 @@ module _ (p : Program) (all : List Object) (starts : Starts) (spells : Mapped �
   stored_size types.Note count bytes e = sym e
   stored_size types.Nobits count bytes e = refl
 
-  module _ (code : Mapped → List ℕ) (goes : Section → Bool) (goes_source : SourceSection → Bool)
+  module _ (code : Mapped → List ℕ) (all_worths : ℕ → ℕ → ℕ → Open → ℤ) (goes : Section → Bool) (goes_source : SourceSection → Bool)
       (loads : (s : SourceSection) → goes_source s ≡ true → s.loaded ≡ true)
       (same_by : (t : Tables) (sites : List Site) (number : Numbering) (o : Object) (index : ℕ) (s : SourceSection) (x : Section)
       → IsSectionOf t sites number o.symbols index s (sites_in index sites) x → goes x ≡ goes_source s)
       (holds : (t : Tables) (sites : List Site) (number : Numbering) (o : Object) (index : ℕ) (s : SourceSection) (x : Section)
       → IsSectionOf t sites number o.symbols index s (sites_in index sites) x → goes_source s ≡ true → stores ≡ true → initial_bytes x.contents ≡ flat_map part_bytes (parts t (sites_in index sites)))
-      (spell : (file : ℕ) (s : SourceSection) (z : Site) → goes_source s ≡ true → z.located.home ≡ s → IsFit p starts code file z
-      → spells (mapped_at starts file z) ≡ flat_map (written (meant_in p file)) (parts_of (tables_in p file) z))
-      (fitted : (file : ℕ) (s : SourceSection) (z : Site) → goes_source s ≡ true → z.located.home ≡ s → IsFit p starts code file z → P (mapped_at starts file z)) where
+      (spell : (file : ℕ) (s : SourceSection) (z : Site) → goes_source s ≡ true → z.located.home ≡ s → IsFit p starts code all_worths file z
+      → spells (mapped_at starts file z) ≡ said p file (all_worths file) z)
+      (fitted : (file : ℕ) (s : SourceSection) (z : Site) → goes_source s ≡ true → z.located.home ≡ s → IsFit p starts code all_worths file z → P (mapped_at starts file z)) where
     module _ (file : ℕ) (sites : List Site) (number : Numbering) (o : Object) (sections : List SourceSection)
         (low : AllByRecursion IsGlobal p.map.globals) (are : AreSectionsOf (tables_in p file) sites number o.symbols 0 sections o.sections)
-        (settled : AllByRecursion (IsSettled sections) sites) (codes : AllByRecursion (IsCodeOf starts code file) sites)
+        (settled : AllByRecursion (IsSettled sections) sites) (whole : IsWhole p all starts file sites number o (all_worths file))
+        (codes : AllByRecursion (IsCodeOf starts (λ n z. said p n (all_worths n) z) code file) sites)
         (plain : (j : ℕ) (x : Section) → slice_get o.sections j ≡ Some x → alignments_of x ≡ [])
-        (address : (n : ℕ) → address_at p.statements file n ≡ option_and_then (row_address starts file) (site_at sites n))
-        (mapped : (j : ℕ) → source.mapped_in p.mapped file j ≡ mapped_from starts file (sites_in j sites)) where
+        (address : (n : ℕ) → address_at p.statements file n ≡ option_and_then (row_address starts file) (site_at sites n)) where
       abbrev t : Tables
       t = tables_in p file
 
       abbrev Q : InputSection → Type 0
       Q i = AllByRecursion (IsRelocated p.map.globals starts all i) i.section.relocations
 
-      good_one : (index : ℕ) (s : SourceSection) (x : Section) → IsSectionOf t sites number o.symbols index s (sites_in index sites) x → slice_get sections index ≡ Some s → alignments_of x ≡ []
+      good_one : (index : ℕ) (s : SourceSection) (x : Section) → IsSectionOf t sites number o.symbols index s (sites_in index sites) x → slice_get sections index ≡ Some s → slice_get o.sections index ≡ Some x → alignments_of x ≡ []
           → goes_source s ≡ true → Q (record { file = file; object = o; index = index; section = x })
           → IsGood (record { file = file; object = o; index = index; section = x }) (source.input_section t s p.mapped file index)
-      good_one index s x is at none goes_there relocated =
+      good_one index s x is at there none goes_there relocated =
           let own = sites_in index sites in
           let loaded = loads s goes_there in
           let inside = sites_are_in sections index s sites at settled in
@@ -144,8 +146,8 @@ module _ (p : Program) (all : List Object) (starts : Starts) (spells : Mapped �
           let flags : goes_to_text x ≡ (s.loaded && s.executable) = ap (λ b. b && x.executable) is.loaded ∙ ap (λ b. s.loaded && b) is.executable in
           let count_is : sites_end 0 own ≡ length (flat_map part_bytes (parts t own)) = filled t 0 own is.tile ∙ (let n = length (flat_map part_bytes (parts t own)) in let e : 0 + n ≡ n = omega arith in e) in
           let rows_count = sized starts file t index s loaded 0 own inside is.tile in
-          let fits : (stop : ℕ) → starts file index ≡ aligned (begins_at x) stop → AllByRecursion (λ z. has_row z.located ≡ true → IsFit p starts code file z) own =
-          λ stop starts_at. section_fits p all starts file sites number o sections low are settled code codes plain address index s x is at none loaded relocated
+          let fits : (stop : ℕ) → starts file index ≡ aligned (begins_at x) stop → AllByRecursion (λ z. has_row z.located ≡ true → IsFit p starts code all_worths file z) own =
+          λ stop starts_at. section_fits p all starts file sites number o sections low are settled code all_worths whole codes plain address index s x is at there none loaded relocated
           (λ m some divides no_code.
           ap (λ n. n % m) (starts_at ∙ ap (λ n. aligned n stop)
           (begins_as ∙ ap (λ b. max (if b then 2 else 1) x.alignment) (flags ∙ ap (λ b. s.loaded && b) no_code ∙ never s.loaded) ∙ least x.alignment is.some))
@@ -153,18 +155,20 @@ module _ (p : Program) (all : List Object) (starts : Starts) (spells : Mapped �
           record {
             alignment = begins_as ∙ ap (λ b. max (if b then 2 else 1) x.alignment) flags ∙ ap (λ n. max (if s.loaded && s.executable then 2 else 1) n) is.alignment;
             follow = subst (λ n. source.Follow n (source.rows_of (source.input_section t s p.mapped file index))) (let e : starts file index + 0 ≡ starts file index = omega arith in e)
-                (subst (λ l. source.Follow (starts file index + 0) (map (λ s. s.row) l)) (sym (mapped index)) (follows starts file t index s loaded 0 own inside is.tile));
+                (subst (λ l. source.Follow (starts file index + 0) (map (λ s. s.row) l)) (sym (whole.mapped index)) (follows starts file t index s loaded 0 own inside is.tile));
             count = still x none (starts file index) (size_of x.contents) ∙ ap size_of is.contents ∙ stored_size s.section_type (sites_end 0 own) (flat_map part_bytes (parts t own)) count_is
-                ∙ sym rows_count ∙ plus_zero (source.size (map (λ s. s.row) (mapped_from starts file own))) ∙ ap (λ l. source.size (map (λ s. s.row) l)) (sym (mapped index));
+                ∙ sym rows_count ∙ plus_zero (source.size (map (λ s. s.row) (mapped_from starts file own))) ∙ ap (λ l. source.size (map (λ s. s.row) l)) (sym (whole.mapped index));
             bytes = λ stop starts_at e.
-                bytes_linked p all starts file sites number o sections low are settled code codes plain address index s x is at none loaded relocated (holds t sites number o index s x is goes_there e)
-                ∙ sym (bytes_are starts file t index s loaded spells (written (meant_in p file)) own inside
-                (both (λ z. has_row z.located ≡ true → IsFit p starts code file z) (IsSiteIn index s) (λ z. has_row z.located ≡ true → spells (mapped_at starts file z) ≡ flat_map (written (meant_in p file)) (parts_of t z)) own
-                (λ z h k row. spell file s z goes_there k.home (h row)) (fits stop starts_at) inside))
-                ∙ ap (flat_map spells) (sym (mapped index));
+                bytes_linked p all starts file sites number o sections low are settled code all_worths whole codes plain address index s x is at there none loaded relocated (holds t sites number o index s x is goes_there e)
+                ∙ sym (bytes_are starts file t index s loaded spells (written (meant_in p file) (all_worths file index)) 0 own inside is.tile
+                (both (λ z. has_row z.located ≡ true → IsFit p starts code all_worths file z) (IsSiteIn index s)
+                (λ z. has_row z.located ≡ true → spells (mapped_at starts file z) ≡ written_from (written (meant_in p file) (all_worths file index)) z.offset (parts_of t z)) own
+                (λ z h k row. spell file s z goes_there k.home (h row)
+                ∙ ap (λ j. written_from (written (meant_in p file) (all_worths file j)) z.offset (parts_of t z)) k.stands) (fits stop starts_at) inside))
+                ∙ ap (flat_map spells) (sym (whole.mapped index));
             each = λ stop starts_at.
-                subst (λ l. AllByRecursion P l) (sym (mapped index))
-                (all_mapped file own (both (λ z. has_row z.located ≡ true → IsFit p starts code file z) (IsSiteIn index s) (λ z. has_row z.located ≡ true → P (mapped_at starts file z)) own
+                subst (λ l. AllByRecursion P l) (sym (whole.mapped index))
+                (all_mapped file own (both (λ z. has_row z.located ≡ true → IsFit p starts code all_worths file z) (IsSiteIn index s) (λ z. has_row z.located ≡ true → P (mapped_at starts file z)) own
                 (λ z h k row. fitted file s z goes_there k.home (h row)) (fits stop starts_at) inside));
           }
         where
@@ -190,7 +194,7 @@ module _ (p : Program) (all : List Object) (starts : Starts) (spells : Mapped �
           let there : slice_get o.sections index ≡ Some x = ap (slice_get o.sections) (let e : index ≡ index + 0 = omega arith in e) ∙ at' 0 in
           let next : (j : ℕ) → suc index + j ≡ index + suc j = λ j. omega arith in
           go (goes x) (goes_source s) refl (same_by t sites number o index s x is)
-          (λ e. good_one index s x is here (plain index x there) e (first x.loaded (is.loaded ∙ loads s e) r))
+          (λ e. good_one index s x is here there (plain index x there) e (first x.loaded (is.loaded ∙ loads s e) r))
           (good_from (suc index) ss xs h (λ j. ap (slice_get sections) (next j) ∙ at (suc j)) (λ j. ap (slice_get o.sections) (next j) ∙ at' (suc j)) (rest x.loaded r))
         where
           i : InputSection

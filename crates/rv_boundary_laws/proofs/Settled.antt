@@ -1,12 +1,12 @@
 -- The statements of a section: where their rows stand, and that those without a row have no bytes.
 
-use Rattle.std.proofs.Common.{◌≡◌, ℕ, suc, ◌+◌, Bool, true, false, List, [], ◌∷◌, ◌++◌, length, refl, sym, ap, ◌∙◌, subst, arith, map, Some, None}
+use Rattle.std.proofs.Common.{◌≡◌, ℕ, suc, ◌+◌, Bool, true, false, List, [], ◌∷◌, ◌++◌, length, length-append, refl, sym, ap, ◌∙◌, subst, arith, map, Some, None}
 use Rattle.std.proofs.lemmas.Bool.{eqb-true}
 use Rattle.std.proofs.lemmas.List.Sums.{sum_by-cons}
 use Rattle.std.specs.Prelude.{⊤, ◌&&◌, ◌==◌, if◌then◌else◌, flat_map}
 use Rattle.std.specs.List.{AllByRecursion, slice_get}
-use Rattle.rv_text_laws.specs.Values.{Value}
-use Rattle.rv_statement.specs.Statement.{StatementKind, Label, Numbered, Instruction, Directs, Statement, Expression, Enters, Opens, Globl, Local, Sets, Aligns_to_power, Aligns_to_bytes, Values, Strings, Zeros, Chooses, Ignored}
+use Rattle.rv_statement.specs.declared.mnemonic.Mnemonic.{Mnemonic}
+use Rattle.rv_statement.specs.Statement.{StatementKind, Label, Numbered, Instruction, Directs, Statement, Operand, Enters, Opens, Globl, Local, Sets, Aligns_to_power, Aligns_to_bytes, Values, Strings, Zeros, Chooses, Ignored}
 use Rattle.rv_unit_laws.specs.Sections.{Section, text_section}
 use Rattle.rv_unit_laws.specs.Tables.{Tables, at_start, after, tables, opened_of}
 use Rattle.rv_source_laws.specs.Located.{Located, located_from, is_placed, has_row}
@@ -16,30 +16,29 @@ use Rattle.rv_map.specs.declared.map.Row.{Row as MapRow}
 use Rattle.rv_chain_laws.proofs.Held.{IsHeld, Held, held_of}
 use Rattle.rv_chain_laws.proofs.Homes.{IsHomeIn, homes_from}
 use Rattle.rv_assemble_laws.specs.Refusals.{statements_fault}
-use Rattle.rv_assemble_laws.specs.Templates.{templates}
-use Rattle.rv_assemble_laws.specs.Sites.{Site, Part, form, parts_of, parts, part_bytes, sites_in, Tile, end_of}
+use Rattle.rv_assemble_laws.specs.Sites.{Site, Part, templates, parts_of, parts, part_bytes, sites_in, Tile, end_of}
 use Rattle.rv_assemble_laws.proofs.Faultless.{no_first_fault}
 use Rattle.rv_object_laws.specs.Inputs.{Starts}
-use Rattle.rv_boundary_laws.proofs.Patches.{append_assoc}
+use Rattle.rv_boundary_laws.proofs.Patches.{append_assoc, written_from}
 use Rattle.rv_boundary_laws.proofs.Statements.{row_in, mapped_at, mapped_from}
 
 -- ---- a statement
 
 -- a statement without a place has no bytes
-unplaced_by : (t : Tables) (k : ℕ) (kind : StatementKind) → is_placed t k kind ≡ false → (v : Expression → Value) (bytes : ℕ) (coded : List (List ℕ)) → templates v kind bytes coded ≡ []
-unplaced_by t k (Label name) e v bytes coded = absurd (cc)
-unplaced_by t k (Numbered number) e v bytes coded = absurd (cc)
-unplaced_by t k (Instruction mnemonic operands) e v bytes coded = absurd (cc)
-unplaced_by t k (Directs (Sets name x)) e v bytes coded = refl
-unplaced_by t k (Directs (Values width values)) e v bytes coded = absurd (cc)
-unplaced_by t k (Directs (Strings ended strings)) e v bytes coded = absurd (cc)
-unplaced_by t k (Directs (Zeros count)) e v bytes coded = absurd (cc)
-unplaced_by t k (Directs (Aligns_to_power x)) e v bytes coded = absurd (cc)
-unplaced_by t k (Directs (Aligns_to_bytes x)) e v bytes coded = absurd (cc)
-unplaced_by t k (Directs _) e v bytes coded = refl
+unplaced_by : (t : Tables) (k : ℕ) (kind : StatementKind) → is_placed t k kind ≡ false → (all : Tables) (z : Site) → templates all z kind ≡ []
+unplaced_by t k (Label name) e all z = absurd (cc)
+unplaced_by t k (Numbered number) e all z = absurd (cc)
+unplaced_by t k (Instruction mnemonic operands) e all z = absurd (cc)
+unplaced_by t k (Directs (Sets name x)) e all z = refl
+unplaced_by t k (Directs (Values width values)) e all z = absurd (cc)
+unplaced_by t k (Directs (Strings ended strings)) e all z = absurd (cc)
+unplaced_by t k (Directs (Zeros count)) e all z = absurd (cc)
+unplaced_by t k (Directs (Aligns_to_power x)) e all z = absurd (cc)
+unplaced_by t k (Directs (Aligns_to_bytes x)) e all z = absurd (cc)
+unplaced_by t k (Directs _) e all z = refl
 
 abbrev pub IsBare : Located → Type 0
-IsBare l = l.placed ≡ false → (v : Expression → Value) (bytes : ℕ) (coded : List (List ℕ)) → templates v l.kind bytes coded ≡ []
+IsBare l = l.placed ≡ false → (all : Tables) (z : Site) → templates all z l.kind ≡ []
 
 bare_from : (file k : ℕ) (t : Tables) (ss : List Statement) → AllByRecursion IsBare (located_from file k t ss)
 bare_from file k t [] = tt
@@ -86,6 +85,17 @@ labelled_from : (file k : ℕ) (t : Tables) (ss : List Statement) → AllByRecur
 labelled_from file k t [] = tt
 labelled_from file k t (s ∷ ss) = (label_by t k s.kind, labelled_from file (suc k) (after t k s.kind) ss)
 
+-- so has an instruction
+abbrev pub IsInstructed : Located → Type 0
+IsInstructed l = (m : Mnemonic) (os : List Operand) → l.kind ≡ Instruction m os → l.placed ≡ true
+
+instruction_by : (t : Tables) (k : ℕ) (kind : StatementKind) (m : Mnemonic) (os : List Operand) → kind ≡ Instruction m os → is_placed t k kind ≡ true
+instruction_by t k kind m os e = ap (is_placed t k) e
+
+instructed_from : (file k : ℕ) (t : Tables) (ss : List Statement) → AllByRecursion IsInstructed (located_from file k t ss)
+instructed_from file k t [] = tt
+instructed_from file k t (s ∷ ss) = (instruction_by t k s.kind, instructed_from file (suc k) (after t k s.kind) ss)
+
 -- what holds of each statement of a source without faults
 pub record IsSettled (sections : List Section) (s : Site) : Type 0 where
   pub home : slice_get sections s.located.section ≡ Some s.located.home
@@ -93,8 +103,9 @@ pub record IsSettled (sections : List Section) (s : Site) : Type 0 where
   pub bare : IsBare s.located
   pub labelled : IsLabelled s.located
   pub kind : IsKind s.located
+  pub instructed : IsInstructed s.located
 
-of_located : (P : Located → Type 0) (sites : List Site) → AllByRecursion P (map (λ s. s.located) sites) → AllByRecursion (λ s. P s.located) sites
+pub of_located : (P : Located → Type 0) (sites : List Site) → AllByRecursion P (map (λ s. s.located) sites) → AllByRecursion (λ s. P s.located) sites
 of_located P [] h = tt
 of_located P (s ∷ ss) (h, hs) = (h, of_located P ss hs)
 
@@ -104,10 +115,10 @@ front_of P (x ∷ xs) ys (h, hs) = (h, front_of P xs ys hs)
 
 settled_by : (sections : List Section) (sites : List Site) → AllByRecursion (λ s. IsHomeIn (λ f. sections) s.located) sites → AllByRecursion (λ s. Held s.located) sites
     → AllByRecursion (λ s. IsBare s.located) sites → AllByRecursion (λ s. IsLabelled s.located) sites → AllByRecursion (λ s. IsKind s.located) sites
-    → AllByRecursion (IsSettled sections) sites
-settled_by sections [] h k b l q = tt
-settled_by sections (s ∷ ss) (h, hs) (k, ks) (b, bs) (l, ls) (q, qs) =
-    (record { home = h; held = k; bare = b; labelled = l; kind = q }, settled_by sections ss hs ks bs ls qs)
+    → AllByRecursion (λ s. IsInstructed s.located) sites → AllByRecursion (IsSettled sections) sites
+settled_by sections [] h k b l q i = tt
+settled_by sections (s ∷ ss) (h, hs) (k, ks) (b, bs) (l, ls) (q, qs) (i, is) =
+    (record { home = h; held = k; bare = b; labelled = l; kind = q; instructed = i }, settled_by sections ss hs ks bs ls qs is)
 
 pub settled : (ss : List Statement) (sites : List Site) → statements_fault ss ≡ None → map (λ s. s.located) sites ≡ located_from 1 1 at_start ss
     → AllByRecursion (IsSettled (opened_of (tables ss)).sections) sites
@@ -119,6 +130,7 @@ settled ss sites good is =
     (all (IsHomeIn (λ f. sections)) (homes_from (λ f. sections) 1 1 at_start ss refl (text_section, refl)))
     (all Held (front_of Held (located_from 1 1 at_start ss) [] (held_of 1 (ss ∷ []) (no_first_fault ss good, tt))))
     (all IsBare (bare_from 1 1 at_start ss)) (all IsLabelled (labelled_from 1 1 at_start ss)) (all IsKind (kinds_from 1 1 at_start ss))
+    (all IsInstructed (instructed_from 1 1 at_start ss))
 
 -- ---- the statements of a section
 
@@ -129,12 +141,13 @@ pub record IsSiteIn (index : ℕ) (section : Section) (s : Site) : Type 0 where
   pub held : IsHeld section s.located.kind
   pub bare : IsBare s.located
   pub kind : IsKind s.located
+  pub instructed : IsInstructed s.located
 
 site_in : (sections : List Section) (index : ℕ) (section : Section) (s : Site) → slice_get sections index ≡ Some section → s.located.section ≡ index → IsSettled sections s → IsSiteIn index section s
 site_in sections index section s at stands h =
     let both : Some s.located.home ≡ Some section = sym h.home ∙ ap (slice_get sections) stands ∙ at in
     let same : s.located.home ≡ section = cc in
-    record { stands = stands; home = same; held = subst (λ x. IsHeld x s.located.kind) same h.held; bare = h.bare; kind = h.kind }
+    record { stands = stands; home = same; held = subst (λ x. IsHeld x s.located.kind) same h.held; bare = h.bare; kind = h.kind; instructed = h.instructed }
 
 pub sites_are_in : (sections : List Section) (index : ℕ) (section : Section) (sites : List Site) → slice_get sections index ≡ Some section
     → AllByRecursion (IsSettled sections) sites → AllByRecursion (IsSiteIn index section) (sites_in index sites)
@@ -154,7 +167,18 @@ no_row s section t home loaded bare none = go s.located.placed refl (ap (λ x. s
     go : (b : Bool) → s.located.placed ≡ b → (s.located.placed && section.loaded) ≡ false → parts_of t s ≡ []
     go true e f =
         let g : true ≡ false = sym loaded ∙ ap (λ x. x && section.loaded) (sym e) ∙ f in absurd (cc)
-    go false e f = ap (map (λ x. record { ordinal = s.located.ordinal; template = x })) (bare e (form t s.located) s.bytes s.coded)
+    go false e f = ap (map (λ x. record { ordinal = s.located.ordinal; template = x })) (bare e t s)
+
+pub written_join : (w : ℕ → Part → List ℕ) (offset : ℕ) (xs ys : List Part)
+    → written_from w offset (xs ++ ys) ≡ written_from w offset xs ++ written_from w (offset + length (flat_map part_bytes xs)) ys
+written_join w offset [] ys = ap (λ n. written_from w n ys) (let e : offset ≡ offset + 0 = omega arith in e)
+written_join w offset (x ∷ xs) ys =
+    let next = offset + length (part_bytes x) in
+    let long : length (part_bytes x ++ flat_map part_bytes xs) ≡ length (part_bytes x) + length (flat_map part_bytes xs) = length-append (part_bytes x) (flat_map part_bytes xs) in
+    ap (λ l. w offset x ++ l) (written_join w next xs ys)
+    ∙ ap (λ n. w offset x ++ (written_from w next xs ++ written_from w n ys))
+    (let e : next + length (flat_map part_bytes xs) ≡ offset + length (part_bytes x ++ flat_map part_bytes xs) = omega (arith, long) in e)
+    ∙ sym (append_assoc (w offset x) (written_from w next xs) (written_from w (offset + length (flat_map part_bytes (x ∷ xs))) ys))
 
 module _ (starts : Starts) (file : ℕ) (t : Tables) (index : ℕ) (section : Section) (loaded : section.loaded ≡ true) where
   abbrev rows : List Site → List MapRow
@@ -191,19 +215,25 @@ module _ (starts : Starts) (file : ℕ) (t : Tables) (index : ℕ) (section : Se
           (let f : offset + size (rows ss) ≡ offset + s.bytes + size (rows ss) = omega (arith, none) in f) ∙ ih
 
   -- the bytes of the statements that have rows are those of all statements' parts
-  pub bytes_are : (bytes : Mapped → List ℕ) (written : Part → List ℕ) (sites : List Site) → AllByRecursion (IsSiteIn index section) sites
-      → AllByRecursion (λ s. has_row s.located ≡ true → bytes (mapped_at starts file s) ≡ flat_map written (parts_of t s)) sites
-      → flat_map bytes (mapped_from starts file sites) ≡ flat_map written (parts t sites)
-  bytes_are bytes written [] h w = refl
-  bytes_are bytes written (s ∷ ss) (h, hs) (w, ws) = go (has_row s.located) refl (bytes_are bytes written ss hs ws)
+  pub bytes_are : (bytes : Mapped → List ℕ) (w : ℕ → Part → List ℕ) (offset : ℕ) (sites : List Site) → AllByRecursion (IsSiteIn index section) sites → Tile t offset sites
+      → AllByRecursion (λ s. has_row s.located ≡ true → bytes (mapped_at starts file s) ≡ written_from w s.offset (parts_of t s)) sites
+      → flat_map bytes (mapped_from starts file sites) ≡ written_from w offset (parts t sites)
+  bytes_are bytes w offset [] h tile e = refl
+  bytes_are bytes w offset (s ∷ ss) (h, hs) (at, size, tile) (e, es) = go (has_row s.located) refl (bytes_are bytes w (offset + s.bytes) ss hs tile es)
     where
-      joined : (xs ys : List Part) → flat_map written (xs ++ ys) ≡ flat_map written xs ++ flat_map written ys
-      joined [] ys = refl
-      joined (x ∷ xs) ys = ap (λ l. written x ++ l) (joined xs ys) ∙ sym (append_assoc (written x) (flat_map written xs) (flat_map written ys))
+      own : List Part
+      own = parts_of t s
 
-      go : (b : Bool) → has_row s.located ≡ b → flat_map bytes (mapped_from starts file ss) ≡ flat_map written (parts t ss)
-          → flat_map bytes (if b then mapped_at starts file s ∷ mapped_from starts file ss else mapped_from starts file ss) ≡ flat_map written (parts_of t s ++ parts t ss)
-      go true e ih =
-          ap (λ l. l ++ flat_map bytes (mapped_from starts file ss)) (w e) ∙ ap (λ l. flat_map written (parts_of t s) ++ l) ih ∙ sym (joined (parts_of t s) (parts t ss))
-      go false e ih =
-          ih ∙ ap (λ l. flat_map written (l ++ parts t ss)) (sym (no_row s section t h.home loaded h.bare e))
+      rest : List ℕ
+      rest = flat_map bytes (mapped_from starts file ss)
+
+      go : (b : Bool) → has_row s.located ≡ b → rest ≡ written_from w (offset + s.bytes) (parts t ss)
+          → flat_map bytes (if b then mapped_at starts file s ∷ mapped_from starts file ss else mapped_from starts file ss) ≡ written_from w offset (own ++ parts t ss)
+      go true f ih =
+          ap (λ l. l ++ rest) (e f) ∙ ap (λ n. written_from w n own ++ rest) at ∙ ap (λ l. written_from w offset own ++ l) ih
+          ∙ ap (λ n. written_from w offset own ++ written_from w (offset + n) (parts t ss)) size
+          ∙ sym (written_join w offset own (parts t ss))
+      go false f ih =
+          let none = bytes_none s h size f in
+          ih ∙ ap (λ n. written_from w n (parts t ss)) (let g : offset + s.bytes ≡ offset = omega (arith, none) in g)
+          ∙ ap (λ l. written_from w offset (l ++ parts t ss)) (sym (no_row s section t h.home loaded h.bare f))

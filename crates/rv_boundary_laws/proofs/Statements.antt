@@ -204,7 +204,7 @@ module _ (starts : Starts) where
 
   -- ---- the address of a statement
 
-  abbrev Test : ℕ → ℕ → MaybeMapped → Bool
+  abbrev pub Test : ℕ → ℕ → MaybeMapped → Bool
   Test file n e = (e.located.file == file) && (e.located.ordinal == n)
 
   abbrev pub row_address : ℕ → Site → Option ℕ
@@ -261,3 +261,44 @@ module _ (starts : Starts) where
       let there : suc file + i ≡ file + suc i = omega arith in
       ap (option_and_then address_of) (found_other file (file + suc i) n (other_file file (file + suc i) (inl (omega arith))) is.sites rest)
       ∙ subst (λ f. address_at rest f n ≡ option_and_then (row_address f) (site_at (sites_by sources os h i) n)) there (address_by (suc file) i n sources os h)
+
+  -- ---- the section of a statement
+
+  abbrev pub section_in : Option MaybeMapped → Option ℕ
+  section_in e = option_map (λ e. e.located.section) e
+
+  abbrev pub site_section : Option Site → Option ℕ
+  site_section s = option_map (λ s. s.located.section) s
+
+  stood_own : (file n : ℕ) (sites : List Site) (more : List MaybeMapped) → find (Test file n) more ≡ None
+      → section_in (find (Test file n) (map (statement_at file) sites ++ more)) ≡ site_section (site_at sites n)
+  stood_own file n [] more none = ap section_in none
+  stood_own file n (s ∷ ss) more none = go (s.located.ordinal == n) refl (stood_own file n ss more none)
+    where
+      test : ((file == file) && (s.located.ordinal == n)) ≡ (s.located.ordinal == n)
+      test = same_section (file == file) (s.located.ordinal == n) true (eq-eqb file file refl)
+
+      rest : Option MaybeMapped
+      rest = find (Test file n) (map (statement_at file) ss ++ more)
+
+      go : (b : Bool) → (s.located.ordinal == n) ≡ b → section_in rest ≡ site_section (site_at ss n)
+          → section_in (if (file == file) && (s.located.ordinal == n) then Some (statement_at file s) else rest)
+          ≡ site_section (if b then Some s else site_at ss n)
+      go true e ih = ap (λ b. section_in (if b then Some (statement_at file s) else rest)) (test ∙ e)
+      go false e ih = ap (λ b. section_in (if b then Some (statement_at file s) else rest)) (test ∙ e) ∙ ih
+
+  pub section_by : (file i n : ℕ) (sources : List (List Statement)) (os : List Object) (h : AreObjectsOf sources os)
+      → section_in (find (Test (file + i) n) (all_statements file sources os h)) ≡ site_section (site_at (sites_by sources os h i) n)
+  section_by file i n [] [] h = refl
+  section_by file i n [] (o ∷ os) h = absurd h
+  section_by file i n (ss ∷ sources) [] h = absurd h
+  section_by file zero n (ss ∷ sources) (o ∷ os) (is, h) =
+      let rest = all_statements (suc file) sources os h in
+      let here : file + 0 ≡ file = omega arith in
+      subst (λ f. section_in (find (Test f n) (map (statement_at file) is.sites ++ rest)) ≡ site_section (site_at is.sites n)) (sym here)
+      (stood_own file n is.sites rest (not_found (suc file) file n (omega arith) sources os h))
+  section_by file (suc i) n (ss ∷ sources) (o ∷ os) (is, h) =
+      let rest = all_statements (suc file) sources os h in
+      let there : suc file + i ≡ file + suc i = omega arith in
+      ap section_in (found_other file (file + suc i) n (other_file file (file + suc i) (inl (omega arith))) is.sites rest)
+      ∙ subst (λ f. section_in (find (Test f n) rest) ≡ site_section (site_at (sites_by sources os h i) n)) there (section_by (suc file) i n sources os h)

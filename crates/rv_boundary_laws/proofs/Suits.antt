@@ -1,13 +1,16 @@
 -- What the row of a statement owes to it, in terms of the values of its expressions.
 
-use Rattle.std.specs.Prelude.{List, ◌≡◌, ℕ, ◌+◌, ◌*◌, ◌%◌, ◌<◌, Bool, true, false, ⊤, [], length, Option, Some, None}
+use Rattle.std.specs.Prelude.{List, ◌≡◌, ℕ, ℤ, unwrap_or, ◌+◌, ◌*◌, ◌%◌, ◌<◌, Bool, true, false, ⊤, [], length, Option, Some, None}
 use Rattle.rv_text_laws.specs.Values.{Value, Constant}
 use Rattle.rv_statement.specs.Statement.{StatementKind, Label, Numbered, Instruction, Directs, Expression, Directive, Sets, Aligns_to_power, Aligns_to_bytes, Values, Strings, Zeros}
 use Rattle.rv_unit_laws.specs.Sections.{Section}
 use Rattle.rv_unit_laws.specs.Tables.{alignment_of, padding, string_bytes}
 use Rattle.rv_map.specs.declared.map.Row.{Row}
 use Rattle.rv_source_laws.specs.Fits.{is_low}
-use Rattle.rv_assemble_laws.specs.Coded.{is_constant, joined, IsCode}
+use Rattle.rv_pseudo_laws.specs.Code.{Part, code}
+use Rattle.rv_assemble_laws.specs.Coded.{is_constant, constants, IsCode}
+use Rattle.rv_assemble_laws.specs.Templates.{Open}
+use Rattle.rv_boundary_laws.proofs.Coding.{coded_bytes}
 
 abbrev pub IsMultiple : Option ℕ → ℕ → Type 0
 IsMultiple None start = ⊤
@@ -40,7 +43,8 @@ Suits f valued home rvc coded row offset start (Numbered number) = (row.bytes �
 Suits f valued home rvc coded row offset start (Instruction mnemonic operands) = IsCode f rvc mnemonic operands row.bytes coded row.instructions
 Suits f valued home rvc coded row offset start (Directs directive) = SuitsDirective f valued home row offset start directive
 
--- the bytes of a statement in code
-abbrev pub code_said : List (List ℕ) → StatementKind → List ℕ
-code_said coded (Instruction mnemonic operands) = joined coded
-code_said coded _ = []
+-- the bytes of a statement in code, whose fields take at an offset what is given
+abbrev pub code_said : (ℕ → Open → ℤ) → (Part → List Open) → (Expression → Value) → Bool → (offset bytes : ℕ) → List (List ℕ) → StatementKind → List ℕ
+code_said v fields f rvc offset bytes coded (Instruction mnemonic operands) =
+    coded_bytes v fields offset (unwrap_or (code (constants f) rvc bytes mnemonic operands) []) coded
+code_said v fields f rvc offset bytes coded _ = []

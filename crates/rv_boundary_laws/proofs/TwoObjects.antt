@@ -1,16 +1,17 @@
 -- The objects of the two files.
 
-use Rattle.std.proofs.Common.{ℕ, false, List, [], ◌∷◌, refl, arith, inl, inr, slice_index_or}
+use Rattle.std.proofs.Common.{ℕ, false, List, [], ◌∷◌, refl, arith, inl, inr, slice_index_or, map}
 use Rattle.std.specs.Int.{int_wrap}
 use Rattle.rv_statement.specs.Statement.{Label}
 use Rattle.rv_unit_laws.specs.Tables.{at_start, tables}
-use Rattle.rv_source_laws.specs.Located.{located_now}
+use Rattle.rv_source_laws.specs.Located.{located_now, located_from}
 use Rattle.rv_assemble_laws.specs.Sites.{Site, form}
 use Rattle.rv_isa.specs.declared.instruction.Inst.TheVariants as inst
 use Rattle.rv_statement.specs.declared.mnemonic.Mnemonic.TheVariants.{Ecall}
 use Rattle.rv_pseudo_laws.specs.Code.{Closed}
 use Rattle.rv_assemble_laws.specs.Coded.{IsCode}
 use Rattle.rv_assemble_laws.specs.IsObjectOf.{IsObjectOf}
+use Rattle.rv_boundary_laws.proofs.Settling.{settled_least}
 use Rattle.rv_boundary_laws.specs.TwoFiles.{first_source, second_source, first_object, second_object, first_sites, second_sites, first_number, second_number}
 
 no_site : Site
@@ -22,7 +23,6 @@ nth sites n = slice_index_or sites n no_site
 -- its one instruction, with compressed code off
 ecall : IsCode (form (tables first_source) (nth first_sites 3).located) false Ecall [] 4 ((0x73 ∷ 0 ∷ 0 ∷ 0 ∷ []) ∷ []) 1
 ecall = record {
-  known = refl;
   ps = Closed inst.Ecall ∷ [];
   parts = refl;
   coded_as = ((tt, refl, inl (refl, refl)), tt);
@@ -37,6 +37,7 @@ first_is = record {
   sites = first_sites;
   located = refl;
   places = tt;
+  least = settled_least (located_from 1 1 at_start first_source) (map (λ s. s.bytes) first_sites) refl;
   number = first_number;
   sections = (
     record {
@@ -89,6 +90,7 @@ second_is = record {
   sites = second_sites;
   located = refl;
   places = ((λ e. absurd (cc)), tt);
+  least = settled_least (located_from 1 1 at_start second_source) (map (λ s. s.bytes) second_sites) refl;
   number = second_number;
   sections = (
     record {

@@ -178,7 +178,7 @@ fn others(rt: HostRuntime) -> Result<(), Fail> {
 }
 
 /// Refused instructions, with their codes.
-const REFUSED: [(&[u8], u8, u32); 24] = [
+const REFUSED: [(&[u8], u8, u32); 21] = [
     // ranges
     (b"addiw a0, a0, 2048", 14, 1),
     (b"add a0, a1, -2049", 14, 1),
@@ -201,11 +201,8 @@ const REFUSED: [(&[u8], u8, u32); 24] = [
     (b"fence r", 7, 1),
     (b"ecall a0", 7, 1),
     (b"jalr", 7, 1),
-    // not built yet: symbols and numbers as places, expressions
+    // left out: a number as a place
     (b"lw a0, 8", 9, 1),
-    (b"lw a0, x", 9, 1),
-    (b"beq a0, a1, x", 9, 1),
-    (b"lui a0, %hi(x)", 9, 1),
 ];
 
 #[test]

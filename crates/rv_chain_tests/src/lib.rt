@@ -1,5 +1,5 @@
 //! Builds of whole sources: worked programs, the bytes of each line of code, each refusal with its line and their order,
-//! the limits, and programs that GNU's tools build too.
+//! branches at the ends of their reach, the limits, and programs that GNU's tools build too.
 //!
 //! The bytes and addresses of the table in `gnu` were made by `riscv64-unknown-elf-as -mno-relax`, with `-march=rv64imac`
 //! where code is compressed and else `rv64ima`, and `riscv64-unknown-elf-ld` (GNU Binutils 2.40), with a script that lays
@@ -20,6 +20,8 @@ mod instructions;
 mod later;
 #[cfg(test)]
 mod limits;
+#[cfg(test)]
+mod open;
 #[cfg(test)]
 mod order;
 #[cfg(test)]

@@ -1,6 +1,6 @@
 -- The rows of operations with an operand that is known: closed parts, the same whatever the form.
 
-use Rattle.std.proofs.Common.{◌≡◌, ℕ, Bool, true, false, refl, ap, ◌∙◌, ℤ, List, [], ◌∷◌, map, Option, Some, None, option_map}
+use Rattle.std.proofs.Common.{◌≡◌, ℕ, Bool, true, false, refl, sym, ap, ◌∙◌, ℤ, List, [], ◌∷◌, map, Option, Some, None, option_map}
 use Rattle.std.specs.Prelude.{not, ◌||◌, is_some}
 use Rattle.rv_isa.specs.declared.instruction.Inst.{Inst}
 use Rattle.rv_isa.specs.Operations.{of_immediate, of_shift, of_upper, of_load, of_store}
@@ -13,7 +13,7 @@ use Rattle.rv_statement.specs.declared.statement.Operation.{Operation}
 use Rattle.rv_statement.specs.declared.statement.Operation.TheVariants as operations
 use Rattle.rv_statement.specs.declared.statement.Plain.{Plain}
 use Rattle.rv_statement.specs.declared.statement.Plain.TheVariants as plains
-use Rattle.rv_statement.specs.Statement.{Expression, Applied}
+use Rattle.rv_statement.specs.Statement.{Expression, Operand, Applied}
 use Rattle.rv_statement.specs.View.{plain_of, with_operand}
 use Rattle.rv_parse_laws.specs.Syntax.{with_constant}
 use Rattle.rv_pseudo_laws.specs.Code.{Part, Closed, Open, Joined, Constants, i_type, s_type, u_type, shift_by, jalr, by_number, signed_12, upper_20, number_of, by_constant, unary}
@@ -26,7 +26,7 @@ use Rattle.rv_pseudo.specs.Templates.{all_templates, templates_of, number_operan
 use Rattle.rv_pseudo.specs.Templates as pseudo
 use Rattle.rv_pseudo.proofs.InRange.{unless_good, and_left, number_takes}
 use Rattle.rv_source_laws.specs.Lines as lines
-use Rattle.rv_instruction.specs.Code.{known_parts}
+use Rattle.rv_instruction.specs.Code.{part_of, parts_in}
 
 -- ---- a row by its constant alone
 
@@ -93,18 +93,36 @@ pub closed_map : (is : List Inst) → are_closed (map Closed is) ≡ true
 closed_map [] = refl
 closed_map (i ∷ is) = closed_map is
 
-parts_back : (ps : List Part) → are_closed ps ≡ true → ps ≡ known_parts (all_templates ps)
+each_back : (ps : List Part) → are_closed ps ≡ true → map part_of (all_templates ps) ≡ ps
+each_back [] closed = refl
+each_back (Closed i ∷ ps) closed = ap (λ t. Closed i ∷ t) (each_back ps closed)
+each_back (Open k i ∷ ps) closed = absurd (cc)
+each_back (Joined k i j ∷ ps) closed = absurd (cc)
+
+parts_back : (ps : List Part) → are_closed ps ≡ true → parts_in (all_templates ps) ≡ ps
 parts_back [] closed = refl
-parts_back (Closed i ∷ ps) closed = ap (λ t. Closed i ∷ t) (parts_back ps closed)
+parts_back (Closed i ∷ []) closed = refl
+parts_back (Closed i ∷ Closed j ∷ []) closed = refl
+parts_back (Closed i ∷ Closed j ∷ Closed k ∷ ps) closed = ap (λ t. Closed i ∷ Closed j ∷ Closed k ∷ t) (each_back ps closed)
+parts_back (Closed i ∷ Closed j ∷ Open k l ∷ ps) closed = absurd (cc)
+parts_back (Closed i ∷ Closed j ∷ Joined k l m ∷ ps) closed = absurd (cc)
+parts_back (Closed i ∷ Open k l ∷ ps) closed = absurd (cc)
+parts_back (Closed i ∷ Joined k l m ∷ ps) closed = absurd (cc)
 parts_back (Open k i ∷ ps) closed = absurd (cc)
 parts_back (Joined k i j ∷ ps) closed = absurd (cc)
 
 -- the parts of a closed row by its templates
-pub row_back : (row : Option (List Part)) (found : List Template) → closed_in row ≡ true → option_map all_templates row ≡ Some found → row ≡ Some (known_parts found)
+pub row_back : (row : Option (List Part)) (found : List Template) → closed_in row ≡ true → option_map all_templates row ≡ Some found → row ≡ Some (parts_in found)
 row_back None found closed e = absurd (cc)
 row_back (Some ps) found closed e =
     let same : all_templates ps ≡ found = cc in
-    ap Some (parts_back ps closed ∙ ap known_parts same)
+    ap Some (sym (parts_back ps closed) ∙ ap parts_in same)
+
+pub row_all_closed : (row : Option (List Part)) (ps : List Part) → closed_in row ≡ true → row ≡ Some ps → are_closed ps ≡ true
+row_all_closed None ps closed e = absurd (cc)
+row_all_closed (Some qs) ps closed e =
+    let same : qs ≡ ps = cc in
+    ap are_closed (sym same) ∙ closed
 
 -- of statements without an expression
 pub plain_closed : (p : Plain) (c : Constants) (rvc : Bool) (bytes : ℕ) → closed_in (pseudo.parts_of c rvc bytes (plain_of p)) ≡ true
@@ -197,26 +215,44 @@ abbrev pub takes_no_upper : Operation → Bool
 takes_no_upper (operations.Upper operation rd) = false
 takes_no_upper _ = true
 
+abbrev pub is_bare : Option Mnemonic → Bool
+is_bare None = true
+is_bare (Some form) = false
+
 abbrev pub takes_no_low : Operation → Bool
 takes_no_low (operations.StoreSymbol operation rs2 rt) = false
+takes_no_low (operations.Registers operation rd rs1) = is_bare (with_constant operation)
 takes_no_low operation = is_upper operation || takes_target operation
 
 abbrev pub takes_none : Operation → Function → Bool
 takes_none operation Hi = takes_no_upper operation
 takes_none operation Lo = takes_no_low operation
-takes_none operation PcrelHi = false
-takes_none operation PcrelLo = false
+takes_none operation PcrelHi = takes_no_upper operation
+takes_none operation PcrelLo = takes_no_low operation
 
 no_constant : (c : Constants) (form : Option Mnemonic) (rd rs1 : ℕ) (e : Expression) → by_constant c form rd rs1 (Applied Hi e) ≡ None
 no_constant c (Some (mnemonics.Immediate i)) rd rs1 e = refl
 no_constant c (Some (mnemonics.Shift i)) rd rs1 e = refl
 no_constant c _ rd rs1 e = refl
 
+no_distance : (c : Constants) (form : Option Mnemonic) (rd rs1 : ℕ) (e : Expression) → by_constant c form rd rs1 (Applied PcrelHi e) ≡ None
+no_distance c (Some (mnemonics.Immediate i)) rd rs1 e = refl
+no_distance c (Some (mnemonics.Shift i)) rd rs1 e = refl
+no_distance c _ rd rs1 e = refl
+
+bare_row : (c : Constants) (form : Option Mnemonic) (rd rs1 : ℕ) (o : Operand) → is_bare form ≡ true → by_constant c form rd rs1 o ≡ None
+bare_row c None rd rs1 o bare = refl
+bare_row c (Some form) rd rs1 o bare = absurd (cc)
+
 pub row_none : (operation : Operation) (function : Function) (c : Constants) (rvc : Bool) (bytes : ℕ) (e : Expression) → takes_none operation function ≡ true
     → lines.parts_of c rvc bytes (with_operand operation (Applied function e)) ≡ None
 row_none (operations.Registers operation rd rs1) Hi c rvc bytes e none = no_constant c (with_constant operation) rd rs1 e
 row_none (operations.Upper operation rd) Hi c rvc bytes e none = absurd (cc)
 row_none _ Hi c rvc bytes e none = refl
+row_none (operations.Registers operation rd rs1) PcrelHi c rvc bytes e none = no_distance c (with_constant operation) rd rs1 e
+row_none (operations.Upper operation rd) PcrelHi c rvc bytes e none = absurd (cc)
+row_none _ PcrelHi c rvc bytes e none = refl
+row_none (operations.Registers operation rd rs1) Lo c rvc bytes e none = bare_row c (with_constant operation) rd rs1 (Applied Lo e) none
 row_none (operations.Upper operation rd) Lo c rvc bytes e none = refl
 row_none (operations.LoadSymbol operation rd) Lo c rvc bytes e none = refl
 row_none (operations.Branch operation rs1 rs2) Lo c rvc bytes e none = refl
@@ -231,5 +267,18 @@ row_none operations.CallLinked Lo c rvc bytes e none = refl
 row_none operations.Tail Lo c rvc bytes e none = refl
 row_none (operations.Jump rt) Lo c rvc bytes e none = refl
 row_none _ Lo c rvc bytes e none = absurd (cc)
-row_none operation PcrelHi c rvc bytes e none = absurd (cc)
-row_none operation PcrelLo c rvc bytes e none = absurd (cc)
+row_none (operations.Registers operation rd rs1) PcrelLo c rvc bytes e none = bare_row c (with_constant operation) rd rs1 (Applied PcrelLo e) none
+row_none (operations.Upper operation rd) PcrelLo c rvc bytes e none = refl
+row_none (operations.LoadSymbol operation rd) PcrelLo c rvc bytes e none = refl
+row_none (operations.Branch operation rs1 rs2) PcrelLo c rvc bytes e none = refl
+row_none (operations.ZeroBranch operation rs) PcrelLo c rvc bytes e none = refl
+row_none (operations.SwappedBranch operation a b) PcrelLo c rvc bytes e none = refl
+row_none (operations.Jal rd) PcrelLo c rvc bytes e none = refl
+row_none operations.JalLinked PcrelLo c rvc bytes e none = refl
+row_none operations.J PcrelLo c rvc bytes e none = refl
+row_none (operations.La rd) PcrelLo c rvc bytes e none = refl
+row_none (operations.Call rd) PcrelLo c rvc bytes e none = refl
+row_none operations.CallLinked PcrelLo c rvc bytes e none = refl
+row_none operations.Tail PcrelLo c rvc bytes e none = refl
+row_none (operations.Jump rt) PcrelLo c rvc bytes e none = refl
+row_none _ PcrelLo c rvc bytes e none = absurd (cc)

@@ -3,31 +3,37 @@
 use Rattle.std.proofs.Common.{◌≡◌, ℕ, Bool, true, false, refl, sym, ap, subst, ◌∙◌, ℤ, pos, negsuc, List, [], ◌∷◌, ◌++◌, Option, Some, None, arith}
 use Rattle.std.proofs.lemmas.Int.{ints}
 use Rattle.std.proofs.lemmas.Bool.Decides.{nat_tests}
-use Rattle.std.specs.Prelude.{not, ◌&&◌, ◌||◌, is_some, if◌then◌else◌}
+use Rattle.std.specs.Prelude.{not, ◌&&◌, ◌||◌, ◌==◌, is_some, if◌then◌else◌}
 use Rattle.rv_isa.specs.Ranges.{IsSigned12}
 use Rattle.rv_isa_laws.specs.Arithmetic.{signed}
 use Rattle.rv_isa_laws.specs.Halves.{hi, lo}
 use Rattle.rv_lexer.specs.declared.fault.SourceCode.{SourceCode}
-use Rattle.rv_lexer.specs.declared.fault.SourceCode.TheVariants.{ScratchRegister, ImmediateRange}
-use Rattle.rv_text_laws.specs.Codes.{immediate_range}
+use Rattle.rv_lexer.specs.declared.fault.SourceCode.TheVariants.{ScratchRegister, ImmediateRange, NotConstant}
+use Rattle.rv_text_laws.specs.Codes.{scratch_register, not_constant, immediate_range}
 use Rattle.rv_text_laws.specs.Expression.{Primary}
 use Rattle.rv_text_laws.specs.Values as values
+use Rattle.rv_text_laws.specs.Values.{Meaning}
 use Rattle.rv_statement.specs.declared.pseudo.Function.{Function}
 use Rattle.rv_statement.specs.declared.pseudo.Function.TheVariants.{Hi, Lo, PcrelHi, PcrelLo}
 use Rattle.rv_statement.specs.declared.statement.Operation.{Operation}
 use Rattle.rv_statement.specs.declared.statement.Operation.TheVariants as operations
 use Rattle.rv_statement.specs.Statement.{Expression}
+use Rattle.rv_isa.specs.declared.operation.RegisterOperation.{RegisterOperation}
+use Rattle.rv_isa.specs.declared.operation.RegisterOperation.TheVariants.{Add, Slt, Sltu, Xor, Or, And, Addw, Sll, Srl, Sra, Sllw, Srlw, Sraw}
+use Rattle.rv_statement.specs.declared.mnemonic.Mnemonic.{Mnemonic}
+use Rattle.rv_parse_laws.specs.Syntax.{with_constant}
+use Rattle.rv_assemble_laws.specs.InstructionFaults.{is_signed_12, takes_address, distance_faults}
 use Rattle.rv_pseudo_laws.specs.Code.{Constants}
 use Rattle.rv_pseudo_laws.specs.Li.{is_signed}
 use Rattle.rv_pseudo_laws.specs.Valid as range
 use Rattle.rv_pseudo_laws.proofs.Modulo.{lo_range}
-use Rattle.rv_pseudo.specs.Faults.{takes, is_upper, takes_target, unless, operand_fault, is_bad_scratch, fault}
+use Rattle.rv_pseudo.specs.Faults.{takes, is_upper, is_low, is_immediate, takes_part, takes_target, unless, operand_fault, is_bad_scratch, fault}
 use Rattle.rv_pseudo.specs.Templates.{statement_with}
 use Rattle.rv_pseudo.proofs.InRange.{unless_good, and_left, and_right, takes_away, upper_away}
 use Rattle.rv_source_laws.specs.Lines as lines
 use Rattle.rv_unit_laws.specs.Faults.{faulty_if}
 use Rattle.rv_instruction.specs.Code.{mnemonic_of, with_part, known_as, is_taken, scratch_of, faults_of}
-use Rattle.rv_instruction.proofs.KnownRows.{takes_none, row_none}
+use Rattle.rv_instruction.proofs.KnownRows.{takes_none, takes_no_upper, takes_no_low, is_bare, row_none}
 
 -- ---- ranges
 
@@ -82,37 +88,6 @@ good_away operation (Some Hi) k f = upper_away operation (and_left (is_upper ope
 good_away operation (Some Lo) k f = takes_away operation (lo k) (and_right (not (is_upper operation)) _ (unless_good _ _ f))
 good_away operation (Some PcrelHi) k f = absurd (cc)
 good_away operation (Some PcrelLo) k f = absurd (cc)
-
-no_faults : (b : Bool) (c : ℕ) → b ≡ true → faulty_if (not b) c ≡ []
-no_faults true c e = refl
-no_faults false c e = absurd (cc)
-
-by_target : (b : Bool) (cs ds : List ℕ) → b ≡ false → ds ≡ [] → (if b then cs else ds) ≡ []
-by_target true cs ds e f = absurd (cc)
-by_target false cs ds e f = f
-
-upper_good : (operation : Operation) (k : ℤ) → is_upper operation ≡ true → takes operation k ≡ true → range.is_upper_20 k ≡ true
-upper_good (operations.Upper operation rd) k e t = t
-upper_good _ k e t = absurd (cc)
-
--- it has no fault of its own, where the table's code has none
-pub good_faultless : (operation : Operation) (function : Option Function) (n : ℕ) (l : Primary → Bool)
-    → operand_fault (known_as operation function) function (Some (signed 64 n)) ≡ None → faults_of l operation function (values.Constant n) ≡ []
-good_faultless operation None n l f =
-    let away = good_away operation None (signed 64 n) f in
-    by_target (takes_target operation) _ _ away
-    (no_faults _ immediate_range (sym (takes_same operation (signed 64 n) (signed_fits n) away) ∙ unless_good _ _ f))
-good_faultless operation (Some Hi) n l f =
-    let good = unless_good _ _ f in
-    no_faults _ immediate_range (upper_good (with_part operation) (hi (signed 64 n)) (and_left (is_upper (with_part operation)) _ good) (and_right (is_upper (with_part operation)) _ good))
-good_faultless operation (Some Lo) n l f =
-    let away = good_away (with_part operation) (Some Lo) (signed 64 n) f in
-    let good = and_right (not (is_upper (with_part operation))) _ (unless_good _ _ f) in
-    no_faults _ immediate_range
-    (ap (λ m. range.takes m (lo (signed 64 n))) (sym (part_mnemonic operation))
-    ∙ sym (takes_same (with_part operation) (lo (signed 64 n)) (lo_fits (signed 64 n)) away) ∙ good)
-good_faultless operation (Some PcrelHi) n l f = absurd (cc)
-good_faultless operation (Some PcrelLo) n l f = absurd (cc)
 
 -- ---- a constant that is not taken, though nothing is wrong with it: the table has no row
 
@@ -183,7 +158,8 @@ lo_none : (operation : Operation) (n : ℕ) → is_taken operation (Some Lo) (va
     → takes_none operation Lo ≡ true
 lo_none (operations.StoreSymbol operation rs2 rt) n untaken fits =
     absurd (let bad = by_unless false (is_signed 12 (lo (signed 64 n))) ImmediateRange refl untaken in cc)
-lo_none (operations.Registers operation rd rs1) n untaken fits = lo_by _ _ (operations.Registers operation rd rs1) n refl refl untaken refl fits
+lo_none (operations.Registers operation rd rs1) n untaken fits =
+    absurd (let bad = lo_by false false (operations.Registers operation rd rs1) n refl refl untaken refl fits in cc)
 lo_none (operations.Immediate operation rd rs1) n untaken fits = lo_by _ _ (operations.Immediate operation rd rs1) n refl refl untaken refl fits
 lo_none (operations.Shift operation rd rs1) n untaken fits = lo_by _ _ (operations.Shift operation rd rs1) n refl refl untaken refl fits
 lo_none (operations.Upper operation rd) n untaken fits = refl
@@ -209,3 +185,123 @@ untaken_rowless operation (Some Lo) n l c rvc bytes e untaken own =
     none_some _ (row_none operation Lo c rvc bytes e (lo_none operation n untaken (no_fault _ immediate_range own)))
 untaken_rowless operation (Some PcrelHi) n l c rvc bytes e untaken own = absurd (cc)
 untaken_rowless operation (Some PcrelLo) n l c rvc bytes e untaken own = absurd (cc)
+
+-- ---- an address that is not taken, though nothing is wrong with it: the same
+
+no_scratch : (b : Bool) (cs : List ℕ) → faulty_if b scratch_register ++ cs ≡ [] → b ≡ false
+no_scratch true cs e = absurd (cc)
+no_scratch false cs e = refl
+
+plain_scratch : (operation : Operation) (cs : List ℕ) → scratch_of operation ++ cs ≡ [] → is_bad_scratch operation ≡ false
+plain_scratch (operations.LoadSymbol operation rd) cs e = no_scratch (rd == 0) cs e
+plain_scratch (operations.StoreSymbol operation rs2 rt) cs e = no_scratch ((rt == 0) || (rt == rs2)) cs e
+plain_scratch (operations.Call rd) cs e = no_scratch (rd == 0) cs e
+plain_scratch (operations.Jump rt) cs e = no_scratch (rt == 0) cs e
+plain_scratch _ cs e = refl
+
+address_value : (b bad : Bool) (operation : Operation) → takes_target operation ≡ b → is_bad_scratch operation ≡ bad
+    → not (is_some (if bad then Some ScratchRegister else unless b NotConstant)) ≡ false
+    → (if b then scratch_of operation ++ [] else not_constant ∷ []) ≡ [] → ⊥
+address_value true true operation target scratch untaken own = absurd (let good = plain_scratch operation [] own in cc)
+address_value true false operation target scratch untaken own = absurd (cc)
+address_value false bad operation target scratch untaken own = absurd (cc)
+
+abbrev refused_part : Operation → Function → Type 0
+refused_part operation f = not (is_some (if is_bad_scratch operation then Some ScratchRegister else unless (takes_part f operation) NotConstant)) ≡ false
+
+address_hi : (operation : Operation) (f : Function) → takes_no_upper operation ≡ false → refused_part (with_part operation) f → takes_part f operation ≡ true → ⊥
+address_hi (operations.Upper operation rd) f upper untaken t = let same = by_unless false (takes_part f (operations.Upper operation rd)) NotConstant refl untaken in cc
+address_hi _ f upper untaken t = absurd (cc)
+
+by_upper : (b : Bool) (operation : Operation) (f : Function) → takes_no_upper operation ≡ b → refused_part (with_part operation) f
+    → (takes_no_upper operation ≡ false → takes_part f operation ≡ true) → takes_no_upper operation ≡ true
+by_upper true operation f e untaken t = e
+by_upper false operation f e untaken t = absurd (address_hi operation f e untaken (t e))
+
+is_upper_at : (operation : Operation) → takes_no_upper operation ≡ false → is_upper operation ≡ true
+is_upper_at (operations.Upper operation rd) e = refl
+is_upper_at _ e = absurd (cc)
+
+bare_by : (o : RegisterOperation) → is_immediate (with_constant o) ≡ false → is_signed_12 (with_constant o) ≡ true → is_bare (with_constant o) ≡ true
+bare_by Add i s = absurd (cc)
+bare_by Slt i s = absurd (cc)
+bare_by Sltu i s = absurd (cc)
+bare_by Xor i s = absurd (cc)
+bare_by Or i s = absurd (cc)
+bare_by And i s = absurd (cc)
+bare_by Addw i s = absurd (cc)
+bare_by Sll i s = absurd (cc)
+bare_by Srl i s = absurd (cc)
+bare_by Sra i s = absurd (cc)
+bare_by Sllw i s = absurd (cc)
+bare_by Srlw i s = absurd (cc)
+bare_by Sraw i s = absurd (cc)
+bare_by _ i s = refl
+
+low_none : (operation : Operation) (f : Function) → refused_part (with_part operation) f
+    → takes_part f (with_part operation) ≡ is_low (with_part operation) → takes_address (mnemonic_of operation) ≡ true → takes_no_low operation ≡ true
+low_none (operations.StoreSymbol operation rs2 rt) f untaken part address =
+    absurd (let bad = by_unless false (takes_part f (operations.Store operation rs2 rt)) NotConstant refl untaken in cc)
+low_none (operations.Registers operation rd rs1) f untaken part address =
+    bare_by operation (sym part ∙ by_unless false (takes_part f (operations.Registers operation rd rs1)) NotConstant refl untaken) address
+low_none (operations.Upper operation rd) f untaken part address = refl
+low_none (operations.Shift operation rd rs1) f untaken part address = absurd (cc)
+low_none (operations.Li rd) f untaken part address = absurd (cc)
+low_none (operations.Immediate operation rd rs1) f untaken part address =
+    absurd (let bad = by_unless false (takes_part f (operations.Immediate operation rd rs1)) NotConstant refl untaken in cc)
+low_none (operations.Load operation rd rs1) f untaken part address =
+    absurd (let bad = by_unless false (takes_part f (operations.Load operation rd rs1)) NotConstant refl untaken in cc)
+low_none (operations.Store operation rs2 rs1) f untaken part address =
+    absurd (let bad = by_unless false (takes_part f (operations.Store operation rs2 rs1)) NotConstant refl untaken in cc)
+low_none (operations.Jalr rd rs1) f untaken part address =
+    absurd (let bad = by_unless false (takes_part f (operations.Jalr rd rs1)) NotConstant refl untaken in cc)
+low_none (operations.JalrThen rd rs1) f untaken part address =
+    absurd (let bad = by_unless false (takes_part f (operations.JalrThen rd rs1)) NotConstant refl untaken in cc)
+low_none (operations.JalrLinked rs1) f untaken part address =
+    absurd (let bad = by_unless false (takes_part f (operations.JalrLinked rs1)) NotConstant refl untaken in cc)
+low_none (operations.Jr rs) f untaken part address =
+    absurd (let bad = by_unless false (takes_part f (operations.Jr rs)) NotConstant refl untaken in cc)
+low_none _ f untaken part address = refl
+
+append_right : (cs bs : List ℕ) → cs ++ bs ≡ [] → bs ≡ []
+append_right [] bs e = e
+append_right (c ∷ cs) bs e = absurd (cc)
+
+address_taken : (l : Primary → Bool) (mnemonic : Mnemonic) (symbol : Primary) (at : Meaning) (plus : ℕ)
+    → distance_faults l mnemonic (values.Symbolic symbol at plus) ≡ [] → takes_address mnemonic ≡ true
+address_taken l mnemonic symbol at plus own = no_fault _ not_constant (append_right _ _ own)
+
+pub address_rowless : (operation : Operation) (function : Option Function) (symbol : Primary) (at : Meaning) (plus : ℕ) (l : Primary → Bool) (c : Constants) (rvc : Bool) (bytes : ℕ) (e : Expression)
+    → is_taken operation function (values.Symbolic symbol at plus) ≡ false → faults_of l operation function (values.Symbolic symbol at plus) ≡ []
+    → is_some (lines.parts_of c rvc bytes (statement_with operation function e)) ≡ false
+address_rowless operation None symbol at plus l c rvc bytes e untaken own = absurd (address_value (takes_target operation) (is_bad_scratch operation) operation refl refl untaken own)
+address_rowless operation (Some Hi) symbol at plus l c rvc bytes e untaken own = none_some _ (row_none operation Hi c rvc bytes e (by_upper _ operation Hi refl untaken (is_upper_at operation)))
+address_rowless operation (Some PcrelHi) symbol at plus l c rvc bytes e untaken own = none_some _ (row_none operation PcrelHi c rvc bytes e (by_upper _ operation PcrelHi refl untaken (is_upper_at operation)))
+address_rowless operation (Some Lo) symbol at plus l c rvc bytes e untaken own =
+    none_some _ (row_none operation Lo c rvc bytes e (low_none operation Lo untaken refl (no_fault _ not_constant own)))
+address_rowless operation (Some PcrelLo) symbol at plus l c rvc bytes e untaken own =
+    none_some _ (row_none operation PcrelLo c rvc bytes e (low_none operation PcrelLo untaken refl (address_taken l (mnemonic_of operation) symbol at plus own)))
+
+-- ---- what is neither has a fault
+
+other_value : (b : Bool) (operation : Operation) (code : ℕ) → (if b then scratch_of operation ++ code ∷ [] else code ∷ []) ≡ [] → ⊥
+other_value true operation code own = never_last (scratch_of operation) code own
+other_value false operation code own = absurd (cc)
+
+pub difference_faulty : (operation : Operation) (function : Option Function) (symbol minus : Primary) (plus : ℕ) (l : Primary → Bool) → faults_of l operation function (values.Difference symbol minus plus) ≡ [] → ⊥
+difference_faulty operation None symbol minus plus l own = other_value (takes_target operation) operation _ own
+difference_faulty operation (Some Hi) symbol minus plus l own = absurd (cc)
+difference_faulty operation (Some Lo) symbol minus plus l own = absurd (cc)
+difference_faulty operation (Some PcrelHi) symbol minus plus l own = absurd (cc)
+difference_faulty operation (Some PcrelLo) symbol minus plus l own = absurd (cc)
+
+pub faulty_faulty : (operation : Operation) (function : Option Function) (code : ℕ) (l : Primary → Bool) → faults_of l operation function (values.Faulty code) ≡ [] → ⊥
+faulty_faulty operation None code l own = other_value (takes_target operation) operation code own
+faulty_faulty operation (Some Hi) code l own = absurd (cc)
+faulty_faulty operation (Some Lo) code l own = absurd (cc)
+faulty_faulty operation (Some PcrelHi) code l own = absurd (cc)
+faulty_faulty operation (Some PcrelLo) code l own = absurd (cc)
+
+pub no_scratch_fault : (b : Bool) (o : Option SourceCode) → (if b then Some ScratchRegister else o) ≡ None → b ≡ false
+no_scratch_fault true o e = absurd (cc)
+no_scratch_fault false o e = refl

@@ -1,13 +1,23 @@
 -- The lowest code of an instruction that cannot be placed.
 
-use Rattle.std.proofs.Common.{◌≡◌, ℕ, Bool, true, false, List, [], ◌∷◌, Option, Some, None, sym, ap, ◌∙◌}
+use Rattle.std.proofs.Common.{◌≡◌, ℕ, Bool, true, false, List, [], ◌∷◌, Option, Some, None, Result, inr, refl, sym, ap, subst, ◌∙◌}
+use Rattle.arrayvec.specs.ArrayVec.{ArrayVec}
+use Rattle.rv_text_laws.specs.Expression.{Primary}
+use Rattle.rv_text_laws.specs.Values as values
+use Rattle.rv_lexer.specs.declared.fault.SourceCode.{SourceCode}
+use Rattle.rv_lexer.specs.declared.fault.SourceFault.{SourceFault}
+use Rattle.rv_lexer.specs.Fault.{number_of}
+use Rattle.rv_statement.specs.declared.pseudo.Function.{Function}
+use Rattle.rv_statement.specs.declared.statement.Operation.{Operation}
+use Rattle.rv_unit.specs.Faults.{IsLowest}
+use Rattle.rv_pseudo.specs.declared.template.Template.{Template}
+use Rattle.rv_assemble_laws.proofs.Held.{no_lowest}
+use Rattle.rv_instruction.specs.Code.{faults_of, IsElseUnplaced, IsTaken, IsBuilt}
 use Rattle.std.specs.Prelude.{◌&&◌, not, min, is_some, option_map}
 use Rattle.rv_text_laws.specs.Codes.{unsupported_here}
 use Rattle.rv_unit_laws.specs.Faults.{faulty_if, lowest}
 use Rattle.rv_source_laws.specs.Fits.{is_low}
-use Rattle.rv_assemble_laws.specs.InstructionFaults.{else_unplaced}
 use Rattle.rv_assemble_laws.specs.Refusals.{padding_faults}
-use Rattle.rv_assemble_laws.proofs.Held.{no_lowest}
 
 pub some_mapped : {X Y : Type 0} (f : X → Y) (o : Option X) (p : Option Y) → option_map f o ≡ p → is_some o ≡ is_some p
 some_mapped f None p e = ap is_some e
@@ -23,13 +33,6 @@ with_code c found = elim found [
 pub first_lowest : (c : ℕ) (cs : List ℕ) (found : Option ℕ) → found ≡ lowest cs → with_code c found ≡ lowest (c ∷ cs)
 first_lowest c cs found e = ap (with_code c) e
 
-pub unplaced_none : (cs : List ℕ) → None ≡ lowest cs → lowest (else_unplaced false cs) ≡ Some unsupported_here
-unplaced_none cs e = ap (λ l. lowest (else_unplaced false l)) (no_lowest cs (sym e))
-
-pub unplaced_some : (cs : List ℕ) (c : ℕ) → Some c ≡ lowest cs → lowest (else_unplaced false cs) ≡ Some c
-unplaced_some [] c e = absurd (cc)
-unplaced_some (d ∷ ds) c e = sym e
-
 -- an alignment without padding in code has no fault, one with padding cannot be placed
 pub padded_low : (faults : List ℕ) (executable : Bool) (alignment : Option ℕ) → faults ≡ padding_faults executable alignment
     → (not (is_low alignment) && executable) ≡ false → faults ≡ []
@@ -38,3 +41,12 @@ padded_low faults executable alignment e none = e ∙ ap (λ b. faulty_if b unsu
 pub padded_high : (faults : List ℕ) (executable : Bool) (alignment : Option ℕ) → faults ≡ padding_faults executable alignment
     → (not (is_low alignment) && executable) ≡ true → lowest faults ≡ Some unsupported_here
 padded_high faults executable alignment e some = ap lowest (e ∙ ap (λ b. faulty_if b unsupported_here) some)
+
+-- templates where nothing is wrong, or that there is no row
+pub built_by : (l : Primary → Bool) (operation : Operation) (function : Option Function) (v : values.Value) (rvc : Bool) (bytes line : ℕ) (found : Option (ArrayVec Template))
+    (r : Result (ArrayVec Template) SourceFault) → IsElseUnplaced found line r → (fault : Option SourceCode) → fault ≡ None → IsLowest fault (faults_of l operation function v)
+    → IsTaken operation function v rvc bytes found → IsBuilt l operation function v rvc bytes line r
+built_by l operation function v rvc bytes line (Some found) r same fault none low taken =
+    subst (IsBuilt l operation function v rvc bytes line) (sym same) (no_lowest _ (sym low ∙ ap (option_map number_of) none), taken)
+built_by l operation function v rvc bytes line None r (code, number, same) fault none low untaken =
+    subst (IsBuilt l operation function v rvc bytes line) (sym same) (inr (no_lowest _ (sym low ∙ ap (option_map number_of) none), untaken, number), refl)

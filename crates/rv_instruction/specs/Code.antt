@@ -1,14 +1,19 @@
 -- The code of a statement, and the faults of one.
 
-use Rattle.std.specs.Prelude.{◌≡◌, ⊤, ℕ, ℤ, Bool, true, false, ◌||◌, ◌==◌, List, [], ◌∷◌, ◌++◌, length, map, Option, Some, None, is_some, not, Result, Ok, Err, if◌then◌else◌}
-use Rattle.std.specs.List.{AllByRecursion}
+use Rattle.std.specs.Prelude.{◌≡◌, ◌⊎◌, ⊤, ℕ, ℤ, Bool, true, false, ◌||◌, ◌==◌, List, [], ◌∷◌, ◌++◌, length, map, sum_by, Option, Some, None, is_some, not, Result, Ok, Err, if◌then◌else◌}
+use Rattle.std.specs.List.{AllByRecursion, list_all}
 use Rattle.arrayvec.specs.ArrayVec.{ArrayVec}
+use Rattle.rv_isa.specs.declared.instruction.Inst.{Inst}
+use Rattle.rv_isa.specs.declared.kind.Kind.{Kind}
+use Rattle.rv_isa.specs.declared.kind.Kind.TheVariants as kinds
+use Rattle.rv_isa.specs.Kinds.{width_of}
 use Rattle.rv_isa.specs.Ranges.{IsValid}
 use Rattle.rv_isa_laws.specs.Arithmetic.{signed}
 use Rattle.rv_isa_laws.specs.Bytes.{little_endian}
-use Rattle.rv_text_laws.specs.Codes.{scratch_register}
+use Rattle.rv_text_laws.specs.Codes.{scratch_register, unsupported_here}
 use Rattle.rv_text_laws.specs.Expression.{Primary}
 use Rattle.rv_text_laws.specs.Values as values
+use Rattle.rv_lexer.specs.declared.fault.SourceCode.{SourceCode}
 use Rattle.rv_lexer.specs.declared.fault.SourceFault.{SourceFault}
 use Rattle.rv_lexer.specs.declared.fault.SourceFault.TheVariants.{At, OutOfMemory}
 use Rattle.rv_lexer.specs.Fault.{number_of}
@@ -18,76 +23,198 @@ use Rattle.rv_statement.specs.declared.pseudo.Function.{Function}
 use Rattle.rv_statement.specs.declared.pseudo.Function.TheVariants.{Hi, Lo, PcrelHi, PcrelLo}
 use Rattle.rv_statement.specs.declared.statement.Operation.{Operation}
 use Rattle.rv_statement.specs.declared.statement.Operation.TheVariants as operations
-use Rattle.rv_statement.specs.Statement.{StatementKind, Instruction, Expression, Statement}
+use Rattle.rv_statement.specs.Statement.{StatementKind, Instruction, Operand, Expression, Statement}
 use Rattle.rv_unit_laws.specs.Faults.{faulty_if, lowest, constant_faults}
-use Rattle.rv_pseudo_laws.specs.Code.{Part, Closed, Constants, code}
-use Rattle.rv_pseudo_laws.specs.Valid.{AreOperandsOf}
+use Rattle.rv_layout_laws.specs.declared.item.Forms.{Forms}
+use Rattle.rv_layout_laws.specs.Branches.{Offers}
+use Rattle.rv_patch_laws.specs.Encoded.{HasShort}
+use Rattle.rv_pseudo_laws.specs.Code.{Part, Closed, Open, Joined, Constants, code}
+use Rattle.rv_pseudo_laws.specs.Filled.{are_closed, code_bytes}
+use Rattle.rv_pseudo_laws.specs.Valid.{AreOperandsOf, IsOpen}
 use Rattle.rv_pseudo.specs.declared.template.Form.{Form}
 use Rattle.rv_pseudo.specs.declared.template.Template.{Template}
 use Rattle.rv_pseudo.specs.Faults.{takes_target, fault}
-use Rattle.rv_pseudo.specs.Templates.{templates, statement_with}
-use Rattle.rv_assemble_laws.specs.Coded.{IsCode, constants, are_known, joined}
-use Rattle.rv_assemble_laws.specs.InstructionFaults.{number_faults, target_faults, upper_faults, low_faults, distance_faults, else_unplaced}
+use Rattle.rv_pseudo.specs.Templates.{templates, statement_with, asked_bytes}
+use Rattle.rv_assemble_laws.specs.Coded.{IsCode, constants, joined}
+use Rattle.rv_assemble_laws.specs.InstructionFaults.{number_faults, target_faults, upper_faults, low_faults, distance_faults}
 use Rattle.rv_assemble_laws.specs.Refusals.{code_faults}
+use Rattle.rv_assemble_laws.specs.Sizes.{near_forms}
 use Rattle.rv_instruction.specs.declared.encoded.Encoded.{Encoded}
-use Rattle.rv_instruction.specs.declared.encoded.Encoded.TheVariants.{Parcel, Word}
+use Rattle.rv_instruction.specs.declared.encoded.Encoded.TheVariants.{Parcel, Word, Pair}
+use Rattle.rv_instruction.specs.declared.encoded.Coded.{Coded}
 
--- ---- one statement
+-- ---- one part
 
--- an instruction as it lies in memory
+-- a part of a statement's code as it lies in memory
 abbrev pub encoded_bytes : Encoded → List ℕ
 encoded_bytes (Parcel p) = little_endian 2 p
 encoded_bytes (Word w) = little_endian 4 w
+encoded_bytes (Pair v w) = little_endian 4 v ++ little_endian 4 w
 
-abbrev pub coded_by : List Encoded → List (List ℕ)
-coded_by found = map encoded_bytes found
+-- how many instructions it is
+abbrev pub encoded_instructions : Encoded → ℕ
+encoded_instructions (Pair v w) = 2
+encoded_instructions e = 1
 
--- the code of a statement with these values, where compressed code is on or off; what is no
--- instruction has none
+abbrev pub coded_by : List Coded → List (List ℕ)
+coded_by found = map (λ (c : Coded). encoded_bytes c.encoded) found
+
+abbrev pub instructions_of : List Coded → ℕ
+instructions_of found = sum_by (λ (c : Coded). encoded_instructions c.encoded) found
+
+-- the kind of the field that a part leaves open, if it leaves one, and how many instructions it is
+pub record Shape : Type 0 where
+  pub kind : Option Kind
+  pub instructions : ℕ
+
+abbrev pub shape_by : Option Kind → ℕ → Shape
+shape_by k n = record { kind = k; instructions = n }
+
+abbrev pub shape_of : Part → Shape
+shape_of (Closed i) = shape_by None 1
+shape_of (Open k i) = shape_by (Some k) 1
+shape_of (Joined k i j) = shape_by (Some k) 2
+
+abbrev pub shape_in : Coded → Shape
+shape_in c = shape_by c.kind (encoded_instructions c.encoded)
+
+-- ---- one statement
+
+-- how long a branch or a jump is asked to be: in one of its forms
+abbrev pub OffersAny : Option Forms → ℕ → Type 0
+OffersAny None bytes = ⊤
+OffersAny (Some forms) bytes = Offers forms bytes
+
+abbrev pub near_forms_of : Bool → StatementKind → Option Forms
+near_forms_of rvc (Instruction mnemonic operands) = near_forms rvc mnemonic operands
+near_forms_of rvc _ = None
+
+abbrev pub MayHave : Bool → StatementKind → ℕ → Type 0
+MayHave rvc kind bytes = OffersAny (near_forms_of rvc kind) bytes
+
+-- the code of an instruction with these values, asked for so many bytes where it is a branch or a
+-- jump, where compressed code is on or off
+pub record IsCodeOf (v : Expression → values.Value) (rvc : Bool) (bytes : ℕ) (mnemonic : Mnemonic)
+    (operands : List Operand) (found : List Coded) : Type 0 where
+  pub is : IsCode v rvc mnemonic operands (length (joined (coded_by found))) (coded_by found)
+      (instructions_of found)
+  -- its parts are those of the form that was asked for
+  pub asked : code (constants v) rvc (asked_bytes mnemonic bytes) mnemonic operands ≡ Some is.ps
+  pub shapes : map shape_in found ≡ map shape_of is.ps
+  -- a branch or a jump that may be near has the bytes that were asked for
+  pub near : is_some (near_forms rvc mnemonic operands) ≡ true →
+      length (joined (coded_by found)) ≡ bytes
+
+-- the code of a statement; what is no instruction has none
 abbrev pub HasCode :
-    (Expression → values.Value) → Bool → StatementKind → List Encoded → Type 0
-HasCode v rvc (Instruction mnemonic operands) found =
-    IsCode v rvc mnemonic operands (length (joined (coded_by found))) (coded_by found)
-    (length found)
-HasCode v rvc kind found = found ≡ []
+    (Expression → values.Value) → Bool → ℕ → StatementKind → List Coded → Type 0
+HasCode v rvc bytes (Instruction mnemonic operands) found =
+    IsCodeOf v rvc bytes mnemonic operands found
+HasCode v rvc bytes kind found = found ≡ []
 
 -- the code of a statement in a section of code or not, or the lowest code of its faults; l says
 -- which symbols are labels of the file
 abbrev pub Codes :
-    Bool → Bool → (Expression → values.Value) → (Primary → Bool) → Statement
-    → Result (ArrayVec Encoded) SourceFault → Type 0
-Codes executable rvc v l s (Ok found) =
-    (code_faults executable v l s.kind ≡ []) × HasCode v rvc s.kind found.items
-Codes executable rvc v l s (Err (At code at)) =
+    Bool → Bool → ℕ → (Expression → values.Value) → (Primary → Bool) → Statement
+    → Result (ArrayVec Coded) SourceFault → Type 0
+Codes executable rvc bytes v l s (Ok found) =
+    (code_faults executable v l s.kind ≡ []) × HasCode v rvc bytes s.kind found.items
+Codes executable rvc bytes v l s (Err (At code at)) =
     (lowest (code_faults executable v l s.kind) ≡ Some (number_of code)) × (at ≡ s.line)
-Codes executable rvc v l s (Err OutOfMemory) = ⊥
+Codes executable rvc bytes v l s (Err OutOfMemory) = ⊥
 
--- ---- the templates of one whose operands are known
+-- ---- templates as parts
+
+-- the relocation of a call stands at the first of its two instructions
+abbrev pub is_call : Option Kind → Bool
+is_call (Some kinds.CallPlt) = true
+is_call _ = false
+
+abbrev pub part_by : Inst → Option Kind → Part
+part_by i None = Closed i
+part_by i (Some k) = Open k i
+
+abbrev pub part_of : Template → Part
+part_of t = part_by t.inst t.reloc
+
+abbrev pub is_pair : List Template → Bool
+is_pair [] = false
+is_pair (t ∷ []) = false
+is_pair (t ∷ u ∷ []) = is_call t.reloc
+is_pair (t ∷ u ∷ w ∷ ts) = false
+
+abbrev pub call_of : Inst → Inst → Part
+call_of i j = Joined kinds.CallPlt i j
+
+abbrev pub pair_of : Template → Template → List Part
+pair_of t u =
+    if is_call t.reloc then call_of t.inst u.inst ∷ []
+    else part_of t ∷ part_of u ∷ []
+
+abbrev pub parts_in : List Template → List Part
+parts_in [] = []
+parts_in (t ∷ []) = part_of t ∷ []
+parts_in (t ∷ u ∷ []) = pair_of t u
+parts_in (t ∷ u ∷ w ∷ ts) = part_of t ∷ part_of u ∷ part_of w ∷ map part_of ts
 
 -- instructions without open fields, as parts of a statement's code
 abbrev pub known_parts : List Template → List Part
 known_parts templates = map (λ t. Closed t.inst) templates
 
-abbrev pub AreValid : List Template → Type 0
-AreValid templates = AllByRecursion (λ t. IsValid t.inst) templates
+-- no field is open
+abbrev pub is_closed : Template → Bool
+is_closed t = not (is_some t.reloc)
 
--- these are the instructions of a statement, however long a branch is
+abbrev pub are_all_closed : List Template → Bool
+are_all_closed templates = list_all is_closed templates
+
+-- the fields of two bytes, of parcels
+abbrev pub is_short : Kind → Bool
+is_short kinds.RvcBranch = true
+is_short kinds.RvcJump = true
+is_short k = false
+
+-- a part has bytes: its operands are in range, and an open field of two bytes is one of a parcel
+abbrev pub IsCodable : Part → Type 0
+IsCodable (Closed i) = IsValid i
+IsCodable (Open k i) =
+    IsOpen k i
+    × (((is_short k ≡ false) × (width_of k ≡ 4)) ⊎ ((is_short k ≡ true) × HasShort i))
+IsCodable (Joined k i j) = IsOpen k i × IsOpen k j × (width_of k ≡ 8)
+
+abbrev pub AreCodableEach : List Template → Type 0
+AreCodableEach templates = AllByRecursion (λ t. IsCodable (part_of t)) templates
+
+abbrev pub AreCodable : List Template → Type 0
+AreCodable templates = AllByRecursion IsCodable (parts_in templates)
+
+-- these are the instructions of an instruction
+pub record AreTemplatesOf (v : Expression → values.Value) (rvc : Bool) (bytes : ℕ)
+    (mnemonic : Mnemonic) (operands : List Operand) (found : List Template) : Type 0 where
+  pub asked : code (constants v) rvc (asked_bytes mnemonic bytes) mnemonic operands
+      ≡ Some (parts_in found)
+  -- and those of the bytes that they have
+  pub own : (size : ℕ) → (are_closed (parts_in found) ≡ false → size ≡ code_bytes (parts_in found))
+      → code (constants v) rvc size mnemonic operands ≡ Some (parts_in found)
+  pub near : OffersAny (near_forms rvc mnemonic operands) bytes →
+      is_some (near_forms rvc mnemonic operands) ≡ true →
+      (are_closed (parts_in found) ≡ false) × (code_bytes (parts_in found) ≡ bytes)
+
 abbrev pub HasTemplates :
-    (Expression → values.Value) → Bool → StatementKind → List Template → Type 0
-HasTemplates v rvc (Instruction mnemonic operands) found =
-    (are_known v operands ≡ true)
-    × ((bytes : ℕ) → code (constants v) rvc bytes mnemonic operands ≡ Some (known_parts found))
-HasTemplates v rvc kind found = found ≡ []
+    (Expression → values.Value) → Bool → ℕ → StatementKind → List Template → Type 0
+HasTemplates v rvc bytes (Instruction mnemonic operands) found =
+    AreTemplatesOf v rvc bytes mnemonic operands found
+HasTemplates v rvc bytes kind found = found ≡ []
 
 -- the same, or the lowest code of the statement's faults
 abbrev pub IsExpanded :
-    Bool → Bool → (Expression → values.Value) → (Primary → Bool) → Statement
+    Bool → Bool → ℕ → (Expression → values.Value) → (Primary → Bool) → Statement
     → Result (ArrayVec Template) SourceFault → Type 0
-IsExpanded executable rvc v l s (Ok found) =
-    (code_faults executable v l s.kind ≡ []) × HasTemplates v rvc s.kind found.items
-IsExpanded executable rvc v l s (Err (At code at)) =
+IsExpanded executable rvc bytes v l s (Ok found) =
+    (code_faults executable v l s.kind ≡ []) × HasTemplates v rvc bytes s.kind found.items
+IsExpanded executable rvc bytes v l s (Err (At code at)) =
     (lowest (code_faults executable v l s.kind) ≡ Some (number_of code)) × (at ≡ s.line)
-IsExpanded executable rvc v l s (Err OutOfMemory) = ⊥
+IsExpanded executable rvc bytes v l s (Err OutOfMemory) = ⊥
 
 -- ---- operations
 
@@ -127,34 +254,44 @@ abbrev pub known_as : Operation → Option Function → Operation
 known_as operation None = operation
 known_as operation (Some function) = with_part operation
 
--- whether an operand is known, in its range and of a sort that its field takes
+-- what an operand of this value puts into a field: a constant its number, an address 0, under a
+-- relocation; nothing else may stand there
+abbrev pub number_by : values.Value → Option (Option ℤ)
+number_by (values.Constant n) = Some (Some (signed 64 n))
+number_by (values.Symbolic symbol at plus) = Some None
+number_by _ = None
+
+-- whether an operand is of a sort that its field takes, and in its range
+abbrev pub is_number_taken : Operation → Option Function → Option (Option ℤ) → Bool
+is_number_taken operation function None = false
+is_number_taken operation function (Some number) =
+    not (is_some (fault (known_as operation function) function number))
+
 abbrev pub is_taken : Operation → Option Function → values.Value → Bool
-is_taken operation function (values.Constant n) =
-    not (is_some (fault (known_as operation function) function (Some (signed 64 n))))
-is_taken operation function _ = false
+is_taken operation function v = is_number_taken operation function (number_by v)
 
--- the form of an operand that is a constant
-abbrev pub constant_form : ℤ → Bool → Form
-constant_form k rvc = record { value = Some k; bytes = 4; rvc = rvc }
+abbrev pub form_by : Option ℤ → Bool → ℕ → Form
+form_by number rvc bytes = record { value = number; bytes = bytes; rvc = rvc }
 
--- the templates of an operation with a constant, exactly where that has no fault
-abbrev pub IsOfConstant :
-    Operation → Option Function → ℤ → Bool → Option (ArrayVec Template) → Type 0
-IsOfConstant operation function k rvc None =
-    is_some (fault operation function (Some k)) ≡ true
-IsOfConstant operation function k rvc (Some found) =
-    (fault operation function (Some k) ≡ None)
+-- the templates of an operation with a number or an address, exactly where that has no fault
+abbrev pub IsOfNumber :
+    Operation → Option Function → Option ℤ → Bool → ℕ → Option (ArrayVec Template) → Type 0
+IsOfNumber operation function number rvc bytes None =
+    is_some (fault operation function number) ≡ true
+IsOfNumber operation function number rvc bytes (Some found) =
+    (fault operation function number ≡ None)
     × ((e : Expression) →
-    templates (constant_form k rvc) (statement_with operation function e) ≡ Some found.items)
+    templates (form_by number rvc bytes) (statement_with operation function e)
+    ≡ Some found.items)
 
 -- the same of an operand with this value, exactly where it is taken
-abbrev pub IsKnown :
-    Operation → Option Function → values.Value → Bool → Option (ArrayVec Template) → Type 0
-IsKnown operation function v rvc None = is_taken operation function v ≡ false
-IsKnown operation function v rvc (Some found) =
-    (n : ℕ)
-    × (v ≡ values.Constant n)
-    × IsOfConstant (known_as operation function) function (signed 64 n) rvc (Some found)
+abbrev pub IsTaken :
+    Operation → Option Function → values.Value → Bool → ℕ → Option (ArrayVec Template) → Type 0
+IsTaken operation function v rvc bytes None = is_taken operation function v ≡ false
+IsTaken operation function v rvc bytes (Some found) =
+    (number : Option ℤ)
+    × (number_by v ≡ Some number)
+    × IsOfNumber (known_as operation function) function number rvc bytes (Some found)
 
 -- the operands of a statement of code are in their ranges
 abbrev pub AreInRange : Constants → StatementKind → Type 0
@@ -192,17 +329,27 @@ abbrev pub faults_of : (Primary → Bool) → Operation → Option Function → 
 faults_of l operation None v = value_faults operation v
 faults_of l operation (Some function) v = function_faults l operation function v
 
--- the templates of an operation with an operand of this value, or the lowest code of its faults
+-- the templates of an operation with an operand of this value, or the lowest code of its faults; what
+-- has no fault and is not taken has no row
 abbrev pub IsBuilt :
-    (Primary → Bool) → Operation → Option Function → values.Value → Bool → ℕ
+    (Primary → Bool) → Operation → Option Function → values.Value → Bool → ℕ → ℕ
     → Result (ArrayVec Template) SourceFault → Type 0
-IsBuilt l operation function v rvc line (Ok found) =
-    IsKnown operation function v rvc (Some found)
-IsBuilt l operation function v rvc line (Err (At code at)) =
-    (is_taken operation function v ≡ false)
-    × (lowest (else_unplaced false (faults_of l operation function v)) ≡ Some (number_of code))
+IsBuilt l operation function v rvc bytes line (Ok found) =
+    (faults_of l operation function v ≡ [])
+    × IsTaken operation function v rvc bytes (Some found)
+IsBuilt l operation function v rvc bytes line (Err (At code at)) =
+    ((lowest (faults_of l operation function v) ≡ Some (number_of code))
+    ⊎ ((faults_of l operation function v ≡ []) × (is_taken operation function v ≡ false)
+    × (number_of code ≡ unsupported_here)))
     × (at ≡ line)
-IsBuilt l operation function v rvc line (Err OutOfMemory) = ⊥
+IsBuilt l operation function v rvc bytes line (Err OutOfMemory) = ⊥
+
+-- templates, or that there are none at a line
+abbrev pub IsElseUnplaced :
+    Option (ArrayVec Template) → ℕ → Result (ArrayVec Template) SourceFault → Type 0
+IsElseUnplaced (Some found) line result = result ≡ Ok found
+IsElseUnplaced None line result =
+    (code : SourceCode) × (number_of code ≡ unsupported_here) × (result ≡ Err (At code line))
 
 -- the constant that a value is, or its fault at a line
 abbrev pub IsNumber : values.Value → ℕ → Result ℕ SourceFault → Type 0

@@ -1,2 +1,4 @@
 pub mod Code
+pub mod Near
+pub mod Opened
 pub mod Scoped

@@ -9,12 +9,14 @@ ghost use Rattle.rv_statement.specs.View.{statement_of};
 ghost use Rattle.rv_unit.specs.Unit.{IsFilled, IsScope};
 ghost use Rattle.rv_source_laws.specs.Fits.{is_low};
 ghost use Rattle.rv_assemble_laws.specs.Refusals.{padding_faults, code_faults};
-ghost use Rattle.rv_instruction.specs.Code.{Codes, AreValid, HasTemplates, IsBuilt, IsExpanded, IsNumber};
+ghost use Rattle.rv_pseudo.specs.Templates.{statement_with};
+ghost use Rattle.rv_instruction.specs.Code as laws;
+ghost use Rattle.rv_instruction.specs.Code.{Codes, AreCodable, HasTemplates, IsBuilt, IsExpanded, IsNumber, MayHave};
 ghost use Rattle.rv_instruction.specs.Scoped.{values_at, labels_at};
 
 use crate::encoded::{Code, encode_all};
-use crate::known::{known, plain};
-use crate::operand::{Outcome, operand_code};
+use crate::known::{plain, taken};
+use crate::operand::{Outcome, operand_fault};
 use arrayvec::ArrayVec;
 use rv_pseudo::Templates;
 use rv_statement::{Function, Operation, Statement, StatementKind};
@@ -34,27 +36,42 @@ pub fn constant(value: Result<Value<'_>, SourceFault>, line: u32) -> Result<u64,
     }
 }
 
-/// The instructions of an operation with an operand of this value at a line, where that is known,
-/// or its fault.
+/// What no instruction can be made of.
+fn else_unplaced(found: Option<Templates>, line: u32) -> Result<Templates, SourceFault>
+    ensures { laws.IsElseUnplaced found line result }
+{
+    match found {
+        Some(templates) => Ok(templates),
+        None => Err(SourceFault::At {
+            code: SourceCode::UnsupportedHere,
+            line,
+        }),
+    }
+}
+
+/// The instructions of an operation with an operand of this value at a line, or its fault.
 fn with_value<'a>(
     scope: &Scope<'_, 'a>,
     operation: Operation,
     function: Option<Function>,
     value: &Outcome<'a>,
     compressed: bool,
+    bytes: u8,
     line: u32,
 ) -> Result<Templates, SourceFault>
-    ensures valid { IfOk result (λ t. AreValid t.items) }
+    ensures codable { (e : Expression)
+        → MayHave compressed (statement_with operation function e) bytes
+        → IfOk result (λ t. AreCodable t.items) }
     ensures built { (index : ℕ) (v : values.Value) → IsFilled (scope.now).unit.now
         → IsScope scope.now index → IsOutcome value.now line v
-        → IsBuilt (labels_at scope.now index) operation function v compressed line result }
+        → IsBuilt (labels_at scope.now index) operation function v compressed bytes line result }
 {
-    match known(&operation, function, value, compressed) {
-        Some(templates) => Ok(templates),
-        None => Err(SourceFault::At {
-            code: operand_code(scope, operation, function, value),
-            line,
-        }),
+    match operand_fault(scope, operation, function, value) {
+        Some(code) => Err(SourceFault::At { code, line }),
+        None => {
+            let found = taken(&operation, function, value, compressed, bytes);
+            else_unplaced(found, line)
+        }
     }
 }
 
@@ -71,12 +88,12 @@ fn is_padded(executable: bool, alignment: Option<u32>) -> bool
 /// What an alignment has: no instruction, and in code no padding, which cannot be placed yet.
 #[tactic(auto, using(crate::proofs::Unplaced::padded_low, crate::proofs::Unplaced::padded_high))]
 fn unpadded(executable: bool, alignment: Option<u32>, line: u32) -> Result<Templates, SourceFault>
-    ensures valid { IfOk result (λ t. AreValid t.items) }
-    ensures built { (compressed : Bool) (v : Expression → values.Value) (l : Primary → Bool)
+    ensures codable { IfOk result (λ t. AreCodable t.items) }
+    ensures built { (compressed : Bool) (bytes : ℕ) (v : Expression → values.Value) (l : Primary → Bool)
         (s : SpecStatement)
         → code_faults executable v l s.kind ≡ padding_faults executable alignment
-        → HasTemplates v compressed s.kind [] → s.line ≡ line
-        → IsExpanded executable compressed v l s result }
+        → HasTemplates v compressed bytes s.kind [] → s.line ≡ line
+        → IsExpanded executable compressed bytes v l s result }
 {
     if is_padded(executable, alignment) {
         return Err(SourceFault::At {
@@ -88,17 +105,19 @@ fn unpadded(executable: bool, alignment: Option<u32>, line: u32) -> Result<Templ
 }
 
 /// The instructions of the statement that is next, none where it is no instruction, or the lowest
-/// code of its faults as code.
+/// code of its faults as code; a branch or a jump has so many bytes.
 fn expanded<'a>(
     statement: &Statement<'a>,
     scope: &Scope<'_, 'a>,
     place: SectionOffset,
     executable: bool,
     compressed: bool,
+    bytes: u8,
 ) -> Result<Templates, SourceFault>
-    ensures valid { IfOk result (λ t. AreValid t.items) }
+    ensures codable { MayHave compressed (statement_of statement.now).kind bytes
+        → IfOk result (λ t. AreCodable t.items) }
     ensures built { (index : ℕ) → IsFilled (scope.now).unit.now → IsScope scope.now index
-        → IsExpanded executable compressed (values_at scope.now index place)
+        → IsExpanded executable compressed bytes (values_at scope.now index place)
         (labels_at scope.now index) (statement_of statement.now) result }
 {
     let line = statement.line;
@@ -106,11 +125,12 @@ fn expanded<'a>(
         StatementKind::Plain(statement) => Ok(plain(*statement, compressed)),
         StatementKind::With(operation, expression) => {
             let value = scope.value(place, expression, line);
-            with_value(scope, *operation, None, &value, compressed, line)
+            with_value(scope, *operation, None, &value, compressed, bytes, line)
         }
         StatementKind::WithFunction(operation, function, expression) => {
             let value = scope.value(place, expression, line);
-            with_value(scope, *operation, Some(*function), &value, compressed, line)
+            let function = Some(*function);
+            with_value(scope, *operation, function, &value, compressed, bytes, line)
         }
         StatementKind::AlignsToPower(exponent) => {
             let alignment = power_alignment(scope.value(place, exponent, 0));
@@ -125,26 +145,29 @@ fn expanded<'a>(
 }
 
 /// The code of the statement that is next, none where it is no instruction: in a section of code or
-/// not, where compressed code is on or off.
+/// not, where compressed code is on or off. A branch or a jump that may be near has `bytes` bytes;
+/// no other is asked.
 ///
 /// # Errors
 ///
 /// At the statement's line the lowest code of its faults as code; E9 where nothing else is wrong
-/// with an operand that is open, or with an alignment that has padding in code. Never want of
-/// memory.
+/// with an alignment that has padding in code, or with a part of an address in a field that takes
+/// none. Never want of memory.
 pub fn code<'a>(
     statement: &Statement<'a>,
     scope: &Scope<'_, 'a>,
     place: SectionOffset,
     executable: bool,
     compressed: bool,
+    bytes: u8,
 ) -> Result<Code, SourceFault>
+    requires { MayHave compressed (statement_of statement.now).kind bytes }
     ensures few { IfOk result (λ c. length c.items ≤ 8) }
     ensures codes { (index : ℕ) → IsFilled (scope.now).unit.now → IsScope scope.now index
-        → Codes executable compressed (values_at scope.now index place)
+        → Codes executable compressed bytes (values_at scope.now index place)
         (labels_at scope.now index) (statement_of statement.now) result }
 {
-    match expanded(statement, scope, place, executable, compressed) {
+    match expanded(statement, scope, place, executable, compressed, bytes) {
         Ok(templates) => Ok(encode_all(templates, compressed)),
         Err(fault) => Err(fault),
     }

@@ -1,15 +1,15 @@
-//! The instructions of a statement whose operands are known, with their operands in range.
+//! The instructions of a statement, with their operands in range.
 
-ghost use Rattle.std.specs.Prelude.{◌≡◌, ℕ, IfSome, not};
+ghost use Rattle.std.specs.Prelude.{◌≡◌, ℕ, None, Some, IfSome, not};
 ghost use Rattle.rv_isa_laws.specs.Arithmetic.{signed};
-ghost use Rattle.rv_statement.specs.Statement.{Operand};
+ghost use Rattle.rv_statement.specs.Statement.{Operand, Expression};
 ghost use Rattle.rv_statement.specs.View.{plain_of, with_operand};
 ghost use Rattle.rv_pseudo_laws.specs.Code.{Constants};
 ghost use Rattle.rv_pseudo_laws.specs.Valid.{IsOperandOf};
-ghost use Rattle.rv_pseudo.specs.Templates.{AreTemplates};
+ghost use Rattle.rv_pseudo.specs.Templates.{AreTemplates, statement_with};
 ghost use Rattle.rv_unit.specs.Faults.{ForValue};
 ghost use Rattle.rv_instruction.specs.Code as laws;
-ghost use Rattle.rv_instruction.specs.Code.{mnemonic_of, AreInRange, AreValid, IsKnown, IsOfConstant};
+ghost use Rattle.rv_instruction.specs.Code.{mnemonic_of, AreInRange, AreCodable, MayHave, IsTaken, IsOfNumber};
 
 use crate::operand::{Outcome, signed};
 use rv_pseudo::{Form, Templates, with_operand, without_operand};
@@ -91,7 +91,7 @@ fn operation_in_range(operation: &Operation)
 
 /// The instructions of a statement without an expression.
 pub(crate) fn plain(statement: Plain, compressed: bool) -> Templates
-    ensures valid { AreValid result.items }
+    ensures codable { AreCodable result.items }
     ensures is { (bytes : ℕ) → AreTemplates compressed bytes (plain_of statement) result.items }
 {
     plain_in_range(&statement);
@@ -125,14 +125,39 @@ fn of_constant(
     function: Option<Function>,
     number: u64,
     compressed: bool,
+    bytes: u8,
 ) -> Option<Templates>
-    ensures valid { IfSome result (λ t. AreValid t.items) }
-    ensures is { IsOfConstant operation function (signed 64 number) compressed result }
+    ensures codable { IfSome result (λ t. AreCodable t.items) }
+    ensures is { IsOfNumber operation function (Some (signed 64 number)) compressed bytes result }
 {
     operation_in_range(&operation);
     let form = Form {
         value: Some(signed(number)),
-        bytes: 4,
+        bytes,
+        rvc: compressed,
+    };
+    match with_operand(operation, function, form) {
+        Ok(templates) => Some(templates),
+        Err(_) => None,
+    }
+}
+
+/// The instructions of an operation with an address, or with a function of one, where its field
+/// takes that; a branch or a jump has so many bytes.
+fn of_address(
+    operation: Operation,
+    function: Option<Function>,
+    compressed: bool,
+    bytes: u8,
+) -> Option<Templates>
+    ensures codable { (e : Expression) → MayHave compressed (statement_with operation function e) bytes
+        → IfSome result (λ t. AreCodable t.items) }
+    ensures is { IsOfNumber operation function None compressed bytes result }
+{
+    operation_in_range(&operation);
+    let form = Form {
+        value: None,
+        bytes,
         rvc: compressed,
     };
     match with_operand(operation, function, form) {
@@ -142,25 +167,23 @@ fn of_constant(
 }
 
 /// The instructions of an operation with an expression of this value, or with a function of one,
-/// where that is known and the operation's field takes it.
-pub(crate) fn known(
+/// where the operation's field takes it; a branch or a jump has so many bytes.
+pub(crate) fn taken(
     operation: &Operation,
     function: Option<Function>,
     value: &Outcome<'_>,
     compressed: bool,
+    bytes: u8,
 ) -> Option<Templates>
-    ensures valid { IfSome result (λ t. AreValid t.items) }
-    ensures is { ForValue value.now (λ v. IsKnown operation.now function v compressed result) }
+    ensures codable { (e : Expression)
+        → MayHave compressed (statement_with operation.now function e) bytes
+        → IfSome result (λ t. AreCodable t.items) }
+    ensures is { ForValue value.now (λ v. IsTaken operation.now function v compressed bytes result) }
 {
+    let known = known_as(*operation, function);
     match value {
-        Ok(Value::Constant(number)) => {
-            of_constant(
-                known_as(*operation, function),
-                function,
-                *number,
-                compressed,
-            )
-        }
+        Ok(Value::Constant(number)) => of_constant(known, function, *number, compressed, bytes),
+        Ok(Value::Symbolic(..)) => of_address(known, function, compressed, bytes),
         _ => None,
     }
 }

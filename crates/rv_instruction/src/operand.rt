@@ -1,6 +1,6 @@
 //! The faults of an instruction's operands, by the values of their expressions.
 
-ghost use Rattle.std.specs.Prelude.{◌≡◌, ℕ, ◌+◌, ◌==◌, Bool, false, not, List, ◌++◌, Some, is_some};
+ghost use Rattle.std.specs.Prelude.{◌≡◌, ℕ, ◌+◌, ◌==◌, Bool, not, List, ◌++◌, is_some};
 ghost use Rattle.rv_isa_laws.specs.Arithmetic.{signed};
 ghost use Rattle.rv_text_laws.specs.Codes.{scratch_register, immediate_range};
 ghost use Rattle.rv_text_laws.specs.Expression.{Primary};
@@ -95,18 +95,6 @@ fn beside_scratch(is_bad: bool, fault: Option<SourceCode>) -> Option<SourceCode>
             SourceCode::ScratchRegister
         }),
         None => Some(SourceCode::ScratchRegister),
-    }
-}
-
-/// The code of a fault, or of what cannot be placed yet.
-#[tactic(auto, using(crate::proofs::Unplaced::unplaced_none, crate::proofs::Unplaced::unplaced_some))]
-fn else_unplaced(found: Option<SourceCode>) -> SourceCode
-    ensures { (cs : List ℕ) → IsLowest found cs
-        → faults.lowest (laws.else_unplaced false cs) ≡ Some (number_of result) }
-{
-    match found {
-        Some(code) => code,
-        None => SourceCode::UnsupportedHere,
     }
 }
 
@@ -244,7 +232,7 @@ fn distance_fault(operation: Operation, is_labelled: bool) -> Option<SourceCode>
     faulty_if(!takes_address(operation), SourceCode::NotConstant)
 }
 
-// ---- operands that are not known
+// ---- operands
 
 /// The fault of an operation with an expression of this value.
 fn value_fault(operation: Operation, value: &Outcome<'_>) -> Option<SourceCode>
@@ -276,20 +264,19 @@ fn function_fault<'a>(
     }
 }
 
-/// The lowest code of an operation with an operand that is not known, or that its field does not take.
-pub(crate) fn operand_code<'a>(
+/// The fault of an operation with an operand.
+pub(crate) fn operand_fault<'a>(
     scope: &Scope<'_, 'a>,
     operation: Operation,
     function: Option<Function>,
     value: &Outcome<'a>,
-) -> SourceCode
+) -> Option<SourceCode>
     ensures { (index : ℕ) → IsFilled (scope.now).unit.now → IsScope scope.now index
-        → ForValue value.now (λ v. faults.lowest (laws.else_unplaced false
-        (faults_of (labels_at scope.now index) operation function v))
-        ≡ Some (number_of result)) }
+        → ForValue value.now (λ v.
+        IsLowest result (faults_of (labels_at scope.now index) operation function v)) }
 {
     match function {
-        None => else_unplaced(value_fault(operation, value)),
-        Some(function) => else_unplaced(function_fault(scope, operation, function, value)),
+        None => value_fault(operation, value),
+        Some(function) => function_fault(scope, operation, function, value),
     }
 }

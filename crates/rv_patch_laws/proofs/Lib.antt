@@ -1,2 +1,3 @@
 mod Fields
 mod Parcels
+pub mod Formats

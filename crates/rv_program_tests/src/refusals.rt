@@ -25,7 +25,7 @@ fn refuses(alloc: Global, source: &[u8], line: &str) -> Result<bool, AllocError>
     Ok(true)
 }
 
-const SOURCES: [(&[u8], &str); 12] = [
+const SOURCES: [(&[u8], &str); 13] = [
     (b".option norvc\n\x80", "rv: a.s:2: E1 BadByte\n"),
     (b"\n\n\"abc", "rv: a.s:3: E2 BadToken\n"),
     (b"foo a0", "rv: a.s:1: E6 UnknownMnemonic\n"),
@@ -37,8 +37,9 @@ const SOURCES: [(&[u8], &str); 12] = [
         b".option norvc\naddi a0, a0, 2048",
         "rv: a.s:2: E14 ImmediateRange\n",
     ),
-    (b"\nla a0, x", "rv: a.s:2: E9 UnsupportedHere\n"),
+    (b"\n.align 3", "rv: a.s:2: E9 UnsupportedHere\n"),
     (b"_start:", "rv: L7 EntryMissing\n"),
+    (b".globl _start\n_start: la a0, x", "rv: L5 Undefined x\n"),
     (
         b".globl _start\n_start: .data\n.word 1, f.g$ + 4",
         "rv: L5 Undefined f.g$\n",

@@ -20,6 +20,7 @@ use Rattle.rv_sites.specs.Code.{bytes_in, section_code}
 use Rattle.rv_sites.specs.Coded.{AreCoded}
 use Rattle.rv_sites.specs.DataParts.{data_bytes, IsData}
 use Rattle.rv_sites.specs.Items.{AreItems}
+use Rattle.rv_instruction.specs.declared.encoded.Coded.{Coded as CodedPart}
 use Rattle.rv_sites.specs.Seated.{sites_of}
 use Rattle.rv_sites.specs.Sized.{AreSized}
 use Rattle.rv_sites.specs.declared.item.CodeSize.{CodeSize}
@@ -32,10 +33,10 @@ use Rattle.rv_sites.proofs.Standing.{got_or}
 use Rattle.rv_sites.proofs.Whole.{one_file}
 
 -- what the passes over a source have found
-pub record Passed (ss : List Statement) (code : List (Vec ℕ)) (sizes : List CodeSize) (d : Draft) : Type 0 where
+pub record Passed (ss : List Statement) (lengths : List ℕ) (code : List (Vec ℕ)) (sizes : List CodeSize) (d : Draft) : Type 0 where
   pub good : first_fault ss ≡ None
   pub wide : AllByRecursion (λ s. IsWideKind s.kind) ss
-  pub whole : IsWhole (tables ss) (located (ss ∷ [])) code sizes
+  pub whole : IsWhole (tables ss) (located (ss ∷ [])) lengths code sizes
   pub items : AreItems 1 at_start (λ j. 0) ss d.items.items (λ j. slice_index d.ends.items j)
   pub sized : AreSized (tables ss) 1 at_start ss d.items.items sizes
   pub low : (j : ℕ) → slice_index d.ends.items j ≤ longest_section
@@ -49,11 +50,11 @@ any_located : (sites : List Site) → list_any is_compressed_code (map (λ (s : 
 any_located [] = refl
 any_located (s ∷ ss) = ap (λ b. is_compressed_code s.located || b) (any_located ss)
 
-module _ (ss : List Statement) (code : List (Vec ℕ)) (sizes : List CodeSize) (d : Draft) (h : Passed ss code sizes d) where
+module _ (ss : List Statement) (lengths : List ℕ) (code : List (Vec ℕ)) (sizes : List CodeSize) (d : Draft) (h : Passed ss lengths code sizes d) where
   abbrev t : Tables
   t = tables ss
 
-  abbrev codes : List (List (List ℕ))
+  abbrev codes : List (List CodedPart)
   codes = h.whole.codes
 
   abbrev all : List Site

@@ -28,13 +28,13 @@ module _ (section ordinal width : ℕ) (v : Expression → Value) where
   Parts es = map (λ e. part_of ordinal (Datum width (v e))) es
 
   abbrev Own : Bool → ℕ → Expression → List Field
-  Own loaded place e = if loaded then map (field_at section ordinal place) (value_fields width (v e)) else []
+  Own loaded place e = if loaded then map (field_at section place) (value_fields ordinal width (v e)) else []
 
   joined : (loaded : Bool) (place behind : ℕ) (e : Expression) (rest : List Expression) (old : List Field) → behind ≡ place + width
       → (old ++ Own loaded place e) ++ fields_said loaded section behind (Parts rest) ≡ old ++ fields_said loaded section place (Parts (e ∷ rest))
   joined true place behind e rest old next =
-      append_assoc old (map (field_at section ordinal place) (value_fields width (v e))) (fields_from section behind (Parts rest))
-      ∙ ap (λ n. old ++ (map (field_at section ordinal place) (value_fields width (v e)) ++ fields_from section n (Parts rest)))
+      append_assoc old (map (field_at section place) (value_fields ordinal width (v e))) (fields_from section behind (Parts rest))
+      ∙ ap (λ n. old ++ (map (field_at section place) (value_fields ordinal width (v e)) ++ fields_from section n (Parts rest)))
       (next ∙ ap (λ n. place + n) (sym (value_long width (v e))))
   joined false place behind e rest old next = append-nil (old ++ [])
 

@@ -301,7 +301,7 @@ fit_one all s x coded is absent at size own held fields =
         (ap (λ b. if b then data_said s.ordinal v s.kind x.bytes else []) e)
         ∙ ap (λ l. if s.home.loaded then l else []) (sym (no_fields v s.ordinal s.options.rvc s.home x 0 s.placed coded s.section s.kind e held))
 
-pub fits_from : (all : Tables) (k : ℕ) (t : Tables) (before last : ℕ → ℕ) (ss : List Statement) (is : List Item) (codes : List (List (List ℕ))) → AreItems k t before ss is last
+pub fits_from : (all : Tables) (k : ℕ) (t : Tables) (before last : ℕ → ℕ) (ss : List Statement) (is : List Item) (codes : List (List Coded)) → AreItems k t before ss is last
     → AreSized all k t ss is (map size_of codes) → AreCoded all (located_from 1 k t ss) codes → AllByRecursion Held (located_from 1 k t ss) → AllByRecursion (HaveFields all) (located_from 1 k t ss)
     → AllByRecursion (Fit all) (sites_of (located_from 1 k t ss) is codes)
 fits_from all k t before last [] [] codes items sized coded held fields = tt

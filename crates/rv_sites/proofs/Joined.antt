@@ -1,6 +1,6 @@
 -- What one more of a list gives.
 
-use Rattle.std.proofs.Common.{append_assoc, append-nil, length-append, ◌≡◌, ℕ, ◌+◌, ◌<◌, ◌≤◌, suc, List, [], ◌∷◌, ◌++◌, length, map, drop, get_or, subst, sym, ap, ◌∙◌, arith}
+use Rattle.std.proofs.Common.{append_assoc, append-nil, length-append, ◌≡◌, ℕ, ◌+◌, ◌<◌, ◌≤◌, zero, suc, refl, take, List, [], ◌∷◌, ◌++◌, length, map, drop, get_or, subst, sym, ap, ◌∙◌, arith}
 use Rattle.std.specs.List.{drop-map}
 use Rattle.std.proofs.Math.Seq.{drop-cons}
 use Rattle.std.proofs.lemmas.List.{at_drop_all, drop_more, get_or-map, length-map}
@@ -34,3 +34,18 @@ pub left_map : {X Y : Type 0} (f : X → Y) (xs : List X) (i : ℕ) (x : X) → 
 left_map f xs i x inside is =
     drop-map f i xs ∙ ap (λ r. map f r) (drop-cons xs i x inside) ∙ ap (λ y. f y ∷ map f (drop (suc i) xs)) (sym is) ∙ ap (λ r. f x ∷ r) (sym (drop-map f (suc i) xs))
     ∙ ap (λ n. f x ∷ drop n (map f xs)) (let e : suc i ≡ i + 1 = omega arith in e)
+
+pub put_twice : (old mid new a b : List ℕ) → mid ≡ old ++ a → new ≡ mid ++ b → new ≡ old ++ (a ++ b)
+put_twice old mid new a b first second = second ∙ ap (λ l. l ++ b) first ∙ append_assoc old a b
+
+take_next : (xs : List ℕ) (i x : ℕ) → i < length xs → take (suc i) xs ≡ take i xs ++ get_or xs i x ∷ []
+take_next [] i x inside = absurd (let none : i < 0 = inside in omega arith)
+take_next (y ∷ ys) zero x inside = refl
+take_next (y ∷ ys) (suc i) x inside = ap (λ l. y ∷ l) (take_next ys i x (let h : suc i < suc (length ys) = inside in omega arith))
+
+-- lists that are alike so far, with one element more
+pub same_more : (i : ℕ) (xs ys : List ℕ) (x y : ℕ) → take i xs ≡ take i ys → i < length xs → i < length ys → get_or xs i x ≡ get_or ys i y → take (i + 1) xs ≡ take (i + 1) ys
+same_more i xs ys x y so inside within same =
+    let next : i + 1 ≡ suc i = omega arith in
+    ap (λ n. take n xs) next ∙ take_next xs i x inside ∙ ap (λ l. l ++ get_or xs i x ∷ []) so ∙ ap (λ z. take i ys ++ z ∷ []) same ∙ sym (take_next ys i y within)
+    ∙ ap (λ n. take n ys) (sym next)

@@ -12,6 +12,7 @@ pub mod LowSections
 pub mod Rooms
 pub mod Roomy
 pub mod Sectioned
+pub mod Seen
 pub mod SoFar
 pub mod SoFarItems
 pub mod SoFarSized

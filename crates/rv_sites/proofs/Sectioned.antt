@@ -21,26 +21,27 @@ use Rattle.rv_sites.specs.Code.{section_code}
 use Rattle.rv_sites.specs.Coded.{AreCoded}
 use Rattle.rv_sites.specs.DataParts.{is_filled, data_parts, data_fields, data_bytes}
 use Rattle.rv_sites.specs.Items.{IsItem, AreItems, grown}
+use Rattle.rv_instruction.specs.declared.encoded.Coded.{Coded as CodedPart}
 use Rattle.rv_sites.specs.Seated.{site_of, first_code, other_codes, sites_of}
 use Rattle.rv_sites.specs.Draft.{item_of}
 use Rattle.rv_sites.proofs.Fitted.{Fit}
 
 -- ---- the statements of sites, and their items
 
-pub all_located : (k : ℕ) (t : Tables) (before last : ℕ → ℕ) (ss : List Statement) (is : List Item) (codes : List (List (List ℕ))) → AreItems k t before ss is last
+pub all_located : (k : ℕ) (t : Tables) (before last : ℕ → ℕ) (ss : List Statement) (is : List Item) (codes : List (List CodedPart)) → AreItems k t before ss is last
     → map (λ (s : Site). s.located) (sites_of (located_from 1 k t ss) is codes) ≡ located_from 1 k t ss
 all_located k t before last [] [] codes h = refl
 all_located k t before last [] (x ∷ is) codes h = absurd h
 all_located k t before last (s ∷ ss) [] codes h = absurd h
 all_located k t before last (s ∷ ss) (x ∷ is) codes h = ap (λ l. located_now 1 k t s ∷ l) (all_located (suc k) (after t k s.kind) (grown before x) last ss is (other_codes codes) h.1)
 
-one_item : (s : Located) (before : ℕ → ℕ) (x : Item) (coded : List (List ℕ)) → IsItem s before x → item_of (site_of s x coded) ≡ x
+one_item : (s : Located) (before : ℕ → ℕ) (x : Item) (coded : List CodedPart) → IsItem s before x → item_of (site_of s x coded) ≡ x
 one_item s before x coded h =
     ap (λ n. record { section = n; offset = x.offset; bytes = x.bytes; line = s.line; shown = s.placed && s.home.loaded; instructions = x.instructions }) (sym h.section)
     ∙ ap (λ n. record { section = x.section; offset = x.offset; bytes = x.bytes; line = n; shown = s.placed && s.home.loaded; instructions = x.instructions }) (sym h.line)
     ∙ ap (λ b. record { section = x.section; offset = x.offset; bytes = x.bytes; line = x.line; shown = b; instructions = x.instructions }) (sym h.shown)
 
-pub all_items : (k : ℕ) (t : Tables) (before last : ℕ → ℕ) (ss : List Statement) (is : List Item) (codes : List (List (List ℕ))) → AreItems k t before ss is last
+pub all_items : (k : ℕ) (t : Tables) (before last : ℕ → ℕ) (ss : List Statement) (is : List Item) (codes : List (List CodedPart)) → AreItems k t before ss is last
     → map item_of (sites_of (located_from 1 k t ss) is codes) ≡ is
 all_items k t before last [] [] codes h = refl
 all_items k t before last [] (x ∷ is) codes h = absurd h
@@ -51,7 +52,7 @@ all_items k t before last (s ∷ ss) (x ∷ is) codes h =
 
 -- ---- the data of sites, which their code leaves as it is
 
-data_step : (t : Tables) (section : ℕ) (b : Bool) (l : Located) (x : Item) (coded : List (List ℕ)) (rest others : List Site)
+data_step : (t : Tables) (section : ℕ) (b : Bool) (l : Located) (x : Item) (coded : List CodedPart) (rest others : List Site)
     → flat_map part_bytes (flat_map (data_parts t) rest) ≡ flat_map part_bytes (flat_map (data_parts t) others)
     → flat_map part_bytes (flat_map (data_parts t) (if b then site_of l x coded ∷ rest else rest)) ≡ flat_map part_bytes (flat_map (data_parts t) (if b then site_of l x [] ∷ others else others))
 data_step t section true l x coded rest others h =
@@ -59,13 +60,13 @@ data_step t section true l x coded rest others h =
     bytes_append own (flat_map (data_parts t) rest) ∙ ap (λ m. flat_map part_bytes own ++ m) h ∙ sym (bytes_append own (flat_map (data_parts t) others))
 data_step t section false l x coded rest others h = h
 
-pub data_as : (t : Tables) (section : ℕ) (ls : List Located) (is : List Item) (codes : List (List (List ℕ))) → data_bytes t section (sites_of ls is codes) ≡ data_bytes t section (sites_of ls is [])
+pub data_as : (t : Tables) (section : ℕ) (ls : List Located) (is : List Item) (codes : List (List CodedPart)) → data_bytes t section (sites_of ls is codes) ≡ data_bytes t section (sites_of ls is [])
 data_as t section [] is codes = refl
 data_as t section (l ∷ ls) [] codes = refl
 data_as t section (l ∷ ls) (x ∷ is) codes =
     data_step t section (l.section == section) l x (first_code codes) (sites_in section (sites_of ls is (other_codes codes))) (sites_in section (sites_of ls is [])) (data_as t section ls is (other_codes codes))
 
-pub fields_as : (t : Tables) (ls : List Located) (is : List Item) (codes : List (List (List ℕ))) → flat_map (data_fields t) (sites_of ls is codes) ≡ flat_map (data_fields t) (sites_of ls is [])
+pub fields_as : (t : Tables) (ls : List Located) (is : List Item) (codes : List (List CodedPart)) → flat_map (data_fields t) (sites_of ls is codes) ≡ flat_map (data_fields t) (sites_of ls is [])
 fields_as t [] is codes = refl
 fields_as t (l ∷ ls) [] codes = refl
 fields_as t (l ∷ ls) (x ∷ is) codes = ap (λ m. data_fields t (site_of l x []) ++ m) (fields_as t ls is (other_codes codes))
@@ -97,7 +98,7 @@ module _ (all : Tables) (j : ℕ) where
       go true f = let g : (a == b) ≡ true = eq-eqb a b (sym (eqb-true b a f)) in absurd (cc)
       go false f = f
 
-  pub tiles : (k : ℕ) (t : Tables) (before last : ℕ → ℕ) (ss : List Statement) (is : List Item) (codes : List (List (List ℕ))) → AreItems k t before ss is last → AllByRecursion Own (sites_of (located_from 1 k t ss) is codes)
+  pub tiles : (k : ℕ) (t : Tables) (before last : ℕ → ℕ) (ss : List Statement) (is : List Item) (codes : List (List CodedPart)) → AreItems k t before ss is last → AllByRecursion Own (sites_of (located_from 1 k t ss) is codes)
       → Follows (before j) (last j) (sites_in j (sites_of (located_from 1 k t ss) is codes))
   tiles k t before last [] [] codes h own = (tt, sym (h j))
   tiles k t before last [] (x ∷ is) codes h own = absurd h
@@ -142,7 +143,7 @@ code_in_step : (j : ℕ) (b c : Bool) (s : Site) (rest : List ℕ) (sites : List
 code_in_step j true c s rest sites e h = ap (λ l. code_at s ++ l) h ∙ ap (λ d. flat_map code_at (if d then s ∷ sites else sites)) e
 code_in_step j false c s rest sites e h = h ∙ ap (λ d. flat_map code_at (if d then s ∷ sites else sites)) e
 
-pub code_in : (t : Tables) (j k : ℕ) (u : Tables) (before last : ℕ → ℕ) (ss : List Statement) (is : List Item) (codes : List (List (List ℕ))) → AreItems k u before ss is last → AreCoded t (located_from 1 k u ss) codes
+pub code_in : (t : Tables) (j k : ℕ) (u : Tables) (before last : ℕ → ℕ) (ss : List Statement) (is : List Item) (codes : List (List CodedPart)) → AreItems k u before ss is last → AreCoded t (located_from 1 k u ss) codes
     → section_code j (located_from 1 k u ss) codes ≡ flat_map code_at (sites_in j (sites_of (located_from 1 k u ss) is codes))
 code_in t j k u before last [] is codes items coded = refl
 code_in t j k u before last (s ∷ ss) [] codes items coded = absurd items

@@ -9,9 +9,10 @@ use Rattle.rv_text_laws.specs.Values.{Value}
 use Rattle.rv_unit_laws.specs.Faults.{Fault, lowest, at_line}
 use Rattle.rv_unit_laws.specs.Tables.{Tables, longest_section}
 use Rattle.rv_source_laws.specs.Located.{Located}
-use Rattle.rv_assemble_laws.specs.Coded.{joined}
+use Rattle.rv_instruction.specs.declared.encoded.Coded.{Coded}
+use Rattle.rv_instruction.specs.Code.{coded_by, instructions_of}
 use Rattle.rv_assemble_laws.specs.Refusals.{code_faults_at, code_fault_from, size_fault_from, else_fault, grown, HasCodeSize, AreCodeSizes}
-use Rattle.rv_sites.specs.Code.{bytes_in, value_at, size_of, bytes_of_codes, section_code, full_fault, full_at}
+use Rattle.rv_sites.specs.Code.{bytes_in, bytes_coded, value_at, size_of, bytes_of_codes, section_code, full_fault, full_at}
 use Rattle.rv_sites.specs.Coded.{IsCoded, AreCoded}
 use Rattle.rv_sites.specs.Added.{IsAdded, IsCodeSoFar, IsWhole, IsLong}
 use Rattle.rv_sites.specs.Sized.{bytes_of_sizes}
@@ -52,10 +53,10 @@ pub next_code : (t : Tables) (all : List Located) (s : Located) (next : List Loc
 next_code t all s next old new h a =
     let f = λ (j : ℕ). length (bytes_in old.sections.items j) in
     let g = λ (j : ℕ). length (bytes_in new.sections.items j) in
-    let code = joined a.coded in
+    let code = bytes_coded a.coded in
     let alike = λ (j : ℕ). ap length (a.grows.1 j) ∙ grown_length (j == s.section) (bytes_in old.sections.items j) code in
     let here : g s.section ≡ f s.section + length code = alike s.section ∙ ap (λ b. if b then f s.section + length code else f s.section) (same s.section) in
-    let behind : (more : List (List (List ℕ))) → (h.codes ++ a.coded ∷ []) ++ more ≡ h.codes ++ a.coded ∷ more = λ more. append_assoc h.codes (a.coded ∷ []) more in
+    let behind : (more : List (List Coded)) → (h.codes ++ a.coded ∷ []) ++ more ≡ h.codes ++ a.coded ∷ more = λ more. append_assoc h.codes (a.coded ∷ []) more in
     record {
       faults =
           sym (ap (λ fs. at_line s.line (lowest fs) (code_fault_from t next)) a.sound)
@@ -97,55 +98,62 @@ whole_sizes t all c h =
 whole_coded : (t : Tables) (all : List Located) (c : Coder) (h : IsCodeSoFar t all [] c) → AreCoded t all h.codes
 whole_coded t all c h = subst (λ l. AreCoded t all l) (append-nil h.codes) (h.coded [] tt)
 
+sizes_bytes : (codes : List (List Coded)) → bytes_of_sizes (map (λ c. size_of c) codes) ≡ bytes_of_codes codes
+sizes_bytes [] = refl
+sizes_bytes (coded ∷ codes) = ap (λ l. length (bytes_coded coded) ∷ l) (sizes_bytes codes)
+
+told_codes : (t : Tables) (all rest : List Located) (c : Coder) (lengths : List ℕ) (h : IsCodeSoFar t all rest c) → bytes_of_sizes c.sizes.items ≡ lengths → bytes_of_codes h.codes ≡ lengths
+told_codes t all rest c lengths h told = sym (sizes_bytes h.codes) ∙ ap bytes_of_sizes (sym h.counts) ∙ told
+
 -- the code is whole
-pub whole_code : (t : Tables) (all : List Located) (c : Coder) → c.full ≡ None → IsCodeSoFar t all [] c → IsWhole t all c.sections.items c.sizes.items
-whole_code t all c none h = record {
+pub whole_code : (t : Tables) (all : List Located) (c : Coder) (lengths : List ℕ) → c.full ≡ None → bytes_of_sizes c.sizes.items ≡ lengths → IsCodeSoFar t all [] c
+    → IsWhole t all lengths c.sections.items c.sizes.items
+whole_code t all c lengths none told h = record {
   faults = sym h.faults;
   codes = h.codes;
   counts = h.counts;
   coded = whole_coded t all c h;
   short = whole_sizes t all c h ∙ ap full_fault none;
   bytes = λ j. sym (append-nil (bytes_in c.sections.items j)) ∙ h.bytes [] j ∙ ap (λ l. section_code j all l) (append-nil h.codes);
+  told = told_codes t all [] c lengths h told;
 }
 
 -- the size of a statement's code
-has_size : (v : Expression → Value) (rvc : Bool) (says : StatementKind) (coded : List (List ℕ)) → IsCoded v rvc says coded → HasCodeSize v rvc says (length (joined coded))
-has_size v rvc (Instruction mnemonic operands) coded h = (coded, (length coded, h))
-has_size v rvc (Label name) coded h = ap (λ c. length (joined c)) h
-has_size v rvc (Numbered number) coded h = ap (λ c. length (joined c)) h
-has_size v rvc (Directs directive) coded h = ap (λ c. length (joined c)) h
+has_size : (v : Expression → Value) (rvc : Bool) (says : StatementKind) (coded : List Coded) → IsCoded v rvc says coded → HasCodeSize v rvc says (length (bytes_coded coded))
+has_size v rvc (Instruction mnemonic operands) coded (asked, h) = (coded_by coded, (instructions_of coded, h.is))
+has_size v rvc (Label name) coded (asked, h) = ap (λ c. length (bytes_coded c)) h
+has_size v rvc (Numbered number) coded (asked, h) = ap (λ c. length (bytes_coded c)) h
+has_size v rvc (Directs directive) coded (asked, h) = ap (λ c. length (bytes_coded c)) h
 
-have_sizes : (t : Tables) (ss : List Located) (codes : List (List (List ℕ))) → AreCoded t ss codes → AreCodeSizes t ss (bytes_of_codes codes)
+have_sizes : (t : Tables) (ss : List Located) (codes : List (List Coded)) → AreCoded t ss codes → AreCodeSizes t ss (bytes_of_codes codes)
 have_sizes t [] [] h = tt
 have_sizes t [] (coded ∷ codes) h = absurd h
 have_sizes t (s ∷ ss) [] h = absurd h
 have_sizes t (s ∷ ss) (coded ∷ codes) h = (has_size (λ e. value_at t s e) s.options.rvc s.kind coded h.0, have_sizes t ss codes h.1)
 
 -- each statement has a code, and each code a size
-coded_count : (t : Tables) (ss : List Located) (codes : List (List (List ℕ))) → AreCoded t ss codes → length codes ≡ length ss
+coded_count : (t : Tables) (ss : List Located) (codes : List (List Coded)) → AreCoded t ss codes → length codes ≡ length ss
 coded_count t [] [] h = refl
 coded_count t [] (coded ∷ codes) h = absurd h
 coded_count t (s ∷ ss) [] h = absurd h
 coded_count t (s ∷ ss) (coded ∷ codes) h = ap suc (coded_count t ss codes h.1)
 
-pub sizes_count : (t : Tables) (all : List Located) (code : List (Vec ℕ)) (sizes : List CodeSize) → IsWhole t all code sizes → length sizes ≡ length all
-sizes_count t all code sizes h = ap length h.counts ∙ length-map h.codes (λ c. size_of c) ∙ coded_count t all h.codes h.coded
-
-sizes_bytes : (codes : List (List (List ℕ))) → bytes_of_sizes (map (λ c. size_of c) codes) ≡ bytes_of_codes codes
-sizes_bytes [] = refl
-sizes_bytes (coded ∷ codes) = ap (λ l. length (joined coded) ∷ l) (sizes_bytes codes)
+pub sizes_count : (t : Tables) (all : List Located) (lengths : List ℕ) (code : List (Vec ℕ)) (sizes : List CodeSize) → IsWhole t all lengths code sizes → length sizes ≡ length all
+sizes_count t all lengths code sizes h = ap length h.counts ∙ length-map h.codes (λ c. size_of c) ∙ coded_count t all h.codes h.coded
 
 -- no section is too long by these sizes
-pub sizes_short : (t : Tables) (all : List Located) (code : List (Vec ℕ)) (sizes : List CodeSize) → IsWhole t all code sizes → size_fault_from (λ j. 0) all (bytes_of_sizes sizes) ≡ None
-sizes_short t all code sizes h =
+pub sizes_short : (t : Tables) (all : List Located) (lengths : List ℕ) (code : List (Vec ℕ)) (sizes : List CodeSize) → IsWhole t all lengths code sizes → size_fault_from (λ j. 0) all (bytes_of_sizes sizes) ≡ None
+sizes_short t all lengths code sizes h =
     ap (λ l. size_fault_from (λ j. 0) all (bytes_of_sizes l)) h.counts ∙ ap (λ l. size_fault_from (λ j. 0) all l) (sizes_bytes h.codes) ∙ h.short
 
 -- a section is too long
-pub long_code : (t : Tables) (all : List Located) (c : Coder) (line : ℕ) → c.full ≡ Some line → IsCodeSoFar t all [] c → IsLong t all (record { code = limit; line = line })
-long_code t all c line full h = record {
+pub long_code : (t : Tables) (all : List Located) (c : Coder) (lengths : List ℕ) (line : ℕ) → c.full ≡ Some line → bytes_of_sizes c.sizes.items ≡ lengths → IsCodeSoFar t all [] c
+    → IsLong t all lengths (record { code = limit; line = line })
+long_code t all c lengths line full told h = record {
   faults = sym h.faults;
   sizes = bytes_of_codes h.codes;
   are_sizes = have_sizes t all h.codes (whole_coded t all c h);
+  told = told_codes t all [] c lengths h told;
   fault = whole_sizes t all c h ∙ ap full_fault full;
 }
 

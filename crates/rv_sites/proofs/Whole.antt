@@ -17,6 +17,7 @@ use Rattle.rv_tables.specs.Sections.{offset_of, extent_section}
 use Rattle.rv_unit.specs.Unit.{said, passed}
 use Rattle.rv_source_laws.specs.Located.{Located, located, located_from}
 use Rattle.rv_assemble_laws.specs.InstructionFaults.{is_label}
+use Rattle.rv_assemble_laws.specs.Sizes.{AreLeast}
 use Rattle.rv_assemble_laws.specs.Refusals.{code_faults, code_faults_at, code_fault_from}
 use Rattle.rv_sites.specs.Added.{IsAdded, IsAllCode, IsCodeFault, IsCodeSoFar, IsSourceCode, Adds}
 use Rattle.rv_sites.specs.declared.code.Coder.{Coder}
@@ -73,9 +74,9 @@ one_file ss = append-nil (located_from 1 1 at_start ss)
 -- a statement with a fault is the first
 pub code_wrong : (u : SourceUnit) (i : ℕ) (x : Statement) (p : SectionOffset) (rvc : Bool) (c d : Coder) (faults : List ℕ) (fault : SourceFault) → StandsAt u i x p → CodeTo (said u) i c
     → faults ≡ code_faults_at (tables (said u)) (located_at (said u) i (statement_of x))
-    → Adds c d p.section faults (λ e. value (tables (said u)) true (i + 1) (offset_of p) e) rvc (statement_of x) (Err fault) → IsSourceCode (said u) (Err fault)
-code_wrong u i x p rvc c d faults OutOfMemory at h same wrong = tt
-code_wrong u i x p rvc c d faults (At code line) at h same wrong =
+    → Adds c d p.section faults (λ e. value (tables (said u)) true (i + 1) (offset_of p) e) rvc (statement_of x) (Err fault) → (lengths : List ℕ) → IsSourceCode (said u) lengths (Err fault)
+code_wrong u i x p rvc c d faults OutOfMemory at h same wrong lengths = tt
+code_wrong u i x p rvc c d faults (At code line) at h same wrong lengths =
     let ss = said u in
     let all = located_from 1 1 at_start ss in
     fault_first ss (number_of code) x.line line
@@ -85,12 +86,21 @@ code_wrong u i x p rvc c d faults (At code line) at h same wrong =
     (ap lowest (sym same) ∙ wrong.0))
     wrong.1
 
-pub code_whole : (ss : List SpecStatement) (i : ℕ) (c : Coder) (r : Result SectionCode SourceFault) → drop i (located_from 1 1 at_start ss) ≡ [] → CodeTo ss i c
-    → ((t : Tables) (all : List Located) → IsCodeSoFar t all [] c → IsAllCode t all r) → IsSourceCode ss r
-code_whole ss i c r none h finish =
-    go r (subst (λ l. IsAllCode (tables ss) l r) (sym (one_file ss)) (finish (tables ss) (located_from 1 1 at_start ss) (subst (λ l. IsCodeSoFar (tables ss) (located_from 1 1 at_start ss) l c) none h)))
+pub code_whole : (ss : List SpecStatement) (lengths : List ℕ) (i : ℕ) (c : Coder) (r : Result SectionCode SourceFault) → drop i (located_from 1 1 at_start ss) ≡ [] → CodeTo ss i c
+    → AreLeast (tables ss) (located_from 1 1 at_start ss) lengths
+    → ((t : Tables) (all : List Located) → IsCodeSoFar t all [] c → IsAllCode t all lengths r) → IsSourceCode ss lengths r
+code_whole ss lengths i c r none h least finish =
+    go r (subst (λ l. IsAllCode (tables ss) l lengths r) (sym (one_file ss)) (finish (tables ss) (located_from 1 1 at_start ss) (subst (λ l. IsCodeSoFar (tables ss) (located_from 1 1 at_start ss) l c) none h)))
   where
-    go : (r : Result SectionCode SourceFault) → IsAllCode (tables ss) (located (ss ∷ [])) r → IsSourceCode ss r
+    go : (r : Result SectionCode SourceFault) → IsAllCode (tables ss) (located (ss ∷ [])) lengths r → IsSourceCode ss lengths r
     go (Ok found) h = h
-    go (Err (At code line)) h = inr (h.faults, record { sizes = h.sizes; are_sizes = h.are_sizes; fault = h.fault })
-    go (Err OutOfMemory) h = absurd h
+    go (Err (At code line)) h = inr (
+      h.faults,
+      record {
+        sizes = h.sizes;
+        are_sizes = h.are_sizes;
+        least = subst (λ l. AreLeast (tables ss) l h.sizes) (sym (one_file ss)) (subst (AreLeast (tables ss) (located_from 1 1 at_start ss)) (sym h.told) least);
+        fault = h.fault;
+      },
+    )
+    go (Err OutOfMemory) h = tt

@@ -10,10 +10,10 @@ use Rattle.rv_statement.specs.Statement.{Expression, Statement}
 use Rattle.rv_unit_laws.specs.Faults.{Fault, lowest}
 use Rattle.rv_unit_laws.specs.Tables.{Tables, tables}
 use Rattle.rv_source_laws.specs.Located.{Located, located}
-use Rattle.rv_assemble_laws.specs.Coded.{joined}
 use Rattle.rv_assemble_laws.specs.Refusals.{code_fault_from, size_fault_from, code_fault, else_fault, AreCodeSizes, IsTooLong}
-use Rattle.rv_sites.specs.Code.{GrowsBy, bytes_in, size_of, bytes_of_codes, section_code, full_fault, full_at}
+use Rattle.rv_sites.specs.Code.{GrowsBy, bytes_coded, bytes_in, size_of, bytes_of_codes, section_code, full_fault, full_at}
 use Rattle.rv_sites.specs.Coded.{IsCoded, AreCoded}
+use Rattle.rv_instruction.specs.declared.encoded.Coded.{Coded}
 use Rattle.rv_sites.specs.declared.code.Coder.{Coder}
 use Rattle.rv_sites.specs.declared.code.SectionCode.{SectionCode}
 use Rattle.rv_sites.specs.declared.item.CodeSize.{CodeSize}
@@ -23,9 +23,9 @@ use Rattle.rv_sites.specs.declared.item.CodeSize.{CodeSize}
 pub record IsAdded (old new : Coder) (section : ℕ) (faults : List ℕ) (v : Expression → values.Value)
     (rvc : Bool) (s : Statement) : Type 0 where
   pub sound : faults ≡ []
-  pub coded : List (List ℕ)
+  pub coded : List Coded
   pub is : IsCoded v rvc s.kind coded
-  pub grows : GrowsBy old.sections.items new.sections.items section (joined coded)
+  pub grows : GrowsBy old.sections.items new.sections.items section (bytes_coded coded)
   pub counts : new.sizes.items ≡ old.sizes.items ++ size_of coded ∷ []
   pub full : full_fault new.full
       ≡ else_fault (full_fault old.full)
@@ -43,49 +43,53 @@ Adds old new section faults v rvc s (Err OutOfMemory) = Unit {0}
 -- the code of the statements so far; with any code of the rest it makes up the whole
 pub record IsCodeSoFar (t : Tables) (all rest : List Located) (c : Coder) : Type 0 where
   pub faults : code_fault_from t rest ≡ code_fault_from t all
-  pub codes : List (List (List ℕ))
+  pub codes : List (List Coded)
   pub counts : c.sizes.items ≡ map size_of codes
-  pub coded : (more : List (List (List ℕ))) → AreCoded t rest more → AreCoded t all (codes ++ more)
-  pub long : (more : List (List (List ℕ))) →
+  pub coded : (more : List (List Coded)) → AreCoded t rest more → AreCoded t all (codes ++ more)
+  pub long : (more : List (List Coded)) →
       else_fault (full_fault c.full)
       (size_fault_from (λ j. length (bytes_in c.sections.items j)) rest (bytes_of_codes more))
       ≡ size_fault_from (λ j. 0) all (bytes_of_codes (codes ++ more))
-  pub bytes : (more : List (List (List ℕ))) (j : ℕ) →
+  pub bytes : (more : List (List Coded)) (j : ℕ) →
       bytes_in c.sections.items j ++ section_code j rest more ≡ section_code j all (codes ++ more)
 
--- the code of each section and the size of each statement's; none is too long
-pub record IsWhole (t : Tables) (all : List Located) (sections : List (Vec ℕ))
+-- the code of each section and the size of each statement's, which has these lengths; none is too
+-- long
+pub record IsWhole (t : Tables) (all : List Located) (lengths : List ℕ) (sections : List (Vec ℕ))
     (sizes : List CodeSize) : Type 0 where
   pub faults : code_fault_from t all ≡ None
-  pub codes : List (List (List ℕ))
+  pub codes : List (List Coded)
   pub counts : sizes ≡ map size_of codes
   pub coded : AreCoded t all codes
   pub short : size_fault_from (λ j. 0) all (bytes_of_codes codes) ≡ None
   pub bytes : (j : ℕ) → bytes_in sections j ≡ section_code j all codes
+  pub told : bytes_of_codes codes ≡ lengths
 
 -- a section of code becomes too long, and this is where
-pub record IsLong (t : Tables) (all : List Located) (f : Fault) : Type 0 where
+pub record IsLong (t : Tables) (all : List Located) (lengths : List ℕ) (f : Fault) : Type 0 where
   pub faults : code_fault_from t all ≡ None
   pub sizes : List ℕ
   pub are_sizes : AreCodeSizes t all sizes
+  pub told : sizes ≡ lengths
   pub fault : size_fault_from (λ j. 0) all sizes ≡ Some f
 
 -- the code of all statements, or the first whose end passes the longest section
-abbrev pub IsAllCode : Tables → List Located → Result SectionCode SourceFault → Type 0
-IsAllCode t all (Ok c) = IsWhole t all c.sections.items c.sizes.items
-IsAllCode t all (Err (At code line)) =
-    IsLong t all (record { code = number_of code; line = line })
-IsAllCode t all (Err OutOfMemory) = ⊥
+abbrev pub IsAllCode :
+    Tables → List Located → List ℕ → Result SectionCode SourceFault → Type 0
+IsAllCode t all lengths (Ok c) = IsWhole t all lengths c.sections.items c.sizes.items
+IsAllCode t all lengths (Err (At code line)) =
+    IsLong t all lengths (record { code = number_of code; line = line })
+IsAllCode t all lengths (Err OutOfMemory) = Unit {0}
 
 -- the first fault of a source as code, or of the sizes of its code
 abbrev pub IsCodeFault : List Statement → Fault → Type 0
 IsCodeFault ss f = (code_fault ss ≡ Some f) ⊎ ((code_fault ss ≡ None) × IsTooLong ss f)
 
--- the code of a source, or the first fault of its code and of the sizes of code; memory may run
+-- the code of a source by the least lengths, or the first fault of its code and of the sizes of code; memory may run
 -- out
-abbrev pub IsSourceCode : List Statement → Result SectionCode SourceFault → Type 0
-IsSourceCode ss (Ok c) =
-    IsWhole (tables ss) (located (ss ∷ [])) c.sections.items c.sizes.items
-IsSourceCode ss (Err (At code line)) =
+abbrev pub IsSourceCode : List Statement → List ℕ → Result SectionCode SourceFault → Type 0
+IsSourceCode ss lengths (Ok c) =
+    IsWhole (tables ss) (located (ss ∷ [])) lengths c.sections.items c.sizes.items
+IsSourceCode ss lengths (Err (At code line)) =
     IsCodeFault ss (record { code = number_of code; line = line })
-IsSourceCode ss (Err OutOfMemory) = Unit {0}
+IsSourceCode ss lengths (Err OutOfMemory) = Unit {0}

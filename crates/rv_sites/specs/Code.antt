@@ -10,6 +10,8 @@ use Rattle.rv_unit_laws.specs.Tables.{Tables, value, longest_section}
 use Rattle.rv_source_laws.specs.Located.{Located}
 use Rattle.rv_source_laws.specs.Program.{place_of}
 use Rattle.rv_assemble_laws.specs.Coded.{joined}
+use Rattle.rv_instruction.specs.declared.encoded.Coded.{Coded}
+use Rattle.rv_instruction.specs.Code.{coded_by, instructions_of}
 use Rattle.rv_sites.specs.declared.item.CodeSize.{CodeSize}
 
 -- the bytes of a section by its place among the sections
@@ -29,23 +31,28 @@ GrowsBy old new section more =
 
 -- ---- the code of statements, each part by part
 
+-- the bytes of a statement's parts
+abbrev pub bytes_coded : List Coded → List ℕ
+bytes_coded found = joined (coded_by found)
+
 abbrev pub value_at : Tables → Located → Expression → values.Value
 value_at t s e = value t true s.ordinal (place_of s) e
 
 -- how large code is
-abbrev pub size_of : List (List ℕ) → CodeSize
-size_of coded = record { bytes = length (joined coded); instructions = length coded }
+abbrev pub size_of : List Coded → CodeSize
+size_of found =
+    record { bytes = length (bytes_coded found); instructions = instructions_of found }
 
 -- how many bytes each statement has in code
-abbrev pub bytes_of_codes : List (List (List ℕ)) → List ℕ
-bytes_of_codes codes = map (λ coded. length (joined coded)) codes
+abbrev pub bytes_of_codes : List (List Coded) → List ℕ
+bytes_of_codes codes = map (λ found. length (bytes_coded found)) codes
 
 -- the code of the statements of a section
-abbrev pub section_code : ℕ → List Located → List (List (List ℕ)) → List ℕ
+abbrev pub section_code : ℕ → List Located → List (List Coded) → List ℕ
 section_code section [] codes = []
 section_code section (s ∷ ss) [] = []
-section_code section (s ∷ ss) (coded ∷ codes) =
-    (if section == s.section then joined coded else []) ++ section_code section ss codes
+section_code section (s ∷ ss) (found ∷ codes) =
+    (if section == s.section then bytes_coded found else []) ++ section_code section ss codes
 
 -- a section of code that is too long, at a line
 abbrev pub full_fault : Option ℕ → Option Fault

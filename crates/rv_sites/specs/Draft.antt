@@ -1,7 +1,7 @@
 -- The draft of a source: its statements in their sections, the bytes of these, and the fields that
 -- stay open.
 
-use Rattle.std.specs.Prelude.{◌≡◌, ℕ, ◌<◌, ◌≤◌, ◌^◌, true, List, [], flat_map, map, length, Some, slice_get, slice_index, if◌then◌else◌}
+use Rattle.std.specs.Prelude.{◌≡◌, ℕ, ◌<◌, ◌≤◌, ◌^◌, true, List, [], flat_map, map, length, Some, option_map, slice_get, slice_index, if◌then◌else◌}
 use Rattle.std.specs.List.{AllByRecursion, list_any}
 use Rattle.rv_text.specs.Nodes.{symbol_of}
 use Rattle.rv_lexer.specs.declared.fault.SourceFault.{SourceFault}
@@ -13,6 +13,7 @@ use Rattle.rv_unit_laws.specs.Tables.{Tables, at_start, tables, longest_section,
 use Rattle.rv_source_laws.specs.Located.{located_from, has_row}
 use Rattle.rv_source_laws.specs.Compressed.{is_compressed_code}
 use Rattle.rv_assemble_laws.specs.Templates.{IsTemplate}
+use Rattle.rv_assemble_laws.specs.Sizes.{AreLeast}
 use Rattle.rv_assemble_laws.specs.Sites.{Site, form, part_bytes, parts, sites_in, Tile, end_of, HasSize}
 use Rattle.rv_assemble_laws.specs.IsObjectOf.{StandsInData}
 use Rattle.rv_assemble_laws.specs.Fields.{Field, fields}
@@ -39,7 +40,7 @@ field_of f = record {
   place = f.place;
   ordinal = f.ordinal;
   kind = f.kind;
-  symbol = symbol_of f.symbol;
+  symbol = option_map symbol_of f.symbol;
   addend = f.addend;
 }
 
@@ -81,6 +82,8 @@ pub record IsDraft (ss : List Statement) (d : Draft) : Type 0 where
   pub each : AreDrafted (tables ss) sites d
   pub open_fields : map field_of d.fields.items ≡ fields (tables ss) sites
   pub places : AllByRecursion (StandsInData sites) (tables ss).assignments
+  -- each branch has the least size that reaches
+  pub least : AreLeast (tables ss) (located_from 1 1 at_start ss) (map (λ s. s.bytes) sites)
   pub compressed : d.rvc ≡ list_any (λ s. is_compressed_code s.located) sites
 
 -- the first fault of a source as code, or of the sizes of its code; memory may run out

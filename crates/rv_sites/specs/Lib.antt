@@ -5,6 +5,7 @@ pub mod Compressed
 pub mod DataParts
 pub mod Draft
 pub mod Items
+pub mod Measure
 pub mod Measured
 pub mod Seated
 pub mod Sized

@@ -34,7 +34,7 @@ said_in spot says bytes index = data_said spot.ordinal (λ e. value_in spot inde
 -- the fields of a value at a place
 abbrev pub own_fields : Spot → ℕ → ℕ → Value → List Field
 own_fields spot place width v =
-    map (field_at spot.place.section spot.ordinal place) (value_fields width v)
+    map (field_at spot.place.section place) (value_fields spot.ordinal width v)
 
 -- the fields of parts from an offset on, where the section is loaded
 abbrev pub fields_in : Spot → ℕ → List Part → List Field

@@ -1,88 +1,160 @@
 //! The code of a source's sections: its instructions as they lie in memory, one after another.
 
-ghost use Rattle.std.specs.Prelude.{◌≡◌, ◌<◌, ◌≤◌, ℕ, ◌+◌, ◌++◌, Bool, List, [], length, IfOk, OnOk};
+ghost use Rattle.std.specs.Prelude.{◌≡◌, ◌<◌, ◌≤◌, ℕ, ◌+◌, ◌++◌, Bool, true, List, [], length, IfOk, IfSome, OnOk};
+ghost use Rattle.rv_isa_laws.specs.Bytes.{little_endian};
 ghost use Rattle.rv_text_laws.specs.Values as values;
 ghost use Rattle.rv_statement.specs.Statement.{Expression};
-ghost use Rattle.rv_statement.specs.View.{statement_of};
-ghost use Rattle.rv_unit_laws.specs.Tables.{Tables};
+ghost use Rattle.rv_statement.specs.View.{statement_of, statement_kind};
+ghost use Rattle.rv_layout_laws.specs.Branches.{Offers};
+ghost use Rattle.rv_unit_laws.specs.Tables.{Tables, at_start, tables};
 ghost use Rattle.rv_unit.specs.Unit.{said, IsFilled, IsScope};
-ghost use Rattle.rv_source_laws.specs.Located.{Located};
-ghost use Rattle.rv_assemble_laws.specs.Coded.{joined};
+ghost use Rattle.rv_source_laws.specs.Located.{Located, located_from};
 ghost use Rattle.rv_assemble_laws.specs.Refusals.{else_fault};
+ghost use Rattle.rv_assemble_laws.specs.Sizes.{AreLeast};
 ghost use Rattle.rv_sites.specs.Added.{Adds, IsAllCode, IsCodeSoFar, IsSourceCode};
 ghost use Rattle.rv_sites.specs.Code as laws;
-ghost use Rattle.rv_instruction.specs.Code.{encoded_bytes, coded_by, HasCode};
+ghost use Rattle.rv_sites.specs.Sized.{bytes_of_sizes};
+ghost use Rattle.rv_instruction.specs.Code.{encoded_bytes, encoded_instructions, instructions_of, HasCode, MayHave};
 ghost use Rattle.rv_sites.specs.Code.{GrowsBy, full_fault, full_at};
 ghost use Rattle.rv_instruction.specs.Scoped.{values_at, faults_at};
 
 use crate::item::CodeSize;
 use crate::items::extent_at;
-use rv_instruction::{Encoded, code as code_of};
-use rv_statement::Statement;
+use rv_instruction::{Coded, Encoded, code as code_of, near_forms};
+use rv_layout_laws::Forms;
+use rv_statement::{Statement, StatementKind};
 use rv_text::{SourceCode, SourceFault};
 use rv_unit::{LONGEST_SECTION, Scope, SectionOffset, Unit};
 use std::alloc::{AllocError, Global};
 
-/// Adds an instruction as it lies in memory.
+/// Adds a part of a statement's code as it lies in memory.
 fn put(bytes: &mut Vec<u8>, encoded: Encoded) -> Result<(), AllocError>
     ensures { OnOk result (bytes.new.items ≡ bytes.old.items ++ encoded_bytes encoded) }
 {
     match encoded {
         Encoded::Parcel(parcel) => bytes.extend_from_slice(parcel.to_le_bytes().as_slice()),
         Encoded::Word(word) => bytes.extend_from_slice(word.to_le_bytes().as_slice()),
+        Encoded::Pair(first, second) => put_pair(bytes, first, second),
     }
 }
 
-/// Adds the instructions of a statement.
-fn put_all(bytes: &mut Vec<u8>, code: &[Encoded]) -> Result<(), AllocError>
-    ensures { OnOk result (bytes.new.items ≡ bytes.old.items ++ joined (coded_by code.now)) }
+/// Adds two words.
+#[tactic(auto, using(crate::proofs::Joined::put_twice))]
+fn put_pair(bytes: &mut Vec<u8>, first: u32, second: u32) -> Result<(), AllocError>
+    ensures { OnOk result (bytes.new.items
+        ≡ bytes.old.items ++ (little_endian 4 first ++ little_endian 4 second)) }
 {
-    for encoded in code {
-        put(bytes, *encoded)?;
+    bytes.extend_from_slice(first.to_le_bytes().as_slice())?;
+    bytes.extend_from_slice(second.to_le_bytes().as_slice())?;
+    Ok(())
+}
+
+/// Adds the parts of a statement's code.
+fn put_all(bytes: &mut Vec<u8>, code: &[Coded]) -> Result<(), AllocError>
+    ensures { OnOk result (bytes.new.items ≡ bytes.old.items ++ laws.bytes_coded code.now) }
+{
+    for coded in code {
+        put(bytes, coded.encoded)?;
     }
     Ok(())
 }
 
-/// Adds the instructions of a statement to the code of a section.
-fn put_section(sections: &mut [Vec<u8>], section: u32, code: &[Encoded]) -> Result<(), AllocError>
+/// Adds the parts of a statement's code to that of a section.
+fn put_section(sections: &mut [Vec<u8>], section: u32, code: &[Coded]) -> Result<(), AllocError>
     requires { section < length sections.old }
     ensures { OnOk result
-        (GrowsBy sections.old sections.new section (joined (coded_by code.now))) }
+        (GrowsBy sections.old sections.new section (laws.bytes_coded code.now)) }
 {
     put_all(&mut sections[section as usize], code)
 }
 
-/// How many bytes an instruction has in memory.
-fn width(encoded: Encoded) -> u8
+/// How many bytes a part has in memory.
+pub(crate) fn width(encoded: Encoded) -> u8
     ensures size { result ≡ length (encoded_bytes encoded) }
-    ensures low { result ≤ 4 }
+    ensures low { result ≤ 8 }
 {
     match encoded {
         Encoded::Parcel(_) => 2,
         Encoded::Word(_) => 4,
+        Encoded::Pair(..) => 8,
     }
 }
 
-/// How many bytes the instructions of a statement have.
-fn bytes_of(code: &[Encoded]) -> u8
+/// How many instructions a part is.
+fn count(encoded: Encoded) -> u8
+    ensures count { result ≡ encoded_instructions encoded }
+    ensures low { result ≤ 2 }
+{
+    match encoded {
+        Encoded::Parcel(_) => 1,
+        Encoded::Word(_) => 1,
+        Encoded::Pair(..) => 2,
+    }
+}
+
+/// How many bytes the code of a statement has.
+pub(crate) fn bytes_of(code: &[Coded]) -> u8
     requires { length code.now ≤ 8 }
-    ensures { result ≡ length (joined (coded_by code.now)) }
+    ensures { result ≡ length (laws.bytes_coded code.now) }
 {
     let mut bytes = 0;
-    for encoded in code {
-        bytes += width(*encoded);
+    for coded in code {
+        bytes += width(coded.encoded);
     }
     bytes
 }
 
-/// How large the code of a statement is.
-fn size_of(code: &[Encoded]) -> CodeSize
+/// How many instructions the code of a statement is.
+fn instructions_in(code: &[Coded]) -> u8
     requires { length code.now ≤ 8 }
-    ensures { result ≡ laws.size_of (coded_by code.now) }
+    ensures { result ≡ instructions_of code.now }
+{
+    let mut instructions = 0;
+    for coded in code {
+        instructions += count(coded.encoded);
+    }
+    instructions
+}
+
+/// How large the code of a statement is.
+fn size_of(code: &[Coded]) -> CodeSize
+    requires { length code.now ≤ 8 }
+    ensures { result ≡ laws.size_of code.now }
 {
     CodeSize {
         bytes: bytes_of(code),
-        instructions: code.len() as u8,
+        instructions: instructions_in(code),
+    }
+}
+
+// ---- the lengths of branches
+
+/// Whether forms have a length.
+fn offers(forms: Forms, length: u8) -> bool
+    ensures { result ≡ true → Offers forms length }
+{
+    match forms {
+        Forms::Settled(bytes) => u32::from(length) == bytes,
+        Forms::CompressedBranch => length == 2 || length == 4 || length == 8,
+        Forms::Branch => length == 4 || length == 8,
+        Forms::CompressedJump => length == 2 || length == 4,
+    }
+}
+
+/// A length in the forms of a statement, where it is one of them.
+pub(crate) fn asked(kind: &StatementKind<'_>, compressed: bool, length: u32) -> Option<u8>
+    ensures { IfSome result (λ bytes. MayHave compressed (statement_kind kind.now) bytes) }
+{
+    match near_forms(kind, compressed) {
+        None => Some(4),
+        Some(forms) => {
+            let bytes = (length % 256) as u8;
+            if offers(forms, bytes) {
+                Some(bytes)
+            } else {
+                None
+            }
+        }
     }
 }
 
@@ -116,6 +188,21 @@ fn full_behind(full: Option<u32>, bytes: usize, line: u32) -> Option<u32>
         None if bytes as u64 > LONGEST_SECTION => Some(line),
         None => None,
     }
+}
+
+/// Whether statements have these lengths in code.
+fn have_lengths(sizes: &[CodeSize], lengths: &[u32]) -> bool
+    ensures { result ≡ true → bytes_of_sizes sizes.now ≡ lengths.now }
+{
+    if sizes.len() != lengths.len() {
+        return false;
+    }
+    for index in 0..sizes.len() {
+        if u32::from(sizes[index].bytes) != lengths[index] {
+            return false;
+        }
+    }
+    true
 }
 
 /// The code of a source.
@@ -153,13 +240,18 @@ impl Coder {
         })
     }
 
-    /// The code of all statements after the last, where no section is too long.
-    pub(crate) fn finish(self) -> Result<SectionCode, SourceFault>
+    /// The code of all statements after the last, where no section is too long,
+    /// whose lengths have to be these.
+    pub(crate) fn finish(self, lengths: &[u32]) -> Result<SectionCode, SourceFault>
         ensures count { IfOk result
             (λ c. length c.sections.items ≡ length self.sections.items) }
         ensures code { (t : Tables) (all : List Located) → IsCodeSoFar t all [] self
-            → IsAllCode t all result }
+            → IsAllCode t all lengths.now result }
     {
+        // no other lengths were asked for
+        if !have_lengths(self.sizes.as_slice(), lengths) {
+            return Err(SourceFault::OutOfMemory);
+        }
         match self.full {
             Some(line) => Err(SourceFault::At {
                 code: SourceCode::Limit,
@@ -173,7 +265,8 @@ impl Coder {
     }
 
     /// Adds a unit's next statement, which stands at the place, in a section of code (`executable`)
-    /// or not, where compressed code is on or off; or gives the lowest code of its faults.
+    /// or not, where compressed code is on or off, and which has this length if it is a branch or a
+    /// jump that may be near; or gives the lowest code of its faults.
     pub(crate) fn add<'a>(
         &mut self,
         statement: &Statement<'a>,
@@ -181,6 +274,7 @@ impl Coder {
         place: SectionOffset,
         executable: bool,
         compressed: bool,
+        wanted: u32,
     ) -> Result<(), SourceFault>
         requires { place.section < length self.old.sections.items }
         ensures { (index : ℕ) → IsFilled (scope.now).unit.now → IsScope scope.now index
@@ -188,7 +282,11 @@ impl Coder {
             (faults_at scope.now index place executable (statement_of statement.now).kind)
             (values_at scope.now index place) compressed (statement_of statement.now) result }
     {
-        match code_of(statement, scope, place, executable, compressed) {
+        // each length is offered, as the least sizes are a family
+        let Some(bytes) = asked(&statement.kind, compressed, wanted) else {
+            return Err(SourceFault::OutOfMemory);
+        };
+        match code_of(statement, scope, place, executable, compressed, bytes) {
             Ok(found) => self.add_found(statement, place.section, found.as_slice()),
             Err(fault) => Err(fault),
         }
@@ -199,12 +297,12 @@ impl Coder {
         &mut self,
         statement: &Statement<'_>,
         section: u32,
-        found: &[Encoded],
+        found: &[Coded],
     ) -> Result<(), SourceFault>
         requires few { length found.now ≤ 8 }
         requires section { section < length self.old.sections.items }
-        ensures { (faults : List ℕ) (v : Expression → values.Value) (rvc : Bool) → faults ≡ []
-            → HasCode v rvc (statement_of statement.now).kind found.now
+        ensures { (faults : List ℕ) (v : Expression → values.Value) (rvc : Bool) (bytes : ℕ)
+            → faults ≡ [] → HasCode v rvc bytes (statement_of statement.now).kind found.now
             → Adds self.old self.new section faults v rvc (statement_of statement.now) result }
     {
         put_section(self.sections.as_mut_slice(), section, found)?;
@@ -215,12 +313,19 @@ impl Coder {
     }
 }
 
-/// The code of each section of a unit, and how much of it each statement has.
-pub(crate) fn code(alloc: Global, unit: &Unit<'_>) -> Result<SectionCode, SourceFault>
-    requires { IsFilled unit.now }
+/// The code of each section of a unit, and how much of it each statement has, by the least lengths.
+pub(crate) fn code(
+    alloc: Global,
+    unit: &Unit<'_>,
+    lengths: &[u32],
+) -> Result<SectionCode, SourceFault>
+    requires filled { IsFilled unit.now }
+    requires count { length lengths.now ≡ length (unit.now).statements.items }
+    requires least { AreLeast (tables (said unit.now)) (located_from 1 1 at_start (said unit.now))
+        lengths.now }
     ensures count { IfOk result
         (λ c. length c.sections.items ≡ length (unit.now).tables.extents.items) }
-    ensures code { IsSourceCode (said unit.now) result }
+    ensures code { IsSourceCode (said unit.now) lengths.now result }
 {
     let mut coder = Coder::new(alloc, unit.sections().len())?;
     let mut scope = Scope::new(unit);
@@ -232,8 +337,16 @@ pub(crate) fn code(alloc: Global, unit: &Unit<'_>) -> Result<SectionCode, Source
         let extent = extent_at(extents, place.section);
         let compressed = unit.options_at(index).rvc();
         let executable = extent.section.executable;
-        coder.add(&statements[index], &scope, place, executable, compressed)?;
+        let wanted = lengths[index];
+        coder.add(
+            &statements[index],
+            &scope,
+            place,
+            executable,
+            compressed,
+            wanted,
+        )?;
         scope.pass();
     }
-    coder.finish()
+    coder.finish(lengths)
 }

@@ -20,6 +20,7 @@ ghost use Rattle.rv_sites.specs.Draft.{field_of};
 ghost use Rattle.rv_sites.specs.Spots.{value_in, parts_in, said_in, own_fields, fields_in, AddsBytes, AddsFields, AddsParts};
 
 use crate::field::OpenField;
+use crate::fields::{Choices, put_code};
 use crate::item::Item;
 use rv_isa::Kind;
 use rv_statement::{StatementKind, Width};
@@ -170,15 +171,15 @@ fn open_field<'a>(
     symbol: Symbol<'a>,
     plus: u64,
 ) -> OpenField<'a>
-    ensures { field_of result ≡ field_at (spot.now).place.section (spot.now).ordinal place
-        (opened kind (symbol_of symbol.entry) plus) }
+    ensures { field_of result ≡ field_at (spot.now).place.section place
+        (opened (spot.now).ordinal kind (symbol_of symbol.entry) plus) }
 {
     OpenField {
         section: spot.place.section,
         place,
         kind,
         ordinal: spot.ordinal,
-        symbol,
+        symbol: Some(symbol),
         addend: addend(plus),
     }
 }
@@ -437,6 +438,14 @@ fn put_next<'a>(
         ordinal: ordinal(index),
         loaded: extent.section.loaded,
     };
+    if extent.section.executable {
+        let options = unit.options_at(index);
+        let choices = Choices {
+            compressed: options.rvc(),
+            relax: options.relax(),
+        };
+        return put_code(fields, &spot, statement, choices, items[index]);
+    }
     put_statement(
         sections,
         fields,

@@ -11,6 +11,7 @@ use crate::data::{Filled, data};
 use crate::field::OpenField;
 use crate::item::Item;
 use crate::items::items;
+use crate::measure::lengths;
 use rv_text::SourceFault;
 use rv_unit::Unit;
 use std::alloc::Global;
@@ -46,7 +47,8 @@ impl<'a> Draft<'a> {
         if unit.statements().len() >= 1 << 32 {
             return Err(SourceFault::OutOfMemory);
         }
-        let code = code(alloc, unit)?;
+        let lengths = lengths(alloc, unit)?;
+        let code = code(alloc, unit, lengths.as_slice())?;
         let sizes = code.sizes.as_slice();
         let (items, ends) = items(alloc, unit, sizes)?;
         let Filled { sections, fields } = data(alloc, unit, items.as_slice(), code.sections)?;

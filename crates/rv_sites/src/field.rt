@@ -12,10 +12,10 @@ pub struct OpenField<'a> {
     pub place: u32,
     /// What it takes.
     pub kind: Kind,
-    /// The ordinal of its statement, from 1.
+    /// The ordinal of the statement that names the symbol, from 1.
     pub ordinal: u32,
-    /// The symbol, as the statement names it.
-    pub symbol: Symbol<'a>,
+    /// The symbol, as that statement names it, if there is one.
+    pub symbol: Option<Symbol<'a>>,
     /// What is added.
     pub addend: i64,
 }

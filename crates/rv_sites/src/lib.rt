@@ -24,8 +24,10 @@ mod compressed;
 mod data;
 mod draft;
 mod field;
+mod fields;
 mod item;
 mod items;
+mod measure;
 
 pub use draft::Draft;
 pub use field::OpenField;

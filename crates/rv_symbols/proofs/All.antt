@@ -24,7 +24,8 @@ use Rattle.rv_symbols.proofs.Defining.{all_index, by_index, site_of, own_name}
 use Rattle.rv_symbols.proofs.Naming.{all_got}
 use Rattle.rv_symbols.proofs.Numbered.{undefined_stands}
 use Rattle.rv_symbols.proofs.Unnamed.{unnamed_stands}
-use Rattle.rv_symbols.proofs.Standing.{StandsAt, AreNumeric, uses_stand, numeric_stand, found_of, reversed}
+use Rattle.rv_symbols.proofs.Standing.{StandsAt, AreNumeric, uses_stand, found_of, reversed}
+use Rattle.rv_symbols.proofs.Meant.{numeric_labels, means}
 
 pub offset_low : (offsets : List ℕ) (sites : List Site) → map (λ s. s.offset) sites ≡ offsets → ((i : ℕ) → get_or offsets i 0 < 2 ^ 32) → (i : ℕ) (s : Site) → slice_get sites i ≡ Some s → s.offset < 2 ^ 64
 offset_low offsets sites e low i s at =
@@ -51,7 +52,7 @@ module _ (ss : List Statement) (sites : List Site) (located : map (λ s. s.locat
   Stands o q = StandsFor t sites o q (slice_get (symbols_of t sites) (number_in t sites o q))
 
   numeric : AreNumeric sites t.numeric_labels
-  numeric = numeric_stand sites 0 1 at_start ss sites refl located tt
+  numeric = numeric_labels ss sites located
 
   unnamed : (j o n : ℕ) (q : Primary) → slice_get rs j ≡ Some (record { ordinal = o; symbol = q }) → is_unnamed q ≡ true → laws.definition t o q ≡ Some (definition_at n) → StandsAt sites n → Stands o q
   unnamed j o n q e u f (i, s, at, is, placed) =
@@ -108,4 +109,4 @@ module _ (ss : List Statement) (sites : List Site) (located : map (λ s. s.locat
   numbered =
       by_index (IsNumbered t sites (number_in t sites) (symbols_of t sites)) rs
       (λ j r e. by_symbol j r.ordinal r.symbol e (all_got (is_meant_use t) rs j r e meant)
-      (all_index (λ (z : SymbolUse). StandsAt sites z.ordinal) rs j r e (uses_stand t sites 0 1 at_start ss sites refl located)))
+      (all_index (λ (z : SymbolUse). StandsAt sites z.ordinal) rs j r e (uses_stand t sites (means ss sites located) 0 1 at_start ss sites refl located)))

@@ -11,4 +11,5 @@ pub mod Owned
 pub mod Single
 pub mod OneName
 pub mod Defining
+pub mod Meant
 pub mod All

@@ -1,21 +1,21 @@
 -- Where the statements stand that uses without names mean.
 
-use Rattle.std.proofs.Common.{◌≡◌, ℕ, zero, suc, Bool, true, false, List, [], ◌∷◌, ◌++◌, map, drop, refl, sym, ap, ◌∙◌, subst, Option, Some, None}
+use Rattle.std.proofs.Common.{◌≡◌, ℕ, zero, suc, Bool, true, false, List, [], ◌∷◌, ◌++◌, map, drop, refl, sym, ap, ◌∙◌, subst, inl, inr, Option, Some, None}
 use Rattle.std.specs.Prelude.{reverse, flat_map, slice_get, if◌then◌else◌}
 use Rattle.std.specs.List.{AllByRecursion, find}
 use Rattle.std.proofs.lemmas.List.{reverse-append}
+use Rattle.rv_text_laws.specs.Expression.{Primary}
 use Rattle.rv_text_laws.specs.Values.{Value}
 use Rattle.rv_statement.specs.declared.directive.Choice.{Choice}
 use Rattle.rv_statement.specs.Statement.{StatementKind, Label, Numbered, Instruction, Directs, Statement, Expression, Directive, Enters, Opens, Globl, Local, Sets, Aligns_to_power, Aligns_to_bytes, Values, Strings, Zeros, Chooses, Ignored}
 use Rattle.rv_unit_laws.specs.Sections.{Section, entered_by}
 use Rattle.rv_unit_laws.specs.Contributions.{Contribution, Nothing, contribution}
-use Rattle.rv_unit_laws.specs.Tables.{Tables, NumericLabel, Assignment, here, value, is_defined, may_set, assigned_by, chosen, with_assignment, with_section, with_chosen, with_contribution, after_directive, after, after_all}
+use Rattle.rv_unit_laws.specs.Tables.{Tables, Definition, NumericLabel, Assignment, definition, here, value, is_defined, may_set, assigned_by, chosen, with_assignment, with_section, with_chosen, with_contribution, after_directive, after, after_all}
 use Rattle.rv_unit_laws.proofs.Entering.{entering}
 use Rattle.rv_source_laws.specs.Located.{Located, is_placed, located_now, located_from}
-use Rattle.rv_assemble_laws.specs.Templates.{Fixed, templates}
-use Rattle.rv_assemble_laws.specs.Sites.{Site, part_of, form}
+use Rattle.rv_assemble_laws.specs.Sites.{Site, part_of, parts_of, templates}
 use Rattle.rv_assemble_laws.specs.Symbols.{SymbolUse, references_in, references_of, references}
-use Rattle.rv_symbols.proofs.Ordered.{of_site}
+use Rattle.rv_symbols.proofs.Ordered.{Names, AreOf, of_site}
 
 -- ---- the statement of a use itself
 
@@ -26,39 +26,34 @@ all_same : {X : Type 0} (P : Type 0) (xs : List X) → P → AllByRecursion (λ 
 all_same P [] h = tt
 all_same P (x ∷ xs) h = (h, all_same P xs h)
 
--- code names none
-code_names : (P : Type 0) (n : ℕ) (coded : List (List ℕ)) → AllByRecursion (λ (r : SymbolUse). P) (flat_map references_in (map (part_of n) (map Fixed coded)))
-code_names P n [] = tt
-code_names P n (bytes ∷ coded) = code_names P n coded
-
 -- a statement whose values name symbols has a place
-placed_by : (u : Tables) (k n bytes : ℕ) (coded : List (List ℕ)) (v : Expression → Value) (kind : StatementKind) (placed : Bool) → placed ≡ is_placed u k kind
-    → AllByRecursion (λ (r : SymbolUse). placed ≡ true) (flat_map references_in (map (part_of n) (templates v kind bytes coded)))
-placed_by u k n bytes coded v (Label name) placed e = tt
-placed_by u k n bytes coded v (Numbered number) placed e = tt
-placed_by u k n bytes coded v (Instruction mnemonic operands) placed e = code_names (placed ≡ true) n coded
-placed_by u k n bytes coded v (Directs (Enters section)) placed e = tt
-placed_by u k n bytes coded v (Directs (Opens name flags kind)) placed e = tt
-placed_by u k n bytes coded v (Directs (Globl names)) placed e = tt
-placed_by u k n bytes coded v (Directs (Local names)) placed e = tt
-placed_by u k n bytes coded v (Directs (Sets name x)) placed e = tt
-placed_by u k n bytes coded v (Directs (Aligns_to_power x)) placed e = tt
-placed_by u k n bytes coded v (Directs (Aligns_to_bytes x)) placed e = tt
-placed_by u k n bytes coded v (Directs (Values width xs)) placed e = all_same (placed ≡ true) _ e
-placed_by u k n bytes coded v (Directs (Strings ended strings)) placed e = tt
-placed_by u k n bytes coded v (Directs (Zeros count)) placed e = tt
-placed_by u k n bytes coded v (Directs (Chooses choice)) placed e = tt
-placed_by u k n bytes coded v (Directs Ignored) placed e = tt
+placed_by : (t u : Tables) (k n : ℕ) (s : Site) (kind : StatementKind) (placed : Bool) → placed ≡ is_placed u k kind
+    → AllByRecursion (λ (r : SymbolUse). placed ≡ true) (flat_map references_in (map (part_of n) (templates t s kind)))
+placed_by t u k n s (Label name) placed e = tt
+placed_by t u k n s (Numbered number) placed e = tt
+placed_by t u k n s (Instruction mnemonic operands) placed e = all_same (placed ≡ true) _ e
+placed_by t u k n s (Directs (Enters section)) placed e = tt
+placed_by t u k n s (Directs (Opens name flags kind)) placed e = tt
+placed_by t u k n s (Directs (Globl names)) placed e = tt
+placed_by t u k n s (Directs (Local names)) placed e = tt
+placed_by t u k n s (Directs (Sets name x)) placed e = tt
+placed_by t u k n s (Directs (Aligns_to_power x)) placed e = tt
+placed_by t u k n s (Directs (Aligns_to_bytes x)) placed e = tt
+placed_by t u k n s (Directs (Values width xs)) placed e = all_same (placed ≡ true) _ e
+placed_by t u k n s (Directs (Strings ended strings)) placed e = tt
+placed_by t u k n s (Directs (Zeros count)) placed e = tt
+placed_by t u k n s (Directs (Chooses choice)) placed e = tt
+placed_by t u k n s (Directs Ignored) placed e = tt
 
 placed_of : (t : Tables) (s : Site) (u : Tables) (k : ℕ) (x : Statement) → s.located ≡ located_now 1 k u x → AllByRecursion (λ (r : SymbolUse). s.located.placed ≡ true) (references_of t s)
 placed_of t s u k x e = go s.located.home.loaded
   where
-    all : AllByRecursion (λ (r : SymbolUse). s.located.placed ≡ true) (flat_map references_in (map (part_of s.located.ordinal) (templates (form t s.located) s.located.kind s.bytes s.coded)))
+    all : AllByRecursion (λ (r : SymbolUse). s.located.placed ≡ true) (flat_map references_in (parts_of t s))
     all =
-        placed_by u k s.located.ordinal s.bytes s.coded (form t s.located) s.located.kind s.located.placed
+        placed_by t u k s.located.ordinal s s.located.kind s.located.placed
         (ap (λ (l : Located). l.placed) e ∙ ap (is_placed u k) (sym (ap (λ (l : Located). l.kind) e)))
 
-    go : (b : Bool) → AllByRecursion (λ (r : SymbolUse). s.located.placed ≡ true) (if b then flat_map references_in (map (part_of s.located.ordinal) (templates (form t s.located) s.located.kind s.bytes s.coded)) else [])
+    go : (b : Bool) → AllByRecursion (λ (r : SymbolUse). s.located.placed ≡ true) (if b then flat_map references_in (parts_of t s) else [])
     go true = all
     go false = tt
 
@@ -66,10 +61,18 @@ join : {X : Type 0} (P : X → Type 0) (xs ys : List X) → AllByRecursion P xs 
 join P [] ys h k = k
 join P (x ∷ xs) ys (h, hs) k = (h, join P xs ys hs k)
 
-both : (all : List Site) (i : ℕ) (s : Site) (rs : List SymbolUse) → slice_get all i ≡ Some s → AllByRecursion (λ (r : SymbolUse). r.ordinal ≡ s.located.ordinal) rs → AllByRecursion (λ (r : SymbolUse). s.located.placed ≡ true) rs
+-- what a symbol of a statement with a place means has a place
+abbrev pub Means : Tables → List Site → Type 0
+Means t all = (o : ℕ) → StandsAt all o → (q : Primary) (d : Definition) → definition t o q ≡ Some d → StandsAt all d.ordinal
+
+one : (t : Tables) (all : List Site) → Means t all → (n : ℕ) (r : SymbolUse) → StandsAt all n → Names t n r → StandsAt all r.ordinal
+one t all means n r at (inl e) = subst (StandsAt all) (sym e) at
+one t all means n r at (inr (here, (q, (d, e, f)))) = subst (StandsAt all) (sym f) (means n at q d e)
+
+both : (t : Tables) (all : List Site) → Means t all → (i : ℕ) (s : Site) (rs : List SymbolUse) → slice_get all i ≡ Some s → AreOf t s.located.ordinal rs → AllByRecursion (λ (r : SymbolUse). s.located.placed ≡ true) rs
     → AllByRecursion (λ (r : SymbolUse). StandsAt all r.ordinal) rs
-both all i s [] e h k = tt
-both all i s (r ∷ rs) e (h, hs) (k, ks) = ((i, s, e, sym h, k), both all i s rs e hs ks)
+both t all means i s [] e h k = tt
+both t all means i s (r ∷ rs) e (h, hs) (k, ks) = (one t all means s.located.ordinal r (i, s, e, refl, k) h, both t all means i s rs e hs ks)
 
 front : {A : Type 0} (x y : A) (xs ys : List A) → x ∷ xs ≡ y ∷ ys → (x ≡ y) × (xs ≡ ys)
 front x y xs ys e = (cc, cc)
@@ -80,15 +83,15 @@ front_got [] (suc i) x ys e = absurd (cc)
 front_got (z ∷ zs) zero x ys e = (cc, cc)
 front_got (z ∷ zs) (suc i) x ys e = front_got zs i x ys e
 
-pub uses_stand : (t : Tables) (all : List Site) (i k : ℕ) (u : Tables) (ss : List Statement) (sites : List Site) → drop i all ≡ sites → map (λ s. s.located) sites ≡ located_from 1 k u ss
+pub uses_stand : (t : Tables) (all : List Site) → Means t all → (i k : ℕ) (u : Tables) (ss : List Statement) (sites : List Site) → drop i all ≡ sites → map (λ s. s.located) sites ≡ located_from 1 k u ss
     → AllByRecursion (λ (r : SymbolUse). StandsAt all r.ordinal) (references t sites)
-uses_stand t all i k u ss [] d e = tt
-uses_stand t all i k u [] (s ∷ sites) d e = absurd (cc)
-uses_stand t all i k u (x ∷ ss) (s ∷ sites) d e =
+uses_stand t all means i k u ss [] d e = tt
+uses_stand t all means i k u [] (s ∷ sites) d e = absurd (cc)
+uses_stand t all means i k u (x ∷ ss) (s ∷ sites) d e =
     let at = front_got all i s sites d in
     let now = (front _ _ _ _ e).0 in
-    join (λ (r : SymbolUse). StandsAt all r.ordinal) (references_of t s) (references t sites) (both all i s (references_of t s) at.0 (of_site t s) (placed_of t s u k x now))
-    (uses_stand t all (suc i) (suc k) (after u k x.kind) ss sites at.1 (front _ _ _ _ e).1)
+    join (λ (r : SymbolUse). StandsAt all r.ordinal) (references_of t s) (references t sites) (both t all means i s (references_of t s) at.0 (of_site t s) (placed_of t s u k x now))
+    (uses_stand t all means (suc i) (suc k) (after u k x.kind) ss sites at.1 (front _ _ _ _ e).1)
 
 -- ---- numeric labels
 

@@ -1,6 +1,6 @@
 -- What uses of symbols mean, use by use.
 
-use Rattle.std.proofs.Common.{◌≡◌, ℕ, ◌+◌, ◌<◌, ◌≤◌, Bool, true, false, List, [], ◌∷◌, ◌++◌, length, map, take, drop, refl, sym, ap, ◌∙◌, subst, append_assoc, append-nil, Option, Some, None}
+use Rattle.std.proofs.Common.{◌≡◌, ℕ, ◌+◌, ◌<◌, ◌≤◌, Bool, true, false, List, [], ◌∷◌, ◌++◌, length, map, take, drop, refl, sym, ap, ◌∙◌, append_assoc, append-nil, arith, Option, Some, None}
 use Rattle.std.specs.Prelude.{is_some, ◌&&◌, ◌||◌, flat_map, slice_get, slice_index_or, option_map, if◌then◌else◌}
 use Rattle.std.specs.Borrow.{Bor}
 use Rattle.std.specs.List.{list_any}
@@ -20,7 +20,7 @@ use Rattle.rv_assemble_laws.specs.Symbols.{SymbolUse, missing_name, distinct_fro
 use Rattle.rv_symbols.specs.declared.symbol_use.SymbolUse.{SymbolUse as DeclaredUse}
 use Rattle.rv_symbols.specs.SymbolUse.{use_of, uses_of}
 use Rattle.rv_symbols.specs.Numbers.{missing_names}
-use Rattle.rv_symbols.specs.Found.{definition_in, means, any_means, missing_by, with_names, Rises}
+use Rattle.rv_symbols.specs.Found.{definition_in, is_here, next_ordinal, IsNext, means, any_means, missing_by, with_names}
 use Rattle.rv_symbols.proofs.Stands.{got_map, some_at}
 use Rattle.rv_symbols.proofs.Naming.{drop_next, take_next}
 
@@ -125,8 +125,19 @@ missing_are t rs = distinct (flat_map (λ r. missing_name t r.ordinal r.symbol) 
 
 -- ---- definitions
 
-pub rises_at : (low high i : ℕ) (rs : List SymbolUse) (r : SymbolUse) (rest : List SymbolUse) → drop i rs ≡ r ∷ rest → Rises low high (drop i rs) → (low ≤ r.ordinal) × (r.ordinal ≤ high) × Rises r.ordinal high rest
-rises_at low high i rs r rest e h = subst (Rises low high) e h
+-- the statement at which a use is looked up
+pub next_within : (low high : ℕ) (r : SymbolUse) → IsNext low high r → low ≤ high + 1 → (low ≤ next_ordinal low r) × (next_ordinal low r ≤ high + 1)
+next_within low high r h l = go (is_here r.symbol) refl
+  where
+    go : (b : Bool) → is_here r.symbol ≡ b → (low ≤ (if b then low else r.ordinal)) × ((if b then low else r.ordinal) ≤ high + 1)
+    go true e = (omega arith, l)
+    go false e = (
+      (h e).0,
+      let m = (h e).1 in omega (arith, m),
+    )
+
+pub next_own : (low : ℕ) (r : SymbolUse) → is_here r.symbol ≡ false → next_ordinal low r ≡ r.ordinal
+next_own low r e = ap (λ b. if b then low else r.ordinal) e
 
 map_more : (t : Tables) (ds : List (Option Definition)) (d : Option Definition) → map (option_map definition_of) (ds ++ d ∷ []) ≡ map (option_map definition_of) ds ++ option_map definition_of d ∷ []
 map_more t [] d = refl

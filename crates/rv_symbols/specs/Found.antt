@@ -3,7 +3,7 @@
 use Rattle.std.specs.Prelude.{◌≡◌, ℕ, ◌+◌, ◌≤◌, ◌<◌, Bool, true, false, ◌&&◌, ◌==◌, ⊤, if◌then◌else◌, List, [], ◌∷◌, ◌++◌, Option, Some, None, slice_index_or}
 use Rattle.std.specs.List.{list_any}
 use Rattle.std.specs.Borrow.{Bor}
-use Rattle.rv_text_laws.specs.Expression.{Primary, Symbol as Named}
+use Rattle.rv_text_laws.specs.Expression.{Primary, Symbol as Named, Here}
 use Rattle.rv_unit_laws.specs.Tables.{Tables, definition}
 use Rattle.rv_unit_laws.specs.Tables as laws
 use Rattle.rv_object.specs.declared.symbol.Binding.{Binding}
@@ -30,10 +30,22 @@ is_number _ = false
 abbrev pub definition_in : Tables → SymbolUse → Option laws.Definition
 definition_in t r = definition t r.ordinal r.symbol
 
--- uses in the order of their statements, which have ordinals from `low` to `high`
+-- `.` is the place of its statement, which may be any
+abbrev pub is_here : Primary → Bool
+is_here Here = true
+is_here _ = false
+
+abbrev pub next_ordinal : (low : ℕ) → SymbolUse → ℕ
+next_ordinal low r = if is_here r.symbol then low else r.ordinal
+
+abbrev pub IsNext : (low high : ℕ) → SymbolUse → Type 0
+IsNext low high r = is_here r.symbol ≡ false → (low ≤ r.ordinal) × (r.ordinal ≤ high)
+
+-- all uses but those of `.` in the order of their statements, which have ordinals from `low` to
+-- `high`
 abbrev pub Rises : ℕ → ℕ → List SymbolUse → Type 0
 Rises low high [] = ⊤
-Rises low high (r ∷ rs) = (low ≤ r.ordinal) × (r.ordinal ≤ high) × Rises r.ordinal high rs
+Rises low high (r ∷ rs) = IsNext low high r × Rises (next_ordinal low r) high rs
 
 -- ---- marks
 

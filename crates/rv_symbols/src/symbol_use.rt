@@ -5,8 +5,8 @@ use rv_text::Symbol;
 /// A symbol as a relocation of a loaded section names it.
 #[derive(Clone, Copy, Debug, PartialEq, Eq, Drop)]
 pub struct SymbolUse<'a> {
-    /// The ordinal of its statement, from 1.
+    /// The ordinal of the statement that names it, from 1.
     pub ordinal: u32,
-    /// A name, `.` or a numeric reference.
+    /// A name, `.` or a numeric reference; `.` is the place of that statement.
     pub symbol: Symbol<'a>,
 }

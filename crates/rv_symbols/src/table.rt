@@ -29,7 +29,7 @@ pub struct SymbolTable {
 }
 
 /// The symbols of a source whose statements stand at these offsets in their sections, with the index of the symbol for each
-/// use, in the order of their statements.
+/// use: these stand in the order of their statements, but for `.`, which may name any place.
 pub fn symbols<'a>(
     alloc: Global,
     unit: &Unit<'a>,

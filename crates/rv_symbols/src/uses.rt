@@ -1,15 +1,15 @@
 //! What uses of symbols mean in their file.
 
-ghost use Rattle.std.specs.Prelude.{◌≡◌, ◌<◌, ◌≤◌, ◌+◌, ◌||◌, ◌==◌, ℕ, Bool, false, true, length, map, option_map, slice_index_or, IfOk, OnOk};
+ghost use Rattle.std.specs.Prelude.{◌≡◌, ◌<◌, ◌≤◌, ◌+◌, ◌-◌, ◌||◌, ◌==◌, ℕ, Bool, false, true, length, map, option_map, slice_index_or, IfOk, OnOk};
 ghost use Rattle.rv_text.specs.Nodes.{symbol_of};
 ghost use Rattle.rv_statement.specs.View.{now_of};
 ghost use Rattle.rv_unit_laws.specs.Tables.{Tables, tables};
 ghost use Rattle.rv_unit.specs.Unit.{said, definition_of, IsFilled, IsScope};
 ghost use Rattle.rv_assemble_laws.specs.Symbols.{is_unnamed};
 ghost use Rattle.rv_assemble_laws.specs.ShownNames.{primary_names, are_shown, AreShown};
-ghost use Rattle.rv_symbols.specs.SymbolUse.{uses_of};
+ghost use Rattle.rv_symbols.specs.SymbolUse.{use_of, uses_of};
 ghost use Rattle.rv_symbols.specs.Numbers.{missing_names};
-ghost use Rattle.rv_symbols.specs.Found.{definition_in, means, missing_by, with_names, Rises, AreMarks};
+ghost use Rattle.rv_symbols.specs.Found.{definition_in, is_here, next_ordinal, means, missing_by, with_names, Rises, AreMarks};
 
 use crate::symbol_use::SymbolUse;
 use indexmap::IndexSet;
@@ -28,6 +28,46 @@ fn pass(scope: &mut Scope<'_, '_>, count: u32)
     }
 }
 
+/// Whether a symbol is the place of its own statement.
+fn is_here(symbol: Symbol<'_>) -> bool
+    ensures { result ≡ is_here (symbol_of symbol.entry) }
+{
+    match symbol {
+        Symbol::Name(_) => false,
+        Symbol::Here => true,
+        Symbol::Backward(_) => false,
+        Symbol::Forward(_) => false,
+    }
+}
+
+/// The ordinal of the statement at which a use is looked up, where others led to this one before: `.` needs none.
+fn next_ordinal(ordinal: u32, symbol_use: &SymbolUse<'_>) -> u32
+    ensures { result ≡ next_ordinal ordinal (use_of symbol_use.now) }
+{
+    if is_here(symbol_use.symbol) {
+        ordinal
+    } else {
+        symbol_use.ordinal
+    }
+}
+
+/// Where the symbol of a use is defined, if the scope stands before its statement; `.` is anywhere the place of that one.
+fn definition<'a>(scope: &Scope<'_, 'a>, symbol_use: &SymbolUse<'a>) -> Option<Definition>
+    ensures { IsFilled (scope.now).unit.now
+        → (is_here (use_of symbol_use.now).symbol ≡ false
+        → (1 ≤ (symbol_use.now).ordinal) × IsScope scope.now ((symbol_use.now).ordinal - 1))
+        → option_map definition_of result
+        ≡ definition_in (tables (said (scope.now).unit.now)) (use_of symbol_use.now) }
+{
+    if is_here(symbol_use.symbol) {
+        return Some(Definition {
+            ordinal: symbol_use.ordinal as usize,
+            plus: 0,
+        });
+    }
+    scope.definition(symbol_use.symbol)
+}
+
 /// Where the symbols of uses are defined in their file, a definition for each use.
 pub(crate) fn definitions<'a>(
     alloc: Global,
@@ -44,9 +84,10 @@ pub(crate) fn definitions<'a>(
     let mut scope = Scope::new(unit);
     let mut ordinal = 1;
     for symbol_use in uses {
-        pass(&mut scope, symbol_use.ordinal.saturating_sub(ordinal));
-        ordinal = symbol_use.ordinal;
-        found.push(scope.definition(symbol_use.symbol))?;
+        let next = next_ordinal(ordinal, symbol_use);
+        pass(&mut scope, next.saturating_sub(ordinal));
+        ordinal = next;
+        found.push(definition(&scope, symbol_use))?;
     }
     Ok(found)
 }

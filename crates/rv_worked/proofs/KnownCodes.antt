@@ -1,8 +1,8 @@
 -- Worked code: why each instruction has its bytes.
 
-use Rattle.std.proofs.Common.{◌≡◌, ◌≤◌, true, false, [], ◌∷◌, refl, ap, subst, lit<, arith, inl, inr, ℤ, pos, negsuc}
+use Rattle.std.proofs.Common.{◌≡◌, true, false, [], ◌∷◌, refl, ap, subst, lit<, arith, inl, inr, ℤ, pos, negsuc}
 use Rattle.std.proofs.lemmas.Int.{ints}
-use Rattle.std.specs.Prelude.{◌≤ℤ◌, ◌<◌}
+use Rattle.std.specs.Prelude.{◌≤ℤ◌}
 use Rattle.rv_isa.specs.Ranges.{IsValid}
 use Rattle.rv_isa.specs.declared.instruction.Inst.{Inst}
 use Rattle.rv_isa.specs.declared.instruction.Inst.TheVariants as isa
@@ -72,7 +72,6 @@ no_short (p, short) = no_form short.form short.spells.line short.same
 
 pub word : IsCode without_names false (Immediate Of_addi) (own 5) 4 adds_word 1
 word = record {
-  known = refl;
   ps = Closed adds ∷ [];
   parts = refl;
   coded_as = ((adds_valid, refl, inl (refl, refl)), tt);
@@ -82,7 +81,6 @@ word = record {
 
 pub parcel : IsCode without_names true (Immediate Of_addi) (own 5) 2 adds_parcel 1
 parcel = record {
-  known = refl;
   ps = Closed adds ∷ [];
   parts = refl;
   coded_as = ((adds_valid, inl (refl, (0x515, adds_short)), inr (refl, (0x515, adds_short, refl))), tt);
@@ -92,7 +90,6 @@ parcel = record {
 
 pub words : IsCode without_names false Li (number 2048) 8 loads_words 2
 words = record {
-  known = refl;
   ps = Closed upper ∷ Closed low ∷ [];
   parts = refl;
   coded_as = ((upper_valid, refl, inl (refl, refl)), ((low_valid, refl, inl (refl, refl)), tt));
@@ -102,7 +99,6 @@ words = record {
 
 pub mixed : IsCode without_names true Li (number 2048) 6 loads_both 2
 mixed = record {
-  known = refl;
   ps = Closed upper ∷ Closed low ∷ [];
   parts = refl;
   coded_as = (

@@ -1,3 +1,5 @@
 pub mod Exit7Program
 pub mod FiguresProgram
 pub mod KnownCodes
+pub mod OpenCodes
+pub mod LeastSizes

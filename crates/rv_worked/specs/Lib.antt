@@ -5,3 +5,5 @@ pub mod Refused
 pub mod CodeAlignment
 pub mod Regions
 pub mod KnownCode
+pub mod OpenCode
+pub mod BranchSizes

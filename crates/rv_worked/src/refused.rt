@@ -48,23 +48,23 @@ pub fn first_ones_count()
     ensures later { statements_fault directive_later ≡ fault duplicate_label 4 }
 {}
 
-/// A register on the way to a symbol is not x0, and a store needs its own; `la` into x0 only cannot be placed yet.
+/// A register on the way to a symbol is not x0, and a store needs its own; `la` may have x0.
 pub fn scratch_registers_are_used()
     ensures load { statements_fault (alone (loads_symbol 0 x)) ≡ fault scratch_register 2 }
     ensures store { statements_fault (alone (stores_symbol 0 x)) ≡ fault scratch_register 2 }
     ensures same { statements_fault (alone (stores_symbol 10 x)) ≡ fault scratch_register 2 }
     ensures call { statements_fault (alone (calls 0 x)) ≡ fault scratch_register 2 }
     ensures jump { statements_fault (alone (jumps_by 0 x)) ≡ fault scratch_register 2 }
-    ensures address { statements_fault (alone (loads_address 0 x)) ≡ fault unsupported_here 2 }
-    ensures other { statements_fault (alone (stores_symbol 5 x)) ≡ fault unsupported_here 2 }
+    ensures address { statements_fault (alone (loads_address 0 x)) ≡ None }
+    ensures other { statements_fault (alone (stores_symbol 5 x)) ≡ None }
     ensures beside { statements_fault (alone (loads_symbol 0 away)) ≡ fault scratch_register 2 }
     ensures after { statements_fault (alone (calls 0 (Binary Divide x (constant 0))))
         ≡ fault division_by_zero 2 }
 {}
 
-/// A target is a symbol's address, whose number is nowhere yet; a constant is none, nor is a distance.
+/// A target is a symbol's address; a constant is none, nor is a distance.
 pub fn targets_are_addresses()
-    ensures label { statements_fault (before_label (jumps x)) ≡ fault unsupported_here 2 }
+    ensures label { statements_fault (before_label (jumps x)) ≡ None }
     ensures number { statements_fault (after_set (jumps x)) ≡ fault immediate_range 3 }
     ensures early { statements_fault (before_set (jumps x)) ≡ fault not_constant 2 }
     ensures distance { statements_fault (alone (jumps away)) ≡ fault not_constant 2 }
@@ -80,13 +80,13 @@ pub fn upper_parts_end()
     ensures high { statements_fault (alone (upper_part (constant 0xfffff7ff))) ≡ None }
     ensures above { statements_fault (alone (upper_part (constant 0xfffff800)))
         ≡ fault immediate_range 2 }
-    ensures symbol { statements_fault (alone (upper_part x)) ≡ fault unsupported_here 2 }
+    ensures symbol { statements_fault (alone (upper_part x)) ≡ None }
     ensures distance { statements_fault (alone (upper_part away)) ≡ fault not_constant 2 }
 {}
 
 /// The low part of an address is a number of 12 bits, and neither a shift's nor `li`'s.
 pub fn low_parts_fit()
-    ensures symbol { statements_fault (alone (adds_part Lo x)) ≡ fault unsupported_here 2 }
+    ensures symbol { statements_fault (alone (adds_part Lo x)) ≡ None }
     ensures distance { statements_fault (alone (adds_part Lo away)) ≡ fault not_constant 2 }
     ensures number { statements_fault (alone (adds_part Lo (constant 5000))) ≡ None }
     ensures shift { statements_fault (alone (shifts_part Lo x)) ≡ fault not_constant 2 }
@@ -100,8 +100,7 @@ pub fn low_parts_fit()
 
 /// The low part of a distance names a label of the source.
 pub fn distances_name_labels()
-    ensures label { statements_fault (before_label (adds_part PcrelLo x))
-        ≡ fault unsupported_here 2 }
+    ensures label { statements_fault (before_label (adds_part PcrelLo x)) ≡ None }
     ensures missing { statements_fault (alone (adds_part PcrelLo x)) ≡ fault undefined_local 2 }
     ensures constant { statements_fault (after_set (adds_part PcrelLo x))
         ≡ fault undefined_local 3 }
@@ -125,11 +124,15 @@ pub fn known_code_is_sound()
     ensures far { statements_fault (alone (jumps_back 2048)) ≡ fault immediate_range 2 }
 {}
 
-/// A symbol is open, and code with one cannot be placed yet: as such it is refused where nothing else
-/// is wrong.
-pub fn unplaced_comes_last()
-    ensures symbol { statements_fault (alone (loads_symbol 10 x)) ≡ fault unsupported_here 2 }
-    ensures compressed { statements_fault (compressed (jumps x)) ≡ fault unsupported_here 1 }
+/// An operand that is a symbol is open, and its code has a place, in compressed code too; a distance
+/// is no symbol.
+pub fn open_code_is_sound()
+    ensures symbol { statements_fault (alone (loads_symbol 10 x)) ≡ None }
+    ensures compressed { statements_fault (compressed (jumps x)) ≡ None }
+    ensures call { statements_fault (alone (calls 1 x)) ≡ None }
+    ensures jump { statements_fault (compressed (jumps_by 5 x)) ≡ None }
+    ensures address { statements_fault (compressed (loads_address 10 x)) ≡ None }
+    ensures upper { statements_fault (alone (upper_distance x)) ≡ None }
     ensures other { statements_fault (alone (loads_symbol 10 away)) ≡ fault not_constant 2 }
 {}
 

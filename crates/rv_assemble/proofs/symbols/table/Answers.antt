@@ -1,4 +1,5 @@
-use Rattle.std.proofs.Common.{length, ap, ◌∙◌, sym, subst, map}
+use Rattle.std.proofs.Common.{length, ap, ◌∙◌, sym, subst}
+use Rattle.std.specs.Prelude.{flat_map}
 use Rattle.rv_unit_laws.specs.Tables.{tables}
 use Rattle.rv_unit.specs.Unit.{said}
 use Rattle.rv_assemble_laws.specs.ShownNames.{AreShown}
@@ -9,12 +10,12 @@ use Rattle.rv_assemble.proofs.symbols.table.Goals as goal
 
 pub symbols-requires-clause-shown : goal.symbols-requires-clause-shown
 symbols-requires-clause-shown c =
-    subst AreShown (sym (ap uses_of c.as_slice-4.ensures.value ∙ c.in_ok-uses.ensures ∙ ap (map use_of) c.as_slice-2.ensures.value))
+    subst AreShown (sym (ap uses_of c.as_slice-4.ensures.value ∙ c.in_ok-uses.ensures ∙ ap (flat_map use_of) c.as_slice-2.ensures.value))
     (uses_shown (said c.args.unit.now) c.args.draft.now c.requires.draft c.requires.names)
 
 pub symbols-requires-clause-meant : goal.symbols-requires-clause-meant
 symbols-requires-clause-meant c =
-    subst (AreMeant (tables (said c.args.unit.now))) (sym (ap uses_of c.as_slice-4.ensures.value ∙ c.in_ok-uses.ensures ∙ ap (map use_of) c.as_slice-2.ensures.value))
+    subst (AreMeant (tables (said c.args.unit.now))) (sym (ap uses_of c.as_slice-4.ensures.value ∙ c.in_ok-uses.ensures ∙ ap (flat_map use_of) c.as_slice-2.ensures.value))
     (uses_meant (said c.args.unit.now) c.args.draft.now c.requires.draft c.requires.names)
 
 pub symbols-requires-clause-each : goal.symbols-requires-clause-each

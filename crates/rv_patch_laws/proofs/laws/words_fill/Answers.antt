@@ -1,13 +1,21 @@
-use Rattle.std.proofs.Common.{arith}
-use Rattle.rv_patch_laws.proofs.Fields.{lo_field}
+use Rattle.rv_patch_laws.proofs.Formats.{branches, jumps, uppers, immediates, stores, calls}
 use Rattle.rv_patch_laws.proofs.laws.words_fill.Goals as goal
 
 -- src/laws.rt:17:1
+pub returns-clause-branches : goal.returns-clause-branches
+returns-clause-branches c = branches
+
+pub returns-clause-jumps : goal.returns-clause-jumps
+returns-clause-jumps c = jumps
+
+pub returns-clause-uppers : goal.returns-clause-uppers
+returns-clause-uppers c = uppers
+
 pub returns-clause-immediates : goal.returns-clause-immediates
-returns-clause-immediates c k opcode funct3 x v lower selectors valid takes = let same = lo_field v in grind arith
+returns-clause-immediates c = immediates
 
 pub returns-clause-stores : goal.returns-clause-stores
-returns-clause-stores c k opcode funct3 x v lower selectors valid takes = let same = lo_field v in grind arith
+returns-clause-stores c = stores
 
 pub returns-clause-calls : goal.returns-clause-calls
-returns-clause-calls c k auipc jalr funct3 x y v call below selectors upper valid takes = let same = lo_field v in grind arith
+returns-clause-calls c = calls

@@ -23,7 +23,7 @@ pub bounds-places-index : goal.bounds-places-index
 bounds-places-index c =
     let i = c.loop-index.index in
     let inside = subst (λ l. i < length l) c.statements-statements.ensures c.loop-index-test.true in
-    let inside' = subst (λ n. i < n) (sym (places_count c.args.unit.now c.requires)) inside in
+    let inside' = subst (λ n. i < n) (sym (places_count c.args.unit.now c.requires.filled)) inside in
     subst (λ l. i < length l) (sym c.places-places.ensures) inside'
 
 pub add-requires : goal.add-requires
@@ -34,7 +34,7 @@ add-requires c =
     let p : SectionOffset = slice_index_or c.places-places.result.now i (record { section = 0; offset = 0 }) in
     let inside = subst (λ l. i < length l) c.statements-statements.ensures c.loop-index-test.true in
     let is : x ≡ get_or u.statements.items i x = c.index-statements-index.is ∙ ap (λ l. get_or l i x) c.statements-statements.ensures in
-    let at : StandsAt u i x p = stands_at u i x x (record { section = 0; offset = 0 }) p c.requires inside is (ap (λ l. get_or l i (record { section = 0; offset = 0 })) c.places-places.ensures) in
+    let at : StandsAt u i x p = stands_at u i x x (record { section = 0; offset = 0 }) p c.requires.filled inside is (ap (λ l. get_or l i (record { section = 0; offset = 0 })) c.places-places.ensures) in
     let stands = got_inside (map extent_section u.tables.extents.items) p.section (located_at (said u) i (statement_of x)).home at.home in
     subst (λ n. p.section < n) (length-map u.tables.extents.items extent_section ∙ sym c.loop-index.invariant.3) stands
 
@@ -45,7 +45,7 @@ extent_at-extent-requires c =
     let p : SectionOffset = slice_index_or c.places-places.result.now i (record { section = 0; offset = 0 }) in
     let inside = subst (λ l. i < length l) c.statements-statements.ensures c.loop-index-test.true in
     let stands : p.section < length u.tables.extents.items =
-    place_inside u i (record { section = 0; offset = 0 }) p c.requires inside (ap (λ l. get_or l i (record { section = 0; offset = 0 })) c.places-places.ensures) in
+    place_inside u i (record { section = 0; offset = 0 }) p c.requires.filled inside (ap (λ l. get_or l i (record { section = 0; offset = 0 })) c.places-places.ensures) in
     subst (λ l. p.section < length l) (sym c.sections-extents.ensures) stands
 
 pub loop-index-preserved : goal.loop-index-preserved
@@ -56,17 +56,17 @@ loop-index-preserved c =
     let p : SectionOffset = slice_index_or c.places-places.result.now i (record { section = 0; offset = 0 }) in
     let inside = subst (λ l. i < length l) c.statements-statements.ensures c.loop-index-test.true in
     let is : x ≡ get_or u.statements.items i x = c.index-statements-index.is ∙ ap (λ l. get_or l i x) c.statements-statements.ensures in
-    let at : StandsAt u i x p = stands_at u i x x (record { section = 0; offset = 0 }) p c.requires inside is (ap (λ l. get_or l i (record { section = 0; offset = 0 })) c.places-places.ensures) in
+    let at : StandsAt u i x p = stands_at u i x x (record { section = 0; offset = 0 }) p c.requires.filled inside is (ap (λ l. get_or l i (record { section = 0; offset = 0 })) c.places-places.ensures) in
     let e = c.extent_at-extent.result in
     let there : IsExtentAt u.tables.extents.items p.section e = subst (λ l. IsExtentAt l p.section e) c.sections-extents.ensures c.extent_at-extent.ensures in
     let within = subst (λ n. i < n) (sym (length-map u.statements.items statement_of)) inside in
     let rvc = c.rvc-compressed.result in
     let same = c.loop-index.invariant.0 in
-    let filled = subst IsFilled (sym same) c.requires in
+    let filled = subst IsFilled (sym same) c.requires.filled in
     let faults = faults_in (tables (said u)) (i + 1) (extent_section e) (offset_of p) (statement_of x) in
     let known = faults_there u i x p e at there in
     let on : rvc ≡ (located_at (said u) i (statement_of x)).options.rvc =
-    c.rvc-compressed.ensures ∙ ap (λ (o : Options). o.rvc) (c.options_at.ensures c.requires within) in
+    c.rvc-compressed.ensures ∙ ap (λ (o : Options). o.rvc) (c.options_at.ensures c.requires.filled within) in
     let added : IsAdded c.loop-index.coder c.add.new.self p.section faults (λ e. value_of (tables (said u)) true (i + 1) (offset_of p) e) rvc (statement_of x) =
     subst (λ w. IsAdded c.loop-index.coder c.add.new.self p.section (faults_in (tables (said w)) (i + 1) (extent_section e) (offset_of p) (statement_of x)) (λ e. value_of (tables (said w)) true (i + 1) (offset_of p) e) rvc (statement_of x)) same
     (c.in_ok-add.ensures i filled c.loop-index.invariant.1) in
@@ -85,13 +85,13 @@ returns-in_err-add-clause-code c =
     let p : SectionOffset = slice_index_or c.places-places.result.now i (record { section = 0; offset = 0 }) in
     let inside = subst (λ l. i < length l) c.statements-statements.ensures c.loop-index-test.true in
     let is : x ≡ get_or u.statements.items i x = c.index-statements-index.is ∙ ap (λ l. get_or l i x) c.statements-statements.ensures in
-    let at : StandsAt u i x p = stands_at u i x x (record { section = 0; offset = 0 }) p c.requires inside is (ap (λ l. get_or l i (record { section = 0; offset = 0 })) c.places-places.ensures) in
+    let at : StandsAt u i x p = stands_at u i x x (record { section = 0; offset = 0 }) p c.requires.filled inside is (ap (λ l. get_or l i (record { section = 0; offset = 0 })) c.places-places.ensures) in
     let e = c.extent_at-extent.result in
     let there : IsExtentAt u.tables.extents.items p.section e = subst (λ l. IsExtentAt l p.section e) c.sections-extents.ensures c.extent_at-extent.ensures in
     let within = subst (λ n. i < n) (sym (length-map u.statements.items statement_of)) inside in
     let rvc = c.rvc-compressed.result in
     let same = c.loop-index.invariant.0 in
-    let filled = subst IsFilled (sym same) c.requires in
+    let filled = subst IsFilled (sym same) c.requires.filled in
     let faults = faults_in (tables (said u)) (i + 1) (extent_section e) (offset_of p) (statement_of x) in
     let known = faults_there u i x p e at there in
     let wrong =
@@ -99,14 +99,14 @@ returns-in_err-add-clause-code c =
     (c.in_err-add.ensures i filled c.loop-index.invariant.1) in
     let found = err_from_is_err_and c.from_residual-in_err-add.result c.from_residual-in_err-add.ensures.1 in
     rw (found.1, found.2)
-    (code_wrong u i x p rvc c.loop-index.coder c.add.new.self faults c.in_err-add.field-0.0 at c.loop-index.invariant.2 known wrong)
+    (code_wrong u i x p rvc c.loop-index.coder c.add.new.self faults c.in_err-add.field-0.0 at c.loop-index.invariant.2 known wrong c.args.lengths.now)
 
 pub returns-clause-code : goal.returns-clause-code
 returns-clause-code c =
     let u = c.args.unit.now in
     let i = c.loop-index.index in
     let past = subst (λ l. length l ≤ i) c.statements-statements.ensures c.loop-index-test.false in
-    code_whole (said u) i c.loop-index.coder c.finish.result (stated_none (said u) i (subst (λ n. n ≤ i) (sym (length-map u.statements.items statement_of)) past)) c.loop-index.invariant.2 c.finish.ensures.code
+    code_whole (said u) c.args.lengths.now i c.loop-index.coder c.finish.result (stated_none (said u) i (subst (λ n. n ≤ i) (sym (length-map u.statements.items statement_of)) past)) c.loop-index.invariant.2 c.requires.least c.finish.ensures.code
 
 pub returns-clause-count : goal.returns-clause-count
 returns-clause-count c = subst (λ n. IfOk c.finish.result (λ (found : SectionCode). length found.sections.items ≡ n)) c.loop-index.invariant.3 c.finish.ensures.count

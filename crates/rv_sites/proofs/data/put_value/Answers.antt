@@ -18,7 +18,7 @@ returns-clause-fields c =
     let loaded : spot.loaded ≡ true = search rules in
     on_ok_weaker c.put_fields.result
     (λ told index f s.
-    let own : List Field = map (field_at spot.place.section spot.ordinal c.args.place) (value_fields (bytes_of c.args.width) (values_at spot.scope.now index spot.place (tree_of_expr c.args.expression.now))) in
+    let own : List Field = map (field_at spot.place.section c.args.place) (value_fields spot.ordinal (bytes_of c.args.width) (values_at spot.scope.now index spot.place (tree_of_expr c.args.expression.now))) in
     told 0 _ (c.value-value.ensures index f s)
     ∙ ap (λ b. map field_of c.args.fields.now.items ++ (if b then own else [])) (sym loaded))
     c.put_fields.ensures

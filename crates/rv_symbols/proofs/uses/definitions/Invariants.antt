@@ -1,4 +1,4 @@
-use Rattle.std.proofs.Common.{◌≡◌, ◌≤◌, ◌-◌, ◌++◌, length, map, drop}
+use Rattle.std.proofs.Common.{◌≡◌, ◌≤◌, ◌+◌, ◌-◌, ◌++◌, length, map, drop}
 use Rattle.std.specs.Prelude.{option_map}
 use Rattle.rv_unit_laws.specs.Tables.{tables}
 use Rattle.rv_unit.specs.Unit.{said, definition_of, IsFilled, IsScope}
@@ -12,6 +12,7 @@ invariant-loop-symbol_use l = record {
   len : length l.found.items ≡ l.symbol_use-index;
   unit : l.scope.unit.now ≡ l.unit;
   low : IsFilled l.unit → Rises 1 (length (said l.unit)) (uses_of l.uses) → 1 ≤ l.ordinal;
+  within : IsFilled l.unit → Rises 1 (length (said l.unit)) (uses_of l.uses) → l.ordinal ≤ length (said l.unit) + 1;
   rises : IsFilled l.unit → Rises 1 (length (said l.unit)) (uses_of l.uses) → Rises l.ordinal (length (said l.unit)) (drop l.symbol_use-index (uses_of l.uses));
   scope : IsFilled l.unit → Rises 1 (length (said l.unit)) (uses_of l.uses) → IsScope l.scope (l.ordinal - 1);
   found : IsFilled l.unit → Rises 1 (length (said l.unit)) (uses_of l.uses)

@@ -24,7 +24,7 @@ items-requires-clause-sizes c =
     let u = c.args.unit.now in
     let ss = said u in
     let code = c.in_ok-code.code in
-    ap length c.as_slice-sizes.ensures.value ∙ sizes_count (tables ss) (located (ss ∷ [])) code.sections.items code.sizes.items c.in_ok-code.ensures.code
+    ap length c.as_slice-sizes.ensures.value ∙ sizes_count (tables ss) (located (ss ∷ [])) _ code.sections.items code.sizes.items c.in_ok-code.ensures.code
     ∙ ap length (one_file ss) ∙ stated_length 1 1 at_start ss ∙ length-map u.statements.items statement_of
 
 pub returns-in_err-items-clause-refuses : goal.returns-in_err-items-clause-refuses
@@ -32,7 +32,7 @@ returns-in_err-items-clause-refuses c =
     let ss = said c.args.unit.now in
     let code = c.in_ok-code.code in
     let whole = c.in_ok-code.ensures.code in
-    let short = sizes_short (tables ss) (located (ss ∷ [])) code.sections.items code.sizes.items whole in
+    let short = sizes_short (tables ss) (located (ss ∷ [])) _ code.sections.items code.sizes.items whole in
     let memory =
     c.in_err-items.ensures.refuses c.requires.good whole.faults
     (ap (λ l. size_fault_from (λ j. 0) (located (ss ∷ [])) (bytes_of_sizes l)) c.as_slice-sizes.ensures.value ∙ short) in
@@ -47,7 +47,7 @@ returns-clause-draft c =
     let d : Draft = record { items = c.in_ok-items.items; sections = found.sections; ends = c.in_ok-items.ends; fields = found.fields; rvc = c.has_compressed.result } in
     let sections = sym (length-map u.tables.extents.items extent_section) ∙ ap length (sections_are u.tables.extents.items ∙ ap (λ (t : Tables). (opened_of t).sections) c.requires.filled.tables) in
     let few : length c.statements.result.now < 2 ^ 32 = search rules in
-    is_draft ss c.in_ok-code.code.sections.items c.in_ok-code.code.sizes.items d
+    is_draft ss _ c.in_ok-code.code.sections.items c.in_ok-code.code.sizes.items d
     (record {
       good = c.requires.good;
       wide = all_wide u.statements.items;

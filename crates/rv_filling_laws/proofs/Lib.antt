@@ -1,0 +1,4 @@
+mod Forms
+pub mod One
+pub mod All
+pub mod Rows

@@ -1,0 +1,91 @@
+-- The bytes of a statement's code before and after its open fields are filled, part by part
+-- (RISC-V ELF psABI, "Relocations").
+
+use Rattle.std.specs.Prelude.{◌≡◌, ℕ, ◌+◌, ◌*◌, ◌%◌, ◌≤◌, Bool, true, false, ⊤, List, [], ◌∷◌, ◌++◌, length}
+use Rattle.rv_isa.specs.declared.kind.Kind.{Kind}
+use Rattle.rv_isa.specs.declared.instruction.Inst.{Inst}
+use Rattle.rv_isa.specs.declared.instruction.Format.{Format}
+use Rattle.rv_isa.specs.declared.instruction.Format.TheVariants as format
+use Rattle.rv_isa.specs.Kinds.{width_of}
+use Rattle.rv_isa.specs.Operations.{format_of}
+use Rattle.rv_reloc.specs.Fields.{patched}
+use Rattle.rv_reloc.specs.Operands.{with_value}
+use Rattle.rv_patch_laws.specs.Encoded.{IsEncodedIn}
+use Rattle.rv_pseudo_laws.specs.Code.{Part, Closed, Open, Joined}
+use Rattle.rv_pseudo_laws.specs.Filled.{FieldValue, part_bytes}
+use Rattle.rv_pseudo_laws.specs.Runs.{Sized}
+use Rattle.rv_pseudo_laws.specs.Valid.{fills_call, IsValidPart}
+
+-- ---- before
+
+-- these bytes are the part's, with what its open field holds so far
+abbrev pub IsEncodedPart : Part → List ℕ → Type 0
+IsEncodedPart (Closed i) bytes = IsEncodedIn i (length bytes) bytes
+IsEncodedPart (Open k i) bytes = IsEncodedIn i (width_of k) bytes
+IsEncodedPart (Joined k i j) bytes =
+    (first : List ℕ)
+    × ((second : List ℕ)
+    × IsEncodedIn i 4 first × IsEncodedIn j 4 second × (bytes ≡ first ++ second))
+
+-- a kind of a call fills an upper part and the `jalr` after it
+abbrev pub is_call : Kind → Format → Format → Bool
+is_call k (format.Upper operation x) (format.Jalr y) = fills_call k
+is_call k f g = false
+
+-- two instructions that are filled as one are those of a call
+abbrev pub IsCallPart : Part → Type 0
+IsCallPart (Closed i) = ⊤
+IsCallPart (Open k i) = ⊤
+IsCallPart (Joined k i j) = is_call k (format_of i) (format_of j) ≡ true
+
+-- parts with their bytes, which relocations can fill
+abbrev pub AreFillable : List Part → List (List ℕ) → Type 0
+AreFillable [] [] = ⊤
+AreFillable [] (bytes ∷ coded) = ⊥
+AreFillable (p ∷ ps) [] = ⊥
+AreFillable (p ∷ ps) (bytes ∷ coded) =
+    IsValidPart p × IsCallPart p × IsEncodedPart p bytes × AreFillable ps coded
+
+-- ---- after
+
+-- the bytes of a part at an address
+abbrev pub patched_part : FieldValue → ℕ → Part → List ℕ → List ℕ
+patched_part value a (Closed i) bytes = bytes
+patched_part value a (Open k i) bytes = patched k (value k a) bytes
+patched_part value a (Joined k i j) bytes = patched k (value k a) bytes
+
+-- of parts that follow one another from an address on, by the bytes that a part has where one is
+-- open
+abbrev pub patched_parts : FieldValue → ℕ → List Part → List (List ℕ) → List (List ℕ)
+patched_parts value a [] coded = []
+patched_parts value a (p ∷ ps) [] = []
+patched_parts value a (p ∷ ps) (bytes ∷ coded) =
+    patched_part value a p bytes ∷ patched_parts value (a + part_bytes p) ps coded
+
+abbrev pub sized : Inst → ℕ → Sized
+sized i bytes = record { instruction = i; bytes = bytes }
+
+-- its instructions, each with its bytes
+abbrev pub sized_part : FieldValue → ℕ → Part → List ℕ → List Sized
+sized_part value a (Closed i) bytes = sized i (length bytes) ∷ []
+sized_part value a (Open k i) bytes = sized (with_value (value k a) i) (width_of k) ∷ []
+sized_part value a (Joined k i j) bytes =
+    sized (with_value (value k a) i) 4 ∷ sized (with_value (value k a) j) 4 ∷ []
+
+abbrev pub sized_parts : FieldValue → ℕ → List Part → List (List ℕ) → List Sized
+sized_parts value a [] coded = []
+sized_parts value a (p ∷ ps) [] = []
+sized_parts value a (p ∷ ps) (bytes ∷ coded) =
+    sized_part value a p bytes ++ sized_parts value (a + part_bytes p) ps coded
+
+-- instructions of these sizes lie in bytes one after another
+abbrev pub AreEncoded : List Sized → List ℕ → Type 0
+AreEncoded [] bytes = bytes ≡ []
+AreEncoded (l ∷ ls) bytes =
+    (front : List ℕ)
+    × ((rest : List ℕ)
+    × (bytes ≡ front ++ rest) × IsEncodedIn l.instruction l.bytes front × AreEncoded ls rest)
+
+-- two bytes an instruction at least, four at most, and an even count of them
+abbrev pub AreFew : ℕ → ℕ → Type 0
+AreFew count bytes = (2 * count ≤ bytes) × (bytes ≤ 4 * count) × (bytes % 2 ≡ 0)

@@ -1,0 +1,43 @@
+-- The open field of a part of a statement's code, as the code holds it.
+
+use Rattle.std.specs.Prelude.{ℕ, Bool, ◌&&◌, if◌then◌else◌, List, [], ◌∷◌, Option, Some, None}
+use Rattle.rv_isa.specs.declared.kind.Kind.{Kind}
+use Rattle.rv_text_laws.specs.Values.{Value}
+use Rattle.rv_text.specs.Nodes.{symbol_of}
+use Rattle.rv_statement.specs.declared.pseudo.Function.{Function}
+use Rattle.rv_statement.specs.declared.pseudo.Function.TheVariants.{Hi, Lo, PcrelHi, PcrelLo}
+use Rattle.rv_statement.specs.Statement.{StatementKind, Expression}
+use Rattle.rv_unit_laws.specs.Tables.{Tables}
+use Rattle.rv_source_laws.specs.Lines.{operand_of, is_low_part}
+use Rattle.rv_assemble_laws.specs.Templates.{Open}
+use Rattle.rv_assemble_laws.specs.CodeFields.{symbol_field, low_field, label_field, field_of}
+use Rattle.rv_instruction.specs.declared.opened.Reference.{Reference}
+
+-- the field under a kind of what a reference says
+abbrev pub open_of : Kind → Reference → Open
+open_of k r =
+    record {
+      kind = k;
+      ordinal = r.ordinal;
+      symbol = Some (symbol_of r.symbol);
+      addend = r.addend;
+    }
+
+abbrev pub opens_of : Kind → Option Reference → List Open
+opens_of k None = []
+opens_of k (Some r) = open_of k r ∷ []
+
+-- those with a function of a value, and with an expression that is a target or a number
+abbrev pub function_field : Tables → Kind → ℕ → Function → Value → List Open
+function_field t k ordinal Hi v = symbol_field k ordinal v
+function_field t k ordinal Lo v = symbol_field k ordinal v
+function_field t k ordinal PcrelHi v = symbol_field k ordinal v
+function_field t k ordinal PcrelLo v = label_field t k ordinal v
+
+abbrev pub value_field : Bool → Kind → ℕ → Value → List Open
+value_field is_target k ordinal v =
+    if is_target && is_low_part k then low_field k ordinal 0 else symbol_field k ordinal v
+
+-- the fields of a statement's operand under a kind
+abbrev pub fields_of : Tables → (Expression → Value) → ℕ → StatementKind → Kind → List Open
+fields_of t v ordinal kind k = field_of t v ordinal (operand_of kind) k

@@ -1,0 +1,137 @@
+//! The open fields of code, in the order of the source.
+//!
+//! Source: System V gABI, "Relocation"; RISC-V ELF psABI, "Relocations", "Linker Relaxation".
+
+use crate::code::{asked, width};
+use crate::data::Spot;
+use crate::field::OpenField;
+use crate::item::Item;
+use rv_instruction::{Coded, Encoded, code as code_of, open_field};
+use rv_isa::Kind;
+use rv_statement::Statement;
+use std::alloc::AllocError;
+
+/// How the code of a statement is written: whether compressed code is on, and whether the linker may
+/// relax it.
+#[derive(Clone, Copy, Drop)]
+pub(crate) struct Choices {
+    pub(crate) compressed: bool,
+    pub(crate) relax: bool,
+}
+
+/// Adds the field of a kind at a place.
+fn put_field<'a>(
+    fields: &mut Vec<OpenField<'a>>,
+    spot: &Spot<'_, '_, 'a>,
+    statement: &Statement<'a>,
+    place: u32,
+    kind: Kind,
+) -> Result<(), AllocError> {
+    let scope = spot.scope;
+    let ordinal = spot.ordinal as usize;
+    match open_field(statement, scope, spot.place, ordinal, kind) {
+        Some(found) => {
+            fields.push(OpenField {
+                section: spot.place.section,
+                place,
+                kind,
+                ordinal: (found.ordinal % (1 << 32)) as u32,
+                symbol: Some(found.symbol),
+                addend: found.addend,
+            })?;
+            Ok(())
+        }
+        None => Ok(()),
+    }
+}
+
+/// Adds that the linker may shorten the call at a place.
+fn put_relax<'a>(
+    fields: &mut Vec<OpenField<'a>>,
+    spot: &Spot<'_, '_, 'a>,
+    place: u32,
+) -> Result<(), AllocError> {
+    fields.push(OpenField {
+        section: spot.place.section,
+        place,
+        kind: Kind::Relax,
+        ordinal: spot.ordinal,
+        symbol: None,
+        addend: 0,
+    })?;
+    Ok(())
+}
+
+/// Adds the fields of a part of a statement's code at a place.
+fn put_part<'a>(
+    fields: &mut Vec<OpenField<'a>>,
+    spot: &Spot<'_, '_, 'a>,
+    statement: &Statement<'a>,
+    relax: bool,
+    place: u32,
+    part: &Coded,
+) -> Result<(), AllocError> {
+    match part.kind {
+        Some(kind) => put_field(fields, spot, statement, place, kind)?,
+        None => {}
+    }
+    match part.encoded {
+        Encoded::Pair(..) if relax => put_relax(fields, spot, place),
+        _ => Ok(()),
+    }
+}
+
+/// Adds the fields of a statement's code, part by part.
+fn put_parts<'a>(
+    fields: &mut Vec<OpenField<'a>>,
+    spot: &Spot<'_, '_, 'a>,
+    statement: &Statement<'a>,
+    relax: bool,
+    offset: u32,
+    code: &[Coded],
+) -> Result<(), AllocError> {
+    let mut place = offset;
+    for part in code {
+        put_part(fields, spot, statement, relax, place, part)?;
+        place = place.wrapping_add(u32::from(width(part.encoded)));
+    }
+    Ok(())
+}
+
+/// Adds the fields of a statement in a section of code.
+pub(crate) fn put_code<'a>(
+    fields: &mut Vec<OpenField<'a>>,
+    spot: &Spot<'_, '_, 'a>,
+    statement: &Statement<'a>,
+    choices: Choices,
+    item: Item,
+) -> Result<(), AllocError> {
+    if !spot.loaded {
+        return Ok(());
+    }
+    let Some(bytes) = asked(&statement.kind, choices.compressed, item.bytes) else {
+        return Ok(());
+    };
+    let scope = spot.scope;
+    match code_of(
+        statement,
+        scope,
+        spot.place,
+        true,
+        choices.compressed,
+        bytes,
+    ) {
+        Ok(found) => {
+            put_parts(
+                fields,
+                spot,
+                statement,
+                choices.relax,
+                item.offset,
+                found.as_slice(),
+            )
+        }
+        // a faulty statement was refused before
+        Err(_) => Ok(()),
+    }
+}
