@@ -9,12 +9,14 @@ use Rattle.rv_unit_laws.specs.Sections.{Section, is_nobits}
 use Rattle.rv_unit_laws.specs.Tables.{Tables, at_start, tables, longest_section}
 use Rattle.rv_source_laws.specs.Located.{located_from}
 use Rattle.rv_assemble_laws.specs.Templates.{Template, contribution_templates}
-use Rattle.rv_assemble_laws.specs.Sites.{Site, Part, form, part_of, part_bytes, sites_in}
+use Rattle.rv_assemble_laws.specs.Sites.{Site, Part, form, part_of, part_bytes, sites_in, templates}
 use Rattle.rv_assemble_laws.specs.Fields.{Field, fields_from}
 use Rattle.rv_sites.specs.declared.field.OpenField.{OpenField}
 use Rattle.rv_sites.specs.declared.item.CodeSize.{CodeSize}
 use Rattle.rv_sites.specs.declared.item.Item.{Item}
-use Rattle.rv_sites.specs.Code.{bytes_in}
+use Rattle.rv_instruction.specs.declared.encoded.Coded.{Coded}
+use Rattle.rv_sites.specs.Code.{bytes_in, size_of}
+use Rattle.rv_sites.specs.Coded.{AreCoded}
 use Rattle.rv_sites.specs.Draft.{field_of}
 use Rattle.rv_sites.specs.Items.{AreItems}
 use Rattle.rv_sites.specs.Seated.{sites_of}
@@ -54,17 +56,28 @@ data_parts t s =
     then data_said s.located.ordinal (λ e. form t s.located e) s.located.kind s.bytes
     else []
 
-abbrev pub data_fields : Tables → Site → List Field
-data_fields t s =
-    fields_said s.located.home.loaded s.located.section s.offset (data_parts t s)
+-- the parts of an instruction
+abbrev pub code_said : Tables → Site → StatementKind → List Part
+code_said t s (Instruction mnemonic operands) =
+    map (part_of s.located.ordinal) (templates t s (Instruction mnemonic operands))
+code_said t s kind = []
+
+-- the parts whose fields may stay open: of an instruction in a section of code, and of data
+abbrev pub open_parts : Tables → Site → List Part
+open_parts t s =
+    if s.located.home.executable then code_said t s s.located.kind else data_parts t s
+
+abbrev pub open_fields : Tables → Site → List Field
+open_fields t s =
+    fields_said s.located.home.loaded s.located.section s.offset (open_parts t s)
 
 -- the bytes of data that statements have in a section
 abbrev pub data_bytes : Tables → ℕ → List Site → List ℕ
 data_bytes t section sites = flat_map part_bytes (flat_map (data_parts t) (sites_in section sites))
 
--- the sites of a source with these items, without their code
-abbrev pub sites : List Statement → List Item → List Site
-sites ss is = sites_of (located_from 1 1 at_start ss) is []
+-- the sites of a source with these items and this code
+abbrev pub sites : List Statement → List Item → List (List Coded) → List Site
+sites ss is codes = sites_of (located_from 1 1 at_start ss) is codes
 
 -- the items stand in their sections, and have their sizes
 pub record IsLaid (ss : List Statement) (is : List Item) : Type 0 where
@@ -74,18 +87,24 @@ pub record IsLaid (ss : List Statement) (is : List Item) : Type 0 where
   pub sized : AreSized (tables ss) 1 at_start ss is sizes
   pub low : (j : ℕ) → last j ≤ longest_section
 
+-- the items have this code
+pub record HaveCode (ss : List Statement) (is : List Item) (codes : List (List Coded)) : Type 0 where
+  pub coded : AreCoded (tables ss) (located_from 1 1 at_start ss) codes
+  pub sized : AreSized (tables ss) 1 at_start ss is (map size_of codes)
+
 -- what is there so far, from these sections on, and what the statements from an index on
 -- contribute, make up the whole
-pub record IsDataTo (ss : List Statement) (is : List Item) (start : List (Vec ℕ)) (i : ℕ)
-    (sections : List (Vec ℕ)) (found : List OpenField) : Type 0 where
-  pub bytes : (j : ℕ) → bytes_in sections j ++ data_bytes (tables ss) j (drop i (sites ss is))
-      ≡ bytes_in start j ++ data_bytes (tables ss) j (sites ss is)
-  pub fields : map field_of found ++ flat_map (data_fields (tables ss)) (drop i (sites ss is))
-      ≡ flat_map (data_fields (tables ss)) (sites ss is)
+pub record IsDataTo (ss : List Statement) (is : List Item) (codes : List (List Coded))
+    (start : List (Vec ℕ)) (i : ℕ) (sections : List (Vec ℕ)) (found : List OpenField) : Type 0 where
+  pub bytes : (j : ℕ) → bytes_in sections j ++ data_bytes (tables ss) j (drop i (sites ss is []))
+      ≡ bytes_in start j ++ data_bytes (tables ss) j (sites ss is [])
+  pub fields : map field_of found
+      ++ flat_map (open_fields (tables ss)) (drop i (sites ss is codes))
+      ≡ flat_map (open_fields (tables ss)) (sites ss is codes)
 
 -- all of it
-pub record IsData (ss : List Statement) (is : List Item) (start sections : List (Vec ℕ))
-    (found : List OpenField) : Type 0 where
+pub record IsData (ss : List Statement) (is : List Item) (codes : List (List Coded))
+    (start sections : List (Vec ℕ)) (found : List OpenField) : Type 0 where
   pub bytes : (j : ℕ) → bytes_in sections j
-      ≡ bytes_in start j ++ data_bytes (tables ss) j (sites ss is)
-  pub fields : map field_of found ≡ flat_map (data_fields (tables ss)) (sites ss is)
+      ≡ bytes_in start j ++ data_bytes (tables ss) j (sites ss is [])
+  pub fields : map field_of found ≡ flat_map (open_fields (tables ss)) (sites ss is codes)

@@ -1,17 +1,26 @@
 -- What a statement of data adds where it stands.
 
-use Rattle.std.specs.Prelude.{◌≡◌, ℕ, List, ◌++◌, flat_map, map}
+use Rattle.std.specs.Prelude.{◌≡◌, ℕ, ◌+◌, ⊤, List, ◌++◌, flat_map, length, map}
 use Rattle.std.specs.Global.{Vec}
 use Rattle.rv_text_laws.specs.Values.{Value}
-use Rattle.rv_statement.specs.Statement.{StatementKind, Expression}
+use Rattle.rv_statement.specs.Statement.{StatementKind, Instruction, Expression}
+use Rattle.rv_unit_laws.specs.Tables.{tables}
+use Rattle.rv_tables.specs.Sections.{offset_of}
+use Rattle.rv_unit.specs.Unit.{said}
+use Rattle.rv_source_laws.specs.Located.{Located}
+use Rattle.rv_source_laws.specs.Program.{place_of}
 use Rattle.rv_assemble_laws.specs.Templates.{Datum, value_fields}
 use Rattle.rv_assemble_laws.specs.Sites.{Part, part_of, part_bytes}
 use Rattle.rv_assemble_laws.specs.Fields.{Field, field_at}
 use Rattle.rv_instruction.specs.Scoped.{values_at, AtNext}
 use Rattle.rv_sites.specs.declared.data.Spot.{Spot}
 use Rattle.rv_sites.specs.declared.field.OpenField.{OpenField}
-use Rattle.rv_sites.specs.Code.{GrowsBy}
-use Rattle.rv_sites.specs.DataParts.{data_said, fields_said}
+use Rattle.rv_instruction.specs.declared.encoded.Coded.{Coded}
+use Rattle.rv_sites.specs.declared.fields.Choices.{Choices}
+use Rattle.rv_sites.specs.declared.item.Item.{Item}
+use Rattle.rv_sites.specs.Code.{GrowsBy, bytes_coded}
+use Rattle.rv_sites.specs.Seated.{site_of}
+use Rattle.rv_sites.specs.DataParts.{data_said, fields_said, code_said}
 use Rattle.rv_sites.specs.Draft.{field_of}
 
 -- of the index from 0 of the statement
@@ -53,3 +62,26 @@ AddsFields spot old new more =
 abbrev pub AddsParts : Spot → List (Vec ℕ) → List (Vec ℕ) → (ℕ → List Part) → Type 0
 AddsParts spot old new ps =
     AtSpot spot (λ index. GrowsBy old new spot.place.section (flat_map part_bytes (ps index)))
+
+-- ---- code
+
+-- the statement of this index, which says this, where it stands and is coded so
+pub record IsAtSpot (spot : Spot) (index : ℕ) (says : StatementKind) (choices : Choices)
+    (l : Located) : Type 0 where
+  pub ordinal : spot.ordinal ≡ index + 1
+  pub own : l.ordinal ≡ index + 1
+  pub kind : l.kind ≡ says
+  pub place : place_of l ≡ offset_of spot.place
+  pub compressed : l.options.rvc ≡ choices.compressed
+  pub relax : l.options.relax ≡ choices.relax
+
+-- an instruction has the bytes of its code
+abbrev pub HasBytesOf : List Coded → Item → StatementKind → Type 0
+HasBytesOf coded x (Instruction mnemonic operands) = x.bytes ≡ length (bytes_coded coded)
+HasBytesOf coded x kind = ⊤
+
+-- the open fields of a statement that stands as its item says and has this code
+abbrev pub code_fields : Spot → Located → Item → List Coded → List Field
+code_fields spot l x coded =
+    fields_in spot x.offset
+    (code_said (tables (said spot.scope.now.unit.now)) (site_of l x coded) l.kind)

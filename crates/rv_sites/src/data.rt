@@ -15,7 +15,8 @@ ghost use Rattle.rv_assemble_laws.specs.Templates as laws;
 ghost use Rattle.rv_assemble_laws.specs.Templates.{opened, value_bytes};
 ghost use Rattle.rv_assemble_laws.specs.Sites.{part_bytes};
 ghost use Rattle.rv_assemble_laws.specs.Fields.{field_at};
-ghost use Rattle.rv_sites.specs.DataParts.{is_filled, HasRoomFor, IsLaid, IsDataTo, IsData};
+ghost use Rattle.rv_instruction.specs.declared.encoded.Coded.{Coded};
+ghost use Rattle.rv_sites.specs.DataParts.{is_filled, HasRoomFor, HaveCode, IsLaid, IsDataTo, IsData};
 ghost use Rattle.rv_sites.specs.Draft.{field_of};
 ghost use Rattle.rv_sites.specs.Spots.{value_in, parts_in, said_in, own_fields, fields_in, AddsBytes, AddsFields, AddsParts};
 
@@ -416,17 +417,19 @@ fn put_next<'a>(
     index: usize,
     scope: &Scope<'_, 'a>,
     items: &[Item],
-) -> Result<(), AllocError>
+) -> Result<(), SourceFault>
     requires filled { IsFilled unit.now }
     requires within { index < length (unit.now).statements.items }
     requires few { length (unit.now).statements.items < 2 ^ 32 }
     requires item { index < length items.now }
     requires laid { IsLaid (said unit.now) items.now }
     requires each { length sections.old ≡ length (unit.now).tables.extents.items }
-    ensures data { OnOk result ((start : List (Vec ℕ)) → (scope.now).unit.now ≡ unit.now
-        → IsScope scope.now index
-        → IsDataTo (said unit.now) items.now start index sections.old fields.old.items
-        → IsDataTo (said unit.now) items.now start (index + 1) sections.new fields.new.items) }
+    ensures data { OnOk result ((start : List (Vec ℕ)) (codes : List (List Coded))
+        → (scope.now).unit.now ≡ unit.now → IsScope scope.now index
+        → HaveCode (said unit.now) items.now codes
+        → IsDataTo (said unit.now) items.now codes start index sections.old fields.old.items
+        → IsDataTo (said unit.now) items.now codes start (index + 1) sections.new
+        fields.new.items) }
     ensures count { length sections.new ≡ length sections.old }
 {
     let statement = &unit.statements()[index];
@@ -453,7 +456,8 @@ fn put_next<'a>(
         extent.section,
         &statement.kind,
         items[index],
-    )
+    )?;
+    Ok(())
 }
 
 /// What sections hold, and the fields that stay open there.
@@ -471,15 +475,16 @@ pub(crate) fn data<'a>(
     unit: &Unit<'a>,
     items: &[Item],
     code: Vec<Vec<u8>>,
-) -> Result<Filled<'a>, AllocError>
+) -> Result<Filled<'a>, SourceFault>
     requires filled { IsFilled unit.now }
     requires few { length (unit.now).statements.items < 2 ^ 32 }
     requires count { length items.now ≡ length (unit.now).statements.items }
     requires laid { IsLaid (said unit.now) items.now }
     requires each { length code.items ≡ length (unit.now).tables.extents.items }
     ensures count { IfOk result (λ r. length r.sections.items ≡ length code.items) }
-    ensures data { IfOk result (λ r.
-        IsData (said unit.now) items.now code.items r.sections.items r.fields.items) }
+    ensures data { IfOk result (λ r. (codes : List (List Coded))
+        → HaveCode (said unit.now) items.now codes
+        → IsData (said unit.now) items.now codes code.items r.sections.items r.fields.items) }
 {
     let mut sections = code;
     let mut fields = Vec::new(alloc);

@@ -2,13 +2,14 @@
 //!
 //! Source: System V gABI, "Relocation"; RISC-V ELF psABI, "Relocations", "Linker Relaxation".
 
-use crate::code::{asked, width};
+use crate::code::{asked, bytes_of, width};
 use crate::data::Spot;
 use crate::field::OpenField;
 use crate::item::Item;
-use rv_instruction::{Coded, Encoded, code as code_of, open_field};
+use rv_instruction::{Code, Coded, Encoded, code as code_of, open_field};
 use rv_isa::Kind;
 use rv_statement::Statement;
+use rv_text::SourceFault;
 use std::alloc::AllocError;
 
 /// How the code of a statement is written: whether compressed code is on, and whether the linker may
@@ -98,6 +99,24 @@ fn put_parts<'a>(
     Ok(())
 }
 
+/// The code of a statement in a section of code, which has so many bytes.
+fn code_in_bytes<'a>(
+    statement: &Statement<'a>,
+    spot: &Spot<'_, '_, 'a>,
+    compressed: bool,
+    bytes: u32,
+) -> Result<Code, SourceFault> {
+    // each length is offered, and has the bytes that it had before
+    let Some(length) = asked(&statement.kind, compressed, bytes) else {
+        return Err(SourceFault::OutOfMemory);
+    };
+    let found = code_of(statement, spot.scope, spot.place, true, compressed, length)?;
+    if u32::from(bytes_of(found.as_slice())) != bytes {
+        return Err(SourceFault::OutOfMemory);
+    }
+    Ok(found)
+}
+
 /// Adds the fields of a statement in a section of code.
 pub(crate) fn put_code<'a>(
     fields: &mut Vec<OpenField<'a>>,
@@ -109,29 +128,14 @@ pub(crate) fn put_code<'a>(
     if !spot.loaded {
         return Ok(());
     }
-    let Some(bytes) = asked(&statement.kind, choices.compressed, item.bytes) else {
-        return Ok(());
-    };
-    let scope = spot.scope;
-    match code_of(
+    let found = code_in_bytes(statement, spot, choices.compressed, item.bytes)?;
+    put_parts(
+        fields,
+        spot,
         statement,
-        scope,
-        spot.place,
-        true,
-        choices.compressed,
-        bytes,
-    ) {
-        Ok(found) => {
-            put_parts(
-                fields,
-                spot,
-                statement,
-                choices.relax,
-                item.offset,
-                found.as_slice(),
-            )
-        }
-        // a faulty statement was refused before
-        Err(_) => Ok(()),
-    }
+        choices.relax,
+        item.offset,
+        found.as_slice(),
+    )?;
+    Ok(())
 }
