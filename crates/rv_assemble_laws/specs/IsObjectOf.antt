@@ -102,8 +102,6 @@ pub record IsSectionOf (t : Tables) (all : List Site) (number : Numbering) (symb
   pub fields : AllByRecursion (λ p. IsTemplate p.template) (parts t sites)
   -- a section of code is not too long
   pub short : section.executable ≡ true → end_of 0 sites ≤ longest_section
-  -- code is aligned to 2 at most: alignments beyond that are not built
-  pub low : goes_to_text section ≡ true → x.alignment ≤ 2
 
 abbrev pub AreSectionsOf : Tables → List Site → Numbering → List Symbol → ℕ → List SourceSection →
     List Section → Type 0

@@ -1,39 +1,25 @@
 -- Why a source is refused that reads well: after the faults of its labels and directives those of
 -- its code and of the sizes of code.
 
-use Rattle.std.specs.Prelude.{◌≡◌, ◌⊎◌, ⊤, ℕ, ◌+◌, Bool, true, not, ◌&&◌, ◌==◌, nat_lt, List, [], ◌∷◌, Option, Some, None, if◌then◌else◌}
-use Rattle.rv_text_laws.specs.Expression.{Primary}
-use Rattle.rv_text_laws.specs.Codes.{unsupported_here, limit}
+use Rattle.std.specs.Prelude.{◌≡◌, ◌⊎◌, ⊤, ℕ, ◌+◌, Bool, true, ◌==◌, nat_lt, List, [], ◌∷◌, Option, Some, None, if◌then◌else◌}
+use Rattle.rv_text_laws.specs.Codes.{limit}
 use Rattle.rv_text_laws.specs.Values.{Value}
 use Rattle.rv_statement.specs.Statement.{StatementKind, Instruction, Directs, Statement, Expression}
 use Rattle.rv_unit_laws.specs.Tables.{Tables, tables, value, longest_section, alignment_of}
-use Rattle.rv_unit_laws.specs.Faults.{Fault, faulty_if, lowest, at_line, first_fault}
+use Rattle.rv_unit_laws.specs.Faults.{Fault, lowest, at_line, first_fault}
 use Rattle.rv_source_laws.specs.Located.{Located, located}
 use Rattle.rv_source_laws.specs.Program.{place_of}
-use Rattle.rv_source_laws.specs.Fits.{is_low}
 use Rattle.rv_assemble_laws.specs.Coded.{IsCode}
+use Rattle.rv_assemble_laws.specs.Templates.{code_padding}
 use Rattle.rv_assemble_laws.specs.Sizes.{AreLeast}
 use Rattle.rv_assemble_laws.specs.InstructionFaults.{instruction_faults, is_label}
 
 -- ---- code
 
--- an alignment above 2 in code has padding, which cannot be placed yet
-abbrev pub padding_faults : Bool → Option ℕ → List ℕ
-padding_faults executable alignment =
-    faulty_if (not (is_low alignment) && executable) unsupported_here
-
--- the faults of a statement as code: those of an instruction, or of an alignment in a section of
--- code; v gives values, and l says which symbols are labels of the file
-abbrev pub code_faults :
-    Bool → (Expression → Value) → (Primary → Bool) → StatementKind → List ℕ
-code_faults executable v l (Directs directive) =
-    padding_faults executable (alignment_of v directive)
-code_faults executable v l kind = instruction_faults v l kind
-
+-- the faults of a statement as code: those of an instruction
 abbrev pub code_faults_at : Tables → Located → List ℕ
 code_faults_at t s =
-    code_faults s.home.executable (λ e. value t true s.ordinal (place_of s) e)
-    (is_label t s.ordinal) s.kind
+    instruction_faults (λ e. value t true s.ordinal (place_of s) e) (is_label t s.ordinal) s.kind
 
 abbrev pub code_fault_from : Tables → List Located → Option Fault
 code_fault_from t [] = None
@@ -46,16 +32,20 @@ code_fault ss = code_fault_from (tables ss) (located (ss ∷ []))
 
 -- ---- the sizes of code
 
--- the bytes of a statement as code: those of an instruction
-abbrev pub HasCodeSize : (Expression → Value) → Bool → StatementKind → ℕ → Type 0
-HasCodeSize v rvc (Instruction mnemonic operands) bytes =
+-- the bytes of a statement as code: those of an instruction, or of an alignment in a section of
+-- code
+abbrev pub HasCodeSize : Bool → (Expression → Value) → Bool → StatementKind → ℕ → Type 0
+HasCodeSize executable v rvc (Instruction mnemonic operands) bytes =
     (coded : List (List ℕ))
     × ((instructions : ℕ) × IsCode v rvc mnemonic operands bytes coded instructions)
-HasCodeSize v rvc kind bytes = bytes ≡ 0
+HasCodeSize executable v rvc (Directs directive) bytes =
+    bytes ≡ (if executable then code_padding (alignment_of v directive) else 0)
+HasCodeSize executable v rvc kind bytes = bytes ≡ 0
 
 abbrev pub HasSizeAt : Tables → Located → ℕ → Type 0
 HasSizeAt t s bytes =
-    HasCodeSize (λ e. value t true s.ordinal (place_of s) e) s.options.rvc s.kind bytes
+    HasCodeSize s.home.executable (λ e. value t true s.ordinal (place_of s) e) s.options.rvc s.kind
+    bytes
 
 -- those of statements, one after the other
 abbrev pub AreCodeSizes : Tables → List Located → List ℕ → Type 0

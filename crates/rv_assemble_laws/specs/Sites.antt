@@ -6,13 +6,13 @@ use Rattle.rv_text_laws.specs.Values.{Value, Constant}
 use Rattle.rv_statement.specs.Statement.{StatementKind, Label, Numbered, Instruction, Directs, Expression, Directive, Aligns_to_power, Aligns_to_bytes, Values, Strings, Zeros}
 use Rattle.rv_unit_laws.specs.Tables.{Tables, value, alignment_of, padding, string_bytes}
 use Rattle.rv_unit_laws.specs.Contributions.{contribution}
+use Rattle.rv_object.specs.Padding.{operations_in}
 use Rattle.rv_pseudo_laws.specs.Code.{Part as CodePart, code}
 use Rattle.rv_source_laws.specs.Located.{Located}
 use Rattle.rv_source_laws.specs.Program.{place_of}
-use Rattle.rv_source_laws.specs.Fits.{is_low}
 use Rattle.rv_assemble_laws.specs.CodeFields.{part_fields}
 use Rattle.rv_assemble_laws.specs.Coded.{is_constant, constants, IsCode}
-use Rattle.rv_assemble_laws.specs.Templates.{Open, Template, Coded, contribution_templates, template_bytes}
+use Rattle.rv_assemble_laws.specs.Templates.{Open, Template, Coded, code_padding, contribution_templates, template_bytes}
 
 -- a statement of a source alone, the bytes before it in its section, how many bytes it has, how
 -- many instructions these are, and the bytes of its code, part by part
@@ -50,7 +50,8 @@ templates t s (Instruction mnemonic operands) =
     coded_templates (part_fields t v s.located)
     (unwrap_or (code (constants v) s.located.options.rvc s.bytes mnemonic operands) []) s.coded
 templates t s (Directs directive) =
-    contribution_templates (form t s.located) (contribution directive) s.bytes
+    contribution_templates s.located.home.executable s.located.ordinal (form t s.located)
+    (contribution directive) s.bytes
 
 abbrev pub parts_of : Tables → Site → List Part
 parts_of t s = map (part_of s.located.ordinal) (templates t s s.located.kind)
@@ -88,16 +89,17 @@ abbrev pub IsMultiple : Option ℕ → ℕ → Type 0
 IsMultiple None start = ⊤
 IsMultiple (Some alignment) start = (0 < alignment) × (start % alignment ≡ 0)
 
--- the padding of an alignment to 2 or less in code: none; in data: up to the multiple
-abbrev pub IsPaddedIn : Bool → Site → ℕ → Option ℕ → Type 0
-IsPaddedIn true s multiple alignment = (s.bytes ≡ 0) × (is_low alignment ≡ true)
-IsPaddedIn false s multiple alignment =
-    (s.bytes ≡ padding alignment s.offset) × IsMultiple alignment multiple
+-- the padding of an alignment: in code instructions, as many bytes as it may ever need; in data up
+-- to the multiple
+abbrev pub IsPaddedIn : Bool → Site → Option ℕ → Type 0
+IsPaddedIn true s alignment =
+    (s.bytes ≡ code_padding alignment) × (s.instructions ≡ operations_in s.bytes)
+IsPaddedIn false s alignment = (s.bytes ≡ padding alignment s.offset) × (s.instructions ≡ 0)
 
 abbrev pub IsPadded : Site → ℕ → Value → Option ℕ → Type 0
 IsPadded s multiple v alignment =
-    (is_constant v ≡ true) × (s.instructions ≡ 0)
-    × IsPaddedIn s.located.home.executable s multiple alignment
+    (is_constant v ≡ true) × IsMultiple alignment multiple
+    × IsPaddedIn s.located.home.executable s alignment
 
 abbrev pub DirectiveSize : (Expression → Value) → Site → ℕ → Directive → Type 0
 DirectiveSize v s multiple (Values width values) =

@@ -1,16 +1,17 @@
 -- What the statements of a source are in an object: bytes with open fields left zero, and the
 -- relocations that fill them (RISC-V ELF psABI, "Relocations"; GNU as, "Pseudo Ops").
 
-use Rattle.std.specs.Prelude.{◌≡◌, ℕ, ℤ, pos, ◌==◌, ⊤, ◌⊎◌, if◌then◌else◌, List, [], ◌∷◌, map, replicate, Option, Some}
+use Rattle.std.specs.Prelude.{◌≡◌, ℕ, zero, suc, ◌-◌, ℤ, pos, Bool, true, false, ◌==◌, ⊤, ◌⊎◌, if◌then◌else◌, List, [], ◌∷◌, map, replicate, Option, Some, None}
 use Rattle.std.specs.Int.{w64, int_wrap}
 use Rattle.rv_isa.specs.declared.kind.Kind.{Kind}
-use Rattle.rv_isa.specs.declared.kind.Kind.TheVariants.{Abs32, Abs64, Add8, Add16, Add32, Add64, Sub8, Sub16, Sub32, Sub64}
+use Rattle.rv_isa.specs.declared.kind.Kind.TheVariants.{Align, Abs32, Abs64, Add8, Add16, Add32, Add64, Sub8, Sub16, Sub32, Sub64}
 use Rattle.rv_isa_laws.specs.Bytes.{little_endian}
 use Rattle.rv_text_laws.specs.Expression.{Primary}
 use Rattle.rv_text_laws.specs.Values.{Value, Constant, Symbolic, Difference, Faulty}
 use Rattle.rv_statement.specs.Statement.{Expression}
 use Rattle.rv_unit_laws.specs.Contributions.{Contents, Numbers, Texts, Contribution, Nothing, Bytes, Zero_bytes, Alignment}
 use Rattle.rv_unit_laws.specs.Tables.{string_bytes}
+use Rattle.rv_object.specs.Padding.{no_operations}
 
 abbrev pub zeros : ℕ → List ℕ
 zeros count = replicate count 0
@@ -111,15 +112,37 @@ IsTemplate (Fixed bytes) = ⊤
 IsTemplate (Datum width value) = HasField width value
 IsTemplate (Coded bytes fields) = ⊤
 
--- ---- the templates of data
+-- ---- paddings
+
+-- the padding of an alignment in code: room for the least one wherever the code comes to stand,
+-- and none up to 2
+abbrev pub code_padding : Option ℕ → ℕ
+code_padding None = 0
+code_padding (Some alignment) = alignment - 2
+
+-- its size is the addend of an ALIGN
+abbrev pub align_field : (ordinal bytes : ℕ) → Open
+align_field ordinal bytes =
+    record { kind = Align; ordinal = ordinal; symbol = None; addend = pos bytes }
+
+-- in code a padding is instructions without effect under an ALIGN, in data zeros
+abbrev pub padding_templates : (executable : Bool) (ordinal bytes : ℕ) → List Template
+padding_templates true ordinal zero = []
+padding_templates true ordinal (suc n) =
+    Coded (no_operations (suc n)) (align_field ordinal (suc n) ∷ []) ∷ []
+padding_templates false ordinal bytes = Fixed (zeros bytes) ∷ []
+
+-- ---- the templates of directives
 
 abbrev pub contents_templates : (Expression → Value) → Contents → List Template
 contents_templates v (Numbers width values) = map (λ e. Datum width (v e)) values
 contents_templates v (Texts ended strings) = Fixed (string_bytes ended strings) ∷ []
 
--- zeros and paddings of data are zeros
-abbrev pub contribution_templates : (Expression → Value) → Contribution → ℕ → List Template
-contribution_templates v Nothing bytes = []
-contribution_templates v (Bytes contents) bytes = contents_templates v contents
-contribution_templates v (Zero_bytes count) bytes = Fixed (zeros bytes) ∷ []
-contribution_templates v (Alignment form number) bytes = Fixed (zeros bytes) ∷ []
+-- of a directive of this ordinal, in a section of code or of data
+abbrev pub contribution_templates :
+    (executable : Bool) (ordinal : ℕ) → (Expression → Value) → Contribution → ℕ → List Template
+contribution_templates executable ordinal v Nothing bytes = []
+contribution_templates executable ordinal v (Bytes contents) bytes = contents_templates v contents
+contribution_templates executable ordinal v (Zero_bytes count) bytes = Fixed (zeros bytes) ∷ []
+contribution_templates executable ordinal v (Alignment form number) bytes =
+    padding_templates executable ordinal bytes

@@ -1,4 +1,5 @@
 pub mod Object
+pub mod Padding
 pub mod Parts
 pub mod Sections
 pub mod Valid

@@ -1,9 +1,10 @@
 -- What the linker takes out of sections of code: the padding of an alignment that is more than is
 -- needed (RISC-V ELF psABI, "Linker Relaxation", R_RISCV_ALIGN).
 
-use Rattle.std.specs.Prelude.{ℕ, zero, suc, ◌+◌, ◌-◌, ◌*◌, ◌/◌, ◌%◌, Bool, ◌&&◌, nat_le, nat_lt, min, List, [], ◌∷◌, ◌++◌, length, take, drop, filter, sum_by, unwrap_or, if◌then◌else◌}
+use Rattle.std.specs.Prelude.{ℕ, ◌+◌, ◌-◌, ◌*◌, ◌/◌, Bool, ◌&&◌, nat_le, nat_lt, min, List, [], ◌∷◌, ◌++◌, length, take, drop, filter, sum_by, unwrap_or, if◌then◌else◌}
 use Rattle.std.specs.List.{find}
 use Rattle.rv_object.specs.Object.{Relocation, Section}
+use Rattle.rv_object.specs.Padding.{no_operations, operations_in}
 use Rattle.rv_object.specs.Valid.{is_align, padding_of}
 
 -- of `full` bytes from an offset on, these are left, written anew
@@ -48,18 +49,6 @@ alignment_of r =
     unwrap_or
     (find (λ a. nat_lt (full_padding r) a)
     (2 ∷ 4 ∷ 8 ∷ 16 ∷ 32 ∷ 64 ∷ 128 ∷ 256 ∷ 512 ∷ 1024 ∷ 2048 ∷ 4096 ∷ [])) 4096
-
--- instructions without effect: `addi zero, zero, 0` of four bytes, and `c.nop` where two are left
-abbrev pub four_each : ℕ → List ℕ
-four_each zero = []
-four_each (suc n) = 0x13 ∷ 0 ∷ 0 ∷ 0 ∷ four_each n
-
-abbrev pub no_operations : ℕ → List ℕ
-no_operations bytes = four_each (bytes / 4) ++ (if nat_le 2 (bytes % 4) then 0x01 ∷ 0 ∷ [] else [])
-
--- how many these are
-abbrev pub operations_in : ℕ → ℕ
-operations_in bytes = bytes / 4 + bytes % 4 / 2
 
 -- the paddings of a section of code in the order of their places, whatever the order of its
 -- relocations: before those that begin where it ends or later

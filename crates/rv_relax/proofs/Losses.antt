@@ -4,7 +4,8 @@ use Rattle.std.proofs.Common.{◌≡◌, ℕ, zero, suc, ◌+◌, ◌-◌, ◌%�
 use Rattle.std.specs.List.{AllWithin}
 use Rattle.std.proofs.lemmas.Bool.{lt-leb, le-leb, and_left, and_right, and_from}
 use Rattle.std.proofs.lemmas.List.Sums.{sum_by-cons}
-use Rattle.rv_object_laws.specs.Moves.{lost, lost_in, operations_in, no_operations}
+use Rattle.rv_object.specs.Padding.{operations_in, no_operations}
+use Rattle.rv_object_laws.specs.Moves.{lost, lost_in}
 use Rattle.rv_relax.specs.declared.padding.Padding.{Padding}
 use Rattle.rv_relax.specs.Paddings.{move_of, are_in_order}
 use Rattle.rv_relax.proofs.Operations.{length_even}

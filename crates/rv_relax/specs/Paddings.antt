@@ -3,7 +3,8 @@
 use Rattle.std.specs.Prelude.{ℕ, ◌+◌, ◌-◌, ◌%◌, ◌^◌, Bool, true, ◌&&◌, ◌==◌, nat_le, nat_lt, List, [], ◌∷◌}
 use Rattle.rv_relax.specs.declared.padding.Padding.{Padding}
 use Rattle.rv_object.specs.Object.{Relocation}
-use Rattle.rv_object_laws.specs.Moves.{Move, no_operations, full_padding}
+use Rattle.rv_object.specs.Padding.{no_operations}
+use Rattle.rv_object_laws.specs.Moves.{Move, full_padding}
 
 -- what is kept of a padding
 abbrev pub move_of : Padding → Move

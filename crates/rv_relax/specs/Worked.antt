@@ -3,7 +3,8 @@
 use Rattle.std.specs.Prelude.{ℕ, pos, true, List, [], ◌∷◌, None}
 use Rattle.rv_isa.specs.declared.kind.Kind.TheVariants as kinds
 use Rattle.rv_object.specs.Object.{Relocation, Section, Progbits}
-use Rattle.rv_object_laws.specs.Moves.{Move, no_operations}
+use Rattle.rv_object.specs.Padding.{no_operations}
+use Rattle.rv_object_laws.specs.Moves.{Move}
 
 -- an alignment with its bytes of padding at a place
 abbrev pub align_at : ℕ → ℕ → Relocation

@@ -1,7 +1,8 @@
 //! The bytes that are kept of a section.
 
 ghost use Rattle.std.specs.Prelude.{◌≡◌, ◌++◌, true, map, take, drop, OnOk};
-ghost use Rattle.rv_object_laws.specs.Moves.{kept, no_operations};
+ghost use Rattle.rv_object.specs.Padding.{no_operations};
+ghost use Rattle.rv_object_laws.specs.Moves.{kept};
 ghost use Rattle.rv_relax.specs.Paddings.{are_in_order, move_of};
 
 use crate::padding::Padding;

@@ -2,7 +2,8 @@
 
 ghost use Rattle.std.specs.Prelude.{◌≡◌, ◌≤◌, ◌<◌, ℕ, true, nat_lt, length, map};
 ghost use Rattle.std.specs.List.Sorted.{IsPartitionPoint};
-ghost use Rattle.rv_object_laws.specs.Moves.{dropped, lost as lost_of, operations_in};
+ghost use Rattle.rv_object.specs.Padding.{operations_in};
+ghost use Rattle.rv_object_laws.specs.Moves.{dropped, lost as lost_of};
 ghost use Rattle.rv_relax.specs.Paddings.{are_in_order, move_of};
 
 use crate::padding::Padding;

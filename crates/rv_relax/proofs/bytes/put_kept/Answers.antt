@@ -1,6 +1,7 @@
 use Rattle.std.proofs.Common.{◌≡◌, ◌+◌, ◌-◌, ◌<◌, ◌++◌, ◌∷◌, true, length, map, take, drop, slice_index_or, sym, ap, ◌∙◌, subst}
 use Rattle.std.proofs.lemmas.List.{drop_more}
-use Rattle.rv_object_laws.specs.Moves.{kept, no_operations}
+use Rattle.rv_object.specs.Padding.{no_operations}
+use Rattle.rv_object_laws.specs.Moves.{kept}
 use Rattle.rv_relax.specs.Paddings.{are_in_order, move_of}
 use Rattle.rv_relax.proofs.Order.{zeros, first, rest, ends_low}
 use Rattle.rv_relax.proofs.Kept.{kept_more}

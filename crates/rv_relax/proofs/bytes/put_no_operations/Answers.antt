@@ -1,5 +1,5 @@
 use Rattle.std.proofs.Common.{◌+◌, ◌-◌, ◌/◌, ◌++◌, ap, ◌∙◌}
-use Rattle.rv_object_laws.specs.Moves.{four_each}
+use Rattle.rv_object.specs.Padding.{four_each}
 use Rattle.rv_relax.proofs.Operations.{four_more, whole, and_half}
 use Rattle.rv_relax.proofs.bytes.put_no_operations.Goals as goal
 

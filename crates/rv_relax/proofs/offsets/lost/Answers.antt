@@ -1,6 +1,6 @@
 use Rattle.std.proofs.Common.{◌≡◌, ◌+◌, ◌-◌, ◌<◌, ◌≤◌, length, slice_index_or, rules, arith}
 use Rattle.std.proofs.lemmas.List.{drop_more}
-use Rattle.rv_object_laws.specs.Moves.{operations_in}
+use Rattle.rv_object.specs.Padding.{operations_in}
 use Rattle.rv_relax.proofs.Order.{zeros, ends_low, evens}
 use Rattle.rv_relax.proofs.Losses.{skipped, taken, none_left, low}
 use Rattle.rv_relax.proofs.offsets.lost.Goals as goal
