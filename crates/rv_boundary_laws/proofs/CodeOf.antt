@@ -13,8 +13,8 @@ use Rattle.rv_object_laws.specs.Inputs.{Starts}
 use Rattle.rv_assemble_laws.specs.Sites.{Site}
 use Rattle.rv_assemble_laws.specs.Symbols.{site_at}
 use Rattle.rv_assemble_laws.proofs.Homes.{all_map}
-use Rattle.rv_boundary_laws.specs.Joins.{AreObjectsOf}
 use Rattle.rv_boundary_laws.proofs.Statements.{mapped_at, sites_by}
+use Rattle.rv_boundary_laws.proofs.Shrunk.{AreObjectsOf}
 
 -- ---- each statement of a file is found by its ordinal
 

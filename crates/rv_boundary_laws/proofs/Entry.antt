@@ -23,8 +23,7 @@ use Rattle.rv_object_laws.specs.Names as objects
 use Rattle.rv_object_laws.specs.Names.{exported, defined_address, is_in_text, can_begin, entry_by}
 use Rattle.rv_assemble_laws.specs.Sites.{Site}
 use Rattle.rv_assemble_laws.specs.Symbols.{site_at, after_found, assigned_definition, site_definition, global_symbol, exports_of}
-use Rattle.rv_assemble_laws.specs.IsObjectOf.{IsObjectOf, IsInData, StandsInData}
-use Rattle.rv_boundary_laws.specs.Joins.{AreObjectsOf}
+use Rattle.rv_assemble_laws.specs.IsObjectOf.{IsInData, StandsInData}
 use Rattle.rv_boundary_laws.proofs.Statements.{row_in, rows_from, statement_at, all_statements, all_rows}
 use Rattle.rv_boundary_laws.proofs.Settled.{IsSettled, settled}
 use Rattle.rv_boundary_laws.proofs.Known.{all_found, section_found}
@@ -33,6 +32,7 @@ use Rattle.rv_boundary_laws.proofs.Files.{IsFile, AreFiles}
 use Rattle.rv_boundary_laws.proofs.Names.{exported_are, AreNth}
 use Rattle.rv_boundary_laws.proofs.Globals.{IsLow, low_rows, label_address}
 use Rattle.rv_boundary_laws.proofs.Evens.{IsEven, evens}
+use Rattle.rv_boundary_laws.proofs.Shrunk.{IsObjectOf, AreObjectsOf}
 
 -- ---- searches
 

@@ -11,11 +11,11 @@ use Rattle.rv_unit_laws.specs.Sections.{Section as SourceSection, goes_to_text}
 use Rattle.rv_unit_laws.specs.Tables.{Tables, tables, alignment_of, opened_of}
 use Rattle.rv_chain_laws.proofs.Held.{IsHeld}
 use Rattle.rv_object.specs.Object.{Object}
-use Rattle.rv_assemble_laws.specs.Sites.{Site, IsPaddedIn, form, part_of, part_bytes, parts_of, sites_in, Tile, HasSize}
-use Rattle.rv_assemble_laws.specs.IsObjectOf.{IsSectionOf, IsObjectOf}
+use Rattle.rv_assemble_laws.specs.Sites.{Site, form, part_of, part_bytes, sites_in}
 use Rattle.rv_boundary_laws.proofs.Settled.{IsSettled, settled, IsSiteIn, sites_are_in}
 use Rattle.rv_boundary_laws.proofs.Known.{section_found}
 use Rattle.rv_boundary_laws.proofs.Coding.{all_few}
+use Rattle.rv_boundary_laws.proofs.Shrunk.{IsPaddedIn, parts_of, Tile, HasSize, IsSectionOf, IsObjectOf}
 
 abbrev pub IsEven : Site → Type 0
 IsEven s = goes_to_text s.located.home ≡ true → s.offset % 2 ≡ 0
@@ -37,13 +37,13 @@ even_by s section multiple v (Directs (Strings ended strings)) held code home si
 even_by s section multiple v (Directs (Zeros count)) held code home size = let e : true ≡ false = sym code ∙ held in absurd (cc)
 even_by s section multiple v (Directs (Aligns_to_power e)) held code home (x, y, z) = go s.located.home.executable (ap (λ x. x.executable) home ∙ code) z
   where
-    go : (b : Bool) → b ≡ true → IsPaddedIn b s multiple (alignment_of v (Aligns_to_power e)) → s.bytes % 2 ≡ 0
-    go true e (n, low) = none_even s.bytes n
+    go : (b : Bool) → b ≡ true → IsPaddedIn b s (alignment_of v (Aligns_to_power e)) → s.bytes % 2 ≡ 0
+    go true e (n, even, k) = even
     go false e h = absurd (cc)
 even_by s section multiple v (Directs (Aligns_to_bytes e)) held code home (x, y, z) = go s.located.home.executable (ap (λ x. x.executable) home ∙ code) z
   where
-    go : (b : Bool) → b ≡ true → IsPaddedIn b s multiple (alignment_of v (Aligns_to_bytes e)) → s.bytes % 2 ≡ 0
-    go true e (n, low) = none_even s.bytes n
+    go : (b : Bool) → b ≡ true → IsPaddedIn b s (alignment_of v (Aligns_to_bytes e)) → s.bytes % 2 ≡ 0
+    go true e (n, even, k) = even
     go false e h = absurd (cc)
 even_by s section multiple v (Directs (Enters opened)) held code home size = none_even s.bytes size.0
 even_by s section multiple v (Directs (Opens name flags kind)) held code home size = none_even s.bytes size.0
@@ -103,7 +103,7 @@ module _ (ss : List Statement) (o : Object) (is : IsObjectOf ss o) where
           let (x, there, plain) = section_found (tables ss) is.sites is.number o.symbols 0 index sections o.sections section is.sections at in
           let same : 0 + index ≡ index = omega arith in
           let found = subst (λ n. IsSectionOf (tables ss) is.sites is.number o.symbols n section (sites_in n is.sites) x) same plain in
-          in_code (tables ss) index section x.alignment 0 (sites_in index is.sites) ((and_parts section.loaded section.executable text).1) refl here found.tile found.sizes
+          in_code (tables ss) index section x.alignment 0 (sites_in index is.sites) ((and_parts section.loaded section.executable text).1) refl here found.tile (found.sizes ((and_parts section.loaded section.executable text).0))
       go false none = aside (tables ss) index section 1 (sites_in index is.sites) none here
 
   -- what holds in each section holds of all

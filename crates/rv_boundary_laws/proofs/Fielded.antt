@@ -23,11 +23,12 @@ use Rattle.rv_source_laws.specs.Lines.{operand_of, is_low_part}
 use Rattle.rv_object.specs.Valid.{is_align}
 use Rattle.rv_assemble_laws.specs.CodeFields.{symbol_field, low_field_at, label_field, field_of, relax_fields, part_fields}
 use Rattle.rv_assemble_laws.specs.Coded.{IsCodedPart, AreCodedParts}
-use Rattle.rv_assemble_laws.specs.Templates.{Template, Fixed, Datum, Coded, Open, contribution_templates}
-use Rattle.rv_assemble_laws.specs.Sites.{Site, form, coded_templates, templates, HasSize}
+use Rattle.rv_assemble_laws.specs.Templates.{Template, Fixed, Datum, Coded, Open}
+use Rattle.rv_assemble_laws.specs.Sites.{Site, form, coded_templates}
 use Rattle.rv_boundary_laws.proofs.Settled.{IsBare}
 use Rattle.rv_boundary_laws.proofs.Patches.{HasRoom}
 use Rattle.rv_boundary_laws.proofs.Coding.{encoded_long, joined_long}
+use Rattle.rv_boundary_laws.proofs.Shrunk.{templates, HasSize, contribution_templates}
 
 -- ---- the fields of a part
 
@@ -110,12 +111,12 @@ module _ (P : Template → Type 0) (fixed : (bytes : List ℕ) → P (Fixed byte
   data_each width v [] = tt
   data_each width v (e ∷ es) = (datum width (v e), data_each width v es)
 
-  pub directed : (v : Expression → Value) (c : Contribution) (bytes : ℕ) → AllByRecursion P (contribution_templates v c bytes)
-  directed v Nothing bytes = tt
-  directed v (Bytes (Numbers width es)) bytes = data_each width v es
-  directed v (Bytes (Texts ended strings)) bytes = (fixed _, tt)
-  directed v (Zero_bytes count) bytes = (fixed _, tt)
-  directed v (Alignment as_form number) bytes = (fixed _, tt)
+  pub directed : (b : Bool) (v : Expression → Value) (c : Contribution) (bytes : ℕ) → AllByRecursion P (contribution_templates b v c bytes)
+  directed b v Nothing bytes = tt
+  directed b v (Bytes (Numbers width es)) bytes = data_each width v es
+  directed b v (Bytes (Texts ended strings)) bytes = (fixed _, tt)
+  directed b v (Zero_bytes count) bytes = (fixed _, tt)
+  directed b v (Alignment as_form number) bytes = (fixed _, tt)
 
   module _ (t : Tables) (z : Site) (multiple : ℕ)
       (part : (c : Bool) (p : CodePart) (bytes : List ℕ) → IsCodedPart c p bytes → P (Coded bytes (part_fields t (form t z.located) z.located p))) where
@@ -133,7 +134,7 @@ module _ (P : Template → Type 0) (fixed : (bytes : List ℕ) → P (Fixed byte
     sized_each (Instruction mnemonic operands) h =
         subst (λ o. AllByRecursion P (coded_templates fields (unwrap_or o []) z.coded)) (sym h.parts)
         (coded_each (z.located.options.rvc && are_closed h.ps) h.ps z.coded h.coded_as)
-    sized_each (Directs d) h = directed (form t z.located) (contribution d) z.bytes
+    sized_each (Directs d) h = directed z.located.home.executable (form t z.located) (contribution d) z.bytes
 
     pub each_template : IsBare z.located → (z.located.placed ≡ true → HasSize (form t z.located) z multiple z.located.kind) → AllByRecursion P (templates t z z.located.kind)
     each_template bare sized = go z.located.placed refl

@@ -16,10 +16,10 @@ use Rattle.rv_object_laws.specs.Moves.{alignments_of, moves, new_offset}
 use Rattle.rv_object_laws.specs.Inputs.{Starts, InputSection}
 use Rattle.rv_object_laws.specs.Values.{target, value, IsRelocated}
 use Rattle.rv_assemble_laws.specs.Templates.{Open, template_fields}
-use Rattle.rv_assemble_laws.specs.Sites.{Site, Part, form, parts_of, parts, part_bytes, sites_in, HasSize}
+use Rattle.rv_assemble_laws.specs.Sites.{Site, Part, form, part_bytes, sites_in}
 use Rattle.rv_assemble_laws.specs.Symbols.{use_of, references_in, site_at}
 use Rattle.rv_assemble_laws.proofs.Homes.{all_filter}
-use Rattle.rv_assemble_laws.specs.IsObjectOf.{Numbering, relocation_at, relocations_from, IsNumbered, IsSectionOf, AreSectionsOf}
+use Rattle.rv_assemble_laws.specs.IsObjectOf.{Numbering, relocation_at, relocations_from, IsNumbered}
 use Rattle.rv_boundary_laws.proofs.Patches.{is_data, IsKnownIn}
 use Rattle.rv_boundary_laws.proofs.Statements.{row_address}
 use Rattle.rv_boundary_laws.proofs.Settled.{IsSettled, IsSiteIn, sites_are_in}
@@ -27,6 +27,7 @@ use Rattle.rv_boundary_laws.proofs.Known.{still, meant_of}
 use Rattle.rv_boundary_laws.proofs.Globals.{IsLow}
 use Rattle.rv_boundary_laws.proofs.Wholes.{IsSound, IsWhole}
 use Rattle.rv_boundary_laws.proofs.Sections.{split, each, AtOffsets, AreAt, at_sites, of_parts, meant_in}
+use Rattle.rv_boundary_laws.proofs.Shrunk.{parts_of, parts, HasSize, IsSectionOf, AreSectionsOf}
 
 module _ (p : Program) (os : List Object) (starts : Starts) (file : ℕ) (sites : List Site) (number : Numbering) (o : Object) (sections : List SourceSection)
     (low : AllByRecursion IsGlobal p.map.globals) (are : AreSectionsOf (tables_in p file) sites number o.symbols 0 sections o.sections)
@@ -142,7 +143,7 @@ module _ (p : Program) (os : List Object) (starts : Starts) (file : ℕ) (sites 
 
     pub facts : AllByRecursion Facts own
     facts =
-        facts_from own (sites_are_in sections index section sites at settled) is.sizes (each Known (parts_of t) own known)
+        facts_from own (sites_are_in sections index section sites at settled) (is.sizes loaded) (each Known (parts_of t) own known)
         (at_sites (AreAt Q number) t 0 own is.tile placed_parts)
         (each (λ q. AllByRecursion (IsNumbered t sites number o.symbols) (references_in q)) (parts_of t) own (is.numbered loaded))
         (all_filter (IsLow starts file) (λ s. s.located.section == index) sites whole.low)

@@ -23,128 +23,28 @@ use Rattle.rv_object_laws.specs.Rising.{Rise}
 use Rattle.rv_object_laws.proofs.Ordinals.{rows_stay}
 use Rattle.rv_object_laws.specs.IsLinkOf.{by_ordinal, moves_at, map_row, row_in as linked_row, rows_of as linked_rows}
 use Rattle.rv_assemble_laws.specs.Templates.{Template, Fixed, Datum, Coded, Open, value_fields, template_fields, absolute_kind, add_kind, subtract_kind}
-use Rattle.rv_assemble_laws.specs.Sites.{Site, Part, form, part_of, part_bytes, parts_of, parts, templates, sites_in, HasSize}
+use Rattle.rv_assemble_laws.specs.Sites.{Site, Part, form, part_of, part_bytes, sites_in}
 use Rattle.rv_assemble_laws.proofs.Homes.{all_filter, all_map}
 use Rattle.rv_boundary_laws.proofs.Settled.{IsBare, IsSettled, settled}
 use Rattle.rv_boundary_laws.proofs.Fielded.{IsPlain, plain}
 use Rattle.rv_assemble_laws.specs.Symbols.{site_at}
-use Rattle.rv_assemble_laws.specs.IsObjectOf.{Numbering, row_of, rows_at, relocation_at, relocations_from, IsSectionOf, AreSectionsOf, IsObjectOf}
+use Rattle.rv_assemble_laws.specs.IsObjectOf.{Numbering, row_of, rows_at, relocation_at, relocations_from}
 use Rattle.rv_boundary_laws.proofs.Statements.{AreObjectsOf, row_in, rows_from, mapped_from, row_address, all_statements, all_rows, statements_all, sites_by, mapped_by, address_by, Test, section_in, site_section, section_by}
+use Rattle.rv_boundary_laws.proofs.Shrunk.{parts_of, parts, templates, HasSize, IsSectionOf, AreSectionsOf, IsObjectOf}
 
 -- ---- nothing moves
 
-data_kind : (b : Bool) (k q : Kind) → is_align k ≡ false → is_align q ≡ false → is_align (if b then k else q) ≡ false
-data_kind true k q e f = e
-data_kind false k q e f = f
-
-absolute_plain : (width : ℕ) → is_align (absolute_kind width) ≡ false
-absolute_plain width = data_kind (width == 4) Abs32 Abs64 refl refl
-
-add_plain : (width : ℕ) → is_align (add_kind width) ≡ false
-add_plain width =
-    data_kind (width == 1) Add8 (if width == 2 then Add16 else if width == 4 then Add32 else Add64) refl
-    (data_kind (width == 2) Add16 (if width == 4 then Add32 else Add64) refl (data_kind (width == 4) Add32 Add64 refl refl))
-
-subtract_plain : (width : ℕ) → is_align (subtract_kind width) ≡ false
-subtract_plain width =
-    data_kind (width == 1) Sub8 (if width == 2 then Sub16 else if width == 4 then Sub32 else Sub64) refl
-    (data_kind (width == 2) Sub16 (if width == 4 then Sub32 else Sub64) refl (data_kind (width == 4) Sub32 Sub64 refl refl))
-
-abbrev aligns : List Relocation → List Relocation
-aligns rs = filter (λ r. is_align r.kind) rs
-
-aligns_join : (xs ys : List Relocation) → aligns xs ≡ [] → aligns ys ≡ [] → aligns (xs ++ ys) ≡ []
-aligns_join [] ys e f = f
-aligns_join (x ∷ xs) ys e f = go (is_align x.kind) e (λ g. aligns_join xs ys g f)
-  where
-    go : (b : Bool) → (if b then x ∷ aligns xs else aligns xs) ≡ [] → (aligns xs ≡ [] → aligns (xs ++ ys) ≡ []) → (if b then x ∷ aligns (xs ++ ys) else aligns (xs ++ ys)) ≡ []
-    go true g ih = absurd (cc)
-    go false g ih = ih g
-
--- where no alignment stands no padding does
-padded_none : (rs : List Relocation) → aligns rs ≡ [] → filter has_padding rs ≡ []
-padded_none [] e = refl
-padded_none (r ∷ rs) e = go (is_align r.kind) e (padded_none rs)
-  where
-    go : (b : Bool) → (if b then r ∷ aligns rs else aligns rs) ≡ [] → (aligns rs ≡ [] → filter has_padding rs ≡ [])
-        → (if b && nat_lt 0 (full_padding r) then r ∷ filter has_padding rs else filter has_padding rs) ≡ []
-    go true f ih = absurd (cc)
-    go false f ih = ih f
-
--- no field of a part is an alignment
-abbrev pub ArePlain : List Open → Type 0
-ArePlain fs = AllByRecursion (λ (f : Open). is_align f.kind ≡ false) fs
-
-value_plain : (ordinal width : ℕ) (v : Value) → ArePlain (value_fields ordinal width v)
-value_plain ordinal width (Constant n) = tt
-value_plain ordinal width (Symbolic q at plus) = (absolute_plain width, tt)
-value_plain ordinal width (Difference q r plus) = (add_plain width, (subtract_plain width, tt))
-value_plain ordinal width (Faulty code) = tt
-
-module _ (number : Numbering) where
-  fields_plain : (offset : ℕ) (fs : List Open) → ArePlain fs → aligns (map (relocation_at number offset) fs) ≡ []
-  fields_plain offset [] h = refl
-  fields_plain offset (f ∷ fs) (h, hs) =
-      ap (λ b. if b then relocation_at number offset f ∷ aligns (map (relocation_at number offset) fs) else aligns (map (relocation_at number offset) fs)) h
-      ∙ fields_plain offset fs hs
-
-  template_plain : (ordinal : ℕ) (q : Template) → IsPlain q → ArePlain (template_fields ordinal q)
-  template_plain ordinal (Fixed bytes) h = tt
-  template_plain ordinal (Datum width v) h = value_plain ordinal width v
-  template_plain ordinal (Coded bytes fields) h = h
-
-  abbrev IsPlainPart : Part → Type 0
-  IsPlainPart p = IsPlain p.template
-
-  parts_plain : (offset : ℕ) (ps : List Part) → AllByRecursion IsPlainPart ps → aligns (relocations_from number offset ps) ≡ []
-  parts_plain offset [] h = refl
-  parts_plain offset (p ∷ ps) (h, hs) =
-      aligns_join (map (relocation_at number offset) (template_fields p.ordinal p.template)) (relocations_from number (offset + length (part_bytes p)) ps)
-      (fields_plain offset (template_fields p.ordinal p.template) (template_plain p.ordinal p.template h)) (parts_plain (offset + length (part_bytes p)) ps hs)
-
-  of_ordinal : (ordinal : ℕ) (ts : List Template) → AllByRecursion IsPlain ts → AllByRecursion IsPlainPart (map (part_of ordinal) ts)
-  of_ordinal ordinal [] h = tt
-  of_ordinal ordinal (q ∷ ts) (h, hs) = (h, of_ordinal ordinal ts hs)
-
-  joined : (xs ys : List Part) → AllByRecursion IsPlainPart xs → AllByRecursion IsPlainPart ys → AllByRecursion IsPlainPart (xs ++ ys)
-  joined [] ys h k = k
-  joined (x ∷ xs) ys (h, hs) k = (h, joined xs ys hs k)
-
-  sites_plain : (t : Tables) (multiple : ℕ) (zs : List Site) → AllByRecursion (λ z. IsBare z.located) zs
-      → AllByRecursion (λ z. z.located.placed ≡ true → HasSize (form t z.located) z multiple z.located.kind) zs → AllByRecursion IsPlainPart (parts t zs)
-  sites_plain t multiple [] h sz = tt
-  sites_plain t multiple (z ∷ zs) (h, hs) (sz, szs) =
-      joined (parts_of t z) (parts t zs) (of_ordinal z.located.ordinal (templates t z z.located.kind) (plain t z multiple h sz)) (sites_plain t multiple zs hs szs)
-
-  section_plain : (t : Tables) (all : List Site) (symbols : List Symbol) (index : ℕ) (s : SourceSection) (x : Section)
-      → AllByRecursion (λ z. IsBare z.located) all → IsSectionOf t all number symbols index s (sites_in index all) x → alignments_of x ≡ []
-  section_plain t all symbols index s x bare is =
-      let none : filter has_padding x.relocations ≡ [] = padded_none x.relocations (ap aligns is.relocations ∙ go s.loaded) in
-      either (x.loaded && x.executable) (ap by_place none)
-    where
-      go : (b : Bool) → aligns (if b then relocations_from number 0 (parts t (sites_in index all)) else []) ≡ []
-      go true =
-          parts_plain 0 (parts t (sites_in index all))
-          (sites_plain t x.alignment (sites_in index all) (all_filter (λ z. IsBare z.located) (λ z. z.located.section == index) all bare) is.sizes)
-      go false = refl
-
-      either : (b : Bool) → by_place (filter has_padding x.relocations) ≡ [] → (if b then by_place (filter has_padding x.relocations) else []) ≡ []
-      either true e = e
-      either false e = refl
-
-  pub sections_plain : (t : Tables) (all : List Site) (symbols : List Symbol) (index : ℕ) (ss : List SourceSection) (xs : List Section) → AllByRecursion (λ z. IsBare z.located) all
-      → AreSectionsOf t all number symbols index ss xs → (j : ℕ) (x : Section) → slice_get xs j ≡ Some x → alignments_of x ≡ []
-  sections_plain t all symbols index [] [] bare h j x e = absurd (cc)
-  sections_plain t all symbols index [] (y ∷ ys) bare h j x e = absurd h
-  sections_plain t all symbols index (s ∷ ss) [] bare h j x e = absurd h
-  sections_plain t all symbols index (s ∷ ss) (y ∷ ys) bare (h, hs) zero x e =
-      let same : y ≡ x = cc in subst (λ z. alignments_of z ≡ []) same (section_plain t all symbols index s y bare h)
-  sections_plain t all symbols index (s ∷ ss) (y ∷ ys) bare (h, hs) (suc j) x e = sections_plain t all symbols (suc index) ss ys bare hs j x e
+plain_from : (t : Tables) (all : List Site) (number : Numbering) (symbols : List Symbol) (index : ℕ) (ss : List SourceSection) (xs : List Section)
+    → AreSectionsOf t all number symbols index ss xs → (j : ℕ) (x : Section) → slice_get xs j ≡ Some x → alignments_of x ≡ []
+plain_from t all number symbols index [] [] h j x e = absurd (cc)
+plain_from t all number symbols index [] (y ∷ ys) h j x e = absurd h
+plain_from t all number symbols index (s ∷ ss) [] h j x e = absurd h
+plain_from t all number symbols index (s ∷ ss) (y ∷ ys) (h, hs) zero x e =
+    let same : y ≡ x = cc in subst (λ z. alignments_of z ≡ []) same h.plain
+plain_from t all number symbols index (s ∷ ss) (y ∷ ys) (h, hs) (suc j) x e = plain_from t all number symbols (suc index) ss ys hs j x e
 
 pub plain_of : (ss : List Statement) (o : Object) (is : IsObjectOf ss o) → (j : ℕ) (x : Section) → slice_get o.sections j ≡ Some x → alignments_of x ≡ []
-plain_of ss o is =
-    sections_plain is.number (tables ss) is.sites o.symbols 0 (opened_of (tables ss)).sections o.sections
-    (all_map (IsSettled (opened_of (tables ss)).sections) (λ z. IsBare z.located) is.sites (λ z h. h.bare) (settled ss is.sites is.good is.located)) is.sections
+plain_of ss o is = plain_from (tables ss) is.sites is.number o.symbols 0 (opened_of (tables ss)).sections o.sections is.sections
 
 -- ---- rows
 

@@ -34,7 +34,7 @@ use Rattle.rv_assemble_laws.specs.InstructionFaults.{is_label}
 use Rattle.rv_assemble_laws.specs.Templates.{Open, open_at}
 use Rattle.rv_assemble_laws.specs.Sites.{Site, form, part_of, coded_templates, sites_in}
 use Rattle.rv_assemble_laws.specs.Symbols.{use_of, references_in, site_at}
-use Rattle.rv_assemble_laws.specs.IsObjectOf.{Numbering, relocation_at, IsNumbered, IsSectionOf, AreSectionsOf}
+use Rattle.rv_assemble_laws.specs.IsObjectOf.{Numbering, relocation_at, IsNumbered}
 use Rattle.rv_boundary_laws.proofs.Statements.{row_in, row_address}
 use Rattle.rv_boundary_laws.proofs.Settled.{IsSettled}
 use Rattle.rv_boundary_laws.proofs.Wholes.{IsWhole}
@@ -46,6 +46,7 @@ use Rattle.rv_boundary_laws.proofs.Fields.{K, Known, Q, Facts}
 use Rattle.rv_boundary_laws.proofs.Uppers.{NoUpper, HasUpper, IsOwn, upper_or_not, fault_none, operand_as, row, have_is, parts_are}
 use Rattle.rv_boundary_laws.proofs.Lows.{low_value, own_low, IsLabelPair, label_pair}
 use Rattle.rv_boundary_laws.proofs.Fitting.{IsFilledCode}
+use Rattle.rv_boundary_laws.proofs.Shrunk.{IsSectionOf, AreSectionsOf}
 
 -- ---- numbers
 

@@ -26,7 +26,10 @@ use Rattle.rv_chain_laws.proofs.Held.{IsHeld, DirectiveHeld}
 use Rattle.rv_assemble_laws.specs.Coded.{is_constant, constants, AreCodedParts, IsCode}
 use Rattle.rv_assemble_laws.specs.Templates.{Open as OpenField}
 use Rattle.rv_boundary_laws.proofs.Coding.{coded_bytes, AreFilledParts, all_few, lines_of, lines_lie, lines_sized, lines_encoded, lines_say, closed_say, lines_valid, lines_counted, lines_taken, closed_taken, lines_whole}
-use Rattle.rv_boundary_laws.proofs.Suits.{IsMultiple, SuitsPadding, SuitsDirective, Suits, code_said}
+use Rattle.rv_source_laws.specs.Fits.{is_low}
+use Rattle.rv_object.specs.Padding.{no_operations}
+use Rattle.rv_boundary_laws.proofs.Nops.{padding_row, padding_lines, padding_said, padding_lies, padding_sized, padding_encoded}
+use Rattle.rv_boundary_laws.proofs.Suits.{IsMultiple, SuitsPadding, SuitsDirective, Suits, directive_said, code_said}
 
 -- ---- constants
 
@@ -216,21 +219,14 @@ module _ (p : Program) (file ordinal section offset line : ℕ) (options : Optio
   valued_alone e says is constant =
       ap (λ es. list_all (λ e. is_some (resolved a (f e))) es) is ∙ true_and (is_some (resolved a (f e))) true (constant_some a (f e) constant) refl
 
-  -- an alignment without padding
-  no_padding : (d : Directive) → parts p (at (Directs d)) ≡ Some (padding_parts row.bytes) → row.bytes ≡ 0 → parts p (at (Directs d)) ≡ Some []
-  no_padding d is bytes = is ∙ ap (λ n. Some (padding_parts n)) bytes
-
-  no_instruction : (d : Directive) → has_values p (at (Directs d)) ≡ true → parts p (at (Directs d)) ≡ Some (padding_parts row.bytes) → row.bytes ≡ 0 → expansion p (at (Directs d)) ≡ Some []
-  no_instruction d valued is bytes = expansion_is (at (Directs d)) [] valued (no_padding d is bytes)
-
-  alignment_fits : (d : Directive) → has_values p (at (Directs d)) ≡ true → row.instructions ≡ 0
-      → parts p (at (Directs d)) ≡ Some (padding_parts row.bytes)
-      → (b : Bool) → SuitsPadding b row before start (alignment_of f d) → IsPaddingIn b p (at (Directs d)) d
-  alignment_fits d valued none is true (bytes, low) = (
-    subst (λ o. IsRowOf o row) (sym (no_instruction d valued is bytes)) (no_row row bytes none),
-    bytes ∙ ap (λ b. if b then 0 else padding (alignment_of f d) row.address) (sym low),
+  -- the row of a padding
+  alignment_fits : (d : Directive) → has_values p (at (Directs d)) ≡ true → parts p (at (Directs d)) ≡ Some (padding_parts row.bytes)
+      → row.address ≡ start + before → IsMultiple (alignment_of f d) start → (b : Bool) → SuitsPadding b row before (alignment_of f d) → IsPaddingIn b p (at (Directs d)) d
+  alignment_fits d valued is place multiple true (bytes, even, count) = (
+    subst (λ o. IsRowOf o row) (sym (expansion_is (at (Directs d)) (padding_parts row.bytes) valued is)) (padding_row (field_value p (at (Directs d))) row.address row even count),
+    bytes ∙ ap (λ n. if is_low (alignment_of f d) then 0 else n) (sym (padding_moves (alignment_of f d) start before multiple) ∙ ap (padding (alignment_of f d)) (sym place)),
   )
-  alignment_fits d valued none is false (bytes, place, multiple) =
+  alignment_fits d valued is place multiple false (bytes, none) =
       (is_true _ valued, bytes ∙ sym (padding_moves (alignment_of f d) start before multiple) ∙ ap (λ n. padding (alignment_of f d) n) (sym place), none)
 
   directive_fits : (d : Directive) → SuitsDirective f (has_values p (at (Directs d))) home row before start d → SizeFits p (at (Directs d))
@@ -240,10 +236,10 @@ module _ (p : Program) (file ordinal section offset line : ℕ) (options : Optio
       let constant : is_constant (f count) ≡ true = ap is_constant is in
       let n : number p (at (Directs (Zeros count))) count ≡ row.bytes = ap (λ v. unwrap_or (resolved a v) 0) is in
       (is_true _ (valued_alone count (Directs (Zeros count)) refl constant), sym n ∙ sym (length-replicate {A = ℕ} (number p (at (Directs (Zeros count))) count) 0), none)
-  directive_fits (Aligns_to_power e) (constant, none, h) =
-      alignment_fits (Aligns_to_power e) (valued_alone e (Directs (Aligns_to_power e)) refl constant) none refl home.executable h
-  directive_fits (Aligns_to_bytes e) (constant, none, h) =
-      alignment_fits (Aligns_to_bytes e) (valued_alone e (Directs (Aligns_to_bytes e)) refl constant) none refl home.executable h
+  directive_fits (Aligns_to_power e) (constant, place, multiple, h) =
+      alignment_fits (Aligns_to_power e) (valued_alone e (Directs (Aligns_to_power e)) refl constant) refl place multiple home.executable h
+  directive_fits (Aligns_to_bytes e) (constant, place, multiple, h) =
+      alignment_fits (Aligns_to_bytes e) (valued_alone e (Directs (Aligns_to_bytes e)) refl constant) refl place multiple home.executable h
   directive_fits (Sets name e) (bytes, none) = no_row row bytes none
   directive_fits _ h = absurd h
 
@@ -256,19 +252,28 @@ module _ (p : Program) (file ordinal section offset line : ℕ) (options : Optio
   -- ---- bytes
 
   alignment_written : (d : Directive) → has_values p (at (Directs d)) ≡ true → parts p (at (Directs d)) ≡ Some (padding_parts row.bytes)
-      → (b : Bool) → b ≡ true → SuitsPadding b row before start (alignment_of f d) → IsWritten p (at (Directs d)) []
-  alignment_written d valued is true yes' (bytes, low) =
-      nothing_written p (at (Directs d)) (no_padding d is bytes) (no_instruction d valued is bytes) bytes
+      → (b : Bool) → b ≡ true → SuitsPadding b row before (alignment_of f d) → IsWritten p (at (Directs d)) (no_operations row.bytes)
+  alignment_written d valued is true yes' (bytes, even, count) = record {
+    ps = padding_parts row.bytes;
+    are_parts = is;
+    lines = padding_lines row.address row.bytes;
+    are_lines = (
+      expansion_is (at (Directs d)) (padding_parts row.bytes) valued is ∙ ap Some (padding_said (field_value p (at (Directs d))) row.address row.bytes even),
+      padding_lies row.address row.bytes even,
+    );
+    sizes = padding_sized row.address row.bytes;
+    encoded = padding_encoded row.address row.bytes;
+  }
   alignment_written d valued is false no' h = absurd (cc)
 
   directive_written : (d : Directive) → SuitsDirective f (has_values p (at (Directs d))) home row before start d → DirectiveHeld home d → home.executable ≡ true
-      → IsWritten p (at (Directs d)) []
+      → IsWritten p (at (Directs d)) (directive_said d row.bytes)
   directive_written (Values width values) h held yes' = true_false home.executable yes' held.0
   directive_written (Strings ended strings) h held yes' = true_false home.executable yes' held.0
   directive_written (Zeros count) h held yes' = true_false home.executable yes' held
-  directive_written (Aligns_to_power e) (constant, none, h) held yes' =
+  directive_written (Aligns_to_power e) (constant, place, multiple, h) held yes' =
       alignment_written (Aligns_to_power e) (valued_alone e (Directs (Aligns_to_power e)) refl constant) refl home.executable yes' h
-  directive_written (Aligns_to_bytes e) (constant, none, h) held yes' =
+  directive_written (Aligns_to_bytes e) (constant, place, multiple, h) held yes' =
       alignment_written (Aligns_to_bytes e) (valued_alone e (Directs (Aligns_to_bytes e)) refl constant) refl home.executable yes' h
   directive_written (Sets name e) (bytes, none) held yes' = nothing_written p (at (Directs (Sets name e))) refl refl bytes
   directive_written _ h held yes' = absurd h

@@ -23,14 +23,14 @@ use Rattle.rv_object_laws.specs.Names as objects
 use Rattle.rv_object_laws.specs.Names.{exported, defined_address, offset_address}
 use Rattle.rv_assemble_laws.specs.Sites.{Site}
 use Rattle.rv_assemble_laws.specs.Symbols.{site_at, after_found, assigned_definition, site_definition, global_symbol, exports_of}
-use Rattle.rv_assemble_laws.specs.IsObjectOf.{IsObjectOf, IsInData, StandsInData}
-use Rattle.rv_boundary_laws.specs.Joins.{AreObjectsOf}
+use Rattle.rv_assemble_laws.specs.IsObjectOf.{IsInData, StandsInData}
 use Rattle.rv_boundary_laws.proofs.Statements.{row_in, rows_from, statement_at, row_address, all_statements, all_rows}
 use Rattle.rv_boundary_laws.proofs.Settled.{IsSettled, settled}
 use Rattle.rv_boundary_laws.proofs.Known.{all_found, section_found, still, own_agrees}
 use Rattle.rv_boundary_laws.proofs.Sections.{split}
 use Rattle.rv_boundary_laws.proofs.Files.{plain_of, IsFile, AreFiles}
 use Rattle.rv_boundary_laws.proofs.Names.{flat_join, exported_are}
+use Rattle.rv_boundary_laws.proofs.Shrunk.{IsObjectOf, AreObjectsOf}
 
 same_shown : (name : List ℕ) (a : Option ℕ) → objects.shown name a ≡ source.shown name a
 same_shown name None = refl

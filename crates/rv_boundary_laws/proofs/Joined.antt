@@ -12,11 +12,11 @@ use Rattle.rv_image.specs.Linked.{Linked}
 use Rattle.rv_object.specs.Object.{Object}
 use Rattle.rv_object_laws.specs.Names as objects
 use Rattle.rv_object_laws.specs.IsLinkOf.{IsLinkOf}
-use Rattle.rv_boundary_laws.specs.Joins.{AreObjectsOf}
 use Rattle.rv_boundary_laws.proofs.Files.{files, rows_ours, statements_ours}
 use Rattle.rv_boundary_laws.proofs.Names.{names_are, nth_all}
 use Rattle.rv_boundary_laws.proofs.Globals.{globals_are}
 use Rattle.rv_boundary_laws.proofs.Entry.{entry_is}
+use Rattle.rv_boundary_laws.proofs.Shrunk.{AreObjectsOf}
 
 distinct_same : (names : List (List ℕ)) → objects.AreDistinct names → source.AreDistinct names
 distinct_same [] h = tt

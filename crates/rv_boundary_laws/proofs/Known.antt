@@ -17,9 +17,10 @@ use Rattle.rv_object_laws.specs.Names.{symbol_address, symbol_address_by, offset
 use Rattle.rv_object_laws.specs.Values.{target}
 use Rattle.rv_assemble_laws.specs.Sites.{Site, sites_in}
 use Rattle.rv_assemble_laws.specs.Symbols.{site_at, after_site, IsDefinedBy, IsNamed, StandsFor}
-use Rattle.rv_assemble_laws.specs.IsObjectOf.{Numbering, IsSectionOf, AreSectionsOf}
+use Rattle.rv_assemble_laws.specs.IsObjectOf.{Numbering}
 use Rattle.rv_boundary_laws.proofs.Statements.{row_address}
 use Rattle.rv_boundary_laws.proofs.Settled.{IsSettled}
+use Rattle.rv_boundary_laws.proofs.Shrunk.{IsSectionOf, AreSectionsOf}
 
 pub all_found : {X : Type 0} (P : X → Type 0) (test : X → Bool) (xs : List X) → AllByRecursion P xs → (x : X) → find test xs ≡ Some x → P x
 all_found P test [] h x e = absurd (cc)

@@ -1,10 +1,12 @@
 pub mod Settling
+pub mod Shrunk
 pub mod TwoObjects
 pub mod TwoLinked
 pub mod Numbers
 pub mod Patches
 pub mod Statements
 pub mod Settled
+pub mod Nops
 pub mod Suits
 pub mod Fielded
 pub mod Coding

@@ -28,20 +28,20 @@ use Rattle.rv_object_laws.specs.Values.{initial_bytes, linked_bytes, IsRelocated
 use Rattle.rv_object_laws.specs.IsLinkOf.{IsLinkOf, is_loaded}
 use Rattle.rv_assemble_laws.proofs.Faultless.{no_first_fault}
 use Rattle.rv_assemble_laws.specs.Templates.{Open}
-use Rattle.rv_assemble_laws.specs.Sites.{Site, parts, part_bytes, sites_in, end_of as sites_end}
+use Rattle.rv_assemble_laws.specs.Sites.{Site, part_bytes, sites_in, end_of as sites_end}
 use Rattle.rv_assemble_laws.specs.Symbols.{site_at}
 use Rattle.rv_assemble_laws.proofs.Homes.{all_map}
-use Rattle.rv_assemble_laws.proofs.Filled.{filled}
-use Rattle.rv_assemble_laws.specs.IsObjectOf.{Numbering, contents_of, IsSectionOf, AreSectionsOf}
+use Rattle.rv_assemble_laws.specs.IsObjectOf.{Numbering, contents_of}
 use Rattle.rv_boundary_laws.proofs.Wholes.{numbers_by, worths_of, AreObjectsAt, objects_at, worths_are, IsSound, sound, StandsAlone, labels, IsWhole, relocated_at}
 use Rattle.rv_boundary_laws.proofs.Globals.{low_rows}
 use Rattle.rv_boundary_laws.proofs.Statements.{AreObjectsOf, renumbered, renumbers, row_in, rows_from, mapped_at, all_rows}
-use Rattle.rv_boundary_laws.proofs.Settled.{settled}
+use Rattle.rv_boundary_laws.proofs.Settled.{settled, filled}
 use Rattle.rv_boundary_laws.proofs.Sections.{said, split}
 use Rattle.rv_boundary_laws.proofs.CodeOf.{IsFound, found_from, AreCodesOf, code_of, codes}
 use Rattle.rv_boundary_laws.proofs.Placed.{IsFit}
 use Rattle.rv_boundary_laws.proofs.Regions.{AreGood, IsRegion, region, greatest_same, good_join, good_file}
 use Rattle.rv_boundary_laws.proofs.Files.{plain_of, AreFiles, files, rows_ours}
+use Rattle.rv_boundary_laws.proofs.Shrunk.{parts, IsSectionOf, AreSectionsOf}
 
 -- ---- sections go where the source's go
 

@@ -21,9 +21,9 @@ use Rattle.rv_object_laws.specs.Inputs.{Starts}
 use Rattle.rv_object_laws.specs.Names.{is_defined, place_in, global_place, symbol_place}
 use Rattle.rv_object_laws.specs.Values.{value, value_at, value_in, paired, own_value, high_at, is_low, is_high, IsRelocated}
 use Rattle.rv_assemble_laws.specs.Templates.{Open, open_at}
-use Rattle.rv_assemble_laws.specs.Sites.{Site, parts, sites_in}
+use Rattle.rv_assemble_laws.specs.Sites.{Site, sites_in}
 use Rattle.rv_assemble_laws.specs.Symbols.{site_at, StandsFor}
-use Rattle.rv_assemble_laws.specs.IsObjectOf.{Numbering, relocation_at, relocations_from, IsSectionOf, AreSectionsOf}
+use Rattle.rv_assemble_laws.specs.IsObjectOf.{Numbering, relocation_at, relocations_from}
 use Rattle.rv_boundary_laws.proofs.Statements.{mapped_at, mapped_from, row_address, site_section}
 use Rattle.rv_boundary_laws.proofs.Settled.{IsSettled}
 use Rattle.rv_boundary_laws.proofs.Known.{still, all_found, section_found}
@@ -31,6 +31,7 @@ use Rattle.rv_boundary_laws.proofs.Globals.{IsLow}
 use Rattle.rv_boundary_laws.proofs.Wholes.{IsWhole}
 use Rattle.rv_boundary_laws.proofs.Fields.{Facts, facts, relocations_are}
 use Rattle.rv_boundary_laws.proofs.Uppers.{IsUpperAt, HasUpper, Match, matches, IsOwn}
+use Rattle.rv_boundary_laws.proofs.Shrunk.{parts, IsSectionOf, AreSectionsOf}
 
 -- ---- searches
 

@@ -21,10 +21,10 @@ use Rattle.rv_object_laws.specs.Inputs.{Starts, InputSection}
 use Rattle.rv_object_laws.specs.Values.{initial_bytes, applied, linked_bytes, IsRelocated}
 use Rattle.rv_assemble_laws.specs.CodeFields.{part_fields}
 use Rattle.rv_assemble_laws.specs.Templates.{Template, Open, IsTemplate, template_fields}
-use Rattle.rv_assemble_laws.specs.Sites.{Site, Part, form, part_of, parts_of, parts, templates, part_bytes, sites_in, HasSize, IsMultiple}
+use Rattle.rv_assemble_laws.specs.Sites.{Site, Part, form, part_of, part_bytes, sites_in, IsMultiple}
 use Rattle.rv_assemble_laws.specs.Symbols.{site_at}
 use Rattle.rv_assemble_laws.proofs.Homes.{all_filter}
-use Rattle.rv_assemble_laws.specs.IsObjectOf.{Numbering, relocations_from, IsSectionOf, AreSectionsOf}
+use Rattle.rv_assemble_laws.specs.IsObjectOf.{Numbering, relocations_from}
 use Rattle.rv_boundary_laws.proofs.Patches.{written, written_from, HasRoom, all_made, makes}
 use Rattle.rv_boundary_laws.proofs.Statements.{row_in, mapped_at, row_address}
 use Rattle.rv_boundary_laws.proofs.Settled.{IsSettled, IsSiteIn, sites_are_in}
@@ -38,6 +38,7 @@ use Rattle.rv_boundary_laws.proofs.Sections.{join, each, HasAddressIn, HasAddres
 use Rattle.rv_boundary_laws.proofs.Suits as suits
 use Rattle.rv_boundary_laws.proofs.CodeOf.{IsCodeOf}
 use Rattle.rv_boundary_laws.proofs.Fitting.{IsFilled, IsFilledCode, fits, is_written}
+use Rattle.rv_boundary_laws.proofs.Shrunk.{parts_of, parts, templates, HasSize, IsSectionOf, AreSectionsOf}
 
 -- what the row of a statement owes to it, and its bytes, where a function gives the code of each
 pub record IsFit (p : Program) (starts : Starts) (bytes : Mapped → List ℕ) (worths : ℕ → ℕ → ℕ → Open → ℤ) (file : ℕ) (z : Site) : Type 0 where
@@ -103,7 +104,7 @@ module _ (p : Program) (os : List Object) (starts : Starts) (file : ℕ) (sites 
         ∙ ap (λ w. written_from (written (meant_in p file) w) 0 ps) worth_same
       where
         roomy_all : AllByRecursion (λ q. HasRoom q.template) ps
-        roomy_all = all_roomy own (sites_are_in sections index section sites at settled) is.sizes
+        roomy_all = all_roomy own (sites_are_in sections index section sites at settled) (is.sizes loaded)
 
     -- ---- a statement
 
@@ -139,7 +140,7 @@ module _ (p : Program) (os : List Object) (starts : Starts) (file : ℕ) (sites 
         (filled_code p os starts file sites number o sections low are settled (all_worths file) whole plain address index section x is at none loaded relocated there z h shown upper (all_worths file z.located.section)
         (λ n f. ap (λ j. all_worths file j n f) h.inside.stands ∙ whole.worth index x there n f) mnemonic operands e c)
 
-    fit : ((m : ℕ) → 0 < m → x.alignment % m ≡ 0 → section.executable ≡ false → starts file index % m ≡ 0) → (z : Site) → Fact z → IsOwn p os starts file sites number o sections low are settled (all_worths file) whole plain address index section x is at none loaded relocated 0 own z
+    fit : ((m : ℕ) → 0 < m → x.alignment % m ≡ 0 → starts file index % m ≡ 0) → (z : Site) → Fact z → IsOwn p os starts file sites number o sections low are settled (all_worths file) whole plain address index section x is at none loaded relocated 0 own z
         → IsCodeOf starts (λ n z. said p n (all_worths n) z) bytes file z
         → AllByRecursion (λ q. IsTemplate q.template) (parts_of t z)
         → has_row z.located ≡ true → IsFit p starts bytes all_worths file z
@@ -152,7 +153,7 @@ module _ (p : Program) (os : List Object) (starts : Starts) (file : ℕ) (sites 
         let v = form t l in
         let held : IsHeld l.home l.kind = subst (λ y. IsHeld y l.kind) (sym here.home) here.held in
         let suit = suits_by z file x.alignment (starts file l.section) (row_in starts file z) v (has_values p m) l.kind refl refl refl
-        (λ e al h. multiple e al h) (λ width es k. values width es k) (here.kind placed) size in
+        multiple (λ width es k. values width es k) (here.kind placed) size in
         let w = all_worths file l.section in
         let fields = part_fields t v l in
         let fill = filled_by z h row upper l.kind refl in
@@ -165,9 +166,9 @@ module _ (p : Program) (os : List Object) (starts : Starts) (file : ℕ) (sites 
           figures = λ e. spelled_by p file (all_worths file) starts z x.alignment l.kind held e size;
         }
       where
-        multiple : z.located.home.executable ≡ false → (al : Option ℕ) → IsMultiple al x.alignment → suits.IsMultiple al (starts file z.located.section)
-        multiple e None divides = tt
-        multiple e (Some n) (some, divides) = (some, ap (λ j. starts file j % n) h.inside.stands ∙ begins n some divides (sym (ap (λ y. y.executable) h.inside.home) ∙ e))
+        multiple : (al : Option ℕ) → IsMultiple al x.alignment → suits.IsMultiple al (starts file z.located.section)
+        multiple None divides = tt
+        multiple (Some n) (some, divides) = (some, ap (λ j. starts file j % n) h.inside.stands ∙ begins n some divides)
 
         values : (width : ℕ) (es : List Expression) → z.located.kind ≡ Directs (Values width es) → has_values p (mapped_at starts file z) ≡ true
         values width es k =
@@ -179,7 +180,7 @@ module _ (p : Program) (os : List Object) (starts : Starts) (file : ℕ) (sites 
             (has_parts (map (part_of ordinal) (templates t z (Directs (Values width es))))
             (subst (λ kind. AllByRecursion KnownPart (map (part_of ordinal) (templates t z kind))) k h.knows))
 
-    all_fit : ((m : ℕ) → 0 < m → x.alignment % m ≡ 0 → section.executable ≡ false → starts file index % m ≡ 0) → (zs : List Site)
+    all_fit : ((m : ℕ) → 0 < m → x.alignment % m ≡ 0 → starts file index % m ≡ 0) → (zs : List Site)
         → AllByRecursion Fact zs → AllByRecursion (IsOwn p os starts file sites number o sections low are settled (all_worths file) whole plain address index section x is at none loaded relocated 0 own) zs
         → AllByRecursion (IsCodeOf starts (λ n z. said p n (all_worths n) z) bytes file) zs
         → AllByRecursion (λ z. AllByRecursion (λ q. IsTemplate q.template) (parts_of t z)) zs
@@ -187,7 +188,7 @@ module _ (p : Program) (os : List Object) (starts : Starts) (file : ℕ) (sites 
     all_fit begins [] h us cs ts = tt
     all_fit begins (z ∷ zs) (h, hs) (u, us) (c, cs) (q, qs) = (fit begins z h u c q, all_fit begins zs hs us cs qs)
 
-    pub section_fits : ((m : ℕ) → 0 < m → x.alignment % m ≡ 0 → section.executable ≡ false → starts file index % m ≡ 0)
+    pub section_fits : ((m : ℕ) → 0 < m → x.alignment % m ≡ 0 → starts file index % m ≡ 0)
         → AllByRecursion (λ z. has_row z.located ≡ true → IsFit p starts bytes all_worths file z) own
     section_fits begins =
         all_fit begins own (facts p os starts file sites number o sections low are settled (all_worths file) whole plain address index section x is at none loaded relocated) (owns p os starts file sites number o sections low are settled (all_worths file) whole plain address index section x is at none loaded relocated 0 own is.tile (facts p os starts file sites number o sections low are settled (all_worths file) whole plain address index section x is at none loaded relocated))

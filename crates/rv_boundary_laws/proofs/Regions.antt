@@ -20,18 +20,18 @@ use Rattle.rv_object_laws.specs.Inputs.{Starts, InputSection, inputs_from, begin
 use Rattle.rv_object_laws.specs.Values.{initial_bytes, linked_bytes, IsRelocated}
 use Rattle.rv_object_laws.specs.IsLinkOf.{is_loaded}
 use Rattle.rv_assemble_laws.specs.Templates.{Open}
-use Rattle.rv_assemble_laws.specs.Sites.{Site, parts_of, parts, part_bytes, sites_in, end_of as sites_end}
+use Rattle.rv_assemble_laws.specs.Sites.{Site, part_bytes, sites_in, end_of as sites_end}
 use Rattle.rv_assemble_laws.specs.Symbols.{site_at}
-use Rattle.rv_assemble_laws.specs.IsObjectOf.{Numbering, contents_of, IsSectionOf, AreSectionsOf}
-use Rattle.rv_assemble_laws.proofs.Filled.{filled}
+use Rattle.rv_assemble_laws.specs.IsObjectOf.{Numbering, contents_of}
 use Rattle.rv_boundary_laws.proofs.Patches.{written, written_from}
 use Rattle.rv_boundary_laws.proofs.Statements.{mapped_at, mapped_from, row_address}
-use Rattle.rv_boundary_laws.proofs.Settled.{IsSettled, IsSiteIn, sites_are_in, follows, sized, bytes_are}
+use Rattle.rv_boundary_laws.proofs.Settled.{IsSettled, IsSiteIn, sites_are_in, follows, sized, bytes_are, filled}
 use Rattle.rv_boundary_laws.proofs.Known.{still}
 use Rattle.rv_boundary_laws.proofs.Wholes.{IsWhole}
-use Rattle.rv_boundary_laws.proofs.Sections.{meant_in, said, multiple_of}
+use Rattle.rv_boundary_laws.proofs.Sections.{meant_in, said, multiple_from}
 use Rattle.rv_boundary_laws.proofs.CodeOf.{IsCodeOf}
 use Rattle.rv_boundary_laws.proofs.Placed.{IsFit, bytes_linked, section_fits}
+use Rattle.rv_boundary_laws.proofs.Shrunk.{parts_of, parts, IsSectionOf, AreSectionsOf}
 
 -- ---- a region, section by section
 
@@ -148,10 +148,9 @@ module _ (p : Program) (all : List Object) (starts : Starts) (spells : Mapped �
           let rows_count = sized starts file t index s loaded 0 own inside is.tile in
           let fits : (stop : ℕ) → starts file index ≡ aligned (begins_at x) stop → AllByRecursion (λ z. has_row z.located ≡ true → IsFit p starts code all_worths file z) own =
           λ stop starts_at. section_fits p all starts file sites number o sections low are settled code all_worths whole codes plain address index s x is at there none loaded relocated
-          (λ m some divides no_code.
-          ap (λ n. n % m) (starts_at ∙ ap (λ n. aligned n stop)
-          (begins_as ∙ ap (λ b. max (if b then 2 else 1) x.alignment) (flags ∙ ap (λ b. s.loaded && b) no_code ∙ never s.loaded) ∙ least x.alignment is.some))
-          ∙ multiple_of m x.alignment stop some divides) in
+          (λ m some divides.
+          ap (λ n. n % m) (starts_at ∙ ap (λ n. aligned n stop) begins_as)
+          ∙ multiple_from (goes_to_text x) m x.alignment stop some is.some divides) in
           record {
             alignment = begins_as ∙ ap (λ b. max (if b then 2 else 1) x.alignment) flags ∙ ap (λ n. max (if s.loaded && s.executable then 2 else 1) n) is.alignment;
             follow = subst (λ n. source.Follow n (source.rows_of (source.input_section t s p.mapped file index))) (let e : starts file index + 0 ≡ starts file index = omega arith in e)
@@ -172,13 +171,6 @@ module _ (p : Program) (all : List Object) (starts : Starts) (spells : Mapped �
                 (λ z h k row. fitted file s z goes_there k.home (h row)) (fits stop starts_at) inside));
           }
         where
-          never : (b : Bool) → (b && false) ≡ false
-          never true = refl
-          never false = refl
-
-          least : (n : ℕ) → 1 ≤ n → max 1 n ≡ n
-          least n h = omega arith
-
           plus_zero : (n : ℕ) → 0 + n ≡ n
           plus_zero n = omega arith
 

@@ -1,10 +1,10 @@
 -- A section of an object in the program: its bytes, its rows, and the sizes of its statements.
 
-use Rattle.std.proofs.Common.{◌≡◌, ℕ, ◌+◌, ◌-◌, ◌*◌, ◌/◌, ◌%◌, ◌<◌, Bool, true, false, List, [], ◌∷◌, ◌++◌, length, length-append, refl, sym, ap, ◌∙◌, subst, arith, map, Option, Some, None}
+use Rattle.std.proofs.Common.{◌≡◌, ℕ, zero, suc, ◌+◌, ◌-◌, ◌*◌, ◌/◌, ◌%◌, ◌<◌, ◌≤◌, Bool, true, false, List, [], ◌∷◌, ◌++◌, length, length-append, refl, sym, ap, ◌∙◌, subst, arith, map, Option, Some, None}
 use Rattle.std.proofs.Common.{add-zero, mod-eq_of_lt}
 use Rattle.std.proofs.Math.Nat.{add-mul-mod_self_right}
 use Rattle.std.proofs.lemmas.Nat.{div-add-mod'}
-use Rattle.std.specs.Prelude.{⊤, ℤ, ◌&&◌, flat_map, is_some, unwrap_or, option_map, option_and_then}
+use Rattle.std.specs.Prelude.{⊤, ℤ, ◌&&◌, max, if◌then◌else◌, flat_map, is_some, unwrap_or, option_map, option_and_then}
 use Rattle.std.specs.List.{AllByRecursion, list_all}
 use Rattle.rv_isa_laws.specs.Bytes.{little_endian}
 use Rattle.rv_text_laws.specs.Expression.{Primary}
@@ -21,13 +21,15 @@ use Rattle.rv_object_laws.specs.Inputs.{Starts}
 use Rattle.rv_assemble_laws.specs.CodeFields.{part_fields}
 use Rattle.rv_assemble_laws.specs.Templates.{Datum, Open, IsTemplate, HasField, template_fields, value_fields, zeros}
 use Rattle.rv_assemble_laws.specs.Coded.{constants}
-use Rattle.rv_assemble_laws.specs.Sites.{Site, Part, IsPaddedIn, form, part_of, part_bytes, parts_of, parts, Tile, coded_templates, templates, HasSize, IsMultiple}
+use Rattle.rv_assemble_laws.specs.Sites.{Site, Part, form, part_of, part_bytes, coded_templates, IsMultiple}
 use Rattle.rv_assemble_laws.specs.IsObjectOf.{Numbering, relocation_at, relocations_from}
 use Rattle.rv_boundary_laws.proofs.Patches.{append_nil, written, written_from, filled_fields}
 use Rattle.rv_boundary_laws.proofs.Coding.{coded_bytes}
 use Rattle.rv_boundary_laws.proofs.Statements.{mapped_at}
 use Rattle.rv_boundary_laws.proofs.Settled.{IsPlacedKind}
 use Rattle.rv_boundary_laws.proofs.Suits as suits
+use Rattle.rv_object.specs.Padding.{no_operations, operations_in}
+use Rattle.rv_boundary_laws.proofs.Shrunk.{padding_bytes, IsPaddedIn, parts_of, parts, Tile, templates, HasSize}
 
 -- ---- lists
 
@@ -100,6 +102,18 @@ multiple_of a multiple stop some h =
     let is : n * multiple ≡ 0 + n * q * a = ap (λ x. n * x) (sym whole) ∙ (let e : n * (q * a) ≡ 0 + n * q * a = omega arith in e) in
     ap (λ x. x % a) is ∙ add-mul-mod_self_right 0 (n * q) a ∙ mod-eq_of_lt some
 
+-- of a section of code, which begins at a multiple of 2 at least
+pub multiple_from : (code : Bool) (a multiple stop : ℕ) → 0 < a → 1 ≤ multiple → multiple % a ≡ 0 → aligned (max (if code then 2 else 1) multiple) stop % a ≡ 0
+multiple_from false a multiple stop some least h =
+    ap (λ n. aligned n stop % a) (let e : max 1 multiple ≡ multiple = omega (arith, least) in e) ∙ multiple_of a multiple stop some h
+multiple_from true a zero stop some least h = absurd (omega (arith, least))
+multiple_from true zero (suc zero) stop some least h = absurd (omega (arith, some))
+multiple_from true (suc zero) (suc zero) stop some least h = let n = aligned 2 stop in let e : n % 1 ≡ 0 = omega arith in e
+multiple_from true (suc (suc a)) (suc zero) stop some least h =
+    let one : 1 % suc (suc a) ≡ 1 = mod-eq_of_lt (let l : 1 < suc (suc a) = omega arith in l) in absurd (omega (arith, one, h))
+multiple_from true a (suc (suc multiple)) stop some least h =
+    ap (λ n. aligned n stop % a) (let e : max 2 (suc (suc multiple)) ≡ suc (suc multiple) = omega arith in e) ∙ multiple_of a (suc (suc multiple)) stop some h
+
 -- ---- values
 
 -- what is known of a symbol, where there is one: it has an address
@@ -137,10 +151,15 @@ module _ (a : ℕ → Primary → Option ℕ) where
 
 -- ---- a statement
 
+-- its padding
+suits_padding : (s : Site) (row : MapRow) (a : Option ℕ) → row.bytes ≡ s.bytes → row.instructions ≡ s.instructions → (t : Bool) → IsPaddedIn t s a → suits.SuitsPadding t row s.offset a
+suits_padding s row a b i true (x, y, z) = (b ∙ x, ap (λ n. n % 2) b ∙ y, i ∙ z ∙ ap operations_in (sym b))
+suits_padding s row a b i false (x, y) = (b ∙ x, i ∙ y)
+
 -- of a section that starts at an address: what the statement's size makes of its row
 pub suits_by : (s : Site) (file multiple start : ℕ) (row : MapRow) (v : Expression → Value) (valued : Bool) (kind : StatementKind)
     → row.bytes ≡ s.bytes → row.instructions ≡ s.instructions → row.address ≡ start + s.offset
-    → (s.located.home.executable ≡ false → (a : Option ℕ) → IsMultiple a multiple → suits.IsMultiple a start)
+    → ((a : Option ℕ) → IsMultiple a multiple → suits.IsMultiple a start)
     → ((width : ℕ) (values : List Expression) → kind ≡ Directs (Values width values) → valued ≡ true)
     → IsPlacedKind kind → HasSize v s multiple kind → suits.Suits v valued s.located.home s.located.options.rvc s.coded row s.offset start kind
 suits_by s file multiple start row v valued (Label name) b i at m values placed (x, y) = (b ∙ x, i ∙ y)
@@ -155,16 +174,10 @@ suits_by s file multiple start row v valued (Instruction mnemonic operands) b i 
 suits_by s file multiple start row v valued (Directs (Values width es)) b i at m values placed (x, y) = (i ∙ x, values width es refl, b ∙ y)
 suits_by s file multiple start row v valued (Directs (Strings ended strings)) b i at m values placed (x, y) = (i ∙ x, b ∙ y)
 suits_by s file multiple start row v valued (Directs (Zeros count)) b i at m values placed (x, y) = (i ∙ x, y ∙ ap Constant (sym b))
-suits_by s file multiple start row v valued (Directs (Aligns_to_power e)) b i at m values placed (x, y, z) = (x, i ∙ y, go s.located.home.executable refl z)
-  where
-    go : (t : Bool) → s.located.home.executable ≡ t → IsPaddedIn t s multiple (alignment_of v (Aligns_to_power e)) → suits.SuitsPadding t row s.offset start (alignment_of v (Aligns_to_power e))
-    go true f (x, y) = (b ∙ x, y)
-    go false f (x, y) = (b ∙ x, at, m f (alignment_of v (Aligns_to_power e)) y)
-suits_by s file multiple start row v valued (Directs (Aligns_to_bytes e)) b i at m values placed (x, y, z) = (x, i ∙ y, go s.located.home.executable refl z)
-  where
-    go : (t : Bool) → s.located.home.executable ≡ t → IsPaddedIn t s multiple (alignment_of v (Aligns_to_bytes e)) → suits.SuitsPadding t row s.offset start (alignment_of v (Aligns_to_bytes e))
-    go true f (x, y) = (b ∙ x, y)
-    go false f (x, y) = (b ∙ x, at, m f (alignment_of v (Aligns_to_bytes e)) y)
+suits_by s file multiple start row v valued (Directs (Aligns_to_power e)) b i at m values placed (x, y, z) =
+    (x, at, m (alignment_of v (Aligns_to_power e)) y, suits_padding s row (alignment_of v (Aligns_to_power e)) b i s.located.home.executable z)
+suits_by s file multiple start row v valued (Directs (Aligns_to_bytes e)) b i at m values placed (x, y, z) =
+    (x, at, m (alignment_of v (Aligns_to_bytes e)) y, suits_padding s row (alignment_of v (Aligns_to_bytes e)) b i s.located.home.executable z)
 suits_by s file multiple start row v valued (Directs (Sets name e)) b i at m values placed (x, y) = (b ∙ x, i ∙ y)
 suits_by s file multiple start row v valued (Directs (Enters section)) b i at m values placed h = absurd placed
 suits_by s file multiple start row v valued (Directs (Opens name flags kind)) b i at m values placed h = absurd placed
@@ -205,8 +218,8 @@ module _ (p : Program) (file : ℕ) where
     spelled_by starts s multiple (Directs (Strings ended strings)) held aside size = sym (append_nil (string_bytes ended strings))
     spelled_by starts s multiple (Directs (Zeros count)) held aside (x, y) =
         ap (λ v. zeros (unwrap_or (resolved (meant_in s.located.ordinal) v) 0)) y ∙ sym (append_nil (zeros s.bytes))
-    spelled_by starts s multiple (Directs (Aligns_to_power e)) held aside size = sym (append_nil (zeros s.bytes))
-    spelled_by starts s multiple (Directs (Aligns_to_bytes e)) held aside size = sym (append_nil (zeros s.bytes))
+    spelled_by starts s multiple (Directs (Aligns_to_power e)) held aside size = sym (append_nil (zeros s.bytes)) ∙ ap (λ b. padding_bytes b s.bytes ++ []) (sym aside)
+    spelled_by starts s multiple (Directs (Aligns_to_bytes e)) held aside size = sym (append_nil (zeros s.bytes)) ∙ ap (λ b. padding_bytes b s.bytes ++ []) (sym aside)
     spelled_by starts s multiple (Directs (Enters section)) held aside size = refl
     spelled_by starts s multiple (Directs (Opens name flags kind)) held aside size = refl
     spelled_by starts s multiple (Directs (Globl names)) held aside size = refl
@@ -236,16 +249,8 @@ module _ (p : Program) (file : ℕ) where
     coded_by s multiple (Directs (Values width es)) held code size = let e : true ≡ false = sym code ∙ held.0 in absurd (cc)
     coded_by s multiple (Directs (Strings ended strings)) held code size = let e : true ≡ false = sym code ∙ held.0 in absurd (cc)
     coded_by s multiple (Directs (Zeros count)) held code size = let e : true ≡ false = sym code ∙ held in absurd (cc)
-    coded_by s multiple (Directs (Aligns_to_power e)) held code (x, y, z) = go s.located.home.executable code z
-      where
-        go : (b : Bool) → b ≡ true → IsPaddedIn b s multiple (alignment_of (form (tables_in p file) s.located) (Aligns_to_power e)) → [] ≡ zeros s.bytes ++ []
-        go true e (n, low) = ap (λ n. zeros n ++ []) (sym n)
-        go false e h = absurd (cc)
-    coded_by s multiple (Directs (Aligns_to_bytes e)) held code (x, y, z) = go s.located.home.executable code z
-      where
-        go : (b : Bool) → b ≡ true → IsPaddedIn b s multiple (alignment_of (form (tables_in p file) s.located) (Aligns_to_bytes e)) → [] ≡ zeros s.bytes ++ []
-        go true e (n, low) = ap (λ n. zeros n ++ []) (sym n)
-        go false e h = absurd (cc)
+    coded_by s multiple (Directs (Aligns_to_power e)) held code size = sym (append_nil (no_operations s.bytes)) ∙ ap (λ b. padding_bytes b s.bytes ++ []) (sym code)
+    coded_by s multiple (Directs (Aligns_to_bytes e)) held code size = sym (append_nil (no_operations s.bytes)) ∙ ap (λ b. padding_bytes b s.bytes ++ []) (sym code)
     coded_by s multiple (Directs (Enters section)) held code size = refl
     coded_by s multiple (Directs (Opens name flags kind)) held code size = refl
     coded_by s multiple (Directs (Globl names)) held code size = refl

@@ -16,11 +16,12 @@ use Rattle.rv_map.specs.declared.map.Row.{Row as MapRow}
 use Rattle.rv_chain_laws.proofs.Held.{IsHeld, Held, held_of}
 use Rattle.rv_chain_laws.proofs.Homes.{IsHomeIn, homes_from}
 use Rattle.rv_assemble_laws.specs.Refusals.{statements_fault}
-use Rattle.rv_assemble_laws.specs.Sites.{Site, Part, templates, parts_of, parts, part_bytes, sites_in, Tile, end_of}
+use Rattle.rv_assemble_laws.specs.Sites.{Site, Part, part_bytes, sites_in, end_of}
 use Rattle.rv_assemble_laws.proofs.Faultless.{no_first_fault}
 use Rattle.rv_object_laws.specs.Inputs.{Starts}
 use Rattle.rv_boundary_laws.proofs.Patches.{append_assoc, written_from}
 use Rattle.rv_boundary_laws.proofs.Statements.{row_in, mapped_at, mapped_from}
+use Rattle.rv_boundary_laws.proofs.Shrunk.{templates, parts_of, parts, Tile}
 
 -- ---- a statement
 
@@ -237,3 +238,19 @@ module _ (starts : Starts) (file : ℕ) (t : Tables) (index : ℕ) (section : Se
           let none = bytes_none s h size f in
           ih ∙ ap (λ n. written_from w n (parts t ss)) (let g : offset + s.bytes ≡ offset = omega (arith, none) in g)
           ∙ ap (λ l. written_from w offset (l ++ parts t ss)) (sym (no_row s section t h.home loaded h.bare f))
+
+-- ---- the end of a section
+
+bytes_append : (xs ys : List Part) → flat_map part_bytes (xs ++ ys) ≡ flat_map part_bytes xs ++ flat_map part_bytes ys
+bytes_append [] ys = refl
+bytes_append (x ∷ xs) ys = ap (λ l. part_bytes x ++ l) (bytes_append xs ys) ∙ sym (append_assoc (part_bytes x) (flat_map part_bytes xs) (flat_map part_bytes ys))
+
+-- the statements of a section end where its bytes end
+pub filled : (t : Tables) (offset : ℕ) (sites : List Site) → Tile t offset sites → end_of offset sites ≡ offset + length (flat_map part_bytes (parts t sites))
+filled t offset [] h = omega arith
+filled t offset (s ∷ ss) (at, bytes, h) =
+    let own = flat_map part_bytes (parts_of t s) in
+    let rest = flat_map part_bytes (parts t ss) in
+    let joined : length (flat_map part_bytes (parts t (s ∷ ss))) ≡ length own + length rest =
+    ap length (bytes_append (parts_of t s) (parts t ss)) ∙ length-append own rest in
+    let ih = filled t (offset + s.bytes) ss h in omega (arith, joined, bytes, ih)

@@ -12,7 +12,7 @@ use Rattle.rv_source_laws.specs.Program.{MaybeMapped, Mapped, first_of, statemen
 use Rattle.rv_source_laws.specs.Fits.{mapped_in}
 use Rattle.rv_object.specs.Object.{Object}
 use Rattle.rv_object_laws.specs.Inputs.{Starts}
-pub use Rattle.rv_boundary_laws.specs.Joins.{AreObjectsOf}
+pub use Rattle.rv_boundary_laws.proofs.Shrunk.{AreObjectsOf}
 use Rattle.rv_boundary_laws.proofs.Patches.{append_nil}
 use Rattle.rv_assemble_laws.specs.Sites.{Site, sites_in}
 use Rattle.rv_assemble_laws.specs.Symbols.{site_at}

@@ -28,14 +28,13 @@ use Rattle.rv_object_laws.specs.Inputs.{Starts}
 use Rattle.rv_object_laws.specs.Values.{is_high, own_value, IsRelocated}
 use Rattle.rv_assemble_laws.specs.CodeFields.{symbol_field, field_of, part_fields}
 use Rattle.rv_assemble_laws.specs.Coded.{constants, AreCodedParts, IsCode, part_instructions, instructions_in}
-use Rattle.rv_assemble_laws.specs.InstructionFaults.{operand_faults, scratch_faults, own_faults, else_unplaced, has_row as has_operands_row, is_label}
-use Rattle.rv_assemble_laws.specs.Templates.{Template, Fixed, Datum, Coded, Open, open_at, value_fields, template_fields, contribution_templates}
-use Rattle.rv_assemble_laws.specs.Sites.{Site, Part, form, part_of, parts_of, parts, part_bytes, coded_templates, templates, sites_in, Tile, HasSize}
+use Rattle.rv_assemble_laws.specs.InstructionFaults.{instruction_faults, operand_faults, scratch_faults, own_faults, else_unplaced, has_row as has_operands_row, is_label}
+use Rattle.rv_assemble_laws.specs.Templates.{Template, Fixed, Datum, Coded, Open, open_at, value_fields, template_fields}
+use Rattle.rv_assemble_laws.specs.Sites.{Site, Part, form, part_of, part_bytes, coded_templates, sites_in}
 use Rattle.rv_assemble_laws.specs.Symbols.{site_at}
 use Rattle.rv_assemble_laws.proofs.Held.{none_left}
 use Rattle.rv_assemble_laws.proofs.Homes.{all_map}
-use Rattle.rv_assemble_laws.specs.Refusals.{code_faults}
-use Rattle.rv_assemble_laws.specs.IsObjectOf.{Numbering, relocation_at, relocations_from, IsSectionOf, AreSectionsOf}
+use Rattle.rv_assemble_laws.specs.IsObjectOf.{Numbering, relocation_at, relocations_from}
 use Rattle.rv_boundary_laws.proofs.Statements.{mapped_at, mapped_from, row_address}
 use Rattle.rv_boundary_laws.proofs.Settled.{IsSettled}
 use Rattle.rv_boundary_laws.proofs.Wholes.{IsWhole}
@@ -44,6 +43,7 @@ use Rattle.rv_boundary_laws.proofs.Fielded.{part_kinds, directed}
 use Rattle.rv_boundary_laws.proofs.Rows.{IsFar, Shape, IsRow, row_of}
 use Rattle.rv_boundary_laws.proofs.Operands.{relative_is, low_same, distance_not_high, own_is, target_symbolic, other_fault, symbolic_some}
 use Rattle.rv_boundary_laws.proofs.Fields.{Known, Facts}
+use Rattle.rv_boundary_laws.proofs.Shrunk.{parts_of, parts, templates, Tile, HasSize, IsSectionOf, AreSectionsOf, contribution_templates}
 
 -- ---- faults
 
@@ -307,7 +307,7 @@ module _ (p : Program) (os : List Object) (starts : Starts) (file : ℕ) (sites 
         -- the faults of its operand that is no register
         pub fault_none : (oper : Operand) → other_operand os' ≡ Some oper → operand_faults (v z) (is_label T z.located.ordinal) mnemonic oper ≡ []
         fault_none oper f =
-            let all = subst (λ k. code_faults z.located.home.executable (v z) (is_label T z.located.ordinal) k ≡ []) e h.sound in
+            let all = subst (λ k. instruction_faults (v z) (is_label T z.located.ordinal) k ≡ []) e h.sound in
             other_fault (v z) (is_label T z.located.ordinal) mnemonic os' oper f
             (none_left (scratch_faults mnemonic os') _ (none_of_its_own (has_operands_row (v z) mnemonic os') (own_faults (v z) (is_label T z.located.ordinal) mnemonic os') all)).1
 
@@ -353,8 +353,8 @@ module _ (p : Program) (os : List Object) (starts : Starts) (file : ℕ) (sites 
       by_kind (Directs d) e = inl (record {
         none_at = λ offset.
             ap (λ k. find (IsUpperAt offset) (relocations_from number z.offset (map (part_of z.located.ordinal) (templates T z k)))) e
-            ∙ none_found number offset z.located.ordinal z.offset (contribution_templates (v z) (contribution d) z.bytes)
-            (directed IsLowTemplate (λ bytes. tt) (λ width value. tt) (v z) (contribution d) z.bytes);
+            ∙ none_found number offset z.located.ordinal z.offset (contribution_templates z.located.home.executable (v z) (contribution d) z.bytes)
+            (directed IsLowTemplate (λ bytes. tt) (λ width value. tt) z.located.home.executable (v z) (contribution d) z.bytes);
         lacks = ap (λ k. have_upper (code_of (constants_in p (m z).located) z.located.options.rvc z.bytes k)) e ∙ directive_none d z.bytes;
       })
       by_kind (Instruction mnemonic os') e =

@@ -24,11 +24,11 @@ use Rattle.rv_assemble_laws.specs.InstructionFaults.{is_label}
 use Rattle.rv_assemble_laws.specs.Refusals.{code_fault, code_fault_from, code_faults_at, else_fault, statements_fault}
 use Rattle.rv_assemble_laws.specs.IsObjectOf.{Numbering, relocation_at}
 use Rattle.rv_assemble_laws.proofs.Held.{no_lowest, no_fault}
-use Rattle.rv_boundary_laws.specs.Joins.{AreObjectsOf}
 use Rattle.rv_boundary_laws.proofs.Statements.{mapped_from, site_section}
 use Rattle.rv_boundary_laws.proofs.Settled.{of_located}
 use Rattle.rv_boundary_laws.proofs.Labels.{labels_stand}
 use Rattle.rv_boundary_laws.proofs.Globals.{IsLow}
+use Rattle.rv_boundary_laws.proofs.Shrunk.{AreObjectsOf}
 
 -- ---- what the fields of code take
 
