@@ -1,5 +1,6 @@
 pub mod Settling
 pub mod Shrunk
+pub mod Shrinking
 pub mod TwoObjects
 pub mod TwoLinked
 pub mod Numbers
