@@ -28,7 +28,7 @@ use Rattle.rv_object_laws.specs.Inputs.{Starts}
 use Rattle.rv_object_laws.specs.Values.{is_high, own_value, IsRelocated}
 use Rattle.rv_assemble_laws.specs.CodeFields.{symbol_field, field_of, part_fields}
 use Rattle.rv_assemble_laws.specs.Coded.{constants, AreCodedParts, IsCode, part_instructions, instructions_in}
-use Rattle.rv_assemble_laws.specs.InstructionFaults.{operand_faults, scratch_faults, is_label}
+use Rattle.rv_assemble_laws.specs.InstructionFaults.{operand_faults, scratch_faults, own_faults, else_unplaced, has_row as has_operands_row, is_label}
 use Rattle.rv_assemble_laws.specs.Templates.{Template, Fixed, Datum, Coded, Open, open_at, value_fields, template_fields, contribution_templates}
 use Rattle.rv_assemble_laws.specs.Sites.{Site, Part, form, part_of, parts_of, parts, part_bytes, coded_templates, templates, sites_in, Tile, HasSize}
 use Rattle.rv_assemble_laws.specs.Symbols.{site_at}
@@ -44,6 +44,12 @@ use Rattle.rv_boundary_laws.proofs.Fielded.{part_kinds, directed}
 use Rattle.rv_boundary_laws.proofs.Rows.{IsFar, Shape, IsRow, row_of}
 use Rattle.rv_boundary_laws.proofs.Operands.{relative_is, low_same, distance_not_high, own_is, target_symbolic, other_fault, symbolic_some}
 use Rattle.rv_boundary_laws.proofs.Fields.{Known, Facts}
+
+-- ---- faults
+
+none_of_its_own : (placed : Bool) (faults : List ℕ) → else_unplaced placed faults ≡ [] → faults ≡ []
+none_of_its_own placed [] e = refl
+none_of_its_own placed (code ∷ codes) e = absurd (cc)
 
 -- ---- searches
 
@@ -302,7 +308,8 @@ module _ (p : Program) (os : List Object) (starts : Starts) (file : ℕ) (sites 
         pub fault_none : (oper : Operand) → other_operand os' ≡ Some oper → operand_faults (v z) (is_label T z.located.ordinal) mnemonic oper ≡ []
         fault_none oper f =
             let all = subst (λ k. code_faults z.located.home.executable (v z) (is_label T z.located.ordinal) k ≡ []) e h.sound in
-            other_fault (v z) (is_label T z.located.ordinal) mnemonic os' oper f (none_left (scratch_faults mnemonic os') _ all).1
+            other_fault (v z) (is_label T z.located.ordinal) mnemonic os' oper f
+            (none_left (scratch_faults mnemonic os') _ (none_of_its_own (has_operands_row (v z) mnemonic os') (own_faults (v z) (is_label T z.located.ordinal) mnemonic os') all)).1
 
         pub operand_as : (oper : Operand) → other_operand os' ≡ Some oper → operand_of z.located.kind ≡ Some oper
         operand_as oper f = ap operand_of e ∙ f
