@@ -61,9 +61,9 @@ pair_long i j bytes first second a b e =
     omega (arith, all, one, two)
 
 part_long : (rvc : Bool) (p : CodePart) (a b : List ℕ) → IsCodedPart rvc p a → IsCodedPart rvc p b → length a ≡ length b
-part_long rvc (Closed i) a b (v, (m, x)) (w, (n, y)) = least_one rvc i (length a) (length b) m n
+part_long rvc (Closed i) a b (v, m, x) (w, n, y) = least_one rvc i (length a) (length b) m n
 part_long rvc (OpenPart k i) a b (v, x) (w, y) = encoded_long i (width_of k) a x ∙ sym (encoded_long i (width_of k) b y)
-part_long rvc (Joined k i j) a b (v, (w, (f, (s, (x, y, e))))) (v', (w', (f', (s', (x', y', e'))))) =
+part_long rvc (Joined k i j) a b (v, w, (f, (s, x, y, e))) (v', w', (f', (s', x', y', e'))) =
     pair_long i j a f s x y e ∙ sym (pair_long i j b f' s' x' y' e')
 
 -- ---- two codes of the same parts
@@ -111,17 +111,21 @@ code_fields_of v rvc m n bytes mnemonic operands found coded f g long size field
     parts_fields fields more own section ordinal (rvc && are_closed g.is.ps) are g.is.ps found (coded_by coded) place (f.shapes ∙ ap (λ ps. map shape_of ps) same) one g.is.coded_as
     ∙ ap (λ o. fields_from section place (map (part_of ordinal) (coded_templates own (unwrap_or o []) (coded_by coded)))) (sym there)
 
+no_fields : (fields : Kind → List Open) (more : List Open) (section place : ℕ) (found : List Coded) → found ≡ [] → coded_fields fields more section place found ≡ []
+no_fields fields more section place [] e = refl
+no_fields fields more section place (c ∷ cs) e = absurd (cc)
+
 -- the fields of a statement whose code was found once more
 located_fields : (t : Tables) (l : Located) (x : Item) (found coded : List Coded) (section : ℕ) (says : StatementKind)
     → HasBytesOf coded x says → IsCoded (λ e. value_at t l e) l.options.rvc says coded → IsCoded (λ e. value_at t l e) l.options.rvc says found → length (bytes_coded found) ≡ x.bytes
     → coded_fields (λ k. field_of t (λ e. value_at t l e) l.ordinal (operand_of l.kind) k) (relax_fields l.options.relax l.ordinal) section x.offset found
     ≡ fields_from section x.offset (code_said t (site_of l x coded) says)
-located_fields t l x found coded section (Label name) size a b long = ap (λ f. coded_fields _ _ section x.offset f) b.1
-located_fields t l x found coded section (Numbered number) size a b long = ap (λ f. coded_fields _ _ section x.offset f) b.1
+located_fields t l x found coded section (Label name) size a b long = no_fields _ _ section x.offset found b.1
+located_fields t l x found coded section (Numbered number) size a b long = no_fields _ _ section x.offset found b.1
 located_fields t l x found coded section (Instruction mnemonic operands) size a b long =
     code_fields_of (λ e. value_at t l e) l.options.rvc b.0 a.0 x.bytes mnemonic operands found coded b.1 a.1 long size _ _ (part_fields t (λ e. value_at t l e) l) section x.offset l.ordinal
     (own_parts t (λ e. value_at t l e) l)
-located_fields t l x found coded section (Directs directive) size a b long = ap (λ f. coded_fields _ _ section x.offset f) b.1
+located_fields t l x found coded section (Directs directive) size a b long = no_fields _ _ section x.offset found b.1
 
 -- the same by where the statement stands
 pub spot_fields : (spot : Spot) (index : ℕ) (says : StatementKind) (choices : Choices) (l : Located) (x : Item) (found coded : List Coded)
