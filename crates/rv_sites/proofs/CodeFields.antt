@@ -15,7 +15,6 @@ use Rattle.rv_pseudo_laws.specs.Code.{Part as CodePart, Closed, Open as OpenPart
 use Rattle.rv_pseudo_laws.specs.Filled.{are_closed}
 use Rattle.rv_patch_laws.specs.Encoded.{IsLeast, IsEncodedIn}
 use Rattle.rv_unit_laws.specs.Tables.{Tables, tables, value}
-use Rattle.rv_tables.specs.Sections.{offset_of}
 use Rattle.rv_unit.specs.Unit.{said}
 use Rattle.rv_source_laws.specs.Located.{Located}
 use Rattle.rv_source_laws.specs.Program.{place_of}
@@ -34,7 +33,7 @@ use Rattle.rv_sites.specs.Code.{bytes_coded, value_at}
 use Rattle.rv_sites.specs.Coded.{IsCoded, IsCodedAt}
 use Rattle.rv_sites.specs.DataParts.{code_said}
 use Rattle.rv_sites.specs.Seated.{site_of}
-use Rattle.rv_sites.specs.Spots.{value_in, shape_opens, coded_fields, fields_coded, own_opens, HasBytesOf, IsAtSpot}
+use Rattle.rv_sites.specs.Spots.{value_in, shape_opens, coded_fields, fields_coded, HasBytesOf, IsAtSpot}
 
 -- ---- the bytes of a part have one length
 

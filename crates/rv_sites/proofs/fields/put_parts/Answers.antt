@@ -1,4 +1,4 @@
-use Rattle.std.proofs.Common.{rules, ◌≡◌, ◌<◌, ◌+◌, ◌∙◌, length, drop, ap}
+use Rattle.std.proofs.Common.{rules, ◌<◌, ◌+◌, ◌∙◌, length, drop, ap}
 use Rattle.std.proofs.lemmas.List.{drop_more}
 use Rattle.rv_statement.specs.View.{statement_kind}
 use Rattle.rv_assemble_laws.specs.CodeFields.{relax_fields}
