@@ -7,6 +7,7 @@ pub mod Fitted
 pub mod Growing
 pub mod Itemized
 pub mod Joined
+pub mod LeastAll
 pub mod Locations
 pub mod LowSections
 pub mod Rooms
