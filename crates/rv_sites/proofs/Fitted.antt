@@ -101,16 +101,16 @@ module _ (all : Tables) (s : Located) (x : Item) (begins : ℕ) (found : List Co
   -- code
 
   -- an instruction has the parts that its bytes ask for
-  code_parts : (mnemonic : Mnemonic) (operands : List Operand) → x.bytes ≡ length bytes → (own : IsCodeOf worth s.options.rvc (length bytes) mnemonic operands found)
+  code_parts : (mnemonic : Mnemonic) (operands : List Operand) → x.bytes ≡ length bytes → (asked : ℕ) (own : IsCodeOf worth s.options.rvc asked mnemonic operands found)
       → Parts (Instruction mnemonic operands) ≡ map (part_of s.ordinal) (coded_templates (part_fields all worth s) own.is.ps (coded_by found))
-  code_parts mnemonic operands size own =
+  code_parts mnemonic operands size asked own =
       ap (λ p. map (part_of s.ordinal) (coded_templates (part_fields all worth s) (unwrap_or p []) (coded_by found)))
       (ap (λ n. code (constants worth) s.options.rvc n mnemonic operands) size ∙ own.is.parts)
 
   code_bytes : (mnemonic : Mnemonic) (operands : List Operand) → x.bytes ≡ length bytes → Own (Instruction mnemonic operands)
       → flat_map part_bytes (Parts (Instruction mnemonic operands)) ≡ bytes
   code_bytes mnemonic operands size (asked, own) =
-      ap (λ ps. flat_map part_bytes ps) (code_parts mnemonic operands size own)
+      ap (λ ps. flat_map part_bytes ps) (code_parts mnemonic operands size asked own)
       ∙ coded_bytes s.ordinal (part_fields all worth s) (s.options.rvc && are_closed own.is.ps) own.is.ps (coded_by found) own.is.coded_as
 
   -- bytes
