@@ -8,7 +8,7 @@ use Rattle.rv_text_laws.specs.Values.{Value, Constant, Symbolic, Difference, Fau
 use Rattle.rv_statement.specs.declared.mnemonic.Mnemonic.{Mnemonic}
 use Rattle.rv_statement.specs.Statement.{StatementKind, Label, Numbered, Instruction, Directs, Statement, Operand, Expression, Directive, Enters, Sets, Aligns_to_power, Aligns_to_bytes, Values, Strings, Zeros}
 use Rattle.rv_unit_laws.specs.Contributions.{contribution}
-use Rattle.rv_unit_laws.specs.Sections.{Section, is_nobits, current_section}
+use Rattle.rv_unit_laws.specs.Sections.{is_nobits, current_section}
 use Rattle.rv_unit_laws.specs.Tables.{Tables, at_start, here, value, alignment_of, string_bytes, after, tables, stood, opened_of, alignments_of}
 use Rattle.rv_unit_laws.specs.Faults.{faulty_if, value_faults, past_section, faults, first_fault}
 use Rattle.rv_pseudo_laws.specs.Code.{Part as CodePart, code}
