@@ -2,6 +2,16 @@
 //!
 //! Source: System V gABI, "Relocation"; RISC-V ELF psABI, "Relocations", "Linker Relaxation".
 
+ghost use Rattle.std.specs.Prelude.{◌≡◌, ◌+◌, ◌≤◌, ◌++◌, List, map, OnOk};
+ghost use Rattle.rv_statement.specs.View.{statement_kind};
+ghost use Rattle.rv_unit_laws.specs.Tables.{tables, longest_section};
+ghost use Rattle.rv_unit.specs.Unit.{said};
+ghost use Rattle.rv_source_laws.specs.Located.{Located};
+ghost use Rattle.rv_instruction.specs.declared.encoded.Coded.{Coded as SpecCoded};
+ghost use Rattle.rv_sites.specs.Coded.{IsCodedAt};
+ghost use Rattle.rv_sites.specs.Draft.{field_of};
+ghost use Rattle.rv_sites.specs.Spots.{AtSpot, IsAtSpot, HasBytesOf, code_fields};
+
 use crate::code::{asked, bytes_of, width};
 use crate::data::Spot;
 use crate::field::OpenField;
@@ -124,7 +134,15 @@ pub(crate) fn put_code<'a>(
     statement: &Statement<'a>,
     choices: Choices,
     item: Item,
-) -> Result<(), AllocError> {
+) -> Result<(), SourceFault>
+    requires { item.offset + item.bytes ≤ longest_section }
+    ensures { OnOk result (AtSpot spot.now (λ index. (l : Located) (coded : List SpecCoded)
+        → IsAtSpot spot.now index (statement_kind (statement.now).kind) choices l
+        → HasBytesOf coded item l.kind
+        → IsCodedAt (tables (said ((spot.now).scope.now).unit.now)) l coded
+        → map field_of fields.new.items
+        ≡ map field_of fields.old.items ++ code_fields spot.now l item coded)) }
+{
     if !spot.loaded {
         return Ok(());
     }
