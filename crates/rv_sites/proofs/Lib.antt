@@ -1,4 +1,5 @@
 pub mod Adding
+pub mod CodeFields
 pub mod DataSoFar
 pub mod Drafted
 pub mod FieldsSoFar
