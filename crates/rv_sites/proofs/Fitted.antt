@@ -1,6 +1,6 @@
 -- A statement with its item is a site: it has the bytes of its templates, and its size.
 
-use Rattle.std.proofs.Common.{◌≡◌, ℕ, suc, ◌+◌, ◌*◌, inl, inr, Bool, true, false, List, [], ◌∷◌, ◌++◌, length, map, Option, None, refl, sym, ap, ◌∙◌, subst, append-nil, length-append, arith}
+use Rattle.std.proofs.Common.{◌≡◌, ℕ, suc, ◌*◌, inl, inr, Bool, true, false, List, [], ◌∷◌, ◌++◌, length, map, Option, None, refl, sym, ap, ◌∙◌, subst, append-nil, length-append, arith}
 use Rattle.std.proofs.lemmas.List.{length-replicate}
 use Rattle.std.specs.Prelude.{flat_map, not, ◌&&◌, ◌||◌, nat_lt, ⊤, slice_index_or, unwrap_or, if◌then◌else◌}
 use Rattle.std.specs.List.{AllByRecursion}

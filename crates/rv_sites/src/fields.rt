@@ -29,8 +29,8 @@ use rv_statement::Statement;
 use rv_text::SourceFault;
 use std::alloc::AllocError;
 
-/// How the code of a statement is written: whether compressed code is on, and whether the linker may
-/// relax it.
+/// How the code of a statement is written: whether compressed code is on, and whether the linker
+/// may relax it.
 #[derive(Clone, Copy, Drop)]
 pub(crate) struct Choices {
     pub(crate) compressed: bool,
