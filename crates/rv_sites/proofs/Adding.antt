@@ -1,6 +1,6 @@
 -- A statement that has a fault is not added.
 
-use Rattle.std.proofs.Common.{◌≡◌, ℕ, Bool, Ok, Err}
+use Rattle.std.proofs.Common.{ℕ, Bool, Err}
 use Rattle.rv_text_laws.specs.Expression.{Primary}
 use Rattle.rv_text_laws.specs.Values as values
 use Rattle.rv_lexer.specs.declared.fault.SourceFault.{SourceFault}

@@ -11,14 +11,15 @@ use Rattle.rv_unit_laws.specs.Tables.{Tables, at_start, tables, longest_section,
 use Rattle.rv_unit_laws.specs.Faults.{first_fault}
 use Rattle.rv_source_laws.specs.Located.{located, located_from}
 use Rattle.rv_source_laws.specs.Compressed.{is_compressed, is_compressed_code}
+use Rattle.rv_assemble_laws.specs.Sizes.{AreLeast}
 use Rattle.rv_assemble_laws.specs.Sites.{Site, part_bytes, parts, parts_of, sites_in, Tile, end_of}
 use Rattle.rv_assemble_laws.proofs.Homes.{IsHomeIn, homes_from, all_map}
 use Rattle.rv_assemble_laws.proofs.Held.{all_held}
 use Rattle.rv_sites.specs.declared.draft.Draft.{Draft}
 use Rattle.rv_sites.specs.Added.{IsWhole}
-use Rattle.rv_sites.specs.Code.{bytes_in, section_code}
+use Rattle.rv_sites.specs.Code.{bytes_in, bytes_of_codes, size_of, section_code}
 use Rattle.rv_sites.specs.Coded.{AreCoded}
-use Rattle.rv_sites.specs.DataParts.{data_bytes, IsData}
+use Rattle.rv_sites.specs.DataParts.{data_bytes, HaveCode, IsData}
 use Rattle.rv_sites.specs.Items.{AreItems}
 use Rattle.rv_instruction.specs.declared.encoded.Coded.{Coded as CodedPart}
 use Rattle.rv_sites.specs.Seated.{sites_of}
@@ -26,9 +27,10 @@ use Rattle.rv_sites.specs.Sized.{AreSized}
 use Rattle.rv_sites.specs.declared.item.CodeSize.{CodeSize}
 use Rattle.rv_sites.specs.Draft.{IsDraft, IsDrafted}
 use Rattle.rv_sites.proofs.Fitted.{Fit, IsWideKind, fits_from, have_all_fields}
+use Rattle.rv_sites.proofs.LeastAll.{least_all}
 use Rattle.rv_sites.proofs.Locations.{places_stand}
 use Rattle.rv_sites.proofs.LowSections.{low_all}
-use Rattle.rv_sites.proofs.Sectioned.{IsOf, all_located, all_items, all_sites, data_as, fields_as, tiles, all_of, code_in, section_bytes, code_bytes, all_sizes, section_templates, all_fields, asks_some}
+use Rattle.rv_sites.proofs.Sectioned.{IsOf, all_located, all_items, all_sites, data_as, agree, tiles, all_of, code_in, section_bytes, code_bytes, all_sizes, section_templates, all_fields, asks_some}
 use Rattle.rv_sites.proofs.Standing.{got_or}
 use Rattle.rv_sites.proofs.Whole.{one_file}
 
@@ -40,7 +42,8 @@ pub record Passed (ss : List Statement) (lengths : List ℕ) (code : List (Vec �
   pub items : AreItems 1 at_start (λ j. 0) ss d.items.items (λ j. slice_index d.ends.items j)
   pub sized : AreSized (tables ss) 1 at_start ss d.items.items sizes
   pub low : (j : ℕ) → slice_index d.ends.items j ≤ longest_section
-  pub figures : IsData ss d.items.items code d.sections.items d.fields.items
+  pub figures : (codes : List (List CodedPart)) → HaveCode ss d.items.items codes → IsData ss d.items.items codes code d.sections.items d.fields.items
+  pub least : AreLeast (tables ss) (located_from 1 1 at_start ss) lengths
   pub counted : length d.sections.items ≡ length (opened_of (tables ss)).sections
   pub ended : length d.ends.items ≡ length (opened_of (tables ss)).sections
   pub few : length ss < 2 ^ 32
@@ -66,17 +69,31 @@ module _ (ss : List Statement) (lengths : List ℕ) (code : List (Vec ℕ)) (siz
   located_all : map (λ (s : Site). s.located) all ≡ located_from 1 1 at_start ss
   located_all = all_located 1 at_start (λ j. 0) (λ j. slice_index d.ends.items j) ss d.items.items codes h.items
 
+  sized : AreSized t 1 at_start ss d.items.items (map size_of codes)
+  sized = subst (λ l. AreSized t 1 at_start ss d.items.items l) h.whole.counts h.sized
+
+  figures : IsData ss d.items.items codes code d.sections.items d.fields.items
+  figures = h.figures codes (record { coded = coded; sized = sized })
+
   fits : AllByRecursion (Fit t) all
   fits =
-      fits_from t 1 at_start (λ j. 0) (λ j. slice_index d.ends.items j) ss d.items.items codes h.items
-      (subst (λ l. AreSized t 1 at_start ss d.items.items l) h.whole.counts h.sized) coded
+      fits_from t 1 at_start (λ j. 0) (λ j. slice_index d.ends.items j) ss d.items.items codes h.items sized coded
       (all_held ss h.good) (have_all_fields ss h.good h.wide)
+
+  homes_all : AllByRecursion (IsHomeIn (λ file. (opened_of t).sections)) (located_from 1 1 at_start ss)
+  homes_all = homes_from (λ file. (opened_of t).sections) 1 1 at_start ss refl (text_section, refl)
 
   homes : AllByRecursion (λ (s : Site). IsHomeIn (λ file. (opened_of t).sections) s.located) all
   homes =
       all_sites (IsHomeIn (λ file. (opened_of t).sections)) all
-      (subst (λ ls. AllByRecursion (IsHomeIn (λ file. (opened_of t).sections)) ls) (sym located_all)
-      (homes_from (λ file. (opened_of t).sections) 1 1 at_start ss refl (text_section, refl)))
+      (subst (λ ls. AllByRecursion (IsHomeIn (λ file. (opened_of t).sections)) ls) (sym located_all) homes_all)
+
+  -- the lengths are the least, and in code the sites have them
+  least : AreLeast t (located_from 1 1 at_start ss) (map (λ (s : Site). s.bytes) all)
+  least =
+      least_all t (opened_of t).sections (located_from 1 1 at_start ss) (bytes_of_codes codes) (map (λ (s : Site). s.bytes) all) homes_all (all_held ss h.good)
+      (agree t 1 at_start (λ j. 0) (λ j. slice_index d.ends.items j) ss d.items.items codes h.items coded fits)
+      (subst (AreLeast t (located_from 1 1 at_start ss)) (sym h.whole.told) h.least)
 
   module _ (j : ℕ) (home : Section) (at : slice_get (opened_of t).sections j ≡ Some home) where
     own : AllByRecursion (IsOf t j home) (sites_in j all)
@@ -89,7 +106,7 @@ module _ (ss : List Statement) (lengths : List ℕ) (code : List (Vec ℕ)) (siz
 
     bytes : bytes_in d.sections.items j ≡ (if is_nobits home then [] else flat_map part_bytes (parts t (sites_in j all)))
     bytes =
-        h.figures.bytes j
+        figures.bytes j
         ∙ ap (λ l. bytes_in code j ++ l) (sym (data_as t j (located_from 1 1 at_start ss) d.items.items codes))
         ∙ ap (λ l. l ++ data_bytes t j all)
         (h.whole.bytes j ∙ ap (λ l. section_code j l codes) (one_file ss)
@@ -123,7 +140,8 @@ module _ (ss : List Statement) (lengths : List ℕ) (code : List (Vec ℕ)) (siz
     counted = h.counted;
     ended = h.ended;
     each = λ j home at. drafted j home at;
-    open_fields = h.figures.fields ∙ sym (fields_as t (located_from 1 1 at_start ss) d.items.items codes) ∙ all_fields t all fits;
+    open_fields = figures.fields ∙ all_fields t all fits;
     places = places_stand ss all located_all;
+    least = least;
     compressed = h.compressed ∙ ap (list_any is_compressed_code) (one_file ss ∙ sym located_all) ∙ any_located all;
   }

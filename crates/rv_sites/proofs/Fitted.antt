@@ -1,25 +1,31 @@
 -- A statement with its item is a site: it has the bytes of its templates, and its size.
 
-use Rattle.std.proofs.Common.{◌≡◌, ℕ, suc, ◌+◌, ◌*◌, inl, inr, Bool, true, false, List, [], ◌∷◌, ◌++◌, length, map, Option, None, refl, sym, ap, ◌∙◌, subst, append-nil, length-append, arith}
+use Rattle.std.proofs.Common.{◌≡◌, ℕ, suc, ◌*◌, inl, inr, Bool, true, false, List, [], ◌∷◌, ◌++◌, length, map, Option, None, refl, sym, ap, ◌∙◌, subst, append-nil, length-append, arith}
 use Rattle.std.proofs.lemmas.List.{length-replicate}
-use Rattle.std.specs.Prelude.{flat_map, not, ◌&&◌, ◌||◌, nat_lt, ⊤, slice_index_or, if◌then◌else◌}
+use Rattle.std.specs.Prelude.{flat_map, not, ◌&&◌, ◌||◌, nat_lt, ⊤, slice_index_or, unwrap_or, if◌then◌else◌}
 use Rattle.std.specs.List.{AllByRecursion}
 use Rattle.rv_text_laws.specs.Values.{Value, Constant, Symbolic, Difference, Faulty}
-use Rattle.rv_statement.specs.Statement.{StatementKind, Label, Numbered, Instruction, Directs, Statement, Expression, Directive, Enters, Sets, Aligns_to_power, Aligns_to_bytes, Values, Strings, Zeros}
+use Rattle.rv_statement.specs.declared.mnemonic.Mnemonic.{Mnemonic}
+use Rattle.rv_statement.specs.Statement.{StatementKind, Label, Numbered, Instruction, Directs, Statement, Operand, Expression, Directive, Enters, Sets, Aligns_to_power, Aligns_to_bytes, Values, Strings, Zeros}
 use Rattle.rv_unit_laws.specs.Contributions.{contribution}
-use Rattle.rv_unit_laws.specs.Sections.{Section, is_nobits, current_section}
+use Rattle.rv_unit_laws.specs.Sections.{is_nobits, current_section}
 use Rattle.rv_unit_laws.specs.Tables.{Tables, at_start, here, value, alignment_of, string_bytes, after, tables, stood, opened_of, alignments_of}
 use Rattle.rv_unit_laws.specs.Faults.{faulty_if, value_faults, past_section, faults, first_fault}
+use Rattle.rv_pseudo_laws.specs.Code.{Part as CodePart, code}
+use Rattle.rv_pseudo_laws.specs.Filled.{are_closed}
 use Rattle.rv_source_laws.specs.Located.{Located, located_now, located_from, contributes, is_placed}
-use Rattle.rv_assemble_laws.specs.Coded.{joined, IsCode}
-use Rattle.rv_assemble_laws.specs.Templates.{Datum, Fixed, zeros, value_bytes, templates, HasField, IsWide, IsWidth, IsTemplate}
-use Rattle.rv_assemble_laws.specs.Sites.{Site, Part, form, part_of, part_bytes, parts_of, IsPaddedIn, HasSize}
-use Rattle.rv_assemble_laws.specs.Fields.{fields_from, fields_at}
+use Rattle.rv_assemble_laws.specs.CodeFields.{part_fields}
+use Rattle.rv_assemble_laws.specs.Coded.{joined, constants, AreCodedParts, IsCode}
+use Rattle.rv_assemble_laws.specs.Templates.{Datum, Fixed, Open, zeros, value_bytes, HasField, IsWide, IsWidth, IsTemplate}
+use Rattle.rv_assemble_laws.specs.Sites.{Site, Part, form, part_of, coded_templates, templates, part_bytes, parts_of, IsPaddedIn, HasSize}
+use Rattle.rv_assemble_laws.specs.Fields.{Field, fields_from, fields_at}
 use Rattle.rv_assemble_laws.proofs.Held.{Held, IsHeld, DirectiveHeld, none_left, no_test}
+use Rattle.rv_instruction.specs.declared.encoded.Coded.{Coded as CodedPart}
+use Rattle.rv_instruction.specs.Code.{coded_by, IsCodeOf}
 use Rattle.rv_sites.specs.declared.item.Item.{Item}
 use Rattle.rv_sites.specs.Code.{value_at, size_of}
 use Rattle.rv_sites.specs.Coded.{IsCoded, AreCoded}
-use Rattle.rv_sites.specs.DataParts.{is_filled, data_said, data_parts, data_fields}
+use Rattle.rv_sites.specs.DataParts.{is_filled, data_said, fields_said, data_parts, code_said, open_fields}
 use Rattle.rv_sites.specs.Items.{AreItems, grown}
 use Rattle.rv_sites.specs.Seated.{site_of, sites_of}
 use Rattle.rv_sites.specs.Sized.{IsPadded, IsSized, AreSized}
@@ -53,54 +59,79 @@ placed_as t k (Numbered number) = refl
 placed_as t k (Instruction mnemonic operands) = refl
 placed_as t k (Directs d) = placed_directive t k d
 
--- ---- by what a statement says
+-- ---- the parts of code
 
 -- the bytes of code are those of its parts
-code_bytes : (o : ℕ) (coded : List (List ℕ)) → flat_map part_bytes (map (part_of o) (map Fixed coded)) ≡ joined coded
-code_bytes o [] = refl
-code_bytes o (bytes ∷ coded) = ap (λ l. bytes ++ l) (code_bytes o coded)
+coded_bytes : (o : ℕ) (fields : CodePart → List Open) (compressed : Bool) (ps : List CodePart) (coded : List (List ℕ)) → AreCodedParts compressed ps coded
+    → flat_map part_bytes (map (part_of o) (coded_templates fields ps coded)) ≡ joined coded
+coded_bytes o fields compressed [] [] h = refl
+coded_bytes o fields compressed [] (bytes ∷ coded) h = absurd h
+coded_bytes o fields compressed (p ∷ ps) [] h = absurd h
+coded_bytes o fields compressed (p ∷ ps) (bytes ∷ coded) h = ap (λ l. bytes ++ l) (coded_bytes o fields compressed ps coded h.1)
 
--- nothing of it stays open
-code_fields : (section o offset : ℕ) (coded : List (List ℕ)) → fields_from section offset (map (part_of o) (map Fixed coded)) ≡ []
-code_fields section o offset [] = refl
-code_fields section o offset (bytes ∷ coded) = code_fields section o (offset + length bytes) coded
+coded_are : (o : ℕ) (fields : CodePart → List Open) (ps : List CodePart) (coded : List (List ℕ)) → AllByRecursion (λ (p : Part). IsTemplate p.template) (map (part_of o) (coded_templates fields ps coded))
+coded_are o fields [] coded = tt
+coded_are o fields (p ∷ ps) [] = tt
+coded_are o fields (p ∷ ps) (bytes ∷ coded) = (tt, coded_are o fields ps coded)
 
-code_templates : (o : ℕ) (coded : List (List ℕ)) → AllByRecursion (λ (p : Part). IsTemplate p.template) (map (part_of o) (map Fixed coded))
-code_templates o [] = tt
-code_templates o (bytes ∷ coded) = (tt, code_templates o coded)
+-- ---- by what a statement says
 
-module _ (v : Expression → Value) (o : ℕ) (rvc : Bool) (home : Section) (x : Item) (begins : ℕ) (placed : Bool) (coded : List (List ℕ)) where
+module _ (all : Tables) (s : Located) (x : Item) (begins : ℕ) (found : List CodedPart) where
+  abbrev site : Site
+  site = site_of s x found
+
+  abbrev worth : Expression → Value
+  worth = λ e. value_at all s e
+
+  abbrev bytes : List ℕ
+  bytes = joined (coded_by found)
+
   abbrev Parts : StatementKind → List Part
-  Parts says = map (part_of o) (templates v says x.bytes coded)
+  Parts says = map (part_of s.ordinal) (templates all site says)
 
   abbrev Sized : StatementKind → Type 0
-  Sized says = placed ≡ true → IsSized v home.executable x begins (size_of coded) says
+  Sized says = s.placed ≡ true → IsSized worth s.home.executable x begins (size_of found) says
 
-  abbrev Coded : StatementKind → Type 0
-  Coded says = IsCoded v rvc says coded
+  abbrev Own : StatementKind → Type 0
+  Own says = IsCoded worth s.options.rvc says found
 
   abbrev Absent : Type 0
-  Absent = placed ≡ false → x.bytes ≡ 0
+  Absent = s.placed ≡ false → x.bytes ≡ 0
+
+  -- code
+
+  -- an instruction has the parts that its bytes ask for
+  code_parts : (mnemonic : Mnemonic) (operands : List Operand) → x.bytes ≡ length bytes → (asked : ℕ) (own : IsCodeOf worth s.options.rvc asked mnemonic operands found)
+      → Parts (Instruction mnemonic operands) ≡ map (part_of s.ordinal) (coded_templates (part_fields all worth s) own.is.ps (coded_by found))
+  code_parts mnemonic operands size asked own =
+      ap (λ p. map (part_of s.ordinal) (coded_templates (part_fields all worth s) (unwrap_or p []) (coded_by found)))
+      (ap (λ n. code (constants worth) s.options.rvc n mnemonic operands) size ∙ own.is.parts)
+
+  code_bytes : (mnemonic : Mnemonic) (operands : List Operand) → x.bytes ≡ length bytes → Own (Instruction mnemonic operands)
+      → flat_map part_bytes (Parts (Instruction mnemonic operands)) ≡ bytes
+  code_bytes mnemonic operands size (asked, own) =
+      ap (λ ps. flat_map part_bytes ps) (code_parts mnemonic operands size asked own)
+      ∙ coded_bytes s.ordinal (part_fields all worth s) (s.options.rvc && are_closed own.is.ps) own.is.ps (coded_by found) own.is.coded_as
 
   -- bytes
 
-  values_long : (w : ℕ) (es : List Expression) → length (flat_map part_bytes (map (part_of o) (map (λ e. Datum w (v e)) es))) ≡ w * length es
+  values_long : (w : ℕ) (es : List Expression) → length (flat_map part_bytes (map (part_of s.ordinal) (map (λ e. Datum w (worth e)) es))) ≡ w * length es
   values_long w [] = omega arith
   values_long w (e ∷ es) =
-      let own = value_long w (v e) in
+      let own = value_long w (worth e) in
       let rest = values_long w es in
-      let both = length-append (value_bytes w (v e)) (flat_map part_bytes (map (part_of o) (map (λ e. Datum w (v e)) es))) in
+      let both = length-append (value_bytes w (worth e)) (flat_map part_bytes (map (part_of s.ordinal) (map (λ e. Datum w (worth e)) es))) in
       omega (arith, own, rest, both)
 
   zeros_long : (n : ℕ) → length (zeros n ++ []) ≡ n
   zeros_long n = ap length (append-nil (zeros n)) ∙ length-replicate {A = ℕ} n 0
 
-  set_bytes : (p : Bool) → placed ≡ p → (name : List ℕ) (e : Expression) → Sized (Directs (Sets name e)) → Absent → x.bytes ≡ 0
+  set_bytes : (p : Bool) → s.placed ≡ p → (name : List ℕ) (e : Expression) → Sized (Directs (Sets name e)) → Absent → x.bytes ≡ 0
   set_bytes true is name e size absent = (size is).1
   set_bytes false is name e size absent = absent is
 
-  directive_bytes : (d : Directive) → PlacedDirective placed d → Sized (Directs d) → Absent → x.bytes ≡ length (flat_map part_bytes (Parts (Directs d)))
-  directive_bytes (Sets name e) is size absent = set_bytes placed refl name e size absent
+  directive_bytes : (d : Directive) → PlacedDirective s.placed d → Sized (Directs d) → Absent → x.bytes ≡ length (flat_map part_bytes (Parts (Directs d)))
+  directive_bytes (Sets name e) is size absent = set_bytes s.placed refl name e size absent
   directive_bytes (Values w vs) is size absent = (size is).1 ∙ sym (values_long w vs)
   directive_bytes (Strings ended strings) is size absent = (size is).1 ∙ ap length (sym (append-nil (string_bytes ended strings)))
   directive_bytes (Zeros count) is size absent = sym (zeros_long x.bytes)
@@ -108,47 +139,47 @@ module _ (v : Expression → Value) (o : ℕ) (rvc : Bool) (home : Section) (x :
   directive_bytes (Aligns_to_bytes e) is size absent = sym (zeros_long x.bytes)
   directive_bytes _ is size absent = absent is
 
-  said_bytes : (says : StatementKind) → PlacedAs placed says → Sized says → Absent → x.bytes ≡ length (flat_map part_bytes (Parts says))
-  said_bytes (Label name) is size absent = (size is).0
-  said_bytes (Numbered number) is size absent = (size is).0
-  said_bytes (Instruction mnemonic operands) is size absent = (size is).0 ∙ ap length (sym (code_bytes o coded))
-  said_bytes (Directs d) is size absent = directive_bytes d is size absent
+  said_bytes : (says : StatementKind) → PlacedAs s.placed says → Sized says → Absent → Own says → x.bytes ≡ length (flat_map part_bytes (Parts says))
+  said_bytes (Label name) is size absent own = (size is).0
+  said_bytes (Numbered number) is size absent own = (size is).0
+  said_bytes (Instruction mnemonic operands) is size absent own = (size is).0 ∙ ap length (sym (code_bytes mnemonic operands (size is).0 own))
+  said_bytes (Directs d) is size absent own = directive_bytes d is size absent
 
-  -- code
+  -- in sections of code
 
-  no_padding : (b : Bool) → b ≡ true → (a : Option ℕ) → IsPadded b x begins a → flat_map part_bytes (part_of o (Fixed (zeros x.bytes)) ∷ []) ≡ []
+  no_padding : (b : Bool) → b ≡ true → (a : Option ℕ) → IsPadded b x begins a → flat_map part_bytes (part_of s.ordinal (Fixed (zeros x.bytes)) ∷ []) ≡ []
   no_padding true e a h = ap (λ n. zeros n ++ []) h.0
   no_padding false e a h = absurd (cc)
 
   -- what is no instruction has no code
-  no_joined : coded ≡ [] → joined coded ≡ []
-  no_joined none = ap joined none
+  no_joined : found ≡ [] → bytes ≡ []
+  no_joined none = ap (λ f. joined (coded_by f)) none
 
-  directive_code : (d : Directive) → home.executable ≡ true → PlacedDirective placed d → Sized (Directs d) → DirectiveHeld home d → flat_map part_bytes (Parts (Directs d)) ≡ []
-  directive_code (Values w vs) code is size held = true_false home.executable code held.0
-  directive_code (Strings ended strings) code is size held = true_false home.executable code held.0
-  directive_code (Zeros count) code is size held = true_false home.executable code held
-  directive_code (Aligns_to_power e) code is size held = no_padding home.executable code (alignment_of v (Aligns_to_power e)) (size is).1.1
-  directive_code (Aligns_to_bytes e) code is size held = no_padding home.executable code (alignment_of v (Aligns_to_bytes e)) (size is).1.1
+  directive_code : (d : Directive) → s.home.executable ≡ true → PlacedDirective s.placed d → Sized (Directs d) → DirectiveHeld s.home d → flat_map part_bytes (Parts (Directs d)) ≡ []
+  directive_code (Values w vs) code is size held = true_false s.home.executable code held.0
+  directive_code (Strings ended strings) code is size held = true_false s.home.executable code held.0
+  directive_code (Zeros count) code is size held = true_false s.home.executable code held
+  directive_code (Aligns_to_power e) code is size held = no_padding s.home.executable code (alignment_of worth (Aligns_to_power e)) (size is).1.1
+  directive_code (Aligns_to_bytes e) code is size held = no_padding s.home.executable code (alignment_of worth (Aligns_to_bytes e)) (size is).1.1
   directive_code _ code is size held = refl
 
-  said_code : (says : StatementKind) → home.executable ≡ true → PlacedAs placed says → Sized says → Coded says → IsHeld home says → flat_map part_bytes (Parts says) ≡ joined coded
-  said_code (Label name) code is size none held = sym (no_joined none)
-  said_code (Numbered number) code is size none held = sym (no_joined none)
-  said_code (Instruction mnemonic operands) code is size own held = code_bytes o coded
-  said_code (Directs d) code is size none held = directive_code d code is size held ∙ sym (no_joined none)
+  said_code : (says : StatementKind) → s.home.executable ≡ true → PlacedAs s.placed says → Sized says → Own says → IsHeld s.home says → flat_map part_bytes (Parts says) ≡ bytes
+  said_code (Label name) code is size (asked, none) held = sym (no_joined none)
+  said_code (Numbered number) code is size (asked, none) held = sym (no_joined none)
+  said_code (Instruction mnemonic operands) code is size own held = code_bytes mnemonic operands (size is).0 own
+  said_code (Directs d) code is size (asked, none) held = directive_code d code is size held ∙ sym (no_joined none)
 
-  no_code : (says : StatementKind) → home.executable ≡ false → Coded says → IsHeld home says → joined coded ≡ []
-  no_code (Instruction mnemonic operands) other own held = true_false home.executable held.0 other
-  no_code (Label name) other none held = no_joined none
-  no_code (Numbered number) other none held = no_joined none
-  no_code (Directs d) other none held = no_joined none
+  no_code : (says : StatementKind) → s.home.executable ≡ false → Own says → IsHeld s.home says → bytes ≡ []
+  no_code (Instruction mnemonic operands) other own held = true_false s.home.executable held.0 other
+  no_code (Label name) other (asked, none) held = no_joined none
+  no_code (Numbered number) other (asked, none) held = no_joined none
+  no_code (Directs d) other (asked, none) held = no_joined none
 
-  empty_code : (says : StatementKind) → is_nobits home ≡ true → Coded says → IsHeld home says → joined coded ≡ []
-  empty_code (Instruction mnemonic operands) empty own held = true_false (is_nobits home) empty held.1
-  empty_code (Label name) empty none held = no_joined none
-  empty_code (Numbered number) empty none held = no_joined none
-  empty_code (Directs d) empty none held = no_joined none
+  empty_code : (says : StatementKind) → is_nobits s.home ≡ true → Own says → IsHeld s.home says → bytes ≡ []
+  empty_code (Instruction mnemonic operands) empty own held = true_false (is_nobits s.home) empty held.1
+  empty_code (Label name) empty (asked, none) held = no_joined none
+  empty_code (Numbered number) empty (asked, none) held = no_joined none
+  empty_code (Directs d) empty (asked, none) held = no_joined none
 
   -- data
 
@@ -156,8 +187,8 @@ module _ (v : Expression → Value) (o : ℕ) (rvc : Bool) (home : Section) (x :
   code_unfilled true n e f = absurd (cc)
   code_unfilled false n e f = absurd (cc)
 
-  said_data : (says : StatementKind) → is_filled home ≡ true → IsHeld home says → data_said o v says x.bytes ≡ Parts says
-  said_data (Instruction mnemonic operands) filled held = absurd (code_unfilled home.executable (not (is_nobits home)) held.0 filled)
+  said_data : (says : StatementKind) → is_filled s.home ≡ true → IsHeld s.home says → data_said s.ordinal worth says x.bytes ≡ Parts says
+  said_data (Instruction mnemonic operands) filled held = absurd (code_unfilled s.home.executable (not (is_nobits s.home)) held.0 filled)
   said_data (Label name) filled held = refl
   said_data (Numbered number) filled held = refl
   said_data (Directs d) filled held = refl
@@ -165,39 +196,81 @@ module _ (v : Expression → Value) (o : ℕ) (rvc : Bool) (home : Section) (x :
   data_filled : (b n : Bool) → b ≡ false → n ≡ false → (not b && not n) ≡ true
   data_filled b n e f = ap (λ c. not c && not n) e ∙ ap not f
 
-  no_fields : (section : ℕ) (says : StatementKind) → is_filled home ≡ false → IsHeld home says → fields_from section x.offset (Parts says) ≡ []
-  no_fields section (Label name) e held = refl
-  no_fields section (Numbered number) e held = refl
-  no_fields section (Instruction mnemonic operands) e held = code_fields section o x.offset coded
-  no_fields section (Directs (Values w vs)) e held = true_false (is_filled home) (data_filled home.executable (is_nobits home) held.0 held.1) e
-  no_fields section (Directs (Strings ended strings)) e held = refl
-  no_fields section (Directs _) e held = refl
+  -- open fields
+
+  abbrev Fields : List Part → List Field
+  Fields ps = fields_from s.section x.offset ps
+
+  -- no values of data stand in code
+  code_fields : (says : StatementKind) → s.home.executable ≡ true → IsHeld s.home says → Fields (code_said all site says) ≡ Fields (Parts says)
+  code_fields (Label name) e held = refl
+  code_fields (Numbered number) e held = refl
+  code_fields (Instruction mnemonic operands) e held = refl
+  code_fields (Directs (Values w vs)) e held = true_false s.home.executable e held.0
+  code_fields (Directs (Strings ended strings)) e held = refl
+  code_fields (Directs _) e held = refl
+
+  no_fields : (says : StatementKind) → s.home.executable ≡ false → is_filled s.home ≡ false → IsHeld s.home says → Fields (Parts says) ≡ []
+  no_fields (Label name) other e held = refl
+  no_fields (Numbered number) other e held = refl
+  no_fields (Instruction mnemonic operands) other e held = true_false s.home.executable held.0 other
+  no_fields (Directs (Values w vs)) other e held = true_false (is_filled s.home) (data_filled s.home.executable (is_nobits s.home) held.0 held.1) e
+  no_fields (Directs (Strings ended strings)) other e held = refl
+  no_fields (Directs _) other e held = refl
+
+  abbrev Chosen : Bool → Bool → StatementKind → List Part
+  Chosen executable filled says = if executable then code_said all site says else if filled then data_said s.ordinal worth says x.bytes else []
+
+  chosen_fields : (executable filled : Bool) (says : StatementKind) → s.home.executable ≡ executable → is_filled s.home ≡ filled → IsHeld s.home says → Fields (Chosen executable filled says) ≡ Fields (Parts says)
+  chosen_fields true filled says e f held = code_fields says e held
+  chosen_fields false true says e f held = ap (λ ps. Fields ps) (said_data says f held)
+  chosen_fields false false says e f held = sym (no_fields says e f held)
+
+  said_fields : (says : StatementKind) → IsHeld s.home says
+      → fields_said s.home.loaded s.section x.offset (Chosen s.home.executable (is_filled s.home) says) ≡ fields_said s.home.loaded s.section x.offset (Parts says)
+  said_fields says held = ap (λ l. if s.home.loaded then l else []) (chosen_fields s.home.executable (is_filled s.home) says refl refl held)
 
   -- sizes
 
-  padded_in : (l : Located) (b : Bool) (a : Option ℕ) → IsPadded b x begins a → IsPaddedIn b (site_of l x coded) begins a
-  padded_in l true a h = h
-  padded_in l false a h = h
+  padded_in : (b : Bool) (a : Option ℕ) → IsPadded b x begins a → IsPaddedIn b site begins a
+  padded_in true a h = h
+  padded_in false a h = h
 
-  directive_size : (l : Located) (d : Directive) → l.home ≡ home → placed ≡ true → PlacedDirective placed d → IsSized v home.executable x begins (size_of coded) (Directs d) → HasSize v (site_of l x coded) begins (Directs d)
-  directive_size l (Sets name e) at there is h = (h.1, h.0)
-  directive_size l (Values w vs) at there is h = h
-  directive_size l (Strings ended strings) at there is h = h
-  directive_size l (Zeros count) at there is h = h
-  directive_size l (Aligns_to_power e) at there is h =
-      (h.1.0, h.0, subst (λ (g : Section). IsPaddedIn g.executable (site_of l x coded) begins (alignment_of v (Aligns_to_power e))) (sym at) (padded_in l home.executable (alignment_of v (Aligns_to_power e)) h.1.1))
-  directive_size l (Aligns_to_bytes e) at there is h =
-      (h.1.0, h.0, subst (λ (g : Section). IsPaddedIn g.executable (site_of l x coded) begins (alignment_of v (Aligns_to_bytes e))) (sym at) (padded_in l home.executable (alignment_of v (Aligns_to_bytes e)) h.1.1))
-  directive_size l _ at there is h = true_false placed there is
+  directive_size : (d : Directive) → s.placed ≡ true → PlacedDirective s.placed d → IsSized worth s.home.executable x begins (size_of found) (Directs d) → HasSize worth site begins (Directs d)
+  directive_size (Sets name e) there is h = (h.1, h.0)
+  directive_size (Values w vs) there is h = h
+  directive_size (Strings ended strings) there is h = h
+  directive_size (Zeros count) there is h = h
+  directive_size (Aligns_to_power e) there is h = (h.1.0, h.0, padded_in s.home.executable (alignment_of worth (Aligns_to_power e)) h.1.1)
+  directive_size (Aligns_to_bytes e) there is h = (h.1.0, h.0, padded_in s.home.executable (alignment_of worth (Aligns_to_bytes e)) h.1.1)
+  directive_size _ there is h = true_false s.placed there is
 
-  said_size : (l : Located) (says : StatementKind) → l.home ≡ home → l.options.rvc ≡ rvc → placed ≡ true → PlacedAs placed says → IsSized v home.executable x begins (size_of coded) says → Coded says → HasSize v (site_of l x coded) begins says
-  said_size l (Label name) at on there is h own = h
-  said_size l (Numbered number) at on there is h own = h
-  said_size l (Instruction mnemonic operands) at on there is h own =
-      subst (λ b. IsCode v b mnemonic operands x.bytes coded x.instructions) (sym on)
-      (subst (λ n. IsCode v rvc mnemonic operands n coded x.instructions) (sym h.0)
-      (subst (λ n. IsCode v rvc mnemonic operands (length (joined coded)) coded n) (sym h.1) own))
-  said_size l (Directs d) at on there is h own = directive_size l d at there is h
+  said_size : (says : StatementKind) → s.placed ≡ true → PlacedAs s.placed says → IsSized worth s.home.executable x begins (size_of found) says → Own says → HasSize worth site begins says
+  said_size (Label name) there is h own = h
+  said_size (Numbered number) there is h own = h
+  said_size (Instruction mnemonic operands) there is h (asked, own) =
+      subst (λ n. IsCode worth s.options.rvc mnemonic operands n (coded_by found) x.instructions) (sym h.0)
+      (subst (λ n. IsCode worth s.options.rvc mnemonic operands (length bytes) (coded_by found) n) (sym h.1) own.is)
+  said_size (Directs d) there is h own = directive_size d there is h
+
+  -- templates
+
+  all_templates : (says : StatementKind) → ((w : ℕ) (vs : List Expression) → says ≡ Directs (Values w vs) → AllByRecursion (λ e. HasField w (worth e)) vs)
+      → AllByRecursion (λ (p : Part). IsTemplate p.template) (Parts says)
+  all_templates (Label name) h = tt
+  all_templates (Numbered number) h = tt
+  all_templates (Instruction mnemonic operands) h =
+      coded_are s.ordinal (part_fields all worth s) (unwrap_or (code (constants worth) s.options.rvc x.bytes mnemonic operands) []) (coded_by found)
+  all_templates (Directs (Values w vs)) h = go vs (h w vs refl)
+    where
+      go : (es : List Expression) → AllByRecursion (λ e. HasField w (worth e)) es → AllByRecursion (λ (p : Part). IsTemplate p.template) (map (part_of s.ordinal) (map (λ e. Datum w (worth e)) es))
+      go [] k = tt
+      go (e ∷ es) k = (k.0, go es k.1)
+  all_templates (Directs (Strings ended strings)) h = (tt, tt)
+  all_templates (Directs (Zeros count)) h = (tt, tt)
+  all_templates (Directs (Aligns_to_power e)) h = (tt, tt)
+  all_templates (Directs (Aligns_to_bytes e)) h = (tt, tt)
+  all_templates (Directs _) h = tt
 
 -- ---- the fields of values
 
@@ -251,57 +324,29 @@ pub record Fit (t : Tables) (s : Site) : Type 0 where
   pub filled : is_filled s.located.home ≡ true → data_parts t s ≡ parts_of t s
   pub unfilled : is_filled s.located.home ≡ false → data_parts t s ≡ []
   pub templates : AllByRecursion (λ p. IsTemplate p.template) (parts_of t s)
-  pub fields : data_fields t s ≡ fields_at t s
+  pub fields : open_fields t s ≡ fields_at t s
 
-all_templates : (v : Expression → Value) (o bytes : ℕ) (coded : List (List ℕ)) (says : StatementKind) → ((w : ℕ) (vs : List Expression) → says ≡ Directs (Values w vs) → AllByRecursion (λ e. HasField w (v e)) vs)
-    → AllByRecursion (λ (p : Part). IsTemplate p.template) (map (part_of o) (templates v says bytes coded))
-all_templates v o bytes coded (Label name) h = tt
-all_templates v o bytes coded (Numbered number) h = tt
-all_templates v o bytes coded (Instruction mnemonic operands) h = code_templates o coded
-all_templates v o bytes coded (Directs (Values w vs)) h = go vs (h w vs refl)
-  where
-    go : (es : List Expression) → AllByRecursion (λ e. HasField w (v e)) es → AllByRecursion (λ (p : Part). IsTemplate p.template) (map (part_of o) (map (λ e. Datum w (v e)) es))
-    go [] k = tt
-    go (e ∷ es) k = (k.0, go es k.1)
-all_templates v o bytes coded (Directs (Strings ended strings)) h = (tt, tt)
-all_templates v o bytes coded (Directs (Zeros count)) h = (tt, tt)
-all_templates v o bytes coded (Directs (Aligns_to_power e)) h = (tt, tt)
-all_templates v o bytes coded (Directs (Aligns_to_bytes e)) h = (tt, tt)
-all_templates v o bytes coded (Directs _) h = tt
-
-pub fit_one : (all : Tables) (s : Located) (x : Item) (coded : List (List ℕ)) → PlacedAs s.placed s.kind → (s.placed ≡ false → x.bytes ≡ 0) → x.section ≡ s.section
-    → (s.placed ≡ true → IsSized (λ e. value_at all s e) s.home.executable x (slice_index_or (alignments_of all) x.section 1) (size_of coded) s.kind)
-    → IsCoded (λ e. value_at all s e) s.options.rvc s.kind coded → Held s → HaveFields all s → Fit all (site_of s x coded)
-fit_one all s x coded is absent at size own held fields =
+pub fit_one : (all : Tables) (s : Located) (x : Item) (found : List CodedPart) → PlacedAs s.placed s.kind → (s.placed ≡ false → x.bytes ≡ 0) → x.section ≡ s.section
+    → (s.placed ≡ true → IsSized (λ e. value_at all s e) s.home.executable x (slice_index_or (alignments_of all) x.section 1) (size_of found) s.kind)
+    → IsCoded (λ e. value_at all s e) s.options.rvc s.kind found → Held s → HaveFields all s → Fit all (site_of s x found)
+fit_one all s x found is absent at size own held fields =
     let v : Expression → Value = λ e. value_at all s e in
-    let rvc = s.options.rvc in
     let begins = slice_index_or (alignments_of all) s.section 1 in
-    let size' : s.placed ≡ true → IsSized v s.home.executable x begins (size_of coded) s.kind =
-    λ e. subst (λ n. IsSized v s.home.executable x (slice_index_or (alignments_of all) n 1) (size_of coded) s.kind) at (size e) in
+    let size' : s.placed ≡ true → IsSized v s.home.executable x begins (size_of found) s.kind =
+    λ e. subst (λ n. IsSized v s.home.executable x (slice_index_or (alignments_of all) n 1) (size_of found) s.kind) at (size e) in
     record {
-      size = λ e. said_size v s.ordinal rvc s.home x begins s.placed coded s s.kind refl refl e is (size' e) own;
-      bytes = said_bytes v s.ordinal rvc s.home x begins s.placed coded s.kind is size' absent;
-      code = λ e. said_code v s.ordinal rvc s.home x begins s.placed coded s.kind e is size' own held;
-      other = λ e. no_code v s.ordinal rvc s.home x begins s.placed coded s.kind e own held;
-      empty = λ e. empty_code v s.ordinal rvc s.home x begins s.placed coded s.kind e own held;
-      filled = λ e. ap (λ b. if b then data_said s.ordinal v s.kind x.bytes else []) e ∙ said_data v s.ordinal rvc s.home x begins s.placed coded s.kind e held;
+      size = λ e. said_size all s x begins found s.kind e is (size' e) own;
+      bytes = said_bytes all s x begins found s.kind is size' absent own;
+      code = λ e. said_code all s x begins found s.kind e is size' own held;
+      other = λ e. no_code all s x begins found s.kind e own held;
+      empty = λ e. empty_code all s x begins found s.kind e own held;
+      filled = λ e. ap (λ b. if b then data_said s.ordinal v s.kind x.bytes else []) e ∙ said_data all s x begins found s.kind e held;
       unfilled = λ e. ap (λ b. if b then data_said s.ordinal v s.kind x.bytes else []) e;
-      templates = all_templates v s.ordinal x.bytes coded s.kind fields;
-      fields = same (is_filled s.home) refl;
+      templates = all_templates all s x begins found s.kind fields;
+      fields = said_fields all s x begins found s.kind held;
     }
-  where
-    same : (b : Bool) → is_filled s.home ≡ b → data_fields all (site_of s x coded) ≡ fields_at all (site_of s x coded)
-    same true e =
-        let v : Expression → Value = λ e. value_at all s e in
-        ap (λ ps. if s.home.loaded then fields_from s.section x.offset ps else [])
-        (ap (λ b. if b then data_said s.ordinal v s.kind x.bytes else []) e ∙ said_data v s.ordinal s.options.rvc s.home x 0 s.placed coded s.kind e held)
-    same false e =
-        let v : Expression → Value = λ e. value_at all s e in
-        ap (λ ps. if s.home.loaded then fields_from s.section x.offset ps else [])
-        (ap (λ b. if b then data_said s.ordinal v s.kind x.bytes else []) e)
-        ∙ ap (λ l. if s.home.loaded then l else []) (sym (no_fields v s.ordinal s.options.rvc s.home x 0 s.placed coded s.section s.kind e held))
 
-pub fits_from : (all : Tables) (k : ℕ) (t : Tables) (before last : ℕ → ℕ) (ss : List Statement) (is : List Item) (codes : List (List Coded)) → AreItems k t before ss is last
+pub fits_from : (all : Tables) (k : ℕ) (t : Tables) (before last : ℕ → ℕ) (ss : List Statement) (is : List Item) (codes : List (List CodedPart)) → AreItems k t before ss is last
     → AreSized all k t ss is (map size_of codes) → AreCoded all (located_from 1 k t ss) codes → AllByRecursion Held (located_from 1 k t ss) → AllByRecursion (HaveFields all) (located_from 1 k t ss)
     → AllByRecursion (Fit all) (sites_of (located_from 1 k t ss) is codes)
 fits_from all k t before last [] [] codes items sized coded held fields = tt

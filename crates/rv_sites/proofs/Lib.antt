@@ -1,4 +1,5 @@
 pub mod Adding
+pub mod CodeFields
 pub mod DataSoFar
 pub mod Drafted
 pub mod FieldsSoFar
@@ -7,6 +8,7 @@ pub mod Fitted
 pub mod Growing
 pub mod Itemized
 pub mod Joined
+pub mod LeastAll
 pub mod Locations
 pub mod LowSections
 pub mod Rooms

@@ -17,14 +17,15 @@ use Rattle.rv_assemble_laws.specs.Fields.{fields_at, fields}
 use Rattle.rv_assemble_laws.proofs.Filled.{bytes_append}
 use Rattle.rv_assemble_laws.proofs.Homes.{IsHomeIn, all_join}
 use Rattle.rv_sites.specs.declared.item.Item.{Item}
-use Rattle.rv_sites.specs.Code.{section_code}
+use Rattle.rv_sites.specs.Code.{bytes_of_codes, section_code}
 use Rattle.rv_sites.specs.Coded.{AreCoded}
-use Rattle.rv_sites.specs.DataParts.{is_filled, data_parts, data_fields, data_bytes}
+use Rattle.rv_sites.specs.DataParts.{is_filled, data_parts, open_fields, data_bytes}
 use Rattle.rv_sites.specs.Items.{IsItem, AreItems, grown}
 use Rattle.rv_instruction.specs.declared.encoded.Coded.{Coded as CodedPart}
 use Rattle.rv_sites.specs.Seated.{site_of, first_code, other_codes, sites_of}
 use Rattle.rv_sites.specs.Draft.{item_of}
 use Rattle.rv_sites.proofs.Fitted.{Fit}
+use Rattle.rv_sites.proofs.LeastAll.{Agree}
 
 -- ---- the statements of sites, and their items
 
@@ -65,11 +66,6 @@ data_as t section [] is codes = refl
 data_as t section (l ∷ ls) [] codes = refl
 data_as t section (l ∷ ls) (x ∷ is) codes =
     data_step t section (l.section == section) l x (first_code codes) (sites_in section (sites_of ls is (other_codes codes))) (sites_in section (sites_of ls is [])) (data_as t section ls is (other_codes codes))
-
-pub fields_as : (t : Tables) (ls : List Located) (is : List Item) (codes : List (List CodedPart)) → flat_map (data_fields t) (sites_of ls is codes) ≡ flat_map (data_fields t) (sites_of ls is [])
-fields_as t [] is codes = refl
-fields_as t (l ∷ ls) [] codes = refl
-fields_as t (l ∷ ls) (x ∷ is) codes = ap (λ m. data_fields t (site_of l x []) ++ m) (fields_as t ls is (other_codes codes))
 
 -- what holds of the statements holds of their sites
 pub all_sites : (P : Located → Type 0) (sites : List Site) → AllByRecursion P (map (λ (s : Site). s.located) sites) → AllByRecursion (λ (s : Site). P s.located) sites
@@ -224,9 +220,24 @@ module _ (t : Tables) (j : ℕ) (home : Section) where
 
 -- ---- the open fields
 
-pub all_fields : (t : Tables) (sites : List Site) → AllByRecursion (Fit t) sites → flat_map (data_fields t) sites ≡ fields t sites
+pub all_fields : (t : Tables) (sites : List Site) → AllByRecursion (Fit t) sites → flat_map (open_fields t) sites ≡ fields t sites
 all_fields t [] h = refl
-all_fields t (s ∷ ss) h = ap (λ l. l ++ flat_map (data_fields t) ss) h.0.fields ∙ ap (λ l. fields_at t s ++ l) (all_fields t ss h.1)
+all_fields t (s ∷ ss) h = ap (λ l. l ++ flat_map (open_fields t) ss) h.0.fields ∙ ap (λ l. fields_at t s ++ l) (all_fields t ss h.1)
+
+-- ---- the lengths of code
+
+pub agree : (all : Tables) (k : ℕ) (t : Tables) (before last : ℕ → ℕ) (ss : List Statement) (is : List Item) (codes : List (List CodedPart)) → AreItems k t before ss is last
+    → AreCoded all (located_from 1 k t ss) codes → AllByRecursion (Fit all) (sites_of (located_from 1 k t ss) is codes)
+    → Agree (located_from 1 k t ss) (bytes_of_codes codes) (map (λ (s : Site). s.bytes) (sites_of (located_from 1 k t ss) is codes))
+agree all k t before last [] [] [] items coded fits = tt
+agree all k t before last [] [] (c ∷ codes) items coded fits = absurd coded
+agree all k t before last [] (x ∷ is) codes items coded fits = absurd items
+agree all k t before last (s ∷ ss) [] codes items coded fits = absurd items
+agree all k t before last (s ∷ ss) (x ∷ is) [] items coded fits = absurd coded
+agree all k t before last (s ∷ ss) (x ∷ is) (c ∷ codes) items coded fits = (
+  λ e. sym (fits.0.bytes ∙ ap length (fits.0.code e)),
+  agree all (suc k) (after t k s.kind) (grown before x) last ss is codes items.1 coded.1 fits.1,
+)
 
 -- each section asks to begin at a multiple of one or more
 pub asks_some : (ss : List Statement) (j : ℕ) → 0 < slice_index_or (alignments_of (tables ss)) j 1

@@ -3,7 +3,6 @@
 use Rattle.std.proofs.Common.{◌≡◌, ℕ, zero, suc, ◌+◌, ◌-◌, ◌<◌, ◌==◌, Bool, true, false, List, [], ◌∷◌, ◌++◌, length, map, take, drop, Option, Some, None, option_map, refl, sym, ap, ◌∙◌, subst, arith, eqb-true, eq-eqb}
 use Rattle.std.specs.Prelude.{slice_get, slice_index, if◌then◌else◌}
 use Rattle.std.specs.List.{find}
-use Rattle.std.proofs.lemmas.Bool.Decides.{nat_tests}
 use Rattle.rv_text_laws.specs.Values.{Value, Symbolic}
 use Rattle.rv_text_laws.specs.Values as values
 use Rattle.rv_statement.specs.Statement.{Statement, StatementKind, Label, Numbered, Instruction, Directs, Expression, Operand}
@@ -11,7 +10,7 @@ use Rattle.rv_layout_laws.specs.declared.item.Forms.{Forms}
 use Rattle.rv_layout_laws.specs.declared.item.Forms.TheVariants.{Settled, CompressedBranch, Branch, CompressedJump}
 use Rattle.rv_layout_laws.specs.declared.item.Item.{Item}
 use Rattle.rv_layout_laws.specs.Branches.{IsLeastGood, Offers, item_at}
-use Rattle.rv_unit_laws.specs.Tables.{Tables, SectionOffset as Standing, Definition, definition, at_start, after, places_from, stood, tables, value}
+use Rattle.rv_unit_laws.specs.Tables.{Tables, SectionOffset as Standing, Definition, definition, at_start, after, places_from, tables, value}
 use Rattle.rv_statement.specs.declared.statement.Statement.{Statement as SourceStatement}
 use Rattle.rv_statement.specs.View.{statement_of}
 use Rattle.rv_unit.specs.declared.unit.Unit.{Unit as SourceUnit}
@@ -25,7 +24,7 @@ use Rattle.rv_source_laws.specs.Located.{Located, located_from, located_now}
 use Rattle.rv_source_laws.specs.Program.{place_of}
 use Rattle.rv_assemble_laws.specs.Sizes.{near_forms, near_at, near_value, near_target, target_in, settled, branch_item, item_by_kind, items_of, AreLeast}
 use Rattle.rv_assemble_laws.specs.Sizes as sizes
-use Rattle.rv_instruction.specs.Near.{section_in, near_by, near_in, near_value_in, near_target_in, settled_in, branch_in, item_by, item_in}
+use Rattle.rv_instruction.specs.Near.{section_in, near_by, near_in, near_value_in, near_target_in, branch_in, item_by, item_in}
 
 -- ---- the section of a statement, by its ordinal
 

@@ -51,7 +51,11 @@ impl<'a> Draft<'a> {
         let code = code(alloc, unit, lengths.as_slice())?;
         let sizes = code.sizes.as_slice();
         let (items, ends) = items(alloc, unit, sizes)?;
-        let Filled { sections, fields } = data(alloc, unit, items.as_slice(), code.sections)?;
+        // the code of each statement was found before
+        let Ok(filled) = data(alloc, unit, items.as_slice(), code.sections) else {
+            return Err(SourceFault::OutOfMemory);
+        };
+        let Filled { sections, fields } = filled;
         Ok(Draft {
             items,
             sections,

@@ -2,7 +2,8 @@
 //!
 //! Source: GNU as, "RISC-V-Directives"; RISC-V Unprivileged ISA 20191213, chapters 2.5 and 16.
 
-ghost use Rattle.std.specs.Prelude.{◌≡◌, ◌<◌, ◌^◌, length, IfOk, IfSome};
+ghost use Rattle.std.specs.Prelude.{◌≡◌, ◌<◌, ◌^◌, length, IfOk, IfErr, IfSome};
+ghost use Rattle.rv_lexer.specs.declared.fault.SourceFault.TheVariants.{OutOfMemory};
 ghost use Rattle.rv_statement.specs.View.{statement_kind};
 ghost use Rattle.rv_unit_laws.specs.Tables.{at_start, tables};
 ghost use Rattle.rv_unit.specs.Unit.{said, IsFilled};
@@ -106,6 +107,7 @@ pub(crate) fn lengths(alloc: Global, unit: &Unit<'_>) -> Result<Vec<u32>, Source
         (λ found. length found.items ≡ length (unit.now).statements.items) }
     ensures least { IfOk result (λ found. AreLeast (tables (said unit.now))
         (located_from 1 1 at_start (said unit.now)) found.items) }
+    ensures memory { IfErr result (λ e. e ≡ OutOfMemory) }
 {
     let items = measured(alloc, unit)?;
     let sections = unit.sections().len();

@@ -1,6 +1,6 @@
-use Rattle.std.proofs.Common.{◌≡◌, ◌+◌, ◌*◌, ◌≤◌, drop, map, length}
+use Rattle.std.proofs.Common.{◌≡◌, ◌+◌, ◌*◌, ◌≤◌, drop, length}
 use Rattle.rv_assemble_laws.specs.Coded.{joined}
-use Rattle.rv_instruction.specs.Code.{encoded_bytes, coded_by}
+use Rattle.rv_instruction.specs.Code.{coded_by}
 use Rattle.rv_sites.proofs.code.bytes_of.Given as goal
 
 -- the bytes so far, and those of what is left, are all of them

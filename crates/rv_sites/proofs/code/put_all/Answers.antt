@@ -1,4 +1,4 @@
-use Rattle.std.proofs.Common.{rules, ◌++◌, ◌+◌, ◌<◌, ◌∙◌, length, map, drop, get_or, sym, ap, append-nil}
+use Rattle.std.proofs.Common.{rules, ◌++◌, ◌+◌, ◌<◌, ◌∙◌, length, drop, sym, ap, append-nil}
 use Rattle.rv_instruction.specs.declared.encoded.Coded.{Coded}
 use Rattle.rv_instruction.specs.Code.{encoded_bytes, coded_by}
 use Rattle.rv_sites.proofs.Joined.{flat_more, left_at}

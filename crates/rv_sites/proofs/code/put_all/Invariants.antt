@@ -1,6 +1,6 @@
-use Rattle.std.proofs.Common.{◌≡◌, ◌++◌, drop, map}
+use Rattle.std.proofs.Common.{◌≡◌, ◌++◌, drop}
 use Rattle.rv_assemble_laws.specs.Coded.{joined}
-use Rattle.rv_instruction.specs.Code.{encoded_bytes, coded_by}
+use Rattle.rv_instruction.specs.Code.{coded_by}
 use Rattle.rv_sites.proofs.code.put_all.Given as goal
 
 -- what is there so far, and what is left, are all instructions

@@ -10,7 +10,7 @@ use Rattle.rv_sites.proofs.data.data.Goals as goal
 
 pub loop-index-init : goal.loop-index-init
 loop-index-init c =
-    (c.new-scope.ensures.unit, c.new-scope.ensures.start, data_begin (said c.args.unit.now) c.args.items.now c.args.code.items c.new-fields.result.items c.new-fields.ensures.items, refl)
+    (c.new-scope.ensures.unit, c.new-scope.ensures.start, (λ codes have. data_begin (said c.args.unit.now) c.args.items.now codes c.args.code.items c.new-fields.result.items c.new-fields.ensures.items), refl)
 
 pub put_next-requires : goal.put_next-requires
 put_next-requires c =
@@ -42,9 +42,10 @@ loop-index-preserved c =
     let back : take c.loop-index.sections.len (new ++ drop (length new) old) ≡ new = written_back new old c.loop-index.sections.len (count ∙ ap length value) (count ∙ c.as_mut_slice.ensures.len) in (
       ap (λ b. b.now) c.pass.ensures.unit ∙ same,
       c.pass.ensures.passes i within' c.loop-index.invariant.1,
-      subst (λ l. IsDataTo (said u) c.args.items.now c.args.code.items (i + 1) l found) (sym back)
-          (c.in_ok-put_next.ensures.data c.args.code.items same c.loop-index.invariant.1
-          (subst (λ l. IsDataTo (said u) c.args.items.now c.args.code.items i l c.loop-index.fields.items) (sym value) c.loop-index.invariant.2)),
+      (λ codes have.
+          subst (λ l. IsDataTo (said u) c.args.items.now codes c.args.code.items (i + 1) l found) (sym back)
+          (c.in_ok-put_next.ensures.data c.args.code.items codes same c.loop-index.invariant.1 have
+          (subst (λ l. IsDataTo (said u) c.args.items.now codes c.args.code.items i l c.loop-index.fields.items) (sym value) (c.loop-index.invariant.2 codes have)))),
       ap length back ∙ count ∙ ap length value ∙ c.loop-index.invariant.3,
     )
 
@@ -54,4 +55,5 @@ returns-clause-data c =
     let i = c.loop-index.index in
     let past = subst (λ l. length l ≤ i) c.statements-index-end.ensures c.loop-index-test.false in
     let past' = subst (λ n. n ≤ i) (sym (length-map u.statements.items statement_of)) past in
-    data_all (said u) c.args.items.now c.args.code.items i c.loop-index.sections.items c.loop-index.fields.items (stated_none (said u) i past') c.loop-index.invariant.2
+    λ codes have.
+    data_all (said u) c.args.items.now codes c.args.code.items i c.loop-index.sections.items c.loop-index.fields.items (stated_none (said u) i past') (c.loop-index.invariant.2 codes have)

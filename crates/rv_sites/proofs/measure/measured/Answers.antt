@@ -1,20 +1,17 @@
-use Rattle.rv_sites.specs.Measure.{IsSeenAs, IsMeasured}
 use Rattle.rv_instruction.specs.Near.{section_in, item_in}
 use Rattle.rv_sites.proofs.Seen.{MeasuredTo, measured_begin, measured_more, measured_whole}
-use Rattle.std.proofs.Common.{Ok, rules, ℕ, [], ◌^◌}
-use Rattle.rv_layout_laws.specs.declared.item.Item.{Item as LayoutItem}
+use Rattle.std.proofs.Common.{rules, ℕ, [], ◌^◌}
 use Rattle.rv_unit_laws.specs.Tables.{value as value_of}
-use Rattle.std.proofs.Common.{◌≡◌, ◌+◌, ◌<◌, ◌≤◌, length, map, get_or, sym, ap, subst, ◌∙◌, true, Err}
-use Rattle.std.specs.Prelude.{slice_index_or, IfOk}
+use Rattle.std.proofs.Common.{◌≡◌, ◌+◌, ◌<◌, ◌≤◌, length, get_or, sym, ap, subst, ◌∙◌, true}
+use Rattle.std.specs.Prelude.{slice_index_or}
 use Rattle.std.proofs.lemmas.List.{length-map}
 use Rattle.rv_statement.specs.View.{statement_of}
 use Rattle.rv_tables.specs.declared.section_offset.SectionOffset.{SectionOffset}
 use Rattle.rv_unit.specs.Unit.{said, IsFilled}
-use Rattle.rv_tables.specs.Sections.{extent_section, offset_of}
+use Rattle.rv_tables.specs.Sections.{offset_of}
 use Rattle.rv_unit_laws.specs.Tables.{tables}
 use Rattle.rv_unit_laws.specs.Options.{Options}
-use Rattle.rv_sites.proofs.Standing.{StandsAt, stands_at, places_count, got_inside, located_at, stated_none}
-use Rattle.rv_sites.specs.Measured.{IsExtentAt}
+use Rattle.rv_sites.proofs.Standing.{StandsAt, stands_at, places_count, located_at, stated_none}
 use Rattle.rv_sites.proofs.Itemized.{place_inside}
 use Rattle.rv_sites.proofs.measure.measured.Goals as goal
 
