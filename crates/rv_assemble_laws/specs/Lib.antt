@@ -2,7 +2,6 @@ pub mod Coded
 pub mod Templates
 pub mod CodeFields
 pub mod Sites
-pub mod Sizes
 pub mod Symbols
 pub mod ShownNames
 pub mod IsObjectOf

@@ -10,8 +10,7 @@ use Rattle.rv_unit_laws.specs.Faults.{Fault, lowest, at_line, first_fault}
 use Rattle.rv_source_laws.specs.Located.{Located, located}
 use Rattle.rv_source_laws.specs.Program.{place_of}
 use Rattle.rv_assemble_laws.specs.Coded.{IsCode}
-use Rattle.rv_assemble_laws.specs.Templates.{code_padding}
-use Rattle.rv_assemble_laws.specs.Sizes.{AreLeast}
+use Rattle.rv_source_laws.specs.Sizes.{code_padding, AreLeast}
 use Rattle.rv_assemble_laws.specs.InstructionFaults.{instruction_faults, is_label}
 
 -- ---- code

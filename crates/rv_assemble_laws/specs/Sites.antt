@@ -10,9 +10,10 @@ use Rattle.rv_object.specs.Padding.{operations_in}
 use Rattle.rv_pseudo_laws.specs.Code.{Part as CodePart, code}
 use Rattle.rv_source_laws.specs.Located.{Located}
 use Rattle.rv_source_laws.specs.Program.{place_of}
+use Rattle.rv_source_laws.specs.Sizes.{code_padding}
 use Rattle.rv_assemble_laws.specs.CodeFields.{part_fields}
 use Rattle.rv_assemble_laws.specs.Coded.{is_constant, constants, IsCode}
-use Rattle.rv_assemble_laws.specs.Templates.{Open, Template, Coded, code_padding, contribution_templates, template_bytes}
+use Rattle.rv_assemble_laws.specs.Templates.{Open, Template, Coded, contribution_templates, template_bytes}
 
 -- a statement of a source alone, the bytes before it in its section, how many bytes it has, how
 -- many instructions these are, and the bytes of its code, part by part

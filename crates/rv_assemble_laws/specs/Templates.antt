@@ -1,7 +1,7 @@
 -- What the statements of a source are in an object: bytes with open fields left zero, and the
 -- relocations that fill them (RISC-V ELF psABI, "Relocations"; GNU as, "Pseudo Ops").
 
-use Rattle.std.specs.Prelude.{◌≡◌, ℕ, zero, suc, ◌-◌, ℤ, pos, Bool, true, false, ◌==◌, ⊤, ◌⊎◌, if◌then◌else◌, List, [], ◌∷◌, map, replicate, Option, Some, None}
+use Rattle.std.specs.Prelude.{◌≡◌, ℕ, zero, suc, ℤ, pos, Bool, true, false, ◌==◌, ⊤, ◌⊎◌, if◌then◌else◌, List, [], ◌∷◌, map, replicate, Option, Some, None}
 use Rattle.std.specs.Int.{w64, int_wrap}
 use Rattle.rv_isa.specs.declared.kind.Kind.{Kind}
 use Rattle.rv_isa.specs.declared.kind.Kind.TheVariants.{Align, Abs32, Abs64, Add8, Add16, Add32, Add64, Sub8, Sub16, Sub32, Sub64}
@@ -113,12 +113,6 @@ IsTemplate (Datum width value) = HasField width value
 IsTemplate (Coded bytes fields) = ⊤
 
 -- ---- paddings
-
--- the padding of an alignment in code: room for the least one wherever the code comes to stand,
--- and none up to 2
-abbrev pub code_padding : Option ℕ → ℕ
-code_padding None = 0
-code_padding (Some alignment) = alignment - 2
 
 -- its size is the addend of an ALIGN
 abbrev pub align_field : (ordinal bytes : ℕ) → Open

@@ -5,7 +5,7 @@ use Rattle.std.specs.Prelude.{slice_index}
 use Rattle.rv_layout_laws.specs.Branches.{Offers, largest, item_at, IsLeastGood}
 use Rattle.rv_layout_laws.specs.declared.item.Item.{Item}
 use Rattle.rv_source_laws.specs.Located.{Located}
-use Rattle.rv_assemble_laws.specs.Sizes.{settled}
+use Rattle.rv_source_laws.specs.Sizes.{settled}
 
 -- a list of statements, each as it stands
 abbrev pub settled_all : List Located → List ℕ → List Item

@@ -26,6 +26,7 @@ headlined texts start linked exe is_map program written =
       shown = refl;
       readable = is_map;
       fits = program.linked.fits;
+      sized = program.linked.sized;
       resolves = program.linked.resolves;
       image = linked_image l;
       loads = subst (λ file. ImageOf file (linked_image l)) (sym written) (reload_image l laid);

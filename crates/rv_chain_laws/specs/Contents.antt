@@ -16,6 +16,7 @@ use Rattle.rv_source_laws.specs.Lines.{parts, Line, AreLines}
 use Rattle.rv_unit_laws.specs.Tables.{aligned}
 use Rattle.rv_source_laws.specs.Fits.{Fits, InputSection, rows_of, input_sections, size}
 use Rattle.rv_source_laws.specs.Resolves.{Resolves}
+use Rattle.rv_source_laws.specs.Sized.{Sized}
 use Rattle.rv_source_laws.specs.Start.{spelled}
 
 -- ---- instructions as they lie in memory
@@ -82,10 +83,11 @@ contents bytes stop (b ∷ bs) =
     zeros (start - stop)
     ++ (flat_map bytes b.mapped ++ contents bytes (start + size (rows_of b)) bs)
 
--- the linked program of sources: its map fits them, and each region has the bytes of its sections,
--- bss zeros
+-- the linked program of sources: its map fits them with the least sizes, and each region has the
+-- bytes of its sections, bss zeros
 pub record IsLinked (sources : List (List Statement)) (text_start : ℕ) (l : Linked) : Type 0 where
   pub fits : Fits sources l.map text_start
+  pub sized : Sized sources l.map
   pub resolves : Resolves sources l.map
   -- the bytes of each statement of code
   pub code : Mapped → List ℕ

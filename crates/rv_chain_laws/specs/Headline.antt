@@ -21,6 +21,7 @@ use Rattle.rv_source_laws.specs.Compressed.{is_compressed}
 use Rattle.rv_source_laws.specs.SourceRun.{source_run}
 use Rattle.rv_source_laws.specs.Fits.{Fits}
 use Rattle.rv_source_laws.specs.Resolves.{Resolves}
+use Rattle.rv_source_laws.specs.Sized.{Sized}
 use Rattle.rv_chain_laws.specs.Agrees.{Agrees}
 
 -- each text reads as its list of statements
@@ -52,12 +53,13 @@ pub record TheHeadline (texts : List (List ℕ)) (text_start : ℕ)
     (executable map_bytes : List ℕ) : Type 0 where
   pub sources : List (List Statement)
   pub read : AllRead texts sources
-  -- the printed map: it fits the sources and resolves their names
+  -- the printed map: it fits the sources, with the least sizes, and resolves their names
   pub map : Map
   pub shown : map_bytes ≡ map_text map
   -- reading those bytes gives this map: its numbers and names are such as a text can show
   pub readable : IsMap map
   pub fits : Fits sources map text_start
+  pub sized : Sized sources map
   pub resolves : Resolves sources map
   -- the image of the executable
   pub image : Image

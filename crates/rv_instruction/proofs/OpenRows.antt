@@ -37,7 +37,7 @@ use Rattle.rv_pseudo.specs.Faults.{is_upper, is_low, is_immediate, takes_part, i
 use Rattle.rv_pseudo.specs.Templates.{all_templates, asked_bytes, statement_with}
 use Rattle.rv_pseudo.proofs.InRange.{unless_good}
 use Rattle.rv_source_laws.specs.Lines as lines
-use Rattle.rv_assemble_laws.specs.Sizes.{is_short_register, is_short_branch, branch_forms, jump_forms}
+use Rattle.rv_source_laws.specs.Sizes.{is_short_register, is_short_branch, branch_forms, jump_forms}
 use Rattle.rv_instruction.specs.Code.{parts_in, is_short, OffersAny, near_forms_of}
 
 -- ---- what is said of parts

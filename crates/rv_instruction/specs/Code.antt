@@ -38,7 +38,7 @@ use Rattle.rv_pseudo.specs.Templates.{templates, statement_with, asked_bytes}
 use Rattle.rv_assemble_laws.specs.Coded.{IsCode, constants, joined}
 use Rattle.rv_assemble_laws.specs.InstructionFaults.{number_faults, target_faults, upper_faults, low_faults, distance_faults}
 use Rattle.rv_assemble_laws.specs.Refusals.{code_faults}
-use Rattle.rv_assemble_laws.specs.Sizes.{near_forms}
+use Rattle.rv_source_laws.specs.Sizes.{near_forms}
 use Rattle.rv_instruction.specs.declared.encoded.Encoded.{Encoded}
 use Rattle.rv_instruction.specs.declared.encoded.Encoded.TheVariants.{Parcel, Word, Pair}
 use Rattle.rv_instruction.specs.declared.encoded.Coded.{Coded}

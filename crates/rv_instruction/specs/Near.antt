@@ -14,7 +14,7 @@ use Rattle.rv_statement.specs.declared.pseudo.ZeroBranchOperation.{ZeroBranchOpe
 use Rattle.rv_statement.specs.declared.pseudo.ZeroBranchOperation.TheVariants.{Beqz, Bnez}
 use Rattle.rv_statement.specs.declared.statement.Operation.{Operation}
 use Rattle.rv_pseudo.specs.Templates.{statement_with}
-use Rattle.rv_assemble_laws.specs.Sizes.{Near, near_forms, far_form, target_in, is_short_register, jump_forms}
+use Rattle.rv_source_laws.specs.Sizes.{Near, near_forms, far_form, target_in, is_short_register, jump_forms}
 
 -- the section of a statement, by its ordinal
 abbrev pub section_in : List SectionOffset → ℕ → Option ℕ

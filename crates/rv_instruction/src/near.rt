@@ -11,7 +11,7 @@ ghost use Rattle.rv_pseudo.specs.Templates.{statement_with};
 ghost use Rattle.rv_unit_laws.specs.Tables.{tables};
 ghost use Rattle.rv_unit.specs.Faults.{ForValue};
 ghost use Rattle.rv_unit.specs.Unit.{said, definition_of};
-ghost use Rattle.rv_assemble_laws.specs.Sizes as sizes;
+ghost use Rattle.rv_source_laws.specs.Sizes as sizes;
 ghost use Rattle.rv_instruction.specs.Code.{near_forms_of};
 ghost use Rattle.rv_instruction.specs.Near as laws;
 ghost use Rattle.rv_instruction.specs.Scoped.{values_at, AtNext};

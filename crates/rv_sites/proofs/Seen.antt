@@ -22,8 +22,8 @@ use Rattle.rv_tables.specs.declared.section_offset.SectionOffset.{SectionOffset}
 use Rattle.rv_tables.specs.Sections.{offset_of}
 use Rattle.rv_source_laws.specs.Located.{Located, located_from, located_now}
 use Rattle.rv_source_laws.specs.Program.{place_of}
-use Rattle.rv_assemble_laws.specs.Sizes.{near_forms, near_at, near_value, near_target, target_in, settled, branch_item, item_by_kind, items_of, AreLeast}
-use Rattle.rv_assemble_laws.specs.Sizes as sizes
+use Rattle.rv_source_laws.specs.Sizes.{near_forms, near_at, near_value, near_target, target_in, settled, branch_item, item_by_kind, items_of, AreLeast}
+use Rattle.rv_source_laws.specs.Sizes as sizes
 use Rattle.rv_instruction.specs.Near.{section_in, near_by, near_in, near_value_in, near_target_in, branch_in, item_by, item_in}
 
 -- ---- the section of a statement, by its ordinal

@@ -17,7 +17,7 @@ use Rattle.rv_tables.specs.Sections.{offset_of, extent_section}
 use Rattle.rv_unit.specs.Unit.{said, passed}
 use Rattle.rv_source_laws.specs.Located.{Located, located, located_from}
 use Rattle.rv_assemble_laws.specs.InstructionFaults.{is_label}
-use Rattle.rv_assemble_laws.specs.Sizes.{AreLeast}
+use Rattle.rv_source_laws.specs.Sizes.{AreLeast}
 use Rattle.rv_assemble_laws.specs.Refusals.{code_faults, code_faults_at, code_fault_from}
 use Rattle.rv_sites.specs.Added.{IsAdded, IsAllCode, IsCodeFault, IsCodeSoFar, IsSourceCode, Adds}
 use Rattle.rv_sites.specs.declared.code.Coder.{Coder}

@@ -8,7 +8,7 @@ use Rattle.rv_tables.specs.declared.section_offset.SectionOffset.{SectionOffset}
 use Rattle.rv_unit.specs.declared.scope.Scope.{Scope}
 use Rattle.rv_unit.specs.Unit.{said}
 use Rattle.rv_source_laws.specs.Located.{located_from}
-use Rattle.rv_assemble_laws.specs.Sizes.{items_of}
+use Rattle.rv_source_laws.specs.Sizes.{items_of}
 use Rattle.rv_instruction.specs.Near.{section_in, item_in}
 use Rattle.rv_instruction.specs.Scoped.{values_at}
 

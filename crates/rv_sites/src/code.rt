@@ -10,7 +10,7 @@ ghost use Rattle.rv_unit_laws.specs.Tables.{Tables, at_start, tables};
 ghost use Rattle.rv_unit.specs.Unit.{said, IsFilled, IsScope};
 ghost use Rattle.rv_source_laws.specs.Located.{Located, located_from};
 ghost use Rattle.rv_assemble_laws.specs.Refusals.{else_fault};
-ghost use Rattle.rv_assemble_laws.specs.Sizes.{AreLeast};
+ghost use Rattle.rv_source_laws.specs.Sizes.{AreLeast};
 ghost use Rattle.rv_sites.specs.Added.{Adds, IsAllCode, IsCodeSoFar, IsSourceCode};
 ghost use Rattle.rv_sites.specs.Code as laws;
 ghost use Rattle.rv_sites.specs.Sized.{bytes_of_sizes};

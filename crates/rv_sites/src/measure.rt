@@ -8,7 +8,7 @@ ghost use Rattle.rv_statement.specs.View.{statement_kind};
 ghost use Rattle.rv_unit_laws.specs.Tables.{at_start, tables};
 ghost use Rattle.rv_unit.specs.Unit.{said, IsFilled};
 ghost use Rattle.rv_source_laws.specs.Located.{located_from};
-ghost use Rattle.rv_assemble_laws.specs.Sizes.{AreLeast};
+ghost use Rattle.rv_source_laws.specs.Sizes.{AreLeast};
 ghost use Rattle.rv_instruction.specs.Code.{MayHave};
 ghost use Rattle.rv_instruction.specs.Scoped.{AtNext};
 ghost use Rattle.rv_sites.specs.Measure.{IsSeenAs, IsMeasured};

@@ -1,9 +1,11 @@
 pub mod Located
 pub mod Compressed
 pub mod Program
+pub mod Sizes
 pub mod Lines
 pub mod Meaning
 pub mod Fits
+pub mod Sized
 pub mod Resolves
 pub mod Start
 pub mod SourceRun

@@ -9,7 +9,7 @@ use Rattle.rv_statement.specs.declared.pseudo.ZeroBranchOperation.TheVariants.{B
 use Rattle.rv_statement.specs.Statement.{StatementKind, Label, Instruction, Statement, Expression, Register, Target}
 use Rattle.rv_unit_laws.specs.Tables.{tables}
 use Rattle.rv_source_laws.specs.Located.{located}
-use Rattle.rv_assemble_laws.specs.Sizes.{AreLeast}
+use Rattle.rv_source_laws.specs.Sizes.{AreLeast}
 use Rattle.rv_worked.specs.Exit7.{said, constant}
 use Rattle.rv_worked.specs.Refused.{x}
 

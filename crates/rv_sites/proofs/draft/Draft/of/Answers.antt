@@ -13,7 +13,7 @@ use Rattle.rv_sites.specs.DataParts.{HaveCode, IsData}
 use Rattle.rv_sites.specs.Draft.{IsRefused}
 use Rattle.rv_sites.specs.Sized.{AreSized, bytes_of_sizes}
 use Rattle.rv_assemble_laws.specs.Refusals.{size_fault_from}
-use Rattle.rv_assemble_laws.specs.Sizes.{AreLeast}
+use Rattle.rv_source_laws.specs.Sizes.{AreLeast}
 use Rattle.rv_sites.proofs.Drafted.{is_draft}
 use Rattle.rv_sites.proofs.SoFar.{sizes_count, sizes_short}
 use Rattle.rv_sites.proofs.Standing.{stated_length}

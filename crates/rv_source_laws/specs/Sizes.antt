@@ -100,6 +100,12 @@ near_target t all s os = elim (target_in os) [
 
 -- ---- the least sizes
 
+-- the padding of an alignment in code: room for the least one wherever the code comes to stand,
+-- and none up to 2
+abbrev pub code_padding : Option ℕ → ℕ
+code_padding None = 0
+code_padding (Some alignment) = alignment - 2
+
 abbrev pub settled : Located → ℕ → Item
 settled s bytes =
     record { addend = pos 0; section = s.section; target = 0; forms = Settled bytes }

@@ -1,0 +1,57 @@
+-- The statements of each file have the least sizes: the smallest forms of its branches and jumps
+-- with which each form below a statement's largest reaches (GNU as, "RISC-V-Directives"; ISA,
+-- "Conditional Branches" and "Unconditional Jumps").
+
+use Rattle.std.specs.Prelude.{◌≡◌, ℕ, suc, false, ◌==◌, ⊤, if◌then◌else◌, List, [], ◌∷◌, filter, Option, Some, None}
+use Rattle.rv_statement.specs.Statement.{StatementKind, Directs, Statement, Directive}
+use Rattle.rv_unit_laws.specs.Contributions.{Contribution, Alignment, contribution}
+use Rattle.rv_unit_laws.specs.Tables.{tables, at_start, alignment_of}
+use Rattle.rv_map.specs.Map.{Map}
+use Rattle.rv_map.specs.declared.map.Row.{Row}
+use Rattle.rv_source_laws.specs.Located.{Located, located_from}
+use Rattle.rv_source_laws.specs.Program.{MaybeMapped, Program, program, form}
+use Rattle.rv_source_laws.specs.Sizes.{code_padding, AreLeast}
+
+-- ---- the size of a statement
+
+-- an alignment in code counts as all the padding that it may need, whatever is left of it in the
+-- map; any other directive has the bytes of its row
+abbrev pub directive_size : Program → Located → (bytes : ℕ) → Directive → Contribution → ℕ
+directive_size p s bytes d (Alignment counts number) =
+    if s.home.executable then code_padding (alignment_of (λ e. form p s e) d) else bytes
+directive_size p s bytes d _ = bytes
+
+abbrev pub statement_size : Program → Located → (bytes : ℕ) → StatementKind → ℕ
+statement_size p s bytes (Directs d) = directive_size p s bytes d (contribution d)
+statement_size p s bytes _ = bytes
+
+-- a statement without a place has no bytes; in a section that isn't loaded no map shows them
+abbrev pub HasSizeBy : Program → Located → Option Row → (size : ℕ) → Type 0
+HasSizeBy p s (Some row) size = size ≡ statement_size p s row.bytes s.kind
+HasSizeBy p s None size = s.placed ≡ false → size ≡ 0
+
+abbrev pub HaveSizes : Program → List MaybeMapped → (sizes : List ℕ) → Type 0
+HaveSizes p [] [] = ⊤
+HaveSizes p [] (size ∷ sizes) = ⊥
+HaveSizes p (e ∷ es) [] = ⊥
+HaveSizes p (e ∷ es) (size ∷ sizes) =
+    HasSizeBy p e.located e.row size × HaveSizes p es sizes
+
+-- ---- the sizes of a file
+
+abbrev pub statements_in : Program → ℕ → List MaybeMapped
+statements_in p file = filter (λ e. e.located.file == file) p.statements
+
+-- they are the least with which its branches and jumps reach, calls counted 8
+pub record IsFileSized (p : Program) (file : ℕ) (ss : List Statement) : Type 0 where
+  pub sizes : List ℕ
+  pub has : HaveSizes p (statements_in p file) sizes
+  pub least : AreLeast (tables ss) (located_from 1 1 at_start ss) sizes
+
+abbrev pub AreFilesSized : Program → ℕ → List (List Statement) → Type 0
+AreFilesSized p file [] = ⊤
+AreFilesSized p file (ss ∷ files) = IsFileSized p file ss × AreFilesSized p (suc file) files
+
+-- those of all files
+abbrev pub Sized : List (List Statement) → Map → Type 0
+Sized sources m = AreFilesSized (program sources m) 1 sources
