@@ -1,4 +1,3 @@
-pub mod Settling
 pub mod Shrunk
 pub mod Shrinking
 pub mod TwoObjects

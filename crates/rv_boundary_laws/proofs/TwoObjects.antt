@@ -11,7 +11,7 @@ use Rattle.rv_statement.specs.declared.mnemonic.Mnemonic.TheVariants.{Ecall}
 use Rattle.rv_pseudo_laws.specs.Code.{Closed}
 use Rattle.rv_assemble_laws.specs.Coded.{IsCode}
 use Rattle.rv_assemble_laws.specs.IsObjectOf.{IsObjectOf}
-use Rattle.rv_boundary_laws.proofs.Settling.{settled_least}
+use Rattle.rv_source_laws.proofs.Settling.{settled_least}
 use Rattle.rv_boundary_laws.specs.TwoFiles.{first_source, second_source, first_object, second_object, first_sites, second_sites, first_number, second_number}
 
 no_site : Site

@@ -19,6 +19,10 @@ use Rattle.rv_pseudo_laws.specs.Li.{addi}
 use Rattle.rv_pseudo_laws.specs.Code.{Closed}
 use Rattle.rv_source_laws.specs.Fits.{Fits}
 use Rattle.rv_source_laws.specs.Resolves.{Resolves}
+use Rattle.rv_source_laws.specs.Located.{located_from}
+use Rattle.rv_source_laws.specs.Sized.{Sized}
+use Rattle.rv_source_laws.proofs.Settling.{settled_least}
+use Rattle.rv_unit_laws.specs.Tables.{at_start}
 use Rattle.rv_chain_laws.specs.Contents.{IsLinked}
 use Rattle.rv_source_laws.specs.SourceRun.{source_run}
 use Rattle.rv_chain_laws.proofs.Contents.{linked_agrees}
@@ -60,9 +64,20 @@ fits = record {
 resolves : Resolves (exit7 ∷ []) exit7_map
 resolves = record { globals = refl; once = (refl, tt); entry = refl; even = refl }
 
+sized : Sized (exit7 ∷ []) exit7_map
+sized = (
+  record {
+    sizes = 0 ∷ 0 ∷ 0 ∷ 4 ∷ 4 ∷ 4 ∷ [];
+    has = ((λ e. refl), ((λ e. refl), (refl, (refl, (refl, (refl, tt))))));
+    least = settled_least (located_from 1 1 at_start exit7) (0 ∷ 0 ∷ 0 ∷ 4 ∷ 4 ∷ 4 ∷ []) refl;
+  },
+  tt,
+)
+
 pub links : IsLinked (exit7 ∷ []) 0x10000 exit7_linked
 links = record {
   fits = fits;
+  sized = sized;
   resolves = resolves;
   code = code_words exit7 exit7_map;
   written = (
