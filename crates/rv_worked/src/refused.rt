@@ -1,7 +1,7 @@
 //! Worked sources that are refused, as contracts that the check computes.
 
 ghost use Rattle.std.specs.Prelude.{◌≡◌, [], ◌∷◌, None, false, codes};
-ghost use Rattle.rv_text_laws.specs.Codes.{unsupported_here, immediate_range, not_constant, division_by_zero, duplicate_label, scratch_register, undefined_local, wrong_section};
+ghost use Rattle.rv_text_laws.specs.Codes.{immediate_range, not_constant, division_by_zero, duplicate_label, scratch_register, undefined_local, wrong_section};
 ghost use Rattle.rv_text_laws.specs.declared.operator.BinaryOperator.TheVariants.{Divide};
 ghost use Rattle.rv_text_laws.specs.Expression.{Leaf, Binary, Reference};
 ghost use Rattle.rv_statement.specs.declared.pseudo.Function.TheVariants.{Lo, PcrelLo};
@@ -136,11 +136,11 @@ pub fn open_code_is_sound()
     ensures other { statements_fault (alone (loads_symbol 10 away)) ≡ fault not_constant 2 }
 {}
 
-/// An alignment above 2 in code cannot be placed yet, as an instruction that has no place: after all labels
-/// and directives. In a section without bytes it is a wrong directive.
+/// An alignment in code has no fault as code: what follows it may have one. In a section without bytes it is a
+/// wrong directive.
 pub fn padding_is_code()
     ensures first { statements_fault (after_padding (adds (constant 5000)))
-        ≡ fault unsupported_here 2 }
+        ≡ fault immediate_range 3 }
     ensures before { statements_fault (after_padding (Directs (Values 4 (constant 1 ∷ []))))
         ≡ fault wrong_section 3 }
     ensures without { statements_fault padding_without_bytes ≡ fault wrong_section 2 }
