@@ -1,6 +1,7 @@
 pub mod Settling
 pub mod Shrunk
 pub mod Shrinking
+pub mod ShrunkLink
 pub mod TwoObjects
 pub mod TwoLinked
 pub mod Numbers
