@@ -1,6 +1,6 @@
 -- The templates of a statement, and which fields they have: each field of code is of its part's kind.
 
-use Rattle.std.proofs.Common.{◌≡◌, ℕ, ◌≤◌, Bool, true, false, List, [], ◌∷◌, ◌++◌, length, map, refl, sym, subst, arith, Option, Some, None}
+use Rattle.std.proofs.Common.{◌≡◌, ℕ, zero, suc, ◌≤◌, Bool, true, false, List, [], ◌∷◌, ◌++◌, length, map, refl, sym, subst, arith, Option, Some, None}
 use Rattle.std.specs.Prelude.{⊤, ◌&&◌, if◌then◌else◌, unwrap_or}
 use Rattle.std.specs.List.{AllByRecursion}
 use Rattle.rv_isa.specs.declared.instruction.Format.{Format}
@@ -28,7 +28,7 @@ use Rattle.rv_assemble_laws.specs.Sites.{Site, form, coded_templates}
 use Rattle.rv_boundary_laws.proofs.Settled.{IsBare}
 use Rattle.rv_boundary_laws.proofs.Patches.{HasRoom}
 use Rattle.rv_boundary_laws.proofs.Coding.{encoded_long, joined_long}
-use Rattle.rv_boundary_laws.proofs.Shrunk.{templates, HasSize, contribution_templates}
+use Rattle.rv_boundary_laws.proofs.Shrunk.{padding_templates, templates, HasSize, contribution_templates}
 
 -- ---- the fields of a part
 
@@ -111,12 +111,17 @@ module _ (P : Template → Type 0) (fixed : (bytes : List ℕ) → P (Fixed byte
   data_each width v [] = tt
   data_each width v (e ∷ es) = (datum width (v e), data_each width v es)
 
+  padded : (b : Bool) (bytes : ℕ) → AllByRecursion P (padding_templates b bytes)
+  padded true zero = tt
+  padded true (suc n) = (fixed _, tt)
+  padded false bytes = (fixed _, tt)
+
   pub directed : (b : Bool) (v : Expression → Value) (c : Contribution) (bytes : ℕ) → AllByRecursion P (contribution_templates b v c bytes)
   directed b v Nothing bytes = tt
   directed b v (Bytes (Numbers width es)) bytes = data_each width v es
   directed b v (Bytes (Texts ended strings)) bytes = (fixed _, tt)
   directed b v (Zero_bytes count) bytes = (fixed _, tt)
-  directed b v (Alignment as_form number) bytes = (fixed _, tt)
+  directed b v (Alignment as_form number) bytes = padded b bytes
 
   module _ (t : Tables) (z : Site) (multiple : ℕ)
       (part : (c : Bool) (p : CodePart) (bytes : List ℕ) → IsCodedPart c p bytes → P (Coded bytes (part_fields t (form t z.located) z.located p))) where
