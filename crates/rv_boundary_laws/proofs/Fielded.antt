@@ -107,7 +107,7 @@ fills_plain f k e = refl
 -- ---- all templates of a statement
 
 module _ (P : Template → Type 0) (fixed : (bytes : List ℕ) → P (Fixed bytes)) (datum : (width : ℕ) (v : Value) → P (Datum width v)) where
-  data_each : (width : ℕ) (v : Expression → Value) (es : List Expression) → AllByRecursion P (map (λ e. Datum width (v e)) es)
+  pub data_each : (width : ℕ) (v : Expression → Value) (es : List Expression) → AllByRecursion P (map (λ e. Datum width (v e)) es)
   data_each width v [] = tt
   data_each width v (e ∷ es) = (datum width (v e), data_each width v es)
 
@@ -133,7 +133,7 @@ module _ (P : Template → Type 0) (fixed : (bytes : List ℕ) → P (Fixed byte
     coded_each c (p ∷ ps) [] h = tt
     coded_each c (p ∷ ps) (bytes ∷ coded) (h, hs) = (part c p bytes h, coded_each c ps coded hs)
 
-    sized_each : (kind : StatementKind) → HasSize (form t z.located) z multiple kind → AllByRecursion P (templates t z kind)
+    pub sized_each : (kind : StatementKind) → HasSize (form t z.located) z multiple kind → AllByRecursion P (templates t z kind)
     sized_each (Label name) h = tt
     sized_each (Numbered number) h = tt
     sized_each (Instruction mnemonic operands) h =
@@ -175,7 +175,7 @@ IsPlain (Fixed bytes) = ⊤
 IsPlain (Datum width v) = ⊤
 IsPlain (Coded bytes fields) = AllByRecursion (λ (f : Open). is_align f.kind ≡ false) fields
 
-plain_part : (t : Tables) (v : Expression → Value) (s : Located) (c : Bool) (p : CodePart) (bytes : List ℕ) → IsCodedPart c p bytes → IsPlain (Coded bytes (part_fields t v s p))
+pub plain_part : (t : Tables) (v : Expression → Value) (s : Located) (c : Bool) (p : CodePart) (bytes : List ℕ) → IsCodedPart c p bytes → IsPlain (Coded bytes (part_fields t v s p))
 plain_part t v s c (Closed i) bytes h = tt
 plain_part t v s c (Open_part k i) bytes h =
     by_kind (λ k. is_align k ≡ false) k (field_of t v s.ordinal (operand_of s.kind) k) (fills_plain (format_of i) k h.0.1) (field_kind t v s.ordinal (operand_of s.kind) k)

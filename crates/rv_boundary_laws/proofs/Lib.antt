@@ -2,6 +2,7 @@ pub mod Settling
 pub mod Shrunk
 pub mod Shrinking
 pub mod ShrunkLink
+pub mod Pads
 pub mod TwoObjects
 pub mod TwoLinked
 pub mod Numbers
