@@ -3,6 +3,7 @@ pub mod Shrunk
 pub mod Shrinking
 pub mod ShrunkLink
 pub mod Pads
+pub mod Walk
 pub mod TwoObjects
 pub mod TwoLinked
 pub mod Numbers
