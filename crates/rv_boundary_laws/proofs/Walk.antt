@@ -15,7 +15,8 @@ use Rattle.rv_object.specs.Padding.{no_operations, operations_in}
 use Rattle.rv_object.specs.Valid.{is_align}
 use Rattle.rv_object_laws.specs.Moves.{Move, dropped, new_offset, kept, aligned, full_padding, has_padding, alignment_of, inserted, by_place, plan, lost, lost_in}
 use Rattle.rv_assemble_laws.specs.Templates.{Template, Fixed, Datum, Coded, Open, value_fields, template_fields, absolute_kind, add_kind, subtract_kind, align_field}
-use Rattle.rv_assemble_laws.specs.Sites.{Site, Part, part_of, part_bytes, parts_of, parts, templates, Tile}
+pub use Rattle.rv_assemble_laws.specs.Sites.{Tile}
+use Rattle.rv_assemble_laws.specs.Sites.{Site, Part, part_of, part_bytes, parts_of, parts, templates}
 use Rattle.rv_assemble_laws.specs.IsObjectOf.{Numbering, relocation_at, relocations_from}
 use Rattle.rv_boundary_laws.proofs.Patches.{append_assoc}
 use Rattle.rv_boundary_laws.proofs.Fielded.{IsPlain}
@@ -83,7 +84,7 @@ Ahead p ms = AllByRecursion (λ (m : Move). (p ≤ m.place) × (0 < m.full)) ms
 abbrev pub Past : ℕ → List Relocation → Type 0
 Past p rs = AllByRecursion (λ (r : Relocation). (p ≤ r.place) × (0 < full_padding r)) rs
 
-plan_ahead : (p base gone : ℕ) (rs : List Relocation) → Past p rs → Ahead p (plan base gone rs)
+pub plan_ahead : (p base gone : ℕ) (rs : List Relocation) → Past p rs → Ahead p (plan base gone rs)
 plan_ahead p base gone [] h = tt
 plan_ahead p base gone (r ∷ rs) (h, hs) =
     let stands = base + (r.place - gone) in
@@ -118,7 +119,7 @@ lost_before m offset bytes h =
     ap (λ b. if b && nat_le (m.place + m.full) (offset + bytes) then operations_in m.full - operations_in (length m.text) else 0) (lt-leb offset m.place h)
 
 -- what stands before all moves is kept
-kept_front : (o : ℕ) (ms : List Move) (own rest : List ℕ) → Ahead (o + length own) ms → kept o ms (own ++ rest) ≡ own ++ kept (o + length own) ms rest
+pub kept_front : (o : ℕ) (ms : List Move) (own rest : List ℕ) → Ahead (o + length own) ms → kept o ms (own ++ rest) ≡ own ++ kept (o + length own) ms rest
 kept_front o [] own rest h = refl
 kept_front o (m ∷ ms) own rest (h, hs) =
     let past = h.0 in
@@ -132,12 +133,15 @@ kept_front o (m ∷ ms) own rest (h, hs) =
     ∙ ap (λ l. (own ++ take k rest) ++ (m.text ++ kept (m.place + m.full) ms l)) (drop_past own rest j)
     ∙ append_assoc own (take k rest) (m.text ++ kept (m.place + m.full) ms (drop j rest))
 
+pub some_true : (n : ℕ) → 0 < n → nat_lt 0 n ≡ true
+some_true n h = lt-ltb 0 n h
+
 -- ---- the alignment
 
 abbrev pub align_at : ℕ → ℕ → Relocation
 align_at place n = record { place = place; kind = Align; symbol = None; addend = pos n }
 
-alignment_is : (o a : ℕ) → IsPower a → alignment_of (align_at o (a - 2)) ≡ a
+pub alignment_is : (o a : ℕ) → IsPower a → alignment_of (align_at o (a - 2)) ≡ a
 alignment_is o a h = by_power (λ a. alignment_of (align_at o (a - 2)) ≡ a) refl refl refl refl refl refl refl refl refl refl refl a h
 
 even_start : (a : ℕ) → IsPower a → (n : ℕ) → n % a ≡ 0 → n % 2 ≡ 0
