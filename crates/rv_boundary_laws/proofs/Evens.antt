@@ -26,7 +26,7 @@ none_even : (n : ℕ) → n ≡ 0 → n % 2 ≡ 0
 none_even n e = ap (λ n. n % 2) e
 
 -- a statement of code with a place has an even count of bytes
-even_by : (s : Site) (section : SourceSection) (multiple : ℕ) (v : Expression → Value) (kind : StatementKind) → IsHeld section kind → section.executable ≡ true → s.located.home ≡ section
+pub even_by : (s : Site) (section : SourceSection) (multiple : ℕ) (v : Expression → Value) (kind : StatementKind) → IsHeld section kind → section.executable ≡ true → s.located.home ≡ section
     → HasSize v s multiple kind → s.bytes % 2 ≡ 0
 even_by s section multiple v (Label name) held code home size = none_even s.bytes size.0
 even_by s section multiple v (Numbered number) held code home size = none_even s.bytes size.0

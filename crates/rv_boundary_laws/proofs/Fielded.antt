@@ -1,6 +1,6 @@
 -- The templates of a statement, and which fields they have: each field of code is of its part's kind.
 
-use Rattle.std.proofs.Common.{◌≡◌, ℕ, ◌≤◌, Bool, true, false, List, [], ◌∷◌, ◌++◌, length, map, refl, sym, subst, arith, Option, Some, None}
+use Rattle.std.proofs.Common.{◌≡◌, ℕ, zero, suc, ◌≤◌, Bool, true, false, List, [], ◌∷◌, ◌++◌, length, map, refl, sym, subst, arith, Option, Some, None}
 use Rattle.std.specs.Prelude.{⊤, ◌&&◌, if◌then◌else◌, unwrap_or}
 use Rattle.std.specs.List.{AllByRecursion}
 use Rattle.rv_isa.specs.declared.instruction.Format.{Format}
@@ -28,7 +28,7 @@ use Rattle.rv_assemble_laws.specs.Sites.{Site, form, coded_templates}
 use Rattle.rv_boundary_laws.proofs.Settled.{IsBare}
 use Rattle.rv_boundary_laws.proofs.Patches.{HasRoom}
 use Rattle.rv_boundary_laws.proofs.Coding.{encoded_long, joined_long}
-use Rattle.rv_boundary_laws.proofs.Shrunk.{templates, HasSize, contribution_templates}
+use Rattle.rv_boundary_laws.proofs.Shrunk.{padding_templates, templates, HasSize, contribution_templates}
 
 -- ---- the fields of a part
 
@@ -107,16 +107,21 @@ fills_plain f k e = refl
 -- ---- all templates of a statement
 
 module _ (P : Template → Type 0) (fixed : (bytes : List ℕ) → P (Fixed bytes)) (datum : (width : ℕ) (v : Value) → P (Datum width v)) where
-  data_each : (width : ℕ) (v : Expression → Value) (es : List Expression) → AllByRecursion P (map (λ e. Datum width (v e)) es)
+  pub data_each : (width : ℕ) (v : Expression → Value) (es : List Expression) → AllByRecursion P (map (λ e. Datum width (v e)) es)
   data_each width v [] = tt
   data_each width v (e ∷ es) = (datum width (v e), data_each width v es)
+
+  padded : (b : Bool) (bytes : ℕ) → AllByRecursion P (padding_templates b bytes)
+  padded true zero = tt
+  padded true (suc n) = (fixed _, tt)
+  padded false bytes = (fixed _, tt)
 
   pub directed : (b : Bool) (v : Expression → Value) (c : Contribution) (bytes : ℕ) → AllByRecursion P (contribution_templates b v c bytes)
   directed b v Nothing bytes = tt
   directed b v (Bytes (Numbers width es)) bytes = data_each width v es
   directed b v (Bytes (Texts ended strings)) bytes = (fixed _, tt)
   directed b v (Zero_bytes count) bytes = (fixed _, tt)
-  directed b v (Alignment as_form number) bytes = (fixed _, tt)
+  directed b v (Alignment as_form number) bytes = padded b bytes
 
   module _ (t : Tables) (z : Site) (multiple : ℕ)
       (part : (c : Bool) (p : CodePart) (bytes : List ℕ) → IsCodedPart c p bytes → P (Coded bytes (part_fields t (form t z.located) z.located p))) where
@@ -128,7 +133,7 @@ module _ (P : Template → Type 0) (fixed : (bytes : List ℕ) → P (Fixed byte
     coded_each c (p ∷ ps) [] h = tt
     coded_each c (p ∷ ps) (bytes ∷ coded) (h, hs) = (part c p bytes h, coded_each c ps coded hs)
 
-    sized_each : (kind : StatementKind) → HasSize (form t z.located) z multiple kind → AllByRecursion P (templates t z kind)
+    pub sized_each : (kind : StatementKind) → HasSize (form t z.located) z multiple kind → AllByRecursion P (templates t z kind)
     sized_each (Label name) h = tt
     sized_each (Numbered number) h = tt
     sized_each (Instruction mnemonic operands) h =
@@ -170,7 +175,7 @@ IsPlain (Fixed bytes) = ⊤
 IsPlain (Datum width v) = ⊤
 IsPlain (Coded bytes fields) = AllByRecursion (λ (f : Open). is_align f.kind ≡ false) fields
 
-plain_part : (t : Tables) (v : Expression → Value) (s : Located) (c : Bool) (p : CodePart) (bytes : List ℕ) → IsCodedPart c p bytes → IsPlain (Coded bytes (part_fields t v s p))
+pub plain_part : (t : Tables) (v : Expression → Value) (s : Located) (c : Bool) (p : CodePart) (bytes : List ℕ) → IsCodedPart c p bytes → IsPlain (Coded bytes (part_fields t v s p))
 plain_part t v s c (Closed i) bytes h = tt
 plain_part t v s c (Open_part k i) bytes h =
     by_kind (λ k. is_align k ≡ false) k (field_of t v s.ordinal (operand_of s.kind) k) (fills_plain (format_of i) k h.0.1) (field_kind t v s.ordinal (operand_of s.kind) k)

@@ -68,7 +68,7 @@ aligned_moves a q x h =
     let more : q * a + x + (a - 1) ≡ q * a + (x + (a - 1)) = omega arith in
     ap (λ n. n / a * a) more ∙ ap (λ n. n * a) (mul-add-div_right h q (x + (a - 1))) ∙ add-mul q ((x + (a - 1)) / a) a
 
-padding_moves : (alignment : Option ℕ) (start offset : ℕ) → IsMultiple alignment start → padding alignment (start + offset) ≡ padding alignment offset
+pub padding_moves : (alignment : Option ℕ) (start offset : ℕ) → IsMultiple alignment start → padding alignment (start + offset) ≡ padding alignment offset
 padding_moves None start offset h = refl
 padding_moves (Some a) start offset (some, h) =
     let q = start / a in

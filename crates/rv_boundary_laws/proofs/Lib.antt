@@ -1,5 +1,9 @@
 pub mod Shrunk
 pub mod Shrinking
+pub mod ShrunkLink
+pub mod Pads
+pub mod Walk
+pub mod Stepped
 pub mod TwoObjects
 pub mod TwoLinked
 pub mod Numbers

@@ -213,7 +213,7 @@ module _ (sources : List (List Statement)) (os : List Object) (text_start : ℕ)
           itself = all_map (IsFound 1 is.sites) (λ z. site_at is.sites z.located.ordinal ≡ Some z) is.sites (λ z k. k.1) (found_from 1 at_start ss is.sites is.located);
           relocated = λ j x at loaded.
               subst (λ n. Q (record { file = file; object = o; index = n; section = x })) (let e : 0 + j ≡ j = omega arith in e)
-              (relocated_at Q file o 0 o.sections both.0 j x at loaded);
+              (relocated_at is_loaded Q file o 0 o.sections both.0 j x at loaded);
         } in
         let own = good_file p os starts spells stores P bytes_of worths goes goes_source loads same_by holds spell fitted file is.sites is.number o sections
         link.readable.globals are (settled ss is.sites is.good is.located) whole c (plain_of ss o is) f.address both.0 in

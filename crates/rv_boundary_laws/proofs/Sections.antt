@@ -29,7 +29,7 @@ use Rattle.rv_boundary_laws.proofs.Statements.{mapped_at}
 use Rattle.rv_boundary_laws.proofs.Settled.{IsPlacedKind}
 use Rattle.rv_boundary_laws.proofs.Suits as suits
 use Rattle.rv_object.specs.Padding.{no_operations, operations_in}
-use Rattle.rv_boundary_laws.proofs.Shrunk.{padding_bytes, IsPaddedIn, parts_of, parts, Tile, templates, HasSize}
+use Rattle.rv_boundary_laws.proofs.Shrunk.{padding_templates, IsPaddedIn, parts_of, parts, Tile, templates, HasSize}
 
 -- ---- lists
 
@@ -218,8 +218,10 @@ module _ (p : Program) (file : ℕ) where
     spelled_by starts s multiple (Directs (Strings ended strings)) held aside size = sym (append_nil (string_bytes ended strings))
     spelled_by starts s multiple (Directs (Zeros count)) held aside (x, y) =
         ap (λ v. zeros (unwrap_or (resolved (meant_in s.located.ordinal) v) 0)) y ∙ sym (append_nil (zeros s.bytes))
-    spelled_by starts s multiple (Directs (Aligns_to_power e)) held aside size = sym (append_nil (zeros s.bytes)) ∙ ap (λ b. padding_bytes b s.bytes ++ []) (sym aside)
-    spelled_by starts s multiple (Directs (Aligns_to_bytes e)) held aside size = sym (append_nil (zeros s.bytes)) ∙ ap (λ b. padding_bytes b s.bytes ++ []) (sym aside)
+    spelled_by starts s multiple (Directs (Aligns_to_power e)) held aside size =
+        sym (append_nil (zeros s.bytes)) ∙ ap (λ b. written_from (written meant_in (worth s.located.section)) s.offset (map (part_of s.located.ordinal) (padding_templates b s.bytes))) (sym aside)
+    spelled_by starts s multiple (Directs (Aligns_to_bytes e)) held aside size =
+        sym (append_nil (zeros s.bytes)) ∙ ap (λ b. written_from (written meant_in (worth s.located.section)) s.offset (map (part_of s.located.ordinal) (padding_templates b s.bytes))) (sym aside)
     spelled_by starts s multiple (Directs (Enters section)) held aside size = refl
     spelled_by starts s multiple (Directs (Opens name flags kind)) held aside size = refl
     spelled_by starts s multiple (Directs (Globl names)) held aside size = refl
@@ -236,6 +238,10 @@ module _ (p : Program) (file : ℕ) where
     coded_parts w fields offset ordinal (q ∷ ps) (bytes ∷ coded) =
         ap (λ l. filled_fields (w offset) (fields q) bytes ++ l) (coded_parts w fields (offset + length bytes) ordinal ps coded)
 
+    padding_coded : (w : ℕ → Open → ℤ) (offset ordinal bytes : ℕ) → no_operations bytes ≡ written_from (written meant_in w) offset (map (part_of ordinal) (padding_templates true bytes))
+    padding_coded w offset ordinal zero = refl
+    padding_coded w offset ordinal (suc n) = sym (append_nil (no_operations (suc n)))
+
     -- in code its parts are its code
     pub coded_by : (s : Site) (multiple : ℕ) (kind : StatementKind) → IsHeld s.located.home kind → s.located.home.executable ≡ true
         → HasSize (form (tables_in p file) s.located) s multiple kind
@@ -249,8 +255,10 @@ module _ (p : Program) (file : ℕ) where
     coded_by s multiple (Directs (Values width es)) held code size = let e : true ≡ false = sym code ∙ held.0 in absurd (cc)
     coded_by s multiple (Directs (Strings ended strings)) held code size = let e : true ≡ false = sym code ∙ held.0 in absurd (cc)
     coded_by s multiple (Directs (Zeros count)) held code size = let e : true ≡ false = sym code ∙ held in absurd (cc)
-    coded_by s multiple (Directs (Aligns_to_power e)) held code size = sym (append_nil (no_operations s.bytes)) ∙ ap (λ b. padding_bytes b s.bytes ++ []) (sym code)
-    coded_by s multiple (Directs (Aligns_to_bytes e)) held code size = sym (append_nil (no_operations s.bytes)) ∙ ap (λ b. padding_bytes b s.bytes ++ []) (sym code)
+    coded_by s multiple (Directs (Aligns_to_power e)) held code size =
+        padding_coded (worth s.located.section) s.offset s.located.ordinal s.bytes ∙ ap (λ b. written_from (written meant_in (worth s.located.section)) s.offset (map (part_of s.located.ordinal) (padding_templates b s.bytes))) (sym code)
+    coded_by s multiple (Directs (Aligns_to_bytes e)) held code size =
+        padding_coded (worth s.located.section) s.offset s.located.ordinal s.bytes ∙ ap (λ b. written_from (written meant_in (worth s.located.section)) s.offset (map (part_of s.located.ordinal) (padding_templates b s.bytes))) (sym code)
     coded_by s multiple (Directs (Enters section)) held code size = refl
     coded_by s multiple (Directs (Opens name flags kind)) held code size = refl
     coded_by s multiple (Directs (Globl names)) held code size = refl

@@ -241,7 +241,7 @@ module _ (starts : Starts) (file : ℕ) (t : Tables) (index : ℕ) (section : Se
 
 -- ---- the end of a section
 
-bytes_append : (xs ys : List Part) → flat_map part_bytes (xs ++ ys) ≡ flat_map part_bytes xs ++ flat_map part_bytes ys
+pub bytes_append : (xs ys : List Part) → flat_map part_bytes (xs ++ ys) ≡ flat_map part_bytes xs ++ flat_map part_bytes ys
 bytes_append [] ys = refl
 bytes_append (x ∷ xs) ys = ap (λ l. part_bytes x ++ l) (bytes_append xs ys) ∙ sym (append_assoc (part_bytes x) (flat_map part_bytes xs) (flat_map part_bytes ys))
 

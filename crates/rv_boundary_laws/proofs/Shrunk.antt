@@ -1,7 +1,7 @@
 -- The object of a source whose paddings in code have shrunk to the least: what is left of it where the linker has made its moves.
 -- All else is as in rv_assemble_laws: these are its definitions with such paddings, which no ALIGN marks.
 
-use Rattle.std.specs.Prelude.{◌≡◌, ℕ, suc, ◌+◌, ◌*◌, ◌%◌, ◌≤◌, true, Bool, false, ⊤, List, [], ◌∷◌, flat_map, filter, map, length, Option, None, unwrap_or, if◌then◌else◌}
+use Rattle.std.specs.Prelude.{◌≡◌, ℕ, zero, suc, ◌+◌, ◌*◌, ◌%◌, ◌≤◌, true, Bool, false, ⊤, List, [], ◌∷◌, flat_map, filter, map, length, Option, None, unwrap_or, if◌then◌else◌}
 use Rattle.std.specs.List.{AllByRecursion, list_any}
 use Rattle.rv_text_laws.specs.Values.{Value, Constant}
 use Rattle.rv_statement.specs.Statement.{StatementKind, Label, Numbered, Instruction, Directs, Statement, Expression, Directive, Aligns_to_power, Aligns_to_bytes, Values, Strings, Zeros}
@@ -26,15 +26,16 @@ pub use Rattle.rv_assemble_laws.specs.IsObjectOf.{Numbering, row_of, rows_at, re
 
 -- ---- templates
 
-abbrev pub padding_bytes : Bool → ℕ → List ℕ
-padding_bytes true bytes = no_operations bytes
-padding_bytes false bytes = zeros bytes
+abbrev pub padding_templates : Bool → ℕ → List Template
+padding_templates true zero = []
+padding_templates true (suc n) = Fixed (no_operations (suc n)) ∷ []
+padding_templates false bytes = Fixed (zeros bytes) ∷ []
 
 abbrev pub contribution_templates : Bool → (Expression → Value) → Contribution → ℕ → List Template
 contribution_templates executable v Nothing bytes = []
 contribution_templates executable v (Bytes contents) bytes = contents_templates v contents
 contribution_templates executable v (Zero_bytes count) bytes = Fixed (zeros bytes) ∷ []
-contribution_templates executable v (Alignment form number) bytes = Fixed (padding_bytes executable bytes) ∷ []
+contribution_templates executable v (Alignment form number) bytes = padding_templates executable bytes
 
 abbrev pub templates : Tables → Site → StatementKind → List Template
 templates t s (Label name) = []

@@ -14,7 +14,6 @@ use Rattle.rv_source_laws.specs.Fits.{mapped_in}
 use Rattle.rv_map.specs.Map.{Global}
 use Rattle.rv_object.specs.Object.{Progbits, Section, Object}
 use Rattle.rv_object_laws.specs.Inputs.{Starts, InputSection, inputs_from}
-use Rattle.rv_object_laws.specs.IsLinkOf.{is_loaded}
 use Rattle.rv_object_laws.specs.Names.{object_at, no_object}
 use Rattle.rv_object_laws.specs.Values.{value, IsRelocated}
 use Rattle.rv_assemble_laws.specs.Templates.{Open}
@@ -150,27 +149,27 @@ pub record IsWhole (p : Program) (os : List Object) (starts : Starts) (file : �
   pub relocated : (j : ℕ) (x : Section) → slice_get o.sections j ≡ Some x → x.loaded ≡ true
       → AllByRecursion (IsRelocated p.map.globals starts os (record { file = file; object = o; index = j; section = x })) x.relocations
 
--- those of the loaded sections of an object, from an index on
-pub relocated_at : (Q : InputSection → Type 0) (file : ℕ) (o : Object) (index : ℕ) (xs : List Section) → AllByRecursion Q (inputs_from is_loaded file o index xs)
-    → (j : ℕ) (x : Section) → slice_get xs j ≡ Some x → x.loaded ≡ true → Q (record { file = file; object = o; index = index + j; section = x })
-relocated_at Q file o index [] h j x e l = absurd (cc)
-relocated_at Q file o index (y ∷ ys) h zero x e l =
+-- those of the sections of an object that go somewhere, from an index on
+pub relocated_at : (goes : Section → Bool) (Q : InputSection → Type 0) (file : ℕ) (o : Object) (index : ℕ) (xs : List Section) → AllByRecursion Q (inputs_from goes file o index xs)
+    → (j : ℕ) (x : Section) → slice_get xs j ≡ Some x → goes x ≡ true → Q (record { file = file; object = o; index = index + j; section = x })
+relocated_at goes Q file o index [] h j x e l = absurd (cc)
+relocated_at goes Q file o index (y ∷ ys) h zero x e l =
     let same : y ≡ x = cc in
     let here : index ≡ index + 0 = omega arith in
     subst (λ z. Q (record { file = file; object = o; index = index + 0; section = z })) same
-    (subst (λ n. Q (record { file = file; object = o; index = n; section = y })) here (first y.loaded (ap (λ z. z.loaded) same ∙ l) h))
+    (subst (λ n. Q (record { file = file; object = o; index = n; section = y })) here (first (goes y) (ap goes same ∙ l) h))
   where
     first : (b : Bool) → b ≡ true
-        → AllByRecursion Q (if b then record { file = file; object = o; index = index; section = y } ∷ inputs_from is_loaded file o (suc index) ys else inputs_from is_loaded file o (suc index) ys)
+        → AllByRecursion Q (if b then record { file = file; object = o; index = index; section = y } ∷ inputs_from goes file o (suc index) ys else inputs_from goes file o (suc index) ys)
         → Q (record { file = file; object = o; index = index; section = y })
     first true f (q, qs) = q
     first false f qs = absurd (cc)
-relocated_at Q file o index (y ∷ ys) h (suc j) x e l =
+relocated_at goes Q file o index (y ∷ ys) h (suc j) x e l =
     subst (λ n. Q (record { file = file; object = o; index = n; section = x })) (let f : suc index + j ≡ index + suc j = omega arith in f)
-    (relocated_at Q file o (suc index) ys (rest y.loaded h) j x e l)
+    (relocated_at goes Q file o (suc index) ys (rest (goes y) h) j x e l)
   where
     rest : (b : Bool)
-        → AllByRecursion Q (if b then record { file = file; object = o; index = index; section = y } ∷ inputs_from is_loaded file o (suc index) ys else inputs_from is_loaded file o (suc index) ys)
-        → AllByRecursion Q (inputs_from is_loaded file o (suc index) ys)
+        → AllByRecursion Q (if b then record { file = file; object = o; index = index; section = y } ∷ inputs_from goes file o (suc index) ys else inputs_from goes file o (suc index) ys)
+        → AllByRecursion Q (inputs_from goes file o (suc index) ys)
     rest true (q, qs) = qs
     rest false qs = qs
