@@ -2,8 +2,9 @@
 -- with which each form below a statement's largest reaches (GNU as, "RISC-V-Directives"; ISA,
 -- "Conditional Branches" and "Unconditional Jumps").
 
-use Rattle.std.specs.Prelude.{◌≡◌, ℕ, suc, false, ◌==◌, ⊤, if◌then◌else◌, List, [], ◌∷◌, filter, Option, Some, None}
-use Rattle.rv_statement.specs.Statement.{StatementKind, Directs, Statement, Directive}
+use Rattle.std.specs.Prelude.{◌≡◌, ℕ, suc, Bool, false, ◌==◌, ⊤, if◌then◌else◌, List, [], ◌∷◌, filter, Option, Some, None}
+use Rattle.rv_statement.specs.Statement.{StatementKind, Directs, Statement, Expression, Directive}
+use Rattle.rv_text_laws.specs.Values.{Value}
 use Rattle.rv_unit_laws.specs.Contributions.{Contribution, Alignment, contribution}
 use Rattle.rv_unit_laws.specs.Tables.{tables, at_start, alignment_of}
 use Rattle.rv_map.specs.Map.{Map}
@@ -15,19 +16,22 @@ use Rattle.rv_source_laws.specs.Sizes.{code_padding, AreLeast}
 -- ---- the size of a statement
 
 -- an alignment in code counts as all the padding that it may need, whatever is left of it in the
--- map; any other directive has the bytes of its row
-abbrev pub directive_size : Program → Located → (bytes : ℕ) → Directive → Contribution → ℕ
-directive_size p s bytes d (Alignment counts number) =
-    if s.home.executable then code_padding (alignment_of (λ e. form p s e) d) else bytes
-directive_size p s bytes d _ = bytes
+-- map; all else has the bytes of its row
+abbrev pub directive_size : Bool → (Expression → Value) → Directive → Contribution → ℕ → ℕ
+directive_size executable v d (Alignment counts number) bytes =
+    if executable then code_padding (alignment_of v d) else bytes
+directive_size executable v d _ bytes = bytes
 
-abbrev pub statement_size : Program → Located → (bytes : ℕ) → StatementKind → ℕ
-statement_size p s bytes (Directs d) = directive_size p s bytes d (contribution d)
-statement_size p s bytes _ = bytes
+-- of a statement in a section of code or of data, by the bytes of its row
+abbrev pub statement_size : (executable : Bool) → (Expression → Value) → StatementKind → ℕ → ℕ
+statement_size executable v (Directs d) bytes =
+    directive_size executable v d (contribution d) bytes
+statement_size executable v _ bytes = bytes
 
 -- a statement without a place has no bytes; in a section that isn't loaded no map shows them
 abbrev pub HasSizeBy : Program → Located → Option Row → (size : ℕ) → Type 0
-HasSizeBy p s (Some row) size = size ≡ statement_size p s row.bytes s.kind
+HasSizeBy p s (Some row) size =
+    size ≡ statement_size s.home.executable (λ e. form p s e) s.kind row.bytes
 HasSizeBy p s None size = s.placed ≡ false → size ≡ 0
 
 abbrev pub HaveSizes : Program → List MaybeMapped → (sizes : List ℕ) → Type 0
