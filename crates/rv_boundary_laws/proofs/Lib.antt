@@ -5,6 +5,8 @@ pub mod ShrunkLink
 pub mod Pads
 pub mod Walk
 pub mod Stepped
+pub mod Exported
+pub mod ShrunkSections
 pub mod TwoObjects
 pub mod TwoLinked
 pub mod Numbers

@@ -1,4 +1,4 @@
-use Rattle.rv_boundary_laws.proofs.Stepped.{S}
+use Rattle.rv_boundary_laws.proofs.ShrunkSections.{left}
 use Rattle.rv_boundary_laws.proofs.Linked.{linked}
 use Rattle.rv_boundary_laws.proofs.Joined.{resolves}
 use Rattle.rv_boundary_laws.proofs.law.objects_of_sources_link.Goals as goal
