@@ -7,6 +7,7 @@ pub mod Walk
 pub mod Stepped
 pub mod Exported
 pub mod ShrunkSections
+pub mod Shrinks
 pub mod TwoObjects
 pub mod TwoLinked
 pub mod Numbers
