@@ -4,6 +4,9 @@ pub mod ShrunkLink
 pub mod Pads
 pub mod Walk
 pub mod Stepped
+pub mod Exported
+pub mod ShrunkSections
+pub mod Shrinks
 pub mod TwoObjects
 pub mod TwoLinked
 pub mod Numbers

@@ -38,7 +38,7 @@ flat_join : {X Y : Type 0} (f : X → List Y) (h : X → X) (xs : List X) → ((
 flat_join f h [] e = refl
 flat_join f h (x ∷ xs) e = ap (λ l. l ++ flat_map f (map h xs)) (e x) ∙ ap (λ l. f x ++ l) (flat_join f h xs e)
 
-map_join : {X Y : Type 0} (f : X → Y) (xs ys : List X) → map f (xs ++ ys) ≡ map f xs ++ map f ys
+pub map_join : {X Y : Type 0} (f : X → Y) (xs ys : List X) → map f (xs ++ ys) ≡ map f xs ++ map f ys
 map_join f [] ys = refl
 map_join f (x ∷ xs) ys = ap (λ l. f x ∷ l) (map_join f xs ys)
 
