@@ -85,7 +85,7 @@ module _ (starts : Starts) where
       go false ih = ih
 
   -- the rows of a source stand by their ordinals
-  rise_from : (k : ℕ) (t : Tables) (ss : List Statement) (sites : List Site) → map (λ s. s.located) sites ≡ located_from 1 k t ss → (low : ℕ) → low ≤ k → Rise low (flat_map rows_at sites)
+  pub rise_from : (k : ℕ) (t : Tables) (ss : List Statement) (sites : List Site) → map (λ s. s.located) sites ≡ located_from 1 k t ss → (low : ℕ) → low ≤ k → Rise low (flat_map rows_at sites)
   rise_from k t ss [] e low h = tt
   rise_from k t [] (s ∷ sites) e low h = absurd (cc)
   rise_from k t (x ∷ ss) (s ∷ sites) e low h =

@@ -4,9 +4,11 @@ pub mod ShrunkLink
 pub mod Pads
 pub mod Walk
 pub mod Stepped
+pub mod Counted
 pub mod Exported
 pub mod ShrunkSections
 pub mod Shrinks
+pub mod Sized
 pub mod TwoObjects
 pub mod TwoLinked
 pub mod Numbers

@@ -12,7 +12,7 @@ use Rattle.rv_unit_laws.specs.Tables.{Tables, is_power_below, power_alignment, b
 use Rattle.rv_source_laws.specs.Fits.{is_low}
 use Rattle.rv_chain_laws.proofs.Held.{IsHeld}
 use Rattle.rv_object.specs.Padding.{no_operations, operations_in}
-use Rattle.rv_assemble_laws.specs.Templates.{Template, Fixed, Datum, Coded, zeros, code_padding, align_field, padding_templates}
+use Rattle.rv_assemble_laws.specs.Templates.{Template, Fixed, Datum, Coded, zeros, align_field, padding_templates}
 use Rattle.rv_assemble_laws.specs.Sites.{Site, Part, form, part_of, part_bytes, templates, parts_of, IsMultiple, IsPaddedIn, HasSize}
 use Rattle.rv_boundary_laws.proofs.Shrunk as shrunk
 use Rattle.rv_boundary_laws.proofs.Settled.{IsBare, IsSiteIn}

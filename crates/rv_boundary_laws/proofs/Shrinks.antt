@@ -33,6 +33,7 @@ use Rattle.rv_boundary_laws.proofs.Exported.{exported_are}
 use Rattle.rv_boundary_laws.proofs.Shrunk as shrunk
 use Rattle.rv_boundary_laws.proofs.Shrinking.{shrunk_section, sections_from, moves_in, shrunk_definition, shrunk_symbol, shrunk_row, shrunk_object, shrunk_objects, slice_map, section_is, exported_same}
 use Rattle.rv_boundary_laws.proofs.ShrunkLink.{IsTidy, BeginsSame, AllBegin, map_join}
+use Rattle.rv_boundary_laws.proofs.Counted.{IsCounted}
 use Rattle.rv_boundary_laws.proofs.ShrunkSections.{site_with, IsLeft, left}
 
 -- ---- the sections of an object
@@ -337,6 +338,17 @@ module _ (ss : List Statement) (o : Object) (is : IsObjectOf ss o) (f : ℕ → 
           subst (λ ms. (z.offset % 2 ≡ 0) × (new_offset ms z.offset % 2 ≡ 0)) (sym (ap (moves_in f o) stands ∙ ap (moves_at (f j)) there)) (k (ap source_text (sym home) ∙ text)))
           ((is_left j s x at there h).evens)
 
+  -- what its statements count
+  pub counted : AllByRecursion (λ z. IsCounted t (moves_in f o z.located.section) z) is.sites
+  counted = of_all (λ z. IsCounted t (moves_in f o z.located.section) z) is.sites all_settled by
+    where
+      by : (j : ℕ) (s : SourceSection) → slice_get sections j ≡ Some s → AllByRecursion (λ z. IsCounted t (moves_in f o z.located.section) z) (sites_in j is.sites)
+      by j s at =
+          let (x, there, h) = section_of j s at in
+          with_home (IsCounted t (moves (f j) x)) (λ z. IsCounted t (moves_in f o z.located.section) z) j s at
+          (λ z stands home k. subst (λ ms. IsCounted t ms z) (sym (ap (moves_in f o) stands ∙ ap (moves_at (f j)) there)) k)
+          ((is_left j s x at there h).counted)
+
   sections_left : (index : ℕ) (sss : List SourceSection) (xs : List Section) → AreSectionsOf t is.sites is.number o.symbols index sss xs
       → ((j : ℕ) → slice_get sections (index + j) ≡ slice_get sss j) → ((j : ℕ) → slice_get o.sections (index + j) ≡ slice_get xs j)
       → shrunk.AreSectionsOf t sites' is.number o'.symbols index sss (sections_from f index xs)
@@ -509,14 +521,14 @@ module _ (ss : List Statement) (o : Object) (is : IsObjectOf ss o) (f : ℕ → 
 -- ---- all files
 
 -- where a section of text starts
-abbrev Begun : Starts → InputSection → Type 0
+abbrev pub Begun : Starts → InputSection → Type 0
 Begun starts i = (stop : ℕ) × (start_of starts i ≡ aligned (begins_at i.section) stop)
 
 pub begun_all : (starts : Starts) (stop : ℕ) (ins : List InputSection) → Stand starts stop ins → AllByRecursion (Begun starts) ins
 begun_all starts stop [] st = tt
 begun_all starts stop (i ∷ ins) (at, st) = ((stop, at), begun_all starts (start_of starts i + size starts i) ins st)
 
-begun_in : (starts : Starts) (file : ℕ) (o : Object) → AllByRecursion (Begun starts) (inputs_from goes_to_text file o 0 o.sections)
+pub begun_in : (starts : Starts) (file : ℕ) (o : Object) → AllByRecursion (Begun starts) (inputs_from goes_to_text file o 0 o.sections)
     → (j : ℕ) (x : Section) → slice_get o.sections j ≡ Some x → goes_to_text x ≡ true → (stop : ℕ) × (starts file j ≡ aligned (begins_at x) stop)
 begun_in starts file o h j x at text =
     subst (λ n. Begun starts (record { file = file; object = o; index = n; section = x })) (let e : 0 + j ≡ j = omega arith in e)

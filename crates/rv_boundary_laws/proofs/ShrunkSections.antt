@@ -29,6 +29,7 @@ use Rattle.rv_boundary_laws.proofs.ShrunkLink.{IsTidy}
 use Rattle.rv_boundary_laws.proofs.Pads.{sort_of}
 use Rattle.rv_boundary_laws.proofs.Walk as walk
 use Rattle.rv_boundary_laws.proofs.Walk.{pads, pads_plain, in_order}
+use Rattle.rv_boundary_laws.proofs.Counted.{bytes_with, Stays, IsCounted, counted_all, bytes_stay}
 use Rattle.rv_boundary_laws.proofs.Stepped.{Steps, tiled, ended, bytes_kept, relocations_kept, sizes_kept, parts_kept, evens_kept, raised_none}
 
 -- ---- a statement
@@ -335,6 +336,10 @@ module _ (t : Tables) (sites sites' : List Site) (number : Numbering) (symbols s
     evens_aside [] = tt
     evens_aside (y ∷ ys) = ((λ text. loaded_not (and_parts s.loaded s.executable text).0), evens_aside ys)
 
+    stay_aside : (ys : List Site) → AllByRecursion (Stays t ms) ys
+    stay_aside [] = tt
+    stay_aside (y ∷ ys) = ((λ none. ap (λ k. bytes_with k y) no_moves ∙ (let f : (y.offset + y.bytes - 0) - (y.offset - 0) ≡ y.bytes = omega arith in f)), stay_aside ys)
+
   -- ---- any
 
   -- what is left of a section
@@ -342,6 +347,7 @@ module _ (t : Tables) (sites sites' : List Site) (number : Numbering) (symbols s
     pub section : shrunk.IsSectionOf t sites' number symbols' j s (sites_in j sites') (shrunk_section start x)
     pub tidy : IsTidy start x
     pub evens : AllByRecursion (λ (z : Site). source_text s ≡ true → (z.offset % 2 ≡ 0) × (new_offset ms z.offset % 2 ≡ 0)) zs
+    pub counted : AllByRecursion (IsCounted t ms) zs
     -- where something moves there is code
     pub moved : (ms ≡ []) ⊎ (s.executable ≡ true)
 
@@ -357,11 +363,13 @@ module _ (t : Tables) (sites sites' : List Site) (number : Numbering) (symbols s
         section = subst (λ ys. shrunk.IsSectionOf t sites' number symbols' j s ys (shrunk_section start x)) (sym same) (section_left l);
         tidy = tidy_left l;
         evens = evens_left l;
+        counted = counted_all t ms j s x.alignment 0 zs inside h.tile h.sizes (bytes_stay t number s x.alignment start ms (begins l) 0 0 zs (st l));
         moved = either s.executable refl l;
       }
       go false l = record {
         section = subst (λ ys. shrunk.IsSectionOf t sites' number symbols' j s ys (shrunk_section start x)) (sym (same ∙ same_sites l)) (section_aside l);
         tidy = tidy_aside l;
         evens = evens_aside l zs;
+        counted = counted_all t ms j s x.alignment 0 zs inside h.tile h.sizes (stay_aside l zs);
         moved = inl (no_moves l);
       }

@@ -63,7 +63,7 @@ module _ (starts : Starts) where
   mapped_from file (s ∷ ss) = if has_row s.located then mapped_at file s ∷ mapped_from file ss else mapped_from file ss
 
   -- rows go to the statements of a file and leave the others
-  statements_are : (file : ℕ) (sites : List Site) (more : List Located) (rows : List MapRow)
+  pub statements_are : (file : ℕ) (sites : List Site) (more : List Located) (rows : List MapRow)
       → statements_of (map (renumbered file) (map (λ s. s.located) sites) ++ more) (rows_from file sites ++ rows)
       ≡ map (statement_at file) sites ++ statements_of more rows
   statements_are file [] more rows = refl
