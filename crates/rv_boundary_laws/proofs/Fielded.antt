@@ -183,7 +183,3 @@ plain_part t v s c (Joined k i j) bytes (fits, also, rest) =
     joined_all (λ (f : Open). is_align f.kind ≡ false) (field_of t v s.ordinal (operand_of s.kind) k) (relax_fields s.options.relax s.ordinal)
     (by_kind (λ k. is_align k ≡ false) k (field_of t v s.ordinal (operand_of s.kind) k) (fills_plain (format_of i) k fits.1) (field_kind t v s.ordinal (operand_of s.kind) k))
     (relaxing (λ k. is_align k ≡ false) s.options.relax s.ordinal refl)
-
-pub plain : (t : Tables) (z : Site) (multiple : ℕ) → IsBare z.located → (z.located.placed ≡ true → HasSize (form t z.located) z multiple z.located.kind)
-    → AllByRecursion IsPlain (templates t z z.located.kind)
-plain t z multiple bare sized = each_template IsPlain (λ bytes. tt) (λ width v. tt) t z multiple (plain_part t (form t z.located) z.located) bare sized

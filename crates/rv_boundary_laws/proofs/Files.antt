@@ -1,11 +1,8 @@
 -- What linking the objects of sources makes of each file.
 
-use Rattle.std.proofs.Common.{◌≡◌, ℕ, zero, suc, ◌+◌, ◌-◌, ◌≤◌, Bool, true, false, List, [], ◌∷◌, ◌++◌, length, refl, ap, ◌∙◌, subst, arith, map, Option, Some, None}
-use Rattle.std.specs.Prelude.{⊤, ◌&&◌, ◌==◌, nat_lt, if◌then◌else◌, filter, flat_map, option_and_then, slice_index_or}
-use Rattle.std.specs.List.{AllByRecursion, find, slice_get}
-use Rattle.rv_isa.specs.declared.kind.Kind.{Kind}
-use Rattle.rv_isa.specs.declared.kind.Kind.TheVariants.{Abs32, Abs64, Add8, Add16, Add32, Add64, Sub8, Sub16, Sub32, Sub64}
-use Rattle.rv_text_laws.specs.Values.{Value, Constant, Symbolic, Difference, Faulty}
+use Rattle.std.proofs.Common.{◌≡◌, ℕ, zero, suc, ◌+◌, ◌-◌, ◌≤◌, Bool, true, false, List, [], ◌∷◌, ◌++◌, refl, ap, ◌∙◌, subst, arith, map, Option, Some, None}
+use Rattle.std.specs.Prelude.{⊤, if◌then◌else◌, flat_map, option_and_then, slice_index_or}
+use Rattle.std.specs.List.{find, slice_get}
 use Rattle.rv_statement.specs.Statement.{Statement}
 use Rattle.rv_unit_laws.specs.Sections.{Section as SourceSection}
 use Rattle.rv_unit_laws.specs.Tables.{Tables, tables, at_start, after, opened_of}
@@ -15,22 +12,17 @@ use Rattle.rv_source_laws.specs.Located.{has_row, located, located_now, located_
 use Rattle.rv_source_laws.specs.Program.{Program, program, tables_in, address_at, mapped_of, statements_of}
 use Rattle.rv_source_laws.specs.Lines.{section_of}
 use Rattle.rv_source_laws.specs.Fits.{mapped_in}
-use Rattle.rv_object.specs.Object.{Relocation, Section, Symbol, Object}
-use Rattle.rv_object.specs.Valid.{is_align}
-use Rattle.rv_object_laws.specs.Moves.{alignments_of, by_place, full_padding, has_padding, plan}
+use Rattle.rv_object.specs.Object.{Section, Symbol, Object}
+use Rattle.rv_object_laws.specs.Moves.{alignments_of, plan}
 use Rattle.rv_object_laws.specs.Inputs.{Starts}
 use Rattle.rv_object_laws.specs.Rising.{Rise}
 use Rattle.rv_object_laws.proofs.Ordinals.{rows_stay}
 use Rattle.rv_object_laws.specs.IsLinkOf.{by_ordinal, moves_at, map_row, row_in as linked_row, rows_of as linked_rows}
-use Rattle.rv_assemble_laws.specs.Templates.{Template, Fixed, Datum, Coded, Open, value_fields, template_fields, absolute_kind, add_kind, subtract_kind}
-use Rattle.rv_assemble_laws.specs.Sites.{Site, Part, form, part_of, part_bytes, sites_in}
-use Rattle.rv_assemble_laws.proofs.Homes.{all_filter, all_map}
-use Rattle.rv_boundary_laws.proofs.Settled.{IsBare, IsSettled, settled}
-use Rattle.rv_boundary_laws.proofs.Fielded.{IsPlain, plain}
+use Rattle.rv_assemble_laws.specs.Sites.{Site, sites_in}
 use Rattle.rv_assemble_laws.specs.Symbols.{site_at}
-use Rattle.rv_assemble_laws.specs.IsObjectOf.{Numbering, row_of, rows_at, relocation_at, relocations_from}
+use Rattle.rv_assemble_laws.specs.IsObjectOf.{Numbering, row_of, rows_at}
 use Rattle.rv_boundary_laws.proofs.Statements.{AreObjectsOf, row_in, rows_from, mapped_from, row_address, all_statements, all_rows, statements_all, sites_by, mapped_by, address_by, Test, section_in, site_section, section_by}
-use Rattle.rv_boundary_laws.proofs.Shrunk.{parts_of, parts, templates, HasSize, IsSectionOf, AreSectionsOf, IsObjectOf}
+use Rattle.rv_boundary_laws.proofs.Shrunk.{AreSectionsOf, IsObjectOf}
 
 -- ---- nothing moves
 

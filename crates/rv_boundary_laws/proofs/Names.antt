@@ -1,24 +1,20 @@
 -- The names of the map are those of the sources.
 
-use Rattle.std.proofs.Common.{◌≡◌, ℕ, suc, ◌+◌, ◌-◌, Bool, true, false, List, [], ◌∷◌, ◌++◌, refl, sym, ap, ◌∙◌, arith, map, Option, Some, None}
-use Rattle.std.specs.Prelude.{⊤, ◌&&◌, not, if◌then◌else◌, filter, flat_map, slice_index_or}
-use Rattle.std.specs.List.{list_any}
-use Rattle.rv_text_laws.specs.Values.{Meaning, Known, InSection as InData, Open as OpenAddress, Refused}
-use Rattle.rv_statement.specs.Statement.{StatementKind, Label, Numbered, Instruction, Directs, Statement, Enters, Sets}
-use Rattle.rv_unit_laws.specs.Bindings.{is_global}
-use Rattle.rv_unit_laws.specs.Tables.{Tables, Assignment, tables, assigned_ever}
+use Rattle.std.proofs.Common.{◌≡◌, ℕ, suc, ◌+◌, ◌-◌, List, [], ◌∷◌, ◌++◌, refl, sym, ap, ◌∙◌, arith, map}
+use Rattle.std.specs.Prelude.{⊤, flat_map, slice_index_or}
+use Rattle.rv_statement.specs.Statement.{Statement}
+use Rattle.rv_unit_laws.specs.Tables.{tables}
 use Rattle.rv_map.specs.Map.{Map}
 use Rattle.rv_source_laws.specs.Program.{MaybeMapped, Program, program, tables_in}
-use Rattle.rv_source_laws.specs.Resolves.{defined_name, global_names_of}
+use Rattle.rv_source_laws.specs.Resolves.{global_names_of}
 use Rattle.rv_object.specs.declared.symbol.Definition.{Definition as Defined}
-use Rattle.rv_object.specs.declared.symbol.Definition.TheVariants.{Undefined, InSection}
 use Rattle.rv_object.specs.Object.{Symbol, Object}
 use Rattle.rv_object_laws.specs.Inputs.{Starts}
 use Rattle.rv_object_laws.specs.Names as objects
 use Rattle.rv_object_laws.specs.Names.{is_exported, exported, is_defined, defined_address, offset_address}
 use Rattle.rv_assemble_laws.specs.Sites.{Site}
-use Rattle.rv_assemble_laws.specs.Symbols.{site_at, after_found, assigned_definition, site_definition, local_symbol, global_symbol, references, unnamed_symbols, named_symbols, local_symbols, exports_of, exports, undefined_symbols, distinct_from, missing_name, is_absolute, is_meant, are_together}
-use Rattle.rv_boundary_laws.proofs.Patches.{append_assoc, append_nil}
+use Rattle.rv_assemble_laws.specs.Symbols.{site_definition, global_symbol, exports_of, exports}
+use Rattle.rv_boundary_laws.proofs.Patches.{append_assoc}
 use Rattle.rv_boundary_laws.proofs.Statements.{statement_at, all_statements}
 use Rattle.rv_boundary_laws.proofs.Files.{AreFiles}
 use Rattle.rv_boundary_laws.proofs.Shrunk.{IsObjectOf, AreObjectsOf}

@@ -1,16 +1,16 @@
 -- A padding in code is instructions without effect, of four bytes each and of two at its end.
 
-use Rattle.std.proofs.Common.{◌≡◌, ℕ, zero, suc, ◌+◌, ◌*◌, ◌/◌, ◌%◌, ◌≤◌, Bool, true, false, List, [], ◌∷◌, ◌++◌, length, length-append, map, refl, sym, ap, ◌∙◌, subst, arith, Option, Some, None, pos, ◌⊎◌, inl, inr, lit<}
+use Rattle.std.proofs.Common.{◌≡◌, ℕ, zero, suc, ◌+◌, ◌*◌, ◌/◌, ◌%◌, Bool, true, false, List, [], ◌∷◌, ◌++◌, length, length-append, map, refl, sym, ap, ◌∙◌, subst, arith, Some, pos, inl, inr, lit<}
 use Rattle.std.proofs.lemmas.List.{length-replicate}
 use Rattle.std.proofs.lemmas.Int.{ints}
 use Rattle.std.proofs.lemmas.Bool.{leb-true, leb-false}
-use Rattle.std.specs.Prelude.{⊤, nat_le, replicate, if◌then◌else◌}
+use Rattle.std.specs.Prelude.{nat_le, replicate, if◌then◌else◌}
 use Rattle.std.specs.List.{AllByRecursion}
 use Rattle.rv_isa.specs.declared.instruction.Inst.{Inst}
 use Rattle.rv_isa.specs.Ranges.{IsValid}
 use Rattle.rv_compress.specs.declared.form.Compressed.TheVariants.{Nop}
 use Rattle.rv_compress.specs.Parcel.{IsShortOf}
-use Rattle.rv_pseudo_laws.specs.Code.{Part, Closed}
+use Rattle.rv_pseudo_laws.specs.Code.{Closed}
 use Rattle.rv_pseudo_laws.specs.Filled.{FieldValue, filled}
 use Rattle.rv_patch_laws.specs.Encoded.{IsEncodedIn}
 use Rattle.rv_map.specs.declared.map.Row.{Row}
@@ -39,9 +39,6 @@ in_two : IsEncodedIn no_operation 2 (1 ∷ 0 ∷ [])
 in_two = inr (refl, (1, nop_short, refl))
 
 -- ---- lines
-
-line : ℕ → ℕ → Line
-line address bytes = record { address = address; bytes = bytes; instruction = no_operation }
 
 -- so many of four bytes, and one of two behind them
 abbrev lines_by : ℕ → ℕ → Bool → List Line

@@ -1,6 +1,6 @@
 -- The regions of the program hold the sections of the sources.
 
-use Rattle.std.proofs.Common.{◌≡◌, ℕ, suc, ◌+◌, ◌-◌, ◌%◌, ◌≤◌, Bool, true, false, List, [], ◌∷◌, ◌++◌, length, refl, sym, ap, ◌∙◌, subst, arith, map, max, Some}
+use Rattle.std.proofs.Common.{◌≡◌, ℕ, suc, ◌+◌, ◌-◌, ◌%◌, Bool, true, false, List, [], ◌∷◌, ◌++◌, length, refl, sym, ap, ◌∙◌, subst, arith, map, max, Some}
 use Rattle.std.specs.Prelude.{⊤, ℤ, ◌&&◌, nat_lt, if◌then◌else◌, flat_map, option_and_then}
 use Rattle.std.specs.List.{AllByRecursion, slice_get}
 use Rattle.rv_unit_laws.specs.declared.section_type.SectionType.{SectionType}

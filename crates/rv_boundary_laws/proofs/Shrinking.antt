@@ -1,6 +1,6 @@
 -- An object with the linker's moves made: its places have moved, its paddings are the least, and nothing moves any more.
 
-use Rattle.std.proofs.Common.{◌≡◌, ℕ, zero, suc, ◌+◌, ◌-◌, ◌%◌, ◌≤◌, ◌<◌, Bool, true, false, List, [], ◌∷◌, ◌++◌, map, length, take, drop, refl, sym, ap, ◌∙◌, subst, arith, ℤ, pos, Option, Some, None, option_map}
+use Rattle.std.proofs.Common.{◌≡◌, ℕ, zero, suc, ◌+◌, ◌-◌, ◌%◌, ◌≤◌, Bool, true, false, List, [], ◌∷◌, ◌++◌, map, take, drop, refl, sym, ap, ◌∙◌, subst, arith, ℤ, pos, Option, Some, None, option_map}
 use Rattle.std.proofs.lemmas.Bool.{and_parts}
 use Rattle.std.specs.Prelude.{⊤, ◌^◌, not, ◌&&◌, ◌==◌, IsTrue, is_some, unwrap_or, option_and_then, filter, if◌then◌else◌, bytes_eq, slice_index_or}
 use Rattle.std.specs.List.{AllByRecursion, find, slice_get}
@@ -14,7 +14,7 @@ use Rattle.rv_object.specs.declared.symbol.Definition.TheVariants.{Undefined, Ab
 use Rattle.rv_object.specs.declared.row.Row.{Row}
 use Rattle.rv_object.specs.Object.{Contents, Progbits, Note, Nobits, Relocation, Section, Symbol, Object}
 use Rattle.rv_object.specs.Valid.{is_align}
-use Rattle.rv_object_laws.specs.Moves.{Move, alignments_of, by_place, full_padding, has_padding, plan, moves, new_offset, kept, lost}
+use Rattle.rv_object_laws.specs.Moves.{Move, alignments_of, by_place, has_padding, plan, moves, new_offset, kept, lost}
 use Rattle.rv_object_laws.specs.Inputs.{Starts, InputSection, start_of}
 use Rattle.rv_object_laws.specs.Names.{Place, defined_address, offset_address, symbol_address, symbol_address_by, is_defined, is_global, is_exported, exported, place_in, global_place, symbol_place, no_object, object_at}
 use Rattle.rv_object_laws.specs.Values.{target, own_value, is_high, is_low, high_at, value_in, value_at, paired, value, IsRelocated, patched_at, applied, initial_bytes, linked_bytes}

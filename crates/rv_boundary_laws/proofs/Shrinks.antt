@@ -1,9 +1,9 @@
 -- The objects of sources with the linker's moves made are those of the sources, with the least paddings.
 
-use Rattle.std.proofs.Common.{◌≡◌, ℕ, zero, suc, ◌+◌, ◌-◌, ◌%◌, ◌≤◌, ◌<◌, Bool, true, false, List, [], ◌∷◌, ◌++◌, map, refl, sym, ap, ◌∙◌, subst, arith, Option, Some, None, option_map, ◌⊎◌, inl, inr}
-use Rattle.std.proofs.lemmas.Bool.{and_parts, eqb-true, eq-eqb}
-use Rattle.std.specs.Prelude.{⊤, ◌^◌, ◌&&◌, ◌==◌, if◌then◌else◌, filter, flat_map, bytes_eq, nat_lt}
-use Rattle.std.specs.List.{AllByRecursion, slice_get, find}
+use Rattle.std.proofs.Common.{◌≡◌, ℕ, zero, suc, ◌+◌, ◌-◌, ◌%◌, ◌≤◌, Bool, true, false, List, [], ◌∷◌, ◌++◌, map, refl, sym, ap, ◌∙◌, subst, arith, Option, Some, None, option_map, ◌⊎◌, inl, inr}
+use Rattle.std.proofs.lemmas.Bool.{eqb-true, eq-eqb}
+use Rattle.std.specs.Prelude.{◌&&◌, ◌==◌, if◌then◌else◌, filter, flat_map, bytes_eq, nat_lt}
+use Rattle.std.specs.List.{AllByRecursion, slice_get}
 use Rattle.rv_text_laws.specs.Bytes.{value as digits_value}
 use Rattle.rv_text_laws.specs.Expression.{Primary, Symbol as Named, Literal, Here, Reference}
 use Rattle.rv_text_laws.specs.Values.{Meaning, Known, InSection as InData, Open as OpenAddress, Refused, add}
@@ -13,21 +13,20 @@ use Rattle.rv_unit_laws.specs.Tables.{Tables, NumericLabel, Labelled, Assignment
 use Rattle.rv_source_laws.specs.Located.{has_row}
 use Rattle.rv_source_laws.specs.Resolves.{global_names_of}
 use Rattle.rv_object.specs.declared.symbol.Definition.{Definition as Defined}
-use Rattle.rv_object.specs.declared.symbol.Definition.TheVariants.{Undefined, Absolute, InSection, Skipped}
+use Rattle.rv_object.specs.declared.symbol.Definition.TheVariants.{InSection}
 use Rattle.rv_object.specs.declared.row.Row.{Row}
 use Rattle.rv_object.specs.Object.{Section, Symbol, Object}
-use Rattle.rv_object_laws.specs.Moves.{Move, aligned, by_place, dropped, has_padding, new_offset, plan, moves}
-use Rattle.rv_object_laws.specs.Inputs.{Starts, InputSection, goes_to_text, begins_at, inputs_from, inputs_of, inputs, start_of, size, Stand}
+use Rattle.rv_object_laws.specs.Moves.{aligned, by_place, dropped, has_padding, new_offset, plan, moves}
+use Rattle.rv_object_laws.specs.Inputs.{Starts, InputSection, goes_to_text, begins_at, inputs_from, inputs_of, start_of, size, Stand}
 use Rattle.rv_object_laws.specs.Names.{exported, is_in_text, can_begin}
 use Rattle.rv_object_laws.specs.IsLinkOf.{moves_at}
-use Rattle.rv_assemble_laws.specs.Sites.{Site, Part, parts, sites_in, Tile, end_of}
-use Rattle.rv_assemble_laws.specs.Symbols.{SymbolUse, references_in, site_at, after_site, after_found, assigned_definition, site_definition, global_symbol, exports_of, exports, IsNamed, IsOwn, IsOuter, IsDefinedBy, StandsFor}
+use Rattle.rv_assemble_laws.specs.Sites.{Site, Part, sites_in, Tile, end_of}
+use Rattle.rv_assemble_laws.specs.Symbols.{SymbolUse, references_in, site_at, after_found, assigned_definition, site_definition, global_symbol, exports_of, IsNamed, IsOwn, IsOuter, IsDefinedBy, StandsFor}
 use Rattle.rv_assemble_laws.specs.IsObjectOf.{Numbering, IsNumbered, row_of, rows_at, IsInData, StandsInData, IsSectionOf, AreSectionsOf, IsObjectOf}
 use Rattle.rv_boundary_laws.specs.Joins.{AreObjectsOf}
 use Rattle.rv_boundary_laws.proofs.Settled.{IsSettled, settled, IsSiteIn, sites_are_in}
 use Rattle.rv_boundary_laws.proofs.Known.{all_found}
 use Rattle.rv_boundary_laws.proofs.Sections.{split, join}
-use Rattle.rv_boundary_laws.proofs.Names.{flat_join}
 use Rattle.rv_boundary_laws.proofs.Wholes.{relocated_at}
 use Rattle.rv_boundary_laws.proofs.Exported.{exported_are}
 use Rattle.rv_boundary_laws.proofs.Shrunk as shrunk

@@ -1,8 +1,8 @@
 -- The object of a source whose paddings in code have shrunk to the least: what is left of it where the linker has made its moves.
 -- All else is as in rv_assemble_laws: these are its definitions with such paddings, which no ALIGN marks.
 
-use Rattle.std.specs.Prelude.{◌≡◌, ℕ, zero, suc, ◌+◌, ◌*◌, ◌%◌, ◌≤◌, true, Bool, false, ⊤, List, [], ◌∷◌, flat_map, filter, map, length, Option, None, unwrap_or, if◌then◌else◌}
-use Rattle.std.specs.List.{AllByRecursion, list_any}
+use Rattle.std.specs.Prelude.{◌≡◌, ℕ, zero, suc, ◌+◌, ◌*◌, ◌%◌, ◌≤◌, true, Bool, false, ⊤, List, [], ◌∷◌, flat_map, map, length, Option, None, unwrap_or, if◌then◌else◌}
+use Rattle.std.specs.List.{AllByRecursion}
 use Rattle.rv_text_laws.specs.Values.{Value, Constant}
 use Rattle.rv_statement.specs.Statement.{StatementKind, Label, Numbered, Instruction, Directs, Statement, Expression, Directive, Aligns_to_power, Aligns_to_bytes, Values, Strings, Zeros}
 use Rattle.rv_unit_laws.specs.Contributions.{Contribution, Nothing, Bytes, Zero_bytes, Alignment, contribution}
@@ -10,7 +10,6 @@ use Rattle.rv_unit_laws.specs.Sections.{Section as SourceSection, is_nobits, goe
 use Rattle.rv_unit_laws.specs.Tables.{Tables, at_start, tables, alignment_of, alignment_at, opened_of, padding, string_bytes}
 use Rattle.rv_pseudo_laws.specs.Code.{code}
 use Rattle.rv_source_laws.specs.Located.{located_from}
-use Rattle.rv_source_laws.specs.Compressed.{is_compressed_code}
 use Rattle.rv_source_laws.specs.Fits.{is_low}
 use Rattle.rv_object.specs.Object.{Section, Symbol, Object}
 use Rattle.rv_object.specs.Padding.{no_operations, operations_in}

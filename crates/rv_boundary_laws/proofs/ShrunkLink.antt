@@ -1,9 +1,9 @@
 -- Objects with the linker's moves made are linked to the same program.
 
-use Rattle.std.proofs.Common.{◌≡◌, ℕ, suc, ◌+◌, ◌-◌, ◌%◌, ◌≤◌, Bool, true, false, List, [], ◌∷◌, ◌++◌, map, length, refl, sym, ap, ◌∙◌, subst, arith, Option, Some, None, option_map}
-use Rattle.std.specs.Prelude.{⊤, not, ◌&&◌, ◌||◌, ◌==◌, nat_le, nat_lt, max, IsTrue, option_and_then, filter, flat_map, if◌then◌else◌, bytes_eq, codes}
+use Rattle.std.proofs.Common.{◌≡◌, ℕ, suc, ◌+◌, ◌-◌, ◌≤◌, Bool, true, false, List, [], ◌∷◌, ◌++◌, map, length, refl, sym, ap, ◌∙◌, subst, arith, Option, Some, None, option_map}
+use Rattle.std.specs.Prelude.{⊤, not, ◌&&◌, ◌||◌, nat_le, nat_lt, max, IsTrue, option_and_then, filter, flat_map, if◌then◌else◌, bytes_eq, codes}
 use Rattle.std.specs.List.{AllByRecursion, find, list_all, list_any, slice_get}
-use Rattle.rv_map.specs.Map.{Map, Global}
+use Rattle.rv_map.specs.Map.{Global}
 use Rattle.rv_map.specs.declared.map.Region.{Region}
 use Rattle.rv_map.specs.declared.map.Row.{Row as MapRow}
 use Rattle.rv_image.specs.Linked.{Linked}
@@ -15,7 +15,7 @@ use Rattle.rv_object_laws.specs.Names.{defined_address, exported, shown, globals
 use Rattle.rv_object_laws.specs.Values.{initial_bytes, linked_bytes, IsRelocated}
 use Rattle.rv_object_laws.specs.IsLinkOf.{moves_at, map_row, row_in, inserted_row, by_ordinal, rows_of, is_loaded, IsLinkOf}
 use Rattle.rv_boundary_laws.proofs.Sections.{join}
-use Rattle.rv_boundary_laws.proofs.Shrinking.{shrunk_relocations, shrunk_contents, shrunk_section, sections_from, moves_in, shrunk_definition, shrunk_symbol, shrunk_row, shrunk_object, shrunk_objects, shrunk_input, none_left, stays, moves_none, section_is, defined_same, exported_same, AreAt, all_at, relocated_all, linked_same}
+use Rattle.rv_boundary_laws.proofs.Shrinking.{shrunk_contents, shrunk_section, sections_from, moves_in, shrunk_definition, shrunk_symbol, shrunk_row, shrunk_object, shrunk_objects, shrunk_input, none_left, stays, moves_none, section_is, defined_same, exported_same, AreAt, all_at, relocated_all, linked_same}
 
 -- what a section owes so that its moves change no other
 pub record IsTidy (start : ℕ) (s : Section) : Type 0 where
@@ -192,13 +192,13 @@ module _ (starts : Starts) where
 
     still_row : (start : ℕ) (r : Row) (ms : List Move)
         → map_row file start [] (record {
-      line = r.line;
-      ordinal = r.ordinal;
-      section = r.section;
-      offset = new_offset ms r.offset;
-      bytes = new_offset ms (r.offset + r.bytes) - new_offset ms r.offset;
-      instructions = r.instructions - lost ms r.offset r.bytes;
-    })
+          line = r.line;
+          ordinal = r.ordinal;
+          section = r.section;
+          offset = new_offset ms r.offset;
+          bytes = new_offset ms (r.offset + r.bytes) - new_offset ms r.offset;
+          instructions = r.instructions - lost ms r.offset r.bytes;
+        })
         ≡ map_row file start ms r
     still_row start r ms =
         let x = new_offset ms r.offset in

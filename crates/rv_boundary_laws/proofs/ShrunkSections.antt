@@ -1,21 +1,19 @@
 -- A section of an object with the linker's moves made is that of its source, with the least paddings.
 
-use Rattle.std.proofs.Common.{◌≡◌, ℕ, zero, suc, ◌+◌, ◌-◌, ◌%◌, ◌≤◌, ◌<◌, Bool, true, false, List, [], ◌∷◌, ◌++◌, length, length-append, map, refl, sym, ap, ◌∙◌, subst, arith, Option, Some, None, option_map, ◌⊎◌, inl, inr}
-use Rattle.std.proofs.lemmas.Bool.{and_parts, eqb-true}
-use Rattle.std.specs.Prelude.{⊤, ◌^◌, ◌&&◌, ◌==◌, max, if◌then◌else◌, filter, flat_map}
-use Rattle.std.specs.List.{AllByRecursion, slice_get, find}
-use Rattle.rv_text_laws.specs.Values.{add}
-use Rattle.rv_statement.specs.Statement.{StatementKind, Label, Numbered, Instruction, Directs, Statement, Enters, Opens, Globl, Local, Sets, Aligns_to_power, Aligns_to_bytes, Values, Strings, Zeros, Chooses, Ignored}
+use Rattle.std.proofs.Common.{◌≡◌, ℕ, zero, suc, ◌+◌, ◌-◌, ◌%◌, ◌≤◌, ◌<◌, Bool, true, false, List, [], ◌∷◌, ◌++◌, length, map, refl, sym, ap, ◌∙◌, subst, arith, ◌⊎◌, inl, inr}
+use Rattle.std.proofs.lemmas.Bool.{and_parts}
+use Rattle.std.specs.Prelude.{◌&&◌, max, if◌then◌else◌, filter, flat_map}
+use Rattle.std.specs.List.{AllByRecursion}
+use Rattle.rv_statement.specs.Statement.{StatementKind, Label, Numbered, Instruction, Directs, Enters, Opens, Globl, Local, Sets, Aligns_to_power, Aligns_to_bytes, Values, Strings, Zeros, Chooses, Ignored}
 use Rattle.rv_unit_laws.specs.declared.section_type.SectionType.{SectionType}
 use Rattle.rv_unit_laws.specs.declared.section_type.SectionType.TheVariants as types
-use Rattle.rv_unit_laws.specs.Sections.{Section as SourceSection, is_nobits, is_nobits_type, goes_to_text as source_text}
+use Rattle.rv_unit_laws.specs.Sections.{Section as SourceSection, is_nobits_type, goes_to_text as source_text}
 use Rattle.rv_unit_laws.specs.Tables.{Tables}
-use Rattle.rv_object.specs.Object.{Contents, Progbits, Note, Nobits, Relocation, Section, Symbol, Object, size_of}
+use Rattle.rv_object.specs.Object.{Contents, Progbits, Note, Nobits, Section, Symbol, size_of}
 use Rattle.rv_object.specs.Padding.{no_operations}
 use Rattle.rv_object_laws.specs.Moves.{Move, alignments_of, by_place, dropped, new_offset, kept, has_padding, plan, moves, lost, aligned}
 use Rattle.rv_object_laws.specs.Inputs.{goes_to_text, raised, begins_at, zeros}
 use Rattle.rv_object_laws.specs.Values.{initial_bytes}
-use Rattle.rv_object_laws.specs.IsLinkOf.{moves_at}
 use Rattle.rv_assemble_laws.specs.Templates.{Template, Fixed, Coded, Open, IsTemplate, padding_templates}
 use Rattle.rv_assemble_laws.specs.Sites.{Site, Part, form, part_of, part_bytes, parts_of, parts, templates, sites_in, Tile, end_of, HasSize}
 use Rattle.rv_assemble_laws.specs.Symbols.{references_in}
@@ -24,7 +22,7 @@ use Rattle.rv_assemble_laws.proofs.Filled.{filled as filled_before}
 use Rattle.rv_boundary_laws.proofs.Settled.{IsSiteIn, bytes_append, filled as filled_after}
 use Rattle.rv_boundary_laws.proofs.Sections.{split, join, multiple_from}
 use Rattle.rv_boundary_laws.proofs.Shrunk as shrunk
-use Rattle.rv_boundary_laws.proofs.Shrinking.{shrunk_relocations, shrunk_contents, shrunk_section, moves_in, none_left}
+use Rattle.rv_boundary_laws.proofs.Shrinking.{shrunk_relocations, shrunk_contents, shrunk_section, none_left}
 use Rattle.rv_boundary_laws.proofs.ShrunkLink.{IsTidy}
 use Rattle.rv_boundary_laws.proofs.Pads.{sort_of}
 use Rattle.rv_boundary_laws.proofs.Walk as walk
@@ -348,28 +346,20 @@ module _ (t : Tables) (sites sites' : List Site) (number : Numbering) (symbols s
     pub tidy : IsTidy start x
     pub evens : AllByRecursion (λ (z : Site). source_text s ≡ true → (z.offset % 2 ≡ 0) × (new_offset ms z.offset % 2 ≡ 0)) zs
     pub counted : AllByRecursion (IsCounted t ms) zs
-    -- where something moves there is code
-    pub moved : (ms ≡ []) ⊎ (s.executable ≡ true)
 
   pub left : IsLeft
   left = go s.loaded refl
     where
-      either : (b : Bool) → s.executable ≡ b → s.loaded ≡ true → (ms ≡ []) ⊎ (s.executable ≡ true)
-      either true e l = inr e
-      either false e l = inl (moves_are l ∙ ap (plan start 0) (aside_none e 0 zs h.tile sorted))
-
       go : (b : Bool) → s.loaded ≡ b → IsLeft
       go true l = record {
         section = subst (λ ys. shrunk.IsSectionOf t sites' number symbols' j s ys (shrunk_section start x)) (sym same) (section_left l);
         tidy = tidy_left l;
         evens = evens_left l;
         counted = counted_all t ms j s x.alignment 0 zs inside h.tile h.sizes (bytes_stay t number s x.alignment start ms (begins l) 0 0 zs (st l));
-        moved = either s.executable refl l;
       }
       go false l = record {
         section = subst (λ ys. shrunk.IsSectionOf t sites' number symbols' j s ys (shrunk_section start x)) (sym (same ∙ same_sites l)) (section_aside l);
         tidy = tidy_aside l;
         evens = evens_aside l zs;
         counted = counted_all t ms j s x.alignment 0 zs inside h.tile h.sizes (stay_aside l zs);
-        moved = inl (no_moves l);
       }

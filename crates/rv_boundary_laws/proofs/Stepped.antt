@@ -1,26 +1,25 @@
 -- What is left of a section: its statements still follow one another, and have their bytes, sizes and relocations.
 
-use Rattle.std.proofs.Common.{◌≡◌, ℕ, zero, suc, ◌+◌, ◌-◌, ◌%◌, ◌≤◌, ◌<◌, Bool, true, false, List, [], ◌∷◌, ◌++◌, length, length-append, map, take, drop, refl, sym, ap, ◌∙◌, subst, arith, Option, Some, None, ◌⊎◌, inl, inr, mod-eq_of_lt}
+use Rattle.std.proofs.Common.{◌≡◌, ℕ, zero, suc, ◌+◌, ◌-◌, ◌%◌, ◌≤◌, ◌<◌, Bool, true, false, List, [], ◌∷◌, ◌++◌, length, length-append, map, take, drop, refl, sym, ap, ◌∙◌, subst, arith, inl, inr, mod-eq_of_lt}
 use Rattle.std.proofs.lemmas.Bool.{ltb-true, ltb-false}
-use Rattle.std.specs.Prelude.{⊤, not, nat_lt, max, if◌then◌else◌, filter, flat_map}
+use Rattle.std.specs.Prelude.{not, nat_lt, max, if◌then◌else◌, filter, flat_map}
 use Rattle.std.specs.List.{AllByRecursion}
 use Rattle.rv_unit_laws.specs.Sections.{Section as SourceSection}
 use Rattle.rv_unit_laws.specs.Tables.{Tables}
 use Rattle.rv_object.specs.Object.{Relocation}
 use Rattle.rv_object.specs.Padding.{no_operations}
-use Rattle.rv_object_laws.specs.Moves.{Move, new_offset, kept, aligned, has_padding, alignment_of, plan, lost}
+use Rattle.rv_object_laws.specs.Moves.{Move, new_offset, kept, aligned, has_padding, alignment_of, plan}
 use Rattle.rv_object_laws.specs.Inputs.{raised}
-use Rattle.rv_assemble_laws.specs.Templates.{Template, Fixed, Coded, Open, template_fields, align_field}
+use Rattle.rv_assemble_laws.specs.Templates.{Fixed, Open, template_fields}
 use Rattle.rv_assemble_laws.specs.Sites.{Site, Part, form, part_of, part_bytes, parts_of, parts, templates, end_of}
 use Rattle.rv_assemble_laws.specs.IsObjectOf.{Numbering, relocation_at, relocations_from}
-use Rattle.rv_boundary_laws.proofs.Patches.{append_assoc, append_nil}
+use Rattle.rv_boundary_laws.proofs.Patches.{append_nil}
 use Rattle.rv_boundary_laws.proofs.Settled.{bytes_append}
 use Rattle.rv_boundary_laws.proofs.Sections.{split, join}
-use Rattle.rv_boundary_laws.proofs.Fielded.{IsPlain}
 use Rattle.rv_boundary_laws.proofs.Nops.{nops_long}
 use Rattle.rv_boundary_laws.proofs.Shrunk as shrunk
 use Rattle.rv_boundary_laws.proofs.Shrinking.{shrunk_relocation, shrunk_relocations}
-use Rattle.rv_boundary_laws.proofs.Pads.{IsPower, by_power, at, padded, IsPlainSite, IsPadSite}
+use Rattle.rv_boundary_laws.proofs.Pads.{by_power}
 use Rattle.rv_boundary_laws.proofs.Walk as walk
 use Rattle.rv_boundary_laws.proofs.Walk.{Ahead, plan_ahead, align_at, alignment_is, power_some, kept_front, drop_past, relocations_join, parts_none, of_ordinal, pads, pads_past, pads_plain, pads_pad, pad_parts}
 
@@ -45,9 +44,6 @@ shrunk_join : (ms : List Move) (xs ys : List Relocation) → shrunk_relocations 
 shrunk_join ms [] ys = refl
 shrunk_join ms (x ∷ xs) ys = go (has_padding x) (shrunk_join ms xs ys)
   where
-    F : List Relocation → List Relocation
-    F rs = filter (λ r. not (has_padding r)) rs
-
     go : (b : Bool) → map (shrunk_relocation ms) (filter (λ r. not (has_padding r)) (xs ++ ys)) ≡ shrunk_relocations ms xs ++ shrunk_relocations ms ys
         → map (shrunk_relocation ms) (if not b then x ∷ filter (λ r. not (has_padding r)) (xs ++ ys) else filter (λ r. not (has_padding r)) (xs ++ ys))
         ≡ map (shrunk_relocation ms) (if not b then x ∷ filter (λ r. not (has_padding r)) xs else filter (λ r. not (has_padding r)) xs) ++ shrunk_relocations ms ys

@@ -31,11 +31,11 @@ linked = record {
     «data» = (omega arith, omega arith);
     bss = (omega arith, omega arith);
     entry = omega arith;
-    gaps = tt;
+    gaps = ((omega arith, omega arith), tt);
     globals = ((refl, omega arith), ((refl, omega arith), ((refl, omega arith), ((refl, omega arith), ((refl, omega arith), ((refl, omega arith), ((refl, omega arith), ((refl, omega arith), ((refl, omega arith), tt)))))))));
-    rows = ((omega arith, omega arith, omega arith, omega arith, omega arith, omega arith), ((omega arith, omega arith, omega arith, omega arith, omega arith, omega arith), ((omega arith, omega arith, omega arith, omega arith, omega arith, omega arith), ((omega arith, omega arith, omega arith, omega arith, omega arith, omega arith), ((omega arith, omega arith, omega arith, omega arith, omega arith, omega arith), ((omega arith, omega arith, omega arith, omega arith, omega arith, omega arith), ((omega arith, omega arith, omega arith, omega arith, omega arith, omega arith), ((omega arith, omega arith, omega arith, omega arith, omega arith, omega arith), ((omega arith, omega arith, omega arith, omega arith, omega arith, omega arith), ((omega arith, omega arith, omega arith, omega arith, omega arith, omega arith), ((omega arith, omega arith, omega arith, omega arith, omega arith, omega arith), ((omega arith, omega arith, omega arith, omega arith, omega arith, omega arith), ((omega arith, omega arith, omega arith, omega arith, omega arith, omega arith), tt)))))))))))));
+    rows = ((omega arith, omega arith, omega arith, omega arith, omega arith, omega arith), ((omega arith, omega arith, omega arith, omega arith, omega arith, omega arith), ((omega arith, omega arith, omega arith, omega arith, omega arith, omega arith), ((omega arith, omega arith, omega arith, omega arith, omega arith, omega arith), ((omega arith, omega arith, omega arith, omega arith, omega arith, omega arith), ((omega arith, omega arith, omega arith, omega arith, omega arith, omega arith), ((omega arith, omega arith, omega arith, omega arith, omega arith, omega arith), ((omega arith, omega arith, omega arith, omega arith, omega arith, omega arith), ((omega arith, omega arith, omega arith, omega arith, omega arith, omega arith), ((omega arith, omega arith, omega arith, omega arith, omega arith, omega arith), ((omega arith, omega arith, omega arith, omega arith, omega arith, omega arith), ((omega arith, omega arith, omega arith, omega arith, omega arith, omega arith), ((omega arith, omega arith, omega arith, omega arith, omega arith, omega arith), ((omega arith, omega arith, omega arith, omega arith, omega arith, omega arith), ((omega arith, omega arith, omega arith, omega arith, omega arith, omega arith), tt)))))))))))))));
   };
-  relocated = (tt, ((record { resolved = refl; found = refl; alone = λ e. absurd (cc); takes = record { range = (omega arith, omega arith); even = λ e. absurd (cc) } }, (record { resolved = refl; found = refl; alone = λ e. absurd (cc); takes = record { range = tt; even = λ e. absurd (cc) } }, (record { resolved = refl; found = refl; alone = λ e. absurd (cc); takes = record { range = tt; even = λ e. absurd (cc) } }, (record { resolved = refl; found = refl; alone = λ e. absurd (cc); takes = record { range = tt; even = λ e. absurd (cc) } }, (record { resolved = refl; found = refl; alone = λ e. absurd (cc); takes = record { range = tt; even = λ e. absurd (cc) } }, tt))))), (tt, ((record { resolved = refl; found = refl; alone = λ e. absurd (cc); takes = record { range = (omega arith, omega arith); even = λ e. absurd (cc) } }, tt), tt))));
+  relocated = (tt, ((record { resolved = refl; found = refl; alone = λ e. absurd (cc); takes = record { range = (omega arith, omega arith); even = λ e. absurd (cc) } }, (record { resolved = refl; found = refl; alone = λ e. absurd (cc); takes = record { range = tt; even = λ e. absurd (cc) } }, (record { resolved = refl; found = refl; alone = λ e. absurd (cc); takes = record { range = tt; even = λ e. absurd (cc) } }, (record { resolved = refl; found = refl; alone = λ e. absurd (cc); takes = record { range = tt; even = λ e. absurd (cc) } }, (record { resolved = refl; found = refl; alone = λ e. absurd (cc); takes = record { range = tt; even = λ e. absurd (cc) } }, tt))))), (((record { resolved = refl; found = refl; alone = λ e. absurd (cc); takes = record { range = tt; even = λ e. absurd (cc) } }), tt), ((record { resolved = refl; found = refl; alone = λ e. absurd (cc); takes = record { range = (omega arith, omega arith); even = λ e. absurd (cc) } }, tt), tt))));
   text_bytes = refl;
   rodata_bytes = refl;
   data_bytes = refl;

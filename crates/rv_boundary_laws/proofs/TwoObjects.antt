@@ -55,7 +55,6 @@ first_is = record {
       sizes = ((λ e. (refl, refl)), ((λ e. (refl, refl)), ((λ e. (refl, refl)), ((λ e. ecall), tt))));
       fields = (tt, tt);
       short = λ e. omega arith;
-      low = λ e. omega arith;
     },
     (
       record {
@@ -73,7 +72,6 @@ first_is = record {
         sizes = ((λ e. (refl, refl)), ((λ e. (refl, refl)), ((λ e. (refl, refl)), ((λ e. (refl, refl)), ((λ e. (refl, refl)), ((λ e. (refl, refl)), tt))))));
         fields = (inl refl, (inr refl, (inr (inr (inl refl)), (inr refl, tt))));
         short = λ e. omega arith;
-        low = λ e. absurd (cc);
       },
       tt,
     ),
@@ -81,6 +79,15 @@ first_is = record {
   symbols = refl;
   rows = refl;
   rvc = refl;
+}
+
+ecall_there : IsCode (form (tables second_source) (nth second_sites 13).located) false Ecall [] 4 ((0x73 ∷ 0 ∷ 0 ∷ 0 ∷ []) ∷ []) 1
+ecall_there = record {
+  ps = Closed inst.Ecall ∷ [];
+  parts = refl;
+  coded_as = ((tt, refl, inl (refl, refl)), tt);
+  size = refl;
+  count = refl;
 }
 
 pub second_is : IsObjectOf second_source second_object
@@ -101,14 +108,13 @@ second_is = record {
       alignment = refl;
       some = omega arith;
       code = λ e f. absurd (cc);
-      tile = (refl, refl, tt);
+      tile = (refl, refl, (refl, refl, (refl, refl, (refl, refl, (refl, refl, tt)))));
       contents = refl;
       relocations = refl;
-      numbered = λ e. tt;
-      sizes = ((λ e. (refl, refl)), tt);
-      fields = tt;
+      numbered = λ e. (tt, (tt, tt));
+      sizes = ((λ e. (refl, refl)), ((λ e. (refl, refl)), ((λ e. (refl, refl)), ((λ e. ecall_there), ((λ e. (refl, (omega arith, refl), (refl, refl))), tt)))));
+      fields = (tt, (tt, tt));
       short = λ e. omega arith;
-      low = λ e. omega arith;
     },
     (
       record {
@@ -126,7 +132,6 @@ second_is = record {
         sizes = ((λ e. (refl, refl)), ((λ e. (refl, refl)), ((λ e. (refl, refl)), ((λ e. (refl, refl)), ((λ e. (refl, refl)), ((λ e. (refl, refl)), ((λ e. (refl, refl)), ((λ e. (refl, refl)), tt))))))));
         fields = (tt, (tt, (inl refl, tt)));
         short = λ e. omega arith;
-        low = λ e. absurd (cc);
       },
       (
         record {
@@ -144,7 +149,6 @@ second_is = record {
           sizes = ((λ e. (refl, refl)), ((λ e. (refl, refl)), tt));
           fields = (tt, tt);
           short = λ e. omega arith;
-          low = λ e. absurd (cc);
         },
         tt,
       ),

@@ -1,10 +1,10 @@
 -- The statements of a section as the linker moves them: each stands where what is kept before it ends.
 
-use Rattle.std.proofs.Common.{◌≡◌, ℕ, zero, suc, ◌+◌, ◌-◌, ◌*◌, ◌/◌, ◌%◌, ◌≤◌, ◌<◌, Bool, true, false, List, [], ◌∷◌, ◌++◌, length, length-append, map, take, drop, refl, sym, ap, ◌∙◌, subst, arith, ℤ, pos, Option, Some, None, ◌⊎◌, inl, inr}
+use Rattle.std.proofs.Common.{◌≡◌, ℕ, suc, ◌+◌, ◌-◌, ◌%◌, ◌≤◌, ◌<◌, Bool, true, false, List, [], ◌∷◌, ◌++◌, length, length-append, map, take, drop, refl, sym, ap, ◌∙◌, subst, arith, pos, Some, None, ◌⊎◌, inl, inr}
 use Rattle.std.proofs.lemmas.Bool.{and_parts, lt-ltb, ltb-true, le-leb, lt-leb}
 use Rattle.std.proofs.lemmas.List.Sums.{sum_by-cons}
-use Rattle.std.specs.Prelude.{⊤, ◌&&◌, ◌==◌, not, nat_lt, nat_le, min, if◌then◌else◌, filter, flat_map, unwrap_or}
-use Rattle.std.specs.List.{AllByRecursion, find}
+use Rattle.std.specs.Prelude.{◌&&◌, ◌==◌, nat_lt, nat_le, min, if◌then◌else◌, filter, flat_map}
+use Rattle.std.specs.List.{AllByRecursion}
 use Rattle.rv_isa.specs.declared.kind.Kind.{Kind}
 use Rattle.rv_isa.specs.declared.kind.Kind.TheVariants.{Align, Abs32, Abs64, Add8, Add16, Add32, Add64, Sub8, Sub16, Sub32, Sub64}
 use Rattle.rv_text_laws.specs.Values.{Value, Constant, Symbolic, Difference, Faulty}
@@ -488,7 +488,10 @@ module _ (t : Tables) (number : Numbering) where
       steps o gone [] tile h low still evens before losses =
           ap (λ n. o - n) (before o (omega arith) ∙ (let f : gone + 0 ≡ gone = omega arith in f))
       steps o gone (z ∷ zs) (off, bytes, tile) (inl h, hs) low still evens before losses = (
-        off, bytes, low, evens,
+        off,
+        bytes,
+        low,
+        evens,
         inl (
           step_plain o gone z zs off bytes low still evens before losses h,
           steps (o + z.bytes) gone zs tile hs (omega (arith, low)) still
@@ -502,7 +505,10 @@ module _ (t : Tables) (number : Numbering) where
           let fit = s.fits in
           let even = s.least_even in
           let whole : z.bytes % 2 ≡ 0 = ap (λ n. n % 2) h.full ∙ (power_some h.a h.power).1 in (
-            off, bytes, low, evens,
+            off,
+            bytes,
+            low,
+            evens,
             inr (
               s,
               steps (o + z.bytes) (gone + (z.bytes - s.least)) zs tile hs (omega (arith, low, fit))

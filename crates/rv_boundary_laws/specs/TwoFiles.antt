@@ -1,15 +1,15 @@
--- Two files, worked by hand: references across them, a local name that both have, and a section of
--- notes.
+-- Two files, worked by hand: references across them, a local name that both have, a section of
+-- notes, and an alignment in code, of whose six bytes two are dropped.
 
-use Rattle.std.specs.Prelude.{ℕ, zero, suc, pos, true, false, List, [], ◌∷◌, Some, codes, bytes_eq, if◌then◌else◌}
+use Rattle.std.specs.Prelude.{ℕ, zero, suc, pos, true, false, List, [], ◌∷◌, Some, None, codes, bytes_eq, if◌then◌else◌}
 use Rattle.rv_isa.specs.declared.kind.Kind.{Kind}
-use Rattle.rv_isa.specs.declared.kind.Kind.TheVariants.{Abs32, Abs64, Add32, Sub32}
+use Rattle.rv_isa.specs.declared.kind.Kind.TheVariants.{Align, Abs32, Abs64, Add32, Sub32}
 use Rattle.rv_text_laws.specs.declared.operator.BinaryOperator.TheVariants.{Add, Subtract}
 use Rattle.rv_text_laws.specs.Expression.{Primary, Literal, Symbol as Named, Here, Leaf, Binary}
 use Rattle.rv_statement.specs.declared.directive.Choice.TheVariants.{Norvc}
-use Rattle.rv_statement.specs.declared.directive.Standard.TheVariants.{Data}
+use Rattle.rv_statement.specs.declared.directive.Standard.TheVariants.{Text, Data}
 use Rattle.rv_statement.specs.declared.mnemonic.Mnemonic.TheVariants.{Ecall}
-use Rattle.rv_statement.specs.Statement.{StatementKind, Label, Instruction, Directs, Statement, Expression, Enters, Opens, Globl, Sets, Chooses, Values}
+use Rattle.rv_statement.specs.Statement.{StatementKind, Label, Instruction, Directs, Statement, Expression, Enters, Opens, Globl, Sets, Aligns_to_bytes, Chooses, Values}
 use Rattle.rv_unit_laws.specs.Tables.{at_start}
 use Rattle.rv_source_laws.specs.Located.{Located, located_from}
 use Rattle.rv_map.specs.Map.{Map, Global as Shown}
@@ -62,6 +62,10 @@ first_source =
 --     .set c, 5
 --     .section .note.tool, "", @note
 --     .byte 9
+--     .text
+--     .option norvc
+--     ecall
+--     .balign 8
 abbrev pub second_source : List Statement
 second_source =
     said 1 (Directs (Globl (codes "f" ∷ codes "g" ∷ codes "c" ∷ [])))
@@ -75,19 +79,23 @@ second_source =
     ∷ said 6 (Directs (Sets (codes "c") (Leaf (Literal 5))))
     ∷ said 7 (Directs (Opens (codes ".note.tool") (Some []) (Some (codes "note"))))
     ∷ said 8 (Directs (Values 1 (Leaf (Literal 9) ∷ [])))
+    ∷ said 9 (Directs (Enters Text))
+    ∷ said 10 (Directs (Chooses Norvc))
+    ∷ said 11 (Instruction Ecall [])
+    ∷ said 12 (Directs (Aligns_to_bytes (Leaf (Literal 8))))
     ∷ []
 
 -- ---- the objects
 
-abbrev text : List ℕ → Section
-text bytes = record {
+abbrev text : List ℕ → ℕ → List Relocation → Section
+text bytes alignment relocations = record {
   name = codes ".text";
   loaded = true;
   executable = true;
   writable = false;
   contents = Progbits bytes;
-  alignment = 1;
-  relocations = [];
+  alignment = alignment;
+  relocations = relocations;
 }
 
 abbrev variables : List ℕ → List Relocation → Section
@@ -117,6 +125,9 @@ abbrev relocation : ℕ → Kind → ℕ → ℕ → Relocation
 relocation place kind symbol addend =
     record { place = place; kind = kind; symbol = Some symbol; addend = pos addend }
 
+abbrev padding : ℕ → ℕ → Relocation
+padding place bytes = record { place = place; kind = Align; symbol = None; addend = pos bytes }
+
 abbrev symbol : List ℕ → Binding → Definition → Symbol
 symbol n binding definition = record { name = n; binding = binding; definition = definition }
 
@@ -132,7 +143,7 @@ row line ordinal section offset bytes instructions = record {
 
 abbrev pub first_object : Object
 first_object = record {
-  sections = text (0x73 ∷ 0 ∷ 0 ∷ 0 ∷ [])
+  sections = text (0x73 ∷ 0 ∷ 0 ∷ 0 ∷ []) 1 []
       ∷ variables
       (0 ∷ 0 ∷ 0 ∷ 0 ∷ 0 ∷ 0 ∷ 0 ∷ 0 ∷ 0 ∷ 0 ∷ 0 ∷ 0 ∷ 0 ∷ 0 ∷ 0 ∷ 0 ∷ 0 ∷ 0 ∷ 0 ∷ 0 ∷ 0 ∷ 0 ∷
       0 ∷ 0 ∷ [])
@@ -154,7 +165,7 @@ first_object = record {
 
 abbrev pub second_object : Object
 second_object = record {
-  sections = text []
+  sections = text (0x73 ∷ 0 ∷ 0 ∷ 0 ∷ 0x13 ∷ 0 ∷ 0 ∷ 0 ∷ 1 ∷ 0 ∷ []) 8 (padding 4 6 ∷ [])
       ∷ variables (7 ∷ 8 ∷ 0 ∷ 0 ∷ 0 ∷ 0 ∷ []) (relocation 2 Abs32 0 0 ∷ [])
       ∷ notes (9 ∷ [])
       ∷ [];
@@ -164,7 +175,7 @@ second_object = record {
       ∷ symbol (codes "c") Global (Absolute 5)
       ∷ [];
   rows = row 3 3 1 0 0 0 ∷ row 3 4 1 0 1 0 ∷ row 4 5 1 1 0 0 ∷ row 4 6 1 1 1 0 ∷ row 5 7 1 2 0 0 ∷
-      row 5 8 1 2 4 0 ∷ [];
+      row 5 8 1 2 4 0 ∷ row 11 14 0 0 4 1 ∷ row 12 15 0 4 6 2 ∷ [];
   rvc = false;
 }
 
@@ -188,15 +199,15 @@ map_row file line ordinal address bytes instructions = record {
 
 abbrev pub two_files_map : Map
 two_files_map = record {
-  text = region 0x10000 0x10004;
+  text = region 0x10000 0x10010;
   rodata = region 0x11000 0x11000;
   «data» = region 0x11000 0x1101e;
   bss = region 0x1101e 0x1101e;
   entry = 0x10000;
-  gaps = [];
+  gaps = region 0x10004 0x10008 ∷ [];
   globals = global (codes "_start") 0x10000 ∷ global (codes "f") 0x11019 ∷
       global (codes "g") 0x1101a ∷ global (codes "c") 5
-      ∷ global (codes "_etext") 0x10004 ∷ global (codes "__bss_start") 0x1101e ∷
+      ∷ global (codes "_etext") 0x10010 ∷ global (codes "__bss_start") 0x1101e ∷
       global (codes "_edata") 0x1101e
       ∷ global (codes "_end") 0x1101e ∷ global (codes "__global_pointer$") 0x11800 ∷ [];
   rows = map_row 1 3 3 0x10000 0 0 ∷ map_row 1 3 4 0x10000 4 1 ∷ map_row 1 5 6 0x11000 0 0 ∷
@@ -204,14 +215,15 @@ two_files_map = record {
       ∷ map_row 1 6 8 0x11004 8 0 ∷ map_row 1 7 9 0x1100c 4 0 ∷ map_row 1 8 10 0x11010 8 0
       ∷ map_row 2 3 3 0x11018 0 0 ∷ map_row 2 3 4 0x11018 1 0 ∷ map_row 2 4 5 0x11019 0 0 ∷
       map_row 2 4 6 0x11019 1 0
-      ∷ map_row 2 5 7 0x1101a 0 0 ∷ map_row 2 5 8 0x1101a 4 0 ∷ [];
+      ∷ map_row 2 5 7 0x1101a 0 0 ∷ map_row 2 5 8 0x1101a 4 0
+      ∷ map_row 2 11 14 0x10008 4 1 ∷ map_row 2 12 15 0x1000c 4 1 ∷ [];
 }
 
 -- `.word f` is 11019h, `.dword v + 4` 11004h, `.word f - g` -1, `.dword .` 11010h, the other file's
 -- `.word v` 11018h
 abbrev pub two_files : Linked
 two_files = record {
-  text = 0x73 ∷ 0 ∷ 0 ∷ 0 ∷ [];
+  text = 0x73 ∷ 0 ∷ 0 ∷ 0 ∷ 0 ∷ 0 ∷ 0 ∷ 0 ∷ 0x73 ∷ 0 ∷ 0 ∷ 0 ∷ 0x13 ∷ 0 ∷ 0 ∷ 0 ∷ [];
   rodata = [];
   «data» = 0x19 ∷ 0x10 ∷ 1 ∷ 0 ∷ 0x04 ∷ 0x10 ∷ 1 ∷ 0 ∷ 0 ∷ 0 ∷ 0 ∷ 0 ∷ 0xff ∷ 0xff ∷ 0xff ∷ 0xff
       ∷ 0x10 ∷ 0x10 ∷ 1 ∷ 0 ∷ 0 ∷ 0 ∷ 0 ∷ 0 ∷ 7 ∷ 8 ∷ 0x18 ∷ 0x10 ∷ 1 ∷ 0 ∷ [];
@@ -260,7 +272,8 @@ abbrev pub second_sites : List Site
 second_sites =
     sites_of (located_from 1 1 at_start second_source)
     (size 0 0 0 ∷ size 0 0 0 ∷ size 0 0 0 ∷ size 0 1 0 ∷ size 1 0 0 ∷ size 1 1 0 ∷ size 2 0 0 ∷
-    size 2 4 0 ∷ size 6 0 0 ∷ size 0 0 0 ∷ size 0 1 0 ∷ [])
+    size 2 4 0 ∷ size 6 0 0 ∷ size 0 0 0 ∷ size 0 1 0 ∷ size 0 0 0 ∷ size 0 0 0 ∷
+    one_word (0x73 ∷ 0 ∷ 0 ∷ 0 ∷ []) ∷ size 4 6 2 ∷ [])
 
 abbrev pub first_number : ℕ → Primary → ℕ
 first_number ordinal (Named n) =
@@ -271,10 +284,10 @@ first_number ordinal _ = 1
 abbrev pub second_number : ℕ → Primary → ℕ
 second_number ordinal q = 0
 
--- text at the text's start, data at 11000h, each file's sections after those of the file before
+-- text at the text's start, the other file's at a multiple of 8, data at 11000h, each file's sections after those of the file before
 abbrev pub starts : ℕ → ℕ → ℕ
 starts zero index = 0
 starts (suc zero) zero = 0x10000
 starts (suc zero) (suc index) = 0x11000
-starts (suc (suc file)) zero = 0x10004
+starts (suc (suc file)) zero = 0x10008
 starts (suc (suc file)) (suc index) = 0x11018

@@ -1,10 +1,4 @@
-use Rattle.std.specs.Prelude.{List}
-use Rattle.rv_statement.specs.Statement.{Statement}
-use Rattle.rv_image.specs.Linked.{Linked}
-use Rattle.rv_object.specs.Object.{Object}
 use Rattle.rv_object_laws.specs.Inputs.{inputs, goes_to_text}
-use Rattle.rv_object_laws.specs.IsLinkOf.{IsLinkOf}
-use Rattle.rv_boundary_laws.specs.Joins.{Joins}
 use Rattle.rv_boundary_laws.proofs.Linked.{linked}
 use Rattle.rv_boundary_laws.proofs.Joined.{resolves}
 use Rattle.rv_boundary_laws.proofs.Shrinking.{shrunk_objects}
