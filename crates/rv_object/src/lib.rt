@@ -4,6 +4,8 @@
 //! plain data, of which the contracts of the assembler and the linker speak. What a reader of files tests, each value of
 //! these types keeps (`specs/Valid`): powers of two as alignments, fields inside their sections, indices below counts.
 //!
+//! Padding in code is written and counted here, as the assembler and the linker both do it.
+//!
 //! It knows neither statements nor addresses.
 //!
 //! ```text
@@ -16,6 +18,7 @@
 
 mod contents;
 mod object;
+mod padding;
 mod relocation;
 mod row;
 mod section;
@@ -23,6 +26,7 @@ mod symbol;
 
 pub use contents::Contents;
 pub use object::Object;
+pub use padding::{operations, put_no_operations};
 pub use relocation::Relocation;
 pub use row::Row;
 pub use section::Section;

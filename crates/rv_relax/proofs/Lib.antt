@@ -1,4 +1,3 @@
-pub mod Operations
 pub mod Order
 pub mod Losses
 pub mod Aligned

@@ -8,7 +8,7 @@ use Rattle.rv_object.specs.Padding.{operations_in, no_operations}
 use Rattle.rv_object_laws.specs.Moves.{lost, lost_in}
 use Rattle.rv_relax.specs.declared.padding.Padding.{Padding}
 use Rattle.rv_relax.specs.Paddings.{move_of, are_in_order}
-use Rattle.rv_relax.proofs.Operations.{length_even}
+use Rattle.rv_object.proofs.Nops.{length_even}
 use Rattle.rv_relax.proofs.Order.{first, rest, from_index}
 
 pub lost_more : (offset bytes : ℕ) (p : Padding) (ps : List Padding) → lost (map move_of (p ∷ ps)) offset bytes ≡ lost_in offset bytes (move_of p) + lost (map move_of ps) offset bytes

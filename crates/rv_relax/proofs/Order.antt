@@ -7,7 +7,7 @@ use Rattle.std.proofs.lemmas.Bool.{ltb-true, leb-true, eqb-true, lt-ltb, and_par
 use Rattle.rv_object_laws.specs.Moves.{dropped}
 use Rattle.rv_relax.specs.declared.padding.Padding.{Padding}
 use Rattle.rv_relax.specs.Paddings.{move_of, is_next, are_in_order}
-use Rattle.rv_relax.proofs.Operations.{length_even}
+use Rattle.rv_object.proofs.Nops.{length_even}
 
 -- what a slice has past its end
 abbrev pub zeros : Padding

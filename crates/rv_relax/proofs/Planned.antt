@@ -11,7 +11,7 @@ use Rattle.rv_relax.specs.declared.padding.Padding.{Padding}
 use Rattle.rv_relax.specs.Paddings.{move_of, is_next, are_in_order, is_next_alignment, are_alignments}
 use Rattle.rv_object.specs.declared.relocation.Relocation.{Relocation as DeclaredRelocation}
 use Rattle.rv_object.specs.Parts.{relocation_of}
-use Rattle.rv_relax.proofs.Operations.{same_even}
+use Rattle.rv_object.proofs.Nops.{same_even}
 use Rattle.rv_relax.proofs.Sorting.{nothing, backwards, last_first}
 
 -- an alignment that stands behind others

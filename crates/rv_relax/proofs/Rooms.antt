@@ -7,7 +7,7 @@ use Rattle.std.proofs.lemmas.List.{drop_more}
 use Rattle.rv_object_laws.specs.Moves.{has_room}
 use Rattle.rv_relax.specs.declared.padding.Padding.{Padding}
 use Rattle.rv_relax.specs.Paddings.{move_of}
-use Rattle.rv_relax.proofs.Operations.{length_even}
+use Rattle.rv_object.proofs.Nops.{length_even}
 use Rattle.rv_relax.proofs.Order.{zeros}
 
 room : (p : Padding) → p.left % 2 ≡ 0 → has_room (move_of p) ≡ nat_le p.left p.full

@@ -1,17 +1,12 @@
 //! The bytes that are kept of a section.
 
 ghost use Rattle.std.specs.Prelude.{◌≡◌, ◌++◌, true, map, take, drop, OnOk};
-ghost use Rattle.rv_object.specs.Padding.{no_operations};
 ghost use Rattle.rv_object_laws.specs.Moves.{kept};
 ghost use Rattle.rv_relax.specs.Paddings.{are_in_order, move_of};
 
 use crate::padding::Padding;
+use rv_object::put_no_operations;
 use std::alloc::AllocError;
-
-/// `addi zero, zero, 0`.
-const NOP: [u8; 4] = [0x13, 0, 0, 0];
-/// `c.nop`.
-const C_NOP: [u8; 2] = [1, 0];
 
 /// The first bytes, or all where there are fewer, and those after them.
 fn cut(bytes: &[u8], count: u64) -> (&[u8], &[u8])
@@ -19,20 +14,6 @@ fn cut(bytes: &[u8], count: u64) -> (&[u8], &[u8])
     ensures back { result.1.now ≡ drop count bytes.now }
 {
     bytes.split_at((count as usize).min(bytes.len()))
-}
-
-/// Adds instructions without effect.
-fn put_no_operations(out: &mut Vec<u8>, bytes: u32) -> Result<(), AllocError>
-    ensures { OnOk result (out.new.items ≡ out.old.items ++ no_operations bytes) }
-{
-    for _ in 0..bytes / 4 {
-        out.extend_from_slice(&NOP)?;
-    }
-    if bytes % 4 < 2 {
-        return Ok(());
-    }
-    out.extend_from_slice(&C_NOP)?;
-    Ok(())
 }
 
 /// Adds what is kept of a section's bytes.

@@ -2,11 +2,11 @@
 
 ghost use Rattle.std.specs.Prelude.{◌≡◌, ◌≤◌, ◌<◌, ℕ, true, nat_lt, length, map};
 ghost use Rattle.std.specs.List.Sorted.{IsPartitionPoint};
-ghost use Rattle.rv_object.specs.Padding.{operations_in};
 ghost use Rattle.rv_object_laws.specs.Moves.{dropped, lost as lost_of};
 ghost use Rattle.rv_relax.specs.Paddings.{are_in_order, move_of};
 
 use crate::padding::Padding;
+use rv_object::operations;
 
 /// How many of the paddings begin before an offset.
 fn count_before(paddings: &[Padding], offset: u64) -> usize
@@ -32,13 +32,6 @@ pub(crate) fn dropped_before(paddings: &[Padding], offset: u64) -> u64
         Some(last) => paddings[last].all_dropped_before(offset),
         None => 0,
     }
-}
-
-/// The instructions in so many bytes of padding.
-fn operations(bytes: u32) -> u32
-    ensures { result ≡ operations_in bytes }
-{
-    bytes / 4 + bytes % 4 / 2
 }
 
 /// The instructions that the paddings within a range of bytes lose.
