@@ -11,7 +11,7 @@ program, GNU as and ld and qemu-riscv64 do the same, and the console and the sta
 Each program ends as one of:
   same       in both
   differs    its files are kept in FOLDER, which is a new one unless said, and a line says which
-  refused    by rv, with the code of its fault
+  refused    by rv, with the code of its fault; those that the language gives no reason for are kept too
   past end   rv stops at a load that begins in a region and ends past it: GCC reads an aligned object's last bytes
              in one piece with those behind it, and qemu has rights by the page
   too long   over --limit instructions in rv, and 100 times as many where qemu ends within 2 seconds
@@ -34,6 +34,8 @@ from pathlib import Path
 HERE = Path(__file__).resolve().parent
 GNU = "riscv64-unknown-elf-"
 FLAGS = f"-march=rv64imac -mabi=lp64 -ffreestanding -w -I{HERE} -I/usr/include/csmith".split()
+# What the language leaves out: .comm; labels that spell registers; .set of a name as another's, for equal constants.
+LEFT_OUT = ["refused E9 UnsupportedHere", "refused E7 BadOperands", "refused E13 NotConstant"]
 # GCC writes variables that begin as zero with .comm at -O0, which rv refuses, but not in sections of their own.
 WAYS = ["-O0", "-O0 -fdata-sections", "-O1", "-O2", "-Os"]
 SECONDS = 60
@@ -47,16 +49,15 @@ def said(words, seconds=SECONDS, **more):
         return None
 
 
-def made(words):
+def made(words, **more):
     """Whether a tool does its work."""
-    ended = said(words)
+    ended = said(words, **more)
     return ended is not None and ended.returncode == 0
 
 
 def draw(folder, seed):
     """Draws the program of a seed."""
-    words = ["csmith", "--seed", str(seed), "--no-argc", "-o", str(folder / "program.c")]
-    return made(words)
+    return made(["csmith", "--seed", str(seed), "--no-argc", "-o", "program.c"], cwd=folder)
 
 
 def assemblies(folder, way, apart):
@@ -128,13 +129,13 @@ def compare(folder, sources, options):
     return "same" if same else "differs"
 
 
-def keep(folder, seed, way, options):
-    """Keeps the files of a program that differs."""
+def keep(folder, seed, way, end, options):
+    """Keeps the files of a program that differs, or that is refused for no reason known here."""
     if options.keep is None:
         options.keep = tempfile.mkdtemp(prefix="rv-random-")
     kept = Path(options.keep) / f"{seed}{way.replace(' ', '')}"
     shutil.copytree(folder, kept)
-    print(f"{seed} {way}: differs, kept in {kept}", flush=True)
+    print(f"{seed} {way}: {end}, kept in {kept}", flush=True)
 
 
 def program(seed, options):
@@ -148,8 +149,8 @@ def program(seed, options):
             sources = assemblies(folder, way, seed % 2 == 1)
             usable = sources is not None and gnu_link(folder, sources)
             end = compare(folder, sources, options) if usable else "none"
-            if end == "differs":
-                keep(folder, seed, way, options)
+            if end == "differs" or (end.startswith("refused") and end not in LEFT_OUT):
+                keep(folder, seed, way, end, options)
             ends.append((way, end))
         return ends
 
