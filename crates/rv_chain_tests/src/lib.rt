@@ -32,3 +32,5 @@ mod several;
 mod short;
 #[cfg(test)]
 mod sources;
+#[cfg(test)]
+mod worked;

@@ -808,7 +808,7 @@ const FAR: [(&[u8], Answer); 14] = [
     (b"nop; addi a0, a0, %pcrel_lo(_start)", Answer::Link(3)),
     (
         b"addi a0, a0, %pcrel_lo(1f + 4); 1: auipc a0, %pcrel_hi(.)",
-        Answer::Link(3),
+        Answer::Source(7, 1),
     ),
     (b"la a0, _start + 0x80000000", Answer::Link(1)),
     (b"call _start + 1", Answer::Link(2)),
@@ -919,27 +919,38 @@ fn runs(rt: HostRuntime) -> Result<(), Fail> {
     Ok(())
 }
 
-/// A branch of eight bytes costs one instruction where it is not taken, and two where it is.
-#[test]
-fn widened_branches(rt: HostRuntime) -> Result<(), Fail> {
-    let alloc = rt.alloc();
-    let mut source = Vec::from_slice(alloc, b".globl _start; _start: beq a0, a1, f")?;
-    for _ in 0..2046 {
+/// A source of these lines, so many `nop`, and the guest's end at f.
+fn with_nops(
+    alloc: Global,
+    front: &[u8],
+    lines: &[u8],
+    count: usize,
+) -> Result<Vec<u8>, AllocError> {
+    let mut source = Vec::from_slice(alloc, front)?;
+    source.extend_from_slice(lines)?;
+    for _ in 0..count {
         source.extend_from_slice(b"\nnop")?;
     }
     source.extend_from_slice(b"\nf: li a7, 93; ecall")?;
-    ends(&rt, alloc, &[source.as_slice()], 4, End::Exited(0))?;
-    ends(&rt, alloc, &[source.as_slice()], 3, End::Limit)?;
-    let mut other = Vec::from_slice(
-        alloc,
-        b".globl _start; _start: bne a0, a1, f; li a7, 93; ecall",
-    )?;
-    for _ in 0..2042 {
-        other.extend_from_slice(b"\nnop")?;
+    Ok(source)
+}
+
+/// A branch of eight bytes costs one instruction where it is not taken, and two where it is: each front is followed by
+/// so many `nop` in the two cases.
+const WIDENED: [(&[u8], usize, usize); 2] = [(SHORT, 2046, 2042), (LONG, 1023, 1021)];
+
+#[test]
+fn widened_branches(rt: HostRuntime) -> Result<(), Fail> {
+    let alloc = rt.alloc();
+    for (front, taken, other) in &WIDENED {
+        let source = with_nops(alloc, front, b"beq a0, a1, f", *taken)?;
+        ends(&rt, alloc, &[source.as_slice()], 4, End::Exited(0))?;
+        ends(&rt, alloc, &[source.as_slice()], 3, End::Limit)?;
+        let source = with_nops(alloc, front, b"bne a0, a1, f; li a7, 93; ecall", *other)?;
+        ends(&rt, alloc, &[source.as_slice()], 3, End::Exited(0))?;
+        ends(&rt, alloc, &[source.as_slice()], 2, End::Limit)?;
     }
-    other.extend_from_slice(b"\nf: li a7, 93; ecall")?;
-    ends(&rt, alloc, &[other.as_slice()], 3, End::Exited(0))?;
-    Ok(ends(&rt, alloc, &[other.as_slice()], 2, End::Limit)?)
+    Ok(())
 }
 
 /// Two sources that have a `loop` each, of which the second's is global.
