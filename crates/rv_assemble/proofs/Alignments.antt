@@ -39,7 +39,7 @@ low_if : (b : Bool) (n : ℕ) → (b ≡ true → n ≤ 4096) → or_none (if b 
 low_if true n h = h refl
 low_if false n h = omega arith
 
-form_low : (form : AlignmentForm) (v : Value) → or_none (alignment_as form v) ≤ 4096
+pub form_low : (form : AlignmentForm) (v : Value) → or_none (alignment_as form v) ≤ 4096
 form_low As_power (Constant k) = low_if (nat_lt k 13) (2 ^ k) (λ e. low_power k (ltb-true k 13 e))
 form_low As_power (Symbolic p at k) = omega arith
 form_low As_power (Difference p q k) = omega arith

@@ -1,8 +1,8 @@
--- The open fields of a statement lie in its bytes, part by part, and none of them is a padding.
+-- The open fields of a statement lie in its bytes, part by part; a padding is all of its part.
 
 use Rattle.std.proofs.Common.{◌≡◌, ℕ, zero, suc, ◌%◌, ◌≤◌, Bool, true, false, ◌&&◌, ◌==◌, List, [], ◌∷◌, ◌++◌, length, refl, sym, ap, ◌∙◌, subst, arith, map, length-append, Option, Some, None, inl, inr}
 use Rattle.std.proofs.lemmas.List.{length-replicate}
-use Rattle.std.specs.Prelude.{◌||◌, if◌then◌else◌, unwrap_or}
+use Rattle.std.specs.Prelude.{◌⊎◌, ◌||◌, if◌then◌else◌, unwrap_or}
 use Rattle.std.specs.List.{AllByRecursion}
 use Rattle.rv_isa.specs.declared.instruction.Inst.{Inst}
 use Rattle.rv_isa.specs.declared.instruction.Format.{Format}
@@ -29,9 +29,10 @@ use Rattle.rv_source_laws.specs.Lines.{operand_of, is_low_part}
 use Rattle.rv_object.specs.Valid.{is_align}
 use Rattle.rv_assemble_laws.specs.CodeFields.{symbol_field, low_field, low_field_at, label_field, field_of, relax_fields, part_fields}
 use Rattle.rv_assemble_laws.specs.Coded.{IsCodedPart, AreCodedParts}
-use Rattle.rv_assemble_laws.specs.Templates.{Template, Datum, Open, zeros, absolute_kind, add_kind, subtract_kind, value_bytes, value_fields, template_fields, IsWide, IsWidth, HasField, IsTemplate, contribution_templates}
+use Rattle.rv_assemble_laws.specs.Templates.{Template, Datum, Open, zeros, absolute_kind, add_kind, subtract_kind, value_bytes, value_fields, template_fields, IsWide, IsWidth, HasField, IsTemplate, align_field, padding_templates, contribution_templates}
 use Rattle.rv_assemble_laws.specs.Sites.{Site, Part, part_of, part_bytes, parts_of, parts, form as values, coded_templates, templates, HasSize}
 use Rattle.rv_assemble.proofs.Settled.{IsIn}
+use Rattle.rv_assemble.proofs.Room.{nops_long, IsRoom, HasRoom, directive_room}
 use Rattle.rv_assemble.proofs.FieldLists.{all_split, all_join}
 
 -- ---- bytes of code
@@ -168,16 +169,23 @@ part_fits compressed t v s (Joined k i j) bytes (open_at, other, (first, (second
     (operand_fits (length bytes) t v s.ordinal (operand_of s.kind) k (omega (arith, long, most), filled_plain (format_of i) k open_at.1))
     (relax_fits (length bytes) s.ordinal s.options.relax)
 
--- the fields of a part of a statement lie in its bytes
+-- the one field of a padding, which has all bytes of its part
+pub record IsPadding (p : Part) : Type 0 where
+  pub bytes : ℕ
+  pub field : template_fields p.ordinal p.template ≡ align_field p.ordinal bytes ∷ []
+  pub long : length (part_bytes p) ≡ bytes
+  pub room : IsRoom bytes
+
+-- the fields of a part of a statement lie in its bytes, or are a padding
 abbrev pub Holds : Part → Type 0
-Holds p = AllByRecursion (FitsIn (length (part_bytes p))) (template_fields p.ordinal p.template)
+Holds p = AllByRecursion (FitsIn (length (part_bytes p))) (template_fields p.ordinal p.template) ⊎ IsPadding p
 
 code_fits : (compressed : Bool) (t : Tables) (v : Expression → Value) (s : Located) (ordinal : ℕ) (ps : List CodePart) (coded : List (List ℕ)) → AreCodedParts compressed ps coded
     → AllByRecursion Holds (map (part_of ordinal) (coded_templates (part_fields t v s) ps coded))
 code_fits compressed t v s ordinal [] [] h = tt
 code_fits compressed t v s ordinal [] (bytes ∷ coded) h = absurd h
 code_fits compressed t v s ordinal (p ∷ ps) [] h = absurd h
-code_fits compressed t v s ordinal (p ∷ ps) (bytes ∷ coded) (h, hs) = (part_fits compressed t v s p bytes h, code_fits compressed t v s ordinal ps coded hs)
+code_fits compressed t v s ordinal (p ∷ ps) (bytes ∷ coded) (h, hs) = (inl (part_fits compressed t v s p bytes h), code_fits compressed t v s ordinal ps coded hs)
 
 -- ---- the fields of data
 
@@ -239,15 +247,20 @@ AreTemplates ordinal ts = AllByRecursion (λ (p : Part). IsTemplate p.template) 
 values_fit : (ordinal width : ℕ) (v : Expression → Value) (es : List Expression) → AreTemplates ordinal (map (λ e. Datum width (v e)) es)
     → AllByRecursion Holds (map (part_of ordinal) (map (λ e. Datum width (v e)) es))
 values_fit ordinal width v [] h = tt
-values_fit ordinal width v (e ∷ es) (h, hs) = (value_fits ordinal width (v e) h, values_fit ordinal width v es hs)
+values_fit ordinal width v (e ∷ es) (h, hs) = (inl (value_fits ordinal width (v e) h), values_fit ordinal width v es hs)
 
-contribution_fits : (ordinal bytes : ℕ) (v : Expression → Value) (c : Contribution) → AreTemplates ordinal (contribution_templates v c bytes)
-    → AllByRecursion Holds (map (part_of ordinal) (contribution_templates v c bytes))
-contribution_fits ordinal bytes v Nothing h = tt
-contribution_fits ordinal bytes v (Bytes (Numbers width es)) h = values_fit ordinal width v es h
-contribution_fits ordinal bytes v (Bytes (Texts ended strings)) h = (tt, tt)
-contribution_fits ordinal bytes v (Zero_bytes count) h = (tt, tt)
-contribution_fits ordinal bytes v (Alignment f number) h = (tt, tt)
+padding_fits : (executable : Bool) (ordinal bytes : ℕ) → (executable ≡ true → IsRoom bytes) → AllByRecursion Holds (map (part_of ordinal) (padding_templates executable ordinal bytes))
+padding_fits true ordinal zero h = tt
+padding_fits true ordinal (suc n) h = (inr (record { bytes = suc n; field = refl; long = nops_long (suc n) (h refl).0; room = h refl }), tt)
+padding_fits false ordinal bytes h = (inl tt, tt)
+
+contribution_fits : (executable : Bool) (ordinal bytes : ℕ) (v : Expression → Value) (c : Contribution) → (executable ≡ true → HasRoom c bytes) → AreTemplates ordinal (contribution_templates executable ordinal v c bytes)
+    → AllByRecursion Holds (map (part_of ordinal) (contribution_templates executable ordinal v c bytes))
+contribution_fits executable ordinal bytes v Nothing r h = tt
+contribution_fits executable ordinal bytes v (Bytes (Numbers width es)) r h = values_fit ordinal width v es h
+contribution_fits executable ordinal bytes v (Bytes (Texts ended strings)) r h = (inl tt, tt)
+contribution_fits executable ordinal bytes v (Zero_bytes count) r h = (inl tt, tt)
+contribution_fits executable ordinal bytes v (Alignment f number) r h = padding_fits executable ordinal bytes r
 
 -- ---- statements
 
@@ -258,7 +271,8 @@ kind_fits t s multiple (Numbered number) size h = tt
 kind_fits t s multiple (Instruction mnemonic operands) size h =
     subst (λ o. AllByRecursion Holds (map (part_of s.located.ordinal) (coded_templates (part_fields t (values t s.located) s.located) (unwrap_or o []) s.coded))) (sym size.parts)
     (code_fits (s.located.options.rvc && are_closed size.ps) t (values t s.located) s.located s.located.ordinal size.ps s.coded size.coded_as)
-kind_fits t s multiple (Directs d) size h = contribution_fits s.located.ordinal s.bytes (values t s.located) (contribution d) h
+kind_fits t s multiple (Directs d) size h =
+    contribution_fits s.located.home.executable s.located.ordinal s.bytes (values t s.located) (contribution d) (λ e. directive_room (values t s.located) s multiple d e size) h
 
 site_fits : (t : Tables) (home : Section) (multiple : ℕ) (s : Site) → IsIn home s → (s.located.placed ≡ true → HasSize (values t s.located) s multiple s.located.kind)
     → AllByRecursion (λ (p : Part). IsTemplate p.template) (parts_of t s) → AllByRecursion Holds (parts_of t s)

@@ -38,9 +38,9 @@ use Rattle.rv_assemble.proofs.Alignments.{aligned}
 use Rattle.rv_assemble_laws.proofs.OpenedNames.{sections_named}
 use Rattle.rv_symbols.proofs.Naming.{name_is_string}
 use Rattle.rv_assemble.proofs.NamesKept.{names_kept, kept_by}
-use Rattle.rv_assemble.proofs.EvenCode.{end_even, ends_within}
+use Rattle.rv_assemble.proofs.EvenCode.{parts_even, end_even, ends_within}
 use Rattle.rv_assemble.proofs.CodeFits.{Holds, all_fit}
-use Rattle.rv_assemble.proofs.FieldsInside.{none_in_nobits, parts_within, no_paddings}
+use Rattle.rv_assemble.proofs.FieldsInside.{none_in_nobits, parts_within, paddings_lie}
 use Rattle.rv_assemble.proofs.Indexed.{parts_indexed, symbols_stand}
 
 -- ---- relocations
@@ -278,18 +278,17 @@ module _ (ss : List Statement) (d : Draft) (extents : List Extent) (lists : List
       sizes = subst (λ n. AllByRecursion (λ s. s.located.placed ≡ true → HasSize (form t s.located) s n s.located.kind) sites) alignment drafted.sizes;
       fields = drafted.templates;
       short = λ code. drafted.short;
-      low = λ text. subst (λ n. n ≤ 2) alignment (drafted.low text);
     }
 
     held : AllByRecursion Holds (parts t sites)
     held = all_fit t home (slice_index_or (alignments_of t) j 1) sites inside drafted.sizes drafted.templates
 
     none : is_nobits_type home.section_type ≡ true → (if home.loaded then relocations_from number 0 (parts t sites) else []) ≡ []
-    none e = go home.loaded
+    none e = go home.loaded refl
       where
-        go : (b : Bool) → ◌≡◌ {A = List Relocation} (if b then relocations_from number 0 (parts t sites) else []) []
-        go true = none_in_nobits t home number sites e inside
-        go false = refl
+        go : (b : Bool) → home.loaded ≡ b → ◌≡◌ {A = List Relocation} (if b then relocations_from number 0 (parts t sites) else []) []
+        go true f = none_in_nobits t home number sites e inside drafted.tile (λ code. drafted.code (ap (λ b. b && home.executable) f ∙ code) e)
+        go false f = refl
 
     fits : list_all (λ r. nat_le (r.place + width_of r.kind) (length full)) (if home.loaded then relocations_from number 0 (parts t sites) else []) ≡ true
     fits = go home.loaded
@@ -303,11 +302,14 @@ module _ (ss : List Statement) (d : Draft) (extents : List Extent) (lists : List
       named = name_is_string home.name (sections_named ss j home kept.1 there);
       kept = kept_by made.contents home.name (names_kept ss j home kept.0 there);
       aligned = subst (λ n. is_alignment n ≡ true) alignment (aligned ss j);
-      even = even_by home.executable made.contents stop size (λ code. end_even t home (slice_index_or (alignments_of t) j 1) 0 sites code inside drafted.sizes drafted.tile refl);
+      even = even_by home.executable made.contents stop size (λ code. end_even t home (slice_index_or (alignments_of t) j 1) sites code inside drafted.sizes drafted.tile);
       alone = ap (is_loaded_alone home.loaded) relocations ∙ alone_by home.loaded (relocations_from number 0 (parts t sites));
       inside = ap (fit_inside made.contents) relocations ∙ ap (λ c. fit_inside c (if home.loaded then relocations_from number 0 (parts t sites) else [])) contents
           ∙ inside_by home.section_type stop full (if home.loaded then relocations_from number 0 (parts t sites) else []) none fits;
-      paddings = ap (are_paddings home.executable made.contents) relocations ∙ no_paddings number home.executable made.contents home.loaded (parts t sites) held;
+      paddings = ap (are_paddings home.executable made.contents) relocations
+          ∙ paddings_lie number home.executable made.contents home.loaded (parts t sites) held
+          (λ code. parts_even t home (slice_index_or (alignments_of t) j 1) sites code inside drafted.sizes)
+          (let e = size in let f = ends in omega (arith, e, f));
     }
 
     is_indexed : list_all (λ (r : Relocation). is_below (length symbols) r.symbol) made.relocations ≡ true

@@ -1,87 +1,101 @@
 -- Sections of code end at even offsets.
 
-use Rattle.std.proofs.Common.{◌≡◌, ℕ, ◌+◌, ◌%◌, ◌≤◌, Bool, true, false, List, [], ◌∷◌, length, refl, ap, ◌∙◌, arith, map, length-append, Option, inl, inr}
-use Rattle.std.specs.Prelude.{◌&&◌, flat_map}
+use Rattle.std.proofs.Common.{◌≡◌, ℕ, zero, suc, ◌+◌, ◌%◌, ◌≤◌, Bool, true, false, List, [], ◌∷◌, length, refl, sym, ap, ◌∙◌, subst, arith, map, length-append, inl, inr}
+use Rattle.std.specs.Prelude.{◌&&◌, flat_map, unwrap_or}
 use Rattle.std.specs.List.{AllByRecursion}
 use Rattle.rv_isa.specs.declared.instruction.Inst.{Inst}
 use Rattle.rv_isa.specs.Kinds.{width_of}
 use Rattle.rv_patch_laws.specs.Encoded.{IsLeast}
 use Rattle.rv_text_laws.specs.Values.{Value}
-use Rattle.rv_statement.specs.Statement.{StatementKind, Label, Numbered, Instruction, Directs, Expression, Enters, Opens, Globl, Local, Sets, Aligns_to_power, Aligns_to_bytes, Values, Strings, Zeros, Chooses, Ignored}
-use Rattle.rv_pseudo_laws.specs.Code.{Part as CodePart, Closed, Open, Joined}
+use Rattle.rv_statement.specs.Statement.{StatementKind, Label, Numbered, Instruction, Directs, Expression}
+use Rattle.rv_pseudo_laws.specs.Code.{Part as CodePart, Closed, Open as OpenPart, Joined}
 use Rattle.rv_pseudo_laws.specs.Filled.{are_closed}
+use Rattle.rv_unit_laws.specs.Contributions.{Contribution, Nothing, Bytes, Zero_bytes, Alignment, contribution}
 use Rattle.rv_unit_laws.specs.Sections.{Section}
-use Rattle.rv_unit_laws.specs.Tables.{Tables, alignment_of}
-use Rattle.rv_assemble_laws.specs.Coded.{AreCodedParts, joined}
-use Rattle.rv_assemble_laws.specs.Templates.{Template}
-use Rattle.rv_assemble_laws.specs.Sites.{Site, form, part_of, part_bytes, parts_of, Tile, end_of, HasSize, IsPaddedIn}
-use Rattle.rv_assemble_laws.proofs.Held.{IsHeld}
+use Rattle.rv_unit_laws.specs.Tables.{Tables}
+use Rattle.rv_assemble_laws.specs.CodeFields.{part_fields}
+use Rattle.rv_assemble_laws.specs.Coded.{IsCodedPart, AreCodedParts}
+use Rattle.rv_assemble_laws.specs.Templates.{Open, padding_templates, contribution_templates}
+use Rattle.rv_assemble_laws.specs.Sites.{Site, Part, form, part_of, part_bytes, parts_of, parts, coded_templates, templates, Tile, end_of, HasSize}
+use Rattle.rv_assemble_laws.proofs.Filled.{filled}
+use Rattle.rv_assemble_laws.proofs.Held.{ContributionHeld, IsHeld}
 use Rattle.rv_assemble.proofs.Settled.{IsIn}
+use Rattle.rv_assemble.proofs.FieldLists.{all_join}
+use Rattle.rv_assemble.proofs.Room.{nops_long, IsRoom, HasRoom, directive_room}
 use Rattle.rv_assemble.proofs.CodeFits.{encoded_long, joined_long}
-
-none_even : (n : ℕ) → n ≡ 0 → n % 2 ≡ 0
-none_even n e = ap (λ m. m % 2) e
 
 least_even : (rvc : Bool) (i : Inst) (n : ℕ) → IsLeast rvc i n → n % 2 ≡ 0
 least_even true i n (inl (e, h)) = ap (λ m. m % 2) e
 least_even true i n (inr (e, h)) = ap (λ m. m % 2) e
 least_even false i n e = ap (λ m. m % 2) e
 
-code_even : (rvc : Bool) (ps : List CodePart) (coded : List (List ℕ)) → AreCodedParts rvc ps coded → length (joined coded) % 2 ≡ 0
-code_even rvc [] [] h = refl
-code_even rvc [] (bytes ∷ coded) h = absurd h
-code_even rvc (p ∷ ps) [] h = absurd h
-code_even rvc (Closed i ∷ ps) (bytes ∷ coded) (h, hs) =
-    let own = least_even rvc i (length bytes) h.1 in let rest = code_even rvc ps coded hs in let l = length-append bytes (joined coded) in
-    omega (arith, own, rest, l)
-code_even rvc (Open k i ∷ ps) (bytes ∷ coded) ((h, written), hs) =
-    let long = (encoded_long i (width_of k) bytes written).0 in let own = (encoded_long i (width_of k) bytes written).1 in
-    let rest = code_even rvc ps coded hs in let l = length-append bytes (joined coded) in
-    omega (arith, long, own, rest, l)
-code_even rvc (Joined k i j ∷ ps) (bytes ∷ coded) ((h, o, (first, (second, a, b, e))), hs) =
-    let long = joined_long i j bytes first second a b e in let rest = code_even rvc ps coded hs in let l = length-append bytes (joined coded) in
-    omega (arith, long, rest, l)
+-- a part has an even count of bytes
+abbrev pub IsEvenPart : Part → Type 0
+IsEvenPart p = length (part_bytes p) % 2 ≡ 0
 
-padding_even : (b : Bool) (s : Site) (multiple : ℕ) (alignment : Option ℕ) → b ≡ true → IsPaddedIn b s multiple alignment → s.bytes % 2 ≡ 0
-padding_even true s multiple alignment e h = none_even s.bytes h.0
-padding_even false s multiple alignment e h = absurd (cc)
+part_even : (rvc : Bool) (p : CodePart) (bytes : List ℕ) → IsCodedPart rvc p bytes → length bytes % 2 ≡ 0
+part_even rvc (Closed i) bytes h = least_even rvc i (length bytes) h.1
+part_even rvc (OpenPart k i) bytes (h, written) = let both = encoded_long i (width_of k) bytes written in ap (λ n. n % 2) both.0 ∙ both.1
+part_even rvc (Joined k i j) bytes (h, o, (first, (second, a, b, e))) = ap (λ n. n % 2) (joined_long i j bytes first second a b e)
 
-no_data : (home : Section) (n : ℕ) → home.executable ≡ true → home.executable ≡ false → n % 2 ≡ 0
-no_data home n e f = absurd (cc)
+code_even : (rvc : Bool) (ordinal : ℕ) (fields : CodePart → List Open) (ps : List CodePart) (coded : List (List ℕ)) → AreCodedParts rvc ps coded
+    → AllByRecursion IsEvenPart (map (part_of ordinal) (coded_templates fields ps coded))
+code_even rvc ordinal fields [] [] h = tt
+code_even rvc ordinal fields [] (bytes ∷ coded) h = absurd h
+code_even rvc ordinal fields (p ∷ ps) [] h = absurd h
+code_even rvc ordinal fields (p ∷ ps) (bytes ∷ coded) (h, hs) = (part_even rvc p bytes h, code_even rvc ordinal fields ps coded hs)
 
-size_even : (v : Expression → Value) (home : Section) (s : Site) (multiple : ℕ) (kind : StatementKind) → home.executable ≡ true → s.located.home.executable ≡ true → IsHeld home kind → HasSize v s multiple kind → s.bytes % 2 ≡ 0
-size_even v home s multiple (Label name) code here held (x, y) = none_even s.bytes x
-size_even v home s multiple (Numbered number) code here held (x, y) = none_even s.bytes x
-size_even v home s multiple (Instruction mnemonic operands) code here held is = ap (λ m. m % 2) is.size ∙ code_even (s.located.options.rvc && are_closed is.ps) is.ps s.coded is.coded_as
-size_even v home s multiple (Directs (Values width values)) code here held size = no_data home s.bytes code held.0
-size_even v home s multiple (Directs (Strings ended strings)) code here held size = no_data home s.bytes code held.0
-size_even v home s multiple (Directs (Zeros count)) code here held size = no_data home s.bytes code held
-size_even v home s multiple (Directs (Aligns_to_power e)) code here held (x, y, z) = padding_even s.located.home.executable s multiple (alignment_of v (Aligns_to_power e)) here z
-size_even v home s multiple (Directs (Aligns_to_bytes e)) code here held (x, y, z) = padding_even s.located.home.executable s multiple (alignment_of v (Aligns_to_bytes e)) here z
-size_even v home s multiple (Directs (Sets name e)) code here held (x, y) = none_even s.bytes x
-size_even v home s multiple (Directs (Enters section)) code here held (x, y) = none_even s.bytes x
-size_even v home s multiple (Directs (Opens name flags kind)) code here held (x, y) = none_even s.bytes x
-size_even v home s multiple (Directs (Globl names)) code here held (x, y) = none_even s.bytes x
-size_even v home s multiple (Directs (Local names)) code here held (x, y) = none_even s.bytes x
-size_even v home s multiple (Directs (Chooses choice)) code here held (x, y) = none_even s.bytes x
-size_even v home s multiple (Directs Ignored) code here held (x, y) = none_even s.bytes x
+padding_even : (executable : Bool) (ordinal bytes : ℕ) → executable ≡ true → IsRoom bytes → AllByRecursion IsEvenPart (map (part_of ordinal) (padding_templates executable ordinal bytes))
+padding_even true ordinal zero e h = tt
+padding_even true ordinal (suc n) e h = (ap (λ m. m % 2) (nops_long (suc n) h.0) ∙ h.0, tt)
+padding_even false ordinal bytes e h = absurd (cc)
+
+contribution_even : (home : Section) (executable : Bool) (ordinal bytes : ℕ) (v : Expression → Value) (c : Contribution) → home.executable ≡ true → executable ≡ true → ContributionHeld home c → HasRoom c bytes
+    → AllByRecursion IsEvenPart (map (part_of ordinal) (contribution_templates executable ordinal v c bytes))
+contribution_even home executable ordinal bytes v Nothing code here held room = tt
+contribution_even home executable ordinal bytes v (Bytes contents) code here held room = absurd (let e = held.0 in cc)
+contribution_even home executable ordinal bytes v (Zero_bytes count) code here held room = absurd (cc)
+contribution_even home executable ordinal bytes v (Alignment f number) code here held room = padding_even executable ordinal bytes here room
+
+kind_even : (t : Tables) (home : Section) (s : Site) (multiple : ℕ) (kind : StatementKind) → home.executable ≡ true → s.located.home.executable ≡ true → IsHeld home kind → HasSize (form t s.located) s multiple kind
+    → AllByRecursion IsEvenPart (map (part_of s.located.ordinal) (templates t s kind))
+kind_even t home s multiple (Label name) code here held size = tt
+kind_even t home s multiple (Numbered number) code here held size = tt
+kind_even t home s multiple (Instruction mnemonic operands) code here held size =
+    subst (λ o. AllByRecursion IsEvenPart (map (part_of s.located.ordinal) (coded_templates (part_fields t (form t s.located) s.located) (unwrap_or o []) s.coded))) (sym size.parts)
+    (code_even (s.located.options.rvc && are_closed size.ps) s.located.ordinal (part_fields t (form t s.located) s.located) size.ps s.coded size.coded_as)
+kind_even t home s multiple (Directs d) code here held size =
+    contribution_even home s.located.home.executable s.located.ordinal s.bytes (form t s.located) (contribution d) code here held (directive_room (form t s.located) s multiple d here size)
 
 abbrev pub IsSized : Tables → ℕ → Site → Type 0
 IsSized t multiple s = s.located.placed ≡ true → HasSize (form t s.located) s multiple s.located.kind
 
-site_even : (t : Tables) (home : Section) (s : Site) (multiple : ℕ) → home.executable ≡ true → IsIn home s → IsSized t multiple s → s.bytes ≡ length (flat_map part_bytes (parts_of t s)) → s.bytes % 2 ≡ 0
-site_even t home s multiple code h sized bytes = go s.located.placed refl
+site_even : (t : Tables) (home : Section) (s : Site) (multiple : ℕ) → home.executable ≡ true → IsIn home s → IsSized t multiple s → AllByRecursion IsEvenPart (parts_of t s)
+site_even t home s multiple code h sized = go s.located.placed refl
   where
-    go : (b : Bool) → s.located.placed ≡ b → s.bytes % 2 ≡ 0
-    go true e = size_even (form t s.located) home s multiple s.located.kind code (ap (λ (x : Section). x.executable) h.same ∙ code) h.held (sized e)
-    go false e = none_even s.bytes (bytes ∙ ap (λ (l : List Template). length (flat_map part_bytes (map (part_of s.located.ordinal) l))) (h.bare e t s))
+    go : (b : Bool) → s.located.placed ≡ b → AllByRecursion IsEvenPart (parts_of t s)
+    go true e = kind_even t home s multiple s.located.kind code (ap (λ (x : Section). x.executable) h.same ∙ code) h.held (sized e)
+    go false e = subst (λ ts. AllByRecursion IsEvenPart (map (part_of s.located.ordinal) ts)) (sym (h.bare e t s)) tt
 
-pub end_even : (t : Tables) (home : Section) (multiple offset : ℕ) (sites : List Site) → home.executable ≡ true → AllByRecursion (IsIn home) sites → AllByRecursion (IsSized t multiple) sites → Tile t offset sites
-    → offset % 2 ≡ 0 → end_of offset sites % 2 ≡ 0
-end_even t home multiple offset [] code h sized tile even = even
-end_even t home multiple offset (s ∷ ss) code (h, hs) (z, zs) (at, bytes, tile) even =
-    let own = site_even t home s multiple code h z bytes in
-    end_even t home multiple (offset + s.bytes) ss code hs zs tile (omega (arith, even, own))
+pub parts_even : (t : Tables) (home : Section) (multiple : ℕ) (sites : List Site) → home.executable ≡ true → AllByRecursion (IsIn home) sites → AllByRecursion (IsSized t multiple) sites
+    → AllByRecursion IsEvenPart (parts t sites)
+parts_even t home multiple [] code h sized = tt
+parts_even t home multiple (s ∷ ss) code (h, hs) (z, zs) =
+    all_join IsEvenPart (parts_of t s) (parts t ss) (site_even t home s multiple code h z) (parts_even t home multiple ss code hs zs)
+
+all_even : (ps : List Part) → AllByRecursion IsEvenPart ps → length (flat_map part_bytes ps) % 2 ≡ 0
+all_even [] h = refl
+all_even (p ∷ ps) (h, hs) =
+    let rest = all_even ps hs in
+    let l = length-append (part_bytes p) (flat_map part_bytes ps) in
+    omega (arith, h, rest, l)
+
+pub end_even : (t : Tables) (home : Section) (multiple : ℕ) (sites : List Site) → home.executable ≡ true → AllByRecursion (IsIn home) sites → AllByRecursion (IsSized t multiple) sites → Tile t 0 sites
+    → end_of 0 sites % 2 ≡ 0
+end_even t home multiple sites code h sized tile =
+    let whole = filled t 0 sites tile in
+    let even = all_even (parts t sites) (parts_even t home multiple sites code h sized) in
+    omega (arith, whole, even)
 
 -- each statement of a section ends within it
 pub ends_within : (t : Tables) (offset : ℕ) (sites : List Site) → Tile t offset sites → (stop : ℕ) → end_of offset sites ≡ stop → AllByRecursion (λ s. s.offset + s.bytes ≤ stop) sites

@@ -1,9 +1,10 @@
 pub mod Settled
 pub mod FieldLists
+pub mod Alignments
+pub mod Room
 pub mod CodeFits
 pub mod ValueSymbols
 pub mod UsesKnown
-pub mod Alignments
 pub mod NamesKept
 pub mod EvenCode
 pub mod FieldsInside

@@ -1,6 +1,6 @@
 -- The symbols that relocations name are names that a map can show, or have a definition in their file.
 
-use Rattle.std.proofs.Common.{◌≡◌, ℕ, suc, Bool, true, false, ◌&&◌, List, [], ◌∷◌, ◌++◌, refl, sym, ap, ◌∙◌, subst, map, Option, Some, None}
+use Rattle.std.proofs.Common.{◌≡◌, ℕ, zero, suc, Bool, true, false, ◌&&◌, List, [], ◌∷◌, ◌++◌, refl, sym, ap, ◌∙◌, subst, map, Option, Some, None}
 use Rattle.std.proofs.lemmas.Bool.{and_parts}
 use Rattle.std.proofs.lemmas.List.Folds.{list_all-append}
 use Rattle.std.specs.Prelude.{⊤, if◌then◌else◌, flat_map, is_some, unwrap_or}
@@ -20,7 +20,7 @@ use Rattle.rv_source_laws.specs.Program.{place_of, in_operand, in_contribution}
 use Rattle.rv_source_laws.specs.Lines.{other_operand, operand_of, is_low_part}
 use Rattle.rv_assemble_laws.specs.CodeFields.{symbol_field, low_field, low_field_at, label_field, field_of, relax_fields, part_fields}
 use Rattle.rv_assemble_laws.specs.Coded.{constants}
-use Rattle.rv_assemble_laws.specs.Templates.{Datum, Open, contribution_templates}
+use Rattle.rv_assemble_laws.specs.Templates.{Datum, Open, padding_templates, contribution_templates}
 use Rattle.rv_assemble_laws.specs.Sites.{Site, form, part_of, parts_of, coded_templates, templates}
 use Rattle.rv_assemble_laws.specs.Symbols.{SymbolUse, use_of, references_in, references_of, references}
 use Rattle.rv_assemble_laws.specs.ShownNames.{primary_names, tree_names, own_names, said_names, are_shown, HasNames, is_shown_use, AreShown}
@@ -88,13 +88,18 @@ module _ (t : Tables) where
       (of_value l.ordinal width (form t l e) (by_value (λ q. meaning t true l.ordinal (place_of l) q) (λ p. is_known (used l.ordinal p)) e (leaves_known l.ordinal (place_of l) e both.0)))
       (of_values l width es both.1)
 
+  of_padding : (executable : Bool) (ordinal bytes : ℕ) → list_all is_known (flat_map references_in (map (part_of ordinal) (padding_templates executable ordinal bytes))) ≡ true
+  of_padding true ordinal zero = refl
+  of_padding true ordinal (suc n) = refl
+  of_padding false ordinal bytes = refl
+
   of_contribution : (l : Located) (bytes : ℕ) (c : Contribution) → are_shown (flat_map tree_names (in_contribution c)) ≡ true
-      → list_all is_known (flat_map references_in (map (part_of l.ordinal) (contribution_templates (form t l) c bytes))) ≡ true
+      → list_all is_known (flat_map references_in (map (part_of l.ordinal) (contribution_templates l.home.executable l.ordinal (form t l) c bytes))) ≡ true
   of_contribution l bytes Nothing h = refl
   of_contribution l bytes (Bytes (Numbers width values)) h = of_values l width values h
   of_contribution l bytes (Bytes (Texts ended strings)) h = refl
   of_contribution l bytes (Zero_bytes count) h = refl
-  of_contribution l bytes (Alignment f number) h = refl
+  of_contribution l bytes (Alignment f number) h = of_padding l.home.executable l.ordinal bytes
 
   -- ---- code
 

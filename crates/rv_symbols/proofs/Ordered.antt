@@ -1,6 +1,6 @@
 -- Relocations name their symbols in the order of their statements, but for places of statements.
 
-use Rattle.std.proofs.Common.{◌≡◌, ℕ, suc, ◌+◌, ◌≤◌, Bool, true, false, List, [], ◌∷◌, ◌++◌, length, map, refl, sym, ap, ◌∙◌, subst, arith, append_assoc, inl, inr, Option, Some, None}
+use Rattle.std.proofs.Common.{◌≡◌, ℕ, zero, suc, ◌+◌, ◌≤◌, Bool, true, false, List, [], ◌∷◌, ◌++◌, length, map, refl, sym, ap, ◌∙◌, subst, arith, append_assoc, inl, inr, Option, Some, None}
 use Rattle.std.specs.Prelude.{◌⊎◌, flat_map, unwrap_or, if◌then◌else◌}
 use Rattle.std.specs.List.{AllByRecursion}
 use Rattle.rv_isa.specs.declared.kind.Kind.{Kind}
@@ -15,7 +15,7 @@ use Rattle.rv_source_laws.specs.Located.{Located, located_from}
 use Rattle.rv_source_laws.specs.Lines.{operand_of, is_low_part}
 use Rattle.rv_assemble_laws.specs.CodeFields.{symbol_field, low_field, low_field_at, label_field, field_of, relax_fields, part_fields}
 use Rattle.rv_assemble_laws.specs.Coded.{constants}
-use Rattle.rv_assemble_laws.specs.Templates.{Template, Open, value_fields, contents_templates, contribution_templates}
+use Rattle.rv_assemble_laws.specs.Templates.{Template, Open, value_fields, padding_templates, contents_templates, contribution_templates}
 use Rattle.rv_assemble_laws.specs.Sites.{Site, part_of, parts_of, form, coded_templates, templates}
 use Rattle.rv_assemble_laws.specs.Symbols.{SymbolUse, use_of, references_in, references_of, references}
 use Rattle.rv_symbols.specs.Found.{is_here, Rises}
@@ -102,12 +102,17 @@ of_values : (t : Tables) (n width : ℕ) (v : Expression → Value) (es : List E
 of_values t n width v [] = tt
 of_values t n width v (e ∷ es) = of_join t n (uses (value_fields n width (v e))) _ (of_data t n width (v e)) (of_values t n width v es)
 
-of_contribution : (t : Tables) (n : ℕ) (v : Expression → Value) (c : Contribution) (bytes : ℕ) → Parts t n (contribution_templates v c bytes)
-of_contribution t n v Nothing bytes = tt
-of_contribution t n v (Bytes (Numbers width es)) bytes = of_values t n width v es
-of_contribution t n v (Bytes (Texts ended strings)) bytes = tt
-of_contribution t n v (Zero_bytes count) bytes = tt
-of_contribution t n v (Alignment form number) bytes = tt
+of_padding : (t : Tables) (n : ℕ) (executable : Bool) (bytes : ℕ) → Parts t n (padding_templates executable n bytes)
+of_padding t n true zero = tt
+of_padding t n true (suc bytes) = tt
+of_padding t n false bytes = tt
+
+of_contribution : (t : Tables) (executable : Bool) (n : ℕ) (v : Expression → Value) (c : Contribution) (bytes : ℕ) → Parts t n (contribution_templates executable n v c bytes)
+of_contribution t executable n v Nothing bytes = tt
+of_contribution t executable n v (Bytes (Numbers width es)) bytes = of_values t n width v es
+of_contribution t executable n v (Bytes (Texts ended strings)) bytes = tt
+of_contribution t executable n v (Zero_bytes count) bytes = tt
+of_contribution t executable n v (Alignment by number) bytes = of_padding t n executable bytes
 
 of_code : (t : Tables) (v : Expression → Value) (s : Located) (ps : List CodePart) (coded : List (List ℕ)) → Parts t s.ordinal (coded_templates (part_fields t v s) ps coded)
 of_code t v s [] coded = tt
@@ -119,7 +124,7 @@ of_kind t s (Label name) = tt
 of_kind t s (Numbered number) = tt
 of_kind t s (Instruction mnemonic operands) =
     of_code t (form t s.located) s.located (unwrap_or (code (constants (form t s.located)) s.located.options.rvc s.bytes mnemonic operands) []) s.coded
-of_kind t s (Directs d) = of_contribution t s.located.ordinal (form t s.located) (contribution d) s.bytes
+of_kind t s (Directs d) = of_contribution t s.located.home.executable s.located.ordinal (form t s.located) (contribution d) s.bytes
 
 pub of_site : (t : Tables) (s : Site) → AreOf t s.located.ordinal (references_of t s)
 of_site t s = go s.located.home.loaded
