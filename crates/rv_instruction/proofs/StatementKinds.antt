@@ -32,8 +32,7 @@ use Rattle.rv_source_laws.specs.Lines as lines
 use Rattle.rv_source_laws.specs.Lines.{constant_of}
 use Rattle.rv_unit_laws.specs.Faults.{lowest}
 use Rattle.rv_assemble_laws.specs.Coded.{constants, joined, part_instructions, instructions_in, AreCodedParts}
-use Rattle.rv_assemble_laws.specs.InstructionFaults.{else_unplaced, target_faults}
-use Rattle.rv_assemble_laws.specs.Refusals.{code_faults}
+use Rattle.rv_assemble_laws.specs.InstructionFaults.{instruction_faults, else_unplaced, target_faults}
 use Rattle.rv_instruction.specs.declared.encoded.Coded.{Coded}
 use Rattle.rv_instruction.specs.Code.{coded_by, encoded_instructions, instructions_of, shape_in, shape_of, parts_in, known_as, is_taken, scratch_of, faults_of, form_by, near_forms_of, OffersAny, MayHave, AreCodable, HasCode, Codes, HasTemplates, IsExpanded, IsOfNumber, IsTaken, IsBuilt}
 use Rattle.rv_instruction.proofs.Encoding.{coded_bytes, one_instruction, sum_both}
@@ -74,9 +73,9 @@ steady kind v rvc bytes ps none rows = record {
 
 -- ---- without an expression
 
-plain_faults : (p : Plain) (b : Bool) (v : Expression → values.Value) (l : Primary → Bool) → code_faults b v l (plain_of p) ≡ []
-plain_faults plains.Ecall b v l = refl
-plain_faults _ b v l = refl
+plain_faults : (p : Plain) (v : Expression → values.Value) (l : Primary → Bool) → instruction_faults v l (plain_of p) ≡ []
+plain_faults plains.Ecall v l = refl
+plain_faults _ v l = refl
 
 pub plain_instruction : (p : Plain) → is_instruction (plain_of p) ≡ true
 plain_instruction plains.Ecall = refl
@@ -90,10 +89,10 @@ pub plain_row : (p : Plain) (rvc : Bool) (found : List Template) → ((bytes : �
     → (c : Constants) (bytes : ℕ) → lines.parts_of c rvc bytes (plain_of p) ≡ Some (parts_in found)
 plain_row p rvc found are c bytes = plain_same p c rvc bytes ∙ row_back _ found (plain_closed p c rvc bytes) (are bytes c)
 
-pub plain_expanded : (p : Plain) (s : Statement) (b : Bool) (bytes : ℕ) (v : Expression → values.Value) (l : Primary → Bool) (rvc : Bool) (found : ArrayVec Template)
-    → s.kind ≡ plain_of p → ((size : ℕ) → AreTemplates rvc size (plain_of p) found.items) → IsExpanded b rvc bytes v l s (Ok found)
-plain_expanded p s b bytes v l rvc found e are = (
-  ap (code_faults b v l) e ∙ plain_faults p b v l,
+pub plain_expanded : (p : Plain) (s : Statement) (bytes : ℕ) (v : Expression → values.Value) (l : Primary → Bool) (rvc : Bool) (found : ArrayVec Template)
+    → s.kind ≡ plain_of p → ((size : ℕ) → AreTemplates rvc size (plain_of p) found.items) → IsExpanded rvc bytes v l s (Ok found)
+plain_expanded p s bytes v l rvc found e are = (
+  ap (instruction_faults v l) e ∙ plain_faults p v l,
   subst (λ k. HasTemplates v rvc bytes k found.items) (sym e)
       (has_row (plain_of p) v rvc bytes found.items (plain_instruction p)
       (steady (plain_of p) v rvc bytes (parts_in found.items) (plain_near p rvc) (plain_row p rvc found.items are (constants v)))),
@@ -117,21 +116,21 @@ alone placed faults = ap (else_unplaced placed) (append-nil faults)
 beside : (placed : Bool) (scratch faults : List ℕ) → else_unplaced placed (scratch ++ (faults ++ [])) ≡ else_unplaced placed (scratch ++ faults)
 beside placed scratch faults = ap (λ t. else_unplaced placed (scratch ++ t)) (append-nil faults)
 
-with_faults : (operation : Operation) (function : Option Function) (e : Expression) (b : Bool) (v : Expression → values.Value) (l : Primary → Bool)
-    → code_faults b v l (statement_with operation function e) ≡ else_unplaced (is_placed v (statement_with operation function e)) (faults_of l operation function (v e))
-with_faults (operations.LoadSymbol operation rd) None e b v l = beside (is_placed v (statement_with (operations.LoadSymbol operation rd) None e)) (scratch_of (operations.LoadSymbol operation rd)) (target_faults (v e))
-with_faults (operations.StoreSymbol operation rs2 rt) None e b v l = beside (is_placed v (statement_with (operations.StoreSymbol operation rs2 rt) None e)) (scratch_of (operations.StoreSymbol operation rs2 rt)) (target_faults (v e))
-with_faults (operations.Call rd) None e b v l = beside (is_placed v (statement_with (operations.Call rd) None e)) (scratch_of (operations.Call rd)) (target_faults (v e))
-with_faults (operations.Jump rt) None e b v l = beside (is_placed v (statement_with (operations.Jump rt) None e)) (scratch_of (operations.Jump rt)) (target_faults (v e))
-with_faults operation None e b v l = alone (is_placed v (statement_with operation None e)) (faults_of l operation None (v e))
-with_faults (operations.Li rd) (Some Hi) e b v l = alone (is_placed v (statement_with (operations.Li rd) (Some Hi) e)) (faults_of l (operations.Li rd) (Some Hi) (v e))
-with_faults (operations.Li rd) (Some Lo) e b v l = alone (is_placed v (statement_with (operations.Li rd) (Some Lo) e)) (faults_of l (operations.Li rd) (Some Lo) (v e))
-with_faults (operations.Li rd) (Some PcrelHi) e b v l = alone (is_placed v (statement_with (operations.Li rd) (Some PcrelHi) e)) (faults_of l (operations.Li rd) (Some PcrelHi) (v e))
-with_faults (operations.Li rd) (Some PcrelLo) e b v l = alone (is_placed v (statement_with (operations.Li rd) (Some PcrelLo) e)) (faults_of l (operations.Li rd) (Some PcrelLo) (v e))
-with_faults operation (Some Hi) e b v l = alone (is_placed v (statement_with operation (Some Hi) e)) (faults_of l operation (Some Hi) (v e))
-with_faults operation (Some Lo) e b v l = alone (is_placed v (statement_with operation (Some Lo) e)) (faults_of l operation (Some Lo) (v e))
-with_faults operation (Some PcrelHi) e b v l = alone (is_placed v (statement_with operation (Some PcrelHi) e)) (faults_of l operation (Some PcrelHi) (v e))
-with_faults operation (Some PcrelLo) e b v l = alone (is_placed v (statement_with operation (Some PcrelLo) e)) (faults_of l operation (Some PcrelLo) (v e))
+with_faults : (operation : Operation) (function : Option Function) (e : Expression) (v : Expression → values.Value) (l : Primary → Bool)
+    → instruction_faults v l (statement_with operation function e) ≡ else_unplaced (is_placed v (statement_with operation function e)) (faults_of l operation function (v e))
+with_faults (operations.LoadSymbol operation rd) None e v l = beside (is_placed v (statement_with (operations.LoadSymbol operation rd) None e)) (scratch_of (operations.LoadSymbol operation rd)) (target_faults (v e))
+with_faults (operations.StoreSymbol operation rs2 rt) None e v l = beside (is_placed v (statement_with (operations.StoreSymbol operation rs2 rt) None e)) (scratch_of (operations.StoreSymbol operation rs2 rt)) (target_faults (v e))
+with_faults (operations.Call rd) None e v l = beside (is_placed v (statement_with (operations.Call rd) None e)) (scratch_of (operations.Call rd)) (target_faults (v e))
+with_faults (operations.Jump rt) None e v l = beside (is_placed v (statement_with (operations.Jump rt) None e)) (scratch_of (operations.Jump rt)) (target_faults (v e))
+with_faults operation None e v l = alone (is_placed v (statement_with operation None e)) (faults_of l operation None (v e))
+with_faults (operations.Li rd) (Some Hi) e v l = alone (is_placed v (statement_with (operations.Li rd) (Some Hi) e)) (faults_of l (operations.Li rd) (Some Hi) (v e))
+with_faults (operations.Li rd) (Some Lo) e v l = alone (is_placed v (statement_with (operations.Li rd) (Some Lo) e)) (faults_of l (operations.Li rd) (Some Lo) (v e))
+with_faults (operations.Li rd) (Some PcrelHi) e v l = alone (is_placed v (statement_with (operations.Li rd) (Some PcrelHi) e)) (faults_of l (operations.Li rd) (Some PcrelHi) (v e))
+with_faults (operations.Li rd) (Some PcrelLo) e v l = alone (is_placed v (statement_with (operations.Li rd) (Some PcrelLo) e)) (faults_of l (operations.Li rd) (Some PcrelLo) (v e))
+with_faults operation (Some Hi) e v l = alone (is_placed v (statement_with operation (Some Hi) e)) (faults_of l operation (Some Hi) (v e))
+with_faults operation (Some Lo) e v l = alone (is_placed v (statement_with operation (Some Lo) e)) (faults_of l operation (Some Lo) (v e))
+with_faults operation (Some PcrelHi) e v l = alone (is_placed v (statement_with operation (Some PcrelHi) e)) (faults_of l operation (Some PcrelHi) (v e))
+with_faults operation (Some PcrelLo) e v l = alone (is_placed v (statement_with operation (Some PcrelLo) e)) (faults_of l operation (Some PcrelLo) (v e))
 
 -- ---- with a constant
 
@@ -287,25 +286,25 @@ built_rows operation function x v rvc bytes found (values.Symbolic symbol at plu
 built_rows operation function x v rvc bytes found (values.Difference symbol minus plus) e (number, same, is) = absurd (cc)
 built_rows operation function x v rvc bytes found (values.Faulty code) e (number, same, is) = absurd (cc)
 
-pub operand_expanded : (operation : Operation) (function : Option Function) (x : Expression) (s : Statement) (b : Bool) (bytes : ℕ) (v : Expression → values.Value) (l : Primary → Bool) (rvc : Bool)
+pub operand_expanded : (operation : Operation) (function : Option Function) (x : Expression) (s : Statement) (bytes : ℕ) (v : Expression → values.Value) (l : Primary → Bool) (rvc : Bool)
     (r : Result (ArrayVec Template) SourceFault)
-    → s.kind ≡ statement_with operation function x → IsBuilt l operation function (v x) rvc bytes s.line r → IsExpanded b rvc bytes v l s r
-operand_expanded operation function x s b bytes v l rvc (Ok found) says (own, is) =
+    → s.kind ≡ statement_with operation function x → IsBuilt l operation function (v x) rvc bytes s.line r → IsExpanded rvc bytes v l s r
+operand_expanded operation function x s bytes v l rvc (Ok found) says (own, is) =
     let kind = statement_with operation function x in
     let rows = built_rows operation function x v rvc bytes found (v x) refl is in (
-      ap (code_faults b v l) says ∙ with_faults operation function x b v l ∙ faultless (is_placed v kind) (faults_of l operation function (v x)) rows.1 own,
+      ap (instruction_faults v l) says ∙ with_faults operation function x v l ∙ faultless (is_placed v kind) (faults_of l operation function (v x)) rows.1 own,
       subst (λ k. HasTemplates v rvc bytes k found.items) (sym says) (has_row kind v rvc bytes found.items (operand_instruction operation function x) rows.0),
     )
-operand_expanded operation function x s b bytes v l rvc (Err (At code at)) says (inl low, line) = (
-  ap (λ k. lowest (code_faults b v l k)) says ∙ ap lowest (with_faults operation function x b v l) ∙ lowest_same (is_placed v (statement_with operation function x)) (faults_of l operation function (v x)) _ low,
+operand_expanded operation function x s bytes v l rvc (Err (At code at)) says (inl low, line) = (
+  ap (λ k. lowest (instruction_faults v l k)) says ∙ ap lowest (with_faults operation function x v l) ∙ lowest_same (is_placed v (statement_with operation function x)) (faults_of l operation function (v x)) _ low,
   line,
 )
-operand_expanded operation function x s b bytes v l rvc (Err (At code at)) says (inr (own, untaken, same), line) = (
-  ap (λ k. lowest (code_faults b v l k)) says ∙ ap lowest (with_faults operation function x b v l)
+operand_expanded operation function x s bytes v l rvc (Err (At code at)) says (inr (own, untaken, same), line) = (
+  ap (λ k. lowest (instruction_faults v l k)) says ∙ ap lowest (with_faults operation function x v l)
       ∙ unplaced (is_placed v (statement_with operation function x)) (faults_of l operation function (v x)) _ (untaken_placed operation function l v x (v x) untaken own) own same,
   line,
 )
-operand_expanded operation function x s b bytes v l rvc (Err OutOfMemory) says built = built
+operand_expanded operation function x s bytes v l rvc (Err OutOfMemory) says built = built
 
 -- ---- as it lies in memory
 
@@ -348,11 +347,11 @@ has_code (Label name) v rvc bytes ts found none offers codable coded shapes = no
 has_code (Numbered number) v rvc bytes ts found none offers codable coded shapes = nothing (parts_in ts) found (ap parts_in none) shapes
 has_code (Directs directive) v rvc bytes ts found none offers codable coded shapes = nothing (parts_in ts) found (ap parts_in none) shapes
 
-pub codes_of : (b : Bool) (rvc : Bool) (bytes : ℕ) (v : Expression → values.Value) (l : Primary → Bool) (s : Statement) (ts : ArrayVec Template) (found : ArrayVec Coded)
-    → IsExpanded b rvc bytes v l s (Ok ts) → MayHave rvc s.kind bytes → AreCodable ts.items → AreCodedParts (rvc && are_closed (parts_in ts.items)) (parts_in ts.items) (coded_by found.items)
-    → map shape_in found.items ≡ map shape_of (parts_in ts.items) → Codes b rvc bytes v l s (Ok found)
-codes_of b rvc bytes v l s ts found (sound, has) offers codable coded shapes = (sound, has_code s.kind v rvc bytes ts.items found.items has offers codable coded shapes)
+pub codes_of : (rvc : Bool) (bytes : ℕ) (v : Expression → values.Value) (l : Primary → Bool) (s : Statement) (ts : ArrayVec Template) (found : ArrayVec Coded)
+    → IsExpanded rvc bytes v l s (Ok ts) → MayHave rvc s.kind bytes → AreCodable ts.items → AreCodedParts (rvc && are_closed (parts_in ts.items)) (parts_in ts.items) (coded_by found.items)
+    → map shape_in found.items ≡ map shape_of (parts_in ts.items) → Codes rvc bytes v l s (Ok found)
+codes_of rvc bytes v l s ts found (sound, has) offers codable coded shapes = (sound, has_code s.kind v rvc bytes ts.items found.items has offers codable coded shapes)
 
-pub refused_codes : (b : Bool) (rvc : Bool) (bytes : ℕ) (v : Expression → values.Value) (l : Primary → Bool) (s : Statement) (f : SourceFault) → IsExpanded b rvc bytes v l s (Err f) → Codes b rvc bytes v l s (Err f)
-refused_codes b rvc bytes v l s (At code at) is = is
-refused_codes b rvc bytes v l s OutOfMemory is = is
+pub refused_codes : (rvc : Bool) (bytes : ℕ) (v : Expression → values.Value) (l : Primary → Bool) (s : Statement) (f : SourceFault) → IsExpanded rvc bytes v l s (Err f) → Codes rvc bytes v l s (Err f)
+refused_codes rvc bytes v l s (At code at) is = is
+refused_codes rvc bytes v l s OutOfMemory is = is

@@ -13,11 +13,8 @@ use Rattle.rv_unit.specs.Faults.{IsLowest}
 use Rattle.rv_pseudo.specs.declared.template.Template.{Template}
 use Rattle.rv_assemble_laws.proofs.Held.{no_lowest}
 use Rattle.rv_instruction.specs.Code.{faults_of, IsElseUnplaced, IsTaken, IsBuilt}
-use Rattle.std.specs.Prelude.{◌&&◌, not, min, is_some, option_map}
-use Rattle.rv_text_laws.specs.Codes.{unsupported_here}
-use Rattle.rv_unit_laws.specs.Faults.{faulty_if, lowest}
-use Rattle.rv_source_laws.specs.Fits.{is_low}
-use Rattle.rv_assemble_laws.specs.Refusals.{padding_faults}
+use Rattle.std.specs.Prelude.{min, is_some, option_map}
+use Rattle.rv_unit_laws.specs.Faults.{lowest}
 
 pub some_mapped : {X Y : Type 0} (f : X → Y) (o : Option X) (p : Option Y) → option_map f o ≡ p → is_some o ≡ is_some p
 some_mapped f None p e = ap is_some e
@@ -32,15 +29,6 @@ with_code c found = elim found [
 -- the lowest code of one before others, whose lowest was found
 pub first_lowest : (c : ℕ) (cs : List ℕ) (found : Option ℕ) → found ≡ lowest cs → with_code c found ≡ lowest (c ∷ cs)
 first_lowest c cs found e = ap (with_code c) e
-
--- an alignment without padding in code has no fault, one with padding cannot be placed
-pub padded_low : (faults : List ℕ) (executable : Bool) (alignment : Option ℕ) → faults ≡ padding_faults executable alignment
-    → (not (is_low alignment) && executable) ≡ false → faults ≡ []
-padded_low faults executable alignment e none = e ∙ ap (λ b. faulty_if b unsupported_here) none
-
-pub padded_high : (faults : List ℕ) (executable : Bool) (alignment : Option ℕ) → faults ≡ padding_faults executable alignment
-    → (not (is_low alignment) && executable) ≡ true → lowest faults ≡ Some unsupported_here
-padded_high faults executable alignment e some = ap lowest (e ∙ ap (λ b. faulty_if b unsupported_here) some)
 
 -- templates where nothing is wrong, or that there is no row
 pub built_by : (l : Primary → Bool) (operation : Operation) (function : Option Function) (v : values.Value) (rvc : Bool) (bytes line : ℕ) (found : Option (ArrayVec Template))

@@ -36,8 +36,7 @@ use Rattle.rv_pseudo.specs.declared.template.Template.{Template}
 use Rattle.rv_pseudo.specs.Faults.{takes_target, fault}
 use Rattle.rv_pseudo.specs.Templates.{templates, statement_with, asked_bytes}
 use Rattle.rv_assemble_laws.specs.Coded.{IsCode, constants, joined}
-use Rattle.rv_assemble_laws.specs.InstructionFaults.{number_faults, target_faults, upper_faults, low_faults, distance_faults}
-use Rattle.rv_assemble_laws.specs.Refusals.{code_faults}
+use Rattle.rv_assemble_laws.specs.InstructionFaults.{instruction_faults, number_faults, target_faults, upper_faults, low_faults, distance_faults}
 use Rattle.rv_source_laws.specs.Sizes.{near_forms}
 use Rattle.rv_instruction.specs.declared.encoded.Encoded.{Encoded}
 use Rattle.rv_instruction.specs.declared.encoded.Encoded.TheVariants.{Parcel, Word, Pair}
@@ -112,16 +111,16 @@ HasCode v rvc bytes (Instruction mnemonic operands) found =
     IsCodeOf v rvc bytes mnemonic operands found
 HasCode v rvc bytes kind found = found ≡ []
 
--- the code of a statement in a section of code or not, or the lowest code of its faults; l says
--- which symbols are labels of the file
+-- the code of a statement, or the lowest code of its faults; l says which symbols are labels of the
+-- file
 abbrev pub Codes :
-    Bool → Bool → ℕ → (Expression → values.Value) → (Primary → Bool) → Statement
+    Bool → ℕ → (Expression → values.Value) → (Primary → Bool) → Statement
     → Result (ArrayVec Coded) SourceFault → Type 0
-Codes executable rvc bytes v l s (Ok found) =
-    (code_faults executable v l s.kind ≡ []) × HasCode v rvc bytes s.kind found.items
-Codes executable rvc bytes v l s (Err (At code at)) =
-    (lowest (code_faults executable v l s.kind) ≡ Some (number_of code)) × (at ≡ s.line)
-Codes executable rvc bytes v l s (Err OutOfMemory) = ⊥
+Codes rvc bytes v l s (Ok found) =
+    (instruction_faults v l s.kind ≡ []) × HasCode v rvc bytes s.kind found.items
+Codes rvc bytes v l s (Err (At code at)) =
+    (lowest (instruction_faults v l s.kind) ≡ Some (number_of code)) × (at ≡ s.line)
+Codes rvc bytes v l s (Err OutOfMemory) = ⊥
 
 -- ---- templates as parts
 
@@ -208,13 +207,13 @@ HasTemplates v rvc bytes kind found = found ≡ []
 
 -- the same, or the lowest code of the statement's faults
 abbrev pub IsExpanded :
-    Bool → Bool → ℕ → (Expression → values.Value) → (Primary → Bool) → Statement
+    Bool → ℕ → (Expression → values.Value) → (Primary → Bool) → Statement
     → Result (ArrayVec Template) SourceFault → Type 0
-IsExpanded executable rvc bytes v l s (Ok found) =
-    (code_faults executable v l s.kind ≡ []) × HasTemplates v rvc bytes s.kind found.items
-IsExpanded executable rvc bytes v l s (Err (At code at)) =
-    (lowest (code_faults executable v l s.kind) ≡ Some (number_of code)) × (at ≡ s.line)
-IsExpanded executable rvc bytes v l s (Err OutOfMemory) = ⊥
+IsExpanded rvc bytes v l s (Ok found) =
+    (instruction_faults v l s.kind ≡ []) × HasTemplates v rvc bytes s.kind found.items
+IsExpanded rvc bytes v l s (Err (At code at)) =
+    (lowest (instruction_faults v l s.kind) ≡ Some (number_of code)) × (at ≡ s.line)
+IsExpanded rvc bytes v l s (Err OutOfMemory) = ⊥
 
 -- ---- operations
 

@@ -13,8 +13,7 @@ use Rattle.rv_tables.specs.Sections.{offset_of}
 use Rattle.rv_unit.specs.declared.scope.Scope.{Scope}
 use Rattle.rv_unit.specs.Unit.{said, passed, IsFilled, IsScope}
 use Rattle.rv_source_laws.specs.Located.{is_placed}
-use Rattle.rv_assemble_laws.specs.InstructionFaults.{is_label}
-use Rattle.rv_assemble_laws.specs.Refusals.{code_faults}
+use Rattle.rv_assemble_laws.specs.InstructionFaults.{instruction_faults, is_label}
 
 -- the values of expressions in the statement at this index from 0, which stands at this offset
 abbrev pub values_at : Scope → ℕ → SectionOffset → Expression → values.Value
@@ -25,10 +24,10 @@ values_at scope index place e =
 abbrev pub labels_at : Scope → ℕ → Primary → Bool
 labels_at scope index q = is_label (tables (said scope.unit.now)) (index + 1) q
 
--- the faults of that statement as code, in a section of code or not
-abbrev pub faults_at : Scope → ℕ → SectionOffset → Bool → StatementKind → List ℕ
-faults_at scope index place executable kind =
-    code_faults executable (values_at scope index place) (labels_at scope index) kind
+-- the faults of that statement as code
+abbrev pub faults_at : Scope → ℕ → SectionOffset → StatementKind → List ℕ
+faults_at scope index place kind =
+    instruction_faults (values_at scope index place) (labels_at scope index) kind
 
 -- ---- what is said of that statement, and of a value
 

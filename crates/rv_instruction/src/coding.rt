@@ -1,17 +1,14 @@
 //! The code of a statement.
 
-ghost use Rattle.std.specs.Prelude.{◌≡◌, ◌≤◌, ℕ, Bool, not, ◌&&◌, List, [], length, IfOk};
-ghost use Rattle.rv_text_laws.specs.Expression.{Primary};
+ghost use Rattle.std.specs.Prelude.{◌≡◌, ◌≤◌, ℕ, length, IfOk};
 ghost use Rattle.rv_text_laws.specs.Values as values;
 ghost use Rattle.rv_text.specs.Eval.{IsOutcome};
-ghost use Rattle.rv_statement.specs.Statement.{Expression, Statement as SpecStatement};
+ghost use Rattle.rv_statement.specs.Statement.{Expression};
 ghost use Rattle.rv_statement.specs.View.{statement_of};
 ghost use Rattle.rv_unit.specs.Unit.{IsFilled, IsScope};
-ghost use Rattle.rv_source_laws.specs.Fits.{is_low};
-ghost use Rattle.rv_assemble_laws.specs.Refusals.{padding_faults, code_faults};
 ghost use Rattle.rv_pseudo.specs.Templates.{statement_with};
 ghost use Rattle.rv_instruction.specs.Code as laws;
-ghost use Rattle.rv_instruction.specs.Code.{Codes, AreCodable, HasTemplates, IsBuilt, IsExpanded, IsNumber, MayHave};
+ghost use Rattle.rv_instruction.specs.Code.{Codes, AreCodable, IsBuilt, IsExpanded, IsNumber, MayHave};
 ghost use Rattle.rv_instruction.specs.Scoped.{values_at, labels_at};
 
 use crate::encoded::{Code, encode_all};
@@ -21,7 +18,7 @@ use arrayvec::ArrayVec;
 use rv_pseudo::Templates;
 use rv_statement::{Function, Operation, Statement, StatementKind};
 use rv_text::{SourceCode, SourceFault, Value};
-use rv_unit::{Scope, SectionOffset, byte_alignment, power_alignment};
+use rv_unit::{Scope, SectionOffset};
 
 /// The number of an expression that has to be a constant, by its value; else its fault at a line.
 pub fn constant(value: Result<Value<'_>, SourceFault>, line: u32) -> Result<u64, SourceFault>
@@ -75,49 +72,19 @@ fn with_value<'a>(
     }
 }
 
-/// Whether an alignment has padding in code: above 2, in a section of code.
-fn is_padded(executable: bool, alignment: Option<u32>) -> bool
-    ensures { result ≡ (not (is_low alignment) && executable) }
-{
-    match alignment {
-        Some(alignment) => alignment > 2 && executable,
-        None => false,
-    }
-}
-
-/// What an alignment has: no instruction, and in code no padding, which cannot be placed yet.
-#[tactic(auto, using(crate::proofs::Unplaced::padded_low, crate::proofs::Unplaced::padded_high))]
-fn unpadded(executable: bool, alignment: Option<u32>, line: u32) -> Result<Templates, SourceFault>
-    ensures codable { IfOk result (λ t. AreCodable t.items) }
-    ensures built { (compressed : Bool) (bytes : ℕ) (v : Expression → values.Value) (l : Primary → Bool)
-        (s : SpecStatement)
-        → code_faults executable v l s.kind ≡ padding_faults executable alignment
-        → HasTemplates v compressed bytes s.kind [] → s.line ≡ line
-        → IsExpanded executable compressed bytes v l s result }
-{
-    if is_padded(executable, alignment) {
-        return Err(SourceFault::At {
-            code: SourceCode::UnsupportedHere,
-            line,
-        });
-    }
-    Ok(ArrayVec::new())
-}
-
 /// The instructions of the statement that is next, none where it is no instruction, or the lowest
 /// code of its faults as code; a branch or a jump has so many bytes.
 fn expanded<'a>(
     statement: &Statement<'a>,
     scope: &Scope<'_, 'a>,
     place: SectionOffset,
-    executable: bool,
     compressed: bool,
     bytes: u8,
 ) -> Result<Templates, SourceFault>
     ensures codable { MayHave compressed (statement_of statement.now).kind bytes
         → IfOk result (λ t. AreCodable t.items) }
     ensures built { (index : ℕ) → IsFilled (scope.now).unit.now → IsScope scope.now index
-        → IsExpanded executable compressed bytes (values_at scope.now index place)
+        → IsExpanded compressed bytes (values_at scope.now index place)
         (labels_at scope.now index) (statement_of statement.now) result }
 {
     let line = statement.line;
@@ -132,42 +99,31 @@ fn expanded<'a>(
             let function = Some(*function);
             with_value(scope, *operation, function, &value, compressed, bytes, line)
         }
-        StatementKind::AlignsToPower(exponent) => {
-            let alignment = power_alignment(scope.value(place, exponent, 0));
-            unpadded(executable, alignment, line)
-        }
-        StatementKind::AlignsToBytes(bytes) => {
-            let alignment = byte_alignment(scope.value(place, bytes, 0));
-            unpadded(executable, alignment, line)
-        }
         _ => Ok(ArrayVec::new()),
     }
 }
 
-/// The code of the statement that is next, none where it is no instruction: in a section of code or
-/// not, where compressed code is on or off. A branch or a jump that may be near has `bytes` bytes;
-/// no other is asked.
+/// The code of the statement that is next, none where it is no instruction, where compressed code is
+/// on or off. A branch or a jump that may be near has `bytes` bytes; no other is asked.
 ///
 /// # Errors
 ///
 /// At the statement's line the lowest code of its faults as code; E9 where nothing else is wrong
-/// with an alignment that has padding in code, or with a part of an address in a field that takes
-/// none. Never want of memory.
+/// with a part of an address in a field that takes none. Never want of memory.
 pub fn code<'a>(
     statement: &Statement<'a>,
     scope: &Scope<'_, 'a>,
     place: SectionOffset,
-    executable: bool,
     compressed: bool,
     bytes: u8,
 ) -> Result<Code, SourceFault>
     requires { MayHave compressed (statement_of statement.now).kind bytes }
     ensures few { IfOk result (λ c. length c.items ≤ 8) }
     ensures codes { (index : ℕ) → IsFilled (scope.now).unit.now → IsScope scope.now index
-        → Codes executable compressed bytes (values_at scope.now index place)
+        → Codes compressed bytes (values_at scope.now index place)
         (labels_at scope.now index) (statement_of statement.now) result }
 {
-    match expanded(statement, scope, place, executable, compressed, bytes) {
+    match expanded(statement, scope, place, compressed, bytes) {
         Ok(templates) => Ok(encode_all(templates, compressed)),
         Err(fault) => Err(fault),
     }

@@ -1,19 +1,19 @@
 //! The code of a statement, with its open fields, or why it has none.
 //!
-//! It takes a statement of a unit with the scope before it (`rv_unit`), in a section of code or
-//! not, where compressed code is on or off, and how long a branch or a jump is to be. It gives its
-//! base instructions (`rv_pseudo`) as they lie in memory, part by part: in their least form where
-//! no operand is open, else with 0 in each open field and the kind of its relocation; none where it
-//! is no instruction; or the lowest code of its faults.
+//! It takes a statement of a unit with the scope before it (`rv_unit`), where compressed code is on
+//! or off, and how long a branch or a jump is to be. It gives its base instructions (`rv_pseudo`) as
+//! they lie in memory, part by part: in their least form where no operand is open, else with 0 in
+//! each open field and the kind of its relocation; none where it is no instruction; or the lowest
+//! code of its faults.
 //!
 //! The main contract: clause `codes` of [`code`] says that the faults are those of
-//! `rv_assemble_laws` (`InstructionFaults`, `Refusals`), and the code the statement's (`Coded`).
+//! `rv_assemble_laws` (`InstructionFaults`), and the code the statement's (`Coded`).
 //!
 //! It knows no address, and of other statements what the scope tells of names.
 //!
 //! ```text
 //! let mut scope = Scope::new(&unit);
-//! let code = code(&unit.statements()[0], &scope, unit.places()[0], true, false, 4)?;
+//! let code = code(&unit.statements()[0], &scope, unit.places()[0], false, 4)?;
 //! // of `li a0, 1`: Word(0x00100513), without an open field
 //! scope.pass();
 //! ```

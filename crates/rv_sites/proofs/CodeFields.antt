@@ -1,7 +1,7 @@
 -- The open fields of a statement's code, by the shapes and the bytes of its parts.
 
-use Rattle.std.proofs.Common.{◌≡◌, ℕ, zero, suc, ◌+◌, ◌≤◌, Bool, true, false, List, [], ◌∷◌, ◌++◌, length, refl, sym, ap, ◌∙◌, subst, arith, map, drop, append-nil, append_assoc, length-append, Some, inl, inr}
-use Rattle.std.specs.Prelude.{◌&&◌, unwrap_or}
+use Rattle.std.proofs.Common.{◌≡◌, ◌≢◌, ℕ, zero, suc, ◌+◌, ◌≤◌, Bool, true, false, List, [], ◌∷◌, ◌++◌, length, refl, sym, ap, ◌∙◌, subst, arith, map, drop, append-nil, append_assoc, length-append, Some, inl, inr}
+use Rattle.std.specs.Prelude.{◌&&◌, unwrap_or, if◌then◌else◌}
 use Rattle.std.proofs.lemmas.List.{at_drop_all}
 use Rattle.rv_isa.specs.declared.instruction.Inst.{Inst}
 use Rattle.rv_isa.specs.declared.kind.Kind.{Kind}
@@ -21,8 +21,8 @@ use Rattle.rv_source_laws.specs.Program.{place_of}
 use Rattle.rv_source_laws.specs.Lines.{operand_of}
 use Rattle.rv_assemble_laws.specs.CodeFields.{field_of, relax_fields, part_fields}
 use Rattle.rv_assemble_laws.specs.Coded.{IsCodedPart, AreCodedParts, constants}
-use Rattle.rv_assemble_laws.specs.Templates.{Open}
-use Rattle.rv_assemble_laws.specs.Sites.{part_of, coded_templates}
+use Rattle.rv_assemble_laws.specs.Templates.{Open, align_field}
+use Rattle.rv_assemble_laws.specs.Sites.{Site, part_of, coded_templates}
 use Rattle.rv_assemble_laws.specs.Fields.{Field, field_at, fields_from}
 use Rattle.rv_instruction.specs.declared.encoded.Coded.{Coded}
 use Rattle.rv_instruction.specs.Code.{IsCodeOf, coded_by, encoded_bytes, shape_in, shape_of}
@@ -31,7 +31,7 @@ use Rattle.rv_sites.specs.declared.fields.Choices.{Choices}
 use Rattle.rv_sites.specs.declared.item.Item.{Item}
 use Rattle.rv_sites.specs.Code.{bytes_coded, value_at}
 use Rattle.rv_sites.specs.Coded.{IsCoded, IsCodedAt}
-use Rattle.rv_sites.specs.DataParts.{code_said}
+use Rattle.rv_sites.specs.DataParts.{is_alignment, padding_said, code_said}
 use Rattle.rv_sites.specs.Seated.{site_of}
 use Rattle.rv_sites.specs.Spots.{value_in, shape_opens, coded_fields, fields_coded, HasBytesOf, IsAtSpot}
 
@@ -116,23 +116,24 @@ no_fields fields more section place (c ∷ cs) e = absurd (cc)
 
 -- the fields of a statement whose code was found once more
 located_fields : (t : Tables) (l : Located) (x : Item) (found coded : List Coded) (section : ℕ) (says : StatementKind)
-    → HasBytesOf coded x says → IsCoded (λ e. value_at t l e) l.options.rvc says coded → IsCoded (λ e. value_at t l e) l.options.rvc says found → length (bytes_coded found) ≡ x.bytes
+    → is_alignment says ≡ false → HasBytesOf coded x says → IsCoded (λ e. value_at t l e) l.options.rvc says coded → IsCoded (λ e. value_at t l e) l.options.rvc says found → length (bytes_coded found) ≡ x.bytes
     → coded_fields (λ k. field_of t (λ e. value_at t l e) l.ordinal (operand_of l.kind) k) (relax_fields l.options.relax l.ordinal) section x.offset found
     ≡ fields_from section x.offset (code_said t (site_of l x coded) says)
-located_fields t l x found coded section (Label name) size a b long = no_fields _ _ section x.offset found b.1
-located_fields t l x found coded section (Numbered number) size a b long = no_fields _ _ section x.offset found b.1
-located_fields t l x found coded section (Instruction mnemonic operands) size a b long =
+located_fields t l x found coded section (Label name) plain size a b long = no_fields _ _ section x.offset found b.1
+located_fields t l x found coded section (Numbered number) plain size a b long = no_fields _ _ section x.offset found b.1
+located_fields t l x found coded section (Instruction mnemonic operands) plain size a b long =
     code_fields_of (λ e. value_at t l e) l.options.rvc b.0 a.0 x.bytes mnemonic operands found coded b.1 a.1 long size _ _ (part_fields t (λ e. value_at t l e) l) section x.offset l.ordinal
     (own_parts t (λ e. value_at t l e) l)
-located_fields t l x found coded section (Directs directive) size a b long = no_fields _ _ section x.offset found b.1
+located_fields t l x found coded section (Directs directive) plain size a b long =
+    no_fields _ _ section x.offset found b.1 ∙ ap (λ c. fields_from section x.offset (if c then padding_said l.ordinal x.bytes else [])) (sym plain)
 
 -- the same by where the statement stands
 pub spot_fields : (spot : Spot) (index : ℕ) (says : StatementKind) (choices : Choices) (l : Located) (x : Item) (found coded : List Coded)
-    → IsAtSpot spot index says choices l → HasBytesOf coded x l.kind → IsCodedAt (tables (said spot.scope.now.unit.now)) l coded
+    → IsAtSpot spot index says choices l → is_alignment l.kind ≡ false → HasBytesOf coded x l.kind → IsCodedAt (tables (said spot.scope.now.unit.now)) l coded
     → IsCoded (λ e. value_in spot index e) choices.compressed says found → length (bytes_coded found) ≡ x.bytes
     → fields_coded spot index says choices.relax x.offset found
     ≡ fields_from spot.place.section x.offset (code_said (tables (said spot.scope.now.unit.now)) (site_of l x coded) l.kind)
-spot_fields spot index says choices l x found coded at size coded_as is long =
+spot_fields spot index says choices l x found coded at plain size coded_as is long =
     let t = tables (said spot.scope.now.unit.now) in
     let section = spot.place.section in
     let here : Expression → Value = λ e. value_in spot index e in
@@ -145,7 +146,7 @@ spot_fields spot index says choices l x found coded at size coded_as is long =
     ∙ ap (λ n. coded_fields (λ k. field_of t there n (operand_of says) k) (relax_fields choices.relax n) section x.offset found) ordinal
     ∙ ap (λ s. coded_fields (λ k. field_of t there l.ordinal (operand_of s) k) (relax_fields choices.relax l.ordinal) section x.offset found) (sym at.kind)
     ∙ ap (λ r. coded_fields (λ k. field_of t there l.ordinal (operand_of l.kind) k) (relax_fields r l.ordinal) section x.offset found) (sym at.relax)
-    ∙ located_fields t l x found coded section l.kind size coded_as is' long
+    ∙ located_fields t l x found coded section l.kind plain size coded_as is' long
 
 -- ---- part by part
 
@@ -174,3 +175,20 @@ pub coded_done : (fields : Kind → List Open) (more : List Open) (section place
     → old ++ coded_fields fields more section place (drop i code) ≡ all → old ≡ all
 coded_done fields more section place i code old all past h =
     sym (append-nil old) ∙ ap (λ l. old ++ coded_fields fields more section place l) (sym (at_drop_all (λ l. l) code i past)) ∙ h
+
+-- ---- paddings
+
+-- a padding has one field, and none without bytes
+pub padding_none : (section place ordinal n : ℕ) → n ≡ 0 → fields_from section place (padding_said ordinal n) ≡ []
+padding_none section place ordinal n e = ap (λ m. fields_from section place (padding_said ordinal m)) e
+
+pub padding_one : (section place ordinal n : ℕ) → n ≢ 0 → fields_from section place (padding_said ordinal n) ≡ field_at section place (align_field ordinal n) ∷ []
+padding_one section place ordinal zero some = absurd (some refl)
+padding_one section place ordinal (suc n) some = refl
+
+-- the parts of an alignment in code are its padding
+pub aligned_said : (t : Tables) (s : Site) (says : StatementKind) → is_alignment says ≡ true → code_said t s says ≡ padding_said s.located.ordinal s.bytes
+aligned_said t s (Label name) e = absurd (cc)
+aligned_said t s (Numbered number) e = absurd (cc)
+aligned_said t s (Instruction mnemonic operands) e = absurd (cc)
+aligned_said t s (Directs directive) e = ap (λ c. if c then padding_said s.located.ordinal s.bytes else []) e

@@ -17,7 +17,7 @@ use Rattle.rv_assemble_laws.proofs.Filled.{bytes_append}
 use Rattle.rv_sites.specs.declared.field.OpenField.{OpenField}
 use Rattle.rv_sites.specs.declared.item.CodeSize.{CodeSize}
 use Rattle.rv_sites.specs.declared.item.Item.{Item}
-use Rattle.rv_sites.specs.Code.{GrowsBy, bytes_in, size_of, value_at}
+use Rattle.rv_sites.specs.Code.{GrowsBy, bytes_in, padding_of, padding_at, bytes_coded, size_of, sizes_of, value_at}
 use Rattle.rv_sites.specs.Coded.{IsCodedAt, AreCoded}
 use Rattle.rv_sites.specs.DataParts.{is_filled, data_said, fields_said, data_parts, code_said, open_fields, data_bytes, sites, HasRoomFor, HaveCode, IsLaid, IsDataTo, IsData}
 use Rattle.rv_sites.specs.Draft.{field_of}
@@ -25,6 +25,7 @@ use Rattle.rv_sites.specs.Items.{IsItem, AreItems, grown}
 use Rattle.rv_sites.specs.Seated.{site_of, first_code, other_codes, sites_of}
 use Rattle.rv_sites.specs.Sized.{IsSized, AreSized, first_size, other_sizes}
 use Rattle.rv_sites.specs.Spots.{HasBytesOf}
+use Rattle.rv_sites.proofs.Evens.{none_more}
 use Rattle.rv_sites.proofs.Standing.{located_at, stated_next, first_same}
 
 -- ---- the bytes of sections never fall
@@ -129,11 +130,13 @@ codes_left i (coded ∷ codes) = refl
 abbrev pub code_of : ℕ → List (List Coded) → List Coded
 code_of i codes = first_code (drop i codes)
 
-size_left : (i : ℕ) (codes : List (List Coded)) → first_size (drop i (map size_of codes)) ≡ size_of (code_of i codes)
-size_left zero [] = refl
-size_left (suc i) [] = refl
-size_left zero (coded ∷ codes) = refl
-size_left (suc i) (coded ∷ codes) = size_left i codes
+size_left : (t : Tables) (ls : List Located) (codes : List (List Coded)) (i : ℕ) (l : Located) (rest : List Located) → AreCoded t ls codes → drop i ls ≡ l ∷ rest
+    → first_size (drop i (sizes_of t ls codes)) ≡ size_of (padding_at t l) (code_of i codes)
+size_left t [] codes zero l rest h e = absurd (cc)
+size_left t [] codes (suc i) l rest h e = absurd (cc)
+size_left t (y ∷ ys) [] i l rest h e = absurd h
+size_left t (y ∷ ys) (coded ∷ codes) zero l rest h e = ap (λ (l : Located). size_of (padding_at t l) coded) (first_same y l ys rest e)
+size_left t (y ∷ ys) (coded ∷ codes) (suc i) l rest h e = size_left t ys codes i l rest h.1 e
 
 coded_left : (t : Tables) (ls : List Located) (codes : List (List Coded)) (i : ℕ) (l : Located) (rest : List Located) → AreCoded t ls codes → drop i ls ≡ l ∷ rest → IsCodedAt t l (code_of i codes)
 coded_left t [] codes zero l rest h e = absurd (cc)
@@ -149,18 +152,20 @@ coded_here ss is codes i s have here =
 
 -- an instruction has the bytes of its code
 bytes_by_kind : (t : Tables) (k : ℕ) (v : Expression → Value) (b : Bool) (x : Item) (begins : ℕ) (coded : List Coded) (kind : StatementKind)
-    → (is_placed t k kind ≡ true → IsSized v b x begins (size_of coded) kind) → HasBytesOf coded x kind
+    → (is_placed t k kind ≡ true → IsSized v b x begins (size_of (padding_of b v kind) coded) kind) → HasBytesOf coded x kind
 bytes_by_kind t k v b x begins coded (Label name) h = tt
 bytes_by_kind t k v b x begins coded (Numbered number) h = tt
-bytes_by_kind t k v b x begins coded (Instruction mnemonic operands) h = (h refl).0
+bytes_by_kind t k v b x begins coded (Instruction mnemonic operands) h = (h refl).0 ∙ sym (none_more (length (bytes_coded coded)))
 bytes_by_kind t k v b x begins coded (Directs directive) h = tt
 
 pub bytes_here : (ss : List Statement) (is : List Item) (codes : List (List Coded)) (i : ℕ) (s : Statement) (x : Item) → HaveCode ss is codes → drop i ss ≡ s ∷ drop (i + 1) ss → drop i is ≡ x ∷ drop (i + 1) is → HasBytesOf (code_of i codes) x s.kind
 bytes_here ss is codes i s x have here item =
-    let size = sized_left (tables ss) 1 i at_start ss is (map size_of codes) s (drop (i + 1) ss) x (drop (i + 1) is) have.sized here item in
+    let all = located_from 1 1 at_start ss in
+    let size = sized_left (tables ss) 1 i at_start ss is (sizes_of (tables ss) all codes) s (drop (i + 1) ss) x (drop (i + 1) is) have.sized here item in
     let st = located_at ss i s in
     bytes_by_kind (passed ss i) (i + 1) (λ e. value_at (tables ss) st e) st.home.executable x (slice_index_or (alignments_of (tables ss)) x.section 1) (code_of i codes) s.kind
-    (subst (λ c. st.placed ≡ true → IsSized (λ e. value_at (tables ss) st e) st.home.executable x (slice_index_or (alignments_of (tables ss)) x.section 1) c s.kind) (size_left i codes) size.sized)
+    (subst (λ c. st.placed ≡ true → IsSized (λ e. value_at (tables ss) st e) st.home.executable x (slice_index_or (alignments_of (tables ss)) x.section 1) c s.kind)
+    (size_left (tables ss) all codes i st (drop (i + 1) all) have.coded (stated_next ss i s (drop (i + 1) ss) here)) size.sized)
 
 -- ---- sites
 

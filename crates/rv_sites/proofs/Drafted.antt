@@ -4,7 +4,6 @@ use Rattle.std.proofs.Common.{◌≡◌, ℕ, ◌≤◌, ◌<◌, ◌^◌, true,
 use Rattle.std.specs.Prelude.{flat_map, ◌||◌, slice_get, slice_index, slice_index_or, if◌then◌else◌}
 use Rattle.std.specs.List.{AllByRecursion, list_any}
 use Rattle.std.specs.Global.{Vec}
-use Rattle.std.proofs.lemmas.Bool.{and_parts}
 use Rattle.rv_statement.specs.Statement.{Statement}
 use Rattle.rv_unit_laws.specs.Sections.{Section, text_section, is_nobits, goes_to_text}
 use Rattle.rv_unit_laws.specs.Tables.{Tables, at_start, tables, longest_section, opened_of, alignments_of}
@@ -17,7 +16,7 @@ use Rattle.rv_assemble_laws.proofs.Homes.{IsHomeIn, homes_from, all_map}
 use Rattle.rv_assemble_laws.proofs.Held.{all_held}
 use Rattle.rv_sites.specs.declared.draft.Draft.{Draft}
 use Rattle.rv_sites.specs.Added.{IsWhole}
-use Rattle.rv_sites.specs.Code.{bytes_in, bytes_of_codes, size_of, section_code}
+use Rattle.rv_sites.specs.Code.{bytes_in, bytes_of_codes, sizes_of, section_code}
 use Rattle.rv_sites.specs.Coded.{AreCoded}
 use Rattle.rv_sites.specs.DataParts.{data_bytes, HaveCode, IsData}
 use Rattle.rv_sites.specs.Items.{AreItems}
@@ -26,12 +25,10 @@ use Rattle.rv_sites.specs.Seated.{sites_of}
 use Rattle.rv_sites.specs.Sized.{AreSized}
 use Rattle.rv_sites.specs.declared.item.CodeSize.{CodeSize}
 use Rattle.rv_sites.specs.Draft.{IsDraft, IsDrafted}
-use Rattle.rv_sites.proofs.Fitted.{Fit, IsWideKind, fits_from, have_all_fields}
+use Rattle.rv_sites.proofs.Fitted.{Fit, IsWideKind, fits_from, have_all_fields, all_spare}
 use Rattle.rv_sites.proofs.LeastAll.{least_all}
 use Rattle.rv_sites.proofs.Locations.{places_stand}
-use Rattle.rv_sites.proofs.LowSections.{low_all}
 use Rattle.rv_sites.proofs.Sectioned.{IsOf, all_located, all_items, all_sites, data_as, agree, tiles, all_of, code_in, section_bytes, code_bytes, all_sizes, section_templates, all_fields, asks_some}
-use Rattle.rv_sites.proofs.Standing.{got_or}
 use Rattle.rv_sites.proofs.Whole.{one_file}
 
 -- what the passes over a source have found
@@ -69,8 +66,8 @@ module _ (ss : List Statement) (lengths : List ℕ) (code : List (Vec ℕ)) (siz
   located_all : map (λ (s : Site). s.located) all ≡ located_from 1 1 at_start ss
   located_all = all_located 1 at_start (λ j. 0) (λ j. slice_index d.ends.items j) ss d.items.items codes h.items
 
-  sized : AreSized t 1 at_start ss d.items.items (map size_of codes)
-  sized = subst (λ l. AreSized t 1 at_start ss d.items.items l) h.whole.counts h.sized
+  sized : AreSized t 1 at_start ss d.items.items (sizes_of t (located_from 1 1 at_start ss) codes)
+  sized = subst (λ l. AreSized t 1 at_start ss d.items.items l) (h.whole.counts ∙ ap (λ ls. sizes_of t ls codes) (one_file ss)) h.sized
 
   figures : IsData ss d.items.items codes code d.sections.items d.fields.items
   figures = h.figures codes (record { coded = coded; sized = sized })
@@ -78,7 +75,7 @@ module _ (ss : List Statement) (lengths : List ℕ) (code : List (Vec ℕ)) (siz
   fits : AllByRecursion (Fit t) all
   fits =
       fits_from t 1 at_start (λ j. 0) (λ j. slice_index d.ends.items j) ss d.items.items codes h.items sized coded
-      (all_held ss h.good) (have_all_fields ss h.good h.wide)
+      (all_held ss h.good) (have_all_fields ss h.good h.wide) (all_spare ss h.good)
 
   homes_all : AllByRecursion (IsHomeIn (λ file. (opened_of t).sections)) (located_from 1 1 at_start ss)
   homes_all = homes_from (λ file. (opened_of t).sections) 1 1 at_start ss refl (text_section, refl)
@@ -91,9 +88,9 @@ module _ (ss : List Statement) (lengths : List ℕ) (code : List (Vec ℕ)) (siz
   -- the lengths are the least, and in code the sites have them
   least : AreLeast t (located_from 1 1 at_start ss) (map (λ (s : Site). s.bytes) all)
   least =
-      least_all t (opened_of t).sections (located_from 1 1 at_start ss) (bytes_of_codes codes) (map (λ (s : Site). s.bytes) all) homes_all (all_held ss h.good)
+      least_all t (opened_of t).sections (located_from 1 1 at_start ss) (bytes_of_codes t (located_from 1 1 at_start ss) codes) (map (λ (s : Site). s.bytes) all) homes_all (all_held ss h.good)
       (agree t 1 at_start (λ j. 0) (λ j. slice_index d.ends.items j) ss d.items.items codes h.items coded fits)
-      (subst (AreLeast t (located_from 1 1 at_start ss)) (sym h.whole.told) h.least)
+      (subst (AreLeast t (located_from 1 1 at_start ss)) (sym (ap (λ ls. bytes_of_codes t ls codes) (sym (one_file ss)) ∙ h.whole.told)) h.least)
 
   module _ (j : ℕ) (home : Section) (at : slice_get (opened_of t).sections j ≡ Some home) where
     own : AllByRecursion (IsOf t j home) (sites_in j all)
@@ -109,14 +106,9 @@ module _ (ss : List Statement) (lengths : List ℕ) (code : List (Vec ℕ)) (siz
         figures.bytes j
         ∙ ap (λ l. bytes_in code j ++ l) (sym (data_as t j (located_from 1 1 at_start ss) d.items.items codes))
         ∙ ap (λ l. l ++ data_bytes t j all)
-        (h.whole.bytes j ∙ ap (λ l. section_code j l codes) (one_file ss)
+        (h.whole.bytes j ∙ ap (λ l. section_code t j l codes) (one_file ss)
         ∙ code_in t j 1 at_start (λ j. 0) (λ j. slice_index d.ends.items j) ss d.items.items codes h.items coded)
         ∙ section_bytes t j home (sites_in j all) own
-
-    low : goes_to_text home ≡ true → slice_index_or (alignments_of t) j 1 ≤ 2
-    low e =
-        low_all ss h.good h.whole.faults j
-        (ap (λ (g : Section). g.executable) (got_or (opened_of t).sections j text_section home at) ∙ (and_parts home.loaded home.executable e).1)
 
     drafted : IsDrafted t j home (sites_in j all) d
     drafted = record {
@@ -128,7 +120,6 @@ module _ (ss : List Statement) (lengths : List ℕ) (code : List (Vec ℕ)) (siz
       sizes = all_sizes t j home (sites_in j all) own;
       templates = section_templates t j home (sites_in j all) own;
       some = asks_some ss j;
-      low = low;
     }
 
   pub is_draft : IsDraft ss d

@@ -2,6 +2,7 @@ pub mod Adding
 pub mod CodeFields
 pub mod DataSoFar
 pub mod Drafted
+pub mod Evens
 pub mod FieldsSoFar
 pub mod FirstCode
 pub mod Fitted
@@ -10,7 +11,6 @@ pub mod Itemized
 pub mod Joined
 pub mod LeastAll
 pub mod Locations
-pub mod LowSections
 pub mod Rooms
 pub mod Roomy
 pub mod Sectioned

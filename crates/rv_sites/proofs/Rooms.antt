@@ -13,9 +13,8 @@ use Rattle.rv_unit_laws.proofs.Grown.{BeginsAt, puts, grows_after, grown_all, be
 use Rattle.rv_unit_laws.proofs.Opened.{after_opened, open_inside, stood_all, stood_start}
 use Rattle.rv_unit.specs.Unit.{passed}
 use Rattle.rv_unit.proofs.Constants.{constant_past, constant_whole, whole_rest}
-use Rattle.rv_source_laws.specs.Fits.{is_low}
 use Rattle.rv_source_laws.specs.Located.{Located, located, located_from, is_placed, is_placed_directive}
-use Rattle.rv_assemble_laws.specs.Refusals.{code_fault, grown as grown_by, size_fault_from}
+use Rattle.rv_assemble_laws.specs.Refusals.{grown as grown_by, size_fault_from}
 use Rattle.rv_assemble_laws.proofs.Held.{no_fault}
 use Rattle.rv_assemble_laws.proofs.Homes.{IsHomeIn, homes_from}
 use Rattle.rv_sites.specs.declared.item.CodeSize.{CodeSize}
@@ -27,7 +26,7 @@ use Rattle.rv_sites.specs.Measured.{stretch, IsSize}
 use Rattle.rv_sites.proofs.Standing.{all_at, got_or, located_at, stated_next}
 use Rattle.rv_sites.proofs.SoFarItems.{passed_next}
 use Rattle.rv_sites.proofs.SoFarSized.{IsSizedAt}
-use Rattle.rv_sites.proofs.Sound.{sound_at, low_code, code_sound_at}
+use Rattle.rv_sites.proofs.Sound.{sound_at}
 use Rattle.rv_sites.proofs.Roomy.{IsRoomy, statement_here}
 
 -- the bytes of each section before the statement at an index: those of code are no more than what the sizes of
@@ -77,24 +76,24 @@ stood_here t k (Directs d) placed = stood_directive t k d placed
 
 -- ---- sizes of items
 
-padded_as : (b : Bool) (x : Item) (begins : ℕ) (alignment : Option ℕ) → IsPadded b x begins alignment → IsPadded b (stretch x.offset x.bytes) begins alignment
-padded_as true x begins alignment h = h
-padded_as false x begins alignment h = h
+padded_as : (b : Bool) (own : CodeSize) (x : Item) (begins : ℕ) (alignment : Option ℕ) → IsPadded b own x begins alignment → IsPadded b own (stretch x.offset x.bytes) begins alignment
+padded_as true own x begins alignment h = h
+padded_as false own x begins alignment h = h
 
-directive_as : (v : Expression → Value) (b : Bool) (x : Item) (begins : ℕ) (d : Directive) → IsSizedDirective v b x begins d → IsSizedDirective v b (stretch x.offset x.bytes) begins d
-directive_as v b x begins (Sets name e) h = h
-directive_as v b x begins (Values width values) h = h
-directive_as v b x begins (Strings ended strings) h = h
-directive_as v b x begins (Zeros count) h = h
-directive_as v b x begins (Aligns_to_power e) h = (h.0, padded_as b x begins (alignment_of v (Aligns_to_power e)) h.1)
-directive_as v b x begins (Aligns_to_bytes e) h = (h.0, padded_as b x begins (alignment_of v (Aligns_to_bytes e)) h.1)
-directive_as v b x begins _ h = tt
+directive_as : (v : Expression → Value) (b : Bool) (own : CodeSize) (x : Item) (begins : ℕ) (d : Directive) → IsSizedDirective v b own x begins d → IsSizedDirective v b own (stretch x.offset x.bytes) begins d
+directive_as v b own x begins (Sets name e) h = h
+directive_as v b own x begins (Values width values) h = h
+directive_as v b own x begins (Strings ended strings) h = h
+directive_as v b own x begins (Zeros count) h = h
+directive_as v b own x begins (Aligns_to_power e) h = (h.0, padded_as b own x begins (alignment_of v (Aligns_to_power e)) h.1)
+directive_as v b own x begins (Aligns_to_bytes e) h = (h.0, padded_as b own x begins (alignment_of v (Aligns_to_bytes e)) h.1)
+directive_as v b own x begins _ h = tt
 
 size_as : (v : Expression → Value) (b : Bool) (x : Item) (begins : ℕ) (own : CodeSize) (says : StatementKind) → IsSized v b x begins own says → IsSize v b begins x.offset own says x.bytes
 size_as v b x begins own (Label name) h = h.0
 size_as v b x begins own (Numbered number) h = h.0
 size_as v b x begins own (Instruction mnemonic operands) h = h.0
-size_as v b x begins own (Directs d) h = directive_as v b x begins d h.1
+size_as v b x begins own (Directs d) h = directive_as v b own x begins d h.1
 
 -- ---- one statement
 
@@ -102,7 +101,7 @@ if_some : (b : Bool) (code : ℕ) → (if b then Some code else None) ≡ None �
 if_some true code e = absurd (cc)
 if_some false code e = refl
 
-module _ (ss : List Statement) (i : ℕ) (s : Statement) (here_is : drop i ss ≡ s ∷ drop (i + 1) ss) (good : first_fault ss ≡ None) (coded : code_fault ss ≡ None) where
+module _ (ss : List Statement) (i : ℕ) (s : Statement) (here_is : drop i ss ≡ s ∷ drop (i + 1) ss) (good : first_fault ss ≡ None) where
   abbrev t : Tables
   t = passed ss i
 
@@ -143,14 +142,6 @@ module _ (ss : List Statement) (i : ℕ) (s : Statement) (here_is : drop i ss �
       let (place, opened) = stood_here t k s.kind placed in
       ap (λ o. section_at o st.section) opened ∙ ap (λ (p : SectionOffset). section_at (opened_of t) p.section) place
 
-  -- an alignment in code is low
-  pub low_here : (d : Directive) → s.kind ≡ Directs d → is_placed t k s.kind ≡ true → (current_section (opened_of t)).executable ≡ true
-      → is_low (alignment_of (λ e. value all true k (here t) e) d) ≡ true
-  low_here d is placed code =
-      let (place, opened) = stood_here t k s.kind placed in
-      subst (λ (p : SectionOffset). is_low (alignment_of (λ e. value all true k p e) d) ≡ true) place
-      (low_code all st d is (code_sound_at ss i s (drop (i + 1) ss) here_is coded) (ap (λ (h : Section). h.executable) (home_here placed) ∙ code))
-
   module _ (sizes : List CodeSize) (own : CodeSize) (size_is : drop i (bytes_of_sizes sizes) ≡ own.bytes ∷ drop (i + 1) (bytes_of_sizes sizes)) where
     -- what a place with its section says
     abbrev RoomyIn : ℕ → SectionOffset → Opened → Type 0
@@ -169,8 +160,7 @@ module _ (ss : List Statement) (i : ℕ) (s : Statement) (here_is : drop i ss �
         subst (λ p. RoomyIn offset p (opened_of (after t k s.kind))) (sym place)
         (subst (λ o. RoomyIn offset (here t) o) (sym opened)
         (statement_here all t k (slice_index_or (alignments_of all) t.current 1) offset own low inside (constant_whole ss k (here t)) (constant_past ss i (here t) within inside) before' s.kind placed
-        multiples ((grows_after t k s.kind).ends t.current) fits' (sound_at ss i s (drop (i + 1) ss) here_is good)
-        (λ d is code. low_here d is placed code)))
+        multiples ((grows_after t k s.kind).ends t.current) fits' (sound_at ss i s (drop (i + 1) ss) here_is good)))
 
     module _ (ends : ℕ → ℕ) (low : (j : ℕ) → ends j ≤ longest_section) (left : HasRoomLeft ss sizes i ends) where
       -- whether the section of the statement is too long after it

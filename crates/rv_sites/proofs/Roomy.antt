@@ -11,7 +11,6 @@ use Rattle.rv_unit_laws.specs.Sections.{Section, is_nobits, current_section}
 use Rattle.rv_unit_laws.specs.Tables.{Tables, here, value, aligned, alignment_of, power_alignment, byte_alignment, counted, or_none, within, padding, data_bytes, string_bytes, longest_section, after, opened_of, ends_of}
 use Rattle.rv_unit_laws.specs.Faults.{faulty_if, size_faults, power_faults, bytes_faults, value_faults, code_alignment_faults, past_section, alignment_faults, directive_faults, faults}
 use Rattle.rv_unit_laws.proofs.Grown.{BeginsAt, puts, end_behind}
-use Rattle.rv_source_laws.specs.Fits.{is_low}
 use Rattle.rv_assemble_laws.specs.Coded.{is_constant}
 use Rattle.rv_source_laws.specs.Located.{is_placed, is_placed_directive}
 use Rattle.rv_assemble_laws.proofs.Held.{none_left, no_test}
@@ -124,10 +123,14 @@ module _ (all t : Tables) (k begins offset : ℕ) (own : CodeSize) (low : offset
   abbrev Here : StatementKind → Type 0
   Here says = IsRoomy v home.executable begins offset (stop says) own says
 
+  -- a section of code has room for the statement
+  abbrev Fits : Type 0
+  Fits = home.executable ≡ true → offset + own.bytes ≤ longest_section
+
   -- data that end no later than those of the tables
   put_here : (d : Directive) → home.executable ≡ false → puts d ≡ true → HasSizeDirective v home.executable begins offset d
       → (here t).offset + data_bytes first (here t).offset d ≤ longest_section
-      → ((n : ℕ) → IsSizedDirective v home.executable (stretch offset n) begins d → offset + n ≤ (here t).offset + data_bytes first (here t).offset d) → Here (Directs d)
+      → ((n : ℕ) → IsSizedDirective v home.executable own (stretch offset n) begins d → offset + n ≤ (here t).offset + data_bytes first (here t).offset d) → Here (Directs d)
   put_here d other puts size fits less = record {
     size = size;
     room = λ n h. let l = less n h in omega (arith, l, fits);
@@ -144,12 +147,13 @@ module _ (all t : Tables) (k begins offset : ℕ) (own : CodeSize) (low : offset
     stored = λ e n h. let f = none n h in let l = before e in omega (arith, f, l, more);
   }
 
-  -- a statement without bytes in code
-  none_in_code : (says : StatementKind) → HasSize v home.executable begins offset says → ((n : ℕ) → IsSize v home.executable begins offset own says n → n ≡ 0) → home.executable ≡ true → Here says
-  none_in_code says size none code = record {
+  -- code, where its section has room for it
+  code_here : (says : StatementKind) → HasSize v home.executable begins offset says → ((n : ℕ) → IsSize v home.executable begins offset own says n → n ≡ own.bytes)
+      → home.executable ≡ true → offset + own.bytes ≤ longest_section → Here says
+  code_here says size four code fits = record {
     size = size;
-    room = λ n h. let e = none n h in omega (arith, e, low);
-    code = λ e n h. let f = none n h in omega (arith, f);
+    room = λ n h. let f = four n h in omega (arith, f, fits);
+    code = λ e n h. let f = four n h in omega (arith, f);
     stored = λ e. true_false home.executable code e;
   }
 
@@ -197,10 +201,9 @@ module _ (all t : Tables) (k begins offset : ℕ) (own : CodeSize) (low : offset
       constant_is m n e = cc
 
   -- the padding of an alignment, by whether its section is one of code
-  padding_here : (b : Bool) → home.executable ≡ b → (alignment : Option ℕ) → BeginsAt alignment begins → alignment_faults home (here t).offset alignment ≡ [] → (home.executable ≡ true → is_low alignment ≡ true)
-      → CanPad b begins offset alignment
-  padding_here true code alignment multiples none lows = lows code
-  padding_here false other alignment multiples none lows =
+  padding_here : (b : Bool) → home.executable ≡ b → (alignment : Option ℕ) → BeginsAt alignment begins → alignment_faults home (here t).offset alignment ≡ [] → CanPad b begins offset alignment
+  padding_here true code alignment multiples none = multiple alignment begins multiples
+  padding_here false other alignment multiples none =
       let fits = padding_fits alignment other none in
       let less = padding_more alignment begins offset (here t).offset multiples (before other) in
       (multiple alignment begins multiples, omega (arith, fits, less))
@@ -209,31 +212,28 @@ module _ (all t : Tables) (k begins offset : ℕ) (own : CodeSize) (low : offset
   aligned_here : (d : Directive) (alignment : Option ℕ) → puts d ≡ true → BeginsAt alignment begins → alignment_faults home (here t).offset alignment ≡ []
       → data_bytes first (here t).offset d ≡ within (here t).offset (padding alignment (here t).offset)
       → HasSizeDirective v home.executable begins offset d
-      → ((n : ℕ) → IsSizedDirective v home.executable (stretch offset n) begins d → IsPadded home.executable (stretch offset n) begins alignment) → Here (Directs d)
-  aligned_here d alignment puts multiples none bytes size padded = by home.executable refl
+      → ((n : ℕ) → IsSizedDirective v home.executable own (stretch offset n) begins d → IsPadded home.executable own (stretch offset n) begins alignment)
+      → Fits → Here (Directs d)
+  aligned_here d alignment puts multiples none bytes size padded fits = by home.executable refl
     where
-      code_size_none : (b : Bool) (n : ℕ) → b ≡ true → IsPadded b (stretch offset n) begins alignment → n ≡ 0
-      code_size_none true n e h = h.0
-      code_size_none false n e h = absurd (cc)
+      code_size : (b : Bool) (n : ℕ) → b ≡ true → IsPadded b own (stretch offset n) begins alignment → n ≡ own.bytes
+      code_size true n e h = h.0
+      code_size false n e h = absurd (cc)
 
-      data_size : (b : Bool) (n : ℕ) → b ≡ false → IsPadded b (stretch offset n) begins alignment → n ≡ padding alignment offset
+      data_size : (b : Bool) (n : ℕ) → b ≡ false → IsPadded b own (stretch offset n) begins alignment → n ≡ padding alignment offset
       data_size true n e h = absurd (cc)
       data_size false n e h = h.0
 
       by : (b : Bool) → home.executable ≡ b → Here (Directs d)
-      by true code = none_in_code (Directs d) size (λ n h. code_size_none home.executable n code (padded n h)) code
+      by true code = code_here (Directs d) size (λ n h. code_size home.executable n code (padded n h)) code (fits code)
       by false other =
           let fits = padding_fits alignment other none in
           let less = padding_more alignment begins offset (here t).offset multiples (before other) in
           let same = bytes ∙ within_fits (here t).offset (padding alignment (here t).offset) fits in
           put_here d other puts size (omega (arith, same, fits)) (λ n h. let f = data_size home.executable n other (padded n h) in omega (arith, f, less, same))
 
-  -- in code an alignment is low
-  abbrev AsksLow : Directive → Type 0
-  AsksLow d = home.executable ≡ true → is_low (alignment_of v d) ≡ true
-
-  power_here : (e : Expression) → BeginsAt (alignment_of first (Aligns_to_power e)) begins → directive_faults all t k (Aligns_to_power e) ≡ [] → AsksLow (Aligns_to_power e) → Here (Directs (Aligns_to_power e))
-  power_here e multiples none lows =
+  power_here : (e : Expression) → BeginsAt (alignment_of first (Aligns_to_power e)) begins → directive_faults all t k (Aligns_to_power e) ≡ [] → Fits → Here (Directs (Aligns_to_power e))
+  power_here e multiples none fits =
       let w = value all false k (here t) e in
       let parts = none_left (power_faults w) (alignment_faults home (here t).offset (power_alignment w)) none in
       let (n, is) = a_power w parts.0 in
@@ -242,10 +242,10 @@ module _ (all t : Tables) (k begins offset : ℕ) (own : CodeSize) (low : offset
       let multiples' : BeginsAt (power_alignment (v e)) begins = subst (λ a. BeginsAt a begins) (sooner ∙ sym now) multiples in
       let none' : alignment_faults home (here t).offset (power_alignment (v e)) ≡ [] = ap (alignment_faults home (here t).offset) now ∙ parts.1 in
       aligned_here (Aligns_to_power e) (power_alignment (v e)) refl multiples' none' (ap (λ a. within (here t).offset (padding a (here t).offset)) (sooner ∙ sym now))
-      (ap is_constant (whole e n is), padding_here home.executable refl (power_alignment (v e)) multiples' none' lows) (λ m h. h.1)
+      (ap is_constant (whole e n is), padding_here home.executable refl (power_alignment (v e)) multiples' none') (λ m h. h.1) fits
 
-  bytes_here : (e : Expression) → BeginsAt (alignment_of first (Aligns_to_bytes e)) begins → directive_faults all t k (Aligns_to_bytes e) ≡ [] → AsksLow (Aligns_to_bytes e) → Here (Directs (Aligns_to_bytes e))
-  bytes_here e multiples none lows =
+  bytes_here : (e : Expression) → BeginsAt (alignment_of first (Aligns_to_bytes e)) begins → directive_faults all t k (Aligns_to_bytes e) ≡ [] → Fits → Here (Directs (Aligns_to_bytes e))
+  bytes_here e multiples none fits =
       let w = value all false k (here t) e in
       let parts = none_left (bytes_faults w) (alignment_faults home (here t).offset (byte_alignment w)) none in
       let (n, is) = a_multiple w parts.0 in
@@ -254,34 +254,23 @@ module _ (all t : Tables) (k begins offset : ℕ) (own : CodeSize) (low : offset
       let multiples' : BeginsAt (byte_alignment (v e)) begins = subst (λ a. BeginsAt a begins) (sooner ∙ sym now) multiples in
       let none' : alignment_faults home (here t).offset (byte_alignment (v e)) ≡ [] = ap (alignment_faults home (here t).offset) now ∙ parts.1 in
       aligned_here (Aligns_to_bytes e) (byte_alignment (v e)) refl multiples' none' (ap (λ a. within (here t).offset (padding a (here t).offset)) (sooner ∙ sym now))
-      (ap is_constant (whole e n is), padding_here home.executable refl (byte_alignment (v e)) multiples' none' lows) (λ m h. h.1)
+      (ap is_constant (whole e n is), padding_here home.executable refl (byte_alignment (v e)) multiples' none') (λ m h. h.1) fits
 
   directive_here : (d : Directive) → is_placed_directive t k d ≡ true → (puts d ≡ true → BeginsAt (alignment_of first d) begins) → (here t).offset ≤ stop (Directs d)
-      → directive_faults all t k d ≡ [] → AsksLow d → Here (Directs d)
-  directive_here (Sets name e) placed multiples more none lows = none_here (Directs (Sets name e)) tt (λ n h. h) more
-  directive_here (Values width values) placed multiples more none lows = values_here width values none
-  directive_here (Strings ended strings) placed multiples more none lows = strings_here ended strings none
-  directive_here (Zeros count) placed multiples more none lows = zeros_here count none
-  directive_here (Aligns_to_power e) placed multiples more none lows = power_here e (multiples refl) none lows
-  directive_here (Aligns_to_bytes e) placed multiples more none lows = bytes_here e (multiples refl) none lows
-  directive_here _ placed multiples more none lows = absurd (cc)
-
-  -- an instruction, where its section has room for it
-  instruction_here : (says : StatementKind) → HasSize v home.executable begins offset says → ((n : ℕ) → IsSize v home.executable begins offset own says n → n ≡ own.bytes)
-      → home.executable ≡ true → offset + own.bytes ≤ longest_section → Here says
-  instruction_here says size four code fits = record {
-    size = size;
-    room = λ n h. let f = four n h in omega (arith, f, fits);
-    code = λ e n h. let f = four n h in omega (arith, f);
-    stored = λ e. true_false home.executable code e;
-  }
+      → directive_faults all t k d ≡ [] → Fits → Here (Directs d)
+  directive_here (Sets name e) placed multiples more none fits = none_here (Directs (Sets name e)) tt (λ n h. h) more
+  directive_here (Values width values) placed multiples more none fits = values_here width values none
+  directive_here (Strings ended strings) placed multiples more none fits = strings_here ended strings none
+  directive_here (Zeros count) placed multiples more none fits = zeros_here count none
+  directive_here (Aligns_to_power e) placed multiples more none fits = power_here e (multiples refl) none fits
+  directive_here (Aligns_to_bytes e) placed multiples more none fits = bytes_here e (multiples refl) none fits
+  directive_here _ placed multiples more none fits = absurd (cc)
 
   pub statement_here : (says : StatementKind) → is_placed t k says ≡ true → ((d : Directive) → says ≡ Directs d → puts d ≡ true → BeginsAt (alignment_of first d) begins)
-      → (here t).offset ≤ stop says → (home.executable ≡ true → offset + own.bytes ≤ longest_section) → faults all t k says ≡ []
-      → ((d : Directive) → says ≡ Directs d → AsksLow d) → Here says
-  statement_here (Label name) placed multiples more fits none lows = none_here (Label name) tt (λ n h. h) more
-  statement_here (Numbered number) placed multiples more fits none lows = none_here (Numbered number) tt (λ n h. h) more
-  statement_here (Instruction mnemonic operands) placed multiples more fits none lows =
+      → (here t).offset ≤ stop says → Fits → faults all t k says ≡ [] → Here says
+  statement_here (Label name) placed multiples more fits none = none_here (Label name) tt (λ n h. h) more
+  statement_here (Numbered number) placed multiples more fits none = none_here (Numbered number) tt (λ n h. h) more
+  statement_here (Instruction mnemonic operands) placed multiples more fits none =
       let code = not_false home.executable (first_false (not home.executable) (is_nobits home) (no_test (not home.executable || is_nobits home) 15 none)) in
-      instruction_here (Instruction mnemonic operands) tt (λ n h. h) code (fits code)
-  statement_here (Directs d) placed multiples more fits none lows = directive_here d placed (multiples d refl) more none (lows d refl)
+      code_here (Instruction mnemonic operands) tt (λ n h. h) code (fits code)
+  statement_here (Directs d) placed multiples more fits none = directive_here d placed (multiples d refl) more none fits

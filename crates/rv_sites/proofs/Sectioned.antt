@@ -10,7 +10,6 @@ use Rattle.rv_unit_laws.specs.Sections.{Section, is_nobits, goes_to_text}
 use Rattle.rv_unit_laws.specs.Tables.{Tables, after, tables, opened_of, alignments_of}
 use Rattle.rv_unit_laws.proofs.Grown.{grown_all}
 use Rattle.rv_source_laws.specs.Located.{Located, located_now, located_from}
-use Rattle.rv_assemble_laws.specs.Coded.{joined}
 use Rattle.rv_assemble_laws.specs.Templates.{IsTemplate}
 use Rattle.rv_assemble_laws.specs.Sites.{Site, Part, form, part_bytes, parts, parts_of, sites_in, Tile, end_of, HasSize}
 use Rattle.rv_assemble_laws.specs.Fields.{fields_at, fields}
@@ -24,7 +23,8 @@ use Rattle.rv_sites.specs.Items.{IsItem, AreItems, grown}
 use Rattle.rv_instruction.specs.declared.encoded.Coded.{Coded as CodedPart}
 use Rattle.rv_sites.specs.Seated.{site_of, first_code, other_codes, sites_of}
 use Rattle.rv_sites.specs.Draft.{item_of}
-use Rattle.rv_sites.proofs.Fitted.{Fit}
+use Rattle.rv_sites.proofs.Evens.{code_long}
+use Rattle.rv_sites.proofs.Fitted.{Fit, code_at}
 use Rattle.rv_sites.proofs.LeastAll.{Agree}
 
 -- ---- the statements of sites, and their items
@@ -131,22 +131,19 @@ all_of t file j home (s ∷ ss) same at fits homes = go (s.located.section == j)
         (record { fit = fits.0; index = index; here = here }, rest)
     go false e rest = rest
 
-abbrev pub code_at : Site → List ℕ
-code_at s = joined s.coded
-
 -- the code of a section
-code_in_step : (j : ℕ) (b c : Bool) (s : Site) (rest : List ℕ) (sites : List Site) → b ≡ c → rest ≡ flat_map code_at sites → (if b then code_at s else []) ++ rest ≡ flat_map code_at (if c then s ∷ sites else sites)
-code_in_step j true c s rest sites e h = ap (λ l. code_at s ++ l) h ∙ ap (λ d. flat_map code_at (if d then s ∷ sites else sites)) e
-code_in_step j false c s rest sites e h = h ∙ ap (λ d. flat_map code_at (if d then s ∷ sites else sites)) e
+code_in_step : (t : Tables) (j : ℕ) (b c : Bool) (s : Site) (rest : List ℕ) (sites : List Site) → b ≡ c → rest ≡ flat_map (code_at t) sites → (if b then code_at t s else []) ++ rest ≡ flat_map (code_at t) (if c then s ∷ sites else sites)
+code_in_step t j true c s rest sites e h = ap (λ l. code_at t s ++ l) h ∙ ap (λ d. flat_map (code_at t) (if d then s ∷ sites else sites)) e
+code_in_step t j false c s rest sites e h = h ∙ ap (λ d. flat_map (code_at t) (if d then s ∷ sites else sites)) e
 
 pub code_in : (t : Tables) (j k : ℕ) (u : Tables) (before last : ℕ → ℕ) (ss : List Statement) (is : List Item) (codes : List (List CodedPart)) → AreItems k u before ss is last → AreCoded t (located_from 1 k u ss) codes
-    → section_code j (located_from 1 k u ss) codes ≡ flat_map code_at (sites_in j (sites_of (located_from 1 k u ss) is codes))
+    → section_code t j (located_from 1 k u ss) codes ≡ flat_map (code_at t) (sites_in j (sites_of (located_from 1 k u ss) is codes))
 code_in t j k u before last [] is codes items coded = refl
 code_in t j k u before last (s ∷ ss) [] codes items coded = absurd items
 code_in t j k u before last (s ∷ ss) (x ∷ is) [] items coded = absurd coded
 code_in t j k u before last (s ∷ ss) (x ∷ is) (c ∷ codes) items coded =
     let l = located_now 1 k u s in
-    code_in_step j (j == l.section) (l.section == j) (site_of l x c) (section_code j (located_from 1 (suc k) (after u k s.kind) ss) codes) (sites_in j (sites_of (located_from 1 (suc k) (after u k s.kind) ss) is codes))
+    code_in_step t j (j == l.section) (l.section == j) (site_of l x c) (section_code t j (located_from 1 (suc k) (after u k s.kind) ss) codes) (sites_in j (sites_of (located_from 1 (suc k) (after u k s.kind) ss) is codes))
     (swapped t j l.section j (l.section == j) refl) (code_in t j (suc k) (after u k s.kind) (grown before x) last ss is codes items.1 coded.1)
 
 module _ (t : Tables) (j : ℕ) (home : Section) where
@@ -154,22 +151,22 @@ module _ (t : Tables) (j : ℕ) (home : Section) where
   Of s = IsOf t j home s
 
   -- in code
-  coded : (sites : List Site) → home.executable ≡ true → AllByRecursion Of sites → flat_map code_at sites ≡ flat_map part_bytes (parts t sites)
+  coded : (sites : List Site) → home.executable ≡ true → AllByRecursion Of sites → flat_map (code_at t) sites ≡ flat_map part_bytes (parts t sites)
   coded [] e h = refl
   coded (s ∷ ss) e h =
-      ap (λ l. l ++ flat_map code_at ss) (sym (h.0.fit.code (ap (λ (g : Section). g.executable) h.0.here ∙ e)))
+      ap (λ l. l ++ flat_map (code_at t) ss) (sym (h.0.fit.code (ap (λ (g : Section). g.executable) h.0.here ∙ e)))
       ∙ ap (λ l. flat_map part_bytes (parts_of t s) ++ l) (coded ss e h.1)
       ∙ sym (bytes_append (parts_of t s) (parts t ss))
 
-  no_code : (sites : List Site) → home.executable ≡ false → AllByRecursion Of sites → flat_map code_at sites ≡ []
+  no_code : (sites : List Site) → home.executable ≡ false → AllByRecursion Of sites → flat_map (code_at t) sites ≡ []
   no_code [] e h = refl
   no_code (s ∷ ss) e h =
-      ap (λ l. l ++ flat_map code_at ss) (h.0.fit.other (ap (λ (g : Section). g.executable) h.0.here ∙ e)) ∙ no_code ss e h.1
+      ap (λ l. l ++ flat_map (code_at t) ss) (h.0.fit.other (ap (λ (g : Section). g.executable) h.0.here ∙ e)) ∙ no_code ss e h.1
 
-  empty_code : (sites : List Site) → is_nobits home ≡ true → AllByRecursion Of sites → flat_map code_at sites ≡ []
+  empty_code : (sites : List Site) → is_nobits home ≡ true → AllByRecursion Of sites → flat_map (code_at t) sites ≡ []
   empty_code [] e h = refl
   empty_code (s ∷ ss) e h =
-      ap (λ l. l ++ flat_map code_at ss) (h.0.fit.empty (ap is_nobits h.0.here ∙ e)) ∙ empty_code ss e h.1
+      ap (λ l. l ++ flat_map (code_at t) ss) (h.0.fit.empty (ap is_nobits h.0.here ∙ e)) ∙ empty_code ss e h.1
 
   -- in data
   filled : (sites : List Site) → is_filled home ≡ true → AllByRecursion Of sites → flat_map (data_parts t) sites ≡ parts t sites
@@ -186,13 +183,13 @@ module _ (t : Tables) (j : ℕ) (home : Section) where
   not_filled b n e = ap (λ c. not c && n) e
 
   bytes_by : (b n : Bool) (sites : List Site) → home.executable ≡ b → is_nobits home ≡ n → AllByRecursion Of sites
-      → flat_map code_at sites ++ flat_map part_bytes (flat_map (data_parts t) sites) ≡ (if n then [] else flat_map part_bytes (parts t sites))
+      → flat_map (code_at t) sites ++ flat_map part_bytes (flat_map (data_parts t) sites) ≡ (if n then [] else flat_map part_bytes (parts t sites))
   bytes_by true true sites e f h =
       ap (λ l. l ++ flat_map part_bytes (flat_map (data_parts t) sites)) (empty_code sites f h)
       ∙ ap (λ ps. flat_map part_bytes ps) (unfilled sites (not_filled home.executable (not (is_nobits home)) e) h)
   bytes_by true false sites e f h =
-      ap (λ ps. flat_map code_at sites ++ flat_map part_bytes ps) (unfilled sites (not_filled home.executable (not (is_nobits home)) e) h)
-      ∙ append-nil (flat_map code_at sites) ∙ coded sites e h
+      ap (λ ps. flat_map (code_at t) sites ++ flat_map part_bytes ps) (unfilled sites (not_filled home.executable (not (is_nobits home)) e) h)
+      ∙ append-nil (flat_map (code_at t) sites) ∙ coded sites e h
   bytes_by false true sites e f h =
       ap (λ l. l ++ flat_map part_bytes (flat_map (data_parts t) sites)) (no_code sites e h)
       ∙ ap (λ ps. flat_map part_bytes ps) (unfilled sites (ap (λ c. not c && not (is_nobits home)) e ∙ ap not f) h)
@@ -201,7 +198,7 @@ module _ (t : Tables) (j : ℕ) (home : Section) where
       ∙ ap (λ ps. flat_map part_bytes ps) (filled sites (ap (λ c. not c && not (is_nobits home)) e ∙ ap not f) h)
 
   pub section_bytes : (sites : List Site) → AllByRecursion Of sites
-      → flat_map code_at sites ++ flat_map part_bytes (flat_map (data_parts t) sites) ≡ (if is_nobits home then [] else flat_map part_bytes (parts t sites))
+      → flat_map (code_at t) sites ++ flat_map part_bytes (flat_map (data_parts t) sites) ≡ (if is_nobits home then [] else flat_map part_bytes (parts t sites))
   section_bytes sites h = bytes_by home.executable (is_nobits home) sites refl refl h
 
   -- no code stands in a section without bytes
@@ -228,14 +225,14 @@ all_fields t (s ∷ ss) h = ap (λ l. l ++ flat_map (open_fields t) ss) h.0.fiel
 
 pub agree : (all : Tables) (k : ℕ) (t : Tables) (before last : ℕ → ℕ) (ss : List Statement) (is : List Item) (codes : List (List CodedPart)) → AreItems k t before ss is last
     → AreCoded all (located_from 1 k t ss) codes → AllByRecursion (Fit all) (sites_of (located_from 1 k t ss) is codes)
-    → Agree (located_from 1 k t ss) (bytes_of_codes codes) (map (λ (s : Site). s.bytes) (sites_of (located_from 1 k t ss) is codes))
+    → Agree (located_from 1 k t ss) (bytes_of_codes all (located_from 1 k t ss) codes) (map (λ (s : Site). s.bytes) (sites_of (located_from 1 k t ss) is codes))
 agree all k t before last [] [] [] items coded fits = tt
 agree all k t before last [] [] (c ∷ codes) items coded fits = absurd coded
 agree all k t before last [] (x ∷ is) codes items coded fits = absurd items
 agree all k t before last (s ∷ ss) [] codes items coded fits = absurd items
 agree all k t before last (s ∷ ss) (x ∷ is) [] items coded fits = absurd coded
 agree all k t before last (s ∷ ss) (x ∷ is) (c ∷ codes) items coded fits = (
-  λ e. sym (fits.0.bytes ∙ ap length (fits.0.code e)),
+  λ e. sym (fits.0.bytes ∙ ap length (fits.0.code e) ∙ code_long all (located_now 1 k t s) c),
   agree all (suc k) (after t k s.kind) (grown before x) last ss is codes items.1 coded.1 fits.1,
 )
 

@@ -1,8 +1,7 @@
 -- One statement more of the code so far.
 
-use Rattle.std.proofs.Common.{◌≡◌, ℕ, ◌+◌, ◌==◌, nat_lt, Bool, true, false, List, [], ◌∷◌, ◌++◌, length, map, Option, Some, None, if◌then◌else◌, refl, sym, ap, ◌∙◌, subst, append-nil, zero, suc, append_assoc, length-append, rules}
+use Rattle.std.proofs.Common.{◌≡◌, ℕ, ◌+◌, ◌==◌, nat_lt, Bool, true, false, List, [], ◌∷◌, ◌++◌, length, map, Option, Some, None, if◌then◌else◌, refl, sym, ap, ◌∙◌, subst, append-nil, zero, suc, append_assoc, length-append, rules, arith}
 use Rattle.std.specs.Global.{Vec}
-use Rattle.std.proofs.lemmas.List.{length-map, map-append}
 use Rattle.rv_text_laws.specs.Codes.{limit}
 use Rattle.rv_statement.specs.Statement.{StatementKind, Label, Numbered, Instruction, Directs, Expression}
 use Rattle.rv_text_laws.specs.Values.{Value}
@@ -11,13 +10,14 @@ use Rattle.rv_unit_laws.specs.Tables.{Tables, longest_section}
 use Rattle.rv_source_laws.specs.Located.{Located}
 use Rattle.rv_instruction.specs.declared.encoded.Coded.{Coded}
 use Rattle.rv_instruction.specs.Code.{coded_by, instructions_of}
+use Rattle.rv_assemble_laws.specs.Coded.{IsCode}
 use Rattle.rv_assemble_laws.specs.Refusals.{code_faults_at, code_fault_from, size_fault_from, else_fault, grown, HasCodeSize, AreCodeSizes}
-use Rattle.rv_sites.specs.Code.{bytes_in, bytes_coded, value_at, size_of, bytes_of_codes, section_code, full_fault, full_at}
+use Rattle.rv_sites.specs.Code.{bytes_in, bytes_coded, value_at, padding_of, padding_at, code_bytes, size_of, sizes_of, bytes_of_sizes, bytes_of_codes, section_code, full_fault, full_at}
 use Rattle.rv_sites.specs.Coded.{IsCoded, AreCoded}
 use Rattle.rv_sites.specs.Added.{IsAdded, IsCodeSoFar, IsWhole, IsLong}
-use Rattle.rv_sites.specs.Sized.{bytes_of_sizes}
 use Rattle.rv_sites.specs.declared.code.Coder.{Coder}
 use Rattle.rv_sites.specs.declared.item.CodeSize.{CodeSize}
+use Rattle.rv_sites.proofs.Evens.{none_more, code_long}
 
 else_assoc : (a b c : Option Fault) → else_fault (else_fault a b) c ≡ else_fault a (else_fault b c)
 else_assoc (Some f) b c = refl
@@ -49,35 +49,40 @@ joined_by true old code rest = append_assoc old code rest
 joined_by false old code rest = refl
 
 pub next_code : (t : Tables) (all : List Located) (s : Located) (next : List Located) (old new : Coder) → IsCodeSoFar t all (s ∷ next) old
-    → IsAdded old new s.section (code_faults_at t s) (λ e. value_at t s e) s.options.rvc (record { line = s.line; kind = s.kind }) → IsCodeSoFar t all next new
+    → IsAdded old new s.section s.home.executable (code_faults_at t s) (λ e. value_at t s e) s.options.rvc (record { line = s.line; kind = s.kind }) → IsCodeSoFar t all next new
 next_code t all s next old new h a =
     let f = λ (j : ℕ). length (bytes_in old.sections.items j) in
     let g = λ (j : ℕ). length (bytes_in new.sections.items j) in
-    let code = bytes_coded a.coded in
-    let alike = λ (j : ℕ). ap length (a.grows.1 j) ∙ grown_length (j == s.section) (bytes_in old.sections.items j) code in
-    let here : g s.section ≡ f s.section + length code = alike s.section ∙ ap (λ b. if b then f s.section + length code else f s.section) (same s.section) in
+    let code = code_bytes (padding_at t s) a.coded in
+    let size : ℕ = padding_at t s + length (bytes_coded a.coded) in
+    let own : CodeSize = size_of (padding_at t s) a.coded in
+    let alike : (j : ℕ) → g j ≡ (if j == s.section then f j + size else f j) =
+    λ j. ap length (a.grows.1 j) ∙ grown_length (j == s.section) (bytes_in old.sections.items j) code ∙ ap (λ n. if j == s.section then f j + n else f j) (code_long t s a.coded) in
+    let here : g s.section ≡ f s.section + size = alike s.section ∙ ap (λ b. if b then f s.section + size else f s.section) (same s.section) in
     let behind : (more : List (List Coded)) → (h.codes ++ a.coded ∷ []) ++ more ≡ h.codes ++ a.coded ∷ more = λ more. append_assoc h.codes (a.coded ∷ []) more in
     record {
       faults =
           sym (ap (λ fs. at_line s.line (lowest fs) (code_fault_from t next)) a.sound)
           ∙ h.faults;
       codes = h.codes ++ a.coded ∷ [];
-      counts = a.counts ∙ ap (λ l. l ++ size_of a.coded ∷ []) h.counts ∙ sym (map-append (λ c. size_of c) h.codes (a.coded ∷ []));
+      counts = λ more.
+          ap (λ l. l ++ sizes_of t next more) a.counts ∙ append_assoc old.sizes.items (own ∷ []) (sizes_of t next more)
+          ∙ h.counts (a.coded ∷ more) ∙ ap (λ l. sizes_of t all l) (sym (behind more));
       coded = λ more rest. subst (λ l. AreCoded t all l) (sym (behind more)) (h.coded (a.coded ∷ more) (a.is, rest));
       long = λ more.
-          let sizes = bytes_of_codes more in
+          let sizes = bytes_of_codes t next more in
           ap (λ x. else_fault x (size_fault_from g next sizes)) a.full
           ∙ else_assoc (full_fault old.full) (full_at s.line (g s.section)) (size_fault_from g next sizes)
           ∙ ap (λ x. else_fault (full_fault old.full) x)
           (at_else s.line (if nat_lt longest_section (g s.section) then Some limit else None) (size_fault_from g next sizes)
           ∙ ap (λ n. at_line s.line (if nat_lt longest_section n then Some limit else None) (size_fault_from g next sizes)) here
-          ∙ ap (λ r. at_line s.line (if nat_lt longest_section (f s.section + length code) then Some limit else None) r) (sizes_alike g (grown f s.section (length code)) next sizes alike))
+          ∙ ap (λ r. at_line s.line (if nat_lt longest_section (f s.section + size) then Some limit else None) r) (sizes_alike g (grown f s.section size) next sizes alike))
           ∙ h.long (a.coded ∷ more)
-          ∙ ap (λ l. size_fault_from (λ j. 0) all (bytes_of_codes l)) (sym (behind more));
+          ∙ ap (λ l. size_fault_from (λ j. 0) all (bytes_of_codes t all l)) (sym (behind more));
       bytes = λ more j.
-          ap (λ x. x ++ section_code j next more) (a.grows.1 j)
-          ∙ joined_by (j == s.section) (bytes_in old.sections.items j) code (section_code j next more)
-          ∙ h.bytes (a.coded ∷ more) j ∙ ap (λ l. section_code j all l) (sym (behind more));
+          ap (λ x. x ++ section_code t j next more) (a.grows.1 j)
+          ∙ joined_by (j == s.section) (bytes_in old.sections.items j) code (section_code t j next more)
+          ∙ h.bytes (a.coded ∷ more) j ∙ ap (λ l. section_code t j all l) (sym (behind more));
     }
 
 -- the first statement that is faulty as code is the next one
@@ -91,19 +96,18 @@ else_none : (a : Option Fault) → else_fault a None ≡ a
 else_none None = refl
 else_none (Some f) = refl
 
-whole_sizes : (t : Tables) (all : List Located) (c : Coder) (h : IsCodeSoFar t all [] c) → size_fault_from (λ j. 0) all (bytes_of_codes h.codes) ≡ full_fault c.full
+whole_sizes : (t : Tables) (all : List Located) (c : Coder) (h : IsCodeSoFar t all [] c) → size_fault_from (λ j. 0) all (bytes_of_codes t all h.codes) ≡ full_fault c.full
 whole_sizes t all c h =
-    ap (λ l. size_fault_from (λ j. 0) all (bytes_of_codes l)) (sym (append-nil h.codes)) ∙ sym (h.long []) ∙ else_none (full_fault c.full)
+    ap (λ l. size_fault_from (λ j. 0) all (bytes_of_codes t all l)) (sym (append-nil h.codes)) ∙ sym (h.long []) ∙ else_none (full_fault c.full)
 
 whole_coded : (t : Tables) (all : List Located) (c : Coder) (h : IsCodeSoFar t all [] c) → AreCoded t all h.codes
 whole_coded t all c h = subst (λ l. AreCoded t all l) (append-nil h.codes) (h.coded [] tt)
 
-sizes_bytes : (codes : List (List Coded)) → bytes_of_sizes (map (λ c. size_of c) codes) ≡ bytes_of_codes codes
-sizes_bytes [] = refl
-sizes_bytes (coded ∷ codes) = ap (λ l. length (bytes_coded coded) ∷ l) (sizes_bytes codes)
+whole_counts : (t : Tables) (all : List Located) (c : Coder) (h : IsCodeSoFar t all [] c) → c.sizes.items ≡ sizes_of t all h.codes
+whole_counts t all c h = sym (append-nil c.sizes.items) ∙ h.counts [] ∙ ap (λ l. sizes_of t all l) (append-nil h.codes)
 
-told_codes : (t : Tables) (all rest : List Located) (c : Coder) (lengths : List ℕ) (h : IsCodeSoFar t all rest c) → bytes_of_sizes c.sizes.items ≡ lengths → bytes_of_codes h.codes ≡ lengths
-told_codes t all rest c lengths h told = sym (sizes_bytes h.codes) ∙ ap bytes_of_sizes (sym h.counts) ∙ told
+told_codes : (t : Tables) (all : List Located) (c : Coder) (lengths : List ℕ) (h : IsCodeSoFar t all [] c) → bytes_of_sizes c.sizes.items ≡ lengths → bytes_of_codes t all h.codes ≡ lengths
+told_codes t all c lengths h told = ap bytes_of_sizes (sym (whole_counts t all c h)) ∙ told
 
 -- the code is whole
 pub whole_code : (t : Tables) (all : List Located) (c : Coder) (lengths : List ℕ) → c.full ≡ None → bytes_of_sizes c.sizes.items ≡ lengths → IsCodeSoFar t all [] c
@@ -111,49 +115,50 @@ pub whole_code : (t : Tables) (all : List Located) (c : Coder) (lengths : List �
 whole_code t all c lengths none told h = record {
   faults = sym h.faults;
   codes = h.codes;
-  counts = h.counts;
+  counts = whole_counts t all c h;
   coded = whole_coded t all c h;
   short = whole_sizes t all c h ∙ ap full_fault none;
-  bytes = λ j. sym (append-nil (bytes_in c.sections.items j)) ∙ h.bytes [] j ∙ ap (λ l. section_code j all l) (append-nil h.codes);
-  told = told_codes t all [] c lengths h told;
+  bytes = λ j. sym (append-nil (bytes_in c.sections.items j)) ∙ h.bytes [] j ∙ ap (λ l. section_code t j all l) (append-nil h.codes);
+  told = told_codes t all c lengths h told;
 }
 
 -- the size of a statement's code
-has_size : (v : Expression → Value) (rvc : Bool) (says : StatementKind) (coded : List Coded) → IsCoded v rvc says coded → HasCodeSize v rvc says (length (bytes_coded coded))
-has_size v rvc (Instruction mnemonic operands) coded (asked, h) = (coded_by coded, (instructions_of coded, h.is))
-has_size v rvc (Label name) coded (asked, h) = ap (λ c. length (bytes_coded c)) h
-has_size v rvc (Numbered number) coded (asked, h) = ap (λ c. length (bytes_coded c)) h
-has_size v rvc (Directs directive) coded (asked, h) = ap (λ c. length (bytes_coded c)) h
+has_size : (b : Bool) (v : Expression → Value) (rvc : Bool) (says : StatementKind) (coded : List Coded) → IsCoded v rvc says coded → HasCodeSize b v rvc says (padding_of b v says + length (bytes_coded coded))
+has_size b v rvc (Instruction mnemonic operands) coded (asked, h) =
+    (coded_by coded, (instructions_of coded, subst (λ n. IsCode v rvc mnemonic operands n (coded_by coded) (instructions_of coded)) (none_more (length (bytes_coded coded))) h.is))
+has_size b v rvc (Label name) coded (asked, h) = ap (λ c. 0 + length (bytes_coded c)) h
+has_size b v rvc (Numbered number) coded (asked, h) = ap (λ c. 0 + length (bytes_coded c)) h
+has_size b v rvc (Directs directive) coded (asked, h) =
+    let padding = padding_of b v (Directs directive) in
+    ap (λ c. padding + length (bytes_coded c)) h ∙ (let all : padding + 0 ≡ padding = omega arith in all)
 
-have_sizes : (t : Tables) (ss : List Located) (codes : List (List Coded)) → AreCoded t ss codes → AreCodeSizes t ss (bytes_of_codes codes)
+have_sizes : (t : Tables) (ss : List Located) (codes : List (List Coded)) → AreCoded t ss codes → AreCodeSizes t ss (bytes_of_codes t ss codes)
 have_sizes t [] [] h = tt
 have_sizes t [] (coded ∷ codes) h = absurd h
 have_sizes t (s ∷ ss) [] h = absurd h
-have_sizes t (s ∷ ss) (coded ∷ codes) h = (has_size (λ e. value_at t s e) s.options.rvc s.kind coded h.0, have_sizes t ss codes h.1)
+have_sizes t (s ∷ ss) (coded ∷ codes) h = (has_size s.home.executable (λ e. value_at t s e) s.options.rvc s.kind coded h.0, have_sizes t ss codes h.1)
 
 -- each statement has a code, and each code a size
-coded_count : (t : Tables) (ss : List Located) (codes : List (List Coded)) → AreCoded t ss codes → length codes ≡ length ss
-coded_count t [] [] h = refl
-coded_count t [] (coded ∷ codes) h = absurd h
+coded_count : (t : Tables) (ss : List Located) (codes : List (List Coded)) → AreCoded t ss codes → length (sizes_of t ss codes) ≡ length ss
+coded_count t [] codes h = refl
 coded_count t (s ∷ ss) [] h = absurd h
 coded_count t (s ∷ ss) (coded ∷ codes) h = ap suc (coded_count t ss codes h.1)
 
 pub sizes_count : (t : Tables) (all : List Located) (lengths : List ℕ) (code : List (Vec ℕ)) (sizes : List CodeSize) → IsWhole t all lengths code sizes → length sizes ≡ length all
-sizes_count t all lengths code sizes h = ap length h.counts ∙ length-map h.codes (λ c. size_of c) ∙ coded_count t all h.codes h.coded
+sizes_count t all lengths code sizes h = ap length h.counts ∙ coded_count t all h.codes h.coded
 
 -- no section is too long by these sizes
 pub sizes_short : (t : Tables) (all : List Located) (lengths : List ℕ) (code : List (Vec ℕ)) (sizes : List CodeSize) → IsWhole t all lengths code sizes → size_fault_from (λ j. 0) all (bytes_of_sizes sizes) ≡ None
-sizes_short t all lengths code sizes h =
-    ap (λ l. size_fault_from (λ j. 0) all (bytes_of_sizes l)) h.counts ∙ ap (λ l. size_fault_from (λ j. 0) all l) (sizes_bytes h.codes) ∙ h.short
+sizes_short t all lengths code sizes h = ap (λ l. size_fault_from (λ j. 0) all (bytes_of_sizes l)) h.counts ∙ h.short
 
 -- a section is too long
 pub long_code : (t : Tables) (all : List Located) (c : Coder) (lengths : List ℕ) (line : ℕ) → c.full ≡ Some line → bytes_of_sizes c.sizes.items ≡ lengths → IsCodeSoFar t all [] c
     → IsLong t all lengths (record { code = limit; line = line })
 long_code t all c lengths line full told h = record {
   faults = sym h.faults;
-  sizes = bytes_of_codes h.codes;
+  sizes = bytes_of_codes t all h.codes;
   are_sizes = have_sizes t all h.codes (whole_coded t all c h);
-  told = told_codes t all [] c lengths h told;
+  told = told_codes t all c lengths h told;
   fault = whole_sizes t all c h ∙ ap full_fault full;
 }
 
@@ -162,12 +167,12 @@ pub begun : (t : Tables) (all : List Located) (c : Coder) → full_fault c.full 
 begun t all c f none e = record {
   faults = refl;
   codes = [];
-  counts = none;
+  counts = λ more. ap (λ l. l ++ sizes_of t all more) none;
   coded = λ more h. h;
   long = λ more.
-      ap (λ x. else_fault x (size_fault_from (λ j. length (bytes_in c.sections.items j)) all (bytes_of_codes more))) f
-      ∙ sizes_alike (λ j. length (bytes_in c.sections.items j)) (λ j. 0) all (bytes_of_codes more) (λ j. ap length (e j));
-  bytes = λ more j. ap (λ x. x ++ section_code j all more) (e j);
+      ap (λ x. else_fault x (size_fault_from (λ j. length (bytes_in c.sections.items j)) all (bytes_of_codes t all more))) f
+      ∙ sizes_alike (λ j. length (bytes_in c.sections.items j)) (λ j. 0) all (bytes_of_codes t all more) (λ j. ap length (e j));
+  bytes = λ more j. ap (λ x. x ++ section_code t j all more) (e j);
 }
 
 -- an empty section after others

@@ -4,13 +4,11 @@ use Rattle.std.proofs.Common.{◌≡◌, ℕ, zero, suc, ◌+◌, Bool, true, fa
 use Rattle.std.specs.Prelude.{⊤, ◌&&◌, not}
 use Rattle.std.specs.List.{AllByRecursion}
 use Rattle.rv_statement.specs.Statement.{Directs, Statement, Directive}
-use Rattle.rv_unit_laws.specs.Tables.{Tables, at_start, alignment_of, after, after_all, tables}
+use Rattle.rv_unit_laws.specs.Tables.{Tables, at_start, after, after_all, tables}
 use Rattle.rv_unit_laws.specs.Faults.{faulty_if, faults, lowest, first_fault_from, first_fault}
 use Rattle.rv_unit.specs.Unit.{passed}
-use Rattle.rv_source_laws.specs.Fits.{is_low}
 use Rattle.rv_source_laws.specs.Located.{Located, located_from}
 use Rattle.rv_assemble_laws.specs.InstructionFaults.{is_label}
-use Rattle.rv_assemble_laws.specs.Refusals.{code_faults, code_faults_at, code_fault_from, code_fault}
 use Rattle.rv_assemble_laws.proofs.Held.{no_lowest, no_fault}
 use Rattle.rv_sites.specs.Code.{value_at}
 use Rattle.rv_sites.proofs.Standing.{all_at, located_at, stated_next}
@@ -43,29 +41,3 @@ sound_left all k t (x ∷ xs) (suc i) s rest e h =
 -- of the statement at an index of a source
 pub sound_at : (ss : List Statement) (i : ℕ) (s : Statement) (rest : List Statement) → drop i ss ≡ s ∷ rest → first_fault ss ≡ None → faults (tables ss) (passed ss i) (i + 1) s.kind ≡ []
 sound_at ss i s rest e good = sound_left (tables ss) 1 at_start ss i s rest e (sound ss good)
-
--- ---- code
-
-code_sound : (t : Tables) (ss : List Located) → code_fault_from t ss ≡ None → AllByRecursion (λ s. code_faults_at t s ≡ []) ss
-code_sound t [] e = tt
-code_sound t (s ∷ ss) e =
-    let parts = no_fault s.line (lowest (code_faults_at t s)) (code_fault_from t ss) e in
-    (no_lowest (code_faults_at t s) parts.0, code_sound t ss parts.1)
-
--- the statement at an index has no fault as code
-pub code_sound_at : (ss : List Statement) (i : ℕ) (s : Statement) (rest : List Statement) → drop i ss ≡ s ∷ rest → code_fault ss ≡ None → code_faults_at (tables ss) (located_at ss i s) ≡ []
-code_sound_at ss i s rest e good =
-    let all = located_from 1 1 at_start ss in
-    all_at (λ u. code_faults_at (tables ss) u ≡ []) all i (located_at ss i s) (drop (i + 1) all) (stated_next ss i s rest e)
-    (code_sound (tables ss) all (sym (ap (code_fault_from (tables ss)) (append-nil all)) ∙ good))
-
-low_by : (low executable : Bool) → faulty_if (not low && executable) 9 ≡ [] → executable ≡ true → low ≡ true
-low_by true executable none e = refl
-low_by false true none e = absurd (cc)
-low_by false false none e = absurd (cc)
-
--- so an alignment in code is low
-pub low_code : (t : Tables) (s : Located) (d : Directive) → s.kind ≡ Directs d → code_faults_at t s ≡ [] → s.home.executable ≡ true → is_low (alignment_of (λ e. value_at t s e) d) ≡ true
-low_code t s d is none code =
-    low_by (is_low (alignment_of (λ e. value_at t s e) d)) s.home.executable
-    (sym (ap (λ says. code_faults s.home.executable (λ e. value_at t s e) (is_label t s.ordinal) says) is) ∙ none) code

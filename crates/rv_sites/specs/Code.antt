@@ -1,15 +1,17 @@
 -- The bytes of code of each section.
 
-use Rattle.std.specs.Prelude.{◌≡◌, ℕ, true, ◌==◌, List, [], ◌∷◌, ◌++◌, map, Option, Some, None, length, nat_lt, slice_get, if◌then◌else◌}
+use Rattle.std.specs.Prelude.{◌≡◌, ℕ, ◌+◌, Bool, true, ◌==◌, List, [], ◌∷◌, ◌++◌, map, Option, Some, None, length, nat_lt, slice_get, if◌then◌else◌}
 use Rattle.std.specs.Global.{Vec}
 use Rattle.rv_text_laws.specs.Codes.{limit}
 use Rattle.rv_text_laws.specs.Values as values
-use Rattle.rv_statement.specs.Statement.{Expression}
+use Rattle.rv_statement.specs.Statement.{StatementKind, Directs, Expression}
 use Rattle.rv_unit_laws.specs.Faults.{Fault, at_line}
-use Rattle.rv_unit_laws.specs.Tables.{Tables, value, longest_section}
+use Rattle.rv_unit_laws.specs.Tables.{Tables, value, alignment_of, longest_section}
+use Rattle.rv_object.specs.Padding.{no_operations, operations_in}
 use Rattle.rv_source_laws.specs.Located.{Located}
 use Rattle.rv_source_laws.specs.Program.{place_of}
 use Rattle.rv_assemble_laws.specs.Coded.{joined}
+use Rattle.rv_source_laws.specs.Sizes.{code_padding}
 use Rattle.rv_instruction.specs.declared.encoded.Coded.{Coded}
 use Rattle.rv_instruction.specs.Code.{coded_by, instructions_of}
 use Rattle.rv_sites.specs.declared.item.CodeSize.{CodeSize}
@@ -29,30 +31,57 @@ GrowsBy old new section more =
     × ((j : ℕ) → bytes_in new j
     ≡ (if j == section then bytes_in old j ++ more else bytes_in old j))
 
--- ---- the code of statements, each part by part
-
--- the bytes of a statement's parts
-abbrev pub bytes_coded : List Coded → List ℕ
-bytes_coded found = joined (coded_by found)
+-- ---- the code of a statement
 
 abbrev pub value_at : Tables → Located → Expression → values.Value
 value_at t s e = value t true s.ordinal (place_of s) e
 
--- how large code is
-abbrev pub size_of : List Coded → CodeSize
-size_of found =
-    record { bytes = length (bytes_coded found); instructions = instructions_of found }
+-- the bytes of the padding of an alignment in a section of code
+abbrev pub padding_of : Bool → (Expression → values.Value) → StatementKind → ℕ
+padding_of executable v (Directs directive) =
+    if executable then code_padding (alignment_of v directive) else 0
+padding_of executable v kind = 0
 
--- how many bytes each statement has in code
-abbrev pub bytes_of_codes : List (List Coded) → List ℕ
-bytes_of_codes codes = map (λ found. length (bytes_coded found)) codes
+abbrev pub padding_at : Tables → Located → ℕ
+padding_at t s = padding_of s.home.executable (λ e. value_at t s e) s.kind
+
+-- the bytes of an instruction's parts
+abbrev pub bytes_coded : List Coded → List ℕ
+bytes_coded found = joined (coded_by found)
+
+-- what a statement has as code: its padding, or its parts
+abbrev pub code_bytes : ℕ → List Coded → List ℕ
+code_bytes padding found = no_operations padding ++ bytes_coded found
+
+-- how large it is
+abbrev pub size_of : ℕ → List Coded → CodeSize
+size_of padding found =
+    record {
+      bytes = padding + length (bytes_coded found);
+      instructions = operations_in padding + instructions_of found;
+    }
+
+-- ---- the code of statements, one after the other
+
+abbrev pub sizes_of : Tables → List Located → List (List Coded) → List CodeSize
+sizes_of t [] codes = []
+sizes_of t (s ∷ ss) [] = []
+sizes_of t (s ∷ ss) (found ∷ codes) = size_of (padding_at t s) found ∷ sizes_of t ss codes
+
+-- how many bytes each statement has
+abbrev pub bytes_of_sizes : List CodeSize → List ℕ
+bytes_of_sizes sizes = map (λ (size : CodeSize). size.bytes) sizes
+
+abbrev pub bytes_of_codes : Tables → List Located → List (List Coded) → List ℕ
+bytes_of_codes t ss codes = bytes_of_sizes (sizes_of t ss codes)
 
 -- the code of the statements of a section
-abbrev pub section_code : ℕ → List Located → List (List Coded) → List ℕ
-section_code section [] codes = []
-section_code section (s ∷ ss) [] = []
-section_code section (s ∷ ss) (found ∷ codes) =
-    (if section == s.section then bytes_coded found else []) ++ section_code section ss codes
+abbrev pub section_code : Tables → ℕ → List Located → List (List Coded) → List ℕ
+section_code t section [] codes = []
+section_code t section (s ∷ ss) [] = []
+section_code t section (s ∷ ss) (found ∷ codes) =
+    (if section == s.section then code_bytes (padding_at t s) found else [])
+    ++ section_code t section ss codes
 
 -- a section of code that is too long, at a line
 abbrev pub full_fault : Option ℕ → Option Fault

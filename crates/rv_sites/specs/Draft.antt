@@ -62,8 +62,6 @@ pub record IsDrafted (t : Tables) (index : ℕ) (home : Section) (sites : List S
       HasSize (form t s.located) s (alignment_at t index) s.located.kind) sites
   pub templates : AllByRecursion (λ p. IsTemplate p.template) (parts t sites)
   pub some : 1 ≤ alignment_at t index
-  -- code is aligned to 2 at most
-  pub low : goes_to_text home ≡ true → alignment_at t index ≤ 2
 
 abbrev pub AreDrafted : Tables → List Site → Draft → Type 0
 AreDrafted t all d = (index : ℕ) (home : Section)

@@ -6,7 +6,6 @@ use Rattle.rv_statement.specs.Statement.{StatementKind, Label, Numbered, Instruc
 use Rattle.rv_unit_laws.specs.Tables.{alignment_of, padding, string_bytes, longest_section}
 use Rattle.rv_tables.specs.declared.section.Extent.{Extent}
 use Rattle.rv_tables.specs.Sections.{extent_section}
-use Rattle.rv_source_laws.specs.Fits.{is_low}
 use Rattle.rv_assemble_laws.specs.Coded.{is_constant}
 use Rattle.rv_sites.specs.declared.item.CodeSize.{CodeSize}
 use Rattle.rv_sites.specs.declared.item.Item.{Item}
@@ -32,22 +31,16 @@ IsSize v executable begins offset size (Label name) bytes = bytes ≡ 0
 IsSize v executable begins offset size (Numbered number) bytes = bytes ≡ 0
 IsSize v executable begins offset size (Instruction mnemonic operands) bytes = bytes ≡ size.bytes
 IsSize v executable begins offset size (Directs directive) bytes =
-    IsSizedDirective v executable (stretch offset bytes) begins directive
-
--- how many instructions a statement is
-abbrev pub instructions_of : CodeSize → StatementKind → ℕ
-instructions_of size (Instruction mnemonic operands) = size.instructions
-instructions_of size _ = 0
+    IsSizedDirective v executable size (stretch offset bytes) begins directive
 
 -- the section at a place, with the multiple at which it asks to begin
 pub record IsExtentAt (extents : List Extent) (place : ℕ) (e : Extent) : Type 0 where
   pub section : slice_get (map extent_section extents) place ≡ Some (extent_section e)
   pub alignment : slice_index_or (map (λ (x : Extent). x.alignment) extents) place 1 ≡ e.alignment
 
--- an alignment can be had: one of code needs no padding; a section of data begins at a multiple of
--- its own, and has the padding
+-- an alignment can be had: its section begins at a multiple of it, and one of data has the padding
 abbrev pub CanPad : Bool → ℕ → ℕ → Option ℕ → Type 0
-CanPad true begins offset alignment = is_low alignment ≡ true
+CanPad true begins offset alignment = IsMultiple alignment begins
 CanPad false begins offset alignment =
     IsMultiple alignment begins × (padding alignment offset ≤ longest_section)
 
@@ -87,16 +80,16 @@ pub record HasRoom (v : Expression → Value) (executable : Bool) (begins offset
 
 -- ---- in a section with its bytes and the multiple at which it asks to begin
 
-abbrev pub PadsIn : Extent → ℕ → ℕ → Option ℕ → Type 0
-PadsIn e offset bytes alignment =
-    IsPadded e.section.executable (stretch offset bytes) e.alignment alignment
+abbrev pub PadsIn : Extent → CodeSize → ℕ → ℕ → Option ℕ → Type 0
+PadsIn e size offset bytes alignment =
+    IsPadded e.section.executable size (stretch offset bytes) e.alignment alignment
 
 abbrev pub CanPadIn : Extent → ℕ → Option ℕ → Type 0
 CanPadIn e offset alignment = CanPad e.section.executable e.alignment offset alignment
 
-abbrev pub AlignsIn : Extent → Value → ℕ → ℕ → Option ℕ → Type 0
-AlignsIn e v offset bytes alignment =
-    IsAligned v e.section.executable (stretch offset bytes) e.alignment alignment
+abbrev pub AlignsIn : Extent → CodeSize → Value → ℕ → ℕ → Option ℕ → Type 0
+AlignsIn e size v offset bytes alignment =
+    IsAligned v e.section.executable size (stretch offset bytes) e.alignment alignment
 
 abbrev pub CanAlignIn : Extent → Value → ℕ → Option ℕ → Type 0
 CanAlignIn e v offset alignment =

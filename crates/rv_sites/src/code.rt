@@ -20,8 +20,10 @@ ghost use Rattle.rv_instruction.specs.Scoped.{values_at, faults_at};
 
 use crate::item::CodeSize;
 use crate::items::extent_at;
+use crate::paddings::padding_of;
 use rv_instruction::{Coded, Encoded, code as code_of, near_forms};
 use rv_layout_laws::Forms;
+use rv_object::{operations, put_no_operations};
 use rv_statement::{Statement, StatementKind};
 use rv_text::{SourceCode, SourceFault};
 use rv_unit::{LONGEST_SECTION, Scope, SectionOffset, Unit};
@@ -59,13 +61,29 @@ fn put_all(bytes: &mut Vec<u8>, code: &[Coded]) -> Result<(), AllocError>
     Ok(())
 }
 
-/// Adds the parts of a statement's code to that of a section.
-fn put_section(sections: &mut [Vec<u8>], section: u32, code: &[Coded]) -> Result<(), AllocError>
+/// Adds the code of a statement: its padding, or its parts.
+#[tactic(auto, using(crate::proofs::Joined::put_twice))]
+fn put_statement(bytes: &mut Vec<u8>, padding: u32, code: &[Coded]) -> Result<(), AllocError>
+    ensures { OnOk result
+        (bytes.new.items ≡ bytes.old.items ++ laws.code_bytes padding code.now) }
+{
+    put_no_operations(bytes, padding)?;
+    put_all(bytes, code)?;
+    Ok(())
+}
+
+/// Adds the code of a statement to that of a section.
+fn put_section(
+    sections: &mut [Vec<u8>],
+    section: u32,
+    padding: u32,
+    code: &[Coded],
+) -> Result<(), AllocError>
     requires { section < length sections.old }
     ensures { OnOk result
-        (GrowsBy sections.old sections.new section (laws.bytes_coded code.now)) }
+        (GrowsBy sections.old sections.new section (laws.code_bytes padding code.now)) }
 {
-    put_all(&mut sections[section as usize], code)
+    put_statement(&mut sections[section as usize], padding, code)
 }
 
 /// How many bytes a part has in memory.
@@ -92,7 +110,7 @@ fn count(encoded: Encoded) -> u8
     }
 }
 
-/// How many bytes the code of a statement has.
+/// How many bytes the parts of a statement have.
 pub(crate) fn bytes_of(code: &[Coded]) -> u8
     requires { length code.now ≤ 8 }
     ensures { result ≡ length (laws.bytes_coded code.now) }
@@ -104,7 +122,7 @@ pub(crate) fn bytes_of(code: &[Coded]) -> u8
     bytes
 }
 
-/// How many instructions the code of a statement is.
+/// How many instructions the parts of a statement are.
 fn instructions_in(code: &[Coded]) -> u8
     requires { length code.now ≤ 8 }
     ensures { result ≡ instructions_of code.now }
@@ -117,13 +135,14 @@ fn instructions_in(code: &[Coded]) -> u8
 }
 
 /// How large the code of a statement is.
-fn size_of(code: &[Coded]) -> CodeSize
-    requires { length code.now ≤ 8 }
-    ensures { result ≡ laws.size_of code.now }
+fn size_of(padding: u32, code: &[Coded]) -> CodeSize
+    requires low { padding ≤ 65535 }
+    requires few { length code.now ≤ 8 }
+    ensures { result ≡ laws.size_of padding code.now }
 {
     CodeSize {
-        bytes: bytes_of(code),
-        instructions: instructions_in(code),
+        bytes: padding + u32::from(bytes_of(code)),
+        instructions: operations(padding) + u32::from(instructions_in(code)),
     }
 }
 
@@ -198,7 +217,7 @@ fn have_lengths(sizes: &[CodeSize], lengths: &[u32]) -> bool
         return false;
     }
     for index in 0..sizes.len() {
-        if u32::from(sizes[index].bytes) != lengths[index] {
+        if sizes[index].bytes != lengths[index] {
             return false;
         }
     }
@@ -278,35 +297,41 @@ impl Coder {
     ) -> Result<(), SourceFault>
         requires { place.section < length self.old.sections.items }
         ensures { (index : ℕ) → IsFilled (scope.now).unit.now → IsScope scope.now index
-            → Adds self.old self.new place.section
-            (faults_at scope.now index place executable (statement_of statement.now).kind)
+            → Adds self.old self.new place.section executable
+            (faults_at scope.now index place (statement_of statement.now).kind)
             (values_at scope.now index place) compressed (statement_of statement.now) result }
     {
         // each length is offered, as the least sizes are a family
         let Some(bytes) = asked(&statement.kind, compressed, wanted) else {
             return Err(SourceFault::OutOfMemory);
         };
-        match code_of(statement, scope, place, executable, compressed, bytes) {
-            Ok(found) => self.add_found(statement, place.section, found.as_slice()),
+        let padding = padding_of(statement, scope, place, executable);
+        match code_of(statement, scope, place, compressed, bytes) {
+            Ok(found) => self.add_found(statement, place.section, padding, found.as_slice()),
             Err(fault) => Err(fault),
         }
     }
 
-    /// Adds a statement that has these instructions.
+    /// Adds a statement that has this padding and these instructions.
     fn add_found(
         &mut self,
         statement: &Statement<'_>,
         section: u32,
+        padding: u32,
         found: &[Coded],
     ) -> Result<(), SourceFault>
+        requires low { padding ≤ 65535 }
         requires few { length found.now ≤ 8 }
         requires section { section < length self.old.sections.items }
-        ensures { (faults : List ℕ) (v : Expression → values.Value) (rvc : Bool) (bytes : ℕ)
-            → faults ≡ [] → HasCode v rvc bytes (statement_of statement.now).kind found.now
-            → Adds self.old self.new section faults v rvc (statement_of statement.now) result }
+        ensures { (executable : Bool) (faults : List ℕ) (v : Expression → values.Value)
+            (rvc : Bool) (bytes : ℕ) → faults ≡ []
+            → padding ≡ laws.padding_of executable v (statement_of statement.now).kind
+            → HasCode v rvc bytes (statement_of statement.now).kind found.now
+            → Adds self.old self.new section executable faults v rvc
+            (statement_of statement.now) result }
     {
-        put_section(self.sections.as_mut_slice(), section, found)?;
-        self.sizes.push(size_of(found))?;
+        put_section(self.sections.as_mut_slice(), section, padding, found)?;
+        self.sizes.push(size_of(padding, found))?;
         let bytes = bytes_in(self.sections.as_slice(), section);
         self.full = full_behind(self.full, bytes, statement.line);
         Ok(())

@@ -2,21 +2,23 @@
 //!
 //! Source: System V gABI, "Relocation"; RISC-V ELF psABI, "Relocations", "Linker Relaxation".
 
-ghost use Rattle.std.specs.Prelude.{◌≡◌, ◌≤◌, ◌+◌, ◌++◌, List, [], ◌∷◌, map, length, None, IfOk, OnOk};
+ghost use Rattle.std.specs.Prelude.{◌≡◌, ◌≤◌, true, false, ◌+◌, ◌++◌, List, [], ◌∷◌, map, length, None, IfOk, OnOk};
 ghost use Rattle.rv_isa.specs.declared.kind.Kind.TheVariants as kinds;
 ghost use Rattle.rv_statement.specs.View.{statement_kind};
 ghost use Rattle.rv_unit_laws.specs.Tables.{tables, longest_section};
 ghost use Rattle.rv_unit.specs.Unit.{said};
 ghost use Rattle.rv_source_laws.specs.Located.{Located};
 ghost use Rattle.rv_assemble_laws.specs.CodeFields.{relax_fields};
-ghost use Rattle.rv_assemble_laws.specs.Fields.{field_at};
-ghost use Rattle.rv_assemble_laws.specs.Templates.{open_at};
+ghost use Rattle.rv_assemble_laws.specs.Fields.{field_at, fields_from};
+ghost use Rattle.rv_assemble_laws.specs.Templates.{align_field, open_at};
 ghost use Rattle.rv_instruction.specs.declared.encoded.Coded.{Coded as SpecCoded};
 ghost use Rattle.rv_instruction.specs.Code.{encoded_instructions, shape_in};
 ghost use Rattle.rv_instruction.specs.Opened.{opens_of, open_of};
 ghost use Rattle.rv_sites.specs.Code.{bytes_coded};
 ghost use Rattle.rv_sites.specs.Coded.{IsCoded, IsCodedAt};
+ghost use Rattle.rv_sites.specs.DataParts as parts;
 ghost use Rattle.rv_sites.specs.Draft.{field_of};
+ghost use Rattle.rv_sites.specs.Seated.{site_of};
 ghost use Rattle.rv_sites.specs.Spots.{value_in, kind_opens, pair_opens, own_opens, opens_in, fields_coded, code_fields, AddsAt, AtOwn, AtSpot, HasBytesOf, IsAtSpot};
 
 use crate::code::{asked, bytes_of, width};
@@ -25,7 +27,7 @@ use crate::field::OpenField;
 use crate::item::Item;
 use rv_instruction::{Code, Coded, Encoded, Reference, code as code_of, open_field};
 use rv_isa::Kind;
-use rv_statement::Statement;
+use rv_statement::{Statement, StatementKind};
 use rv_text::SourceFault;
 use std::alloc::AllocError;
 
@@ -238,11 +240,81 @@ fn code_in_bytes<'a>(
     let Some(length) = asked(&statement.kind, compressed, bytes) else {
         return Err(SourceFault::OutOfMemory);
     };
-    let found = code_of(statement, spot.scope, spot.place, true, compressed, length)?;
+    let found = code_of(statement, spot.scope, spot.place, compressed, length)?;
     if u32::from(bytes_of(found.as_slice())) != bytes {
         return Err(SourceFault::OutOfMemory);
     }
     Ok(found)
+}
+
+/// Whether a statement is an alignment.
+fn is_alignment(kind: &StatementKind<'_>) -> bool
+    ensures { result ≡ parts.is_alignment (statement_kind kind.now) }
+{
+    matches!(
+        kind,
+        StatementKind::AlignsToPower(_) | StatementKind::AlignsToBytes(_)
+    )
+}
+
+/// The field of the padding of an alignment in code.
+fn padding_field<'a>(spot: &Spot<'_, '_, 'a>, item: Item) -> OpenField<'a>
+    ensures { field_of result ≡ field_at (spot.now).place.section item.offset
+        (align_field (spot.now).ordinal item.bytes) }
+{
+    OpenField {
+        section: spot.place.section,
+        place: item.offset,
+        kind: Kind::Align,
+        ordinal: spot.ordinal,
+        symbol: None,
+        addend: i64::from(item.bytes),
+    }
+}
+
+/// Adds the field of the padding of an alignment in code, where it has some.
+fn put_padding<'a>(
+    fields: &mut Vec<OpenField<'a>>,
+    spot: &Spot<'_, '_, 'a>,
+    item: Item,
+) -> Result<(), AllocError>
+    ensures { OnOk result (map field_of fields.new.items
+        ≡ map field_of fields.old.items ++ fields_from (spot.now).place.section item.offset
+        (parts.padding_said (spot.now).ordinal item.bytes)) }
+{
+    if item.bytes == 0 {
+        return Ok(());
+    }
+    push(fields, padding_field(spot, item))
+}
+
+/// Adds the fields of an instruction, where it has the bytes of its code.
+fn put_instruction<'a>(
+    fields: &mut Vec<OpenField<'a>>,
+    spot: &Spot<'_, '_, 'a>,
+    statement: &Statement<'a>,
+    choices: Choices,
+    item: Item,
+) -> Result<(), SourceFault>
+    requires { item.offset + item.bytes ≤ longest_section }
+    ensures { OnOk result (AtSpot spot.now (λ index. (l : Located) (coded : List SpecCoded)
+        → IsAtSpot spot.now index (statement_kind (statement.now).kind) choices l
+        → parts.is_alignment l.kind ≡ false → HasBytesOf coded item l.kind
+        → IsCodedAt (tables (said ((spot.now).scope.now).unit.now)) l coded
+        → map field_of fields.new.items
+        ≡ map field_of fields.old.items ++ fields_from (spot.now).place.section item.offset
+        (parts.code_said (tables (said ((spot.now).scope.now).unit.now)) (site_of l item coded)
+        l.kind))) }
+{
+    let found = code_in_bytes(statement, spot, choices.compressed, item.bytes)?;
+    put_parts(
+        fields,
+        spot,
+        statement,
+        choices.relax,
+        item.offset,
+        found.as_slice(),
+    )
 }
 
 /// Adds the fields of a statement in a section of code, where it has the bytes of its code.
@@ -264,13 +336,9 @@ pub(crate) fn put_code<'a>(
     if !spot.loaded {
         return Ok(());
     }
-    let found = code_in_bytes(statement, spot, choices.compressed, item.bytes)?;
-    put_parts(
-        fields,
-        spot,
-        statement,
-        choices.relax,
-        item.offset,
-        found.as_slice(),
-    )
+    if is_alignment(&statement.kind) {
+        put_padding(fields, spot, item)?;
+        return Ok(());
+    }
+    put_instruction(fields, spot, statement, choices, item)
 }

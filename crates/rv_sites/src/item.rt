@@ -17,11 +17,12 @@ pub struct Item {
     pub instructions: u32,
 }
 
-/// How large the code of a statement is; what is no instruction has none.
+/// How large the code of a statement is: of an instruction, and of an alignment in a section of code;
+/// what else there is has none.
 #[derive(Clone, Copy, Debug, PartialEq, Eq, Drop)]
 pub(crate) struct CodeSize {
     /// Its bytes.
-    pub(crate) bytes: u8,
+    pub(crate) bytes: u32,
     /// How many instructions they are.
-    pub(crate) instructions: u8,
+    pub(crate) instructions: u32,
 }

@@ -8,14 +8,13 @@ ghost use Rattle.rv_statement.specs.View.{bytes_of, quoted, statement_kind};
 ghost use Rattle.rv_unit_laws.specs.Faults.{first_fault};
 ghost use Rattle.rv_unit_laws.specs.Tables as laws;
 ghost use Rattle.rv_unit.specs.Unit.{said, IsFilled};
-ghost use Rattle.rv_source_laws.specs.Fits.{is_low};
 ghost use Rattle.rv_source_laws.specs.Located.{located};
-ghost use Rattle.rv_assemble_laws.specs.Refusals.{code_fault, size_fault_from};
+ghost use Rattle.rv_assemble_laws.specs.Refusals.{size_fault_from};
 ghost use Rattle.rv_sites.specs.Items.{AreItems};
 ghost use Rattle.rv_assemble_laws.specs.Sites.{IsMultiple};
 ghost use Rattle.rv_instruction.specs.Scoped.{values_at, is_placed_at, AtNext, StandsHere, ForOutcome};
 ghost use Rattle.rv_sites.specs.Sized.{AreSized, bytes_of_sizes};
-ghost use Rattle.rv_sites.specs.Measured.{instructions_of, IsExtentAt, CanCount, PadsIn, CanPadIn, AlignsIn, CanAlignIn, IsSizeIn, HasSizeIn, HasRoomIn, IsSizedIn};
+ghost use Rattle.rv_sites.specs.Measured.{IsExtentAt, CanCount, PadsIn, CanPadIn, AlignsIn, CanAlignIn, IsSizeIn, HasSizeIn, HasRoomIn, IsSizedIn};
 
 use crate::item::{CodeSize, Item};
 use rv_instruction::constant;
@@ -81,55 +80,28 @@ fn is_multiple(begins: u32, alignment: Option<u32>) -> bool
     }
 }
 
-/// The padding of an alignment in code: none; a greater one than 2 is not built yet.
-fn padding_in_code(alignment: Option<u32>, line: u32) -> Result<u32, SourceFault>
-    ensures size { IfOk result (λ n. (n ≡ 0) × (is_low alignment ≡ true)) }
-    ensures refuses { IfErr result (λ _. is_low alignment ≡ false) }
-{
-    match alignment {
-        Some(alignment) if alignment > 2 => Err(SourceFault::At {
-            code: SourceCode::UnsupportedHere,
-            line,
-        }),
-        _ => Ok(0),
-    }
-}
-
-/// The padding of an alignment in data, in a section that asks to begin at a multiple of this number.
-fn padding_in_data(
-    begins: u32,
+/// The padding of an alignment after `offset` bytes of a section: in code it has this size, in data
+/// it goes up to the multiple.
+fn bytes_of_padding(
+    extent: Extent<'_>,
     alignment: Option<u32>,
     offset: u32,
+    code: CodeSize,
     line: u32,
 ) -> Result<u32, SourceFault>
-    ensures size { IfOk result
-        (λ n. (n ≡ laws.padding alignment offset) × IsMultiple alignment begins) }
-    ensures refuses { IfErr result (λ _. IsMultiple alignment begins
-        → laws.padding alignment offset ≤ laws.longest_section → ⊥) }
+    ensures size { IfOk result (λ n. PadsIn extent.entry code offset n alignment) }
+    ensures refuses { IfErr result (λ _. CanPadIn extent.entry offset alignment → ⊥) }
 {
-    if !is_multiple(begins, alignment) {
+    if !is_multiple(extent.alignment, alignment) {
         return Err(SourceFault::At {
             code: SourceCode::ImmediateRange,
             line,
         });
     }
-    fitting(padding(alignment, offset), line)
-}
-
-/// The padding of an alignment after `offset` bytes of a section.
-fn bytes_of_padding(
-    extent: Extent<'_>,
-    alignment: Option<u32>,
-    offset: u32,
-    line: u32,
-) -> Result<u32, SourceFault>
-    ensures size { IfOk result (λ n. PadsIn extent.entry offset n alignment) }
-    ensures refuses { IfErr result (λ _. CanPadIn extent.entry offset alignment → ⊥) }
-{
     if extent.section.executable {
-        return padding_in_code(alignment, line);
+        return Ok(code.bytes);
     }
-    padding_in_data(extent.alignment, alignment, offset, line)
+    fitting(padding(alignment, offset), line)
 }
 
 /// The padding to the power of two that a value says.
@@ -137,16 +109,17 @@ fn padding_to_power(
     value: Result<Value<'_>, SourceFault>,
     extent: Extent<'_>,
     offset: u32,
+    code: CodeSize,
     line: u32,
 ) -> Result<u32, SourceFault>
     ensures size { IfOk result (λ n. ForOutcome value.entry line
-        (λ v. AlignsIn extent.entry v offset n (laws.power_alignment v))) }
+        (λ v. AlignsIn extent.entry code v offset n (laws.power_alignment v))) }
     ensures refuses { IfErr result (λ _. ForOutcome value.entry line
         (λ v. CanAlignIn extent.entry v offset (laws.power_alignment v) → ⊥)) }
 {
     let power = constant(value, line)?;
     let alignment = power_alignment(Ok(Value::Constant(power)));
-    bytes_of_padding(extent, alignment, offset, line)
+    bytes_of_padding(extent, alignment, offset, code, line)
 }
 
 /// The padding to a multiple of as many bytes as a value says.
@@ -154,16 +127,17 @@ fn padding_to_bytes(
     value: Result<Value<'_>, SourceFault>,
     extent: Extent<'_>,
     offset: u32,
+    code: CodeSize,
     line: u32,
 ) -> Result<u32, SourceFault>
     ensures size { IfOk result (λ n. ForOutcome value.entry line
-        (λ v. AlignsIn extent.entry v offset n (laws.byte_alignment v))) }
+        (λ v. AlignsIn extent.entry code v offset n (laws.byte_alignment v))) }
     ensures refuses { IfErr result (λ _. ForOutcome value.entry line
         (λ v. CanAlignIn extent.entry v offset (laws.byte_alignment v) → ⊥)) }
 {
     let bytes = constant(value, line)?;
     let alignment = byte_alignment(Ok(Value::Constant(bytes)));
-    bytes_of_padding(extent, alignment, offset, line)
+    bytes_of_padding(extent, alignment, offset, code, line)
 }
 
 /// The bytes of the statement that is next, after `offset` bytes of its section, where its code has
@@ -185,19 +159,19 @@ fn size(
 {
     let line = statement.line;
     match &statement.kind {
-        StatementKind::Plain(_) => Ok(u32::from(code.bytes)),
-        StatementKind::With(..) => Ok(u32::from(code.bytes)),
-        StatementKind::WithFunction(..) => Ok(u32::from(code.bytes)),
+        StatementKind::Plain(_) => Ok(code.bytes),
+        StatementKind::With(..) => Ok(code.bytes),
+        StatementKind::WithFunction(..) => Ok(code.bytes),
         StatementKind::Value(width, _) => bytes_of_values(*width, 1, line),
         StatementKind::Values(width, values) => bytes_of_values(*width, values.len(), line),
         StatementKind::Ascii(strings) => bytes_of_strings(false, strings, line),
         StatementKind::Asciz(strings) => bytes_of_strings(true, strings, line),
         StatementKind::Zeros(count) => bytes_of_zeros(scope.value(place, count, line), line),
         StatementKind::AlignsToPower(power) => {
-            padding_to_power(scope.value(place, power, line), extent, offset, line)
+            padding_to_power(scope.value(place, power, line), extent, offset, code, line)
         }
         StatementKind::AlignsToBytes(bytes) => {
-            padding_to_bytes(scope.value(place, bytes, line), extent, offset, line)
+            padding_to_bytes(scope.value(place, bytes, line), extent, offset, code, line)
         }
         StatementKind::Label(_) => Ok(0),
         StatementKind::Numbered(_) => Ok(0),
@@ -233,18 +207,6 @@ fn placed_size(
         return Ok(0);
     }
     size(scope, statement, place, extent, offset, code)
-}
-
-/// How many instructions a statement is, where its code has this size.
-fn instructions(kind: &StatementKind<'_>, code: CodeSize) -> u32
-    ensures { result ≡ instructions_of code (statement_kind kind.now) }
-{
-    match kind {
-        StatementKind::Plain(_) => u32::from(code.instructions),
-        StatementKind::With(..) => u32::from(code.instructions),
-        StatementKind::WithFunction(..) => u32::from(code.instructions),
-        _ => 0,
-    }
 }
 
 /// Whether the statement that is next, which stands at the place, has one in its section.
@@ -351,7 +313,7 @@ fn next_item<'a>(
         bytes,
         line,
         shown: is_shown(placed, extent.section),
-        instructions: instructions(&statement.kind, code),
+        instructions: code.instructions,
     })
 }
 
@@ -383,7 +345,6 @@ pub(crate) fn items(
         AreSized (laws.tables (said unit.now)) 1 laws.at_start (said unit.now) r.0.items
         sizes.now) }
     ensures refuses { IfErr result (λ e. first_fault (said unit.now) ≡ None
-        → code_fault (said unit.now) ≡ None
         → size_fault_from (λ j. 0) (located (said unit.now ∷ [])) (bytes_of_sizes sizes.now) ≡ None
         → e ≡ OutOfMemory) }
 {

@@ -28,6 +28,7 @@ mod fields;
 mod item;
 mod items;
 mod measure;
+mod paddings;
 
 pub use draft::Draft;
 pub use field::OpenField;

@@ -15,6 +15,7 @@ ghost use Rattle.rv_sites.specs.Measure.{IsSeenAs, IsMeasured};
 
 use crate::code::{asked, bytes_of};
 use crate::items::extent_at;
+use crate::paddings::padding_of;
 use rv_instruction::{code as code_of, item};
 use rv_layout::{branch_sizes, is_input};
 use rv_layout_laws::Item as LayoutItem;
@@ -33,19 +34,18 @@ fn widest(kind: &StatementKind<'_>, compressed: bool) -> Option<u8>
     }
 }
 
-/// How many bytes the statement that is next has as code, in its largest form; none where it is
-/// faulty.
+/// How many bytes the instruction that is next has as code, in its largest form; none where it is
+/// faulty, and another statement.
 fn code_length<'a>(
     statement: &Statement<'a>,
     scope: &Scope<'_, 'a>,
     place: SectionOffset,
-    executable: bool,
     compressed: bool,
 ) -> u8 {
     let Some(bytes) = widest(&statement.kind, compressed) else {
         return 0;
     };
-    match code_of(statement, scope, place, executable, compressed, bytes) {
+    match code_of(statement, scope, place, compressed, bytes) {
         Ok(found) => bytes_of(found.as_slice()),
         Err(_) => 0,
     }
@@ -64,14 +64,15 @@ fn seen<'a>(
     ensures { AtNext scope.now (λ index. IsSeenAs scope.now index places.now place compressed
         (statement_kind (statement.now).kind) result) }
 {
-    let bytes = code_length(statement, scope, place, executable, compressed);
+    let bytes = code_length(statement, scope, place, compressed);
+    let padding = padding_of(statement, scope, place, executable);
     item(
         statement,
         scope,
         places,
         place,
         compressed,
-        u32::from(bytes),
+        padding + u32::from(bytes),
     )
 }
 

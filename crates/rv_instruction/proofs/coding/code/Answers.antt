@@ -5,11 +5,11 @@ use Rattle.rv_instruction.proofs.coding.code.Goals as goal
 
 pub returns-in-Ok-clause-codes : goal.returns-in-Ok-clause-codes
 returns-in-Ok-clause-codes c = λ index filled stands.
-    codes_of c.args.executable c.args.compressed c.args.bytes (values_at c.args.scope.now index c.args.place) (labels_at c.args.scope.now index)
+    codes_of c.args.compressed c.args.bytes (values_at c.args.scope.now index c.args.place) (labels_at c.args.scope.now index)
     (statement_of c.args.statement.now) c.in-Ok.templates c.encode_all.result (c.in-Ok.ensures.built index filled stands) c.requires
     (c.in-Ok.ensures.codable c.requires) c.encode_all.ensures.parts c.encode_all.ensures.shapes
 
 pub returns-in-Err-clause-codes : goal.returns-in-Err-clause-codes
 returns-in-Err-clause-codes c = λ index filled stands.
-    refused_codes c.args.executable c.args.compressed c.args.bytes (values_at c.args.scope.now index c.args.place) (labels_at c.args.scope.now index)
+    refused_codes c.args.compressed c.args.bytes (values_at c.args.scope.now index c.args.place) (labels_at c.args.scope.now index)
     (statement_of c.args.statement.now) c.in-Err.fault (c.in-Err.ensures.built index filled stands)

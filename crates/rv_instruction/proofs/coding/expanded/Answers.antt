@@ -1,8 +1,6 @@
-use Rattle.std.proofs.Common.{refl, sym, ap, ◌∙◌, subst, [], None, Some}
+use Rattle.std.proofs.Common.{ap, None, Some}
 use Rattle.rv_text.specs.Expr.{tree_of_expr}
 use Rattle.rv_statement.specs.View.{statement_of, statement_kind}
-use Rattle.rv_assemble_laws.specs.Refusals.{padding_faults, code_faults}
-use Rattle.rv_instruction.specs.Code.{HasTemplates}
 use Rattle.rv_instruction.specs.Scoped.{values_at, labels_at}
 use Rattle.rv_instruction.proofs.StatementKinds.{plain_expanded, operand_expanded}
 use Rattle.rv_instruction.proofs.coding.expanded.Goals as goal
@@ -11,7 +9,7 @@ pub returns-in-Plain-clause-built : goal.returns-in-Plain-clause-built
 returns-in-Plain-clause-built c = λ index filled stands.
     let v = values_at c.args.scope.now index c.args.place in
     let l = labels_at c.args.scope.now index in
-    plain_expanded c.in-Plain.statement (statement_of c.args.statement.now) c.args.executable c.args.bytes v l c.args.compressed c.plain.result
+    plain_expanded c.in-Plain.statement (statement_of c.args.statement.now) c.args.bytes v l c.args.compressed c.plain.result
     (ap statement_kind c.in-Plain.is) c.plain.ensures.is
 
 pub returns-in-With-clause-built : goal.returns-in-With-clause-built
@@ -19,7 +17,7 @@ returns-in-With-clause-built c = λ index filled stands.
     let v = values_at c.args.scope.now index c.args.place in
     let l = labels_at c.args.scope.now index in
     let x = tree_of_expr c.in-With.expression in
-    operand_expanded c.in-With.operation None x (statement_of c.args.statement.now) c.args.executable c.args.bytes v l c.args.compressed c.with_value.result
+    operand_expanded c.in-With.operation None x (statement_of c.args.statement.now) c.args.bytes v l c.args.compressed c.with_value.result
     (ap statement_kind c.in-With.is) (c.with_value.ensures.built index (v x) filled stands (c.value-value.ensures index filled stands))
 
 pub returns-in-WithFunction-clause-built : goal.returns-in-WithFunction-clause-built
@@ -27,27 +25,7 @@ returns-in-WithFunction-clause-built c = λ index filled stands.
     let v = values_at c.args.scope.now index c.args.place in
     let l = labels_at c.args.scope.now index in
     let x = tree_of_expr c.in-WithFunction.expression in
-    operand_expanded c.in-WithFunction.operation (Some c.in-WithFunction.function) x (statement_of c.args.statement.now) c.args.executable c.args.bytes v l c.args.compressed
+    operand_expanded c.in-WithFunction.operation (Some c.in-WithFunction.function) x (statement_of c.args.statement.now) c.args.bytes v l c.args.compressed
     c.with_value-in-WithFunction.result
     (ap statement_kind c.in-WithFunction.is)
     (c.with_value-in-WithFunction.ensures.built index (v x) filled stands (c.value-value-in-WithFunction.ensures index filled stands))
-
-pub returns-in-AlignsToPower-clause-built : goal.returns-in-AlignsToPower-clause-built
-returns-in-AlignsToPower-clause-built c = λ index filled stands.
-    let v = values_at c.args.scope.now index c.args.place in
-    let l = labels_at c.args.scope.now index in
-    let says = ap statement_kind c.in-AlignsToPower.is in
-    let alignment = c.power_alignment-alignment.ensures (v (tree_of_expr c.in-AlignsToPower.exponent)) (c.value.ensures index filled stands) in
-    c.unpadded.ensures.built c.args.compressed c.args.bytes v l (statement_of c.args.statement.now)
-    (ap (code_faults c.args.executable v l) says ∙ ap (padding_faults c.args.executable) (sym alignment))
-    (subst (λ k. HasTemplates v c.args.compressed c.args.bytes k []) (sym says) refl) refl
-
-pub returns-in-AlignsToBytes-clause-built : goal.returns-in-AlignsToBytes-clause-built
-returns-in-AlignsToBytes-clause-built c = λ index filled stands.
-    let v = values_at c.args.scope.now index c.args.place in
-    let l = labels_at c.args.scope.now index in
-    let says = ap statement_kind c.in-AlignsToBytes.is in
-    let alignment = c.byte_alignment-alignment.ensures (v (tree_of_expr c.in-AlignsToBytes.bytes)) (c.value-in-AlignsToBytes.ensures index filled stands) in
-    c.unpadded-in-AlignsToBytes.ensures.built c.args.compressed c.args.bytes v l (statement_of c.args.statement.now)
-    (ap (code_faults c.args.executable v l) says ∙ ap (padding_faults c.args.executable) (sym alignment))
-    (subst (λ k. HasTemplates v c.args.compressed c.args.bytes k []) (sym says) refl) refl

@@ -13,7 +13,7 @@ use Rattle.rv_sites.proofs.Standing.{StandsAt, stands_at, places_count, got_insi
 use Rattle.rv_sites.specs.Measured.{IsExtentAt}
 use Rattle.rv_sites.proofs.Itemized.{place_inside}
 use Rattle.rv_sites.specs.declared.code.SectionCode.{SectionCode}
-use Rattle.rv_sites.proofs.Whole.{faults_in, faults_there, code_more, code_wrong, code_whole}
+use Rattle.rv_sites.proofs.Whole.{faults_in, faults_there, code_there, code_more, code_wrong, code_whole}
 use Rattle.rv_sites.proofs.code.code.Goals as goal
 
 pub loop-index-init : goal.loop-index-init
@@ -63,17 +63,17 @@ loop-index-preserved c =
     let rvc = c.rvc-compressed.result in
     let same = c.loop-index.invariant.0 in
     let filled = subst IsFilled (sym same) c.requires.filled in
-    let faults = faults_in (tables (said u)) (i + 1) (extent_section e) (offset_of p) (statement_of x) in
-    let known = faults_there u i x p e at there in
+    let faults = faults_in (tables (said u)) (i + 1) (offset_of p) (statement_of x) in
+    let known = faults_there u i x p at in
     let on : rvc ≡ (located_at (said u) i (statement_of x)).options.rvc =
     c.rvc-compressed.ensures ∙ ap (λ (o : Options). o.rvc) (c.options_at.ensures c.requires.filled within) in
-    let added : IsAdded c.loop-index.coder c.add.new.self p.section faults (λ e. value_of (tables (said u)) true (i + 1) (offset_of p) e) rvc (statement_of x) =
-    subst (λ w. IsAdded c.loop-index.coder c.add.new.self p.section (faults_in (tables (said w)) (i + 1) (extent_section e) (offset_of p) (statement_of x)) (λ e. value_of (tables (said w)) true (i + 1) (offset_of p) e) rvc (statement_of x)) same
+    let added : IsAdded c.loop-index.coder c.add.new.self p.section e.section.executable faults (λ e. value_of (tables (said u)) true (i + 1) (offset_of p) e) rvc (statement_of x) =
+    subst (λ w. IsAdded c.loop-index.coder c.add.new.self p.section e.section.executable (faults_in (tables (said w)) (i + 1) (offset_of p) (statement_of x)) (λ e. value_of (tables (said w)) true (i + 1) (offset_of p) e) rvc (statement_of x)) same
     (c.in_ok-add.ensures i filled c.loop-index.invariant.1) in
     let within' = subst (λ w. i < length (said w)) (sym same) within in (
       ap (λ b. b.now) c.pass.ensures.unit ∙ same,
       c.pass.ensures.passes i within' c.loop-index.invariant.1,
-      code_more u i x p rvc c.loop-index.coder c.add.new.self faults at c.loop-index.invariant.2 known on added,
+      code_more u i x p rvc e.section.executable c.loop-index.coder c.add.new.self faults at c.loop-index.invariant.2 known on (code_there u i x p e at there) added,
       added.grows.0 ∙ c.loop-index.invariant.3,
     )
 
@@ -92,14 +92,14 @@ returns-in_err-add-clause-code c =
     let rvc = c.rvc-compressed.result in
     let same = c.loop-index.invariant.0 in
     let filled = subst IsFilled (sym same) c.requires.filled in
-    let faults = faults_in (tables (said u)) (i + 1) (extent_section e) (offset_of p) (statement_of x) in
-    let known = faults_there u i x p e at there in
+    let faults = faults_in (tables (said u)) (i + 1) (offset_of p) (statement_of x) in
+    let known = faults_there u i x p at in
     let wrong =
-    subst (λ w. Adds c.loop-index.coder c.add.new.self p.section (faults_in (tables (said w)) (i + 1) (extent_section e) (offset_of p) (statement_of x)) (λ e. value_of (tables (said w)) true (i + 1) (offset_of p) e) rvc (statement_of x) (Err c.in_err-add.field-0.0)) same
+    subst (λ w. Adds c.loop-index.coder c.add.new.self p.section e.section.executable (faults_in (tables (said w)) (i + 1) (offset_of p) (statement_of x)) (λ e. value_of (tables (said w)) true (i + 1) (offset_of p) e) rvc (statement_of x) (Err c.in_err-add.field-0.0)) same
     (c.in_err-add.ensures i filled c.loop-index.invariant.1) in
     let found = err_from_is_err_and c.from_residual-in_err-add.result c.from_residual-in_err-add.ensures.1 in
     rw (found.1, found.2)
-    (code_wrong u i x p rvc c.loop-index.coder c.add.new.self faults c.in_err-add.field-0.0 at c.loop-index.invariant.2 known wrong c.args.lengths.now)
+    (code_wrong u i x p rvc e.section.executable c.loop-index.coder c.add.new.self faults c.in_err-add.field-0.0 at c.loop-index.invariant.2 known wrong c.args.lengths.now)
 
 pub returns-clause-code : goal.returns-clause-code
 returns-clause-code c =

@@ -33,7 +33,7 @@ loop-index-init c =
       sized = subst (λ l. AreSizedSoFar (tables ss) ss c.args.sizes.now 0 l) (sym c.new-items.ensures.items) (sized_begin (tables ss) ss c.args.sizes.now);
       sections = c.in_ok-ends.ensures.count ∙ ap length c.sections-extents.ensures;
       count = ap length c.new-items.ensures.items;
-      room = λ good coded sizes. rooms_begin ss c.args.sizes.now (λ j. slice_index c.in_ok-ends.ends.items j) sizes none;
+      room = λ good sizes. rooms_begin ss c.args.sizes.now (λ j. slice_index c.in_ok-ends.ends.items j) sizes none;
       low = λ j. subst (λ n. n ≤ 2 ^ 28) (sym (none j)) (omega arith);
     }
 
@@ -105,14 +105,14 @@ returns-in_err-item-clause-refuses c =
     let e = c.extent_at-extent.result in
     let there : IsExtentAt u.tables.extents.items p.section e = subst (λ l. IsExtentAt l p.section e) c.sections-extents.ensures c.extent_at-extent.ensures in
     let offset : slice_index ends p.section ≡ c.end-offset.result = sym (c.end-offset.ensures ∙ ap (λ l. slice_index l p.section) c.as_slice.ensures.value) in
-    err_always c.from_residual-in_err-item.result (λ y good coded sizes.
+    err_always c.from_residual-in_err-item.result (λ y good sizes.
     absurd (c.in_err-item.ensures.refuses i filled inv.scope (subst (λ w. offset_of p ≡ stood (passed (said w) i) (i + 1) (statement_kind x.kind)) (sym same) at.place)
     (subst
     (λ w. is_placed (passed (said w) i) (i + 1) (statement_kind x.kind) ≡ true → HasRoom (λ t. value_of (tables (said w)) true (i + 1) (offset_of p) t) e.section.executable e.alignment c.end-offset.result own (statement_kind x.kind))
     (sym same)
     (λ placed.
     subst (λ n. HasRoom (λ t. value_of (tables ss) true (i + 1) (offset_of p) t) e.section.executable e.alignment n own (statement_kind x.kind)) offset
-    (room_at u i x p e own before _ c.requires.filled at there (roomy_now ss i (statement_of x) at.here good coded c.args.sizes.now own sized_is before inv.low (inv.room good coded sizes) placed))))))
+    (room_at u i x p e own before _ c.requires.filled at there (roomy_now ss i (statement_of x) at.here good c.args.sizes.now own sized_is before inv.low (inv.room good sizes) placed))))))
 
 pub loop-index-preserved : goal.loop-index-preserved
 loop-index-preserved c =
@@ -164,7 +164,7 @@ loop-index-preserved c =
           (sized_more (tables ss) ss c.args.sizes.now i (statement_of x) own c.loop-index.items.items y at.here size_left sized inv.sized);
       sections = ap length c.grow.ensures ∙ length-set ends y.section (y.offset + y.bytes) ∙ inv.sections;
       count = ap length c.in_ok-push.ensures.items ∙ length-append c.loop-index.items.items (y ∷ []) ∙ ap (λ n. n + 1) inv.count;
-      room = λ good coded sizes. rooms_more ss i (statement_of x) at.here good coded c.args.sizes.now own sized_is before inv.low (inv.room good coded sizes) y one sized behind grows;
+      room = λ good sizes. rooms_more ss i (statement_of x) at.here good c.args.sizes.now own sized_is before inv.low (inv.room good sizes) y one sized behind grows;
       low = λ j. subst (λ l. slice_index l j ≤ 2 ^ 28) (sym c.grow.ensures) (low_by ends y.section (y.offset + y.bytes) j room told.fits inv.low);
     }
 

@@ -3,7 +3,7 @@ use Rattle.std.specs.Prelude.{slice_index}
 use Rattle.rv_unit_laws.specs.Faults.{first_fault}
 use Rattle.rv_unit_laws.specs.Tables.{tables}
 use Rattle.rv_source_laws.specs.Located.{located}
-use Rattle.rv_assemble_laws.specs.Refusals.{code_fault, size_fault_from}
+use Rattle.rv_assemble_laws.specs.Refusals.{size_fault_from}
 use Rattle.rv_sites.specs.Sized.{bytes_of_sizes}
 use Rattle.rv_sites.proofs.Rooms.{HasRoomLeft}
 use Rattle.rv_unit.specs.Unit.{said, IsScope}
@@ -20,7 +20,7 @@ invariant-loop-index l = record {
   sized : AreSizedSoFar (tables (said l.unit)) (said l.unit) l.sizes l.index l.items.items;
   sections : length l.ends.items ≡ length l.unit.tables.extents.items;
   count : length l.items.items ≡ l.index;
-  room : first_fault (said l.unit) ≡ None → code_fault (said l.unit) ≡ None → size_fault_from (λ j. 0) (located (said l.unit ∷ [])) (bytes_of_sizes l.sizes) ≡ None
+  room : first_fault (said l.unit) ≡ None → size_fault_from (λ j. 0) (located (said l.unit ∷ [])) (bytes_of_sizes l.sizes) ≡ None
       → HasRoomLeft (said l.unit) l.sizes l.index (λ j. slice_index l.ends.items j);
   low : (j : ℕ) → slice_index l.ends.items j ≤ 2 ^ 28;
 }

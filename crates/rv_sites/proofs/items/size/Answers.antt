@@ -44,7 +44,7 @@ returns-in-AlignsToPower c =
     record {
       size =
           IfOk-weaker c.padding_to_power.result
-          (λ n. (v : values.Value) → IsOutcome c.value-in-AlignsToPower.result line v → IsAligned v extent.section.executable (stretch c.args.offset n) extent.alignment (laws.power_alignment v))
+          (λ n. (v : values.Value) → IsOutcome c.value-in-AlignsToPower.result line v → IsAligned v extent.section.executable c.args.code (stretch c.args.offset n) extent.alignment (laws.power_alignment v))
           (λ n. (index : ℕ) → IsFilled u → IsScope c.args.scope.now index → IsSize (λ e. laws.value (laws.tables (said u)) true (index + 1) p e) extent.section.executable extent.alignment c.args.offset c.args.code (statement_kind c.args.statement.now.kind) n)
           (λ n h index f s.
           subst (λ k. IsSize (λ e. laws.value (laws.tables (said u)) true (index + 1) p e) extent.section.executable extent.alignment c.args.offset c.args.code (statement_kind k) n) (sym c.in-AlignsToPower.is)
@@ -69,7 +69,7 @@ returns-in-AlignsToBytes c =
     record {
       size =
           IfOk-weaker c.padding_to_bytes.result
-          (λ n. (v : values.Value) → IsOutcome c.value-in-AlignsToBytes.result line v → IsAligned v extent.section.executable (stretch c.args.offset n) extent.alignment (laws.byte_alignment v))
+          (λ n. (v : values.Value) → IsOutcome c.value-in-AlignsToBytes.result line v → IsAligned v extent.section.executable c.args.code (stretch c.args.offset n) extent.alignment (laws.byte_alignment v))
           (λ n. (index : ℕ) → IsFilled u → IsScope c.args.scope.now index → IsSize (λ e. laws.value (laws.tables (said u)) true (index + 1) p e) extent.section.executable extent.alignment c.args.offset c.args.code (statement_kind c.args.statement.now.kind) n)
           (λ n h index f s.
           subst (λ k. IsSize (λ e. laws.value (laws.tables (said u)) true (index + 1) p e) extent.section.executable extent.alignment c.args.offset c.args.code (statement_kind k) n) (sym c.in-AlignsToBytes.is)

@@ -11,9 +11,10 @@ returns-in-Ok c = λ index filled stands.
     let s = statement_of c.args.statement.now in
     let v = values_at c.args.scope.now index c.args.place in
     let l = labels_at c.args.scope.now index in
-    let codes = subst (Codes b c.args.compressed c.in-Some.bytes v l s) c.in-Ok.is (c.code.ensures.codes index filled stands) in
+    let codes = subst (Codes c.args.compressed c.in-Some.bytes v l s) c.in-Ok.is (c.code.ensures.codes index filled stands) in
     let same : c.as_slice.result.now ≡ c.in-Ok.found.items = search rules in
-    c.add_found.ensures (faults_at c.args.scope.now index c.args.place b s.kind) v c.args.compressed c.in-Some.bytes codes.0
+    c.add_found.ensures b (faults_at c.args.scope.now index c.args.place s.kind) v c.args.compressed c.in-Some.bytes codes.0
+    (c.padding_of-padding.ensures.is index filled stands)
     (subst (λ found. HasCode v c.args.compressed c.in-Some.bytes s.kind found) (sym same) codes.1)
 
 pub returns-in-Err : goal.returns-in-Err
@@ -23,4 +24,4 @@ returns-in-Err c = λ index filled stands.
     let v = values_at c.args.scope.now index c.args.place in
     let l = labels_at c.args.scope.now index in
     adds_fault c.args.self.now c.args.self.now c.args.place.section b c.args.compressed c.in-Some.bytes v l s c.in-Err.fault
-    (subst (Codes b c.args.compressed c.in-Some.bytes v l s) c.in-Err.is (c.code.ensures.codes index filled stands))
+    (subst (Codes c.args.compressed c.in-Some.bytes v l s) c.in-Err.is (c.code.ensures.codes index filled stands))

@@ -42,7 +42,7 @@ returns-in_err-items-clause-refuses c =
     let whole = c.in_ok-code.ensures.code in
     let short = sizes_short (tables ss) (located (ss ∷ [])) _ code.sections.items code.sizes.items whole in
     let memory =
-    c.in_err-items.ensures.refuses c.requires.good whole.faults
+    c.in_err-items.ensures.refuses c.requires.good
     (ap (λ l. size_fault_from (λ j. 0) (located (ss ∷ [])) (bytes_of_sizes l)) c.as_slice-sizes.ensures.value ∙ short) in
     let found = err_from_is_err_and c.from_residual-in_err-items.result c.from_residual-in_err-items.ensures.1 in
     rw (found.1, found.2) (subst (λ e. IsRefused ss e) (sym memory) tt)
