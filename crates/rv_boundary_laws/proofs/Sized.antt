@@ -1,6 +1,6 @@
 -- The rows of a linked program have the sizes that the assembler found, but its alignments in code: those sizes are the least.
 
-use Rattle.std.proofs.Common.{◌≡◌, ℕ, zero, suc, ◌+◌, ◌-◌, ◌≤◌, ◌<◌, Bool, true, false, List, [], ◌∷◌, ◌++◌, map, refl, sym, ap, ◌∙◌, subst, arith, Option, Some, None}
+use Rattle.std.proofs.Common.{◌≡◌, ℕ, zero, suc, ◌+◌, ◌-◌, ◌≤◌, ◌<◌, Bool, true, false, List, [], ◌∷◌, ◌++◌, map, refl, sym, ap, ◌∙◌, subst, arith, Some, None}
 use Rattle.std.proofs.lemmas.Bool.{and_parts, eq-eqb, ne_eqb}
 use Rattle.std.specs.Prelude.{◌==◌, if◌then◌else◌, filter, flat_map, slice_index_or}
 use Rattle.std.specs.List.{AllByRecursion}

@@ -2,8 +2,9 @@
 
 ghost use Rattle.rv_boundary_laws.specs.Joins.{Joins, IsFlagged};
 
-/// The objects of these sources, linked so, are the linked program of the sources: its map fits them and resolves
-/// their names, and its regions hold the bytes of their statements, whatever the number of sources and of their sections.
+/// The objects of these sources, linked so, are the linked program of the sources: its map fits them with the least
+/// sizes and resolves their names, and its regions hold the bytes of their statements, whatever the number of sources
+/// and of their sections.
 pub fn objects_of_sources_link()
     ensures { Joins }
 {}

@@ -1,7 +1,7 @@
 -- How many bytes the branches of a source have: the least that reach (GNU as, "RISC-V-Directives";
 -- ISA, "Conditional Branches" and "Unconditional Jumps").
 
-use Rattle.std.specs.Prelude.{◌≡◌, ℕ, ◌-◌, ℤ, pos, Bool, true, false, ◌&&◌, ◌==◌, nat_le, if◌then◌else◌, List, [], ◌∷◌, map, Option, Some, None}
+use Rattle.std.specs.Prelude.{ℕ, ◌-◌, ℤ, pos, Bool, true, false, ◌&&◌, ◌==◌, nat_le, if◌then◌else◌, List, [], ◌∷◌, Option, Some, None}
 use Rattle.std.specs.Int.{w64, int_wrap}
 use Rattle.std.specs.List.{find}
 use Rattle.rv_isa.specs.declared.operation.BranchOperation.{BranchOperation}
