@@ -10,7 +10,7 @@ use Rattle.rv_unit_laws.specs.Contributions.{AlignmentForm, Contribution, Nothin
 use Rattle.rv_unit_laws.specs.Tables.{alignment_of, contribution_alignment, or_none}
 use Rattle.rv_unit_laws.proofs.Grown.{AlignsToPower, directive_aligned}
 use Rattle.rv_object.specs.Padding.{four_each, no_operations}
-use Rattle.rv_assemble_laws.specs.Templates.{code_padding}
+use Rattle.rv_source_laws.specs.Sizes.{code_padding}
 use Rattle.rv_assemble_laws.specs.Sites.{Site, IsPaddedIn, DirectiveSize}
 use Rattle.rv_assemble.proofs.Alignments.{form_low}
 
