@@ -30,7 +30,7 @@ use Rattle.rv_instruction.specs.Code.{coded_by, instructions_of, IsCodeOf}
 use Rattle.rv_sites.specs.declared.item.Item.{Item}
 use Rattle.rv_sites.specs.Code.{value_at, padding_of, padding_at, code_bytes as bytes_of_code, size_of, sizes_of}
 use Rattle.rv_sites.specs.Coded.{IsCoded, AreCoded}
-use Rattle.rv_sites.specs.DataParts.{is_filled, data_said, fields_said, data_parts, padding_said, code_said, open_fields}
+use Rattle.rv_sites.specs.DataParts.{is_filled, data_said, fields_said, data_parts, code_said, open_fields}
 use Rattle.rv_sites.specs.Items.{AreItems, grown}
 use Rattle.rv_sites.specs.Seated.{site_of, sites_of}
 use Rattle.rv_sites.specs.Sized.{IsPadded, IsSized, AreSized}

@@ -1,17 +1,12 @@
 -- In a source without faults no statement has one.
 
-use Rattle.std.proofs.Common.{◌≡◌, ℕ, zero, suc, ◌+◌, Bool, true, false, List, [], ◌∷◌, take, drop, None, refl, sym, ap, ◌∙◌, subst, append-nil, arith}
-use Rattle.std.specs.Prelude.{⊤, ◌&&◌, not}
-use Rattle.std.specs.List.{AllByRecursion}
-use Rattle.rv_statement.specs.Statement.{Directs, Statement, Directive}
+use Rattle.std.proofs.Common.{◌≡◌, ℕ, zero, suc, ◌+◌, List, [], ◌∷◌, take, drop, None, subst, arith}
+use Rattle.std.specs.Prelude.{⊤}
+use Rattle.rv_statement.specs.Statement.{Statement}
 use Rattle.rv_unit_laws.specs.Tables.{Tables, at_start, after, after_all, tables}
-use Rattle.rv_unit_laws.specs.Faults.{faulty_if, faults, lowest, first_fault_from, first_fault}
+use Rattle.rv_unit_laws.specs.Faults.{faults, lowest, first_fault_from, first_fault}
 use Rattle.rv_unit.specs.Unit.{passed}
-use Rattle.rv_source_laws.specs.Located.{Located, located_from}
-use Rattle.rv_assemble_laws.specs.InstructionFaults.{is_label}
 use Rattle.rv_assemble_laws.proofs.Held.{no_lowest, no_fault}
-use Rattle.rv_sites.specs.Code.{value_at}
-use Rattle.rv_sites.proofs.Standing.{all_at, located_at, stated_next}
 
 -- no statement from an ordinal on has a fault
 abbrev pub AreSound : Tables → ℕ → Tables → List Statement → Type 0
