@@ -4,40 +4,14 @@ use crate::sources::{Answer, EXIT, answers, refused};
 use std::test::Fail;
 
 /// Refused as unsupported, at its line.
-const NOT_BUILT: [(&[u8], u8, u32); 4] = [
-    (b".option rvc\n.align 2", 9, 2),
+const NOT_BUILT: [(&[u8], u8, u32); 2] = [
     (b".weak x", 9, 1),
-    (b"j x\n.align 2\nx:", 9, 2),
     (b"x: .weak x\nla a0, x", 9, 1),
 ];
 
 #[test]
 fn not_built(rt: HostRuntime) -> Result<(), Fail> {
     Ok(refused(&rt, rt.alloc(), &NOT_BUILT)?)
-}
-
-/// Padding in code is refused after the faults of labels and directives, beside those of instructions.
-const PADDING: [(&[u8], u8, u32); 13] = [
-    (b".align 2", 9, 1),
-    (b".p2align 12", 9, 1),
-    (b".balign 4", 9, 1),
-    (b".section .x, \"ax\"\n.align 3", 9, 2),
-    (b".align 3\n.word 1", 15, 2),
-    (b".align 2\nx: x:", 11, 2),
-    (b".align 2\n.balign 12", 14, 2),
-    (b".align 3\naddi a0, a0, 5000", 9, 1),
-    (b"addi a0, a0, 5000\n.align 3", 14, 1),
-    (b".data\n.align 3\n.text\n.align 3", 9, 4),
-    // by the value that its number has there
-    (b".set n, 3\n.align n\n.set n, 1", 9, 2),
-    (b".set n, 1\n.align n\n.set n, 3\n.balign n + 1", 9, 4),
-    // a section of code without bytes cannot have it
-    (b".section .x, \"ax\", @nobits\n.align 1\n.align 2", 15, 3),
-];
-
-#[test]
-fn padding_in_code(rt: HostRuntime) -> Result<(), Fail> {
-    Ok(refused(&rt, rt.alloc(), &PADDING)?)
 }
 
 /// Parts of numbers, and alignments up to 2, are built without relocations; with compressed code as well.

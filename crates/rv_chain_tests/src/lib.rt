@@ -25,6 +25,8 @@ mod open;
 #[cfg(test)]
 mod order;
 #[cfg(test)]
+mod padding;
+#[cfg(test)]
 mod programs;
 #[cfg(test)]
 mod several;

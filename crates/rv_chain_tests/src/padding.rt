@@ -1,6 +1,6 @@
 //! Alignments above 2 in code: the padding that is left of each, its row, and gaps between sections.
 
-use crate::sources::{OPTIONS, built, exits};
+use crate::sources::{Answer, EXIT, OPTIONS, answers, built, exits, refused};
 use rv_chain::{End, build, run_exec};
 use std::alloc::Global;
 use std::process::Abort;
@@ -183,4 +183,35 @@ fn files(rt: HostRuntime) -> Result<(), Fail> {
     let outcome = run_exec(alloc, built.exe.as_slice(), b"", 3)?;
     assert_eq!(rt; outcome.end, End::Exited(0));
     Ok(())
+}
+
+/// Faults beside alignments in code, each at its line; a section of code without bytes cannot have padding.
+const BESIDE: [(&[u8], u8, u32); 6] = [
+    (b".align 3\n.word 1", 15, 2),
+    (b".align 2\nx: x:", 11, 2),
+    (b".align 2\n.balign 12", 14, 2),
+    (b".align 3\naddi a0, a0, 5000", 14, 2),
+    (b"addi a0, a0, 5000\n.align 3", 14, 1),
+    (b".section .x, \"ax\", @nobits\n.align 1\n.align 2", 15, 3),
+];
+
+#[test]
+fn faults_beside(rt: HostRuntime) -> Result<(), Fail> {
+    Ok(refused(&rt, rt.alloc(), &BESIDE)?)
+}
+
+/// Up to 4096, by the value that its number has there.
+const EDGES: [(&[u8], Answer); 4] = [
+    (b".p2align 12", Answer::Built),
+    (b".balign 8192", Answer::Source(17, 5)),
+    (b".set n, 3; .align n; .set n, 1; .align n", Answer::Built),
+    (
+        b".section .x, \"ax\"; .align 12; nop; .align 12",
+        Answer::Built,
+    ),
+];
+
+#[test]
+fn edges(rt: HostRuntime) -> Result<(), Fail> {
+    Ok(answers(&rt, rt.alloc(), EXIT, &EDGES)?)
 }
