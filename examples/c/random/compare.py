@@ -11,7 +11,8 @@ program, GNU as and ld and qemu-riscv64 do the same, and the console and the sta
 Each program ends as one of:
   same       in both
   differs    its files are kept in FOLDER, which is a new one unless said, and a line says which
-  refused    by rv, with the code of its fault; those that the language gives no reason for are kept too
+  refused    by rv, with the code of its fault and the first word of its line; those that the language does not leave
+             out are kept too
   past end   rv stops at a load that begins in a region and ends past it: GCC reads an aligned object's last bytes
              in one piece with those behind it, and qemu has rights by the page
   too long   over --limit instructions in rv, and 100 times as many where qemu ends within 2 seconds
@@ -34,8 +35,8 @@ from pathlib import Path
 HERE = Path(__file__).resolve().parent
 GNU = "riscv64-unknown-elf-"
 FLAGS = f"-march=rv64imac -mabi=lp64 -ffreestanding -w -I{HERE} -I/usr/include/csmith".split()
-# What the language leaves out: .comm; labels that spell registers; .set of a name as another's, for equal constants.
-LEFT_OUT = ["refused E9 UnsupportedHere", "refused E7 BadOperands", "refused E13 NotConstant"]
+# What the language leaves out: .comm, and .set of a name as another's, which GCC writes for equal constants.
+LEFT_OUT = ["refused E9 .comm", "refused E13 .set"]
 # GCC writes variables that begin as zero with .comm at -O0, which rv refuses, but not in sections of their own.
 WAYS = ["-O0", "-O0 -fdata-sections", "-O1", "-O2", "-Os"]
 SECONDS = 60
@@ -103,6 +104,18 @@ def is_past_end(folder, ended):
     return any(start < int(end, 16) < start + 8 for end in regions)
 
 
+def refusal(built):
+    """How a program ends that rv does not build."""
+    said_so = built.stderr.decode(errors="replace")
+    of_source = re.match(r"rv: (.*):(\d+): (E\d+) ", said_so)
+    if built.returncode == 1 and of_source:
+        path, line, code = of_source.groups()
+        statement = Path(path).read_text().split("\n")[int(line) - 1]
+        return f"refused {code} {statement.split()[0]}"
+    of_link = re.match(r"rv: (L\d+) ", said_so)
+    return f"refused {of_link.group(1)}" if built.returncode == 1 and of_link else "differs"
+
+
 def compare(folder, sources, options):
     """How a program ends."""
     written = ["-o", str(folder / "ours"), "--map", str(folder / "map")]
@@ -110,8 +123,7 @@ def compare(folder, sources, options):
     if built is None:
         return "differs"
     if built.returncode != 0:
-        fault = re.search(rb": ([ELF]\d+ \w+)", built.stderr)
-        return f"refused {fault.group(1).decode()}" if built.returncode == 1 and fault else "differs"
+        return refusal(built)
     ours = None
     for limit in (options.limit, 100 * options.limit):
         words = [options.rv, "run", "--limit", str(limit), str(folder / "ours")]
@@ -149,6 +161,8 @@ def program(seed, options):
             sources = assemblies(folder, way, seed % 2 == 1)
             usable = sources is not None and gnu_link(folder, sources)
             end = compare(folder, sources, options) if usable else "none"
+            if end == "none":
+                print(f"{seed} {way}: none", flush=True)
             if end == "differs" or (end.startswith("refused") and end not in LEFT_OUT):
                 keep(folder, seed, way, end, options)
             ends.append((way, end))
