@@ -4,10 +4,7 @@ use crate::sources::{Answer, EXIT, answers, refused};
 use std::test::Fail;
 
 /// Refused as unsupported, at its line.
-const NOT_BUILT: [(&[u8], u8, u32); 2] = [
-    (b".weak x", 9, 1),
-    (b"x: .weak x\nla a0, x", 9, 1),
-];
+const NOT_BUILT: [(&[u8], u8, u32); 2] = [(b".weak x", 9, 1), (b"x: .weak x\nla a0, x", 9, 1)];
 
 #[test]
 fn not_built(rt: HostRuntime) -> Result<(), Fail> {
