@@ -81,7 +81,8 @@ def gnu_link(folder, sources):
         if not made([f"{GNU}as", "-march=rv64imac", "-mabi=lp64", "-o", str(made_of_it), str(source)]):
             return False
     ld = [f"{GNU}ld", "--no-warn-rwx-segments", "-o", str(folder / "theirs")]
-    return made([*ld, *map(str, objects)])
+    # its own shortening of addresses fails at times ("relocation truncated to fit: R_RISCV_GPREL_I")
+    return made([*ld, *map(str, objects)]) or made([*ld, "--no-relax", *map(str, objects)])
 
 
 def theirs(folder, seconds):
