@@ -5,6 +5,7 @@ A benchmark is a function below. What it needs and can't find it names, and goes
 time, the least of three runs, with the start of the program.
 """
 
+import math
 import os
 import re
 import resource
@@ -165,8 +166,10 @@ def write_compiled(folder, path):
     """Writes a compiler's output again and again, each time with other names, up to the length that is measured; it
     answers how many lines there are."""
     texts = list(compiled(folder))
-    count, length, number = 0, 0, 0
+    front = ".globl _start\n.text\n_start:\n"
+    count, length, number = 3, len(front), 0
     with path.open("w") as file:
+        file.write(front)
         while True:
             copy = "".join(part + f"_{number}" * (at % 2) for at, part in enumerate(texts[number % len(texts)]))
             length += len(copy)
@@ -185,15 +188,16 @@ def peak(command, status=0):
     return used.ru_maxrss * 1024, process.returncode == status
 
 
-def builders(folder, source):
+def builders(folder, source, architecture="rv64ima"):
     """The commands that build a source, by what they do: rv makes the executable and its map; GNU as an object, of
     which GNU ld makes the executable."""
     executable, linked = folder / "executable", folder / "object"
     commands = {"rv build": [RV, "build", "-o", executable, "--map", folder / "map", source]}
     if not missing(AS):
-        commands["as"] = [AS, "-march=rv64ima", "-mabi=lp64", "-o", linked, source]
+        commands["as"] = [AS, f"-march={architecture}", "-mabi=lp64", "-o", linked, source]
     if "as" in commands and not missing(LD):
-        commands["ld"] = [LD, "-Map", folder / "map", "-o", executable, linked]
+        # (calls keep their eight bytes, as rv leaves them)
+        commands["ld"] = [LD, "--no-relax", "-Map", folder / "map", "-o", executable, linked]
     return commands
 
 
@@ -236,15 +240,15 @@ def reading(folder):
 
 
 def compiler(folder):
-    """Reading what a compiler writes: labels, branches, pseudo-instructions and directives."""
+    """Building what a compiler writes: labels, branches, calls, pseudo-instructions and directives."""
     if missing(GCC):
         return
     source = folder / "compiled_all.s"
     count = write_compiled(folder, source)
     length = source.stat().st_size
-    print(f"Reading the output of {GCC} -O2, {length} bytes, {count} lines")
-    if not missing(AS):
-        measured("as", [AS, "-march=rv64imac", "-mabi=lp64", "-o", folder / "object", source], length)
+    print(f"Building the output of {GCC} -O2, {length} bytes, {count} lines")
+    for name, command in builders(folder, source, "rv64imac").items():
+        measured(name, command, length)
     reading_alone(folder, source, count, length)
 
 
@@ -303,9 +307,47 @@ def statements(folder):
     print(f"{'rv, reading alone':24} {(memory - length) / STATEMENTS:6.0f} bytes a statement beside the source{'' if good else ', BUT TAKES ITS FAULT'}")
 
 
+# How a source grows, by what it has much of: the lines of the statement of a number among so many.
+GROWING = {
+    "labels": (lambda at, count: f"label_{at}: addi a0, a0, 1", 150_000),
+    # each branch is as far from its label as a parcel reaches, and the last a parcel further: the next to the last
+    # is too short once the last has grown, and so on to the first
+    "branches": (lambda at, count: f"label_{at}: beqz a0, label_{min(at + 127, count)}", 100_000),
+    "calls": (lambda at, count: f"label_{at}: call label_{at * 7919 % count}", 100_000),
+    "sections": (lambda at, count: f".section .text.part_{at}, \"ax\"\nlabel_{at}: j label_{at * 7919 % count}", 7_500),
+    "data": (lambda at, count: f"label_{at}: .dword label_{at * 7919 % count} + {at}", 100_000),
+}
+
+
+def write_growing(path, line, count):
+    """Writes a source with so many of a kind of statement."""
+    with path.open("w") as file:
+        file.write(".globl _start\n_start:\n")
+        file.writelines(line(at, count) + "\n" for at in range(count))
+        file.write(f".text\nnop\nlabel_{count}: nop\n")
+
+
+def growth(folder):
+    """How the time of a build grows with the count of labels, branches, calls, sections and data: at once, twice and
+    four times as many, and the exponent between the first and the last."""
+    print("Growth: seconds at n, 2n and 4n, and the exponent")
+    source = folder / "growing.s"
+    for kind, (line, first) in GROWING.items():
+        rows = {}
+        for count in (first, 2 * first, 4 * first):
+            write_growing(source, line, count)
+            for name, command in builders(folder, source, "rv64imac").items():
+                _, good = peak(command)
+                seconds, _ = best(command, b"")
+                rows.setdefault(name, []).append(seconds if good else float("nan"))
+        for name, times in rows.items():
+            said = " ".join(f"{seconds:7.3f}" for seconds in times)
+            print(f"{kind:10} {name:10} {said} s, exponent {math.log2(times[2] / times[0]) / 2:5.2f}")
+
+
 def main():
     with tempfile.TemporaryDirectory() as folder:
-        for benchmark in (kernel, reading, compiler, many, statements):
+        for benchmark in (kernel, reading, compiler, many, statements, growth):
             benchmark(Path(folder))
 
 
