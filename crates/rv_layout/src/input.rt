@@ -21,7 +21,7 @@ fn is_within(items: &[Item], sections: usize, item: Item) -> bool
     }
 }
 
-/// Whether `branch_sizes` can be asked for these statements: each stands in one of so many sections, its target is a
+/// Whether `Layout::of` can be asked for these statements: each stands in one of so many sections, its target is a
 /// statement of that section, and there are fewer than 2^30.
 pub fn is_input(items: &[Item], sections: usize) -> bool
     ensures { IsTrue result ↔ IsInput items.now sections }

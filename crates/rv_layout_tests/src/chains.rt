@@ -1,6 +1,6 @@
 //! Chains in which each widened branch pushes the next out of reach.
 
-use rv_layout::{branch_sizes, is_input};
+use rv_layout::{Layout, is_input};
 use rv_layout_laws::{Forms, Item};
 use std::alloc::{AllocError, Global};
 use std::test::Fail;
@@ -44,10 +44,10 @@ fn widened(alloc: Global, items: &[Item]) -> Result<(usize, usize), AllocError> 
     if !is_input(items, 1) {
         return Ok((0, 0));
     }
-    let found = branch_sizes(alloc, items, 1)?;
+    let found = Layout::of(alloc, items, 1)?;
     Ok((
         found.sizes.iter().filter(|size| **size == 8).count(),
-        found.rounds,
+        found.rounds(),
     ))
 }
 

@@ -1,6 +1,6 @@
 //! Branches at the edges of their reach.
 
-use rv_layout::{branch_sizes, is_input};
+use rv_layout::{Layout, is_input};
 use rv_layout_laws::{Forms, Item};
 use std::alloc::{AllocError, Global};
 use std::test::Fail;
@@ -30,7 +30,7 @@ fn size_of(alloc: Global, items: &[Item], i: usize) -> Result<Option<u32>, Alloc
     if !is_input(items, 2) {
         return Ok(None);
     }
-    let found = branch_sizes(alloc, items, 2)?;
+    let found = Layout::of(alloc, items, 2)?;
     Ok(found.sizes.get(i).copied())
 }
 

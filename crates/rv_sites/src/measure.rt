@@ -17,7 +17,7 @@ use crate::code::{asked, bytes_of};
 use crate::items::extent_at;
 use crate::paddings::padding_of;
 use rv_instruction::{code as code_of, item};
-use rv_layout::{branch_sizes, is_input};
+use rv_layout::{Layout, is_input};
 use rv_layout_laws::Item as LayoutItem;
 use rv_statement::{Statement, StatementKind};
 use rv_text::SourceFault;
@@ -116,6 +116,6 @@ pub(crate) fn lengths(alloc: Global, unit: &Unit<'_>) -> Result<Vec<u32>, Source
     if !is_input(items.as_slice(), sections) {
         return Err(SourceFault::OutOfMemory);
     }
-    let found = branch_sizes(alloc, items.as_slice(), sections)?;
+    let found = Layout::of(alloc, items.as_slice(), sections)?;
     Ok(found.sizes)
 }
