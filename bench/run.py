@@ -309,7 +309,7 @@ def statements(folder):
 
 # How a source grows, by what it has much of: the lines of the statement of a number among so many.
 GROWING = {
-    "labels": (lambda at, count: f"label_{at}: addi a0, a0, 1", 150_000),
+    "labels": (lambda at, count: f"label_{at}: addi a0, a0, 1", 125_000),
     # each branch is as far from its label as a parcel reaches, and the last a parcel further: the next to the last
     # is too short once the last has grown, and so on to the first
     "branches": (lambda at, count: f"label_{at}: beqz a0, label_{min(at + 127, count)}", 100_000),
