@@ -22,7 +22,7 @@ use Rattle.rv_assemble_laws.proofs.Held.{ContributionHeld, IsHeld, none_left}
 use Rattle.rv_assemble.proofs.Settled.{IsIn}
 use Rattle.rv_assemble.proofs.FieldLists.{all_join}
 use Rattle.rv_assemble.proofs.Room.{IsRoom}
-use Rattle.rv_assemble.proofs.CodeFits.{FitsIn, IsPadding, Holds}
+use Rattle.rv_assemble.proofs.CodeFits.{FitsIn, Holds}
 use Rattle.rv_assemble.proofs.EvenCode.{IsEvenPart}
 
 -- ---- sections without bytes in the file

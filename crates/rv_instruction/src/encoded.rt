@@ -79,7 +79,8 @@ fn in_least_form(inst: Inst, compressed: bool) -> Encoded
 fn as_parcel(inst: Inst, kind: Kind) -> Encoded
     requires codable { IsCodable (Open kind inst) }
     requires short { laws.is_short kind ≡ true }
-    ensures is { (compressed : Bool) → IsCodedPart compressed (Open kind inst) (encoded_bytes result) }
+    ensures is { (compressed : Bool)
+        → IsCodedPart compressed (Open kind inst) (encoded_bytes result) }
     ensures one { encoded_instructions result ≡ 1 }
 {
     match shrink(inst) {
@@ -93,7 +94,8 @@ fn as_parcel(inst: Inst, kind: Kind) -> Encoded
 fn as_word(inst: Inst, kind: Kind) -> Encoded
     requires codable { IsCodable (Open kind inst) }
     requires whole { laws.is_short kind ≡ false }
-    ensures is { (compressed : Bool) → IsCodedPart compressed (Open kind inst) (encoded_bytes result) }
+    ensures is { (compressed : Bool)
+        → IsCodedPart compressed (Open kind inst) (encoded_bytes result) }
     ensures one { encoded_instructions result ≡ 1 }
 {
     Encoded::Word(encode(inst))
@@ -109,7 +111,8 @@ fn is_short(kind: &Kind) -> bool
 /// An instruction with an open field, in the form of the field's kind.
 fn in_open_form(inst: Inst, kind: Kind) -> Encoded
     requires { IsCodable (Open kind inst) }
-    ensures is { (compressed : Bool) → IsCodedPart compressed (Open kind inst) (encoded_bytes result) }
+    ensures is { (compressed : Bool)
+        → IsCodedPart compressed (Open kind inst) (encoded_bytes result) }
     ensures one { encoded_instructions result ≡ 1 }
 {
     if is_short(&kind) {

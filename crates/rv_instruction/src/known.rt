@@ -150,7 +150,8 @@ fn of_address(
     compressed: bool,
     bytes: u8,
 ) -> Option<Templates>
-    ensures codable { (e : Expression) → MayHave compressed (statement_with operation function e) bytes
+    ensures codable { (e : Expression)
+        → MayHave compressed (statement_with operation function e) bytes
         → IfSome result (λ t. AreCodable t.items) }
     ensures is { IsOfNumber operation function None compressed bytes result }
 {
@@ -178,7 +179,8 @@ pub(crate) fn taken(
     ensures codable { (e : Expression)
         → MayHave compressed (statement_with operation.now function e) bytes
         → IfSome result (λ t. AreCodable t.items) }
-    ensures is { ForValue value.now (λ v. IsTaken operation.now function v compressed bytes result) }
+    ensures is { ForValue value.now
+        (λ v. IsTaken operation.now function v compressed bytes result) }
 {
     let known = known_as(*operation, function);
     match value {

@@ -228,7 +228,8 @@ fn target_item<'a>(
 ) -> Item
     requires { length places.now < 2 ^ 32 }
     ensures { AtNext scope.now (λ index. ForValue value.now (λ v.
-        result ≡ laws.branch_in section forms (laws.near_value_in (laws.section_in places.now) section
+        result ≡ laws.branch_in section forms
+        (laws.near_value_in (laws.section_in places.now) section
         (tables (said (scope.now).unit.now)) (index + 1) v))) }
 {
     match value {

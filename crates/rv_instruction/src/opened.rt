@@ -98,8 +98,8 @@ fn to_function<'a>(
     function: Function,
     value: &Outcome<'a>,
 ) -> Option<Reference<'a>>
-    ensures { (k : SpecKind) → AtNext scope.now (λ index. ordinal ≡ index + 1 → ForValue value.now (λ v.
-        laws.opens_of k result
+    ensures { (k : SpecKind) → AtNext scope.now (λ index. ordinal ≡ index + 1
+        → ForValue value.now (λ v. laws.opens_of k result
         ≡ laws.function_field (tables (said (scope.now).unit.now)) k ordinal function v)) }
 {
     match function {

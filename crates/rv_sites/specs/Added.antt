@@ -56,7 +56,8 @@ pub record IsCodeSoFar (t : Tables) (all rest : List Located) (c : Coder) : Type
       (bytes_of_codes t rest more))
       ≡ size_fault_from (λ j. 0) all (bytes_of_codes t all (codes ++ more))
   pub bytes : (more : List (List Coded)) (j : ℕ) →
-      bytes_in c.sections.items j ++ section_code t j rest more ≡ section_code t j all (codes ++ more)
+      bytes_in c.sections.items j ++ section_code t j rest more
+      ≡ section_code t j all (codes ++ more)
 
 -- the code of each section and the size of each statement's, which has these lengths; none is too
 -- long

@@ -99,7 +99,8 @@ pub record IsLaid (ss : List Statement) (is : List Item) : Type 0 where
   pub low : (j : ℕ) → last j ≤ longest_section
 
 -- the items have this code
-pub record HaveCode (ss : List Statement) (is : List Item) (codes : List (List Coded)) : Type 0 where
+pub record HaveCode (ss : List Statement) (is : List Item)
+    (codes : List (List Coded)) : Type 0 where
   pub coded : AreCoded (tables ss) (located_from 1 1 at_start ss) codes
   pub sized : AreSized (tables ss) 1 at_start ss is
       (sizes_of (tables ss) (located_from 1 1 at_start ss) codes)
