@@ -37,7 +37,7 @@ const SOURCES: [(&[u8], &str); 13] = [
         b".option norvc\naddi a0, a0, 2048",
         "rv: a.s:2: E14 ImmediateRange\n",
     ),
-    (b"\n.align 3", "rv: a.s:2: E9 UnsupportedHere\n"),
+    (b"\n.weak x", "rv: a.s:2: E9 UnsupportedHere\n"),
     (b"_start:", "rv: L7 EntryMissing\n"),
     (b".globl _start\n_start: la a0, x", "rv: L5 Undefined x\n"),
     (
