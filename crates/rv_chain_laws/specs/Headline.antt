@@ -18,11 +18,13 @@ use Rattle.rv_isa_laws.specs.Reader.{Reader}
 use Rattle.rv_isa_laws.specs.Run.{machine_run}
 use Rattle.rv_image.specs.Memory.{mem_of}
 use Rattle.rv_source_laws.specs.Compressed.{is_compressed}
+use Rattle.rv_source_laws.specs.Program.{Mapped, program}
 use Rattle.rv_source_laws.specs.SourceRun.{source_run}
 use Rattle.rv_source_laws.specs.Fits.{Fits}
 use Rattle.rv_source_laws.specs.Resolves.{Resolves}
 use Rattle.rv_source_laws.specs.Sized.{Sized}
 use Rattle.rv_chain_laws.specs.Agrees.{Agrees}
+use Rattle.rv_chain_laws.specs.Contents.{IsCodeWritten}
 
 -- each text reads as its list of statements
 abbrev pub AllRead : List (List ℕ) → List (List Statement) → Type 0
@@ -61,6 +63,9 @@ pub record TheHeadline (texts : List (List ℕ)) (text_start : ℕ)
   pub fits : Fits sources map text_start
   pub sized : Sized sources map
   pub resolves : Resolves sources map
+  -- each statement of code is its instructions, each in its least bytes where it may be compressed
+  pub code : Mapped → List ℕ
+  pub written : IsCodeWritten (program sources map) code
   -- the image of the executable
   pub image : Image
   pub loads : ImageOf executable image
