@@ -1,0 +1,5 @@
+pub mod Fault
+pub mod Fields
+pub mod FirstFault
+pub mod Records
+pub mod Sections
