@@ -1,2 +1,1 @@
-pub mod FirstTrue
 pub mod Strings

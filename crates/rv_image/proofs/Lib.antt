@@ -1,11 +1,8 @@
-pub mod FirstTrue
 pub mod Programs
 pub mod Loaded
 pub mod Apart
 pub mod Whole
-pub mod ProgramBytes
 pub mod Parts
 pub mod Contents
-pub mod HeaderBytes
 pub mod Sound
 pub mod LoadedAgain

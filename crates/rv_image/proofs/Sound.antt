@@ -6,16 +6,16 @@ use Rattle.std.proofs.lemmas.Bool.{and_from, le-ltb, le-leb, cond-true, cond-fal
 use Rattle.std.proofs.lemmas.Bool.Decides.{nat_tests}
 use Rattle.std.proofs.lemmas.List.Folds.{list_all-append}
 use Rattle.std.proofs.lemmas.List.Sums.{sum_by-cons}
-use Rattle.rv_image.specs.declared.program.Program.{Program}
-use Rattle.rv_image.specs.Header.{is_load}
+use Rattle.rv_elf.specs.declared.program_header.ProgramHeader.{ProgramHeader}
+use Rattle.rv_elf.specs.Sections.{is_load}
 use Rattle.rv_image.specs.Segment.{do_meet}
 use Rattle.rv_isa_laws.specs.Platform.{stack_start, stack_end}
 use Rattle.rv_image.specs.ImageOf.{segment_in}
-use Rattle.rv_image.specs.FirstFault.{first_true, ends_by, program_tests, programs_tests, segment_tests, loaded_size}
-use Rattle.rv_image.specs.Executable.{Part, memory_size_of, has_memory, offset_of, segment_of_part}
+use Rattle.rv_elf.specs.FirstFault.{first_true}
+use Rattle.rv_image.specs.FirstFault.{ends_by, program_tests, programs_tests, segment_tests, loaded_size}
+use Rattle.rv_image.specs.Executable.{Part, memory_size_of, has_memory, offset_of, program_of, segment_of_part}
 use Rattle.rv_image.proofs.Programs.{none_meets, all_end_later}
-use Rattle.rv_image.proofs.FirstTrue.{first_true_none}
-use Rattle.rv_image.proofs.Parts.{program_of}
+use Rattle.rv_elf.specs.FirstTrue.{first_true_none}
 use Rattle.rv_image.proofs.Contents.{Ascending, Stands, AllStand}
 
 -- what ascends to high from low
@@ -26,7 +26,7 @@ up_to low (part ∷ parts) high h = omega (arith, h.0, up_to (part.address + mem
 off_stack : (address size : ℕ) → address + size ≤ stack_start → do_meet address size stack_start (stack_end - stack_start) ≡ false
 off_stack address size below = grind (arith, nat_tests)
 
-segment_sound : (start : ℕ) (before : List Program) (part : Part) (low : ℕ) → list_all (ends_by low) before ≡ true → low ≤ part.address →
+segment_sound : (start : ℕ) (before : List ProgramHeader) (part : Part) (low : ℕ) → list_all (ends_by low) before ≡ true → low ≤ part.address →
     part.address + memory_size_of part ≤ stack_start → first_true (segment_tests before (program_of start part)) ≡ None
 unfolding segment_tests
 segment_sound start before part low ends after below =
@@ -37,12 +37,12 @@ segment_sound start before part low ends after below =
       off_stack part.address (memory_size_of part) below,
     ) refl
 
-program_sound : (start : ℕ) (file : List ℕ) (before : List Program) (part : Part) (low : ℕ) → Stands start file part → list_all (ends_by low) before ≡ true → low ≤ part.address →
+program_sound : (start : ℕ) (file : List ℕ) (before : List ProgramHeader) (part : Part) (low : ℕ) → Stands start file part → list_all (ends_by low) before ≡ true → low ≤ part.address →
     part.address + memory_size_of part ≤ stack_start → first_true (program_tests file before (program_of start part)) ≡ None
 unfolding program_tests
 program_sound start file before part low stands ends after below = rw stands.within (segment_sound start before part low ends after below)
 
-pub programs_sound : (start : ℕ) (file : List ℕ) (before : List Program) (parts : List Part) (low : ℕ) → AllStand start file parts → list_all (ends_by low) before ≡ true →
+pub programs_sound : (start : ℕ) (file : List ℕ) (before : List ProgramHeader) (parts : List Part) (low : ℕ) → AllStand start file parts → list_all (ends_by low) before ≡ true →
     Ascending low parts stack_start → first_true (programs_tests file before (map (program_of start) parts)) ≡ None
 programs_sound start file before [] low stand ends up = refl
 programs_sound start file before (part ∷ parts) low stand ends up =
@@ -74,9 +74,9 @@ segments_same start file (part ∷ parts) stand =
 pub loaded_parts : (start : ℕ) (parts : List Part) → loaded_size (map (program_of start) parts) ≡ sum_by memory_size_of parts
 loaded_parts start [] = refl
 loaded_parts start (part ∷ parts) =
-    ap (λ ps. sum_by (λ p. p.memory_size) (program_of start part ∷ ps)) (filter_loads start parts)
-    ∙ sum_by-cons (λ p. p.memory_size) (program_of start part) (map (program_of start) parts)
-    ∙ ap (λ n. memory_size_of part + n) (ap (sum_by (λ p. p.memory_size)) (sym (filter_loads start parts)) ∙ loaded_parts start parts)
+    ap (λ ps. sum_by (λ p. p.p_memsz) (program_of start part ∷ ps)) (filter_loads start parts)
+    ∙ sum_by-cons (λ p. p.p_memsz) (program_of start part) (map (program_of start) parts)
+    ∙ ap (λ n. memory_size_of part + n) (ap (sum_by (λ p. p.p_memsz)) (sym (filter_loads start parts)) ∙ loaded_parts start parts)
     ∙ sym (sum_by-cons memory_size_of part parts)
 
 -- parts without memory add nothing

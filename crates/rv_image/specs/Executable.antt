@@ -1,7 +1,11 @@
 -- The executable that a linked program becomes (System V gABI, "ELF Header" and "Program Header").
 
 use Rattle.std.specs.Prelude.{ℕ, ◌+◌, ◌-◌, ◌==◌, Bool, not, if◌then◌else◌, List, [], ◌∷◌, ◌++◌, length, replicate, map, filter, flat_map}
-use Rattle.byteorder.specs.Endian.{little_bytes}
+use Rattle.rv_elf.specs.declared.file_header.FileHeader.{FileHeader}
+use Rattle.rv_elf.specs.declared.program_header.ProgramHeader.{ProgramHeader}
+use Rattle.rv_elf.specs.Fields.{file_header_size, program_header_size}
+use Rattle.rv_elf.specs.Numbers.{et_exec, em_riscv, ev_current, ef_riscv_rvc, pt_load, pf_x, pf_w, pf_r}
+use Rattle.rv_elf.specs.Records.{file_header_bytes, program_header_bytes}
 use Rattle.rv_image.specs.declared.writing.Part.{Part as DeclaredPart}
 use Rattle.rv_image.specs.Segment.{Segment}
 use Rattle.rv_image.specs.Image.{Image}
@@ -26,15 +30,15 @@ part_of part =
 abbrev pub memory_size_of : Part → ℕ
 memory_size_of part = length part.stored + part.zeros
 
--- text to execute (flag 1), constants to read (4), and data with bss to read and write (2 and 4)
+-- text to execute, constants to read, and data with bss to read and write
 abbrev pub all_parts : Linked → List Part
-all_parts l = record { address = l.map.text.start; stored = l.text; zeros = 0; flags = 1 }
-    ∷ record { address = l.map.rodata.start; stored = l.rodata; zeros = 0; flags = 4 }
+all_parts l = record { address = l.map.text.start; stored = l.text; zeros = 0; flags = pf_x }
+    ∷ record { address = l.map.rodata.start; stored = l.rodata; zeros = 0; flags = pf_r }
     ∷ record {
       address = l.map.data.start;
       stored = l.data;
       zeros = l.map.bss.end - l.map.data.end;
-      flags = 6;
+      flags = pf_r + pf_w;
     }
     ∷ []
 
@@ -50,23 +54,39 @@ parts l = filter has_memory (all_parts l)
 abbrev pub offset_of : ℕ → Part → ℕ
 offset_of start part = 0x1000 + (part.address - start)
 
--- ELF, 64 bits, little-endian, version 1; ET_EXEC, EM_RISCV, version 1; entry; the program headers
--- at 64 and no section headers; the flag of compressed code; the sizes and counts of the tables
-unfoldable pub header_bytes : Linked → List ℕ
-header_bytes l = (0x7F ∷ 0x45 ∷ 0x4C ∷ 0x46 ∷ 2 ∷ 1 ∷ 1 ∷ 0 ∷ 0 ∷ 0 ∷ 0 ∷ 0 ∷ 0 ∷ 0 ∷ 0 ∷ 0 ∷ [])
-    ++ (little_bytes 2 2 ++ (little_bytes 2 243 ++ (little_bytes 4 1
-    ++ (little_bytes 8 l.map.entry ++ (little_bytes 8 64 ++ (little_bytes 8 0
-    ++ (little_bytes 4 (if l.rvc then 1 else 0)
-    ++ (little_bytes 2 64 ++ (little_bytes 2 56 ++ (little_bytes 2 (length (parts l))
-    ++ (little_bytes 2 0 ++ (little_bytes 2 0 ++ little_bytes 2 0))))))))))))
+-- the header: the program headers stand behind it, and there are no section headers
+abbrev pub header_of : Linked → FileHeader
+header_of l = record {
+  e_type = et_exec;
+  e_machine = em_riscv;
+  e_version = ev_current;
+  e_entry = l.map.entry;
+  e_phoff = file_header_size;
+  e_shoff = 0;
+  e_flags = if l.rvc then ef_riscv_rvc else 0;
+  e_ehsize = file_header_size;
+  e_phentsize = program_header_size;
+  e_phnum = length (parts l);
+  e_shentsize = 0;
+  e_shnum = 0;
+  e_shstrndx = 0;
+}
 
--- PT_LOAD, flags, offset, address twice, size in the file and in memory, alignment to a page
-unfoldable pub program_bytes : ℕ → Part → List ℕ
-program_bytes start part =
-    little_bytes 4 1 ++ (little_bytes 4 part.flags ++ (little_bytes 8 (offset_of start part)
-    ++ (little_bytes 8 part.address ++ (little_bytes 8 part.address
-    ++ (little_bytes 8 (length part.stored)
-    ++ (little_bytes 8 (memory_size_of part) ++ little_bytes 8 0x1000))))))
+-- the program header of a part, where text begins at this start; its alignment is a page
+abbrev pub program_of : ℕ → Part → ProgramHeader
+program_of start part = record {
+  p_type = pt_load;
+  p_flags = part.flags;
+  p_offset = offset_of start part;
+  p_vaddr = part.address;
+  p_paddr = part.address;
+  p_filesz = length part.stored;
+  p_memsz = memory_size_of part;
+  p_align = 0x1000;
+}
+
+abbrev pub program_bytes : ℕ → Part → List ℕ
+program_bytes start part = program_header_bytes (program_of start part)
 
 -- a file with these bytes at a place after its end, zeros between; nothing for no bytes
 abbrev pub with_contents : List ℕ → ℕ → List ℕ → List ℕ
@@ -84,7 +104,8 @@ with_parts start file (part ∷ rest) =
 abbrev pub exe_of : Linked → List ℕ
 exe_of l =
     with_parts l.map.text.start
-    (header_bytes l ++ flat_map (program_bytes l.map.text.start) (parts l)) (all_parts l)
+    (file_header_bytes (header_of l) ++ flat_map (program_bytes l.map.text.start) (parts l))
+    (all_parts l)
 
 abbrev pub segment_of_part : Part → Segment
 segment_of_part part =

@@ -18,23 +18,19 @@
 //! Source: System V gABI, "ELF Header" and "Program Header"; RISC-V ELF psABI.
 #![tactic(auto)]
 
-mod checks;
-mod fault;
-mod header;
 mod image;
 mod linked;
 mod loading;
-mod program;
 mod round_trip;
 mod segment;
 mod segments;
 mod writing;
 
-pub use fault::FileFault;
 pub use image::Image;
 pub use linked::Linked;
 pub use loading::load;
 pub use round_trip::reload;
+pub use rv_elf::FileFault;
 pub use rv_map::{Global, Map, Region, Row};
 pub use segment::{MEMORY_LIMIT, STACK_BYTES, STACK_START, Segment};
 pub use writing::write_exec;

@@ -1,20 +1,21 @@
 //! Reads an executable.
 
 ghost use Rattle.std.specs.Prelude.{◌≡◌, ◌<◌, ◌≤◌, ◌+◌, ◌*◌, ◌⊎◌, false, None, Some, length, take, drop, map, filter, [], ◌∷◌, ◌++◌, IfOk, OnOk, IfErr, MatchResult, ℕ};
-ghost use Rattle.rv_image.specs.declared.fault.FileFault.TheVariants.{OutOfMemory};
-ghost use Rattle.rv_image.specs.FirstFault.{Finds, load_tests, first_fault, is_past, IsLoadable};
-ghost use Rattle.rv_image.specs.Header.{HasPrograms, programs, program_at, program_table, program_count, is_load};
+ghost use Rattle.rv_elf.specs.declared.fault.FileFault.TheVariants.{OutOfMemory};
+ghost use Rattle.rv_elf.specs.Fields.{number_in, e_phoff, program_header_size};
+ghost use Rattle.rv_elf.specs.FirstFault.{Finds};
+ghost use Rattle.rv_elf.specs.Numbers.{pt_load};
+ghost use Rattle.rv_elf.specs.Records.{program_header_at};
+ghost use Rattle.rv_elf.specs.Sections.{program_headers, program_count, is_load, is_past};
+ghost use Rattle.rv_image.specs.FirstFault.{load_tests, first_fault, IsLoadable};
 ghost use Rattle.rv_image.specs.Image.{image_of};
 ghost use Rattle.rv_image.specs.ImageOf.{ImageOf, segment_in};
 ghost use Rattle.rv_image.specs.Segment.{segment_of};
 
-use crate::checks::{check_header, check_tables};
-use crate::fault::FileFault;
-use crate::header::{self, double, half};
 use crate::image::Image;
-use crate::program::Program;
 use crate::segment::Segment;
-use crate::segments::{PROGRAM_SIZE, check_programs, check_whole};
+use crate::segments::{check_programs, check_whole};
+use rv_elf::{ET_EXEC, ElfView, FileFault, PT_LOAD, ProgramHeader, file_type};
 use std::alloc::{AllocError, Global};
 
 /// The image of an executable, or the first of its faults. Nothing of the file is copied before all
@@ -24,45 +25,44 @@ pub fn load(alloc: Global, file: &[u8]) -> Result<Image, FileFault>
         (λ image. (first_fault file.now ≡ None) × ImageOf file.now (image_of image))
         (λ fault. (fault ≡ OutOfMemory) ⊎ (first_fault file.now ≡ Some fault)) }
 {
-    check(file)?;
-    let segments = segments(alloc, file)?;
+    let view = check(file)?;
+    let segments = segments(alloc, &view)?;
     Ok(Image {
-        entry: double(file, 24),
+        entry: view.header().e_entry,
         segments,
     })
 }
 
-/// Looks for the first fault of a file.
-#[tactic(auto, using(crate::proofs::FirstTrue::first_true_some, crate::proofs::FirstTrue::first_true_none), unfolding(crate::specs::FirstFault::load_tests))]
-fn check(file: &[u8]) -> Result<(), FileFault>
+/// A view of a file without a fault, or its first fault.
+#[tactic(auto, using(rv_elf::specs::FirstTrue::first_true_some, rv_elf::specs::FirstTrue::first_true_none), unfolding(crate::specs::FirstFault::load_tests, crate::specs::FirstFault::type_tests))]
+fn check(file: &[u8]) -> Result<ElfView<'_>, FileFault>
     ensures faults { Finds (load_tests file.now) result }
-    ensures header { OnOk result (64 ≤ length file.now) }
-    ensures within { OnOk result (HasPrograms file.now) }
+    ensures file { IfOk result (λ view. view.file.now ≡ file.now) }
 {
-    check_header(file)?;
-    check_tables(file)?;
-    check_programs(file)?;
-    check_whole(file)?;
-    Ok(())
+    if file_type(file)? != ET_EXEC {
+        return Err(FileFault::NotExecutable);
+    }
+    let view = ElfView::open(file)?;
+    check_programs(&view)?;
+    check_whole(&view)?;
+    Ok(view)
 }
 
 /// The segments that a file loads, in its order.
-fn segments(alloc: Global, file: &[u8]) -> Result<Vec<Segment>, FileFault>
-    requires header { 64 ≤ length file.now }
-    requires within { HasPrograms file.now }
-    requires sound { (i : ℕ) → i < program_count file.now →
-        IsLoadable file.now (program_at (program_table file.now + 56 * i) file.now) }
+fn segments(alloc: Global, view: &ElfView<'_>) -> Result<Vec<Segment>, FileFault>
+    requires { (i : ℕ) → i < program_count view.now.file.now →
+        IsLoadable view.now.file.now (program_header_at
+        (number_in e_phoff 0 view.now.file.now + program_header_size * i)
+        view.now.file.now) }
     ensures { MatchResult result
         (λ segments. map segment_of segments.items
-        ≡ map (segment_in file.now) (filter is_load (programs file.now)))
+        ≡ map (segment_in view.now.file.now) (filter is_load (program_headers view.now.file.now)))
         (λ fault. fault ≡ OutOfMemory) }
 {
-    let table = double(file, 32) as usize;
-    let count = half(file, 56) as usize;
+    let count = view.header().e_phnum;
     let mut segments = Vec::new(alloc);
     for index in 0..count {
-        let program = header::program(file, table + PROGRAM_SIZE * index);
-        add_segment(&mut segments, alloc, file, program)?;
+        add_segment(&mut segments, alloc, view, view.program(index))?;
     }
     Ok(segments)
 }
@@ -71,35 +71,35 @@ fn segments(alloc: Global, file: &[u8]) -> Result<Vec<Segment>, FileFault>
 fn add_segment(
     segments: &mut Vec<Segment>,
     alloc: Global,
-    file: &[u8],
-    program: Program,
+    view: &ElfView<'_>,
+    program: ProgramHeader,
 ) -> Result<(), FileFault>
-    requires { IsLoadable file.now program }
+    requires { IsLoadable view.now.file.now program }
     ensures { MatchResult result
         (λ _. map segment_of segments.new.items ≡ map segment_of segments.old.items
-        ++ map (segment_in file.now) (filter is_load (program ∷ [])))
+        ++ map (segment_in view.now.file.now) (filter is_load (program ∷ [])))
         (λ fault. fault ≡ OutOfMemory) }
 {
-    if program.kind != 1 {
+    if program.p_type != PT_LOAD {
         return Ok(());
     }
-    segments.push(segment(alloc, file, program)?)?;
+    segments.push(segment(alloc, view.file(), program)?)?;
     Ok(())
 }
 
 /// The segment of a program header: what the file has of it, and zeros.
-fn segment(alloc: Global, file: &[u8], program: Program) -> Result<Segment, AllocError>
-    requires load { program.kind ≡ 1 }
+fn segment(alloc: Global, file: &[u8], program: ProgramHeader) -> Result<Segment, AllocError>
+    requires load { program.p_type ≡ pt_load }
     requires sound { IsLoadable file.now program }
     ensures { IfOk result (λ segment. segment_of segment ≡ segment_in file.now program) }
 {
-    let mut bytes = Vec::with_capacity(alloc, program.memory_size as usize)?;
-    bytes.extend_from_slice(contents(file, program.offset, program.file_size))?;
-    bytes.resize(program.memory_size as usize, 0)?;
+    let mut bytes = Vec::with_capacity(alloc, program.p_memsz as usize)?;
+    bytes.extend_from_slice(contents(file, program.p_offset, program.p_filesz))?;
+    bytes.resize(program.p_memsz as usize, 0)?;
     Ok(Segment {
-        address: program.address,
+        address: program.p_vaddr,
         bytes,
-        flags: program.flags,
+        flags: program.p_flags,
     })
 }
 

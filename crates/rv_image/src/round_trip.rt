@@ -1,16 +1,16 @@
 //! What is written is loaded again.
 
 ghost use Rattle.std.specs.Prelude.{◌≡◌, MatchResult};
-ghost use Rattle.rv_image.specs.declared.fault.FileFault.TheVariants.{OutOfMemory};
+ghost use Rattle.rv_elf.specs.declared.fault.FileFault.TheVariants.{OutOfMemory};
 ghost use Rattle.rv_image.specs.Executable.{linked_image};
 ghost use Rattle.rv_image.specs.Image.{image_of};
 ghost use Rattle.rv_image.specs.Linked.{linked_of};
 
-use crate::fault::FileFault;
 use crate::image::Image;
 use crate::linked::Linked;
 use crate::loading::load;
 use crate::writing::write_exec;
+use rv_elf::FileFault;
 use std::alloc::Global;
 
 /// The image of a linked program: its executable is written, and loaded again. Nothing but want of

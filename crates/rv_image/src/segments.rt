@@ -3,44 +3,40 @@
 ghost use Rattle.std.specs.Prelude.{◌≡◌, ◌<◌, ◌≤◌, ◌+◌, ◌*◌, ◌^◌, true, not, nat_lt, length, [], ◌∷◌};
 ghost use Rattle.std.specs.List.{list_any, list_all};
 ghost use Rattle.rv_isa_laws.specs.Platform.{memory_limit};
-ghost use Rattle.rv_image.specs.FirstFault.{Finds, programs_tests, program_tests, segment_tests, do_overlap, ends_by, whole_tests, loaded_size};
-ghost use Rattle.rv_image.specs.Header.{HasPrograms, programs_from, programs};
+ghost use Rattle.rv_elf.specs.FirstFault.{Finds};
+ghost use Rattle.rv_elf.specs.Sections.{program_count, program_headers};
+ghost use Rattle.rv_image.specs.FirstFault.{programs_tests, program_tests, segment_tests, do_overlap, ends_by, whole_tests, loaded_size, programs_before};
+ghost use Rattle.rv_image.specs.Segment.{do_meet};
 
-use crate::checks::{lies_past, meet};
-use crate::fault::FileFault;
-use crate::header::{self, double, half};
-use crate::program::Program;
 use crate::segment::{MEMORY_LIMIT, STACK_BYTES, STACK_START};
-
-/// The bytes of a program header.
-pub(crate) const PROGRAM_SIZE: usize = 56;
+use rv_elf::{
+    ElfView, FileFault, PT_DYNAMIC, PT_INTERP, PT_LOAD, PT_TLS, ProgramHeader, lies_past,
+};
 
 /// Looks at the program headers, one after the other.
-pub(crate) fn check_programs(file: &[u8]) -> Result<(), FileFault>
-    requires header { 64 ≤ length file.now }
-    requires within { HasPrograms file.now }
-    ensures { Finds (programs_tests file.now [] (programs file.now)) result }
+pub(crate) fn check_programs(view: &ElfView<'_>) -> Result<(), FileFault>
+    ensures { Finds
+        (programs_tests view.now.file.now [] (program_headers view.now.file.now)) result }
 {
-    let table = double(file, 32) as usize;
-    let count = half(file, 56) as usize;
+    let count = view.header().e_phnum;
     let mut highest = 0;
     for index in 0..count {
-        let program = header::program(file, table + PROGRAM_SIZE * index);
-        check_program(file, table, index, program, highest)?;
+        let program = view.program(index);
+        check_program(view, index, program, highest)?;
         highest = raised(highest, program);
     }
     Ok(())
 }
 
 /// The greater of `highest` and the end of what the program header loads.
-fn raised(highest: u128, program: Program) -> u128
+fn raised(highest: u128, program: ProgramHeader) -> u128
     requires { highest ≤ 2 ^ 65 }
     ensures least { result ≤ 2 ^ 65 }
     ensures before { highest ≤ result }
     ensures end { ends_by result program ≡ true }
 {
-    let end = program.address as u128 + program.memory_size as u128;
-    if program.kind == 1 && end > highest {
+    let end = program.p_vaddr as u128 + program.p_memsz as u128;
+    if program.p_type == PT_LOAD && end > highest {
         end
     } else {
         highest
@@ -51,24 +47,25 @@ fn raised(highest: u128, program: Program) -> u128
 /// `highest` or before.
 #[tactic(auto, unfolding(crate::specs::FirstFault::program_tests))]
 fn check_program(
-    file: &[u8],
-    table: usize,
-    earlier: usize,
-    program: Program,
+    view: &ElfView<'_>,
+    earlier: u16,
+    program: ProgramHeader,
     highest: u128,
 ) -> Result<(), FileFault>
-    requires within { 0 < earlier → table + 56 * earlier ≤ length file.now }
-    requires below { list_all (ends_by highest) (programs_from earlier table file.now) ≡ true }
-    ensures { Finds (program_tests file.now (programs_from earlier table file.now) program) result }
+    requires within { earlier ≤ program_count view.now.file.now }
+    requires below { list_all (ends_by highest)
+        (programs_before earlier view.now.file.now) ≡ true }
+    ensures { Finds (program_tests view.now.file.now
+        (programs_before earlier view.now.file.now) program) result }
 {
-    if lies_past(file, program.offset, program.file_size) {
+    if lies_past(view.file(), program.p_offset, program.p_filesz) {
         return Err(FileFault::Truncated);
     }
-    if program.kind == 2 || program.kind == 3 || program.kind == 7 {
+    if program.p_type == PT_DYNAMIC || program.p_type == PT_INTERP || program.p_type == PT_TLS {
         return Err(FileFault::Dynamic);
     }
-    if program.kind == 1 {
-        check_segment(file, table, earlier, program, highest)?;
+    if program.p_type == PT_LOAD {
+        check_segment(view, earlier, program, highest)?;
     }
     Ok(())
 }
@@ -76,28 +73,28 @@ fn check_program(
 /// Looks at what is loaded.
 #[tactic(auto, unfolding(crate::specs::FirstFault::segment_tests), using(crate::proofs::Programs::none_meets))]
 fn check_segment(
-    file: &[u8],
-    table: usize,
-    earlier: usize,
-    program: Program,
+    view: &ElfView<'_>,
+    earlier: u16,
+    program: ProgramHeader,
     highest: u128,
 ) -> Result<(), FileFault>
-    requires within { 0 < earlier → table + 56 * earlier ≤ length file.now }
-    requires below { list_all (ends_by highest) (programs_from earlier table file.now) ≡ true }
-    ensures { Finds (segment_tests (programs_from earlier table file.now) program) result }
+    requires within { earlier ≤ program_count view.now.file.now }
+    requires below { list_all (ends_by highest)
+        (programs_before earlier view.now.file.now) ≡ true }
+    ensures { Finds (segment_tests (programs_before earlier view.now.file.now) program) result }
 {
-    if program.memory_size < program.file_size {
+    if program.p_memsz < program.p_filesz {
         return Err(FileFault::BadTable);
     }
-    if program.address as u128 + program.memory_size as u128 > 1 << 64 {
+    if program.p_vaddr as u128 + program.p_memsz as u128 > 1 << 64 {
         return Err(FileFault::BadTable);
     }
-    if (program.address as u128) < highest && meets_earlier(file, table, earlier, program) {
+    if (program.p_vaddr as u128) < highest && meets_earlier(view, earlier, program) {
         return Err(FileFault::Overlap);
     }
     if meet(
-        program.address,
-        program.memory_size,
+        program.p_vaddr,
+        program.p_memsz,
         STACK_START,
         STACK_BYTES as u64,
     ) {
@@ -107,12 +104,13 @@ fn check_segment(
 }
 
 /// Whether what is loaded shares an address with one of the `earlier` segments.
-fn meets_earlier(file: &[u8], table: usize, earlier: usize, program: Program) -> bool
-    requires { 0 < earlier → table + 56 * earlier ≤ length file.now }
-    ensures { result ≡ list_any (do_overlap program) (programs_from earlier table file.now) }
+fn meets_earlier(view: &ElfView<'_>, earlier: u16, program: ProgramHeader) -> bool
+    requires { earlier ≤ program_count view.now.file.now }
+    ensures { result ≡ list_any (do_overlap program)
+        (programs_before earlier view.now.file.now) }
 {
     for index in 0..earlier {
-        let other = header::program(file, table + PROGRAM_SIZE * index);
+        let other = view.program(index);
         if overlap(program, other) {
             return true;
         }
@@ -121,45 +119,41 @@ fn meets_earlier(file: &[u8], table: usize, earlier: usize, program: Program) ->
 }
 
 /// Whether `other` loads something at an address of the program.
-fn overlap(program: Program, other: Program) -> bool
+fn overlap(program: ProgramHeader, other: ProgramHeader) -> bool
     ensures { result ≡ do_overlap program other }
 {
-    other.kind == 1
+    other.p_type == PT_LOAD
         && meet(
-            program.address,
-            program.memory_size,
-            other.address,
-            other.memory_size,
+            program.p_vaddr,
+            program.p_memsz,
+            other.p_vaddr,
+            other.p_memsz,
         )
 }
 
 /// Looks at the entry and at the memory of all segments.
 #[tactic(auto, unfolding(crate::specs::FirstFault::whole_tests))]
-pub(crate) fn check_whole(file: &[u8]) -> Result<(), FileFault>
-    requires header { 64 ≤ length file.now }
-    requires within { HasPrograms file.now }
-    ensures { Finds (whole_tests file.now) result }
+pub(crate) fn check_whole(view: &ElfView<'_>) -> Result<(), FileFault>
+    ensures { Finds (whole_tests view.now.file.now) result }
 {
-    if double(file, 24) % 2 != 0 {
+    if view.header().e_entry % 2 != 0 {
         return Err(FileFault::BadTable);
     }
-    if !fit_memory(file) {
+    if !fit_memory(view) {
         return Err(FileFault::MemoryLimit);
     }
     Ok(())
 }
 
 /// Whether the segments are within the limit.
-fn fit_memory(file: &[u8]) -> bool
-    requires header { 64 ≤ length file.now }
-    requires within { HasPrograms file.now }
-    ensures { result ≡ not (nat_lt memory_limit (loaded_size (programs file.now))) }
+fn fit_memory(view: &ElfView<'_>) -> bool
+    ensures { result ≡ not (nat_lt memory_limit
+        (loaded_size (program_headers view.now.file.now))) }
 {
-    let table = double(file, 32) as usize;
-    let count = half(file, 56) as usize;
+    let count = view.header().e_phnum;
     let mut left = MEMORY_LIMIT;
     for index in 0..count {
-        let program = header::program(file, table + PROGRAM_SIZE * index);
+        let program = view.program(index);
         let size = memory_of(program);
         if size > left {
             return false;
@@ -170,12 +164,23 @@ fn fit_memory(file: &[u8]) -> bool
 }
 
 /// The bytes that a program header loads.
-fn memory_of(program: Program) -> u64
+fn memory_of(program: ProgramHeader) -> u64
     ensures { result ≡ loaded_size (program ∷ []) }
 {
-    if program.kind == 1 {
-        program.memory_size
+    if program.p_type == PT_LOAD {
+        program.p_memsz
     } else {
         0
+    }
+}
+
+/// Whether an address is both among the `size` from `start` on and among the `other_size` from `other` on.
+fn meet(start: u64, size: u64, other: u64, other_size: u64) -> bool
+    ensures { result ≡ do_meet start size other other_size }
+{
+    if start < other {
+        other_size > 0 && other - start < size
+    } else {
+        size > 0 && start - other < other_size
     }
 }

@@ -1,12 +1,19 @@
 //! Writes an executable.
 
-ghost use Rattle.byteorder.specs.Endian.{little_bytes};
-ghost use Rattle.std.specs.Prelude.{if◌then◌else◌, ◌≡◌, ◌<◌, ◌≤◌, ◌+◌, ◌^◌, length, filter, flat_map, [], ◌∷◌, ◌++◌, IfOk, OnOk, vec_len, ◌-◌};
-ghost use Rattle.rv_image.specs.Executable.{exe_of, parts, has_memory, header_bytes, program_bytes, with_contents, with_parts, all_parts, offset_of, part_of, memory_size_of};
+ghost use Rattle.std.specs.Prelude.{if◌then◌else◌, ◌≡◌, ◌<◌, ◌≤◌, ◌+◌, ◌^◌, length, filter, flat_map, [], ◌∷◌, ◌++◌, IfOk, OnOk, ◌-◌};
+ghost use Rattle.rv_elf.specs.Numbers.{pf_x, pf_w, pf_r};
+ghost use Rattle.rv_image.specs.Executable.{exe_of, parts, has_memory, header_of, program_of, program_bytes, with_contents, with_parts, all_parts, offset_of, part_of, memory_size_of};
 ghost use Rattle.rv_image.specs.Linked.{linked_of};
 
 use crate::linked::Linked;
+use rv_elf::{
+    EF_RISCV_RVC, EM_RISCV, ET_EXEC, EV_CURRENT, ElfWriter, FILE_HEADER_SIZE, FileHeader, PF_R,
+    PF_W, PF_X, PROGRAM_HEADER_SIZE, PT_LOAD, ProgramHeader,
+};
 use std::alloc::{AllocError, Global};
+
+/// The bytes of a page: text stands in the file from the second on.
+const PAGE: u64 = 0x1000;
 
 /// What the file has of a segment, and how many zeros follow it in memory.
 #[derive(Clone, Copy, Drop)]
@@ -21,40 +28,32 @@ struct Part<'a> {
 pub fn write_exec(alloc: Global, linked: &Linked) -> Result<Vec<u8>, AllocError>
     ensures { IfOk result (λ file. file.items ≡ exe_of (linked_of linked.now)) }
 {
-    let mut file = Vec::new(alloc);
-    put_header(&mut file, linked)?;
+    let mut file = ElfWriter::new(alloc);
+    file.header(&header(linked))?;
     put_programs(&mut file, linked)?;
     put_parts(&mut file, linked)?;
-    Ok(file)
+    Ok(file.finish())
 }
 
 /// The header: what the file is.
-#[tactic(auto, unfolding(crate::specs::Executable::header_bytes))]
-fn put_header(file: &mut Vec<u8>, linked: &Linked) -> Result<(), AllocError>
-    ensures bytes { OnOk result
-        (file.new.items ≡ file.old.items ++ header_bytes (linked_of linked.now)) }
-    ensures length { OnOk result (vec_len file.new ≡ vec_len file.old + 64) }
+fn header(linked: &Linked) -> FileHeader
+    ensures { result ≡ header_of (linked_of linked.now) }
 {
-    file.extend_from_slice(b"\x7fELF\x02\x01\x01\0\0\0\0\0\0\0\0\0\x02\0\xf3\0\x01\0\0\0")?;
-    file.extend_from_slice(&linked.map.entry.to_le_bytes())?;
-    file.extend_from_slice(b"\x40\0\0\0\0\0\0\0\0\0\0\0\0\0\0\0")?;
-    put_sizes(file, linked)?;
-    Ok(())
-}
-
-/// The fields of the header after the places of the tables.
-fn put_sizes(file: &mut Vec<u8>, linked: &Linked) -> Result<(), AllocError>
-    ensures length { OnOk result (vec_len file.new ≡ vec_len file.old + 16) }
-    ensures bytes { OnOk result (file.new.items ≡ file.old.items
-        ++ (little_bytes 4 (if linked.now.rvc then 1 else 0)
-        ++ (64 ∷ 0 ∷ 56 ∷ 0 ∷ (little_bytes 2 (length (parts (linked_of linked.now)))
-        ++ 0 ∷ 0 ∷ 0 ∷ 0 ∷ 0 ∷ 0 ∷ [])))) }
-{
-    file.extend_from_slice(&u32::from(linked.rvc).to_le_bytes())?;
-    file.extend_from_slice(b"\x40\0\x38\0")?;
-    file.extend_from_slice(&count(linked).to_le_bytes())?;
-    file.extend_from_slice(&[0; 6])?;
-    Ok(())
+    FileHeader {
+        e_type: ET_EXEC,
+        e_machine: EM_RISCV,
+        e_version: EV_CURRENT,
+        e_entry: linked.map.entry,
+        e_phoff: FILE_HEADER_SIZE as u64,
+        e_shoff: 0,
+        e_flags: if linked.rvc { EF_RISCV_RVC } else { 0 },
+        e_ehsize: FILE_HEADER_SIZE as u16,
+        e_phentsize: PROGRAM_HEADER_SIZE as u16,
+        e_phnum: count(linked),
+        e_shentsize: 0,
+        e_shnum: 0,
+        e_shstrndx: 0,
+    }
 }
 
 /// How many segments have memory.
@@ -68,11 +67,10 @@ fn count(linked: &Linked) -> u16
 }
 
 /// The program headers.
-fn put_programs(file: &mut Vec<u8>, linked: &Linked) -> Result<(), AllocError>
+fn put_programs(file: &mut ElfWriter, linked: &Linked) -> Result<(), AllocError>
     ensures bytes { OnOk result
-        (file.new.items ≡ file.old.items
+        (file.new ≡ file.old
         ++ flat_map (program_bytes linked.now.map.text.start) (parts (linked_of linked.now))) }
-    ensures length { OnOk result (vec_len file.new ≤ vec_len file.old + 168) }
 {
     let start = linked.map.text.start;
     put_program(file, start, text(linked))?;
@@ -82,11 +80,11 @@ fn put_programs(file: &mut Vec<u8>, linked: &Linked) -> Result<(), AllocError>
 }
 
 /// The contents of the segments.
-fn put_parts(file: &mut Vec<u8>, linked: &Linked) -> Result<(), AllocError>
-    requires { vec_len file.old ≤ 0x1000 }
+fn put_parts(file: &mut ElfWriter, linked: &Linked) -> Result<(), AllocError>
+    requires { length file.old ≤ 0x1000 }
     ensures { OnOk result
-        (file.new.items
-        ≡ with_parts linked.now.map.text.start file.old.items (all_parts (linked_of linked.now))) }
+        (file.new
+        ≡ with_parts linked.now.map.text.start file.old (all_parts (linked_of linked.now))) }
 {
     let start = linked.map.text.start;
     put_part(file, start, text(linked))?;
@@ -101,14 +99,14 @@ fn text(linked: &Linked) -> Part<'_>
           address = linked.now.map.text.start;
           stored = linked.now.text.items;
           zeros = 0;
-          flags = 1;
+          flags = pf_x;
         } }
 {
     Part {
         address: linked.map.text.start,
         stored: &linked.text,
         zeros: 0,
-        flags: 1,
+        flags: PF_X,
     }
 }
 
@@ -118,14 +116,14 @@ fn rodata(linked: &Linked) -> Part<'_>
           address = linked.now.map.rodata.start;
           stored = linked.now.rodata.items;
           zeros = 0;
-          flags = 4;
+          flags = pf_r;
         } }
 {
     Part {
         address: linked.map.rodata.start,
         stored: &linked.rodata,
         zeros: 0,
-        flags: 4,
+        flags: PF_R,
     }
 }
 
@@ -135,7 +133,7 @@ fn data(linked: &Linked) -> Part<'_>
           address = linked.now.map.data.start;
           stored = linked.now.data.items;
           zeros = linked.now.map.bss.end - linked.now.map.data.end;
-          flags = 6;
+          flags = pf_r + pf_w;
         } }
 {
     let zeros = linked.map.bss.end - linked.map.data.end;
@@ -143,7 +141,7 @@ fn data(linked: &Linked) -> Part<'_>
         address: linked.map.data.start,
         stored: &linked.data,
         zeros,
-        flags: 6,
+        flags: PF_R + PF_W,
     }
 }
 
@@ -164,59 +162,55 @@ impl Part<'_> {
 }
 
 /// A program header, for a part that has memory.
-fn put_program(file: &mut Vec<u8>, start: u64, part: Part) -> Result<(), AllocError>
+fn put_program(file: &mut ElfWriter, start: u64, part: Part) -> Result<(), AllocError>
     requires below { memory_size_of (part_of part) < 2 ^ 64 }
     requires after { start ≤ part.address }
     requires far { part.address < 2 ^ 63 }
-    ensures bytes { OnOk result
-        (file.new.items ≡ file.old.items
+    ensures bytes { OnOk result (file.new ≡ file.old
         ++ flat_map (program_bytes start) (filter has_memory (part_of part.entry ∷ []))) }
-    ensures length { OnOk result (vec_len file.new ≤ vec_len file.old + 56) }
 {
     if !part.has_memory() {
         return Ok(());
     }
-    put_place(file, start, part)?;
-    file.extend_from_slice(&(part.stored.len() as u64).to_le_bytes())?;
-    file.extend_from_slice(&part.memory_size().to_le_bytes())?;
-    file.extend_from_slice(b"\0\x10\0\0\0\0\0\0")?;
+    file.program(&program_header(start, part))?;
     Ok(())
 }
 
-/// The front of a program header: its type, its rights, and where its contents stand.
-fn put_place(file: &mut Vec<u8>, start: u64, part: Part) -> Result<(), AllocError>
+/// The program header of a part.
+fn program_header(start: u64, part: Part) -> ProgramHeader
+    requires below { memory_size_of (part_of part) < 2 ^ 64 }
     requires after { start ≤ part.address }
     requires far { part.address < 2 ^ 63 }
-    ensures length { OnOk result (vec_len file.new ≡ vec_len file.old + 32) }
-    ensures bytes { OnOk result (file.new.items ≡ file.old.items
-        ++ (1 ∷ 0 ∷ 0 ∷ 0 ∷ (little_bytes 4 part.entry.flags
-        ++ (little_bytes 8 (offset_of start (part_of part.entry))
-        ++ (little_bytes 8 part.entry.address ++ little_bytes 8 part.entry.address))))) }
+    ensures { result ≡ program_of start (part_of part.entry) }
 {
-    file.extend_from_slice(b"\x01\0\0\0")?;
-    file.extend_from_slice(&part.flags.to_le_bytes())?;
-    file.extend_from_slice(&(0x1000 + (part.address - start)).to_le_bytes())?;
-    file.extend_from_slice(&part.address.to_le_bytes())?;
-    file.extend_from_slice(&part.address.to_le_bytes())?;
-    Ok(())
+    ProgramHeader {
+        p_type: PT_LOAD,
+        p_flags: part.flags,
+        p_offset: PAGE + (part.address - start),
+        p_vaddr: part.address,
+        p_paddr: part.address,
+        p_filesz: part.stored.len() as u64,
+        p_memsz: part.memory_size(),
+        p_align: PAGE,
+    }
 }
 
 /// The stored bytes of a part at their place, zeros before them.
-fn put_part(file: &mut Vec<u8>, start: u64, part: Part) -> Result<(), AllocError>
+fn put_part(file: &mut ElfWriter, start: u64, part: Part) -> Result<(), AllocError>
     requires after { start ≤ part.address }
     requires far { part.address < 2 ^ 63 }
-    requires room { vec_len file.old ≤ offset_of start (part_of part) }
+    requires room { length file.old ≤ offset_of start (part_of part) }
     ensures bytes { OnOk result
-        (file.new.items
-        ≡ with_contents file.old.items
+        (file.new ≡ with_contents file.old
         (offset_of start (part_of part.entry)) part.entry.stored.now) }
     ensures length { OnOk result
-        (vec_len file.new ≤ offset_of start (part_of part.entry) + length part.entry.stored.now) }
+        (length file.new ≤ offset_of start (part_of part.entry) + length part.entry.stored.now) }
 {
     if part.stored.is_empty() {
         return Ok(());
     }
-    file.resize((0x1000 + (part.address - start)) as usize, 0)?;
-    file.extend_from_slice(part.stored)?;
+    let place = (PAGE + (part.address - start)) as usize;
+    file.zeros(place - file.len())?;
+    file.raw(part.stored)?;
     Ok(())
 }

@@ -1,4 +1,5 @@
--- The first test that is true, of two lists of tests.
+-- The first test that is true, of two lists of tests. The lemmas stand here, and not in proofs/, for
+-- the crates that test files further.
 
 use Rattle.std.proofs.Common.{◌≡◌, Bool, true, false, List, [], ◌∷◌, ◌++◌, Some, None, refl}
 use Rattle.rv_elf.specs.declared.fault.FileFault.{FileFault}
