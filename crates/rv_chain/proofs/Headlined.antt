@@ -6,7 +6,7 @@ use Rattle.rv_map.specs.Text.{map_text}
 use Rattle.rv_image.specs.declared.linked.Linked.{Linked}
 use Rattle.rv_image.specs.Linked.{linked_of}
 use Rattle.rv_image.specs.Executable.{exe_of, linked_image}
-use Rattle.rv_image.specs.Header.{machine_flags}
+use Rattle.rv_elf.specs.Fields.{number_in, e_flags}
 use Rattle.rv_image.specs.ImageOf.{ImageOf}
 use Rattle.rv_image.specs.FirstFault.{first_fault}
 use Rattle.rv_image.proofs.LoadedAgain.{laid_out, reads, reload_image, reload_fault}
@@ -33,6 +33,6 @@ headlined texts start linked exe is_map program written =
       image = linked_image l;
       loads = subst (λ file. ImageOf file (linked_image l)) (sym written) (reload_image l laid);
       accepted = ap first_fault written ∙ reload_fault l laid;
-      flagged = ap machine_flags written ∙ (reads l laid).flags ∙ ap rvc_flag program.flag;
+      flagged = ap (number_in e_flags 0) written ∙ ap (λ h. h.e_flags) (reads l laid).fields ∙ ap rvc_flag program.flag;
       agree = linked_agrees start program.sources l program.linked;
     }

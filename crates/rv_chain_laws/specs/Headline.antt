@@ -11,7 +11,7 @@ use Rattle.rv_map.specs.Limits.{IsMap}
 use Rattle.rv_image.specs.Image.{Image}
 use Rattle.rv_image.specs.ImageOf.{ImageOf}
 use Rattle.rv_image.specs.FirstFault.{first_fault}
-use Rattle.rv_image.specs.Header.{machine_flags}
+use Rattle.rv_elf.specs.Fields.{number_in, e_flags}
 use Rattle.rv_encode.specs.Word.{Spells}
 use Rattle.rv_compress.specs.Parcel.{StandsFor}
 use Rattle.rv_isa_laws.specs.Reader.{Reader}
@@ -72,5 +72,5 @@ pub record TheHeadline (texts : List (List ℕ)) (text_start : ℕ)
   -- which has no fault that a loader would name
   pub accepted : first_fault executable ≡ None
   -- its one flag is set exactly where one of the sources has compressed code
-  pub flagged : machine_flags executable ≡ rvc_flag (is_compressed sources)
+  pub flagged : number_in e_flags 0 executable ≡ rvc_flag (is_compressed sources)
   pub agree : RunsAgree sources map image

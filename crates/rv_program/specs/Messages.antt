@@ -9,9 +9,9 @@ use Rattle.std.specs.Str.{is_utf8}
 use Rattle.rv_lexer.specs.declared.fault.SourceFault.{SourceFault}
 use Rattle.rv_lexer.specs.declared.fault.SourceFault.TheVariants.{At, OutOfMemory}
 use Rattle.rv_lexer.specs.Fault as sources
-use Rattle.rv_image.specs.declared.fault.FileFault.{FileFault}
-use Rattle.rv_image.specs.declared.fault.FileFault.TheVariants.{UnsupportedRelocation, UnsupportedSection}
-use Rattle.rv_image.specs.Fault as files
+use Rattle.rv_elf.specs.declared.fault.FileFault.{FileFault}
+use Rattle.rv_elf.specs.declared.fault.FileFault.TheVariants.{UnsupportedRelocation, UnsupportedSection}
+use Rattle.rv_elf.specs.Fault as files
 use Rattle.rv_machine.specs.declared.end.End.{End}
 use Rattle.rv_machine.specs.End as ends
 use Rattle.rv_link.specs.declared.fault.LinkFault.{LinkFault}
