@@ -19,19 +19,19 @@ use rv_symbols::SymbolTable;
 use rv_unit::Unit;
 use std::alloc::{AllocError, Global};
 
-/// The object of a draft with its symbols. The bytes of its sections are moved.
+/// The object of a draft with its symbols. The bytes of its sections are moved, and the unit is given up.
 pub(crate) fn object(
     alloc: Global,
-    unit: &Unit<'_>,
+    unit: Unit<'_>,
     draft: Draft<'_>,
     table: SymbolTable,
 ) -> Result<Object, AllocError>
-    requires filled { IsFilled unit.now }
-    requires good { statements_fault (said unit.now) ≡ None }
-    requires kept { OpenKept (said unit.now) }
-    requires draft { IsDraft (said unit.now) draft }
-    requires table { HasTable (said unit.now) draft table }
-    ensures { IfOk result (λ o. IsObjectOf (said unit.now) (object_of o)) }
+    requires filled { IsFilled unit }
+    requires good { statements_fault (said unit) ≡ None }
+    requires kept { OpenKept (said unit) }
+    requires draft { IsDraft (said unit) draft }
+    requires table { HasTable (said unit) draft table }
+    ensures { IfOk result (λ o. IsObjectOf (said unit.entry) (object_of o)) }
 {
     let Draft {
         items,
@@ -44,8 +44,10 @@ pub(crate) fn object(
     let extents = unit.sections();
     let indices = indices(alloc, fields.as_slice(), numbers.as_slice())?;
     let relocations = relocations(alloc, extents.len(), fields.as_slice(), indices.as_slice())?;
-    let rows = rows(alloc, items.as_slice())?;
     let sections = sections(alloc, extents, ends.as_slice(), bytes, relocations)?;
+    // the statements make room for their rows
+    drop(unit);
+    let rows = rows(alloc, items.as_slice())?;
     Ok(Object {
         sections,
         symbols,

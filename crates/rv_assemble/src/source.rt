@@ -35,21 +35,21 @@ pub fn assemble(alloc: Global, source: &[u8]) -> Result<Object, SourceFault>
     let unit = Unit::build(alloc, statements)?;
     // its names can be shown
     names_are_shown();
-    assembled(alloc, &unit)
+    assembled(alloc, unit)
 }
 
 /// The object of a unit.
-fn assembled(alloc: Global, unit: &Unit<'_>) -> Result<Object, SourceFault>
-    requires filled { IsFilled unit.now }
-    requires good { first_fault (said unit.now) ≡ None }
-    requires names { HasNames (said unit.now) }
-    requires kept { OpenKept (said unit.now) }
-    ensures sound { IfOk result (λ o. statements_fault (said unit.now) ≡ None) }
-    ensures object { IfOk result (λ o. IsObjectOf (said unit.now) (object_of o)) }
-    ensures refuses { IfErr result (λ fault. IsRefused (said unit.now) fault) }
+fn assembled(alloc: Global, unit: Unit<'_>) -> Result<Object, SourceFault>
+    requires filled { IsFilled unit }
+    requires good { first_fault (said unit) ≡ None }
+    requires names { HasNames (said unit) }
+    requires kept { OpenKept (said unit) }
+    ensures sound { IfOk result (λ o. statements_fault (said unit.entry) ≡ None) }
+    ensures object { IfOk result (λ o. IsObjectOf (said unit.entry) (object_of o)) }
+    ensures refuses { IfErr result (λ fault. IsRefused (said unit.entry) fault) }
 {
-    let draft = Draft::of(alloc, unit)?;
-    let table = table(alloc, unit, &draft)?;
+    let draft = Draft::of(alloc, &unit)?;
+    let table = table(alloc, &unit, &draft)?;
     let object = object(alloc, unit, draft, table)?;
     Ok(object)
 }

@@ -19,15 +19,15 @@ pub relocations-requires-clause-inside : goal.relocations-requires-clause-inside
 relocations-requires-clause-inside c =
     subst (λ fs. AllByRecursion (λ (f : OpenField). f.section < length c.sections-extents.result.now) fs) (sym c.as_slice-3.ensures.value)
     (subst (λ n. AllByRecursion (λ (f : OpenField). f.section < n) c.args.draft.fields.items) (ap length (sym c.sections-extents.ensures))
-    (inside c.args.unit.now c.args.draft c.args.table c.requires.filled c.requires.good c.requires.kept c.requires.draft c.requires.table))
+    (inside c.args.unit c.args.draft c.args.table c.requires.filled c.requires.good c.requires.kept c.requires.draft c.requires.table))
 
 pub rows-requires : goal.rows-requires
 rows-requires c =
-    subst (λ n. n < 2 ^ 32) (sym (ap length c.as_slice-5.ensures.value ∙ items_count (said c.args.unit.now) c.args.draft c.requires.draft)) c.requires.draft.few
+    subst (λ n. n < 2 ^ 32) (sym (ap length c.as_slice-6.ensures.value ∙ items_count (said c.args.unit) c.args.draft c.requires.draft)) c.requires.draft.few
 
 pub sections-requires-clause-makeable : goal.sections-requires-clause-makeable
 sections-requires-clause-makeable c =
-    let u = c.args.unit.now in
+    let u = c.args.unit in
     let d = c.args.draft in
     let x = c.args.table in
     let lists = c.in_ok-relocations.relocations.items in
@@ -38,13 +38,13 @@ sections-requires-clause-makeable c =
     let listed : (j : ℕ) → list_in lists j ≡ relocations_in j fs (indices_of fs x.numbers.items) =
     λ j. c.in_ok-relocations.ensures.lists j ∙ ap (λ l. relocations_in j (map field_of l) c.as_slice-4.result.now) c.as_slice-3.ensures.value
     ∙ ap (λ l. relocations_in j fs l) made_of in
-    subst (λ es. AllByRecursion IsMakeable (sections_by es c.as_slice-6.result.now d.sections.items lists)) (sym c.sections-extents.ensures)
-    (subst (λ ns. AllByRecursion IsMakeable (sections_by u.tables.extents.items ns d.sections.items lists)) (sym c.as_slice-6.ensures.value)
+    subst (λ es. AllByRecursion IsMakeable (sections_by es c.as_slice-5.result.now d.sections.items lists)) (sym c.sections-extents.ensures)
+    (subst (λ ns. AllByRecursion IsMakeable (sections_by u.tables.extents.items ns d.sections.items lists)) (sym c.as_slice-5.ensures.value)
     (makeable u d x c.requires.filled c.requires.good c.requires.kept c.requires.draft c.requires.table lists counted listed))
 
 pub invariant_of-result : goal.invariant_of-result
 invariant_of-result c =
-    let u = c.args.unit.now in
+    let u = c.args.unit in
     let d = c.args.draft in
     let x = c.args.table in
     let lists = c.in_ok-relocations.relocations.items in
@@ -57,10 +57,10 @@ invariant_of-result c =
     ∙ ap (λ l. relocations_in j fs l) made_of in
     let sections = map section_of c.in_ok-sections.sections.items in
     let made : sections ≡ sections_by u.tables.extents.items d.ends.items d.sections.items lists =
-    c.in_ok-sections.ensures ∙ ap (λ es. sections_by es c.as_slice-6.result.now d.sections.items lists) c.sections-extents.ensures
-    ∙ ap (λ ns. sections_by u.tables.extents.items ns d.sections.items lists) c.as_slice-6.ensures.value in
+    c.in_ok-sections.ensures ∙ ap (λ es. sections_by es c.as_slice-5.result.now d.sections.items lists) c.sections-extents.ensures
+    ∙ ap (λ ns. sections_by u.tables.extents.items ns d.sections.items lists) c.as_slice-5.ensures.value in
     let rows = c.in_ok-rows.rows.items in
-    let listed_rows : rows ≡ rows_from 1 d.items.items = c.in_ok-rows.ensures ∙ ap (rows_from 1) c.as_slice-5.ensures.value in
+    let listed_rows : rows ≡ rows_from 1 d.items.items = c.in_ok-rows.ensures ∙ ap (rows_from 1) c.as_slice-6.ensures.value in
     record {
       indexed = indexed u d x c.requires.filled c.requires.good c.requires.kept c.requires.draft c.requires.table lists counted listed sections rows made listed_rows;
       defined = defined u d x c.requires.filled c.requires.good c.requires.kept c.requires.draft c.requires.table lists counted listed sections rows made listed_rows;
@@ -69,7 +69,7 @@ invariant_of-result c =
 
 pub returns : goal.returns
 returns c =
-    let u = c.args.unit.now in
+    let u = c.args.unit in
     let d = c.args.draft in
     let x = c.args.table in
     let lists = c.in_ok-relocations.relocations.items in
@@ -82,8 +82,8 @@ returns c =
     ∙ ap (λ l. relocations_in j fs l) made_of in
     let sections = map section_of c.in_ok-sections.sections.items in
     let made : sections ≡ sections_by u.tables.extents.items d.ends.items d.sections.items lists =
-    c.in_ok-sections.ensures ∙ ap (λ es. sections_by es c.as_slice-6.result.now d.sections.items lists) c.sections-extents.ensures
-    ∙ ap (λ ns. sections_by u.tables.extents.items ns d.sections.items lists) c.as_slice-6.ensures.value in
+    c.in_ok-sections.ensures ∙ ap (λ es. sections_by es c.as_slice-5.result.now d.sections.items lists) c.sections-extents.ensures
+    ∙ ap (λ ns. sections_by u.tables.extents.items ns d.sections.items lists) c.as_slice-5.ensures.value in
     let rows = c.in_ok-rows.rows.items in
-    let listed_rows : rows ≡ rows_from 1 d.items.items = c.in_ok-rows.ensures ∙ ap (rows_from 1) c.as_slice-5.ensures.value in
+    let listed_rows : rows ≡ rows_from 1 d.items.items = c.in_ok-rows.ensures ∙ ap (rows_from 1) c.as_slice-6.ensures.value in
     is_object u d x c.requires.filled c.requires.good c.requires.kept c.requires.draft c.requires.table lists counted listed sections rows made listed_rows
