@@ -4,26 +4,19 @@ use Rattle.std.specs.Prelude.{◌≡◌, ℕ, Result, MatchResult, ◌*◌, ◌%
 use Rattle.rv_elf.specs.declared.fault.FileFault.{FileFault}
 use Rattle.rv_elf.specs.declared.fault.FileFault.TheVariants.{Truncated, BadMagic, WrongClass, WrongMachine, BadTable}
 use Rattle.rv_elf.specs.Fields.{number_in, file_header_size, program_header_size, section_header_size, ei_magic, ei_class, ei_data, ei_version, e_machine, e_flags, e_phoff, e_shoff, e_phentsize, e_shentsize}
+use Rattle.rv_elf.specs.Numbers.{elfmag, elfclass64, elfdata2lsb, ev_current, em_riscv, shn_loreserve, pn_xnum}
 use Rattle.rv_elf.specs.Sections.{is_past, program_count, section_count, names_section}
 
 abbrev pub first_true : List (Bool × FileFault) → Option FileFault
 first_true [] = None
 first_true ((fails, fault) ∷ tests) = if fails then Some fault else first_true tests
 
--- 7Fh ELF, the lowest byte first
-abbrev pub magic : ℕ
-magic = 0x464C457F
-
--- EM_RISCV
-abbrev pub em_riscv : ℕ
-em_riscv = 243
-
 -- the header: size, magic, class, data and version, machine with its flags
 unfoldable pub header_tests : List ℕ → List (Bool × FileFault)
 header_tests file = (nat_lt (length file) file_header_size, Truncated)
-    ∷ (not (number_in ei_magic 0 file == magic), BadMagic)
-    ∷ (not (number_in ei_class 0 file == 2 && number_in ei_data 0 file == 1
-      && number_in ei_version 0 file == 1), WrongClass)
+    ∷ (not (number_in ei_magic 0 file == elfmag), BadMagic)
+    ∷ (not (number_in ei_class 0 file == elfclass64 && number_in ei_data 0 file == elfdata2lsb
+      && number_in ei_version 0 file == ev_current), WrongClass)
     ∷ (not (number_in e_machine 0 file == em_riscv), WrongMachine)
     -- a float ABI, in the flags 2 and 4, or the smaller register file, in the flag 8
     ∷ (not (number_in e_flags 0 file / 2 % 8 == 0), WrongMachine)
@@ -31,8 +24,8 @@ header_tests file = (nat_lt (length file) file_header_size, Truncated)
 
 -- the tables of program headers and section headers; nothing is asked of one without entries
 unfoldable pub table_tests : List ℕ → List (Bool × FileFault)
-table_tests file = (nat_le 0xFF00 (section_count file), BadTable)
-    ∷ (program_count file == 0xFFFF, BadTable)
+table_tests file = (nat_le shn_loreserve (section_count file), BadTable)
+    ∷ (program_count file == pn_xnum, BadTable)
     ∷ (not (program_count file == 0)
       && not (number_in e_phentsize 0 file == program_header_size), BadTable)
     ∷ (not (section_count file == 0)

@@ -1,5 +1,6 @@
 pub mod Fault
 pub mod Fields
 pub mod FirstFault
+pub mod Numbers
 pub mod Records
 pub mod Sections

@@ -3,7 +3,7 @@
 
 use Rattle.std.specs.Prelude.{ℕ, ℤ, List, [], ◌∷◌, ◌++◌}
 use Rattle.byteorder.specs.Endian.{twos_complement, little_bytes}
-use Rattle.std.specs.Int.{cast_unsigned, W64}
+use Rattle.std.specs.Int.{cast_unsigned, w64}
 use Rattle.rv_elf.specs.declared.file_header.FileHeader.{FileHeader}
 use Rattle.rv_elf.specs.declared.program_header.ProgramHeader.{ProgramHeader}
 use Rattle.rv_elf.specs.declared.section_header.SectionHeader.{SectionHeader}
@@ -110,4 +110,4 @@ rela_at place bytes = record {
 unfoldable pub rela_bytes : Rela → List ℕ
 rela_bytes r = at.bytes_of at.r_offset r.r_offset
     ++ (at.bytes_of at.r_type r.r_type ++ (at.bytes_of at.r_sym r.r_sym
-    ++ at.bytes_of at.r_addend (cast_unsigned W64 r.r_addend)))
+    ++ at.bytes_of at.r_addend (cast_unsigned w64 r.r_addend)))

@@ -1,12 +1,13 @@
 -- What a file has of its tables and sections (System V gABI, "ELF Header", "Sections", "String
 -- Table").
 
-use Rattle.std.specs.Prelude.{ℕ, zero, suc, ◌+◌, ◌*◌, ◌/◌, ◌<◌, ◌≤◌, ◌==◌, nat_lt, Bool, not, ◌&&◌, ◌||◌, List, [], ◌∷◌, length, take, drop, Option, Some, None, if◌then◌else◌}
+use Rattle.std.specs.Prelude.{ℕ, zero, suc, ◌+◌, ◌*◌, ◌/◌, ◌<◌, ◌≤◌, ◌==◌, nat_lt, Bool, not, ◌&&◌, ◌||◌, List, [], ◌∷◌, length, take, drop, Option, Some, None, option_map, if◌then◌else◌}
 use Rattle.rv_elf.specs.declared.program_header.ProgramHeader.{ProgramHeader}
 use Rattle.rv_elf.specs.declared.section_header.SectionHeader.{SectionHeader}
 use Rattle.rv_elf.specs.declared.symbol.Symbol.{Symbol}
 use Rattle.rv_elf.specs.declared.rela.Rela.{Rela}
 use Rattle.rv_elf.specs.Fields.{number_in, e_phoff, e_phnum, e_shoff, e_shnum, e_shstrndx, program_header_size, section_header_size, symbol_size, rela_size}
+use Rattle.rv_elf.specs.Numbers.{sht_nobits}
 use Rattle.rv_elf.specs.Records.{program_header_at, section_header_at, symbol_at, rela_at}
 
 -- some of the size bytes at a place lie past the end of the file
@@ -14,9 +15,13 @@ abbrev pub is_past : List ℕ → ℕ → ℕ → Bool
 is_past file place size = not (size == 0) && nat_lt (length file) (place + size)
 
 -- e_phnum, e_shnum, e_shstrndx
-abbrev pub program_count section_count names_section : List ℕ → ℕ
+abbrev pub program_count : List ℕ → ℕ
 program_count file = number_in e_phnum 0 file
+
+abbrev pub section_count : List ℕ → ℕ
 section_count file = number_in e_shnum 0 file
+
+abbrev pub names_section : List ℕ → ℕ
 names_section file = number_in e_shstrndx 0 file
 
 -- the records of a table, so many from a place on: each begins `size` bytes behind the one before
@@ -40,15 +45,17 @@ section_header_of file i =
     section_header_at (number_in e_shoff 0 file + section_header_size * i) file
 
 -- the tables lie in the file
-abbrev pub HasPrograms HasSections : List ℕ → Type 0
+abbrev pub HasPrograms : List ℕ → Type 0
 HasPrograms file = 0 < program_count file →
     number_in e_phoff 0 file + program_header_size * program_count file ≤ length file
+
+abbrev pub HasSections : List ℕ → Type 0
 HasSections file = 0 < section_count file →
     number_in e_shoff 0 file + section_header_size * section_count file ≤ length file
 
 -- SHT_NOBITS: a section without bytes in the file
 abbrev pub is_nobits : SectionHeader → Bool
-is_nobits h = h.sh_type == 8
+is_nobits h = h.sh_type == sht_nobits
 
 -- the bytes that the file has of a section: none past its end
 abbrev pub contents_of : List ℕ → SectionHeader → List ℕ

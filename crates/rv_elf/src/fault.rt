@@ -1,8 +1,8 @@
 //! Why a file is refused.
 
 ghost use Rattle.std.specs.Prelude.{◌≡◌};
-ghost use Rattle.rv_image.specs.declared.fault.FileFault.TheVariants.{OutOfMemory};
-ghost use Rattle.rv_image.specs.Fault.{number_of, name_of};
+ghost use Rattle.rv_elf.specs.declared.fault.FileFault.TheVariants.{OutOfMemory};
+ghost use Rattle.rv_elf.specs.Fault.{number_of, name_of};
 
 use std::alloc::{AllocError, AllocFailed};
 

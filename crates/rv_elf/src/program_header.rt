@@ -1,0 +1,68 @@
+//! Program headers.
+
+ghost use Rattle.std.specs.Prelude.{◌≡◌, ◌+◌, ◌≤◌, length};
+ghost use Rattle.rv_elf.specs.Fields.{program_header_size};
+ghost use Rattle.rv_elf.specs.Records.{program_header_at, program_header_bytes};
+
+use crate::fields::{double, word};
+use byteorder::{ByteOrder, LittleEndian};
+
+/// The bytes of a program header.
+pub const PROGRAM_HEADER_SIZE: usize = 56;
+
+/// A program header: what of a file stands where in memory (gABI, "Program Header").
+#[derive(Clone, Copy, Debug, PartialEq, Eq, Drop)]
+pub struct ProgramHeader {
+    /// What it is: `PT_LOAD` for what is loaded.
+    pub p_type: u32,
+    /// Its rights: the sum of `PF_X`, `PF_W` and `PF_R`.
+    pub p_flags: u32,
+    /// The offset of its contents in the file, in bytes.
+    pub p_offset: u64,
+    /// The address of its first byte in memory.
+    pub p_vaddr: u64,
+    /// The physical address, where that matters.
+    pub p_paddr: u64,
+    /// How many bytes the file has of it.
+    pub p_filesz: u64,
+    /// How many bytes of memory it has; those that the file has not are zeros.
+    pub p_memsz: u64,
+    /// Its alignment, in bytes.
+    pub p_align: u64,
+}
+
+impl ProgramHeader {
+    /// The program header at a place.
+    pub(crate) fn at(file: &[u8], place: usize) -> Self
+        requires { place + program_header_size ≤ length file.now }
+        ensures { result ≡ program_header_at place file.now }
+    {
+        ProgramHeader {
+            p_type: word(file, place, 0),
+            p_flags: word(file, place, 4),
+            p_offset: double(file, place, 8),
+            p_vaddr: double(file, place, 16),
+            p_paddr: double(file, place, 24),
+            p_filesz: double(file, place, 32),
+            p_memsz: double(file, place, 40),
+            p_align: double(file, place, 48),
+        }
+    }
+
+    /// Its bytes.
+    #[tactic(auto, unfolding(crate::specs::Records::program_header_bytes))]
+    pub(crate) fn bytes(&self) -> [u8; PROGRAM_HEADER_SIZE]
+        ensures { result ≡ program_header_bytes self.now }
+    {
+        let mut bytes = [0; PROGRAM_HEADER_SIZE];
+        LittleEndian::write_u32(&mut bytes, self.p_type);
+        LittleEndian::write_u32(&mut bytes[4..], self.p_flags);
+        LittleEndian::write_u64(&mut bytes[8..], self.p_offset);
+        LittleEndian::write_u64(&mut bytes[16..], self.p_vaddr);
+        LittleEndian::write_u64(&mut bytes[24..], self.p_paddr);
+        LittleEndian::write_u64(&mut bytes[32..], self.p_filesz);
+        LittleEndian::write_u64(&mut bytes[40..], self.p_memsz);
+        LittleEndian::write_u64(&mut bytes[48..], self.p_align);
+        bytes
+    }
+}

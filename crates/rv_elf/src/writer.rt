@@ -1,0 +1,106 @@
+//! Writes a file, record after record.
+
+ghost use Rattle.std.specs.Prelude.{◌≡◌, List, ℕ, [], ◌++◌, length, replicate, OnOk, OnErr};
+ghost use Rattle.rv_elf.specs.Records.{file_header_bytes, program_header_bytes, section_header_bytes, symbol_bytes, rela_bytes};
+
+use crate::file_header::FileHeader;
+use crate::program_header::ProgramHeader;
+use crate::rela::Rela;
+use crate::section_header::SectionHeader;
+use crate::symbol::Symbol;
+use std::alloc::{AllocError, Global};
+use std::marker::Model;
+
+/// The bytes of a file so far; clauses see these. A call that is refused leaves them as they are.
+#[derive(Debug, Drop)]
+pub struct ElfWriter {
+    bytes: Vec<u8>,
+}
+
+impl Model for ElfWriter {
+    ghost Value = { List ℕ };
+
+    ghost view = { λ writer. writer.bytes.items };
+}
+
+impl ElfWriter {
+    /// A file without bytes.
+    pub fn new(alloc: Global) -> Self
+        ensures { result ≡ [] }
+    {
+        ElfWriter {
+            bytes: Vec::new(alloc),
+        }
+    }
+
+    /// Writes the header of the file.
+    pub fn header(&mut self, header: &FileHeader) -> Result<(), AllocError>
+        ensures ok { OnOk result (self.new ≡ self.old ++ file_header_bytes header.now) }
+        ensures err { OnErr result (self.new ≡ self.old) }
+    {
+        self.raw(&header.bytes())
+    }
+
+    /// Writes a program header.
+    pub fn program(&mut self, header: &ProgramHeader) -> Result<(), AllocError>
+        ensures ok { OnOk result (self.new ≡ self.old ++ program_header_bytes header.now) }
+        ensures err { OnErr result (self.new ≡ self.old) }
+    {
+        self.raw(&header.bytes())
+    }
+
+    /// Writes a section header.
+    pub fn section_header(&mut self, header: &SectionHeader) -> Result<(), AllocError>
+        ensures ok { OnOk result (self.new ≡ self.old ++ section_header_bytes header.now) }
+        ensures err { OnErr result (self.new ≡ self.old) }
+    {
+        self.raw(&header.bytes())
+    }
+
+    /// Writes a symbol.
+    pub fn symbol(&mut self, symbol: &Symbol) -> Result<(), AllocError>
+        ensures ok { OnOk result (self.new ≡ self.old ++ symbol_bytes symbol.now) }
+        ensures err { OnErr result (self.new ≡ self.old) }
+    {
+        self.raw(&symbol.bytes())
+    }
+
+    /// Writes a relocation.
+    pub fn rela(&mut self, rela: &Rela) -> Result<(), AllocError>
+        ensures ok { OnOk result (self.new ≡ self.old ++ rela_bytes rela.now) }
+        ensures err { OnErr result (self.new ≡ self.old) }
+    {
+        self.raw(&rela.bytes())
+    }
+
+    /// Writes bytes as they are.
+    pub fn raw(&mut self, bytes: &[u8]) -> Result<(), AllocError>
+        ensures ok { OnOk result (self.new ≡ self.old ++ bytes.now) }
+        ensures err { OnErr result (self.new ≡ self.old) }
+    {
+        self.bytes.extend_from_slice(bytes)
+    }
+
+    /// Writes so many zero bytes.
+    pub fn zeros(&mut self, count: usize) -> Result<(), AllocError>
+        ensures ok { OnOk result (self.new ≡ self.old ++ replicate count 0) }
+        ensures err { OnErr result (self.new ≡ self.old) }
+    {
+        let length = self.bytes.len().checked_add(count).ok_or(AllocError)?;
+        self.bytes.resize(length, 0)
+    }
+
+    /// How many bytes there are.
+    pub fn len(&self) -> usize
+        ensures { result ≡ length self.now }
+    {
+        self.bytes.len()
+    }
+
+    /// The bytes of the file.
+    pub fn finish(self) -> Vec<u8>
+        ensures { result.items ≡ self }
+    {
+        self.bytes
+    }
+}
