@@ -4,8 +4,7 @@
 use Rattle.std.specs.Prelude.{◌≡◌, ℕ, ◌/◌, ◌%◌, ◌==◌, max, Bool, List, [], drop, map, filter, unwrap_or, Option, Some, None, if◌then◌else◌}
 use Rattle.rv_elf.specs.declared.symbol.Symbol.{Symbol as SymbolRecord}
 use Rattle.rv_elf.specs.Fields.{number_in, ei_magic, ei_class, ei_data, ei_version, e_type, e_machine, e_flags}
-use Rattle.rv_elf.specs.FirstFault.{magic}
-use Rattle.rv_elf.specs.Numbers.{et_rel, em_riscv, shn_undef, shn_abs, stb_local}
+use Rattle.rv_elf.specs.Numbers.{elfmag, et_rel, em_riscv, shn_undef, shn_abs, stb_local}
 use Rattle.rv_elf.specs.Sections.{section_of, string_at}
 use Rattle.rv_object.specs.declared.symbol.Binding.{Binding}
 use Rattle.rv_object.specs.declared.symbol.Binding.TheVariants.{Local, Global}
@@ -67,7 +66,7 @@ row_in file r = record {
 -- the file is an object of this machine, and the object has its sections, its symbols after symbol
 -- 0, its rows and its flag of compressed code
 pub record ObjectOf (file : List ℕ) (o : Object) : Type 0 where
-  pub is_elf : number_in ei_magic 0 file ≡ magic
+  pub is_elf : number_in ei_magic 0 file ≡ elfmag
   -- 64 bits, little-endian, version 1
   pub class : number_in ei_class 0 file ≡ 2
   pub order : number_in ei_data 0 file ≡ 1

@@ -35,9 +35,13 @@ is_section file i = nat_lt 0 i && nat_lt i (section_count file)
 abbrev pub has_flag : ℕ → SectionHeader → Bool
 has_flag flag h = h.sh_flags / flag % 2 == 1
 
-abbrev pub is_loaded is_executable is_writable : SectionHeader → Bool
+abbrev pub is_loaded : SectionHeader → Bool
 is_loaded h = has_flag shf_alloc h
+
+abbrev pub is_executable : SectionHeader → Bool
 is_executable h = has_flag shf_execinstr h
+
+abbrev pub is_writable : SectionHeader → Bool
 is_writable h = has_flag shf_write h
 
 -- every name is empty where no section has the names
@@ -50,8 +54,10 @@ abbrev pub is_named : List ℕ → Option (List ℕ) → Bool
 is_named name None = false
 is_named name (Some other) = bytes_eq other name
 
-abbrev pub is_symbol_table is_rela : SectionHeader → Bool
+abbrev pub is_symbol_table : SectionHeader → Bool
 is_symbol_table h = h.sh_type == sht_symtab
+
+abbrev pub is_rela : SectionHeader → Bool
 is_rela h = h.sh_type == sht_rela
 
 -- the rows of the source's statements

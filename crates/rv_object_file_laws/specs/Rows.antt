@@ -11,15 +11,27 @@ rows_name = codes ".rv.rows"
 abbrev pub row_size : ℕ
 row_size = 32
 
-abbrev pub line ordinal section instructions offset bytes reserved : Field
+abbrev pub line : Field
 line = field 0 4
+
+abbrev pub ordinal : Field
 ordinal = field 4 4
+
 -- the index of the section in the file
+abbrev pub section : Field
 section = field 8 4
+
+abbrev pub instructions : Field
 instructions = field 12 4
+
+abbrev pub offset : Field
 offset = field 16 8
+
+abbrev pub bytes : Field
 bytes = field 24 4
+
 -- always 0
+abbrev pub reserved : Field
 reserved = field 28 4
 
 pub record RowRecord : Type 0 where
