@@ -1,3 +1,5 @@
+pub mod Heading
 pub mod Laid
+pub mod Lists
 pub mod Records
 pub mod Strings
