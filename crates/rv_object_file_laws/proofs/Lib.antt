@@ -1,3 +1,4 @@
+pub mod Groups
 pub mod Heading
 pub mod Laid
 pub mod Lists

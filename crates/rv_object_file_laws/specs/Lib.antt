@@ -1,4 +1,5 @@
 pub mod FirstFault
+pub mod Known
 pub mod ObjectOf
 pub mod Parts
 pub mod Rows
