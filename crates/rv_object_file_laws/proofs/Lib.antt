@@ -6,3 +6,4 @@ pub mod Records
 pub mod Relocated
 pub mod SectionsRead
 pub mod Strings
+pub mod SymbolsRead
