@@ -2,6 +2,7 @@ pub mod Groups
 pub mod Heading
 pub mod Laid
 pub mod Lists
+pub mod Placed
 pub mod Records
 pub mod Relocated
 pub mod SectionsRead
