@@ -1,3 +1,4 @@
+pub mod Filed
 pub mod Groups
 pub mod Heading
 pub mod Laid

@@ -72,7 +72,7 @@ contents_sized (Progbits bytes) e = refl
 contents_sized (Note bytes) e = refl
 contents_sized (Nobits size) e = cc
 
-section_fine : (s : Section) → IsSection s → IsFine (section_piece s)
+pub section_fine : (s : Section) → IsSection s → IsFine (section_piece s)
 section_fine s sound = record {
   kind = kind_small s.contents;
   flags = flags_small s.writable s.loaded s.executable;
@@ -86,7 +86,7 @@ section_fine s sound = record {
 }
 
 -- a table of fewer than 2 ^ 32 sections and symbols
-table_fine : (name : List ℕ) (kind : ℕ) (bytes : List ℕ) (link info alignment entry_size : ℕ) → kind < 8 → link < 2 ^ 32 → info < 2 ^ 32 → alignment < 256 → entry_size < 256 →
+pub table_fine : (name : List ℕ) (kind : ℕ) (bytes : List ℕ) (link info alignment entry_size : ℕ) → kind < 8 → link < 2 ^ 32 → info < 2 ^ 32 → alignment < 256 → entry_size < 256 →
     is_string name ≡ true → IsFine (table_piece name kind bytes link info alignment entry_size)
 table_fine name kind bytes link info alignment entry_size low linked counted wide each string = record {
   kind = omega arith;
@@ -100,7 +100,7 @@ table_fine name kind bytes link info alignment entry_size low linked counted wid
   string = string;
 }
 
-relas_fine : (symtab index : ℕ) (ss : List Section) → symtab < 2 ^ 32 → index + length ss < 2 ^ 32 → AllByRecursion IsSection ss → AllByRecursion IsFine (rela_pieces symtab index ss)
+pub relas_fine : (symtab index : ℕ) (ss : List Section) → symtab < 2 ^ 32 → index + length ss < 2 ^ 32 → AllByRecursion IsSection ss → AllByRecursion IsFine (rela_pieces symtab index ss)
 relas_fine symtab index [] few many sound = tt
 relas_fine symtab index (s ∷ ss) few many sound =
     let rest = relas_fine symtab (suc index) ss few (omega arith) sound.1 in
@@ -110,11 +110,11 @@ relas_fine symtab index (s ∷ ss) few many sound =
           (table_fine (codes ".rela" ++ s.name) 4 _ symtab index 8 24 (omega arith) few (omega arith) (omega arith) (omega arith) sound.0.named, rest)
     ]
 
-rows_fine : (rs : List Row) → AllByRecursion IsFine (row_pieces rs)
+pub rows_fine : (rs : List Row) → AllByRecursion IsFine (row_pieces rs)
 rows_fine [] = tt
 rows_fine (r ∷ rs) = (table_fine (codes ".rv.rows") 1 _ 0 0 1 0 (omega arith) (omega arith) (omega arith) (omega arith) (omega arith) refl, tt)
 
-locals_within : (ys : List Symbol) → locals ys ≤ length ys
+pub locals_within : (ys : List Symbol) → locals ys ≤ length ys
 locals_within [] = omega arith
 locals_within (y ∷ ys) = elim (cases_Bool (is_local y)) [
   | inl e ↦ rw (cond-true (is_local y) (suc (locals ys)) 0 e) (omega (arith, locals_within ys))
@@ -161,12 +161,12 @@ piece_count o =
       length-relas (symtab_index o) 1 o.sections,
     )
 
-length-header_table : (hs : List SectionHeader) → length (flat_map section_header_bytes hs) ≡ 64 * length hs
+pub length-header_table : (hs : List SectionHeader) → length (flat_map section_header_bytes hs) ≡ 64 * length hs
 length-header_table [] = refl
 length-header_table (h ∷ hs) = omega (arith, length-append (section_header_bytes h) (flat_map section_header_bytes hs), length-section_header h, length-header_table hs)
 
 -- the bytes of the last piece, as its section has them
-last_bytes : (file : List ℕ) (names : List (List ℕ)) (i at : ℕ) (ps : List Piece) (q : Piece) → AllStand file at (ps ++ q ∷ []) →
+pub last_bytes : (file : List ℕ) (names : List (List ℕ)) (i at : ℕ) (ps : List Piece) (q : Piece) → AllStand file at (ps ++ q ∷ []) →
     Headed file i (headers_from names at (ps ++ q ∷ [])) → (q.kind == 8) ≡ false → q.size ≡ length q.bytes → section_of file (i + length ps) ≡ q.bytes
 last_bytes file names i at [] q stand headed bytes sized =
     let none : i + 0 ≡ i = omega arith in
@@ -178,11 +178,11 @@ last_bytes file names i at (p ∷ ps) q stand headed bytes sized =
     let next : i + suc (length ps) ≡ suc i + length ps = omega arith in
     ap (section_of file) next ∙ last_bytes file names (suc i) (aligned at + length p.bytes) ps q stand.1 headed.1 bytes sized
 
-all_unmapped : {X Y : Type 0} (P : Y → Type 0) (f : X → Y) (xs : List X) → AllByRecursion P (map f xs) → AllByRecursion (λ x. P (f x)) xs
+pub all_unmapped : {X Y : Type 0} (P : Y → Type 0) (f : X → Y) (xs : List X) → AllByRecursion P (map f xs) → AllByRecursion (λ x. P (f x)) xs
 all_unmapped P f [] h = tt
 all_unmapped P f (x ∷ xs) h = (h.0, all_unmapped P f xs h.1)
 
-named_all : (file : List ℕ) (names : List (List ℕ)) (at : ℕ) (ps : List Piece) → (names_section file == 0) ≡ false →
+pub named_all : (file : List ℕ) (names : List (List ℕ)) (at : ℕ) (ps : List Piece) → (names_section file == 0) ≡ false →
     section_of file (names_section file) ≡ table_of names → AllByRecursion IsFine ps → AllByRecursion (λ p. is_among p.name names ≡ true) ps → AllNamed file names at ps
 named_all file names at [] other table fine among = tt
 named_all file names at (p ∷ ps) other table fine among =
@@ -192,7 +192,7 @@ named_all file names at (p ∷ ps) other table fine among =
       named_all file names (aligned at + length p.bytes) ps other table fine.1 among.1,
     )
 
-flag_small : (b : Bool) → (if b then 1 else 0) < 2 ^ 32
+pub flag_small : (b : Bool) → (if b then 1 else 0) < 2 ^ 32
 flag_small true = omega arith
 flag_small false = omega arith
 
