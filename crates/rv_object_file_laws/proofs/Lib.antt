@@ -4,6 +4,7 @@ pub mod Heading
 pub mod Laid
 pub mod Lists
 pub mod Placed
+pub mod ReadAgain
 pub mod Records
 pub mod Relocated
 pub mod SectionsRead
