@@ -10,3 +10,4 @@ pub mod Relocated
 pub mod SectionsRead
 pub mod Strings
 pub mod SymbolsRead
+pub mod Tested
