@@ -1,3 +1,4 @@
+pub mod FaultFree
 pub mod Filed
 pub mod Groups
 pub mod Heading
