@@ -1,1 +1,2 @@
 pub mod FirstTrue
+pub mod Strings

@@ -15,8 +15,11 @@ first_true ((fails, fault) ∷ tests) = if fails then Some fault else first_true
 unfoldable pub header_tests : List ℕ → List (Bool × FileFault)
 header_tests file = (nat_lt (length file) file_header_size, Truncated)
     ∷ (not (number_in ei_magic 0 file == elfmag), BadMagic)
-    ∷ (not (number_in ei_class 0 file == elfclass64 && number_in ei_data 0 file == elfdata2lsb
-      && number_in ei_version 0 file == ev_current), WrongClass)
+    ∷ (
+      not (number_in ei_class 0 file == elfclass64 && number_in ei_data 0 file == elfdata2lsb
+          && number_in ei_version 0 file == ev_current),
+      WrongClass,
+    )
     ∷ (not (number_in e_machine 0 file == em_riscv), WrongMachine)
     -- a float ABI, in the flags 2 and 4, or the smaller register file, in the flag 8
     ∷ (not (number_in e_flags 0 file / 2 % 8 == 0), WrongMachine)
@@ -26,10 +29,16 @@ header_tests file = (nat_lt (length file) file_header_size, Truncated)
 unfoldable pub table_tests : List ℕ → List (Bool × FileFault)
 table_tests file = (nat_le shn_loreserve (section_count file), BadTable)
     ∷ (program_count file == pn_xnum, BadTable)
-    ∷ (not (program_count file == 0)
-      && not (number_in e_phentsize 0 file == program_header_size), BadTable)
-    ∷ (not (section_count file == 0)
-      && not (number_in e_shentsize 0 file == section_header_size), BadTable)
+    ∷ (
+      not (program_count file == 0)
+          && not (number_in e_phentsize 0 file == program_header_size),
+      BadTable,
+    )
+    ∷ (
+      not (section_count file == 0)
+          && not (number_in e_shentsize 0 file == section_header_size),
+      BadTable,
+    )
     ∷ (not (names_section file == 0) && nat_le (section_count file) (names_section file), BadTable)
     ∷ (is_past file (number_in e_phoff 0 file) (program_header_size * program_count file), Truncated)
     ∷ (is_past file (number_in e_shoff 0 file) (section_header_size * section_count file), Truncated)

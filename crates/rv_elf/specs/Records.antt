@@ -1,9 +1,8 @@
 -- The records of a file, as their fields make them, and the bytes of each (System V gABI, "ELF
 -- Header", "Sections", "Symbol Table", "Relocation", "Program Header").
 
-use Rattle.std.specs.Prelude.{ℕ, ℤ, List, [], ◌∷◌, ◌++◌}
-use Rattle.byteorder.specs.Endian.{twos_complement, little_bytes}
-use Rattle.std.specs.Int.{cast_unsigned, w64}
+use Rattle.std.specs.Prelude.{ℕ, List, [], ◌∷◌, ◌++◌}
+use Rattle.std.specs.Int.{cast_signed, cast_unsigned, w64}
 use Rattle.rv_elf.specs.declared.file_header.FileHeader.{FileHeader}
 use Rattle.rv_elf.specs.declared.program_header.ProgramHeader.{ProgramHeader}
 use Rattle.rv_elf.specs.declared.section_header.SectionHeader.{SectionHeader}
@@ -104,7 +103,7 @@ rela_at place bytes = record {
   r_offset = at.number_in at.r_offset place bytes;
   r_type = at.number_in at.r_type place bytes;
   r_sym = at.number_in at.r_sym place bytes;
-  r_addend = twos_complement 8 (at.number_in at.r_addend place bytes);
+  r_addend = cast_signed w64 (at.number_in at.r_addend place bytes);
 }
 
 unfoldable pub rela_bytes : Rela → List ℕ

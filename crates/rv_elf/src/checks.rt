@@ -7,8 +7,8 @@ ghost use Rattle.rv_elf.specs.Sections.{HasPrograms, HasSections, is_past, secti
 ghost use Rattle.rv_elf.specs.Numbers.{shn_loreserve};
 
 use crate::fault::FileFault;
-use crate::file_header::{FILE_HEADER_SIZE, FileHeader};
 use crate::fields::{byte, half, word};
+use crate::file_header::{FILE_HEADER_SIZE, FileHeader};
 use crate::numbers::EM_RISCV;
 use crate::program_header::PROGRAM_HEADER_SIZE;
 use crate::section_header::SECTION_HEADER_SIZE;

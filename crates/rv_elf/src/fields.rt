@@ -1,7 +1,7 @@
 //! The numbers in the fields of records, the lowest byte first.
 
 ghost use Rattle.std.specs.Prelude.{◌≡◌, ◌+◌, ◌<◌, ◌≤◌, length};
-ghost use Rattle.byteorder.specs.Endian.{twos_complement};
+ghost use Rattle.std.specs.Int.{cast_signed, w64};
 ghost use Rattle.rv_elf.specs.Fields.{field, number_in};
 
 use byteorder::{ByteOrder, LittleEndian};
@@ -43,10 +43,9 @@ pub(crate) fn double(bytes: &[u8], place: usize, offset: usize) -> u64
 }
 
 /// The eight bytes at an offset in the record at a place, as two's complement.
-#[tactic(auto, unfolding(crate::specs::Fields::number_in))]
 pub(crate) fn signed_double(bytes: &[u8], place: usize, offset: usize) -> i64
     requires { place + offset + 8 ≤ length bytes.now }
-    ensures { result ≡ twos_complement 8 (number_in (field offset 8) place bytes.now) }
+    ensures { result ≡ cast_signed w64 (number_in (field offset 8) place bytes.now) }
 {
-    LittleEndian::read_i64(&bytes[place + offset..])
+    double(bytes, place, offset).cast_signed()
 }

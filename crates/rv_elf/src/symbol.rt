@@ -36,8 +36,8 @@ impl Symbol {
     {
         let mut bytes = [0; SYMBOL_SIZE];
         LittleEndian::write_u32(&mut bytes, self.st_name);
-        bytes[4] = self.st_info;
-        bytes[5] = self.st_other;
+        bytes[4..5].copy_from_slice(&self.st_info.to_le_bytes());
+        bytes[5..6].copy_from_slice(&self.st_other.to_le_bytes());
         LittleEndian::write_u16(&mut bytes[6..], self.st_shndx);
         LittleEndian::write_u64(&mut bytes[8..], self.st_value);
         LittleEndian::write_u64(&mut bytes[16..], self.st_size);

@@ -31,6 +31,7 @@ pub struct ElfView<'a> {
 
 impl<'a> ElfView<'a> {
     /// The file of these bytes, or the first fault of its header and tables.
+    #[tactic(auto, using(crate::proofs::FirstTrue::first_true_some, crate::proofs::FirstTrue::first_true_none))]
     pub fn open(file: &'a [u8]) -> Result<ElfView<'a>, FileFault>
         ensures faults { Finds (open_tests file.now) result }
         ensures file { IfOk result (λ view. view.file.now ≡ file.now) }
