@@ -7,7 +7,7 @@ use Rattle.rv_elf.specs.declared.section_header.SectionHeader.{SectionHeader}
 use Rattle.rv_elf.specs.declared.symbol.Symbol.{Symbol}
 use Rattle.rv_elf.specs.declared.rela.Rela.{Rela}
 use Rattle.rv_elf.specs.Fields.{number_in, e_phoff, e_phnum, e_shoff, e_shnum, e_shstrndx, program_header_size, section_header_size, symbol_size, rela_size}
-use Rattle.rv_elf.specs.Numbers.{sht_nobits}
+use Rattle.rv_elf.specs.Numbers.{sht_nobits, pt_load}
 use Rattle.rv_elf.specs.Records.{program_header_at, section_header_at, symbol_at, rela_at}
 
 -- some of the size bytes at a place lie past the end of the file
@@ -52,6 +52,10 @@ HasPrograms file = 0 < program_count file →
 abbrev pub HasSections : List ℕ → Type 0
 HasSections file = 0 < section_count file →
     number_in e_shoff 0 file + section_header_size * section_count file ≤ length file
+
+-- PT_LOAD: what is loaded
+abbrev pub is_load : ProgramHeader → Bool
+is_load h = h.p_type == pt_load
 
 -- SHT_NOBITS: a section without bytes in the file
 abbrev pub is_nobits : SectionHeader → Bool
