@@ -12,7 +12,6 @@ use Rattle.rv_object.specs.Object.{Section, Object}
 use Rattle.rv_object_file_laws.specs.Parts.{FileSection, sections, numbered}
 use Rattle.rv_object_file_laws.specs.Known.{IsSection, IsObject}
 use Rattle.rv_object_file_laws.specs.Written.{Piece, table_of, aligned, contents_from, end_of, headers_from, section_piece, row_pieces, has_relocations, symtab_index, last_index, first_pieces, pieces, section_names, symbol_names, symbols_bytes, locals, file_header_of, file_of, HasFile}
-use Rattle.rv_object_file_laws.proofs.Records.{FitsHeader}
 use Rattle.rv_object_file_laws.proofs.Strings.{is_among}
 use Rattle.rv_object_file_laws.proofs.Laid.{after, length-contents, AllStand, all_stand, FitsPiece, Headed, all_headed, sections_are, headers_fit, length-headers, listed, listed-append, AllShow, IsSized, AllNamed, all_show, show-append}
 use Rattle.rv_object_file_laws.proofs.Lists.{all_append, all_mapped, all_weaker}

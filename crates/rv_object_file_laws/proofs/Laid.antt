@@ -7,12 +7,13 @@ use Rattle.std.proofs.lemmas.Bool.Decides.{nat_tests}
 use Rattle.std.proofs.lemmas.List.{drop-drop, drop_at, take_at, length-append, length-replicate, length-drop, map-id}
 use Rattle.rv_elf.specs.declared.section_header.SectionHeader.{SectionHeader}
 use Rattle.rv_elf.specs.Fields.{number_in, e_shoff, section_header_size}
+use Rattle.rv_elf.specs.ReadBack.{FitsSectionHeader, section_header_there}
 use Rattle.rv_elf.specs.Records.{section_header_at, section_header_bytes}
 use Rattle.rv_elf.specs.Sections.{records, is_past, is_nobits, contents_of, section_headers, section_header_of, section_count}
 use Rattle.rv_object_file_laws.specs.Parts.{FileSection, numbered, sections, name_of}
 use Rattle.rv_object_file_laws.specs.Written.{table_of, Piece, aligned, zeros_at, contents_from, end_of, header_of, headers_from}
 use Rattle.rv_object_file_laws.proofs.Strings.{name_offset_within}
-use Rattle.rv_object_file_laws.proofs.Records.{FitsHeader, length-section_header, section_header_back, records_back}
+use Rattle.rv_object_file_laws.proofs.Records.{length-section_header, records_back}
 
 pub aligned_up : (at : ℕ) → at ≤ aligned at
 aligned_up at = omega arith
@@ -97,7 +98,7 @@ abbrev pub Headed : List ℕ → ℕ → List SectionHeader → Type 0
 Headed file i [] = Unit {0}
 Headed file i (h ∷ hs) = (section_header_of file i ≡ h) × Headed file (suc i) hs
 
-pub all_headed : (file rest : List ℕ) (i : ℕ) (hs : List SectionHeader) → AllByRecursion FitsHeader hs →
+pub all_headed : (file rest : List ℕ) (i : ℕ) (hs : List SectionHeader) → AllByRecursion FitsSectionHeader hs →
     drop (number_in e_shoff 0 file + section_header_size * i) file ≡ flat_map section_header_bytes hs ++ rest → Headed file i hs
 all_headed file rest i [] fits here = tt
 all_headed file rest i (h ∷ hs) fits here =
@@ -107,36 +108,36 @@ all_headed file rest i (h ∷ hs) fits here =
     let next : number_in e_shoff 0 file + section_header_size * suc i ≡ place + 64 = omega arith in
     let behind : drop (number_in e_shoff 0 file + section_header_size * suc i) file ≡ tail =
     ap (λ n. drop n file) next ∙ sym (drop-drop 64 place file) ∙ ap (drop 64) whole ∙ drop_at (section_header_bytes h) tail 64 (length-section_header h) in
-    (section_header_back h place file tail fits.0 whole, all_headed file rest (suc i) hs fits.1 behind)
+    (section_header_there h place file tail fits.0 whole, all_headed file rest (suc i) hs fits.1 behind)
 
 -- the sections of a file whose table of headers begins with the header of section 0
-pub sections_are : (file null rest : List ℕ) (place : ℕ) (hs : List SectionHeader) → AllByRecursion FitsHeader hs → length null ≡ 64 →
+pub sections_are : (file null rest : List ℕ) (place : ℕ) (hs : List SectionHeader) → AllByRecursion FitsSectionHeader hs → length null ≡ 64 →
     number_in e_shoff 0 file ≡ place → section_count file ≡ suc (length hs) →
     drop place file ≡ null ++ (flat_map section_header_bytes hs ++ rest) → sections file ≡ numbered 1 hs
 sections_are file null rest place hs fits size start count here =
     let behind : drop (place + 64) file ≡ flat_map section_header_bytes hs ++ rest =
     sym (drop-drop 64 place file) ∙ ap (drop 64) here ∙ drop_at null (flat_map section_header_bytes hs ++ rest) 64 size in
     let all : records section_header_at 64 (length hs) (place + 64) file ≡ hs =
-    records_back section_header_at 64 section_header_bytes (λ h. h) FitsHeader length-section_header section_header_back hs (place + 64) file rest fits behind ∙ map-id hs in
+    records_back section_header_at 64 section_header_bytes (λ h. h) FitsSectionHeader length-section_header section_header_there hs (place + 64) file rest fits behind ∙ map-id hs in
     (λ i. drop 1 (numbered 0 (records section_header_at 64 (count i) (start i) file))) ∙ ap (numbered 1) all
 
 pub headers_fit : (names : List (List ℕ)) (at : ℕ) (ps : List Piece) → length (table_of names) < 2 ^ 32 → AllByRecursion FitsPiece ps → end_of at ps < 2 ^ 64 →
-    AllByRecursion FitsHeader (headers_from names at ps)
+    AllByRecursion FitsSectionHeader (headers_from names at ps)
 headers_fit names at [] small fits room = tt
 headers_fit names at (p ∷ ps) small fits room =
     let next = aligned at + length p.bytes in
     (
       record {
-        name = omega (arith, small, name_offset_within names p.name);
-        kind = fits.0.kind;
-        flags = fits.0.flags;
-        address = omega arith;
-        offset = omega (arith, room, end_after next ps);
-        size = fits.0.size;
-        link = fits.0.link;
-        info = fits.0.info;
-        alignment = fits.0.alignment;
-        entry_size = fits.0.entry_size;
+        sh_name = omega (arith, small, name_offset_within names p.name);
+        sh_type = fits.0.kind;
+        sh_flags = fits.0.flags;
+        sh_addr = omega arith;
+        sh_offset = omega (arith, room, end_after next ps);
+        sh_size = fits.0.size;
+        sh_link = fits.0.link;
+        sh_info = fits.0.info;
+        sh_addralign = fits.0.alignment;
+        sh_entsize = fits.0.entry_size;
       },
       headers_fit names next ps small fits.1 room,
     )

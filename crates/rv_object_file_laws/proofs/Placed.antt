@@ -15,7 +15,7 @@ use Rattle.rv_object.specs.declared.row.Row.{Row}
 use Rattle.rv_object_file_laws.specs.Parts.{sections, numbered, name_of}
 use Rattle.rv_object_file_laws.specs.Known.{IsSection, IsObject}
 use Rattle.rv_object_file_laws.specs.Written.{name_offset, Piece, table_of, table_piece, aligned, contents_from, end_of, header_of, headers_from, kind_of, flag_if, flags_of, section_piece, rela_pieces, row_pieces, has_relocations, symtab_index, last_index, first_pieces, pieces, section_names, symbol_names, symbols_bytes, is_local, locals, file_header_of, file_of, HasFile}
-use Rattle.rv_object_file_laws.proofs.Records.{FitsHeader, length-section_header}
+use Rattle.rv_object_file_laws.proofs.Records.{length-section_header}
 use Rattle.rv_object_file_laws.proofs.Strings.{is_among, name_back}
 use Rattle.rv_object_file_laws.proofs.Laid.{after, end_after, length-contents, Stands, AllStand, all_stand, not_past, FitsPiece, Headed, all_headed, sections_are, headers_fit, length-headers, listed, listed-append, Shows, AllShow, IsSized, AllNamed, all_show, show-append}
 use Rattle.rv_object_file_laws.proofs.Lists.{all_append, all_mapped, all_weaker}

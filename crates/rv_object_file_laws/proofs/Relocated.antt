@@ -9,13 +9,14 @@ use Rattle.rv_isa.specs.declared.kind.Kind.TheVariants as kinds
 use Rattle.rv_isa.specs.Kinds.{number_of}
 use Rattle.rv_elf.specs.declared.rela.Rela.{Rela}
 use Rattle.rv_elf.specs.Fields.{rela_size}
+use Rattle.rv_elf.specs.ReadBack.{FitsRela, rela_there}
 use Rattle.rv_elf.specs.Records.{rela_at, rela_bytes}
 use Rattle.rv_elf.specs.Sections.{records, relas_in, contents_of}
 use Rattle.rv_object.specs.Object.{Relocation, Section}
 use Rattle.rv_object_file_laws.specs.Parts.{FileSection, kind_numbered, symbol_index, relocation_by, relocation_in, relocations_in, relocates, relas_of}
 use Rattle.rv_object_file_laws.specs.Known.{IsRelocation}
 use Rattle.rv_object_file_laws.specs.Written.{Piece, aligned, table_piece, symbol_number, rela_of, relocations_bytes, rela_pieces, header_of}
-use Rattle.rv_object_file_laws.proofs.Records.{FitsRela, length-rela, rela_back, records_back}
+use Rattle.rv_object_file_laws.proofs.Records.{length-rela, records_back}
 use Rattle.rv_object_file_laws.proofs.Laid.{listed, Shows, AllShow}
 use Rattle.rv_object_file_laws.proofs.Groups.{entry}
 
@@ -108,10 +109,10 @@ pub record FitsRelocation (count : ℕ) (r : Relocation) : Type 0 where
 
 rela_fits : (count : ℕ) (r : Relocation) → count < 2 ^ 32 → FitsRelocation count r → FitsRela (rela_of r)
 rela_fits count r few fits = record {
-  place = fits.known.offset;
-  kind = kind_small r.kind;
-  symbol = omega (arith, fits.below);
-  addend = fits.known.amount;
+  r_offset = fits.known.offset;
+  r_type = kind_small r.kind;
+  r_sym = omega (arith, fits.below);
+  r_addend = fits.known.amount;
 }
 
 pub length-relocations : (rs : List Relocation) → length (relocations_bytes rs) ≡ 24 * length rs
@@ -124,7 +125,7 @@ relas_read count rs few fits =
     let many : length bytes / 24 ≡ length rs = omega (arith, length-relocations rs) in
     ap (λ n. records rela_at rela_size n 0 bytes) many
     ∙ records_back rela_at 24 (λ r. rela_bytes (rela_of r)) rela_of (FitsRelocation count) (λ r. length-rela (rela_of r))
-    (λ r place table rest fit here. rela_back (rela_of r) place table rest (rela_fits count r few fit) here)
+    (λ r place table rest fit here. rela_there (rela_of r) place table rest (rela_fits count r few fit) here)
     rs 0 bytes [] fits (sym (append-nil bytes))
 
 -- ---- the relocations of a section, by its index

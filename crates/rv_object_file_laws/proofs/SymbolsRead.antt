@@ -10,6 +10,7 @@ use Rattle.std.proofs.lemmas.Slice.Eq.{bytes_eq-Decides}
 use Rattle.rv_map.specs.Name.{is_name, is_name_byte}
 use Rattle.rv_elf.specs.declared.symbol.Symbol.{Symbol as SymbolRecord}
 use Rattle.rv_elf.specs.Fields.{symbol_size}
+use Rattle.rv_elf.specs.ReadBack.{FitsSymbol, symbol_there}
 use Rattle.rv_elf.specs.Records.{symbol_at, symbol_bytes}
 use Rattle.rv_elf.specs.Sections.{records, symbols_in, string_at}
 use Rattle.rv_object.specs.declared.symbol.Binding.{Binding}
@@ -24,7 +25,7 @@ use Rattle.rv_object_file_laws.specs.Parts.{FileSection, kept, kept_at, kept_bef
 use Rattle.rv_object_file_laws.specs.ObjectOf.{names_of, binding_in, definition_in, definition_by, symbol_in, row_in}
 use Rattle.rv_object_file_laws.specs.Known.{IsSymbol, IsRow}
 use Rattle.rv_object_file_laws.specs.Written.{Piece, aligned, section_piece, name_offset, table_of, binding_number, home_of, value_of, symbol_record, symbols_bytes, symbol_names, row_record}
-use Rattle.rv_object_file_laws.proofs.Records.{FitsSymbol, length-symbol, symbol_back, FitsRow, length-row, row_back, records_back}
+use Rattle.rv_object_file_laws.proofs.Records.{length-symbol, FitsRow, length-row, row_back, records_back}
 use Rattle.rv_object_file_laws.proofs.Strings.{is_among, name_back, name_offset_within}
 use Rattle.rv_object_file_laws.proofs.Laid.{listed}
 use Rattle.rv_object_file_laws.proofs.Groups.{entry, find_beyond, count_before}
@@ -160,12 +161,12 @@ binding_small Global = omega arith
 pub symbol_fits : (count last : ℕ) (strings : List (List ℕ)) (s : Symbol) → count < last → last < 0xFF00 → length (table_of strings) < 2 ^ 32 →
     FitsName count strings s → FitsSymbol (symbol_record strings last s)
 symbol_fits count last strings s high few small fits = record {
-  name = omega (arith, name_offset_within strings s.name);
-  info = binding_small s.binding;
-  other = omega arith;
-  section = home_small count last s.definition high few fits.inside;
-  value = fits.known.value;
-  size = omega arith;
+  st_name = omega (arith, name_offset_within strings s.name);
+  st_info = binding_small s.binding;
+  st_other = omega arith;
+  st_shndx = home_small count last s.definition high few fits.inside;
+  st_value = fits.known.value;
+  st_size = omega arith;
 }
 
 abbrev pub table_bytes : List (List ℕ) → ℕ → List Symbol → List ℕ
@@ -193,7 +194,7 @@ symbols_read count last o high few small fits =
     ap (λ n. records symbol_at symbol_size n 0 bytes) many
     ∙ ap (λ ss. symbol_at 0 bytes ∷ ss) (records_back symbol_at 24 (λ s. symbol_bytes (symbol_record strings last s)) (symbol_record strings last) (FitsName count strings)
     (λ s. length-symbol (symbol_record strings last s))
-    (λ s place all rest fit stands. symbol_back (symbol_record strings last s) place all rest (symbol_fits count last strings s high few small fit) stands)
+    (λ s place all rest fit stands. symbol_there (symbol_record strings last s) place all rest (symbol_fits count last strings s high few small fit) stands)
     o.symbols 24 bytes [] fits here)
 
 -- ---- rows

@@ -6,3 +6,7 @@
 //!
 //! Source: System V gABI; RISC-V ELF psABI; this project's order of sections and of refusals.
 #![tactic(auto)]
+
+mod law;
+
+pub use law::{one_object, written_object_is_read};
