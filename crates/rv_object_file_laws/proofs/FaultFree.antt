@@ -1,38 +1,35 @@
 -- A written file has no fault.
 
-use Rattle.std.proofs.Common.{◌≡◌, ℕ, zero, suc, ◌+◌, ◌-◌, ◌*◌, ◌/◌, ◌%◌, ◌<◌, ◌≤◌, ◌^◌, ◌==◌, nat_lt, nat_le, Bool, true, false, not, ◌&&◌, ◌||◌, List, [], ◌∷◌, ◌++◌, length, drop, map, filter, flat_map, codes, Option, Some, None, refl, ap, sym, subst, ◌∙◌, arith, inl, inr, append_assoc, append-nil, if◌then◌else◌, IsTrue}
+use Rattle.std.proofs.Common.{◌≡◌, ℕ, suc, ◌+◌, ◌/◌, ◌%◌, ◌<◌, ◌≤◌, ◌^◌, ◌==◌, nat_le, Bool, true, false, not, ◌&&◌, ◌||◌, List, [], ◌∷◌, ◌++◌, length, drop, map, filter, flat_map, codes, Some, None, refl, ap, sym, subst, ◌∙◌, arith, inl, inr, append_assoc, append-nil, if◌then◌else◌}
 use Rattle.std.specs.List.{AllByRecursion, list_any, list_all, slice_get}
-use Rattle.std.proofs.lemmas.Bool.{cases_Bool, cond-true, cond-false, and_left, and_right, and_parts, and_from, or_left, or_right, or_from, not_from_true, lt-ltb, eq-eqb, ne_eqb, false≢true}
-use Rattle.std.proofs.lemmas.Bool.Decides.{nat_tests}
+use Rattle.std.proofs.lemmas.Bool.{cases_Bool, cond-true, cond-false, and_left, and_right, and_parts, and_from, or_right, not_from_true, lt-ltb, eq-eqb, ne_eqb}
 use Rattle.std.proofs.lemmas.List.{length-map}
 use Rattle.std.proofs.lemmas.List.Elements.{filter-append}
-use Rattle.std.proofs.lemmas.List.Folds.{list_any-append}
 use Rattle.rv_elf.specs.declared.fault.FileFault.{FileFault}
 use Rattle.rv_elf.specs.declared.fault.FileFault.TheVariants.{Truncated, BadTable, BadString, BadIndex, UnsupportedSection, NotObject}
 use Rattle.rv_elf.specs.declared.section_header.SectionHeader.{SectionHeader}
-use Rattle.rv_elf.specs.declared.rela.Rela.{Rela}
 use Rattle.rv_elf.specs.Fields.{number_in, e_type}
 use Rattle.rv_elf.specs.FirstFault.{first_true, header_tests, table_tests}
 use Rattle.rv_elf.specs.Sections.{is_past, section_count, section_header_of, section_of, contents_of, symbols_in, relas_in}
 use Rattle.rv_object.specs.declared.row.Row.{Row}
-use Rattle.rv_object.specs.Object.{Contents, Progbits, Note, Nobits, Relocation, Section, Symbol, Object, size_of, stored}
-use Rattle.rv_object.specs.Valid.{is_alignment, is_even, is_row_in}
+use Rattle.rv_object.specs.Object.{Contents, Progbits, Note, Nobits, Section, Object, size_of, stored}
+use Rattle.rv_object.specs.Valid.{is_alignment, is_row_in}
 use Rattle.rv_object_file_laws.specs.Rows.{rows_in, rows_name, row_bytes}
 use Rattle.rv_object_file_laws.specs.Parts.{FileSection, name_of, sections, is_section, is_loaded, is_executable, is_symbol_table, is_rela, is_rows, symbol_table, symbols_of, symbol_records, relocates, relas_of, relocations_in}
 use Rattle.rv_object_file_laws.specs.ObjectOf.{names_of}
 use Rattle.rv_object_file_laws.specs.FirstFault.{is_rela_linked, is_none, record_size, is_of, is_linked, is_unsupported, section_tests, symbol_tests, row_tests, relocations_tests, rela_tests, records_tests, sections_tests, object_tests, first_fault}
 use Rattle.rv_object_file_laws.specs.Known.{IsSection, IsObject}
-use Rattle.rv_object_file_laws.specs.Written.{relocations_bytes, table_piece, Piece, table_of, aligned, kind_of, flag_if, section_piece, rela_of, rela_pieces, row_pieces, row_record, header_of, symtab_index, last_index, section_names, symbol_names, symbols_bytes, symbol_record, pieces, file_header_of, file_of, HasFile}
+use Rattle.rv_object_file_laws.specs.Written.{relocations_bytes, table_piece, Piece, table_of, aligned, kind_of, section_piece, rela_pieces, row_pieces, row_record, header_of, symtab_index, last_index, section_names, symbol_names, symbols_bytes, symbol_record, file_header_of, file_of, HasFile}
 use Rattle.rv_object_file_laws.proofs.Laid.{listed, Shows, AllShow}
 use Rattle.rv_object_file_laws.proofs.Lists.{all_append, all_mapped, all_weaker, any_none, filter_none, first_true_none, flat_map_none}
 use Rattle.rv_object_file_laws.proofs.Heading.{header_sound, table_sound}
 use Rattle.rv_object_file_laws.proofs.Groups.{entry, piece_rows, rows_seen, section_answers}
-use Rattle.rv_object_file_laws.proofs.Relocated.{FitsRelocation, FitsFields, length-relocations, relas_read, rela_piece}
+use Rattle.rv_object_file_laws.proofs.Relocated.{FitsFields, length-relocations, relas_read, rela_piece}
 use Rattle.rv_object_file_laws.proofs.SectionsRead.{flag_bits}
 use Rattle.rv_object_file_laws.proofs.SymbolsRead.{KeepsSections, at_back, length-symbols, length-rows, rows_read, FitsIn}
-use Rattle.rv_object_file_laws.proofs.Placed.{symtab_piece, strtab_piece, names_piece, tables, rela_group}
-use Rattle.rv_object_file_laws.proofs.Filed.{IsFiled, IsSmall, small_of, filed}
-use Rattle.rv_object_file_laws.proofs.ReadAgain.{row_has, section_list, rela_list, row_list, table_list, Sorted, sorted, Read, read_of}
+use Rattle.rv_object_file_laws.proofs.Placed.{symtab_piece, strtab_piece, names_piece, rela_group}
+use Rattle.rv_object_file_laws.proofs.Filed.{IsFiled, small_of, filed}
+use Rattle.rv_object_file_laws.proofs.ReadAgain.{row_has, section_list, rela_list, row_list, table_list, sorted, Read, read_of}
 use Rattle.rv_object_file_laws.proofs.Tested.{relocations_sound, symbols_sound, row_sound}
 
 -- ---- sections, one after the other
@@ -106,14 +103,13 @@ plain_passes file names i at p before shows plain =
     let h : SectionHeader = header_of names at p in
     let rows = rows_seen file names i at p shows ∙ plain.no_rows in
     let one : record_size file h ≡ 1 = plain_size (p.kind == 2) (p.kind == 4) (is_rows file h) plain.no_symbols plain.no_relas rows in
-    let whole : p.size % 1 ≡ 0 = omega arith in
-    (
+    let whole : p.size % 1 ≡ 0 = omega arith in (
       one_header file names i at p before shows (and_left _ _ plain.no_symbols) (and_left _ _ rows) (ap (λ n. p.size % n) one ∙ whole) plain.power plain.even
-      (plain_linked (p.kind == 2) (p.kind == 4) (is_section file p.link) (is_rela_linked file h) plain.no_symbols plain.no_relas)
-      plain.supported,
+          (plain_linked (p.kind == 2) (p.kind == 4) (is_section file p.link) (is_rela_linked file h) plain.no_symbols plain.no_relas)
+          plain.supported,
       ap first_true (plain_records (p.kind == 2) (p.kind == 4) (is_rows file h)
-        (flat_map (symbol_tests file (section_of file p.link)) (drop 1 (symbols_in (contents_of file h)))) (rela_tests file before h) (flat_map (row_tests file) (rows_in (contents_of file h)))
-        plain.no_symbols plain.no_relas rows),
+          (flat_map (symbol_tests file (section_of file p.link)) (drop 1 (symbols_in (contents_of file h)))) (rela_tests file before h) (flat_map (row_tests file) (rows_in (contents_of file h)))
+          plain.no_symbols plain.no_relas rows),
     )
 
 plains_pass : (file : List ℕ) (names : List (List ℕ)) (i at : ℕ) (ps : List Piece) (before : List FileSection) → AllShow file names i at ps → AllByRecursion Plain ps →
@@ -193,10 +189,9 @@ rela_passes : (file : List ℕ) (names : List (List ℕ)) (symtab count index i 
     × (first_true (records_tests file before (header_of names at (rela_piece symtab index s))) ≡ None)
 rela_passes file names symtab count index i at s before symbols shows place home sound fits none low high =
     let whole : length (relocations_bytes s.relocations) % 24 ≡ 0 = omega (arith, length-relocations s.relocations) in
-    let table : is_of (symbol_table file) symtab ≡ true = ap (λ t. is_of t symtab) symbols.found ∙ eq-eqb symbols.table.index symtab symbols.index in
-    (
+    let table : is_of (symbol_table file) symtab ≡ true = ap (λ t. is_of t symtab) symbols.found ∙ eq-eqb symbols.table.index symtab symbols.index in (
       one_header file names i at (rela_piece symtab index s) before shows refl refl whole refl refl
-      (and_from _ _ (and_from _ _ (is_there file symtab symbols.above symbols.below) (is_there file index low high)) (or_right _ _ table)) refl,
+          (and_from _ _ (and_from _ _ (is_there file symtab symbols.above symbols.below) (is_there file index low high)) (or_right _ _ table)) refl,
       relocations_pass file names symtab count index i at s before symbols shows place home sound fits none,
     )
 
@@ -221,9 +216,8 @@ relas_pass file names symtab count index i at (s ∷ ss) before symbols shows ho
           let next = aligned at + length (relocations_bytes s.relocations) in
           let nothing : (k : ℕ) → suc index ≤ k → filter (relocates k) (before ++ here ∷ []) ≡ [] =
           (λ k above. filter-append (relocates k) before (here ∷ [])
-            ∙ (λ j. none k (omega arith) j ++ cond-false (index == k) (here ∷ []) [] (ne_eqb index k (λ q. omega arith)) j)) in
-          subst (λ ps. Passes file before (listed names i at ps)) (sym same)
-          (
+          ∙ (λ j. none k (omega arith) j ++ cond-false (index == k) (here ∷ []) [] (ne_eqb index k (λ q. omega arith)) j)) in
+          subst (λ ps. Passes file before (listed names i at ps)) (sym same) (
             one.0,
             one.1,
             relas_pass file names symtab count (suc index) (suc i) next ss (before ++ here ∷ []) symbols shown.1 homes.1 sound.1 fits.1 nothing (omega arith) (omega arith),
@@ -239,10 +233,9 @@ rows_fine file names ss (r ∷ rs) keeps h =
     let both = and_parts (is_row_in r (slice_get ss r.section)) (list_all (λ r. is_row_in r (slice_get ss r.section)) rs) h in
     let one = row_has r (slice_get ss r.section) both.0 in
     let here = at_back file names ss r.section one.0 keeps one.1 in
-    let bits = flag_bits one.0.writable one.0.loaded one.0.executable in
-    (
+    let bits = flag_bits one.0.writable one.0.loaded one.0.executable in (
       row_sound file r (entry names (suc r.section) here.0 (section_piece one.0)) here.1
-      (ap (λ b. b && nat_le (r.offset + r.bytes) (size_of one.0.contents)) bits.0 ∙ sym (ap (is_row_in r) one.1) ∙ both.0),
+          (ap (λ b. b && nat_le (r.offset + r.bytes) (size_of one.0.contents)) bits.0 ∙ sym (ap (is_row_in r) one.1) ∙ both.0),
       rows_fine file names ss rs keeps both.1,
     )
 
@@ -256,13 +249,12 @@ rows_pass file names i at count (r ∷ rs) before few shows fits fine none =
     let h : SectionHeader = header_of names at p in
     let rows : is_rows file h ≡ true = rows_seen file names i at p shows.0 in
     let size : record_size file h ≡ 32 = cond-true (is_rows file h) 32 1 rows in
-    let whole : p.size % 32 ≡ 0 = omega (arith, length-rows (r ∷ rs)) in
-    (
+    let whole : p.size % 32 ≡ 0 = omega (arith, length-rows (r ∷ rs)) in (
       one_header file names i at p before shows.0 refl (and_right _ _ none) (ap (λ n. p.size % n) size ∙ whole) refl refl refl refl,
       ap first_true (cond-true (is_rows file h) (flat_map (row_tests file) (rows_in (contents_of file h))) [] rows)
-      ∙ ap (λ t. first_true (flat_map (row_tests file) (rows_in t))) (shows.0.contents refl)
-      ∙ ap (λ t. first_true (flat_map (row_tests file) t)) (rows_read count (r ∷ rs) few fits)
-      ∙ flat_map_none (row_tests file) (map row_record (r ∷ rs)) fine,
+          ∙ ap (λ t. first_true (flat_map (row_tests file) (rows_in t))) (shows.0.contents refl)
+          ∙ ap (λ t. first_true (flat_map (row_tests file) t)) (rows_read count (r ∷ rs) few fits)
+          ∙ flat_map_none (row_tests file) (map row_record (r ∷ rs)) fine,
       tt,
     )
 
@@ -287,12 +279,11 @@ tables_pass o file before has f r count none =
     let read : symbols_in (contents_of file (header_of names at p)) ≡ _ = sym (ap (symbols_of file) r.symbols) ∙ r.records in
     let table : section_of file (i + 1) ≡ table_of strings = sym (ap (names_of file) r.symbols) ∙ r.strings in
     let rest = plains_pass file names (suc i) (aligned at + length p.bytes) (strtab_piece o ∷ names_piece o ∷ []) (before ++ first ∷ []) f.show_tables.1
-    (strings_plain (codes ".strtab") (table_of strings), (strings_plain (codes ".shstrtab") (table_of names), tt)) in
-    (
+    (strings_plain (codes ".strtab") (table_of strings), (strings_plain (codes ".shstrtab") (table_of names), tt)) in (
       one_header file names i at p before f.show_tables.0 none refl whole refl refl (is_there file (i + 1) (omega arith) (omega (arith, count))) refl,
       ap (λ ss. first_true (flat_map (symbol_tests file (section_of file (i + 1))) (drop 1 ss))) read
-      ∙ flat_map_none (symbol_tests file (section_of file (i + 1))) (map (symbol_record strings (last_index o)) o.symbols)
-      (symbols_sound file (length o.sections) (last_index o) (suc (last_index o)) strings (section_of file (i + 1)) o.symbols count (omega (arith, groups)) (omega arith) table r.named),
+          ∙ flat_map_none (symbol_tests file (section_of file (i + 1))) (map (symbol_record strings (last_index o)) o.symbols)
+          (symbols_sound file (length o.sections) (last_index o) (suc (last_index o)) strings (section_of file (i + 1)) o.symbols count (omega (arith, groups)) (omega arith) table r.named),
       rest,
     )
 

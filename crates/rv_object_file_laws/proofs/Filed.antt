@@ -1,6 +1,6 @@
 -- The written file of an object: its header, and its sections in four groups, each of which shows its pieces.
 
-use Rattle.std.proofs.Common.{◌≡◌, ℕ, zero, suc, ◌+◌, ◌-◌, ◌*◌, ◌<◌, ◌≤◌, ◌^◌, ◌==◌, Bool, true, false, List, [], ◌∷◌, ◌++◌, length, drop, map, replicate, filter, flat_map, codes, refl, ap, sym, subst, ◌∙◌, arith, append_assoc, append-nil}
+use Rattle.std.proofs.Common.{◌≡◌, ℕ, suc, ◌+◌, ◌*◌, ◌<◌, ◌≤◌, ◌^◌, ◌==◌, true, List, [], ◌∷◌, ◌++◌, length, drop, map, replicate, flat_map, codes, refl, ap, sym, subst, ◌∙◌, arith, append-nil}
 use Rattle.std.specs.List.{AllByRecursion}
 use Rattle.std.proofs.lemmas.Bool.{ne_eqb}
 use Rattle.std.proofs.lemmas.List.{length-append, length-replicate, length-map, map-append, drop-drop, drop_at}
@@ -8,16 +8,16 @@ use Rattle.rv_elf.specs.declared.section_header.SectionHeader.{SectionHeader}
 use Rattle.rv_elf.specs.Fields.{number_in, e_shoff}
 use Rattle.rv_elf.specs.Records.{file_header_bytes, section_header_bytes}
 use Rattle.rv_elf.specs.Sections.{names_section, section_of, section_count}
-use Rattle.rv_object.specs.Object.{Section, Object}
-use Rattle.rv_object_file_laws.specs.Parts.{FileSection, sections, numbered}
+use Rattle.rv_object.specs.Object.{Object}
+use Rattle.rv_object_file_laws.specs.Parts.{sections}
 use Rattle.rv_object_file_laws.specs.Known.{IsSection, IsObject}
-use Rattle.rv_object_file_laws.specs.Written.{Piece, table_of, aligned, contents_from, end_of, headers_from, section_piece, row_pieces, has_relocations, symtab_index, last_index, first_pieces, pieces, section_names, symbol_names, symbols_bytes, locals, file_header_of, file_of, HasFile}
+use Rattle.rv_object_file_laws.specs.Written.{Piece, table_of, contents_from, end_of, headers_from, section_piece, row_pieces, symtab_index, last_index, first_pieces, pieces, section_names, symbol_names, symbols_bytes, locals, file_header_of, file_of, HasFile}
 use Rattle.rv_object_file_laws.proofs.Strings.{is_among}
-use Rattle.rv_object_file_laws.proofs.Laid.{after, length-contents, AllStand, all_stand, FitsPiece, Headed, all_headed, sections_are, headers_fit, length-headers, listed, listed-append, AllShow, IsSized, AllNamed, all_show, show-append}
+use Rattle.rv_object_file_laws.proofs.Laid.{after, length-contents, all_stand, Headed, all_headed, sections_are, headers_fit, length-headers, listed, listed-append, AllShow, IsSized, all_show, show-append}
 use Rattle.rv_object_file_laws.proofs.Lists.{all_append, all_mapped, all_weaker}
-use Rattle.rv_object_file_laws.proofs.Heading.{FitsFileHeader, ReadsHeader, length-file_header, file_header_back}
+use Rattle.rv_object_file_laws.proofs.Heading.{ReadsHeader, length-file_header, file_header_back}
 use Rattle.rv_object_file_laws.proofs.Groups.{length-relas}
-use Rattle.rv_object_file_laws.proofs.Placed.{IsFine, pieces_fit, section_fine, table_fine, relas_fine, rows_fine, locals_within, symtab_piece, strtab_piece, names_piece, tables, rela_group, four_groups, piece_count, length-header_table, last_bytes, all_unmapped, named_all, flag_small}
+use Rattle.rv_object_file_laws.proofs.Placed.{IsFine, pieces_fit, section_fine, table_fine, relas_fine, rows_fine, locals_within, names_piece, tables, rela_group, four_groups, piece_count, length-header_table, last_bytes, all_unmapped, named_all, flag_small}
 use Rattle.rv_object_file_laws.proofs.SymbolsRead.{all_among}
 
 -- what is read of the sections of a written file
@@ -62,7 +62,7 @@ groups_filed o file all shows reads long starts =
       at_tables = at₄;
       all = all ∙ ap (listed names 1 64) groups ∙ listed-append names 1 64 p₁ (p₂ ++ (p₃ ++ p₄))
           ∙ ap (λ ss. listed names 1 64 p₁ ++ ss) (listed-append names (1 + length p₁) at₂ p₂ (p₃ ++ p₄)
-            ∙ ap (λ ss. listed names (1 + length p₁) at₂ p₂ ++ ss) (listed-append names (1 + length p₁ + length p₂) at₃ p₃ p₄))
+          ∙ ap (λ ss. listed names (1 + length p₁) at₂ p₂ ++ ss) (listed-append names (1 + length p₁ + length p₂) at₃ p₃ p₄))
           ∙ (λ i. listed names 1 64 p₁ ++ (listed names (i₂ i) at₂ p₂ ++ (listed names (i₃ i) at₃ p₃ ++ listed names (i₄ i) at₄ p₄)));
       show_sections = one.0;
       show_relas = subst (λ n. AllShow file names n at₂ p₂) i₂ two.0;
@@ -100,8 +100,8 @@ all_fine o known has =
     let shstrtab = table_fine (codes ".shstrtab") 3 (table_of (section_names o)) 0 0 1 0 (omega arith) (omega arith) (omega arith) (omega arith) (omega arith) refl in
     subst (AllByRecursion IsFine) (sym (four_groups o))
     (all_append IsFine p₁ (p₂ ++ (p₃ ++ tables o)) (all_mapped IsSection IsFine section_piece section_fine o.sections known.all_sections)
-      (all_append IsFine p₂ (p₃ ++ tables o) (relas_fine (symtab_index o) 1 o.sections (omega (arith, last)) (omega (arith, groups, last)) known.all_sections)
-        (all_append IsFine p₃ (tables o) (rows_fine o.rows) (symtab, (strtab, (shstrtab, tt))))))
+    (all_append IsFine p₂ (p₃ ++ tables o) (relas_fine (symtab_index o) 1 o.sections (omega (arith, last)) (omega (arith, groups, last)) known.all_sections)
+    (all_append IsFine p₃ (tables o) (rows_fine o.rows) (symtab, (strtab, (shstrtab, tt))))))
 
 all_named : (o : Object) → AllByRecursion (λ p. is_among p.name (section_names o) ≡ true) (pieces o)
 all_named o =

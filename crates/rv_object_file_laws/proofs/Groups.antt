@@ -1,16 +1,15 @@
 -- The sections that the parts of an object become, group by group, and what tests say of them.
 
-use Rattle.std.proofs.Common.{◌≡◌, ℕ, zero, suc, ◌+◌, ◌-◌, ◌<◌, ◌≤◌, ◌==◌, nat_lt, Bool, true, false, not, ◌&&◌, ◌||◌, List, [], ◌∷◌, ◌++◌, length, map, filter, codes, Option, Some, None, refl, ap, sym, subst, ◌∙◌, arith, inl, inr, bytes_eq}
+use Rattle.std.proofs.Common.{◌≡◌, ℕ, suc, ◌+◌, ◌-◌, ◌<◌, ◌≤◌, ◌==◌, nat_lt, Bool, true, false, not, ◌&&◌, ◌||◌, List, [], ◌∷◌, length, map, filter, Some, None, refl, ap, sym, ◌∙◌, arith, inl, inr, bytes_eq}
 use Rattle.std.specs.List.{AllByRecursion, find}
-use Rattle.std.proofs.lemmas.Bool.{eqb-true, eqb-false, ltb-true, ltb-false, cases_Bool, cond-true, cond-false, not-true, eq-eqb, ne_eqb, lt-ltb, le-ltb}
-use Rattle.std.proofs.lemmas.Bool.Decides.{nat_tests}
+use Rattle.std.proofs.lemmas.Bool.{eqb-true, eqb-false, ltb-true, ltb-false, cases_Bool, cond-true, cond-false, not-true, ne_eqb}
 use Rattle.rv_object.specs.Object.{Contents, Progbits, Note, Nobits, Section}
 use Rattle.rv_object.specs.Valid.{keeps_name}
 use Rattle.rv_object.specs.declared.row.Row.{Row}
 use Rattle.rv_object_file_laws.specs.Rows.{rows_name}
-use Rattle.rv_object_file_laws.specs.Parts.{FileSection, numbered, is_named, is_rows, is_kept, is_index, is_symbol_table, is_rela, name_of}
+use Rattle.rv_object_file_laws.specs.Parts.{FileSection, is_named, is_rows, is_kept, is_index}
 use Rattle.rv_object_file_laws.specs.Known.{IsSection}
-use Rattle.rv_object_file_laws.specs.Written.{Piece, aligned, kind_of, section_piece, rela_pieces, row_pieces, header_of, headers_from, has_relocations}
+use Rattle.rv_object_file_laws.specs.Written.{Piece, aligned, kind_of, section_piece, rela_pieces, row_pieces, header_of, has_relocations}
 use Rattle.rv_object_file_laws.proofs.Laid.{listed, Shows, AllShow}
 use Rattle.rv_object_file_laws.proofs.Lists.{all_mapped}
 

@@ -1,15 +1,15 @@
 -- Where the contents and the headers of a written file stand.
 
-use Rattle.std.proofs.Common.{◌≡◌, ℕ, zero, suc, ◌+◌, ◌-◌, ◌*◌, ◌/◌, ◌<◌, ◌≤◌, ◌^◌, ◌==◌, Bool, true, false, not, ◌&&◌, ◌||◌, List, [], ◌∷◌, ◌++◌, length, take, drop, map, replicate, flat_map, Option, Some, None, refl, ap, sym, subst, ◌∙◌, append_assoc, append-nil, arith, inl, inr}
+use Rattle.std.proofs.Common.{◌≡◌, ℕ, suc, ◌+◌, ◌-◌, ◌*◌, ◌<◌, ◌≤◌, ◌^◌, ◌==◌, false, ◌||◌, List, [], ◌∷◌, ◌++◌, length, take, drop, flat_map, Some, refl, ap, sym, subst, ◌∙◌, append_assoc, arith}
 use Rattle.std.specs.List.{AllByRecursion}
-use Rattle.std.proofs.lemmas.Bool.{cases_Bool, cond-true, cond-false, or_from}
+use Rattle.std.proofs.lemmas.Bool.{cond-false, or_from}
 use Rattle.std.proofs.lemmas.Bool.Decides.{nat_tests}
 use Rattle.std.proofs.lemmas.List.{drop-drop, drop_at, take_at, length-append, length-replicate, length-drop, map-id}
 use Rattle.rv_elf.specs.declared.section_header.SectionHeader.{SectionHeader}
 use Rattle.rv_elf.specs.Fields.{number_in, e_shoff, section_header_size}
 use Rattle.rv_elf.specs.ReadBack.{FitsSectionHeader, section_header_there}
 use Rattle.rv_elf.specs.Records.{section_header_at, section_header_bytes}
-use Rattle.rv_elf.specs.Sections.{records, is_past, is_nobits, contents_of, section_headers, section_header_of, section_count}
+use Rattle.rv_elf.specs.Sections.{records, is_past, is_nobits, contents_of, section_header_of, section_count}
 use Rattle.rv_object_file_laws.specs.Parts.{FileSection, numbered, sections, name_of}
 use Rattle.rv_object_file_laws.specs.Written.{table_of, Piece, aligned, zeros_at, contents_from, end_of, header_of, headers_from}
 use Rattle.rv_object_file_laws.proofs.Strings.{name_offset_within}
@@ -72,8 +72,7 @@ all_stand file rest at (p ∷ ps) long here =
     let behind : drop next file ≡ tail =
     sym (drop-drop (length p.bytes) (aligned at) file) ∙ ap (drop (length p.bytes)) there ∙ drop_at p.bytes tail (length p.bytes) refl in
     let room : length file ≡ at + ((aligned at - at) + (length p.bytes + length tail)) =
-    omega (arith, length-drop at file, ap length whole, length-append (zeros_at at) (p.bytes ++ tail), length-append p.bytes tail, length-zeros at) in
-    (
+    omega (arith, length-drop at file, ap length whole, length-append (zeros_at at) (p.bytes ++ tail), length-append p.bytes tail, length-zeros at) in (
       record { within = omega (arith, aligned_up at); bytes = ap (take (length p.bytes)) there ∙ take_at p.bytes tail (length p.bytes) refl },
       all_stand file rest next ps (omega (arith, aligned_up at)) behind,
     )
@@ -125,8 +124,7 @@ pub headers_fit : (names : List (List ℕ)) (at : ℕ) (ps : List Piece) → len
     AllByRecursion FitsSectionHeader (headers_from names at ps)
 headers_fit names at [] small fits room = tt
 headers_fit names at (p ∷ ps) small fits room =
-    let next = aligned at + length p.bytes in
-    (
+    let next = aligned at + length p.bytes in (
       record {
         sh_name = omega (arith, small, name_offset_within names p.name);
         sh_type = fits.0.kind;

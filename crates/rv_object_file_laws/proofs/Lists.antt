@@ -1,6 +1,6 @@
 -- Searches of lists at whose elements a test has one answer; lists of tests.
 
-use Rattle.std.proofs.Common.{◌≡◌, ℕ, Bool, true, false, List, [], ◌∷◌, ◌++◌, map, flat_map, filter, Option, Some, None, refl, ap, sym, ◌∙◌}
+use Rattle.std.proofs.Common.{◌≡◌, Bool, true, false, List, [], ◌∷◌, ◌++◌, map, flat_map, filter, Some, None, refl, ap, ◌∙◌}
 use Rattle.std.specs.List.{AllByRecursion, find, list_any}
 use Rattle.std.proofs.lemmas.Bool.{cond-true, cond-false, or_from}
 use Rattle.rv_elf.specs.declared.fault.FileFault.{FileFault}

@@ -1,27 +1,22 @@
 -- Each section of a written file shows the piece that it was made of.
 
-use Rattle.std.proofs.Common.{◌≡◌, ℕ, zero, suc, ◌+◌, ◌-◌, ◌*◌, ◌/◌, ◌%◌, ◌<◌, ◌≤◌, ◌^◌, ◌==◌, nat_lt, Bool, true, false, not, ◌&&◌, ◌||◌, List, [], ◌∷◌, ◌++◌, length, take, drop, map, replicate, filter, flat_map, codes, Option, Some, None, refl, ap, sym, subst, ◌∙◌, arith, inl, inr, append_assoc, append-nil, if◌then◌else◌}
+use Rattle.std.proofs.Common.{◌≡◌, ℕ, suc, ◌+◌, ◌*◌, ◌<◌, ◌≤◌, ◌^◌, ◌==◌, Bool, true, false, List, [], ◌∷◌, ◌++◌, length, take, drop, map, flat_map, codes, refl, ap, ◌∙◌, arith, inl, inr, append_assoc, if◌then◌else◌}
 use Rattle.std.specs.List.{AllByRecursion}
-use Rattle.std.proofs.lemmas.Bool.{or_from, cases_Bool, cond-true, cond-false, ne_eqb, or_cases, eqb-true, false≢true}
+use Rattle.std.proofs.lemmas.Bool.{or_from, cases_Bool, cond-true, cond-false, eqb-true}
 use Rattle.std.proofs.lemmas.Bool.Decides.{nat_tests}
-use Rattle.std.proofs.lemmas.List.{length-append, length-replicate, length-map, map-append, drop-drop, drop_at}
+use Rattle.std.proofs.lemmas.List.{length-append, length-map}
 use Rattle.rv_elf.specs.declared.section_header.SectionHeader.{SectionHeader}
-use Rattle.rv_elf.specs.Fields.{number_in, e_shoff}
-use Rattle.rv_elf.specs.Records.{file_header_bytes, section_header_bytes}
-use Rattle.rv_elf.specs.Sections.{is_past, names_section, section_of, section_count, contents_of, string_at}
+use Rattle.rv_elf.specs.Records.{section_header_bytes}
+use Rattle.rv_elf.specs.Sections.{is_past, names_section, section_of, contents_of, string_at}
 use Rattle.rv_object.specs.Object.{Contents, Progbits, Note, Nobits, Section, Symbol, Object, stored, size_of}
 use Rattle.rv_object.specs.Valid.{is_alignment, is_string}
 use Rattle.rv_object.specs.declared.row.Row.{Row}
-use Rattle.rv_object_file_laws.specs.Parts.{sections, numbered, name_of}
-use Rattle.rv_object_file_laws.specs.Known.{IsSection, IsObject}
-use Rattle.rv_object_file_laws.specs.Written.{name_offset, Piece, table_of, table_piece, aligned, contents_from, end_of, header_of, headers_from, kind_of, flag_if, flags_of, section_piece, rela_pieces, row_pieces, has_relocations, symtab_index, last_index, first_pieces, pieces, section_names, symbol_names, symbols_bytes, is_local, locals, file_header_of, file_of, HasFile}
+use Rattle.rv_object_file_laws.specs.Known.{IsSection}
+use Rattle.rv_object_file_laws.specs.Written.{name_offset, Piece, table_of, table_piece, aligned, end_of, headers_from, kind_of, flag_if, section_piece, rela_pieces, row_pieces, symtab_index, last_index, pieces, section_names, symbol_names, symbols_bytes, is_local, locals}
 use Rattle.rv_object_file_laws.proofs.Records.{length-section_header}
 use Rattle.rv_object_file_laws.proofs.Strings.{is_among, name_back}
-use Rattle.rv_object_file_laws.proofs.Laid.{after, end_after, length-contents, Stands, AllStand, all_stand, not_past, FitsPiece, Headed, all_headed, sections_are, headers_fit, length-headers, listed, listed-append, Shows, AllShow, IsSized, AllNamed, all_show, show-append}
-use Rattle.rv_object_file_laws.proofs.Lists.{all_append, all_mapped, all_weaker}
-use Rattle.rv_object_file_laws.proofs.Heading.{FitsFileHeader, ReadsHeader, length-file_header, file_header_back}
+use Rattle.rv_object_file_laws.proofs.Laid.{end_after, AllStand, not_past, FitsPiece, Headed, IsSized, AllNamed}
 use Rattle.rv_object_file_laws.proofs.Groups.{length-relas}
-use Rattle.rv_object_file_laws.proofs.SymbolsRead.{all_among}
 
 -- ---- what holds of each piece
 
@@ -144,7 +139,7 @@ four_groups o =
     let last : List Piece = names_piece o ∷ [] in
     append_assoc (map section_piece o.sections) (rela_group o ++ (row_pieces o.rows ++ two)) last
     ∙ ap (λ ps. map section_piece o.sections ++ ps) (append_assoc (rela_group o) (row_pieces o.rows ++ two) last
-      ∙ ap (λ ps. rela_group o ++ ps) (append_assoc (row_pieces o.rows) two last))
+    ∙ ap (λ ps. rela_group o ++ ps) (append_assoc (row_pieces o.rows) two last))
 
 pub piece_count : (o : Object) → length (pieces o) ≡ last_index o
 piece_count o =
@@ -185,14 +180,12 @@ all_unmapped P f (x ∷ xs) h = (h.0, all_unmapped P f xs h.1)
 pub named_all : (file : List ℕ) (names : List (List ℕ)) (at : ℕ) (ps : List Piece) → (names_section file == 0) ≡ false →
     section_of file (names_section file) ≡ table_of names → AllByRecursion IsFine ps → AllByRecursion (λ p. is_among p.name names ≡ true) ps → AllNamed file names at ps
 named_all file names at [] other table fine among = tt
-named_all file names at (p ∷ ps) other table fine among =
-    (
-      cond-false (names_section file == 0) _ _ other ∙ ap (λ t. string_at t (name_offset names p.name)) table
+named_all file names at (p ∷ ps) other table fine among = (
+  cond-false (names_section file == 0) _ _ other ∙ ap (λ t. string_at t (name_offset names p.name)) table
       ∙ name_back names p.name fine.0.string among.0,
-      named_all file names (aligned at + length p.bytes) ps other table fine.1 among.1,
-    )
+  named_all file names (aligned at + length p.bytes) ps other table fine.1 among.1,
+)
 
 pub flag_small : (b : Bool) → (if b then 1 else 0) < 2 ^ 32
 flag_small true = omega arith
 flag_small false = omega arith
-

@@ -1,31 +1,29 @@
 -- The object of a written file is the object that was written.
 
-use Rattle.std.proofs.Common.{◌≡◌, ℕ, zero, suc, ◌+◌, ◌-◌, ◌*◌, ◌%◌, ◌<◌, ◌≤◌, ◌^◌, ◌==◌, nat_lt, Bool, true, false, not, ◌&&◌, ◌||◌, List, [], ◌∷◌, ◌++◌, length, drop, map, filter, Option, Some, None, refl, ap, sym, subst, ◌∙◌, arith, append-nil, if◌then◌else◌, IsTrue}
-use Rattle.std.specs.List.{AllByRecursion, find, list_all, list_any, slice_get}
-use Rattle.std.proofs.lemmas.Bool.{cond-true, cond-false, and_left, and_parts, ltb-true, false≢true}
+use Rattle.std.proofs.Common.{◌≡◌, ℕ, suc, ◌+◌, ◌%◌, ◌<◌, ◌≤◌, ◌^◌, ◌==◌, Bool, true, false, List, [], ◌∷◌, ◌++◌, length, drop, map, filter, Option, Some, None, refl, ap, sym, ◌∙◌, arith, append-nil, if◌then◌else◌}
+use Rattle.std.specs.List.{AllByRecursion, find, list_all, slice_get}
+use Rattle.std.proofs.lemmas.Bool.{cond-true, and_left, and_parts, ltb-true, false≢true}
 use Rattle.std.proofs.lemmas.List.Elements.{filter-append}
 use Rattle.std.proofs.lemmas.Option.{slice_get_within}
-use Rattle.rv_elf.specs.declared.rela.Rela.{Rela}
-use Rattle.rv_elf.specs.Fields.{number_in, e_flags}
 use Rattle.rv_elf.specs.Records.{symbol_at}
 use Rattle.rv_elf.specs.Sections.{section_of, contents_of, symbols_in}
 use Rattle.rv_object.specs.declared.row.Row.{Row}
 use Rattle.rv_object.specs.Object.{Relocation, Section, Symbol, Object}
 use Rattle.rv_object.specs.Valid.{is_below, is_defined_in, is_row_in}
-use Rattle.rv_object_file_laws.specs.Rows.{RowRecord, rows_in}
-use Rattle.rv_object_file_laws.specs.Parts.{FileSection, sections, kept, is_kept, is_rows, is_symbol_table, is_rela, symbol_table, symbols_of, symbol_records, rows_of, row_records, relocates, relas_of}
+use Rattle.rv_object_file_laws.specs.Rows.{rows_in}
+use Rattle.rv_object_file_laws.specs.Parts.{FileSection, sections, is_kept, is_rows, is_symbol_table, is_rela, symbol_table, symbols_of, symbol_records, rows_of, row_records, relocates, relas_of}
 use Rattle.rv_object_file_laws.specs.ObjectOf.{ObjectOf, section_in, names_of, symbol_in, row_in}
 use Rattle.rv_object_file_laws.specs.Known.{IsRelocation, IsSection, IsSymbol, IsRow, IsObject}
 use Rattle.rv_object_file_laws.specs.Written.{Piece, table_of, section_piece, row_pieces, symtab_index, last_index, section_names, symbol_names, symbols_bytes, symbol_number, symbol_record, row_record, file_of, HasFile}
 use Rattle.rv_object_file_laws.proofs.Strings.{is_among}
-use Rattle.rv_object_file_laws.proofs.Laid.{listed, Shows, AllShow}
+use Rattle.rv_object_file_laws.proofs.Laid.{listed, AllShow}
 use Rattle.rv_object_file_laws.proofs.Lists.{all_weaker, filter_all, filter_none, find_past, find_none}
 use Rattle.rv_object_file_laws.proofs.Groups.{entry, Answers, rows_seen, kept_seen, listed_all, sections_answer, relas_answer, rows_answer}
 use Rattle.rv_object_file_laws.proofs.Relocated.{FitsRelocation, FitsFields, relas_at, relas_for}
 use Rattle.rv_object_file_laws.proofs.SectionsRead.{sections_back}
 use Rattle.rv_object_file_laws.proofs.SymbolsRead.{all_among, KeepsSections, FitsName, FitsIn, symbols_read, symbols_again, rows_read, rows_again}
 use Rattle.rv_object_file_laws.proofs.Placed.{symtab_piece, tables, rela_group, all_unmapped}
-use Rattle.rv_object_file_laws.proofs.Filed.{IsFiled, IsSmall, small_of, filed}
+use Rattle.rv_object_file_laws.proofs.Filed.{IsFiled, small_of, filed}
 
 -- ---- what the parts of an object keep of each other
 
@@ -195,8 +193,8 @@ read_of o file known has f =
           ∙ rows_found file names i₃ f.at_rows (length o.sections) o.rows d (omega (arith, groups, last)) placed f.show_rows s.rows_tables;
       relas = λ k. ap (λ ss. relas_of file (filter (relocates k) ss)) f.all
           ∙ ap (relas_of file) (filter_groups (relocates k) a b c d
-            ∙ (λ i. unrelated k a s.relas_sections i ++ (filter (relocates k) b ++ (unrelated k c s.relas_rows i ++ unrelated k d s.relas_tables i)))
-            ∙ append-nil (filter (relocates k) b))
+          ∙ (λ i. unrelated k a s.relas_sections i ++ (filter (relocates k) b ++ (unrelated k c s.relas_rows i ++ unrelated k d s.relas_tables i)))
+          ∙ append-nil (filter (relocates k) b))
           ∙ relas_for file names (symtab_index o) 1 (1 + length o.sections) f.at_relas o.sections k (length o.symbols) (omega (arith, has.symbols)) f.show_relas fields;
       fields = fields;
       named = named;

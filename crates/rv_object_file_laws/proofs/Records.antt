@@ -1,18 +1,17 @@
 -- Rows that were written are read again, and tables of records; rv_elf has the same of its records.
 
-use Rattle.std.proofs.Common.{◌≡◌, ℕ, ℤ, pos, negsuc, zero, suc, ◌+◌, ◌-◌, ◌*◌, ◌<◌, ◌≤◌, ◌^◌, List, [], ◌∷◌, ◌++◌, length, drop, map, flat_map, refl, ap, sym, ◌∙◌, append_assoc, arith}
+use Rattle.std.proofs.Common.{◌≡◌, ℕ, ◌+◌, ◌<◌, ◌^◌, List, [], ◌∷◌, ◌++◌, length, drop, map, flat_map, refl, ap, sym, ◌∙◌, append_assoc}
 use Rattle.std.specs.List.{AllByRecursion}
 use Rattle.std.proofs.lemmas.List.{drop-drop, drop_at}
 use Rattle.byteorder.specs.Endian.{little_bytes, little_number}
 use Rattle.byteorder.specs.Numbers.{little_number-reads_back}
-use Rattle.rv_elf.specs.declared.file_header.FileHeader.{FileHeader}
 use Rattle.rv_elf.specs.declared.section_header.SectionHeader.{SectionHeader}
 use Rattle.rv_elf.specs.declared.symbol.Symbol.{Symbol}
 use Rattle.rv_elf.specs.declared.rela.Rela.{Rela}
 use Rattle.rv_elf.specs.Fields.{field, number_in}
 use Rattle.rv_elf.specs.Records.{section_header_bytes, symbol_bytes, rela_bytes}
 use Rattle.rv_elf.specs.Sections.{records}
-use Rattle.rv_object_file_laws.specs.Rows.{RowRecord, row_at, row_bytes, row_size}
+use Rattle.rv_object_file_laws.specs.Rows.{RowRecord, row_at, row_bytes}
 
 -- the number of a field, where its bytes stand
 pub number_at : (k w n place : ℕ) (bytes whole : List ℕ) → drop place bytes ≡ whole →
@@ -63,8 +62,13 @@ row_back r place bytes rest fits here =
     let count = number_at 24 4 r.r_bytes place bytes whole here refl fits.bytes in
     let reserved = number_at 28 4 r.r_reserved place bytes whole here refl fits.reserved in
     (λ i. record {
-      r_line = line i; r_ordinal = ordinal i; r_section = section i; r_instructions = instructions i;
-      r_offset = offset i; r_bytes = count i; r_reserved = reserved i;
+      r_line = line i;
+      r_ordinal = ordinal i;
+      r_section = section i;
+      r_instructions = instructions i;
+      r_offset = offset i;
+      r_bytes = count i;
+      r_reserved = reserved i;
     })
 
 -- ---- tables

@@ -1,9 +1,9 @@
 -- Relocations that were written are read again.
 
-use Rattle.std.proofs.Common.{◌≡◌, ℕ, zero, suc, ◌+◌, ◌-◌, ◌*◌, ◌/◌, ◌<◌, ◌≤◌, ◌^◌, ◌==◌, Bool, true, false, not, ◌&&◌, List, [], ◌∷◌, ◌++◌, length, map, filter, flat_map, Option, Some, None, refl, ap, sym, subst, ◌∙◌, arith, inl, inr, append-nil, if◌then◌else◌, codes}
-use Rattle.std.specs.List.{AllByRecursion, filter_map, cons_option}
+use Rattle.std.proofs.Common.{◌≡◌, ℕ, suc, ◌+◌, ◌-◌, ◌*◌, ◌/◌, ◌<◌, ◌≤◌, ◌^◌, ◌==◌, Bool, true, false, List, [], ◌∷◌, ◌++◌, length, map, filter, Option, Some, None, refl, ap, sym, subst, ◌∙◌, arith, inl, inr, append-nil, if◌then◌else◌, codes}
+use Rattle.std.specs.List.{AllByRecursion, cons_option}
 use Rattle.std.proofs.lemmas.Bool.{cases_Bool, cond-true, cond-false, eqb-true, ne_eqb, eq-eqb}
-use Rattle.std.proofs.lemmas.List.{length-append, nil_from_length, drop_at}
+use Rattle.std.proofs.lemmas.List.{length-append, nil_from_length}
 use Rattle.rv_isa.specs.declared.kind.Kind.{Kind}
 use Rattle.rv_isa.specs.declared.kind.Kind.TheVariants as kinds
 use Rattle.rv_isa.specs.Kinds.{number_of}
@@ -11,11 +11,11 @@ use Rattle.rv_elf.specs.declared.rela.Rela.{Rela}
 use Rattle.rv_elf.specs.Fields.{rela_size}
 use Rattle.rv_elf.specs.ReadBack.{FitsRela, rela_there}
 use Rattle.rv_elf.specs.Records.{rela_at, rela_bytes}
-use Rattle.rv_elf.specs.Sections.{records, relas_in, contents_of}
+use Rattle.rv_elf.specs.Sections.{records, relas_in}
 use Rattle.rv_object.specs.Object.{Relocation, Section}
 use Rattle.rv_object_file_laws.specs.Parts.{FileSection, kind_numbered, symbol_index, relocation_by, relocation_in, relocations_in, relocates, relas_of}
 use Rattle.rv_object_file_laws.specs.Known.{IsRelocation}
-use Rattle.rv_object_file_laws.specs.Written.{Piece, aligned, table_piece, symbol_number, rela_of, relocations_bytes, rela_pieces, header_of}
+use Rattle.rv_object_file_laws.specs.Written.{Piece, aligned, table_piece, symbol_number, rela_of, relocations_bytes, rela_pieces}
 use Rattle.rv_object_file_laws.proofs.Records.{length-rela, records_back}
 use Rattle.rv_object_file_laws.proofs.Laid.{listed, Shows, AllShow}
 use Rattle.rv_object_file_laws.proofs.Groups.{entry}

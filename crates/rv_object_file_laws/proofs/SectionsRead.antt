@@ -1,17 +1,16 @@
 -- Sections that were written are read again.
 
-use Rattle.std.proofs.Common.{◌≡◌, ℕ, zero, suc, ◌+◌, ◌/◌, ◌%◌, ◌<◌, ◌≤◌, ◌^◌, ◌==◌, max, Bool, true, false, not, ◌&&◌, ◌||◌, List, [], ◌∷◌, ◌++◌, length, map, filter, Option, Some, None, refl, ap, sym, ◌∙◌, arith, inl, inr, unwrap_or, if◌then◌else◌}
+use Rattle.std.proofs.Common.{◌≡◌, ℕ, zero, suc, ◌+◌, ◌/◌, ◌%◌, ◌≤◌, ◌==◌, max, Bool, true, false, List, [], ◌∷◌, length, map, filter, refl, ap, sym, ◌∙◌, arith, unwrap_or, if◌then◌else◌}
 use Rattle.std.specs.List.{AllByRecursion}
-use Rattle.std.proofs.lemmas.Bool.{cases_Bool, cond-true, cond-false, eqb-true, false≢true, or_cases}
-use Rattle.std.proofs.lemmas.Bool.Decides.{nat_tests}
+use Rattle.std.proofs.lemmas.Bool.{eqb-true, false≢true}
 use Rattle.std.proofs.lemmas.List.{nil_from_length}
 use Rattle.rv_elf.specs.Sections.{contents_of}
 use Rattle.rv_object.specs.Object.{Contents, Progbits, Note, Nobits, Relocation, Section, stored, size_of}
 use Rattle.rv_object.specs.Valid.{is_alignment, is_loaded_alone}
-use Rattle.rv_object_file_laws.specs.Parts.{FileSection, sections, is_loaded, is_executable, is_writable, contents_in, name_of, relocates, relas_of, relocations_in}
+use Rattle.rv_object_file_laws.specs.Parts.{sections, is_loaded, contents_in, relocates, relas_of, relocations_in}
 use Rattle.rv_object_file_laws.specs.ObjectOf.{section_in}
 use Rattle.rv_object_file_laws.specs.Known.{IsSection}
-use Rattle.rv_object_file_laws.specs.Written.{Piece, aligned, kind_of, flag_if, flags_of, section_piece, header_of, rela_of}
+use Rattle.rv_object_file_laws.specs.Written.{aligned, kind_of, flag_if, section_piece, header_of, rela_of}
 use Rattle.rv_object_file_laws.proofs.Laid.{listed, Shows, AllShow}
 use Rattle.rv_object_file_laws.proofs.Groups.{entry}
 use Rattle.rv_object_file_laws.proofs.Relocated.{relas_at, relas_here, relas_later, relocations_back}

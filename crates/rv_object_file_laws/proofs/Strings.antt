@@ -1,7 +1,7 @@
 -- A name that is in a table of strings is read again at its offset.
 
-use Rattle.std.proofs.Common.{◌≡◌, ℕ, zero, suc, ◌+◌, ◌<◌, ◌≤◌, ◌==◌, Bool, true, false, not, ◌&&◌, ◌||◌, List, [], ◌∷◌, ◌++◌, length, drop, flat_map, Option, Some, None, refl, ap, sym, ◌∙◌, append_assoc, arith, bytes_eq, if◌then◌else◌, inl, inr, subst, append-nil}
-use Rattle.std.specs.List.{list_any, list_all}
+use Rattle.std.proofs.Common.{◌≡◌, ℕ, ◌+◌, ◌≤◌, ◌==◌, Bool, true, not, ◌||◌, List, [], ◌∷◌, ◌++◌, length, drop, flat_map, Some, refl, ap, sym, ◌∙◌, append_assoc, arith, bytes_eq, inl, inr, subst, append-nil}
+use Rattle.std.specs.List.{list_any}
 use Rattle.std.proofs.lemmas.Bool.{cases_Bool, cond-true, cond-false, and_parts, or_cases, or_left, or_right, not-true, false≢true}
 use Rattle.std.proofs.lemmas.List.{drop-drop, drop_at, length-append}
 use Rattle.std.proofs.lemmas.List.Folds.{list_any-append}

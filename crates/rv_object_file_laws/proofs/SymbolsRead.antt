@@ -1,13 +1,12 @@
 -- Symbols and rows that were written are read again.
 
-use Rattle.std.proofs.Common.{◌≡◌, ℕ, zero, suc, ◌+◌, ◌-◌, ◌*◌, ◌/◌, ◌%◌, ◌<◌, ◌≤◌, ◌^◌, ◌==◌, nat_lt, nat_le, Bool, true, false, not, ◌&&◌, ◌||◌, List, [], ◌∷◌, ◌++◌, length, drop, map, replicate, filter, flat_map, Option, Some, None, refl, ap, sym, subst, ◌∙◌, arith, inl, inr, unwrap_or, append_assoc, append-nil, if◌then◌else◌, bytes_eq}
-use Rattle.std.specs.List.{AllByRecursion, find, list_any, list_all, slice_get}
-use Rattle.std.proofs.lemmas.Bool.{cases_Bool, cond-true, cond-false, and_parts, and_from, or_left, or_right, ltb-true, leb-true, ne_eqb, eq-eqb, eqb-true, not_from_false, false≢true}
-use Rattle.std.proofs.lemmas.Bool.Decides.{nat_tests}
+use Rattle.std.proofs.Common.{◌≡◌, ℕ, zero, suc, ◌+◌, ◌*◌, ◌/◌, ◌<◌, ◌^◌, ◌==◌, nat_lt, nat_le, true, not, List, [], ◌∷◌, ◌++◌, length, drop, map, replicate, filter, flat_map, Some, refl, ap, sym, subst, ◌∙◌, arith, unwrap_or, append_assoc, append-nil, if◌then◌else◌, bytes_eq}
+use Rattle.std.specs.List.{AllByRecursion, find, list_all, slice_get}
+use Rattle.std.proofs.lemmas.Bool.{cond-true, cond-false, and_parts, and_from, or_left, or_right, ltb-true, leb-true, ne_eqb, eq-eqb, not_from_false}
 use Rattle.std.proofs.lemmas.List.{length-append, length-replicate, drop_at, length-map}
 use Rattle.std.proofs.lemmas.List.Folds.{list_any-append}
 use Rattle.std.proofs.lemmas.Slice.Eq.{bytes_eq-Decides}
-use Rattle.rv_map.specs.Name.{is_name, is_name_byte}
+use Rattle.rv_map.specs.Name.{is_name_byte}
 use Rattle.rv_elf.specs.declared.symbol.Symbol.{Symbol as SymbolRecord}
 use Rattle.rv_elf.specs.Fields.{symbol_size}
 use Rattle.rv_elf.specs.ReadBack.{FitsSymbol, symbol_there}
@@ -20,11 +19,11 @@ use Rattle.rv_object.specs.declared.symbol.Definition.TheVariants.{Undefined, Ab
 use Rattle.rv_object.specs.declared.row.Row.{Row}
 use Rattle.rv_object.specs.Object.{Section, Symbol, Object}
 use Rattle.rv_object.specs.Valid.{is_string, is_shown, is_defined_in}
-use Rattle.rv_object_file_laws.specs.Rows.{RowRecord, row_size, row_at, row_bytes, rows_in}
-use Rattle.rv_object_file_laws.specs.Parts.{FileSection, kept, kept_at, kept_before, is_index, symbol_table}
-use Rattle.rv_object_file_laws.specs.ObjectOf.{names_of, binding_in, definition_in, definition_by, symbol_in, row_in}
+use Rattle.rv_object_file_laws.specs.Rows.{row_size, row_at, row_bytes, rows_in}
+use Rattle.rv_object_file_laws.specs.Parts.{kept, kept_at, kept_before, is_index, symbol_table}
+use Rattle.rv_object_file_laws.specs.ObjectOf.{names_of, definition_in, definition_by, symbol_in, row_in}
 use Rattle.rv_object_file_laws.specs.Known.{IsSymbol, IsRow}
-use Rattle.rv_object_file_laws.specs.Written.{Piece, aligned, section_piece, name_offset, table_of, binding_number, home_of, value_of, symbol_record, symbols_bytes, symbol_names, row_record}
+use Rattle.rv_object_file_laws.specs.Written.{aligned, section_piece, name_offset, table_of, binding_number, home_of, value_of, symbol_record, symbols_bytes, symbol_names, row_record}
 use Rattle.rv_object_file_laws.proofs.Records.{length-symbol, FitsRow, length-row, row_back, records_back}
 use Rattle.rv_object_file_laws.proofs.Strings.{is_among, name_back, name_offset_within}
 use Rattle.rv_object_file_laws.proofs.Laid.{listed}
@@ -50,8 +49,7 @@ among-append name xs ys h = list_any-append (λ s. bytes_eq s name) xs ys ∙ or
 pub all_among : (front ns : List (List ℕ)) → AllByRecursion (λ n. is_among n (front ++ ns) ≡ true) ns
 all_among front [] = tt
 all_among front (n ∷ ns) =
-    let here : is_among n (n ∷ ns) ≡ true = or_left (bytes_eq n n) (is_among n ns) ((bytes_eq-Decides n n).1 refl) in
-    (
+    let here : is_among n (n ∷ ns) ≡ true = or_left (bytes_eq n n) (is_among n ns) ((bytes_eq-Decides n n).1 refl) in (
       among-append n front (n ∷ ns) here,
       subst (λ all. AllByRecursion (λ m. is_among m all ≡ true) ns) (append_assoc front (n ∷ []) ns) (all_among (front ++ n ∷ []) ns),
     )
@@ -70,8 +68,7 @@ find_section names i at zero j (t ∷ ss) s has same =
 find_section names i at (suc k) j (t ∷ ss) s has same =
     let p = section_piece t in
     let next = aligned at + length p.bytes in
-    let more = find_section names (suc i) next k j ss s has (omega arith) in
-    (
+    let more = find_section names (suc i) next k j ss s has (omega arith) in (
       more.0,
       cond-false (i == j) (Some (entry names i at p)) (find (is_index j) (listed names (suc i) next (map section_piece ss))) (ne_eqb i j (λ e. omega arith)) ∙ more.1,
     )
@@ -237,4 +234,4 @@ rows_again file names ss [] keeps fits = refl
 rows_again file names ss (r ∷ rs) keeps fits =
     let place = before_back file names ss r.section keeps fits.0.inside in
     (λ i. record { line = r.line; ordinal = r.ordinal; section = place i; offset = r.offset; bytes = r.bytes; instructions = r.instructions }
-      ∷ rows_again file names ss rs keeps fits.1 i)
+    ∷ rows_again file names ss rs keeps fits.1 i)

@@ -1,17 +1,14 @@
 -- No test of a record that was written is true: relocations, symbols and rows.
 
-use Rattle.std.proofs.Common.{◌≡◌, ℕ, ℤ, zero, suc, ◌+◌, ◌-◌, ◌*◌, ◌/◌, ◌%◌, ◌<◌, ◌≤◌, ◌^◌, ◌==◌, nat_lt, nat_le, Bool, true, false, not, ◌&&◌, ◌||◌, List, [], ◌∷◌, ◌++◌, length, map, replicate, Option, Some, None, refl, ap, sym, subst, ◌∙◌, arith, if◌then◌else◌}
+use Rattle.std.proofs.Common.{◌≡◌, ℕ, suc, ◌+◌, ◌*◌, ◌/◌, ◌%◌, ◌<◌, ◌==◌, nat_lt, nat_le, Bool, true, false, not, ◌&&◌, ◌||◌, List, [], ◌∷◌, ◌++◌, length, map, replicate, Option, Some, None, refl, ap, ◌∙◌, arith, if◌then◌else◌}
 use Rattle.std.specs.List.{AllByRecursion, list_all, list_any}
-use Rattle.std.proofs.lemmas.Bool.{and_left, and_right, and_parts, and_from, or_from, or_left, or_right, not_from_true, lt-leb, lt-ltb, ne_eqb, eq-eqb, cond-false, cond-true, ltb-true, false≢true}
-use Rattle.std.proofs.lemmas.Bool.Decides.{nat_tests}
+use Rattle.std.proofs.lemmas.Bool.{and_right, and_parts, and_from, or_from, or_right, not_from_true, lt-leb, lt-ltb, ltb-true}
 use Rattle.std.proofs.lemmas.List.{length-replicate}
 use Rattle.std.proofs.lemmas.List.Folds.{list_all-append}
 use Rattle.rv_isa.specs.Kinds.{number_of, width_of}
 use Rattle.rv_map.specs.Name.{is_name}
-use Rattle.rv_elf.specs.declared.fault.FileFault.{FileFault}
 use Rattle.rv_elf.specs.declared.fault.FileFault.TheVariants.{BadTable, BadString, BadIndex, UnsupportedRelocation}
 use Rattle.rv_elf.specs.declared.section_header.SectionHeader.{SectionHeader}
-use Rattle.rv_elf.specs.declared.rela.Rela.{Rela}
 use Rattle.rv_elf.specs.FirstFault.{first_true}
 use Rattle.rv_elf.specs.Sections.{section_count, string_at}
 use Rattle.rv_object.specs.declared.symbol.Binding.{Binding}
@@ -19,8 +16,8 @@ use Rattle.rv_object.specs.declared.symbol.Binding.TheVariants.{Local, Global}
 use Rattle.rv_object.specs.declared.symbol.Definition.{Definition}
 use Rattle.rv_object.specs.declared.symbol.Definition.TheVariants.{Undefined, Absolute, InSection, Skipped}
 use Rattle.rv_object.specs.declared.row.Row.{Row}
-use Rattle.rv_object.specs.Object.{Contents, Progbits, Note, Nobits, Relocation, Section, Symbol, size_of}
-use Rattle.rv_object.specs.Valid.{fits_inside, fit_inside, is_padding, is_padding_of, padding_of, is_align, are_apart, are_all_apart, are_paddings, is_shown, is_defined_in, is_row_in}
+use Rattle.rv_object.specs.Object.{Contents, Progbits, Note, Nobits, Relocation, Symbol, size_of}
+use Rattle.rv_object.specs.Valid.{fits_inside, fit_inside, is_padding, is_padding_of, padding_of, is_align, are_apart, are_all_apart, are_paddings, is_shown, is_defined_in}
 use Rattle.rv_object_file_laws.specs.Parts.{FileSection, extent_of, is_executable, is_loaded, kind_numbered, relocation_in, relocations_in, kept_at}
 use Rattle.rv_object_file_laws.specs.FirstFault.{is_none, is_misplaced, relocation_tests, relocations_tests, is_bad_name, has_binding, has_home, symbol_tests, is_row_of, row_tests}
 use Rattle.rv_object_file_laws.specs.Written.{kind_of, symbol_number, rela_of, name_offset, table_of, binding_number, home_of, symbol_record, row_record}
@@ -76,8 +73,7 @@ meets_none false before r rs h = refl
 
 apart_next : (x : Bool) (before : List Relocation) (r : Relocation) (rs : List Relocation) → Apart x before (r ∷ rs) → Apart x (before ++ r ∷ []) rs
 apart_next true before r rs h =
-    let both = and_parts (list_all (are_apart r) rs) (are_all_apart rs) h.1 in
-    (
+    let both = and_parts (list_all (are_apart r) rs) (are_all_apart rs) h.1 in (
       list_all-append (λ q. list_all (are_apart q) rs) before (r ∷ []) ∙ and_from _ _ (apart_later r rs before h.0) (and_from (list_all (are_apart r) rs) true both.0 refl),
       both.1,
     )

@@ -1,7 +1,7 @@
 -- Why a file is no object: tests in order, the first that is true gives the fault. Section by
 -- section, a header before its records, and these one by one, each beside those before it.
 
-use Rattle.std.specs.Prelude.{◌≡◌, ℕ, ◌+◌, ◌/◌, ◌%◌, ◌==◌, nat_lt, nat_le, Bool, true, false, not, ◌&&◌, ◌||◌, if◌then◌else◌, List, [], ◌∷◌, ◌++◌, length, drop, filter, flat_map, Option, Some, None}
+use Rattle.std.specs.Prelude.{ℕ, ◌+◌, ◌/◌, ◌%◌, ◌==◌, nat_lt, nat_le, Bool, true, false, not, ◌&&◌, ◌||◌, if◌then◌else◌, List, [], ◌∷◌, ◌++◌, length, drop, filter, flat_map, Option, Some, None}
 use Rattle.std.specs.List.{list_any}
 use Rattle.rv_map.specs.Name.{is_name}
 use Rattle.rv_elf.specs.declared.fault.FileFault.{FileFault}
@@ -13,7 +13,7 @@ use Rattle.rv_elf.specs.Fields.{number_in, e_type, symbol_size, rela_size}
 use Rattle.rv_elf.specs.FirstFault.{first_true, header_tests, table_tests}
 use Rattle.rv_elf.specs.Numbers.{et_rel, sht_progbits, sht_note, sht_nobits, sht_group, shn_undef, shn_abs, stb_local, stb_global}
 use Rattle.rv_elf.specs.Sections.{is_past, section_count, section_header_of, section_of, contents_of, string_at, symbols_in, relas_in}
-use Rattle.rv_object.specs.Object.{Relocation, size_of}
+use Rattle.rv_object.specs.Object.{Relocation}
 use Rattle.rv_object.specs.Valid.{is_alignment, fits_inside, is_padding, are_apart}
 use Rattle.rv_object_file_laws.specs.Parts.{FileSection, sections, is_section, is_loaded, is_executable, name_of, is_symbol_table, is_rela, is_rows, kept_at, extent_of, symbol_table, symbol_records, relocates, relas_of, kind_numbered, relocation_in, relocations_in}
 use Rattle.rv_object_file_laws.specs.Rows.{RowRecord, row_size, rows_in}
@@ -121,8 +121,8 @@ abbrev pub rela_tests : List ℕ → List FileSection → SectionHeader → List
 rela_tests file before h =
     if is_loaded (section_header_of file h.sh_info)
     then relocations_tests (section_header_of file h.sh_info) (length (symbol_records file))
-        (relocations_in (relas_of file (filter (relocates h.sh_info) before)))
-        (relas_in (contents_of file h))
+    (relocations_in (relas_of file (filter (relocates h.sh_info) before)))
+    (relas_in (contents_of file h))
     else []
 
 -- the records of a section; symbol 0 is none

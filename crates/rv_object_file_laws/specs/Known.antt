@@ -1,6 +1,6 @@
 -- What an object of the code keeps: what a reader of files tests, and the widths of its numbers.
 
-use Rattle.std.specs.Prelude.{◌≡◌, ℕ, ◌<◌, ◌^◌, IsTrue}
+use Rattle.std.specs.Prelude.{◌<◌, ◌^◌, IsTrue}
 use Rattle.std.specs.List.{AllByRecursion}
 use Rattle.std.specs.Int.{w64}
 use Rattle.std.specs.Int.RustNames.{FitsSigned}

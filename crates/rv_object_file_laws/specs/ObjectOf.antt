@@ -1,7 +1,7 @@
 -- The object of a file (System V gABI, "ELF Header", "Sections", "Symbol Table", "Relocation";
 -- RISC-V ELF psABI, "File Header").
 
-use Rattle.std.specs.Prelude.{◌≡◌, ℕ, ◌/◌, ◌%◌, ◌==◌, max, Bool, List, [], drop, map, filter, unwrap_or, Option, Some, None, if◌then◌else◌}
+use Rattle.std.specs.Prelude.{◌≡◌, ℕ, ◌/◌, ◌%◌, ◌==◌, max, List, [], drop, map, filter, unwrap_or, Option, Some, None, if◌then◌else◌}
 use Rattle.rv_elf.specs.declared.symbol.Symbol.{Symbol as SymbolRecord}
 use Rattle.rv_elf.specs.Fields.{number_in, ei_magic, ei_class, ei_data, ei_version, e_type, e_machine, e_flags}
 use Rattle.rv_elf.specs.Numbers.{elfmag, et_rel, em_riscv, shn_undef, shn_abs, stb_local}

@@ -1,7 +1,7 @@
 -- What the sections of an object's file are (System V gABI, "Sections", "Symbol Table",
 -- "Relocation"; RISC-V ELF psABI, "Relocations").
 
-use Rattle.std.specs.Prelude.{ℕ, ℤ, suc, ◌+◌, ◌-◌, ◌/◌, ◌%◌, ◌==◌, nat_lt, Bool, true, false, not, ◌&&◌, ◌||◌, List, [], ◌∷◌, ◌++◌, drop, filter, flat_map, filter_map, length, replicate, bytes_eq, Option, Some, None, if◌then◌else◌}
+use Rattle.std.specs.Prelude.{ℕ, suc, ◌-◌, ◌/◌, ◌%◌, ◌==◌, nat_lt, Bool, false, not, ◌&&◌, ◌||◌, List, [], ◌∷◌, drop, filter, flat_map, filter_map, length, replicate, bytes_eq, Option, Some, None, if◌then◌else◌}
 use Rattle.std.specs.List.{find}
 use Rattle.rv_isa.specs.declared.kind.Kind.{Kind}
 use Rattle.rv_isa.specs.declared.kind.Kind.TheVariants as kinds
@@ -10,7 +10,7 @@ use Rattle.rv_elf.specs.declared.section_header.SectionHeader.{SectionHeader}
 use Rattle.rv_elf.specs.declared.symbol.Symbol.{Symbol as SymbolRecord}
 use Rattle.rv_elf.specs.declared.rela.Rela.{Rela}
 use Rattle.rv_elf.specs.Numbers.{sht_progbits, sht_symtab, sht_rela, sht_note, sht_nobits, shf_write, shf_alloc, shf_execinstr}
-use Rattle.rv_elf.specs.Sections.{section_headers, section_header_of, section_of, section_count, names_section, contents_of, string_at, symbols_in, relas_in}
+use Rattle.rv_elf.specs.Sections.{section_headers, section_of, section_count, names_section, contents_of, string_at, symbols_in, relas_in}
 use Rattle.rv_object.specs.Object.{Contents, Progbits, Note, Nobits, Relocation}
 use Rattle.rv_object_file_laws.specs.Rows.{RowRecord, rows_name, rows_in}
 

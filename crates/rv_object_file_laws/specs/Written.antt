@@ -2,7 +2,7 @@
 -- "Relocation"; this project's order of sections): the header; the contents of the sections, each at
 -- a multiple of 8; and the section headers.
 
-use Rattle.std.specs.Prelude.{ℕ, zero, suc, ◌+◌, ◌-◌, ◌*◌, ◌/◌, ◌≤◌, ◌<◌, ◌^◌, ◌==◌, Bool, not, List, [], ◌∷◌, ◌++◌, length, replicate, map, flat_map, filter, codes, bytes_eq, if◌then◌else◌, Option, Some, None}
+use Rattle.std.specs.Prelude.{ℕ, suc, ◌+◌, ◌-◌, ◌*◌, ◌/◌, ◌≤◌, ◌<◌, ◌^◌, ◌==◌, Bool, not, List, [], ◌∷◌, ◌++◌, length, replicate, map, flat_map, filter, codes, bytes_eq, if◌then◌else◌, Option, Some, None}
 use Rattle.std.specs.List.{list_any}
 use Rattle.rv_isa.specs.Kinds.{number_of}
 use Rattle.rv_elf.specs.declared.file_header.FileHeader.{FileHeader}
@@ -10,7 +10,7 @@ use Rattle.rv_elf.specs.declared.section_header.SectionHeader.{SectionHeader}
 use Rattle.rv_elf.specs.declared.symbol.Symbol.{Symbol as SymbolRecord}
 use Rattle.rv_elf.specs.declared.rela.Rela.{Rela}
 use Rattle.rv_elf.specs.Fields.{file_header_size, section_header_size, symbol_size, rela_size}
-use Rattle.rv_elf.specs.Numbers.{et_rel, em_riscv, sht_null, sht_progbits, sht_symtab, sht_strtab, sht_rela, sht_note, sht_nobits, shf_write, shf_alloc, shf_execinstr, shn_undef, shn_abs, stb_local, stb_global}
+use Rattle.rv_elf.specs.Numbers.{et_rel, em_riscv, sht_progbits, sht_symtab, sht_strtab, sht_rela, sht_note, sht_nobits, shf_write, shf_alloc, shf_execinstr, shn_undef, shn_abs, stb_local, stb_global}
 use Rattle.rv_elf.specs.Records.{file_header_bytes, section_header_bytes, symbol_bytes, rela_bytes}
 use Rattle.rv_object.specs.declared.symbol.Binding.{Binding}
 use Rattle.rv_object.specs.declared.symbol.Binding.TheVariants.{Local, Global}
@@ -121,7 +121,7 @@ abbrev pub rela_pieces : ℕ → ℕ → List Section → List Piece
 rela_pieces symtab index [] = []
 rela_pieces symtab index (s ∷ ss) = if length s.relocations == 0 then rela_pieces symtab (suc index) ss
     else table_piece (codes ".rela" ++ s.name) sht_rela (relocations_bytes s.relocations) symtab index 8 rela_size
-        ∷ rela_pieces symtab (suc index) ss
+    ∷ rela_pieces symtab (suc index) ss
 
 -- ---- rows
 
@@ -205,7 +205,7 @@ first_pieces o = map section_piece o.sections
     ++ (rela_pieces (symtab_index o) 1 o.sections
     ++ (row_pieces o.rows
     ++ (table_piece (codes ".symtab") sht_symtab (symbols_bytes (last_index o) o)
-        (symtab_index o + 1) (1 + locals o.symbols) 8 symbol_size
+    (symtab_index o + 1) (1 + locals o.symbols) 8 symbol_size
     ∷ table_piece (codes ".strtab") sht_strtab (table_of (symbol_names o)) 0 0 1 0
     ∷ [])))
 
