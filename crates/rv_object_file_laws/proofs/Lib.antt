@@ -1,0 +1,14 @@
+pub mod FaultFree
+pub mod Filed
+pub mod Groups
+pub mod Heading
+pub mod Laid
+pub mod Lists
+pub mod Placed
+pub mod ReadAgain
+pub mod Records
+pub mod Relocated
+pub mod SectionsRead
+pub mod Strings
+pub mod SymbolsRead
+pub mod Tested

@@ -1,0 +1,5 @@
+use Rattle.rv_object_file_laws.proofs.ReadAgain as again
+use Rattle.rv_object_file_laws.proofs.law.one_object.Goals as goal
+
+pub returns : goal.returns
+returns c = again.one_object
