@@ -1,0 +1,15 @@
+-- The first test that is true, of two lists of tests.
+
+use Rattle.std.proofs.Common.{◌≡◌, Bool, true, false, List, [], ◌∷◌, ◌++◌, Some, None, refl}
+use Rattle.rv_elf.specs.declared.fault.FileFault.{FileFault}
+use Rattle.rv_elf.specs.FirstFault.{first_true}
+
+pub first_true_none : (xs ys : List (Bool × FileFault)) → first_true xs ≡ None → first_true (xs ++ ys) ≡ first_true ys
+first_true_none [] ys e = refl
+first_true_none ((false, f) ∷ xs) ys e = first_true_none xs ys e
+first_true_none ((true, f) ∷ xs) ys e = cc
+
+pub first_true_some : (xs ys : List (Bool × FileFault)) (fault : FileFault) → first_true xs ≡ Some fault → first_true (xs ++ ys) ≡ Some fault
+first_true_some [] ys fault e = cc
+first_true_some ((false, f) ∷ xs) ys fault e = first_true_some xs ys fault e
+first_true_some ((true, f) ∷ xs) ys fault e = e

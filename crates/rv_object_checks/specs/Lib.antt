@@ -1,0 +1,6 @@
+pub mod Found
+pub mod Names
+pub mod Rows
+pub mod Stretches
+pub mod Tests
+pub mod Walk
