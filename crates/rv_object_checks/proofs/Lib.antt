@@ -1,8 +1,8 @@
 pub mod Entries
-pub mod FirstTrue
 pub mod KeptSections
 pub mod KindNumbers
 pub mod Meeting
+pub mod Opening
 pub mod Records
 pub mod RelocationSteps
 pub mod SectionsFrom

@@ -5,7 +5,7 @@ use Rattle.std.specs.Prelude.{flat_map}
 use Rattle.rv_elf.specs.declared.fault.FileFault.{FileFault}
 use Rattle.rv_elf.specs.FirstFault.{first_true}
 use Rattle.rv_elf.specs.Sections.{records}
-use Rattle.rv_object_checks.proofs.FirstTrue.{first_true_none, first_true_some}
+use Rattle.rv_elf.specs.FirstTrue.{first_true_none, first_true_some}
 
 pub records_long : {X : Type 0} (f : ℕ → List ℕ → X) (size n place : ℕ) (bytes : List ℕ) → length (records f size n place bytes) ≡ n
 records_long f size zero place bytes = refl

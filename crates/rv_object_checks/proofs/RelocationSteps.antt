@@ -20,7 +20,7 @@ use Rattle.rv_object.specs.Valid.{is_align, held, fits_inside, is_padding, is_pa
 use Rattle.rv_object_file_laws.specs.FirstFault.{relocations_tests, relocation_tests}
 use Rattle.rv_object_file_laws.specs.Parts.{relocation_in, relocations_in, extent_of}
 use Rattle.rv_object_checks.specs.Stretches.{Holds, placed}
-use Rattle.rv_object_checks.proofs.FirstTrue.{first_true_none, first_true_some}
+use Rattle.rv_elf.specs.FirstTrue.{first_true_none, first_true_some}
 
 -- the records from an index on, of so many
 abbrev pub left_of : ℕ → ℕ → List ℕ → List Rela

@@ -1,6 +1,6 @@
 -- Over the sections of a file, one after the other.
 
-use Rattle.std.proofs.Common.{◌≡◌, ◌≢◌, ℕ, zero, suc, ◌+◌, ◌-◌, ◌≤◌, ◌<◌, Bool, true, false, List, [], ◌∷◌, ◌++◌, length, get_or, set, filter, map, Option, Some, None, refl, ap, sym, subst, ◌∙◌, arith, append_assoc}
+use Rattle.std.proofs.Common.{◌≡◌, ◌⊎◌, inl, inr, ℕ, zero, suc, ◌+◌, ◌-◌, ◌≤◌, ◌<◌, Bool, true, false, List, [], ◌∷◌, ◌++◌, length, get_or, set, filter, map, Option, Some, None, refl, ap, sym, subst, ◌∙◌, arith, append_assoc, true≢false, take, drop, drop_of_length-le, take_all}
 use Rattle.std.specs.Prelude.{Result, MatchResult, IfSome, ◌==◌, ◌||◌, ◌&&◌, if◌then◌else◌, flat_map, filter_map}
 use Rattle.std.specs.List.{list_any, slice_get}
 use Rattle.std.specs.declared.result.Result.TheVariants.{Ok, Err}
@@ -23,7 +23,7 @@ use Rattle.rv_object_checks.specs.Found.{section_at, sections_from}
 use Rattle.rv_object_checks.specs.Stretches.{Holds, AreHeld}
 use Rattle.rv_object_checks.specs.Tests.{tests_behind, size_tests, link_tests}
 use Rattle.rv_object_checks.specs.Walk.{relocations_before, HoldsOf, HoldBefore, AreEmpty}
-use Rattle.rv_object_checks.proofs.FirstTrue.{first_true_none, first_true_some}
+use Rattle.rv_elf.specs.FirstTrue.{first_true_none, first_true_some}
 use Rattle.rv_object_checks.proofs.SectionsFrom.{from_cut, from_more}
 
 -- ---- one section further
@@ -44,7 +44,7 @@ module _ (file : List ℕ) (n i : ℕ) (below : i < n) where
         ++ sections_tests file (sections_from file i 1 ++ section_at file (i + 1) ∷ []) (sections_from file (n - (i + 1)) (i + 1 + 1))))
   cut = ap (λ ss. first_true (sections_tests file (sections_from file i 1) ss)) (from_cut file n i below)
 
-  pub walk_step : first_true (section_tests file (sections_from file i 1) (section_header_of file (i + 1))) ≡ None →
+  walk_step : first_true (section_tests file (sections_from file i 1) (section_header_of file (i + 1))) ≡ None →
       first_true (records_tests file (sections_from file i 1) (section_header_of file (i + 1))) ≡ None →
       first_true (sections_tests file (sections_from file i 1) (sections_from file (n - i) (i + 1)))
       ≡ first_true (sections_tests file (sections_from file (i + 1) 1) (sections_from file (n - (i + 1)) (i + 1 + 1)))
@@ -53,16 +53,45 @@ module _ (file : List ℕ) (n i : ℕ) (below : i < n) where
       ∙ first_true_none (records_tests file (sections_from file i 1) (section_header_of file (i + 1))) _ records
       ∙ ap (λ before. first_true (sections_tests file before (sections_from file (n - (i + 1)) (i + 1 + 1)))) (sym (from_more file i))
 
-  pub walk_stop : (fault : FileFault) → first_true (section_tests file (sections_from file i 1) (section_header_of file (i + 1))) ≡ Some fault →
+  walk_stop : (fault : FileFault) → first_true (section_tests file (sections_from file i 1) (section_header_of file (i + 1))) ≡ Some fault →
       first_true (sections_tests file (sections_from file i 1) (sections_from file (n - i) (i + 1))) ≡ Some fault
   walk_stop fault header = cut ∙ first_true_some (section_tests file (sections_from file i 1) (section_header_of file (i + 1))) _ fault header
 
-  pub walk_stop_within : (fault : FileFault) → first_true (section_tests file (sections_from file i 1) (section_header_of file (i + 1))) ≡ None →
+  walk_stop_within : (fault : FileFault) → first_true (section_tests file (sections_from file i 1) (section_header_of file (i + 1))) ≡ None →
       first_true (records_tests file (sections_from file i 1) (section_header_of file (i + 1))) ≡ Some fault →
       first_true (sections_tests file (sections_from file i 1) (sections_from file (n - i) (i + 1))) ≡ Some fault
   walk_stop_within fault header records =
       cut ∙ first_true_none (section_tests file (sections_from file i 1) (section_header_of file (i + 1))) _ header
       ∙ first_true_some (records_tests file (sections_from file i 1) (section_header_of file (i + 1))) _ fault records
+
+  -- the same, by what the code has of the sections before and of the header
+  module _ (symbols rows : Bool) (h : SectionHeader) (with_symbols : symbols ≡ list_any (λ s. is_symbol_table s.header) (sections_from file i 1))
+      (with_rows : rows ≡ list_any (λ s. is_rows file s.header) (sections_from file i 1)) (at : h ≡ section_header_of file (i + 1)) where
+
+    tests_at : first_true (section_tests file (sections_from file i 1) (section_header_of file (i + 1))) ≡ first_true (tests_behind file symbols rows h)
+    tests_at = ap (λ g. first_true (section_tests file (sections_from file i 1) g)) (sym at) ∙ ap first_true (section_tests_are file (sections_from file i 1) h)
+        ∙ ap (λ b. first_true (tests_behind file b (list_any (λ s. is_rows file s.header) (sections_from file i 1)) h)) (sym with_symbols)
+        ∙ ap (λ b. first_true (tests_behind file symbols b h)) (sym with_rows)
+
+    records_at : first_true (records_tests file (sections_from file i 1) (section_header_of file (i + 1))) ≡ first_true (records_tests file (sections_from file i 1) h)
+    records_at = ap (λ g. first_true (records_tests file (sections_from file i 1) g)) (sym at)
+
+    pub walk_on : first_true (tests_behind file symbols rows h) ≡ None → first_true (records_tests file (sections_from file i 1) h) ≡ None →
+        first_true (sections_tests file (sections_from file i 1) (sections_from file (n - i) (i + 1)))
+        ≡ first_true (sections_tests file (sections_from file (i + 1) 1) (sections_from file (n - (i + 1)) (i + 1 + 1)))
+    walk_on header records = walk_step (tests_at ∙ header) (records_at ∙ records)
+
+    pub walk_ends : (fault : FileFault) → first_true (tests_behind file symbols rows h) ≡ Some fault →
+        first_true (sections_tests file (sections_from file i 1) (sections_from file (n - i) (i + 1))) ≡ Some fault
+    walk_ends fault header = walk_stop fault (tests_at ∙ header)
+
+    pub walk_ends_within : (fault : FileFault) → first_true (tests_behind file symbols rows h) ≡ None → first_true (records_tests file (sections_from file i 1) h) ≡ Some fault →
+        first_true (sections_tests file (sections_from file i 1) (sections_from file (n - i) (i + 1))) ≡ Some fault
+    walk_ends_within fault header records = walk_stop_within fault (tests_at ∙ header) (records_at ∙ records)
+
+-- no section is left
+pub walk_over : (file : List ℕ) (before : List FileSection) (n i k : ℕ) → n ≤ i → first_true (sections_tests file before (sections_from file (n - i) k)) ≡ None
+walk_over file before n i k past = let none : n - i ≡ 0 = omega arith in rw none refl
 
 or_false : (b : Bool) → (b || false) ≡ b
 or_false true = refl
@@ -160,25 +189,52 @@ module _ (file : List ℕ) (before : List FileSection) (s : FileSection) (all : 
           differ : (t target : ℕ) → t ≡ target → (t == target) ≡ false → ⊥
           differ t target h e = grind (arith, nat_tests)
 
+-- a check of relocations, and what it answers of those before them
+abbrev Answers : {X : Type 0} → SectionHeader → ℕ → List ℕ → Places → Places → Result X FileFault → Type 0
+Answers target symbols bytes old new result =
+    (rs : List Relocation) → Holds target old.paddings.by_end.entries old.fields.by_start.entries rs → MatchResult result
+    (λ _. (first_true (relocations_tests target symbols rs (relas_in bytes)) ≡ None)
+      × Holds target new.paddings.by_end.entries new.fields.by_start.entries (rs ++ relocations_in (relas_in bytes)))
+    (λ fault. (fault ≡ OutOfMemory) ⊎ (first_true (relocations_tests target symbols rs (relas_in bytes)) ≡ Some fault))
+
+module _ (file : List ℕ) (before : List FileSection) (i : ℕ) (h : SectionHeader) (all : List Places) where
+
+  abbrev this : FileSection
+  this = record { index = i; header = h }
+
+  -- a section that is none of relocations, or one of a section that is not loaded
+  pub hold_none : is_rela h ≡ false → HoldBefore file before all → HoldBefore file (before ++ record { index = i; header = h } ∷ []) all
+  hold_none other was = hold_same file before this all (λ t loaded. ap (λ b. b && (h.sh_info == t)) other) was
+
+  pub hold_unloaded : is_loaded (section_header_of file h.sh_info) ≡ false → HoldBefore file before all → HoldBefore file (before ++ record { index = i; header = h } ∷ []) all
+  hold_unloaded other was = hold_same file before this all (λ t loaded. none t loaded (is_rela h) (h.sh_info == t) refl) was
+    where
+      none : (t : ℕ) → is_loaded (section_header_of file t) ≡ true → (x y : Bool) → (h.sh_info == t) ≡ y → (x && y) ≡ false
+      none t loaded false y e = refl
+      none t loaded true false e = refl
+      none t loaded true true e = absurd (true≢false (sym loaded ∙ ap (λ u. is_loaded (section_header_of file u)) (sym (eqb-true h.sh_info t e)) ∙ other))
+
 -- what a check of relocations answers is what one of their section does
-pub target_done : {X : Type 0} (file : List ℕ) (before : List FileSection) (i : ℕ) (h : SectionHeader) (symbols : ℕ) (bytes : List ℕ) (all : List Places) (old new : Places) (result : Result X FileFault) →
-    is_rela h ≡ true → h.sh_info < section_count file → is_loaded (section_header_of file h.sh_info) ≡ true →
+pub target_done : {X : Type 0} (file : List ℕ) (before : List FileSection) (i : ℕ) (h target : SectionHeader) (symbols : ℕ) (bytes : List ℕ) (all : List Places) (old new : Places) (result : Result X FileFault) →
+    is_rela h ≡ true → h.sh_info < section_count file → target ≡ section_header_of file h.sh_info → is_loaded target ≡ true →
     symbols ≡ length (symbol_records file) → bytes ≡ contents_of file h → old ≡ get_or all h.sh_info old →
-    ((rs : List Relocation) → HoldsOf file h.sh_info rs old → MatchResult result
-      (λ _. (first_true (relocations_tests (section_header_of file h.sh_info) symbols rs (relas_in bytes)) ≡ None) × HoldsOf file h.sh_info (rs ++ relocations_in (relas_in bytes)) new)
-      (λ fault. (fault ≡ OutOfMemory) ⊎ (first_true (relocations_tests (section_header_of file h.sh_info) symbols rs (relas_in bytes)) ≡ Some fault))) →
+    Answers target symbols bytes old new result →
     HoldBefore file before all → MatchResult result
       (λ _. (first_true (rela_tests file before h) ≡ None) × HoldBefore file (before ++ record { index = i; header = h } ∷ []) (set all h.sh_info new))
       (λ fault. (fault ≡ OutOfMemory) ⊎ (first_true (rela_tests file before h) ≡ Some fault))
-target_done file before i h symbols bytes all old new result rela inside loaded counted are read checked was =
-    go result (checked (relocations_before file before h.sh_info)
+target_done {X = X} file before i h target symbols bytes all old new result rela inside is there counted are read checked was =
+    go result (subst (λ g. Answers g symbols bytes old new result) is checked (relocations_before file before h.sh_info)
       (some_if (HoldsOf file h.sh_info (relocations_before file before h.sh_info)) (slice_get all h.sh_info) old
         (slice_get_read all (length all) h.sh_info old refl (omega (arith, was.long)) read) (was.held h.sh_info inside loaded)))
   where
+    loaded : is_loaded (section_header_of file h.sh_info) ≡ true
+    loaded = ap is_loaded (sym is) ∙ there
+
     these : first_true (rela_tests file before h) ≡ first_true (relocations_tests (section_header_of file h.sh_info) symbols (relocations_before file before h.sh_info) (relas_in bytes))
     these = ap first_true (cond-true _ _ _ loaded)
         ∙ ap (λ n. first_true (relocations_tests (section_header_of file h.sh_info) n (relocations_before file before h.sh_info) (relas_in (contents_of file h)))) (sym counted)
         ∙ ap (λ bs. first_true (relocations_tests (section_header_of file h.sh_info) symbols (relocations_before file before h.sh_info) (relas_in bs))) (sym are)
+
     go : (r : Result X FileFault) → MatchResult r
           (λ _. (first_true (relocations_tests (section_header_of file h.sh_info) symbols (relocations_before file before h.sh_info) (relas_in bytes)) ≡ None) × HoldsOf file h.sh_info (relocations_before file before h.sh_info ++ relocations_in (relas_in bytes)) new)
           (λ fault. (fault ≡ OutOfMemory) ⊎ (first_true (relocations_tests (section_header_of file h.sh_info) symbols (relocations_before file before h.sh_info) (relas_in bytes)) ≡ Some fault)) →
@@ -190,6 +246,29 @@ target_done file before i h symbols bytes all old new result rela inside loaded 
         (subst (λ bs. HoldsOf file h.sh_info (relocations_before file before h.sh_info ++ relocations_in (relas_in bs)) new) are done.1) was)
     go (Err fault) (inl memory) = inl memory
     go (Err fault) (inr found) = inr (these ∙ found)
+
+-- records of relocations are all records of their section
+pub relas_done : {X : Type 0} (Held : Type 0) (file : List ℕ) (before : List FileSection) (h : SectionHeader) (result : Result X FileFault) →
+    is_symbol_table h ≡ false → is_rela h ≡ true →
+    MatchResult result (λ _. (first_true (rela_tests file before h) ≡ None) × Held)
+      (λ fault. (fault ≡ OutOfMemory) ⊎ (first_true (rela_tests file before h) ≡ Some fault)) →
+    MatchResult result (λ _. (first_true (records_tests file before h) ≡ None) × Held)
+      (λ fault. (fault ≡ OutOfMemory) ⊎ (first_true (records_tests file before h) ≡ Some fault))
+relas_done {X = X} Held file before h result other rela done =
+    let are : rela_tests file before h ≡ records_tests file before h = sym (cond-false _ _ _ other ∙ cond-true _ _ _ rela) in
+    subst (λ ts. MatchResult result (λ _. (first_true ts ≡ None) × Held) (λ fault. (fault ≡ OutOfMemory) ⊎ (first_true ts ≡ Some fault))) are done
+
+-- what is lent of a vector is written back
+written_back : {X : Type 0} (all new : List X) (n : ℕ) → n ≡ length all → length new ≡ length all → take n (new ++ drop (length new) all) ≡ new
+written_back all new n count long =
+    ap (λ rest. take n (new ++ rest)) (drop_of_length-le (length new) all (omega (arith, long))) ∙ ap (take n) (append_none new) ∙ take_all n new (omega (arith, count, long))
+
+pub hold_on : (file : List ℕ) (i : ℕ) (h : SectionHeader) (all new : List Places) (n : ℕ) → h ≡ section_header_of file (i + 1) → n ≡ length all → length all ≡ section_count file →
+    HoldBefore file (sections_from file i 1 ++ record { index = i + 1; header = h } ∷ []) new →
+    HoldBefore file (sections_from file (i + 1) 1) (take n (new ++ drop (length new) all))
+hold_on file i h all new n at count long done =
+    subst (HoldBefore file (sections_from file (i + 1) 1)) (sym (written_back all new n count (done.long ∙ sym long)))
+    (subst (λ ss. HoldBefore file ss new) (ap (λ g. sections_from file i 1 ++ record { index = i + 1; header = g } ∷ []) at ∙ sym (from_more file i)) done)
 
 -- ---- nothing is held before the first section
 

@@ -1,5 +1,6 @@
 pub mod Found
 pub mod Names
+pub mod Opening
 pub mod Rows
 pub mod Stretches
 pub mod Tests

@@ -13,7 +13,7 @@ use crate::tables::Tables;
 use rv_elf::{ElfView, FileFault, RELA_SIZE, SHT_NOBITS, SYMBOL_SIZE, SectionHeader, SectionIndex, lies_past};
 
 /// Looks at the header of a section, with a section of symbols before it in the file or not, and one of rows.
-#[tactic(auto, using(crate::proofs::FirstTrue::first_true_some, crate::proofs::FirstTrue::first_true_none))]
+#[tactic(auto, using(rv_elf::specs::FirstTrue::first_true_some, rv_elf::specs::FirstTrue::first_true_none))]
 pub(crate) fn check_section(
     tables: &Tables<'_>,
     header: &SectionHeader,

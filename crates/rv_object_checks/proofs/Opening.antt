@@ -1,0 +1,80 @@
+-- The tests of a file before its sections, and all of them.
+
+use Rattle.std.proofs.Common.{◌≡◌, ◌⊎◌, inl, inr, ℕ, ◌<◌, Bool, true, false, not, cond, List, ◌∷◌, ◌++◌, Option, Some, None, refl, sym, ap, subst, ◌∙◌, arith, append_assoc}
+use Rattle.std.specs.Prelude.{◌==◌, Result, MatchResult}
+use Rattle.std.specs.declared.result.Result.TheVariants.{Ok, Err}
+use Rattle.std.proofs.lemmas.Bool.{cond-true, cond-false}
+use Rattle.std.proofs.lemmas.Bool.Decides.{nat_tests}
+use Rattle.rv_elf.specs.declared.fault.FileFault.{FileFault}
+use Rattle.rv_elf.specs.declared.fault.FileFault.TheVariants.{OutOfMemory, NotObject}
+use Rattle.rv_elf.specs.Fields.{number_in, e_type}
+use Rattle.rv_elf.specs.FirstFault.{first_true, header_tests, table_tests, open_tests, Finds}
+use Rattle.rv_elf.specs.FirstTrue.{first_true_none, first_true_some, no_fault_parts}
+use Rattle.rv_elf.specs.Numbers.{et_rel}
+use Rattle.rv_elf.specs.Sections.{section_count, names_section}
+use Rattle.rv_object_file_laws.specs.FirstFault.{object_tests, sections_tests, first_fault}
+use Rattle.rv_object_file_laws.specs.Parts.{sections}
+use Rattle.rv_object_checks.specs.Opening.{opening_tests}
+
+-- ---- before the sections
+
+module _ (file : List ℕ) where
+
+  pub header_stops : (fault : FileFault) → first_true (header_tests file) ≡ Some fault → first_true (opening_tests file) ≡ Some fault
+  unfolding opening_tests
+  header_stops fault found = first_true_some (header_tests file) _ fault found
+
+  pub type_stops : first_true (header_tests file) ≡ None → (number_in e_type 0 file == et_rel) ≡ false → first_true (opening_tests file) ≡ Some NotObject
+  unfolding opening_tests
+  type_stops header other = first_true_none (header_tests file) _ header ∙ cond-true _ _ _ (ap not other)
+
+  tables_are : first_true (header_tests file) ≡ None → (number_in e_type 0 file == et_rel) ≡ true → first_true (opening_tests file) ≡ first_true (open_tests file)
+  unfolding opening_tests
+  tables_are header is = first_true_none (header_tests file) _ header ∙ cond-false _ _ _ (ap not is) ∙ sym (first_true_none (header_tests file) (table_tests file) header)
+
+  -- what a view of the file answers
+  pub view_finds : {X : Type 0} → first_true (header_tests file) ≡ None → (number_in e_type 0 file == et_rel) ≡ true →
+      (result : Result X FileFault) → Finds (open_tests file) result → Finds (opening_tests file) result
+  view_finds {X = X} header is result found =
+      subst (λ answer. MatchResult result (λ _. answer ≡ None) (λ fault. answer ≡ Some fault)) (sym (tables_are header is)) found
+
+  passed : (b : Bool) (fault : FileFault) (rest : Option FileFault) → cond b (Some fault) rest ≡ None → (b ≡ false) × (rest ≡ None)
+  passed false fault rest e = (refl, e)
+  passed true fault rest e = cc
+
+  names_tested : first_true (table_tests file) ≡ None → 0 < names_section file → names_section file < section_count file
+  unfolding table_tests
+  names_tested found some =
+      let many = passed _ _ _ found in
+      let programs = passed _ _ _ many.1 in
+      let sizes = passed _ _ _ programs.1 in
+      let headers = passed _ _ _ sizes.1 in
+      let names = (passed _ _ _ headers.1).0 in
+      grind (arith, nat_tests, names, some)
+
+  -- the section of names is one of the file's
+  pub names_inside : first_true (open_tests file) ≡ None → 0 < names_section file → names_section file < section_count file
+  names_inside found = names_tested (no_fault_parts (header_tests file) (table_tests file) found).1
+
+-- ---- and all
+
+module _ (file other : List ℕ) (same : other ≡ file) where
+
+  all_are : object_tests file ≡ opening_tests file ++ sections_tests file [] (sections file)
+  unfolding object_tests opening_tests
+  all_are = sym (append_assoc (header_tests file) ((not (number_in e_type 0 file == et_rel), NotObject) ∷ table_tests file) (sections_tests file [] (sections file)))
+
+  sections_left : first_true (opening_tests file) ≡ None → first_fault file ≡ first_true (sections_tests other [] (sections other))
+  sections_left opened =
+      ap first_true all_are ∙ first_true_none (opening_tests file) _ opened ∙ ap (λ bytes. first_true (sections_tests bytes [] (sections bytes))) (sym same)
+
+  pub opening_fails : (fault : FileFault) → first_true (opening_tests file) ≡ Some fault → first_fault file ≡ Some fault
+  opening_fails fault found = ap first_true all_are ∙ first_true_some (opening_tests file) _ fault found
+
+  pub sections_pass : first_true (opening_tests file) ≡ None → first_true (sections_tests other [] (sections other)) ≡ None → first_fault file ≡ None
+  sections_pass opened found = sections_left opened ∙ found
+
+  pub sections_fail : (fault : FileFault) → first_true (opening_tests file) ≡ None →
+      (fault ≡ OutOfMemory) ⊎ (first_true (sections_tests other [] (sections other)) ≡ Some fault) → (fault ≡ OutOfMemory) ⊎ (first_fault file ≡ Some fault)
+  sections_fail fault opened (inl memory) = inl memory
+  sections_fail fault opened (inr found) = inr (sections_left opened ∙ found)
