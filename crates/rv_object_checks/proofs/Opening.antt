@@ -1,14 +1,13 @@
 -- The tests of a file before its sections, and all of them.
 
-use Rattle.std.proofs.Common.{◌≡◌, ◌⊎◌, inl, inr, ℕ, ◌<◌, Bool, true, false, not, cond, List, ◌∷◌, ◌++◌, Option, Some, None, refl, sym, ap, subst, ◌∙◌, arith, append_assoc}
-use Rattle.std.specs.Prelude.{◌==◌, Result, MatchResult}
-use Rattle.std.specs.declared.result.Result.TheVariants.{Ok, Err}
+use Rattle.std.proofs.Common.{◌≡◌, ◌⊎◌, inl, inr, ℕ, ◌<◌, Bool, true, false, not, cond, List, [], ◌∷◌, ◌++◌, Option, Some, None, refl, sym, ap, ◌∙◌, arith, append_assoc}
+use Rattle.std.specs.Prelude.{◌==◌}
 use Rattle.std.proofs.lemmas.Bool.{cond-true, cond-false}
 use Rattle.std.proofs.lemmas.Bool.Decides.{nat_tests}
 use Rattle.rv_elf.specs.declared.fault.FileFault.{FileFault}
 use Rattle.rv_elf.specs.declared.fault.FileFault.TheVariants.{OutOfMemory, NotObject}
 use Rattle.rv_elf.specs.Fields.{number_in, e_type}
-use Rattle.rv_elf.specs.FirstFault.{first_true, header_tests, table_tests, open_tests, Finds}
+use Rattle.rv_elf.specs.FirstFault.{first_true, header_tests, table_tests, open_tests}
 use Rattle.rv_elf.specs.FirstTrue.{first_true_none, first_true_some, no_fault_parts}
 use Rattle.rv_elf.specs.Numbers.{et_rel}
 use Rattle.rv_elf.specs.Sections.{section_count, names_section}
@@ -28,15 +27,10 @@ module _ (file : List ℕ) where
   unfolding opening_tests
   type_stops header other = first_true_none (header_tests file) _ header ∙ cond-true _ _ _ (ap not other)
 
-  tables_are : first_true (header_tests file) ≡ None → (number_in e_type 0 file == et_rel) ≡ true → first_true (opening_tests file) ≡ first_true (open_tests file)
+  -- of a file of that type
+  pub tables_are : first_true (header_tests file) ≡ None → (number_in e_type 0 file == et_rel) ≡ true → first_true (opening_tests file) ≡ first_true (open_tests file)
   unfolding opening_tests
   tables_are header is = first_true_none (header_tests file) _ header ∙ cond-false _ _ _ (ap not is) ∙ sym (first_true_none (header_tests file) (table_tests file) header)
-
-  -- what a view of the file answers
-  pub view_finds : {X : Type 0} → first_true (header_tests file) ≡ None → (number_in e_type 0 file == et_rel) ≡ true →
-      (result : Result X FileFault) → Finds (open_tests file) result → Finds (opening_tests file) result
-  view_finds {X = X} header is result found =
-      subst (λ answer. MatchResult result (λ _. answer ≡ None) (λ fault. answer ≡ Some fault)) (sym (tables_are header is)) found
 
   passed : (b : Bool) (fault : FileFault) (rest : Option FileFault) → cond b (Some fault) rest ≡ None → (b ≡ false) × (rest ≡ None)
   passed false fault rest e = (refl, e)
@@ -58,23 +52,24 @@ module _ (file : List ℕ) where
 
 -- ---- and all
 
-module _ (file other : List ℕ) (same : other ≡ file) where
+module _ (file : List ℕ) where
 
   all_are : object_tests file ≡ opening_tests file ++ sections_tests file [] (sections file)
   unfolding object_tests opening_tests
   all_are = sym (append_assoc (header_tests file) ((not (number_in e_type 0 file == et_rel), NotObject) ∷ table_tests file) (sections_tests file [] (sections file)))
 
-  sections_left : first_true (opening_tests file) ≡ None → first_fault file ≡ first_true (sections_tests other [] (sections other))
-  sections_left opened =
-      ap first_true all_are ∙ first_true_none (opening_tests file) _ opened ∙ ap (λ bytes. first_true (sections_tests bytes [] (sections bytes))) (sym same)
-
   pub opening_fails : (fault : FileFault) → first_true (opening_tests file) ≡ Some fault → first_fault file ≡ Some fault
   opening_fails fault found = ap first_true all_are ∙ first_true_some (opening_tests file) _ fault found
 
-  pub sections_pass : first_true (opening_tests file) ≡ None → first_true (sections_tests other [] (sections other)) ≡ None → first_fault file ≡ None
-  sections_pass opened found = sections_left opened ∙ found
+  module _ (other : List ℕ) (same : other ≡ file) (opened : first_true (opening_tests file) ≡ None) where
 
-  pub sections_fail : (fault : FileFault) → first_true (opening_tests file) ≡ None →
-      (fault ≡ OutOfMemory) ⊎ (first_true (sections_tests other [] (sections other)) ≡ Some fault) → (fault ≡ OutOfMemory) ⊎ (first_fault file ≡ Some fault)
-  sections_fail fault opened (inl memory) = inl memory
-  sections_fail fault opened (inr found) = inr (sections_left opened ∙ found)
+    sections_left : first_fault file ≡ first_true (sections_tests other [] (sections other))
+    sections_left = ap first_true all_are ∙ first_true_none (opening_tests file) _ opened ∙ ap (λ bytes. first_true (sections_tests bytes [] (sections bytes))) (sym same)
+
+    pub sections_pass : first_true (sections_tests other [] (sections other)) ≡ None → first_fault other ≡ None
+    sections_pass found = ap first_fault same ∙ sections_left ∙ found
+
+    pub sections_fail : (fault : FileFault) → (fault ≡ OutOfMemory) ⊎ (first_true (sections_tests other [] (sections other)) ≡ Some fault) →
+        (fault ≡ OutOfMemory) ⊎ (first_fault file ≡ Some fault)
+    sections_fail fault (inl memory) = inl memory
+    sections_fail fault (inr found) = inr (sections_left ∙ found)

@@ -261,7 +261,7 @@ relas_done {X = X} Held file before h result other rela done =
 -- what is lent of a vector is written back
 written_back : {X : Type 0} (all new : List X) (n : ℕ) → n ≡ length all → length new ≡ length all → take n (new ++ drop (length new) all) ≡ new
 written_back all new n count long =
-    ap (λ rest. take n (new ++ rest)) (drop_of_length-le (length new) all (omega (arith, long))) ∙ ap (take n) (append_none new) ∙ take_all n new (omega (arith, count, long))
+    ap (λ rest. take n (new ++ rest)) (drop_of_length-le all (omega (arith, long))) ∙ ap (take n) (append_none new) ∙ take_all n new (omega (arith, count, long))
 
 pub hold_on : (file : List ℕ) (i : ℕ) (h : SectionHeader) (all new : List Places) (n : ℕ) → h ≡ section_header_of file (i + 1) → n ≡ length all → length all ≡ section_count file →
     HoldBefore file (sections_from file i 1 ++ record { index = i + 1; header = h } ∷ []) new →
