@@ -1,11 +1,11 @@
 -- The tests of a file before its sections, and all of them.
 
-use Rattle.std.proofs.Common.{◌≡◌, ◌⊎◌, inl, inr, ℕ, ◌<◌, Bool, true, false, not, cond, List, [], ◌∷◌, ◌++◌, Option, Some, None, refl, sym, ap, ◌∙◌, arith, append_assoc}
+use Rattle.std.proofs.Common.{◌≡◌, ◌⊎◌, inl, inr, ℕ, zero, suc, ◌<◌, Bool, true, false, not, ◌&&◌, nat_le, List, [], ◌∷◌, ◌++◌, drop, Some, None, refl, sym, ap, ◌∙◌, arith, append_assoc}
 use Rattle.std.specs.Prelude.{◌==◌}
 use Rattle.std.proofs.lemmas.Bool.{cond-true, cond-false}
 use Rattle.std.proofs.lemmas.Bool.Decides.{nat_tests}
 use Rattle.rv_elf.specs.declared.fault.FileFault.{FileFault}
-use Rattle.rv_elf.specs.declared.fault.FileFault.TheVariants.{OutOfMemory, NotObject}
+use Rattle.rv_elf.specs.declared.fault.FileFault.TheVariants.{OutOfMemory, NotObject, BadTable}
 use Rattle.rv_elf.specs.Fields.{number_in, e_type}
 use Rattle.rv_elf.specs.FirstFault.{first_true, header_tests, table_tests, open_tests}
 use Rattle.rv_elf.specs.FirstTrue.{first_true_none, first_true_some, no_fault_parts}
@@ -14,6 +14,18 @@ use Rattle.rv_elf.specs.Sections.{section_count, names_section}
 use Rattle.rv_object_file_laws.specs.FirstFault.{object_tests, sections_tests, first_fault}
 use Rattle.rv_object_file_laws.specs.Parts.{sections}
 use Rattle.rv_object_checks.specs.Opening.{opening_tests}
+
+-- ---- lists of tests, none of which is true
+
+passed_at : (n : ℕ) (tests : List (Bool × FileFault)) → first_true tests ≡ None → first_true (drop n tests) ≡ None
+passed_at zero tests e = e
+passed_at (suc n) [] e = refl
+passed_at (suc n) ((false, fault) ∷ tests) e = passed_at n tests e
+passed_at (suc n) ((true, fault) ∷ tests) e = cc
+
+first_false : (test : Bool) (fault : FileFault) (tests : List (Bool × FileFault)) → first_true ((test, fault) ∷ tests) ≡ None → test ≡ false
+first_false false fault tests e = refl
+first_false true fault tests e = cc
 
 -- ---- before the sections
 
@@ -32,19 +44,12 @@ module _ (file : List ℕ) where
   unfolding opening_tests
   tables_are header is = first_true_none (header_tests file) _ header ∙ cond-false _ _ _ (ap not is) ∙ sym (first_true_none (header_tests file) (table_tests file) header)
 
-  passed : (b : Bool) (fault : FileFault) (rest : Option FileFault) → cond b (Some fault) rest ≡ None → (b ≡ false) × (rest ≡ None)
-  passed false fault rest e = (refl, e)
-  passed true fault rest e = cc
-
   names_tested : first_true (table_tests file) ≡ None → 0 < names_section file → names_section file < section_count file
   unfolding table_tests
   names_tested found some =
-      let many = passed _ _ _ found in
-      let programs = passed _ _ _ many.1 in
-      let sizes = passed _ _ _ programs.1 in
-      let headers = passed _ _ _ sizes.1 in
-      let names = (passed _ _ _ headers.1).0 in
-      grind (arith, nat_tests, names, some)
+      let test : Bool = not (names_section file == 0) && nat_le (section_count file) (names_section file) in
+      let fine : test ≡ false = first_false test BadTable (drop 5 (table_tests file)) (passed_at 4 (table_tests file) found) in
+      grind (arith, nat_tests, fine, some)
 
   -- the section of names is one of the file's
   pub names_inside : first_true (open_tests file) ≡ None → 0 < names_section file → names_section file < section_count file

@@ -1,6 +1,6 @@
 -- Over the sections of a file, one after the other.
 
-use Rattle.std.proofs.Common.{◌≡◌, ◌⊎◌, inl, inr, ℕ, zero, suc, ◌+◌, ◌-◌, ◌≤◌, ◌<◌, Bool, true, false, List, [], ◌∷◌, ◌++◌, length, get_or, set, filter, map, Option, Some, None, refl, ap, sym, subst, ◌∙◌, arith, append_assoc, true≢false, take, drop, drop_of_length-le, take_all}
+use Rattle.std.proofs.Common.{◌≡◌, ◌⊎◌, inl, inr, ℕ, zero, suc, ◌+◌, ◌-◌, ◌≤◌, ◌<◌, Bool, true, false, List, [], ◌∷◌, ◌++◌, length, get_or, set, filter, map, Option, Some, None, refl, ap, sym, subst, ◌∙◌, arith, append_assoc, take, drop, drop_of_length-le, take_all}
 use Rattle.std.specs.Prelude.{Result, MatchResult, IfSome, ◌==◌, ◌||◌, ◌&&◌, if◌then◌else◌, flat_map, filter_map}
 use Rattle.std.specs.List.{list_any, slice_get}
 use Rattle.std.specs.declared.result.Result.TheVariants.{Ok, Err}
@@ -155,13 +155,6 @@ some_if P o x e p = subst (λ q. IfSome q P) e p
 
 module _ (file : List ℕ) (before : List FileSection) (s : FileSection) (all : List Places) where
 
-  -- a section that relocates no loaded section
-  pub hold_same : ((t : ℕ) → is_loaded (section_header_of file t) ≡ true → relocates t s ≡ false) → HoldBefore file before all → HoldBefore file (before ++ s ∷ []) all
-  hold_same none was = record {
-    long = was.long;
-    held = λ t below loaded. subst (λ rs. IfSome (slice_get all t) (HoldsOf file t rs)) (sym (before_same file before s t (none t loaded))) (was.held t below loaded);
-  }
-
   -- a section that relocates this one
   pub hold_more : (target : ℕ) (new : Places) → target < section_count file → is_rela s.header ≡ true → s.header.sh_info ≡ target →
       HoldsOf file target (relocations_before file before target ++ relocations_in (relas_in (contents_of file s.header))) new →
@@ -196,23 +189,6 @@ Answers target symbols bytes old new result =
     (λ _. (first_true (relocations_tests target symbols rs (relas_in bytes)) ≡ None)
       × Holds target new.paddings.by_end.entries new.fields.by_start.entries (rs ++ relocations_in (relas_in bytes)))
     (λ fault. (fault ≡ OutOfMemory) ⊎ (first_true (relocations_tests target symbols rs (relas_in bytes)) ≡ Some fault))
-
-module _ (file : List ℕ) (before : List FileSection) (i : ℕ) (h : SectionHeader) (all : List Places) where
-
-  abbrev this : FileSection
-  this = record { index = i; header = h }
-
-  -- a section that is none of relocations, or one of a section that is not loaded
-  pub hold_none : is_rela h ≡ false → HoldBefore file before all → HoldBefore file (before ++ record { index = i; header = h } ∷ []) all
-  hold_none other was = hold_same file before this all (λ t loaded. ap (λ b. b && (h.sh_info == t)) other) was
-
-  pub hold_unloaded : is_loaded (section_header_of file h.sh_info) ≡ false → HoldBefore file before all → HoldBefore file (before ++ record { index = i; header = h } ∷ []) all
-  hold_unloaded other was = hold_same file before this all (λ t loaded. none t loaded (is_rela h) (h.sh_info == t) refl) was
-    where
-      none : (t : ℕ) → is_loaded (section_header_of file t) ≡ true → (x y : Bool) → (h.sh_info == t) ≡ y → (x && y) ≡ false
-      none t loaded false y e = refl
-      none t loaded true false e = refl
-      none t loaded true true e = absurd (true≢false (sym loaded ∙ ap (λ u. is_loaded (section_header_of file u)) (sym (eqb-true h.sh_info t e)) ∙ other))
 
 -- what a check of relocations answers is what one of their section does
 pub target_done : {X : Type 0} (file : List ℕ) (before : List FileSection) (i : ℕ) (h target : SectionHeader) (symbols : ℕ) (bytes : List ℕ) (all : List Places) (old new : Places) (result : Result X FileFault) →
