@@ -1,15 +1,15 @@
 -- The places of sections among those that an object keeps.
 
-use Rattle.std.proofs.Common.{◌≡◌, ℕ, zero, suc, ◌+◌, ◌-◌, ◌≤◌, ◌<◌, Bool, true, false, List, [], ◌∷◌, ◌++◌, length, get_or, map, filter, max, Option, Some, None, refl, ap, sym, subst, ◌∙◌, arith, cond}
+use Rattle.std.proofs.Common.{◌≡◌, ℕ, zero, suc, ◌+◌, ◌-◌, ◌≤◌, ◌<◌, Bool, true, false, List, [], ◌∷◌, ◌++◌, length, get_or, map, filter, max, Option, Some, None, refl, ap, sym, subst, ◌∙◌, arith}
 use Rattle.std.specs.Prelude.{nat_lt, ◌==◌, if◌then◌else◌}
 use Rattle.std.specs.List.{find}
 use Rattle.std.specs.Option.{is_some}
 use Rattle.std.proofs.lemmas.List.{map-append, length-append}
 use Rattle.std.proofs.lemmas.List.Elements.{filter-append}
-use Rattle.std.proofs.lemmas.Bool.{cond-true, cond-false, eq-eqb, eqb-true}
+use Rattle.std.proofs.lemmas.Bool.{cond-true, cond-false, eqb-true}
 use Rattle.std.proofs.lemmas.Bool.Decides.{nat_tests}
 use Rattle.rv_elf.specs.Sections.{section_count}
-use Rattle.rv_object_file_laws.specs.Parts.{FileSection, sections, is_kept, is_index, kept, kept_at, kept_before}
+use Rattle.rv_object_file_laws.specs.Parts.{FileSection, is_kept, is_index, kept, kept_at, kept_before}
 use Rattle.rv_object_checks.specs.Found.{section_at, sections_from, place_of, place_at, places_of}
 use Rattle.rv_object_checks.proofs.SectionsFrom.{sections_are, from_more}
 
@@ -26,7 +26,6 @@ pub is_behind : (k j : ℕ) → j ≤ k → nat_lt k j ≡ false
 is_behind k j h = grind (arith, nat_tests)
 
 module _ (P : FileSection → Bool) (file : List ℕ) where
-
   -- the first section is kept or not, and is not the one that is looked for
   skip : (j k : ℕ) (rest : List FileSection) → (P (section_at file k) ≡ true → (k == j) ≡ false) →
       find (is_index j) (filter P (section_at file k ∷ rest)) ≡ find (is_index j) (filter P rest)
@@ -155,8 +154,8 @@ pub places_more : (file : List ℕ) (i : ℕ) (old new : List (Option ℕ)) (is 
     new ≡ None ∷ map (λ s. place_at file s.index) (sections_from file (i + 1) 1)
 places_more file i old new is next place below made counted kept placed pushed =
     let here : place ≡ place_at file (i + 1) =
-        placed ∙ ap (λ b. if b then Some next else None) kept
-        ∙ ap (λ n. if is_kept file (section_at file (i + 1)) then Some n else None) counted ∙ sym (place_is file i below) in
+    placed ∙ ap (λ b. if b then Some next else None) kept
+    ∙ ap (λ n. if is_kept file (section_at file (i + 1)) then Some n else None) counted ∙ sym (place_is file i below) in
     let g : FileSection → Option ℕ = λ s. place_at file s.index in
     pushed ∙ ap (λ xs. xs ++ place ∷ []) made ∙ ap (λ o. None ∷ (map g (sections_from file i 1) ++ o ∷ [])) here
     ∙ ap (λ xs. None ∷ xs) (sym (map-append g (sections_from file i 1) (section_at file (i + 1) ∷ [])))

@@ -30,7 +30,6 @@ first_false true fault tests e = cc
 -- ---- before the sections
 
 module _ (file : List ℕ) where
-
   pub header_stops : (fault : FileFault) → first_true (header_tests file) ≡ Some fault → first_true (opening_tests file) ≡ Some fault
   unfolding opening_tests
   header_stops fault found = first_true_some (header_tests file) _ fault found
@@ -58,7 +57,6 @@ module _ (file : List ℕ) where
 -- ---- and all
 
 module _ (file : List ℕ) where
-
   all_are : object_tests file ≡ opening_tests file ++ sections_tests file [] (sections file)
   unfolding object_tests opening_tests
   all_are = sym (append_assoc (header_tests file) ((not (number_in e_type 0 file == et_rel), NotObject) ∷ table_tests file) (sections_tests file [] (sections file)))
@@ -67,7 +65,6 @@ module _ (file : List ℕ) where
   opening_fails fault found = ap first_true all_are ∙ first_true_some (opening_tests file) _ fault found
 
   module _ (other : List ℕ) (same : other ≡ file) (opened : first_true (opening_tests file) ≡ None) where
-
     sections_left : first_fault file ≡ first_true (sections_tests other [] (sections other))
     sections_left = ap first_true all_are ∙ first_true_none (opening_tests file) _ opened ∙ ap (λ bytes. first_true (sections_tests bytes [] (sections bytes))) (sym same)
 

@@ -1,11 +1,10 @@
 -- Relocations one after the other: what has been looked at, and what is left.
 
-use Rattle.std.proofs.Common.{◌≡◌, ℕ, zero, suc, ◌+◌, ◌-◌, ◌*◌, ◌<◌, ◌≤◌, ◌^◌, ◌⊎◌, inl, inr, Bool, true, false, not, ◌&&◌, ◌||◌, nat_le, nat_lt, ◌%◌, length, subst, List, [], ◌∷◌, ◌++◌, Option, Some, None, refl, sym, ap, ◌∙◌, arith, append_assoc}
+use Rattle.std.proofs.Common.{◌≡◌, ℕ, suc, ◌+◌, ◌-◌, ◌*◌, ◌<◌, ◌≤◌, Bool, true, false, not, ◌&&◌, ◌||◌, nat_le, ◌%◌, length, subst, List, [], ◌∷◌, ◌++◌, Option, Some, None, refl, sym, ap, ◌∙◌, arith, append_assoc}
 use Rattle.std.specs.Prelude.{◌==◌, option_to_list, if◌then◌else◌, unwrap_or, replicate}
 use Rattle.std.proofs.lemmas.List.{length-replicate}
-use Rattle.std.proofs.lemmas.Bool.{leb-true, ltb-true, le-leb, and_parts}
+use Rattle.std.proofs.lemmas.Bool.{leb-true, and_parts}
 use Rattle.std.proofs.lemmas.Bool.Decides.{nat_tests}
-use Rattle.rv_isa.specs.declared.kind.Kind.{Kind}
 use Rattle.rv_isa.specs.Kinds.{width_of}
 use Rattle.rv_elf.specs.declared.rela.Rela.{Rela}
 use Rattle.rv_elf.specs.declared.section_header.SectionHeader.{SectionHeader}
@@ -14,12 +13,12 @@ use Rattle.rv_elf.specs.Fields.{rela_size}
 use Rattle.rv_elf.specs.Numbers.{sht_nobits}
 use Rattle.rv_elf.specs.FirstFault.{first_true}
 use Rattle.rv_elf.specs.Records.{rela_at}
-use Rattle.rv_elf.specs.Sections.{records, relas_in}
+use Rattle.rv_elf.specs.Sections.{records}
 use Rattle.rv_object.specs.Object.{Relocation, Contents, Nobits, Progbits, size_of}
 use Rattle.rv_object.specs.Valid.{is_align, held, fits_inside, is_padding, is_padding_of, padding_of}
 use Rattle.rv_object_file_laws.specs.FirstFault.{relocations_tests, relocation_tests}
 use Rattle.rv_object_file_laws.specs.Parts.{relocation_in, relocations_in, extent_of}
-use Rattle.rv_object_checks.specs.Stretches.{Holds, placed}
+use Rattle.rv_object_checks.specs.Stretches.{Holds}
 use Rattle.rv_elf.specs.FirstTrue.{first_true_none, first_true_some}
 
 -- the records from an index on, of so many

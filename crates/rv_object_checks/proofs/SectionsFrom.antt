@@ -1,11 +1,11 @@
 -- The sections of a file, by their indices.
 
-use Rattle.std.proofs.Common.{◌≡◌, ℕ, zero, suc, ◌+◌, ◌*◌, ◌-◌, ◌≤◌, ◌<◌, Bool, true, false, List, [], ◌∷◌, ◌++◌, length, drop, Some, None, refl, ap, sym, ◌∙◌, arith, cond}
+use Rattle.std.proofs.Common.{◌≡◌, ℕ, zero, suc, ◌+◌, ◌*◌, ◌-◌, ◌≤◌, ◌<◌, Bool, true, false, List, [], ◌∷◌, ◌++◌, drop, Some, None, refl, ap, ◌∙◌, arith}
 use Rattle.std.specs.List.{find}
 use Rattle.std.proofs.lemmas.Bool.{cond-true, cond-false}
 use Rattle.rv_elf.specs.Fields.{number_in, e_shoff, section_header_size}
 use Rattle.rv_elf.specs.Records.{section_header_at}
-use Rattle.rv_elf.specs.Sections.{records, section_count, section_headers}
+use Rattle.rv_elf.specs.Sections.{records, section_count}
 use Rattle.rv_object_file_laws.specs.Parts.{FileSection, numbered, sections}
 use Rattle.rv_object_checks.specs.Found.{section_at, sections_from}
 

@@ -1,6 +1,6 @@
 -- Symbols: their records, and their names.
 
-use Rattle.std.proofs.Common.{◌≡◌, ℕ, zero, suc, ◌+◌, ◌*◌, ◌/◌, ◌≤◌, ◌<◌, Bool, true, false, List, [], ◌∷◌, length, drop, take, Option, Some, None, refl, ap, sym, ◌∙◌, arith}
+use Rattle.std.proofs.Common.{◌≡◌, ℕ, zero, suc, ◌+◌, ◌/◌, ◌≤◌, ◌<◌, true, false, List, [], ◌∷◌, length, drop, take, Option, Some, None, refl, ap, sym, ◌∙◌, arith}
 use Rattle.std.specs.Prelude.{nat_le, ◌==◌, ◌&&◌, not}
 use Rattle.rv_map.specs.Name.{is_name}
 use Rattle.std.proofs.lemmas.List.{drop-drop}
@@ -11,7 +11,7 @@ use Rattle.rv_elf.specs.Fields as at
 use Rattle.rv_elf.specs.Records.{symbol_at}
 use Rattle.rv_elf.specs.Sections.{string_at, contents_of}
 use Rattle.rv_object_file_laws.specs.FirstFault.{is_none, is_bad_name}
-use Rattle.rv_object_file_laws.specs.Parts.{FileSection, symbol_table, symbols_of, symbol_records}
+use Rattle.rv_object_file_laws.specs.Parts.{symbol_table, symbols_of, symbol_records}
 use Rattle.rv_object_checks.specs.Found.{section_at}
 use Rattle.rv_object_checks.specs.Names.{strings_end}
 use Rattle.rv_object_checks.proofs.Strings.{no_string}

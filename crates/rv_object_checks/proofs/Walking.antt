@@ -1,7 +1,7 @@
 -- Over the sections of a file, one after the other.
 
-use Rattle.std.proofs.Common.{◌≡◌, ◌⊎◌, inl, inr, ℕ, zero, suc, ◌+◌, ◌-◌, ◌≤◌, ◌<◌, Bool, true, false, List, [], ◌∷◌, ◌++◌, length, get_or, set, filter, map, Option, Some, None, refl, ap, sym, subst, ◌∙◌, arith, append_assoc, take, drop, drop_of_length-le, take_all}
-use Rattle.std.specs.Prelude.{Result, MatchResult, IfSome, ◌==◌, ◌||◌, ◌&&◌, if◌then◌else◌, flat_map, filter_map}
+use Rattle.std.proofs.Common.{◌≡◌, ◌⊎◌, inl, inr, ℕ, zero, suc, ◌+◌, ◌-◌, ◌≤◌, ◌<◌, Bool, true, false, List, [], ◌∷◌, ◌++◌, length, get_or, set, filter, Option, Some, None, refl, ap, sym, subst, ◌∙◌, arith, append_assoc, take, drop, drop_of_length-le, take_all}
+use Rattle.std.specs.Prelude.{Result, MatchResult, IfSome, ◌==◌, ◌||◌, ◌&&◌}
 use Rattle.std.specs.List.{list_any, slice_get}
 use Rattle.std.specs.declared.result.Result.TheVariants.{Ok, Err}
 use Rattle.std.proofs.lemmas.Bool.{cond-true, cond-false, eqb-true, eq-eqb}
@@ -12,7 +12,6 @@ use Rattle.std.proofs.lemmas.Option.{slice_get_read}
 use Rattle.rv_elf.specs.declared.fault.FileFault.{FileFault}
 use Rattle.rv_elf.specs.declared.fault.FileFault.TheVariants.{OutOfMemory}
 use Rattle.rv_elf.specs.declared.section_header.SectionHeader.{SectionHeader}
-use Rattle.rv_elf.specs.declared.rela.Rela.{Rela}
 use Rattle.rv_elf.specs.FirstFault.{first_true}
 use Rattle.rv_elf.specs.Sections.{section_count, section_header_of, contents_of, relas_in}
 use Rattle.rv_object.specs.Object.{Relocation}
@@ -34,14 +33,13 @@ unfolding section_tests size_tests link_tests
 section_tests_are file before h = refl
 
 module _ (file : List ℕ) (n i : ℕ) (below : i < n) where
-
   rest : List FileSection
   rest = sections_from file (n - (i + 1)) (i + 1 + 1)
 
   cut : first_true (sections_tests file (sections_from file i 1) (sections_from file (n - i) (i + 1)))
       ≡ first_true (section_tests file (sections_from file i 1) (section_header_of file (i + 1))
-        ++ (records_tests file (sections_from file i 1) (section_header_of file (i + 1))
-        ++ sections_tests file (sections_from file i 1 ++ section_at file (i + 1) ∷ []) (sections_from file (n - (i + 1)) (i + 1 + 1))))
+      ++ (records_tests file (sections_from file i 1) (section_header_of file (i + 1))
+      ++ sections_tests file (sections_from file i 1 ++ section_at file (i + 1) ∷ []) (sections_from file (n - (i + 1)) (i + 1 + 1))))
   cut = ap (λ ss. first_true (sections_tests file (sections_from file i 1) ss)) (from_cut file n i below)
 
   walk_step : first_true (section_tests file (sections_from file i 1) (section_header_of file (i + 1))) ≡ None →
@@ -67,7 +65,6 @@ module _ (file : List ℕ) (n i : ℕ) (below : i < n) where
   -- the same, by what the code has of the sections before and of the header
   module _ (symbols rows : Bool) (h : SectionHeader) (with_symbols : symbols ≡ list_any (λ s. is_symbol_table s.header) (sections_from file i 1))
       (with_rows : rows ≡ list_any (λ s. is_rows file s.header) (sections_from file i 1)) (at : h ≡ section_header_of file (i + 1)) where
-
     tests_at : first_true (section_tests file (sections_from file i 1) (section_header_of file (i + 1))) ≡ first_true (tests_behind file symbols rows h)
     tests_at = ap (λ g. first_true (section_tests file (sections_from file i 1) g)) (sym at) ∙ ap first_true (section_tests_are file (sections_from file i 1) h)
         ∙ ap (λ b. first_true (tests_behind file b (list_any (λ s. is_rows file s.header) (sections_from file i 1)) h)) (sym with_symbols)
@@ -117,7 +114,6 @@ append_none [] = refl
 append_none (x ∷ xs) = ap (λ ys. x ∷ ys) (append_none xs)
 
 module _ (file : List ℕ) (before : List FileSection) (s : FileSection) (t : ℕ) where
-
   pub before_more : relocates t s ≡ true → relocations_before file (before ++ s ∷ []) t ≡ relocations_before file before t ++ relocations_in (relas_in (contents_of file s.header))
   before_more here =
       let mine = filter (relocates t) before in
@@ -154,7 +150,6 @@ some_if : {X : Type 0} (P : X → Type 0) (o : Option X) (x : X) → o ≡ Some 
 some_if P o x e p = subst (λ q. IfSome q P) e p
 
 module _ (file : List ℕ) (before : List FileSection) (s : FileSection) (all : List Places) where
-
   -- a section that relocates this one
   pub hold_more : (target : ℕ) (new : Places) → target < section_count file → is_rela s.header ≡ true → s.header.sh_info ≡ target →
       HoldsOf file target (relocations_before file before target ++ relocations_in (relas_in (contents_of file s.header))) new →
@@ -179,6 +174,7 @@ module _ (file : List ℕ) (before : List FileSection) (s : FileSection) (all : 
         where
           not_here : (t target info : ℕ) → info ≡ target → (t == target) ≡ false → (info == t) ≡ false
           not_here t target info is e = grind (arith, nat_tests)
+
           differ : (t target : ℕ) → t ≡ target → (t == target) ≡ false → ⊥
           differ t target h e = grind (arith, nat_tests)
 
@@ -187,7 +183,7 @@ abbrev Answers : {X : Type 0} → SectionHeader → ℕ → List ℕ → Places 
 Answers target symbols bytes old new result =
     (rs : List Relocation) → Holds target old.paddings.by_end.entries old.fields.by_start.entries rs → MatchResult result
     (λ _. (first_true (relocations_tests target symbols rs (relas_in bytes)) ≡ None)
-      × Holds target new.paddings.by_end.entries new.fields.by_start.entries (rs ++ relocations_in (relas_in bytes)))
+    × Holds target new.paddings.by_end.entries new.fields.by_start.entries (rs ++ relocations_in (relas_in bytes)))
     (λ fault. (fault ≡ OutOfMemory) ⊎ (first_true (relocations_tests target symbols rs (relas_in bytes)) ≡ Some fault))
 
 -- what a check of relocations answers is what one of their section does
@@ -196,12 +192,12 @@ pub target_done : {X : Type 0} (file : List ℕ) (before : List FileSection) (i 
     symbols ≡ length (symbol_records file) → bytes ≡ contents_of file h → old ≡ get_or all h.sh_info old →
     Answers target symbols bytes old new result →
     HoldBefore file before all → MatchResult result
-      (λ _. (first_true (rela_tests file before h) ≡ None) × HoldBefore file (before ++ record { index = i; header = h } ∷ []) (set all h.sh_info new))
-      (λ fault. (fault ≡ OutOfMemory) ⊎ (first_true (rela_tests file before h) ≡ Some fault))
+    (λ _. (first_true (rela_tests file before h) ≡ None) × HoldBefore file (before ++ record { index = i; header = h } ∷ []) (set all h.sh_info new))
+    (λ fault. (fault ≡ OutOfMemory) ⊎ (first_true (rela_tests file before h) ≡ Some fault))
 target_done {X = X} file before i h target symbols bytes all old new result rela inside is there counted are read checked was =
     go result (subst (λ g. Answers g symbols bytes old new result) is checked (relocations_before file before h.sh_info)
-      (some_if (HoldsOf file h.sh_info (relocations_before file before h.sh_info)) (slice_get all h.sh_info) old
-        (slice_get_read all (length all) h.sh_info old refl (omega (arith, was.long)) read) (was.held h.sh_info inside loaded)))
+    (some_if (HoldsOf file h.sh_info (relocations_before file before h.sh_info)) (slice_get all h.sh_info) old
+    (slice_get_read all (length all) h.sh_info old refl (omega (arith, was.long)) read) (was.held h.sh_info inside loaded)))
   where
     loaded : is_loaded (section_header_of file h.sh_info) ≡ true
     loaded = ap is_loaded (sym is) ∙ there
@@ -212,14 +208,16 @@ target_done {X = X} file before i h target symbols bytes all old new result rela
         ∙ ap (λ bs. first_true (relocations_tests (section_header_of file h.sh_info) symbols (relocations_before file before h.sh_info) (relas_in bs))) (sym are)
 
     go : (r : Result X FileFault) → MatchResult r
-          (λ _. (first_true (relocations_tests (section_header_of file h.sh_info) symbols (relocations_before file before h.sh_info) (relas_in bytes)) ≡ None) × HoldsOf file h.sh_info (relocations_before file before h.sh_info ++ relocations_in (relas_in bytes)) new)
-          (λ fault. (fault ≡ OutOfMemory) ⊎ (first_true (relocations_tests (section_header_of file h.sh_info) symbols (relocations_before file before h.sh_info) (relas_in bytes)) ≡ Some fault)) →
+        (λ _. (first_true (relocations_tests (section_header_of file h.sh_info) symbols (relocations_before file before h.sh_info) (relas_in bytes)) ≡ None) × HoldsOf file h.sh_info (relocations_before file before h.sh_info ++ relocations_in (relas_in bytes)) new)
+        (λ fault. (fault ≡ OutOfMemory) ⊎ (first_true (relocations_tests (section_header_of file h.sh_info) symbols (relocations_before file before h.sh_info) (relas_in bytes)) ≡ Some fault)) →
         MatchResult r
-          (λ _. (first_true (rela_tests file before h) ≡ None) × HoldBefore file (before ++ record { index = i; header = h } ∷ []) (set all h.sh_info new))
-          (λ fault. (fault ≡ OutOfMemory) ⊎ (first_true (rela_tests file before h) ≡ Some fault))
-    go (Ok x) done = (these ∙ done.0,
-        hold_more file before (record { index = i; header = h }) all h.sh_info new inside rela refl
-        (subst (λ bs. HoldsOf file h.sh_info (relocations_before file before h.sh_info ++ relocations_in (relas_in bs)) new) are done.1) was)
+        (λ _. (first_true (rela_tests file before h) ≡ None) × HoldBefore file (before ++ record { index = i; header = h } ∷ []) (set all h.sh_info new))
+        (λ fault. (fault ≡ OutOfMemory) ⊎ (first_true (rela_tests file before h) ≡ Some fault))
+    go (Ok x) done = (
+      these ∙ done.0,
+      hold_more file before (record { index = i; header = h }) all h.sh_info new inside rela refl
+          (subst (λ bs. HoldsOf file h.sh_info (relocations_before file before h.sh_info ++ relocations_in (relas_in bs)) new) are done.1) was,
+    )
     go (Err fault) (inl memory) = inl memory
     go (Err fault) (inr found) = inr (these ∙ found)
 
@@ -227,9 +225,9 @@ target_done {X = X} file before i h target symbols bytes all old new result rela
 pub relas_done : {X : Type 0} (Held : Type 0) (file : List ℕ) (before : List FileSection) (h : SectionHeader) (result : Result X FileFault) →
     is_symbol_table h ≡ false → is_rela h ≡ true →
     MatchResult result (λ _. (first_true (rela_tests file before h) ≡ None) × Held)
-      (λ fault. (fault ≡ OutOfMemory) ⊎ (first_true (rela_tests file before h) ≡ Some fault)) →
+    (λ fault. (fault ≡ OutOfMemory) ⊎ (first_true (rela_tests file before h) ≡ Some fault)) →
     MatchResult result (λ _. (first_true (records_tests file before h) ≡ None) × Held)
-      (λ fault. (fault ≡ OutOfMemory) ⊎ (first_true (records_tests file before h) ≡ Some fault))
+    (λ fault. (fault ≡ OutOfMemory) ⊎ (first_true (records_tests file before h) ≡ Some fault))
 relas_done {X = X} Held file before h result other rela done =
     let are : rela_tests file before h ≡ records_tests file before h = sym (cond-false _ _ _ other ∙ cond-true _ _ _ rela) in
     subst (λ ts. MatchResult result (λ _. (first_true ts ≡ None) × Held) (λ fault. (fault ≡ OutOfMemory) ⊎ (first_true ts ≡ Some fault))) are done

@@ -1,9 +1,9 @@
 -- What is looked up in a file once: its sections by their indices, and which of them an object keeps.
 
-use Rattle.std.specs.Prelude.{◌≡◌, ℕ, zero, suc, ◌-◌, Bool, true, false, List, [], ◌∷◌, map, Option, Some, None}
+use Rattle.std.specs.Prelude.{ℕ, zero, suc, List, [], ◌∷◌, map, Option, Some, None}
 use Rattle.std.specs.List.{find}
-use Rattle.rv_elf.specs.Sections.{section_count, section_header_of}
-use Rattle.rv_object_file_laws.specs.Parts.{FileSection, sections, is_rows, kept_at, kept_before, symbol_table}
+use Rattle.rv_elf.specs.Sections.{section_header_of}
+use Rattle.rv_object_file_laws.specs.Parts.{FileSection, sections, is_rows, kept_at, kept_before}
 
 -- the section of an index, from 0
 abbrev pub section_at : List ℕ → ℕ → FileSection

@@ -83,7 +83,10 @@ fn lies_in_section(tables: &Tables<'_>, row: &RowRecord) -> bool
     if !is_kept_index(tables, row.r_section) {
         return false;
     }
-    let section = tables.names.view.section_header(SectionIndex(row.r_section as u16));
+    let section = tables
+        .names
+        .view
+        .section_header(SectionIndex(row.r_section as u16));
     is_loaded(&section) && ends_inside(row, section.sh_size)
 }
 

@@ -6,11 +6,15 @@ ghost use Rattle.rv_object_file_laws.specs.FirstFault.{record_size, is_of, is_re
 ghost use Rattle.rv_object_file_laws.specs.Parts.{is_section, symbol_table};
 ghost use Rattle.rv_object_checks.specs.Tests.{tests_behind, size_tests, link_tests};
 
-use crate::headers::{is_aligned, is_executable, is_loaded, is_rela, is_symbol_table, is_unsupported};
+use crate::headers::{
+    is_aligned, is_executable, is_loaded, is_rela, is_symbol_table, is_unsupported,
+};
 use crate::names::Names;
 use crate::rows::ROW_SIZE;
 use crate::tables::Tables;
-use rv_elf::{ElfView, FileFault, RELA_SIZE, SHT_NOBITS, SYMBOL_SIZE, SectionHeader, SectionIndex, lies_past};
+use rv_elf::{
+    ElfView, FileFault, RELA_SIZE, SHT_NOBITS, SYMBOL_SIZE, SectionHeader, SectionIndex, lies_past,
+};
 
 /// Looks at the header of a section, with a section of symbols before it in the file or not, and one of rows.
 #[tactic(auto, using(rv_elf::specs::FirstTrue::first_true_some, rv_elf::specs::FirstTrue::first_true_none))]
@@ -30,10 +34,17 @@ pub(crate) fn check_section(
 
 /// Looks at the bytes of a section.
 #[tactic(auto, unfolding(crate::specs::Tests::size_tests))]
-fn check_size(names: &Names<'_>, header: &SectionHeader, symbols: bool, rows: bool) -> Result<(), FileFault>
+fn check_size(
+    names: &Names<'_>,
+    header: &SectionHeader,
+    symbols: bool,
+    rows: bool,
+) -> Result<(), FileFault>
     ensures { Finds (size_tests names.now.view.file.now symbols rows header.now) result }
 {
-    if header.sh_type != SHT_NOBITS && lies_past(names.view.file(), header.sh_offset, header.sh_size) {
+    if header.sh_type != SHT_NOBITS
+        && lies_past(names.view.file(), header.sh_offset, header.sh_size)
+    {
         return Err(FileFault::Truncated);
     }
     if is_symbol_table(header) && symbols || names.is_rows(header) && rows {

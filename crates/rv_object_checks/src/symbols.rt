@@ -12,8 +12,8 @@ ghost use Rattle.rv_object_checks.specs.Names.{strings_end};
 use crate::names::{end_of_strings, is_name};
 use crate::tables::Tables;
 use rv_elf::{
-    ElfView, FileFault, SHN_ABS, SHN_UNDEF, STB_GLOBAL, STB_LOCAL, SYMBOL_SIZE, SectionHeader, SectionIndex,
-    Symbol, SymbolIndex, string_in, symbol_in,
+    ElfView, FileFault, SHN_ABS, SHN_UNDEF, STB_GLOBAL, STB_LOCAL, SYMBOL_SIZE, SectionHeader,
+    SectionIndex, Symbol, SymbolIndex, string_in, symbol_in,
 };
 
 /// How many symbols the symbol table has, symbol 0 as well.
@@ -55,7 +55,12 @@ pub(crate) fn check_symbols(view: &ElfView<'_>, header: &SectionHeader) -> Resul
 
 /// Looks at a symbol, whose name stands in a table of strings, the last of which ends at `end`.
 #[tactic(auto, unfolding(rv_object_file_laws::specs::FirstFault::symbol_tests))]
-fn check_symbol(view: &ElfView<'_>, names: &[u8], end: u64, symbol: &Symbol) -> Result<(), FileFault>
+fn check_symbol(
+    view: &ElfView<'_>,
+    names: &[u8],
+    end: u64,
+    symbol: &Symbol,
+) -> Result<(), FileFault>
     requires { end ≡ strings_end names.now }
     ensures { Finds (symbol_tests view.now.file.now names.now symbol.now) result }
 {

@@ -22,12 +22,12 @@ use std::alloc::{AllocError, Global};
 pub(crate) fn check_sections(alloc: Global, tables: &Tables<'_>) -> Result<(), FileFault>
     ensures { MatchResult result
         (λ _. first_true
-            (sections_tests tables.now.names.view.file.now []
-            (sections tables.now.names.view.file.now)) ≡ None)
+        (sections_tests tables.now.names.view.file.now []
+        (sections tables.now.names.view.file.now)) ≡ None)
         (λ fault. (fault ≡ OutOfMemory)
         ⊎ (first_true
-            (sections_tests tables.now.names.view.file.now []
-            (sections tables.now.names.view.file.now)) ≡ Some fault)) }
+        (sections_tests tables.now.names.view.file.now []
+        (sections tables.now.names.view.file.now)) ≡ Some fault)) }
 {
     let symbols = count_symbols(tables);
     let mut held = no_places(alloc, tables.names.view.header().e_shnum)?;
@@ -73,11 +73,11 @@ fn check_records(
     ensures { (before : List FileSection) (i : ℕ)
         → HoldBefore tables.now.names.view.file.now before held.old
         → MatchResult result
-            (λ _. (first_true (records_tests tables.now.names.view.file.now before header.now) ≡ None)
-            × HoldBefore tables.now.names.view.file.now
-                (before ++ record { index = i; header = header.now } ∷ []) held.new)
-            (λ fault. (fault ≡ OutOfMemory)
-            ⊎ (first_true (records_tests tables.now.names.view.file.now before header.now) ≡ Some fault)) }
+        (λ _. (first_true (records_tests tables.now.names.view.file.now before header.now) ≡ None)
+        × HoldBefore tables.now.names.view.file.now
+        (before ++ record { index = i; header = header.now } ∷ []) held.new)
+        (λ fault. (fault ≡ OutOfMemory)
+        ⊎ (first_true (records_tests tables.now.names.view.file.now before header.now) ≡ Some fault)) }
 {
     if is_symbol_table(header) {
         return check_symbols(&tables.names.view, header);
@@ -105,11 +105,11 @@ fn check_target(
     ensures { (before : List FileSection) (i : ℕ)
         → HoldBefore tables.now.names.view.file.now before held.old
         → MatchResult result
-            (λ _. (first_true (rela_tests tables.now.names.view.file.now before header.now) ≡ None)
-            × HoldBefore tables.now.names.view.file.now
-                (before ++ record { index = i; header = header.now } ∷ []) held.new)
-            (λ fault. (fault ≡ OutOfMemory)
-            ⊎ (first_true (rela_tests tables.now.names.view.file.now before header.now) ≡ Some fault)) }
+        (λ _. (first_true (rela_tests tables.now.names.view.file.now before header.now) ≡ None)
+        × HoldBefore tables.now.names.view.file.now
+        (before ++ record { index = i; header = header.now } ∷ []) held.new)
+        (λ fault. (fault ≡ OutOfMemory)
+        ⊎ (first_true (rela_tests tables.now.names.view.file.now before header.now) ≡ Some fault)) }
 {
     let view = &tables.names.view;
     let target = view.section_header(SectionIndex(header.sh_info as u16));

@@ -1,4 +1,4 @@
-use Rattle.std.proofs.Common.{◌≡◌, inr, ◌∙◌}
+use Rattle.std.proofs.Common.{inr, ◌∙◌}
 use Rattle.std.proofs.lemmas.Result.{err_from_is_err_and}
 use Rattle.rv_object_checks.proofs.Opening.{opening_fails, sections_pass, sections_fail}
 use Rattle.rv_object_checks.proofs.checking.check.Goals as goal
@@ -13,7 +13,7 @@ returns-in_err-check_sections c =
     let same = c.in_ok-tables.ensures ∙ c.of.ensures ∙ c.in_ok-view.ensures.file in
     let p = err_from_is_err_and c.from_residual-in_err-check_sections.result c.from_residual-in_err-check_sections.ensures.1 in
     rw (p.1, p.2) (sections_fail c.args.file.now c.in_ok-tables.tables.names.view.file.now same c.in_ok-view.ensures.faults
-      c.in_err-check_sections.field-0.0 c.in_err-check_sections.ensures)
+    c.in_err-check_sections.field-0.0 c.in_err-check_sections.ensures)
 
 pub checked-requires : goal.checked-requires
 checked-requires c =

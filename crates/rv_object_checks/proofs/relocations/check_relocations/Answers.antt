@@ -1,8 +1,6 @@
-use Rattle.std.proofs.Common.{rules, ◌≡◌, ◌⊎◌, inl, inr, ◌+◌, ◌*◌, ◌<◌, ◌/◌, ◌∷◌, List, None, Some, length, refl, sym, ap, ◌∙◌, arith}
+use Rattle.std.proofs.Common.{◌≡◌, ◌⊎◌, inl, inr, ◌+◌, ◌<◌, ◌/◌, ◌∷◌, Some, length, sym, ap, ◌∙◌, arith}
 use Rattle.std.proofs.lemmas.Result.{err_from_is_err_and}
-use Rattle.rv_elf.specs.Fields.{rela_size}
 use Rattle.rv_elf.specs.FirstFault.{first_true}
-use Rattle.rv_elf.specs.Records.{rela_at}
 use Rattle.rv_elf.specs.Sections.{relas_in}
 use Rattle.rv_elf.specs.declared.fault.FileFault.TheVariants.{OutOfMemory}
 use Rattle.rv_object_file_laws.specs.FirstFault.{relocations_tests}

@@ -1,4 +1,4 @@
-use Rattle.std.proofs.Common.{◌≡◌, ◌/◌, ◌^◌, ◌<◌, length, List}
+use Rattle.std.proofs.Common.{◌/◌, length, List}
 use Rattle.rv_elf.specs.Sections.{relas_in}
 use Rattle.rv_object.specs.Object.{Relocation}
 use Rattle.rv_object_checks.specs.Stretches.{Holds}

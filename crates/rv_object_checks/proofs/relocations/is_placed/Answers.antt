@@ -1,4 +1,4 @@
-use Rattle.std.proofs.Common.{◌≡◌, sym, ap, ◌∙◌}
+use Rattle.std.proofs.Common.{sym, ap, ◌∙◌}
 use Rattle.rv_object.specs.Valid.{is_padding}
 use Rattle.rv_object_file_laws.specs.Parts.{extent_of}
 use Rattle.rv_object_checks.specs.Stretches.{placed}

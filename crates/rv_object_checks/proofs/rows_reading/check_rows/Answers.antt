@@ -1,4 +1,4 @@
-use Rattle.std.proofs.Common.{◌≡◌, ◌+◌, ◌*◌, ◌-◌, ◌/◌, length, None, Some, subst, ap, sym, ◌∙◌, arith}
+use Rattle.std.proofs.Common.{◌≡◌, ◌+◌, ◌*◌, ◌/◌, length, None, Some, subst, ap, sym, ◌∙◌, arith}
 use Rattle.std.specs.Prelude.{flat_map}
 use Rattle.std.proofs.lemmas.Result.{err_from_is_err_and}
 use Rattle.rv_elf.specs.FirstFault.{first_true}
@@ -24,5 +24,5 @@ returns-in_err-check_row c =
     let found = subst (λ r. first_true (tests r) ≡ Some c.in_err-check_row.field-0.0) c.row_in.ensures c.in_err-check_row.ensures in
     let p = err_from_is_err_and c.from_residual.result c.from_residual.ensures.1 in
     rw (p.1, p.2) (
-      ap (λ bs. first_true (flat_map tests (rows_in bs))) (sym c.contents-bytes.ensures) ∙ c.loop-index.invariant
-      ∙ tests_stop tests row_at 32 (length bytes / 32) i (32 * i) (32 * (i + 1)) bytes c.in_err-check_row.field-0.0 (omega arith) (omega arith) found)
+    ap (λ bs. first_true (flat_map tests (rows_in bs))) (sym c.contents-bytes.ensures) ∙ c.loop-index.invariant
+    ∙ tests_stop tests row_at 32 (length bytes / 32) i (32 * i) (32 * (i + 1)) bytes c.in_err-check_row.field-0.0 (omega arith) (omega arith) found)

@@ -1,4 +1,3 @@
-use Rattle.std.proofs.Common.{◌∙◌}
 use Rattle.std.proofs.lemmas.Result.{err_from_is_err_and}
 use Rattle.rv_object_checks.specs.Tests.{size_tests, link_tests}
 use Rattle.rv_elf.specs.FirstTrue.{first_true_some}

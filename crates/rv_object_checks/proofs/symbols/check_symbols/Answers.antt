@@ -22,7 +22,7 @@ loop-earlier-preserved c =
     let fine = subst (λ s. first_true (tests s) ≡ None) c.symbol_from-symbol.ensures c.in_ok-check_symbol.ensures in
     c.loop-earlier.invariant
     ∙ tests_step tests symbol_at 24 c.saturating_sub-others.result i (24 * (i + 1)) (24 * (i + 1 + 1)) c.contents-bytes.result.now
-      c.loop-earlier-test.true (omega arith) fine
+    c.loop-earlier-test.true (omega arith) fine
 
 pub returns-in_err-check_symbol : goal.returns-in_err-check_symbol
 returns-in_err-check_symbol c =
@@ -33,8 +33,8 @@ returns-in_err-check_symbol c =
     let found = subst (λ s. first_true (tests s) ≡ Some c.in_err-check_symbol.field-0.0) c.symbol_from-symbol.ensures c.in_err-check_symbol.ensures in
     let p = err_from_is_err_and c.from_residual.result c.from_residual.ensures.1 in
     rw (p.1, p.2) (
-      ap (λ ns. first_true (flat_map (symbol_tests file ns) (drop 1 (symbols_in (contents_of file c.args.header.now))))) (sym c.section-names.ensures)
-      ∙ ap (λ bs. first_true (flat_map tests (drop 1 (symbols_in bs)))) (sym c.contents-bytes.ensures)
-      ∙ c.loop-earlier.invariant
-      ∙ tests_stop tests symbol_at 24 c.saturating_sub-others.result i (24 * (i + 1)) (24 * (i + 1 + 1)) c.contents-bytes.result.now
-        c.in_err-check_symbol.field-0.0 c.loop-earlier-test.true (omega arith) found)
+    ap (λ ns. first_true (flat_map (symbol_tests file ns) (drop 1 (symbols_in (contents_of file c.args.header.now))))) (sym c.section-names.ensures)
+    ∙ ap (λ bs. first_true (flat_map tests (drop 1 (symbols_in bs)))) (sym c.contents-bytes.ensures)
+    ∙ c.loop-earlier.invariant
+    ∙ tests_stop tests symbol_at 24 c.saturating_sub-others.result i (24 * (i + 1)) (24 * (i + 1 + 1)) c.contents-bytes.result.now
+    c.in_err-check_symbol.field-0.0 c.loop-earlier-test.true (omega arith) found)

@@ -1,4 +1,4 @@
-use Rattle.std.proofs.Common.{◌≡◌, ap, ◌∙◌}
+use Rattle.std.proofs.Common.{ap, ◌∙◌}
 use Rattle.std.specs.Prelude.{option_map}
 use Rattle.rv_object_checks.specs.Found.{section_at}
 use Rattle.rv_object_checks.proofs.SymbolFields.{symbols_counted}

@@ -1,4 +1,4 @@
-use Rattle.std.proofs.Common.{◌≡◌, ◌≤◌, ◌<◌, arith}
+use Rattle.std.proofs.Common.{arith}
 use Rattle.rv_object_checks.proofs.SymbolFields.{no_name, local_name}
 use Rattle.rv_object_checks.proofs.symbols.is_bad_name.Goals as goal
 

@@ -1,4 +1,4 @@
-use Rattle.std.proofs.Common.{◌≡◌, ◌*◌, ◌-◌, length, drop, take, ap, ◌∙◌, arith}
+use Rattle.std.proofs.Common.{◌*◌, ◌-◌, length, drop, ap, ◌∙◌}
 use Rattle.std.proofs.lemmas.List.{length-drop}
 use Rattle.rv_elf.specs.Records.{symbol_at}
 use Rattle.rv_object_checks.proofs.SymbolFields.{symbol_behind, take_whole}

@@ -1,4 +1,4 @@
-use Rattle.std.proofs.Common.{◌≡◌, ◌+◌, ◌-◌, ◌<◌, false, ap, sym, ◌∙◌, arith}
+use Rattle.std.proofs.Common.{◌≡◌, ◌+◌, ◌-◌, false, ap, sym, ◌∙◌, arith}
 use Rattle.std.specs.List.{find}
 use Rattle.rv_elf.specs.Sections.{section_count, section_header_of}
 use Rattle.rv_object_file_laws.specs.Parts.{is_symbol_table}
@@ -12,5 +12,5 @@ pub loop-earlier-preserved : goal.loop-earlier-preserved
 loop-earlier-preserved c =
     let file = c.args.names.now.view.file.now in
     let other : is_symbol_table (section_header_of file (c.loop-earlier.earlier + 1)) ≡ false =
-        sym (ap is_symbol_table c.section_header.ensures) ∙ sym c.is_symbol_table.ensures ∙ c.if-is_symbol_table.false in
+    sym (ap is_symbol_table c.section_header.ensures) ∙ sym c.is_symbol_table.ensures ∙ c.if-is_symbol_table.false in
     c.loop-earlier.invariant ∙ find_past (λ s. is_symbol_table s.header) file (section_count file - 1) c.loop-earlier.earlier (omega arith) other

@@ -1,5 +1,4 @@
-use Rattle.std.proofs.Common.{◌≡◌, ◌+◌, ◌-◌, ◌<◌, ap, ◌∙◌, arith}
-use Rattle.rv_elf.specs.Sections.{section_count}
+use Rattle.std.proofs.Common.{◌≡◌, ◌+◌, ap, ◌∙◌, arith}
 use Rattle.rv_object_file_laws.specs.Parts.{is_kept}
 use Rattle.rv_object_checks.specs.Found.{section_at}
 use Rattle.rv_object_checks.proofs.KeptSections.{places_more, counted_more, within_more, places_all}
@@ -11,7 +10,7 @@ loop-earlier-preserved c =
     let i = c.loop-earlier.earlier in
     let was = c.loop-earlier.invariant in
     let kept : c.is_kept-kept.result ≡ is_kept file (section_at file (i + 1)) =
-        c.is_kept-kept.ensures (i + 1) ∙ ap (λ h. is_kept file (record { index = i + 1; header = h })) c.section_header-header.ensures in
+    c.is_kept-kept.ensures (i + 1) ∙ ap (λ h. is_kept file (record { index = i + 1; header = h })) c.section_header-header.ensures in
     record {
       made = places_more file i c.loop-earlier.places.items c.push-in-loop-earlier.new.self.items c.is_kept-kept.result c.loop-earlier.next c.place.result
           (omega arith) was.made was.next kept c.place.ensures c.in_ok-push-2.ensures.items;

@@ -1,4 +1,4 @@
-use Rattle.std.proofs.Common.{◌≡◌, ◌∙◌, sym}
+use Rattle.std.proofs.Common.{◌∙◌, sym}
 use Rattle.rv_object_checks.proofs.Walking.{relas_done}
 use Rattle.rv_object_checks.proofs.walk.check_records.Goals as goal
 

@@ -28,7 +28,7 @@ returns-in_err-check_section c =
     let below : i < section_count file - 1 = omega (arith, c.count_sections-earlier-end.ensures, c.loop-earlier-test.true) in
     let p = err_from_is_err_and c.from_residual-in_err-check_section.result c.from_residual-in_err-check_section.ensures.1 in
     rw (p.1, p.2) (inr (was.left ∙ walk_ends file (section_count file - 1) i below c.loop-earlier.symbols_before c.loop-earlier.rows_before
-      c.section_header-header.result was.with_symbols was.with_rows c.section_header-header.ensures c.in_err-check_section.field-0.0 c.in_err-check_section.ensures.faults))
+    c.section_header-header.result was.with_symbols was.with_rows c.section_header-header.ensures c.in_err-check_section.field-0.0 c.in_err-check_section.ensures.faults))
 
 pub returns-in_err-check_records : goal.returns-in_err-check_records
 returns-in_err-check_records c =
@@ -43,7 +43,7 @@ returns-in_err-check_records c =
     elim (c.in_err-check_records.ensures (sections_from file i 1) (i + 1) held) [
       | inl short ↦ inl short
       | inr some ↦ inr (was.left ∙ walk_ends_within file (section_count file - 1) i below c.loop-earlier.symbols_before c.loop-earlier.rows_before
-        c.section_header-header.result was.with_symbols was.with_rows c.section_header-header.ensures fault c.in_ok-check_section.ensures.faults some)
+          c.section_header-header.result was.with_symbols was.with_rows c.section_header-header.ensures fault c.in_ok-check_section.ensures.faults some)
     ] in
     rw (p.1, p.2) seen
 
@@ -61,5 +61,5 @@ loop-earlier-preserved c =
       with_symbols = any_more (λ s. is_symbol_table s.header) file i _ _ _ was.with_symbols (c.is_symbol_table.ensures ∙ ap is_symbol_table at) c.either-symbols_before.ensures;
       with_rows = any_more (λ s. is_rows file s.header) file i _ _ _ was.with_rows (c.is_rows.ensures ∙ ap (is_rows file) at) c.either-rows_before.ensures;
       left = was.left ∙ walk_on file (section_count file - 1) i below c.loop-earlier.symbols_before c.loop-earlier.rows_before
-        c.section_header-header.result was.with_symbols was.with_rows at c.in_ok-check_section.ensures.faults done.0;
+          c.section_header-header.result was.with_symbols was.with_rows at c.in_ok-check_section.ensures.faults done.0;
     }

@@ -1,4 +1,4 @@
-use Rattle.std.proofs.Common.{◌≡◌, ◌∙◌, sym, ap, get_or}
+use Rattle.std.proofs.Common.{◌∙◌, sym, ap, get_or}
 use Rattle.rv_object_checks.proofs.Walking.{target_done}
 use Rattle.rv_object_checks.proofs.walk.check_target.Goals as goal
 

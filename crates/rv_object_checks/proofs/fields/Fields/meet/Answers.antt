@@ -1,4 +1,4 @@
-use Rattle.std.proofs.Common.{rules, ◌≡◌, ◌<◌, ◌≤◌, ◌&&◌, ◌||◌, not, true, false, [], ℕ, ◌-◌, List, ◌∷◌, Bool, refl, sym, ap, ◌∙◌, nat_lt, nat_le, arith}
+use Rattle.std.proofs.Common.{rules, ◌≡◌, ◌<◌, ◌≤◌, ◌&&◌, ◌||◌, not, true, false, ℕ, ◌-◌, List, ◌∷◌, Bool, refl, sym, ap, ◌∙◌, nat_lt, nat_le, arith}
 use Rattle.std.specs.Ordering.{nat_cmp}
 use Rattle.std.specs.List.{list_any}
 use Rattle.std.specs.declared.ops.Bound.TheVariants.{Included, Excluded}

@@ -1,4 +1,4 @@
-use Rattle.std.proofs.Common.{sym, ap, ◌∙◌, arith}
+use Rattle.std.proofs.Common.{ap, ◌∙◌, arith}
 use Rattle.std.specs.Prelude.{nat_lt}
 use Rattle.rv_object_checks.proofs.Strings.{named}
 use Rattle.rv_object_checks.proofs.names.Names.has_name.Goals as goal

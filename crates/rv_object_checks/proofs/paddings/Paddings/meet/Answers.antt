@@ -1,4 +1,4 @@
-use Rattle.std.proofs.Common.{rules, ◌≡◌, ◌<◌, ◌&&◌, true, false, [], ℕ, ◌+◌, List, ◌∷◌, Bool, refl, sym, ap, ◌∙◌, nat_lt}
+use Rattle.std.proofs.Common.{rules, ◌≡◌, ◌&&◌, true, false, ℕ, ◌+◌, Bool, refl, sym, ap, ◌∙◌, nat_lt}
 use Rattle.std.specs.Ordering.{nat_cmp}
 use Rattle.std.specs.declared.ops.Bound.TheVariants.{Included, Unbounded}
 use Rattle.std.specs.BTreeMap.Range.{range_contains}

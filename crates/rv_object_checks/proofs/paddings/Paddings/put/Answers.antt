@@ -1,4 +1,4 @@
-use Rattle.std.proofs.Common.{rules, ◌≡◌, ◌<◌, ◌||◌, true, false, ℕ, List, Bool, refl, sym, ap, ◌∙◌}
+use Rattle.std.proofs.Common.{◌≡◌, true, ap, ◌∙◌}
 use Rattle.std.specs.List.{list_any}
 use Rattle.rv_object_checks.specs.Stretches.{ends_in, is_spread}
 use Rattle.rv_object_checks.proofs.Entries.{put_meets, put_spread, by_result}

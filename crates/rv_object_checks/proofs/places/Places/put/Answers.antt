@@ -1,5 +1,5 @@
-use Rattle.std.proofs.Common.{rules, ◌≡◌, ◌≢◌, ◌<◌, ◌≤◌, ◌^◌, ◌+◌, true, false, not, [], ◌∷◌, ◌++◌, List, ℕ, Bool, refl, sym, ap, ◌∙◌, arith}
-use Rattle.rv_object_checks.specs.Stretches.{AreHeld, placed}
+use Rattle.std.proofs.Common.{◌≡◌, ◌≢◌, ◌<◌, ◌≤◌, ◌^◌, ◌+◌, ℕ, sym, ◌∙◌, arith}
+use Rattle.rv_object_checks.specs.Stretches.{placed}
 use Rattle.rv_object_checks.proofs.Meeting.{put_nothing, put_field, put_padding, meets_padding, meets_field}
 use Rattle.rv_object_checks.proofs.places.Places.put.Goals as goal
 
