@@ -43,6 +43,7 @@ pub(crate) fn check_sections(alloc: Global, tables: &Tables<'_>) -> Result<(), F
     Ok(())
 }
 
+/// Whether one of the two is so.
 fn either(a: bool, b: bool) -> bool
     ensures { result ≡ (a || b) }
 {
