@@ -1,0 +1,11 @@
+pub mod Entries
+pub mod KeptSections
+pub mod KindNumbers
+pub mod Meeting
+pub mod Opening
+pub mod Records
+pub mod RelocationSteps
+pub mod SectionsFrom
+pub mod Strings
+pub mod SymbolFields
+pub mod Walking

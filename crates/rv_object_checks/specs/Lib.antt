@@ -1,0 +1,7 @@
+pub mod Found
+pub mod Names
+pub mod Opening
+pub mod Rows
+pub mod Stretches
+pub mod Tests
+pub mod Walk

@@ -1,0 +1,105 @@
+//! The names of a file's sections.
+
+ghost use Rattle.std.specs.Prelude.{◌≡◌, ◌<◌, ℕ, not};
+ghost use Rattle.std.specs.List.{list_all};
+ghost use Rattle.rv_elf.specs.Sections.{section_count, names_section, string_at};
+ghost use Rattle.rv_map.specs.Name.{is_name, is_name_byte};
+ghost use Rattle.rv_object_file_laws.specs.FirstFault.{is_none};
+ghost use Rattle.rv_object_file_laws.specs.Parts.{name_of, is_named, is_rows, is_kept};
+ghost use Rattle.rv_object_file_laws.specs.Rows.{rows_name};
+ghost use Rattle.rv_object_checks.specs.Names.{strings_end, names_table, names_end};
+
+use memchr::memrchr;
+use rv_elf::{ElfView, SectionHeader, SectionIndex};
+
+/// The name of the section of rows, as a table of names has it.
+const ROWS_NAME: &[u8] = b".rv.rows\0";
+
+/// The names of a file's sections.
+#[derive(Clone, Copy, Debug, Drop)]
+pub(crate) struct Names<'a> {
+    /// The file.
+    pub(crate) view: ElfView<'a>,
+    /// The bytes of the table of names; none where the file has no such table.
+    table: &'a [u8],
+    /// Strings that begin from here on have no end.
+    end: u64,
+    ghost tabled: { table.now ≡ names_table view.file.now },
+    ghost ended: { end ≡ names_end view.file.now },
+}
+
+impl<'a> Names<'a> {
+    /// Those of a file.
+    pub(crate) fn of(view: ElfView<'a>) -> Names<'a>
+        requires { 0 < names_section view.file.now
+            → names_section view.file.now < section_count view.file.now }
+        ensures { result.view.file.now ≡ view.entry.file.now }
+    {
+        let index = view.header().e_shstrndx;
+        if index == 0 {
+            return Names {
+                view,
+                table: &[],
+                end: 1 << 32,
+            };
+        }
+        let table = view.section(SectionIndex(index));
+        let end = end_of_strings(table);
+        Names { view, table, end }
+    }
+
+    /// Whether the section has a name that ends.
+    pub(crate) fn has_name(&self, header: &SectionHeader) -> bool
+        ensures { result ≡ not (is_none (name_of self.now.view.file.now header.now)) }
+    {
+        (header.sh_name as u64) < self.end
+    }
+
+    /// Whether the section has the rows.
+    pub(crate) fn is_rows(&self, header: &SectionHeader) -> bool
+        ensures { result ≡ is_rows self.now.view.file.now header.now }
+    {
+        header.sh_type == 1 && is_rows_name(self.table, header.sh_name)
+    }
+
+    /// Whether an object keeps the section.
+    pub(crate) fn is_kept(&self, header: &SectionHeader) -> bool
+        ensures { (i : ℕ) → result ≡ is_kept self.now.view.file.now (record { index = i; header = header.now }) }
+    {
+        header.sh_type == 1 && !self.is_rows(header) || header.sh_type == 7 || header.sh_type == 8
+    }
+}
+
+/// Where the last string of a table ends: behind its last zero byte.
+pub(crate) fn end_of_strings(table: &[u8]) -> u64
+    ensures { result ≡ strings_end table.now }
+{
+    match memrchr(0, table) {
+        Some(last) => last as u64 + 1,
+        None => 0,
+    }
+}
+
+/// Whether the string at an offset is the name of the section of rows.
+fn is_rows_name(table: &[u8], offset: u32) -> bool
+    ensures { result ≡ is_named rows_name (string_at table.now offset) }
+{
+    match table.get(offset as usize..) {
+        Some(rest) => rest.starts_with(ROWS_NAME),
+        None => false,
+    }
+}
+
+/// Whether a map can show the name: one byte or more, each of them printed and no blank.
+pub(crate) fn is_name(name: &[u8]) -> bool
+    ensures { result ≡ is_name name.now }
+{
+    !name.is_empty() && are_shown(name)
+}
+
+/// Whether each byte is printed and no blank: 21h to 7Eh.
+fn are_shown(name: &[u8]) -> bool
+    ensures { result ≡ list_all is_name_byte name.now }
+{
+    name.iter().all(|byte| b'!' <= *byte && *byte <= b'~')
+}

@@ -1,0 +1,106 @@
+//! The symbols of a section.
+
+ghost use Rattle.std.specs.Prelude.{◌≡◌, ◌+◌, ◌*◌, ◌≤◌, true, drop, flat_map, length};
+ghost use Rattle.rv_elf.specs.Fields.{symbol_size};
+ghost use Rattle.rv_elf.specs.FirstFault.{Finds};
+ghost use Rattle.rv_elf.specs.Records.{symbol_at};
+ghost use Rattle.rv_elf.specs.Sections.{section_of, contents_of, symbols_in, string_at};
+ghost use Rattle.rv_object_file_laws.specs.FirstFault.{symbol_tests, is_bad_name, has_binding, has_home};
+ghost use Rattle.rv_object_file_laws.specs.Parts.{is_section, symbol_records};
+ghost use Rattle.rv_object_checks.specs.Names.{strings_end};
+
+use crate::names::{end_of_strings, is_name};
+use crate::tables::Tables;
+use rv_elf::{
+    ElfView, FileFault, SHN_ABS, SHN_UNDEF, STB_GLOBAL, STB_LOCAL, SYMBOL_SIZE, SectionHeader,
+    SectionIndex, Symbol, SymbolIndex, string_in, symbol_in,
+};
+
+/// How many symbols the symbol table has, symbol 0 as well.
+pub(crate) fn count_symbols(tables: &Tables<'_>) -> usize
+    ensures { result ≡ length (symbol_records tables.now.names.view.file.now) }
+{
+    match tables.symbols {
+        Some(table) => tables.names.view.section(table).len() / SYMBOL_SIZE,
+        None => 0,
+    }
+}
+
+/// The symbol of this index in a section of these bytes.
+pub fn symbol_from(bytes: &[u8], index: usize) -> Symbol
+    requires { symbol_size * index + symbol_size ≤ length bytes.now }
+    ensures { result ≡ symbol_at (symbol_size * index) bytes.now }
+{
+    symbol_in(&bytes[SYMBOL_SIZE * index..], SymbolIndex(0))
+}
+
+/// Looks at the symbols of a section, one after the other, but for symbol 0.
+pub(crate) fn check_symbols(view: &ElfView<'_>, header: &SectionHeader) -> Result<(), FileFault>
+    requires { is_section view.now.file.now header.now.sh_link ≡ true }
+    ensures { Finds
+        (flat_map
+        (symbol_tests view.now.file.now (section_of view.now.file.now header.now.sh_link))
+        (drop 1 (symbols_in (contents_of view.now.file.now header.now)))) result }
+{
+    let names = view.section(SectionIndex(header.sh_link as u16));
+    let end = end_of_strings(names);
+    let bytes = view.contents(header);
+    let others = (bytes.len() / SYMBOL_SIZE).saturating_sub(1);
+    for earlier in 0..others {
+        let symbol = symbol_from(bytes, earlier + 1);
+        check_symbol(view, names, end, &symbol)?;
+    }
+    Ok(())
+}
+
+/// Looks at a symbol, whose name stands in a table of strings, the last of which ends at `end`.
+#[tactic(auto, unfolding(rv_object_file_laws::specs::FirstFault::symbol_tests))]
+fn check_symbol(
+    view: &ElfView<'_>,
+    names: &[u8],
+    end: u64,
+    symbol: &Symbol,
+) -> Result<(), FileFault>
+    requires { end ≡ strings_end names.now }
+    ensures { Finds (symbol_tests view.now.file.now names.now symbol.now) result }
+{
+    if is_bad_name(names, end, symbol) {
+        return Err(FileFault::BadString);
+    }
+    if !has_binding(symbol) || !has_home(view, symbol) {
+        return Err(FileFault::BadIndex);
+    }
+    Ok(())
+}
+
+/// Whether the symbol's name has no end, or is that of a global symbol and none that a map can show.
+fn is_bad_name(names: &[u8], end: u64, symbol: &Symbol) -> bool
+    requires { end ≡ strings_end names.now }
+    ensures { result ≡ is_bad_name symbol.now (string_at names.now symbol.now.st_name) }
+{
+    if u64::from(symbol.st_name) >= end {
+        return true;
+    }
+    if symbol.st_info / 16 != STB_GLOBAL {
+        return false;
+    }
+    match string_in(names, symbol.st_name) {
+        Some(name) => !is_name(name),
+        None => true,
+    }
+}
+
+/// Whether the symbol is local or global.
+fn has_binding(symbol: &Symbol) -> bool
+    ensures { result ≡ has_binding symbol.now }
+{
+    symbol.st_info / 16 == STB_LOCAL || symbol.st_info / 16 == STB_GLOBAL
+}
+
+/// Whether the symbol is undefined, a number, or in a section.
+fn has_home(view: &ElfView<'_>, symbol: &Symbol) -> bool
+    ensures { result ≡ has_home view.now.file.now symbol.now }
+{
+    let home = symbol.st_shndx;
+    home == SHN_UNDEF || home == SHN_ABS || home < view.header().e_shnum
+}
