@@ -192,7 +192,10 @@ def builders(folder, source, architecture="rv64ima"):
     """The commands that build a source, by what they do: rv makes the executable and its map; GNU as an object, of
     which GNU ld makes the executable."""
     executable, linked = folder / "executable", folder / "object"
-    commands = {"rv build": [RV, "build", "-o", executable, "--map", folder / "map", source]}
+    commands = {
+        "rv build": [RV, "build", "-o", executable, "--map", folder / "map", source],
+        "rv as": [RV, "as", "-o", linked, source],
+    }
     if not missing(AS):
         commands["as"] = [AS, f"-march={architecture}", "-mabi=lp64", "-o", linked, source]
     if "as" in commands and not missing(LD):

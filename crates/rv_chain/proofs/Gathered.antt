@@ -13,17 +13,17 @@ use Rattle.rv_object.specs.Object.{Object}
 use Rattle.rv_chain_laws.specs.Headline.{AllRead}
 use Rattle.rv_boundary_laws.specs.Joins.{AreObjectsOf}
 use Rattle.rv_assemble.specs.FirstFault.{IsFirstFault}
-use Rattle.rv_chain.specs.Objects.{IsObjectFrom, AreObjectsFrom}
+use Rattle.rv_chain.specs.Objects.{AreEach, AreObjectsFrom}
 use Rattle.rv_link.specs.declared.fault.LinkFault.{LinkFault}
 use Rattle.rv_link.specs.declared.fault.LinkFault.TheVariants as faults
 use Rattle.rv_chain.specs.Fault.{of_link}
 use Rattle.rv_chain.specs.Refusals.{IsRefusedAt, IsFirstRefused, IsRefusedIn, AreUnlinked, IsRefusedFor}
 
-pub one_more : (texts : List (List ℕ)) (os : List Object) (text : List ℕ) (o : Object) → AreObjectsFrom texts os → IsObjectFrom text o → AreObjectsFrom (texts ++ text ∷ []) (os ++ o ∷ [])
-one_more [] [] text o h is = (is, tt)
-one_more [] (p ∷ os) text o h is = absurd h
-one_more (t ∷ texts) [] text o h is = absurd h
-one_more (t ∷ texts) (p ∷ os) text o (one, h) is = (one, one_more texts os text o h is)
+pub one_more : (Is : List ℕ → Object → Type 0) (all : List (List ℕ)) (os : List Object) (bytes : List ℕ) (o : Object) → AreEach Is all os → Is bytes o → AreEach Is (all ++ bytes ∷ []) (os ++ o ∷ [])
+one_more Is [] [] bytes o h is = (is, tt)
+one_more Is [] (p ∷ os) bytes o h is = absurd h
+one_more Is (b ∷ all) [] bytes o h is = absurd h
+one_more Is (b ∷ all) (p ∷ os) bytes o (one, h) is = (one, one_more Is all os bytes o h is)
 
 -- the statements that texts read as, of which these are the objects
 pub gathered : (texts : List (List ℕ)) (os : List Object) → AreObjectsFrom texts os → (sources : List (List Statement)) × AllRead texts sources × AreObjectsOf sources os

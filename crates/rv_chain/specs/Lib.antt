@@ -1,5 +1,6 @@
 pub mod Building
 pub mod Fault
+pub mod Linking
 pub mod Objects
 pub mod Refusals
 pub mod Running

@@ -7,6 +7,7 @@ ghost use Rattle.rv_object.specs.View.{object_of};
 ghost use Rattle.rv_object_laws.specs.IsLinkOf.{most_files};
 ghost use Rattle.rv_chain_laws.specs.Headline.{TheHeadline};
 ghost use Rattle.rv_chain.specs.Building.{IsProgramOf, IsExecutableOf};
+ghost use Rattle.rv_chain.specs.Linking.{AreBuilt, IsLinkFrom};
 ghost use Rattle.rv_chain.specs.Objects.{IsObjectFrom, AreObjectsFrom};
 ghost use Rattle.rv_chain.specs.Refusals.{AreGood, IsRefusedFor, IsRefusedIn, IsRefusedAt};
 
@@ -30,6 +31,9 @@ pub fn build(alloc: Global, sources: &[&[u8]], options: LinkOptions) -> Result<B
     ensures headline { IfOk result
         (λ built. TheHeadline
         (map now_of sources.now) options.text_start built.exe.items built.map.items) }
+    ensures links { IfOk result
+        (λ built. AreBuilt
+        (map now_of sources.now) options.text_start built.exe.items built.map.items) }
     ensures good { IfOk result (λ _. AreGood (map now_of sources.now) options.text_start) }
     // The first fault: too many files, the text's start, then the sources one by one, then the link.
     ensures refuses { IfErr result (IsRefusedFor (map now_of sources.now) options.text_start) }
@@ -37,9 +41,8 @@ pub fn build(alloc: Global, sources: &[&[u8]], options: LinkOptions) -> Result<B
     let linked = linked(alloc, sources, options)?;
     // what the types of a map keep
     known(&linked.map);
-    let exe = write_exec(alloc, &linked)?;
-    let map = rv_map::write(alloc, &linked.map)?;
-    Ok(Built { exe, map })
+    let built = Built::of(alloc, &linked)?;
+    Ok(built)
 }
 
 /// Assembles and links as `build`, without the text of the map: the same executable.
@@ -60,6 +63,8 @@ pub fn build_exe(alloc: Global, sources: &[&[u8]], options: LinkOptions) -> Resu
 fn linked(alloc: Global, sources: &[&[u8]], options: LinkOptions) -> Result<Linked, Fault>
     ensures program { IfOk result
         (λ l. IsProgramOf (map now_of sources.now) options.text_start (linked_of l)) }
+    ensures links { IfOk result
+        (λ l. IsLinkFrom (map now_of sources.now) options.text_start (linked_of l)) }
     ensures good { IfOk result (λ _. AreGood (map now_of sources.now) options.text_start) }
     ensures refuses { IfErr result (IsRefusedFor (map now_of sources.now) options.text_start) }
 {
@@ -87,7 +92,7 @@ fn objects(alloc: Global, sources: &[&[u8]]) -> Result<Vec<Object>, Fault>
 }
 
 /// The object of the source at this index, from 0.
-fn object(alloc: Global, index: usize, source: &[u8]) -> Result<Object, Fault>
+pub(crate) fn object(alloc: Global, index: usize, source: &[u8]) -> Result<Object, Fault>
     requires few { index < most_files }
     ensures object { IfOk result (λ o. IsObjectFrom source.now (object_of o)) }
     ensures refuses { IfErr result (IsRefusedAt (index + 1) source.now) }

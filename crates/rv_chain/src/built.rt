@@ -1,5 +1,15 @@
 //! What a build gives.
 
+ghost use Rattle.std.specs.Prelude.{◌≡◌, IfOk, IfErr};
+ghost use Rattle.rv_map.specs.Text.{map_text};
+ghost use Rattle.rv_image.specs.Executable.{exe_of};
+ghost use Rattle.rv_image.specs.Linked.{linked_of};
+ghost use Rattle.rv_chain.specs.declared.fault.Fault.TheVariants.{Memory};
+
+use crate::fault::Fault;
+use rv_image::{Linked, write_exec};
+use std::alloc::Global;
+
 /// The bytes of an executable and of its map.
 #[derive(Debug, PartialEq, Eq, Drop)]
 pub struct Built {
@@ -7,4 +17,17 @@ pub struct Built {
     pub exe: Vec<u8>,
     /// The text of its map.
     pub map: Vec<u8>,
+}
+
+impl Built {
+    /// What is written of a linked program.
+    pub(crate) fn of(alloc: Global, linked: &Linked) -> Result<Self, Fault>
+        ensures exe { IfOk result (λ built. built.exe.items ≡ exe_of (linked_of linked.now)) }
+        ensures map { IfOk result (λ built. built.map.items ≡ map_text (linked_of linked.now).map) }
+        ensures refuses { IfErr result (λ fault. fault ≡ Memory) }
+    {
+        let exe = write_exec(alloc, linked)?;
+        let map = rv_map::write(alloc, &linked.map)?;
+        Ok(Built { exe, map })
+    }
 }

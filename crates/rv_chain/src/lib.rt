@@ -17,11 +17,13 @@
 //!     assert!(rt; outcome.end == End::Exited(7));
 #![tactic(auto)]
 
+mod assembling;
 mod building;
 mod built;
 mod fault;
 mod running;
 
+pub use assembling::assemble_object;
 pub use building::{build, build_exe};
 pub use built::Built;
 pub use fault::Fault;

@@ -1,4 +1,4 @@
-//! What the program does: runs, builds, prints a map.
+//! What the program does: runs, builds, assembles, prints a map.
 
 ghost use Rattle.std.specs.Prelude.{◌≡◌, IfOk};
 ghost use Rattle.rv_program.specs.Status.{run_status};
@@ -7,7 +7,7 @@ use crate::error::CliError;
 use crate::messages::{end_line, fault_line};
 use crate::system::{FILE_LIMIT, INPUT_LIMIT, Purpose, ReadFault, System};
 use crate::words::default_options;
-use rv_chain::{Built, End, LinkOptions, build, build_exe, run_exec};
+use rv_chain::{Built, End, LinkOptions, assemble_object, build, build_exe, run_exec};
 use std::alloc::{AllocError, Global};
 
 /// The exit status of a run that the guest did not end by an exit.
@@ -27,6 +27,11 @@ pub(crate) enum Job<'a> {
         map: Option<&'a str>,
         options: LinkOptions,
         sources: Vec<&'a str>,
+    },
+    /// Writes the object of a source.
+    Assemble {
+        object: &'a str,
+        source: &'a str,
     },
     /// Prints the map.
     Map {
@@ -60,6 +65,7 @@ pub(crate) fn run_job<S: System>(system: &mut S, job: &Job<'_>) -> Result<u8, Cl
             write(system, map, Purpose::ToRead, built.map.as_slice())?;
             Ok(0)
         }
+        Job::Assemble { object, source } => assemble(system, object, source),
         Job::Map { options, sources } => {
             let built = build_with_map(system, sources.as_slice(), *options)?;
             print(system, built.map.as_slice())?;
@@ -155,6 +161,19 @@ fn build_without_map<S: System>(
     match build_exe(alloc, sources.as_slice(), options) {
         Ok(exe) => Ok(exe),
         Err(fault) => Err(fault_line(alloc, &fault, names)?),
+    }
+}
+
+/// Reads a source, assembles it, and writes its object; the exit status.
+fn assemble<S: System>(system: &mut S, object: &str, source: &str) -> Result<u8, CliError> {
+    let alloc: Global = system.alloc();
+    let text = contents(alloc, source, system.file(source))?;
+    match assemble_object(alloc, text.as_slice()) {
+        Ok(file) => {
+            write(system, object, Purpose::ToRead, file.as_slice())?;
+            Ok(0)
+        }
+        Err(fault) => Err(fault_line(alloc, &fault, &[source])?),
     }
 }
 

@@ -8,7 +8,7 @@ use rv_chain::{End, Fault, FileFault, LinkFault, SourceFault};
 use std::alloc::{AllocError, Global};
 use std::str::from_utf8;
 
-/// The line of a fault of `build` or `run_exec`; `names` are the files in their order.
+/// The line of a fault of a call of `rv_chain`; `names` are the files in their order.
 pub fn fault_line(alloc: Global, fault: &Fault, names: &[&str]) -> Result<CliError, AllocError>
     ensures { IfOk result (λ error. Tells error (fault_text names.now fault.now)) }
 {

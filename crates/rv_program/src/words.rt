@@ -19,6 +19,7 @@ const LIMIT: u64 = 1_000_000_000_000;
 const HELP: &str = "Examples:
   rv run prog.s                             builds a source and runs it
   rv build -o prog --map prog.map prog.s    writes the executable and its map
+  rv as -o prog.o prog.s                    writes the object of a source
   rv map prog.s                             shows where each statement stands
 
 Without words rv does the same as 'rv run -'.
@@ -35,6 +36,9 @@ Standard input is the guest's input, and its console is standard output.";
 const BUILD_HELP: &str = "Example:
   rv build -o prog --map prog.map prog.s";
 
+const AS_HELP: &str = "Example:
+  rv as -o prog.o prog.s";
+
 const MAP_HELP: &str = "Example:
   rv map --text-start 0x20000 prog.s";
 
@@ -45,6 +49,7 @@ pub(crate) fn parse_job<'a>(alloc: Global, words: &'a [&'a str]) -> Result<Job<'
     match matches.subcommand() {
         Some(("run", found)) => parse_run(&mut command, found),
         Some(("build", found)) => parse_build(alloc, &mut command, found),
+        Some(("as", found)) => Ok(parse_as(found)),
         Some(("map", found)) => parse_map(alloc, &mut command, found),
         _ => Ok(Job::Run {
             file: "-",
@@ -60,6 +65,7 @@ fn command<'a>(alloc: Global) -> Result<Command<'a>, Error> {
         .after_help(HELP);
     let all = all.subcommand(run_command(alloc)?)?;
     let all = all.subcommand(build_command(alloc)?)?;
+    let all = all.subcommand(as_command(alloc)?)?;
     Ok(all.subcommand(map_command(alloc)?)?)
 }
 
@@ -93,6 +99,22 @@ fn build_command<'a>(alloc: Global) -> Result<Command<'a>, Error> {
     with_sources(alloc, build.arg(output)?.arg(map)?)
 }
 
+fn as_command<'a>(alloc: Global) -> Result<Command<'a>, Error> {
+    let output = Arg::new(alloc, "output")
+        .short('o')
+        .value_name("OBJ")
+        .required(true)
+        .help("The object to write");
+    let source = Arg::new(alloc, "source")
+        .value_name("SRC")
+        .required(true)
+        .help("The source");
+    let assemble = Command::new(alloc, "as")
+        .about("Assembles a source to an object")
+        .after_help(AS_HELP);
+    Ok(assemble.arg(output)?.arg(source)?)
+}
+
 fn map_command<'a>(alloc: Global) -> Result<Command<'a>, Error> {
     let map = Command::new(alloc, "map")
         .about("Prints the map of what the sources build")
@@ -100,19 +122,23 @@ fn map_command<'a>(alloc: Global) -> Result<Command<'a>, Error> {
     with_sources(alloc, map)
 }
 
-/// The command with what `build` and `map` share: the start of the text and the sources.
+/// The command with what `build` and `map` share: how to link, and the sources.
 fn with_sources<'a>(alloc: Global, command: Command<'a>) -> Result<Command<'a>, Error> {
     let start = Arg::new(alloc, "text-start")
         .long("text-start")
         .value_name("N")
         .help("The address of the text, decimal or 0x and hexadecimal [default: 0x10000]");
-    let sources = Arg::new(alloc, "sources")
+    let no_relax = Arg::new(alloc, "no-relax")
+        .long("no-relax")
+        .action(ArgAction::SetTrue)
+        .help("Leaves every call its eight bytes");
+    let files = Arg::new(alloc, "files")
         .value_name("SRC")
         .required(true)
         .action(ArgAction::Append)
         .num_args(1..)
         .help("The sources, in the order of their sections");
-    Ok(command.arg(start)?.arg(sources)?)
+    Ok(command.arg(start)?.arg(no_relax)?.arg(files)?)
 }
 
 fn parse_run<'a>(command: &mut Command<'a>, found: &ArgMatches<'a>) -> Result<Job<'a>, CliError> {
@@ -140,8 +166,15 @@ fn parse_build<'a>(
         exe: found.get_str("output").unwrap_or(""),
         map: found.get_str("map"),
         options,
-        sources: source_names(alloc, found)?,
+        sources: file_names(alloc, found)?,
     })
+}
+
+fn parse_as<'a>(found: &ArgMatches<'a>) -> Job<'a> {
+    Job::Assemble {
+        object: found.get_str("output").unwrap_or(""),
+        source: found.get_str("source").unwrap_or(""),
+    }
 }
 
 fn parse_map<'a>(
@@ -152,7 +185,7 @@ fn parse_map<'a>(
     let options = link_options(command, found)?;
     Ok(Job::Map {
         options,
-        sources: source_names(alloc, found)?,
+        sources: file_names(alloc, found)?,
     })
 }
 
@@ -174,13 +207,13 @@ fn link_options(
     };
     Ok(LinkOptions {
         text_start,
-        relax: true,
+        relax: !found.get_flag("no-relax"),
     })
 }
 
-fn source_names<'a>(alloc: Global, found: &ArgMatches<'a>) -> Result<Vec<&'a str>, CliError> {
+fn file_names<'a>(alloc: Global, found: &ArgMatches<'a>) -> Result<Vec<&'a str>, CliError> {
     let mut names = Vec::new(alloc);
-    if let Some(given) = found.get_strs("sources") {
+    if let Some(given) = found.get_strs("files") {
         names.extend_from_slice(given)?;
     }
     Ok(names)

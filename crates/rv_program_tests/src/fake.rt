@@ -4,7 +4,8 @@ use rv_program::{Purpose, ReadFault, System, exit_status};
 use std::alloc::{AllocError, Global};
 use std::io::{self, ErrorKind};
 
-/// What is there to be read, and what cannot be written. There are the files `a.s`, `a` and `b.s`, which is empty.
+/// What is there to be read, and what cannot be written. There are the files `a.s`, `a` and `b.s`, which is empty, and
+/// those that the program wrote.
 #[derive(Clone, Copy)]
 pub(super) struct Scene<'a> {
     /// The bytes of the file `a.s`.
@@ -89,6 +90,11 @@ impl System for Fake<'_> {
     }
 
     fn file(&mut self, name: &str) -> Result<Vec<u8>, ReadFault> {
+        for file in &self.written {
+            if file.name.as_str() == name {
+                return Ok(Vec::from_slice(self.alloc, file.bytes.as_slice())?);
+            }
+        }
         let bytes = match name {
             "a.s" => self.scene.source,
             "a" => self.scene.exe,

@@ -7,7 +7,7 @@ use std::alloc::{AllocError, Global};
 use std::test::Fail;
 
 /// The words, what is wrong with them, and the usage that is shown.
-const FAULTS: [(&str, &str, &str); 12] = [
+const FAULTS: [(&str, &str, &str); 16] = [
     ("rv frob", "unrecognized subcommand 'frob'", "rv [COMMAND]"),
     (
         "rv --frob",
@@ -55,6 +55,26 @@ const FAULTS: [(&str, &str, &str); 12] = [
         "rv [COMMAND]",
     ),
     (
+        "rv as a.s",
+        "the following required arguments were not provided:\n  -o <OBJ>",
+        "rv as -o <OBJ> <SRC>",
+    ),
+    (
+        "rv as -o a.o",
+        "the following required arguments were not provided:\n  <SRC>",
+        "rv as -o <OBJ> <SRC>",
+    ),
+    (
+        "rv as -o a.o a.s b.s",
+        "unexpected argument 'b.s' found",
+        "rv as -o <OBJ> <SRC>",
+    ),
+    (
+        "rv build -o a --no-relax a.s --no-relax",
+        "the argument '--no-relax' cannot be used multiple times",
+        "rv build [OPTIONS] -o <EXE> <SRC>...",
+    ),
+    (
         "rv map",
         "the following required arguments were not provided:\n  <SRC>...",
         "rv map <SRC>...",
@@ -96,6 +116,7 @@ Usage: rv [COMMAND]
 Commands:
   run    Runs an executable, or builds a source and runs it
   build  Builds an executable from sources
+  as     Assembles a source to an object
   map    Prints the map of what the sources build
   help   Print this message or the help of the given subcommand(s)
 
@@ -106,6 +127,7 @@ Options:
 Examples:
   rv run prog.s                             builds a source and runs it
   rv build -o prog --map prog.map prog.s    writes the executable and its map
+  rv as -o prog.o prog.s                    writes the object of a source
   rv map prog.s                             shows where each statement stands
 
 Without words rv does the same as 'rv run -'.
@@ -143,10 +165,26 @@ Options:
   -o <EXE>              The executable to write
       --map <F>         Writes the map as well
       --text-start <N>  The address of the text, decimal or 0x and hexadecimal [default: 0x10000]
+      --no-relax        Leaves every call its eight bytes
   -h, --help            Print help
 
 Example:
   rv build -o prog --map prog.map prog.s
+";
+
+const AS_HELP: &str = "Assembles a source to an object
+
+Usage: rv as -o <OBJ> <SRC>
+
+Arguments:
+  <SRC>  The source
+
+Options:
+  -o <OBJ>      The object to write
+  -h, --help    Print help
+
+Example:
+  rv as -o prog.o prog.s
 ";
 
 const MAP_HELP: &str = "Prints the map of what the sources build
@@ -158,16 +196,18 @@ Arguments:
 
 Options:
       --text-start <N>  The address of the text, decimal or 0x and hexadecimal [default: 0x10000]
+      --no-relax        Leaves every call its eight bytes
   -h, --help            Print help
 
 Example:
   rv map --text-start 0x20000 prog.s
 ";
 
-const HELPS: [Row; 4] = [
+const HELPS: [Row; 5] = [
     ("rv --help", 0, HELP, ""),
     ("rv run --help", 0, RUN_HELP, ""),
     ("rv build --help", 0, BUILD_HELP, ""),
+    ("rv as --help", 0, AS_HELP, ""),
     ("rv map --help", 0, MAP_HELP, ""),
 ];
 

@@ -170,11 +170,11 @@ def program(seed, options):
         return ends
 
 
-def options_given():
+def options_given(says=__doc__, count=500):
     """The words of the command line."""
-    words = argparse.ArgumentParser(description=__doc__.split("\n")[0])
+    words = argparse.ArgumentParser(description=says.split("\n")[0])
     words.add_argument("--first", type=int, default=1, metavar="SEED")
-    words.add_argument("--count", type=int, default=500, metavar="N")
+    words.add_argument("--count", type=int, default=count, metavar="N")
     words.add_argument("--jobs", type=int, default=len(os.sched_getaffinity(0)), metavar="N")
     words.add_argument("--limit", type=int, default=20_000_000, metavar="N")
     words.add_argument("--keep", metavar="FOLDER")
@@ -182,22 +182,32 @@ def options_given():
     return words.parse_args()
 
 
-def main():
-    options = options_given()
-    for tool in (options.rv, "csmith", "qemu-riscv64", f"{GNU}gcc", f"{GNU}as", f"{GNU}ld"):
+def need(*tools):
+    """Ends the script where a tool is not there."""
+    for tool in tools:
         if shutil.which(tool) is None:
             sys.exit(f"{tool} is not there")
+
+
+def summary(counts, groups):
+    """Prints how many of each group ended how; the status."""
+    for group in groups:
+        ends = sorted((end, count) for (its, end), count in counts.items() if its == group)
+        print(f"{group}: " + ", ".join(f"{end} {count}" for end, count in ends))
+    differing = sum(count for (_, end), count in counts.items() if end == "differs")
+    print(f"differs={differing}")
+    return 0 if differing == 0 else 1
+
+
+def main():
+    options = options_given()
+    need(options.rv, "csmith", "qemu-riscv64", *(f"{GNU}{tool}" for tool in ("gcc", "as", "ld")))
     counts = Counter()
     seeds = range(options.first, options.first + options.count)
     with ThreadPoolExecutor(options.jobs) as lanes:
         for ends in lanes.map(lambda seed: program(seed, options), seeds):
             counts.update(ends)
-    for way in WAYS:
-        of_way = sorted((end, count) for (its, end), count in counts.items() if its == way)
-        print(f"{way}: " + ", ".join(f"{end} {count}" for end, count in of_way))
-    differing = sum(count for (_, end), count in counts.items() if end == "differs")
-    print(f"differs={differing}")
-    return 0 if differing == 0 else 1
+    return summary(counts, WAYS)
 
 
 if __name__ == "__main__":

@@ -2,11 +2,17 @@ use Rattle.std.proofs.Common.{map, sym, subst}
 use Rattle.rv_statement.specs.View.{now_of}
 use Rattle.rv_chain_laws.specs.Headline.{TheHeadline}
 use Rattle.rv_chain.proofs.Headlined.{headlined}
+use Rattle.rv_chain.proofs.Written.{built_of}
 use Rattle.rv_chain.proofs.building.build.Goals as goal
 
 pub returns-clause-headline : goal.returns-clause-headline
 returns-clause-headline c =
     let texts = map now_of c.args.sources.now in
     let start = c.args.options.text_start in
-    subst (λ text. TheHeadline texts start c.in_ok-exe.exe.items text) (sym c.in_ok-map.ensures.text)
-    (headlined texts start c.in_ok-linked.linked c.in_ok-exe.exe.items c.known.ensures c.in_ok-linked.ensures.program c.in_ok-exe.ensures)
+    subst (λ text. TheHeadline texts start c.in_ok-built.built.exe.items text) (sym c.in_ok-built.ensures.map)
+    (headlined texts start c.in_ok-linked.linked c.in_ok-built.built.exe.items c.known.ensures c.in_ok-linked.ensures.program c.in_ok-built.ensures.exe)
+
+pub returns-clause-links : goal.returns-clause-links
+returns-clause-links c =
+    let link = c.in_ok-linked.ensures.links in
+    (link.0, link.1, built_of link.0 c.args.options.text_start c.in_ok-linked.linked c.in_ok-built.built.exe.items c.in_ok-built.built.map.items link.2 c.in_ok-built.ensures.exe c.in_ok-built.ensures.map)

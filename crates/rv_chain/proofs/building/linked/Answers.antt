@@ -34,6 +34,13 @@ returns-clause-program c =
       flag = c.linked_objects_are_flagged.ensures g.0 os start l g.2 link;
     }
 
+pub returns-clause-links : goal.returns-clause-links
+returns-clause-links c = (
+  map object_of c.in_ok-objects.objects.items,
+  c.in_ok-objects.ensures.objects,
+  subst (λ xs. IsLinkOf (map object_of xs) c.args.options.text_start (linked_of c.in_ok-linked.linked)) c.as_slice.ensures.value c.in_ok-linked.ensures.links,
+)
+
 pub returns-clause-good : goal.returns-clause-good
 returns-clause-good c =
     let texts = map now_of c.args.sources.now in

@@ -28,7 +28,7 @@ loop-index-preserved c =
     let one : IsObjectFrom (get_or texts i []) o =
     subst (λ (t : List ℕ). IsObjectFrom t o) (sym (source_at c.args.sources.now i _ c.loop-index-test.true)) c.in_ok-object.ensures.object in
     let all : AreObjectsFrom (take i texts ++ get_or texts i [] ∷ []) (map object_of c.loop-index.objects.items ++ o ∷ []) =
-    one_more (take i texts) (map object_of c.loop-index.objects.items) (get_or texts i []) o c.loop-index.invariant one in
+    one_more IsObjectFrom (take i texts) (map object_of c.loop-index.objects.items) (get_or texts i []) o c.loop-index.invariant one in
     let pushed : c.push.new.self.items ≡ c.loop-index.objects.items ++ c.in_ok-object.field-0 ∷ [] = search rules in
     subst (λ (ts : List (List ℕ)). AreObjectsFrom ts (map object_of c.push.new.self.items)) (sym (take_one_more texts i inside))
     (subst (λ xs. AreObjectsFrom (take i texts ++ get_or texts i [] ∷ []) (map object_of xs)) (sym pushed)

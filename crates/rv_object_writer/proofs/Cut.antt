@@ -1,0 +1,61 @@
+-- Fields keep the low bytes of a number.
+
+use Rattle.std.proofs.Common.{◌≡◌, ℕ, ◌/◌, ◌%◌, ◌^◌, ◌∷◌, [], ◌++◌, arith}
+use Rattle.byteorder.specs.Endian.{little_bytes}
+use Rattle.rv_elf.specs.declared.file_header.FileHeader.{FileHeader}
+use Rattle.rv_elf.specs.declared.section_header.SectionHeader.{SectionHeader}
+use Rattle.rv_elf.specs.declared.symbol.Symbol.{Symbol}
+use Rattle.rv_elf.specs.declared.rela.Rela.{Rela}
+use Rattle.rv_elf.specs.Fields as at
+use Rattle.rv_elf.specs.Records.{ident, file_header_bytes, section_header_bytes, symbol_bytes, rela_bytes}
+use Rattle.std.specs.Int.{cast_unsigned, w64}
+
+pub half_cut : (x : ℕ) → little_bytes 2 (x % 2 ^ 16) ≡ little_bytes 2 x
+half_cut x =
+    let low : x % 0x10000 % 256 ≡ x % 256 = omega arith in
+    let high : x % 0x10000 / 256 % 256 ≡ x / 256 % 256 = omega arith in
+    λ k. low k ∷ high k ∷ []
+
+pub word_cut : (x : ℕ) → little_bytes 4 (x % 2 ^ 32) ≡ little_bytes 4 x
+word_cut x =
+    let a : x % 0x100000000 % 256 ≡ x % 256 = omega arith in
+    let b : x % 0x100000000 / 256 % 256 ≡ x / 256 % 256 = omega arith in
+    let c : x % 0x100000000 / 65536 % 256 ≡ x / 65536 % 256 = omega arith in
+    let d : x % 0x100000000 / 16777216 % 256 ≡ x / 16777216 % 256 = omega arith in
+    λ k. a k ∷ b k ∷ c k ∷ d k ∷ []
+
+-- the bytes of a record, with these fields cut to their widths
+
+pub symbol_cut : (s : Symbol) (name home : ℕ)
+    → symbol_bytes (record s { st_name = name % 2 ^ 32; st_shndx = home % 2 ^ 16 }) ≡ symbol_bytes (record s { st_name = name; st_shndx = home })
+unfolding symbol_bytes
+symbol_cut s name home = λ k. word_cut name k
+    ++ (at.bytes_of at.st_info s.st_info ++ (at.bytes_of at.st_other s.st_other
+    ++ (half_cut home k ++ (at.bytes_of at.st_value s.st_value ++ at.bytes_of at.st_size s.st_size))))
+
+pub rela_cut : (r : Rela) (symbol : ℕ) → rela_bytes (record r { r_sym = symbol % 2 ^ 32 }) ≡ rela_bytes (record r { r_sym = symbol })
+unfolding rela_bytes
+rela_cut r symbol = λ k. at.bytes_of at.r_offset r.r_offset
+    ++ (at.bytes_of at.r_type r.r_type ++ (word_cut symbol k ++ at.bytes_of at.r_addend (cast_unsigned w64 r.r_addend)))
+
+pub section_cut : (h : SectionHeader) (name link info : ℕ)
+    → section_header_bytes (record h { sh_name = name % 2 ^ 32; sh_link = link % 2 ^ 32; sh_info = info % 2 ^ 32 })
+    ≡ section_header_bytes (record h { sh_name = name; sh_link = link; sh_info = info })
+unfolding section_header_bytes
+section_cut h name link info = λ k. word_cut name k
+    ++ (at.bytes_of at.sh_type h.sh_type ++ (at.bytes_of at.sh_flags h.sh_flags
+    ++ (at.bytes_of at.sh_addr h.sh_addr ++ (at.bytes_of at.sh_offset h.sh_offset
+    ++ (at.bytes_of at.sh_size h.sh_size ++ (word_cut link k ++ (word_cut info k
+    ++ (at.bytes_of at.sh_addralign h.sh_addralign ++ at.bytes_of at.sh_entsize h.sh_entsize))))))))
+
+pub header_cut : (h : FileHeader) (sections names : ℕ)
+    → file_header_bytes (record h { e_shnum = sections % 2 ^ 16; e_shstrndx = names % 2 ^ 16 })
+    ≡ file_header_bytes (record h { e_shnum = sections; e_shstrndx = names })
+unfolding file_header_bytes
+header_cut h sections names = λ k. ident
+    ++ (at.bytes_of at.e_type h.e_type ++ (at.bytes_of at.e_machine h.e_machine
+    ++ (at.bytes_of at.e_version h.e_version ++ (at.bytes_of at.e_entry h.e_entry
+    ++ (at.bytes_of at.e_phoff h.e_phoff ++ (at.bytes_of at.e_shoff h.e_shoff
+    ++ (at.bytes_of at.e_flags h.e_flags ++ (at.bytes_of at.e_ehsize h.e_ehsize
+    ++ (at.bytes_of at.e_phentsize h.e_phentsize ++ (at.bytes_of at.e_phnum h.e_phnum
+    ++ (at.bytes_of at.e_shentsize h.e_shentsize ++ (half_cut sections k ++ half_cut names k))))))))))))

@@ -1,0 +1,108 @@
+-- One step of each loop, and its end.
+
+use Rattle.std.proofs.Common.{◌≡◌, ℕ, suc, ◌+◌, ◌-◌, ◌<◌, ◌≤◌, Bool, true, false, not, ◌==◌, List, [], ◌∷◌, ◌++◌, length, drop, filter, get_or, replicate, refl, sym, ap, ◌∙◌, append_assoc, append-nil, length-append, arith, ne_eqb, if◌then◌else◌}
+use Rattle.std.specs.Prelude.{flat_map}
+use Rattle.std.proofs.lemmas.List.{drop_more, drop_all, length-replicate}
+use mir.Val.{bool_byte}
+use Rattle.rv_elf.specs.declared.file_header.FileHeader.{FileHeader}
+use Rattle.rv_elf.specs.Records.{file_header_bytes, section_header_bytes}
+use Rattle.rv_object.specs.declared.row.Row.{Row}
+use Rattle.rv_object.specs.Object.{Section, Symbol}
+use Rattle.rv_object_file_laws.specs.Written.{Piece, aligned, zeros_at, contents_from, headers_from, header_of, rela_pieces, row_pieces, has_relocations, is_local, locals}
+
+-- the next of those that are left
+pub left : {A : Type 0} (xs : List A) (i : ℕ) (x d : A) → i < length xs → x ≡ get_or xs i d → drop i xs ≡ x ∷ drop (i + 1) xs
+left xs i x d inside is = drop_more xs i d inside ∙ ap (λ y. y ∷ drop (i + 1) xs) (sym is)
+
+-- what is there so far and what the rest gives, one item later
+pub step : {A B : Type 0} (F : List A → List B) (g : A → List B) → ((y : A) (ys : List A) → F (y ∷ ys) ≡ g y ++ F ys)
+    → (xs : List A) (i : ℕ) (x d : A) → i < length xs → x ≡ get_or xs i d
+    → (old new whole : List B) → new ≡ old ++ g x → old ++ F (drop i xs) ≡ whole → new ++ F (drop (i + 1) xs) ≡ whole
+step F g law xs i x d inside is old new whole grown so_far =
+    ap (λ l. l ++ F (drop (i + 1) xs)) grown ∙ append_assoc old (g x) (F (drop (i + 1) xs))
+    ∙ ap (λ l. old ++ l) (sym (law x (drop (i + 1) xs))) ∙ ap (λ l. old ++ F l) (sym (left xs i x d inside is)) ∙ so_far
+
+pub done : {A B : Type 0} (F : List A → List B) → F [] ≡ [] → (xs : List A) (i : ℕ) → length xs ≤ i
+    → (out whole : List B) → out ++ F (drop i xs) ≡ whole → out ≡ whole
+done F nil xs i past out whole so_far =
+    sym (append-nil out) ∙ ap (λ l. out ++ l) (sym (ap F (drop_all i xs past) ∙ nil)) ∙ so_far
+
+-- three parts, one after the other
+pub three : (a b c old one two new : List ℕ) → one ≡ old ++ a → two ≡ one ++ b → new ≡ two ++ c → new ≡ old ++ (a ++ (b ++ c))
+three a b c old one two new e f g =
+    g ∙ ap (λ l. l ++ c) (f ∙ ap (λ l. l ++ b) e) ∙ append_assoc (old ++ a) b c ∙ append_assoc old a (b ++ c)
+
+-- ---- contents and headers
+
+pub length-header : (h : FileHeader) → length (file_header_bytes h) ≡ 64
+unfolding file_header_bytes
+length-header h = refl
+
+-- the parts of a file
+pub whole_file : (h : FileHeader) (ps : List Piece) (start one two later new rest : List ℕ) → start ≡ [] → one ≡ start ++ file_header_bytes h
+    → two ≡ one ++ contents_from (length one) ps → later ≡ two ++ replicate 64 0 → new ≡ later ++ rest
+    → new ≡ file_header_bytes h ++ (contents_from 64 ps ++ (replicate 64 0 ++ rest))
+whole_file h ps start one two later new rest empty header contents zeros headers =
+    let first : one ≡ file_header_bytes h = header ∙ ap (λ l. l ++ file_header_bytes h) empty in
+    let size : length one ≡ 64 = ap length first ∙ length-header h in
+    let second : two ≡ file_header_bytes h ++ contents_from 64 ps =
+    contents ∙ ap (λ n. one ++ contents_from n ps) size ∙ ap (λ l. l ++ contents_from 64 ps) first in
+    let zero_header : List ℕ = replicate 64 0 in
+    headers ∙ ap (λ l. l ++ rest) (zeros ∙ ap (λ l. l ++ zero_header) second)
+    ∙ append_assoc (file_header_bytes h ++ contents_from 64 ps) zero_header rest ∙ append_assoc (file_header_bytes h) (contents_from 64 ps) (zero_header ++ rest)
+
+pub contents_more : (p : Piece) (ps : List Piece) (out new : List ℕ) → new ≡ (out ++ zeros_at (length out)) ++ p.bytes
+    → new ++ contents_from (length new) ps ≡ out ++ contents_from (length out) (p ∷ ps)
+contents_more p ps out new grown =
+    let at = length out in
+    let zeros : length (zeros_at at) ≡ aligned at - at = length-replicate {A = ℕ} (aligned at - at) 0 in
+    let sums : length new ≡ length out + length (zeros_at at) + length p.bytes =
+    ap length grown ∙ length-append (out ++ zeros_at at) p.bytes ∙ ap (λ n. n + length p.bytes) (length-append out (zeros_at at)) in
+    let up : at ≤ aligned at = omega arith in
+    let is : length new ≡ aligned at + length p.bytes = omega arith in
+    let rest = contents_from (aligned at + length p.bytes) ps in
+    ap (λ n. new ++ contents_from n ps) is ∙ ap (λ l. l ++ rest) grown
+    ∙ append_assoc (out ++ zeros_at at) p.bytes rest ∙ append_assoc out (zeros_at at) (p.bytes ++ rest)
+
+pub headers_more : (ns : List (List ℕ)) (at next : ℕ) (p : Piece) (ps : List Piece) (out new : List ℕ)
+    → new ≡ out ++ section_header_bytes (header_of ns at p) → next ≡ aligned at + length p.bytes
+    → new ++ flat_map section_header_bytes (headers_from ns next ps) ≡ out ++ flat_map section_header_bytes (headers_from ns at (p ∷ ps))
+headers_more ns at next p ps out new grown is =
+    ap (λ n. new ++ flat_map section_header_bytes (headers_from ns n ps)) is
+    ∙ ap (λ l. l ++ flat_map section_header_bytes (headers_from ns (aligned at + length p.bytes) ps)) grown
+    ∙ append_assoc out (section_header_bytes (header_of ns at p)) (flat_map section_header_bytes (headers_from ns (aligned at + length p.bytes) ps))
+
+-- ---- tables of relocations
+
+pub relas_more : (symtab i : ℕ) (s : Section) (ss : List Section)
+    → rela_pieces symtab i (s ∷ ss) ≡ rela_pieces symtab i (s ∷ []) ++ rela_pieces symtab (suc i) ss
+relas_more symtab i s ss = by (length s.relocations == 0) _ (rela_pieces symtab (suc i) ss)
+  where
+    by : (b : Bool) (p : Piece) (ps : List Piece) → (if b then ps else p ∷ ps) ≡ (if b then [] else p ∷ []) ++ ps
+    by true p ps = refl
+    by false p ps = refl
+
+-- there is one for each section that has relocations
+pub relas_count : (symtab i : ℕ) (ss : List Section) → length (rela_pieces symtab i ss) ≡ length (filter has_relocations ss)
+relas_count symtab i [] = refl
+relas_count symtab i (s ∷ ss) = by (length s.relocations == 0) _ (rela_pieces symtab (suc i) ss) s (filter has_relocations ss) (relas_count symtab (suc i) ss)
+  where
+    by : (b : Bool) (p : Piece) (ps : List Piece) (t : Section) (ts : List Section) → length ps ≡ length ts
+        → length (if b then ps else p ∷ ps) ≡ length (if not b then t ∷ ts else ts)
+    by true p ps t ts e = e
+    by false p ps t ts e = ap suc e
+
+-- ---- rows
+
+-- they have one section, unless there are none
+pub rows_count : (rows : List Row) → bool_byte (not (length rows == 0)) ≡ length (row_pieces rows)
+rows_count [] = refl
+rows_count (r ∷ rs) = let more : (suc (length rs) == 0) ≡ false = ne_eqb (suc (length rs)) 0 (λ e. omega arith) in ap (λ b. bool_byte (not b)) more
+
+-- ---- symbols
+
+pub locals_more : (s : Symbol) (ss : List Symbol) → is_local s ≡ true → locals (s ∷ ss) ≡ suc (locals ss)
+locals_more s ss e = ap (λ b. if b then suc (locals ss) else 0) e
+
+pub locals_end : (s : Symbol) (ss : List Symbol) → is_local s ≡ false → locals (s ∷ ss) ≡ 0
+locals_end s ss e = ap (λ b. if b then suc (locals ss) else 0) e

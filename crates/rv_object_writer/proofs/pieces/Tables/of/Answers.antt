@@ -1,0 +1,32 @@
+use Rattle.std.proofs.Common.{◌≡◌, ◌+◌, ◌∙◌, ◌++◌, replicate, ap, map, flat_map, subst, List}
+use Rattle.rv_elf.specs.Fields.{symbol_size}
+use Rattle.rv_elf.specs.Records.{symbol_bytes}
+use Rattle.rv_object.specs.Object.{Object, Symbol}
+use Rattle.rv_object.specs.Parts.{symbol_of}
+use Rattle.rv_object.specs.Sections.{section_of}
+use Rattle.rv_object.specs.View.{object_of}
+use Rattle.rv_object.specs.declared.row.Row.{Row}
+use Rattle.rv_object.specs.declared.symbol.Symbol.{Symbol as DeclaredSymbol}
+use Rattle.rv_object_file_laws.specs.Rows.{row_bytes}
+use Rattle.rv_object_file_laws.specs.Written.{rela_pieces, row_record, symbol_names, strings_of, symbol_record, symbols_bytes, last_index}
+use Rattle.rv_object_writer.specs.Strings.{IsTable}
+use Rattle.rv_object_writer.proofs.pieces.Tables.of.Goals as goal
+
+pub returns-clause-tables : goal.returns-clause-tables
+returns-clause-tables c =
+    let o : Object = object_of c.args.object.now in
+    let symtab = c.in_ok-symtab.symtab in
+    let names = c.in_ok-names.names in
+    let table : IsTable (strings_of (symbol_names o)) names =
+    subst (λ (l : List DeclaredSymbol). IsTable (strings_of (map (λ (s : Symbol). s.name) (map symbol_of l))) names) c.as_slice-4.ensures.value c.in_ok-names.ensures in
+    let last : symtab + 2 ≡ last_index o = ap (λ n. n + 2) c.in_ok-symtab.ensures.at in
+    record {
+      index = c.in_ok-symtab.ensures.at;
+      pieces = c.in_ok-relocations.ensures symtab ∙ ap (λ l. rela_pieces symtab 1 (map section_of l)) c.as_slice.ensures.value;
+      all_rows = c.in_ok-rows.ensures ∙ ap (flat_map (λ (row : Row). row_bytes (row_record row))) c.as_slice-3.ensures.value;
+      all_symbols =
+          c.in_ok-symbols.ensures (symbol_names o) table
+          ∙ ap (λ l. replicate symbol_size 0 ++ flat_map (λ (s : Symbol). symbol_bytes (symbol_record (symbol_names o) (symtab + 2) s)) (map symbol_of l)) c.as_slice-5.ensures.value
+          ∙ ap (λ n. symbols_bytes n o) last;
+      all_names = c.into_bytes.ensures (strings_of (symbol_names o)) table;
+    }

@@ -1,0 +1,10 @@
+use Rattle.std.proofs.Common.{◌≡◌, ◌++◌, map, drop}
+use Rattle.rv_object.specs.Sections.{section_of}
+use Rattle.rv_object_file_laws.specs.Written.{section_piece}
+use Rattle.rv_object_writer.specs.Pieces.{piece_of}
+use Rattle.rv_object_writer.proofs.pieces.put_sections.Given as goal
+
+abbrev pub invariant-loop-section : goal.invariant-loop-section
+invariant-loop-section l =
+    map piece_of l.pieces.items ++ map section_piece (map section_of (drop l.section-index l.sections))
+    ≡ map piece_of l.fn.pieces.items ++ map section_piece (map section_of l.sections)

@@ -1,0 +1,22 @@
+use Rattle.std.proofs.Common.{◌≡◌, ◌++◌, ◌∙◌, ◌*◌, ◌%◌, ◌^◌, ap}
+use Rattle.rv_elf.specs.Records.{symbol_bytes}
+use Rattle.rv_object.specs.Object.{Symbol}
+use Rattle.rv_object.specs.Parts.{symbol_of}
+use Rattle.rv_object_file_laws.specs.Written.{strings_of, offset_in, name_offset, home_of, symbol_record}
+use Rattle.rv_object_writer.proofs.Cut.{symbol_cut}
+use Rattle.rv_object_writer.proofs.tables.put_symbol.Goals as goal
+
+pub returns : goal.returns
+returns c = λ ns table.
+    let s : Symbol = symbol_of c.args.symbol.now in
+    let last = c.args.last in
+    let name : c.offset-name.result ≡ name_offset ns s.name = c.offset-name.ensures (strings_of ns) table ∙ ap (offset_in (strings_of ns)) c.as_slice.ensures.value in
+    c.in_ok-symbol.ensures.ok ∙ ap (λ l. c.args.out.now ++ l) (
+    (λ i. symbol_bytes (record {
+      st_name = name i % 2 ^ 32;
+      st_info = c.binding.ensures i * 16;
+      st_other = 0;
+      st_shndx = c.home.ensures i;
+      st_value = c.value.ensures i;
+      st_size = 0;
+    })) ∙ symbol_cut (symbol_record ns last s) (name_offset ns s.name) (home_of last s.definition))

@@ -1,0 +1,55 @@
+-- What the pieces of the code stand for.
+
+use Rattle.std.specs.Prelude.{◌≡◌, ℕ, ◌+◌, Bool, List, length, map, flat_map, if◌then◌else◌}
+use Rattle.rv_elf.specs.declared.file_header.FileHeader.{FileHeader}
+use Rattle.rv_elf.specs.Fields.{rela_size, file_header_size, section_header_size}
+use Rattle.rv_elf.specs.Numbers.{sht_rela, et_rel, em_riscv}
+use Rattle.rv_object.specs.Object.{Object}
+use Rattle.rv_object_file_laws.specs.Rows.{row_bytes}
+use Rattle.rv_object_file_laws.specs.Written.{Piece, table_piece, rela_pieces, row_record, symtab_index, last_index, end_of, symbols_bytes, symbol_names, table_of}
+use Rattle.rv_object_writer.specs.declared.pieces.Tables.{Tables}
+use Rattle.rv_object_writer.specs.declared.piece.Piece.{Piece as DeclaredPiece}
+use Rattle.rv_object_writer.specs.declared.tables.RelaTable.{RelaTable}
+
+abbrev pub piece_of : DeclaredPiece → Piece
+piece_of p = record {
+  name = p.name.now;
+  kind = p.kind;
+  flags = p.flags;
+  bytes = p.bytes.now;
+  size = p.size;
+  link = p.link;
+  info = p.info;
+  alignment = p.alignment;
+  entry_size = p.entry_size;
+}
+
+-- relocations by the symbols of the table of this index
+abbrev pub rela_piece : ℕ → RelaTable → Piece
+rela_piece symtab t = table_piece t.name.items sht_rela t.bytes.items symtab t.section 8 rela_size
+
+-- the tables of an object
+pub record AreTables (o : Object) (t : Tables) : Type 0 where
+  pub index : t.symtab ≡ symtab_index o
+  pub pieces : map (rela_piece t.symtab) t.relocations.items ≡ rela_pieces t.symtab 1 o.sections
+  pub all_rows : t.rows.items ≡ flat_map (λ row. row_bytes (row_record row)) o.rows
+  pub all_symbols : t.symbols.items ≡ symbols_bytes (last_index o) o
+  pub all_names : t.names.items ≡ table_of (symbol_names o)
+
+-- the header of a file with these sections, of which the last has their names
+abbrev pub header_by : Bool → ℕ → List Piece → FileHeader
+header_by rvc last ps = record {
+  e_type = et_rel;
+  e_machine = em_riscv;
+  e_version = 1;
+  e_entry = 0;
+  e_phoff = 0;
+  e_shoff = end_of file_header_size ps;
+  e_flags = if rvc then 1 else 0;
+  e_ehsize = file_header_size;
+  e_phentsize = 0;
+  e_phnum = 0;
+  e_shentsize = section_header_size;
+  e_shnum = 1 + length ps;
+  e_shstrndx = last;
+}

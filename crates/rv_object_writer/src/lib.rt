@@ -1,0 +1,22 @@
+//! Writes objects: an [`rv_object::Object`] as an ELF file.
+//!
+//! Main contract: what `write` gives is the file of the object (`file_of` of rv_object_file_laws). It refuses nothing but
+//! want of memory; a number too large for its field loses its upper bytes there.
+//! It knows no source and no addresses.
+//!
+//! ```text
+//! let file = rv_object_writer::write(alloc, &object)?;
+//! fs::write(&rt, "hello.o", &file)?;
+//! ```
+//!
+//! Source: System V gABI, "ELF Header", "Sections", "String Table", "Symbol Table", "Relocation".
+#![tactic(auto)]
+
+mod names;
+mod piece;
+mod pieces;
+mod strings;
+mod tables;
+mod writing;
+
+pub use writing::write;

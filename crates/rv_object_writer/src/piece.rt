@@ -1,0 +1,116 @@
+//! Sections as the file has them.
+
+ghost use Rattle.std.specs.Prelude.{◌≡◌};
+ghost use Rattle.rv_object.specs.Object.{stored, size_of};
+ghost use Rattle.rv_object.specs.Parts.{contents_of};
+ghost use Rattle.rv_object.specs.Sections.{section_of};
+ghost use Rattle.rv_object_file_laws.specs.Written.{kind_of, flags_of};
+
+use rv_elf::{SHF_ALLOC, SHF_EXECINSTR, SHF_WRITE, SHT_NOBITS, SHT_NOTE, SHT_PROGBITS};
+use rv_object::{Contents, Section};
+
+/// A section of the file, but for the offset of its contents.
+#[derive(Clone, Copy, Drop)]
+pub(crate) struct Piece<'p> {
+    pub name: &'p [u8],
+    /// What it is (`sh_type`).
+    pub kind: u32,
+    pub flags: u64,
+    /// What the file has of it.
+    pub bytes: &'p [u8],
+    /// Its size in memory or in the file, in bytes.
+    pub size: u64,
+    pub link: u64,
+    pub info: u64,
+    pub alignment: u64,
+    pub entry_size: u64,
+}
+
+impl<'p> Piece<'p> {
+    ghost use Rattle.rv_object_file_laws.specs.Written.{section_piece, table_piece};
+    ghost use Rattle.rv_object_writer.specs.Pieces.{piece_of};
+
+    /// A section of the object.
+    pub(crate) fn of(section: &'p Section) -> Self
+        ensures { piece_of result ≡ section_piece (section_of section.now) }
+    {
+        Piece {
+            name: section.name.as_slice(),
+            kind: kind(&section.contents),
+            flags: flags(section),
+            bytes: stored(&section.contents),
+            size: size(&section.contents),
+            link: 0,
+            info: 0,
+            alignment: section.alignment,
+            entry_size: 0,
+        }
+    }
+
+    /// A table that the file adds; `entry_size` is 0 where its records have no size of their own.
+    pub(crate) fn table(
+        name: &'p [u8],
+        kind: u32,
+        bytes: &'p [u8],
+        alignment: u64,
+        entry_size: u64,
+    ) -> Self
+        ensures { piece_of result
+            ≡ table_piece name.now kind bytes.now 0 0 alignment entry_size }
+    {
+        Piece {
+            name,
+            kind,
+            flags: 0,
+            bytes,
+            size: bytes.len() as u64,
+            link: 0,
+            info: 0,
+            alignment,
+            entry_size,
+        }
+    }
+}
+
+/// The type of a section with these contents (`sh_type`).
+fn kind(contents: &Contents) -> u32
+    ensures { result ≡ kind_of (contents_of contents.now) }
+{
+    match contents {
+        Contents::Progbits(_) => SHT_PROGBITS,
+        Contents::Note(_) => SHT_NOTE,
+        Contents::Nobits(_) => SHT_NOBITS,
+    }
+}
+
+/// The bytes that the file has of them.
+fn stored(contents: &Contents) -> &[u8]
+    ensures { result.now ≡ stored (contents_of contents.now) }
+{
+    match contents {
+        Contents::Progbits(bytes) => bytes.as_slice(),
+        Contents::Note(bytes) => bytes.as_slice(),
+        Contents::Nobits(_) => &[],
+    }
+}
+
+/// How many bytes of memory they are.
+fn size(contents: &Contents) -> u64
+    ensures { result ≡ size_of (contents_of contents.now) }
+{
+    match contents {
+        Contents::Progbits(bytes) => bytes.len() as u64,
+        Contents::Note(bytes) => bytes.len() as u64,
+        Contents::Nobits(size) => *size,
+    }
+}
+
+/// How the section is used (`sh_flags`).
+fn flags(section: &Section) -> u64
+    ensures { result ≡ flags_of (section_of section.now) }
+{
+    let write = if section.writable { SHF_WRITE } else { 0 };
+    let alloc = if section.loaded { SHF_ALLOC } else { 0 };
+    let execute = if section.executable { SHF_EXECINSTR } else { 0 };
+    write + alloc + execute
+}

@@ -1,0 +1,294 @@
+//! The tables of a file: relocations, rows and symbols.
+
+ghost use Rattle.std.specs.Prelude.{◌≡◌, ◌+◌, ◌<◌, ◌%◌, ◌^◌, ℕ, suc, List, [], ◌∷◌, ◌++◌, map, flat_map, replicate, codes, IfOk, OnOk};
+ghost use Rattle.byteorder.specs.Endian.{little_bytes};
+ghost use Rattle.rv_elf.specs.Fields.{bytes_of, symbol_size};
+ghost use Rattle.rv_elf.specs.Records.{rela_bytes, symbol_bytes};
+ghost use Rattle.rv_object.specs.Parts.{relocation_of, symbol_of};
+ghost use Rattle.rv_object.specs.Sections.{section_of};
+ghost use Rattle.rv_object_file_laws.specs.Rows.{row_bytes};
+ghost use Rattle.rv_object_file_laws.specs.Rows as fields;
+ghost use Rattle.rv_object_file_laws.specs.Written.{strings_of, symbol_number, rela_of, relocations_bytes, row_record, binding_number, home_of, value_of, symbol_record, is_local, locals, rela_pieces};
+ghost use Rattle.rv_object_writer.specs.Pieces.{rela_piece};
+ghost use Rattle.rv_object_writer.specs.Strings.{IsTable};
+
+use crate::strings::StringTable;
+use rv_elf::{
+    ElfWriter, Rela, SHN_ABS, SHN_UNDEF, STB_GLOBAL, STB_LOCAL, SYMBOL_SIZE, Symbol as SymbolRecord,
+};
+use rv_object::{Binding, Definition, Relocation, Row, Section, Symbol};
+use std::alloc::{AllocError, Global};
+
+// ---- relocations
+
+/// The index of a symbol in the file, whose symbol 0 is none.
+fn symbol_number(symbol: Option<u32>) -> u32
+    ensures { result ≡ symbol_number symbol % 2 ^ 32 }
+{
+    match symbol {
+        Some(index) => index.wrapping_add(1),
+        None => 0,
+    }
+}
+
+/// Writes a relocation.
+#[tactic(auto, unfolding(rv_elf::specs::Records::rela_bytes))]
+fn put_relocation(out: &mut ElfWriter, relocation: &Relocation) -> Result<(), AllocError>
+    ensures { OnOk result
+        (out.new ≡ out.old ++ rela_bytes (rela_of (relocation_of relocation.now))) }
+{
+    out.rela(&Rela {
+        r_offset: relocation.place,
+        r_type: relocation.kind.number(),
+        r_sym: symbol_number(relocation.symbol),
+        r_addend: relocation.addend,
+    })
+}
+
+/// The bytes of relocations.
+fn relocations_table(alloc: Global, relocations: &[Relocation]) -> Result<Vec<u8>, AllocError>
+    ensures { IfOk result
+        (λ bytes. bytes.items ≡ relocations_bytes (map relocation_of relocations.now)) }
+{
+    let mut out = ElfWriter::new(alloc);
+    for relocation in relocations {
+        put_relocation(&mut out, relocation)?;
+    }
+    Ok(out.finish())
+}
+
+/// The relocations of a section of the object.
+#[derive(Drop)]
+pub(crate) struct RelaTable {
+    pub name: Vec<u8>,
+    pub bytes: Vec<u8>,
+    /// The index of the section in the file.
+    pub section: u64,
+}
+
+/// The table of a section's relocations, by the section's index in the file.
+fn rela_table(alloc: Global, index: u64, section: &Section) -> Result<RelaTable, AllocError>
+    ensures name { IfOk result (λ t. t.name.items ≡ codes ".rela" ++ (section.now).name.items) }
+    ensures bytes { IfOk result (λ t. t.bytes.items
+        ≡ relocations_bytes (map relocation_of (section.now).relocations.items)) }
+    ensures section { IfOk result (λ t. t.section ≡ index) }
+{
+    let mut name = Vec::new(alloc);
+    name.extend_from_slice(b".rela")?;
+    name.extend_from_slice(section.name.as_slice())?;
+    let bytes = relocations_table(alloc, section.relocations.as_slice())?;
+    Ok(RelaTable {
+        name,
+        bytes,
+        section: index,
+    })
+}
+
+/// Adds the table of a section's relocations, if it has some.
+fn put_rela_table(
+    alloc: Global,
+    tables: &mut Vec<RelaTable>,
+    index: u64,
+    section: &Section,
+) -> Result<(), AllocError>
+    ensures { OnOk result ((symtab : ℕ) → map (rela_piece symtab) tables.new.items
+        ≡ map (rela_piece symtab) tables.old.items
+        ++ rela_pieces symtab index (section_of section.now ∷ [])) }
+{
+    if section.relocations.is_empty() {
+        return Ok(());
+    }
+    tables.push(rela_table(alloc, index, section)?)?;
+    Ok(())
+}
+
+/// The tables of the relocations of sections.
+pub(crate) fn rela_tables(alloc: Global, sections: &[Section]) -> Result<Vec<RelaTable>, AllocError>
+    ensures { IfOk result (λ tables. (symtab : ℕ) → map (rela_piece symtab) tables.items
+        ≡ rela_pieces symtab 1 (map section_of sections.now)) }
+{
+    let mut tables = Vec::new(alloc);
+    for i in 0..sections.len() {
+        put_rela_table(alloc, &mut tables, i as u64 + 1, &sections[i])?;
+    }
+    Ok(tables)
+}
+
+// ---- rows
+
+/// Writes a number of four bytes.
+fn put_word(out: &mut ElfWriter, number: u32) -> Result<(), AllocError>
+    ensures { OnOk result (out.new ≡ out.old ++ little_bytes 4 number) }
+{
+    out.raw(&number.to_le_bytes())
+}
+
+/// Writes a number of eight bytes.
+fn put_double(out: &mut ElfWriter, number: u64) -> Result<(), AllocError>
+    ensures { OnOk result (out.new ≡ out.old ++ little_bytes 8 number) }
+{
+    out.raw(&number.to_le_bytes())
+}
+
+/// Writes the index of a row's section in the file.
+#[tactic(auto, using(crate::proofs::Cut::word_cut))]
+fn put_row_section(out: &mut ElfWriter, row: &Row) -> Result<(), AllocError>
+    ensures { OnOk result (out.new ≡ out.old ++ bytes_of fields.section (suc (row.now).section)) }
+{
+    put_word(out, row.section.wrapping_add(1))
+}
+
+/// Writes the front of a row: its line, its ordinal and the index of its section in the file.
+fn put_row_place(out: &mut ElfWriter, row: &Row) -> Result<(), AllocError>
+    ensures { OnOk result (out.new ≡ out.old
+        ++ (bytes_of fields.line (row.now).line ++ (bytes_of fields.ordinal (row.now).ordinal
+        ++ bytes_of fields.section (suc (row.now).section)))) }
+{
+    put_word(out, row.line)?;
+    put_word(out, row.ordinal)?;
+    put_row_section(out, row)?;
+    Ok(())
+}
+
+/// Writes how many bytes a row has, and what is always 0.
+fn put_row_size(out: &mut ElfWriter, row: &Row) -> Result<(), AllocError>
+    ensures { OnOk result (out.new
+        ≡ out.old ++ (bytes_of fields.bytes (row.now).bytes ++ bytes_of fields.reserved 0)) }
+{
+    put_word(out, row.bytes)?;
+    put_word(out, 0)
+}
+
+/// Writes the rest of a row: how many instructions it has, where, and how many bytes.
+fn put_row_extent(out: &mut ElfWriter, row: &Row) -> Result<(), AllocError>
+    ensures { OnOk result (out.new ≡ out.old
+        ++ (bytes_of fields.instructions (row.now).instructions ++ (bytes_of fields.offset (row.now).offset
+        ++ (bytes_of fields.bytes (row.now).bytes ++ bytes_of fields.reserved 0)))) }
+{
+    put_word(out, row.instructions)?;
+    put_double(out, row.offset)?;
+    put_row_size(out, row)?;
+    Ok(())
+}
+
+/// Writes a row.
+#[tactic(auto, unfolding(rv_object_file_laws::specs::Rows::row_bytes))]
+fn put_row(out: &mut ElfWriter, row: &Row) -> Result<(), AllocError>
+    ensures { OnOk result (out.new ≡ out.old ++ row_bytes (row_record row.now)) }
+{
+    put_row_place(out, row)?;
+    put_row_extent(out, row)
+}
+
+/// The bytes of rows.
+pub(crate) fn rows_table(alloc: Global, rows: &[Row]) -> Result<Vec<u8>, AllocError>
+    ensures { IfOk result (λ bytes. bytes.items
+        ≡ flat_map (λ row. row_bytes (row_record row)) rows.now) }
+{
+    let mut out = ElfWriter::new(alloc);
+    for row in rows {
+        put_row(&mut out, row)?;
+    }
+    Ok(out.finish())
+}
+
+// ---- symbols
+
+/// Who may name it (`st_info`, its upper half).
+fn binding(binding: Binding) -> u8
+    ensures { result ≡ binding_number binding }
+{
+    match binding {
+        Binding::Local => STB_LOCAL,
+        Binding::Global => STB_GLOBAL,
+    }
+}
+
+/// The index of a symbol's section; one without an address names the last section.
+fn home(last: u64, definition: Definition) -> u16
+    ensures { result ≡ home_of last definition % 2 ^ 16 }
+{
+    match definition {
+        Definition::Undefined => SHN_UNDEF,
+        Definition::Absolute(_) => SHN_ABS,
+        Definition::InSection(section, _) => ((section as u64 + 1) % 0x1_0000) as u16,
+        Definition::Skipped(_) => (last % 0x1_0000) as u16,
+    }
+}
+
+/// The value of a symbol.
+fn value(definition: Definition) -> u64
+    ensures { result ≡ value_of definition }
+{
+    match definition {
+        Definition::Undefined => 0,
+        Definition::Absolute(value) => value,
+        Definition::InSection(_, offset) => offset,
+        Definition::Skipped(value) => value,
+    }
+}
+
+/// Writes a symbol.
+#[tactic(auto, unfolding(rv_elf::specs::Records::symbol_bytes))]
+fn put_symbol(
+    out: &mut ElfWriter,
+    names: &StringTable<'_>,
+    last: u64,
+    symbol: &Symbol,
+) -> Result<(), AllocError>
+    ensures { OnOk result ((ns : List (List ℕ)) → IsTable (strings_of ns) names.now
+        → out.new ≡ out.old ++ symbol_bytes (symbol_record ns last (symbol_of symbol.now))) }
+{
+    let name = names.offset(symbol.name.as_slice());
+    out.symbol(&SymbolRecord {
+        st_name: (name % 0x1_0000_0000) as u32,
+        st_info: binding(symbol.binding) * 16,
+        st_other: 0,
+        st_shndx: home(last, symbol.definition),
+        st_value: value(symbol.definition),
+        st_size: 0,
+    })?;
+    Ok(())
+}
+
+/// The bytes of symbols, after symbol 0.
+pub(crate) fn symbols_table(
+    alloc: Global,
+    names: &StringTable<'_>,
+    last: u64,
+    symbols: &[Symbol],
+) -> Result<Vec<u8>, AllocError>
+    ensures { IfOk result (λ bytes. (ns : List (List ℕ)) → IsTable (strings_of ns) names.now
+        → bytes.items ≡ replicate symbol_size 0
+        ++ flat_map (λ s. symbol_bytes (symbol_record ns last s)) (map symbol_of symbols.now)) }
+{
+    let mut out = ElfWriter::new(alloc);
+    out.zeros(SYMBOL_SIZE)?;
+    for symbol in symbols {
+        put_symbol(&mut out, names, last, symbol)?;
+    }
+    Ok(out.finish())
+}
+
+/// Whether only its own object may name it.
+fn is_local(symbol: &Symbol) -> bool
+    ensures { result ≡ is_local (symbol_of symbol.now) }
+{
+    match symbol.binding {
+        Binding::Local => true,
+        Binding::Global => false,
+    }
+}
+
+/// How many symbols stand before the first that other objects may name.
+pub(crate) fn locals(symbols: &[Symbol]) -> u64
+    ensures count { result ≡ locals (map symbol_of symbols.now) }
+    ensures room { result + 1 < 2 ^ 64 }
+{
+    for i in 0..symbols.len() {
+        if !is_local(&symbols[i]) {
+            return i as u64;
+        }
+    }
+    symbols.len() as u64
+}

@@ -1,0 +1,211 @@
+//! Writes the file of an object.
+
+ghost use Rattle.std.specs.Prelude.{◌≡◌, ◌+◌, ◌++◌, ◌^◌, ◌<◌, ℕ, List, map, flat_map, length, replicate, if◌then◌else◌, IfOk, OnOk};
+ghost use Rattle.rv_elf.specs.Fields.{file_header_size, section_header_size};
+ghost use Rattle.rv_elf.specs.Records.{file_header_bytes, section_header_bytes};
+ghost use Rattle.rv_object.specs.View.{object_of};
+ghost use Rattle.rv_object_file_laws.specs.Written.{aligned, zeros_at, contents_from, end_of, header_of, headers_from, file_of, file_header_of, strings_of, last_index, pieces as file_pieces, section_names as file_names};
+ghost use Rattle.rv_object_writer.specs.Pieces.{piece_of, header_by, AreTables};
+ghost use Rattle.rv_object_writer.specs.Strings.{IsTable};
+
+use crate::names::section_names;
+use crate::piece::Piece;
+use crate::pieces::{Tables, all_pieces, first_pieces};
+use crate::strings::StringTable;
+use rv_elf::{EM_RISCV, ET_REL, ElfWriter, FileHeader, SectionHeader};
+use rv_object::Object;
+use std::alloc::{AllocError, Global};
+
+/// The file of an object.
+pub fn write(alloc: Global, object: &Object) -> Result<Vec<u8>, AllocError>
+    ensures { IfOk result (λ file. file.items ≡ file_of (object_of object.now)) }
+{
+    let tables = Tables::of(alloc, object)?;
+    write_tables(alloc, object, &tables)
+}
+
+/// The file of an object with these tables.
+fn write_tables(alloc: Global, object: &Object, tables: &Tables) -> Result<Vec<u8>, AllocError>
+    requires tables { AreTables (object_of object.now) tables.now }
+    requires room { (tables.now).symtab + 2 < 2 ^ 64 }
+    ensures { IfOk result (λ file. file.items ≡ file_of (object_of object.now)) }
+{
+    let pieces = first_pieces(alloc, object, tables)?;
+    let names = section_names(alloc, pieces.as_slice())?;
+    write_named(alloc, object, tables, &names)
+}
+
+/// The file of an object with these tables and these names of its sections.
+fn write_named(
+    alloc: Global,
+    object: &Object,
+    tables: &Tables,
+    names: &StringTable<'_>,
+) -> Result<Vec<u8>, AllocError>
+    requires tables { AreTables (object_of object.now) tables.now }
+    requires room { (tables.now).symtab + 2 < 2 ^ 64 }
+    requires names { IsTable (strings_of (file_names (object_of object.now))) names.now }
+    ensures { IfOk result (λ file. file.items ≡ file_of (object_of object.now)) }
+{
+    let strings = names.bytes();
+    let pieces = all_pieces(alloc, object, tables, strings)?;
+    let file = put_file(
+        alloc,
+        object.rvc,
+        tables.symtab + 2,
+        pieces.as_slice(),
+        names,
+    )?;
+    Ok(file)
+}
+
+/// The file with these sections: the header, their contents and their headers.
+fn put_file(
+    alloc: Global,
+    rvc: bool,
+    last: u64,
+    pieces: &[Piece<'_>],
+    names: &StringTable<'_>,
+) -> Result<Vec<u8>, AllocError>
+    ensures { IfOk result (λ file. (ns : List (List ℕ)) → IsTable (strings_of ns) names.now
+        → file.items ≡ file_header_bytes (header_by rvc last (map piece_of pieces.now))
+        ++ (contents_from file_header_size (map piece_of pieces.now)
+        ++ (replicate section_header_size 0
+        ++ flat_map section_header_bytes
+        (headers_from ns file_header_size (map piece_of pieces.now))))) }
+{
+    let mut out = ElfWriter::new(alloc);
+    put_header(&mut out, rvc, last, pieces)?;
+    put_contents(&mut out, pieces)?;
+    out.zeros(64)?;
+    put_headers(&mut out, pieces, names)?;
+    Ok(out.finish())
+}
+
+/// The next multiple of 8.
+fn aligned(at: u64) -> Result<u64, AllocError>
+    ensures { IfOk result (λ next. next ≡ aligned at) }
+{
+    match at.checked_add(7) {
+        Some(past) => Ok(past / 8 * 8),
+        None => Err(AllocError),
+    }
+}
+
+/// Where contents end that begin at the next multiple of 8.
+fn after(at: u64, bytes: &[u8]) -> Result<u64, AllocError>
+    ensures { IfOk result (λ next. next ≡ aligned at + length bytes.now) }
+{
+    let begin = aligned(at)?;
+    match begin.checked_add(bytes.len() as u64) {
+        Some(end) => Ok(end),
+        None => Err(AllocError),
+    }
+}
+
+/// Where the section headers stand.
+fn end_of(pieces: &[Piece<'_>]) -> Result<u64, AllocError>
+    ensures { IfOk result (λ end. end ≡ end_of file_header_size (map piece_of pieces.now)) }
+{
+    let mut at = 64;
+    for piece in pieces {
+        at = after(at, piece.bytes)?;
+    }
+    aligned(at)
+}
+
+/// Writes the header of the file.
+#[tactic(auto, unfolding(rv_elf::specs::Records::file_header_bytes))]
+fn put_header(
+    out: &mut ElfWriter,
+    rvc: bool,
+    last: u64,
+    pieces: &[Piece<'_>],
+) -> Result<(), AllocError>
+    ensures { OnOk result (out.new
+        ≡ out.old ++ file_header_bytes (header_by rvc last (map piece_of pieces.now))) }
+{
+    let e_shoff = end_of(pieces)?;
+    out.header(&FileHeader {
+        e_type: ET_REL,
+        e_machine: EM_RISCV,
+        e_version: 1,
+        e_entry: 0,
+        e_phoff: 0,
+        e_shoff,
+        e_flags: u32::from(rvc),
+        e_ehsize: 64,
+        e_phentsize: 0,
+        e_phnum: 0,
+        e_shentsize: 64,
+        e_shnum: ((1 + pieces.len() as u64) % 0x1_0000) as u16,
+        e_shstrndx: (last % 0x1_0000) as u16,
+    })
+}
+
+/// Writes zeros up to the next multiple of 8.
+fn put_zeros(out: &mut ElfWriter) -> Result<(), AllocError>
+    ensures { OnOk result (out.new ≡ out.old ++ zeros_at (length out.old)) }
+{
+    let at = out.len() as u64;
+    let next = aligned(at)?;
+    out.zeros((next - at) as usize)
+}
+
+/// Writes the contents of sections, each at a multiple of 8.
+fn put_contents(out: &mut ElfWriter, pieces: &[Piece<'_>]) -> Result<(), AllocError>
+    ensures { OnOk result
+        (out.new ≡ out.old ++ contents_from (length out.old) (map piece_of pieces.now)) }
+{
+    for piece in pieces {
+        put_zeros(out)?;
+        out.raw(piece.bytes)?;
+    }
+    put_zeros(out)
+}
+
+/// Writes the header of a section.
+#[tactic(auto, unfolding(rv_elf::specs::Records::section_header_bytes))]
+fn put_section_header(
+    out: &mut ElfWriter,
+    names: &StringTable<'_>,
+    offset: u64,
+    piece: &Piece<'_>,
+) -> Result<(), AllocError>
+    ensures { OnOk result ((ns : List (List ℕ)) (at : ℕ) → IsTable (strings_of ns) names.now
+        → offset ≡ aligned at
+        → out.new ≡ out.old ++ section_header_bytes (header_of ns at (piece_of piece.now))) }
+{
+    let name = names.offset(piece.name);
+    out.section_header(&SectionHeader {
+        sh_name: (name % 0x1_0000_0000) as u32,
+        sh_type: piece.kind,
+        sh_flags: piece.flags,
+        sh_addr: 0,
+        sh_offset: offset,
+        sh_size: piece.size,
+        sh_link: (piece.link % 0x1_0000_0000) as u32,
+        sh_info: (piece.info % 0x1_0000_0000) as u32,
+        sh_addralign: piece.alignment,
+        sh_entsize: piece.entry_size,
+    })?;
+    Ok(())
+}
+
+/// Writes the headers of sections.
+fn put_headers(
+    out: &mut ElfWriter,
+    pieces: &[Piece<'_>],
+    names: &StringTable<'_>,
+) -> Result<(), AllocError>
+    ensures { OnOk result ((ns : List (List ℕ)) → IsTable (strings_of ns) names.now
+        → out.new ≡ out.old ++ flat_map section_header_bytes
+        (headers_from ns file_header_size (map piece_of pieces.now))) }
+{
+    let mut at = 64;
+    for piece in pieces {
+        put_section_header(out, names, aligned(at)?, piece)?;
+        at = after(at, piece.bytes)?;
+    }
+    Ok(())
+}
