@@ -36,7 +36,10 @@ fn hello(rt: HostRuntime) -> Result<(), Fail> {
     let table = usize::from(half(file, 40));
     let sizes = [30, 5, 48, 352, 96];
     for (index, size) in sizes.iter().enumerate() {
-        assert!(rt; half(file, table + 64 * (index + 1) + 32) == *size, "section {index}");
+        assert!(rt;
+            half(file, table + 64 * (index + 1) + 32) == *size,
+            "section {index}"
+        );
     }
     // the first symbol of .symtab that is not local
     assert!(rt; half(file, table + 64 * 5 + 44) == 3);

@@ -25,7 +25,12 @@ fn assembles(rt: HostRuntime) -> Result<(), Fail> {
     let Some(object) = fake.written.get(0) else {
         return Ok(());
     };
-    assert!(rt; object.bytes.as_slice().starts_with(b"\x7fELF\x02\x01\x01\0\0\0\0\0\0\0\0\0\x01\0\xf3\0"));
+    assert!(rt;
+        object
+            .bytes
+            .as_slice()
+            .starts_with(b"\x7fELF\x02\x01\x01\0\0\0\0\0\0\0\0\0\x01\0\xf3\0")
+    );
     Ok(())
 }
 
