@@ -180,8 +180,8 @@ Arguments:
   <SRC>  The source
 
 Options:
-  -o <OBJ>      The object to write
-  -h, --help    Print help
+  -o <OBJ>    The object to write
+  -h, --help  Print help
 
 Example:
   rv as -o prog.o prog.s
