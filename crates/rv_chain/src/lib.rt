@@ -5,8 +5,9 @@
 //!
 //! The main contract: what `build` gives keeps `TheHeadline`: the run of the executable's bytes is the run of the
 //! sources' statements at the addresses of the printed map, for every input and limit. `build_exe` gives the same
-//! executable without the map's text. `run_exec` gives the machine's run over the file's image. What is refused has its
-//! reason in the clauses `refuses` (`specs/Refusals`, `specs/Running`).
+//! executable without the map's text; `assemble_object` the file of a source's object. `run_exec` gives the machine's
+//! run over the file's image. What is refused has its reason in the clauses `refuses` (`specs/Refusals`,
+//! `specs/Running`).
 //!
 //! It must not know where bytes come from, nor how faults are told. In use:
 //!
