@@ -21,8 +21,6 @@ mod later;
 #[cfg(test)]
 mod limits;
 #[cfg(test)]
-mod objects;
-#[cfg(test)]
 mod open;
 #[cfg(test)]
 mod order;
