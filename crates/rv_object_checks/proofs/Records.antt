@@ -1,15 +1,11 @@
 -- The records of a section, one after the other, and their tests.
 
-use Rattle.std.proofs.Common.{◌≡◌, ℕ, zero, suc, ◌+◌, ◌-◌, ◌≤◌, ◌<◌, Bool, List, [], ◌∷◌, length, drop, Some, None, refl, ap, sym, ◌∙◌, arith}
+use Rattle.std.proofs.Common.{◌≡◌, ℕ, zero, suc, ◌+◌, ◌-◌, ◌≤◌, ◌<◌, Bool, List, [], ◌∷◌, drop, Some, None, refl, ap, sym, ◌∙◌, arith}
 use Rattle.std.specs.Prelude.{flat_map}
 use Rattle.rv_elf.specs.declared.fault.FileFault.{FileFault}
 use Rattle.rv_elf.specs.FirstFault.{first_true}
 use Rattle.rv_elf.specs.Sections.{records}
 use Rattle.rv_elf.specs.FirstTrue.{first_true_none, first_true_some}
-
-pub records_long : {X : Type 0} (f : ℕ → List ℕ → X) (size n place : ℕ) (bytes : List ℕ) → length (records f size n place bytes) ≡ n
-records_long f size zero place bytes = refl
-records_long f size (suc n) place bytes = ap suc (records_long f size n (place + size) bytes)
 
 records_cut : {X : Type 0} (f : ℕ → List ℕ → X) (size n i p q : ℕ) (bytes : List ℕ) → i < n → q ≡ p + size →
     records f size (n - i) p bytes ≡ f p bytes ∷ records f size (n - (i + 1)) q bytes

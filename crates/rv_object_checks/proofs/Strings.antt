@@ -7,7 +7,7 @@ use Rattle.std.proofs.lemmas.Bool.Decides.{nat_tests}
 use Rattle.rv_elf.specs.declared.section_header.SectionHeader.{SectionHeader}
 use Rattle.rv_elf.specs.Sections.{before_zero, string_at, section_of, names_section}
 use Rattle.rv_object_file_laws.specs.FirstFault.{is_none}
-use Rattle.rv_object_file_laws.specs.Parts.{name_of}
+use Rattle.rv_object_file_laws.specs.Parts.{name_at, name_of}
 use Rattle.rv_object_checks.specs.Names.{strings_end, names_end}
 
 none_map : (byte : ℕ) (o : Option (List ℕ)) → is_none (option_map (λ name. byte ∷ name) o) ≡ is_none o
@@ -79,13 +79,21 @@ not_le n o = grind (arith, nat_tests)
 below : (n m : ℕ) → n < m → nat_lt n m ≡ true
 below n m h = grind (arith, nat_tests)
 
--- a section has a name just where its offset stands below the end of the names
-pub named : (file : List ℕ) (h : SectionHeader) → h.sh_name < 2 ^ 32 → nat_lt h.sh_name (names_end file) ≡ not (is_none (name_of file h))
-named file h fits = go (names_section file == 0) refl
+other_number : (n m : ℕ) → (n ≡ m → ⊥) → (n == m) ≡ false
+other_number n m h = grind (arith, nat_tests)
+
+-- at another offset than 0 a name is the string there
+pub name_is : (names : List ℕ) (o : ℕ) → (o ≡ 0 → ⊥) → string_at names o ≡ name_at names o
+name_is names o other = sym (cond-false (o == 0) _ _ (other_number o 0 other))
+
+-- a section with an offset has a name just where that stands below the end of the names
+pub named : (file : List ℕ) (h : SectionHeader) → h.sh_name < 2 ^ 32 → (h.sh_name ≡ 0 → ⊥) → nat_lt h.sh_name (names_end file) ≡ not (is_none (name_of file h))
+named file h fits other = go (names_section file == 0) refl
   where
     go : (b : Bool) → (names_section file == 0) ≡ b → nat_lt h.sh_name (names_end file) ≡ not (is_none (name_of file h))
     go true e = ap (nat_lt h.sh_name) (cond-true (names_section file == 0) _ _ e) ∙ below h.sh_name (2 ^ 32) fits ∙ ap (λ o. not (is_none o)) (sym (cond-true (names_section file == 0) _ _ e))
     go false e =
         let table = section_of file (names_section file) in
         ap (nat_lt h.sh_name) (cond-false (names_section file == 0) _ _ e) ∙ not_le (strings_end table) h.sh_name
-        ∙ ap not (sym (no_string table h.sh_name)) ∙ ap (λ o. not (is_none o)) (sym (cond-false (names_section file == 0) _ _ e))
+        ∙ ap not (sym (no_string table h.sh_name)) ∙ ap (λ o. not (is_none o)) (name_is table h.sh_name other)
+        ∙ ap (λ o. not (is_none o)) (sym (cond-false (names_section file == 0) _ _ e))

@@ -9,13 +9,11 @@ use Rattle.byteorder.specs.Endian.{little_number}
 use Rattle.rv_elf.specs.declared.symbol.Symbol.{Symbol}
 use Rattle.rv_elf.specs.Fields as at
 use Rattle.rv_elf.specs.Records.{symbol_at}
-use Rattle.rv_elf.specs.Sections.{string_at, contents_of}
+use Rattle.rv_elf.specs.Sections.{string_at}
 use Rattle.rv_object_file_laws.specs.FirstFault.{is_none, is_bad_name}
-use Rattle.rv_object_file_laws.specs.Parts.{symbol_table, symbols_of, symbol_records}
-use Rattle.rv_object_checks.specs.Found.{section_at}
+use Rattle.rv_object_file_laws.specs.Parts.{name_at}
 use Rattle.rv_object_checks.specs.Names.{strings_end}
-use Rattle.rv_object_checks.proofs.Strings.{no_string}
-use Rattle.rv_object_checks.proofs.Records.{records_long}
+use Rattle.rv_object_checks.proofs.Strings.{no_string, name_is}
 
 number_behind : (f : at.Field) (p : ℕ) (bytes : List ℕ) → at.number_in f 0 (drop p bytes) ≡ at.number_in f p bytes
 unfolding at.number_in
@@ -53,20 +51,13 @@ past_end n o h = grind (arith, nat_tests)
 before_end : (n o : ℕ) → o < n → nat_le n o ≡ false
 before_end n o h = grind (arith, nat_tests)
 
-other_number : (n m : ℕ) → (n ≡ m → ⊥) → (n == m) ≡ false
-other_number n m h = grind (arith, nat_tests)
+pub no_name : (names : List ℕ) (s : Symbol) (end : ℕ) → end ≡ strings_end names → (s.st_name ≡ 0 → ⊥) → end ≤ s.st_name → true ≡ is_bad_name s (name_at names s.st_name)
+no_name names s end is some past =
+    none_bad s (string_at names s.st_name) (no_string names s.st_name ∙ past_end (strings_end names) s.st_name (omega (arith, is)))
+    ∙ ap (is_bad_name s) (name_is names s.st_name some)
 
-pub no_name : (names : List ℕ) (s : Symbol) (end : ℕ) → end ≡ strings_end names → end ≤ s.st_name → true ≡ is_bad_name s (string_at names s.st_name)
-no_name names s end is past = none_bad s (string_at names s.st_name) (no_string names s.st_name ∙ past_end (strings_end names) s.st_name (omega (arith, is)))
-
-pub local_name : (names : List ℕ) (s : Symbol) (end : ℕ) → end ≡ strings_end names → s.st_name < end → (s.st_info / 16 ≡ 1 → ⊥) → false ≡ is_bad_name s (string_at names s.st_name)
-local_name names s end is before other =
-    some_good s (string_at names s.st_name) (no_string names s.st_name ∙ before_end (strings_end names) s.st_name (omega (arith, is))) (other_number (s.st_info / 16) 1 other)
-
--- how many symbols the section of an index has
-pub symbols_counted : (file : List ℕ) (i : ℕ) (bytes : List ℕ) → symbol_table file ≡ Some (section_at file i) → bytes ≡ contents_of file (section_at file i).header →
-    length bytes / 24 ≡ length (symbol_records file)
-symbols_counted file i bytes found are =
-    ap (λ bs. length bs / 24) are
-    ∙ sym (records_long symbol_at 24 (length (contents_of file (section_at file i).header) / 24) 0 (contents_of file (section_at file i).header))
-    ∙ ap (λ s. length (symbols_of file s)) (sym found)
+pub local_name : (names : List ℕ) (s : Symbol) (end : ℕ) → end ≡ strings_end names → (s.st_name ≡ 0 → ⊥) → s.st_name < end → (s.st_info / 16 == 1) ≡ false →
+    false ≡ is_bad_name s (name_at names s.st_name)
+local_name names s end is some before local =
+    some_good s (string_at names s.st_name) (no_string names s.st_name ∙ before_end (strings_end names) s.st_name (omega (arith, is))) local
+    ∙ ap (is_bad_name s) (name_is names s.st_name some)

@@ -15,8 +15,8 @@ use Rattle.rv_elf.specs.declared.section_header.SectionHeader.{SectionHeader}
 use Rattle.rv_elf.specs.FirstFault.{first_true}
 use Rattle.rv_elf.specs.Sections.{section_count, section_header_of, contents_of, relas_in}
 use Rattle.rv_object.specs.Object.{Relocation}
-use Rattle.rv_object_file_laws.specs.FirstFault.{section_tests, records_tests, rela_tests, relocations_tests, sections_tests}
-use Rattle.rv_object_file_laws.specs.Parts.{FileSection, is_symbol_table, is_rela, is_rows, is_loaded, relocates, relas_of, relocation_in, relocations_in, symbol_records}
+use Rattle.rv_object_file_laws.specs.FirstFault.{section_tests, records_tests, rela_tests, relocations_tests, sections_tests, symbol_count}
+use Rattle.rv_object_file_laws.specs.Parts.{FileSection, is_symbol_table, is_rela, is_rows, is_loaded, relocates, relas_of, relocation_in, relocations_in}
 use Rattle.rv_object_checks.specs.declared.places.Places.{Places}
 use Rattle.rv_object_checks.specs.Found.{section_at, sections_from}
 use Rattle.rv_object_checks.specs.Stretches.{Holds, AreHeld}
@@ -189,7 +189,7 @@ Answers target symbols bytes old new result =
 -- what a check of relocations answers is what one of their section does
 pub target_done : {X : Type 0} (file : List ℕ) (before : List FileSection) (i : ℕ) (h target : SectionHeader) (symbols : ℕ) (bytes : List ℕ) (all : List Places) (old new : Places) (result : Result X FileFault) →
     is_rela h ≡ true → h.sh_info < section_count file → target ≡ section_header_of file h.sh_info → is_loaded target ≡ true →
-    symbols ≡ length (symbol_records file) → bytes ≡ contents_of file h → old ≡ get_or all h.sh_info old →
+    symbols ≡ symbol_count file h → bytes ≡ contents_of file h → old ≡ get_or all h.sh_info old →
     Answers target symbols bytes old new result →
     HoldBefore file before all → MatchResult result
     (λ _. (first_true (rela_tests file before h) ≡ None) × HoldBefore file (before ++ record { index = i; header = h } ∷ []) (set all h.sh_info new))

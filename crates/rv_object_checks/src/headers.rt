@@ -11,14 +11,14 @@ use rv_elf::{
 };
 
 /// Whether the section has a place in memory.
-pub(crate) fn is_loaded(header: &SectionHeader) -> bool
+pub fn is_loaded(header: &SectionHeader) -> bool
     ensures { result ≡ is_loaded header.now }
 {
     header.sh_flags / SHF_ALLOC % 2 == 1
 }
 
 /// Whether the section has instructions.
-pub(crate) fn is_executable(header: &SectionHeader) -> bool
+pub fn is_executable(header: &SectionHeader) -> bool
     ensures { result ≡ is_executable header.now }
 {
     header.sh_flags / SHF_EXECINSTR % 2 == 1

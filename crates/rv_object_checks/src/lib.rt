@@ -35,6 +35,9 @@ mod walk;
 
 pub use checked::Checked;
 pub use checking::check;
+pub use headers::{is_executable, is_loaded};
+pub use relocations::kind_numbered;
 pub use rows::{ROW_SIZE, RowRecord};
 pub use rows_reading::row_in;
 pub use symbols::symbol_from;
+pub use tables::count_sections;

@@ -2,10 +2,10 @@
 
 ghost use Rattle.std.specs.Prelude.{◌≡◌, ◌<◌, ℕ, not};
 ghost use Rattle.std.specs.List.{list_all};
-ghost use Rattle.rv_elf.specs.Sections.{section_count, names_section, string_at};
+ghost use Rattle.rv_elf.specs.Sections.{section_count, names_section};
 ghost use Rattle.rv_map.specs.Name.{is_name, is_name_byte};
 ghost use Rattle.rv_object_file_laws.specs.FirstFault.{is_none};
-ghost use Rattle.rv_object_file_laws.specs.Parts.{name_of, is_named, is_rows, is_kept};
+ghost use Rattle.rv_object_file_laws.specs.Parts.{name_at, name_of, is_named, is_rows, is_kept};
 ghost use Rattle.rv_object_file_laws.specs.Rows.{rows_name};
 ghost use Rattle.rv_object_checks.specs.Names.{strings_end, names_table, names_end};
 
@@ -22,7 +22,7 @@ pub(crate) struct Names<'a> {
     pub(crate) view: ElfView<'a>,
     /// The bytes of the table of names; none where the file has no such table.
     table: &'a [u8],
-    /// Strings that begin from here on have no end.
+    /// Strings that begin from here on have no end; offset 0 is no name, wherever that is.
     end: u64,
     ghost tabled: { table.now ≡ names_table view.file.now },
     ghost ended: { end ≡ names_end view.file.now },
@@ -48,11 +48,11 @@ impl<'a> Names<'a> {
         Names { view, table, end }
     }
 
-    /// Whether the section has a name that ends.
+    /// Whether the section has no name, or one that ends.
     pub(crate) fn has_name(&self, header: &SectionHeader) -> bool
         ensures { result ≡ not (is_none (name_of self.now.view.file.now header.now)) }
     {
-        (header.sh_name as u64) < self.end
+        header.sh_name == 0 || u64::from(header.sh_name) < self.end
     }
 
     /// Whether the section has the rows.
@@ -80,10 +80,13 @@ pub(crate) fn end_of_strings(table: &[u8]) -> u64
     }
 }
 
-/// Whether the string at an offset is the name of the section of rows.
+/// Whether the name at an offset is that of the section of rows.
 fn is_rows_name(table: &[u8], offset: u32) -> bool
-    ensures { result ≡ is_named rows_name (string_at table.now offset) }
+    ensures { result ≡ is_named rows_name (name_at table.now offset) }
 {
+    if offset == 0 {
+        return false;
+    }
     match table.get(offset as usize..) {
         Some(rest) => rest.starts_with(ROWS_NAME),
         None => false,

@@ -27,7 +27,7 @@ const LONGEST_PADDING: u64 = 4094;
 /// `places` is what those before them hold of the section if it is code, and then what all hold.
 pub(crate) fn check_relocations(
     header: &SectionHeader,
-    symbols: usize,
+    symbols: u64,
     places: &mut Places,
     records: &[u8],
 ) -> Result<(), FileFault>
@@ -54,7 +54,7 @@ pub(crate) fn check_relocations(
 #[tactic(auto, unfolding(rv_object_file_laws::specs::FirstFault::relocation_tests))]
 fn check_relocation(
     header: &SectionHeader,
-    symbols: usize,
+    symbols: u64,
     places: &mut Places,
     rela: &Rela,
 ) -> Result<(), FileFault>
@@ -67,11 +67,11 @@ fn check_relocation(
         (λ fault. (fault ≡ OutOfMemory)
         ⊎ (first_true (relocation_tests header.now symbols before rela.now) ≡ Some fault)) }
 {
-    let kind = numbered(rela.r_type);
+    let kind = kind_numbered(rela.r_type);
     if !is_placed(header, places, rela, kind)? {
         return Err(FileFault::BadTable);
     }
-    if rela.r_sym != 0 && rela.r_sym as usize >= symbols {
+    if rela.r_sym != 0 && u64::from(rela.r_sym) >= symbols {
         return Err(FileFault::BadIndex);
     }
     if kind.is_none() {
@@ -80,8 +80,8 @@ fn check_relocation(
     Ok(())
 }
 
-/// The kind of this number.
-fn numbered(number: u32) -> Option<Kind>
+/// The kind of relocation of this number; none where the linker has no such kind.
+pub fn kind_numbered(number: u32) -> Option<Kind>
     ensures { result ≡ kind_numbered number }
 {
     kind_of(number)

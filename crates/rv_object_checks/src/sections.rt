@@ -2,8 +2,8 @@
 
 ghost use Rattle.std.specs.Prelude.{◌≡◌, ◌<◌, true, OnOk};
 ghost use Rattle.rv_elf.specs.FirstFault.{Finds};
-ghost use Rattle.rv_object_file_laws.specs.FirstFault.{record_size, is_of, is_rela_linked, is_linked};
-ghost use Rattle.rv_object_file_laws.specs.Parts.{is_section, symbol_table};
+ghost use Rattle.rv_object_file_laws.specs.FirstFault.{record_size, is_rela_linked, is_linked};
+ghost use Rattle.rv_object_file_laws.specs.Parts.{is_section};
 ghost use Rattle.rv_object_checks.specs.Tests.{tests_behind, size_tests, link_tests};
 
 use crate::headers::{
@@ -11,7 +11,6 @@ use crate::headers::{
 };
 use crate::names::Names;
 use crate::rows::ROW_SIZE;
-use crate::tables::Tables;
 use rv_elf::{
     ElfView, FileFault, RELA_SIZE, SHT_NOBITS, SYMBOL_SIZE, SectionHeader, SectionIndex, lies_past,
 };
@@ -19,16 +18,16 @@ use rv_elf::{
 /// Looks at the header of a section, with a section of symbols before it in the file or not, and one of rows.
 #[tactic(auto, using(rv_elf::specs::FirstTrue::first_true_some, rv_elf::specs::FirstTrue::first_true_none))]
 pub(crate) fn check_section(
-    tables: &Tables<'_>,
+    names: &Names<'_>,
     header: &SectionHeader,
     symbols: bool,
     rows: bool,
 ) -> Result<(), FileFault>
-    ensures faults { Finds (tests_behind tables.now.names.view.file.now symbols rows header.now) result }
-    ensures linked { OnOk result (is_linked tables.now.names.view.file.now header.now ≡ true) }
+    ensures faults { Finds (tests_behind names.now.view.file.now symbols rows header.now) result }
+    ensures linked { OnOk result (is_linked names.now.view.file.now header.now ≡ true) }
 {
-    check_size(&tables.names, header, symbols, rows)?;
-    check_links(tables, header)?;
+    check_size(names, header, symbols, rows)?;
+    check_links(names, header)?;
     Ok(())
 }
 
@@ -61,14 +60,14 @@ fn check_size(
 
 /// Looks at what a section names, and at its type.
 #[tactic(auto, unfolding(crate::specs::Tests::link_tests))]
-fn check_links(tables: &Tables<'_>, header: &SectionHeader) -> Result<(), FileFault>
-    ensures faults { Finds (link_tests tables.now.names.view.file.now header.now) result }
-    ensures linked { OnOk result (is_linked tables.now.names.view.file.now header.now ≡ true) }
+fn check_links(names: &Names<'_>, header: &SectionHeader) -> Result<(), FileFault>
+    ensures faults { Finds (link_tests names.now.view.file.now header.now) result }
+    ensures linked { OnOk result (is_linked names.now.view.file.now header.now ≡ true) }
 {
-    if !tables.names.has_name(header) {
+    if !names.has_name(header) {
         return Err(FileFault::BadString);
     }
-    if !is_linked(tables, header) {
+    if !is_linked(&names.view, header) {
         return Err(FileFault::BadIndex);
     }
     if is_unsupported(header) {
@@ -94,26 +93,26 @@ fn record_size(names: &Names<'_>, header: &SectionHeader) -> u64
 }
 
 /// Whether the sections that the section needs are there.
-fn is_linked(tables: &Tables<'_>, header: &SectionHeader) -> bool
-    ensures { result ≡ is_linked tables.now.names.view.file.now header.now }
+fn is_linked(view: &ElfView<'_>, header: &SectionHeader) -> bool
+    ensures { result ≡ is_linked view.now.file.now header.now }
 {
     if is_symbol_table(header) {
-        is_section(&tables.names.view, header.sh_link)
+        is_section(view, header.sh_link)
     } else {
-        !is_rela(header) || is_rela_linked(tables, header)
+        !is_rela(header) || is_rela_linked(view, header)
     }
 }
 
-/// Whether relocations name their section and the symbols, those of a loaded section the symbol table.
-fn is_rela_linked(tables: &Tables<'_>, header: &SectionHeader) -> bool
-    ensures { result ≡ is_rela_linked tables.now.names.view.file.now header.now }
+/// Whether relocations name their section and that of the symbols, those of a loaded section a symbol table.
+fn is_rela_linked(view: &ElfView<'_>, header: &SectionHeader) -> bool
+    ensures { result ≡ is_rela_linked view.now.file.now header.now }
 {
-    let view = &tables.names.view;
     if !is_section(view, header.sh_link) || !is_section(view, header.sh_info) {
         return false;
     }
     let target = view.section_header(SectionIndex(header.sh_info as u16));
-    !is_loaded(&target) || is_symbols(tables, header.sh_link)
+    let symbols = view.section_header(SectionIndex(header.sh_link as u16));
+    !is_loaded(&target) || is_symbol_table(&symbols)
 }
 
 /// Whether there is a section of this index.
@@ -121,14 +120,4 @@ pub(crate) fn is_section(view: &ElfView<'_>, index: u32) -> bool
     ensures { result ≡ is_section view.now.file.now index }
 {
     0 < index && index < u32::from(view.header().e_shnum)
-}
-
-/// Whether the index is that of the symbol table.
-fn is_symbols(tables: &Tables<'_>, index: u32) -> bool
-    ensures { result ≡ is_of (symbol_table tables.now.names.view.file.now) index }
-{
-    match tables.symbols {
-        Some(table) => u32::from(table.0) == index,
-        None => false,
-    }
 }

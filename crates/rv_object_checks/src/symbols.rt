@@ -1,29 +1,28 @@
 //! The symbols of a section.
 
-ghost use Rattle.std.specs.Prelude.{◌≡◌, ◌+◌, ◌*◌, ◌≤◌, true, drop, flat_map, length};
+ghost use Rattle.std.specs.Prelude.{◌≡◌, ◌+◌, ◌*◌, ◌/◌, ◌==◌, ◌≤◌, ◌<◌, true, drop, flat_map, length};
 ghost use Rattle.rv_elf.specs.Fields.{symbol_size};
 ghost use Rattle.rv_elf.specs.FirstFault.{Finds};
+ghost use Rattle.rv_elf.specs.Numbers.{stb_global};
 ghost use Rattle.rv_elf.specs.Records.{symbol_at};
-ghost use Rattle.rv_elf.specs.Sections.{section_of, contents_of, symbols_in, string_at};
-ghost use Rattle.rv_object_file_laws.specs.FirstFault.{symbol_tests, is_bad_name, has_binding, has_home};
-ghost use Rattle.rv_object_file_laws.specs.Parts.{is_section, symbol_records};
+ghost use Rattle.rv_elf.specs.Sections.{section_count, section_of, contents_of, symbols_in};
+ghost use Rattle.rv_object_file_laws.specs.FirstFault.{symbol_tests, symbol_count, is_bad_name, has_binding, has_home};
+ghost use Rattle.rv_object_file_laws.specs.Parts.{is_section, name_at};
 ghost use Rattle.rv_object_checks.specs.Names.{strings_end};
 
 use crate::names::{end_of_strings, is_name};
-use crate::tables::Tables;
 use rv_elf::{
     ElfView, FileFault, SHN_ABS, SHN_UNDEF, STB_GLOBAL, STB_LOCAL, SYMBOL_SIZE, SectionHeader,
     SectionIndex, Symbol, SymbolIndex, string_in, symbol_in,
 };
 
-/// How many symbols the symbol table has, symbol 0 as well.
-pub(crate) fn count_symbols(tables: &Tables<'_>) -> usize
-    ensures { result ≡ length (symbol_records tables.now.names.view.file.now) }
+/// How many symbols there are for these relocations, by the header of the table that they name, symbol 0 as well.
+pub(crate) fn count_symbols(view: &ElfView<'_>, relocations: &SectionHeader) -> u64
+    requires { relocations.now.sh_link < section_count view.now.file.now }
+    ensures { result ≡ symbol_count view.now.file.now relocations.now }
 {
-    match tables.symbols {
-        Some(table) => tables.names.view.section(table).len() / SYMBOL_SIZE,
-        None => 0,
-    }
+    let table = view.section_header(SectionIndex(relocations.sh_link as u16));
+    table.sh_size / SYMBOL_SIZE as u64
 }
 
 /// The symbol of this index in a section of these bytes.
@@ -73,15 +72,19 @@ fn check_symbol(
     Ok(())
 }
 
-/// Whether the symbol's name has no end, or is that of a global symbol and none that a map can show.
+/// Whether the symbol's name has no end, or is that of a global symbol and none that a map can show. Offset 0 is no
+/// name.
 fn is_bad_name(names: &[u8], end: u64, symbol: &Symbol) -> bool
     requires { end ≡ strings_end names.now }
-    ensures { result ≡ is_bad_name symbol.now (string_at names.now symbol.now.st_name) }
+    ensures { result ≡ is_bad_name symbol.now (name_at names.now symbol.now.st_name) }
 {
+    if symbol.st_name == 0 {
+        return is_global(symbol);
+    }
     if u64::from(symbol.st_name) >= end {
         return true;
     }
-    if symbol.st_info / 16 != STB_GLOBAL {
+    if !is_global(symbol) {
         return false;
     }
     match string_in(names, symbol.st_name) {
@@ -90,11 +93,18 @@ fn is_bad_name(names: &[u8], end: u64, symbol: &Symbol) -> bool
     }
 }
 
+/// Whether the symbol is global.
+fn is_global(symbol: &Symbol) -> bool
+    ensures { result ≡ (symbol.now.st_info / 16 == stb_global) }
+{
+    symbol.st_info / 16 == STB_GLOBAL
+}
+
 /// Whether the symbol is local or global.
 fn has_binding(symbol: &Symbol) -> bool
     ensures { result ≡ has_binding symbol.now }
 {
-    symbol.st_info / 16 == STB_LOCAL || symbol.st_info / 16 == STB_GLOBAL
+    symbol.st_info / 16 == STB_LOCAL || is_global(symbol)
 }
 
 /// Whether the symbol is undefined, a number, or in a section.

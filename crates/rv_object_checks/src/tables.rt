@@ -46,7 +46,7 @@ impl<'a> Tables<'a> {
 }
 
 /// How many sections there are behind section 0.
-pub(crate) fn count_sections(view: &ElfView<'_>) -> u16
+pub fn count_sections(view: &ElfView<'_>) -> u16
     ensures { result ≡ section_count view.now.file.now - 1 }
 {
     view.header().e_shnum.saturating_sub(1)

@@ -5,7 +5,7 @@ ghost use Rattle.rv_elf.specs.FirstFault.{first_true};
 ghost use Rattle.rv_elf.specs.Sections.{section_count};
 ghost use Rattle.rv_elf.specs.declared.fault.FileFault.TheVariants.{OutOfMemory};
 ghost use Rattle.rv_object_file_laws.specs.FirstFault.{is_linked, rela_tests, records_tests, sections_tests};
-ghost use Rattle.rv_object_file_laws.specs.Parts.{FileSection, is_rela, sections, symbol_records};
+ghost use Rattle.rv_object_file_laws.specs.Parts.{FileSection, is_rela, sections};
 ghost use Rattle.rv_object_checks.specs.Walk.{HoldBefore};
 
 use crate::headers::{is_loaded, is_rela, is_symbol_table};
@@ -15,7 +15,7 @@ use crate::rows_reading::check_rows;
 use crate::sections::check_section;
 use crate::symbols::{check_symbols, count_symbols};
 use crate::tables::{Tables, count_sections};
-use rv_elf::{FileFault, SectionHeader, SectionIndex};
+use rv_elf::{ElfView, FileFault, SectionHeader, SectionIndex};
 use std::alloc::{AllocError, Global};
 
 /// Looks at the sections of a file, each header before its records.
@@ -29,14 +29,13 @@ pub(crate) fn check_sections(alloc: Global, tables: &Tables<'_>) -> Result<(), F
         (sections_tests tables.now.names.view.file.now []
         (sections tables.now.names.view.file.now)) ≡ Some fault)) }
 {
-    let symbols = count_symbols(tables);
     let mut held = no_places(alloc, tables.names.view.header().e_shnum)?;
     let mut symbols_before = false;
     let mut rows_before = false;
     for earlier in 0..count_sections(&tables.names.view) {
         let header = tables.names.view.section_header(SectionIndex(earlier + 1));
-        check_section(tables, &header, symbols_before, rows_before)?;
-        check_records(tables, &header, symbols, &mut held)?;
+        check_section(&tables.names, &header, symbols_before, rows_before)?;
+        check_records(tables, &header, &mut held)?;
         symbols_before = either(symbols_before, is_symbol_table(&header));
         rows_before = either(rows_before, tables.names.is_rows(&header));
     }
@@ -65,11 +64,9 @@ fn no_places(alloc: Global, count: u16) -> Result<Vec<Places>, AllocError>
 fn check_records(
     tables: &Tables<'_>,
     header: &SectionHeader,
-    symbols: usize,
     held: &mut [Places],
 ) -> Result<(), FileFault>
     requires linked { is_linked tables.now.names.view.file.now header.now ≡ true }
-    requires counted { symbols ≡ length (symbol_records tables.now.names.view.file.now) }
     requires long { length held.old ≡ section_count tables.now.names.view.file.now }
     ensures { (before : List FileSection) (i : ℕ)
         → HoldBefore tables.now.names.view.file.now before held.old
@@ -84,7 +81,7 @@ fn check_records(
         return check_symbols(&tables.names.view, header);
     }
     if is_rela(header) {
-        return check_target(tables, header, symbols, held);
+        return check_target(&tables.names.view, header, held);
     }
     if tables.names.is_rows(header) {
         return check_rows(tables, header);
@@ -94,29 +91,28 @@ fn check_records(
 
 /// Looks at the relocations in a section, if these are of a loaded section.
 fn check_target(
-    tables: &Tables<'_>,
+    view: &ElfView<'_>,
     header: &SectionHeader,
-    symbols: usize,
     held: &mut [Places],
 ) -> Result<(), FileFault>
     requires rela { is_rela header.now ≡ true }
-    requires within { header.now.sh_info < section_count tables.now.names.view.file.now }
-    requires counted { symbols ≡ length (symbol_records tables.now.names.view.file.now) }
-    requires long { length held.old ≡ section_count tables.now.names.view.file.now }
+    requires within { header.now.sh_info < section_count view.now.file.now }
+    requires linked { header.now.sh_link < section_count view.now.file.now }
+    requires long { length held.old ≡ section_count view.now.file.now }
     ensures { (before : List FileSection) (i : ℕ)
-        → HoldBefore tables.now.names.view.file.now before held.old
+        → HoldBefore view.now.file.now before held.old
         → MatchResult result
-        (λ _. (first_true (rela_tests tables.now.names.view.file.now before header.now) ≡ None)
-        × HoldBefore tables.now.names.view.file.now
+        (λ _. (first_true (rela_tests view.now.file.now before header.now) ≡ None)
+        × HoldBefore view.now.file.now
         (before ++ record { index = i; header = header.now } ∷ []) held.new)
         (λ fault. (fault ≡ OutOfMemory)
-        ⊎ (first_true (rela_tests tables.now.names.view.file.now before header.now) ≡ Some fault)) }
+        ⊎ (first_true (rela_tests view.now.file.now before header.now) ≡ Some fault)) }
 {
-    let view = &tables.names.view;
     let target = view.section_header(SectionIndex(header.sh_info as u16));
     if !is_loaded(&target) {
         return Ok(());
     }
+    let symbols = count_symbols(view, header);
     let places = &mut held[header.sh_info as usize];
     check_relocations(&target, symbols, places, view.contents(header))
 }

@@ -1,9 +1,8 @@
 -- A written file has no fault.
 
-use Rattle.std.proofs.Common.{◌≡◌, ℕ, suc, ◌+◌, ◌/◌, ◌%◌, ◌<◌, ◌≤◌, ◌^◌, ◌==◌, nat_le, Bool, true, false, not, ◌&&◌, ◌||◌, List, [], ◌∷◌, ◌++◌, length, drop, map, filter, flat_map, codes, Some, None, refl, ap, sym, subst, ◌∙◌, arith, inl, inr, append_assoc, append-nil, if◌then◌else◌}
+use Rattle.std.proofs.Common.{◌≡◌, ℕ, suc, ◌+◌, ◌/◌, ◌%◌, ◌<◌, ◌≤◌, ◌^◌, ◌==◌, nat_le, Bool, true, false, not, ◌&&◌, ◌||◌, List, [], ◌∷◌, ◌++◌, length, drop, map, filter, flat_map, codes, None, refl, ap, sym, subst, ◌∙◌, arith, inl, inr, append_assoc, append-nil, if◌then◌else◌}
 use Rattle.std.specs.List.{AllByRecursion, list_any, list_all, slice_get}
-use Rattle.std.proofs.lemmas.Bool.{cases_Bool, cond-true, cond-false, and_left, and_right, and_parts, and_from, or_right, not_from_true, lt-ltb, eq-eqb, ne_eqb}
-use Rattle.std.proofs.lemmas.List.{length-map}
+use Rattle.std.proofs.lemmas.Bool.{cases_Bool, cond-true, cond-false, and_left, and_right, and_parts, and_from, or_right, not_from_true, lt-ltb, ne_eqb}
 use Rattle.std.proofs.lemmas.List.Elements.{filter-append}
 use Rattle.rv_elf.specs.declared.fault.FileFault.{FileFault}
 use Rattle.rv_elf.specs.declared.fault.FileFault.TheVariants.{Truncated, BadTable, BadString, BadIndex, UnsupportedSection, NotObject}
@@ -15,9 +14,9 @@ use Rattle.rv_object.specs.declared.row.Row.{Row}
 use Rattle.rv_object.specs.Object.{Contents, Progbits, Note, Nobits, Section, Object, size_of, stored}
 use Rattle.rv_object.specs.Valid.{is_alignment, is_row_in}
 use Rattle.rv_object_file_laws.specs.Rows.{rows_in, rows_name, row_bytes}
-use Rattle.rv_object_file_laws.specs.Parts.{FileSection, name_of, sections, is_section, is_loaded, is_executable, is_symbol_table, is_rela, is_rows, symbol_table, symbols_of, symbol_records, relocates, relas_of, relocations_in}
+use Rattle.rv_object_file_laws.specs.Parts.{FileSection, name_of, sections, is_section, is_loaded, is_executable, is_symbol_table, is_rela, is_rows, symbols_of, relocates, relas_of, relocations_in}
 use Rattle.rv_object_file_laws.specs.ObjectOf.{names_of}
-use Rattle.rv_object_file_laws.specs.FirstFault.{is_rela_linked, is_none, record_size, is_of, is_linked, is_unsupported, section_tests, symbol_tests, row_tests, relocations_tests, rela_tests, records_tests, sections_tests, object_tests, first_fault}
+use Rattle.rv_object_file_laws.specs.FirstFault.{is_rela_linked, is_none, record_size, is_linked, is_unsupported, section_tests, symbol_tests, row_tests, relocations_tests, symbol_count, rela_tests, records_tests, sections_tests, object_tests, first_fault}
 use Rattle.rv_object_file_laws.specs.Known.{IsSection, IsObject}
 use Rattle.rv_object_file_laws.specs.Written.{relocations_bytes, table_piece, Piece, table_of, aligned, kind_of, section_piece, rela_pieces, row_pieces, row_record, header_of, symtab_index, last_index, section_names, symbol_names, symbols_bytes, symbol_record, file_header_of, file_of, HasFile}
 use Rattle.rv_object_file_laws.proofs.Laid.{listed, Shows, AllShow}
@@ -155,10 +154,8 @@ homes_of file names i at (s ∷ ss) shows = ((at, shows.0.of), homes_of file nam
 
 -- what the tests of relocations look up
 record Symbols (file : List ℕ) (symtab count : ℕ) : Type 0 where
-  table : FileSection
-  found : symbol_table file ≡ Some table
-  index : table.index ≡ symtab
-  many : length (symbol_records file) ≡ suc count
+  table : is_symbol_table (section_header_of file symtab) ≡ true
+  many : (section_header_of file symtab).sh_size / 24 ≡ suc count
   few : count < 2 ^ 32
   above : 0 < symtab
   below : symtab < section_count file
@@ -172,7 +169,7 @@ relocations_pass : (file : List ℕ) (names : List (List ℕ)) (symtab count ind
 relocations_pass file names symtab count index i at s before symbols shows place home sound fits none =
     let h : SectionHeader = header_of names at (rela_piece symtab index s) in
     let target : SectionHeader = section_header_of file index in
-    let tests : List (Bool × FileFault) = relocations_tests target (length (symbol_records file)) (relocations_in (relas_of file (filter (relocates index) before))) (relas_in (contents_of file h)) in
+    let tests : List (Bool × FileFault) = relocations_tests target (symbol_count file h) (relocations_in (relas_of file (filter (relocates index) before))) (relas_in (contents_of file h)) in
     let bits = flag_bits s.writable s.loaded s.executable in
     let relas = ap relas_in (shows.contents refl) ∙ relas_read count s.relocations symbols.few fits in
     elim (cases_Bool (is_loaded target)) [
@@ -188,10 +185,9 @@ rela_passes : (file : List ℕ) (names : List (List ℕ)) (symtab count index i 
     (first_true (section_tests file before (header_of names at (rela_piece symtab index s))) ≡ None)
     × (first_true (records_tests file before (header_of names at (rela_piece symtab index s))) ≡ None)
 rela_passes file names symtab count index i at s before symbols shows place home sound fits none low high =
-    let whole : length (relocations_bytes s.relocations) % 24 ≡ 0 = omega (arith, length-relocations s.relocations) in
-    let table : is_of (symbol_table file) symtab ≡ true = ap (λ t. is_of t symtab) symbols.found ∙ eq-eqb symbols.table.index symtab symbols.index in (
+    let whole : length (relocations_bytes s.relocations) % 24 ≡ 0 = omega (arith, length-relocations s.relocations) in (
       one_header file names i at (rela_piece symtab index s) before shows refl refl whole refl refl
-          (and_from _ _ (and_from _ _ (is_there file symtab symbols.above symbols.below) (is_there file index low high)) (or_right _ _ table)) refl,
+          (and_from _ _ (and_from _ _ (is_there file symtab symbols.above symbols.below) (is_there file index low high)) (or_right _ _ symbols.table)) refl,
       relocations_pass file names symtab count index i at s before symbols shows place home sound fits none,
     )
 
@@ -306,13 +302,11 @@ sections_sound o file known has f =
     let c : List FileSection = row_list o f.at_rows in
     let d : List FileSection = table_list o f.at_tables in
     let count : section_count file ≡ suc (last_index o) = f.reads.count ∙ small.count in
-    let many : length (symbol_records file) ≡ suc (length o.symbols) =
-    ap length r.records ∙ ap suc (length-map o.symbols (symbol_record (symbol_names o) (last_index o))) in
+    let shown : section_header_of file (symtab_index o) ≡ header_of names f.at_tables (symtab_piece o) = f.show_tables.0.of in
+    let many : length (symbols_bytes (last_index o) o) / 24 ≡ suc (length o.symbols) = omega (arith, length-symbols (last_index o) o) in
     let symbols : Symbols file (symtab_index o) (length o.symbols) = record {
-      table = entry names (symtab_index o) f.at_tables (symtab_piece o);
-      found = r.symbols;
-      index = refl;
-      many = many;
+      table = ap is_symbol_table shown;
+      many = ap (λ h. h.sh_size / 24) shown ∙ many;
       few = omega (arith, has.symbols);
       above = omega arith;
       below = omega (arith, count);

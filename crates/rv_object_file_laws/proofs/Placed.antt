@@ -7,11 +7,12 @@ use Rattle.std.proofs.lemmas.Bool.Decides.{nat_tests}
 use Rattle.std.proofs.lemmas.List.{length-append, length-map}
 use Rattle.rv_elf.specs.declared.section_header.SectionHeader.{SectionHeader}
 use Rattle.rv_elf.specs.Records.{section_header_bytes}
-use Rattle.rv_elf.specs.Sections.{is_past, names_section, section_of, contents_of, string_at}
+use Rattle.rv_elf.specs.Sections.{is_past, names_section, section_of, contents_of}
 use Rattle.rv_object.specs.Object.{Contents, Progbits, Note, Nobits, Section, Symbol, Object, stored, size_of}
 use Rattle.rv_object.specs.Valid.{is_alignment, is_string}
 use Rattle.rv_object.specs.declared.row.Row.{Row}
 use Rattle.rv_object_file_laws.specs.Known.{IsSection}
+use Rattle.rv_object_file_laws.specs.Parts.{name_at}
 use Rattle.rv_object_file_laws.specs.Written.{name_offset, Piece, table_of, table_piece, aligned, end_of, headers_from, kind_of, flag_if, section_piece, rela_pieces, row_pieces, symtab_index, last_index, pieces, section_names, symbol_names, symbols_bytes, is_local, locals}
 use Rattle.rv_object_file_laws.proofs.Records.{length-section_header}
 use Rattle.rv_object_file_laws.proofs.Strings.{is_among, name_back}
@@ -181,7 +182,7 @@ pub named_all : (file : List ℕ) (names : List (List ℕ)) (at : ℕ) (ps : Lis
     section_of file (names_section file) ≡ table_of names → AllByRecursion IsFine ps → AllByRecursion (λ p. is_among p.name names ≡ true) ps → AllNamed file names at ps
 named_all file names at [] other table fine among = tt
 named_all file names at (p ∷ ps) other table fine among = (
-  cond-false (names_section file == 0) _ _ other ∙ ap (λ t. string_at t (name_offset names p.name)) table
+  cond-false (names_section file == 0) _ _ other ∙ ap (λ t. name_at t (name_offset names p.name)) table
       ∙ name_back names p.name fine.0.string among.0,
   named_all file names (aligned at + length p.bytes) ps other table fine.1 among.1,
 )

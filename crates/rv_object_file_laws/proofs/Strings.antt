@@ -2,12 +2,13 @@
 
 use Rattle.std.proofs.Common.{◌≡◌, ℕ, ◌+◌, ◌≤◌, ◌==◌, Bool, true, not, ◌||◌, List, [], ◌∷◌, ◌++◌, length, drop, flat_map, Some, refl, ap, sym, ◌∙◌, append_assoc, arith, bytes_eq, inl, inr, subst, append-nil}
 use Rattle.std.specs.List.{list_any}
-use Rattle.std.proofs.lemmas.Bool.{cases_Bool, cond-true, cond-false, and_parts, or_cases, or_left, or_right, not-true, false≢true}
+use Rattle.std.proofs.lemmas.Bool.{cases_Bool, eqb-true, cond-true, cond-false, and_parts, or_cases, or_left, or_right, not-true, false≢true}
 use Rattle.std.proofs.lemmas.List.{drop-drop, drop_at, length-append}
 use Rattle.std.proofs.lemmas.List.Folds.{list_any-append}
 use Rattle.std.proofs.lemmas.Slice.Eq.{bytes_eq-Decides}
 use Rattle.rv_elf.specs.Sections.{before_zero, string_at}
 use Rattle.rv_object.specs.Valid.{is_string}
+use Rattle.rv_object_file_laws.specs.Parts.{name_at}
 use Rattle.rv_object_file_laws.specs.Written.{unseen, strings_of, table_of, offset_in, name_offset}
 
 abbrev pub with_end : List ℕ → List ℕ
@@ -93,12 +94,27 @@ strings_among names name h =
       | inr e ↦ e
     ]
 
--- the string at the offset of a name of the table
+-- the empty string comes first: no other name has offset 0
+zero_offset : (names : List (List ℕ)) (name : List ℕ) → name_offset names name ≡ 0 → [] ≡ name
+zero_offset names name zero = elim (cases_Bool (bytes_eq [] name)) [
+  | inl e ↦ (bytes_eq-Decides [] name).0 e
+  | inr e ↦
+      let later : ℕ = offset_in (unseen ([] ∷ []) names) name in
+      let above : name_offset names name ≡ 1 + later = cond-false (bytes_eq [] name) 0 (1 + later) e in
+      absurd (omega (arith, above, zero))
+]
+
+-- the name at the offset of a name of the table
 pub name_back : (names : List (List ℕ)) (name : List ℕ) → is_string name ≡ true → is_among name names ≡ true →
-    string_at (table_of names) (name_offset names name) ≡ Some name
+    name_at (table_of names) (name_offset names name) ≡ Some name
 name_back names name fine among =
-    ap (λ t. string_at t (name_offset names name)) (sym (append-nil (table_of names)))
-    ∙ string_back (strings_of names) name [] fine (strings_among names name among)
+    let at : ℕ = name_offset names name in
+    let read : string_at (table_of names) at ≡ Some name =
+    ap (λ t. string_at t at) (sym (append-nil (table_of names))) ∙ string_back (strings_of names) name [] fine (strings_among names name among) in
+    elim (cases_Bool (at == 0)) [
+      | inl e ↦ cond-true (at == 0) (Some []) (string_at (table_of names) at) e ∙ ap (λ n. Some n) (zero_offset names name (eqb-true at 0 e))
+      | inr e ↦ cond-false (at == 0) (Some []) (string_at (table_of names) at) e ∙ read
+    ]
 
 pub name_offset_within : (names : List (List ℕ)) (name : List ℕ) → name_offset names name ≤ length (table_of names)
 name_offset_within names name = offset_within (strings_of names) name

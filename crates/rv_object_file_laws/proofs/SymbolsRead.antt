@@ -11,7 +11,7 @@ use Rattle.rv_elf.specs.declared.symbol.Symbol.{Symbol as SymbolRecord}
 use Rattle.rv_elf.specs.Fields.{symbol_size}
 use Rattle.rv_elf.specs.ReadBack.{FitsSymbol, symbol_there}
 use Rattle.rv_elf.specs.Records.{symbol_at, symbol_bytes}
-use Rattle.rv_elf.specs.Sections.{records, symbols_in, string_at}
+use Rattle.rv_elf.specs.Sections.{records, symbols_in}
 use Rattle.rv_object.specs.declared.symbol.Binding.{Binding}
 use Rattle.rv_object.specs.declared.symbol.Binding.TheVariants.{Local, Global}
 use Rattle.rv_object.specs.declared.symbol.Definition.{Definition}
@@ -20,7 +20,7 @@ use Rattle.rv_object.specs.declared.row.Row.{Row}
 use Rattle.rv_object.specs.Object.{Section, Symbol, Object}
 use Rattle.rv_object.specs.Valid.{is_string, is_shown, is_defined_in}
 use Rattle.rv_object_file_laws.specs.Rows.{row_size, row_at, row_bytes, rows_in}
-use Rattle.rv_object_file_laws.specs.Parts.{kept, kept_at, kept_before, is_index, symbol_table}
+use Rattle.rv_object_file_laws.specs.Parts.{kept, kept_at, kept_before, is_index, name_at, symbol_table}
 use Rattle.rv_object_file_laws.specs.ObjectOf.{names_of, definition_in, definition_by, symbol_in, row_in}
 use Rattle.rv_object_file_laws.specs.Known.{IsSymbol, IsRow}
 use Rattle.rv_object_file_laws.specs.Written.{aligned, section_piece, name_offset, table_of, binding_number, home_of, value_of, symbol_record, symbols_bytes, symbol_names, row_record}
@@ -132,7 +132,7 @@ pub symbol_again : (file : List ℕ) (names : List (List ℕ)) (ss : List Sectio
     length ss < last → last < 0xFF00 → names_of file (symbol_table file) ≡ table_of strings → FitsName (length ss) strings s →
     symbol_in file (symbol_record strings last s) ≡ s
 symbol_again file names ss last strings s keeps high few table fits =
-    let name = ap (λ t. unwrap_or (string_at t (name_offset strings s.name)) []) table
+    let name = ap (λ t. unwrap_or (name_at t (name_offset strings s.name)) []) table
     ∙ ap (λ n. unwrap_or n []) (name_back strings s.name (shown_string s.binding s.name fits.known.shown) fits.among) in
     let binding = binding_back s.binding in
     let definition = definition_back file names ss last (symbol_record strings last s) s.definition keeps high few fits.inside refl refl in

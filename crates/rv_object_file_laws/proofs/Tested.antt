@@ -10,7 +10,7 @@ use Rattle.rv_map.specs.Name.{is_name}
 use Rattle.rv_elf.specs.declared.fault.FileFault.TheVariants.{BadTable, BadString, BadIndex, UnsupportedRelocation}
 use Rattle.rv_elf.specs.declared.section_header.SectionHeader.{SectionHeader}
 use Rattle.rv_elf.specs.FirstFault.{first_true}
-use Rattle.rv_elf.specs.Sections.{section_count, string_at}
+use Rattle.rv_elf.specs.Sections.{section_count}
 use Rattle.rv_object.specs.declared.symbol.Binding.{Binding}
 use Rattle.rv_object.specs.declared.symbol.Binding.TheVariants.{Local, Global}
 use Rattle.rv_object.specs.declared.symbol.Definition.{Definition}
@@ -18,7 +18,7 @@ use Rattle.rv_object.specs.declared.symbol.Definition.TheVariants.{Undefined, Ab
 use Rattle.rv_object.specs.declared.row.Row.{Row}
 use Rattle.rv_object.specs.Object.{Contents, Progbits, Note, Nobits, Relocation, Symbol, size_of}
 use Rattle.rv_object.specs.Valid.{fits_inside, fit_inside, is_padding, is_padding_of, padding_of, is_align, are_apart, are_all_apart, are_paddings, is_shown, is_defined_in}
-use Rattle.rv_object_file_laws.specs.Parts.{FileSection, extent_of, is_executable, is_loaded, kind_numbered, relocation_in, relocations_in, kept_at}
+use Rattle.rv_object_file_laws.specs.Parts.{FileSection, name_at, extent_of, is_executable, is_loaded, kind_numbered, relocation_in, relocations_in, kept_at}
 use Rattle.rv_object_file_laws.specs.FirstFault.{is_none, is_misplaced, relocation_tests, relocations_tests, is_bad_name, has_binding, has_home, symbol_tests, is_row_of, row_tests}
 use Rattle.rv_object_file_laws.specs.Written.{kind_of, symbol_number, rela_of, name_offset, table_of, binding_number, home_of, symbol_record, row_record}
 use Rattle.rv_object_file_laws.proofs.Strings.{name_back}
@@ -140,8 +140,8 @@ pub symbol_sound : (file : List ℕ) (count last sections : ℕ) (strings : List
 unfolding symbol_tests
 symbol_sound file count last sections strings table s many high low same fits =
     let record_of = symbol_record strings last s in
-    let name : is_bad_name record_of (string_at table (name_offset strings s.name)) ≡ false =
-    ap (λ t. is_bad_name record_of (string_at t (name_offset strings s.name))) same
+    let name : is_bad_name record_of (name_at table (name_offset strings s.name)) ≡ false =
+    ap (λ t. is_bad_name record_of (name_at t (name_offset strings s.name))) same
     ∙ ap (is_bad_name record_of) (name_back strings s.name (shown_string s.binding s.name fits.known.shown) fits.among)
     ∙ bad_name s.binding s.name fits.known.shown in
     let home : not (has_binding record_of && has_home file record_of) ≡ false =

@@ -1,7 +1,7 @@
 -- Why a file is no object: tests in order, the first that is true gives the fault. Section by
 -- section, a header before its records, and these one by one, each beside those before it.
 
-use Rattle.std.specs.Prelude.{ℕ, ◌+◌, ◌/◌, ◌%◌, ◌==◌, nat_lt, nat_le, Bool, true, false, not, ◌&&◌, ◌||◌, if◌then◌else◌, List, [], ◌∷◌, ◌++◌, length, drop, filter, flat_map, Option, Some, None}
+use Rattle.std.specs.Prelude.{ℕ, ◌+◌, ◌/◌, ◌%◌, ◌==◌, nat_lt, nat_le, Bool, true, false, not, ◌&&◌, ◌||◌, if◌then◌else◌, List, [], ◌∷◌, ◌++◌, drop, filter, flat_map, Option, Some, None}
 use Rattle.std.specs.List.{list_any}
 use Rattle.rv_map.specs.Name.{is_name}
 use Rattle.rv_elf.specs.declared.fault.FileFault.{FileFault}
@@ -12,10 +12,10 @@ use Rattle.rv_elf.specs.declared.rela.Rela.{Rela}
 use Rattle.rv_elf.specs.Fields.{number_in, e_type, symbol_size, rela_size}
 use Rattle.rv_elf.specs.FirstFault.{first_true, header_tests, table_tests}
 use Rattle.rv_elf.specs.Numbers.{et_rel, sht_progbits, sht_note, sht_nobits, sht_group, shn_undef, shn_abs, stb_local, stb_global}
-use Rattle.rv_elf.specs.Sections.{is_past, section_count, section_header_of, section_of, contents_of, string_at, symbols_in, relas_in}
+use Rattle.rv_elf.specs.Sections.{is_past, section_count, section_header_of, section_of, contents_of, symbols_in, relas_in}
 use Rattle.rv_object.specs.Object.{Relocation}
 use Rattle.rv_object.specs.Valid.{is_alignment, fits_inside, is_padding, are_apart}
-use Rattle.rv_object_file_laws.specs.Parts.{FileSection, sections, is_section, is_loaded, is_executable, name_of, is_symbol_table, is_rela, is_rows, kept_at, extent_of, symbol_table, symbol_records, relocates, relas_of, kind_numbered, relocation_in, relocations_in}
+use Rattle.rv_object_file_laws.specs.Parts.{FileSection, sections, is_section, is_loaded, is_executable, name_at, name_of, is_symbol_table, is_rela, is_rows, kept_at, extent_of, relocates, relas_of, kind_numbered, relocation_in, relocations_in}
 use Rattle.rv_object_file_laws.specs.Rows.{RowRecord, row_size, rows_in}
 
 abbrev pub is_none : {X : Type 0} → Option X → Bool
@@ -30,14 +30,11 @@ record_size file h =
     if is_symbol_table h then symbol_size else if is_rela h then rela_size
     else if is_rows file h then row_size else 1
 
-abbrev pub is_of : Option FileSection → ℕ → Bool
-is_of None i = false
-is_of (Some s) i = s.index == i
-
--- relocations name their section and the symbols, those of a loaded section the symbol table
+-- relocations name their section and that of the symbols, those of a loaded section a symbol table
 abbrev pub is_rela_linked : List ℕ → SectionHeader → Bool
 is_rela_linked file h = is_section file h.sh_link && is_section file h.sh_info
-    && (not (is_loaded (section_header_of file h.sh_info)) || is_of (symbol_table file) h.sh_link)
+    && (not (is_loaded (section_header_of file h.sh_info))
+    || is_symbol_table (section_header_of file h.sh_link))
 
 -- symbols name the section of their names
 abbrev pub is_linked : List ℕ → SectionHeader → Bool
@@ -78,7 +75,7 @@ has_home file s =
     s.st_shndx == shn_undef || s.st_shndx == shn_abs || nat_lt s.st_shndx (section_count file)
 
 unfoldable pub symbol_tests : List ℕ → List ℕ → SymbolRecord → List (Bool × FileFault)
-symbol_tests file names s = (is_bad_name s (string_at names s.st_name), BadString)
+symbol_tests file names s = (is_bad_name s (name_at names s.st_name), BadString)
     ∷ (not (has_binding s && has_home file s), BadIndex)
     ∷ []
 
@@ -116,11 +113,15 @@ relocations_tests h symbols before (r ∷ rs) =
 
 -- ---- all
 
+-- how many symbols the table has that a section of relocations names, by that table's header
+abbrev pub symbol_count : List ℕ → SectionHeader → ℕ
+symbol_count file h = (section_header_of file h.sh_link).sh_size / symbol_size
+
 -- the relocations of a loaded section, behind those that stand before them in the file
 abbrev pub rela_tests : List ℕ → List FileSection → SectionHeader → List (Bool × FileFault)
 rela_tests file before h =
     if is_loaded (section_header_of file h.sh_info)
-    then relocations_tests (section_header_of file h.sh_info) (length (symbol_records file))
+    then relocations_tests (section_header_of file h.sh_info) (symbol_count file h)
     (relocations_in (relas_of file (filter (relocates h.sh_info) before)))
     (relas_in (contents_of file h))
     else []

@@ -5,14 +5,14 @@ use Rattle.std.specs.Prelude.{◌≡◌, ℕ, ◌/◌, ◌%◌, ◌==◌, max, L
 use Rattle.rv_elf.specs.declared.symbol.Symbol.{Symbol as SymbolRecord}
 use Rattle.rv_elf.specs.Fields.{number_in, ei_magic, ei_class, ei_data, ei_version, e_type, e_machine, e_flags}
 use Rattle.rv_elf.specs.Numbers.{elfmag, et_rel, em_riscv, shn_undef, shn_abs, stb_local}
-use Rattle.rv_elf.specs.Sections.{section_of, string_at}
+use Rattle.rv_elf.specs.Sections.{section_of}
 use Rattle.rv_object.specs.declared.symbol.Binding.{Binding}
 use Rattle.rv_object.specs.declared.symbol.Binding.TheVariants.{Local, Global}
 use Rattle.rv_object.specs.declared.symbol.Definition.{Definition}
 use Rattle.rv_object.specs.declared.symbol.Definition.TheVariants.{Undefined, Absolute, InSection, Skipped}
 use Rattle.rv_object.specs.declared.row.Row.{Row}
 use Rattle.rv_object.specs.Object.{Section, Symbol, Object}
-use Rattle.rv_object_file_laws.specs.Parts.{FileSection, sections, kept, kept_at, kept_before, name_of, contents_in, is_loaded, is_executable, is_writable, symbol_table, symbol_records, row_records, relocates, relas_of, relocations_in}
+use Rattle.rv_object_file_laws.specs.Parts.{FileSection, sections, kept, kept_at, kept_before, name_at, name_of, contents_in, is_loaded, is_executable, is_writable, symbol_table, symbol_records, row_records, relocates, relas_of, relocations_in}
 use Rattle.rv_object_file_laws.specs.Rows.{RowRecord}
 
 -- a kept section: its alignment is 1 where the file has 0; only a loaded one keeps relocations
@@ -48,7 +48,7 @@ definition_in file s = if s.st_shndx == shn_undef then Undefined
 
 abbrev pub symbol_in : List ℕ → SymbolRecord → Symbol
 symbol_in file s = record {
-  name = unwrap_or (string_at (names_of file (symbol_table file)) s.st_name) [];
+  name = unwrap_or (name_at (names_of file (symbol_table file)) s.st_name) [];
   binding = binding_in s;
   definition = definition_in file s;
 }

@@ -44,11 +44,15 @@ is_executable h = has_flag shf_execinstr h
 abbrev pub is_writable : SectionHeader → Bool
 is_writable h = has_flag shf_write h
 
+-- the name at an offset in a table of names: 0 is no name, whatever stands there
+abbrev pub name_at : List ℕ → ℕ → Option (List ℕ)
+name_at names offset = if offset == 0 then Some [] else string_at names offset
+
 -- every name is empty where no section has the names
 abbrev pub name_of : List ℕ → SectionHeader → Option (List ℕ)
 name_of file h =
     if names_section file == 0 then Some []
-    else string_at (section_of file (names_section file)) h.sh_name
+    else name_at (section_of file (names_section file)) h.sh_name
 
 abbrev pub is_named : List ℕ → Option (List ℕ) → Bool
 is_named name None = false

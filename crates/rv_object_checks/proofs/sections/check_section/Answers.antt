@@ -5,6 +5,6 @@ use Rattle.rv_object_checks.proofs.sections.check_section.Goals as goal
 
 pub returns-in_err-check_size-clause-faults : goal.returns-in_err-check_size-clause-faults
 returns-in_err-check_size-clause-faults c =
-    let file = c.args.tables.now.names.view.file.now in
+    let file = c.args.names.now.view.file.now in
     let p = err_from_is_err_and c.from_residual.result c.from_residual.ensures.1 in
     rw (p.1, p.2) (first_true_some (size_tests file c.args.symbols c.args.rows c.args.header.now) (link_tests file c.args.header.now) _ c.in_err-check_size.ensures)
