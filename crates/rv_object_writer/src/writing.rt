@@ -1,27 +1,37 @@
 //! Writes the file of an object.
 
-ghost use Rattle.std.specs.Prelude.{◌≡◌, ◌+◌, ◌++◌, ◌^◌, ◌<◌, ℕ, List, map, flat_map, length, replicate, if◌then◌else◌, IfOk, OnOk};
+ghost use Rattle.std.specs.Prelude.{◌≡◌, ◌+◌, ◌++◌, ◌^◌, ◌<◌, ℕ, List, None, map, flat_map, length, replicate, if◌then◌else◌, IfOk, OnOk};
 ghost use Rattle.rv_elf.specs.Fields.{file_header_size, section_header_size};
 ghost use Rattle.rv_elf.specs.Records.{file_header_bytes, section_header_bytes};
 ghost use Rattle.rv_object.specs.View.{object_of};
-ghost use Rattle.rv_object_file_laws.specs.Written.{aligned, zeros_at, contents_from, end_of, header_of, headers_from, file_of, file_header_of, strings_of, last_index, pieces as file_pieces, section_names as file_names};
+ghost use Rattle.rv_object_file_laws.specs.FirstFault.{first_fault};
+ghost use Rattle.rv_object_file_laws.specs.ObjectOf.{ObjectOf};
+ghost use Rattle.rv_object_file_laws.specs.Written.{aligned, zeros_at, contents_from, end_of, header_of, headers_from, HasFile, file_of, file_header_of, strings_of, last_index, pieces as file_pieces, section_names as file_names};
 ghost use Rattle.rv_object_writer.specs.Pieces.{piece_of, header_by, AreTables};
 ghost use Rattle.rv_object_writer.specs.Strings.{IsTable};
 
+use crate::law::known;
 use crate::names::section_names;
 use crate::piece::Piece;
 use crate::pieces::{Tables, all_pieces, first_pieces};
 use crate::strings::StringTable;
 use rv_elf::{EM_RISCV, ET_REL, ElfWriter, FileHeader, SectionHeader};
 use rv_object::Object;
+use rv_object_file_laws::written_object_is_read;
 use std::alloc::{AllocError, Global};
 
 /// The file of an object.
 pub fn write(alloc: Global, object: &Object) -> Result<Vec<u8>, AllocError>
-    ensures { IfOk result (λ file. file.items ≡ file_of (object_of object.now)) }
+    ensures written { IfOk result (λ file. file.items ≡ file_of (object_of object.now)) }
+    // Where the fields of a file can hold what the object has, the file has no fault and is a file of this object.
+    ensures read { IfOk result (λ file. HasFile (object_of object.now)
+        → (first_fault file.items ≡ None) × ObjectOf file.items (object_of object.now)) }
 {
+    known(object);
+    written_object_is_read();
     let tables = Tables::of(alloc, object)?;
-    write_tables(alloc, object, &tables)
+    let file = write_tables(alloc, object, &tables)?;
+    Ok(file)
 }
 
 /// The file of an object with these tables.

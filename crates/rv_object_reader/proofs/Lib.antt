@@ -1,0 +1,13 @@
+pub mod Collecting
+pub mod Contents
+pub mod FirstTrue
+pub mod GoodRelocations
+pub mod Kept
+pub mod Made
+pub mod Relas
+pub mod SymbolCount
+pub mod Tables
+pub mod ValidSections
+pub mod ValidSymbols
+pub mod Walk
+pub mod Whole

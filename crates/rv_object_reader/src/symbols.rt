@@ -1,0 +1,91 @@
+//! The symbols of an object.
+
+ghost use Rattle.std.specs.Prelude.{◌≡◌, true, None, IfOk, drop, map};
+ghost use Rattle.std.specs.List.{AllByRecursion};
+ghost use Rattle.rv_elf.specs.FirstFault.{first_true};
+ghost use Rattle.rv_elf.specs.Sections.{symbols_in as records_in};
+ghost use Rattle.rv_object.specs.Parts.{symbol_of};
+ghost use Rattle.rv_object_file_laws.specs.FirstFault.{has_home, symbol_tests};
+ghost use Rattle.rv_object_file_laws.specs.ObjectOf.{names_of, symbol_in, definition_in};
+ghost use Rattle.rv_object_file_laws.specs.Parts.{symbol_records, symbol_table};
+
+use crate::parts::{binding, copied, name_in};
+use rv_elf::{SHN_ABS, SHN_UNDEF, SYMBOL_SIZE, SectionIndex, Symbol as SymbolRecord};
+use rv_object::{Definition, Symbol};
+use rv_object_checks::{Checked, symbol_from};
+use std::alloc::{AllocError, Global};
+
+/// The symbols of a file, but for symbol 0.
+pub(crate) fn symbols(alloc: Global, checked: &Checked<'_>) -> Result<Vec<Symbol>, AllocError>
+    ensures { IfOk result (λ symbols. map symbol_of symbols.items
+        ≡ map (symbol_in checked.now.view.file.now)
+        (drop 1 (symbol_records checked.now.view.file.now))) }
+{
+    let Some(table) = checked.symbol_table() else {
+        return Ok(Vec::new(alloc));
+    };
+    let header = checked.view.section_header(table);
+    let names = checked.view.section(SectionIndex(header.sh_link as u16));
+    symbols_in(alloc, checked, checked.view.contents(&header), names)
+}
+
+/// The symbols in a table of these bytes, but for symbol 0, whose names stand in a table of strings.
+fn symbols_in(
+    alloc: Global,
+    checked: &Checked<'_>,
+    bytes: &[u8],
+    names: &[u8],
+) -> Result<Vec<Symbol>, AllocError>
+    requires named { names.now
+        ≡ names_of checked.now.view.file.now (symbol_table checked.now.view.file.now) }
+    requires good { AllByRecursion
+        (λ s. first_true (symbol_tests checked.now.view.file.now names.now s) ≡ None)
+        (drop 1 (records_in bytes.now)) }
+    ensures { IfOk result (λ symbols. map symbol_of symbols.items
+        ≡ map (symbol_in checked.now.view.file.now) (drop 1 (records_in bytes.now))) }
+{
+    let others = (bytes.len() / SYMBOL_SIZE).saturating_sub(1);
+    let mut symbols = Vec::with_capacity(alloc, others)?;
+    for earlier in 0..others {
+        symbols.push(symbol(alloc, checked, names, &symbol_from(bytes, earlier + 1))?)?;
+    }
+    Ok(symbols)
+}
+
+/// The symbol of a record.
+fn symbol(
+    alloc: Global,
+    checked: &Checked<'_>,
+    names: &[u8],
+    entry: &SymbolRecord,
+) -> Result<Symbol, AllocError>
+    requires named { names.now
+        ≡ names_of checked.now.view.file.now (symbol_table checked.now.view.file.now) }
+    requires good { first_true
+        (symbol_tests checked.now.view.file.now names.now entry.now) ≡ None }
+    ensures { IfOk result
+        (λ symbol. symbol_of symbol ≡ symbol_in checked.now.view.file.now entry.now) }
+{
+    Ok(Symbol {
+        name: copied(alloc, name_in(names, entry.st_name))?,
+        binding: binding(entry),
+        definition: definition(checked, entry),
+    })
+}
+
+/// Where a symbol stands.
+fn definition(checked: &Checked<'_>, entry: &SymbolRecord) -> Definition
+    requires { has_home checked.now.view.file.now entry.now ≡ true }
+    ensures { result ≡ definition_in checked.now.view.file.now entry.now }
+{
+    if entry.st_shndx == SHN_UNDEF {
+        return Definition::Undefined;
+    }
+    if entry.st_shndx == SHN_ABS {
+        return Definition::Absolute(entry.st_value);
+    }
+    match checked.place(SectionIndex(entry.st_shndx)) {
+        Some(place) => Definition::InSection(u32::from(place), entry.st_value),
+        None => Definition::Skipped(entry.st_value),
+    }
+}
