@@ -1,0 +1,17 @@
+pub mod Found
+pub mod Agreed
+pub mod Addresses
+pub mod Exports
+pub mod Values
+pub mod Meant
+pub mod Distinct
+pub mod Entered
+pub mod Program
+pub mod Judged
+pub mod Untaken
+pub mod Refused
+pub mod Reasons
+pub mod Placed
+pub mod Multiples
+pub mod Evens
+pub mod Below

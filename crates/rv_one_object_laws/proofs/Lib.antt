@@ -1,0 +1,17 @@
+mod Parcels
+mod OneCode
+mod Pairs
+mod OneSize
+mod Recoded
+mod OneTable
+mod Counts
+mod OneDefinition
+mod LoneSymbols
+mod OneNumber
+mod OneObject
+mod Small
+mod Weights
+mod ValueWeights
+mod UseWeights
+mod SymbolWeights
+mod FileRoom

@@ -1,0 +1,105 @@
+-- Two lists of statements, one by one, and those of each section.
+
+use Rattle.std.proofs.Common.{◌≡◌, ℕ, Bool, true, false, List, [], ◌∷◌, refl, sym, ap, ◌∙◌, Some}
+use Rattle.std.specs.Prelude.{⊤, ◌==◌, map, slice_get, if◌then◌else◌}
+use Rattle.std.specs.List.{AllByRecursion}
+use Rattle.std.proofs.lemmas.Bool.{eq-eqb, eqb-true}
+use Rattle.rv_unit_laws.specs.Sections.{Section}
+use Rattle.rv_source_laws.specs.Located.{Located}
+use Rattle.rv_assemble_laws.specs.Sites.{Site, sites_in}
+
+-- ---- pairs
+
+abbrev pub Pairs : (Site → Site → Type 0) → List Site → List Site → Type 0
+Pairs P [] [] = ⊤
+Pairs P [] (y ∷ ys) = ⊥
+Pairs P (x ∷ xs) [] = ⊥
+Pairs P (x ∷ xs) (y ∷ ys) = P x y × Pairs P xs ys
+
+abbrev pub SameLocated : Site → Site → Type 0
+SameLocated x y = x.located ≡ y.located
+
+abbrev pub SameBytes : Site → Site → Type 0
+SameBytes x y = (x.located ≡ y.located) × (x.bytes ≡ y.bytes)
+
+front : {A : Type 0} (x y : A) (xs ys : List A) → x ∷ xs ≡ y ∷ ys → (x ≡ y) × (xs ≡ ys)
+front x y xs ys e = (cc, cc)
+
+pub located_pairs : (xs ys : List Site) → map (λ s. s.located) xs ≡ map (λ s. s.located) ys → Pairs SameLocated xs ys
+located_pairs [] [] e = tt
+located_pairs [] (y ∷ ys) e = absurd (cc)
+located_pairs (x ∷ xs) [] e = absurd (cc)
+located_pairs (x ∷ xs) (y ∷ ys) e =
+    let both = front x.located y.located (map (λ s. s.located) xs) (map (λ s. s.located) ys) e in
+    (both.0, located_pairs xs ys both.1)
+
+pub bytes_pairs : (xs ys : List Site) → Pairs SameLocated xs ys → map (λ s. s.bytes) xs ≡ map (λ s. s.bytes) ys → Pairs SameBytes xs ys
+bytes_pairs [] [] l e = tt
+bytes_pairs [] (y ∷ ys) l e = absurd l
+bytes_pairs (x ∷ xs) [] l e = absurd l
+bytes_pairs (x ∷ xs) (y ∷ ys) (l, ls) e =
+    let both = front x.bytes y.bytes (map (λ s. s.bytes) xs) (map (λ s. s.bytes) ys) e in
+    ((l, both.0), bytes_pairs xs ys ls both.1)
+
+-- ---- those of a section
+
+abbrev kept : Bool → Site → List Site → List Site
+kept b x xs = if b then x ∷ xs else xs
+
+kept_pairs : (P : Site → Site → Type 0) (a b : Bool) → a ≡ b → (x y : Site) (xs ys : List Site) → P x y → Pairs P xs ys → Pairs P (kept a x xs) (kept b y ys)
+kept_pairs P true true e x y xs ys p ps = (p, ps)
+kept_pairs P true false e x y xs ys p ps = absurd (cc)
+kept_pairs P false true e x y xs ys p ps = absurd (cc)
+kept_pairs P false false e x y xs ys p ps = ps
+
+pub pairs_in : (P : Site → Site → Type 0) → ((x y : Site) → P x y → x.located ≡ y.located) → (j : ℕ) (xs ys : List Site) → Pairs P xs ys → Pairs P (sites_in j xs) (sites_in j ys)
+pairs_in P same j [] [] h = tt
+pairs_in P same j [] (y ∷ ys) h = absurd h
+pairs_in P same j (x ∷ xs) [] h = absurd h
+pairs_in P same j (x ∷ xs) (y ∷ ys) (p, ps) =
+    kept_pairs P (x.located.section == j) (y.located.section == j) (ap (λ (l : Located). l.section == j) (same x y p)) x y (sites_in j xs) (sites_in j ys) p (pairs_in P same j xs ys ps)
+
+-- a statement stands in one of these sections
+abbrev pub IsHome : List Section → Site → Type 0
+IsHome sections s = slice_get sections s.located.section ≡ Some s.located.home
+
+first_kept : (P : Site → Site → Type 0) (a b : Bool) → a ≡ true → b ≡ true → (x y : Site) (xs ys : List Site) → Pairs P (kept a x xs) (kept b y ys) → P x y
+first_kept P true true e f x y xs ys h = h.0
+first_kept P true false e f x y xs ys h = absurd (cc)
+first_kept P false b e f x y xs ys h = absurd (cc)
+
+others_kept : (P : Site → Site → Type 0) (a b : Bool) → a ≡ b → (x y : Site) (xs ys : List Site) → Pairs P (kept a x xs) (kept b y ys) → Pairs P xs ys
+others_kept P true true e x y xs ys h = h.1
+others_kept P true false e x y xs ys h = absurd (cc)
+others_kept P false true e x y xs ys h = absurd (cc)
+others_kept P false false e x y xs ys h = h
+
+-- what holds in each section holds of all
+pub pairs_all : (P : Site → Site → Type 0) (sections : List Section) (xs ys : List Site) → Pairs SameLocated xs ys → AllByRecursion (IsHome sections) xs
+    → ((j : ℕ) (home : Section) → slice_get sections j ≡ Some home → Pairs P (sites_in j xs) (sites_in j ys)) → Pairs P xs ys
+pairs_all P sections [] [] l h f = tt
+pairs_all P sections [] (y ∷ ys) l h f = absurd l
+pairs_all P sections (x ∷ xs) [] l h f = absurd l
+pairs_all P sections (x ∷ xs) (y ∷ ys) (l, ls) (h, hs) f =
+    let k = x.located.section in
+    let here : (x.located.section == k) ≡ true = eq-eqb k k refl in
+    let there : (y.located.section == k) ≡ true = ap (λ (z : Located). z.section == k) (sym l) ∙ here in (
+      first_kept P (x.located.section == k) (y.located.section == k) here there x y (sites_in k xs) (sites_in k ys) (f k x.located.home h),
+      pairs_all P sections xs ys ls hs (λ j home at.
+          others_kept P (x.located.section == j) (y.located.section == j) (ap (λ (z : Located). z.section == j) l) x y (sites_in j xs) (sites_in j ys) (f j home at)),
+    )
+
+-- what holds of all statements holds of those of a section, which is their home
+pub all_in : (P : Site → Type 0) (sections : List Section) (j : ℕ) (home : Section) → slice_get sections j ≡ Some home → (xs : List Site) → AllByRecursion (IsHome sections) xs
+    → AllByRecursion P xs → AllByRecursion (λ s. (s.located.home ≡ home) × P s) (sites_in j xs)
+all_in P sections j home at [] h p = tt
+all_in P sections j home at (s ∷ ss) (h, hs) (p, ps) = go (s.located.section == j) refl (all_in P sections j home at ss hs ps)
+  where
+    go : (b : Bool) → (s.located.section == j) ≡ b → AllByRecursion (λ s. (s.located.home ≡ home) × P s) (sites_in j ss)
+        → AllByRecursion (λ s. (s.located.home ≡ home) × P s) (if b then s ∷ sites_in j ss else sites_in j ss)
+    go true e rest =
+        let there : s.located.section ≡ j = eqb-true s.located.section j e in
+        let both : Some s.located.home ≡ Some home = sym h ∙ ap (λ n. slice_get sections n) there ∙ at in
+        let same : s.located.home ≡ home = cc in
+        ((same, p), rest)
+    go false e rest = rest
