@@ -1,13 +1,17 @@
-//! Whole runs: from sources to an executable with its map, and from an executable to its end.
+//! Whole runs: from sources, or from objects, to an executable with its map, and from an executable to its end.
 //!
-//! Takes the bytes of sources and how to link them; or the bytes of an executable, an input and a limit of instructions.
-//! Gives an executable and its map's text, or a run's console and end; or the first fault.
+//! Takes the bytes of sources, or of the files of objects, and how to link them; or the bytes of an executable, an
+//! input and a limit of instructions. Gives an executable and its map's text, the file of a source's object, or a
+//! run's console and end; or the first fault.
 //!
 //! The main contract: what `build` gives keeps `TheHeadline`: the run of the executable's bytes is the run of the
 //! sources' statements at the addresses of the printed map, for every input and limit. `build_exe` gives the same
-//! executable without the map's text; `assemble_object` the file of a source's object. `run_exec` gives the machine's
+//! executable without the map's text. `assemble_object` gives the file that is written of a source's object.
+//! `link_objects` takes such files, and those that other tools wrote: it gives what is written of the link of the
+//! objects that they hold (`specs/Linking`). `builds_as_it_links` says that sources and the files of their objects come
+//! to the same executable and map, or to the same fault of the link (`specs/Agreement`). `run_exec` gives the machine's
 //! run over the file's image. What is refused has its reason in the clauses `refuses` (`specs/Refusals`,
-//! `specs/Running`).
+//! `specs/LinkRefusals`, `specs/Running`).
 //!
 //! It must not know where bytes come from, nor how faults are told. In use:
 //!
@@ -16,18 +20,24 @@
 //!     let built = build(alloc, &[source], options)?;
 //!     let outcome = run_exec(alloc, built.exe.as_slice(), b"", 1_000_000)?;
 //!     assert!(rt; outcome.end == End::Exited(7));
+//!     let object = assemble_object(alloc, source)?;
+//!     assert!(rt; link_objects(alloc, &[object.as_slice()], options)? == built);
 #![tactic(auto)]
 
 mod assembling;
 mod building;
 mod built;
 mod fault;
+mod law;
+mod linking;
 mod running;
 
 pub use assembling::assemble_object;
 pub use building::{build, build_exe};
 pub use built::Built;
 pub use fault::Fault;
+pub use law::builds_as_it_links;
+pub use linking::link_objects;
 pub use running::run_exec;
 pub use rv_image::FileFault;
 pub use rv_link::{LinkFault, LinkOptions};

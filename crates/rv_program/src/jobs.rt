@@ -1,4 +1,4 @@
-//! What the program does: runs, builds, assembles, prints a map.
+//! What the program does: runs, builds, assembles, links, prints a map.
 
 ghost use Rattle.std.specs.Prelude.{◌≡◌, IfOk};
 ghost use Rattle.rv_program.specs.Status.{run_status};
@@ -7,7 +7,9 @@ use crate::error::CliError;
 use crate::messages::{end_line, fault_line};
 use crate::system::{FILE_LIMIT, INPUT_LIMIT, Purpose, ReadFault, System};
 use crate::words::default_options;
-use rv_chain::{Built, End, LinkOptions, assemble_object, build, build_exe, run_exec};
+use rv_chain::{
+    Built, End, LinkOptions, assemble_object, build, build_exe, link_objects, run_exec,
+};
 use std::alloc::{AllocError, Global};
 
 /// The exit status of a run that the guest did not end by an exit.
@@ -33,6 +35,13 @@ pub(crate) enum Job<'a> {
         object: &'a str,
         source: &'a str,
     },
+    /// Links objects: writes the executable, and the map where a file is named for it.
+    Link {
+        exe: &'a str,
+        map: Option<&'a str>,
+        options: LinkOptions,
+        objects: Vec<&'a str>,
+    },
     /// Prints the map.
     Map {
         options: LinkOptions,
@@ -46,26 +55,17 @@ pub(crate) fn run_job<S: System>(system: &mut S, job: &Job<'_>) -> Result<u8, Cl
         Job::Run { file, limit } => run(system, file, *limit),
         Job::Build {
             exe,
-            map: None,
+            map,
             options,
             sources,
-        } => {
-            let built = build_without_map(system, sources.as_slice(), *options)?;
-            write(system, exe, Purpose::ToRun, built.as_slice())?;
-            Ok(0)
-        }
-        Job::Build {
-            exe,
-            map: Some(map),
-            options,
-            sources,
-        } => {
-            let built = build_with_map(system, sources.as_slice(), *options)?;
-            write(system, exe, Purpose::ToRun, built.exe.as_slice())?;
-            write(system, map, Purpose::ToRead, built.map.as_slice())?;
-            Ok(0)
-        }
+        } => build_files(system, exe, *map, sources.as_slice(), *options),
         Job::Assemble { object, source } => assemble(system, object, source),
+        Job::Link {
+            exe,
+            map,
+            options,
+            objects,
+        } => link_files(system, exe, *map, objects.as_slice(), *options),
         Job::Map { options, sources } => {
             let built = build_with_map(system, sources.as_slice(), *options)?;
             print(system, built.map.as_slice())?;
@@ -134,6 +134,23 @@ fn report_end<S: System>(system: &mut S, console: &[u8], end: &End) -> Result<u8
     }
 }
 
+/// Builds sources: writes the executable, and the map where a file is named for it; the exit status.
+fn build_files<S: System>(
+    system: &mut S,
+    exe: &str,
+    map: Option<&str>,
+    sources: &[&str],
+    options: LinkOptions,
+) -> Result<u8, CliError> {
+    if map.is_some() {
+        let built = build_with_map(system, sources, options)?;
+        return write_built(system, exe, map, &built);
+    }
+    let built = build_without_map(system, sources, options)?;
+    write(system, exe, Purpose::ToRun, built.as_slice())?;
+    Ok(0)
+}
+
 /// Reads the sources in their order and builds them: the executable and its map.
 fn build_with_map<S: System>(
     system: &mut S,
@@ -141,8 +158,8 @@ fn build_with_map<S: System>(
     options: LinkOptions,
 ) -> Result<Built, CliError> {
     let alloc: Global = system.alloc();
-    let read = read_sources(system, names)?;
-    let sources = texts(alloc, read.as_slice())?;
+    let read = read_files(system, names)?;
+    let sources = borrowed(alloc, read.as_slice())?;
     match build(alloc, sources.as_slice(), options) {
         Ok(built) => Ok(built),
         Err(fault) => Err(fault_line(alloc, &fault, names)?),
@@ -156,8 +173,8 @@ fn build_without_map<S: System>(
     options: LinkOptions,
 ) -> Result<Vec<u8>, CliError> {
     let alloc: Global = system.alloc();
-    let read = read_sources(system, names)?;
-    let sources = texts(alloc, read.as_slice())?;
+    let read = read_files(system, names)?;
+    let sources = borrowed(alloc, read.as_slice())?;
     match build_exe(alloc, sources.as_slice(), options) {
         Ok(exe) => Ok(exe),
         Err(fault) => Err(fault_line(alloc, &fault, names)?),
@@ -177,8 +194,25 @@ fn assemble<S: System>(system: &mut S, object: &str, source: &str) -> Result<u8,
     }
 }
 
+/// Links objects: writes the executable, and the map where a file is named for it; the exit status.
+fn link_files<S: System>(
+    system: &mut S,
+    exe: &str,
+    map: Option<&str>,
+    names: &[&str],
+    options: LinkOptions,
+) -> Result<u8, CliError> {
+    let alloc: Global = system.alloc();
+    let read = read_files(system, names)?;
+    let objects = borrowed(alloc, read.as_slice())?;
+    match link_objects(alloc, objects.as_slice(), options) {
+        Ok(built) => write_built(system, exe, map, &built),
+        Err(fault) => Err(fault_line(alloc, &fault, names)?),
+    }
+}
+
 /// The bytes of the files, in their order.
-fn read_sources<S: System>(system: &mut S, names: &[&str]) -> Result<Vec<Vec<u8>>, CliError> {
+fn read_files<S: System>(system: &mut S, names: &[&str]) -> Result<Vec<Vec<u8>>, CliError> {
     let alloc: Global = system.alloc();
     let mut read: Vec<Vec<u8>> = Vec::new(alloc);
     for name in names {
@@ -188,12 +222,12 @@ fn read_sources<S: System>(system: &mut S, names: &[&str]) -> Result<Vec<Vec<u8>
 }
 
 /// The same bytes, borrowed.
-fn texts<'a>(alloc: Global, read: &'a [Vec<u8>]) -> Result<Vec<&'a [u8]>, AllocError> {
-    let mut texts: Vec<&'a [u8]> = Vec::new(alloc);
+fn borrowed<'a>(alloc: Global, read: &'a [Vec<u8>]) -> Result<Vec<&'a [u8]>, AllocError> {
+    let mut borrowed: Vec<&'a [u8]> = Vec::new(alloc);
     for bytes in read {
-        texts.push(bytes.as_slice())?;
+        borrowed.push(bytes.as_slice())?;
     }
-    Ok(texts)
+    Ok(borrowed)
 }
 
 /// The bytes that were read, or the line that says that they weren't.
@@ -207,6 +241,20 @@ fn contents(
         Err(ReadFault::Failed) => Err(cannot(alloc, "read", name)?),
         Err(ReadFault::Memory) => Err(CliError::Memory),
     }
+}
+
+/// Writes an executable, and then its map where a file is named for it; the exit status.
+fn write_built<S: System>(
+    system: &mut S,
+    exe: &str,
+    map: Option<&str>,
+    built: &Built,
+) -> Result<u8, CliError> {
+    write(system, exe, Purpose::ToRun, built.exe.as_slice())?;
+    if let Some(map) = map {
+        write(system, map, Purpose::ToRead, built.map.as_slice())?;
+    }
+    Ok(0)
 }
 
 fn write<S: System>(

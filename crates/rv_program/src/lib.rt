@@ -3,12 +3,12 @@
 //! It takes the words and a [`System`], which gives files and the standard streams, and gives the exit status, after
 //! it has written what the words ask for, or one line that says why not.
 //!
-//! Main function: `exit_status`. What it prints, and when, is tested. What runs, builds and links give is said by the
-//! clauses of `run_exec`, `build`, `build_exe` and `assemble_object`, of which it hands on the bytes as they are; which numbers its words write, by
-//! those of `decimal` and `text_start` (`specs/Numbers`); the lines of faults and ends, by `fault_line` and `end_line`
-//! (`specs/Messages`); the status of an error, by `report` (`specs/Status`). It does not
-//! know how statements are read or instructions executed, and of the system only what [`System`] has: [`Host`] is
-//! the real one, and a test stands in for it.
+//! Main function: `exit_status`. What it prints, and when, is tested. What runs, builds and links give is said by
+//! the clauses of `run_exec`, `build`, `build_exe`, `assemble_object` and `link_objects`, of which it hands on the
+//! bytes as they are; which numbers its words write, by those of `decimal` and `text_start` (`specs/Numbers`); the
+//! lines of faults and ends, by `fault_line` and `end_line` (`specs/Messages`); the status of an error, by `report`
+//! (`specs/Status`). It does not know how statements are read or instructions executed, and of the system only what
+//! [`System`] has: [`Host`] is the real one, and a test stands in for it.
 //!
 //! ```text
 //! let mut host = Host { rt: &rt };

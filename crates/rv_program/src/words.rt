@@ -20,6 +20,7 @@ const HELP: &str = "Examples:
   rv run prog.s                             builds a source and runs it
   rv build -o prog --map prog.map prog.s    writes the executable and its map
   rv as -o prog.o prog.s                    writes the object of a source
+  rv ld -o prog prog.o other.o              links objects
   rv map prog.s                             shows where each statement stands
 
 Without words rv does the same as 'rv run -'.
@@ -39,8 +40,28 @@ const BUILD_HELP: &str = "Example:
 const AS_HELP: &str = "Example:
   rv as -o prog.o prog.s";
 
+const LD_HELP: &str = "Example:
+  rv ld -o prog --map prog.map prog.o other.o";
+
 const MAP_HELP: &str = "Example:
   rv map --text-start 0x20000 prog.s";
+
+/// How a command names its files.
+#[derive(Clone, Copy)]
+struct Files {
+    name: &'static str,
+    help: &'static str,
+}
+
+const SOURCES: Files = Files {
+    name: "SRC",
+    help: "The sources, in the order of their sections",
+};
+
+const OBJECTS: Files = Files {
+    name: "OBJ",
+    help: "The objects, in the order of their sections",
+};
 
 /// What the words ask for; the first word is the program's own name.
 pub(crate) fn parse_job<'a>(alloc: Global, words: &'a [&'a str]) -> Result<Job<'a>, CliError> {
@@ -50,6 +71,7 @@ pub(crate) fn parse_job<'a>(alloc: Global, words: &'a [&'a str]) -> Result<Job<'
         Some(("run", found)) => parse_run(&mut command, found),
         Some(("build", found)) => parse_build(alloc, &mut command, found),
         Some(("as", found)) => Ok(parse_as(found)),
+        Some(("ld", found)) => parse_ld(alloc, &mut command, found),
         Some(("map", found)) => parse_map(alloc, &mut command, found),
         _ => Ok(Job::Run {
             file: "-",
@@ -66,6 +88,7 @@ fn command<'a>(alloc: Global) -> Result<Command<'a>, Error> {
     let all = all.subcommand(run_command(alloc)?)?;
     let all = all.subcommand(build_command(alloc)?)?;
     let all = all.subcommand(as_command(alloc)?)?;
+    let all = all.subcommand(ld_command(alloc)?)?;
     Ok(all.subcommand(map_command(alloc)?)?)
 }
 
@@ -84,19 +107,10 @@ fn run_command<'a>(alloc: Global) -> Result<Command<'a>, Error> {
 }
 
 fn build_command<'a>(alloc: Global) -> Result<Command<'a>, Error> {
-    let output = Arg::new(alloc, "output")
-        .short('o')
-        .value_name("EXE")
-        .required(true)
-        .help("The executable to write");
-    let map = Arg::new(alloc, "map")
-        .long("map")
-        .value_name("F")
-        .help("Writes the map as well");
     let build = Command::new(alloc, "build")
         .about("Builds an executable from sources")
         .after_help(BUILD_HELP);
-    with_sources(alloc, build.arg(output)?.arg(map)?)
+    with_files(alloc, with_outputs(alloc, build)?, SOURCES)
 }
 
 fn as_command<'a>(alloc: Global) -> Result<Command<'a>, Error> {
@@ -115,15 +129,36 @@ fn as_command<'a>(alloc: Global) -> Result<Command<'a>, Error> {
     Ok(assemble.arg(output)?.arg(source)?)
 }
 
+fn ld_command<'a>(alloc: Global) -> Result<Command<'a>, Error> {
+    let link = Command::new(alloc, "ld")
+        .about("Links objects to an executable")
+        .after_help(LD_HELP);
+    with_files(alloc, with_outputs(alloc, link)?, OBJECTS)
+}
+
 fn map_command<'a>(alloc: Global) -> Result<Command<'a>, Error> {
     let map = Command::new(alloc, "map")
         .about("Prints the map of what the sources build")
         .after_help(MAP_HELP);
-    with_sources(alloc, map)
+    with_files(alloc, map, SOURCES)
 }
 
-/// The command with what `build` and `map` share: how to link, and the sources.
-fn with_sources<'a>(alloc: Global, command: Command<'a>) -> Result<Command<'a>, Error> {
+/// The command with what `build` and `ld` write.
+fn with_outputs<'a>(alloc: Global, command: Command<'a>) -> Result<Command<'a>, Error> {
+    let output = Arg::new(alloc, "output")
+        .short('o')
+        .value_name("EXE")
+        .required(true)
+        .help("The executable to write");
+    let map = Arg::new(alloc, "map")
+        .long("map")
+        .value_name("F")
+        .help("Writes the map as well");
+    Ok(command.arg(output)?.arg(map)?)
+}
+
+/// The command with what `build`, `ld` and `map` share: how to link, and the files.
+fn with_files<'a>(alloc: Global, command: Command<'a>, files: Files) -> Result<Command<'a>, Error> {
     let start = Arg::new(alloc, "text-start")
         .long("text-start")
         .value_name("N")
@@ -133,11 +168,11 @@ fn with_sources<'a>(alloc: Global, command: Command<'a>) -> Result<Command<'a>, 
         .action(ArgAction::SetTrue)
         .help("Leaves every call its eight bytes");
     let files = Arg::new(alloc, "files")
-        .value_name("SRC")
+        .value_name(files.name)
         .required(true)
         .action(ArgAction::Append)
         .num_args(1..)
-        .help("The sources, in the order of their sections");
+        .help(files.help);
     Ok(command.arg(start)?.arg(no_relax)?.arg(files)?)
 }
 
@@ -177,6 +212,20 @@ fn parse_as<'a>(found: &ArgMatches<'a>) -> Job<'a> {
     }
 }
 
+fn parse_ld<'a>(
+    alloc: Global,
+    command: &mut Command<'a>,
+    found: &ArgMatches<'a>,
+) -> Result<Job<'a>, CliError> {
+    let options = link_options(command, found)?;
+    Ok(Job::Link {
+        exe: found.get_str("output").unwrap_or(""),
+        map: found.get_str("map"),
+        options,
+        objects: file_names(alloc, found)?,
+    })
+}
+
 fn parse_map<'a>(
     alloc: Global,
     command: &mut Command<'a>,
@@ -189,7 +238,7 @@ fn parse_map<'a>(
     })
 }
 
-/// The options that `build` and `map` share.
+/// The options that `build`, `ld` and `map` share.
 fn link_options(
     command: &mut Command<'_>,
     found: &ArgMatches<'_>,

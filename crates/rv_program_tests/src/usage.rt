@@ -7,7 +7,7 @@ use std::alloc::{AllocError, Global};
 use std::test::Fail;
 
 /// The words, what is wrong with them, and the usage that is shown.
-const FAULTS: [(&str, &str, &str); 16] = [
+const FAULTS: [(&str, &str, &str); 20] = [
     ("rv frob", "unrecognized subcommand 'frob'", "rv [COMMAND]"),
     (
         "rv --frob",
@@ -75,6 +75,26 @@ const FAULTS: [(&str, &str, &str); 16] = [
         "rv build [OPTIONS] -o <EXE> <SRC>...",
     ),
     (
+        "rv ld a.o",
+        "the following required arguments were not provided:\n  -o <EXE>",
+        "rv ld -o <EXE> <OBJ>...",
+    ),
+    (
+        "rv ld -o a",
+        "the following required arguments were not provided:\n  <OBJ>...",
+        "rv ld -o <EXE> <OBJ>...",
+    ),
+    (
+        "rv ld -o a --no-relax a.o --no-relax",
+        "the argument '--no-relax' cannot be used multiple times",
+        "rv ld [OPTIONS] -o <EXE> <OBJ>...",
+    ),
+    (
+        "rv ld -o a --text-start 1x a.o",
+        "a text start is decimal, or 0x and hexadecimal, below 2^64",
+        "rv [COMMAND]",
+    ),
+    (
         "rv map",
         "the following required arguments were not provided:\n  <SRC>...",
         "rv map <SRC>...",
@@ -117,6 +137,7 @@ Commands:
   run    Runs an executable, or builds a source and runs it
   build  Builds an executable from sources
   as     Assembles a source to an object
+  ld     Links objects to an executable
   map    Prints the map of what the sources build
   help   Print this message or the help of the given subcommand(s)
 
@@ -128,6 +149,7 @@ Examples:
   rv run prog.s                             builds a source and runs it
   rv build -o prog --map prog.map prog.s    writes the executable and its map
   rv as -o prog.o prog.s                    writes the object of a source
+  rv ld -o prog prog.o other.o              links objects
   rv map prog.s                             shows where each statement stands
 
 Without words rv does the same as 'rv run -'.
@@ -187,6 +209,24 @@ Example:
   rv as -o prog.o prog.s
 ";
 
+const LD_HELP: &str = "Links objects to an executable
+
+Usage: rv ld [OPTIONS] -o <EXE> <OBJ>...
+
+Arguments:
+  <OBJ>...  The objects, in the order of their sections
+
+Options:
+  -o <EXE>              The executable to write
+      --map <F>         Writes the map as well
+      --text-start <N>  The address of the text, decimal or 0x and hexadecimal [default: 0x10000]
+      --no-relax        Leaves every call its eight bytes
+  -h, --help            Print help
+
+Example:
+  rv ld -o prog --map prog.map prog.o other.o
+";
+
 const MAP_HELP: &str = "Prints the map of what the sources build
 
 Usage: rv map [OPTIONS] <SRC>...
@@ -203,11 +243,12 @@ Example:
   rv map --text-start 0x20000 prog.s
 ";
 
-const HELPS: [Row; 5] = [
+const HELPS: [Row; 6] = [
     ("rv --help", 0, HELP, ""),
     ("rv run --help", 0, RUN_HELP, ""),
     ("rv build --help", 0, BUILD_HELP, ""),
     ("rv as --help", 0, AS_HELP, ""),
+    ("rv ld --help", 0, LD_HELP, ""),
     ("rv map --help", 0, MAP_HELP, ""),
 ];
 

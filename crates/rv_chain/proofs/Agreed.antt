@@ -1,0 +1,290 @@
+-- That texts are built as the files of their objects are linked: from the laws of each part.
+
+use Rattle.std.proofs.Common.{◌≡◌, ℕ, suc, ◌<◌, ◌≤◌, ◌^◌, ◌⊎◌, inl, inr, true, ◌&&◌, List, [], ◌∷◌, ◌++◌, length, refl, sym, ap, subst, ◌∙◌, arith, Some, None}
+use Rattle.std.specs.List.{AllByRecursion}
+use Rattle.rv_lexer.specs.declared.fault.SourceCode.{SourceCode}
+use Rattle.rv_lexer.specs.declared.fault.SourceFault.{SourceFault}
+use Rattle.rv_lexer.specs.declared.fault.SourceFault.TheVariants as sources
+use Rattle.rv_statement.specs.Statement.{Statement}
+use Rattle.rv_parse_laws.specs.Reading.{Reads}
+use Rattle.rv_parse_laws.specs.Refusals.{Fault as TextFault, Refuses}
+use Rattle.rv_unit_laws.specs.Sections.{most_sections}
+use Rattle.rv_unit_laws.specs.Tables.{longest_section}
+use Rattle.rv_elf.specs.declared.fault.FileFault.{FileFault}
+use Rattle.rv_map.specs.Text.{map_text}
+use Rattle.rv_image.specs.Executable.{exe_of}
+use Rattle.rv_object.specs.Object.{Object, size_of}
+use Rattle.rv_object_file_laws.specs.FirstFault.{first_fault}
+use Rattle.rv_object_file_laws.specs.Known.{IsObject}
+use Rattle.rv_object_file_laws.specs.ObjectOf.{ObjectOf}
+use Rattle.rv_object_file_laws.specs.Written.{HasFile, file_of}
+use Rattle.rv_assemble_laws.specs.Refusals.{statements_fault}
+use Rattle.rv_assemble_laws.specs.ShownNames.{HasNames}
+use Rattle.rv_assemble_laws.specs.IsObjectOf.{IsObjectOf}
+use Rattle.rv_assemble.specs.FirstFault.{IsFirstFault}
+use Rattle.rv_link.specs.declared.fault.LinkFault.{LinkFault}
+use Rattle.rv_link.specs.declared.fault.LinkFault.TheVariants as links
+use Rattle.rv_link.specs.Fault.{number_of}
+use Rattle.rv_link.specs.Refusals.{ArePast, IsUnlinked}
+use Rattle.rv_one_link_laws.specs.Asked.{IsSound, IsSmall}
+use Rattle.rv_one_link_laws.specs.Same.{OneLinked, RefusedForMemory, IsSameFault, RefusedForOne, RowsArePlaced, RunsBeginEven, TextsStartBelow}
+use Rattle.rv_chain.specs.declared.fault.Fault.TheVariants.{Source, File, Link, Memory}
+use Rattle.rv_chain.specs.Objects.{IsObjectFrom, IsObjectIn, AreEach, AreObjectsFrom, AreObjectsIn}
+use Rattle.rv_chain.specs.Linking.{IsBuiltOf, AreBuilt, AreLinked}
+use Rattle.rv_chain.specs.Refusals.{IsFirstRefused, AreUnlinked, IsRefusedFor}
+use Rattle.rv_chain.specs.LinkRefusals.{IsFirstUnread, AreReadUnlinked, AreUnlinkable}
+use Rattle.rv_chain.specs.Agreement.{IsFileFor, AreFilesFor, IsMemory, IsSame, IsOfLength, AreOfLength, AreBuiltAlike, AreNotUnlinkable, AreNotRefused, AreRefusedAlike, BuildsAsItLinks}
+
+-- ---- lists of objects
+
+-- each has one
+same_each : (Is : List ℕ → Object → Type 0) → ((bytes : List ℕ) (o p : Object) → Is bytes o → Is bytes p → o ≡ p)
+    → (all : List (List ℕ)) (os ps : List Object) → AreEach Is all os → AreEach Is all ps → os ≡ ps
+same_each Is one [] [] [] h k = refl
+same_each Is one [] [] (p ∷ ps) h k = absurd k
+same_each Is one [] (o ∷ os) ps h k = absurd h
+same_each Is one (b ∷ all) [] ps h k = absurd h
+same_each Is one (b ∷ all) (o ∷ os) [] h k = absurd k
+same_each Is one (b ∷ all) (o ∷ os) (p ∷ ps) (h, hs) (k, ks) =
+    ap (λ z. z ∷ os) (one b o p h k) ∙ ap (λ l. p ∷ l) (same_each Is one all os ps hs ks)
+
+count_each : (Is : List ℕ → Object → Type 0) (all : List (List ℕ)) (os : List Object) → AreEach Is all os → length all ≡ length os
+count_each Is [] [] h = refl
+count_each Is [] (o ∷ os) h = absurd h
+count_each Is (b ∷ all) [] h = absurd h
+count_each Is (b ∷ all) (o ∷ os) (h, hs) = ap suc (count_each Is all os hs)
+
+in_middle : (Is : List ℕ → Object → Type 0) (before : List (List ℕ)) (bytes : List ℕ) (after : List (List ℕ)) (os : List Object) → AreEach Is (before ++ bytes ∷ after) os
+    → (o : Object) × Is bytes o
+in_middle Is [] bytes after [] h = absurd h
+in_middle Is [] bytes after (o ∷ os) (h, hs) = (o, h)
+in_middle Is (b ∷ before) bytes after [] h = absurd h
+in_middle Is (b ∷ before) bytes after (o ∷ os) (h, hs) = in_middle Is before bytes after os hs
+
+weaken : {X : Type 0} (P Q : X → Type 0) → ((x : X) → P x → Q x) → (xs : List X) → AllByRecursion P xs → AllByRecursion Q xs
+weaken P Q f [] h = tt
+weaken P Q f (x ∷ xs) (h, hs) = (f x h, weaken P Q f xs hs)
+
+-- ---- the objects of texts, which are those in their files
+
+abbrev objects_of : (texts files : List (List ℕ)) → AreFilesFor texts files → List Object
+objects_of [] [] h = []
+objects_of [] (file ∷ files) h = absurd h
+objects_of (text ∷ texts) [] h = absurd h
+objects_of (text ∷ texts) (file ∷ files) (h, hs) = h.object ∷ objects_of texts files hs
+
+are_from : (texts files : List (List ℕ)) (h : AreFilesFor texts files) → AreObjectsFrom texts (objects_of texts files h)
+are_from [] [] h = tt
+are_from [] (file ∷ files) h = absurd h
+are_from (text ∷ texts) [] h = absurd h
+are_from (text ∷ texts) (file ∷ files) (h, hs) = (h.assembled, are_from texts files hs)
+
+is_sound : (o : Object) → IsObject o → IsSound o
+is_sound o h = record {
+  alignments = weaken _ _ (λ s k. k.aligned) o.sections h.all_sections;
+  paddings = weaken _ _ (λ s k. k.paddings) o.sections h.all_sections;
+  rows = h.lie;
+}
+
+are_sound : (texts files : List (List ℕ)) (h : AreFilesFor texts files) → AllByRecursion IsSound (objects_of texts files h)
+are_sound [] [] h = tt
+are_sound [] (file ∷ files) h = absurd h
+are_sound (text ∷ texts) [] h = absurd h
+are_sound (text ∷ texts) (file ∷ files) (h, hs) = (is_sound h.object h.kept, are_sound texts files hs)
+
+-- ---- faults of the link
+
+past_is : (os : List Object) (start : ℕ) (fault : LinkFault) → ArePast (length os) start fault → IsUnlinked os start fault
+past_is os start links.TooManyFiles h = h
+past_is os start links.BadTextStart h = h
+past_is os start links.Overflow h = absurd h
+past_is os start links.OddTarget h = absurd h
+past_is os start links.DanglingPcrel h = absurd h
+past_is os start links.AlignmentShort h = absurd h
+past_is os start (links.Undefined name) h = absurd h
+past_is os start (links.Duplicate name) h = absurd h
+past_is os start links.EntryMissing h = absurd h
+past_is os start links.ImageTooLarge h = absurd h
+past_is os start links.OutOfMemory h = absurd h
+
+abbrev WantsOrNot : LinkFault → Type 0
+WantsOrNot fault = (fault ≡ links.OutOfMemory) ⊎ (fault ≡ links.OutOfMemory → ⊥)
+
+numbered : (fault : LinkFault) (n : ℕ) → number_of fault ≡ Some n → fault ≡ links.OutOfMemory → ⊥
+numbered fault n has is = absurd (let none : number_of fault ≡ None = ap number_of is in let clash : Some n ≡ None = sym has ∙ none in cc)
+
+wants_or_not : (fault : LinkFault) → WantsOrNot fault
+wants_or_not links.OutOfMemory = inl refl
+wants_or_not links.TooManyFiles = inr (numbered links.TooManyFiles 10 refl)
+wants_or_not links.BadTextStart = inr (numbered links.BadTextStart 9 refl)
+wants_or_not links.Overflow = inr (numbered links.Overflow 1 refl)
+wants_or_not links.OddTarget = inr (numbered links.OddTarget 2 refl)
+wants_or_not links.DanglingPcrel = inr (numbered links.DanglingPcrel 3 refl)
+wants_or_not links.AlignmentShort = inr (numbered links.AlignmentShort 4 refl)
+wants_or_not (links.Undefined name) = inr (numbered (links.Undefined name) 5 refl)
+wants_or_not (links.Duplicate name) = inr (numbered (links.Duplicate name) 6 refl)
+wants_or_not links.EntryMissing = inr (numbered links.EntryMissing 7 refl)
+wants_or_not links.ImageTooLarge = inr (numbered links.ImageTooLarge 8 refl)
+
+-- ---- the laws of the parts
+
+pub record Laws : Type 0 where
+  pub one_reading : (text : List ℕ) (ss others : List Statement) → Reads text ss → Reads text others → ss ≡ others
+  pub not_both : (text : List ℕ) (ss : List Statement) (fault : TextFault) → Reads text ss → Refuses text fault → ⊥
+  pub shown : (text : List ℕ) (ss : List Statement) → Reads text ss → HasNames ss
+  pub one_assembled : (ss : List Statement) (o p : Object) → HasNames ss → IsObjectOf ss o → IsObjectOf ss p → o ≡ p
+  pub few : (ss : List Statement) (o : Object) → IsObjectOf ss o → length o.sections ≤ most_sections
+  pub brief : (ss : List Statement) (o : Object) → IsObjectOf ss o → AllByRecursion (λ s. (s.loaded && s.executable) ≡ true → size_of s.contents ≤ longest_section) o.sections
+  pub sound : (o : Object) → IsObject o → HasFile o → length (file_of o) < 2 ^ 64 → first_fault (file_of o) ≡ None
+  pub held : (o : Object) → IsObject o → HasFile o → length (file_of o) < 2 ^ 64 → ObjectOf (file_of o) o
+  pub one_held : (file : List ℕ) (o p : Object) → ObjectOf file o → ObjectOf file p → o ≡ p
+  pub one_linked : OneLinked
+  pub for_memory : RefusedForMemory
+  pub for_one : RefusedForOne
+  pub placed : RowsArePlaced
+  pub even : RunsBeginEven
+  pub below : TextsStartBelow
+
+module _ (laws : Laws) where
+  one_from : (text : List ℕ) (o p : Object) → IsObjectFrom text o → IsObjectFrom text p → o ≡ p
+  one_from text o p (ss, reads, good, is) (others, read, well, was) =
+      laws.one_assembled ss o p (laws.shown text ss reads) is (subst (λ l. IsObjectOf l p) (sym (laws.one_reading text ss others reads read)) was)
+
+  one_in : (file : List ℕ) (o p : Object) → IsObjectIn file o → IsObjectIn file p → o ≡ p
+  one_in file o p (sound, is) (good, was) = laws.one_held file o p is was
+
+  in_file : (text file : List ℕ) (h : IsFileFor text file) → IsObjectIn file h.object
+  in_file text file h =
+      let short : length (file_of h.object) < 2 ^ 64 = subst (λ (f : List ℕ). length f < 2 ^ 64) h.written h.short in (
+        ap first_fault h.written ∙ laws.sound h.object h.kept h.fits short,
+        subst (λ f. ObjectOf f h.object) (sym h.written) (laws.held h.object h.kept h.fits short),
+      )
+
+  are_in : (texts files : List (List ℕ)) (h : AreFilesFor texts files) → AreObjectsIn files (objects_of texts files h)
+  are_in [] [] h = tt
+  are_in [] (file ∷ files) h = absurd h
+  are_in (text ∷ texts) [] h = absurd h
+  are_in (text ∷ texts) (file ∷ files) (h, hs) = (in_file text file h, are_in texts files hs)
+
+  is_small : (text : List ℕ) (o : Object) → IsObjectFrom text o → IsSmall o
+  is_small text o (ss, reads, good, is) = record {
+    few = (let n : length o.sections ≤ 32000 = laws.few ss o is in omega (arith, n));
+    short = laws.brief ss o is;
+  }
+
+  are_small : (texts files : List (List ℕ)) (h : AreFilesFor texts files) → AllByRecursion IsSmall (objects_of texts files h)
+  are_small [] [] h = tt
+  are_small [] (file ∷ files) h = absurd h
+  are_small (text ∷ texts) [] h = absurd h
+  are_small (text ∷ texts) (file ∷ files) (h, hs) = (is_small text h.object h.assembled, are_small texts files hs)
+
+  -- ---- what is built, linked and refused, of these objects
+
+  built_of : (texts : List (List ℕ)) (os : List Object) (start : ℕ) (exe map : List ℕ) → AreObjectsFrom texts os → AreBuilt texts start exe map → IsBuiltOf os start exe map
+  built_of texts os start exe map from (ps, were, is) = subst (λ l. IsBuiltOf l start exe map) (same_each IsObjectFrom one_from texts ps os were from) is
+
+  linked_of : (files : List (List ℕ)) (os : List Object) (start : ℕ) (exe map : List ℕ) → AreObjectsIn files os → AreLinked files start exe map → IsBuiltOf os start exe map
+  linked_of files os start exe map inside (within, (ps, were, is)) = subst (λ l. IsBuiltOf l start exe map) (same_each IsObjectIn one_in files ps os were inside) is
+
+  unlinked_from : (texts : List (List ℕ)) (os : List Object) (start : ℕ) (fault : LinkFault) → AreObjectsFrom texts os
+      → ArePast (length texts) start fault ⊎ AreUnlinked texts start fault → IsUnlinked os start fault
+  unlinked_from texts os start fault from (inl past) =
+      past_is os start fault (subst (λ n. ArePast n start fault) (count_each IsObjectFrom texts os from) past)
+  unlinked_from texts os start fault from (inr (ps, were, un)) =
+      subst (λ l. IsUnlinked l start fault) (same_each IsObjectFrom one_from texts ps os were from) un
+
+  unlinked_in : (files : List (List ℕ)) (os : List Object) (start : ℕ) (fault : LinkFault) → AreObjectsIn files os
+      → ArePast (length files) start fault ⊎ AreReadUnlinked files start fault → IsUnlinked os start fault
+  unlinked_in files os start fault inside (inl past) =
+      past_is os start fault (subst (λ n. ArePast n start fault) (count_each IsObjectIn files os inside) past)
+  unlinked_in files os start fault inside (inr (ps, were, un)) =
+      subst (λ l. IsUnlinked l start fault) (same_each IsObjectIn one_in files ps os were inside) un
+
+  -- no file is refused
+  no_unread : (files : List (List ℕ)) (os : List Object) (number : ℕ) (fault : FileFault) → AreObjectsIn files os → IsFirstUnread files number fault → ⊥
+  no_unread files os number fault inside first =
+      let found = in_middle IsObjectIn first.before first.file first.after os (subst (λ l. AreEach IsObjectIn l os) first.whole inside) in
+      let clash : None ≡ Some fault = sym found.1.0 ∙ first.refused in cc
+
+  -- nor is a text, but for a section that becomes too long
+  of_statements : (text : List ℕ) (code : SourceCode) (line : ℕ) (ss : List Statement) → Reads text ss → statements_fault ss ≡ None → IsFirstFault text (sources.At code line)
+      → IsOfLength text (sources.At code line)
+  of_statements text code line ss reads good (inl refuses) = absurd (laws.not_both text ss _ reads refuses)
+  of_statements text code line ss reads good (inr (others, read, inl is)) =
+      let same : ss ≡ others = laws.one_reading text ss others reads read in
+      let none : statements_fault others ≡ None = ap statements_fault (sym same) ∙ good in
+      absurd (let clash : None ≡ Some _ = sym none ∙ is in cc)
+  of_statements text code line ss reads good (inr (others, read, inr (none, long))) = (others, read, long)
+
+  of_source : (texts : List (List ℕ)) (os : List Object) (number : ℕ) (fault : SourceFault) → AreObjectsFrom texts os → IsFirstRefused texts number fault
+      → IsMemory (Source number fault) ⊎ AreOfLength texts (Source number fault)
+  of_source texts os number sources.OutOfMemory from first = inl refl
+  of_source texts os number (sources.At code line) from first =
+      let found = in_middle IsObjectFrom first.before first.text first.after os (subst (λ l. AreEach IsObjectFrom l os) first.whole from) in
+      let is : IsObjectFrom first.text found.0 = found.1 in
+      inr (first, of_statements first.text code line is.0 is.1 is.2 first.refused)
+
+  reason_or_memory : (os : List Object) (start : ℕ) (fault other : LinkFault) → AllByRecursion IsSound os → AllByRecursion IsSmall os
+      → IsUnlinked os start fault → IsUnlinked os start other → WantsOrNot fault → WantsOrNot other
+      → (fault ≡ links.OutOfMemory) ⊎ ((other ≡ links.OutOfMemory) ⊎ IsSameFault fault other)
+  reason_or_memory os start fault other sound small h k (inl is) wants = inl is
+  reason_or_memory os start fault other sound small h k (inr not) (inl is) = inr (inl is)
+  reason_or_memory os start fault other sound small h k (inr not) (inr nor) = inr (inr (laws.for_one os start fault other (laws.even os start sound) (laws.below os start sound small) h not k nor))
+
+  -- ---- the law
+
+  built_alike : AreBuiltAlike
+  built_alike texts files start exe other_exe map other_map h built linked =
+      let os = objects_of texts files h in
+      let b : IsBuiltOf os start exe map = built_of texts os start exe map (are_from texts files h) built in
+      let c : IsBuiltOf os start other_exe other_map = linked_of files os start other_exe other_map (are_in texts files h) linked in
+      let same : b.linked ≡ c.linked = laws.one_linked os start b.linked c.linked (laws.placed os (are_sound texts files h)) b.links c.links in
+      (b.written ∙ ap exe_of same ∙ sym c.written, b.shown ∙ ap (λ l. map_text l.map) same ∙ sym c.shown)
+
+  not_unlinkable : AreNotUnlinkable
+  not_unlinkable texts files start exe map (Source number fault) h built un = absurd un
+  not_unlinkable texts files start exe map (File number fault) h built un = absurd (no_unread files (objects_of texts files h) number fault (are_in texts files h) un.1)
+  not_unlinkable texts files start exe map (Link fault) h built un =
+      let os = objects_of texts files h in
+      let b : IsBuiltOf os start exe map = built_of texts os start exe map (are_from texts files h) built in
+      laws.for_memory os start b.linked fault b.links (unlinked_in files os start fault (are_in texts files h) un)
+  not_unlinkable texts files start exe map Memory h built un = tt
+
+  not_refused : AreNotRefused
+  not_refused texts files start exe map (Source number fault) h linked refused =
+      of_source texts (objects_of texts files h) number fault (are_from texts files h) refused.1
+  not_refused texts files start exe map (File number fault) h linked refused = absurd refused
+  not_refused texts files start exe map (Link fault) h linked refused =
+      let os = objects_of texts files h in
+      let c : IsBuiltOf os start exe map = linked_of files os start exe map (are_in texts files h) linked in
+      inl (laws.for_memory os start c.linked fault c.links (unlinked_from texts os start fault (are_from texts files h) refused))
+  not_refused texts files start exe map Memory h linked refused = inl tt
+
+  both_links : (texts files : List (List ℕ)) (start : ℕ) (fault other : LinkFault) (h : AreFilesFor texts files) → IsRefusedFor texts start (Link fault) → AreUnlinkable files start (Link other)
+      → (IsMemory (Link fault) ⊎ AreOfLength texts (Link fault)) ⊎ (IsMemory (Link other) ⊎ IsSame (Link fault) (Link other))
+  both_links texts files start fault other h refused un =
+      let os = objects_of texts files h in
+      elim (
+      reason_or_memory os start fault other (are_sound texts files h) (are_small texts files h)
+      (unlinked_from texts os start fault (are_from texts files h) refused) (unlinked_in files os start other (are_in texts files h) un) (wants_or_not fault) (wants_or_not other)
+      ) [
+        | inl is ↦ inl (inl is)
+        | inr same ↦ inr same
+      ]
+
+  refused_alike : AreRefusedAlike
+  refused_alike texts files start (Source number fault) other h refused un = inl (of_source texts (objects_of texts files h) number fault (are_from texts files h) refused.1)
+  refused_alike texts files start (File number fault) other h refused un = absurd refused
+  refused_alike texts files start Memory other h refused un = inl (inl tt)
+  refused_alike texts files start (Link fault) (Source number other) h refused un = absurd un
+  refused_alike texts files start (Link fault) (File number other) h refused un = absurd (no_unread files (objects_of texts files h) number other (are_in texts files h) un.1)
+  refused_alike texts files start (Link fault) (Link other) h refused un = both_links texts files start fault other h refused un
+  refused_alike texts files start (Link fault) Memory h refused un = inr (inl tt)
+
+  pub agreed : BuildsAsItLinks
+  agreed = record {
+    alike = built_alike;
+    linked = not_unlinkable;
+    built = not_refused;
+    refused = refused_alike;
+  }

@@ -1,0 +1,21 @@
+use Rattle.rv_chain.proofs.Agreed.{agreed}
+use Rattle.rv_chain.proofs.law.builds_as_it_links.Goals as goal
+
+pub returns : goal.returns
+returns c = agreed (record {
+  one_reading = c.one_reading.ensures;
+  not_both = c.not_both.ensures;
+  shown = c.names_are_shown.ensures;
+  one_assembled = c.one_object_of_statements.ensures;
+  few = c.objects_are_small.ensures.few;
+  brief = c.objects_are_small.ensures.short;
+  sound = c.written_object_is_read.ensures.fault;
+  held = c.written_object_is_read.ensures.object;
+  one_held = c.one_object.ensures;
+  one_linked = c.one_linked_program.ensures;
+  for_memory = c.refused_is_not_linked.ensures;
+  for_one = c.refused_for_one_reason.ensures;
+  placed = c.objects_keep_it.ensures.rows;
+  even = c.objects_keep_it.ensures.runs;
+  below = c.objects_keep_it.ensures.texts;
+})

@@ -1,0 +1,50 @@
+-- Why files are not linked, by their bytes and the address at which the text starts.
+
+use Rattle.std.specs.Prelude.{◌≡◌, ℕ, ◌+◌, ⊤, ◌⊎◌, List, ◌∷◌, ◌++◌, length, Some, None}
+use Rattle.std.specs.List.{AllByRecursion}
+use Rattle.rv_elf.specs.declared.fault.FileFault.{FileFault}
+use Rattle.rv_object.specs.Object.{Object}
+use Rattle.rv_object_file_laws.specs.FirstFault.{first_fault}
+use Rattle.rv_link.specs.declared.fault.LinkFault.{LinkFault}
+use Rattle.rv_link.specs.Refusals.{AreWithin, ArePast, IsUnlinked}
+use Rattle.rv_chain.specs.declared.fault.Fault.{Fault}
+use Rattle.rv_chain.specs.declared.fault.Fault.TheVariants.{Source, File, Link, Memory}
+use Rattle.rv_chain.specs.Objects.{AreObjectsIn}
+
+-- a file of this number is refused, by its first fault; memory may run out
+abbrev pub IsUnreadAt : ℕ → List ℕ → Fault → Type 0
+IsUnreadAt place file (Source number fault) = ⊥
+IsUnreadAt place file (File number fault) =
+    (number ≡ place) × (first_fault file ≡ Some fault)
+IsUnreadAt place file (Link fault) = ⊥
+IsUnreadAt place file Memory = ⊤
+
+-- the first file with a fault
+pub record IsFirstUnread (files : List (List ℕ)) (number : ℕ) (fault : FileFault) : Type 0 where
+  pub before : List (List ℕ)
+  pub file : List ℕ
+  pub after : List (List ℕ)
+  pub whole : files ≡ before ++ file ∷ after
+  pub number_is : number ≡ length before + 1
+  pub sound : AllByRecursion (λ other. first_fault other ≡ None) before
+  pub refused : first_fault file ≡ Some fault
+
+abbrev pub AreUnread : List (List ℕ) → Fault → Type 0
+AreUnread files (Source number fault) = ⊥
+AreUnread files (File number fault) = IsFirstUnread files number fault
+AreUnread files (Link fault) = ⊥
+AreUnread files Memory = ⊤
+
+-- no file has a fault, and the link of their objects is refused
+abbrev pub AreReadUnlinked : List (List ℕ) → ℕ → LinkFault → Type 0
+AreReadUnlinked files start fault =
+    (os : List Object) × AreObjectsIn files os × IsUnlinked os start fault
+
+-- first the count of the files, then the text's start, then the files, and then the link
+abbrev pub AreUnlinkable : List (List ℕ) → ℕ → Fault → Type 0
+AreUnlinkable files start (Source number fault) = ⊥
+AreUnlinkable files start (File number fault) =
+    AreWithin (length files) start × IsFirstUnread files number fault
+AreUnlinkable files start (Link fault) =
+    ArePast (length files) start fault ⊎ AreReadUnlinked files start fault
+AreUnlinkable files start Memory = ⊤

@@ -1,0 +1,29 @@
+//! Sources are built as their objects are linked.
+
+ghost use Rattle.rv_chain.specs.Agreement.{BuildsAsItLinks};
+
+use rv_assemble_laws::names_are_shown;
+use rv_object_file_laws::{one_object, written_object_is_read};
+use rv_one_link_laws::{
+    objects_keep_it, one_linked_program, refused_for_one_reason, refused_is_not_linked,
+};
+use rv_one_object_laws::{objects_are_small, one_object_of_statements};
+use rv_parse_laws::{not_both, one_reading};
+
+/// What `build` makes of sources, `link_objects` makes of the files of their objects: the same executable and the same map,
+/// or a refusal for the same fault. Want of memory can come to either.
+pub fn builds_as_it_links()
+    ensures { BuildsAsItLinks }
+{
+    one_reading();
+    not_both();
+    names_are_shown();
+    one_object_of_statements();
+    objects_are_small();
+    written_object_is_read();
+    one_object();
+    one_linked_program();
+    refused_is_not_linked();
+    refused_for_one_reason();
+    objects_keep_it();
+}

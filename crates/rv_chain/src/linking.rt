@@ -1,0 +1,59 @@
+//! From the files of objects to an executable and its map.
+
+ghost use Rattle.std.specs.Prelude.{◌<◌, ◌≤◌, ◌+◌, map, length, IfOk, IfErr};
+ghost use Rattle.rv_statement.specs.View.{now_of};
+ghost use Rattle.rv_object.specs.View.{object_of};
+ghost use Rattle.rv_object_laws.specs.IsLinkOf.{most_files};
+ghost use Rattle.rv_chain.specs.Linking.{AreLinked};
+ghost use Rattle.rv_chain.specs.LinkRefusals.{IsUnreadAt, AreUnread, AreUnlinkable};
+ghost use Rattle.rv_chain.specs.Objects.{IsObjectIn, AreObjectsIn};
+
+use crate::built::Built;
+use crate::fault::Fault;
+use rv_image::FileFault;
+use rv_link::{LinkOptions, link, within_limits};
+use rv_object::Object;
+use rv_object_reader::read;
+use std::alloc::Global;
+
+/// Links objects, whoever wrote them: the executable and its map. `objects` are the bytes of their files.
+pub fn link_objects(alloc: Global, objects: &[&[u8]], options: LinkOptions) -> Result<Built, Fault>
+    ensures linked { IfOk result
+        (λ built. AreLinked
+        (map now_of objects.now) options.text_start built.exe.items built.map.items) }
+    // The first fault: too many files, the text's start, then the files one by one, then the link.
+    ensures refuses { IfErr result (AreUnlinkable (map now_of objects.now) options.text_start) }
+{
+    within_limits(objects.len(), options.text_start)?;
+    let read = read_objects(alloc, objects)?;
+    let linked = link(alloc, read.as_slice(), options)?;
+    let built = Built::of(alloc, &linked)?;
+    Ok(built)
+}
+
+/// The objects in files, in their order.
+fn read_objects(alloc: Global, files: &[&[u8]]) -> Result<Vec<Object>, Fault>
+    requires few { length files.now ≤ most_files }
+    ensures objects { IfOk result
+        (λ os. AreObjectsIn (map now_of files.now) (map object_of os.items)) }
+    ensures refuses { IfErr result (AreUnread (map now_of files.now)) }
+{
+    let mut objects = Vec::new(alloc);
+    for index in 0..files.len() {
+        objects.push(read_object(alloc, index, files[index])?)?;
+    }
+    Ok(objects)
+}
+
+/// The object in the file at this index, from 0.
+fn read_object(alloc: Global, index: usize, file: &[u8]) -> Result<Object, Fault>
+    requires few { index < most_files }
+    ensures object { IfOk result (λ o. IsObjectIn file.now (object_of o)) }
+    ensures refuses { IfErr result (IsUnreadAt (index + 1) file.now) }
+{
+    match read(alloc, file) {
+        Ok(object) => Ok(object),
+        Err(FileFault::OutOfMemory) => Err(Fault::Memory),
+        Err(fault) => Err(Fault::File(index as u32 + 1, fault)),
+    }
+}
