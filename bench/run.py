@@ -24,6 +24,8 @@ LD = "riscv64-unknown-elf-ld"
 SOURCE_BYTES = 16 * 2**20
 STATEMENTS = 2**22
 SOURCES = 1000
+OBJECTS = 500
+OBJECT_BYTES = 16 * 2**10
 # No token: the last line of a source that is read whole and refused.
 FAULT = "!\n"
 
@@ -295,6 +297,40 @@ def many(folder):
     measured("ld", [LD, "-Map", folder / "map", "-o", folder / "executable", *objects], length)
 
 
+def write_parts(folder):
+    """Writes as many sources as are linked as objects, each of the bytes of text that are measured: every eighth line
+    calls a function of another."""
+    paths = []
+    for number in range(OBJECTS):
+        paths.append(folder / f"part_{number}.s")
+        with paths[-1].open("w") as file:
+            file.write(".option norvc\n.globl _start\n_start:\n" if number == 0 else ".option norvc\n")
+            file.write(f".globl part_{number}\npart_{number}:\n")
+            for at in range(OBJECT_BYTES // 4 * 8 // 9):
+                called = (number * 7919 + at) % OBJECTS
+                file.write(f"call part_{called}\n" if at % 8 == 0 else f"addi a{at % 8}, a0, {at % 2000}\n")
+    return paths
+
+
+def objects(folder):
+    """Linking many objects, those of rv and those of GNU as: bytes of text a second, and the memory that it takes."""
+    sources = write_parts(folder)
+    length = OBJECTS * OBJECT_BYTES
+    print(f"Linking {OBJECTS} objects with {length} bytes of text together")
+    ours = [source.with_suffix(".ours.o") for source in sources]
+    for source, made in zip(sources, ours):
+        subprocess.run([RV, "as", "-o", made, source], check=True)
+    makers = {"": ours}
+    if not missing(AS):
+        makers[", of as"] = assemble_all(sources)[1]
+    for maker, made in makers.items():
+        written = ["-o", folder / "executable", *made]
+        measured(f"rv ld{maker}", [RV, "ld", "--map", folder / "map", *written], length)
+        if not missing(LD):
+            # (calls keep their eight bytes, as rv leaves them)
+            measured(f"ld{maker}", [LD, "--no-relax", "-Map", folder / "map", *written], length)
+
+
 def statements(folder):
     """The most statements that a source may have: the memory that each takes, with the source's own."""
     source, faulty = folder / "statements.s", folder / "too_many.s"
@@ -350,7 +386,7 @@ def growth(folder):
 
 def main():
     with tempfile.TemporaryDirectory() as folder:
-        for benchmark in (kernel, reading, compiler, many, statements, growth):
+        for benchmark in (kernel, reading, compiler, many, objects, statements, growth):
             benchmark(Path(folder))
 
 

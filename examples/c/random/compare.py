@@ -74,13 +74,13 @@ def assemblies(folder, way, apart):
     return [program, runtime]
 
 
-def gnu_link(folder, sources):
-    """Whether GNU's tools make an executable of the sources, as folder/theirs."""
+def gnu_link(folder, sources, *options):
+    """Whether GNU's tools make an executable of the sources, as folder/theirs; ld takes the options."""
     objects = [source.with_suffix(".o") for source in sources]
     for source, made_of_it in zip(sources, objects):
         if not made([f"{GNU}as", "-march=rv64imac", "-mabi=lp64", "-o", str(made_of_it), str(source)]):
             return False
-    ld = [f"{GNU}ld", "--no-warn-rwx-segments", "-o", str(folder / "theirs")]
+    ld = [f"{GNU}ld", "--no-warn-rwx-segments", *options, "-o", str(folder / "theirs")]
     # its own shortening of addresses fails at times ("relocation truncated to fit: R_RISCV_GPREL_I")
     return made([*ld, *map(str, objects)]) or made([*ld, "--no-relax", *map(str, objects)])
 
