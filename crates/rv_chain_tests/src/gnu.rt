@@ -62,7 +62,7 @@ fn programs(rt: HostRuntime) -> Result<(), Fail> {
 /// Of some hundred random programs those that have the most different forms, the last four with compressed code: a
 /// source; the rows of 32 bytes after the first page of its file that are not all zero, and their count; how its map
 /// begins.
-pub(super) const PROGRAMS: &str = "===
+const PROGRAMS: &str = "===
 .option norvc
 ecall
 sh t0, 4 * 58(s11)

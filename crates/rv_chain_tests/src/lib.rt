@@ -9,13 +9,9 @@
 #[cfg(test)]
 mod code;
 #[cfg(test)]
-mod damaged;
-#[cfg(test)]
 mod faults;
 #[cfg(test)]
 mod files;
-#[cfg(test)]
-mod foreign;
 #[cfg(test)]
 mod gnu;
 #[cfg(test)]
@@ -24,8 +20,6 @@ mod instructions;
 mod later;
 #[cfg(test)]
 mod limits;
-#[cfg(test)]
-mod objects;
 #[cfg(test)]
 mod open;
 #[cfg(test)]

@@ -1,0 +1,5 @@
+use Rattle.rv_disasm.proofs.Ordered.{one_listing}
+use Rattle.rv_disasm.proofs.law.one_listing.Goals as goal
+
+pub returns : goal.returns
+returns c = one_listing

@@ -1,0 +1,107 @@
+-- The text of an instruction: its mnemonic and its operands (RISC-V Assembly Programmer's Manual,
+-- "Instruction Aliases" and "Pseudoinstructions" for the names; RISC-V Unprivileged ISA 20191213,
+-- chapters 2, 5, 7 and 8).
+
+use Rattle.std.specs.Prelude.{ℕ, ℤ, ◌/◌, ◌%◌, Bool, true, false, not, ◌&&◌, ◌==◌, if◌then◌else◌, List, [], ◌∷◌, ◌++◌, flat_map, codes, decimal, slice_index_or}
+use Rattle.std.specs.Fmt.{signed_decimal}
+use Rattle.rv_isa.specs.declared.instruction.Fence.{Fence as FenceOperands}
+use Rattle.rv_isa.specs.declared.instruction.Format.{Format}
+use Rattle.rv_isa.specs.declared.instruction.Format.TheVariants.{Registers, Immediate, Shift, Upper, Load, Store, Branch, Jal, Jalr, LoadReserved, Atomic, Fence, Ecall, Ebreak}
+use Rattle.rv_isa.specs.Operations.{register_name, immediate_name, shift_name, upper_name, load_name, store_name, branch_name, atomic_name}
+use Rattle.rv_isa.specs.RegisterNames.{abi_names}
+use Rattle.rv_isa_laws.specs.Arithmetic.{wrapped, sum_of}
+use Rattle.rv_disasm.specs.Numbers.{prefixed}
+
+-- ---- operands
+
+-- by its ABI name: x8 is s0
+abbrev pub register : ℕ → List ℕ
+register r = slice_index_or abi_names r []
+
+-- (a0)
+abbrev pub in_parentheses : ℕ → List ℕ
+in_parentheses r = codes "(" ++ register r ++ codes ")"
+
+-- 8(sp)
+abbrev pub based : ℤ → ℕ → List ℕ
+based offset r = signed_decimal offset ++ in_parentheses r
+
+-- the address to which a branch or a jump at this address leads (ISA, 2.5)
+abbrev pub target : ℕ → ℤ → List ℕ
+target address offset = prefixed (sum_of address (wrapped offset))
+
+-- a blank before the first operand, and a comma before each other
+abbrev pub operands : List (List ℕ) → List ℕ
+operands [] = []
+operands (first ∷ others) = 32 ∷ first ++ flat_map (λ operand. 44 ∷ operand) others
+
+-- ---- atomics: the end of the mnemonic that its bits aq and rl have (ISA, 8.1)
+
+abbrev pub load_reserved_name : Bool → List ℕ
+load_reserved_name false = codes "lr.w"
+load_reserved_name true = codes "lr.d"
+
+abbrev pub ordering : Bool → Bool → List ℕ
+ordering false false = []
+ordering true false = codes ".aq"
+ordering false true = codes ".rl"
+ordering true true = codes ".aqrl"
+
+-- ---- fences (ISA, 2.7)
+
+abbrev pub letter : ℕ → List ℕ → List ℕ
+letter bit name = if bit % 2 == 1 then name else []
+
+-- the letters of a set of accesses: i is 8, o is 4, r is 2, w is 1
+abbrev pub accesses : ℕ → List ℕ
+accesses s =
+    letter (s / 8) (codes "i") ++ letter (s / 4) (codes "o") ++ letter (s / 2) (codes "r")
+    ++ letter s (codes "w")
+
+-- fence.tso: from reads and writes to reads and writes, with fm 8
+abbrev pub is_tso : FenceOperands → Bool
+is_tso x = x.fm == 8 && x.pred == 3 && x.succ == 3 && x.rs1 == 0 && x.rd == 0
+
+-- fence with two sets, neither of them empty
+abbrev pub is_between : FenceOperands → Bool
+is_between x = x.fm == 0 && not (x.pred == 0) && not (x.succ == 0) && x.rs1 == 0 && x.rd == 0
+
+-- a fence that no source spells is shown as what no instruction spells
+abbrev pub fence_text : FenceOperands → List ℕ
+fence_text x =
+    if is_tso x then codes "fence.tso"
+    else if is_between x
+    then codes "fence" ++ operands (accesses x.pred ∷ accesses x.succ ∷ [])
+    else codes "unknown"
+
+-- ---- an instruction at an address, by its format
+
+abbrev pub text_of : ℕ → Format → List ℕ
+text_of address (Registers operation x) =
+    register_name operation ++ operands (register x.rd ∷ register x.rs1 ∷ register x.rs2 ∷ [])
+text_of address (Immediate operation x) =
+    immediate_name operation
+    ++ operands (register x.rd ∷ register x.rs1 ∷ signed_decimal x.immediate ∷ [])
+text_of address (Shift operation x) =
+    shift_name operation ++ operands (register x.rd ∷ register x.rs1 ∷ decimal x.amount ∷ [])
+text_of address (Upper operation x) =
+    upper_name operation ++ operands (register x.rd ∷ prefixed x.immediate ∷ [])
+text_of address (Load operation x) =
+    load_name operation ++ operands (register x.rd ∷ based x.immediate x.rs1 ∷ [])
+text_of address (Store operation x) =
+    store_name operation ++ operands (register x.rs2 ∷ based x.immediate x.rs1 ∷ [])
+text_of address (Branch operation x) =
+    branch_name operation
+    ++ operands (register x.rs1 ∷ register x.rs2 ∷ target address x.offset ∷ [])
+text_of address (Jal x) = codes "jal" ++ operands (register x.rd ∷ target address x.offset ∷ [])
+text_of address (Jalr x) =
+    codes "jalr" ++ operands (register x.rd ∷ based x.immediate x.rs1 ∷ [])
+text_of address (LoadReserved double x) =
+    load_reserved_name double ++ ordering x.acquire x.release
+    ++ operands (register x.rd ∷ in_parentheses x.rs1 ∷ [])
+text_of address (Atomic operation double x) =
+    atomic_name operation double ++ ordering x.acquire x.release
+    ++ operands (register x.rd ∷ register x.rs2 ∷ in_parentheses x.rs1 ∷ [])
+text_of address (Fence x) = fence_text x
+text_of address Ecall = codes "ecall"
+text_of address Ebreak = codes "ebreak"

@@ -1,0 +1,6 @@
+pub mod Dump
+pub mod Instruction
+pub mod Lines
+pub mod Listing
+pub mod Numbers
+pub mod Order

@@ -1,0 +1,15 @@
+//! What holds of listings.
+
+ghost use Rattle.std.specs.Prelude.{◌≡◌, ℕ, List};
+ghost use Rattle.rv_encode.specs.Word.{Spells};
+ghost use Rattle.rv_compress.specs.Parcel.{StandsFor};
+ghost use Rattle.rv_isa_laws.specs.Reader.{Reader};
+ghost use Rattle.rv_map.specs.Map.{Map};
+ghost use Rattle.rv_image.specs.Image.{Image};
+ghost use Rattle.rv_disasm.specs.Listing.{IsListing};
+
+/// An image with a map has one listing.
+pub fn one_listing()
+    ensures { (reader : Reader Spells StandsFor) (image : Image) (m : Map) (text other : List ℕ) →
+        IsListing reader image m text → IsListing reader image m other → text ≡ other }
+{}

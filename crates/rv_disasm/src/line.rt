@@ -1,0 +1,63 @@
+//! The lines of code.
+//!
+//! Source: RISC-V Unprivileged ISA 20191213, section 1.5.
+
+ghost use Rattle.std.specs.Prelude.{◌≡◌, ◌+◌, ◌<◌, ◌≤◌, ◌^◌, ◌++◌, length, OnOk, IfOk};
+ghost use Rattle.rv_encode.specs.Word.{Spells};
+ghost use Rattle.rv_compress.specs.Parcel.{StandsFor};
+ghost use Rattle.rv_isa_laws.specs.Reader.{Reader};
+ghost use Rattle.rv_disasm.specs.Lines.{front, shown, taken, line, lines};
+
+use crate::instruction::put_instruction;
+use crate::numbers::put_hexadecimal;
+use rv_compress::next_inst;
+use std::alloc::AllocError;
+
+/// Adds the lines of the bytes that stand at this address.
+pub(crate) fn put_lines(text: &mut Vec<u8>, address: u64, bytes: &[u8]) -> Result<(), AllocError>
+    requires { address + length bytes.now ≤ 2 ^ 64 }
+    ensures { (reader : Reader Spells StandsFor) → OnOk result
+        (text.new.items ≡ text.old.items ++ lines reader 0 address bytes.now) }
+{
+    let mut offset = 0;
+    while offset < bytes.len() {
+        let count = put_line(text, address + offset as u64, &bytes[offset..])?;
+        offset += count;
+    }
+    Ok(())
+}
+
+/// Adds the line of the front of the bytes; it stands for so many of them.
+fn put_line(text: &mut Vec<u8>, address: u64, bytes: &[u8]) -> Result<usize, AllocError>
+    ensures text { (reader : Reader Spells StandsFor) → IfOk result (λ _.
+        text.new.items ≡ text.old.items ++ line address (front reader bytes.now)) }
+    ensures count { (reader : Reader Spells StandsFor) → IfOk result (λ count.
+        count ≡ taken (front reader bytes.now)) }
+    ensures some { IfOk result (λ count. (1 ≤ count) × (count ≤ 4)) }
+{
+    put_hexadecimal(text, address)?;
+    text.extend_from_slice(b": ")?;
+    let count = put_front(text, address, bytes)?;
+    text.push(b'\n')?;
+    Ok(count)
+}
+
+/// Adds what the front of the bytes spells; it has so many of them.
+fn put_front(text: &mut Vec<u8>, address: u64, bytes: &[u8]) -> Result<usize, AllocError>
+    ensures text { (reader : Reader Spells StandsFor) → IfOk result (λ _.
+        text.new.items ≡ text.old.items ++ shown address (front reader bytes.now)) }
+    ensures count { (reader : Reader Spells StandsFor) → IfOk result (λ count.
+        count ≡ taken (front reader bytes.now)) }
+    ensures some { IfOk result (λ count. (1 ≤ count) × (count ≤ 4)) }
+{
+    match next_inst(bytes) {
+        Some((inst, count)) => {
+            put_instruction(text, address, inst)?;
+            Ok(count)
+        }
+        None => {
+            text.extend_from_slice(b"unknown")?;
+            Ok(2)
+        }
+    }
+}

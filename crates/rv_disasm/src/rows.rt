@@ -1,0 +1,107 @@
+//! The listing of an executable.
+
+ghost use Rattle.std.specs.Prelude.{◌≡◌, ◌+◌, ◌-◌, ◌≤◌, ◌^◌, ◌++◌, OnOk, IfOk, map, flat_map, length, take, drop};
+ghost use Rattle.rv_encode.specs.Word.{Spells};
+ghost use Rattle.rv_compress.specs.Parcel.{StandsFor};
+ghost use Rattle.rv_isa_laws.specs.Reader.{Reader};
+ghost use Rattle.rv_map.specs.Map.{map_of};
+ghost use Rattle.rv_image.specs.Segment.{segment_of};
+ghost use Rattle.rv_image.specs.Image.{image_of};
+ghost use Rattle.rv_disasm.specs.Listing as shows;
+
+use crate::line::put_lines;
+use crate::numbers::put_decimal;
+use crate::order::in_order;
+use rv_image::{Image, Segment};
+use rv_map::{Map, Row};
+use std::alloc::{AllocError, Global};
+
+/// The statements of the map that have code, and the instructions that stand there in the image.
+///
+/// A statement is the line `@ FILE LINE ORDINAL`, an instruction a line with its address; bytes that spell none are
+/// `unknown`, two a line. A statement whose bytes are not all in one executable segment is left out.
+pub fn listing(alloc: Global, image: &Image, map: &Map) -> Result<Vec<u8>, AllocError>
+    ensures { (reader : Reader Spells StandsFor) → IfOk result (λ text.
+        shows.IsListing reader (image_of image.now) (map_of map.now) text.items) }
+{
+    let rows = in_order(alloc, &map.rows)?;
+    let text = entries(alloc, &image.segments, &rows)?;
+    Ok(text)
+}
+
+/// The text of these rows.
+fn entries(alloc: Global, segments: &[Segment], rows: &[Row]) -> Result<Vec<u8>, AllocError>
+    ensures { (reader : Reader Spells StandsFor) → IfOk result (λ text.
+        text.items ≡ flat_map (shows.row_text reader (map segment_of segments.now)) rows.now) }
+{
+    let mut text = Vec::new(alloc);
+    for row in rows {
+        put_row(&mut text, segments, row)?;
+    }
+    Ok(text)
+}
+
+/// Adds the text of a row.
+#[tactic(auto, using(crate::proofs::LinesOn::entry_none, crate::proofs::LinesOn::entry_some))]
+fn put_row(text: &mut Vec<u8>, segments: &[Segment], row: &Row) -> Result<(), AllocError>
+    ensures { (reader : Reader Spells StandsFor) → OnOk result (text.new.items
+        ≡ text.old.items ++ shows.row_text reader (map segment_of segments.now) row.now) }
+{
+    let bytes = row_bytes(segments, row);
+    if bytes.is_empty() {
+        return Ok(());
+    }
+    put_statement(text, row)?;
+    put_lines(text, row.address, bytes)?;
+    Ok(())
+}
+
+fn put_statement(text: &mut Vec<u8>, row: &Row) -> Result<(), AllocError>
+    ensures { OnOk result (text.new.items ≡ text.old.items ++ shows.statement row.now) }
+{
+    text.push(b'@')?;
+    put_decimal(text, b' ', row.file)?;
+    put_decimal(text, b' ', row.line)?;
+    put_decimal(text, b' ', row.ordinal)?;
+    text.push(b'\n')?;
+    Ok(())
+}
+
+/// The bytes of a row in the executable segment that has them all; none where none does.
+fn row_bytes<'a>(segments: &'a [Segment], row: &Row) -> &'a [u8]
+    ensures bytes { result.now ≡ shows.row_bytes (map segment_of segments.now) row.now }
+    ensures ends { row.now.address + length result.now ≤ 2 ^ 64 }
+{
+    // Read so that its range is known to the clause `ends`.
+    let _address = row.address;
+    for segment in segments {
+        if is_held(segment, row) {
+            return held(segment, row);
+        }
+    }
+    &[]
+}
+
+/// Whether the segment can be executed and has all bytes of the row.
+fn is_held(segment: &Segment, row: &Row) -> bool
+    ensures { result ≡ shows.holds row.now (segment_of segment.now) }
+{
+    let end = u128::from(segment.address) + segment.bytes.len() as u128;
+    segment.flags % 2 == 1
+        && segment.address <= row.address
+        && u128::from(row.address) + u128::from(row.bytes) <= end
+}
+
+/// The bytes of a row that the segment holds.
+fn held<'a>(segment: &'a Segment, row: &Row) -> &'a [u8]
+    requires after { segment.now.address ≤ row.now.address }
+    requires before { row.now.address + row.now.bytes
+        ≤ segment.now.address + length segment.now.bytes.items }
+    ensures bytes { result.now
+        ≡ take row.now.bytes (drop (row.now.address - segment.now.address) segment.now.bytes.items) }
+    ensures ends { row.now.address + length result.now ≤ 2 ^ 64 }
+{
+    let start = (row.address - segment.address) as usize;
+    let rest = &segment.bytes[start..];
+    &rest[..row.bytes as usize]
+}
