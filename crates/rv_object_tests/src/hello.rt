@@ -2,7 +2,7 @@
 
 use crate::sources::HELLO;
 use rv_assemble::assemble;
-use rv_elf::{ElfView, SectionIndex, SymbolIndex, rela_in};
+use rv_elf::{ElfView, SectionIndex, SymbolIndex, rela_in, symbol_in};
 use rv_object_writer::write;
 use std::test::Fail;
 
@@ -45,12 +45,16 @@ fn records(rt: HostRuntime) -> Result<(), Fail> {
     let alloc = rt.alloc();
     let file = write(alloc, &assemble(alloc, HELLO)?)?;
     let view = ElfView::open(&file)?;
+    assert_eq!(rt; view.header().e_shnum, 8);
     let relocations = view.section(SectionIndex(3));
+    assert_eq!(rt; relocations.len(), 48);
     let high = rela_in(relocations, 0);
     let low = rela_in(relocations, 1);
     assert_eq!(rt; (high.r_offset, high.r_type), (2, 23));
     assert_eq!(rt; (low.r_offset, low.r_type), (6, 24));
-    let start = view.symbol(SectionIndex(5), SymbolIndex(3));
+    let symbols = view.section(SectionIndex(5));
+    assert_eq!(rt; symbols.len(), 96);
+    let start = symbol_in(symbols, SymbolIndex(3));
     assert!(rt; view.name(SectionIndex(6), start.st_name) == Some(b"_start".as_slice()));
     assert_eq!(rt; (start.st_info, start.st_shndx), (16, 1));
     Ok(())
