@@ -21,11 +21,15 @@ FLAGS = "-march=rv64imac -mabi=lp64 -O2 -ffreestanding -nostdlib -static -Wl,--n
 ROUNDS = 40
 AS = "riscv64-unknown-elf-as"
 LD = "riscv64-unknown-elf-ld"
+OBJDUMP = "riscv64-unknown-elf-objdump"
+OBJCOPY = "riscv64-unknown-elf-objcopy"
 SOURCE_BYTES = 16 * 2**20
 STATEMENTS = 2**22
 SOURCES = 1000
 OBJECTS = 500
 OBJECT_BYTES = 16 * 2**10
+TEXT_BYTES = 16 * 2**20
+TEXTS = 16
 # No token: the last line of a source that is read whole and refused.
 FAULT = "!\n"
 
@@ -331,6 +335,32 @@ def objects(folder):
             measured(f"ld{maker}", [LD, "--no-relax", "-Map", folder / "map", *written], length)
 
 
+def write_texts(folder):
+    """Writes sources that together have the bytes of text that are listed."""
+    paths = []
+    for number in range(TEXTS):
+        paths.append(folder / f"text_{number}.s")
+        with paths[-1].open("w") as file:
+            file.write(".option norvc\n.set size, 16\n" + ".globl _start\n_start:\n" * (number == 0))
+            for at in range(TEXT_BYTES // TEXTS // 4):
+                file.write(INSTRUCTIONS[at % 8].format(at % 8, at % 5, at % 2000) + "\n")
+    return paths
+
+
+def listings(folder):
+    """Listing an executable: bytes of text a second, and the memory that it takes."""
+    executable, shown = folder / "executable", folder / "map"
+    subprocess.run([RV, "build", "-o", executable, "--map", shown, *write_texts(folder)], check=True)
+    print(f"Listing {TEXT_BYTES} bytes of text")
+    measured("rv objdump", [RV, "objdump", "--map", shown, executable], TEXT_BYTES)
+    linked = folder / "linked.o"
+    if not missing(OBJDUMP) and not missing(OBJCOPY):
+        # (GNU's lists sections, which an executable of rv has not)
+        named = ["--rename-section", ".data=.text,alloc,load,code", "-I", "binary", "-O", "elf64-littleriscv"]
+        subprocess.run([OBJCOPY, *named, executable, linked], check=True)
+        measured("objdump", [OBJDUMP, "-d", "-M", "no-aliases", linked], TEXT_BYTES)
+
+
 def statements(folder):
     """The most statements that a source may have: the memory that each takes, with the source's own."""
     source, faulty = folder / "statements.s", folder / "too_many.s"
@@ -386,7 +416,7 @@ def growth(folder):
 
 def main():
     with tempfile.TemporaryDirectory() as folder:
-        for benchmark in (kernel, reading, compiler, many, objects, statements, growth):
+        for benchmark in (kernel, reading, compiler, many, objects, listings, statements, growth):
             benchmark(Path(folder))
 
 

@@ -1,8 +1,9 @@
-//! What the program does: runs, builds, assembles, links, prints a map.
+//! What the program does: runs, builds, assembles, links, prints a map, a listing or a dump.
 
 ghost use Rattle.std.specs.Prelude.{◌≡◌, IfOk};
 ghost use Rattle.rv_program.specs.Status.{run_status};
 
+use crate::disassembly::{dump, objdump};
 use crate::error::CliError;
 use crate::messages::{end_line, fault_line};
 use crate::system::{FILE_LIMIT, INPUT_LIMIT, Purpose, ReadFault, System};
@@ -47,6 +48,16 @@ pub(crate) enum Job<'a> {
         options: LinkOptions,
         sources: Vec<&'a str>,
     },
+    /// Prints the listing; the files are read in the order of the words.
+    Objdump {
+        map: &'a str,
+        exe: &'a str,
+        map_first: bool,
+    },
+    /// Prints the bytes of a file.
+    Dump {
+        file: &'a str,
+    },
 }
 
 /// Does a job; the exit status.
@@ -71,6 +82,12 @@ pub(crate) fn run_job<S: System>(system: &mut S, job: &Job<'_>) -> Result<u8, Cl
             print(system, built.map.as_slice())?;
             Ok(0)
         }
+        Job::Objdump {
+            map,
+            exe,
+            map_first,
+        } => objdump(system, map, exe, *map_first),
+        Job::Dump { file } => dump(system, file),
     }
 }
 
@@ -231,7 +248,7 @@ fn borrowed<'a>(alloc: Global, read: &'a [Vec<u8>]) -> Result<Vec<&'a [u8]>, All
 }
 
 /// The bytes that were read, or the line that says that they weren't.
-fn contents(
+pub(crate) fn contents(
     alloc: Global,
     name: &str,
     read: Result<Vec<u8>, ReadFault>,
@@ -270,7 +287,7 @@ fn write<S: System>(
 }
 
 /// Writes to standard output, which messages call `-`.
-fn print<S: System>(system: &mut S, bytes: &[u8]) -> Result<(), CliError> {
+pub(crate) fn print<S: System>(system: &mut S, bytes: &[u8]) -> Result<(), CliError> {
     match system.print(bytes) {
         Ok(()) => Ok(()),
         Err(_) => Err(cannot(system.alloc(), "write", "-")?),

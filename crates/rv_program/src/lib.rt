@@ -19,6 +19,7 @@
 //! ```
 #![tactic(auto)]
 
+mod disassembly;
 mod error;
 mod host;
 mod jobs;

@@ -22,6 +22,8 @@ const HELP: &str = "Examples:
   rv as -o prog.o prog.s                    writes the object of a source
   rv ld -o prog prog.o other.o              links objects
   rv map prog.s                             shows where each statement stands
+  rv objdump --map prog.map prog            shows the instructions of each statement
+  rv dump prog                              shows the bytes of a file
 
 Without words rv does the same as 'rv run -'.
 Exit status: 0 done; 1 refused, the fault stands on standard error; 2 wrong words.
@@ -45,6 +47,12 @@ const LD_HELP: &str = "Example:
 
 const MAP_HELP: &str = "Example:
   rv map --text-start 0x20000 prog.s";
+
+const OBJDUMP_HELP: &str = "Example:
+  rv objdump --map prog.map prog";
+
+const DUMP_HELP: &str = "Example:
+  rv dump prog";
 
 /// How a command names its files.
 #[derive(Clone, Copy)]
@@ -73,6 +81,8 @@ pub(crate) fn parse_job<'a>(alloc: Global, words: &'a [&'a str]) -> Result<Job<'
         Some(("as", found)) => Ok(parse_as(found)),
         Some(("ld", found)) => parse_ld(alloc, &mut command, found),
         Some(("map", found)) => parse_map(alloc, &mut command, found),
+        Some(("objdump", found)) => Ok(parse_objdump(found)),
+        Some(("dump", found)) => Ok(parse_dump(found)),
         _ => Ok(Job::Run {
             file: "-",
             limit: LIMIT,
@@ -89,7 +99,9 @@ fn command<'a>(alloc: Global) -> Result<Command<'a>, Error> {
     let all = all.subcommand(build_command(alloc)?)?;
     let all = all.subcommand(as_command(alloc)?)?;
     let all = all.subcommand(ld_command(alloc)?)?;
-    Ok(all.subcommand(map_command(alloc)?)?)
+    let all = all.subcommand(map_command(alloc)?)?;
+    let all = all.subcommand(objdump_command(alloc)?)?;
+    Ok(all.subcommand(dump_command(alloc)?)?)
 }
 
 fn run_command<'a>(alloc: Global) -> Result<Command<'a>, Error> {
@@ -141,6 +153,33 @@ fn map_command<'a>(alloc: Global) -> Result<Command<'a>, Error> {
         .about("Prints the map of what the sources build")
         .after_help(MAP_HELP);
     with_files(alloc, map, SOURCES)
+}
+
+fn objdump_command<'a>(alloc: Global) -> Result<Command<'a>, Error> {
+    let map = Arg::new(alloc, "map")
+        .long("map")
+        .value_name("F")
+        .required(true)
+        .help("The map of the executable");
+    let exe = Arg::new(alloc, "exe")
+        .value_name("EXE")
+        .required(true)
+        .help("The executable");
+    let objdump = Command::new(alloc, "objdump")
+        .about("Prints the instructions of an executable, statement by statement")
+        .after_help(OBJDUMP_HELP);
+    Ok(objdump.arg(map)?.arg(exe)?)
+}
+
+fn dump_command<'a>(alloc: Global) -> Result<Command<'a>, Error> {
+    let file = Arg::new(alloc, "file")
+        .value_name("FILE")
+        .required(true)
+        .help("Any file");
+    let dump = Command::new(alloc, "dump")
+        .about("Prints the bytes of a file in hexadecimal")
+        .after_help(DUMP_HELP);
+    Ok(dump.arg(file)?)
 }
 
 /// The command with what `build` and `ld` write.
@@ -236,6 +275,20 @@ fn parse_map<'a>(
         options,
         sources: file_names(alloc, found)?,
     })
+}
+
+fn parse_objdump<'a>(found: &ArgMatches<'a>) -> Job<'a> {
+    Job::Objdump {
+        map: found.get_str("map").unwrap_or(""),
+        exe: found.get_str("exe").unwrap_or(""),
+        map_first: found.index_of("map") < found.index_of("exe"),
+    }
+}
+
+fn parse_dump<'a>(found: &ArgMatches<'a>) -> Job<'a> {
+    Job::Dump {
+        file: found.get_str("file").unwrap_or(""),
+    }
 }
 
 /// The options that `build`, `ld` and `map` share.

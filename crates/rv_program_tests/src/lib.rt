@@ -8,6 +8,8 @@ mod files;
 #[cfg(test)]
 mod lines;
 #[cfg(test)]
+mod listings;
+#[cfg(test)]
 mod objects;
 #[cfg(test)]
 mod refusals;

@@ -7,7 +7,7 @@ use std::alloc::{AllocError, Global};
 use std::test::Fail;
 
 /// The words, what is wrong with them, and the usage that is shown.
-const FAULTS: [(&str, &str, &str); 20] = [
+const FAULTS: [(&str, &str, &str); 22] = [
     ("rv frob", "unrecognized subcommand 'frob'", "rv [COMMAND]"),
     (
         "rv --frob",
@@ -104,6 +104,16 @@ const FAULTS: [(&str, &str, &str); 20] = [
         "a text start is decimal, or 0x and hexadecimal, below 2^64",
         "rv [COMMAND]",
     ),
+    (
+        "rv objdump a",
+        "the following required arguments were not provided:\n  --map <F>",
+        "rv objdump --map <F> <EXE>",
+    ),
+    (
+        "rv dump",
+        "the following required arguments were not provided:\n  <FILE>",
+        "rv dump <FILE>",
+    ),
 ];
 
 /// Whether words are refused with this fault, and this usage is shown.
@@ -134,12 +144,14 @@ const HELP: &str = "Assembles, links and runs bare RISC-V programs (RV64IMAC).
 Usage: rv [COMMAND]
 
 Commands:
-  run    Runs an executable, or builds a source and runs it
-  build  Builds an executable from sources
-  as     Assembles a source to an object
-  ld     Links objects to an executable
-  map    Prints the map of what the sources build
-  help   Print this message or the help of the given subcommand(s)
+  run      Runs an executable, or builds a source and runs it
+  build    Builds an executable from sources
+  as       Assembles a source to an object
+  ld       Links objects to an executable
+  map      Prints the map of what the sources build
+  objdump  Prints the instructions of an executable, statement by statement
+  dump     Prints the bytes of a file in hexadecimal
+  help     Print this message or the help of the given subcommand(s)
 
 Options:
   -h, --help     Print help
@@ -151,6 +163,8 @@ Examples:
   rv as -o prog.o prog.s                    writes the object of a source
   rv ld -o prog prog.o other.o              links objects
   rv map prog.s                             shows where each statement stands
+  rv objdump --map prog.map prog            shows the instructions of each statement
+  rv dump prog                              shows the bytes of a file
 
 Without words rv does the same as 'rv run -'.
 Exit status: 0 done; 1 refused, the fault stands on standard error; 2 wrong words.
@@ -243,13 +257,44 @@ Example:
   rv map --text-start 0x20000 prog.s
 ";
 
-const HELPS: [Row; 6] = [
+const OBJDUMP_HELP: &str = "Prints the instructions of an executable, statement by statement
+
+Usage: rv objdump --map <F> <EXE>
+
+Arguments:
+  <EXE>  The executable
+
+Options:
+      --map <F>  The map of the executable
+  -h, --help     Print help
+
+Example:
+  rv objdump --map prog.map prog
+";
+
+const DUMP_HELP: &str = "Prints the bytes of a file in hexadecimal
+
+Usage: rv dump <FILE>
+
+Arguments:
+  <FILE>  Any file
+
+Options:
+  -h, --help  Print help
+
+Example:
+  rv dump prog
+";
+
+const HELPS: [Row; 8] = [
     ("rv --help", 0, HELP, ""),
     ("rv run --help", 0, RUN_HELP, ""),
     ("rv build --help", 0, BUILD_HELP, ""),
     ("rv as --help", 0, AS_HELP, ""),
     ("rv ld --help", 0, LD_HELP, ""),
     ("rv map --help", 0, MAP_HELP, ""),
+    ("rv objdump --help", 0, OBJDUMP_HELP, ""),
+    ("rv dump --help", 0, DUMP_HELP, ""),
 ];
 
 const HELP_NOT_WRITTEN: [Row; 1] = [("rv --help", 1, "", "rv: -: cannot write\n")];
