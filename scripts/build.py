@@ -17,6 +17,7 @@ import signal
 import subprocess
 import sys
 import tempfile
+import threading
 import time
 from concurrent.futures import FIRST_COMPLETED, ThreadPoolExecutor, wait
 
@@ -32,7 +33,28 @@ def checker():
     made = importlib.util.module_from_spec(importlib.util.spec_from_loader("rtlib", loader))
     sys.modules["rtlib"] = made
     loader.exec_module(made)
+    made.Crate.stamp = once(made.Crate.stamp)
     return made
+
+
+def once(stamp):
+    """A crate's stamp is made of the stamps of those below it: each is made once for an answer, and not once for each
+    way that leads to it, of which there are a hundred thousand below the uppermost crates."""
+    local = threading.local()
+
+    def answer(crate):
+        is_outermost = not hasattr(local, "known")
+        if is_outermost:
+            local.known = {}
+        try:
+            if crate.folder not in local.known:
+                local.known[crate.folder] = stamp(crate)
+            return local.known[crate.folder]
+        finally:
+            if is_outermost:
+                del local.known
+
+    return answer
 
 
 def lanes():
