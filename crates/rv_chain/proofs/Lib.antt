@@ -1,5 +1,6 @@
 pub mod Agreed
 pub mod Gathered
 pub mod Headlined
+pub mod Shown
 pub mod Unread
 pub mod Written

@@ -2,6 +2,7 @@ pub mod Agreement
 pub mod Building
 pub mod Fault
 pub mod Linking
+pub mod Listed
 pub mod LinkRefusals
 pub mod Objects
 pub mod Refusals

@@ -8,6 +8,7 @@ ghost use Rattle.rv_object_laws.specs.IsLinkOf.{most_files};
 ghost use Rattle.rv_chain_laws.specs.Headline.{TheHeadline};
 ghost use Rattle.rv_chain.specs.Building.{IsProgramOf, IsExecutableOf};
 ghost use Rattle.rv_chain.specs.Linking.{AreBuilt, IsLinkFrom};
+ghost use Rattle.rv_chain.specs.Listed.{IsListedAs};
 ghost use Rattle.rv_chain.specs.Objects.{IsObjectFrom, AreObjectsFrom};
 ghost use Rattle.rv_chain.specs.Refusals.{AreGood, IsRefusedFor, IsRefusedIn, IsRefusedAt};
 
@@ -27,10 +28,15 @@ use std::alloc::Global;
 /// For every input and every instruction limit, running the executable's bytes gives exactly the
 /// console and the end that the statements of the sources give, each executed in one step at the
 /// addresses of the map; only a jump to the inside of a statement ends the promise.
+///
+/// The listing of the executable with the map shows, for each statement of code, the base
+/// instructions that stand for it there, and nothing else.
 pub fn build(alloc: Global, sources: &[&[u8]], options: LinkOptions) -> Result<Built, Fault>
     ensures headline { IfOk result
         (λ built. TheHeadline
         (map now_of sources.now) options.text_start built.exe.items built.map.items) }
+    ensures listed { IfOk result
+        (λ built. IsListedAs (map now_of sources.now) built.exe.items built.map.items) }
     ensures links { IfOk result
         (λ built. AreBuilt
         (map now_of sources.now) options.text_start built.exe.items built.map.items) }

@@ -2,7 +2,7 @@
 
 use Rattle.std.proofs.Common.{◌≡◌, ℕ, suc, ◌+◌, ◌-◌, ◌%◌, ◌^◌, ◌<◌, ◌≤◌, Bool, true, false, List, [], ◌∷◌, ◌++◌, length, refl, sym, ap, ◌∙◌, subst, arith, map, Option, Some, None, length-append, ◌⊎◌, inl, inr}
 use Rattle.std.proofs.lemmas.Bool.Decides.{nat_tests}
-use Rattle.std.proofs.lemmas.Bool.{cases_lt, and_parts, eqb-true}
+use Rattle.std.proofs.lemmas.Bool.{cases_lt, and_parts, and_from, eqb-true}
 use Rattle.std.proofs.lemmas.List.{length-replicate, get_or-replicate}
 use Rattle.std.proofs.Math.ListN.{get_or-eq_default}
 use Rattle.std.specs.Prelude.{◌&&◌, ◌||◌, ◌==◌, not, nat_lt, if◌then◌else◌, slice_index, slice_index_or, option_map, codes, IsTrue, max}
@@ -50,12 +50,12 @@ use Rattle.rv_chain_laws.proofs.LaidOut.{AreRegions, apart, rights-are, text_hel
 abbrev instructions_of : List Line → List Inst
 instructions_of ls = map (λ (l : Line). l.instruction) ls
 
-line_length : (l : Line) (bytes : List ℕ) → IsEncoded l bytes → length bytes ≡ l.bytes
+pub line_length : (l : Line) (bytes : List ℕ) → IsEncoded l bytes → length bytes ≡ l.bytes
 line_length l bytes (inl (four, same)) = ap (λ b. length b) same ∙ sym four
 line_length l bytes (inr (two, (q, short, same))) = ap (λ b. length b) same ∙ sym two
 
 -- a statement has as many bytes as its lines
-lines_length : (ls : List Line) (a stop : ℕ) (bytes : List ℕ) → Lie a ls stop → AreEncoded ls bytes → a + length bytes ≡ stop
+pub lines_length : (ls : List Line) (a stop : ℕ) (bytes : List ℕ) → Lie a ls stop → AreEncoded ls bytes → a + length bytes ≡ stop
 lines_length [] a stop bytes lie none = let e : length bytes ≡ 0 = ap (λ b. length b) none in omega arith
 lines_length (l ∷ ls) a stop bytes (at, lie) (front, (rest, joined, one, more)) =
     let here : length front ≡ l.bytes = line_length l front one in
@@ -455,6 +455,45 @@ module _ (sources : List (List Statement)) (a : ℕ) (l : Linked) (h : IsLinked 
         let e2 = r.data in
         let e3 = r.bss_after in
         omega arith
+
+    -- a statement of code stands in the text, with the bytes of its instructions
+    abbrev pub StandsInText : Mapped → Type 0
+    StandsInText s =
+        LiesIn map_of.text.start map_of.text.end s
+        × (HasBytes m s.row.address (code s) × (IsWritten p s (code s) × IsRowOf (expansion p s) s.row))
+
+    stands : (s : Mapped) → Whole s → s.located.home.executable ≡ true → StandsInText s
+    stands s (home, (fits, (written, (tl, (th, (rl, (rh, (dl, (dh, bl))))))))) runs =
+        let good = and_from s.located.home.loaded s.located.home.executable home.1 runs in (
+          tl good,
+          (
+            th good,
+            (
+              written runs,
+              statement_code p s.located.file s.located.ordinal s.located.section s.located.offset s.located.line s.located.home s.located.options s.located.placed s.row s.located.kind fits.0 fits.1 runs,
+            ),
+          ),
+        )
+
+    pub code_stands : AllByRecursion (λ s. s.located.home.executable ≡ true → StandsInText s) p.mapped
+    code_stands = all_map Whole (λ s. s.located.home.executable ≡ true → StandsInText s) p.mapped stands whole
+
+    -- every other statement stands behind the text
+    behind : (s : Mapped) → Whole s → s.located.home.executable ≡ false → map_of.text.end ≤ s.row.address
+    behind s (home, (fits, (written, (tl, (th, (rl, (rh, (dl, (dh, bl))))))))) other =
+        elim (all_goes s.located.home.loaded s.located.home.executable (is_nobits s.located.home) s.located.home.writable home.1) [
+          | inl good ↦ true_false s.located.home.executable (and_parts s.located.home.loaded s.located.home.executable good).1 other
+          | inr more ↦ elim more [
+            | inl good ↦ (let low = (rl good).0 in let e = rodata_past in omega arith)
+            | inr more ↦ elim more [
+              | inl good ↦ (let low = (dl good).0 in let e = data_past in omega arith)
+              | inr good ↦ (let low = (bl good).0 in let e = bss_past in omega arith)
+            ]
+          ]
+        ]
+
+    pub data_stands : AllByRecursion (λ s. s.located.home.executable ≡ false → map_of.text.end ≤ s.row.address) p.mapped
+    data_stands = all_map Whole (λ s. s.located.home.executable ≡ false → map_of.text.end ≤ s.row.address) p.mapped behind whole
 
     text_runs : (x : ℕ) → map_of.text.start ≤ x → Runs m x map_of.text.end
     text_runs x low y l' u =

@@ -47,7 +47,7 @@ whole_some count bytes (Some j) i n h = elim (cases_Bool (nat_le count (length b
 ]
 
 -- what the front spells the reader finds
-spelled_front : (reader : Reader Spells StandsFor) (bytes : List ℕ) (i : Inst) (n : ℕ) → FrontSpells bytes i n → front reader bytes ≡ Some (i, n)
+pub spelled_front : (reader : Reader Spells StandsFor) (bytes : List ℕ) (i : Inst) (n : ℕ) → FrontSpells bytes i n → front reader bytes ≡ Some (i, n)
 spelled_front reader bytes i n (inl (w, four)) =
     cond-true _ _ _ (begins_word (slice_index bytes 0) w.begins)
     ∙ whole_from 4 bytes (reader.word (front_word bytes)) i w.room ((reader.words (front_word bytes) i).1 w.spells)

@@ -3,8 +3,8 @@
 use Rattle.std.proofs.Common.{◌≡◌, ℕ, zero, suc, ◌<◌, ◌≤◌, Bool, true, false, List, [], ◌∷◌, length, get_or, filter, is_lt, refl, sym, ap, ◌∙◌, inl, inr, suc-le-suc, zero-le}
 use Rattle.std.specs.Prelude.{not, flat_map}
 use Rattle.std.proofs.lemmas.Bool.{cond-true, cond-false, cases_Bool, and_parts, and_from}
-use Rattle.std.specs.Cmp.{IsStrictWeakOrder, nat_cmp_total, on_total, then_total}
-use Rattle.std.specs.List.Sorted.{IsSortedBy, ties}
+use Rattle.std.specs.Cmp.{IsStrictWeakOrder, IsTotalOrder, nat_cmp_total, on_total, then_total}
+use Rattle.std.specs.List.Sorted.{IsSortedBy, IsStableBy, ties}
 use Rattle.std.proofs.lemmas.List.Sorted.{ranks_by, sorted_far}
 use Rattle.rv_isa_laws.specs.Reader.{Reader}
 use Rattle.rv_encode.specs.Word.{Spells}
@@ -93,18 +93,22 @@ module _ {X : Type 0} (lt : X → X → Bool) (o : IsStrictWeakOrder lt) where
       ] in
       ap (λ w. w ∷ ys) head ∙ ap (λ l. z ∷ l) (one_alone ys zs left.1 right.1 tails)
 
+  -- a list has one order
+  pub one_order : (xs one other : List X) → IsSortedBy lt one → IsStableBy lt xs one → IsSortedBy lt other → IsStableBy lt xs other → one ≡ other
+  one_order xs one other sorted stable sorted' stable' =
+      one_alone one other (rises_sorted one sorted) (rises_sorted other sorted') (λ x. stable x ∙ sym (stable' x))
+
 -- ---- rows
 
-compared_ranks : IsStrictWeakOrder (λ r q. is_lt (compared r q))
-compared_ranks =
-    ranks_by (then_total (then_total (on_total (λ (r : Row). r.address) nat_cmp_total) (on_total (λ (r : Row). r.file) nat_cmp_total)) (on_total (λ (r : Row). r.ordinal) nat_cmp_total)) (λ (r : Row). r)
+pub compared_total : IsTotalOrder compared
+compared_total = then_total (then_total (on_total (λ (r : Row). r.address) nat_cmp_total) (on_total (λ (r : Row). r.file) nat_cmp_total)) (on_total (λ (r : Row). r.ordinal) nat_cmp_total)
 
-one_order : (rows one other : List Row) → IsInOrder rows one → IsInOrder rows other → one ≡ other
-one_order rows one other a b =
-    let lt = λ (r : Row) (q : Row). is_lt (compared r q) in
-    one_alone lt compared_ranks one other (rises_sorted lt compared_ranks one a.sorted) (rises_sorted lt compared_ranks other b.sorted)
-    (λ x. a.stable x ∙ sym (b.stable x))
+compared_ranks : IsStrictWeakOrder (λ r q. is_lt (compared r q))
+compared_ranks = ranks_by compared_total (λ (r : Row). r)
+
+one_row_order : (rows one other : List Row) → IsInOrder rows one → IsInOrder rows other → one ≡ other
+one_row_order rows one other a b = one_order (λ r q. is_lt (compared r q)) compared_ranks rows one other a.sorted a.stable b.sorted b.stable
 
 pub one_listing : (reader : Reader Spells StandsFor) (image : Image) (m : Map) (text other : List ℕ) → IsListing reader image m text → IsListing reader image m other → text ≡ other
 one_listing reader image m text other a b =
-    a.shows ∙ ap (flat_map (row_text reader image.segments)) (one_order m.rows a.rows b.rows a.order b.order) ∙ sym b.shows
+    a.shows ∙ ap (flat_map (row_text reader image.segments)) (one_row_order m.rows a.rows b.rows a.order b.order) ∙ sym b.shows

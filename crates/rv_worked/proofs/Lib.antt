@@ -1,3 +1,4 @@
+pub mod Exit7Listing
 pub mod Exit7Program
 pub mod FiguresProgram
 pub mod KnownCodes

@@ -153,3 +153,8 @@ exit7_text =
     ++ (codes "global _edata 11000\nglobal _end 11000\nglobal __global_pointer$ 11800\n"
     ++ (codes "row 1 3 3 10000 0 0\nrow 1 3 4 10000 4 1\n"
     ++ codes "row 1 4 5 10004 4 1\nrow 1 5 6 10008 4 1\n")))
+
+-- its listing
+abbrev pub exit7_listing : List ℕ
+exit7_listing =
+    codes "@ 1 3 4\n10000: addi a0,zero,7\n@ 1 4 5\n10004: addi a7,zero,93\n@ 1 5 6\n10008: ecall\n"

@@ -31,7 +31,7 @@ pub use refused::{
 };
 pub use worked::{
     code_is_aligned, differences_fit, differences_spell, exit7_executes, exit7_fits,
-    exit7_is_limited, exit7_is_written, exit7_links, exit7_loads, exit7_resolves, exit7_runs,
-    exit7_shows, exit255_runs, figures_fit, figures_resolve, figures_spell, hello_fits,
+    exit7_is_limited, exit7_is_written, exit7_links, exit7_lists, exit7_loads, exit7_resolves,
+    exit7_runs, exit7_shows, exit255_runs, figures_fit, figures_resolve, figures_spell, hello_fits,
     hello_holds, hello_resolves, hello_runs, two_files_run,
 };

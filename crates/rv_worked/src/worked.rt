@@ -2,7 +2,7 @@
 
 ghost use Rattle.std.specs.Prelude.{◌≡◌, [], ◌∷◌, Some, None, length, map, codes};
 ghost use Rattle.rv_isa_laws.specs.Hart.{Limit};
-ghost use Rattle.rv_worked.specs.Exit7.{exit7, exit7_map, exit7_text, exit255, exit255_map, first_file, second_file, two_files_map, exits};
+ghost use Rattle.rv_worked.specs.Exit7.{exit7, exit7_map, exit7_text, exit7_listing, exit255, exit255_map, first_file, second_file, two_files_map, exits};
 ghost use Rattle.rv_worked.specs.Exit7Executable.{exit7_file, exit7_image, exit7_linked};
 ghost use Rattle.rv_map.specs.Text.{map_text};
 ghost use Rattle.rv_image.specs.Executable.{exe_of};
@@ -14,6 +14,7 @@ ghost use Rattle.rv_compress.specs.Parcel.{StandsFor};
 ghost use Rattle.rv_isa_laws.specs.Reader.{Reader};
 ghost use Rattle.rv_isa_laws.specs.Run.{machine_run};
 ghost use Rattle.rv_chain_laws.specs.Contents.{IsLinked};
+ghost use Rattle.rv_listing_laws.specs.SourceListing.{IsSourceListing};
 ghost use Rattle.rv_worked.specs.Data.{hello, hello_map, says_hello, hello_text, figures, figures_map, figures_data, differences, differences_map, differences_data};
 ghost use Rattle.rv_worked.specs.CodeAlignment.{two_sections, with_gap, without_gap};
 ghost use Rattle.rv_worked.specs.Regions.{text_sections, text_bytes, rodata_bytes, data_bytes};
@@ -22,6 +23,7 @@ ghost use Rattle.rv_unit_laws.specs.declared.section_type.SectionType.TheVariant
 ghost use Rattle.rv_unit_laws.specs.Sections.{section_of};
 ghost use Rattle.rv_unit_laws.specs.Tables.{binding_of};
 ghost use Rattle.rv_source_laws.specs.Fits.{Fits, Holds, gaps_of};
+ghost use Rattle.rv_source_laws.specs.Program.{program};
 ghost use Rattle.rv_source_laws.specs.Resolves.{Resolves};
 ghost use Rattle.rv_source_laws.specs.SourceRun.{source_run};
 
@@ -55,6 +57,11 @@ pub fn exit7_resolves()
 /// The text of the program's map.
 pub fn exit7_shows()
     ensures { map_text exit7_map ≡ exit7_text }
+{}
+
+/// Its listing, by its statements alone: the label has no line.
+pub fn exit7_lists()
+    ensures { IsSourceListing (program (exit7 ∷ []) exit7_map) exit7_listing }
 {}
 
 /// The program is linked with its 12 bytes of code at 10000h.

@@ -2,6 +2,7 @@ use Rattle.std.proofs.Common.{map, sym, subst}
 use Rattle.rv_statement.specs.View.{now_of}
 use Rattle.rv_chain_laws.specs.Headline.{TheHeadline}
 use Rattle.rv_chain.proofs.Headlined.{headlined}
+use Rattle.rv_chain.proofs.Shown.{listed_as}
 use Rattle.rv_chain.proofs.Written.{built_of}
 use Rattle.rv_chain.proofs.building.build.Goals as goal
 
@@ -11,6 +12,11 @@ returns-clause-headline c =
     let start = c.args.options.text_start in
     subst (λ text. TheHeadline texts start c.in_ok-built.built.exe.items text) (sym c.in_ok-built.ensures.map)
     (headlined texts start c.in_ok-linked.linked c.in_ok-built.built.exe.items c.known.ensures c.in_ok-linked.ensures.program c.in_ok-built.ensures.exe)
+
+pub returns-clause-listed : goal.returns-clause-listed
+returns-clause-listed c =
+    listed_as (map now_of c.args.sources.now) c.args.options.text_start c.in_ok-linked.linked c.in_ok-built.built.exe.items c.in_ok-built.built.map.items c.known.ensures
+    c.in_ok-linked.ensures.program c.in_ok-built.ensures.exe c.in_ok-built.ensures.map
 
 pub returns-clause-links : goal.returns-clause-links
 returns-clause-links c =
