@@ -10,6 +10,7 @@ use Rattle.rv_parse_laws.specs.Reading.{Reads}
 use Rattle.rv_parse_laws.specs.Refusals.{Fault as TextFault, Refuses}
 use Rattle.rv_unit_laws.specs.Sections.{most_sections}
 use Rattle.rv_unit_laws.specs.Tables.{longest_section}
+use Rattle.rv_unit_laws.specs.Faults.{Fault as StatementsFault}
 use Rattle.rv_elf.specs.declared.fault.FileFault.{FileFault}
 use Rattle.rv_map.specs.Text.{map_text}
 use Rattle.rv_image.specs.Executable.{exe_of}
@@ -18,7 +19,7 @@ use Rattle.rv_object_file_laws.specs.FirstFault.{first_fault}
 use Rattle.rv_object_file_laws.specs.Known.{IsObject}
 use Rattle.rv_object_file_laws.specs.ObjectOf.{ObjectOf}
 use Rattle.rv_object_file_laws.specs.Written.{HasFile, file_of}
-use Rattle.rv_assemble_laws.specs.Refusals.{statements_fault}
+use Rattle.rv_assemble_laws.specs.Refusals.{statements_fault, IsTooLong}
 use Rattle.rv_assemble_laws.specs.ShownNames.{HasNames}
 use Rattle.rv_assemble_laws.specs.IsObjectOf.{IsObjectOf}
 use Rattle.rv_assemble.specs.FirstFault.{IsFirstFault}
@@ -33,7 +34,7 @@ use Rattle.rv_chain.specs.Objects.{IsObjectFrom, IsObjectIn, AreEach, AreObjects
 use Rattle.rv_chain.specs.Linking.{IsBuiltOf, AreBuilt, AreLinked}
 use Rattle.rv_chain.specs.Refusals.{IsFirstRefused, AreUnlinked, IsRefusedFor}
 use Rattle.rv_chain.specs.LinkRefusals.{IsFirstUnread, AreReadUnlinked, AreUnlinkable}
-use Rattle.rv_chain.specs.Agreement.{IsFileFor, AreFilesFor, IsMemory, IsSame, IsOfLength, AreOfLength, AreBuiltAlike, AreNotUnlinkable, AreNotRefused, AreRefusedAlike, BuildsAsItLinks}
+use Rattle.rv_chain.specs.Agreement.{IsFileFor, AreFilesFor, IsMemory, IsSame, AreBuiltAlike, AreNotUnlinkable, AreNotRefused, AreRefusedAlike, BuildsAsItLinks}
 
 -- ---- lists of objects
 
@@ -71,13 +72,13 @@ abbrev objects_of : (texts files : List (List ℕ)) → AreFilesFor texts files 
 objects_of [] [] h = []
 objects_of [] (file ∷ files) h = absurd h
 objects_of (text ∷ texts) [] h = absurd h
-objects_of (text ∷ texts) (file ∷ files) (h, hs) = h.object ∷ objects_of texts files hs
+objects_of (text ∷ texts) (file ∷ files) (h, hs) = h.made.0 ∷ objects_of texts files hs
 
 are_from : (texts files : List (List ℕ)) (h : AreFilesFor texts files) → AreObjectsFrom texts (objects_of texts files h)
 are_from [] [] h = tt
 are_from [] (file ∷ files) h = absurd h
 are_from (text ∷ texts) [] h = absurd h
-are_from (text ∷ texts) (file ∷ files) (h, hs) = (h.assembled, are_from texts files hs)
+are_from (text ∷ texts) (file ∷ files) (h, hs) = (h.made.1, are_from texts files hs)
 
 is_sound : (o : Object) → IsObject o → IsSound o
 is_sound o h = record {
@@ -90,7 +91,7 @@ are_sound : (texts files : List (List ℕ)) (h : AreFilesFor texts files) → Al
 are_sound [] [] h = tt
 are_sound [] (file ∷ files) h = absurd h
 are_sound (text ∷ texts) [] h = absurd h
-are_sound (text ∷ texts) (file ∷ files) (h, hs) = (is_sound h.object h.kept, are_sound texts files hs)
+are_sound (text ∷ texts) (file ∷ files) (h, hs) = (is_sound h.made.0 h.made.2, are_sound texts files hs)
 
 -- ---- faults of the link
 
@@ -135,6 +136,8 @@ pub record Laws : Type 0 where
   pub one_assembled : (ss : List Statement) (o p : Object) → HasNames ss → IsObjectOf ss o → IsObjectOf ss p → o ≡ p
   pub few : (ss : List Statement) (o : Object) → IsObjectOf ss o → length o.sections ≤ most_sections
   pub brief : (ss : List Statement) (o : Object) → IsObjectOf ss o → AllByRecursion (λ s. (s.loaded && s.executable) ≡ true → size_of s.contents ≤ longest_section) o.sections
+  pub never_long : (ss : List Statement) (o : Object) (f : StatementsFault) → IsObjectOf ss o → IsTooLong ss f → ⊥
+  pub filed : (text : List ℕ) (ss : List Statement) (o : Object) → Reads text ss → IsObjectOf ss o → HasFile o
   pub sound : (o : Object) → IsObject o → HasFile o → length (file_of o) < 2 ^ 64 → first_fault (file_of o) ≡ None
   pub held : (o : Object) → IsObject o → HasFile o → length (file_of o) < 2 ^ 64 → ObjectOf (file_of o) o
   pub one_held : (file : List ℕ) (o p : Object) → ObjectOf file o → ObjectOf file p → o ≡ p
@@ -153,11 +156,15 @@ module _ (laws : Laws) where
   one_in : (file : List ℕ) (o p : Object) → IsObjectIn file o → IsObjectIn file p → o ≡ p
   one_in file o p (sound, is) (good, was) = laws.one_held file o p is was
 
-  in_file : (text file : List ℕ) (h : IsFileFor text file) → IsObjectIn file h.object
+  has_file : (text : List ℕ) (o : Object) → IsObjectFrom text o → HasFile o
+  has_file text o (ss, reads, good, is) = laws.filed text ss o reads is
+
+  in_file : (text file : List ℕ) (h : IsFileFor text file) → IsObjectIn file h.made.0
   in_file text file h =
-      let short : length (file_of h.object) < 2 ^ 64 = subst (λ (f : List ℕ). length f < 2 ^ 64) h.written h.short in (
-        ap first_fault h.written ∙ laws.sound h.object h.kept h.fits short,
-        subst (λ f. ObjectOf f h.object) (sym h.written) (laws.held h.object h.kept h.fits short),
+      let fits : HasFile h.made.0 = has_file text h.made.0 h.made.1 in
+      let short : length (file_of h.made.0) < 2 ^ 64 = subst (λ (f : List ℕ). length f < 2 ^ 64) h.made.3 h.short in (
+        ap first_fault h.made.3 ∙ laws.sound h.made.0 h.made.2 fits short,
+        subst (λ f. ObjectOf f h.made.0) (sym h.made.3) (laws.held h.made.0 h.made.2 fits short),
       )
 
   are_in : (texts files : List (List ℕ)) (h : AreFilesFor texts files) → AreObjectsIn files (objects_of texts files h)
@@ -176,7 +183,7 @@ module _ (laws : Laws) where
   are_small [] [] h = tt
   are_small [] (file ∷ files) h = absurd h
   are_small (text ∷ texts) [] h = absurd h
-  are_small (text ∷ texts) (file ∷ files) (h, hs) = (is_small text h.object h.assembled, are_small texts files hs)
+  are_small (text ∷ texts) (file ∷ files) (h, hs) = (is_small text h.made.0 h.made.1, are_small texts files hs)
 
   -- ---- what is built, linked and refused, of these objects
 
@@ -206,23 +213,22 @@ module _ (laws : Laws) where
       let found = in_middle IsObjectIn first.before first.file first.after os (subst (λ l. AreEach IsObjectIn l os) first.whole inside) in
       let clash : None ≡ Some fault = sym found.1.0 ∙ first.refused in cc
 
-  -- nor is a text, but for a section that becomes too long
-  of_statements : (text : List ℕ) (code : SourceCode) (line : ℕ) (ss : List Statement) → Reads text ss → statements_fault ss ≡ None → IsFirstFault text (sources.At code line)
-      → IsOfLength text (sources.At code line)
-  of_statements text code line ss reads good (inl refuses) = absurd (laws.not_both text ss _ reads refuses)
-  of_statements text code line ss reads good (inr (others, read, inl is)) =
+  -- nor is a text
+  no_fault : (text : List ℕ) (o : Object) (code : SourceCode) (line : ℕ) → IsObjectFrom text o → IsFirstFault text (sources.At code line) → ⊥
+  no_fault text o code line (ss, reads, good, is) (inl refuses) = laws.not_both text ss _ reads refuses
+  no_fault text o code line (ss, reads, good, is) (inr (others, read, inl faulty)) =
       let same : ss ≡ others = laws.one_reading text ss others reads read in
       let none : statements_fault others ≡ None = ap statements_fault (sym same) ∙ good in
-      absurd (let clash : None ≡ Some _ = sym none ∙ is in cc)
-  of_statements text code line ss reads good (inr (others, read, inr (none, long))) = (others, read, long)
+      absurd (let clash : None ≡ Some _ = sym none ∙ faulty in cc)
+  no_fault text o code line (ss, reads, good, is) (inr (others, read, inr (none, long))) =
+      laws.never_long others o _ (subst (λ l. IsObjectOf l o) (laws.one_reading text ss others reads read) is) long
 
   of_source : (texts : List (List ℕ)) (os : List Object) (number : ℕ) (fault : SourceFault) → AreObjectsFrom texts os → IsFirstRefused texts number fault
-      → IsMemory (Source number fault) ⊎ AreOfLength texts (Source number fault)
-  of_source texts os number sources.OutOfMemory from first = inl refl
+      → IsMemory (Source number fault)
+  of_source texts os number sources.OutOfMemory from first = refl
   of_source texts os number (sources.At code line) from first =
       let found = in_middle IsObjectFrom first.before first.text first.after os (subst (λ l. AreEach IsObjectFrom l os) first.whole from) in
-      let is : IsObjectFrom first.text found.0 = found.1 in
-      inr (first, of_statements first.text code line is.0 is.1 is.2 first.refused)
+      absurd (no_fault first.text found.0 code line found.1 first.refused)
 
   reason_or_memory : (os : List Object) (start : ℕ) (fault other : LinkFault) → AllByRecursion IsSound os → AllByRecursion IsSmall os
       → IsUnlinked os start fault → IsUnlinked os start other → WantsOrNot fault → WantsOrNot other
@@ -257,25 +263,20 @@ module _ (laws : Laws) where
   not_refused texts files start exe map (Link fault) h linked refused =
       let os = objects_of texts files h in
       let c : IsBuiltOf os start exe map = linked_of files os start exe map (are_in texts files h) linked in
-      inl (laws.for_memory os start c.linked fault c.links (unlinked_from texts os start fault (are_from texts files h) refused))
-  not_refused texts files start exe map Memory h linked refused = inl tt
+      laws.for_memory os start c.linked fault c.links (unlinked_from texts os start fault (are_from texts files h) refused)
+  not_refused texts files start exe map Memory h linked refused = tt
 
   both_links : (texts files : List (List ℕ)) (start : ℕ) (fault other : LinkFault) (h : AreFilesFor texts files) → IsRefusedFor texts start (Link fault) → AreUnlinkable files start (Link other)
-      → (IsMemory (Link fault) ⊎ AreOfLength texts (Link fault)) ⊎ (IsMemory (Link other) ⊎ IsSame (Link fault) (Link other))
+      → IsMemory (Link fault) ⊎ (IsMemory (Link other) ⊎ IsSame (Link fault) (Link other))
   both_links texts files start fault other h refused un =
       let os = objects_of texts files h in
-      elim (
       reason_or_memory os start fault other (are_sound texts files h) (are_small texts files h)
       (unlinked_from texts os start fault (are_from texts files h) refused) (unlinked_in files os start other (are_in texts files h) un) (wants_or_not fault) (wants_or_not other)
-      ) [
-        | inl is ↦ inl (inl is)
-        | inr same ↦ inr same
-      ]
 
   refused_alike : AreRefusedAlike
   refused_alike texts files start (Source number fault) other h refused un = inl (of_source texts (objects_of texts files h) number fault (are_from texts files h) refused.1)
   refused_alike texts files start (File number fault) other h refused un = absurd refused
-  refused_alike texts files start Memory other h refused un = inl (inl tt)
+  refused_alike texts files start Memory other h refused un = inl tt
   refused_alike texts files start (Link fault) (Source number other) h refused un = absurd un
   refused_alike texts files start (Link fault) (File number other) h refused un = absurd (no_unread files (objects_of texts files h) number other (are_in texts files h) un.1)
   refused_alike texts files start (Link fault) (Link other) h refused un = both_links texts files start fault other h refused un

@@ -7,7 +7,9 @@ use rv_object_file_laws::{one_object, written_object_is_read};
 use rv_one_link_laws::{
     objects_keep_it, one_linked_program, refused_for_one_reason, refused_is_not_linked,
 };
-use rv_one_object_laws::{objects_are_small, one_object_of_statements};
+use rv_one_object_laws::{
+    objects_are_not_too_long, objects_are_small, objects_have_files, one_object_of_statements,
+};
 use rv_parse_laws::{not_both, one_reading};
 
 /// What `build` makes of sources, `link_objects` makes of the files of their objects: the same executable and the same map,
@@ -20,6 +22,8 @@ pub fn builds_as_it_links()
     names_are_shown();
     one_object_of_statements();
     objects_are_small();
+    objects_are_not_too_long();
+    objects_have_files();
     written_object_is_read();
     one_object();
     one_linked_program();

@@ -1,6 +1,8 @@
 mod Parcels
 mod OneCode
+mod CodeSizes
 mod Pairs
+mod Said
 mod OneSize
 mod Recoded
 mod OneTable
@@ -10,6 +12,7 @@ mod LoneSymbols
 mod OneNumber
 mod OneObject
 mod Small
+mod NotTooLong
 mod Weights
 mod ValueWeights
 mod UseWeights

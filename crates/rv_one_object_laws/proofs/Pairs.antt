@@ -33,13 +33,17 @@ located_pairs (x ∷ xs) (y ∷ ys) e =
     let both = front x.located y.located (map (λ s. s.located) xs) (map (λ s. s.located) ys) e in
     (both.0, located_pairs xs ys both.1)
 
-pub bytes_pairs : (xs ys : List Site) → Pairs SameLocated xs ys → map (λ s. s.bytes) xs ≡ map (λ s. s.bytes) ys → Pairs SameBytes xs ys
-bytes_pairs [] [] l e = tt
-bytes_pairs [] (y ∷ ys) l e = absurd l
-bytes_pairs (x ∷ xs) [] l e = absurd l
-bytes_pairs (x ∷ xs) (y ∷ ys) (l, ls) e =
-    let both = front x.bytes y.bytes (map (λ s. s.bytes) xs) (map (λ s. s.bytes) ys) e in
-    ((l, both.0), bytes_pairs xs ys ls both.1)
+-- one statement in both, with the same number of some kind
+abbrev pub SameBy : (Site → ℕ) → Site → Site → Type 0
+SameBy f x y = (x.located ≡ y.located) × (f x ≡ f y)
+
+pub pairs_by : (f : Site → ℕ) (xs ys : List Site) → Pairs SameLocated xs ys → map f xs ≡ map f ys → Pairs (SameBy f) xs ys
+pairs_by f [] [] l e = tt
+pairs_by f [] (y ∷ ys) l e = absurd l
+pairs_by f (x ∷ xs) [] l e = absurd l
+pairs_by f (x ∷ xs) (y ∷ ys) (l, ls) e =
+    let both = front (f x) (f y) (map f xs) (map f ys) e in
+    ((l, both.0), pairs_by f xs ys ls both.1)
 
 -- ---- those of a section
 
@@ -103,3 +107,22 @@ all_in P sections j home at (s ∷ ss) (h, hs) (p, ps) = go (s.located.section =
         let same : s.located.home ≡ home = cc in
         ((same, p), rest)
     go false e rest = rest
+
+-- ---- one list
+
+in_first : (P : Site → Type 0) (b : Bool) → b ≡ true → (x : Site) (xs : List Site) → AllByRecursion P (kept b x xs) → P x
+in_first P true e x xs h = h.0
+in_first P false e x xs h = absurd (cc)
+
+in_others : (P : Site → Type 0) (b : Bool) (x : Site) (xs : List Site) → AllByRecursion P (kept b x xs) → AllByRecursion P xs
+in_others P true x xs h = h.1
+in_others P false x xs h = h
+
+pub all_from : (P : Site → Type 0) (sections : List Section) (xs : List Site) → AllByRecursion (IsHome sections) xs
+    → ((j : ℕ) (home : Section) → slice_get sections j ≡ Some home → AllByRecursion P (sites_in j xs)) → AllByRecursion P xs
+all_from P sections [] h f = tt
+all_from P sections (x ∷ xs) (h, hs) f =
+    let k = x.located.section in (
+      in_first P (k == k) (eq-eqb k k refl) x (sites_in k xs) (f k x.located.home h),
+      all_from P sections xs hs (λ j home at. in_others P (x.located.section == j) x (sites_in j xs) (f j home at)),
+    )

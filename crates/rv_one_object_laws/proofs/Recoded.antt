@@ -14,8 +14,9 @@ use Rattle.rv_assemble_laws.specs.Coded.{constants}
 use Rattle.rv_assemble_laws.specs.Sites.{Site, form, coded_templates, templates, parts_of, parts, part_of, sites_in, Tile, end_of, HasSize}
 use Rattle.rv_assemble_laws.specs.IsObjectOf.{row_of, rows_at}
 use Rattle.rv_one_object_laws.proofs.OneCode.{IsOneCode, code_one}
-use Rattle.rv_one_object_laws.proofs.OneSize.{IsSaid, directive_one}
+use Rattle.rv_one_object_laws.proofs.OneSize.{directive_one}
 use Rattle.rv_one_object_laws.proofs.Pairs.{Pairs, SameBytes}
+use Rattle.rv_one_object_laws.proofs.Said.{IsSaid}
 
 -- ---- offsets
 

@@ -6,8 +6,10 @@ ghost use Rattle.rv_statement.specs.Statement.{Statement};
 ghost use Rattle.rv_parse_laws.specs.Reading.{Reads};
 ghost use Rattle.rv_unit_laws.specs.Sections.{most_sections};
 ghost use Rattle.rv_unit_laws.specs.Tables.{longest_section};
+ghost use Rattle.rv_unit_laws.specs.Faults.{Fault};
 ghost use Rattle.rv_object.specs.Object.{Object, size_of};
 ghost use Rattle.rv_object_file_laws.specs.Written.{HasFile};
+ghost use Rattle.rv_assemble_laws.specs.Refusals.{IsTooLong};
 ghost use Rattle.rv_assemble_laws.specs.ShownNames.{HasNames};
 ghost use Rattle.rv_assemble_laws.specs.IsObjectOf.{IsObjectOf};
 
@@ -26,6 +28,13 @@ pub fn objects_are_small()
     ensures short { (statements : List Statement) (o : Object) → IsObjectOf statements o →
         AllByRecursion (λ s. (s.loaded && s.executable) ≡ true →
         size_of s.contents ≤ longest_section) o.sections }
+{}
+
+/// Statements that have an object are not refused for a section of code that becomes too long: the sizes of their code are
+/// those that the object has for it.
+pub fn objects_are_not_too_long()
+    ensures { (statements : List Statement) (o : Object) (f : Fault) →
+        IsObjectOf statements o → IsTooLong statements f → ⊥ }
 {}
 
 /// The object of a source has a file: its sections have numbers of 16 bits, and its symbols and its tables of names
