@@ -49,6 +49,8 @@ impl<'a> Draft<'a> {
         }
         let lengths = lengths(alloc, unit)?;
         let code = code(alloc, unit, lengths.as_slice())?;
+        // the lengths make room for the items
+        drop(lengths);
         let sizes = code.sizes.as_slice();
         let (items, ends) = items(alloc, unit, sizes)?;
         // the code of each statement was found before

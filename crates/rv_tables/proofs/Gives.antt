@@ -16,6 +16,10 @@ pub on_ok : {A E : Type 0} (r : Result A E) (P Q : Type 0) → (P → Q) → OnO
 on_ok (Ok a) P Q f h = f h
 on_ok (Err e) P Q f h = h
 
+pub both_ok : {A E : Type 0} (r : Result A E) (P Q : Type 0) → OnOk r P → OnOk r Q → OnOk r (P × Q)
+both_ok (Ok a) P Q p q = (p, q)
+both_ok (Err e) P Q p q = p
+
 -- where the symbol of a value is `.`, it means what `.` does
 assigned_symbol : (means : Primary → values.Meaning) (name : List ℕ) (o : ℕ) (p : Primary) (at here : values.Meaning) (plus : ℕ) → at ≡ means p → here ≡ means Here → laws.assigned name o (values.Symbolic p at plus) ≡ laws.assigned name o (values.Symbolic p here plus)
 assigned_symbol means name o Here at here plus is same = ap (λ m. laws.assigned name o (values.Symbolic Here m plus)) (is ∙ sym same)

@@ -1,7 +1,7 @@
 mod Bound
 mod Digits
 mod Gives
-mod Indices
 pub mod Lookups
+mod Numbered
 mod Ordered
 pub mod Filling

@@ -40,7 +40,7 @@ some_last : {X : Type 0} (x y : X) (ys : List X) → or_else (slice_get (y ∷ y
 some_last x y [] = refl
 some_last x y (z ∷ zs) = some_last x z zs
 
-last_more : {X : Type 0} (x : X) (xs : List X) → slice_get (x ∷ xs) (length xs) ≡ or_else (slice_get xs (length xs - 1)) (Some x)
+pub last_more : {X : Type 0} (x : X) (xs : List X) → slice_get (x ∷ xs) (length xs) ≡ or_else (slice_get xs (length xs - 1)) (Some x)
 last_more x [] = refl
 last_more x (y ∷ ys) = sym (ap (λ n. or_else (slice_get (y ∷ ys) n) (Some x)) (let e : length (y ∷ ys) - 1 ≡ length ys = omega arith in e) ∙ some_last x y ys)
 
@@ -78,10 +78,7 @@ first_found {X} {Y} f p q (x ∷ xs) = by (q (f x)) (p (f x)) refl (first_found 
     by false true e rest = rest
     by false false e rest = rest
 
-pub after_found : {X Y : Type 0} (f : X → Y) (p q : Y → Bool) (xs : List X) → option_map f (find (λ x. p (f x)) (filter (λ x. q (f x)) xs)) ≡ find (λ y. p y && q y) (reverse (reverse (map f xs)))
-after_found f p q xs = first_found f p q xs ∙ sym (ap (find (λ y. p y && q y)) (reverse-reverse (map f xs)))
-
-filter_reversed : {X : Type 0} (q : X → Bool) (xs : List X) → filter q (reverse xs) ≡ reverse (filter q xs)
+pub filter_reversed : {X : Type 0} (q : X → Bool) (xs : List X) → filter q (reverse xs) ≡ reverse (filter q xs)
 filter_reversed q [] = refl
 filter_reversed q (x ∷ xs) =
     ap (filter q) (reverse-append (x ∷ []) xs) ∙ filter-append q (reverse xs) (x ∷ []) ∙ ap (λ l. l ++ filter q (x ∷ [])) (filter_reversed q xs) ∙ by (q x)
@@ -90,7 +87,7 @@ filter_reversed q (x ∷ xs) =
     by true = sym (reverse-append (x ∷ []) (filter q xs))
     by false = append-nil (reverse (filter q xs))
 
-map_reversed : {X Y : Type 0} (f : X → Y) (xs : List X) → map f (reverse xs) ≡ reverse (map f xs)
+pub map_reversed : {X Y : Type 0} (f : X → Y) (xs : List X) → map f (reverse xs) ≡ reverse (map f xs)
 map_reversed f [] = refl
 map_reversed f (x ∷ xs) =
     ap (map f) (reverse-append (x ∷ []) xs) ∙ map-append f (reverse xs) (x ∷ []) ∙ ap (λ l. l ++ f x ∷ []) (map_reversed f xs) ∙ sym (reverse-append (f x ∷ []) (map f xs))
@@ -123,7 +120,7 @@ falls_last at (y ∷ ys) m h =
       ap (λ b. b && list_all (λ k. nat_lt (at m) (at k)) ys) one.0 ∙ rest.1,
     )
 
-rises_of : {X Y : Type 0} (f : X → Y) (at : Y → ℕ) (xs : List X) → falls at (reverse (map f xs)) ≡ true → rises (λ x. at (f x)) xs ≡ true
+pub rises_of : {X Y : Type 0} (f : X → Y) (at : Y → ℕ) (xs : List X) → falls at (reverse (map f xs)) ≡ true → rises (λ x. at (f x)) xs ≡ true
 rises_of f at [] h = refl
 rises_of {X} {Y} f at (x ∷ xs) h =
     let later : Y → Bool = λ y. nat_lt (at (f x)) (at y) in
@@ -131,7 +128,7 @@ rises_of {X} {Y} f at (x ∷ xs) h =
     let all : list_all later (map f xs) ≡ true = sym (ap (list_all later) (reverse-reverse (map f xs))) ∙ all_reversed later (reverse (map f xs)) parts.1 in
     ap (λ b. b && rises (λ y. at (f y)) xs) (sym (all_unmapped f later xs) ∙ all) ∙ rises_of f at xs parts.0
 
-all_kept : {X : Type 0} (p q : X → Bool) (xs : List X) → list_all p xs ≡ true → list_all p (filter q xs) ≡ true
+pub all_kept : {X : Type 0} (p q : X → Bool) (xs : List X) → list_all p xs ≡ true → list_all p (filter q xs) ≡ true
 all_kept p q [] h = refl
 all_kept p q (x ∷ xs) h =
     let both = and_both (p x) (list_all p xs) h in
@@ -156,7 +153,7 @@ all_at p [] j d h inside = absurd (omega arith)
 all_at p (x ∷ xs) zero d h inside = (and_both (p x) (list_all p xs) h).0
 all_at p (x ∷ xs) (suc j) d h inside = all_at p xs j d (and_both (p x) (list_all p xs) h).1 (omega arith)
 
-rising : {X : Type 0} (at : X → ℕ) (xs : List X) → rises at xs ≡ true → (i j : ℕ) (d : X) → i ≤ j → j < length xs → at (slice_index_or xs i d) ≤ at (slice_index_or xs j d)
+pub rising : {X : Type 0} (at : X → ℕ) (xs : List X) → rises at xs ≡ true → (i j : ℕ) (d : X) → i ≤ j → j < length xs → at (slice_index_or xs i d) ≤ at (slice_index_or xs j d)
 rising at [] h i j d le inside = absurd (omega arith)
 rising at (x ∷ xs) h zero zero d le inside = omega arith
 rising at (x ∷ xs) h zero (suc j) d le inside =

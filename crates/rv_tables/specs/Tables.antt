@@ -1,6 +1,6 @@
 -- What the tables of the code stand for.
 
-use Rattle.std.specs.Prelude.{◌≡◌, ◌==◌, ℕ, List, [], Some, map, filter, reverse, slice_get, unwrap_or}
+use Rattle.std.specs.Prelude.{◌≡◌, ◌==◌, ℕ, List, [], ◌∷◌, nat_lt, map, filter, reverse, unwrap_or, if◌then◌else◌}
 use Rattle.std.specs.Option.{option_map_or}
 use Rattle.std.specs.declared.vec.Vec.{Vec}
 use Rattle.std.specs.Borrow.{Bor}
@@ -26,9 +26,31 @@ labelled_of e = record { name = e.0.now; ordinal = e.1.ordinal; place = offset_o
 abbrev pub label_at : List ℕ → Label → laws.Labelled
 label_at name l = record { name = name; ordinal = l.ordinal; place = offset_of l.place }
 
-abbrev pub numeric_label_of : NumericLabel → laws.NumericLabel
-numeric_label_of m =
-    record { number = value 10 m.digits.now; ordinal = m.ordinal; place = offset_of m.place }
+abbrev pub numeric_label_at : ℕ → NumericLabel → laws.NumericLabel
+numeric_label_at number m =
+    record { number = number; ordinal = m.ordinal; place = offset_of m.place }
+
+-- the numeric labels of a number
+abbrev pub numeric_labels_of : {Z : Type 0} → Number × Vec NumericLabel Z → List laws.NumericLabel
+numeric_labels_of e = map (numeric_label_at (value 10 e.0.digits.now)) e.1.items
+
+-- a numeric label among others, the latest first: before those that are earlier
+abbrev pub put_in_order : laws.NumericLabel → List laws.NumericLabel → List laws.NumericLabel
+put_in_order m [] = m ∷ []
+put_in_order m (x ∷ xs) =
+    if nat_lt x.ordinal m.ordinal then m ∷ x ∷ xs else x ∷ put_in_order m xs
+
+-- numeric labels among others, one by one
+abbrev pub put_all_in_order : List laws.NumericLabel → List laws.NumericLabel →
+    List laws.NumericLabel
+put_all_in_order [] others = others
+put_all_in_order (m ∷ ms) others = put_in_order m (put_all_in_order ms others)
+
+-- those of all numbers, the latest first
+abbrev pub numeric_labels_in : {Z : Type 0} → List (Number × Vec NumericLabel Z) →
+    List laws.NumericLabel
+numeric_labels_in [] = []
+numeric_labels_in (e ∷ es) = put_all_in_order (numeric_labels_of e) (numeric_labels_in es)
 
 abbrev pub assignment_of : Assignment → laws.Assignment
 assignment_of s =
@@ -39,34 +61,26 @@ abbrev pub binding_in : {S : Type 0} → IndexMap (Bor (List ℕ)) Binding S →
 binding_in bindings name =
     unwrap_or (get_by (λ (k : Bor (List ℕ)). bytes_eq name k.now) bindings) Local
 
--- the tables, of which the code has assignments, numeric labels and kept options with the latest
--- last
+-- the tables, of which the code has assignments and kept options with the latest last, and numeric
+-- labels by their numbers
 abbrev pub tables_of : Tables → laws.Tables
 tables_of b = record {
   extents = map extent_of b.extents.items;
   current = b.current;
   labels = map labelled_of b.labels.entries;
-  numeric_labels = reverse (map numeric_label_of b.numeric_labels.items);
+  numeric_labels = numeric_labels_in b.numbered.entries;
   assignments = reverse (map assignment_of b.assignments.items);
   options = options_of b.options;
   kept = reverse (map options_of b.kept.items);
   bindings = λ name. binding_in b.bindings name;
 }
 
--- the indices of the numeric labels of a number
-abbrev pub indices_at : {Z S : Type 0} → IndexMap Number (Vec ℕ Z) S → ℕ → List ℕ
-indices_at numbered number =
-    option_map_or (λ indices. indices.items)
+-- the numeric labels of a number, the latest last
+abbrev pub numbered_at : {Z S : Type 0} → IndexMap Number (Vec NumericLabel Z) S → ℕ →
+    List NumericLabel
+numbered_at numbered number =
+    option_map_or (λ labels. labels.items)
     (get_by (λ (k : Number). number == value 10 k.digits.now) numbered) []
-
--- the items of a list that stand at these indices, one after the other, are some
-abbrev pub AreAt : {X : Type 0} → List X → List ℕ → List X → Type 0
-AreAt items indices some = map (slice_get items) indices ≡ map Some some
-
--- the ordinal of the numeric label at an index
-abbrev pub ordinal_in : List NumericLabel → ℕ → ℕ
-ordinal_in numeric_labels index =
-    option_map_or (λ (m : NumericLabel). m.ordinal) (slice_get numeric_labels index) 0
 
 -- the assignments of a name
 abbrev pub assignments_at : {Z S : Type 0} → IndexMap (Bor (List ℕ)) (Vec Assignment Z) S →
@@ -75,8 +89,7 @@ assignments_at by_name name =
     option_map_or (λ assignments. assignments.items)
     (get_by (λ (k : Bor (List ℕ)). bytes_eq name k.now) by_name) []
 
--- what is looked up by name or number is what a search would find; of numeric labels it has the
--- indices
+-- what is looked up by name or number is what a search would find
 pub record IsIndexed (b : Tables) : Type 0 where
   pub numbers : (name : List ℕ) →
       get_by (λ (k : Bor (List ℕ)). bytes_eq name k.now) b.numbers
@@ -85,6 +98,5 @@ pub record IsIndexed (b : Tables) : Type 0 where
       assignments_at b.by_name name
       ≡ filter (λ (g : Assignment). bytes_eq g.name.now name) b.assignments.items
   pub numbered : (digits : List ℕ) →
-      AreAt b.numeric_labels.items (indices_at b.numbered (value 10 digits))
-      (filter (λ (m : NumericLabel). value 10 m.digits.now == value 10 digits)
-      b.numeric_labels.items)
+      reverse (map (numeric_label_at (value 10 digits)) (numbered_at b.numbered (value 10 digits)))
+      ≡ filter (λ (m : laws.NumericLabel). m.number == value 10 digits) (tables_of b).numeric_labels

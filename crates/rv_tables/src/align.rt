@@ -87,23 +87,20 @@ pub fn padding(alignment: Option<u32>, offset: u32) -> u64
 }
 
 /// So many bytes at an offset, where they do not pass the longest section.
-pub(crate) fn fitting(offset: u64, bytes: u64) -> u64
+pub(crate) fn fitting(offset: u32, bytes: u64) -> u64
     ensures { result ≡ laws.within offset bytes }
 {
-    match offset.checked_add(bytes) {
+    match u64::from(offset).checked_add(bytes) {
         Some(end) => if end <= LONGEST_SECTION { bytes } else { 0 },
         None => 0,
     }
 }
 
 /// The bytes from an offset to the next multiple of an alignment, where they do not pass the longest section.
-pub(crate) fn fitting_padding(alignment: Option<u32>, offset: u64) -> u64
+pub(crate) fn fitting_padding(alignment: Option<u32>, offset: u32) -> u64
     ensures { result ≡ laws.within offset (laws.padding alignment offset) }
 {
-    if offset > LONGEST_SECTION {
-        return 0;
-    }
-    fitting(offset, padding(alignment, offset as u32))
+    fitting(offset, padding(alignment, offset))
 }
 
 /// The bytes of a value of data.

@@ -190,7 +190,8 @@ impl<'a> Tables<'a> {
             (IsIndexed self.old → IsBefore (tables_of self.old) ordinal →
             tables_of self.new
             ≡ laws.after (tables_of self.old) ordinal (statement_kind kind.now)) }
-        ensures indexed { OnOk result (IsIndexed self.old → IsIndexed self.new) }
+        ensures indexed { OnOk result
+            (IsIndexed self.old → IsBefore (tables_of self.old) ordinal → IsIndexed self.new) }
     {
         match kind {
             StatementKind::Label(name) => self.add_label(ordinal, *name),
@@ -227,7 +228,8 @@ impl<'a> Tables<'a> {
             (IsIndexed self.old → IsBefore (tables_of self.old) ordinal →
             tables_of self.new
             ≡ laws.after (tables_of self.old) ordinal (statement_kind kind.now)) }
-        ensures indexed { OnOk result (IsIndexed self.old → IsIndexed self.new) }
+        ensures indexed { OnOk result
+            (IsIndexed self.old → IsBefore (tables_of self.old) ordinal → IsIndexed self.new) }
         ensures place { IfOk result
             (λ place. IsIndexed self.old → IsBefore (tables_of self.old) ordinal →
             offset_of place ≡ laws.stood (tables_of self.old) ordinal (statement_kind kind.now)) }

@@ -1,6 +1,6 @@
 //! Sections and their flags.
 
-ghost use Rattle.std.specs.Prelude.{◌≡◌, ◌+◌, max, None, option_map};
+ghost use Rattle.std.specs.Prelude.{◌≡◌, ◌+◌, max, None, option_map, IfSome};
 ghost use Rattle.rv_statement.specs.Sections.{standard_name};
 ghost use Rattle.rv_statement.specs.View.{now_of, quoted};
 ghost use Rattle.rv_unit_laws.specs.Sections as laws;
@@ -29,14 +29,26 @@ pub struct Section<'a> {
 pub struct Extent<'a> {
     pub section: Section<'a>,
     /// The bytes of its data; those of code are not counted.
-    pub bytes: u64,
+    pub bytes: u32,
     /// The greatest of its statements' alignments, in bytes.
     pub alignment: u32,
 }
 
 impl<'a> Extent<'a> {
+    /// Its end with so many bytes more, which one of code does not count; none where 32 bits don't show it.
+    pub(crate) fn end_after(&self, bytes: u64) -> Option<u32>
+        ensures { IfSome result (λ end. end
+            ≡ (self.now).bytes + tables.counted_in (section_of (self.now).section) bytes) }
+    {
+        let end = u64::from(self.bytes).checked_add(self.section.counted(bytes))?;
+        if end > u64::from(u32::MAX) {
+            return None;
+        }
+        Some(end as u32)
+    }
+
     /// With an end further on, and one more alignment.
-    pub(crate) fn longer(self, end: u64, alignment: Option<u32>) -> Self
+    pub(crate) fn longer(self, end: u32, alignment: Option<u32>) -> Self
         ensures section { section_of result.section ≡ section_of (self.entry).section }
         ensures bytes { result.bytes ≡ end }
         ensures alignment { result.alignment

@@ -6,7 +6,7 @@ pub struct SectionOffset {
     /// The index of its section in the source, from 0.
     pub section: u32,
     /// The bytes of data before it in that section.
-    pub offset: u64,
+    pub offset: u32,
 }
 
 /// The definition of a symbol in this source.

@@ -14,12 +14,12 @@ ghost use Rattle.rv_unit_laws.specs.Sections as sections;
 ghost use Rattle.rv_unit_laws.specs.Tables as laws;
 ghost use Rattle.rv_unit_laws.proofs.Before.{IsBefore, placed_latest};
 ghost use Rattle.rv_tables.specs.Sections.{section_of, offset_of};
-ghost use Rattle.rv_tables.specs.Tables.{tables_of, label_at, numeric_label_of, assignment_of, IsIndexed};
+ghost use Rattle.rv_tables.specs.Tables.{tables_of, label_at, numeric_label_at, assignment_of, IsIndexed};
 
 use crate::assignments::{add_assigned, latest_before};
 use crate::bindings::bind_all;
 use crate::number::Number;
-use crate::numeric_labels::{add_numbered, at_last, first_after, last_before};
+use crate::numeric_labels::{add_numbered, first_after, last_before};
 use crate::options::Options;
 use crate::section::{Extent, Section};
 use crate::section_offset::SectionOffset;
@@ -40,12 +40,11 @@ pub struct Label {
     pub place: SectionOffset,
 }
 
-/// A numeric label, by its digits.
+/// A numeric label of a number: the ordinal of its statement, and where it stands.
 #[derive(Clone, Copy, Drop)]
-pub struct NumericLabel<'a> {
-    pub digits: &'a [u8],
+pub struct NumericLabel {
     /// The ordinal of its statement, from 1.
-    pub ordinal: usize,
+    pub ordinal: u32,
     pub place: SectionOffset,
 }
 
@@ -78,9 +77,8 @@ pub struct Tables<'a> {
     /// The number of the current one.
     pub(crate) current: u32,
     pub(crate) labels: IndexMap<&'a [u8], Label>,
-    /// The numeric labels in their order, and the indices of those of each number.
-    pub(crate) numeric_labels: Vec<NumericLabel<'a>>,
-    pub(crate) numbered: IndexMap<Number<'a>, Vec<u32>>,
+    /// The numeric labels of each number, in their order.
+    pub(crate) numbered: IndexMap<Number<'a>, Vec<NumericLabel>>,
     /// The assignments in their order, and those of each name.
     pub assignments: Vec<Assignment<'a>>,
     pub(crate) by_name: IndexMap<&'a [u8], Vec<Assignment<'a>>>,
@@ -111,7 +109,6 @@ impl<'a> Tables<'a> {
             numbers,
             current: 0,
             labels: IndexMap::new(alloc),
-            numeric_labels: Vec::new(alloc),
             numbered: IndexMap::new(alloc),
             assignments: Vec::new(alloc),
             by_name: IndexMap::new(alloc),
@@ -132,7 +129,7 @@ impl<'a> Tables<'a> {
     }
 
     /// The bytes of data so far in the current section.
-    pub(crate) fn offset(&self) -> u64
+    pub(crate) fn offset(&self) -> u32
         ensures { result ≡ (laws.here (tables_of self.now)).offset }
     {
         match self.extents.get(self.current as usize) {
@@ -160,7 +157,7 @@ impl<'a> Tables<'a> {
         if self.section_at(place.section).executable {
             Meaning::Open
         } else {
-            Meaning::InSection(place.section, place.offset)
+            Meaning::InSection(place.section, u64::from(place.offset))
         }
     }
 
@@ -215,44 +212,40 @@ impl<'a> Tables<'a> {
     }
 
     /// The latest numeric label of a number.
-    pub(crate) fn latest_numeric_label(&self, digits: &[u8]) -> Option<NumericLabel<'a>>
+    pub(crate) fn latest_numeric_label(&self, digits: &[u8]) -> Option<NumericLabel>
         ensures { IsIndexed self.now →
-            option_map numeric_label_of result
+            option_map (numeric_label_at (digits_value 10 digits.now)) result
             ≡ find (λ m. m.number == digits_value 10 digits.now)
             (tables_of self.now).numeric_labels }
     {
         match self.numbered.get(Number { digits }) {
-            Some(indices) => at_last(self.numeric_labels.as_slice(), indices.as_slice()),
+            Some(numeric_labels) => numeric_labels.as_slice().last().copied(),
             None => None,
         }
     }
 
     /// The nearest numeric label before an ordinal.
-    pub fn numeric_label_before(&self, ordinal: usize, digits: &[u8]) -> Option<NumericLabel<'a>>
+    pub fn numeric_label_before(&self, ordinal: usize, digits: &[u8]) -> Option<NumericLabel>
         ensures { IsIndexed self.now → (o : ℕ) → IsBefore (tables_of self.now) o →
-            option_map numeric_label_of result
+            option_map (numeric_label_at (digits_value 10 digits.now)) result
             ≡ laws.numeric_label_before (tables_of self.now).numeric_labels ordinal
             (digits_value 10 digits.now) }
     {
         match self.numbered.get(Number { digits }) {
-            Some(indices) => {
-                last_before(self.numeric_labels.as_slice(), indices.as_slice(), ordinal)
-            }
+            Some(numeric_labels) => last_before(numeric_labels.as_slice(), ordinal),
             None => None,
         }
     }
 
     /// The nearest numeric label after an ordinal.
-    pub fn numeric_label_after(&self, ordinal: usize, digits: &[u8]) -> Option<NumericLabel<'a>>
+    pub fn numeric_label_after(&self, ordinal: usize, digits: &[u8]) -> Option<NumericLabel>
         ensures { IsIndexed self.now → (o : ℕ) → IsBefore (tables_of self.now) o →
-            option_map numeric_label_of result
+            option_map (numeric_label_at (digits_value 10 digits.now)) result
             ≡ laws.numeric_label_after (tables_of self.now).numeric_labels ordinal
             (digits_value 10 digits.now) }
     {
         match self.numbered.get(Number { digits }) {
-            Some(indices) => {
-                first_after(self.numeric_labels.as_slice(), indices.as_slice(), ordinal)
-            }
+            Some(numeric_labels) => first_after(numeric_labels.as_slice(), ordinal),
             None => None,
         }
     }
@@ -400,27 +393,25 @@ impl<'a> Tables<'a> {
         digits: &'a [u8],
     ) -> Result<(), AllocError>
         ensures tables { OnOk result
-            (tables_of self.new
+            (IsBefore (tables_of self.old) ordinal →
+            tables_of self.new
             ≡ laws.with_numeric_label (tables_of self.old) ordinal (digits_value 10 digits.now)) }
-        ensures indexed { OnOk result (IsIndexed self.old → IsIndexed self.new) }
+        ensures indexed { OnOk result
+            (IsIndexed self.old → IsBefore (tables_of self.old) ordinal → IsIndexed self.new) }
     {
-        // no index of 32 bits is left for one more; no source comes near
-        let count = self.numeric_labels.len();
-        if count > u32::MAX as usize {
+        // ordinals have 32 bits; no source comes near
+        if ordinal > u32::MAX as usize {
             return Err(AllocError);
         }
-        let index = count as u32;
-        let place = self.here();
-        self.numeric_labels.push(NumericLabel {
-            digits,
-            ordinal,
-            place,
-        })?;
+        let label = NumericLabel {
+            ordinal: ordinal as u32,
+            place: self.here(),
+        };
         add_numbered(
-            *self.numeric_labels.allocator(),
+            *self.extents.allocator(),
             &mut self.numbered,
             Number { digits },
-            index,
+            label,
         )
     }
 
@@ -464,7 +455,7 @@ impl<'a> Tables<'a> {
             return Ok(());
         }
         let extent = self.extents[number];
-        match extent.bytes.checked_add(extent.section.counted(bytes)) {
+        match extent.end_after(bytes) {
             Some(end) => {
                 self.extents[number] = extent.longer(end, alignment);
                 Ok(())

@@ -102,10 +102,10 @@ pub(crate) fn value_fault(width: u64, value: &Outcome<'_>) -> Option<SourceCode>
 }
 
 /// The fault of data at an offset.
-pub(crate) fn past_section(executable: bool, offset: u64, bytes: u64) -> Option<SourceCode>
+pub(crate) fn past_section(executable: bool, offset: u32, bytes: u64) -> Option<SourceCode>
     ensures { IsLowest result (laws.past_section executable offset bytes) }
 {
-    let past = match offset.checked_add(bytes) {
+    let past = match u64::from(offset).checked_add(bytes) {
         Some(end) => end > LONGEST_SECTION,
         None => true,
     };
@@ -113,7 +113,7 @@ pub(crate) fn past_section(executable: bool, offset: u64, bytes: u64) -> Option<
 }
 
 /// The fault of data at an offset, but for the faults of its values.
-pub(crate) fn data_fault(section: Section<'_>, offset: u64, bytes: u64) -> Option<SourceCode>
+pub(crate) fn data_fault(section: Section<'_>, offset: u32, bytes: u64) -> Option<SourceCode>
     ensures { IsLowest result
         (laws.faulty_if
         (section.entry.executable || is_nobits (section_of section.entry)) wrong_section
@@ -129,7 +129,7 @@ pub(crate) fn data_fault(section: Section<'_>, offset: u64, bytes: u64) -> Optio
 /// The fault of zero bytes, by the value of their count.
 pub(crate) fn zero_fault(
     section: Section<'_>,
-    offset: u64,
+    offset: u32,
     value: &Outcome<'_>,
 ) -> Option<SourceCode>
     ensures { ForValue value.now
@@ -158,7 +158,7 @@ fn code_alignment_fault(nobits: bool, alignment: Option<u32>) -> Option<SourceCo
 /// The fault of an alignment at an offset, by its value.
 pub(crate) fn alignment_fault(
     section: Section<'_>,
-    offset: u64,
+    offset: u32,
     alignment: Option<u32>,
 ) -> Option<SourceCode>
     ensures { IsLowest result (laws.alignment_faults (section_of section.entry) offset alignment) }
@@ -166,10 +166,7 @@ pub(crate) fn alignment_fault(
     if section.executable {
         return code_alignment_fault(section.is_nobits(), alignment);
     }
-    if offset > LONGEST_SECTION {
-        return Some(SourceCode::Limit);
-    }
-    past_section(false, offset, padding(alignment, offset as u32))
+    past_section(false, offset, padding(alignment, offset))
 }
 
 /// The fault of a `.set` that gives no location, of a name that a label or a location has before.

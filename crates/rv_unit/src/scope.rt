@@ -7,7 +7,7 @@ ghost use Rattle.rv_text.specs.Eval.{meaning_of, IsOutcome};
 ghost use Rattle.rv_unit_laws.specs.Tables as laws;
 ghost use Rattle.rv_unit_laws.proofs.Before.{IsBefore};
 ghost use Rattle.rv_tables.specs.Sections.{offset_of};
-ghost use Rattle.rv_tables.specs.Tables.{tables_of, numeric_label_of, assignment_of, IsIndexed};
+ghost use Rattle.rv_tables.specs.Tables.{tables_of, numeric_label_at, assignment_of, IsIndexed};
 ghost use Rattle.rv_unit.specs.Unit.{said, passed, definition_of, IsFilled, IsScope};
 
 use crate::unit::Unit;
@@ -24,13 +24,13 @@ pub struct Scope<'u, 'a> {
 }
 
 /// Where a numeric label stands.
-fn definition_of_numeric_label(numeric_label: Option<NumericLabel<'_>>) -> Option<Definition>
-    ensures { option_map definition_of result
-        ≡ laws.numeric_definition (option_map numeric_label_of numeric_label.entry) }
+fn definition_of_numeric_label(numeric_label: Option<NumericLabel>) -> Option<Definition>
+    ensures { (number : ℕ) → option_map definition_of result
+        ≡ laws.numeric_definition (option_map (numeric_label_at number) numeric_label) }
 {
     match numeric_label {
         Some(numeric_label) => Some(Definition {
-            ordinal: numeric_label.ordinal,
+            ordinal: numeric_label.ordinal as usize,
             plus: 0,
         }),
         None => None,

@@ -1,6 +1,8 @@
-use Rattle.std.proofs.Common.{◌≡◌, ◌+◌, ◌<◌, ◌≤◌, ◌∙◌, ap, sym, rules, List, length}
+use Rattle.std.proofs.Common.{◌≡◌, ◌+◌, ◌<◌, ◌≤◌, ◌∙◌, ap, subst, sym, rules, List, length}
+use Rattle.std.specs.Prelude.{IfSome}
 use Rattle.rv_unit_laws.specs.Sections.{place_of_name}
 use Rattle.rv_unit_laws.specs.Tables as laws
+use Rattle.rv_tables.specs.Sections.{section_of}
 use Rattle.rv_tables.specs.Tables.{tables_of}
 use Rattle.rv_tables.proofs.Lookups.{extend_is, extend_past, sections_set}
 use Rattle.rv_tables.proofs.tables.Tables.extend.Goals as goal
@@ -16,10 +18,10 @@ pub returns-in-Some-clause-tables : goal.returns-in-Some-clause-tables
 returns-in-Some-clause-tables c =
     let b = c.args.self.now in
     let inside : b.current < length b.extents.items = search rules in
-    let end : c.in-Some.end ≡ c.index.result.now.bytes + c.counted.result = search rules in
+    let end = subst (λ o. IfSome o (λ n. n ≡ c.index.result.now.bytes + laws.counted_in (section_of c.index.result.now.section) c.args.bytes)) c.in-Some.is c.end_after.ensures in
     let t : laws.Tables = tables_of b in
     ap (λ (l : List laws.Extent). record t { extents = l })
-    (extend_is b.extents.items b.current c.index.result.now c.longer.result c.args.bytes c.args.alignment inside c.index.ensures c.longer.ensures.section (c.longer.ensures.bytes ∙ end ∙ ap (λ k. c.index.result.now.bytes + k) c.counted.ensures) c.longer.ensures.alignment)
+    (extend_is b.extents.items b.current c.index.result.now c.longer.result c.args.bytes c.args.alignment inside c.index.ensures c.longer.ensures.section (c.longer.ensures.bytes ∙ end) c.longer.ensures.alignment)
 
 pub returns-in-Some-clause-indexed : goal.returns-in-Some-clause-indexed
 returns-in-Some-clause-indexed c = λ i.

@@ -21,7 +21,7 @@ loop-statement-preserved c =
           fills_more (tables_of c.loop-statement.self) (tables_of c.stand.new.self) c.loop-statement.ordinal (statement_of x) (drop i (map statement_of xs)) (drop (i + 1) (map statement_of xs)) (map statement_of xs)
           (map offset_of c.loop-statement.places.items) (map offset_of c.push-in-loop-statement.new.self.items) (offset_of c.in_ok-place.place) f next (c.in_ok-place.ensures.tables good f.before) (c.in_ok-place.ensures.place good f.before)
           (ap (map offset_of) c.in_ok-push-2.ensures.items ∙ map-append offset_of c.loop-statement.places.items (c.in_ok-place.place ∷ []))),
-      (λ start indexed. c.in_ok-place.ensures.indexed (c.loop-statement.invariant.2 start indexed)),
+      (λ start indexed. c.in_ok-place.ensures.indexed (c.loop-statement.invariant.2 start indexed) (c.loop-statement.invariant.1 start indexed).before),
       (λ start indexed.
           let f = c.loop-statement.invariant.1 start indexed in
           let good = c.loop-statement.invariant.2 start indexed in
