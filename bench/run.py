@@ -22,7 +22,6 @@ ROUNDS = 40
 AS = "riscv64-unknown-elf-as"
 LD = "riscv64-unknown-elf-ld"
 OBJDUMP = "riscv64-unknown-elf-objdump"
-OBJCOPY = "riscv64-unknown-elf-objcopy"
 SOURCE_BYTES = 16 * 2**20
 STATEMENTS = 2**22
 SOURCES = 1000
@@ -353,12 +352,10 @@ def listings(folder):
     subprocess.run([RV, "build", "-o", executable, "--map", shown, *write_texts(folder)], check=True)
     print(f"Listing {TEXT_BYTES} bytes of text")
     measured("rv objdump", [RV, "objdump", "--map", shown, executable], TEXT_BYTES)
-    linked = folder / "linked.o"
-    if not missing(OBJDUMP) and not missing(OBJCOPY):
-        # (GNU's lists sections, which an executable of rv has not)
-        named = ["--rename-section", ".data=.text,alloc,load,code", "-I", "binary", "-O", "elf64-littleriscv"]
-        subprocess.run([OBJCOPY, *named, executable, linked], check=True)
-        measured("objdump", [OBJDUMP, "-d", "-M", "no-aliases", linked], TEXT_BYTES)
+    if not missing(OBJDUMP):
+        # (an executable of rv has no sections, which GNU's would list: so it lists the whole file)
+        words = ["-D", "-b", "binary", "-m", "riscv:rv64", "-M", "no-aliases", executable]
+        measured("objdump", [OBJDUMP, *words], TEXT_BYTES)
 
 
 def statements(folder):

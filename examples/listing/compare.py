@@ -64,6 +64,8 @@ EXPANSIONS = {
     "c.swsp": "sw {0},{1}",
     "c.sdsp": "sd {0},{1}",
 }
+# A parcel that the ISA reserves, in 16.5, and GNU shows.
+RESERVED = ("c.addi16sp", ["sp", "0"])
 SHIFTS = {"slli", "srli", "srai", "slliw", "srliw", "sraiw"}
 JUMPS = {"jal", "beq", "bne", "blt", "bge", "bltu", "bgeu"}
 OPERATIONS = set(
@@ -128,10 +130,12 @@ def of_rv(rv, folder):
 
 def told(mnemonic, operands):
     """An instruction of GNU's as rv shows it."""
+    if (mnemonic, operands) == RESERVED:
+        return "unknown"
     if mnemonic in EXPANSIONS:
         jumps = mnemonic in ("c.j", "c.beqz", "c.bnez")
         operands = operands if operands or mnemonic != "c.nop" else ["0"]
-        operands = [*operands[:-1], "0x" + operands[-1]] if jumps else operands
+        operands = [*operands[:-1], "0x" + operands[-1].removeprefix("0x")] if jumps else operands
         text = EXPANSIONS[mnemonic].format(*operands)
         mnemonic, _, rest = text.partition(" ")
         operands = rest.split(",") if rest else []
