@@ -23,4 +23,6 @@ mod guest;
 #[cfg(test)]
 mod memory;
 #[cfg(test)]
+mod paged;
+#[cfg(test)]
 mod parcels;

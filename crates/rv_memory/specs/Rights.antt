@@ -11,6 +11,12 @@ right_of Read = laws.Read
 right_of Write = laws.Write
 right_of Execute = laws.Execute
 
+-- the flag of a right: PF_X, PF_W or PF_R (gABI, segment flags)
+abbrev pub flag_of : Right → ℕ
+flag_of Execute = 1
+flag_of Write = 2
+flag_of Read = 4
+
 -- the widths of an access, in bytes (ISA, 2.6)
 abbrev pub IsWidth : ℕ → Type 0
 IsWidth n = (n ≡ 1) ⊎ ((n ≡ 2) ⊎ ((n ≡ 4) ⊎ (n ≡ 8)))

@@ -39,11 +39,11 @@ ghost use Rattle.rv_isa_laws.specs.Memory.{
 ghost use Rattle.rv_image.specs.Segment.{segment_of};
 ghost use Rattle.rv_memory.specs.Rights.{right_of, IsWidth, MayLoad};
 ghost use Rattle.rv_memory.specs.Flat.{memory_of, AreDisjoint, no_segment, with_part};
-ghost use Rattle.rv_isa_laws.specs.Bytes.{number_in};
 ghost use Rattle.rv_image.specs.Memory.{lies_in, has_flag, segment_at, mem_of};
 ghost use Rattle.rv_image.specs.Image.{image_of};
 
 use crate::memory::{Memory, Right};
+use crate::pieces::{Pieces, have_right, load_number, number, store_number};
 use rv_image::{Image, STACK_BYTES, STACK_START, Segment};
 use std::alloc::{AllocError, Global};
 use std::cell::Cell;
@@ -66,6 +66,24 @@ fn zeros(alloc: Global, count: usize) -> Result<Vec<u8>, AllocError>
     ensures zeros { IfOk result (λ v. (k : ℕ) → slice_index v.items k ≡ 0) }
 {
     vec![in alloc; 0; count]
+}
+
+/// The segments of an image, and the stack behind them.
+pub(crate) fn with_stack(alloc: Global, image: Image) -> Result<Vec<Segment>, AllocError>
+    ensures apart { IfOk result (λ segments. AreDisjoint (map segment_of segments.items)) }
+    ensures memory { IfOk result
+        (λ segments. memory_of (map segment_of segments.items) ≡ mem_of (image_of image)) }
+{
+    let stack = Segment {
+        address: STACK_START,
+        bytes: zeros(alloc, STACK_BYTES)?,
+        flags: 6,
+    };
+    let mut segments = image.segments;
+    match segments.push(stack) {
+        Ok(()) => Ok(segments),
+        Err(_) => Err(AllocError),
+    }
 }
 
 /// Whether the address lies in the segment.
@@ -99,24 +117,9 @@ fn bytes_from(segment: &Segment, at: u64) -> &[u8]
     bytes.split_at(at as usize).1
 }
 
-/// The little-endian number of 1, 2, 4 or 8 bytes.
-#[inline(always)]
-fn number(bytes: &[u8]) -> u64
-    requires { IsWidth (length bytes.now) }
-    ensures { result ≡ number_in bytes.now }
-{
-    match bytes {
-        [a] => u64::from(*a),
-        [a, b] => u64::from(u16::from_le_bytes([*a, *b])),
-        [a, b, c, d] => u64::from(u32::from_le_bytes([*a, *b, *c, *d])),
-        [a, b, c, d, e, f, g, h] => u64::from_le_bytes([*a, *b, *c, *d, *e, *f, *g, *h]),
-        _ => 0,
-    }
-}
-
 /// Replaces bytes from the one at `at` on.
 #[inline(always)]
-fn overwrite(bytes: &mut [u8], at: usize, by: &[u8])
+pub(crate) fn overwrite(bytes: &mut [u8], at: usize, by: &[u8])
     requires { at + length by.now ≤ length bytes.old }
     ensures { bytes.new ≡ take at bytes.old ++ (by.now ++ drop (at + length by.now) bytes.old) }
 {
@@ -130,20 +133,11 @@ impl Flat {
     pub fn new(alloc: Global, image: Image) -> Result<Self, AllocError>
         ensures { IfOk result (λ flat. held flat ≡ mem_of (image_of image)) }
     {
-        let stack = Segment {
-            address: STACK_START,
-            bytes: zeros(alloc, STACK_BYTES)?,
-            flags: 6,
-        };
-        let mut segments = image.segments;
-        match segments.push(stack) {
-            Ok(()) => Ok(Flat {
-                segments,
-                code: Cell::new(0),
-                data: Cell::new(0),
-            }),
-            Err(_) => Err(AllocError),
-        }
+        Ok(Flat {
+            segments: with_stack(alloc, image)?,
+            code: Cell::new(0),
+            data: Cell::new(0),
+        })
     }
 
     /// The index of the segment in which an address lies.
@@ -255,68 +249,6 @@ impl Flat {
         self.store(address, bytes, value);
     }
 
-    /// How many bytes from an address on, up to its segment's end, have the right.
-    #[inline(always)]
-    fn run(&self, address: u64, right: Right) -> u64
-        ensures all { may (held self.now) address result (right_of right) ≡ true }
-        ensures none { result ≡ 0 → (held self.now).has address (right_of right) ≡ false }
-    {
-        match self.position(address) {
-            Some(i) => {
-                let segment = &self.segments[i];
-                if is_given(segment, right) {
-                    segment.bytes.len() as u64 - (address - segment.address)
-                } else {
-                    0
-                }
-            }
-            None => 0,
-        }
-    }
-
-    /// The bytes from an address on, up to its segment's end.
-    #[inline(always)]
-    fn rest(&self, address: u64) -> &[u8]
-        ensures bytes { bytes_at (held self.now) address (length result.now) ≡ result.now }
-        ensures small { (k : ℕ) → slice_index result.now k < 256 }
-        ensures none { result.now ≡ [] → segment_at (pieces self.now) address ≡ None }
-    {
-        match self.position(address) {
-            Some(i) => {
-                let segment = &self.segments[i];
-                let bytes = segment.bytes.as_slice();
-                bytes.split_at((address - segment.address) as usize).1
-            }
-            None => &[],
-        }
-    }
-
-    /// The byte of an address that may be read or executed.
-    fn byte(&self, address: u64) -> u8
-        requires { MayLoad (held self.now) address 1 }
-        ensures { result ≡ (held self.now).byte address }
-    {
-        match self.rest(address) {
-            [byte, ..] => *byte,
-            [] => 0,
-        }
-    }
-
-    /// The number of bytes that do not lie in one segment.
-    #[inline(never)]
-    fn load_across(&self, address: u64, bytes: usize) -> u64
-        requires width { IsWidth bytes }
-        requires may { MayLoad (held self.now) address bytes }
-        ensures number { result ≡ number_at (held self.now) address bytes }
-        ensures bytes { (k : ℕ) → k < bytes → (held self.now).byte ((address + k) % 2 ^ 64) < 256 }
-    {
-        let mut gathered = [0; 8];
-        for k in 0..bytes {
-            gathered[k] = self.byte(address.wrapping_add(k as u64));
-        }
-        number(&gathered[..bytes])
-    }
-
     /// Puts bytes into a segment, from one of its bytes on.
     #[inline(always)]
     fn write(&mut self, i: usize, at: usize, bytes: &[u8])
@@ -330,16 +262,42 @@ impl Flat {
         let segment = &mut self.segments[i];
         overwrite(&mut segment.bytes, at, bytes);
     }
+}
 
-    /// Puts bytes that lie in one segment; whether they do.
+impl Pieces for Flat {
+    ghost use Rattle.rv_memory.specs.Held.{held};
+
+    ghost mem = { λ flat. held flat };
+
     #[inline(always)]
-    fn put_within(&mut self, address: u64, bytes: &[u8]) -> bool
-        ensures put { MatchBool result
-            (held self.new ≡ with_bytes (held self.old) address bytes.now)
-            (pieces self.new ≡ pieces self.old) }
-        ensures one { length bytes.now ≡ 1 → may (held self.old) address 1 ToWrite ≡ true →
-            result ≡ true }
-    {
+    fn run(&self, address: u64, _most: u64, right: Right) -> u64 {
+        match self.position(address) {
+            Some(i) => {
+                let segment = &self.segments[i];
+                if is_given(segment, right) {
+                    segment.bytes.len() as u64 - (address - segment.address)
+                } else {
+                    0
+                }
+            }
+            None => 0,
+        }
+    }
+
+    #[inline(always)]
+    fn rest(&self, address: u64) -> &[u8] {
+        match self.position(address) {
+            Some(i) => {
+                let segment = &self.segments[i];
+                let bytes = segment.bytes.as_slice();
+                bytes.split_at((address - segment.address) as usize).1
+            }
+            None => &[],
+        }
+    }
+
+    #[inline(always)]
+    fn put_within(&mut self, address: u64, bytes: &[u8]) -> bool {
         match self.position(address) {
             Some(i) => {
                 let segment = &self.segments[i];
@@ -354,17 +312,6 @@ impl Flat {
             None => false,
         }
     }
-
-    /// Puts bytes one by one, where they do not lie in one segment.
-    #[inline(never)]
-    fn put_across(&mut self, address: u64, bytes: &[u8])
-        requires { may (held self.old) address (length bytes.now) ToWrite ≡ true }
-        ensures { held self.new ≡ with_bytes (held self.old) address bytes.now }
-    {
-        for k in 0..bytes.len() {
-            self.put_within(address.wrapping_add(k as u64), &bytes[k..k + 1]);
-        }
-    }
 }
 
 impl Memory for Flat {
@@ -374,39 +321,17 @@ impl Memory for Flat {
 
     #[inline]
     fn may(&self, address: u64, bytes: u64, right: Right) -> bool {
-        let mut at = address;
-        let mut left = bytes;
-        while left > 0 {
-            let run = self.run(at, right);
-            if run == 0 {
-                return false;
-            }
-            if left <= run {
-                return true;
-            }
-            left -= run;
-            at = at.wrapping_add(run);
-        }
-        true
+        have_right(self, address, bytes, right)
     }
 
     #[inline]
     fn load(&self, address: u64, bytes: u64) -> u64 {
-        let rest = self.rest(address);
-        if bytes as usize <= rest.len() {
-            number(&rest[..bytes as usize])
-        } else {
-            self.load_across(address, bytes as usize)
-        }
+        load_number(self, address, bytes)
     }
 
     #[inline]
     fn store(&mut self, address: u64, bytes: u64, value: u64) {
-        let digits = value.to_le_bytes();
-        let low = &digits[..bytes as usize];
-        if !self.put_within(address, low) {
-            self.put_across(address, low);
-        }
+        store_number(self, address, bytes, value);
     }
 
     #[inline(always)]

@@ -1,10 +1,12 @@
 //! Guest memory: bytes with rights, as a hart reads and writes them.
 //!
-//! It takes an image and gives a memory, [`Flat`], and the trait [`Memory`] by which a hart sees it.
+//! It takes an image and gives a memory, [`Flat`] or [`Paged`], and the trait [`Memory`] by which a hart sees it. A
+//! `Flat` keeps each segment as one piece, a `Paged` pages of 4096 bytes in the order of their numbers.
 //!
 //! Main contract: the clauses of the trait tie every call to `mem`, the memory as data: `load` answers the little-endian
 //! number that stands there, `store` changes exactly its bytes, and `try_load` and `try_store` do so exactly where
-//! every byte has the right. It must not know instructions, harts or how a run ends.
+//! every byte has the right. Right after `new` the memory is that of the image (`mem_of`). It must not know
+//! instructions, harts or how a run ends.
 //!
 //! ```text
 //! let mut memory = Flat::new(alloc, image)?;
@@ -19,8 +21,12 @@
 
 mod flat;
 mod memory;
+mod page;
+mod paged;
+mod pieces;
 mod ranges;
 
 pub use flat::Flat;
 pub use memory::{Memory, Right};
+pub use paged::Paged;
 pub use ranges::{append_bytes, put_bytes};

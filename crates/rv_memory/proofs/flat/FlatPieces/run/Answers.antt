@@ -1,0 +1,34 @@
+use Rattle.std.proofs.Common.{◌≡◌, true, false, arith}
+use Rattle.rv_isa_laws.specs.Memory.{may}
+use Rattle.rv_image.specs.Segment.{segment_of}
+use Rattle.rv_memory.specs.Rights.{right_of}
+use Rattle.rv_image.specs.Memory.{has_flag}
+use Rattle.rv_memory.proofs.FlatLemmas.{placed, may-within}
+use Rattle.rv_memory.proofs.flat.FlatPieces.run.Goals as goal
+
+pub overflow_sub-result : goal.overflow_sub-result
+overflow_sub-result c =
+    let p = placed c.args.self.now.segments.items c.in-Some.i c.args.address c.index-segment.result.now c.in-Some.ensures.within c.index-segment.ensures c.in-Some.ensures.found in
+    p.low
+
+pub overflow_sub-result-then-is_given : goal.overflow_sub-result-then-is_given
+overflow_sub-result-then-is_given c =
+    let p = placed c.args.self.now.segments.items c.in-Some.i c.args.address c.index-segment.result.now c.in-Some.ensures.within c.index-segment.ensures c.in-Some.ensures.found in
+    omega (arith, p.low, p.high, c.len.ensures)
+
+pub returns-then-is_given-clause-all : goal.returns-then-is_given-clause-all
+returns-then-is_given-clause-all c =
+    let p = placed c.args.self.now.segments.items c.in-Some.i c.args.address c.index-segment.result.now c.in-Some.ensures.within c.index-segment.ensures c.in-Some.ensures.found in
+    let right : has_flag c.index-segment.result.now.flags (right_of c.args.right) ≡ true = cc in
+    may-within _ c.in-Some.i (segment_of c.index-segment.result.now) c.args.address _ (right_of c.args.right) c.args.self.now.apart p.at c.index-segment.result.now.ends p.low (omega (arith, p.low, p.high, c.len.ensures)) right
+
+pub returns-then-is_given-clause-none : goal.returns-then-is_given-clause-none
+returns-then-is_given-clause-none c = λ e some.
+    let p = placed c.args.self.now.segments.items c.in-Some.i c.args.address c.index-segment.result.now c.in-Some.ensures.within c.index-segment.ensures c.in-Some.ensures.found in
+    absurd (omega (arith, p.low, p.high, c.len.ensures, e))
+
+pub returns-else-is_given-clause-none : goal.returns-else-is_given-clause-none
+returns-else-is_given-clause-none c = λ e some.
+    let p = placed c.args.self.now.segments.items c.in-Some.i c.args.address c.index-segment.result.now c.in-Some.ensures.within c.index-segment.ensures c.in-Some.ensures.found in
+    let right : has_flag c.index-segment.result.now.flags (right_of c.args.right) ≡ false = cc in
+    rw p.here right
