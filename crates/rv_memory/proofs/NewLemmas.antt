@@ -1,17 +1,17 @@
 -- The segments of an image with the stack as one more segment: they lie apart, and make the memory of the image.
 
-use Rattle.std.proofs.Common.{◌≡◌, ℕ, zero, suc, ◌+◌, ◌-◌, ◌≤◌, ◌<◌, nat_le, nat_lt, Bool, true, false, not, ◌&&◌, ◌||◌, cond, List, [], ◌∷◌, ◌++◌, Option, Some, None, length, get_or, slice_get, map, refl, ap, sym, ◌∙◌, subst, arith}
+use Rattle.std.proofs.Common.{◌≡◌, ℕ, zero, suc, ◌-◌, ◌≤◌, ◌<◌, nat_le, nat_lt, Bool, true, false, not, ◌&&◌, ◌||◌, cond, List, [], ◌∷◌, ◌++◌, Option, Some, None, length, get_or, slice_get, refl, ap, sym, subst, arith}
 use Rattle.std.specs.List.{list_all}
 use Rattle.std.proofs.lemmas.Bool.{and_parts}
 use Rattle.std.proofs.lemmas.Bool.Decides.{nat_tests}
 use Rattle.std.proofs.Math.Path.{fun_ext}
-use Rattle.rv_isa_laws.specs.Memory.{Mem, Right, Read, Write, Execute}
+use Rattle.rv_isa_laws.specs.Memory.{Right, Read, Write, Execute}
 use Rattle.rv_image.specs.Segment.{Segment, meets_segment, meets_stack, are_apart}
 use Rattle.rv_isa_laws.specs.Platform.{stack_start, stack_end}
 use Rattle.rv_image.specs.Image.{Image}
 use Rattle.rv_image.specs.Memory.{lies_in, segment_at, byte_in, right_in, has_flag, in_stack, mem_of}
 use Rattle.rv_memory.specs.Flat.{memory_of, AreDisjoint}
-use Rattle.rv_memory.proofs.FlatLemmas.{segment-held, same-memory}
+use Rattle.rv_memory.proofs.FlatLemmas.{same-memory}
 
 -- a segment of zeros in the stack's place
 pub record IsStack (s : Segment) : Type 0 where

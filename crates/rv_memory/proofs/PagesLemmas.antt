@@ -1,7 +1,7 @@
 -- What a memory that pages make has at an address, in a range, and after a write. A column of the pages (their bytes,
 -- or their rights) is seen as segments of 4096 bytes, so that what is known of segments holds of it.
 
-use Rattle.std.proofs.Common.{◌≡◌, ℕ, zero, suc, ◌+◌, ◌-◌, ◌*◌, ◌/◌, ◌%◌, ◌^◌, ◌≤◌, ◌<◌, ◌==◌, Bool, true, false, cond, ◌⊎◌, inl, inr, List, [], ◌∷◌, ◌++◌, Option, Some, None, length, get_or, set, slice_get, take, drop, replicate, map, length-drop, refl, ap, sym, subst, ◌∙◌, ◌&&◌, nat_le, nat_lt, arith}
+use Rattle.std.proofs.Common.{◌≡◌, ℕ, zero, suc, ◌+◌, ◌-◌, ◌*◌, ◌/◌, ◌%◌, ◌^◌, ◌≤◌, ◌<◌, ◌==◌, Bool, true, false, cond, ◌⊎◌, inl, inr, List, [], ◌∷◌, Option, Some, length, get_or, set, slice_get, take, drop, replicate, map, length-drop, refl, ap, sym, subst, ◌∙◌, ◌&&◌, nat_le, nat_lt, arith}
 use Rattle.std.specs.List.{AllByRecursion, list_all}
 use Rattle.std.specs.List.Sorted.{IsStrictlyIncreasing}
 use Rattle.std.proofs.lemmas.Bool.{cases_order}
@@ -12,7 +12,7 @@ use Rattle.std.proofs.Math.Path.{fun_ext}
 use Rattle.rv_isa_laws.specs.Memory.{Mem, Right, may, bytes_at, with_byte, with_bytes}
 use Rattle.rv_image.specs.Segment.{Segment}
 use Rattle.rv_image.specs.Memory.{lies_in, segment_at, has_flag, byte_in}
-use Rattle.rv_memory.specs.Flat.{memory_of, AreDisjoint, with_part}
+use Rattle.rv_memory.specs.Flat.{memory_of, AreDisjoint}
 use Rattle.rv_memory.specs.Pages.{Page, page_of, page_at, cell_in, AreAscending, memory_of_pages, with_bytes_on, with_rights_on, with_rights}
 use Rattle.rv_memory.specs.declared.page.Page.{Page as DeclaredPage}
 use Rattle.rv_memory.proofs.MemoryLemmas.{byte-below, byte-above, byte-inside, has-with_bytes}

@@ -1,7 +1,6 @@
 -- What segments that are put into a memory one after the other, and each part by part, make of it.
 
-use Rattle.std.proofs.Common.{◌≡◌, ℕ, zero, suc, ◌+◌, ◌-◌, ◌/◌, ◌%◌, ◌^◌, ◌≤◌, ◌<◌, ◌==◌, Bool, true, false, cond, ◌⊎◌, inl, inr, List, [], ◌∷◌, ◌++◌, Option, Some, None, length, get_or, slice_get, take, drop, refl, ap, sym, ◌∙◌, ◌&&◌, nat_le, nat_lt, arith, length-drop}
-use Rattle.std.proofs.lemmas.Bool.{cases_order}
+use Rattle.std.proofs.Common.{◌≡◌, ℕ, zero, suc, ◌+◌, ◌-◌, ◌/◌, ◌%◌, ◌^◌, ◌≤◌, ◌==◌, Bool, true, false, cond, List, [], ◌∷◌, Option, Some, None, length, get_or, slice_get, take, drop, refl, ap, sym, ◌∙◌, arith, length-drop}
 use Rattle.std.proofs.lemmas.Bool.Decides.{nat_tests}
 use Rattle.std.proofs.lemmas.List.{get_or-take, get_or-drop, length-take, drop-drop}
 use Rattle.std.proofs.Math.Path.{fun_ext}
@@ -10,7 +9,7 @@ use Rattle.rv_image.specs.Segment.{Segment}
 use Rattle.rv_image.specs.Memory.{lies_in, segment_at, has_flag, byte_in, right_in}
 use Rattle.rv_memory.specs.Flat.{memory_of, AreDisjoint}
 use Rattle.rv_memory.specs.Pages.{with_rights, with_segment}
-use Rattle.rv_memory.proofs.FlatLemmas.{same-memory, holds-range, segment-held}
+use Rattle.rv_memory.proofs.FlatLemmas.{same-memory, holds-range}
 use Rattle.rv_memory.proofs.PagesLemmas.{put-byte}
 
 -- bytes put, and then their rights

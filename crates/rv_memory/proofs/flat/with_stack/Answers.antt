@@ -1,4 +1,4 @@
-use Rattle.std.proofs.Common.{◌≡◌, ◌++◌, map, true, List, [], ◌∷◌, ◌∙◌, ap, sym, refl, rules}
+use Rattle.std.proofs.Common.{◌≡◌, map, true, refl, rules}
 use Rattle.std.proofs.lemmas.List.{map-append}
 use Rattle.rv_image.specs.Segment.{Segment, segment_of, are_apart}
 use Rattle.rv_image.specs.Image.{image_of}

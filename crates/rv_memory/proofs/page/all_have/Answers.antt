@@ -1,4 +1,4 @@
-use Rattle.std.proofs.Common.{◌≡◌, arith}
+use Rattle.std.proofs.Common.{arith}
 use Rattle.rv_memory.proofs.FlagLemmas.{flags-all}
 use Rattle.rv_memory.proofs.page.all_have.Goals as goal
 

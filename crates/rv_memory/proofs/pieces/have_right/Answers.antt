@@ -1,4 +1,4 @@
-use Rattle.std.proofs.Common.{◌≡◌, ◌+◌, ◌-◌, ◌%◌, ◌^◌, sym, ◌∙◌, refl, arith}
+use Rattle.std.proofs.Common.{◌+◌, ◌-◌, ◌%◌, ◌^◌, sym, ◌∙◌, refl, arith}
 use Rattle.rv_isa_laws.specs.Memory.{Mem}
 use Rattle.rv_memory.specs.Rights.{right_of}
 use Rattle.rv_memory.proofs.MemoryLemmas.{may-front, may-parts, may-wraps}

@@ -1,6 +1,6 @@
-use Rattle.std.proofs.Common.{◌≡◌, ◌<◌, ◌≤◌, ◌+◌, ◌%◌, ◌^◌, ℕ, [], ◌∷◌, ◌++◌, take, set, length-set, length, refl, sym, ap, suc, List, rules, ◌∙◌, arith, below_more}
+use Rattle.std.proofs.Common.{◌≡◌, ◌<◌, ◌+◌, ◌%◌, ◌^◌, ℕ, [], ◌∷◌, ◌++◌, take, set, length-set, length, refl, sym, ap, suc, List, ◌∙◌, arith, below_more}
 use Rattle.std.proofs.Math.Seq.{take-suc-set}
-use Rattle.rv_isa_laws.specs.Memory.{Mem, bytes_at}
+use Rattle.rv_isa_laws.specs.Memory.{Mem}
 use Rattle.rv_memory.proofs.MemoryLemmas.{load-at, bytes-more}
 use Rattle.rv_memory.proofs.pieces.load_across.Goals as goal
 

@@ -1,5 +1,4 @@
-use Rattle.std.proofs.Common.{◌≡◌, ◌+◌, ◌*◌, ◌%◌, ◌^◌, ◌<◌, ◌≤◌, ◌++◌, ◌∙◌, ℕ, true, List, [], ◌∷◌, inl, refl, sym, ap, length, take, append_assoc, rules, arith}
-use Rattle.std.specs.Result.{is_ok}
+use Rattle.std.proofs.Common.{◌≡◌, ◌+◌, ◌%◌, ◌^◌, ◌<◌, ◌≤◌, ◌++◌, ◌∙◌, ℕ, List, [], ◌∷◌, inl, sym, ap, length, take, append_assoc, rules, arith}
 use Rattle.std.proofs.lemmas.Grind.{common_steps}
 use Rattle.rv_isa_laws.specs.Memory.{Mem, Read, bytes_at, number_at}
 use Rattle.rv_memory.proofs.MemoryLemmas.{may-at, bytes-more, bytes-take, loaded-byte}

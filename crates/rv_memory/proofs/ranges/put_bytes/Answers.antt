@@ -1,4 +1,4 @@
-use Rattle.std.proofs.Common.{◌≡◌, ◌+◌, ◌%◌, ◌^◌, ◌<◌, ◌∙◌, refl, length, get_or, rules, arith}
+use Rattle.std.proofs.Common.{◌≡◌, ◌+◌, ◌%◌, ◌^◌, ◌<◌, ◌∙◌, refl, length, get_or, rules}
 use Rattle.rv_isa_laws.specs.Memory.{Mem, Write}
 use Rattle.rv_memory.proofs.MemoryLemmas.{may-at, put-number-more, may-kept-number}
 use Rattle.rv_memory.proofs.ranges.put_bytes.Goals as goal

@@ -1,4 +1,4 @@
-use Rattle.std.proofs.Common.{◌≡◌, ◌<◌, ◌≤◌, ◌+◌, ◌-◌, ◌%◌, ◌^◌, ℕ, zero, suc, true, List, [], ◌∷◌, length, get_or, take, map, arith}
+use Rattle.std.proofs.Common.{◌≡◌, ◌<◌, ◌+◌, ◌-◌, ◌%◌, ◌^◌, ℕ, zero, suc, true, List, [], ◌∷◌, get_or, take, map, arith}
 use Rattle.rv_image.specs.Segment.{segment_of}
 use Rattle.rv_image.specs.Memory.{has_flag}
 use Rattle.rv_memory.specs.Rights.{right_of}

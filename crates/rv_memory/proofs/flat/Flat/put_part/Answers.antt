@@ -1,4 +1,4 @@
-use Rattle.std.proofs.Common.{◌≡◌, ◌<◌, ◌≤◌, ◌+◌, ◌-◌, ◌%◌, ◌^◌, true, length, map, arith}
+use Rattle.std.proofs.Common.{◌≡◌, ◌+◌, ◌-◌, ◌%◌, ◌^◌, true, length, map, arith}
 use Rattle.rv_isa_laws.specs.Memory.{Write}
 use Rattle.rv_image.specs.Segment.{segment_of}
 use Rattle.rv_image.specs.Memory.{has_flag}

@@ -1,4 +1,4 @@
-use Rattle.std.proofs.Common.{◌≡◌, ◌<◌, ◌+◌, ◌%◌, ◌^◌, sym, ◌∙◌, ap, get_or, map, arith, List, ℕ}
+use Rattle.std.proofs.Common.{◌≡◌, ◌+◌, ◌%◌, ◌^◌, sym, ◌∙◌, ap, get_or, map, arith, List, ℕ}
 use Rattle.rv_isa_laws.specs.Memory.{Mem}
 use Rattle.rv_image.specs.Segment.{segment_of}
 use Rattle.rv_memory.specs.Flat.{memory_of}

@@ -1,4 +1,4 @@
-use Rattle.std.proofs.Common.{◌≤◌, arith}
+use Rattle.std.proofs.Common.{arith}
 use Rattle.rv_memory.proofs.MemoryLemmas.{put-low}
 use Rattle.rv_memory.proofs.flat.FlatMemory.try_store.Goals as goal
 

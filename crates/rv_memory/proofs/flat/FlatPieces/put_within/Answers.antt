@@ -1,6 +1,5 @@
-use Rattle.std.proofs.Common.{◌≡◌, ◌≤◌, ◌+◌, ◌-◌, ◌∙◌, sym, ap, refl, subst, length, map, set, List, ℕ, arith}
-use Rattle.rv_image.specs.Segment.{Segment, segment_of}
-use Rattle.rv_memory.specs.Flat.{memory_of, with_part, no_segment}
+use Rattle.std.proofs.Common.{◌-◌, map, arith}
+use Rattle.rv_image.specs.Segment.{segment_of}
 use Rattle.rv_memory.proofs.FlatLemmas.{placed, element-or, with-part-is}
 use Rattle.rv_memory.proofs.flat.FlatPieces.put_within.Goals as goal
 

@@ -1,4 +1,4 @@
-use Rattle.std.proofs.Common.{◌≡◌, ◌≤◌, ◌+◌, ◌-◌, length, ap, arith}
+use Rattle.std.proofs.Common.{length, ap, arith}
 use Rattle.rv_image.specs.Segment.{segment_of}
 use Rattle.rv_memory.proofs.FlatLemmas.{placed, bytes-rest}
 use Rattle.rv_memory.proofs.flat.FlatPieces.rest.Goals as goal

@@ -1,5 +1,4 @@
 use Rattle.std.proofs.Common.{◌≡◌, true, false, arith}
-use Rattle.rv_isa_laws.specs.Memory.{may}
 use Rattle.rv_image.specs.Segment.{segment_of}
 use Rattle.rv_memory.specs.Rights.{right_of}
 use Rattle.rv_image.specs.Memory.{has_flag}

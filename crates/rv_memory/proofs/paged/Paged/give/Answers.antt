@@ -1,4 +1,4 @@
-use Rattle.std.proofs.Common.{◌≡◌, ◌%◌, ◌/◌, ◌<◌, ◌^◌, length, refl, arith}
+use Rattle.std.proofs.Common.{◌%◌, length, refl, arith}
 use Rattle.rv_memory.specs.Pages.{page_of}
 use Rattle.rv_memory.proofs.WrittenLemmas.{ascending-set, rights-new, rights-written}
 use Rattle.rv_memory.proofs.paged.Paged.give.Goals as goal

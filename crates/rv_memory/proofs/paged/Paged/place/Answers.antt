@@ -1,4 +1,4 @@
-use Rattle.std.proofs.Common.{◌≡◌, ℕ, ◌∙◌, ap, map, sym, subst, List}
+use Rattle.std.proofs.Common.{ℕ, ◌∙◌, ap, map, sym, subst, List}
 use Rattle.rv_memory.specs.Pages.{page_of, memory_of_pages, IsGapFor}
 use Rattle.rv_memory.specs.declared.page.Page.{Page}
 use Rattle.rv_memory.proofs.PlaceLemmas.{IsBlank, blank-inserted, kept-ascending, map-inserted}

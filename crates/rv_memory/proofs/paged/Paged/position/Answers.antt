@@ -1,8 +1,5 @@
-use Rattle.std.proofs.Common.{◌≡◌, rules, List, map}
-use Rattle.std.specs.List.Sorted.{IsSearchInRange, IsBinarySearchResult}
-use Rattle.std.specs.Ordering.{nat_cmp}
+use Rattle.std.proofs.Common.{rules}
 use Rattle.std.proofs.lemmas.List.Sorted.{answers_always}
-use Rattle.rv_memory.specs.Pages.{page_of}
 use Rattle.rv_memory.specs.declared.page.Page.{Page}
 use Rattle.rv_memory.proofs.PlaceLemmas.{searched}
 use Rattle.rv_memory.proofs.paged.Paged.position.Goals as goal

@@ -1,4 +1,4 @@
-use Rattle.std.proofs.Common.{◌≡◌, ℕ, ◌+◌, ◌%◌, ◌^◌, ◌≤◌, ◌∙◌, ap, length, arith}
+use Rattle.std.proofs.Common.{◌+◌, ◌^◌, ◌≤◌, ◌∙◌, ap, length, arith}
 use Rattle.rv_isa_laws.specs.Memory.{Mem, with_bytes}
 use Rattle.rv_image.specs.Segment.{Segment}
 use Rattle.rv_memory.specs.Pages.{with_rights}

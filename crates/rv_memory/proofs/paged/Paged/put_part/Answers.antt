@@ -1,4 +1,4 @@
-use Rattle.std.proofs.Common.{◌≡◌, ℕ, ◌+◌, ◌/◌, ◌%◌, ◌≤◌, ◌∙◌, ap, sym, map, List, length, take, drop, arith}
+use Rattle.std.proofs.Common.{◌≡◌, ℕ, ◌/◌, ◌%◌, ◌∙◌, ap, sym, map, List, length, take, drop, arith}
 use Rattle.std.specs.List.{list_all}
 use Rattle.rv_isa_laws.specs.Memory.{Write}
 use Rattle.std.proofs.lemmas.Bool.Decides.{nat_tests}

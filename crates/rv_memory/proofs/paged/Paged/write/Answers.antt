@@ -1,4 +1,4 @@
-use Rattle.std.proofs.Common.{◌≡◌, ◌%◌, ◌/◌, ◌<◌, ◌^◌, refl, arith}
+use Rattle.std.proofs.Common.{◌%◌, ◌/◌, refl, arith}
 use Rattle.rv_memory.specs.Pages.{page_of}
 use Rattle.rv_memory.proofs.WrittenLemmas.{ascending-set, page-kept, bytes-new, bytes-written}
 use Rattle.rv_memory.proofs.paged.Paged.write.Goals as goal

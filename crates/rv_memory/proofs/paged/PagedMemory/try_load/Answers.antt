@@ -1,4 +1,4 @@
-use Rattle.std.proofs.Common.{◌≡◌, ◌<◌, ◌+◌, ◌%◌, ◌^◌, sym, ◌∙◌, ap, get_or, arith, List, ℕ}
+use Rattle.std.proofs.Common.{◌≡◌, ◌+◌, ◌%◌, ◌^◌, sym, ◌∙◌, ap, get_or, arith, List, ℕ}
 use Rattle.rv_isa_laws.specs.Memory.{Mem}
 use Rattle.rv_memory.specs.HeldPages.{held_pages}
 use Rattle.rv_memory.proofs.MemoryLemmas.{byte-of-bytes}

@@ -1,4 +1,4 @@
-use Rattle.std.proofs.Common.{◌≡◌, ◌%◌, ◌^◌, ◌<◌, ◌∙◌, sym, ap, false, Bool, ℕ, arith}
+use Rattle.std.proofs.Common.{◌≡◌, ◌%◌, ◌^◌, ◌∙◌, sym, ap, false, ℕ, arith}
 use Rattle.rv_isa_laws.specs.Memory.{Mem, Write}
 use Rattle.rv_memory.specs.HeldPages.{held_pages, pages_of}
 use Rattle.rv_memory.proofs.MemoryLemmas.{may-none}

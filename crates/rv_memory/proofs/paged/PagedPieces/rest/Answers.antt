@@ -1,5 +1,4 @@
-use Rattle.std.proofs.Common.{◌≡◌, ℕ, ◌+◌, ◌-◌, ◌/◌, ◌%◌, ◌<◌, ◌≤◌, ◌∙◌, sym, ap, map, List, length, length-drop, take, drop, arith}
-use Rattle.std.proofs.lemmas.List.{length-map}
+use Rattle.std.proofs.Common.{◌≡◌, ℕ, ◌-◌, ◌%◌, ◌∙◌, sym, ap, map, List, length, take, drop, arith}
 use Rattle.rv_isa_laws.specs.Memory.{Mem, bytes_at}
 use Rattle.rv_memory.specs.Pages.{page_of}
 use Rattle.rv_memory.specs.HeldPages.{held_pages, pages_of}
