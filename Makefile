@@ -1,7 +1,7 @@
 # make             proves and builds the program as ./rv, and runs an example with it
 # make test        the whole gate: every proof from nothing, the must-fail edits, the tests and the program
 # make gate-times  the same, with a table of what each crate cost
-# make bench       measures rv beside GNU's tools and qemu-riscv64, where they are installed
+# make bench       measures rv beside GNU's tools, qemu-riscv64 and an interpreter in C, where they are installed
 # make install     PREFIX=/usr/local by default
 
 PREFIX ?= /usr/local

@@ -12,16 +12,31 @@ import resource
 import shutil
 import subprocess
 import tempfile
+import time
 from pathlib import Path
 
 HERE = Path(__file__).parent
 RV = HERE.parent / "rv"
+HELLO = HERE.parent / "examples" / "hello.s"
 GCC = "riscv64-unknown-elf-gcc"
-FLAGS = "-march=rv64imac -mabi=lp64 -O2 -ffreestanding -nostdlib -static -Wl,--no-warn-rwx-segments".split()
-ROUNDS = 40
+FLAGS = "-mabi=lp64 -O2 -ffreestanding -nostdlib -static -Wl,--no-warn-rwx-segments".split()
+CC = "gcc"
 AS = "riscv64-unknown-elf-as"
 LD = "riscv64-unknown-elf-ld"
 OBJDUMP = "riscv64-unknown-elf-objdump"
+# The programs that are run, and how many rounds each does: 50 to 200 million instructions.
+PROGRAMS = {
+    "crc32": 100,
+    "sieve": 60,
+    "sort": 120,
+    "matrix": 50,
+    "sha256": 54,
+    "lists": 48,
+    "bytecode": 21,
+    "dhrystone": 590,
+}
+ARCHITECTURES = ("rv64ima", "rv64imac")
+STARTS = 50
 SOURCE_BYTES = 16 * 2**20
 STATEMENTS = 2**22
 SOURCES = 1000
@@ -57,52 +72,91 @@ def best(command, given, times=3):
     return least, wrote
 
 
+def best_of_each(commands, given, times=3):
+    """The least time of some runs of each command, which take turns, and its last run."""
+    least, runs = dict.fromkeys(commands, float("inf")), {}
+    for _ in range(times):
+        for name, command in commands.items():
+            start = spent()
+            runs[name] = subprocess.run(command, input=given, capture_output=True)
+            least[name] = min(least[name], spent() - start)
+    return least, runs
+
+
 def ends(program, given, limit):
     """Whether a run of at most so many instructions comes to its exit."""
     command = [RV, "run", "--limit", str(limit), program]
     return subprocess.run(command, input=given, capture_output=True).returncode == 0
 
 
-def instructions(program, given):
-    """How many instructions a run executes: the least limit by which it comes to its exit."""
-    high = 1
-    while not ends(program, given, high):
-        high *= 2
-        if high > 10**9:
-            raise SystemExit(f"rv: {program.name} does not come to its exit")
-    low = high // 2
-    while high - low > 1:
-        middle = (low + high) // 2
-        if ends(program, given, middle):
-            high = middle
-        else:
-            low = middle
-    return high
+def compile_for(architecture, source, program, *more):
+    """Has GCC compile a source without a library."""
+    subprocess.run([GCC, f"-march={architecture}", *FLAGS, *more, "-o", program, source], check=True, capture_output=True)
 
 
-def kernel(folder):
-    """Running a program: millions of instructions a second, of rv and of other simulators."""
-    print(f"Running bench/kernel.c, {ROUNDS} rounds")
-    if missing(GCC):
-        return
-    program = folder / "kernel"
-    subprocess.run([GCC, *FLAGS, "-o", program, HERE / "kernel.c"], check=True)
-    # Each round executes the same instructions, so runs of one round and of two give the count of any.
-    one, two = (instructions(program, given) for given in (b"01", b"02"))
-    count = one + (ROUNDS - 1) * (two - one)
-    given = b"%02d" % ROUNDS
+def simulators(folder):
+    """The commands that run a program, by their names: rv, the plain interpreter, and what else is there."""
+    interpreter = folder / "interpreter"
+    subprocess.run([CC, "-O2", "-o", interpreter, HERE / "interpreter.c"], check=True, capture_output=True)
+    commands = {"rv run": [RV, "run"], "interpreter": [interpreter]}
+    for name in ("qemu-riscv64", "riscv64-unknown-elf-run"):
+        if not missing(name):
+            commands[name] = [name]
+    return commands
+
+
+def mean(numbers):
+    """Their geometric mean."""
+    return math.exp(sum(map(math.log, numbers)) / len(numbers))
+
+
+def rates(commands, program, given):
+    """The millions of instructions a second of each simulator; what is wrong is said. The interpreter counts them."""
+    least, runs = best_of_each({name: [*command, program] for name, command in commands.items()}, given)
+    count = int(runs["interpreter"].stderr)
+    for name, run in runs.items():
+        if run.returncode != 0:
+            print(f"{name}: {program.name} ENDS WITH {run.returncode}")
     if ends(program, given, count - 1) or not ends(program, given, count):
-        print(f"rv: does not execute {count} instructions")
-    wanted = None
-    for name in (str(RV), "qemu-riscv64", "riscv64-unknown-elf-run"):
-        if missing(name):
-            continue
-        seconds, wrote = best([name] + ["run"] * (name == str(RV)) + [program], given)
-        wanted = wanted or wrote
-        note = "" if wrote == wanted else ", BUT PRINTS SOMETHING ELSE"
-        rate = count / seconds / 1e6
-        print(f"{Path(name).name:24} {seconds:6.2f} s {rate:7.0f} million instructions per second{note}")
-    print(f"{count} instructions, counted by rv run --limit")
+        print(f"rv run: {program.name} DOES NOT EXECUTE {count} INSTRUCTIONS")
+    return {name: count / seconds / 1e6 for name, seconds in least.items()}
+
+
+def hart(folder):
+    """Running programs, each without and with compressed code: millions of instructions a second, of rv and of others."""
+    if missing(GCC) or missing(CC):
+        return
+    commands = simulators(folder)
+    print("Running programs: millions of instructions a second")
+    print(f"{'':20}" + "".join(f"{name:>24}" for name in commands) + f"{'rv / interpreter':>20}")
+    table = {}
+    for architecture in ARCHITECTURES:
+        for name, rounds in PROGRAMS.items():
+            program = folder / f"{name}.{architecture}"
+            compile_for(architecture, HERE / "programs" / f"{name}.c", program)
+            table[name, architecture] = rates(commands, program, b"%d" % rounds)
+            rate_row(f"{name} {architecture}", table[name, architecture])
+        of_all = {kind: mean([table[name, architecture][kind] for name in PROGRAMS]) for kind in commands}
+        rate_row(f"mean {architecture}", of_all)
+    rate_row("mean", {kind: mean([row[kind] for row in table.values()]) for kind in commands})
+    for kind in commands:
+        ratio = mean([table[name, "rv64imac"][kind] / table[name, "rv64ima"][kind] for name in PROGRAMS])
+        print(f"{kind}: compressed code has {ratio:.2f} times the instructions a second of uncompressed code")
+
+
+def rate_row(name, row):
+    """A line of the table of the rates of simulators."""
+    print(f"{name:20}" + "".join(f"{rate:24.0f}" for rate in row.values()) + f"{row['rv run'] / row['interpreter']:20.2f}")
+
+
+def start(folder):
+    """The start and the end of a run: the least time by the clock."""
+    least = float("inf")
+    for _ in range(STARTS):
+        begun = time.perf_counter()
+        subprocess.run([RV, "run", HELLO], capture_output=True)
+        least = min(least, time.perf_counter() - begun)
+    print(f"Running {HELLO.name}: {least * 1000:.1f} ms")
 
 
 INSTRUCTIONS = (
@@ -158,7 +212,7 @@ def compiled(folder):
     """The examples in C as a compiler writes them, each as its parts: every second one is a name that it defines."""
     out = folder / "compiled.s"
     for source in sorted((HERE.parent / "examples" / "c").glob("*.c")):
-        subprocess.run([GCC, *FLAGS, "-S", "-o", out, source], check=True, capture_output=True)
+        compile_for("rv64imac", source, out, "-S")
         # (attributes stand before all instructions)
         lines = [line for line in out.read_text().splitlines() if not line.lstrip().startswith(".attribute")]
         text = "\n".join(lines) + "\n"
@@ -413,7 +467,7 @@ def growth(folder):
 
 def main():
     with tempfile.TemporaryDirectory() as folder:
-        for benchmark in (kernel, reading, compiler, many, objects, listings, statements, growth):
+        for benchmark in (hart, start, reading, compiler, many, objects, listings, statements, growth):
             benchmark(Path(folder))
 
 

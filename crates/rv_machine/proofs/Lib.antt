@@ -1,4 +1,10 @@
 pub mod CallLemmas
+pub mod ConsoleLemmas
 pub mod FetchLemmas
+pub mod KnownLemmas
 pub mod NumberLemmas
+pub mod QuickLemmas
 pub mod RunLemmas
+pub mod StreamLemmas
+pub mod TransferLemmas
+pub mod WordLemmas

@@ -4,4 +4,9 @@ pub mod Action
 pub mod End
 pub mod Fetch
 pub mod Machine
+pub mod Flow
+pub mod Streams
+pub mod StreamSteps
 pub mod Outcome
+pub mod Selectors
+pub mod Asked

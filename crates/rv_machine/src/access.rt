@@ -90,7 +90,7 @@ fn read_bytes<M: Memory>(memory: &M, address: u64, bytes: u64, signed: bool) -> 
 
 /// The same, with code of its own for each width.
 #[inline(always)]
-fn read<M: Memory>(memory: &M, address: u64, bytes: u64, signed: bool) -> Option<u64>
+pub fn read<M: Memory>(memory: &M, address: u64, bytes: u64, signed: bool) -> Option<u64>
     requires { IsWidth bytes }
     ensures { MatchOption result (may (M.mem memory.now) address bytes ToRead ≡ false)
         (λ value. (may (M.mem memory.now) address bytes ToRead ≡ true)
@@ -107,7 +107,7 @@ fn read<M: Memory>(memory: &M, address: u64, bytes: u64, signed: bool) -> Option
 /// Puts the low bytes of a number where they may be written, with code of its own for each width;
 /// whether they may.
 #[inline(always)]
-fn write<M: Memory>(memory: &mut M, address: u64, bytes: u64, value: u64) -> bool
+pub fn write<M: Memory>(memory: &mut M, address: u64, bytes: u64, value: u64) -> bool
     requires { IsWidth bytes }
     ensures right { result ≡ may (M.mem memory.old) address bytes ToWrite }
     ensures put { MatchBool result

@@ -2,19 +2,24 @@
 //!
 //! Source: RISC-V Unprivileged ISA 20191213, chapters 2, 5, 7 and 8.
 
-ghost use Rattle.std.specs.Prelude.{◌≡◌, ℕ, List, ◌+◌, ◌%◌, ◌^◌, if◌then◌else◌};
-ghost use Rattle.rv_isa_laws.specs.Arithmetic.{wrapped};
-ghost use Rattle.rv_isa_laws.specs.Meaning.{effect, is_reserved};
-ghost use Rattle.rv_machine.specs.Action.{effect_of, of_word, of_double, HasWidth};
-ghost use Rattle.rv_machine.specs.Hart.{hart_of, reservation_of};
+ghost use Rattle.std.specs.Prelude.{◌≡◌};
+ghost use Rattle.rv_isa_laws.specs.Meaning.{is_reserved};
+ghost use Rattle.rv_machine.specs.Action.{of_word, of_double};
+ghost use Rattle.rv_machine.specs.Asked.{IsAsked};
+ghost use Rattle.rv_machine.specs.Hart.{reservation_of};
 ghost use Rattle.rv_machine.specs.Registers.{value_of};
-ghost use Rattle.rv_machine.specs.declared.action.Action.TheVariants as is;
 
 use crate::alu;
+use crate::formats::{
+    branch, by_amount, by_immediate, by_registers, jump, jump_register, load, store, upper,
+};
 use crate::hart::Hart;
 use crate::registers::Registers;
-use Action::{Break, Call, Go, Jump, Reserve as Reserves, Set, UpdateDouble, UpdateWord};
-use rv_isa::{Atomic, IType, Inst, Reg, Reserve, SType};
+use Action::{Break, Call, Go, Reserve as Reserves, UpdateDouble, UpdateWord};
+use rv_isa::{
+    Atomic, BranchOperation, ImmediateOperation, Inst, LoadOperation, Reg, RegisterOperation,
+    Reserve, ShiftOperation, StoreOperation, UpperOperation,
+};
 
 /// A load, with or without sign.
 #[derive(Clone, Copy, Drop)]
@@ -142,122 +147,81 @@ impl Operation {
 /// What an instruction of this length in bytes asks.
 #[inline(always)]
 pub fn asked(inst: Inst, bytes: u64, hart: &Hart) -> Action
-    ensures meaning { (input console : List ℕ) →
-        effect_of result bytes (hart_of hart.now input console)
-        ≡ effect inst bytes (hart_of hart.now input console) }
-    ensures width { HasWidth result }
+    ensures { IsAsked inst bytes hart.now result }
 {
     let r = &hart.registers;
-    let pc = hart.pc;
     match inst {
         // Integer computation (ISA, 2.4).
-        Inst::Lui(x) => Set(x.rd, alu::upper(x.immediate)),
-        Inst::Auipc(x) => Set(x.rd, alu::sum(pc, alu::upper(x.immediate))),
-        Inst::Addi(x) => Set(x.rd, alu::sum(r.get(x.rs1), alu::wrapped(x.immediate))),
-        Inst::Slti(x) => Set(
-            x.rd,
-            alu::one_if(alu::less_signed(r.get(x.rs1), alu::wrapped(x.immediate))),
-        ),
-        Inst::Sltiu(x) => Set(x.rd, alu::one_if(r.get(x.rs1) < alu::wrapped(x.immediate))),
-        Inst::Xori(x) => Set(x.rd, r.get(x.rs1) ^ alu::wrapped(x.immediate)),
-        Inst::Ori(x) => Set(x.rd, r.get(x.rs1) | alu::wrapped(x.immediate)),
-        Inst::Andi(x) => Set(x.rd, r.get(x.rs1) & alu::wrapped(x.immediate)),
-        Inst::Slli(x) => Set(x.rd, alu::shifted_left(r.get(x.rs1), u64::from(x.amount))),
-        Inst::Srli(x) => Set(x.rd, alu::shifted_right(r.get(x.rs1), u64::from(x.amount))),
-        Inst::Srai(x) => Set(
-            x.rd,
-            alu::shifted_right_signed(r.get(x.rs1), u64::from(x.amount)),
-        ),
-        Inst::Add(x) => Set(x.rd, alu::sum(r.get(x.rs1), r.get(x.rs2))),
-        Inst::Sub(x) => Set(x.rd, alu::difference(r.get(x.rs1), r.get(x.rs2))),
-        Inst::Sll(x) => Set(x.rd, alu::shifted_left(r.get(x.rs1), r.get(x.rs2))),
-        Inst::Slt(x) => Set(
-            x.rd,
-            alu::one_if(alu::less_signed(r.get(x.rs1), r.get(x.rs2))),
-        ),
-        Inst::Sltu(x) => Set(x.rd, alu::one_if(r.get(x.rs1) < r.get(x.rs2))),
-        Inst::Xor(x) => Set(x.rd, r.get(x.rs1) ^ r.get(x.rs2)),
-        Inst::Srl(x) => Set(x.rd, alu::shifted_right(r.get(x.rs1), r.get(x.rs2))),
-        Inst::Sra(x) => Set(x.rd, alu::shifted_right_signed(r.get(x.rs1), r.get(x.rs2))),
-        Inst::Or(x) => Set(x.rd, r.get(x.rs1) | r.get(x.rs2)),
-        Inst::And(x) => Set(x.rd, r.get(x.rs1) & r.get(x.rs2)),
+        Inst::Lui(x) => upper(UpperOperation::Lui, x, hart),
+        Inst::Auipc(x) => upper(UpperOperation::Auipc, x, hart),
+        Inst::Addi(x) => by_immediate(ImmediateOperation::Addi, x, hart),
+        Inst::Slti(x) => by_immediate(ImmediateOperation::Slti, x, hart),
+        Inst::Sltiu(x) => by_immediate(ImmediateOperation::Sltiu, x, hart),
+        Inst::Xori(x) => by_immediate(ImmediateOperation::Xori, x, hart),
+        Inst::Ori(x) => by_immediate(ImmediateOperation::Ori, x, hart),
+        Inst::Andi(x) => by_immediate(ImmediateOperation::Andi, x, hart),
+        Inst::Slli(x) => by_amount(ShiftOperation::Slli, x, hart),
+        Inst::Srli(x) => by_amount(ShiftOperation::Srli, x, hart),
+        Inst::Srai(x) => by_amount(ShiftOperation::Srai, x, hart),
+        Inst::Add(x) => by_registers(RegisterOperation::Add, x, hart),
+        Inst::Sub(x) => by_registers(RegisterOperation::Sub, x, hart),
+        Inst::Sll(x) => by_registers(RegisterOperation::Sll, x, hart),
+        Inst::Slt(x) => by_registers(RegisterOperation::Slt, x, hart),
+        Inst::Sltu(x) => by_registers(RegisterOperation::Sltu, x, hart),
+        Inst::Xor(x) => by_registers(RegisterOperation::Xor, x, hart),
+        Inst::Srl(x) => by_registers(RegisterOperation::Srl, x, hart),
+        Inst::Sra(x) => by_registers(RegisterOperation::Sra, x, hart),
+        Inst::Or(x) => by_registers(RegisterOperation::Or, x, hart),
+        Inst::And(x) => by_registers(RegisterOperation::And, x, hart),
         // Jumps and branches (ISA, 2.5).
-        Inst::Jal(x) => Jump(x.rd, alu::sum(pc, alu::wrapped(x.offset))),
-        Inst::Jalr(x) => Jump(x.rd, alu::even(address(r, x.rs1, x.immediate))),
-        Inst::Beq(x) => branch(pc, bytes, x.offset, r.get(x.rs1) == r.get(x.rs2)),
-        Inst::Bne(x) => branch(pc, bytes, x.offset, r.get(x.rs1) != r.get(x.rs2)),
-        Inst::Blt(x) => branch(
-            pc,
-            bytes,
-            x.offset,
-            alu::less_signed(r.get(x.rs1), r.get(x.rs2)),
-        ),
-        Inst::Bge(x) => branch(
-            pc,
-            bytes,
-            x.offset,
-            !alu::less_signed(r.get(x.rs1), r.get(x.rs2)),
-        ),
-        Inst::Bltu(x) => branch(pc, bytes, x.offset, r.get(x.rs1) < r.get(x.rs2)),
-        Inst::Bgeu(x) => branch(pc, bytes, x.offset, r.get(x.rs1) >= r.get(x.rs2)),
+        Inst::Jal(x) => jump(x, hart),
+        Inst::Jalr(x) => jump_register(x, hart),
+        Inst::Beq(x) => branch(BranchOperation::Beq, x, bytes, hart),
+        Inst::Bne(x) => branch(BranchOperation::Bne, x, bytes, hart),
+        Inst::Blt(x) => branch(BranchOperation::Blt, x, bytes, hart),
+        Inst::Bge(x) => branch(BranchOperation::Bge, x, bytes, hart),
+        Inst::Bltu(x) => branch(BranchOperation::Bltu, x, bytes, hart),
+        Inst::Bgeu(x) => branch(BranchOperation::Bgeu, x, bytes, hart),
         // Loads and stores (ISA, 2.6 and 5.3).
-        Inst::Lb(x) => Action::Load(loading(r, x, 1, true)),
-        Inst::Lh(x) => Action::Load(loading(r, x, 2, true)),
-        Inst::Lw(x) => Action::Load(loading(r, x, 4, true)),
-        Inst::Ld(x) => Action::Load(loading(r, x, 8, false)),
-        Inst::Lbu(x) => Action::Load(loading(r, x, 1, false)),
-        Inst::Lhu(x) => Action::Load(loading(r, x, 2, false)),
-        Inst::Lwu(x) => Action::Load(loading(r, x, 4, false)),
-        Inst::Sb(x) => Action::Store(storing(r, x, 1)),
-        Inst::Sh(x) => Action::Store(storing(r, x, 2)),
-        Inst::Sw(x) => Action::Store(storing(r, x, 4)),
-        Inst::Sd(x) => Action::Store(storing(r, x, 8)),
+        Inst::Lb(x) => load(LoadOperation::Lb, x, hart),
+        Inst::Lh(x) => load(LoadOperation::Lh, x, hart),
+        Inst::Lw(x) => load(LoadOperation::Lw, x, hart),
+        Inst::Ld(x) => load(LoadOperation::Ld, x, hart),
+        Inst::Lbu(x) => load(LoadOperation::Lbu, x, hart),
+        Inst::Lhu(x) => load(LoadOperation::Lhu, x, hart),
+        Inst::Lwu(x) => load(LoadOperation::Lwu, x, hart),
+        Inst::Sb(x) => store(StoreOperation::Sb, x, hart),
+        Inst::Sh(x) => store(StoreOperation::Sh, x, hart),
+        Inst::Sw(x) => store(StoreOperation::Sw, x, hart),
+        Inst::Sd(x) => store(StoreOperation::Sd, x, hart),
         // Memory ordering, environment call and breakpoint (ISA, 2.7 and 2.8).
-        Inst::Fence(_) => Go(alu::sum(pc, bytes)),
+        Inst::Fence(_) => Go(alu::sum(hart.pc, bytes)),
         Inst::Ecall => Call,
         Inst::Ebreak => Break,
         // The W forms (ISA, 5.2).
-        Inst::Addiw(x) => Set(x.rd, alu::word_sum(r.get(x.rs1), alu::wrapped(x.immediate))),
-        Inst::Slliw(x) => Set(
-            x.rd,
-            alu::word_shifted_left(r.get(x.rs1), u64::from(x.amount)),
-        ),
-        Inst::Srliw(x) => Set(
-            x.rd,
-            alu::word_shifted_right(r.get(x.rs1), u64::from(x.amount)),
-        ),
-        Inst::Sraiw(x) => Set(
-            x.rd,
-            alu::word_shifted_right_signed(r.get(x.rs1), u64::from(x.amount)),
-        ),
-        Inst::Addw(x) => Set(x.rd, alu::word_sum(r.get(x.rs1), r.get(x.rs2))),
-        Inst::Subw(x) => Set(x.rd, alu::word_difference(r.get(x.rs1), r.get(x.rs2))),
-        Inst::Sllw(x) => Set(x.rd, alu::word_shifted_left(r.get(x.rs1), r.get(x.rs2))),
-        Inst::Srlw(x) => Set(x.rd, alu::word_shifted_right(r.get(x.rs1), r.get(x.rs2))),
-        Inst::Sraw(x) => Set(
-            x.rd,
-            alu::word_shifted_right_signed(r.get(x.rs1), r.get(x.rs2)),
-        ),
+        Inst::Addiw(x) => by_immediate(ImmediateOperation::Addiw, x, hart),
+        Inst::Slliw(x) => by_amount(ShiftOperation::Slliw, x, hart),
+        Inst::Srliw(x) => by_amount(ShiftOperation::Srliw, x, hart),
+        Inst::Sraiw(x) => by_amount(ShiftOperation::Sraiw, x, hart),
+        Inst::Addw(x) => by_registers(RegisterOperation::Addw, x, hart),
+        Inst::Subw(x) => by_registers(RegisterOperation::Subw, x, hart),
+        Inst::Sllw(x) => by_registers(RegisterOperation::Sllw, x, hart),
+        Inst::Srlw(x) => by_registers(RegisterOperation::Srlw, x, hart),
+        Inst::Sraw(x) => by_registers(RegisterOperation::Sraw, x, hart),
         // Multiplication and division (ISA, 7.1 and 7.2).
-        Inst::Mul(x) => Set(x.rd, alu::product(r.get(x.rs1), r.get(x.rs2))),
-        Inst::Mulh(x) => Set(x.rd, alu::high_signed(r.get(x.rs1), r.get(x.rs2))),
-        Inst::Mulhsu(x) => Set(x.rd, alu::high_mixed(r.get(x.rs1), r.get(x.rs2))),
-        Inst::Mulhu(x) => Set(x.rd, alu::high_unsigned(r.get(x.rs1), r.get(x.rs2))),
-        Inst::Div(x) => Set(x.rd, alu::quotient(r.get(x.rs1), r.get(x.rs2))),
-        Inst::Divu(x) => Set(x.rd, alu::quotient_unsigned(r.get(x.rs1), r.get(x.rs2))),
-        Inst::Rem(x) => Set(x.rd, alu::remainder(r.get(x.rs1), r.get(x.rs2))),
-        Inst::Remu(x) => Set(x.rd, alu::remainder_unsigned(r.get(x.rs1), r.get(x.rs2))),
-        Inst::Mulw(x) => Set(x.rd, alu::word_product(r.get(x.rs1), r.get(x.rs2))),
-        Inst::Divw(x) => Set(x.rd, alu::word_quotient(r.get(x.rs1), r.get(x.rs2))),
-        Inst::Divuw(x) => Set(
-            x.rd,
-            alu::word_quotient_unsigned(r.get(x.rs1), r.get(x.rs2)),
-        ),
-        Inst::Remw(x) => Set(x.rd, alu::word_remainder(r.get(x.rs1), r.get(x.rs2))),
-        Inst::Remuw(x) => Set(
-            x.rd,
-            alu::word_remainder_unsigned(r.get(x.rs1), r.get(x.rs2)),
-        ),
+        Inst::Mul(x) => by_registers(RegisterOperation::Mul, x, hart),
+        Inst::Mulh(x) => by_registers(RegisterOperation::Mulh, x, hart),
+        Inst::Mulhsu(x) => by_registers(RegisterOperation::Mulhsu, x, hart),
+        Inst::Mulhu(x) => by_registers(RegisterOperation::Mulhu, x, hart),
+        Inst::Div(x) => by_registers(RegisterOperation::Div, x, hart),
+        Inst::Divu(x) => by_registers(RegisterOperation::Divu, x, hart),
+        Inst::Rem(x) => by_registers(RegisterOperation::Rem, x, hart),
+        Inst::Remu(x) => by_registers(RegisterOperation::Remu, x, hart),
+        Inst::Mulw(x) => by_registers(RegisterOperation::Mulw, x, hart),
+        Inst::Divw(x) => by_registers(RegisterOperation::Divw, x, hart),
+        Inst::Divuw(x) => by_registers(RegisterOperation::Divuw, x, hart),
+        Inst::Remw(x) => by_registers(RegisterOperation::Remw, x, hart),
+        Inst::Remuw(x) => by_registers(RegisterOperation::Remuw, x, hart),
         // Atomics (ISA, 8.2 and 8.4).
         Inst::LrW(x) => Reserves(reserving(r, x, 4, true)),
         Inst::LrD(x) => Reserves(reserving(r, x, 8, false)),
@@ -281,57 +245,6 @@ pub fn asked(inst: Inst, bytes: u64, hart: &Hart) -> Action
         Inst::AmomaxD(x) => UpdateDouble(updating(r, x, Operation::Greater)),
         Inst::AmominuD(x) => UpdateDouble(updating(r, x, Operation::LesserUnsigned)),
         Inst::AmomaxuD(x) => UpdateDouble(updating(r, x, Operation::GreaterUnsigned)),
-    }
-}
-
-/// The address of a load or store.
-#[inline]
-fn address(registers: &Registers, rs1: Reg, immediate: i32) -> u64
-    ensures { result ≡ (value_of registers.now rs1 + wrapped immediate) % 2 ^ 64 }
-{
-    alu::sum(registers.get(rs1), alu::wrapped(immediate))
-}
-
-/// Where a branch goes.
-#[inline]
-fn branch(pc: u64, bytes: u64, offset: i32, taken: bool) -> Action
-    ensures { result ≡ is.Go ((pc + (if taken then wrapped offset else bytes)) % 2 ^ 64) }
-{
-    let step = if taken { alu::wrapped(offset) } else { bytes };
-    Go(alu::sum(pc, step))
-}
-
-#[inline]
-fn loading(registers: &Registers, x: IType, bytes: u64, signed: bool) -> Load
-    ensures { result
-        ≡ record {
-          address = (value_of registers.now x.rs1 + wrapped x.immediate) % 2 ^ 64;
-          bytes = bytes;
-          rd = x.rd;
-          signed = signed;
-        } }
-{
-    Load {
-        address: address(registers, x.rs1, x.immediate),
-        bytes,
-        rd: x.rd,
-        signed,
-    }
-}
-
-#[inline]
-fn storing(registers: &Registers, x: SType, bytes: u64) -> Store
-    ensures { result
-        ≡ record {
-          address = (value_of registers.now x.rs1 + wrapped x.immediate) % 2 ^ 64;
-          bytes = bytes;
-          value = value_of registers.now x.rs2;
-        } }
-{
-    Store {
-        address: address(registers, x.rs1, x.immediate),
-        bytes,
-        value: registers.get(x.rs2),
     }
 }
 

@@ -2,21 +2,21 @@
 //!
 //! Source: RISC-V Unprivileged ISA 20191213, section 2.8; Linux, the numbers of calls and errno.
 
-ghost use Rattle.std.specs.Prelude.{◌≡◌, ℕ, List, ◌<◌, MatchResult};
-ghost use Rattle.rv_isa_laws.specs.Hart.{register, advanced};
-ghost use Rattle.rv_isa_laws.specs.Effect.{apply, answer as answer_of, reads, writes, On};
+ghost use Rattle.std.specs.Prelude.{◌≡◌, ℕ, List, ◌<◌};
+ghost use Rattle.rv_isa_laws.specs.Hart.{advanced};
+ghost use Rattle.rv_isa_laws.specs.Effect.{apply, answer as answer_of, reads, writes};
 ghost use Rattle.rv_machine.specs.Action.{effect_of};
+ghost use Rattle.rv_machine.specs.Flow.{Leaves, MayMove};
 ghost use Rattle.rv_machine.specs.Hart.{hart_of};
-ghost use Rattle.rv_machine.specs.Machine.{state_of, Comes};
+ghost use Rattle.rv_machine.specs.Registers.{value_of};
 ghost use Rattle.rv_machine.specs.declared.action.Action.TheVariants as is;
 
 use crate::access;
 use crate::end::End;
+use crate::flow::{Flow, Transfer};
 use crate::hart::Hart;
-use crate::state::State;
 use rv_isa::Reg;
-use rv_memory::{Memory, Right, append_bytes, put_bytes};
-use std::alloc::AllocError;
+use rv_memory::{Memory, Right};
 
 /// The numbers of the registers a0, a1, a2 and a7.
 const A0: u32 = 10;
@@ -37,15 +37,15 @@ const BAD_ADDRESS: u64 = 0xFFFF_FFFF_FFFF_FFF2;
 const NO_CALL: u64 = 0xFFFF_FFFF_FFFF_FFDA;
 
 /// The value of a register, by its number.
-fn argument(state: &State, number: u32) -> u64
+fn argument(hart: &Hart, number: u32) -> u64
     requires { number < 32 }
-    ensures { result ≡ register (state_of state.now) number }
+    ensures { result ≡ value_of hart.now.registers number }
 {
-    state.hart.registers.get(Reg::from_low_bits(number))
+    hart.registers.get(Reg::from_low_bits(number))
 }
 
 /// Answers in a0, with the hart at the next instruction.
-fn answer(hart: &mut Hart, value: u64, bytes: u64)
+pub fn answer(hart: &mut Hart, value: u64, bytes: u64)
     ensures { (input console : List ℕ) →
         hart_of hart.new input console
         ≡ answer_of (advanced (hart_of hart.old input console) bytes) value }
@@ -53,78 +53,73 @@ fn answer(hart: &mut Hart, value: u64, bytes: u64)
     access::set(hart, Reg::from_low_bits(A0), value, bytes);
 }
 
-/// Reads input into memory.
-#[inline(never)]
-fn read<M: Memory>(state: &mut State, memory: &mut M, bytes: u64)
-    ensures { reads (advanced (state_of state.old) bytes) (M.mem memory.old)
-        ≡ On (state_of state.new) (M.mem memory.new) }
+/// Looks at a call that reads input: at its file, and at the memory that is to get it.
+fn ask_to_read<M: Memory>(hart: &mut Hart, memory: &M, bytes: u64) -> Flow
+    ensures may { MayMove result (M.mem memory.now) }
+    ensures left { (input console : List ℕ) →
+        let before = hart_of hart.old input console in
+        Leaves result (reads (advanced before bytes) (M.mem memory.now)) before (M.mem memory.now)
+        (hart_of hart.new input console) (M.mem memory.now) }
 {
-    if argument(state, A0) != 0 {
-        answer(&mut state.hart, BAD_FILE, bytes);
-        return;
+    if argument(hart, A0) != 0 {
+        answer(hart, BAD_FILE, bytes);
+        return Flow::Done(None);
     }
-    let address = argument(state, A1);
-    let count = argument(state, A2);
+    let address = argument(hart, A1);
+    let count = argument(hart, A2);
     if !memory.may(address, count, Right::Write) {
-        answer(&mut state.hart, BAD_ADDRESS, bytes);
-        return;
+        answer(hart, BAD_ADDRESS, bytes);
+        return Flow::Done(None);
     }
-    let left = state.input.as_slice().split_at(state.taken).1;
-    let moved = count.min(left.len() as u64);
-    put_bytes(memory, address, left.split_at(moved as usize).0);
-    state.taken += moved as usize;
-    answer(&mut state.hart, moved, bytes);
+    Flow::Reads(Transfer {
+        address,
+        count,
+        bytes,
+    })
 }
 
-/// Writes bytes of memory to the console.
-#[inline(never)]
-fn write<M: Memory>(state: &mut State, memory: &M, bytes: u64) -> Result<(), AllocError>
-    ensures { MatchResult result
-        (λ _. writes (advanced (state_of state.old) bytes) (M.mem memory.now)
-        ≡ On (state_of state.new) (M.mem memory.now))
-        (λ _. state_of state.new ≡ state_of state.old) }
+/// Looks at a call that writes to the console: at its file, and at the bytes that are to be written.
+fn ask_to_write<M: Memory>(hart: &mut Hart, memory: &M, bytes: u64) -> Flow
+    ensures may { MayMove result (M.mem memory.now) }
+    ensures left { (input console : List ℕ) →
+        let before = hart_of hart.old input console in
+        Leaves result (writes (advanced before bytes) (M.mem memory.now)) before (M.mem memory.now)
+        (hart_of hart.new input console) (M.mem memory.now) }
 {
-    let file = argument(state, A0);
+    let file = argument(hart, A0);
     if file != 1 && file != 2 {
-        answer(&mut state.hart, BAD_FILE, bytes);
-        return Ok(());
+        answer(hart, BAD_FILE, bytes);
+        return Flow::Done(None);
     }
-    let address = argument(state, A1);
-    let count = argument(state, A2);
+    let address = argument(hart, A1);
+    let count = argument(hart, A2);
     if !memory.may(address, count, Right::Read) {
-        answer(&mut state.hart, BAD_ADDRESS, bytes);
-        return Ok(());
+        answer(hart, BAD_ADDRESS, bytes);
+        return Flow::Done(None);
     }
-    append_bytes(memory, address, count, &mut state.console)?;
-    answer(&mut state.hart, count, bytes);
-    Ok(())
+    Flow::Writes(Transfer {
+        address,
+        count,
+        bytes,
+    })
 }
 
-/// Does a call of the environment.
-pub fn call<M: Memory>(
-    state: &mut State,
-    memory: &mut M,
-    bytes: u64,
-) -> Result<Option<End>, AllocError>
-    ensures { let before = state_of state.old in
-        MatchResult result
-        (λ e. Comes e (apply (effect_of is.Call bytes before) (M.mem memory.old)) before
-        (M.mem memory.old) (state_of state.new) (M.mem memory.new))
-        (λ _. (state_of state.new ≡ before) × (M.mem memory.new ≡ M.mem memory.old)) }
+/// Does a call of the environment, but for the bytes that it moves.
+#[inline(never)]
+pub fn call<M: Memory>(hart: &mut Hart, memory: &M, bytes: u64) -> Flow
+    ensures may { MayMove result (M.mem memory.now) }
+    ensures left { (input console : List ℕ) →
+        let before = hart_of hart.old input console in
+        Leaves result (apply (effect_of is.Call bytes before) (M.mem memory.now)) before
+        (M.mem memory.now) (hart_of hart.new input console) (M.mem memory.now) }
 {
-    match argument(state, A7) {
-        63 => {
-            read(state, memory, bytes);
-            Ok(None)
-        }
-        64 => match write(state, memory, bytes) {
-            Ok(()) => Ok(None),
-            Err(error) => Err(error),
-        },
-        93 => Ok(Some(End::Exited((argument(state, A0) % 256) as u8))),
+    match argument(hart, A7) {
+        63 => ask_to_read(hart, memory, bytes),
+        64 => ask_to_write(hart, memory, bytes),
+        93 => Flow::Done(Some(End::Exited((argument(hart, A0) % 256) as u8))),
         _ => {
-            answer(&mut state.hart, NO_CALL, bytes);
-            Ok(None)
+            answer(hart, NO_CALL, bytes);
+            Flow::Done(None)
         }
     }
 }

@@ -2,9 +2,10 @@
 //!
 //! Source: RISC-V Unprivileged ISA 20191213, sections 2.1 and 8.2.
 
-ghost use Rattle.std.specs.Prelude.{◌≡◌, ◌%◌, ◌*◌, ◌+◌, ◌^◌};
+ghost use Rattle.std.specs.Prelude.{◌≡◌, ◌%◌, ◌*◌, ◌+◌, ◌^◌, ℕ, List, []};
+ghost use Rattle.rv_isa_laws.specs.Hart.{start};
 ghost use Rattle.rv_isa_laws.specs.Meaning.{is_reserved as is_reserved_by};
-ghost use Rattle.rv_machine.specs.Hart.{reservation_of};
+ghost use Rattle.rv_machine.specs.Hart.{hart_of, reservation_of};
 
 use crate::registers::Registers;
 
@@ -27,6 +28,17 @@ pub struct Hart {
 }
 
 impl Hart {
+    /// The hart before its first step: registers 0 but sp, at an entry.
+    pub fn new(entry: u64) -> Self
+        ensures { (input : List ℕ) → hart_of result input [] ≡ start entry input }
+    {
+        Hart {
+            registers: Registers::new(),
+            pc: entry,
+            reservation: None,
+        }
+    }
+
     /// Whether the latest lr or sc was an lr of this address and width.
     #[inline]
     pub fn is_reserved(&self, address: u64, bytes: u64) -> bool

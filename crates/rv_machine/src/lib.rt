@@ -1,12 +1,18 @@
 //! A hart that runs an image.
 //!
-//! It takes an image, an input and a limit, and gives what the program has written and how its run ended.
+//! It takes an image, an input and a limit, and gives what the program has written and how its run ended; or it takes
+//! streams in place of the input, and writes as the program does.
 //!
 //! Main contract: `run` answers, by every reading that is exact, the outcome `machine_run` of the image's memory, its
-//! entry and the input; `Machine::step` does one `step` of that run. It must not know sources, maps or files: an image
-//! is all that it sees.
+//! entry and the input; `Machine::step` does one `step` of that run. `run_io` reads and writes streams so that it comes
+//! to `machine_run` of what was read, and where a stream fails to the beginning of its console. It must not know
+//! sources, maps or files: an image is all that it sees.
+//!
+//! A step is fetched and done by `advance`, but for the bytes that a call moves (`Flow`): those a machine takes from its
+//! input and puts onto its console, and `run_io` moves between memory and streams.
 //!
 //! ```text
+//! let end = run_io(alloc, image, &mut Io::new(reader), &mut Io::new(writer), limit)?;
 //! let outcome = run(alloc, image, input, limit)?;
 //! let text = outcome.console.as_slice();
 //! match outcome.end {
@@ -21,16 +27,30 @@ mod access;
 mod action;
 mod alu;
 mod calls;
+mod console;
 mod end;
 mod fetch;
+mod flow;
+mod formats;
 mod hart;
+mod io;
 mod laws;
 mod machine;
+mod operands;
 mod outcome;
+mod parcel;
+mod quick;
 mod registers;
+mod running;
 mod state;
+mod streams;
+mod transfers;
+mod word;
 
 pub use end::End;
+pub use io::Io;
 pub use laws::runs_agree;
 pub use machine::Machine;
 pub use outcome::{Outcome, run};
+pub use running::{RunFault, run_io};
+pub use streams::{GuestIn, GuestOut, IoFailed};

@@ -2,7 +2,7 @@
 //!
 //! Source: RISC-V Unprivileged ISA 20191213, sections 1.5 and 2.8.
 
-ghost use Rattle.std.specs.Prelude.{◌≡◌, ℕ, MatchResult, IfOk, None};
+ghost use Rattle.std.specs.Prelude.{◌≡◌, ℕ, List, MatchResult, IfOk, None};
 ghost use Rattle.rv_encode.specs.Word.{Spells};
 ghost use Rattle.rv_compress.specs.Parcel.{StandsFor};
 ghost use Rattle.rv_isa_laws.specs.Effect.{apply};
@@ -10,16 +10,18 @@ ghost use Rattle.rv_isa_laws.specs.Hart.{start};
 ghost use Rattle.rv_isa_laws.specs.Reader.{Reader};
 ghost use Rattle.rv_isa_laws.specs.Run.{step as step_of, run as run_of};
 ghost use Rattle.rv_machine.specs.Action.{effect_of, HasWidth};
+ghost use Rattle.rv_machine.specs.Flow.{Leaves, MayMove};
+ghost use Rattle.rv_machine.specs.Hart.{hart_of};
 ghost use Rattle.rv_machine.specs.Machine.{state_of, outcome_at, Comes, Steps};
 
-use crate::access;
 use crate::action::{Action, asked};
 use crate::calls::call;
 use crate::end::End;
 use crate::fetch::{Fetched, fetch};
+use crate::flow::Flow;
 use crate::hart::Hart;
-use crate::registers::Registers;
 use crate::state::State;
+use crate::{access, console, quick};
 use rv_memory::Memory;
 use std::alloc::{AllocError, Global};
 
@@ -31,49 +33,63 @@ pub struct Machine<M: Memory + Drop> {
     end: Option<End>,
 }
 
-/// Does what an instruction of this length in bytes asks.
+/// Does what an instruction of this length in bytes asks, but for the bytes that a call moves.
 #[inline(always)]
-fn act<M: Memory>(
-    action: Action,
-    bytes: u64,
-    state: &mut State,
-    memory: &mut M,
-) -> Result<Option<End>, AllocError>
+fn act<M: Memory>(action: Action, bytes: u64, hart: &mut Hart, memory: &mut M) -> Flow
     requires { HasWidth action }
-    ensures { let before = state_of state.old in
-        MatchResult result
-        (λ e. Comes e (apply (effect_of action bytes before) (M.mem memory.old)) before
-        (M.mem memory.old) (state_of state.new) (M.mem memory.new))
-        (λ _. (state_of state.new ≡ before) × (M.mem memory.new ≡ M.mem memory.old)) }
+    ensures may { MayMove result (M.mem memory.new) }
+    ensures left { (input console : List ℕ) →
+        let before = hart_of hart.old input console in
+        Leaves result (apply (effect_of action bytes before) (M.mem memory.old)) before
+        (M.mem memory.old) (hart_of hart.new input console) (M.mem memory.new) }
 {
-    let hart = &mut state.hart;
     match action {
         Action::Set(rd, value) => {
             access::set(hart, rd, value, bytes);
-            Ok(None)
+            Flow::Done(None)
         }
         Action::Jump(rd, target) => {
             access::jump(hart, rd, target, bytes);
-            Ok(None)
+            Flow::Done(None)
         }
         Action::Go(target) => {
             hart.pc = target;
-            Ok(None)
+            Flow::Done(None)
         }
-        Action::Load(x) => Ok(access::load(hart, memory, x, bytes)),
-        Action::Store(x) => Ok(access::store(hart, memory, x, bytes)),
-        Action::Reserve(x) => Ok(access::reserve(hart, memory, x, bytes)),
-        Action::Conditional(x) => Ok(access::conditional(hart, memory, x, bytes)),
-        Action::UpdateWord(x) => Ok(access::update_word(hart, memory, x, 4, bytes)),
-        Action::UpdateDouble(x) => Ok(access::update_double(hart, memory, x, 8, bytes)),
-        Action::Break => Ok(Some(End::Breakpoint)),
-        Action::Call => call(state, memory, bytes),
+        Action::Load(x) => Flow::Done(access::load(hart, memory, x, bytes)),
+        Action::Store(x) => Flow::Done(access::store(hart, memory, x, bytes)),
+        Action::Reserve(x) => Flow::Done(access::reserve(hart, memory, x, bytes)),
+        Action::Conditional(x) => Flow::Done(access::conditional(hart, memory, x, bytes)),
+        Action::UpdateWord(x) => Flow::Done(access::update_word(hart, memory, x, 4, bytes)),
+        Action::UpdateDouble(x) => Flow::Done(access::update_double(hart, memory, x, 8, bytes)),
+        Action::Break => Flow::Done(Some(End::Breakpoint)),
+        Action::Call => call(hart, memory, bytes),
     }
 }
 
-/// Does one step: fetches an instruction, and does what it asks.
+/// Fetches an instruction, and does what it asks, but for the bytes that a call moves.
 #[inline(always)]
-fn advance<M: Memory>(state: &mut State, memory: &mut M) -> Result<Option<End>, AllocError>
+pub(crate) fn advance<M: Memory>(hart: &mut Hart, memory: &mut M) -> Flow
+    ensures may { MayMove result (M.mem memory.new) }
+    ensures left { (reader : Reader Spells StandsFor) (input console : List ℕ) →
+        let before = hart_of hart.old input console in
+        Leaves result (step_of reader before (M.mem memory.old)) before (M.mem memory.old)
+        (hart_of hart.new input console) (M.mem memory.new) }
+{
+    let pc = hart.pc;
+    match fetch(memory, pc) {
+        Fetched::NoRight => Flow::Done(Some(End::FetchOutside(pc))),
+        Fetched::NoInstruction => Flow::Done(Some(End::Illegal(pc))),
+        Fetched::Got(inst, bytes) => {
+            let action = asked(inst, bytes, hart);
+            act(action, bytes, hart, memory)
+        }
+    }
+}
+
+/// Does one step, of a call with the input and the console of the machine.
+#[inline(always)]
+fn forward<M: Memory>(state: &mut State, memory: &mut M) -> Result<Option<End>, AllocError>
     ensures { (reader : Reader Spells StandsFor) →
         let before = state_of state.old in
         MatchResult result
@@ -81,14 +97,16 @@ fn advance<M: Memory>(state: &mut State, memory: &mut M) -> Result<Option<End>, 
         (state_of state.new) (M.mem memory.new))
         (λ _. (state_of state.new ≡ before) × (M.mem memory.new ≡ M.mem memory.old)) }
 {
-    let pc = state.hart.pc;
-    match fetch(memory, pc) {
-        Fetched::NoRight => Ok(Some(End::FetchOutside(pc))),
-        Fetched::NoInstruction => Ok(Some(End::Illegal(pc))),
-        Fetched::Got(inst, bytes) => {
-            let action = asked(inst, bytes, &state.hart);
-            act(action, bytes, state, memory)
+    match advance(&mut state.hart, memory) {
+        Flow::Done(ended) => Ok(ended),
+        Flow::Reads(transfer) => {
+            console::read(state, memory, transfer);
+            Ok(None)
         }
+        Flow::Writes(transfer) => match console::write(state, memory, transfer) {
+            Ok(()) => Ok(None),
+            Err(error) => Err(error),
+        },
     }
 }
 
@@ -100,13 +118,8 @@ impl<M: Memory + Drop> Machine<M> {
         ensures end { IfOk result (λ m. m.end ≡ None) }
     {
         let input = Vec::from_slice(alloc, input)?;
-        let hart = Hart {
-            registers: Registers::new(),
-            pc: entry,
-            reservation: None,
-        };
         let state = State {
-            hart,
+            hart: Hart::new(entry),
             input,
             taken: 0,
             console: Vec::new(alloc),
@@ -120,7 +133,7 @@ impl<M: Memory + Drop> Machine<M> {
 
     /// One step, or the end that the machine came to before; then nothing changes. Where memory runs out,
     /// the machine is as it was and can go on.
-    #[inline]
+    #[inline(never)]
     pub fn step(&mut self) -> Result<Option<End>, AllocError>
         ensures kept { IfOk result (λ ended. self.old.end ≡ None → self.new.end ≡ ended) }
         ensures reader { (reader : Reader Spells StandsFor) →
@@ -132,7 +145,7 @@ impl<M: Memory + Drop> Machine<M> {
         if let Some(end) = self.end {
             return Ok(Some(end));
         }
-        match advance(&mut self.state, &mut self.memory) {
+        match forward(&mut self.state, &mut self.memory) {
             Ok(None) => Ok(None),
             Ok(Some(end)) => {
                 self.end = Some(end);
@@ -150,10 +163,13 @@ impl<M: Memory + Drop> Machine<M> {
             (λ e. outcome_at self.new.state e
             ≡ run_of reader limit (state_of self.old.state) (M.mem self.old.memory)) }
     {
-        for done in 0..limit {
+        let mut left = limit;
+        while left > 0 {
             if let Some(end) = self.step()? {
                 return Ok(end);
             }
+            left -= 1;
+            left -= quick::steps(&mut self.state.hart, &mut self.memory, left);
         }
         Ok(End::Limit)
     }

@@ -1,7 +1,8 @@
 //! Guests: executables of a few words, and the guest that compares what instructions give.
 
 use rv_image::load;
-use rv_machine::{Outcome, run};
+use rv_machine::{End, Machine, Outcome, run};
+use rv_memory::Flat;
 use std::alloc::{AllocError, Global};
 use std::test::Fail;
 
@@ -93,15 +94,40 @@ pub(super) fn executable(alloc: Global, parts: &[Part<'_>]) -> Result<Vec<u8>, A
     Ok(file)
 }
 
-/// What a run of some segments comes to.
+/// Whether a run over a flat memory comes to an outcome.
+fn comes_to(
+    alloc: Global,
+    file: &[u8],
+    input: &[u8],
+    limit: u64,
+    outcome: &Outcome,
+) -> Result<bool, Fail> {
+    let memory = Flat::new(alloc, load(alloc, file)?)?;
+    let mut machine = Machine::new(alloc, memory, TEXT, input)?;
+    let mut end = End::Limit;
+    for _ in 0..limit {
+        if let Some(found) = machine.step()? {
+            end = found;
+            break;
+        }
+    }
+    Ok(end == outcome.end && machine.console() == outcome.console.as_slice())
+}
+
+/// What a run of some segments comes to, over a memory of pages and over a flat one.
 pub(super) fn ran(
     alloc: Global,
     parts: &[Part<'_>],
     input: &[u8],
     limit: u64,
 ) -> Result<Outcome, Fail> {
-    let image = load(alloc, &executable(alloc, parts)?)?;
-    Ok(run(alloc, image, input, limit)?)
+    let file = executable(alloc, parts)?;
+    let outcome = run(alloc, load(alloc, &file)?, input, limit)?;
+    if comes_to(alloc, &file, input, limit, &outcome)? {
+        Ok(outcome)
+    } else {
+        Err(Fail::from("the memories differ"))
+    }
 }
 
 /// What a table's guest comes to. For each row it takes a1 and a2, sets a3 to 0, does three instructions

@@ -26,3 +26,5 @@ mod memory;
 mod paged;
 #[cfg(test)]
 mod parcels;
+#[cfg(test)]
+mod streams;

@@ -37,7 +37,7 @@ ghost use Rattle.rv_isa_laws.specs.Memory.{
   Write as ToWrite,
 };
 ghost use Rattle.rv_image.specs.Segment.{segment_of};
-ghost use Rattle.rv_memory.specs.Rights.{right_of, IsWidth, MayLoad};
+ghost use Rattle.rv_memory.specs.Rights.{right_of, IsWidth, IsToLoad, MayLoad};
 ghost use Rattle.rv_memory.specs.Flat.{memory_of, AreDisjoint, no_segment, with_part};
 ghost use Rattle.rv_image.specs.Memory.{lies_in, has_flag, segment_at, mem_of};
 ghost use Rattle.rv_image.specs.Image.{image_of};
@@ -48,8 +48,9 @@ use rv_image::{Image, STACK_BYTES, STACK_START, Segment};
 use std::alloc::{AllocError, Global};
 use std::cell::Cell;
 
-/// Segments that lie apart, the stack last among them, each in one piece. An access looks first where the latest
-/// one was found, and a scan finds its segment where that one does not hold it.
+/// Segments that lie apart, the stack last among them, each in one piece. A fetch looks first at the first of them,
+/// where linkers put code, and then where the latest search for code ended; another access looks first where the
+/// latest one was found. A scan finds the segment where none of these holds it.
 #[derive(Drop)]
 pub struct Flat {
     segments: Vec<Segment>,
@@ -155,15 +156,24 @@ impl Flat {
         None
     }
 
-    /// The index of the segment that an access looks at first.
+    /// The index of the segment that an access looks at first; for code a constant, which costs least.
     #[inline(always)]
     fn first(&self, address: u64, right: Right) -> usize {
         match right {
-            Right::Execute => self.code.get(),
+            Right::Execute => 0,
             _ if address.wrapping_sub(STACK_START) < STACK_BYTES as u64 => {
                 self.segments.len().wrapping_sub(1)
             }
             _ => self.data.get(),
+        }
+    }
+
+    /// The index of the segment where the latest search ended.
+    #[inline(always)]
+    fn latest(&self, right: Right) -> usize {
+        match right {
+            Right::Execute => self.code.get(),
+            Right::Read | Right::Write => self.data.get(),
         }
     }
 
@@ -216,6 +226,28 @@ impl Flat {
         ensures bytes { (k : ℕ) → k < bytes → (held self.now).byte ((address + k) % 2 ^ 64) < 256 }
     {
         self.load(address, bytes)
+    }
+
+    /// The number of bytes that have the right, where the segment that is looked at first does not hold them.
+    #[inline(never)]
+    fn load_elsewhere(&self, address: u64, bytes: u64, right: Right) -> Option<u64>
+        requires width { IsWidth bytes }
+        requires right { IsToLoad right }
+        ensures right { MatchOption result
+            (may (held self.now) address bytes (right_of right) ≡ false)
+            (λ _. may (held self.now) address bytes (right_of right) ≡ true) }
+        ensures number { IfSome result (λ number. number ≡ number_at (held self.now) address bytes) }
+        ensures bytes { IfSome result
+            (λ _. (k : ℕ) → k < bytes → (held self.now).byte ((address + k) % 2 ^ 64) < 256) }
+    {
+        if let Some(part) = self.part(self.latest(right), address, bytes, right) {
+            return Some(number(part));
+        }
+        if self.search(address, bytes, right) {
+            Some(self.load_found(address, bytes))
+        } else {
+            None
+        }
     }
 
     /// Puts bytes where the segment at the index holds them and gives the right to write; whether it does.
@@ -339,11 +371,7 @@ impl Memory for Flat {
         if let Some(part) = self.part(self.first(address, right), address, bytes, right) {
             return Some(number(part));
         }
-        if self.search(address, bytes, right) {
-            Some(self.load_found(address, bytes))
-        } else {
-            None
-        }
+        self.load_elsewhere(address, bytes, right)
     }
 
     #[inline(always)]

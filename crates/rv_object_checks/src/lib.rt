@@ -20,6 +20,7 @@
 
 mod checked;
 mod checking;
+mod copies;
 mod fields;
 mod headers;
 mod names;

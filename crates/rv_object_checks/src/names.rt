@@ -10,7 +10,7 @@ ghost use Rattle.rv_object_file_laws.specs.Rows.{rows_name};
 ghost use Rattle.rv_object_checks.specs.Names.{strings_end, names_table, names_end};
 
 use memchr::memrchr;
-use rv_elf::{ElfView, SectionHeader, SectionIndex};
+use rv_elf::{ElfView, SectionHeader, SectionIndex, string_in};
 
 /// The name of the section of rows, as a table of names has it.
 const ROWS_NAME: &[u8] = b".rv.rows\0";
@@ -55,6 +55,11 @@ impl<'a> Names<'a> {
         header.sh_name == 0 || u64::from(header.sh_name) < self.end
     }
 
+    /// The bytes of the section's name; 0 where it has none, or one that does not end.
+    pub(crate) fn length_of(&self, header: &SectionHeader) -> u64 {
+        length_of_name(self.table, self.end, header.sh_name)
+    }
+
     /// Whether the section has the rows.
     pub(crate) fn is_rows(&self, header: &SectionHeader) -> bool
         ensures { result ≡ is_rows self.now.view.file.now header.now }
@@ -76,6 +81,18 @@ pub(crate) fn end_of_strings(table: &[u8]) -> u64
 {
     match memrchr(0, table) {
         Some(last) => last as u64 + 1,
+        None => 0,
+    }
+}
+
+/// The bytes of the name at an offset of a table, the last string of which ends at `end`; 0 where there is none, or none
+/// that ends.
+pub(crate) fn length_of_name(table: &[u8], end: u64, offset: u32) -> u64 {
+    if offset == 0 || u64::from(offset) >= end {
+        return 0;
+    }
+    match string_in(table, offset) {
+        Some(name) => name.len() as u64,
         None => 0,
     }
 }

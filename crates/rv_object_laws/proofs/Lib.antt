@@ -1,1 +1,5 @@
 pub mod Ordinals
+pub mod Changes
+pub mod TextInputs
+pub mod TextPlaces
+pub mod TextLine

@@ -4,3 +4,6 @@ pub mod Names
 pub mod Values
 pub mod IsLinkOf
 pub mod Rising
+pub mod Calls
+pub mod Shortened
+pub mod Within

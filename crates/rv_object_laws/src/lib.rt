@@ -12,4 +12,4 @@
 
 mod law;
 
-pub use law::{nothing_moves, rows_in_order_stay};
+pub use law::{nothing_moves, rows_in_order_stay, sites_make_a_text};

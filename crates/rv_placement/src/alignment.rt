@@ -50,7 +50,7 @@ fn raised(alignment: u64, relocations: &[Relocation]) -> u64
 }
 
 /// The multiple at which a section begins.
-pub(crate) fn begins_at(section: &Section) -> u64
+pub fn begins_at(section: &Section) -> u64
     ensures value { result ≡ inputs.begins_at (section_of section.now) }
     ensures some { 0 < result }
     ensures small { result ≤ 4096 }

@@ -29,7 +29,7 @@ fn has_no_bytes(contents: &Contents) -> bool
 }
 
 /// The bytes of a section in memory, before any is dropped.
-pub(crate) fn full_size(contents: &Contents) -> u64
+pub fn full_size(contents: &Contents) -> u64
     ensures { result ≡ size_of (contents_of contents.now) }
 {
     match contents {
@@ -40,7 +40,7 @@ pub(crate) fn full_size(contents: &Contents) -> u64
 }
 
 /// Whether a section goes to the text.
-pub(crate) fn is_text(section: &Section) -> bool
+pub fn is_text(section: &Section) -> bool
     ensures { result ≡ goes_to_text (section_of section.now) }
 {
     section.loaded && section.executable

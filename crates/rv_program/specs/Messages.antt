@@ -14,6 +14,8 @@ use Rattle.rv_elf.specs.declared.fault.FileFault.TheVariants.{UnsupportedRelocat
 use Rattle.rv_elf.specs.Fault as files
 use Rattle.rv_machine.specs.declared.end.End.{End}
 use Rattle.rv_machine.specs.End as ends
+use Rattle.rv_machine.specs.declared.running.RunFault.{RunFault}
+use Rattle.rv_machine.specs.declared.running.RunFault.TheVariants as runs
 use Rattle.rv_link.specs.declared.fault.LinkFault.{LinkFault}
 use Rattle.rv_link.specs.declared.fault.LinkFault.TheVariants.{Undefined, Duplicate}
 use Rattle.rv_link.specs.Fault as links
@@ -78,6 +80,12 @@ fault_text names (Source file fault) = source_text (file_name names file) fault
 fault_text names (File file fault) = file_text (file_name names file) fault
 fault_text names (Link fault) = link_text fault
 fault_text names Memory = None
+
+-- the line of a stream that failed in a run; want of memory has none
+abbrev pub run_text : RunFault → Option (List ℕ)
+run_text runs.InputFault = Some (codes "X1 InputFault")
+run_text runs.OutputFault = Some (codes "X2 OutputFault")
+run_text runs.OutOfMemory = None
 
 -- an error with this line, or that of want of memory
 abbrev pub Tells : CliError → Option (List ℕ) → Type 0

@@ -1,12 +1,9 @@
 //! What the program shows of files: the listing of an executable, and the bytes of any file.
 
 use crate::error::CliError;
-use crate::jobs::{contents, print};
-use crate::messages::fault_line;
+use crate::jobs::{contents, image_in, print};
 use crate::system::System;
-use rv_chain::Fault;
 use rv_disasm::{hex_dump, listing};
-use rv_image::{Image, load};
 use rv_map::{Map, read};
 use std::alloc::Global;
 
@@ -57,13 +54,5 @@ fn map_in(alloc: Global, name: &str, text: &[u8]) -> Result<Map, CliError> {
     match read(alloc, text)? {
         Some(map) => Ok(map),
         None => Err(CliError::Line(format!(in alloc; "{name}: not a map")?)),
-    }
-}
-
-/// The image that a file is loaded as.
-fn image_in(alloc: Global, name: &str, file: &[u8]) -> Result<Image, CliError> {
-    match load(alloc, file) {
-        Ok(image) => Ok(image),
-        Err(fault) => Err(fault_line(alloc, &Fault::File(1, fault), &[name])?),
     }
 }

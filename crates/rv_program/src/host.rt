@@ -1,6 +1,8 @@
 //! The system itself: the files of the disk and the standard streams of the process.
 
-use crate::system::{FILE_LIMIT, Purpose, ReadFault, System, read_whole};
+use crate::system::{FILE_LIMIT, GuestInput, Purpose, ReadFault, System, read_whole};
+use rv_image::Image;
+use rv_machine::{End, Io, RunFault, run_io};
 use std::alloc::Global;
 use std::fs::File;
 use std::io::{self, Write};
@@ -40,6 +42,21 @@ impl System for Host<'_> {
 
     fn print(&mut self, bytes: &[u8]) -> io::Result<()> {
         self.rt.stdout().write_all(bytes)
+    }
+
+    fn run(&mut self, image: Image, input: GuestInput, limit: u64) -> Result<End, RunFault> {
+        let alloc = self.rt.alloc();
+        let mut output = Io::new(self.rt.stdout());
+        match input {
+            GuestInput::Standard => {
+                let mut input = Io::new(self.rt.stdin());
+                run_io(alloc, image, &mut input, &mut output, limit)
+            }
+            GuestInput::Empty => {
+                let mut input = Io::new(io::empty());
+                run_io(alloc, image, &mut input, &mut output, limit)
+            }
+        }
     }
 
     fn show(&mut self, text: &str) {

@@ -5,12 +5,11 @@ ghost use Rattle.rv_program.specs.Status.{run_status};
 
 use crate::disassembly::{dump, objdump};
 use crate::error::CliError;
-use crate::messages::{end_line, fault_line};
-use crate::system::{FILE_LIMIT, INPUT_LIMIT, Purpose, ReadFault, System};
+use crate::messages::{end_line, fault_line, run_line};
+use crate::system::{FILE_LIMIT, GuestInput, Purpose, ReadFault, System};
 use crate::words::default_options;
-use rv_chain::{
-    Built, End, LinkOptions, assemble_object, build, build_exe, link_objects, run_exec,
-};
+use rv_chain::{Built, End, Fault, LinkOptions, assemble_object, build, build_exe, link_objects};
+use rv_image::{Image, load};
 use std::alloc::{AllocError, Global};
 
 /// The exit status of a run that the guest did not end by an exit.
@@ -91,7 +90,7 @@ pub(crate) fn run_job<S: System>(system: &mut S, job: &Job<'_>) -> Result<u8, Cl
     }
 }
 
-/// Runs an executable, or builds a source and runs it.
+/// Runs an executable, or builds a source and runs it; the exit status.
 fn run<S: System>(system: &mut S, name: &str, limit: u64) -> Result<u8, CliError> {
     let alloc: Global = system.alloc();
     let from_input = name == "-";
@@ -106,14 +105,23 @@ fn run<S: System>(system: &mut S, name: &str, limit: u64) -> Result<u8, CliError
     } else {
         executable(alloc, name, bytes.as_slice())?
     };
+    let image = image_in(alloc, name, exe.as_slice())?;
     let input = if from_input {
-        Vec::new(alloc)
+        GuestInput::Empty
     } else {
-        guest_input(system)?
+        GuestInput::Standard
     };
-    match run_exec(alloc, exe.as_slice(), input.as_slice(), limit) {
-        Ok(outcome) => report_end(system, outcome.console.as_slice(), &outcome.end),
-        Err(fault) => Err(fault_line(alloc, &fault, &[name])?),
+    match system.run(image, input, limit) {
+        Ok(end) => report_end(system, &end),
+        Err(fault) => Err(run_line(alloc, &fault)?),
+    }
+}
+
+/// The image that a file is loaded as.
+pub(crate) fn image_in(alloc: Global, name: &str, file: &[u8]) -> Result<Image, CliError> {
+    match load(alloc, file) {
+        Ok(image) => Ok(image),
+        Err(fault) => Err(fault_line(alloc, &Fault::File(1, fault), &[name])?),
     }
 }
 
@@ -125,22 +133,10 @@ fn executable(alloc: Global, name: &str, source: &[u8]) -> Result<Vec<u8>, CliEr
     }
 }
 
-/// All of standard input, for the guest.
-fn guest_input<S: System>(system: &mut S) -> Result<Vec<u8>, CliError> {
-    match system.input(INPUT_LIMIT) {
-        Ok(input) => Ok(input),
-        Err(ReadFault::Failed) => Err(CliError::Line("X1 InputFault".to_string(system.alloc())?)),
-        Err(ReadFault::Memory) => Err(CliError::Memory),
-    }
-}
-
-/// Prints the console and says how the run ended; the exit status.
-fn report_end<S: System>(system: &mut S, console: &[u8], end: &End) -> Result<u8, CliError>
+/// Says how a run ended where the guest did not exit; the exit status.
+fn report_end<S: System>(system: &mut S, end: &End) -> Result<u8, CliError>
     ensures { IfOk result (λ status. status ≡ run_status end.now) }
 {
-    if system.print(console).is_err() {
-        return Err(CliError::Line("X2 OutputFault".to_string(system.alloc())?));
-    }
     match end {
         End::Exited(code) => Ok(*code),
         _ => {

@@ -4,9 +4,9 @@
 //! it has written what the words ask for, or one line that says why not.
 //!
 //! Main function: `exit_status`. What it prints, and when, is tested. What runs, builds and links give is said by
-//! the clauses of `run_exec`, `build`, `build_exe`, `assemble_object` and `link_objects`, of which it hands on the
+//! the clauses of `load`, `run_io`, `build`, `build_exe`, `assemble_object` and `link_objects`, of which it hands on the
 //! bytes as they are; which numbers its words write, by those of `decimal` and `text_start` (`specs/Numbers`); the
-//! lines of faults and ends, by `fault_line` and `end_line` (`specs/Messages`); the status of an error, by `report`
+//! lines of faults and ends, by `fault_line`, `run_line` and `end_line` (`specs/Messages`); the status of an error, by `report`
 //! (`specs/Status`). It does not know how statements are read or instructions executed, and of the system only what
 //! [`System`] has: [`Host`] is the real one, and a test stands in for it.
 //!
@@ -30,7 +30,7 @@ mod words;
 
 pub use error::CliError;
 pub use host::Host;
-pub use messages::{end_line, fault_line};
+pub use messages::{end_line, fault_line, run_line};
 pub use status::{exit_status, report};
-pub use system::{Purpose, ReadFault, System, read_whole};
+pub use system::{GuestInput, Purpose, ReadFault, System, read_whole};
 pub use words::{decimal, default_options, text_start};

@@ -1,10 +1,11 @@
 //! The lines that the program writes to standard error, without `rv: ` before them.
 
 ghost use Rattle.std.specs.Prelude.{◌≡◌, IfOk, option_map, string_bytes};
-ghost use Rattle.rv_program.specs.Messages.{Tells, end_text, fault_text, file_name, file_text, kind_in, link_text, name_in, shown_name, source_text};
+ghost use Rattle.rv_program.specs.Messages.{Tells, end_text, fault_text, file_name, file_text, kind_in, link_text, name_in, run_text, shown_name, source_text};
 
 use crate::error::CliError;
 use rv_chain::{End, Fault, FileFault, LinkFault, SourceFault};
+use rv_machine::RunFault;
 use std::alloc::{AllocError, Global};
 use std::str::from_utf8;
 
@@ -118,5 +119,16 @@ pub fn end_line(alloc: Global, end: &End) -> Result<String, AllocError>
     match end.address() {
         Some(address) => format!(in alloc; "{what} {address:x}"),
         None => what.to_string(alloc),
+    }
+}
+
+/// As `X1 InputFault`.
+pub fn run_line(alloc: Global, fault: &RunFault) -> Result<CliError, AllocError>
+    ensures { IfOk result (λ error. Tells error (run_text fault.now)) }
+{
+    match fault {
+        RunFault::InputFault => Ok(CliError::Line("X1 InputFault".to_string(alloc)?)),
+        RunFault::OutputFault => Ok(CliError::Line("X2 OutputFault".to_string(alloc)?)),
+        RunFault::OutOfMemory => Ok(CliError::Memory),
     }
 }

@@ -1,15 +1,15 @@
-//! What the program asks of the system: files and the standard streams, read and written whole.
+//! What the program asks of the system: files, and the standard streams, whole or as a guest asks.
 
 ghost use Rattle.std.specs.Prelude.{◌≤◌, length, IfOk};
 ghost use Rattle.std.specs.Io.KnownBytes.{Consumes, IsAtEnd};
 
+use rv_image::Image;
+use rv_machine::{End, RunFault};
 use std::alloc::{AllocError, AllocFailed, Global};
 use std::io::{self, Read};
 
 /// The most bytes of a file: 1 GiB.
 pub(crate) const FILE_LIMIT: usize = 1 << 30;
-/// The most bytes of a guest's input: 16 MiB.
-pub(crate) const INPUT_LIMIT: usize = 16 << 20;
 /// The bytes of one read.
 const PIECE: usize = 1 << 16;
 
@@ -40,6 +40,13 @@ pub enum Purpose {
     ToRead,
 }
 
+/// Where a guest's input comes from.
+#[derive(Clone, Copy, PartialEq, Eq)]
+pub enum GuestInput {
+    Standard,
+    Empty,
+}
+
 /// The system that the program runs on; a test stands in for it.
 pub trait System {
     fn alloc(&self) -> Global;
@@ -55,6 +62,9 @@ pub trait System {
 
     /// Writes to standard output.
     fn print(&mut self, bytes: &[u8]) -> io::Result<()>;
+
+    /// Runs an image, at most `limit` instructions: it reads and writes the standard streams as the guest asks.
+    fn run(&mut self, image: Image, input: GuestInput, limit: u64) -> Result<End, RunFault>;
 
     /// Writes a text to standard error.
     fn show(&mut self, text: &str);

@@ -1,8 +1,10 @@
 //! A system that stands in for the real one, and rows of words over it.
 
-use rv_program::{Purpose, ReadFault, System, exit_status};
+use rv_image::Image;
+use rv_machine::{End, Io, RunFault, run_io};
+use rv_program::{GuestInput, Purpose, ReadFault, System, exit_status};
 use std::alloc::{AllocError, Global};
-use std::io::{self, ErrorKind};
+use std::io::{self, ErrorKind, Read, Write};
 
 /// What is there to be read, and what cannot be written. There are the files `a.s`, `a` and `b.s`, which is empty, and
 /// those that the program wrote.
@@ -46,6 +48,44 @@ pub(super) struct Written {
     pub(super) name: String,
     pub(super) purpose: Purpose,
     pub(super) bytes: Vec<u8>,
+}
+
+/// Standard input; `None` where it cannot be read.
+#[derive(Drop)]
+struct Input<'a>(Option<&'a [u8]>);
+
+impl Read for Input<'_> {
+    fn read(&mut self, buffer: &mut [u8]) -> io::Result<usize> {
+        let Some(bytes) = self.0 else {
+            return Err(io::Error::from(ErrorKind::Other));
+        };
+        let count = bytes.len().min(buffer.len());
+        let (now, later) = bytes.split_at(count);
+        buffer[..count].copy_from_slice(now);
+        self.0 = Some(later);
+        Ok(count)
+    }
+}
+
+/// Standard output.
+#[derive(Drop)]
+struct Output {
+    bytes: Vec<u8>,
+    closed: bool,
+}
+
+impl Write for Output {
+    fn write(&mut self, bytes: &[u8]) -> io::Result<usize> {
+        if self.closed {
+            return Err(io::Error::from(ErrorKind::BrokenPipe));
+        }
+        self.bytes.extend_from_slice(bytes)?;
+        Ok(bytes.len())
+    }
+
+    fn flush(&mut self) -> io::Result<()> {
+        Ok(())
+    }
 }
 
 /// A scene and what the program wrote in it.
@@ -131,6 +171,28 @@ impl System for Fake<'_> {
         }
         self.output.extend_from_slice(bytes)?;
         Ok(())
+    }
+
+    fn run(&mut self, image: Image, input: GuestInput, limit: u64) -> Result<End, RunFault> {
+        let bytes = match input {
+            GuestInput::Standard => self.scene.input,
+            GuestInput::Empty => Some(b"".as_slice()),
+        };
+        let mut output = Output {
+            bytes: Vec::new(self.alloc),
+            closed: self.scene.closed == "-",
+        };
+        let mut reader = Io::new(Input(bytes));
+        let mut writer = Io::new(&mut output);
+        let ended = run_io(self.alloc, image, &mut reader, &mut writer, limit);
+        if self
+            .output
+            .extend_from_slice(output.bytes.as_slice())
+            .is_err()
+        {
+            return Err(RunFault::OutOfMemory);
+        }
+        ended
     }
 
     fn show(&mut self, text: &str) {

@@ -130,8 +130,8 @@ fn a_guest_reads_standard_input(rt: HostRuntime) -> Result<(), Fail> {
             "{output}"
         );
     }
-    let largest = Vec::from_elem(alloc, b'x', 1 << 24)?;
-    assert!(rt; run_ends(alloc, &ECHO_FOUR, Some(largest.as_slice()), 0, "xxxx", "")?);
+    let large = Vec::from_elem(alloc, b'x', (1 << 24) + 1)?;
+    assert!(rt; run_ends(alloc, &ECHO_FOUR, Some(large.as_slice()), 0, "xxxx", "")?);
     Ok(())
 }
 
@@ -175,16 +175,18 @@ const INPUT_FAILS: [Row; 1] = [("rv run a", 1, "", "rv: X1 InputFault\n")];
 
 const OUTPUT_FAILS: [Row; 1] = [("rv run a", 1, "", "rv: X2 OutputFault\n")];
 
+/// What the guest does not read cannot fail.
+const NOTHING_READ: [Row; 1] = [("rv run a", 0, "h", "")];
+
 #[test]
 fn a_stream_fails(rt: HostRuntime) -> Result<(), Fail> {
     let alloc = rt.alloc();
-    let exe = executable(alloc, &WRITES_H)?;
-    let too_much = Vec::from_elem(alloc, b'x', (1 << 24) + 1)?;
-    let mut scene = Scene::exe(exe.as_slice(), None);
+    let reads = executable(alloc, &ECHO_FOUR)?;
+    let writes = executable(alloc, &WRITES_H)?;
+    let mut scene = Scene::exe(reads.as_slice(), None);
     assert_eq!(rt; first_other(alloc, scene, &INPUT_FAILS)?, None);
-    scene.input = Some(too_much.as_slice());
-    assert_eq!(rt; first_other(alloc, scene, &INPUT_FAILS)?, None);
-    scene.input = Some(b"");
+    scene.exe = writes.as_slice();
+    assert_eq!(rt; first_other(alloc, scene, &NOTHING_READ)?, None);
     scene.closed = "-";
     assert_eq!(rt; first_other(alloc, scene, &OUTPUT_FAILS)?, None);
     Ok(())

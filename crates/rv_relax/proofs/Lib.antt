@@ -6,3 +6,8 @@ pub mod Planned
 pub mod Kept
 pub mod Rooms
 pub mod Apart
+pub mod Dropping
+pub mod Judging
+pub mod Tables
+pub mod Going
+pub mod Laid

@@ -1,3 +1,4 @@
 pub mod Paddings
+pub mod Passes
 pub mod Plan
 pub mod Worked

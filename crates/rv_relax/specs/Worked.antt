@@ -1,10 +1,13 @@
--- Sections for worked numbers.
+-- Sections and sites for worked numbers.
 
-use Rattle.std.specs.Prelude.{ℕ, pos, true, List, [], ◌∷◌, None}
+use Rattle.std.specs.Prelude.{ℕ, pos, true, false, List, [], ◌∷◌, None}
 use Rattle.rv_isa.specs.declared.kind.Kind.TheVariants as kinds
+use Rattle.rv_layout_laws.specs.declared.site.Site.{Site}
+use Rattle.rv_layout_laws.specs.declared.site.SiteKind.TheVariants as sites
 use Rattle.rv_object.specs.Object.{Relocation, Section, Progbits}
 use Rattle.rv_object.specs.Padding.{no_operations}
 use Rattle.rv_object_laws.specs.Moves.{Move}
+use Rattle.rv_object_laws.specs.Calls.{padding_site}
 
 -- an alignment with its bytes of padding at a place
 abbrev pub align_at : ℕ → ℕ → Relocation
@@ -25,3 +28,14 @@ code_with rs = record {
 -- of a padding this many bytes are kept
 abbrev pub kept_of : ℕ → ℕ → ℕ → Move
 kept_of place full left = record { place = place; full = full; text = no_operations left }
+
+-- a `call` at an offset of a text to another
+abbrev pub call_to : (offset target : ℕ) → Site
+call_to offset target = record {
+  offset = offset;
+  kind = sites.Call (record { target = target; addend = pos 0; compressed = false });
+}
+
+-- `_start: call f; call f; call f; li a7, 93; ecall` and then `f: ret`
+abbrev pub calls_to_f : List Site
+calls_to_f = padding_site 0 0 2 ∷ call_to 0 32 ∷ call_to 8 32 ∷ call_to 16 32 ∷ []

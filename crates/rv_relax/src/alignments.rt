@@ -10,7 +10,7 @@ use rv_object::Relocation;
 use std::alloc::{AllocError, Global};
 
 /// The bytes of the padding that stands at an alignment.
-pub(crate) fn full_padding(alignment: &Relocation) -> u64
+pub fn full_padding(alignment: &Relocation) -> u64
     ensures { result ≡ full_padding_of (relocation_of alignment.now) }
 {
     if alignment.addend < 0 {

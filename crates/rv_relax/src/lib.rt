@@ -1,4 +1,10 @@
-//! What the linker keeps of the paddings of a section.
+//! What the linker keeps of calls and of paddings.
+//!
+//! A call has eight bytes, and a shorter form where its target is near (R_RISCV_RELAX). Which calls are shortened is decided
+//! for a whole text at once: the sizes are the greatest with which no call has a shorter form that reaches, distances counted
+//! with every padding in full (`rv_layout_laws`, `IsGreatestClosed`). [`Plan`] takes the sites of a text and finds them in
+//! passes, forwards and backwards in turn, over tables of numbers: no byte moves, and the passes are at most twice the calls
+//! and one. It tells how much is kept of each site, and where an offset of the text is afterwards.
 //!
 //! An alignment in code (R_RISCV_ALIGN) brings as much padding as it can ever need. Where its section starts at an address,
 //! the linker keeps the least of it that is needed, writes it anew as instructions without effect, and drops the rest; all
@@ -11,22 +17,30 @@
 //! It must not know symbols, values of relocations, or where sections come to stand.
 //!
 //! ```text
+//! let calls = Plan::of(alloc, sites)?;
+//! let bytes = calls.size_at(offset);
+//!
 //! let plan = SectionPlan::of(alloc, section, 0x1_0000)?;
 //! let offset = plan.new_offset(relocation.place);
 //! plan.put_kept(&mut text, bytes)?;
 //! ```
 //!
-//! Source: RISC-V ELF psABI, "Linker Relaxation", R_RISCV_ALIGN.
+//! Source: RISC-V ELF psABI, "Linker Relaxation", function call relaxation and R_RISCV_ALIGN.
 #![tactic(auto)]
 
 mod alignments;
 mod bytes;
+mod calls;
 mod law;
 mod offsets;
 mod padding;
 mod paddings;
-mod plan;
+mod passes;
+mod places;
+mod reach;
+mod section_plan;
 
-pub use alignments::{asked_alignment, has_padding};
-pub use law::{one_alignment, two_alignments};
-pub use plan::SectionPlan;
+pub use alignments::{asked_alignment, full_padding, has_padding};
+pub use calls::Plan;
+pub use law::{one_alignment, three_calls, two_alignments};
+pub use section_plan::SectionPlan;

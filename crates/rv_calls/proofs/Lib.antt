@@ -1,0 +1,9 @@
+pub mod Sorted
+pub mod Alone
+pub mod Along
+pub mod Loops
+pub mod Inside
+pub mod Steps
+pub mod Changed
+pub mod Targets
+pub mod Walks

@@ -1,0 +1,30 @@
+use Rattle.std.proofs.Common.{◌<◌, ◌≤◌, ◌+◌, ◌^◌, length, arith, rules}
+use Rattle.rv_object.specs.View.{object_of}
+use Rattle.std.proofs.lemmas.List.{length-map}
+use Rattle.rv_calls.specs.Line.{ended_files}
+use Rattle.rv_calls.specs.Text.{objects_of}
+use Rattle.rv_calls.proofs.Walks.{mapped_at, object_low, object_ends, object_more, objects_done}
+use Rattle.rv_calls.proofs.walk.put_all.Goals as goal
+
+pub put_object-requires-clause-low : goal.put_object-requires-clause-low
+put_object-requires-clause-low c =
+    let os = objects_of c.args.text.now in
+    let inside : c.loop-file.file < length c.args.text.now.objects.now = search rules in
+    let there = mapped_at object_of c.args.text.now.objects.now c.loop-file.file c.index-text-file.result inside in
+    object_low c.loop-file.stop c.loop-file.file os _ there (2 ^ 62) (ended_files 0 os) c.requires.short c.loop-file.invariant.1
+
+pub loop-file-preserved : goal.loop-file-preserved
+loop-file-preserved c =
+    let os = objects_of c.args.text.now in
+    let inside : c.loop-file.file < length c.args.text.now.objects.now = search rules in
+    let there = mapped_at object_of c.args.text.now.objects.now c.loop-file.file c.index-text-file.result inside in
+    let ends = c.in_ok-stop.ensures.end in (
+      object_more c.loop-file.stop c.loop-file.file os _ there c.in_ok-stop.stop ends c.loop-file.sites.items c.put_object.new.sites.items _ c.in_ok-stop.ensures.sites c.loop-file.invariant.0,
+      object_ends c.loop-file.stop c.loop-file.file os _ there c.in_ok-stop.stop ends (ended_files 0 os) c.loop-file.invariant.1,
+    )
+
+pub returns : goal.returns
+returns c =
+    let os = objects_of c.args.text.now in
+    let past : length os ≤ c.loop-file.file = (let many = length-map c.args.text.now.objects.now object_of in let test : length c.args.text.now.objects.now ≤ c.loop-file.file = search rules in omega (arith, many, test)) in
+    objects_done (c.loop-file.file + 1) c.loop-file.file c.loop-file.stop os os c.loop-file.sites.items c.args.sites.now.items past c.loop-file.invariant.0

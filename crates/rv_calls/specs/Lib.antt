@@ -1,0 +1,4 @@
+pub mod Line
+pub mod Entries
+pub mod Between
+pub mod Text

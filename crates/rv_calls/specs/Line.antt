@@ -1,0 +1,74 @@
+-- The text in one line, section by section, as passes over objects go along it.
+
+use Rattle.std.specs.Prelude.{ℕ, suc, ◌+◌, List, [], ◌∷◌, ◌++◌, map, Option, Some, None, unwrap_or, if◌then◌else◌}
+use Rattle.std.specs.List.{slice_get}
+use Rattle.std.specs.Global.{Vec}
+use Rattle.rv_layout_laws.specs.declared.site.Site.{Site}
+use Rattle.rv_object.specs.Object.{Section, Object, size_of}
+use Rattle.rv_object_laws.specs.Inputs.{InputSection, goes_to_text, begins_at}
+use Rattle.rv_object_laws.specs.Calls.{changes, start_padding, padding_site, site_of}
+
+-- the end of the line after a section; one that does not go to the text changes nothing
+abbrev pub end_from : ℕ → Section → ℕ
+end_from stop s = stop + start_padding s + size_of s.contents
+
+abbrev pub next : ℕ → Section → ℕ
+next stop s = if goes_to_text s then end_from stop s else stop
+
+abbrev pub ended : ℕ → List Section → ℕ
+ended stop [] = stop
+ended stop (s ∷ ss) = ended (next stop s) ss
+
+abbrev pub ended_files : ℕ → List Object → ℕ
+ended_files stop [] = stop
+ended_files stop (o ∷ os) = ended_files (ended stop o.sections) os
+
+-- the offset of a section's first byte; 0 of one that does not go to the text
+abbrev pub first_behind : ℕ → Section → ℕ
+first_behind stop s = if goes_to_text s then stop + start_padding s else 0
+
+abbrev pub firsts : ℕ → List Section → List ℕ
+firsts stop [] = []
+firsts stop (s ∷ ss) = first_behind stop s ∷ firsts (next stop s) ss
+
+abbrev pub firsts_files : ℕ → List Object → List (List ℕ)
+firsts_files stop [] = []
+firsts_files stop (o ∷ os) = firsts stop o.sections ∷ firsts_files (ended stop o.sections) os
+
+abbrev pub lists_of : List (Vec ℕ) → List (List ℕ)
+lists_of files = map (λ f. f.items) files
+
+-- the number at an index of a file; 0 where there is none
+abbrev pub base_of : Option (Vec ℕ) → ℕ → ℕ
+base_of None index = 0
+base_of (Some v) index = unwrap_or (slice_get v.items index) 0
+
+abbrev pub base_at : List (Vec ℕ) → (file index : ℕ) → ℕ
+base_at files file index = base_of (slice_get files file) index
+
+-- ---- sites
+
+-- those of a section of text behind an end
+abbrev pub text_sites : List Object → ℕ → InputSection → List Site
+text_sites os stop i =
+    padding_site stop (start_padding i.section) (begins_at i.section)
+    ∷ map (site_of os i (stop + start_padding i.section)) (changes os i)
+
+abbrev pub section_sites : List Object → ℕ → InputSection → List Site
+section_sites os stop i = if goes_to_text i.section then text_sites os stop i else []
+
+abbrev pub input : (file : ℕ) → Object → (index : ℕ) → Section → InputSection
+input file o index s = record { file = file; object = o; index = index; section = s }
+
+abbrev pub object_sites : List Object → (file : ℕ) → Object → (index stop : ℕ) → List Section
+    → List Site
+object_sites os file o index stop [] = []
+object_sites os file o index stop (s ∷ ss) =
+    section_sites os stop (input file o index s)
+    ++ object_sites os file o (suc index) (next stop s) ss
+
+abbrev pub files_sites : List Object → (file stop : ℕ) → List Object → List Site
+files_sites os file stop [] = []
+files_sites os file stop (o ∷ rest) =
+    object_sites os file o 0 stop o.sections
+    ++ files_sites os (suc file) (ended stop o.sections) rest

@@ -1,0 +1,113 @@
+//! The text of objects, as what calls lead to.
+
+ghost use Rattle.std.specs.Prelude.{◌≡◌, ◌+◌, Some, map, false, option_map, IfOk, IfSome, IfNone};
+ghost use Rattle.std.specs.List.{slice_get};
+ghost use Rattle.rv_object.specs.Object.{Object as SaidObject};
+ghost use Rattle.rv_object.specs.Parts.{relocation_of, symbol_of};
+ghost use Rattle.rv_object.specs.View.{object_of};
+ghost use Rattle.rv_object_laws.specs.Inputs.{InputSection};
+ghost use Rattle.rv_object_laws.specs.Calls.{is_in_section, is_short_text, target_place};
+ghost use Rattle.rv_placement.specs.Placement.{section_at};
+ghost use Rattle.rv_resolve.specs.Names.{IsNames, place_of};
+ghost use Rattle.rv_calls.specs.Line.{base_at};
+ghost use Rattle.rv_calls.specs.Text.{IsLaid, objects_of, symbol_in, text_target};
+
+use crate::line::bases;
+use rv_object::{Object, Relocation, Symbol};
+use rv_placement::{full_size, is_text};
+use rv_resolve::Names;
+use std::alloc::{AllocError, Global};
+
+/// The text of objects in one line.
+#[derive(Drop)]
+pub(crate) struct Text<'t, 'o> {
+    pub(crate) objects: &'t [Object],
+    pub(crate) names: &'t Names<'o>,
+    /// Where the first byte of each section stands, by its file and its index there, both from 0.
+    pub(crate) bases: Vec<Vec<u64>>,
+}
+
+/// The symbol of a relocation of a file, from 0, if it has one.
+fn symbol_at(objects: &[Object], file: usize, index: Option<u32>) -> Option<&Symbol>
+    ensures { (o : SaidObject) → slice_get (map object_of objects.now) file ≡ Some o
+        → option_map (λ s. symbol_of s.now) result ≡ symbol_in o index }
+{
+    let index = index?;
+    let object = objects.get(file)?;
+    object.symbols.get(index as usize)
+}
+
+/// Whether an offset of a section, by its file and its index there, both from 0, is in text or at its end.
+fn is_in_text(objects: &[Object], file: usize, section: usize, offset: u64) -> bool
+    ensures { result
+        ≡ is_in_section (section_at (map object_of objects.now) file section) offset }
+{
+    match objects.get(file) {
+        Some(object) => match object.sections.get(section) {
+            Some(section) => is_text(section) && offset <= full_size(&section.contents),
+            None => false,
+        },
+        None => false,
+    }
+}
+
+/// The offset at an index of a file; 0 where there is none.
+fn base(bases: &[Vec<u64>], file: usize, index: usize) -> u64
+    ensures { result ≡ base_at bases.now file index }
+{
+    match bases.get(file) {
+        Some(bases) => match bases.get(index) {
+            Some(base) => *base,
+            None => 0,
+        },
+        None => 0,
+    }
+}
+
+impl<'t, 'o> Text<'t, 'o> {
+    /// That of objects, whose names mean this; `None` where it is too long.
+    pub(crate) fn of(
+        alloc: Global,
+        objects: &'t [Object],
+        names: &'t Names<'o>,
+    ) -> Result<Option<Text<'t, 'o>>, AllocError>
+        requires { IsNames (map object_of objects.now) names.now }
+        ensures laid { IfOk result (λ found. IfSome found IsLaid) }
+        ensures same { IfOk result
+            (λ found. IfSome found (λ text. objects_of text ≡ map object_of objects.now)) }
+        ensures long { IfOk result
+            (λ found. IfNone found (is_short_text (map object_of objects.now) ≡ false)) }
+    {
+        match bases(alloc, objects)? {
+            Some(bases) => Ok(Some(Text {
+                objects,
+                names,
+                bases,
+            })),
+            None => Ok(None),
+        }
+    }
+
+    /// Where the symbol of a relocation of a file, from 0, stands, if that is in text.
+    pub(crate) fn target(&self, file: usize, relocation: &Relocation) -> Option<u64>
+        ensures { (i : InputSection) → IsLaid self.now → i.file ≡ file + 1
+            → slice_get (objects_of self.now) file ≡ Some i.object → result
+            ≡ text_target (objects_of self.now)
+            (target_place (objects_of self.now) i (relocation_of relocation.now)) }
+    {
+        let symbol = symbol_at(self.objects, file, relocation.symbol)?;
+        let (file, section, offset) = self.names.place(file, symbol)?;
+        self.offset(file, section as usize, offset)
+    }
+
+    /// Where an offset of a section stands, by its file and its index there, both from 0, if it is in text.
+    fn offset(&self, file: usize, section: usize, offset: u64) -> Option<u64>
+        ensures { IsLaid self.now → result
+            ≡ text_target (objects_of self.now) (Some (place_of (file, section, offset))) }
+    {
+        if !is_in_text(self.objects, file, section, offset) {
+            return None;
+        }
+        Some(base(&self.bases, file, section).wrapping_add(offset))
+    }
+}

@@ -1,0 +1,72 @@
+//! The sources whose objects are linked.
+
+use rv_chain::LinkOptions;
+
+/// The usual ones.
+pub(super) const OPTIONS: LinkOptions = LinkOptions {
+    text_start: 0x1_0000,
+    relax: true,
+};
+
+/// A program that exits with 7.
+pub(super) const EXIT7: &[u8] =
+    b".option norvc\n.globl _start\n_start: li a0, 7\nli a7, 93\necall\n";
+
+/// A program that writes a text.
+pub(super) const HELLO: &[u8] = b".globl _start
+_start: li a0, 1
+la a1, msg
+li a2, 5
+li a7, 64
+ecall
+li a0, 0
+li a7, 93
+ecall
+.section .rodata
+msg: .ascii \"hello\"
+";
+
+/// Sections of every kind, a padding in code, constants that others may name, and a difference.
+pub(super) const KINDS: &[u8] = b".globl _start, size, place
+.set size, 0x123456789
+_start: li a7, 93
+.balign 8
+here: ecall
+.data
+place: .dword here, size, there - place
+.balign 16
+there: .byte 1
+.bss
+.zero 5
+.section .note.x, \"a\", @note
+.word 1
+.section notes
+.word 2
+";
+
+/// A program whose loop has the name of the other file's.
+pub(super) const FIRST: &[u8] = b".globl _start
+_start: li a0, 0
+loop: addi a0, a0, 1
+li t0, 3
+blt a0, t0, loop
+tail f
+";
+
+/// The same with a global `f` of its own.
+pub(super) const FIRST_WITH_F: &[u8] = b".globl _start, f
+_start: li a0, 0
+loop: addi a0, a0, 1
+li t0, 3
+blt a0, t0, loop
+f: tail f
+";
+
+/// What the first goes on with.
+pub(super) const SECOND: &[u8] = b".globl f, loop
+f: loop: addi a0, a0, 4
+li t0, 10
+blt a0, t0, loop
+li a7, 93
+ecall
+";

@@ -1,0 +1,196 @@
+//! What the instruction of a parcel asks, by its form.
+//!
+//! Source: RISC-V Unprivileged ISA 20191213, sections 16.3 to 16.5.
+
+ghost use Rattle.std.specs.Prelude.{◌≡◌, ◌<◌, ◌^◌, pos, IfSome};
+ghost use Rattle.rv_compress.specs.Parcel.{IsLine, expansion};
+ghost use Rattle.rv_isa.specs.Operations as inst;
+ghost use Rattle.rv_isa.specs.declared.instruction.Inst.TheVariants as isa;
+ghost use Rattle.rv_machine.specs.Asked.{IsAsked, AsksByParcel};
+
+use crate::action::Action;
+use crate::formats;
+use crate::hart::Hart;
+use rv_compress::{Compressed, read};
+use rv_isa::{
+    BType, BranchOperation, IType, ImmediateOperation, JType, LoadOperation, RType, Reg,
+    RegisterOperation, SType, Shift, ShiftOperation, StoreOperation, UType, UpperOperation,
+};
+
+#[inline(always)]
+fn immediate(
+    operation: ImmediateOperation,
+    rd: Reg,
+    rs1: Reg,
+    immediate: i32,
+    hart: &Hart,
+) -> Action
+    ensures { IsAsked (inst.of_immediate operation (record { immediate = immediate; rd = rd; rs1 = rs1 })) 2 hart.now result }
+{
+    formats::by_immediate(operation, IType { immediate, rd, rs1 }, hart)
+}
+
+#[inline(always)]
+fn registers(operation: RegisterOperation, rd: Reg, rs1: Reg, rs2: Reg, hart: &Hart) -> Action
+    ensures { IsAsked (inst.of_registers operation (record { rd = rd; rs1 = rs1; rs2 = rs2 })) 2 hart.now result }
+{
+    formats::by_registers(operation, RType { rd, rs1, rs2 }, hart)
+}
+
+#[inline(always)]
+fn shift(operation: ShiftOperation, rd: Reg, amount: u8, hart: &Hart) -> Action
+    ensures { IsAsked (inst.of_shift operation (record { rd = rd; rs1 = rd; amount = amount })) 2 hart.now result }
+{
+    let rs1 = rd;
+    formats::by_amount(operation, Shift { rd, rs1, amount }, hart)
+}
+
+#[inline(always)]
+fn load(operation: LoadOperation, rd: Reg, rs1: Reg, offset: u32, hart: &Hart) -> Action
+    requires { offset < 2 ^ 12 }
+    ensures { IsAsked (inst.of_load operation (record { immediate = pos offset; rd = rd; rs1 = rs1 })) 2 hart.now result }
+{
+    let immediate = offset as i32;
+    formats::load(operation, IType { immediate, rd, rs1 }, hart)
+}
+
+#[inline(always)]
+fn store(operation: StoreOperation, rs1: Reg, rs2: Reg, offset: u32, hart: &Hart) -> Action
+    requires { offset < 2 ^ 12 }
+    ensures { IsAsked (inst.of_store operation (record { immediate = pos offset; rs1 = rs1; rs2 = rs2 })) 2 hart.now result }
+{
+    let immediate = offset as i32;
+    formats::store(
+        operation,
+        SType {
+            immediate,
+            rs1,
+            rs2,
+        },
+        hart,
+    )
+}
+
+#[inline(always)]
+fn branch(operation: BranchOperation, rs1: Reg, offset: i32, hart: &Hart) -> Action
+    ensures { IsAsked (inst.of_branch operation (record { offset = offset; rs1 = rs1; rs2 = 0 })) 2 hart.now result }
+{
+    let rs2 = Reg::from_low_bits(0);
+    formats::branch(operation, BType { offset, rs1, rs2 }, 2, hart)
+}
+
+#[inline(always)]
+fn jump_register(rd: Reg, rs1: Reg, hart: &Hart) -> Action
+    ensures { IsAsked (isa.Jalr (record { immediate = pos 0; rd = rd; rs1 = rs1 })) 2 hart.now result }
+{
+    formats::jump_register(
+        IType {
+            immediate: 0,
+            rd,
+            rs1,
+        },
+        hart,
+    )
+}
+
+#[inline(always)]
+fn upper(rd: Reg, immediate: u32, hart: &Hart) -> Action
+    ensures { IsAsked (isa.Lui (record { immediate = immediate; rd = rd })) 2 hart.now result }
+{
+    formats::upper(UpperOperation::Lui, UType { immediate, rd }, hart)
+}
+
+#[inline(always)]
+fn jump(offset: i32, hart: &Hart) -> Action
+    ensures { IsAsked (isa.Jal (record { offset = offset; rd = 0 })) 2 hart.now result }
+{
+    let rd = Reg::from_low_bits(0);
+    formats::jump(JType { offset, rd }, hart)
+}
+
+/// What a form asks.
+#[inline(always)]
+fn asked_by_form(form: Compressed, hart: &Hart) -> Action
+    requires { IsLine form }
+    ensures { IsAsked (expansion form) 2 hart.now result }
+{
+    let zero = Reg::from_low_bits(0);
+    let ra = Reg::from_low_bits(1);
+    let sp = Reg::from_low_bits(2);
+    match form {
+        Compressed::Addi4spn {
+            rd,
+            immediate: step,
+        } => immediate(ImmediateOperation::Addi, rd, sp, step as i32, hart),
+        Compressed::Lw { rd, rs1, offset } => load(LoadOperation::Lw, rd, rs1, offset, hart),
+        Compressed::Ld { rd, rs1, offset } => load(LoadOperation::Ld, rd, rs1, offset, hart),
+        Compressed::Sw { rs1, rs2, offset } => store(StoreOperation::Sw, rs1, rs2, offset, hart),
+        Compressed::Sd { rs1, rs2, offset } => store(StoreOperation::Sd, rs1, rs2, offset, hart),
+        Compressed::Nop { immediate: step } => immediate(
+            ImmediateOperation::Addi,
+            zero,
+            zero,
+            step,
+            hart,
+        ),
+        Compressed::Addi {
+            rd,
+            immediate: step,
+        } => immediate(ImmediateOperation::Addi, rd, rd, step, hart),
+        Compressed::Addiw {
+            rd,
+            immediate: step,
+        } => immediate(ImmediateOperation::Addiw, rd, rd, step, hart),
+        Compressed::Li {
+            rd,
+            immediate: step,
+        } => immediate(ImmediateOperation::Addi, rd, zero, step, hart),
+        Compressed::Addi16sp { immediate: step } => immediate(
+            ImmediateOperation::Addi,
+            sp,
+            sp,
+            step,
+            hart,
+        ),
+        Compressed::Lui {
+            rd,
+            immediate: step,
+        } => upper(rd, step, hart),
+        Compressed::Srli { rd, amount } => shift(ShiftOperation::Srli, rd, amount, hart),
+        Compressed::Srai { rd, amount } => shift(ShiftOperation::Srai, rd, amount, hart),
+        Compressed::Andi {
+            rd,
+            immediate: step,
+        } => immediate(ImmediateOperation::Andi, rd, rd, step, hart),
+        Compressed::Sub { rd, rs2 } => registers(RegisterOperation::Sub, rd, rd, rs2, hart),
+        Compressed::Xor { rd, rs2 } => registers(RegisterOperation::Xor, rd, rd, rs2, hart),
+        Compressed::Or { rd, rs2 } => registers(RegisterOperation::Or, rd, rd, rs2, hart),
+        Compressed::And { rd, rs2 } => registers(RegisterOperation::And, rd, rd, rs2, hart),
+        Compressed::Subw { rd, rs2 } => registers(RegisterOperation::Subw, rd, rd, rs2, hart),
+        Compressed::Addw { rd, rs2 } => registers(RegisterOperation::Addw, rd, rd, rs2, hart),
+        Compressed::J { offset } => jump(offset, hart),
+        Compressed::Beqz { rs1, offset } => branch(BranchOperation::Beq, rs1, offset, hart),
+        Compressed::Bnez { rs1, offset } => branch(BranchOperation::Bne, rs1, offset, hart),
+        Compressed::Slli { rd, amount } => shift(ShiftOperation::Slli, rd, amount, hart),
+        Compressed::Lwsp { rd, offset } => load(LoadOperation::Lw, rd, sp, offset, hart),
+        Compressed::Ldsp { rd, offset } => load(LoadOperation::Ld, rd, sp, offset, hart),
+        Compressed::Jr { rs1 } => jump_register(zero, rs1, hart),
+        Compressed::Mv { rd, rs2 } => registers(RegisterOperation::Add, rd, zero, rs2, hart),
+        Compressed::Ebreak => Action::Break,
+        Compressed::Jalr { rs1 } => jump_register(ra, rs1, hart),
+        Compressed::Add { rd, rs2 } => registers(RegisterOperation::Add, rd, rd, rs2, hart),
+        Compressed::Swsp { rs2, offset } => store(StoreOperation::Sw, sp, rs2, offset, hart),
+        Compressed::Sdsp { rs2, offset } => store(StoreOperation::Sd, sp, rs2, offset, hart),
+    }
+}
+
+/// What a parcel asks.
+#[inline(always)]
+pub fn asked_by_parcel(bits: u16, hart: &Hart) -> Option<Action>
+    ensures { IfSome result (AsksByParcel bits hart.now) }
+{
+    match read(bits) {
+        Some(form) => Some(asked_by_form(form, hart)),
+        None => None,
+    }
+}

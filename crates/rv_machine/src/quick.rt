@@ -1,0 +1,148 @@
+//! Steps that go on without the environment.
+//!
+//! Source: RISC-V Unprivileged ISA 20191213, sections 1.5 and 2.2.
+
+ghost use Rattle.std.specs.Prelude.{◌≡◌, ℕ, List, ◌%◌, ◌-◌, ◌≤◌};
+ghost use Rattle.rv_compress.specs.Parcel.{StandsFor};
+ghost use Rattle.rv_encode.specs.Word.{Spells};
+ghost use Rattle.rv_isa_laws.specs.Effect.{apply};
+ghost use Rattle.rv_isa_laws.specs.Reader.{Reader};
+ghost use Rattle.rv_isa_laws.specs.Run.{spelled, done, run, step as step_of};
+ghost use Rattle.rv_machine.specs.Action.{effect_of, HasWidth};
+ghost use Rattle.rv_machine.specs.Asked.{IsDone};
+ghost use Rattle.rv_machine.specs.Hart.{hart_of};
+ghost use Rattle.rv_machine.specs.declared.action.Action.TheVariants as is;
+ghost use Rattle.rv_memory.specs.Rights.{IsWidth};
+
+use crate::access;
+use crate::action::{Action, Load, Store};
+use crate::hart::Hart;
+use crate::parcel::asked_by_parcel;
+use crate::word::asked_by_word;
+use rv_memory::{Memory, Right};
+
+/// Does a load; whether its bytes may be read.
+#[inline(always)]
+fn load<M: Memory>(hart: &mut Hart, memory: &M, x: Load, bytes: u64) -> bool
+    requires { IsWidth x.bytes }
+    ensures { (input console : List ℕ) →
+        let before = hart_of hart.old input console in
+        IsDone result (apply (effect_of (is.Load x) bytes before) (M.mem memory.now)) before (M.mem memory.now)
+        (hart_of hart.new input console) (M.mem memory.now) }
+{
+    match access::read(memory, x.address, x.bytes, x.signed) {
+        Some(value) => {
+            access::set(hart, x.rd, value, bytes);
+            true
+        }
+        None => false,
+    }
+}
+
+/// Does a store; whether its bytes may be written.
+#[inline(always)]
+fn store<M: Memory>(hart: &mut Hart, memory: &mut M, x: Store, bytes: u64) -> bool
+    requires { IsWidth x.bytes }
+    ensures { (input console : List ℕ) →
+        let before = hart_of hart.old input console in
+        IsDone result (apply (effect_of (is.Store x) bytes before) (M.mem memory.old)) before (M.mem memory.old)
+        (hart_of hart.new input console) (M.mem memory.new) }
+{
+    if !access::write(memory, x.address, x.bytes, x.value) {
+        return false;
+    }
+    hart.pc = hart.pc.wrapping_add(bytes);
+    true
+}
+
+/// Does what an instruction of this length in bytes asks, where that neither ends the run nor is an atomic or a call;
+/// else nothing. Whether it was done.
+#[inline(always)]
+fn goes_on<M: Memory>(action: Action, bytes: u64, hart: &mut Hart, memory: &mut M) -> bool
+    requires { HasWidth action }
+    ensures { (input console : List ℕ) →
+        let before = hart_of hart.old input console in
+        IsDone result (apply (effect_of action bytes before) (M.mem memory.old)) before (M.mem memory.old)
+        (hart_of hart.new input console) (M.mem memory.new) }
+{
+    match action {
+        Action::Set(rd, value) => {
+            access::set(hart, rd, value, bytes);
+            true
+        }
+        Action::Jump(rd, target) => {
+            access::jump(hart, rd, target, bytes);
+            true
+        }
+        Action::Go(target) => {
+            hart.pc = target;
+            true
+        }
+        Action::Load(x) => load(hart, memory, x, bytes),
+        Action::Store(x) => store(hart, memory, x, bytes),
+        _ => false,
+    }
+}
+
+#[inline(always)]
+fn by_word<M: Memory>(bits: u32, hart: &mut Hart, memory: &mut M) -> bool
+    requires { bits % 4 ≡ 3 }
+    ensures { (reader : Reader Spells StandsFor) (input console : List ℕ) →
+        let before = hart_of hart.old input console in
+        IsDone result (done (spelled 4 (reader.word bits)) before (M.mem memory.old)) before (M.mem memory.old)
+        (hart_of hart.new input console) (M.mem memory.new) }
+{
+    match asked_by_word(bits, hart) {
+        Some(action) => goes_on(action, 4, hart, memory),
+        None => false,
+    }
+}
+
+#[inline(always)]
+fn by_parcel<M: Memory>(bits: u16, hart: &mut Hart, memory: &mut M) -> bool
+    ensures { (reader : Reader Spells StandsFor) (input console : List ℕ) →
+        let before = hart_of hart.old input console in
+        IsDone result (done (spelled 2 (reader.parcel bits)) before (M.mem memory.old)) before (M.mem memory.old)
+        (hart_of hart.new input console) (M.mem memory.new) }
+{
+    match asked_by_parcel(bits, hart) {
+        Some(action) => goes_on(action, 2, hart, memory),
+        None => false,
+    }
+}
+
+/// Does a step that goes on without the environment, or nothing; whether it did.
+#[inline(always)]
+pub fn step<M: Memory>(hart: &mut Hart, memory: &mut M) -> bool
+    ensures { (reader : Reader Spells StandsFor) (input console : List ℕ) →
+        let before = hart_of hart.old input console in
+        IsDone result (step_of reader before (M.mem memory.old)) before (M.mem memory.old)
+        (hart_of hart.new input console) (M.mem memory.new) }
+{
+    match memory.try_load(hart.pc, 4, Right::Execute) {
+        Some(bits) => {
+            if bits % 4 == 3 {
+                by_word(bits as u32, hart, memory)
+            } else {
+                by_parcel((bits % 0x1_0000) as u16, hart, memory)
+            }
+        }
+        None => false,
+    }
+}
+
+/// Does such steps, at most so many, until one is none of them; how many.
+#[inline(never)]
+pub fn steps<M: Memory>(hart: &mut Hart, memory: &mut M, most: u64) -> u64
+    ensures bound { result ≤ most }
+    ensures rest { (reader : Reader Spells StandsFor) (input console : List ℕ) →
+        run reader (most - result) (hart_of hart.new input console) (M.mem memory.new)
+        ≡ run reader most (hart_of hart.old input console) (M.mem memory.old) }
+{
+    for done in 0..most {
+        if !step(hart, memory) {
+            return done;
+        }
+    }
+    most
+}

@@ -1,0 +1,352 @@
+//! What the instruction of a word asks, by one look at its opcode and funct3.
+//!
+//! The words of atomics, fences and calls are not among them.
+//!
+//! Source: RISC-V Unprivileged ISA 20191213, section 2.2 and chapter 24.
+
+ghost use Rattle.std.specs.Prelude.{◌≡◌, ◌/◌, ◌%◌, ◌^◌, true, false, IfSome};
+ghost use Rattle.rv_machine.specs.Asked.{AsksByWord};
+ghost use Rattle.rv_machine.specs.Selectors as selectors;
+ghost use Rattle.rv_machine.specs.Selectors.{selector};
+
+use crate::action::Action;
+use crate::hart::Hart;
+use crate::{formats, operands};
+use rv_isa::{
+    BranchOperation, ImmediateOperation, LoadOperation, RegisterOperation, ShiftOperation,
+    StoreOperation, UpperOperation,
+};
+
+/// The opcode's bits 6:2 and funct3, each as octal digits; bits 1:0 are those of any word.
+#[inline(always)]
+fn selector_of(bits: u32) -> u32
+    ensures { result ≡ selector bits }
+{
+    bits >> 12 & 7 | (bits >> 2 & 0x1f) << 3
+}
+
+#[inline(always)]
+fn funct7(bits: u32) -> u32
+    ensures { result ≡ bits / 2 ^ 25 }
+{
+    bits >> 25
+}
+
+/// R-type.
+#[inline(always)]
+fn register(operation: RegisterOperation, bits: u32, hart: &Hart) -> Option<Action>
+    requires word { bits % 4 ≡ 3 }
+    requires selector { selector bits ≡ selectors.of_registers operation }
+    requires funct7 { bits / 2 ^ 25 ≡ selectors.funct7_of_registers operation }
+    ensures { IfSome result (AsksByWord bits hart.now) }
+{
+    Some(formats::by_registers(operation, operands::r_type(bits), hart))
+}
+
+/// I-type.
+#[inline(always)]
+fn immediate(operation: ImmediateOperation, bits: u32, hart: &Hart) -> Option<Action>
+    requires word { bits % 4 ≡ 3 }
+    requires selector { selector bits ≡ selectors.of_immediate operation }
+    ensures { IfSome result (AsksByWord bits hart.now) }
+{
+    Some(formats::by_immediate(operation, operands::i_type(bits), hart))
+}
+
+/// A shift of 64 bits.
+#[inline(always)]
+fn shift(operation: ShiftOperation, bits: u32, hart: &Hart) -> Option<Action>
+    requires word { bits % 4 ≡ 3 }
+    requires selector { selector bits ≡ selectors.of_shift operation }
+    requires full { selectors.is_word operation ≡ false }
+    requires above { bits / 2 ^ 26 ≡ selectors.above_amount operation }
+    ensures { IfSome result (AsksByWord bits hart.now) }
+{
+    Some(formats::by_amount(operation, operands::shift_by(bits), hart))
+}
+
+/// A shift of 32 bits.
+#[inline(always)]
+fn word_shift(operation: ShiftOperation, bits: u32, hart: &Hart) -> Option<Action>
+    requires word { bits % 4 ≡ 3 }
+    requires selector { selector bits ≡ selectors.of_shift operation }
+    requires word_shift { selectors.is_word operation ≡ true }
+    requires above { bits / 2 ^ 25 ≡ selectors.above_amount operation }
+    ensures { IfSome result (AsksByWord bits hart.now) }
+{
+    Some(formats::by_amount(operation, operands::word_shift(bits), hart))
+}
+
+/// A load.
+#[inline(always)]
+fn load(operation: LoadOperation, bits: u32, hart: &Hart) -> Option<Action>
+    requires word { bits % 4 ≡ 3 }
+    requires selector { selector bits ≡ selectors.of_load operation }
+    ensures { IfSome result (AsksByWord bits hart.now) }
+{
+    Some(formats::load(operation, operands::i_type(bits), hart))
+}
+
+/// S-type.
+#[inline(always)]
+fn store(operation: StoreOperation, bits: u32, hart: &Hart) -> Option<Action>
+    requires word { bits % 4 ≡ 3 }
+    requires selector { selector bits ≡ selectors.of_store operation }
+    ensures { IfSome result (AsksByWord bits hart.now) }
+{
+    Some(formats::store(operation, operands::s_type(bits), hart))
+}
+
+/// B-type.
+#[inline(always)]
+fn branch(operation: BranchOperation, bits: u32, hart: &Hart) -> Option<Action>
+    requires word { bits % 4 ≡ 3 }
+    requires selector { selector bits ≡ selectors.of_branch operation }
+    ensures { IfSome result (AsksByWord bits hart.now) }
+{
+    Some(formats::branch(operation, operands::b_type(bits), 4, hart))
+}
+
+/// U-type.
+#[inline(always)]
+fn upper(operation: UpperOperation, bits: u32, hart: &Hart) -> Option<Action>
+    requires word { bits % 4 ≡ 3 }
+    requires opcode { bits % 128 ≡ selectors.opcode_of_upper operation }
+    ensures { IfSome result (AsksByWord bits hart.now) }
+{
+    Some(formats::upper(operation, operands::u_type(bits), hart))
+}
+
+/// J-type.
+#[inline(always)]
+fn jump(bits: u32, hart: &Hart) -> Option<Action>
+    requires word { bits % 4 ≡ 3 }
+    requires opcode { bits % 128 ≡ 0x6f }
+    ensures { IfSome result (AsksByWord bits hart.now) }
+{
+    Some(formats::jump(operands::j_type(bits), hart))
+}
+
+/// `jalr`.
+#[inline(always)]
+fn jump_register(bits: u32, hart: &Hart) -> Option<Action>
+    requires word { bits % 4 ≡ 3 }
+    requires selector { selector bits ≡ 200 }
+    ensures { IfSome result (AsksByWord bits hart.now) }
+{
+    Some(formats::jump_register(operands::i_type(bits), hart))
+}
+
+/// The words without funct3.
+#[inline(always)]
+fn by_opcode(bits: u32, hart: &Hart) -> Option<Action>
+    requires { bits % 4 ≡ 3 }
+    ensures { IfSome result (AsksByWord bits hart.now) }
+{
+    match bits & 0x7f {
+        0x17 => upper(UpperOperation::Auipc, bits, hart),
+        0x37 => upper(UpperOperation::Lui, bits, hart),
+        0x6f => jump(bits, hart),
+        _ => None,
+    }
+}
+
+/// `slli`.
+#[inline(always)]
+fn left_shift(bits: u32, hart: &Hart) -> Option<Action>
+    requires word { bits % 4 ≡ 3 }
+    requires selector { selector bits ≡ 33 }
+    ensures { IfSome result (AsksByWord bits hart.now) }
+{
+    match bits >> 26 {
+        0x00 => shift(ShiftOperation::Slli, bits, hart),
+        _ => None,
+    }
+}
+
+/// `srli` and `srai`.
+#[inline(always)]
+fn right_shift(bits: u32, hart: &Hart) -> Option<Action>
+    requires word { bits % 4 ≡ 3 }
+    requires selector { selector bits ≡ 37 }
+    ensures { IfSome result (AsksByWord bits hart.now) }
+{
+    match bits >> 26 {
+        0x00 => shift(ShiftOperation::Srli, bits, hart),
+        0x10 => shift(ShiftOperation::Srai, bits, hart),
+        _ => None,
+    }
+}
+
+/// `slliw`.
+#[inline(always)]
+fn left_word_shift(bits: u32, hart: &Hart) -> Option<Action>
+    requires word { bits % 4 ≡ 3 }
+    requires selector { selector bits ≡ 49 }
+    ensures { IfSome result (AsksByWord bits hart.now) }
+{
+    match funct7(bits) {
+        0x00 => word_shift(ShiftOperation::Slliw, bits, hart),
+        _ => None,
+    }
+}
+
+/// `srliw` and `sraiw`.
+#[inline(always)]
+fn right_word_shift(bits: u32, hart: &Hart) -> Option<Action>
+    requires word { bits % 4 ≡ 3 }
+    requires selector { selector bits ≡ 53 }
+    ensures { IfSome result (AsksByWord bits hart.now) }
+{
+    match funct7(bits) {
+        0x00 => word_shift(ShiftOperation::Srliw, bits, hart),
+        0x20 => word_shift(ShiftOperation::Sraiw, bits, hart),
+        _ => None,
+    }
+}
+
+/// One R-type operation.
+#[inline(always)]
+fn one(operation: RegisterOperation, by: u32, bits: u32, hart: &Hart) -> Option<Action>
+    requires word { bits % 4 ≡ 3 }
+    requires selector { selector bits ≡ selectors.of_registers operation }
+    requires funct7 { by ≡ selectors.funct7_of_registers operation }
+    ensures { IfSome result (AsksByWord bits hart.now) }
+{
+    if funct7(bits) == by {
+        register(operation, bits, hart)
+    } else {
+        None
+    }
+}
+
+/// An R-type operation of the base, or one of the M extension.
+#[inline(always)]
+fn two(base: RegisterOperation, of_m: RegisterOperation, bits: u32, hart: &Hart) -> Option<Action>
+    requires word { bits % 4 ≡ 3 }
+    requires base { selector bits ≡ selectors.of_registers base }
+    requires base_funct7 { selectors.funct7_of_registers base ≡ 0 }
+    requires of_m { selector bits ≡ selectors.of_registers of_m }
+    requires of_m_funct7 { selectors.funct7_of_registers of_m ≡ 1 }
+    ensures { IfSome result (AsksByWord bits hart.now) }
+{
+    match funct7(bits) {
+        0 => register(base, bits, hart),
+        1 => register(of_m, bits, hart),
+        _ => None,
+    }
+}
+
+/// The same, or the subtraction or shift that funct7 20h makes of the base's.
+#[inline(always)]
+fn three(
+    base: RegisterOperation,
+    of_m: RegisterOperation,
+    other: RegisterOperation,
+    bits: u32,
+    hart: &Hart,
+) -> Option<Action>
+    requires word { bits % 4 ≡ 3 }
+    requires base { selector bits ≡ selectors.of_registers base }
+    requires base_funct7 { selectors.funct7_of_registers base ≡ 0 }
+    requires of_m { selector bits ≡ selectors.of_registers of_m }
+    requires of_m_funct7 { selectors.funct7_of_registers of_m ≡ 1 }
+    requires other { selector bits ≡ selectors.of_registers other }
+    requires other_funct7 { selectors.funct7_of_registers other ≡ 0x20 }
+    ensures { IfSome result (AsksByWord bits hart.now) }
+{
+    match funct7(bits) {
+        0 => register(base, bits, hart),
+        1 => register(of_m, bits, hart),
+        0x20 => register(other, bits, hart),
+        _ => None,
+    }
+}
+
+/// What a word asks; `None` where it is none of these.
+#[inline(always)]
+pub fn asked_by_word(bits: u32, hart: &Hart) -> Option<Action>
+    requires { bits % 4 ≡ 3 }
+    ensures { IfSome result (AsksByWord bits hart.now) }
+{
+    match selector_of(bits) {
+        0o000 => load(LoadOperation::Lb, bits, hart),
+        0o001 => load(LoadOperation::Lh, bits, hart),
+        0o002 => load(LoadOperation::Lw, bits, hart),
+        0o003 => load(LoadOperation::Ld, bits, hart),
+        0o004 => load(LoadOperation::Lbu, bits, hart),
+        0o005 => load(LoadOperation::Lhu, bits, hart),
+        0o006 => load(LoadOperation::Lwu, bits, hart),
+        0o040 => immediate(ImmediateOperation::Addi, bits, hart),
+        0o041 => left_shift(bits, hart),
+        0o042 => immediate(ImmediateOperation::Slti, bits, hart),
+        0o043 => immediate(ImmediateOperation::Sltiu, bits, hart),
+        0o044 => immediate(ImmediateOperation::Xori, bits, hart),
+        0o045 => right_shift(bits, hart),
+        0o046 => immediate(ImmediateOperation::Ori, bits, hart),
+        0o047 => immediate(ImmediateOperation::Andi, bits, hart),
+        0o060 => immediate(ImmediateOperation::Addiw, bits, hart),
+        0o061 => left_word_shift(bits, hart),
+        0o065 => right_word_shift(bits, hart),
+        0o100 => store(StoreOperation::Sb, bits, hart),
+        0o101 => store(StoreOperation::Sh, bits, hart),
+        0o102 => store(StoreOperation::Sw, bits, hart),
+        0o103 => store(StoreOperation::Sd, bits, hart),
+        0o140 => three(
+            RegisterOperation::Add,
+            RegisterOperation::Mul,
+            RegisterOperation::Sub,
+            bits,
+            hart,
+        ),
+        0o141 => two(RegisterOperation::Sll, RegisterOperation::Mulh, bits, hart),
+        0o142 => two(
+            RegisterOperation::Slt,
+            RegisterOperation::Mulhsu,
+            bits,
+            hart,
+        ),
+        0o143 => two(
+            RegisterOperation::Sltu,
+            RegisterOperation::Mulhu,
+            bits,
+            hart,
+        ),
+        0o144 => two(RegisterOperation::Xor, RegisterOperation::Div, bits, hart),
+        0o145 => three(
+            RegisterOperation::Srl,
+            RegisterOperation::Divu,
+            RegisterOperation::Sra,
+            bits,
+            hart,
+        ),
+        0o146 => two(RegisterOperation::Or, RegisterOperation::Rem, bits, hart),
+        0o147 => two(RegisterOperation::And, RegisterOperation::Remu, bits, hart),
+        0o160 => three(
+            RegisterOperation::Addw,
+            RegisterOperation::Mulw,
+            RegisterOperation::Subw,
+            bits,
+            hart,
+        ),
+        0o161 => one(RegisterOperation::Sllw, 0, bits, hart),
+        0o164 => one(RegisterOperation::Divw, 1, bits, hart),
+        0o165 => three(
+            RegisterOperation::Srlw,
+            RegisterOperation::Divuw,
+            RegisterOperation::Sraw,
+            bits,
+            hart,
+        ),
+        0o166 => one(RegisterOperation::Remw, 1, bits, hart),
+        0o167 => one(RegisterOperation::Remuw, 1, bits, hart),
+        0o300 => branch(BranchOperation::Beq, bits, hart),
+        0o301 => branch(BranchOperation::Bne, bits, hart),
+        0o304 => branch(BranchOperation::Blt, bits, hart),
+        0o305 => branch(BranchOperation::Bge, bits, hart),
+        0o306 => branch(BranchOperation::Bltu, bits, hart),
+        0o307 => branch(BranchOperation::Bgeu, bits, hart),
+        0o310 => jump_register(bits, hart),
+        _ => by_opcode(bits, hart),
+    }
+}

@@ -1,0 +1,146 @@
+-- The place of a symbol is one that a symbol of its object names.
+
+use Rattle.std.proofs.Common.{◌≡◌, ℕ, zero, suc, ◌+◌, ◌-◌, ◌<◌, ◌≤◌, ◌⊎◌, inl, inr, Bool, true, false, cond, ◌&&◌, nat_lt, List, [], ◌∷◌, Option, Some, None, slice_index_or, refl, sym, ap, ◌∙◌, arith}
+use Rattle.std.specs.Prelude.{◌==◌, if◌then◌else◌, filter, option_and_then, bytes_eq}
+use Rattle.std.specs.List.{find, list_any, slice_get}
+use Rattle.std.proofs.lemmas.Bool.{eqb-true, eq-eqb, lt-ltb, and_from, or_left, or_right, or_cases, cases_lt}
+use Rattle.rv_object.specs.declared.symbol.Definition.{Definition}
+use Rattle.rv_object.specs.declared.symbol.Definition.TheVariants as definitions
+use Rattle.rv_object.specs.Object.{Symbol, Object, Relocation}
+use Rattle.rv_object_laws.specs.Inputs.{InputSection}
+use Rattle.rv_object_laws.specs.Names.{is_defined, is_exported, exported, Place, place_in, global_place, symbol_place, no_object, object_at}
+use Rattle.rv_object_laws.specs.Calls.{is_inside, is_entered, target_place}
+
+-- a definition names a place of a section
+abbrev pub names_at : (index offset : ℕ) → Definition → Bool
+names_at index offset (definitions.InSection section at) = (section == index) && (at == offset)
+names_at index offset _ = false
+
+abbrev pub is_named : Object → Place → Bool
+is_named o p = list_any (λ s. names_at p.section p.offset s.definition) o.symbols
+
+pub record IsNamed (os : List Object) (p : Place) : Type 0 where
+  pub counted : 1 ≤ p.file
+  pub named : is_named (object_at os p.file) p ≡ true
+
+any_first : {A : Type 0} (q : A → Bool) (x : A) (xs : List A) → q x ≡ true → list_any q (x ∷ xs) ≡ true
+any_first q x xs h = or_left (q x) (list_any q xs) h
+
+any_later : {A : Type 0} (q : A → Bool) (x : A) (xs : List A) → list_any q xs ≡ true → list_any q (x ∷ xs) ≡ true
+any_later q x xs h = or_right (q x) (list_any q xs) h
+
+any_got : {A : Type 0} (q : A → Bool) (xs : List A) (n : ℕ) (x : A) → slice_get xs n ≡ Some x → q x ≡ true → list_any q xs ≡ true
+any_got q [] n x is h = absurd (cc)
+any_got q (y ∷ ys) zero x is h = any_first q y ys (let same : y ≡ x = cc in ap q same ∙ h)
+any_got q (y ∷ ys) (suc n) x is h = any_later q y ys (any_got q ys n x is h)
+
+any_found : {A : Type 0} (test kept q : A → Bool) (xs : List A) (x : A) → find test (filter kept xs) ≡ Some x → q x ≡ true → list_any q xs ≡ true
+any_found test kept q [] x is h = absurd (cc)
+any_found {A} test kept q (y ∷ ys) x is h = by (kept y) is (λ e. any_found test kept q ys x e h)
+  where
+    first : (b : Bool) → cond b (Some y) (find test (filter kept ys)) ≡ Some x → (find test (filter kept ys) ≡ Some x → list_any q ys ≡ true) → list_any q (y ∷ ys) ≡ true
+    first true e more = any_first q y ys (let same : y ≡ x = cc in ap q same ∙ h)
+    first false e more = any_later q y ys (more e)
+
+    by : (b : Bool) → find test (cond b (y ∷ filter kept ys) (filter kept ys)) ≡ Some x → (find test (filter kept ys) ≡ Some x → list_any q ys ≡ true) → list_any q (y ∷ ys) ≡ true
+    by true e more = first (test y) e more
+    by false e more = any_later q y ys (more e)
+
+pub any_weaker : {A : Type 0} (p q : A → Bool) (xs : List A) → ((x : A) → p x ≡ true → q x ≡ true) → list_any p xs ≡ true → list_any q xs ≡ true
+any_weaker p q [] f h = h
+any_weaker p q (x ∷ xs) f h = by (or_cases (p x) (list_any p xs) h) (λ e. any_weaker p q xs f e)
+  where
+    by : (p x ≡ true) ⊎ (list_any p xs ≡ true) → (list_any p xs ≡ true → list_any q xs ≡ true) → list_any q (x ∷ xs) ≡ true
+    by (inl e) more = any_first q x xs (f x e)
+    by (inr e) more = any_later q x xs (more e)
+
+-- ---- places of definitions
+
+-- a definition in a file that has this place names it
+pub record Stands (file : ℕ) (d : Definition) (p : Place) : Type 0 where
+  pub file_is : file ≡ p.file
+  pub names : names_at p.section p.offset d ≡ true
+
+stands : (file : ℕ) (d : Definition) (p : Place) → place_in file d ≡ Some p → Stands file d p
+stands file (definitions.InSection section offset) p h =
+    let place : Place = record { file = file; section = section; offset = offset } in
+    let same : place ≡ p = let t : ◌≡◌ {A = Option Place} (Some place) (Some p) = h in cc in
+    record {
+      file_is = ap (λ (q : Place). q.file) same;
+      names = and_from (section == p.section) (offset == p.offset) (eq-eqb section p.section (ap (λ (q : Place). q.section) same)) (eq-eqb offset p.offset (ap (λ (q : Place). q.offset) same));
+    }
+stands file definitions.Undefined p h = absurd (cc)
+stands file (definitions.Absolute n) p h = absurd (cc)
+stands file (definitions.Skipped n) p h = absurd (cc)
+
+-- of the global of a name
+global_named : (whole : List Object) (file : ℕ) (os : List Object) (name : List ℕ) (p : Place) → 1 ≤ file → ((n : ℕ) → object_at whole (file + n) ≡ slice_index_or os n no_object)
+    → global_place file os name ≡ Some p → IsNamed whole p
+global_named whole file [] name p some each h = absurd (cc)
+global_named whole file (o ∷ os) name p some each h =
+    by (find (λ s. bytes_eq s.name name) (exported o)) refl h
+    (λ e. global_named whole (suc file) os name p (omega (arith, some)) (λ n. ap (object_at whole) (let same : suc file + n ≡ file + suc n = omega arith in same) ∙ each (suc n)) e)
+  where
+    here : object_at whole file ≡ o
+    here = ap (object_at whole) (let same : file ≡ file + 0 = omega arith in same) ∙ each 0
+
+    by : (f : Option Symbol) → find (λ s. bytes_eq s.name name) (exported o) ≡ f → (elim f [ Some s ↦ place_in file s.definition | None ↦ global_place (suc file) os name ]) ≡ Some p
+        → (global_place (suc file) os name ≡ Some p → IsNamed whole p) → IsNamed whole p
+    by None found is more = more is
+    by (Some s) found is more =
+        let it = stands file s.definition p is in
+        let named : is_named o p ≡ true = any_found (λ (x : Symbol). bytes_eq x.name name) is_exported (λ (x : Symbol). names_at p.section p.offset x.definition) o.symbols s found it.names in
+        let same = it.file_is in
+        record { counted = omega (arith, some, same); named = ap (λ x. is_named x p) (ap (object_at whole) (sym it.file_is) ∙ here) ∙ named }
+
+pub symbol_named : (os : List Object) (file : ℕ) (o : Object) (n : ℕ) (s : Symbol) (p : Place) → 1 ≤ file → object_at os file ≡ o → slice_get o.symbols n ≡ Some s → symbol_place os file s ≡ Some p → IsNamed os p
+symbol_named os file o n s p some at got h = by (is_defined s.definition) h
+  where
+    by : (b : Bool) → (if b then place_in file s.definition else global_place 1 os s.name) ≡ Some p → IsNamed os p
+    by true is =
+        let it = stands file s.definition p is in
+        let same = it.file_is in
+        record {
+          counted = omega (arith, some, same);
+          named = ap (λ x. is_named x p) (ap (object_at os) (sym it.file_is) ∙ at) ∙ any_got (λ (x : Symbol). names_at p.section p.offset x.definition) o.symbols n s got it.names;
+        }
+    by false is = global_named os 1 os s.name p (omega arith) (λ k. ap (λ m. slice_index_or os m no_object) (let same : 1 + k - 1 ≡ k = omega arith in same)) is
+
+-- so is the place of a relocation's symbol
+pub target_named : (os : List Object) (i : InputSection) (r : Relocation) (p : Place) → 1 ≤ i.file → object_at os i.file ≡ i.object → target_place os i r ≡ Some p → IsNamed os p
+target_named os i r p some at h = by r.symbol h
+  where
+    of_symbol : (n : ℕ) (o : Option Symbol) → slice_get i.object.symbols n ≡ o → option_and_then (symbol_place os i.file) o ≡ Some p → IsNamed os p
+    of_symbol n None got is = absurd (cc)
+    of_symbol n (Some s) got is = symbol_named os i.file i.object n s p some at got is
+
+    by : (o : Option ℕ) → option_and_then (λ n. option_and_then (symbol_place os i.file) (slice_get i.object.symbols n)) o ≡ Some p → IsNamed os p
+    by None is = absurd (cc)
+    by (Some n) is = of_symbol n (slice_get i.object.symbols n) refl is
+
+-- ---- and no named place is strictly inside a call
+
+inside : (index place offset : ℕ) (d : Definition) → place < offset → offset < place + 8 → names_at index offset d ≡ true → is_inside index place d ≡ true
+inside index place offset (definitions.InSection section at) low high h =
+    let both = parts (section == index) (at == offset) h in
+    let same = eqb-true at offset both.1 in
+    and_from ((section == index) && nat_lt place at) (nat_lt at (place + 8)) (and_from (section == index) (nat_lt place at) both.0 (lt-ltb place at (omega (arith, same, low))))
+    (lt-ltb at (place + 8) (omega (arith, same, high)))
+  where
+    parts : (a b : Bool) → (a && b) ≡ true → (a ≡ true) × (b ≡ true)
+    parts true true e = (refl, refl)
+    parts true false e = absurd (cc)
+    parts false b e = absurd (cc)
+inside index place offset definitions.Undefined low high h = absurd (cc)
+inside index place offset (definitions.Absolute n) low high h = absurd (cc)
+inside index place offset (definitions.Skipped n) low high h = absurd (cc)
+
+pub not_inside : (o : Object) (p : Place) (place : ℕ) → is_named o p ≡ true → is_entered o p.section place ≡ false → (p.offset ≤ place) ⊎ (place + 8 ≤ p.offset)
+not_inside o p place named entered = by (cases_lt place p.offset) (cases_lt p.offset (place + 8))
+  where
+    by : (place < p.offset) ⊎ (p.offset ≤ place) → (p.offset < place + 8) ⊎ (place + 8 ≤ p.offset) → (p.offset ≤ place) ⊎ (place + 8 ≤ p.offset)
+    by (inr e) g = inl e
+    by (inl e) (inr g) = inr g
+    by (inl e) (inl g) =
+        let there = any_weaker (λ (s : Symbol). names_at p.section p.offset s.definition) (λ (s : Symbol). is_inside p.section place s.definition) o.symbols (λ s h. inside p.section place p.offset s.definition e g h) named in
+        absurd (let clash : true ≡ false = sym there ∙ entered in cc)

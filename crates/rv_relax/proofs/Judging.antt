@@ -1,0 +1,91 @@
+-- What a call's size becomes at a distance, and what that says of the family.
+
+use Rattle.std.proofs.Common.{◌≡◌, ◌↔◌, inl, inr, ⊎_elim, ℕ, ◌≤◌, ◌<◌, Bool, true, false, IsTrue, List, set, slice_index, ℤ, pos, ◌-ℤ◌, refl, ap, subst, sym, ◌∙◌, arith}
+use Rattle.std.proofs.lemmas.List.{set-get_or}
+use Rattle.rv_layout_laws.specs.declared.site.Site.{Site}
+use Rattle.rv_layout_laws.specs.declared.site.Call.{Call as CallSite}
+use Rattle.rv_layout_laws.specs.declared.site.Padding.{Padding as PaddingSite}
+use Rattle.rv_layout_laws.specs.declared.site.SiteKind.TheVariants.{Call, Padding}
+use Rattle.rv_layout_laws.specs.Offsets.{Reaches}
+use Rattle.rv_layout_laws.specs.Calls.{Offers, half, site_at, new_offset, ReachesFrom, IsFamily, MayShorten}
+use Rattle.rv_relax.specs.Passes.{HasForm, MayTake, IsJudged, CannotShrink, IsTurn, IsVisit}
+
+-- ---- a call
+
+pub taken : (call : CallSite) (away : ℤ) (size shorter : ℕ) (addend distance : ℤ) (r : Bool) → shorter < size → HasForm call shorter → addend ≡ call.addend → distance ≡ away
+    → IsTrue r ↔ Reaches (half shorter) addend distance → IsTrue r ↔ MayTake call away size shorter
+taken call away size shorter addend distance r less form a d t = (
+  λ h. record { shrinks = less; offered = form; reaching = subst (λ z. Reaches (half shorter) z away) a (subst (Reaches (half shorter) addend) d (t.0 h)) },
+  λ may. t.1 (subst (λ z. Reaches (half shorter) z distance) (sym a) (subst (Reaches (half shorter) call.addend) (sym d) may.reaching)),
+)
+
+pub two_is_shortest : (call : CallSite) → CannotShrink call 2
+two_is_shortest call shorter lt form = ⊎_elim (λ a. omega arith) (λ b. ⊎_elim (λ c. omega arith) (λ d. let e : shorter ≡ 2 = d.0 in omega arith) b) form
+
+pub four_is_shortest : (call : CallSite) → call.compressed ≡ false → CannotShrink call 4
+four_is_shortest call not shorter lt form = ⊎_elim (λ a. omega arith) (λ b. ⊎_elim (λ c. omega arith) (λ d. let is : call.compressed ≡ true = d.1 in cc) b) form
+
+-- what may be taken of a size is 4 or 2
+pub judged_same : (call : CallSite) (away : ℤ) (size : ℕ) → HasForm call size → (MayTake call away size 2 → ⊥) → (MayTake call away size 4 → ⊥) → IsJudged call away size size
+judged_same call away size form no_two no_four = inl (refl, λ shorter may. stays shorter may may.offered)
+  where
+    stays : (shorter : ℕ) → MayTake call away size shorter → HasForm call shorter → ⊥
+    stays shorter may offered =
+        ⊎_elim
+        (λ a. let less : shorter < size = may.shrinks in ⊎_elim (λ x. omega arith) (λ y. ⊎_elim (λ x. omega arith) (λ x. let e : size ≡ 2 = x.0 in omega arith) y) form)
+        (λ b. ⊎_elim (λ c. no_four (subst (MayTake call away size) c may)) (λ d. no_two (subst (MayTake call away size) d.0 may)) b) offered
+
+-- ---- a site
+
+pub turn_padding : (sites : List Site) (kept : List ℕ) (i : ℕ) (padding : PaddingSite) → (site_at sites i).kind ≡ Padding padding → IsTurn sites kept i (slice_index kept i)
+turn_padding sites kept i padding is = inl (refl, λ shorter may. subst (λ kind. ReachesFrom sites kept (site_at sites i).offset kind shorter) is may.reaching)
+
+pub turn_shortest : (sites : List Site) (kept : List ℕ) (i : ℕ) (call : CallSite) → (site_at sites i).kind ≡ Call call → CannotShrink call (slice_index kept i) → IsTurn sites kept i (slice_index kept i)
+turn_shortest sites kept i call is cannot = inl (refl, λ shorter may. cannot shorter may.shrinks (subst (λ kind. Offers kind shorter) is may.offered))
+
+may_shorten : (sites : List Site) (kept : List ℕ) (i : ℕ) (call : CallSite) (away : ℤ) (shorter : ℕ) → (site_at sites i).kind ≡ Call call
+    → away ≡ pos (new_offset sites kept call.target) -ℤ pos (new_offset sites kept (site_at sites i).offset) → MayTake call away (slice_index kept i) shorter → MayShorten sites kept i shorter
+may_shorten sites kept i call away shorter is e may = record {
+  shrinks = may.shrinks;
+  offered = subst (λ kind. Offers kind shorter) (sym is) may.offered;
+  reaching = subst (λ kind. ReachesFrom sites kept (site_at sites i).offset kind shorter) (sym is) (subst (Reaches (half shorter) call.addend) e may.reaching);
+}
+
+may_take : (sites : List Site) (kept : List ℕ) (i : ℕ) (call : CallSite) (away : ℤ) (shorter : ℕ) → (site_at sites i).kind ≡ Call call
+    → away ≡ pos (new_offset sites kept call.target) -ℤ pos (new_offset sites kept (site_at sites i).offset) → MayShorten sites kept i shorter → MayTake call away (slice_index kept i) shorter
+may_take sites kept i call away shorter is e may =
+    let there : ReachesFrom sites kept (site_at sites i).offset (Call call) shorter = subst (λ kind. ReachesFrom sites kept (site_at sites i).offset kind shorter) is may.reaching in
+    record {
+      shrinks = may.shrinks;
+      offered = subst (λ kind. Offers kind shorter) is may.offered;
+      reaching = subst (Reaches (half shorter) call.addend) (sym e) there;
+    }
+
+pub turn_call : (sites : List Site) (kept : List ℕ) (i : ℕ) (call : CallSite) (away : ℤ) (new : ℕ) → (site_at sites i).kind ≡ Call call
+    → away ≡ pos (new_offset sites kept call.target) -ℤ pos (new_offset sites kept (site_at sites i).offset) → IsJudged call away (slice_index kept i) new → IsTurn sites kept i new
+turn_call sites kept i call away new is e judged = elim judged [
+  | inl same ↦ inl (same.0, λ shorter may. same.1 shorter (may_take sites kept i call away shorter is e may))
+  | inr may ↦ inr (may_shorten sites kept i call away new is e may)
+]
+
+pub turn_offered : (sites : List Site) (kept : List ℕ) (i new : ℕ) → IsFamily sites kept → IsTurn sites kept i new → Offers (site_at sites i).kind new
+turn_offered sites kept i new f turn = elim turn [
+  | inl same ↦ subst (Offers (site_at sites i).kind) (sym same.0) (f.offered i)
+  | inr may ↦ may.offered
+]
+
+-- what a visit leaves and tells
+pub visit_told : (sites : List Site) (kept : List ℕ) (i new : ℕ) (told : Bool) → IsTurn sites kept i new → (told ≡ true → new < slice_index kept i) → (told ≡ false → slice_index kept i ≤ new)
+    → IsVisit sites i kept (set kept i new) told
+visit_told sites kept i new true turn up down =
+    let less : new < slice_index kept i = up refl in
+    elim turn [
+      | inl same ↦ let e : new ≡ slice_index kept i = same.0 in absurd (omega arith)
+      | inr may ↦ (new, (may, refl))
+    ]
+visit_told sites kept i new false turn up down =
+    let le : slice_index kept i ≤ new = down refl in
+    elim turn [
+      | inl same ↦ (ap (set kept i) same.0 ∙ set-get_or kept i 0, same.1)
+      | inr may ↦ let less : new < slice_index kept i = may.shrinks in absurd (omega arith)
+    ]

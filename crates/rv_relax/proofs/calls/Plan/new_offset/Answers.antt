@@ -1,0 +1,7 @@
+use Rattle.std.proofs.Common.{rules}
+use Rattle.rv_relax.specs.Plan.{sites_in, kept_of}
+use Rattle.rv_relax.proofs.calls.Plan.new_offset.Goals as goal
+
+pub returns : goal.returns
+unfolding sites_in kept_of
+returns c = search rules

@@ -1,0 +1,42 @@
+use Rattle.std.proofs.Common.{◌≡◌, ◌&&◌, true, false, cond, [], map, sym, ap, ◌∙◌}
+use Rattle.std.specs.Prelude.{reverse}
+use Rattle.std.specs.List.{filter}
+use Rattle.std.proofs.lemmas.Bool.{and_left, and_right, and_from}
+use Rattle.rv_object.specs.Parts.{relocation_of, contents_of}
+use Rattle.rv_object_laws.specs.Moves.{has_padding, by_place, plan}
+use Rattle.rv_relax.specs.Plan.{moves_of}
+use Rattle.rv_relax.specs.Paddings.{move_of, are_alignments}
+use Rattle.rv_relax.proofs.Apart.{of_section}
+use Rattle.rv_relax.proofs.section_plan.SectionPlan.of.Goals as goal
+use Rattle.rv_relax.proofs.section_plan.SectionPlan.of.Goals.{then-not-section-via-then-not-section, then-not-section-via-else-not-section+then-not-section-2}
+
+pub paddings-requires : goal.paddings-requires
+paddings-requires c =
+    let s = c.args.section.now in
+    let rs = map relocation_of s.relocations.items in
+    let sorted : reverse (map relocation_of c.deref-2.result.now) ≡ by_place (filter has_padding rs) =
+    ap (λ l. reverse (map relocation_of l)) c.deref-2.ensures.value ∙ c.in_ok-alignments.ensures
+    ∙ ap (λ l. by_place (filter has_padding (map relocation_of l))) c.deref.ensures.value in
+    ap (are_alignments 0) sorted
+    ∙ of_section (contents_of s.contents) s.executable rs c.if-not-section-2.false c.requires.low s.paddings
+
+pub returns-then-not-section : goal.returns-then-not-section
+unfolding moves_of
+returns-then-not-section c =
+    let s = c.args.section.now in
+    let rs = map relocation_of s.relocations.items in
+    let none : (s.loaded && s.executable) ≡ false = elim c.then-not-section.branch [ then-not-section-via-then-not-section w ↦ and_left s.loaded s.executable w.if-not-section.true | then-not-section-via-else-not-section+then-not-section-2 w ↦ and_right s.loaded s.executable w.if-not-section-2.true ] in
+    ap (map move_of) c.new.ensures.items
+    ∙ ap (λ b. plan c.args.start 0 (cond b (by_place (filter has_padding rs)) [])) (sym none)
+
+pub returns : goal.returns
+unfolding moves_of
+returns c =
+    let s = c.args.section.now in
+    let rs = map relocation_of s.relocations.items in
+    let sorted : reverse (map relocation_of c.deref-2.result.now) ≡ by_place (filter has_padding rs) =
+    ap (λ l. reverse (map relocation_of l)) c.deref-2.ensures.value ∙ c.in_ok-alignments.ensures
+    ∙ ap (λ l. by_place (filter has_padding (map relocation_of l))) c.deref.ensures.value in
+    let both : (s.loaded && s.executable) ≡ true = and_from s.loaded s.executable c.if-not-section.false c.if-not-section-2.false in
+    c.in_ok-paddings.ensures.moves ∙ ap (plan c.args.start 0) sorted
+    ∙ ap (λ b. plan c.args.start 0 (cond b (by_place (filter has_padding rs)) [])) (sym both)

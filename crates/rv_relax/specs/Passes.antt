@@ -1,0 +1,115 @@
+-- What the tables hold while a pass goes over the sites of a text: the bytes that are dropped before
+-- each site, or from it on.
+
+use Rattle.std.specs.Prelude.{◌≡◌, ◌⊎◌, ℕ, ◌+◌, ◌-◌, ◌^◌, ◌≤◌, ◌<◌, nat_le, Bool, true, false, ◌&&◌, List, [], ◌∷◌, length, drop, set, slice_index, sum, ℤ, ⊤, MatchBool}
+use Rattle.rv_layout_laws.specs.declared.site.Site.{Site}
+use Rattle.rv_layout_laws.specs.declared.site.Call.{Call as CallSite}
+use Rattle.rv_layout_laws.specs.declared.site.SiteKind.{SiteKind}
+use Rattle.rv_layout_laws.specs.declared.site.SiteKind.TheVariants.{Call, Padding}
+use Rattle.rv_layout_laws.specs.Offsets.{offset, Reaches}
+use Rattle.rv_layout_laws.specs.Calls.{bytes_of, Offers, half, site_at, IsFamily, IsText, MayShorten}
+
+-- ---- sites
+
+-- the offset of the byte after a site
+abbrev pub end_of : Site → ℕ
+end_of site = site.offset + bytes_of site.kind
+
+abbrev pub LeadsLow : SiteKind → Type 0
+LeadsLow (Call call) = call.target ≤ 2 ^ 62
+LeadsLow (Padding padding) = ⊤
+
+-- the sites of a text of at most 2 ^ 62 bytes
+pub record IsInput (sites : List Site) : Type 0 where
+  pub text : IsText sites
+  pub ends : (i : ℕ) → end_of (site_at sites i) ≤ 2 ^ 62
+  pub targets : (i : ℕ) → LeadsLow (site_at sites i).kind
+
+-- so many sites end at an offset or before it
+pub record IsPlace (sites : List Site) (old count : ℕ) : Type 0 where
+  pub within : count ≤ length sites
+  pub before : (j : ℕ) → j < count → end_of (site_at sites j) ≤ old
+  pub after : (j : ℕ) → count ≤ j → j < length sites → old < end_of (site_at sites j)
+
+-- and at a call's target
+abbrev pub LeadsTo : List Site → SiteKind → ℕ → Type 0
+LeadsTo sites (Call call) count = IsPlace sites call.target count
+LeadsTo sites (Padding padding) count = ⊤
+
+pub record AreTargets (sites : List Site) (targets : List ℕ) : Type 0 where
+  pub same_length : length targets ≡ length sites
+  pub led : (i : ℕ) → i < length sites →
+      LeadsTo sites (site_at sites i).kind (slice_index targets i)
+
+-- ---- what is dropped
+
+-- the bytes that each site drops
+abbrev pub drops : List Site → List ℕ → List ℕ
+drops [] kept = []
+drops (site ∷ sites) [] = []
+drops (site ∷ sites) (k ∷ kept) = (bytes_of site.kind - k) ∷ drops sites kept
+
+-- the sum of numbers from one on
+abbrev pub rest : List ℕ → ℕ → ℕ
+rest numbers i = sum (drop i numbers)
+
+-- sites before i have in the table what is dropped before them, those from i on what is dropped from
+-- them on, and so has the end
+pub record IsTable (sites : List Site) (i : ℕ) (kept stands : List ℕ) : Type 0 where
+  pub family : IsFamily sites kept
+  pub same_length : length stands ≡ length sites + 1
+  pub starts : (j : ℕ) → j < i → slice_index stands j ≡ offset (drops sites kept) j
+  pub rests : (j : ℕ) → i ≤ j → j ≤ length sites →
+      slice_index stands j ≡ rest (drops sites kept) j
+
+-- what is dropped before each site, and in all
+pub record AreSums (sites : List Site) (kept sums : List ℕ) : Type 0 where
+  pub same_length : length sums ≡ length sites + 1
+  pub before : (j : ℕ) → j ≤ length sites → slice_index sums j ≡ offset (drops sites kept) j
+
+-- sites one behind the other, of each of which no more is kept than there is
+abbrev pub are_laid : ℕ → List Site → List ℕ → Bool
+are_laid stop [] [] = true
+are_laid stop [] (k ∷ kept) = false
+are_laid stop (site ∷ sites) [] = false
+are_laid stop (site ∷ sites) (k ∷ kept) =
+    nat_le stop site.offset
+    && (nat_le k (bytes_of site.kind) && are_laid (end_of site) sites kept)
+
+-- ---- a pass
+
+-- a form that a call has
+abbrev pub HasForm : CallSite → ℕ → Type 0
+HasForm call size = Offers (Call call) size
+
+-- at a distance a call of a size may take a shorter form
+pub record MayTake (call : CallSite) (away : ℤ) (size shorter : ℕ) : Type 0 where
+  pub shrinks : shorter < size
+  pub offered : HasForm call shorter
+  pub reaching : Reaches (half shorter) call.addend away
+
+-- it does, or there is none
+abbrev pub IsJudged : CallSite → ℤ → (size new : ℕ) → Type 0
+IsJudged call away size new =
+    ((new ≡ size) × ((shorter : ℕ) → MayTake call away size shorter → ⊥))
+    ⊎ MayTake call away size new
+
+-- a call has no shorter form
+abbrev pub CannotShrink : CallSite → ℕ → Type 0
+CannotShrink call size = (shorter : ℕ) → shorter < size → HasForm call shorter → ⊥
+
+-- a site's size stands
+abbrev pub Stays : List Site → List ℕ → ℕ → Type 0
+Stays sites kept i = (shorter : ℕ) → MayShorten sites kept i shorter → ⊥
+
+-- the size that a site takes
+abbrev pub IsTurn : List Site → List ℕ → (i new : ℕ) → Type 0
+IsTurn sites kept i new =
+    ((new ≡ slice_index kept i) × Stays sites kept i) ⊎ MayShorten sites kept i new
+
+-- what looking at site i does, and tells
+abbrev pub IsVisit : List Site → ℕ → (old new : List ℕ) → Bool → Type 0
+IsVisit sites i old new shortened =
+    MatchBool shortened
+    ((shorter : ℕ) × (MayShorten sites old i shorter × (new ≡ set old i shorter)))
+    ((new ≡ old) × Stays sites old i)

@@ -1,0 +1,286 @@
+//! Passes over the sites of a text, forwards and backwards, that shorten each call which has a shorter form that reaches.
+//!
+//! One table tells how much of the text is dropped: for the sites that a pass has left behind the bytes before each, for
+//! those ahead of it the bytes from each on (`specs/Passes`). Both are exact while sizes change in between, so a pass
+//! forwards sees what the calls before a site have become, and one backwards what those after it have.
+
+ghost use Rattle.std.specs.Prelude.{◌≡◌, ℕ, ◌+◌, ◌-◌, ◌*◌, ◌^◌, ◌<◌, ◌≤◌, ◌≤ℤ◌, pos, neg_ℤ, ◌+ℤ◌, ◌-ℤ◌, ltb, length, slice_index, if◌then◌else◌, IsTrue};
+ghost use Rattle.rv_layout_laws.specs.Offsets.{offset};
+ghost use Rattle.rv_layout_laws.specs.Calls.{IsClosed, IsFamily, IsGreatestClosed, Shortenings, calls, whole_sizes};
+ghost use Rattle.rv_relax.specs.Passes.{AreSums, AreTargets, CannotShrink, HasForm, IsInput, IsTable, IsTurn, IsVisit, drops, rest};
+
+use crate::places::dropped_bytes;
+use crate::reach::judged_size;
+use rv_layout_laws::{Call, Site, SiteKind};
+
+/// What lies between two places, in bytes.
+fn between(from: u64, to: u64) -> i64
+    requires from { from ≤ 2 ^ 62 }
+    requires to { to ≤ 2 ^ 62 }
+    ensures { result ≡ pos to -ℤ pos from }
+{
+    to as i64 - from as i64
+}
+
+/// Whether no form of a call is shorter than this size.
+fn is_shortest(call: &Call, size: u32) -> bool
+    requires { HasForm call.now size }
+    ensures { IsTrue result → CannotShrink call.now size }
+{
+    if size == 2 {
+        return true;
+    }
+    size == 4 && !call.compressed
+}
+
+/// What is left of a distance from site `i`, before which `before` is dropped, in a pass forwards.
+fn distance_forwards(far: i64, target: usize, i: usize, before: u64, stands: &[u64]) -> i64
+    requires low { neg_ℤ (pos (2 ^ 62)) ≤ℤ far }
+    requires high { far ≤ℤ pos (2 ^ 62) }
+    requires target { target < length stands.now }
+    requires here { i < length stands.now }
+    requires before { before ≤ 3 * 2 ^ 60 }
+    requires own { slice_index stands.now i ≤ 3 * 2 ^ 60 }
+    requires there { slice_index stands.now target ≤ 3 * 2 ^ 60 }
+    ensures value { result
+        ≡ (if ltb target i then far +ℤ (pos before -ℤ pos (slice_index stands.now target))
+        else far +ℤ (pos (slice_index stands.now target) -ℤ pos (slice_index stands.now i))) }
+    ensures low { neg_ℤ (pos (7 * 2 ^ 60)) ≤ℤ result }
+    ensures high { result ≤ℤ pos (7 * 2 ^ 60) }
+{
+    if target < i {
+        return far + between(stands[target], before);
+    }
+    far + between(stands[i], stands[target])
+}
+
+/// What is left of a distance from site `i`, from which on `left` is dropped, in a pass backwards.
+fn distance_backwards(far: i64, target: usize, i: usize, left: u64, stands: &[u64]) -> i64
+    requires low { neg_ℤ (pos (2 ^ 62)) ≤ℤ far }
+    requires high { far ≤ℤ pos (2 ^ 62) }
+    requires target { target < length stands.now }
+    requires here { i < length stands.now }
+    requires left { left ≤ 3 * 2 ^ 60 }
+    requires own { slice_index stands.now i ≤ 3 * 2 ^ 60 }
+    requires there { slice_index stands.now target ≤ 3 * 2 ^ 60 }
+    ensures value { result
+        ≡ (if ltb i target then far +ℤ (pos (slice_index stands.now target) -ℤ pos left)
+        else far +ℤ (pos (slice_index stands.now i) -ℤ pos (slice_index stands.now target))) }
+    ensures low { neg_ℤ (pos (7 * 2 ^ 60)) ≤ℤ result }
+    ensures high { result ≤ℤ pos (7 * 2 ^ 60) }
+{
+    if i < target {
+        return far + between(left, stands[target]);
+    }
+    far + between(stands[target], stands[i])
+}
+
+/// The size that site `i` takes in a pass forwards.
+fn size_forwards(
+    sites: &[Site],
+    targets: &[usize],
+    i: usize,
+    before: u64,
+    kept: &[u32],
+    stands: &[u64],
+) -> u32
+    requires input { IsInput sites.now }
+    requires targets { AreTargets sites.now targets.now }
+    requires within { i < length sites.now }
+    requires table { IsTable sites.now i kept.now stands.now }
+    requires before { before ≡ offset (drops sites.now kept.now) i }
+    ensures { IsTurn sites.now kept.now i result }
+{
+    let size = kept[i];
+    match sites[i].kind {
+        SiteKind::Padding(_) => size,
+        SiteKind::Call(call) => {
+            if is_shortest(&call, size) {
+                return size;
+            }
+            let far = between(sites[i].offset, call.target);
+            let distance = distance_forwards(far, targets[i], i, before, stands);
+            judged_size(&call, size, distance)
+        }
+    }
+}
+
+/// The size that site `i` takes in a pass backwards.
+fn size_backwards(
+    sites: &[Site],
+    targets: &[usize],
+    i: usize,
+    left: u64,
+    kept: &[u32],
+    stands: &[u64],
+) -> u32
+    requires input { IsInput sites.now }
+    requires targets { AreTargets sites.now targets.now }
+    requires within { i < length sites.now }
+    requires table { IsTable sites.now (i + 1) kept.now stands.now }
+    requires left { left ≡ rest (drops sites.now kept.now) i }
+    ensures { IsTurn sites.now kept.now i result }
+{
+    let size = kept[i];
+    match sites[i].kind {
+        SiteKind::Padding(_) => size,
+        SiteKind::Call(call) => {
+            if is_shortest(&call, size) {
+                return size;
+            }
+            let far = between(sites[i].offset, call.target);
+            let distance = distance_backwards(far, targets[i], i, left, stands);
+            judged_size(&call, size, distance)
+        }
+    }
+}
+
+/// Looks at site `i` in a pass forwards, and tells whether it was shortened.
+fn visit_forwards(
+    sites: &[Site],
+    targets: &[usize],
+    i: usize,
+    before: &mut u64,
+    kept: &mut [u32],
+    stands: &mut [u64],
+) -> bool
+    requires input { IsInput sites.now }
+    requires targets { AreTargets sites.now targets.now }
+    requires within { i < length sites.now }
+    requires table { IsTable sites.now i kept.old stands.old }
+    requires before { before.old ≡ offset (drops sites.now kept.old) i }
+    ensures visit { IsVisit sites.now i kept.old kept.new result }
+    ensures table { IsTable sites.now (i + 1) kept.new stands.new }
+    ensures before { before.new ≡ offset (drops sites.now kept.new) (i + 1) }
+{
+    let size = kept[i];
+    let start = *before;
+    let shorter = size_forwards(sites, targets, i, start, kept, stands);
+    kept[i] = shorter;
+    stands[i] = start;
+    *before = start + u64::from(dropped_bytes(&sites[i].kind, shorter));
+    shorter < size
+}
+
+/// Looks at site `i` in a pass backwards, and tells whether it was shortened.
+fn visit_backwards(
+    sites: &[Site],
+    targets: &[usize],
+    i: usize,
+    after: &mut u64,
+    kept: &mut [u32],
+    stands: &mut [u64],
+) -> bool
+    requires input { IsInput sites.now }
+    requires targets { AreTargets sites.now targets.now }
+    requires within { i < length sites.now }
+    requires table { IsTable sites.now (i + 1) kept.old stands.old }
+    requires after { after.old ≡ rest (drops sites.now kept.old) (i + 1) }
+    ensures visit { IsVisit sites.now i kept.old kept.new result }
+    ensures table { IsTable sites.now i kept.new stands.new }
+    ensures after { after.new ≡ rest (drops sites.now kept.new) i }
+{
+    let size = kept[i];
+    let behind = *after;
+    let left = behind + u64::from(dropped_bytes(&sites[i].kind, size));
+    let shorter = size_backwards(sites, targets, i, left, kept, stands);
+    let now = behind + u64::from(dropped_bytes(&sites[i].kind, shorter));
+    kept[i] = shorter;
+    stands[i] = now;
+    *after = now;
+    shorter < size
+}
+
+/// Goes over the sites from the first to the last, shortens the calls that may be shorter, and tells how many it shortened.
+fn shorten_forwards(
+    sites: &[Site],
+    targets: &[usize],
+    kept: &mut [u32],
+    stands: &mut [u64],
+) -> usize
+    requires input { IsInput sites.now }
+    requires targets { AreTargets sites.now targets.now }
+    requires table { IsTable sites.now 0 kept.old stands.old }
+    ensures shortenings { Shortenings sites.now kept.old kept.new result }
+    ensures settled { result ≡ 0 → IsClosed sites.now kept.new }
+    ensures table { IsTable sites.now (length sites.now) kept.new stands.new }
+{
+    let mut shortened = 0;
+    let mut before = 0;
+    for i in 0..sites.len() {
+        if visit_forwards(sites, targets, i, &mut before, kept, stands) {
+            shortened += 1;
+        }
+    }
+    shortened
+}
+
+/// Goes over the sites from the last to the first, shortens the calls that may be shorter, and tells how many it shortened.
+fn shorten_backwards(
+    sites: &[Site],
+    targets: &[usize],
+    kept: &mut [u32],
+    stands: &mut [u64],
+) -> usize
+    requires input { IsInput sites.now }
+    requires targets { AreTargets sites.now targets.now }
+    requires table { IsTable sites.now (length sites.now) kept.old stands.old }
+    ensures shortenings { Shortenings sites.now kept.old kept.new result }
+    ensures settled { result ≡ 0 → IsClosed sites.now kept.new }
+    ensures table { IsTable sites.now 0 kept.new stands.new }
+{
+    let mut shortened = 0;
+    let mut after = 0;
+    let mut i = sites.len();
+    while i > 0 {
+        i -= 1;
+        if visit_backwards(sites, targets, i, &mut after, kept, stands) {
+            shortened += 1;
+        }
+    }
+    shortened
+}
+
+/// Shortens in passes, forwards and backwards in turn, until one finds nothing to shorten, and tells how many there were.
+/// At first the sites are whole, and nothing is dropped.
+pub(crate) fn settle(
+    sites: &[Site],
+    targets: &[usize],
+    kept: &mut [u32],
+    stands: &mut [u64],
+) -> usize
+    requires input { IsInput sites.now }
+    requires targets { AreTargets sites.now targets.now }
+    requires whole { kept.old ≡ whole_sizes sites.now }
+    requires same_length { length stands.old ≡ length sites.now + 1 }
+    requires none { (j : ℕ) → slice_index stands.old j ≡ 0 }
+    ensures greatest { IsGreatestClosed sites.now kept.new }
+    ensures few { result ≤ 2 * calls sites.now + 1 }
+{
+    let mut rounds = 0;
+    'rounds: loop {
+        rounds += 1;
+        if shorten_forwards(sites, targets, kept, stands) == 0 {
+            return rounds;
+        }
+        rounds += 1;
+        if shorten_backwards(sites, targets, kept, stands) == 0 {
+            return rounds;
+        }
+    }
+}
+
+/// Fills a table with the bytes that are dropped before each site, and behind the last with those of all.
+pub(crate) fn sum_up(sites: &[Site], kept: &[u32], sums: &mut [u64])
+    requires input { IsInput sites.now }
+    requires family { IsFamily sites.now kept.now }
+    requires same_length { length sums.old ≡ length sites.now + 1 }
+    ensures { AreSums sites.now kept.now sums.new }
+{
+    let mut dropped = 0;
+    for i in 0..sites.len() {
+        sums[i] = dropped;
+        dropped += u64::from(dropped_bytes(&sites[i].kind, kept[i]));
+    }
+    sums[sites.len()] = dropped;
+}

@@ -1,0 +1,17 @@
+pub mod Order
+pub mod Losses
+pub mod Kept
+pub mod CutKinds
+pub mod CallKinds
+pub mod Mapped
+pub mod Shifts
+pub mod Fields
+pub mod Paddings
+pub mod Short
+pub mod Whole
+pub mod Steps
+pub mod Lists
+pub mod Changes
+pub mod Sections
+pub mod Line
+pub mod Laid

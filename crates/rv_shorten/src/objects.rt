@@ -1,0 +1,57 @@
+//! Objects, one after another.
+
+ghost use Rattle.std.specs.Prelude.{◌≡◌, length, map, IfOk};
+ghost use Rattle.rv_layout_laws.specs.Calls.{IsText};
+ghost use Rattle.rv_object.specs.View.{object_of};
+ghost use Rattle.rv_object_laws.specs.Calls.{sites_of};
+ghost use Rattle.rv_object_laws.specs.Shortened.{shortened};
+ghost use Rattle.rv_shorten.specs.Walk.{AreWalked, walked};
+
+use crate::object::short_object;
+use crate::sites::object_cuts;
+use rv_layout_laws::Site;
+use rv_object::Object;
+use std::alloc::{AllocError, Global};
+
+/// The objects that are left, as the sites of the text go by.
+fn shorten_all(
+    alloc: Global,
+    objects: Vec<Object>,
+    sites: &[Site],
+    kept: &[u32],
+) -> Result<Vec<Object>, AllocError>
+    requires many { length kept.now ≡ length sites.now }
+    requires walked { AreWalked (map object_of objects.items) sites.now kept.now }
+    ensures { IfOk result (λ left. map object_of left.items
+        ≡ walked (map object_of objects.items) sites.now kept.now) }
+{
+    let mut left = Vec::with_capacity(alloc, objects.len())?;
+    let mut at = 0;
+    for object in objects {
+        let (cuts, count) = object_cuts(alloc, &object.sections, &sites[at..], &kept[at..])?;
+        left.push(short_object(alloc, object, &cuts)?)?;
+        at += count;
+    }
+    Ok(left)
+}
+
+/// Shortens the calls of objects: of each site of their text so many bytes are kept, of a call 2 or 4 if it is shortened.
+/// Bytes, relocations, symbols and rows move with what is kept.
+///
+/// # Errors
+///
+/// Want of memory.
+pub fn shorten(
+    alloc: Global,
+    objects: Vec<Object>,
+    sites: &[Site],
+    kept: &[u32],
+) -> Result<Vec<Object>, AllocError>
+    requires sites { sites.now ≡ sites_of (map object_of objects.items) }
+    requires text { IsText sites.now }
+    requires family { length kept.now ≡ length sites.now }
+    ensures { IfOk result (λ left. map object_of left.items
+        ≡ shortened kept.now (map object_of objects.items)) }
+{
+    shorten_all(alloc, objects, sites, kept)
+}

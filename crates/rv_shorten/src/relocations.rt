@@ -1,0 +1,63 @@
+//! Relocations of a section of which calls are cut short.
+
+ghost use Rattle.std.specs.Prelude.{◌≡◌, ℕ, true, map, length};
+ghost use Rattle.rv_object.specs.Parts.{relocation_of};
+ghost use Rattle.rv_object_laws.specs.Calls.{is_call as is_call_kind};
+ghost use Rattle.rv_shorten.specs.Cut.{are_in_order, move_of};
+ghost use Rattle.rv_shorten.specs.Cutting.{cut_kind, cut_relocation};
+
+use crate::cut::Cut;
+use crate::offsets::{count_before, new_offset};
+use rv_isa::Kind;
+use rv_object::Relocation;
+
+/// Whether a relocation is a call.
+fn is_call(kind: Kind) -> bool
+    ensures { result ≡ is_call_kind kind }
+{
+    matches!(kind, Kind::Call | Kind::CallPlt)
+}
+
+/// The kind of a relocation afterwards.
+fn new_kind(cuts: &[Cut], relocation: &Relocation) -> Kind
+    requires { are_in_order 0 0 cuts.now ≡ true }
+    ensures { result ≡ cut_kind (map move_of cuts.now) (relocation_of relocation.now) }
+{
+    if !is_call(relocation.kind) {
+        return relocation.kind;
+    }
+    let index = count_before(cuts, relocation.place);
+    if index == cuts.len() || cuts[index].place != relocation.place {
+        return relocation.kind;
+    }
+    if cuts[index].compressed {
+        Kind::RvcJump
+    } else {
+        Kind::Jal
+    }
+}
+
+/// What a relocation is afterwards.
+fn moved(relocation: &Relocation, cuts: &[Cut]) -> Relocation
+    requires { are_in_order 0 0 cuts.now ≡ true }
+    ensures { relocation_of result
+        ≡ cut_relocation (map move_of cuts.now) (relocation_of relocation.now) }
+{
+    Relocation {
+        place: new_offset(cuts, relocation.place),
+        kind: new_kind(cuts, relocation),
+        symbol: relocation.symbol,
+        addend: relocation.addend,
+    }
+}
+
+/// Moves relocations with the bytes that are left.
+pub(crate) fn move_relocations(relocations: &mut [Relocation], cuts: &[Cut])
+    requires { are_in_order 0 0 cuts.now ≡ true }
+    ensures { map relocation_of relocations.new
+        ≡ map (cut_relocation (map move_of cuts.now)) (map relocation_of relocations.old) }
+{
+    for relocation in relocations.iter_mut() {
+        *relocation = moved(relocation, cuts);
+    }
+}

@@ -1,0 +1,228 @@
+//! The calls of a section that are cut short, by the sites of the text.
+
+ghost use Rattle.std.specs.Prelude.{◌≡◌, ◌+◌, ◌-◌, ◌≤◌, ◌++◌, [], ◌∷◌, true, length, map, IfOk, OnOk};
+ghost use Rattle.rv_object.specs.Object as said;
+ghost use Rattle.rv_object.specs.Parts.{contents_of};
+ghost use Rattle.rv_object.specs.Sections.{section_of};
+ghost use Rattle.rv_object_laws.specs.Inputs.{goes_to_text};
+ghost use Rattle.rv_layout_laws.specs.Calls as calls;
+ghost use Rattle.rv_shorten.specs.Cut.{are_all_in_order, are_in_order, move_of, moves_of_all};
+ghost use Rattle.rv_shorten.specs.Cutting.{AllCut, are_cuts};
+ghost use Rattle.rv_shorten.specs.Walk as walk;
+
+use crate::cut::Cut;
+use crate::words::link_register;
+use rv_layout_laws::{Site, SiteKind};
+use rv_object::{Contents, Section};
+use std::alloc::{AllocError, Global};
+
+/// Whether a section goes to the text.
+fn is_text(section: &Section) -> bool
+    ensures { result ≡ goes_to_text (section_of section.now) }
+{
+    section.loaded && section.executable
+}
+
+/// The bytes of a section in memory.
+fn size_of(contents: &Contents) -> u64
+    ensures { result ≡ said.size_of (contents_of contents.now) }
+{
+    match contents {
+        Contents::Progbits(bytes) => bytes.len() as u64,
+        Contents::Note(bytes) => bytes.len() as u64,
+        Contents::Nobits(size) => *size,
+    }
+}
+
+/// The bytes that a section has in the file.
+fn stored(contents: &Contents) -> &[u8]
+    ensures { result.now ≡ said.stored (contents_of contents.now) }
+{
+    match contents {
+        Contents::Progbits(bytes) => bytes.as_slice(),
+        Contents::Note(bytes) => bytes.as_slice(),
+        Contents::Nobits(_) => &[],
+    }
+}
+
+/// Whether a site is a call.
+fn is_call(site: &Site) -> bool
+    ensures { result ≡ calls.is_call (site.now).kind }
+{
+    match site.kind {
+        SiteKind::Call(_) => true,
+        SiteKind::Padding(_) => false,
+    }
+}
+
+/// The bytes of a site before relaxation.
+fn bytes_of(site: &Site) -> u64
+    ensures { result ≡ calls.bytes_of (site.now).kind }
+{
+    match site.kind {
+        SiteKind::Call(_) => 8,
+        SiteKind::Padding(padding) => u64::from(padding.bytes),
+    }
+}
+
+/// The offset of a site in its section, which begins behind a first site.
+fn place_of(start: &Site, site: &Site) -> u64
+    ensures { result ≡ (site.now).offset - walk.end_of start.now }
+{
+    site.offset
+        .saturating_sub(start.offset)
+        .saturating_sub(bytes_of(start))
+}
+
+/// How many sites stand in a section of so many bytes, which begins behind a first site.
+fn count_within(start: &Site, size: u64, sites: &[Site]) -> usize
+    ensures value { result ≡ walk.count_within (walk.end_of start.now) size sites.now }
+    ensures low { result ≤ length sites.now }
+{
+    let mut count = 0;
+    for site in sites {
+        if place_of(start, site) >= size {
+            return count;
+        }
+        count += 1;
+    }
+    count
+}
+
+/// How many of the first sites are a section's.
+fn passed(section: &Section, sites: &[Site]) -> usize
+    ensures value { result ≡ walk.passed (section_of section.now) sites.now }
+    ensures low { result ≤ length sites.now }
+{
+    if !is_text(section) {
+        return 0;
+    }
+    match sites {
+        [start, own @ ..] => 1 + count_within(start, size_of(&section.contents), own),
+        [] => 0,
+    }
+}
+
+/// A call at a place, of which so many bytes are kept.
+fn cut(bytes: &[u8], place: u64, gone: u64, left: u32) -> Cut
+    requires { place + 8 ≤ length bytes.now }
+    ensures { result ≡ walk.cut_of place gone bytes.now left }
+{
+    Cut {
+        place,
+        gone,
+        compressed: left == 2,
+        link: link_register(bytes, place as usize),
+    }
+}
+
+/// Adds the cut of a site at a place, if it is a call of which fewer than 8 bytes are kept, and answers the bytes that are
+/// dropped so far.
+fn put_site(
+    cuts: &mut Vec<Cut>,
+    bytes: &[u8],
+    place: u64,
+    gone: u64,
+    site: &Site,
+    left: u32,
+) -> Result<u64, AllocError>
+    requires inside { walk.is_cut_site site.now left ≡ true
+        → (place + 8 ≤ length bytes.now) × (gone ≤ place) }
+    ensures items { OnOk result (cuts.new.items
+        ≡ cuts.old.items ++ walk.cuts_of place gone bytes.now site.now left) }
+    ensures gone { IfOk result (λ g. g ≡ gone + walk.gone_of site.now left) }
+{
+    if !is_call(site) || left >= 8 {
+        return Ok(gone);
+    }
+    let cut = cut(bytes, place, gone, left);
+    let dropped = 8 - cut.left();
+    cuts.push(cut)?;
+    Ok(gone + dropped)
+}
+
+/// The calls among sites of which fewer than 8 bytes are kept, in a section with these bytes, which begins behind a first
+/// site.
+fn cuts(
+    alloc: Global,
+    bytes: &[u8],
+    start: &Site,
+    sites: &[Site],
+    kept: &[u32],
+) -> Result<Vec<Cut>, AllocError>
+    requires many { length kept.now ≡ length sites.now }
+    requires cuts { are_cuts 0 (length bytes.now)
+        (walk.moves_of (walk.end_of start.now) bytes.now sites.now kept.now) ≡ true }
+    ensures moves { IfOk result (λ v. map move_of v.items
+        ≡ walk.moves_of (walk.end_of start.now) bytes.now sites.now kept.now) }
+    ensures order { IfOk result (λ v. are_in_order 0 0 v.items ≡ true) }
+{
+    let mut cuts = Vec::new(alloc);
+    let mut gone = 0;
+    for i in 0..sites.len() {
+        let site = sites[i];
+        gone = put_site(
+            &mut cuts,
+            bytes,
+            place_of(start, &site),
+            gone,
+            &site,
+            kept[i],
+        )?;
+    }
+    Ok(cuts)
+}
+
+/// The cuts of a section whose sites these are.
+fn section_cuts(
+    alloc: Global,
+    section: &Section,
+    sites: &[Site],
+    kept: &[u32],
+) -> Result<Vec<Cut>, AllocError>
+    requires many { length kept.now ≡ length sites.now }
+    requires cuts { are_cuts 0 (length (said.stored (section_of section.now).contents))
+        (walk.own_moves (said.stored (section_of section.now).contents) sites.now kept.now)
+        ≡ true }
+    ensures moves { IfOk result (λ v. map move_of v.items
+        ≡ walk.own_moves (said.stored (section_of section.now).contents) sites.now kept.now) }
+    ensures order { IfOk result (λ v. are_in_order 0 0 v.items ≡ true) }
+{
+    match sites {
+        [start, own @ ..] => cuts(alloc, stored(&section.contents), start, own, &kept[1..]),
+        [] => Ok(Vec::new(alloc)),
+    }
+}
+
+/// The cuts of each section of an object, to whose text the first sites belong, and how many these are.
+pub(crate) fn object_cuts(
+    alloc: Global,
+    sections: &[Section],
+    sites: &[Site],
+    kept: &[u32],
+) -> Result<(Vec<Vec<Cut>>, usize), AllocError>
+    requires many { length kept.now ≡ length sites.now }
+    requires cuts { AllCut (map section_of sections.now)
+        (walk.object_moves (map section_of sections.now) sites.now kept.now) }
+    ensures moves { IfOk result (λ found. moves_of_all found.0.items
+        ≡ walk.object_moves (map section_of sections.now) sites.now kept.now) }
+    ensures order { IfOk result (λ found. are_all_in_order found.0.items ≡ true) }
+    ensures passed { IfOk result
+        (λ found. found.1 ≡ walk.passed_all (map section_of sections.now) sites.now) }
+    ensures low { IfOk result (λ found. found.1 ≤ length sites.now) }
+{
+    let mut all = Vec::with_capacity(alloc, sections.len())?;
+    let mut at = 0;
+    for section in sections {
+        let count = passed(section, &sites[at..]);
+        let own = section_cuts(
+            alloc,
+            section,
+            &sites[at..at + count],
+            &kept[at..at + count],
+        )?;
+        all.push(own)?;
+        at += count;
+    }
+    Ok((all, at))
+}
